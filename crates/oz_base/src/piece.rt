@@ -1,0 +1,17 @@
+// A whole piece, written.
+ghost use Rattle.oz_base.specs.Streams.{HasCause, TakesPiece};
+
+use crate::{Failed, Sink};
+
+/// Writes the whole piece, in as many calls as the sink wants; it stops at the first fault. Takes
+/// no memory.
+pub fn write_piece<K: Sink>(sink: &mut K, piece: &[u8]) -> Result<(), Failed>
+    ensures bytes { TakesPiece (K.taken sink.old) (K.taken sink.new) result piece.now }
+    ensures cause { HasCause (K.faults sink.old) (K.faults sink.new) result }
+{
+    let mut at = 0;
+    while at < piece.len() {
+        at += sink.write(&piece[at..])?;
+    }
+    Ok(())
+}
