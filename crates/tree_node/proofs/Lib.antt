@@ -1,0 +1,6 @@
+pub mod ClassLemmas
+pub mod DetLemmas
+pub mod SoundLemmas
+pub mod OrderLemmas
+pub mod RowsShown
+pub mod RowsGoal

@@ -1,0 +1,14 @@
+pub mod Each
+pub mod Assoc
+pub mod Env
+pub mod Node
+pub mod Store
+pub mod Classes
+pub mod Goal
+pub mod Fields
+pub mod Words
+pub mod Spelling
+pub mod Shown
+pub mod Rows
+pub mod State
+pub mod Names

@@ -1,0 +1,143 @@
+-- Worked examples: values as they are shown, by a store, a variable and its line, and what pairs of goals lead to.
+use Rattle.std.specs.Prelude.{◌≡◌, ℕ, List, [], ◌∷◌, ℤ, pos, negsuc, Some, codes}
+use Rattle.tree_node.specs.declared.names.VarName.{VarName}
+use Rattle.tree_node.specs.declared.names.ProcName.{ProcName}
+use Rattle.tree_node.specs.declared.names.CellName.{CellName}
+use Rattle.tree_node.specs.declared.names.CodeId.{CodeId}
+use Rattle.tree_node.specs.declared.node.Feature.{Feature}
+use Rattle.tree_node.specs.declared.node.Feature.TheVariants as feature
+use Rattle.tree_node.specs.declared.node.Node.{Node}
+use Rattle.tree_node.specs.declared.node.Node.TheVariants as node
+use Rattle.tree_node.specs.declared.node.Term.TheVariants as term
+use Rattle.tree_node.specs.Store.{Store, Equation, node_of}
+use Rattle.tree_node.specs.Goal.{Dropped, Binds, Opened, Failed, Allows, case_of}
+use Rattle.tree_node.specs.Shown.{Shown, Text, IsNeeded, shown, shown_within}
+
+abbrev pub v : ℕ → VarName
+v n = record { site = 1; num = n }
+
+abbrev pub holds : ℕ → Node → Equation
+holds n m = (v n, term.Node m)
+
+abbrev pub list_pair : ℕ → ℕ → Node
+list_pair x y = node.Rec (codes "|") ((feature.Int (pos 1), v x) ∷ (feature.Int (pos 2), v y) ∷ [])
+
+abbrev pub ring : Store
+ring =
+    holds 0 (node.Rec (codes "f") ((feature.Int (pos 1), v 1) ∷ []))
+    ∷ holds 1 (node.Rec (codes "f") ((feature.Int (pos 1), v 0) ∷ [])) ∷ []
+
+-- X = f(Y) and Y = f(X), to level 20
+abbrev pub RingIsCut : Type 0
+RingIsCut = Shown ring (v 0) (codes "f(f(f(f(f(f(f(f(f(f(f(f(f(f(f(f(f(f(f(f(,,,))))))))))))))))))))")
+
+abbrev pub quoted : Store
+quoted =
+    holds 0 (node.Rec (codes "f") ((feature.Int (pos 1), v 1) ∷ (feature.Atom (codes "a"), v 2) ∷ (feature.Atom (codes "b"), v 1) ∷ []))
+    ∷ holds 1 (node.Int (negsuc 2)) ∷ holds 2 (node.Atom (codes "two words")) ∷ []
+
+-- a record with a first field, and two by name
+abbrev pub FieldsByName : Type 0
+FieldsByName = Shown quoted (v 0) (codes "f(~3 a:'two words' b:~3)")
+
+abbrev pub places : Store
+places =
+    holds 0 (node.Rec (codes "f")
+    ((feature.Int (negsuc 0), v 1) ∷ (feature.Int (pos 0), v 1) ∷ (feature.Int (pos 1), v 1) ∷ (feature.Int (pos 3), v 1) ∷ (feature.Atom (codes "b"), v 1) ∷ []))
+    ∷ holds 1 (node.Atom (codes "x")) ∷ []
+
+-- features ~1, 0, 1, 3 and b: 1 alone goes without its name
+abbrev pub FieldsByPlace : Type 0
+FieldsByPlace = Shown places (v 0) (codes "f(~1:x 0:x x 3:x b:x)")
+
+abbrev pub bar : Store
+bar =
+    holds 0 (node.Rec (codes "|") ((feature.Int (pos 1), v 1) ∷ (feature.Int (pos 3), v 1) ∷ []))
+    ∷ holds 1 (node.Atom (codes "x")) ∷ []
+
+-- the label of lists with other features than 1 and 2
+abbrev pub OtherBar : Type 0
+OtherBar = Shown bar (v 0) (codes "'|'(x 3:x)")
+
+abbrev pub nested : Store
+nested =
+    holds 0 (list_pair 1 2) ∷ holds 1 (list_pair 3 2) ∷ holds 2 (node.Atom (codes "nil")) ∷ holds 3 (node.Atom (codes "a")) ∷ []
+
+-- a list in a list
+abbrev pub ListInList : Type 0
+ListInList = Shown nested (v 0) (codes "(a|nil)|nil")
+
+abbrev pub deep : Store
+deep = holds 0 (list_pair 1 2) ∷ holds 1 (list_pair 2 2) ∷ holds 2 (node.Atom (codes "x")) ∷ []
+
+-- with three nodes, and with one, where the head is cut and stands without brackets
+abbrev pub ThreeNodes : Type 0
+ThreeNodes = shown_within 3 deep (v 0) ≡ Text (codes "(x|,,,)|,,,") 0
+
+abbrev pub OneNode : Type 0
+OneNode = shown_within 1 deep (v 0) ≡ Text (codes ",,,|,,,") 0
+
+-- a variable without a node is needed where it is shown, and not where it is cut
+abbrev pub open_field : Store
+open_field = holds 0 (node.Rec (codes "f") ((feature.Int (pos 1), v 1) ∷ [])) ∷ []
+
+abbrev pub FieldIsNeeded : Type 0
+FieldIsNeeded = IsNeeded (shown open_field (v 0)) (v 1)
+
+abbrev pub CutIsNotNeeded : Type 0
+CutIsNotNeeded = shown_within 1 open_field (v 0) ≡ Text (codes "f(,,,)") 0
+
+-- a node alone shows as this line
+abbrev pub ShowsAs : Node → List ℕ → Type 0
+ShowsAs n line = Shown (holds 0 n ∷ []) (v 0) line
+
+abbrev pub ProcShows : Type 0
+ProcShows = ShowsAs (node.Proc (record { site = 1; num = 0 }) (record { 0 = 3 }) 1 (v 5 ∷ [])) (codes "<P/1>")
+
+abbrev pub CellShows : Type 0
+CellShows = ShowsAs (node.Cell (record { site = 2; num = 7 })) (codes "<Cell>")
+
+-- the least integer of 64 bits
+abbrev pub LeastShows : Type 0
+LeastShows = ShowsAs (node.Int (negsuc 9223372036854775807)) (codes "~9223372036854775808")
+
+abbrev pub ReservedShows : Type 0
+ReservedShows = ShowsAs (node.Atom (codes "if")) (codes "'if'")
+
+abbrev pub EmptyShows : Type 0
+EmptyShows = ShowsAs (node.Atom []) (codes "''")
+
+abbrev pub p_of : ℕ → ℕ → Node
+p_of x y = node.Rec (codes "p") ((feature.Int (pos 1), v x) ∷ (feature.Int (pos 2), v y) ∷ [])
+
+abbrev pub three_known : Store
+three_known = holds 1 (node.Int (pos 1)) ∷ holds 2 (node.Int (pos 2)) ∷ holds 5 (node.Int (pos 5)) ∷ []
+
+abbrev pub first_bound : Store
+first_bound = (v 0, term.Var (v 5)) ∷ three_known
+
+-- p(v0 v1) and p(v5 v2), where v1 is 1, v2 is 2 and v5 is 5: the records are opened, v0 is bound to v5 and has its node,
+-- and 1 and 2 fail
+pub record PartsAreTold : Type 0 where
+  pub opens : case_of three_known [] (term.Node (p_of 0 1)) (term.Node (p_of 5 2))
+      ≡ Opened (p_of 0 1) (p_of 5 2) ((term.Var (v 0), term.Var (v 5)) ∷ (term.Var (v 1), term.Var (v 2)) ∷ [])
+  pub binds : case_of three_known ((p_of 0 1, p_of 5 2) ∷ []) (term.Var (v 0)) (term.Var (v 5)) ≡ Binds
+  pub to_variable : Allows three_known (term.Var (v 0)) (term.Var (v 5)) (v 0, term.Var (v 5))
+  pub to_node : Allows three_known (term.Var (v 0)) (term.Var (v 5)) (v 0, term.Node (node.Int (pos 5)))
+  pub not_back : Allows three_known (term.Var (v 0)) (term.Var (v 5)) (v 5, term.Var (v 0)) → ⊥
+  pub drops : case_of first_bound ((p_of 0 1, p_of 5 2) ∷ []) (term.Var (v 0)) (term.Var (v 5)) ≡ Dropped
+  pub fails : case_of first_bound ((p_of 0 1, p_of 5 2) ∷ []) (term.Var (v 1)) (term.Var (v 2)) ≡ Failed
+  pub stays : node_of first_bound (v 0) ≡ Some (node.Int (pos 5))
+
+-- two variables without nodes: either is bound to the other
+abbrev pub EitherIsBound : Type 0
+EitherIsBound = Allows [] (term.Var (v 0)) (term.Var (v 1)) (v 0, term.Var (v 1)) × Allows [] (term.Var (v 0)) (term.Var (v 1)) (v 1, term.Var (v 0))
+
+abbrev pub f_of : ℕ → Node
+f_of x = node.Rec (codes "f") ((feature.Int (pos 1), v x) ∷ [])
+
+-- v0 = f(v1) and v1 = f(v0): v0 and v1 are opened, and their fields are the pair that was met, the other way round
+abbrev pub RingIsMet : Type 0
+RingIsMet =
+    (case_of ring [] (term.Var (v 0)) (term.Var (v 1)) ≡ Opened (f_of 1) (f_of 0) ((term.Var (v 1), term.Var (v 0)) ∷ []))
+    × (case_of ring ((f_of 1, f_of 0) ∷ []) (term.Var (v 1)) (term.Var (v 0)) ≡ Dropped)
