@@ -1,0 +1,282 @@
+-- Free positions: how deep they are looked for, and which they are.
+use Rattle.std.proofs.Common.{arith, ◌≡◌, sym, ap, refl, subst, ℕ, zero, suc, ◌+◌, ◌<◌, ◌≤◌, List, [], ◌∷◌, length, ◌⊎◌, inl, inr, Bool, true, false, cond, Some, None}
+use Rattle.std.specs.Prelude.{◌==◌, nat_lt, Contains, Option, slice_get, unwrap_or}
+use Rattle.std.proofs.lemmas.Option.{slice_get_past}
+use Rattle.tree_node.specs.declared.names.CodeId.{CodeId}
+use Rattle.tree_node.specs.Each.{Each}
+use Rattle.tree_node.proofs.ClassLemmas.{Contains-head, Contains-tail, Contains-cons_cases}
+use Rattle.kernel_syntax.specs.declared.stmt.Stmt.{Stmt}
+use Rattle.kernel_syntax.specs.declared.stmt.Stmt.TheVariants.{Seq, Skip, Local, TellVar, TellInt, TellAtom, Browse}
+use Rattle.kernel_syntax.specs.Free.{IsAscending, stmt_at, bodies_of, with_position, with_positions, is_declared, without_declared, free_in_each, free_of, free_within, free}
+use Rattle.kernel_syntax.specs.Program.{IsProgram}
+use Rattle.kernel_syntax.specs.Uses.{names_of, IsDeclared, IsBodyOutside, Uses, itself, within}
+use Rattle.kernel_syntax.specs.Laws.{FreeUnfolds, FreeAscends, FreeIsUsed, ProgramsAreClosed}
+use Rattle.kernel_syntax.proofs.OrderLemmas.{Each-map, ascends_with, ascends_with_all}
+
+-- statements that agree on the bodies have the same free positions
+each_agrees : (f g : CodeId → List ℕ) (js : List ℕ) (cs : List CodeId) → Each (λ c. f c ≡ g c) cs → free_in_each f js cs ≡ free_in_each g js cs
+each_agrees f g js [] h = refl
+each_agrees f g js (c ∷ cs) h = rw h.0 (each_agrees f g (with_positions js (g c)) cs h.1)
+
+pub of_agrees : (f g : CodeId → List ℕ) (st : Stmt) → Each (λ c. f c ≡ g c) (bodies_of st) → free_of f st ≡ free_of g st
+of_agrees f g (Seq bodies) h = each_agrees f g [] bodies h
+of_agrees f g Skip h = refl
+of_agrees f g (Local first count body) h = ap (without_declared first count) h.0
+of_agrees f g (TellVar left right) h = refl
+of_agrees f g (TellInt left value) h = refl
+of_agrees f g (TellAtom left text) h = refl
+of_agrees f g (Browse x) h = refl
+
+-- bodies stand behind their owners
+abbrev GoesOn : List Stmt → Type 0
+GoesOn p = (code : CodeId) → Each (λ (c : CodeId). (code.0 < c.0) × (c.0 < length p)) (bodies_of (stmt_at p code))
+
+pub goes_on : (p : List Stmt) → IsProgram p → GoesOn p
+goes_on p is code = go (slice_get p code.0) refl
+  where
+    go : (o : Option Stmt) → slice_get p code.0 ≡ o → Each (λ (c : CodeId). (code.0 < c.0) × (c.0 < length p)) (bodies_of (unwrap_or o Skip))
+    go None e = tt
+    go (Some st) e = is.bodies code.0 st e
+
+-- no statement stands within more others than follow it
+enough : (p : List Stmt) → GoesOn p → (d e : ℕ) (code : CodeId) → length p ≤ d + code.0 → length p ≤ e + code.0 → free_within d p code ≡ free_within e p code
+enough p on zero zero code l m = refl
+enough p on zero (suc e) code l m = rw (slice_get_past p code.0 (omega (arith, l))) refl
+enough p on (suc d) zero code l m = rw (slice_get_past p code.0 (omega (arith, m))) refl
+enough p on (suc d) (suc e) code l m =
+    of_agrees (free_within d p) (free_within e p) (stmt_at p code)
+    (Each-map _ (λ c. free_within d p c ≡ free_within e p c) (bodies_of (stmt_at p code))
+    (λ c h. enough p on d e c (omega (arith, h.0, l)) (omega (arith, h.0, m))) (on code))
+
+pub free_unfolds : FreeUnfolds
+unfolding free
+free_unfolds p code is =
+    enough p (goes_on p is) (length p) (suc (length p)) code (omega arith) (omega arith)
+
+-- they ascend
+ascends-each : (f : CodeId → List ℕ) (js : List ℕ) (cs : List CodeId) → IsAscending js → IsAscending (free_in_each f js cs)
+ascends-each f js [] up = up
+ascends-each f js (c ∷ cs) up = ascends-each f (with_positions js (f c)) cs (ascends_with_all js (f c) up)
+
+Each-without : (P : ℕ → Type 0) (first count : ℕ) (ks : List ℕ) → Each P ks → Each P (without_declared first count ks)
+Each-without P first count [] h = tt
+Each-without P first count (k ∷ ks) h = go (is_declared first count k) (Each-without P first count ks h.1)
+  where
+    go : (b : Bool) → Each P (without_declared first count ks) → Each P (cond b (without_declared first count ks) (k ∷ without_declared first count ks))
+    go true rest = rest
+    go false rest = (h.0, rest)
+
+ascends-without : (first count : ℕ) (ks : List ℕ) → IsAscending ks → IsAscending (without_declared first count ks)
+ascends-without first count [] up = tt
+ascends-without first count (k ∷ ks) up = go (is_declared first count k) (ascends-without first count ks up.1)
+  where
+    go : (b : Bool) → IsAscending (without_declared first count ks) → IsAscending (cond b (without_declared first count ks) (k ∷ without_declared first count ks))
+    go true rest = rest
+    go false rest = (Each-without (λ j. k < j) first count ks up.0, rest)
+
+ascends-of : (f : CodeId → List ℕ) (st : Stmt) → ((c : CodeId) → IsAscending (f c)) → IsAscending (free_of f st)
+ascends-of f (Seq bodies) h = ascends-each f [] bodies tt
+ascends-of f Skip h = tt
+ascends-of f (Local first count body) h = ascends-without first count (f body) (h body)
+ascends-of f (TellVar left right) h = ascends_with left (right ∷ []) (tt, tt)
+ascends-of f (TellInt left value) h = (tt, tt)
+ascends-of f (TellAtom left text) h = (tt, tt)
+ascends-of f (Browse x) h = (tt, tt)
+
+ascends-within : (d : ℕ) (p : List Stmt) (code : CodeId) → IsAscending (free_within d p code)
+ascends-within zero p code = tt
+ascends-within (suc d) p code = ascends-of (free_within d p) (stmt_at p code) (λ c. ascends-within d p c)
+
+pub free_ascends : FreeAscends
+unfolding free
+free_ascends p code = ascends-within (length p) p code
+
+-- members of the lists
+Contains-here : {X : Type 0} (x y : X) (xs : List X) → x ≡ y → Contains (x ∷ xs) y
+Contains-here x y xs e = (zero, omega arith, e)
+
+Contains-none : {X : Type 0} (y : X) → Contains [] y → ⊥
+Contains-none y (i, below, is) = omega arith
+
+from_with : (k : ℕ) (js : List ℕ) (x : ℕ) → Contains (with_position k js) x → (k ≡ x) ⊎ Contains js x
+from_with k [] x h = Contains-cons_cases k x [] h
+from_with k (j ∷ js) x h = go (k == j) (nat_lt k j) (λ g. from_with k js x g) h
+  where
+    further : (Contains (with_position k js) x → (k ≡ x) ⊎ Contains js x) → (j ≡ x) ⊎ Contains (with_position k js) x → (k ≡ x) ⊎ Contains (j ∷ js) x
+    further ih (inl e) = inr (Contains-here j x js e)
+    further ih (inr g) = behind (ih g)
+      where
+        behind : (k ≡ x) ⊎ Contains js x → (k ≡ x) ⊎ Contains (j ∷ js) x
+        behind (inl e) = inl e
+        behind (inr g) = inr (Contains-tail j x js g)
+
+    go : (a b : Bool) → (Contains (with_position k js) x → (k ≡ x) ⊎ Contains js x) → Contains (cond a (j ∷ js) (cond b (k ∷ j ∷ js) (j ∷ with_position k js))) x → (k ≡ x) ⊎ Contains (j ∷ js) x
+    go true b ih g = inr g
+    go false true ih g = Contains-cons_cases k x (j ∷ js) g
+    go false false ih g = further ih (Contains-cons_cases j x (with_position k js) g)
+
+with-itself : (k : ℕ) (js : List ℕ) → Contains (with_position k js) k
+with-itself k [] = Contains-head k []
+with-itself k (j ∷ js) = go (k == j) refl (nat_lt k j) (with-itself k js)
+  where
+    go : (a : Bool) → (k == j) ≡ a → (b : Bool) → Contains (with_position k js) k → Contains (cond a (j ∷ js) (cond b (k ∷ j ∷ js) (j ∷ with_position k js))) k
+    go true e b ih = let same : j ≡ k = grind (arith, e) in Contains-here j k js same
+    go false e true ih = Contains-head k (j ∷ js)
+    go false e false ih = Contains-tail j k (with_position k js) ih
+
+with-others : (k : ℕ) (js : List ℕ) (x : ℕ) → Contains js x → Contains (with_position k js) x
+with-others k [] x h = Contains-tail k x [] h
+with-others k (j ∷ js) x h = go (k == j) (nat_lt k j) (λ g. with-others k js x g) (Contains-cons_cases j x js h)
+  where
+    go : (a b : Bool) → (Contains js x → Contains (with_position k js) x) → (j ≡ x) ⊎ Contains js x → Contains (cond a (j ∷ js) (cond b (k ∷ j ∷ js) (j ∷ with_position k js))) x
+    go true b ih g = h
+    go false true ih g = Contains-tail k x (j ∷ js) h
+    go false false ih (inl e) = Contains-here j x (with_position k js) e
+    go false false ih (inr g) = Contains-tail j x (with_position k js) (ih g)
+
+from_all : (js ks : List ℕ) (x : ℕ) → Contains (with_positions js ks) x → Contains js x ⊎ Contains ks x
+from_all js [] x h = inl h
+from_all js (k ∷ ks) x h = go (from_all (with_position k js) ks x h)
+  where
+    first : (k ≡ x) ⊎ Contains js x → Contains js x ⊎ Contains (k ∷ ks) x
+    first (inl e) = inr (Contains-here k x ks e)
+    first (inr g) = inl g
+
+    go : Contains (with_position k js) x ⊎ Contains ks x → Contains js x ⊎ Contains (k ∷ ks) x
+    go (inl g) = first (from_with k js x g)
+    go (inr g) = inr (Contains-tail k x ks g)
+
+all-old : (js ks : List ℕ) (x : ℕ) → Contains js x → Contains (with_positions js ks) x
+all-old js [] x h = h
+all-old js (k ∷ ks) x h = all-old (with_position k js) ks x (with-others k js x h)
+
+all-new : (js ks : List ℕ) (x : ℕ) → Contains ks x → Contains (with_positions js ks) x
+all-new js [] x h = absurd (Contains-none x h)
+all-new js (k ∷ ks) x h = go (λ g. all-new (with_position k js) ks x g) (Contains-cons_cases k x ks h)
+  where
+    go : (Contains ks x → Contains (with_positions (with_position k js) ks) x) → (k ≡ x) ⊎ Contains ks x → Contains (with_positions (with_position k js) ks) x
+    go ih (inl e) = all-old (with_position k js) ks x (subst (λ (y : ℕ). Contains (with_position k js) y) e (with-itself k js))
+    go ih (inr g) = ih g
+
+-- a position that is free in one of these bodies
+abbrev FromBody : (CodeId → List ℕ) → List CodeId → ℕ → Type 0
+FromBody f cs x = (c : CodeId) × Contains cs c × Contains (f c) x
+
+from_each : (f : CodeId → List ℕ) (js : List ℕ) (cs : List CodeId) (x : ℕ) → Contains (free_in_each f js cs) x → Contains js x ⊎ FromBody f cs x
+from_each f js [] x h = inl h
+from_each f js (c ∷ cs) x h = go (from_each f (with_positions js (f c)) cs x h)
+  where
+    first : Contains js x ⊎ Contains (f c) x → Contains js x ⊎ FromBody f (c ∷ cs) x
+    first (inl g) = inl g
+    first (inr g) = inr (c, Contains-head c cs, g)
+
+    go : Contains (with_positions js (f c)) x ⊎ FromBody f cs x → Contains js x ⊎ FromBody f (c ∷ cs) x
+    go (inl g) = first (from_all js (f c) x g)
+    go (inr (b, at, g)) = inr (b, Contains-tail c b cs at, g)
+
+each-old : (f : CodeId → List ℕ) (js : List ℕ) (cs : List CodeId) (x : ℕ) → Contains js x → Contains (free_in_each f js cs) x
+each-old f js [] x h = h
+each-old f js (c ∷ cs) x h = each-old f (with_positions js (f c)) cs x (all-old js (f c) x h)
+
+each-new : (f : CodeId → List ℕ) (js : List ℕ) (cs : List CodeId) (b : CodeId) (x : ℕ) → Contains cs b → Contains (f b) x → Contains (free_in_each f js cs) x
+each-new f js [] b x h g = absurd (Contains-none b h)
+each-new f js (c ∷ cs) b x h g = go (λ at. each-new f (with_positions js (f c)) cs b x at g) (Contains-cons_cases c b cs h)
+  where
+    go : (Contains cs b → Contains (free_in_each f (with_positions js (f c)) cs) x) → (c ≡ b) ⊎ Contains cs b → Contains (free_in_each f (with_positions js (f c)) cs) x
+    go ih (inl e) = each-old f (with_positions js (f c)) cs x (all-new js (f c) x (subst (λ (y : CodeId). Contains (f y) x) (sym e) g))
+    go ih (inr at) = ih at
+
+from_without : (first count : ℕ) (ks : List ℕ) (x : ℕ) → Contains (without_declared first count ks) x → Contains ks x × (IsDeclared first count x → ⊥)
+from_without first count [] x h = absurd (Contains-none x h)
+from_without first count (k ∷ ks) x h = go (is_declared first count k) refl (λ g. from_without first count ks x g) h
+  where
+    further : is_declared first count k ≡ false → (Contains (without_declared first count ks) x → Contains ks x × (IsDeclared first count x → ⊥)) →
+        (k ≡ x) ⊎ Contains (without_declared first count ks) x → Contains (k ∷ ks) x × (IsDeclared first count x → ⊥)
+    further e ih (inl same) = (Contains-here k x ks same, λ d. let outside : is_declared first count x ≡ false = rw (← same) e in grind (arith, outside, d.0, d.1))
+    further e ih (inr g) = let rest = ih g in (Contains-tail k x ks rest.0, rest.1)
+
+    go : (b : Bool) → is_declared first count k ≡ b → (Contains (without_declared first count ks) x → Contains ks x × (IsDeclared first count x → ⊥)) →
+        Contains (cond b (without_declared first count ks) (k ∷ without_declared first count ks)) x → Contains (k ∷ ks) x × (IsDeclared first count x → ⊥)
+    go true e ih g = let rest = ih g in (Contains-tail k x ks rest.0, rest.1)
+    go false e ih g = further e ih (Contains-cons_cases k x (without_declared first count ks) g)
+
+without-others : (first count : ℕ) (ks : List ℕ) (x : ℕ) → Contains ks x → (IsDeclared first count x → ⊥) → Contains (without_declared first count ks) x
+without-others first count [] x h out = h
+without-others first count (k ∷ ks) x h out = go (is_declared first count k) refl (λ g. without-others first count ks x g out) (Contains-cons_cases k x ks h)
+  where
+    go : (b : Bool) → is_declared first count k ≡ b → (Contains ks x → Contains (without_declared first count ks) x) → (k ≡ x) ⊎ Contains ks x →
+        Contains (cond b (without_declared first count ks) (k ∷ without_declared first count ks)) x
+    go true e ih (inl same) =
+        let at : is_declared first count x ≡ true = rw (← same) e in
+        let low : first ≤ x = grind (arith, at) in let high : x < first + count = grind (arith, at) in absurd (out (low, high))
+    go true e ih (inr g) = ih g
+    go false e ih (inl same) = Contains-here k x (without_declared first count ks) same
+    go false e ih (inr g) = Contains-tail k x (without_declared first count ks) (ih g)
+
+-- a free position is named by the statement itself or comes from a body that it is not declared for
+abbrev FromStmt : (CodeId → List ℕ) → Stmt → ℕ → Type 0
+FromStmt f st x = Contains (names_of st) x ⊎ ((c : CodeId) × IsBodyOutside st c x × Contains (f c) x)
+
+from_of : (f : CodeId → List ℕ) (st : Stmt) (x : ℕ) → Contains (free_of f st) x → FromStmt f st x
+from_of f (Seq bodies) x h = go (from_each f [] bodies x h)
+  where
+    go : Contains [] x ⊎ FromBody f bodies x → FromStmt f (Seq bodies) x
+    go (inl g) = absurd (Contains-none x g)
+    go (inr g) = inr g
+from_of f Skip x h = inl h
+from_of f (Local first count body) x h = let g = from_without first count (f body) x h in inr (body, (refl, g.1), g.0)
+from_of f (TellVar left right) x h = go (from_with left (right ∷ []) x h)
+  where
+    go : (left ≡ x) ⊎ Contains (right ∷ []) x → FromStmt f (TellVar left right) x
+    go (inl e) = inl (Contains-here left x (right ∷ []) e)
+    go (inr g) = inl (Contains-tail left x (right ∷ []) g)
+from_of f (TellInt left value) x h = inl h
+from_of f (TellAtom left text) x h = inl h
+from_of f (Browse y) x h = inl h
+
+of-names : (f : CodeId → List ℕ) (st : Stmt) (x : ℕ) → Contains (names_of st) x → Contains (free_of f st) x
+of-names f (Seq bodies) x h = absurd (Contains-none x h)
+of-names f Skip x h = h
+of-names f (Local first count body) x h = absurd (Contains-none x h)
+of-names f (TellVar left right) x h = go (Contains-cons_cases left x (right ∷ []) h)
+  where
+    go : (left ≡ x) ⊎ Contains (right ∷ []) x → Contains (with_position left (right ∷ [])) x
+    go (inl e) = subst (λ (y : ℕ). Contains (with_position left (right ∷ [])) y) e (with-itself left (right ∷ []))
+    go (inr g) = with-others left (right ∷ []) x g
+of-names f (TellInt left value) x h = h
+of-names f (TellAtom left text) x h = h
+of-names f (Browse y) x h = h
+
+of-bodies : (f : CodeId → List ℕ) (st : Stmt) (c : CodeId) (x : ℕ) → IsBodyOutside st c x → Contains (f c) x → Contains (free_of f st) x
+of-bodies f (Seq bodies) c x at h = each-new f [] bodies c x at h
+of-bodies f Skip c x at h = absurd at
+of-bodies f (Local first count body) c x at h = without-others first count (f body) x (subst (λ (y : CodeId). Contains (f y) x) (sym at.0) h) at.1
+of-bodies f (TellVar left right) c x at h = absurd at
+of-bodies f (TellInt left value) c x at h = absurd at
+of-bodies f (TellAtom left text) c x at h = absurd at
+of-bodies f (Browse y) c x at h = absurd at
+
+-- they are those that the code uses
+used-within : (d : ℕ) (p : List Stmt) (code : CodeId) (k : ℕ) → Contains (free_within d p code) k → Uses p code k
+used-within zero p code k h = absurd (Contains-none k h)
+used-within (suc d) p code k h = go (λ c g. used-within d p c k g) (from_of (free_within d p) (stmt_at p code) k h)
+  where
+    go : ((c : CodeId) → Contains (free_within d p c) k → Uses p c k) → FromStmt (free_within d p) (stmt_at p code) k → Uses p code k
+    go ih (inl g) = itself g
+    go ih (inr (c, at, g)) = within c at (ih c g)
+
+free-used : (p : List Stmt) (code : CodeId) (k : ℕ) → Contains (free p code) k → Uses p code k
+unfolding free
+free-used p code k h = used-within (length p) p code k h
+
+used-free : (p : List Stmt) {code : CodeId} {k : ℕ} → IsProgram p → Uses p code k → Contains (free p code) k
+used-free p {code} {k} is (itself h) =
+    subst (λ (ks : List ℕ). Contains ks k) (sym (free_unfolds p code is)) (of-names (free p) (stmt_at p code) k h)
+used-free p {code} {k} is (within c at u) =
+    subst (λ (ks : List ℕ). Contains ks k) (sym (free_unfolds p code is)) (of-bodies (free p) (stmt_at p code) c k at (used-free p is u))
+
+pub free_is_used : FreeIsUsed
+free_is_used p code k is = (free-used p code k, used-free p is)
+
+pub programs_are_closed : ProgramsAreClosed
+programs_are_closed p k is u = Contains-none k (subst (λ (ks : List ℕ). Contains ks k) is.closed (used-free p is u))

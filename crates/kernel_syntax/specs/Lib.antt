@@ -1,0 +1,5 @@
+pub mod Free
+pub mod Program
+pub mod Uses
+pub mod Laws
+pub mod Table

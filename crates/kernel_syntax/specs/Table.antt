@@ -1,0 +1,24 @@
+-- Tables of free positions, with the last statement's first.
+use Rattle.std.specs.Prelude.{◌≡◌, ℕ, suc, ◌+◌, ◌-◌, ◌<◌, ◌≤◌, List, [], length, slice_index_or}
+use Rattle.tree_node.specs.declared.names.CodeId.{CodeId}
+use Rattle.kernel_syntax.specs.declared.stmt.Stmt.{Stmt}
+use Rattle.kernel_syntax.specs.Free.{free}
+use Rattle.kernel_syntax.specs.Program.{IsProgram}
+
+-- the row of a statement, where there are len of them
+abbrev pub row_of : ℕ → List (List ℕ) → CodeId → List ℕ
+row_of len rows code = slice_index_or rows (len - suc code.0) []
+
+-- the statement has a row: rows stand for the last ones of len statements
+abbrev pub HasRow : ℕ → List (List ℕ) → CodeId → Type 0
+HasRow len rows code = (code.0 < len) × (len ≤ length rows + code.0)
+
+-- each row has the free positions of its statement
+pub record IsTable (p : List Stmt) (rows : List (List ℕ)) : Type 0 where
+  pub row : (code : CodeId) → HasRow (length p) rows code → row_of (length p) rows code ≡ free p code
+
+-- what a program keeps
+pub record IsKept (p : List Stmt) (rows : List (List ℕ)) : Type 0 where
+  pub program : IsProgram p
+  pub whole : length rows ≡ length p
+  pub table : IsTable p rows

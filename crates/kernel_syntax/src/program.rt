@@ -1,0 +1,77 @@
+//! Programs.
+
+ghost use Rattle.std.specs.Prelude.{◌≡◌, ◌<◌, length, Some, IfOk, slice_get};
+ghost use Rattle.tree_node.specs.declared.names.CodeId.{CodeId};
+ghost use Rattle.tree_node.specs.Each.{Each};
+ghost use Rattle.kernel_syntax.specs.Free.{bodies_of, free, stmt_at};
+ghost use Rattle.kernel_syntax.specs.Program.{IsProgram, IsStmt};
+
+use crate::stmt::Stmt;
+use crate::table::{free_table, row};
+use std::alloc::{AllocError, Global};
+use std::marker::Model;
+use tree_node::{CodeId, Seq};
+
+/// A program: its statements by number, in preorder from 0, which is the whole. Contracts see the list of the
+/// statements. The free positions of each are kept beside it, the last statement's first.
+#[derive(Drop)]
+pub struct Program {
+    stmts: Vec<Stmt>,
+    free: Vec<Seq<u32>>,
+}
+
+impl Model for Program {
+    ghost use Rattle.std.specs.Prelude.{List};
+    ghost use Rattle.kernel_syntax.specs.declared.stmt.Stmt.{Stmt};
+    ghost use Rattle.kernel_syntax.specs.Table.{IsKept};
+
+    ghost Value = { List Stmt };
+
+    ghost view = { λ p. p.stmts.items };
+
+    ghost invariant = { λ p. IsKept p.stmts.items p.free.items };
+}
+
+impl Program {
+    /// The program with these statements. The free positions of all of them are found here, once.
+    pub fn from_vec(alloc: Global, stmts: Vec<Stmt>) -> Result<Program, AllocError>
+        requires { IsProgram stmts.items }
+        ensures { IfOk result (λ p. p ≡ stmts.items) }
+    {
+        let free = free_table(alloc, stmts.as_slice())?;
+        Ok(Program { stmts, free })
+    }
+
+    /// What every program is. It does nothing: a caller learns the fact.
+    pub fn is_program(&self)
+        ensures { IsProgram self.now }
+    {
+        let _ = &self.stmts;
+    }
+
+    /// The number of statements.
+    pub fn len(&self) -> usize
+        ensures { result ≡ length self.now }
+    {
+        self.stmts.len()
+    }
+
+    /// The statement of a number.
+    pub fn code(&self, code: CodeId) -> &Stmt
+        requires { code.0 < length self.now }
+        ensures found { slice_get self.now code.0 ≡ Some result.now }
+        ensures value { result.now ≡ stmt_at self.now code }
+        ensures fits { IsStmt result.now }
+        ensures bodies { Each (λ (c : CodeId). (code.0 < c.0) × (c.0 < length self.now)) (bodies_of result.now) }
+    {
+        &self.stmts[code.0 as usize]
+    }
+
+    /// The positions that a statement uses and does not declare, in ascending order.
+    pub fn free(&self, code: CodeId) -> &[u32]
+        requires { code.0 < length self.now }
+        ensures { result.now ≡ free self.now code }
+    {
+        row(self.free.as_slice(), self.stmts.len(), code)
+    }
+}
