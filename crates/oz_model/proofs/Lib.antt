@@ -1,0 +1,7 @@
+pub mod RunLemmas
+pub mod NameLemmas
+pub mod BindLemmas
+pub mod RestLemmas
+pub mod WaitLemmas
+pub mod SoundLemmas
+pub mod RowsRun

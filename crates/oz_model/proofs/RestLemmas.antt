@@ -1,0 +1,150 @@
+-- A thread that does not wait has a step.
+use Rattle.std.proofs.Common.{rules, ◌≡◌, ◌∙◌, sym, refl, subst, List, [], ◌∷◌, ◌⊎◌, inl, inr, Some, None}
+use Rattle.std.specs.Prelude.{Option, Bool, true, false, ◌||◌}
+use Rattle.std.specs.Bool.{Decides}
+use Rattle.tree_node.specs.declared.names.ThreadName.{ThreadName}
+use Rattle.tree_node.specs.declared.names.NameKind.{NameKind}
+use Rattle.tree_node.specs.declared.node.Node.{Node}
+use Rattle.tree_node.specs.declared.node.Term.{Term}
+use Rattle.tree_node.specs.declared.pick.Pick.{Pick}
+use Rattle.tree_node.specs.declared.item.Item.TheVariants.{Run, Goals, Mark, Report}
+use Rattle.tree_node.specs.Assoc.{value_of}
+use Rattle.tree_node.specs.Env.{Env, var_at}
+use Rattle.tree_node.specs.Store.{Store, Equation}
+use Rattle.tree_node.specs.Goal.{Case, Dropped, Binds, Opened, Failed, case_of}
+use Rattle.tree_node.specs.Shown.{Show, shown}
+use Rattle.tree_node.specs.Shown as show
+use Rattle.tree_node.specs.State.{Stack, State, same_thread}
+use Rattle.kernel_syntax.specs.declared.stmt.Stmt.{Stmt}
+use Rattle.kernel_syntax.specs.declared.stmt.Stmt.TheVariants as stmt
+use Rattle.kernel_syntax.specs.Free.{stmt_at}
+use Rattle.oz_model.specs.Need.{Need, Takes, variables, show_need, stmt_need, pair_need, goal_need, stack_need, IsWaiting, IsReady, kinds_of}
+use Rattle.oz_model.specs.Step.{AreFresh, IsBindFor, Step, next, stack_of}
+use Rattle.oz_model.specs.Run.{AtRest}
+use Rattle.oz_model.specs.Laws.{RestOrStep}
+use Rattle.oz_model.proofs.NameLemmas.{some_fresh}
+use Rattle.oz_model.proofs.BindLemmas.{some_bind}
+
+-- something can be chosen for it, unless it waits
+abbrev Goes : Store → Need → Type 0
+Goes s n = IsWaiting n ⊎ (IsReady n × ((bind : Option Equation) × IsBindFor s n bind))
+
+takes_goes : (s : Store) (kinds : List NameKind) → Goes s (Takes kinds)
+takes_goes s kinds = inr (tt, (None, tt))
+
+show_goes : (s : Store) (found : Show) → Goes s (show_need found)
+show_goes s (show.Text text left) = takes_goes s []
+show_goes s (show.Needs x) = inl tt
+
+stmt_goes : (s : Store) (env : Env) (st : Stmt) → Goes s (stmt_need s env st)
+stmt_goes s env (stmt.Seq bodies) = takes_goes s []
+stmt_goes s env stmt.Skip = takes_goes s []
+stmt_goes s env (stmt.Local first count body) = takes_goes s (variables count)
+stmt_goes s env (stmt.TellVar left right) = takes_goes s []
+stmt_goes s env (stmt.TellInt left value) = takes_goes s []
+stmt_goes s env (stmt.TellAtom left text) = takes_goes s []
+stmt_goes s env (stmt.Browse x) = show_goes s (shown s (var_at env x))
+
+pair_goes : (s : Store) (met : List (Node × Node)) (a b : Term) (c : Case) → case_of s met a b ≡ c → Goes s (pair_need a b c)
+pair_goes s met a b Dropped e = takes_goes s []
+pair_goes s met a b (Opened m n pairs) e = takes_goes s []
+pair_goes s met a b Failed e = takes_goes s (variables 2)
+pair_goes s met a b Binds e = let found = some_bind s met a b e in inr (tt, (Some found.0, found.1))
+
+stack_goes : (p : List Stmt) (s : Store) (stack : Stack) → Goes s (stack_need p s stack)
+stack_goes p s [] = takes_goes s []
+stack_goes p s (Run code env ∷ rest) = stmt_goes s env (stmt_at p code)
+stack_goes p s (Mark code at env ∷ rest) = takes_goes s []
+stack_goes p s (Report x ∷ rest) = show_goes s (shown s x)
+stack_goes p s (Goals b ∷ rest) = go b.pairs
+  where
+    go : (pairs : List (Term × Term)) → Goes s (goal_need s b.met pairs)
+    go [] = takes_goes s []
+    go ((x, y) ∷ pairs) = pair_goes s b.met x y (case_of s b.met x y) refl
+
+-- ---- the threads of a state
+
+same_thread_decides : (a b : ThreadName) → Decides (same_thread a b) (a ≡ b)
+same_thread_decides a b = search rules
+
+abbrev is_hidden : List ThreadName → ThreadName → Bool
+is_hidden [] n = false
+is_hidden (m ∷ ms) n = same_thread m n || is_hidden ms n
+
+-- each thread that no earlier entry hides waits, or one of them goes
+abbrev Found : List Stmt → Store → List ThreadName → List (ThreadName × Stack) → Type 0
+Found p s hidden ts =
+    ((n : ThreadName) (st : Stack) → is_hidden hidden n ≡ false → value_of same_thread ts n ≡ Some st → IsWaiting (stack_need p s st))
+    ⊎ ((n : ThreadName) × (st : Stack) × (is_hidden hidden n ≡ false) × (value_of same_thread ts n ≡ Some st)
+    × IsReady (stack_need p s st) × ((bind : Option Equation) × IsBindFor s (stack_need p s st) bind))
+
+lifts : (p : List Stmt) (s : Store) (hidden : List ThreadName) (t : ThreadName × Stack) (ts : List (ThreadName × Stack)) →
+    ((n : ThreadName) → is_hidden hidden n ≡ false → same_thread t.0 n ≡ false) → Found p s hidden ts → Found p s hidden (t ∷ ts)
+lifts p s hidden t ts apart (inl waits) = inl (λ n st h at. waits n st h (sym (skips n h) ∙ at))
+  where
+    skips : (n : ThreadName) → is_hidden hidden n ≡ false → value_of same_thread (t ∷ ts) n ≡ value_of same_thread ts n
+    skips n h = rw (apart n h) refl
+lifts p s hidden t ts apart (inr (n, st, h, at, ready, bind)) = inr (n, st, h, (rw (apart n h) at), ready, bind)
+
+-- a hidden name is one of the list, and what is not hidden differs from what is
+hidden_apart : (hidden : List ThreadName) (m n : ThreadName) → is_hidden hidden m ≡ true → is_hidden hidden n ≡ false → same_thread m n ≡ false
+hidden_apart hidden m n h g = go (same_thread m n) refl
+  where
+    go : (b : Bool) → same_thread m n ≡ b → same_thread m n ≡ false
+    go false e = e
+    go true e =
+        let same : m ≡ n = (same_thread_decides m n).0 e in
+        let both : is_hidden hidden n ≡ true = rw (← same) h in
+        cc
+
+or_false : (a b : Bool) → (a || b) ≡ false → (a ≡ false) × (b ≡ false)
+or_false true b e = cc
+or_false false b e = (refl, e)
+
+find : (p : List Stmt) (s : Store) (hidden : List ThreadName) (ts : List (ThreadName × Stack)) → Found p s hidden ts
+find p s hidden [] = inl (λ n st h at. cc)
+find p s hidden (t ∷ ts) = go (is_hidden hidden t.0) refl (λ hs. find p s hs ts)
+  where
+    waits_here : IsWaiting (stack_need p s t.1) → is_hidden hidden t.0 ≡ false → Found p s (t.0 ∷ hidden) ts → Found p s hidden (t ∷ ts)
+    waits_here w seen (inl waits) = inl (λ n st h at. one n st h at (same_thread t.0 n) refl)
+      where
+        one : (n : ThreadName) (st : Stack) → is_hidden hidden n ≡ false → value_of same_thread (t ∷ ts) n ≡ Some st → (b : Bool) → same_thread t.0 n ≡ b → IsWaiting (stack_need p s st)
+        one n st h at true e =
+            let here : Some t.1 ≡ Some st = sym (rw e refl) ∙ at in
+            let same : t.1 ≡ st = cc in
+            subst (λ (x : Stack). IsWaiting (stack_need p s x)) same w
+        one n st h at false e = waits n st (rw (e, h) refl) (sym (rw e refl) ∙ at)
+    waits_here w seen (inr (n, st, h, at, ready, bind)) =
+        let parts : (same_thread t.0 n ≡ false) × (is_hidden hidden n ≡ false) = or_false (same_thread t.0 n) (is_hidden hidden n) h in
+        inr (n, st, parts.1, (rw parts.0 at), ready, bind)
+
+    goes : is_hidden hidden t.0 ≡ false → Goes s (stack_need p s t.1) → Found p s (t.0 ∷ hidden) ts → Found p s hidden (t ∷ ts)
+    goes seen (inl w) rest = waits_here w seen rest
+    goes seen (inr (ready, bind)) rest = inr (t.0, t.1, seen, (rw ((same_thread_decides t.0 t.0).1 refl) refl), ready, bind)
+
+    go : (b : Bool) → is_hidden hidden t.0 ≡ b → ((hs : List ThreadName) → Found p s hs ts) → Found p s hidden (t ∷ ts)
+    go true e rest = lifts p s hidden t ts (λ n h. hidden_apart hidden t.0 n e h) (rest hidden)
+    go false e rest = goes e (stack_goes p s t.1) (rest (t.0 ∷ hidden))
+
+pub rest_or_step : RestOrStep
+rest_or_step p s = go (find p s.equations [] s.threads)
+  where
+    go : Found p s.equations [] s.threads → AtRest p s ⊎ ((k : Pick) × (t : State) × Step p s k t)
+    go (inl waits) = inl (λ n st at. waits n st refl at)
+    go (inr (n, st, h, at, ready, bind)) =
+        let fresh = some_fresh s (kinds_of (stack_need p s.equations st)) in
+        let k : Pick = record { thread = n; fresh = fresh.0; bind = bind.0 } in
+        let stack_is : st ≡ stack_of s n = rw at refl in
+        inr (
+          k,
+          next p s k,
+          (
+            record {
+              lives = rw at refl;
+              ready = subst (λ (x : Stack). IsReady (stack_need p s.equations x)) stack_is ready;
+              fresh = subst (λ (x : Stack). AreFresh s (kinds_of (stack_need p s.equations x)) fresh.0) stack_is fresh.1;
+              bind = subst (λ (x : Stack). IsBindFor s.equations (stack_need p s.equations x) bind.0) stack_is bind.1;
+            },
+            refl,
+          ),
+        )
