@@ -1,0 +1,11 @@
+pub mod Checked
+pub mod Derived
+pub mod Numbers
+pub mod Positions
+pub mod Programs
+pub mod Relative
+pub mod ReservedWords
+pub mod Tables
+pub mod TokenLengths
+pub mod TokenLists
+pub mod Unfold
