@@ -1,0 +1,5 @@
+pub mod CaseLemmas
+pub mod EntryLemmas
+pub mod ForestLemmas
+pub mod OrderLemmas
+pub mod WalkLemmas

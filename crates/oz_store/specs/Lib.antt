@@ -1,0 +1,3 @@
+pub mod Forest
+pub mod Store
+pub mod Walk
