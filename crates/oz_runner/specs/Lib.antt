@@ -1,0 +1,4 @@
+pub mod Status
+pub mod Worked
+pub mod Written
+pub mod Complete

@@ -1,0 +1,19 @@
+-- What was written.
+use Rattle.std.specs.Prelude.{◌≡◌, ◌⊎◌, ℕ, List}
+use Rattle.std.specs.declared.option.Option.{Option}
+use Rattle.std.specs.Io.KnownBytes.{Appends}
+use Rattle.oz_base.specs.Streams.{Rose, TookFront}
+use Rattle.oz_runner.specs.declared.status.Status.{Status}
+use Rattle.oz_runner.specs.declared.status.Status.TheVariants.{WriteFault, Memory}
+
+-- a write that fails makes the status WriteFault, but Memory stays
+abbrev pub after_fault : Status → Status
+after_fault Memory = Memory
+after_fault _ = WriteFault
+
+-- all the bytes were taken and no call failed, or a call failed and a front of the bytes was taken. `worked` is the
+-- status that stood before the writing
+abbrev pub Written : Option (List ℕ) → Option (List ℕ) → ℕ → ℕ → List ℕ → Status → Status → Type 0
+Written old new before now bytes worked final =
+    ((final ≡ worked) × (now ≡ before) × Appends old new bytes)
+    ⊎ ((final ≡ after_fault worked) × Rose before now × TookFront old new bytes)
