@@ -1,0 +1,4 @@
+local X in
+  X = 5
+  {Browse X}
+end

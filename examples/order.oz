@@ -1,0 +1,7 @@
+local Left Right Same in
+  Left = Same
+  Right = Same
+  Same = done
+  {Browse Left}
+  {Browse Right}
+end

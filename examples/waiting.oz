@@ -1,0 +1,3 @@
+local Nobody in
+  {Browse Nobody}
+end
