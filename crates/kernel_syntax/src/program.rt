@@ -12,8 +12,8 @@ use std::alloc::{AllocError, Global};
 use std::marker::Model;
 use tree_node::{CodeId, Seq};
 
-/// A program: its statements by number, in preorder from 0, which is the whole. Contracts see the list of the
-/// statements. The free positions of each are kept beside it, the last statement's first.
+/// A program: its statements by number, from 0, which is the whole; a body's number is above its owner's. Contracts see
+/// the list of the statements. The free positions of each are kept beside it, the last statement's first.
 #[derive(Drop)]
 pub struct Program {
     stmts: Vec<Stmt>,

@@ -44,19 +44,3 @@ AreAscending (f ∷ fs) = Each (λ g. feature_cmp f g ≡ Less) fs × AreAscendi
 -- fields in the order of their features
 abbrev pub IsInOrder : List (Feature × VarName) → Type 0
 IsInOrder fields = AreAscending (features_of fields)
-
--- a text has at most 255 bytes
-abbrev pub IsText : List ℕ → Type 0
-IsText t = length t ≤ 255
-
-abbrev pub IsFeature : Feature → Type 0
-IsFeature (feature.Int z) = Unit {0}
-IsFeature (feature.Atom t) = IsText t
-
--- what programs make: a record has 1 to 64 fields in order, and a procedure at most 64 formals
-abbrev pub IsNode : Node → Type 0
-IsNode (Atom t) = IsText t
-IsNode (Rec label fields) =
-    IsText label × (1 ≤ length fields) × (length fields ≤ 64) × Each IsFeature (features_of fields) × IsInOrder fields
-IsNode (Proc name code formals vars) = formals ≤ 64
-IsNode _ = Unit {0}

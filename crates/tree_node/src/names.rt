@@ -48,7 +48,7 @@ pub enum NameKind {
     Thread,
 }
 
-/// The number of a statement in the table of its program, in preorder from 0.
+/// The number of a statement in the table of its program. Number 0 is the whole program.
 #[derive(Clone, Copy, Debug, PartialEq, Eq, PartialOrd, Ord, Hash)]
 pub struct CodeId(pub u32);
 
