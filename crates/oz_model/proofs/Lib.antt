@@ -5,3 +5,4 @@ pub mod RestLemmas
 pub mod WaitLemmas
 pub mod SoundLemmas
 pub mod RowsRun
+pub mod ExchangeLemmas

@@ -1,12 +1,22 @@
 //! Laws of steps and runs.
 
-ghost use Rattle.oz_model.specs.Laws.{AtMostOne, AtMostOneEnd, RestIsRest, RestOrStep, WaitsForUnbound, RunsAreSound};
+ghost use Rattle.oz_model.specs.Laws.{AtMostOne, AtMostOneEnd, RestIsRest, RestOrStep, WaitsForUnbound, RunsAreSound, RunsGoOn, ExchangesChain};
 ghost use Rattle.oz_model.specs.Rows.{IntegerIsPrinted, FailureIsReported, UnboundIsAwaited, AtomIsPrinted, AtomIsPrintedToo, SkipEnds, AreRefused, MarksCatch};
 
 /// A pick leads to at most one state, and so do picks in a row.
 pub fn runs_are_determined()
     ensures one { AtMostOne }
     ensures end { AtMostOneEnd }
+{}
+
+/// A run and one more step are a run.
+pub fn runs_go_on()
+    ensures { RunsGoOn }
+{}
+
+/// Each exchange of a cell gives the content that the one before put there.
+pub fn exchanges_are_a_chain()
+    ensures { ExchangesChain }
 {}
 
 /// A state is at rest exactly where no pick has a step, and a thread waits only for a variable that is not bound.
