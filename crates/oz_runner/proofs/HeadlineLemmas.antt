@@ -21,7 +21,7 @@ worked_run : (words : ℕ) (old new : Option (List ℕ)) (before now : ℕ) (tex
 worked_run words old new before now text p ran few steady is reads (s, end) = go ran.reason end.reason
   where
     run : IsRunOf text ran.picks.items ran.lines.items p s
-    run = record { reads = reads; run = end.run; within = end.most; same = end.lines }
+    run = record { reads = reads; run = end.run; within = end.most; same = end.lines; once = end.once }
 
     go : (r : Reason) → HasReason p step_limit s ran.picks.items r → Worked words old new before now ran.picks.items ran.lines.items (status_of r ran.ended ran.waiting)
     go reason.Quiet rests = (few, steady, (text, is, (p, s, run, rests, end.ended, end.waiting)))

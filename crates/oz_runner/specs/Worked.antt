@@ -6,6 +6,7 @@ use Rattle.std.specs.Io.KnownBytes.{Consumes, IsAtEnd}
 use Rattle.oz_base.specs.Streams.{Rose}
 use Rattle.oz_base.specs.Reading.{GaveFront}
 use Rattle.tree_node.specs.declared.pick.Pick.{Pick}
+use Rattle.tree_node.specs.Classes.{HasOneEach}
 use Rattle.tree_node.specs.State.{State}
 use Rattle.kernel_syntax.specs.declared.stmt.Stmt.{Stmt}
 use Rattle.oz_model.specs.Run.{Run, AtRest}
@@ -30,12 +31,14 @@ IsText old new text = Consumes old new text × IsAtEnd new × (length text ≤ t
 abbrev pub NothingRan : List Pick → List (List ℕ) → Type 0
 NothingRan picks lines = (picks ≡ []) × (lines ≡ [])
 
--- the text reads a program, the picks lead its centralised machine to this state, and the lines are the state's
+-- the text reads a program, the picks lead its centralised machine to this state, the lines are the state's, and each
+-- variable has at most one equation in it
 pub record IsRunOf (text : List ℕ) (picks : List Pick) (lines : List (List ℕ)) (p : List Stmt) (s : State) : Type 0 where
   pub reads : Reads text p
   pub run : Run p picks s
   pub within : length picks ≤ step_limit
   pub same : lines ≡ s.lines
+  pub once : HasOneEach s.equations
 
 -- the machine is at rest, with so many threads ended and so many waiting
 abbrev pub RanToRest : List ℕ → List Pick → List (List ℕ) → ℕ → ℕ → Type 0

@@ -86,8 +86,8 @@ fn behind_blanks(text: &[u8]) -> &[u8]
     rest
 }
 
-#[tactic(auto, unfolding(crate::specs::Reading::front_of))]
 /// The token at the front of a text and the text behind it, where there is one that is not too long.
+#[tactic(auto, unfolding(crate::specs::Reading::front_of))]
 fn token(alloc: Global, text: &[u8]) -> Result<Option<(Token, &[u8])>, AllocError>
     ensures { IfOk result (λ o. option_map (λ t. (t.0, t.1.now)) o ≡ front_of text.now) }
 {

@@ -97,7 +97,7 @@ fn tells(rows: &[Stmt], integer: i64) -> bool {
 }
 
 #[test]
-fn reads_texts(rt: HostRuntime) -> Result<(), Fail> {
+fn a_text_is_a_program_or_none(rt: HostRuntime) -> Result<(), Fail> {
     let alloc = rt.alloc();
     let texts: [(&[u8], Option<usize>); 34] = [
         (b"".as_slice(), None),
@@ -144,6 +144,12 @@ fn reads_texts(rt: HostRuntime) -> Result<(), Fail> {
     for (text, want) in texts {
         assert_eq!(rt; size(alloc, text)?, want);
     }
+    Ok(())
+}
+
+#[test]
+fn limits_are_exact(rt: HostRuntime) -> Result<(), Fail> {
+    let alloc = rt.alloc();
     for (text, want) in [
         (
             repeated(alloc, b"local", b" X", 64, b" in skip end")?,
@@ -172,6 +178,12 @@ fn reads_texts(rt: HostRuntime) -> Result<(), Fail> {
     ] {
         assert_eq!(rt; size(alloc, text.as_slice())?, want);
     }
+    Ok(())
+}
+
+#[test]
+fn tables_are_as_written_by_hand(rt: HostRuntime) -> Result<(), Fail> {
+    let alloc = rt.alloc();
     assert!(rt; is_shown(rows(alloc, b"local X in X = 5 {Browse X} end")?.as_slice()));
     assert!(rt; is_hidden(rows(alloc, b"local X X in local Y in X = Y end end")?.as_slice()));
     assert!(rt; tells(rows(alloc, b"local X in X = ~0 end")?.as_slice(), 0));
