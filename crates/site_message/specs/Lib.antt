@@ -1,0 +1,4 @@
+pub mod Journal
+pub mod Wire
+pub mod Rows
+pub mod Order

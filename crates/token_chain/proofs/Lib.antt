@@ -1,0 +1,15 @@
+pub mod ListLemmas
+pub mod ChangeLemmas
+pub mod EventLemmas
+pub mod TokenLemmas
+pub mod MailLemmas
+pub mod PlaceLemmas
+pub mod WorldLemmas
+pub mod AlikeLemmas
+pub mod KeptLemmas
+pub mod ExchangeLemmas
+pub mod CallLemmas
+pub mod QuietLemmas
+pub mod RunLemmas
+pub mod LoopLemmas
+pub mod FitLemmas
