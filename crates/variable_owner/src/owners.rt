@@ -1,0 +1,149 @@
+//! The variables that a site owns.
+
+ghost use Rattle.std.specs.Prelude.{◌≡◌, ◌↔◌, [], None, IsTrue, IsSome, IfSome, IfOk, OnOk, OnErr, Contains, option_copied};
+ghost use Rattle.variable_owner.specs.Owners.{IsMade, OnAnswer, TellsRegistered, owner_of, sites_of, binding_of, joined, with_owner, after_register, after_ask};
+ghost use Rattle.variable_owner.specs.declared.owners.Owner.TheVariants.{Open};
+ghost use Rattle.variable_owner.specs.declared.owners.Asked.TheVariants.{Late};
+
+use indexmap::IndexMap;
+use std::alloc::{AllocError, Global};
+use std::marker::Model;
+use tree_node::{Seq, Term, VarName, copy_term};
+
+/// What an owner keeps of a variable: the sites that registered for it while it is unbound, then its binding.
+#[derive(Drop)]
+pub enum Owner {
+    Open(Seq<u32>),
+    Bound(Term),
+}
+
+/// What comes of a registration: the site is kept, or the variable is bound already, and the binding is the answer.
+#[derive(Drop)]
+pub enum Registered {
+    Kept,
+    Answer(Term),
+}
+
+/// What comes of a request to bind a variable: the first is taken, and every later one is late.
+#[derive(Clone, Copy, Debug, PartialEq, Eq)]
+pub enum Asked {
+    Taken,
+    Late,
+}
+
+/// The variables that a site owns, in the order in which they were made. Contracts see them as a list. Each call costs
+/// by a look-up.
+#[derive(Drop)]
+pub struct Owners {
+    alloc: Global,
+    entries: IndexMap<VarName, Owner>,
+}
+
+impl Model for Owners {
+    ghost use Rattle.std.specs.Prelude.{List};
+    ghost use Rattle.tree_node.specs.declared.names.VarName.{VarName};
+    ghost use Rattle.variable_owner.specs.declared.owners.Owner.{Owner};
+
+    ghost Value = { List (VarName × Owner) };
+
+    ghost view = { λ o. o.entries.entries };
+}
+
+impl Owner {
+    // A site registers.
+    fn join(&mut self, site: u32) -> Result<Registered, AllocError>
+        ensures answer { IfOk result (TellsRegistered self.old) }
+        ensures ok { OnOk result (self.new ≡ joined self.old site) }
+        ensures bound { IfOk result (λ r. OnAnswer r (self.new ≡ self.old)) }
+        ensures err { OnErr result (self.new ≡ self.old) }
+    {
+        match self {
+            Owner::Open(sites) => {
+                sites.push(site)?;
+                Ok(Registered::Kept)
+            }
+            Owner::Bound(term) => Ok(Registered::Answer(copy_term(term)?)),
+        }
+    }
+}
+
+impl Owners {
+    /// No variables. It takes no memory.
+    pub fn new(alloc: Global) -> Owners
+        ensures { result ≡ [] }
+    {
+        Owners {
+            alloc,
+            entries: IndexMap::new(alloc),
+        }
+    }
+
+    /// Whether the variable was made.
+    pub fn made(&self, var: VarName) -> bool
+        ensures { IsTrue result ↔ IsMade self.now var }
+    {
+        self.entries.get(&var).is_some()
+    }
+
+    /// A new variable, unbound, with the room for its binding.
+    pub fn make(&mut self, var: VarName) -> Result<(), AllocError>
+        requires { owner_of self.old var ≡ None }
+        ensures ok { OnOk result (self.new ≡ with_owner self.old var (Open [])) }
+        ensures err { OnErr result (self.new ≡ self.old) }
+    {
+        let sites = Seq::new(self.alloc);
+        self.entries.insert(var, Owner::Open(sites))?;
+        Ok(())
+    }
+
+    /// The sites that are registered for an unbound variable, in the order in which they registered. None is for one
+    /// that is bound.
+    pub fn registered(&self, var: VarName) -> &[u32]
+        ensures { result.now ≡ sites_of (owner_of self.now var) }
+    {
+        match self.entries.get(&var) {
+            Some(Owner::Open(sites)) => sites.as_slice(),
+            _ => &[],
+        }
+    }
+
+    /// The binding that was accepted for the variable.
+    pub fn binding(&self, var: VarName) -> Option<&Term>
+        ensures { option_copied result ≡ binding_of (owner_of self.now var) }
+    {
+        match self.entries.get(&var) {
+            Some(Owner::Bound(term)) => Some(term),
+            _ => None,
+        }
+    }
+
+    /// A site registers for the variable. The binding is answered exactly where one is held.
+    pub fn register(&mut self, var: VarName, site: u32) -> Result<Registered, AllocError>
+        requires made { IsMade self.old var }
+        requires once { Contains (sites_of (owner_of self.old var)) site → ⊥ }
+        ensures answer { IfOk result (λ r. IfSome (owner_of self.old var) (λ o. TellsRegistered o r)) }
+        ensures ok { OnOk result (self.new ≡ after_register self.old var site) }
+        ensures bound { IfOk result (λ r. OnAnswer r (self.new ≡ self.old)) }
+        ensures err { OnErr result (self.new ≡ self.old) }
+    {
+        match self.entries.get_mut(&var) {
+            Some(owner) => owner.join(site),
+            None => unreachable!(),
+        }
+    }
+
+    /// Somebody asks to bind the variable. It is too late exactly where a binding is held, and then nothing changes.
+    pub fn ask(&mut self, var: VarName, term: Term) -> Asked
+        requires made { IsMade self.old var }
+        ensures late { (result ≡ Late) ↔ IsSome (binding_of (owner_of self.old var)) }
+        ensures after { self.new ≡ after_ask self.old var term }
+    {
+        if self.binding(var).is_some() {
+            return Asked::Late;
+        }
+        match self.entries.insert(var, Owner::Bound(term)) {
+            Ok(_) => Asked::Taken,
+            Err(_) => unreachable!(),
+        }
+    }
+}
