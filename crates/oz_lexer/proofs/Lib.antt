@@ -1,0 +1,15 @@
+pub mod ReservedWords
+pub mod Signs
+pub mod Spelled
+pub mod Reaches
+pub mod Quotes
+pub mod QuoteFaults
+pub mod Comments
+pub mod Skipping
+pub mod Fronts
+pub mod Begins
+pub mod OneFront
+pub mod Boundaries
+pub mod Cuts
+pub mod NextLemmas
+pub mod Dividing

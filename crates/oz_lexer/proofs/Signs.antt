@@ -1,0 +1,28 @@
+-- Signs by their first byte.
+use Rattle.std.proofs.Common.{◌≡◌, ℕ, List, [], ◌∷◌, Bool, true, false, refl}
+use Rattle.std.specs.Prelude.{◌||◌, ◌&&◌}
+use Rattle.oz_lexer.specs.Spelling.{is_sign}
+use Rattle.oz_lexer.specs.Scan.{is_one, is_two}
+
+pub and_true : (b : Bool) → (b && true) ≡ b
+and_true true = refl
+and_true false = refl
+
+pub and_false : (b : Bool) → (b && false) ≡ false
+and_false true = refl
+and_false false = refl
+
+pub or_false : (b : Bool) → (b || false) ≡ b
+or_false true = refl
+or_false false = refl
+
+-- what may stand behind the first byte of a sign
+abbrev pub behind_sign : ℕ → List ℕ → Bool
+behind_sign b [] = is_one b
+behind_sign b (c ∷ []) = is_two b c
+behind_sign b (c ∷ d ∷ cs) = false
+
+pub sign_spells : (b : ℕ) (bs : List ℕ) → is_sign (b ∷ bs) ≡ behind_sign b bs
+sign_spells b [] = simp (and_true, and_false, or_false)
+sign_spells b (c ∷ []) = simp (and_true, and_false, or_false)
+sign_spells b (c ∷ d ∷ cs) = simp (and_true, and_false, or_false)

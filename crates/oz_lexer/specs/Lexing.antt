@@ -1,0 +1,39 @@
+-- What a lexer answers.
+use Rattle.std.specs.Prelude.{◌≡◌, ℕ, ◌-◌, ◌≤◌, List, [], ◌∷◌, length, take, drop, Result, Ok, Err}
+use Rattle.oz_lexer.specs.declared.token.LexKind.{LexKind}
+use Rattle.oz_lexer.specs.declared.token.Token.{Token}
+use Rattle.oz_lexer.specs.declared.token.LexFault.{LexFault}
+use Rattle.oz_lexer.specs.Tokens.{Lexeme, Next, Goes, TokensFrom}
+use Rattle.oz_lexer.specs.Place.{place_of}
+
+-- a lexer: its text, and how many bytes of it are read
+pub record Lexing : Type 0 where
+  pub text : List ℕ
+  pub at : ℕ
+
+-- the tokens that are still to come
+abbrev pub Ahead : Lexing → List Lexeme → Type 0
+Ahead lexer ls = TokensFrom lexer.at (drop lexer.at lexer.text) ls
+
+abbrev pub lexeme_of : Token → Lexeme
+lexeme_of t = record { what = Ok t.kind; start = t.start; bytes = t.text.now }
+
+abbrev pub fault_at : LexKind → ℕ → Lexeme
+fault_at kind place = record { what = Err kind; start = place; bytes = [] }
+
+-- a fault is next
+abbrev pub FaultNext : ℕ → List ℕ → Lexeme → Type 0
+FaultNext place text l = (rest : List ℕ) × Next place text l rest
+
+-- a token is the first of those to come, before those to come then; the end is the last of them, and so is a fault, at its
+-- line and column
+abbrev pub Gives : Lexing → Lexing → Result Token LexFault → Type 0
+Gives before now (Ok t) = Goes (Ok t.kind) (Ahead before (lexeme_of t ∷ [])) ((ls : List Lexeme) → Ahead now ls → Ahead before (lexeme_of t ∷ ls))
+Gives before now (Err f) = (place : ℕ) × Ahead before (fault_at f.kind place ∷ []) × ((f.line, f.column) ≡ place_of (take place before.text))
+
+-- a token's span in the text, behind what was read before, and its slice
+pub record IsSlice (text : List ℕ) (at : ℕ) (t : Token) : Type 0 where
+  pub order : at ≤ t.start
+  pub span : t.start ≤ t.end
+  pub within : t.end ≤ length text
+  pub slice : t.text.now ≡ take (t.end - t.start) (drop t.start text)

@@ -1,0 +1,8 @@
+pub mod Spelling
+pub mod Blanks
+pub mod Faults
+pub mod Tokens
+pub mod Place
+pub mod Scan
+pub mod Lexing
+pub mod Laws

@@ -1,0 +1,163 @@
+//! Bytes of tokens, and how far a token without quotes reaches.
+
+ghost use Rattle.std.specs.Prelude.{◌≡◌, ◌+◌, ◌≤◌, ◌∷◌, length};
+ghost use Rattle.std.specs.Char.{is_ascii_digit};
+ghost use Rattle.std.specs.List.{prefix_len};
+ghost use Rattle.tree_node.specs.Spelling.{is_word_byte};
+ghost use Rattle.tree_node.specs.Words.{is_reserved};
+ghost use Rattle.oz_lexer.specs.Spelling.{is_control, is_escape, is_name};
+ghost use Rattle.oz_lexer.specs.Blanks.{is_blank};
+ghost use Rattle.oz_lexer.specs.Scan.{is_one, is_two, sign_length, minus_length, token_length, token_kind};
+
+use crate::token::TokenKind;
+use tree_node::is_reserved;
+
+/// Whether a byte may stand between tokens.
+pub fn is_blank(byte: u8) -> bool
+    ensures { result ≡ is_blank byte }
+{
+    matches!(byte, 9..=13 | b' ' | b'?')
+}
+
+/// Whether a byte is a control character.
+pub fn is_control(byte: u8) -> bool
+    ensures { result ≡ is_control byte }
+{
+    byte <= 31 || byte == 127
+}
+
+/// Whether a byte may stand behind `\` in a quoted atom.
+pub fn is_escape(byte: u8) -> bool
+    ensures { result ≡ is_escape byte }
+{
+    byte == b'\'' || byte == b'\\' || byte == b'n'
+}
+
+/// Whether tokens of a kind have at most 255 bytes.
+pub fn is_name(kind: TokenKind) -> bool
+    ensures { result ≡ is_name kind }
+{
+    match kind {
+        TokenKind::Variable | TokenKind::Atom | TokenKind::Quoted => true,
+        _ => false,
+    }
+}
+
+fn is_word_byte(byte: u8) -> bool
+    ensures { result ≡ is_word_byte byte }
+{
+    byte.is_ascii_alphanumeric() || byte == b'_'
+}
+
+fn name_length(rest: &[u8]) -> usize
+    ensures value { result ≡ prefix_len is_word_byte rest.now }
+    ensures within { result ≤ length rest.now }
+{
+    rest.iter().take_while(|byte| is_word_byte(**byte)).count()
+}
+
+fn digit_length(rest: &[u8]) -> usize
+    ensures value { result ≡ prefix_len is_ascii_digit rest.now }
+    ensures within { result ≤ length rest.now }
+{
+    rest.iter().take_while(|byte| byte.is_ascii_digit()).count()
+}
+
+/// How many bytes the integer that `~` begins has.
+fn minus_length(rest: &[u8]) -> usize
+    ensures value { result ≡ minus_length (prefix_len is_ascii_digit rest.now) }
+    ensures within { result ≤ length rest.now + 1 }
+{
+    let digits = digit_length(rest);
+    if digits == 0 { 0 } else { digits + 1 }
+}
+
+fn is_one(first: u8) -> bool
+    ensures { result ≡ is_one first }
+{
+    matches!(
+        first,
+        b'=' | b'('
+            | b')'
+            | b'{'
+            | b'}'
+            | b'$'
+            | b':'
+            | b'.'
+            | b'|'
+            | b'+'
+            | b'-'
+            | b'*'
+            | b'<'
+            | b'>'
+    )
+}
+
+fn is_two(first: u8, second: u8) -> bool
+    ensures { result ≡ is_two first second }
+{
+    matches!(
+        (first, second),
+        (b'=', b'<') | (b'>', b'=') | (b'=', b'=') | (b'\\', b'=') | (b'[', b']')
+    )
+}
+
+/// How many bytes the longest sign has that a byte begins, by what follows.
+fn sign_length(first: u8, rest: &[u8]) -> usize
+    ensures value { result ≡ sign_length first rest.now }
+    ensures within { result ≤ length rest.now + 1 }
+{
+    if !rest.is_empty() && is_two(first, rest[0]) {
+        2
+    } else if is_one(first) {
+        1
+    } else {
+        0
+    }
+}
+
+/// How many bytes the longest token without quotes has that a byte begins, by what follows; 0 where it begins none.
+pub fn token_length(first: u8, rest: &[u8]) -> usize
+    ensures value { result ≡ token_length first rest.now }
+    ensures within { result ≤ length rest.now + 1 }
+{
+    if first.is_ascii_uppercase() || first.is_ascii_lowercase() {
+        name_length(rest) + 1
+    } else if first.is_ascii_digit() {
+        digit_length(rest) + 1
+    } else if first == b'~' {
+        minus_length(rest)
+    } else {
+        sign_length(first, rest)
+    }
+}
+
+/// Whether a word is reserved.
+#[tactic(auto, using(crate::proofs::ReservedWords::reserved_is_text))]
+fn is_reserved_word(bytes: &[u8]) -> bool
+    ensures { result ≡ is_reserved bytes.now }
+{
+    match std::str::from_utf8(bytes) {
+        Ok(word) => is_reserved(word),
+        Err(_) => false,
+    }
+}
+
+/// What kind of token a byte begins, of which these are all bytes.
+pub fn token_kind(first: u8, bytes: &[u8]) -> TokenKind
+    ensures { result ≡ token_kind first bytes.now }
+{
+    if first.is_ascii_uppercase() {
+        TokenKind::Variable
+    } else if first.is_ascii_lowercase() {
+        if is_reserved_word(bytes) {
+            TokenKind::Word
+        } else {
+            TokenKind::Atom
+        }
+    } else if first.is_ascii_digit() || first == b'~' {
+        TokenKind::Integer
+    } else {
+        TokenKind::Sign
+    }
+}

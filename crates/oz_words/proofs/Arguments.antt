@@ -1,0 +1,167 @@
+-- What a parse by the command gives for each of its arguments.
+use Rattle.std.proofs.Common.{zero, suc, ◌≡◌, ◌∙◌, ◌<◌, ◌≤◌, ℕ, Bool, true, false, List, [], ◌∷◌, length, map, Option, Some, None, refl, sym, ap, subst, arith, inl, inr, codes, not, is_some, true≢false}
+use Rattle.std.specs.List.{slice_index_or}
+use Rattle.std.specs.Str.{bytes_eq}
+use Rattle.std.specs.Borrow.{Bor}
+use Rattle.std.proofs.lemmas.List.{get_or-map, length-map}
+use Rattle.clap.specs.Facts.{args_of, least_values}
+use Rattle.clap.specs.Built.{IsPlain, IsParsedFrom}
+use Rattle.clap.specs.Matches.{found_of, one_text}
+use Rattle.clap.specs.Values.{Accepts, read_as, reading_of}
+use Rattle.clap.specs.Walk.{Rule, is_simple_arg, is_free_arg, rule_of, texts}
+use Rattle.clap.specs.Simple.{App, app_of, is_simple}
+use Rattle.clap.specs.Faults.{is_simple_and_free}
+use Rattle.clap.proofs.OnLiterals.{clap_on_literals}
+use Rattle.clap.specs.declared.builder.ArgAction.TheVariants.{Set}
+use Rattle.clap.specs.declared.builder.Arg.{Arg}
+use Rattle.clap.specs.declared.builder.Command.{Command}
+use Rattle.clap.specs.declared.builder.ValueParser.{ValueParser}
+use Rattle.clap.specs.declared.parser.ArgMatches.{ArgMatches}
+use Rattle.clap.proofs.WalkLemmas.{both}
+use Rattle.clap.proofs.SimpleLemmas.{is_false, is_nil, plain_fields}
+use Rattle.oz_words.specs.Command.{oz_app, steps_rule, action_rule, steps_values, action_values}
+use Rattle.oz_words.specs.Parsed.{HasValue}
+use Rattle.oz_words.proofs.DefaultValues.{defaulted_reads}
+
+is_none : {X : Type 0} (o : Option X) → not (is_some o) ≡ true → o ≡ None
+is_none None e = refl
+is_none (Some x) e = absurd (true≢false (sym e))
+
+-- what a simple and free rule says of its argument
+record Plain (a : Arg) : Type 0 where
+  overrides : a.overrides.items ≡ []
+  ifs : a.default_vals_ifs.items ≡ []
+  groups : a.groups.items ≡ []
+  delimiter : a.val_delim ≡ None
+  exclusive : a.exclusive ≡ false
+  conflicts : a.conflicts.items ≡ []
+
+plain_of : (a : Arg) → is_simple_arg a ≡ true → is_free_arg a ≡ true → Plain a
+plain_of a simple free =
+    let p = both _ _ simple in
+    let q = both _ _ p.1 in
+    let r = both _ _ q.1 in
+    let s = both _ _ r.1 in
+    let t = both _ _ free in
+    let u = both _ _ t.1 in
+    record {
+      overrides = is_nil _ p.0;
+      ifs = is_nil _ q.0;
+      groups = is_nil _ r.0;
+      delimiter = is_none _ s.0;
+      exclusive = is_false _ t.0;
+      conflicts = is_nil _ u.0;
+    }
+
+some_texts : (xs : List (Bor (List ℕ))) (t : List ℕ) → texts xs ≡ t ∷ [] → 0 < length xs
+some_texts [] t e = cc
+some_texts (x ∷ xs) t e = omega arith
+
+-- a rule of the command's kind
+record IsKind (r : Rule) (q : ValueParser) : Type 0 where
+  simple : r.is_simple ≡ true
+  free : r.is_free ≡ true
+  action : r.action ≡ Some Set
+  range : r.range ≡ None
+  default : (t : List ℕ) × (r.defaults ≡ t ∷ [])
+  parser : r.parser ≡ Some q
+  case : r.ignore_case ≡ false
+
+abbrev rules_of : Bor (List (Bor (List ℕ))) → List Rule
+rules_of names = steps_rule ∷ action_rule names ∷ []
+
+module _ (c : Command) (names : Bor (List (Bor (List ℕ)))) (is : app_of c ≡ oz_app names) where
+  rules : map rule_of (args_of c) ≡ rules_of names
+  rules = ap (λ (a : App). a.top.rules) is
+
+  count : length (args_of c) ≡ 2
+  count = sym (length-map (args_of c) rule_of) ∙ ap length rules
+
+  below : (k : ℕ) → k < 2 → k < length (args_of c)
+  below k lt = omega (arith, count)
+
+  rule_at : (k : ℕ) (d : Arg) → k < 2 → rule_of (slice_index_or (args_of c) k d) ≡ slice_index_or (rules_of names) k (rule_of d)
+  rule_at k d lt = sym (get_or-map rule_of (args_of c) k d (rule_of d) (below k lt)) ∙ ap (λ l. slice_index_or l k (rule_of d)) rules
+
+  kind_at : (k : ℕ) (e : Rule) → k < 2 → (q : ValueParser) × IsKind (slice_index_or (rules_of names) k e) q
+  kind_at zero e lt = (_, record { simple = refl; free = refl; action = refl; range = refl; default = (_, refl); parser = refl; case = refl })
+  kind_at (suc zero) e lt = (_, record { simple = refl; free = refl; action = refl; range = refl; default = (_, refl); parser = refl; case = refl })
+  kind_at (suc (suc k)) e lt = absurd (omega arith)
+
+  plain_at : (k : ℕ) (d : Arg) → k < 2 → Plain (slice_index_or (args_of c) k d)
+  plain_at k d lt =
+      let kind = (kind_at k (rule_of d) lt).1 in
+      let at = rule_at k d lt in
+      plain_of _ (ap (λ (r : Rule). r.is_simple) at ∙ kind.simple) (ap (λ (r : Rule). r.is_free) at ∙ kind.free)
+
+  is_plain : IsPlain c
+  is_plain = (
+    λ k d lt. let p = plain_at k d (omega (arith, count)) in (p.exclusive, p.conflicts, p.overrides, p.groups),
+    (plain_fields c (ap (λ (a : App). a.top.is_plain) is)).groups,
+  )
+
+  id_at : (k : ℕ) (d : Arg) → k < 2 → (slice_index_or (args_of c) k d).id.now ≡ (slice_index_or (rules_of names) k (rule_of d)).id
+  id_at k d lt = ap (λ (r : Rule). r.id) (rule_at k d lt)
+
+  distinct : (j k : ℕ) (x y : Rule) → j < 2 → k < 2
+      → bytes_eq (slice_index_or (rules_of names) j x).id (slice_index_or (rules_of names) k y).id ≡ true → j ≡ k
+  distinct zero zero x y l m e = refl
+  distinct zero (suc zero) x y l m e = let bad : false ≡ true = e in cc
+  distinct (suc zero) zero x y l m e = let bad : false ≡ true = e in cc
+  distinct (suc zero) (suc zero) x y l m e = refl
+  distinct (suc (suc j)) k x y l m e = absurd (omega arith)
+  distinct j (suc (suc k)) x y l m e = absurd (omega arith)
+
+  -- the id is neither empty nor one that building adds
+  own_id : (k : ℕ) (x : Rule) → k < 2 → (((slice_index_or (rules_of names) k x).id ≡ []) → ⊥)
+      × (((slice_index_or (rules_of names) k x).id ≡ codes "help") → ⊥) × (((slice_index_or (rules_of names) k x).id ≡ codes "version") → ⊥)
+  own_id zero x lt = ((λ e. cc), (λ e. cc), (λ e. cc))
+  own_id (suc zero) x lt = ((λ e. cc), (λ e. cc), (λ e. cc))
+  own_id (suc (suc k)) x lt = absurd (omega arith)
+
+  -- each argument has a value that its parser took
+  reads_at : (m : ArgMatches) → IsParsedFrom c m → (k : ℕ) (d : Arg) → k < 2 → (q : ValueParser)
+      → (slice_index_or (rules_of names) k (rule_of d)).parser ≡ Some q
+      → (t : List ℕ) × (one_text (found_of m) (slice_index_or (rules_of names) k (rule_of d)).id ≡ Some (read_as (reading_of q) t)) × Accepts false q t
+  reads_at m p k d lt q parser =
+      let at = rule_at k d lt in
+      let kind = (kind_at k (rule_of d) lt).1 in
+      let plain = plain_at k d lt in
+      let id = id_at k d lt in
+      let own = own_id k (rule_of d) lt in
+      let fields = plain_fields c (ap (λ (a : App). a.top.is_plain) is) in
+      let range : (slice_index_or (args_of c) k d).num_vals ≡ None = ap (λ (r : Rule). r.range) at ∙ kind.range in
+      let least : 1 ≤ least_values (slice_index_or (args_of c) k d) = rw (range, least_values) (omega arith) in
+      let got = defaulted_reads c m p is_plain fields.globals k d (below k lt)
+      (plain.ifs, some_texts _ kind.default.0 (ap (λ (r : Rule). r.defaults) at ∙ kind.default.1))
+      (ap (λ (r : Rule). r.action) at ∙ kind.action) plain.delimiter least
+      (λ j e low same. distinct j k (rule_of e) (rule_of d) (omega (arith, count)) lt (rw (← id_at j e (omega (arith, count)), ← id) same))
+      (λ e. own.0 (sym id ∙ e))
+      (λ auto. elim auto [ inl h ↦ own.1 (sym id ∙ h) | inr h ↦ own.2 (sym id ∙ h) ])
+      q (ap (λ (r : Rule). r.parser) at ∙ parser) in (
+        got.0,
+        subst (λ (w : List ℕ). one_text (found_of m) w ≡ Some (read_as (reading_of q) got.0)) id got.1,
+        subst (λ (b : Bool). Accepts b q got.0) (ap (λ (r : Rule). r.ignore_case) at ∙ kind.case) got.2,
+      )
+
+  first_arg : (xs : List Arg) → 0 < length xs → Arg
+  first_arg [] lt = absurd (omega arith)
+  first_arg (x ∷ xs) lt = x
+
+  some_arg : Arg
+  some_arg = first_arg (args_of c) (below 0 (omega arith))
+
+  pub steps_value : (m : ArgMatches) → IsParsedFrom c m → HasValue m (codes "steps") steps_values
+  steps_value m p = reads_at m p 0 some_arg (omega arith) steps_values refl
+
+  pub action_value : (m : ArgMatches) → IsParsedFrom c m → HasValue m (codes "action") (action_values names)
+  action_value m p = reads_at m p 1 some_arg (omega arith) (action_values names) refl
+
+-- the command is one whose matches and faults are known
+pub simple_and_free : (names : Bor (List (Bor (List ℕ)))) → is_simple_and_free (oz_app names) ≡ true
+unfolding clap_on_literals
+simple_and_free names = refl
+
+pub simple : (names : Bor (List (Bor (List ℕ)))) → is_simple (oz_app names) ≡ true
+unfolding clap_on_literals
+simple names = refl

@@ -1,0 +1,2 @@
+mod DefaultValues
+mod Arguments

@@ -1,0 +1,43 @@
+-- What the words mean.
+use Rattle.std.specs.Prelude.{◌≡◌, ◌≢◌, ◌≤◌, ℕ, List, [], Option, Some, None, codes, Result, Ok, Err}
+use Rattle.std.specs.Borrow.{Bor}
+use Rattle.std.specs.Str.Parse.{digits_value, without_leading_plus}
+use Rattle.clap.specs.Words.{Row, Text, one_of}
+use Rattle.oz_words.specs.Parsed.{words_fault, words_rows}
+use Rattle.oz_words.specs.declared.options.Action.{Action}
+use Rattle.oz_words.specs.declared.options.Action.TheVariants.{Run, Central}
+use Rattle.oz_words.specs.declared.options.Options.{Options}
+use Rattle.oz_words.specs.declared.options.UnknownAction.{UnknownAction}
+use Rattle.oz_words.specs.declared.options.WordsError.{WordsError}
+use Rattle.oz_words.specs.declared.options.WordsError.TheVariants.{Usage, Memory}
+
+-- the number that a text says
+abbrev pub Says : Option Text → ℕ → Type 0
+Says None n = ⊥
+Says (Some text) n = n ≡ digits_value 10 (without_leading_plus text)
+
+abbrev pub action_name : Action → Text
+action_name Run = codes "run"
+action_name Central = codes "central"
+
+-- what reading an action's name gives
+abbrev pub NamesAction : Text → Result Action UnknownAction → Type 0
+NamesAction text (Ok action) = text ≡ action_name action
+NamesAction text (Err unknown) = (text ≢ codes "run") × (text ≢ codes "central")
+
+-- the options are the matches
+pub record AreMatches (rows : List Row) (options : Options) : Type 0 where
+  pub steps : Says (one_of (codes "steps") rows) options.steps
+  pub action : one_of (codes "action") rows ≡ Some (action_name options.action)
+
+-- the numbers are in their ranges
+pub record InRange (options : Options) : Type 0 where
+  pub least_steps : 1 ≤ options.steps
+  pub most_steps : options.steps ≤ 1000000000
+
+-- `Usage` comes exactly where the command refuses the words, and else the options are its matches of them.
+-- Want of memory says nothing.
+abbrev pub ReadsWords : Bor (List (Bor Text)) → List Text → Result Options WordsError → Type 0
+ReadsWords names words (Ok options) = (words_fault names words ≡ []) × AreMatches (words_rows names words) options
+ReadsWords names words (Err Usage) = words_fault names words ≢ []
+ReadsWords names words (Err Memory) = Unit {0}

@@ -1,0 +1,113 @@
+//! What the words say.
+
+ghost use Rattle.std.specs.Prelude.{◌≡◌, ◌≤◌, IfOk, codes, map, string_bytes, Some};
+ghost use Rattle.clap.specs.Words.{found_of, one_text};
+ghost use Rattle.oz_words.specs.Command.{AreActions, action_values, steps_values};
+ghost use Rattle.oz_words.specs.Parsed.{HasValue, Parses};
+ghost use Rattle.oz_words.specs.Words.{ReadsWords, InRange, Says, action_name, NamesAction};
+
+use crate::taken::command;
+use clap::ArgMatches;
+use clap::error::ErrorKind;
+use std::alloc::{AllocError, Global};
+use std::str::FromStr;
+
+/// What to do with the text: run it over its sites, or on the centralised machine.
+#[derive(Clone, Copy, Debug, PartialEq, Eq)]
+pub enum Action {
+    Run,
+    Central,
+}
+
+/// A text that names no action.
+#[derive(Clone, Copy, Debug, PartialEq, Eq)]
+pub struct UnknownAction;
+
+impl FromStr for Action {
+    type Err = UnknownAction;
+
+    ghost from_str_gives = { NamesAction };
+
+    fn from_str(text: &str) -> Result<Action, UnknownAction> {
+        match text {
+            "run" => Ok(Action::Run),
+            "central" => Ok(Action::Central),
+            _ => Err(UnknownAction),
+        }
+    }
+}
+
+/// What the words ask for: what to do, and the most steps, 1 to 1,000,000,000.
+#[derive(Clone, Copy, Debug, PartialEq, Eq)]
+pub struct Options {
+    pub steps: u64,
+    pub action: Action,
+}
+
+/// Why words give no options: the command refuses them, or memory is wanting.
+#[derive(Clone, Copy, Debug, PartialEq, Eq)]
+pub enum WordsError {
+    Usage,
+    Memory,
+}
+
+impl From<AllocError> for WordsError {
+    fn from(_: AllocError) -> Self {
+        WordsError::Memory
+    }
+}
+
+// The matches of the words.
+fn parse<'a>(
+    alloc: Global,
+    names: &'a [&'a str],
+    words: &'a [String],
+) -> Result<ArgMatches<'a>, WordsError>
+    ensures { Parses names.entry (map string_bytes words.now) result }
+{
+    let command = match command(alloc, names) {
+        Ok(command) => command,
+        Err(_) => return Err(WordsError::Memory),
+    };
+    match command.try_get_matches_from(words) {
+        Ok(matches) => Ok(matches),
+        Err(error) => match error.kind() {
+            ErrorKind::OutOfMemory => Err(WordsError::Memory),
+            _ => Err(WordsError::Usage),
+        },
+    }
+}
+
+fn steps_of(matches: &ArgMatches) -> u64
+    requires { HasValue matches.now (codes "steps") steps_values }
+    ensures text { Says (one_text (found_of matches.now) (codes "steps")) result }
+    ensures least { 1 ≤ result }
+    ensures most { result ≤ 1000000000 }
+{
+    matches.get_one("steps").unwrap()
+}
+
+fn action_in(matches: &ArgMatches) -> Action
+    requires { (names : _) × AreActions names.now × HasValue matches.now (codes "action") (action_values names) }
+    ensures { one_text (found_of matches.now) (codes "action") ≡ Some (action_name result) }
+{
+    matches.get_one("action").unwrap()
+}
+
+/// The options that the words say, the first word being the program's name. The names are those of the actions.
+/// `Usage` comes exactly where the command refuses the words.
+pub fn read_options<'a>(
+    alloc: Global,
+    names: &'a [&'a str],
+    words: &'a [String],
+) -> Result<Options, WordsError>
+    requires { AreActions names.now }
+    ensures text { ReadsWords names.entry (map string_bytes words.now) result }
+    ensures range { IfOk result InRange }
+{
+    let matches = parse(alloc, names, words)?;
+    Ok(Options {
+        steps: steps_of(&matches),
+        action: action_in(&matches),
+    })
+}

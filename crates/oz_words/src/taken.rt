@@ -1,0 +1,61 @@
+//! The command that reads the words.
+
+ghost use Rattle.std.specs.Prelude.{◌≡◌, IfOk, false};
+ghost use Rattle.clap.specs.Words.{app_of, rule_of};
+ghost use Rattle.oz_words.specs.Command.{AreActions, oz_app, option_rule, action_rule, steps_values};
+
+use clap::builder::ValueParser;
+use clap::{Arg, ArgAction, Command, value_parser};
+use std::alloc::{AllocError, Global};
+
+static ACTIONS: [&str; 2] = ["run", "central"];
+
+// `--name N`, given at most once, with a default.
+fn option_of<'a>(alloc: Global, name: &'a str, parser: ValueParser<'a>, default: &'a str) -> Arg<'a>
+    ensures rule { rule_of result ≡ option_rule name.entry.now parser.entry default.entry.now }
+    ensures local { result.global ≡ false }
+{
+    Arg::new(alloc, name)
+        .long(name)
+        .action(ArgAction::Set)
+        .value_parser(parser)
+        .default_value(default)
+}
+
+// The word that is one of these names.
+fn action_of<'a>(alloc: Global, names: &'a [&'a str]) -> Arg<'a>
+    ensures rule { rule_of result ≡ action_rule names.entry }
+    ensures local { result.global ≡ false }
+{
+    Arg::new(alloc, "action")
+        .action(ArgAction::Set)
+        .value_parser(names)
+        .default_value("run")
+}
+
+fn steps_parser<'a>() -> ValueParser<'a>
+    ensures { result ≡ steps_values }
+{
+    value_parser!(u64).range(1..=1_000_000_000)
+}
+
+/// The names of the actions: `run`, the default, and `central`.
+pub fn action_names() -> &'static [&'static str]
+    ensures { AreActions result.now }
+{
+    ACTIONS.as_slice()
+}
+
+/// The command that takes `oz [--steps N] [run|central]`. The names are those of the actions: they are handed in since
+/// the command keeps a reference to them.
+pub fn command<'a>(alloc: Global, names: &'a [&'a str]) -> Result<Command<'a>, AllocError>
+    ensures { IfOk result (λ c. app_of c ≡ oz_app names.entry) }
+{
+    let steps = option_of(alloc, "steps", steps_parser(), "1000000");
+    let action = action_of(alloc, names);
+    Command::new(alloc, "oz")
+        .disable_help_flag(true)
+        .disable_version_flag(true)
+        .arg(steps)?
+        .arg(action)
+}
