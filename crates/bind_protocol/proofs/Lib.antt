@@ -1,0 +1,11 @@
+pub mod KnowLemmas
+pub mod ListLemmas
+pub mod LookLemmas
+pub mod GrowLemmas
+pub mod CountLemmas
+pub mod PlaceLemmas
+pub mod RowLemmas
+pub mod CallLemmas
+pub mod DeliverLemmas
+pub mod HoldLemmas
+pub mod CodeLemmas

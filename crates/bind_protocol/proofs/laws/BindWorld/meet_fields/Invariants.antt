@@ -1,0 +1,12 @@
+use Rattle.std.proofs.Common.{◌≡◌, drop, map}
+use Rattle.tree_node.specs.Node.{features_of}
+use Rattle.bind_protocol.specs.World.{Grows, IsFront, meets_all, field_vars}
+use Rattle.bind_protocol.proofs.laws.BindWorld.meet_fields.Given as goal
+
+abbrev pub invariant-loop-field : goal.invariant-loop-field
+invariant-loop-field l = record {
+  rest : meets_all l.self l.site (field_vars (drop l.field-index l.fields)) ≡ meets_all l.fn.self l.site (field_vars l.fields);
+  grows : Grows l.fn.self l.self;
+  front : IsFront l.fn.self.travelling l.self.travelling;
+  delivered : l.self.delivered ≡ l.fn.self.delivered;
+}

@@ -1,0 +1,5 @@
+pub mod Records
+pub mod Rows
+pub mod World
+pub mod Lawful
+pub mod Calls

@@ -1,0 +1,81 @@
+-- The rows of the protocol: what an event does to the records of a site, and what the site sends.
+use Rattle.std.specs.Prelude.{ℕ, List, [], ◌∷◌, ◌++◌, map, Option, Some, None, is_some, if◌then◌else◌}
+use Rattle.tree_node.specs.declared.names.VarName.{VarName}
+use Rattle.tree_node.specs.declared.names.ThreadName.{ThreadName}
+use Rattle.tree_node.specs.declared.node.Term.{Term}
+use Rattle.site_message.specs.declared.message.Sent.{Sent}
+use Rattle.site_message.specs.declared.message.Msg.{Msg}
+use Rattle.site_message.specs.declared.message.Msg.TheVariants as msg
+use Rattle.proxy_table.specs.Proxies.{entry_of}
+use Rattle.proxy_table.specs.Proxies as proxies
+use Rattle.variable_owner.specs.declared.owners.Owner.{Owner}
+use Rattle.variable_owner.specs.declared.owners.Owner.TheVariants.{Open, Bound}
+use Rattle.variable_owner.specs.Owners.{owner_of, sites_of, with_owner}
+use Rattle.variable_owner.specs.Owners as owners
+use Rattle.bind_protocol.specs.Records.{Records, is_own}
+
+abbrev pub sent : ℕ → Msg → Sent
+sent to message = record { to = to; msg = message }
+
+abbrev pub register : VarName → ℕ → Sent
+register x asking = sent x.site (msg.Register x asking)
+
+abbrev pub request : VarName → Term → ThreadName → Sent
+request x t thread = sent x.site (msg.BindReq x thread t [])
+
+abbrev pub binding : VarName → Term → ℕ → Sent
+binding x t to = sent to (msg.Binding x t [])
+
+-- A variable of the site's own is made, unbound
+abbrev pub after_make : Records → VarName → Records
+after_make b x = record b { owners = with_owner b.owners x (Open []) }
+
+-- A name is met: one owned elsewhere that is new is kept, and a Register goes to its owner
+abbrev pub after_meet : Records → VarName → Records
+after_meet b x = if is_own b x then b else record b { proxies = proxies.after_meet b.proxies x }
+
+abbrev pub meet_sends : Records → VarName → List Sent
+meet_sends b x = if is_own b x then [] else if is_some (entry_of b.proxies x) then [] else register x b.site ∷ []
+
+-- Register(x, k): k joins the sites of an unbound x; a bound x is answered by a Binding to k
+abbrev pub after_register : Records → VarName → ℕ → Records
+after_register b x k = record b { owners = owners.after_register b.owners x k }
+
+abbrev pub answers : Option Owner → VarName → ℕ → List Sent
+answers (Some (Bound t)) x k = binding x t k ∷ []
+answers _ x k = []
+
+abbrev pub register_sends : Records → VarName → ℕ → List Sent
+register_sends b x k = answers (owner_of b.owners x) x k
+
+-- BindReq(x, t), and the owner's own bind: an unbound x is bound to t, and a Binding goes to each of its sites. A
+-- bound x stays as it is, and nothing is sent
+abbrev pub after_ask : Records → VarName → Term → Records
+after_ask b x t = record b { owners = owners.after_ask b.owners x t }
+
+abbrev pub ask_sends : Records → VarName → Term → List Sent
+ask_sends b x t = map (λ k. binding x t k) (sites_of (owner_of b.owners x))
+
+-- Binding(x, t): x is known to be bound to t
+abbrev pub after_binding : Records → VarName → Term → Records
+after_binding b x t = record b { proxies = proxies.after_bound b.proxies x t }
+
+-- A bind that a thread of the site wants: of an own variable it is made, else a BindReq goes to the owner, and the
+-- site knows no more than before
+abbrev pub after_want : Records → VarName → Term → Records
+after_want b x t = if is_own b x then after_ask b x t else b
+
+abbrev pub want_sends : Records → VarName → Term → ThreadName → List Sent
+want_sends b x t thread = if is_own b x then ask_sends b x t else request x t thread ∷ []
+
+-- A message comes
+abbrev pub after_message : Records → Msg → Records
+after_message b (msg.Register x k) = after_register b x k
+after_message b (msg.BindReq x thread t bundle) = after_ask b x t
+after_message b (msg.Binding x t bundle) = after_binding b x t
+after_message b _ = b
+
+abbrev pub message_sends : Records → Msg → List Sent
+message_sends b (msg.Register x k) = register_sends b x k
+message_sends b (msg.BindReq x thread t bundle) = ask_sends b x t
+message_sends b _ = []

@@ -1,0 +1,209 @@
+-- Sites whose messages travel in any order, what each call does to them, and what holds of them at all times.
+use Rattle.std.specs.Prelude.{◌≡◌, ◌≢◌, ℕ, zero, suc, ◌-◌, ◌≤◌, List, [], ◌∷◌, ◌++◌, ◌⊎◌, length, map, remove, Bool, false, ◌&&◌, ◌==◌, Option, Some, None, is_some, unwrap_or, IsTrue, Contains, slice_get, slice_set}
+use Rattle.std.specs.List.{count_by}
+use Rattle.tree_node.specs.declared.names.VarName.{VarName}
+use Rattle.tree_node.specs.declared.names.ThreadName.{ThreadName}
+use Rattle.tree_node.specs.declared.node.Feature.{Feature}
+use Rattle.tree_node.specs.declared.node.Node.{Node}
+use Rattle.tree_node.specs.declared.node.Node.TheVariants as node
+use Rattle.tree_node.specs.declared.node.Term.{Term}
+use Rattle.tree_node.specs.declared.node.Term.TheVariants as term
+use Rattle.tree_node.specs.Each.{Each}
+use Rattle.tree_node.specs.Store.{same_name}
+use Rattle.site_message.specs.declared.message.Sent.{Sent}
+use Rattle.site_message.specs.declared.message.Msg.{Msg}
+use Rattle.site_message.specs.declared.message.Msg.TheVariants as msg
+use Rattle.site_message.specs.Order.{IsLower}
+use Rattle.variable_owner.specs.Owners.{owner_of, sites_of}
+use Rattle.bind_protocol.specs.Records.{Records, knowledge}
+use Rattle.bind_protocol.specs.Rows.{register, binding, after_make, after_meet, meet_sends, after_want, want_sends, after_message, message_sends}
+
+-- the records of the sites 1, 2 and so on, the messages that travel, and those that came
+pub record World : Type 0 where
+  pub binders : List Records
+  pub travelling : List Sent
+  pub delivered : List Sent
+
+abbrev pub empty_records : ℕ → Records
+empty_records i = record { site = i; owners = []; proxies = [] }
+
+-- the records of n new sites
+abbrev pub new_records : ℕ → List Records
+new_records zero = []
+new_records (suc n) = new_records n ++ empty_records (suc n) ∷ []
+
+abbrev pub new_world : ℕ → World
+new_world n = record { binders = new_records n; travelling = []; delivered = [] }
+
+abbrev pub records_at : List Records → ℕ → Option Records
+records_at bs zero = None
+records_at bs (suc k) = slice_get bs k
+
+abbrev pub records_of : World → ℕ → Records
+records_of w i = unwrap_or (records_at w.binders i) (empty_records i)
+
+abbrev pub IsSiteOf : World → ℕ → Type 0
+IsSiteOf w i = (1 ≤ i) × (i ≤ length w.binders)
+
+-- what a site knows of a variable
+abbrev pub knows : Option Records → VarName → Option (Option Term)
+knows None x = None
+knows (Some b) x = knowledge b x
+
+abbrev pub known_at : World → ℕ → VarName → Option (Option Term)
+known_at w i x = knows (records_at w.binders i) x
+
+-- the sites that are registered at the owner
+abbrev pub listed : Option Records → VarName → List ℕ
+listed None x = []
+listed (Some b) x = sites_of (owner_of b.owners x)
+
+abbrev pub registered_at : World → VarName → List ℕ
+registered_at w x = listed (records_at w.binders x.site) x
+
+abbrev pub IsMadeIn : World → VarName → Type 0
+IsMadeIn w x = IsTrue (is_some (known_at w x.site x))
+
+-- the equation of x at its owner
+abbrev pub IsEquation : World → VarName → Term → Type 0
+IsEquation w x t = known_at w x.site x ≡ Some (Some t)
+
+abbrev pub field_vars : List (Feature × VarName) → List VarName
+field_vars fields = map (λ (f : Feature × VarName). f.1) fields
+
+-- the variables of a term
+abbrev pub vars_of : Term → List VarName
+vars_of (term.Var y) = y ∷ []
+vars_of (term.Node n) = vars_of_node n
+  where
+    vars_of_node : Node → List VarName
+    vars_of_node (node.Rec label fields) = field_vars fields
+    vars_of_node (node.Proc name code formals vars) = vars
+    vars_of_node _ = []
+
+-- the site has these records from now on, and sends these messages
+abbrev pub puts : World → ℕ → Records → World
+puts w i b = record w { binders = slice_set w.binders (i - 1) b }
+
+abbrev pub sends : World → List Sent → World
+sends w ms = record w { travelling = w.travelling ++ ms }
+
+-- site i makes x
+abbrev pub makes : World → ℕ → VarName → World
+makes w i x = puts w i (after_make (records_of w i) x)
+
+-- site i meets x
+abbrev pub meets : World → ℕ → VarName → World
+meets w i x = sends (puts w i (after_meet (records_of w i) x)) (meet_sends (records_of w i) x)
+
+abbrev pub meets_all : World → ℕ → List VarName → World
+meets_all w i [] = w
+meets_all w i (x ∷ xs) = meets_all (meets w i x) i xs
+
+-- a thread of site i wants to bind x to t
+abbrev pub wants : World → ℕ → VarName → Term → ThreadName → World
+wants w i x t thread =
+    sends (puts w i (after_want (records_of w i) x t)) (want_sends (records_of w i) x t thread)
+
+-- site i takes a message
+abbrev pub takes_message : World → ℕ → Msg → World
+takes_message w i m = sends (puts w i (after_message (records_of w i) m)) (message_sends (records_of w i) m)
+
+-- the variables that the site of a message meets first
+abbrev pub met_first : Msg → List VarName
+met_first (msg.BindReq x thread t bundle) = vars_of t
+met_first (msg.Binding x t bundle) = vars_of t
+met_first _ = []
+
+-- the message of the place has come
+abbrev pub comes : World → ℕ → Sent → World
+comes w place m = record w {
+  travelling = remove w.travelling place;
+  delivered = w.delivered ++ m ∷ [];
+}
+
+-- the message of the place is delivered
+abbrev pub delivers : World → ℕ → World
+delivers w place = delivered (slice_get w.travelling place)
+  where
+    delivered : Option Sent → World
+    delivered None = w
+    delivered (Some m) = comes (takes_message (meets_all w m.to (met_first m.msg)) m.to m.msg) place m
+
+-- a Register of x by site i, and a Binding of x to site i
+abbrev pub is_register : VarName → ℕ → Sent → Bool
+is_register x i s = asks s.msg
+  where
+    asks : Msg → Bool
+    asks (msg.Register y k) = same_name x y && (i == k)
+    asks _ = false
+
+abbrev pub is_binding : VarName → ℕ → Sent → Bool
+is_binding x i s = tells s.msg
+  where
+    tells : Msg → Bool
+    tells (msg.Binding y t bundle) = same_name x y && (i == s.to)
+    tells _ = false
+
+-- an equation at an owner stays
+abbrev pub EquationsStay : World → World → Type 0
+EquationsStay old new = (x : VarName) (t : Term) → IsEquation old x t → IsEquation new x t
+
+-- nobody forgets: sites stay, known names stay known, and known bindings stay
+pub record Grows (old new : World) : Type 0 where
+  pub sites : length new.binders ≡ length old.binders
+  pub known : (i : ℕ) (x : VarName) → IsTrue (is_some (known_at old i x)) → IsTrue (is_some (known_at new i x))
+  pub bound : (i : ℕ) (x : VarName) (t : Term) → known_at old i x ≡ Some (Some t) → known_at new i x ≡ Some (Some t)
+
+-- the messages stay in their places, and others may come behind them
+abbrev pub IsFront : List Sent → List Sent → Type 0
+IsFront ms ns = (place : ℕ) (m : Sent) → slice_get ms place ≡ Some m → slice_get ns place ≡ Some m
+
+-- what a site knows is an owner's equation
+abbrev pub KnowledgeIsOwned : World → Type 0
+KnowledgeIsOwned w = (i : ℕ) (x : VarName) (t : Term) → known_at w i x ≡ Some (Some t) → IsEquation w x t
+
+-- a site that met a name owned elsewhere and does not know it bound is registered, or its Register or a Binding to
+-- it travels
+abbrev pub EachIsTold : World → Type 0
+EachIsTold w =
+    (i : ℕ) (x : VarName) → known_at w i x ≡ Some None → i ≢ x.site →
+    Contains (registered_at w x) i
+    ⊎ (Contains w.travelling (register x i) ⊎ ((t : Term) × Contains w.travelling (binding x t i)))
+
+-- each Register and each Binding was sent at most once for each name and site
+abbrev pub SentOnce : World → Type 0
+SentOnce w =
+    (i : ℕ) (x : VarName) →
+    (count_by (is_register x i) (w.delivered ++ w.travelling) ≤ 1)
+    × (count_by (is_binding x i) (w.delivered ++ w.travelling) ≤ 1)
+
+-- no message goes to its own sender: a Register is the asking site's, a Binding the owner's
+abbrev pub GoesElsewhere : Sent → Type 0
+GoesElsewhere s = to_other s.msg
+  where
+    to_other : Msg → Type 0
+    to_other (msg.Register x k) = s.to ≢ k
+    to_other (msg.Binding x t bundle) = s.to ≢ x.site
+    to_other _ = Unit {0}
+
+-- a variable that is asked to be bound to a variable is above it
+abbrev pub GoesDown : Sent → Type 0
+GoesDown s = down s.msg
+  where
+    down : Msg → Type 0
+    down (msg.BindReq x thread t bundle) = IsLower t x
+    down _ = Unit {0}
+
+-- an equation with a variable leads down
+abbrev pub LinksGoDown : World → Type 0
+LinksGoDown w = (x : VarName) (t : Term) → IsEquation w x t → IsLower t x
+
+-- what holds of a world at all times
+pub record Holds (w : World) : Type 0 where
+  pub owned : KnowledgeIsOwned w
+  pub told : EachIsTold w
+  pub once : SentOnce w
+  pub elsewhere : Each GoesElsewhere w.travelling
+  pub down : Each GoesDown w.travelling
+  pub links : LinksGoDown w
