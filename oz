@@ -19,7 +19,7 @@ build() {
         echo 'oz: the command rt of the Rattle toolchain is wanted, and is not on the path' >&2
         return 1
     }
-    echo 'oz: proving and building the program first; this happens once, and may take some ten minutes' >&2
+    echo 'oz: proving and building the program first; this happens once, and may take half an hour' >&2
     mkdir -p "$folder/out" || return 1
     (cd "$folder" && printf skip | rt run >/dev/null 2>"$log") &
     builder=$!

@@ -1,36 +1,26 @@
 -- Each call keeps a world lawful.
-use Rattle.std.proofs.Common.{arith, rules, ◌≡◌, ◌≢◌, ◌∙◌, ℕ, zero, suc, ◌+◌, ◌-◌, ◌<◌, ◌≤◌, List, [], ◌∷◌, ◌++◌, length, refl, sym, ap, subst, ◌⊎◌, inl, inr, Bool, true, false, cond, map}
-use Rattle.std.specs.Prelude.{Option, Some, None, is_some, IsTrue, Contains, remove, slice_get, slice_set, ◌&&◌, ◌==◌, if◌then◌else◌}
+use Rattle.std.proofs.Common.{arith, rules, ◌≡◌, ◌≢◌, ◌∙◌, ℕ, zero, suc, ◌-◌, ◌<◌, List, [], ◌∷◌, ◌++◌, length, refl, sym, ap, subst, Bool, true, false, map}
+use Rattle.std.specs.Prelude.{Option, Some, None, is_some, IsTrue, slice_get, ◌==◌}
 use Rattle.std.proofs.lemmas.Option.{slice_get_within}
 use Rattle.std.proofs.lemmas.List.{length-set}
-use Rattle.indexmap.specs.IndexMap.{insert_entry}
 use Rattle.tree_node.specs.declared.names.VarName.{VarName}
 use Rattle.tree_node.specs.declared.names.ThreadName.{ThreadName}
 use Rattle.tree_node.specs.declared.node.Term.{Term}
 use Rattle.tree_node.specs.Each.{Each}
-use Rattle.tree_node.specs.Store.{same_name}
-use Rattle.tree_node.proofs.ClassLemmas.{same_name_refl, Contains-head, Contains-tail}
 use Rattle.tree_node.proofs.OrderLemmas.{Each-map}
-use Rattle.site_message.specs.declared.message.Sent.{Sent}
-use Rattle.site_message.specs.declared.message.Msg.{Msg}
-use Rattle.site_message.specs.declared.message.Msg.TheVariants as msg
-use Rattle.site_message.specs.Order.{IsLower}
-use Rattle.proxy_table.specs.Proxies.{Proxy, entry_of}
+use Rattle.proxy_table.specs.Proxies.{entry_of}
 use Rattle.variable_owner.specs.declared.owners.Owner.{Owner}
 use Rattle.variable_owner.specs.declared.owners.Owner.TheVariants.{Open, Bound}
 use Rattle.variable_owner.specs.Owners.{owner_of, sites_of, with_owner}
 use Rattle.variable_owner.proofs.OwnerLemmas.{written_back}
-use Rattle.bind_protocol.specs.Records.{Records, is_own, knowledge, owner_knows}
-use Rattle.bind_protocol.specs.Rows.{register, request, binding, after_meet, meet_sends, after_register, register_sends, after_ask, ask_sends, after_want, want_sends}
-use Rattle.bind_protocol.specs.World.{World, IsSiteOf, IsFront, records_at, records_of, knows, known_at, registered_at, vars_of, puts, sends, makes, meets, meets_all, wants, takes_message, met_first, comes, delivers, is_register, is_binding}
-use Rattle.bind_protocol.specs.World as world
-use Rattle.bind_protocol.specs.Lawful.{Knowing, Made, IsGood, Truth, IsLetter, Counts, IsLawful, met, told, registers, bindings, times}
-use Rattle.bind_protocol.specs.Calls.{CanMake, CanMeet, CanWant}
-use Rattle.bind_protocol.proofs.ListLemmas.{get_append, each_at, there_counted}
-use Rattle.bind_protocol.proofs.LookLemmas.{in_here, in_other}
-use Rattle.bind_protocol.proofs.GrowLemmas.{Grows}
+use Rattle.bind_protocol.specs.Records.{Records, is_own, owner_knows}
+use Rattle.bind_protocol.specs.Rows.{register, request, binding, after_meet, after_ask, ask_sends}
+use Rattle.bind_protocol.specs.World.{World, IsSiteOf, IsFront, records_of, knows, known_at, registered_at, vars_of, puts, sends, makes, meets, meets_all, wants}
+use Rattle.bind_protocol.specs.Lawful.{Made, IsGood, IsLawful}
+use Rattle.bind_protocol.specs.Calls.{CanMake, CanWant}
+use Rattle.bind_protocol.proofs.ListLemmas.{get_append}
 use Rattle.bind_protocol.proofs.PlaceLemmas.{append_nil, puts_same, known_records, listed_records}
-use Rattle.bind_protocol.proofs.RowLemmas.{Kept, grows_same, grows_on, site_of, own_knows, proxy_knows, own_here, make_row, meet_row, bind_row, request_row, uncounted_row, keep_row, answer_row, binding_row}
+use Rattle.bind_protocol.proofs.RowLemmas.{Kept, grows_same, grows_on, site_of, own_knows, proxy_knows, own_here, make_row, meet_row, bind_row, request_row}
 
 pub kept_same : (w : World) → IsLawful w → Kept w w
 kept_same w l = record { lawful = l; grows = grows_same (known_at w) }

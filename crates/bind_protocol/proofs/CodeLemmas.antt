@@ -1,13 +1,12 @@
 -- From the fields of a world to the world, and from what a call did at one site to what it did to the world.
-use Rattle.std.proofs.Common.{arith, rules, ◌≡◌, ◌≢◌, ◌∙◌, ℕ, zero, suc, ◌+◌, ◌-◌, ◌<◌, ◌≤◌, List, [], ◌∷◌, ◌++◌, length, refl, sym, ap, subst, ◌⊎◌, inl, inr, Bool, true, false, get_or, drop, drop-cons, add-one}
-use Rattle.std.specs.Prelude.{Option, Some, None, is_some, IsTrue, Result, Ok, Err, OnOk, OnErr, Contains, remove, slice_get, slice_set, slice_index_or}
+use Rattle.std.proofs.Common.{arith, rules, ◌≡◌, ◌∙◌, ℕ, zero, suc, ◌+◌, ◌-◌, ◌<◌, ◌≤◌, List, [], ◌∷◌, ◌++◌, length, refl, sym, ap, subst, get_or, drop, drop-cons, add-one}
+use Rattle.std.specs.Prelude.{Option, Some, None, is_some, IsTrue, Result, Ok, Err, OnOk, OnErr, remove, slice_get, slice_set, slice_index_or}
 use Rattle.std.proofs.lemmas.Option.{slice_get-get_or}
 use Rattle.tree_node.specs.declared.names.VarName.{VarName}
 use Rattle.tree_node.specs.declared.names.ThreadName.{ThreadName}
 use Rattle.tree_node.specs.declared.node.Feature.{Feature}
 use Rattle.tree_node.specs.declared.node.Term.{Term}
 use Rattle.tree_node.specs.Each.{Each}
-use Rattle.tree_node.proofs.OrderLemmas.{Each-map}
 use Rattle.site_message.specs.declared.message.Sent.{Sent}
 use Rattle.site_message.specs.declared.message.Msg.{Msg}
 use Rattle.variable_owner.specs.Owners.{owner_of, IsMade}
@@ -15,13 +14,13 @@ use Rattle.variable_owner.specs.declared.owners.Owner.{Owner}
 use Rattle.variable_owner.specs.declared.owners.Owner.TheVariants.{Open, Bound}
 use Rattle.bind_protocol.specs.Records.{Records, Takes, knowledge, owner_knows}
 use Rattle.bind_protocol.specs.Rows.{after_make, after_meet, meet_sends, after_want, want_sends, after_message, message_sends}
-use Rattle.bind_protocol.specs.World.{World, Holds, Grows, IsFront, IsSiteOf, IsMadeIn, records_at, records_of, known_at, puts, sends, makes, meets, meets_all, wants, takes_message, met_first, comes, delivers, field_vars}
-use Rattle.bind_protocol.specs.Lawful.{IsLawful, IsLetter}
+use Rattle.bind_protocol.specs.World.{World, Holds, Grows, IsFront, IsSiteOf, IsMadeIn, records_of, known_at, puts, sends, makes, meets, meets_all, wants, takes_message, met_first, comes, delivers, field_vars}
+use Rattle.bind_protocol.specs.Lawful.{IsLawful}
 use Rattle.bind_protocol.specs.Calls.{CanMake, CanMeet, CanWant}
 use Rattle.bind_protocol.proofs.PlaceLemmas.{puts_same, known_records}
-use Rattle.bind_protocol.proofs.RowLemmas.{Kept, site_of, own_here, own_knows}
-use Rattle.bind_protocol.proofs.CallLemmas.{Met, makes_kept, meets_kept, meets_front, wants_kept, puts_sites, meets_all_kept}
-use Rattle.bind_protocol.proofs.DeliverLemmas.{letter_of, get_contains, goes_to_site, met_first_made, first_met, message_comes, site_takes, delivers_kept}
+use Rattle.bind_protocol.proofs.RowLemmas.{Kept, site_of, own_knows}
+use Rattle.bind_protocol.proofs.CallLemmas.{makes_kept, meets_kept, meets_front, wants_kept, puts_sites}
+use Rattle.bind_protocol.proofs.DeliverLemmas.{letter_of, get_contains, goes_to_site, met_first_made, message_comes, site_takes}
 use Rattle.bind_protocol.proofs.HoldLemmas.{lawful_holds}
 
 pub grown : (w v : World) → Kept w v → length v.binders ≡ length w.binders → Grows w v

@@ -1,16 +1,14 @@
 -- The ways to a name go on by one message at a time.
-use Rattle.std.proofs.Common.{arith, rules, ◌≡◌, ◌≢◌, ◌∙◌, ℕ, ◌+◌, ◌≤◌, List, [], ◌∷◌, ◌++◌, refl, sym, ap, subst, ◌⊎◌, inl, inr, Bool, true, false, cond, map}
-use Rattle.std.specs.Prelude.{Option, Some, None, remove, slice_get, ◌&&◌, ◌==◌}
-use Rattle.std.specs.List.{count_by}
+use Rattle.std.proofs.Common.{arith, rules, ◌≡◌, ◌≢◌, ◌∙◌, ℕ, ◌+◌, List, [], ◌∷◌, refl, sym, ap, Bool, true, false, cond, map}
+use Rattle.std.specs.Prelude.{Option, Some, None, ◌&&◌, ◌==◌}
 use Rattle.tree_node.specs.declared.names.VarName.{VarName}
-use Rattle.tree_node.specs.declared.names.ThreadName.{ThreadName}
 use Rattle.tree_node.specs.declared.node.Term.{Term}
 use Rattle.tree_node.specs.Store.{same_name}
 use Rattle.site_message.specs.declared.message.Sent.{Sent}
-use Rattle.bind_protocol.specs.Rows.{register, request, binding}
+use Rattle.bind_protocol.specs.Rows.{binding}
 use Rattle.bind_protocol.specs.World.{is_register, is_binding}
 use Rattle.bind_protocol.specs.Lawful.{Knowing, Counts, met, told, registers, bindings, times}
-use Rattle.bind_protocol.proofs.ListLemmas.{one, count_append, count_push, count_cons, count_out}
+use Rattle.bind_protocol.proofs.ListLemmas.{one, count_cons}
 use Rattle.bind_protocol.proofs.GrowLemmas.{Changes, this_place, place_is, place_is_not}
 
 not_own : (i : ℕ) (x : VarName) → i ≢ x.site → (i == x.site) ≡ false

@@ -1,24 +1,24 @@
 -- A delivery keeps a world lawful, and is one that its site can take.
-use Rattle.std.proofs.Common.{arith, rules, ◌≡◌, ◌≢◌, ◌∙◌, ℕ, zero, suc, ◌+◌, ◌<◌, ◌≤◌, List, [], ◌∷◌, ◌++◌, length, refl, sym, ap, subst, ◌⊎◌, inl, inr, Bool, true, false}
-use Rattle.std.specs.Prelude.{Option, Some, None, is_some, IsTrue, Contains, slice_get, ◌&&◌, ◌==◌}
+use Rattle.std.proofs.Common.{arith, rules, ◌≡◌, ◌≢◌, ◌∙◌, ℕ, zero, suc, ◌+◌, ◌≤◌, List, [], ◌∷◌, ◌++◌, refl, sym, ap, subst, Bool, true, false}
+use Rattle.std.specs.Prelude.{Option, Some, None, is_some, IsTrue, Contains, slice_get, ◌==◌}
 use Rattle.tree_node.specs.declared.names.VarName.{VarName}
 use Rattle.tree_node.specs.declared.names.ThreadName.{ThreadName}
 use Rattle.tree_node.specs.declared.node.Term.{Term}
 use Rattle.tree_node.specs.Each.{Each}
-use Rattle.tree_node.specs.Store.{Equation, same_name}
+use Rattle.tree_node.specs.Store.{Equation}
 use Rattle.tree_node.proofs.ClassLemmas.{same_name_refl, Contains-head, Contains-tail}
 use Rattle.site_message.specs.declared.message.Sent.{Sent}
 use Rattle.site_message.specs.declared.message.Msg.{Msg}
 use Rattle.site_message.specs.declared.message.Msg.TheVariants as msg
-use Rattle.proxy_table.specs.Proxies.{entry_of, after_bound}
+use Rattle.proxy_table.specs.Proxies.{after_bound}
 use Rattle.variable_owner.specs.declared.owners.Owner.{Owner}
 use Rattle.variable_owner.specs.declared.owners.Owner.TheVariants.{Open, Bound}
-use Rattle.variable_owner.specs.Owners.{owner_of, sites_of, IsMade, with_owner}
+use Rattle.variable_owner.specs.Owners.{owner_of, IsMade, with_owner}
 use Rattle.variable_owner.proofs.OwnerLemmas.{written_back}
-use Rattle.bind_protocol.specs.Records.{Records, Takes, is_own, knowledge, owner_knows}
-use Rattle.bind_protocol.specs.Rows.{register, binding, after_register, register_sends, after_ask, ask_sends, after_binding}
-use Rattle.bind_protocol.specs.World.{World, IsSiteOf, records_of, known_at, registered_at, vars_of, puts, sends, meets_all, takes_message, met_first, comes, delivers, is_register, is_binding}
-use Rattle.bind_protocol.specs.Lawful.{Knowing, Made, IsGood, IsLetter, IsLawful, met, told, registers, bindings, times}
+use Rattle.bind_protocol.specs.Records.{Records, Takes, owner_knows}
+use Rattle.bind_protocol.specs.Rows.{register, binding, after_register, register_sends, after_binding}
+use Rattle.bind_protocol.specs.World.{World, IsSiteOf, records_of, known_at, registered_at, puts, sends, meets_all, takes_message, met_first, comes, delivers, is_register, is_binding}
+use Rattle.bind_protocol.specs.Lawful.{Made, IsGood, IsLetter, IsLawful, met, told, registers, bindings, times}
 use Rattle.bind_protocol.proofs.ListLemmas.{get_append, each_at, there_counted}
 use Rattle.bind_protocol.proofs.LookLemmas.{in_here, in_other}
 use Rattle.bind_protocol.proofs.PlaceLemmas.{append_nil, puts_same, known_records, listed_records}

@@ -1,23 +1,23 @@
 -- What holds of lawful worlds, and of the worlds after any list of calls.
-use Rattle.std.proofs.Common.{arith, rules, ◌≡◌, ◌≢◌, ◌∙◌, ℕ, zero, suc, ◌+◌, ◌<◌, ◌≤◌, List, [], ◌∷◌, ◌++◌, length, refl, sym, ap, subst, ◌⊎◌, inl, inr, Bool, true, false}
-use Rattle.std.specs.Prelude.{Option, Some, None, is_some, IsTrue, Contains, slice_get, ◌&&◌, ◌==◌}
+use Rattle.std.proofs.Common.{arith, rules, ◌≡◌, ◌≢◌, ◌∙◌, ℕ, zero, suc, ◌+◌, ◌≤◌, List, [], ◌∷◌, ◌++◌, length, refl, sym, ap, subst, ◌⊎◌, inl, inr, Bool, true, false}
+use Rattle.std.specs.Prelude.{Option, Some, None, Contains, slice_get, ◌==◌}
 use Rattle.std.specs.List.{count_by}
 use Rattle.std.proofs.lemmas.List.{length-append}
 use Rattle.tree_node.specs.declared.names.VarName.{VarName}
 use Rattle.tree_node.specs.declared.node.Term.{Term}
 use Rattle.tree_node.specs.Each.{Each}
-use Rattle.tree_node.specs.Store.{Equation, same_name}
-use Rattle.tree_node.proofs.ClassLemmas.{same_name_decides, Contains-head, Contains-tail}
+use Rattle.tree_node.specs.Store.{Equation}
+use Rattle.tree_node.proofs.ClassLemmas.{Contains-head, Contains-tail}
 use Rattle.tree_node.proofs.OrderLemmas.{Each-member}
 use Rattle.site_message.specs.declared.message.Sent.{Sent}
 use Rattle.site_message.specs.declared.message.Msg.{Msg}
 use Rattle.site_message.specs.declared.message.Msg.TheVariants as msg
 use Rattle.bind_protocol.specs.Records.{Records}
 use Rattle.bind_protocol.specs.Rows.{register, binding}
-use Rattle.bind_protocol.specs.World.{World, Holds, EachIsTold, SentOnce, GoesElsewhere, GoesDown, EquationsStay, IsSiteOf, empty_records, new_records, new_world, records_at, knows, known_at, listed, registered_at, is_register, is_binding}
-use Rattle.bind_protocol.specs.Lawful.{IsLetter, IsLawful, Counts, met, told, registers, bindings, times}
+use Rattle.bind_protocol.specs.World.{World, Holds, EachIsTold, SentOnce, GoesElsewhere, GoesDown, empty_records, new_records, new_world, records_at, knows, known_at, listed, registered_at, is_register, is_binding}
+use Rattle.bind_protocol.specs.Lawful.{IsLetter, IsLawful, met, told, registers, bindings, times}
 use Rattle.bind_protocol.specs.Calls.{Call, Make, Meet, Want, Deliver, IsAllowed, IsAfter, CallsKeep, after_call}
-use Rattle.bind_protocol.proofs.ListLemmas.{count_append, counted_there, there_counted}
+use Rattle.bind_protocol.proofs.ListLemmas.{count_append, counted_there}
 use Rattle.bind_protocol.proofs.GrowLemmas.{place_is}
 use Rattle.bind_protocol.proofs.RowLemmas.{Kept}
 use Rattle.bind_protocol.proofs.CallLemmas.{kept_same, kept_on, makes_kept, meets_kept, wants_kept}

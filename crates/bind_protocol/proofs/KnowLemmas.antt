@@ -1,5 +1,5 @@
 -- What a site knows, from two tests.
-use Rattle.std.proofs.Common.{◌≡◌, sym, ◌∙◌, ap, refl, Some, None, Bool, true, false}
+use Rattle.std.proofs.Common.{◌≡◌, sym, ap, refl, Some, None, Bool, true, false}
 use Rattle.std.specs.Prelude.{◌↔◌, Option, IsTrue, is_some, option_and_then}
 use Rattle.tree_node.specs.declared.node.Term.{Term}
 

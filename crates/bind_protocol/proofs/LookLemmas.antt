@@ -1,7 +1,6 @@
 -- Look-ups by name after a change, and what a site knows after each row.
-use Rattle.std.proofs.Common.{arith, rules, ◌≡◌, ◌≢◌, ◌∙◌, ℕ, zero, suc, ◌-◌, ◌<◌, ◌≤◌, List, [], ◌∷◌, ◌++◌, length, refl, sym, ap, subst, ◌⊎◌, inl, inr, Bool, true, false, cond}
-use Rattle.std.specs.Prelude.{Option, Some, None, is_some, slice_get, slice_set, ◌&&◌, ◌==◌}
-use Rattle.std.specs.Bool.{Decides}
+use Rattle.std.proofs.Common.{arith, ◌≡◌, ◌≢◌, ◌∙◌, ℕ, zero, suc, ◌-◌, ◌≤◌, List, [], ◌∷◌, ◌++◌, length, refl, sym, ap, Bool, true, false, cond}
+use Rattle.std.specs.Prelude.{Option, Some, None, slice_set}
 use Rattle.std.specs.Map.{lookup}
 use Rattle.indexmap.specs.IndexMap.{insert_entry}
 use Rattle.tree_node.specs.declared.names.VarName.{VarName}
@@ -10,9 +9,9 @@ use Rattle.tree_node.specs.Store.{same_name}
 use Rattle.tree_node.proofs.ClassLemmas.{same_name_decides, same_name_refl}
 use Rattle.proxy_table.specs.Proxies.{Proxy, entry_of}
 use Rattle.variable_owner.specs.declared.owners.Owner.{Owner}
-use Rattle.variable_owner.specs.Owners.{Owned, owner_of, sites_of, with_owner}
+use Rattle.variable_owner.specs.Owners.{owner_of, with_owner}
 use Rattle.bind_protocol.specs.Records.{Records, is_own, knowledge, owner_knows}
-use Rattle.bind_protocol.specs.World.{World, records_at, knows, listed}
+use Rattle.bind_protocol.specs.World.{records_at}
 use Rattle.bind_protocol.proofs.ListLemmas.{set_here, set_other, get_there}
 
 pub names_differ : (x y : VarName) → x ≢ y → same_name x y ≡ false

@@ -1,15 +1,12 @@
 -- The records of one site of a world exchanged, and messages sent.
-use Rattle.std.proofs.Common.{arith, rules, ◌≡◌, ◌≢◌, ◌∙◌, ℕ, zero, suc, ◌-◌, ◌<◌, ◌≤◌, List, [], ◌∷◌, ◌++◌, length, refl, sym, ap, subst, ◌⊎◌, inl, inr, Bool, true, false}
-use Rattle.std.specs.Prelude.{Option, Some, None, is_some, IsTrue, slice_get, slice_set, ◌==◌}
+use Rattle.std.proofs.Common.{arith, rules, ◌≡◌, ◌≢◌, ◌∙◌, ℕ, zero, suc, ◌-◌, List, [], ◌∷◌, ◌++◌, refl, sym, ap, subst, ◌⊎◌, inl, inr, Bool, true, false}
+use Rattle.std.specs.Prelude.{Option, Some, slice_get, slice_set, ◌==◌}
 use Rattle.tree_node.specs.declared.names.VarName.{VarName}
 use Rattle.tree_node.specs.declared.node.Term.{Term}
-use Rattle.tree_node.specs.Store.{same_name}
 use Rattle.variable_owner.specs.declared.owners.Owner.{Owner}
-use Rattle.variable_owner.specs.declared.owners.Owner.TheVariants.{Open, Bound}
 use Rattle.variable_owner.specs.Owners.{owner_of, sites_of, with_owner}
 use Rattle.bind_protocol.specs.Records.{Records, is_own, knowledge, owner_knows}
 use Rattle.bind_protocol.specs.World.{World, IsSiteOf, records_at, records_of, knows, known_at, listed, registered_at, puts}
-use Rattle.bind_protocol.specs.Lawful.{Knowing}
 use Rattle.bind_protocol.proofs.LookLemmas.{in_here, in_other, owner_here, owner_other, put_here, put_other, site_there}
 use Rattle.bind_protocol.proofs.GrowLemmas.{Changes}
 

@@ -1,6 +1,6 @@
 -- Each row of the protocol keeps a world lawful.
-use Rattle.std.proofs.Common.{arith, rules, ◌≡◌, ◌≢◌, ◌∙◌, ℕ, zero, suc, ◌+◌, ◌<◌, ◌≤◌, List, [], ◌∷◌, ◌++◌, length, refl, sym, ap, subst, ◌⊎◌, inl, inr, Bool, true, false, cond, map}
-use Rattle.std.specs.Prelude.{Option, Some, None, is_some, IsTrue, Contains, remove, slice_get, ◌&&◌, ◌==◌}
+use Rattle.std.proofs.Common.{arith, rules, ◌≡◌, ◌≢◌, ◌∙◌, ℕ, ◌+◌, List, [], ◌∷◌, ◌++◌, refl, sym, ap, subst, ◌⊎◌, inl, inr, Bool, true, false, cond, map}
+use Rattle.std.specs.Prelude.{Option, Some, None, is_some, remove, slice_get, ◌&&◌, ◌==◌}
 use Rattle.tree_node.specs.declared.names.VarName.{VarName}
 use Rattle.tree_node.specs.declared.names.ThreadName.{ThreadName}
 use Rattle.tree_node.specs.declared.node.Term.{Term}
@@ -14,13 +14,13 @@ use Rattle.variable_owner.specs.declared.owners.Owner.TheVariants.{Open, Bound}
 use Rattle.variable_owner.specs.Owners.{owner_of, sites_of, with_owner}
 use Rattle.bind_protocol.specs.Records.{Records, is_own, knowledge, owner_knows}
 use Rattle.bind_protocol.specs.Rows.{register, request, binding}
-use Rattle.bind_protocol.specs.World.{World, IsSiteOf, records_at, records_of, known_at, registered_at, puts, sends, comes, is_register, is_binding}
-use Rattle.bind_protocol.specs.Lawful.{Knowing, Made, IsGood, Truth, IsLetter, Counts, IsLawful, met, told, registers, bindings, times}
-use Rattle.bind_protocol.proofs.ListLemmas.{one, count_append, count_push, count_out, each_append, each_out, each_at, there_counted}
-use Rattle.bind_protocol.proofs.LookLemmas.{proxy_here, proxy_other, last_here, last_other, in_here, in_other, names_differ}
-use Rattle.bind_protocol.proofs.GrowLemmas.{Changes, Grows, this_place, change_grows, letters_stay, truth_stays, good_stays}
+use Rattle.bind_protocol.specs.World.{World, IsSiteOf, records_of, known_at, registered_at, puts, sends, comes, is_register, is_binding}
+use Rattle.bind_protocol.specs.Lawful.{Knowing, Made, IsGood, IsLetter, IsLawful, registers, bindings, times}
+use Rattle.bind_protocol.proofs.ListLemmas.{one, count_append, count_push, count_out, each_append, each_out}
+use Rattle.bind_protocol.proofs.LookLemmas.{proxy_here, proxy_other, last_here, last_other, names_differ}
+use Rattle.bind_protocol.proofs.GrowLemmas.{Changes, Grows, this_place, change_grows, letters_stay, truth_stays}
 use Rattle.bind_protocol.proofs.CountLemmas.{own_met, own_told, now_met, met_untold, now_told, told_met, bindings_sent, no_register, same_counts, meet_counts, register_counts, bind_counts, binding_counts}
-use Rattle.bind_protocol.proofs.PlaceLemmas.{site_records, known_records, listed_records, numbered_puts, puts_changes, listed_stays, owns_changes, owns_listed, owns_others, number_cases}
+use Rattle.bind_protocol.proofs.PlaceLemmas.{site_records, known_records, listed_records, numbered_puts, puts_changes, listed_stays, owns_changes, owns_listed, owns_others}
 
 -- a lawful world in which sites know no less
 pub record Kept (w v : World) : Type 0 where

@@ -1,10 +1,10 @@
 -- Lists of calls on a world.
-use Rattle.std.specs.Prelude.{◌≡◌, ◌≢◌, ℕ, ◌≤◌, ◌<◌, List, [], ◌∷◌, ◌++◌, length, Option, Some, None, is_some, IsTrue}
+use Rattle.std.specs.Prelude.{◌≡◌, ℕ, ◌<◌, List, [], ◌∷◌, length, Some, None, is_some, IsTrue}
 use Rattle.tree_node.specs.declared.names.VarName.{VarName}
 use Rattle.tree_node.specs.declared.names.ThreadName.{ThreadName}
 use Rattle.tree_node.specs.declared.node.Term.{Term}
 use Rattle.tree_node.specs.Each.{Each}
-use Rattle.site_message.specs.Order.{IsLower}
+use Rattle.tree_node.specs.Order.{IsLower}
 use Rattle.bind_protocol.specs.World.{World, Holds, IsSiteOf, IsMadeIn, EquationsStay, known_at, vars_of, new_world, makes, meets, wants, delivers}
 
 -- a site makes a variable of its own that it has not made

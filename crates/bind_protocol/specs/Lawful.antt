@@ -8,7 +8,7 @@ use Rattle.tree_node.specs.Each.{Each}
 use Rattle.site_message.specs.declared.message.Sent.{Sent}
 use Rattle.site_message.specs.declared.message.Msg.{Msg}
 use Rattle.site_message.specs.declared.message.Msg.TheVariants as msg
-use Rattle.site_message.specs.Order.{IsLower}
+use Rattle.tree_node.specs.Order.{IsLower}
 use Rattle.bind_protocol.specs.Records.{Records}
 use Rattle.bind_protocol.specs.World.{World, records_at, known_at, registered_at, vars_of, is_register, is_binding}
 

@@ -13,7 +13,7 @@ use Rattle.tree_node.specs.Store.{same_name}
 use Rattle.site_message.specs.declared.message.Sent.{Sent}
 use Rattle.site_message.specs.declared.message.Msg.{Msg}
 use Rattle.site_message.specs.declared.message.Msg.TheVariants as msg
-use Rattle.site_message.specs.Order.{IsLower}
+use Rattle.tree_node.specs.Order.{IsLower}
 use Rattle.variable_owner.specs.Owners.{owner_of, sites_of}
 use Rattle.bind_protocol.specs.Records.{Records, knowledge}
 use Rattle.bind_protocol.specs.Rows.{register, binding, after_make, after_meet, meet_sends, after_want, want_sends, after_message, message_sends}

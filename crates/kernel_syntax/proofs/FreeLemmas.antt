@@ -1,31 +1,53 @@
 -- Free positions: how deep they are looked for, and which they are.
-use Rattle.std.proofs.Common.{arith, ◌≡◌, sym, ap, refl, subst, ℕ, zero, suc, ◌+◌, ◌<◌, ◌≤◌, List, [], ◌∷◌, length, ◌⊎◌, inl, inr, Bool, true, false, cond, Some, None}
+use Rattle.std.proofs.Common.{arith, ◌≡◌, sym, refl, subst, ℕ, zero, suc, ◌+◌, ◌<◌, ◌≤◌, List, [], ◌∷◌, map, length, ◌⊎◌, inl, inr, Bool, true, false, cond, Some, None}
 use Rattle.std.specs.Prelude.{◌==◌, nat_lt, Contains, Option, slice_get, unwrap_or}
 use Rattle.std.proofs.lemmas.Option.{slice_get_past}
 use Rattle.tree_node.specs.declared.names.CodeId.{CodeId}
 use Rattle.tree_node.specs.Each.{Each}
 use Rattle.tree_node.proofs.ClassLemmas.{Contains-head, Contains-tail, Contains-cons_cases}
 use Rattle.kernel_syntax.specs.declared.stmt.Stmt.{Stmt}
-use Rattle.kernel_syntax.specs.declared.stmt.Stmt.TheVariants.{Seq, Skip, Local, TellVar, TellInt, TellAtom, Browse}
-use Rattle.kernel_syntax.specs.Free.{IsAscending, stmt_at, bodies_of, with_position, with_positions, is_declared, without_declared, free_in_each, free_of, free_within, free}
+use Rattle.kernel_syntax.specs.declared.stmt.Stmt.TheVariants as stmt
+use Rattle.kernel_syntax.specs.Scopes.{Scope, stmt_at, bodies_of, scopes_of, undeclaring, names_of}
+use Rattle.kernel_syntax.specs.Free.{AreRising, with_position, with_positions, is_declared, without_declared, free_in_each, free_of, free_within, free}
 use Rattle.kernel_syntax.specs.Program.{IsProgram}
-use Rattle.kernel_syntax.specs.Uses.{names_of, IsDeclared, IsBodyOutside, Uses, itself, within}
-use Rattle.kernel_syntax.specs.Laws.{FreeUnfolds, FreeAscends, FreeIsUsed, ProgramsAreClosed}
-use Rattle.kernel_syntax.proofs.OrderLemmas.{Each-map, ascends_with, ascends_with_all}
+use Rattle.kernel_syntax.specs.Uses.{IsDeclared, IsBodyOutside, Uses, itself, within}
+use Rattle.kernel_syntax.specs.Laws.{FreeUnfolds, FreeAscends, FreeIsUsed, ProgramsAreClosed, OwnersHaveFree, NamesAreFree}
+use Rattle.kernel_syntax.proofs.OrderLemmas.{Each-map, ascends_with_all}
 
 -- statements that agree on the bodies have the same free positions
-each_agrees : (f g : CodeId → List ℕ) (js : List ℕ) (cs : List CodeId) → Each (λ c. f c ≡ g c) cs → free_in_each f js cs ≡ free_in_each g js cs
+each_agrees : (f g : CodeId → List ℕ) (js : List ℕ) (ss : List Scope) → Each (λ (s : Scope). f s.body ≡ g s.body) ss → free_in_each f js ss ≡ free_in_each g js ss
 each_agrees f g js [] h = refl
-each_agrees f g js (c ∷ cs) h = rw h.0 (each_agrees f g (with_positions js (g c)) cs h.1)
+each_agrees f g js (s ∷ ss) h = rw h.0 (each_agrees f g (with_positions js (without_declared s.first s.count (g s.body))) ss h.1)
+
+-- what holds of each body holds of each body with what is declared for it
+bodies_alone : (P : CodeId → Type 0) (cs : List CodeId) → Each P cs → Each (λ (s : Scope). P s.body) (map undeclaring cs)
+bodies_alone P [] h = tt
+bodies_alone P (c ∷ cs) h = (h.0, bodies_alone P cs h.1)
+
+pub scopes_have : (P : CodeId → Type 0) (st : Stmt) → Each P (bodies_of st) → Each (λ (s : Scope). P s.body) (scopes_of st)
+scopes_have P (stmt.Seq bodies) h = bodies_alone P bodies h
+scopes_have P stmt.Skip h = tt
+scopes_have P (stmt.Local first count body) h = h
+scopes_have P (stmt.TellVar left right) h = tt
+scopes_have P (stmt.TellInt left value) h = tt
+scopes_have P (stmt.TellAtom left text) h = tt
+scopes_have P (stmt.TellRec left label fields) h = tt
+scopes_have P (stmt.TellProc left first count body) h = h
+scopes_have P (stmt.Calc left op a b) h = tt
+scopes_have P (stmt.Select left source by) h = tt
+scopes_have P (stmt.If subject chosen other) h = h
+scopes_have P (stmt.Case subject pattern first chosen other) h = h
+scopes_have P (stmt.Call callee args) h = tt
+scopes_have P (stmt.Browse x) h = tt
+scopes_have P (stmt.Wait x) h = tt
+scopes_have P (stmt.NewCell content cell) h = tt
+scopes_have P (stmt.Exchange cell old new) h = tt
+scopes_have P (stmt.Thread at body) h = h
+scopes_have P (stmt.Try body first handler) h = h
+scopes_have P (stmt.Raise x) h = tt
 
 pub of_agrees : (f g : CodeId → List ℕ) (st : Stmt) → Each (λ c. f c ≡ g c) (bodies_of st) → free_of f st ≡ free_of g st
-of_agrees f g (Seq bodies) h = each_agrees f g [] bodies h
-of_agrees f g Skip h = refl
-of_agrees f g (Local first count body) h = ap (without_declared first count) h.0
-of_agrees f g (TellVar left right) h = refl
-of_agrees f g (TellInt left value) h = refl
-of_agrees f g (TellAtom left text) h = refl
-of_agrees f g (Browse x) h = refl
+of_agrees f g st h = rw (each_agrees f g [] (scopes_of st) (scopes_have (λ c. f c ≡ g c) st h)) refl
 
 -- bodies stand behind their owners
 abbrev GoesOn : List Stmt → Type 0
@@ -34,7 +56,7 @@ GoesOn p = (code : CodeId) → Each (λ (c : CodeId). (code.0 < c.0) × (c.0 < l
 pub goes_on : (p : List Stmt) → IsProgram p → GoesOn p
 goes_on p is code = go (slice_get p code.0) refl
   where
-    go : (o : Option Stmt) → slice_get p code.0 ≡ o → Each (λ (c : CodeId). (code.0 < c.0) × (c.0 < length p)) (bodies_of (unwrap_or o Skip))
+    go : (o : Option Stmt) → slice_get p code.0 ≡ o → Each (λ (c : CodeId). (code.0 < c.0) × (c.0 < length p)) (bodies_of (unwrap_or o stmt.Skip))
     go None e = tt
     go (Some st) e = is.bodies code.0 st e
 
@@ -54,42 +76,22 @@ free_unfolds p code is =
     enough p (goes_on p is) (length p) (suc (length p)) code (omega arith) (omega arith)
 
 -- they ascend
-ascends-each : (f : CodeId → List ℕ) (js : List ℕ) (cs : List CodeId) → IsAscending js → IsAscending (free_in_each f js cs)
+ascends-each : (f : CodeId → List ℕ) (js : List ℕ) (ss : List Scope) → AreRising js → AreRising (free_in_each f js ss)
 ascends-each f js [] up = up
-ascends-each f js (c ∷ cs) up = ascends-each f (with_positions js (f c)) cs (ascends_with_all js (f c) up)
+ascends-each f js (s ∷ ss) up =
+    let row : List ℕ = without_declared s.first s.count (f s.body) in
+    ascends-each f (with_positions js row) ss (ascends_with_all js row up)
 
-Each-without : (P : ℕ → Type 0) (first count : ℕ) (ks : List ℕ) → Each P ks → Each P (without_declared first count ks)
-Each-without P first count [] h = tt
-Each-without P first count (k ∷ ks) h = go (is_declared first count k) (Each-without P first count ks h.1)
-  where
-    go : (b : Bool) → Each P (without_declared first count ks) → Each P (cond b (without_declared first count ks) (k ∷ without_declared first count ks))
-    go true rest = rest
-    go false rest = (h.0, rest)
-
-ascends-without : (first count : ℕ) (ks : List ℕ) → IsAscending ks → IsAscending (without_declared first count ks)
-ascends-without first count [] up = tt
-ascends-without first count (k ∷ ks) up = go (is_declared first count k) (ascends-without first count ks up.1)
-  where
-    go : (b : Bool) → IsAscending (without_declared first count ks) → IsAscending (cond b (without_declared first count ks) (k ∷ without_declared first count ks))
-    go true rest = rest
-    go false rest = (Each-without (λ j. k < j) first count ks up.0, rest)
-
-ascends-of : (f : CodeId → List ℕ) (st : Stmt) → ((c : CodeId) → IsAscending (f c)) → IsAscending (free_of f st)
-ascends-of f (Seq bodies) h = ascends-each f [] bodies tt
-ascends-of f Skip h = tt
-ascends-of f (Local first count body) h = ascends-without first count (f body) (h body)
-ascends-of f (TellVar left right) h = ascends_with left (right ∷ []) (tt, tt)
-ascends-of f (TellInt left value) h = (tt, tt)
-ascends-of f (TellAtom left text) h = (tt, tt)
-ascends-of f (Browse x) h = (tt, tt)
-
-ascends-within : (d : ℕ) (p : List Stmt) (code : CodeId) → IsAscending (free_within d p code)
-ascends-within zero p code = tt
-ascends-within (suc d) p code = ascends-of (free_within d p) (stmt_at p code) (λ c. ascends-within d p c)
+pub ascends_of : (f : CodeId → List ℕ) (st : Stmt) → AreRising (free_of f st)
+ascends_of f st = ascends_with_all (free_in_each f [] (scopes_of st)) (names_of st) (ascends-each f [] (scopes_of st) tt)
 
 pub free_ascends : FreeAscends
 unfolding free
-free_ascends p code = ascends-within (length p) p code
+free_ascends p code = go (length p)
+  where
+    go : (d : ℕ) → AreRising (free_within d p code)
+    go zero = tt
+    go (suc d) = ascends_of (free_within d p) (stmt_at p code)
 
 -- members of the lists
 Contains-here : {X : Type 0} (x y : X) (xs : List X) → x ≡ y → Contains (x ∷ xs) y
@@ -158,34 +160,6 @@ all-new js (k ∷ ks) x h = go (λ g. all-new (with_position k js) ks x g) (Cont
     go ih (inl e) = all-old (with_position k js) ks x (subst (λ (y : ℕ). Contains (with_position k js) y) e (with-itself k js))
     go ih (inr g) = ih g
 
--- a position that is free in one of these bodies
-abbrev FromBody : (CodeId → List ℕ) → List CodeId → ℕ → Type 0
-FromBody f cs x = (c : CodeId) × Contains cs c × Contains (f c) x
-
-from_each : (f : CodeId → List ℕ) (js : List ℕ) (cs : List CodeId) (x : ℕ) → Contains (free_in_each f js cs) x → Contains js x ⊎ FromBody f cs x
-from_each f js [] x h = inl h
-from_each f js (c ∷ cs) x h = go (from_each f (with_positions js (f c)) cs x h)
-  where
-    first : Contains js x ⊎ Contains (f c) x → Contains js x ⊎ FromBody f (c ∷ cs) x
-    first (inl g) = inl g
-    first (inr g) = inr (c, Contains-head c cs, g)
-
-    go : Contains (with_positions js (f c)) x ⊎ FromBody f cs x → Contains js x ⊎ FromBody f (c ∷ cs) x
-    go (inl g) = first (from_all js (f c) x g)
-    go (inr (b, at, g)) = inr (b, Contains-tail c b cs at, g)
-
-each-old : (f : CodeId → List ℕ) (js : List ℕ) (cs : List CodeId) (x : ℕ) → Contains js x → Contains (free_in_each f js cs) x
-each-old f js [] x h = h
-each-old f js (c ∷ cs) x h = each-old f (with_positions js (f c)) cs x (all-old js (f c) x h)
-
-each-new : (f : CodeId → List ℕ) (js : List ℕ) (cs : List CodeId) (b : CodeId) (x : ℕ) → Contains cs b → Contains (f b) x → Contains (free_in_each f js cs) x
-each-new f js [] b x h g = absurd (Contains-none b h)
-each-new f js (c ∷ cs) b x h g = go (λ at. each-new f (with_positions js (f c)) cs b x at g) (Contains-cons_cases c b cs h)
-  where
-    go : (Contains cs b → Contains (free_in_each f (with_positions js (f c)) cs) x) → (c ≡ b) ⊎ Contains cs b → Contains (free_in_each f (with_positions js (f c)) cs) x
-    go ih (inl e) = each-old f (with_positions js (f c)) cs x (all-new js (f c) x (subst (λ (y : CodeId). Contains (f y) x) (sym e) g))
-    go ih (inr at) = ih at
-
 from_without : (first count : ℕ) (ks : List ℕ) (x : ℕ) → Contains (without_declared first count ks) x → Contains ks x × (IsDeclared first count x → ⊥)
 from_without first count [] x h = absurd (Contains-none x h)
 from_without first count (k ∷ ks) x h = go (is_declared first count k) refl (λ g. from_without first count ks x g) h
@@ -213,48 +187,67 @@ without-others first count (k ∷ ks) x h out = go (is_declared first count k) r
     go false e ih (inl same) = Contains-here k x (without_declared first count ks) same
     go false e ih (inr g) = Contains-tail k x (without_declared first count ks) (ih g)
 
+-- a position that is free in one of these bodies, and not declared for it
+abbrev FromBody : (CodeId → List ℕ) → List Scope → ℕ → Type 0
+FromBody f ss x = (s : Scope) × Contains ss s × Contains (f s.body) x × (IsDeclared s.first s.count x → ⊥)
+
+from_each : (f : CodeId → List ℕ) (js : List ℕ) (ss : List Scope) (x : ℕ) → Contains (free_in_each f js ss) x → Contains js x ⊎ FromBody f ss x
+from_each f js [] x h = inl h
+from_each f js (s ∷ ss) x h = go (from_each f (with_positions js row) ss x h)
+  where
+    row : List ℕ
+    row = without_declared s.first s.count (f s.body)
+
+    first : Contains js x ⊎ Contains row x → Contains js x ⊎ FromBody f (s ∷ ss) x
+    first (inl g) = inl g
+    first (inr g) = let here = from_without s.first s.count (f s.body) x g in inr (s, Contains-head s ss, here.0, here.1)
+
+    go : Contains (with_positions js row) x ⊎ FromBody f ss x → Contains js x ⊎ FromBody f (s ∷ ss) x
+    go (inl g) = first (from_all js row x g)
+    go (inr (b, at, g, out)) = inr (b, Contains-tail s b ss at, g, out)
+
+each-old : (f : CodeId → List ℕ) (js : List ℕ) (ss : List Scope) (x : ℕ) → Contains js x → Contains (free_in_each f js ss) x
+each-old f js [] x h = h
+each-old f js (s ∷ ss) x h =
+    let row : List ℕ = without_declared s.first s.count (f s.body) in
+    each-old f (with_positions js row) ss x (all-old js row x h)
+
+each-new : (f : CodeId → List ℕ) (js : List ℕ) (ss : List Scope) (b : Scope) (x : ℕ) → Contains ss b → Contains (f b.body) x → (IsDeclared b.first b.count x → ⊥) → Contains (free_in_each f js ss) x
+each-new f js [] b x h g out = absurd (Contains-none b h)
+each-new f js (s ∷ ss) b x h g out = go (λ at. each-new f (with_positions js (row s)) ss b x at g out) (Contains-cons_cases s b ss h)
+  where
+    row : Scope → List ℕ
+    row t = without_declared t.first t.count (f t.body)
+
+    here : Contains (row b) x
+    here = without-others b.first b.count (f b.body) x g out
+
+    go : (Contains ss b → Contains (free_in_each f (with_positions js (row s)) ss) x) → (s ≡ b) ⊎ Contains ss b → Contains (free_in_each f (with_positions js (row s)) ss) x
+    go ih (inl e) = each-old f (with_positions js (row s)) ss x (all-new js (row s) x (subst (λ (t : Scope). Contains (row t) x) (sym e) here))
+    go ih (inr at) = ih at
+
 -- a free position is named by the statement itself or comes from a body that it is not declared for
 abbrev FromStmt : (CodeId → List ℕ) → Stmt → ℕ → Type 0
 FromStmt f st x = Contains (names_of st) x ⊎ ((c : CodeId) × IsBodyOutside st c x × Contains (f c) x)
 
 from_of : (f : CodeId → List ℕ) (st : Stmt) (x : ℕ) → Contains (free_of f st) x → FromStmt f st x
-from_of f (Seq bodies) x h = go (from_each f [] bodies x h)
+from_of f st x h = go (from_all (free_in_each f [] (scopes_of st)) (names_of st) x h)
   where
-    go : Contains [] x ⊎ FromBody f bodies x → FromStmt f (Seq bodies) x
-    go (inl g) = absurd (Contains-none x g)
-    go (inr g) = inr g
-from_of f Skip x h = inl h
-from_of f (Local first count body) x h = let g = from_without first count (f body) x h in inr (body, (refl, g.1), g.0)
-from_of f (TellVar left right) x h = go (from_with left (right ∷ []) x h)
-  where
-    go : (left ≡ x) ⊎ Contains (right ∷ []) x → FromStmt f (TellVar left right) x
-    go (inl e) = inl (Contains-here left x (right ∷ []) e)
-    go (inr g) = inl (Contains-tail left x (right ∷ []) g)
-from_of f (TellInt left value) x h = inl h
-from_of f (TellAtom left text) x h = inl h
-from_of f (Browse y) x h = inl h
+    inner : Contains [] x ⊎ FromBody f (scopes_of st) x → FromStmt f st x
+    inner (inl g) = absurd (Contains-none x g)
+    inner (inr (s, at, g, out)) = inr (s.body, (s, at, refl, out), g)
+
+    go : Contains (free_in_each f [] (scopes_of st)) x ⊎ Contains (names_of st) x → FromStmt f st x
+    go (inl g) = inner (from_each f [] (scopes_of st) x g)
+    go (inr g) = inl g
 
 of-names : (f : CodeId → List ℕ) (st : Stmt) (x : ℕ) → Contains (names_of st) x → Contains (free_of f st) x
-of-names f (Seq bodies) x h = absurd (Contains-none x h)
-of-names f Skip x h = h
-of-names f (Local first count body) x h = absurd (Contains-none x h)
-of-names f (TellVar left right) x h = go (Contains-cons_cases left x (right ∷ []) h)
-  where
-    go : (left ≡ x) ⊎ Contains (right ∷ []) x → Contains (with_position left (right ∷ [])) x
-    go (inl e) = subst (λ (y : ℕ). Contains (with_position left (right ∷ [])) y) e (with-itself left (right ∷ []))
-    go (inr g) = with-others left (right ∷ []) x g
-of-names f (TellInt left value) x h = h
-of-names f (TellAtom left text) x h = h
-of-names f (Browse y) x h = h
+of-names f st x h = all-new (free_in_each f [] (scopes_of st)) (names_of st) x h
 
 of-bodies : (f : CodeId → List ℕ) (st : Stmt) (c : CodeId) (x : ℕ) → IsBodyOutside st c x → Contains (f c) x → Contains (free_of f st) x
-of-bodies f (Seq bodies) c x at h = each-new f [] bodies c x at h
-of-bodies f Skip c x at h = absurd at
-of-bodies f (Local first count body) c x at h = without-others first count (f body) x (subst (λ (y : CodeId). Contains (f y) x) (sym at.0) h) at.1
-of-bodies f (TellVar left right) c x at h = absurd at
-of-bodies f (TellInt left value) c x at h = absurd at
-of-bodies f (TellAtom left text) c x at h = absurd at
-of-bodies f (Browse y) c x at h = absurd at
+of-bodies f st c x (s, at, same, out) h =
+    all-old (free_in_each f [] (scopes_of st)) (names_of st) x
+    (each-new f [] (scopes_of st) s x at (subst (λ (y : CodeId). Contains (f y) x) (sym same) h) out)
 
 -- they are those that the code uses
 used-within : (d : ℕ) (p : List Stmt) (code : CodeId) (k : ℕ) → Contains (free_within d p code) k → Uses p code k
@@ -269,11 +262,17 @@ free-used : (p : List Stmt) (code : CodeId) (k : ℕ) → Contains (free p code)
 unfolding free
 free-used p code k h = used-within (length p) p code k h
 
-used-free : (p : List Stmt) {code : CodeId} {k : ℕ} → IsProgram p → Uses p code k → Contains (free p code) k
-used-free p {code} {k} is (itself h) =
+pub owners_have_free : OwnersHaveFree
+owners_have_free p code c k is at h =
+    subst (λ (ks : List ℕ). Contains ks k) (sym (free_unfolds p code is)) (of-bodies (free p) (stmt_at p code) c k at h)
+
+pub names_are_free : NamesAreFree
+names_are_free p code k is h =
     subst (λ (ks : List ℕ). Contains ks k) (sym (free_unfolds p code is)) (of-names (free p) (stmt_at p code) k h)
-used-free p {code} {k} is (within c at u) =
-    subst (λ (ks : List ℕ). Contains ks k) (sym (free_unfolds p code is)) (of-bodies (free p) (stmt_at p code) c k at (used-free p is u))
+
+used-free : (p : List Stmt) {code : CodeId} {k : ℕ} → IsProgram p → Uses p code k → Contains (free p code) k
+used-free p {code} {k} is (itself h) = names_are_free p code k is h
+used-free p {code} {k} is (within c at u) = owners_have_free p code c k is at (used-free p is u)
 
 pub free_is_used : FreeIsUsed
 free_is_used p code k is = (free-used p code k, used-free p is)

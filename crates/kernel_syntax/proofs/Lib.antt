@@ -1,3 +1,4 @@
 pub mod OrderLemmas
 pub mod FreeLemmas
 pub mod TableLemmas
+pub mod ArithmeticLemmas

@@ -5,7 +5,7 @@ use Rattle.std.specs.Ordering.{nat_cmp}
 use Rattle.std.specs.List.Sorted.{IsBinarySearchResult}
 use Rattle.std.proofs.lemmas.List.Sorted.{searched}
 use Rattle.tree_node.specs.Each.{Each}
-use Rattle.kernel_syntax.specs.Free.{IsAscending, with_position, with_positions}
+use Rattle.kernel_syntax.specs.Free.{AreRising, with_position, with_positions}
 
 pub Each-at : {X : Type 0} (P : X → Type 0) (xs : List X) (i : ℕ) (d : X) → Each P xs → i < length xs → P (get_or xs i d)
 Each-at P [] i d h l = absurd (omega arith)
@@ -21,7 +21,7 @@ Each-with P k (j ∷ js) h hs = go (k == j) (nat_lt k j) (Each-with P k js h hs.
     go false true rest = (h, hs)
     go false false rest = (hs.0, rest)
 
-rise : (xs : List ℕ) → IsAscending xs → (i j : ℕ) → i ≤ j → j < length xs → get_or xs i 0 ≤ get_or xs j 0
+rise : (xs : List ℕ) → AreRising xs → (i j : ℕ) → i ≤ j → j < length xs → get_or xs i 0 ≤ get_or xs j 0
 rise [] up i j le l = absurd (omega arith)
 rise (x ∷ xs) up zero zero le l = omega arith
 rise (x ∷ xs) up zero (suc j) le l = let h : x < get_or xs j 0 = Each-at (λ y. x < y) xs j 0 up.0 (omega arith) in omega (arith, h)
@@ -33,7 +33,7 @@ Each-map P Q [] f h = tt
 Each-map P Q (x ∷ xs) f h = (f x h.0, Each-map P Q xs f h.1)
 
 -- with_position where a search found the position, and where it found its place
-found : (k : ℕ) (js : List ℕ) (i : ℕ) → IsAscending js → i < length js → get_or js i 0 ≡ k → with_position k js ≡ js
+found : (k : ℕ) (js : List ℕ) (i : ℕ) → AreRising js → i < length js → get_or js i 0 ≡ k → with_position k js ≡ js
 found k [] i up l e = absurd (omega arith)
 found k (j ∷ js) zero up l e = grind arith
 found k (j ∷ js) (suc i) up l e =
@@ -51,24 +51,24 @@ missing k (j ∷ js) (suc i) l low high =
     grind (arith, above, ih)
 
 -- one more position keeps the order
-pub ascends_with : (k : ℕ) (js : List ℕ) → IsAscending js → IsAscending (with_position k js)
+pub ascends_with : (k : ℕ) (js : List ℕ) → AreRising js → AreRising (with_position k js)
 ascends_with k [] up = (tt, tt)
 ascends_with k (j ∷ js) up = go (k == j) refl (nat_lt k j) refl (ascends_with k js up.1)
   where
-    go : (a : Bool) → (k == j) ≡ a → (b : Bool) → nat_lt k j ≡ b → IsAscending (with_position k js) → IsAscending (cond a (j ∷ js) (cond b (k ∷ j ∷ js) (j ∷ with_position k js)))
+    go : (a : Bool) → (k == j) ≡ a → (b : Bool) → nat_lt k j ≡ b → AreRising (with_position k js) → AreRising (cond a (j ∷ js) (cond b (k ∷ j ∷ js) (j ∷ with_position k js)))
     go true e b f rest = up
     go false e true f rest = let low : k < j = grind (arith, f) in ((low, Each-map (λ y. j < y) (λ y. k < y) js (λ y h. omega (arith, low, h)) up.0), up)
     go false e false f rest = let high : j < k = grind (arith, e, f) in (Each-with (λ y. j < y) k js high up.0, rest)
 
-pub ascends_as : (k : ℕ) (js ks : List ℕ) → ks ≡ with_position k js → IsAscending js → IsAscending ks
+pub ascends_as : (k : ℕ) (js ks : List ℕ) → ks ≡ with_position k js → AreRising js → AreRising ks
 ascends_as k js ks e up = rw e (ascends_with k js up)
 
-pub ascends_with_all : (js ks : List ℕ) → IsAscending js → IsAscending (with_positions js ks)
+pub ascends_with_all : (js ks : List ℕ) → AreRising js → AreRising (with_positions js ks)
 ascends_with_all js [] up = up
 ascends_with_all js (k ∷ ks) up = ascends_with_all (with_position k js) ks (ascends_with k js up)
 
 -- what a search answers at ascending positions
-pub with_position_searched : (k : ℕ) (js : List ℕ) (r : Result ℕ ℕ) → IsAscending js → IsBinarySearchResult (λ y. nat_cmp y k) js r →
+pub with_position_searched : (k : ℕ) (js : List ℕ) (r : Result ℕ ℕ) → AreRising js → IsBinarySearchResult (λ y. nat_cmp y k) js r →
     MatchResult r (λ i. with_position k js ≡ js) (λ i. with_position k js ≡ insert js i k)
 with_position_searched k js r up at = go r (searched js k r at (rise js up))
   where
@@ -77,12 +77,12 @@ with_position_searched k js r up at = go r (searched js k r at (rise js up))
     go (Ok i) h = found k js i up h.0 h.1
     go (Err i) h = missing k js i h.0 h.1 h.2
 
-pub position_found : (k : ℕ) (js xs : List ℕ) (r : Result ℕ ℕ) (i : ℕ) → IsAscending js → xs ≡ js → IsBinarySearchResult (λ y. nat_cmp y k) xs r → r ≡ Ok i → js ≡ with_position k js
+pub position_found : (k : ℕ) (js xs : List ℕ) (r : Result ℕ ℕ) (i : ℕ) → AreRising js → xs ≡ js → IsBinarySearchResult (λ y. nat_cmp y k) xs r → r ≡ Ok i → js ≡ with_position k js
 position_found k js xs r i up e at is =
     sym (subst (λ (q : Result ℕ ℕ). MatchResult q (λ i. with_position k js ≡ js) (λ i. with_position k js ≡ insert js i k)) is
     (with_position_searched k js r up (rw (← e) at)))
 
-pub position_missing : (k : ℕ) (js xs : List ℕ) (r : Result ℕ ℕ) (i : ℕ) → IsAscending js → xs ≡ js → IsBinarySearchResult (λ y. nat_cmp y k) xs r → r ≡ Err i → insert js i k ≡ with_position k js
+pub position_missing : (k : ℕ) (js xs : List ℕ) (r : Result ℕ ℕ) (i : ℕ) → AreRising js → xs ≡ js → IsBinarySearchResult (λ y. nat_cmp y k) xs r → r ≡ Err i → insert js i k ≡ with_position k js
 position_missing k js xs r i up e at is =
     sym (subst (λ (q : Result ℕ ℕ). MatchResult q (λ i. with_position k js ≡ js) (λ i. with_position k js ≡ insert js i k)) is
     (with_position_searched k js r up (rw (← e) at)))

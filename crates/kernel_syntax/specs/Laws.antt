@@ -1,10 +1,13 @@
--- What the free positions of a program are.
-use Rattle.std.specs.Prelude.{◌≡◌, ◌↔◌, ℕ, List, Contains}
+-- What the free positions of a program are, and what the operators give.
+use Rattle.std.specs.Prelude.{◌≡◌, ◌↔◌, ℕ, ◌<◌, List, Contains, false, IsTrue, ℤ, pos, ◌+ℤ◌, ◌*ℤ◌, ◌≤ℤ◌, int_div, int_rem, unsigned_abs}
 use Rattle.tree_node.specs.declared.names.CodeId.{CodeId}
 use Rattle.kernel_syntax.specs.declared.stmt.Stmt.{Stmt}
-use Rattle.kernel_syntax.specs.Free.{IsAscending, stmt_at, free, free_of}
+use Rattle.kernel_syntax.specs.Free.{AreRising, free, free_of}
+use Rattle.kernel_syntax.specs.Scopes.{stmt_at, names_of}
 use Rattle.kernel_syntax.specs.Program.{IsProgram}
-use Rattle.kernel_syntax.specs.Uses.{Uses}
+use Rattle.kernel_syntax.specs.Uses.{IsBodyOutside, Uses}
+use Rattle.kernel_syntax.specs.declared.stmt.Op.{Op}
+use Rattle.kernel_syntax.specs.Arithmetic.{Number, calculated, is_word, is_zero}
 
 -- those of a statement come from those of its bodies
 abbrev pub FreeUnfolds : Type 0
@@ -12,7 +15,7 @@ FreeUnfolds = (p : List Stmt) (code : CodeId) → IsProgram p → free p code �
 
 -- they ascend, each once
 abbrev pub FreeAscends : Type 0
-FreeAscends = (p : List Stmt) (code : CodeId) → IsAscending (free p code)
+FreeAscends = (p : List Stmt) (code : CodeId) → AreRising (free p code)
 
 -- they are the positions that the code uses and does not declare
 abbrev pub FreeIsUsed : Type 0
@@ -21,3 +24,23 @@ FreeIsUsed = (p : List Stmt) (code : CodeId) (k : ℕ) → IsProgram p → Conta
 -- a whole program uses what it declares alone
 abbrev pub ProgramsAreClosed : Type 0
 ProgramsAreClosed = (p : List Stmt) (k : ℕ) → IsProgram p → Uses p (record { 0 = 0 }) k → ⊥
+
+-- what is free in a body, and not declared for it, is free in its owner
+abbrev pub OwnersHaveFree : Type 0
+OwnersHaveFree = (p : List Stmt) (code c : CodeId) (k : ℕ) → IsProgram p → IsBodyOutside (stmt_at p code) c k → Contains (free p c) k → Contains (free p code) k
+
+-- what a statement names is free in it
+abbrev pub NamesAreFree : Type 0
+NamesAreFree = (p : List Stmt) (code : CodeId) (k : ℕ) → IsProgram p → Contains (names_of (stmt_at p code)) k → Contains (free p code) k
+
+-- the quotient and the rest make up the dividend, and the rest is smaller than the divisor
+abbrev pub DivisionIsExact : Type 0
+DivisionIsExact = (a b : ℤ) → is_zero b ≡ false → (int_div a b *ℤ b +ℤ int_rem a b ≡ a) × (unsigned_abs (int_rem a b) < unsigned_abs b)
+
+-- the rest has the sign of the dividend
+abbrev pub RestHasSign : Type 0
+RestHasSign = (a b : ℤ) → (pos 0 ≤ℤ a → pos 0 ≤ℤ int_rem a b) × (a ≤ℤ pos 0 → int_rem a b ≤ℤ pos 0)
+
+-- every integer that an operator gives fits 64 bits
+abbrev pub NumbersFit : Type 0
+NumbersFit = (op : Op) (a b z : ℤ) → IsTrue (is_word a) → calculated op a b ≡ Number z → IsTrue (is_word z)

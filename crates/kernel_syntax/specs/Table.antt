@@ -2,6 +2,8 @@
 use Rattle.std.specs.Prelude.{◌≡◌, ℕ, suc, ◌+◌, ◌-◌, ◌<◌, ◌≤◌, List, [], length, slice_index_or}
 use Rattle.tree_node.specs.declared.names.CodeId.{CodeId}
 use Rattle.kernel_syntax.specs.declared.stmt.Stmt.{Stmt}
+use Rattle.kernel_syntax.specs.declared.stmt.Stmt.TheVariants as stmt
+use Rattle.kernel_syntax.specs.Scopes.{Scope, scopes_of}
 use Rattle.kernel_syntax.specs.Free.{free}
 use Rattle.kernel_syntax.specs.Program.{IsProgram}
 
@@ -22,3 +24,10 @@ pub record IsKept (p : List Stmt) (rows : List (List ℕ)) : Type 0 where
   pub program : IsProgram p
   pub whole : length rows ≡ length p
   pub table : IsTable p rows
+
+-- the bodies of a statement that has two, with what it declares for each, and none of another
+abbrev pub branches_of : Stmt → List Scope
+branches_of (stmt.If subject chosen other) = scopes_of (stmt.If subject chosen other)
+branches_of (stmt.Case subject pattern first chosen other) = scopes_of (stmt.Case subject pattern first chosen other)
+branches_of (stmt.Try body first handler) = scopes_of (stmt.Try body first handler)
+branches_of _ = []

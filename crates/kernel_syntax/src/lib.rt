@@ -9,6 +9,6 @@ mod table;
 #[cfg(test)]
 mod tests;
 
-pub use laws::{free_is_used, free_unfolds};
+pub use laws::{free_goes_out, free_is_used, free_unfolds, operators_divide};
 pub use program::Program;
-pub use stmt::{Bodies, Stmt};
+pub use stmt::{Bodies, Features, Ids, Op, Pattern, Selector, Slots, Stmt, features};

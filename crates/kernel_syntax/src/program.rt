@@ -3,7 +3,8 @@
 ghost use Rattle.std.specs.Prelude.{◌≡◌, ◌<◌, length, Some, IfOk, slice_get};
 ghost use Rattle.tree_node.specs.declared.names.CodeId.{CodeId};
 ghost use Rattle.tree_node.specs.Each.{Each};
-ghost use Rattle.kernel_syntax.specs.Free.{bodies_of, free, stmt_at};
+ghost use Rattle.kernel_syntax.specs.Scopes.{bodies_of, stmt_at};
+ghost use Rattle.kernel_syntax.specs.Free.{AreRising, free};
 ghost use Rattle.kernel_syntax.specs.Program.{IsProgram, IsStmt};
 
 use crate::stmt::Stmt;
@@ -70,7 +71,8 @@ impl Program {
     /// The positions that a statement uses and does not declare, in ascending order.
     pub fn free(&self, code: CodeId) -> &[u32]
         requires { code.0 < length self.now }
-        ensures { result.now ≡ free self.now code }
+        ensures value { result.now ≡ free self.now code }
+        ensures order { AreRising result.now }
     {
         row(self.free.as_slice(), self.stmts.len(), code)
     }

@@ -1,13 +1,57 @@
 //! Statements.
 
-use tree_node::{CodeId, Seq, Text};
+ghost use Rattle.std.specs.Prelude.{◌≡◌};
+ghost use Rattle.kernel_syntax.specs.Scopes.{features_in};
+
+use tree_node::{CodeId, Feature, Seq, Text};
 
 /// The numbers of statements in the order in which they run.
 pub type Bodies = Seq<CodeId>;
 
-/// A statement of a program's table. A body is the number of its statement, and an identifier is a position: the
-/// number of declarations that enclose its own, hidden ones too. `first` is the position of the first identifier
-/// that the form declares; the others follow it.
+/// The positions of a call's arguments.
+pub type Ids = Seq<u32>;
+
+/// The features of a record pattern in ascending order, integers first, then atoms by their bytes.
+pub type Features = Seq<Feature>;
+
+/// The fields of a record with the positions of their values, in ascending order of features.
+pub type Slots = Seq<(Feature, u32)>;
+
+/// An operator on two integers: a sum, a difference, a product, a quotient, the rest of a division, or a comparison.
+#[derive(Clone, Copy, Debug, PartialEq, Eq)]
+pub enum Op {
+    Add,
+    Sub,
+    Mul,
+    Div,
+    Mod,
+    Le,
+    Lt,
+    Ge,
+    Gt,
+}
+
+/// What a selection selects by: the value at a position, or a feature that the text names.
+#[derive(Drop)]
+pub enum Selector {
+    Var(u32),
+    Feature(Feature),
+}
+
+/// The pattern of a `case`: an integer, an atom, or a record of a label and 1 to 64 features.
+#[derive(Drop)]
+pub enum Pattern {
+    Int(i64),
+    Atom(Text),
+    Rec(Text, Features),
+}
+
+/// A statement of a program's table (CTM sections 2.3, 2.7, 4.1 and 6.3). A body is the number of its statement, and an
+/// identifier is a position: the number of declarations that enclose its own, hidden ones too. `first` is the position
+/// of the first identifier that the form declares; the others follow it.
+///
+/// `local` declares `count` identifiers for its body, a procedure its `count` formals for its body, `case` one for each
+/// feature of its pattern, in their order, for its branch `yes`, and `try` one for its handler.
 #[derive(Drop)]
 pub enum Stmt {
     Seq(Bodies),
@@ -29,5 +73,73 @@ pub enum Stmt {
         left: u32,
         text: Text,
     },
+    TellRec {
+        left: u32,
+        label: Text,
+        fields: Slots,
+    },
+    TellProc {
+        left: u32,
+        first: u32,
+        count: u8,
+        body: CodeId,
+    },
+    Calc {
+        left: u32,
+        op: Op,
+        a: u32,
+        b: u32,
+    },
+    Select {
+        left: u32,
+        source: u32,
+        by: Selector,
+    },
+    If {
+        subject: u32,
+        yes: CodeId,
+        no: CodeId,
+    },
+    Case {
+        subject: u32,
+        pattern: Pattern,
+        first: u32,
+        yes: CodeId,
+        no: CodeId,
+    },
+    Call {
+        callee: u32,
+        args: Ids,
+    },
     Browse(u32),
+    Wait(u32),
+    NewCell {
+        content: u32,
+        cell: u32,
+    },
+    Exchange {
+        cell: u32,
+        old: u32,
+        new: u32,
+    },
+    Thread {
+        at: Option<i64>,
+        body: CodeId,
+    },
+    Try {
+        body: CodeId,
+        first: u32,
+        handler: CodeId,
+    },
+    Raise(u32),
+}
+
+/// The features of a record pattern, none of another pattern. A `case` declares one identifier for each.
+pub fn features(pattern: &Pattern) -> &[Feature]
+    ensures { result.now ≡ features_in pattern.now }
+{
+    match pattern {
+        Pattern::Rec(_, features) => features.as_slice(),
+        _ => &[],
+    }
 }

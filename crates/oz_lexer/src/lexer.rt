@@ -43,8 +43,9 @@ fn token(text: &str, start: usize) -> Result<Token<'_>, (LexKind, usize)>
     }
 }
 
-/// The next token of a text from a place on, or the fault there with its place.
-fn lex(text: &str, at: usize) -> Result<Token<'_>, (LexKind, usize)>
+/// The next token of a text from a place on, or the first lexical fault there and its place in bytes. `Lexer::next` goes on
+/// from token to token by it; who keeps the places of all tokens calls it.
+pub fn lex(text: &str, at: usize) -> Result<Token<'_>, (LexKind, usize)>
     requires { at ≤ length text.now }
     ensures next { MatchResult result (λ t. Next at (drop at text.now) (lexeme_of t) (drop t.end text.now)) (λ e. FaultNext at (drop at text.now) (fault_at e.0 e.1)) }
     ensures slice { MatchResult result (λ t. IsSlice text.now at t) (λ e. e.1 ≤ length text.now) }

@@ -10,6 +10,6 @@ mod spelling;
 mod token;
 
 pub use laws::texts_divide;
-pub use lexer::Lexer;
+pub use lexer::{Lexer, lex};
 pub use place::line_and_column;
 pub use token::{LexFault, LexKind, Token, TokenKind};

@@ -1,76 +1,161 @@
--- Exchanges are chains. No statement of today changes a cell.
-use Rattle.std.proofs.Common.{◌≡◌, ◌∙◌, sym, ap, refl, subst, List, [], ◌∷◌, ◌++◌, Some}
-use Rattle.std.specs.Prelude.{Option, ℕ, codes}
+-- Exchanges are chains: a cell's content changes by its exchanges alone, and a fresh cell is another one.
+use Rattle.std.proofs.Common.{◌≡◌, ◌≢◌, ◌∙◌, sym, ap, refl, subst, List, [], ◌∷◌, ◌++◌, Some}
+use Rattle.std.specs.Prelude.{Option, Bool, true, false, cond, unwrap_or, map, codes}
 use Rattle.tree_node.specs.declared.names.VarName.{VarName}
 use Rattle.tree_node.specs.declared.names.CellName.{CellName}
-use Rattle.tree_node.specs.declared.names.CodeId.{CodeId}
+use Rattle.tree_node.specs.declared.names.NameKind.TheVariants as kind
 use Rattle.tree_node.specs.declared.names.Name.{Name}
+use Rattle.tree_node.specs.declared.names.Name.TheVariants as name
 use Rattle.tree_node.specs.declared.node.Node.{Node}
 use Rattle.tree_node.specs.declared.node.Term.{Term}
 use Rattle.tree_node.specs.declared.item.Item.TheVariants.{Run, Goals, Mark, Report}
 use Rattle.tree_node.specs.declared.pick.Pick.{Pick}
-use Rattle.tree_node.specs.Assoc.{value_of}
-use Rattle.tree_node.specs.Env.{Env, var_at}
+use Rattle.tree_node.specs.Assoc.{value_of, with_value}
+use Rattle.tree_node.specs.Each.{Each}
+use Rattle.tree_node.specs.Env.{Env}
 use Rattle.tree_node.specs.Goal.{Case, Dropped, Binds, Opened, Failed, case_of, equal_cell}
-use Rattle.tree_node.specs.Shown.{Show, Text, Needs, shown}
+use Rattle.tree_node.specs.Names.{EachOfCell, IsNew}
+use Rattle.tree_node.specs.Shown.{shown}
 use Rattle.tree_node.specs.State.{Stack, State}
 use Rattle.tree_node.specs.Store.{Store, Equation}
 use Rattle.kernel_syntax.specs.declared.stmt.Stmt.{Stmt}
-use Rattle.kernel_syntax.specs.declared.stmt.Stmt.TheVariants as stmt
 use Rattle.kernel_syntax.specs.Free.{stmt_at}
-use Rattle.oz_model.specs.Effect.{CellChange, Stays, Effect, stack_effect, stmt_effect, goal_effect, pair_effect, raises, prints, vars_among}
-use Rattle.oz_model.specs.Step.{effect_of, stack_of, next}
-use Rattle.oz_model.specs.Run.{exchange_in, exchanges_from}
+use Rattle.oz_model.specs.declared.outcome.Outcome.{Outcome}
+use Rattle.oz_model.specs.declared.outcome.Outcome.TheVariants as outcome
+use Rattle.oz_model.specs.declared.outcome.SystemException.{SystemException}
+use Rattle.oz_model.specs.declared.outcome.SystemException.TheVariants.{FailureTell}
+use Rattle.oz_model.specs.Outcome.{outcome_of, prints}
+use Rattle.oz_model.specs.Need.{outcome_need, stack_need, kinds_of}
+use Rattle.oz_model.specs.Effect.{CellChange, Stays, Made, Exchanged, stack_effect, outcome_effect, goal_effect, pair_effect, fails, vars_among, cell_among}
+use Rattle.oz_model.specs.Step.{kind_of, content_of, cells_after, effect_of, stack_of, next, Step}
+use Rattle.oz_model.specs.Run.{Runs, exchange_in, exchanges_from}
 use Rattle.oz_model.specs.Laws.{IsChainFrom, ExchangesChain}
+use Rattle.oz_model.proofs.KindLemmas.{kinds_one, only_cell, equal_cell_decides}
 
-raises_stays : (label reason : List ℕ) (rest : Stack) (xs : List VarName) → (raises label reason rest xs).cell ≡ Stays
-raises_stays label reason rest [] = refl
-raises_stays label reason rest (a ∷ []) = refl
-raises_stays label reason rest (a ∷ x ∷ []) = refl
-raises_stays label reason rest (a ∷ x ∷ y ∷ ys) = refl
+-- ---- a cell that is made is a fresh name
 
-prints_stays : (words : List ℕ) (found : Show) (rest : Stack) → (prints words found rest).cell ≡ Stays
-prints_stays words (Text t l) rest = refl
-prints_stays words (Needs x) rest = refl
+-- it is one of these names
+abbrev MakesFrom : List Name → CellChange → Type 0
+MakesFrom fresh (Made cell content) = (rest : List Name) × (fresh ≡ name.Cell cell ∷ rest)
+MakesFrom fresh _ = Unit {0}
 
-stmt_stays : (p : List Stmt) (s : Store) (code : CodeId) (env : Env) (rest : Stack) (fresh : List Name) (st : Stmt) → (stmt_effect p s code env rest fresh st).cell ≡ Stays
-stmt_stays p s code env rest fresh (stmt.Browse x) = prints_stays [] (shown s (var_at env x)) rest
-stmt_stays p s code env rest fresh (stmt.Seq bodies) = refl
-stmt_stays p s code env rest fresh stmt.Skip = refl
-stmt_stays p s code env rest fresh (stmt.Local first count body) = refl
-stmt_stays p s code env rest fresh (stmt.TellVar left right) = refl
-stmt_stays p s code env rest fresh (stmt.TellInt left value) = refl
-stmt_stays p s code env rest fresh (stmt.TellAtom left text) = refl
+fails_makes : (fresh : List Name) (exception : SystemException) (rest : Stack) (xs : List VarName) → MakesFrom fresh (fails exception rest xs).cell
+fails_makes fresh exception rest [] = tt
+fails_makes fresh exception rest (a ∷ []) = tt
+fails_makes fresh exception rest (a ∷ x ∷ []) = tt
+fails_makes fresh exception rest (a ∷ x ∷ y ∷ ys) = tt
 
-pair_stays : (a b : Term) (pairs : List (Term × Term)) (met : List (Node × Node)) (rest : Stack) (fresh : List Name) (bind : Option Equation) (c : Case) → (pair_effect a b pairs met rest fresh bind c).cell ≡ Stays
-pair_stays a b pairs met rest fresh bind Dropped = refl
-pair_stays a b pairs met rest fresh bind Binds = refl
-pair_stays a b pairs met rest fresh bind (Opened m n fields) = refl
-pair_stays a b pairs met rest fresh bind Failed = raises_stays (codes "failure") (codes "tell") rest (vars_among fresh)
+cell_makes : (fresh : List Name) (content : VarName) → map kind_of fresh ≡ kind.Cell ∷ [] → MakesFrom fresh (Made (cell_among fresh) content)
+cell_makes fresh content e =
+    let one = kinds_one kind.Cell fresh e in
+    let cell = only_cell one.0 one.2 in
+    let is : fresh ≡ name.Cell cell.0 ∷ [] = cc in
+    ([], subst (λ (f : List Name). f ≡ name.Cell (cell_among f) ∷ []) (sym is) refl)
 
-stack_stays : (p : List Stmt) (s : Store) (fresh : List Name) (bind : Option Equation) (stack : Stack) → (stack_effect p s fresh bind stack).cell ≡ Stays
-stack_stays p s fresh bind [] = refl
-stack_stays p s fresh bind (Run code env ∷ rest) = stmt_stays p s code env rest fresh (stmt_at p code)
-stack_stays p s fresh bind (Mark code at env ∷ rest) = refl
-stack_stays p s fresh bind (Report x ∷ rest) = prints_stays (codes "uncaught ") (shown s x) rest
-stack_stays p s fresh bind (Goals b ∷ rest) = go b.pairs
+outcome_makes : (p : List Stmt) (env : Env) (rest : Stack) (fresh : List Name) (o : Outcome) → map kind_of fresh ≡ kinds_of (outcome_need o) → MakesFrom fresh (outcome_effect p env rest fresh o).cell
+outcome_makes p env rest fresh (outcome.MakesCell content told) e = cell_makes fresh content e
+outcome_makes p env rest fresh (outcome.Fails exception) e = fails_makes fresh exception rest (vars_among fresh)
+outcome_makes p env rest fresh (outcome.Waits x) e = tt
+outcome_makes p env rest fresh (outcome.Runs codes) e = tt
+outcome_makes p env rest fresh (outcome.Tells x t) e = tt
+outcome_makes p env rest fresh (outcome.Declares first count body) e = tt
+outcome_makes p env rest fresh (outcome.MakesProc left code formals vars) e = tt
+outcome_makes p env rest fresh (outcome.Exchanges cell new told) e = tt
+outcome_makes p env rest fresh (outcome.Spawns at body vars) e = tt
+outcome_makes p env rest fresh (outcome.Tries body body_env handler first handler_env) e = tt
+outcome_makes p env rest fresh (outcome.Raises x) e = tt
+outcome_makes p env rest fresh (outcome.Prints line) e = tt
+
+pair_makes : (a b : Term) (pairs : List (Term × Term)) (met : List (Node × Node)) (rest : Stack) (fresh : List Name) (bind : Option Equation) (c : Case) → MakesFrom fresh (pair_effect a b pairs met rest fresh bind c).cell
+pair_makes a b pairs met rest fresh bind Dropped = tt
+pair_makes a b pairs met rest fresh bind Binds = tt
+pair_makes a b pairs met rest fresh bind (Opened m n fields) = tt
+pair_makes a b pairs met rest fresh bind Failed = fails_makes fresh FailureTell rest (vars_among fresh)
+
+stack_makes : (p : List Stmt) (s : Store) (fresh : List Name) (bind : Option Equation) (stack : Stack) → map kind_of fresh ≡ kinds_of (stack_need p s stack) → MakesFrom fresh (stack_effect p s fresh bind stack).cell
+stack_makes p s fresh bind [] e = tt
+stack_makes p s fresh bind (Run code env ∷ rest) e = outcome_makes p env rest fresh (outcome_of p s code env (stmt_at p code)) e
+stack_makes p s fresh bind (Mark code at env ∷ rest) e = tt
+stack_makes p s fresh bind (Report x ∷ rest) e = outcome_makes p [] rest fresh (prints (codes "uncaught ") (shown s x)) e
+stack_makes p s fresh bind (Goals b ∷ rest) e = go b.pairs
   where
-    go : (pairs : List (Term × Term)) → (goal_effect s b.met rest fresh bind pairs).cell ≡ Stays
-    go [] = refl
-    go ((x, y) ∷ pairs) = pair_stays x y pairs b.met rest fresh bind (case_of s b.met x y)
+    go : (pairs : List (Term × Term)) → MakesFrom fresh (goal_effect s b.met rest fresh bind pairs).cell
+    go [] = tt
+    go ((x, y) ∷ pairs) = pair_makes x y pairs b.met rest fresh bind (case_of s b.met x y)
 
-effect_stays : (p : List Stmt) (s : State) (k : Pick) → (effect_of p s k).cell ≡ Stays
-effect_stays p s k = stack_stays p s.equations k.fresh k.bind (stack_of s k.thread)
+-- ---- contents
 
-none_in : (s : State) (c : CellName) (change : CellChange) → change ≡ Stays → exchange_in s c change ≡ []
-none_in s c change is = subst (λ (x : CellChange). exchange_in s c x ≡ []) (sym is) refl
+-- a new cell is none that has a content
+pub new_is_other : (cells : List (CellName × VarName)) (cell c : CellName) (content : VarName) → Each (EachOfCell (λ y. y ≢ name.Cell cell)) cells → value_of equal_cell cells c ≡ Some content → equal_cell cell c ≡ false
+new_is_other [] cell c content h e = cc
+new_is_other (d ∷ cells) cell c content h e = go (equal_cell d.0 c) (equal_cell cell c) refl refl (new_is_other cells cell c content h.1)
+  where
+    go : (a b : Bool) → equal_cell d.0 c ≡ a → equal_cell cell c ≡ b → (value_of equal_cell cells c ≡ Some content → equal_cell cell c ≡ false) → equal_cell cell c ≡ false
+    go a false at is later = is
+    go true true at is later =
+        let one : d.0 ≡ c = (equal_cell_decides d.0 c).0 at in
+        let two : cell ≡ c = (equal_cell_decides cell c).0 is in
+        let same : name.Cell d.0 ≡ name.Cell cell = cc in
+        absurd (h.0.0 same)
+    go false true at is later = later (sym (rw at refl) ∙ e)
 
-none_from : (p : List Stmt) (c : CellName) (s : State) (ks : List Pick) → exchanges_from p c s ks ≡ []
-none_from p c s [] = refl
-none_from p c s (k ∷ ks) =
-    ap (λ (es : List (VarName × VarName)). es ++ exchanges_from p c (next p s k) ks) (none_in s c (effect_of p s k).cell (effect_stays p s k))
-    ∙ none_from p c (next p s k) ks
+-- the content that a cell has after a value is put at another cell, or at itself
+pub put_here : (cells : List (CellName × VarName)) (c : CellName) (old new : VarName) → value_of equal_cell cells c ≡ Some old → value_of equal_cell (with_value equal_cell cells c new) c ≡ Some new
+put_here [] c old new e = cc
+put_here (d ∷ cells) c old new e = go (equal_cell d.0 c) refl (put_here cells c old new)
+  where
+    here : equal_cell c c ≡ true
+    here = (equal_cell_decides c c).1 refl
+
+    go : (b : Bool) → equal_cell d.0 c ≡ b → (value_of equal_cell cells c ≡ Some old → value_of equal_cell (with_value equal_cell cells c new) c ≡ Some new) → value_of equal_cell (cond b ((c, new) ∷ cells) (d ∷ with_value equal_cell cells c new)) c ≡ Some new
+    go true at later = rw here refl
+    go false at later = rw at (later (sym (rw at refl) ∙ e))
+
+pub put_there : (cells : List (CellName × VarName)) (cell c : CellName) (new : VarName) → equal_cell cell c ≡ false → value_of equal_cell (with_value equal_cell cells cell new) c ≡ value_of equal_cell cells c
+put_there [] cell c new apart = refl
+put_there (d ∷ cells) cell c new apart = go (equal_cell d.0 cell) refl (put_there cells cell c new apart)
+  where
+    go : (b : Bool) → equal_cell d.0 cell ≡ b → value_of equal_cell (with_value equal_cell cells cell new) c ≡ value_of equal_cell cells c → value_of equal_cell (cond b ((cell, new) ∷ cells) (d ∷ with_value equal_cell cells cell new)) c ≡ value_of equal_cell (d ∷ cells) c
+    go true at later =
+        let same : d.0 ≡ cell = (equal_cell_decides d.0 cell).0 at in
+        let also : equal_cell d.0 c ≡ false = subst (λ (x : CellName). equal_cell x c ≡ false) (sym same) apart in
+        rw (apart, also) refl
+    go false at later = ap (λ (o : Option VarName). cond (equal_cell d.0 c) (Some d.1) o) later
+
+-- ---- a step, and a run
+
+-- the exchange of the cell in this change is one of its content, and leaves the content from which the chain goes on
+change_chain : (s : State) (c : CellName) (content : VarName) (change : CellChange) (more : List (VarName × VarName)) →
+    value_of equal_cell s.cells c ≡ Some content → ((cell : CellName) (x : VarName) → change ≡ Made cell x → IsNew s (name.Cell cell)) →
+    ((after : VarName) → value_of equal_cell (cells_after s.cells change) c ≡ Some after → IsChainFrom after more) →
+    IsChainFrom content (exchange_in s c change ++ more)
+change_chain s c content Stays more held new go = go content held
+change_chain s c content (Made cell x) more held new go =
+    let other : equal_cell cell c ≡ false = new_is_other s.cells cell c content (new cell x refl).1 held in
+    go content (rw other held)
+change_chain s c content (Exchanged cell new told) more held fresh go = by (equal_cell cell c) refl
+  where
+    by : (b : Bool) → equal_cell cell c ≡ b → IsChainFrom content (cond b ((content_of s.cells cell, new) ∷ []) [] ++ more)
+    by true is =
+        let same : cell ≡ c = (equal_cell_decides cell c).0 is in
+        let here : value_of equal_cell s.cells cell ≡ Some content = subst (λ (x : CellName). value_of equal_cell s.cells x ≡ Some content) (sym same) held in
+        let now : value_of equal_cell (with_value equal_cell s.cells cell new) c ≡ Some new =
+        subst (λ (x : CellName). value_of equal_cell (with_value equal_cell s.cells cell new) x ≡ Some new) same (put_here s.cells cell content new here) in
+        (ap (λ (o : Option VarName). unwrap_or o (record { site = 0; num = 0 })) here, go new now)
+    by false is = go content (put_there s.cells cell c new is ∙ held)
+
+-- a cell that a step makes is new
+pub step_makes : (p : List Stmt) (s : State) (k : Pick) (t : State) → Step p s k t → (cell : CellName) (x : VarName) → (effect_of p s k).cell ≡ Made cell x → IsNew s (name.Cell cell)
+step_makes p s k t (h, is) cell x e =
+    let from : MakesFrom k.fresh (effect_of p s k).cell = stack_makes p s.equations k.fresh k.bind (stack_of s k.thread) h.fresh.of_kinds in
+    let made : MakesFrom k.fresh (Made cell x) = subst (λ (c : CellChange). MakesFrom k.fresh c) e from in
+    (subst (λ (fresh : List Name). Each (IsNew s) fresh) made.1 h.fresh.unused).0
 
 pub exchanges_chain : ExchangesChain
-exchanges_chain p s ks t c content run held =
-    subst (λ (es : List (VarName × VarName)). IsChainFrom content es) (sym (none_from p c s ks)) tt
+exchanges_chain p s [] t c content run held = tt
+exchanges_chain p s (k ∷ ks) t c content (m, step, run) held =
+    change_chain s c content (effect_of p s k).cell (exchanges_from p c (next p s k) ks) held (step_makes p s k m step)
+    (λ after at.
+    let to : m ≡ next p s k = step.1 in
+    let rest : Runs p (next p s k) ks t = subst (λ (x : State). Runs p x ks t) to run in
+    exchanges_chain p (next p s k) ks t c after rest at)

@@ -5,4 +5,16 @@ pub mod RestLemmas
 pub mod WaitLemmas
 pub mod SoundLemmas
 pub mod RowsRun
+pub mod KindLemmas
 pub mod ExchangeLemmas
+pub mod WithinLemmas
+pub mod ShownLemmas
+pub mod KeepLemmas
+pub mod OccursLemmas
+pub mod ClosureLemmas
+pub mod EffectNames
+pub mod CellLemmas
+pub mod ExamplesRun
+pub mod DownLemmas
+pub mod OnceLemmas
+pub mod NodesWell

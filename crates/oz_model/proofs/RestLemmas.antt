@@ -1,24 +1,25 @@
 -- A thread that does not wait has a step.
 use Rattle.std.proofs.Common.{rules, ◌≡◌, ◌∙◌, sym, refl, subst, List, [], ◌∷◌, ◌⊎◌, inl, inr, Some, None}
-use Rattle.std.specs.Prelude.{Option, Bool, true, false, ◌||◌}
+use Rattle.std.specs.Prelude.{Option, Bool, true, false, ◌||◌, codes}
 use Rattle.std.specs.Bool.{Decides}
 use Rattle.tree_node.specs.declared.names.ThreadName.{ThreadName}
 use Rattle.tree_node.specs.declared.names.NameKind.{NameKind}
+use Rattle.tree_node.specs.declared.names.NameKind.TheVariants as kind
 use Rattle.tree_node.specs.declared.node.Node.{Node}
 use Rattle.tree_node.specs.declared.node.Term.{Term}
 use Rattle.tree_node.specs.declared.pick.Pick.{Pick}
 use Rattle.tree_node.specs.declared.item.Item.TheVariants.{Run, Goals, Mark, Report}
 use Rattle.tree_node.specs.Assoc.{value_of}
-use Rattle.tree_node.specs.Env.{Env, var_at}
 use Rattle.tree_node.specs.Store.{Store, Equation}
 use Rattle.tree_node.specs.Goal.{Case, Dropped, Binds, Opened, Failed, case_of}
-use Rattle.tree_node.specs.Shown.{Show, shown}
-use Rattle.tree_node.specs.Shown as show
+use Rattle.tree_node.specs.Shown.{shown}
 use Rattle.tree_node.specs.State.{Stack, State, same_thread}
 use Rattle.kernel_syntax.specs.declared.stmt.Stmt.{Stmt}
-use Rattle.kernel_syntax.specs.declared.stmt.Stmt.TheVariants as stmt
 use Rattle.kernel_syntax.specs.Free.{stmt_at}
-use Rattle.oz_model.specs.Need.{Need, Takes, variables, show_need, stmt_need, pair_need, goal_need, stack_need, IsWaiting, IsReady, kinds_of}
+use Rattle.oz_model.specs.declared.outcome.Outcome.{Outcome}
+use Rattle.oz_model.specs.declared.outcome.Outcome.TheVariants as outcome
+use Rattle.oz_model.specs.Outcome.{outcome_of, prints}
+use Rattle.oz_model.specs.Need.{Need, Takes, variables, outcome_need, pair_need, goal_need, stack_need, IsWaiting, IsReady, kinds_of}
 use Rattle.oz_model.specs.Step.{AreFresh, IsBindFor, Step, next, stack_of}
 use Rattle.oz_model.specs.Run.{AtRest}
 use Rattle.oz_model.specs.Laws.{RestOrStep}
@@ -32,18 +33,19 @@ Goes s n = IsWaiting n ⊎ (IsReady n × ((bind : Option Equation) × IsBindFor 
 takes_goes : (s : Store) (kinds : List NameKind) → Goes s (Takes kinds)
 takes_goes s kinds = inr (tt, (None, tt))
 
-show_goes : (s : Store) (found : Show) → Goes s (show_need found)
-show_goes s (show.Text text left) = takes_goes s []
-show_goes s (show.Needs x) = inl tt
-
-stmt_goes : (s : Store) (env : Env) (st : Stmt) → Goes s (stmt_need s env st)
-stmt_goes s env (stmt.Seq bodies) = takes_goes s []
-stmt_goes s env stmt.Skip = takes_goes s []
-stmt_goes s env (stmt.Local first count body) = takes_goes s (variables count)
-stmt_goes s env (stmt.TellVar left right) = takes_goes s []
-stmt_goes s env (stmt.TellInt left value) = takes_goes s []
-stmt_goes s env (stmt.TellAtom left text) = takes_goes s []
-stmt_goes s env (stmt.Browse x) = show_goes s (shown s (var_at env x))
+outcome_goes : (s : Store) (o : Outcome) → Goes s (outcome_need o)
+outcome_goes s (outcome.Waits x) = inl tt
+outcome_goes s (outcome.Runs codes) = takes_goes s []
+outcome_goes s (outcome.Tells x t) = takes_goes s []
+outcome_goes s (outcome.Declares first count body) = takes_goes s (variables count)
+outcome_goes s (outcome.MakesProc left code formals vars) = takes_goes s (kind.Proc ∷ [])
+outcome_goes s (outcome.MakesCell content told) = takes_goes s (kind.Cell ∷ [])
+outcome_goes s (outcome.Exchanges cell new told) = takes_goes s []
+outcome_goes s (outcome.Spawns at body vars) = takes_goes s (kind.Thread ∷ [])
+outcome_goes s (outcome.Tries body env handler first handler_env) = takes_goes s []
+outcome_goes s (outcome.Raises x) = takes_goes s []
+outcome_goes s (outcome.Fails exception) = takes_goes s (variables 2)
+outcome_goes s (outcome.Prints line) = takes_goes s []
 
 pair_goes : (s : Store) (met : List (Node × Node)) (a b : Term) (c : Case) → case_of s met a b ≡ c → Goes s (pair_need a b c)
 pair_goes s met a b Dropped e = takes_goes s []
@@ -53,9 +55,9 @@ pair_goes s met a b Binds e = let found = some_bind s met a b e in inr (tt, (Som
 
 stack_goes : (p : List Stmt) (s : Store) (stack : Stack) → Goes s (stack_need p s stack)
 stack_goes p s [] = takes_goes s []
-stack_goes p s (Run code env ∷ rest) = stmt_goes s env (stmt_at p code)
+stack_goes p s (Run code env ∷ rest) = outcome_goes s (outcome_of p s code env (stmt_at p code))
 stack_goes p s (Mark code at env ∷ rest) = takes_goes s []
-stack_goes p s (Report x ∷ rest) = show_goes s (shown s x)
+stack_goes p s (Report x ∷ rest) = outcome_goes s (prints (codes "uncaught ") (shown s x))
 stack_goes p s (Goals b ∷ rest) = go b.pairs
   where
     go : (pairs : List (Term × Term)) → Goes s (goal_need s b.met pairs)

@@ -119,7 +119,7 @@ first_fresh : (p : List Stmt) → free p (rows.code 0) ≡ [] → AreFresh (star
 first_fresh p e = record { of_kinds = refl; distinct = (tt, tt); unused = ((tt, tt, ((other_kind 0, (rw e tt, tt)), tt)), tt) }
 
 -- a state without threads in which a run has ended
-ends : (p : List Stmt) (ks : List Pick) (lines : List (List ℕ)) (ended : ℕ) → all_fit p (start p) ks ≡ true → Choices p (start p) ks →
+pub ends : (p : List Stmt) (ks : List Pick) (lines : List (List ℕ)) (ended : ℕ) → all_fit p (start p) ks ≡ true → Choices p (start p) ks →
     (end p (start p) ks).threads ≡ [] → (end p (start p) ks).lines ≡ lines → (end p (start p) ks).ended ≡ ended → RunsTo p ks lines ended 0
 ends p ks lines ended fit c none l n = (end p (start p) ks, runs p (start p) ks fit c, none_rests p (end p (start p) ks) none, l, n, ap length none)
 

@@ -1,7 +1,12 @@
+pub mod Outcome
 pub mod Need
 pub mod Effect
 pub mod Step
 pub mod Run
+pub mod Occurs
 pub mod Output
+pub mod WellFormed
+pub mod Answers
 pub mod Laws
 pub mod Rows
+pub mod Examples

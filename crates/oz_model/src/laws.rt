@@ -1,6 +1,10 @@
 //! Laws of steps and runs.
 
-ghost use Rattle.oz_model.specs.Laws.{AtMostOne, AtMostOneEnd, RestIsRest, RestOrStep, WaitsForUnbound, RunsAreSound, RunsGoOn, ExchangesChain};
+ghost use Rattle.oz_model.specs.Laws.{AtMostOne, AtMostOneEnd, RestIsRest, RestOrStep, WaitsForUnbound, RunsAreSound, RunsGoOn, ExchangesChain, ExchangesEnd, CellsAreChains, CellsHaveContents, NamesAreKnown, RunsAreOnce};
+ghost use Rattle.oz_model.specs.Answers.{MoreIsWithin, NodesAgree, CasesAgree, ShownAgree, NeedsAgree, BindsAgree, EffectsAgree, StepsStay, WaitsStay, BindsStay, LowerBinds};
+ghost use Rattle.oz_model.specs.Occurs.{TestTellsNew, TestTellsOccurs};
+ghost use Rattle.oz_model.specs.Examples.{ProcedureIsCalled, FieldIsMatched, HandlerHasException, ContentIsExchanged, ThreadIsMade, OverflowIsRaised, IntegerIsNoTruth};
+ghost use Rattle.oz_model.specs.WellFormed.{NodesAreWell};
 ghost use Rattle.oz_model.specs.Rows.{IntegerIsPrinted, FailureIsReported, UnboundIsAwaited, AtomIsPrinted, AtomIsPrintedToo, SkipEnds, AreRefused, MarksCatch};
 
 /// A pick leads to at most one state, and so do picks in a row.
@@ -14,9 +18,19 @@ pub fn runs_go_on()
     ensures { RunsGoOn }
 {}
 
-/// Each exchange of a cell gives the content that the one before put there.
+/// Each exchange of a cell gives the content that the one before put there, the first the content given to `NewCell`,
+/// and after the last the cell holds what that put there. A run makes a cell once at most, and a cell that occurs has a
+/// content.
 pub fn exchanges_are_a_chain()
-    ensures { ExchangesChain }
+    ensures held { ExchangesChain }
+    ensures end { ExchangesEnd }
+    ensures chains { CellsAreChains }
+    ensures contents { CellsHaveContents }
+{}
+
+/// A step makes no names up but its fresh ones.
+pub fn names_are_known()
+    ensures { NamesAreKnown }
 {}
 
 /// A state is at rest exactly where no pick has a step, and a thread waits only for a variable that is not bound.
@@ -26,9 +40,41 @@ pub fn rest_is_the_end()
     ensures unbound { WaitsForUnbound }
 {}
 
-/// The equations of a run's state are sound.
+/// The equations of a run's state are sound, its threads and cells are named once, and no living thread is empty. Its
+/// records have 1 to 64 fields in order, and its procedures are those of their tells.
 pub fn runs_are_sound()
-    ensures { RunsAreSound }
+    ensures equations { RunsAreSound }
+    ensures once { RunsAreOnce }
+    ensures nodes { NodesAreWell }
+{}
+
+/// A store that says more keeps what does not wait: what takes names or nothing goes as it does with fewer equations,
+/// what waits for a variable without a node waits for it, and a bind of a variable without a node to a term of another
+/// class stays one. Sites know fewer equations than there are. Where links go down, binds of what has no equation to what
+/// is lower are of this kind.
+pub fn more_equations_keep()
+    ensures more { MoreIsWithin }
+    ensures steps { StepsStay }
+    ensures waits { WaitsStay }
+    ensures binds { BindsStay }
+    ensures lower { LowerBinds }
+{}
+
+/// Answers depend on classes and their nodes alone: two sound stores that agree on these answer alike, whatever their
+/// equations.
+pub fn agreeing_stores_answer_alike()
+    ensures nodes { NodesAgree }
+    ensures cases { CasesAgree }
+    ensures lines { ShownAgree }
+    ensures needs { NeedsAgree }
+    ensures binds { BindsAgree }
+    ensures effects { EffectsAgree }
+{}
+
+/// The test whether a name occurs in a state fails exactly where the name is new.
+pub fn the_test_tells_occurrence()
+    ensures new { TestTellsNew }
+    ensures occurs { TestTellsOccurs }
 {}
 
 /// Worked examples: each is a run to a state at rest, with its lines and its threads.
@@ -45,4 +91,16 @@ pub fn worked_picks()
     ensures ends { SkipEnds }
     ensures refused { AreRefused }
     ensures raising { MarksCatch }
+{}
+
+/// Worked examples of the other statements: a procedure, a case, a handler, a cell, a thread, and exceptions of the
+/// system.
+pub fn worked_statements()
+    ensures procedure { ProcedureIsCalled }
+    ensures matched { FieldIsMatched }
+    ensures handler { HandlerHasException }
+    ensures exchange { ContentIsExchanged }
+    ensures thread { ThreadIsMade }
+    ensures overflow { OverflowIsRaised }
+    ensures truth { IntegerIsNoTruth }
 {}

@@ -1,16 +1,18 @@
 -- Where nothing stands in the way, the run is done.
-use Rattle.std.proofs.Common.{◌≡◌, ◌∙◌, ◌≤◌, ◌<◌, ◌+◌, ◌++◌, ◌⊎◌, ℕ, List, length, Option, Some, None, inl, inr, ap, sym, subst, refl, arith, length-append}
+use Rattle.std.proofs.Common.{◌≡◌, ◌∙◌, ◌≤◌, ◌++◌, ℕ, List, length, Option, Some, None, inl, inr, ap, sym, subst, arith, length-append}
 use Rattle.std.proofs.lemmas.List.{append-nil}
+use Rattle.std.specs.Borrow.{Bor}
 use Rattle.std.specs.Io.KnownBytes.{Consumes, IsAtEnd}
+use Rattle.std.specs.Str.{IsUtf8}
 use Rattle.oz_base.specs.Streams.{Rose}
 use Rattle.tree_node.specs.declared.pick.Pick.{Pick}
-use Rattle.kernel_syntax.specs.declared.stmt.Stmt.{Stmt}
-use Rattle.oz_text.specs.Reads.{Reads}
-use Rattle.oz_runner.specs.Worked.{Worked, text_limit}
-use Rattle.oz_runner.specs.Written.{Written}
+use Rattle.oz_grammar.specs.Laws.{TextsNeverHaveBoth}
+use Rattle.oz_grammar.specs.Reads.{Reads}
+use Rattle.oz_show.specs.declared.status.Status.{Status}
+use Rattle.oz_show.specs.declared.status.Status.TheVariants.{Quiescent, Usage, Refused, NotUtf8, TooLong, StepLimit, ReadFault, WriteFault, Memory}
 use Rattle.oz_runner.specs.Complete.{IsDone, IsGood}
-use Rattle.oz_runner.specs.declared.status.Status.{Status}
-use Rattle.oz_runner.specs.declared.status.Status.TheVariants.{Quiescent, Usage, NotYet, TooLong, StepLimit, ReadFault, WriteFault, Memory}
+use Rattle.oz_runner.specs.Worked.{IsText, SourceCame, Worked}
+use Rattle.oz_runner.specs.Written.{IsToldAs, Written}
 
 -- a source gives no more than it has
 no_more : (text bytes : List ℕ) (new : Option (List ℕ)) → Consumes (Some text) new bytes → length bytes ≤ length text
@@ -22,33 +24,57 @@ all_of_it : (text bytes : List ℕ) (new : Option (List ℕ)) → Consumes (Some
 all_of_it text bytes None h end = absurd h
 all_of_it text bytes (Some ys) h end = h ∙ (ap (λ l. bytes ++ l) end ∙ append-nil bytes)
 
+-- the text that was read is the one that the source had
+same_text : (names : Bor (List (Bor (List ℕ)))) (words : List (List ℕ)) (old new : Option (List ℕ)) (before now first last : ℕ) (text : List ℕ)
+    → (good : IsGood names words old before now first last) → IsText old new text → good.text ≡ text
+same_text names words old new before now first last text good is =
+    all_of_it good.text text new (subst (λ (o : Option (List ℕ)). Consumes o new text) good.told is.0) is.1
+
+source_done : (names : Bor (List (Bor (List ℕ)))) (words : List (List ℕ)) (limit : ℕ) (old new : Option (List ℕ)) (before now first last : ℕ) (picks : List Pick) (lines : List (List ℕ)) (worked : Status)
+    → TextsNeverHaveBoth → IsGood names words old before now first last → SourceCame limit old new before now picks lines worked → IsDone worked
+source_done names words limit old new before now first last picks lines (Quiescent ended waiting) never good came = tt
+source_done names words limit old new before now first last picks lines (StepLimit site) never good came = tt
+source_done names words limit old new before now first last picks lines Memory never good came = tt
+source_done names words limit old new before now first last picks lines Usage never good came = came
+source_done names words limit old new before now first last picks lines WriteFault never good came = came
+source_done names words limit old new before now first last picks lines ReadFault never good (rose, given, nothing) = good.read rose
+source_done names words limit old new before now first last picks lines TooLong never good (steady, (bytes, given, past), nothing) =
+    let whole : Consumes (Some good.text) new bytes = subst (λ (o : Option (List ℕ)). Consumes o new bytes) good.told given in
+    let most = no_more good.text bytes new whole in
+    let fits = good.fits in
+    absurd (omega arith)
+source_done names words limit old new before now first last picks lines (NotUtf8 at) never good (steady, (text, is, (bad, up_to, nothing))) =
+    bad (subst IsUtf8 (same_text names words old new before now first last text good is) good.utf8)
+source_done names words limit old new before now first last picks lines (Refused fault) never good (steady, (text, is, (utf8, applies, nothing))) =
+    never text good.program fault (subst (λ (t : List ℕ). Reads t good.program) (same_text names words old new before now first last text good is) good.reads) applies
+
+worked_done : (names : Bor (List (Bor (List ℕ)))) (words : List (List ℕ)) (old new : Option (List ℕ)) (before now first last : ℕ) (picks : List Pick) (lines : List (List ℕ)) (worked : Status)
+    → TextsNeverHaveBoth → IsGood names words old before now first last → Worked names words old new before now picks lines worked → IsDone worked
+worked_done names words old new before now first last picks lines (Quiescent ended waiting) never good w = tt
+worked_done names words old new before now first last picks lines (StepLimit site) never good w = tt
+worked_done names words old new before now first last picks lines Memory never good w = tt
+worked_done names words old new before now first last picks lines Usage never good (refused, nothing) = refused good.accepted
+worked_done names words old new before now first last picks lines WriteFault never good w = w
+worked_done names words old new before now first last picks lines ReadFault never good (options, reads, came) =
+    source_done names words options.steps old new before now first last picks lines ReadFault never good came
+worked_done names words old new before now first last picks lines TooLong never good (options, reads, came) =
+    source_done names words options.steps old new before now first last picks lines TooLong never good came
+worked_done names words old new before now first last picks lines (NotUtf8 at) never good (options, reads, came) =
+    source_done names words options.steps old new before now first last picks lines (NotUtf8 at) never good came
+worked_done names words old new before now first last picks lines (Refused fault) never good (options, reads, came) =
+    source_done names words options.steps old new before now first last picks lines (Refused fault) never good came
+
+told_done : (status worked : Status) → IsToldAs status worked → IsDone status → IsDone worked
+told_done status worked (inl same) done = subst IsDone (sym same) done
+told_done status worked (inr (has, none)) done = subst IsDone (sym none) tt
+
 kept : (a b : Option (List ℕ)) (m n : ℕ) (bytes : List ℕ) (worked final : Status) → (Rose m n → ⊥) → Written a b m n bytes worked final → final ≡ worked
 kept a b m n bytes worked final none (inl h) = h.0
 kept a b m n bytes worked final none (inr h) = absurd (none h.1)
 
-worked_done : (words : ℕ) (old new : Option (List ℕ)) (before now first last : ℕ) (picks : List Pick) (lines : List (List ℕ)) (worked : Status)
-    → IsGood words old before now first last → Worked words old new before now picks lines worked → IsDone worked
-worked_done words old new before now first last picks lines (Quiescent over left) good w = tt
-worked_done words old new before now first last picks lines (StepLimit site) good w = tt
-worked_done words old new before now first last picks lines Memory good w = tt
-worked_done words old new before now first last picks lines Usage good w = let some = w.0 in let few = good.accepted in absurd (omega arith)
-worked_done words old new before now first last picks lines ReadFault good w = good.read w.1
-worked_done words old new before now first last picks lines TooLong good w =
-    let bytes = w.2.0 in
-    let given : Consumes (Some good.text) new bytes = subst (λ (o : Option (List ℕ)). Consumes o new bytes) good.told w.2.1 in
-    let most = no_more good.text bytes new given in
-    let fits = good.fits in
-    let past = w.2.2 in
-    absurd (omega arith)
-worked_done words old new before now first last picks lines NotYet good w =
-    let text = w.2.0 in
-    let is = w.2.1 in
-    let given : Consumes (Some good.text) new text = subst (λ (o : Option (List ℕ)). Consumes o new text) good.told is.0 in
-    let same = all_of_it good.text text new given is.1 in
-    w.2.2 good.program (subst (λ (t : List ℕ). Reads t good.program) same good.reads)
-worked_done words old new before now first last picks lines WriteFault good w = w
-
-pub complete : (words : ℕ) (old new : Option (List ℕ)) (before now first last : ℕ) (picks : List Pick) (lines : List (List ℕ)) (a b : Option (List ℕ)) (bytes : List ℕ) (worked final : Status)
-    → Worked words old new before now picks lines worked → Written a b first last bytes worked final → IsGood words old before now first last → IsDone final
-complete words old new before now first last picks lines a b bytes worked final w h good =
-    subst IsDone (sym (kept a b first last bytes worked final good.written h)) (worked_done words old new before now first last picks lines worked good w)
+pub complete : (names : Bor (List (Bor (List ℕ)))) (words : List (List ℕ)) (old new : Option (List ℕ)) (before now first last : ℕ) (picks : List Pick) (lines : List (List ℕ)) (a b : Option (List ℕ)) (bytes : List ℕ) (status worked final : Status)
+    → TextsNeverHaveBoth → Worked names words old new before now picks lines status → IsToldAs status worked → Written a b first last bytes worked final
+    → IsGood names words old before now first last → IsDone final
+complete names words old new before now first last picks lines a b bytes status worked final never w told h good =
+    subst IsDone (sym (kept a b first last bytes worked final good.written h))
+    (told_done status worked told (worked_done names words old new before now first last picks lines status never good w))

@@ -1,3 +1,4 @@
 pub mod Pieces
+pub mod WorkedLemmas
 pub mod CompleteLemmas
 pub mod HeadlineLemmas

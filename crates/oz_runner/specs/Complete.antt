@@ -1,19 +1,23 @@
 -- Where nothing stands in the way, the program runs to its end.
-use Rattle.std.specs.Prelude.{◌≡◌, ◌≤◌, ℕ, List, length, Some}
+use Rattle.std.specs.Prelude.{◌≡◌, ◌≤◌, ℕ, List, [], length, Some}
+use Rattle.std.specs.Borrow.{Bor}
+use Rattle.std.specs.Str.{IsUtf8}
 use Rattle.std.specs.declared.option.Option.{Option}
 use Rattle.oz_base.specs.Streams.{Rose}
 use Rattle.kernel_syntax.specs.declared.stmt.Stmt.{Stmt}
-use Rattle.oz_text.specs.Reads.{Reads}
+use Rattle.oz_grammar.specs.Reads.{Reads}
+use Rattle.oz_words.specs.Parsed.{words_fault}
+use Rattle.oz_show.specs.declared.status.Status.{Status}
+use Rattle.oz_show.specs.declared.status.Status.TheVariants.{Quiescent, Usage, Refused, NotUtf8, TooLong, StepLimit, ReadFault, WriteFault, Memory}
 use Rattle.oz_runner.specs.Worked.{text_limit}
-use Rattle.oz_runner.specs.declared.status.Status.{Status}
-use Rattle.oz_runner.specs.declared.status.Status.TheVariants.{Quiescent, Usage, NotYet, TooLong, StepLimit, ReadFault, WriteFault, Memory}
 
--- no word, a text that is short enough and reads a program, and no fault
-pub record IsGood (words : ℕ) (old : Option (List ℕ)) (before now first last : ℕ) : Type 0 where
-  pub accepted : words ≤ 1
+-- the command takes the words, the text is short enough, is UTF-8 and reads a program, and there is no fault
+pub record IsGood (names : Bor (List (Bor (List ℕ)))) (words : List (List ℕ)) (old : Option (List ℕ)) (before now first last : ℕ) : Type 0 where
+  pub accepted : words_fault names words ≡ []
   pub text : List ℕ
   pub told : old ≡ Some text
   pub fits : length text ≤ text_limit
+  pub utf8 : IsUtf8 text
   pub program : List Stmt
   pub reads : Reads text program
   pub read : Rose before now → ⊥
@@ -25,7 +29,8 @@ IsDone (Quiescent ended waiting) = Unit {0}
 IsDone (StepLimit site) = Unit {0}
 IsDone Memory = Unit {0}
 IsDone Usage = ⊥
-IsDone NotYet = ⊥
+IsDone (Refused fault) = ⊥
+IsDone (NotUtf8 at) = ⊥
 IsDone TooLong = ⊥
 IsDone ReadFault = ⊥
 IsDone WriteFault = ⊥

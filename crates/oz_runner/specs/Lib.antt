@@ -1,4 +1,4 @@
-pub mod Status
+pub mod Ends
 pub mod Worked
 pub mod Written
 pub mod Complete

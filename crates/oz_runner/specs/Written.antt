@@ -3,8 +3,9 @@ use Rattle.std.specs.Prelude.{◌≡◌, ◌⊎◌, ℕ, List}
 use Rattle.std.specs.declared.option.Option.{Option}
 use Rattle.std.specs.Io.KnownBytes.{Appends}
 use Rattle.oz_base.specs.Streams.{Rose, TookFront}
-use Rattle.oz_runner.specs.declared.status.Status.{Status}
-use Rattle.oz_runner.specs.declared.status.Status.TheVariants.{WriteFault, Memory}
+use Rattle.oz_show.specs.Status.{HasNumbers}
+use Rattle.oz_show.specs.declared.status.Status.{Status}
+use Rattle.oz_show.specs.declared.status.Status.TheVariants.{WriteFault, Memory}
 
 -- a write that fails makes the status WriteFault, but Memory stays
 abbrev pub after_fault : Status → Status
@@ -17,3 +18,7 @@ abbrev pub Written : Option (List ℕ) → Option (List ℕ) → ℕ → ℕ →
 Written old new before now bytes worked final =
     ((final ≡ worked) × (now ≡ before) × Appends old new bytes)
     ⊎ ((final ≡ after_fault worked) × Rose before now × TookFront old new bytes)
+
+-- the status that stands before the writing is that of the work, or Memory where no memory is left for the end line
+abbrev pub IsToldAs : Status → Status → Type 0
+IsToldAs status worked = (worked ≡ status) ⊎ (HasNumbers status × (worked ≡ Memory))

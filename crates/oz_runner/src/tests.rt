@@ -1,113 +1,15 @@
 //! Texts, and what the whole call makes of them.
 
+mod examples;
+mod rows;
+
 use crate::oz;
+use examples::EXAMPLES;
 use oz_base::{MemSink, MemSource};
+use rows::{LIST, ROWS};
 use std::alloc::{AllocError, Global};
 use std::process::Abort;
 use std::test::Fail;
-
-// The words after the name, the text, the calls of the source and of the sink that fail, the bytes taken, the status'
-// number and the length of the schedule.
-type Row = (
-    &'static [&'static str],
-    &'static str,
-    &'static [u64],
-    &'static [u64],
-    &'static str,
-    u8,
-    usize,
-);
-
-static ROWS: [Row; 16] = [
-    (
-        &[],
-        "local X in X = 5 {Browse X} end",
-        &[],
-        &[],
-        "5\nquiescent ended=1 waiting=0\n",
-        0,
-        7,
-    ),
-    (
-        &[],
-        "local X in X = 1 X = 2 end",
-        &[],
-        &[],
-        "uncaught failure(tell)\nquiescent ended=1 waiting=0\n",
-        0,
-        9,
-    ),
-    (
-        &[],
-        "local X in {Browse X} end",
-        &[],
-        &[],
-        "quiescent ended=0 waiting=1\n",
-        1,
-        1,
-    ),
-    (
-        &[],
-        "local X Y in X = Y Y = a {Browse X} end",
-        &[],
-        &[],
-        "a\nquiescent ended=1 waiting=0\n",
-        0,
-        11,
-    ),
-    (&[], "skip", &[], &[], "quiescent ended=1 waiting=0\n", 0, 1),
-    (
-        &[],
-        "local X in X=~9223372036854775808{Browse X}end",
-        &[],
-        &[],
-        "~9223372036854775808\nquiescent ended=1 waiting=0\n",
-        0,
-        7,
-    ),
-    (&["central"], "skip", &[], &[], "usage\n", 2, 0),
-    (&["--help"], "skip", &[1], &[], "usage\n", 2, 0),
-    (&[], "", &[], &[], "refused not run yet\n", 3, 0),
-    (
-        &[],
-        "local X in X = f(X) end",
-        &[],
-        &[],
-        "refused not run yet\n",
-        3,
-        0,
-    ),
-    (
-        &[],
-        "skip % comment",
-        &[],
-        &[],
-        "refused not run yet\n",
-        3,
-        0,
-    ),
-    (
-        &[],
-        "local X in X = 9223372036854775808 end",
-        &[],
-        &[],
-        "refused not run yet\n",
-        3,
-        0,
-    ),
-    (&[], "skip", &[1], &[], "read fault\n", 6, 0),
-    (
-        &[],
-        "local X in X = 5 {Browse X} end",
-        &[],
-        &[2],
-        "5\n",
-        7,
-        7,
-    ),
-    (&[], "local X in X = 5 {Browse X} end", &[], &[1], "", 7, 7),
-    (&["central"], "skip", &[], &[1], "", 7, 0),
-];
 
 fn words_of(alloc: Global, words: &[&str]) -> Result<Vec<String>, AllocError> {
     let mut list = Vec::new(alloc);
@@ -118,7 +20,7 @@ fn words_of(alloc: Global, words: &[&str]) -> Result<Vec<String>, AllocError> {
     Ok(list)
 }
 
-// The bytes taken, the status' number and the length of the schedule, with room for a thousand bytes.
+// The bytes taken, the status' number and the length of the schedule, with room for two thousand bytes.
 fn answer<R: Abort>(
     rt: &R,
     alloc: Global,
@@ -130,77 +32,127 @@ fn answer<R: Abort>(
     let list = words_of(alloc, words)?;
     assert!(rt; !list.is_empty());
     let mut source = MemSource::new(text, reads);
-    let mut sink = MemSink::new(alloc, writes, 1000)?;
+    let mut sink = MemSink::new(alloc, writes, 2000)?;
     let report = oz(alloc, &list, &mut source, &mut sink);
     let bytes = Vec::from_slice(alloc, sink.bytes())?;
     Ok((bytes, report.status.number(), report.schedule.len()))
+}
+
+// A text is refused with this line.
+fn refuses<R: Abort>(rt: &R, alloc: Global, text: &[u8], line: &str) -> Result<(), AllocError> {
+    let told = answer(rt, alloc, &[], text, &[], &[])?;
+    assert_eq!(rt; told.0.as_slice(), line.as_bytes());
+    assert_eq!(rt; told.1, 3);
+    Ok(())
 }
 
 #[test]
 fn texts_have_their_output(rt: HostRuntime) -> Result<(), Fail> {
     let alloc = rt.alloc();
     for row in ROWS.as_slice() {
-        let (words, text, reads, writes, bytes, number, picks) = *row;
+        let (words, text, reads, writes, bytes, number) = *row;
         let told = answer(&rt, alloc, words, text.as_bytes(), reads, writes)?;
         assert_eq!(rt; told.0.as_slice(), bytes.as_bytes());
         assert_eq!(rt; told.1, number);
-        assert_eq!(rt; told.2, picks);
     }
     Ok(())
 }
 
+// A byte, and so many blanks behind it.
+fn before_blanks(alloc: Global, first: u8, blanks: usize) -> Result<Vec<u8>, AllocError> {
+    let mut bytes = Vec::new(alloc);
+    bytes.push(first)?;
+    let rest = vec![in alloc; b' '; blanks]?;
+    bytes.extend_from_slice(&rest)?;
+    Ok(bytes)
+}
+
 #[test]
-fn usage_leaves_the_source(rt: HostRuntime) -> Result<(), Fail> {
+fn bytes_are_refused_before_a_text_is_read(rt: HostRuntime) -> Result<(), Fail> {
     let alloc = rt.alloc();
-    let list = words_of(alloc, &["run"])?;
-    assert!(rt; !list.is_empty());
-    let mut source = MemSource::new(b"skip", &[]);
-    let mut sink = MemSink::new(alloc, &[], 100)?;
-    let report = oz(alloc, &list, &mut source, &mut sink);
-    assert_eq!(rt; report.status.number(), 2);
-    assert_eq!(rt; source.calls(), 0);
+    refuses(&rt, alloc, b"skip\xff", "refused byte 4 not UTF-8\n")?;
+    let long = before_blanks(alloc, b' ', 1_048_576)?;
+    refuses(&rt, alloc, &long, "refused text too long\n")?;
+    let longest = before_blanks(alloc, b' ', 1_048_575)?;
+    refuses(
+        &rt,
+        alloc,
+        &longest,
+        "refused 1:1048577 expected a statement\n",
+    )?;
+    let long = before_blanks(alloc, 255, 1_048_576)?;
+    refuses(&rt, alloc, &long, "refused text too long\n")?;
+    let longest = before_blanks(alloc, 255, 1_048_575)?;
+    refuses(&rt, alloc, &longest, "refused byte 0 not UTF-8\n")?;
     Ok(())
 }
 
 #[test]
-fn texts_have_at_most_a_mebibyte(rt: HostRuntime) -> Result<(), Fail> {
+fn texts_have_limits(rt: HostRuntime) -> Result<(), Fail> {
     let alloc = rt.alloc();
-    let blanks = vec![in alloc; b' '; 1_048_577]?;
-    let long = answer(&rt, alloc, &[], &blanks, &[], &[])?;
-    assert_eq!(rt; long.0.as_slice(), b"refused text too long\n".as_slice());
-    assert_eq!(rt; long.1, 3);
-    let fits = answer(&rt, alloc, &[], &blanks[1..], &[], &[])?;
-    assert_eq!(rt; fits.0.as_slice(), b"refused not run yet\n".as_slice());
-    assert_eq!(rt; fits.1, 3);
+    let mut deep = Vec::new(alloc);
+    for _ in 0..200 {
+        deep.extend_from_slice(b"local X in ")?;
+    }
+    deep.extend_from_slice(b"skip")?;
+    refuses(&rt, alloc, &deep, "refused 1:2201 nested too deep\n")?;
+    let mut wide = Vec::from_slice(alloc, b"local")?;
+    for number in 1..66 {
+        let name = format!(in alloc; " V{number}")?;
+        wide.extend_from_slice(name.as_bytes())?;
+    }
+    wide.extend_from_slice(b" in skip end")?;
+    refuses(&rt, alloc, &wide, "refused 1:254 too many items\n")?;
     Ok(())
 }
 
-// A text whose run has so many steps more than 999,999 as it has skips: the local and the sequence, three steps for
-// each tell, and one more for the bind of the first.
-fn long_run(alloc: Global, skips: u32) -> Result<Vec<u8>, AllocError> {
-    let mut text = Vec::from_slice(alloc, b"local X in ")?;
-    for _ in 0..333_332 {
-        text.extend_from_slice(b"X=5")?;
+// What a list of so many atoms prints, and what ends it.
+fn shows_list<R: Abort>(rt: &R, alloc: Global, count: u64, end: &[u8]) -> Result<(), AllocError> {
+    let mut text = Vec::new(alloc);
+    let front = format!(in alloc; "local Mk One Zero A N L in One = 1 Zero = 0 A = a N = {count}")?;
+    text.extend_from_slice(front.as_bytes())?;
+    text.extend_from_slice(LIST.as_bytes())?;
+    let mut line = Vec::new(alloc);
+    for _ in 0..count {
+        line.extend_from_slice(b"a|")?;
     }
-    for _ in 0..skips {
-        text.extend_from_slice(b" skip")?;
-    }
-    text.extend_from_slice(b" end")?;
-    Ok(text)
+    line.extend_from_slice(end)?;
+    line.extend_from_slice(b"\nquiescent ended=1 waiting=0\n")?;
+    let told = answer(rt, alloc, &[], &text, &[], &[])?;
+    assert_eq!(rt; told.0.as_slice(), line.as_slice());
+    assert_eq!(rt; told.1, 0);
+    Ok(())
 }
 
 #[test]
-fn the_last_step_may_be_the_last_allowed(rt: HostRuntime) -> Result<(), Fail> {
+fn long_lists_are_cut(rt: HostRuntime) -> Result<(), Fail> {
     let alloc = rt.alloc();
-    let last = answer(&rt, alloc, &[], &long_run(alloc, 1)?, &[], &[])?;
-    assert_eq!(rt;
-        last.0.as_slice(),
-        b"quiescent ended=1 waiting=0\n".as_slice()
-    );
-    assert_eq!(rt; last.2, 1_000_000);
-    let more = answer(&rt, alloc, &[], &long_run(alloc, 2)?, &[], &[])?;
-    assert_eq!(rt; more.0.as_slice(), b"stopped steps site=1\n".as_slice());
-    assert_eq!(rt; more.1, 4);
-    assert_eq!(rt; more.2, 1_000_000);
+    shows_list(&rt, alloc, 500, b",,,")?;
+    shows_list(&rt, alloc, 499, b"nil")?;
+    Ok(())
+}
+
+#[test]
+fn examples_print_what_stands_beside_them(rt: HostRuntime) -> Result<(), Fail> {
+    let alloc = rt.alloc();
+    for example in EXAMPLES.as_slice() {
+        let (text, bytes, number) = *example;
+        let told = answer(&rt, alloc, &[], text.as_bytes(), &[], &[])?;
+        assert_eq!(rt; told.0.as_slice(), bytes.as_bytes());
+        assert_eq!(rt; told.1, number);
+    }
+    Ok(())
+}
+
+// Two threads tell one variable two values, and a third shows it.
+const RACE: &[u8] = b"local X in thread X = 1 end thread X = 2 end thread {Browse X} end end";
+
+#[test]
+fn two_runs_print_the_same(rt: HostRuntime) -> Result<(), Fail> {
+    let alloc = rt.alloc();
+    let first = answer(&rt, alloc, &["central"], RACE, &[], &[])?;
+    let second = answer(&rt, alloc, &["central"], RACE, &[], &[])?;
+    assert_eq!(rt; first.0.as_slice(), second.0.as_slice());
+    assert_eq!(rt; first.2, second.2);
     Ok(())
 }

@@ -1,22 +1,31 @@
 //! The top call.
 
-ghost use Rattle.std.specs.Prelude.{◌≡◌, ◌<◌, ◌++◌, ◌∷◌, [], List, ℕ, length};
+ghost use Rattle.std.specs.Prelude.{◌≡◌, ◌<◌, ◌++◌, [], List, ℕ, length, map, string_bytes, Err};
+ghost use Rattle.std.specs.Str.{IsUtf8, IsValidUpTo};
 ghost use Rattle.oz_base.specs.Streams.{Rose};
+ghost use Rattle.oz_base.specs.Reading.{GaveFront};
+ghost use Rattle.oz_grammar.specs.declared.fault.TextFault.{TextFault};
+ghost use Rattle.oz_grammar.specs.Reads.{FaultOf};
 ghost use Rattle.oz_model.specs.Output.{output, pieces_of};
-ghost use Rattle.oz_runner.specs.Status.{end_line};
-ghost use Rattle.oz_runner.specs.Worked.{Worked};
-ghost use Rattle.oz_runner.specs.Written.{Written, after_fault};
+ghost use Rattle.oz_words.specs.Command.{AreActions};
+ghost use Rattle.oz_words.specs.Words.{ReadsWords};
+ghost use Rattle.oz_words.specs.declared.options.WordsError.TheVariants as words_error;
+ghost use Rattle.oz_show.specs.Status.{end_line, HasLine};
+ghost use Rattle.oz_runner.specs.Worked.{Worked, GaveText, text_limit};
+ghost use Rattle.oz_runner.specs.Written.{Written, IsToldAs, after_fault};
 ghost use Rattle.oz_runner.specs.Complete.{IsGood, IsDone};
 
-use crate::end_line::{fixed_line, made_line};
 use crate::work::{Work, do_work};
 use crate::write::write_all;
 use crate::{Report, Status};
 use oz_base::{Sink, Source};
+use oz_grammar::texts_have_one_of_both;
+use oz_show::{fixed_piece, last_line};
+use oz_words::action_names;
 use std::alloc::Global;
 
-/// Reads a text, runs it, and writes its lines and the end line. `words` are the program's name and the words after
-/// it. It is what `main` calls.
+/// Reads the words and a text, runs it, and writes its lines and the end line. `words` are the program's name and the
+/// words after it. It is what `main` calls.
 pub fn oz<S: Source, K: Sink>(
     alloc: Global,
     words: &[String],
@@ -24,21 +33,37 @@ pub fn oz<S: Source, K: Sink>(
     sink: &mut K,
 ) -> Report
     requires { 0 < length words.now }
-    ensures usage { result.status ≡ Status.Usage → 1 < length words.now }
+    ensures usage { (names : _) × AreActions names.now
+        × (result.status ≡ Status.Usage → ReadsWords names (map string_bytes words.now) (Err words_error.Usage)) }
     ensures read_fault { result.status ≡ Status.ReadFault → Rose (S.faults source.old) (S.faults source.new) }
+    ensures too_long { result.status ≡ Status.TooLong → GaveFront (S.left source.old) (S.left source.new) (λ n. text_limit < n) }
+    ensures not_utf8 { (at : ℕ) → result.status ≡ Status.NotUtf8 at → GaveText (S.left source.old) (S.left source.new) (λ text. (IsUtf8 text → ⊥) × IsValidUpTo text at) }
+    ensures refused { (fault : TextFault) → result.status ≡ Status.Refused fault → GaveText (S.left source.old) (S.left source.new) (λ text. IsUtf8 text × FaultOf text fault) }
     ensures write_fault { result.status ≡ Status.WriteFault → Rose (K.faults sink.old) (K.faults sink.new) }
-    ensures complete { IsGood (length words.now) (S.left source.old) (S.faults source.old) (S.faults source.new) (K.faults sink.old) (K.faults sink.new)
-        → IsDone result.status }
-    ensures headline { (lines : List (List ℕ)) × (worked : Status)
-        × Worked (length words.now) (S.left source.old) (S.left source.new) (S.faults source.old) (S.faults source.new) result.schedule.items lines worked
+    ensures complete { (names : _) × AreActions names.now
+        × (IsGood names (map string_bytes words.now) (S.left source.old) (S.faults source.old) (S.faults source.new) (K.faults sink.old) (K.faults sink.new)
+        → IsDone result.status) }
+    ensures headline { (names : _) × AreActions names.now × (lines : List (List ℕ)) × (worked : Status)
+        × Worked names (map string_bytes words.now) (S.left source.old) (S.left source.new) (S.faults source.old) (S.faults source.new) result.schedule.items lines worked
         × Written (K.taken sink.old) (K.taken sink.new) (K.faults sink.old) (K.faults sink.new) (output lines (end_line worked)) worked result.status }
 {
-    let work = do_work(alloc, words.len(), source);
-    if let Some(end) = fixed_line(work.status) {
+    texts_have_one_of_both();
+    let work = do_work(alloc, action_names(), words, source);
+    told(alloc, sink, work)
+}
+
+// Writes the lines of the work and its end line.
+fn told<K: Sink>(alloc: Global, sink: &mut K, work: Work) -> Report
+    requires { HasLine work.status }
+    ensures written { (worked : Status) × IsToldAs work.status worked
+        × Written (K.taken sink.old) (K.taken sink.new) (K.faults sink.old) (K.faults sink.new) (output work.lines.items (end_line worked)) worked result.status }
+    ensures schedule { result.schedule ≡ work.picks }
+{
+    if let Some(end) = fixed_piece(work.status) {
         return finish(sink, work, end);
     }
-    match made_line(alloc, work.status) {
-        Ok(end) => finish(sink, work, end.as_bytes()),
+    match last_line(alloc, &work.status) {
+        Ok(end) => finish(sink, work, end.as_piece()),
         Err(_) => finish(sink, out_of_memory(work), b"out of memory\n"),
     }
 }
@@ -56,6 +81,7 @@ fn out_of_memory(work: Work) -> Work
     }
 }
 
+// Writes lines and the piece of an end line.
 fn finish<K: Sink>(sink: &mut K, work: Work, end: &[u8]) -> Report
     ensures written { Written (K.taken sink.old) (K.taken sink.new) (K.faults sink.old) (K.faults sink.new)
         (pieces_of work.lines.items ++ end.now) work.status result.status }

@@ -1,21 +1,22 @@
 //! From the words and the text to the lines, before anything is written.
 
-ghost use Rattle.std.specs.Prelude.{◌≡◌, [], length};
-ghost use Rattle.oz_runner.specs.Worked.{Worked, status_of};
+ghost use Rattle.std.specs.Prelude.{◌≡◌, ◌≤◌, [], length, map, string_bytes};
+ghost use Rattle.oz_words.specs.Command.{AreActions};
+ghost use Rattle.oz_show.specs.Status.{HasLine};
+ghost use Rattle.oz_runner.specs.Worked.{Worked, SourceCame, TextCame, text_limit};
+ghost use Rattle.oz_runner.specs.Ends.{status_of};
 
 use crate::Status;
-use kernel_syntax::Program;
+use central_machine::{Ran, Reason, run_program};
 use oz_base::{ReadError, Source, read_text};
-use oz_core::{Ran, Reason, run_program};
-use oz_text::read_program;
+use oz_parser::{ParseError, parse};
+use oz_words::{WordsError, read_options};
 use std::alloc::Global;
+use std::str;
 use tree_node::{Line, Pick};
 
 // The most bytes of a text.
 const TEXT_LIMIT: u64 = 1_048_576;
-
-// The most steps of a run.
-const STEP_LIMIT: u64 = 1_000_000;
 
 /// What the work came to: its status, and the picks and lines of the run, if there was one.
 #[derive(Drop)]
@@ -25,23 +26,54 @@ pub struct Work {
     pub lines: Vec<Line>,
 }
 
-/// Reads the text where no word forbids it, and runs it.
-pub fn do_work<S: Source>(alloc: Global, words: usize, source: &mut S) -> Work
-    ensures { Worked words (S.left source.old) (S.left source.new) (S.faults source.old) (S.faults source.new) result.picks.items result.lines.items result.status }
+/// Reads the words, which are the program's name and those after it, then the text, and runs it. The names are those of
+/// the actions.
+pub fn do_work<'a, S: Source>(
+    alloc: Global,
+    names: &'a [&'a str],
+    words: &'a [String],
+    source: &mut S,
+) -> Work
+    requires { AreActions names.now }
+    ensures worked { Worked names.entry (map string_bytes words.now) (S.left source.old) (S.left source.new) (S.faults source.old) (S.faults source.new) result.picks.items result.lines.items result.status }
+    ensures line { HasLine result.status }
 {
-    if words > 1 {
-        return stopped(alloc, Status::Usage);
+    match read_options(alloc, names, words) {
+        Ok(options) => work_on_source(alloc, options.steps, source),
+        Err(WordsError::Usage) => stopped(alloc, Status::Usage),
+        Err(WordsError::Memory) => stopped(alloc, Status::Memory),
     }
-    let text = match read_text(alloc, source, TEXT_LIMIT) {
+}
+
+// Reads the text of a source and runs it, at most so many steps.
+fn work_on_source<S: Source>(alloc: Global, limit: u64, source: &mut S) -> Work
+    requires { limit ≤ 1000000000 }
+    ensures came { SourceCame limit (S.left source.old) (S.left source.new) (S.faults source.old) (S.faults source.new) result.picks.items result.lines.items result.status }
+    ensures line { HasLine result.status }
+{
+    match read_text(alloc, source, TEXT_LIMIT) {
+        Ok(text) => work_on_text(alloc, limit, &text),
+        Err(ReadError::Fault) => stopped(alloc, Status::ReadFault),
+        Err(ReadError::TooLong) => stopped(alloc, Status::TooLong),
+        Err(ReadError::Memory) => stopped(alloc, Status::Memory),
+    }
+}
+
+// Runs a text, at most so many steps.
+fn work_on_text(alloc: Global, limit: u64, text: &[u8]) -> Work
+    requires steps { limit ≤ 1000000000 }
+    requires bytes { length text.now ≤ text_limit }
+    ensures came { TextCame text.now limit result.picks.items result.lines.items result.status }
+    ensures line { HasLine result.status }
+{
+    let text = match str::from_utf8(text) {
         Ok(text) => text,
-        Err(ReadError::Fault) => return stopped(alloc, Status::ReadFault),
-        Err(ReadError::TooLong) => return stopped(alloc, Status::TooLong),
-        Err(ReadError::Memory) => return stopped(alloc, Status::Memory),
+        Err(error) => return stopped(alloc, Status::NotUtf8(error.valid_up_to() as u64)),
     };
-    match read_program(alloc, &text) {
-        Ok(Some(program)) => finished(run_program(alloc, &program, STEP_LIMIT)),
-        Ok(None) => stopped(alloc, Status::NotYet),
-        Err(_) => stopped(alloc, Status::Memory),
+    match parse(alloc, text) {
+        Ok(program) => finished(run_program(alloc, &program, limit)),
+        Err(ParseError::Text(fault)) => stopped(alloc, Status::Refused(fault)),
+        Err(ParseError::Memory) => stopped(alloc, Status::Memory),
     }
 }
 

@@ -1,5 +1,5 @@
 -- What the definitions of journals say.
-use Rattle.std.proofs.Common.{arith, ◌≡◌, ◌∙◌, ℕ, zero, suc, ◌+◌, ◌<◌, ◌≤◌, List, [], ◌∷◌, ◌++◌, length, refl, sym, ap, subst, ◌⊎◌, inl, inr, Bool, true, false, cond}
+use Rattle.std.proofs.Common.{arith, ◌≡◌, ◌∙◌, ℕ, zero, suc, ◌+◌, ◌<◌, ◌≤◌, List, [], ◌∷◌, ◌++◌, refl, sym, ap, subst, ◌⊎◌, inl, inr, Bool, true, false, cond}
 use Rattle.std.proofs.Common.{rules}
 use Rattle.std.proofs.lemmas.Bool.{cases_lt}
 use Rattle.std.specs.Prelude.{◌↔◌, ◌&&◌, ◌||◌, ◌==◌, IsTrue, Option, Some, None, Contains, not, slice_get}
@@ -7,7 +7,7 @@ use Rattle.std.specs.List.{filter, enumerate_from}
 use Rattle.tree_node.proofs.ClassLemmas.{Contains-head, Contains-tail, Contains-cons_cases}
 use Rattle.site_message.specs.declared.message.Sent.{Sent}
 use Rattle.site_message.specs.declared.turn.Turn.{Turn}
-use Rattle.site_message.specs.Journal.{Wired, DeliversOnce, IsTravelling, sent_of, travelling, was_delivered, is_number, is_idle, are_idle, is_empty, is_quiet}
+use Rattle.site_message.specs.Journal.{Wired, IsTravelling, sent_of, travelling, was_delivered, is_number, is_idle, are_idle, is_empty}
 use Rattle.site_message.specs.Rows.{TravellingTells, WiredTells, IsAlone, QuietTells}
 
 none_in : {X : Type 0} (x : X) → Contains [] x → ⊥

@@ -1,4 +1,3 @@
 pub mod Journal
 pub mod Wire
 pub mod Rows
-pub mod Order

@@ -4,3 +4,4 @@ pub mod SoundLemmas
 pub mod OrderLemmas
 pub mod RowsShown
 pub mod RowsGoal
+pub mod EnvLemmas

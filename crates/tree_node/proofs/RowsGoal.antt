@@ -1,8 +1,5 @@
 -- The worked examples of goals, computed.
-use Rattle.std.proofs.Common.{◌≡◌, refl, List, [], ◌∷◌, inl, inr, Some}
-use Rattle.std.specs.Prelude.{Option, None, pos}
-use Rattle.tree_node.specs.declared.node.Node.{Node}
-use Rattle.tree_node.specs.declared.node.Node.TheVariants as node
+use Rattle.std.proofs.Common.{refl, inl, inr}
 use Rattle.tree_node.specs.declared.node.Term.TheVariants as term
 use Rattle.tree_node.specs.Goal.{Allows}
 use Rattle.tree_node.specs.Rows.{v, three_known, PartsAreTold, EitherIsBound, RingIsMet}

@@ -12,3 +12,5 @@ pub mod Shown
 pub mod Rows
 pub mod State
 pub mod Names
+pub mod Order
+pub mod Unwind

@@ -1,10 +1,6 @@
 -- Worked examples: values as they are shown, by a store, a variable and its line, and what pairs of goals lead to.
-use Rattle.std.specs.Prelude.{◌≡◌, ℕ, List, [], ◌∷◌, ℤ, pos, negsuc, Some, codes}
+use Rattle.std.specs.Prelude.{◌≡◌, ℕ, List, [], ◌∷◌, pos, negsuc, Some, codes}
 use Rattle.tree_node.specs.declared.names.VarName.{VarName}
-use Rattle.tree_node.specs.declared.names.ProcName.{ProcName}
-use Rattle.tree_node.specs.declared.names.CellName.{CellName}
-use Rattle.tree_node.specs.declared.names.CodeId.{CodeId}
-use Rattle.tree_node.specs.declared.node.Feature.{Feature}
 use Rattle.tree_node.specs.declared.node.Feature.TheVariants as feature
 use Rattle.tree_node.specs.declared.node.Node.{Node}
 use Rattle.tree_node.specs.declared.node.Node.TheVariants as node

@@ -1,5 +1,8 @@
 //! The names of variables, cells, procedures and threads.
 
+ghost use Rattle.std.specs.Prelude.{◌↔◌, IsTrue};
+ghost use Rattle.tree_node.specs.Order.{IsBelow, IsNameBelow};
+
 use crate::seq::Seq;
 
 /// A variable's name: the site that made it (1 to 64) and its number there. Names compare by site, then number.
@@ -54,3 +57,18 @@ pub struct CodeId(pub u32);
 
 /// Names in the order in which a step takes them. The empty list, which most steps have, takes no memory.
 pub type NameList = Seq<Name>;
+
+/// Whether a variable's name is below another: by site, then by number.
+pub fn is_below(lesser: VarName, greater: VarName) -> bool
+    ensures { IsTrue result ↔ IsBelow lesser greater }
+{
+    lesser < greater
+}
+
+/// Whether a name of any kind is below another: variables, cells, procedures, threads, those of one kind by site, then
+/// by number.
+pub fn is_name_below(lesser: Name, greater: Name) -> bool
+    ensures { IsTrue result ↔ IsNameBelow lesser greater }
+{
+    lesser < greater
+}

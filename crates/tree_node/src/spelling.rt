@@ -18,6 +18,14 @@ pub fn atom_text(alloc: Global, text: &Text) -> Result<Line, AllocError>
     Ok(Line::from_vec(bytes)?)
 }
 
+/// The spelling of a feature.
+pub fn feature_text(alloc: Global, feature: &Feature) -> Result<Line, AllocError>
+    ensures { IfOk result (λ l. l ≡ feature_text feature.now) }
+{
+    let bytes = feature_bytes(alloc, feature)?;
+    Ok(Line::from_vec(bytes)?)
+}
+
 /// What a node prints before its fields: all of it, but of a record the label alone.
 pub fn node_head(alloc: Global, node: &Node) -> Result<Line, AllocError>
     ensures { IfOk result (λ l. l ≡ head_text node.now) }
@@ -39,7 +47,7 @@ pub fn head_bytes(alloc: Global, node: &Node) -> Result<Vec<u8>, AllocError>
     }
 }
 
-/// The spelling of a feature.
+/// The bytes of `feature_text`, with room for more behind them.
 pub fn feature_bytes(alloc: Global, feature: &Feature) -> Result<Vec<u8>, AllocError>
     ensures { IfOk result (λ v. v.items ≡ feature_text feature.now) }
 {

@@ -140,14 +140,37 @@ fn copies_have_equal_text(rt: HostRuntime) -> Result<(), Fail> {
 }
 
 #[test]
+fn environments_map_positions(rt: HostRuntime) -> Result<(), Fail> {
+    let alloc = rt.alloc();
+    let mut env = Env::for_positions(alloc, &[2, 5], &[variable(2), variable(5)])?;
+    env.set(3, variable(3))?;
+    env.set(5, variable(6))?;
+    let bound = env.copy(alloc)?.bind(0, variable(1));
+    let rebound = bound
+        .limited(alloc, &[0, 4])?
+        .with_room()?
+        .bind(4, variable(4));
+    let rows = [
+        (0, None, Some(variable(1)), Some(variable(1))),
+        (2, Some(variable(2)), Some(variable(2)), None),
+        (3, Some(variable(3)), Some(variable(3)), None),
+        (4, None, None, Some(variable(4))),
+        (5, Some(variable(6)), Some(variable(6)), None),
+    ];
+    for (position, before, after, last) in rows {
+        assert_eq!(rt; env.get(position), before, "at {position}");
+        assert_eq!(rt; bound.get(position), after, "at {position}");
+        assert_eq!(rt; rebound.get(position), last, "at {position}");
+    }
+    Ok(())
+}
+
+#[test]
 fn threads_may_share_nodes(rt: HostRuntime) -> Result<(), Fail> {
     let alloc = rt.alloc();
     let mut fresh = NameList::new(alloc);
     fresh.push(Name::Var(variable(1)))?;
-    let env = Env::from_vec(vec![in alloc; (0, variable(1)), (3, variable(2))]?);
-    assert_eq!(rt; env.get(3), Some(variable(2)));
-    assert_eq!(rt; env.get(1), None);
-    is_send_and_sync(env);
+    is_send_and_sync(Env::new(alloc));
     let line = Line::from_vec(Vec::from_slice(alloc, b"a")?)?;
     assert_eq!(rt; line.as_piece(), b"a\n".as_slice());
     is_send_and_sync(line);

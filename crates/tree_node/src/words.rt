@@ -79,7 +79,7 @@ pub fn is_reserved(text: &str) -> bool
     is_reserved_word(text.as_bytes())
 }
 
-/// The same of bytes.
+/// Whether these bytes are one of the reserved words.
 pub fn is_reserved_word(text: &[u8]) -> bool
     ensures { result ≡ is_reserved text.now }
 {

@@ -2,8 +2,7 @@
 use Rattle.std.proofs.Common.{◌≡◌, ◌∙◌, sym, ap, refl, List, [], ◌∷◌, Bool, true, false, cond, Some, None}
 use Rattle.std.specs.Prelude.{ℕ, Option, Result, Ok, Err, IfOk, OnOk, OnErr, is_some, option_copied}
 use Rattle.std.specs.Borrow.{Bor}
-use Rattle.std.specs.Map.{lookup, set_value}
-use Rattle.indexmap.specs.IndexMap.{insert_entry}
+use Rattle.std.specs.Map.{set_value}
 use Rattle.tree_node.specs.declared.names.VarName.{VarName}
 use Rattle.tree_node.specs.Store.{same_name}
 use Rattle.tree_node.specs.declared.node.Term.{Term}

@@ -1,22 +1,40 @@
-use Rattle.std.proofs.Common.{rules, ◌≡◌, ◌∙◌, sym, ap, refl}
-use Rattle.oz_runner.specs.Status.{EndsRun}
-use Rattle.oz_runner.specs.declared.status.Status.{Status}
+use Rattle.std.proofs.Common.{rules}
 use Rattle.oz_runner.proofs.CompleteLemmas.{complete}
-use Rattle.oz_runner.proofs.HeadlineLemmas.{headline, memory_headline}
+use Rattle.oz_runner.proofs.HeadlineLemmas.{headline, usage, read_fault, too_long, not_utf8, refused, write_fault}
 use Rattle.oz_runner.proofs.top.oz.Goals as goal
 
-pub returns-in-Some-clause-complete : goal.returns-in-Some-clause-complete
-returns-in-Some-clause-complete g c = complete _ _ _ _ _ _ _ _ _ _ _ _ _ _ c.do_work-work.ensures c.finish.ensures.written
+pub returns-clause-usage : goal.returns-clause-usage
+returns-clause-usage g c = (
+  c.action_names.result,
+  c.action_names.ensures,
+  usage _ _ _ _ _ _ _ _ _ _ _ _ _ _ _ _ c.do_work-work.ensures.worked c.told.ensures.written.1 c.told.ensures.written.2,
+)
 
-pub returns-in-Some-clause-headline : goal.returns-in-Some-clause-headline
-returns-in-Some-clause-headline g c =
-    headline _ _ _ _ _ _ _ _ _ _ c.do_work-work.result.picks.items _ c.in-Some.end.now _ _ (search rules) (search rules) c.do_work-work.ensures c.finish.ensures.written
+pub returns-clause-read_fault : goal.returns-clause-read_fault
+returns-clause-read_fault g c =
+    read_fault _ _ _ _ _ _ _ _ _ _ _ _ _ _ _ _ c.do_work-work.ensures.worked c.told.ensures.written.1 c.told.ensures.written.2
 
-pub returns-in-Ok-clause-headline : goal.returns-in-Ok-clause-headline
-returns-in-Ok-clause-headline g c =
-    headline _ _ _ _ _ _ _ _ _ _ c.do_work-work.result.picks.items _ _ _ _ (search rules) (search rules) c.do_work-work.ensures c.finish-in-Ok.ensures.written
+pub returns-clause-too_long : goal.returns-clause-too_long
+returns-clause-too_long g c = too_long _ _ _ _ _ _ _ _ _ _ _ _ _ _ _ _ c.do_work-work.ensures.worked c.told.ensures.written.1 c.told.ensures.written.2
 
-pub returns-in-Err-clause-headline : goal.returns-in-Err-clause-headline
-returns-in-Err-clause-headline g c =
-    memory_headline _ _ _ _ _ _ _ _ _ _ c.do_work-work.result.picks.items _ c.out_of_memory.result.lines.items _ _ _
-    (search rules) (search rules) c.out_of_memory.ensures.status (search rules) c.do_work-work.ensures c.finish-in-Err.ensures.written
+pub returns-clause-not_utf8 : goal.returns-clause-not_utf8
+returns-clause-not_utf8 g c = not_utf8 _ _ _ _ _ _ _ _ _ _ _ _ _ _ _ _ c.do_work-work.ensures.worked c.told.ensures.written.1 c.told.ensures.written.2
+
+pub returns-clause-refused : goal.returns-clause-refused
+returns-clause-refused g c = refused _ _ _ _ _ _ _ _ _ _ _ _ _ _ _ _ c.do_work-work.ensures.worked c.told.ensures.written.1 c.told.ensures.written.2
+
+pub returns-clause-write_fault : goal.returns-clause-write_fault
+returns-clause-write_fault g c =
+    write_fault _ _ _ _ _ _ _ _ _ _ _ _ _ _ _ _ c.do_work-work.ensures.worked c.told.ensures.written.1 c.told.ensures.written.2
+
+pub returns-clause-complete : goal.returns-clause-complete
+returns-clause-complete g c = (
+  c.action_names.result,
+  c.action_names.ensures,
+  complete _ _ _ _ _ _ _ _ _ _ _ _ _ _ _ _ c.texts_have_one_of_both.ensures.never_both c.do_work-work.ensures.worked c.told.ensures.written.1 c.told.ensures.written.2,
+)
+
+pub returns-clause-headline : goal.returns-clause-headline
+returns-clause-headline g c =
+    let h = headline _ _ _ _ _ _ _ _ _ _ _ _ _ _ _ _ c.action_names.ensures (search rules) c.do_work-work.ensures.worked c.told.ensures.written.1 c.told.ensures.written.2 in
+    (c.action_names.result, h.0, h.1, h.2, h.3, h.4)

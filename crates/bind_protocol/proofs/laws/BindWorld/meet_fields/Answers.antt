@@ -1,4 +1,4 @@
-use Rattle.std.proofs.Common.{sym, ◌∙◌}
+use Rattle.std.proofs.Common.{◌∙◌}
 use Rattle.bind_protocol.proofs.CodeLemmas.{grown_on, front_on, met_next_field, can_meet_field}
 use Rattle.bind_protocol.proofs.laws.BindWorld.meet_fields.Goals as goal
 

@@ -1,5 +1,4 @@
-use Rattle.std.proofs.Common.{◌≡◌, drop, map}
-use Rattle.tree_node.specs.Node.{features_of}
+use Rattle.std.proofs.Common.{◌≡◌, drop}
 use Rattle.bind_protocol.specs.World.{Grows, IsFront, meets_all, field_vars}
 use Rattle.bind_protocol.proofs.laws.BindWorld.meet_fields.Given as goal
 

@@ -1,6 +1,4 @@
-use Rattle.std.proofs.Common.{◌≡◌, subst, sym, ap, refl}
-use Rattle.bind_protocol.specs.World.{World, Holds, new_world}
-use Rattle.bind_protocol.specs.Lawful.{IsLawful}
+use Rattle.bind_protocol.specs.World.{new_world}
 use Rattle.bind_protocol.proofs.HoldLemmas.{new_lawful, lawful_holds}
 use Rattle.bind_protocol.proofs.laws.BindWorld.new.Goals as goal
 

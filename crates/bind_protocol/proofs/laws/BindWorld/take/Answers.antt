@@ -1,5 +1,4 @@
-use Rattle.std.proofs.Common.{arith, ◌≡◌, ◌≤◌, ◌<◌, ◌-◌, ℕ, ap, length, subst}
-use Rattle.bind_protocol.specs.World.{World, IsSiteOf}
+use Rattle.std.proofs.Common.{arith, ◌<◌, ◌-◌, length}
 use Rattle.bind_protocol.proofs.CodeLemmas.{travels_to, travels_taken, travels_range, take_done}
 use Rattle.bind_protocol.proofs.laws.BindWorld.take.Goals as goal
 

@@ -1,4 +1,4 @@
-use Rattle.std.proofs.Common.{◌≡◌, ◌∙◌, sym, ap, true}
+use Rattle.std.proofs.Common.{◌≡◌, ◌∙◌, sym, true}
 use Rattle.std.specs.Prelude.{is_some}
 use Rattle.variable_owner.specs.Owners.{owner_of, binding_of}
 use Rattle.variable_owner.proofs.OwnerLemmas.{late_same, lent_some}

@@ -1,0 +1,23 @@
+-- Which integers are of 64 bits.
+use Rattle.std.proofs.Common.{arith, ◌≡◌, refl, Bool, true, false, ℕ, zero, suc}
+use Rattle.std.specs.Prelude.{ℤ, pos, negsuc, FitsSigned, int_le, int_rem}
+use Rattle.std.specs.Int.{w64}
+use Rattle.std.proofs.lemmas.Int.{ints}
+use Rattle.kernel_syntax.specs.Arithmetic.{Number, Overflow, fitted, is_word}
+
+is_word_there : (z : ℤ) → FitsSigned w64 z → is_word z ≡ true
+is_word_there z h = grind (arith, ints)
+
+is_word_past : (z : ℤ) → (FitsSigned w64 z → ⊥) → is_word z ≡ false
+is_word_past z h = grind (arith, ints)
+
+pub fitted_there : (z : ℤ) → FitsSigned w64 z → Number z ≡ fitted z
+fitted_there z h = rw (is_word_there z h) refl
+
+pub fitted_past : (z : ℤ) → (FitsSigned w64 z → ⊥) → Overflow ≡ fitted z
+fitted_past z h = rw (is_word_past z h) refl
+
+-- dividing by -1 leaves nothing
+pub rem_minus : (a : ℤ) → int_rem a (negsuc 0) ≡ pos 0
+rem_minus (pos n) = omega (arith, ints)
+rem_minus (negsuc n) = omega (arith, ints)

@@ -1,0 +1,5 @@
+use Rattle.oz_grammar.proofs.CanonicalText.{canonical_reads}
+use Rattle.oz_grammar.proofs.laws.canonical_symbols_read.Goals as goal
+
+pub returns : goal.returns
+returns c = canonical_reads

@@ -1,0 +1,149 @@
+-- The grammar (CTM section 2.3): derivations as trees, and the symbols of each before those that follow it.
+use Rattle.std.specs.Prelude.{ℕ, List, [], ◌∷◌, Option, ℤ}
+use Rattle.kernel_syntax.specs.declared.stmt.Op.{Op}
+use Rattle.oz_grammar.specs.declared.symbol.Symbol.{Symbol}
+use Rattle.oz_grammar.specs.declared.symbol.Symbol.TheVariants as t
+use Rattle.oz_grammar.specs.declared.symbol.Closer.{Closer}
+use Rattle.oz_grammar.specs.declared.symbol.Closer.TheVariants as closer
+
+-- a name as it is spelled
+abbrev pub Name : Type 0
+Name = List ℕ
+
+-- a feature as the text names it: an atom, or an integer, which may be no good number
+pub data Mark : Type 0 where
+  AtomMark : List ℕ → Mark
+  IntMark : Option ℤ → Mark
+
+-- what stands behind the dot of a selection
+pub data Selection : Type 0 where
+  ByVariable : Name → Selection
+  ByMark : Mark → Selection
+
+-- a field: a variable, or a feature and a variable
+pub data Field : Type 0 where
+  Placed : Name → Field
+  Marked : Mark → Name → Field
+
+-- the right side of a tell: Y, Y op Z, Y.F, H|T, an integer, an atom, f(..)
+pub data Value : Type 0 where
+  ToVar : Name → Value
+  Calculates : Name → Op → Name → Value
+  Selects : Name → Selection → Value
+  Pairs : Name → Name → Value
+  ToInt : Option ℤ → Value
+  ToAtom : List ℕ → Value
+  ToRecord : List ℕ → List Field → Value
+
+-- an integer, an atom, f(..), H|T
+pub data Pattern : Type 0 where
+  IntPattern : Option ℤ → Pattern
+  AtomPattern : List ℕ → Pattern
+  RecordPattern : List ℕ → List Field → Pattern
+  PairPattern : Name → Name → Pattern
+
+-- statements without bodies: skip, X = value, {P X..}, raise X end. Calls of what is built in are spelled as other calls
+pub data Plain : Type 0 where
+  Skips : Plain
+  Tells : Name → Value → Plain
+  Calls : Name → List Name → Plain
+  Raises : Name → Plain
+
+-- what stands before the one body of a statement, which `end` closes: local X Y.. in, X = proc {$ Y..}, proc {X Y..},
+-- thread, thread at N
+pub data Opening : Type 0 where
+  Locals : Name → List Name → Opening
+  ProcValue : Name → List Name → Opening
+  ProcNamed : Name → List Name → Opening
+  Threads : Opening
+  ThreadsAt : Option ℤ → Opening
+
+-- what stands before the first of two bodies with `else` between them: if X then, case X of P then
+pub data Choice : Type 0 where
+  Ifs : Name → Choice
+  Cases : Name → Pattern → Choice
+
+-- statements, and one statement or more. Tries: try S catch X then T end
+mutual
+  pub data Statement : Type 0 where
+    Simple : Plain → Statement
+    Block : Opening → Sequence → Statement
+    Chooses : Choice → Sequence → Sequence → Statement
+    Tries : Sequence → Name → Sequence → Statement
+
+  pub data Sequence : Type 0 where
+    One : Statement → Sequence
+    Then : Statement → Sequence → Sequence
+
+abbrev pub mark_symbol : Mark → Symbol
+mark_symbol (AtomMark a) = t.Atom a
+mark_symbol (IntMark n) = t.Integer n
+
+abbrev pub selection_symbol : Selection → Symbol
+selection_symbol (ByVariable x) = t.Variable x
+selection_symbol (ByMark m) = mark_symbol m
+
+abbrev pub names_text : List Name → List Symbol → List Symbol
+names_text [] rest = rest
+names_text (x ∷ xs) rest = t.Variable x ∷ names_text xs rest
+
+abbrev pub field_text : Field → List Symbol → List Symbol
+field_text (Placed x) rest = t.Variable x ∷ rest
+field_text (Marked m x) rest = mark_symbol m ∷ t.Colon ∷ t.Variable x ∷ rest
+
+abbrev pub fields_text : List Field → List Symbol → List Symbol
+fields_text [] rest = rest
+fields_text (f ∷ fs) rest = field_text f (fields_text fs rest)
+
+abbrev pub value_text : Value → List Symbol → List Symbol
+value_text (ToVar y) rest = t.Variable y ∷ rest
+value_text (Calculates y o z) rest = t.Variable y ∷ t.Operator o ∷ t.Variable z ∷ rest
+value_text (Selects y s) rest = t.Variable y ∷ t.Dot ∷ selection_symbol s ∷ rest
+value_text (Pairs h u) rest = t.Variable h ∷ t.Bar ∷ t.Variable u ∷ rest
+value_text (ToInt n) rest = t.Integer n ∷ rest
+value_text (ToAtom a) rest = t.Atom a ∷ rest
+value_text (ToRecord a fs) rest = t.Atom a ∷ t.OpenRound ∷ fields_text fs (t.CloseRound ∷ rest)
+
+abbrev pub pattern_text : Pattern → List Symbol → List Symbol
+pattern_text (IntPattern n) rest = t.Integer n ∷ rest
+pattern_text (AtomPattern a) rest = t.Atom a ∷ rest
+pattern_text (RecordPattern a fs) rest = t.Atom a ∷ t.OpenRound ∷ fields_text fs (t.CloseRound ∷ rest)
+pattern_text (PairPattern h u) rest = t.Variable h ∷ t.Bar ∷ t.Variable u ∷ rest
+
+abbrev pub plain_text : Plain → List Symbol → List Symbol
+plain_text Skips rest = t.Skip ∷ rest
+plain_text (Tells x v) rest = t.Variable x ∷ t.Equals ∷ value_text v rest
+plain_text (Calls p xs) rest = t.OpenCurly ∷ t.Variable p ∷ names_text xs (t.CloseCurly ∷ rest)
+plain_text (Raises x) rest = t.Raise ∷ t.Variable x ∷ t.End ∷ rest
+
+abbrev pub opening_text : Opening → List Symbol → List Symbol
+opening_text (Locals x xs) rest = t.Local ∷ t.Variable x ∷ names_text xs (t.In ∷ rest)
+opening_text (ProcValue x xs) rest = t.Variable x ∷ t.Equals ∷ t.Proc ∷ t.OpenCurly ∷ t.Dollar ∷ names_text xs (t.CloseCurly ∷ rest)
+opening_text (ProcNamed x xs) rest = t.Proc ∷ t.OpenCurly ∷ t.Variable x ∷ names_text xs (t.CloseCurly ∷ rest)
+opening_text Threads rest = t.Thread ∷ rest
+opening_text (ThreadsAt n) rest = t.Thread ∷ t.At ∷ t.Integer n ∷ rest
+
+abbrev pub choice_text : Choice → List Symbol → List Symbol
+choice_text (Ifs x) rest = t.If ∷ t.Variable x ∷ t.Then ∷ rest
+choice_text (Cases x p) rest = t.Case ∷ t.Variable x ∷ t.Of ∷ pattern_text p (t.Then ∷ rest)
+
+abbrev mutual
+  pub stmt_text : Statement → List Symbol → List Symbol
+  stmt_text (Simple s) rest = plain_text s rest
+  stmt_text (Block o q) rest = opening_text o (seq_text q (t.End ∷ rest))
+  stmt_text (Chooses h q r) rest = choice_text h (seq_text q (t.Else ∷ seq_text r (t.End ∷ rest)))
+  stmt_text (Tries q x r) rest = t.Try ∷ seq_text q (t.Catch ∷ t.Variable x ∷ t.Then ∷ seq_text r (t.End ∷ rest))
+
+  pub seq_text : Sequence → List Symbol → List Symbol
+  seq_text (One s) rest = stmt_text s rest
+  seq_text (Then s q) rest = stmt_text s (seq_text q rest)
+
+abbrev pub closer_symbol : Closer → Symbol
+closer_symbol closer.End = t.End
+closer_symbol closer.Else = t.Else
+closer_symbol closer.Catch = t.Catch
+closer_symbol closer.EndOfText = t.EndOfText
+
+-- the symbols of a program
+abbrev pub program_text : Sequence → List Symbol
+program_text q = seq_text q (t.EndOfText ∷ [])

@@ -1,0 +1,83 @@
+-- Laws: reading gives the program or the first fault of symbols, and they have one of both.
+use Rattle.std.specs.Prelude.{◌≡◌, ◌↔◌, ◌⊎◌, ℕ, List, map, true, Ok, Err}
+use Rattle.kernel_syntax.specs.declared.stmt.Stmt.{Stmt}
+use Rattle.kernel_syntax.specs.Program.{IsProgram}
+use Rattle.oz_lexer.specs.Tokens.{Lexeme, Tokens}
+use Rattle.oz_grammar.specs.declared.symbol.Symbol.{Symbol}
+use Rattle.oz_grammar.specs.declared.fault.Fault.{Fault}
+use Rattle.oz_grammar.specs.declared.fault.TextFault.{TextFault}
+use Rattle.oz_grammar.specs.Symbols.{symbol_of, ends_once}
+use Rattle.oz_grammar.specs.Reading.{program_at}
+use Rattle.oz_grammar.specs.Canonical.{canonical_symbols}
+use Rattle.oz_grammar.specs.Reads.{ReadsSymbols, Reads, FaultOfSymbols, IsPlace, FaultOf}
+
+-- ---- of symbols
+
+-- what is read is the program that the symbols are
+abbrev pub ReadsPrograms : Type 0
+ReadsPrograms = (symbols : List Symbol) (p : List Stmt) → ends_once symbols ≡ true → (program_at symbols ≡ Ok p) ↔ ReadsSymbols symbols p
+
+-- where reading faults, it is at the first fault of the symbols
+abbrev pub ReadsFaults : Type 0
+ReadsFaults = (symbols : List Symbol) (f : Fault) → ends_once symbols ≡ true → (program_at symbols ≡ Err f) ↔ FaultOfSymbols symbols f
+
+-- symbols are a program, or they have a fault
+abbrev pub SymbolsHaveOne : Type 0
+SymbolsHaveOne = (symbols : List Symbol) → ends_once symbols ≡ true → ((p : List Stmt) × ReadsSymbols symbols p) ⊎ ((f : Fault) × FaultOfSymbols symbols f)
+
+-- .. never both
+abbrev pub NeverBoth : Type 0
+NeverBoth = (symbols : List Symbol) (p : List Stmt) (f : Fault) → ReadsSymbols symbols p → FaultOfSymbols symbols f → ⊥
+
+-- .. one program
+abbrev pub OneProgram : Type 0
+OneProgram = (symbols : List Symbol) (p q : List Stmt) → ReadsSymbols symbols p → ReadsSymbols symbols q → p ≡ q
+
+-- .. and one fault
+abbrev pub OneFault : Type 0
+OneFault = (symbols : List Symbol) (f g : Fault) → FaultOfSymbols symbols f → FaultOfSymbols symbols g → f ≡ g
+
+-- what is read is a program in which nothing is free
+abbrev pub ReadsArePrograms : Type 0
+ReadsArePrograms = (symbols : List Symbol) (p : List Stmt) → ReadsSymbols symbols p → IsProgram p
+
+-- the canonical symbols of a program that symbols are, are that program
+abbrev pub CanonicalReads : Type 0
+CanonicalReads = (symbols : List Symbol) (p : List Stmt) → ReadsSymbols symbols p → ReadsSymbols (canonical_symbols p) p
+
+-- ---- of texts
+
+-- reading these tokens faults here
+pub record FaultRead (text : List ℕ) (tokens : List Lexeme) (f : TextFault) : Type 0 where
+  pub fault : Fault
+  pub read : program_at (map symbol_of tokens) ≡ Err fault
+  pub is_kind : f.kind ≡ fault.kind
+  pub place : IsPlace text tokens fault.left f.line f.column
+
+-- what is read of a text's tokens is the program that the text is
+abbrev pub ReadsTexts : Type 0
+ReadsTexts = (text : List ℕ) (tokens : List Lexeme) (p : List Stmt) → Tokens text tokens → (program_at (map symbol_of tokens) ≡ Ok p) ↔ Reads text p
+
+-- where reading them faults, it is at the text's first fault
+abbrev pub FaultsTexts : Type 0
+FaultsTexts = (text : List ℕ) (tokens : List Lexeme) (f : TextFault) → Tokens text tokens → FaultRead text tokens f ↔ FaultOf text f
+
+-- each text is a program or has a fault
+abbrev pub TextsHaveOne : Type 0
+TextsHaveOne = (text : List ℕ) → ((p : List Stmt) × Reads text p) ⊎ ((f : TextFault) × FaultOf text f)
+
+-- .. never both
+abbrev pub TextsNeverHaveBoth : Type 0
+TextsNeverHaveBoth = (text : List ℕ) (p : List Stmt) (f : TextFault) → Reads text p → FaultOf text f → ⊥
+
+-- .. one program
+abbrev pub TextIsOneProgram : Type 0
+TextIsOneProgram = (text : List ℕ) (p q : List Stmt) → Reads text p → Reads text q → p ≡ q
+
+-- .. and one fault
+abbrev pub TextHasOneFault : Type 0
+TextHasOneFault = (text : List ℕ) (f g : TextFault) → FaultOf text f → FaultOf text g → f ≡ g
+
+-- and each program that a text is, is one
+abbrev pub TextsArePrograms : Type 0
+TextsArePrograms = (text : List ℕ) (p : List Stmt) → Reads text p → IsProgram p

@@ -1,0 +1,12 @@
+pub mod Symbols
+pub mod Grammar
+pub mod Scoping
+pub mod Faults
+pub mod Check
+pub mod Points
+pub mod Table
+pub mod Reading
+pub mod Reads
+pub mod Canonical
+pub mod Laws
+pub mod Rows

@@ -1,0 +1,203 @@
+-- Threads and cells are named once, and living threads have items.
+use Rattle.std.proofs.Common.{◌≡◌, ◌≢◌, sym, ap, refl, subst, List, [], ◌∷◌, ◌++◌, map, Bool, true, false, cond, Some, None}
+use Rattle.std.specs.Prelude.{Option, codes}
+use Rattle.std.specs.Bool.{Decides}
+use Rattle.tree_node.specs.declared.names.VarName.{VarName}
+use Rattle.tree_node.specs.declared.names.CellName.{CellName}
+use Rattle.tree_node.specs.declared.names.ThreadName.{ThreadName}
+use Rattle.tree_node.specs.declared.names.NameKind.TheVariants as kind
+use Rattle.tree_node.specs.declared.names.Name.{Name}
+use Rattle.tree_node.specs.declared.names.Name.TheVariants as name
+use Rattle.tree_node.specs.declared.node.Node.{Node}
+use Rattle.tree_node.specs.declared.node.Term.{Term}
+use Rattle.tree_node.specs.declared.item.Item.TheVariants as item
+use Rattle.tree_node.specs.declared.pick.Pick.{Pick}
+use Rattle.tree_node.specs.Assoc.{with_value, without_key, goes_on}
+use Rattle.tree_node.specs.Each.{Each, AreDistinct}
+use Rattle.tree_node.specs.Env.{Env}
+use Rattle.tree_node.specs.Goal.{Case, Dropped, Binds, Opened, Failed, case_of, equal_cell}
+use Rattle.tree_node.specs.Names.{EachOfThread, EachOfCell, IsNew}
+use Rattle.tree_node.specs.Shown.{shown}
+use Rattle.tree_node.specs.State.{Stack, State, same_thread}
+use Rattle.tree_node.specs.Store.{Store, Equation}
+use Rattle.kernel_syntax.specs.declared.stmt.Stmt.{Stmt}
+use Rattle.kernel_syntax.specs.Free.{stmt_at}
+use Rattle.oz_model.specs.declared.outcome.SystemException.{SystemException}
+use Rattle.oz_model.specs.declared.outcome.SystemException.TheVariants.{FailureTell}
+use Rattle.oz_model.specs.declared.outcome.Outcome.{Outcome}
+use Rattle.oz_model.specs.declared.outcome.Outcome.TheVariants as outcome
+use Rattle.oz_model.specs.Outcome.{outcome_of, prints}
+use Rattle.oz_model.specs.Need.{outcome_need, stack_need, kinds_of}
+use Rattle.oz_model.specs.Effect.{Birth, CellChange, Stays, Made, Exchanged, stack_effect, outcome_effect, goal_effect, pair_effect, fails, vars_among, thread_among}
+use Rattle.oz_model.specs.Step.{kind_of, cells_after, settled, living, threads_born, effect_of, stack_of, IsAllowed, next}
+use Rattle.oz_model.specs.Run.{Runs, start}
+use Rattle.oz_model.specs.Laws.{AreOnce, RunsAreOnce}
+use Rattle.oz_model.proofs.KindLemmas.{equal_cell_decides, same_thread_decides, kinds_one, only_thread}
+use Rattle.oz_model.proofs.ExchangeLemmas.{step_makes}
+
+-- ---- keys
+
+module _ {K V : Type 0} (same : K → K → Bool) (decides : (a b : K) → Decides (same a b) (a ≡ b)) where
+  abbrev keys : List (K × V) → List K
+  keys es = map (λ (e : K × V). e.0) es
+
+  -- what holds of all keys
+  with_keys : (P : K → Type 0) (es : List (K × V)) (k : K) (v : V) → Each P (keys es) → Each P (keys (with_value same es k v))
+  with_keys P [] k v h = tt
+  with_keys P (e ∷ es) k v h = go (same e.0 k) refl (with_keys P es k v h.1)
+    where
+      go : (b : Bool) → same e.0 k ≡ b → Each P (keys (with_value same es k v)) → Each P (keys (cond b ((k, v) ∷ es) (e ∷ with_value same es k v)))
+      go true at r = (subst P ((decides e.0 k).0 at) h.0, h.1)
+      go false at r = (h.0, r)
+
+  without_keys : (P : K → Type 0) (es : List (K × V)) (k : K) → Each P (keys es) → Each P (keys (without_key same es k))
+  without_keys P [] k h = tt
+  without_keys P (e ∷ es) k h = go (same e.0 k) (without_keys P es k h.1)
+    where
+      go : (b : Bool) → Each P (keys (without_key same es k)) → Each P (keys (cond b (without_key same es k) (e ∷ without_key same es k)))
+      go true r = r
+      go false r = (h.0, r)
+
+  goes_keys : (P : K → Type 0) (es : List (K × V)) (k : K) (o : Option V) → Each P (keys es) → Each P (keys (goes_on same es k o))
+  goes_keys P es k None h = without_keys P es k h
+  goes_keys P es k (Some v) h = with_keys P es k v h
+
+  -- keys that differ
+  with_distinct : (es : List (K × V)) (k : K) (v : V) → AreDistinct (keys es) → AreDistinct (keys (with_value same es k v))
+  with_distinct [] k v h = tt
+  with_distinct (e ∷ es) k v h = go (same e.0 k) refl (with_distinct es k v h.1)
+    where
+      go : (b : Bool) → same e.0 k ≡ b → AreDistinct (keys (with_value same es k v)) → AreDistinct (keys (cond b ((k, v) ∷ es) (e ∷ with_value same es k v)))
+      go true at r = (subst (λ (x : K). Each (λ y. x ≢ y) (keys es)) ((decides e.0 k).0 at) h.0, h.1)
+      go false at r = (with_keys (λ y. e.0 ≢ y) es k v h.0, r)
+
+  without_distinct : (es : List (K × V)) (k : K) → AreDistinct (keys es) → AreDistinct (keys (without_key same es k))
+  without_distinct [] k h = tt
+  without_distinct (e ∷ es) k h = go (same e.0 k) (without_distinct es k h.1)
+    where
+      go : (b : Bool) → AreDistinct (keys (without_key same es k)) → AreDistinct (keys (cond b (without_key same es k) (e ∷ without_key same es k)))
+      go true r = r
+      go false r = (without_keys (λ y. e.0 ≢ y) es k h.0, r)
+
+  goes_distinct : (es : List (K × V)) (k : K) (o : Option V) → AreDistinct (keys es) → AreDistinct (keys (goes_on same es k o))
+  goes_distinct es k None h = without_distinct es k h
+  goes_distinct es k (Some v) h = with_distinct es k v h
+
+  -- what holds of all values
+  with_values : (Q : K × V → Type 0) (es : List (K × V)) (k : K) (v : V) → Q (k, v) → Each Q es → Each Q (with_value same es k v)
+  with_values Q [] k v q h = tt
+  with_values Q (e ∷ es) k v q h = go (same e.0 k) (with_values Q es k v q h.1)
+    where
+      go : (b : Bool) → Each Q (with_value same es k v) → Each Q (cond b ((k, v) ∷ es) (e ∷ with_value same es k v))
+      go true r = (q, h.1)
+      go false r = (h.0, r)
+
+  without_values : (Q : K × V → Type 0) (es : List (K × V)) (k : K) → Each Q es → Each Q (without_key same es k)
+  without_values Q [] k h = tt
+  without_values Q (e ∷ es) k h = go (same e.0 k) (without_values Q es k h.1)
+    where
+      go : (b : Bool) → Each Q (without_key same es k) → Each Q (cond b (without_key same es k) (e ∷ without_key same es k))
+      go true r = r
+      go false r = (h.0, r)
+
+-- ---- a thread that is born is a fresh name
+
+abbrev BornFrom : List Name → Option Birth → Type 0
+BornFrom fresh None = Unit {0}
+BornFrom fresh (Some b) = (rest : List Name) × (fresh ≡ name.Thread b.name ∷ rest)
+
+fails_born : (fresh : List Name) (exception : SystemException) (rest : Stack) (xs : List VarName) → BornFrom fresh (fails exception rest xs).born
+fails_born fresh exception rest [] = tt
+fails_born fresh exception rest (a ∷ []) = tt
+fails_born fresh exception rest (a ∷ x ∷ []) = tt
+fails_born fresh exception rest (a ∷ x ∷ y ∷ ys) = tt
+
+spawn_born : (fresh : List Name) → map kind_of fresh ≡ kind.Thread ∷ [] → (rest : List Name) × (fresh ≡ name.Thread (thread_among fresh) ∷ rest)
+spawn_born fresh e =
+    let one = kinds_one kind.Thread fresh e in
+    let thread = only_thread one.0 one.2 in
+    let is : fresh ≡ name.Thread thread.0 ∷ [] = cc in
+    ([], subst (λ (f : List Name). f ≡ name.Thread (thread_among f) ∷ []) (sym is) refl)
+
+outcome_born : (p : List Stmt) (env : Env) (rest : Stack) (fresh : List Name) (o : Outcome) → map kind_of fresh ≡ kinds_of (outcome_need o) → BornFrom fresh (outcome_effect p env rest fresh o).born
+outcome_born p env rest fresh (outcome.Spawns at body vars) e = spawn_born fresh e
+outcome_born p env rest fresh (outcome.Fails exception) e = fails_born fresh exception rest (vars_among fresh)
+outcome_born p env rest fresh (outcome.MakesCell content told) e = tt
+outcome_born p env rest fresh (outcome.Waits x) e = tt
+outcome_born p env rest fresh (outcome.Runs codes) e = tt
+outcome_born p env rest fresh (outcome.Tells x t) e = tt
+outcome_born p env rest fresh (outcome.Declares first count body) e = tt
+outcome_born p env rest fresh (outcome.MakesProc left code formals vars) e = tt
+outcome_born p env rest fresh (outcome.Exchanges cell new told) e = tt
+outcome_born p env rest fresh (outcome.Tries body body_env handler first handler_env) e = tt
+outcome_born p env rest fresh (outcome.Raises x) e = tt
+outcome_born p env rest fresh (outcome.Prints line) e = tt
+
+pair_born : (a b : Term) (pairs : List (Term × Term)) (met : List (Node × Node)) (rest : Stack) (fresh : List Name) (bind : Option Equation) (c : Case) → BornFrom fresh (pair_effect a b pairs met rest fresh bind c).born
+pair_born a b pairs met rest fresh bind Dropped = tt
+pair_born a b pairs met rest fresh bind Binds = tt
+pair_born a b pairs met rest fresh bind (Opened m n fields) = tt
+pair_born a b pairs met rest fresh bind Failed = fails_born fresh FailureTell rest (vars_among fresh)
+
+stack_born : (p : List Stmt) (s : Store) (fresh : List Name) (bind : Option Equation) (stack : Stack) → map kind_of fresh ≡ kinds_of (stack_need p s stack) → BornFrom fresh (stack_effect p s fresh bind stack).born
+stack_born p s fresh bind [] e = tt
+stack_born p s fresh bind (item.Run code env ∷ rest) e = outcome_born p env rest fresh (outcome_of p s code env (stmt_at p code)) e
+stack_born p s fresh bind (item.Mark code at env ∷ rest) e = tt
+stack_born p s fresh bind (item.Report x ∷ rest) e = outcome_born p [] rest fresh (prints (codes "uncaught ") (shown s x)) e
+stack_born p s fresh bind (item.Goals b ∷ rest) e = go b.pairs
+  where
+    go : (pairs : List (Term × Term)) → BornFrom fresh (goal_effect s b.met rest fresh bind pairs).born
+    go [] = tt
+    go ((x, y) ∷ pairs) = pair_born x y pairs b.met rest fresh bind (case_of s b.met x y)
+
+-- ---- a step
+
+thread_names : (ts : List (ThreadName × Stack)) (n : ThreadName) → Each (EachOfThread (λ y. y ≢ name.Thread n)) ts → Each (λ m. n ≢ m) (keys same_thread same_thread_decides ts)
+thread_names [] n h = tt
+thread_names (t ∷ ts) n h = ((λ e. h.0.0 (ap name.Thread (sym e))), thread_names ts n h.1)
+
+cell_names : (cells : List (CellName × VarName)) (c : CellName) → Each (EachOfCell (λ y. y ≢ name.Cell c)) cells → Each (λ d. c ≢ d) (keys equal_cell equal_cell_decides cells)
+cell_names [] c h = tt
+cell_names (d ∷ cells) c h = ((λ e. h.0.0 (ap name.Cell (sym e))), cell_names cells c h.1)
+
+-- threads that are named once, and one more with a fresh name
+born_distinct : (p : List Stmt) (s : State) (fresh : List Name) (b : Option Birth) (ts : List (ThreadName × Stack)) → BornFrom fresh b → Each (IsNew s) fresh →
+    ((n : ThreadName) → IsNew s (name.Thread n) → Each (λ m. n ≢ m) (keys same_thread same_thread_decides ts)) → AreDistinct (keys same_thread same_thread_decides ts) →
+    AreDistinct (keys same_thread same_thread_decides (threads_born p b ++ ts))
+born_distinct p s fresh None ts from new apart h = h
+born_distinct p s fresh (Some b) ts from new apart h =
+    (apart b.name (subst (λ (f : List Name). Each (IsNew s) f) from.1 new).0, h)
+
+born_items : (p : List Stmt) (b : Option Birth) (ts : List (ThreadName × Stack)) → Each (λ (t : ThreadName × Stack). t.1 ≢ []) ts → Each (λ (t : ThreadName × Stack). t.1 ≢ []) (threads_born p b ++ ts)
+born_items p None ts h = h
+born_items p (Some b) ts h = ((λ e. cc), h)
+
+living_items : (ts : List (ThreadName × Stack)) (n : ThreadName) (stack : Stack) → Each (λ (t : ThreadName × Stack). t.1 ≢ []) ts → Each (λ (t : ThreadName × Stack). t.1 ≢ []) (goes_on same_thread ts n (living stack))
+living_items ts n [] h = without_values same_thread same_thread_decides (λ t. t.1 ≢ []) ts n h
+living_items ts n (i ∷ is) h = with_values same_thread same_thread_decides (λ t. t.1 ≢ []) ts n (i ∷ is) (λ e. cc) h
+
+cells_distinct : (s : State) (change : CellChange) → ((cell : CellName) (x : VarName) → change ≡ Made cell x → IsNew s (name.Cell cell)) → AreDistinct (keys equal_cell equal_cell_decides s.cells) → AreDistinct (keys equal_cell equal_cell_decides (cells_after s.cells change))
+cells_distinct s Stays new h = h
+cells_distinct s (Made cell x) new h = (cell_names s.cells cell (new cell x refl).1, h)
+cells_distinct s (Exchanged cell content told) new h = with_distinct equal_cell equal_cell_decides s.cells cell content h
+
+once_step : (p : List Stmt) (s : State) (k : Pick) → IsAllowed p s k → AreOnce s → AreOnce (next p s k)
+once_step p s k a h =
+    let e = effect_of p s k in
+    let stack = settled s.cells e.cell e.stack in
+    record {
+      threads =
+          born_distinct p s k.fresh e.born (goes_on same_thread s.threads k.thread (living stack))
+          (stack_born p s.equations k.fresh k.bind (stack_of s k.thread) a.fresh.of_kinds) a.fresh.unused
+          (λ n new. goes_keys same_thread same_thread_decides (λ m. n ≢ m) s.threads k.thread (living stack) (thread_names s.threads n new.2))
+          (goes_distinct same_thread same_thread_decides s.threads k.thread (living stack) h.threads);
+      stacks = born_items p e.born _ (living_items s.threads k.thread stack h.stacks);
+      cells = cells_distinct s e.cell (step_makes p s k (next p s k) (a, refl)) h.cells;
+    }
+
+once_run : (p : List Stmt) (s : State) (ks : List Pick) (t : State) → Runs p s ks t → AreOnce s → AreOnce t
+once_run p s [] t run h = subst AreOnce (sym run) h
+once_run p s (k ∷ ks) t (m, step, run) h = once_run p m ks t run (subst AreOnce (sym step.1) (once_step p s k step.0 h))
+
+pub runs_are_once : RunsAreOnce
+runs_are_once p ks s run = once_run p (start p) ks s run (record { threads = (tt, tt); stacks = ((λ e. cc), tt); cells = tt })

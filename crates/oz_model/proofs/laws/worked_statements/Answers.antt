@@ -1,0 +1,13 @@
+use Rattle.oz_model.proofs.ExamplesRun.{procedure_is_called, field_is_matched, handler_has_exception, content_is_exchanged, thread_is_made, overflow_is_raised, integer_is_no_truth}
+use Rattle.oz_model.proofs.laws.worked_statements.Goals as goal
+
+pub returns : goal.returns
+returns c = record {
+  procedure = procedure_is_called;
+  matched = field_is_matched;
+  handler = handler_has_exception;
+  exchange = content_is_exchanged;
+  thread = thread_is_made;
+  overflow = overflow_is_raised;
+  truth = integer_is_no_truth;
+}

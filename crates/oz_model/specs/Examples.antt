@@ -1,0 +1,132 @@
+-- Worked examples of the other statements: a procedure, a case, a handler, a cell, a thread, and exceptions of the system.
+use Rattle.std.specs.Prelude.{◌≡◌, pos, List, [], ◌∷◌, ◌++◌, Option, Some, None, codes}
+use Rattle.tree_node.specs.declared.names.CellName.{CellName}
+use Rattle.tree_node.specs.declared.names.ProcName.{ProcName}
+use Rattle.tree_node.specs.declared.names.ThreadName.{ThreadName}
+use Rattle.tree_node.specs.declared.names.Name.TheVariants as name
+use Rattle.tree_node.specs.declared.node.Feature.TheVariants as feature
+use Rattle.tree_node.specs.declared.node.Node.TheVariants as node
+use Rattle.tree_node.specs.declared.node.Term.TheVariants as term
+use Rattle.tree_node.specs.declared.pick.Pick.{Pick}
+use Rattle.tree_node.specs.Store.{Equation}
+use Rattle.tree_node.specs.Rows.{v, holds}
+use Rattle.kernel_syntax.specs.declared.stmt.Op.TheVariants.{Add}
+use Rattle.kernel_syntax.specs.declared.stmt.Pattern.TheVariants as pattern
+use Rattle.kernel_syntax.specs.declared.stmt.Stmt.{Stmt}
+use Rattle.kernel_syntax.specs.declared.stmt.Stmt.TheVariants.{Seq, Skip, Local, TellVar, TellInt, TellRec, TellProc, Calc, If, Case, Call, Browse, NewCell, Exchange, Thread, Try, Raise}
+use Rattle.oz_model.specs.Run.{exchanges, contents_given}
+use Rattle.oz_model.specs.Rows.{code, new, pick, plain, RunsTo}
+
+-- a tell, the bind of its pair, the pair that is then equal, and the end of its goal block
+abbrev pub told : Equation → List Pick
+told e = plain ∷ pick [] (Some e) ∷ plain ∷ plain ∷ []
+
+abbrev pub first_proc : ProcName
+first_proc = record { site = 1; num = 0 }
+
+abbrev pub first_cell : CellName
+first_cell = record { site = 1; num = 0 }
+
+abbrev pub second_thread : ThreadName
+second_thread = record { site = 1; num = 1 }
+
+-- local P X Z in proc {P Y} Y = Z end {P X} Z = 7 {Browse X} end
+abbrev pub calls : List Stmt
+calls =
+    Local 0 3 (code 1) ∷ Seq (code 2 ∷ code 4 ∷ code 5 ∷ code 6 ∷ []) ∷ TellProc 0 3 1 (code 3) ∷ TellVar 3 2
+    ∷ Call 0 (1 ∷ []) ∷ TellInt 2 (pos 7) ∷ Browse 1 ∷ []
+
+-- the procedure holds Z's variable, and X's stands for its formal Y
+abbrev pub call_picks : List Pick
+call_picks =
+    pick (new 0 ∷ new 1 ∷ new 2 ∷ []) None ∷ plain
+    ∷ pick (name.Proc first_proc ∷ []) None ∷ pick [] (Some (holds 0 (node.Proc first_proc (code 2) 1 (v 2 ∷ [])))) ∷ plain ∷ plain
+    ∷ plain ∷ told (v 1, term.Var (v 2)) ++ told (holds 2 (node.Int (pos 7))) ++ plain ∷ []
+
+abbrev pub ProcedureIsCalled : Type 0
+ProcedureIsCalled = RunsTo calls call_picks (codes "7" ∷ []) 1 0
+
+-- local X H in X = f(H) H = 3 case X of f(Y) then {Browse Y} else skip end end
+abbrev pub matches : List Stmt
+matches =
+    Local 0 2 (code 1) ∷ Seq (code 2 ∷ code 3 ∷ code 4 ∷ []) ∷ TellRec 0 (codes "f") ((feature.Int (pos 1), 1) ∷ [])
+    ∷ TellInt 1 (pos 3) ∷ Case 0 (pattern.Rec (codes "f") (feature.Int (pos 1) ∷ [])) 2 (code 5) (code 6) ∷ Browse 2 ∷ Skip ∷ []
+
+abbrev pub case_picks : List Pick
+case_picks =
+    pick (new 0 ∷ new 1 ∷ []) None ∷ plain ∷ told (holds 0 (node.Rec (codes "f") ((feature.Int (pos 1), v 1) ∷ [])))
+    ++ told (holds 1 (node.Int (pos 3))) ++ plain ∷ plain ∷ []
+
+abbrev pub FieldIsMatched : Type 0
+FieldIsMatched = RunsTo matches case_picks (codes "3" ∷ []) 1 0
+
+-- local X in X = 5 try raise X end catch Y then {Browse Y} end end
+abbrev pub catches : List Stmt
+catches =
+    Local 0 1 (code 1) ∷ Seq (code 2 ∷ code 3 ∷ []) ∷ TellInt 0 (pos 5) ∷ Try (code 4) 1 (code 5) ∷ Raise 0 ∷ Browse 1 ∷ []
+
+abbrev pub catch_picks : List Pick
+catch_picks = pick (new 0 ∷ []) None ∷ plain ∷ told (holds 0 (node.Int (pos 5))) ++ plain ∷ plain ∷ plain ∷ []
+
+abbrev pub HandlerHasException : Type 0
+HandlerHasException = RunsTo catches catch_picks (codes "5" ∷ []) 1 0
+
+-- local C A B X in A = 1 {NewCell A C} {Exchange C X B} {Browse X} end
+abbrev pub exchanges_once : List Stmt
+exchanges_once =
+    Local 0 4 (code 1) ∷ Seq (code 2 ∷ code 3 ∷ code 4 ∷ code 5 ∷ []) ∷ TellInt 1 (pos 1) ∷ NewCell 1 0 ∷ Exchange 0 3 2
+    ∷ Browse 3 ∷ []
+
+abbrev pub exchange_picks : List Pick
+exchange_picks =
+    pick (new 0 ∷ new 1 ∷ new 2 ∷ new 3 ∷ []) None ∷ plain ∷ told (holds 1 (node.Int (pos 1)))
+    ++ pick (name.Cell first_cell ∷ []) None ∷ pick [] (Some (holds 0 (node.Cell first_cell))) ∷ plain ∷ plain
+    ∷ told (v 3, term.Var (v 1)) ++ plain ∷ []
+
+-- the old content is A's variable and goes to X, and the new one is B's
+pub record ContentIsExchanged : Type 0 where
+  pub runs : RunsTo exchanges_once exchange_picks (codes "1" ∷ []) 1 0
+  pub given : contents_given exchanges_once exchange_picks first_cell ≡ v 1 ∷ []
+  pub pairs : exchanges exchanges_once exchange_picks first_cell ≡ (v 1, v 2) ∷ []
+
+-- local X in thread X = 1 end {Browse X} end
+abbrev pub spawns : List Stmt
+spawns = Local 0 1 (code 1) ∷ Seq (code 2 ∷ code 4 ∷ []) ∷ Thread None (code 3) ∷ TellInt 0 (pos 1) ∷ Browse 0 ∷ []
+
+-- the other thread goes
+abbrev pub other : Option Equation → Pick
+other bind = record { thread = second_thread; fresh = []; bind = bind }
+
+-- the new thread tells X and ends, then the first goes on
+abbrev pub thread_picks : List Pick
+thread_picks =
+    pick (new 0 ∷ []) None ∷ plain ∷ pick (name.Thread second_thread ∷ []) None ∷ other None
+    ∷ other (Some (holds 0 (node.Int (pos 1)))) ∷ other None ∷ other None ∷ plain ∷ []
+
+abbrev pub ThreadIsMade : Type 0
+ThreadIsMade = RunsTo spawns thread_picks (codes "1" ∷ []) 2 0
+
+-- local X Y Z in X = 9223372036854775807 Y = 1 Z = X + Y end
+abbrev pub adds : List Stmt
+adds =
+    Local 0 3 (code 1) ∷ Seq (code 2 ∷ code 3 ∷ code 4 ∷ []) ∷ TellInt 0 (pos 9223372036854775807) ∷ TellInt 1 (pos 1)
+    ∷ Calc 2 Add 0 1 ∷ []
+
+abbrev pub overflow_picks : List Pick
+overflow_picks =
+    pick (new 0 ∷ new 1 ∷ new 2 ∷ []) None ∷ plain ∷ told (holds 0 (node.Int (pos 9223372036854775807)))
+    ++ told (holds 1 (node.Int (pos 1))) ++ pick (new 3 ∷ new 4 ∷ []) None ∷ plain ∷ []
+
+abbrev pub OverflowIsRaised : Type 0
+OverflowIsRaised = RunsTo adds overflow_picks (codes "uncaught error(overflow)" ∷ []) 1 0
+
+-- local X in X = 1 if X then skip else skip end end
+abbrev pub tests_integer : List Stmt
+tests_integer = Local 0 1 (code 1) ∷ Seq (code 2 ∷ code 3 ∷ []) ∷ TellInt 0 (pos 1) ∷ If 0 (code 4) (code 5) ∷ Skip ∷ Skip ∷ []
+
+abbrev pub integer_test_picks : List Pick
+integer_test_picks =
+    pick (new 0 ∷ []) None ∷ plain ∷ told (holds 0 (node.Int (pos 1))) ++ pick (new 1 ∷ new 2 ∷ []) None ∷ plain ∷ []
+
+abbrev pub IntegerIsNoTruth : Type 0
+IntegerIsNoTruth = RunsTo tests_integer integer_test_picks (codes "uncaught error(type)" ∷ []) 1 0

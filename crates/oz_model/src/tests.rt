@@ -1,0 +1,50 @@
+// The first state of a program, and which names occur in it.
+
+ghost use Rattle.std.specs.Prelude.{◌≡◌, ◌∷◌, [], IfOk};
+ghost use Rattle.kernel_syntax.specs.Program.{IsProgram};
+
+use crate::{is_name_of, output, start};
+use kernel_syntax::{Program, Stmt};
+use std::alloc::{AllocError, Global};
+use std::test::Fail;
+use tree_node::{CellName, Line, Name, ThreadName, VarName};
+
+// skip
+fn skips(alloc: Global) -> Result<Vec<Stmt>, AllocError>
+    ensures { IfOk result (λ v. IsProgram v.items) }
+{
+    let stmts = vec![in alloc; Stmt::Skip]?;
+    Ok(stmts)
+}
+
+#[test]
+fn a_first_state_has_the_name_of_its_thread_alone(rt: HostRuntime) -> Result<(), Fail> {
+    let program = Program::from_vec(rt.alloc(), skips(rt.alloc())?)?;
+    let state = start(rt.alloc(), &program)?;
+    let rows: [(Name, bool); 4] = [
+        (Name::Thread(ThreadName { site: 1, num: 0 }), true),
+        (Name::Thread(ThreadName { site: 1, num: 1 }), false),
+        (Name::Var(VarName { site: 1, num: 0 }), false),
+        (Name::Cell(CellName { site: 1, num: 0 }), false),
+    ];
+    for (name, occurs) in rows.iter() {
+        assert_eq!(rt; is_name_of(&state, name), *occurs);
+    }
+    assert_eq!(rt; state.ended, 0);
+    assert!(rt; state.lines.as_slice().is_empty());
+    Ok(())
+}
+
+#[test]
+fn the_lines_come_before_the_end_line(rt: HostRuntime) -> Result<(), Fail> {
+    let lines = vec![in rt.alloc();
+        Line::from_vec(Vec::from_slice(rt.alloc(), b"1")?)?,
+        Line::from_vec(Vec::from_slice(rt.alloc(), b"f(a)")?)?,
+    ]?;
+    let bytes = output(rt.alloc(), lines.as_slice(), b"quiescent ended=1 waiting=0")?;
+    assert_eq!(rt;
+        bytes.as_slice(),
+        b"1\nf(a)\nquiescent ended=1 waiting=0\n".as_slice()
+    );
+    Ok(())
+}

@@ -1,0 +1,35 @@
+-- What parsing a text answers.
+use Rattle.std.specs.Prelude.{◌≡◌, ℕ, List, Result, Ok, Err}
+use Rattle.kernel_syntax.specs.declared.stmt.Stmt.{Stmt}
+use Rattle.oz_grammar.specs.declared.fault.TextFault.{TextFault}
+use Rattle.oz_grammar.specs.Reads.{Reads, FaultOf}
+use Rattle.oz_parser.specs.declared.error.ParseError.{ParseError}
+use Rattle.oz_parser.specs.declared.error.ParseError.TheVariants as errors
+
+-- the error is the text's first fault, unless memory ran out
+abbrev pub Answers : List ℕ → ParseError → Type 0
+Answers text errors.Memory = Unit {0}
+Answers text (errors.Text f) = FaultOf text f
+
+-- the answer is the text's program or its first fault, unless memory ran out
+abbrev pub Parses : List ℕ → Result (List Stmt) ParseError → Type 0
+Parses text (Ok p) = Reads text p
+Parses text (Err e) = Answers text e
+
+-- the answer is this program, unless memory ran out
+abbrev pub GivesProgram : Result (List Stmt) ParseError → List Stmt → Type 0
+GivesProgram (Ok q) p = q ≡ p
+GivesProgram (Err errors.Memory) p = Unit {0}
+GivesProgram (Err (errors.Text f)) p = ⊥
+
+-- the answer is this fault, unless memory ran out
+abbrev pub GivesFault : Result (List Stmt) ParseError → TextFault → Type 0
+GivesFault (Ok q) f = ⊥
+GivesFault (Err errors.Memory) f = Unit {0}
+GivesFault (Err (errors.Text g)) f = g ≡ f
+
+-- what holds of the fault, where one is answered
+abbrev pub IfFault : Result (List Stmt) ParseError → (TextFault → Type 0) → Type 0
+IfFault (Ok q) P = Unit {0}
+IfFault (Err errors.Memory) P = Unit {0}
+IfFault (Err (errors.Text f)) P = P f

@@ -1,0 +1,80 @@
+//! Integers as they are spelled.
+
+ghost use Rattle.std.specs.Prelude.{◌≡◌, ◌≤◌, nat_le, if◌then◌else◌, Some, None};
+ghost use Rattle.oz_lexer.specs.Spelling.{digits_of};
+ghost use Rattle.oz_grammar.specs.Symbols.{number_of, is_plain, negative, signed, integer_of};
+
+/// The number that digits name, at most 2^63.
+#[tactic(auto, using(crate::proofs::Numbers::too_large))]
+fn magnitude(digits: &[u8]) -> Option<u64>
+    ensures { result ≡ (if nat_le (number_of digits.now) 9223372036854775808 then Some (number_of digits.now) else None) }
+{
+    let mut value: u64 = 0;
+    for digit in digits {
+        if value > 922337203685477580 {
+            return None;
+        }
+        value = value * 10 + u64::from(digit.saturating_sub(b'0'));
+    }
+    if value <= 9223372036854775808 {
+        Some(value)
+    } else {
+        None
+    }
+}
+
+fn is_plain(digits: &[u8]) -> bool
+    ensures { result ≡ is_plain digits.now }
+{
+    match digits {
+        [b'0', _, ..] => false,
+        _ => true,
+    }
+}
+
+fn negative(value: u64) -> i64
+    requires { value ≤ 9223372036854775808 }
+    ensures { result ≡ negative value }
+{
+    if value == 0 {
+        0
+    } else {
+        -1 - ((value - 1) as i64)
+    }
+}
+
+fn signed(is_negative: bool, digits: &[u8]) -> Option<i64>
+    ensures { result ≡ signed is_negative (number_of digits.now) }
+{
+    let value = magnitude(digits)?;
+    if is_negative {
+        Some(negative(value))
+    } else if value < 9223372036854775808 {
+        Some(value as i64)
+    } else {
+        None
+    }
+}
+
+/// The integer that is spelled so.
+#[tactic(auto, unfolding(oz_grammar::specs::Symbols::integer_of))]
+pub fn integer_of(text: &[u8]) -> Option<i64>
+    ensures { result ≡ integer_of text.now }
+{
+    let digits = digits_of(text);
+    if is_plain(digits) {
+        signed(digits.len() < text.len(), digits)
+    } else {
+        None
+    }
+}
+
+/// An integer's digits, without the sign before them.
+fn digits_of(text: &[u8]) -> &[u8]
+    ensures { result.now ≡ digits_of text.now }
+{
+    match text {
+        [b'~', digits @ ..] => digits,
+        _ => text,
+    }
+}

@@ -1,0 +1,125 @@
+//! Programs from their texts.
+
+ghost use Rattle.std.specs.Prelude.{◌≡◌, ◌+◌, ◌-◌, ◌<◌, ◌≤◌, ◌^◌, List, true, length, take, slice_index, IfOk};
+ghost use Rattle.tree_node.specs.Each.{Each};
+ghost use Rattle.kernel_syntax.specs.declared.stmt.Stmt.{Stmt};
+ghost use Rattle.kernel_syntax.specs.Program.{IsProgram};
+ghost use Rattle.oz_lexer.specs.Place.{place_of};
+ghost use Rattle.oz_grammar.specs.declared.fault.TextFault.{TextFault};
+ghost use Rattle.oz_grammar.specs.Symbols.{ends_once};
+ghost use Rattle.oz_grammar.specs.Reading.{program_at};
+ghost use Rattle.oz_grammar.specs.Reads.{Reads, FaultOf};
+ghost use Rattle.oz_parser.specs.Gives.{Gives, Fails};
+ghost use Rattle.oz_parser.specs.Tokens.{AreSymbols};
+ghost use Rattle.oz_parser.specs.Parses.{Answers, Parses, GivesProgram, GivesFault, IfFault};
+
+use crate::error::ParseError;
+use crate::fault::Refusal;
+use crate::lexing::symbols_of;
+use crate::reader::sequence;
+use crate::scope::Scope;
+use crate::table::shift_rows;
+use kernel_syntax::{Program, Stmt};
+use oz_grammar::{Closer, Fault, Symbol, TextFault, What};
+use oz_lexer::line_and_column;
+use std::alloc::Global;
+
+/// The rows of the program that these symbols are.
+#[tactic(auto, unfolding(oz_grammar::specs::Reading::program_at))]
+fn table(alloc: Global, symbols: &[Symbol]) -> Result<Vec<Stmt>, Refusal>
+    requires few { length symbols.now < 2 ^ 29 }
+    requires ends { ends_once symbols.now ≡ true }
+    ensures { Gives (λ v. v.items) result (program_at symbols.now) }
+{
+    let mut rows = Vec::new(alloc);
+    let mut scope = Scope::new(alloc);
+    let _rest = sequence(
+        alloc,
+        &mut rows,
+        &mut scope,
+        200,
+        Closer::EndOfText,
+        What::Statement,
+        symbols,
+    )?;
+    Ok(shift_rows(alloc, rows)?)
+}
+
+/// A fault with its line and column, where so many symbols are left.
+#[tactic(auto, using(crate::proofs::TokenLists::each_within))]
+fn placed(text: &str, starts: &[usize], fault: Fault) -> TextFault
+    requires some { 0 < fault.left }
+    requires left { fault.left ≤ length starts.now }
+    requires within { Each (λ s. s ≤ length text.now) starts.now }
+    ensures kind { result.kind ≡ fault.kind }
+    ensures place { (result.line, result.column) ≡ place_of (take (slice_index starts.now (length starts.now - fault.left)) text.now) }
+{
+    let at = starts[starts.len() - fault.left];
+    let (line, column) = line_and_column(text, at);
+    TextFault {
+        kind: fault.kind,
+        line,
+        column,
+    }
+}
+
+fn made(alloc: Global, rows: Vec<Stmt>) -> Result<Program, ParseError>
+    requires { IsProgram rows.items }
+    ensures { GivesProgram result rows.items }
+{
+    match Program::from_vec(alloc, rows) {
+        Ok(program) => Ok(program),
+        Err(_) => Err(ParseError::Memory),
+    }
+}
+
+/// The fault of a text where reading its symbols was refused.
+fn refusal_of(text: &str, symbols: &[Symbol], starts: &[usize], refusal: Refusal) -> ParseError
+    requires symbols { AreSymbols text.now symbols.now starts.now }
+    requires fails { Fails refusal (program_at symbols.now) }
+    ensures { Answers text.now result }
+{
+    match refusal {
+        Refusal::Memory => ParseError::Memory,
+        Refusal::Fault(fault) => ParseError::Text(placed(text, starts, fault)),
+    }
+}
+
+/// The program of a text's symbols, or the text's first fault.
+fn program(
+    alloc: Global,
+    text: &str,
+    symbols: &[Symbol],
+    starts: &[usize],
+) -> Result<Program, ParseError>
+    requires few { length symbols.now < 2 ^ 29 }
+    requires symbols { AreSymbols text.now symbols.now starts.now }
+    ensures { Parses text.now result }
+{
+    match table(alloc, symbols) {
+        Ok(rows) => made(alloc, rows),
+        Err(refusal) => Err(refusal_of(text, symbols, starts, refusal)),
+    }
+}
+
+fn parsed(alloc: Global, text: &str) -> Result<Program, ParseError>
+    requires { length text.now < 2 ^ 28 }
+    ensures { Parses text.now result }
+{
+    match symbols_of(alloc, text) {
+        Ok((symbols, starts)) => program(alloc, text, symbols.as_slice(), starts.as_slice()),
+        Err(_) => Err(ParseError::Memory),
+    }
+}
+
+/// The program of a kernel text (CTM section 2.3), or the text's first fault: where several stand at one token, the first of
+/// `FaultKind`'s list, and those at earlier tokens first. Time and memory grow with the text.
+pub fn parse(alloc: Global, text: &str) -> Result<Program, ParseError>
+    requires { length text.now < 2 ^ 28 }
+    ensures read { IfOk result (λ p. Reads text.now p) }
+    ensures refused { IfFault result (λ f. FaultOf text.now f) }
+    ensures program { (p : List Stmt) → Reads text.now p → GivesProgram result p }
+    ensures fault { (f : TextFault) → FaultOf text.now f → GivesFault result f }
+{
+    parsed(alloc, text)
+}

@@ -1,0 +1,607 @@
+//! The examples of the repository, as `examples/check --table` prints them.
+
+// A text, what it prints and its status' number.
+pub static EXAMPLES: [(&str, &str, u8); 22] = [
+    (
+        "% Lists are records with a head and a tail; nil is an atom. Append goes through the first list and shares the second.
+local Append A B C Nil L1 L2 L3 M in
+  proc {Append Xs Ys ?Zs}
+    case Xs of X|Xr then
+      local Zr in
+        Zs = X|Zr
+        {Append Xr Ys Zr}
+      end
+    else Zs = Ys end
+  end
+  A = a  B = b  C = c  Nil = nil
+  local T in T = B|Nil L1 = A|T end
+  L2 = C|Nil
+  {Append L1 L2 L3}
+  {Browse L3}
+  M = L1|L2
+  {Browse M}
+end
+",
+        "a|b|c|nil\n(a|b|nil)|c|nil\nquiescent ended=1 waiting=0\n",
+        0,
+    ),
+    (
+        "% A bounded buffer: the consumer's questions and the producer's answers are two streams, and the buffer asks at most three
+% elements ahead of the consumer.
+local Produce Buffer Start Serve Take Zero One Three Six Questions Answers Taken in
+  Zero = 0  One = 1  Three = 3  Six = 6
+  % answers each question with the next number
+  proc {Produce N Xs}
+    case Xs of X|Xr then
+      local Next in
+        X = N
+        Next = N + One
+        {Produce Next Xr}
+      end
+    else skip end
+  end
+  % asks N elements ahead; End is what is to be asked next
+  proc {Start N Xs ?End}
+    local Ends in
+      Ends = N =< Zero
+      if Ends then End = Xs
+      else
+        local X Xr Less in
+          Xs = X|Xr
+          Less = N - One
+          {Start Less Xr End}
+        end
+      end
+    end
+  end
+  % each element that the consumer takes lets one more be asked
+  proc {Serve Ys Xs End}
+    case Ys of Y|Yr then
+      local Xr More X in
+        Xs = Y|Xr
+        End = X|More
+        {Serve Yr Xr More}
+      end
+    else End = nil end
+  end
+  proc {Buffer N Xs Ys}
+    local End in
+      {Start N Xs End}
+      {Serve Ys Xs End}
+    end
+  end
+  % takes N elements and then closes the buffer
+  proc {Take N Ys ?Taken}
+    local Ends in
+      Ends = N =< Zero
+      if Ends then Ys = nil Taken = nil
+      else
+        local Y Yr Less Tr in
+          Ys = Y|Yr
+          Less = N - One
+          Taken = Y|Tr
+          {Take Less Yr Tr}
+        end
+      end
+    end
+  end
+  thread {Produce Zero Questions} end
+  thread {Buffer Three Questions Answers} end
+  {Take Six Answers Taken}
+  {Browse Taken}
+end
+",
+        "0|1|2|3|4|5|nil\nquiescent ended=3 waiting=0\n",
+        0,
+    ),
+    (
+        "% An exception goes to the nearest handler. What was bound before it stays bound.
+local Divide A B Zero Q in
+  A = 7
+  B = 2
+  Zero = 0
+  proc {Divide X Y ?R}
+    try R = X div Y
+    catch E then {Browse E} R = none end
+  end
+  {Divide A B Q}
+  {Browse Q}
+  local R in
+    {Divide A Zero R}
+    {Browse R}
+  end
+end
+",
+        "3\nerror(zero)\nnone\nquiescent ended=1 waiting=0\n",
+        0,
+    ),
+    (
+        "% State that only its procedures can reach: a counter is a record of two procedures round one cell.
+local MakeCounter Zero One A B in
+  Zero = 0  One = 1
+  proc {MakeCounter ?Counter}
+    local C Increment Get in
+      {NewCell Zero C}
+      proc {Increment}
+        local Old New in
+          {Exchange C Old New}
+          New = Old + One
+        end
+      end
+      proc {Get ?X} {Exchange C X X} end
+      Counter = counter(get:Get increment:Increment)
+    end
+  end
+  {MakeCounter A}
+  {MakeCounter B}
+  local Increment Get X Y in
+    Increment = A.increment
+    Get = A.get
+    {Increment}
+    {Increment}
+    {Get X}
+    {Browse X}
+    local Other in
+      Other = B.get
+      {Other Y}
+      {Browse Y}
+    end
+  end
+end
+",
+        "2\n0\nquiescent ended=1 waiting=0\n",
+        0,
+    ),
+    (
+        "% Values may be cyclic. Two rings of different length are the same infinite tree, so that they can be made equal; what is
+% shown is cut at level 20.
+local X Y Z in
+  X = f(X)
+  Y = f(Z)
+  Z = f(Y)
+  X = Y
+  {Browse X}
+end
+",
+        "f(f(f(f(f(f(f(f(f(f(f(f(f(f(f(f(f(f(f(f(,,,))))))))))))))))))))\nquiescent ended=1 waiting=0\n",
+        0,
+    ),
+    (
+        "% Integers have 64 bits: twenty is the last number whose factorial fits, and one more raises an exception.
+local Factorial Zero One Twenty More F in
+  Zero = 0  One = 1  Twenty = 20
+  proc {Factorial N ?F}
+    local Ends in
+      Ends = N =< Zero
+      if Ends then F = 1
+      else
+        local Less G in
+          Less = N - One
+          {Factorial Less G}
+          F = N * G
+        end
+      end
+    end
+  end
+  {Factorial Twenty F}
+  {Browse F}
+  try
+    local N G in
+      N = Twenty + One
+      {Factorial N G}
+    end
+  catch E then {Browse E} end
+end
+",
+        "2432902008176640000\nerror(overflow)\nquiescent ended=1 waiting=0\n",
+        0,
+    ),
+    (
+        "% Two values that are not equal: the tell fails, nothing catches the exception, and the thread ends.
+local X in
+  X = 1
+  {Browse X}
+  X = 2
+  {Browse X}
+end
+",
+        "1\nuncaught failure(tell)\nquiescent ended=1 waiting=0\n",
+        0,
+    ),
+    (
+        "% A variable is bound once, and shown.
+local X in
+  X = 5
+  {Browse X}
+end
+",
+        "5\nquiescent ended=1 waiting=0\n",
+        0,
+    ),
+    (
+        "% A loop with an accumulator, made from a procedure that is handed in: the sum and the product of a list.
+local Fold Add Multiply A B C Zero One Nil Xs S P in
+  proc {Fold Xs F State ?End}
+    case Xs of X|Xr then
+      local Next in
+        {F State X Next}
+        {Fold Xr F Next End}
+      end
+    else End = State end
+  end
+  proc {Add X Y ?Z} Z = X + Y end
+  proc {Multiply X Y ?Z} Z = X * Y end
+  A = 3  B = 4  C = 5  Zero = 0  One = 1  Nil = nil
+  local T U in
+    U = C|Nil
+    T = B|U
+    Xs = A|T
+  end
+  {Fold Xs Add Zero S}
+  {Fold Xs Multiply One P}
+  {Browse S}
+  {Browse P}
+end
+",
+        "12\n60\nquiescent ended=1 waiting=0\n",
+        0,
+    ),
+    (
+        "% Logic gates are threads over streams of bits: a half adder of two gates gives the sum and the carry of each pair.
+local Gate And Xor Two Zero One Nil A B Sum Carry in
+  Two = 2  Zero = 0  One = 1  Nil = nil
+  proc {Gate F Xs Ys ?Zs}
+    case Xs of X|Xr then
+      case Ys of Y|Yr then
+        local Z Zr in
+          Zs = Z|Zr
+          {F X Y Z}
+          {Gate F Xr Yr Zr}
+        end
+      else Zs = nil end
+    else Zs = nil end
+  end
+  proc {And X Y ?Z} Z = X * Y end
+  proc {Xor X Y ?Z}
+    local S in
+      S = X + Y
+      Z = S mod Two
+    end
+  end
+  thread {Gate Xor A B Sum} end
+  thread {Gate And A B Carry} end
+  % the bits come one by one
+  local A1 A2 A3 B1 B2 B3 in
+    A = Zero|A1  B = Zero|B1
+    A1 = One|A2  B1 = Zero|B2
+    A2 = Zero|A3  B2 = One|B3
+    A3 = One|Nil  B3 = One|Nil
+  end
+  {Browse Sum}
+  {Browse Carry}
+end
+",
+        "0|1|1|0|nil\n0|0|0|1|nil\nquiescent ended=3 waiting=0\n",
+        0,
+    ),
+    (
+        "% Many senders and one receiver: a cell holds the end of a stream, and each sender exchanges it for a new end.
+local NewMailbox Send Receive Mailbox Stream Zero One Three Nil Total in
+  Zero = 0  One = 1  Three = 3  Nil = nil
+  proc {NewMailbox Stream ?Mailbox} {NewCell Stream Mailbox} end
+  proc {Send Mailbox Message}
+    local End New in
+      {Exchange Mailbox End New}
+      End = Message|New
+    end
+  end
+  % sums so many messages
+  proc {Receive N Xs State ?Total}
+    local Ends in
+      Ends = N =< Zero
+      if Ends then Total = State
+      else
+        case Xs of X|Xr then
+          local Less Next in
+            Less = N - One
+            Next = State + X
+            {Receive Less Xr Next Total}
+          end
+        else skip end
+      end
+    end
+  end
+  {NewMailbox Stream Mailbox}
+  thread local M in M = 1 {Send Mailbox M} end end
+  thread local M in M = 20 {Send Mailbox M} end end
+  thread local M in M = 300 {Send Mailbox M} end end
+  {Receive Three Stream Zero Total}
+  {Browse Total}
+end
+",
+        "321\nquiescent ended=4 waiting=0\n",
+        0,
+    ),
+    (
+        "% A procedure is a value: Map takes one and calls it for each element of a list.
+local Map Square Double Count One Five L M N in
+  One = 1
+  Five = 5
+  proc {Map Xs F ?Ys}
+    case Xs of X|Xr then
+      local Y Yr in
+        Ys = Y|Yr
+        {F X Y}
+        {Map Xr F Yr}
+      end
+    else Ys = nil end
+  end
+  proc {Square X ?Y} Y = X * X end
+  proc {Double X ?Y} Y = X + X end
+  proc {Count From To ?Xs}
+    local Ends in
+      Ends = From > To
+      if Ends then Xs = nil
+      else
+        local Next Xr in
+          Xs = From|Xr
+          Next = From + One
+          {Count Next To Xr}
+        end
+      end
+    end
+  end
+  {Count One Five L}
+  {Map L Square M}
+  {Map M Double N}
+  {Browse L}
+  {Browse M}
+  {Browse N}
+end
+",
+        "1|2|3|4|5|nil\n1|4|9|16|25|nil\n2|8|18|32|50|nil\nquiescent ended=1 waiting=0\n",
+        0,
+    ),
+    (
+        "% Refused: the text ends before the procedure does.
+local Twice in
+  proc {Twice X ?Y}
+    Y = X + X
+",
+        "refused 5:1 expected a statement or end\n",
+        3,
+    ),
+    (
+        "% Binding is independent of order: Left and Right are the same before anybody knows what they are.
+local Left Right Same in
+  Left = Same
+  Right = Same
+  Same = done
+  {Browse Left}
+  {Browse Right}
+end
+",
+        "done\ndone\nquiescent ended=1 waiting=0\n",
+        0,
+    ),
+    (
+        "% Reversing a list with an accumulator. The last call leaves nothing on the stack.
+local Reverse A B C Nil Xs Ys in
+  proc {Reverse Xs Done ?Ys}
+    case Xs of X|Xr then
+      local More in
+        More = X|Done
+        {Reverse Xr More Ys}
+      end
+    else Ys = Done end
+  end
+  A = a  B = b  C = c  Nil = nil
+  local T U in
+    U = C|Nil
+    T = B|U
+    Xs = A|T
+  end
+  {Reverse Xs Nil Ys}
+  {Browse Ys}
+end
+",
+        "c|b|a|nil\nquiescent ended=1 waiting=0\n",
+        0,
+    ),
+    (
+        "% The sieve of Eratosthenes as a pipeline of threads: each prime adds a thread that drops its multiples from the stream.
+local Generate Filter Sieve One Two Last Zero Xs Ps in
+  One = 1  Two = 2  Last = 50  Zero = 0
+  proc {Generate N ?Xs}
+    local Ends in
+      Ends = N > Last
+      if Ends then Xs = nil
+      else
+        local Next Xr in
+          Xs = N|Xr
+          Next = N + One
+          {Generate Next Xr}
+        end
+      end
+    end
+  end
+  proc {Filter Xs P ?Ys}
+    case Xs of X|Xr then
+      local Rest in
+        Rest = X mod P
+        case Rest of 0 then {Filter Xr P Ys}
+        else
+          local Yr in
+            Ys = X|Yr
+            {Filter Xr P Yr}
+          end
+        end
+      end
+    else Ys = nil end
+  end
+  proc {Sieve Xs ?Ys}
+    case Xs of X|Xr then
+      local Kept Yr in
+        Ys = X|Yr
+        thread {Filter Xr X Kept} end
+        {Sieve Kept Yr}
+      end
+    else Ys = nil end
+  end
+  thread {Generate Two Xs} end
+  thread {Sieve Xs Ps} end
+  {Browse Ps}
+end
+",
+        "2|3|5|7|11|13|17|19|23|29|31|37|41|43|47|nil\nquiescent ended=18 waiting=0\n",
+        0,
+    ),
+    (
+        "% A stack with state: a cell holds the list of what was pushed. Popping an empty stack raises an exception.
+local MakeStack A B S Push Pop X Y Z in
+  A = a  B = b
+  proc {MakeStack ?Stack}
+    local C Nil Push Pop in
+      Nil = nil
+      {NewCell Nil C}
+      proc {Push X}
+        local Old New in
+          {Exchange C Old New}
+          New = X|Old
+        end
+      end
+      proc {Pop ?X}
+        local Old New in
+          {Exchange C Old New}
+          case Old of H|T then X = H New = T
+          else
+            local Empty in
+              New = Old
+              Empty = empty
+              raise Empty end
+            end
+          end
+        end
+      end
+      Stack = stack(pop:Pop push:Push)
+    end
+  end
+  {MakeStack S}
+  Push = S.push
+  Pop = S.pop
+  {Push A}
+  {Push B}
+  {Pop X}
+  {Browse X}
+  {Pop Y}
+  {Browse Y}
+  try {Pop Z} catch E then {Browse E} end
+end
+",
+        "b\na\nempty\nquiescent ended=1 waiting=0\n",
+        0,
+    ),
+    (
+        "% A producer and a consumer share a stream: the consumer waits for each element by itself, and no lock is needed.
+local Produce Consume One Zero Ten Xs Sum in
+  One = 1  Zero = 0  Ten = 10
+  proc {Produce N Last ?Xs}
+    local Ends in
+      Ends = N > Last
+      if Ends then Xs = nil
+      else
+        local Next Xr in
+          Xs = N|Xr
+          Next = N + One
+          {Produce Next Last Xr}
+        end
+      end
+    end
+  end
+  proc {Consume Xs State ?Sum}
+    case Xs of X|Xr then
+      local Next in
+        Next = State + X
+        {Consume Xr Next Sum}
+      end
+    else Sum = State end
+  end
+  thread {Consume Xs Zero Sum} end
+  thread {Produce One Ten Xs} end
+  {Browse Sum}
+end
+",
+        "55\nquiescent ended=3 waiting=0\n",
+        0,
+    ),
+    (
+        "% A tree of records is built and summed; both go by recursion over the shape of the data.
+local Build Sum Zero One Four T S in
+  Zero = 0  One = 1  Four = 4
+  proc {Build Depth ?T}
+    local Ends in
+      Ends = Depth =< Zero
+      if Ends then T = leaf
+      else
+        local L R Less in
+          T = node(value:Depth left:L right:R)
+          Less = Depth - One
+          {Build Less L}
+          {Build Less R}
+        end
+      end
+    end
+  end
+  proc {Sum T ?S}
+    case T of node(left:L right:R value:V) then
+      local A B C in
+        {Sum L A}
+        {Sum R B}
+        C = A + B
+        S = C + V
+      end
+    else S = 0 end
+  end
+  {Build Four T}
+  {Sum T S}
+  {Browse S}
+end
+",
+        "26\nquiescent ended=1 waiting=0\n",
+        0,
+    ),
+    (
+        "% One thread goes wrong, and the others go on.
+local X Y in
+  thread X = 1 raise X end end
+  thread
+    local One in
+      One = 1
+      Y = X + One
+    end
+  end
+  {Browse Y}
+end
+",
+        "uncaught 1\n2\nquiescent ended=3 waiting=0\n",
+        0,
+    ),
+    (
+        "% Refused: nothing declares Y.
+local X in
+  X = f(Y)
+end
+",
+        "refused 3:9 undeclared\n",
+        3,
+    ),
+    (
+        "% A thread that waits for a variable that nobody binds waits for ever.
+local Nobody in
+  {Browse Nobody}
+end
+",
+        "quiescent ended=0 waiting=1\n",
+        1,
+    ),
+];

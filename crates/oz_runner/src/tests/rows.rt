@@ -1,0 +1,442 @@
+//! Words and texts, with what they print.
+
+// The words after the name, the text, the calls of the source and of the sink that fail, the bytes taken and the
+// status' number.
+pub type Row = (
+    &'static [&'static str],
+    &'static str,
+    &'static [u64],
+    &'static [u64],
+    &'static str,
+    u8,
+);
+
+const FIVE: &str = "local X in X = 5 {Browse X} end";
+
+const LOOP: &str = "local P in P = proc {$} {P} end {P} end";
+
+// A cell counts to a hundred over four threads.
+const COUNTER: &str = "local C Z One L N D1 D2 D3 D4 U in
+  Z = 0 One = 1 N = 25 U = done
+  {NewCell Z C}
+  L = proc {$ K D}
+    local B in
+      B = K =< Z
+      if B then D = U
+      else local O M K1 in
+        {Exchange C O M} M = O + One K1 = K - One {L K1 D}
+      end end
+    end
+  end
+  thread at 1 {L N D1} end thread at 2 {L N D2} end
+  thread at 3 {L N D3} end thread at 4 {L N D4} end
+  {Wait D1} {Wait D2} {Wait D3} {Wait D4}
+  local V in {Exchange C V V} {Browse V} end
+end";
+
+// A list of so many atoms is made and shown.
+pub const LIST: &str = "
+  Mk = proc {$ K R}
+    local B in
+      B = K =< Zero
+      if B then R = nil
+      else local K1 T in K1 = K - One R = A|T {Mk K1 T} end end
+    end
+  end
+  {Mk N L} {Browse L}
+end";
+
+pub static ROWS: [Row; 65] = [
+    // What is printed.
+    (&[], FIVE, &[], &[], "5\nquiescent ended=1 waiting=0\n", 0),
+    (
+        &["run"],
+        FIVE,
+        &[],
+        &[],
+        "5\nquiescent ended=1 waiting=0\n",
+        0,
+    ),
+    (
+        &["central"],
+        FIVE,
+        &[],
+        &[],
+        "5\nquiescent ended=1 waiting=0\n",
+        0,
+    ),
+    (&[], "skip", &[], &[], "quiescent ended=1 waiting=0\n", 0),
+    (
+        &[],
+        "local X in X = 1 X = 2 end",
+        &[],
+        &[],
+        "uncaught failure(tell)\nquiescent ended=1 waiting=0\n",
+        0,
+    ),
+    (
+        &[],
+        "local X in {Browse X} end",
+        &[],
+        &[],
+        "quiescent ended=0 waiting=1\n",
+        1,
+    ),
+    (
+        &[],
+        "local X Y in X = Y Y = a {Browse X} end",
+        &[],
+        &[],
+        "a\nquiescent ended=1 waiting=0\n",
+        0,
+    ),
+    (
+        &[],
+        "local X Y in X = f(Y) Y = f(X) X = Y {Browse X} end",
+        &[],
+        &[],
+        "f(f(f(f(f(f(f(f(f(f(f(f(f(f(f(f(f(f(f(f(,,,))))))))))))))))))))\nquiescent ended=1 waiting=0\n",
+        0,
+    ),
+    (
+        &[],
+        "local P Q X A F B in A = 1 B = 2 F = 5 P = p(X A) Q = p(F B) try P = Q catch E then {Browse X} end end",
+        &[],
+        &[],
+        "5\nquiescent ended=1 waiting=0\n",
+        0,
+    ),
+    (
+        &[],
+        COUNTER,
+        &[],
+        &[],
+        "100\nquiescent ended=5 waiting=0\n",
+        0,
+    ),
+    (
+        &["central"],
+        COUNTER,
+        &[],
+        &[],
+        "100\nquiescent ended=5 waiting=0\n",
+        0,
+    ),
+    (
+        &[],
+        "local X in if X then skip else skip end end",
+        &[],
+        &[],
+        "quiescent ended=0 waiting=1\n",
+        1,
+    ),
+    (
+        &[],
+        "local X in thread at 2 {Wait X} end end",
+        &[],
+        &[],
+        "quiescent ended=1 waiting=1\n",
+        1,
+    ),
+    (
+        &[],
+        "local X in thread at 2 {Wait X} end thread at 3 X = 1 end end",
+        &[],
+        &[],
+        "quiescent ended=3 waiting=0\n",
+        0,
+    ),
+    (
+        &[],
+        "local X Y Z in X = 9223372036854775807 Y = 1 try Z = X + Y catch E then {Browse E} end end",
+        &[],
+        &[],
+        "error(overflow)\nquiescent ended=1 waiting=0\n",
+        0,
+    ),
+    (
+        &[],
+        "local X in X = ~9223372036854775808 {Browse X} end",
+        &[],
+        &[],
+        "~9223372036854775808\nquiescent ended=1 waiting=0\n",
+        0,
+    ),
+    (
+        &[],
+        "local X Y Z in X = ~9223372036854775808 Y = ~1 try Z = X div Y catch E then {Browse E} end end",
+        &[],
+        &[],
+        "error(overflow)\nquiescent ended=1 waiting=0\n",
+        0,
+    ),
+    (
+        &[],
+        "local X Y Z in X = ~9223372036854775808 Y = ~1 Z = X mod Y {Browse Z} end",
+        &[],
+        &[],
+        "0\nquiescent ended=1 waiting=0\n",
+        0,
+    ),
+    (
+        &[],
+        "local X in thread at 2 X = stop end raise X end end",
+        &[],
+        &[],
+        "uncaught stop\nquiescent ended=2 waiting=0\n",
+        0,
+    ),
+    (
+        &[],
+        "local X in raise X end end",
+        &[],
+        &[],
+        "quiescent ended=0 waiting=1\n",
+        1,
+    ),
+    (
+        &[],
+        "local X Y Z in Y = ~3 Z = 'two words' X = f(b:Y a:Z Y) {Browse X} end",
+        &[],
+        &[],
+        "f(~3 a:'two words' b:~3)\nquiescent ended=1 waiting=0\n",
+        0,
+    ),
+    (
+        &[],
+        "local L M N A in A = a N = nil M = A|N L = M|N {Browse L} end",
+        &[],
+        &[],
+        "(a|nil)|nil\nquiescent ended=1 waiting=0\n",
+        0,
+    ),
+    (
+        &[],
+        "local P in proc {P X} skip end {Browse P} end",
+        &[],
+        &[],
+        "<P/1>\nquiescent ended=1 waiting=0\n",
+        0,
+    ),
+    (
+        &[],
+        "local X in try raise X end catch E then X = done {Browse E} end end",
+        &[],
+        &[],
+        "done\nquiescent ended=1 waiting=0\n",
+        0,
+    ),
+    (
+        &[],
+        "local X in X = 5 {X} end",
+        &[],
+        &[],
+        "uncaught error(apply)\nquiescent ended=1 waiting=0\n",
+        0,
+    ),
+    (
+        &[],
+        "local P in P = proc {$ A} skip end {P} end",
+        &[],
+        &[],
+        "uncaught error(arity)\nquiescent ended=1 waiting=0\n",
+        0,
+    ),
+    (
+        &[],
+        "local X in X = 5 if X then skip else skip end end",
+        &[],
+        &[],
+        "uncaught error(type)\nquiescent ended=1 waiting=0\n",
+        0,
+    ),
+    (
+        &[],
+        "local X Y in X = f(X) Y = X.2 end",
+        &[],
+        &[],
+        "uncaught error(feature)\nquiescent ended=1 waiting=0\n",
+        0,
+    ),
+    (
+        &[],
+        "local X Y Z in X = 7 Y = 0 Z = X div Y end",
+        &[],
+        &[],
+        "uncaught error(zero)\nquiescent ended=1 waiting=0\n",
+        0,
+    ),
+    // The limit of steps.
+    (
+        &["--steps", "100"],
+        LOOP,
+        &[],
+        &[],
+        "stopped steps site=1\n",
+        4,
+    ),
+    (
+        &["central", "--steps", "100"],
+        LOOP,
+        &[],
+        &[],
+        "stopped steps site=1\n",
+        4,
+    ),
+    (
+        &["--steps", "1"],
+        "skip",
+        &[],
+        &[],
+        "quiescent ended=1 waiting=0\n",
+        0,
+    ),
+    (
+        &["--steps", "1"],
+        FIVE,
+        &[],
+        &[],
+        "stopped steps site=1\n",
+        4,
+    ),
+    (
+        &["--steps", "6"],
+        FIVE,
+        &[],
+        &[],
+        "stopped steps site=1\n",
+        4,
+    ),
+    (
+        &["--steps", "7"],
+        FIVE,
+        &[],
+        &[],
+        "5\nquiescent ended=1 waiting=0\n",
+        0,
+    ),
+    (
+        &["--steps", "1000000000"],
+        "skip",
+        &[],
+        &[],
+        "quiescent ended=1 waiting=0\n",
+        0,
+    ),
+    // Words that are refused: the source, whose first call would fail, is not read.
+    (&["walk"], "skip", &[1], &[], "usage\n", 2),
+    (&["run", "central"], "skip", &[1], &[], "usage\n", 2),
+    (&["--steps", "0"], "skip", &[1], &[], "usage\n", 2),
+    (&["--steps", "1000000001"], "skip", &[1], &[], "usage\n", 2),
+    (&["--steps", "many"], "skip", &[1], &[], "usage\n", 2),
+    (&["--steps"], "skip", &[1], &[], "usage\n", 2),
+    (
+        &["--steps", "1", "--steps", "2"],
+        "skip",
+        &[1],
+        &[],
+        "usage\n",
+        2,
+    ),
+    (&["--sites", "3"], "skip", &[1], &[], "usage\n", 2),
+    (&["--help"], "skip", &[1], &[], "usage\n", 2),
+    (&["--version"], "skip", &[1], &[], "usage\n", 2),
+    // Texts that are refused.
+    (&[], "", &[], &[], "refused 1:1 expected a statement\n", 3),
+    (
+        &["central"],
+        "",
+        &[],
+        &[],
+        "refused 1:1 expected a statement\n",
+        3,
+    ),
+    (
+        &[],
+        "local X in",
+        &[],
+        &[],
+        "refused 1:11 expected a statement\n",
+        3,
+    ),
+    (
+        &[],
+        "local X in X = 9223372036854775808 end",
+        &[],
+        &[],
+        "refused 1:16 bad number\n",
+        3,
+    ),
+    (
+        &[],
+        "local X in X = 007 end",
+        &[],
+        &[],
+        "refused 1:16 bad number\n",
+        3,
+    ),
+    (
+        &[],
+        "skip skip }",
+        &[],
+        &[],
+        "refused 1:11 expected a statement or the end of the text\n",
+        3,
+    ),
+    (&[], "{Browse X}", &[], &[], "refused 1:9 undeclared\n", 3),
+    (
+        &[],
+        "local X in X = f(1:X X) end",
+        &[],
+        &[],
+        "refused 1:22 given twice\n",
+        3,
+    ),
+    (
+        &[],
+        "local X in X = fun",
+        &[],
+        &[],
+        "refused 1:16 expected a value\n",
+        3,
+    ),
+    (
+        &[],
+        "local X in X = X == X end",
+        &[],
+        &[],
+        "refused 1:18 expected a statement or end\n",
+        3,
+    ),
+    (
+        &[],
+        "local X Y in X == Y end",
+        &[],
+        &[],
+        "refused 1:16 expected =\n",
+        3,
+    ),
+    (
+        &[],
+        "thread at 0 skip end",
+        &[],
+        &[],
+        "refused 1:11 site below 1\n",
+        3,
+    ),
+    (
+        &[],
+        "local A in A = 'x",
+        &[],
+        &[],
+        "refused 1:16 open quote\n",
+        3,
+    ),
+    (&[], "/* /* */", &[], &[], "refused 1:1 open comment\n", 3),
+    // Calls that fail.
+    (&[], "skip", &[1], &[], "read fault\n", 6),
+    (&[], FIVE, &[1], &[], "read fault\n", 6),
+    (&[], FIVE, &[], &[2], "5\n", 7),
+    (&[], FIVE, &[], &[1], "", 7),
+    (&["walk"], "skip", &[], &[1], "", 7),
+];

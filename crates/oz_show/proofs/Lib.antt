@@ -1,0 +1,9 @@
+pub mod Digits
+pub mod Spaced
+pub mod Atoms
+pub mod SymbolSpelling
+pub mod SpelledTokens
+pub mod TextSymbols
+pub mod CanonicalWritten
+pub mod RoundTrip
+pub mod Reversed

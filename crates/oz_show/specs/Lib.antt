@@ -1,0 +1,3 @@
+pub mod CanonicalText
+pub mod Refusal
+pub mod Status

@@ -1,0 +1,48 @@
+//! How a call ended.
+
+ghost use Rattle.std.specs.Prelude.{◌≡◌};
+ghost use Rattle.oz_show.specs.Status.{status_number};
+
+use oz_grammar::TextFault;
+
+/// How a call of `oz` ended. Each status has an end line, which is the last line that is written, and a number, with
+/// which the program ends.
+#[derive(Clone, Copy, Debug, PartialEq, Eq)]
+pub enum Status {
+    /// Nothing goes on: so many threads have ended, and so many wait for variables that nobody binds.
+    Quiescent { ended: u64, waiting: u64 },
+    /// The words after the program's name are not taken.
+    Usage,
+    /// The text is no program.
+    Refused(TextFault),
+    /// The text is not UTF-8; so many bytes at its front are.
+    NotUtf8(u64),
+    /// The text has more than 1,048,576 bytes.
+    TooLong,
+    /// A site made as many steps as it may, and could go on.
+    StepLimit(u32),
+    /// The source failed.
+    ReadFault,
+    /// The sink failed: nothing more was written.
+    WriteFault,
+    /// Memory was wanting.
+    Memory,
+}
+
+impl Status {
+    /// The number with which the program ends: 0 where every thread ended.
+    pub fn number(&self) -> u8
+        ensures { result ≡ status_number self.now }
+    {
+        match self {
+            Status::Quiescent { waiting: 0, .. } => 0,
+            Status::Quiescent { .. } => 1,
+            Status::Usage => 2,
+            Status::Refused(_) | Status::NotUtf8(_) | Status::TooLong => 3,
+            Status::StepLimit(_) => 4,
+            Status::ReadFault => 6,
+            Status::WriteFault => 7,
+            Status::Memory => 8,
+        }
+    }
+}

@@ -1,3 +1,0 @@
-pub mod Forest
-pub mod Store
-pub mod Walk

@@ -1,0 +1,9 @@
+pub mod EntryLemmas
+pub mod ForestLemmas
+pub mod OrderLemmas
+pub mod WaitLemmas
+pub mod WalkLemmas
+pub mod NameLemmas
+pub mod NeedLemmas
+pub mod LinkLemmas
+pub mod RootLemmas

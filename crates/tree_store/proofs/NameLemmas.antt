@@ -1,0 +1,49 @@
+-- Lists of names.
+use Rattle.std.proofs.Common.{arith, ◌≡◌, ◌∙◌, sym, refl, List, ◌∷◌, [], ◌++◌, ◌⊎◌, inl, inr, Bool, true, false, cond}
+use Rattle.std.specs.Prelude.{Contains, ◌↔◌, ◌≢◌, ◌||◌, IsTrue}
+use Rattle.std.specs.List.{list_any}
+use Rattle.std.proofs.lemmas.Map.Views.{Contains-from_any}
+use Rattle.tree_node.specs.declared.names.VarName.{VarName}
+use Rattle.tree_node.specs.Store.{same_name}
+use Rattle.tree_node.proofs.ClassLemmas.{same_name_decides, same_name_refl, Contains-cons_cases}
+use Rattle.tree_store.specs.Contents.{with_name}
+
+or_true : (b : Bool) → (b || true) ≡ true
+or_true true = refl
+or_true false = refl
+
+any_contains : (names : List VarName) (x : VarName) → Contains names x → list_any (same_name x) names ≡ true
+any_contains [] x (k, below, is) = absurd (omega arith)
+any_contains (y ∷ names) x h = go (Contains-cons_cases _ _ names h) (λ k. any_contains names x k)
+  where
+    go : (y ≡ x) ⊎ Contains names x → (Contains names x → list_any (same_name x) names ≡ true) → (same_name x y || list_any (same_name x) names) ≡ true
+    go (inl e) ih = rw (e, same_name_refl x) refl
+    go (inr k) ih = rw (ih k) (or_true (same_name x y))
+
+contains_any : (names : List VarName) (x : VarName) → list_any (same_name x) names ≡ true → Contains names x
+contains_any names x h = Contains-from_any {eq = same_name} (λ a b k. (same_name_decides a b).0 k) x names h
+
+-- the test of a known name
+pub known_tells : (names : List VarName) (x : VarName) (b : Bool) → b ≡ list_any (same_name x) names → IsTrue b ↔ Contains names x
+known_tells names x b e = (λ h. contains_any names x (sym e ∙ h), λ h. e ∙ any_contains names x h)
+
+-- a name that is not known goes last
+pub name_added : (names : List VarName) (x : VarName) → (Contains names x → ⊥) → with_name names x ≡ names ++ x ∷ []
+name_added names x new = go (list_any (same_name x) names) refl
+  where
+    go : (b : Bool) → list_any (same_name x) names ≡ b → cond b names (names ++ x ∷ []) ≡ names ++ x ∷ []
+    go true e = absurd (new (contains_any names x e))
+    go false e = refl
+
+-- a name that is known no longer
+pub name_forgotten : (old new : List VarName) (x y : VarName) → list_any (same_name y) new ≡ cond (same_name x y) false (list_any (same_name y) old) →
+    Contains new y ↔ (Contains old y × (y ≢ x))
+name_forgotten old new x y e = (λ h. left (same_name x y) refl (sym (any_contains new y h) ∙ e), λ h. contains_any new y (e ∙ right (same_name x y) refl h))
+  where
+    left : (b : Bool) → same_name x y ≡ b → true ≡ cond b false (list_any (same_name y) old) → Contains old y × (y ≢ x)
+    left true p q = cc
+    left false p q = (contains_any old y (sym q), λ (k : y ≡ x). let yes : same_name x y ≡ true = (same_name_decides x y).1 (sym k) in cc)
+
+    right : (b : Bool) → same_name x y ≡ b → Contains old y × (y ≢ x) → cond b false (list_any (same_name y) old) ≡ true
+    right true p h = absurd (h.1 (sym ((same_name_decides x y).0 p)))
+    right false p h = any_contains old y h.0

@@ -1,0 +1,65 @@
+-- Classes of variables as trees: each variable that was linked has a place with a parent, and a variable that is its own
+-- parent stands for its class. There the size of the class is kept, and the variable at which the links of the class end.
+use Rattle.std.specs.Prelude.{◌≡◌, ℕ, ◌+◌, ◌*◌, ◌<◌, ◌≤◌, List, [], ◌∷◌, ◌⊎◌, length, unwrap_or, if◌then◌else◌}
+use Rattle.std.specs.Map.{lookup}
+use Rattle.tree_node.specs.declared.names.VarName.{VarName}
+use Rattle.tree_node.specs.declared.node.Term.{Term}
+use Rattle.tree_node.specs.declared.node.Term.TheVariants as term
+use Rattle.tree_node.specs.Store.{Store, same_name, joined, root_of}
+use Rattle.tree_store.specs.Forest.{IsGrown}
+use Rattle.tree_store.specs.declared.links.Place.{Place}
+
+abbrev pub Places : Type 0
+Places = List (VarName × Place)
+
+-- a variable without a place is alone in its class
+abbrev pub alone : VarName → Place
+alone x = record { parent = x; size = 1; end = x }
+
+abbrev pub place_in : Places → VarName → Place
+place_in places x = unwrap_or (lookup (same_name x) places) (alone x)
+
+-- the variable stands for its class
+abbrev pub IsTop : (VarName → Place) → VarName → Type 0
+IsTop place x = (place x).parent ≡ x
+
+-- the sizes of the classes, added up
+abbrev pub weight : VarName → Place → ℕ
+weight x p = if same_name p.parent x then p.size else 0
+
+abbrev pub total : Places → ℕ
+total [] = 0
+total ((x, p) ∷ places) = weight x p + total places
+
+-- on each step to the top the size is twice as large or more, so from a variable of a class of n there are at most log2 n
+-- steps; and no size is above the number of places
+pub record IsTree (places : Places) : Type 0 where
+  pub rises : (x : VarName) → IsTop (place_in places) x ⊎ (2 * (place_in places x).size ≤ (place_in places (place_in places x).parent).size)
+  pub positive : (x : VarName) → 0 < (place_in places x).size
+  pub counts : total places ≡ length places
+
+-- the trees are the classes of root, which names each class by the variable at which its links end
+pub record Tells (root : VarName → VarName) (place : VarName → Place) : Type 0 where
+  pub parent : (x : VarName) → root (place x).parent ≡ root x
+  pub end : (x : VarName) → IsTop place x → root x ≡ (place x).end
+  pub one : (x y : VarName) → IsTop place x → IsTop place y → root x ≡ root y → x ≡ y
+
+-- a tree hung below the top of another, whose class ends at e from now on
+abbrev pub hung : (VarName → Place) → VarName → VarName → VarName → VarName → Place
+hung place child top e x =
+    if same_name top x then record { parent = top; size = (place child).size + (place top).size; end = e }
+    else (if same_name child x then record { parent = top; size = (place child).size; end = (place child).end } else place x)
+
+-- the classes after an equation u = t, and that it joins no class to itself
+abbrev pub root_with : (VarName → VarName) → VarName → Term → VarName → VarName
+root_with root u (term.Var v) x = joined root u v x
+root_with root u (term.Node n) x = root x
+
+abbrev pub IsApart : (VarName → VarName) → VarName → Term → Type 0
+IsApart root u (term.Var v) = root u ≡ root v → ⊥
+IsApart root u (term.Node n) = Unit {0}
+
+-- the trees are the classes of a store
+pub record IsLinked (s : Store) (places : Places) : Type 0 where
+  pub grown : IsGrown s
+  pub told : Tells (root_of s) (place_in places)

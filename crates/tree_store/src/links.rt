@@ -1,0 +1,188 @@
+//! Classes of variables.
+
+ghost use Rattle.std.specs.Prelude.{◌≡◌, ◌≤◌, [], OnOk, OnErr, IsSome};
+ghost use Rattle.std.specs.Map.{lookup, set_value};
+ghost use Rattle.tree_node.specs.declared.names.VarName.{VarName};
+ghost use Rattle.tree_node.specs.Store.{same_name, joined};
+ghost use Rattle.tree_store.specs.Links.{place_in, IsTop, IsTree, Tells, hung, root_with, IsApart};
+
+use indexmap::IndexMap;
+use std::alloc::{AllocError, Global};
+use std::marker::Model;
+use tree_node::{Term, VarName};
+
+/// The place of a variable in the tree of its class: its parent, itself at the top, and there how many variables the
+/// class has, and at which of them its links end.
+#[derive(Clone, Copy)]
+pub struct Place {
+    pub parent: VarName,
+    pub size: u64,
+    pub end: VarName,
+}
+
+/// The classes of variables that links join, which contracts see as the places of the variables. The smaller tree is hung
+/// below the greater, so that from a variable of a class of n to the top there are at most log2 n steps, in whatever
+/// order variables are linked.
+#[derive(Drop)]
+pub struct Links {
+    places: IndexMap<VarName, Place>,
+}
+
+impl Model for Links {
+    ghost use Rattle.std.specs.Prelude.{List};
+    ghost use Rattle.tree_node.specs.declared.names.VarName.{VarName};
+    ghost use Rattle.tree_store.specs.declared.links.Place.{Place};
+
+    ghost Value = { List (VarName × Place) };
+
+    ghost use Rattle.tree_store.specs.Links.{IsTree};
+
+    ghost view = { λ l. l.places.entries };
+
+    ghost invariant = { λ l. IsTree l.places.entries };
+}
+
+// The place of a variable.
+fn place_of(places: &IndexMap<VarName, Place>, var: VarName) -> Place
+    ensures { result ≡ place_in places.now.entries var }
+{
+    match places.get(&var) {
+        Some(place) => *place,
+        None => Place {
+            parent: var,
+            size: 1,
+            end: var,
+        },
+    }
+}
+
+// Writes down the place of a variable that has none of its own yet.
+fn settle(places: &mut IndexMap<VarName, Place>, var: VarName) -> Result<(), AllocError>
+    requires { IsTree places.old.entries }
+    ensures tree { IsTree places.new.entries }
+    ensures same { (y : VarName) → place_in places.new.entries y ≡ place_in places.old.entries y }
+    ensures there { OnOk result (IsSome (lookup (same_name var) places.new.entries)) }
+    ensures stay { (y : VarName) → IsSome (lookup (same_name y) places.old.entries) → IsSome (lookup (same_name y) places.new.entries) }
+{
+    match places.get(&var) {
+        Some(_) => Ok(()),
+        None => {
+            let alone = Place {
+                parent: var,
+                size: 1,
+                end: var,
+            };
+            places.insert(var, alone)?;
+            Ok(())
+        }
+    }
+}
+
+// Exchanges the place of a variable.
+fn put(places: &mut IndexMap<VarName, Place>, var: VarName, place: Place)
+    requires { IsSome (lookup (same_name var) places.old.entries) }
+    ensures { places.new.entries ≡ set_value (same_name var) places.old.entries place }
+{
+    if let Some(old) = places.get_mut(&var) {
+        *old = place;
+    }
+}
+
+// Hangs one tree below the top of another one that is no smaller, whose links end at the given variable then.
+fn hang(places: &mut IndexMap<VarName, Place>, child: VarName, top: VarName, end: VarName)
+    requires tree { IsTree places.old.entries }
+    requires apart { child ≡ top → ⊥ }
+    requires child { IsTop (place_in places.old.entries) child }
+    requires top { IsTop (place_in places.old.entries) top }
+    requires child_there { IsSome (lookup (same_name child) places.old.entries) }
+    requires top_there { IsSome (lookup (same_name top) places.old.entries) }
+    requires smaller { (place_in places.old.entries child).size ≤ (place_in places.old.entries top).size }
+    ensures tree { IsTree places.new.entries }
+    ensures places { (y : VarName) → place_in places.new.entries y ≡ hung (place_in places.old.entries) child top end y }
+{
+    let _count = places.len();
+    let small = place_of(places, child);
+    let great = place_of(places, top);
+    let below = Place {
+        parent: top,
+        size: small.size,
+        end: small.end,
+    };
+    let above = Place {
+        parent: top,
+        size: small.size + great.size,
+        end,
+    };
+    put(places, child, below);
+    put(places, top, above);
+}
+
+impl Links {
+    /// Each variable alone.
+    pub fn new(alloc: Global) -> Links
+        ensures { result ≡ [] }
+    {
+        Links {
+            places: IndexMap::new(alloc),
+        }
+    }
+
+    // The top of a variable's tree, after at most 64 steps, since sizes double.
+    fn top(&self, var: VarName) -> VarName
+        ensures top { IsTop (place_in self.now) result }
+        ensures class { (root : VarName → VarName) → Tells root (place_in self.now) → root result ≡ root var }
+    {
+        let mut at = var;
+        let mut place = place_of(&self.places, at);
+        'parents: for step in 0..64_u32 {
+            let _ = step;
+            if place.parent == at {
+                return at;
+            }
+            at = place.parent;
+            place = place_of(&self.places, at);
+        }
+        unreachable!()
+    }
+
+    /// The variable at which the links of a variable's class end.
+    pub fn end(&self, var: VarName) -> VarName
+        ensures { (root : VarName → VarName) → Tells root (place_in self.now) → root var ≡ result }
+    {
+        let top = self.top(var);
+        place_of(&self.places, top).end
+    }
+
+    // Joins the class of a variable to another one, which keeps its end.
+    fn join(&mut self, var: VarName, other: VarName) -> Result<(), AllocError>
+        ensures ok { OnOk result ((root : VarName → VarName) → Tells root (place_in self.old) → (root var ≡ root other → ⊥) → Tells (joined root var other) (place_in self.new)) }
+        ensures err { OnErr result ((root : VarName → VarName) → Tells root (place_in self.old) → Tells root (place_in self.new)) }
+    {
+        let upper = self.top(var);
+        let lower = self.top(other);
+        if upper == lower {
+            return Ok(());
+        }
+        settle(&mut self.places, upper)?;
+        settle(&mut self.places, lower)?;
+        let above = place_of(&self.places, upper);
+        let below = place_of(&self.places, lower);
+        if above.size <= below.size {
+            hang(&mut self.places, upper, lower, below.end);
+        } else {
+            hang(&mut self.places, lower, upper, below.end);
+        }
+        Ok(())
+    }
+
+    /// Follows an equation of a variable: a link joins its class to the other one, which keeps its end.
+    pub fn add(&mut self, var: VarName, term: &Term) -> Result<(), AllocError>
+        ensures ok { OnOk result ((root : VarName → VarName) → Tells root (place_in self.old) → IsApart root var term.now → Tells (root_with root var term.now) (place_in self.new)) }
+        ensures err { OnErr result ((root : VarName → VarName) → Tells root (place_in self.old) → Tells root (place_in self.new)) }
+    {
+        match term {
+            Term::Var(other) => self.join(var, *other),
+            Term::Node(_) => Ok(()),
+        }
+    }
+}

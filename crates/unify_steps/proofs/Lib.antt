@@ -1,0 +1,3 @@
+pub mod CaseLemmas
+pub mod StepLemmas
+pub mod MetLemmas

@@ -1,0 +1,115 @@
+-- Met pairs stand under their marks.
+use Rattle.std.proofs.Common.{arith, ◌≡◌, ◌∙◌, sym, ap, refl, subst, ℕ, ◌+◌, ◌%◌, ◌^◌, List, [], ◌∷◌, ◌⊎◌, inl, inr, Bool, true, false, cond, ◌&&◌, nat_eq, Some, None}
+use Rattle.std.specs.Prelude.{Option, ◌||◌, filter}
+use Rattle.std.specs.List.{list_any}
+use Rattle.std.specs.Map.{lookup}
+use Rattle.std.specs.Global.{Vec}
+use Rattle.std.specs.Str.{bytes_eq}
+use Rattle.std.proofs.lemmas.Slice.Eq.{bytes_eq-Decides}
+use Rattle.std.proofs.lemmas.Bool.Decides.{Decides-int_eq, Decides-eqb}
+use Rattle.tree_node.specs.declared.names.VarName.{VarName}
+use Rattle.tree_node.specs.declared.node.Feature.{Feature}
+use Rattle.tree_node.specs.declared.node.Feature.TheVariants as feature
+use Rattle.tree_node.specs.declared.node.Node.{Node}
+use Rattle.tree_node.specs.declared.node.Node.TheVariants as node
+use Rattle.tree_node.specs.Store.{same_name}
+use Rattle.tree_node.specs.Goal.{equal_feature, equal_fields, equal_text, was_met}
+use Rattle.tree_node.proofs.ClassLemmas.{same_name_decides}
+use Rattle.unify_steps.specs.Marks.{node_mark, pair_mark}
+use Rattle.unify_steps.specs.Met.{has_mark, pairs_of, IsIndexOf}
+
+and_left : (a b : Bool) → (a && b) ≡ true → a ≡ true
+and_left true b e = refl
+and_left false b e = cc
+
+and_right : (a b : Bool) → (a && b) ≡ true → b ≡ true
+and_right true b e = e
+and_right false b e = cc
+
+-- nodes of equal text have one mark
+feature_same : (f g : Feature) → equal_feature f g ≡ true → f ≡ g
+feature_same (feature.Int a) (feature.Int b) e = ap feature.Int ((Decides-int_eq a b).0 e)
+feature_same (feature.Atom a) (feature.Atom b) e = ap feature.Atom ((bytes_eq-Decides a b).0 e)
+feature_same (feature.Int a) (feature.Atom b) e = cc
+feature_same (feature.Atom a) (feature.Int b) e = cc
+
+fields_same : (xs ys : List (Feature × VarName)) → equal_fields xs ys ≡ true → xs ≡ ys
+fields_same [] [] e = refl
+fields_same [] (y ∷ ys) e = cc
+fields_same (x ∷ xs) [] e = cc
+fields_same ((f, x) ∷ xs) ((g, y) ∷ ys) e =
+    let features : f ≡ g = feature_same f g (and_left (equal_feature f g) (same_name x y && equal_fields xs ys) e) in
+    let others : (same_name x y && equal_fields xs ys) ≡ true = and_right (equal_feature f g) (same_name x y && equal_fields xs ys) e in
+    let vars : x ≡ y = (same_name_decides x y).0 (and_left (same_name x y) (equal_fields xs ys) others) in
+    let rest : xs ≡ ys = fields_same xs ys (and_right (same_name x y) (equal_fields xs ys) others) in
+    rw (features, vars, rest) refl
+
+same_mark : (m n : Node) → equal_text m n ≡ true → node_mark m ≡ node_mark n
+same_mark (node.Int a) (node.Int b) e = refl
+same_mark (node.Int a) (node.Atom b) e = refl
+same_mark (node.Int a) (node.Rec r ys) e = cc
+same_mark (node.Int a) (node.Proc q j w vs) e = refl
+same_mark (node.Int a) (node.Cell d) e = refl
+same_mark (node.Atom a) (node.Int b) e = refl
+same_mark (node.Atom a) (node.Atom b) e = refl
+same_mark (node.Atom a) (node.Rec r ys) e = cc
+same_mark (node.Atom a) (node.Proc q j w vs) e = refl
+same_mark (node.Atom a) (node.Cell d) e = refl
+same_mark (node.Rec l xs) (node.Int b) e = cc
+same_mark (node.Rec l xs) (node.Atom b) e = cc
+same_mark (node.Rec l xs) (node.Rec r ys) e =
+    let labels : l ≡ r = (bytes_eq-Decides l r).0 (and_left (bytes_eq l r) (equal_fields xs ys) e) in
+    let fields : xs ≡ ys = fields_same xs ys (and_right (bytes_eq l r) (equal_fields xs ys) e) in
+    rw (labels, fields) refl
+same_mark (node.Rec l xs) (node.Proc q j w vs) e = cc
+same_mark (node.Rec l xs) (node.Cell d) e = cc
+same_mark (node.Proc p i k us) (node.Int b) e = refl
+same_mark (node.Proc p i k us) (node.Atom b) e = refl
+same_mark (node.Proc p i k us) (node.Rec r ys) e = cc
+same_mark (node.Proc p i k us) (node.Proc q j w vs) e = refl
+same_mark (node.Proc p i k us) (node.Cell d) e = refl
+same_mark (node.Cell c) (node.Int b) e = refl
+same_mark (node.Cell c) (node.Atom b) e = refl
+same_mark (node.Cell c) (node.Rec r ys) e = cc
+same_mark (node.Cell c) (node.Proc q j w vs) e = refl
+same_mark (node.Cell c) (node.Cell d) e = refl
+
+-- pairs of equal text, in either order, have one mark
+abbrev is_pair : Node → Node → Node × Node → Bool
+is_pair m n p = (equal_text p.0 m && equal_text p.1 n) || (equal_text p.0 n && equal_text p.1 m)
+
+or_cases : (a b : Bool) → (a || b) ≡ true → (a ≡ true) ⊎ (b ≡ true)
+or_cases true b e = inl refl
+or_cases false b e = inr e
+
+pair_same : (m n : Node) (p : Node × Node) → is_pair m n p ≡ true → pair_mark p.0 p.1 ≡ pair_mark m n
+pair_same m n p e = go (or_cases (equal_text p.0 m && equal_text p.1 n) (equal_text p.0 n && equal_text p.1 m) e)
+  where
+    go : ((equal_text p.0 m && equal_text p.1 n) ≡ true) ⊎ ((equal_text p.0 n && equal_text p.1 m) ≡ true) → pair_mark p.0 p.1 ≡ pair_mark m n
+    go (inl h) =
+        let left = same_mark p.0 m (and_left (equal_text p.0 m) (equal_text p.1 n) h) in
+        let right = same_mark p.1 n (and_right (equal_text p.0 m) (equal_text p.1 n) h) in
+        rw (left, right) refl
+    go (inr h) =
+        let sum : node_mark n + node_mark m ≡ node_mark m + node_mark n = omega arith in
+        let left = same_mark p.0 n (and_left (equal_text p.0 n) (equal_text p.1 m) h) in
+        let right = same_mark p.1 m (and_right (equal_text p.0 n) (equal_text p.1 m) h) in
+        rw (left, right, sum) refl
+
+under_mark : (m n : Node) (p : Node × Node) → is_pair m n p ≡ true → has_mark (pair_mark m n) p ≡ true
+under_mark m n p e = (Decides-eqb (pair_mark p.0 p.1) (pair_mark m n)).1 (pair_same m n p e)
+
+-- a test that only marked pairs pass needs to look at these alone
+any_filtered : (f g : Node × Node → Bool) → ((p : Node × Node) → f p ≡ true → g p ≡ true) → (xs : List (Node × Node)) → list_any f (filter g xs) ≡ list_any f xs
+any_filtered f g h [] = refl
+any_filtered f g h (x ∷ xs) = go (g x) (f x) refl refl (any_filtered f g h xs)
+  where
+    go : (b c : Bool) → g x ≡ b → f x ≡ c → list_any f (filter g xs) ≡ list_any f xs → list_any f (cond b (x ∷ filter g xs) (filter g xs)) ≡ (f x || list_any f xs)
+    go true c p q ih = ap (λ (r : Bool). f x || r) ih
+    go false true p q ih = let yes : g x ≡ true = h x q in cc
+    go false false p q ih = ih ∙ sym (rw q refl)
+
+pub found_met : (met : List (Node × Node)) (index : List (ℕ × Vec (Node × Node))) (m n : Node) → IsIndexOf met index →
+    was_met (pairs_of (lookup (nat_eq (pair_mark m n)) index)) m n ≡ was_met met m n
+found_met met index m n h =
+    ap (λ (l : List (Node × Node)). list_any (is_pair m n) l) (h (pair_mark m n)) ∙ any_filtered (is_pair m n) (has_mark (pair_mark m n)) (under_mark m n) met

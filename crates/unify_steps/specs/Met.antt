@@ -1,0 +1,17 @@
+-- How the pairs of nodes that were met are indexed: by their marks.
+use Rattle.std.specs.Prelude.{◌≡◌, ℕ, List, [], ◌∷◌, Bool, nat_eq, filter, Option, Some, None}
+use Rattle.std.specs.Global.{Vec}
+use Rattle.std.specs.Map.{lookup}
+use Rattle.tree_node.specs.declared.node.Node.{Node}
+use Rattle.unify_steps.specs.Marks.{pair_mark}
+
+abbrev pub has_mark : ℕ → Node × Node → Bool
+has_mark k p = nat_eq (pair_mark p.0 p.1) k
+
+abbrev pub pairs_of : Option (Vec (Node × Node)) → List (Node × Node)
+pairs_of None = []
+pairs_of (Some v) = v.items
+
+-- under each mark stand the pairs that have it
+abbrev pub IsIndexOf : List (Node × Node) → List (ℕ × Vec (Node × Node)) → Type 0
+IsIndexOf met index = (k : ℕ) → pairs_of (lookup (nat_eq k) index) ≡ filter (has_mark k) met

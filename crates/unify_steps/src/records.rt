@@ -1,0 +1,51 @@
+//! The fields of two records.
+
+ghost use Rattle.std.specs.Prelude.{◌≡◌, length, reverse, IfOk};
+ghost use Rattle.tree_node.specs.Goal.{was_met, equal_features, field_pairs};
+
+use std::alloc::{AllocError, Global};
+use tree_node::{Feature, Node, Term, VarName, same_feature, same_text};
+
+/// Whether the two nodes are among these pairs, in either order.
+pub fn is_among(pairs: &[(Node, Node)], left: &Node, right: &Node) -> bool
+    ensures { result ≡ was_met pairs.now left.now right.now }
+{
+    pairs.iter().any(|pair| {
+        (same_text(&pair.0, left) && same_text(&pair.1, right))
+            || (same_text(&pair.0, right) && same_text(&pair.1, left))
+    })
+}
+
+/// Whether two lists of fields have the same features.
+#[tactic(auto, using(crate::proofs::CaseLemmas::features_length))]
+pub fn same_features(left: &[(Feature, VarName)], right: &[(Feature, VarName)]) -> bool
+    ensures { result ≡ equal_features left.now right.now }
+{
+    if left.len() != right.len() {
+        return false;
+    }
+    for (at, field) in left.iter().enumerate() {
+        if !same_feature(&field.0, &right[at].0) {
+            return false;
+        }
+    }
+    true
+}
+
+/// The pairs of the variables at each feature, the last first.
+pub fn field_pairs(
+    alloc: Global,
+    left: &[(Feature, VarName)],
+    right: &[(Feature, VarName)],
+) -> Result<Vec<(Term, Term)>, AllocError>
+    requires { length left.now ≡ length right.now }
+    ensures { IfOk result (λ v. reverse v.items ≡ field_pairs left.now right.now) }
+{
+    let mut pairs = Vec::new(alloc);
+    let mut at = left.len();
+    'fields: while at > 0 {
+        at -= 1;
+        pairs.push((Term::Var(left[at].1), Term::Var(right[at].1)))?;
+    }
+    Ok(pairs)
+}
