@@ -1,3 +1,4 @@
+% A variable is bound once, and shown.
 local X in
   X = 5
   {Browse X}

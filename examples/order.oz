@@ -1,3 +1,4 @@
+% Binding is independent of order: Left and Right are the same before anybody knows what they are.
 local Left Right Same in
   Left = Same
   Right = Same

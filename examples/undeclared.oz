@@ -1,0 +1,4 @@
+% Refused: nothing declares Y.
+local X in
+  X = f(Y)
+end
