@@ -7,10 +7,10 @@ use Rattle.tree_node.specs.declared.pick.Pick.{Pick}
 use Rattle.tree_node.specs.State.{State}
 use Rattle.kernel_syntax.specs.declared.stmt.Stmt.{Stmt}
 use Rattle.oz_grammar.specs.Reads.{Reads}
-use Rattle.central_machine.specs.Ran.{EndsAt, HasReason}
-use Rattle.central_machine.specs.declared.central.Ran.{Ran}
-use Rattle.central_machine.specs.declared.central.Reason.{Reason}
-use Rattle.central_machine.specs.declared.central.Reason.TheVariants as reason
+use Rattle.thread_scheduler.specs.Ran.{EndsAt, HasReason}
+use Rattle.thread_scheduler.specs.declared.run.Ran.{Ran}
+use Rattle.thread_scheduler.specs.declared.run.Reason.{Reason}
+use Rattle.thread_scheduler.specs.declared.run.Reason.TheVariants as reason
 use Rattle.oz_words.specs.Words.{ReadsWords}
 use Rattle.oz_words.specs.declared.options.Options.{Options}
 use Rattle.oz_show.specs.Status.{HasNumbers}

@@ -1,7 +1,7 @@
 -- The status of a run's end.
 use Rattle.std.specs.Prelude.{ℕ}
-use Rattle.central_machine.specs.declared.central.Reason.{Reason}
-use Rattle.central_machine.specs.declared.central.Reason.TheVariants as reason
+use Rattle.thread_scheduler.specs.declared.run.Reason.{Reason}
+use Rattle.thread_scheduler.specs.declared.run.Reason.TheVariants as reason
 use Rattle.oz_show.specs.declared.status.Status.{Status}
 use Rattle.oz_show.specs.declared.status.Status.TheVariants.{Quiescent, StepLimit, Memory}
 

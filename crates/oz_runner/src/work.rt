@@ -7,12 +7,12 @@ ghost use Rattle.oz_runner.specs.Worked.{Worked, SourceCame, TextCame, text_limi
 ghost use Rattle.oz_runner.specs.Ends.{status_of};
 
 use crate::Status;
-use central_machine::{Ran, Reason, run_program};
 use oz_base::{ReadError, Source, read_text};
 use oz_parser::{ParseError, parse};
 use oz_words::{WordsError, read_options};
 use std::alloc::Global;
 use std::str;
+use thread_scheduler::{Ran, Reason, run_program};
 use tree_node::{Line, Pick};
 
 // The most bytes of a text.
