@@ -1,0 +1,186 @@
+//! What is done with a machine, one call after the other, and what is seen of it.
+
+use crate::choices::{Answer, Choice, answered};
+use crate::programs::program_of;
+use central_machine::Central;
+use kernel_syntax::Program;
+use std::alloc::{AllocError, Global};
+use std::process::Abort;
+use tree_node::{Line, ThreadName};
+
+/// A call, and what is told of it.
+///
+/// - `Pick`: the pick of a thread has this answer.
+/// - `Turns`: of at most so many steps so many are made.
+/// - `Rests`: of at most so many steps fewer are made, and nothing goes on.
+/// - `OneByOne`: steps are made one in a call, until nothing goes on.
+#[derive(Clone, Copy)]
+pub enum Row {
+    Pick(ThreadName, Choice, Answer),
+    Turns(u64, u64),
+    Rests(u64),
+    OneByOne,
+}
+
+/// What can be seen of a machine: the numbers of its picks and lines, whether it is at rest, and the numbers of ended
+/// and of living threads.
+#[derive(Clone, Copy, Debug, PartialEq, Eq)]
+pub struct Sight {
+    pub picks: u64,
+    pub lines: u64,
+    pub rests: bool,
+    pub ended: u64,
+    pub living: u64,
+}
+
+/// A text, the calls on a machine of its program, and then its lines, whether it is at rest, and the numbers of ended and
+/// of living threads.
+pub struct Story {
+    pub text: &'static str,
+    pub rows: &'static [Row],
+    pub lines: &'static [&'static str],
+    pub rests: bool,
+    pub counts: (u64, u64),
+}
+
+fn seen(machine: &Central<'_>) -> Sight {
+    let (ended, living) = machine.counts();
+    Sight {
+        picks: machine.picks().len() as u64,
+        lines: machine.lines().len() as u64,
+        rests: machine.at_rest(),
+        ended,
+        living,
+    }
+}
+
+// A pick is answered so. A step is one pick more; a refused pick changes nothing.
+fn picks<R: Abort>(
+    rt: &R,
+    alloc: Global,
+    machine: &mut Central<'_>,
+    thread: ThreadName,
+    choice: Choice,
+    want: Answer,
+) -> Result<(), AllocError> {
+    let before = seen(machine);
+    let told = answered(alloc, machine, thread, choice)?;
+    assert_eq!(rt; told, want);
+    let after = seen(machine);
+    if want == Answer::Goes {
+        assert_eq!(rt; after.picks, before.picks.wrapping_add(1));
+    } else {
+        assert_eq!(rt; after, before);
+    }
+    Ok(())
+}
+
+// At most so many steps: their number, which is that of the new picks.
+fn turns<R: Abort>(rt: &R, machine: &mut Central<'_>, limit: u64) -> Result<u64, AllocError> {
+    let before = seen(machine);
+    let made = machine.run_turns(limit)?;
+    assert_eq!(rt; seen(machine).picks, before.picks.wrapping_add(made));
+    assert!(rt; made == limit || machine.at_rest());
+    Ok(made)
+}
+
+fn one_by_one<R: Abort>(rt: &R, machine: &mut Central<'_>) -> Result<(), AllocError> {
+    for _ in 0..1_000_000 {
+        if turns(rt, machine, 1)? == 0 {
+            return Ok(());
+        }
+    }
+    panic!(rt; "steps are left")
+}
+
+fn tries<R: Abort>(
+    rt: &R,
+    alloc: Global,
+    machine: &mut Central<'_>,
+    row: Row,
+) -> Result<(), AllocError> {
+    match row {
+        Row::Pick(thread, choice, want) => picks(rt, alloc, machine, thread, choice, want),
+        Row::Turns(limit, want) => {
+            let made = turns(rt, machine, limit)?;
+            assert_eq!(rt; made, want);
+            Ok(())
+        }
+        Row::Rests(limit) => {
+            let made = turns(rt, machine, limit)?;
+            assert!(rt; made < limit);
+            Ok(())
+        }
+        Row::OneByOne => one_by_one(rt, machine),
+    }
+}
+
+fn tries_all<R: Abort>(
+    rt: &R,
+    alloc: Global,
+    machine: &mut Central<'_>,
+    rows: &[Row],
+) -> Result<(), AllocError> {
+    for row in rows {
+        tries(rt, alloc, machine, *row)?;
+    }
+    Ok(())
+}
+
+fn has_lines<R: Abort>(rt: &R, lines: &[Line], want: &[&str]) {
+    assert_eq!(rt; lines.len(), want.len());
+    for (line, text) in lines.iter().zip(want) {
+        assert_eq!(rt; line.as_slice(), text.as_bytes());
+    }
+}
+
+fn ends<R: Abort>(rt: &R, machine: &Central<'_>, story: &Story) {
+    has_lines(rt, machine.lines(), story.lines);
+    assert_eq!(rt; machine.at_rest(), story.rests);
+    assert_eq!(rt; machine.counts(), story.counts);
+}
+
+const START: Sight = Sight {
+    picks: 0,
+    lines: 0,
+    rests: false,
+    ended: 0,
+    living: 1,
+};
+
+// The calls of a story on a machine at its start.
+fn follows<R: Abort>(
+    rt: &R,
+    alloc: Global,
+    machine: &mut Central<'_>,
+    story: &Story,
+) -> Result<(), AllocError> {
+    assert_eq!(rt; seen(machine), START);
+    tries_all(rt, alloc, machine, story.rows)?;
+    ends(rt, machine, story);
+    Ok(())
+}
+
+fn gives_picks<R: Abort>(rt: &R, machine: Central<'_>) {
+    let count = machine.picks().len();
+    let picks = machine.into_picks();
+    assert_eq!(rt; picks.len(), count);
+}
+
+fn goes<R: Abort>(
+    rt: &R,
+    alloc: Global,
+    program: &Program,
+    story: &Story,
+) -> Result<(), AllocError> {
+    let mut machine = Central::new(alloc, program)?;
+    follows(rt, alloc, &mut machine, story)?;
+    gives_picks(rt, machine);
+    Ok(())
+}
+
+/// A machine of the story's program does what the story tells.
+pub fn goes_as_told<R: Abort>(rt: &R, alloc: Global, story: &Story) -> Result<(), AllocError> {
+    let program = program_of(rt, alloc, story.text)?;
+    goes(rt, alloc, &program, story)
+}
