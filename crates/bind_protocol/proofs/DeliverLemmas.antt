@@ -30,9 +30,6 @@ get_contains [] k m e = cc
 get_contains {X} (x ∷ xs) zero m e = let same : x ≡ m = cc in subst (λ (z : X). Contains (x ∷ xs) z) same (Contains-head x xs)
 get_contains (x ∷ xs) (suc k) m e = Contains-tail x m xs (get_contains xs k m e)
 
-abbrev IsWayEnd : Bool → Option (Option Term) → Type 0
-IsWayEnd b o = (b ≡ false) × (o ≡ Some None)
-
 -- a name that was met and is not known bound
 pub not_yet : (b : Bool) (o : Option (Option Term)) (n : ℕ) → n + told b o ≡ met b o → 1 ≤ n → (b ≡ false) × (o ≡ Some None)
 not_yet true o n e h = absurd (omega arith)

@@ -28,9 +28,6 @@ pub out_head : {X : Type 0} (x : X) (xs : List X) → remove (x ∷ xs) zero ≡
 out_head x [] = refl
 out_head x (y ∷ ys) = refl
 
-pub out_tail : {X : Type 0} (x : X) (xs : List X) (i : ℕ) → remove (x ∷ xs) (suc i) ≡ x ∷ remove xs i
-out_tail x xs i = refl
-
 -- one element taken out
 pub count_out : {X : Type 0} (p : X → Bool) (xs : List X) (i : ℕ) (m : X) → slice_get xs i ≡ Some m → count_by p (remove xs i) + one (p m) ≡ count_by p xs
 count_out p [] i m e = cc
@@ -102,6 +99,3 @@ pub get_there : {X : Type 0} (xs : List X) (k : ℕ) → k < length xs → (y : 
 get_there [] k h = absurd (omega arith)
 get_there (x ∷ xs) zero h = (x, refl)
 get_there (x ∷ xs) (suc k) h = get_there xs k (omega arith)
-
-pub none_there : {X : Type 0} (m : X) → Contains [] m → ⊥
-none_there m (i, below, is) = omega arith

@@ -43,9 +43,6 @@ nat_cases i j = go (i == j) refl
     go true q = inl (let e : i ≡ j = search rules in e)
     go false q = inr (let e : i ≢ j = search rules in e)
 
-pub number_cases : (i j : ℕ) → (i ≡ j) ⊎ (i ≢ j)
-number_cases i j = nat_cases i j
-
 module _ (w : World) (i : ℕ) (b : Records) (h : IsSiteOf w i) where
   pub known_here : (x : VarName) → known_at (puts w i b) i x ≡ knowledge b x
   known_here x = ap (λ o. knows o x) (put_here w.binders i b h.0 h.1)

@@ -1,6 +1,6 @@
 -- Which integers are of 64 bits.
-use Rattle.std.proofs.Common.{arith, ◌≡◌, refl, Bool, true, false, ℕ, zero, suc}
-use Rattle.std.specs.Prelude.{ℤ, pos, negsuc, FitsSigned, int_le, int_rem}
+use Rattle.std.proofs.Common.{arith, ◌≡◌, refl, true, false}
+use Rattle.std.specs.Prelude.{ℤ, FitsSigned}
 use Rattle.std.specs.Int.{w64}
 use Rattle.std.proofs.lemmas.Int.{ints}
 use Rattle.kernel_syntax.specs.Arithmetic.{Number, Overflow, fitted, is_word}
@@ -16,8 +16,3 @@ fitted_there z h = rw (is_word_there z h) refl
 
 pub fitted_past : (z : ℤ) → (FitsSigned w64 z → ⊥) → Overflow ≡ fitted z
 fitted_past z h = rw (is_word_past z h) refl
-
--- dividing by -1 leaves nothing
-pub rem_minus : (a : ℤ) → int_rem a (negsuc 0) ≡ pos 0
-rem_minus (pos n) = omega (arith, ints)
-rem_minus (negsuc n) = omega (arith, ints)

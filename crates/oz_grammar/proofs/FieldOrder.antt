@@ -132,10 +132,6 @@ pub is_so : (b : Bool) (kind : FaultKind) → where_not b kind ≡ None → b �
 is_so true kind e = refl
 is_so false kind e = cc
 
-pub number_passes : (n : Option Rattle.std.specs.Prelude.ℤ) → number_fault n ≡ None → (z : Rattle.std.specs.Prelude.ℤ) × (n ≡ Some z)
-number_passes (Some z) e = (z, refl)
-number_passes None e = cc
-
 -- a used name of fields is declared
 abbrev pub Declared : Purpose → Scope → Fields → Type 0
 Declared purpose.Use scope fields = Each (λ (f : Feature × Name). is_declared scope f.1 ≡ true) fields

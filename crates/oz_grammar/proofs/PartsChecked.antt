@@ -17,7 +17,7 @@ use Rattle.oz_grammar.specs.Scoping.{Scope, Fields, place_of, built_in_at, arity
 use Rattle.oz_grammar.specs.Table.{value_row, pattern_of, call_row, plain_row}
 use Rattle.oz_grammar.specs.Faults.{where_so, number_fault, use_fault, count_fault, called_fault, argument_fault, formal_fault, room_fault, mark_fault, name_fault, placed_fault, fewer, feature_fault}
 use Rattle.oz_grammar.specs.Check.{check_fields, check_value, check_pattern, check_locals, check_formals, check_arguments, check_uses, check_call, check_plain}
-use Rattle.oz_grammar.specs.Reading.{◌>>=◌, unless, used_at, behind_at, field_at, fields_at, record_at, value_at, locals_at, formals_at, arguments_at, wanted_at, Reader, call_of, value_at, pattern_at, record_pattern_at, kind_at, right_at}
+use Rattle.oz_grammar.specs.Reading.{◌>>=◌, unless, used_at, behind_at, field_at, fields_at, record_at, value_at, locals_at, formals_at, arguments_at, wanted_at, Reader, call_of, value_at, pattern_at, kind_at, right_at}
 use Rattle.oz_grammar.proofs.FieldOrder.{stopped, or_neither}
 use Rattle.oz_grammar.proofs.Heads.{ends_value}
 
@@ -191,9 +191,6 @@ plain_read inner (Calls p xs) scope rows w rest behind derives e over =
 plain_read inner (Raises x) scope rows w rest behind derives e over = let s = stopped (use_fault scope x) _ behind e in rw s.0 refl
 
 -- ---- patterns
-
-pattern_ends : (a : List ℕ) (scope : Scope) (rest : List Symbol) → record_pattern_at a scope (t.Then ∷ rest) ≡ Ok (pattern_of (AtomPattern a), [], t.Then ∷ rest)
-pattern_ends a scope rest = refl
 
 pub pattern_read : (p : Pattern) (scope : Scope) (rest : List Symbol) (behind : Option Fault) → check_pattern p scope (t.Then ∷ rest) behind ≡ None
     → pattern_at scope (pattern_text p (t.Then ∷ rest)) ≡ Ok (pattern_of p, pattern_names p, t.Then ∷ rest)

@@ -135,6 +135,3 @@ mutual
       let at : k + (j + length (rel_stmt s scope)) ≡ k + j + length (stmt_rows s scope (k + j)) = omega (arith, l) in
       let ids = numbers_shift q scope k (j + length (rel_stmt s scope)) in
       ap (λ (cs : List CodeId). numbered (k + j) ∷ cs) (ids ∙ ap (λ (n : ℕ). seq_numbers q scope n) at)
-
-pub program_shift : (q : Sequence) → length (rel_seq q []) ≡ length (seq_rows q [] 0)
-program_shift q = sym (shift_length (rel_seq q []) 0) ∙ ap length (seq_shift q [] 0)

@@ -44,9 +44,6 @@ token_begins place text bytes rest Word l s = (l, s, refl)
 token_begins place text bytes rest Sign l s = (l, s, refl)
 token_begins place text bytes rest End l s = absurd (no_end bytes l.spells)
 
-no_shift : (place : ℕ) → place ≡ place + 0
-no_shift place = omega arith
-
 -- a token of so many bytes
 fitting_found : (place : ℕ) (text : List ℕ) (kind : TokenKind) (n : ℕ) → n ≤ length text → Longest text kind (take n text) (drop n text) → Found place text (fitting kind n)
 fitting_found place text kind n le l =

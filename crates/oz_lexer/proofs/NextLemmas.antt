@@ -3,14 +3,12 @@ use Rattle.std.proofs.Common.{◌≡◌, ℕ, ◌+◌, ◌-◌, ◌≤◌, List,
 use Rattle.std.specs.Prelude.{MatchResult}
 use Rattle.std.proofs.lemmas.List.{drop-drop, length-take}
 use Rattle.oz_lexer.specs.declared.token.Token.{Token}
-use Rattle.oz_lexer.specs.declared.token.LexFault.{LexFault}
 use Rattle.oz_lexer.specs.declared.token.TokenKind.{TokenKind}
 use Rattle.oz_lexer.specs.declared.token.TokenKind.TheVariants.{Variable, Atom, Quoted, Integer, Word, Sign, End}
 use Rattle.oz_lexer.specs.declared.token.LexKind.{LexKind}
 use Rattle.oz_lexer.specs.declared.token.LexKind.TheVariants.{OpenComment}
 use Rattle.oz_lexer.specs.Blanks.{Skips}
 use Rattle.oz_lexer.specs.Tokens.{Begins, Lexeme, Next, Goes, TokensFrom}
-use Rattle.oz_lexer.specs.Place.{place_of}
 use Rattle.oz_lexer.specs.Lexing.{lexeme_of, fault_at, FaultNext, Gives, IsSlice}
 use Rattle.oz_lexer.specs.Scan.{behind_blank}
 use Rattle.oz_lexer.proofs.Skipping.{skips_tail, blank_found}
@@ -81,6 +79,3 @@ gives_at text at End start bytes end_ e n = (drop end_ text, n, refl)
 
 pub gives_token : (text : List ℕ) (at : ℕ) (t : Token) → Next at (drop at text) (lexeme_of t) (drop t.end text) → IsSlice text at t → Gives (record { text = text; at = at }) (record { text = text; at = t.end }) (Ok t)
 gives_token text at t n s = gives_at text at t.kind t.start t.text.now t.end (token_end text at t s) n
-
-pub gives_fault : (text : List ℕ) (at place : ℕ) (f : LexFault) → FaultNext at (drop at text) (fault_at f.kind place) → (f.line, f.column) ≡ place_of (take place text) → Gives (record { text = text; at = at }) (record { text = text; at = at }) (Err f)
-gives_fault text at place f n e = (place, (n.0, n.1, refl), e)

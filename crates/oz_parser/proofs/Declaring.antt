@@ -1,12 +1,11 @@
 -- One declaration more and one less, and the positions of all names.
-use Rattle.std.proofs.Common.{◌≡◌, ℕ, zero, suc, ◌+◌, ◌-◌, ◌<◌, ◌≤◌, List, [], ◌∷◌, ◌++◌, length, length-append, take, Bool, true, false, cond, Option, Some, None, refl, sym, ap, ◌∙◌, arith, append_assoc, eqb, true≢false}
+use Rattle.std.proofs.Common.{◌≡◌, ℕ, zero, suc, ◌+◌, ◌<◌, ◌≤◌, List, [], ◌∷◌, ◌++◌, length, take, Bool, true, false, cond, Option, Some, None, refl, sym, ap, ◌∙◌, arith, append_assoc, eqb, true≢false}
 use Rattle.std.specs.Prelude.{IfSome, IsSome}
 use Rattle.std.specs.Global.{Vec}
 use Rattle.std.specs.Cmp.Lexicographic.{pointwise, bytes_decides, nat_list_eq_equiv}
 use Rattle.std.specs.Str.{bytes_eq}
 use Rattle.std.specs.Map.{lookup, set_value}
 use Rattle.std.proofs.lemmas.List.{append-nil, length-map}
-use Rattle.std.proofs.Math.Seq.{take-append_seam}
 use Rattle.indexmap.specs.IndexMap.{insert_entry}
 use Rattle.oz_grammar.specs.Scoping.{Scope, declared_behind, position_of}
 use Rattle.oz_parser.specs.Scoped.{Declarations, Places, names_of, held, place_named, HidesBehind, IsIndexed}
@@ -128,17 +127,8 @@ set_there ((z, v) ∷ es) y w x h = go (bytes_eq y z.items) (bytes_eq x z.items)
 
 -- ---- the first declarations
 
-pub take_front : {A : Type 0} (xs : List A) (y : A) → take (length (xs ++ y ∷ []) - 1) (xs ++ y ∷ []) ≡ xs
-take_front xs y =
-    let n : length (xs ++ y ∷ []) - 1 ≡ length xs = rw (length-append xs (y ∷ [])) (omega arith) in
-    rw n (take-append_seam xs (y ∷ []))
-
 take_twice : {A : Type 0} (n m : ℕ) (xs : List A) → n ≤ m → take n (take m xs) ≡ take n xs
 take_twice zero m xs h = refl
 take_twice (suc n) zero xs h = absurd (omega (arith, h))
 take_twice (suc n) (suc m) [] h = refl
 take_twice (suc n) (suc m) (x ∷ xs) h = ap (λ ys. x ∷ ys) (take_twice n m xs (omega (arith, h)))
-
--- one less of them, while more than n are left
-pub take_less : {A : Type 0} (n : ℕ) (xs : List A) → n < length xs → take n (take (length xs - 1) xs) ≡ take n xs
-take_less n xs h = take_twice n (length xs - 1) xs (omega (arith, h))

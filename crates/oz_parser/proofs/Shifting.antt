@@ -1,7 +1,6 @@
 -- Rows whose numbers are counted from 0, one after the other.
-use Rattle.std.proofs.Common.{◌≡◌, ℕ, zero, suc, ◌+◌, ◌<◌, ◌≤◌, ◌^◌, List, [], ◌∷◌, ◌++◌, length, drop, map, set, get_or, Some, refl, sym, subst, ap, ◌∙◌, arith, append_assoc, drop-cons}
+use Rattle.std.proofs.Common.{◌≡◌, ℕ, zero, suc, ◌+◌, ◌<◌, ◌^◌, List, [], ◌∷◌, ◌++◌, length, drop, map, set, get_or, Some, refl, sym, subst, ap, ◌∙◌, arith, append_assoc, drop-cons}
 use Rattle.std.specs.Prelude.{slice_get, unwrap_or}
-use Rattle.std.proofs.lemmas.List.{drop_all}
 use Rattle.tree_node.specs.Each.{Each}
 use Rattle.tree_node.specs.declared.names.CodeId.{CodeId}
 use Rattle.kernel_syntax.specs.declared.stmt.Stmt.{Stmt}
@@ -31,16 +30,6 @@ pub record Half (n : ℕ) (whole rows : List Stmt) : Type 0 where
   pub done : front ++ shift_rows n (drop n whole) ≡ shift_rows 0 whole
   pub count : length front ≡ n
   pub fit : RowsFit n (drop n whole)
-
-pub half_start : (whole : List Stmt) → RowsFit 0 whole → Half 0 whole whole
-half_start whole fit = record { front = []; is = refl; done = refl; count = refl; fit = fit }
-
-pub half_ends : (n : ℕ) (whole rows : List Stmt) → Half n whole rows → length whole ≤ n → rows ≡ shift_rows 0 whole
-half_ends n whole rows h le =
-    let none = drop_all n whole le in
-    let all : h.front ++ shift_rows n [] ≡ shift_rows 0 whole = subst (λ (xs : List Stmt). h.front ++ shift_rows n xs ≡ shift_rows 0 whole) none h.done in
-    let here : rows ≡ h.front ++ [] = h.is ∙ ap (λ (xs : List Stmt). h.front ++ xs) none in
-    here ∙ all
 
 pub half_fit : (n : ℕ) (whole rows : List Stmt) (d : Stmt) → Half n whole rows → n < length whole → Each (λ (c : CodeId). n + c.0 < 2 ^ 32) (bodies_of (get_or rows n d))
 half_fit n whole rows d h lt =

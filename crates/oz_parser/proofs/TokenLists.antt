@@ -60,9 +60,6 @@ moves text at t n s e =
     let o = s.order in
     omega (arith, length-take (t.end - t.start) (drop t.start text))
 
-pub starts_so : (text : List ℕ) → SoFar text 0 [] []
-starts_so text = record { done = []; goes_on = λ ls h. h; symbols_are = refl; starts_are = refl; within = tt; count = omega arith; place = omega arith }
-
 appended : (symbols : List Symbol) (done : List Lexeme) (l : Lexeme) → symbols ≡ map symbol_of done → symbols ++ symbol_of l ∷ [] ≡ map symbol_of (done ++ l ∷ [])
 appended symbols done l e = ap (λ (xs : List Symbol). xs ++ symbol_of l ∷ []) e ∙ sym (map-append symbol_of done (l ∷ []))
 

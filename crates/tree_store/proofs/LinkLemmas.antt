@@ -328,10 +328,6 @@ tells_hung root place x y c w e t tc tw differ apart tops ends = record { parent
             absurd (not_right root place x y c w a t tc tw tops p nc nw (sym (alone_root a p nc nw) ∙ same ∙ ap (joined root x y) (sym q) ∙ top_joined root x y c w tops))
         go (other p nc nw) (other q mc mw) = t.one a b p q (sym (alone_root a p nc nw) ∙ same ∙ alone_root b q mc mw)
 
--- one end of a class, whose places are the same
-pub tells_end : (root : VarName → VarName) (place : VarName → Place) (x top : VarName) → Tells root place → IsTop place top → root top ≡ root x → root x ≡ (place top).end
-tells_end root place x top t h e = sym e ∙ t.end top h
-
 -- the same where the places were written down in between
 pub join_tells : (root : VarName → VarName) (place settled new : VarName → Place) (x y c w e : VarName) → Tells root place → ((z : VarName) → settled z ≡ place z) →
     IsTop place c → IsTop place w → (c ≡ w → ⊥) → (root x ≡ root y → ⊥) → AreTopsOf root x y c w → e ≡ root y → ((z : VarName) → new z ≡ hung settled c w e z) →

@@ -1,6 +1,6 @@
 -- Lists of names.
 use Rattle.std.proofs.Common.{arith, ◌≡◌, ◌∙◌, sym, refl, List, ◌∷◌, [], ◌++◌, ◌⊎◌, inl, inr, Bool, true, false, cond}
-use Rattle.std.specs.Prelude.{Contains, ◌↔◌, ◌≢◌, ◌||◌, IsTrue}
+use Rattle.std.specs.Prelude.{Contains, ◌↔◌, ◌||◌, IsTrue}
 use Rattle.std.specs.List.{list_any}
 use Rattle.std.proofs.lemmas.Map.Views.{Contains-from_any}
 use Rattle.tree_node.specs.declared.names.VarName.{VarName}
@@ -34,16 +34,3 @@ name_added names x new = go (list_any (same_name x) names) refl
     go : (b : Bool) → list_any (same_name x) names ≡ b → cond b names (names ++ x ∷ []) ≡ names ++ x ∷ []
     go true e = absurd (new (contains_any names x e))
     go false e = refl
-
--- a name that is known no longer
-pub name_forgotten : (old new : List VarName) (x y : VarName) → list_any (same_name y) new ≡ cond (same_name x y) false (list_any (same_name y) old) →
-    Contains new y ↔ (Contains old y × (y ≢ x))
-name_forgotten old new x y e = (λ h. left (same_name x y) refl (sym (any_contains new y h) ∙ e), λ h. contains_any new y (e ∙ right (same_name x y) refl h))
-  where
-    left : (b : Bool) → same_name x y ≡ b → true ≡ cond b false (list_any (same_name y) old) → Contains old y × (y ≢ x)
-    left true p q = cc
-    left false p q = (contains_any old y (sym q), λ (k : y ≡ x). let yes : same_name x y ≡ true = (same_name_decides x y).1 (sym k) in cc)
-
-    right : (b : Bool) → same_name x y ≡ b → Contains old y × (y ≢ x) → cond b false (list_any (same_name y) old) ≡ true
-    right true p h = absurd (h.1 (sym ((same_name_decides x y).0 p)))
-    right false p h = any_contains old y h.0

@@ -28,8 +28,6 @@ fn names_become_known(rt: HostRuntime) -> Result<(), Fail> {
     assert_eq!(rt; fresh(&mut store, 1)?, None);
     store.know(var(3))?;
     assert!(rt; store.known(var(3)) && !store.known(var(9)));
-    store.forget(var(3));
-    assert!(rt; !store.known(var(3)) && store.known(var(2)));
     is_send(store);
     Ok(())
 }

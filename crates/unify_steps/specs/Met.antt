@@ -1,5 +1,5 @@
 -- How the pairs of nodes that were met are indexed: by their marks.
-use Rattle.std.specs.Prelude.{◌≡◌, ℕ, List, [], ◌∷◌, Bool, nat_eq, filter, Option, Some, None}
+use Rattle.std.specs.Prelude.{◌≡◌, ℕ, List, [], Bool, nat_eq, filter, Option, Some, None}
 use Rattle.std.specs.Global.{Vec}
 use Rattle.std.specs.Map.{lookup}
 use Rattle.tree_node.specs.declared.node.Node.{Node}

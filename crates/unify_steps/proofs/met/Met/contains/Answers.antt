@@ -1,8 +1,6 @@
-use Rattle.std.proofs.Common.{◌∙◌, sym, ap, List, nat_eq}
-use Rattle.std.specs.Map.{lookup}
+use Rattle.std.proofs.Common.{◌∙◌, ap, List}
 use Rattle.tree_node.specs.declared.node.Node.{Node}
 use Rattle.tree_node.specs.Goal.{was_met}
-use Rattle.unify_steps.specs.Marks.{pair_mark}
 use Rattle.unify_steps.specs.Met.{pairs_of}
 use Rattle.unify_steps.proofs.MetLemmas.{found_met}
 use Rattle.unify_steps.proofs.met.Met.contains.Goals as goal
