@@ -1,6 +1,6 @@
 //! Laws of steps and runs.
 
-ghost use Rattle.oz_model.specs.Laws.{AtMostOne, AtMostOneEnd, RestIsRest, RestOrStep, WaitsForUnbound, RunsAreSound, RunsGoOn, ExchangesChain, ExchangesEnd, CellsAreChains, CellsHaveContents, NamesAreKnown, RunsAreOnce};
+ghost use Rattle.oz_model.specs.Laws.{AtMostOne, AtMostOneEnd, RestIsRest, RestOrStep, WaitsForUnbound, RunsAreSound, RunsGoOn, ExchangesChain, ExchangesEnd, CellsAreChains, CellsHaveContents, StepsFindCells, NamesAreKnown, RunsAreOnce};
 ghost use Rattle.oz_model.specs.Answers.{MoreIsWithin, NodesAgree, CasesAgree, ShownAgree, NeedsAgree, BindsAgree, EffectsAgree, StepsStay, WaitsStay, BindsStay, LowerBinds};
 ghost use Rattle.oz_model.specs.Occurs.{TestTellsNew, TestTellsOccurs};
 ghost use Rattle.oz_model.specs.Examples.{ProcedureIsCalled, FieldIsMatched, HandlerHasException, ContentIsExchanged, ThreadIsMade, OverflowIsRaised, IntegerIsNoTruth};
@@ -20,12 +20,13 @@ pub fn runs_go_on()
 
 /// Each exchange of a cell gives the content that the one before put there, the first the content given to `NewCell`,
 /// and after the last the cell holds what that put there. A run makes a cell once at most, and a cell that occurs has a
-/// content.
+/// content: the cell that a step exchanges has one, and the cell that a step makes has none yet.
 pub fn exchanges_are_a_chain()
     ensures held { ExchangesChain }
     ensures end { ExchangesEnd }
     ensures chains { CellsAreChains }
     ensures contents { CellsHaveContents }
+    ensures steps { StepsFindCells }
 {}
 
 /// A step makes no names up but its fresh ones.
