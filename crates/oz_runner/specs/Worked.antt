@@ -56,9 +56,10 @@ RanToLimit text limit picks lines =
     (p : List Stmt) × (s : State) × IsRunOf text limit picks lines p s
     × HasOneEach s.equations × (length picks ≡ limit) × (AtRest p s → ⊥)
 
--- the machine might go on
+-- the machine might go on; each variable has at most one equation
 abbrev pub RanSoFar : List ℕ → ℕ → List Pick → List (List ℕ) → Type 0
-RanSoFar text limit picks lines = (p : List Stmt) × (s : State) × IsRunOf text limit picks lines p s
+RanSoFar text limit picks lines =
+    (p : List Stmt) × (s : State) × IsRunOf text limit picks lines p s × HasOneEach s.equations
 
 -- what a text came to, with so many steps at most: it is not UTF-8, or it is no program, or it was run. Want of memory
 -- has no cause

@@ -9,5 +9,6 @@ mod work;
 mod write;
 
 pub use oz_show::Status;
+pub use oz_words::command;
 pub use report::Report;
 pub use top::oz;

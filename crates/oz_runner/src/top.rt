@@ -21,7 +21,6 @@ use crate::{Report, Status};
 use oz_base::{Sink, Source};
 use oz_grammar::texts_have_one_of_both;
 use oz_show::{fixed_piece, last_line};
-use oz_words::action_names;
 use std::alloc::Global;
 
 /// Reads the words and a text, runs it, and writes its lines and the end line. `words` are the program's name and the
@@ -48,7 +47,7 @@ pub fn oz<S: Source, K: Sink>(
         × Written (K.taken sink.old) (K.taken sink.new) (K.faults sink.old) (K.faults sink.new) (output lines (end_line worked)) worked result.status }
 {
     texts_have_one_of_both();
-    let work = do_work(alloc, action_names(), words, source);
+    let work = do_work(alloc, words, source);
     told(alloc, sink, work)
 }
 

@@ -26,19 +26,13 @@ pub struct Work {
     pub lines: Vec<Line>,
 }
 
-/// Reads the words, which are the program's name and those after it, then the text, and runs it. The names are those of
-/// the actions.
-pub fn do_work<'a, S: Source>(
-    alloc: Global,
-    names: &'a [&'a str],
-    words: &'a [String],
-    source: &mut S,
-) -> Work
-    requires { AreActions names.now }
-    ensures worked { Worked names.entry (map string_bytes words.now) (S.left source.old) (S.left source.new) (S.faults source.old) (S.faults source.new) result.picks.items result.lines.items result.status }
+/// Reads the words, which are the program's name and those after it, then the text, and runs it.
+pub fn do_work<S: Source>(alloc: Global, words: &[String], source: &mut S) -> Work
+    ensures worked { (names : _) × AreActions names.now
+        × Worked names (map string_bytes words.now) (S.left source.old) (S.left source.new) (S.faults source.old) (S.faults source.new) result.picks.items result.lines.items result.status }
     ensures line { HasLine result.status }
 {
-    match read_options(alloc, names, words) {
+    match read_options(alloc, words) {
         Ok(options) => work_on_source(alloc, options.steps, source),
         Err(WordsError::Usage) => stopped(alloc, Status::Usage),
         Err(WordsError::Memory) => stopped(alloc, Status::Memory),

@@ -5,4 +5,4 @@ mod options;
 mod taken;
 
 pub use options::{Action, Options, UnknownAction, WordsError, read_options};
-pub use taken::{action_names, command};
+pub use taken::command;

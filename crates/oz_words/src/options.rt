@@ -58,14 +58,10 @@ impl From<AllocError> for WordsError {
 }
 
 // The matches of the words.
-fn parse<'a>(
-    alloc: Global,
-    names: &'a [&'a str],
-    words: &'a [String],
-) -> Result<ArgMatches<'a>, WordsError>
-    ensures { Parses names.entry (map string_bytes words.now) result }
+fn parse<'a>(alloc: Global, words: &'a [String]) -> Result<ArgMatches<'a>, WordsError>
+    ensures { (names : _) × AreActions names.now × Parses names (map string_bytes words.now) result }
 {
-    let command = match command(alloc, names) {
+    let command = match command(alloc) {
         Ok(command) => command,
         Err(_) => return Err(WordsError::Memory),
     };
@@ -94,18 +90,13 @@ fn action_in(matches: &ArgMatches) -> Action
     matches.get_one("action").unwrap()
 }
 
-/// The options that the words say, the first word being the program's name. The names are those of the actions.
+/// The options that the words say, the first word being the program's name.
 /// `Usage` comes exactly where the command refuses the words.
-pub fn read_options<'a>(
-    alloc: Global,
-    names: &'a [&'a str],
-    words: &'a [String],
-) -> Result<Options, WordsError>
-    requires { AreActions names.now }
-    ensures text { ReadsWords names.entry (map string_bytes words.now) result }
+pub fn read_options(alloc: Global, words: &[String]) -> Result<Options, WordsError>
+    ensures text { (names : _) × AreActions names.now × ReadsWords names (map string_bytes words.now) result }
     ensures range { IfOk result InRange }
 {
-    let matches = parse(alloc, names, words)?;
+    let matches = parse(alloc, words)?;
     Ok(Options {
         steps: steps_of(&matches),
         action: action_in(&matches),

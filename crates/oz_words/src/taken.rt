@@ -39,20 +39,25 @@ fn steps_parser<'a>() -> ValueParser<'a>
     value_parser!(u64).range(1..=1_000_000_000)
 }
 
-/// The names of the actions: `run`, the default, and `central`.
-pub fn action_names() -> &'static [&'static str]
+// The names of the actions, at the lifetime that the caller wants.
+fn action_names<'a>() -> &'a [&'a str]
     ensures { AreActions result.now }
 {
     ACTIONS.as_slice()
 }
 
-/// The command that takes `oz [--steps N] [run|central]`. The names are those of the actions: they are handed in since
-/// the command keeps a reference to them.
-pub fn command<'a>(alloc: Global, names: &'a [&'a str]) -> Result<Command<'a>, AllocError>
-    ensures { IfOk result (λ c. app_of c ≡ oz_app names.entry) }
+/// The command that takes `oz [--steps N] [run|central]`:
+///
+/// - `--steps N`, the most steps of a run, from 1 to 1,000,000,000; 1,000,000 where it is left out;
+/// - `run` or `central`, what to do with the text; `run` where it is left out.
+///
+/// Each is given at most once, and there is neither `--help` nor `--version`. The command borrows constants alone, so it
+/// comes at the lifetime that its caller wants: `'static`, or that of the words that it is to read.
+pub fn command<'a>(alloc: Global) -> Result<Command<'a>, AllocError>
+    ensures { (names : _) × AreActions names.now × IfOk result (λ c. app_of c ≡ oz_app names) }
 {
     let steps = option_of(alloc, "steps", steps_parser(), "1000000");
-    let action = action_of(alloc, names);
+    let action = action_of(alloc, action_names());
     Command::new(alloc, "oz")
         .disable_help_flag(true)
         .disable_version_flag(true)

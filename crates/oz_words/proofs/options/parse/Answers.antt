@@ -24,24 +24,28 @@ refused k (f ∷ fs) among = λ e. cc
 
 pub returns-in-Ok-try_get_matches_from : goal.returns-in-Ok-try_get_matches_from
 returns-in-Ok-try_get_matches_from c =
-    let is = c.in-Ok.ensures in
+    let names = c.in-Ok.ensures.0 in
+    let is = c.in-Ok.ensures.2 in
     let parsed = c.in-Ok-try_get_matches_from.ensures in
-    let names = c.args.names in
     let free : is_simple_and_free (app_of c.in-Ok.command) ≡ true = ap is_simple_and_free is ∙ simple_and_free names in
     let plain : is_simple (app_of c.in-Ok.command) ≡ true = ap is_simple is ∙ simple names in
-    let m = c.in-Ok-try_get_matches_from.matches in
-    record {
-      no_fault = sym (faults_are _ names _ is) ∙ parsed.kinds free;
-      rows = (parsed.matches plain).0 ∙ rows_are _ names _ is;
-      steps = steps_value c.in-Ok.command names is m parsed.parsed;
-      action = action_value c.in-Ok.command names is m parsed.parsed;
-    }
+    let m = c.in-Ok-try_get_matches_from.matches in (
+      names,
+      c.in-Ok.ensures.1,
+      record {
+        no_fault = sym (faults_are _ names _ is) ∙ parsed.kinds free;
+        rows = (parsed.matches plain).0 ∙ rows_are _ names _ is;
+        steps = steps_value c.in-Ok.command names is m parsed.parsed;
+        action = action_value c.in-Ok.command names is m parsed.parsed;
+      },
+    )
 
 pub returns : goal.returns
 returns c =
-    let is = c.in-Ok.ensures in
-    let free : is_simple_and_free (app_of c.in-Ok.command) ≡ true = ap is_simple_and_free is ∙ simple_and_free c.args.names in
+    let names = c.in-Ok.ensures.0 in
+    let is = c.in-Ok.ensures.2 in
+    let free : is_simple_and_free (app_of c.in-Ok.command) ≡ true = ap is_simple_and_free is ∙ simple_and_free names in
     elim (c.in-Err-try_get_matches_from.ensures.kinds free) [
       | inl memory ↦ absurd (c.in_default.not-OutOfMemory (c.kind.ensures ∙ memory))
-      | inr among ↦ λ none. refused _ _ among (faults_are _ c.args.names _ is ∙ none)
+      | inr among ↦ (names, c.in-Ok.ensures.1, λ none. refused _ _ among (faults_are _ names _ is ∙ none))
     ]
