@@ -9,7 +9,7 @@ ghost use Rattle.oz_words.specs.Words.{ReadsWords, InRange, Says, action_name, N
 use crate::taken::command;
 use clap::ArgMatches;
 use clap::error::ErrorKind;
-use std::alloc::{AllocError, Global};
+use std::alloc::Global;
 use std::str::FromStr;
 
 /// What to do with the text: run it over its sites, or on the centralised machine.
@@ -49,12 +49,6 @@ pub struct Options {
 pub enum WordsError {
     Usage,
     Memory,
-}
-
-impl From<AllocError> for WordsError {
-    fn from(_: AllocError) -> Self {
-        WordsError::Memory
-    }
 }
 
 // The matches of the words.
