@@ -18,19 +18,16 @@ use Rattle.oz_model.specs.Examples as examples
 use Rattle.oz_model.specs.Rows.{RunsTo}
 use Rattle.oz_model.proofs.OccursLemmas.{test_tells_new, name_decides}
 use Rattle.oz_model.proofs.RowsRun.{ends}
+use Rattle.std.proofs.lemmas.Bool.{or_parts}
 
 -- ---- fresh names by tests
-
-or_false : (a b : Bool) → (a || b) ≡ false → (a ≡ false) × (b ≡ false)
-or_false true b e = cc
-or_false false b e = (refl, e)
 
 differ : (x y : Name) → equal_name x y ≡ false → x ≢ y
 differ x y e same = let yes : equal_name x y ≡ true = (name_decides x y).1 same in cc
 
 all_differ : (x : Name) (names : List Name) → list_any (equal_name x) names ≡ false → Each (λ y. x ≢ y) names
 all_differ x [] e = tt
-all_differ x (y ∷ names) e = let parts = or_false (equal_name x y) (list_any (equal_name x) names) e in (differ x y parts.0, all_differ x names parts.1)
+all_differ x (y ∷ names) e = let parts = or_parts (equal_name x y) (list_any (equal_name x) names) e in (differ x y parts.0, all_differ x names parts.1)
 
 -- two of these names are the same
 abbrev repeats : List Name → Bool
@@ -39,11 +36,11 @@ repeats (x ∷ names) = list_any (equal_name x) names || repeats names
 
 distinct : (names : List Name) → repeats names ≡ false → AreDistinct names
 distinct [] e = tt
-distinct (x ∷ names) e = let parts = or_false (list_any (equal_name x) names) (repeats names) e in (all_differ x names parts.0, distinct names parts.1)
+distinct (x ∷ names) e = let parts = or_parts (list_any (equal_name x) names) (repeats names) e in (all_differ x names parts.0, distinct names parts.1)
 
 all_new : (s : State) (names : List Name) → list_any (occurs s) names ≡ false → Each (IsNew s) names
 all_new s [] e = tt
-all_new s (x ∷ names) e = let parts = or_false (occurs s x) (list_any (occurs s) names) e in ((test_tells_new s x).0 parts.0, all_new s names parts.1)
+all_new s (x ∷ names) e = let parts = or_parts (occurs s x) (list_any (occurs s) names) e in ((test_tells_new s x).0 parts.0, all_new s names parts.1)
 
 fresh : (s : State) (kinds : List NameKind) (names : List Name) → map kind_of names ≡ kinds → repeats names ≡ false → list_any (occurs s) names ≡ false → AreFresh s kinds names
 fresh s kinds names k d n = record { of_kinds = k; distinct = distinct names d; unused = all_new s names n }

@@ -30,12 +30,13 @@ use Rattle.oz_model.specs.Effect.{CellChange, Stays, Made, Exchanged, stack_effe
 use Rattle.oz_model.specs.Step.{kind_of, content_of, cells_after, effect_of, stack_of, next, Step}
 use Rattle.oz_model.specs.Run.{Runs, exchange_in, exchanges_from}
 use Rattle.oz_model.specs.Laws.{IsChainFrom, ExchangesChain}
+use Rattle.tree_node.proofs.AssocLemmas.{value_of-with_value, value_of-with_value-other}
 use Rattle.oz_model.proofs.KindLemmas.{kinds_one, only_cell, equal_cell_decides}
 
 -- ---- a cell that is made is a fresh name
 
 -- it is one of these names
-abbrev MakesFrom : List Name → CellChange → Type 0
+abbrev pub MakesFrom : List Name → CellChange → Type 0
 MakesFrom fresh (Made cell content) = (rest : List Name) × (fresh ≡ name.Cell cell ∷ rest)
 MakesFrom fresh _ = Unit {0}
 
@@ -72,7 +73,7 @@ pair_makes a b pairs met rest fresh bind Binds = tt
 pair_makes a b pairs met rest fresh bind (Opened m n fields) = tt
 pair_makes a b pairs met rest fresh bind Failed = fails_makes fresh FailureTell rest (vars_among fresh)
 
-stack_makes : (p : List Stmt) (s : Store) (fresh : List Name) (bind : Option Equation) (stack : Stack) → map kind_of fresh ≡ kinds_of (stack_need p s stack) → MakesFrom fresh (stack_effect p s fresh bind stack).cell
+pub stack_makes : (p : List Stmt) (s : Store) (fresh : List Name) (bind : Option Equation) (stack : Stack) → map kind_of fresh ≡ kinds_of (stack_need p s stack) → MakesFrom fresh (stack_effect p s fresh bind stack).cell
 stack_makes p s fresh bind [] e = tt
 stack_makes p s fresh bind (Run code env ∷ rest) e = outcome_makes p env rest fresh (outcome_of p s code env (stmt_at p code)) e
 stack_makes p s fresh bind (Mark code at env ∷ rest) e = tt
@@ -101,26 +102,11 @@ new_is_other (d ∷ cells) cell c content h e = go (equal_cell d.0 c) (equal_cel
 
 -- the content that a cell has after a value is put at another cell, or at itself
 pub put_here : (cells : List (CellName × VarName)) (c : CellName) (old new : VarName) → value_of equal_cell cells c ≡ Some old → value_of equal_cell (with_value equal_cell cells c new) c ≡ Some new
-put_here [] c old new e = cc
-put_here (d ∷ cells) c old new e = go (equal_cell d.0 c) refl (put_here cells c old new)
-  where
-    here : equal_cell c c ≡ true
-    here = (equal_cell_decides c c).1 refl
-
-    go : (b : Bool) → equal_cell d.0 c ≡ b → (value_of equal_cell cells c ≡ Some old → value_of equal_cell (with_value equal_cell cells c new) c ≡ Some new) → value_of equal_cell (cond b ((c, new) ∷ cells) (d ∷ with_value equal_cell cells c new)) c ≡ Some new
-    go true at later = rw here refl
-    go false at later = rw at (later (sym (rw at refl) ∙ e))
+put_here cells c old new e = value_of-with_value equal_cell equal_cell_decides cells c new old e
 
 pub put_there : (cells : List (CellName × VarName)) (cell c : CellName) (new : VarName) → equal_cell cell c ≡ false → value_of equal_cell (with_value equal_cell cells cell new) c ≡ value_of equal_cell cells c
-put_there [] cell c new apart = refl
-put_there (d ∷ cells) cell c new apart = go (equal_cell d.0 cell) refl (put_there cells cell c new apart)
-  where
-    go : (b : Bool) → equal_cell d.0 cell ≡ b → value_of equal_cell (with_value equal_cell cells cell new) c ≡ value_of equal_cell cells c → value_of equal_cell (cond b ((cell, new) ∷ cells) (d ∷ with_value equal_cell cells cell new)) c ≡ value_of equal_cell (d ∷ cells) c
-    go true at later =
-        let same : d.0 ≡ cell = (equal_cell_decides d.0 cell).0 at in
-        let also : equal_cell d.0 c ≡ false = subst (λ (x : CellName). equal_cell x c ≡ false) (sym same) apart in
-        rw (apart, also) refl
-    go false at later = ap (λ (o : Option VarName). cond (equal_cell d.0 c) (Some d.1) o) later
+put_there cells cell c new apart =
+    value_of-with_value-other equal_cell equal_cell_decides cells cell c new (λ e. let yes : equal_cell cell c ≡ true = (equal_cell_decides cell c).1 e in cc)
 
 -- ---- a step, and a run
 

@@ -1,3 +1,6 @@
+pub mod ListLemmas
+pub mod CoverLemmas
+pub mod ShapeLemmas
 pub mod RunLemmas
 pub mod NameLemmas
 pub mod BindLemmas
@@ -18,3 +21,6 @@ pub mod ExamplesRun
 pub mod DownLemmas
 pub mod OnceLemmas
 pub mod NodesWell
+pub mod ShownNames
+pub mod AloneLemmas
+pub mod TakenLemmas

@@ -1,7 +1,6 @@
 -- Threads and cells are named once, and living threads have items.
-use Rattle.std.proofs.Common.{◌≡◌, ◌≢◌, sym, ap, refl, subst, List, [], ◌∷◌, ◌++◌, map, Bool, true, false, cond, Some, None}
+use Rattle.std.proofs.Common.{◌≡◌, ◌≢◌, sym, ap, refl, subst, List, [], ◌∷◌, ◌++◌, map, Some, None}
 use Rattle.std.specs.Prelude.{Option, codes}
-use Rattle.std.specs.Bool.{Decides}
 use Rattle.tree_node.specs.declared.names.VarName.{VarName}
 use Rattle.tree_node.specs.declared.names.CellName.{CellName}
 use Rattle.tree_node.specs.declared.names.ThreadName.{ThreadName}
@@ -12,7 +11,7 @@ use Rattle.tree_node.specs.declared.node.Node.{Node}
 use Rattle.tree_node.specs.declared.node.Term.{Term}
 use Rattle.tree_node.specs.declared.item.Item.TheVariants as item
 use Rattle.tree_node.specs.declared.pick.Pick.{Pick}
-use Rattle.tree_node.specs.Assoc.{with_value, without_key, goes_on}
+use Rattle.tree_node.specs.Assoc.{goes_on}
 use Rattle.tree_node.specs.Each.{Each, AreDistinct}
 use Rattle.tree_node.specs.Env.{Env}
 use Rattle.tree_node.specs.Goal.{Case, Dropped, Binds, Opened, Failed, case_of, equal_cell}
@@ -30,79 +29,15 @@ use Rattle.oz_model.specs.Outcome.{outcome_of, prints}
 use Rattle.oz_model.specs.Need.{outcome_need, stack_need, kinds_of}
 use Rattle.oz_model.specs.Effect.{Birth, CellChange, Stays, Made, Exchanged, stack_effect, outcome_effect, goal_effect, pair_effect, fails, vars_among, thread_among}
 use Rattle.oz_model.specs.Step.{kind_of, cells_after, settled, living, threads_born, effect_of, stack_of, IsAllowed, next}
+use Rattle.tree_node.proofs.AssocLemmas.{keys, Each-goes_on, Each-keys-goes_on, AreDistinct-with_value, AreDistinct-goes_on}
 use Rattle.oz_model.specs.Run.{Runs, start}
 use Rattle.oz_model.specs.Laws.{AreOnce, RunsAreOnce}
 use Rattle.oz_model.proofs.KindLemmas.{equal_cell_decides, same_thread_decides, kinds_one, only_thread}
 use Rattle.oz_model.proofs.ExchangeLemmas.{step_makes}
 
--- ---- keys
-
-module _ {K V : Type 0} (same : K → K → Bool) (decides : (a b : K) → Decides (same a b) (a ≡ b)) where
-  abbrev keys : List (K × V) → List K
-  keys es = map (λ (e : K × V). e.0) es
-
-  -- what holds of all keys
-  with_keys : (P : K → Type 0) (es : List (K × V)) (k : K) (v : V) → Each P (keys es) → Each P (keys (with_value same es k v))
-  with_keys P [] k v h = tt
-  with_keys P (e ∷ es) k v h = go (same e.0 k) refl (with_keys P es k v h.1)
-    where
-      go : (b : Bool) → same e.0 k ≡ b → Each P (keys (with_value same es k v)) → Each P (keys (cond b ((k, v) ∷ es) (e ∷ with_value same es k v)))
-      go true at r = (subst P ((decides e.0 k).0 at) h.0, h.1)
-      go false at r = (h.0, r)
-
-  without_keys : (P : K → Type 0) (es : List (K × V)) (k : K) → Each P (keys es) → Each P (keys (without_key same es k))
-  without_keys P [] k h = tt
-  without_keys P (e ∷ es) k h = go (same e.0 k) (without_keys P es k h.1)
-    where
-      go : (b : Bool) → Each P (keys (without_key same es k)) → Each P (keys (cond b (without_key same es k) (e ∷ without_key same es k)))
-      go true r = r
-      go false r = (h.0, r)
-
-  goes_keys : (P : K → Type 0) (es : List (K × V)) (k : K) (o : Option V) → Each P (keys es) → Each P (keys (goes_on same es k o))
-  goes_keys P es k None h = without_keys P es k h
-  goes_keys P es k (Some v) h = with_keys P es k v h
-
-  -- keys that differ
-  with_distinct : (es : List (K × V)) (k : K) (v : V) → AreDistinct (keys es) → AreDistinct (keys (with_value same es k v))
-  with_distinct [] k v h = tt
-  with_distinct (e ∷ es) k v h = go (same e.0 k) refl (with_distinct es k v h.1)
-    where
-      go : (b : Bool) → same e.0 k ≡ b → AreDistinct (keys (with_value same es k v)) → AreDistinct (keys (cond b ((k, v) ∷ es) (e ∷ with_value same es k v)))
-      go true at r = (subst (λ (x : K). Each (λ y. x ≢ y) (keys es)) ((decides e.0 k).0 at) h.0, h.1)
-      go false at r = (with_keys (λ y. e.0 ≢ y) es k v h.0, r)
-
-  without_distinct : (es : List (K × V)) (k : K) → AreDistinct (keys es) → AreDistinct (keys (without_key same es k))
-  without_distinct [] k h = tt
-  without_distinct (e ∷ es) k h = go (same e.0 k) (without_distinct es k h.1)
-    where
-      go : (b : Bool) → AreDistinct (keys (without_key same es k)) → AreDistinct (keys (cond b (without_key same es k) (e ∷ without_key same es k)))
-      go true r = r
-      go false r = (without_keys (λ y. e.0 ≢ y) es k h.0, r)
-
-  goes_distinct : (es : List (K × V)) (k : K) (o : Option V) → AreDistinct (keys es) → AreDistinct (keys (goes_on same es k o))
-  goes_distinct es k None h = without_distinct es k h
-  goes_distinct es k (Some v) h = with_distinct es k v h
-
-  -- what holds of all values
-  with_values : (Q : K × V → Type 0) (es : List (K × V)) (k : K) (v : V) → Q (k, v) → Each Q es → Each Q (with_value same es k v)
-  with_values Q [] k v q h = tt
-  with_values Q (e ∷ es) k v q h = go (same e.0 k) (with_values Q es k v q h.1)
-    where
-      go : (b : Bool) → Each Q (with_value same es k v) → Each Q (cond b ((k, v) ∷ es) (e ∷ with_value same es k v))
-      go true r = (q, h.1)
-      go false r = (h.0, r)
-
-  without_values : (Q : K × V → Type 0) (es : List (K × V)) (k : K) → Each Q es → Each Q (without_key same es k)
-  without_values Q [] k h = tt
-  without_values Q (e ∷ es) k h = go (same e.0 k) (without_values Q es k h.1)
-    where
-      go : (b : Bool) → Each Q (without_key same es k) → Each Q (cond b (without_key same es k) (e ∷ without_key same es k))
-      go true r = r
-      go false r = (h.0, r)
-
 -- ---- a thread that is born is a fresh name
 
-abbrev BornFrom : List Name → Option Birth → Type 0
+abbrev pub BornFrom : List Name → Option Birth → Type 0
 BornFrom fresh None = Unit {0}
 BornFrom fresh (Some b) = (rest : List Name) × (fresh ≡ name.Thread b.name ∷ rest)
 
@@ -139,7 +74,7 @@ pair_born a b pairs met rest fresh bind Binds = tt
 pair_born a b pairs met rest fresh bind (Opened m n fields) = tt
 pair_born a b pairs met rest fresh bind Failed = fails_born fresh FailureTell rest (vars_among fresh)
 
-stack_born : (p : List Stmt) (s : Store) (fresh : List Name) (bind : Option Equation) (stack : Stack) → map kind_of fresh ≡ kinds_of (stack_need p s stack) → BornFrom fresh (stack_effect p s fresh bind stack).born
+pub stack_born : (p : List Stmt) (s : Store) (fresh : List Name) (bind : Option Equation) (stack : Stack) → map kind_of fresh ≡ kinds_of (stack_need p s stack) → BornFrom fresh (stack_effect p s fresh bind stack).born
 stack_born p s fresh bind [] e = tt
 stack_born p s fresh bind (item.Run code env ∷ rest) e = outcome_born p env rest fresh (outcome_of p s code env (stmt_at p code)) e
 stack_born p s fresh bind (item.Mark code at env ∷ rest) e = tt
@@ -152,18 +87,18 @@ stack_born p s fresh bind (item.Goals b ∷ rest) e = go b.pairs
 
 -- ---- a step
 
-thread_names : (ts : List (ThreadName × Stack)) (n : ThreadName) → Each (EachOfThread (λ y. y ≢ name.Thread n)) ts → Each (λ m. n ≢ m) (keys same_thread same_thread_decides ts)
+thread_names : (ts : List (ThreadName × Stack)) (n : ThreadName) → Each (EachOfThread (λ y. y ≢ name.Thread n)) ts → Each (λ m. n ≢ m) (keys ts)
 thread_names [] n h = tt
 thread_names (t ∷ ts) n h = ((λ e. h.0.0 (ap name.Thread (sym e))), thread_names ts n h.1)
 
-cell_names : (cells : List (CellName × VarName)) (c : CellName) → Each (EachOfCell (λ y. y ≢ name.Cell c)) cells → Each (λ d. c ≢ d) (keys equal_cell equal_cell_decides cells)
+cell_names : (cells : List (CellName × VarName)) (c : CellName) → Each (EachOfCell (λ y. y ≢ name.Cell c)) cells → Each (λ d. c ≢ d) (keys cells)
 cell_names [] c h = tt
 cell_names (d ∷ cells) c h = ((λ e. h.0.0 (ap name.Cell (sym e))), cell_names cells c h.1)
 
 -- threads that are named once, and one more with a fresh name
 born_distinct : (p : List Stmt) (s : State) (fresh : List Name) (b : Option Birth) (ts : List (ThreadName × Stack)) → BornFrom fresh b → Each (IsNew s) fresh →
-    ((n : ThreadName) → IsNew s (name.Thread n) → Each (λ m. n ≢ m) (keys same_thread same_thread_decides ts)) → AreDistinct (keys same_thread same_thread_decides ts) →
-    AreDistinct (keys same_thread same_thread_decides (threads_born p b ++ ts))
+    ((n : ThreadName) → IsNew s (name.Thread n) → Each (λ m. n ≢ m) (keys ts)) → AreDistinct (keys ts) →
+    AreDistinct (keys (threads_born p b ++ ts))
 born_distinct p s fresh None ts from new apart h = h
 born_distinct p s fresh (Some b) ts from new apart h =
     (apart b.name (subst (λ (f : List Name). Each (IsNew s) f) from.1 new).0, h)
@@ -173,13 +108,16 @@ born_items p None ts h = h
 born_items p (Some b) ts h = ((λ e. cc), h)
 
 living_items : (ts : List (ThreadName × Stack)) (n : ThreadName) (stack : Stack) → Each (λ (t : ThreadName × Stack). t.1 ≢ []) ts → Each (λ (t : ThreadName × Stack). t.1 ≢ []) (goes_on same_thread ts n (living stack))
-living_items ts n [] h = without_values same_thread same_thread_decides (λ t. t.1 ≢ []) ts n h
-living_items ts n (i ∷ is) h = with_values same_thread same_thread_decides (λ t. t.1 ≢ []) ts n (i ∷ is) (λ e. cc) h
+living_items ts n stack h = Each-goes_on same_thread (λ t. t.1 ≢ []) ts n (living stack) (λ rest is. lives stack rest is) h
+  where
+    lives : (stack rest : Stack) → living stack ≡ Some rest → rest ≢ []
+    lives [] rest is = cc
+    lives (i ∷ items) rest is = λ e. cc
 
-cells_distinct : (s : State) (change : CellChange) → ((cell : CellName) (x : VarName) → change ≡ Made cell x → IsNew s (name.Cell cell)) → AreDistinct (keys equal_cell equal_cell_decides s.cells) → AreDistinct (keys equal_cell equal_cell_decides (cells_after s.cells change))
+cells_distinct : (s : State) (change : CellChange) → ((cell : CellName) (x : VarName) → change ≡ Made cell x → IsNew s (name.Cell cell)) → AreDistinct (keys s.cells) → AreDistinct (keys (cells_after s.cells change))
 cells_distinct s Stays new h = h
 cells_distinct s (Made cell x) new h = (cell_names s.cells cell (new cell x refl).1, h)
-cells_distinct s (Exchanged cell content told) new h = with_distinct equal_cell equal_cell_decides s.cells cell content h
+cells_distinct s (Exchanged cell content told) new h = AreDistinct-with_value equal_cell equal_cell_decides s.cells cell content h
 
 once_step : (p : List Stmt) (s : State) (k : Pick) → IsAllowed p s k → AreOnce s → AreOnce (next p s k)
 once_step p s k a h =
@@ -189,8 +127,8 @@ once_step p s k a h =
       threads =
           born_distinct p s k.fresh e.born (goes_on same_thread s.threads k.thread (living stack))
           (stack_born p s.equations k.fresh k.bind (stack_of s k.thread) a.fresh.of_kinds) a.fresh.unused
-          (λ n new. goes_keys same_thread same_thread_decides (λ m. n ≢ m) s.threads k.thread (living stack) (thread_names s.threads n new.2))
-          (goes_distinct same_thread same_thread_decides s.threads k.thread (living stack) h.threads);
+          (λ n new. Each-keys-goes_on same_thread same_thread_decides (λ m. n ≢ m) s.threads k.thread (living stack) (thread_names s.threads n new.2))
+          (AreDistinct-goes_on same_thread same_thread_decides s.threads k.thread (living stack) h.threads);
       stacks = born_items p e.born _ (living_items s.threads k.thread stack h.stacks);
       cells = cells_distinct s e.cell (step_makes p s k (next p s k) (a, refl)) h.cells;
     }

@@ -1,7 +1,6 @@
 -- A thread that does not wait has a step.
-use Rattle.std.proofs.Common.{rules, ◌≡◌, ◌∙◌, sym, refl, subst, List, [], ◌∷◌, ◌⊎◌, inl, inr, Some, None}
+use Rattle.std.proofs.Common.{◌≡◌, ◌∙◌, sym, refl, subst, List, [], ◌∷◌, ◌⊎◌, inl, inr, Some, None}
 use Rattle.std.specs.Prelude.{Option, Bool, true, false, ◌||◌, codes}
-use Rattle.std.specs.Bool.{Decides}
 use Rattle.tree_node.specs.declared.names.ThreadName.{ThreadName}
 use Rattle.tree_node.specs.declared.names.NameKind.{NameKind}
 use Rattle.tree_node.specs.declared.names.NameKind.TheVariants as kind
@@ -25,6 +24,8 @@ use Rattle.oz_model.specs.Run.{AtRest}
 use Rattle.oz_model.specs.Laws.{RestOrStep}
 use Rattle.oz_model.proofs.NameLemmas.{some_fresh}
 use Rattle.oz_model.proofs.BindLemmas.{some_bind}
+use Rattle.oz_model.proofs.KindLemmas.{same_thread_decides}
+use Rattle.std.proofs.lemmas.Bool.{or_parts}
 
 -- something can be chosen for it, unless it waits
 abbrev Goes : Store → Need → Type 0
@@ -66,9 +67,6 @@ stack_goes p s (Goals b ∷ rest) = go b.pairs
 
 -- ---- the threads of a state
 
-same_thread_decides : (a b : ThreadName) → Decides (same_thread a b) (a ≡ b)
-same_thread_decides a b = search rules
-
 abbrev is_hidden : List ThreadName → ThreadName → Bool
 is_hidden [] n = false
 is_hidden (m ∷ ms) n = same_thread m n || is_hidden ms n
@@ -99,10 +97,6 @@ hidden_apart hidden m n h g = go (same_thread m n) refl
         let both : is_hidden hidden n ≡ true = rw (← same) h in
         cc
 
-or_false : (a b : Bool) → (a || b) ≡ false → (a ≡ false) × (b ≡ false)
-or_false true b e = cc
-or_false false b e = (refl, e)
-
 find : (p : List Stmt) (s : Store) (hidden : List ThreadName) (ts : List (ThreadName × Stack)) → Found p s hidden ts
 find p s hidden [] = inl (λ n st h at. cc)
 find p s hidden (t ∷ ts) = go (is_hidden hidden t.0) refl (λ hs. find p s hs ts)
@@ -117,7 +111,7 @@ find p s hidden (t ∷ ts) = go (is_hidden hidden t.0) refl (λ hs. find p s hs 
             subst (λ (x : Stack). IsWaiting (stack_need p s x)) same w
         one n st h at false e = waits n st (rw (e, h) refl) (sym (rw e refl) ∙ at)
     waits_here w seen (inr (n, st, h, at, ready, bind)) =
-        let parts : (same_thread t.0 n ≡ false) × (is_hidden hidden n ≡ false) = or_false (same_thread t.0 n) (is_hidden hidden n) h in
+        let parts : (same_thread t.0 n ≡ false) × (is_hidden hidden n ≡ false) = or_parts (same_thread t.0 n) (is_hidden hidden n) h in
         inr (n, st, parts.1, (rw parts.0 at), ready, bind)
 
     goes : is_hidden hidden t.0 ≡ false → Goes s (stack_need p s t.1) → Found p s (t.0 ∷ hidden) ts → Found p s hidden (t ∷ ts)

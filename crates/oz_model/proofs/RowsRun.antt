@@ -26,6 +26,7 @@ use Rattle.oz_model.specs.Step.{IsAllowed, AreFresh, IsBindFor, need_of, next}
 use Rattle.oz_model.specs.Run.{AtRest, Runs, first_thread, start}
 use Rattle.oz_model.specs.Rows.{IntegerIsPrinted, FailureIsReported, UnboundIsAwaited, AtomIsPrinted, AtomIsPrintedToo, SkipEnds, AreRefused, IsRefused, RunsTo, MarksCatch}
 use Rattle.oz_model.specs.Rows as rows
+use Rattle.std.proofs.lemmas.Bool.{and_parts}
 
 -- the pick has names where the need takes some, and a bind where it binds
 abbrev fits : Need → List Name → Option Equation → Bool
@@ -54,10 +55,6 @@ abbrev end : List Stmt → State → List Pick → State
 end p s [] = s
 end p s (k ∷ ks) = end p (next p s k) ks
 
-both : (a b : Bool) → (a && b) ≡ true → (a ≡ true) × (b ≡ true)
-both true b e = (refl, e)
-both false b e = cc
-
 none_fresh : (s : State) → AreFresh s [] []
 none_fresh s = record { of_kinds = refl; distinct = tt; unused = tt }
 
@@ -85,8 +82,8 @@ allowed p s n names bind More lives fit choice =
 runs : (p : List Stmt) (s : State) (ks : List Pick) → all_fit p s ks ≡ true → Choices p s ks → Runs p s ks (end p s ks)
 runs p s [] e c = refl
 runs p s (k ∷ ks) e c =
-    let lives = both (is_some (value_of same_thread s.threads k.thread)) (fits (need_of p s k.thread) k.fresh k.bind && all_fit p (next p s k) ks) e in
-    let fit = both (fits (need_of p s k.thread) k.fresh k.bind) (all_fit p (next p s k) ks) lives.1 in
+    let lives = and_parts (is_some (value_of same_thread s.threads k.thread)) (fits (need_of p s k.thread) k.fresh k.bind && all_fit p (next p s k) ks) e in
+    let fit = and_parts (fits (need_of p s k.thread) k.fresh k.bind) (all_fit p (next p s k) ks) lives.1 in
     let a = allowed p s k.thread k.fresh k.bind (Choices p (next p s k) ks) lives.0 fit.0 c in
     (next p s k, (a.0, refl), runs p (next p s k) ks fit.1 a.1)
 

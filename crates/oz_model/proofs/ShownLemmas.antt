@@ -1,12 +1,13 @@
 -- A variable shows alike in a store that says more, or needs the same variable.
 use Rattle.std.proofs.Common.{arith, ◌≡◌, ◌∙◌, sym, ap, refl, subst, ℕ, ◌≤◌, ◌+◌, ◌-◌, zero, suc, List, [], ◌∷◌, ◌++◌, Bool, true, false, cond, Some, None}
-use Rattle.std.specs.Prelude.{Option, ◌||◌, ◌&&◌, nat_lt, codes, if◌then◌else◌}
+use Rattle.std.specs.Prelude.{Option, ◌&&◌, nat_lt, codes, if◌then◌else◌}
 use Rattle.tree_node.specs.declared.names.VarName.{VarName}
 use Rattle.tree_node.specs.declared.node.Node.{Node}
 use Rattle.tree_node.specs.declared.node.Node.TheVariants as node
 use Rattle.tree_node.specs.declared.node.Feature.{Feature}
 use Rattle.tree_node.specs.Store.{Store, node_of}
 use Rattle.tree_node.specs.Shown.{Show, Text, Needs, Walk, go_on, is_feature, is_cut, is_pair, in_brackets, head_and_tail, show_fields, show_pair, show_rec, show_node, show_found, show_var, shown_within}
+use Rattle.std.proofs.Math.Bool.{and-false, or-true}
 
 -- the same text, or the same need where that has no node
 abbrev pub Refines : Store → ℕ → Show → Show → Type 0
@@ -37,28 +38,20 @@ fields_more c w v d ih level left next ((f, x) ∷ fs) le =
     go rest = refine_go c left _ _ _ _ (ih (level + 1) left x le) (λ t l e k.
         refine_go c l _ _ _ _ (rest l (if is_feature next f then next + 1 else next) (omega (arith, k, le))) (λ t2 l2 e2 k2. (omega arith, refl)))
 
-or_true : (b : Bool) → (b || true) ≡ true
-or_true true = refl
-or_true false = refl
-
-and_false : (b : Bool) → (b && false) ≡ false
-and_false true = refl
-and_false false = refl
-
 cut_at : (level left : ℕ) → left ≡ 0 → is_cut level left ≡ true
-cut_at level left e = rw e (or_true (nat_lt 20 level))
+cut_at level left e = rw e (or-true (nat_lt 20 level))
 
 -- what has a node in s has it in c
 module _ (s c : Store) (stay : (x : VarName) (n : Node) → node_of s x ≡ Some n → node_of c x ≡ Some n) where
   brackets_same : (d level left : ℕ) (x : VarName) (t : List ℕ) (l : ℕ) → left ≤ d → show_var d s level left x ≡ Text t l →
       (is_pair (node_of s x) && (if is_cut level left then false else true)) ≡ (is_pair (node_of c x) && (if is_cut level left then false else true))
   brackets_same zero level left x t l le e =
-      rw (cut_at level left (omega arith)) (and_false (is_pair (node_of s x)) ∙ sym (and_false (is_pair (node_of c x))))
+      rw (cut_at level left (omega arith)) (and-false (is_pair (node_of s x)) ∙ sym (and-false (is_pair (node_of c x))))
   brackets_same (suc d) level left x t l le e = go (is_cut level left) (node_of s x) refl e
     where
       go : (b : Bool) (o : Option Node) → node_of s x ≡ o → cond b (Text (codes ",,,") left) (show_found s (show_var d s) level (left - 1) x o) ≡ Text t l →
           (is_pair o && (if b then false else true)) ≡ (is_pair (node_of c x) && (if b then false else true))
-      go true o q k = and_false (is_pair o) ∙ sym (and_false (is_pair (node_of c x)))
+      go true o q k = and-false (is_pair o) ∙ sym (and-false (is_pair (node_of c x)))
       go false None q k = cc
       go false (Some n) q k = rw (stay x n q) refl
 

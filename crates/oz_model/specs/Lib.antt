@@ -1,6 +1,9 @@
 pub mod Outcome
+pub mod Shapes
 pub mod Need
 pub mod Effect
+pub mod EffectNames
+pub mod Covered
 pub mod Step
 pub mod Run
 pub mod Occurs
@@ -8,5 +11,6 @@ pub mod Output
 pub mod WellFormed
 pub mod Answers
 pub mod Laws
+pub mod Alone
 pub mod Rows
 pub mod Examples

@@ -1,11 +1,17 @@
 //! Laws of steps and runs.
 
-ghost use Rattle.oz_model.specs.Laws.{AtMostOne, AtMostOneEnd, RestIsRest, RestOrStep, WaitsForUnbound, RunsAreSound, RunsGoOn, ExchangesChain, ExchangesEnd, CellsAreChains, CellsHaveContents, StepsFindCells, NamesAreKnown, RunsAreOnce};
+ghost use Rattle.oz_model.specs.Laws.{AtMostOne, AtMostOneEnd, RestIsRest, RestOrStep, WaitsForUnbound, RunsAreSound, RunsGoOn, ExchangesChain, ExchangesEnd, CellsAreChains, CellsHaveContents, StepsFindCells, NamesAreKnown, RunsAreOnce, OutcomesHaveShapes};
+ghost use Rattle.oz_model.specs.Alone.{EffectsAreNamed, NeedsAreNamed, EffectsAreCovered, EffectsHaveNodes, EffectsKeepOneEach, RunsAreCovered, NamesAreTaken};
 ghost use Rattle.oz_model.specs.Answers.{MoreIsWithin, NodesAgree, CasesAgree, ShownAgree, NeedsAgree, BindsAgree, EffectsAgree, StepsStay, WaitsStay, BindsStay, LowerBinds};
 ghost use Rattle.oz_model.specs.Occurs.{TestTellsNew, TestTellsOccurs};
 ghost use Rattle.oz_model.specs.Examples.{ProcedureIsCalled, FieldIsMatched, HandlerHasException, ContentIsExchanged, ThreadIsMade, OverflowIsRaised, IntegerIsNoTruth};
 ghost use Rattle.oz_model.specs.WellFormed.{NodesAreWell};
 ghost use Rattle.oz_model.specs.Rows.{IntegerIsPrinted, FailureIsReported, UnboundIsAwaited, AtomIsPrinted, AtomIsPrintedToo, SkipEnds, AreRefused, MarksCatch};
+
+/// What a statement comes to is of one of the shapes. So what holds of each shape holds of the outcome of every statement.
+pub fn outcomes_have_shapes()
+    ensures { OutcomesHaveShapes }
+{}
 
 /// A pick leads to at most one state, and so do picks in a row.
 pub fn runs_are_determined()
@@ -70,6 +76,31 @@ pub fn agreeing_stores_answer_alike()
     ensures needs { NeedsAgree }
     ensures binds { BindsAgree }
     ensures effects { EffectsAgree }
+{}
+
+/// One thread alone, with the equations of a site: each name of its effect is one of its stack or of the equations, or
+/// fresh; what it waits for is a variable of these; environments go on to have a variable at each free position; and nodes
+/// are those of the program. What holds of all nodes that the program tells holds of those of an effect, whatever it is: that
+/// is a lemma (`stack_nodes`), since it speaks of every property of nodes, and so are its forms for every property of names
+/// (`stack_effect_has`, `stack_need_has`).
+pub fn threads_are_closed()
+    ensures names { EffectsAreNamed }
+    ensures waits { NeedsAreNamed }
+    ensures covered { EffectsAreCovered }
+    ensures nodes { EffectsHaveNodes }
+{}
+
+/// A step keeps at most one equation for each variable, where its bind goes from a variable that has none.
+pub fn binds_from_roots_keep_one_each()
+    ensures { EffectsKeepOneEach }
+{}
+
+/// Environments of a run have a variable at each free position, so each name that occurs in it was taken by a pick or is
+/// that of the first thread. The name that stands where an environment lacks a position occurs nowhere, unless a pick takes
+/// it.
+pub fn names_are_taken()
+    ensures covered { RunsAreCovered }
+    ensures taken { NamesAreTaken }
 {}
 
 /// The test whether a name occurs in a state fails exactly where the name is new.

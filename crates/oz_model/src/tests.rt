@@ -1,25 +1,13 @@
 // The first state of a program, and which names occur in it.
 
-ghost use Rattle.std.specs.Prelude.{◌≡◌, ◌∷◌, [], IfOk};
-ghost use Rattle.kernel_syntax.specs.Program.{IsProgram};
-
 use crate::{is_name_of, output, start};
 use kernel_syntax::{Program, Stmt};
-use std::alloc::{AllocError, Global};
 use std::test::Fail;
 use tree_node::{CellName, Line, Name, ThreadName, VarName};
 
-// skip
-fn skips(alloc: Global) -> Result<Vec<Stmt>, AllocError>
-    ensures { IfOk result (λ v. IsProgram v.items) }
-{
-    let stmts = vec![in alloc; Stmt::Skip]?;
-    Ok(stmts)
-}
-
 #[test]
 fn a_first_state_has_the_name_of_its_thread_alone(rt: HostRuntime) -> Result<(), Fail> {
-    let program = Program::from_vec(rt.alloc(), skips(rt.alloc())?)?;
+    let program = Program::checked(rt.alloc(), vec![in rt.alloc(); Stmt::Skip]?)?;
     let state = start(rt.alloc(), &program)?;
     let rows: [(Name, bool); 4] = [
         (Name::Thread(ThreadName { site: 1, num: 0 }), true),

@@ -5,3 +5,4 @@ pub mod OrderLemmas
 pub mod RowsShown
 pub mod RowsGoal
 pub mod EnvLemmas
+pub mod AssocLemmas

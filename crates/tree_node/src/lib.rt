@@ -1,5 +1,25 @@
 //! Names, nodes and terms of rational trees, and what stores, goals, shown values and states of the kernel machine
-//! are (Van Roy and Haridi, *Concepts, Techniques, and Models of Computer Programming*, chapters 2 and 6).
+//! are.
+//!
+//! For: every other crate speaks of these values, and its contracts are written in the definitions that stand here:
+//! stores and their classes (`Store`, `Classes`), pairs of a tell (`Goal`), shown values (`Shown`), states and the names in
+//! them (`State`, `Names`), environments (`Env`), exceptions (`Unwind`), values by key (`Assoc`).
+//!
+//! Promises: copies equal what they copy (`copy_node`, `copy_term`, `copy_feature`, `copy_pick`); tests and orders are those
+//! of the definitions (`same_text`, `same_fields`, `same_feature`, `compare_features`, `is_below`, `is_name_below`); atoms,
+//! features and heads are spelled as defined, with quotes where they could not be read back (`atom_text`, `feature_text`,
+//! `node_head`, `is_reserved`); an environment is a finite map (`Env`, `RoomyEnv`); lists are lists (`Seq`, `Shared`, `Line`).
+//! Laws of the definitions, as functions that do nothing: `roots_tell_classes`, `nodes_tell_det`, `sound_stores`,
+//! `one_names_class`, `fields_in_order`, and worked examples (`worked_goals`, `shown_records`, `shown_cuts`, `shown_nodes`).
+//! The laws of look-ups in association lists hold for keys and values of every type, so they are lemmas (`AssocLemmas`).
+//!
+//! Stands on: the standard library alone.
+//!
+//! By tests alone: that threads may share nodes, lines and picks. The tests show the spelling of chosen atoms and heads too,
+//! which the contracts say of all.
+//!
+//! Sources: Van Roy and Haridi, *Concepts, Techniques, and Models of Computer Programming* (CTM), sections 2.3, 2.4, 2.7, 2.8
+//! and 6.3.
 #![tactic(auto)]
 
 mod env;
@@ -31,7 +51,7 @@ pub use node::{
     Feature, Fields, Node, Term, Text, Vars, compare_features, copy_feature, copy_node, copy_term,
     node_arity, same_bytes, same_feature, same_fields, same_text,
 };
-pub use pick::Pick;
+pub use pick::{Pick, copy_pick, plain_pick};
 pub use seq::Seq;
 pub use shared::Shared;
 pub use spelling::{atom_text, feature_text, node_head};

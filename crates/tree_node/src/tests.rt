@@ -2,8 +2,8 @@
 
 use crate::{
     CellName, CodeId, Env, Feature, Fields, Line, Name, NameList, Node, Pick, ProcName, Term, Text,
-    ThreadName, VarName, Vars, atom_text, copy_node, copy_term, is_reserved, node_arity, node_head,
-    same_text,
+    ThreadName, VarName, Vars, atom_text, copy_node, copy_pick, copy_term, is_reserved, node_arity,
+    node_head, plain_pick, same_text,
 };
 use std::alloc::{AllocError, Global};
 use std::test::Fail;
@@ -179,5 +179,16 @@ fn threads_may_share_nodes(rt: HostRuntime) -> Result<(), Fail> {
         fresh,
         bind: Some((variable(1), Term::Node(record(alloc, b"f", 2)?))),
     });
+    Ok(())
+}
+
+#[test]
+fn a_copied_pick_keeps_its_names(rt: HostRuntime) -> Result<(), Fail> {
+    let alloc = rt.alloc();
+    let mut pick = plain_pick(alloc, ThreadName { site: 1, num: 0 });
+    pick.fresh.push(Name::Var(variable(1)))?;
+    let copy = copy_pick(alloc, &pick)?;
+    assert_eq!(rt; copy.fresh.as_slice(), [Name::Var(variable(1))].as_slice());
+    assert!(rt; copy.bind.is_none());
     Ok(())
 }
