@@ -1,4 +1,5 @@
 pub mod EntryLemmas
+pub mod FiledLemmas
 pub mod ForestLemmas
 pub mod OrderLemmas
 pub mod WaitLemmas

@@ -1,12 +1,12 @@
 -- Trees of classes: how a place is written, and what hanging one tree below another does.
-use Rattle.std.proofs.Common.{arith, ◌^◌, ◌≡◌, ◌∙◌, sym, ap, refl, subst, ℕ, ◌+◌, ◌*◌, ◌<◌, ◌≤◌, [], ◌∷◌, ◌++◌, length, ◌⊎◌, inl, inr, Bool, true, false, cond, Some, None}
+use Rattle.std.proofs.Common.{arith, ◌^◌, ◌≡◌, ◌∙◌, sym, ap, refl, subst, ℕ, ◌+◌, ◌*◌, ◌<◌, ◌≤◌, List, [], ◌∷◌, ◌++◌, length, ◌⊎◌, inl, inr, Bool, true, false, cond, Some, None}
 use Rattle.std.specs.Prelude.{Option, Result, Ok, Err, OnErr, IsSome, unwrap_or}
 use Rattle.std.specs.Map.{lookup, set_value}
 use Rattle.tree_node.specs.declared.names.VarName.{VarName}
 use Rattle.tree_node.specs.Store.{same_name, joined}
-use Rattle.tree_node.proofs.ClassLemmas.{same_name_decides, same_name_refl}
+use Rattle.tree_node.proofs.ClassLemmas.{same_name_decides, same_name_refl, joined_when}
 use Rattle.tree_store.specs.declared.links.Place.{Place}
-use Rattle.tree_store.specs.Links.{Places, alone, place_in, IsTop, weight, total, IsTree, Tells, hung}
+use Rattle.tree_store.specs.Links.{Places, alone, place_in, IsTop, weight, total, IsTree, AreClasses, place_after}
 
 same_true : (x y : VarName) → x ≡ y → same_name x y ≡ true
 same_true x y e = (same_name_decides x y).1 e
@@ -14,7 +14,7 @@ same_true x y e = (same_name_decides x y).1 e
 same_back : (x y : VarName) → same_name x y ≡ true → x ≡ y
 same_back x y e = (same_name_decides x y).0 e
 
-apart_false : (x y : VarName) → (x ≡ y → ⊥) → same_name x y ≡ false
+pub apart_false : (x y : VarName) → (x ≡ y → ⊥) → same_name x y ≡ false
 apart_false x y h = go (same_name x y) refl
   where
     go : (b : Bool) → same_name x y ≡ b → b ≡ false
@@ -26,7 +26,8 @@ both_ways e = cc
 
 -- ---- places in lists
 
-put_lookup : (es : Places) (x y : VarName) (p : Place) → IsSome (lookup (same_name x) es) → lookup (same_name y) (set_value (same_name x) es p) ≡ cond (same_name x y) (Some p) (lookup (same_name y) es)
+pub put_lookup : {V : Type 0} (es : List (VarName × V)) (x y : VarName) (p : V) → IsSome (lookup (same_name x) es) →
+    lookup (same_name y) (set_value (same_name x) es p) ≡ cond (same_name x y) (Some p) (lookup (same_name y) es)
 put_lookup [] x y p h = cc
 put_lookup ((z, q) ∷ es) x y p h = go (same_name x z) (same_name y z) refl refl h (λ k. put_lookup es x y p k)
   where
@@ -140,7 +141,7 @@ tree_alone es fs x e none t =
       counts = rw e (alone_total es x ∙ ap (λ (n : ℕ). n + 1) t.counts ∙ sym (alone_length es x));
     }
 
-pub tells_same : (root : VarName → VarName) (place other : VarName → Place) → ((y : VarName) → other y ≡ place y) → Tells root place → Tells root other
+pub tells_same : (root : VarName → VarName) (place other : VarName → Place) → ((y : VarName) → other y ≡ place y) → AreClasses root place → AreClasses root other
 tells_same root place other h t = record {
   parent = λ x. rw (h x) (t.parent x);
   end = λ x top. rw (h x) (t.end x (rw (h x) at top));
@@ -155,15 +156,15 @@ below_place place c w = record { parent = w; size = (place c).size; end = (place
 abbrev pub above_place : (VarName → Place) → VarName → VarName → VarName → Place
 above_place place c w e = record { parent = w; size = (place c).size + (place w).size; end = e }
 
-abbrev pub hung_places : Places → VarName → VarName → VarName → Places
-hung_places es c w e = set_value (same_name w) (set_value (same_name c) es (below_place (place_in es) c w)) (above_place (place_in es) c w e)
+abbrev pub places_after : Places → VarName → VarName → VarName → Places
+places_after es c w e = set_value (same_name w) (set_value (same_name c) es (below_place (place_in es) c w)) (above_place (place_in es) c w e)
 
-pub places_hung : (es : Places) (c w e y : VarName) → IsSome (lookup (same_name c) es) → IsSome (lookup (same_name w) es) → place_in (hung_places es c w e) y ≡ hung (place_in es) c w e y
+pub places_hung : (es : Places) (c w e y : VarName) → IsSome (lookup (same_name c) es) → IsSome (lookup (same_name w) es) → place_in (places_after es c w e) y ≡ place_after (place_in es) c w e y
 places_hung es c w e y hc hw =
     place_put (set_value (same_name c) es (below_place (place_in es) c w)) w y (above_place (place_in es) c w e) (put_stays es c w (below_place (place_in es) c w) hw)
     ∙ ap (λ (p : Place). cond (same_name w y) (above_place (place_in es) c w e) p) (place_put es c y (below_place (place_in es) c w) hc)
 
-size_hung : (place : VarName → Place) (c w e x : VarName) → (place x).size ≤ (hung place c w e x).size
+size_hung : (place : VarName → Place) (c w e x : VarName) → (place x).size ≤ (place_after place c w e x).size
 size_hung place c w e x = go (same_name w x) (same_name c x) refl refl
   where
     go : (b d : Bool) → same_name w x ≡ b → same_name c x ≡ d → (place x).size ≤ (cond b (above_place place c w e) (cond d (below_place place c w) (place x))).size
@@ -171,15 +172,15 @@ size_hung place c w e x = go (same_name w x) (same_name c x) refl refl
     go false true p q = subst (λ (z : VarName). (place z).size ≤ (place c).size) (same_back c x q) (omega arith)
     go false false p q = omega arith
 
-above_there : (place : VarName → Place) (c w e : VarName) → hung place c w e w ≡ above_place place c w e
+above_there : (place : VarName → Place) (c w e : VarName) → place_after place c w e w ≡ above_place place c w e
 above_there place c w e = rw (same_name_refl w) refl
 
 rises_hung : (place : VarName → Place) (c w e y : VarName) → (place c).size ≤ (place w).size → IsTop place y ⊎ (2 * (place y).size ≤ (place (place y).parent).size) →
-    IsTop (hung place c w e) y ⊎ (2 * (hung place c w e y).size ≤ (hung place c w e (hung place c w e y).parent).size)
+    IsTop (place_after place c w e) y ⊎ (2 * (place_after place c w e y).size ≤ (place_after place c w e (place_after place c w e y).parent).size)
 rises_hung place c w e y smaller rises = go (same_name w y) (same_name c y) refl refl
   where
     Rises : Place → Type 0
-    Rises p = (p.parent ≡ y) ⊎ (2 * p.size ≤ (hung place c w e p.parent).size)
+    Rises p = (p.parent ≡ y) ⊎ (2 * p.size ≤ (place_after place c w e p.parent).size)
 
     old : IsTop place y ⊎ (2 * (place y).size ≤ (place (place y).parent).size) → Rises (place y)
     old (inl t) = inl t
@@ -188,7 +189,7 @@ rises_hung place c w e y smaller rises = go (same_name w y) (same_name c y) refl
     go : (b d : Bool) → same_name w y ≡ b → same_name c y ≡ d → Rises (cond b (above_place place c w e) (cond d (below_place place c w) (place y)))
     go true d p q = inl (same_back w y p)
     go false true p q =
-        let sum : (hung place c w e w).size ≡ (place c).size + (place w).size = ap (λ (r : Place). r.size) (above_there place c w e) in
+        let sum : (place_after place c w e w).size ≡ (place c).size + (place w).size = ap (λ (r : Place). r.size) (above_there place c w e) in
         inr (omega arith)
     go false false p q = old rises
 
@@ -218,17 +219,17 @@ sizes_fit es c w t differ tc tw hc hw =
     omega arith
 
 pub tree_hung : (es : Places) (c w e : VarName) → IsTree es → (c ≡ w → ⊥) → IsTop (place_in es) c → IsTop (place_in es) w → IsSome (lookup (same_name c) es) → IsSome (lookup (same_name w) es) →
-    (place_in es c).size ≤ (place_in es w).size → IsTree (hung_places es c w e)
+    (place_in es c).size ≤ (place_in es w).size → IsTree (places_after es c w e)
 tree_hung es c w e t differ tc tw hc hw smaller = record {
-  rises = λ y. moved_rises (hung (place_in es) c w e) (place_in (hung_places es c w e)) y at (rises_hung (place_in es) c w e y smaller (t.rises y));
+  rises = λ y. moved_rises (place_after (place_in es) c w e) (place_in (places_after es c w e)) y at (rises_hung (place_in es) c w e y smaller (t.rises y));
   positive = λ y. let some = t.positive y in let more = size_hung (place_in es) c w e y in rw (at y) (omega arith);
   counts = sums;
 }
   where
-    at : (x : VarName) → place_in (hung_places es c w e) x ≡ hung (place_in es) c w e x
+    at : (x : VarName) → place_in (places_after es c w e) x ≡ place_after (place_in es) c w e x
     at x = places_hung es c w e x hc hw
 
-    sums : total (hung_places es c w e) ≡ length (hung_places es c w e)
+    sums : total (places_after es c w e) ≡ length (places_after es c w e)
     sums =
         let first = below_total es c w differ tc hc in
         let there = top_there es c w differ hc in
@@ -236,7 +237,7 @@ tree_hung es c w e t differ tc tw hc hw smaller = record {
         let second = put_total fs w (above_place (place_in es) c w e) (put_stays es c w (below_place (place_in es) c w) hw) in
         let own : weight w (place_in fs w) ≡ (place_in es w).size = ap (weight w) there ∙ top_weight (place_in es) w tw in
         let new : weight w (above_place (place_in es) c w e) ≡ (place_in es c).size + (place_in es w).size = rw (same_name_refl w) refl in
-        let long : length (hung_places es c w e) ≡ length es = put_length fs w (above_place (place_in es) c w e) ∙ put_length es c (below_place (place_in es) c w) in
+        let long : length (places_after es c w e) ≡ length es = put_length fs w (above_place (place_in es) c w e) ∙ put_length es c (below_place (place_in es) c w) in
         let all = t.counts in
         omega arith
 
@@ -245,9 +246,6 @@ tree_hung es c w e t differ tc tw hc hw smaller = record {
 -- the tops of the two classes, in either order
 abbrev pub AreTopsOf : (VarName → VarName) → VarName → VarName → VarName → VarName → Type 0
 AreTopsOf root x y c w = ((root c ≡ root x) × (root w ≡ root y)) ⊎ ((root c ≡ root y) × (root w ≡ root x))
-
-joined_left : (root : VarName → VarName) (x y z : VarName) → root z ≡ root x → joined root x y z ≡ root y
-joined_left root x y z e = rw (same_true (root z) (root x) e) refl
 
 joined_right : (root : VarName → VarName) (x y z : VarName) → root z ≡ root y → joined root x y z ≡ root y
 joined_right root x y z e = go (same_name (root z) (root x))
@@ -263,20 +261,20 @@ joined_same : (root : VarName → VarName) (x y a b : VarName) → root a ≡ ro
 joined_same root x y a b e = ap (λ (r : VarName). cond (same_name r (root x)) (root y) r) e
 
 child_joined : (root : VarName → VarName) (x y c w : VarName) → AreTopsOf root x y c w → joined root x y c ≡ root y
-child_joined root x y c w (inl h) = joined_left root x y c h.0
+child_joined root x y c w (inl h) = joined_when root x y c h.0
 child_joined root x y c w (inr h) = joined_right root x y c h.0
 
 top_joined : (root : VarName → VarName) (x y c w : VarName) → AreTopsOf root x y c w → joined root x y w ≡ root y
 top_joined root x y c w (inl h) = joined_right root x y w h.1
-top_joined root x y c w (inr h) = joined_left root x y w h.1
+top_joined root x y c w (inr h) = joined_when root x y w h.1
 
 -- another top is of neither class
-not_left : (root : VarName → VarName) (place : VarName → Place) (x y c w z : VarName) → Tells root place → IsTop place c → IsTop place w → AreTopsOf root x y c w → IsTop place z →
+not_left : (root : VarName → VarName) (place : VarName → Place) (x y c w z : VarName) → AreClasses root place → IsTop place c → IsTop place w → AreTopsOf root x y c w → IsTop place z →
     (c ≡ z → ⊥) → (w ≡ z → ⊥) → root z ≡ root x → ⊥
 not_left root place x y c w z t tc tw (inl h) tz nc nw e = nc (t.one c z tc tz (h.0 ∙ sym e))
 not_left root place x y c w z t tc tw (inr h) tz nc nw e = nw (t.one w z tw tz (h.1 ∙ sym e))
 
-not_right : (root : VarName → VarName) (place : VarName → Place) (x y c w z : VarName) → Tells root place → IsTop place c → IsTop place w → AreTopsOf root x y c w → IsTop place z →
+not_right : (root : VarName → VarName) (place : VarName → Place) (x y c w z : VarName) → AreClasses root place → IsTop place c → IsTop place w → AreTopsOf root x y c w → IsTop place z →
     (c ≡ z → ⊥) → (w ≡ z → ⊥) → root z ≡ root y → ⊥
 not_right root place x y c w z t tc tw (inl h) tz nc nw e = nw (t.one w z tw tz (h.1 ∙ sym e))
 not_right root place x y c w z t tc tw (inr h) tz nc nw e = nc (t.one c z tc tz (h.0 ∙ sym e))
@@ -286,7 +284,7 @@ data IsKept (place : VarName → Place) (c w z : VarName) : Type 0 where
   joint : w ≡ z → IsKept place c w z
   other : IsTop place z → (c ≡ z → ⊥) → (w ≡ z → ⊥) → IsKept place c w z
 
-kept : (place : VarName → Place) (c w e z : VarName) → (c ≡ w → ⊥) → IsTop (hung place c w e) z → IsKept place c w z
+kept : (place : VarName → Place) (c w e z : VarName) → (c ≡ w → ⊥) → IsTop (place_after place c w e) z → IsKept place c w z
 kept place c w e z differ t = go (same_name w z) (same_name c z) refl refl t
   where
     go : (b d : Bool) → same_name w z ≡ b → same_name c z ≡ d → (cond b (above_place place c w e) (cond d (below_place place c w) (place z))).parent ≡ z → IsKept place c w z
@@ -294,11 +292,11 @@ kept place c w e z differ t = go (same_name w z) (same_name c z) refl refl t
     go false true p q h = absurd (differ (same_back c z q ∙ sym h))
     go false false p q h = other h (λ k. both_ways (sym (same_true c z k) ∙ q)) (λ k. both_ways (sym (same_true w z k) ∙ p))
 
-pub tells_hung : (root : VarName → VarName) (place : VarName → Place) (x y c w e : VarName) → Tells root place → IsTop place c → IsTop place w → (c ≡ w → ⊥) → (root x ≡ root y → ⊥) →
-    AreTopsOf root x y c w → e ≡ root y → Tells (joined root x y) (hung place c w e)
+pub tells_hung : (root : VarName → VarName) (place : VarName → Place) (x y c w e : VarName) → AreClasses root place → IsTop place c → IsTop place w → (c ≡ w → ⊥) → (root x ≡ root y → ⊥) →
+    AreTopsOf root x y c w → e ≡ root y → AreClasses (joined root x y) (place_after place c w e)
 tells_hung root place x y c w e t tc tw differ apart tops ends = record { parent = parent; end = end; one = one }
   where
-    parent : (z : VarName) → joined root x y (hung place c w e z).parent ≡ joined root x y z
+    parent : (z : VarName) → joined root x y (place_after place c w e z).parent ≡ joined root x y z
     parent z = go (same_name w z) (same_name c z) refl refl
       where
         go : (b d : Bool) → same_name w z ≡ b → same_name c z ≡ d → joined root x y (cond b (above_place place c w e) (cond d (below_place place c w) (place z))).parent ≡ joined root x y z
@@ -310,14 +308,14 @@ tells_hung root place x y c w e t tc tw differ apart tops ends = record { parent
     alone_root : (z : VarName) → IsTop place z → (c ≡ z → ⊥) → (w ≡ z → ⊥) → joined root x y z ≡ root z
     alone_root z tz nc nw = joined_other root x y z (not_left root place x y c w z t tc tw tops tz nc nw)
 
-    end : (z : VarName) → IsTop (hung place c w e) z → joined root x y z ≡ (hung place c w e z).end
+    end : (z : VarName) → IsTop (place_after place c w e) z → joined root x y z ≡ (place_after place c w e z).end
     end z tz = go (kept place c w e z differ tz)
       where
-        go : IsKept place c w z → joined root x y z ≡ (hung place c w e z).end
-        go (joint p) = subst (λ (v : VarName). joined root x y v ≡ (hung place c w e v).end) p (top_joined root x y c w tops ∙ sym ends ∙ ap (λ (r : Place). r.end) (sym (above_there place c w e)))
+        go : IsKept place c w z → joined root x y z ≡ (place_after place c w e z).end
+        go (joint p) = subst (λ (v : VarName). joined root x y v ≡ (place_after place c w e v).end) p (top_joined root x y c w tops ∙ sym ends ∙ ap (λ (r : Place). r.end) (sym (above_there place c w e)))
         go (other p nc nw) = alone_root z p nc nw ∙ t.end z p ∙ sym (rw (apart_false w z nw, apart_false c z nc) refl)
 
-    one : (a b : VarName) → IsTop (hung place c w e) a → IsTop (hung place c w e) b → joined root x y a ≡ joined root x y b → a ≡ b
+    one : (a b : VarName) → IsTop (place_after place c w e) a → IsTop (place_after place c w e) b → joined root x y a ≡ joined root x y b → a ≡ b
     one a b ta tb same = go (kept place c w e a differ ta) (kept place c w e b differ tb)
       where
         go : IsKept place c w a → IsKept place c w b → a ≡ b
@@ -329,14 +327,14 @@ tells_hung root place x y c w e t tc tw differ apart tops ends = record { parent
         go (other p nc nw) (other q mc mw) = t.one a b p q (sym (alone_root a p nc nw) ∙ same ∙ alone_root b q mc mw)
 
 -- the same where the places were written down in between
-pub join_tells : (root : VarName → VarName) (place settled new : VarName → Place) (x y c w e : VarName) → Tells root place → ((z : VarName) → settled z ≡ place z) →
-    IsTop place c → IsTop place w → (c ≡ w → ⊥) → (root x ≡ root y → ⊥) → AreTopsOf root x y c w → e ≡ root y → ((z : VarName) → new z ≡ hung settled c w e z) →
-    Tells (joined root x y) new
+pub join_tells : (root : VarName → VarName) (place settled new : VarName → Place) (x y c w e : VarName) → AreClasses root place → ((z : VarName) → settled z ≡ place z) →
+    IsTop place c → IsTop place w → (c ≡ w → ⊥) → (root x ≡ root y → ⊥) → AreTopsOf root x y c w → e ≡ root y → ((z : VarName) → new z ≡ place_after settled c w e z) →
+    AreClasses (joined root x y) new
 join_tells root place settled new x y c w e t same tc tw differ apart tops ends at =
-    tells_same (joined root x y) (hung settled c w e) new at
+    tells_same (joined root x y) (place_after settled c w e) new at
     (tells_hung root settled x y c w e (tells_same root place settled same t) (rw (same c) tc) (rw (same w) tw) differ apart tops ends)
 
-pub end_told : (root : VarName → VarName) (place settled : VarName → Place) (top x : VarName) (p : Place) → Tells root place → ((z : VarName) → settled z ≡ place z) → IsTop place top →
+pub end_told : (root : VarName → VarName) (place settled : VarName → Place) (top x : VarName) (p : Place) → AreClasses root place → ((z : VarName) → settled z ≡ place z) → IsTop place top →
     root top ≡ root x → p ≡ settled top → p.end ≡ root x
 end_told root place settled top x p t same h e at = ap (λ (r : Place). r.end) (at ∙ same top) ∙ sym (t.end top h) ∙ e
 
@@ -350,7 +348,7 @@ on_err (Err e) p = p
 pub record IsOnTheWay (places : Places) (x : VarName) (steps : ℕ) (at : VarName) (place : Place) : Type 0 where
   pub here : place ≡ place_in places at
   pub doubled : 2 ^ steps ≤ place.size
-  pub class : (root : VarName → VarName) → Tells root (place_in places) → root at ≡ root x
+  pub class : (root : VarName → VarName) → AreClasses root (place_in places) → root at ≡ root x
 
 -- 64 steps are too many
 pub way_ends : (places : Places) (x : VarName) (steps : ℕ) (at : VarName) (place : Place) → IsOnTheWay places x steps at place → place.size < 2 ^ 64 → 64 ≤ steps → steps ≤ 64 → ⊥

@@ -2,15 +2,12 @@
 use Rattle.std.proofs.Common.{arith, ◌≡◌, ◌∙◌, sym, refl, List, ◌∷◌, [], ◌++◌, ◌⊎◌, inl, inr, Bool, true, false, cond}
 use Rattle.std.specs.Prelude.{Contains, ◌↔◌, ◌||◌, IsTrue}
 use Rattle.std.specs.List.{list_any}
+use Rattle.std.proofs.Math.Bool.{or-true}
 use Rattle.std.proofs.lemmas.Map.Views.{Contains-from_any}
 use Rattle.tree_node.specs.declared.names.VarName.{VarName}
 use Rattle.tree_node.specs.Store.{same_name}
 use Rattle.tree_node.proofs.ClassLemmas.{same_name_decides, same_name_refl, Contains-cons_cases}
 use Rattle.tree_store.specs.Contents.{with_name}
-
-or_true : (b : Bool) → (b || true) ≡ true
-or_true true = refl
-or_true false = refl
 
 any_contains : (names : List VarName) (x : VarName) → Contains names x → list_any (same_name x) names ≡ true
 any_contains [] x (k, below, is) = absurd (omega arith)
@@ -18,7 +15,7 @@ any_contains (y ∷ names) x h = go (Contains-cons_cases _ _ names h) (λ k. any
   where
     go : (y ≡ x) ⊎ Contains names x → (Contains names x → list_any (same_name x) names ≡ true) → (same_name x y || list_any (same_name x) names) ≡ true
     go (inl e) ih = rw (e, same_name_refl x) refl
-    go (inr k) ih = rw (ih k) (or_true (same_name x y))
+    go (inr k) ih = rw (ih k) (or-true (same_name x y))
 
 contains_any : (names : List VarName) (x : VarName) → list_any (same_name x) names ≡ true → Contains names x
 contains_any names x h = Contains-from_any {eq = same_name} (λ a b k. (same_name_decides a b).0 k) x names h

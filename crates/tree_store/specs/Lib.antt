@@ -1,6 +1,8 @@
 pub mod Forest
 pub mod Contents
 pub mod Waiting
+pub mod Names
 pub mod Links
+pub mod Consistent
 pub mod Answers
 pub mod Walk

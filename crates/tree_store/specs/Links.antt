@@ -39,14 +39,14 @@ pub record IsTree (places : Places) : Type 0 where
   pub counts : total places ≡ length places
 
 -- the trees are the classes of root, which names each class by the variable at which its links end
-pub record Tells (root : VarName → VarName) (place : VarName → Place) : Type 0 where
+pub record AreClasses (root : VarName → VarName) (place : VarName → Place) : Type 0 where
   pub parent : (x : VarName) → root (place x).parent ≡ root x
   pub end : (x : VarName) → IsTop place x → root x ≡ (place x).end
   pub one : (x y : VarName) → IsTop place x → IsTop place y → root x ≡ root y → x ≡ y
 
--- a tree hung below the top of another, whose class ends at e from now on
-abbrev pub hung : (VarName → Place) → VarName → VarName → VarName → VarName → Place
-hung place child top e x =
+-- the places once a tree is hung below the top of another, whose class ends at e from now on
+abbrev pub place_after : (VarName → Place) → VarName → VarName → VarName → VarName → Place
+place_after place child top e x =
     if same_name top x then record { parent = top; size = (place child).size + (place top).size; end = e }
     else (if same_name child x then record { parent = top; size = (place child).size; end = (place child).end } else place x)
 
@@ -62,4 +62,4 @@ IsApart root u (term.Node n) = Unit {0}
 -- the trees are the classes of a store
 pub record IsLinked (s : Store) (places : Places) : Type 0 where
   pub grown : IsGrown s
-  pub told : Tells (root_of s) (place_in places)
+  pub classes : AreClasses (root_of s) (place_in places)

@@ -4,7 +4,7 @@ ghost use Rattle.std.specs.Prelude.{◌≡◌, ◌≤◌, [], OnOk, OnErr, IsSom
 ghost use Rattle.std.specs.Map.{lookup, set_value};
 ghost use Rattle.tree_node.specs.declared.names.VarName.{VarName};
 ghost use Rattle.tree_node.specs.Store.{same_name, joined};
-ghost use Rattle.tree_store.specs.Links.{place_in, IsTop, IsTree, Tells, hung, root_with, IsApart};
+ghost use Rattle.tree_store.specs.Links.{place_in, IsTop, IsTree, AreClasses, place_after, root_with, IsApart};
 
 use indexmap::IndexMap;
 use std::alloc::{AllocError, Global};
@@ -56,8 +56,8 @@ fn place_of(places: &IndexMap<VarName, Place>, var: VarName) -> Place
     }
 }
 
-// Writes down the place of a variable that has none of its own yet.
-fn settle(places: &mut IndexMap<VarName, Place>, var: VarName) -> Result<(), AllocError>
+// Adds the place of a variable that has none of its own yet.
+fn add_place(places: &mut IndexMap<VarName, Place>, var: VarName) -> Result<(), AllocError>
     requires { IsTree places.old.entries }
     ensures tree { IsTree places.new.entries }
     ensures same { (y : VarName) → place_in places.new.entries y ≡ place_in places.old.entries y }
@@ -78,7 +78,7 @@ fn settle(places: &mut IndexMap<VarName, Place>, var: VarName) -> Result<(), All
     }
 }
 
-// Exchanges the place of a variable.
+// Replaces the place of a variable.
 fn put(places: &mut IndexMap<VarName, Place>, var: VarName, place: Place)
     requires { IsSome (lookup (same_name var) places.old.entries) }
     ensures { places.new.entries ≡ set_value (same_name var) places.old.entries place }
@@ -88,8 +88,8 @@ fn put(places: &mut IndexMap<VarName, Place>, var: VarName, place: Place)
     }
 }
 
-// Hangs one tree below the top of another one that is no smaller, whose links end at the given variable then.
-fn hang(places: &mut IndexMap<VarName, Place>, child: VarName, top: VarName, end: VarName)
+// Puts one tree below the top of another one that is no smaller, whose links end at the given variable then.
+fn attach(places: &mut IndexMap<VarName, Place>, child: VarName, top: VarName, end: VarName)
     requires tree { IsTree places.old.entries }
     requires apart { child ≡ top → ⊥ }
     requires child { IsTop (place_in places.old.entries) child }
@@ -98,7 +98,7 @@ fn hang(places: &mut IndexMap<VarName, Place>, child: VarName, top: VarName, end
     requires top_there { IsSome (lookup (same_name top) places.old.entries) }
     requires smaller { (place_in places.old.entries child).size ≤ (place_in places.old.entries top).size }
     ensures tree { IsTree places.new.entries }
-    ensures places { (y : VarName) → place_in places.new.entries y ≡ hung (place_in places.old.entries) child top end y }
+    ensures places { (y : VarName) → place_in places.new.entries y ≡ place_after (place_in places.old.entries) child top end y }
 {
     let _count = places.len();
     let small = place_of(places, child);
@@ -130,7 +130,7 @@ impl Links {
     // The top of a variable's tree, after at most 64 steps, since sizes double.
     fn top(&self, var: VarName) -> VarName
         ensures top { IsTop (place_in self.now) result }
-        ensures class { (root : VarName → VarName) → Tells root (place_in self.now) → root result ≡ root var }
+        ensures class { (root : VarName → VarName) → AreClasses root (place_in self.now) → root result ≡ root var }
     {
         let mut at = var;
         let mut place = place_of(&self.places, at);
@@ -147,7 +147,7 @@ impl Links {
 
     /// The variable at which the links of a variable's class end.
     pub fn end(&self, var: VarName) -> VarName
-        ensures { (root : VarName → VarName) → Tells root (place_in self.now) → root var ≡ result }
+        ensures { (root : VarName → VarName) → AreClasses root (place_in self.now) → root var ≡ result }
     {
         let top = self.top(var);
         place_of(&self.places, top).end
@@ -155,30 +155,30 @@ impl Links {
 
     // Joins the class of a variable to another one, which keeps its end.
     fn join(&mut self, var: VarName, other: VarName) -> Result<(), AllocError>
-        ensures ok { OnOk result ((root : VarName → VarName) → Tells root (place_in self.old) → (root var ≡ root other → ⊥) → Tells (joined root var other) (place_in self.new)) }
-        ensures err { OnErr result ((root : VarName → VarName) → Tells root (place_in self.old) → Tells root (place_in self.new)) }
+        ensures ok { OnOk result ((root : VarName → VarName) → AreClasses root (place_in self.old) → (root var ≡ root other → ⊥) → AreClasses (joined root var other) (place_in self.new)) }
+        ensures err { OnErr result ((root : VarName → VarName) → AreClasses root (place_in self.old) → AreClasses root (place_in self.new)) }
     {
         let upper = self.top(var);
         let lower = self.top(other);
         if upper == lower {
             return Ok(());
         }
-        settle(&mut self.places, upper)?;
-        settle(&mut self.places, lower)?;
+        add_place(&mut self.places, upper)?;
+        add_place(&mut self.places, lower)?;
         let above = place_of(&self.places, upper);
         let below = place_of(&self.places, lower);
         if above.size <= below.size {
-            hang(&mut self.places, upper, lower, below.end);
+            attach(&mut self.places, upper, lower, below.end);
         } else {
-            hang(&mut self.places, lower, upper, below.end);
+            attach(&mut self.places, lower, upper, below.end);
         }
         Ok(())
     }
 
     /// Follows an equation of a variable: a link joins its class to the other one, which keeps its end.
     pub fn add(&mut self, var: VarName, term: &Term) -> Result<(), AllocError>
-        ensures ok { OnOk result ((root : VarName → VarName) → Tells root (place_in self.old) → IsApart root var term.now → Tells (root_with root var term.now) (place_in self.new)) }
-        ensures err { OnErr result ((root : VarName → VarName) → Tells root (place_in self.old) → Tells root (place_in self.new)) }
+        ensures ok { OnOk result ((root : VarName → VarName) → AreClasses root (place_in self.old) → IsApart root var term.now → AreClasses (root_with root var term.now) (place_in self.new)) }
+        ensures err { OnErr result ((root : VarName → VarName) → AreClasses root (place_in self.old) → AreClasses root (place_in self.new)) }
     {
         match term {
             Term::Var(other) => self.join(var, *other),

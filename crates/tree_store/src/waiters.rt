@@ -92,6 +92,9 @@ impl Waiters {
         ensures keys { result ≡ keys_among self.old var }
         ensures rest { (y : VarName) → keys_among self.new y ≡ woken (keys_among self.old) var y }
     {
+        if self.numbers.is_empty() {
+            return Seq::new(self.alloc);
+        }
         match self.numbers.swap_remove(&var) {
             None => Seq::new(self.alloc),
             Some(number) => Seq::from_vec(self.queues.remove(number)),

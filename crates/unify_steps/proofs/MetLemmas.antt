@@ -6,6 +6,7 @@ use Rattle.std.specs.Map.{lookup}
 use Rattle.std.specs.Global.{Vec}
 use Rattle.std.specs.Str.{bytes_eq}
 use Rattle.std.proofs.lemmas.Slice.Eq.{bytes_eq-Decides}
+use Rattle.std.proofs.lemmas.Bool.{and_parts}
 use Rattle.std.proofs.lemmas.Bool.Decides.{Decides-int_eq, Decides-eqb}
 use Rattle.tree_node.specs.declared.names.VarName.{VarName}
 use Rattle.tree_node.specs.declared.node.Feature.{Feature}
@@ -17,14 +18,6 @@ use Rattle.tree_node.specs.Goal.{equal_feature, equal_fields, equal_text, was_me
 use Rattle.tree_node.proofs.ClassLemmas.{same_name_decides}
 use Rattle.unify_steps.specs.Marks.{node_mark, pair_mark}
 use Rattle.unify_steps.specs.Met.{has_mark, pairs_of, IsIndexOf}
-
-and_left : (a b : Bool) → (a && b) ≡ true → a ≡ true
-and_left true b e = refl
-and_left false b e = cc
-
-and_right : (a b : Bool) → (a && b) ≡ true → b ≡ true
-and_right true b e = e
-and_right false b e = cc
 
 -- nodes of equal text have one mark
 feature_same : (f g : Feature) → equal_feature f g ≡ true → f ≡ g
@@ -38,10 +31,10 @@ fields_same [] [] e = refl
 fields_same [] (y ∷ ys) e = cc
 fields_same (x ∷ xs) [] e = cc
 fields_same ((f, x) ∷ xs) ((g, y) ∷ ys) e =
-    let features : f ≡ g = feature_same f g (and_left (equal_feature f g) (same_name x y && equal_fields xs ys) e) in
-    let others : (same_name x y && equal_fields xs ys) ≡ true = and_right (equal_feature f g) (same_name x y && equal_fields xs ys) e in
-    let vars : x ≡ y = (same_name_decides x y).0 (and_left (same_name x y) (equal_fields xs ys) others) in
-    let rest : xs ≡ ys = fields_same xs ys (and_right (same_name x y) (equal_fields xs ys) others) in
+    let features : f ≡ g = feature_same f g (and_parts (equal_feature f g) (same_name x y && equal_fields xs ys) e).0 in
+    let others : (same_name x y && equal_fields xs ys) ≡ true = (and_parts (equal_feature f g) (same_name x y && equal_fields xs ys) e).1 in
+    let vars : x ≡ y = (same_name_decides x y).0 (and_parts (same_name x y) (equal_fields xs ys) others).0 in
+    let rest : xs ≡ ys = fields_same xs ys (and_parts (same_name x y) (equal_fields xs ys) others).1 in
     rw (features, vars, rest) refl
 
 same_mark : (m n : Node) → equal_text m n ≡ true → node_mark m ≡ node_mark n
@@ -58,8 +51,8 @@ same_mark (node.Atom a) (node.Cell d) e = refl
 same_mark (node.Rec l xs) (node.Int b) e = cc
 same_mark (node.Rec l xs) (node.Atom b) e = cc
 same_mark (node.Rec l xs) (node.Rec r ys) e =
-    let labels : l ≡ r = (bytes_eq-Decides l r).0 (and_left (bytes_eq l r) (equal_fields xs ys) e) in
-    let fields : xs ≡ ys = fields_same xs ys (and_right (bytes_eq l r) (equal_fields xs ys) e) in
+    let labels : l ≡ r = (bytes_eq-Decides l r).0 (and_parts (bytes_eq l r) (equal_fields xs ys) e).0 in
+    let fields : xs ≡ ys = fields_same xs ys (and_parts (bytes_eq l r) (equal_fields xs ys) e).1 in
     rw (labels, fields) refl
 same_mark (node.Rec l xs) (node.Proc q j w vs) e = cc
 same_mark (node.Rec l xs) (node.Cell d) e = cc
@@ -87,13 +80,13 @@ pair_same m n p e = go (or_cases (equal_text p.0 m && equal_text p.1 n) (equal_t
   where
     go : ((equal_text p.0 m && equal_text p.1 n) ≡ true) ⊎ ((equal_text p.0 n && equal_text p.1 m) ≡ true) → pair_mark p.0 p.1 ≡ pair_mark m n
     go (inl h) =
-        let left = same_mark p.0 m (and_left (equal_text p.0 m) (equal_text p.1 n) h) in
-        let right = same_mark p.1 n (and_right (equal_text p.0 m) (equal_text p.1 n) h) in
+        let left = same_mark p.0 m (and_parts (equal_text p.0 m) (equal_text p.1 n) h).0 in
+        let right = same_mark p.1 n (and_parts (equal_text p.0 m) (equal_text p.1 n) h).1 in
         rw (left, right) refl
     go (inr h) =
         let sum : node_mark n + node_mark m ≡ node_mark m + node_mark n = omega arith in
-        let left = same_mark p.0 n (and_left (equal_text p.0 n) (equal_text p.1 m) h) in
-        let right = same_mark p.1 m (and_right (equal_text p.0 n) (equal_text p.1 m) h) in
+        let left = same_mark p.0 n (and_parts (equal_text p.0 n) (equal_text p.1 m) h).0 in
+        let right = same_mark p.1 m (and_parts (equal_text p.0 n) (equal_text p.1 m) h).1 in
         rw (left, right, sum) refl
 
 under_mark : (m n : Node) (p : Node × Node) → is_pair m n p ≡ true → has_mark (pair_mark m n) p ≡ true

@@ -1,6 +1,6 @@
 -- How the pairs of nodes that were met are indexed: by their marks.
 use Rattle.std.specs.Prelude.{◌≡◌, ℕ, List, [], Bool, nat_eq, filter, Option, Some, None}
-use Rattle.std.specs.Global.{Vec}
+use Rattle.std.specs.Global.{Box, Vec}
 use Rattle.std.specs.Map.{lookup}
 use Rattle.tree_node.specs.declared.node.Node.{Node}
 use Rattle.unify_steps.specs.Marks.{pair_mark}
@@ -15,3 +15,8 @@ pairs_of (Some v) = v.items
 -- under each mark stand the pairs that have it
 abbrev pub IsIndexOf : List (Node × Node) → List (ℕ × Vec (Node × Node)) → Type 0
 IsIndexOf met index = (k : ℕ) → pairs_of (lookup (nat_eq k) index) ≡ filter (has_mark k) met
+
+-- the pairs of a table, where there is one
+abbrev pub table_pairs : Option (Box (List (Node × Node))) → List (Node × Node)
+table_pairs None = []
+table_pairs (Some table) = table.value

@@ -1,23 +1,19 @@
 //! The pairs of nodes that a block has met.
 
-ghost use Rattle.std.specs.Prelude.{◌≡◌, ℕ, [], ◌∷◌, ◌++◌, if◌then◌else◌, nat_eq, OnOk, OnErr};
-ghost use Rattle.indexmap.specs.IndexMap.{get};
-ghost use Rattle.unify_steps.specs.Met.{pairs_of};
+ghost use Rattle.std.specs.Prelude.{◌≡◌, [], ◌∷◌, ◌++◌, OnOk, OnErr};
 ghost use Rattle.tree_node.specs.Goal.{was_met};
 
-use crate::marks::pair_mark;
-use crate::records::is_among;
-use indexmap::IndexMap;
+use crate::met_table::MetTable;
 use std::alloc::{AllocError, Global};
 use std::marker::Model;
-use tree_node::{Node, copy_node};
+use tree_node::Node;
 
-/// Pairs of nodes in the order in which they were met, which contracts see as a list. They are found by their marks.
+/// Pairs of nodes in the order in which they were met, which contracts see as a list. Most blocks meet none: they have no
+/// table, so that a block is small.
 #[derive(Drop)]
 pub struct Met {
     alloc: Global,
-    pairs: Vec<(Node, Node)>,
-    index: IndexMap<u64, Vec<(Node, Node)>>,
+    table: Option<Box<MetTable>>,
 }
 
 impl Model for Met {
@@ -26,11 +22,9 @@ impl Model for Met {
 
     ghost Value = { List (Node × Node) };
 
-    ghost use Rattle.unify_steps.specs.Met.{IsIndexOf};
+    ghost use Rattle.unify_steps.specs.Met.{table_pairs};
 
-    ghost view = { λ m. m.pairs.items };
-
-    ghost invariant = { λ m. IsIndexOf m.pairs.items m.index.entries };
+    ghost view = { λ m. table_pairs m.table };
 }
 
 impl Met {
@@ -38,26 +32,25 @@ impl Met {
     pub fn new(alloc: Global) -> Met
         ensures { result ≡ [] }
     {
-        Met {
-            alloc,
-            pairs: Vec::new(alloc),
-            index: IndexMap::new(alloc),
-        }
+        Met { alloc, table: None }
     }
 
     /// The pairs.
     pub fn as_slice(&self) -> &[(Node, Node)]
         ensures { result.now ≡ self.now }
     {
-        self.pairs.as_slice()
+        match &self.table {
+            Some(table) => table.as_slice(),
+            None => &[],
+        }
     }
 
     /// Whether the two nodes were met, in either order.
     pub fn contains(&self, left: &Node, right: &Node) -> bool
         ensures { result ≡ was_met self.now left.now right.now }
     {
-        match self.index.get(&pair_mark(left, right)) {
-            Some(pairs) => is_among(pairs.as_slice(), left, right),
+        match &self.table {
+            Some(table) => table.contains(left, right),
             None => false,
         }
     }
@@ -67,32 +60,14 @@ impl Met {
         ensures ok { OnOk result (self.new ≡ self.old ++ (left, right) ∷ []) }
         ensures err { OnErr result (self.new ≡ self.old) }
     {
-        let mark = pair_mark(&left, &right);
-        let again = (copy_node(&left)?, copy_node(&right)?);
-        self.pairs.reserve(1)?;
-        add_under(&mut self.index, self.alloc, mark, again)?;
-        self.pairs.push((left, right))?;
-        Ok(())
-    }
-}
-
-// Puts a pair behind those of a mark.
-fn add_under(
-    index: &mut IndexMap<u64, Vec<(Node, Node)>>,
-    alloc: Global,
-    mark: u64,
-    pair: (Node, Node),
-) -> Result<(), AllocError>
-    ensures ok { OnOk result ((k : ℕ) → pairs_of (get nat_eq index.new k) ≡ (if nat_eq mark k then pairs_of (get nat_eq index.old k) ++ pair ∷ [] else pairs_of (get nat_eq index.old k))) }
-    ensures err { OnErr result ((k : ℕ) → pairs_of (get nat_eq index.new k) ≡ pairs_of (get nat_eq index.old k)) }
-{
-    match index.get_mut(&mark) {
-        Some(pairs) => pairs.push(pair)?,
-        None => {
-            let mut pairs = Vec::with_capacity(alloc, 1)?;
-            pairs.push(pair)?;
-            index.insert(mark, pairs)?;
+        match &mut self.table {
+            Some(table) => table.add(left, right),
+            None => {
+                let mut table = MetTable::new(self.alloc);
+                table.add(left, right)?;
+                self.table = Some(Box::new(self.alloc, table)?);
+                Ok(())
+            }
         }
     }
-    Ok(())
 }

@@ -3,7 +3,7 @@ use Rattle.tree_node.specs.declared.node.Node.{Node}
 use Rattle.tree_node.specs.Goal.{was_met}
 use Rattle.unify_steps.specs.Met.{pairs_of}
 use Rattle.unify_steps.proofs.MetLemmas.{found_met}
-use Rattle.unify_steps.proofs.met.Met.contains.Goals as goal
+use Rattle.unify_steps.proofs.met_table.MetTable.contains.Goals as goal
 
 pub returns-in-Some : goal.returns-in-Some
 returns-in-Some c =

@@ -3,7 +3,7 @@ use Rattle.indexmap.proofs.CallerLemmas.{insert_entry-new}
 use Rattle.tree_node.specs.Store.{same_name}
 use Rattle.tree_store.specs.Links.{Places, alone, place_in}
 use Rattle.tree_store.proofs.LinkLemmas.{tree_alone, alone_lookup, alone_stays}
-use Rattle.tree_store.proofs.links.settle.Goals as goal
+use Rattle.tree_store.proofs.links.add_place.Goals as goal
 
 pub returns-in_ok-insert-in-None-clause-tree : goal.returns-in_ok-insert-in-None-clause-tree
 returns-in_ok-insert-in-None-clause-tree c =

@@ -2,7 +2,7 @@ use Rattle.std.proofs.Common.{arith, ap}
 use Rattle.tree_store.specs.declared.links.Place.{Place}
 use Rattle.tree_store.specs.Links.{place_in}
 use Rattle.tree_store.proofs.LinkLemmas.{sizes_fit, tree_hung, places_hung, put_stays, below_place}
-use Rattle.tree_store.proofs.links.hang.Goals as goal
+use Rattle.tree_store.proofs.links.attach.Goals as goal
 
 pub overflow_add-above : goal.overflow_add-above
 overflow_add-above c =
