@@ -1,0 +1,6 @@
+pub mod WaitLemmas
+pub mod NameLemmas
+pub mod SlotLemmas
+pub mod RouseLemmas
+pub mod KeptLemmas
+pub mod ThreadLemmas

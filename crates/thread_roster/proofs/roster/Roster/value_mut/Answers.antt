@@ -1,0 +1,40 @@
+use Rattle.std.proofs.Common.{◌∙◌, sym, ap, refl, Some}
+use Rattle.tree_node.specs.Assoc.{value_of}
+use Rattle.tree_node.specs.State.{same_thread}
+use Rattle.thread_roster.specs.Slots.{place_in}
+use Rattle.thread_roster.proofs.SlotLemmas.{at_index}
+use Rattle.thread_roster.proofs.KeptLemmas.{kept_value, slot_is, value_is, lent_view, value_found}
+use Rattle.thread_roster.proofs.roster.Roster.value_mut.Goals as goal
+
+pub invariant_of-self-lent : goal.invariant_of-self-lent
+invariant_of-self-lent g c w =
+    let held = c.find-place.ensures.held in
+    let slot =
+    slot_is c.self.inside.slots.items c.find-place.result _ held.0
+    (at_index c.self.inside.slots.items c.find-place.result _ c.find-place.ensures.inside c.index_mut.ensures.value) held.1 in
+    rw slot
+    (kept_value c.self.inside.slots.items c.self.inside.places.entries c.self.inside.queue c.self.inside.waiters c.self.inside.living c.self.inside.waiting
+    c.args.name c.find-place.result held.0 w c.self.invariant c.find-place.ensures.place held.1 held.2)
+
+pub returns : goal.returns
+returns g c =
+    let held = c.find-place.ensures.held in
+    let slot =
+    slot_is c.self.inside.slots.items c.find-place.result _ held.0
+    (at_index c.self.inside.slots.items c.find-place.result _ c.find-place.ensures.inside c.index_mut.ensures.value) held.1 in
+    let there =
+    value_found c.self.inside.slots.items (place_in c.self.inside.places.entries) c.args.name c.find-place.result held.0
+    c.self.invariant.placed c.find-place.ensures.place held.1 in (
+      (
+        refl,
+        λ w. lent_view c.args.self.now c.self.inside.slots.items (place_in c.self.inside.places.entries) c.args.name c.find-place.result _ held.0 w
+            c.self.invariant.placed c.find-place.ensures.place held.1 held.2 slot c.self.view_is,
+      ),
+      record {
+        writes_back = tt;
+        value = (
+          held.0.mode,
+          ap (λ s. value_of same_thread s.living c.args.name) (sym c.self.view_is) ∙ there ∙ ap (λ v. Some (v, held.0.mode)) (value_is _ held.0 _ slot c.value_in.ensures.value),
+        );
+      },
+    )

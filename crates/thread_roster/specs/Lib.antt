@@ -1,0 +1,6 @@
+pub mod Threads
+pub mod Lends
+pub mod Slots
+pub mod Keys
+pub mod Waiting
+pub mod Kept

@@ -1,0 +1,126 @@
+-- Threads in slots: each keeps its slot until it has ended, and no slot is used again, so that the order of the slots is
+-- that in which threads were born.
+use Rattle.std.specs.Prelude.{◌≡◌, ◌≢◌, ℕ, ◌+◌, ◌<◌, zero, suc, List, [], ◌∷◌, ◌++◌, length, Option, Some, None, slice_get, ◌⊎◌, if◌then◌else◌}
+use Rattle.std.specs.Map.{lookup}
+use Rattle.tree_node.specs.declared.names.VarName.{VarName}
+use Rattle.tree_node.specs.declared.names.ThreadName.{ThreadName}
+use Rattle.tree_node.specs.Each.{Each}
+use Rattle.tree_node.specs.State.{same_thread}
+use Rattle.thread_roster.specs.declared.mode.Mode.{Mode}
+use Rattle.thread_roster.specs.declared.mode.Mode.TheVariants.{Runs}
+use Rattle.thread_roster.specs.declared.slot.Held.{Held}
+use Rattle.thread_roster.specs.Threads.{Entry, wake, is_waiting}
+
+abbrev pub Slot : Type 0 → Type 0
+Slot V = Option (Held V)
+
+abbrev pub entry : {V : Type 0} → Held V → Entry V
+entry h = (h.name, (h.value, h.mode))
+
+-- those that live, the newest first
+abbrev pub threads_in : {V : Type 0} → List (Slot V) → List (Entry V)
+threads_in [] = []
+threads_in (None ∷ slots) = threads_in slots
+threads_in (Some h ∷ slots) = threads_in slots ++ entry h ∷ []
+
+-- the thread in a slot has another value
+abbrev pub with_value_in : {V : Type 0} → Slot V → V → Slot V
+with_value_in None v = None
+with_value_in (Some h) v = Some (record h { value = v })
+
+abbrev pub value_there : {V : Type 0} → Slot V → Option V
+value_there None = None
+value_there (Some h) = Some h.value
+
+-- ---- names
+
+-- the thread of this name is not here
+abbrev pub Lacks : {V : Type 0} → ThreadName → Slot V → Type 0
+Lacks n None = Unit {0}
+Lacks n (Some h) = h.name ≢ n
+
+-- the thread of this name is here
+abbrev pub Holds : {V : Type 0} → ThreadName → Slot V → Type 0
+Holds n None = ⊥
+Holds n (Some h) = h.name ≡ n
+
+-- the thread of this name is here, and in no other slot
+abbrev pub IsOnlyAt : {V : Type 0} → ThreadName → List (Slot V) → ℕ → Type 0
+IsOnlyAt n [] i = ⊥
+IsOnlyAt n (o ∷ slots) zero = Holds n o × Each (Lacks n) slots
+IsOnlyAt n (o ∷ slots) (suc i) = Lacks n o × IsOnlyAt n slots i
+
+-- what a table says of a name
+abbrev pub IsPlaced : {V : Type 0} → List (Slot V) → ThreadName → Option ℕ → Type 0
+IsPlaced slots n None = Each (Lacks n) slots
+IsPlaced slots n (Some i) = IsOnlyAt n slots i
+
+-- the table has the slot of each thread
+abbrev pub ArePlaced : {V : Type 0} → List (Slot V) → (ThreadName → Option ℕ) → Type 0
+ArePlaced slots place = (n : ThreadName) → IsPlaced slots n (place n)
+
+abbrev pub place_in : List (ThreadName × ℕ) → ThreadName → Option ℕ
+place_in places n = lookup (same_thread n) places
+
+-- one name has this slot, or none, and the others theirs
+abbrev pub changed : (ThreadName → Option ℕ) → ThreadName → Option ℕ → ThreadName → Option ℕ
+changed place n o k = if same_thread n k then o else place k
+
+-- ---- how threads stand
+
+-- the thread in a slot stands so
+abbrev pub StandsAt : {V : Type 0} → List (Slot V) → ℕ → Mode → Type 0
+StandsAt {V} slots j m = (h : Held V) × (slice_get slots j ≡ Some (Some h)) × (h.mode ≡ m)
+
+abbrev pub AreInside : {X : Type 0} → List X → List ℕ → Type 0
+AreInside slots js = Each (λ (j : ℕ). j < length slots) js
+
+-- ---- waking
+
+abbrev pub rouse : {V : Type 0} → VarName → Slot V → Slot V
+rouse x None = None
+rouse x (Some h) = Some (record h { mode = wake x h.mode })
+
+-- the thread in one slot
+abbrev pub rouse_at : {V : Type 0} → VarName → List (Slot V) → ℕ → List (Slot V)
+rouse_at x [] k = []
+rouse_at x (o ∷ slots) zero = rouse x o ∷ slots
+rouse_at x (o ∷ slots) (suc k) = o ∷ rouse_at x slots k
+
+-- those in the slots of these keys
+abbrev pub rouse_all : {V : Type 0} → VarName → List (Slot V) → List ℕ → List (Slot V)
+rouse_all x slots [] = slots
+rouse_all x slots (k ∷ keys) = rouse_all x (rouse_at x slots k) keys
+
+-- ---- numbers
+
+-- the sum over the threads in slots
+abbrev pub total : {V : Type 0} → (Held V → ℕ) → List (Slot V) → ℕ
+total f [] = 0
+total f (None ∷ slots) = total f slots
+total f (Some h ∷ slots) = f h + total f slots
+
+abbrev pub one : {V : Type 0} → Held V → ℕ
+one h = 1
+
+-- 1, where it waits
+abbrev pub weight : Mode → ℕ
+weight m = if is_waiting m then 1 else 0
+
+abbrev pub waiting : {V : Type 0} → Held V → ℕ
+waiting h = weight h.mode
+
+-- ---- the queue
+
+-- the slot stays in the queue, or was the first there and has left it
+abbrev pub IsLeft : ℕ → List ℕ → List ℕ → Type 0
+IsLeft i queue rest = (rest ≡ queue) ⊎ (queue ≡ i ∷ rest)
+
+-- slots whose threads do not go on have left the front of the queue
+abbrev pub IsRest : {V : Type 0} → List (Slot V) → List ℕ → List ℕ → Type 0
+IsRest slots queue rest = (front : List ℕ) × (queue ≡ front ++ rest) × Each (λ (j : ℕ). StandsAt slots j Runs → ⊥) front
+
+-- the first slot of the queue has a thread of this name, which can go on
+abbrev pub IsNext : {V : Type 0} → List (Slot V) → List ℕ → ThreadName → Type 0
+IsNext {V} slots queue n =
+    (i : ℕ) × (rest : List ℕ) × (h : Held V) × (queue ≡ i ∷ rest) × (slice_get slots i ≡ Some (Some h)) × (h.name ≡ n) × (h.mode ≡ Runs)

@@ -1,0 +1,72 @@
+-- Threads by name, each with a value and how it stands.
+use Rattle.std.specs.Prelude.{◌≡◌, ◌≢◌, ℕ, List, [], ◌∷◌, filter, length, Bool, true, false, Some, if◌then◌else◌}
+use Rattle.tree_node.specs.declared.names.VarName.{VarName}
+use Rattle.tree_node.specs.declared.names.ThreadName.{ThreadName}
+use Rattle.tree_node.specs.Assoc.{value_of}
+use Rattle.tree_node.specs.Each.{Each}
+use Rattle.tree_node.specs.State.{same_thread}
+use Rattle.tree_node.specs.Store.{same_name}
+use Rattle.thread_roster.specs.declared.mode.Mode.{Mode}
+use Rattle.thread_roster.specs.declared.mode.Mode.TheVariants.{Runs, Waits, WaitsFor}
+
+-- a thread's name, its value, and how it stands
+abbrev pub Entry : Type 0 → Type 0
+Entry V = ThreadName × (V × Mode)
+
+-- the threads that live, the newest first, and the number of those that have ended
+pub record Threads (V : Type 0) : Type 0 where
+  pub living : List (Entry V)
+  pub ended : ℕ
+
+-- ---- one thread
+
+-- the thread of a name has another value, and stands as before
+abbrev pub set_value : {V : Type 0} → List (Entry V) → ThreadName → V → List (Entry V)
+set_value [] n v = []
+set_value (t ∷ ts) n v = if same_thread t.0 n then (n, (v, t.1.1)) ∷ ts else t ∷ set_value ts n v
+
+-- the thread of a name stands otherwise, with the value as before
+abbrev pub set_mode : {V : Type 0} → List (Entry V) → ThreadName → Mode → List (Entry V)
+set_mode [] n m = []
+set_mode (t ∷ ts) n m = if same_thread t.0 n then (n, (t.1.0, m)) ∷ ts else t ∷ set_mode ts n m
+
+-- ---- waking
+
+-- a thread that waits for x goes on
+abbrev pub wake : VarName → Mode → Mode
+wake x (Waits y) = if same_name y x then Runs else Waits y
+wake x m = m
+
+abbrev pub wake_all : {V : Type 0} → VarName → List (Entry V) → List (Entry V)
+wake_all x [] = []
+wake_all x (t ∷ ts) = (t.0, (t.1.0, wake x t.1.1)) ∷ wake_all x ts
+
+-- ---- waiting
+
+abbrev pub is_waiting : Mode → Bool
+is_waiting Runs = false
+is_waiting (Waits x) = true
+is_waiting (WaitsFor c) = true
+
+-- how many of them wait
+abbrev pub waiting_of : {V : Type 0} → List (Entry V) → ℕ
+waiting_of {V} ts = length (filter (λ (t : Entry V). is_waiting t.1.1) ts)
+
+-- none of them can go on
+abbrev pub AllWait : {V : Type 0} → List (Entry V) → Type 0
+AllWait {V} ts = Each (λ (t : Entry V). t.1.1 ≢ Runs) ts
+
+-- the thread of a name lives and waits
+abbrev pub IsSuspended : {V : Type 0} → List (Entry V) → ThreadName → Type 0
+IsSuspended {V} ts n = (v : V) × (m : Mode) × (value_of same_thread ts n ≡ Some (v, m)) × (m ≢ Runs)
+
+-- the thread of a name lives and can go on
+abbrev pub IsRunnable : {V : Type 0} → List (Entry V) → ThreadName → Type 0
+IsRunnable {V} ts n = (v : V) × (value_of same_thread ts n ≡ Some (v, Runs))
+
+-- ---- what others see of threads
+
+-- by name, what g tells of each
+abbrev pub seen : {V W : Type 0} → (V × Mode → W) → List (Entry V) → List (ThreadName × W)
+seen g [] = []
+seen g (t ∷ ts) = (t.0, g t.1) ∷ seen g ts

@@ -1,0 +1,29 @@
+//! Threads by name, each with a value, and with how it stands: it can go on, or it waits until a variable is bound, or for
+//! the token of a cell. The machines of one site and of all keep their threads here, in place.
+//!
+//! Contracts see a `Roster` as `Threads`: the list of those that live, the newest first, each with its value and its
+//! `Mode`, and the number of those that have ended. `start`, `end`, `wait`, `wait_for`, `run` and `wake` say which list
+//! they leave (after want of memory the roster is unchanged); `value_mut` lends a thread's value where it stands; `get`,
+//! `mode` and `lives` find a thread by its name; `len`, `waiting` and `ended` tell numbers that are kept and not counted;
+//! `first` gives a thread that can go on, and gives none exactly where none can, as `idle` tells without looking for one.
+//! Slots, names, the run queue and the waiting keys are hidden; what they keep together is `IsKept`.
+//!
+//! A call costs by what it does: the first of the queue is found without a look-up, another thread by one, `wake` looks at
+//! those that wait for its variable, and `first` at the slots that leave the queue. A slot is not used again, so that the
+//! list stays in the order of birth; an ended thread leaves an empty one.
+//!
+//! That turns are taken first come first served, and that a thread that is woken or passed by goes behind the others, no
+//! clause says yet. It stands on `tree_node` (names), `indexmap` and `slab`. Threads that wait for variables are those
+//! of CTM sections 2.4 and 4.1.
+#![tactic(auto)]
+
+mod mode;
+mod place;
+mod queue;
+mod roster;
+mod slot;
+mod threads;
+mod waiters;
+
+pub use mode::Mode;
+pub use roster::Roster;

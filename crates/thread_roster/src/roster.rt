@@ -1,0 +1,254 @@
+//! Threads by name.
+
+ghost use Rattle.std.specs.Prelude.{◌≡◌, ◌↔◌, ◌+◌, ◌∷◌, [], None, Some, OnOk, OnErr, IfSome, IfNone, IsTrue, IsSome, length};
+ghost use Rattle.std.specs.Borrow.{sem};
+ghost use Rattle.tree_node.specs.Assoc.{value_of, without_key};
+ghost use Rattle.tree_node.specs.State.{same_thread};
+ghost use Rattle.thread_roster.specs.declared.mode.Mode.{Mode as Standing};
+ghost use Rattle.thread_roster.specs.declared.mode.Mode.TheVariants as stands;
+ghost use Rattle.thread_roster.specs.Threads.{set_mode, set_value, wake_all, waiting_of, AllWait, IsSuspended, IsRunnable};
+
+use crate::mode::Mode;
+use crate::place::{
+    Places, count_running, count_waiting, find, forget, leave, next_runnable, place_of,
+};
+use crate::queue::Queue;
+use crate::slot::{Held, Slot, clear, rouse_all, set_mode, value_in};
+use crate::waiters::Waiters;
+use indexmap::IndexMap;
+use std::alloc::{AllocError, Global};
+use std::marker::Model;
+use tree_node::{CellName, ThreadName, VarName};
+
+/// Threads by name, each with a value and how it stands, which contracts see as a list, the newest first, and the number of
+/// those that have ended. A thread keeps its slot until it has ended. Those that can go on have their slots in a queue; a
+/// slot in the queue whose thread does not go on is passed over.
+#[derive(Drop)]
+pub struct Roster<V> {
+    slots: Vec<Slot<V>>,
+    places: Places,
+    queue: Queue,
+    waiters: Waiters,
+    living: usize,
+    waiting: usize,
+}
+
+impl<V> Model for Roster<V> {
+    ghost use Rattle.std.specs.Prelude.{length, ◌-◌};
+    ghost use Rattle.thread_roster.specs.Threads.{Threads};
+
+    ghost Value = { Threads V };
+
+    ghost use Rattle.thread_roster.specs.Slots.{threads_in, total, one};
+    ghost use Rattle.thread_roster.specs.Kept.{IsKept};
+
+    ghost view = { λ r. record {
+      living = threads_in r.slots.items;
+      ended = length r.slots.items - total one r.slots.items;
+    } };
+
+    ghost invariant = { λ r. IsKept r.slots.items r.places.entries r.queue r.waiters r.living r.waiting };
+}
+
+impl<V: Drop> Roster<V> {
+    ghost use Rattle.thread_roster.specs.Lends.{lends_value};
+
+    /// No threads.
+    #[tactic(auto, using(crate::proofs::KeptLemmas::kept_none))]
+    pub fn new(alloc: Global) -> Roster<V>
+        ensures living { result.living ≡ [] }
+        ensures ended { result.ended ≡ 0 }
+    {
+        Roster {
+            slots: Vec::new(alloc),
+            places: IndexMap::new(alloc),
+            queue: Queue::new(alloc),
+            waiters: Waiters::new(alloc),
+            living: 0,
+            waiting: 0,
+        }
+    }
+
+    /// How many threads live.
+    #[tactic(auto, using(crate::proofs::RouseLemmas::living_is))]
+    pub fn len(&self) -> usize
+        ensures { result ≡ length self.now.living }
+    {
+        self.living
+    }
+
+    /// How many of them wait.
+    #[tactic(auto, using(crate::proofs::RouseLemmas::waiting_is))]
+    pub fn waiting(&self) -> usize
+        ensures { result ≡ waiting_of self.now.living }
+    {
+        self.waiting
+    }
+
+    /// How many threads have ended.
+    #[tactic(auto, using(crate::proofs::SlotLemmas::living_le))]
+    pub fn ended(&self) -> usize
+        ensures { result ≡ self.now.ended }
+    {
+        self.slots.len() - self.living
+    }
+
+    /// Whether none can go on.
+    #[tactic(auto, using(crate::proofs::RouseLemmas::all_wait, crate::proofs::RouseLemmas::as_many_wait))]
+    pub fn idle(&self) -> bool
+        ensures { IsTrue result ↔ AllWait self.now.living }
+    {
+        self.waiting() == self.len()
+    }
+
+    /// Whether a thread of this name lives.
+    pub fn lives(&self, name: ThreadName) -> bool
+        ensures { IsTrue result ↔ IsSome (value_of same_thread self.now.living name) }
+    {
+        place_of(&self.slots, &self.places, &self.queue, name).is_some()
+    }
+
+    /// The value of a thread.
+    pub fn get(&self, name: ThreadName) -> Option<&V>
+        ensures some { IfSome result (λ v. (m : Standing) × (value_of same_thread self.now.living name ≡ Some (v.now, m))) }
+        ensures none { IfNone result (value_of same_thread self.now.living name ≡ None) }
+    {
+        match place_of(&self.slots, &self.places, &self.queue, name) {
+            None => None,
+            Some(place) => match &self.slots[place] {
+                None => unreachable!(),
+                Some(held) => Some(&held.value),
+            },
+        }
+    }
+
+    /// How a thread stands.
+    pub fn mode(&self, name: ThreadName) -> Option<Mode>
+        ensures some { IfSome result (λ m. (v : V) × (value_of same_thread self.now.living name ≡ Some (v, m))) }
+        ensures none { IfNone result (value_of same_thread self.now.living name ≡ None) }
+    {
+        match place_of(&self.slots, &self.places, &self.queue, name) {
+            None => None,
+            Some(place) => match &self.slots[place] {
+                None => unreachable!(),
+                Some(held) => Some(held.mode),
+            },
+        }
+    }
+
+    /// The value of a thread, to be changed in its place.
+    pub fn value_mut(&mut self, name: ThreadName) -> &mut V
+        requires lives { IsSome (value_of same_thread self.old.living name) }
+        ensures* writes_back { sem 𝓛 (lends_value V.row self.entry name result) }
+        ensures value { (m : Standing) × (value_of same_thread self.old.living name ≡ Some (result.now, m)) }
+    {
+        let place = find(&self.slots, &self.places, &self.queue, name);
+        value_in(&mut self.slots[place])
+    }
+
+    /// A thread is born, and goes behind those that can go on.
+    pub fn start(&mut self, name: ThreadName, value: V) -> Result<(), AllocError>
+        requires new { value_of same_thread self.old.living name ≡ None }
+        ensures living { OnOk result (self.new.living ≡ (name, (value, stands.Runs)) ∷ self.old.living) }
+        ensures ended { OnOk result (self.new.ended ≡ self.old.ended) }
+        ensures err { OnErr result (self.new ≡ self.old) }
+    {
+        let place = self.slots.len();
+        self.slots.reserve(1)?;
+        self.places.reserve(1)?;
+        self.queue.push(place)?;
+        let mode = Mode::Runs;
+        self.slots.push_reserved(Some(Held { name, mode, value }));
+        self.places.insert(name, place)?;
+        self.living += 1;
+        Ok(())
+    }
+
+    /// A thread waits until a variable is bound.
+    pub fn wait(&mut self, name: ThreadName, var: VarName) -> Result<(), AllocError>
+        requires lives { IsSome (value_of same_thread self.old.living name) }
+        ensures living { OnOk result (self.new.living ≡ set_mode self.old.living name (stands.Waits var)) }
+        ensures ended { OnOk result (self.new.ended ≡ self.old.ended) }
+        ensures err { OnErr result (self.new ≡ self.old) }
+    {
+        let place = find(&self.slots, &self.places, &self.queue, name);
+        self.waiters.add(var, place)?;
+        let before = set_mode(&mut self.slots, place, Mode::Waits(var));
+        self.waiting = count_waiting(self.waiting, before);
+        leave(&mut self.queue, place);
+        Ok(())
+    }
+
+    /// A thread waits for a cell's token, until `run` lets it go on.
+    pub fn wait_for(&mut self, name: ThreadName, cell: CellName)
+        requires lives { IsSome (value_of same_thread self.old.living name) }
+        ensures living { self.new.living ≡ set_mode self.old.living name (stands.WaitsFor cell) }
+        ensures ended { self.new.ended ≡ self.old.ended }
+    {
+        let place = find(&self.slots, &self.places, &self.queue, name);
+        let before = set_mode(&mut self.slots, place, Mode::WaitsFor(cell));
+        self.waiting = count_waiting(self.waiting, before);
+        leave(&mut self.queue, place);
+    }
+
+    /// A thread that waits goes on, behind those that can go on.
+    pub fn run(&mut self, name: ThreadName) -> Result<(), AllocError>
+        requires waits { IsSuspended self.old.living name }
+        ensures living { OnOk result (self.new.living ≡ set_mode self.old.living name stands.Runs) }
+        ensures ended { OnOk result (self.new.ended ≡ self.old.ended) }
+        ensures err { OnErr result (self.new ≡ self.old) }
+    {
+        let place = find(&self.slots, &self.places, &self.queue, name);
+        self.queue.push(place)?;
+        let before = set_mode(&mut self.slots, place, Mode::Runs);
+        self.waiting = count_running(self.waiting, before);
+        Ok(())
+    }
+
+    /// The threads that wait for a variable go on, behind those that can go on, in the order in which they came to wait.
+    pub fn wake(&mut self, var: VarName) -> Result<(), AllocError>
+        ensures living { OnOk result (self.new.living ≡ wake_all var self.old.living) }
+        ensures ended { OnOk result (self.new.ended ≡ self.old.ended) }
+        ensures err { OnErr result (self.new ≡ self.old) }
+    {
+        if self.waiting == 0 {
+            return Ok(());
+        }
+        let keys = self.waiters.look(var);
+        self.queue.push_all(keys)?;
+        let roused = rouse_all(&mut self.slots, keys, var);
+        self.waiting -= roused;
+        self.waiters.take(var);
+        Ok(())
+    }
+
+    /// A thread has ended.
+    pub fn end(&mut self, name: ThreadName)
+        requires lives { IsSome (value_of same_thread self.old.living name) }
+        ensures living { self.new.living ≡ without_key same_thread self.old.living name }
+        ensures ended { self.new.ended ≡ self.old.ended + 1 }
+    {
+        let place = find(&self.slots, &self.places, &self.queue, name);
+        let before = clear(&mut self.slots, place);
+        self.waiting = count_running(self.waiting, before);
+        forget(&mut self.places, name);
+        self.living -= 1;
+        leave(&mut self.queue, place);
+    }
+
+    /// The first thread in the order of turns that can go on; none, exactly where no thread can.
+    pub fn first(&mut self) -> Option<ThreadName>
+        ensures some { IfSome result (λ n. IsRunnable self.old.living n) }
+        ensures none { IfNone result (AllWait self.old.living) }
+        ensures same { self.new ≡ self.old }
+    {
+        next_runnable(&self.slots, &mut self.queue)
+    }
+
+    /// The first thread in the order of turns goes behind the others.
+    pub fn pass(&mut self)
+        ensures { self.new ≡ self.old }
+    {
+        self.queue.rotate();
+    }
+}

@@ -1,0 +1,141 @@
+//! Threads in slots.
+
+ghost use Rattle.std.specs.Prelude.{◌≡◌, ◌≢◌, ◌+◌, ◌<◌, ◌↔◌, Some, None, IsTrue, IsSome, IfSome, IfNone, slice_get, slice_set, length, if◌then◌else◌};
+ghost use Rattle.std.specs.Vec.{vec_len};
+ghost use Rattle.std.specs.Borrow.{sem, Lends};
+ghost use Rattle.thread_roster.specs.declared.mode.Mode.TheVariants as stands;
+ghost use Rattle.thread_roster.specs.Threads.{wake};
+ghost use Rattle.thread_roster.specs.Slots.{Slot as TheSlot, Holds, AreInside, rouse, rouse_at, rouse_all, total, waiting};
+ghost use Rattle.std.specs.contracts.option.Option.{the_row as OptionOf};
+ghost use Rattle.thread_roster.specs.contracts.slot.Held.{the_row as held_row};
+ghost use Rattle.thread_roster.specs.Slots.{with_value_in, value_there};
+
+use crate::mode::Mode;
+use tree_node::{ThreadName, VarName};
+
+/// A thread: its name, how it stands, and its value.
+#[derive(Drop)]
+pub struct Held<V> {
+    pub name: ThreadName,
+    pub mode: Mode,
+    pub value: V,
+}
+
+/// A slot of a thread, which is empty once the thread has ended.
+pub type Slot<V> = Option<Held<V>>;
+
+/// Whether the thread of this name is in a slot.
+pub fn is_of<V>(slot: &Slot<V>, name: ThreadName) -> bool
+    ensures { IsTrue result ↔ Holds name slot.now }
+{
+    match slot {
+        None => false,
+        Some(held) => held.name == name,
+    }
+}
+
+/// The name of the thread in a slot, where it can go on.
+pub fn runnable<V>(slot: &Slot<V>) -> Option<ThreadName>
+    ensures some { IfSome result (λ n. (h : Held V) × (slot.now ≡ Some h) × (h.name ≡ n) × (h.mode ≡ stands.Runs)) }
+    ensures none { IfNone result ((h : Held V) → slot.now ≡ Some h → h.mode ≢ stands.Runs) }
+{
+    match slot {
+        None => None,
+        Some(held) => match held.mode {
+            Mode::Runs => Some(held.name),
+            Mode::Waits(_) => None,
+            Mode::WaitsFor(_) => None,
+        },
+    }
+}
+
+/// The value of the thread in a slot, to be changed in its place.
+pub fn value_in<V>(slot: &mut Slot<V>) -> &mut V
+    requires held { IsSome slot.old }
+    ensures* lends { sem 𝓛 (Lends (OptionOf (held_row V.row)) V.row slot.entry result (with_value_in slot.old)) }
+    ensures value { value_there slot.old ≡ Some result.now }
+{
+    match slot {
+        Some(held) => &mut held.value,
+        None => unreachable!(),
+    }
+}
+
+/// The thread in a slot stands so from now on. Answers how it stood before.
+pub fn set_mode<V: Drop>(slots: &mut Vec<Slot<V>>, place: usize, mode: Mode) -> Mode
+    requires inside { place < length slots.old.items }
+    requires held { (h : Held V) × (slice_get slots.old.items place ≡ Some (Some h)) }
+    ensures put { (h : Held V) → slice_get slots.old.items place ≡ Some (Some h) → slots.new.items ≡ slice_set slots.old.items place (Some (record h { mode = mode })) }
+    ensures old { (h : Held V) → slice_get slots.old.items place ≡ Some (Some h) → result ≡ h.mode }
+    ensures len { vec_len slots.new ≡ vec_len slots.old }
+{
+    match &mut slots[place] {
+        None => unreachable!(),
+        Some(held) => std::mem::replace(&mut held.mode, mode),
+    }
+}
+
+/// The slot of a thread is empty from now on. Answers how the thread stood.
+pub fn clear<V: Drop>(slots: &mut Vec<Slot<V>>, place: usize) -> Mode
+    requires inside { place < length slots.old.items }
+    requires held { (h : Held V) × (slice_get slots.old.items place ≡ Some (Some h)) }
+    ensures put { slots.new.items ≡ slice_set slots.old.items place None }
+    ensures old { (h : Held V) → slice_get slots.old.items place ≡ Some (Some h) → result ≡ h.mode }
+    ensures len { vec_len slots.new ≡ vec_len slots.old }
+{
+    let mode = match &slots[place] {
+        None => unreachable!(),
+        Some(held) => held.mode,
+    };
+    slots[place] = None;
+    mode
+}
+
+// A thread that waits for this variable goes on: true, where it does.
+fn rouse<V>(held: &mut Held<V>, var: VarName) -> bool
+    ensures held { held.new ≡ record held.old { mode = wake var held.old.mode } }
+    ensures count { (if result then 1 else 0) + waiting held.new ≡ waiting held.old }
+{
+    match held.mode {
+        Mode::Waits(needed) => {
+            if needed == var {
+                held.mode = Mode::Runs;
+                true
+            } else {
+                false
+            }
+        }
+        Mode::Runs => false,
+        Mode::WaitsFor(_) => false,
+    }
+}
+
+// The thread in a slot goes on, where it waits for this variable: true, where it does.
+#[tactic(auto, using(crate::proofs::RouseLemmas::roused_none, crate::proofs::RouseLemmas::roused_some, crate::proofs::SlotLemmas::total_set))]
+fn rouse_at<V: Drop>(slots: &mut Vec<Slot<V>>, place: usize, var: VarName) -> bool
+    requires inside { place < length slots.old.items }
+    ensures slots { slots.new.items ≡ rouse_at var slots.old.items place }
+    ensures count { (if result then 1 else 0) + total waiting slots.new.items ≡ total waiting slots.old.items }
+    ensures len { vec_len slots.new ≡ vec_len slots.old }
+{
+    match &mut slots[place] {
+        None => false,
+        Some(held) => rouse(held, var),
+    }
+}
+
+/// Those in the slots of these keys go on, where they wait for this variable. Answers how many do.
+pub fn rouse_all<V: Drop>(slots: &mut Vec<Slot<V>>, keys: &[usize], var: VarName) -> usize
+    requires inside { AreInside slots.old.items keys.now }
+    ensures slots { slots.new.items ≡ rouse_all var slots.old.items keys.now }
+    ensures count { result + total waiting slots.new.items ≡ total waiting slots.old.items }
+    ensures len { vec_len slots.new ≡ vec_len slots.old }
+{
+    let mut roused = 0;
+    'keys: for key in keys {
+        if rouse_at(slots, *key, var) {
+            roused += 1;
+        }
+    }
+    roused
+}
