@@ -9,3 +9,6 @@ pub mod CallLemmas
 pub mod DeliverLemmas
 pub mod HoldLemmas
 pub mod CodeLemmas
+pub mod RowCountLemmas
+pub mod GoOnLemmas
+pub mod LearnLemmas

@@ -30,6 +30,10 @@ owner_knows (Some (Bound t)) = Some (Some t)
 abbrev pub knowledge : Records → VarName → Option (Option Term)
 knowledge b x = if is_own b x then owner_knows (owner_of b.owners x) else entry_of b.proxies x
 
+-- the sites that are registered here for a variable
+abbrev pub sites_in : Records → VarName → List ℕ
+sites_in b x = sites_of (owner_of b.owners x)
+
 -- a variable of the site's own that it made, or one owned elsewhere that it met
 abbrev pub IsKnown : Records → VarName → Type 0
 IsKnown b x = IsTrue (is_some (knowledge b x))

@@ -1,5 +1,5 @@
 -- The rows of the protocol: what an event does to the records of a site, and what the site sends.
-use Rattle.std.specs.Prelude.{ℕ, List, [], ◌∷◌, map, Option, Some, is_some, if◌then◌else◌}
+use Rattle.std.specs.Prelude.{ℕ, List, [], ◌∷◌, ◌++◌, map, Option, Some, is_some, if◌then◌else◌}
 use Rattle.tree_node.specs.declared.names.VarName.{VarName}
 use Rattle.tree_node.specs.declared.names.ThreadName.{ThreadName}
 use Rattle.tree_node.specs.declared.node.Term.{Term}
@@ -36,6 +36,15 @@ after_meet b x = if is_own b x then b else record b { proxies = proxies.after_me
 
 abbrev pub meet_sends : Records → VarName → List Sent
 meet_sends b x = if is_own b x then [] else if is_some (entry_of b.proxies x) then [] else register x b.site ∷ []
+
+-- Names are met one after another
+abbrev pub after_meets : Records → List VarName → Records
+after_meets b [] = b
+after_meets b (x ∷ xs) = after_meets (after_meet b x) xs
+
+abbrev pub meets_send : Records → List VarName → List Sent
+meets_send b [] = []
+meets_send b (x ∷ xs) = meet_sends b x ++ meets_send (after_meet b x) xs
 
 -- Register(x, k): k joins the sites of an unbound x; a bound x is answered by a Binding to k
 abbrev pub after_register : Records → VarName → ℕ → Records

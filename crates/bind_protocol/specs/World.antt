@@ -1,18 +1,15 @@
 -- Sites whose messages travel in any order, what each call does to them, and what holds of them at all times.
-use Rattle.std.specs.Prelude.{◌≡◌, ◌≢◌, ℕ, zero, suc, ◌-◌, ◌≤◌, List, [], ◌∷◌, ◌++◌, ◌⊎◌, length, map, remove, Bool, false, ◌&&◌, ◌==◌, Option, Some, None, is_some, unwrap_or, IsTrue, Contains, slice_get, slice_set}
+use Rattle.std.specs.Prelude.{◌≡◌, ◌≢◌, ℕ, zero, suc, ◌-◌, ◌≤◌, List, [], ◌∷◌, ◌++◌, ◌⊎◌, length, remove, Bool, false, ◌&&◌, ◌==◌, Option, Some, None, is_some, unwrap_or, IsTrue, Contains, slice_get, slice_set}
 use Rattle.std.specs.List.{count_by}
 use Rattle.tree_node.specs.declared.names.VarName.{VarName}
 use Rattle.tree_node.specs.declared.names.ThreadName.{ThreadName}
-use Rattle.tree_node.specs.declared.node.Feature.{Feature}
-use Rattle.tree_node.specs.declared.node.Node.{Node}
-use Rattle.tree_node.specs.declared.node.Node.TheVariants as node
 use Rattle.tree_node.specs.declared.node.Term.{Term}
-use Rattle.tree_node.specs.declared.node.Term.TheVariants as term
 use Rattle.tree_node.specs.Each.{Each}
 use Rattle.tree_node.specs.Store.{same_name}
 use Rattle.site_message.specs.declared.message.Sent.{Sent}
 use Rattle.site_message.specs.declared.message.Msg.{Msg}
 use Rattle.site_message.specs.declared.message.Msg.TheVariants as msg
+pub use Rattle.site_message.specs.Vars.{field_vars, vars_of}
 use Rattle.tree_node.specs.Order.{IsLower}
 use Rattle.variable_owner.specs.Owners.{owner_of, sites_of}
 use Rattle.bind_protocol.specs.Records.{Records, knowledge}
@@ -67,19 +64,6 @@ IsMadeIn w x = IsTrue (is_some (known_at w x.site x))
 -- the equation of x at its owner
 abbrev pub IsEquation : World → VarName → Term → Type 0
 IsEquation w x t = known_at w x.site x ≡ Some (Some t)
-
-abbrev pub field_vars : List (Feature × VarName) → List VarName
-field_vars fields = map (λ (f : Feature × VarName). f.1) fields
-
--- the variables of a term
-abbrev pub vars_of : Term → List VarName
-vars_of (term.Var y) = y ∷ []
-vars_of (term.Node n) = vars_of_node n
-  where
-    vars_of_node : Node → List VarName
-    vars_of_node (node.Rec label fields) = field_vars fields
-    vars_of_node (node.Proc name code formals vars) = vars
-    vars_of_node _ = []
 
 -- the site has these records from now on, and sends these messages
 abbrev pub puts : World → ℕ → Records → World

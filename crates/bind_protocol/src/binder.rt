@@ -10,10 +10,10 @@ ghost use Rattle.bind_protocol.specs.Rows.{binding, after_make, after_meet, meet
 ghost use Rattle.bind_protocol.specs.declared.binder.Want.TheVariants as want;
 
 use proxy_table::{Met, Proxies};
-use site_message::{Msg, Outbox, Sent};
+use site_message::{Bundle, Msg, Outbox, Sent};
 use std::alloc::{AllocError, Global};
 use std::marker::Model;
-use tree_node::{Seq, Term, ThreadName, VarName, copy_term};
+use tree_node::{Term, ThreadName, VarName, copy_term};
 use variable_owner::{Asked, Owners, Registered};
 
 /// What comes of a bind that a thread wants: it is made, or its variable's owner is asked for it.
@@ -64,7 +64,7 @@ fn bindings(
         let msg = Msg::Binding {
             var,
             term: copy_term(term)?,
-            bundle: Seq::new(alloc),
+            bundle: Bundle::new(),
         };
         messages.push(Sent { to: *site, msg })?;
     }
@@ -84,11 +84,18 @@ impl Binder {
         }
     }
 
+    /// Whether a variable is the site's own, whether it was made or not.
+    pub fn owns(&self, var: VarName) -> bool
+        ensures { result ≡ is_own self.now var }
+    {
+        var.site == self.site
+    }
+
     /// Whether a variable is the site's own and was made, or was met.
     pub fn known(&self, var: VarName) -> bool
         ensures { IsTrue result ↔ IsKnown self.now var }
     {
-        if var.site == self.site {
+        if self.owns(var) {
             self.owners.made(var)
         } else {
             self.proxies.met(var)
@@ -99,7 +106,7 @@ impl Binder {
     pub fn state(&self, var: VarName) -> Option<&Term>
         ensures { option_copied result ≡ option_and_then (λ o. o) (knowledge self.now var) }
     {
-        if var.site == self.site {
+        if self.owns(var) {
             self.owners.binding(var)
         } else {
             self.proxies.state(var)
@@ -140,7 +147,7 @@ impl Binder {
         ensures same { OnErr result (self.new ≡ self.old) }
         ensures unsent { OnErr result (outbox.new ≡ outbox.old) }
     {
-        if var.site == self.site || self.proxies.met(var) {
+        if self.owns(var) || self.proxies.met(var) {
             return Ok(Met::Known);
         }
         let msg = Msg::Register {
@@ -179,7 +186,7 @@ impl Binder {
                 let msg = Msg::Binding {
                     var,
                     term,
-                    bundle: Seq::new(self.alloc),
+                    bundle: Bundle::new(),
                 };
                 outbox.push(Sent { to: asking, msg })?;
                 Ok(())
@@ -232,7 +239,7 @@ impl Binder {
         ensures same { OnErr result (self.new ≡ self.old) }
         ensures unsent { OnErr result (outbox.new ≡ outbox.old) }
     {
-        if var.site == self.site {
+        if self.owns(var) {
             self.on_ask(var, term, outbox)?;
             return Ok(Want::Done);
         }
@@ -240,7 +247,7 @@ impl Binder {
             var,
             thread,
             term,
-            bundle: Seq::new(self.alloc),
+            bundle: Bundle::new(),
         };
         outbox.push(Sent { to: var.site, msg })?;
         Ok(Want::Sent)

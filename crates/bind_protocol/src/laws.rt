@@ -7,6 +7,9 @@ ghost use Rattle.bind_protocol.specs.Records.{IsKnowledge, Takes, knowledge};
 ghost use Rattle.bind_protocol.specs.Rows.{after_meet, meet_sends, after_want, want_sends, after_message, message_sends};
 ghost use Rattle.bind_protocol.specs.World.{Holds, Grows, IsFront, IsSiteOf, IsMadeIn, known_at, new_records, new_world, makes, meets, meets_all, wants, takes_message, met_first, comes, delivers, field_vars, vars_of};
 ghost use Rattle.site_message.specs.declared.outcome.DeliverError.TheVariants.{NotThere};
+ghost use Rattle.bind_protocol.specs.Count.{RowsCount, RowsHear, CountsJoin, CountsGoOn, CountedOnce, MessagesComeReady};
+ghost use Rattle.bind_protocol.specs.Learn.{RowsTeach, KnownStays};
+ghost use Rattle.bind_protocol.specs.Worked.{WorkedBind};
 ghost use Rattle.bind_protocol.specs.Calls.{CanMake, CanMeet, CanWant, CallsKeep};
 
 use crate::binder::{Binder, Knows};
@@ -22,7 +25,6 @@ use tree_node::{Feature, Node, Term, ThreadName, VarName};
 /// sender, and links lead down.
 #[derive(Drop)]
 pub struct BindWorld {
-    alloc: Global,
     binders: Vec<Binder>,
     travelling: Outbox,
     delivered: Vec<Sent>,
@@ -44,6 +46,33 @@ impl Model for BindWorld {
 /// at an owner stays. It does nothing: its clause is the law.
 pub fn calls_keep()
     ensures { CallsKeep }
+{}
+
+/// A worked bind by the rows. It does nothing: its clause is the row.
+pub fn worked_bind()
+    ensures { WorkedBind }
+{}
+
+/// What a site knows after each row, and that what it knows stays known. It does nothing: its clauses are the law.
+pub fn rows_teach()
+    ensures learnt { RowsTeach }
+    ensures stays { KnownStays }
+{}
+
+/// What each row does to the numbers of Registers and Bindings, in any world: other messages may travel beside, and
+/// messages may bring bundles. It does nothing: its clauses are the law.
+pub fn rows_count()
+    ensures counted { RowsCount }
+    ensures heard { RowsHear }
+    ensures together { CountsJoin }
+{}
+
+/// A world of which one site goes on by such rows keeps its counts, messages may be dropped from it, and each Register
+/// and Binding is sent at most once for each name and site and finds its site ready.
+pub fn counts_go_on()
+    ensures world { CountsGoOn }
+    ensures once { CountedOnce }
+    ensures ready { MessagesComeReady }
 {}
 
 // The records of new sites.
@@ -155,7 +184,6 @@ impl BindWorld {
     {
         let binders = new_binders(alloc, sites)?;
         Ok(BindWorld {
-            alloc,
             binders,
             travelling: Outbox::new(alloc),
             delivered: Vec::new(alloc),
@@ -334,7 +362,7 @@ impl BindWorld {
         if place >= self.travelling.len() {
             return Err(DeliverError::NotThere);
         }
-        let sent = copy_sent(self.alloc, &self.travelling.as_slice()[place])?;
+        let sent = copy_sent(&self.travelling.as_slice()[place])?;
         self.meet_first(sent.to, &sent.msg)?;
         self.take(place, sent)?;
         Ok(())

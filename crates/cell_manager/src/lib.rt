@@ -1,9 +1,15 @@
-//! The manager of a cell: who asked last for its state token (Van Roy and others, *Mobile Objects in Distributed Oz*,
-//! TOPLAS 19(5), 1997).
+//! The manager of a cell: it keeps which site asked last for the cell's state token, and makes each asker the successor of
+//! the one before it.
+//!
+//! It promises: `Manager` is the number of that site, and `on_get` answers the site before and its successor. It stands on
+//! no other crate. A test shows a worked list of requests.
+//!
+//! Source: Van Roy and others, *Mobile Objects in Distributed Oz* (TOPLAS 19(5), 1997).
 #![tactic(auto)]
 
 mod manager;
 #[cfg(test)]
 mod tests;
+mod threads;
 
 pub use manager::{Forward, Manager};

@@ -10,11 +10,11 @@ use Rattle.site_message.specs.declared.turn.Turn.{Turn}
 use Rattle.site_message.specs.Journal.{Wired, IsTravelling, sent_of, travelling, was_delivered, is_number, is_idle, are_idle, is_empty}
 use Rattle.site_message.specs.Rows.{TravellingTells, WiredTells, IsAlone, QuietTells}
 
-none_in : {X : Type 0} (x : X) → Contains [] x → ⊥
+pub none_in : {X : Type 0} (x : X) → Contains [] x → ⊥
 none_in x (i, below, is) = omega arith
 
 -- a filter keeps what passes
-kept : {X : Type 0} (p : X → Bool) (xs : List X) (x : X) → Contains xs x → p x ≡ true → Contains (filter p xs) x
+pub kept : {X : Type 0} (p : X → Bool) (xs : List X) (x : X) → Contains xs x → p x ≡ true → Contains (filter p xs) x
 kept p [] x at e = absurd (none_in x at)
 kept {X} p (y ∷ ys) x at e = go (λ k. kept p ys x k e) (p y) refl (Contains-cons_cases y x ys at)
   where
@@ -25,7 +25,7 @@ kept {X} p (y ∷ ys) x at e = go (λ k. kept p ys x k e) (p y) refl (Contains-c
     go rest false q (inr k) = rw q (rest k)
 
 -- and nothing else
-passed : {X : Type 0} (p : X → Bool) (xs : List X) (x : X) → Contains (filter p xs) x → Contains xs x × (p x ≡ true)
+pub passed : {X : Type 0} (p : X → Bool) (xs : List X) (x : X) → Contains (filter p xs) x → Contains xs x × (p x ≡ true)
 passed p [] x at = absurd (none_in x at)
 passed {X} p (y ∷ ys) x at = go (λ k. passed p ys x k) (p y) refl at
   where

@@ -1,3 +1,6 @@
+pub mod Bundle
 pub mod Journal
 pub mod Wire
+pub mod Story
 pub mod Rows
+pub mod Vars

@@ -1,21 +1,39 @@
-//! Messages between sites, the turns and the journal of a run over several sites, and what is said of journals: which
-//! deliveries are lawful, which messages travel, and how a run ends.
+//! What sites say to each other, and what is said of it: the messages of the protocols of variables and cells, the
+//! outbox that a site pushes them to, the turns of sites and the journal of a run, and what a lock needs of the value
+//! that it guards.
+//!
+//! It promises: `wire_fits` tells which messages can be spelled (`FitsWire`); a bundle, an outbox, the lists of a turn
+//! and a journal are the lists of what was put into them; copies are equal to what they were made of, and share it.
+//! Of journals it defines which deliveries are lawful (`Wired`), which messages travel (`travelling`) and how a run ends
+//! (`end_of`), and the functions of `laws` say what follows: `travelling_tells`, `travelling_grows` (how a turn changes
+//! what travels), `deliveries_add_up`, `wired_tells`, `quiet_tells`, `worked_ends`.
+//!
+//! It stands on `tree_node` alone. `threads` shows that all of it may cross from thread to thread. Nothing is left to
+//! tests.
+//!
+//! Sources: Haridi and others, *Efficient Logic Variables for Distributed Computing* (TOPLAS 21(3), 1999), and Van Roy
+//! and others, *Mobile Objects in Distributed Oz* (TOPLAS 19(5), 1997).
 #![tactic(auto)]
 
+mod bundle;
 mod copy;
 mod laws;
 mod message;
 mod outbox;
 mod outcome;
 mod story;
+mod threads;
 mod turn;
 mod wire;
 
+pub use bundle::Bundle;
 pub use copy::{copy_msg, copy_sent};
-pub use laws::{quiet_tells, travelling_tells, wired_tells, worked_ends};
-pub use message::{Bundle, Msg, Sent, SentList};
+pub use laws::{
+    deliveries_add_up, quiet_tells, travelling_grows, travelling_tells, wired_tells, worked_ends,
+};
+pub use message::{Msg, Sent, SentList};
 pub use outbox::Outbox;
 pub use outcome::{DeliverError, Reason};
-pub use story::{NoSeat, Outside, Story};
+pub use story::{NoSeat, Outside, Sight, Story};
 pub use turn::{Journal, Lines, Picks, Quantum, Turn};
 pub use wire::wire_fits;

@@ -1,12 +1,11 @@
 -- How messages and holdings change, and what of a chain stays where they do not.
 use Rattle.std.proofs.Common.{rules, ◌≡◌, ◌≢◌, ◌∙◌, sym, ap, refl, subst, ℕ, List, ◌⊎◌, inl, inr}
-use Rattle.std.specs.Prelude.{Bool, true, false, ◌==◌, ◌&&◌}
+use Rattle.std.specs.Prelude.{Bool, true, false, ◌==◌}
 use Rattle.std.specs.Bool.{Decides}
 use Rattle.tree_node.specs.declared.names.VarName.{VarName}
-use Rattle.tree_node.specs.Store.{same_name}
 use Rattle.token_chain.specs.declared.token.Token.TheVariants.{Away, Asked, Here}
 use Rattle.token_chain.specs.Holding.{Holding, made}
-use Rattle.token_chain.specs.Mail.{Mail, Get, Forward, Put}
+use Rattle.token_chain.specs.Mail.{Mail, Get, Forward, Put, same_mail}
 use Rattle.token_chain.specs.Chain.{IsOn, IsFirst, IsNext, HasToken, IsTold, IsDue, IsChain}
 use Rattle.token_chain.proofs.ListLemmas.{on_cases}
 
@@ -33,14 +32,7 @@ pub record IsPut (s : ℕ) (h : Holding) (at to : ℕ → Holding) : Type 0 wher
 
 -- ---- cases
 
--- whether two messages are the same
-abbrev same_mail : Mail → Mail → Bool
-same_mail (Get a) (Get b) = a == b
-same_mail (Forward a k) (Forward b l) = (a == b) && (k == l)
-same_mail (Put a v) (Put b w) = (a == b) && same_name v w
-same_mail _ _ = false
-
-same_mail_decides : (a b : Mail) → Decides (same_mail a b) (a ≡ b)
+pub same_mail_decides : (a b : Mail) → Decides (same_mail a b) (a ≡ b)
 same_mail_decides a b = search rules
 
 decided : {P : Type 0} (b : Bool) → Decides b P → P ⊎ (P → ⊥)
@@ -50,7 +42,7 @@ decided {P} false d = inr (λ p. let e : false ≡ true = d.1 p in absurd (cc))
 pub mail_or : (a b : Mail) → (a ≡ b) ⊎ (a ≢ b)
 mail_or a b = decided (same_mail a b) (same_mail_decides a b)
 
-number_decides : (a b : ℕ) → Decides (a == b) (a ≡ b)
+pub number_decides : (a b : ℕ) → Decides (a == b) (a ≡ b)
 number_decides a b = search rules
 
 pub number_or : (a b : ℕ) → (a ≡ b) ⊎ (a ≢ b)

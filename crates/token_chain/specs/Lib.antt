@@ -1,6 +1,10 @@
 pub mod Holding
 pub mod Mail
+pub mod Rows
 pub mod Chain
+pub mod Moves
+pub mod Tally
 pub mod World
 pub mod Calls
 pub mod View
+pub mod Worked

@@ -7,6 +7,9 @@ ghost use Rattle.site_message.specs.declared.message.Sent.{Sent};
 ghost use Rattle.site_message.specs.declared.outcome.DeliverError.TheVariants.{NotThere};
 ghost use Rattle.token_chain.specs.Chain.{QuietServesAll};
 ghost use Rattle.token_chain.specs.Holding.{answer_of};
+ghost use Rattle.token_chain.specs.Moves.{MakingStarts, AskingKeeps, WaitingKeeps, OwnAskingKeeps, GetKeeps, ForwardKeeps, PutKeeps, ExchangeKeeps, UnitKeeps, NothingKeeps, MessagesCanCome, TokensHaveContents, SuccessorsAsked, AwayKeepsNothing};
+ghost use Rattle.token_chain.specs.Tally.{MakingTallies, RowsPay, RepliesPay, TalliesBound, KindsBound};
+ghost use Rattle.token_chain.specs.Worked.{WorkedRequests};
 ghost use Rattle.token_chain.specs.World.{IsSite, held_at, AreHandedOn, line, begin};
 ghost use Rattle.token_chain.specs.Calls.{Asks, Delivers, Step, HasChain, IsLinedUp, SendsFrom, EveryListOfCalls};
 
@@ -141,4 +144,43 @@ pub fn every_list_of_calls()
 /// Where no message of a cell is under way, no site asked for its token and nobody waits for it.
 pub fn quiet_serves_all()
     ensures { QuietServesAll }
+{}
+
+/// What a site does with its part of a cell keeps the chain, in any world: what the sites keep of the cell and the
+/// numbers of its messages under way are functions, so that other messages may travel beside them.
+pub fn moves_keep_the_chain()
+    ensures making { MakingStarts }
+    ensures asking { AskingKeeps }
+    ensures waiting { WaitingKeeps }
+    ensures own_asking { OwnAskingKeeps }
+    ensures get { GetKeeps }
+    ensures forward { ForwardKeeps }
+    ensures put { PutKeeps }
+    ensures exchange { ExchangeKeeps }
+    ensures unit { UnitKeeps }
+    ensures nothing { NothingKeeps }
+{}
+
+/// What a chain says of a message under way, and of a site where the token is, which has a successor, or to which the
+/// cell is of no concern.
+pub fn chains_tell()
+    ensures messages { MessagesCanCome }
+    ensures contents { TokensHaveContents }
+    ensures successors { SuccessorsAsked }
+    ensures away { AwayKeepsNothing }
+{}
+
+/// The messages of a cell are paid for by its exchanges: each request has one Get, one Forward and one Put at most, and is
+/// outstanding or followed by an exchange.
+pub fn messages_are_paid()
+    ensures making { MakingTallies }
+    ensures rows { RowsPay }
+    ensures replies { RepliesPay }
+    ensures bound { TalliesBound }
+    ensures kinds { KindsBound }
+{}
+
+/// Worked requests of three sites by the rows of one site. It does nothing: its clause is the row.
+pub fn worked_requests()
+    ensures { WorkedRequests }
 {}
