@@ -1,0 +1,96 @@
+-- What stays true of a book: each inbox holds the travelling messages of its site.
+use Rattle.std.specs.Prelude.{◌≡◌, ◌≢◌, ℕ, zero, suc, ◌+◌, ◌≤◌, ◌<◌, List, [], ◌∷◌, ◌++◌, map, length, Bool, true, not, ◌==◌, nat_le, Option, Some, None, slice_index_or, if◌then◌else◌}
+use Rattle.std.specs.List.{filter, All}
+use Rattle.site_message.specs.declared.message.Msg.{Msg}
+use Rattle.site_message.specs.declared.message.Sent.{Sent}
+use Rattle.site_message.specs.declared.turn.Turn.{Turn}
+use Rattle.site_message.specs.declared.outcome.Reason.{Reason}
+use Rattle.site_message.specs.declared.outcome.Reason.TheVariants.{Messages, Steps, Quiet}
+use Rattle.site_message.specs.Journal.{Limits, Wired, sent_of, travelling, is_idle}
+use Rattle.message_book.specs.Inbox.{InboxState}
+use Rattle.message_book.specs.Book.{IsSiteOf, AreSites, IsReason, without}
+
+-- where the messages to a site lie. Those to no site of the book lie at the place 0
+abbrev pub place : ℕ → ℕ → ℕ
+place n to = if nat_le to n then to else 0
+
+abbrev pub content_of : ℕ × Sent → ℕ × Msg
+content_of p = (p.0, p.1.msg)
+
+-- the travelling messages of a place, in the order in which they were sent
+abbrev pub messages_at : ℕ → List Turn → ℕ → List (ℕ × Msg)
+messages_at n j i = map content_of (filter (λ (p : ℕ × Sent). place n p.1.to == i) (travelling j))
+
+abbrev pub no_inbox : InboxState
+no_inbox = record { hand = []; waiting = []; idle = true; room = 0 }
+
+abbrev pub inbox_at : List InboxState → ℕ → InboxState
+inbox_at bs i = slice_index_or bs i no_inbox
+
+-- what lies at the place 0 waits for no site
+abbrev pub idle_at : List Turn → ℕ → Bool
+idle_at j zero = true
+idle_at j (suc i) = is_idle j (suc i)
+
+abbrev pub number_of : ℕ × Msg → ℕ
+number_of p = p.0
+
+-- the messages of the place i are the travelling ones: first those in hand, then those that wait
+pub record HoldsTravelling (n : ℕ) (j : List Turn) (i : ℕ) (b : InboxState) : Type 0 where
+  pub in_hand : List (ℕ × Msg)
+  pub hand : b.hand ≡ map number_of in_hand
+  pub messages : in_hand ++ b.waiting ≡ messages_at n j i
+  pub idle : b.idle ≡ idle_at j i
+
+abbrev pub AllHoldTravelling : ℕ → List Turn → List InboxState → Type 0
+AllHoldTravelling n j bs = (i : ℕ) → i ≤ n → HoldsTravelling n j i (inbox_at bs i)
+
+abbrev pub hand_of : InboxState → List ℕ
+hand_of b = b.hand
+
+-- what stays true of a book
+pub record IsConsistent (l : Limits) (j : List Turn) (sent : ℕ) (bs : List InboxState) (r : Option Reason) : Type 0 where
+  pub sites : IsSiteOf 64 l.sites
+  pub few_messages : l.messages ≤ 4000000000
+  pub step_range : (1 ≤ l.steps) × (l.steps ≤ 1000000000)
+  pub places : length bs ≡ l.sites + 1
+  pub count : sent ≡ length (sent_of j)
+  pub wired : Wired j
+  pub are_sites : AreSites l.sites j
+  pub inboxes : AllHoldTravelling l.sites j bs
+  pub reason : IsReason l j r
+
+-- the new messages of a place: the copies of those sent, with their numbers from n on
+abbrev pub new_messages : ℕ → ℕ → List (ℕ × Msg) → List (ℕ × Msg)
+new_messages i n [] = []
+new_messages i n (c ∷ cs) = if c.0 == i then (n, c.1) ∷ new_messages i (n + 1) cs else new_messages i (n + 1) cs
+
+abbrev pub addressed : ℕ → Sent → ℕ × Msg
+addressed n s = (place n s.to, s.msg)
+
+-- there is room for so many messages at the place of each of these
+abbrev pub HasRoom : List InboxState → ℕ → List (ℕ × Msg) → Type 0
+HasRoom bs count cs = All (λ (c : ℕ × Msg). (c.0 < length bs) × (count ≤ (inbox_at bs c.0).room)) cs
+
+-- nothing lies there yet, and site 1 alone is not idle
+abbrev pub IsNewInbox : ℕ → InboxState → Type 0
+IsNewInbox i b = (b.hand ≡ []) × (b.waiting ≡ []) × (b.idle ≡ not (i == 1))
+
+-- nothing lies there, and the site is idle
+abbrev pub IsQuietInbox : InboxState → Type 0
+IsQuietInbox b = (b.hand ≡ []) × (b.waiting ≡ []) × (b.idle ≡ true)
+
+-- what the turn of a site leaves: what it delivered is in hand no more, its site is idle or not, and what it sent waits
+pub record IsAfterTurn (site : ℕ) (delivered : Option ℕ) (idle : Bool) (first : ℕ) (cs : List (ℕ × Msg)) (old new : List InboxState) : Type 0 where
+  pub places : length new ≡ length old
+  pub here : ((inbox_at new site).hand ≡ without delivered (inbox_at old site).hand) × ((inbox_at new site).idle ≡ idle)
+  pub others : (i : ℕ) → i ≢ site → ((inbox_at new i).hand ≡ (inbox_at old i).hand) × ((inbox_at new i).idle ≡ (inbox_at old i).idle)
+  pub waiting : (i : ℕ) → (inbox_at new i).waiting ≡ (inbox_at old i).waiting ++ new_messages i first cs
+
+-- how a run ends where more messages were sent than the limit, where the site came to its limit, where it is quiet
+abbrev pub reason_by : Bool → Bool → ℕ → Bool → Option Reason
+reason_by all_sent all_made site quiet =
+    if all_sent then Some Messages
+    else if all_made then Some (Steps site)
+    else if quiet then Some Quiet
+    else None

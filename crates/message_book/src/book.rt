@@ -1,0 +1,273 @@
+//! The book.
+
+ghost use Rattle.std.specs.Prelude.{◌≡◌, ◌≢◌, ◌⊎◌, ℕ, List, ◌+◌, ◌&&◌, not, nat_le, ◌↔◌, [], ◌∷◌, ◌++◌, ◌≤◌, ◌<◌, ◌^◌, Some, None, Err, IsTrue, Contains, IfOk, OnOk, OnErr, MatchOption, map, length, slice_set};
+ghost use Rattle.site_message.specs.Journal.{Wired, IsTravelling, sent_of, is_quiet, end_of};
+ghost use Rattle.site_message.specs.Story.{hand};
+ghost use Rattle.message_book.specs.Book.{IsSiteOf, AreSites, IsUntaken, IsReason, without, sight_of, first_reason};
+ghost use Rattle.message_book.specs.Inboxes.{IsNewInbox, IsQuietInbox, IsAfterTurn, HasRoom, AllHoldTravelling, reason_by, addressed, inbox_at};
+ghost use Rattle.message_book.specs.declared.posted.Posted.TheVariants.{Closed};
+ghost use Rattle.site_message.specs.declared.outcome.Reason.TheVariants.{Memory};
+ghost use Rattle.site_message.specs.declared.message.Msg.{Msg};
+ghost use Rattle.site_message.specs.declared.outcome.Reason.{Reason};
+ghost use Rattle.message_book.specs.Inbox.{HoldsSame};
+ghost use Rattle.site_message.specs.declared.turn.Turn.{Turn};
+
+use crate::inbox::Inbox;
+use crate::outgoing::{copy_messages, enqueue_all, make_room};
+use crate::posted::Posted;
+use site_message::{Journal, Msg, Reason, Sent, Story, Turn};
+use std::alloc::{AllocError, Global};
+use std::collections::VecDeque;
+use std::marker::Model;
+
+/// The turns posted, the messages sent and not delivered, and the reason why the run ends, if there is one.
+#[derive(Drop)]
+pub struct Book {
+    alloc: Global,
+    sites: u32,
+    step_limit: u64,
+    message_limit: u64,
+    journal: Journal,
+    sent: u64,
+    inboxes: Vec<Inbox>,
+    reason: Option<Reason>,
+}
+
+impl Model for Book {
+    ghost use Rattle.std.specs.Prelude.{map};
+    ghost use Rattle.message_book.specs.Book.{BookState};
+    ghost use Rattle.message_book.specs.Inboxes.{IsConsistent, hand_of};
+
+    ghost Value = { BookState };
+
+    ghost view = { λ b. record { limits = record { sites = b.sites; steps = b.step_limit; messages = b.message_limit }; journal = b.journal; hands = map hand_of b.inboxes.items; reason = b.reason } };
+
+    ghost invariant = { λ b. IsConsistent (record { sites = b.sites; steps = b.step_limit; messages = b.message_limit }) b.journal b.sent b.inboxes.items b.reason };
+}
+
+impl Story for Book {
+    ghost sight = { sight_of };
+}
+
+impl Book {
+    /// An empty book for sites 1 to `sites`. Each site may make so many own steps, and so many messages may be sent.
+    pub fn new(
+        alloc: Global,
+        sites: u32,
+        step_limit: u64,
+        message_limit: u64,
+    ) -> Result<Book, AllocError>
+        requires sites { IsSiteOf 64 sites }
+        requires steps { (1 ≤ step_limit) × (step_limit ≤ 1000000000) }
+        requires messages { message_limit ≤ 4000000000 }
+        ensures limits { IfOk result (λ b. (b.limits.sites ≡ sites) × (b.limits.steps ≡ step_limit) × (b.limits.messages ≡ message_limit)) }
+        ensures empty { IfOk result (λ b. (b.journal ≡ []) × (b.reason ≡ None)) }
+        ensures hands { IfOk result (λ b. (i : ℕ) → hand i b.hands ≡ []) }
+    {
+        let inboxes = empty_inboxes(alloc, sites)?;
+        Ok(Book {
+            alloc,
+            sites,
+            step_limit,
+            message_limit,
+            journal: Journal::new(alloc),
+            sent: 0,
+            inboxes,
+            reason: None,
+        })
+    }
+
+    /// Appends a turn, and finds out whether the run has come to an end. A book with a reason takes no turn.
+    pub fn post(&mut self, turn: Turn) -> Result<(), Posted>
+        requires site { IsSiteOf self.old.limits.sites turn.site }
+        requires delivered { (k : ℕ) → turn.delivered ≡ Some k → Contains (hand turn.site self.old.hands) k }
+        ensures closed { (r : Reason) → (result ≡ Err (Closed r)) ↔ (self.old.reason ≡ Some r) }
+        ensures refused { OnErr result (self.new ≡ self.old) }
+        ensures posted { OnOk result (self.new.journal ≡ turn ∷ self.old.journal) }
+        ensures reason { OnOk result (self.new.reason ≡ end_of self.new.limits self.new.journal) }
+        ensures hand { OnOk result (hand turn.site self.new.hands ≡ without turn.delivered (hand turn.site self.old.hands)) }
+        ensures other_hands { (i : ℕ) → i ≢ turn.site → hand i self.new.hands ≡ hand i self.old.hands }
+        ensures limits { self.new.limits ≡ self.old.limits }
+    {
+        if let Some(reason) = self.reason {
+            return Err(Posted::Closed(reason));
+        }
+        let messages = prepare(
+            self.alloc,
+            self.sites,
+            &mut self.inboxes,
+            turn.sent.as_slice(),
+        )?;
+        let (site, delivered) = (turn.site, turn.delivered);
+        let (idle, steps) = (turn.idle, turn.steps);
+        let count = messages.len() as u64;
+        if self.journal.push(turn).is_err() {
+            return Err(Posted::Memory);
+        }
+        let first = self.sent;
+        self.sent += count;
+        apply_turn(
+            &mut self.inboxes,
+            site as usize,
+            delivered,
+            idle,
+            messages,
+            first,
+        );
+        self.reason = find_reason(
+            self.sent > self.message_limit,
+            is_at_limit(steps, self.step_limit, idle),
+            site,
+            self.inboxes.as_slice(),
+        );
+        Ok(())
+    }
+
+    /// Hands out a message for the site that no site has taken. It takes no memory.
+    pub fn take(&mut self, site: u32) -> Option<(u64, Msg)>
+        requires { IsSiteOf self.old.limits.sites site }
+        ensures taken { MatchOption result ((self.new ≡ self.old) × ((k : ℕ) (m : Msg) → IsUntaken self.old site k m → ⊥)) (λ x. IsUntaken self.old site x.0 x.1 × (hand site self.new.hands ≡ hand site self.old.hands ++ x.0 ∷ [])) }
+        ensures others { (i : ℕ) → i ≢ site → hand i self.new.hands ≡ hand i self.old.hands }
+        ensures same { (self.new.limits ≡ self.old.limits) × (self.new.journal ≡ self.old.journal) × (self.new.reason ≡ self.old.reason) }
+        ensures wired { Wired self.old.journal }
+        ensures few { self.old.reason ≡ None → length (sent_of self.old.journal) ≤ 4000000000 }
+    {
+        self.inboxes[site as usize].take()
+    }
+
+    /// Whether every message sent was delivered and each site is idle.
+    pub fn quiet(&self) -> bool
+        ensures { result ≡ is_quiet self.now.limits.sites self.now.journal }
+    {
+        are_quiet(self.inboxes.as_slice())
+    }
+
+    /// Ends the book, if it has no reason yet.
+    pub fn close(&mut self, reason: Reason)
+        requires { (reason ≡ Memory) ⊎ (self.old.reason ≢ None) }
+        ensures reason { self.new.reason ≡ first_reason self.old.reason reason }
+        ensures same { (self.new.limits ≡ self.old.limits) × (self.new.journal ≡ self.old.journal) × (self.new.hands ≡ self.old.hands) }
+    {
+        if self.reason.is_none() {
+            self.reason = Some(reason);
+        }
+    }
+
+    /// The own steps that a site may make.
+    pub fn step_limit(&self) -> u64
+        ensures value { result ≡ self.now.limits.steps }
+        ensures range { (1 ≤ result) × (result ≤ 1000000000) }
+    {
+        self.step_limit
+    }
+
+    /// Why the book ended, if it has: by how its journal ends, or because memory ran out where that goes on.
+    pub fn reason(&self) -> Option<Reason>
+        ensures value { result ≡ self.now.reason }
+        ensures cause { IsReason self.now.limits self.now.journal self.now.reason }
+    {
+        self.reason
+    }
+
+    /// The turns posted.
+    pub fn journal(&self) -> &Journal
+        ensures value { result.now ≡ self.now.journal }
+        ensures wired { Wired self.now.journal }
+        ensures sites { AreSites self.now.limits.sites self.now.journal }
+    {
+        &self.journal
+    }
+
+    /// The turns posted.
+    pub fn into_journal(self) -> Journal
+        ensures value { result ≡ self.journal }
+        ensures wired { Wired self.journal }
+        ensures sites { AreSites self.limits.sites self.journal }
+    {
+        self.journal
+    }
+}
+
+// An inbox for each place from 0 to the number of sites. Site 1 has the program's thread, and is not idle.
+fn empty_inboxes(alloc: Global, sites: u32) -> Result<Vec<Inbox>, AllocError>
+    requires { sites ≤ 64 }
+    ensures { IfOk result (λ bs. (length bs.items ≡ sites + 1) × ((i : ℕ) → i ≤ sites → IsNewInbox i (inbox_at bs.items i))) }
+{
+    let mut inboxes = Vec::new(alloc);
+    for place in 0..sites + 1 {
+        inboxes.push(Inbox::new(alloc, place != 1))?;
+    }
+    Ok(inboxes)
+}
+
+// Whether no message lies at any place, and each site is idle.
+fn are_quiet(inboxes: &[Inbox]) -> bool
+    ensures { IsTrue result ↔ ((i : ℕ) → i < length inboxes.now → IsQuietInbox (inbox_at inboxes.now i)) }
+{
+    for inbox in inboxes {
+        if !inbox.is_quiet_inbox() {
+            return false;
+        }
+    }
+    true
+}
+
+// Copies of the messages sent, each with its place, where there is room for them.
+fn prepare(
+    alloc: Global,
+    sites: u32,
+    inboxes: &mut Vec<Inbox>,
+    sent: &[Sent],
+) -> Result<Vec<(usize, Msg)>, AllocError>
+    requires { sites < length inboxes.old.items }
+    ensures length { length inboxes.new.items ≡ length inboxes.old.items }
+    ensures same { (i : ℕ) → HoldsSame (inbox_at inboxes.old.items i) (inbox_at inboxes.new.items i) }
+    ensures ok { IfOk result (λ cs. (cs.items ≡ map (addressed sites) sent.now) × HasRoom inboxes.new.items (length cs.items) cs.items) }
+{
+    let messages = copy_messages(alloc, sites, sent)?;
+    make_room(inboxes.as_mut_slice(), messages.as_slice())?;
+    Ok(messages)
+}
+
+// What the turn of a site leaves, for which there is room: what it delivered is gone, and what it sent waits.
+fn apply_turn(
+    inboxes: &mut Vec<Inbox>,
+    site: usize,
+    delivered: Option<u64>,
+    idle: bool,
+    messages: Vec<(usize, Msg)>,
+    first: u64,
+)
+    requires site { site < length inboxes.old.items }
+    requires room { HasRoom inboxes.old.items (length messages.items) messages.items }
+    requires few { first + length messages.items < 2 ^ 64 }
+    ensures after { IsAfterTurn site delivered idle first messages.items inboxes.old.items inboxes.new.items }
+{
+    inboxes[site].apply_turn(delivered, idle);
+    enqueue_all(inboxes.as_mut_slice(), VecDeque::from_vec(messages), first);
+}
+
+// Whether a site came to its limit of own steps, and is not idle.
+fn is_at_limit(steps: u64, limit: u64, idle: bool) -> bool
+    ensures { result ≡ (nat_le limit steps && not idle) }
+{
+    steps >= limit && !idle
+}
+
+// How the run ends after a turn of the site, where more messages were sent than the limit, or the site came to its limit
+// of steps.
+fn find_reason(all_sent: bool, spent: bool, site: u32, inboxes: &[Inbox]) -> Option<Reason>
+    ensures { (n : ℕ) (j : List Turn) → length inboxes.now ≡ n + 1 → AllHoldTravelling n j inboxes.now → result ≡ reason_by all_sent spent site (is_quiet n j) }
+{
+    if all_sent {
+        return Some(Reason::Messages);
+    }
+    if spent {
+        return Some(Reason::Steps(site));
+    }
+    if are_quiet(inboxes) {
+        Some(Reason::Quiet)
+    } else {
+        None
+    }
+}
