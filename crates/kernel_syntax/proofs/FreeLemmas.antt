@@ -50,15 +50,21 @@ pub of_agrees : (f g : CodeId → List ℕ) (st : Stmt) → Each (λ c. f c ≡ 
 of_agrees f g st h = rw (each_agrees f g [] (scopes_of st) (scopes_have (λ c. f c ≡ g c) st h)) refl
 
 -- bodies stand behind their owners
-abbrev GoesOn : List Stmt → Type 0
+abbrev pub GoesOn : List Stmt → Type 0
 GoesOn p = (code : CodeId) → Each (λ (c : CodeId). (code.0 < c.0) × (c.0 < length p)) (bodies_of (stmt_at p code))
 
-pub goes_on : (p : List Stmt) → IsProgram p → GoesOn p
-goes_on p is code = go (slice_get p code.0) refl
+abbrev pub StandBehind : List Stmt → Type 0
+StandBehind p = (i : ℕ) (st : Stmt) → slice_get p i ≡ Some st → Each (λ (c : CodeId). (i < c.0) × (c.0 < length p)) (bodies_of st)
+
+pub go_on : (p : List Stmt) → StandBehind p → GoesOn p
+go_on p bodies code = go (slice_get p code.0) refl
   where
     go : (o : Option Stmt) → slice_get p code.0 ≡ o → Each (λ (c : CodeId). (code.0 < c.0) × (c.0 < length p)) (bodies_of (unwrap_or o stmt.Skip))
     go None e = tt
-    go (Some st) e = is.bodies code.0 st e
+    go (Some st) e = bodies code.0 st e
+
+pub goes_on : (p : List Stmt) → IsProgram p → GoesOn p
+goes_on p is code = go_on p is.bodies code
 
 -- no statement stands within more others than follow it
 enough : (p : List Stmt) → GoesOn p → (d e : ℕ) (code : CodeId) → length p ≤ d + code.0 → length p ≤ e + code.0 → free_within d p code ≡ free_within e p code
@@ -70,10 +76,12 @@ enough p on (suc d) (suc e) code l m =
     (Each-map _ (λ c. free_within d p c ≡ free_within e p c) (bodies_of (stmt_at p code))
     (λ c h. enough p on d e c (omega (arith, h.0, l)) (omega (arith, h.0, m))) (on code))
 
-pub free_unfolds : FreeUnfolds
+pub unfolds : (p : List Stmt) → GoesOn p → (code : CodeId) → free p code ≡ free_of (free p) (stmt_at p code)
 unfolding free
-free_unfolds p code is =
-    enough p (goes_on p is) (length p) (suc (length p)) code (omega arith) (omega arith)
+unfolds p on code = enough p on (length p) (suc (length p)) code (omega arith) (omega arith)
+
+pub free_unfolds : FreeUnfolds
+free_unfolds p code is = unfolds p (goes_on p is) code
 
 -- they ascend
 ascends-each : (f : CodeId → List ℕ) (js : List ℕ) (ss : List Scope) → AreRising js → AreRising (free_in_each f js ss)

@@ -1,4 +1,9 @@
+pub mod Reversed
+pub mod Elements
 pub mod OrderLemmas
+pub mod Below
 pub mod FreeLemmas
+pub mod PreorderLemmas
+pub mod ShortLemmas
 pub mod TableLemmas
 pub mod ArithmeticLemmas

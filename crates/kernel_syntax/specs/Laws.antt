@@ -1,6 +1,7 @@
 -- What the free positions of a program are, and what the operators give.
-use Rattle.std.specs.Prelude.{◌≡◌, ◌↔◌, ℕ, ◌<◌, List, Contains, false, IsTrue, ℤ, pos, ◌+ℤ◌, ◌*ℤ◌, ◌≤ℤ◌, int_div, int_rem, unsigned_abs}
+use Rattle.std.specs.Prelude.{◌≡◌, ◌↔◌, ℕ, ◌<◌, ◌≤◌, List, length, Contains, false, IsTrue, ℤ, pos, ◌+ℤ◌, ◌*ℤ◌, ◌≤ℤ◌, int_div, int_rem, unsigned_abs}
 use Rattle.tree_node.specs.declared.names.CodeId.{CodeId}
+use Rattle.tree_node.specs.Each.{Each}
 use Rattle.kernel_syntax.specs.declared.stmt.Stmt.{Stmt}
 use Rattle.kernel_syntax.specs.Free.{AreRising, free, free_of}
 use Rattle.kernel_syntax.specs.Scopes.{stmt_at, names_of}
@@ -20,6 +21,10 @@ FreeAscends = (p : List Stmt) (code : CodeId) → AreRising (free p code)
 -- they are the positions that the code uses and does not declare
 abbrev pub FreeIsUsed : Type 0
 FreeIsUsed = (p : List Stmt) (code : CodeId) (k : ℕ) → IsProgram p → Contains (free p code) k ↔ Uses p code k
+
+-- they are few, and small: 200 levels declare at most 64 identifiers each
+abbrev pub FreeIsFew : Type 0
+FreeIsFew = (p : List Stmt) (code : CodeId) → IsProgram p → (length (free p code) ≤ 12800) × Each (λ (k : ℕ). k < 12800) (free p code)
 
 -- a whole program uses what it declares alone
 abbrev pub ProgramsAreClosed : Type 0

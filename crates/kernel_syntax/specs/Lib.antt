@@ -1,5 +1,7 @@
 pub mod Scopes
 pub mod Free
+pub mod Texts
+pub mod Preorder
 pub mod Program
 pub mod Uses
 pub mod Laws

@@ -1,6 +1,6 @@
 //! Laws of the definitions.
 
-ghost use Rattle.kernel_syntax.specs.Laws.{FreeUnfolds, FreeAscends, FreeIsUsed, ProgramsAreClosed, OwnersHaveFree, NamesAreFree, DivisionIsExact, RestHasSign, NumbersFit};
+ghost use Rattle.kernel_syntax.specs.Laws.{FreeUnfolds, FreeAscends, FreeIsUsed, FreeIsFew, ProgramsAreClosed, OwnersHaveFree, NamesAreFree, DivisionIsExact, RestHasSign, NumbersFit};
 
 /// The free positions of a statement are found from those of its bodies.
 pub fn free_unfolds()
@@ -26,4 +26,9 @@ pub fn operators_divide()
     ensures exact { DivisionIsExact }
     ensures sign { RestHasSign }
     ensures fit { NumbersFit }
+{}
+
+/// A statement of a program has at most 12,800 free positions, each below that.
+pub fn free_is_few()
+    ensures { FreeIsFew }
 {}

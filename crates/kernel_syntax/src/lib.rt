@@ -1,14 +1,33 @@
-//! Programs of the kernel language as tables of statements (Van Roy and Haridi, *Concepts, Techniques, and Models of
-//! Computer Programming*, section 2.3).
+//! Programs of the kernel language as tables of statements.
+//!
+//! For: what a program is, apart from its text. The reader of texts makes programs, and every machine walks them: a body is
+//! the number of its statement, an identifier the number of declarations around its own.
+//!
+//! Promises: `Program::checked` gives a program exactly where the statements are one (`IsProgram`: each within the limits,
+//! naming what a text can spell, in preorder, at most 200 levels deep, each body with one owner, under the declarations that
+//! it counts). `Program::code` and `Program::free` give its statements and their free positions, which are those that are
+//! used and not declared (`free_is_used`, `free_goes_out`, `free_unfolds`), at most 12,800 of them (`free_is_few`). What the
+//! operators give is exact (`operators_divide`).
+//!
+//! Stands on: `tree_node`, for texts, features, their order and how they are spelled. That a table is a program exactly where
+//! a text is read as it stands where texts are read and printed (`oz_show::programs_are_texts`).
+//!
+//! Tests alone show: that threads may share a program.
+//!
+//! Sources: Van Roy and Haridi, *Concepts, Techniques, and Models of Computer Programming*, sections 2.3 (the kernel
+//! language), 2.4.2 (scope), 3.2 (numbers), 4.1, 6.3; its appendix C (how atoms are spelled).
 #![tactic(auto)]
 
 mod laws;
+mod limits;
+mod preorder;
 mod program;
 mod stmt;
 mod table;
 #[cfg(test)]
 mod tests;
+mod texts;
 
-pub use laws::{free_goes_out, free_is_used, free_unfolds, operators_divide};
-pub use program::Program;
+pub use laws::{free_goes_out, free_is_few, free_is_used, free_unfolds, operators_divide};
+pub use program::{Program, ProgramError};
 pub use stmt::{Bodies, Features, Ids, Op, Pattern, Selector, Slots, Stmt, features};

@@ -1,14 +1,18 @@
 //! Programs.
 
-ghost use Rattle.std.specs.Prelude.{◌≡◌, ◌<◌, length, Some, IfOk, slice_get};
+ghost use Rattle.std.specs.Prelude.{◌≡◌, ◌↔◌, ◌<◌, length, Some, IfOk, IsTrue, slice_get};
 ghost use Rattle.tree_node.specs.declared.names.CodeId.{CodeId};
 ghost use Rattle.tree_node.specs.Each.{Each};
 ghost use Rattle.kernel_syntax.specs.Scopes.{bodies_of, stmt_at};
 ghost use Rattle.kernel_syntax.specs.Free.{AreRising, free};
 ghost use Rattle.kernel_syntax.specs.Program.{IsProgram, IsStmt};
+ghost use Rattle.kernel_syntax.specs.Texts.{HasTexts};
 
+use crate::limits::is_stmt;
+use crate::preorder::is_in_preorder;
 use crate::stmt::Stmt;
 use crate::table::{free_table, row};
+use crate::texts::has_texts;
 use std::alloc::{AllocError, Global};
 use std::marker::Model;
 use tree_node::{CodeId, Seq};
@@ -33,7 +37,61 @@ impl Model for Program {
     ghost invariant = { λ p. IsKept p.stmts.items p.free.items };
 }
 
+/// Why statements make no program.
+#[derive(Clone, Copy, Debug, PartialEq, Eq)]
+pub enum ProgramError {
+    /// They are the table of none.
+    NoProgram,
+    /// Memory ran out.
+    Memory,
+}
+
+// Whether statements are the table of a program.
+#[tactic(auto, using(crate::proofs::PreorderLemmas::program_of))]
+fn is_table(alloc: Global, stmts: &[Stmt]) -> Result<bool, AllocError>
+    ensures { IfOk result (λ b. IsTrue b ↔ IsProgram stmts.now) }
+{
+    Ok(are_stmts(stmts) && have_texts(alloc, stmts)? && is_in_preorder(alloc, stmts)?)
+}
+
+fn are_stmts(stmts: &[Stmt]) -> bool
+    ensures { IsTrue result ↔ Each IsStmt stmts.now }
+{
+    for stmt in stmts {
+        if !is_stmt(stmt) {
+            return false;
+        }
+    }
+    true
+}
+
+fn have_texts(alloc: Global, stmts: &[Stmt]) -> Result<bool, AllocError>
+    ensures { IfOk result (λ b. IsTrue b ↔ Each HasTexts stmts.now) }
+{
+    for stmt in stmts {
+        if !has_texts(alloc, stmt)? {
+            return Ok(false);
+        }
+    }
+    Ok(true)
+}
+
 impl Program {
+    /// The program with these statements, if they are one: who makes a program by hand calls it.
+    pub fn checked(alloc: Global, stmts: Vec<Stmt>) -> Result<Program, ProgramError>
+        ensures program { IfOk result (λ p. (p ≡ stmts.items) × IsProgram stmts.items) }
+        ensures no_program { result ≡ Err ProgramError.NoProgram → IsProgram stmts.items → ⊥ }
+    {
+        match is_table(alloc, stmts.as_slice()) {
+            Ok(true) => match Program::from_vec(alloc, stmts) {
+                Ok(program) => Ok(program),
+                Err(_) => Err(ProgramError::Memory),
+            },
+            Ok(false) => Err(ProgramError::NoProgram),
+            Err(_) => Err(ProgramError::Memory),
+        }
+    }
+
     /// The program with these statements. The free positions of all of them are found here, once.
     pub fn from_vec(alloc: Global, stmts: Vec<Stmt>) -> Result<Program, AllocError>
         requires { IsProgram stmts.items }

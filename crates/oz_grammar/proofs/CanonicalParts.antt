@@ -46,7 +46,7 @@ canonical_choice (Cases x p) scope = Cases (name_at (place_of scope x)) (pattern
 few : (k : ℕ) → k < 64 → count_fault k ≡ None
 few k lt = let yes : nat_lt k 64 ≡ true = grind arith in ap (λ (b : Bool). where_not b Wide) yes
 
-locals_pass : (count first : ℕ) (before : List Name) (rest : List Symbol) (behind : Option Fault) → length before + count ≤ 64 → check_locals before (names_from first count) rest behind ≡ behind
+pub locals_pass : (count first : ℕ) (before : List Name) (rest : List Symbol) (behind : Option Fault) → length before + count ≤ 64 → check_locals before (names_from first count) rest behind ≡ behind
 locals_pass zero first before rest behind le = refl
 locals_pass (suc count) first before rest behind le =
     let more = locals_pass count (first + 1) (before ++ name_at first ∷ []) rest behind (omega (arith, le, length-append before (name_at first ∷ []))) in
@@ -62,13 +62,13 @@ formals_pass (suc count) first k rest behind le small =
     let more = formals_pass count first (k + 1) rest behind (omega (arith, le)) small in
     rw (few (length (names_from first k)) (omega (arith, l, le)), fresh, longer, e) more
 
-from_zero : (first count : ℕ) (rest : List Symbol) (behind : Option Fault) → count ≤ 64 → first + 64 < 2 ^ 64 → check_formals [] (names_from first count) rest behind ≡ behind
+pub from_zero : (first count : ℕ) (rest : List Symbol) (behind : Option Fault) → count ≤ 64 → first + 64 < 2 ^ 64 → check_formals [] (names_from first count) rest behind ≡ behind
 from_zero first count rest behind le small =
     let e : first + 0 ≡ first = omega arith in
     subst (λ (m : ℕ). check_formals [] (names_from m count) rest behind ≡ behind) e (formals_pass count first 0 rest behind (omega (arith, le)) small)
 
 -- more identifiers behind those of a scope
-scope_more : (scope : Scope) (count : ℕ) → names_from 0 (length scope) ++ names_from (length scope) count ≡ names_from 0 (length scope + count)
+pub scope_more : (scope : Scope) (count : ℕ) → names_from 0 (length scope) ++ names_from (length scope) count ≡ names_from 0 (length scope + count)
 scope_more scope count =
     let e : 0 + length scope ≡ length scope = omega arith in
     subst (λ (m : ℕ). names_from 0 (length scope) ++ names_from m count ≡ names_from 0 (length scope + count)) e (sym (names_append 0 (length scope) count))

@@ -24,7 +24,7 @@ use Rattle.oz_grammar.specs.Table.{slots_of, features_in, record_row, value_row,
 use Rattle.oz_grammar.specs.Faults.{where_not, use_fault, count_fault}
 use Rattle.oz_grammar.specs.Check.{check_uses, check_arguments, check_plain}
 use Rattle.oz_grammar.specs.Canonical.{name_at, names_from, marked, slot_field, selection_of, tells, calls_built_in, row_symbols}
-use Rattle.oz_grammar.proofs.TableScopes.{Below}
+use Rattle.kernel_syntax.proofs.Below.{Below}
 use Rattle.oz_grammar.proofs.CanonicalNames.{declared_at, place_at, built_in_here, no_built_in}
 use Rattle.oz_grammar.proofs.CanonicalFields.{marked_fields, marked_check, used_pass}
 

@@ -1,11 +1,13 @@
 -- Reading gives the program or the first fault of symbols, and they have one of both.
 use Rattle.std.proofs.Common.{◌≡◌, List, [], ◌∷◌, ◌⊎◌, inl, inr, true, None, Result, Ok, Err, refl, sym, ap, subst, ◌∙◌}
 use Rattle.kernel_syntax.specs.declared.stmt.Stmt.{Stmt}
+use Rattle.tree_node.specs.Each.{Each}
+use Rattle.kernel_syntax.specs.Preorder.{IsInPreorder}
 use Rattle.kernel_syntax.specs.Program.{IsProgram}
 use Rattle.oz_grammar.specs.declared.symbol.Symbol.{Symbol}
 use Rattle.oz_grammar.specs.declared.symbol.Symbol.TheVariants as t
 use Rattle.oz_grammar.specs.declared.fault.Fault.{Fault}
-use Rattle.oz_grammar.specs.Symbols.{ends_once}
+use Rattle.oz_grammar.specs.Symbols.{ends_once, IsSpelled}
 use Rattle.oz_grammar.specs.Grammar.{Sequence, seq_text, program_text}
 use Rattle.oz_grammar.specs.Scoping.{Derives}
 use Rattle.oz_grammar.specs.Check.{check}
@@ -21,6 +23,7 @@ use Rattle.oz_grammar.proofs.Ends.{ends_there}
 use Rattle.oz_grammar.proofs.StmtReads.{fault_in}
 use Rattle.oz_grammar.proofs.StmtReads as reads
 use Rattle.oz_grammar.proofs.StatementsChecked as checked
+use Rattle.oz_grammar.proofs.TableOrder.{program_order}
 use Rattle.oz_grammar.proofs.Tables.{table_is_program}
 use Rattle.oz_grammar.proofs.FaultLaws.{first_fault, one_fault, passes_no_fault}
 
@@ -83,4 +86,9 @@ pub one_program : OneProgram
 one_program symbols p q r s = let same : Read p ≡ Read q = sym (is_read symbols p r) ∙ is_read symbols q s in one_value p q same
 
 pub reads_are_programs : ReadsArePrograms
-reads_are_programs symbols p r = subst IsProgram (sym r.table) (table_is_program r.program r.derives r.passes)
+reads_are_programs symbols p spelled r =
+    subst IsProgram (sym r.table) (table_is_program r.program r.derives r.passes (subst (Each IsSpelled) r.derived spelled))
+
+-- also where they are not spelled, the table is in preorder
+pub read_stands : (symbols : List Symbol) (p : List Stmt) → ReadsSymbols symbols p → IsInPreorder p
+read_stands symbols p r = subst IsInPreorder (sym r.table) (program_order r.program r.derives r.passes)

@@ -21,7 +21,7 @@ use Rattle.oz_grammar.specs.Table.{numbered, features_in, slots_of, record_row, 
 use Rattle.oz_grammar.specs.Faults.{where_so, number_fault, selected_fault, use_fault, count_fault, called_fault, argument_fault, formal_fault, site_fault, deep_fault, fewer}
 use Rattle.oz_grammar.specs.Check.{check_value, check_pattern, check_locals, check_formals, check_arguments, check_uses, check_call, check_plain, check_opening, check_choice, check_stmt, check_seq, check}
 use Rattle.oz_grammar.proofs.FieldOrder.{stopped, or_neither, is_so, not_so, good_fields}
-use Rattle.oz_grammar.proofs.TableBodies.{each_append}
+use Rattle.kernel_syntax.proofs.PreorderLemmas.{each_append}
 
 -- ---- what stands behind is reached, and lists are short
 

@@ -1,18 +1,16 @@
 -- The table of a derivation that passes is one of a program.
-use Rattle.std.proofs.Common.{◌≡◌, [], length, None, arith}
+use Rattle.std.proofs.Common.{◌≡◌, None}
+use Rattle.tree_node.specs.Each.{Each}
 use Rattle.kernel_syntax.specs.Program.{IsProgram}
-use Rattle.oz_grammar.specs.Grammar.{Sequence}
+use Rattle.kernel_syntax.proofs.PreorderLemmas.{program_of}
+use Rattle.oz_grammar.specs.Grammar.{Sequence, program_text}
+use Rattle.oz_grammar.specs.Symbols.{IsSpelled}
 use Rattle.oz_grammar.specs.Scoping.{Derives}
 use Rattle.oz_grammar.specs.Table.{program_table}
 use Rattle.oz_grammar.specs.Check.{check}
-use Rattle.oz_grammar.proofs.TableBodies.{some_seq, program_bodies, bodies_at}
 use Rattle.oz_grammar.proofs.TableLimits.{program_limits}
-use Rattle.oz_grammar.proofs.TableScopes.{program_closed}
+use Rattle.oz_grammar.proofs.TableTexts.{program_texts}
+use Rattle.oz_grammar.proofs.TableOrder.{program_order}
 
-pub table_is_program : (q : Sequence) → Derives q → check q ≡ None → IsProgram (program_table q)
-table_is_program q derives e = record {
-  some = some_seq q [] 0;
-  bodies = λ i st at. bodies_at (program_table q) 0 (length (program_table q)) i i st (program_bodies q) at (omega arith);
-  stmts = program_limits q e;
-  closed = program_closed q derives e;
-}
+pub table_is_program : (q : Sequence) → Derives q → check q ≡ None → Each IsSpelled (program_text q) → IsProgram (program_table q)
+table_is_program q derives e spelled = program_of (program_table q) (program_limits q e) (program_texts q e spelled) (program_order q derives e)

@@ -31,6 +31,7 @@ use Rattle.oz_grammar.proofs.Walks.{Stopped, stopped, kind_of}
 use Rattle.oz_grammar.proofs.Ends.{is_inner, ends_over, program_ends}
 use Rattle.oz_grammar.proofs.FaultRows.{IsRow, check_row}
 use Rattle.oz_grammar.proofs.FaultLaws.{Class, class_of, nil_bad, one_fault}
+use Rattle.oz_grammar.proofs.TextSymbols.{text_spelled}
 use Rattle.oz_grammar.proofs.ReadLaws.{is_read, read_is, fault_is, reads_faults, symbols_have_one, never_both, one_program, reads_are_programs}
 
 -- ---- the symbols of a text end once
@@ -245,4 +246,4 @@ has_one_fault once text f g F G =
     ∙ ap (λ (c : ℕ). record { kind = g.kind; line = g.line; column = c }) at.1
 
 pub texts_are_programs : TextsArePrograms
-texts_are_programs text p r = reads_are_programs (map symbol_of r.tokens) p r.reads
+texts_are_programs text p utf8 r = reads_are_programs (map symbol_of r.tokens) p (text_spelled text r.tokens utf8 r.divided) r.reads

@@ -1,12 +1,14 @@
 -- Laws: reading gives the program or the first fault of symbols, and they have one of both.
 use Rattle.std.specs.Prelude.{◌≡◌, ◌↔◌, ◌⊎◌, ℕ, List, map, true, Ok, Err}
+use Rattle.std.specs.Str.{IsUtf8}
+use Rattle.tree_node.specs.Each.{Each}
 use Rattle.kernel_syntax.specs.declared.stmt.Stmt.{Stmt}
 use Rattle.kernel_syntax.specs.Program.{IsProgram}
 use Rattle.oz_lexer.specs.Tokens.{Lexeme, Tokens}
 use Rattle.oz_grammar.specs.declared.symbol.Symbol.{Symbol}
 use Rattle.oz_grammar.specs.declared.fault.Fault.{Fault}
 use Rattle.oz_grammar.specs.declared.fault.TextFault.{TextFault}
-use Rattle.oz_grammar.specs.Symbols.{symbol_of, ends_once}
+use Rattle.oz_grammar.specs.Symbols.{symbol_of, ends_once, IsSpelled}
 use Rattle.oz_grammar.specs.Reading.{program_at}
 use Rattle.oz_grammar.specs.Canonical.{canonical_symbols}
 use Rattle.oz_grammar.specs.Reads.{ReadsSymbols, Reads, FaultOfSymbols, IsPlace, FaultOf}
@@ -37,13 +39,17 @@ OneProgram = (symbols : List Symbol) (p q : List Stmt) → ReadsSymbols symbols 
 abbrev pub OneFault : Type 0
 OneFault = (symbols : List Symbol) (f g : Fault) → FaultOfSymbols symbols f → FaultOfSymbols symbols g → f ≡ g
 
--- what is read is a program in which nothing is free
+-- what is read of symbols that are spelled is a program
 abbrev pub ReadsArePrograms : Type 0
-ReadsArePrograms = (symbols : List Symbol) (p : List Stmt) → ReadsSymbols symbols p → IsProgram p
+ReadsArePrograms = (symbols : List Symbol) (p : List Stmt) → Each IsSpelled symbols → ReadsSymbols symbols p → IsProgram p
 
 -- the canonical symbols of a program that symbols are, are that program
 abbrev pub CanonicalReads : Type 0
 CanonicalReads = (symbols : List Symbol) (p : List Stmt) → ReadsSymbols symbols p → ReadsSymbols (canonical_symbols p) p
+
+-- every program is what its canonical symbols are
+abbrev pub ProgramsRead : Type 0
+ProgramsRead = (p : List Stmt) → IsProgram p → ReadsSymbols (canonical_symbols p) p
 
 -- ---- of texts
 
@@ -78,6 +84,6 @@ TextIsOneProgram = (text : List ℕ) (p q : List Stmt) → Reads text p → Read
 abbrev pub TextHasOneFault : Type 0
 TextHasOneFault = (text : List ℕ) (f g : TextFault) → FaultOf text f → FaultOf text g → f ≡ g
 
--- and each program that a text is, is one
+-- what a text in UTF-8 is read as is a program
 abbrev pub TextsArePrograms : Type 0
-TextsArePrograms = (text : List ℕ) (p : List Stmt) → Reads text p → IsProgram p
+TextsArePrograms = (text : List ℕ) (p : List Stmt) → IsUtf8 text → Reads text p → IsProgram p

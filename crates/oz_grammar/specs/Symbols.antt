@@ -7,6 +7,7 @@ use Rattle.oz_lexer.specs.declared.token.LexKind.{LexKind}
 use Rattle.oz_lexer.specs.Spelling.{digits_of, unescaped}
 use Rattle.oz_lexer.specs.Tokens.{Lexeme}
 use Rattle.kernel_syntax.specs.declared.stmt.Op.TheVariants as op
+use Rattle.kernel_syntax.specs.Texts.{IsText, FitsIfSome}
 use Rattle.oz_grammar.specs.declared.symbol.Symbol.{Symbol}
 use Rattle.oz_grammar.specs.declared.symbol.Symbol.TheVariants as t
 
@@ -105,3 +106,9 @@ ends_once (t.EndOfText ∷ rest) = false
 ends_once (t.Bad fault ∷ []) = true
 ends_once (t.Bad fault ∷ rest) = false
 ends_once (symbol ∷ rest) = ends_once rest
+
+-- an atom's text, and an integer of 64 bits where it is a good one
+abbrev pub IsSpelled : Symbol → Type 0
+IsSpelled (t.Atom text) = IsText text
+IsSpelled (t.Integer n) = FitsIfSome n
+IsSpelled symbol = Unit {0}

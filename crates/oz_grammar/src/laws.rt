@@ -1,6 +1,6 @@
 //! Laws of the definitions. Each function does nothing: its clauses are the law.
 
-ghost use Rattle.oz_grammar.specs.Laws.{ReadsPrograms, ReadsFaults, SymbolsHaveOne, NeverBoth, OneProgram, OneFault, ReadsArePrograms, CanonicalReads, ReadsTexts, FaultsTexts, TextsHaveOne, TextsNeverHaveBoth, TextIsOneProgram, TextHasOneFault, TextsArePrograms};
+ghost use Rattle.oz_grammar.specs.Laws.{ReadsPrograms, ReadsFaults, SymbolsHaveOne, NeverBoth, OneProgram, OneFault, ReadsArePrograms, CanonicalReads, ProgramsRead, ReadsTexts, FaultsTexts, TextsHaveOne, TextsNeverHaveBoth, TextIsOneProgram, TextHasOneFault, TextsArePrograms};
 ghost use Rattle.oz_grammar.specs.Rows.{EmptyText, OpenQuoteAt, UndeclaredAt, BuiltInIsFull, HiddenBuiltIn, TwiceByPosition, TwiceBeforeColon, TwiceInPattern, SiteBelow, NumberFirst, BehindThread, HiddenCounts, PatternOrder, BodiesInPreorder, ExampleReads, ExampleIsCanonical};
 
 use oz_lexer::texts_divide;
@@ -19,15 +19,15 @@ pub fn one_of_both()
     ensures fault { OneFault }
 {}
 
-/// What symbols are read as is the table of a program: its bodies stand in it, its lists are within their limits, and
-/// each identifier is declared around its use.
+/// What spelled symbols are read as is a program.
 pub fn reads_are_programs()
     ensures { ReadsArePrograms }
 {}
 
-/// What symbols are read as is read again from its canonical symbols.
+/// What symbols are read as is read again from its canonical symbols, and so is every program.
 pub fn canonical_symbols_read()
-    ensures { CanonicalReads }
+    ensures again { CanonicalReads }
+    ensures programs { ProgramsRead }
 {}
 
 /// Reading the tokens of a text gives the program that the text is, and its fault and place are the text's first.

@@ -1,5 +1,21 @@
-//! The grammar of the kernel language: its symbols, what a text derives, what is read of it, and where it is refused (Van
-//! Roy and Haridi, *Concepts, Techniques, and Models of Computer Programming*, section 2.3).
+//! The grammar of the kernel language: definitions, and laws that are calls which do nothing.
+//!
+//! For: saying what a text is read as, and where it is refused, apart from any reader. The reader's contract and the
+//! printer's speak in these words: `Reads` and `FaultOf` (specs/Reads.antt), derivations as trees (Grammar), declarations
+//! (Scoping), the table of a derivation (Table), what is wrong at a token (Faults, Check), what is expected at a point
+//! (Points), the canonical form (Canonical). Reading.antt says how symbols are read from the left; a reader follows it.
+//!
+//! Promises: reading gives the program, or the first fault at its place (`reading_is_exact`, `reading_texts_is_exact`); each
+//! text is one program or has one first fault, never both (`texts_have_one_of_both`). What a text in UTF-8 is read as is a
+//! program (`reads_are_programs`, `texts_have_one_of_both`), and every program is what its canonical symbols are
+//! (`canonical_symbols_read`). Worked examples hold of the definitions (`refused_examples`, `read_examples`).
+//!
+//! Stands on: `oz_lexer` (tokens), `kernel_syntax` (programs), `tree_node` (features).
+//!
+//! Tests alone show: nothing here.
+//!
+//! Sources: Van Roy and Haridi, *Concepts, Techniques, and Models of Computer Programming*, sections 2.3 and 2.4.2, and
+//! appendix C.
 #![tactic(auto)]
 
 mod fault;

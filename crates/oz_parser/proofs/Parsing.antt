@@ -1,5 +1,5 @@
 -- Programs and faults of texts.
-use Rattle.std.proofs.Common.{◌≡◌, ℕ, suc, ◌-◌, ◌<◌, ◌≤◌, ◌^◌, List, [], ◌∷◌, ◌++◌, length, take, map, get_or, true, Result, Ok, Err, refl, sym, subst, ap, ◌∙◌, arith, inl, inr}
+use Rattle.std.proofs.Common.{◌≡◌, ℕ, suc, ◌-◌, ◌<◌, ◌≤◌, ◌^◌, List, [], ◌∷◌, ◌++◌, length, take, map, get_or, true, IsUtf8, Result, Ok, Err, refl, sym, subst, ap, ◌∙◌, arith, inl, inr}
 use Rattle.std.proofs.lemmas.Bool.{cases_lt}
 use Rattle.kernel_syntax.specs.declared.stmt.Stmt.{Stmt}
 use Rattle.kernel_syntax.specs.Program.{IsProgram}
@@ -14,7 +14,7 @@ use Rattle.oz_grammar.specs.declared.fault.TextFault.{TextFault}
 use Rattle.oz_grammar.specs.Symbols.{symbol_of, ends_once}
 use Rattle.oz_grammar.specs.Reading.{seq_at, stmt_at, program_at, shift_rows}
 use Rattle.oz_grammar.specs.Reads.{Reads, FaultOf}
-use Rattle.oz_grammar.proofs.ReadLaws.{read_is, fault_is, reads_are_programs}
+use Rattle.oz_grammar.proofs.ReadLaws.{read_is, fault_is, read_stands}
 use Rattle.oz_grammar.proofs.TextLaws.{tokens_end, fault_left, reads_text, faults_text, is_one_program, has_one_fault, never_have_both, texts_are_programs}
 use Rattle.oz_parser.specs.declared.error.ParseError.{ParseError}
 use Rattle.oz_parser.specs.declared.error.ParseError.TheVariants as errors
@@ -29,7 +29,7 @@ unfolding program_at
 rows_fit symbols rows rest ends e lt =
     let read : program_at symbols ≡ Ok (shift_rows 0 rows) = rw e refl in
     let n : length (shift_rows 0 rows) < 2 ^ 32 = subst (λ (k : ℕ). k < 2 ^ 32) (sym (same_count 0 rows)) lt in
-    program_fits rows (reads_are_programs symbols (shift_rows 0 rows) (read_is symbols (shift_rows 0 rows) ends read)) n
+    program_fits rows (read_stands symbols (shift_rows 0 rows) (read_is symbols (shift_rows 0 rows) ends read)) n
 
 pub symbols_end : (text : List ℕ) (symbols : List Symbol) (starts : List ℕ) → AreSymbols text symbols starts → ends_once symbols ≡ true
 symbols_end text symbols starts a = ap ends_once a.symbols_are ∙ tokens_end text a.tokens a.divided
@@ -39,8 +39,8 @@ symbols_end text symbols starts a = ap ends_once a.symbols_are ∙ tokens_end te
 pub reads : (text : List ℕ) (symbols : List Symbol) (starts : List ℕ) (rows : List Stmt) → AreSymbols text symbols starts → program_at symbols ≡ Ok rows → Reads text rows
 reads text symbols starts rows a e = (reads_text texts_divide_once text a.tokens rows a.divided).0 (ap program_at (sym a.symbols_are) ∙ e)
 
-pub is_program : (text : List ℕ) (symbols : List Symbol) (starts : List ℕ) (rows : List Stmt) → AreSymbols text symbols starts → program_at symbols ≡ Ok rows → IsProgram rows
-is_program text symbols starts rows a e = texts_are_programs text rows (reads text symbols starts rows a e)
+pub is_program : (text : List ℕ) → IsUtf8 text → (symbols : List Symbol) (starts : List ℕ) (rows : List Stmt) → AreSymbols text symbols starts → program_at symbols ≡ Ok rows → IsProgram rows
+is_program text utf8 symbols starts rows a e = texts_are_programs text rows utf8 (reads text symbols starts rows a e)
 
 pub made_parses : (text : List ℕ) (symbols : List Symbol) (starts : List ℕ) (rows : List Stmt) (r : Result (List Stmt) ParseError) → AreSymbols text symbols starts → program_at symbols ≡ Ok rows → GivesProgram r rows → Parses text r
 made_parses text symbols starts rows (Ok p) a e g = subst (Reads text) (sym g) (reads text symbols starts rows a e)

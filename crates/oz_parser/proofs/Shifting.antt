@@ -6,7 +6,8 @@ use Rattle.tree_node.specs.declared.names.CodeId.{CodeId}
 use Rattle.kernel_syntax.specs.declared.stmt.Stmt.{Stmt}
 use Rattle.kernel_syntax.specs.declared.stmt.Stmt.TheVariants as stmt
 use Rattle.kernel_syntax.specs.Scopes.{bodies_of}
-use Rattle.kernel_syntax.specs.Program.{IsProgram}
+use Rattle.kernel_syntax.specs.Preorder.{IsInPreorder}
+use Rattle.kernel_syntax.proofs.PreorderLemmas.{behind}
 use Rattle.oz_grammar.specs.Reading.{shift, shift_row, shift_rows}
 use Rattle.oz_parser.specs.Fits.{RowsFit}
 
@@ -100,8 +101,8 @@ each_small : (n : ℕ) (i : ℕ) (cs : List CodeId) → n < 2 ^ 32 → Each (λ 
 each_small n i [] lt h = tt
 each_small n i (c ∷ cs) lt h = (let p : c.0 < n = h.0.1 in omega arith, each_small n i cs lt h.1)
 
-pub program_fits : (rows : List Stmt) → IsProgram (shift_rows 0 rows) → length (shift_rows 0 rows) < 2 ^ 32 → RowsFit 0 rows
-program_fits rows p lt = rows_small 0 rows (each_row (λ (row : Stmt). Each Small (bodies_of row)) (shift_rows 0 rows) (λ i row e. each_small (length (shift_rows 0 rows)) i (bodies_of row) lt (p.bodies i row e)))
+pub program_fits : (rows : List Stmt) → IsInPreorder (shift_rows 0 rows) → length (shift_rows 0 rows) < 2 ^ 32 → RowsFit 0 rows
+program_fits rows p lt = rows_small 0 rows (each_row (λ (row : Stmt). Each Small (bodies_of row)) (shift_rows 0 rows) (λ i row e. each_small (length (shift_rows 0 rows)) i (bodies_of row) lt (behind (shift_rows 0 rows) p i row e)))
 
 pub same_count : (k : ℕ) (rows : List Stmt) → length (shift_rows k rows) ≡ length rows
 same_count k [] = refl

@@ -1,9 +1,7 @@
-pub mod Digits
 pub mod Spaced
-pub mod Atoms
 pub mod SymbolSpelling
 pub mod SpelledTokens
-pub mod TextSymbols
 pub mod CanonicalWritten
+pub mod Utf8Texts
 pub mod RoundTrip
 pub mod Reversed

@@ -24,7 +24,7 @@ behind_space [] = (10, [], inr refl, refl)
 behind_space (t.EndOfText ∷ symbols) = (10, [], inr refl, refl)
 behind_space (x ∷ symbols) = (32, symbol_text x ++ text_behind symbols, inl refl, refl)
 
-behind_is : (x : Symbol) (symbols : List Symbol) → IsWritten x → text_behind (x ∷ symbols) ≡ 32 ∷ (symbol_text x ++ text_behind symbols)
+pub behind_is : (x : Symbol) (symbols : List Symbol) → IsWritten x → text_behind (x ∷ symbols) ≡ 32 ∷ (symbol_text x ++ text_behind symbols)
 behind_is t.EndOfText symbols w = absurd w
 behind_is x symbols w = refl
 

@@ -1,6 +1,7 @@
 -- Each symbol of a canonical text is spelled as a token, which is read as the symbol.
 use Rattle.std.proofs.Common.{◌≡◌, ◌⊎◌, inl, inr, ℕ, ◌<◌, ◌≤◌, ◌^◌, List, [], ◌∷◌, ◌++◌, length, eqb, Bool, true, false, Option, Some, None, Ok, refl, ap, arith}
 use Rattle.std.specs.Prelude.{◌&&◌, nat_le, slice_index, ℤ}
+use Rattle.std.specs.Str.{IsUtf8}
 use Rattle.std.specs.Char.{is_ascii_digit, is_ascii_lowercase, is_ascii_uppercase}
 use Rattle.std.specs.List.{list_all}
 use Rattle.tree_node.specs.Spelling.{is_bare, escaped, atom_text, int_text, is_word_byte}
@@ -17,12 +18,12 @@ use Rattle.oz_grammar.specs.Symbols.{symbol_at, word_symbol, sign_symbol}
 use Rattle.oz_grammar.specs.Canonical.{name_at}
 use Rattle.oz_show.specs.CanonicalText.{symbol_text}
 use Rattle.oz_show.proofs.Spaced.{IsSpace, longest_spaced, longest_quoted}
-use Rattle.oz_show.proofs.Digits.{both, decimal_of, word_bytes, FitsWord, integer}
-use Rattle.oz_show.proofs.Atoms.{is_atom_byte, quoted, bare}
+use Rattle.oz_grammar.proofs.Digits.{both, decimal_of, word_bytes, FitsWord, integer}
+use Rattle.oz_grammar.proofs.Atoms.{is_atom_byte, quoted, bare}
 
 -- an atom that can be written: its spelling is no longer than a name may be
 abbrev pub IsAtom : List ℕ → Type 0
-IsAtom a = (list_all is_atom_byte a ≡ true) × (length (atom_text a) ≤ 255)
+IsAtom a = (list_all is_atom_byte a ≡ true) × (length (atom_text a) ≤ 255) × IsUtf8 a
 
 abbrev pub IsInteger : Option ℤ → Type 0
 IsInteger (Some z) = FitsWord z

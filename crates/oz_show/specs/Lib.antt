@@ -1,3 +1,4 @@
 pub mod CanonicalText
 pub mod Refusal
 pub mod Status
+pub mod Laws

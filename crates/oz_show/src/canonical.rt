@@ -1,8 +1,11 @@
 //! The canonical text of a program.
 
 ghost use Rattle.std.specs.Prelude.{◌≡◌, ◌++◌, OnOk, IfOk};
+ghost use Rattle.std.specs.Str.{IsUtf8};
+ghost use Rattle.oz_grammar.specs.Reads.{Reads};
 ghost use Rattle.oz_show.specs.CanonicalText.{operator_text, word_text, symbol_text, text_behind, spelled, canonical_text};
 
+use crate::laws::canonical_text_reads_back;
 use crate::program::symbols_of;
 use crate::symbols::Symbols;
 use kernel_syntax::{Op, Program};
@@ -13,8 +16,12 @@ use tree_node::{Feature, Text, atom_text, feature_text};
 /// The canonical text of a program: one blank between any two tokens and a newline after the last, where the identifier
 /// at position n is `V` and n, every field has its feature, and pairs and `proc` statements are written out.
 pub fn program_text(alloc: Global, program: &Program) -> Result<Text, AllocError>
-    ensures { IfOk result (λ t. t ≡ canonical_text program.now) }
+    ensures text { IfOk result (λ t. t ≡ canonical_text program.now) }
+    ensures reads { IfOk result (λ t. Reads t program.now) }
+    ensures utf8 { IfOk result (λ t. IsUtf8 t) }
 {
+    program.is_program();
+    canonical_text_reads_back();
     let symbols = symbols_of(alloc, program)?;
     let text = spelled(alloc, symbols)?;
     Ok(Text::from_vec(text)?)

@@ -1,11 +1,14 @@
 //! Laws of canonical texts. The functions do nothing: a caller learns their clauses.
 
-ghost use Rattle.std.specs.Prelude.{ℕ, List};
-ghost use Rattle.kernel_syntax.specs.declared.stmt.Stmt.{Stmt};
-ghost use Rattle.oz_grammar.specs.Reads.{Reads};
-ghost use Rattle.oz_show.specs.CanonicalText.{canonical_text};
+ghost use Rattle.oz_show.specs.Laws.{CanonicalReadsBack, CanonicalIsUtf8, ProgramsAreTexts};
 
-/// The canonical text of a program that some text is reads as that program.
+/// Every program is what its canonical text is read as, and that text is UTF-8.
 pub fn canonical_text_reads_back()
-    ensures { (text : List ℕ) (p : List Stmt) → Reads text p → Reads (canonical_text p) p }
+    ensures reads { CanonicalReadsBack }
+    ensures utf8 { CanonicalIsUtf8 }
+{}
+
+/// A table is a program exactly where a text in UTF-8 is read as it.
+pub fn programs_are_texts()
+    ensures { ProgramsAreTexts }
 {}

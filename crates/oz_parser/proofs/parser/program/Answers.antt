@@ -9,7 +9,7 @@ table-requires-clause-ends c = symbols_end c.args.text.now c.args.symbols.now c.
 pub made-requires : goal.made-requires
 made-requires c =
     let found : program_at c.args.symbols.now ≡ Ok c.in-Ok.rows.items = search rules in
-    is_program c.args.text.now c.args.symbols.now c.args.starts.now c.in-Ok.rows.items c.requires.symbols found
+    is_program c.args.text.now c.utf8.text c.args.symbols.now c.args.starts.now c.in-Ok.rows.items c.requires.symbols found
 
 pub returns-in-Ok : goal.returns-in-Ok
 returns-in-Ok c =

@@ -1,0 +1,246 @@
+//! Whether a table is in preorder.
+
+ghost use Rattle.std.specs.Prelude.{◌≡◌, ◌↔◌, ℕ, ◌+◌, ◌<◌, ◌≤◌, ◌^◌, ◌++◌, ◌∷◌, [], map, IsTrue, IfOk, OnOk, IfSome, IfNone};
+ghost use Rattle.tree_node.specs.declared.names.CodeId.{CodeId};
+ghost use Rattle.tree_node.specs.declared.node.Feature.{Feature};
+ghost use Rattle.tree_node.specs.Each.{Each};
+ghost use Rattle.kernel_syntax.specs.Scopes.{names_of, selected_by};
+ghost use Rattle.kernel_syntax.specs.Program.{IsStmt};
+ghost use Rattle.kernel_syntax.specs.Preorder.{within, one_of, bodies_in, DeclaresBehind, IsWholeSequence, IsBody, HasRoom, IsInPreorder};
+
+use crate::stmt::{Selector, Stmt, features};
+use std::alloc::{AllocError, Global};
+use std::marker::Model;
+use tree_node::{CodeId, Feature};
+
+/// A body that is still to come: the number of its statement, how many levels of statements it may have, how many
+/// identifiers are declared around it, and whether it is one of a sequence.
+#[derive(Clone, Copy)]
+pub struct Body {
+    pub code: CodeId,
+    pub levels: u32,
+    pub around: u32,
+    pub in_sequence: bool,
+}
+
+// Bodies that are still to come, the next one first.
+#[derive(Drop)]
+struct Coming {
+    last_first: Vec<Body>,
+}
+
+impl Model for Coming {
+    ghost use Rattle.std.specs.Prelude.{List, reverse};
+    ghost use Rattle.kernel_syntax.specs.declared.preorder.Body.{Body};
+
+    ghost Value = { List Body };
+
+    ghost view = { λ s. reverse s.last_first.items };
+}
+
+impl Coming {
+    // None.
+    fn new(alloc: Global) -> Coming
+        ensures { result ≡ [] }
+    {
+        Coming {
+            last_first: Vec::new(alloc),
+        }
+    }
+
+    // Puts a body before the others.
+    #[tactic(auto, using(crate::proofs::Reversed::put_before))]
+    fn put(&mut self, body: Body) -> Result<(), AllocError>
+        ensures { OnOk result (self.new ≡ body ∷ self.old) }
+    {
+        self.last_first.push(body)?;
+        Ok(())
+    }
+
+    // Takes the first.
+    #[tactic(auto, using(crate::proofs::Reversed::taken, crate::proofs::Reversed::none_left))]
+    fn take(&mut self) -> Option<Body>
+        ensures some { IfSome result (λ b. self.old ≡ b ∷ self.new) }
+        ensures none { IfNone result (self.old ≡ []) }
+    {
+        self.last_first.pop()
+    }
+
+    // Puts the bodies of a statement before the others.
+    fn put_bodies(&mut self, owner: Body, stmt: &Stmt) -> Result<(), AllocError>
+        requires body { IsBody owner stmt.now }
+        requires stmt { IsStmt stmt.now }
+        requires room { HasRoom owner }
+        ensures { OnOk result (self.new ≡ bodies_in owner stmt.now ++ self.old) }
+    {
+        match stmt {
+            Stmt::Seq(bodies) => self.put_sequence(owner, bodies.as_slice()),
+            Stmt::Local { count, body, .. } => self.put(within(owner, *count, *body)),
+            Stmt::TellProc { count, body, .. } => self.put(within(owner, *count as u32, *body)),
+            Stmt::If { yes, no, .. } => {
+                self.put(within(owner, 0, *no))?;
+                self.put(within(owner, 0, *yes))
+            }
+            Stmt::Case {
+                pattern,
+                yes,
+                no,
+                ..
+            } => {
+                self.put(within(owner, 0, *no))?;
+                self.put(within(owner, features(pattern).len() as u32, *yes))
+            }
+            Stmt::Thread { body, .. } => self.put(within(owner, 0, *body)),
+            Stmt::Try { body, handler, .. } => {
+                self.put(within(owner, 1, *handler))?;
+                self.put(within(owner, 0, *body))
+            }
+            _ => Ok(()),
+        }
+    }
+
+    // Puts the statements of a sequence before the others.
+    fn put_sequence(&mut self, owner: Body, bodies: &[CodeId]) -> Result<(), AllocError>
+        ensures { OnOk result (self.new ≡ map (one_of owner) bodies.now ++ self.old) }
+    {
+        let mut left = bodies.len();
+        while left > 0 {
+            left -= 1;
+            self.put(Body {
+                code: bodies[left],
+                in_sequence: true,
+                ..owner
+            })?;
+        }
+        Ok(())
+    }
+}
+
+// A body of a statement that declares so many identifiers for it.
+fn within(owner: Body, count: u32, code: CodeId) -> Body
+    requires level { 1 ≤ owner.levels }
+    requires room { owner.around + count < 2 ^ 32 }
+    ensures { result ≡ within owner (owner.around + count) code }
+{
+    Body {
+        code,
+        levels: owner.levels - 1,
+        around: owner.around + count,
+        in_sequence: false,
+    }
+}
+
+/// Whether a table is in preorder.
+pub fn is_in_preorder(alloc: Global, stmts: &[Stmt]) -> Result<bool, AllocError>
+    requires { Each IsStmt stmts.now }
+    ensures { IfOk result (λ b. IsTrue b ↔ IsInPreorder stmts.now) }
+{
+    let mut coming = Coming::new(alloc);
+    coming.put(WHOLE)?;
+    for (number, stmt) in stmts.iter().enumerate() {
+        match coming.take() {
+            Some(body) if body.code.0 as usize == number && is_body(body, stmt) => {
+                coming.put_bodies(body, stmt)?;
+            }
+            _ => return Ok(false),
+        }
+    }
+    Ok(coming.take().is_none())
+}
+
+// The whole program.
+const WHOLE: Body = Body {
+    code: CodeId(0),
+    levels: 200,
+    around: 0,
+    in_sequence: false,
+};
+
+// ---- one statement
+
+fn is_body(body: Body, stmt: &Stmt) -> bool
+    requires { IsStmt stmt.now }
+    ensures { IsTrue result ↔ IsBody body stmt.now }
+{
+    1 <= body.levels
+        && names_are_within(body.around, stmt)
+        && declares_behind(body.around, stmt)
+        && is_whole_sequence(body.in_sequence, stmt)
+}
+
+fn is_whole_sequence(in_sequence: bool, stmt: &Stmt) -> bool
+    ensures { IsTrue result ↔ IsWholeSequence in_sequence stmt.now }
+{
+    match stmt {
+        Stmt::Seq(bodies) => !in_sequence && bodies.as_slice().len() >= 2,
+        _ => true,
+    }
+}
+
+fn declares_behind(around: u32, stmt: &Stmt) -> bool
+    ensures { IsTrue result ↔ DeclaresBehind around stmt.now }
+{
+    match stmt {
+        Stmt::Local { first, .. } => *first == around,
+        Stmt::TellProc { first, .. } => *first == around,
+        Stmt::Case { first, .. } => *first == around,
+        Stmt::Try { first, .. } => *first == around,
+        _ => true,
+    }
+}
+
+fn names_are_within(around: u32, stmt: &Stmt) -> bool
+    ensures { IsTrue result ↔ Each (λ k. k < around) (names_of stmt.now) }
+{
+    match stmt {
+        Stmt::TellVar { left, right } => *left < around && *right < around,
+        Stmt::TellInt { left, .. } => *left < around,
+        Stmt::TellAtom { left, .. } => *left < around,
+        Stmt::TellRec { left, fields, .. } => {
+            *left < around && fields_are_within(around, fields.as_slice())
+        }
+        Stmt::TellProc { left, .. } => *left < around,
+        Stmt::Calc { left, a, b, .. } => *left < around && *a < around && *b < around,
+        Stmt::Select { left, source, by } => {
+            *left < around && *source < around && selector_is_within(around, by)
+        }
+        Stmt::If { subject, .. } => *subject < around,
+        Stmt::Case { subject, .. } => *subject < around,
+        Stmt::Call { callee, args } => *callee < around && are_within(around, args.as_slice()),
+        Stmt::Browse(subject) => *subject < around,
+        Stmt::Wait(subject) => *subject < around,
+        Stmt::NewCell { content, cell } => *content < around && *cell < around,
+        Stmt::Exchange { cell, old, new } => *cell < around && *old < around && *new < around,
+        Stmt::Raise(subject) => *subject < around,
+        _ => true,
+    }
+}
+
+fn selector_is_within(around: u32, by: &Selector) -> bool
+    ensures { IsTrue result ↔ Each (λ k. k < around) (selected_by by.now) }
+{
+    match by {
+        Selector::Var(position) => *position < around,
+        Selector::Feature(_) => true,
+    }
+}
+
+// The arguments of a call, of which there are at most 64.
+fn are_within(around: u32, positions: &[u32]) -> bool
+    ensures { IsTrue result ↔ Each (λ k. k < around) positions.now }
+{
+    match positions {
+        [] => true,
+        [first, others @ ..] => *first < around && are_within(around, others),
+    }
+}
+
+// Fields, of which there are at most 64.
+fn fields_are_within(around: u32, fields: &[(Feature, u32)]) -> bool
+    ensures { IsTrue result ↔ Each (λ k. k < around) (map (λ (f : Feature × ℕ). f.1) fields.now) }
+{
+    match fields {
+        [] => true,
+        [first, others @ ..] => first.1 < around && fields_are_within(around, others),
+    }
+}

@@ -1,0 +1,126 @@
+//! Whether a text can spell what a statement names.
+
+ghost use Rattle.std.specs.Prelude.{◌≡◌, ◌↔◌, ℕ, ◌≤◌, length, map, IsTrue, IfOk};
+ghost use Rattle.std.specs.List.{list_all};
+ghost use Rattle.std.specs.Str.{IsUtf8};
+ghost use Rattle.tree_node.specs.declared.node.Feature.{Feature};
+ghost use Rattle.tree_node.specs.Each.{Each};
+ghost use Rattle.kernel_syntax.specs.Arithmetic.{is_word};
+ghost use Rattle.kernel_syntax.specs.Texts.{is_text_byte, IsText, IsFeature, IsNamedBy, IsSpelledPattern, FitsIfSome, HasTexts};
+
+use crate::stmt::{Pattern, Selector, Stmt};
+use std::alloc::{AllocError, Global};
+use tree_node::{Feature, Text, atom_text};
+
+/// Whether each atom, label and feature of a statement is an atom's text.
+pub fn has_texts(alloc: Global, stmt: &Stmt) -> Result<bool, AllocError>
+    ensures { IfOk result (λ b. IsTrue b ↔ HasTexts stmt.now) }
+{
+    match stmt {
+        Stmt::TellInt { value, .. } => Ok(is_word(*value)),
+        Stmt::TellAtom { text, .. } => is_text(alloc, text),
+        Stmt::TellRec { label, fields, .. } => {
+            Ok(is_text(alloc, label)? && are_fields(alloc, fields.as_slice())?)
+        }
+        Stmt::Select { by, .. } => is_selector(alloc, by),
+        Stmt::Case { pattern, .. } => is_pattern(alloc, pattern),
+        Stmt::Thread { at, .. } => Ok(is_place(*at)),
+        _ => Ok(true),
+    }
+}
+
+// Every value of the type is one.
+fn is_word(value: i64) -> bool
+    ensures { IsTrue result ↔ IsTrue (is_word value) }
+{
+    let _ = value;
+    true
+}
+
+fn is_place(at: Option<i64>) -> bool
+    ensures { IsTrue result ↔ FitsIfSome at }
+{
+    match at {
+        Some(site) => is_word(site),
+        None => true,
+    }
+}
+
+fn is_text(alloc: Global, text: &Text) -> Result<bool, AllocError>
+    ensures { IfOk result (λ b. IsTrue b ↔ IsText text.now) }
+{
+    let bytes = text.as_slice();
+    Ok(are_characters(bytes) && atom_text(alloc, text)?.as_slice().len() <= 255)
+}
+
+fn are_characters(bytes: &[u8]) -> bool
+    ensures { IsTrue result ↔ (IsUtf8 bytes.now × IsTrue (list_all is_text_byte bytes.now)) }
+{
+    is_utf8(bytes) && are_text_bytes(bytes)
+}
+
+fn is_utf8(bytes: &[u8]) -> bool
+    ensures { IsTrue result ↔ IsUtf8 bytes.now }
+{
+    str::from_utf8(bytes).is_ok()
+}
+
+fn are_text_bytes(bytes: &[u8]) -> bool
+    ensures { result ≡ list_all is_text_byte bytes.now }
+{
+    bytes.iter().all(|byte| is_text_byte(*byte))
+}
+
+fn is_text_byte(byte: u8) -> bool
+    ensures { result ≡ is_text_byte byte }
+{
+    byte == b'\n' || !(byte <= 31 || byte == 127)
+}
+
+fn is_feature(alloc: Global, feature: &Feature) -> Result<bool, AllocError>
+    ensures { IfOk result (λ b. IsTrue b ↔ IsFeature feature.now) }
+{
+    match feature {
+        Feature::Int(value) => Ok(is_word(*value)),
+        Feature::Atom(text) => is_text(alloc, text),
+    }
+}
+
+fn is_selector(alloc: Global, by: &Selector) -> Result<bool, AllocError>
+    ensures { IfOk result (λ b. IsTrue b ↔ IsNamedBy by.now) }
+{
+    match by {
+        Selector::Var(_) => Ok(true),
+        Selector::Feature(feature) => is_feature(alloc, feature),
+    }
+}
+
+fn is_pattern(alloc: Global, pattern: &Pattern) -> Result<bool, AllocError>
+    ensures { IfOk result (λ b. IsTrue b ↔ IsSpelledPattern pattern.now) }
+{
+    match pattern {
+        Pattern::Int(value) => Ok(is_word(*value)),
+        Pattern::Atom(text) => is_text(alloc, text),
+        Pattern::Rec(label, features) => {
+            Ok(is_text(alloc, label)? && are_features(alloc, features.as_slice())?)
+        }
+    }
+}
+
+fn are_features(alloc: Global, features: &[Feature]) -> Result<bool, AllocError>
+    ensures { IfOk result (λ b. IsTrue b ↔ Each IsFeature features.now) }
+{
+    match features {
+        [] => Ok(true),
+        [first, others @ ..] => Ok(is_feature(alloc, first)? && are_features(alloc, others)?),
+    }
+}
+
+fn are_fields(alloc: Global, fields: &[(Feature, u32)]) -> Result<bool, AllocError>
+    ensures { IfOk result (λ b. IsTrue b ↔ Each IsFeature (map (λ (f : Feature × ℕ). f.0) fields.now)) }
+{
+    match fields {
+        [] => Ok(true),
+        [first, others @ ..] => Ok(is_feature(alloc, &first.0)? && are_fields(alloc, others)?),
+    }
+}

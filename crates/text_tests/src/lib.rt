@@ -1,0 +1,13 @@
+//! Tests of how texts are read and printed, from the text to the line: what refusals, canonical texts and last lines say, as
+//! tables. They are a crate of their own, since a crate with tests is proved twice. They show what no contract says: that
+//! texts, worked by hand, are refused where and as the grammar means, and print in the canonical form.
+#![tactic(auto)]
+
+#[cfg(test)]
+mod canonical;
+#[cfg(test)]
+mod faults;
+#[cfg(test)]
+mod printed;
+#[cfg(test)]
+mod statuses;
