@@ -60,6 +60,7 @@ awaits_content p old s f (out.Spawn k at name code vars) new t g h = tt
 awaits_content p old s f (out.Bind x u) new t g h = tt
 awaits_content p old s f (out.NewCell k cell content) new t g h = tt
 awaits_content p old s f (out.Line k line) new t g h = tt
+awaits_content p old s f (out.Raised k exception detail raised) new t g h = tt
 
 -- and the variable that is told it is known
 pub told_known : (told : Option VarName) (known : List VarName) → ((x : VarName) × (told ≡ Some x) × Contains known x) → IfSome told (λ x. Contains known x)

@@ -168,6 +168,7 @@ fn agrees(told: Told, name: ThreadName, out: &StepOut) -> bool {
         StepOut::Bind { .. } => told == Told::Bind,
         StepOut::Exchange { .. } => told == Told::Names(0),
         StepOut::Ran(pick) => takes(told, name, pick),
+        StepOut::Raised { pick, .. } => takes(told, name, pick),
         StepOut::Line(pick, _) => takes(told, name, pick),
         StepOut::NewCell { pick, .. } => takes(told, name, pick),
         StepOut::Spawn { pick, .. } => takes(told, name, pick),
@@ -292,6 +293,7 @@ pub fn follow<R: Abort>(
 {
     match out {
         StepOut::Ran(_pick) => Ok(()),
+        StepOut::Raised { .. } => Ok(()),
         StepOut::Line(_pick, _line) => Ok(()),
         StepOut::Waits(var) => bind_elsewhere(rt, program, run, var),
         StepOut::Bind { var, term } => bind(rt, program, run, var, term),

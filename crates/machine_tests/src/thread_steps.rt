@@ -49,6 +49,7 @@ fn place_of(at: &Option<i64>) -> &'static [u8] {
 fn note(said: &mut Vec<u8>, out: &StepOut) -> Result<(), AllocError> {
     match out {
         StepOut::Ran(pick) => note_pick(said, pick, b"r"),
+        StepOut::Raised { pick, .. } => note_pick(said, pick, b"r"),
         StepOut::NewCell { pick, .. } => note_pick(said, pick, b"c"),
         StepOut::Spawn { pick, at, .. } => note_pick(said, pick, place_of(at)),
         StepOut::Line(pick, line) => note_line(said, pick, line.as_slice()),
