@@ -1,5 +1,5 @@
-// What no clause says: that each call succeeds where there is memory, how often a text is read,
-// what stands over a reader and a writer of std, and how the errors are printed.
+// What no clause says: that each call succeeds where there is memory, how often a text is read, and
+// what stands over a reader and a writer of std.
 ghost use Rattle.std.specs.Prelude.{Some};
 ghost use Rattle.oz_base.specs.Memory.{source_left, source_faults};
 
@@ -72,13 +72,33 @@ fn a_text_is_read_in_one_call_a_byte_and_one_more(rt: HostRuntime) -> Result<(),
     Ok(())
 }
 
+// A reader that fills each buffer as far as it has bytes, and counts its calls.
+#[derive(Drop)]
+struct Filling {
+    left: usize,
+    calls: u64,
+}
+
+impl Read for &mut Filling {
+    fn read(&mut self, buf: &mut [u8]) -> io::Result<usize> {
+        let count = buf.len().min(self.left);
+        buf[..count].fill(b'x');
+        self.left -= count;
+        self.calls = self.calls.saturating_add(1);
+        Ok(count)
+    }
+}
+
+// Standard input costs a call of the system for each read: it is asked for as much as the buffer holds.
 #[test]
-fn a_long_text_is_read_by_chunks(rt: HostRuntime) -> Result<(), Fail> {
-    let bytes = [b'x'; 10_000];
-    let mut source = MemSource::new(&bytes, &[]);
-    let text = read_text(rt.alloc(), &mut source, 10_000)?;
-    assert_eq!(rt; text.as_slice(), bytes.as_slice());
-    assert_eq!(rt; source.calls(), 4, "4096, 4096, 1808 and the end");
+fn a_reader_is_asked_for_whole_chunks(rt: HostRuntime) -> Result<(), Fail> {
+    let mut reader = Filling {
+        left: 10_000,
+        calls: 0,
+    };
+    let text = read_text(rt.alloc(), &mut StdSource::new(&mut reader), 10_000)?;
+    assert_eq!(rt; text.as_slice(), [b'x'; 10_000].as_slice());
+    assert_eq!(rt; reader.calls, 4, "4096, 4096, 1808 and the end");
     Ok(())
 }
 
@@ -150,19 +170,5 @@ fn a_write_that_takes_nothing_is_a_fault(rt: HostRuntime) -> Result<(), Fail> {
     let full = write_piece(&mut StdSink::new(room.as_mut_slice()), b"abc");
     assert_eq!(rt; full, Err(Failed));
     assert_eq!(rt; room.as_slice(), b"ab".as_slice());
-    Ok(())
-}
-
-#[test]
-fn each_error_has_its_words(rt: HostRuntime) -> Result<(), Fail> {
-    let rows = [
-        (ReadError::Fault, "read fault"),
-        (ReadError::TooLong, "text too long"),
-        (ReadError::Memory, "out of memory"),
-    ];
-    for (error, words) in rows {
-        assert_eq!(rt; format!(in rt.alloc(); "{error}")?.as_str(), words);
-    }
-    assert_eq!(rt; format!(in rt.alloc(); "{Failed}")?.as_str(), "failed");
     Ok(())
 }

@@ -1,4 +1,3 @@
 pub mod Pieces
-pub mod WorkedLemmas
+pub mod CauseLemmas
 pub mod CompleteLemmas
-pub mod HeadlineLemmas

@@ -1,27 +1,25 @@
 -- Where nothing stands in the way, the program runs to its end.
 use Rattle.std.specs.Prelude.{◌≡◌, ◌≤◌, ℕ, List, [], length, Some}
-use Rattle.std.specs.Borrow.{Bor}
 use Rattle.std.specs.Str.{IsUtf8}
-use Rattle.std.specs.declared.option.Option.{Option}
-use Rattle.oz_base.specs.Streams.{Rose}
 use Rattle.kernel_syntax.specs.declared.stmt.Stmt.{Stmt}
 use Rattle.oz_grammar.specs.Reads.{Reads}
 use Rattle.oz_words.specs.Parsed.{words_fault}
 use Rattle.oz_show.specs.declared.status.Status.{Status}
 use Rattle.oz_show.specs.declared.status.Status.TheVariants.{Quiescent, Usage, Refused, NotUtf8, TooLong, StepLimit, ReadFault, WriteFault, Memory}
-use Rattle.oz_runner.specs.Worked.{text_limit}
+use Rattle.oz_runner.specs.Seen.{Seen}
+use Rattle.oz_runner.specs.Cause.{Failed, text_limit}
 
--- the command takes the words, the text is short enough, is UTF-8 and reads a program, and there is no fault
-pub record IsGood (names : Bor (List (Bor (List ℕ)))) (words : List (List ℕ)) (old : Option (List ℕ)) (before now first last : ℕ) : Type 0 where
-  pub accepted : words_fault names words ≡ []
+-- the command takes the words, the text is told, short enough and UTF-8, it reads a program, and there was no fault
+pub record IsGood (seen : Seen) : Type 0 where
+  pub accepted : words_fault seen.words ≡ []
   pub text : List ℕ
-  pub told : old ≡ Some text
+  pub told : seen.source.bytes_before ≡ Some text
   pub fits : length text ≤ text_limit
   pub utf8 : IsUtf8 text
   pub program : List Stmt
   pub reads : Reads text program
-  pub read : Rose before now → ⊥
-  pub written : Rose first last → ⊥
+  pub read : Failed seen.source → ⊥
+  pub wrote : Failed seen.sink → ⊥
 
 -- quiescent, or stopped by the limit of steps, or out of memory
 abbrev pub IsDone : Status → Type 0

@@ -1,23 +1,24 @@
 -- What was written.
 use Rattle.std.specs.Prelude.{◌≡◌, ◌⊎◌, ℕ, List}
-use Rattle.std.specs.declared.option.Option.{Option}
 use Rattle.std.specs.Io.KnownBytes.{Appends}
-use Rattle.oz_base.specs.Streams.{Rose, TookFront}
+use Rattle.oz_base.specs.Streams.{TookFront}
 use Rattle.oz_show.specs.Status.{HasNumbers}
 use Rattle.oz_show.specs.declared.status.Status.{Status}
 use Rattle.oz_show.specs.declared.status.Status.TheVariants.{WriteFault, Memory}
+use Rattle.oz_runner.specs.Seen.{Stream}
+use Rattle.oz_runner.specs.Cause.{Failed, NeverFailed}
 
 -- a write that fails makes the status WriteFault, but Memory stays
 abbrev pub after_fault : Status → Status
 after_fault Memory = Memory
 after_fault _ = WriteFault
 
--- all the bytes were taken and no call failed, or a call failed and a front of the bytes was taken. `worked` is the
--- status that stood before the writing
-abbrev pub Written : Option (List ℕ) → Option (List ℕ) → ℕ → ℕ → List ℕ → Status → Status → Type 0
-Written old new before now bytes worked final =
-    ((final ≡ worked) × (now ≡ before) × Appends old new bytes)
-    ⊎ ((final ≡ after_fault worked) × Rose before now × TookFront old new bytes)
+-- all the bytes were taken and no call failed, or a call failed and a front of the bytes was taken, and not all of them.
+-- `worked` is the status that stood before the writing
+abbrev pub Written : Stream → List ℕ → Status → Status → Type 0
+Written sink bytes worked status =
+    ((status ≡ worked) × NeverFailed sink × Appends sink.bytes_before sink.bytes_after bytes)
+    ⊎ ((status ≡ after_fault worked) × Failed sink × TookFront sink.bytes_before sink.bytes_after bytes)
 
 -- the status that stands before the writing is that of the work, or Memory where no memory is left for the end line
 abbrev pub IsToldAs : Status → Status → Type 0

@@ -1,9 +1,26 @@
 //! The top call of `oz`: from words and a text to lines, an end line and a status.
+//!
+//! **For**: `oz_main`, whose `main` is `start`, and whoever embeds the whole program over a source and a sink of their own,
+//! by `oz`.
+//!
+//! **Promises**: `oz` (`headline`: `Headline` in `specs/Headline.antt`): the lines that were written, uncaught exceptions among
+//! them, are those of the centralised machine under the schedule of the report; where it is quiescent that machine has no
+//! step left, and the threads that ended and wait are that machine's; each status has its cause (`Cause` in
+//! `specs/Cause.antt`, one line a status), and what a failed write left is a front of what was due. `oz` (`complete`):
+//! with words that are taken, a text that reads a program, and no fault, the run goes to its end. `start`: the program ends with
+//! the number of the status that such a call answers.
+//!
+//! **Stands on** `oz_words` for the words, `oz_base` for the text and the bytes written, `oz_parser` and `oz_grammar` for
+//! what a text reads, `thread_scheduler` and `oz_model` for the run, and `oz_show` for the end line.
+//!
+//! **Tests alone show**, in `oz_tests`: that memory suffices for the texts there, and that two runs print the same.
+//!
+//! **Sources**: Van Roy and Haridi, Concepts, Techniques, and Models of Computer Programming, chapters 2, 4 and 6, for the
+//! machine whose lines these are.
 #![tactic(auto)]
 
 mod report;
-#[cfg(test)]
-mod tests;
+mod system;
 mod top;
 mod work;
 mod write;
@@ -11,4 +28,5 @@ mod write;
 pub use oz_show::Status;
 pub use oz_words::command;
 pub use report::Report;
+pub use system::start;
 pub use top::oz;

@@ -1,19 +1,12 @@
 //! The top call.
 
-ghost use Rattle.std.specs.Prelude.{◌≡◌, ◌<◌, ◌++◌, [], List, ℕ, length, map, string_bytes, Err};
-ghost use Rattle.std.specs.Str.{IsUtf8, IsValidUpTo};
-ghost use Rattle.oz_base.specs.Streams.{Rose};
-ghost use Rattle.oz_base.specs.Reading.{GaveFront};
-ghost use Rattle.oz_grammar.specs.declared.fault.TextFault.{TextFault};
-ghost use Rattle.oz_grammar.specs.Reads.{FaultOf};
+ghost use Rattle.std.specs.Prelude.{◌≡◌, ◌<◌, ◌++◌, List, ℕ, length, map, string_bytes};
 ghost use Rattle.oz_model.specs.Output.{output, pieces_of};
-ghost use Rattle.oz_words.specs.Command.{AreActions};
-ghost use Rattle.oz_words.specs.Words.{ReadsWords};
-ghost use Rattle.oz_words.specs.declared.options.WordsError.TheVariants as words_error;
 ghost use Rattle.oz_show.specs.Status.{end_line, HasLine};
-ghost use Rattle.oz_runner.specs.Worked.{Worked, GaveText, text_limit};
-ghost use Rattle.oz_runner.specs.Written.{Written, IsToldAs, after_fault};
+ghost use Rattle.oz_runner.specs.Seen.{stream_of, seen_of, made_of};
 ghost use Rattle.oz_runner.specs.Complete.{IsGood, IsDone};
+ghost use Rattle.oz_runner.specs.Headline.{Headline};
+ghost use Rattle.oz_runner.specs.Written.{Written, IsToldAs, after_fault};
 
 use crate::work::{Work, do_work};
 use crate::write::write_all;
@@ -32,19 +25,12 @@ pub fn oz<S: Source, K: Sink>(
     sink: &mut K,
 ) -> Report
     requires { 0 < length words.now }
-    ensures usage { (names : _) × AreActions names.now
-        × (result.status ≡ Status.Usage → ReadsWords names (map string_bytes words.now) (Err words_error.Usage)) }
-    ensures read_fault { result.status ≡ Status.ReadFault → Rose (S.faults source.old) (S.faults source.new) }
-    ensures too_long { result.status ≡ Status.TooLong → GaveFront (S.left source.old) (S.left source.new) (λ n. text_limit < n) }
-    ensures not_utf8 { (at : ℕ) → result.status ≡ Status.NotUtf8 at → GaveText (S.left source.old) (S.left source.new) (λ text. (IsUtf8 text → ⊥) × IsValidUpTo text at) }
-    ensures refused { (fault : TextFault) → result.status ≡ Status.Refused fault → GaveText (S.left source.old) (S.left source.new) (λ text. IsUtf8 text × FaultOf text fault) }
-    ensures write_fault { result.status ≡ Status.WriteFault → Rose (K.faults sink.old) (K.faults sink.new) }
-    ensures complete { (names : _) × AreActions names.now
-        × (IsGood names (map string_bytes words.now) (S.left source.old) (S.faults source.old) (S.faults source.new) (K.faults sink.old) (K.faults sink.new)
-        → IsDone result.status) }
-    ensures headline { (names : _) × AreActions names.now × (lines : List (List ℕ)) × (worked : Status)
-        × Worked names (map string_bytes words.now) (S.left source.old) (S.left source.new) (S.faults source.old) (S.faults source.new) result.schedule.items lines worked
-        × Written (K.taken sink.old) (K.taken sink.new) (K.faults sink.old) (K.faults sink.new) (output lines (end_line worked)) worked result.status }
+    ensures headline { (lines : List (List ℕ)) × Headline
+        (seen_of (map string_bytes words.now) (stream_of S.left S.faults source.old source.new) (stream_of K.taken K.faults sink.old sink.new))
+        (made_of result.schedule.items lines) result.status }
+    ensures complete { IsGood
+        (seen_of (map string_bytes words.now) (stream_of S.left S.faults source.old source.new) (stream_of K.taken K.faults sink.old sink.new))
+        → IsDone result.status }
 {
     texts_have_one_of_both();
     let work = do_work(alloc, words, source);
@@ -55,7 +41,7 @@ pub fn oz<S: Source, K: Sink>(
 fn told<K: Sink>(alloc: Global, sink: &mut K, work: Work) -> Report
     requires { HasLine work.status }
     ensures written { (worked : Status) × IsToldAs work.status worked
-        × Written (K.taken sink.old) (K.taken sink.new) (K.faults sink.old) (K.faults sink.new) (output work.lines.items (end_line worked)) worked result.status }
+        × Written (stream_of K.taken K.faults sink.old sink.new) (output work.lines.items (end_line worked)) worked result.status }
     ensures schedule { result.schedule ≡ work.picks }
 {
     if let Some(end) = fixed_piece(work.status) {
@@ -82,7 +68,7 @@ fn out_of_memory(work: Work) -> Work
 
 // Writes lines and the piece of an end line.
 fn finish<K: Sink>(sink: &mut K, work: Work, end: &[u8]) -> Report
-    ensures written { Written (K.taken sink.old) (K.taken sink.new) (K.faults sink.old) (K.faults sink.new)
+    ensures written { Written (stream_of K.taken K.faults sink.old sink.new)
         (pieces_of work.lines.items ++ end.now) work.status result.status }
     ensures schedule { result.schedule ≡ work.picks }
 {

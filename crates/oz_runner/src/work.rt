@@ -1,15 +1,16 @@
 //! From the words and the text to the lines, before anything is written.
 
-ghost use Rattle.std.specs.Prelude.{◌≡◌, ◌≤◌, [], length, map, string_bytes};
-ghost use Rattle.oz_words.specs.Command.{AreActions};
+ghost use Rattle.std.specs.Prelude.{◌≡◌, ◌≤◌, [], length, List, ℕ, map, string_bytes, Ok};
+ghost use Rattle.oz_words.specs.Words.{ReadsWords, InRange};
 ghost use Rattle.oz_show.specs.Status.{HasLine};
-ghost use Rattle.oz_runner.specs.Worked.{Worked, SourceCame, TextCame, text_limit};
-ghost use Rattle.oz_runner.specs.Ends.{status_of};
+ghost use Rattle.oz_runner.specs.Seen.{Stream, Seen, stream_of, seen_of};
+ghost use Rattle.oz_runner.specs.Cause.{Cause, Says, GaveText, text_limit};
+ghost use Rattle.oz_runner.specs.Ends.{status_of, made_by};
 
 use crate::Status;
 use oz_base::{ReadError, Source, read_text};
 use oz_parser::{ParseError, parse};
-use oz_words::{WordsError, read_options};
+use oz_words::{Options, WordsError, read_options};
 use std::alloc::Global;
 use std::str;
 use thread_scheduler::{Ran, Reason, run_program};
@@ -28,36 +29,37 @@ pub struct Work {
 
 /// Reads the words, which are the program's name and those after it, then the text, and runs it.
 pub fn do_work<S: Source>(alloc: Global, words: &[String], source: &mut S) -> Work
-    ensures worked { (names : _) × AreActions names.now
-        × Worked names (map string_bytes words.now) (S.left source.old) (S.left source.new) (S.faults source.old) (S.faults source.new) result.picks.items result.lines.items result.status }
+    ensures cause { (sink : Stream) → Cause
+        (seen_of (map string_bytes words.now) (stream_of S.left S.faults source.old source.new) sink) (made_by result) result.status }
     ensures line { HasLine result.status }
 {
     match read_options(alloc, words) {
-        Ok(options) => work_on_source(alloc, options.steps, source),
+        Ok(options) => work_on_source(alloc, options, source),
         Err(WordsError::Usage) => stopped(alloc, Status::Usage),
         Err(WordsError::Memory) => stopped(alloc, Status::Memory),
     }
 }
 
-// Reads the text of a source and runs it, at most so many steps.
-fn work_on_source<S: Source>(alloc: Global, limit: u64, source: &mut S) -> Work
-    requires { limit ≤ 1000000000 }
-    ensures came { SourceCame limit (S.left source.old) (S.left source.new) (S.faults source.old) (S.faults source.new) result.picks.items result.lines.items result.status }
+// Reads the text of a source and runs it, as the options say.
+fn work_on_source<S: Source>(alloc: Global, options: Options, source: &mut S) -> Work
+    requires { InRange options }
+    ensures cause { (words : List (List ℕ)) (sink : Stream) → ReadsWords words (Ok options) → Cause
+        (seen_of words (stream_of S.left S.faults source.old source.new) sink) (made_by result) result.status }
     ensures line { HasLine result.status }
 {
     match read_text(alloc, source, TEXT_LIMIT) {
-        Ok(text) => work_on_text(alloc, limit, &text),
+        Ok(text) => work_on_text(alloc, options, &text),
         Err(ReadError::Fault) => stopped(alloc, Status::ReadFault),
         Err(ReadError::TooLong) => stopped(alloc, Status::TooLong),
         Err(ReadError::Memory) => stopped(alloc, Status::Memory),
     }
 }
 
-// Runs a text, at most so many steps.
-fn work_on_text(alloc: Global, limit: u64, text: &[u8]) -> Work
-    requires steps { limit ≤ 1000000000 }
+// Runs a text, as the options say.
+fn work_on_text(alloc: Global, options: Options, text: &[u8]) -> Work
+    requires range { InRange options }
     requires bytes { length text.now ≤ text_limit }
-    ensures came { TextCame text.now limit result.picks.items result.lines.items result.status }
+    ensures cause { (seen : Seen) → Says seen options → GaveText seen.source text.now → Cause seen (made_by result) result.status }
     ensures line { HasLine result.status }
 {
     let text = match str::from_utf8(text) {
@@ -65,7 +67,7 @@ fn work_on_text(alloc: Global, limit: u64, text: &[u8]) -> Work
         Err(error) => return stopped(alloc, Status::NotUtf8(error.valid_up_to() as u64)),
     };
     match parse(alloc, text) {
-        Ok(program) => finished(run_program(alloc, &program, limit)),
+        Ok(program) => finished(run_program(alloc, &program, options.steps)),
         Err(ParseError::Text(fault)) => stopped(alloc, Status::Refused(fault)),
         Err(ParseError::Memory) => stopped(alloc, Status::Memory),
     }

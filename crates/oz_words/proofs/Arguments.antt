@@ -1,6 +1,6 @@
 -- What a parse by the command gives for each of its arguments.
 use Rattle.std.proofs.Common.{zero, suc, ◌≡◌, ◌∙◌, ◌<◌, ◌≤◌, ℕ, Bool, true, false, List, [], ◌∷◌, length, map, Option, Some, None, refl, sym, ap, subst, arith, inl, inr, codes, not, is_some, true≢false}
-use Rattle.std.specs.List.{slice_index_or}
+use Rattle.std.specs.List.{list_any, slice_index_or}
 use Rattle.std.specs.Str.{bytes_eq}
 use Rattle.std.specs.Borrow.{Bor}
 use Rattle.std.proofs.lemmas.List.{get_or-map, length-map}
@@ -17,9 +17,10 @@ use Rattle.clap.specs.declared.builder.Arg.{Arg}
 use Rattle.clap.specs.declared.builder.Command.{Command}
 use Rattle.clap.specs.declared.builder.ValueParser.{ValueParser}
 use Rattle.clap.specs.declared.parser.ArgMatches.{ArgMatches}
-use Rattle.clap.proofs.WalkLemmas.{both}
+use Rattle.clap.proofs.WalkLemmas.{both, list_any-map}
 use Rattle.clap.proofs.SimpleLemmas.{is_false, is_nil, plain_fields}
-use Rattle.oz_words.specs.Command.{oz_app, steps_rule, action_rule, steps_values, action_values}
+use Rattle.oz_words.specs.Places.{placeless_names}
+use Rattle.oz_words.specs.Command.{AreActions, action_names, oz_app, steps_rule, action_rule, steps_values, action_values}
 use Rattle.oz_words.specs.Parsed.{HasValue}
 use Rattle.oz_words.proofs.DefaultValues.{defaulted_reads}
 
@@ -154,8 +155,15 @@ module _ (c : Command) (names : Bor (List (Bor (List ℕ)))) (is : app_of c ≡ 
   pub steps_value : (m : ArgMatches) → IsParsedFrom c m → HasValue m (codes "steps") steps_values
   steps_value m p = reads_at m p 0 some_arg (omega arith) steps_values refl
 
-  pub action_value : (m : ArgMatches) → IsParsedFrom c m → HasValue m (codes "action") (action_values names)
-  action_value m p = reads_at m p 1 some_arg (omega arith) (action_values names) refl
+  pub action_value : AreActions names.now → (m : ArgMatches) → IsParsedFrom c m → HasValue m (codes "action") (action_values (placeless_names action_names))
+  action_value are m p =
+      let value = reads_at m p 1 some_arg (omega arith) (action_values names) refl in
+      (value.0, value.1, is_one_of value.0 value.2)
+    where
+      is_one_of : (t : List ℕ) → Accepts false (action_values names) t → Accepts false (action_values (placeless_names action_names)) t
+      is_one_of t passed =
+          ap (λ ts. list_any (λ (name : List ℕ). bytes_eq name t) ts) (sym are)
+          ∙ (sym (list_any-map (λ (name : List ℕ). bytes_eq name t) (λ (name : Bor (List ℕ)). name.now) names.now) ∙ passed)
 
 -- the command is one whose matches and faults are known
 pub simple_and_free : (names : Bor (List (Bor (List ℕ)))) → is_simple_and_free (oz_app names) ≡ true

@@ -1,2 +1,5 @@
 mod DefaultValues
 mod Arguments
+mod WalkPlaces
+mod FaultPlaces
+mod PlaceLemmas

@@ -5,6 +5,7 @@ use Rattle.clap.specs.Words.{App, Rule, Text, new_app, new_rule, with_rule}
 use Rattle.clap.specs.declared.builder.ArgAction.TheVariants.{Set}
 use Rattle.clap.specs.declared.builder.ValueParser.{ValueParser}
 use Rattle.clap.specs.declared.builder.ValueParser.TheVariants as vp
+use Rattle.oz_words.specs.Places.{placeless_names}
 
 -- `--name N`, given at most once, with a default
 abbrev pub option_rule : Text → ValueParser → Text → Rule
@@ -47,5 +48,13 @@ oz_app names = record (rules_of_oz names) {
 }
 
 -- the names of the actions
+abbrev pub action_names : List Text
+action_names = codes "run" ∷ codes "central" ∷ []
+
+-- these are the names of the actions, wherever they lie
 abbrev pub AreActions : List (Bor Text) → Type 0
-AreActions names = map (λ name. name.now) names ≡ codes "run" ∷ codes "central" ∷ []
+AreActions names = map (λ name. name.now) names ≡ action_names
+
+-- the command, whose names of actions lie at no place
+abbrev pub oz_command : App
+oz_command = oz_app (placeless_names action_names)

@@ -1,33 +1,38 @@
--- What a parse by the command gives.
+-- What the command makes of the words.
 use Rattle.std.specs.Prelude.{◌≡◌, ◌≢◌, List, [], Some, false, codes, Result, Ok, Err}
-use Rattle.std.specs.Borrow.{Bor}
-use Rattle.clap.specs.Words.{Accepts, Text, found_of, matches_of, one_text, rows_of, fault_of, Row, Kinds}
+use Rattle.clap.specs.Words.{Accepts, App, Text, found_of, matches_of, one_text, rows_of, fault_of, Row, Kinds}
 use Rattle.clap.specs.Values.{read_as, reading_of}
 use Rattle.clap.specs.declared.builder.ValueParser.{ValueParser}
 use Rattle.clap.specs.declared.parser.ArgMatches.{ArgMatches}
-use Rattle.oz_words.specs.Command.{oz_app, steps_values, action_values}
+use Rattle.oz_words.specs.Places.{placeless_names}
+use Rattle.oz_words.specs.Command.{action_names, action_values, oz_command, steps_values}
 use Rattle.oz_words.specs.declared.options.WordsError.{WordsError}
 use Rattle.oz_words.specs.declared.options.WordsError.TheVariants.{Usage, Memory}
+
+-- why the command refuses the words, or nothing
+unfoldable pub words_fault : List Text → Kinds
+words_fault words = fault_of oz_command words
+
+-- its matches of the words
+unfoldable pub words_rows : List Text → List Row
+words_rows words = matches_of oz_command words
+
+-- a command that refuses and matches all words as `oz` does
+abbrev pub TakesWordsOfOz : App → Type 0
+TakesWordsOfOz a = (words : List Text) → (fault_of a words ≡ words_fault words) × (matches_of a words ≡ words_rows words)
 
 -- an argument has a value that its parser took
 abbrev pub HasValue : ArgMatches → Text → ValueParser → Type 0
 HasValue m id q = (t : Text) × (one_text (found_of m) id ≡ Some (read_as (reading_of q) t)) × Accepts false q t
 
--- why the command refuses the words, or nothing
-unfoldable pub words_fault : Bor (List (Bor Text)) → List Text → Kinds
-words_fault names words = fault_of (oz_app names) words
-
--- its matches of the words
-unfoldable pub words_rows : Bor (List (Bor Text)) → List Text → List Row
-words_rows names words = matches_of (oz_app names) words
-
-pub record Parsed (names : Bor (List (Bor Text))) (words : List Text) (m : ArgMatches) : Type 0 where
-  pub no_fault : words_fault names words ≡ []
-  pub rows : rows_of (found_of m) ≡ words_rows names words
+-- the matches of words that the command takes, with a value for each argument
+pub record Parsed (words : List Text) (m : ArgMatches) : Type 0 where
+  pub no_fault : words_fault words ≡ []
+  pub rows : rows_of (found_of m) ≡ words_rows words
   pub steps : HasValue m (codes "steps") steps_values
-  pub action : HasValue m (codes "action") (action_values names)
+  pub action : HasValue m (codes "action") (action_values (placeless_names action_names))
 
-abbrev pub Parses : Bor (List (Bor Text)) → List Text → Result ArgMatches WordsError → Type 0
-Parses names words (Ok m) = Parsed names words m
-Parses names words (Err Usage) = words_fault names words ≢ []
-Parses names words (Err Memory) = Unit {0}
+abbrev pub Parses : List Text → Result ArgMatches WordsError → Type 0
+Parses words (Ok m) = Parsed words m
+Parses words (Err Usage) = words_fault words ≢ []
+Parses words (Err Memory) = Unit {0}

@@ -1,6 +1,5 @@
 -- What the words mean.
 use Rattle.std.specs.Prelude.{◌≡◌, ◌≢◌, ◌≤◌, ℕ, List, [], Option, Some, None, codes, Result, Ok, Err}
-use Rattle.std.specs.Borrow.{Bor}
 use Rattle.std.specs.Str.Parse.{digits_value, without_leading_plus}
 use Rattle.clap.specs.Words.{Row, Text, one_of}
 use Rattle.oz_words.specs.Parsed.{words_fault, words_rows}
@@ -37,7 +36,7 @@ pub record InRange (options : Options) : Type 0 where
 
 -- `Usage` comes exactly where the command refuses the words, and else the options are its matches of them.
 -- Want of memory says nothing.
-abbrev pub ReadsWords : Bor (List (Bor Text)) → List Text → Result Options WordsError → Type 0
-ReadsWords names words (Ok options) = (words_fault names words ≡ []) × AreMatches (words_rows names words) options
-ReadsWords names words (Err Usage) = words_fault names words ≢ []
-ReadsWords names words (Err Memory) = Unit {0}
+abbrev pub ReadsWords : List Text → Result Options WordsError → Type 0
+ReadsWords words (Ok options) = (words_fault words ≡ []) × AreMatches (words_rows words) options
+ReadsWords words (Err Usage) = words_fault words ≢ []
+ReadsWords words (Err Memory) = Unit {0}

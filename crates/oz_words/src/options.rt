@@ -2,7 +2,8 @@
 
 ghost use Rattle.std.specs.Prelude.{◌≡◌, ◌≤◌, IfOk, codes, map, string_bytes, Some};
 ghost use Rattle.clap.specs.Words.{found_of, one_text};
-ghost use Rattle.oz_words.specs.Command.{AreActions, action_values, steps_values};
+ghost use Rattle.oz_words.specs.Places.{placeless_names};
+ghost use Rattle.oz_words.specs.Command.{action_names, action_values, steps_values};
 ghost use Rattle.oz_words.specs.Parsed.{HasValue, Parses};
 ghost use Rattle.oz_words.specs.Words.{ReadsWords, InRange, Says, action_name, NamesAction};
 
@@ -53,7 +54,7 @@ pub enum WordsError {
 
 // The matches of the words.
 fn parse<'a>(alloc: Global, words: &'a [String]) -> Result<ArgMatches<'a>, WordsError>
-    ensures { (names : _) × AreActions names.now × Parses names (map string_bytes words.now) result }
+    ensures { Parses (map string_bytes words.now) result }
 {
     let command = match command(alloc) {
         Ok(command) => command,
@@ -78,7 +79,7 @@ fn steps_of(matches: &ArgMatches) -> u64
 }
 
 fn action_in(matches: &ArgMatches) -> Action
-    requires { (names : _) × AreActions names.now × HasValue matches.now (codes "action") (action_values names) }
+    requires { HasValue matches.now (codes "action") (action_values (placeless_names action_names)) }
     ensures { one_text (found_of matches.now) (codes "action") ≡ Some (action_name result) }
 {
     matches.get_one("action").unwrap()
@@ -87,7 +88,7 @@ fn action_in(matches: &ArgMatches) -> Action
 /// The options that the words say, the first word being the program's name.
 /// `Usage` comes exactly where the command refuses the words.
 pub fn read_options(alloc: Global, words: &[String]) -> Result<Options, WordsError>
-    ensures text { (names : _) × AreActions names.now × ReadsWords names (map string_bytes words.now) result }
+    ensures text { ReadsWords (map string_bytes words.now) result }
     ensures range { IfOk result InRange }
 {
     let matches = parse(alloc, words)?;

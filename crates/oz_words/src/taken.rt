@@ -3,6 +3,7 @@
 ghost use Rattle.std.specs.Prelude.{◌≡◌, IfOk, false};
 ghost use Rattle.clap.specs.Words.{app_of, rule_of};
 ghost use Rattle.oz_words.specs.Command.{AreActions, oz_app, option_rule, action_rule, steps_values};
+ghost use Rattle.oz_words.specs.Parsed.{TakesWordsOfOz};
 
 use clap::builder::ValueParser;
 use clap::{Arg, ArgAction, Command, value_parser};
@@ -54,7 +55,8 @@ fn action_names<'a>() -> &'a [&'a str]
 /// Each is given at most once, and there is neither `--help` nor `--version`. The command borrows constants alone, so it
 /// comes at the lifetime that its caller wants: `'static`, or that of the words that it is to read.
 pub fn command<'a>(alloc: Global) -> Result<Command<'a>, AllocError>
-    ensures { (names : _) × AreActions names.now × IfOk result (λ c. app_of c ≡ oz_app names) }
+    ensures app { (names : _) × AreActions names.now × IfOk result (λ c. app_of c ≡ oz_app names) }
+    ensures words { IfOk result (λ c. TakesWordsOfOz (app_of c)) }
 {
     let steps = option_of(alloc, "steps", steps_parser(), "1000000");
     let action = action_of(alloc, action_names());

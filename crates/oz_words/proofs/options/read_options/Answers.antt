@@ -11,16 +11,11 @@ by_rows f rows id e = one_text-rows f id ∙ ap (one_of id) e
 
 pub returns-clause-text : goal.returns-clause-text
 returns-clause-text c =
-    let given = c.in_ok-matches.ensures in
-    let p = given.2 in
+    let p = c.in_ok-matches.ensures in
     let f = found_of c.in_ok-matches.matches in (
-      given.0,
-      given.1,
-      (
-        p.no_fault,
-        record {
-          steps = subst (λ (t : Option Text). Says t c.steps_of.result) (by_rows f _ _ p.rows) c.steps_of.ensures.text;
-          action = sym (by_rows f _ _ p.rows) ∙ c.action_in.ensures;
-        },
-      ),
+      p.no_fault,
+      record {
+        steps = subst (λ (t : Option Text). Says t c.steps_of.result) (by_rows f _ _ p.rows) c.steps_of.ensures.text;
+        action = sym (by_rows f _ _ p.rows) ∙ c.action_in.ensures;
+      },
     )

@@ -1,12 +1,9 @@
 //! Texts, and what the whole call makes of them.
 
-mod examples;
-mod rows;
-
-use crate::oz;
-use examples::EXAMPLES;
+use crate::examples::EXAMPLES;
+use crate::rows::{FAILING, LIST, REFUSED, RUNS, USAGE, WORDED};
 use oz_base::{MemSink, MemSource};
-use rows::{LIST, ROWS};
+use oz_runner::oz;
 use std::alloc::{AllocError, Global};
 use std::process::Abort;
 use std::test::Fail;
@@ -41,15 +38,67 @@ fn answer<R: Abort>(
 // A text is refused with this line.
 fn refuses<R: Abort>(rt: &R, alloc: Global, text: &[u8], line: &str) -> Result<(), AllocError> {
     let told = answer(rt, alloc, &[], text, &[], &[])?;
-    assert_eq!(rt; told.0.as_slice(), line.as_bytes());
-    assert_eq!(rt; told.1, 3);
+    let bytes = format!(in alloc; "{line}\n")?;
+    assert_eq!(rt; told.0.as_slice(), bytes.as_bytes());
+    assert_eq!(rt; told.1, 3, "{line}");
+    Ok(())
+}
+
+// These words and this text have these bytes as their output, and this number.
+fn prints<R: Abort>(
+    rt: &R,
+    alloc: Global,
+    words: &[&str],
+    text: &str,
+    bytes: &str,
+    number: u8,
+) -> Result<(), AllocError> {
+    let told = answer(rt, alloc, words, text.as_bytes(), &[], &[])?;
+    assert_eq!(rt; told.0.as_slice(), bytes.as_bytes(), "{text}");
+    assert_eq!(rt; told.1, number, "{text}");
     Ok(())
 }
 
 #[test]
 fn texts_have_their_output(rt: HostRuntime) -> Result<(), Fail> {
     let alloc = rt.alloc();
-    for row in ROWS.as_slice() {
+    for row in RUNS.as_slice() {
+        prints(&rt, alloc, &[], row.0, row.1, row.2)?;
+    }
+    for row in WORDED.as_slice() {
+        prints(&rt, alloc, row.0, row.1, row.2, row.3)?;
+    }
+    for example in EXAMPLES.as_slice() {
+        prints(&rt, alloc, &[], example.0, example.1, example.2)?;
+    }
+    Ok(())
+}
+
+// The source, whose first call would fail, is not read.
+#[test]
+fn words_are_refused_before_a_text_is_read(rt: HostRuntime) -> Result<(), Fail> {
+    let alloc = rt.alloc();
+    for words in USAGE.as_slice() {
+        let told = answer(&rt, alloc, words, b"skip", &[1], &[])?;
+        assert_eq!(rt; told.0.as_slice(), b"usage\n".as_slice(), "{words:?}");
+        assert_eq!(rt; told.1, 2, "{words:?}");
+    }
+    Ok(())
+}
+
+#[test]
+fn texts_are_refused_at_their_first_fault(rt: HostRuntime) -> Result<(), Fail> {
+    let alloc = rt.alloc();
+    for row in REFUSED.as_slice() {
+        refuses(&rt, alloc, row.0.as_bytes(), row.1)?;
+    }
+    Ok(())
+}
+
+#[test]
+fn calls_that_fail_end_the_work(rt: HostRuntime) -> Result<(), Fail> {
+    let alloc = rt.alloc();
+    for row in FAILING.as_slice() {
         let (words, text, reads, writes, bytes, number) = *row;
         let told = answer(&rt, alloc, words, text.as_bytes(), reads, writes)?;
         assert_eq!(rt; told.0.as_slice(), bytes.as_bytes());
@@ -70,20 +119,20 @@ fn before_blanks(alloc: Global, first: u8, blanks: usize) -> Result<Vec<u8>, All
 #[test]
 fn bytes_are_refused_before_a_text_is_read(rt: HostRuntime) -> Result<(), Fail> {
     let alloc = rt.alloc();
-    refuses(&rt, alloc, b"skip\xff", "refused byte 4 not UTF-8\n")?;
+    refuses(&rt, alloc, b"skip\xff", "refused byte 4 not UTF-8")?;
     let long = before_blanks(alloc, b' ', 1_048_576)?;
-    refuses(&rt, alloc, &long, "refused text too long\n")?;
+    refuses(&rt, alloc, &long, "refused text too long")?;
     let longest = before_blanks(alloc, b' ', 1_048_575)?;
     refuses(
         &rt,
         alloc,
         &longest,
-        "refused 1:1048577 expected a statement\n",
+        "refused 1:1048577 expected a statement",
     )?;
     let long = before_blanks(alloc, 255, 1_048_576)?;
-    refuses(&rt, alloc, &long, "refused text too long\n")?;
+    refuses(&rt, alloc, &long, "refused text too long")?;
     let longest = before_blanks(alloc, 255, 1_048_575)?;
-    refuses(&rt, alloc, &longest, "refused byte 0 not UTF-8\n")?;
+    refuses(&rt, alloc, &longest, "refused byte 0 not UTF-8")?;
     Ok(())
 }
 
@@ -95,14 +144,14 @@ fn texts_have_limits(rt: HostRuntime) -> Result<(), Fail> {
         deep.extend_from_slice(b"local X in ")?;
     }
     deep.extend_from_slice(b"skip")?;
-    refuses(&rt, alloc, &deep, "refused 1:2201 nested too deep\n")?;
+    refuses(&rt, alloc, &deep, "refused 1:2201 nested too deep")?;
     let mut wide = Vec::from_slice(alloc, b"local")?;
     for number in 1..66 {
         let name = format!(in alloc; " V{number}")?;
         wide.extend_from_slice(name.as_bytes())?;
     }
     wide.extend_from_slice(b" in skip end")?;
-    refuses(&rt, alloc, &wide, "refused 1:254 too many items\n")?;
+    refuses(&rt, alloc, &wide, "refused 1:254 too many items")?;
     Ok(())
 }
 
@@ -132,15 +181,18 @@ fn long_lists_are_cut(rt: HostRuntime) -> Result<(), Fail> {
     Ok(())
 }
 
+// A text as long as may be, of 209,715 statements: it is read to its end, and stopped after its first step.
 #[test]
-fn examples_print_what_stands_beside_them(rt: HostRuntime) -> Result<(), Fail> {
+fn a_long_program_is_read_and_runs(rt: HostRuntime) -> Result<(), Fail> {
     let alloc = rt.alloc();
-    for example in EXAMPLES.as_slice() {
-        let (text, bytes, number) = *example;
-        let told = answer(&rt, alloc, &[], text.as_bytes(), &[], &[])?;
-        assert_eq!(rt; told.0.as_slice(), bytes.as_bytes());
-        assert_eq!(rt; told.1, number);
+    let mut text = Vec::new(alloc);
+    for _ in 0..209_715 {
+        text.extend_from_slice(b"skip ")?;
     }
+    text.push(b' ')?;
+    let told = answer(&rt, alloc, &["--steps", "1"], &text, &[], &[])?;
+    assert_eq!(rt; told.0.as_slice(), b"stopped steps site=1\n".as_slice());
+    assert_eq!(rt; told.1, 4);
     Ok(())
 }
 
