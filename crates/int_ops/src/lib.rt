@@ -3,11 +3,9 @@
 //!
 //! What it promises: `apply` gives exactly what `calculated` of `kernel_syntax` says, or the fault that it says. It takes
 //! no memory, and stands on that definition alone; `operators_divide` of `kernel_syntax` says in the subject's own words
-//! what `div` and `mod` are. Its tests show the operators at both ends of 64 bits, by values from outside.
+//! what `div` and `mod` are. Tests (`unit_tests`) show the operators at both ends of 64 bits, by values from outside.
 #![tactic(auto)]
 
 mod operators;
-#[cfg(test)]
-mod tests;
 
 pub use operators::{OpFault, Value, apply};

@@ -3,7 +3,7 @@ use Rattle.std.proofs.Common.{arith, ◌≡◌, refl, ap, subst, ℕ, zero, suc,
 use Rattle.std.proofs.lemmas.Int.{quot-rem, rem_below}
 use Rattle.std.proofs.Math.Nat.{mod-le}
 use Rattle.kernel_syntax.specs.declared.stmt.Op.TheVariants.{Add, Sub, Mul, Div, Mod, Le, Lt, Ge, Gt}
-use Rattle.kernel_syntax.specs.Arithmetic.{Calculated, Number, Overflow, Zero, fitted, is_word, is_zero}
+use Rattle.kernel_syntax.specs.Arithmetic.{Calculated, Number, Overflow, Zero, fit_or_overflow, is_word, is_zero}
 use Rattle.kernel_syntax.specs.Laws.{DivisionIsExact, RestHasSign, NumbersFit}
 
 some : (b : ℤ) → is_zero b ≡ false → 0 < unsigned_abs b
@@ -48,7 +48,7 @@ GivesWords c = (z : ℤ) → c ≡ Number z → IsTrue (is_word z)
 number_fits : (y : ℤ) → IsTrue (is_word y) → GivesWords (Number y)
 number_fits y h z e = subst (λ (x : ℤ). IsTrue (is_word x)) (ap number_of e) h
 
-fitted_fits : (y : ℤ) → GivesWords (fitted y)
+fitted_fits : (y : ℤ) → GivesWords (fit_or_overflow y)
 fitted_fits y = go (is_word y) refl
   where
     go : (b : Bool) → is_word y ≡ b → GivesWords (cond b (Number y) Overflow)
@@ -63,7 +63,7 @@ pub numbers_fit : NumbersFit
 numbers_fit Add a b z h e = fitted_fits (a +ℤ b) z e
 numbers_fit Sub a b z h e = fitted_fits (a -ℤ b) z e
 numbers_fit Mul a b z h e = fitted_fits (a *ℤ b) z e
-numbers_fit Div a b z h e = unless_zero (fitted (int_div a b)) (is_zero b) (fitted_fits (int_div a b)) z e
+numbers_fit Div a b z h e = unless_zero (fit_or_overflow (int_div a b)) (is_zero b) (fitted_fits (int_div a b)) z e
 numbers_fit Mod a b z h e = unless_zero (Number (int_rem a b)) (is_zero b) (number_fits (int_rem a b) (rest_fits a b h)) z e
 numbers_fit Le a b z h e = absurd (grind (arith, e))
 numbers_fit Lt a b z h e = absurd (grind (arith, e))

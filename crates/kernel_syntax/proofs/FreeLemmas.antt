@@ -12,7 +12,9 @@ use Rattle.kernel_syntax.specs.Free.{AreRising, with_position, with_positions, i
 use Rattle.kernel_syntax.specs.Program.{IsProgram}
 use Rattle.kernel_syntax.specs.Uses.{IsDeclared, IsBodyOutside, Uses, itself, within}
 use Rattle.kernel_syntax.specs.Laws.{FreeUnfolds, FreeAscends, FreeIsUsed, ProgramsAreClosed, OwnersHaveFree, NamesAreFree}
-use Rattle.kernel_syntax.proofs.OrderLemmas.{Each-map, ascends_with_all}
+use Rattle.kernel_syntax.proofs.OrderLemmas.{ascends_with_all}
+use Rattle.tree_node.proofs.OrderLemmas.{none}
+use Rattle.tree_node.proofs.EnvLemmas.{each_more}
 
 -- statements that agree on the bodies have the same free positions
 each_agrees : (f g : CodeId → List ℕ) (js : List ℕ) (ss : List Scope) → Each (λ (s : Scope). f s.body ≡ g s.body) ss → free_in_each f js ss ≡ free_in_each g js ss
@@ -73,7 +75,7 @@ enough p on zero (suc e) code l m = rw (slice_get_past p code.0 (omega (arith, l
 enough p on (suc d) zero code l m = rw (slice_get_past p code.0 (omega (arith, m))) refl
 enough p on (suc d) (suc e) code l m =
     of_agrees (free_within d p) (free_within e p) (stmt_at p code)
-    (Each-map _ (λ c. free_within d p c ≡ free_within e p c) (bodies_of (stmt_at p code))
+    (each_more _ (λ c. free_within d p c ≡ free_within e p c) (bodies_of (stmt_at p code))
     (λ c h. enough p on d e c (omega (arith, h.0, l)) (omega (arith, h.0, m))) (on code))
 
 pub unfolds : (p : List Stmt) → GoesOn p → (code : CodeId) → free p code ≡ free_of (free p) (stmt_at p code)
@@ -104,9 +106,6 @@ free_ascends p code = go (length p)
 -- members of the lists
 Contains-here : {X : Type 0} (x y : X) (xs : List X) → x ≡ y → Contains (x ∷ xs) y
 Contains-here x y xs e = (zero, omega arith, e)
-
-Contains-none : {X : Type 0} (y : X) → Contains [] y → ⊥
-Contains-none y (i, below, is) = omega arith
 
 from_with : (k : ℕ) (js : List ℕ) (x : ℕ) → Contains (with_position k js) x → (k ≡ x) ⊎ Contains js x
 from_with k [] x h = Contains-cons_cases k x [] h
@@ -161,15 +160,15 @@ all-old js [] x h = h
 all-old js (k ∷ ks) x h = all-old (with_position k js) ks x (with-others k js x h)
 
 all-new : (js ks : List ℕ) (x : ℕ) → Contains ks x → Contains (with_positions js ks) x
-all-new js [] x h = absurd (Contains-none x h)
+all-new js [] x h = absurd (none x h)
 all-new js (k ∷ ks) x h = go (λ g. all-new (with_position k js) ks x g) (Contains-cons_cases k x ks h)
   where
     go : (Contains ks x → Contains (with_positions (with_position k js) ks) x) → (k ≡ x) ⊎ Contains ks x → Contains (with_positions (with_position k js) ks) x
     go ih (inl e) = all-old (with_position k js) ks x (subst (λ (y : ℕ). Contains (with_position k js) y) e (with-itself k js))
     go ih (inr g) = ih g
 
-from_without : (first count : ℕ) (ks : List ℕ) (x : ℕ) → Contains (without_declared first count ks) x → Contains ks x × (IsDeclared first count x → ⊥)
-from_without first count [] x h = absurd (Contains-none x h)
+pub from_without : (first count : ℕ) (ks : List ℕ) (x : ℕ) → Contains (without_declared first count ks) x → Contains ks x × (IsDeclared first count x → ⊥)
+from_without first count [] x h = absurd (none x h)
 from_without first count (k ∷ ks) x h = go (is_declared first count k) refl (λ g. from_without first count ks x g) h
   where
     further : is_declared first count k ≡ false → (Contains (without_declared first count ks) x → Contains ks x × (IsDeclared first count x → ⊥)) →
@@ -182,7 +181,7 @@ from_without first count (k ∷ ks) x h = go (is_declared first count k) refl (�
     go true e ih g = let rest = ih g in (Contains-tail k x ks rest.0, rest.1)
     go false e ih g = further e ih (Contains-cons_cases k x (without_declared first count ks) g)
 
-without-others : (first count : ℕ) (ks : List ℕ) (x : ℕ) → Contains ks x → (IsDeclared first count x → ⊥) → Contains (without_declared first count ks) x
+pub without-others : (first count : ℕ) (ks : List ℕ) (x : ℕ) → Contains ks x → (IsDeclared first count x → ⊥) → Contains (without_declared first count ks) x
 without-others first count [] x h out = h
 without-others first count (k ∷ ks) x h out = go (is_declared first count k) refl (λ g. without-others first count ks x g out) (Contains-cons_cases k x ks h)
   where
@@ -221,7 +220,7 @@ each-old f js (s ∷ ss) x h =
     each-old f (with_positions js row) ss x (all-old js row x h)
 
 each-new : (f : CodeId → List ℕ) (js : List ℕ) (ss : List Scope) (b : Scope) (x : ℕ) → Contains ss b → Contains (f b.body) x → (IsDeclared b.first b.count x → ⊥) → Contains (free_in_each f js ss) x
-each-new f js [] b x h g out = absurd (Contains-none b h)
+each-new f js [] b x h g out = absurd (none b h)
 each-new f js (s ∷ ss) b x h g out = go (λ at. each-new f (with_positions js (row s)) ss b x at g out) (Contains-cons_cases s b ss h)
   where
     row : Scope → List ℕ
@@ -242,7 +241,7 @@ from_of : (f : CodeId → List ℕ) (st : Stmt) (x : ℕ) → Contains (free_of 
 from_of f st x h = go (from_all (free_in_each f [] (scopes_of st)) (names_of st) x h)
   where
     inner : Contains [] x ⊎ FromBody f (scopes_of st) x → FromStmt f st x
-    inner (inl g) = absurd (Contains-none x g)
+    inner (inl g) = absurd (none x g)
     inner (inr (s, at, g, out)) = inr (s.body, (s, at, refl, out), g)
 
     go : Contains (free_in_each f [] (scopes_of st)) x ⊎ Contains (names_of st) x → FromStmt f st x
@@ -259,7 +258,7 @@ of-bodies f st c x (s, at, same, out) h =
 
 -- they are those that the code uses
 used-within : (d : ℕ) (p : List Stmt) (code : CodeId) (k : ℕ) → Contains (free_within d p code) k → Uses p code k
-used-within zero p code k h = absurd (Contains-none k h)
+used-within zero p code k h = absurd (none k h)
 used-within (suc d) p code k h = go (λ c g. used-within d p c k g) (from_of (free_within d p) (stmt_at p code) k h)
   where
     go : ((c : CodeId) → Contains (free_within d p c) k → Uses p c k) → FromStmt (free_within d p) (stmt_at p code) k → Uses p code k
@@ -286,4 +285,4 @@ pub free_is_used : FreeIsUsed
 free_is_used p code k is = (free-used p code k, used-free p is)
 
 pub programs_are_closed : ProgramsAreClosed
-programs_are_closed p k is u = Contains-none k (subst (λ (ks : List ℕ). Contains ks k) is.closed (used-free p is u))
+programs_are_closed p k is u = none k (subst (λ (ks : List ℕ). Contains ks k) is.closed (used-free p is u))

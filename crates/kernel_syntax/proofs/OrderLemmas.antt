@@ -6,6 +6,7 @@ use Rattle.std.specs.List.Sorted.{IsBinarySearchResult}
 use Rattle.std.proofs.lemmas.List.Sorted.{searched}
 use Rattle.tree_node.specs.Each.{Each}
 use Rattle.kernel_syntax.specs.Free.{AreRising, with_position, with_positions}
+use Rattle.tree_node.proofs.EnvLemmas.{each_more}
 
 pub Each-at : {X : Type 0} (P : X → Type 0) (xs : List X) (i : ℕ) (d : X) → Each P xs → i < length xs → P (get_or xs i d)
 Each-at P [] i d h l = absurd (omega arith)
@@ -27,10 +28,6 @@ rise (x ∷ xs) up zero zero le l = omega arith
 rise (x ∷ xs) up zero (suc j) le l = let h : x < get_or xs j 0 = Each-at (λ y. x < y) xs j 0 up.0 (omega arith) in omega (arith, h)
 rise (x ∷ xs) up (suc i) zero le l = absurd (omega arith)
 rise (x ∷ xs) up (suc i) (suc j) le l = rise xs up.1 i j (omega arith) (omega arith)
-
-pub Each-map : {X : Type 0} (P Q : X → Type 0) (xs : List X) → ((x : X) → P x → Q x) → Each P xs → Each Q xs
-Each-map P Q [] f h = tt
-Each-map P Q (x ∷ xs) f h = (f x h.0, Each-map P Q xs f h.1)
 
 -- with_position where a search found the position, and where it found its place
 found : (k : ℕ) (js : List ℕ) (i : ℕ) → AreRising js → i < length js → get_or js i 0 ≡ k → with_position k js ≡ js
@@ -57,7 +54,7 @@ ascends_with k (j ∷ js) up = go (k == j) refl (nat_lt k j) refl (ascends_with 
   where
     go : (a : Bool) → (k == j) ≡ a → (b : Bool) → nat_lt k j ≡ b → AreRising (with_position k js) → AreRising (cond a (j ∷ js) (cond b (k ∷ j ∷ js) (j ∷ with_position k js)))
     go true e b f rest = up
-    go false e true f rest = let low : k < j = grind (arith, f) in ((low, Each-map (λ y. j < y) (λ y. k < y) js (λ y h. omega (arith, low, h)) up.0), up)
+    go false e true f rest = let low : k < j = grind (arith, f) in ((low, each_more (λ y. j < y) (λ y. k < y) js (λ y h. omega (arith, low, h)) up.0), up)
     go false e false f rest = let high : j < k = grind (arith, e, f) in (Each-with (λ y. j < y) k js high up.0, rest)
 
 pub ascends_as : (k : ℕ) (js ks : List ℕ) → ks ≡ with_position k js → AreRising js → AreRising ks

@@ -13,9 +13,10 @@ use Rattle.kernel_syntax.specs.Free.{with_positions, without_declared, free_in_e
 use Rattle.kernel_syntax.specs.Texts.{HasTexts}
 use Rattle.kernel_syntax.specs.Preorder.{one_of, bodies_in, DeclaresBehind, IsBody, AreBodies, HasRoom, whole, IsInPreorder}
 use Rattle.kernel_syntax.specs.Program.{IsPattern, IsStmt, IsProgram}
-use Rattle.kernel_syntax.proofs.OrderLemmas.{Each-map}
 use Rattle.kernel_syntax.proofs.Below.{Below, all_below, without_below, still_below, none_below}
 use Rattle.kernel_syntax.proofs.FreeLemmas.{GoesOn, StandBehind, go_on, unfolds}
+use Rattle.tree_node.proofs.EnvLemmas.{each_more}
+use Rattle.tree_node.proofs.EachLemmas.{each_append}
 
 pub each_left : {X : Type 0} (P : X → Type 0) (xs ys : List X) → Each P (xs ++ ys) → Each P xs
 each_left P [] ys h = tt
@@ -24,10 +25,6 @@ each_left P (x ∷ xs) ys h = (h.0, each_left P xs ys h.1)
 pub each_right : {X : Type 0} (P : X → Type 0) (xs ys : List X) → Each P (xs ++ ys) → Each P ys
 each_right P [] ys h = h
 each_right P (x ∷ xs) ys h = each_right P xs ys h.1
-
-pub each_append : {X : Type 0} (P : X → Type 0) (xs ys : List X) → Each P xs → Each P ys → Each P (xs ++ ys)
-each_append P [] ys p q = q
-each_append P (x ∷ xs) ys p q = (p.0, each_append P xs ys p.1 q)
 
 -- ---- bodies stand behind their owners
 
@@ -69,7 +66,7 @@ are_among k hi (b ∷ bs) [] e h = absurd h
 are_among k hi (b ∷ bs) (st ∷ sts) e h =
     let at = h.0 in
     let more = are_among (k + 1) hi (bodies_in b st ++ bs) sts (omega arith) h.2 in
-    ((omega arith, omega arith), Each-map _ (λ (c : Body). IsAmong k hi c.code) bs (λ c g. let low = g.0 in (omega arith, g.1)) (each_right _ (bodies_in b st) bs more))
+    ((omega arith, omega arith), each_more _ (λ (c : Body). IsAmong k hi c.code) bs (λ c g. let low = g.0 in (omega arith, g.1)) (each_right _ (bodies_in b st) bs more))
 
 stand_behind : (k hi : ℕ) (bs : List Body) (sts : List Stmt) → k + length sts ≡ hi → AreBodies k bs sts
     → (i : ℕ) (st : Stmt) → slice_get sts i ≡ Some st → Each (λ (c : CodeId). (k + i < c.0) × (c.0 < hi)) (bodies_of st)
@@ -81,7 +78,7 @@ stand_behind k hi (b ∷ bs) (row ∷ sts) e h zero st at =
     let more = are_among (k + 1) hi (bodies_in b row ++ bs) sts (omega arith) h.2 in
     let here = numbers_of (λ (c : CodeId). IsAmong (k + 1) hi c) b row (each_left _ (bodies_in b row) bs more) in
     subst (λ (s : Stmt). Each (λ (c : CodeId). (k + 0 < c.0) × (c.0 < hi)) (bodies_of s)) same
-    (Each-map _ (λ (c : CodeId). (k + 0 < c.0) × (c.0 < hi)) (bodies_of row) (λ c g. let low = g.0 in (omega arith, g.1)) here)
+    (each_more _ (λ (c : CodeId). (k + 0 < c.0) × (c.0 < hi)) (bodies_of row) (λ c g. let low = g.0 in (omega arith, g.1)) here)
 stand_behind k hi (b ∷ bs) (row ∷ sts) e h (suc i) st at =
     let next : k + 1 + i ≡ k + suc i = omega arith in
     subst (λ (n : ℕ). Each (λ (c : CodeId). (n < c.0) × (c.0 < hi)) (bodies_of st)) next (stand_behind (k + 1) hi (bodies_in b row ++ bs) sts (omega arith) h.2 i st at)
@@ -137,7 +134,7 @@ bodies_closed inner b (stmt.Try body first handler) d h =
     (subst (λ (m : ℕ). Below b.around (without_declared m 1 (inner handler))) (sym d) at)
 bodies_closed inner b (stmt.Raise x) d h = tt
 
-stmt_here : (pre sts : List Stmt) (st : Stmt) → slice_get (pre ++ st ∷ sts) (length pre) ≡ Some st
+pub stmt_here : (pre sts : List Stmt) (st : Stmt) → slice_get (pre ++ st ∷ sts) (length pre) ≡ Some st
 stmt_here [] sts st = refl
 stmt_here (x ∷ pre) sts st = stmt_here pre sts st
 
@@ -198,7 +195,7 @@ names_few k [] [] limits room h = tt
 names_few k [] (st ∷ sts) limits room h = absurd h
 names_few k (b ∷ bs) [] limits room h = absurd h
 names_few k (b ∷ bs) (st ∷ sts) limits room h = (
-  Each-map _ (λ (j : ℕ). j < 12800) (names_of st) (λ j low. omega (arith, low, room.0)) h.1.names,
+  each_more _ (λ (j : ℕ). j < 12800) (names_of st) (λ j low. omega (arith, low, room.0)) h.1.names,
   names_few (k + 1) (bodies_in b st ++ bs) sts limits.1 (each_append HasRoom (bodies_in b st) bs (bodies_room b st room.0 limits.0 h.1.level) room.1) h.2,
 )
 

@@ -14,9 +14,9 @@ use Rattle.kernel_syntax.specs.Program.{IsProgram}
 use Rattle.kernel_syntax.specs.Uses.{Uses, itself, within}
 use Rattle.kernel_syntax.specs.Laws.{FreeIsFew}
 use Rattle.kernel_syntax.proofs.Below.{Below}
-use Rattle.kernel_syntax.proofs.OrderLemmas.{Each-map}
 use Rattle.kernel_syntax.proofs.FreeLemmas.{free_ascends, free_is_used}
 use Rattle.kernel_syntax.proofs.PreorderLemmas.{NamesFew, names_few}
+use Rattle.tree_node.proofs.EnvLemmas.{each_more}
 
 few_at : (p : List Stmt) (i : ℕ) → Each NamesFew p → NamesFew (unwrap_or (slice_get p i) Skip)
 few_at [] i few = tt
@@ -44,7 +44,7 @@ rising_short [] low high up above below = omega arith
 rising_short (j ∷ js) low high up above below =
     let least = above.0 in
     let most = below.0 in
-    let more = rising_short js (j + 1) high up.1 (Each-map (λ (i : ℕ). j < i) (λ (i : ℕ). j + 1 ≤ i) js (λ i h. omega (arith, h)) up.0) below.1 in
+    let more = rising_short js (j + 1) high up.1 (each_more (λ (i : ℕ). j < i) (λ (i : ℕ). j + 1 ≤ i) js (λ i h. omega (arith, h)) up.0) below.1 in
     omega arith
 
 all_above : (js : List ℕ) → Each (λ (j : ℕ). 0 ≤ j) js

@@ -8,7 +8,7 @@ use Rattle.kernel_syntax.specs.Scopes.{stmt_at, names_of}
 use Rattle.kernel_syntax.specs.Program.{IsProgram}
 use Rattle.kernel_syntax.specs.Uses.{IsBodyOutside, Uses}
 use Rattle.kernel_syntax.specs.declared.stmt.Op.{Op}
-use Rattle.kernel_syntax.specs.Arithmetic.{Number, calculated, is_word, is_zero}
+use Rattle.kernel_syntax.specs.Arithmetic.{Number, result_of, is_word, is_zero}
 
 -- those of a statement come from those of its bodies
 abbrev pub FreeUnfolds : Type 0
@@ -48,4 +48,4 @@ RestHasSign = (a b : ℤ) → (pos 0 ≤ℤ a → pos 0 ≤ℤ int_rem a b) × (
 
 -- every integer that an operator gives fits 64 bits
 abbrev pub NumbersFit : Type 0
-NumbersFit = (op : Op) (a b z : ℤ) → IsTrue (is_word a) → calculated op a b ≡ Number z → IsTrue (is_word z)
+NumbersFit = (op : Op) (a b z : ℤ) → IsTrue (is_word a) → result_of op a b ≡ Number z → IsTrue (is_word z)

@@ -12,7 +12,7 @@
 //! Stands on: `tree_node`, for texts, features, their order and how they are spelled. That a table is a program exactly where
 //! a text is read as it stands where texts are read and printed (`oz_show::programs_are_texts`).
 //!
-//! Tests alone show: that threads may share a program.
+//! `threads` shows that threads may share a program.
 //!
 //! Sources: Van Roy and Haridi, *Concepts, Techniques, and Models of Computer Programming*, sections 2.3 (the kernel
 //! language), 2.4.2 (scope), 3.2 (numbers), 4.1, 6.3; its appendix C (how atoms are spelled).
@@ -24,9 +24,8 @@ mod preorder;
 mod program;
 mod stmt;
 mod table;
-#[cfg(test)]
-mod tests;
 mod texts;
+mod threads;
 
 pub use laws::{free_goes_out, free_is_few, free_is_used, free_unfolds, operators_divide};
 pub use program::{Program, ProgramError};

@@ -12,7 +12,7 @@
 //! No call walks over the journal: `take` takes one step, `post` as many as the turn sent messages and there are sites.
 //!
 //! It stands on `site_message` for turns, journals and their laws, and on `tree_node`. `threads` shows that a book may
-//! cross from thread to thread. A test runs two turns to a quiet end; no promise is left to it alone.
+//! cross from thread to thread. A test (`unit_tests`) runs two turns to a quiet end; no promise is left to it alone.
 //!
 //! Sources: the messages in a book are those of Haridi and others, *Efficient Logic Variables for Distributed Computing*
 //! (TOPLAS 21(3), 1999), and Van Roy and others, *Mobile Objects in Distributed Oz* (TOPLAS 19(5), 1997). The book itself
@@ -23,8 +23,6 @@ mod book;
 mod inbox;
 mod outgoing;
 mod posted;
-#[cfg(test)]
-mod tests;
 mod threads;
 
 pub use book::Book;

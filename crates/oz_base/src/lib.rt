@@ -15,7 +15,7 @@
 //!
 //! **Stands on** std alone; `thiserror` derives the texts of the errors, on which nothing rests.
 //!
-//! **Tests alone show** that each call succeeds where nothing fails, and how many calls a text takes:
+//! **Tests alone show** (`unit_tests`) that each call succeeds where nothing fails, and how many calls a text takes:
 //! at most one a byte and one more, and over a reader of std one for each 4,096 bytes that it has.
 #![tactic(auto)]
 
@@ -26,8 +26,6 @@ mod read;
 mod steady;
 mod streams;
 mod system;
-#[cfg(test)]
-mod tests;
 
 pub use memory::{MemSink, MemSource};
 pub use piece::write_piece;

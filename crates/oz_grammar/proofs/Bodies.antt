@@ -12,7 +12,7 @@ use Rattle.kernel_syntax.specs.Scopes.{names_of, features_in}
 use Rattle.kernel_syntax.specs.Program.{IsStmt, IsPattern, IsPlace, IsProgram}
 use Rattle.kernel_syntax.specs.Preorder.{within, one_of, bodies_in, IsBody, AreBodies, HasRoom, whole}
 use Rattle.kernel_syntax.proofs.Below.{Below}
-use Rattle.kernel_syntax.proofs.PreorderLemmas.{each_append, bodies_room}
+use Rattle.kernel_syntax.proofs.PreorderLemmas.{bodies_room}
 use Rattle.oz_grammar.specs.declared.symbol.Symbol.{Symbol}
 use Rattle.oz_grammar.specs.declared.symbol.Symbol.TheVariants as t
 use Rattle.oz_grammar.specs.declared.fault.Fault.{Fault}
@@ -20,7 +20,7 @@ use Rattle.oz_grammar.specs.declared.fault.FaultKind.{FaultKind}
 use Rattle.oz_grammar.specs.declared.fault.FaultKind.TheVariants.{Site}
 use Rattle.oz_grammar.specs.Grammar.{Opening, Locals, ProcValue, Threads, ThreadsAt, Choice, Ifs, Cases, Statement, Simple, Block, Chooses, Tries, Sequence, One, Then, seq_text, program_text}
 use Rattle.oz_grammar.specs.Scoping.{opening_scope, choice_scope, StmtDerives, SeqDerives}
-use Rattle.oz_grammar.specs.Table.{numbered, opening_row, choice_row, stmt_rows, seq_rows, many_rows, seq_numbers}
+use Rattle.oz_grammar.specs.Table.{code_at, opening_row, choice_row, stmt_rows, seq_rows, many_rows, seq_numbers}
 use Rattle.oz_grammar.specs.Faults.{where_so, site_fault, deep_fault, fewer}
 use Rattle.oz_grammar.specs.Check.{check_opening, check_choice, check_stmt, check_seq}
 use Rattle.oz_grammar.specs.Canonical.{name_at, names_from, pattern_tree, local_opening, thread_opening}
@@ -31,6 +31,7 @@ use Rattle.oz_grammar.proofs.CanonicalNames.{length_from, names_append}
 use Rattle.oz_grammar.proofs.CanonicalRows.{plain_tree, IsPlainRow, used, place, row_passes, row_again, row_derives}
 use Rattle.oz_grammar.proofs.CanonicalParts.{locals_pass, from_zero, pattern_pass, pattern_again, pattern_names_again}
 use Rattle.oz_grammar.proofs.CanonicalText.{canonical_reads}
+use Rattle.tree_node.proofs.EachLemmas.{each_append}
 
 -- ---- derivations of rows
 
@@ -114,7 +115,7 @@ thread_opens : (at : Option ℤ) (n : ℕ) → IsPlace at → Opens (thread_open
 thread_opens None n is = record { passes = λ rest behind. refl; scope = refl; row_is = λ c. refl }
 thread_opens (Some z) n is = record { passes = λ rest behind. rw (site_passes z is) refl; scope = refl; row_is = λ c. refl }
 
-block_is : (o : Opening) (q : Sequence) (d n m k : ℕ) (row : CodeId → Stmt) (c : CodeId) (rows : List Stmt) → 1 ≤ d → c ≡ numbered (k + 1) → Opens o n m row → IsSequence q (d - 1) m (k + 1) rows
+block_is : (o : Opening) (q : Sequence) (d n m k : ℕ) (row : CodeId → Stmt) (c : CodeId) (rows : List Stmt) → 1 ≤ d → c ≡ code_at (k + 1) → Opens o n m row → IsSequence q (d - 1) m (k + 1) rows
     → IsStatement (Block o q) d n k (row c ∷ rows)
 block_is o q d n m k row c rows level at opens is =
     let left = level_left d level in
@@ -126,7 +127,7 @@ block_is o q d n m k row c rows level at opens is =
           (subst (λ (e : ℕ). check_seq q e (names_from 0 m) (t.End ∷ rest) behind ≡ behind) (fewer_is d) (is.passes (t.End ∷ rest) behind)) in
           rw left (opens.passes (seq_text q (t.End ∷ rest)) (check_seq q (fewer d) (opening_scope o (names_from 0 n)) (t.End ∷ rest) behind) ∙ inner);
       rows_are =
-          let first : opening_row o (names_from 0 n) (numbered (k + 1)) ≡ row c = opens.row_is (numbered (k + 1)) ∙ ap row (sym at) in
+          let first : opening_row o (names_from 0 n) (code_at (k + 1)) ≡ row c = opens.row_is (code_at (k + 1)) ∙ ap row (sym at) in
           let others : seq_rows q (opening_scope o (names_from 0 n)) (k + 1) ≡ rows = ap (λ (sc : List (List ℕ)). seq_rows q sc (k + 1)) opens.scope ∙ is.rows_are in
           rw (first, others) refl;
     }
@@ -159,7 +160,7 @@ case_branches subject n p le lt is =
       row_is = λ b c. rw (at, again, z) refl;
     }
 
-choice_is : (h : Choice) (q r : Sequence) (d n m k : ℕ) (row : CodeId → CodeId → Stmt) (b c : CodeId) (xs ys : List Stmt) → 1 ≤ d → b ≡ numbered (k + 1) → c ≡ numbered (k + 1 + length xs) → Branches h n m row
+choice_is : (h : Choice) (q r : Sequence) (d n m k : ℕ) (row : CodeId → CodeId → Stmt) (b c : CodeId) (xs ys : List Stmt) → 1 ≤ d → b ≡ code_at (k + 1) → c ≡ code_at (k + 1 + length xs) → Branches h n m row
     → IsSequence q (d - 1) m (k + 1) xs → IsSequence r (d - 1) n (k + 1 + length xs) ys → IsStatement (Chooses h q r) d n k (row b c ∷ (xs ++ ys))
 choice_is h q r d n m k row b c xs ys level at there branches first second =
     let left = level_left d level in
@@ -175,15 +176,15 @@ choice_is h q r d n m k row b c xs ys level at there branches first second =
           rw left (branches.passes _ _ ∙ inner ∙ other);
       rows_are =
           let n_at : k + 1 + length (seq_rows q (choice_scope h (names_from 0 n)) (k + 1)) ≡ k + 1 + length xs = ap (λ (zs : List Stmt). k + 1 + length zs) chosen in
-          let own : choice_row h (names_from 0 n) (numbered (k + 1)) (numbered (k + 1 + length (seq_rows q (choice_scope h (names_from 0 n)) (k + 1)))) ≡ row b c =
-          branches.row_is _ _ ∙ ap (λ (j : CodeId). row j (numbered (k + 1 + length (seq_rows q (choice_scope h (names_from 0 n)) (k + 1))))) (sym at) ∙ ap (λ (j : ℕ). row b (numbered j)) n_at ∙ ap (row b) (sym there) in
+          let own : choice_row h (names_from 0 n) (code_at (k + 1)) (code_at (k + 1 + length (seq_rows q (choice_scope h (names_from 0 n)) (k + 1)))) ≡ row b c =
+          branches.row_is _ _ ∙ ap (λ (j : CodeId). row j (code_at (k + 1 + length (seq_rows q (choice_scope h (names_from 0 n)) (k + 1))))) (sym at) ∙ ap (λ (j : ℕ). row b (code_at j)) n_at ∙ ap (row b) (sym there) in
           let others : seq_rows r (names_from 0 n) (k + 1 + length (seq_rows q (choice_scope h (names_from 0 n)) (k + 1))) ≡ ys = ap (λ (j : ℕ). seq_rows r (names_from 0 n) j) n_at ∙ second.rows_are in
           ap (λ (st : Stmt). st ∷ (seq_rows q (choice_scope h (names_from 0 n)) (k + 1) ++ seq_rows r (names_from 0 n) (k + 1 + length (seq_rows q (choice_scope h (names_from 0 n)) (k + 1))))) own
           ∙ ap (λ (zs : List Stmt). row b c ∷ (zs ++ seq_rows r (names_from 0 n) (k + 1 + length (seq_rows q (choice_scope h (names_from 0 n)) (k + 1))))) chosen
           ∙ ap (λ (zs : List Stmt). row b c ∷ (xs ++ zs)) others;
     }
 
-try_is : (q r : Sequence) (d n k : ℕ) (b c : CodeId) (xs ys : List Stmt) → 1 ≤ d → b ≡ numbered (k + 1) → c ≡ numbered (k + 1 + length xs)
+try_is : (q r : Sequence) (d n k : ℕ) (b c : CodeId) (xs ys : List Stmt) → 1 ≤ d → b ≡ code_at (k + 1) → c ≡ code_at (k + 1 + length xs)
     → IsSequence q (d - 1) n (k + 1) xs → IsSequence r (d - 1) (n + 1) (k + 1 + length xs) ys → IsStatement (Tries q (name_at n) r) d n k (stmt.Try b n c ∷ (xs ++ ys))
 try_is q r d n k b c xs ys level at there first second =
     let left = level_left d level in
@@ -202,9 +203,9 @@ try_is q r d n k b c xs ys level at there first second =
           rw left (inner ∙ other);
       rows_are =
           let n_at : k + 1 + length (seq_rows q (names_from 0 n) (k + 1)) ≡ k + 1 + length xs = ap (λ (zs : List Stmt). k + 1 + length zs) first.rows_are in
-          let own : ◌≡◌ {A = Stmt} (stmt.Try (numbered (k + 1)) (length (names_from 0 n)) (numbered (k + 1 + length (seq_rows q (names_from 0 n) (k + 1))))) (stmt.Try b n c) =
-          ap (λ (j : CodeId). stmt.Try j (length (names_from 0 n)) (numbered (k + 1 + length (seq_rows q (names_from 0 n) (k + 1))))) (sym at)
-          ∙ ap (λ (j : ℕ). stmt.Try b j (numbered (k + 1 + length (seq_rows q (names_from 0 n) (k + 1))))) z ∙ ap (λ (j : ℕ). stmt.Try b n (numbered j)) n_at ∙ ap (stmt.Try b n) (sym there) in
+          let own : ◌≡◌ {A = Stmt} (stmt.Try (code_at (k + 1)) (length (names_from 0 n)) (code_at (k + 1 + length (seq_rows q (names_from 0 n) (k + 1))))) (stmt.Try b n c) =
+          ap (λ (j : CodeId). stmt.Try j (length (names_from 0 n)) (code_at (k + 1 + length (seq_rows q (names_from 0 n) (k + 1))))) (sym at)
+          ∙ ap (λ (j : ℕ). stmt.Try b j (code_at (k + 1 + length (seq_rows q (names_from 0 n) (k + 1))))) z ∙ ap (λ (j : ℕ). stmt.Try b n (code_at j)) n_at ∙ ap (stmt.Try b n) (sym there) in
           let others : seq_rows r (names_from 0 n ++ name_at n ∷ []) (k + 1 + length (seq_rows q (names_from 0 n) (k + 1))) ≡ ys =
           ap (λ (sc : List (List ℕ)). seq_rows r sc (k + 1 + length (seq_rows q (names_from 0 n) (k + 1)))) scope ∙ ap (λ (j : ℕ). seq_rows r (names_from 0 (n + 1)) j) n_at ∙ second.rows_are in
           ap (λ (st : Stmt). st ∷ (seq_rows q (names_from 0 n) (k + 1) ++ seq_rows r (names_from 0 n ++ name_at n ∷ []) (k + 1 + length (seq_rows q (names_from 0 n) (k + 1))))) own
@@ -219,7 +220,7 @@ record Stands (k : ℕ) (b : Body) (behind : ℕ → List Stmt → Type 0) (sts 
   own : List Stmt
   others : List Stmt
   is : sts ≡ own ++ others
-  number : b.code ≡ numbered k
+  number : b.code ≡ code_at k
   derived : Derived b.in_sequence b.levels b.around k own
   more : behind (k + length own) others
 
@@ -237,7 +238,7 @@ stands b st k own others sts bs s at is derived more = record {
   own = st ∷ own;
   others = others;
   is = ap (λ (xs : List Stmt). st ∷ xs) is;
-  number = ap numbered at;
+  number = ap code_at at;
   derived = either b.in_sequence s b.levels b.around k (st ∷ own) derived;
   more = ends_at (k + 1 + length own) (k + length (st ∷ own)) bs others (omega arith) more;
 }
@@ -293,7 +294,7 @@ sequence_stands b (c ∷ []) k sts bs at whole_one two f = absurd (omega arith)
 sequence_stands b (c ∷ c' ∷ cs) k sts bs at whole_one two f =
     let m = many b (k + 1 + length f.own) c' cs bs f.others f.more in
     let n_at : k + 1 + length (stmt_rows f.derived.0 (names_from 0 b.around) (k + 1)) ≡ k + 1 + length f.own = ap (λ (xs : List Stmt). k + 1 + length xs) f.derived.1.rows_are in
-    let ids : ◌≡◌ {A = List CodeId} (numbered (k + 1) ∷ seq_numbers m.sequence (names_from 0 b.around) (k + 1 + length (stmt_rows f.derived.0 (names_from 0 b.around) (k + 1)))) (c ∷ c' ∷ cs) =
+    let ids : ◌≡◌ {A = List CodeId} (code_at (k + 1) ∷ seq_numbers m.sequence (names_from 0 b.around) (k + 1 + length (stmt_rows f.derived.0 (names_from 0 b.around) (k + 1)))) (c ∷ c' ∷ cs) =
     ap (λ (j : CodeId). j ∷ seq_numbers m.sequence (names_from 0 b.around) (k + 1 + length (stmt_rows f.derived.0 (names_from 0 b.around) (k + 1)))) (sym f.number)
     ∙ ap (λ (j : ℕ). c ∷ seq_numbers m.sequence (names_from 0 b.around) j) n_at ∙ ap (λ (js : List CodeId). c ∷ js) m.numbers in
     let is : IsSequence (Then f.derived.0 m.sequence) b.levels b.around k (stmt.Seq (c ∷ c' ∷ cs) ∷ (f.own ++ m.own)) = record {
@@ -308,7 +309,7 @@ sequence_stands b (c ∷ c' ∷ cs) k sts bs at whole_one two f =
       own = stmt.Seq (c ∷ c' ∷ cs) ∷ (f.own ++ m.own);
       others = m.others;
       is = ap (λ (xs : List Stmt). stmt.Seq (c ∷ c' ∷ cs) ∷ xs) (two_own f.own m.own m.others sts f.others f.is m.is);
-      number = ap numbered at;
+      number = ap code_at at;
       derived = subst (λ (one : Bool). Derived one b.levels b.around k (stmt.Seq (c ∷ c' ∷ cs) ∷ (f.own ++ m.own))) (sym whole_one) (Then f.derived.0 m.sequence, is);
       more = ends_at (k + 1 + length f.own + length m.own) (k + length (stmt.Seq (c ∷ c' ∷ cs) ∷ (f.own ++ m.own))) bs m.others (omega (arith, Rattle.std.proofs.Common.length-append f.own m.own)) m.more;
     }

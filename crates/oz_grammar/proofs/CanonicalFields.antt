@@ -24,8 +24,8 @@ use Rattle.oz_grammar.specs.Table.{features_in}
 use Rattle.oz_grammar.specs.Faults.{where_so, where_not, mark_fault, name_fault}
 use Rattle.oz_grammar.specs.Check.{check_fields}
 use Rattle.oz_grammar.specs.Canonical.{name_at, names_from, mark_of, marked, declared_fields}
-use Rattle.kernel_syntax.proofs.PreorderLemmas.{each_append}
 use Rattle.oz_grammar.proofs.CanonicalNames.{next_is_new, names_append}
+use Rattle.tree_node.proofs.EachLemmas.{each_append}
 
 -- ---- features in order
 

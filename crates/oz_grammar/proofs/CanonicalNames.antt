@@ -7,7 +7,7 @@ use Rattle.std.proofs.lemmas.Slice.Eq.{bytes_eq-Decides}
 use Rattle.oz_grammar.specs.declared.symbol.BuiltIn.{BuiltIn}
 use Rattle.oz_grammar.specs.declared.symbol.BuiltIn.TheVariants as built
 use Rattle.oz_grammar.specs.Grammar.{Name}
-use Rattle.oz_grammar.specs.Scoping.{position_of, is_declared, place_of, built_in_at, has_name}
+use Rattle.oz_grammar.specs.Scoping.{position_of, is_declared, declaration_of, built_in_at, has_name}
 use Rattle.oz_grammar.specs.Canonical.{name_at, names_from, built_in_name}
 
 not_equal : (a b : List ℕ) → a ≢ b → bytes_eq a b ≡ false
@@ -52,7 +52,7 @@ position_is count k lt le =
 pub declared_at : (count k : ℕ) → k < count → count ≤ 2 ^ 64 → is_declared (names_from 0 count) (name_at k) ≡ true
 declared_at count k lt le = rw (position_is count k lt le) refl
 
-pub place_at : (count k : ℕ) → k < count → count ≤ 2 ^ 64 → place_of (names_from 0 count) (name_at k) ≡ k
+pub place_at : (count k : ℕ) → k < count → count ≤ 2 ^ 64 → declaration_of (names_from 0 count) (name_at k) ≡ k
 place_at count k lt le = rw (position_is count k lt le) refl
 
 pub length_from : (first count : ℕ) → length (names_from first count) ≡ count

@@ -14,7 +14,7 @@ use Rattle.oz_grammar.specs.declared.symbol.Purpose.TheVariants as purpose
 use Rattle.oz_grammar.specs.declared.fault.Fault.{Fault}
 use Rattle.oz_grammar.specs.declared.fault.FaultKind.TheVariants.{Wide}
 use Rattle.oz_grammar.specs.Grammar.{Name, Opening, Locals, ProcValue, ProcNamed, Threads, ThreadsAt, Choice, Ifs, Cases, opening_text, choice_text}
-use Rattle.oz_grammar.specs.Scoping.{Scope, place_of, pattern_names, opening_scope, choice_scope}
+use Rattle.oz_grammar.specs.Scoping.{Scope, declaration_of, pattern_names, opening_scope, choice_scope}
 use Rattle.oz_grammar.specs.Table.{value_of, features_in, record_pattern, pattern_of, opening_row, choice_row}
 use Rattle.oz_grammar.specs.Faults.{where_not, use_fault, count_fault, site_fault}
 use Rattle.oz_grammar.specs.Check.{check_pattern, check_locals, check_formals, check_opening, check_choice}
@@ -32,14 +32,14 @@ canonical_scope scope = names_from 0 (length scope)
 
 abbrev pub canonical_opening : Opening → Scope → Opening
 canonical_opening (Locals x xs) scope = Locals (name_at (length scope)) (names_from (length scope + 1) (length xs))
-canonical_opening (ProcValue x xs) scope = ProcValue (name_at (place_of scope x)) (names_from (length scope) (length xs))
-canonical_opening (ProcNamed x xs) scope = ProcValue (name_at (place_of scope x)) (names_from (length scope) (length xs))
+canonical_opening (ProcValue x xs) scope = ProcValue (name_at (declaration_of scope x)) (names_from (length scope) (length xs))
+canonical_opening (ProcNamed x xs) scope = ProcValue (name_at (declaration_of scope x)) (names_from (length scope) (length xs))
 canonical_opening Threads scope = Threads
 canonical_opening (ThreadsAt n) scope = ThreadsAt (Some (value_of n))
 
 abbrev pub canonical_choice : Choice → Scope → Choice
-canonical_choice (Ifs x) scope = Ifs (name_at (place_of scope x))
-canonical_choice (Cases x p) scope = Cases (name_at (place_of scope x)) (pattern_tree (length scope) (pattern_of p))
+canonical_choice (Ifs x) scope = Ifs (name_at (declaration_of scope x))
+canonical_choice (Cases x p) scope = Cases (name_at (declaration_of scope x)) (pattern_tree (length scope) (pattern_of p))
 
 -- ---- lists of names
 
@@ -116,14 +116,14 @@ site_pass : (n : Option ℤ) → site_fault n ≡ None → site_fault (Some (val
 site_pass (Some z) e = e
 site_pass None e = cc
 
-proc_again : (scope : Scope) (x : Name) (xs : List Name) → length scope ≤ 12800 → place_of scope x < length scope → length xs ≤ 64 → OpensAgain (ProcValue x xs) scope
+proc_again : (scope : Scope) (x : Name) (xs : List Name) → length scope ≤ 12800 → declaration_of scope x < length scope → length xs ≤ 64 → OpensAgain (ProcValue x xs) scope
 proc_again scope x xs le within most =
     let small : length scope ≤ 2 ^ 64 = omega (arith, le) in
     let l = length_from (length scope) (length xs) in
     let n = length_from 0 (length scope) in
-    let at = place (length scope) small (place_of scope x) within in
+    let at = place (length scope) small (declaration_of scope x) within in
     record {
-      passes = λ rest behind. let pass = from_zero (length scope) (length xs) (t.CloseCurly ∷ rest) behind most (omega (arith, le)) in rw (used (length scope) small (place_of scope x) within) pass;
+      passes = λ rest behind. let pass = from_zero (length scope) (length xs) (t.CloseCurly ∷ rest) behind most (omega (arith, le)) in rw (used (length scope) small (declaration_of scope x) within) pass;
       row = λ c. rw (at, n, l) refl;
       declares = scope_behind scope xs;
     }
@@ -172,8 +172,8 @@ choice_again (Ifs x) scope rest behind le e =
     let small : length scope ≤ 2 ^ 64 = omega (arith, le) in
     let within = used_within scope x (stopped (use_fault scope x) _ behind e).0 in
     record {
-      passes = λ r b. rw (used (length scope) small (place_of scope x) within) refl;
-      row = λ b c. rw (place (length scope) small (place_of scope x) within) refl;
+      passes = λ r b. rw (used (length scope) small (declaration_of scope x) within) refl;
+      row = λ b c. rw (place (length scope) small (declaration_of scope x) within) refl;
       declares = refl;
     }
 choice_again (Cases x p) scope rest behind le e =
@@ -185,8 +185,8 @@ choice_again (Cases x p) scope rest behind le e =
     let names = pattern_names_again (pattern_of p) (length scope) d.is in
     let l = length-append scope (pattern_names p) in
     record {
-      passes = λ r b. let pass = pattern_pass (pattern_of p) (length scope) (names_from 0 (length scope)) (t.Then ∷ r) b d.is (omega (arith, le)) in rw (used (length scope) small (place_of scope x) within) pass;
-      row = λ b c. rw (place (length scope) small (place_of scope x) within, n, pattern_again (pattern_of p) (length scope) d.is) refl;
+      passes = λ r b. let pass = pattern_pass (pattern_of p) (length scope) (names_from 0 (length scope)) (t.Then ∷ r) b d.is (omega (arith, le)) in rw (used (length scope) small (declaration_of scope x) within) pass;
+      row = λ b c. rw (place (length scope) small (declaration_of scope x) within, n, pattern_again (pattern_of p) (length scope) d.is) refl;
       declares = rw (names, scope_more scope (length (scopes.features_in (pattern_of p))), l, d.each) refl;
     }
 

@@ -19,23 +19,23 @@ use Rattle.oz_grammar.specs.declared.symbol.Purpose.TheVariants as purpose
 use Rattle.oz_grammar.specs.declared.fault.Fault.{Fault}
 use Rattle.oz_grammar.specs.declared.fault.FaultKind.TheVariants.{Unbound, Wide}
 use Rattle.oz_grammar.specs.Grammar.{Name, Field, Value, ToVar, Calculates, Selects, Pairs, ToInt, ToAtom, ToRecord, Plain, Skips, Tells, Calls, Raises, plain_text}
-use Rattle.oz_grammar.specs.Scoping.{Scope, is_declared, place_of, built_in_at, fields_of, HasArguments, PlainDerives}
+use Rattle.oz_grammar.specs.Scoping.{Scope, is_declared, declaration_of, built_in_at, fields_of, HasArguments, PlainDerives}
 use Rattle.oz_grammar.specs.Table.{slots_of, features_in, record_row, value_row, built_in_row, call_row, plain_row}
 use Rattle.oz_grammar.specs.Faults.{where_not, use_fault, count_fault}
 use Rattle.oz_grammar.specs.Check.{check_uses, check_arguments, check_plain}
-use Rattle.oz_grammar.specs.Canonical.{name_at, names_from, marked, slot_field, selection_of, tells, calls_built_in, row_symbols}
+use Rattle.oz_grammar.specs.Canonical.{name_at, names_from, marked, slot_field, selection_of, tell_statement, calls_built_in, row_symbols}
 use Rattle.kernel_syntax.proofs.Below.{Below}
 use Rattle.oz_grammar.proofs.CanonicalNames.{declared_at, place_at, built_in_here, no_built_in}
 use Rattle.oz_grammar.proofs.CanonicalFields.{marked_fields, marked_check, used_pass}
 
 -- the statement of a row without bodies
 abbrev pub plain_tree : Stmt → Plain
-plain_tree (stmt.TellVar left right) = tells left (ToVar (name_at right))
-plain_tree (stmt.TellInt left value) = tells left (ToInt (Some value))
-plain_tree (stmt.TellAtom left a) = tells left (ToAtom a)
-plain_tree (stmt.TellRec left label slots) = tells left (ToRecord label (map slot_field slots))
-plain_tree (stmt.Calc left op a b) = tells left (Calculates (name_at a) op (name_at b))
-plain_tree (stmt.Select left source by) = tells left (Selects (name_at source) (selection_of by))
+plain_tree (stmt.TellVar left right) = tell_statement left (ToVar (name_at right))
+plain_tree (stmt.TellInt left value) = tell_statement left (ToInt (Some value))
+plain_tree (stmt.TellAtom left a) = tell_statement left (ToAtom a)
+plain_tree (stmt.TellRec left label slots) = tell_statement left (ToRecord label (map slot_field slots))
+plain_tree (stmt.Calc left op a b) = tell_statement left (Calculates (name_at a) op (name_at b))
+plain_tree (stmt.Select left source by) = tell_statement left (Selects (name_at source) (selection_of by))
 plain_tree (stmt.Call callee args) = Calls (name_at callee) (map name_at args)
 plain_tree (stmt.Browse x) = calls_built_in built.Browse (x ∷ [])
 plain_tree (stmt.Wait x) = calls_built_in built.Wait (x ∷ [])
@@ -77,8 +77,8 @@ call_plain None callee xs = tt
 
 pub row_is_plain : (s : Plain) (scope : Scope) → IsPlainRow (plain_row s scope)
 row_is_plain Skips scope = tt
-row_is_plain (Tells x v) scope = value_plain (place_of scope x) v scope
-row_is_plain (Calls p xs) scope = call_plain (built_in_at scope p) (place_of scope p) (map (place_of scope) xs)
+row_is_plain (Tells x v) scope = value_plain (declaration_of scope x) v scope
+row_is_plain (Calls p xs) scope = call_plain (built_in_at scope p) (declaration_of scope p) (map (declaration_of scope) xs)
 row_is_plain (Raises x) scope = tt
 
 pub plain_symbols : (row : Stmt) (body : CodeId → List Symbol → List Symbol) (rest : List Symbol) → IsPlainRow row → row_symbols body row rest ≡ plain_text (plain_tree row) rest
@@ -113,7 +113,7 @@ module _ (n : ℕ) (small : n ≤ 2 ^ 64) where
   pub used : (k : ℕ) → k < n → use_fault (names_from 0 n) (name_at k) ≡ None
   used k lt = ap (λ (b : Bool). where_not b Unbound) (declared_at n k lt small)
 
-  pub place : (k : ℕ) → k < n → place_of (names_from 0 n) (name_at k) ≡ k
+  pub place : (k : ℕ) → k < n → declaration_of (names_from 0 n) (name_at k) ≡ k
   place k lt = place_at n k lt small
 
   fields_marked : (slots : List (Feature × ℕ)) → map slot_field slots ≡ map marked (map named_slot slots)
@@ -144,7 +144,7 @@ module _ (n : ℕ) (small : n ≤ 2 ^ 64) where
   record_again left label (s ∷ slots) le = refl
 
   -- the places of identifiers
-  places : (ks : List ℕ) → Below n ks → map (place_of (names_from 0 n)) (map name_at ks) ≡ ks
+  places : (ks : List ℕ) → Below n ks → map (declaration_of (names_from 0 n)) (map name_at ks) ≡ ks
   places [] below = refl
   places (k ∷ ks) below =
       let at = place k below.0 in

@@ -6,7 +6,7 @@ use Rattle.oz_grammar.specs.declared.symbol.Symbol.TheVariants as t
 use Rattle.oz_grammar.specs.declared.fault.Fault.{Fault}
 use Rattle.oz_grammar.specs.Grammar.{Statement, Simple, Block, Chooses, Tries, Sequence, One, Then, seq_text}
 use Rattle.oz_grammar.specs.Scoping.{Scope, opening_scope, choice_scope, StmtDerives, SeqDerives}
-use Rattle.oz_grammar.specs.Table.{numbered, plain_row, stmt_rows, seq_rows, many_rows, seq_numbers}
+use Rattle.oz_grammar.specs.Table.{code_at, plain_row, stmt_rows, seq_rows, many_rows, seq_numbers}
 use Rattle.oz_grammar.specs.Faults.{deep_fault, fewer}
 use Rattle.oz_grammar.specs.Check.{check_stmt, check_seq}
 use Rattle.oz_grammar.specs.Canonical.{name_at}
@@ -84,7 +84,7 @@ mutual
             let first = again.passes (seq_text (canonical_seq q (opening_scope o scope)) (t.End ∷ r))
             (check_seq (canonical_seq q (opening_scope o scope)) (fewer d) (opening_scope (canonical_opening o scope) (canonical_scope scope)) (t.End ∷ r) b) in
             rw u.0 (first ∙ inner.1 (t.End ∷ r) b);
-        rows = λ k. rw (again.row (numbered (k + 1)), inner.2 (k + 1)) refl;
+        rows = λ k. rw (again.row (code_at (k + 1)), inner.2 (k + 1)) refl;
       }
   stmt_again (Chooses h q r) d scope rest behind derives e le =
       let u = stopped (deep_fault d) _ _ e in
@@ -104,7 +104,7 @@ mutual
             rw u.0 (chosen ∙ first.1 (t.Else ∷ seq_text (canonical_seq r scope) (t.End ∷ s)) (check_seq (canonical_seq r scope) (fewer d) (canonical_scope scope) (t.End ∷ s) b) ∙ second.passes (t.End ∷ s) b);
         rows = λ k.
             let other : ℕ = k + 1 + length (seq_rows q (choice_scope h scope) (k + 1)) in
-            rw (first.2 (k + 1), second.rows (k + 1 + length (seq_rows q (choice_scope h scope) (k + 1))), again.row (numbered (k + 1)) (numbered (k + 1 + length (seq_rows q (choice_scope h scope) (k + 1))))) refl;
+            rw (first.2 (k + 1), second.rows (k + 1 + length (seq_rows q (choice_scope h scope) (k + 1))), again.row (code_at (k + 1)) (code_at (k + 1 + length (seq_rows q (choice_scope h scope) (k + 1))))) refl;
       }
   stmt_again (Tries q x r) d scope rest behind derives e le =
       let u = stopped (deep_fault d) _ _ e in

@@ -8,7 +8,7 @@ use Rattle.oz_grammar.specs.declared.symbol.Closer.TheVariants as closer
 use Rattle.oz_grammar.specs.Grammar.{Name, ToInt, Skips, Tells, Calls, Raises, Opening, Locals, ProcValue, ProcNamed, Threads, ThreadsAt, Choice, Ifs, Cases, Statement, Simple, Block, Chooses, Tries, Sequence, One, Then, pattern_text, opening_text, choice_text, stmt_text, seq_text, closer_symbol}
 use Rattle.oz_grammar.specs.Scoping.{Scope, built_in_at, opening_scope, choice_scope, StmtDerives, SeqDerives}
 use Rattle.oz_grammar.specs.Faults.{fewer}
-use Rattle.oz_grammar.specs.Points.{First, AfterThread, Later, Point, At, Here, LocalName, ValueOf, CallName, ProcName, CatchName, begun, or_points, is_closer, next_of, start, walk}
+use Rattle.oz_grammar.specs.Points.{First, AfterThread, Later, Point, At, Here, LocalName, ValueOf, CallName, ProcName, CatchName, points_behind_first, or_points, is_closer, next_of, start, walk}
 use Rattle.oz_grammar.specs.Reads.{GoesOn, GoesThrough}
 use Rattle.oz_grammar.proofs.Longer.{names_longer, pattern_longer, stmt_longer, seq_longer}
 use Rattle.oz_grammar.proofs.Leaves.{leads, leaves, leaves_behind, completion, all_completes}
@@ -114,11 +114,11 @@ branches_taken n law h symbols c scope d σ out lt e =
     let same : length symbols ≡ length (seq_text k.seq (t.Else ∷ k.rest)) = ap length k.is in
     branches c scope d σ h symbols out k (law k.rest closer.End scope (fewer d) (At Later c scope d ∷ σ) out (omega arith) k.on)
 
-if_taken : (n : ℕ) (law : SeqLaw n) (symbols : List Symbol) (c : Closer) (scope : Scope) (d : ℕ) (σ : List Point) (out : List Symbol) → length symbols < n → leads (begun c scope d t.If) (leaves symbols) σ ≡ Some out → StmtTaken c scope d σ (t.If ∷ symbols) out
+if_taken : (n : ℕ) (law : SeqLaw n) (symbols : List Symbol) (c : Closer) (scope : Scope) (d : ℕ) (σ : List Point) (out : List Symbol) → length symbols < n → leads (points_behind_first c scope d t.If) (leaves symbols) σ ≡ Some out → StmtTaken c scope d σ (t.If ∷ symbols) out
 if_taken n law (t.Variable x ∷ t.Then ∷ xs) c scope d σ out lt h = branches_taken n law (Ifs x) xs c scope d σ out (omega arith) h
 if_taken n law symbols c scope d σ out lt h = absurd (never out h)
 
-case_taken : (n : ℕ) (law : SeqLaw n) (symbols : List Symbol) (c : Closer) (scope : Scope) (d : ℕ) (σ : List Point) (out : List Symbol) → length symbols < n → leads (begun c scope d t.Case) (leaves symbols) σ ≡ Some out → StmtTaken c scope d σ (t.Case ∷ symbols) out
+case_taken : (n : ℕ) (law : SeqLaw n) (symbols : List Symbol) (c : Closer) (scope : Scope) (d : ℕ) (σ : List Point) (out : List Symbol) → length symbols < n → leads (points_behind_first c scope d t.Case) (leaves symbols) σ ≡ Some out → StmtTaken c scope d σ (t.Case ∷ symbols) out
 case_taken n law (t.Variable x ∷ t.Of ∷ xs) c scope d σ out lt h =
     let k = pattern_taken xs scope (fewer d) (At First closer.End scope (fewer d) ∷ At Later c scope d ∷ σ) out h in
     let long = pattern_longer k.part (t.Then ∷ k.rest) in
@@ -146,14 +146,14 @@ tried c scope d σ symbols out k m = record {
   on = m.handler.on;
 }
 
-try_taken : (n : ℕ) (law : SeqLaw n) (symbols : List Symbol) (c : Closer) (scope : Scope) (d : ℕ) (σ : List Point) (out : List Symbol) → length symbols < n → leads (begun c scope d t.Try) (leaves symbols) σ ≡ Some out → StmtTaken c scope d σ (t.Try ∷ symbols) out
+try_taken : (n : ℕ) (law : SeqLaw n) (symbols : List Symbol) (c : Closer) (scope : Scope) (d : ℕ) (σ : List Point) (out : List Symbol) → length symbols < n → leads (points_behind_first c scope d t.Try) (leaves symbols) σ ≡ Some out → StmtTaken c scope d σ (t.Try ∷ symbols) out
 try_taken n law symbols c scope d σ out lt h =
     let k = law symbols closer.Catch scope (fewer d) (CatchName scope (fewer d) ∷ At Later c scope d ∷ σ) out lt h in
     let long = seq_longer k.seq (t.Catch ∷ k.rest) in
     let same : length symbols ≡ length (seq_text k.seq (t.Catch ∷ k.rest)) = ap length k.is in
     tried c scope d σ symbols out k (handler_taken n law k.rest scope (fewer d) (At Later c scope d ∷ σ) out (omega arith) k.on)
 
-raise_taken : (symbols : List Symbol) (c : Closer) (scope : Scope) (d : ℕ) (σ : List Point) (out : List Symbol) → leads (begun c scope d t.Raise) (leaves symbols) σ ≡ Some out → StmtTaken c scope d σ (t.Raise ∷ symbols) out
+raise_taken : (symbols : List Symbol) (c : Closer) (scope : Scope) (d : ℕ) (σ : List Point) (out : List Symbol) → leads (points_behind_first c scope d t.Raise) (leaves symbols) σ ≡ Some out → StmtTaken c scope d σ (t.Raise ∷ symbols) out
 raise_taken (t.Variable x ∷ t.End ∷ xs) c scope d σ out h = record { stmt = Simple (Raises x); rest = xs; is = refl; derives = tt; on = h }
 raise_taken symbols c scope d σ out h = absurd (never out h)
 
@@ -163,7 +163,7 @@ curly_taken symbols c scope d σ out h = absurd (never out h)
 
 -- ---- sequences
 
-begun_taken : (n : ℕ) (law : SeqLaw n) (x : Symbol) (xs : List Symbol) (c : Closer) (scope : Scope) (d : ℕ) (σ : List Point) (out : List Symbol) → length xs < n → leads (begun c scope d x) (leaves xs) σ ≡ Some out → StmtTaken c scope d σ (x ∷ xs) out
+begun_taken : (n : ℕ) (law : SeqLaw n) (x : Symbol) (xs : List Symbol) (c : Closer) (scope : Scope) (d : ℕ) (σ : List Point) (out : List Symbol) → length xs < n → leads (points_behind_first c scope d x) (leaves xs) σ ≡ Some out → StmtTaken c scope d σ (x ∷ xs) out
 begun_taken n law t.Skip xs c scope d σ out lt h = record { stmt = Simple Skips; rest = xs; is = refl; derives = tt; on = h }
 begun_taken n law (t.Variable x) xs c scope d σ out lt h = tell_taken n law x xs c scope d σ out lt h
 begun_taken n law t.OpenCurly xs c scope d σ out lt h = curly_taken xs c scope d σ out h
@@ -182,7 +182,7 @@ first_step None on σ = refl
 
 first_taken : (n : ℕ) (law : SeqLaw n) (symbols : List Symbol) (c : Closer) (scope : Scope) (d : ℕ) (σ : List Point) (out : List Symbol) → length symbols < suc n → leaves symbols (At First c scope d ∷ σ) ≡ Some out → StmtTaken c scope d σ symbols out
 first_taken n law [] c scope d σ out lt h = absurd (never out h)
-first_taken n law (x ∷ xs) c scope d σ out lt h = begun_taken n law x xs c scope d σ out (omega arith) (sym (first_step (begun c scope d x) (leaves xs) σ) ∙ h)
+first_taken n law (x ∷ xs) c scope d σ out lt h = begun_taken n law x xs c scope d σ out (omega arith) (sym (first_step (points_behind_first c scope d x) (leaves xs) σ) ∙ h)
 
 -- the end of a sequence, or more of it
 abbrev pub TailTaken : Closer → Scope → List Point → List Symbol → List Symbol → Type 0
@@ -213,13 +213,13 @@ then_law n tail symbols c scope d σ out lt s =
     let same : length symbols ≡ length (stmt_text s.stmt s.rest) = ap length s.is in
     then_tail c scope d σ symbols out s (tail s.rest c scope d σ out (omega arith) s.on)
 
-tail_by : (n : ℕ) (law : SeqLaw n) (tail : TailLaw n) (x : Symbol) (xs : List Symbol) (c : Closer) (scope : Scope) (d : ℕ) (σ : List Point) (out : List Symbol) → length (x ∷ xs) < suc n → (leads (begun c scope d x) (leaves xs) σ ≡ Some out) ⊎ ((is_closer c x ≡ true) × (leaves xs σ ≡ Some out)) → TailTaken c scope σ (x ∷ xs) out
+tail_by : (n : ℕ) (law : SeqLaw n) (tail : TailLaw n) (x : Symbol) (xs : List Symbol) (c : Closer) (scope : Scope) (d : ℕ) (σ : List Point) (out : List Symbol) → length (x ∷ xs) < suc n → (leads (points_behind_first c scope d x) (leaves xs) σ ≡ Some out) ⊎ ((is_closer c x ≡ true) × (leaves xs σ ≡ Some out)) → TailTaken c scope σ (x ∷ xs) out
 tail_by n law tail x xs c scope d σ out lt (inl h) = inr (then_law n tail (x ∷ xs) c scope d σ out lt (begun_taken n law x xs c scope d σ out (omega arith) h))
 tail_by n law tail x xs c scope d σ out lt (inr h) = inl (xs, ap (λ (y : Symbol). y ∷ xs) (closer_is c x h.0), h.1)
 
 tail_step : (n : ℕ) (law : SeqLaw n) (tail : TailLaw n) (symbols : List Symbol) (c : Closer) (scope : Scope) (d : ℕ) (σ : List Point) (out : List Symbol) → length symbols < suc n → leaves symbols (At Later c scope d ∷ σ) ≡ Some out → TailTaken c scope σ symbols out
 tail_step n law tail [] c scope d σ out lt h = absurd (never out h)
-tail_step n law tail (x ∷ xs) c scope d σ out lt h = tail_by n law tail x xs c scope d σ out lt (later_split (begun c scope d x) (is_closer c x) (leaves xs) σ out h)
+tail_step n law tail (x ∷ xs) c scope d σ out lt h = tail_by n law tail x xs c scope d σ out lt (later_split (points_behind_first c scope d x) (is_closer c x) (leaves xs) σ out h)
 
 both_laws : (n : ℕ) → SeqLaw n × TailLaw n
 both_laws zero = (λ symbols c scope d σ out lt h. absurd (omega arith), λ symbols c scope d σ out lt h. absurd (omega arith))

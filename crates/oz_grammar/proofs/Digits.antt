@@ -9,11 +9,7 @@ use Rattle.std.proofs.lemmas.Fmt.{decimal_is_IsNumeral, decimal_digit, first_dec
 use Rattle.tree_node.specs.Spelling.{int_text, is_word_byte}
 use Rattle.oz_lexer.specs.Spelling.{are_digits, digits_of}
 use Rattle.oz_grammar.specs.Symbols.{number_after, number_of, is_plain, integer_of}
-
-pub both : (a b : Bool) → (a && b) ≡ true → (a ≡ true) × (b ≡ true)
-both true true e = (refl, refl)
-both true false e = cc
-both false b e = cc
+use Rattle.std.proofs.lemmas.Bool.{and_parts}
 
 -- a digit is a byte from 48 to 57, and its value is what is above 48
 digit : (c : ℕ) → digit_value c < 10 → (is_ascii_digit c ≡ true) × (digit_value c ≡ c - 48)
@@ -65,7 +61,7 @@ are_digits_of (d ∷ ds) some all = all
 words : (ds : List ℕ) → list_all is_ascii_digit ds ≡ true → list_all is_word_byte ds ≡ true
 words [] all = refl
 words (d ∷ ds) all =
-    let two = both (is_ascii_digit d) (list_all is_ascii_digit ds) all in
+    let two = and_parts (is_ascii_digit d) (list_all is_ascii_digit ds) all in
     let here : is_word_byte d ≡ true = grind arith in
     rw (here, words ds two.1) refl
 
@@ -75,7 +71,7 @@ word_bytes n small = words (decimal n) (decimal_of n small).digits
 -- the first digit
 pub first_digit : (ds : List ℕ) → 0 < length ds → list_all is_ascii_digit ds ≡ true → is_ascii_digit (slice_index ds 0) ≡ true
 first_digit [] some all = absurd (omega (arith, some))
-first_digit (d ∷ ds) some all = (both (is_ascii_digit d) (list_all is_ascii_digit ds) all).0
+first_digit (d ∷ ds) some all = (and_parts (is_ascii_digit d) (list_all is_ascii_digit ds) all).0
 
 -- what is known of an integer's spelling
 pub record Integer (z : ℤ) : Type 0 where

@@ -13,7 +13,7 @@ use Rattle.oz_grammar.specs.declared.fault.FaultKind.TheVariants.{Lex, Expected,
 use Rattle.oz_grammar.specs.Grammar.{Name, Mark, AtomMark, IntMark, ByVariable, ByMark, Field, Placed, Marked, Value, ToVar, Calculates, Selects, Pairs, ToInt, ToAtom, ToRecord, Pattern, IntPattern, AtomPattern, RecordPattern, PairPattern, Plain, Skips, Tells, Calls, Raises, Opening, Locals, ProcValue, ProcNamed, Threads, ThreadsAt, Choice, Ifs, Cases, Statement, Simple, Block, Chooses, Tries, Sequence, One, Then, seq_text}
 use Rattle.oz_grammar.specs.Scoping.{Scope, Fields, is_declared, built_in_at, has_feature, has_name, names_in, with_field, feature_of, place_feature, opening_scope, choice_scope}
 use Rattle.oz_grammar.specs.Faults.{or_else, where_not, where_so, number_fault, site_fault, deep_fault, use_fault, count_fault, called_fault, argument_fault, formal_fault, room_fault, feature_fault, mark_fault, name_fault, placed_fault, selected_fault, fewer}
-use Rattle.oz_grammar.specs.Check.{stop, check_fields, check_value, check_pattern, check_locals, check_formals, check_arguments, check_uses, check_call, check_plain, check_opening, check_choice, check_stmt, check_seq, check}
+use Rattle.oz_grammar.specs.Check.{first_fault, check_fields, check_value, check_pattern, check_locals, check_formals, check_arguments, check_uses, check_call, check_plain, check_opening, check_choice, check_stmt, check_seq, check}
 use Rattle.oz_grammar.specs.Points.{Point, At, Here, Used, LocalName, LocalMore, ValueOf, BehindVariable, BehindAtom, SelectionOf, FieldOf, FieldName, CallName, Arguments, Wanted, PatternOf, BehindPattern, PatternTail, ProcName, Formals, SiteHere, CatchName, stmt_fault, used_wrong, value_wrong, field_wrong, by_name, by_number, wrong_at}
 
 -- a kind that is found besides the grammar
@@ -156,7 +156,7 @@ wrong_row (CatchName scope d) x = tt
 abbrev pub Found : Option Fault → Type 0
 Found o = IfSome o (λ g. IsRow g.kind)
 
-stop_row : (o : Option FaultKind) (symbols : List Symbol) (behind : Option Fault) → Rows o → Found behind → Found (stop o symbols behind)
+stop_row : (o : Option FaultKind) (symbols : List Symbol) (behind : Option Fault) → Rows o → Found behind → Found (first_fault o symbols behind)
 stop_row (Some kind) symbols behind p q = p
 stop_row None symbols behind p q = q
 

@@ -27,18 +27,11 @@ use Rattle.oz_grammar.specs.Grammar.{Name, Mark, AtomMark, IntMark, Field, Place
 use Rattle.oz_grammar.specs.Scoping.{Scope, Fields, is_declared, feature_of, place_feature, has_feature, is_less, with_field, fields_behind, fields_of}
 use Rattle.oz_grammar.specs.Table.{features_in}
 use Rattle.oz_grammar.specs.Faults.{or_else, where_so, where_not, number_fault, room_fault, feature_fault, mark_fault, name_fault, placed_fault, fewer}
-use Rattle.oz_grammar.specs.Check.{stop, check_fields}
+use Rattle.oz_grammar.specs.Check.{first_fault, check_fields}
+use Rattle.std.proofs.lemmas.Bool.{or_parts}
+use Rattle.tree_node.proofs.FeatureOrder.{feature_trans}
 
 -- ---- the order of features
-
-below_trans : (f g h : Feature) → feature_cmp f g ≡ Less → feature_cmp g h ≡ Less → feature_cmp f h ≡ Less
-below_trans (feature.Int a) (feature.Int b) (feature.Int c) p q = int_cmp_total.trans a b c p q
-below_trans (feature.Int a) (feature.Int b) (feature.Atom c) p q = refl
-below_trans (feature.Int a) (feature.Atom b) (feature.Int c) p q = cc
-below_trans (feature.Int a) (feature.Atom b) (feature.Atom c) p q = refl
-below_trans (feature.Atom a) (feature.Int b) h p q = cc
-below_trans (feature.Atom a) (feature.Atom b) (feature.Int c) p q = cc
-below_trans (feature.Atom a) (feature.Atom b) (feature.Atom c) p q = nat_list_cmp_total.trans a b c p q
 
 -- of two that differ, one is below
 turned : (o r : Ordering) → o ≡ ordering_reverse r → is_less r ≡ false → is_eq o ≡ false → o ≡ Less
@@ -66,10 +59,10 @@ above (feature.Atom a) (feature.Atom b) low other =
 
 Each-below : (f g : Feature) (gs : List Feature) → feature_cmp f g ≡ Less → Each (λ h. feature_cmp g h ≡ Less) gs → Each (λ h. feature_cmp f h ≡ Less) gs
 Each-below f g [] low up = tt
-Each-below f g (h ∷ gs) low up = (below_trans f g h low up.0, Each-below f g gs low up.1)
+Each-below f g (h ∷ gs) low up = (feature_trans f g h low up.0, Each-below f g gs low up.1)
 
 -- what holds of all, and of one field more, holds of all then
-Each-with_field : (P : Feature × Name → Type 0) (f : Feature) (x : Name) (fields : Fields) → P (f, x) → Each P fields → Each P (with_field f x fields)
+pub Each-with_field : (P : Feature × Name → Type 0) (f : Feature) (x : Name) (fields : Fields) → P (f, x) → Each P fields → Each P (with_field f x fields)
 Each-with_field P f x [] p ps = (p, tt)
 Each-with_field P f x ((g, y) ∷ fields) p ps =
     let chosen : (b : Bool) → Each P (cond b ((f, x) ∷ (g, y) ∷ fields) ((g, y) ∷ with_field f x fields)) = elim [
@@ -98,15 +91,10 @@ first_less Less e = refl
 first_less Equal e = cc
 first_less Greater e = cc
 
-neither : (a b : Bool) → (a || b) ≡ false → (a ≡ false) × (b ≡ false)
-neither false false e = (refl, refl)
-neither false true e = cc
-neither true b e = cc
-
 ascending_with_field : (f : Feature) (x : Name) (fields : Fields) → has_feature fields f ≡ false → AreAscending (features_in fields) → AreAscending (features_in (with_field f x fields))
 ascending_with_field f x [] other up = (tt, tt)
 ascending_with_field f x ((g, y) ∷ fields) other up =
-    let two = neither (equal_feature g f) (has_feature fields f) other in
+    let two = or_parts (equal_feature g f) (has_feature fields f) other in
     let chosen : (b : Bool) → is_less (feature_cmp f g) ≡ b → AreAscending (features_in (cond b ((f, x) ∷ (g, y) ∷ fields) ((g, y) ∷ with_field f x fields))) = elim [
       | true ↦ λ e. let low = first_less (feature_cmp f g) e in ((low, Each-below f g (features_in fields) low up.0), up)
       | false ↦ λ e.
@@ -116,7 +104,7 @@ ascending_with_field f x ((g, y) ∷ fields) other up =
 
 -- ---- fields that pass
 
-pub stopped : (kind : Option FaultKind) (symbols : List Symbol) (behind : Option Fault) → stop kind symbols behind ≡ None → (kind ≡ None) × (behind ≡ None)
+pub stopped : (kind : Option FaultKind) (symbols : List Symbol) (behind : Option Fault) → first_fault kind symbols behind ≡ None → (kind ≡ None) × (behind ≡ None)
 stopped None symbols behind e = (refl, e)
 stopped (Some kind) symbols behind e = cc
 

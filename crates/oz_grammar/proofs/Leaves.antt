@@ -12,7 +12,7 @@ use Rattle.oz_grammar.specs.declared.symbol.Purpose.TheVariants as purpose
 use Rattle.oz_grammar.specs.declared.fault.FaultKind.{FaultKind}
 use Rattle.oz_grammar.specs.Grammar.{closer_symbol}
 use Rattle.oz_grammar.specs.Scoping.{Scope, is_declared, built_in_at, built_in_of}
-use Rattle.oz_grammar.specs.Points.{Stage, First, AfterThread, Later, Point, At, Here, Used, LocalName, LocalMore, ValueOf, BehindVariable, BehindAtom, SelectionOf, FieldOf, FieldName, CallName, Arguments, Wanted, PatternOf, BehindPattern, PatternTail, ProcName, Formals, SiteHere, CatchName, next_call, next_of, wrong_at, moved, run, goes_on, walk}
+use Rattle.oz_grammar.specs.Points.{Stage, First, AfterThread, Later, Point, At, Here, Used, LocalName, LocalMore, ValueOf, BehindVariable, BehindAtom, SelectionOf, FieldOf, FieldName, CallName, Arguments, Wanted, PatternOf, BehindPattern, PatternTail, ProcName, Formals, SiteHere, CatchName, next_call, next_of, wrong_at, run_step, run, goes_on, walk}
 
 abbrev pub leads : Option (List Point) → (List Point → Option (List Symbol)) → List Point → Option (List Symbol)
 leads (Some points) on σ = on (points ++ σ)
@@ -36,7 +36,7 @@ leaves_behind [] a σ τ e = let same : σ ≡ τ = cc in ap (leaves a) same
 leaves_behind (x ∷ front) a [] τ e = absurd cc
 leaves_behind (x ∷ front) a (p ∷ σ) τ e = leads_walked (next_of p x) (wrong_at p x) front a σ τ (λ ρ. leaves_behind front a ρ τ) e
 
-leads_moved : (p : Point) (o : Option (List Point)) (w : Option FaultKind) (x : Symbol) (xs : List Symbol) (σ : List Point) → ((ρ : List Point) → run xs ρ ≡ None → (rest : List Symbol) × (leaves xs ρ ≡ Some rest)) → moved p o w (x ∷ xs) (run xs) σ ≡ None → (rest : List Symbol) × (leads o (leaves xs) σ ≡ Some rest)
+leads_moved : (p : Point) (o : Option (List Point)) (w : Option FaultKind) (x : Symbol) (xs : List Symbol) (σ : List Point) → ((ρ : List Point) → run xs ρ ≡ None → (rest : List Symbol) × (leaves xs ρ ≡ Some rest)) → run_step p o w (x ∷ xs) (run xs) σ ≡ None → (rest : List Symbol) × (leads o (leaves xs) σ ≡ Some rest)
 leads_moved p None w x xs σ ih e = absurd cc
 leads_moved p (Some points) (Some kind) x xs σ ih e = absurd cc
 leads_moved p (Some points) None x xs σ ih e = ih (points ++ σ) e

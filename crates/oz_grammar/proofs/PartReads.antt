@@ -13,19 +13,19 @@ use Rattle.oz_grammar.specs.declared.fault.What.TheVariants as what
 use Rattle.oz_grammar.specs.declared.fault.Fault.{Fault}
 use Rattle.oz_grammar.specs.declared.fault.FaultKind.{FaultKind}
 use Rattle.oz_grammar.specs.Grammar.{Name, Mark, AtomMark, IntMark}
-use Rattle.oz_grammar.specs.Scoping.{Scope, Fields, place_of, with_field, feature_of, place_feature}
+use Rattle.oz_grammar.specs.Scoping.{Scope, Fields, declaration_of, with_field, feature_of, place_feature}
 use Rattle.oz_grammar.specs.Faults.{use_fault, number_fault, count_fault, formal_fault, argument_fault, placed_fault, mark_fault, name_fault, fewer}
-use Rattle.oz_grammar.specs.Check.{stop}
-use Rattle.oz_grammar.specs.Points.{Point, First, Later, At, Here, Used, LocalName, LocalMore, ValueOf, BehindVariable, BehindAtom, SelectionOf, FieldOf, FieldName, Arguments, Wanted, PatternOf, BehindPattern, PatternTail, Formals, SiteHere, expects_sign, is_sign, behind_fields, moved, run}
+use Rattle.oz_grammar.specs.Check.{first_fault}
+use Rattle.oz_grammar.specs.Points.{Point, First, Later, At, Here, Used, LocalName, LocalMore, ValueOf, BehindVariable, BehindAtom, SelectionOf, FieldOf, FieldName, Arguments, Wanted, PatternOf, BehindPattern, PatternTail, Formals, SiteHere, expects_sign, is_sign, behind_fields, run_step, run}
 use Rattle.oz_grammar.specs.Table.{value_of}
-use Rattle.oz_grammar.specs.Reading.{◌>>=◌, refused, unless, sign_at, used_at, selection_at, behind_at, FieldOut, field_name_at, named_field_at, field_at, is_round, fields_at, record_at, value_at, locals_at, first_local_at, formals_at, arguments_at, close_at, wanted_at, PatternOut, pair_pattern_at, record_pattern_at, pattern_at, site_at}
+use Rattle.oz_grammar.specs.Reading.{◌>>=◌, fault_expected, fault_or, sign_at, used_at, selection_at, behind_at, FieldOut, field_name_at, named_field_at, field_at, is_round, fields_at, record_at, value_at, locals_at, first_local_at, formals_at, arguments_at, close_at, wanted_at, PatternOut, pair_pattern_at, record_pattern_at, pattern_at, site_at}
 
 -- the fault of what is read, else what is found behind it
 abbrev pub read_on : {X : Type 0} → Result X Fault → (X → Option Fault) → Option Fault
 read_on (Ok x) behind = behind x
 read_on (Err f) behind = Some f
 
-pub unless_read : {X : Type 0} (wrong : Option FaultKind) (symbols : List Symbol) (r : Result X Fault) (k : X → Option Fault) → stop wrong symbols (read_on r k) ≡ read_on (unless wrong symbols r) k
+pub unless_read : {X : Type 0} (wrong : Option FaultKind) (symbols : List Symbol) (r : Result X Fault) (k : X → Option Fault) → first_fault wrong symbols (read_on r k) ≡ read_on (fault_or wrong symbols r) k
 unless_read None symbols r k = refl
 unless_read (Some kind) symbols r k = refl
 
@@ -35,16 +35,16 @@ chain (Ok x) f m k h = h x
 chain (Err e) f m k h = refl
 
 -- the same where something is wrong first
-pub chain_unless : {X Y : Type 0} (wrong : Option FaultKind) (symbols : List Symbol) (r : Result X Fault) (f : X → Result Y Fault) (k : Y → Option Fault) (m : Option Fault) → m ≡ read_on (r >>= f) k → stop wrong symbols m ≡ read_on (unless wrong symbols r >>= f) k
+pub chain_unless : {X Y : Type 0} (wrong : Option FaultKind) (symbols : List Symbol) (r : Result X Fault) (f : X → Result Y Fault) (k : Y → Option Fault) (m : Option Fault) → m ≡ read_on (r >>= f) k → first_fault wrong symbols m ≡ read_on (fault_or wrong symbols r >>= f) k
 chain_unless None symbols r f k m h = h
 chain_unless (Some kind) symbols r f k m h = refl
 
 pub sign_read : (s : Sign) (symbols : List Symbol) (σ : List Point) → run symbols (Here s ∷ σ) ≡ read_on (sign_at s symbols) (λ rest. run rest σ)
 sign_read s [] σ = refl
-sign_read s (x ∷ xs) σ = elim (is_sign s x) as (λ b. moved (Here s) (cond b (Some []) None) None (x ∷ xs) (run xs) σ ≡ read_on (cond b (Ok xs) (refused (expects_sign s) (x ∷ xs))) (λ rest. run rest σ)) [ true ↦ refl | false ↦ refl ]
+sign_read s (x ∷ xs) σ = elim (is_sign s x) as (λ b. run_step (Here s) (cond b (Some []) None) None (x ∷ xs) (run xs) σ ≡ read_on (cond b (Ok xs) (fault_expected (expects_sign s) (x ∷ xs))) (λ rest. run rest σ)) [ true ↦ refl | false ↦ refl ]
 
 pub used_read : (scope : Scope) (symbols : List Symbol) (σ : List Point) → run symbols (Used scope ∷ σ) ≡ read_on (used_at what.Variable scope symbols) (λ v. run v.1 σ)
-used_read scope (t.Variable x ∷ xs) σ = unless_read (use_fault scope x) (t.Variable x ∷ xs) (Ok (place_of scope x, xs)) (λ v. run v.1 σ)
+used_read scope (t.Variable x ∷ xs) σ = unless_read (use_fault scope x) (t.Variable x ∷ xs) (Ok (declaration_of scope x, xs)) (λ v. run v.1 σ)
 used_read scope [] σ = refl
 used_read scope (x ∷ xs) σ = refl
 
@@ -78,10 +78,10 @@ field_read : (p : Purpose) (scope : Scope) (d room : ℕ) (before : Fields) (nex
 field_read p scope d room before next (t.CloseRound ∷ xs) σ e = absurd cc
 field_read p scope d room before next (t.Variable x ∷ xs) σ e = unless_read (placed_fault p scope room before next x) (t.Variable x ∷ xs) (Ok (with_field (place_feature next) x before, next + 1, xs)) (λ o. run o.2 (FieldOf p scope d (fewer room) o.0 o.1 ∷ σ))
 field_read p scope d room before next (t.Atom a ∷ xs) σ e =
-    ap (stop (mark_fault room before (AtomMark a)) (t.Atom a ∷ xs)) (named_read p scope d room before next (AtomMark a) xs σ)
+    ap (first_fault (mark_fault room before (AtomMark a)) (t.Atom a ∷ xs)) (named_read p scope d room before next (AtomMark a) xs σ)
     ∙ unless_read (mark_fault room before (AtomMark a)) (t.Atom a ∷ xs) (named_field_at p scope before next (AtomMark a) xs) (λ o. run o.2 (FieldOf p scope d (fewer room) o.0 o.1 ∷ σ))
 field_read p scope d room before next (t.Integer n ∷ xs) σ e =
-    ap (stop (mark_fault room before (IntMark n)) (t.Integer n ∷ xs)) (named_read p scope d room before next (IntMark n) xs σ)
+    ap (first_fault (mark_fault room before (IntMark n)) (t.Integer n ∷ xs)) (named_read p scope d room before next (IntMark n) xs σ)
     ∙ unless_read (mark_fault room before (IntMark n)) (t.Integer n ∷ xs) (named_field_at p scope before next (IntMark n) xs) (λ o. run o.2 (FieldOf p scope d (fewer room) o.0 o.1 ∷ σ))
 field_read p scope d room before next [] σ e = refl
 field_read p scope d room before next (x ∷ xs) σ e = refl
@@ -134,7 +134,7 @@ is_proc rest = false
 
 pub value_read : (left : ℕ) (c : Closer) (scope : Scope) (d : ℕ) (symbols : List Symbol) (σ : List Point) → is_proc symbols ≡ false → run symbols (ValueOf c scope d ∷ σ) ≡ read_on (value_at left scope symbols) (λ v. run v.1 (At Later c scope d ∷ σ))
 value_read left c scope d (t.Proc ∷ xs) σ e = absurd cc
-value_read left c scope d (t.Variable y ∷ xs) σ e = chain_unless (use_fault scope y) (t.Variable y ∷ xs) (Ok (place_of scope y, xs)) (λ v. behind_at left v.0 scope v.1) (λ v. run v.1 (At Later c scope d ∷ σ)) (run xs (BehindVariable c scope d ∷ σ)) (behind_read left (place_of scope y) c scope d xs σ)
+value_read left c scope d (t.Variable y ∷ xs) σ e = chain_unless (use_fault scope y) (t.Variable y ∷ xs) (Ok (declaration_of scope y, xs)) (λ v. behind_at left v.0 scope v.1) (λ v. run v.1 (At Later c scope d ∷ σ)) (run xs (BehindVariable c scope d ∷ σ)) (behind_read left (declaration_of scope y) c scope d xs σ)
 value_read left c scope d (t.Integer n ∷ xs) σ e = unless_read (number_fault n) (t.Integer n ∷ xs) (Ok (_, xs)) (λ v. run v.1 (At Later c scope d ∷ σ))
 value_read left c scope d (t.Atom a ∷ xs) σ e = record_read left a c scope d xs σ
 value_read left c scope d [] σ e = refl
@@ -160,7 +160,7 @@ behind_pattern_read a scope d (x ∷ xs) σ = refl
 
 pub pattern_read : (scope : Scope) (d : ℕ) (symbols : List Symbol) (σ : List Point) → run symbols (PatternOf scope d ∷ σ) ≡ read_on (pattern_at scope symbols) (λ m. run m.2 (Here sign.Then ∷ At First closer.Else (scope ++ m.1) d ∷ σ))
 pattern_read scope d (t.Integer n ∷ xs) σ =
-    ap (stop (number_fault n) (t.Integer n ∷ xs)) (no_names scope d xs σ)
+    ap (first_fault (number_fault n) (t.Integer n ∷ xs)) (no_names scope d xs σ)
     ∙ unless_read (number_fault n) (t.Integer n ∷ xs) (Ok (_, [], xs)) (λ m. run m.2 (Here sign.Then ∷ At First closer.Else (scope ++ m.1) d ∷ σ))
 pattern_read scope d (t.Atom a ∷ xs) σ = behind_pattern_read a scope d xs σ
 pattern_read scope d (t.Variable h ∷ xs) σ =
@@ -174,7 +174,7 @@ pattern_read scope d (x ∷ xs) σ = refl
 locals_read : (symbols : List Symbol) (before : List Name) (scope : Scope) (d : ℕ) (σ : List Point) → run symbols (LocalMore scope before d ∷ σ) ≡ read_on (locals_at before symbols) (λ m. run m.1 (At First closer.End (scope ++ m.0) d ∷ σ))
 locals_read (t.In ∷ xs) before scope d σ = refl
 locals_read (t.Variable x ∷ xs) before scope d σ =
-    ap (stop (count_fault (length before)) (t.Variable x ∷ xs)) (locals_read xs (before ++ x ∷ []) scope d σ)
+    ap (first_fault (count_fault (length before)) (t.Variable x ∷ xs)) (locals_read xs (before ++ x ∷ []) scope d σ)
     ∙ unless_read (count_fault (length before)) (t.Variable x ∷ xs) (locals_at (before ++ x ∷ []) xs) (λ m. run m.1 (At First closer.End (scope ++ m.0) d ∷ σ))
 locals_read [] before scope d σ = refl
 locals_read (x ∷ xs) before scope d σ = refl
@@ -187,7 +187,7 @@ first_local_read (x ∷ xs) scope d σ = refl
 pub formals_read : (symbols : List Symbol) (before : List Name) (scope : Scope) (d : ℕ) (σ : List Point) → run symbols (Formals scope before d ∷ σ) ≡ read_on (formals_at before symbols) (λ m. run m.1 (At First closer.End (scope ++ m.0) d ∷ σ))
 formals_read (t.CloseCurly ∷ xs) before scope d σ = refl
 formals_read (t.Variable x ∷ xs) before scope d σ =
-    ap (stop (formal_fault before x) (t.Variable x ∷ xs)) (formals_read xs (before ++ x ∷ []) scope d σ)
+    ap (first_fault (formal_fault before x) (t.Variable x ∷ xs)) (formals_read xs (before ++ x ∷ []) scope d σ)
     ∙ unless_read (formal_fault before x) (t.Variable x ∷ xs) (formals_at (before ++ x ∷ []) xs) (λ m. run m.1 (At First closer.End (scope ++ m.0) d ∷ σ))
 formals_read [] before scope d σ = refl
 formals_read (x ∷ xs) before scope d σ = refl
@@ -198,9 +198,9 @@ one_more before p = omega (arith, length-append before (p ∷ []))
 pub arguments_read : (symbols : List Symbol) (before : List ℕ) (n : ℕ) (scope : Scope) (σ : List Point) → length before ≡ n → run symbols (Arguments scope n ∷ σ) ≡ read_on (arguments_at scope before symbols) (λ m. run m.1 σ)
 arguments_read (t.CloseCurly ∷ xs) before n scope σ e = refl
 arguments_read (t.Variable x ∷ xs) before n scope σ e =
-    ap (stop (argument_fault scope n x) (t.Variable x ∷ xs)) (arguments_read xs (before ++ place_of scope x ∷ []) (n + 1) scope σ (one_more before (place_of scope x) ∙ ap (λ (k : ℕ). k + 1) e))
-    ∙ ap (λ (k : ℕ). stop (argument_fault scope k x) (t.Variable x ∷ xs) (read_on (arguments_at scope (before ++ place_of scope x ∷ []) xs) (λ m. run m.1 σ))) (sym e)
-    ∙ unless_read (argument_fault scope (length before) x) (t.Variable x ∷ xs) (arguments_at scope (before ++ place_of scope x ∷ []) xs) (λ m. run m.1 σ)
+    ap (first_fault (argument_fault scope n x) (t.Variable x ∷ xs)) (arguments_read xs (before ++ declaration_of scope x ∷ []) (n + 1) scope σ (one_more before (declaration_of scope x) ∙ ap (λ (k : ℕ). k + 1) e))
+    ∙ ap (λ (k : ℕ). first_fault (argument_fault scope k x) (t.Variable x ∷ xs) (read_on (arguments_at scope (before ++ declaration_of scope x ∷ []) xs) (λ m. run m.1 σ))) (sym e)
+    ∙ unless_read (argument_fault scope (length before) x) (t.Variable x ∷ xs) (arguments_at scope (before ++ declaration_of scope x ∷ []) xs) (λ m. run m.1 σ)
 arguments_read [] before n scope σ e = refl
 arguments_read (x ∷ xs) before n scope σ e = refl
 
@@ -210,7 +210,7 @@ close_read [] scope σ = refl
 close_read (x ∷ xs) scope σ = refl
 
 wanted_name_read : (symbols : List Symbol) (scope : Scope) (k : ℕ) (σ : List Point) → run symbols (Wanted scope (suc k) ∷ σ) ≡ read_on (used_at what.Variable scope symbols) (λ v. run v.1 (Wanted scope k ∷ σ))
-wanted_name_read (t.Variable x ∷ xs) scope k σ = unless_read (use_fault scope x) (t.Variable x ∷ xs) (Ok (place_of scope x, xs)) (λ v. run v.1 (Wanted scope k ∷ σ))
+wanted_name_read (t.Variable x ∷ xs) scope k σ = unless_read (use_fault scope x) (t.Variable x ∷ xs) (Ok (declaration_of scope x, xs)) (λ v. run v.1 (Wanted scope k ∷ σ))
 wanted_name_read [] scope k σ = refl
 wanted_name_read (x ∷ xs) scope k σ = refl
 

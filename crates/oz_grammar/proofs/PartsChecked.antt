@@ -13,16 +13,16 @@ use Rattle.oz_grammar.specs.declared.fault.FaultKind.{FaultKind}
 use Rattle.oz_grammar.specs.declared.fault.What.{What}
 use Rattle.oz_grammar.specs.declared.fault.What.TheVariants as what
 use Rattle.oz_grammar.specs.Grammar.{Name, Mark, AtomMark, IntMark, ByVariable, ByMark, Field, Placed, Marked, Value, ToVar, Calculates, Selects, Pairs, ToInt, ToAtom, ToRecord, Pattern, IntPattern, AtomPattern, RecordPattern, PairPattern, Plain, Skips, Tells, Calls, Raises, names_text, field_text, fields_text, value_text, pattern_text, plain_text}
-use Rattle.oz_grammar.specs.Scoping.{Scope, Fields, place_of, built_in_at, arity_of, has_name, with_field, feature_of, place_feature, fields_behind, pattern_names, HasArguments, PlainDerives}
+use Rattle.oz_grammar.specs.Scoping.{Scope, Fields, declaration_of, built_in_at, arity_of, has_name, with_field, feature_of, place_feature, fields_behind, pattern_names, HasArguments, PlainDerives}
 use Rattle.oz_grammar.specs.Table.{value_row, pattern_of, call_row, plain_row}
 use Rattle.oz_grammar.specs.Faults.{where_so, number_fault, use_fault, count_fault, called_fault, argument_fault, formal_fault, room_fault, mark_fault, name_fault, placed_fault, fewer, feature_fault}
 use Rattle.oz_grammar.specs.Check.{check_fields, check_value, check_pattern, check_locals, check_formals, check_arguments, check_uses, check_call, check_plain}
-use Rattle.oz_grammar.specs.Reading.{◌>>=◌, unless, used_at, behind_at, field_at, fields_at, record_at, value_at, locals_at, formals_at, arguments_at, wanted_at, Reader, call_of, value_at, pattern_at, kind_at, right_at}
+use Rattle.oz_grammar.specs.Reading.{◌>>=◌, fault_or, used_at, behind_at, field_at, fields_at, record_at, value_at, locals_at, formals_at, arguments_at, wanted_at, Reader, call_of, value_at, pattern_at, kind_at, right_at}
 use Rattle.oz_grammar.proofs.FieldOrder.{stopped, or_neither}
 use Rattle.oz_grammar.proofs.Heads.{ends_value}
 
 -- nothing is wrong there, so that it is read
-pub passes : {A : Type 0} (wrong : Option FaultKind) (symbols : List Symbol) (read : Result A Fault) → wrong ≡ None → unless wrong symbols read ≡ read
+pub passes : {A : Type 0} (wrong : Option FaultKind) (symbols : List Symbol) (read : Result A Fault) → wrong ≡ None → fault_or wrong symbols read ≡ read
 passes None symbols read e = refl
 passes (Some kind) symbols read e = cc
 
@@ -45,8 +45,8 @@ atom_ends left a scope [] e = refl
 atom_ends left a scope (t.OpenRound ∷ rest) e = absurd cc
 atom_ends left a scope (x ∷ rest) e = refl
 
-pub used_read : (w : What) (scope : Scope) (x : Name) (rest : List Symbol) → use_fault scope x ≡ None → used_at w scope (t.Variable x ∷ rest) ≡ Ok (place_of scope x, rest)
-used_read w scope x rest e = passes (use_fault scope x) (t.Variable x ∷ rest) (Ok (place_of scope x, rest)) e
+pub used_read : (w : What) (scope : Scope) (x : Name) (rest : List Symbol) → use_fault scope x ≡ None → used_at w scope (t.Variable x ∷ rest) ≡ Ok (declaration_of scope x, rest)
+used_read w scope x rest e = passes (use_fault scope x) (t.Variable x ∷ rest) (Ok (declaration_of scope x, rest)) e
 
 fields_end : (p : Purpose) (scope : Scope) (room : ℕ) (before : Fields) (next : ℕ) (rest : List Symbol) → fields_at p scope room before next (t.CloseRound ∷ rest) ≡ Ok (before, rest)
 unfolding fields_at
@@ -61,14 +61,14 @@ fields_more p scope room before next (Placed x) rest fields after e = rw e refl
 fields_more p scope room before next (Marked (AtomMark a) x) rest fields after e = rw e refl
 fields_more p scope room before next (Marked (IntMark n) x) rest fields after e = rw e refl
 
-room_of : (room : ℕ) → room_fault room ≡ None → room ≡ suc (fewer room)
+pub room_of : (room : ℕ) → room_fault room ≡ None → room ≡ suc (fewer room)
 room_of zero e = cc
 room_of (suc room) e = refl
 
 placed_room : (p : Purpose) (scope : Scope) (room : ℕ) (before : Fields) (next : ℕ) (x : Name) → placed_fault p scope room before next x ≡ None → room ≡ suc (fewer room)
 placed_room p scope room before next x e = room_of room (or_neither (room_fault room) _ (or_neither (feature_fault room before (place_feature next)) (name_fault p scope before x) e).0).0
 
-mark_room : (room : ℕ) (before : Fields) (m : Mark) → mark_fault room before m ≡ None → room ≡ suc (fewer room)
+pub mark_room : (room : ℕ) (before : Fields) (m : Mark) → mark_fault room before m ≡ None → room ≡ suc (fewer room)
 mark_room room before (AtomMark a) e = room_of room (or_neither (room_fault room) _ e).0
 mark_room room before (IntMark n) e = room_of room (or_neither (room_fault room) _ (or_neither (number_fault n) (feature_fault room before (feature_of (IntMark n))) e).1).0
 
@@ -101,7 +101,7 @@ fields_read (Marked m x ∷ fs) p scope room before next rest behind e =
 value_read : (v : Value) (left : ℕ) (scope : Scope) (rest : List Symbol) (behind : Option Fault) → check_value v scope rest behind ≡ None → ends_value rest ≡ true → value_at left scope (value_text v rest) ≡ Ok (value_row left v scope, rest)
 value_read (ToVar y) left scope rest behind e over =
     let s = stopped (use_fault scope y) _ behind e in
-    then_read (used_at what.Value scope (t.Variable y ∷ rest)) _ (place_of scope y, rest) _ (used_read what.Value scope y rest s.0) (variable_ends left (place_of scope y) scope rest over)
+    then_read (used_at what.Value scope (t.Variable y ∷ rest)) _ (declaration_of scope y, rest) _ (used_read what.Value scope y rest s.0) (variable_ends left (declaration_of scope y) scope rest over)
 value_read (Calculates y o z) left scope rest behind e over =
     let s = stopped (use_fault scope y) _ _ e in
     let u = stopped (use_fault scope z) _ behind s.1 in
@@ -140,30 +140,30 @@ formals_read (x ∷ xs) before rest behind e =
     passes (formal_fault before x) _ _ s.0 ∙ formals_read xs (before ++ x ∷ []) rest behind s.1 ∙ rw (append_assoc before (x ∷ []) xs) refl
 
 arguments_read : (xs : List Name) (scope : Scope) (n : ℕ) (before : List ℕ) (rest : List Symbol) (behind : Option Fault) → length before ≡ n → check_arguments scope n xs (t.CloseCurly ∷ rest) behind ≡ None
-    → arguments_at scope before (names_text xs (t.CloseCurly ∷ rest)) ≡ Ok (before ++ map (place_of scope) xs, rest)
+    → arguments_at scope before (names_text xs (t.CloseCurly ∷ rest)) ≡ Ok (before ++ map (declaration_of scope) xs, rest)
 arguments_read [] scope n before rest behind is e = rw (append-nil before) refl
 arguments_read (x ∷ xs) scope n before rest behind is e =
     let s = stopped (argument_fault scope n x) _ _ e in
     let here : argument_fault scope (length before) x ≡ None = ap (λ (k : ℕ). argument_fault scope k x) is ∙ s.0 in
     passes (argument_fault scope (length before) x) _ _ here
-    ∙ arguments_read xs scope (n + 1) (before ++ place_of scope x ∷ []) rest behind (length-append before (place_of scope x ∷ []) ∙ ap (λ (k : ℕ). k + 1) is) s.1
-    ∙ rw (append_assoc before (place_of scope x ∷ []) (map (place_of scope) xs)) refl
+    ∙ arguments_read xs scope (n + 1) (before ++ declaration_of scope x ∷ []) rest behind (length-append before (declaration_of scope x ∷ []) ∙ ap (λ (k : ℕ). k + 1) is) s.1
+    ∙ rw (append_assoc before (declaration_of scope x ∷ []) (map (declaration_of scope) xs)) refl
 
 wanted_read : (xs : List Name) (scope : Scope) (k : ℕ) (before : List ℕ) (rest : List Symbol) (behind : Option Fault) → length xs ≡ k → check_uses scope xs (t.CloseCurly ∷ rest) behind ≡ None
-    → wanted_at scope k before (names_text xs (t.CloseCurly ∷ rest)) ≡ Ok (before ++ map (place_of scope) xs, rest)
+    → wanted_at scope k before (names_text xs (t.CloseCurly ∷ rest)) ≡ Ok (before ++ map (declaration_of scope) xs, rest)
 wanted_read [] scope zero before rest behind is e = rw (append-nil before) refl
 wanted_read [] scope (suc k) before rest behind is e = absurd cc
 wanted_read (x ∷ xs) scope zero before rest behind is e = absurd cc
 wanted_read (x ∷ xs) scope (suc k) before rest behind is e =
     let s = stopped (use_fault scope x) _ _ e in
     let fewer_left : length xs ≡ k = omega (arith, is) in
-    then_read (used_at what.Variable scope (t.Variable x ∷ names_text xs (t.CloseCurly ∷ rest))) _ (place_of scope x, names_text xs (t.CloseCurly ∷ rest)) _ (used_read what.Variable scope x (names_text xs (t.CloseCurly ∷ rest)) s.0)
-    (wanted_read xs scope k (before ++ place_of scope x ∷ []) rest behind fewer_left s.1 ∙ rw (append_assoc before (place_of scope x ∷ []) (map (place_of scope) xs)) refl)
+    then_read (used_at what.Variable scope (t.Variable x ∷ names_text xs (t.CloseCurly ∷ rest))) _ (declaration_of scope x, names_text xs (t.CloseCurly ∷ rest)) _ (used_read what.Variable scope x (names_text xs (t.CloseCurly ∷ rest)) s.0)
+    (wanted_read xs scope k (before ++ declaration_of scope x ∷ []) rest behind fewer_left s.1 ∙ rw (append_assoc before (declaration_of scope x ∷ []) (map (declaration_of scope) xs)) refl)
 
 -- ---- statements without bodies
 
 call_read : (b : Option BuiltIn) (callee : ℕ) (xs : List Name) (scope : Scope) (rows : List Stmt) (rest : List Symbol) (behind : Option Fault) → HasArguments b xs → check_call b scope xs (t.CloseCurly ∷ rest) behind ≡ None
-    → call_of b callee scope rows (names_text xs (t.CloseCurly ∷ rest)) ≡ Ok (rows ++ call_row b callee (map (place_of scope) xs) ∷ [], rest)
+    → call_of b callee scope rows (names_text xs (t.CloseCurly ∷ rest)) ≡ Ok (rows ++ call_row b callee (map (declaration_of scope) xs) ∷ [], rest)
 call_read (Some b) callee xs scope rows rest behind has e = rw (wanted_read xs scope (arity_of b) [] rest behind has e) refl
 call_read None callee xs scope rows rest behind has e = rw (arguments_read xs scope 0 [] rest behind refl e) refl
 
@@ -183,11 +183,11 @@ pub plain_read : (inner : Reader) (s : Plain) (scope : Scope) (rows : List Stmt)
 plain_read inner Skips scope rows w rest behind derives e over = refl
 plain_read inner (Tells x v) scope rows w rest behind derives e over =
     let s = stopped (use_fault scope x) _ _ e in
-    then_read (used_at what.Statement scope (t.Variable x ∷ t.Equals ∷ value_text v rest)) _ (place_of scope x, t.Equals ∷ value_text v rest) _ (used_read what.Statement scope x (t.Equals ∷ value_text v rest) s.0)
-    (right_read inner v (place_of scope x) scope rows rest behind s.1 over)
+    then_read (used_at what.Statement scope (t.Variable x ∷ t.Equals ∷ value_text v rest)) _ (declaration_of scope x, t.Equals ∷ value_text v rest) _ (used_read what.Statement scope x (t.Equals ∷ value_text v rest) s.0)
+    (right_read inner v (declaration_of scope x) scope rows rest behind s.1 over)
 plain_read inner (Calls p xs) scope rows w rest behind derives e over =
     let s = stopped (called_fault (built_in_at scope p) scope p) _ _ e in
-    passes (called_fault (built_in_at scope p) scope p) _ _ s.0 ∙ call_read (built_in_at scope p) (place_of scope p) xs scope rows rest behind derives s.1
+    passes (called_fault (built_in_at scope p) scope p) _ _ s.0 ∙ call_read (built_in_at scope p) (declaration_of scope p) xs scope rows rest behind derives s.1
 plain_read inner (Raises x) scope rows w rest behind derives e over = let s = stopped (use_fault scope x) _ behind e in rw s.0 refl
 
 -- ---- patterns

@@ -7,33 +7,33 @@ use Rattle.kernel_syntax.specs.declared.stmt.Stmt.TheVariants as stmt
 use Rattle.oz_grammar.specs.declared.symbol.BuiltIn.{BuiltIn}
 use Rattle.oz_grammar.specs.declared.symbol.BuiltIn.TheVariants as built
 use Rattle.oz_grammar.specs.Grammar.{Value, ToVar, Calculates, Selects, Pairs, ToInt, ToAtom, ToRecord, Plain, Skips, Tells, Calls, Raises, Opening, Locals, ProcValue, ProcNamed, Threads, ThreadsAt, Choice, Ifs, Cases, Statement, Simple, Block, Chooses, Tries, Sequence, One, Then}
-use Rattle.oz_grammar.specs.Scoping.{Scope, place_of, built_in_at, fields_of, opening_scope, choice_scope}
-use Rattle.oz_grammar.specs.Table.{numbered, slots_of, record_row, value_row, call_row, plain_row, opening_row, choice_row, stmt_rows, seq_rows, many_rows, seq_numbers}
+use Rattle.oz_grammar.specs.Scoping.{Scope, declaration_of, built_in_at, fields_of, opening_scope, choice_scope}
+use Rattle.oz_grammar.specs.Table.{code_at, slots_of, record_row, value_row, call_row, plain_row, opening_row, choice_row, stmt_rows, seq_rows, many_rows, seq_numbers}
 use Rattle.oz_grammar.specs.Reading.{shift, shift_row, shift_rows}
 
 abbrev mutual
   pub rel_stmt : Statement → Scope → List Stmt
   rel_stmt (Simple s) scope = plain_row s scope ∷ []
-  rel_stmt (Block o q) scope = opening_row o scope (numbered 1) ∷ rel_seq q (opening_scope o scope)
+  rel_stmt (Block o q) scope = opening_row o scope (code_at 1) ∷ rel_seq q (opening_scope o scope)
   rel_stmt (Chooses h q r) scope =
-      choice_row h scope (numbered 1) (numbered (1 + length (rel_seq q (choice_scope h scope))))
+      choice_row h scope (code_at 1) (code_at (1 + length (rel_seq q (choice_scope h scope))))
       ∷ (rel_seq q (choice_scope h scope) ++ rel_seq r scope)
   rel_stmt (Tries q x r) scope =
-      stmt.Try (numbered 1) (length scope) (numbered (1 + length (rel_seq q scope)))
+      stmt.Try (code_at 1) (length scope) (code_at (1 + length (rel_seq q scope)))
       ∷ (rel_seq q scope ++ rel_seq r (scope ++ x ∷ []))
 
   pub rel_seq : Sequence → Scope → List Stmt
   rel_seq (One s) scope = rel_stmt s scope
   rel_seq (Then s q) scope =
-      stmt.Seq (numbered 1 ∷ rel_numbers q scope (1 + length (rel_stmt s scope))) ∷ (rel_stmt s scope ++ rel_many q scope)
+      stmt.Seq (code_at 1 ∷ rel_numbers q scope (1 + length (rel_stmt s scope))) ∷ (rel_stmt s scope ++ rel_many q scope)
 
   pub rel_many : Sequence → Scope → List Stmt
   rel_many (One s) scope = rel_stmt s scope
   rel_many (Then s q) scope = rel_stmt s scope ++ rel_many q scope
 
   pub rel_numbers : Sequence → Scope → ℕ → List CodeId
-  rel_numbers (One s) scope k = numbered k ∷ []
-  rel_numbers (Then s q) scope k = numbered k ∷ rel_numbers q scope (k + length (rel_stmt s scope))
+  rel_numbers (One s) scope k = code_at k ∷ []
+  rel_numbers (Then s q) scope k = code_at k ∷ rel_numbers q scope (k + length (rel_stmt s scope))
 
 pub shift_append : (xs ys : List Stmt) (k : ℕ) → shift_rows k (xs ++ ys) ≡ shift_rows k xs ++ shift_rows (k + length xs) ys
 shift_append [] ys k = let e : k + 0 ≡ k = omega arith in rw e refl
@@ -68,8 +68,8 @@ call_shift None callee xs k = refl
 
 pub plain_shift : (s : Plain) (scope : Scope) (k : ℕ) → shift_row k (plain_row s scope) ≡ plain_row s scope
 plain_shift Skips scope k = refl
-plain_shift (Tells x v) scope k = value_shift (place_of scope x) v scope k
-plain_shift (Calls p xs) scope k = call_shift (built_in_at scope p) (place_of scope p) (map (place_of scope) xs) k
+plain_shift (Tells x v) scope k = value_shift (declaration_of scope x) v scope k
+plain_shift (Calls p xs) scope k = call_shift (built_in_at scope p) (declaration_of scope p) (map (declaration_of scope) xs) k
 plain_shift (Raises x) scope k = refl
 
 pub opening_shift : (o : Opening) (scope : Scope) (k : ℕ) (c : CodeId) → shift_row k (opening_row o scope c) ≡ opening_row o scope (shift k c)
@@ -94,20 +94,20 @@ two_shift row row' k xs ys xs' ys' first chosen other =
 mutual
   pub stmt_shift : (s : Statement) (scope : Scope) (k : ℕ) → shift_rows k (rel_stmt s scope) ≡ stmt_rows s scope k
   stmt_shift (Simple s) scope k = ap (λ (r : Stmt). r ∷ []) (plain_shift s scope k)
-  stmt_shift (Block o q) scope k = rw (opening_shift o scope k (numbered 1), seq_shift q (opening_scope o scope) (k + 1)) refl
+  stmt_shift (Block o q) scope k = rw (opening_shift o scope k (code_at 1), seq_shift q (opening_scope o scope) (k + 1)) refl
   stmt_shift (Chooses h q r) scope k =
       let chosen = seq_shift q (choice_scope h scope) (k + 1) in
       let l : length (rel_seq q (choice_scope h scope)) ≡ length (seq_rows q (choice_scope h scope) (k + 1)) =
       sym (shift_length (rel_seq q (choice_scope h scope)) (k + 1)) ∙ ap length chosen in
       let at : k + (1 + length (rel_seq q (choice_scope h scope))) ≡ k + 1 + length (seq_rows q (choice_scope h scope) (k + 1)) = omega (arith, l) in
-      two_shift _ _ k (rel_seq q (choice_scope h scope)) (rel_seq r scope) _ _ (choice_shift h scope k _ _ ∙ ap (λ (n : ℕ). choice_row h scope (numbered (k + 1)) (numbered n)) at)
+      two_shift _ _ k (rel_seq q (choice_scope h scope)) (rel_seq r scope) _ _ (choice_shift h scope k _ _ ∙ ap (λ (n : ℕ). choice_row h scope (code_at (k + 1)) (code_at n)) at)
       chosen (seq_shift r scope (k + 1 + length (seq_rows q (choice_scope h scope) (k + 1))))
   stmt_shift (Tries q x r) scope k =
       let body = seq_shift q scope (k + 1) in
       let l : length (rel_seq q scope) ≡ length (seq_rows q scope (k + 1)) = sym (shift_length (rel_seq q scope) (k + 1)) ∙ ap length body in
       let at : k + (1 + length (rel_seq q scope)) ≡ k + 1 + length (seq_rows q scope (k + 1)) = omega (arith, l) in
-      two_shift (stmt.Try (numbered 1) (length scope) (numbered (1 + length (rel_seq q scope)))) _ k (rel_seq q scope) (rel_seq r (scope ++ x ∷ [])) _ _
-      (ap (λ (n : ℕ). stmt.Try (numbered (k + 1)) (length scope) (numbered n)) at) body (seq_shift r (scope ++ x ∷ []) (k + 1 + length (seq_rows q scope (k + 1))))
+      two_shift (stmt.Try (code_at 1) (length scope) (code_at (1 + length (rel_seq q scope)))) _ k (rel_seq q scope) (rel_seq r (scope ++ x ∷ [])) _ _
+      (ap (λ (n : ℕ). stmt.Try (code_at (k + 1)) (length scope) (code_at n)) at) body (seq_shift r (scope ++ x ∷ []) (k + 1 + length (seq_rows q scope (k + 1))))
 
   pub seq_shift : (q : Sequence) (scope : Scope) (k : ℕ) → shift_rows k (rel_seq q scope) ≡ seq_rows q scope k
   seq_shift (One s) scope k = stmt_shift s scope k
@@ -116,8 +116,8 @@ mutual
       let l : length (rel_stmt s scope) ≡ length (stmt_rows s scope (k + 1)) = sym (shift_length (rel_stmt s scope) (k + 1)) ∙ ap length first in
       let at : k + (1 + length (rel_stmt s scope)) ≡ k + 1 + length (stmt_rows s scope (k + 1)) = omega (arith, l) in
       let ids = numbers_shift q scope k (1 + length (rel_stmt s scope)) in
-      two_shift (stmt.Seq (numbered 1 ∷ rel_numbers q scope (1 + length (rel_stmt s scope)))) _ k (rel_stmt s scope) (rel_many q scope) _ _
-      (ap (λ (cs : List CodeId). stmt.Seq (numbered (k + 1) ∷ cs)) (ids ∙ ap (λ (n : ℕ). seq_numbers q scope n) at)) first (many_shift q scope (k + 1 + length (stmt_rows s scope (k + 1))))
+      two_shift (stmt.Seq (code_at 1 ∷ rel_numbers q scope (1 + length (rel_stmt s scope)))) _ k (rel_stmt s scope) (rel_many q scope) _ _
+      (ap (λ (cs : List CodeId). stmt.Seq (code_at (k + 1) ∷ cs)) (ids ∙ ap (λ (n : ℕ). seq_numbers q scope n) at)) first (many_shift q scope (k + 1 + length (stmt_rows s scope (k + 1))))
 
   pub many_shift : (q : Sequence) (scope : Scope) (k : ℕ) → shift_rows k (rel_many q scope) ≡ many_rows q scope k
   many_shift (One s) scope k = stmt_shift s scope k
@@ -134,4 +134,4 @@ mutual
       let l : length (rel_stmt s scope) ≡ length (stmt_rows s scope (k + j)) = sym (shift_length (rel_stmt s scope) (k + j)) ∙ ap length first in
       let at : k + (j + length (rel_stmt s scope)) ≡ k + j + length (stmt_rows s scope (k + j)) = omega (arith, l) in
       let ids = numbers_shift q scope k (j + length (rel_stmt s scope)) in
-      ap (λ (cs : List CodeId). numbered (k + j) ∷ cs) (ids ∙ ap (λ (n : ℕ). seq_numbers q scope n) at)
+      ap (λ (cs : List CodeId). code_at (k + j) ∷ cs) (ids ∙ ap (λ (n : ℕ). seq_numbers q scope n) at)

@@ -19,17 +19,17 @@ use Rattle.oz_grammar.specs.declared.fault.Fault.{Fault}
 use Rattle.oz_grammar.specs.declared.fault.FaultKind.{FaultKind}
 use Rattle.oz_grammar.specs.declared.fault.FaultKind.TheVariants.{Deep}
 use Rattle.oz_grammar.specs.Grammar.{Name, Mark, AtomMark, IntMark}
-use Rattle.oz_grammar.specs.Scoping.{Scope, Fields, place_of, built_in_at, arity_of}
+use Rattle.oz_grammar.specs.Scoping.{Scope, Fields, declaration_of, built_in_at, arity_of}
 use Rattle.oz_grammar.specs.Faults.{fault_here}
 use Rattle.oz_grammar.specs.Points.{after, expects_sign, is_sign}
-use Rattle.oz_grammar.specs.Table.{numbered}
-use Rattle.oz_grammar.specs.Reading.{◌>>=◌, refused, unless, sign_at, used_at, selection_at, behind_at, field_name_at, named_field_at, field_at, is_round, fields_at, record_at, value_at, locals_at, first_local_at, formals_at, arguments_at, close_at, wanted_at, Out, Reader, call_of, call_at, raise_at, closes, more_at, with_numbers, seq_from, seq_at, local_at, procedure_at, proc_value_at, proc_at, right_at, tell_at, with_second, branches_at, if_at, pair_pattern_at, record_pattern_at, pattern_at, case_at, site_at, thread_at, caught_at, try_at, kind_at, begins_at, stmt_at}
+use Rattle.oz_grammar.specs.Table.{code_at}
+use Rattle.oz_grammar.specs.Reading.{◌>>=◌, fault_expected, fault_or, sign_at, used_at, selection_at, behind_at, field_name_at, named_field_at, field_at, is_round, fields_at, record_at, value_at, locals_at, first_local_at, formals_at, arguments_at, close_at, wanted_at, Out, Reader, call_of, call_at, raise_at, is_end_of, more_at, with_numbers, seq_from, seq_at, local_at, procedure_at, proc_value_at, proc_at, right_at, tell_at, with_second, branches_at, if_at, pair_pattern_at, record_pattern_at, pattern_at, case_at, site_at, thread_at, caught_at, try_at, kind_at, begins_at, stmt_at}
 
 -- what is read leaves at most n symbols
 abbrev pub Leaves : {X : Type 0} → (X → List Symbol) → ℕ → Result X Fault → Type 0
 Leaves rest n r = IfOk r (λ x. length (rest x) ≤ n)
 
-pub leaves_unless : {X : Type 0} (rest : X → List Symbol) (n : ℕ) (wrong : Option FaultKind) (symbols : List Symbol) (r : Result X Fault) → Leaves rest n r → Leaves rest n (unless wrong symbols r)
+pub leaves_unless : {X : Type 0} (rest : X → List Symbol) (n : ℕ) (wrong : Option FaultKind) (symbols : List Symbol) (r : Result X Fault) → Leaves rest n r → Leaves rest n (fault_or wrong symbols r)
 leaves_unless rest n None symbols r h = h
 leaves_unless rest n (Some kind) symbols r h = tt
 
@@ -48,10 +48,10 @@ itself xs = xs
 
 sign_short : (s : Sign) (symbols : List Symbol) (n : ℕ) → length symbols ≤ n → Leaves itself n (sign_at s symbols)
 sign_short s [] n le = tt
-sign_short s (x ∷ xs) n le = elim (is_sign s x) as (λ b. Leaves itself n (cond b (Ok xs) (refused (expects_sign s) (x ∷ xs)))) [ true ↦ let h : length xs ≤ n = omega arith in h | false ↦ tt ]
+sign_short s (x ∷ xs) n le = elim (is_sign s x) as (λ b. Leaves itself n (cond b (Ok xs) (fault_expected (expects_sign s) (x ∷ xs)))) [ true ↦ let h : length xs ≤ n = omega arith in h | false ↦ tt ]
 
 used_short : (w : What) (scope : Scope) (symbols : List Symbol) (n : ℕ) → length symbols ≤ suc n → Leaves second n (used_at w scope symbols)
-used_short w scope (t.Variable x ∷ xs) n le = leaves_unless second n _ (t.Variable x ∷ xs) (Ok (place_of scope x, xs)) (omega arith)
+used_short w scope (t.Variable x ∷ xs) n le = leaves_unless second n _ (t.Variable x ∷ xs) (Ok (declaration_of scope x, xs)) (omega arith)
 used_short w scope symbols n le = tt
 
 selection_short : (scope : Scope) (symbols : List Symbol) (n : ℕ) → length symbols ≤ n → Leaves second n (selection_at scope symbols)
@@ -122,7 +122,7 @@ formals_short symbols before n le = tt
 
 arguments_short : (symbols : List Symbol) (scope : Scope) (before : List ℕ) (n : ℕ) → length symbols ≤ n → Leaves second n (arguments_at scope before symbols)
 arguments_short (t.CloseCurly ∷ xs) scope before n le = let h : length xs ≤ n = omega arith in h
-arguments_short (t.Variable x ∷ xs) scope before n le = leaves_unless second n _ (t.Variable x ∷ xs) (arguments_at scope (before ++ place_of scope x ∷ []) xs) (arguments_short xs scope (before ++ place_of scope x ∷ []) n (omega arith))
+arguments_short (t.Variable x ∷ xs) scope before n le = leaves_unless second n _ (t.Variable x ∷ xs) (arguments_at scope (before ++ declaration_of scope x ∷ []) xs) (arguments_short xs scope (before ++ declaration_of scope x ∷ []) n (omega arith))
 arguments_short symbols scope before n le = tt
 
 close_short : (symbols : List Symbol) (n : ℕ) → length symbols ≤ n → Leaves itself n (close_at symbols)
@@ -144,7 +144,7 @@ call_short (Some b) callee scope rows symbols n le = leaves_then second second n
 call_short None callee scope rows symbols n le = leaves_then second second n n (arguments_at scope [] symbols) _ (arguments_short symbols scope [] n le) (λ m h. h)
 
 curly_short : (scope : Scope) (rows : List Stmt) (symbols : List Symbol) (n : ℕ) → length symbols ≤ n → Leaves second n (call_at scope rows symbols)
-curly_short scope rows (t.Variable p ∷ xs) n le = leaves_unless second n _ (t.Variable p ∷ xs) _ (call_short (built_in_at scope p) (place_of scope p) scope rows xs n (omega arith))
+curly_short scope rows (t.Variable p ∷ xs) n le = leaves_unless second n _ (t.Variable p ∷ xs) _ (call_short (built_in_at scope p) (declaration_of scope p) scope rows xs n (omega arith))
 curly_short scope rows symbols n le = tt
 
 raise_short : (scope : Scope) (rows : List Stmt) (symbols : List Symbol) (n : ℕ) → length symbols ≤ n → Leaves second n (raise_at scope rows symbols)
@@ -156,9 +156,9 @@ more_short : (inner : Reader) (short : ReaderShort inner) (c : Closer) (place : 
 unfolding more_at
 more_short inner short c place scope zero ids rows symbols n le = tt
 more_short inner short c place scope (suc fuel) ids rows symbols n le =
-    elim (closes c symbols) as (λ b. Leaves third n (cond b (Ok (ids, rows, drop 1 symbols)) (inner scope rows (after c) symbols >>= λ s. more_at inner c place scope fuel (ids ++ numbered (length rows - place) ∷ []) s.0 s.1))) [
+    elim (is_end_of c symbols) as (λ b. Leaves third n (cond b (Ok (ids, rows, drop 1 symbols)) (inner scope rows (after c) symbols >>= λ s. more_at inner c place scope fuel (ids ++ code_at (length rows - place) ∷ []) s.0 s.1))) [
       | true ↦ drop_short symbols n le
-      | false ↦ leaves_then second third n n (inner scope rows (after c) symbols) _ (short scope rows (after c) symbols n (omega arith)) (λ s h. more_short inner short c place scope fuel (ids ++ numbered (length rows - place) ∷ []) s.0 s.1 n h)
+      | false ↦ leaves_then second third n n (inner scope rows (after c) symbols) _ (short scope rows (after c) symbols n (omega arith)) (λ s h. more_short inner short c place scope fuel (ids ++ code_at (length rows - place) ∷ []) s.0 s.1 n h)
     ]
 
 numbered_short : (place n : ℕ) (r : Result (List CodeId × List Stmt × List Symbol) Fault) → Leaves third n r → Leaves second n (with_numbers place r)
@@ -168,9 +168,9 @@ numbered_short place n (Err e) h = tt
 from_short : (inner : Reader) (short : ReaderShort inner) (c : Closer) (place : ℕ) (scope : Scope) (s : Out) (n : ℕ) → length s.1 ≤ n → Leaves second n (seq_from inner c place scope s)
 unfolding seq_from
 from_short inner short c place scope s n le =
-    elim (closes c s.1) as (λ b. Leaves second n (cond b (Ok (s.0, drop 1 s.1)) (with_numbers place (more_at inner c place scope (length s.1 + 1) (numbered 1 ∷ []) (insert s.0 place (stmt.Seq [])) s.1)))) [
+    elim (is_end_of c s.1) as (λ b. Leaves second n (cond b (Ok (s.0, drop 1 s.1)) (with_numbers place (more_at inner c place scope (length s.1 + 1) (code_at 1 ∷ []) (insert s.0 place (stmt.Seq [])) s.1)))) [
       | true ↦ drop_short s.1 n le
-      | false ↦ numbered_short place n (more_at inner c place scope (length s.1 + 1) (numbered 1 ∷ []) (insert s.0 place (stmt.Seq [])) s.1) (more_short inner short c place scope (length s.1 + 1) (numbered 1 ∷ []) (insert s.0 place (stmt.Seq [])) s.1 n le)
+      | false ↦ numbered_short place n (more_at inner c place scope (length s.1 + 1) (code_at 1 ∷ []) (insert s.0 place (stmt.Seq [])) s.1) (more_short inner short c place scope (length s.1 + 1) (code_at 1 ∷ []) (insert s.0 place (stmt.Seq [])) s.1 n le)
     ]
 
 seq_short : (inner : Reader) (short : ReaderShort inner) (c : Closer) (scope : Scope) (rows : List Stmt) (w : What) (symbols : List Symbol) (n : ℕ) → length symbols ≤ n → Leaves second n (seq_at inner c scope rows w symbols)
@@ -268,5 +268,5 @@ kind_short inner short scope rows w symbols n le = tt
 
 pub stmt_short : (d : ℕ) → ReaderShort (stmt_at d)
 unfolding stmt_at
-stmt_short zero scope rows w symbols n le = elim (begins_at symbols) as (λ b. Leaves {X = Out} second n (cond b (Err (fault_here Deep symbols)) (refused w symbols))) [ true ↦ tt | false ↦ tt ]
+stmt_short zero scope rows w symbols n le = elim (begins_at symbols) as (λ b. Leaves {X = Out} second n (cond b (Err (fault_here Deep symbols)) (fault_expected w symbols))) [ true ↦ tt | false ↦ tt ]
 stmt_short (suc d) scope rows w symbols n le = kind_short (stmt_at d) (stmt_short d) scope rows w symbols n le

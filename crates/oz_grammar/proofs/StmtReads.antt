@@ -15,12 +15,12 @@ use Rattle.oz_grammar.specs.declared.fault.What.TheVariants as what
 use Rattle.oz_grammar.specs.declared.fault.Fault.{Fault}
 use Rattle.oz_grammar.specs.declared.fault.FaultKind.TheVariants.{Deep}
 use Rattle.oz_grammar.specs.Grammar.{Name}
-use Rattle.oz_grammar.specs.Scoping.{Scope, place_of, built_in_at, arity_of}
+use Rattle.oz_grammar.specs.Scoping.{Scope, declaration_of, built_in_at, arity_of}
 use Rattle.oz_grammar.specs.Faults.{use_fault, called_fault, fault_here}
-use Rattle.oz_grammar.specs.Check.{stop}
-use Rattle.oz_grammar.specs.Points.{Stage, First, AfterThread, Later, Point, At, Here, Used, LocalName, ValueOf, CallName, PatternOf, ProcName, Formals, CatchName, after, expects_stmt, begins, beside, next_call, refusal, moved, run, start}
-use Rattle.oz_grammar.specs.Table.{numbered}
-use Rattle.oz_grammar.specs.Reading.{◌>>=◌, refused, sign_at, used_at, value_at, first_local_at, formals_at, arguments_at, wanted_at, pattern_at, site_at, Out, Reader, call_of, call_at, raise_at, closes, more_at, with_numbers, seq_from, seq_at, body_at, local_at, procedure_at, proc_value_at, proc_at, right_at, tell_at, with_second, branches_at, if_at, case_at, thread_at, caught_at, try_at, kind_at, stmt_at, shift_rows, program_at}
+use Rattle.oz_grammar.specs.Check.{first_fault}
+use Rattle.oz_grammar.specs.Points.{Stage, First, AfterThread, Later, Point, At, Here, Used, LocalName, ValueOf, CallName, PatternOf, ProcName, Formals, CatchName, after, expects_stmt, begins_statement, beside, next_call, refusal, run_step, run, start}
+use Rattle.oz_grammar.specs.Table.{code_at}
+use Rattle.oz_grammar.specs.Reading.{◌>>=◌, fault_expected, sign_at, used_at, value_at, first_local_at, formals_at, arguments_at, wanted_at, pattern_at, site_at, Out, Reader, call_of, call_at, raise_at, is_end_of, more_at, with_numbers, seq_from, seq_at, body_at, local_at, procedure_at, proc_value_at, proc_at, right_at, tell_at, with_second, branches_at, if_at, case_at, thread_at, caught_at, try_at, kind_at, stmt_at, shift_rows, program_at}
 use Rattle.oz_grammar.proofs.TreeRuns.{closer_run}
 use Rattle.oz_grammar.proofs.Derivations.{closer_is, no_truth}
 use Rattle.oz_grammar.proofs.Shorter.{ReaderShort, told_at, stmt_short}
@@ -35,11 +35,11 @@ first_beside : (c : Closer) (scope : Scope) (d : ℕ) (symbols : List Symbol) �
 first_beside c scope d [] = tt
 first_beside c scope d (x ∷ xs) = refl
 
-later_beside : (c : Closer) (scope : Scope) (d : ℕ) (symbols : List Symbol) → closes c symbols ≡ false → NothingBeside Later c scope d symbols
+later_beside : (c : Closer) (scope : Scope) (d : ℕ) (symbols : List Symbol) → is_end_of c symbols ≡ false → NothingBeside Later c scope d symbols
 later_beside c scope d [] e = tt
 later_beside c scope d (x ∷ xs) e = rw e refl
 
-closes_run : (c : Closer) (scope : Scope) (d : ℕ) (symbols : List Symbol) (σ : List Point) → closes c symbols ≡ true → run symbols (At Later c scope d ∷ σ) ≡ run (drop 1 symbols) σ
+closes_run : (c : Closer) (scope : Scope) (d : ℕ) (symbols : List Symbol) (σ : List Point) → is_end_of c symbols ≡ true → run symbols (At Later c scope d ∷ σ) ≡ run (drop 1 symbols) σ
 closes_run c scope d [] σ e = absurd (no_truth e)
 closes_run c scope d (x ∷ xs) σ e = ap (λ (y : Symbol). run (y ∷ xs) (At Later c scope d ∷ σ)) (closer_is c x e) ∙ closer_run c scope d xs σ
 
@@ -73,13 +73,13 @@ more_read : (inner : Reader) (d : ℕ) (law : ReaderLaw inner d) (short : Reader
 unfolding more_at
 more_read inner d law short some c place scope zero ids rows symbols σ lt = absurd (omega arith)
 more_read inner d law short some c place scope (suc fuel) ids rows symbols σ lt =
-    let chosen : (b : Bool) → closes c symbols ≡ b → run symbols (At Later c scope d ∷ σ) ≡ read_on (cond b (Ok (ids, rows, drop 1 symbols)) (inner scope rows (after c) symbols >>= λ s. more_at inner c place scope fuel (ids ++ numbered (length rows - place) ∷ []) s.0 s.1)) (λ m. run m.2 σ) = elim [
+    let chosen : (b : Bool) → is_end_of c symbols ≡ b → run symbols (At Later c scope d ∷ σ) ≡ read_on (cond b (Ok (ids, rows, drop 1 symbols)) (inner scope rows (after c) symbols >>= λ s. more_at inner c place scope fuel (ids ++ code_at (length rows - place) ∷ []) s.0 s.1)) (λ m. run m.2 σ) = elim [
       | true ↦ λ e. closes_run c scope d symbols σ e
       | false ↦ λ e.
           law Later c scope rows (after c) symbols σ refl (later_beside c scope d symbols e)
-          ∙ chain_if (λ s. length s.1 < fuel) (inner scope rows (after c) symbols) (λ s. more_at inner c place scope fuel (ids ++ numbered (length rows - place) ∷ []) s.0 s.1) (λ s. run s.1 (At Later c scope d ∷ σ)) (λ m. run m.2 σ) (shorter_by inner short some scope rows (after c) symbols fuel (omega arith))
-          (λ s l. more_read inner d law short some c place scope fuel (ids ++ numbered (length rows - place) ∷ []) s.0 s.1 σ l)
-    ] in chosen (closes c symbols) refl
+          ∙ chain_if (λ s. length s.1 < fuel) (inner scope rows (after c) symbols) (λ s. more_at inner c place scope fuel (ids ++ code_at (length rows - place) ∷ []) s.0 s.1) (λ s. run s.1 (At Later c scope d ∷ σ)) (λ m. run m.2 σ) (shorter_by inner short some scope rows (after c) symbols fuel (omega arith))
+          (λ s l. more_read inner d law short some c place scope fuel (ids ++ code_at (length rows - place) ∷ []) s.0 s.1 σ l)
+    ] in chosen (is_end_of c symbols) refl
 
 numbers_read : (place : ℕ) (r : Result (List CodeId × List Stmt × List Symbol) Fault) (σ : List Point) → read_on r (λ m. run m.2 σ) ≡ read_on (with_numbers place r) (λ s. run s.1 σ)
 numbers_read place (Ok m) σ = refl
@@ -88,12 +88,12 @@ numbers_read place (Err e) σ = refl
 from_read : (inner : Reader) (d : ℕ) (law : ReaderLaw inner d) (short : ReaderShort inner) (some : ReadsSome inner) (c : Closer) (place : ℕ) (scope : Scope) (s : Out) (σ : List Point) → run s.1 (At Later c scope d ∷ σ) ≡ read_on (seq_from inner c place scope s) (λ o. run o.1 σ)
 unfolding seq_from
 from_read inner d law short some c place scope s σ =
-    let chosen : (b : Bool) → closes c s.1 ≡ b → run s.1 (At Later c scope d ∷ σ) ≡ read_on (cond b (Ok (s.0, drop 1 s.1)) (with_numbers place (more_at inner c place scope (length s.1 + 1) (numbered 1 ∷ []) (insert s.0 place (stmt.Seq [])) s.1))) (λ o. run o.1 σ) = elim [
+    let chosen : (b : Bool) → is_end_of c s.1 ≡ b → run s.1 (At Later c scope d ∷ σ) ≡ read_on (cond b (Ok (s.0, drop 1 s.1)) (with_numbers place (more_at inner c place scope (length s.1 + 1) (code_at 1 ∷ []) (insert s.0 place (stmt.Seq [])) s.1))) (λ o. run o.1 σ) = elim [
       | true ↦ λ e. closes_run c scope d s.1 σ e
       | false ↦ λ e.
-          more_read inner d law short some c place scope (length s.1 + 1) (numbered 1 ∷ []) (insert s.0 place (stmt.Seq [])) s.1 σ (omega arith)
-          ∙ numbers_read place (more_at inner c place scope (length s.1 + 1) (numbered 1 ∷ []) (insert s.0 place (stmt.Seq [])) s.1) σ
-    ] in chosen (closes c s.1) refl
+          more_read inner d law short some c place scope (length s.1 + 1) (code_at 1 ∷ []) (insert s.0 place (stmt.Seq [])) s.1 σ (omega arith)
+          ∙ numbers_read place (more_at inner c place scope (length s.1 + 1) (code_at 1 ∷ []) (insert s.0 place (stmt.Seq [])) s.1) σ
+    ] in chosen (is_end_of c s.1) refl
 
 seq_read : (inner : Reader) (d : ℕ) (law : ReaderLaw inner d) (short : ReaderShort inner) (some : ReadsSome inner) → BodyLaw inner d
 unfolding seq_at
@@ -114,7 +114,7 @@ local_read inner d body scope rows symbols τ =
     ∙ chain (first_local_at symbols) _ (λ m. run m.1 (At First closer.End (scope ++ m.0) d ∷ τ)) (λ s. run s.1 τ) (λ m. body First closer.End (scope ++ m.0) _ what.Statement m.1 τ refl (first_beside closer.End (scope ++ m.0) d m.1))
 
 proc_name_read : (scope : Scope) (d : ℕ) (symbols : List Symbol) (τ : List Point) → run symbols (ProcName scope d ∷ τ) ≡ read_on (used_at what.Variable scope symbols) (λ v. run v.1 (Formals scope [] d ∷ τ))
-proc_name_read scope d (t.Variable x ∷ xs) τ = unless_read (use_fault scope x) (t.Variable x ∷ xs) (Ok (place_of scope x, xs)) (λ v. run v.1 (Formals scope [] d ∷ τ))
+proc_name_read scope d (t.Variable x ∷ xs) τ = unless_read (use_fault scope x) (t.Variable x ∷ xs) (Ok (declaration_of scope x, xs)) (λ v. run v.1 (Formals scope [] d ∷ τ))
 proc_name_read scope d [] τ = refl
 proc_name_read scope d (x ∷ xs) τ = refl
 
@@ -140,11 +140,11 @@ right_read inner d body left c scope rows (t.Proc ∷ xs) σ = proc_value_read i
 right_read inner d body left c scope rows [] σ = refl
 right_read inner d body left c scope rows (x ∷ xs) σ = value_read left c scope (suc d) (x ∷ xs) σ refl ∙ told_read inner left c scope rows (suc d) (value_at left scope (x ∷ xs)) σ
 
-tell_read : (inner : Reader) (d : ℕ) (body : BodyLaw inner d) (c : Closer) (scope : Scope) (rows : List Stmt) (x : Name) (xs : List Symbol) (σ : List Point) → stop (use_fault scope x) (t.Variable x ∷ xs) (run xs (Here sign.Equals ∷ ValueOf c scope (suc d) ∷ σ)) ≡ read_on (tell_at inner scope rows (t.Variable x ∷ xs)) (λ s. run s.1 (At Later c scope (suc d) ∷ σ))
+tell_read : (inner : Reader) (d : ℕ) (body : BodyLaw inner d) (c : Closer) (scope : Scope) (rows : List Stmt) (x : Name) (xs : List Symbol) (σ : List Point) → first_fault (use_fault scope x) (t.Variable x ∷ xs) (run xs (Here sign.Equals ∷ ValueOf c scope (suc d) ∷ σ)) ≡ read_on (tell_at inner scope rows (t.Variable x ∷ xs)) (λ s. run s.1 (At Later c scope (suc d) ∷ σ))
 tell_read inner d body c scope rows x xs σ =
-    chain_unless (use_fault scope x) (t.Variable x ∷ xs) (Ok (place_of scope x, xs)) (λ v. sign_at sign.Equals v.1 >>= λ rest. right_at inner v.0 scope rows rest) (λ s. run s.1 (At Later c scope (suc d) ∷ σ)) (run xs (Here sign.Equals ∷ ValueOf c scope (suc d) ∷ σ))
+    chain_unless (use_fault scope x) (t.Variable x ∷ xs) (Ok (declaration_of scope x, xs)) (λ v. sign_at sign.Equals v.1 >>= λ rest. right_at inner v.0 scope rows rest) (λ s. run s.1 (At Later c scope (suc d) ∷ σ)) (run xs (Here sign.Equals ∷ ValueOf c scope (suc d) ∷ σ))
     (sign_read sign.Equals xs (ValueOf c scope (suc d) ∷ σ)
-    ∙ chain (sign_at sign.Equals xs) _ (λ rest. run rest (ValueOf c scope (suc d) ∷ σ)) (λ s. run s.1 (At Later c scope (suc d) ∷ σ)) (λ rest. right_read inner d body (place_of scope x) c scope rows rest σ))
+    ∙ chain (sign_at sign.Equals xs) _ (λ rest. run rest (ValueOf c scope (suc d) ∷ σ)) (λ s. run s.1 (At Later c scope (suc d) ∷ σ)) (λ rest. right_read inner d body (declaration_of scope x) c scope rows rest σ))
 
 call_read : (o : Option BuiltIn) (callee : ℕ) (scope : Scope) (rows : List Stmt) (symbols : List Symbol) (τ : List Point) → run symbols (next_call scope o ++ τ) ≡ read_on (call_of o callee scope rows symbols) (λ s. run s.1 τ)
 call_read (Some b) callee scope rows symbols τ = wanted_read (arity_of b) scope [] symbols τ ∙ chain (wanted_at scope (arity_of b) [] symbols) _ (λ m. run m.1 τ) (λ s. run s.1 τ) (λ m. refl)
@@ -152,8 +152,8 @@ call_read None callee scope rows symbols τ = arguments_read symbols [] 0 scope 
 
 curly_read : (scope : Scope) (rows : List Stmt) (symbols : List Symbol) (τ : List Point) → run symbols (CallName scope ∷ τ) ≡ read_on (call_at scope rows symbols) (λ s. run s.1 τ)
 curly_read scope rows (t.Variable p ∷ xs) τ =
-    ap (stop (called_fault (built_in_at scope p) scope p) (t.Variable p ∷ xs)) (call_read (built_in_at scope p) (place_of scope p) scope rows xs τ)
-    ∙ unless_read (called_fault (built_in_at scope p) scope p) (t.Variable p ∷ xs) (call_of (built_in_at scope p) (place_of scope p) scope rows xs) (λ s. run s.1 τ)
+    ap (first_fault (called_fault (built_in_at scope p) scope p) (t.Variable p ∷ xs)) (call_read (built_in_at scope p) (declaration_of scope p) scope rows xs τ)
+    ∙ unless_read (called_fault (built_in_at scope p) scope p) (t.Variable p ∷ xs) (call_of (built_in_at scope p) (declaration_of scope p) scope rows xs) (λ s. run s.1 τ)
 curly_read scope rows [] τ = refl
 curly_read scope rows (x ∷ xs) τ = refl
 
@@ -201,15 +201,15 @@ caught_read scope d (x ∷ xs) τ = refl
 
 try_read : (inner : Reader) (d : ℕ) (body : BodyLaw inner d) (scope : Scope) (rows : List Stmt) (symbols : List Symbol) (τ : List Point) → run symbols (At First closer.Catch scope d ∷ CatchName scope d ∷ τ) ≡ read_on (try_at inner scope rows symbols) (λ s. run s.1 τ)
 try_read inner d body scope rows symbols τ =
-    body First closer.Catch scope (rows ++ stmt.Try (numbered 1) (length scope) (numbered 0) ∷ []) what.Statement symbols (CatchName scope d ∷ τ) refl (first_beside closer.Catch scope d symbols)
-    ∙ chain (seq_at inner closer.Catch scope (rows ++ stmt.Try (numbered 1) (length scope) (numbered 0) ∷ []) what.Statement symbols) _ (λ b. run b.1 (CatchName scope d ∷ τ)) (λ s. run s.1 τ) (λ b.
+    body First closer.Catch scope (rows ++ stmt.Try (code_at 1) (length scope) (code_at 0) ∷ []) what.Statement symbols (CatchName scope d ∷ τ) refl (first_beside closer.Catch scope d symbols)
+    ∙ chain (seq_at inner closer.Catch scope (rows ++ stmt.Try (code_at 1) (length scope) (code_at 0) ∷ []) what.Statement symbols) _ (λ b. run b.1 (CatchName scope d ∷ τ)) (λ s. run s.1 τ) (λ b.
     caught_read scope d b.1 τ
     ∙ chain (caught_at b.1) _ (λ x. run x.1 (Here sign.Then ∷ At First closer.End (scope ++ x.0 ∷ []) d ∷ τ)) (λ s. run s.1 τ) (λ x.
     sign_read sign.Then x.1 (At First closer.End (scope ++ x.0 ∷ []) d ∷ τ)
     ∙ chain (sign_at sign.Then x.1) _ (λ rest. run rest (At First closer.End (scope ++ x.0 ∷ []) d ∷ τ)) (λ s. run s.1 τ) (λ rest. body First closer.End (scope ++ x.0 ∷ []) (with_second (length rows) b.0) what.Statement rest τ refl (first_beside closer.End (scope ++ x.0 ∷ []) d rest))))
 
 -- no statement begins here
-no_stmt : (stage : Stage) (c : Closer) (scope : Scope) (d : ℕ) (w : What) (x : Symbol) (xs : List Symbol) (σ : List Point) → begins x ≡ false → w ≡ expects_stmt stage c → beside stage c scope d x ≡ None → run (x ∷ xs) (At stage c scope d ∷ σ) ≡ Some (fault_here (refusal w (x ∷ xs)) (x ∷ xs))
+no_stmt : (stage : Stage) (c : Closer) (scope : Scope) (d : ℕ) (w : What) (x : Symbol) (xs : List Symbol) (σ : List Point) → begins_statement x ≡ false → w ≡ expects_stmt stage c → beside stage c scope d x ≡ None → run (x ∷ xs) (At stage c scope d ∷ σ) ≡ Some (fault_here (refusal w (x ∷ xs)) (x ∷ xs))
 no_stmt stage c scope d w t.Skip xs σ b e none = absurd (no_truth (sym b))
 no_stmt stage c scope d w (t.Variable x) xs σ b e none = absurd (no_truth (sym b))
 no_stmt stage c scope d w t.OpenCurly xs σ b e none = absurd (no_truth (sym b))
@@ -221,7 +221,7 @@ no_stmt stage c scope d w t.If xs σ b e none = absurd (no_truth (sym b))
 no_stmt stage c scope d w t.Case xs σ b e none = absurd (no_truth (sym b))
 no_stmt stage c scope d w t.Try xs σ b e none = absurd (no_truth (sym b))
 no_stmt stage c scope d w x xs σ b e none =
-    ap (λ (o : Option (List Point)). moved (At stage c scope d) o None (x ∷ xs) (run xs) σ) none ∙ ap (λ (v : What). Some (fault_here (refusal v (x ∷ xs)) (x ∷ xs))) (sym e)
+    ap (λ (o : Option (List Point)). run_step (At stage c scope d) o None (x ∷ xs) (run xs) σ) none ∙ ap (λ (v : What). Some (fault_here (refusal v (x ∷ xs)) (x ∷ xs))) (sym e)
 
 kind_read : (inner : Reader) (d : ℕ) (body : BodyLaw inner d) → ReaderLaw (kind_at inner) (suc d)
 kind_read inner d body stage c scope rows w (t.Skip ∷ xs) σ e none = refl
@@ -238,7 +238,7 @@ kind_read inner d body stage c scope rows w [] σ e none = ap (λ (v : What). So
 kind_read inner d body stage c scope rows w (x ∷ xs) σ e none = no_stmt stage c scope (suc d) w x xs σ refl e none
 
 -- a statement with no level left
-deep_read : (stage : Stage) (c : Closer) (scope : Scope) (x : Symbol) (xs : List Symbol) (σ : List Point) → begins x ≡ true → run (x ∷ xs) (At stage c scope zero ∷ σ) ≡ Some (fault_here Deep (x ∷ xs))
+deep_read : (stage : Stage) (c : Closer) (scope : Scope) (x : Symbol) (xs : List Symbol) (σ : List Point) → begins_statement x ≡ true → run (x ∷ xs) (At stage c scope zero ∷ σ) ≡ Some (fault_here Deep (x ∷ xs))
 deep_read stage c scope t.Skip xs σ b = refl
 deep_read stage c scope (t.Variable x) xs σ b = refl
 deep_read stage c scope t.OpenCurly xs σ b = refl
@@ -255,10 +255,10 @@ zero_read : ReaderLaw (stmt_at zero) zero
 unfolding stmt_at
 zero_read stage c scope rows w [] σ e none = ap (λ (v : What). Some (fault_here (refusal v []) [])) (sym e)
 zero_read stage c scope rows w (x ∷ xs) σ e none =
-    let chosen : (b : Bool) → begins x ≡ b → run (x ∷ xs) (At stage c scope zero ∷ σ) ≡ read_on {X = Out} (cond b (Err (fault_here Deep (x ∷ xs))) (refused w (x ∷ xs))) (λ s. run s.1 (At Later c scope zero ∷ σ)) = elim [
+    let chosen : (b : Bool) → begins_statement x ≡ b → run (x ∷ xs) (At stage c scope zero ∷ σ) ≡ read_on {X = Out} (cond b (Err (fault_here Deep (x ∷ xs))) (fault_expected w (x ∷ xs))) (λ s. run s.1 (At Later c scope zero ∷ σ)) = elim [
       | true ↦ λ b. deep_read stage c scope x xs σ b
       | false ↦ λ b. no_stmt stage c scope zero w x xs σ b e none
-    ] in chosen (begins x) refl
+    ] in chosen (begins_statement x) refl
 
 next_read : (d : ℕ) (body : BodyLaw (stmt_at d) d) → ReaderLaw (stmt_at (suc d)) (suc d)
 unfolding stmt_at

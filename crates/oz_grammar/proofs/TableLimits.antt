@@ -16,12 +16,12 @@ use Rattle.oz_grammar.specs.declared.symbol.Purpose.TheVariants as purpose
 use Rattle.oz_grammar.specs.declared.fault.Fault.{Fault}
 use Rattle.oz_grammar.specs.declared.fault.FaultKind.TheVariants.{Wide, Twice, Site}
 use Rattle.oz_grammar.specs.Grammar.{Name, ByVariable, ByMark, Value, ToVar, Calculates, Selects, Pairs, ToInt, ToAtom, ToRecord, Pattern, IntPattern, AtomPattern, RecordPattern, PairPattern, Plain, Skips, Tells, Calls, Raises, Opening, Locals, ProcValue, ProcNamed, Threads, ThreadsAt, Choice, Ifs, Cases, Statement, Simple, Block, Chooses, Tries, Sequence, One, Then, seq_text}
-use Rattle.oz_grammar.specs.Scoping.{Scope, Fields, place_of, built_in_at, has_name, fields_of, pattern_names, opening_scope, choice_scope}
-use Rattle.oz_grammar.specs.Table.{numbered, features_in, slots_of, record_row, record_pattern, value_row, value_of, pattern_of, call_row, plain_row, opening_row, choice_row, stmt_rows, seq_rows, many_rows, program_table}
+use Rattle.oz_grammar.specs.Scoping.{Scope, Fields, declaration_of, built_in_at, has_name, fields_of, pattern_names, opening_scope, choice_scope}
+use Rattle.oz_grammar.specs.Table.{code_at, features_in, slots_of, record_row, record_pattern, value_row, value_of, pattern_of, call_row, plain_row, opening_row, choice_row, stmt_rows, seq_rows, many_rows, program_table}
 use Rattle.oz_grammar.specs.Faults.{where_so, number_fault, selected_fault, use_fault, count_fault, called_fault, argument_fault, formal_fault, site_fault, deep_fault, fewer}
 use Rattle.oz_grammar.specs.Check.{check_value, check_pattern, check_locals, check_formals, check_arguments, check_uses, check_call, check_plain, check_opening, check_choice, check_stmt, check_seq, check}
 use Rattle.oz_grammar.proofs.FieldOrder.{stopped, or_neither, is_so, not_so, good_fields}
-use Rattle.kernel_syntax.proofs.PreorderLemmas.{each_append}
+use Rattle.tree_node.proofs.EachLemmas.{each_append}
 
 -- ---- what stands behind is reached, and lists are short
 
@@ -87,21 +87,21 @@ value_limits left (ToRecord a fs) scope rest behind e =
     (g.0, record_limits left a scope (fields_of fs) g.1.ascending g.1.few)
 
 pub call_limits : (b : Option BuiltIn) (callee : ℕ) (scope : Scope) (xs : List Name) (rest : List Symbol) (behind : Option Fault) → check_call b scope xs rest behind ≡ None
-    → (behind ≡ None) × IsStmt (call_row b callee (map (place_of scope) xs))
+    → (behind ≡ None) × IsStmt (call_row b callee (map (declaration_of scope) xs))
 call_limits (Some built.Browse) callee scope xs rest behind e = (uses_behind scope xs rest behind e, tt)
 call_limits (Some built.Wait) callee scope xs rest behind e = (uses_behind scope xs rest behind e, tt)
 call_limits (Some built.NewCell) callee scope xs rest behind e = (uses_behind scope xs rest behind e, tt)
 call_limits (Some built.Exchange) callee scope xs rest behind e = (uses_behind scope xs rest behind e, tt)
 call_limits None callee scope xs rest behind e =
     let h = arguments_few scope 0 xs rest behind e (omega arith) in
-    let l = length-map xs (place_of scope) in
+    let l = length-map xs (declaration_of scope) in
     (h.0, omega (arith, h.1, l))
 
 pub plain_limits : (s : Plain) (scope : Scope) (rest : List Symbol) (behind : Option Fault) → check_plain s scope rest behind ≡ None → (behind ≡ None) × IsStmt (plain_row s scope)
 plain_limits Skips scope rest behind e = (e, tt)
-plain_limits (Tells x v) scope rest behind e = value_limits (place_of scope x) v scope rest behind (stopped (use_fault scope x) _ _ e).1
+plain_limits (Tells x v) scope rest behind e = value_limits (declaration_of scope x) v scope rest behind (stopped (use_fault scope x) _ _ e).1
 plain_limits (Calls p xs) scope rest behind e =
-    call_limits (built_in_at scope p) (place_of scope p) scope xs (t.CloseCurly ∷ rest) behind (stopped (called_fault (built_in_at scope p) scope p) _ _ e).1
+    call_limits (built_in_at scope p) (declaration_of scope p) scope xs (t.CloseCurly ∷ rest) behind (stopped (called_fault (built_in_at scope p) scope p) _ _ e).1
 plain_limits (Raises x) scope rest behind e = ((stopped (use_fault scope x) _ behind e).1, tt)
 
 -- ---- rows with bodies
@@ -190,7 +190,7 @@ mutual
       let more = deep_enough d s.0 in
       let h = opening_limits o scope _ _ (omega (arith, le)) s.1 in
       let b = seq_limits q (fewer d) (opening_scope o scope) (k + 1) (t.End ∷ rest) behind h.reached (omega (arith, le, more, h.few)) in
-      (b.0, (h.row (numbered (k + 1)), b.1))
+      (b.0, (h.row (code_at (k + 1)), b.1))
   stmt_limits (Chooses h q r) d scope k rest behind e le =
       let s = stopped (deep_fault d) _ _ e in
       let more = deep_enough d s.0 in

@@ -12,8 +12,8 @@ use Rattle.oz_grammar.specs.declared.symbol.Symbol.{Symbol}
 use Rattle.oz_grammar.specs.declared.symbol.Symbol.TheVariants as t
 use Rattle.oz_grammar.specs.declared.fault.Fault.{Fault}
 use Rattle.oz_grammar.specs.Grammar.{Opening, Locals, ProcValue, ProcNamed, Threads, ThreadsAt, Choice, Ifs, Cases, Statement, Simple, Block, Chooses, Tries, Sequence, One, Then, seq_text}
-use Rattle.oz_grammar.specs.Scoping.{Scope, place_of, pattern_names, opening_scope, choice_scope, StmtDerives, SeqDerives, Derives}
-use Rattle.oz_grammar.specs.Table.{numbered, pattern_of, plain_row, opening_row, choice_row, stmt_rows, seq_rows, many_rows, seq_numbers, program_table}
+use Rattle.oz_grammar.specs.Scoping.{Scope, declaration_of, pattern_names, opening_scope, choice_scope, StmtDerives, SeqDerives, Derives}
+use Rattle.oz_grammar.specs.Table.{code_at, pattern_of, plain_row, opening_row, choice_row, stmt_rows, seq_rows, many_rows, seq_numbers, program_table}
 use Rattle.oz_grammar.specs.Faults.{use_fault, deep_fault, fewer}
 use Rattle.oz_grammar.specs.Check.{check_opening, check_choice, check_stmt, check_seq, check}
 use Rattle.oz_grammar.proofs.FieldOrder.{stopped}
@@ -23,7 +23,7 @@ use Rattle.oz_grammar.proofs.CanonicalRows.{IsPlainRow, row_is_plain}
 
 -- the body with number k, d levels and n declarations around it, which is one of a sequence or not
 abbrev pub body : ℕ → ℕ → ℕ → Bool → Body
-body k d n one = record { code = numbered k; levels = d; around = n; in_sequence = one }
+body k d n one = record { code = code_at k; levels = d; around = n; in_sequence = one }
 
 -- a level is left
 level : (d : ℕ) → deep_fault d ≡ None → 1 ≤ d
@@ -80,15 +80,15 @@ one_body : (d n m : ℕ) (c : CodeId) → n ≡ m → ◌≡◌ {A = List Body} 
 one_body d n m c e = ap (λ (b : Body). b ∷ []) (inner_is d n m c e)
 
 opening_stands : (o : Opening) (k d : ℕ) (scope : Scope) (one : Bool) (j : ℕ) (rest : List Symbol) (behind : Option Fault) → check_opening o scope rest behind ≡ None
-    → Stands (body k d (length scope) one) (opening_row o scope (numbered j)) (body j (fewer d) (length (opening_scope o scope)) false ∷ [])
+    → Stands (body k d (length scope) one) (opening_row o scope (code_at j)) (body j (fewer d) (length (opening_scope o scope)) false ∷ [])
 opening_stands (Locals x xs) k d scope one j rest behind e =
-    record { names = tt; declares = refl; sequence = tt; bodies = one_body d _ _ (numbered j) (sym (length-append scope (x ∷ xs))) }
+    record { names = tt; declares = refl; sequence = tt; bodies = one_body d _ _ (code_at j) (sym (length-append scope (x ∷ xs))) }
 opening_stands (ProcValue x xs) k d scope one j rest behind e =
-    record { names = (used_within scope x (stopped (use_fault scope x) _ _ e).0, tt); declares = refl; sequence = tt; bodies = one_body d _ _ (numbered j) (sym (length-append scope xs)) }
+    record { names = (used_within scope x (stopped (use_fault scope x) _ _ e).0, tt); declares = refl; sequence = tt; bodies = one_body d _ _ (code_at j) (sym (length-append scope xs)) }
 opening_stands (ProcNamed x xs) k d scope one j rest behind e =
-    record { names = (used_within scope x (stopped (use_fault scope x) _ _ e).0, tt); declares = refl; sequence = tt; bodies = one_body d _ _ (numbered j) (sym (length-append scope xs)) }
-opening_stands Threads k d scope one j rest behind e = record { names = tt; declares = tt; sequence = tt; bodies = one_body d _ _ (numbered j) refl }
-opening_stands (ThreadsAt n) k d scope one j rest behind e = record { names = tt; declares = tt; sequence = tt; bodies = one_body d _ _ (numbered j) refl }
+    record { names = (used_within scope x (stopped (use_fault scope x) _ _ e).0, tt); declares = refl; sequence = tt; bodies = one_body d _ _ (code_at j) (sym (length-append scope xs)) }
+opening_stands Threads k d scope one j rest behind e = record { names = tt; declares = tt; sequence = tt; bodies = one_body d _ _ (code_at j) refl }
+opening_stands (ThreadsAt n) k d scope one j rest behind e = record { names = tt; declares = tt; sequence = tt; bodies = one_body d _ _ (code_at j) refl }
 
 two_bodies : (d n m : ℕ) (c : CodeId) (l : ℕ) (f : CodeId) → n ≡ m
     → ◌≡◌ {A = List Body} (record { code = c; levels = d - 1; around = n; in_sequence = false } ∷ record { code = f; levels = d - 1; around = l; in_sequence = false } ∷ [])
@@ -96,12 +96,12 @@ two_bodies : (d n m : ℕ) (c : CodeId) (l : ℕ) (f : CodeId) → n ≡ m
 two_bodies d n m c l f e = rw (fewer_is d, e) refl
 
 choice_stands : (h : Choice) (k d : ℕ) (scope : Scope) (one : Bool) (i j : ℕ) (rest : List Symbol) (behind : Option Fault) → check_choice h scope rest behind ≡ None
-    → Stands (body k d (length scope) one) (choice_row h scope (numbered i) (numbered j)) (body i (fewer d) (length (choice_scope h scope)) false ∷ body j (fewer d) (length scope) false ∷ [])
+    → Stands (body k d (length scope) one) (choice_row h scope (code_at i) (code_at j)) (body i (fewer d) (length (choice_scope h scope)) false ∷ body j (fewer d) (length scope) false ∷ [])
 choice_stands (Ifs x) k d scope one i j rest behind e = record {
   names = (used_within scope x (stopped (use_fault scope x) _ behind e).0, tt);
   declares = tt;
   sequence = tt;
-  bodies = two_bodies d _ _ (numbered i) (length scope) (numbered j) refl;
+  bodies = two_bodies d _ _ (code_at i) (length scope) (code_at j) refl;
 }
 choice_stands (Cases x p) k d scope one i j rest behind e =
     let s = stopped (use_fault scope x) _ _ e in
@@ -110,7 +110,7 @@ choice_stands (Cases x p) k d scope one i j rest behind e =
       names = (used_within scope x s.0, tt);
       declares = refl;
       sequence = tt;
-      bodies = two_bodies d _ _ (numbered i) (length scope) (numbered j) (ap (λ (n : ℕ). length scope + n) (sym declared.each) ∙ sym (length-append scope (pattern_names p)));
+      bodies = two_bodies d _ _ (code_at i) (length scope) (code_at j) (ap (λ (n : ℕ). length scope + n) (sym declared.each) ∙ sym (length-append scope (pattern_names p)));
     }
 
 try_bodies : (d n m : ℕ) (c : CodeId) (l : ℕ) (f : CodeId) → n ≡ m
@@ -155,7 +155,7 @@ mutual
       let opens = opening_limits o scope _ _ (omega (arith, le)) u.1 in
       let inner = seq_order q (fewer d) (opening_scope o scope) (k + 1) (t.End ∷ rest) behind bs more derives opens.reached (omega (arith, le, enough, opens.few))
       (ends_at (k + suc (length (seq_rows q (opening_scope o scope) (k + 1)))) (k + 1 + length (seq_rows q (opening_scope o scope) (k + 1))) bs more (omega arith) h) in
-      row_before (body k d (length scope) one) (opening_row o scope (numbered (k + 1))) (body (k + 1) (fewer d) (length (opening_scope o scope)) false ∷ []) bs (seq_rows q (opening_scope o scope) (k + 1) ++ more) k refl (level d u.0)
+      row_before (body k d (length scope) one) (opening_row o scope (code_at (k + 1))) (body (k + 1) (fewer d) (length (opening_scope o scope)) false ∷ []) bs (seq_rows q (opening_scope o scope) (k + 1) ++ more) k refl (level d u.0)
       (opening_stands o k d scope one (k + 1) _ _ u.1) inner
   stmt_order (Chooses c q r) d scope k one rest behind bs more derives e le h =
       let u = stopped (deep_fault d) _ _ e in
@@ -168,7 +168,7 @@ mutual
       (k + 1 + length (seq_rows q (choice_scope c scope) (k + 1)) + length (seq_rows r scope (k + 1 + length (seq_rows q (choice_scope c scope) (k + 1))))) bs more (omega (arith, l)) h) in
       let first = seq_order q (fewer d) (choice_scope c scope) (k + 1) _ _ (body (k + 1 + length (seq_rows q (choice_scope c scope) (k + 1))) (fewer d) (length scope) false ∷ bs)
       (seq_rows r scope (k + 1 + length (seq_rows q (choice_scope c scope) (k + 1))) ++ more) derives.0 branches.reached (omega (arith, le, enough, branches.few)) second in
-      row_before (body k d (length scope) one) (choice_row c scope (numbered (k + 1)) (numbered (k + 1 + length (seq_rows q (choice_scope c scope) (k + 1)))))
+      row_before (body k d (length scope) one) (choice_row c scope (code_at (k + 1)) (code_at (k + 1 + length (seq_rows q (choice_scope c scope) (k + 1)))))
       (body (k + 1) (fewer d) (length (choice_scope c scope)) false ∷ body (k + 1 + length (seq_rows q (choice_scope c scope) (k + 1))) (fewer d) (length scope) false ∷ []) bs
       ((seq_rows q (choice_scope c scope) (k + 1) ++ seq_rows r scope (k + 1 + length (seq_rows q (choice_scope c scope) (k + 1)))) ++ more) k refl (level d u.0)
       (choice_stands c k d scope one (k + 1) (k + 1 + length (seq_rows q (choice_scope c scope) (k + 1))) _ _ u.1)
@@ -185,14 +185,14 @@ mutual
       (k + 1 + length (seq_rows q scope (k + 1)) + length (seq_rows r (scope ++ x ∷ []) (k + 1 + length (seq_rows q scope (k + 1))))) bs more (omega (arith, l)) h) in
       let first = seq_order q (fewer d) scope (k + 1) _ _ (body (k + 1 + length (seq_rows q scope (k + 1))) (fewer d) (length (scope ++ x ∷ [])) false ∷ bs)
       (seq_rows r (scope ++ x ∷ []) (k + 1 + length (seq_rows q scope (k + 1))) ++ more) derives.0 u.1 (omega (arith, le, enough)) second in
-      row_before (body k d (length scope) one) (stmt.Try (numbered (k + 1)) (length scope) (numbered (k + 1 + length (seq_rows q scope (k + 1)))))
+      row_before (body k d (length scope) one) (stmt.Try (code_at (k + 1)) (length scope) (code_at (k + 1 + length (seq_rows q scope (k + 1)))))
       (body (k + 1) (fewer d) (length scope) false ∷ body (k + 1 + length (seq_rows q scope (k + 1))) (fewer d) (length (scope ++ x ∷ [])) false ∷ []) bs
       ((seq_rows q scope (k + 1) ++ seq_rows r (scope ++ x ∷ []) (k + 1 + length (seq_rows q scope (k + 1)))) ++ more) k refl (level d u.0)
       (record {
         names = tt;
         declares = refl;
         sequence = tt;
-        bodies = try_bodies d _ _ (numbered (k + 1)) (length scope) (numbered (k + 1 + length (seq_rows q scope (k + 1)))) (sym longer);
+        bodies = try_bodies d _ _ (code_at (k + 1)) (length scope) (code_at (k + 1 + length (seq_rows q scope (k + 1)))) (sym longer);
       })
       (before_more (k + 1) (body (k + 1) (fewer d) (length scope) false ∷ body (k + 1 + length (seq_rows q scope (k + 1))) (fewer d) (length (scope ++ x ∷ [])) false ∷ bs)
       (seq_rows q scope (k + 1)) (seq_rows r (scope ++ x ∷ []) (k + 1 + length (seq_rows q scope (k + 1)))) more first)
@@ -208,10 +208,10 @@ mutual
       (k + 1 + length (stmt_rows s scope (k + 1)) + length (many_rows q scope (k + 1 + length (stmt_rows s scope (k + 1))))) bs more (omega (arith, l)) h) in
       let first = stmt_order s d scope (k + 1) true (seq_text q rest) (check_seq q d scope rest behind) (map (one_of (body k d (length scope) false)) (seq_numbers q scope (k + 1 + length (stmt_rows s scope (k + 1)))) ++ bs)
       (many_rows q scope (k + 1 + length (stmt_rows s scope (k + 1))) ++ more) derives.0 e le others in
-      row_before (body k d (length scope) false) (stmt.Seq (numbered (k + 1) ∷ seq_numbers q scope (k + 1 + length (stmt_rows s scope (k + 1)))))
-      (map (one_of (body k d (length scope) false)) (numbered (k + 1) ∷ seq_numbers q scope (k + 1 + length (stmt_rows s scope (k + 1))))) bs
+      row_before (body k d (length scope) false) (stmt.Seq (code_at (k + 1) ∷ seq_numbers q scope (k + 1 + length (stmt_rows s scope (k + 1)))))
+      (map (one_of (body k d (length scope) false)) (code_at (k + 1) ∷ seq_numbers q scope (k + 1 + length (stmt_rows s scope (k + 1))))) bs
       ((stmt_rows s scope (k + 1) ++ many_rows q scope (k + 1 + length (stmt_rows s scope (k + 1)))) ++ more) k refl (stmt_level s d scope (seq_text q rest) (check_seq q d scope rest behind) e)
-      (record { names = tt; declares = tt; sequence = (refl, two_numbers q scope (k + 1 + length (stmt_rows s scope (k + 1))) (numbered (k + 1))); bodies = refl })
+      (record { names = tt; declares = tt; sequence = (refl, two_numbers q scope (k + 1 + length (stmt_rows s scope (k + 1))) (code_at (k + 1))); bodies = refl })
       (before_more (k + 1) (body (k + 1) d (length scope) true ∷ (map (one_of (body k d (length scope) false)) (seq_numbers q scope (k + 1 + length (stmt_rows s scope (k + 1)))) ++ bs))
       (stmt_rows s scope (k + 1)) (many_rows q scope (k + 1 + length (stmt_rows s scope (k + 1)))) more first)
 

@@ -21,12 +21,13 @@ use Rattle.oz_grammar.specs.declared.symbol.Purpose.TheVariants as purpose
 use Rattle.oz_grammar.specs.declared.fault.Fault.{Fault}
 use Rattle.oz_grammar.specs.declared.fault.FaultKind.TheVariants.{Unbound}
 use Rattle.oz_grammar.specs.Grammar.{Name, ByVariable, ByMark, Value, ToVar, Calculates, Selects, Pairs, ToInt, ToAtom, ToRecord, Plain, Skips, Tells, Calls, Raises, Opening, Locals, ProcValue, ProcNamed, Threads, ThreadsAt, Choice, Ifs, Cases, Statement, Simple, Block, Chooses, Tries, Sequence, One, Then, seq_text}
-use Rattle.oz_grammar.specs.Scoping.{Scope, Fields, declared_behind, position_of, is_declared, place_of, built_in_at, arity_of, fields_of, pattern_names, opening_scope, choice_scope, HasArguments, PlainDerives, StmtDerives, SeqDerives, Derives}
-use Rattle.oz_grammar.specs.Table.{numbered, slots_of, record_row, value_row, pattern_of, built_in_row, call_row, plain_row, opening_row, choice_row, stmt_rows, seq_rows, many_rows, seq_numbers, program_table}
+use Rattle.oz_grammar.specs.Scoping.{Scope, Fields, declared_behind, position_of, is_declared, declaration_of, built_in_at, arity_of, fields_of, pattern_names, opening_scope, choice_scope, HasArguments, PlainDerives, StmtDerives, SeqDerives, Derives}
+use Rattle.oz_grammar.specs.Table.{code_at, slots_of, record_row, value_row, pattern_of, built_in_row, call_row, plain_row, opening_row, choice_row, stmt_rows, seq_rows, many_rows, seq_numbers, program_table}
 use Rattle.oz_grammar.specs.Faults.{use_fault, count_fault, called_fault, argument_fault, deep_fault, fewer}
 use Rattle.oz_grammar.specs.Check.{check_value, check_arguments, check_uses, check_call, check_plain, check_opening, check_choice, check_stmt, check_seq, check}
 use Rattle.oz_grammar.proofs.FieldOrder.{stopped, or_neither, is_so, good_fields}
 use Rattle.oz_grammar.proofs.TableLimits.{opening_limits, choice_limits, pattern_limits, deep_enough, stmt_limits, seq_limits}
+use Rattle.kernel_syntax.proofs.PreorderLemmas.{stmt_here}
 
 -- ---- used names
 
@@ -42,22 +43,22 @@ placed : (o : Option ℕ) (n : ℕ) → IfSome o (λ p. p < n) → is_some o ≡
 placed None n h e = absurd cc
 placed (Some p) n h e = h
 
-place_within : (scope : Scope) (x : Name) → is_declared scope x ≡ true → place_of scope x < length scope
+place_within : (scope : Scope) (x : Name) → is_declared scope x ≡ true → declaration_of scope x < length scope
 place_within scope x e = placed (position_of scope x) (length scope) (position_within scope x) e
 
-pub used_within : (scope : Scope) (x : Name) → use_fault scope x ≡ None → place_of scope x < length scope
+pub used_within : (scope : Scope) (x : Name) → use_fault scope x ≡ None → declaration_of scope x < length scope
 used_within scope x e = place_within scope x (is_so (is_declared scope x) Unbound e)
 
 fields_within : (scope : Scope) (fields : Fields) → Each (λ (f : Feature × Name). is_declared scope f.1 ≡ true) fields → Below (length scope) (map (λ (f : Feature × ℕ). f.1) (slots_of scope fields))
 fields_within scope [] all = tt
 fields_within scope (f ∷ fields) all = (place_within scope f.1 all.0, fields_within scope fields all.1)
 
-uses_within : (scope : Scope) (xs : List Name) (rest : List Symbol) (behind : Option Fault) → check_uses scope xs rest behind ≡ None → Below (length scope) (map (place_of scope) xs)
+uses_within : (scope : Scope) (xs : List Name) (rest : List Symbol) (behind : Option Fault) → check_uses scope xs rest behind ≡ None → Below (length scope) (map (declaration_of scope) xs)
 uses_within scope [] rest behind e = tt
 uses_within scope (x ∷ xs) rest behind e =
     let s = stopped (use_fault scope x) _ _ e in (used_within scope x s.0, uses_within scope xs rest behind s.1)
 
-arguments_within : (scope : Scope) (n : ℕ) (xs : List Name) (rest : List Symbol) (behind : Option Fault) → check_arguments scope n xs rest behind ≡ None → Below (length scope) (map (place_of scope) xs)
+arguments_within : (scope : Scope) (n : ℕ) (xs : List Name) (rest : List Symbol) (behind : Option Fault) → check_arguments scope n xs rest behind ≡ None → Below (length scope) (map (declaration_of scope) xs)
 arguments_within scope n [] rest behind e = tt
 arguments_within scope n (x ∷ xs) rest behind e =
     let s = stopped (argument_fault scope n x) _ _ e in
@@ -109,24 +110,20 @@ built_in_names built.NewCell n xs has p = (first_of n xs (omega (arith, has)) p,
 built_in_names built.Exchange n xs has p = (first_of n xs (omega (arith, has)) p, (second_of n xs (omega (arith, has)) p, (third_of n xs (omega (arith, has)) p, tt)))
 
 call_names : (b : Option BuiltIn) (p : Name) (scope : Scope) (xs : List Name) (rest : List Symbol) (behind : Option Fault) → HasArguments b xs → called_fault b scope p ≡ None → check_call b scope xs rest behind ≡ None
-    → Below (length scope) (names_of (call_row b (place_of scope p) (map (place_of scope) xs)))
+    → Below (length scope) (names_of (call_row b (declaration_of scope p) (map (declaration_of scope) xs)))
 call_names (Some b) p scope xs rest behind has callee e =
-    built_in_names b (length scope) (map (place_of scope) xs) (Rattle.std.proofs.lemmas.List.length-map xs (place_of scope) ∙ has) (uses_within scope xs rest behind e)
+    built_in_names b (length scope) (map (declaration_of scope) xs) (Rattle.std.proofs.lemmas.List.length-map xs (declaration_of scope) ∙ has) (uses_within scope xs rest behind e)
 call_names None p scope xs rest behind has callee e = (used_within scope p callee, arguments_within scope 0 xs rest behind e)
 
 pub plain_names : (s : Plain) (scope : Scope) (rest : List Symbol) (behind : Option Fault) → PlainDerives s scope → check_plain s scope rest behind ≡ None → Below (length scope) (names_of (plain_row s scope))
 plain_names Skips scope rest behind derives e = tt
 plain_names (Tells x v) scope rest behind derives e =
-    let s = stopped (use_fault scope x) _ _ e in value_names (place_of scope x) v scope rest behind (used_within scope x s.0) s.1
+    let s = stopped (use_fault scope x) _ _ e in value_names (declaration_of scope x) v scope rest behind (used_within scope x s.0) s.1
 plain_names (Calls p xs) scope rest behind derives e =
     let s = stopped (called_fault (built_in_at scope p) scope p) _ _ e in call_names (built_in_at scope p) p scope xs (t.CloseCurly ∷ rest) behind derives s.0 s.1
 plain_names (Raises x) scope rest behind derives e = (used_within scope x (stopped (use_fault scope x) _ behind e).0, tt)
 
 -- ---- rows in a table
-
-pub row_at : (pre post : List Stmt) (row : Stmt) → slice_get (pre ++ row ∷ post) (length pre) ≡ Some row
-row_at [] post row = refl
-row_at (x ∷ pre) post row = row_at pre post row
 
 -- the table has these rows from number k on
 pub record Has (p rows : List Stmt) (k : ℕ) : Type 0 where
@@ -135,8 +132,8 @@ pub record Has (p rows : List Stmt) (k : ℕ) : Type 0 where
   pub is : p ≡ pre ++ (rows ++ post)
   pub at : length pre ≡ k
 
-pub here : (p others : List Stmt) (row : Stmt) (k : ℕ) → Has p (row ∷ others) k → stmt_at p (numbered k) ≡ row
-here p others row k h = let r = row_at h.pre (others ++ h.post) row in rw (h.is, ← h.at, r) refl
+pub here : (p others : List Stmt) (row : Stmt) (k : ℕ) → Has p (row ∷ others) k → stmt_at p (code_at k) ≡ row
+here p others row k h = let r = stmt_here h.pre (others ++ h.post) row in rw (h.is, ← h.at, r) refl
 
 pub behind_row : (p others : List Stmt) (row : Stmt) (k : ℕ) → Has p (row ∷ others) k → Has p others (k + 1)
 behind_row p others row k h = record {

@@ -9,7 +9,6 @@ use Rattle.kernel_syntax.specs.declared.stmt.Stmt.{Stmt}
 use Rattle.kernel_syntax.specs.declared.stmt.Stmt.TheVariants as stmt
 use Rattle.kernel_syntax.specs.Arithmetic.{is_word}
 use Rattle.kernel_syntax.specs.Texts.{IsText, IsFeature, IsSpelledPattern, FitsIfSome, HasTexts}
-use Rattle.kernel_syntax.proofs.PreorderLemmas.{each_append}
 use Rattle.oz_grammar.specs.declared.symbol.Symbol.{Symbol}
 use Rattle.oz_grammar.specs.declared.symbol.Symbol.TheVariants as t
 use Rattle.oz_grammar.specs.declared.symbol.BuiltIn.{BuiltIn}
@@ -20,12 +19,14 @@ use Rattle.oz_grammar.specs.declared.fault.Fault.{Fault}
 use Rattle.oz_grammar.specs.Grammar.{Name, Mark, AtomMark, IntMark, ByVariable, ByMark, Field, Placed, Marked, Value, ToVar, Calculates, Selects, Pairs, ToInt, ToAtom, ToRecord, IntPattern, AtomPattern, RecordPattern, PairPattern, Plain, Skips, Tells, Calls, Raises, Opening, Locals, ProcValue, ProcNamed, Threads, ThreadsAt, Choice, Ifs, Cases, Statement, Simple, Block, Chooses, Tries, Sequence, One, Then, mark_symbol, names_text, fields_text, value_text, pattern_text, plain_text, opening_text, choice_text, stmt_text, seq_text, program_text}
 use Rattle.oz_grammar.specs.Grammar as tree
 use Rattle.oz_grammar.specs.Symbols.{IsSpelled}
-use Rattle.oz_grammar.specs.Scoping.{Scope, Fields, place_of, built_in_at, feature_of, place_feature, is_less, with_field, fields_behind, fields_of, opening_scope, choice_scope}
-use Rattle.oz_grammar.specs.Table.{numbered, value_of, bar_label, slots_of, features_in, record_row, record_pattern, value_row, pattern_of, call_row, plain_row, opening_row, choice_row, stmt_rows, seq_rows, many_rows, program_table}
+use Rattle.oz_grammar.specs.Scoping.{Scope, Fields, declaration_of, built_in_at, feature_of, place_feature, is_less, with_field, fields_behind, fields_of, opening_scope, choice_scope}
+use Rattle.oz_grammar.specs.Table.{code_at, value_of, bar_label, slots_of, features_in, record_row, record_pattern, value_row, pattern_of, call_row, plain_row, opening_row, choice_row, stmt_rows, seq_rows, many_rows, program_table}
 use Rattle.oz_grammar.specs.Faults.{number_fault, site_fault, use_fault, deep_fault, room_fault, feature_fault, mark_fault, name_fault, placed_fault, selected_fault, fewer}
 use Rattle.oz_grammar.specs.Check.{check_fields, check_value, check_pattern, check_plain, check_opening, check_choice, check_stmt, check_seq, check}
-use Rattle.oz_grammar.proofs.FieldOrder.{stopped, or_neither}
+use Rattle.oz_grammar.proofs.FieldOrder.{stopped, or_neither, Each-with_field}
 use Rattle.oz_grammar.proofs.TableLimits.{opening_limits, choice_limits, deep_enough, stmt_limits, seq_limits}
+use Rattle.oz_grammar.proofs.PartsChecked.{room_of, mark_room}
+use Rattle.tree_node.proofs.EachLemmas.{each_append}
 
 is_small : (n : ℕ) → n < 2 ^ 63 → IsTrue (is_word (pos n))
 is_small n lt = grind arith
@@ -53,41 +54,24 @@ selected_good (AtomMark a) e g = g
 selected_good (IntMark (Some z)) e g = g
 selected_good (IntMark None) e g = cc
 
--- what holds of all fields, and of one more, holds of all then
-every_field : (P : Feature × Name → Type 0) (f : Feature) (x : Name) (fields : Fields) → P (f, x) → Each P fields → Each P (with_field f x fields)
-every_field P f x [] p ps = (p, tt)
-every_field P f x ((g, y) ∷ fields) p ps =
-    let chosen : (b : Bool) → Each P (cond b ((f, x) ∷ (g, y) ∷ fields) ((g, y) ∷ with_field f x fields)) = elim [
-      | true ↦ (p, ps)
-      | false ↦ (ps.0, every_field P f x fields p ps.1)
-    ] in chosen (is_less (feature_cmp f g))
-
 fields_good : (fs : List Field) (p : Purpose) (scope : Scope) (room : ℕ) (before : Fields) (next : ℕ) (rest rest' : List Symbol) (behind : Option Fault) → check_fields p scope room before next fs rest behind ≡ None
     → next + length fs < 2 ^ 63 → Each IsSpelled (fields_text fs rest') → Each (λ (f : Feature × Name). IsFeature f.0) before → Each (λ (f : Feature × Name). IsFeature f.0) (fields_behind before next fs) × Each IsSpelled rest'
 fields_good [] p scope room before next rest rest' behind e le g good = (good, g)
 fields_good (Placed x ∷ fs) p scope room before next rest rest' behind e le g good =
     let s = stopped (placed_fault p scope room before next x) _ _ e in
     fields_good fs p scope (fewer room) (with_field (place_feature next) x before) (next + 1) rest rest' behind s.1 (omega (arith, le)) g.1
-    (every_field (λ (f : Feature × Name). IsFeature f.0) (place_feature next) x before (is_small next (omega (arith, le))) good)
+    (Each-with_field (λ (f : Feature × Name). IsFeature f.0) (place_feature next) x before (is_small next (omega (arith, le))) good)
 fields_good (Marked m x ∷ fs) p scope room before next rest rest' behind e le g good =
     let s = stopped (mark_fault room before m) _ _ e in
     let u = stopped (name_fault p scope before x) _ _ s.1 in
     fields_good fs p scope (fewer room) (with_field (feature_of m) x before) next rest rest' behind u.1 (omega (arith, le)) g.1.1.1
-    (every_field (λ (f : Feature × Name). IsFeature f.0) (feature_of m) x before (mark_good m room before s.0 g.0) good)
-
-some_room : (room : ℕ) → room_fault room ≡ None → room ≡ suc (fewer room)
-some_room zero e = cc
-some_room (suc room) e = refl
-
-mark_room : (room : ℕ) (before : Fields) (m : Mark) → mark_fault room before m ≡ None → room ≡ suc (fewer room)
-mark_room room before (AtomMark a) e = some_room room (or_neither (room_fault room) _ e).0
-mark_room room before (IntMark n) e = some_room room (or_neither (room_fault room) _ (or_neither (number_fault n) (feature_fault room before (feature_of (IntMark n))) e).1).0
+    (Each-with_field (λ (f : Feature × Name). IsFeature f.0) (feature_of m) x before (mark_good m room before s.0 g.0) good)
 
 fields_few : (fs : List Field) (p : Purpose) (scope : Scope) (room : ℕ) (before : Fields) (next : ℕ) (rest : List Symbol) (behind : Option Fault) → check_fields p scope room before next fs rest behind ≡ None → length fs ≤ room
 fields_few [] p scope room before next rest behind e = omega arith
 fields_few (Placed x ∷ fs) p scope room before next rest behind e =
     let s = stopped (placed_fault p scope room before next x) _ _ e in
-    let r = some_room room (or_neither (room_fault room) _ (or_neither (feature_fault room before (place_feature next)) (name_fault p scope before x) s.0).0).0 in
+    let r = room_of room (or_neither (room_fault room) _ (or_neither (feature_fault room before (place_feature next)) (name_fault p scope before x) s.0).0).0 in
     let h = fields_few fs p scope (fewer room) (with_field (place_feature next) x before) (next + 1) rest behind s.1 in
     omega (arith, r, h)
 fields_few (Marked m x ∷ fs) p scope room before next rest behind e =
@@ -139,9 +123,9 @@ call_good None callee xs = tt
 
 plain_good : (s : Plain) (scope : Scope) (rest : List Symbol) (behind : Option Fault) → check_plain s scope rest behind ≡ None → Each IsSpelled (plain_text s rest) → HasTexts (plain_row s scope) × Each IsSpelled rest
 plain_good Skips scope rest behind e g = (tt, g.1)
-plain_good (Tells x v) scope rest behind e g = value_good (place_of scope x) v scope rest behind (stopped (use_fault scope x) _ _ e).1 g.1.1
+plain_good (Tells x v) scope rest behind e g = value_good (declaration_of scope x) v scope rest behind (stopped (use_fault scope x) _ _ e).1 g.1.1
 plain_good (Calls p xs) scope rest behind e g =
-    (call_good (built_in_at scope p) (place_of scope p) (map (place_of scope) xs), (names_rest xs (t.CloseCurly ∷ rest) g.1.1).1)
+    (call_good (built_in_at scope p) (declaration_of scope p) (map (declaration_of scope) xs), (names_rest xs (t.CloseCurly ∷ rest) g.1.1).1)
 plain_good (Raises x) scope rest behind e g = (tt, g.1.1.1)
 
 features_good : (fields : Fields) → Each (λ (f : Feature × Name). IsFeature f.0) fields → Each IsFeature (features_in fields)
@@ -191,7 +175,7 @@ mutual
       let u = stopped (deep_fault d) _ _ e in
       let enough = deep_enough d u.0 in
       let opens = opening_limits o scope _ _ (omega (arith, le)) u.1 in
-      let first = opening_good o scope (numbered (k + 1)) _ _ u.1 g in
+      let first = opening_good o scope (code_at (k + 1)) _ _ u.1 g in
       let body = seq_texts q (fewer d) (opening_scope o scope) (k + 1) (t.End ∷ rest) behind opens.reached (omega (arith, le, enough, opens.few)) first.1 in
       ((first.0, body.0), body.1.1)
   stmt_texts (Chooses h q r) d scope k rest behind e le g =
@@ -199,7 +183,7 @@ mutual
       let enough = deep_enough d u.0 in
       let branches = choice_limits h scope _ _ (omega (arith, le)) u.1 in
       let after = seq_limits q (fewer d) (choice_scope h scope) 0 _ _ branches.reached (omega (arith, le, enough, branches.few)) in
-      let first = choice_good h scope (numbered (k + 1)) (numbered (k + 1 + length (seq_rows q (choice_scope h scope) (k + 1)))) _ _ u.1 g in
+      let first = choice_good h scope (code_at (k + 1)) (code_at (k + 1 + length (seq_rows q (choice_scope h scope) (k + 1)))) _ _ u.1 g in
       let chosen = seq_texts q (fewer d) (choice_scope h scope) (k + 1) (t.Else ∷ seq_text r (t.End ∷ rest)) _ branches.reached (omega (arith, le, enough, branches.few)) first.1 in
       let other = seq_texts r (fewer d) scope (k + 1 + length (seq_rows q (choice_scope h scope) (k + 1))) (t.End ∷ rest) behind after.0 (omega (arith, le, enough)) chosen.1.1 in
       ((first.0, each_append HasTexts (seq_rows q (choice_scope h scope) (k + 1)) _ chosen.0 other.0), other.1.1)

@@ -3,7 +3,7 @@ use Rattle.std.proofs.Common.{◌≡◌, ℕ, suc, ◌+◌, ◌<◌, ◌≤◌, 
 use Rattle.std.specs.Prelude.{◌&&◌, codes}
 use Rattle.std.specs.Str.{bytes_eq}
 use Rattle.std.proofs.lemmas.List.{append-nil, length-map}
-use Rattle.std.proofs.lemmas.Bool.{cases_lt}
+use Rattle.std.proofs.lemmas.Bool.{cases_lt, and_parts}
 use Rattle.kernel_syntax.specs.declared.stmt.Stmt.{Stmt}
 use Rattle.kernel_syntax.specs.declared.stmt.Op.TheVariants as op
 use Rattle.oz_lexer.specs.declared.token.TokenKind.{TokenKind}
@@ -49,14 +49,9 @@ cond_inner : (b : Bool) (x y : Symbol) → is_inner x ≡ true → is_inner y �
 cond_inner true x y p q = p
 cond_inner false x y p q = q
 
-both_true : (a b : Bool) → (a && b) ≡ true → (a ≡ true) × (b ≡ true)
-both_true true true e = (refl, refl)
-both_true true false e = absurd cc
-both_true false b e = absurd cc
-
 choice_inner : (cs : List (Bool × Symbol)) (other : Symbol) → all_inner cs ≡ true → is_inner other ≡ true → is_inner (choice_of cs other) ≡ true
 choice_inner [] other h e = e
-choice_inner (c ∷ cs) other h e = let k = both_true (is_inner c.1) (all_inner cs) h in cond_inner c.0 c.1 (choice_of cs other) k.0 (choice_inner cs other k.1 e)
+choice_inner (c ∷ cs) other h e = let k = and_parts (is_inner c.1) (all_inner cs) h in cond_inner c.0 c.1 (choice_of cs other) k.0 (choice_inner cs other k.1 e)
 
 abbrev words : List ℕ → List (Bool × Symbol)
 words bytes =

@@ -6,7 +6,7 @@ use Rattle.std.specs.Str.{bytes_eq}
 use Rattle.std.proofs.lemmas.List.{take-append-drop}
 use Rattle.std.proofs.lemmas.Str.{IsUtf8-nil, IsUtf8-drop, IsUtf8-between}
 use Rattle.tree_node.specs.Each.{Each}
-use Rattle.tree_node.specs.Spelling.{is_word_byte, is_bare, escaped, atom_text}
+use Rattle.tree_node.specs.Spelling.{is_word_byte, is_bare, escaped_text, atom_text}
 use Rattle.tree_node.specs.Words.{is_reserved}
 use Rattle.kernel_syntax.specs.declared.stmt.Op.TheVariants as op
 use Rattle.kernel_syntax.specs.Arithmetic.{is_word as is_number}
@@ -14,7 +14,7 @@ use Rattle.kernel_syntax.specs.Texts.{is_text_byte, IsText, FitsIfSome}
 use Rattle.oz_lexer.specs.declared.token.TokenKind.{TokenKind}
 use Rattle.oz_lexer.specs.declared.token.TokenKind.TheVariants as kind
 use Rattle.oz_lexer.specs.declared.token.LexKind.{LexKind}
-use Rattle.oz_lexer.specs.Spelling.{is_character, is_escape, closes_quote, is_quoted, is_variable, is_word, is_sign, are_digits, digits_of, kind_of, is_long, unescaped}
+use Rattle.oz_lexer.specs.Spelling.{is_character, is_escape, closes_quote, is_quoted, is_variable, is_lower_word, is_sign, are_digits, digits_of, token_kind_of, is_long, unescaped}
 use Rattle.oz_lexer.specs.Faults.{Longest}
 use Rattle.oz_lexer.specs.Tokens.{Lexeme, Begins, Goes, TokensFrom, Tokens}
 use Rattle.oz_grammar.specs.declared.symbol.Symbol.{Symbol}
@@ -22,9 +22,9 @@ use Rattle.oz_grammar.specs.declared.symbol.Symbol.TheVariants as t
 use Rattle.oz_lexer.proofs.Boundaries.{token_cut}
 use Rattle.oz_lexer.proofs.Skipping.{skips_tail}
 use Rattle.oz_grammar.specs.Symbols.{IsSpelled, is_plain, number_of, negative, signed, integer_of, quoted_text, word_symbol, sign_symbol, symbol_at, symbol_of}
-use Rattle.oz_grammar.proofs.Digits.{both}
 use Rattle.oz_grammar.proofs.Unescaped.{unescaped_utf8, quoted_inside}
 use Rattle.oz_grammar.proofs.Atoms.{is_atom_byte, spelt, front, plain_unescaped, inside}
+use Rattle.std.proofs.lemmas.Bool.{and_parts}
 
 -- an atom that quotes can spell
 abbrev IsAtom : List ℕ → Type 0
@@ -36,7 +36,7 @@ same_byte b e = grind arith
 same_bytes : (a : List ℕ) → list_all is_atom_byte a ≡ true → list_all is_text_byte a ≡ true
 same_bytes [] all = refl
 same_bytes (b ∷ bs) all =
-    let two = both (is_atom_byte b) (list_all is_atom_byte bs) all in
+    let two = and_parts (is_atom_byte b) (list_all is_atom_byte bs) all in
     ap (λ (x : Bool). x && list_all is_text_byte bs) (same_byte b two.0) ∙ same_bytes bs two.1
 
 is_text : (a : List ℕ) → IsUtf8 a → IsAtom a → IsText a
@@ -44,26 +44,26 @@ is_text a utf8 is = (utf8, same_bytes a is.0, is.1)
 
 -- ---- lengths
 
-escaped_once : (c : ℕ) (cs : List ℕ) → is_atom_byte c ≡ true → (length (escaped (c ∷ cs)) ≡ suc (length (escaped cs))) ⊎ (length (escaped (c ∷ cs)) ≡ suc (suc (length (escaped cs))))
+escaped_once : (c : ℕ) (cs : List ℕ) → is_atom_byte c ≡ true → (length (escaped_text (c ∷ cs)) ≡ suc (length (escaped_text cs))) ⊎ (length (escaped_text (c ∷ cs)) ≡ suc (suc (length (escaped_text cs))))
 escaped_once c cs e = elim (front c cs (spelt c e)) [
   | inl h ↦ inr (ap length h.0)
   | inr (inl h) ↦ inr (ap length h.0)
   | inr (inr h) ↦ inl (ap length h.0)
 ]
 
-no_shorter : (a : List ℕ) → list_all is_atom_byte a ≡ true → length a ≤ length (escaped a)
+no_shorter : (a : List ℕ) → list_all is_atom_byte a ≡ true → length a ≤ length (escaped_text a)
 no_shorter [] all = omega arith
 no_shorter (c ∷ cs) all =
-    let two = both (is_atom_byte c) (list_all is_atom_byte cs) all in
+    let two = and_parts (is_atom_byte c) (list_all is_atom_byte cs) all in
     let more = no_shorter cs two.1 in
     elim (escaped_once c cs two.0) [ inl h ↦ omega (arith, more, h) | inr h ↦ omega (arith, more, h) ]
 
-text_length : (a : List ℕ) → list_all is_atom_byte a ≡ true → length (atom_text a) ≤ length (escaped a) + 2
+text_length : (a : List ℕ) → list_all is_atom_byte a ≡ true → length (atom_text a) ≤ length (escaped_text a) + 2
 text_length a all = go (is_bare a) refl
   where
-    go : (b : Bool) → is_bare a ≡ b → length (atom_text a) ≤ length (escaped a) + 2
+    go : (b : Bool) → is_bare a ≡ b → length (atom_text a) ≤ length (escaped_text a) + 2
     go true e = let same : atom_text a ≡ a = rw e refl in omega (arith, ap length same, no_shorter a all)
-    go false e = let same : atom_text a ≡ 39 ∷ (escaped a ++ 39 ∷ []) = rw e refl in omega (arith, ap length same, length-append (escaped a) (39 ∷ []))
+    go false e = let same : atom_text a ≡ 39 ∷ (escaped_text a ++ 39 ∷ []) = rw e refl in omega (arith, ap length same, length-append (escaped_text a) (39 ∷ []))
 
 at_most : (k : TokenKind) (n : ℕ) → not (nat_le n 255) ≡ false → n ≤ 255
 at_most k n e = grind arith
@@ -76,7 +76,7 @@ character b e = grind arith
 word_atoms : (bytes : List ℕ) → list_all is_word_byte bytes ≡ true → list_all is_atom_byte bytes ≡ true
 word_atoms [] all = refl
 word_atoms (b ∷ bytes) all =
-    let two = both (is_word_byte b) (list_all is_word_byte bytes) all in
+    let two = and_parts (is_word_byte b) (list_all is_word_byte bytes) all in
     ap (λ (x : Bool). x && list_all is_atom_byte bytes) (character b two.0) ∙ word_atoms bytes two.1
 
 -- which kind it is
@@ -98,11 +98,11 @@ quoted_case false false r false true s e = absurd cc
 quoted_case false false r false false true e = absurd cc
 quoted_case false false r false false false e = absurd cc
 
-atom_good : (bytes : List ℕ) → kind_of bytes ≡ Some kind.Atom → is_long kind.Atom bytes ≡ false → IsAtom bytes
-unfolding kind_of
+atom_good : (bytes : List ℕ) → token_kind_of bytes ≡ Some kind.Atom → is_long kind.Atom bytes ≡ false → IsAtom bytes
+unfolding token_kind_of
 atom_good bytes e short =
-    let is = atom_case (is_variable bytes) (is_word bytes) (is_reserved bytes) (is_quoted bytes) (are_digits (digits_of bytes)) (is_sign bytes) e in
-    let two = both _ (list_all is_word_byte bytes) is.0 in
+    let is = atom_case (is_variable bytes) (is_lower_word bytes) (is_reserved bytes) (is_quoted bytes) (are_digits (digits_of bytes)) (is_sign bytes) e in
+    let two = and_parts _ (list_all is_word_byte bytes) is.0 in
     let all = word_atoms bytes two.1 in
     let bare : is_bare bytes ≡ true = rw (two.0, two.1, is.1) refl in
     let same : atom_text bytes ≡ bytes = rw bare refl in
@@ -113,7 +113,7 @@ record Inside (cs : List ℕ) : Type 0 where
   text : List ℕ
   is : cs ≡ text ++ 39 ∷ []
   good : list_all is_atom_byte (unescaped text) ≡ true
-  short : length (escaped (unescaped text)) ≤ length text
+  short : length (escaped_text (unescaped text)) ≤ length text
 
 -- a byte that an escape stands for, and one that is a character
 escape_byte : (c : ℕ) → is_escape c ≡ true → is_atom_byte (cond (eqb c 110) 10 c) ≡ true
@@ -122,7 +122,7 @@ escape_byte c e = grind arith
 character_byte : (b : ℕ) → is_character b ≡ true → is_atom_byte b ≡ true
 character_byte b e = ap (λ (x : Bool). x || (eqb b 39 || (eqb b 92 || eqb b 10))) e
 
-character_once : (b : ℕ) (cs : List ℕ) → is_character b ≡ true → eqb b 92 ≡ false → escaped (b ∷ cs) ≡ b ∷ escaped cs
+character_once : (b : ℕ) (cs : List ℕ) → is_character b ≡ true → eqb b 92 ≡ false → escaped_text (b ∷ cs) ≡ b ∷ escaped_text cs
 character_once b cs e plain =
     let newline : eqb b 10 ≡ false = grind arith in
     let quote : eqb b 39 ≡ false = grind arith in
@@ -137,7 +137,7 @@ inside_of (b ∷ c ∷ bs) e = go (eqb b 92) refl (λ h. inside_of bs h) (λ h. 
   where
     go : (k : Bool) → eqb b 92 ≡ k → (closes_quote bs ≡ true → Inside bs) → (closes_quote (c ∷ bs) ≡ true → Inside (c ∷ bs)) → cond k (is_escape c && closes_quote bs) (is_character b && closes_quote (c ∷ bs)) ≡ true → Inside (b ∷ c ∷ bs)
     go true k short_one long_one h =
-        let both_of = both (is_escape c) (closes_quote bs) h in
+        let both_of = and_parts (is_escape c) (closes_quote bs) h in
         let i = short_one both_of.1 in
         let unit : unescaped (b ∷ c ∷ i.text) ≡ cond (eqb c 110) 10 c ∷ unescaped i.text = rw k refl in
         let byte = escape_byte c both_of.0 in
@@ -146,11 +146,11 @@ inside_of (b ∷ c ∷ bs) e = go (eqb b 92) refl (λ h. inside_of bs h) (λ h. 
           is = ap (λ (xs : List ℕ). b ∷ c ∷ xs) i.is;
           good = ap (list_all is_atom_byte) unit ∙ (ap (λ (x : Bool). x && list_all is_atom_byte (unescaped i.text)) byte ∙ i.good);
           short =
-              let l : length (escaped (unescaped (b ∷ c ∷ i.text))) ≡ length (escaped (cond (eqb c 110) 10 c ∷ unescaped i.text)) = ap (λ (xs : List ℕ). length (escaped xs)) unit in
+              let l : length (escaped_text (unescaped (b ∷ c ∷ i.text))) ≡ length (escaped_text (cond (eqb c 110) 10 c ∷ unescaped i.text)) = ap (λ (xs : List ℕ). length (escaped_text xs)) unit in
               elim (escaped_once (cond (eqb c 110) 10 c) (unescaped i.text) byte) [ inl n ↦ omega (arith, l, n, i.short) | inr n ↦ omega (arith, l, n, i.short) ];
         }
     go false k short_one long_one h =
-        let both_of = both (is_character b) (closes_quote (c ∷ bs)) h in
+        let both_of = and_parts (is_character b) (closes_quote (c ∷ bs)) h in
         let i = long_one both_of.1 in
         let unit = plain_unescaped b i.text k in
         let once = character_once b (unescaped i.text) both_of.0 k in
@@ -158,15 +158,15 @@ inside_of (b ∷ c ∷ bs) e = go (eqb b 92) refl (λ h. inside_of bs h) (λ h. 
           text = b ∷ i.text;
           is = ap (λ (xs : List ℕ). b ∷ xs) i.is;
           good = ap (list_all is_atom_byte) unit ∙ (ap (λ (x : Bool). x && list_all is_atom_byte (unescaped i.text)) (character_byte b both_of.0) ∙ i.good);
-          short = let l : length (escaped (unescaped (b ∷ i.text))) ≡ suc (length (escaped (unescaped i.text))) = ap (λ (xs : List ℕ). length (escaped xs)) unit ∙ ap length once in omega (arith, l, i.short);
+          short = let l : length (escaped_text (unescaped (b ∷ i.text))) ≡ suc (length (escaped_text (unescaped i.text))) = ap (λ (xs : List ℕ). length (escaped_text xs)) unit ∙ ap length once in omega (arith, l, i.short);
         }
 
-quoted_good : (bytes : List ℕ) → IsUtf8 bytes → kind_of bytes ≡ Some kind.Quoted → is_long kind.Quoted bytes ≡ false → IsText (quoted_text bytes)
-unfolding kind_of
+quoted_good : (bytes : List ℕ) → IsUtf8 bytes → token_kind_of bytes ≡ Some kind.Quoted → is_long kind.Quoted bytes ≡ false → IsText (quoted_text bytes)
+unfolding token_kind_of
 quoted_good [] utf8 e short = absurd cc
 quoted_good (b ∷ cs) utf8 e short =
-    let is = quoted_case (is_variable (b ∷ cs)) (is_word (b ∷ cs)) (is_reserved (b ∷ cs)) (is_quoted (b ∷ cs)) (are_digits (digits_of (b ∷ cs))) (is_sign (b ∷ cs)) e in
-    let two = both (eqb b 39) (closes_quote cs) is in
+    let is = quoted_case (is_variable (b ∷ cs)) (is_lower_word (b ∷ cs)) (is_reserved (b ∷ cs)) (is_quoted (b ∷ cs)) (are_digits (digits_of (b ∷ cs))) (is_sign (b ∷ cs)) e in
+    let two = and_parts (eqb b 39) (closes_quote cs) is in
     let i = inside_of cs two.1 in
     let text : quoted_text (b ∷ cs) ≡ unescaped i.text = ap (λ (xs : List ℕ). unescaped (take (length (b ∷ xs) - 2) xs)) i.is ∙ ap unescaped (inside i.text) in
     let long = at_most kind.Quoted (length (b ∷ cs)) short in
@@ -216,7 +216,7 @@ sign_good : (text : List ℕ) → IsSpelled (sign_symbol text)
 unfolding sign_symbol
 sign_good text = (either (bytes_eq text (codes "=")) t.Equals _ tt (either (bytes_eq text (codes "(")) t.OpenRound _ tt (either (bytes_eq text (codes ")")) t.CloseRound _ tt (either (bytes_eq text (codes "{")) t.OpenCurly _ tt (either (bytes_eq text (codes "}")) t.CloseCurly _ tt (either (bytes_eq text (codes "$")) t.Dollar _ tt (either (bytes_eq text (codes ":")) t.Colon _ tt (either (bytes_eq text (codes ".")) t.Dot _ tt (either (bytes_eq text (codes "|")) t.Bar _ tt (either (bytes_eq text (codes "+")) (t.Operator op.Add) _ tt (either (bytes_eq text (codes "-")) (t.Operator op.Sub) _ tt (either (bytes_eq text (codes "*")) (t.Operator op.Mul) _ tt (either (bytes_eq text (codes "=<")) (t.Operator op.Le) _ tt (either (bytes_eq text (codes "<")) (t.Operator op.Lt) _ tt (either (bytes_eq text (codes ">=")) (t.Operator op.Ge) _ tt (either (bytes_eq text (codes ">")) (t.Operator op.Gt) _ tt tt))))))))))))))))
 
-token_good : (k : TokenKind) (bytes : List ℕ) → IsUtf8 bytes → kind_of bytes ≡ Some k → is_long k bytes ≡ false → IsSpelled (symbol_at (Ok k) bytes)
+token_good : (k : TokenKind) (bytes : List ℕ) → IsUtf8 bytes → token_kind_of bytes ≡ Some k → is_long k bytes ≡ false → IsSpelled (symbol_at (Ok k) bytes)
 token_good kind.Variable bytes utf8 e short = tt
 token_good kind.Atom bytes utf8 e short = is_text bytes utf8 (atom_good bytes e short)
 token_good kind.Quoted bytes utf8 e short = quoted_good bytes utf8 e short
@@ -230,7 +230,7 @@ pub record Cut (bytes rest : List ℕ) : Type 0 where
   pub token : IsUtf8 bytes
   pub behind : IsUtf8 rest
 
-cut_out : (text pre bytes rest : List ℕ) (k : TokenKind) → IsUtf8 text → text ≡ pre ++ (bytes ++ rest) → kind_of bytes ≡ Some k → Cut bytes rest
+cut_out : (text pre bytes rest : List ℕ) (k : TokenKind) → IsUtf8 text → text ≡ pre ++ (bytes ++ rest) → token_kind_of bytes ≡ Some k → Cut bytes rest
 cut_out text pre bytes rest k utf8 is spells =
     let front : drop (length pre) text ≡ bytes ++ rest = ap (λ (xs : List ℕ). drop (length pre) xs) is ∙ drop_front pre (bytes ++ rest) in
     let l : length text ≡ length pre + (length bytes + length rest) = ap length is ∙ (length-append pre (bytes ++ rest) ∙ ap (λ (n : ℕ). length pre + n) (length-append bytes rest)) in

@@ -8,7 +8,7 @@ use Rattle.oz_grammar.specs.declared.fault.Fault.{Fault}
 use Rattle.oz_grammar.specs.Grammar.{Plain, Skips, Tells, Calls, Raises, Opening, Locals, ProcValue, ProcNamed, Threads, ThreadsAt, Ifs, Cases, Statement, Simple, Block, Chooses, Tries, Sequence, One, Then, stmt_text, seq_text, closer_symbol, program_text}
 use Rattle.oz_grammar.specs.Scoping.{Scope, StmtDerives, SeqDerives, Derives, opening_scope, choice_scope}
 use Rattle.oz_grammar.specs.Faults.{deep_fault, fewer}
-use Rattle.oz_grammar.specs.Check.{stop, check_opening, check_choice, check_stmt, check_seq, check}
+use Rattle.oz_grammar.specs.Check.{first_fault, check_opening, check_choice, check_stmt, check_seq, check}
 use Rattle.oz_grammar.specs.Points.{Stage, First, Later, Point, At, run, start}
 use Rattle.oz_grammar.proofs.Heads.{ends_value, opening_stage, plain_run, opening_run, choice_run}
 
@@ -53,14 +53,14 @@ mutual
   stmt_run (Simple s) stage c scope d rest σ e good = plain_run s stage c scope d rest σ e good
   stmt_run (Block o q) stage c scope d rest σ e good =
       opening_run o stage c scope d (seq_text q (t.End ∷ rest)) σ
-      ∙ ap (λ (b : Option Fault). stop (deep_fault d) (stmt_text (Block o q) rest) (check_opening o scope (seq_text q (t.End ∷ rest)) b)) (seq_run q (opening_stage o) closer.End (opening_scope o scope) (fewer d) rest (At Later c scope d ∷ σ) good)
+      ∙ ap (λ (b : Option Fault). first_fault (deep_fault d) (stmt_text (Block o q) rest) (check_opening o scope (seq_text q (t.End ∷ rest)) b)) (seq_run q (opening_stage o) closer.End (opening_scope o scope) (fewer d) rest (At Later c scope d ∷ σ) good)
   stmt_run (Chooses h q r) stage c scope d rest σ e good =
       choice_run h stage c scope d (seq_text q (t.Else ∷ seq_text r (t.End ∷ rest))) σ
-      ∙ ap (λ (b : Option Fault). stop (deep_fault d) (stmt_text (Chooses h q r) rest) (check_choice h scope (seq_text q (t.Else ∷ seq_text r (t.End ∷ rest))) b))
+      ∙ ap (λ (b : Option Fault). first_fault (deep_fault d) (stmt_text (Chooses h q r) rest) (check_choice h scope (seq_text q (t.Else ∷ seq_text r (t.End ∷ rest))) b))
       (seq_run q First closer.Else (choice_scope h scope) (fewer d) (seq_text r (t.End ∷ rest)) (At First closer.End scope (fewer d) ∷ At Later c scope d ∷ σ) good.0
       ∙ ap (λ (b : Option Fault). check_seq q (fewer d) (choice_scope h scope) (t.Else ∷ seq_text r (t.End ∷ rest)) b) (seq_run r First closer.End scope (fewer d) rest (At Later c scope d ∷ σ) good.1))
   stmt_run (Tries q x r) stage c scope d rest σ e good =
-      ap (λ (b : Option Fault). stop (deep_fault d) (stmt_text (Tries q x r) rest) b)
+      ap (λ (b : Option Fault). first_fault (deep_fault d) (stmt_text (Tries q x r) rest) b)
       (seq_run q First closer.Catch scope (fewer d) (t.Variable x ∷ t.Then ∷ seq_text r (t.End ∷ rest)) _ good.0
       ∙ ap (λ (b : Option Fault). check_seq q (fewer d) scope (t.Catch ∷ t.Variable x ∷ t.Then ∷ seq_text r (t.End ∷ rest)) b) (seq_run r First closer.End (scope ++ x ∷ []) (fewer d) rest (At Later c scope d ∷ σ) good.1))
 

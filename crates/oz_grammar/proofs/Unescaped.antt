@@ -1,11 +1,10 @@
 -- A text in UTF-8 is one without its escapes, too.
 use Rattle.std.proofs.Common.{◌≡◌, ◌∙◌, ◌⊎◌, inl, inr, ℕ, zero, suc, ◌+◌, ◌/◌, ◌<◌, ◌≤◌, List, [], ◌∷◌, ◌++◌, length, take, get_or, eqb, ltb, Bool, true, false, cond, IsUtf8, refl, sym, ap, subst, arith}
 use Rattle.std.specs.Prelude.{◌&&◌}
-use Rattle.std.proofs.lemmas.Bool.{cases_lt}
+use Rattle.std.proofs.lemmas.Bool.{cases_lt, and_parts}
 use Rattle.std.proofs.lemmas.Str.{IsUtf8-append, IsUtf8-nil, IsUtf8-encode, IsUtf8-from_ascii, IsUtf8-past_char, IsUtf8-take, IsCharBoundary-at_seam, encode_ascii, inside_one}
 use lib.Utf8.{scalar, scalars, next, encodes, encode, low_scalar}
 use Rattle.oz_lexer.specs.Spelling.{unescaped}
-use Rattle.oz_grammar.proofs.Digits.{both}
 use Rattle.oz_grammar.proofs.Atoms.{plain_unescaped}
 
 -- no byte of ASCII
@@ -83,14 +82,14 @@ mutual
   without_escapes : (cs : List ℕ) → scalars cs ≡ true → IsUtf8 (unescaped (encodes cs))
   without_escapes [] e = IsUtf8-nil
   without_escapes (c ∷ cs) e =
-      let two = both (scalar c) (scalars cs) e in
+      let two = and_parts (scalar c) (scalars cs) e in
       first_character c cs two.0 (cases_lt c 128) (eqb c 92) refl (without_escapes cs two.1) (escape_first cs two.1)
 
   -- behind a backslash
   escape_first : (cs : List ℕ) → scalars cs ≡ true → IsUtf8 (unescaped (92 ∷ encodes cs))
   escape_first [] e = ascii_before 92 [] (omega arith) IsUtf8-nil
   escape_first (c ∷ cs) e =
-      let two = both (scalar c) (scalars cs) e in
+      let two = and_parts (scalar c) (scalars cs) e in
       escaped_character c cs two.0 (cases_lt c 128) (without_escapes cs two.1)
 
 pub unescaped_utf8 : (bs : List ℕ) → IsUtf8 bs → IsUtf8 (unescaped bs)

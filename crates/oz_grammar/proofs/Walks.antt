@@ -7,11 +7,11 @@ use Rattle.oz_grammar.specs.declared.fault.Fault.{Fault}
 use Rattle.oz_grammar.specs.declared.fault.FaultKind.{FaultKind}
 use Rattle.oz_grammar.specs.declared.fault.FaultKind.TheVariants.{Expected}
 use Rattle.oz_grammar.specs.Faults.{fault_here}
-use Rattle.oz_grammar.specs.Check.{stop}
-use Rattle.oz_grammar.specs.Points.{Point, expects, next_of, wrong_at, refusal, moved, run, goes_on, walk}
+use Rattle.oz_grammar.specs.Check.{first_fault}
+use Rattle.oz_grammar.specs.Points.{Point, expects, next_of, wrong_at, refusal, run_step, run, goes_on, walk}
 use Rattle.oz_grammar.specs.Reads.{SameHead}
 
-run_moved : (p : Point) (o : Option (List Point)) (w : Option FaultKind) (x : Symbol) (front a : List Symbol) (σ τ : List Point) → ((ρ : List Point) → walk front ρ ≡ Some τ → run (front ++ a) ρ ≡ run a τ) → goes_on o w (walk front) σ ≡ Some τ → moved p o w (x ∷ front ++ a) (run (front ++ a)) σ ≡ run a τ
+run_moved : (p : Point) (o : Option (List Point)) (w : Option FaultKind) (x : Symbol) (front a : List Symbol) (σ τ : List Point) → ((ρ : List Point) → walk front ρ ≡ Some τ → run (front ++ a) ρ ≡ run a τ) → goes_on o w (walk front) σ ≡ Some τ → run_step p o w (x ∷ front ++ a) (run (front ++ a)) σ ≡ run a τ
 run_moved p (Some points) None x front a σ τ ih e = ih (points ++ σ) e
 run_moved p (Some points) (Some kind) x front a σ τ ih e = absurd cc
 run_moved p None w x front a σ τ ih e = absurd cc
@@ -46,7 +46,7 @@ pub record Stopped (symbols : List Symbol) (σ : List Point) (f : Fault) : Type 
 one_walked : (p : Point) (σ : List Point) (x : Symbol) (front : List Symbol) (points τ : List Point) → next_of p x ≡ Some points → wrong_at p x ≡ None → walk front (points ++ σ) ≡ Some τ → walk (x ∷ front) (p ∷ σ) ≡ Some τ
 one_walked p σ x front points τ n w e = rw (n, w) e
 
-stopped_moved : (p : Point) (σ : List Point) (x : Symbol) (xs : List Symbol) (f : Fault) (o : Option (List Point)) (w : Option FaultKind) → next_of p x ≡ o → wrong_at p x ≡ w → ((ρ : List Point) → run xs ρ ≡ Some f → Stopped xs ρ f) → moved p o w (x ∷ xs) (run xs) σ ≡ Some f → Stopped (x ∷ xs) (p ∷ σ) f
+stopped_moved : (p : Point) (σ : List Point) (x : Symbol) (xs : List Symbol) (f : Fault) (o : Option (List Point)) (w : Option FaultKind) → next_of p x ≡ o → wrong_at p x ≡ w → ((ρ : List Point) → run xs ρ ≡ Some f → Stopped xs ρ f) → run_step p o w (x ∷ xs) (run xs) σ ≡ Some f → Stopped (x ∷ xs) (p ∷ σ) f
 stopped_moved p σ x xs f None w n e ih h = record {
   front = [];
   rest = x ∷ xs;
@@ -102,10 +102,10 @@ refusal_head : (w : What) (x : Symbol) (xs ys : List Symbol) → refusal w (x �
 refusal_head w (t.Bad kind) xs ys = refl
 refusal_head w x xs ys = refl
 
-kind_stops : (p : Point) (o : Option (List Point)) (w : Option FaultKind) (x : Symbol) (xs ys : List Symbol) (σ : List Point) (kind : FaultKind) → kind_at p o w (x ∷ xs) ≡ Some kind → moved p o w (x ∷ ys) (run ys) σ ≡ Some (fault_here kind (x ∷ ys))
+kind_stops : (p : Point) (o : Option (List Point)) (w : Option FaultKind) (x : Symbol) (xs ys : List Symbol) (σ : List Point) (kind : FaultKind) → kind_at p o w (x ∷ xs) ≡ Some kind → run_step p o w (x ∷ ys) (run ys) σ ≡ Some (fault_here kind (x ∷ ys))
 kind_stops p None w x xs ys σ kind e =
     let same : refusal (expects p) (x ∷ xs) ≡ kind = cc in ap (λ (k : FaultKind). Some (fault_here k (x ∷ ys))) (refusal_head (expects p) x ys xs ∙ same)
-kind_stops p (Some points) w x xs ys σ kind e = ap (λ (v : Option FaultKind). stop v (x ∷ ys) (run ys (points ++ σ))) e
+kind_stops p (Some points) w x xs ys σ kind e = ap (λ (v : Option FaultKind). first_fault v (x ∷ ys) (run ys (points ++ σ))) e
 
 -- the first symbol alone decides what is wrong at it
 pub stops_here : (p : Point) (σ : List Point) (rest a : List Symbol) (kind : FaultKind) → kind_of p rest ≡ Some kind → SameHead rest a → run a (p ∷ σ) ≡ Some (fault_here kind a)
@@ -114,7 +114,7 @@ stops_here p σ (x ∷ xs) a kind e same = rw same.1 (kind_stops p (next_of p x)
 
 -- ---- a fault stands at one of the symbols
 
-within_moved : (p : Point) (o : Option (List Point)) (w : Option FaultKind) (x : Symbol) (xs : List Symbol) (σ : List Point) (g : Fault) → ((ρ : List Point) → run xs ρ ≡ Some g → g.left ≤ length xs) → moved p o w (x ∷ xs) (run xs) σ ≡ Some g → g.left ≤ length (x ∷ xs)
+within_moved : (p : Point) (o : Option (List Point)) (w : Option FaultKind) (x : Symbol) (xs : List Symbol) (σ : List Point) (g : Fault) → ((ρ : List Point) → run xs ρ ≡ Some g → g.left ≤ length xs) → run_step p o w (x ∷ xs) (run xs) σ ≡ Some g → g.left ≤ length (x ∷ xs)
 within_moved p None w x xs σ g ih e =
     let same : fault_here (refusal (expects p) (x ∷ xs)) (x ∷ xs) ≡ g = cc in
     let l : length (x ∷ xs) ≡ g.left = ap (λ (f : Fault). f.left) same in omega arith

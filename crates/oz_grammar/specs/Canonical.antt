@@ -17,7 +17,7 @@ use Rattle.oz_grammar.specs.declared.symbol.BuiltIn.{BuiltIn}
 use Rattle.oz_grammar.specs.declared.symbol.BuiltIn.TheVariants as built
 use Rattle.oz_grammar.specs.Grammar.{Name, Mark, AtomMark, IntMark, Selection, ByVariable, ByMark, Field, Placed, Marked, Value, ToVar, Calculates, Selects, Pairs, ToInt, ToAtom, ToRecord, IntPattern, AtomPattern, RecordPattern, PairPattern, Plain, Skips, Tells, Calls, Raises, Opening, Locals, ProcValue, ProcNamed, Threads, ThreadsAt, Choice, Ifs, Cases, plain_text, opening_text, choice_text}
 use Rattle.oz_grammar.specs.Grammar as tree
-use Rattle.oz_grammar.specs.Table.{numbered}
+use Rattle.oz_grammar.specs.Table.{code_at}
 
 -- the identifier at a position
 abbrev pub name_at : ℕ → Name
@@ -59,8 +59,8 @@ pattern_tree first (pattern.Int z) = IntPattern (Some z)
 pattern_tree first (pattern.Atom a) = AtomPattern a
 pattern_tree first (pattern.Rec label features) = RecordPattern label (declared_fields first features)
 
-abbrev pub tells : ℕ → Value → Plain
-tells left v = Tells (name_at left) v
+abbrev pub tell_statement : ℕ → Value → Plain
+tell_statement left v = Tells (name_at left) v
 
 abbrev pub calls_built_in : BuiltIn → List ℕ → Plain
 calls_built_in b xs = Calls (built_in_name b) (map name_at xs)
@@ -83,13 +83,13 @@ abbrev pub row_symbols : (CodeId → List Symbol → List Symbol) → Stmt → L
 row_symbols body (stmt.Seq bodies) rest = bodies_symbols body bodies rest
 row_symbols body stmt.Skip rest = plain_text Skips rest
 row_symbols body (stmt.Local first count c) rest = opening_text (local_opening first count) (body c (t.End ∷ rest))
-row_symbols body (stmt.TellVar left right) rest = plain_text (tells left (ToVar (name_at right))) rest
-row_symbols body (stmt.TellInt left value) rest = plain_text (tells left (ToInt (Some value))) rest
-row_symbols body (stmt.TellAtom left a) rest = plain_text (tells left (ToAtom a)) rest
-row_symbols body (stmt.TellRec left label slots) rest = plain_text (tells left (ToRecord label (map slot_field slots))) rest
+row_symbols body (stmt.TellVar left right) rest = plain_text (tell_statement left (ToVar (name_at right))) rest
+row_symbols body (stmt.TellInt left value) rest = plain_text (tell_statement left (ToInt (Some value))) rest
+row_symbols body (stmt.TellAtom left a) rest = plain_text (tell_statement left (ToAtom a)) rest
+row_symbols body (stmt.TellRec left label slots) rest = plain_text (tell_statement left (ToRecord label (map slot_field slots))) rest
 row_symbols body (stmt.TellProc left first count c) rest = opening_text (ProcValue (name_at left) (names_from first count)) (body c (t.End ∷ rest))
-row_symbols body (stmt.Calc left op a b) rest = plain_text (tells left (Calculates (name_at a) op (name_at b))) rest
-row_symbols body (stmt.Select left source by) rest = plain_text (tells left (Selects (name_at source) (selection_of by))) rest
+row_symbols body (stmt.Calc left op a b) rest = plain_text (tell_statement left (Calculates (name_at a) op (name_at b))) rest
+row_symbols body (stmt.Select left source by) rest = plain_text (tell_statement left (Selects (name_at source) (selection_of by))) rest
 row_symbols body (stmt.If subject chosen other) rest = choice_text (Ifs (name_at subject)) (body chosen (t.Else ∷ body other (t.End ∷ rest)))
 row_symbols body (stmt.Case subject pattern first chosen other) rest =
     choice_text (Cases (name_at subject) (pattern_tree first pattern)) (body chosen (t.Else ∷ body other (t.End ∷ rest)))
@@ -109,4 +109,4 @@ symbols_within (suc d) p c rest = row_symbols (symbols_within d p) (stmt_at p c)
 
 -- the symbols of a program
 unfoldable pub canonical_symbols : List Stmt → List Symbol
-canonical_symbols p = symbols_within (length p) p (numbered 0) (t.EndOfText ∷ [])
+canonical_symbols p = symbols_within (length p) p (code_at 0) (t.EndOfText ∷ [])

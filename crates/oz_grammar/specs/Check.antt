@@ -13,61 +13,61 @@ use Rattle.oz_grammar.specs.Scoping.{Scope, Fields, built_in_at, has_name, with_
 use Rattle.oz_grammar.specs.Faults.{where_so, number_fault, site_fault, deep_fault, use_fault, count_fault, called_fault, argument_fault, formal_fault, mark_fault, name_fault, placed_fault, selected_fault, fewer, fault_here}
 
 -- the fault at the first of these symbols, else the first one behind it
-abbrev pub stop : Option FaultKind → List Symbol → Option Fault → Option Fault
-stop (Some kind) symbols behind = Some (fault_here kind symbols)
-stop None symbols behind = behind
+abbrev pub first_fault : Option FaultKind → List Symbol → Option Fault → Option Fault
+first_fault (Some kind) symbols behind = Some (fault_here kind symbols)
+first_fault None symbols behind = behind
 
 -- Each of the following takes what stands behind, rest, and the first fault that is found there, behind.
 
 abbrev pub check_selection : Selection → Scope → List Symbol → Option Fault → Option Fault
-check_selection (ByVariable x) scope rest behind = stop (use_fault scope x) (t.Variable x ∷ rest) behind
-check_selection (ByMark m) scope rest behind = stop (selected_fault m) (mark_symbol m ∷ rest) behind
+check_selection (ByVariable x) scope rest behind = first_fault (use_fault scope x) (t.Variable x ∷ rest) behind
+check_selection (ByMark m) scope rest behind = first_fault (selected_fault m) (mark_symbol m ∷ rest) behind
 
 -- fields in brackets behind others, with room for so many
 abbrev pub check_fields : Purpose → Scope → ℕ → Fields → ℕ → List Field → List Symbol → Option Fault → Option Fault
 check_fields p scope room before next [] rest found = found
 check_fields p scope room before next (Placed x ∷ fs) rest found =
-    stop (placed_fault p scope room before next x) (fields_text (Placed x ∷ fs) rest)
+    first_fault (placed_fault p scope room before next x) (fields_text (Placed x ∷ fs) rest)
     (check_fields p scope (fewer room) (with_field (place_feature next) x before) (next + 1) fs rest found)
 check_fields p scope room before next (Marked m x ∷ fs) rest found =
-    stop (mark_fault room before m) (fields_text (Marked m x ∷ fs) rest)
-    (stop (name_fault p scope before x) (t.Variable x ∷ fields_text fs rest)
+    first_fault (mark_fault room before m) (fields_text (Marked m x ∷ fs) rest)
+    (first_fault (name_fault p scope before x) (t.Variable x ∷ fields_text fs rest)
     (check_fields p scope (fewer room) (with_field (feature_of m) x before) next fs rest found))
 
 abbrev pub check_value : Value → Scope → List Symbol → Option Fault → Option Fault
-check_value (ToVar y) scope rest behind = stop (use_fault scope y) (value_text (ToVar y) rest) behind
-check_value (Calculates y o z) scope rest behind = stop (use_fault scope y) (value_text (Calculates y o z) rest) (stop (use_fault scope z) (t.Variable z ∷ rest) behind)
-check_value (Selects y s) scope rest behind = stop (use_fault scope y) (value_text (Selects y s) rest) (check_selection s scope rest behind)
-check_value (Pairs h u) scope rest behind = stop (use_fault scope h) (value_text (Pairs h u) rest) (stop (use_fault scope u) (t.Variable u ∷ rest) behind)
-check_value (ToInt n) scope rest behind = stop (number_fault n) (t.Integer n ∷ rest) behind
+check_value (ToVar y) scope rest behind = first_fault (use_fault scope y) (value_text (ToVar y) rest) behind
+check_value (Calculates y o z) scope rest behind = first_fault (use_fault scope y) (value_text (Calculates y o z) rest) (first_fault (use_fault scope z) (t.Variable z ∷ rest) behind)
+check_value (Selects y s) scope rest behind = first_fault (use_fault scope y) (value_text (Selects y s) rest) (check_selection s scope rest behind)
+check_value (Pairs h u) scope rest behind = first_fault (use_fault scope h) (value_text (Pairs h u) rest) (first_fault (use_fault scope u) (t.Variable u ∷ rest) behind)
+check_value (ToInt n) scope rest behind = first_fault (number_fault n) (t.Integer n ∷ rest) behind
 check_value (ToAtom a) scope rest behind = behind
 check_value (ToRecord a fs) scope rest behind = check_fields purpose.Use scope 64 [] 1 fs (t.CloseRound ∷ rest) behind
 
 -- an integer pattern's number; a variable is given once in a pattern
 abbrev pub check_pattern : Pattern → Scope → List Symbol → Option Fault → Option Fault
-check_pattern (IntPattern n) scope rest behind = stop (number_fault n) (t.Integer n ∷ rest) behind
+check_pattern (IntPattern n) scope rest behind = first_fault (number_fault n) (t.Integer n ∷ rest) behind
 check_pattern (AtomPattern a) scope rest behind = behind
 check_pattern (RecordPattern a fs) scope rest behind = check_fields purpose.Declare scope 64 [] 1 fs (t.CloseRound ∷ rest) behind
-check_pattern (PairPattern h u) scope rest behind = stop (where_so (has_name (h ∷ []) u) Twice) (t.Variable u ∷ rest) behind
+check_pattern (PairPattern h u) scope rest behind = first_fault (where_so (has_name (h ∷ []) u) Twice) (t.Variable u ∷ rest) behind
 
 -- further names of a `local`, behind others
 abbrev pub check_locals : List Name → List Name → List Symbol → Option Fault → Option Fault
 check_locals before [] rest behind = behind
-check_locals before (x ∷ xs) rest behind = stop (count_fault (length before)) (names_text (x ∷ xs) rest) (check_locals (before ++ x ∷ []) xs rest behind)
+check_locals before (x ∷ xs) rest behind = first_fault (count_fault (length before)) (names_text (x ∷ xs) rest) (check_locals (before ++ x ∷ []) xs rest behind)
 
 abbrev pub check_formals : List Name → List Name → List Symbol → Option Fault → Option Fault
 check_formals before [] rest behind = behind
-check_formals before (x ∷ xs) rest behind = stop (formal_fault before x) (names_text (x ∷ xs) rest) (check_formals (before ++ x ∷ []) xs rest behind)
+check_formals before (x ∷ xs) rest behind = first_fault (formal_fault before x) (names_text (x ∷ xs) rest) (check_formals (before ++ x ∷ []) xs rest behind)
 
 -- the arguments of a call, behind n others
 abbrev pub check_arguments : Scope → ℕ → List Name → List Symbol → Option Fault → Option Fault
 check_arguments scope n [] rest behind = behind
-check_arguments scope n (x ∷ xs) rest behind = stop (argument_fault scope n x) (names_text (x ∷ xs) rest) (check_arguments scope (n + 1) xs rest behind)
+check_arguments scope n (x ∷ xs) rest behind = first_fault (argument_fault scope n x) (names_text (x ∷ xs) rest) (check_arguments scope (n + 1) xs rest behind)
 
 -- those of what is built in, which has its number of them
 abbrev pub check_uses : Scope → List Name → List Symbol → Option Fault → Option Fault
 check_uses scope [] rest behind = behind
-check_uses scope (x ∷ xs) rest behind = stop (use_fault scope x) (names_text (x ∷ xs) rest) (check_uses scope xs rest behind)
+check_uses scope (x ∷ xs) rest behind = first_fault (use_fault scope x) (names_text (x ∷ xs) rest) (check_uses scope xs rest behind)
 
 abbrev pub check_call : Option BuiltIn → Scope → List Name → List Symbol → Option Fault → Option Fault
 check_call (Some b) scope xs rest behind = check_uses scope xs rest behind
@@ -75,39 +75,39 @@ check_call None scope xs rest behind = check_arguments scope 0 xs rest behind
 
 abbrev pub check_plain : Plain → Scope → List Symbol → Option Fault → Option Fault
 check_plain Skips scope rest behind = behind
-check_plain (Tells x v) scope rest behind = stop (use_fault scope x) (plain_text (Tells x v) rest) (check_value v scope rest behind)
+check_plain (Tells x v) scope rest behind = first_fault (use_fault scope x) (plain_text (Tells x v) rest) (check_value v scope rest behind)
 check_plain (Calls p xs) scope rest behind =
-    stop (called_fault (built_in_at scope p) scope p) (t.Variable p ∷ names_text xs (t.CloseCurly ∷ rest))
+    first_fault (called_fault (built_in_at scope p) scope p) (t.Variable p ∷ names_text xs (t.CloseCurly ∷ rest))
     (check_call (built_in_at scope p) scope xs (t.CloseCurly ∷ rest) behind)
-check_plain (Raises x) scope rest behind = stop (use_fault scope x) (t.Variable x ∷ t.End ∷ rest) behind
+check_plain (Raises x) scope rest behind = first_fault (use_fault scope x) (t.Variable x ∷ t.End ∷ rest) behind
 
 abbrev pub check_opening : Opening → Scope → List Symbol → Option Fault → Option Fault
 check_opening (Locals x xs) scope rest behind = check_locals (x ∷ []) xs (t.In ∷ rest) behind
-check_opening (ProcValue x xs) scope rest behind = stop (use_fault scope x) (opening_text (ProcValue x xs) rest) (check_formals [] xs (t.CloseCurly ∷ rest) behind)
-check_opening (ProcNamed x xs) scope rest behind = stop (use_fault scope x) (t.Variable x ∷ names_text xs (t.CloseCurly ∷ rest)) (check_formals [] xs (t.CloseCurly ∷ rest) behind)
+check_opening (ProcValue x xs) scope rest behind = first_fault (use_fault scope x) (opening_text (ProcValue x xs) rest) (check_formals [] xs (t.CloseCurly ∷ rest) behind)
+check_opening (ProcNamed x xs) scope rest behind = first_fault (use_fault scope x) (t.Variable x ∷ names_text xs (t.CloseCurly ∷ rest)) (check_formals [] xs (t.CloseCurly ∷ rest) behind)
 check_opening Threads scope rest behind = behind
-check_opening (ThreadsAt n) scope rest behind = stop (site_fault n) (t.Integer n ∷ rest) behind
+check_opening (ThreadsAt n) scope rest behind = first_fault (site_fault n) (t.Integer n ∷ rest) behind
 
 abbrev pub check_choice : Choice → Scope → List Symbol → Option Fault → Option Fault
-check_choice (Ifs x) scope rest behind = stop (use_fault scope x) (t.Variable x ∷ t.Then ∷ rest) behind
+check_choice (Ifs x) scope rest behind = first_fault (use_fault scope x) (t.Variable x ∷ t.Then ∷ rest) behind
 check_choice (Cases x p) scope rest behind =
-    stop (use_fault scope x) (t.Variable x ∷ t.Of ∷ pattern_text p (t.Then ∷ rest)) (check_pattern p scope (t.Then ∷ rest) behind)
+    first_fault (use_fault scope x) (t.Variable x ∷ t.Of ∷ pattern_text p (t.Then ∷ rest)) (check_pattern p scope (t.Then ∷ rest) behind)
 
 -- a statement with d levels left for itself and the statements in it, under these declarations
 abbrev mutual
   pub check_stmt : Statement → ℕ → Scope → List Symbol → Option Fault → Option Fault
-  check_stmt (Simple s) d scope rest behind = stop (deep_fault d) (plain_text s rest) (check_plain s scope rest behind)
+  check_stmt (Simple s) d scope rest behind = first_fault (deep_fault d) (plain_text s rest) (check_plain s scope rest behind)
   check_stmt (Block o q) d scope rest behind =
-      stop (deep_fault d) (stmt_text (Block o q) rest)
+      first_fault (deep_fault d) (stmt_text (Block o q) rest)
       (check_opening o scope (seq_text q (t.End ∷ rest))
       (check_seq q (fewer d) (opening_scope o scope) (t.End ∷ rest) behind))
   check_stmt (Chooses h q r) d scope rest behind =
-      stop (deep_fault d) (stmt_text (Chooses h q r) rest)
+      first_fault (deep_fault d) (stmt_text (Chooses h q r) rest)
       (check_choice h scope (seq_text q (t.Else ∷ seq_text r (t.End ∷ rest)))
       (check_seq q (fewer d) (choice_scope h scope) (t.Else ∷ seq_text r (t.End ∷ rest))
       (check_seq r (fewer d) scope (t.End ∷ rest) behind)))
   check_stmt (Tries q x r) d scope rest behind =
-      stop (deep_fault d) (stmt_text (Tries q x r) rest)
+      first_fault (deep_fault d) (stmt_text (Tries q x r) rest)
       (check_seq q (fewer d) scope (t.Catch ∷ t.Variable x ∷ t.Then ∷ seq_text r (t.End ∷ rest))
       (check_seq r (fewer d) (scope ++ x ∷ []) (t.End ∷ rest) behind))
 

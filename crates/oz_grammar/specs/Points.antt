@@ -18,7 +18,7 @@ use Rattle.oz_grammar.specs.declared.fault.FaultKind.TheVariants.{Lex, Expected,
 use Rattle.oz_grammar.specs.Grammar.{Name, Mark, AtomMark, IntMark}
 use Rattle.oz_grammar.specs.Scoping.{Scope, Fields, built_in_at, arity_of, has_name, with_field, feature_of, place_feature, names_in}
 use Rattle.oz_grammar.specs.Faults.{or_else, where_so, number_fault, site_fault, deep_fault, use_fault, count_fault, called_fault, argument_fault, formal_fault, mark_fault, name_fault, placed_fault, fewer, fault_here}
-use Rattle.oz_grammar.specs.Check.{stop}
+use Rattle.oz_grammar.specs.Check.{first_fault}
 
 -- where a statement may begin: at the front of a sequence, at that of a thread's body, or behind a statement
 pub data Stage : Type 0 where
@@ -132,18 +132,18 @@ is_closer closer.EndOfText t.EndOfText = true
 is_closer c symbol = false
 
 -- behind the symbol that begins a statement
-abbrev pub begun : Closer → Scope → ℕ → Symbol → Option (List Point)
-begun c scope d t.Skip = Some (At Later c scope d ∷ [])
-begun c scope d (t.Variable x) = Some (Here sign.Equals ∷ ValueOf c scope d ∷ [])
-begun c scope d t.OpenCurly = Some (CallName scope ∷ At Later c scope d ∷ [])
-begun c scope d t.Raise = Some (Used scope ∷ Here sign.End ∷ At Later c scope d ∷ [])
-begun c scope d t.Local = Some (LocalName scope (fewer d) ∷ At Later c scope d ∷ [])
-begun c scope d t.Proc = Some (Here sign.OpenCurly ∷ ProcName scope (fewer d) ∷ At Later c scope d ∷ [])
-begun c scope d t.Thread = Some (At AfterThread closer.End scope (fewer d) ∷ At Later c scope d ∷ [])
-begun c scope d t.If = Some (Used scope ∷ Here sign.Then ∷ At First closer.Else scope (fewer d) ∷ At First closer.End scope (fewer d) ∷ At Later c scope d ∷ [])
-begun c scope d t.Case = Some (Used scope ∷ Here sign.Of ∷ PatternOf scope (fewer d) ∷ At First closer.End scope (fewer d) ∷ At Later c scope d ∷ [])
-begun c scope d t.Try = Some (At First closer.Catch scope (fewer d) ∷ CatchName scope (fewer d) ∷ At Later c scope d ∷ [])
-begun c scope d symbol = None
+abbrev pub points_behind_first : Closer → Scope → ℕ → Symbol → Option (List Point)
+points_behind_first c scope d t.Skip = Some (At Later c scope d ∷ [])
+points_behind_first c scope d (t.Variable x) = Some (Here sign.Equals ∷ ValueOf c scope d ∷ [])
+points_behind_first c scope d t.OpenCurly = Some (CallName scope ∷ At Later c scope d ∷ [])
+points_behind_first c scope d t.Raise = Some (Used scope ∷ Here sign.End ∷ At Later c scope d ∷ [])
+points_behind_first c scope d t.Local = Some (LocalName scope (fewer d) ∷ At Later c scope d ∷ [])
+points_behind_first c scope d t.Proc = Some (Here sign.OpenCurly ∷ ProcName scope (fewer d) ∷ At Later c scope d ∷ [])
+points_behind_first c scope d t.Thread = Some (At AfterThread closer.End scope (fewer d) ∷ At Later c scope d ∷ [])
+points_behind_first c scope d t.If = Some (Used scope ∷ Here sign.Then ∷ At First closer.Else scope (fewer d) ∷ At First closer.End scope (fewer d) ∷ At Later c scope d ∷ [])
+points_behind_first c scope d t.Case = Some (Used scope ∷ Here sign.Of ∷ PatternOf scope (fewer d) ∷ At First closer.End scope (fewer d) ∷ At Later c scope d ∷ [])
+points_behind_first c scope d t.Try = Some (At First closer.Catch scope (fewer d) ∷ CatchName scope (fewer d) ∷ At Later c scope d ∷ [])
+points_behind_first c scope d symbol = None
 
 -- what may stand there besides a statement: the closer, or `at`
 abbrev pub beside : Stage → Closer → Scope → ℕ → Symbol → Option (List Point)
@@ -157,7 +157,7 @@ or_points (Some points) others = Some points
 or_points None others = others
 
 abbrev pub next_stmt : Stage → Closer → Scope → ℕ → Symbol → Option (List Point)
-next_stmt stage c scope d symbol = or_points (begun c scope d symbol) (beside stage c scope d symbol)
+next_stmt stage c scope d symbol = or_points (points_behind_first c scope d symbol) (beside stage c scope d symbol)
 
 abbrev pub next_value : Closer → Scope → ℕ → Symbol → Option (List Point)
 next_value c scope d (t.Variable y) = Some (BehindVariable c scope d ∷ [])
@@ -265,23 +265,23 @@ next_of (CatchName scope d) symbol = on_variable (λ x. Here sign.Then ∷ At Fi
 
 -- ---- what is wrong at a symbol that goes on
 
-abbrev pub begins : Symbol → Bool
-begins t.Skip = true
-begins (t.Variable x) = true
-begins t.OpenCurly = true
-begins t.Raise = true
-begins t.Local = true
-begins t.Proc = true
-begins t.Thread = true
-begins t.If = true
-begins t.Case = true
-begins t.Try = true
-begins symbol = false
+abbrev pub begins_statement : Symbol → Bool
+begins_statement t.Skip = true
+begins_statement (t.Variable x) = true
+begins_statement t.OpenCurly = true
+begins_statement t.Raise = true
+begins_statement t.Local = true
+begins_statement t.Proc = true
+begins_statement t.Thread = true
+begins_statement t.If = true
+begins_statement t.Case = true
+begins_statement t.Try = true
+begins_statement symbol = false
 
 -- a statement's own fault: its depth, and the name that begins a tell
 abbrev pub stmt_fault : Scope → ℕ → Symbol → Option FaultKind
 stmt_fault scope d (t.Variable x) = or_else (deep_fault d) (use_fault scope x)
-stmt_fault scope d symbol = if begins symbol then deep_fault d else None
+stmt_fault scope d symbol = if begins_statement symbol then deep_fault d else None
 
 abbrev pub used_wrong : Scope → Symbol → Option FaultKind
 used_wrong scope (t.Variable x) = use_fault scope x
@@ -337,16 +337,16 @@ abbrev pub refusal : What → List Symbol → FaultKind
 refusal w (t.Bad kind ∷ rest) = Lex kind
 refusal w symbols = Expected w
 
-abbrev pub moved : Point → Option (List Point) → Option FaultKind → List Symbol → (List Point → Option Fault) → List Point → Option Fault
-moved p (Some points) wrong symbols on behind = stop wrong symbols (on (points ++ behind))
-moved p None wrong symbols on behind = Some (fault_here (refusal (expects p) symbols) symbols)
+abbrev pub run_step : Point → Option (List Point) → Option FaultKind → List Symbol → (List Point → Option Fault) → List Point → Option Fault
+run_step p (Some points) wrong symbols on behind = first_fault wrong symbols (on (points ++ behind))
+run_step p None wrong symbols on behind = Some (fault_here (refusal (expects p) symbols) symbols)
 
 -- the first fault of these symbols, read from these points
 abbrev pub run : List Symbol → List Point → Option Fault
 run [] [] = None
 run [] (p ∷ behind) = Some (fault_here (Expected (expects p)) [])
 run (symbol ∷ symbols) [] = None
-run (symbol ∷ symbols) (p ∷ behind) = moved p (next_of p symbol) (wrong_at p symbol) (symbol ∷ symbols) (run symbols) behind
+run (symbol ∷ symbols) (p ∷ behind) = run_step p (next_of p symbol) (wrong_at p symbol) (symbol ∷ symbols) (run symbols) behind
 
 abbrev pub goes_on : Option (List Point) → Option FaultKind → (List Point → Option (List Point)) → List Point → Option (List Point)
 goes_on (Some points) None on behind = on (points ++ behind)

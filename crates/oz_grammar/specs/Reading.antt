@@ -23,10 +23,10 @@ use Rattle.oz_grammar.specs.declared.fault.Fault.{Fault}
 use Rattle.oz_grammar.specs.declared.fault.FaultKind.{FaultKind}
 use Rattle.oz_grammar.specs.declared.fault.FaultKind.TheVariants.{Twice, Deep}
 use Rattle.oz_grammar.specs.Grammar.{Name, Mark, AtomMark, IntMark}
-use Rattle.oz_grammar.specs.Scoping.{Scope, Fields, place_of, built_in_at, arity_of, has_name, with_field, feature_of, place_feature, names_in}
+use Rattle.oz_grammar.specs.Scoping.{Scope, Fields, declaration_of, built_in_at, arity_of, has_name, with_field, feature_of, place_feature, names_in}
 use Rattle.oz_grammar.specs.Faults.{where_so, number_fault, site_fault, use_fault, count_fault, called_fault, argument_fault, formal_fault, mark_fault, name_fault, placed_fault, fault_here}
-use Rattle.oz_grammar.specs.Points.{after, expects_sign, is_sign, is_closer, begins, refusal}
-use Rattle.oz_grammar.specs.Table.{numbered, value_of, pair_row, slots_of, features_in, record_row, record_pattern, bar_label, two_features, built_in_row}
+use Rattle.oz_grammar.specs.Points.{after, expects_sign, is_sign, is_closer, begins_statement, refusal}
+use Rattle.oz_grammar.specs.Table.{code_at, value_of, pair_row, slots_of, features_in, record_row, record_pattern, bar_label, two_features, built_in_row}
 
 infixl 10 ◌>>=◌
 abbrev pub ◌>>=◌ : {A B : Type 0} → Result A Fault → (A → Result B Fault) → Result B Fault
@@ -34,31 +34,31 @@ abbrev pub ◌>>=◌ : {A B : Type 0} → Result A Fault → (A → Result B Fau
 (Err e) >>= f = Err e
 
 -- the symbol at the front is another than is expected
-abbrev pub refused : {A : Type 0} → What → List Symbol → Result A Fault
-refused w symbols = Err (fault_here (refusal w symbols) symbols)
+abbrev pub fault_expected : {A : Type 0} → What → List Symbol → Result A Fault
+fault_expected w symbols = Err (fault_here (refusal w symbols) symbols)
 
 -- what is read unless this is wrong at the front
-abbrev pub unless : {A : Type 0} → Option FaultKind → List Symbol → Result A Fault → Result A Fault
-unless (Some kind) symbols read = Err (fault_here kind symbols)
-unless None symbols read = read
+abbrev pub fault_or : {A : Type 0} → Option FaultKind → List Symbol → Result A Fault → Result A Fault
+fault_or (Some kind) symbols read = Err (fault_here kind symbols)
+fault_or None symbols read = read
 
 -- a symbol that stands alone
 abbrev pub sign_at : Sign → List Symbol → Result (List Symbol) Fault
-sign_at s [] = refused (expects_sign s) []
-sign_at s (symbol ∷ rest) = if is_sign s symbol then Ok rest else refused (expects_sign s) (symbol ∷ rest)
+sign_at s [] = fault_expected (expects_sign s) []
+sign_at s (symbol ∷ rest) = if is_sign s symbol then Ok rest else fault_expected (expects_sign s) (symbol ∷ rest)
 
 -- the position of the used variable at the front
 abbrev pub used_at : What → Scope → List Symbol → Result (ℕ × List Symbol) Fault
-used_at w scope (t.Variable x ∷ rest) = unless (use_fault scope x) (t.Variable x ∷ rest) (Ok (place_of scope x, rest))
-used_at w scope symbols = refused w symbols
+used_at w scope (t.Variable x ∷ rest) = fault_or (use_fault scope x) (t.Variable x ∷ rest) (Ok (declaration_of scope x, rest))
+used_at w scope symbols = fault_expected w symbols
 
 -- ---- values
 
 abbrev pub selection_at : Scope → List Symbol → Result (Selector × List Symbol) Fault
-selection_at scope (t.Variable x ∷ rest) = unless (use_fault scope x) (t.Variable x ∷ rest) (Ok (selector.Var (place_of scope x), rest))
+selection_at scope (t.Variable x ∷ rest) = fault_or (use_fault scope x) (t.Variable x ∷ rest) (Ok (selector.Var (declaration_of scope x), rest))
 selection_at scope (t.Atom a ∷ rest) = Ok (selector.Feature (feature_of (AtomMark a)), rest)
-selection_at scope (t.Integer n ∷ rest) = unless (number_fault n) (t.Integer n ∷ rest) (Ok (selector.Feature (feature_of (IntMark n)), rest))
-selection_at scope symbols = refused what.VariableOrFeature symbols
+selection_at scope (t.Integer n ∷ rest) = fault_or (number_fault n) (t.Integer n ∷ rest) (Ok (selector.Feature (feature_of (IntMark n)), rest))
+selection_at scope symbols = fault_expected what.VariableOrFeature symbols
 
 -- what may follow the first variable of a value
 abbrev pub behind_at : ℕ → ℕ → Scope → List Symbol → Result (Stmt × List Symbol) Fault
@@ -73,18 +73,18 @@ FieldOut = Fields × ℕ × List Symbol
 
 -- the variable behind the feature of a field
 abbrev pub field_name_at : Purpose → Scope → Fields → ℕ → Mark → List Symbol → Result FieldOut Fault
-field_name_at p scope before next m (t.Variable x ∷ rest) = unless (name_fault p scope before x) (t.Variable x ∷ rest) (Ok (with_field (feature_of m) x before, next, rest))
-field_name_at p scope before next m symbols = refused what.Variable symbols
+field_name_at p scope before next m (t.Variable x ∷ rest) = fault_or (name_fault p scope before x) (t.Variable x ∷ rest) (Ok (with_field (feature_of m) x before, next, rest))
+field_name_at p scope before next m symbols = fault_expected what.Variable symbols
 
 abbrev pub named_field_at : Purpose → Scope → Fields → ℕ → Mark → List Symbol → Result FieldOut Fault
 named_field_at p scope before next m symbols = sign_at sign.Colon symbols >>= λ rest. field_name_at p scope before next m rest
 
 -- a field behind others, with room for so many
 abbrev pub field_at : Purpose → Scope → ℕ → Fields → ℕ → List Symbol → Result FieldOut Fault
-field_at p scope room before next (t.Variable x ∷ rest) = unless (placed_fault p scope room before next x) (t.Variable x ∷ rest) (Ok (with_field (place_feature next) x before, next + 1, rest))
-field_at p scope room before next (t.Atom a ∷ rest) = unless (mark_fault room before (AtomMark a)) (t.Atom a ∷ rest) (named_field_at p scope before next (AtomMark a) rest)
-field_at p scope room before next (t.Integer n ∷ rest) = unless (mark_fault room before (IntMark n)) (t.Integer n ∷ rest) (named_field_at p scope before next (IntMark n) rest)
-field_at p scope room before next symbols = refused what.FieldOrBracket symbols
+field_at p scope room before next (t.Variable x ∷ rest) = fault_or (placed_fault p scope room before next x) (t.Variable x ∷ rest) (Ok (with_field (place_feature next) x before, next + 1, rest))
+field_at p scope room before next (t.Atom a ∷ rest) = fault_or (mark_fault room before (AtomMark a)) (t.Atom a ∷ rest) (named_field_at p scope before next (AtomMark a) rest)
+field_at p scope room before next (t.Integer n ∷ rest) = fault_or (mark_fault room before (IntMark n)) (t.Integer n ∷ rest) (named_field_at p scope before next (IntMark n) rest)
+field_at p scope room before next symbols = fault_expected what.FieldOrBracket symbols
 
 abbrev pub is_round : List Symbol → Bool
 is_round (t.CloseRound ∷ rest) = true
@@ -107,36 +107,36 @@ record_at left a scope rest = Ok (stmt.TellAtom left a, rest)
 -- the right side of a tell, where it is no procedure
 abbrev pub value_at : ℕ → Scope → List Symbol → Result (Stmt × List Symbol) Fault
 value_at left scope (t.Variable y ∷ rest) = used_at what.Value scope (t.Variable y ∷ rest) >>= λ v. behind_at left v.0 scope v.1
-value_at left scope (t.Integer n ∷ rest) = unless (number_fault n) (t.Integer n ∷ rest) (Ok (stmt.TellInt left (value_of n), rest))
+value_at left scope (t.Integer n ∷ rest) = fault_or (number_fault n) (t.Integer n ∷ rest) (Ok (stmt.TellInt left (value_of n), rest))
 value_at left scope (t.Atom a ∷ rest) = record_at left a scope rest
-value_at left scope symbols = refused what.Value symbols
+value_at left scope symbols = fault_expected what.Value symbols
 
 -- ---- lists of names, behind those before
 
 -- the names of a `local` up to `in`
 abbrev pub locals_at : List Name → List Symbol → Result (List Name × List Symbol) Fault
 locals_at before (t.In ∷ rest) = Ok (before, rest)
-locals_at before (t.Variable x ∷ rest) = unless (count_fault (length before)) (t.Variable x ∷ rest) (locals_at (before ++ x ∷ []) rest)
-locals_at before symbols = refused what.VariableOrIn symbols
+locals_at before (t.Variable x ∷ rest) = fault_or (count_fault (length before)) (t.Variable x ∷ rest) (locals_at (before ++ x ∷ []) rest)
+locals_at before symbols = fault_expected what.VariableOrIn symbols
 
 abbrev pub first_local_at : List Symbol → Result (List Name × List Symbol) Fault
 first_local_at (t.Variable x ∷ rest) = locals_at (x ∷ []) rest
-first_local_at symbols = refused what.Variable symbols
+first_local_at symbols = fault_expected what.Variable symbols
 
 abbrev pub formals_at : List Name → List Symbol → Result (List Name × List Symbol) Fault
 formals_at before (t.CloseCurly ∷ rest) = Ok (before, rest)
-formals_at before (t.Variable x ∷ rest) = unless (formal_fault before x) (t.Variable x ∷ rest) (formals_at (before ++ x ∷ []) rest)
-formals_at before symbols = refused what.VariableOrClose symbols
+formals_at before (t.Variable x ∷ rest) = fault_or (formal_fault before x) (t.Variable x ∷ rest) (formals_at (before ++ x ∷ []) rest)
+formals_at before symbols = fault_expected what.VariableOrClose symbols
 
 -- the positions of the arguments of a call
 abbrev pub arguments_at : Scope → List ℕ → List Symbol → Result (List ℕ × List Symbol) Fault
 arguments_at scope before (t.CloseCurly ∷ rest) = Ok (before, rest)
-arguments_at scope before (t.Variable x ∷ rest) = unless (argument_fault scope (length before) x) (t.Variable x ∷ rest) (arguments_at scope (before ++ place_of scope x ∷ []) rest)
-arguments_at scope before symbols = refused what.VariableOrClose symbols
+arguments_at scope before (t.Variable x ∷ rest) = fault_or (argument_fault scope (length before) x) (t.Variable x ∷ rest) (arguments_at scope (before ++ declaration_of scope x ∷ []) rest)
+arguments_at scope before symbols = fault_expected what.VariableOrClose symbols
 
 abbrev pub close_at : List Symbol → Result (List Symbol) Fault
 close_at (t.CloseCurly ∷ rest) = Ok rest
-close_at symbols = refused what.Close symbols
+close_at symbols = fault_expected what.Close symbols
 
 -- those of what is built in, of which so many are wanted
 abbrev pub wanted_at : Scope → ℕ → List ℕ → List Symbol → Result (List ℕ × List Symbol) Fault
@@ -159,23 +159,23 @@ call_of None callee scope rows rest = arguments_at scope [] rest >>= λ m. Ok (r
 
 abbrev pub call_at : Scope → List Stmt → List Symbol → Result Out Fault
 call_at scope rows (t.Variable p ∷ rest) =
-    unless (called_fault (built_in_at scope p) scope p) (t.Variable p ∷ rest) (call_of (built_in_at scope p) (place_of scope p) scope rows rest)
-call_at scope rows symbols = refused what.Variable symbols
+    fault_or (called_fault (built_in_at scope p) scope p) (t.Variable p ∷ rest) (call_of (built_in_at scope p) (declaration_of scope p) scope rows rest)
+call_at scope rows symbols = fault_expected what.Variable symbols
 
 abbrev pub raise_at : Scope → List Stmt → List Symbol → Result Out Fault
 raise_at scope rows symbols = used_at what.Variable scope symbols >>= λ x. sign_at sign.End x.1 >>= λ rest. Ok (rows ++ stmt.Raise x.0 ∷ [], rest)
 
 -- the sequence ends here
-abbrev pub closes : Closer → List Symbol → Bool
-closes c [] = false
-closes c (symbol ∷ rest) = is_closer c symbol
+abbrev pub is_end_of : Closer → List Symbol → Bool
+is_end_of c [] = false
+is_end_of c (symbol ∷ rest) = is_closer c symbol
 
 -- the statements after the first, at most n of them: their numbers behind the place of the sequence, the rows and the rest
 unfoldable pub more_at : Reader → Closer → ℕ → Scope → ℕ → List CodeId → List Stmt → List Symbol → Result (List CodeId × List Stmt × List Symbol) Fault
-more_at one c place scope zero ids rows symbols = refused (after c) symbols
+more_at one c place scope zero ids rows symbols = fault_expected (after c) symbols
 more_at one c place scope (suc n) ids rows symbols =
-    if closes c symbols then Ok (ids, rows, drop 1 symbols)
-    else (one scope rows (after c) symbols >>= λ s. more_at one c place scope n (ids ++ numbered (length rows - place) ∷ []) s.0 s.1)
+    if is_end_of c symbols then Ok (ids, rows, drop 1 symbols)
+    else (one scope rows (after c) symbols >>= λ s. more_at one c place scope n (ids ++ code_at (length rows - place) ∷ []) s.0 s.1)
 
 -- the numbers go into the row at this place
 abbrev pub with_numbers : ℕ → Result (List CodeId × List Stmt × List Symbol) Fault → Result Out Fault
@@ -184,8 +184,8 @@ with_numbers place read = read >>= λ m. Ok (slice_set m.1 place (stmt.Seq m.0),
 -- behind the first statement of a sequence: a row for the sequence only where there is another one
 unfoldable pub seq_from : Reader → Closer → ℕ → Scope → Out → Result Out Fault
 seq_from one c place scope s =
-    if closes c s.1 then Ok (s.0, drop 1 s.1)
-    else with_numbers place (more_at one c place scope (length s.1 + 1) (numbered 1 ∷ []) (insert s.0 place (stmt.Seq [])) s.1)
+    if is_end_of c s.1 then Ok (s.0, drop 1 s.1)
+    else with_numbers place (more_at one c place scope (length s.1 + 1) (code_at 1 ∷ []) (insert s.0 place (stmt.Seq [])) s.1)
 
 -- a sequence up to its closer
 unfoldable pub seq_at : Reader → Closer → Reader
@@ -197,12 +197,12 @@ body_at inner scope rows w symbols = seq_at inner closer.End scope rows w symbol
 
 abbrev pub local_at : Reader → Scope → List Stmt → List Symbol → Result Out Fault
 local_at inner scope rows symbols =
-    first_local_at symbols >>= λ m. body_at inner (scope ++ m.0) (rows ++ stmt.Local (length scope) (length m.0) (numbered 1) ∷ []) what.Statement m.1
+    first_local_at symbols >>= λ m. body_at inner (scope ++ m.0) (rows ++ stmt.Local (length scope) (length m.0) (code_at 1) ∷ []) what.Statement m.1
 
 -- formals and a body: the tell of a procedure
 abbrev pub procedure_at : Reader → ℕ → Scope → List Stmt → List Symbol → Result Out Fault
 procedure_at inner left scope rows symbols =
-    formals_at [] symbols >>= λ m. body_at inner (scope ++ m.0) (rows ++ stmt.TellProc left (length scope) (length m.0) (numbered 1) ∷ []) what.Statement m.1
+    formals_at [] symbols >>= λ m. body_at inner (scope ++ m.0) (rows ++ stmt.TellProc left (length scope) (length m.0) (code_at 1) ∷ []) what.Statement m.1
 
 abbrev pub proc_value_at : Reader → ℕ → Scope → List Stmt → List Symbol → Result Out Fault
 proc_value_at inner left scope rows symbols = sign_at sign.OpenCurly symbols >>= λ a. sign_at sign.Dollar a >>= λ b. procedure_at inner left scope rows b
@@ -226,7 +226,7 @@ set_second n (stmt.Try body first handler) = stmt.Try body first n
 set_second n row = row
 
 abbrev pub with_second : ℕ → List Stmt → List Stmt
-with_second place rows = slice_set rows place (set_second (numbered (length rows - place)) (unwrap_or (slice_get rows place) stmt.Skip))
+with_second place rows = slice_set rows place (set_second (code_at (length rows - place)) (unwrap_or (slice_get rows place) stmt.Skip))
 
 -- two branches with this row, the first under these names
 abbrev pub branches_at : Reader → Stmt → Scope → Scope → List Stmt → List Symbol → Result Out Fault
@@ -235,15 +235,15 @@ branches_at inner row chosen scope rows symbols =
 
 abbrev pub if_at : Reader → Scope → List Stmt → List Symbol → Result Out Fault
 if_at inner scope rows symbols =
-    used_at what.Variable scope symbols >>= λ x. sign_at sign.Then x.1 >>= λ rest. branches_at inner (stmt.If x.0 (numbered 1) (numbered 0)) scope scope rows rest
+    used_at what.Variable scope symbols >>= λ x. sign_at sign.Then x.1 >>= λ rest. branches_at inner (stmt.If x.0 (code_at 1) (code_at 0)) scope scope rows rest
 
 -- a pattern with the names that it declares
 abbrev pub PatternOut : Type 0
 PatternOut = Pattern × List Name × List Symbol
 
 abbrev pub pair_pattern_at : Name → List Symbol → Result PatternOut Fault
-pair_pattern_at h (t.Variable x ∷ rest) = unless (where_so (has_name (h ∷ []) x) Twice) (t.Variable x ∷ rest) (Ok (pattern.Rec bar_label two_features, h ∷ x ∷ [], rest))
-pair_pattern_at h symbols = refused what.Variable symbols
+pair_pattern_at h (t.Variable x ∷ rest) = fault_or (where_so (has_name (h ∷ []) x) Twice) (t.Variable x ∷ rest) (Ok (pattern.Rec bar_label two_features, h ∷ x ∷ [], rest))
+pair_pattern_at h symbols = fault_expected what.Variable symbols
 
 -- what may follow the atom of a pattern
 abbrev pub record_pattern_at : List ℕ → Scope → List Symbol → Result PatternOut Fault
@@ -251,32 +251,32 @@ record_pattern_at a scope (t.OpenRound ∷ rest) = fields_at purpose.Declare sco
 record_pattern_at a scope rest = Ok (pattern.Atom a, [], rest)
 
 abbrev pub pattern_at : Scope → List Symbol → Result PatternOut Fault
-pattern_at scope (t.Integer n ∷ rest) = unless (number_fault n) (t.Integer n ∷ rest) (Ok (pattern.Int (value_of n), [], rest))
+pattern_at scope (t.Integer n ∷ rest) = fault_or (number_fault n) (t.Integer n ∷ rest) (Ok (pattern.Int (value_of n), [], rest))
 pattern_at scope (t.Atom a ∷ rest) = record_pattern_at a scope rest
 pattern_at scope (t.Variable h ∷ rest) = sign_at sign.Bar rest >>= λ others. pair_pattern_at h others
-pattern_at scope symbols = refused what.Pattern symbols
+pattern_at scope symbols = fault_expected what.Pattern symbols
 
 abbrev pub case_at : Reader → Scope → List Stmt → List Symbol → Result Out Fault
 case_at inner scope rows symbols =
     used_at what.Variable scope symbols >>= λ x. sign_at sign.Of x.1 >>= λ a. pattern_at scope a >>= λ m. sign_at sign.Then m.2 >>= λ rest.
-    branches_at inner (stmt.Case x.0 m.0 (length scope) (numbered 1) (numbered 0)) (scope ++ m.1) scope rows rest
+    branches_at inner (stmt.Case x.0 m.0 (length scope) (code_at 1) (code_at 0)) (scope ++ m.1) scope rows rest
 
 abbrev pub site_at : List Symbol → Result (ℤ × List Symbol) Fault
-site_at (t.Integer n ∷ rest) = unless (site_fault n) (t.Integer n ∷ rest) (Ok (value_of n, rest))
-site_at symbols = refused what.Integer symbols
+site_at (t.Integer n ∷ rest) = fault_or (site_fault n) (t.Integer n ∷ rest) (Ok (value_of n, rest))
+site_at symbols = fault_expected what.Integer symbols
 
 abbrev pub thread_at : Reader → Scope → List Stmt → List Symbol → Result Out Fault
-thread_at inner scope rows (t.At ∷ rest) = site_at rest >>= λ n. body_at inner scope (rows ++ stmt.Thread (Some n.0) (numbered 1) ∷ []) what.Statement n.1
-thread_at inner scope rows symbols = body_at inner scope (rows ++ stmt.Thread None (numbered 1) ∷ []) what.StatementOrAt symbols
+thread_at inner scope rows (t.At ∷ rest) = site_at rest >>= λ n. body_at inner scope (rows ++ stmt.Thread (Some n.0) (code_at 1) ∷ []) what.Statement n.1
+thread_at inner scope rows symbols = body_at inner scope (rows ++ stmt.Thread None (code_at 1) ∷ []) what.StatementOrAt symbols
 
 -- the name that `catch` declares
 abbrev pub caught_at : List Symbol → Result (Name × List Symbol) Fault
 caught_at (t.Variable x ∷ rest) = Ok (x, rest)
-caught_at symbols = refused what.Variable symbols
+caught_at symbols = fault_expected what.Variable symbols
 
 abbrev pub try_at : Reader → Scope → List Stmt → List Symbol → Result Out Fault
 try_at inner scope rows symbols =
-    seq_at inner closer.Catch scope (rows ++ stmt.Try (numbered 1) (length scope) (numbered 0) ∷ []) what.Statement symbols >>= λ b.
+    seq_at inner closer.Catch scope (rows ++ stmt.Try (code_at 1) (length scope) (code_at 0) ∷ []) what.Statement symbols >>= λ b.
     caught_at b.1 >>= λ x. sign_at sign.Then x.1 >>= λ rest. body_at inner (scope ++ x.0 ∷ []) (with_second (length rows) b.0) what.Statement rest
 
 -- a statement whose bodies are read by inner
@@ -291,22 +291,22 @@ kind_at inner scope rows w (t.Thread ∷ rest) = thread_at inner scope rows rest
 kind_at inner scope rows w (t.If ∷ rest) = if_at inner scope rows rest
 kind_at inner scope rows w (t.Case ∷ rest) = case_at inner scope rows rest
 kind_at inner scope rows w (t.Try ∷ rest) = try_at inner scope rows rest
-kind_at inner scope rows w symbols = refused w symbols
+kind_at inner scope rows w symbols = fault_expected w symbols
 
 -- a statement begins here
 abbrev pub begins_at : List Symbol → Bool
 begins_at [] = false
-begins_at (symbol ∷ rest) = begins symbol
+begins_at (symbol ∷ rest) = begins_statement symbol
 
 -- a statement with at most d levels
 unfoldable pub stmt_at : ℕ → Reader
-stmt_at zero scope rows w symbols = if begins_at symbols then Err (fault_here Deep symbols) else refused w symbols
+stmt_at zero scope rows w symbols = if begins_at symbols then Err (fault_here Deep symbols) else fault_expected w symbols
 stmt_at (suc d) scope rows w symbols = kind_at (stmt_at d) scope rows w symbols
 
 -- ---- numbers counted from 0, where they were counted from row k
 
 abbrev pub shift : ℕ → CodeId → CodeId
-shift k c = numbered (k + c.0)
+shift k c = code_at (k + c.0)
 
 abbrev pub shift_row : ℕ → Stmt → Stmt
 shift_row k (stmt.Seq bodies) = stmt.Seq (map (shift k) bodies)

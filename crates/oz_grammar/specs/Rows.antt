@@ -10,7 +10,7 @@ use Rattle.oz_grammar.specs.declared.symbol.Symbol.TheVariants as t
 use Rattle.oz_grammar.specs.declared.fault.What.TheVariants as what
 use Rattle.oz_grammar.specs.declared.fault.FaultKind.{FaultKind}
 use Rattle.oz_grammar.specs.declared.fault.FaultKind.TheVariants.{Lex, Expected, Number, Site, Twice, Unbound}
-use Rattle.oz_grammar.specs.Table.{numbered}
+use Rattle.oz_grammar.specs.Table.{code_at}
 use Rattle.oz_grammar.specs.Canonical.{canonical_symbols}
 use Rattle.oz_grammar.specs.Reading.{program_at}
 
@@ -54,7 +54,7 @@ BuiltInIsFull = Refused (t.Local ∷ X ∷ t.In ∷ t.OpenCurly ∷ Browse ∷ X
 
 -- local Browse X in {Browse X X} end
 abbrev pub HiddenBuiltIn : Type 0
-HiddenBuiltIn = program_at (t.Local ∷ Browse ∷ X ∷ t.In ∷ t.OpenCurly ∷ Browse ∷ X ∷ X ∷ t.CloseCurly ∷ end) ≡ Ok (stmt.Local 0 2 (numbered 1) ∷ stmt.Call 0 (1 ∷ 1 ∷ []) ∷ [])
+HiddenBuiltIn = program_at (t.Local ∷ Browse ∷ X ∷ t.In ∷ t.OpenCurly ∷ Browse ∷ X ∷ X ∷ t.CloseCurly ∷ end) ≡ Ok (stmt.Local 0 2 (code_at 1) ∷ stmt.Call 0 (1 ∷ 1 ∷ []) ∷ [])
 
 -- local X in X = f(1:X X) end
 abbrev pub TwiceByPosition : Type 0
@@ -82,7 +82,7 @@ BehindThread = Refused (t.Thread ∷ t.CloseCurly ∷ t.EndOfText ∷ []) (Expec
 abbrev pub HiddenCounts : Type 0
 HiddenCounts =
     program_at (t.Local ∷ X ∷ t.In ∷ t.Local ∷ X ∷ t.In ∷ t.OpenCurly ∷ Browse ∷ X ∷ t.CloseCurly ∷ t.End ∷ end)
-    ≡ Ok (stmt.Local 0 1 (numbered 1) ∷ stmt.Local 1 1 (numbered 2) ∷ stmt.Browse 1 ∷ [])
+    ≡ Ok (stmt.Local 0 1 (code_at 1) ∷ stmt.Local 1 1 (code_at 2) ∷ stmt.Browse 1 ∷ [])
 
 -- local X in case X of f(b:Y a:X) then {Browse Y} else {Browse X} end end: a pattern's variables in the order of features,
 -- for the first branch
@@ -91,18 +91,18 @@ PatternOrder =
     program_at
     (t.Local ∷ X ∷ t.In ∷ t.Case ∷ X ∷ t.Of ∷ atom_f ∷ t.OpenRound ∷ t.Atom (codes "b") ∷ t.Colon ∷ Y ∷ t.Atom (codes "a") ∷ t.Colon ∷ X ∷ t.CloseRound
     ∷ t.Then ∷ t.OpenCurly ∷ Browse ∷ Y ∷ t.CloseCurly ∷ t.Else ∷ t.OpenCurly ∷ Browse ∷ X ∷ t.CloseCurly ∷ t.End ∷ end)
-    ≡ Ok (stmt.Local 0 1 (numbered 1) ∷ stmt.Case 0 (pattern.Rec (codes "f") (feature.Atom (codes "a") ∷ feature.Atom (codes "b") ∷ [])) 1 (numbered 2) (numbered 3) ∷ stmt.Browse 2 ∷ stmt.Browse 0 ∷ [])
+    ≡ Ok (stmt.Local 0 1 (code_at 1) ∷ stmt.Case 0 (pattern.Rec (codes "f") (feature.Atom (codes "a") ∷ feature.Atom (codes "b") ∷ [])) 1 (code_at 2) (code_at 3) ∷ stmt.Browse 2 ∷ stmt.Browse 0 ∷ [])
 
 -- local X in if X then skip skip else skip end end: a body of several statements has a row
 abbrev pub BodiesInPreorder : Type 0
 BodiesInPreorder =
     program_at (t.Local ∷ X ∷ t.In ∷ t.If ∷ X ∷ t.Then ∷ t.Skip ∷ t.Skip ∷ t.Else ∷ t.Skip ∷ t.End ∷ end)
-    ≡ Ok (stmt.Local 0 1 (numbered 1) ∷ stmt.If 0 (numbered 2) (numbered 5) ∷ stmt.Seq (numbered 3 ∷ numbered 4 ∷ []) ∷ stmt.Skip ∷ stmt.Skip ∷ stmt.Skip ∷ [])
+    ≡ Ok (stmt.Local 0 1 (code_at 1) ∷ stmt.If 0 (code_at 2) (code_at 5) ∷ stmt.Seq (code_at 3 ∷ code_at 4 ∷ []) ∷ stmt.Skip ∷ stmt.Skip ∷ stmt.Skip ∷ [])
 
 -- local P in proc {P X} X = f(b:P P) end end, and the same in its canonical form:
 -- local V0 in V0 = proc { $ V1 } V1 = f ( 1 : V0 b : V0 ) end end
 abbrev example : List Stmt
-example = stmt.Local 0 1 (numbered 1) ∷ stmt.TellProc 0 1 1 (numbered 2) ∷ stmt.TellRec 1 (codes "f") ((feature.Int (pos 1), 0) ∷ (feature.Atom (codes "b"), 0) ∷ []) ∷ []
+example = stmt.Local 0 1 (code_at 1) ∷ stmt.TellProc 0 1 1 (code_at 2) ∷ stmt.TellRec 1 (codes "f") ((feature.Int (pos 1), 0) ∷ (feature.Atom (codes "b"), 0) ∷ []) ∷ []
 
 abbrev P : Symbol
 P = t.Variable (codes "P")

@@ -31,8 +31,8 @@ abbrev pub is_declared : Scope → Name → Bool
 is_declared scope x = is_some (position_of scope x)
 
 -- the position of a used identifier. One that passes is declared
-abbrev pub place_of : Scope → Name → ℕ
-place_of scope x = unwrap_or (position_of scope x) 0
+abbrev pub declaration_of : Scope → Name → ℕ
+declaration_of scope x = unwrap_or (position_of scope x) 0
 
 -- ---- what is built in
 

@@ -13,10 +13,10 @@ use Rattle.oz_grammar.specs.declared.symbol.BuiltIn.{BuiltIn}
 use Rattle.oz_grammar.specs.declared.symbol.BuiltIn.TheVariants as built
 use Rattle.oz_grammar.specs.Grammar.{Name, Mark, AtomMark, IntMark, Selection, ByVariable, ByMark, Field, Placed, Marked, Value, ToVar, Calculates, Selects, Pairs, ToInt, ToAtom, ToRecord, IntPattern, AtomPattern, RecordPattern, PairPattern, Plain, Skips, Tells, Calls, Raises, Opening, Locals, ProcValue, ProcNamed, Threads, ThreadsAt, Choice, Ifs, Cases, Statement, Simple, Block, Chooses, Tries, Sequence, One, Then}
 use Rattle.oz_grammar.specs.Grammar as tree
-use Rattle.oz_grammar.specs.Scoping.{Scope, Fields, place_of, built_in_at, feature_of, fields_of, opening_scope, choice_scope}
+use Rattle.oz_grammar.specs.Scoping.{Scope, Fields, declaration_of, built_in_at, feature_of, fields_of, opening_scope, choice_scope}
 
-abbrev pub numbered : ℕ → CodeId
-numbered k = record { 0 = k }
+abbrev pub code_at : ℕ → CodeId
+code_at k = record { 0 = k }
 
 -- a number that passes is a good one
 abbrev pub value_of : Option ℤ → ℤ
@@ -34,7 +34,7 @@ pair_row left head tail = stmt.TellRec left bar_label ((feature.Int (pos 1), hea
 
 -- the positions of the names of fields
 abbrev pub slots_of : Scope → Fields → List (Feature × ℕ)
-slots_of scope fields = map (λ (f : Feature × Name). (f.0, place_of scope f.1)) fields
+slots_of scope fields = map (λ (f : Feature × Name). (f.0, declaration_of scope f.1)) fields
 
 abbrev pub features_in : Fields → List Feature
 features_in fields = map (λ (f : Feature × Name). f.0) fields
@@ -49,14 +49,14 @@ record_pattern label [] = pattern.Atom label
 record_pattern label (f ∷ fs) = pattern.Rec label (f ∷ fs)
 
 abbrev pub selector_of : Selection → Scope → Selector
-selector_of (ByVariable x) scope = selector.Var (place_of scope x)
+selector_of (ByVariable x) scope = selector.Var (declaration_of scope x)
 selector_of (ByMark m) scope = selector.Feature (feature_of m)
 
 abbrev pub value_row : ℕ → Value → Scope → Stmt
-value_row left (ToVar y) scope = stmt.TellVar left (place_of scope y)
-value_row left (Calculates y o z) scope = stmt.Calc left o (place_of scope y) (place_of scope z)
-value_row left (Selects y s) scope = stmt.Select left (place_of scope y) (selector_of s scope)
-value_row left (Pairs h u) scope = pair_row left (place_of scope h) (place_of scope u)
+value_row left (ToVar y) scope = stmt.TellVar left (declaration_of scope y)
+value_row left (Calculates y o z) scope = stmt.Calc left o (declaration_of scope y) (declaration_of scope z)
+value_row left (Selects y s) scope = stmt.Select left (declaration_of scope y) (selector_of s scope)
+value_row left (Pairs h u) scope = pair_row left (declaration_of scope h) (declaration_of scope u)
 value_row left (ToInt n) scope = stmt.TellInt left (value_of n)
 value_row left (ToAtom a) scope = stmt.TellAtom left a
 value_row left (ToRecord a fs) scope = record_row left a (slots_of scope (fields_of fs))
@@ -80,39 +80,39 @@ call_row None callee xs = stmt.Call callee xs
 
 abbrev pub plain_row : Plain → Scope → Stmt
 plain_row Skips scope = stmt.Skip
-plain_row (Tells x v) scope = value_row (place_of scope x) v scope
-plain_row (Calls p xs) scope = call_row (built_in_at scope p) (place_of scope p) (map (place_of scope) xs)
-plain_row (Raises x) scope = stmt.Raise (place_of scope x)
+plain_row (Tells x v) scope = value_row (declaration_of scope x) v scope
+plain_row (Calls p xs) scope = call_row (built_in_at scope p) (declaration_of scope p) (map (declaration_of scope) xs)
+plain_row (Raises x) scope = stmt.Raise (declaration_of scope x)
 
 -- the row of a statement with one body, of this number
 abbrev pub opening_row : Opening → Scope → CodeId → Stmt
 opening_row (Locals x xs) scope body = stmt.Local (length scope) (length (x ∷ xs)) body
-opening_row (ProcValue x xs) scope body = stmt.TellProc (place_of scope x) (length scope) (length xs) body
-opening_row (ProcNamed x xs) scope body = stmt.TellProc (place_of scope x) (length scope) (length xs) body
+opening_row (ProcValue x xs) scope body = stmt.TellProc (declaration_of scope x) (length scope) (length xs) body
+opening_row (ProcNamed x xs) scope body = stmt.TellProc (declaration_of scope x) (length scope) (length xs) body
 opening_row Threads scope body = stmt.Thread None body
 opening_row (ThreadsAt n) scope body = stmt.Thread (Some (value_of n)) body
 
 abbrev pub choice_row : Choice → Scope → CodeId → CodeId → Stmt
-choice_row (Ifs x) scope chosen other = stmt.If (place_of scope x) chosen other
-choice_row (Cases x p) scope chosen other = stmt.Case (place_of scope x) (pattern_of p) (length scope) chosen other
+choice_row (Ifs x) scope chosen other = stmt.If (declaration_of scope x) chosen other
+choice_row (Cases x p) scope chosen other = stmt.Case (declaration_of scope x) (pattern_of p) (length scope) chosen other
 
 -- the rows of a statement whose own row has number k; a body of one statement is that statement, and one of several has a
 -- row of its own
 abbrev mutual
   pub stmt_rows : Statement → Scope → ℕ → List Stmt
   stmt_rows (Simple s) scope k = plain_row s scope ∷ []
-  stmt_rows (Block o q) scope k = opening_row o scope (numbered (k + 1)) ∷ seq_rows q (opening_scope o scope) (k + 1)
+  stmt_rows (Block o q) scope k = opening_row o scope (code_at (k + 1)) ∷ seq_rows q (opening_scope o scope) (k + 1)
   stmt_rows (Chooses h q r) scope k =
-      choice_row h scope (numbered (k + 1)) (numbered (k + 1 + length (seq_rows q (choice_scope h scope) (k + 1))))
+      choice_row h scope (code_at (k + 1)) (code_at (k + 1 + length (seq_rows q (choice_scope h scope) (k + 1))))
       ∷ (seq_rows q (choice_scope h scope) (k + 1) ++ seq_rows r scope (k + 1 + length (seq_rows q (choice_scope h scope) (k + 1))))
   stmt_rows (Tries q x r) scope k =
-      stmt.Try (numbered (k + 1)) (length scope) (numbered (k + 1 + length (seq_rows q scope (k + 1))))
+      stmt.Try (code_at (k + 1)) (length scope) (code_at (k + 1 + length (seq_rows q scope (k + 1))))
       ∷ (seq_rows q scope (k + 1) ++ seq_rows r (scope ++ x ∷ []) (k + 1 + length (seq_rows q scope (k + 1))))
 
   pub seq_rows : Sequence → Scope → ℕ → List Stmt
   seq_rows (One s) scope k = stmt_rows s scope k
   seq_rows (Then s q) scope k =
-      stmt.Seq (numbered (k + 1) ∷ seq_numbers q scope (k + 1 + length (stmt_rows s scope (k + 1))))
+      stmt.Seq (code_at (k + 1) ∷ seq_numbers q scope (k + 1 + length (stmt_rows s scope (k + 1))))
       ∷ (stmt_rows s scope (k + 1) ++ many_rows q scope (k + 1 + length (stmt_rows s scope (k + 1))))
 
   -- the rows of statements that follow one another, the first of which has number k
@@ -122,8 +122,8 @@ abbrev mutual
 
   -- their numbers
   pub seq_numbers : Sequence → Scope → ℕ → List CodeId
-  seq_numbers (One s) scope k = numbered k ∷ []
-  seq_numbers (Then s q) scope k = numbered k ∷ seq_numbers q scope (k + length (stmt_rows s scope k))
+  seq_numbers (One s) scope k = code_at k ∷ []
+  seq_numbers (Then s q) scope k = code_at k ∷ seq_numbers q scope (k + length (stmt_rows s scope k))
 
 abbrev pub program_table : Sequence → List Stmt
 program_table q = seq_rows q [] 0

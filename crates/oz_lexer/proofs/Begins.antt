@@ -5,11 +5,11 @@ use Rattle.oz_lexer.specs.declared.token.TokenKind.{TokenKind}
 use Rattle.oz_lexer.specs.declared.token.TokenKind.TheVariants.{Variable, Atom, Quoted, Integer, Word, Sign, End}
 use Rattle.oz_lexer.specs.declared.token.LexKind.{LexKind}
 use Rattle.oz_lexer.specs.declared.token.LexKind.TheVariants.{BadChar, LongName}
-use Rattle.oz_lexer.specs.Spelling.{is_variable, is_word, is_quoted, are_digits, digits_of, is_sign, is_long, is_name, kind_of}
+use Rattle.oz_lexer.specs.Spelling.{is_variable, is_lower_word, is_quoted, are_digits, digits_of, is_sign, is_long, is_name, token_kind_of}
 use Rattle.tree_node.specs.Words.{is_reserved}
 use Rattle.oz_lexer.specs.Faults.{Longest, bad_char, long_name}
 use Rattle.oz_lexer.specs.Tokens.{Begins}
-use Rattle.oz_lexer.specs.Scan.{behind_blank, quote_from, fitting, quoted, unquoted, token_length, token_kind, front_of}
+use Rattle.oz_lexer.specs.Scan.{behind_blank, quote_from, within_name_limit, quoted_token, plain_token, token_length, token_kind, front_of}
 use Rattle.oz_lexer.proofs.QuoteFaults.{quote_fault}
 use Rattle.oz_lexer.proofs.Reaches.{is_longest, no_token}
 use Rattle.oz_lexer.proofs.Skipping.{NoBlank, blank_found}
@@ -17,9 +17,9 @@ use Rattle.oz_lexer.proofs.Fronts.{is_zero, is_some_more, within, taken_length, 
 
 -- ---- what is found begins there
 
-no_end : (bytes : List ℕ) → kind_of bytes ≡ Some End → ⊥
-unfolding kind_of
-no_end bytes e = choose (is_variable bytes) (is_word bytes) (is_reserved bytes) (is_quoted bytes) (are_digits (digits_of bytes)) (is_sign bytes) e
+no_end : (bytes : List ℕ) → token_kind_of bytes ≡ Some End → ⊥
+unfolding token_kind_of
+no_end bytes e = choose (is_variable bytes) (is_lower_word bytes) (is_reserved bytes) (is_quoted bytes) (are_digits (digits_of bytes)) (is_sign bytes) e
   where
     choose : (v w r q d s : Bool) → cond v (Some Variable) (cond w (cond r (Some Word) (Some Atom)) (cond q (Some Quoted) (cond d (Some Integer) (cond s (Some Sign) None)))) ≡ Some End → ⊥
     choose true w r q d s e = cc
@@ -45,7 +45,7 @@ token_begins place text bytes rest Sign l s = (l, s, refl)
 token_begins place text bytes rest End l s = absurd (no_end bytes l.spells)
 
 -- a token of so many bytes
-fitting_found : (place : ℕ) (text : List ℕ) (kind : TokenKind) (n : ℕ) → n ≤ length text → Longest text kind (take n text) (drop n text) → Found place text (fitting kind n)
+fitting_found : (place : ℕ) (text : List ℕ) (kind : TokenKind) (n : ℕ) → n ≤ length text → Longest text kind (take n text) (drop n text) → Found place text (within_name_limit kind n)
 fitting_found place text kind n le l =
     let m = taken_length n text le in
     let same : is_long kind (take n text) ≡ (is_name kind && not (nat_le n 255)) = ap (λ (k : ℕ). is_name kind && not (nat_le k 255)) m in
@@ -54,13 +54,13 @@ fitting_found place text kind n le l =
       | false ↦ λ e. token_begins place text (take n text) (drop n text) kind l e
     ] in chosen (is_name kind && not (nat_le n 255)) same
 
-quote_found : (place : ℕ) (cs : List ℕ) (r : Result ℕ (LexKind × ℕ)) → quote_from false cs 1 ≡ r → Found place (39 ∷ cs) (quoted r)
+quote_found : (place : ℕ) (cs : List ℕ) (r : Result ℕ (LexKind × ℕ)) → quote_from false cs 1 ≡ r → Found place (39 ∷ cs) (quoted_token r)
 quote_found place cs (Ok n) e = fitting_found place (39 ∷ cs) Quoted n (quote_within cs n e) (quote_longest cs n e)
 quote_found place cs (Err (kind, m)) e = (m, quote_fault cs kind m e, refl, refl, refl)
 
-plain_found : (place : ℕ) (b : ℕ) (cs : List ℕ) → eqb b 39 ≡ false → NoBlank (b ∷ cs) → Found place (b ∷ cs) (unquoted b cs (token_length b cs))
+plain_found : (place : ℕ) (b : ℕ) (cs : List ℕ) → eqb b 39 ≡ false → NoBlank (b ∷ cs) → Found place (b ∷ cs) (plain_token b cs (token_length b cs))
 plain_found place b cs quote none =
-    let chosen : (t : Bool) → eqb (token_length b cs) 0 ≡ t → Found place (b ∷ cs) (cond t (Err (BadChar, 0)) (fitting (token_kind b (take (token_length b cs) (b ∷ cs))) (token_length b cs))) = elim [
+    let chosen : (t : Bool) → eqb (token_length b cs) 0 ≡ t → Found place (b ∷ cs) (cond t (Err (BadChar, 0)) (within_name_limit (token_kind b (take (token_length b cs) (b ∷ cs))) (token_length b cs))) = elim [
       | true ↦ λ e. (
         0,
         bad_char b cs (record {
@@ -80,8 +80,8 @@ plain_found place b cs quote none =
 pub front_found : (place : ℕ) (text : List ℕ) → behind_blank text ≡ Ok None → Found place text (front_of text)
 front_found place [] none = (refl, refl, refl, refl)
 front_found place (b ∷ cs) none =
-    let chosen : (t : Bool) → eqb b 39 ≡ t → Found place (b ∷ cs) (cond t (quoted (quote_from false cs 1)) (unquoted b cs (token_length b cs))) = elim [
-      | true ↦ λ e. let is : 39 ≡ b = grind arith in subst (λ (x : ℕ). Found place (x ∷ cs) (quoted (quote_from false cs 1))) is (quote_found place cs (quote_from false cs 1) refl)
+    let chosen : (t : Bool) → eqb b 39 ≡ t → Found place (b ∷ cs) (cond t (quoted_token (quote_from false cs 1)) (plain_token b cs (token_length b cs))) = elim [
+      | true ↦ λ e. let is : 39 ≡ b = grind arith in subst (λ (x : ℕ). Found place (x ∷ cs) (quoted_token (quote_from false cs 1))) is (quote_found place cs (quote_from false cs 1) refl)
       | false ↦ λ e. plain_found place b cs e (blank_found (b ∷ cs) (Ok None) none)
     ] in chosen (eqb b 39) refl
 

@@ -11,13 +11,14 @@ use Rattle.oz_lexer.specs.declared.token.TokenKind.{TokenKind}
 use Rattle.oz_lexer.specs.declared.token.TokenKind.TheVariants.{Quoted, End}
 use Rattle.oz_lexer.specs.declared.token.LexKind.{LexKind}
 use Rattle.oz_lexer.specs.declared.token.LexKind.TheVariants.{BadChar, LongName}
-use Rattle.oz_lexer.specs.Spelling.{are_digits, is_control, is_escape, is_name, kind_of}
+use Rattle.oz_lexer.specs.Spelling.{are_digits, is_control, is_escape, is_name, token_kind_of}
 use Rattle.oz_lexer.specs.Faults.{FaultAt, bad_char, control, bad_escape, open_quote, open_escape, open_comment, long_name}
-use Rattle.oz_lexer.specs.Scan.{is_one, is_two, quote_from, fitting, quoted, unquoted, token_length, token_kind, front_of}
+use Rattle.oz_lexer.specs.Scan.{is_one, is_two, quote_from, within_name_limit, quoted_token, plain_token, token_length, token_kind, front_of}
 use Rattle.oz_lexer.proofs.Signs.{behind_sign}
 use Rattle.oz_lexer.proofs.Spelled.{behind_first, spelled}
-use Rattle.oz_lexer.proofs.Quotes.{ends, is_nil, if_both, quote_kind}
+use Rattle.oz_lexer.proofs.Quotes.{ends, is_nil, quote_kind}
 use Rattle.oz_lexer.proofs.Fronts.{within, quote_within, nothing_spelled}
+use Rattle.std.proofs.lemmas.Bool.{and_parts}
 
 -- ---- the bytes of tokens
 
@@ -30,7 +31,7 @@ upper_ascii b e = grind arith
 lower_ascii : (b : ℕ) → is_ascii_lowercase b ≡ true → b < 128
 lower_ascii b e = grind arith
 
-word_ascii : (b : ℕ) → is_word_byte b ≡ true → b < 128
+pub word_ascii : (b : ℕ) → is_word_byte b ≡ true → b < 128
 word_ascii b e = grind arith
 
 eq_ascii : (b k : ℕ) → k < 128 → eqb b k ≡ true → b < 128
@@ -51,8 +52,8 @@ two_ascii b c e = grind arith
 
 all_ascii : (p : ℕ → Bool) → ((b : ℕ) → p b ≡ true → b < 128) → (cs : List ℕ) → list_all p cs ≡ true → (i : ℕ) → get_or cs i 0 < 128
 all_ascii p h [] e i = omega arith
-all_ascii p h (c ∷ cs) e zero = h c (if_both (p c) (list_all p cs) e).0
-all_ascii p h (c ∷ cs) e (suc i) = all_ascii p h cs (if_both (p c) (list_all p cs) e).1 i
+all_ascii p h (c ∷ cs) e zero = h c (and_parts (p c) (list_all p cs) e).0
+all_ascii p h (c ∷ cs) e (suc i) = all_ascii p h cs (and_parts (p c) (list_all p cs) e).1 i
 
 digits_ascii : (cs : List ℕ) → are_digits cs ≡ true → (i : ℕ) → get_or cs i 0 < 128
 digits_ascii [] e i = omega arith
@@ -92,9 +93,9 @@ later c t (x ∷ xs) (suc j) h e at = h j (omega arith)
 -- the last byte of what closes a quote
 quote_last : (escaping : Bool) (cs : List ℕ) (i : ℕ) → ends escaping cs ≡ true → i + 1 ≡ length cs → get_or cs i 0 ≡ 39
 quote_last escaping [] i e at = absurd cc
-quote_last true (c ∷ []) i e at = absurd (let p = if_both (is_escape c) false e in let q = p.1 in cc)
+quote_last true (c ∷ []) i e at = absurd (let p = and_parts (is_escape c) false e in let q = p.1 in cc)
 quote_last true (c ∷ d ∷ cs) zero e at = absurd (omega arith)
-quote_last true (c ∷ d ∷ cs) (suc i) e at = quote_last false (d ∷ cs) i (if_both (is_escape c) (ends false (d ∷ cs)) e).1 (omega arith)
+quote_last true (c ∷ d ∷ cs) (suc i) e at = quote_last false (d ∷ cs) i (and_parts (is_escape c) (ends false (d ∷ cs)) e).1 (omega arith)
 quote_last false (c ∷ cs) i e at =
     let chosen : (q s k : Bool) → eqb c 39 ≡ q → eqb c 92 ≡ s → is_control c ≡ k → cond q (is_nil cs) (cond s (ends true cs) (not k && ends false cs)) ≡ true → get_or (c ∷ cs) i 0 ≡ 39 = elim [
       | true ↦ λ s k eq es ek e. first cs i (grind arith) e at
@@ -130,11 +131,11 @@ plain_ends : (b : ℕ) (cs : List ℕ) (t : Bool) (kind made : TokenKind) → be
 plain_ends b cs false kind made e spells = absurd cc
 plain_ends b cs true kind made e spells = record { some = omega arith; first = plain_ascii b cs e 0; last = λ i at. plain_ascii b cs e i }
 
-pub token_ends : (bytes : List ℕ) (kind : TokenKind) → kind_of bytes ≡ Some kind → IsAsciiAtEnds bytes
+pub token_ends : (bytes : List ℕ) (kind : TokenKind) → token_kind_of bytes ≡ Some kind → IsAsciiAtEnds bytes
 token_ends [] kind e = let no = nothing_spelled in absurd cc
 token_ends (b ∷ cs) kind e =
     let chosen : (t : Bool) → eqb b 39 ≡ t → IsAsciiAtEnds (b ∷ cs) = elim [
-      | true ↦ λ q. let is : 39 ≡ b = grind arith in subst (λ (x : ℕ). IsAsciiAtEnds (x ∷ cs)) is (quote_ends cs (ends false cs) kind refl (sym (quote_kind cs) ∙ subst (λ (x : ℕ). kind_of (x ∷ cs) ≡ Some kind) (sym is) e))
+      | true ↦ λ q. let is : 39 ≡ b = grind arith in subst (λ (x : ℕ). IsAsciiAtEnds (x ∷ cs)) is (quote_ends cs (ends false cs) kind refl (sym (quote_kind cs) ∙ subst (λ (x : ℕ). token_kind_of (x ∷ cs) ≡ Some kind) (sym is) e))
       | false ↦ λ q. plain_ends b cs (behind_first b cs) kind (token_kind b (b ∷ cs)) refl (sym (spelled b cs q) ∙ e)
     ] in chosen (eqb b 39) refl
 
@@ -144,11 +145,11 @@ fitting_within : (kind made : TokenKind) (n m : ℕ) (t : Bool) → cond {A = Re
 fitting_within kind made n m true e = absurd cc
 fitting_within kind made n m false e = let p : ◌≡◌ {A = TokenKind × ℕ} (made, m) (kind, n) = cc in ap (λ (q : TokenKind × ℕ). q.1) (sym p)
 
-quoted_within : (cs : List ℕ) (kind : TokenKind) (n : ℕ) (r : Result ℕ (LexKind × ℕ)) → quote_from false cs 1 ≡ r → quoted r ≡ Ok (kind, n) → n ≤ length (39 ∷ cs)
+quoted_within : (cs : List ℕ) (kind : TokenKind) (n : ℕ) (r : Result ℕ (LexKind × ℕ)) → quote_from false cs 1 ≡ r → quoted_token r ≡ Ok (kind, n) → n ≤ length (39 ∷ cs)
 quoted_within cs kind n (Ok m) e f = let w = quote_within cs m e in let same = fitting_within kind Quoted n m (is_name Quoted && not (nat_le m 255)) f in omega arith
 quoted_within cs kind n (Err g) e f = absurd cc
 
-plain_within : (b : ℕ) (cs : List ℕ) (kind : TokenKind) (n : ℕ) (t : Bool) → cond t (Err (BadChar, 0)) (fitting (token_kind b (take (token_length b cs) (b ∷ cs))) (token_length b cs)) ≡ Ok (kind, n) → n ≤ length (b ∷ cs)
+plain_within : (b : ℕ) (cs : List ℕ) (kind : TokenKind) (n : ℕ) (t : Bool) → cond t (Err (BadChar, 0)) (within_name_limit (token_kind b (take (token_length b cs) (b ∷ cs))) (token_length b cs)) ≡ Ok (kind, n) → n ≤ length (b ∷ cs)
 plain_within b cs kind n true e = absurd cc
 plain_within b cs kind n false e =
     let made = token_kind b (take (token_length b cs) (b ∷ cs)) in
@@ -159,7 +160,7 @@ plain_within b cs kind n false e =
 pub ok_within : (text : List ℕ) (kind : TokenKind) (n : ℕ) → front_of text ≡ Ok (kind, n) → n ≤ length text
 ok_within [] kind n e = let p : ◌≡◌ {A = TokenKind × ℕ} (End, 0) (kind, n) = cc in let z : 0 ≡ n = ap (λ (q : TokenKind × ℕ). q.1) p in omega arith
 ok_within (b ∷ cs) kind n e =
-    let chosen : (t : Bool) → cond t (quoted (quote_from false cs 1)) (unquoted b cs (token_length b cs)) ≡ Ok (kind, n) → n ≤ length (b ∷ cs) = elim [
+    let chosen : (t : Bool) → cond t (quoted_token (quote_from false cs 1)) (plain_token b cs (token_length b cs)) ≡ Ok (kind, n) → n ≤ length (b ∷ cs) = elim [
       | true ↦ λ f. quoted_within cs kind n (quote_from false cs 1) refl f
       | false ↦ λ f. plain_within b cs kind n (eqb (token_length b cs) 0) f
     ] in chosen (eqb b 39) e
@@ -175,7 +176,7 @@ err_within (open_comment text h) = omega arith
 err_within (long_name text kind bytes rest l e) = omega arith
 
 -- a longest token is cut between characters
-pub token_cut : (text : List ℕ) (start : ℕ) (bytes rest : List ℕ) (kind : TokenKind) → start ≤ length text → IsUtf8 text → drop start text ≡ bytes ++ rest → kind_of bytes ≡ Some kind
+pub token_cut : (text : List ℕ) (start : ℕ) (bytes rest : List ℕ) (kind : TokenKind) → start ≤ length text → IsUtf8 text → drop start text ≡ bytes ++ rest → token_kind_of bytes ≡ Some kind
     → IsCharBoundary text start × IsCharBoundary text (start + length bytes)
 token_cut text start bytes rest kind le utf8 is spells =
     let ends = token_ends bytes kind spells in

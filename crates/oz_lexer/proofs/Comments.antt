@@ -1,7 +1,7 @@
 -- Comments in brackets, a byte at a time.
 use Rattle.std.proofs.Common.{◌≡◌, ℕ, zero, suc, ◌+◌, ◌-◌, List, [], ◌∷◌, Bool, true, false, cond, eqb, Option, Some, None, refl, subst, ap, ◌∙◌, arith}
 use Rattle.std.specs.Prelude.{◌||◌, ◌&&◌, slice_index}
-use Rattle.oz_lexer.specs.Blanks.{is_pair, Closes, closed, nested, other}
+use Rattle.oz_lexer.specs.Blanks.{is_comment_sign, Closes, closed, nested, other}
 use Rattle.oz_lexer.specs.Scan.{behind_comment}
 
 -- what the scan finds behind a comment that stands in so many others
@@ -10,7 +10,7 @@ after zero rest = Some rest
 after (suc depth) rest = behind_comment depth 0 rest
 
 -- the byte before makes no pair with the next one
-no_pair : (depth b : ℕ) (text : List ℕ) → is_pair b (slice_index text 0) ≡ false → behind_comment depth b text ≡ behind_comment depth 0 text
+no_pair : (depth b : ℕ) (text : List ℕ) → is_comment_sign b (slice_index text 0) ≡ false → behind_comment depth b text ≡ behind_comment depth 0 text
 no_pair depth b [] e = refl
 no_pair depth b (c ∷ cs) e = choose (eqb b 47) (eqb c 42) (eqb b 42) (eqb c 47) e
   where
@@ -38,7 +38,7 @@ abbrev CloseAll : ℕ → List ℕ → List ℕ → Type 0
 CloseAll zero text rest = Closes text rest
 CloseAll (suc depth) text rest = (middle : List ℕ) × Closes text middle × CloseAll depth middle rest
 
-pass : (depth b : ℕ) (text rest : List ℕ) → is_pair b (slice_index text 0) ≡ false → CloseAll depth text rest → CloseAll depth (b ∷ text) rest
+pass : (depth b : ℕ) (text rest : List ℕ) → is_comment_sign b (slice_index text 0) ≡ false → CloseAll depth text rest → CloseAll depth (b ∷ text) rest
 pass zero b text rest e c = other e c
 pass (suc depth) b text rest e c = (c.0, other e c.1, c.2)
 

@@ -5,7 +5,7 @@ use Rattle.oz_lexer.specs.declared.token.TokenKind.{TokenKind}
 use Rattle.oz_lexer.specs.declared.token.TokenKind.TheVariants.{Variable, Atom, Quoted, Integer, Word, Sign, End}
 use Rattle.oz_lexer.specs.declared.token.LexKind.{LexKind}
 use Rattle.oz_lexer.specs.declared.token.LexKind.TheVariants.{OpenComment}
-use Rattle.oz_lexer.specs.Spelling.{kind_of}
+use Rattle.oz_lexer.specs.Spelling.{token_kind_of}
 use Rattle.oz_lexer.specs.Faults.{Longest}
 use Rattle.oz_lexer.specs.Tokens.{Begins, Lexeme, Next, Goes, TokensFrom}
 use Rattle.oz_lexer.specs.Laws.{TextsDivide, TextsDivideOnce}
@@ -84,7 +84,7 @@ token_then place start text front bytes rest Sign n d = (record { what = Ok Sign
 token_then place start text front bytes rest End n d = (record { what = Ok End; start = start; bytes = bytes } ∷ [], (rest, n, refl))
 
 -- a token has bytes, so fewer are behind it; the end stands before none
-some_bytes : (bytes : List ℕ) (kind : TokenKind) → kind_of bytes ≡ Some kind → 0 < length bytes
+some_bytes : (bytes : List ℕ) (kind : TokenKind) → token_kind_of bytes ≡ Some kind → 0 < length bytes
 some_bytes [] kind e = let no = nothing_spelled in absurd cc
 some_bytes (b ∷ bs) kind e = omega arith
 

@@ -9,9 +9,9 @@ use Rattle.std.proofs.lemmas.List.{length-take, append-nil}
 use Rattle.oz_lexer.specs.declared.token.TokenKind.{TokenKind}
 use Rattle.oz_lexer.specs.declared.token.TokenKind.TheVariants.{Quoted}
 use Rattle.oz_lexer.specs.declared.token.LexKind.TheVariants.{BadChar}
-use Rattle.oz_lexer.specs.Spelling.{kind_of}
+use Rattle.oz_lexer.specs.Spelling.{token_kind_of}
 use Rattle.oz_lexer.specs.Faults.{Longest}
-use Rattle.oz_lexer.specs.Scan.{is_one, is_two, sign_length, minus_length, quote_from, fitting, quoted, unquoted, token_length, token_kind, front_of}
+use Rattle.oz_lexer.specs.Scan.{is_one, is_two, sign_length, minus_length, quote_from, within_name_limit, quoted_token, plain_token, token_length, token_kind, front_of}
 use Rattle.oz_lexer.proofs.Quotes.{ends, quote_kind, closes, closed, no_longer}
 use Rattle.oz_lexer.proofs.Reaches.{is_longest, no_token}
 
@@ -39,15 +39,15 @@ pub record SameToken (k l : TokenKind) (xs ys a b : List ℕ) : Type 0 where
   pub bytes : xs ≡ ys
   pub rest : a ≡ b
 
-none_more : (bytes more rest behind : List ℕ) (l : TokenKind) → ((m b : List ℕ) → rest ≡ m ++ b → 0 < length m → kind_of (bytes ++ m) ≡ None) → rest ≡ more ++ behind → kind_of (bytes ++ more) ≡ Some l → more ≡ []
+none_more : (bytes more rest behind : List ℕ) (l : TokenKind) → ((m b : List ℕ) → rest ≡ m ++ b → 0 < length m → token_kind_of (bytes ++ m) ≡ None) → rest ≡ more ++ behind → token_kind_of (bytes ++ more) ≡ Some l → more ≡ []
 none_more bytes [] rest behind l longest e spells = refl
 none_more bytes (m ∷ ms) rest behind l longest e spells = let no = longest (m ∷ ms) behind e (omega arith) in absurd cc
 
 longer_same : (text : List ℕ) (k l : TokenKind) (xs ys a b : List ℕ) → GoesOn xs ys a b → Longest text k xs a → Longest text l ys b → SameToken k l xs ys a b
 longer_same text k l xs ys a b g p q =
-    let none = none_more xs g.more a b l p.longest g.behind (subst (λ (zs : List ℕ). kind_of zs ≡ Some l) g.is q.spells) in
+    let none = none_more xs g.more a b l p.longest g.behind (subst (λ (zs : List ℕ). token_kind_of zs ≡ Some l) g.is q.spells) in
     let again : ys ≡ xs = g.is ∙ ap (λ (zs : List ℕ). xs ++ zs) none ∙ append-nil xs in
-    let kinds : Some k ≡ Some l = sym p.spells ∙ ap kind_of (sym again) ∙ q.spells in
+    let kinds : Some k ≡ Some l = sym p.spells ∙ ap token_kind_of (sym again) ∙ q.spells in
     record { kind = cc; bytes = sym again; rest = g.behind ∙ ap (λ (zs : List ℕ). zs ++ b) none }
 
 pub one_longest : (text : List ℕ) (k l : TokenKind) (xs ys a b : List ℕ) → Longest text k xs a → Longest text l ys b → SameToken k l xs ys a b
@@ -59,8 +59,8 @@ one_longest text k l xs ys a b p q =
 
 -- ---- a longest token is found
 
-pub nothing_spelled : kind_of [] ≡ None
-unfolding kind_of
+pub nothing_spelled : token_kind_of [] ≡ None
+unfolding token_kind_of
 nothing_spelled = refl
 
 pub front_part : (xs ys : List ℕ) → take (length xs) (xs ++ ys) ≡ xs
@@ -89,12 +89,12 @@ quote_within cs n e =
     omega (arith, c.long, length-append c.bytes c.rest)
 
 -- a quoted atom at the front
-quote_front : (cs bytes rest : List ℕ) (kind : TokenKind) → 39 ∷ cs ≡ bytes ++ rest → kind_of bytes ≡ Some kind → quoted (quote_from false cs 1) ≡ fitting kind (length bytes)
+quote_front : (cs bytes rest : List ℕ) (kind : TokenKind) → 39 ∷ cs ≡ bytes ++ rest → token_kind_of bytes ≡ Some kind → quoted_token (quote_from false cs 1) ≡ within_name_limit kind (length bytes)
 quote_front cs [] rest kind is spells = let no = nothing_spelled in absurd cc
 quote_front cs (b ∷ bs) rest kind is spells =
     let first : 39 ≡ b = cc in
     let others : cs ≡ bs ++ rest = cc in
-    let as_quote : kind_of (39 ∷ bs) ≡ Some kind = subst (λ (x : ℕ). kind_of (x ∷ bs) ≡ Some kind) (sym first) spells in
+    let as_quote : token_kind_of (39 ∷ bs) ≡ Some kind = subst (λ (x : ℕ). token_kind_of (x ∷ bs) ≡ Some kind) (sym first) spells in
     let q = choose (ends false bs) (sym (quote_kind bs) ∙ as_quote) in
     let k = q.1 in
     let m : 1 + length bs ≡ length (b ∷ bs) = omega arith in
@@ -144,22 +144,22 @@ within b cs = choose (is_ascii_uppercase b || is_ascii_lowercase b) (is_ascii_di
     choose false false true p q = minus (prefix_len is_ascii_digit cs) q
     choose false false false p q = sign cs
 
-plain_front : (b : ℕ) (cs bytes rest : List ℕ) (kind : TokenKind) → eqb b 39 ≡ false → Longest (b ∷ cs) kind bytes rest → unquoted b cs (token_length b cs) ≡ fitting kind (length bytes)
+plain_front : (b : ℕ) (cs bytes rest : List ℕ) (kind : TokenKind) → eqb b 39 ≡ false → Longest (b ∷ cs) kind bytes rest → plain_token b cs (token_length b cs) ≡ within_name_limit kind (length bytes)
 plain_front b cs bytes rest kind quote l =
-    let chosen : (t : Bool) → eqb (token_length b cs) 0 ≡ t → cond t (Err (BadChar, 0)) (fitting (token_kind b (take (token_length b cs) (b ∷ cs))) (token_length b cs)) ≡ fitting kind (length bytes) = elim [
+    let chosen : (t : Bool) → eqb (token_length b cs) 0 ≡ t → cond t (Err (BadChar, 0)) (within_name_limit (token_kind b (take (token_length b cs) (b ∷ cs))) (token_length b cs)) ≡ within_name_limit kind (length bytes) = elim [
       | true ↦ λ e. let z = is_zero (token_length b cs) e in let none = no_token b cs bytes rest quote z l.is in let s = l.spells in absurd cc
       | false ↦ λ e.
           let some = is_some_more (token_length b cs) e in
           let s = one_longest (b ∷ cs) (token_kind b (take (token_length b cs) (b ∷ cs))) kind (take (token_length b cs) (b ∷ cs)) bytes (drop (token_length b cs) (b ∷ cs)) rest (is_longest b cs quote some) l in
           let n : token_length b cs ≡ length bytes = sym (taken_length (token_length b cs) (b ∷ cs) (within b cs)) ∙ ap (λ (xs : List ℕ). length xs) s.bytes in
-          ap (λ (k : TokenKind). fitting k (token_length b cs)) s.kind ∙ ap (fitting kind) n
+          ap (λ (k : TokenKind). within_name_limit k (token_length b cs)) s.kind ∙ ap (within_name_limit kind) n
     ] in chosen (eqb (token_length b cs) 0) refl
 
-pub token_front : (text : List ℕ) (kind : TokenKind) (bytes rest : List ℕ) → Longest text kind bytes rest → front_of text ≡ fitting kind (length bytes)
+pub token_front : (text : List ℕ) (kind : TokenKind) (bytes rest : List ℕ) → Longest text kind bytes rest → front_of text ≡ within_name_limit kind (length bytes)
 token_front [] kind [] rest l = let s = l.spells in let no = nothing_spelled in absurd cc
 token_front [] kind (b ∷ bs) rest l = let i = l.is in absurd cc
 token_front (b ∷ cs) kind bytes rest l =
-    let chosen : (t : Bool) → eqb b 39 ≡ t → cond t (quoted (quote_from false cs 1)) (unquoted b cs (token_length b cs)) ≡ fitting kind (length bytes) = elim [
+    let chosen : (t : Bool) → eqb b 39 ≡ t → cond t (quoted_token (quote_from false cs 1)) (plain_token b cs (token_length b cs)) ≡ within_name_limit kind (length bytes) = elim [
       | true ↦ λ e. let q : b ≡ 39 = grind arith in quote_front cs bytes rest kind (ap (λ (x : ℕ). x ∷ cs) (sym q) ∙ l.is) l.spells
       | false ↦ λ e. plain_front b cs bytes rest kind e l
     ] in chosen (eqb b 39) refl

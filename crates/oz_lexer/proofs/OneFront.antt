@@ -5,11 +5,11 @@ use Rattle.oz_lexer.specs.declared.token.TokenKind.{TokenKind}
 use Rattle.oz_lexer.specs.declared.token.TokenKind.TheVariants.{Variable, Atom, Quoted, Integer, Word, Sign, End}
 use Rattle.oz_lexer.specs.declared.token.LexKind.{LexKind}
 use Rattle.oz_lexer.specs.declared.token.LexKind.TheVariants.{BadChar, OpenComment, LongName}
-use Rattle.oz_lexer.specs.Spelling.{is_long, kind_of}
+use Rattle.oz_lexer.specs.Spelling.{is_long, token_kind_of}
 use Rattle.oz_lexer.specs.Blanks.{is_blank, Closes}
 use Rattle.oz_lexer.specs.Faults.{Longest, NothingBegins, FaultAt, bad_char, control, bad_escape, open_quote, open_escape, open_comment, long_name}
 use Rattle.oz_lexer.specs.Tokens.{Begins}
-use Rattle.oz_lexer.specs.Scan.{behind_comment, closed_or, behind_slash, behind_blank, quote_from, fitting, quoted, token_length, token_kind, front_of}
+use Rattle.oz_lexer.specs.Scan.{behind_comment, closed_or, behind_slash, behind_blank, quote_from, within_name_limit, quoted_token, token_length, token_kind, front_of}
 use Rattle.oz_lexer.proofs.Spelled.{blank_spelled, line_spelled, slash_spelled}
 use Rattle.oz_lexer.proofs.QuoteFaults.{finds_control, finds_escape, finds_open, finds_last}
 use Rattle.oz_lexer.proofs.Reaches.{is_longest}
@@ -25,20 +25,20 @@ no_blank_at : (b : ℕ) (cs : List ℕ) → is_blank b ≡ false → eqb b 37 �
 no_blank_at b cs e f g = rw (e, f, g) refl
 
 -- no blank stands where a token begins
-first_none : (b : ℕ) (bs cs : List ℕ) (kind : TokenKind) → kind_of (b ∷ bs) ≡ Some kind → behind_blank (b ∷ cs) ≡ Ok None
+first_none : (b : ℕ) (bs cs : List ℕ) (kind : TokenKind) → token_kind_of (b ∷ bs) ≡ Some kind → behind_blank (b ∷ cs) ≡ Ok None
 first_none b bs cs kind spells =
     let chosen : (t p s : Bool) → is_blank b ≡ t → eqb b 37 ≡ p → eqb b 47 ≡ s → behind_blank (b ∷ cs) ≡ Ok None = elim [
       | true ↦ λ p s et ep es. let no = blank_spelled b bs et in absurd cc
       | false ↦ elim [
-        | true ↦ λ s et ep es. let is : 37 ≡ b = grind arith in let no : kind_of (b ∷ bs) ≡ None = subst (λ (x : ℕ). kind_of (x ∷ bs) ≡ None) is (line_spelled bs) in absurd cc
+        | true ↦ λ s et ep es. let is : 37 ≡ b = grind arith in let no : token_kind_of (b ∷ bs) ≡ None = subst (λ (x : ℕ). token_kind_of (x ∷ bs) ≡ None) is (line_spelled bs) in absurd cc
         | false ↦ elim [
-          | true ↦ λ et ep es. let is : 47 ≡ b = grind arith in let no : kind_of (b ∷ bs) ≡ None = subst (λ (x : ℕ). kind_of (x ∷ bs) ≡ None) is (slash_spelled bs) in absurd cc
+          | true ↦ λ et ep es. let is : 47 ≡ b = grind arith in let no : token_kind_of (b ∷ bs) ≡ None = subst (λ (x : ℕ). token_kind_of (x ∷ bs) ≡ None) is (slash_spelled bs) in absurd cc
           | false ↦ λ et ep es. no_blank_at b cs et ep es
         ]
       ]
     ] in chosen (is_blank b) (eqb b 37) (eqb b 47) refl refl refl
 
-longest_none : (text bytes rest : List ℕ) (kind : TokenKind) → text ≡ bytes ++ rest → kind_of bytes ≡ Some kind → behind_blank text ≡ Ok None
+longest_none : (text bytes rest : List ℕ) (kind : TokenKind) → text ≡ bytes ++ rest → token_kind_of bytes ≡ Some kind → behind_blank text ≡ Ok None
 longest_none text [] rest kind is spells = let no = nothing_spelled in absurd cc
 longest_none text (b ∷ bs) rest kind is spells = rw is (first_none b bs (bs ++ rest) kind spells)
 
@@ -74,7 +74,7 @@ nothing_none b text n =
 
 nothing_front : (b : ℕ) (text : List ℕ) → NothingBegins b text → front_of (b ∷ text) ≡ Err (BadChar, 0)
 nothing_front b text n =
-    let chosen : (q z : Bool) → eqb b 39 ≡ q → eqb (token_length b text) 0 ≡ z → cond q (quoted (quote_from false text 1)) (cond z (Err (BadChar, 0)) (fitting (token_kind b (take (token_length b text) (b ∷ text))) (token_length b text))) ≡ Err (BadChar, 0) = elim [
+    let chosen : (q z : Bool) → eqb b 39 ≡ q → eqb (token_length b text) 0 ≡ z → cond q (quoted_token (quote_from false text 1)) (cond z (Err (BadChar, 0)) (within_name_limit (token_kind b (take (token_length b text) (b ∷ text))) (token_length b text))) ≡ Err (BadChar, 0) = elim [
       | true ↦ λ z eq ez. absurd (n.no_quote (is_it b 39 eq))
       | false ↦ elim [
         | true ↦ λ eq ez. refl
@@ -95,7 +95,7 @@ comment_found text h =
     let is = chosen (behind_comment 0 0 text) refl in
     record { stuck = λ rest f. cc; found = ap (after_blank (47 ∷ 42 ∷ text)) is }
 
-fitting_is : (kind : TokenKind) (bytes : List ℕ) (t : Bool) → is_long kind bytes ≡ t → fitting kind (length bytes) ≡ cond t (Err (LongName, 0)) (Ok (kind, length bytes))
+fitting_is : (kind : TokenKind) (bytes : List ℕ) (t : Bool) → is_long kind bytes ≡ t → within_name_limit kind (length bytes) ≡ cond t (Err (LongName, 0)) (Ok (kind, length bytes))
 fitting_is kind bytes t e = rw e refl
 
 token_found : (text : List ℕ) (kind : TokenKind) (bytes rest : List ℕ) (t : Bool) → Longest text kind bytes rest → is_long kind bytes ≡ t → IsFound text (cond t (Err (LongName, 0)) (Ok (kind, length bytes)))
@@ -103,10 +103,10 @@ token_found text kind bytes rest t l e = found_none text _ (longest_none text by
 
 fault_found : {text : List ℕ} {kind : LexKind} {n : ℕ} → FaultAt text kind n → IsFound text (Err (kind, n))
 fault_found (bad_char b text nb) = found_none (b ∷ text) _ (nothing_none b text nb) (nothing_front b text nb)
-fault_found (control b inside rest q c) = found_none (39 ∷ (inside ++ b ∷ rest)) _ refl (ap quoted (finds_control b inside rest q c))
-fault_found (bad_escape b inside rest q c) = found_none (39 ∷ (inside ++ 92 ∷ b ∷ rest)) _ refl (ap quoted (finds_escape b inside rest q c))
-fault_found (open_quote inside q) = found_none (39 ∷ inside) _ refl (ap quoted (finds_open inside q))
-fault_found (open_escape inside q) = found_none (39 ∷ (inside ++ 92 ∷ [])) _ refl (ap quoted (finds_last inside q))
+fault_found (control b inside rest q c) = found_none (39 ∷ (inside ++ b ∷ rest)) _ refl (ap quoted_token (finds_control b inside rest q c))
+fault_found (bad_escape b inside rest q c) = found_none (39 ∷ (inside ++ 92 ∷ b ∷ rest)) _ refl (ap quoted_token (finds_escape b inside rest q c))
+fault_found (open_quote inside q) = found_none (39 ∷ inside) _ refl (ap quoted_token (finds_open inside q))
+fault_found (open_escape inside q) = found_none (39 ∷ (inside ++ 92 ∷ [])) _ refl (ap quoted_token (finds_last inside q))
 fault_found (open_comment text h) = comment_found text h
 fault_found (long_name text kind bytes rest l e) = token_found text kind bytes rest true l e
 

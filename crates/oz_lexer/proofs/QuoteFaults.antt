@@ -7,7 +7,8 @@ use Rattle.oz_lexer.specs.declared.token.LexKind.TheVariants.{BadChar, OpenQuote
 use Rattle.oz_lexer.specs.Spelling.{is_control, is_escape, is_quotable}
 use Rattle.oz_lexer.specs.Faults.{FaultAt, control, bad_escape, open_quote, open_escape}
 use Rattle.oz_lexer.specs.Scan.{quote_from}
-use Rattle.oz_lexer.proofs.Quotes.{quotes, quotes_is, if_both}
+use Rattle.oz_lexer.proofs.Quotes.{quotes, quotes_is}
+use Rattle.std.proofs.lemmas.Bool.{and_parts}
 
 -- ---- the fault that is found stands there
 
@@ -90,7 +91,7 @@ pub goes_on : (escaping : Bool) (inside tail : List ℕ) (n : ℕ) → quotes es
 goes_on true [] tail n e = absurd cc
 goes_on false [] tail n e = let m : n ≡ n + 0 = omega arith in ap (λ (k : ℕ). quote_from false tail k) m
 goes_on true (b ∷ bs) tail n e =
-    let p = if_both (is_escape b) (quotes false bs) e in
+    let p = and_parts (is_escape b) (quotes false bs) e in
     let m : n + 1 + length bs ≡ n + length (b ∷ bs) = omega arith in
     rw (p.0) (goes_on false bs tail (n + 1) p.1 ∙ ap (λ (k : ℕ). quote_from false tail k) m)
 goes_on false (b ∷ bs) tail n e =

@@ -4,8 +4,9 @@ use Rattle.std.specs.Prelude.{◌||◌, ◌&&◌, not}
 use Rattle.oz_lexer.specs.declared.token.TokenKind.TheVariants.{Quoted}
 use Rattle.oz_lexer.specs.declared.token.LexKind.{LexKind}
 use Rattle.oz_lexer.specs.declared.token.LexKind.TheVariants.{BadChar, BadEscape}
-use Rattle.oz_lexer.specs.Spelling.{is_control, is_character, is_escape, is_quotable, closes_quote, kind_of}
+use Rattle.oz_lexer.specs.Spelling.{is_control, is_character, is_escape, is_quotable, closes_quote, token_kind_of}
 use Rattle.oz_lexer.specs.Scan.{quote_from}
+use Rattle.std.proofs.lemmas.Bool.{and_parts}
 
 abbrev pub is_nil : List ℕ → Bool
 is_nil [] = true
@@ -58,20 +59,15 @@ ends_is (b ∷ c ∷ bs) =
     both false false true h x y = refl
     both false false false h x y = refl
 
-quoted_kind : (bs : List ℕ) → kind_of (39 ∷ bs) ≡ cond (closes_quote bs) (Some Quoted) None
-unfolding kind_of
+quoted_kind : (bs : List ℕ) → token_kind_of (39 ∷ bs) ≡ cond (closes_quote bs) (Some Quoted) None
+unfolding token_kind_of
 quoted_kind bs =
-    let chosen : (t : Bool) → closes_quote bs ≡ t → kind_of (39 ∷ bs) ≡ cond t (Some Quoted) None = elim [ true ↦ λ e. rw e refl | false ↦ λ e. rw e refl ]
+    let chosen : (t : Bool) → closes_quote bs ≡ t → token_kind_of (39 ∷ bs) ≡ cond t (Some Quoted) None = elim [ true ↦ λ e. rw e refl | false ↦ λ e. rw e refl ]
     in chosen (closes_quote bs) refl
 
 -- which bytes are a token that begins with a quote
-pub quote_kind : (bs : List ℕ) → kind_of (39 ∷ bs) ≡ cond (ends false bs) (Some Quoted) None
+pub quote_kind : (bs : List ℕ) → token_kind_of (39 ∷ bs) ≡ cond (ends false bs) (Some Quoted) None
 quote_kind bs = quoted_kind bs ∙ ap (λ (t : Bool). cond t (Some Quoted) None) (ends_is bs)
-
-pub if_both : (a b : Bool) → (a && b) ≡ true → (a ≡ true) × (b ≡ true)
-if_both true true e = (refl, refl)
-if_both true false e = absurd cc
-if_both false b e = absurd cc
 
 -- ---- where the quote closes
 
@@ -79,7 +75,7 @@ if_both false b e = absurd cc
 pub closes : (escaping : Bool) (bytes rest : List ℕ) (n : ℕ) → ends escaping bytes ≡ true → quote_from escaping (bytes ++ rest) n ≡ Ok (n + length bytes)
 closes escaping [] rest n e = absurd cc
 closes true (b ∷ bs) rest n e =
-    let p = if_both (is_escape b) (ends false bs) e in
+    let p = and_parts (is_escape b) (ends false bs) e in
     let m : n + 1 + length bs ≡ n + length (b ∷ bs) = omega arith in
     rw (p.0) (closes false bs rest (n + 1) p.1 ∙ ap (λ (k : ℕ). Ok k) m)
 closes false (b ∷ bs) rest n e =
@@ -134,7 +130,7 @@ closed false (b ∷ bs) n m e =
 -- nothing goes on behind the closing quote
 pub no_longer : (escaping : Bool) (bytes more : List ℕ) → ends escaping bytes ≡ true → 0 < length more → ends escaping (bytes ++ more) ≡ false
 no_longer escaping [] more e some = absurd cc
-no_longer true (b ∷ bs) more e some = let p = if_both (is_escape b) (ends false bs) e in rw (p.0) (no_longer false bs more p.1 some)
+no_longer true (b ∷ bs) more e some = let p = and_parts (is_escape b) (ends false bs) e in rw (p.0) (no_longer false bs more p.1 some)
 no_longer false (b ∷ bs) more e some =
     let chosen : (q s c : Bool) → cond q (is_nil bs) (cond s (ends true bs) (not c && ends false bs)) ≡ true
     → cond q (is_nil (bs ++ more)) (cond s (ends true (bs ++ more)) (not c && ends false (bs ++ more))) ≡ false = elim [

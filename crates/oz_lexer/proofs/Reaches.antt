@@ -7,11 +7,12 @@ use Rattle.std.proofs.lemmas.List.Sums.{prefix_len-le-length}
 use Rattle.std.proofs.lemmas.List.{length-take, take-append-drop}
 use Rattle.std.proofs.lemmas.List.Folds.{list_all-append}
 use Rattle.tree_node.specs.Spelling.{is_word_byte}
-use Rattle.oz_lexer.specs.Spelling.{are_digits, kind_of}
+use Rattle.oz_lexer.specs.Spelling.{are_digits, token_kind_of}
 use Rattle.oz_lexer.specs.Faults.{Longest}
 use Rattle.oz_lexer.specs.Scan.{is_one, is_two, sign_length, minus_length, token_length, token_kind}
-use Rattle.oz_lexer.proofs.Signs.{behind_sign, and_false}
+use Rattle.oz_lexer.proofs.Signs.{behind_sign}
 use Rattle.oz_lexer.proofs.Spelled.{behind_first, spelled}
+use Rattle.std.proofs.Math.Bool.{and-false}
 
 -- ---- how far a token reaches
 
@@ -34,7 +35,7 @@ run_ends p (x ∷ xs) (m ∷ ms) behind e some =
     ] in chosen (p x) refl e some
 
 run_stops : (p : ℕ → Bool) (xs more behind : List ℕ) → drop (prefix_len p xs) xs ≡ more ++ behind → 0 < length more → list_all p (take (prefix_len p xs) xs ++ more) ≡ false
-run_stops p xs more behind e some = list_all-append p (take (prefix_len p xs) xs) more ∙ rw (run_ends p xs more behind e some) (and_false (list_all p (take (prefix_len p xs) xs)))
+run_stops p xs more behind e some = list_all-append p (take (prefix_len p xs) xs) more ∙ rw (run_ends p xs more behind e some) (and-false (list_all p (take (prefix_len p xs) xs)))
 
 are_digits_all : (xs : List ℕ) → 0 < length xs → are_digits xs ≡ list_all is_ascii_digit xs
 are_digits_all [] some = absurd (omega arith)
@@ -160,11 +161,11 @@ is_longest b cs quote some =
     }
 
 -- where they are none, no token begins
-pub no_token : (b : ℕ) (cs bytes rest : List ℕ) → eqb b 39 ≡ false → token_length b cs ≡ 0 → b ∷ cs ≡ bytes ++ rest → kind_of bytes ≡ None
-unfolding kind_of
+pub no_token : (b : ℕ) (cs bytes rest : List ℕ) → eqb b 39 ≡ false → token_length b cs ≡ 0 → b ∷ cs ≡ bytes ++ rest → token_kind_of bytes ≡ None
+unfolding token_kind_of
 no_token b cs [] rest quote zero_ is = refl
 no_token b cs (c ∷ bytes) rest quote zero_ is =
     let first : b ≡ c = cc in
     let others : cs ≡ bytes ++ rest = cc in
     let r = reach b cs in
-    subst (λ (x : ℕ). kind_of (x ∷ bytes) ≡ None) first (spelled b bytes quote ∙ rw (r.none bytes rest zero_ others) refl)
+    subst (λ (x : ℕ). token_kind_of (x ∷ bytes) ≡ None) first (spelled b bytes quote ∙ rw (r.none bytes rest zero_ others) refl)

@@ -6,6 +6,7 @@ use Rattle.std.specs.Str.{bytes_eq}
 use Rattle.std.specs.Cmp.Lexicographic.{same_text}
 use Rattle.std.proofs.lemmas.Str.{IsUtf8-from_ascii}
 use Rattle.tree_node.specs.Words.{reserved_words, is_reserved}
+use Rattle.std.proofs.lemmas.Bool.{and_parts}
 
 -- what holds of each of these words holds of each text that is one of them
 among : (test : List ℕ → Bool) (words : List (List ℕ)) (text : List ℕ) → list_all test words ≡ true → list_any (λ word. bytes_eq text word) words ≡ true → test text ≡ true
@@ -25,15 +26,10 @@ among test (word ∷ words) text all any =
 abbrev is_ascii : List ℕ → Bool
 is_ascii text = list_all (λ c. nat_lt c 128) text
 
-both : (a b : Bool) → (a && b) ≡ true → (a ≡ true) × (b ≡ true)
-both true true e = (refl, refl)
-both true false e = absurd cc
-both false b e = absurd cc
-
 ascii_at : (text : List ℕ) (i : ℕ) → is_ascii text ≡ true → get_or text i 0 < 128
 ascii_at [] i e = omega arith
-ascii_at (c ∷ cs) zero e = let p = both (nat_lt c 128) (is_ascii cs) e in let h : nat_lt c 128 ≡ true = p.0 in grind arith
-ascii_at (c ∷ cs) (suc i) e = let p = both (nat_lt c 128) (is_ascii cs) e in ascii_at cs i p.1
+ascii_at (c ∷ cs) zero e = let p = and_parts (nat_lt c 128) (is_ascii cs) e in let h : nat_lt c 128 ≡ true = p.0 in grind arith
+ascii_at (c ∷ cs) (suc i) e = let p = and_parts (nat_lt c 128) (is_ascii cs) e in ascii_at cs i p.1
 
 pub reserved_is_text : (text : List ℕ) → is_reserved text ≡ true → IsUtf8 text
 unfolding reserved_words

@@ -3,14 +3,11 @@ use Rattle.std.proofs.Common.{◌≡◌, ℕ, List, [], ◌∷◌, Bool, true, f
 use Rattle.std.specs.Prelude.{◌||◌, ◌&&◌}
 use Rattle.oz_lexer.specs.Spelling.{is_sign}
 use Rattle.oz_lexer.specs.Scan.{is_one, is_two}
+use Rattle.std.proofs.Math.Bool.{and-false}
 
 pub and_true : (b : Bool) → (b && true) ≡ b
 and_true true = refl
 and_true false = refl
-
-pub and_false : (b : Bool) → (b && false) ≡ false
-and_false true = refl
-and_false false = refl
 
 pub or_false : (b : Bool) → (b || false) ≡ b
 or_false true = refl
@@ -23,6 +20,6 @@ behind_sign b (c ∷ []) = is_two b c
 behind_sign b (c ∷ d ∷ cs) = false
 
 pub sign_spells : (b : ℕ) (bs : List ℕ) → is_sign (b ∷ bs) ≡ behind_sign b bs
-sign_spells b [] = simp (and_true, and_false, or_false)
-sign_spells b (c ∷ []) = simp (and_true, and_false, or_false)
-sign_spells b (c ∷ d ∷ cs) = simp (and_true, and_false, or_false)
+sign_spells b [] = simp (and_true, and-false, or_false)
+sign_spells b (c ∷ []) = simp (and_true, and-false, or_false)
+sign_spells b (c ∷ d ∷ cs) = simp (and_true, and-false, or_false)

@@ -6,7 +6,7 @@ use Rattle.std.specs.List.{list_all}
 use Rattle.tree_node.specs.Spelling.{is_word_byte}
 use Rattle.tree_node.specs.Words.{is_reserved}
 use Rattle.oz_lexer.specs.declared.token.TokenKind.TheVariants.{Variable, Atom, Integer, Word, Sign}
-use Rattle.oz_lexer.specs.Spelling.{are_digits, is_sign, kind_of}
+use Rattle.oz_lexer.specs.Spelling.{are_digits, is_sign, token_kind_of}
 use Rattle.oz_lexer.specs.Blanks.{is_blank}
 use Rattle.oz_lexer.specs.Scan.{is_one, is_two, token_kind}
 use Rattle.oz_lexer.proofs.Signs.{behind_sign, sign_spells}
@@ -52,8 +52,8 @@ lower_part b e = grind arith
 
 -- ---- by the first byte
 
-upper_spells : (b : ℕ) (cs : List ℕ) → is_ascii_uppercase b ≡ true → kind_of (b ∷ cs) ≡ cond (list_all is_word_byte cs) (Some Variable) None
-unfolding kind_of
+upper_spells : (b : ℕ) (cs : List ℕ) → is_ascii_uppercase b ≡ true → token_kind_of (b ∷ cs) ≡ cond (list_all is_word_byte cs) (Some Variable) None
+unfolding token_kind_of
 upper_spells b cs up =
     let part = upper_part b up in
     let low : is_ascii_lowercase b ≡ false = grind arith in
@@ -61,13 +61,13 @@ upper_spells b cs up =
     let tilde : eqb b 126 ≡ false = grind arith in
     let quote : eqb b 39 ≡ false = grind arith in
     let sign = no_sign b cs (upper_sign b up) in
-    let chosen : (t : Bool) → list_all is_word_byte cs ≡ t → kind_of (b ∷ cs) ≡ cond t (Some Variable) None = elim [
+    let chosen : (t : Bool) → list_all is_word_byte cs ≡ t → token_kind_of (b ∷ cs) ≡ cond t (Some Variable) None = elim [
       | true ↦ λ e. rw (part, up, e) refl
       | false ↦ λ e. rw (part, up, e, low, quote, tilde, digit, sign) refl
     ] in chosen (list_all is_word_byte cs) refl
 
-lower_spells : (b : ℕ) (cs : List ℕ) → is_ascii_lowercase b ≡ true → kind_of (b ∷ cs) ≡ cond (list_all is_word_byte cs) (cond (is_reserved (b ∷ cs)) (Some Word) (Some Atom)) None
-unfolding kind_of
+lower_spells : (b : ℕ) (cs : List ℕ) → is_ascii_lowercase b ≡ true → token_kind_of (b ∷ cs) ≡ cond (list_all is_word_byte cs) (cond (is_reserved (b ∷ cs)) (Some Word) (Some Atom)) None
+unfolding token_kind_of
 lower_spells b cs low =
     let part = lower_part b low in
     let up : is_ascii_uppercase b ≡ false = grind arith in
@@ -75,44 +75,44 @@ lower_spells b cs low =
     let tilde : eqb b 126 ≡ false = grind arith in
     let quote : eqb b 39 ≡ false = grind arith in
     let sign = no_sign b cs (lower_sign b low) in
-    let chosen : (t : Bool) → list_all is_word_byte cs ≡ t → kind_of (b ∷ cs) ≡ cond t (cond (is_reserved (b ∷ cs)) (Some Word) (Some Atom)) None = elim [
+    let chosen : (t : Bool) → list_all is_word_byte cs ≡ t → token_kind_of (b ∷ cs) ≡ cond t (cond (is_reserved (b ∷ cs)) (Some Word) (Some Atom)) None = elim [
       | true ↦ λ e. rw (part, up, low, e) refl
       | false ↦ λ e. rw (part, up, low, e, quote, tilde, digit, sign) refl
     ] in chosen (list_all is_word_byte cs) refl
 
-digit_spells : (b : ℕ) (cs : List ℕ) → is_ascii_digit b ≡ true → kind_of (b ∷ cs) ≡ cond (list_all is_ascii_digit cs) (Some Integer) None
-unfolding kind_of
+digit_spells : (b : ℕ) (cs : List ℕ) → is_ascii_digit b ≡ true → token_kind_of (b ∷ cs) ≡ cond (list_all is_ascii_digit cs) (Some Integer) None
+unfolding token_kind_of
 digit_spells b cs digit =
     let up : is_ascii_uppercase b ≡ false = grind arith in
     let low : is_ascii_lowercase b ≡ false = grind arith in
     let tilde : eqb b 126 ≡ false = grind arith in
     let quote : eqb b 39 ≡ false = grind arith in
     let sign = no_sign b cs (digit_sign b digit) in
-    let chosen : (t : Bool) → list_all is_ascii_digit cs ≡ t → kind_of (b ∷ cs) ≡ cond t (Some Integer) None = elim [
+    let chosen : (t : Bool) → list_all is_ascii_digit cs ≡ t → token_kind_of (b ∷ cs) ≡ cond t (Some Integer) None = elim [
       | true ↦ λ e. rw (up, low, quote, tilde, digit, e) refl
       | false ↦ λ e. rw (up, low, quote, tilde, digit, e, sign) refl
     ] in chosen (list_all is_ascii_digit cs) refl
 
-tilde_spells : (cs : List ℕ) → kind_of (126 ∷ cs) ≡ cond (are_digits cs) (Some Integer) None
-unfolding kind_of
+tilde_spells : (cs : List ℕ) → token_kind_of (126 ∷ cs) ≡ cond (are_digits cs) (Some Integer) None
+unfolding token_kind_of
 tilde_spells cs =
-    let chosen : (t : Bool) → are_digits cs ≡ t → kind_of (126 ∷ cs) ≡ cond t (Some Integer) None = elim [
+    let chosen : (t : Bool) → are_digits cs ≡ t → token_kind_of (126 ∷ cs) ≡ cond t (Some Integer) None = elim [
       | true ↦ λ e. rw e refl
       | false ↦ λ e. rw e refl
     ] in chosen (are_digits cs) refl
 
-sign_kind : (b : ℕ) (cs : List ℕ) → is_ascii_uppercase b ≡ false → is_ascii_lowercase b ≡ false → is_ascii_digit b ≡ false → eqb b 126 ≡ false → eqb b 39 ≡ false → kind_of (b ∷ cs) ≡ cond (behind_sign b cs) (Some Sign) None
-unfolding kind_of
+sign_kind : (b : ℕ) (cs : List ℕ) → is_ascii_uppercase b ≡ false → is_ascii_lowercase b ≡ false → is_ascii_digit b ≡ false → eqb b 126 ≡ false → eqb b 39 ≡ false → token_kind_of (b ∷ cs) ≡ cond (behind_sign b cs) (Some Sign) None
+unfolding token_kind_of
 sign_kind b cs up low digit tilde quote = rw (up, low, quote, tilde, digit, sign_spells b cs) refl
 
 same : (b k : ℕ) → eqb b k ≡ true → k ≡ b
 same b k e = grind arith
 
 -- the bytes are a token where the others may stand behind the first, and then it tells the kind
-pub spelled : (b : ℕ) (cs : List ℕ) → eqb b 39 ≡ false → kind_of (b ∷ cs) ≡ cond (behind_first b cs) (Some (token_kind b (b ∷ cs))) None
+pub spelled : (b : ℕ) (cs : List ℕ) → eqb b 39 ≡ false → token_kind_of (b ∷ cs) ≡ cond (behind_first b cs) (Some (token_kind b (b ∷ cs))) None
 spelled b cs quote =
     let chosen : (u l d m : Bool) → is_ascii_uppercase b ≡ u → is_ascii_lowercase b ≡ l → is_ascii_digit b ≡ d → eqb b 126 ≡ m
-    → kind_of (b ∷ cs) ≡ cond (cond (u || l) (list_all is_word_byte cs) (cond d (list_all is_ascii_digit cs) (cond m (are_digits cs) (behind_sign b cs))))
+    → token_kind_of (b ∷ cs) ≡ cond (cond (u || l) (list_all is_word_byte cs) (cond d (list_all is_ascii_digit cs) (cond m (are_digits cs) (behind_sign b cs))))
     (Some (cond u Variable (cond l (cond (is_reserved (b ∷ cs)) Word Atom) (cond (d || m) Integer Sign)))) None = elim [
       | true ↦ λ l d m up low digit tilde. upper_spells b cs up
       | false ↦ elim [
@@ -120,7 +120,7 @@ spelled b cs quote =
         | false ↦ elim [
           | true ↦ λ m up low digit tilde. digit_spells b cs digit
           | false ↦ elim [
-            | true ↦ λ up low digit tilde. subst (λ (n : ℕ). kind_of (n ∷ cs) ≡ cond (are_digits cs) (Some Integer) None) (same b 126 tilde) (tilde_spells cs)
+            | true ↦ λ up low digit tilde. subst (λ (n : ℕ). token_kind_of (n ∷ cs) ≡ cond (are_digits cs) (Some Integer) None) (same b 126 tilde) (tilde_spells cs)
             | false ↦ λ up low digit tilde. sign_kind b cs up low digit tilde quote
           ]
         ]
@@ -135,7 +135,7 @@ spelled b cs quote =
 
 -- ---- what no token begins with
 
-none_spelled : (b : ℕ) (bs : List ℕ) → is_ascii_uppercase b ≡ false → is_ascii_lowercase b ≡ false → is_ascii_digit b ≡ false → eqb b 126 ≡ false → eqb b 39 ≡ false → NoSign b → kind_of (b ∷ bs) ≡ None
+none_spelled : (b : ℕ) (bs : List ℕ) → is_ascii_uppercase b ≡ false → is_ascii_lowercase b ≡ false → is_ascii_digit b ≡ false → eqb b 126 ≡ false → eqb b 39 ≡ false → NoSign b → token_kind_of (b ∷ bs) ≡ None
 none_spelled b bs up low digit tilde quote sign = sign_kind b bs up low digit tilde quote ∙ rw (behind b bs sign) refl
   where
     behind : (c : ℕ) (cs : List ℕ) → NoSign c → behind_sign c cs ≡ false
@@ -146,11 +146,11 @@ none_spelled b bs up low digit tilde quote sign = sign_kind b bs up low digit ti
 blank_sign : (b : ℕ) → is_blank b ≡ true → NoSign b
 blank_sign b e = record { one = not_one b (grind arith) (grind arith) (grind arith) (grind arith) (grind arith) (grind arith) (grind arith) (grind arith) (grind arith) (grind arith) (grind arith) (grind arith) (grind arith) (grind arith); two = λ c. not_two b c (grind arith) (grind arith) (grind arith) (grind arith) }
 
-pub blank_spelled : (b : ℕ) (bs : List ℕ) → is_blank b ≡ true → kind_of (b ∷ bs) ≡ None
+pub blank_spelled : (b : ℕ) (bs : List ℕ) → is_blank b ≡ true → token_kind_of (b ∷ bs) ≡ None
 blank_spelled b bs e = none_spelled b bs (grind arith) (grind arith) (grind arith) (grind arith) (grind arith) (blank_sign b e)
 
-pub line_spelled : (bs : List ℕ) → kind_of (37 ∷ bs) ≡ None
+pub line_spelled : (bs : List ℕ) → token_kind_of (37 ∷ bs) ≡ None
 line_spelled bs = none_spelled 37 bs refl refl refl refl refl (record { one = refl; two = λ c. refl })
 
-pub slash_spelled : (bs : List ℕ) → kind_of (47 ∷ bs) ≡ None
+pub slash_spelled : (bs : List ℕ) → token_kind_of (47 ∷ bs) ≡ None
 slash_spelled bs = none_spelled 47 bs refl refl refl refl refl (record { one = refl; two = λ c. refl })

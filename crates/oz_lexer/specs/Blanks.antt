@@ -15,14 +15,14 @@ abbrev pub from_newline : List ℕ → List ℕ
 from_newline text = drop (prefix_len is_in_line text) text
 
 -- /* or */
-abbrev pub is_pair : ℕ → ℕ → Bool
-is_pair b c = ((b == 47) && (c == 42)) || ((b == 42) && (c == 47))
+abbrev pub is_comment_sign : ℕ → ℕ → Bool
+is_comment_sign b c = ((b == 47) && (c == 42)) || ((b == 42) && (c == 47))
 
 -- a text behind /* closes this comment with the */ before rest: comments inside close first. Pairs are read from the left
 pub data Closes : List ℕ → List ℕ → Type 0 where
   closed : {rest : List ℕ} → Closes (42 ∷ 47 ∷ rest) rest
   nested : {text middle rest : List ℕ} → Closes text middle → Closes middle rest → Closes (47 ∷ 42 ∷ text) rest
-  other : {b : ℕ} {text rest : List ℕ} → is_pair b (slice_index text 0) ≡ false → Closes text rest → Closes (b ∷ text) rest
+  other : {b : ℕ} {text rest : List ℕ} → is_comment_sign b (slice_index text 0) ≡ false → Closes text rest → Closes (b ∷ text) rest
 
 -- a text is blanks, comments to the end of a line, and comments in brackets, before rest
 pub data Skips : List ℕ → List ℕ → Type 0 where

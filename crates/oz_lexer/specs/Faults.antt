@@ -3,18 +3,18 @@ use Rattle.std.specs.Prelude.{◌≡◌, ℕ, ◌+◌, ◌<◌, List, [], ◌∷
 use Rattle.oz_lexer.specs.declared.token.TokenKind.{TokenKind}
 use Rattle.oz_lexer.specs.declared.token.LexKind.{LexKind}
 use Rattle.oz_lexer.specs.declared.token.LexKind.TheVariants.{BadChar, OpenQuote, BadEscape, OpenComment, LongName}
-use Rattle.oz_lexer.specs.Spelling.{is_control, is_escape, is_quotable, kind_of, is_long}
+use Rattle.oz_lexer.specs.Spelling.{is_control, is_escape, is_quotable, token_kind_of, is_long}
 use Rattle.oz_lexer.specs.Blanks.{is_blank, Closes}
 
 -- the longest token at the front of a text, and what stands behind it: no more of the text than its bytes is a token
 pub record Longest (text : List ℕ) (kind : TokenKind) (bytes rest : List ℕ) : Type 0 where
   pub is : text ≡ bytes ++ rest
-  pub spells : kind_of bytes ≡ Some kind
-  pub longest : (more behind : List ℕ) → rest ≡ more ++ behind → 0 < length more → kind_of (bytes ++ more) ≡ None
+  pub spells : token_kind_of bytes ≡ Some kind
+  pub longest : (more behind : List ℕ) → rest ≡ more ++ behind → 0 < length more → token_kind_of (bytes ++ more) ≡ None
 
 -- no token, blank or comment begins here, and no quote opens
 pub record NothingBegins (b : ℕ) (text : List ℕ) : Type 0 where
-  pub no_token : (bytes rest : List ℕ) → b ∷ text ≡ bytes ++ rest → kind_of bytes ≡ None
+  pub no_token : (bytes rest : List ℕ) → b ∷ text ≡ bytes ++ rest → token_kind_of bytes ≡ None
   pub no_blank : is_blank b ≡ false
   pub no_line : b ≡ 37 → ⊥
   pub no_comment : b ≡ 47 → slice_index text 0 ≡ 42 → ⊥

@@ -100,18 +100,18 @@ quote_from false (b ∷ bs) n =
     else quote_from false bs (n + 1)))
 
 -- a token of so many bytes, if it is no name too long
-abbrev pub fitting : TokenKind → ℕ → Result (TokenKind × ℕ) (LexKind × ℕ)
-fitting kind n = if is_name kind && not (nat_le n 255) then Err (LongName, 0) else Ok (kind, n)
+abbrev pub within_name_limit : TokenKind → ℕ → Result (TokenKind × ℕ) (LexKind × ℕ)
+within_name_limit kind n = if is_name kind && not (nat_le n 255) then Err (LongName, 0) else Ok (kind, n)
 
-abbrev pub quoted : Result ℕ (LexKind × ℕ) → Result (TokenKind × ℕ) (LexKind × ℕ)
-quoted (Ok n) = fitting Quoted n
-quoted (Err e) = Err e
+abbrev pub quoted_token : Result ℕ (LexKind × ℕ) → Result (TokenKind × ℕ) (LexKind × ℕ)
+quoted_token (Ok n) = within_name_limit Quoted n
+quoted_token (Err e) = Err e
 
-abbrev pub unquoted : ℕ → List ℕ → ℕ → Result (TokenKind × ℕ) (LexKind × ℕ)
-unquoted b bs n = if n == 0 then Err (BadChar, 0) else fitting (token_kind b (take n (b ∷ bs))) n
+abbrev pub plain_token : ℕ → List ℕ → ℕ → Result (TokenKind × ℕ) (LexKind × ℕ)
+plain_token b bs n = if n == 0 then Err (BadChar, 0) else within_name_limit (token_kind b (take n (b ∷ bs))) n
 
 -- the token at the front of a text that begins with no blank and no comment, and how many bytes it has, or the fault there
 -- and how many bytes stand before it
 abbrev pub front_of : List ℕ → Result (TokenKind × ℕ) (LexKind × ℕ)
 front_of [] = Ok (End, 0)
-front_of (b ∷ bs) = if b == 39 then quoted (quote_from false bs 1) else unquoted b bs (token_length b bs)
+front_of (b ∷ bs) = if b == 39 then quoted_token (quote_from false bs 1) else plain_token b bs (token_length b bs)

@@ -13,8 +13,8 @@ abbrev pub is_variable : List ℕ → Bool
 is_variable bytes = is_ascii_uppercase (slice_index bytes 0) && list_all is_word_byte bytes
 
 -- a lower-case letter, then letters, digits and _
-abbrev pub is_word : List ℕ → Bool
-is_word bytes = is_ascii_lowercase (slice_index bytes 0) && list_all is_word_byte bytes
+abbrev pub is_lower_word : List ℕ → Bool
+is_lower_word bytes = is_ascii_lowercase (slice_index bytes 0) && list_all is_word_byte bytes
 
 -- decimal digits, at least one
 abbrev pub are_digits : List ℕ → Bool
@@ -63,10 +63,10 @@ abbrev pub is_sign : List ℕ → Bool
 is_sign bytes = list_any (λ sign. bytes_eq bytes sign) signs
 
 -- the kind of token that these bytes spell
-unfoldable pub kind_of : List ℕ → Option TokenKind
-kind_of bytes =
+unfoldable pub token_kind_of : List ℕ → Option TokenKind
+token_kind_of bytes =
     if is_variable bytes then Some Variable
-    else (if is_word bytes then (if is_reserved bytes then Some Word else Some Atom)
+    else (if is_lower_word bytes then (if is_reserved bytes then Some Word else Some Atom)
     else (if is_quoted bytes then Some Quoted
     else (if are_digits (digits_of bytes) then Some Integer
     else (if is_sign bytes then Some Sign

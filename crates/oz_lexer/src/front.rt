@@ -1,7 +1,7 @@
 //! The token at the front of a text.
 
 ghost use Rattle.std.specs.Prelude.{◌≡◌, ◌≤◌, length, false, IfOk, IfErr};
-ghost use Rattle.oz_lexer.specs.Scan.{quote_from, fitting, quoted, unquoted, front_of};
+ghost use Rattle.oz_lexer.specs.Scan.{quote_from, within_name_limit, quoted_token, plain_token, front_of};
 
 use crate::spelling::{is_control, is_escape, is_name, token_kind, token_length};
 use crate::token::{LexKind, TokenKind};
@@ -30,7 +30,7 @@ fn quote_length(inside: &[u8]) -> Result<usize, (LexKind, usize)>
 
 /// A token of so many bytes, if it is no name too long.
 fn fitting(kind: TokenKind, length: usize) -> Result<(TokenKind, usize), (LexKind, usize)>
-    ensures { result ≡ fitting kind length }
+    ensures { result ≡ within_name_limit kind length }
 {
     if is_name(kind) && length > 255 {
         Err((LexKind::LongName, 0))
@@ -40,7 +40,7 @@ fn fitting(kind: TokenKind, length: usize) -> Result<(TokenKind, usize), (LexKin
 }
 
 fn quoted(inside: &[u8]) -> Result<(TokenKind, usize), (LexKind, usize)>
-    ensures { result ≡ quoted (quote_from false inside.now 1) }
+    ensures { result ≡ quoted_token (quote_from false inside.now 1) }
 {
     match quote_length(inside) {
         Ok(length) => fitting(TokenKind::Quoted, length),

@@ -11,24 +11,8 @@ use Rattle.tree_node.specs.Store.{Store, Same, here, onward, Det, IsFree, node_o
 use Rattle.tree_node.proofs.ClassLemmas.{roots_tell_classes}
 use Rattle.tree_node.proofs.DetLemmas.{node_is_det}
 use Rattle.oz_model.specs.Answers.{LinksGoDown, LowerBinds}
-
--- equations lead from x down to y
-data Down (s : Store) : VarName → VarName → Type 0 where
-  stop : {x : VarName} → Down s x x
-  link : {x y z : VarName} → Contains s (x, term.Var y) → Down s y z → Down s x z
-
-below_trans : (x y z : VarName) → IsBelow x y → IsBelow y z → IsBelow x z
-below_trans x y z (inl h) (inl g) = inl (omega arith)
-below_trans x y z (inl h) (inr g) = inl (omega (arith, g.0))
-below_trans x y z (inr h) (inl g) = inl (omega (arith, h.0))
-below_trans x y z (inr h) (inr g) = inr (h.0 ∙ g.0, omega (arith, h.1, g.1))
-
-below_not : (x : VarName) → IsBelow x x → ⊥
-below_not x (inl h) = omega arith
-below_not x (inr h) = omega (arith, h.1)
-
-same_var : {x y : VarName} → term.Var x ≡ term.Var y → x ≡ y
-same_var e = cc
+use Rattle.tree_node.proofs.SoundLemmas.{Down, stop, link, down_step, down_of_same}
+use Rattle.tree_node.proofs.NameLemmas.{below_not, below_trans}
 
 down_below : {s : Store} {x y : VarName} → LinksGoDown s → Down s x y → (x ≡ y) ⊎ IsBelow y x
 down_below f stop = inl refl
@@ -37,17 +21,6 @@ down_below {s} f (link {x = a} {y = b} {z = d} h p) = go (down_below f p)
     go : (b ≡ d) ⊎ IsBelow d b → (a ≡ d) ⊎ IsBelow d a
     go (inl e) = inr (subst (λ (w : VarName). IsBelow w a) e (f a (term.Var b) h))
     go (inr g) = inr (below_trans d b a g (f a (term.Var b) h))
-
--- one equation upwards keeps the way down
-down_step : {s : Store} {x y u : VarName} → HasOneEach s → IsFree s u → Contains s (y, term.Var x) → Down s y u → Down s x u
-down_step {s} {x} one end h stop = absurd (end (term.Var x) h)
-down_step {s} {x} one end h (link {x = a} {y = b} {z = d} g p) =
-    subst (λ (w : VarName). Down s w d) (same_var (one a (term.Var b) (term.Var x) g h)) p
-
-down_of_same : {s : Store} {x u : VarName} → HasOneEach s → IsFree s u → Same s x u → Down s x u
-down_of_same one end here = stop
-down_of_same one end (onward (inl h) p) = link h (down_of_same one end p)
-down_of_same one end (onward (inr h) p) = down_step one end h (down_of_same one end p)
 
 -- a variable below a free one is of another class
 stays_apart : (c : Store) (u v : VarName) → HasOneEach c → LinksGoDown c → IsFree c u → IsBelow v u → Same c v u → ⊥

@@ -24,9 +24,9 @@ use Rattle.oz_model.specs.declared.outcome.Outcome.{Outcome}
 use Rattle.oz_model.specs.declared.outcome.Outcome.TheVariants as outcome
 use Rattle.oz_model.specs.declared.outcome.SystemException.{SystemException}
 use Rattle.oz_model.specs.declared.outcome.SystemException.TheVariants.{FailureTell}
-use Rattle.oz_model.specs.Outcome.{outcome_of, prints}
+use Rattle.oz_model.specs.Outcome.{outcome_of, print_outcome}
 use Rattle.oz_model.specs.Need.{outcome_need, stack_need, kinds_of}
-use Rattle.oz_model.specs.Effect.{CellChange, Stays, Made, Exchanged, stack_effect, outcome_effect, goal_effect, pair_effect, fails, vars_among, cell_among}
+use Rattle.oz_model.specs.Effect.{CellChange, Stays, Made, Exchanged, stack_effect, outcome_effect, goal_effect, pair_effect, exception_effect, vars_among, cell_among}
 use Rattle.oz_model.specs.Step.{kind_of, content_of, cells_after, effect_of, stack_of, next, Step}
 use Rattle.oz_model.specs.Run.{Runs, exchange_in, exchanges_from}
 use Rattle.oz_model.specs.Laws.{IsChainFrom, ExchangesChain}
@@ -40,7 +40,7 @@ abbrev pub MakesFrom : List Name → CellChange → Type 0
 MakesFrom fresh (Made cell content) = (rest : List Name) × (fresh ≡ name.Cell cell ∷ rest)
 MakesFrom fresh _ = Unit {0}
 
-fails_makes : (fresh : List Name) (exception : SystemException) (rest : Stack) (xs : List VarName) → MakesFrom fresh (fails exception rest xs).cell
+fails_makes : (fresh : List Name) (exception : SystemException) (rest : Stack) (xs : List VarName) → MakesFrom fresh (exception_effect exception rest xs).cell
 fails_makes fresh exception rest [] = tt
 fails_makes fresh exception rest (a ∷ []) = tt
 fails_makes fresh exception rest (a ∷ x ∷ []) = tt
@@ -77,7 +77,7 @@ pub stack_makes : (p : List Stmt) (s : Store) (fresh : List Name) (bind : Option
 stack_makes p s fresh bind [] e = tt
 stack_makes p s fresh bind (Run code env ∷ rest) e = outcome_makes p env rest fresh (outcome_of p s code env (stmt_at p code)) e
 stack_makes p s fresh bind (Mark code at env ∷ rest) e = tt
-stack_makes p s fresh bind (Report x ∷ rest) e = outcome_makes p [] rest fresh (prints (codes "uncaught ") (shown s x)) e
+stack_makes p s fresh bind (Report x ∷ rest) e = outcome_makes p [] rest fresh (print_outcome (codes "uncaught ") (shown s x)) e
 stack_makes p s fresh bind (Goals b ∷ rest) e = go b.pairs
   where
     go : (pairs : List (Term × Term)) → MakesFrom fresh (goal_effect s b.met rest fresh bind pairs).cell

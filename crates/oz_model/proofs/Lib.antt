@@ -1,4 +1,3 @@
-pub mod ListLemmas
 pub mod CoverLemmas
 pub mod ShapeLemmas
 pub mod RunLemmas

@@ -11,13 +11,13 @@ use Rattle.tree_node.specs.declared.node.Node.{Node}
 use Rattle.tree_node.specs.declared.node.Term.{Term}
 use Rattle.tree_node.specs.declared.item.Item.TheVariants as item
 use Rattle.tree_node.specs.declared.pick.Pick.{Pick}
-use Rattle.tree_node.specs.Assoc.{goes_on}
+use Rattle.tree_node.specs.Assoc.{with_optional_value}
 use Rattle.tree_node.specs.Each.{Each, AreDistinct}
 use Rattle.tree_node.specs.Env.{Env}
 use Rattle.tree_node.specs.Goal.{Case, Dropped, Binds, Opened, Failed, case_of, equal_cell}
 use Rattle.tree_node.specs.Names.{EachOfThread, EachOfCell, IsNew}
 use Rattle.tree_node.specs.Shown.{shown}
-use Rattle.tree_node.specs.State.{Stack, State, same_thread}
+use Rattle.tree_node.specs.State.{Stack, State, equal_thread}
 use Rattle.tree_node.specs.Store.{Store, Equation}
 use Rattle.kernel_syntax.specs.declared.stmt.Stmt.{Stmt}
 use Rattle.kernel_syntax.specs.Free.{stmt_at}
@@ -25,15 +25,16 @@ use Rattle.oz_model.specs.declared.outcome.SystemException.{SystemException}
 use Rattle.oz_model.specs.declared.outcome.SystemException.TheVariants.{FailureTell}
 use Rattle.oz_model.specs.declared.outcome.Outcome.{Outcome}
 use Rattle.oz_model.specs.declared.outcome.Outcome.TheVariants as outcome
-use Rattle.oz_model.specs.Outcome.{outcome_of, prints}
+use Rattle.oz_model.specs.Outcome.{outcome_of, print_outcome}
 use Rattle.oz_model.specs.Need.{outcome_need, stack_need, kinds_of}
-use Rattle.oz_model.specs.Effect.{Birth, CellChange, Stays, Made, Exchanged, stack_effect, outcome_effect, goal_effect, pair_effect, fails, vars_among, thread_among}
-use Rattle.oz_model.specs.Step.{kind_of, cells_after, settled, living, threads_born, effect_of, stack_of, IsAllowed, next}
+use Rattle.oz_model.specs.Effect.{Birth, CellChange, Stays, Made, Exchanged, stack_effect, outcome_effect, goal_effect, pair_effect, exception_effect, vars_among, thread_among}
+use Rattle.oz_model.specs.Step.{kind_of, cells_after, stack_with_content, living_stack, threads_born, effect_of, stack_of, IsAllowed, next}
 use Rattle.tree_node.proofs.AssocLemmas.{keys, Each-goes_on, Each-keys-goes_on, AreDistinct-with_value, AreDistinct-goes_on}
 use Rattle.oz_model.specs.Run.{Runs, start}
 use Rattle.oz_model.specs.Laws.{AreOnce, RunsAreOnce}
-use Rattle.oz_model.proofs.KindLemmas.{equal_cell_decides, same_thread_decides, kinds_one, only_thread}
+use Rattle.oz_model.proofs.KindLemmas.{equal_cell_decides, kinds_one, only_thread}
 use Rattle.oz_model.proofs.ExchangeLemmas.{step_makes}
+use Rattle.tree_node.proofs.NameLemmas.{same_thread_decides}
 
 -- ---- a thread that is born is a fresh name
 
@@ -41,7 +42,7 @@ abbrev pub BornFrom : List Name → Option Birth → Type 0
 BornFrom fresh None = Unit {0}
 BornFrom fresh (Some b) = (rest : List Name) × (fresh ≡ name.Thread b.name ∷ rest)
 
-fails_born : (fresh : List Name) (exception : SystemException) (rest : Stack) (xs : List VarName) → BornFrom fresh (fails exception rest xs).born
+fails_born : (fresh : List Name) (exception : SystemException) (rest : Stack) (xs : List VarName) → BornFrom fresh (exception_effect exception rest xs).born
 fails_born fresh exception rest [] = tt
 fails_born fresh exception rest (a ∷ []) = tt
 fails_born fresh exception rest (a ∷ x ∷ []) = tt
@@ -78,7 +79,7 @@ pub stack_born : (p : List Stmt) (s : Store) (fresh : List Name) (bind : Option 
 stack_born p s fresh bind [] e = tt
 stack_born p s fresh bind (item.Run code env ∷ rest) e = outcome_born p env rest fresh (outcome_of p s code env (stmt_at p code)) e
 stack_born p s fresh bind (item.Mark code at env ∷ rest) e = tt
-stack_born p s fresh bind (item.Report x ∷ rest) e = outcome_born p [] rest fresh (prints (codes "uncaught ") (shown s x)) e
+stack_born p s fresh bind (item.Report x ∷ rest) e = outcome_born p [] rest fresh (print_outcome (codes "uncaught ") (shown s x)) e
 stack_born p s fresh bind (item.Goals b ∷ rest) e = go b.pairs
   where
     go : (pairs : List (Term × Term)) → BornFrom fresh (goal_effect s b.met rest fresh bind pairs).born
@@ -107,10 +108,10 @@ born_items : (p : List Stmt) (b : Option Birth) (ts : List (ThreadName × Stack)
 born_items p None ts h = h
 born_items p (Some b) ts h = ((λ e. cc), h)
 
-living_items : (ts : List (ThreadName × Stack)) (n : ThreadName) (stack : Stack) → Each (λ (t : ThreadName × Stack). t.1 ≢ []) ts → Each (λ (t : ThreadName × Stack). t.1 ≢ []) (goes_on same_thread ts n (living stack))
-living_items ts n stack h = Each-goes_on same_thread (λ t. t.1 ≢ []) ts n (living stack) (λ rest is. lives stack rest is) h
+living_items : (ts : List (ThreadName × Stack)) (n : ThreadName) (stack : Stack) → Each (λ (t : ThreadName × Stack). t.1 ≢ []) ts → Each (λ (t : ThreadName × Stack). t.1 ≢ []) (with_optional_value equal_thread ts n (living_stack stack))
+living_items ts n stack h = Each-goes_on equal_thread (λ t. t.1 ≢ []) ts n (living_stack stack) (λ rest is. lives stack rest is) h
   where
-    lives : (stack rest : Stack) → living stack ≡ Some rest → rest ≢ []
+    lives : (stack rest : Stack) → living_stack stack ≡ Some rest → rest ≢ []
     lives [] rest is = cc
     lives (i ∷ items) rest is = λ e. cc
 
@@ -122,13 +123,13 @@ cells_distinct s (Exchanged cell content told) new h = AreDistinct-with_value eq
 once_step : (p : List Stmt) (s : State) (k : Pick) → IsAllowed p s k → AreOnce s → AreOnce (next p s k)
 once_step p s k a h =
     let e = effect_of p s k in
-    let stack = settled s.cells e.cell e.stack in
+    let stack = stack_with_content s.cells e.cell e.stack in
     record {
       threads =
-          born_distinct p s k.fresh e.born (goes_on same_thread s.threads k.thread (living stack))
+          born_distinct p s k.fresh e.born (with_optional_value equal_thread s.threads k.thread (living_stack stack))
           (stack_born p s.equations k.fresh k.bind (stack_of s k.thread) a.fresh.of_kinds) a.fresh.unused
-          (λ n new. Each-keys-goes_on same_thread same_thread_decides (λ m. n ≢ m) s.threads k.thread (living stack) (thread_names s.threads n new.2))
-          (AreDistinct-goes_on same_thread same_thread_decides s.threads k.thread (living stack) h.threads);
+          (λ n new. Each-keys-goes_on equal_thread same_thread_decides (λ m. n ≢ m) s.threads k.thread (living_stack stack) (thread_names s.threads n new.2))
+          (AreDistinct-goes_on equal_thread same_thread_decides s.threads k.thread (living_stack stack) h.threads);
       stacks = born_items p e.born _ (living_items s.threads k.thread stack h.stacks);
       cells = cells_distinct s e.cell (step_makes p s k (next p s k) (a, refl)) h.cells;
     }

@@ -12,20 +12,20 @@ use Rattle.tree_node.specs.Assoc.{value_of}
 use Rattle.tree_node.specs.Store.{Store, Equation}
 use Rattle.tree_node.specs.Goal.{Case, Dropped, Binds, Opened, Failed, case_of}
 use Rattle.tree_node.specs.Shown.{shown}
-use Rattle.tree_node.specs.State.{Stack, State, same_thread}
+use Rattle.tree_node.specs.State.{Stack, State, equal_thread}
 use Rattle.kernel_syntax.specs.declared.stmt.Stmt.{Stmt}
 use Rattle.kernel_syntax.specs.Free.{stmt_at}
 use Rattle.oz_model.specs.declared.outcome.Outcome.{Outcome}
 use Rattle.oz_model.specs.declared.outcome.Outcome.TheVariants as outcome
-use Rattle.oz_model.specs.Outcome.{outcome_of, prints}
+use Rattle.oz_model.specs.Outcome.{outcome_of, print_outcome}
 use Rattle.oz_model.specs.Need.{Need, Takes, variables, outcome_need, pair_need, goal_need, stack_need, IsWaiting, IsReady, kinds_of}
 use Rattle.oz_model.specs.Step.{AreFresh, IsBindFor, Step, next, stack_of}
 use Rattle.oz_model.specs.Run.{AtRest}
 use Rattle.oz_model.specs.Laws.{RestOrStep}
 use Rattle.oz_model.proofs.NameLemmas.{some_fresh}
 use Rattle.oz_model.proofs.BindLemmas.{some_bind}
-use Rattle.oz_model.proofs.KindLemmas.{same_thread_decides}
 use Rattle.std.proofs.lemmas.Bool.{or_parts}
+use Rattle.tree_node.proofs.NameLemmas.{same_thread_decides}
 
 -- something can be chosen for it, unless it waits
 abbrev Goes : Store → Need → Type 0
@@ -58,7 +58,7 @@ stack_goes : (p : List Stmt) (s : Store) (stack : Stack) → Goes s (stack_need 
 stack_goes p s [] = takes_goes s []
 stack_goes p s (Run code env ∷ rest) = outcome_goes s (outcome_of p s code env (stmt_at p code))
 stack_goes p s (Mark code at env ∷ rest) = takes_goes s []
-stack_goes p s (Report x ∷ rest) = outcome_goes s (prints (codes "uncaught ") (shown s x))
+stack_goes p s (Report x ∷ rest) = outcome_goes s (print_outcome (codes "uncaught ") (shown s x))
 stack_goes p s (Goals b ∷ rest) = go b.pairs
   where
     go : (pairs : List (Term × Term)) → Goes s (goal_need s b.met pairs)
@@ -69,28 +69,28 @@ stack_goes p s (Goals b ∷ rest) = go b.pairs
 
 abbrev is_hidden : List ThreadName → ThreadName → Bool
 is_hidden [] n = false
-is_hidden (m ∷ ms) n = same_thread m n || is_hidden ms n
+is_hidden (m ∷ ms) n = equal_thread m n || is_hidden ms n
 
 -- each thread that no earlier entry hides waits, or one of them goes
 abbrev Found : List Stmt → Store → List ThreadName → List (ThreadName × Stack) → Type 0
 Found p s hidden ts =
-    ((n : ThreadName) (st : Stack) → is_hidden hidden n ≡ false → value_of same_thread ts n ≡ Some st → IsWaiting (stack_need p s st))
-    ⊎ ((n : ThreadName) × (st : Stack) × (is_hidden hidden n ≡ false) × (value_of same_thread ts n ≡ Some st)
+    ((n : ThreadName) (st : Stack) → is_hidden hidden n ≡ false → value_of equal_thread ts n ≡ Some st → IsWaiting (stack_need p s st))
+    ⊎ ((n : ThreadName) × (st : Stack) × (is_hidden hidden n ≡ false) × (value_of equal_thread ts n ≡ Some st)
     × IsReady (stack_need p s st) × ((bind : Option Equation) × IsBindFor s (stack_need p s st) bind))
 
 lifts : (p : List Stmt) (s : Store) (hidden : List ThreadName) (t : ThreadName × Stack) (ts : List (ThreadName × Stack)) →
-    ((n : ThreadName) → is_hidden hidden n ≡ false → same_thread t.0 n ≡ false) → Found p s hidden ts → Found p s hidden (t ∷ ts)
+    ((n : ThreadName) → is_hidden hidden n ≡ false → equal_thread t.0 n ≡ false) → Found p s hidden ts → Found p s hidden (t ∷ ts)
 lifts p s hidden t ts apart (inl waits) = inl (λ n st h at. waits n st h (sym (skips n h) ∙ at))
   where
-    skips : (n : ThreadName) → is_hidden hidden n ≡ false → value_of same_thread (t ∷ ts) n ≡ value_of same_thread ts n
+    skips : (n : ThreadName) → is_hidden hidden n ≡ false → value_of equal_thread (t ∷ ts) n ≡ value_of equal_thread ts n
     skips n h = rw (apart n h) refl
 lifts p s hidden t ts apart (inr (n, st, h, at, ready, bind)) = inr (n, st, h, (rw (apart n h) at), ready, bind)
 
 -- a hidden name is one of the list, and what is not hidden differs from what is
-hidden_apart : (hidden : List ThreadName) (m n : ThreadName) → is_hidden hidden m ≡ true → is_hidden hidden n ≡ false → same_thread m n ≡ false
-hidden_apart hidden m n h g = go (same_thread m n) refl
+hidden_apart : (hidden : List ThreadName) (m n : ThreadName) → is_hidden hidden m ≡ true → is_hidden hidden n ≡ false → equal_thread m n ≡ false
+hidden_apart hidden m n h g = go (equal_thread m n) refl
   where
-    go : (b : Bool) → same_thread m n ≡ b → same_thread m n ≡ false
+    go : (b : Bool) → equal_thread m n ≡ b → equal_thread m n ≡ false
     go false e = e
     go true e =
         let same : m ≡ n = (same_thread_decides m n).0 e in
@@ -102,16 +102,16 @@ find p s hidden [] = inl (λ n st h at. cc)
 find p s hidden (t ∷ ts) = go (is_hidden hidden t.0) refl (λ hs. find p s hs ts)
   where
     waits_here : IsWaiting (stack_need p s t.1) → is_hidden hidden t.0 ≡ false → Found p s (t.0 ∷ hidden) ts → Found p s hidden (t ∷ ts)
-    waits_here w seen (inl waits) = inl (λ n st h at. one n st h at (same_thread t.0 n) refl)
+    waits_here w seen (inl waits) = inl (λ n st h at. one n st h at (equal_thread t.0 n) refl)
       where
-        one : (n : ThreadName) (st : Stack) → is_hidden hidden n ≡ false → value_of same_thread (t ∷ ts) n ≡ Some st → (b : Bool) → same_thread t.0 n ≡ b → IsWaiting (stack_need p s st)
+        one : (n : ThreadName) (st : Stack) → is_hidden hidden n ≡ false → value_of equal_thread (t ∷ ts) n ≡ Some st → (b : Bool) → equal_thread t.0 n ≡ b → IsWaiting (stack_need p s st)
         one n st h at true e =
             let here : Some t.1 ≡ Some st = sym (rw e refl) ∙ at in
             let same : t.1 ≡ st = cc in
             subst (λ (x : Stack). IsWaiting (stack_need p s x)) same w
         one n st h at false e = waits n st (rw (e, h) refl) (sym (rw e refl) ∙ at)
     waits_here w seen (inr (n, st, h, at, ready, bind)) =
-        let parts : (same_thread t.0 n ≡ false) × (is_hidden hidden n ≡ false) = or_parts (same_thread t.0 n) (is_hidden hidden n) h in
+        let parts : (equal_thread t.0 n ≡ false) × (is_hidden hidden n ≡ false) = or_parts (equal_thread t.0 n) (is_hidden hidden n) h in
         inr (n, st, parts.1, (rw parts.0 at), ready, bind)
 
     goes : is_hidden hidden t.0 ≡ false → Goes s (stack_need p s t.1) → Found p s (t.0 ∷ hidden) ts → Found p s hidden (t ∷ ts)

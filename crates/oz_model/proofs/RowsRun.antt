@@ -16,7 +16,7 @@ use Rattle.tree_node.specs.Goal.{Allows}
 use Rattle.tree_node.specs.Names.{IsNew}
 use Rattle.tree_node.specs.Rows.{v}
 use Rattle.tree_node.specs.Shown.{shown_within}
-use Rattle.tree_node.specs.State.{Stack, State, same_thread}
+use Rattle.tree_node.specs.State.{Stack, State, equal_thread}
 use Rattle.tree_node.specs.Store.{Equation}
 use Rattle.tree_node.specs.Words.{reserved_words}
 use Rattle.kernel_syntax.specs.declared.stmt.Stmt.{Stmt}
@@ -39,7 +39,7 @@ fits _ _ _ = false
 abbrev all_fit : List Stmt → State → List Pick → Bool
 all_fit p s [] = true
 all_fit p s (k ∷ ks) =
-    is_some (value_of same_thread s.threads k.thread) && (fits (need_of p s k.thread) k.fresh k.bind && all_fit p (next p s k) ks)
+    is_some (value_of equal_thread s.threads k.thread) && (fits (need_of p s k.thread) k.fresh k.bind && all_fit p (next p s k) ks)
 
 -- what is left to be shown of a pick: that its names are fresh, and that its bind is lawful
 abbrev Choice : State → Need → List Name → Option Equation → Type 0 → Type 0
@@ -60,7 +60,7 @@ none_fresh s = record { of_kinds = refl; distinct = tt; unused = tt }
 
 -- a pick that fits is allowed
 allowed : (p : List Stmt) (s : State) (n : ThreadName) (names : List Name) (bind : Option Equation) (More : Type 0) →
-    IsSome (value_of same_thread s.threads n) → fits (need_of p s n) names bind ≡ true → Choice s (need_of p s n) names bind More →
+    IsSome (value_of equal_thread s.threads n) → fits (need_of p s n) names bind ≡ true → Choice s (need_of p s n) names bind More →
     IsAllowed p s (record { thread = n; fresh = names; bind = bind }) × More
 allowed p s n names bind More lives fit choice =
     let parts = go (need_of p s n) names bind fit choice in
@@ -82,7 +82,7 @@ allowed p s n names bind More lives fit choice =
 runs : (p : List Stmt) (s : State) (ks : List Pick) → all_fit p s ks ≡ true → Choices p s ks → Runs p s ks (end p s ks)
 runs p s [] e c = refl
 runs p s (k ∷ ks) e c =
-    let lives = and_parts (is_some (value_of same_thread s.threads k.thread)) (fits (need_of p s k.thread) k.fresh k.bind && all_fit p (next p s k) ks) e in
+    let lives = and_parts (is_some (value_of equal_thread s.threads k.thread)) (fits (need_of p s k.thread) k.fresh k.bind && all_fit p (next p s k) ks) e in
     let fit = and_parts (fits (need_of p s k.thread) k.fresh k.bind) (all_fit p (next p s k) ks) lives.1 in
     let a = allowed p s k.thread k.fresh k.bind (Choices p (next p s k) ks) lives.0 fit.0 c in
     (next p s k, (a.0, refl), runs p (next p s k) ks fit.1 a.1)
@@ -101,11 +101,11 @@ other_kind n e = cc
 -- a state is at rest without threads, and where its only thread waits
 none_rests : (p : List Stmt) (s : State) → s.threads ≡ [] → AtRest p s
 none_rests p s e n stack at =
-    let none : ◌≡◌ {A = Option Stack} None (Some stack) = sym (ap (λ ts. value_of same_thread ts n) e) ∙ at in
+    let none : ◌≡◌ {A = Option Stack} None (Some stack) = sym (ap (λ ts. value_of equal_thread ts n) e) ∙ at in
     absurd (cc)
 
 one_rests : (p : List Stmt) (s : State) (st : Stack) → s.threads ≡ (first_thread, st) ∷ [] → IsWaiting (stack_need p s.equations st) → AtRest p s
-one_rests p s st e waits n stack at = go (same_thread first_thread n) (sym (ap (λ ts. value_of same_thread ts n) e) ∙ at)
+one_rests p s st e waits n stack at = go (equal_thread first_thread n) (sym (ap (λ ts. value_of equal_thread ts n) e) ∙ at)
   where
     go : (b : Bool) → cond b (Some st) None ≡ Some stack → IsWaiting (stack_need p s.equations stack)
     go true same = let is : st ≡ stack = cc in subst (λ (x : Stack). IsWaiting (stack_need p s.equations x)) is waits

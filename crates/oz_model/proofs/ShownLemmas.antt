@@ -6,7 +6,7 @@ use Rattle.tree_node.specs.declared.node.Node.{Node}
 use Rattle.tree_node.specs.declared.node.Node.TheVariants as node
 use Rattle.tree_node.specs.declared.node.Feature.{Feature}
 use Rattle.tree_node.specs.Store.{Store, node_of}
-use Rattle.tree_node.specs.Shown.{Show, Text, Needs, Walk, go_on, is_feature, is_cut, is_pair, in_brackets, head_and_tail, show_fields, show_pair, show_rec, show_node, show_found, show_var, shown_within}
+use Rattle.tree_node.specs.Shown.{Show, Text, Needs, Walk, and_then, is_feature, is_cut, is_pair, in_brackets, head_and_tail, show_fields, show_pair, show_rec, show_node, show_option, show_var, shown_within}
 use Rattle.std.proofs.Math.Bool.{and-false, or-true}
 
 -- the same text, or the same need where that has no node
@@ -19,10 +19,10 @@ wider c l left (Text t k) b le h = (omega (arith, h.0), h.1)
 wider c l left (Needs z) b le h = h
 
 refine_go : (c : Store) (left : ℕ) (a b : Show) (f g : List ℕ → ℕ → Show) → Refines c left a b →
-    ((t : List ℕ) (l : ℕ) → a ≡ Text t l → l ≤ left → Refines c l (f t l) (g t l)) → Refines c left (go_on a f) (go_on b g)
+    ((t : List ℕ) (l : ℕ) → a ≡ Text t l → l ≤ left → Refines c l (f t l) (g t l)) → Refines c left (and_then a f) (and_then b g)
 refine_go c left (Text t l) b f g h k =
-    subst (λ (w : Show). Refines c left (f t l) (go_on w g)) (sym h.1) (wider c l left (f t l) (g t l) h.0 (k t l refl h.0))
-refine_go c left (Needs z) b f g h k = λ p. ap (λ (w : Show). go_on w g) (h p)
+    subst (λ (w : Show). Refines c left (f t l) (and_then w g)) (sym h.1) (wider c l left (f t l) (g t l) h.0 (k t l refl h.0))
+refine_go c left (Needs z) b f g h k = λ p. ap (λ (w : Show). and_then w g) (h p)
 
 abbrev Finds : Store → Walk → Walk → ℕ → Type 0
 Finds c w v d = (level left : ℕ) (x : VarName) → left ≤ d → Refines c left (w level left x) (v level left x)
@@ -49,7 +49,7 @@ module _ (s c : Store) (stay : (x : VarName) (n : Node) → node_of s x ≡ Some
       rw (cut_at level left (omega arith)) (and-false (is_pair (node_of s x)) ∙ sym (and-false (is_pair (node_of c x))))
   brackets_same (suc d) level left x t l le e = go (is_cut level left) (node_of s x) refl e
     where
-      go : (b : Bool) (o : Option Node) → node_of s x ≡ o → cond b (Text (codes ",,,") left) (show_found s (show_var d s) level (left - 1) x o) ≡ Text t l →
+      go : (b : Bool) (o : Option Node) → node_of s x ≡ o → cond b (Text (codes ",,,") left) (show_option s (show_var d s) level (left - 1) x o) ≡ Text t l →
           (is_pair o && (if b then false else true)) ≡ (is_pair (node_of c x) && (if b then false else true))
       go true o q k = and-false (is_pair o) ∙ sym (and-false (is_pair (node_of c x)))
       go false None q k = cc
@@ -79,7 +79,7 @@ module _ (s c : Store) (stay : (x : VarName) (n : Node) → node_of s x ≡ Some
   var_shows (suc d) level left x le = go (λ a b y k. var_shows d a b y k) (is_cut level left) (node_of s x) refl
     where
       go : Finds c (show_var d s) (show_var d c) d → (b : Bool) (o : Option Node) → node_of s x ≡ o →
-          Refines c left (cond b (Text (codes ",,,") left) (show_found s (show_var d s) level (left - 1) x o)) (cond b (Text (codes ",,,") left) (show_found c (show_var d c) level (left - 1) x (node_of c x)))
+          Refines c left (cond b (Text (codes ",,,") left) (show_option s (show_var d s) level (left - 1) x o)) (cond b (Text (codes ",,,") left) (show_option c (show_var d c) level (left - 1) x (node_of c x)))
       go ih true o q = (omega arith, refl)
       go ih false None q = λ p. rw p refl
       go ih false (Some n) q =

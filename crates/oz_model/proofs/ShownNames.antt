@@ -11,24 +11,24 @@ use Rattle.tree_node.specs.declared.node.Node.TheVariants as node
 use Rattle.tree_node.specs.declared.node.Term.TheVariants as term
 use Rattle.tree_node.specs.Each.{Each}
 use Rattle.tree_node.specs.Names.{EachOfNode, EachOfEquation}
-use Rattle.tree_node.specs.Shown.{Show, Text, Needs, Walk, go_on, is_feature, is_cut, head_and_tail, show_fields, show_pair, show_rec, show_found, show_var, shown_within, shown}
+use Rattle.tree_node.specs.Shown.{Show, Text, Needs, Walk, and_then, is_feature, is_cut, head_and_tail, show_fields, show_pair, show_rec, show_option, show_var, shown_within, shown}
 use Rattle.tree_node.specs.Store.{Store, Equation, node_of}
 use Rattle.tree_node.proofs.DetLemmas.{node_is_det}
 use Rattle.oz_model.specs.WellFormed.{IsNodeOf, EquationsHave}
-use Rattle.oz_model.proofs.ListLemmas.{each_at}
+use Rattle.tree_node.proofs.OrderLemmas.{Each-member}
 
 -- the node that is found is one of the equations'
 pub node_has : (Q : Node → Type 0) (s : Store) (x : VarName) (n : Node) → EquationsHave Q s → node_of s x ≡ Some n → Q n
 node_has Q s x n h e =
     let at = node_is_det s x n e in
-    each_at (λ (q : Equation). IsNodeOf Q q.1) s (at.0, term.Node n) h at.2
+    Each-member (λ (q : Equation). IsNodeOf Q q.1) s (at.0, term.Node n) h at.2
 
 module _ (P : Name → Type 0) (s : Store) (eqs : Each (EachOfEquation P) s) where
   abbrev OfShow : Show → Type 0
   OfShow (Text t l) = Unit {0}
   OfShow (Needs x) = P (name.Var x)
 
-  show_go : (a : Show) (f : List ℕ → ℕ → Show) → OfShow a → ((t : List ℕ) (l : ℕ) → OfShow (f t l)) → OfShow (go_on a f)
+  show_go : (a : Show) (f : List ℕ → ℕ → Show) → OfShow a → ((t : List ℕ) (l : ℕ) → OfShow (f t l)) → OfShow (and_then a f)
   show_go (Text t l) f h g = g t l
   show_go (Needs x) f h g = h
 
@@ -58,9 +58,9 @@ module _ (P : Name → Type 0) (s : Store) (eqs : Each (EachOfEquation P) s) whe
   pub named_node : (x : VarName) (n : Node) → node_of s x ≡ Some n → EachOfNode P n
   named_node x n e =
       let at = node_is_det s x n e in
-      (each_at (EachOfEquation P) s (at.0, term.Node n) eqs at.2).1
+      (Each-member (EachOfEquation P) s (at.0, term.Node n) eqs at.2).1
 
-  found_named : (w : Walk) → OfWalk w → (level left : ℕ) (x : VarName) → P (name.Var x) → (o : Option Node) → node_of s x ≡ o → OfShow (show_found s w level left x o)
+  found_named : (w : Walk) → OfWalk w → (level left : ℕ) (x : VarName) → P (name.Var x) → (o : Option Node) → node_of s x ≡ o → OfShow (show_option s w level left x o)
   found_named w h level left x a None e = a
   found_named w h level left x a (Some (node.Rec label fs)) e = rec_named w h level left label fs (named_node x (node.Rec label fs) e)
   found_named w h level left x a (Some (node.Int z)) e = tt
@@ -72,7 +72,7 @@ module _ (P : Name → Type 0) (s : Store) (eqs : Each (EachOfEquation P) s) whe
   var_named zero level left x h = tt
   var_named (suc depth) level left x h = go (is_cut level left) (found_named (show_var depth s) (var_named depth) level (left - 1) x h (node_of s x) refl)
     where
-      go : (b : Bool) → OfShow (show_found s (show_var depth s) level (left - 1) x (node_of s x)) → OfShow (cond b (Text (codes ",,,") left) (show_found s (show_var depth s) level (left - 1) x (node_of s x)))
+      go : (b : Bool) → OfShow (show_option s (show_var depth s) level (left - 1) x (node_of s x)) → OfShow (cond b (Text (codes ",,,") left) (show_option s (show_var depth s) level (left - 1) x (node_of s x)))
       go true r = tt
       go false r = r
 

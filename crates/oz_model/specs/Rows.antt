@@ -11,7 +11,7 @@ use Rattle.tree_node.specs.declared.pick.Pick.{Pick}
 use Rattle.tree_node.specs.Store.{Equation}
 use Rattle.tree_node.specs.State.{Block, State}
 use Rattle.tree_node.specs.Rows.{v, holds}
-use Rattle.tree_node.specs.Unwind.{raised}
+use Rattle.tree_node.specs.Unwind.{stack_after_raise}
 use Rattle.kernel_syntax.specs.declared.stmt.Stmt.{Stmt}
 use Rattle.kernel_syntax.specs.declared.stmt.Stmt.TheVariants.{Seq, Skip, Local, TellVar, TellInt, TellAtom, Browse}
 use Rattle.oz_model.specs.Need.{Waits, stack_need}
@@ -121,7 +121,7 @@ pub record AreRefused : Type 0 where
 -- an exception goes to the nearest mark, whose identifier is 3, and leaves what is below it; without a mark it is
 -- reported, and a report waits for its variable
 pub record MarksCatch : Type 0 where
-  pub caught : raised {B = Block} (item.Run (code 5) [] ∷ Mark (code 1) 3 ((1, v 1) ∷ []) ∷ Mark (code 2) 3 [] ∷ []) (v 9)
+  pub caught : stack_after_raise {B = Block} (item.Run (code 5) [] ∷ Mark (code 1) 3 ((1, v 1) ∷ []) ∷ Mark (code 2) 3 [] ∷ []) (v 9)
       ≡ item.Run (code 1) ((1, v 1) ∷ (3, v 9) ∷ []) ∷ Mark (code 2) 3 [] ∷ []
-  pub reported : raised {B = Block} (item.Run (code 5) [] ∷ item.Run (code 6) [] ∷ []) (v 9) ≡ Report (v 9) ∷ []
+  pub reported : stack_after_raise {B = Block} (item.Run (code 5) [] ∷ item.Run (code 6) [] ∷ []) (v 9) ≡ Report (v 9) ∷ []
   pub waits : stack_need [] [] (Report (v 9) ∷ []) ≡ Waits (v 9)

@@ -17,13 +17,13 @@ use Rattle.oz_grammar.specs.Grammar.{Name}
 use Rattle.oz_grammar.specs.Scoping.{Scope, Fields}
 use Rattle.oz_grammar.specs.Points.{after}
 use Rattle.oz_grammar.specs.Faults.{fault_here}
-use Rattle.oz_grammar.specs.Table.{numbered}
-use Rattle.oz_grammar.specs.Reading.{◌>>=◌, Out, Reader, refused, sign_at, wanted_at, close_at, used_at, site_at, is_round, field_at, fields_at, begins_at, stmt_at, kind_at, closes, more_at, with_numbers, body_at, first_local_at, formals_at, proc_value_at, proc_at, value_at, right_at, tell_at, thread_at, call_at, raise_at, if_at, case_at, pattern_at}
+use Rattle.oz_grammar.specs.Table.{code_at}
+use Rattle.oz_grammar.specs.Reading.{◌>>=◌, Out, Reader, fault_expected, sign_at, wanted_at, close_at, used_at, site_at, is_round, field_at, fields_at, begins_at, stmt_at, kind_at, is_end_of, more_at, with_numbers, body_at, first_local_at, formals_at, proc_value_at, proc_at, value_at, right_at, tell_at, thread_at, call_at, raise_at, if_at, case_at, pattern_at}
 use Rattle.oz_parser.specs.declared.fault.Refusal.{Refusal}
 use Rattle.oz_parser.specs.declared.fault.Refusal.TheVariants as refusals
 use Rattle.oz_parser.specs.Gives.{Fails}
 use Rattle.oz_parser.specs.Marked.{numbered_field_of}
-use Rattle.oz_parser.specs.Heads.{Head, opens, whole, proc_value_head, proc_head, value_head, right_head, tell_head, thread_head, body_of, block_at, Choice, if_head, case_head, branches_of}
+use Rattle.oz_parser.specs.Heads.{Head, opening_head, whole, proc_value_head, proc_head, value_head, right_head, tell_head, thread_head, body_of, block_at, Choice, if_head, case_head, branches_of}
 
 pub wanted_none : (scope : Scope) (k : ℕ) (before : List ℕ) (symbols : List Symbol) → k ≡ 0 → wanted_at scope k before symbols ≡ (close_at symbols >>= λ rest. Ok (before, rest))
 wanted_none scope zero before symbols e = refl
@@ -65,7 +65,7 @@ fields_refused (refusals.Fault f) p scope (suc room) before next symbols all so_
 
 -- ---- statements
 
-pub stmt_none : (d : ℕ) (scope : Scope) (rows : List Stmt) (w : What) (symbols : List Symbol) → d ≡ 0 → stmt_at d scope rows w symbols ≡ (if begins_at symbols then Err (fault_here Deep symbols) else refused w symbols)
+pub stmt_none : (d : ℕ) (scope : Scope) (rows : List Stmt) (w : What) (symbols : List Symbol) → d ≡ 0 → stmt_at d scope rows w symbols ≡ (if begins_at symbols then Err (fault_here Deep symbols) else fault_expected w symbols)
 unfolding stmt_at
 stmt_none zero scope rows w symbols e = refl
 stmt_none (suc d) scope rows w symbols e = absurd cc
@@ -75,50 +75,50 @@ unfolding stmt_at
 stmt_some zero scope rows w symbols h = absurd (h refl)
 stmt_some (suc d) scope rows w symbols h = let e : suc d - 1 ≡ d = omega arith in rw e refl
 
-pub more_none : (one : Reader) (c : Closer) (place : ℕ) (scope : Scope) (n : ℕ) (ids : List CodeId) (rows : List Stmt) (symbols : List Symbol) → n ≡ 0 → more_at one c place scope n ids rows symbols ≡ refused (after c) symbols
+pub more_none : (one : Reader) (c : Closer) (place : ℕ) (scope : Scope) (n : ℕ) (ids : List CodeId) (rows : List Stmt) (symbols : List Symbol) → n ≡ 0 → more_at one c place scope n ids rows symbols ≡ fault_expected (after c) symbols
 unfolding more_at
 more_none one c place scope zero ids rows symbols e = refl
 more_none one c place scope (suc n) ids rows symbols e = absurd cc
 
-more_stops : (one : Reader) (c : Closer) (place : ℕ) (scope : Scope) (n : ℕ) (ids : List CodeId) (rows : List Stmt) (symbols : List Symbol) → n ≢ 0 → closes c symbols ≡ true → more_at one c place scope n ids rows symbols ≡ Ok (ids, rows, drop 1 symbols)
+more_stops : (one : Reader) (c : Closer) (place : ℕ) (scope : Scope) (n : ℕ) (ids : List CodeId) (rows : List Stmt) (symbols : List Symbol) → n ≢ 0 → is_end_of c symbols ≡ true → more_at one c place scope n ids rows symbols ≡ Ok (ids, rows, drop 1 symbols)
 unfolding more_at
 more_stops one c place scope zero ids rows symbols h e = absurd (h refl)
 more_stops one c place scope (suc n) ids rows symbols h e = rw e refl
 
-more_some : (one : Reader) (c : Closer) (place : ℕ) (scope : Scope) (n m : ℕ) (ids : List CodeId) (rows : List Stmt) (symbols : List Symbol) → n ≡ m + 1 → closes c symbols ≡ false → more_at one c place scope n ids rows symbols ≡ (one scope rows (after c) symbols >>= λ s. more_at one c place scope m (ids ++ numbered (length rows - place) ∷ []) s.0 s.1)
+more_some : (one : Reader) (c : Closer) (place : ℕ) (scope : Scope) (n m : ℕ) (ids : List CodeId) (rows : List Stmt) (symbols : List Symbol) → n ≡ m + 1 → is_end_of c symbols ≡ false → more_at one c place scope n ids rows symbols ≡ (one scope rows (after c) symbols >>= λ s. more_at one c place scope m (ids ++ code_at (length rows - place) ∷ []) s.0 s.1)
 unfolding more_at
 more_some one c place scope zero m ids rows symbols h e = absurd (omega arith)
 more_some one c place scope (suc n) m ids rows symbols h e = let same : n ≡ m = omega arith in rw (e, same) refl
 
 -- the loop over the statements of a sequence
-pub more_goes : (one : Reader) (c : Closer) (place : ℕ) (scope : Scope) (n m : ℕ) (ids : List CodeId) (rows : List Stmt) (symbols : List Symbol) (all : Result Out Fault) (next : List Stmt) (rest : List Symbol) → with_numbers place (more_at one c place scope n ids rows symbols) ≡ all → n ≡ m + 1 → closes c symbols ≡ false → one scope rows (after c) symbols ≡ Ok (next, rest) → with_numbers place (more_at one c place scope m (ids ++ numbered (length rows - place) ∷ []) next rest) ≡ all
+pub more_goes : (one : Reader) (c : Closer) (place : ℕ) (scope : Scope) (n m : ℕ) (ids : List CodeId) (rows : List Stmt) (symbols : List Symbol) (all : Result Out Fault) (next : List Stmt) (rest : List Symbol) → with_numbers place (more_at one c place scope n ids rows symbols) ≡ all → n ≡ m + 1 → is_end_of c symbols ≡ false → one scope rows (after c) symbols ≡ Ok (next, rest) → with_numbers place (more_at one c place scope m (ids ++ code_at (length rows - place) ∷ []) next rest) ≡ all
 more_goes one c place scope n m ids rows symbols all next rest so_far h e read =
     let step = more_some one c place scope n m ids rows symbols h e in
-    let same : more_at one c place scope n ids rows symbols ≡ more_at one c place scope m (ids ++ numbered (length rows - place) ∷ []) next rest = step ∙ rw read refl in
+    let same : more_at one c place scope n ids rows symbols ≡ more_at one c place scope m (ids ++ code_at (length rows - place) ∷ []) next rest = step ∙ rw read refl in
     rw (← same) so_far
 
-more_fails : (one : Reader) (c : Closer) (place : ℕ) (scope : Scope) (n : ℕ) (ids : List CodeId) (rows : List Stmt) (symbols : List Symbol) (all : Result Out Fault) (f : Fault) → with_numbers place (more_at one c place scope n ids rows symbols) ≡ all → n ≢ 0 → closes c symbols ≡ false → one scope rows (after c) symbols ≡ Err f → all ≡ Err f
+more_fails : (one : Reader) (c : Closer) (place : ℕ) (scope : Scope) (n : ℕ) (ids : List CodeId) (rows : List Stmt) (symbols : List Symbol) (all : Result Out Fault) (f : Fault) → with_numbers place (more_at one c place scope n ids rows symbols) ≡ all → n ≢ 0 → is_end_of c symbols ≡ false → one scope rows (after c) symbols ≡ Err f → all ≡ Err f
 more_fails one c place scope n ids rows symbols all f so_far h e read =
     let step = more_some one c place scope n (n - 1) ids rows symbols (omega arith) e in
     let same : more_at one c place scope n ids rows symbols ≡ Err f = step ∙ rw read refl in
     sym so_far ∙ rw same refl
 
-pub more_ends : (one : Reader) (c : Closer) (place : ℕ) (scope : Scope) (n : ℕ) (ids : List CodeId) (rows : List Stmt) (symbols : List Symbol) (all : Result Out Fault) → with_numbers place (more_at one c place scope n ids rows symbols) ≡ all → n ≢ 0 → closes c symbols ≡ true → all ≡ Ok (set rows place (stmt.Seq ids), drop 1 symbols)
+pub more_ends : (one : Reader) (c : Closer) (place : ℕ) (scope : Scope) (n : ℕ) (ids : List CodeId) (rows : List Stmt) (symbols : List Symbol) (all : Result Out Fault) → with_numbers place (more_at one c place scope n ids rows symbols) ≡ all → n ≢ 0 → is_end_of c symbols ≡ true → all ≡ Ok (set rows place (stmt.Seq ids), drop 1 symbols)
 more_ends one c place scope n ids rows symbols all so_far h e = sym so_far ∙ rw (more_stops one c place scope n ids rows symbols h e) refl
 
-pub more_refused : (e : Refusal) (one : Reader) (c : Closer) (place : ℕ) (scope : Scope) (n : ℕ) (ids : List CodeId) (rows : List Stmt) (symbols : List Symbol) (all : Result Out Fault) → with_numbers place (more_at one c place scope n ids rows symbols) ≡ all → n ≢ 0 → closes c symbols ≡ false → Fails e (one scope rows (after c) symbols) → Fails e all
+pub more_refused : (e : Refusal) (one : Reader) (c : Closer) (place : ℕ) (scope : Scope) (n : ℕ) (ids : List CodeId) (rows : List Stmt) (symbols : List Symbol) (all : Result Out Fault) → with_numbers place (more_at one c place scope n ids rows symbols) ≡ all → n ≢ 0 → is_end_of c symbols ≡ false → Fails e (one scope rows (after c) symbols) → Fails e all
 more_refused refusals.Memory one c place scope n ids rows symbols all so_far h e fails = tt
 more_refused (refusals.Fault f) one c place scope n ids rows symbols all so_far h e fails = more_fails one c place scope n ids rows symbols all f so_far h e fails
 
 -- ---- heads
 
-local_block : (inner : Reader) (scope : Scope) (rows : List Stmt) (r : Result (List Name × List Symbol) Fault) → (r >>= λ m. body_at inner (scope ++ m.0) (rows ++ stmt.Local (length scope) (length m.0) (numbered 1) ∷ []) what.Statement m.1)
-    ≡ ((r >>= λ m. Ok (opens (scope ++ m.0) (rows ++ stmt.Local (length scope) (length m.0) (numbered 1) ∷ []) what.Statement m.1)) >>= λ h. body_of inner h.body h.scope h.rows h.rest)
+local_block : (inner : Reader) (scope : Scope) (rows : List Stmt) (r : Result (List Name × List Symbol) Fault) → (r >>= λ m. body_at inner (scope ++ m.0) (rows ++ stmt.Local (length scope) (length m.0) (code_at 1) ∷ []) what.Statement m.1)
+    ≡ ((r >>= λ m. Ok (opening_head (scope ++ m.0) (rows ++ stmt.Local (length scope) (length m.0) (code_at 1) ∷ []) what.Statement m.1)) >>= λ h. body_of inner h.body h.scope h.rows h.rest)
 local_block inner scope rows (Ok m) = refl
 local_block inner scope rows (Err f) = refl
 
-formals_block : (inner : Reader) (left : ℕ) (scope : Scope) (rows : List Stmt) (r : Result (List Name × List Symbol) Fault) → (r >>= λ m. body_at inner (scope ++ m.0) (rows ++ stmt.TellProc left (length scope) (length m.0) (numbered 1) ∷ []) what.Statement m.1)
-    ≡ ((r >>= λ m. Ok (opens (scope ++ m.0) (rows ++ stmt.TellProc left (length scope) (length m.0) (numbered 1) ∷ []) what.Statement m.1)) >>= λ h. body_of inner h.body h.scope h.rows h.rest)
+formals_block : (inner : Reader) (left : ℕ) (scope : Scope) (rows : List Stmt) (r : Result (List Name × List Symbol) Fault) → (r >>= λ m. body_at inner (scope ++ m.0) (rows ++ stmt.TellProc left (length scope) (length m.0) (code_at 1) ∷ []) what.Statement m.1)
+    ≡ ((r >>= λ m. Ok (opening_head (scope ++ m.0) (rows ++ stmt.TellProc left (length scope) (length m.0) (code_at 1) ∷ []) what.Statement m.1)) >>= λ h. body_of inner h.body h.scope h.rows h.rest)
 formals_block inner left scope rows (Ok m) = refl
 formals_block inner left scope rows (Err f) = refl
 
@@ -147,7 +147,7 @@ right_block inner left scope rows (symbol ∷ rest) = value_block inner left sco
 tell_block : (inner : Reader) (scope : Scope) (rows : List Stmt) (symbols : List Symbol) → tell_at inner scope rows symbols ≡ (tell_head scope rows symbols >>= behind_head inner)
 tell_block inner scope rows symbols = chain (used_at what.Statement scope symbols) _ _ (behind_head inner) (λ x. chain (sign_at sign.Equals x.1) _ _ (behind_head inner) (λ rest. right_block inner x.0 scope rows rest))
 
-placed_block : (inner : Reader) (scope : Scope) (rows : List Stmt) (r : Result (ℤ × List Symbol) Fault) → (r >>= λ n. body_at inner scope (rows ++ stmt.Thread (Some n.0) (numbered 1) ∷ []) what.Statement n.1) ≡ ((r >>= λ n. Ok (opens scope (rows ++ stmt.Thread (Some n.0) (numbered 1) ∷ []) what.Statement n.1)) >>= behind_head inner)
+placed_block : (inner : Reader) (scope : Scope) (rows : List Stmt) (r : Result (ℤ × List Symbol) Fault) → (r >>= λ n. body_at inner scope (rows ++ stmt.Thread (Some n.0) (code_at 1) ∷ []) what.Statement n.1) ≡ ((r >>= λ n. Ok (opening_head scope (rows ++ stmt.Thread (Some n.0) (code_at 1) ∷ []) what.Statement n.1)) >>= behind_head inner)
 placed_block inner scope rows (Ok n) = refl
 placed_block inner scope rows (Err f) = refl
 

@@ -14,8 +14,8 @@ use Rattle.oz_grammar.specs.declared.fault.What.{What}
 use Rattle.oz_grammar.specs.declared.fault.What.TheVariants as what
 use Rattle.oz_grammar.specs.declared.fault.Fault.{Fault}
 use Rattle.oz_grammar.specs.Scoping.{Scope, arity_of}
-use Rattle.oz_grammar.specs.Table.{numbered, bar_label, two_features, pair_row, built_in_row}
-use Rattle.oz_grammar.specs.Reading.{◌>>=◌, Out, Reader, refused, sign_at, used_at, selection_at, behind_at, value_at, first_local_at, formals_at, arguments_at, wanted_at, call_at, raise_at, site_at, pattern_at, seq_at, body_at, with_second}
+use Rattle.oz_grammar.specs.Table.{code_at, bar_label, two_features, pair_row, built_in_row}
+use Rattle.oz_grammar.specs.Reading.{◌>>=◌, Out, Reader, fault_expected, sign_at, used_at, selection_at, behind_at, value_at, first_local_at, formals_at, arguments_at, wanted_at, call_at, raise_at, site_at, pattern_at, seq_at, body_at, with_second}
 
 -- ---- values
 
@@ -49,22 +49,22 @@ pub record Head : Type 0 where
   pub body : Option What
   pub rest : List Symbol
 
-abbrev pub headed : Scope → List Stmt → Option What → List Symbol → Head
-headed scope rows body rest = record { scope = scope; rows = rows; body = body; rest = rest }
+abbrev pub head_of : Scope → List Stmt → Option What → List Symbol → Head
+head_of scope rows body rest = record { scope = scope; rows = rows; body = body; rest = rest }
 
 abbrev pub whole : Scope → Out → Head
 whole scope out = record { scope = scope; rows = out.0; body = None; rest = out.1 }
 
-abbrev pub opens : Scope → List Stmt → What → List Symbol → Head
-opens scope rows w rest = record { scope = scope; rows = rows; body = Some w; rest = rest }
+abbrev pub opening_head : Scope → List Stmt → What → List Symbol → Head
+opening_head scope rows w rest = record { scope = scope; rows = rows; body = Some w; rest = rest }
 
 abbrev pub local_head : Scope → List Stmt → List Symbol → Result Head Fault
 local_head scope rows symbols =
-    first_local_at symbols >>= λ m. Ok (opens (scope ++ m.0) (rows ++ stmt.Local (length scope) (length m.0) (numbered 1) ∷ []) what.Statement m.1)
+    first_local_at symbols >>= λ m. Ok (opening_head (scope ++ m.0) (rows ++ stmt.Local (length scope) (length m.0) (code_at 1) ∷ []) what.Statement m.1)
 
 abbrev pub procedure_head : ℕ → Scope → List Stmt → List Symbol → Result Head Fault
 procedure_head left scope rows symbols =
-    formals_at [] symbols >>= λ m. Ok (opens (scope ++ m.0) (rows ++ stmt.TellProc left (length scope) (length m.0) (numbered 1) ∷ []) what.Statement m.1)
+    formals_at [] symbols >>= λ m. Ok (opening_head (scope ++ m.0) (rows ++ stmt.TellProc left (length scope) (length m.0) (code_at 1) ∷ []) what.Statement m.1)
 
 abbrev pub proc_value_head : ℕ → Scope → List Stmt → List Symbol → Result Head Fault
 proc_value_head left scope rows symbols = sign_at sign.OpenCurly symbols >>= λ a. sign_at sign.Dollar a >>= λ b. procedure_head left scope rows b
@@ -83,11 +83,11 @@ abbrev pub tell_head : Scope → List Stmt → List Symbol → Result Head Fault
 tell_head scope rows symbols = used_at what.Statement scope symbols >>= λ x. sign_at sign.Equals x.1 >>= λ rest. right_head x.0 scope rows rest
 
 abbrev pub placed_head : Scope → List Stmt → List Symbol → Result Head Fault
-placed_head scope rows symbols = site_at symbols >>= λ n. Ok (opens scope (rows ++ stmt.Thread (Some n.0) (numbered 1) ∷ []) what.Statement n.1)
+placed_head scope rows symbols = site_at symbols >>= λ n. Ok (opening_head scope (rows ++ stmt.Thread (Some n.0) (code_at 1) ∷ []) what.Statement n.1)
 
 abbrev pub thread_head : Scope → List Stmt → List Symbol → Result Head Fault
 thread_head scope rows (t.At ∷ rest) = placed_head scope rows rest
-thread_head scope rows symbols = Ok (opens scope (rows ++ stmt.Thread None (numbered 1) ∷ []) what.StatementOrAt symbols)
+thread_head scope rows symbols = Ok (opening_head scope (rows ++ stmt.Thread None (code_at 1) ∷ []) what.StatementOrAt symbols)
 
 abbrev pub call_head : Scope → List Stmt → List Symbol → Result Head Fault
 call_head scope rows symbols = call_at scope rows symbols >>= λ s. Ok (whole scope s)
@@ -103,7 +103,7 @@ head_at scope rows w (t.Raise ∷ rest) = raise_head scope rows rest
 head_at scope rows w (t.Local ∷ rest) = local_head scope rows rest
 head_at scope rows w (t.Proc ∷ rest) = proc_head scope rows rest
 head_at scope rows w (t.Thread ∷ rest) = thread_head scope rows rest
-head_at scope rows w symbols = refused w symbols
+head_at scope rows w symbols = fault_expected w symbols
 
 -- the body behind a head, if it has one
 abbrev pub body_of : Reader → Option What → Scope → List Stmt → List Symbol → Result Out Fault
@@ -121,8 +121,8 @@ pub record Choice : Type 0 where
   pub rows : List Stmt
   pub rest : List Symbol
 
-abbrev pub chosen : Scope → List Stmt → List Symbol → Choice
-chosen scope rows rest = record { scope = scope; rows = rows; rest = rest }
+abbrev pub choice_of : Scope → List Stmt → List Symbol → Choice
+choice_of scope rows rest = record { scope = scope; rows = rows; rest = rest }
 
 -- the pattern H|T
 abbrev pub pair_pattern : Pattern
@@ -130,12 +130,12 @@ pair_pattern = pattern.Rec bar_label two_features
 
 abbrev pub if_head : Scope → List Stmt → List Symbol → Result Choice Fault
 if_head scope rows symbols =
-    used_at what.Variable scope symbols >>= λ x. sign_at sign.Then x.1 >>= λ rest. Ok (record { scope = scope; rows = rows ++ stmt.If x.0 (numbered 1) (numbered 0) ∷ []; rest = rest })
+    used_at what.Variable scope symbols >>= λ x. sign_at sign.Then x.1 >>= λ rest. Ok (record { scope = scope; rows = rows ++ stmt.If x.0 (code_at 1) (code_at 0) ∷ []; rest = rest })
 
 abbrev pub case_head : Scope → List Stmt → List Symbol → Result Choice Fault
 case_head scope rows symbols =
     used_at what.Variable scope symbols >>= λ x. sign_at sign.Of x.1 >>= λ a. pattern_at scope a >>= λ m. sign_at sign.Then m.2 >>= λ rest.
-    Ok (record { scope = scope ++ m.1; rows = rows ++ stmt.Case x.0 m.0 (length scope) (numbered 1) (numbered 0) ∷ []; rest = rest })
+    Ok (record { scope = scope ++ m.1; rows = rows ++ stmt.Case x.0 m.0 (length scope) (code_at 1) (code_at 0) ∷ []; rest = rest })
 
 -- the branches behind the head of a choice, whose row stands at a place
 abbrev pub branches_of : Reader → ℕ → Scope → Choice → Result Out Fault

@@ -11,16 +11,16 @@ use Rattle.oz_grammar.specs.declared.fault.What.TheVariants as what
 use Rattle.oz_grammar.specs.declared.fault.Fault.{Fault}
 use Rattle.oz_grammar.specs.Scoping.{Scope, Fields, with_field}
 use Rattle.oz_grammar.specs.Faults.{feature_fault, name_fault, fault_here}
-use Rattle.oz_grammar.specs.Reading.{◌>>=◌, FieldOut, refused, unless, sign_at}
+use Rattle.oz_grammar.specs.Reading.{◌>>=◌, FieldOut, fault_expected, fault_or, sign_at}
 
 -- the variable behind a feature
 abbrev pub field_name_of : Purpose → Scope → Fields → ℕ → Feature → List Symbol → Result FieldOut Fault
-field_name_of p scope before next f (t.Variable x ∷ rest) = unless (name_fault p scope before x) (t.Variable x ∷ rest) (Ok (with_field f x before, next, rest))
-field_name_of p scope before next f symbols = refused what.Variable symbols
+field_name_of p scope before next f (t.Variable x ∷ rest) = fault_or (name_fault p scope before x) (t.Variable x ∷ rest) (Ok (with_field f x before, next, rest))
+field_name_of p scope before next f symbols = fault_expected what.Variable symbols
 
 -- a field behind its feature, which stands first of the symbols
 abbrev pub marked_field_of : Purpose → Scope → ℕ → Fields → ℕ → Feature → List Symbol → List Symbol → Result FieldOut Fault
-marked_field_of p scope room before next f symbols rest = unless (feature_fault room before f) symbols (sign_at sign.Colon rest >>= λ behind. field_name_of p scope before next f behind)
+marked_field_of p scope room before next f symbols rest = fault_or (feature_fault room before f) symbols (sign_at sign.Colon rest >>= λ behind. field_name_of p scope before next f behind)
 
 -- a field behind an integer
 abbrev pub numbered_field_of : Purpose → Scope → ℕ → Fields → ℕ → Option ℤ → List Symbol → List Symbol → Result FieldOut Fault

@@ -4,7 +4,7 @@ ghost use Rattle.std.specs.Prelude.{◌≡◌, ◌+◌, ◌*◌, ◌<◌, ◌≤
 ghost use Rattle.oz_grammar.specs.Table.{record_pattern};
 ghost use Rattle.oz_grammar.specs.Reading.{pair_pattern_at, record_pattern_at, pattern_at};
 ghost use Rattle.oz_parser.specs.Gives.{Gives};
-ghost use Rattle.oz_parser.specs.Heads.{headed, chosen, pair_pattern, local_head, procedure_head, proc_value_head, proc_head, value_head, right_head, tell_head, placed_head, thread_head, call_head, raise_head, head_at, if_head, case_head};
+ghost use Rattle.oz_parser.specs.Heads.{head_of, choice_of, pair_pattern, local_head, procedure_head, proc_value_head, proc_head, value_head, right_head, tell_head, placed_head, thread_head, call_head, raise_head, head_at, if_head, case_head};
 
 use crate::call::{call, first_local, formals, raise};
 use crate::fault::{Refusal, fault, refused};
@@ -28,7 +28,7 @@ fn local<'t>(
     symbols: &'t [Symbol],
 ) -> Result<Begun<'t>, Refusal>
     requires { length scope.old + length symbols.now < 2 ^ 31 }
-    ensures read { Gives (λ x. headed scope.new rows.new.items x.0 x.1.now) result (local_head scope.old rows.old.items symbols.now) }
+    ensures read { Gives (λ x. head_of scope.new rows.new.items x.0 x.1.now) result (local_head scope.old rows.old.items symbols.now) }
     ensures outer { OnOk result (take (length scope.old) scope.new ≡ scope.old) }
     ensures shorter { IfOk result (λ x. length scope.new + length x.1.now < length scope.old + length symbols.now) }
     ensures fewer { IfOk result (λ x. length x.1.now < length symbols.now) }
@@ -53,7 +53,7 @@ fn procedure<'t>(
     symbols: &'t [Symbol],
 ) -> Result<Begun<'t>, Refusal>
     requires { length scope.old + length symbols.now < 2 ^ 31 }
-    ensures read { Gives (λ x. headed scope.new rows.new.items x.0 x.1.now) result (procedure_head left scope.old rows.old.items symbols.now) }
+    ensures read { Gives (λ x. head_of scope.new rows.new.items x.0 x.1.now) result (procedure_head left scope.old rows.old.items symbols.now) }
     ensures outer { OnOk result (take (length scope.old) scope.new ≡ scope.old) }
     ensures shorter { IfOk result (λ x. length scope.new + length x.1.now < length scope.old + length symbols.now) }
     ensures fewer { IfOk result (λ x. length x.1.now < length symbols.now) }
@@ -79,7 +79,7 @@ fn proc_value<'t>(
     symbols: &'t [Symbol],
 ) -> Result<Begun<'t>, Refusal>
     requires { length scope.old + length symbols.now < 2 ^ 31 }
-    ensures read { Gives (λ x. headed scope.new rows.new.items x.0 x.1.now) result (proc_value_head left scope.old rows.old.items symbols.now) }
+    ensures read { Gives (λ x. head_of scope.new rows.new.items x.0 x.1.now) result (proc_value_head left scope.old rows.old.items symbols.now) }
     ensures outer { OnOk result (take (length scope.old) scope.new ≡ scope.old) }
     ensures shorter { IfOk result (λ x. length scope.new + length x.1.now < length scope.old + length symbols.now) }
     ensures fewer { IfOk result (λ x. length x.1.now < length symbols.now) }
@@ -98,7 +98,7 @@ fn proc_statement<'t>(
     symbols: &'t [Symbol],
 ) -> Result<Begun<'t>, Refusal>
     requires { length scope.old + length symbols.now < 2 ^ 31 }
-    ensures read { Gives (λ x. headed scope.new rows.new.items x.0 x.1.now) result (proc_head scope.old rows.old.items symbols.now) }
+    ensures read { Gives (λ x. head_of scope.new rows.new.items x.0 x.1.now) result (proc_head scope.old rows.old.items symbols.now) }
     ensures outer { OnOk result (take (length scope.old) scope.new ≡ scope.old) }
     ensures shorter { IfOk result (λ x. length scope.new + length x.1.now < length scope.old + length symbols.now) }
     ensures fewer { IfOk result (λ x. length x.1.now < length symbols.now) }
@@ -118,7 +118,7 @@ fn told<'t>(
     symbols: &'t [Symbol],
 ) -> Result<Begun<'t>, Refusal>
     requires { length scope.now < 2 ^ 31 }
-    ensures read { Gives (λ x. headed scope.now rows.new.items x.0 x.1.now) result (value_head left scope.now rows.old.items symbols.now) }
+    ensures read { Gives (λ x. head_of scope.now rows.new.items x.0 x.1.now) result (value_head left scope.now rows.old.items symbols.now) }
     ensures fewer { IfOk result (λ x. length x.1.now < length symbols.now) }
     ensures longer { OnOk result (vec_len rows.new ≡ vec_len rows.old + 1) }
 {
@@ -136,7 +136,7 @@ fn right<'t>(
     symbols: &'t [Symbol],
 ) -> Result<Begun<'t>, Refusal>
     requires { length scope.old + length symbols.now < 2 ^ 31 }
-    ensures read { Gives (λ x. headed scope.new rows.new.items x.0 x.1.now) result (right_head left scope.old rows.old.items symbols.now) }
+    ensures read { Gives (λ x. head_of scope.new rows.new.items x.0 x.1.now) result (right_head left scope.old rows.old.items symbols.now) }
     ensures outer { OnOk result (take (length scope.old) scope.new ≡ scope.old) }
     ensures shorter { IfOk result (λ x. length scope.new + length x.1.now < length scope.old + length symbols.now) }
     ensures fewer { IfOk result (λ x. length x.1.now < length symbols.now) }
@@ -156,7 +156,7 @@ fn tell<'t>(
     symbols: &'t [Symbol],
 ) -> Result<Begun<'t>, Refusal>
     requires { length scope.old + length symbols.now < 2 ^ 31 }
-    ensures read { Gives (λ x. headed scope.new rows.new.items x.0 x.1.now) result (tell_head scope.old rows.old.items symbols.now) }
+    ensures read { Gives (λ x. head_of scope.new rows.new.items x.0 x.1.now) result (tell_head scope.old rows.old.items symbols.now) }
     ensures outer { OnOk result (take (length scope.old) scope.new ≡ scope.old) }
     ensures shorter { IfOk result (λ x. length scope.new + length x.1.now < length scope.old + length symbols.now) }
     ensures fewer { IfOk result (λ x. length x.1.now < length symbols.now) }
@@ -173,7 +173,7 @@ fn placed<'t>(
     scope: &Scope,
     symbols: &'t [Symbol],
 ) -> Result<Begun<'t>, Refusal>
-    ensures read { Gives (λ x. headed scope.now rows.new.items x.0 x.1.now) result (placed_head scope.now rows.old.items symbols.now) }
+    ensures read { Gives (λ x. head_of scope.now rows.new.items x.0 x.1.now) result (placed_head scope.now rows.old.items symbols.now) }
     ensures fewer { IfOk result (λ x. length x.1.now < length symbols.now) }
     ensures longer { OnOk result (vec_len rows.new ≡ vec_len rows.old + 1) }
 {
@@ -191,7 +191,7 @@ fn thread<'t>(
     scope: &Scope,
     symbols: &'t [Symbol],
 ) -> Result<Begun<'t>, Refusal>
-    ensures read { Gives (λ x. headed scope.now rows.new.items x.0 x.1.now) result (thread_head scope.now rows.old.items symbols.now) }
+    ensures read { Gives (λ x. head_of scope.now rows.new.items x.0 x.1.now) result (thread_head scope.now rows.old.items symbols.now) }
     ensures fewer { IfOk result (λ x. length x.1.now ≤ length symbols.now) }
     ensures longer { OnOk result (vec_len rows.new ≡ vec_len rows.old + 1) }
 {
@@ -214,7 +214,7 @@ fn called<'t>(
     symbols: &'t [Symbol],
 ) -> Result<Begun<'t>, Refusal>
     requires { length scope.now < 2 ^ 31 }
-    ensures read { Gives (λ x. headed scope.now rows.new.items x.0 x.1.now) result (call_head scope.now rows.old.items symbols.now) }
+    ensures read { Gives (λ x. head_of scope.now rows.new.items x.0 x.1.now) result (call_head scope.now rows.old.items symbols.now) }
     ensures fewer { IfOk result (λ x. length x.1.now < length symbols.now) }
     ensures longer { OnOk result (vec_len rows.new ≡ vec_len rows.old + 1) }
 {
@@ -228,7 +228,7 @@ fn raised<'t>(
     symbols: &'t [Symbol],
 ) -> Result<Begun<'t>, Refusal>
     requires { length scope.now < 2 ^ 31 }
-    ensures read { Gives (λ x. headed scope.now rows.new.items x.0 x.1.now) result (raise_head scope.now rows.old.items symbols.now) }
+    ensures read { Gives (λ x. head_of scope.now rows.new.items x.0 x.1.now) result (raise_head scope.now rows.old.items symbols.now) }
     ensures fewer { IfOk result (λ x. length x.1.now < length symbols.now) }
     ensures longer { OnOk result (vec_len rows.new ≡ vec_len rows.old + 1) }
 {
@@ -245,7 +245,7 @@ pub fn head<'t>(
     symbols: &'t [Symbol],
 ) -> Result<Begun<'t>, Refusal>
     requires { length scope.old + length symbols.now < 2 ^ 31 }
-    ensures read { Gives (λ x. headed scope.new rows.new.items x.0 x.1.now) result (head_at scope.old rows.old.items what symbols.now) }
+    ensures read { Gives (λ x. head_of scope.new rows.new.items x.0 x.1.now) result (head_at scope.old rows.old.items what symbols.now) }
     ensures outer { OnOk result (take (length scope.old) scope.new ≡ scope.old) }
     ensures shorter { IfOk result (λ x. length scope.new + length x.1.now ≤ length scope.old + length symbols.now) }
     ensures fewer { IfOk result (λ x. length x.1.now < length symbols.now) }
@@ -362,7 +362,7 @@ pub fn if_head<'t>(
     symbols: &'t [Symbol],
 ) -> Result<&'t [Symbol], Refusal>
     requires { length scope.now < 2 ^ 31 }
-    ensures read { Gives (λ x. chosen scope.now rows.new.items x.now) result (if_head scope.now rows.old.items symbols.now) }
+    ensures read { Gives (λ x. choice_of scope.now rows.new.items x.now) result (if_head scope.now rows.old.items symbols.now) }
     ensures fewer { IfOk result (λ x. length x.now < length symbols.now) }
     ensures longer { OnOk result (vec_len rows.new ≡ vec_len rows.old + 1) }
 {
@@ -384,7 +384,7 @@ pub fn case_head<'t>(
     symbols: &'t [Symbol],
 ) -> Result<&'t [Symbol], Refusal>
     requires { length scope.old + length symbols.now < 2 ^ 31 }
-    ensures read { Gives (λ x. chosen scope.new rows.new.items x.now) result (case_head scope.old rows.old.items symbols.now) }
+    ensures read { Gives (λ x. choice_of scope.new rows.new.items x.now) result (case_head scope.old rows.old.items symbols.now) }
     ensures outer { OnOk result (take (length scope.old) scope.new ≡ scope.old) }
     ensures shorter { IfOk result (λ x. length scope.new + length x.now ≤ length scope.old + length symbols.now) }
     ensures fewer { IfOk result (λ x. length x.now < length symbols.now) }

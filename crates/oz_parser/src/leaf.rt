@@ -1,9 +1,9 @@
 //! Signs, identifiers, and the right sides of tells that are no records and no procedures.
 
 ghost use Rattle.std.specs.Prelude.{◌≡◌, ◌+◌, ◌<◌, ◌^◌, length, IfOk};
-ghost use Rattle.oz_grammar.specs.Scoping.{place_of};
-ghost use Rattle.oz_grammar.specs.Points.{is_sign, expects_sign, is_closer, begins, after};
-ghost use Rattle.oz_grammar.specs.Reading.{sign_at, used_at, selection_at, site_at, caught_at, close_at, closes, begins_at};
+ghost use Rattle.oz_grammar.specs.Scoping.{declaration_of};
+ghost use Rattle.oz_grammar.specs.Points.{is_sign, expects_sign, is_closer, begins_statement, after};
+ghost use Rattle.oz_grammar.specs.Reading.{sign_at, used_at, selection_at, site_at, caught_at, close_at, is_end_of, begins_at};
 ghost use Rattle.oz_parser.specs.Gives.{Gives};
 
 use crate::fault::{Refusal, fault, refused};
@@ -72,7 +72,7 @@ fn is_closer(closer: Closer, symbol: &Symbol) -> bool
 
 /// Whether a sequence ends here.
 pub fn closes(closer: Closer, symbols: &[Symbol]) -> bool
-    ensures { result ≡ closes closer symbols.now }
+    ensures { result ≡ is_end_of closer symbols.now }
 {
     match symbols {
         [] => false,
@@ -93,7 +93,7 @@ pub fn after(closer: Closer) -> What
 }
 
 fn begins(symbol: &Symbol) -> bool
-    ensures { result ≡ begins symbol.now }
+    ensures { result ≡ begins_statement symbol.now }
 {
     match symbol {
         Symbol::Skip
@@ -123,7 +123,7 @@ pub fn begins_at(symbols: &[Symbol]) -> bool
 /// The position of an identifier, 0 of one that nothing declares.
 pub fn place_of(scope: &Scope, name: &[u8]) -> u32
     requires { length scope.now < 2 ^ 32 }
-    ensures { result ≡ place_of scope.now name.now }
+    ensures { result ≡ declaration_of scope.now name.now }
 {
     match scope.position(name) {
         Some(position) => position as u32,

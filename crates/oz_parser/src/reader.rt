@@ -1,10 +1,10 @@
 //! Statements and sequences.
 
 ghost use Rattle.std.specs.Prelude.{◌≡◌, ◌+◌, ◌*◌, ◌^◌, ◌<◌, ◌≤◌, [], ◌∷◌, length, take, vec_len, OnOk, IfOk};
-ghost use Rattle.oz_grammar.specs.Table.{numbered};
+ghost use Rattle.oz_grammar.specs.Table.{code_at};
 ghost use Rattle.oz_grammar.specs.Reading.{stmt_at, kind_at, if_at, case_at, try_at, seq_at, seq_from, more_at, with_numbers};
 ghost use Rattle.oz_parser.specs.Gives.{Gives};
-ghost use Rattle.oz_parser.specs.Heads.{block_at, chosen, branches_of};
+ghost use Rattle.oz_parser.specs.Heads.{block_at, choice_of, branches_of};
 
 use crate::fault::{Refusal, fault, refused};
 use crate::head::{case_head, head, if_head};
@@ -118,7 +118,7 @@ fn branches<'t>(
     requires place { place < vec_len rows.old }
     requires names { length scope.old + length symbols.now < 2 ^ 31 }
     requires room { vec_len rows.old + 2 * length symbols.now < 2 ^ 31 }
-    ensures read { Gives (λ x. (rows.new.items, x.now)) result (branches_of (stmt_at depth) place (take outer scope.old) (chosen scope.old rows.old.items symbols.now)) }
+    ensures read { Gives (λ x. (rows.new.items, x.now)) result (branches_of (stmt_at depth) place (take outer scope.old) (choice_of scope.old rows.old.items symbols.now)) }
     ensures scope { OnOk result (scope.new ≡ take outer scope.old) }
     ensures room { IfOk result (λ rest. vec_len rows.new + 2 * length rest.now ≤ vec_len rows.old + 2 * length symbols.now) }
     ensures shorter { IfOk result (λ rest. length rest.now < length symbols.now) }
@@ -312,7 +312,7 @@ fn more<'t>(
     requires names { length scope.old + length symbols.now < 2 ^ 31 }
     requires room { vec_len rows.old + 2 * length symbols.now < 2 ^ 31 }
     requires place { place < vec_len rows.old }
-    ensures read { Gives (λ x. (rows.new.items, x.now)) result (with_numbers place (more_at (stmt_at depth) closer place scope.old (length symbols.now + 1) (numbered 1 ∷ []) rows.old.items symbols.now)) }
+    ensures read { Gives (λ x. (rows.new.items, x.now)) result (with_numbers place (more_at (stmt_at depth) closer place scope.old (length symbols.now + 1) (code_at 1 ∷ []) rows.old.items symbols.now)) }
     ensures scope { OnOk result (scope.new ≡ scope.old) }
     ensures room { IfOk result (λ rest. vec_len rows.new + 2 * length rest.now < vec_len rows.old + 2 * length symbols.now) }
     ensures shorter { IfOk result (λ rest. length rest.now < length symbols.now) }

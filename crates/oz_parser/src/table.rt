@@ -4,7 +4,7 @@ ghost use Rattle.std.specs.Prelude.{◌≡◌, ◌+◌, ◌-◌, ◌<◌, ◌≤
 ghost use Rattle.tree_node.specs.Each.{Each};
 ghost use Rattle.tree_node.specs.declared.names.CodeId.{CodeId};
 ghost use Rattle.kernel_syntax.specs.Scopes.{bodies_of};
-ghost use Rattle.oz_grammar.specs.Table.{numbered};
+ghost use Rattle.oz_grammar.specs.Table.{code_at};
 ghost use Rattle.oz_grammar.specs.Reading.{shift, shift_row, shift_rows, set_second, with_second};
 ghost use Rattle.oz_parser.specs.Fits.{RowsFit};
 

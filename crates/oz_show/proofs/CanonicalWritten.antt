@@ -17,7 +17,6 @@ use Rattle.kernel_syntax.specs.Texts.{is_text_byte, IsText, IsFeature, IsSpelled
 use Rattle.kernel_syntax.specs.Preorder.{whole}
 use Rattle.kernel_syntax.specs.Program.{IsStmt, IsProgram}
 use Rattle.kernel_syntax.proofs.Below.{Below}
-use Rattle.kernel_syntax.proofs.OrderLemmas.{Each-map}
 use Rattle.kernel_syntax.proofs.PreorderLemmas.{NamesFew, names_few}
 use Rattle.oz_grammar.specs.declared.symbol.Symbol.{Symbol}
 use Rattle.oz_grammar.specs.declared.symbol.Symbol.TheVariants as t
@@ -25,12 +24,14 @@ use Rattle.oz_grammar.specs.declared.symbol.BuiltIn.{BuiltIn}
 use Rattle.oz_grammar.specs.declared.symbol.BuiltIn.TheVariants as built
 use Rattle.oz_grammar.specs.Grammar.{ByVariable, ByMark, Value, ToVar, Calculates, Selects, ToInt, ToAtom, ToRecord, Tells, mark_symbol, names_text, field_text, fields_text, value_text, pattern_text, plain_text}
 use Rattle.oz_grammar.specs.Canonical.{name_at, names_from, built_in_name, mark_of, marked, slot_field, declared_fields, pattern_tree, calls_built_in, bodies_symbols, row_symbols, symbols_within, canonical_symbols}
-use Rattle.oz_grammar.specs.Table.{numbered}
+use Rattle.oz_grammar.specs.Table.{code_at}
 use Rattle.oz_grammar.proofs.CanonicalRows.{plain_tree, IsPlainRow}
 use Rattle.oz_grammar.proofs.Atoms.{is_atom_byte}
-use Rattle.oz_grammar.proofs.Digits.{both, FitsWord}
+use Rattle.oz_grammar.proofs.Digits.{FitsWord}
 use Rattle.oz_show.proofs.SymbolSpelling.{IsAtom, IsWritten, name_written}
 use Rattle.oz_show.proofs.SpelledTokens.{Written, ends, more}
+use Rattle.std.proofs.lemmas.Bool.{and_parts}
+use Rattle.tree_node.proofs.EnvLemmas.{each_more}
 
 -- ---- atoms and integers
 
@@ -40,7 +41,7 @@ atom_byte b e = grind arith
 atom_bytes : (a : List ℕ) → list_all is_text_byte a ≡ true → list_all is_atom_byte a ≡ true
 atom_bytes [] all = refl
 atom_bytes (b ∷ bs) all =
-    let two = both (is_text_byte b) (list_all is_text_byte bs) all in
+    let two = and_parts (is_text_byte b) (list_all is_text_byte bs) all in
     ap (λ (x : Bool). x && list_all is_atom_byte bs) (atom_byte b two.0) ∙ atom_bytes bs two.1
 
 is_atom : (a : List ℕ) → IsText a → IsAtom a
@@ -130,7 +131,7 @@ record IsFit (row : Stmt) : Type 0 where
   texts : HasTexts row
   names : Below (2 ^ 32) (names_of row)
 
-site_writes : (at : Option ℤ) (rest : List Symbol) → HasTexts (stmt.Thread at (numbered 0)) → Written rest → Written (Rattle.oz_grammar.specs.Grammar.opening_text (Rattle.oz_grammar.specs.Canonical.thread_opening at) rest)
+site_writes : (at : Option ℤ) (rest : List Symbol) → HasTexts (stmt.Thread at (code_at 0)) → Written rest → Written (Rattle.oz_grammar.specs.Grammar.opening_text (Rattle.oz_grammar.specs.Canonical.thread_opening at) rest)
 site_writes None rest good w = more tt w
 site_writes (Some z) rest good w = more tt (more tt (more (fits_word z good) w))
 
@@ -172,7 +173,7 @@ module _ (body : CodeId → List Symbol → List Symbol) (writes : (c : CodeId) 
 fit_each : (p : List Stmt) → Each IsStmt p → Each HasTexts p → Each NamesFew p → Each IsFit p
 fit_each [] limits texts few = tt
 fit_each (st ∷ sts) limits texts few = (
-  record { limits = limits.0; texts = texts.0; names = Each-map _ (λ (j : ℕ). j < 2 ^ 32) (names_of st) (λ j low. omega (arith, low)) few.0 },
+  record { limits = limits.0; texts = texts.0; names = each_more _ (λ (j : ℕ). j < 2 ^ 32) (names_of st) (λ j low. omega (arith, low)) few.0 },
   fit_each sts limits.1 texts.1 few.1,
 )
 
@@ -188,4 +189,4 @@ within_writes p fit (suc d) c rest w = fit_writes (symbols_within d p) (within_w
 pub program_writes : (p : List Stmt) → IsProgram p → Written (canonical_symbols p)
 unfolding canonical_symbols
 program_writes p is =
-    within_writes p (fit_each p is.stmts is.texts (names_few 0 (whole ∷ []) p is.stmts (omega arith, tt) is.order)) (length p) (numbered 0) (t.EndOfText ∷ []) ends
+    within_writes p (fit_each p is.stmts is.texts (names_few 0 (whole ∷ []) p is.stmts (omega arith, tt) is.order)) (length p) (code_at 0) (t.EndOfText ∷ []) ends

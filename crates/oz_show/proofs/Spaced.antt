@@ -9,8 +9,9 @@ use Rattle.tree_node.specs.Each.{Each}
 use Rattle.tree_node.specs.Spelling.{is_word_byte}
 use Rattle.oz_lexer.specs.declared.token.TokenKind.{TokenKind}
 use Rattle.oz_lexer.specs.declared.token.TokenKind.TheVariants as kind
-use Rattle.oz_lexer.specs.Spelling.{is_variable, is_word, are_digits, digits_of, is_character, is_escape, closes_quote, is_quoted, signs, is_sign, kind_of}
+use Rattle.oz_lexer.specs.Spelling.{is_variable, is_lower_word, are_digits, digits_of, is_character, is_escape, closes_quote, is_quoted, signs, is_sign, token_kind_of}
 use Rattle.oz_lexer.specs.Faults.{Longest}
+use Rattle.std.proofs.Math.Bool.{and-false}
 
 -- a blank or a newline
 abbrev pub IsSpace : ℕ → Type 0
@@ -19,10 +20,6 @@ IsSpace b = (b ≡ 32) ⊎ (b ≡ 10)
 second : (a b : Bool) → (a && b) ≡ true → b ≡ true
 second true b e = e
 second false b e = cc
-
-and_false : (a : Bool) → (a && false) ≡ false
-and_false true = refl
-and_false false = refl
 
 no_word_byte : (b : ℕ) → IsSpace b → is_word_byte b ≡ false
 no_word_byte b s = elim s [ inl e ↦ rw e refl | inr e ↦ rw e refl ]
@@ -33,17 +30,17 @@ no_digit b s = elim s [ inl e ↦ rw e refl | inr e ↦ rw e refl ]
 -- a test that fails at a space fails for all with a space among them
 some_space : (test : ℕ → Bool) (xs more : List ℕ) (b : ℕ) → test b ≡ false → list_all test (xs ++ b ∷ more) ≡ false
 some_space test [] more b e = rw e refl
-some_space test (x ∷ xs) more b e = rw (some_space test xs more b e) (and_false (test x))
+some_space test (x ∷ xs) more b e = rw (some_space test xs more b e) (and-false (test x))
 
 no_variable : (xs more : List ℕ) (b : ℕ) → IsSpace b → is_variable (xs ++ b ∷ more) ≡ false
-no_variable xs more b s = rw (some_space is_word_byte xs more b (no_word_byte b s)) (and_false (is_ascii_uppercase (slice_index (xs ++ b ∷ more) 0)))
+no_variable xs more b s = rw (some_space is_word_byte xs more b (no_word_byte b s)) (and-false (is_ascii_uppercase (slice_index (xs ++ b ∷ more) 0)))
 
-no_word : (xs more : List ℕ) (b : ℕ) → IsSpace b → is_word (xs ++ b ∷ more) ≡ false
-no_word xs more b s = rw (some_space is_word_byte xs more b (no_word_byte b s)) (and_false (is_ascii_lowercase (slice_index (xs ++ b ∷ more) 0)))
+no_word : (xs more : List ℕ) (b : ℕ) → IsSpace b → is_lower_word (xs ++ b ∷ more) ≡ false
+no_word xs more b s = rw (some_space is_word_byte xs more b (no_word_byte b s)) (and-false (is_ascii_lowercase (slice_index (xs ++ b ∷ more) 0)))
 
 no_digits : (xs more : List ℕ) (b : ℕ) → IsSpace b → are_digits (xs ++ b ∷ more) ≡ false
 no_digits [] more b s = rw (no_digit b s) refl
-no_digits (x ∷ xs) more b s = rw (some_space is_ascii_digit xs more b (no_digit b s)) (and_false (is_ascii_digit x))
+no_digits (x ∷ xs) more b s = rw (some_space is_ascii_digit xs more b (no_digit b s)) (and-false (is_ascii_digit x))
 
 no_integer : (xs more : List ℕ) (b : ℕ) → IsSpace b → are_digits (digits_of (xs ++ b ∷ more)) ≡ false
 no_integer [] more b s = elim s [ inl e ↦ rw e refl | inr e ↦ rw e refl ]
@@ -82,8 +79,8 @@ no_sign : (xs more : List ℕ) (b : ℕ) → IsSpace b → is_sign (xs ++ b ∷ 
 no_sign xs more b s = all_differ (xs ++ b ∷ more) signs (some_space no_space xs more b (space_fails b s)) signs_spaceless
 
 -- nothing that begins without a quote goes on behind a space
-none_spaced : (xs more : List ℕ) (b : ℕ) → IsSpace b → is_quoted (xs ++ b ∷ more) ≡ false → kind_of (xs ++ b ∷ more) ≡ None
-unfolding kind_of
+none_spaced : (xs more : List ℕ) (b : ℕ) → IsSpace b → is_quoted (xs ++ b ∷ more) ≡ false → token_kind_of (xs ++ b ∷ more) ≡ None
+unfolding token_kind_of
 none_spaced xs more b s quoted = rw (no_variable xs more b s, no_word xs more b s, quoted, no_integer xs more b s, no_sign xs more b s) refl
 
 -- a quoted atom ends at its closing quote
@@ -95,11 +92,11 @@ closes_more (b ∷ []) (m ∷ more) e some =
     rw quote refl
 closes_more (b ∷ c ∷ bs) more e some =
     let chosen : (t : Bool) → cond t (is_escape c && closes_quote bs) (is_character b && closes_quote (c ∷ bs)) ≡ true → cond t (is_escape c && closes_quote (bs ++ more)) (is_character b && closes_quote (c ∷ (bs ++ more))) ≡ false = elim [
-      | true ↦ λ h. rw (closes_more bs more (second (is_escape c) (closes_quote bs) h) some) (and_false (is_escape c))
-      | false ↦ λ h. rw (closes_more (c ∷ bs) more (second (is_character b) (closes_quote (c ∷ bs)) h) some) (and_false (is_character b))
+      | true ↦ λ h. rw (closes_more bs more (second (is_escape c) (closes_quote bs) h) some) (and-false (is_escape c))
+      | false ↦ λ h. rw (closes_more (c ∷ bs) more (second (is_character b) (closes_quote (c ∷ bs)) h) some) (and-false (is_character b))
     ] in chosen (eqb b 92) e
 
-pub longest_spaced : (bytes : List ℕ) (k : TokenKind) (b : ℕ) (tail : List ℕ) → kind_of bytes ≡ Some k → eqb (slice_index bytes 0) 39 ≡ false → 0 < length bytes → IsSpace b → Longest (bytes ++ b ∷ tail) k bytes (b ∷ tail)
+pub longest_spaced : (bytes : List ℕ) (k : TokenKind) (b : ℕ) (tail : List ℕ) → token_kind_of bytes ≡ Some k → eqb (slice_index bytes 0) 39 ≡ false → 0 < length bytes → IsSpace b → Longest (bytes ++ b ∷ tail) k bytes (b ∷ tail)
 longest_spaced [] k b tail is quote some s = absurd (omega (arith, some))
 longest_spaced (x ∷ xs) k b tail is quote some s = record {
   is = refl;
@@ -107,21 +104,21 @@ longest_spaced (x ∷ xs) k b tail is quote some s = record {
   longest = λ more behind e lt. go more behind e lt;
 }
   where
-    go : (more behind : List ℕ) → b ∷ tail ≡ more ++ behind → 0 < length more → kind_of ((x ∷ xs) ++ more) ≡ None
+    go : (more behind : List ℕ) → b ∷ tail ≡ more ++ behind → 0 < length more → token_kind_of ((x ∷ xs) ++ more) ≡ None
     go [] behind e lt = absurd (omega (arith, lt))
     go (m ∷ more) behind e lt =
         let same : b ≡ m = cc in
-        subst (λ (c : ℕ). kind_of ((x ∷ xs) ++ c ∷ more) ≡ None) same (none_spaced (x ∷ xs) more b s (rw quote refl))
+        subst (λ (c : ℕ). token_kind_of ((x ∷ xs) ++ c ∷ more) ≡ None) same (none_spaced (x ∷ xs) more b s (rw quote refl))
 
-pub longest_quoted : (cs : List ℕ) (b : ℕ) (tail : List ℕ) → kind_of (39 ∷ cs) ≡ Some kind.Quoted → closes_quote cs ≡ true → IsSpace b → Longest ((39 ∷ cs) ++ b ∷ tail) kind.Quoted (39 ∷ cs) (b ∷ tail)
+pub longest_quoted : (cs : List ℕ) (b : ℕ) (tail : List ℕ) → token_kind_of (39 ∷ cs) ≡ Some kind.Quoted → closes_quote cs ≡ true → IsSpace b → Longest ((39 ∷ cs) ++ b ∷ tail) kind.Quoted (39 ∷ cs) (b ∷ tail)
 longest_quoted cs b tail is closed s = record {
   is = refl;
   spells = is;
   longest = λ more behind e lt. go more behind e lt;
 }
   where
-    go : (more behind : List ℕ) → b ∷ tail ≡ more ++ behind → 0 < length more → kind_of ((39 ∷ cs) ++ more) ≡ None
+    go : (more behind : List ℕ) → b ∷ tail ≡ more ++ behind → 0 < length more → token_kind_of ((39 ∷ cs) ++ more) ≡ None
     go [] behind e lt = absurd (omega (arith, lt))
     go (m ∷ more) behind e lt =
         let same : b ≡ m = cc in
-        subst (λ (c : ℕ). kind_of ((39 ∷ cs) ++ c ∷ more) ≡ None) same (none_spaced (39 ∷ cs) more b s (closes_more cs (b ∷ more) closed (omega arith)))
+        subst (λ (c : ℕ). token_kind_of ((39 ∷ cs) ++ c ∷ more) ≡ None) same (none_spaced (39 ∷ cs) more b s (closes_more cs (b ∷ more) closed (omega arith)))

@@ -4,13 +4,13 @@ use Rattle.std.specs.Prelude.{◌&&◌, nat_le, slice_index, ℤ}
 use Rattle.std.specs.Str.{IsUtf8}
 use Rattle.std.specs.Char.{is_ascii_digit, is_ascii_lowercase, is_ascii_uppercase}
 use Rattle.std.specs.List.{list_all}
-use Rattle.tree_node.specs.Spelling.{is_bare, escaped, atom_text, int_text, is_word_byte}
+use Rattle.tree_node.specs.Spelling.{is_bare, escaped_text, atom_text, int_text, is_word_byte}
 use Rattle.tree_node.specs.Words.{reserved_words}
 use Rattle.kernel_syntax.specs.declared.stmt.Op.{Op}
 use Rattle.kernel_syntax.specs.declared.stmt.Op.TheVariants as op
 use Rattle.oz_lexer.specs.declared.token.TokenKind.{TokenKind}
 use Rattle.oz_lexer.specs.declared.token.TokenKind.TheVariants as kind
-use Rattle.oz_lexer.specs.Spelling.{kind_of, is_long, is_variable, is_word, is_quoted}
+use Rattle.oz_lexer.specs.Spelling.{token_kind_of, is_long, is_variable, is_lower_word, is_quoted}
 use Rattle.oz_lexer.specs.Faults.{Longest}
 use Rattle.oz_grammar.specs.declared.symbol.Symbol.{Symbol}
 use Rattle.oz_grammar.specs.declared.symbol.Symbol.TheVariants as t
@@ -18,8 +18,9 @@ use Rattle.oz_grammar.specs.Symbols.{symbol_at, word_symbol, sign_symbol}
 use Rattle.oz_grammar.specs.Canonical.{name_at}
 use Rattle.oz_show.specs.CanonicalText.{symbol_text}
 use Rattle.oz_show.proofs.Spaced.{IsSpace, longest_spaced, longest_quoted}
-use Rattle.oz_grammar.proofs.Digits.{both, decimal_of, word_bytes, FitsWord, integer}
+use Rattle.oz_grammar.proofs.Digits.{decimal_of, word_bytes, FitsWord, integer}
 use Rattle.oz_grammar.proofs.Atoms.{is_atom_byte, quoted, bare}
+use Rattle.std.proofs.lemmas.Bool.{and_parts}
 
 -- an atom that can be written: its spelling is no longer than a name may be
 abbrev pub IsAtom : List ℕ → Type 0
@@ -43,13 +44,13 @@ IsWritten symbol = Unit {0}
 pub record Token (symbol : Symbol) : Type 0 where
   pub what : TokenKind
   pub no_end : what ≡ kind.End → ⊥
-  pub spells : kind_of (symbol_text symbol) ≡ Some what
+  pub spells : token_kind_of (symbol_text symbol) ≡ Some what
   pub short : is_long what (symbol_text symbol) ≡ false
   pub back : symbol_at (Ok what) (symbol_text symbol) ≡ symbol
   pub longest : (b : ℕ) (tail : List ℕ) → IsSpace b → Longest (symbol_text symbol ++ b ∷ tail) what (symbol_text symbol) (b ∷ tail)
 
 -- a symbol that is spelled without quotes
-unquoted : (symbol : Symbol) (k : TokenKind) → (k ≡ kind.End → ⊥) → kind_of (symbol_text symbol) ≡ Some k → is_long k (symbol_text symbol) ≡ false → symbol_at (Ok k) (symbol_text symbol) ≡ symbol
+unquoted : (symbol : Symbol) (k : TokenKind) → (k ≡ kind.End → ⊥) → token_kind_of (symbol_text symbol) ≡ Some k → is_long k (symbol_text symbol) ≡ false → symbol_at (Ok k) (symbol_text symbol) ≡ symbol
     → eqb (slice_index (symbol_text symbol) 0) 39 ≡ false → 0 < length (symbol_text symbol) → Token symbol
 unquoted symbol k no_end spells short back first some = record {
   what = k;
@@ -60,20 +61,20 @@ unquoted symbol k no_end spells short back first some = record {
   longest = λ b tail s. longest_spaced (symbol_text symbol) k b tail spells first some s;
 }
 
-word : (symbol : Symbol) → kind_of (symbol_text symbol) ≡ Some kind.Word → word_symbol (symbol_text symbol) ≡ symbol → eqb (slice_index (symbol_text symbol) 0) 39 ≡ false → 0 < length (symbol_text symbol) → Token symbol
+word : (symbol : Symbol) → token_kind_of (symbol_text symbol) ≡ Some kind.Word → word_symbol (symbol_text symbol) ≡ symbol → eqb (slice_index (symbol_text symbol) 0) 39 ≡ false → 0 < length (symbol_text symbol) → Token symbol
 word symbol spells back first some = unquoted symbol kind.Word (λ e. cc) spells refl back first some
 
-sign : (symbol : Symbol) → kind_of (symbol_text symbol) ≡ Some kind.Sign → sign_symbol (symbol_text symbol) ≡ symbol → eqb (slice_index (symbol_text symbol) 0) 39 ≡ false → 0 < length (symbol_text symbol) → Token symbol
+sign : (symbol : Symbol) → token_kind_of (symbol_text symbol) ≡ Some kind.Sign → sign_symbol (symbol_text symbol) ≡ symbol → eqb (slice_index (symbol_text symbol) 0) 39 ≡ false → 0 < length (symbol_text symbol) → Token symbol
 sign symbol spells back first some = unquoted symbol kind.Sign (λ e. cc) spells refl back first some
 
 at_most : (n : ℕ) → n ≤ 255 → nat_le n 255 ≡ true
 at_most n le = grind arith
 
 variable_token : (x : List ℕ) → is_variable x ≡ true → length x ≤ 255 → Token (t.Variable x)
-unfolding kind_of
+unfolding token_kind_of
 variable_token [] is le = cc
 variable_token (c ∷ cs) is le =
-    let upper = (both (is_ascii_uppercase c) (list_all is_word_byte (c ∷ cs)) is).0 in
+    let upper = (and_parts (is_ascii_uppercase c) (list_all is_word_byte (c ∷ cs)) is).0 in
     unquoted (t.Variable (c ∷ cs)) kind.Variable (λ e. cc) (rw is refl) (rw (at_most (length (c ∷ cs)) le) refl) refl (grind arith) (omega arith)
 
 pub name_written : (k : ℕ) → k < 2 ^ 32 → IsWritten (t.Variable (name_at k))
@@ -83,14 +84,14 @@ name_written k small =
     (rw (word_bytes k fits) refl, omega (arith, short))
 
 integer_token : (z : ℤ) → FitsWord z → Token (t.Integer (Some z))
-unfolding kind_of
+unfolding token_kind_of
 integer_token z fits =
     let i = integer z fits in
     let other = apart (int_text z) i.some i.first in
     unquoted (t.Integer (Some z)) kind.Integer (λ e. cc) (rw (other.0, other.1, other.2, i.digits) refl) refl (ap t.Integer i.value) other.3 i.some
   where
     apart : (bytes : List ℕ) → 0 < length bytes → (is_ascii_digit (slice_index bytes 0) ≡ true) ⊎ (slice_index bytes 0 ≡ 126)
-        → (is_variable bytes ≡ false) × (is_word bytes ≡ false) × (is_quoted bytes ≡ false) × (eqb (slice_index bytes 0) 39 ≡ false)
+        → (is_variable bytes ≡ false) × (is_lower_word bytes ≡ false) × (is_quoted bytes ≡ false) × (eqb (slice_index bytes 0) 39 ≡ false)
     apart [] some first = absurd (omega (arith, some))
     apart (c ∷ cs) some first =
         let upper : is_ascii_uppercase c ≡ false = elim first [ inl d ↦ grind arith | inr s ↦ grind arith ] in
@@ -109,19 +110,19 @@ atom_token a is = go (is_bare a) refl
         unquoted (t.Atom a) kind.Atom (λ h. cc) (rw same known.kind) (rw (same, least) refl) (rw same refl) (rw same known.first) (rw same known.some)
     go false e =
         let known = quoted a is.0 in
-        let same : atom_text a ≡ 39 ∷ (escaped a ++ 39 ∷ []) = rw e refl in
-        let least : nat_le (length (39 ∷ (escaped a ++ 39 ∷ []))) 255 ≡ true = at_most (length (39 ∷ (escaped a ++ 39 ∷ []))) (omega (arith, ap length same, is.1)) in
+        let same : atom_text a ≡ 39 ∷ (escaped_text a ++ 39 ∷ []) = rw e refl in
+        let least : nat_le (length (39 ∷ (escaped_text a ++ 39 ∷ []))) 255 ≡ true = at_most (length (39 ∷ (escaped_text a ++ 39 ∷ []))) (omega (arith, ap length same, is.1)) in
         record {
           what = kind.Quoted;
           no_end = λ h. cc;
           spells = rw same known.kind;
           short = rw (same, least) refl;
           back = rw same (ap t.Atom known.text);
-          longest = λ b tail s. rw same (longest_quoted (escaped a ++ 39 ∷ []) b tail known.kind known.closed s);
+          longest = λ b tail s. rw same (longest_quoted (escaped_text a ++ 39 ∷ []) b tail known.kind known.closed s);
         }
 
 operator_token : (o : Op) → Token (t.Operator o)
-unfolding kind_of word_symbol sign_symbol reserved_words
+unfolding token_kind_of word_symbol sign_symbol reserved_words
 operator_token op.Add = sign (t.Operator op.Add) refl refl refl (omega arith)
 operator_token op.Sub = sign (t.Operator op.Sub) refl refl refl (omega arith)
 operator_token op.Mul = sign (t.Operator op.Mul) refl refl refl (omega arith)
@@ -137,7 +138,7 @@ integer_or_none (Some z) fits = integer_token z fits
 integer_or_none None fits = absurd fits
 
 pub token_of : (symbol : Symbol) → IsWritten symbol → Token symbol
-unfolding kind_of word_symbol sign_symbol reserved_words
+unfolding token_kind_of word_symbol sign_symbol reserved_words
 token_of (t.Variable x) w = variable_token x w.0 w.1
 token_of (t.Atom a) w = atom_token a w
 token_of (t.Integer n) w = integer_or_none n w

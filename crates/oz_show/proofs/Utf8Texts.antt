@@ -3,23 +3,24 @@ use Rattle.std.proofs.Common.{◌≡◌, ◌∙◌, ◌⊎◌, inl, inr, ℕ, su
 use Rattle.std.specs.Prelude.{◌&&◌, ◌||◌, nat_lt, decimal, ℤ, pos, negsuc}
 use Rattle.std.specs.Char.{is_ascii_uppercase}
 use Rattle.std.specs.List.{list_all}
-use Rattle.std.proofs.lemmas.Bool.{cases_lt}
+use Rattle.std.proofs.lemmas.Bool.{cases_lt, and_parts}
 use Rattle.std.proofs.lemmas.Str.{IsUtf8-append, IsUtf8-nil, IsUtf8-encode, encode_ascii}
 use lib.Utf8.{scalar, scalars, encodes, encode}
-use Rattle.tree_node.specs.Spelling.{is_word_byte, is_bare, escaped, atom_text}
+use Rattle.tree_node.specs.Spelling.{is_word_byte, is_bare, escaped_text, atom_text}
 use Rattle.kernel_syntax.specs.declared.stmt.Op.{Op}
 use Rattle.kernel_syntax.specs.declared.stmt.Op.TheVariants as op
 use Rattle.oz_grammar.specs.declared.symbol.Symbol.{Symbol}
 use Rattle.oz_grammar.specs.declared.symbol.Symbol.TheVariants as t
-use Rattle.oz_grammar.proofs.Digits.{both, word_bytes, FitsWord}
+use Rattle.oz_grammar.proofs.Digits.{word_bytes, FitsWord}
 use Rattle.oz_grammar.proofs.Unescaped.{AreHigh, encode_high, ascii_before}
 use Rattle.oz_show.specs.CanonicalText.{operator_text, symbol_text, text_behind, spelled}
 use Rattle.oz_show.proofs.SymbolSpelling.{IsAtom, IsWritten}
 use Rattle.oz_show.proofs.SpelledTokens.{Written, ends, more, behind_is}
+use Rattle.oz_lexer.proofs.Boundaries.{word_ascii}
 
 -- ---- atoms in quotes
 
-high_escaped : (xs rest : List ℕ) → AreHigh xs → escaped (xs ++ rest) ≡ xs ++ escaped rest
+high_escaped : (xs rest : List ℕ) → AreHigh xs → escaped_text (xs ++ rest) ≡ xs ++ escaped_text rest
 high_escaped [] rest h = refl
 high_escaped (x ∷ xs) rest h =
     let newline : eqb x 10 ≡ false = grind (arith, h.0) in
@@ -27,49 +28,46 @@ high_escaped (x ∷ xs) rest h =
     let backslash : eqb x 92 ≡ false = grind (arith, h.0) in
     rw (newline, quote, backslash) (ap (λ (ys : List ℕ). x ∷ ys) (high_escaped xs rest h.1))
 
-ascii_escaped : (c : ℕ) (bs : List ℕ) → c < 128 → IsUtf8 (escaped bs) → IsUtf8 (escaped (c ∷ bs))
+ascii_escaped : (c : ℕ) (bs : List ℕ) → c < 128 → IsUtf8 (escaped_text bs) → IsUtf8 (escaped_text (c ∷ bs))
 ascii_escaped c bs low behind = go (eqb c 10) (eqb c 39) (eqb c 92)
   where
-    go : (n q b : Bool) → IsUtf8 (cond n (92 ∷ 110 ∷ []) (cond (q || b) (92 ∷ c ∷ []) (c ∷ [])) ++ escaped bs)
-    go true q b = ascii_before 92 (110 ∷ escaped bs) (omega arith) (ascii_before 110 (escaped bs) (omega arith) behind)
-    go false true b = ascii_before 92 (c ∷ escaped bs) (omega arith) (ascii_before c (escaped bs) low behind)
-    go false false true = ascii_before 92 (c ∷ escaped bs) (omega arith) (ascii_before c (escaped bs) low behind)
-    go false false false = ascii_before c (escaped bs) low behind
+    go : (n q b : Bool) → IsUtf8 (cond n (92 ∷ 110 ∷ []) (cond (q || b) (92 ∷ c ∷ []) (c ∷ [])) ++ escaped_text bs)
+    go true q b = ascii_before 92 (110 ∷ escaped_text bs) (omega arith) (ascii_before 110 (escaped_text bs) (omega arith) behind)
+    go false true b = ascii_before 92 (c ∷ escaped_text bs) (omega arith) (ascii_before c (escaped_text bs) low behind)
+    go false false true = ascii_before 92 (c ∷ escaped_text bs) (omega arith) (ascii_before c (escaped_text bs) low behind)
+    go false false false = ascii_before c (escaped_text bs) low behind
 
-first_escaped : (c : ℕ) (bs : List ℕ) → scalar c ≡ true → (c < 128) ⊎ (128 ≤ c) → IsUtf8 (escaped bs) → IsUtf8 (escaped (encode c ++ bs))
-first_escaped c bs is (inl low) behind = subst (λ (xs : List ℕ). IsUtf8 (escaped (xs ++ bs))) (sym (encode_ascii c low)) (ascii_escaped c bs low behind)
-first_escaped c bs is (inr high) behind = subst IsUtf8 (sym (high_escaped (encode c) bs (encode_high c high))) (IsUtf8-append (encode c) (escaped bs) (IsUtf8-encode c is) behind)
+first_escaped : (c : ℕ) (bs : List ℕ) → scalar c ≡ true → (c < 128) ⊎ (128 ≤ c) → IsUtf8 (escaped_text bs) → IsUtf8 (escaped_text (encode c ++ bs))
+first_escaped c bs is (inl low) behind = subst (λ (xs : List ℕ). IsUtf8 (escaped_text (xs ++ bs))) (sym (encode_ascii c low)) (ascii_escaped c bs low behind)
+first_escaped c bs is (inr high) behind = subst IsUtf8 (sym (high_escaped (encode c) bs (encode_high c high))) (IsUtf8-append (encode c) (escaped_text bs) (IsUtf8-encode c is) behind)
 
-all_escaped : (cs : List ℕ) → scalars cs ≡ true → IsUtf8 (escaped (encodes cs))
+all_escaped : (cs : List ℕ) → scalars cs ≡ true → IsUtf8 (escaped_text (encodes cs))
 all_escaped [] e = IsUtf8-nil
 all_escaped (c ∷ cs) e =
-    let two = both (scalar c) (scalars cs) e in first_escaped c (encodes cs) two.0 (cases_lt c 128) (all_escaped cs two.1)
+    let two = and_parts (scalar c) (scalars cs) e in first_escaped c (encodes cs) two.0 (cases_lt c 128) (all_escaped cs two.1)
 
-escaped_utf8 : (bs : List ℕ) → IsUtf8 bs → IsUtf8 (escaped bs)
-escaped_utf8 bs utf8 = subst (λ (xs : List ℕ). IsUtf8 (escaped xs)) utf8.1.1 (all_escaped utf8.0 utf8.1.0)
+escaped_utf8 : (bs : List ℕ) → IsUtf8 bs → IsUtf8 (escaped_text bs)
+escaped_utf8 bs utf8 = subst (λ (xs : List ℕ). IsUtf8 (escaped_text xs)) utf8.1.1 (all_escaped utf8.0 utf8.1.0)
 
 atom_utf8 : (a : List ℕ) → IsUtf8 a → IsUtf8 (atom_text a)
 atom_utf8 a utf8 = go (is_bare a)
   where
-    go : (b : Bool) → IsUtf8 (cond b a (39 ∷ (escaped a ++ 39 ∷ [])))
+    go : (b : Bool) → IsUtf8 (cond b a (39 ∷ (escaped_text a ++ 39 ∷ [])))
     go true = utf8
-    go false = ascii_before 39 (escaped a ++ 39 ∷ []) (omega arith) (IsUtf8-append (escaped a) (39 ∷ []) (escaped_utf8 a utf8) (ascii_before 39 [] (omega arith) IsUtf8-nil))
+    go false = ascii_before 39 (escaped_text a ++ 39 ∷ []) (omega arith) (IsUtf8-append (escaped_text a) (39 ∷ []) (escaped_utf8 a utf8) (ascii_before 39 [] (omega arith) IsUtf8-nil))
 
 -- ---- other symbols
 
 all_ascii : (bs : List ℕ) → list_all (λ b. nat_lt b 128) bs ≡ true → IsUtf8 bs
 all_ascii [] all = IsUtf8-nil
 all_ascii (b ∷ bs) all =
-    let two = both (nat_lt b 128) (list_all (λ c. nat_lt c 128) bs) all in
+    let two = and_parts (nat_lt b 128) (list_all (λ c. nat_lt c 128) bs) all in
     ascii_before b bs (grind (arith, two.0)) (all_ascii bs two.1)
-
-word_ascii : (b : ℕ) → is_word_byte b ≡ true → b < 128
-word_ascii b e = grind arith
 
 words_utf8 : (bs : List ℕ) → list_all is_word_byte bs ≡ true → IsUtf8 bs
 words_utf8 [] all = IsUtf8-nil
 words_utf8 (b ∷ bs) all =
-    let two = both (is_word_byte b) (list_all is_word_byte bs) all in ascii_before b bs (word_ascii b two.0) (words_utf8 bs two.1)
+    let two = and_parts (is_word_byte b) (list_all is_word_byte bs) all in ascii_before b bs (word_ascii b two.0) (words_utf8 bs two.1)
 
 integer_utf8 : (z : ℤ) → FitsWord z → IsUtf8 (symbol_text (t.Integer (Some z)))
 integer_utf8 (pos n) fits = words_utf8 (decimal n) (word_bytes n (omega (arith, fits)))
@@ -90,7 +88,7 @@ symbol_utf8 : (x : Symbol) → IsWritten x → IsUtf8 (symbol_text x)
 symbol_utf8 (t.Variable x) w = words_utf8 x (name_bytes x w.0)
   where
     name_bytes : (bs : List ℕ) → (is_ascii_uppercase (Rattle.std.specs.Prelude.slice_index bs 0) && list_all is_word_byte bs) ≡ true → list_all is_word_byte bs ≡ true
-    name_bytes bs e = (both (is_ascii_uppercase (Rattle.std.specs.Prelude.slice_index bs 0)) (list_all is_word_byte bs) e).1
+    name_bytes bs e = (and_parts (is_ascii_uppercase (Rattle.std.specs.Prelude.slice_index bs 0)) (list_all is_word_byte bs) e).1
 symbol_utf8 (t.Atom a) w = atom_utf8 a w.2
 symbol_utf8 (t.Integer (Some z)) w = integer_utf8 z w
 symbol_utf8 (t.Integer None) w = absurd w

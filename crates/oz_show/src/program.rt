@@ -7,7 +7,7 @@ ghost use Rattle.kernel_syntax.specs.Scopes.{bodies_of, features_in};
 ghost use Rattle.kernel_syntax.specs.Program.{IsStmt};
 ghost use Rattle.oz_grammar.specs.declared.symbol.Symbol.TheVariants as t;
 ghost use Rattle.oz_grammar.specs.Grammar.{ToVar, ToInt, ToAtom, ToRecord, Calculates, Selects, Raises, ProcValue, Cases, plain_text, opening_text, choice_text, names_text};
-ghost use Rattle.oz_grammar.specs.Canonical.{name_at, names_from, slot_field, selection_of, pattern_tree, tells, local_opening, thread_opening, bodies_symbols, row_symbols, symbols_within, canonical_symbols};
+ghost use Rattle.oz_grammar.specs.Canonical.{name_at, names_from, slot_field, selection_of, pattern_tree, tell_statement, local_opening, thread_opening, bodies_symbols, row_symbols, symbols_within, canonical_symbols};
 
 use crate::symbols::Symbols;
 use kernel_syntax::{Op, Pattern, Program, Selector, Stmt};
@@ -254,7 +254,7 @@ fn tell_variable(
     left: u32,
     right: u32,
 ) -> Result<(), AllocError>
-    ensures { OnOk result (symbols.new ≡ plain_text (tells left (ToVar (name_at right))) symbols.old) }
+    ensures { OnOk result (symbols.new ≡ plain_text (tell_statement left (ToVar (name_at right))) symbols.old) }
 {
     symbols.name(alloc, right)?;
     tell(alloc, symbols, left)
@@ -266,14 +266,14 @@ fn tell_integer(
     left: u32,
     value: i64,
 ) -> Result<(), AllocError>
-    ensures { OnOk result (symbols.new ≡ plain_text (tells left (ToInt (Some value))) symbols.old) }
+    ensures { OnOk result (symbols.new ≡ plain_text (tell_statement left (ToInt (Some value))) symbols.old) }
 {
     symbols.put(Symbol::Integer(Some(value)))?;
     tell(alloc, symbols, left)
 }
 
 fn tell_atom(alloc: Global, symbols: &mut Symbols, left: u32, atom: &Text) -> Result<(), AllocError>
-    ensures { OnOk result (symbols.new ≡ plain_text (tells left (ToAtom atom.now)) symbols.old) }
+    ensures { OnOk result (symbols.new ≡ plain_text (tell_statement left (ToAtom atom.now)) symbols.old) }
 {
     symbols.atom(atom)?;
     tell(alloc, symbols, left)
@@ -286,7 +286,7 @@ fn tell_record(
     label: &Text,
     fields: &[(Feature, u32)],
 ) -> Result<(), AllocError>
-    ensures { OnOk result (symbols.new ≡ plain_text (tells left (ToRecord label.now (map slot_field fields.now))) symbols.old) }
+    ensures { OnOk result (symbols.new ≡ plain_text (tell_statement left (ToRecord label.now (map slot_field fields.now))) symbols.old) }
 {
     symbols.put(Symbol::CloseRound)?;
     symbols.fields(alloc, fields)?;
@@ -303,7 +303,7 @@ fn tell_result(
     a: u32,
     b: u32,
 ) -> Result<(), AllocError>
-    ensures { OnOk result (symbols.new ≡ plain_text (tells left (Calculates (name_at a) operator (name_at b))) symbols.old) }
+    ensures { OnOk result (symbols.new ≡ plain_text (tell_statement left (Calculates (name_at a) operator (name_at b))) symbols.old) }
 {
     symbols.name(alloc, b)?;
     symbols.put(Symbol::Operator(operator))?;
@@ -318,7 +318,7 @@ fn tell_field(
     source: u32,
     by: &Selector,
 ) -> Result<(), AllocError>
-    ensures { OnOk result (symbols.new ≡ plain_text (tells left (Selects (name_at source) (selection_of by.now))) symbols.old) }
+    ensures { OnOk result (symbols.new ≡ plain_text (tell_statement left (Selects (name_at source) (selection_of by.now))) symbols.old) }
 {
     match by {
         Selector::Var(position) => symbols.name(alloc, *position)?,

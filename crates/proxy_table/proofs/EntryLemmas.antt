@@ -6,7 +6,7 @@ use Rattle.std.specs.Map.{lookup}
 use Rattle.indexmap.specs.IndexMap.{insert_entry}
 use Rattle.tree_node.specs.declared.names.VarName.{VarName}
 use Rattle.tree_node.specs.declared.node.Term.{Term}
-use Rattle.tree_node.specs.Store.{same_name}
+use Rattle.tree_node.specs.Store.{equal_var}
 use Rattle.proxy_table.specs.Proxies.{Proxy, IsMet, entry_of, after_meet}
 
 -- what is lent is there
@@ -14,12 +14,12 @@ pub lent_some : {X : Type 0} (o : Option (Bor X)) (l : Option X) → option_copi
 lent_some None l e = ap is_some e
 lent_some (Some b) l e = ap is_some e
 
-insert_last : (es : List Proxy) (x : VarName) (v : Option Term) → is_some (entry_of es x) ≡ false → insert_entry same_name es x v ≡ es ++ (x, v) ∷ []
+insert_last : (es : List Proxy) (x : VarName) (v : Option Term) → is_some (entry_of es x) ≡ false → insert_entry equal_var es x v ≡ es ++ (x, v) ∷ []
 insert_last [] x v e = refl
-insert_last ((y, r) ∷ es) x v e = go (same_name x y) refl e (λ k. insert_last es x v k)
+insert_last ((y, r) ∷ es) x v e = go (equal_var x y) refl e (λ k. insert_last es x v k)
   where
-    go : (b : Bool) → same_name x y ≡ b → is_some (cond b (Some r) (lookup (same_name x) es)) ≡ false → (is_some (entry_of es x) ≡ false → insert_entry same_name es x v ≡ es ++ (x, v) ∷ []) →
-        cond b ((y, v) ∷ es) ((y, r) ∷ insert_entry same_name es x v) ≡ ((y, r) ∷ es) ++ (x, v) ∷ []
+    go : (b : Bool) → equal_var x y ≡ b → is_some (cond b (Some r) (lookup (equal_var x) es)) ≡ false → (is_some (entry_of es x) ≡ false → insert_entry equal_var es x v ≡ es ++ (x, v) ∷ []) →
+        cond b ((y, v) ∷ es) ((y, r) ∷ insert_entry equal_var es x v) ≡ ((y, r) ∷ es) ++ (x, v) ∷ []
     go true p k ih = cc
     go false p k ih = ap (λ (zs : List Proxy). (y, r) ∷ zs) (ih k)
 
@@ -31,7 +31,7 @@ unmet s x b same absent = go (is_some (entry_of s x)) refl
     go false e = e
 
 -- a name that was not met goes last
-pub met_new : (s es fs : List Proxy) (x : VarName) (b : Bool) → es ≡ s → (IsTrue b ↔ IsMet s x) → b ≡ false → fs ≡ insert_entry same_name es x None → fs ≡ after_meet s x
+pub met_new : (s es fs : List Proxy) (x : VarName) (b : Bool) → es ≡ s → (IsTrue b ↔ IsMet s x) → b ≡ false → fs ≡ insert_entry equal_var es x None → fs ≡ after_meet s x
 met_new s es fs x b view same absent e =
     let none : is_some (entry_of s x) ≡ false = unmet s x b same absent in
-    e ∙ ap (λ (zs : List Proxy). insert_entry same_name zs x None) view ∙ insert_last s x None none ∙ sym (rw none refl)
+    e ∙ ap (λ (zs : List Proxy). insert_entry equal_var zs x None) view ∙ insert_last s x None none ∙ sym (rw none refl)

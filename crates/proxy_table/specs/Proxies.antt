@@ -5,14 +5,14 @@ use Rattle.std.specs.Map.{lookup}
 use Rattle.indexmap.specs.IndexMap.{insert_entry}
 use Rattle.tree_node.specs.declared.names.VarName.{VarName}
 use Rattle.tree_node.specs.declared.node.Term.{Term}
-use Rattle.tree_node.specs.Store.{same_name}
+use Rattle.tree_node.specs.Store.{equal_var}
 
 abbrev pub Proxy : Type 0
 Proxy = VarName × Option Term
 
 -- what is kept of a name: nothing where it was not met
 abbrev pub entry_of : List Proxy → VarName → Option (Option Term)
-entry_of es x = lookup (same_name x) es
+entry_of es x = lookup (equal_var x) es
 
 abbrev pub IsMet : List Proxy → VarName → Type 0
 IsMet es x = IsTrue (is_some (entry_of es x))
@@ -31,4 +31,4 @@ after_meet es x = if is_some (entry_of es x) then es else es ++ (x, None) ∷ []
 
 -- the name is known to be bound to this term, and keeps its place
 abbrev pub after_bound : List Proxy → VarName → Term → List Proxy
-after_bound es x t = insert_entry same_name es x (Some t)
+after_bound es x t = insert_entry equal_var es x (Some t)

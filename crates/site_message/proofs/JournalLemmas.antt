@@ -1,7 +1,7 @@
 -- What the definitions of journals say.
 use Rattle.std.proofs.Common.{arith, ◌≡◌, ◌∙◌, ℕ, zero, suc, ◌+◌, ◌<◌, ◌≤◌, List, [], ◌∷◌, ◌++◌, refl, sym, ap, subst, ◌⊎◌, inl, inr, Bool, true, false, cond}
 use Rattle.std.proofs.Common.{rules}
-use Rattle.std.proofs.lemmas.Bool.{cases_lt}
+use Rattle.std.proofs.lemmas.Bool.{cases_lt, or_parts}
 use Rattle.std.specs.Prelude.{◌↔◌, ◌&&◌, ◌||◌, ◌==◌, IsTrue, Option, Some, None, Contains, not, slice_get}
 use Rattle.std.specs.List.{filter, enumerate_from}
 use Rattle.tree_node.proofs.ClassLemmas.{Contains-head, Contains-tail, Contains-cons_cases}
@@ -9,13 +9,11 @@ use Rattle.site_message.specs.declared.message.Sent.{Sent}
 use Rattle.site_message.specs.declared.turn.Turn.{Turn}
 use Rattle.site_message.specs.Journal.{Wired, IsTravelling, sent_of, travelling, was_delivered, is_number, is_idle, are_idle, is_empty}
 use Rattle.site_message.specs.Rows.{TravellingTells, WiredTells, IsAlone, QuietTells}
-
-pub none_in : {X : Type 0} (x : X) → Contains [] x → ⊥
-none_in x (i, below, is) = omega arith
+use Rattle.tree_node.proofs.OrderLemmas.{none}
 
 -- a filter keeps what passes
 pub kept : {X : Type 0} (p : X → Bool) (xs : List X) (x : X) → Contains xs x → p x ≡ true → Contains (filter p xs) x
-kept p [] x at e = absurd (none_in x at)
+kept p [] x at e = absurd (none x at)
 kept {X} p (y ∷ ys) x at e = go (λ k. kept p ys x k e) (p y) refl (Contains-cons_cases y x ys at)
   where
     go : (Contains ys x → Contains (filter p ys) x) → (b : Bool) → p y ≡ b → (y ≡ x) ⊎ Contains ys x → Contains (cond (p y) (y ∷ filter p ys) (filter p ys)) x
@@ -26,7 +24,7 @@ kept {X} p (y ∷ ys) x at e = go (λ k. kept p ys x k e) (p y) refl (Contains-c
 
 -- and nothing else
 pub passed : {X : Type 0} (p : X → Bool) (xs : List X) (x : X) → Contains (filter p xs) x → Contains xs x × (p x ≡ true)
-passed p [] x at = absurd (none_in x at)
+passed p [] x at = absurd (none x at)
 passed {X} p (y ∷ ys) x at = go (λ k. passed p ys x k) (p y) refl at
   where
     later : Contains ys x × (p x ≡ true) → Contains (y ∷ ys) x × (p x ≡ true)
@@ -55,7 +53,7 @@ abbrev HasNumber : {X : Type 0} → ℕ → List X → ℕ → X → Type 0
 HasNumber n xs m x = (k : ℕ) × (m ≡ n + k) × (slice_get xs k ≡ Some x)
 
 at_number : {X : Type 0} (n : ℕ) (xs : List X) (m : ℕ) (x : X) → Contains (enumerate_from n xs) (m, x) → HasNumber n xs m x
-at_number n [] m x at = absurd (none_in (m, x) at)
+at_number n [] m x at = absurd (none (m, x) at)
 at_number {X} n (y ∷ ys) m x at = go (λ k. at_number (n + 1) ys m x k) (Contains-cons_cases (n, y) (m, x) (enumerate_from (n + 1) ys) at)
   where
     go : (Contains (enumerate_from (n + 1) ys) (m, x) → HasNumber (n + 1) ys m x) → (◌≡◌ {A = ℕ × X} (n, y) (m, x)) ⊎ Contains (enumerate_from (n + 1) ys) (m, x) → HasNumber n (y ∷ ys) m x
@@ -83,19 +81,15 @@ travelling_tells j k m = (there, back)
     back : IsTravelling j k m → Contains (travelling j) (k, m)
     back h = kept (λ (p : ℕ × Sent). not (was_delivered j p.0)) (enumerate_from 0 (sent_of j)) (k, m) (numbered 0 (sent_of j) k k m (omega arith) h.0) (ap not h.1)
 
-either : (a b : Bool) → (a || b) ≡ false → (a ≡ false) × (b ≡ false)
-either true b e = cc
-either false b e = (refl, e)
-
 -- what was delivered and what was sent stays so
-sent_more : {X : Type 0} (xs ys : List X) (k : ℕ) (x : X) → slice_get xs k ≡ Some x → slice_get (xs ++ ys) k ≡ Some x
+pub sent_more : {X : Type 0} (xs ys : List X) (k : ℕ) (x : X) → slice_get xs k ≡ Some x → slice_get (xs ++ ys) k ≡ Some x
 sent_more [] ys k x e = cc
 sent_more (y ∷ xs) ys zero x e = e
 sent_more (y ∷ xs) ys (suc k) x e = sent_more xs ys k x e
 
 undelivered_before : (later earlier : List Turn) (e : Turn) (k : ℕ) → was_delivered (later ++ e ∷ earlier) k ≡ false → is_number e.delivered k ≡ false
-undelivered_before [] earlier e k h = (either (is_number e.delivered k) (was_delivered earlier k) h).0
-undelivered_before (t ∷ later) earlier e k h = undelivered_before later earlier e k (either (is_number t.delivered k) (was_delivered (later ++ e ∷ earlier) k) h).1
+undelivered_before [] earlier e k h = (or_parts (is_number e.delivered k) (was_delivered earlier k) h).0
+undelivered_before (t ∷ later) earlier e k h = undelivered_before later earlier e k (or_parts (is_number t.delivered k) (was_delivered (later ++ e ∷ earlier) k) h).1
 
 is_this : (o : Option ℕ) (k : ℕ) → o ≡ Some k → is_number o k ≡ true
 is_this o k e = rw e (search rules)
@@ -128,7 +122,7 @@ pub wired_tells : WiredTells
 wired_tells j wired later earlier e k is delivered = alone later earlier e k (subst Wired is wired) delivered
 
 none_travels : (ms : List (ℕ × Sent)) → is_empty ms ≡ true ↔ ((k : ℕ) (m : Sent) → Contains ms (k, m) → ⊥)
-none_travels [] = (λ e k m at. none_in (k, m) at, λ h. refl)
+none_travels [] = (λ e k m at. none (k, m) at, λ h. refl)
 none_travels ((k, m) ∷ ms) = (λ e. cc, λ h. absurd (h k m (Contains-head (k, m) ms)))
 
 both_true : (a b : Bool) → IsTrue (a && b) ↔ IsTrue a × IsTrue b

@@ -10,7 +10,9 @@ use Rattle.site_message.specs.declared.turn.Turn.{Turn}
 use Rattle.site_message.specs.Journal.{Wired, sent_of, travelling, was_delivered, is_number, without_number, deliveries, delivers}
 use Rattle.site_message.specs.Rows.{Ascends, TravellingGrows, TravellingAscends, MessagesAddUp, FewAreDelivered}
 use Rattle.site_message.specs.Story.{own}
-use Rattle.site_message.proofs.JournalLemmas.{none_in, travelling_tells}
+use Rattle.site_message.proofs.JournalLemmas.{travelling_tells}
+use Rattle.tree_node.proofs.OrderLemmas.{none}
+use Rattle.std.proofs.lemmas.Bool.{or_cases}
 
 enumerate-append : {X : Type 0} (n : ℕ) (xs ys : List X) → enumerate_from n (xs ++ ys) ≡ enumerate_from n xs ++ enumerate_from (n + length xs) ys
 enumerate-append n [] ys = ap (λ k. enumerate_from k ys) (omega arith)
@@ -28,11 +30,6 @@ filter_step a b x xs false false p q rest = rw (p, q) (rw p (ap (λ l. x ∷ l) 
 filter_twice : {X : Type 0} (a b : X → Bool) (xs : List X) → filter (λ x. not (a x || b x)) xs ≡ filter (λ x. not (a x)) (filter (λ x. not (b x)) xs)
 filter_twice a b [] = refl
 filter_twice a b (x ∷ xs) = filter_step a b x xs (a x) (b x) refl refl (filter_twice a b xs)
-
--- what was delivered was sent
-either : (a b : Bool) → (a || b) ≡ true → (a ≡ true) ⊎ (b ≡ true)
-either true b e = inl refl
-either false b e = inr e
 
 get_inside : {X : Type 0} (xs : List X) (k : ℕ) (x : X) → slice_get xs k ≡ Some x → k < length xs
 get_inside [] k x e = absurd (cc)
@@ -53,7 +50,7 @@ delivered_below (e ∷ j) w k d =
     ⊎_elim
     (λ (h : is_number e.delivered k ≡ true). let b = delivered_inside j e w k h in omega arith)
     (λ (h : was_delivered j k ≡ true). let b = delivered_below j w.0 k h in omega arith)
-    (either (is_number e.delivered k) (was_delivered j k) d)
+    (or_cases (is_number e.delivered k) (was_delivered j k) d)
 
 -- a test that cannot be true is false
 is_false : (b : Bool) → (b ≡ true → ⊥) → b ≡ false
@@ -111,7 +108,7 @@ travelling_ascends j = ascends_filter (undelivered j) 0 (enumerate_from 0 (sent_
 
 -- one number, one message
 number_from : (b : ℕ) (xs : List (ℕ × Sent)) → Ascends b xs → (k : ℕ) (m : Sent) → Contains xs (k, m) → b ≤ k
-number_from b [] h k m at = absurd (none_in (k, m) at)
+number_from b [] h k m at = absurd (none (k, m) at)
 number_from b ((n, s) ∷ ps) h k m at =
     let low : b ≤ n = h.0 in
     ⊎_elim
@@ -127,7 +124,7 @@ none_without k b ((n, s) ∷ ps) h below =
     rw other (ap (λ l. (n, s) ∷ l) (none_without k (n + 1) ps h.1 (omega arith)))
 
 one_without : (b : ℕ) (xs : List (ℕ × Sent)) → Ascends b xs → (k : ℕ) (m : Sent) → Contains xs (k, m) → suc (length (without_number (Some k) xs)) ≡ length xs
-one_without b [] h k m at = absurd (none_in (k, m) at)
+one_without b [] h k m at = absurd (none (k, m) at)
 one_without b ((n, s) ∷ ps) h k m at = ⊎_elim here (λ r. later r (one_without (n + 1) ps h.1 k m r)) (Contains-cons_cases (n, s) (k, m) ps at)
   where
     here : ◌≡◌ {A = ℕ × Sent} (n, s) (k, m) → suc (length (without_number (Some k) ((n, s) ∷ ps))) ≡ length ((n, s) ∷ ps)

@@ -5,7 +5,7 @@ use Rattle.std.proofs.lemmas.List.Elements.{Contains-push, Contains-append_left,
 use Rattle.tree_node.specs.declared.names.VarName.{VarName}
 use Rattle.tree_node.specs.declared.names.ThreadName.{ThreadName}
 use Rattle.tree_node.specs.Each.{Each}
-use Rattle.tree_node.specs.Store.{same_name}
+use Rattle.tree_node.specs.Store.{equal_var}
 use Rattle.tree_node.proofs.ClassLemmas.{same_name_decides, same_name_refl, Contains-cons_cases}
 use Rattle.thread_roster.specs.declared.mode.Mode.{Mode}
 use Rattle.thread_roster.specs.declared.mode.Mode.TheVariants as mode
@@ -16,10 +16,11 @@ use Rattle.thread_roster.specs.Kept.{IsKept}
 use Rattle.thread_roster.specs.Slots.{Slot, Lacks, Holds, IsOnlyAt, IsPlaced, ArePlaced, place_in, changed, StandsAt, AreInside, rouse, rouse_all, total, one, weight, waiting, entry, threads_in, IsLeft, IsRest, IsNext, with_value_in, value_there}
 use Rattle.thread_roster.specs.Threads.{Threads, wake, wake_all, set_mode, set_value, AllWait, IsRunnable}
 use Rattle.tree_node.specs.Assoc.{value_of, without_key}
-use Rattle.tree_node.specs.State.{same_thread}
+use Rattle.tree_node.specs.State.{equal_thread}
 use Rattle.thread_roster.proofs.NameLemmas.{is_same, is_other}
 use Rattle.thread_roster.proofs.SlotLemmas.{placed_set, placed_end, placed_born, total_set, total_end, total_born, only_inside, only_at, held_at, lacking, found, placed_there, has_place, mode_put, value_put, thread_ended, thread_born, living_le}
 use Rattle.thread_roster.proofs.RouseLemmas.{mode_in, roused_all, living_roused, threads_woken}
+use Rattle.tree_node.proofs.EachLemmas.{each_append}
 
 abbrev pub Waiting : Type 0
 Waiting = List (VarName × List ℕ)
@@ -40,10 +41,6 @@ kept_none {V} slots places queue waiting_keys a b c d = rw (a, b, c, d) (empty)
       alive = refl;
       waiters = refl;
     }
-
-pub each_append : {X : Type 0} (P : X → Type 0) (xs ys : List X) → Each P xs → Each P ys → Each P (xs ++ ys)
-each_append P [] ys h g = g
-each_append P (x ∷ xs) ys h g = (h.0, each_append P xs ys h.1 g)
 
 each_take : {X : Type 0} (P : X → Type 0) (n : ℕ) (xs : List X) → Each P xs → Each P (take n xs)
 each_take P zero xs h = tt
@@ -128,11 +125,11 @@ placed_map {V} x slots place h n = go (place n) (h n)
 wake_cases : (x : VarName) (m : Mode) → ((m ≡ mode.Waits x) × (wake x m ≡ mode.Runs)) ⊎ ((wake x m ≡ m) × (m ≢ mode.Waits x))
 wake_cases x mode.Runs = inr (refl, λ e. cc)
 wake_cases x (mode.WaitsFor c) = inr (refl, λ e. cc)
-wake_cases x (mode.Waits y) = go (same_name y x) refl
+wake_cases x (mode.Waits y) = go (equal_var y x) refl
   where
-    go : (b : Bool) → same_name y x ≡ b → ((mode.Waits y ≡ mode.Waits x) × (cond b mode.Runs (mode.Waits y) ≡ mode.Runs)) ⊎ ((cond b mode.Runs (mode.Waits y) ≡ mode.Waits y) × (mode.Waits y ≢ mode.Waits x))
+    go : (b : Bool) → equal_var y x ≡ b → ((mode.Waits y ≡ mode.Waits x) × (cond b mode.Runs (mode.Waits y) ≡ mode.Runs)) ⊎ ((cond b mode.Runs (mode.Waits y) ≡ mode.Waits y) × (mode.Waits y ≢ mode.Waits x))
     go true e = inl (ap mode.Waits ((same_name_decides y x).0 e), refl)
-    go false e = inr (refl, λ k. let same : y ≡ x = cc in let yes : same_name y x ≡ true = subst (λ (z : VarName). same_name y z ≡ true) same (same_name_refl y) in cc)
+    go false e = inr (refl, λ k. let same : y ≡ x = cc in let yes : equal_var y x ≡ true = subst (λ (z : VarName). equal_var y z ≡ true) same (same_name_refl y) in cc)
 
 -- how a roused slot stood
 stood : {V : Type 0} (x : VarName) (slots : List (Slot V)) (j : ℕ) (m : Mode) → StandsAt (map (rouse x) slots) j m → (old : Mode) × StandsAt slots j old × (wake x old ≡ m)
@@ -144,13 +141,13 @@ stood {V} x (Some e ∷ slots) zero m h =
 stood x (o ∷ slots) (suc j) m h = stood x slots j m h
 
 pub kept_map : {V : Type 0} (x : VarName) (slots : List (Slot V)) (places : Places) (queue : List ℕ) (waiting_keys left : Waiting) (a b c : ℕ) → IsKept slots places queue waiting_keys a b →
-    ((y : VarName) → keys_among left y ≡ keys.woken (keys_among waiting_keys) x y) → c ≡ total waiting (map (rouse x) slots) → IsKept (map (rouse x) slots) places (queue ++ keys_among waiting_keys x) left a c
+    ((y : VarName) → keys_among left y ≡ keys.without_keys (keys_among waiting_keys) x y) → c ≡ total waiting (map (rouse x) slots) → IsKept (map (rouse x) slots) places (queue ++ keys_among waiting_keys x) left a c
 kept_map {V} x slots places queue waiting_keys left a b c h rest counted = record {
   placed = placed_map x slots (place_in places) h.placed;
   queued = λ j s. goes j (stood x slots j mode.Runs s);
   parked = λ j y s. waits j y (stood x slots j (mode.Waits y) s);
   inside = inside_same slots (map (rouse x) slots) (queue ++ keys_among waiting_keys x) (map_length x slots) (each_append _ queue (keys_among waiting_keys x) h.inside (h.keys_inside x));
-  keys_inside = λ y. subst (λ (js : List ℕ). AreInside (map (rouse x) slots) js) (sym (rest y)) (some y (same_name x y));
+  keys_inside = λ y. subst (λ (js : List ℕ). AreInside (map (rouse x) slots) js) (sym (rest y)) (some y (equal_var x y));
   alive = h.alive ∙ sym (living_roused x slots);
   waiters = counted;
 }
@@ -165,13 +162,13 @@ kept_map {V} x slots places queue waiting_keys left a b c h rest counted = recor
     waits : (j : ℕ) (y : VarName) → (old : Mode) × StandsAt slots j old × (wake x old ≡ mode.Waits y) → Contains (keys_among left y) j
     waits j y (old, at, is) = go (wake_cases x old)
       where
-        there : (r : Bool) → same_name x y ≡ r → old ≡ mode.Waits y → old ≢ mode.Waits x → Contains (cond r [] (keys_among waiting_keys y)) j
+        there : (r : Bool) → equal_var x y ≡ r → old ≡ mode.Waits y → old ≢ mode.Waits x → Contains (cond r [] (keys_among waiting_keys y)) j
         there true e k l = absurd (l (k ∙ ap mode.Waits (sym ((same_name_decides x y).0 e))))
         there false e k l = h.parked j y (at.0, at.1, at.2 ∙ k)
 
         go : ((old ≡ mode.Waits x) × (wake x old ≡ mode.Runs)) ⊎ ((wake x old ≡ old) × (old ≢ mode.Waits x)) → Contains (keys_among left y) j
         go (inl w) = let both : mode.Runs ≡ mode.Waits y = sym w.1 ∙ is in cc
-        go (inr s) = subst (λ (js : List ℕ). Contains js j) (sym (rest y)) (there (same_name x y) refl (sym s.0 ∙ is) s.1)
+        go (inr s) = subst (λ (js : List ℕ). Contains js j) (sym (rest y)) (there (equal_var x y) refl (sym s.0 ∙ is) s.1)
 
     some : (y : VarName) (r : Bool) → AreInside (map (rouse x) slots) (cond r [] (keys_among waiting_keys y))
     some y true = tt
@@ -190,7 +187,7 @@ kept_spare x slots places queue now js waiting_keys a b h e k =
     (kept_more slots places queue (take k.0 js) waiting_keys a b h (each_take _ k.0 js (subst (λ (l : List ℕ). AreInside slots l) (sym e) (h.keys_inside x))))
 
 pub kept_roused : {V : Type 0} (x : VarName) (slots now : List (Slot V)) (places : Places) (queue more js : List ℕ) (waiting_keys left : Waiting) (a b c : ℕ) → IsKept slots places queue waiting_keys a b → js ≡ keys_among waiting_keys x → more ≡ queue ++ js →
-    now ≡ rouse_all x slots js → ((y : VarName) → keys_among left y ≡ keys.woken (keys_among waiting_keys) x y) → c ≡ total waiting now → IsKept now places more left a c
+    now ≡ rouse_all x slots js → ((y : VarName) → keys_among left y ≡ keys.without_keys (keys_among waiting_keys) x y) → c ≡ total waiting now → IsKept now places more left a c
 kept_roused {V} x slots now places queue more js waiting_keys left a b c h e m f rest counted =
     let all : now ≡ map (rouse x) slots = slots_roused x slots now places queue js waiting_keys a b h e f in
     let longer : more ≡ queue ++ keys_among waiting_keys x = m ∙ ap (λ (l : List ℕ). queue ++ l) e in
@@ -245,7 +242,7 @@ kept_set {V} slots places queue more waiting_keys left a b c n i old new h e at 
 -- it waits for a variable, and its slot is one more key there
 pub kept_waits : {V : Type 0} (slots now : List (Slot V)) (places : Places) (queue : List ℕ) (waiting_keys left : Waiting) (a b c : ℕ) (n : ThreadName) (i : ℕ) (old : Held V) (x : VarName) → IsKept slots places queue waiting_keys a b →
     place_in places n ≡ Some i → slice_get slots i ≡ Some (Some old) → old.name ≡ n → now ≡ slice_set slots i (Some (record old { mode = mode.Waits x })) →
-    ((y : VarName) → keys_among left y ≡ keys.queued (keys_among waiting_keys) x i y) → c + weight old.mode ≡ b + 1 → IsKept now places queue left a c
+    ((y : VarName) → keys_among left y ≡ keys.with_key (keys_among waiting_keys) x i y) → c + weight old.mode ≡ b + 1 → IsKept now places queue left a c
 kept_waits {V} slots now places queue waiting_keys left a b c n i old x h e at is f rest counted =
     subst (λ (l : List (Slot V)). IsKept l places queue left a c) (sym f)
     (kept_set slots places queue queue waiting_keys left a b c n i old (record old { mode = mode.Waits x }) h e at is (λ j k. k) (λ y j k. keeps y j k) (λ r. cc) (λ y w. there y (ap for_var w)) h.inside (λ y. inside y) counted)
@@ -262,7 +259,7 @@ kept_waits {V} slots now places queue waiting_keys left a b c n i old x h e at i
     more y j false k = k
 
     keeps : (y : VarName) (j : ℕ) → Contains (keys_among waiting_keys y) j → Contains (keys_among left y) j
-    keeps y j k = subst (λ (js : List ℕ). Contains js j) (sym (rest y)) (more y j (same_name x y) k)
+    keeps y j k = subst (λ (js : List ℕ). Contains js j) (sym (rest y)) (more y j (equal_var x y) k)
 
     there : (y : VarName) → x ≡ y → Contains (keys_among left y) i
     there y same = subst (λ (js : List ℕ). Contains js i) (sym (rest y))
@@ -273,7 +270,7 @@ kept_waits {V} slots now places queue waiting_keys left a b c n i old x h e at i
     each_more false js g = g
 
     inside : (y : VarName) → AreInside slots (keys_among left y)
-    inside y = subst (λ (js : List ℕ). AreInside slots js) (sym (rest y)) (each_more (same_name x y) (keys_among waiting_keys y) (h.keys_inside y))
+    inside y = subst (λ (js : List ℕ). AreInside slots js) (sym (rest y)) (each_more (equal_var x y) (keys_among waiting_keys y) (h.keys_inside y))
 
 -- it waits for something else
 pub kept_waits_for : {V : Type 0} (slots now : List (Slot V)) (places : Places) (queue : List ℕ) (waiting_keys : Waiting) (a b c : ℕ) (n : ThreadName) (i : ℕ) (old : Held V) (m : Mode) → IsKept slots places queue waiting_keys a b →
@@ -439,7 +436,7 @@ pub value_view : {V : Type 0} (slots : List (Slot V)) (place : ThreadName → Op
     threads_in (slice_set slots i (Some (record h { value = v }))) ≡ set_value (threads_in slots) n v
 value_view slots place n i h v placed e at is = value_put n slots i h v (only_at slots place n i placed e) at is
 
-pub end_view : {V : Type 0} (slots now : List (Slot V)) (place : ThreadName → Option ℕ) (n : ThreadName) (i : ℕ) → ArePlaced slots place → place n ≡ Some i → now ≡ slice_set slots i None → threads_in now ≡ without_key same_thread (threads_in slots) n
+pub end_view : {V : Type 0} (slots now : List (Slot V)) (place : ThreadName → Option ℕ) (n : ThreadName) (i : ℕ) → ArePlaced slots place → place n ≡ Some i → now ≡ slice_set slots i None → threads_in now ≡ without_key equal_thread (threads_in slots) n
 end_view {V} slots now place n i placed e f = ap (λ (l : List (Slot V)). threads_in l) f ∙ thread_ended n slots i (only_at slots place n i placed e)
 
 -- the number of those that have ended
@@ -478,7 +475,7 @@ wake_view {V} x slots now f = ap (λ (l : List (Slot V)). threads_in l) f ∙ th
 
 -- ---- a name without a thread, and one with one
 
-pub no_place : {V : Type 0} (slots : List (Slot V)) (place : ThreadName → Option ℕ) (n : ThreadName) → ArePlaced slots place → value_of same_thread (threads_in slots) n ≡ None → place n ≡ None
+pub no_place : {V : Type 0} (slots : List (Slot V)) (place : ThreadName → Option ℕ) (n : ThreadName) → ArePlaced slots place → value_of equal_thread (threads_in slots) n ≡ None → place n ≡ None
 no_place {V} slots place n placed none = go (place n) refl
   where
     go : (o : Option ℕ) → place n ≡ o → place n ≡ None
@@ -489,7 +486,7 @@ no_place {V} slots place n placed none = go (place n) refl
         let there = found n slots i held.0 only held.1 in
         let both : ◌≡◌ {A = Option (V × Mode)} None (Some (held.0.value, held.0.mode)) = sym none ∙ there in cc
 
-pub no_thread : {V : Type 0} (slots : List (Slot V)) (place : ThreadName → Option ℕ) (n : ThreadName) → ArePlaced slots place → place n ≡ None → value_of same_thread (threads_in slots) n ≡ None
+pub no_thread : {V : Type 0} (slots : List (Slot V)) (place : ThreadName → Option ℕ) (n : ThreadName) → ArePlaced slots place → place n ≡ None → value_of equal_thread (threads_in slots) n ≡ None
 no_thread {V} slots place n placed e = lacking n slots (subst (λ (o : Option ℕ). IsPlaced slots n o) e (placed n))
 
 pub thread_there : {V : Type 0} (slots : List (Slot V)) (place : ThreadName → Option ℕ) (n : ThreadName) (i : ℕ) → ArePlaced slots place → place n ≡ Some i → (h : Held V) × (slice_get slots i ≡ Some (Some h)) × (h.name ≡ n)
@@ -499,7 +496,7 @@ pub inside_there : {V : Type 0} (slots : List (Slot V)) (place : ThreadName → 
 inside_there slots place n i placed e = only_inside slots n i (only_at slots place n i placed e)
 
 pub value_found : {V : Type 0} (slots : List (Slot V)) (place : ThreadName → Option ℕ) (n : ThreadName) (i : ℕ) (h : Held V) → ArePlaced slots place → place n ≡ Some i → slice_get slots i ≡ Some (Some h) →
-    value_of same_thread (threads_in slots) n ≡ Some (h.value, h.mode)
+    value_of equal_thread (threads_in slots) n ≡ Some (h.value, h.mode)
 value_found slots place n i h placed e at = found n slots i h (only_at slots place n i placed e) at
 
 -- what was popped was the first
@@ -529,14 +526,14 @@ pub place_is : {V : Type 0} (slots : List (Slot V)) (place : ThreadName → Opti
 place_is slots place i None n placed at h = absurd h
 place_is slots place i (Some k) n placed at h = sym (placed_there slots place i k n placed at h)
 
-pub lives_there : {V : Type 0} (slots : List (Slot V)) (place : ThreadName → Option ℕ) (n : ThreadName) (o : Option ℕ) → ArePlaced slots place → o ≡ place n → IsSome o → IsSome (value_of same_thread (threads_in slots) n)
+pub lives_there : {V : Type 0} (slots : List (Slot V)) (place : ThreadName → Option ℕ) (n : ThreadName) (o : Option ℕ) → ArePlaced slots place → o ≡ place n → IsSome o → IsSome (value_of equal_thread (threads_in slots) n)
 lives_there slots place n None placed e some = cc
 lives_there slots place n (Some i) placed e some =
     let only = only_at slots place n i placed (sym e) in
     let held = held_at slots n i only in
     rw (found n slots i held.0 only held.1) refl
 
-pub there_lives : {V : Type 0} (slots : List (Slot V)) (place : ThreadName → Option ℕ) (n : ThreadName) (o : Option ℕ) → ArePlaced slots place → o ≡ place n → IsSome (value_of same_thread (threads_in slots) n) → IsSome o
+pub there_lives : {V : Type 0} (slots : List (Slot V)) (place : ThreadName → Option ℕ) (n : ThreadName) (o : Option ℕ) → ArePlaced slots place → o ≡ place n → IsSome (value_of equal_thread (threads_in slots) n) → IsSome o
 there_lives slots place n None placed e some = absurd (has_place slots place n placed some e)
 there_lives slots place n (Some i) placed e some = refl
 

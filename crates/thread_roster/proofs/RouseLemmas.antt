@@ -2,7 +2,7 @@
 use Rattle.std.proofs.Common.{arith, length-append, ◌≡◌, ◌≢◌, ◌∙◌, sym, ap, refl, subst, ℕ, ◌+◌, ◌≤◌, zero, suc, length, map, filter, ◌⊎◌, inl, inr, List, [], ◌∷◌, ◌++◌, Bool, true, false, cond, Some, None}
 use Rattle.std.specs.Prelude.{slice_set, slice_get, Contains}
 use Rattle.tree_node.specs.declared.names.VarName.{VarName}
-use Rattle.tree_node.specs.Store.{same_name}
+use Rattle.tree_node.specs.Store.{equal_var}
 use Rattle.tree_node.proofs.ClassLemmas.{same_name_decides, same_name_refl, Contains-cons_cases}
 use Rattle.thread_roster.specs.declared.mode.Mode.{Mode}
 use Rattle.thread_roster.specs.declared.mode.Mode.TheVariants as mode
@@ -28,9 +28,9 @@ roused_some slots now k x h g at made e = e ∙ rw made (set_same slots k (Some 
 wake_twice : (x : VarName) (m : Mode) → wake x (wake x m) ≡ wake x m
 wake_twice x mode.Runs = refl
 wake_twice x (mode.WaitsFor c) = refl
-wake_twice x (mode.Waits y) = go (same_name y x) refl
+wake_twice x (mode.Waits y) = go (equal_var y x) refl
   where
-    go : (b : Bool) → same_name y x ≡ b → wake x (cond b mode.Runs (mode.Waits y)) ≡ cond b mode.Runs (mode.Waits y)
+    go : (b : Bool) → equal_var y x ≡ b → wake x (cond b mode.Runs (mode.Waits y)) ≡ cond b mode.Runs (mode.Waits y)
     go true e = refl
     go false e = rw e refl
 
@@ -47,9 +47,9 @@ map_rouse_at {V} x (o ∷ slots) (suc k) = ap (λ (l : List (Slot V)). rouse x o
 not_woken : (x : VarName) (m : Mode) → m ≢ mode.Waits x → wake x m ≡ m
 not_woken x mode.Runs h = refl
 not_woken x (mode.WaitsFor c) h = refl
-not_woken x (mode.Waits y) h = go (same_name y x) refl
+not_woken x (mode.Waits y) h = go (equal_var y x) refl
   where
-    go : (b : Bool) → same_name y x ≡ b → cond b mode.Runs (mode.Waits y) ≡ mode.Waits y
+    go : (b : Bool) → equal_var y x ≡ b → cond b mode.Runs (mode.Waits y) ≡ mode.Waits y
     go false e = refl
     go true e = absurd (h (ap mode.Waits ((same_name_decides y x).0 e)))
 
@@ -72,13 +72,13 @@ mode_in (Some h) = h.mode
 wake_goes : (x : VarName) (m : Mode) → wake x m ≡ mode.Waits x → ⊥
 wake_goes x mode.Runs e = cc
 wake_goes x (mode.WaitsFor c) e = cc
-wake_goes x (mode.Waits y) e = go (same_name y x) refl e
+wake_goes x (mode.Waits y) e = go (equal_var y x) refl e
   where
-    go : (b : Bool) → same_name y x ≡ b → cond b mode.Runs (mode.Waits y) ≡ mode.Waits x → ⊥
+    go : (b : Bool) → equal_var y x ≡ b → cond b mode.Runs (mode.Waits y) ≡ mode.Waits x → ⊥
     go true q k = cc
     go false q k =
         let same : y ≡ x = cc in
-        let yes : same_name y x ≡ true = subst (λ (z : VarName). same_name y z ≡ true) same (same_name_refl y) in cc
+        let yes : equal_var y x ≡ true = subst (λ (z : VarName). equal_var y z ≡ true) same (same_name_refl y) in cc
 
 roused_goes : {V : Type 0} (x : VarName) (o : Slot V) (h : Held V) → rouse x o ≡ Some h → h.mode ≡ mode.Waits x → ⊥
 roused_goes x None h is m = cc

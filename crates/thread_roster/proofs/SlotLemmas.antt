@@ -5,7 +5,7 @@ use Rattle.std.proofs.lemmas.Option.{slice_get-get_or}
 use Rattle.tree_node.specs.declared.names.ThreadName.{ThreadName}
 use Rattle.tree_node.specs.Assoc.{value_of, without_key}
 use Rattle.tree_node.specs.Each.{Each}
-use Rattle.tree_node.specs.State.{same_thread}
+use Rattle.tree_node.specs.State.{equal_thread}
 use Rattle.thread_roster.specs.declared.mode.Mode.{Mode}
 use Rattle.thread_roster.specs.declared.slot.Held.{Held}
 use Rattle.thread_roster.specs.Threads.{Entry, set_value, set_mode, is_waiting}
@@ -16,12 +16,12 @@ use Rattle.thread_roster.proofs.NameLemmas.{is_same, is_other, name_cases, value
 pub at_index : {X : Type 0} (xs : List X) (i : ℕ) (x : X) → i < length xs → x ≡ get_or xs i x → slice_get xs i ≡ Some x
 at_index xs i x below e = slice_get-get_or xs i x below ∙ ap Some (sym e)
 
-pub lacking : {V : Type 0} (n : ThreadName) (slots : List (Slot V)) → Each (Lacks n) slots → value_of same_thread (threads_in slots) n ≡ None
+pub lacking : {V : Type 0} (n : ThreadName) (slots : List (Slot V)) → Each (Lacks n) slots → value_of equal_thread (threads_in slots) n ≡ None
 lacking n [] h = refl
 lacking n (None ∷ slots) h = lacking n slots h.1
 lacking n (Some h ∷ slots) l = value_right (threads_in slots) (entry h ∷ []) n (lacking n slots l.1) ∙ one_other (entry h) n l.0
 
-pub found : {V : Type 0} (n : ThreadName) (slots : List (Slot V)) (i : ℕ) (h : Held V) → IsOnlyAt n slots i → slice_get slots i ≡ Some (Some h) → value_of same_thread (threads_in slots) n ≡ Some (h.value, h.mode)
+pub found : {V : Type 0} (n : ThreadName) (slots : List (Slot V)) (i : ℕ) (h : Held V) → IsOnlyAt n slots i → slice_get slots i ≡ Some (Some h) → value_of equal_thread (threads_in slots) n ≡ Some (h.value, h.mode)
 found n [] i h l e = absurd l
 found n (None ∷ slots) zero h l e = absurd l.0
 found {V} n (Some k ∷ slots) zero h l e =
@@ -69,11 +69,11 @@ pub only_at : {V : Type 0} (slots : List (Slot V)) (place : ThreadName → Optio
 only_at slots place n i all e = subst (λ (o : Option ℕ). IsPlaced slots n o) e (all n)
 
 -- a name with a value has a slot
-pub has_place : {V : Type 0} (slots : List (Slot V)) (place : ThreadName → Option ℕ) (n : ThreadName) → ArePlaced slots place → IsSome (value_of same_thread (threads_in slots) n) → None ≡ place n → ⊥
+pub has_place : {V : Type 0} (slots : List (Slot V)) (place : ThreadName → Option ℕ) (n : ThreadName) → ArePlaced slots place → IsSome (value_of equal_thread (threads_in slots) n) → None ≡ place n → ⊥
 has_place {V} slots place n all some none =
     let lacks : Each (Lacks n) slots = subst (λ (o : Option ℕ). IsPlaced slots n o) (sym none) (all n) in
-    let gone : value_of same_thread (threads_in slots) n ≡ None = lacking n slots lacks in
-    go (value_of same_thread (threads_in slots) n) some gone
+    let gone : value_of equal_thread (threads_in slots) n ≡ None = lacking n slots lacks in
+    go (value_of equal_thread (threads_in slots) n) some gone
   where
     go : (o : Option (V × Mode)) → IsSome o → o ≡ None → ⊥
     go None s e = cc
@@ -104,17 +104,17 @@ pub value_put : {V : Type 0} (n : ThreadName) (slots : List (Slot V)) (i : ℕ) 
     threads_in (slice_set slots i (Some (record h { value = v }))) ≡ set_value (threads_in slots) n v
 value_put {V} n slots i h v l e is = both_set (λ (w : V × Mode). (v, w.1)) n slots i h (record h { value = v }) l e is refl ∙ set_value_both (threads_in slots) n v
 
-pub thread_ended : {V : Type 0} (n : ThreadName) (slots : List (Slot V)) (i : ℕ) → IsOnlyAt n slots i → threads_in (slice_set slots i None) ≡ without_key same_thread (threads_in slots) n
+pub thread_ended : {V : Type 0} (n : ThreadName) (slots : List (Slot V)) (i : ℕ) → IsOnlyAt n slots i → threads_in (slice_set slots i None) ≡ without_key equal_thread (threads_in slots) n
 thread_ended n [] i l = absurd l
 thread_ended n (None ∷ slots) zero l = absurd l.0
 thread_ended {V} n (Some h ∷ slots) zero l =
-    let gone : without_key same_thread (entry h ∷ []) n ≡ [] = rw (is_same h.name n l.0) refl in
-    sym (without_append (threads_in slots) (entry h ∷ []) n ∙ (ap (λ (xs : List (Entry V)). without_key same_thread (threads_in slots) n ++ xs) gone ∙ (append_nil (without_key same_thread (threads_in slots) n) ∙ without_none (threads_in slots) n (lacking n slots l.1))))
+    let gone : without_key equal_thread (entry h ∷ []) n ≡ [] = rw (is_same h.name n l.0) refl in
+    sym (without_append (threads_in slots) (entry h ∷ []) n ∙ (ap (λ (xs : List (Entry V)). without_key equal_thread (threads_in slots) n ++ xs) gone ∙ (append_nil (without_key equal_thread (threads_in slots) n) ∙ without_none (threads_in slots) n (lacking n slots l.1))))
 thread_ended n (None ∷ slots) (suc i) l = thread_ended n slots i l.1
 thread_ended {V} n (Some h ∷ slots) (suc i) l =
-    let stays : without_key same_thread (entry h ∷ []) n ≡ entry h ∷ [] = rw (is_other h.name n l.0) refl in
+    let stays : without_key equal_thread (entry h ∷ []) n ≡ entry h ∷ [] = rw (is_other h.name n l.0) refl in
     ap (λ (xs : List (Entry V)). xs ++ entry h ∷ []) (thread_ended n slots i l.1)
-    ∙ sym (without_append (threads_in slots) (entry h ∷ []) n ∙ ap (λ (xs : List (Entry V)). without_key same_thread (threads_in slots) n ++ xs) stays)
+    ∙ sym (without_append (threads_in slots) (entry h ∷ []) n ∙ ap (λ (xs : List (Entry V)). without_key equal_thread (threads_in slots) n ++ xs) stays)
 
 pub thread_born : {V : Type 0} (slots : List (Slot V)) (h : Held V) → threads_in (slots ++ Some h ∷ []) ≡ entry h ∷ threads_in slots
 thread_born [] h = refl

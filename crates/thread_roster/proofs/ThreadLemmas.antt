@@ -5,28 +5,29 @@ use Rattle.tree_node.specs.declared.names.VarName.{VarName}
 use Rattle.tree_node.specs.declared.names.ThreadName.{ThreadName}
 use Rattle.tree_node.specs.Assoc.{value_of, with_value, without_key}
 use Rattle.tree_node.specs.Each.{Each}
-use Rattle.tree_node.specs.State.{same_thread}
+use Rattle.tree_node.specs.State.{equal_thread}
 use Rattle.thread_roster.specs.declared.mode.Mode.{Mode}
 use Rattle.thread_roster.specs.declared.mode.Mode.TheVariants as mode
 use Rattle.thread_roster.specs.Threads.{Entry, is_waiting, waiting_of, seen, set_value, set_mode, wake, wake_all}
-use Rattle.thread_roster.proofs.NameLemmas.{is_same, same_thread_decides}
+use Rattle.thread_roster.proofs.NameLemmas.{is_same}
+use Rattle.tree_node.proofs.NameLemmas.{same_thread_decides}
 
 -- ---- what is seen of a list that changes
 
-pub seen_found : {V W : Type 0} (g : V × Mode → W) (ts : List (Entry V)) (n : ThreadName) (e : V × Mode) → value_of same_thread ts n ≡ Some e → value_of same_thread (seen g ts) n ≡ Some (g e)
+pub seen_found : {V W : Type 0} (g : V × Mode → W) (ts : List (Entry V)) (n : ThreadName) (e : V × Mode) → value_of equal_thread ts n ≡ Some e → value_of equal_thread (seen g ts) n ≡ Some (g e)
 seen_found g [] n e h = cc
-seen_found {V} {W} g (t ∷ ts) n e h = go (same_thread t.0 n) h (λ k. seen_found g ts n e k)
+seen_found {V} {W} g (t ∷ ts) n e h = go (equal_thread t.0 n) h (λ k. seen_found g ts n e k)
   where
-    go : (b : Bool) → cond b (Some t.1) (value_of same_thread ts n) ≡ Some e → (value_of same_thread ts n ≡ Some e → value_of same_thread (seen g ts) n ≡ Some (g e)) →
-        cond b (Some (g t.1)) (value_of same_thread (seen g ts) n) ≡ Some (g e)
+    go : (b : Bool) → cond b (Some t.1) (value_of equal_thread ts n) ≡ Some e → (value_of equal_thread ts n ≡ Some e → value_of equal_thread (seen g ts) n ≡ Some (g e)) →
+        cond b (Some (g t.1)) (value_of equal_thread (seen g ts) n) ≡ Some (g e)
     go true k ih = let same : t.1 ≡ e = cc in ap (λ (u : V × Mode). Some (g u)) same
     go false k ih = ih k
 
-pub seen_none : {V W : Type 0} (g : V × Mode → W) (ts : List (Entry V)) (n : ThreadName) → value_of same_thread ts n ≡ None → value_of same_thread (seen g ts) n ≡ None
+pub seen_none : {V W : Type 0} (g : V × Mode → W) (ts : List (Entry V)) (n : ThreadName) → value_of equal_thread ts n ≡ None → value_of equal_thread (seen g ts) n ≡ None
 seen_none g [] n h = refl
-seen_none {V} {W} g (t ∷ ts) n h = go (same_thread t.0 n) h (λ k. seen_none g ts n k)
+seen_none {V} {W} g (t ∷ ts) n h = go (equal_thread t.0 n) h (λ k. seen_none g ts n k)
   where
-    go : (b : Bool) → cond b (Some t.1) (value_of same_thread ts n) ≡ None → (value_of same_thread ts n ≡ None → value_of same_thread (seen g ts) n ≡ None) → cond b (Some (g t.1)) (value_of same_thread (seen g ts) n) ≡ None
+    go : (b : Bool) → cond b (Some t.1) (value_of equal_thread ts n) ≡ None → (value_of equal_thread ts n ≡ None → value_of equal_thread (seen g ts) n ≡ None) → cond b (Some (g t.1)) (value_of equal_thread (seen g ts) n) ≡ None
     go true k ih = cc
     go false k ih = ih k
 
@@ -34,39 +35,39 @@ pub seen_length : {V W : Type 0} (g : V × Mode → W) (ts : List (Entry V)) →
 seen_length g [] = refl
 seen_length g (t ∷ ts) = ap suc (seen_length g ts)
 
-pub seen_end : {V W : Type 0} (g : V × Mode → W) (ts : List (Entry V)) (n : ThreadName) → seen g (without_key same_thread ts n) ≡ without_key same_thread (seen g ts) n
+pub seen_end : {V W : Type 0} (g : V × Mode → W) (ts : List (Entry V)) (n : ThreadName) → seen g (without_key equal_thread ts n) ≡ without_key equal_thread (seen g ts) n
 seen_end g [] n = refl
-seen_end {V} {W} g (t ∷ ts) n = go (same_thread t.0 n) (seen_end g ts n)
+seen_end {V} {W} g (t ∷ ts) n = go (equal_thread t.0 n) (seen_end g ts n)
   where
-    go : (b : Bool) → seen g (without_key same_thread ts n) ≡ without_key same_thread (seen g ts) n →
-        seen g (cond b (without_key same_thread ts n) (t ∷ without_key same_thread ts n)) ≡ cond b (without_key same_thread (seen g ts) n) ((t.0, g t.1) ∷ without_key same_thread (seen g ts) n)
+    go : (b : Bool) → seen g (without_key equal_thread ts n) ≡ without_key equal_thread (seen g ts) n →
+        seen g (cond b (without_key equal_thread ts n) (t ∷ without_key equal_thread ts n)) ≡ cond b (without_key equal_thread (seen g ts) n) ((t.0, g t.1) ∷ without_key equal_thread (seen g ts) n)
     go true ih = ih
     go false ih = ap (λ (l : List (ThreadName × W)). (t.0, g t.1) ∷ l) ih
 
-pub seen_value : {V W : Type 0} (g : V × Mode → W) (ts : List (Entry V)) (n : ThreadName) (v : V) (m : Mode) (w : V) → value_of same_thread ts n ≡ Some (v, m) → seen g (set_value ts n w) ≡ with_value same_thread (seen g ts) n (g (w, m))
+pub seen_value : {V W : Type 0} (g : V × Mode → W) (ts : List (Entry V)) (n : ThreadName) (v : V) (m : Mode) (w : V) → value_of equal_thread ts n ≡ Some (v, m) → seen g (set_value ts n w) ≡ with_value equal_thread (seen g ts) n (g (w, m))
 seen_value g [] n v m w h = refl
-seen_value {V} {W} g (t ∷ ts) n v m w h = go (same_thread t.0 n) h (λ k. seen_value g ts n v m w k)
+seen_value {V} {W} g (t ∷ ts) n v m w h = go (equal_thread t.0 n) h (λ k. seen_value g ts n v m w k)
   where
-    go : (b : Bool) → cond b (Some t.1) (value_of same_thread ts n) ≡ Some (v, m) → (value_of same_thread ts n ≡ Some (v, m) → seen g (set_value ts n w) ≡ with_value same_thread (seen g ts) n (g (w, m))) →
-        seen g (cond b ((n, (w, t.1.1)) ∷ ts) (t ∷ set_value ts n w)) ≡ cond b ((n, g (w, m)) ∷ seen g ts) ((t.0, g t.1) ∷ with_value same_thread (seen g ts) n (g (w, m)))
+    go : (b : Bool) → cond b (Some t.1) (value_of equal_thread ts n) ≡ Some (v, m) → (value_of equal_thread ts n ≡ Some (v, m) → seen g (set_value ts n w) ≡ with_value equal_thread (seen g ts) n (g (w, m))) →
+        seen g (cond b ((n, (w, t.1.1)) ∷ ts) (t ∷ set_value ts n w)) ≡ cond b ((n, g (w, m)) ∷ seen g ts) ((t.0, g t.1) ∷ with_value equal_thread (seen g ts) n (g (w, m)))
     go true k ih = let same : t.1 ≡ (v, m) = cc in ap (λ (u : V × Mode). (n, g (w, u.1)) ∷ seen g ts) same
     go false k ih = ap (λ (l : List (ThreadName × W)). (t.0, g t.1) ∷ l) (ih k)
 
-pub seen_mode : {V W : Type 0} (g : V × Mode → W) (ts : List (Entry V)) (n : ThreadName) (v : V) (m k : Mode) → value_of same_thread ts n ≡ Some (v, m) → seen g (set_mode ts n k) ≡ with_value same_thread (seen g ts) n (g (v, k))
+pub seen_mode : {V W : Type 0} (g : V × Mode → W) (ts : List (Entry V)) (n : ThreadName) (v : V) (m k : Mode) → value_of equal_thread ts n ≡ Some (v, m) → seen g (set_mode ts n k) ≡ with_value equal_thread (seen g ts) n (g (v, k))
 seen_mode g [] n v m k h = refl
-seen_mode {V} {W} g (t ∷ ts) n v m k h = go (same_thread t.0 n) h (λ q. seen_mode g ts n v m k q)
+seen_mode {V} {W} g (t ∷ ts) n v m k h = go (equal_thread t.0 n) h (λ q. seen_mode g ts n v m k q)
   where
-    go : (b : Bool) → cond b (Some t.1) (value_of same_thread ts n) ≡ Some (v, m) → (value_of same_thread ts n ≡ Some (v, m) → seen g (set_mode ts n k) ≡ with_value same_thread (seen g ts) n (g (v, k))) →
-        seen g (cond b ((n, (t.1.0, k)) ∷ ts) (t ∷ set_mode ts n k)) ≡ cond b ((n, g (v, k)) ∷ seen g ts) ((t.0, g t.1) ∷ with_value same_thread (seen g ts) n (g (v, k)))
+    go : (b : Bool) → cond b (Some t.1) (value_of equal_thread ts n) ≡ Some (v, m) → (value_of equal_thread ts n ≡ Some (v, m) → seen g (set_mode ts n k) ≡ with_value equal_thread (seen g ts) n (g (v, k))) →
+        seen g (cond b ((n, (t.1.0, k)) ∷ ts) (t ∷ set_mode ts n k)) ≡ cond b ((n, g (v, k)) ∷ seen g ts) ((t.0, g t.1) ∷ with_value equal_thread (seen g ts) n (g (v, k)))
     go true q ih = let same : t.1 ≡ (v, m) = cc in ap (λ (u : V × Mode). (n, g (u.0, k)) ∷ seen g ts) same
     go false q ih = ap (λ (l : List (ThreadName × W)). (t.0, g t.1) ∷ l) (ih q)
 
 -- who sees no modes sees nothing of how a thread stands
 pub values_mode : {V W : Type 0} (f : V → W) (ts : List (Entry V)) (n : ThreadName) (k : Mode) → seen (λ (e : V × Mode). f e.0) (set_mode ts n k) ≡ seen (λ (e : V × Mode). f e.0) ts
 values_mode f [] n k = refl
-values_mode {V} {W} f (t ∷ ts) n k = go (same_thread t.0 n) refl (values_mode f ts n k)
+values_mode {V} {W} f (t ∷ ts) n k = go (equal_thread t.0 n) refl (values_mode f ts n k)
   where
-    go : (b : Bool) → same_thread t.0 n ≡ b → seen (λ (e : V × Mode). f e.0) (set_mode ts n k) ≡ seen (λ (e : V × Mode). f e.0) ts →
+    go : (b : Bool) → equal_thread t.0 n ≡ b → seen (λ (e : V × Mode). f e.0) (set_mode ts n k) ≡ seen (λ (e : V × Mode). f e.0) ts →
         seen (λ (e : V × Mode). f e.0) (cond b ((n, (t.1.0, k)) ∷ ts) (t ∷ set_mode ts n k)) ≡ (t.0, f t.1.0) ∷ seen (λ (e : V × Mode). f e.0) ts
     go true q ih = ap (λ (x : ThreadName). (x, f t.1.0) ∷ seen (λ (e : V × Mode). f e.0) ts) (sym ((same_thread_decides t.0 n).0 q))
     go false q ih = ap (λ (l : List (ThreadName × W)). (t.0, f t.1.0) ∷ l) ih
@@ -77,21 +78,21 @@ values_woken {V} {W} f x (t ∷ ts) = ap (λ (l : List (ThreadName × W)). (t.0,
 
 -- ---- the thread that changed
 
-pub value_there : {V : Type 0} (ts : List (Entry V)) (n : ThreadName) (v : V) (m : Mode) (w : V) → value_of same_thread ts n ≡ Some (v, m) → value_of same_thread (set_value ts n w) n ≡ Some (w, m)
+pub value_there : {V : Type 0} (ts : List (Entry V)) (n : ThreadName) (v : V) (m : Mode) (w : V) → value_of equal_thread ts n ≡ Some (v, m) → value_of equal_thread (set_value ts n w) n ≡ Some (w, m)
 value_there [] n v m w h = cc
-value_there {V} (t ∷ ts) n v m w h = go (same_thread t.0 n) refl h (λ k. value_there ts n v m w k)
+value_there {V} (t ∷ ts) n v m w h = go (equal_thread t.0 n) refl h (λ k. value_there ts n v m w k)
   where
-    go : (b : Bool) → same_thread t.0 n ≡ b → cond b (Some t.1) (value_of same_thread ts n) ≡ Some (v, m) → (value_of same_thread ts n ≡ Some (v, m) → value_of same_thread (set_value ts n w) n ≡ Some (w, m)) →
-        value_of same_thread (cond b ((n, (w, t.1.1)) ∷ ts) (t ∷ set_value ts n w)) n ≡ Some (w, m)
+    go : (b : Bool) → equal_thread t.0 n ≡ b → cond b (Some t.1) (value_of equal_thread ts n) ≡ Some (v, m) → (value_of equal_thread ts n ≡ Some (v, m) → value_of equal_thread (set_value ts n w) n ≡ Some (w, m)) →
+        value_of equal_thread (cond b ((n, (w, t.1.1)) ∷ ts) (t ∷ set_value ts n w)) n ≡ Some (w, m)
     go true q k ih = let same : t.1 ≡ (v, m) = cc in rw (is_same n n refl) (ap (λ (u : V × Mode). Some (w, u.1)) same)
     go false q k ih = rw q (ih k)
 
-pub mode_there : {V : Type 0} (ts : List (Entry V)) (n : ThreadName) (v : V) (m k : Mode) → value_of same_thread ts n ≡ Some (v, m) → value_of same_thread (set_mode ts n k) n ≡ Some (v, k)
+pub mode_there : {V : Type 0} (ts : List (Entry V)) (n : ThreadName) (v : V) (m k : Mode) → value_of equal_thread ts n ≡ Some (v, m) → value_of equal_thread (set_mode ts n k) n ≡ Some (v, k)
 mode_there [] n v m k h = cc
-mode_there {V} (t ∷ ts) n v m k h = go (same_thread t.0 n) refl h (λ q. mode_there ts n v m k q)
+mode_there {V} (t ∷ ts) n v m k h = go (equal_thread t.0 n) refl h (λ q. mode_there ts n v m k q)
   where
-    go : (b : Bool) → same_thread t.0 n ≡ b → cond b (Some t.1) (value_of same_thread ts n) ≡ Some (v, m) → (value_of same_thread ts n ≡ Some (v, m) → value_of same_thread (set_mode ts n k) n ≡ Some (v, k)) →
-        value_of same_thread (cond b ((n, (t.1.0, k)) ∷ ts) (t ∷ set_mode ts n k)) n ≡ Some (v, k)
+    go : (b : Bool) → equal_thread t.0 n ≡ b → cond b (Some t.1) (value_of equal_thread ts n) ≡ Some (v, m) → (value_of equal_thread ts n ≡ Some (v, m) → value_of equal_thread (set_mode ts n k) n ≡ Some (v, k)) →
+        value_of equal_thread (cond b ((n, (t.1.0, k)) ∷ ts) (t ∷ set_mode ts n k)) n ≡ Some (v, k)
     go true e q ih = let same : t.1 ≡ (v, m) = cc in rw (is_same n n refl) (ap (λ (u : V × Mode). Some (u.0, k)) same)
     go false e q ih = rw e (ih q)
 
@@ -99,26 +100,26 @@ mode_there {V} (t ∷ ts) n v m k h = go (same_thread t.0 n) refl h (λ q. mode_
 
 pub each_value : {V : Type 0} (P : Entry V → Type 0) (ts : List (Entry V)) (n : ThreadName) (w : V) → ((m : Mode) → P (n, (w, m))) → Each P ts → Each P (set_value ts n w)
 each_value P [] n w new h = tt
-each_value {V} P (t ∷ ts) n w new h = go (same_thread t.0 n) (each_value P ts n w new h.1)
+each_value {V} P (t ∷ ts) n w new h = go (equal_thread t.0 n) (each_value P ts n w new h.1)
   where
     go : (b : Bool) → Each P (set_value ts n w) → Each P (cond b ((n, (w, t.1.1)) ∷ ts) (t ∷ set_value ts n w))
     go true ih = (new t.1.1, h.1)
     go false ih = (h.0, ih)
 
-pub each_mode : {V : Type 0} (P : Entry V → Type 0) (ts : List (Entry V)) (n : ThreadName) (k : Mode) → ((v : V) (m : Mode) → value_of same_thread ts n ≡ Some (v, m) → P (n, (v, k))) → Each P ts → Each P (set_mode ts n k)
+pub each_mode : {V : Type 0} (P : Entry V → Type 0) (ts : List (Entry V)) (n : ThreadName) (k : Mode) → ((v : V) (m : Mode) → value_of equal_thread ts n ≡ Some (v, m) → P (n, (v, k))) → Each P ts → Each P (set_mode ts n k)
 each_mode P [] n k new h = tt
-each_mode {V} P (t ∷ ts) n k new h = go (same_thread t.0 n) new (λ more. each_mode P ts n k more h.1)
+each_mode {V} P (t ∷ ts) n k new h = go (equal_thread t.0 n) new (λ more. each_mode P ts n k more h.1)
   where
-    go : (b : Bool) → ((v : V) (m : Mode) → cond b (Some t.1) (value_of same_thread ts n) ≡ Some (v, m) → P (n, (v, k))) →
-        (((v : V) (m : Mode) → value_of same_thread ts n ≡ Some (v, m) → P (n, (v, k))) → Each P (set_mode ts n k)) → Each P (cond b ((n, (t.1.0, k)) ∷ ts) (t ∷ set_mode ts n k))
+    go : (b : Bool) → ((v : V) (m : Mode) → cond b (Some t.1) (value_of equal_thread ts n) ≡ Some (v, m) → P (n, (v, k))) →
+        (((v : V) (m : Mode) → value_of equal_thread ts n ≡ Some (v, m) → P (n, (v, k))) → Each P (set_mode ts n k)) → Each P (cond b ((n, (t.1.0, k)) ∷ ts) (t ∷ set_mode ts n k))
     go true all ih = (all t.1.0 t.1.1 refl, h.1)
     go false all ih = (h.0, ih all)
 
-pub each_end : {V : Type 0} (P : Entry V → Type 0) (ts : List (Entry V)) (n : ThreadName) → Each P ts → Each P (without_key same_thread ts n)
+pub each_end : {V : Type 0} (P : Entry V → Type 0) (ts : List (Entry V)) (n : ThreadName) → Each P ts → Each P (without_key equal_thread ts n)
 each_end P [] n h = tt
-each_end {V} P (t ∷ ts) n h = go (same_thread t.0 n) (each_end P ts n h.1)
+each_end {V} P (t ∷ ts) n h = go (equal_thread t.0 n) (each_end P ts n h.1)
   where
-    go : (b : Bool) → Each P (without_key same_thread ts n) → Each P (cond b (without_key same_thread ts n) (t ∷ without_key same_thread ts n))
+    go : (b : Bool) → Each P (without_key equal_thread ts n) → Each P (cond b (without_key equal_thread ts n) (t ∷ without_key equal_thread ts n))
     go true ih = ih
     go false ih = (h.0, ih)
 
@@ -126,11 +127,11 @@ pub each_woken : {V : Type 0} (P Q : Entry V → Type 0) (x : VarName) (ts : Lis
 each_woken P Q x [] goes h = tt
 each_woken P Q x (t ∷ ts) goes h = (goes t.0 t.1.0 t.1.1 h.0, each_woken P Q x ts goes h.1)
 
-pub each_found : {V : Type 0} (P : Entry V → Type 0) (ts : List (Entry V)) (n : ThreadName) (e : V × Mode) → value_of same_thread ts n ≡ Some e → Each P ts → P (n, e)
+pub each_found : {V : Type 0} (P : Entry V → Type 0) (ts : List (Entry V)) (n : ThreadName) (e : V × Mode) → value_of equal_thread ts n ≡ Some e → Each P ts → P (n, e)
 each_found P [] n e found h = cc
-each_found {V} P (t ∷ ts) n e found h = go (same_thread t.0 n) refl found (λ k. each_found P ts n e k h.1)
+each_found {V} P (t ∷ ts) n e found h = go (equal_thread t.0 n) refl found (λ k. each_found P ts n e k h.1)
   where
-    go : (b : Bool) → same_thread t.0 n ≡ b → cond b (Some t.1) (value_of same_thread ts n) ≡ Some e → (value_of same_thread ts n ≡ Some e → P (n, e)) → P (n, e)
+    go : (b : Bool) → equal_thread t.0 n ≡ b → cond b (Some t.1) (value_of equal_thread ts n) ≡ Some e → (value_of equal_thread ts n ≡ Some e → P (n, e)) → P (n, e)
     go true q k ih =
         let name : t.0 ≡ n = (same_thread_decides t.0 n).0 q in
         let same : t.1 ≡ e = cc in
@@ -140,9 +141,9 @@ each_found {V} P (t ∷ ts) n e found h = go (same_thread t.0 n) refl found (λ 
 -- ---- how many wait
 
 -- one more waits, where a thread that could go on waits now
-pub waiting_more : {V : Type 0} (ts : List (Entry V)) (n : ThreadName) (v : V) (k : Mode) → value_of same_thread ts n ≡ Some (v, mode.Runs) → is_waiting k ≡ true → waiting_of (set_mode ts n k) ≡ suc (waiting_of ts)
+pub waiting_more : {V : Type 0} (ts : List (Entry V)) (n : ThreadName) (v : V) (k : Mode) → value_of equal_thread ts n ≡ Some (v, mode.Runs) → is_waiting k ≡ true → waiting_of (set_mode ts n k) ≡ suc (waiting_of ts)
 waiting_more [] n v k h w = cc
-waiting_more {V} (t ∷ ts) n v k h w = go (same_thread t.0 n) h (λ q. waiting_more ts n v k q w)
+waiting_more {V} (t ∷ ts) n v k h w = go (equal_thread t.0 n) h (λ q. waiting_more ts n v k q w)
   where
     others : Bool → List (Entry V) → List (Entry V)
     others b l = cond b (t ∷ l) l
@@ -151,7 +152,7 @@ waiting_more {V} (t ∷ ts) n v k h w = go (same_thread t.0 n) h (λ q. waiting_
     count true l m e = ap suc e
     count false l m e = e
 
-    go : (b : Bool) → cond b (Some t.1) (value_of same_thread ts n) ≡ Some (v, mode.Runs) → (value_of same_thread ts n ≡ Some (v, mode.Runs) → waiting_of (set_mode ts n k) ≡ suc (waiting_of ts)) →
+    go : (b : Bool) → cond b (Some t.1) (value_of equal_thread ts n) ≡ Some (v, mode.Runs) → (value_of equal_thread ts n ≡ Some (v, mode.Runs) → waiting_of (set_mode ts n k) ≡ suc (waiting_of ts)) →
         waiting_of (cond b ((n, (t.1.0, k)) ∷ ts) (t ∷ set_mode ts n k)) ≡ suc (waiting_of (t ∷ ts))
     go true q ih =
         let same : t.1 ≡ (v, mode.Runs) = cc in
@@ -163,7 +164,7 @@ waiting_more {V} (t ∷ ts) n v k h w = go (same_thread t.0 n) h (λ q. waiting_
 -- no fewer threads live
 pub living_same : {V : Type 0} (ts : List (Entry V)) (n : ThreadName) (k : Mode) → length (set_mode ts n k) ≡ length ts
 living_same [] n k = refl
-living_same {V} (t ∷ ts) n k = go (same_thread t.0 n) (living_same ts n k)
+living_same {V} (t ∷ ts) n k = go (equal_thread t.0 n) (living_same ts n k)
   where
     go : (b : Bool) → length (set_mode ts n k) ≡ length ts → length (cond b ((n, (t.1.0, k)) ∷ ts) (t ∷ set_mode ts n k)) ≡ suc (length ts)
     go true ih = refl

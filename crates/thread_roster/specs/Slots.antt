@@ -5,7 +5,7 @@ use Rattle.std.specs.Map.{lookup}
 use Rattle.tree_node.specs.declared.names.VarName.{VarName}
 use Rattle.tree_node.specs.declared.names.ThreadName.{ThreadName}
 use Rattle.tree_node.specs.Each.{Each}
-use Rattle.tree_node.specs.State.{same_thread}
+use Rattle.tree_node.specs.State.{equal_thread}
 use Rattle.thread_roster.specs.declared.mode.Mode.{Mode}
 use Rattle.thread_roster.specs.declared.mode.Mode.TheVariants.{Runs}
 use Rattle.thread_roster.specs.declared.slot.Held.{Held}
@@ -60,11 +60,11 @@ abbrev pub ArePlaced : {V : Type 0} → List (Slot V) → (ThreadName → Option
 ArePlaced slots place = (n : ThreadName) → IsPlaced slots n (place n)
 
 abbrev pub place_in : List (ThreadName × ℕ) → ThreadName → Option ℕ
-place_in places n = lookup (same_thread n) places
+place_in places n = lookup (equal_thread n) places
 
 -- one name has this slot, or none, and the others theirs
 abbrev pub changed : (ThreadName → Option ℕ) → ThreadName → Option ℕ → ThreadName → Option ℕ
-changed place n o k = if same_thread n k then o else place k
+changed place n o k = if equal_thread n k then o else place k
 
 -- ---- how threads stand
 

@@ -4,8 +4,8 @@ use Rattle.tree_node.specs.declared.names.VarName.{VarName}
 use Rattle.tree_node.specs.declared.names.ThreadName.{ThreadName}
 use Rattle.tree_node.specs.Assoc.{value_of}
 use Rattle.tree_node.specs.Each.{Each}
-use Rattle.tree_node.specs.State.{same_thread}
-use Rattle.tree_node.specs.Store.{same_name}
+use Rattle.tree_node.specs.State.{equal_thread}
+use Rattle.tree_node.specs.Store.{equal_var}
 use Rattle.thread_roster.specs.declared.mode.Mode.{Mode}
 use Rattle.thread_roster.specs.declared.mode.Mode.TheVariants.{Runs, Waits, WaitsFor}
 
@@ -23,18 +23,18 @@ pub record Threads (V : Type 0) : Type 0 where
 -- the thread of a name has another value, and stands as before
 abbrev pub set_value : {V : Type 0} → List (Entry V) → ThreadName → V → List (Entry V)
 set_value [] n v = []
-set_value (t ∷ ts) n v = if same_thread t.0 n then (n, (v, t.1.1)) ∷ ts else t ∷ set_value ts n v
+set_value (t ∷ ts) n v = if equal_thread t.0 n then (n, (v, t.1.1)) ∷ ts else t ∷ set_value ts n v
 
 -- the thread of a name stands otherwise, with the value as before
 abbrev pub set_mode : {V : Type 0} → List (Entry V) → ThreadName → Mode → List (Entry V)
 set_mode [] n m = []
-set_mode (t ∷ ts) n m = if same_thread t.0 n then (n, (t.1.0, m)) ∷ ts else t ∷ set_mode ts n m
+set_mode (t ∷ ts) n m = if equal_thread t.0 n then (n, (t.1.0, m)) ∷ ts else t ∷ set_mode ts n m
 
 -- ---- waking
 
 -- a thread that waits for x goes on
 abbrev pub wake : VarName → Mode → Mode
-wake x (Waits y) = if same_name y x then Runs else Waits y
+wake x (Waits y) = if equal_var y x then Runs else Waits y
 wake x m = m
 
 abbrev pub wake_all : {V : Type 0} → VarName → List (Entry V) → List (Entry V)
@@ -58,11 +58,11 @@ AllWait {V} ts = Each (λ (t : Entry V). t.1.1 ≢ Runs) ts
 
 -- the thread of a name lives and waits
 abbrev pub IsSuspended : {V : Type 0} → List (Entry V) → ThreadName → Type 0
-IsSuspended {V} ts n = (v : V) × (m : Mode) × (value_of same_thread ts n ≡ Some (v, m)) × (m ≢ Runs)
+IsSuspended {V} ts n = (v : V) × (m : Mode) × (value_of equal_thread ts n ≡ Some (v, m)) × (m ≢ Runs)
 
 -- the thread of a name lives and can go on
 abbrev pub IsRunnable : {V : Type 0} → List (Entry V) → ThreadName → Type 0
-IsRunnable {V} ts n = (v : V) × (value_of same_thread ts n ≡ Some (v, Runs))
+IsRunnable {V} ts n = (v : V) × (value_of equal_thread ts n ≡ Some (v, Runs))
 
 -- ---- what others see of threads
 

@@ -2,7 +2,7 @@
 
 ghost use Rattle.std.specs.Prelude.{◌≡◌, ◌≢◌, ◌+◌, ◌<◌, ◌≤◌, ◌^◌, ◌++◌, ◌∷◌, [], Some, None, IsSome, IfSome, IfNone, slice_get, length};
 ghost use Rattle.tree_node.specs.Assoc.{value_of};
-ghost use Rattle.tree_node.specs.State.{same_thread};
+ghost use Rattle.tree_node.specs.State.{equal_thread};
 ghost use Rattle.tree_node.specs.declared.names.ThreadName.{ThreadName as Named};
 ghost use Rattle.thread_roster.specs.declared.slot.Held.{Held as TheHeld};
 ghost use Rattle.thread_roster.specs.Slots.{threads_in, ArePlaced, AreInside, place_in, changed, weight, IsLeft, IsRest, IsNext};
@@ -39,7 +39,7 @@ pub fn place_of<V>(
 pub fn find<V>(slots: &Vec<Slot<V>>, places: &Places, queue: &Queue, name: ThreadName) -> usize
     requires placed { ArePlaced slots.now.items (place_in places.now.entries) }
     requires inside { AreInside slots.now.items queue.now }
-    requires lives { IsSome (value_of same_thread (threads_in slots.now.items) name) }
+    requires lives { IsSome (value_of equal_thread (threads_in slots.now.items) name) }
     ensures place { place_in places.now.entries name ≡ Some result }
     ensures inside { result < length slots.now.items }
     ensures held { (h : TheHeld V) × (slice_get slots.now.items result ≡ Some (Some h)) × (h.name ≡ name) }

@@ -3,7 +3,7 @@
 ghost use Rattle.std.specs.Prelude.{◌≡◌, ◌↔◌, ◌+◌, ◌∷◌, [], None, Some, OnOk, OnErr, IfSome, IfNone, IsTrue, IsSome, length};
 ghost use Rattle.std.specs.Borrow.{sem};
 ghost use Rattle.tree_node.specs.Assoc.{value_of, without_key};
-ghost use Rattle.tree_node.specs.State.{same_thread};
+ghost use Rattle.tree_node.specs.State.{equal_thread};
 ghost use Rattle.thread_roster.specs.declared.mode.Mode.{Mode as Standing};
 ghost use Rattle.thread_roster.specs.declared.mode.Mode.TheVariants as stands;
 ghost use Rattle.thread_roster.specs.Threads.{set_mode, set_value, wake_all, waiting_of, AllWait, IsSuspended, IsRunnable};
@@ -103,15 +103,15 @@ impl<V: Drop> Roster<V> {
 
     /// Whether a thread of this name lives.
     pub fn lives(&self, name: ThreadName) -> bool
-        ensures { IsTrue result ↔ IsSome (value_of same_thread self.now.living name) }
+        ensures { IsTrue result ↔ IsSome (value_of equal_thread self.now.living name) }
     {
         place_of(&self.slots, &self.places, &self.queue, name).is_some()
     }
 
     /// The value of a thread.
     pub fn get(&self, name: ThreadName) -> Option<&V>
-        ensures some { IfSome result (λ v. (m : Standing) × (value_of same_thread self.now.living name ≡ Some (v.now, m))) }
-        ensures none { IfNone result (value_of same_thread self.now.living name ≡ None) }
+        ensures some { IfSome result (λ v. (m : Standing) × (value_of equal_thread self.now.living name ≡ Some (v.now, m))) }
+        ensures none { IfNone result (value_of equal_thread self.now.living name ≡ None) }
     {
         match place_of(&self.slots, &self.places, &self.queue, name) {
             None => None,
@@ -124,8 +124,8 @@ impl<V: Drop> Roster<V> {
 
     /// How a thread stands.
     pub fn mode(&self, name: ThreadName) -> Option<Mode>
-        ensures some { IfSome result (λ m. (v : V) × (value_of same_thread self.now.living name ≡ Some (v, m))) }
-        ensures none { IfNone result (value_of same_thread self.now.living name ≡ None) }
+        ensures some { IfSome result (λ m. (v : V) × (value_of equal_thread self.now.living name ≡ Some (v, m))) }
+        ensures none { IfNone result (value_of equal_thread self.now.living name ≡ None) }
     {
         match place_of(&self.slots, &self.places, &self.queue, name) {
             None => None,
@@ -138,9 +138,9 @@ impl<V: Drop> Roster<V> {
 
     /// The value of a thread, to be changed in its place.
     pub fn value_mut(&mut self, name: ThreadName) -> &mut V
-        requires lives { IsSome (value_of same_thread self.old.living name) }
+        requires lives { IsSome (value_of equal_thread self.old.living name) }
         ensures* writes_back { sem 𝓛 (lends_value V.row self.entry name result) }
-        ensures value { (m : Standing) × (value_of same_thread self.old.living name ≡ Some (result.now, m)) }
+        ensures value { (m : Standing) × (value_of equal_thread self.old.living name ≡ Some (result.now, m)) }
     {
         let place = find(&self.slots, &self.places, &self.queue, name);
         value_in(&mut self.slots[place])
@@ -148,7 +148,7 @@ impl<V: Drop> Roster<V> {
 
     /// A thread is born, and goes behind those that can go on.
     pub fn start(&mut self, name: ThreadName, value: V) -> Result<(), AllocError>
-        requires new { value_of same_thread self.old.living name ≡ None }
+        requires new { value_of equal_thread self.old.living name ≡ None }
         ensures living { OnOk result (self.new.living ≡ (name, (value, stands.Runs)) ∷ self.old.living) }
         ensures ended { OnOk result (self.new.ended ≡ self.old.ended) }
         ensures err { OnErr result (self.new ≡ self.old) }
@@ -166,7 +166,7 @@ impl<V: Drop> Roster<V> {
 
     /// A thread waits until a variable is bound.
     pub fn wait(&mut self, name: ThreadName, var: VarName) -> Result<(), AllocError>
-        requires lives { IsSome (value_of same_thread self.old.living name) }
+        requires lives { IsSome (value_of equal_thread self.old.living name) }
         ensures living { OnOk result (self.new.living ≡ set_mode self.old.living name (stands.Waits var)) }
         ensures ended { OnOk result (self.new.ended ≡ self.old.ended) }
         ensures err { OnErr result (self.new ≡ self.old) }
@@ -181,7 +181,7 @@ impl<V: Drop> Roster<V> {
 
     /// A thread waits for a cell's token, until `run` lets it go on.
     pub fn wait_for(&mut self, name: ThreadName, cell: CellName)
-        requires lives { IsSome (value_of same_thread self.old.living name) }
+        requires lives { IsSome (value_of equal_thread self.old.living name) }
         ensures living { self.new.living ≡ set_mode self.old.living name (stands.WaitsFor cell) }
         ensures ended { self.new.ended ≡ self.old.ended }
     {
@@ -224,8 +224,8 @@ impl<V: Drop> Roster<V> {
 
     /// A thread has ended.
     pub fn end(&mut self, name: ThreadName)
-        requires lives { IsSome (value_of same_thread self.old.living name) }
-        ensures living { self.new.living ≡ without_key same_thread self.old.living name }
+        requires lives { IsSome (value_of equal_thread self.old.living name) }
+        ensures living { self.new.living ≡ without_key equal_thread self.old.living name }
         ensures ended { self.new.ended ≡ self.old.ended + 1 }
     {
         let place = find(&self.slots, &self.places, &self.queue, name);

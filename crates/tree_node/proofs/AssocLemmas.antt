@@ -3,7 +3,7 @@
 use Rattle.std.proofs.Common.{◌≡◌, ◌∙◌, sym, ap, refl, subst, List, [], ◌∷◌, ◌++◌, map, ◌⊎◌, inl, inr, Bool, true, false, cond, Some, None}
 use Rattle.std.specs.Prelude.{Option, IsSome, unwrap_or, ◌≢◌}
 use Rattle.std.specs.Bool.{Decides}
-use Rattle.tree_node.specs.Assoc.{value_of, with_value, without_key, goes_on}
+use Rattle.tree_node.specs.Assoc.{value_of, with_value, without_key, with_optional_value}
 use Rattle.tree_node.specs.Each.{Each, AreDistinct}
 
 -- ---- what holds of all entries
@@ -42,7 +42,7 @@ module _ {K V : Type 0} (same : K → K → Bool) where
       go true r = r
       go false r = (h.0, r)
 
-  pub Each-goes_on : (Q : K × V → Type 0) (es : List (K × V)) (k : K) (o : Option V) → ((v : V) → o ≡ Some v → Q (k, v)) → Each Q es → Each Q (goes_on same es k o)
+  pub Each-goes_on : (Q : K × V → Type 0) (es : List (K × V)) (k : K) (o : Option V) → ((v : V) → o ≡ Some v → Q (k, v)) → Each Q es → Each Q (with_optional_value same es k o)
   Each-goes_on Q es k None q h = Each-without_key Q es k h
   Each-goes_on Q es k (Some v) q h = Each-with_value Q es k v (q v refl) h
 
@@ -102,16 +102,16 @@ module _ {K V : Type 0} (same : K → K → Bool) (decides : (a b : K) → Decid
       go true q more = rw (test_other same decides j o (λ e. other (sym ((decides j k).0 q) ∙ e))) more
       go false q more = ap (λ (r : Option V). cond (same j o) (Some w) r) more
 
-  pub value_of-goes_on : (es : List (K × V)) (k : K) (r : Option V) (w : V) → value_of same es k ≡ Some w → value_of same (goes_on same es k r) k ≡ r
+  pub value_of-goes_on : (es : List (K × V)) (k : K) (r : Option V) (w : V) → value_of same es k ≡ Some w → value_of same (with_optional_value same es k r) k ≡ r
   value_of-goes_on es k None w at = value_of-without_key es k
   value_of-goes_on es k (Some v) w at = value_of-with_value es k v w at
 
-  pub value_of-goes_on-other : (es : List (K × V)) (k o : K) (r : Option V) → k ≢ o → value_of same (goes_on same es k r) o ≡ value_of same es o
+  pub value_of-goes_on-other : (es : List (K × V)) (k o : K) (r : Option V) → k ≢ o → value_of same (with_optional_value same es k r) o ≡ value_of same es o
   value_of-goes_on-other es k o None other = value_of-without_key-other es k o other
   value_of-goes_on-other es k o (Some v) other = value_of-with_value-other es k o v other
 
   -- what a key has after its value, or another's, went on
-  pub value_of-goes_on-cases : (es : List (K × V)) (k o : K) (r : Option V) (w u : V) → value_of same es k ≡ Some w → value_of same (goes_on same es k r) o ≡ Some u →
+  pub value_of-goes_on-cases : (es : List (K × V)) (k o : K) (r : Option V) (w u : V) → value_of same es k ≡ Some w → value_of same (with_optional_value same es k r) o ≡ Some u →
       ((o ≡ k) × (r ≡ Some u)) ⊎ ((k ≢ o) × (value_of same es o ≡ Some u))
   value_of-goes_on-cases es k o r w u at h = go (same k o) refl
     where
@@ -157,7 +157,7 @@ module _ {K V : Type 0} (same : K → K → Bool) (decides : (a b : K) → Decid
       go true r = r
       go false r = (h.0, r)
 
-  pub Each-keys-goes_on : (P : K → Type 0) (es : List (K × V)) (k : K) (o : Option V) → Each P (keys es) → Each P (keys (goes_on same es k o))
+  pub Each-keys-goes_on : (P : K → Type 0) (es : List (K × V)) (k : K) (o : Option V) → Each P (keys es) → Each P (keys (with_optional_value same es k o))
   Each-keys-goes_on P es k None h = Each-keys-without_key P es k h
   Each-keys-goes_on P es k (Some v) h = Each-keys-with_value P es k v h
 
@@ -186,6 +186,6 @@ module _ {K V : Type 0} (same : K → K → Bool) (decides : (a b : K) → Decid
       go true r = r
       go false r = (Each-keys-without_key (λ y. e.0 ≢ y) es k h.0, r)
 
-  pub AreDistinct-goes_on : (es : List (K × V)) (k : K) (o : Option V) → AreDistinct (keys es) → AreDistinct (keys (goes_on same es k o))
+  pub AreDistinct-goes_on : (es : List (K × V)) (k : K) (o : Option V) → AreDistinct (keys es) → AreDistinct (keys (with_optional_value same es k o))
   AreDistinct-goes_on es k None h = AreDistinct-without_key es k h
   AreDistinct-goes_on es k (Some v) h = AreDistinct-with_value es k v h

@@ -4,13 +4,13 @@ use Rattle.std.specs.Prelude.{Contains}
 use Rattle.std.specs.Bool.{Decides}
 use Rattle.tree_node.specs.declared.names.VarName.{VarName}
 use Rattle.tree_node.specs.declared.node.Term.TheVariants as term
-use Rattle.tree_node.specs.Store.{Equation, Store, Linked, Same, here, onward, same_name, joined, root_of}
+use Rattle.tree_node.specs.Store.{Equation, Store, Linked, Same, here, onward, equal_var, joined_root, root_of}
 use Rattle.tree_node.specs.Classes.{RootsTellClasses}
 
-pub same_name_decides : (a b : VarName) → Decides (same_name a b) (a ≡ b)
+pub same_name_decides : (a b : VarName) → Decides (equal_var a b) (a ≡ b)
 same_name_decides a b = search rules
 
-pub same_name_refl : (a : VarName) → same_name a a ≡ true
+pub same_name_refl : (a : VarName) → equal_var a a ≡ true
 same_name_refl a = (same_name_decides a a).1 refl
 
 -- an element of a list is its head or stands in its tail
@@ -49,25 +49,25 @@ pub Same-eq : {s : Store} {x y : VarName} → x ≡ y → Same s x y
 Same-eq {s} {x} {y} e = subst (λ (z : VarName). Same s x z) e here
 
 -- a class's root after one more equation
-pub joined_when : (root : VarName → VarName) (u v x : VarName) → root x ≡ root u → joined root u v x ≡ root v
+pub joined_when : (root : VarName → VarName) (u v x : VarName) → root x ≡ root u → joined_root root u v x ≡ root v
 joined_when root u v x e = rw (e, same_name_refl (root u)) refl
 
-pub joined_end : (root : VarName → VarName) (u v : VarName) → joined root u v v ≡ root v
-joined_end root u v = go (same_name (root v) (root u))
+pub joined_end : (root : VarName → VarName) (u v : VarName) → joined_root root u v v ≡ root v
+joined_end root u v = go (equal_var (root v) (root u))
   where
     go : (b : Bool) → cond b (root v) (root v) ≡ root v
     go true = refl
     go false = refl
 
-joined_same : (root : VarName → VarName) (u v x y : VarName) → root x ≡ root y → joined root u v x ≡ joined root u v y
-joined_same root u v x y e = ap (λ (z : VarName). cond (same_name z (root u)) (root v) z) e
+pub joined_same : (root : VarName → VarName) (u v x y : VarName) → root x ≡ root y → joined_root root u v x ≡ joined_root root u v y
+joined_same root u v x y e = ap (λ (z : VarName). cond (equal_var z (root u)) (root v) z) e
 
 -- an equation has equal roots at its ends
 Contains-root : (s : Store) (x y : VarName) → Contains s (x, term.Var y) → root_of s x ≡ root_of s y
 Contains-root [] x y (k, below, is) = absurd (omega arith)
 Contains-root ((u, term.Var v) ∷ s) x y h = go (λ k. Contains-root s x y k) (Contains-cons_cases _ _ s h)
   where
-    go : (Contains s (x, term.Var y) → root_of s x ≡ root_of s y) → (◌≡◌ {A = Equation} (u, term.Var v) (x, term.Var y)) ⊎ Contains s (x, term.Var y) → joined (root_of s) u v x ≡ joined (root_of s) u v y
+    go : (Contains s (x, term.Var y) → root_of s x ≡ root_of s y) → (◌≡◌ {A = Equation} (u, term.Var v) (x, term.Var y)) ⊎ Contains s (x, term.Var y) → joined_root (root_of s) u v x ≡ joined_root (root_of s) u v y
     go ih (inl e) =
         let left : u ≡ x = ap (λ (p : Equation). p.0) e in
         let terms : term.Var v ≡ term.Var y = ap (λ (p : Equation). p.1) e in
@@ -89,9 +89,9 @@ Same-root {s} (onward (inr h) p) = sym (Contains-root s _ _ h) ∙ Same-root p
 pub to_root : (s : Store) (x : VarName) → Same s x (root_of s x)
 to_root [] x = here
 to_root ((u, term.Node n) ∷ s) x = Same-cons _ (to_root s x)
-to_root ((u, term.Var v) ∷ s) x = through s u v x (to_root s x) (to_root s u) (to_root s v) (same_name (root_of s x) (root_of s u)) refl
+to_root ((u, term.Var v) ∷ s) x = through s u v x (to_root s x) (to_root s u) (to_root s v) (equal_var (root_of s x) (root_of s u)) refl
   where
-    through : (s : Store) (u v x : VarName) → Same s x (root_of s x) → Same s u (root_of s u) → Same s v (root_of s v) → (b : Bool) → same_name (root_of s x) (root_of s u) ≡ b → Same ((u, term.Var v) ∷ s) x (cond b (root_of s v) (root_of s x))
+    through : (s : Store) (u v x : VarName) → Same s x (root_of s x) → Same s u (root_of s u) → Same s v (root_of s v) → (b : Bool) → equal_var (root_of s x) (root_of s u) ≡ b → Same ((u, term.Var v) ∷ s) x (cond b (root_of s v) (root_of s x))
     through s u v x p q r true e =
         let at_root : root_of s x ≡ root_of s u = (same_name_decides _ _).0 e in
         let to_u : Same s x u = Same-trans p (Same-trans (Same-eq at_root) (Same-sym q)) in

@@ -4,15 +4,15 @@ use Rattle.std.specs.Prelude.{Contains, Option}
 use Rattle.tree_node.specs.declared.names.VarName.{VarName}
 use Rattle.tree_node.specs.declared.node.Node.{Node}
 use Rattle.tree_node.specs.declared.node.Term.TheVariants as term
-use Rattle.tree_node.specs.Store.{Equation, Store, Det, same_name, root_of, node_among, node_of}
+use Rattle.tree_node.specs.Store.{Equation, Store, Det, equal_var, root_of, node_among, node_of}
 use Rattle.tree_node.proofs.ClassLemmas.{same_name_decides, Contains-head, Contains-tail, Contains-cons_cases, roots_tell_classes}
 
 pub found : (root : VarName → VarName) (s : Store) (x : VarName) (n : Node) → node_among root s x ≡ Some n → (y : VarName) × (root y ≡ root x) × Contains s (y, term.Node n)
 found root [] x n e = cc
 found root ((u, term.Var v) ∷ s) x n e = let rest = found root s x n e in (rest.0, rest.1, Contains-tail _ _ s rest.2)
-found root ((u, term.Node m) ∷ s) x n e = go (same_name (root u) (root x)) refl (λ k. found root s x n k) e
+found root ((u, term.Node m) ∷ s) x n e = go (equal_var (root u) (root x)) refl (λ k. found root s x n k) e
   where
-    go : (b : Bool) → same_name (root u) (root x) ≡ b → (node_among root s x ≡ Some n → (y : VarName) × (root y ≡ root x) × Contains s (y, term.Node n)) →
+    go : (b : Bool) → equal_var (root u) (root x) ≡ b → (node_among root s x ≡ Some n → (y : VarName) × (root y ≡ root x) × Contains s (y, term.Node n)) →
         cond b (Some m) (node_among root s x) ≡ Some n → (y : VarName) × (root y ≡ root x) × Contains ((u, term.Node m) ∷ s) (y, term.Node n)
     go true at ih k =
         let same : m ≡ n = cc in
@@ -26,16 +26,16 @@ missing root ((u, term.Var v) ∷ s) x y n at h e = go (λ k. missing root s x y
     go : (Contains s (y, term.Node n) → ⊥) → (◌≡◌ {A = Equation} (u, term.Var v) (y, term.Node n)) ⊎ Contains s (y, term.Node n) → ⊥
     go ih (inl same) = let terms : term.Var v ≡ term.Node n = ap (λ (p : Equation). p.1) same in cc
     go ih (inr rest) = ih rest
-missing root ((u, term.Node m) ∷ s) x y n at h e = go (same_name (root u) (root x)) refl (λ k l. missing root s x y n at k l) (Contains-cons_cases _ _ s h) e
+missing root ((u, term.Node m) ∷ s) x y n at h e = go (equal_var (root u) (root x)) refl (λ k l. missing root s x y n at k l) (Contains-cons_cases _ _ s h) e
   where
-    go : (b : Bool) → same_name (root u) (root x) ≡ b → (Contains s (y, term.Node n) → node_among root s x ≡ None → ⊥) →
+    go : (b : Bool) → equal_var (root u) (root x) ≡ b → (Contains s (y, term.Node n) → node_among root s x ≡ None → ⊥) →
         (◌≡◌ {A = Equation} (u, term.Node m) (y, term.Node n)) ⊎ Contains s (y, term.Node n) → cond b (Some m) (node_among root s x) ≡ None → ⊥
     go true q ih c k = cc
     go false q ih (inr rest) k = ih rest k
     go false q ih (inl same) k =
         let left : u ≡ y = ap (λ (p : Equation). p.0) same in
         let roots : root u ≡ root x = ap root left ∙ at in
-        let yes : same_name (root u) (root x) ≡ true = (same_name_decides _ _).1 roots in cc
+        let yes : equal_var (root u) (root x) ≡ true = (same_name_decides _ _).1 roots in cc
 
 pub node_is_det : (s : Store) (x : VarName) (n : Node) → node_of s x ≡ Some n → Det s x n
 node_is_det s x n e =

@@ -6,3 +6,8 @@ pub mod RowsShown
 pub mod RowsGoal
 pub mod EnvLemmas
 pub mod AssocLemmas
+pub mod EachLemmas
+pub mod TextLemmas
+pub mod CaseLemmas
+pub mod NameLemmas
+pub mod FeatureOrder

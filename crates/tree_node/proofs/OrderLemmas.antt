@@ -16,10 +16,8 @@ use Rattle.tree_node.specs.Node.{feature_cmp, features_of, AreAscending, IsInOrd
 use Rattle.tree_node.specs.Goal.{equal_feature, equal_features}
 use Rattle.tree_node.specs.Fields.{FeaturesAreDistinct, PlacesTellFeatures, OrderTellsFields}
 use Rattle.tree_node.proofs.ClassLemmas.{Contains-head, Contains-tail, Contains-cons_cases}
-
-pub Each-map : {X : Type 0} (P Q : X → Type 0) (xs : List X) → ((x : X) → P x → Q x) → Each P xs → Each Q xs
-Each-map P Q [] f h = tt
-Each-map P Q (x ∷ xs) f h = (f x h.0, Each-map P Q xs f h.1)
+use Rattle.std.proofs.lemmas.Bool.{and_parts}
+use Rattle.tree_node.proofs.EnvLemmas.{each_more}
 
 pub Each-member : {X : Type 0} (P : X → Type 0) (xs : List X) (y : X) → Each P xs → Contains xs y → P y
 Each-member P [] y h (i, below, is) = absurd (omega arith)
@@ -45,13 +43,13 @@ below_differs f g low e =
 
 ascending_differ : (fs : List Feature) → AreAscending fs → AreDistinct fs
 ascending_differ [] up = tt
-ascending_differ (f ∷ fs) up = (Each-map _ (λ g. f ≢ g) fs (λ g low. below_differs f g low) up.0, ascending_differ fs up.1)
+ascending_differ (f ∷ fs) up = (each_more _ (λ g. f ≢ g) fs (λ g low. below_differs f g low) up.0, ascending_differ fs up.1)
 
 pub features_are_distinct : FeaturesAreDistinct
 features_are_distinct xs up = ascending_differ (features_of xs) up
 
 -- each is before all later ones
-abbrev Up : {X : Type 0} → (X → X → Type 0) → List X → Type 0
+abbrev pub Up : {X : Type 0} → (X → X → Type 0) → List X → Type 0
 Up R [] = Unit {0}
 Up R (x ∷ xs) = Each (R x) xs × Up R xs
 
@@ -88,7 +86,7 @@ behind_first R x y z xs ys way up e at k = go (Contains-cons_cases y z ys at)
         let itself : R x x = subst (R x) (sym (e ∙ same)) low in absurd (way x x itself itself)
     go (inr l) = l
 
-none : {X : Type 0} (x : X) → Contains [] x → ⊥
+pub none : {X : Type 0} (x : X) → Contains [] x → ⊥
 none x (i, below, is) = omega arith
 
 abbrev SameMembers : {X : Type 0} → List X → List X → Type 0
@@ -112,16 +110,12 @@ feature_decides (feature.Int a) (feature.Atom b) = (λ h. cc, λ e. cc)
 feature_decides (feature.Atom a) (feature.Int b) = (λ h. cc, λ e. cc)
 feature_decides (feature.Atom a) (feature.Atom b) = let d = bytes_eq-Decides a b in (λ h. ap feature.Atom (d.0 h), λ e. d.1 (let same : a ≡ b = cc in same))
 
-both : (a b : Bool) → (a && b) ≡ true → (a ≡ true) × (b ≡ true)
-both true b e = (refl, e)
-both false b e = cc
-
 to_places : (xs ys : List (Feature × VarName)) → equal_features xs ys ≡ true → features_of xs ≡ features_of ys
 to_places [] [] e = refl
 to_places [] (y ∷ ys) e = cc
 to_places (x ∷ xs) [] e = cc
 to_places ((f, x) ∷ xs) ((g, y) ∷ ys) e =
-    let h = both (equal_feature f g) (equal_features xs ys) e in
+    let h = and_parts (equal_feature f g) (equal_features xs ys) e in
     let first : f ≡ g = (feature_decides f g).0 h.0 in
     let rest : features_of xs ≡ features_of ys = to_places xs ys h.1 in
     cc

@@ -5,12 +5,12 @@ use Rattle.tree_node.specs.declared.names.VarName.{VarName}
 use Rattle.tree_node.specs.declared.node.Node.{Node}
 use Rattle.tree_node.specs.declared.node.Term.{Term}
 use Rattle.tree_node.specs.declared.node.Term.TheVariants as term
-use Rattle.tree_node.specs.Store.{Equation, Store, Same, here, onward, IsSound, IsFree, same_name, joined, root_of, node_among, node_of}
+use Rattle.tree_node.specs.Store.{Equation, Store, Same, here, onward, IsSound, IsFree, equal_var, joined_root, root_of, node_among, node_of}
 use Rattle.tree_node.specs.Classes.{SoundHasOne, HasOneEach, OneNamesClass, RootNamesClass}
 use Rattle.tree_node.proofs.ClassLemmas.{same_name_decides, Contains-cons_cases, Same-trans, Same-sym, Same-root, to_root, joined_when, joined_end}
 use Rattle.tree_node.proofs.DetLemmas.{found, missing}
 
-same_var : {x y : VarName} → term.Var x ≡ term.Var y → x ≡ y
+pub same_var : {x y : VarName} → term.Var x ≡ term.Var y → x ≡ y
 same_var e = cc
 
 same_node : {m n : Node} → term.Node m ≡ term.Node n → m ≡ n
@@ -37,7 +37,7 @@ same_root_node ((u, term.Node o) ∷ s) y z m n is e h k =
         absurd (no_node s u y m (e ∙ sym (ap (root_of s) left)) h is.1)
     go ih (inr h) (inr k) = ih h k
 same_root_node ((u, term.Var v) ∷ s) y z m n is e h k =
-    go (λ a b c. same_root_node s y z m n is.0 a b c) (only h) (only_right k) (same_name (root_of s y) (root_of s u)) refl (same_name (root_of s z) (root_of s u)) refl e
+    go (λ a b c. same_root_node s y z m n is.0 a b c) (only h) (only_right k) (equal_var (root_of s y) (root_of s u)) refl (equal_var (root_of s z) (root_of s u)) refl e
   where
     only : Contains ((u, term.Var v) ∷ s) (y, term.Node m) → Contains s (y, term.Node m)
     only h = in_rest (Contains-cons_cases _ _ s h)
@@ -58,7 +58,7 @@ same_root_node ((u, term.Var v) ∷ s) y z m n is e h k =
     apart a b i j p q h k (inr open_v) = no_node s v b j q k open_v
 
     go : (root_of s y ≡ root_of s z → Contains s (y, term.Node m) → Contains s (z, term.Node n) → m ≡ n) → Contains s (y, term.Node m) → Contains s (z, term.Node n) →
-        (a : Bool) → same_name (root_of s y) (root_of s u) ≡ a → (b : Bool) → same_name (root_of s z) (root_of s u) ≡ b →
+        (a : Bool) → equal_var (root_of s y) (root_of s u) ≡ a → (b : Bool) → equal_var (root_of s z) (root_of s u) ≡ b →
         cond a (root_of s v) (root_of s y) ≡ cond b (root_of s v) (root_of s z) → m ≡ n
     go ih h k true p true q e = ih ((same_name_decides _ _).0 p ∙ sym ((same_name_decides _ _).0 q)) h k
     go ih h k true p false q e = absurd (apart y z m n ((same_name_decides _ _).0 p) (sym e) h k is.2)
@@ -70,20 +70,20 @@ sound_has_one s x m n is (y, p, h) (z, q, k) =
     same_root_node s y z m n is (Same-root (Same-trans (Same-sym p) q)) h k
 
 -- equations lead from x to y
-data Down (s : Store) : VarName → VarName → Type 0 where
+pub data Down (s : Store) : VarName → VarName → Type 0 where
   stop : {x : VarName} → Down s x x
   link : {x y z : VarName} → Contains s (x, term.Var y) → Down s y z → Down s x z
 
 -- where each variable has one equation at most, all ways of a class lead to its variable without one
-back : {s : Store} {x y u : VarName} → HasOneEach s → IsFree s u → Contains s (y, term.Var x) → Down s y u → Down s x u
-back {s} {x} one free h stop = absurd (free (term.Var x) h)
-back {s} {x} one free h (link {x = a} {y = b} {z = d} g p) =
+pub down_step : {s : Store} {x y u : VarName} → HasOneEach s → IsFree s u → Contains s (y, term.Var x) → Down s y u → Down s x u
+down_step {s} {x} one free h stop = absurd (free (term.Var x) h)
+down_step {s} {x} one free h (link {x = a} {y = b} {z = d} g p) =
     subst (λ (w : VarName). Down s w d) (same_var (one a (term.Var b) (term.Var x) g h)) p
 
-leads : {s : Store} {x u : VarName} → HasOneEach s → IsFree s u → Same s x u → Down s x u
-leads one free here = stop
-leads one free (onward (inl h) p) = link h (leads one free p)
-leads one free (onward (inr h) p) = back one free h (leads one free p)
+pub down_of_same : {s : Store} {x u : VarName} → HasOneEach s → IsFree s u → Same s x u → Down s x u
+down_of_same one free here = stop
+down_of_same one free (onward (inl h) p) = link h (down_of_same one free p)
+down_of_same one free (onward (inr h) p) = down_step one free h (down_of_same one free p)
 
 free_stops : {s : Store} {a b : VarName} → IsFree s a → Down s a b → a ≡ b
 free_stops free stop = refl
@@ -91,23 +91,23 @@ free_stops free (link h p) = absurd (free (term.Var _) h)
 
 pub one_names_class : OneNamesClass
 one_names_class s x y z one (p, free) (q, open_z) =
-    free_stops free (leads one open_z (Same-trans (Same-sym p) q))
+    free_stops free (down_of_same one open_z (Same-trans (Same-sym p) q))
 
 -- the root is its own root
-root_root : (s : Store) (x : VarName) → root_of s (root_of s x) ≡ root_of s x
+pub root_root : (s : Store) (x : VarName) → root_of s (root_of s x) ≡ root_of s x
 root_root s x = sym (Same-root (to_root s x))
 
 -- a class that has no node after one more equation between variables had none before
-open_before : (s : Store) (u v x w : VarName) → joined (root_of s) u v w ≡ joined (root_of s) u v x → ((y : VarName) → root_of s y ≡ root_of s w → joined (root_of s) u v y ≡ joined (root_of s) u v w) →
-    node_among (joined (root_of s) u v) s x ≡ None → node_of s w ≡ None
+open_before : (s : Store) (u v x w : VarName) → joined_root (root_of s) u v w ≡ joined_root (root_of s) u v x → ((y : VarName) → root_of s y ≡ root_of s w → joined_root (root_of s) u v y ≡ joined_root (root_of s) u v w) →
+    node_among (joined_root (root_of s) u v) s x ≡ None → node_of s w ≡ None
 open_before s u v x w same keeps e = go (node_of s w) refl
   where
     go : (o : Option Node) → node_of s w ≡ o → node_of s w ≡ None
     go None is = is
-    go (Some n) is = let at = found (root_of s) s w n is in absurd (missing (joined (root_of s) u v) s x at.0 n (keeps at.0 at.1 ∙ same) at.2 e)
+    go (Some n) is = let at = found (root_of s) s w n is in absurd (missing (joined_root (root_of s) u v) s x at.0 n (keeps at.0 at.1 ∙ same) at.2 e)
 
-joined_as : (s : Store) (u v y w : VarName) → root_of s y ≡ root_of s w → joined (root_of s) u v y ≡ joined (root_of s) u v w
-joined_as s u v y w e = ap (λ (z : VarName). cond (same_name z (root_of s u)) (root_of s v) z) e
+joined_as : (s : Store) (u v y w : VarName) → root_of s y ≡ root_of s w → joined_root (root_of s) u v y ≡ joined_root (root_of s) u v w
+joined_as s u v y w e = ap (λ (z : VarName). cond (equal_var z (root_of s u)) (root_of s v) z) e
 
 free_more : (s : Store) (u w : VarName) (t : Term) → IsFree s w → (u ≡ w → ⊥) → IsFree ((u, t) ∷ s) w
 free_more s u w t free differs r h = go (Contains-cons_cases _ _ s h)
@@ -121,28 +121,28 @@ root_is_free [] x is e = λ t h. empty x t h
   where
     empty : (y : VarName) (t : Term) → Contains {X = Equation} [] (y, t) → ⊥
     empty y t (i, below, at) = omega arith
-root_is_free ((u, term.Node n) ∷ s) x is e = go (same_name (root_of s u) (root_of s x)) refl (λ k. root_is_free s x is.0 k) e
+root_is_free ((u, term.Node n) ∷ s) x is e = go (equal_var (root_of s u) (root_of s x)) refl (λ k. root_is_free s x is.0 k) e
   where
-    go : (b : Bool) → same_name (root_of s u) (root_of s x) ≡ b → (node_of s x ≡ None → IsFree s (root_of s x)) → cond b (Some n) (node_of s x) ≡ None → IsFree ((u, term.Node n) ∷ s) (root_of s x)
+    go : (b : Bool) → equal_var (root_of s u) (root_of s x) ≡ b → (node_of s x ≡ None → IsFree s (root_of s x)) → cond b (Some n) (node_of s x) ≡ None → IsFree ((u, term.Node n) ∷ s) (root_of s x)
     go true p ih k = cc
     go false p ih k = free_more s u (root_of s x) (term.Node n) (ih k) (λ same.
-        let yes : same_name (root_of s u) (root_of s x) ≡ true = (same_name_decides _ _).1 (ap (root_of s) same ∙ root_root s x) in cc)
+        let yes : equal_var (root_of s u) (root_of s x) ≡ true = (same_name_decides _ _).1 (ap (root_of s) same ∙ root_root s x) in cc)
 root_is_free ((u, term.Var v) ∷ s) x is e =
-    go (same_name (root_of s x) (root_of s u)) refl (λ k. root_is_free s x is.0 k) (λ k. root_is_free s v is.0 k)
+    go (equal_var (root_of s x) (root_of s u)) refl (λ k. root_is_free s x is.0 k) (λ k. root_is_free s v is.0 k)
   where
-    from_v : joined (root_of s) u v v ≡ joined (root_of s) u v x → node_of s v ≡ None
+    from_v : joined_root (root_of s) u v v ≡ joined_root (root_of s) u v x → node_of s v ≡ None
     from_v same = open_before s u v x v same (λ y p. joined_as s u v y v p) e
 
     from_x : node_of s x ≡ None
     from_x = open_before s u v x x refl (λ y p. joined_as s u v y x p) e
 
-    go : (b : Bool) → same_name (root_of s x) (root_of s u) ≡ b → (node_of s x ≡ None → IsFree s (root_of s x)) → (node_of s v ≡ None → IsFree s (root_of s v)) → IsFree ((u, term.Var v) ∷ s) (cond b (root_of s v) (root_of s x))
+    go : (b : Bool) → equal_var (root_of s x) (root_of s u) ≡ b → (node_of s x ≡ None → IsFree s (root_of s x)) → (node_of s v ≡ None → IsFree s (root_of s v)) → IsFree ((u, term.Var v) ∷ s) (cond b (root_of s v) (root_of s x))
     go true p ih jh =
         let at : root_of s x ≡ root_of s u = (same_name_decides _ _).0 p in
-        let same : joined (root_of s) u v v ≡ joined (root_of s) u v x = joined_end (root_of s) u v ∙ sym (joined_when (root_of s) u v x at) in
+        let same : joined_root (root_of s) u v v ≡ joined_root (root_of s) u v x = joined_end (root_of s) u v ∙ sym (joined_when (root_of s) u v x at) in
         free_more s u (root_of s v) (term.Var v) (jh (from_v same)) (λ w. is.1 (ap (root_of s) w ∙ root_root s v))
     go false p ih jh = free_more s u (root_of s x) (term.Var v) (ih from_x) (λ w.
-        let yes : same_name (root_of s x) (root_of s u) ≡ true = (same_name_decides _ _).1 (sym (ap (root_of s) w ∙ root_root s x)) in cc)
+        let yes : equal_var (root_of s x) (root_of s u) ≡ true = (same_name_decides _ _).1 (sym (ap (root_of s) w ∙ root_root s x)) in cc)
 
 pub root_names_class : RootNamesClass
 root_names_class s x is e = (to_root s x, root_is_free s x is e)

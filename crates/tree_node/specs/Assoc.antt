@@ -17,6 +17,6 @@ without_key same [] k = []
 without_key same (e ∷ es) k = if same e.0 k then without_key same es k else e ∷ without_key same es k
 
 -- the key goes on with this value, or without any
-abbrev pub goes_on : {K V : Type 0} → (K → K → Bool) → List (K × V) → K → Option V → List (K × V)
-goes_on same es k None = without_key same es k
-goes_on same es k (Some v) = with_value same es k v
+abbrev pub with_optional_value : {K V : Type 0} → (K → K → Bool) → List (K × V) → K → Option V → List (K × V)
+with_optional_value same es k None = without_key same es k
+with_optional_value same es k (Some v) = with_value same es k v

@@ -4,7 +4,7 @@ use Rattle.std.specs.Prelude.{◌≡◌, ◌↔◌, Some, None, Contains}
 use Rattle.tree_node.specs.declared.names.VarName.{VarName}
 use Rattle.tree_node.specs.declared.node.Node.{Node}
 use Rattle.tree_node.specs.declared.node.Term.{Term}
-use Rattle.tree_node.specs.Store.{Store, Same, Det, IsSound, NamesClass, root_of, node_of}
+use Rattle.tree_node.specs.Store.{Store, Same, Det, IsSound, IsClassName, root_of, node_of}
 
 abbrev pub RootsTellClasses : Type 0
 RootsTellClasses = (s : Store) (x y : VarName) → Same s x y ↔ (root_of s x ≡ root_of s y)
@@ -25,8 +25,8 @@ HasOneEach s = (x : VarName) (t r : Term) → Contains s (x, t) → Contains s (
 
 -- then one variable at most names a class
 abbrev pub OneNamesClass : Type 0
-OneNamesClass = (s : Store) (x y z : VarName) → HasOneEach s → NamesClass s x y → NamesClass s x z → y ≡ z
+OneNamesClass = (s : Store) (x y z : VarName) → HasOneEach s → IsClassName s x y → IsClassName s x z → y ≡ z
 
 -- in a sound store the root names a class that has no node
 abbrev pub RootNamesClass : Type 0
-RootNamesClass = (s : Store) (x : VarName) → IsSound s → node_of s x ≡ None → NamesClass s x (root_of s x)
+RootNamesClass = (s : Store) (x : VarName) → IsSound s → node_of s x ≡ None → IsClassName s x (root_of s x)

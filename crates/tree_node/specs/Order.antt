@@ -16,11 +16,11 @@ abbrev pub IsLower : Term → VarName → Type 0
 IsLower (term.Var v) u = IsBelow v u
 IsLower (term.Node n) u = Unit {0}
 
-abbrev pub kind_of : Name → ℕ
-kind_of (name.Var x) = 0
-kind_of (name.Cell x) = 1
-kind_of (name.Proc x) = 2
-kind_of (name.Thread x) = 3
+abbrev pub kind_rank : Name → ℕ
+kind_rank (name.Var x) = 0
+kind_rank (name.Cell x) = 1
+kind_rank (name.Proc x) = 2
+kind_rank (name.Thread x) = 3
 
 abbrev pub site_of : Name → ℕ
 site_of (name.Var x) = x.site
@@ -37,5 +37,5 @@ num_of (name.Thread x) = x.num
 -- names of every kind in one order
 abbrev pub IsNameBelow : Name → Name → Type 0
 IsNameBelow a b =
-    (kind_of a < kind_of b)
-    ⊎ ((kind_of a ≡ kind_of b) × ((site_of a < site_of b) ⊎ ((site_of a ≡ site_of b) × (num_of a < num_of b))))
+    (kind_rank a < kind_rank b)
+    ⊎ ((kind_rank a ≡ kind_rank b) × ((site_of a < site_of b) ⊎ ((site_of a ≡ site_of b) × (num_of a < num_of b))))

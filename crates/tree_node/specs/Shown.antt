@@ -16,9 +16,9 @@ pub data Show : Type 0 where
   Text : (text : List ℕ) (left : ℕ) → Show
   Needs : (x : VarName) → Show
 
-abbrev pub go_on : Show → (List ℕ → ℕ → Show) → Show
-go_on (Text text left) next = next text left
-go_on (Needs x) next = Needs x
+abbrev pub and_then : Show → (List ℕ → ℕ → Show) → Show
+and_then (Text text left) next = next text left
+and_then (Needs x) next = Needs x
 
 -- a walk from a variable at a level with so many nodes left
 abbrev pub Walk : Type 0
@@ -46,7 +46,7 @@ is_cut level left = nat_lt 20 level || (left == 0)
 
 abbrev pub show_pair : Store → Walk → ℕ → ℕ → VarName → VarName → Show
 show_pair s walk level left x y =
-    go_on (walk (level + 1) left x) (λ head rest. go_on (walk level rest y) (λ tail end.
+    and_then (walk (level + 1) left x) (λ head rest. and_then (walk level rest y) (λ tail end.
     Text (in_brackets (is_pair (node_of s x) && (if is_cut (level + 1) left then false else true)) head ++ 124 ∷ tail) end))
 
 -- fields, where next is the feature that goes without its name
@@ -60,13 +60,13 @@ after_field one (f ∷ fs) others = one ++ 32 ∷ others
 abbrev pub show_fields : Walk → ℕ → ℕ → ℕ → List (Feature × VarName) → Show
 show_fields walk level left next [] = Text [] left
 show_fields walk level left next ((f, x) ∷ fields) =
-    go_on (walk (level + 1) left x) (λ value rest.
-    go_on (show_fields walk level rest (if is_feature next f then next + 1 else next) fields) (λ others end.
+    and_then (walk (level + 1) left x) (λ value rest.
+    and_then (show_fields walk level rest (if is_feature next f then next + 1 else next) fields) (λ others end.
     Text (after_field (field_text next f value) fields others) end))
 
 abbrev pub show_record : Walk → ℕ → ℕ → List ℕ → List (Feature × VarName) → Show
 show_record walk level left label fields =
-    go_on (show_fields walk level left 1 fields) (λ text rest. Text (atom_text label ++ 40 ∷ (text ++ 41 ∷ [])) rest)
+    and_then (show_fields walk level left 1 fields) (λ text rest. Text (atom_text label ++ 40 ∷ (text ++ 41 ∷ [])) rest)
 
 abbrev pub show_rec : Store → Walk → ℕ → ℕ → List ℕ → List (Feature × VarName) → Option (VarName × VarName) → Show
 show_rec s walk level left label fields (Some (x, y)) = show_pair s walk level left x y
@@ -77,16 +77,16 @@ show_node s walk level left (node.Rec label fields) =
     show_rec s walk level left label fields (head_and_tail (node.Rec label fields))
 show_node s walk level left n = Text (head_text n) left
 
-abbrev pub show_found : Store → Walk → ℕ → ℕ → VarName → Option Node → Show
-show_found s walk level left x (Some n) = show_node s walk level left n
-show_found s walk level left x None = Needs x
+abbrev pub show_option : Store → Walk → ℕ → ℕ → VarName → Option Node → Show
+show_option s walk level left x (Some n) = show_node s walk level left n
+show_option s walk level left x None = Needs x
 
 -- a node goes deeper by one and uses one of those left, so depth never ends first where left ≤ depth
 abbrev pub show_var : ℕ → Store → Walk
 show_var zero s level left x = Text (codes ",,,") left
 show_var (suc depth) s level left x =
     if is_cut level left then Text (codes ",,,") left
-    else show_found s (show_var depth s) level (left - 1) x (node_of s x)
+    else show_option s (show_var depth s) level (left - 1) x (node_of s x)
 
 -- at most n nodes. No abbrev: a numeral for n would unfold as many times in each goal
 unfoldable pub shown_within : ℕ → Store → VarName → Show

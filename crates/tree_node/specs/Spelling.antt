@@ -23,14 +23,14 @@ abbrev pub is_bare : List ℕ → Bool
 is_bare t = is_ascii_lowercase (slice_index t 0) && (list_all is_word_byte t && not (is_reserved t))
 
 -- newlines as \n, and \ before ' and \
-abbrev pub escaped : List ℕ → List ℕ
-escaped [] = []
-escaped (c ∷ cs) =
-    (if c == 10 then 92 ∷ 110 ∷ [] else (if (c == 39) || (c == 92) then 92 ∷ c ∷ [] else c ∷ [])) ++ escaped cs
+abbrev pub escaped_text : List ℕ → List ℕ
+escaped_text [] = []
+escaped_text (c ∷ cs) =
+    (if c == 10 then 92 ∷ 110 ∷ [] else (if (c == 39) || (c == 92) then 92 ∷ c ∷ [] else c ∷ [])) ++ escaped_text cs
 
 -- bare where that can be read back, else in single quotes
 abbrev pub atom_text : List ℕ → List ℕ
-atom_text t = if is_bare t then t else 39 ∷ (escaped t ++ 39 ∷ [])
+atom_text t = if is_bare t then t else 39 ∷ (escaped_text t ++ 39 ∷ [])
 
 abbrev pub feature_text : Feature → List ℕ
 feature_text (feature.Int z) = int_text z

@@ -4,14 +4,14 @@ use Rattle.std.specs.Borrow.{Bor}
 use Rattle.std.specs.List.{list_any}
 use Rattle.std.specs.Str.{bytes_eq}
 
-abbrev pub used_words : List (List ℕ)
-used_words =
+abbrev pub grammar_words : List (List ℕ)
+grammar_words =
     codes "skip" ∷ codes "local" ∷ codes "in" ∷ codes "end" ∷ codes "if" ∷ codes "then" ∷ codes "else"
     ∷ codes "case" ∷ codes "of" ∷ codes "thread" ∷ codes "at" ∷ codes "try" ∷ codes "catch" ∷ codes "raise"
     ∷ codes "proc" ∷ codes "div" ∷ codes "mod" ∷ []
 
-abbrev pub kept_words : List (List ℕ)
-kept_words =
+abbrev pub later_words : List (List ℕ)
+later_words =
     codes "andthen" ∷ codes "attr" ∷ codes "choice" ∷ codes "class" ∷ codes "cond" ∷ codes "declare"
     ∷ codes "define" ∷ codes "dis" ∷ codes "elsecase" ∷ codes "elseif" ∷ codes "export" ∷ codes "fail"
     ∷ codes "feat" ∷ codes "finally" ∷ codes "from" ∷ codes "fun" ∷ codes "functor" ∷ codes "import"
@@ -19,7 +19,7 @@ kept_words =
     ∷ codes "prop" ∷ codes "require" ∷ codes "self" ∷ codes "unit" ∷ []
 
 unfoldable pub reserved_words : List (List ℕ)
-reserved_words = used_words ++ kept_words
+reserved_words = grammar_words ++ later_words
 
 abbrev pub is_reserved : List ℕ → Bool
 is_reserved text = list_any (λ word. bytes_eq text word) reserved_words

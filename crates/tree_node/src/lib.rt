@@ -15,8 +15,8 @@
 //!
 //! Stands on: the standard library alone.
 //!
-//! By tests alone: that threads may share nodes, lines and picks. The tests show the spelling of chosen atoms and heads too,
-//! which the contracts say of all.
+//! `threads` shows that environments, lines and picks may cross from thread to thread. The spelling of chosen atoms and heads,
+//! which the contracts say of all, is shown by tests (`unit_tests`) too.
 //!
 //! Sources: Van Roy and Haridi, *Concepts, Techniques, and Models of Computer Programming* (CTM), sections 2.3, 2.4, 2.7, 2.8
 //! and 6.3.
@@ -32,8 +32,7 @@ mod pick;
 mod seq;
 mod shared;
 mod spelling;
-#[cfg(test)]
-mod tests;
+mod threads;
 mod words;
 
 pub use env::{Env, RoomyEnv};

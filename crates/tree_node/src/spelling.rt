@@ -3,7 +3,7 @@
 ghost use Rattle.std.specs.Prelude.{◌≡◌, ◌++◌, ◌∷◌, IfOk};
 ghost use Rattle.std.specs.List.{list_all};
 ghost use Rattle.tree_node.specs.declared.node.Feature.{Feature};
-ghost use Rattle.tree_node.specs.Spelling.{int_text, atom_text, feature_text, head_text, proc_text, escaped, is_word_byte, is_bare};
+ghost use Rattle.tree_node.specs.Spelling.{int_text, atom_text, feature_text, head_text, proc_text, escaped_text, is_word_byte, is_bare};
 
 use crate::line::Line;
 use crate::node::{Feature, Node, Text};
@@ -113,7 +113,7 @@ fn are_word_bytes(text: &[u8]) -> bool
 }
 
 fn escape(alloc: Global, text: &[u8]) -> Result<Vec<u8>, AllocError>
-    ensures { IfOk result (λ v. v.items ≡ escaped text.now) }
+    ensures { IfOk result (λ v. v.items ≡ escaped_text text.now) }
 {
     let mut bytes = Vec::new(alloc);
     for byte in text {

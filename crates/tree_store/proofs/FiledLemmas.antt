@@ -9,7 +9,7 @@ use Rattle.std.proofs.lemmas.List.{get_or_append_left, get_or_default}
 use Rattle.std.proofs.Math.Seq.{get_or-append_seam}
 use Rattle.std.specs.Cmp.{IsEquivalence, decided}
 use Rattle.tree_node.specs.declared.names.VarName.{VarName}
-use Rattle.tree_node.specs.Store.{same_name}
+use Rattle.tree_node.specs.Store.{equal_var}
 use Rattle.tree_node.proofs.ClassLemmas.{same_name_decides, Contains-cons_cases, Contains-head, Contains-tail}
 use Rattle.tree_store.specs.declared.names.Entry.{Entry}
 use Rattle.tree_store.specs.Names.{Filed, run, woven, IsRising, IsPut, names_in, is_own, entry_ordinal, ordinal_of}
@@ -130,27 +130,27 @@ rising_more from last [] x e h r = (omega arith, omega arith)
 rising_more from last ((y, o) ∷ es) x e h r = (r.0, rising_more o.before last es x e h r.1)
 
 -- another ordinal at an entry
-woven_put : (site first from last : ℕ) (es : Entries) (x : VarName) (e o : Entry) → lookup (same_name x) es ≡ Some e → o.before ≡ e.before →
-    woven site first from last (set_value (same_name x) es o) ≡ woven site first from last es
+woven_put : (site first from last : ℕ) (es : Entries) (x : VarName) (e o : Entry) → lookup (equal_var x) es ≡ Some e → o.before ≡ e.before →
+    woven site first from last (set_value (equal_var x) es o) ≡ woven site first from last es
 woven_put site first from last [] x e o h same = refl
-woven_put site first from last ((y, w) ∷ es) x e o h same = go (same_name x y) refl h (λ k. woven_put site first w.before last es x e o k same)
+woven_put site first from last ((y, w) ∷ es) x e o h same = go (equal_var x y) refl h (λ k. woven_put site first w.before last es x e o k same)
   where
-    go : (b : Bool) → same_name x y ≡ b → cond b (Some w) (lookup (same_name x) es) ≡ Some e →
-        (lookup (same_name x) es ≡ Some e → woven site first w.before last (set_value (same_name x) es o) ≡ woven site first w.before last es) →
-        woven site first from last (cond b ((y, o) ∷ es) ((y, w) ∷ set_value (same_name x) es o)) ≡ woven site first from last ((y, w) ∷ es)
+    go : (b : Bool) → equal_var x y ≡ b → cond b (Some w) (lookup (equal_var x) es) ≡ Some e →
+        (lookup (equal_var x) es ≡ Some e → woven site first w.before last (set_value (equal_var x) es o) ≡ woven site first w.before last es) →
+        woven site first from last (cond b ((y, o) ∷ es) ((y, w) ∷ set_value (equal_var x) es o)) ≡ woven site first from last ((y, w) ∷ es)
     go true p k ih =
         let entry : w ≡ e = cc in
         let place : o.before ≡ w.before = same ∙ sym (ap (λ (d : Entry). d.before) entry) in
         rw place refl
     go false p k ih = ap (λ (xs : List VarName). run site (first + from) (w.before - from) ++ y ∷ xs) (ih k)
 
-rising_put : (from last : ℕ) (es : Entries) (x : VarName) (e o : Entry) → lookup (same_name x) es ≡ Some e → o.before ≡ e.before → IsRising from last es →
-    IsRising from last (set_value (same_name x) es o)
+rising_put : (from last : ℕ) (es : Entries) (x : VarName) (e o : Entry) → lookup (equal_var x) es ≡ Some e → o.before ≡ e.before → IsRising from last es →
+    IsRising from last (set_value (equal_var x) es o)
 rising_put from last [] x e o h same r = r
-rising_put from last ((y, w) ∷ es) x e o h same r = go (same_name x y) refl h (λ k. rising_put w.before last es x e o k same r.1)
+rising_put from last ((y, w) ∷ es) x e o h same r = go (equal_var x y) refl h (λ k. rising_put w.before last es x e o k same r.1)
   where
-    go : (b : Bool) → same_name x y ≡ b → cond b (Some w) (lookup (same_name x) es) ≡ Some e →
-        (lookup (same_name x) es ≡ Some e → IsRising w.before last (set_value (same_name x) es o)) → IsRising from last (cond b ((y, o) ∷ es) ((y, w) ∷ set_value (same_name x) es o))
+    go : (b : Bool) → equal_var x y ≡ b → cond b (Some w) (lookup (equal_var x) es) ≡ Some e →
+        (lookup (equal_var x) es ≡ Some e → IsRising w.before last (set_value (equal_var x) es o)) → IsRising from last (cond b ((y, o) ∷ es) ((y, w) ∷ set_value (equal_var x) es o))
     go true p k ih =
         let entry : w ≡ e = cc in
         let place : o.before ≡ w.before = same ∙ sym (ap (λ (d : Entry). d.before) entry) in
@@ -188,8 +188,8 @@ own_false f x h = go (is_own f x) refl
 abbrev AreFiled : Filed → Type 0
 AreFiled f = IsRising 0 (length f.own) f.others
 
-same_equivalence : IsEquivalence same_name
-same_equivalence = decided same_name same_name_decides
+same_equivalence : IsEquivalence equal_var
+same_equivalence = decided equal_var same_name_decides
 
 pub own_known : (f : Filed) (x : VarName) → is_own f x ≡ true → Contains (names_in f) x
 unfolding names_in
@@ -197,34 +197,34 @@ own_known f x h =
     let own = own_true f x h in
     woven_contains_row f.site f.first 0 (length f.own) f.others x (own.0, omega (arith, own.1), omega (arith, own.1, own.2))
 
-pub other_known : (f : Filed) (x : VarName) → IsSome (lookup (same_name x) f.others) → Contains (names_in f) x
+pub other_known : (f : Filed) (x : VarName) → IsSome (lookup (equal_var x) f.others) → Contains (names_in f) x
 unfolding names_in
 other_known f x h =
     woven_contains_other f.site f.first 0 (length f.own) f.others x
     (Contains-keys_from_lookup (λ a b e. (same_name_decides a b).0 e) x f.others h)
 
-known_cases : (f : Filed) (x : VarName) → AreFiled f → Contains (names_in f) x → IsOwn f x ⊎ IsSome (lookup (same_name x) f.others)
+known_cases : (f : Filed) (x : VarName) → AreFiled f → Contains (names_in f) x → IsOwn f x ⊎ IsSome (lookup (equal_var x) f.others)
 unfolding names_in
 known_cases f x r h = go (woven_among f.site f.first 0 (length f.own) f.others x r h)
   where
-    go : InRun f.site (f.first + 0) (length f.own - 0) x ⊎ Contains (keys_of f.others) x → IsOwn f x ⊎ IsSome (lookup (same_name x) f.others)
+    go : InRun f.site (f.first + 0) (length f.own - 0) x ⊎ Contains (keys_of f.others) x → IsOwn f x ⊎ IsSome (lookup (equal_var x) f.others)
     go (inl k) = inl (k.0, omega (arith, k.1), omega (arith, k.1, k.2))
     go (inr k) = inr (IsSome-lookup_from_Contains same_equivalence x f.others k)
 
-pub other_some : (f : Filed) (x : VarName) → AreFiled f → is_own f x ≡ false → Contains (names_in f) x → IsSome (lookup (same_name x) f.others)
+pub other_some : (f : Filed) (x : VarName) → AreFiled f → is_own f x ≡ false → Contains (names_in f) x → IsSome (lookup (equal_var x) f.others)
 other_some f x r h k = go (known_cases f x r k)
   where
-    go : IsOwn f x ⊎ IsSome (lookup (same_name x) f.others) → IsSome (lookup (same_name x) f.others)
+    go : IsOwn f x ⊎ IsSome (lookup (equal_var x) f.others) → IsSome (lookup (equal_var x) f.others)
     go (inl own) = absurd (not_own f x h own)
     go (inr some) = some
 
-pub other_tells : (f : Filed) (x : VarName) (b : Bool) → AreFiled f → is_own f x ≡ false → b ≡ is_some (lookup (same_name x) f.others) → IsTrue b ↔ Contains (names_in f) x
+pub other_tells : (f : Filed) (x : VarName) (b : Bool) → AreFiled f → is_own f x ≡ false → b ≡ is_some (lookup (equal_var x) f.others) → IsTrue b ↔ Contains (names_in f) x
 other_tells f x b r h e = (λ yes. other_known f x (sym e ∙ yes), λ k. e ∙ other_some f x r h k)
 
-pub unknown_none : (f : Filed) (x : VarName) → (Contains (names_in f) x → ⊥) → lookup (same_name x) f.others ≡ None
-unknown_none f x h = go (lookup (same_name x) f.others) refl
+pub unknown_none : (f : Filed) (x : VarName) → (Contains (names_in f) x → ⊥) → lookup (equal_var x) f.others ≡ None
+unknown_none f x h = go (lookup (equal_var x) f.others) refl
   where
-    go : (o : Option Entry) → lookup (same_name x) f.others ≡ o → lookup (same_name x) f.others ≡ None
+    go : (o : Option Entry) → lookup (equal_var x) f.others ≡ o → lookup (equal_var x) f.others ≡ None
     go None e = e
     go (Some w) e = absurd (h (other_known f x (ap is_some e)))
 
@@ -234,7 +234,7 @@ ordinal_own : (f : Filed) (x : VarName) → is_own f x ≡ true → ordinal_of f
 unfolding ordinal_of
 ordinal_own f x h = rw h refl
 
-pub ordinal_other : (f : Filed) (x : VarName) → is_own f x ≡ false → ordinal_of f x ≡ entry_ordinal (lookup (same_name x) f.others)
+pub ordinal_other : (f : Filed) (x : VarName) → is_own f x ≡ false → ordinal_of f x ≡ entry_ordinal (lookup (equal_var x) f.others)
 unfolding ordinal_of
 ordinal_other f x h = rw h refl
 
@@ -294,7 +294,7 @@ pushed_ordinals f x y own next new e = by_own f y within beside
             let past : y.num - f.first ≡ length f.own = omega (arith, longer, o.2, λ (l : y.num - f.first < length f.own). not_own f y h (o.0, o.1, l)) in
             let num : y.num ≡ f.first + length f.own = omega (arith, o.1) in
             let same : x ≡ y = next ∙ by_parts f.site (f.first + length f.own) y o.0 num in
-            let absent : lookup (same_name y) f.others ≡ None = subst (λ (z : VarName). lookup (same_name z) f.others ≡ None) same (unknown_none f x new) in
+            let absent : lookup (equal_var y) f.others ≡ None = subst (λ (z : VarName). lookup (equal_var z) f.others ≡ None) same (unknown_none f x new) in
             ordinal_own (with_own f own) y k ∙ ap (λ (l : List ℕ). slice_index l (y.num - f.first)) e
             ∙ ap (λ (i : ℕ). slice_index (f.own ++ 0 ∷ []) i) past ∙ get_or-append_seam f.own 0 [] 0
             ∙ sym (ordinal_other f y h ∙ ap entry_ordinal absent)
@@ -310,21 +310,21 @@ unfolding names_in
 added_names f x e others at more = rw more (woven_more f.site f.first 0 (length f.own) f.others x e at)
 
 pub added_ordinals : (f : Filed) (x y : VarName) (e : Entry) (others : Entries) → (Contains (names_in f) x → ⊥) → e.ordinal ≡ 0 →
-    lookup (same_name y) others ≡ cond (same_name x y) (Some e) (lookup (same_name y) f.others) → ordinal_of (with_others f others) y ≡ ordinal_of f y
+    lookup (equal_var y) others ≡ cond (equal_var x y) (Some e) (lookup (equal_var y) f.others) → ordinal_of (with_others f others) y ≡ ordinal_of f y
 added_ordinals f x y e others new zero_at found = by_own f y within beside
   where
     within : is_own f y ≡ true → ordinal_of (with_others f others) y ≡ ordinal_of f y
     within h = ordinal_own (with_others f others) y h ∙ sym (ordinal_own f y h)
 
-    value : (b : Bool) → same_name x y ≡ b → entry_ordinal (cond b (Some e) (lookup (same_name y) f.others)) ≡ entry_ordinal (lookup (same_name y) f.others)
+    value : (b : Bool) → equal_var x y ≡ b → entry_ordinal (cond b (Some e) (lookup (equal_var y) f.others)) ≡ entry_ordinal (lookup (equal_var y) f.others)
     value false k = refl
     value true k =
         let same : x ≡ y = (same_name_decides x y).0 k in
-        let absent : lookup (same_name y) f.others ≡ None = subst (λ (z : VarName). lookup (same_name z) f.others ≡ None) same (unknown_none f x new) in
+        let absent : lookup (equal_var y) f.others ≡ None = subst (λ (z : VarName). lookup (equal_var z) f.others ≡ None) same (unknown_none f x new) in
         zero_at ∙ sym (ap entry_ordinal absent)
 
     beside : is_own f y ≡ false → ordinal_of (with_others f others) y ≡ ordinal_of f y
-    beside h = ordinal_other (with_others f others) y h ∙ ap entry_ordinal found ∙ value (same_name x y) refl ∙ sym (ordinal_other f y h)
+    beside h = ordinal_other (with_others f others) y h ∙ ap entry_ordinal found ∙ value (equal_var x y) refl ∙ sym (ordinal_other f y h)
 
 -- ---- the row begins
 
@@ -349,7 +349,7 @@ unfolding names_in
 set_own_names f own e = rw e refl
 
 pub set_own_ordinals : (f : Filed) (x y : VarName) (n : ℕ) (own : List ℕ) → is_own f x ≡ true → own ≡ set f.own (x.num - f.first) n →
-    ordinal_of (with_own f own) y ≡ cond (same_name x y) n (ordinal_of f y)
+    ordinal_of (with_own f own) y ≡ cond (equal_var x y) n (ordinal_of f y)
 set_own_ordinals f x y n own here e = by_own f y within beside
   where
     o : IsOwn f x
@@ -358,8 +358,8 @@ set_own_ordinals f x y n own here e = by_own f y within beside
     long : length own ≡ length f.own
     long = ap length e ∙ length-set f.own (x.num - f.first) n
 
-    within : is_own f y ≡ true → ordinal_of (with_own f own) y ≡ cond (same_name x y) n (ordinal_of f y)
-    within h = ordinal_own (with_own f own) y still ∙ ap (λ (l : List ℕ). slice_index l (y.num - f.first)) e ∙ go (same_name x y) refl
+    within : is_own f y ≡ true → ordinal_of (with_own f own) y ≡ cond (equal_var x y) n (ordinal_of f y)
+    within h = ordinal_own (with_own f own) y still ∙ ap (λ (l : List ℕ). slice_index l (y.num - f.first)) e ∙ go (equal_var x y) refl
       where
         p : IsOwn f y
         p = own_true f y h
@@ -367,7 +367,7 @@ set_own_ordinals f x y n own here e = by_own f y within beside
         still : is_own (with_own f own) y ≡ true
         still = true_own (with_own f own) y (p.0, p.1, omega (arith, long, p.2))
 
-        go : (b : Bool) → same_name x y ≡ b → get_or (set f.own (x.num - f.first) n) (y.num - f.first) 0 ≡ cond b n (ordinal_of f y)
+        go : (b : Bool) → equal_var x y ≡ b → get_or (set f.own (x.num - f.first) n) (y.num - f.first) 0 ≡ cond b n (ordinal_of f y)
         go true k =
             let same : x ≡ y = (same_name_decides x y).0 k in
             let in_row : x.num - f.first < length f.own = o.2 in
@@ -377,13 +377,13 @@ set_own_ordinals f x y n own here e = by_own f y within beside
             let differ : y.num - f.first ≢ x.num - f.first = λ e. num (omega (arith, e, o.1, p.1)) in
             rw get_or-set_other (sym (ordinal_own f y h))
           where
-            not_same : same_name x y ≡ false → x ≡ y → ⊥
-            not_same k e = let t : same_name x y ≡ true = (same_name_decides x y).1 e in cc
+            not_same : equal_var x y ≡ false → x ≡ y → ⊥
+            not_same k e = let t : equal_var x y ≡ true = (same_name_decides x y).1 e in cc
 
-    beside : is_own f y ≡ false → ordinal_of (with_own f own) y ≡ cond (same_name x y) n (ordinal_of f y)
+    beside : is_own f y ≡ false → ordinal_of (with_own f own) y ≡ cond (equal_var x y) n (ordinal_of f y)
     beside h =
         let out : is_own (with_own f own) y ≡ false = own_false (with_own f own) y (λ p. not_own f y h (p.0, p.1, omega (arith, long, p.2))) in
-        let differ : same_name x y ≡ false = apart_false x y (λ e. not_own f y h (subst (λ (z : VarName). IsOwn f z) e o)) in
+        let differ : equal_var x y ≡ false = apart_false x y (λ e. not_own f y h (subst (λ (z : VarName). IsOwn f z) e o)) in
         rw differ (ordinal_other (with_own f own) y out ∙ sym (ordinal_other f y h))
 
 pub set_other_rising : (f : Filed) (x : VarName) (n : ℕ) (others : Entries) → AreFiled f → IsPut f.others x n others → IsRising 0 (length f.own) others
@@ -394,20 +394,20 @@ unfolding names_in
 set_other_names f x n others (e, found, is) = rw is (woven_put f.site f.first 0 (length f.own) f.others x e (record { before = e.before; ordinal = n }) found refl)
 
 pub set_other_ordinals : (f : Filed) (x y : VarName) (n : ℕ) (others : Entries) → is_own f x ≡ false → IsPut f.others x n others →
-    ordinal_of (with_others f others) y ≡ cond (same_name x y) n (ordinal_of f y)
+    ordinal_of (with_others f others) y ≡ cond (equal_var x y) n (ordinal_of f y)
 set_other_ordinals f x y n others out (e, found, is) = by_own f y within beside
   where
-    within : is_own f y ≡ true → ordinal_of (with_others f others) y ≡ cond (same_name x y) n (ordinal_of f y)
+    within : is_own f y ≡ true → ordinal_of (with_others f others) y ≡ cond (equal_var x y) n (ordinal_of f y)
     within h =
-        let differ : same_name x y ≡ false = apart_false x y (λ k. let no_own : is_own f y ≡ false = subst (λ (z : VarName). is_own f z ≡ false) k out in cc) in
+        let differ : equal_var x y ≡ false = apart_false x y (λ k. let no_own : is_own f y ≡ false = subst (λ (z : VarName). is_own f z ≡ false) k out in cc) in
         rw differ (ordinal_own (with_others f others) y h ∙ sym (ordinal_own f y h))
 
-    beside : is_own f y ≡ false → ordinal_of (with_others f others) y ≡ cond (same_name x y) n (ordinal_of f y)
+    beside : is_own f y ≡ false → ordinal_of (with_others f others) y ≡ cond (equal_var x y) n (ordinal_of f y)
     beside h =
-        ordinal_other (with_others f others) y h ∙ ap (λ (es : Entries). entry_ordinal (lookup (same_name y) es)) is
-        ∙ ap entry_ordinal (put_lookup f.others x y (record { before = e.before; ordinal = n }) (ap is_some found)) ∙ go (same_name x y)
+        ordinal_other (with_others f others) y h ∙ ap (λ (es : Entries). entry_ordinal (lookup (equal_var y) es)) is
+        ∙ ap entry_ordinal (put_lookup f.others x y (record { before = e.before; ordinal = n }) (ap is_some found)) ∙ go (equal_var x y)
       where
-        go : (b : Bool) → entry_ordinal (cond b (Some (record { before = e.before; ordinal = n })) (lookup (same_name y) f.others)) ≡ cond b n (ordinal_of f y)
+        go : (b : Bool) → entry_ordinal (cond b (Some (record { before = e.before; ordinal = n })) (lookup (equal_var y) f.others)) ≡ cond b n (ordinal_of f y)
         go true = refl
         go false = sym (ordinal_other f y h)
 
@@ -418,4 +418,4 @@ unfolding names_in
 none_names f p q = rw (p, q) refl
 
 pub none_ordinals : (f : Filed) (y : VarName) → f.own ≡ [] → f.others ≡ [] → ordinal_of f y ≡ 0
-none_ordinals f y p q = ordinal_other f y (own_false f y (λ o. omega (arith, ap length p, o.2))) ∙ ap (λ (es : Entries). entry_ordinal (lookup (same_name y) es)) q
+none_ordinals f y p q = ordinal_other f y (own_false f y (λ o. omega (arith, ap length p, o.2))) ∙ ap (λ (es : Entries). entry_ordinal (lookup (equal_var y) es)) q

@@ -5,12 +5,12 @@ use Rattle.tree_node.specs.declared.names.VarName.{VarName}
 use Rattle.tree_node.specs.declared.node.Node.{Node}
 use Rattle.tree_node.specs.declared.node.Term.{Term}
 use Rattle.tree_node.specs.declared.node.Term.TheVariants as term
-use Rattle.tree_node.specs.Store.{Equation, Store, Same, here, onward, Det, NamesClass, root_of, node_of, IsFree, IsSound}
-use Rattle.tree_store.proofs.OrderLemmas.{below_trans, below_not}
+use Rattle.tree_node.specs.Store.{Equation, Store, Same, here, onward, Det, IsClassName, root_of, node_of, IsFree, IsSound}
 use Rattle.tree_node.proofs.ClassLemmas.{Same-trans, Same-sym, Contains-cons_cases, roots_tell_classes}
 use Rattle.tree_node.proofs.DetLemmas.{node_is_det, det_is_node}
 use Rattle.tree_node.specs.Order.{IsBelow, IsLower}
 use Rattle.tree_store.specs.Forest.{IsForest, IsGrown}
+use Rattle.tree_node.proofs.NameLemmas.{below_not, below_trans}
 
 -- no equation of its own leads on to a variable
 abbrev IsEnd : Store → VarName → Type 0
@@ -140,5 +140,5 @@ grown_sound ((u, term.Var v) ∷ s) g =
 grown_sound ((u, term.Node n) ∷ s) g = (grown_sound s g.0, free_none s u u (grown_forest s g.0) g.1 refl)
 
 -- a root names its class
-pub root_names : (s : Store) (x u : VarName) → root_of s u ≡ root_of s x → IsFree s u → NamesClass s x u
+pub root_names : (s : Store) (x u : VarName) → root_of s u ≡ root_of s x → IsFree s u → IsClassName s x u
 root_names s x u e free = ((roots_tell_classes s x u).1 (sym e), free)

@@ -3,21 +3,21 @@ use Rattle.std.proofs.Common.{arith, ◌^◌, ◌≡◌, ◌∙◌, sym, ap, ref
 use Rattle.std.specs.Prelude.{Option, Result, Ok, Err, OnErr, IsSome, unwrap_or}
 use Rattle.std.specs.Map.{lookup, set_value}
 use Rattle.tree_node.specs.declared.names.VarName.{VarName}
-use Rattle.tree_node.specs.Store.{same_name, joined}
-use Rattle.tree_node.proofs.ClassLemmas.{same_name_decides, same_name_refl, joined_when}
+use Rattle.tree_node.specs.Store.{equal_var, joined_root}
+use Rattle.tree_node.proofs.ClassLemmas.{same_name_decides, same_name_refl, joined_when, joined_same}
 use Rattle.tree_store.specs.declared.links.Place.{Place}
 use Rattle.tree_store.specs.Links.{Places, alone, place_in, IsTop, weight, total, IsTree, AreClasses, place_after}
 
-same_true : (x y : VarName) → x ≡ y → same_name x y ≡ true
+same_true : (x y : VarName) → x ≡ y → equal_var x y ≡ true
 same_true x y e = (same_name_decides x y).1 e
 
-same_back : (x y : VarName) → same_name x y ≡ true → x ≡ y
+same_back : (x y : VarName) → equal_var x y ≡ true → x ≡ y
 same_back x y e = (same_name_decides x y).0 e
 
-pub apart_false : (x y : VarName) → (x ≡ y → ⊥) → same_name x y ≡ false
-apart_false x y h = go (same_name x y) refl
+pub apart_false : (x y : VarName) → (x ≡ y → ⊥) → equal_var x y ≡ false
+apart_false x y h = go (equal_var x y) refl
   where
-    go : (b : Bool) → same_name x y ≡ b → b ≡ false
+    go : (b : Bool) → equal_var x y ≡ b → b ≡ false
     go true e = absurd (h (same_back x y e))
     go false e = refl
 
@@ -26,68 +26,68 @@ both_ways e = cc
 
 -- ---- places in lists
 
-pub put_lookup : {V : Type 0} (es : List (VarName × V)) (x y : VarName) (p : V) → IsSome (lookup (same_name x) es) →
-    lookup (same_name y) (set_value (same_name x) es p) ≡ cond (same_name x y) (Some p) (lookup (same_name y) es)
+pub put_lookup : {V : Type 0} (es : List (VarName × V)) (x y : VarName) (p : V) → IsSome (lookup (equal_var x) es) →
+    lookup (equal_var y) (set_value (equal_var x) es p) ≡ cond (equal_var x y) (Some p) (lookup (equal_var y) es)
 put_lookup [] x y p h = cc
-put_lookup ((z, q) ∷ es) x y p h = go (same_name x z) (same_name y z) refl refl h (λ k. put_lookup es x y p k)
+put_lookup ((z, q) ∷ es) x y p h = go (equal_var x z) (equal_var y z) refl refl h (λ k. put_lookup es x y p k)
   where
-    go : (b d : Bool) → same_name x z ≡ b → same_name y z ≡ d → IsSome (cond b (Some q) (lookup (same_name x) es)) →
-        (IsSome (lookup (same_name x) es) → lookup (same_name y) (set_value (same_name x) es p) ≡ cond (same_name x y) (Some p) (lookup (same_name y) es)) →
-        lookup (same_name y) (cond b ((z, p) ∷ es) ((z, q) ∷ set_value (same_name x) es p)) ≡ cond (same_name x y) (Some p) (cond d (Some q) (lookup (same_name y) es))
+    go : (b d : Bool) → equal_var x z ≡ b → equal_var y z ≡ d → IsSome (cond b (Some q) (lookup (equal_var x) es)) →
+        (IsSome (lookup (equal_var x) es) → lookup (equal_var y) (set_value (equal_var x) es p) ≡ cond (equal_var x y) (Some p) (lookup (equal_var y) es)) →
+        lookup (equal_var y) (cond b ((z, p) ∷ es) ((z, q) ∷ set_value (equal_var x) es p)) ≡ cond (equal_var x y) (Some p) (cond d (Some q) (lookup (equal_var y) es))
     go true true e f h ih = rw (f, same_true x y (same_back x z e ∙ sym (same_back y z f))) refl
     go true false e f h ih =
-        let differ : same_name x y ≡ false = apart_false x y (λ k. absurd (both_ways (sym (same_true y z (sym k ∙ same_back x z e)) ∙ f))) in
+        let differ : equal_var x y ≡ false = apart_false x y (λ k. absurd (both_ways (sym (same_true y z (sym k ∙ same_back x z e)) ∙ f))) in
         rw (f, differ) refl
     go false true e f h ih =
-        let differ : same_name x y ≡ false = apart_false x y (λ k. absurd (both_ways (sym (same_true x z (k ∙ same_back y z f)) ∙ e))) in
+        let differ : equal_var x y ≡ false = apart_false x y (λ k. absurd (both_ways (sym (same_true x z (k ∙ same_back y z f)) ∙ e))) in
         rw (f, differ) refl
     go false false e f h ih = rw f (ih h)
 
 -- a place that is put where one was
-pub place_put : (es : Places) (x y : VarName) (p : Place) → IsSome (lookup (same_name x) es) → place_in (set_value (same_name x) es p) y ≡ cond (same_name x y) p (place_in es y)
-place_put es x y p some = ap (λ (o : Option Place). unwrap_or o (alone y)) (put_lookup es x y p some) ∙ go (same_name x y)
+pub place_put : (es : Places) (x y : VarName) (p : Place) → IsSome (lookup (equal_var x) es) → place_in (set_value (equal_var x) es p) y ≡ cond (equal_var x y) p (place_in es y)
+place_put es x y p some = ap (λ (o : Option Place). unwrap_or o (alone y)) (put_lookup es x y p some) ∙ go (equal_var x y)
   where
-    go : (b : Bool) → unwrap_or (cond b (Some p) (lookup (same_name y) es)) (alone y) ≡ cond b p (place_in es y)
+    go : (b : Bool) → unwrap_or (cond b (Some p) (lookup (equal_var y) es)) (alone y) ≡ cond b p (place_in es y)
     go true = refl
     go false = refl
 
-pub put_stays : (es : Places) (x y : VarName) (p : Place) → IsSome (lookup (same_name y) es) → IsSome (lookup (same_name y) (set_value (same_name x) es p))
+pub put_stays : (es : Places) (x y : VarName) (p : Place) → IsSome (lookup (equal_var y) es) → IsSome (lookup (equal_var y) (set_value (equal_var x) es p))
 put_stays [] x y p h = h
-put_stays ((z, q) ∷ es) x y p h = go (same_name x z) (same_name y z) refl h (λ k. put_stays es x y p k)
+put_stays ((z, q) ∷ es) x y p h = go (equal_var x z) (equal_var y z) refl h (λ k. put_stays es x y p k)
   where
-    go : (b d : Bool) → same_name y z ≡ d → IsSome (cond d (Some q) (lookup (same_name y) es)) → (IsSome (lookup (same_name y) es) → IsSome (lookup (same_name y) (set_value (same_name x) es p))) →
-        IsSome (lookup (same_name y) (cond b ((z, p) ∷ es) ((z, q) ∷ set_value (same_name x) es p)))
+    go : (b d : Bool) → equal_var y z ≡ d → IsSome (cond d (Some q) (lookup (equal_var y) es)) → (IsSome (lookup (equal_var y) es) → IsSome (lookup (equal_var y) (set_value (equal_var x) es p))) →
+        IsSome (lookup (equal_var y) (cond b ((z, p) ∷ es) ((z, q) ∷ set_value (equal_var x) es p)))
     go true true e h ih = rw e refl
     go true false e h ih = rw e h
     go false true e h ih = rw e refl
     go false false e h ih = rw e (ih h)
 
-put_length : (es : Places) (x : VarName) (p : Place) → length (set_value (same_name x) es p) ≡ length es
+put_length : (es : Places) (x : VarName) (p : Place) → length (set_value (equal_var x) es p) ≡ length es
 put_length [] x p = refl
-put_length ((z, q) ∷ es) x p = go (same_name x z) (put_length es x p)
+put_length ((z, q) ∷ es) x p = go (equal_var x z) (put_length es x p)
   where
-    go : (b : Bool) → length (set_value (same_name x) es p) ≡ length es → length (cond b ((z, p) ∷ es) ((z, q) ∷ set_value (same_name x) es p)) ≡ length ((z, q) ∷ es)
+    go : (b : Bool) → length (set_value (equal_var x) es p) ≡ length es → length (cond b ((z, p) ∷ es) ((z, q) ∷ set_value (equal_var x) es p)) ≡ length ((z, q) ∷ es)
     go true e = refl
     go false e = omega arith
 
 -- what a place that is put adds to the sizes
-put_total : (es : Places) (x : VarName) (p : Place) → IsSome (lookup (same_name x) es) → total (set_value (same_name x) es p) + weight x (place_in es x) ≡ total es + weight x p
+put_total : (es : Places) (x : VarName) (p : Place) → IsSome (lookup (equal_var x) es) → total (set_value (equal_var x) es p) + weight x (place_in es x) ≡ total es + weight x p
 put_total [] x p h = cc
-put_total ((z, q) ∷ es) x p h = go (same_name x z) refl h (λ k. put_total es x p k)
+put_total ((z, q) ∷ es) x p h = go (equal_var x z) refl h (λ k. put_total es x p k)
   where
-    go : (b : Bool) → same_name x z ≡ b → IsSome (cond b (Some q) (lookup (same_name x) es)) →
-        (IsSome (lookup (same_name x) es) → total (set_value (same_name x) es p) + weight x (place_in es x) ≡ total es + weight x p) →
-        total (cond b ((z, p) ∷ es) ((z, q) ∷ set_value (same_name x) es p)) + weight x (unwrap_or (cond b (Some q) (lookup (same_name x) es)) (alone x)) ≡ weight z q + total es + weight x p
+    go : (b : Bool) → equal_var x z ≡ b → IsSome (cond b (Some q) (lookup (equal_var x) es)) →
+        (IsSome (lookup (equal_var x) es) → total (set_value (equal_var x) es p) + weight x (place_in es x) ≡ total es + weight x p) →
+        total (cond b ((z, p) ∷ es) ((z, q) ∷ set_value (equal_var x) es p)) + weight x (unwrap_or (cond b (Some q) (lookup (equal_var x) es)) (alone x)) ≡ weight z q + total es + weight x p
     go true e h ih = let at : x ≡ z = same_back x z e in subst (λ (y : VarName). weight y p + total es + weight x q ≡ weight y q + total es + weight x p) at (omega arith)
     go false e h ih = let rest = ih h in omega arith
 
 -- a top's size is at most all sizes
-top_total : (es : Places) (x : VarName) → IsSome (lookup (same_name x) es) → weight x (place_in es x) ≤ total es
+top_total : (es : Places) (x : VarName) → IsSome (lookup (equal_var x) es) → weight x (place_in es x) ≤ total es
 top_total [] x h = cc
-top_total ((z, q) ∷ es) x h = go (same_name x z) refl h (λ k. top_total es x k)
+top_total ((z, q) ∷ es) x h = go (equal_var x z) refl h (λ k. top_total es x k)
   where
-    go : (b : Bool) → same_name x z ≡ b → IsSome (cond b (Some q) (lookup (same_name x) es)) → (IsSome (lookup (same_name x) es) → weight x (place_in es x) ≤ total es) →
-        weight x (unwrap_or (cond b (Some q) (lookup (same_name x) es)) (alone x)) ≤ weight z q + total es
+    go : (b : Bool) → equal_var x z ≡ b → IsSome (cond b (Some q) (lookup (equal_var x) es)) → (IsSome (lookup (equal_var x) es) → weight x (place_in es x) ≤ total es) →
+        weight x (unwrap_or (cond b (Some q) (lookup (equal_var x) es)) (alone x)) ≤ weight z q + total es
     go true e h ih = let at : x ≡ z = same_back x z e in subst (λ (y : VarName). weight x q ≤ weight y q + total es) at (omega arith)
     go false e h ih = let rest = ih h in omega arith
 
@@ -104,26 +104,26 @@ alone_length : (es : Places) (x : VarName) → length (es ++ (x, alone x) ∷ []
 alone_length [] x = refl
 alone_length ((z, q) ∷ es) x = let rest = alone_length es x in omega arith
 
-pub alone_lookup : (es : Places) (x y : VarName) → lookup (same_name x) es ≡ None → place_in (es ++ (x, alone x) ∷ []) y ≡ place_in es y
-alone_lookup [] x y h = go (same_name y x) refl
+pub alone_lookup : (es : Places) (x y : VarName) → lookup (equal_var x) es ≡ None → place_in (es ++ (x, alone x) ∷ []) y ≡ place_in es y
+alone_lookup [] x y h = go (equal_var y x) refl
   where
-    go : (b : Bool) → same_name y x ≡ b → unwrap_or (cond b (Some (alone x)) None) (alone y) ≡ alone y
+    go : (b : Bool) → equal_var y x ≡ b → unwrap_or (cond b (Some (alone x)) None) (alone y) ≡ alone y
     go true e = ap alone (sym (same_back y x e))
     go false e = refl
-alone_lookup ((z, q) ∷ es) x y h = go (same_name x z) (same_name y z) refl h (λ k. alone_lookup es x y k)
+alone_lookup ((z, q) ∷ es) x y h = go (equal_var x z) (equal_var y z) refl h (λ k. alone_lookup es x y k)
   where
-    go : (b d : Bool) → same_name x z ≡ b → cond b (Some q) (lookup (same_name x) es) ≡ None → (lookup (same_name x) es ≡ None → place_in (es ++ (x, alone x) ∷ []) y ≡ place_in es y) →
-        unwrap_or (cond d (Some q) (lookup (same_name y) (es ++ (x, alone x) ∷ []))) (alone y) ≡ unwrap_or (cond d (Some q) (lookup (same_name y) es)) (alone y)
+    go : (b d : Bool) → equal_var x z ≡ b → cond b (Some q) (lookup (equal_var x) es) ≡ None → (lookup (equal_var x) es ≡ None → place_in (es ++ (x, alone x) ∷ []) y ≡ place_in es y) →
+        unwrap_or (cond d (Some q) (lookup (equal_var y) (es ++ (x, alone x) ∷ []))) (alone y) ≡ unwrap_or (cond d (Some q) (lookup (equal_var y) es)) (alone y)
     go true d e h ih = cc
     go false true e h ih = refl
     go false false e h ih = ih h
 
-pub alone_stays : (es : Places) (x y : VarName) → IsSome (lookup (same_name y) es) → IsSome (lookup (same_name y) (es ++ (x, alone x) ∷ []))
+pub alone_stays : (es : Places) (x y : VarName) → IsSome (lookup (equal_var y) es) → IsSome (lookup (equal_var y) (es ++ (x, alone x) ∷ []))
 alone_stays [] x y h = cc
-alone_stays ((z, q) ∷ es) x y h = go (same_name y z) h (λ k. alone_stays es x y k)
+alone_stays ((z, q) ∷ es) x y h = go (equal_var y z) h (λ k. alone_stays es x y k)
   where
-    go : (b : Bool) → IsSome (cond b (Some q) (lookup (same_name y) es)) → (IsSome (lookup (same_name y) es) → IsSome (lookup (same_name y) (es ++ (x, alone x) ∷ []))) →
-        IsSome (cond b (Some q) (lookup (same_name y) (es ++ (x, alone x) ∷ [])))
+    go : (b : Bool) → IsSome (cond b (Some q) (lookup (equal_var y) es)) → (IsSome (lookup (equal_var y) es) → IsSome (lookup (equal_var y) (es ++ (x, alone x) ∷ []))) →
+        IsSome (cond b (Some q) (lookup (equal_var y) (es ++ (x, alone x) ∷ [])))
     go true h ih = h
     go false h ih = ih h
 
@@ -132,7 +132,7 @@ same_rises : (es fs : Places) → ((y : VarName) → place_in fs y ≡ place_in 
     IsTop (place_in fs) x ⊎ (2 * (place_in fs x).size ≤ (place_in fs (place_in fs x).parent).size)
 same_rises es fs h x r = rw (h x, h (place_in es x).parent) r
 
-pub tree_alone : (es fs : Places) (x : VarName) → fs ≡ es ++ (x, alone x) ∷ [] → lookup (same_name x) es ≡ None → IsTree es → IsTree fs
+pub tree_alone : (es fs : Places) (x : VarName) → fs ≡ es ++ (x, alone x) ∷ [] → lookup (equal_var x) es ≡ None → IsTree es → IsTree fs
 tree_alone es fs x e none t =
     let same : (y : VarName) → place_in fs y ≡ place_in es y = λ y. ap (λ (gs : Places). place_in gs y) e ∙ alone_lookup es x y none in
     record {
@@ -157,17 +157,17 @@ abbrev pub above_place : (VarName → Place) → VarName → VarName → VarName
 above_place place c w e = record { parent = w; size = (place c).size + (place w).size; end = e }
 
 abbrev pub places_after : Places → VarName → VarName → VarName → Places
-places_after es c w e = set_value (same_name w) (set_value (same_name c) es (below_place (place_in es) c w)) (above_place (place_in es) c w e)
+places_after es c w e = set_value (equal_var w) (set_value (equal_var c) es (below_place (place_in es) c w)) (above_place (place_in es) c w e)
 
-pub places_hung : (es : Places) (c w e y : VarName) → IsSome (lookup (same_name c) es) → IsSome (lookup (same_name w) es) → place_in (places_after es c w e) y ≡ place_after (place_in es) c w e y
+pub places_hung : (es : Places) (c w e y : VarName) → IsSome (lookup (equal_var c) es) → IsSome (lookup (equal_var w) es) → place_in (places_after es c w e) y ≡ place_after (place_in es) c w e y
 places_hung es c w e y hc hw =
-    place_put (set_value (same_name c) es (below_place (place_in es) c w)) w y (above_place (place_in es) c w e) (put_stays es c w (below_place (place_in es) c w) hw)
-    ∙ ap (λ (p : Place). cond (same_name w y) (above_place (place_in es) c w e) p) (place_put es c y (below_place (place_in es) c w) hc)
+    place_put (set_value (equal_var c) es (below_place (place_in es) c w)) w y (above_place (place_in es) c w e) (put_stays es c w (below_place (place_in es) c w) hw)
+    ∙ ap (λ (p : Place). cond (equal_var w y) (above_place (place_in es) c w e) p) (place_put es c y (below_place (place_in es) c w) hc)
 
 size_hung : (place : VarName → Place) (c w e x : VarName) → (place x).size ≤ (place_after place c w e x).size
-size_hung place c w e x = go (same_name w x) (same_name c x) refl refl
+size_hung place c w e x = go (equal_var w x) (equal_var c x) refl refl
   where
-    go : (b d : Bool) → same_name w x ≡ b → same_name c x ≡ d → (place x).size ≤ (cond b (above_place place c w e) (cond d (below_place place c w) (place x))).size
+    go : (b d : Bool) → equal_var w x ≡ b → equal_var c x ≡ d → (place x).size ≤ (cond b (above_place place c w e) (cond d (below_place place c w) (place x))).size
     go true d p q = subst (λ (z : VarName). (place z).size ≤ (place c).size + (place w).size) (same_back w x p) (omega arith)
     go false true p q = subst (λ (z : VarName). (place z).size ≤ (place c).size) (same_back c x q) (omega arith)
     go false false p q = omega arith
@@ -177,7 +177,7 @@ above_there place c w e = rw (same_name_refl w) refl
 
 rises_hung : (place : VarName → Place) (c w e y : VarName) → (place c).size ≤ (place w).size → IsTop place y ⊎ (2 * (place y).size ≤ (place (place y).parent).size) →
     IsTop (place_after place c w e) y ⊎ (2 * (place_after place c w e y).size ≤ (place_after place c w e (place_after place c w e y).parent).size)
-rises_hung place c w e y smaller rises = go (same_name w y) (same_name c y) refl refl
+rises_hung place c w e y smaller rises = go (equal_var w y) (equal_var c y) refl refl
   where
     Rises : Place → Type 0
     Rises p = (p.parent ≡ y) ⊎ (2 * p.size ≤ (place_after place c w e p.parent).size)
@@ -186,7 +186,7 @@ rises_hung place c w e y smaller rises = go (same_name w y) (same_name c y) refl
     old (inl t) = inl t
     old (inr r) = let more = size_hung place c w e (place y).parent in inr (omega arith)
 
-    go : (b d : Bool) → same_name w y ≡ b → same_name c y ≡ d → Rises (cond b (above_place place c w e) (cond d (below_place place c w) (place y)))
+    go : (b d : Bool) → equal_var w y ≡ b → equal_var c y ≡ d → Rises (cond b (above_place place c w e) (cond d (below_place place c w) (place y)))
     go true d p q = inl (same_back w y p)
     go false true p q =
         let sum : (place_after place c w e w).size ≡ (place c).size + (place w).size = ap (λ (r : Place). r.size) (above_there place c w e) in
@@ -197,28 +197,28 @@ moved_rises : (place other : VarName → Place) (y : VarName) → ((x : VarName)
     IsTop other y ⊎ (2 * (other y).size ≤ (other (other y).parent).size)
 moved_rises place other y h r = rw (h y, h (place y).parent) r
 
-top_there : (es : Places) (c w : VarName) → (c ≡ w → ⊥) → IsSome (lookup (same_name c) es) → place_in (set_value (same_name c) es (below_place (place_in es) c w)) w ≡ place_in es w
+top_there : (es : Places) (c w : VarName) → (c ≡ w → ⊥) → IsSome (lookup (equal_var c) es) → place_in (set_value (equal_var c) es (below_place (place_in es) c w)) w ≡ place_in es w
 top_there es c w differ hc = place_put es c w (below_place (place_in es) c w) hc ∙ rw (apart_false c w differ) refl
 
-below_total : (es : Places) (c w : VarName) → (c ≡ w → ⊥) → IsTop (place_in es) c → IsSome (lookup (same_name c) es) →
-    total (set_value (same_name c) es (below_place (place_in es) c w)) + (place_in es c).size ≡ total es
+below_total : (es : Places) (c w : VarName) → (c ≡ w → ⊥) → IsTop (place_in es) c → IsSome (lookup (equal_var c) es) →
+    total (set_value (equal_var c) es (below_place (place_in es) c w)) + (place_in es c).size ≡ total es
 below_total es c w differ tc hc =
     let put = put_total es c (below_place (place_in es) c w) hc in
     let own : weight c (place_in es c) ≡ (place_in es c).size = top_weight (place_in es) c tc in
     let none : weight c (below_place (place_in es) c w) ≡ 0 = rw (apart_false w c (λ e. differ (sym e))) refl in
     omega arith
 
-pub sizes_fit : (es : Places) (c w : VarName) → IsTree es → (c ≡ w → ⊥) → IsTop (place_in es) c → IsTop (place_in es) w → IsSome (lookup (same_name c) es) → IsSome (lookup (same_name w) es) →
+pub sizes_fit : (es : Places) (c w : VarName) → IsTree es → (c ≡ w → ⊥) → IsTop (place_in es) c → IsTop (place_in es) w → IsSome (lookup (equal_var c) es) → IsSome (lookup (equal_var w) es) →
     (place_in es c).size + (place_in es w).size ≤ length es
 sizes_fit es c w t differ tc tw hc hw =
     let first = below_total es c w differ tc hc in
     let there = top_there es c w differ hc in
-    let part = top_total (set_value (same_name c) es (below_place (place_in es) c w)) w (put_stays es c w (below_place (place_in es) c w) hw) in
-    let own : weight w (place_in (set_value (same_name c) es (below_place (place_in es) c w)) w) ≡ (place_in es w).size = ap (weight w) there ∙ top_weight (place_in es) w tw in
+    let part = top_total (set_value (equal_var c) es (below_place (place_in es) c w)) w (put_stays es c w (below_place (place_in es) c w) hw) in
+    let own : weight w (place_in (set_value (equal_var c) es (below_place (place_in es) c w)) w) ≡ (place_in es w).size = ap (weight w) there ∙ top_weight (place_in es) w tw in
     let all = t.counts in
     omega arith
 
-pub tree_hung : (es : Places) (c w e : VarName) → IsTree es → (c ≡ w → ⊥) → IsTop (place_in es) c → IsTop (place_in es) w → IsSome (lookup (same_name c) es) → IsSome (lookup (same_name w) es) →
+pub tree_hung : (es : Places) (c w e : VarName) → IsTree es → (c ≡ w → ⊥) → IsTop (place_in es) c → IsTop (place_in es) w → IsSome (lookup (equal_var c) es) → IsSome (lookup (equal_var w) es) →
     (place_in es c).size ≤ (place_in es w).size → IsTree (places_after es c w e)
 tree_hung es c w e t differ tc tw hc hw smaller = record {
   rises = λ y. moved_rises (place_after (place_in es) c w e) (place_in (places_after es c w e)) y at (rises_hung (place_in es) c w e y smaller (t.rises y));
@@ -233,7 +233,7 @@ tree_hung es c w e t differ tc tw hc hw smaller = record {
     sums =
         let first = below_total es c w differ tc hc in
         let there = top_there es c w differ hc in
-        let fs : Places = set_value (same_name c) es (below_place (place_in es) c w) in
+        let fs : Places = set_value (equal_var c) es (below_place (place_in es) c w) in
         let second = put_total fs w (above_place (place_in es) c w e) (put_stays es c w (below_place (place_in es) c w) hw) in
         let own : weight w (place_in fs w) ≡ (place_in es w).size = ap (weight w) there ∙ top_weight (place_in es) w tw in
         let new : weight w (above_place (place_in es) c w e) ≡ (place_in es c).size + (place_in es w).size = rw (same_name_refl w) refl in
@@ -247,24 +247,21 @@ tree_hung es c w e t differ tc tw hc hw smaller = record {
 abbrev pub AreTopsOf : (VarName → VarName) → VarName → VarName → VarName → VarName → Type 0
 AreTopsOf root x y c w = ((root c ≡ root x) × (root w ≡ root y)) ⊎ ((root c ≡ root y) × (root w ≡ root x))
 
-joined_right : (root : VarName → VarName) (x y z : VarName) → root z ≡ root y → joined root x y z ≡ root y
-joined_right root x y z e = go (same_name (root z) (root x))
+joined_right : (root : VarName → VarName) (x y z : VarName) → root z ≡ root y → joined_root root x y z ≡ root y
+joined_right root x y z e = go (equal_var (root z) (root x))
   where
     go : (b : Bool) → cond b (root y) (root z) ≡ root y
     go true = refl
     go false = e
 
-joined_other : (root : VarName → VarName) (x y z : VarName) → (root z ≡ root x → ⊥) → joined root x y z ≡ root z
+joined_other : (root : VarName → VarName) (x y z : VarName) → (root z ≡ root x → ⊥) → joined_root root x y z ≡ root z
 joined_other root x y z h = rw (apart_false (root z) (root x) h) refl
 
-joined_same : (root : VarName → VarName) (x y a b : VarName) → root a ≡ root b → joined root x y a ≡ joined root x y b
-joined_same root x y a b e = ap (λ (r : VarName). cond (same_name r (root x)) (root y) r) e
-
-child_joined : (root : VarName → VarName) (x y c w : VarName) → AreTopsOf root x y c w → joined root x y c ≡ root y
+child_joined : (root : VarName → VarName) (x y c w : VarName) → AreTopsOf root x y c w → joined_root root x y c ≡ root y
 child_joined root x y c w (inl h) = joined_when root x y c h.0
 child_joined root x y c w (inr h) = joined_right root x y c h.0
 
-top_joined : (root : VarName → VarName) (x y c w : VarName) → AreTopsOf root x y c w → joined root x y w ≡ root y
+top_joined : (root : VarName → VarName) (x y c w : VarName) → AreTopsOf root x y c w → joined_root root x y w ≡ root y
 top_joined root x y c w (inl h) = joined_right root x y w h.1
 top_joined root x y c w (inr h) = joined_when root x y w h.1
 
@@ -285,53 +282,53 @@ data IsKept (place : VarName → Place) (c w z : VarName) : Type 0 where
   other : IsTop place z → (c ≡ z → ⊥) → (w ≡ z → ⊥) → IsKept place c w z
 
 kept : (place : VarName → Place) (c w e z : VarName) → (c ≡ w → ⊥) → IsTop (place_after place c w e) z → IsKept place c w z
-kept place c w e z differ t = go (same_name w z) (same_name c z) refl refl t
+kept place c w e z differ t = go (equal_var w z) (equal_var c z) refl refl t
   where
-    go : (b d : Bool) → same_name w z ≡ b → same_name c z ≡ d → (cond b (above_place place c w e) (cond d (below_place place c w) (place z))).parent ≡ z → IsKept place c w z
+    go : (b d : Bool) → equal_var w z ≡ b → equal_var c z ≡ d → (cond b (above_place place c w e) (cond d (below_place place c w) (place z))).parent ≡ z → IsKept place c w z
     go true d p q h = joint (same_back w z p)
     go false true p q h = absurd (differ (same_back c z q ∙ sym h))
     go false false p q h = other h (λ k. both_ways (sym (same_true c z k) ∙ q)) (λ k. both_ways (sym (same_true w z k) ∙ p))
 
 pub tells_hung : (root : VarName → VarName) (place : VarName → Place) (x y c w e : VarName) → AreClasses root place → IsTop place c → IsTop place w → (c ≡ w → ⊥) → (root x ≡ root y → ⊥) →
-    AreTopsOf root x y c w → e ≡ root y → AreClasses (joined root x y) (place_after place c w e)
+    AreTopsOf root x y c w → e ≡ root y → AreClasses (joined_root root x y) (place_after place c w e)
 tells_hung root place x y c w e t tc tw differ apart tops ends = record { parent = parent; end = end; one = one }
   where
-    parent : (z : VarName) → joined root x y (place_after place c w e z).parent ≡ joined root x y z
-    parent z = go (same_name w z) (same_name c z) refl refl
+    parent : (z : VarName) → joined_root root x y (place_after place c w e z).parent ≡ joined_root root x y z
+    parent z = go (equal_var w z) (equal_var c z) refl refl
       where
-        go : (b d : Bool) → same_name w z ≡ b → same_name c z ≡ d → joined root x y (cond b (above_place place c w e) (cond d (below_place place c w) (place z))).parent ≡ joined root x y z
-        go true d p q = ap (joined root x y) (same_back w z p)
-        go false true p q = top_joined root x y c w tops ∙ sym (child_joined root x y c w tops) ∙ ap (joined root x y) (same_back c z q)
+        go : (b d : Bool) → equal_var w z ≡ b → equal_var c z ≡ d → joined_root root x y (cond b (above_place place c w e) (cond d (below_place place c w) (place z))).parent ≡ joined_root root x y z
+        go true d p q = ap (joined_root root x y) (same_back w z p)
+        go false true p q = top_joined root x y c w tops ∙ sym (child_joined root x y c w tops) ∙ ap (joined_root root x y) (same_back c z q)
         go false false p q = joined_same root x y (place z).parent z (t.parent z)
 
     -- the root of another top is its own
-    alone_root : (z : VarName) → IsTop place z → (c ≡ z → ⊥) → (w ≡ z → ⊥) → joined root x y z ≡ root z
+    alone_root : (z : VarName) → IsTop place z → (c ≡ z → ⊥) → (w ≡ z → ⊥) → joined_root root x y z ≡ root z
     alone_root z tz nc nw = joined_other root x y z (not_left root place x y c w z t tc tw tops tz nc nw)
 
-    end : (z : VarName) → IsTop (place_after place c w e) z → joined root x y z ≡ (place_after place c w e z).end
+    end : (z : VarName) → IsTop (place_after place c w e) z → joined_root root x y z ≡ (place_after place c w e z).end
     end z tz = go (kept place c w e z differ tz)
       where
-        go : IsKept place c w z → joined root x y z ≡ (place_after place c w e z).end
-        go (joint p) = subst (λ (v : VarName). joined root x y v ≡ (place_after place c w e v).end) p (top_joined root x y c w tops ∙ sym ends ∙ ap (λ (r : Place). r.end) (sym (above_there place c w e)))
+        go : IsKept place c w z → joined_root root x y z ≡ (place_after place c w e z).end
+        go (joint p) = subst (λ (v : VarName). joined_root root x y v ≡ (place_after place c w e v).end) p (top_joined root x y c w tops ∙ sym ends ∙ ap (λ (r : Place). r.end) (sym (above_there place c w e)))
         go (other p nc nw) = alone_root z p nc nw ∙ t.end z p ∙ sym (rw (apart_false w z nw, apart_false c z nc) refl)
 
-    one : (a b : VarName) → IsTop (place_after place c w e) a → IsTop (place_after place c w e) b → joined root x y a ≡ joined root x y b → a ≡ b
+    one : (a b : VarName) → IsTop (place_after place c w e) a → IsTop (place_after place c w e) b → joined_root root x y a ≡ joined_root root x y b → a ≡ b
     one a b ta tb same = go (kept place c w e a differ ta) (kept place c w e b differ tb)
       where
         go : IsKept place c w a → IsKept place c w b → a ≡ b
         go (joint p) (joint q) = sym p ∙ q
         go (joint p) (other q nc nw) =
-            absurd (not_right root place x y c w b t tc tw tops q nc nw (sym (alone_root b q nc nw) ∙ sym same ∙ ap (joined root x y) (sym p) ∙ top_joined root x y c w tops))
+            absurd (not_right root place x y c w b t tc tw tops q nc nw (sym (alone_root b q nc nw) ∙ sym same ∙ ap (joined_root root x y) (sym p) ∙ top_joined root x y c w tops))
         go (other p nc nw) (joint q) =
-            absurd (not_right root place x y c w a t tc tw tops p nc nw (sym (alone_root a p nc nw) ∙ same ∙ ap (joined root x y) (sym q) ∙ top_joined root x y c w tops))
+            absurd (not_right root place x y c w a t tc tw tops p nc nw (sym (alone_root a p nc nw) ∙ same ∙ ap (joined_root root x y) (sym q) ∙ top_joined root x y c w tops))
         go (other p nc nw) (other q mc mw) = t.one a b p q (sym (alone_root a p nc nw) ∙ same ∙ alone_root b q mc mw)
 
 -- the same where the places were written down in between
 pub join_tells : (root : VarName → VarName) (place settled new : VarName → Place) (x y c w e : VarName) → AreClasses root place → ((z : VarName) → settled z ≡ place z) →
     IsTop place c → IsTop place w → (c ≡ w → ⊥) → (root x ≡ root y → ⊥) → AreTopsOf root x y c w → e ≡ root y → ((z : VarName) → new z ≡ place_after settled c w e z) →
-    AreClasses (joined root x y) new
+    AreClasses (joined_root root x y) new
 join_tells root place settled new x y c w e t same tc tw differ apart tops ends at =
-    tells_same (joined root x y) (place_after settled c w e) new at
+    tells_same (joined_root root x y) (place_after settled c w e) new at
     (tells_hung root settled x y c w e (tells_same root place settled same t) (rw (same c) tc) (rw (same w) tw) differ apart tops ends)
 
 pub end_told : (root : VarName → VarName) (place settled : VarName → Place) (top x : VarName) (p : Place) → AreClasses root place → ((z : VarName) → settled z ≡ place z) → IsTop place top →

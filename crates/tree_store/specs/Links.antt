@@ -5,7 +5,7 @@ use Rattle.std.specs.Map.{lookup}
 use Rattle.tree_node.specs.declared.names.VarName.{VarName}
 use Rattle.tree_node.specs.declared.node.Term.{Term}
 use Rattle.tree_node.specs.declared.node.Term.TheVariants as term
-use Rattle.tree_node.specs.Store.{Store, same_name, joined, root_of}
+use Rattle.tree_node.specs.Store.{Store, equal_var, joined_root, root_of}
 use Rattle.tree_store.specs.Forest.{IsGrown}
 use Rattle.tree_store.specs.declared.links.Place.{Place}
 
@@ -17,7 +17,7 @@ abbrev pub alone : VarName → Place
 alone x = record { parent = x; size = 1; end = x }
 
 abbrev pub place_in : Places → VarName → Place
-place_in places x = unwrap_or (lookup (same_name x) places) (alone x)
+place_in places x = unwrap_or (lookup (equal_var x) places) (alone x)
 
 -- the variable stands for its class
 abbrev pub IsTop : (VarName → Place) → VarName → Type 0
@@ -25,7 +25,7 @@ IsTop place x = (place x).parent ≡ x
 
 -- the sizes of the classes, added up
 abbrev pub weight : VarName → Place → ℕ
-weight x p = if same_name p.parent x then p.size else 0
+weight x p = if equal_var p.parent x then p.size else 0
 
 abbrev pub total : Places → ℕ
 total [] = 0
@@ -47,12 +47,12 @@ pub record AreClasses (root : VarName → VarName) (place : VarName → Place) :
 -- the places once a tree is hung below the top of another, whose class ends at e from now on
 abbrev pub place_after : (VarName → Place) → VarName → VarName → VarName → VarName → Place
 place_after place child top e x =
-    if same_name top x then record { parent = top; size = (place child).size + (place top).size; end = e }
-    else (if same_name child x then record { parent = top; size = (place child).size; end = (place child).end } else place x)
+    if equal_var top x then record { parent = top; size = (place child).size + (place top).size; end = e }
+    else (if equal_var child x then record { parent = top; size = (place child).size; end = (place child).end } else place x)
 
 -- the classes after an equation u = t, and that it joins no class to itself
 abbrev pub root_with : (VarName → VarName) → VarName → Term → VarName → VarName
-root_with root u (term.Var v) x = joined root u v x
+root_with root u (term.Var v) x = joined_root root u v x
 root_with root u (term.Node n) x = root x
 
 abbrev pub IsApart : (VarName → VarName) → VarName → Term → Type 0

@@ -2,7 +2,7 @@
 use Rattle.std.specs.Prelude.{◌≡◌, ℕ, zero, suc, ◌+◌, ◌-◌, ◌≤◌, List, [], ◌∷◌, ◌++◌, length, slice_index, Bool, ◌&&◌, ◌==◌, nat_lt, Option, Some, None, if◌then◌else◌}
 use Rattle.std.specs.Map.{lookup, set_value}
 use Rattle.tree_node.specs.declared.names.VarName.{VarName}
-use Rattle.tree_node.specs.Store.{same_name}
+use Rattle.tree_node.specs.Store.{equal_var}
 use Rattle.tree_store.specs.declared.names.Entry.{Entry}
 
 -- the names of one site from a number on, each with the ordinal of its equation, and the others
@@ -43,10 +43,10 @@ entry_ordinal (Some e) = e.ordinal
 -- the ordinal of a name's equation; 0, where it has none
 unfoldable pub ordinal_of : Filed → VarName → ℕ
 ordinal_of f x =
-    if is_own f x then slice_index f.own (x.num - f.first) else entry_ordinal (lookup (same_name x) f.others)
+    if is_own f x then slice_index f.own (x.num - f.first) else entry_ordinal (lookup (equal_var x) f.others)
 
 -- the entries after an ordinal is filed at a name that has an entry
 abbrev pub IsPut : List (VarName × Entry) → VarName → ℕ → List (VarName × Entry) → Type 0
 IsPut old x ordinal new =
-    (e : Entry) × (lookup (same_name x) old ≡ Some e)
-    × (new ≡ set_value (same_name x) old (record { before = e.before; ordinal = ordinal }))
+    (e : Entry) × (lookup (equal_var x) old ≡ Some e)
+    × (new ≡ set_value (equal_var x) old (record { before = e.before; ordinal = ordinal }))

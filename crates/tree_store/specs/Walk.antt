@@ -4,23 +4,23 @@ use Rattle.tree_node.specs.declared.names.VarName.{VarName}
 use Rattle.tree_node.specs.declared.node.Feature.{Feature}
 use Rattle.tree_node.specs.Spelling.{feature_text}
 use Rattle.tree_node.specs.Store.{Store, node_of}
-use Rattle.tree_node.specs.Shown.{Show, Text, Needs, go_on, is_feature, is_pair, is_cut}
+use Rattle.tree_node.specs.Shown.{Show, Text, Needs, and_then, is_feature, is_pair, is_cut}
 use Rattle.tree_store.specs.declared.walk.Found.{Found}
 use Rattle.tree_store.specs.declared.walk.Found.TheVariants as found
 
 -- the text behind what is written
-abbrev pub after : List ℕ → Show → Show
-after written (Text text left) = Text (written ++ text) left
-after written (Needs x) = Needs x
+abbrev pub text_after : List ℕ → Show → Show
+text_after written (Text text left) = Text (written ++ text) left
+text_after written (Needs x) = Needs x
 
 -- a walk's answer, with all that is written
-abbrev pub ending : Found → List ℕ → Show
-ending (found.Left left) written = Text written left
-ending (found.Needs x) written = Needs x
+abbrev pub text_end : Found → List ℕ → Show
+text_end (found.Left left) written = Text written left
+text_end (found.Needs x) written = Needs x
 
 -- the text between a front and a back
 abbrev pub between : List ℕ → List ℕ → Show → Show
-between front back w = go_on w (λ text left. Text (front ++ (text ++ back)) left)
+between front back w = and_then w (λ text left. Text (front ++ (text ++ back)) left)
 
 -- the head of a list stands in brackets where it is a list that is shown
 abbrev pub has_brackets : Store → ℕ → ℕ → VarName → Bool

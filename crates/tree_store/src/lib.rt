@@ -19,8 +19,8 @@
 //! others in a map (`names`). Classes are kept by union and find, so that a root is found in steps that grow with the
 //! logarithm of the class (`links`). `walk` writes shown values, and `waiters` keeps the keys.
 //!
-//! It stands on `tree_node`, whose definitions of stores and shown lines it meets, and on `indexmap` and `slab`. That a
-//! store may go to another thread is shown by a test alone.
+//! It stands on `tree_node`, whose definitions of stores and shown lines it meets, and on `indexmap` and `slab`.
+//! `threads` shows that a store may go to another thread.
 //!
 //! Sources: Van Roy and Haridi, *Concepts, Techniques, and Models of Computer Programming*, sections 2.3 and 2.8.2.
 #![tactic(auto)]
@@ -28,8 +28,7 @@
 mod links;
 mod names;
 mod store;
-#[cfg(test)]
-mod tests;
+mod threads;
 mod waiters;
 mod walk;
 

@@ -3,7 +3,7 @@
 ghost use Rattle.std.specs.Prelude.{◌≡◌, ◌≤◌, [], OnOk, OnErr, IsSome};
 ghost use Rattle.std.specs.Map.{lookup, set_value};
 ghost use Rattle.tree_node.specs.declared.names.VarName.{VarName};
-ghost use Rattle.tree_node.specs.Store.{same_name, joined};
+ghost use Rattle.tree_node.specs.Store.{equal_var, joined_root};
 ghost use Rattle.tree_store.specs.Links.{place_in, IsTop, IsTree, AreClasses, place_after, root_with, IsApart};
 
 use indexmap::IndexMap;
@@ -61,8 +61,8 @@ fn add_place(places: &mut IndexMap<VarName, Place>, var: VarName) -> Result<(), 
     requires { IsTree places.old.entries }
     ensures tree { IsTree places.new.entries }
     ensures same { (y : VarName) → place_in places.new.entries y ≡ place_in places.old.entries y }
-    ensures there { OnOk result (IsSome (lookup (same_name var) places.new.entries)) }
-    ensures stay { (y : VarName) → IsSome (lookup (same_name y) places.old.entries) → IsSome (lookup (same_name y) places.new.entries) }
+    ensures there { OnOk result (IsSome (lookup (equal_var var) places.new.entries)) }
+    ensures stay { (y : VarName) → IsSome (lookup (equal_var y) places.old.entries) → IsSome (lookup (equal_var y) places.new.entries) }
 {
     match places.get(&var) {
         Some(_) => Ok(()),
@@ -80,8 +80,8 @@ fn add_place(places: &mut IndexMap<VarName, Place>, var: VarName) -> Result<(), 
 
 // Replaces the place of a variable.
 fn put(places: &mut IndexMap<VarName, Place>, var: VarName, place: Place)
-    requires { IsSome (lookup (same_name var) places.old.entries) }
-    ensures { places.new.entries ≡ set_value (same_name var) places.old.entries place }
+    requires { IsSome (lookup (equal_var var) places.old.entries) }
+    ensures { places.new.entries ≡ set_value (equal_var var) places.old.entries place }
 {
     if let Some(old) = places.get_mut(&var) {
         *old = place;
@@ -94,8 +94,8 @@ fn attach(places: &mut IndexMap<VarName, Place>, child: VarName, top: VarName, e
     requires apart { child ≡ top → ⊥ }
     requires child { IsTop (place_in places.old.entries) child }
     requires top { IsTop (place_in places.old.entries) top }
-    requires child_there { IsSome (lookup (same_name child) places.old.entries) }
-    requires top_there { IsSome (lookup (same_name top) places.old.entries) }
+    requires child_there { IsSome (lookup (equal_var child) places.old.entries) }
+    requires top_there { IsSome (lookup (equal_var top) places.old.entries) }
     requires smaller { (place_in places.old.entries child).size ≤ (place_in places.old.entries top).size }
     ensures tree { IsTree places.new.entries }
     ensures places { (y : VarName) → place_in places.new.entries y ≡ place_after (place_in places.old.entries) child top end y }
@@ -155,7 +155,7 @@ impl Links {
 
     // Joins the class of a variable to another one, which keeps its end.
     fn join(&mut self, var: VarName, other: VarName) -> Result<(), AllocError>
-        ensures ok { OnOk result ((root : VarName → VarName) → AreClasses root (place_in self.old) → (root var ≡ root other → ⊥) → AreClasses (joined root var other) (place_in self.new)) }
+        ensures ok { OnOk result ((root : VarName → VarName) → AreClasses root (place_in self.old) → (root var ≡ root other → ⊥) → AreClasses (joined_root root var other) (place_in self.new)) }
         ensures err { OnErr result ((root : VarName → VarName) → AreClasses root (place_in self.old) → AreClasses root (place_in self.new)) }
     {
         let upper = self.top(var);

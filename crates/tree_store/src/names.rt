@@ -3,7 +3,7 @@
 ghost use Rattle.std.specs.Prelude.{◌≡◌, ◌+◌, [], ◌∷◌, ◌++◌, OnOk, OnErr, IsTrue, ◌↔◌, Contains, IsSome, length, if◌then◌else◌};
 ghost use Rattle.std.specs.Map.{lookup};
 ghost use Rattle.tree_node.specs.declared.names.VarName.{VarName};
-ghost use Rattle.tree_node.specs.Store.{same_name};
+ghost use Rattle.tree_node.specs.Store.{equal_var};
 ghost use Rattle.tree_store.specs.Contents.{with_name};
 ghost use Rattle.tree_store.specs.Names.{names_in, is_own, ordinal_of, IsPut};
 
@@ -45,7 +45,7 @@ impl Model for Names {
 
 // Files an ordinal at a name outside the row.
 fn put(others: &mut IndexMap<VarName, Entry>, var: VarName, ordinal: usize)
-    requires { IsSome (lookup (same_name var) others.old.entries) }
+    requires { IsSome (lookup (equal_var var) others.old.entries) }
     ensures { IsPut others.old.entries var ordinal others.new.entries }
 {
     if let Some(entry) = others.get_mut(&var) {
@@ -164,7 +164,7 @@ impl Names {
     pub fn set(&mut self, var: VarName, ordinal: usize)
         requires { Contains (names_in self.old) var }
         ensures names { names_in self.new ≡ names_in self.old }
-        ensures ordinals { (y : VarName) → ordinal_of self.new y ≡ (if same_name var y then ordinal else ordinal_of self.old y) }
+        ensures ordinals { (y : VarName) → ordinal_of self.new y ≡ (if equal_var var y then ordinal else ordinal_of self.old y) }
     {
         if self.is_own(var) {
             self.own[(var.num - self.first) as usize] = ordinal;

@@ -4,7 +4,7 @@ ghost use Rattle.std.specs.Prelude.{◌≡◌, ◌≢◌, ℕ, [], ◌∷◌, �
 ghost use Rattle.slab.specs.Slab.{get};
 ghost use Rattle.tree_node.specs.declared.names.VarName.{VarName};
 ghost use Rattle.tree_store.specs.Waiting.{queue_of};
-ghost use Rattle.tree_store.specs.Contents.{keys_among, queued, woken};
+ghost use Rattle.tree_store.specs.Contents.{keys_among, with_key, without_keys};
 
 use indexmap::IndexMap;
 use slab::Slab;
@@ -66,7 +66,7 @@ impl Waiters {
     /// Puts a key behind the others that wait for a variable.
     #[tactic(auto, using(crate::proofs::WaitLemmas::queued_more, crate::proofs::WaitLemmas::queues_same))]
     pub fn add(&mut self, var: VarName, key: usize) -> Result<(), AllocError>
-        ensures ok { OnOk result ((y : VarName) → keys_among self.new y ≡ queued (keys_among self.old) var key y) }
+        ensures ok { OnOk result ((y : VarName) → keys_among self.new y ≡ with_key (keys_among self.old) var key y) }
         ensures err { OnErr result (self.new ≡ self.old) }
     {
         match self.numbers.get(&var) {
@@ -90,7 +90,7 @@ impl Waiters {
     #[tactic(auto, using(crate::proofs::WaitLemmas::keys_found, crate::proofs::WaitLemmas::none_woken))]
     pub fn take(&mut self, var: VarName) -> Keys
         ensures keys { result ≡ keys_among self.old var }
-        ensures rest { (y : VarName) → keys_among self.new y ≡ woken (keys_among self.old) var y }
+        ensures rest { (y : VarName) → keys_among self.new y ≡ without_keys (keys_among self.old) var y }
     {
         if self.numbers.is_empty() {
             return Seq::new(self.alloc);

@@ -6,7 +6,7 @@ ghost use Rattle.tree_node.specs.declared.node.Node.{Node};
 ghost use Rattle.tree_node.specs.Spelling.{atom_text};
 ghost use Rattle.tree_node.specs.Store.{node_of};
 ghost use Rattle.tree_node.specs.Shown.{Text, is_feature, head_and_tail, is_pair, is_cut, show_var, show_node, show_fields};
-ghost use Rattle.tree_store.specs.Walk.{after, ending, between, has_brackets, head_front, head_back, field_name, gap};
+ghost use Rattle.tree_store.specs.Walk.{text_after, text_end, between, has_brackets, head_front, head_back, field_name, gap};
 
 use crate::store::{Root, Store};
 use std::alloc::{AllocError, Global};
@@ -142,7 +142,7 @@ fn gap(more: &[(Feature, VarName)]) -> &'static [u8]
 
 // Writes where a walk is cut.
 fn write_cut(out: &mut Vec<u8>, left: u32) -> Result<Found, AllocError>
-    ensures { IfOk result (λ f. ending f out.new.items ≡ Text (out.old.items ++ codes ",,,") left) }
+    ensures { IfOk result (λ f. text_end f out.new.items ≡ Text (out.old.items ++ codes ",,,") left) }
 {
     out.extend_from_slice(b",,,")?;
     Ok(Found::Left(left))
@@ -159,7 +159,7 @@ pub fn walk(
     mut x: VarName,
 ) -> Result<Found, AllocError>
     requires { bounds.level ≤ 21 }
-    ensures { IfOk result (λ f. ending f out.new.items ≡ after out.old.items (show_var bounds.depth store.now.equations bounds.level bounds.left x)) }
+    ensures { IfOk result (λ f. text_end f out.new.items ≡ text_after out.old.items (show_var bounds.depth store.now.equations bounds.level bounds.left x)) }
 {
     'tails: loop {
         if must_stop(bounds) {
@@ -204,7 +204,7 @@ fn walk_part(
     back: &[u8],
 ) -> Result<Found, AllocError>
     requires { bounds.level ≤ 20 }
-    ensures { IfOk result (λ f. ending f out.new.items ≡ after out.old.items (between front.now back.now (show_var bounds.depth store.now.equations (bounds.level + 1) bounds.left x))) }
+    ensures { IfOk result (λ f. text_end f out.new.items ≡ text_after out.old.items (between front.now back.now (show_var bounds.depth store.now.equations (bounds.level + 1) bounds.left x))) }
 {
     out.extend_from_slice(front)?;
     let inner = Bounds {
@@ -232,7 +232,7 @@ fn walk_head(
     head: VarName,
 ) -> Result<Found, AllocError>
     requires { bounds.level ≤ 20 }
-    ensures { IfOk result (λ f. ending f out.new.items ≡ after out.old.items (between (head_front (has_brackets store.now.equations bounds.level bounds.left head))
+    ensures { IfOk result (λ f. text_end f out.new.items ≡ text_after out.old.items (between (head_front (has_brackets store.now.equations bounds.level bounds.left head))
         (head_back (has_brackets store.now.equations bounds.level bounds.left head)) (show_var bounds.depth store.now.equations (bounds.level + 1) bounds.left head))) }
 {
     let brackets = has_brackets(store, bounds, head);
@@ -253,7 +253,7 @@ fn walk_node(
 ) -> Result<Found, AllocError>
     requires level { bounds.level ≤ 20 }
     requires node { head_and_tail node.now ≡ None }
-    ensures { IfOk result (λ f. ending f out.new.items ≡ after out.old.items (show_node store.now.equations (show_var bounds.depth store.now.equations) bounds.level bounds.left node.now)) }
+    ensures { IfOk result (λ f. text_end f out.new.items ≡ text_after out.old.items (show_node store.now.equations (show_var bounds.depth store.now.equations) bounds.level bounds.left node.now)) }
 {
     if let Node::Rec(label, fields) = node {
         let found = walk_record(alloc, store, out, bounds, label, fields.as_slice())?;
@@ -276,7 +276,7 @@ fn walk_record(
     fields: &[(Feature, VarName)],
 ) -> Result<Found, AllocError>
     requires level { bounds.level ≤ 20 }
-    ensures { IfOk result (λ f. ending f out.new.items ≡ after out.old.items (between (atom_text label.now ++ 40 ∷ []) (41 ∷ []) (show_fields (show_var bounds.depth store.now.equations) bounds.level bounds.left 1 fields.now))) }
+    ensures { IfOk result (λ f. text_end f out.new.items ≡ text_after out.old.items (between (atom_text label.now ++ 40 ∷ []) (41 ∷ []) (show_fields (show_var bounds.depth store.now.equations) bounds.level bounds.left 1 fields.now))) }
 {
     let head = atom_text(alloc, label)?;
     out.extend_from_slice(head.as_slice())?;
@@ -302,7 +302,7 @@ fn walk_fields(
     fields: &[(Feature, VarName)],
 ) -> Result<Found, AllocError>
     requires level { bounds.level ≤ 20 }
-    ensures { IfOk result (λ f. ending f out.new.items ≡ after out.old.items (show_fields (show_var bounds.depth store.now.equations) bounds.level bounds.left 1 fields.now)) }
+    ensures { IfOk result (λ f. text_end f out.new.items ≡ text_after out.old.items (show_fields (show_var bounds.depth store.now.equations) bounds.level bounds.left 1 fields.now)) }
 {
     let mut rest = fields;
     let mut next = 1;

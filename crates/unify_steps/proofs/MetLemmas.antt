@@ -6,15 +6,15 @@ use Rattle.std.specs.Map.{lookup}
 use Rattle.std.specs.Global.{Vec}
 use Rattle.std.specs.Str.{bytes_eq}
 use Rattle.std.proofs.lemmas.Slice.Eq.{bytes_eq-Decides}
-use Rattle.std.proofs.lemmas.Bool.{and_parts}
+use Rattle.std.proofs.lemmas.Bool.{and_parts, or_cases}
 use Rattle.std.proofs.lemmas.Bool.Decides.{Decides-int_eq, Decides-eqb}
 use Rattle.tree_node.specs.declared.names.VarName.{VarName}
 use Rattle.tree_node.specs.declared.node.Feature.{Feature}
 use Rattle.tree_node.specs.declared.node.Feature.TheVariants as feature
 use Rattle.tree_node.specs.declared.node.Node.{Node}
 use Rattle.tree_node.specs.declared.node.Node.TheVariants as node
-use Rattle.tree_node.specs.Store.{same_name}
-use Rattle.tree_node.specs.Goal.{equal_feature, equal_fields, equal_text, was_met}
+use Rattle.tree_node.specs.Store.{equal_var}
+use Rattle.tree_node.specs.Goal.{equal_feature, equal_fields, equal_text, is_met_pair}
 use Rattle.tree_node.proofs.ClassLemmas.{same_name_decides}
 use Rattle.unify_steps.specs.Marks.{node_mark, pair_mark}
 use Rattle.unify_steps.specs.Met.{has_mark, pairs_of, IsIndexOf}
@@ -31,10 +31,10 @@ fields_same [] [] e = refl
 fields_same [] (y ∷ ys) e = cc
 fields_same (x ∷ xs) [] e = cc
 fields_same ((f, x) ∷ xs) ((g, y) ∷ ys) e =
-    let features : f ≡ g = feature_same f g (and_parts (equal_feature f g) (same_name x y && equal_fields xs ys) e).0 in
-    let others : (same_name x y && equal_fields xs ys) ≡ true = (and_parts (equal_feature f g) (same_name x y && equal_fields xs ys) e).1 in
-    let vars : x ≡ y = (same_name_decides x y).0 (and_parts (same_name x y) (equal_fields xs ys) others).0 in
-    let rest : xs ≡ ys = fields_same xs ys (and_parts (same_name x y) (equal_fields xs ys) others).1 in
+    let features : f ≡ g = feature_same f g (and_parts (equal_feature f g) (equal_var x y && equal_fields xs ys) e).0 in
+    let others : (equal_var x y && equal_fields xs ys) ≡ true = (and_parts (equal_feature f g) (equal_var x y && equal_fields xs ys) e).1 in
+    let vars : x ≡ y = (same_name_decides x y).0 (and_parts (equal_var x y) (equal_fields xs ys) others).0 in
+    let rest : xs ≡ ys = fields_same xs ys (and_parts (equal_var x y) (equal_fields xs ys) others).1 in
     rw (features, vars, rest) refl
 
 same_mark : (m n : Node) → equal_text m n ≡ true → node_mark m ≡ node_mark n
@@ -71,10 +71,6 @@ same_mark (node.Cell c) (node.Cell d) e = refl
 abbrev is_pair : Node → Node → Node × Node → Bool
 is_pair m n p = (equal_text p.0 m && equal_text p.1 n) || (equal_text p.0 n && equal_text p.1 m)
 
-or_cases : (a b : Bool) → (a || b) ≡ true → (a ≡ true) ⊎ (b ≡ true)
-or_cases true b e = inl refl
-or_cases false b e = inr e
-
 pair_same : (m n : Node) (p : Node × Node) → is_pair m n p ≡ true → pair_mark p.0 p.1 ≡ pair_mark m n
 pair_same m n p e = go (or_cases (equal_text p.0 m && equal_text p.1 n) (equal_text p.0 n && equal_text p.1 m) e)
   where
@@ -103,6 +99,6 @@ any_filtered f g h (x ∷ xs) = go (g x) (f x) refl refl (any_filtered f g h xs)
     go false false p q ih = ih ∙ sym (rw q refl)
 
 pub found_met : (met : List (Node × Node)) (index : List (ℕ × Vec (Node × Node))) (m n : Node) → IsIndexOf met index →
-    was_met (pairs_of (lookup (nat_eq (pair_mark m n)) index)) m n ≡ was_met met m n
+    is_met_pair (pairs_of (lookup (nat_eq (pair_mark m n)) index)) m n ≡ is_met_pair met m n
 found_met met index m n h =
     ap (λ (l : List (Node × Node)). list_any (is_pair m n) l) (h (pair_mark m n)) ∙ any_filtered (is_pair m n) (has_mark (pair_mark m n)) (under_mark m n) met

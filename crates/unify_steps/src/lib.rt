@@ -13,10 +13,10 @@
 //! - `Block::new`, and `fill` of a [`BlockRoom`], which takes no memory, begin with one pair and nothing met.
 //!
 //! `case` finds the case of a pair, `met` and `met_table` keep the pairs that were met, which `marks` makes quick to find,
-//! and `records` compares and pairs fields. `plain` is the same as a plain program over a list of equations, for tests.
+//! and `records` compares and pairs fields. `threads` shows that a block may go to another thread.
 //!
-//! It stands on `tree_store` and on the definitions of `tree_node` (`specs/Goal.antt`), and on `indexmap`. By tests alone:
-//! that whole trees unify or fail as the plain program says, and that a block may go to another thread.
+//! It stands on `tree_store` and on the definitions of `tree_node` (`specs/Goal.antt`), and on `indexmap`. Tests
+//! (`unit_tests`) show which of some small trees unify.
 //!
 //! Sources: Van Roy and Haridi, *Concepts, Techniques, and Models of Computer Programming*, section 2.8.2.
 #![tactic(auto)]
@@ -27,11 +27,8 @@ mod case;
 mod marks;
 mod met;
 mod met_table;
-#[cfg(test)]
-mod plain;
 mod records;
-#[cfg(test)]
-mod tests;
+mod threads;
 
 pub use answer::{GoalOut, Peek};
 pub use block::{Block, BlockRoom, peek, step};

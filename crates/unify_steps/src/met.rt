@@ -1,7 +1,7 @@
 //! The pairs of nodes that a block has met.
 
 ghost use Rattle.std.specs.Prelude.{◌≡◌, [], ◌∷◌, ◌++◌, OnOk, OnErr};
-ghost use Rattle.tree_node.specs.Goal.{was_met};
+ghost use Rattle.tree_node.specs.Goal.{is_met_pair};
 
 use crate::met_table::MetTable;
 use std::alloc::{AllocError, Global};
@@ -47,7 +47,7 @@ impl Met {
 
     /// Whether the two nodes were met, in either order.
     pub fn contains(&self, left: &Node, right: &Node) -> bool
-        ensures { result ≡ was_met self.now left.now right.now }
+        ensures { result ≡ is_met_pair self.now left.now right.now }
     {
         match &self.table {
             Some(table) => table.contains(left, right),

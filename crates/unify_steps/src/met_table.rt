@@ -3,7 +3,7 @@
 ghost use Rattle.std.specs.Prelude.{◌≡◌, ℕ, [], ◌∷◌, ◌++◌, if◌then◌else◌, nat_eq, OnOk, OnErr};
 ghost use Rattle.indexmap.specs.IndexMap.{get};
 ghost use Rattle.unify_steps.specs.Met.{pairs_of};
-ghost use Rattle.tree_node.specs.Goal.{was_met};
+ghost use Rattle.tree_node.specs.Goal.{is_met_pair};
 
 use crate::marks::pair_mark;
 use crate::records::is_among;
@@ -54,7 +54,7 @@ impl MetTable {
 
     /// Whether the two nodes are a pair of the table, in either order.
     pub fn contains(&self, left: &Node, right: &Node) -> bool
-        ensures { result ≡ was_met self.now left.now right.now }
+        ensures { result ≡ is_met_pair self.now left.now right.now }
     {
         match self.index.get(&pair_mark(left, right)) {
             Some(pairs) => is_among(pairs.as_slice(), left, right),

@@ -1,14 +1,14 @@
 //! The fields of two records.
 
 ghost use Rattle.std.specs.Prelude.{◌≡◌, length, reverse, IfOk};
-ghost use Rattle.tree_node.specs.Goal.{was_met, equal_features, field_pairs};
+ghost use Rattle.tree_node.specs.Goal.{is_met_pair, equal_features, field_pairs};
 
 use std::alloc::{AllocError, Global};
 use tree_node::{Feature, Node, Term, VarName, same_feature, same_text};
 
 /// Whether the two nodes are among these pairs, in either order.
 pub fn is_among(pairs: &[(Node, Node)], left: &Node, right: &Node) -> bool
-    ensures { result ≡ was_met pairs.now left.now right.now }
+    ensures { result ≡ is_met_pair pairs.now left.now right.now }
 {
     pairs.iter().any(|pair| {
         (same_text(&pair.0, left) && same_text(&pair.1, right))

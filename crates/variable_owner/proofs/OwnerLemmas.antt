@@ -4,13 +4,13 @@ use Rattle.std.specs.Prelude.{ℕ, Option, Result, Ok, Err, IfOk, OnOk, OnErr, i
 use Rattle.std.specs.Borrow.{Bor}
 use Rattle.std.specs.Map.{set_value}
 use Rattle.tree_node.specs.declared.names.VarName.{VarName}
-use Rattle.tree_node.specs.Store.{same_name}
+use Rattle.tree_node.specs.Store.{equal_var}
 use Rattle.tree_node.specs.declared.node.Term.{Term}
 use Rattle.variable_owner.specs.declared.owners.Owner.{Owner}
 use Rattle.variable_owner.specs.declared.owners.Owner.TheVariants.{Open, Bound}
 use Rattle.variable_owner.specs.declared.owners.Registered.{Registered}
 use Rattle.variable_owner.specs.declared.owners.Registered.TheVariants.{Kept, Answer}
-use Rattle.variable_owner.specs.Owners.{Owned, OnAnswer, owner_of, binding_of, joined, with_owner, after_register, after_ask}
+use Rattle.variable_owner.specs.Owners.{Owned, OnAnswer, owner_of, binding_of, with_registered, with_owner, after_register, after_ask}
 
 -- what is lent is there
 pub lent_some : {X : Type 0} (o : Option (Bor X)) (l : Option X) → option_copied o ≡ l → is_some o ≡ is_some l
@@ -18,21 +18,21 @@ lent_some None l e = ap is_some e
 lent_some (Some b) l e = ap is_some e
 
 -- a value written in the place of one that is there
-pub written : (es : List Owned) (x : VarName) (o p : Owner) → owner_of es x ≡ Some o → set_value (same_name x) es p ≡ with_owner es x p
+pub written : (es : List Owned) (x : VarName) (o p : Owner) → owner_of es x ≡ Some o → set_value (equal_var x) es p ≡ with_owner es x p
 written [] x o p e = cc
-written ((y, r) ∷ es) x o p e = go (same_name x y) refl e (λ k. written es x o p k)
+written ((y, r) ∷ es) x o p e = go (equal_var x y) refl e (λ k. written es x o p k)
   where
-    go : (b : Bool) → same_name x y ≡ b → cond b (Some r) (owner_of es x) ≡ Some o → (owner_of es x ≡ Some o → set_value (same_name x) es p ≡ with_owner es x p) →
-        cond b ((y, p) ∷ es) ((y, r) ∷ set_value (same_name x) es p) ≡ cond b ((y, p) ∷ es) ((y, r) ∷ with_owner es x p)
+    go : (b : Bool) → equal_var x y ≡ b → cond b (Some r) (owner_of es x) ≡ Some o → (owner_of es x ≡ Some o → set_value (equal_var x) es p ≡ with_owner es x p) →
+        cond b ((y, p) ∷ es) ((y, r) ∷ set_value (equal_var x) es p) ≡ cond b ((y, p) ∷ es) ((y, r) ∷ with_owner es x p)
     go true q k ih = refl
     go false q k ih = ap (λ (zs : List Owned). (y, r) ∷ zs) (ih k)
 
 -- the value that is there, written again
 pub written_back : (es : List Owned) (x : VarName) (o : Owner) → owner_of es x ≡ Some o → with_owner es x o ≡ es
 written_back [] x o e = cc
-written_back ((y, r) ∷ es) x o e = go (same_name x y) refl e (λ k. written_back es x o k)
+written_back ((y, r) ∷ es) x o e = go (equal_var x y) refl e (λ k. written_back es x o k)
   where
-    go : (b : Bool) → same_name x y ≡ b → cond b (Some r) (owner_of es x) ≡ Some o → (owner_of es x ≡ Some o → with_owner es x o ≡ es) →
+    go : (b : Bool) → equal_var x y ≡ b → cond b (Some r) (owner_of es x) ≡ Some o → (owner_of es x ≡ Some o → with_owner es x o ≡ es) →
         cond b ((y, o) ∷ es) ((y, r) ∷ with_owner es x o) ≡ (y, r) ∷ es
     go true q k ih = let same : r ≡ o = cc in ap (λ (z : Owner). (y, z) ∷ es) (sym same)
     go false q k ih = ap (λ (zs : List Owned). (y, r) ∷ zs) (ih k)
@@ -46,13 +46,13 @@ on_err (Ok v) f h = tt
 on_err (Err e) f h = f h
 
 -- a registration writes the owner in its place
-pub registered : (s es fs : List Owned) (x : VarName) (k : ℕ) (o p : Owner) → es ≡ s → Some o ≡ owner_of es x → fs ≡ set_value (same_name x) es p → p ≡ joined o k → fs ≡ after_register s x k
+pub registered : (s es fs : List Owned) (x : VarName) (k : ℕ) (o p : Owner) → es ≡ s → Some o ≡ owner_of es x → fs ≡ set_value (equal_var x) es p → p ≡ with_registered o k → fs ≡ after_register s x k
 registered s es fs x k o p view found e is =
     let here : owner_of s x ≡ Some o = ap (λ (zs : List Owned). owner_of zs x) (sym view) ∙ sym found in
     e ∙ written es x o p (sym found) ∙ ap (λ (zs : List Owned). with_owner zs x p) view ∙ ap (λ (z : Owner). with_owner s x z) is ∙ sym (rw here refl)
 
 -- or leaves what was there
-pub unregistered : (s es fs : List Owned) (x : VarName) (o p : Owner) → es ≡ s → Some o ≡ owner_of es x → fs ≡ set_value (same_name x) es p → p ≡ o → fs ≡ s
+pub unregistered : (s es fs : List Owned) (x : VarName) (o p : Owner) → es ≡ s → Some o ≡ owner_of es x → fs ≡ set_value (equal_var x) es p → p ≡ o → fs ≡ s
 unregistered s es fs x o p view found e is =
     e ∙ written es x o p (sym found) ∙ ap (λ (z : Owner). with_owner es x z) is ∙ written_back es x o (sym found) ∙ view
 

@@ -5,7 +5,7 @@ use Rattle.std.specs.Map.{lookup}
 use Rattle.indexmap.specs.IndexMap.{insert_entry}
 use Rattle.tree_node.specs.declared.names.VarName.{VarName}
 use Rattle.tree_node.specs.declared.node.Term.{Term}
-use Rattle.tree_node.specs.Store.{same_name}
+use Rattle.tree_node.specs.Store.{equal_var}
 use Rattle.variable_owner.specs.declared.owners.Owner.{Owner}
 use Rattle.variable_owner.specs.declared.owners.Owner.TheVariants.{Open, Bound}
 use Rattle.variable_owner.specs.declared.owners.Registered.{Registered}
@@ -16,7 +16,7 @@ Owned = VarName × Owner
 
 -- what is kept of a name: nothing where it was not made
 abbrev pub owner_of : List Owned → VarName → Option Owner
-owner_of es x = lookup (same_name x) es
+owner_of es x = lookup (equal_var x) es
 
 abbrev pub IsMade : List Owned → VarName → Type 0
 IsMade es x = IsTrue (is_some (owner_of es x))
@@ -32,19 +32,19 @@ binding_of (Some (Bound t)) = Some t
 binding_of _ = None
 
 abbrev pub with_owner : List Owned → VarName → Owner → List Owned
-with_owner es x o = insert_entry same_name es x o
+with_owner es x o = insert_entry equal_var es x o
 
 -- a Register comes: the site joins those of an unbound variable
-abbrev pub joined : Owner → ℕ → Owner
-joined (Open sites) k = Open (sites ++ k ∷ [])
-joined (Bound t) k = Bound t
+abbrev pub with_registered : Owner → ℕ → Owner
+with_registered (Open sites) k = Open (sites ++ k ∷ [])
+with_registered (Bound t) k = Bound t
 
 abbrev pub after_register : List Owned → VarName → ℕ → List Owned
 after_register es x k = registered (owner_of es x)
   where
     registered : Option Owner → List Owned
     registered None = es
-    registered (Some o) = with_owner es x (joined o k)
+    registered (Some o) = with_owner es x (with_registered o k)
 
 -- and the binding of a bound one is the answer
 abbrev pub TellsRegistered : Owner → Registered → Type 0
@@ -58,13 +58,13 @@ OnAnswer Kept P = Unit {0}
 OnAnswer (Answer t) P = P
 
 -- a bind is asked for: an unbound variable takes it, and its registrations end. A bound one keeps its binding
-abbrev pub taken : Owner → Term → Owner
-taken (Open sites) t = Bound t
-taken (Bound r) t = Bound r
+abbrev pub after_bind : Owner → Term → Owner
+after_bind (Open sites) t = Bound t
+after_bind (Bound r) t = Bound r
 
 abbrev pub after_ask : List Owned → VarName → Term → List Owned
 after_ask es x t = asked (owner_of es x)
   where
     asked : Option Owner → List Owned
     asked None = es
-    asked (Some o) = with_owner es x (taken o t)
+    asked (Some o) = with_owner es x (after_bind o t)

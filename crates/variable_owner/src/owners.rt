@@ -1,7 +1,7 @@
 //! The variables that a site owns.
 
 ghost use Rattle.std.specs.Prelude.{◌≡◌, ◌↔◌, [], None, IsTrue, IsSome, IfSome, IfOk, OnOk, OnErr, Contains, option_copied};
-ghost use Rattle.variable_owner.specs.Owners.{IsMade, OnAnswer, TellsRegistered, owner_of, sites_of, binding_of, joined, with_owner, after_register, after_ask};
+ghost use Rattle.variable_owner.specs.Owners.{IsMade, OnAnswer, TellsRegistered, owner_of, sites_of, binding_of, with_registered, with_owner, after_register, after_ask};
 ghost use Rattle.variable_owner.specs.declared.owners.Owner.TheVariants.{Open};
 ghost use Rattle.variable_owner.specs.declared.owners.Asked.TheVariants.{Late};
 
@@ -53,7 +53,7 @@ impl Owner {
     // A site registers.
     fn join(&mut self, site: u32) -> Result<Registered, AllocError>
         ensures answer { IfOk result (TellsRegistered self.old) }
-        ensures ok { OnOk result (self.new ≡ joined self.old site) }
+        ensures ok { OnOk result (self.new ≡ with_registered self.old site) }
         ensures bound { IfOk result (λ r. OnAnswer r (self.new ≡ self.old)) }
         ensures err { OnErr result (self.new ≡ self.old) }
     {

@@ -1,5 +1,5 @@
 use Rattle.std.proofs.Common.{◌≡◌, ◌+◌, ◌*◌, ◌<◌, ◌≤◌, ◌-◌, [], ◌∷◌, length, vec_len}
-use Rattle.oz_grammar.specs.Table.{numbered}
+use Rattle.oz_grammar.specs.Table.{code_at}
 use Rattle.oz_grammar.specs.Reading.{stmt_at, more_at, with_numbers}
 use Rattle.oz_parser.proofs.reader.+reader.Given as goal
 
@@ -35,7 +35,7 @@ decreases-kind l = 8 * l.depth + 6
 
 abbrev pub invariant-more-loop : goal.invariant-more-loop
 invariant-more-loop l = record {
-  read : with_numbers l.place (more_at (stmt_at l.depth) l.closer l.place l.scope (l.most - l.counter) l.numbers.items l.rows.items l.rest) ≡ with_numbers l.place (more_at (stmt_at l.depth) l.closer l.place l.fn.scope (length l.symbols + 1) (numbered 1 ∷ []) l.fn.rows.items l.symbols);
+  read : with_numbers l.place (more_at (stmt_at l.depth) l.closer l.place l.scope (l.most - l.counter) l.numbers.items l.rows.items l.rest) ≡ with_numbers l.place (more_at (stmt_at l.depth) l.closer l.place l.fn.scope (length l.symbols + 1) (code_at 1 ∷ []) l.fn.rows.items l.symbols);
   scope : l.scope ≡ l.fn.scope;
   room : vec_len l.rows + 2 * length l.rest ≤ vec_len l.fn.rows + 2 * length l.symbols;
   shorter : length l.rest ≤ length l.symbols;

@@ -2,7 +2,7 @@ use Rattle.std.proofs.Common.{arith, ◌≡◌, ◌≢◌, sym, refl, length, Li
 use Rattle.tree_node.specs.declared.names.VarName.{VarName}
 use Rattle.tree_node.specs.declared.node.Feature.{Feature}
 use Rattle.tree_node.specs.Goal.{equal_fields, equal_feature}
-use Rattle.tree_node.specs.Store.{same_name}
+use Rattle.tree_node.specs.Store.{equal_var}
 use Rattle.tree_node.proofs.node.same_fields.Goals as goal
 
 and_false : (a b : Bool) → (a && (b && false)) ≡ false
@@ -16,7 +16,7 @@ equal_fields-length [] (y ∷ ys) h = refl
 equal_fields-length (x ∷ xs) [] h = refl
 equal_fields-length ((f, x) ∷ xs) ((g, y) ∷ ys) h =
     let shorter : length xs ≢ length ys = λ e. h (omega arith) in
-    rw (equal_fields-length xs ys shorter) (and_false (equal_feature f g) (same_name x y))
+    rw (equal_fields-length xs ys shorter) (and_false (equal_feature f g) (equal_var x y))
 
 -- lists of different lengths are not the same
 pub returns-then-left-right-clause-test : goal.returns-then-left-right-clause-test

@@ -1,6 +1,6 @@
 use Rattle.std.proofs.Common.{◌≡◌, ◌≤◌, ◌+◌, ◌*◌, length}
 use Rattle.tree_node.specs.Shown.{show_var, show_fields}
-use Rattle.tree_store.specs.Walk.{after}
+use Rattle.tree_store.specs.Walk.{text_after}
 use Rattle.tree_store.proofs.walk.+walking.Given as goal
 
 abbrev pub decreases-walk : goal.decreases-walk
@@ -25,8 +25,8 @@ abbrev pub invariant-walk-tails : goal.invariant-walk-tails
 invariant-walk-tails l = record {
   depth : l.bounds.depth ≤ l.fn.bounds.depth;
   level : l.bounds.level ≡ l.fn.bounds.level;
-  written : after l.out.items (show_var l.bounds.depth l.store.equations l.bounds.level l.bounds.left l.x)
-      ≡ after l.fn.out.items (show_var l.fn.bounds.depth l.store.equations l.fn.bounds.level l.fn.bounds.left l.fn.x);
+  written : text_after l.out.items (show_var l.bounds.depth l.store.equations l.bounds.level l.bounds.left l.x)
+      ≡ text_after l.fn.out.items (show_var l.fn.bounds.depth l.store.equations l.fn.bounds.level l.fn.bounds.left l.fn.x);
 }
 
 abbrev pub decreases-walk-tails : goal.decreases-walk-tails
@@ -37,8 +37,8 @@ invariant-walk_fields-fields l = record {
   depth : l.bounds.depth ≡ l.fn.bounds.depth;
   level : l.bounds.level ≡ l.fn.bounds.level;
   next : l.next + length l.rest ≤ length l.fields + 1;
-  written : after l.out.items (show_fields (show_var l.bounds.depth l.store.equations) l.bounds.level l.bounds.left l.next l.rest)
-      ≡ after l.fn.out.items (show_fields (show_var l.fn.bounds.depth l.store.equations) l.fn.bounds.level l.fn.bounds.left 1 l.fields);
+  written : text_after l.out.items (show_fields (show_var l.bounds.depth l.store.equations) l.bounds.level l.bounds.left l.next l.rest)
+      ≡ text_after l.fn.out.items (show_fields (show_var l.fn.bounds.depth l.store.equations) l.fn.bounds.level l.fn.bounds.left 1 l.fields);
 }
 
 abbrev pub decreases-walk_fields-fields : goal.decreases-walk_fields-fields

@@ -1,6 +1,6 @@
 use Rattle.std.proofs.Common.{arith, ◌+◌, ◌∙◌, ap}
 use Rattle.tree_node.specs.Assoc.{without_key}
-use Rattle.tree_node.specs.State.{same_thread}
+use Rattle.tree_node.specs.State.{equal_thread}
 use Rattle.thread_roster.specs.Slots.{place_in, one, waiting}
 use Rattle.thread_roster.proofs.SlotLemmas.{total_holds}
 use Rattle.thread_roster.proofs.KeptLemmas.{kept_left, kept_end, still_none, end_view, ended_more}
@@ -33,7 +33,7 @@ invariant_of-self g c =
 pub returns-clause-living : goal.returns-clause-living
 returns-clause-living g c =
     end_view c.self.inside.slots.items c.clear-before.new.slots.items (place_in c.self.inside.places.entries) c.args.name c.find-place.result c.self.invariant.placed c.find-place.ensures.place c.clear-before.ensures.put
-    ∙ ap (λ s. without_key same_thread s.living c.args.name) c.self.view_is
+    ∙ ap (λ s. without_key equal_thread s.living c.args.name) c.self.view_is
 
 pub returns-clause-ended : goal.returns-clause-ended
 returns-clause-ended g c =

@@ -1,6 +1,6 @@
 use Rattle.std.proofs.Common.{◌∙◌, sym, ap, refl, Some}
 use Rattle.tree_node.specs.Assoc.{value_of}
-use Rattle.tree_node.specs.State.{same_thread}
+use Rattle.tree_node.specs.State.{equal_thread}
 use Rattle.thread_roster.specs.Slots.{place_in}
 use Rattle.thread_roster.proofs.SlotLemmas.{at_index}
 use Rattle.thread_roster.proofs.KeptLemmas.{kept_value, slot_is, value_is, lent_view, value_found}
@@ -34,7 +34,7 @@ returns g c =
         writes_back = tt;
         value = (
           held.0.mode,
-          ap (λ s. value_of same_thread s.living c.args.name) (sym c.self.view_is) ∙ there ∙ ap (λ v. Some (v, held.0.mode)) (value_is _ held.0 _ slot c.value_in.ensures.value),
+          ap (λ s. value_of equal_thread s.living c.args.name) (sym c.self.view_is) ∙ there ∙ ap (λ v. Some (v, held.0.mode)) (value_is _ held.0 _ slot c.value_in.ensures.value),
         );
       },
     )

@@ -1,7 +1,7 @@
 use Rattle.std.proofs.Common.{arith, ◌≡◌, ◌∙◌, sym, refl, subst, length}
 use Rattle.std.specs.Prelude.{Contains}
 use Rattle.indexmap.proofs.CallerLemmas.{insert_entry-new}
-use Rattle.tree_node.specs.Store.{same_name}
+use Rattle.tree_node.specs.Store.{equal_var}
 use Rattle.tree_store.specs.declared.names.Entry.{Entry}
 use Rattle.tree_store.specs.Names.{Filed, names_in}
 use Rattle.tree_store.proofs.FiledLemmas.{next_name, unknown_none, pushed_rising, pushed_names, pushed_ordinals, added_rising, added_names, added_ordinals}
@@ -31,7 +31,7 @@ invariant_of-self-2 c =
     let new : Contains (names_in f) c.args.var → ⊥ = subst (λ (k : Filed). Contains (names_in k) c.args.var → ⊥) (sym c.self.view_is) c.requires in
     let e : Entry = record { before = c.len-before.result; ordinal = 0 } in
     let at : e.before ≡ length f.own = omega (arith, c.len-before.ensures, c.self.inside.own.ok.0) in
-    let more = c.in_ok-insert.ensures.entries ∙ insert_entry-new same_name c.self.inside.others c.args.var e (unknown_none f c.args.var new) in
+    let more = c.in_ok-insert.ensures.entries ∙ insert_entry-new equal_var c.self.inside.others c.args.var e (unknown_none f c.args.var new) in
     added_rising f c.args.var e c.insert.new.self.entries c.self.invariant at more
 
 pub returns-clause-names : goal.returns-clause-names
@@ -40,7 +40,7 @@ returns-clause-names c =
     let new : Contains (names_in f) c.args.var → ⊥ = subst (λ (k : Filed). Contains (names_in k) c.args.var → ⊥) (sym c.self.view_is) c.requires in
     let e : Entry = record { before = c.len-before.result; ordinal = 0 } in
     let at : e.before ≡ length f.own = omega (arith, c.len-before.ensures, c.self.inside.own.ok.0) in
-    let more = c.in_ok-insert.ensures.entries ∙ insert_entry-new same_name c.self.inside.others c.args.var e (unknown_none f c.args.var new) in
+    let more = c.in_ok-insert.ensures.entries ∙ insert_entry-new equal_var c.self.inside.others c.args.var e (unknown_none f c.args.var new) in
     rw (← c.self.view_is) (added_names f c.args.var e c.insert.new.self.entries at more)
 
 pub returns-clause-ordinals : goal.returns-clause-ordinals

@@ -3,7 +3,7 @@ use Rattle.std.specs.Prelude.{IsSome}
 use Rattle.std.specs.Map.{lookup}
 use Rattle.slab.specs.Slab.{get}
 use Rattle.tree_node.specs.declared.names.VarName.{VarName}
-use Rattle.tree_node.specs.Store.{same_name}
+use Rattle.tree_node.specs.Store.{equal_var}
 use Rattle.tree_store.specs.Waiting.{queue_of}
 use Rattle.tree_store.proofs.WaitLemmas.{has_queue, queued_more, queued_first, filed_first}
 use Rattle.tree_store.proofs.waiters.Waiters.add.Goals as goal
@@ -19,7 +19,7 @@ returns-in_ok-push_key-in-Some-clause-ok c =
 
 -- what is known once the variable has its number
 numbered : (c : goal.In_ok-insert-in-None) (y : VarName) →
-    lookup (same_name y) c.insert.new.self.entries ≡ cond (same_name c.args.var y) (Some c.insert_reserved-number.result) (lookup (same_name y) c.self.inside.numbers.entries)
+    lookup (equal_var y) c.insert.new.self.entries ≡ cond (equal_var c.args.var y) (Some c.insert_reserved-number.result) (lookup (equal_var y) c.self.inside.numbers.entries)
 numbered c y = rw c.reserve-in-None.ensures.entries at c.in_ok-insert-in-None.ensures.updates.0 y
 
 was_empty : (c : goal.In_ok-insert-in-None) → get c.self.inside.queues c.insert_reserved-number.result ≡ None

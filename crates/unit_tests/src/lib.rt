@@ -1,0 +1,23 @@
+//! Tests of single crates below the machine, a file for each subject. They are a crate of their own, since a crate with tests
+//! is proved twice. They show what no contract says: that each call goes well with ample memory, and that spellings and lists of
+//! calls, worked by hand, come out as they were meant.
+#![tactic(auto)]
+
+#[cfg(test)]
+mod book;
+#[cfg(test)]
+mod cells;
+#[cfg(test)]
+mod handlers;
+#[cfg(test)]
+mod nodes;
+#[cfg(test)]
+mod operators;
+#[cfg(test)]
+mod programs;
+#[cfg(test)]
+mod stores;
+#[cfg(test)]
+mod streams;
+#[cfg(test)]
+mod variables;
