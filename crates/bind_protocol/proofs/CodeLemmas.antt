@@ -14,7 +14,7 @@ use Rattle.variable_owner.specs.declared.owners.Owner.{Owner}
 use Rattle.variable_owner.specs.declared.owners.Owner.TheVariants.{Open, Bound}
 use Rattle.bind_protocol.specs.Records.{Records, Takes, knowledge, owner_knows}
 use Rattle.bind_protocol.specs.Rows.{after_make, after_meet, meet_sends, after_want, want_sends, after_message, message_sends}
-use Rattle.bind_protocol.specs.World.{World, Holds, Grows, IsFront, IsSiteOf, IsMadeIn, records_of, known_at, puts, sends, makes, meets, meets_all, wants, takes_message, met_first, comes, delivers, field_vars}
+use Rattle.bind_protocol.specs.World.{World, Holds, Grows, IsFront, IsSiteOf, IsMadeIn, records_of, known_at, with_records, with_sent, after_make_at, after_meet_at, after_meeting, after_want_at, takes_message, met_first, after_arrival, after_delivery, field_vars}
 use Rattle.bind_protocol.specs.Lawful.{IsLawful}
 use Rattle.bind_protocol.specs.Calls.{CanMake, CanMeet, CanWant}
 use Rattle.bind_protocol.proofs.PlaceLemmas.{puts_same, known_records}
@@ -59,42 +59,42 @@ pub outcome_grows : {A E : Type 0} (w v u : World) (r : Result A E) → Outcome 
 outcome_grows w v u (Ok a) o g = rw o.ok g
 outcome_grows w v u (Err e) o g = rw o.err (grown_same w)
 
-put_back : (w : World) (i : ℕ) (b : Records) → IsSiteOf w i → b ≡ records_of w i → puts w i b ≡ w
+put_back : (w : World) (i : ℕ) (b : Records) → IsSiteOf w i → b ≡ records_of w i → with_records w i b ≡ w
 put_back w i b h e = rw e (puts_same w i h)
 
 -- one site's part was changed
 pub site_outcome : {A E : Type 0} (w0 w : World) (i : ℕ) (f : Records → Records) (b more : Records) (r : Result A E) → w0 ≡ w → IsSiteOf w i → b ≡ slice_index_or w0.binders (i - 1) b →
-    OnOk r (more ≡ f b) → OnErr r (more ≡ b) → Outcome w (puts w0 i more) (puts w i (f (records_of w i))) r
+    OnOk r (more ≡ f b) → OnErr r (more ≡ b) → Outcome w (with_records w0 i more) (with_records w i (f (records_of w i))) r
 site_outcome {A} {E} w0 w i f b more r e h at ok err = go r ok err
   where
     is : b ≡ records_of w i
     is = lent_records w i b h (at ∙ ap (λ v. slice_index_or v.binders (i - 1) b) e)
 
-    go : (r : Result A E) → OnOk r (more ≡ f b) → OnErr r (more ≡ b) → Outcome w (puts w0 i more) (puts w i (f (records_of w i))) r
-    go (Ok a) ok err = record { ok = ap (λ v. puts v i more) e ∙ ap (puts w i) (ok ∙ ap f is); err = tt }
-    go (Err x) ok err = record { ok = tt; err = ap (λ v. puts v i more) e ∙ put_back w i more h (err ∙ is) }
+    go : (r : Result A E) → OnOk r (more ≡ f b) → OnErr r (more ≡ b) → Outcome w (with_records w0 i more) (with_records w i (f (records_of w i))) r
+    go (Ok a) ok err = record { ok = ap (λ v. with_records v i more) e ∙ ap (with_records w i) (ok ∙ ap f is); err = tt }
+    go (Err x) ok err = record { ok = tt; err = ap (λ v. with_records v i more) e ∙ put_back w i more h (err ∙ is) }
 
 -- and it sent messages
 pub sending_outcome : {A E : Type 0} (w0 w : World) (i : ℕ) (f : Records → Records) (g : Records → List Sent) (b more : Records) (ms : List Sent) (r : Result A E) → w0 ≡ w → IsSiteOf w i → b ≡ slice_index_or w0.binders (i - 1) b →
     OnOk r (more ≡ f b) → OnOk r (ms ≡ w0.travelling ++ g b) → OnErr r (more ≡ b) → OnErr r (ms ≡ w0.travelling) →
-    Outcome w (record (puts w0 i more) { travelling = ms }) (sends (puts w i (f (records_of w i))) (g (records_of w i))) r
+    Outcome w (record (with_records w0 i more) { travelling = ms }) (with_sent (with_records w i (f (records_of w i))) (g (records_of w i))) r
 sending_outcome {A} {E} w0 w i f g b more ms r e h at ok sent same unsent = go r ok sent same unsent
   where
     is : b ≡ records_of w i
     is = lent_records w i b h (at ∙ ap (λ v. slice_index_or v.binders (i - 1) b) e)
 
     go : (r : Result A E) → OnOk r (more ≡ f b) → OnOk r (ms ≡ w0.travelling ++ g b) → OnErr r (more ≡ b) → OnErr r (ms ≡ w0.travelling) →
-        Outcome w (record (puts w0 i more) { travelling = ms }) (sends (puts w i (f (records_of w i))) (g (records_of w i))) r
+        Outcome w (record (with_records w0 i more) { travelling = ms }) (with_sent (with_records w i (f (records_of w i))) (g (records_of w i))) r
     go (Ok a) ok sent same unsent = record {
-      ok = ap (λ v. record (puts v i more) { travelling = ms }) e
-          ∙ ap (λ c. record (puts w i c) { travelling = ms }) (ok ∙ ap f is)
-          ∙ ap (λ ns. record (puts w i (f (records_of w i))) { travelling = ns }) (sent ∙ ap (λ v. v.travelling ++ g b) e ∙ ap (λ c. w.travelling ++ g c) is);
+      ok = ap (λ v. record (with_records v i more) { travelling = ms }) e
+          ∙ ap (λ c. record (with_records w i c) { travelling = ms }) (ok ∙ ap f is)
+          ∙ ap (λ ns. record (with_records w i (f (records_of w i))) { travelling = ns }) (sent ∙ ap (λ v. v.travelling ++ g b) e ∙ ap (λ c. w.travelling ++ g c) is);
       err = tt;
     }
     go (Err x) ok sent same unsent = record {
       ok = tt;
-      err = ap (λ v. record (puts v i more) { travelling = ms }) e
-          ∙ ap (λ ns. record (puts w i more) { travelling = ns }) (unsent ∙ ap (λ v. v.travelling) e)
+      err = ap (λ v. record (with_records v i more) { travelling = ms }) e
+          ∙ ap (λ ns. record (with_records w i more) { travelling = ns }) (unsent ∙ ap (λ v. v.travelling) e)
           ∙ put_back w i more h (same ∙ is);
     }
 
@@ -137,14 +137,14 @@ module _ (w0 w : World) (i : ℕ) (b : Records) (e : w0 ≡ w) (l0 : IsLawful w0
       owner_some (owner_of b.owners x) (subst (λ (o : Option (Option Term)). IsTrue (is_some o)) (sym (lent_knows x) ∙ own_is x mine) there)
 
 -- the calls
-pub grows_makes : (w : World) (i : ℕ) (x : VarName) → IsLawful w → CanMake w i x → Grows w (makes w i x)
-grows_makes w i x l c = grown w (makes w i x) (makes_kept w i x l c) (puts_sites w i _)
+pub grows_makes : (w : World) (i : ℕ) (x : VarName) → IsLawful w → CanMake w i x → Grows w (after_make_at w i x)
+grows_makes w i x l c = grown w (after_make_at w i x) (makes_kept w i x l c) (puts_sites w i _)
 
-pub grows_meets : (w : World) (i : ℕ) (x : VarName) → IsLawful w → CanMeet w i x → Grows w (meets w i x)
-grows_meets w i x l c = grown w (meets w i x) (meets_kept w i x l c.site c.made) (puts_sites w i _)
+pub grows_meets : (w : World) (i : ℕ) (x : VarName) → IsLawful w → CanMeet w i x → Grows w (after_meet_at w i x)
+grows_meets w i x l c = grown w (after_meet_at w i x) (meets_kept w i x l c.site c.made) (puts_sites w i _)
 
-pub grows_wants : (w : World) (i : ℕ) (x : VarName) (t : Term) (thread : ThreadName) → IsLawful w → CanWant w i x t → Grows w (wants w i x t thread)
-grows_wants w i x t thread l c = grown w (wants w i x t thread) (wants_kept w i x t thread l c) (puts_sites w i _)
+pub grows_wants : (w : World) (i : ℕ) (x : VarName) (t : Term) (thread : ThreadName) → IsLawful w → CanWant w i x t → Grows w (after_want_at w i x t thread)
+grows_wants w i x t thread l c = grown w (after_want_at w i x t thread) (wants_kept w i x t thread l c) (puts_sites w i _)
 
 -- what a call is shown to do: it comes to u or changes nothing, keeps the world lawful, and nobody forgets
 pub record Done {A E : Type 0} (w v u : World) (r : Result A E) : Type 0 where
@@ -159,37 +159,37 @@ done w v u r o l k g =
     record { outcome = o; lawful = lawful; holds = lawful_holds v lawful; grows = outcome_grows w v u r o g }
 
 pub make_done : {A E : Type 0} (w0 w : World) (i : ℕ) (x : VarName) (b more : Records) (r : Result A E) → w0 ≡ w → IsLawful w0 → CanMake w i x → b ≡ slice_index_or w0.binders (i - 1) b →
-    OnOk r (more ≡ after_make b x) → OnErr r (more ≡ b) → Done w (puts w0 i more) (makes w i x) r
+    OnOk r (more ≡ after_make b x) → OnErr r (more ≡ b) → Done w (with_records w0 i more) (after_make_at w i x) r
 make_done w0 w i x b more r e l0 c at ok err =
     let l : IsLawful w = lawful_of w0 w e l0 in
-    done w (puts w0 i more) (makes w i x) r (site_outcome w0 w i (λ d. after_make d x) b more r e c.site at ok err) l (makes_kept w i x l c) (grows_makes w i x l c)
+    done w (with_records w0 i more) (after_make_at w i x) r (site_outcome w0 w i (λ d. after_make d x) b more r e c.site at ok err) l (makes_kept w i x l c) (grows_makes w i x l c)
 
 pub meet_done : {A E : Type 0} (w0 w : World) (i : ℕ) (x : VarName) (b more : Records) (ms : List Sent) (r : Result A E) → w0 ≡ w → IsLawful w0 → CanMeet w i x → b ≡ slice_index_or w0.binders (i - 1) b →
-    OnOk r (more ≡ after_meet b x) → OnOk r (ms ≡ w0.travelling ++ meet_sends b x) → OnErr r (more ≡ b) → OnErr r (ms ≡ w0.travelling) → Done w (record (puts w0 i more) { travelling = ms }) (meets w i x) r
+    OnOk r (more ≡ after_meet b x) → OnOk r (ms ≡ w0.travelling ++ meet_sends b x) → OnErr r (more ≡ b) → OnErr r (ms ≡ w0.travelling) → Done w (record (with_records w0 i more) { travelling = ms }) (after_meet_at w i x) r
 meet_done w0 w i x b more ms r e l0 c at ok sent same unsent =
     let l : IsLawful w = lawful_of w0 w e l0 in
-    done w (record (puts w0 i more) { travelling = ms }) (meets w i x) r
+    done w (record (with_records w0 i more) { travelling = ms }) (after_meet_at w i x) r
     (sending_outcome w0 w i (λ d. after_meet d x) (λ d. meet_sends d x) b more ms r e c.site at ok sent same unsent) l (meets_kept w i x l c.site c.made) (grows_meets w i x l c)
 
 pub outcome_front : {A E : Type 0} (w v u : World) (r : Result A E) → Outcome w v u r → IsFront w.travelling u.travelling → IsFront w.travelling v.travelling
 outcome_front w v u (Ok a) o f = rw o.ok f
 outcome_front w v u (Err x) o f = rw o.err (λ place m at. at)
 
-pub meet_front : (w0 w : World) (i : ℕ) (x : VarName) → w0 ≡ w → IsLawful w0 → CanMeet w i x → IsFront w.travelling (meets w i x).travelling
+pub meet_front : (w0 w : World) (i : ℕ) (x : VarName) → w0 ≡ w → IsLawful w0 → CanMeet w i x → IsFront w.travelling (after_meet_at w i x).travelling
 meet_front w0 w i x e l0 c = meets_front w i x (lawful_of w0 w e l0) c.site c.made
 
 pub want_done : {A E : Type 0} (w0 w : World) (i : ℕ) (x : VarName) (t : Term) (thread : ThreadName) (b more : Records) (ms : List Sent) (r : Result A E) → w0 ≡ w → IsLawful w0 → CanWant w i x t → b ≡ slice_index_or w0.binders (i - 1) b →
-    OnOk r (more ≡ after_want b x t) → OnOk r (ms ≡ w0.travelling ++ want_sends b x t thread) → OnErr r (more ≡ b) → OnErr r (ms ≡ w0.travelling) → Done w (record (puts w0 i more) { travelling = ms }) (wants w i x t thread) r
+    OnOk r (more ≡ after_want b x t) → OnOk r (ms ≡ w0.travelling ++ want_sends b x t thread) → OnErr r (more ≡ b) → OnErr r (ms ≡ w0.travelling) → Done w (record (with_records w0 i more) { travelling = ms }) (after_want_at w i x t thread) r
 want_done w0 w i x t thread b more ms r e l0 c at ok sent same unsent =
     let l : IsLawful w = lawful_of w0 w e l0 in
-    done w (record (puts w0 i more) { travelling = ms }) (wants w i x t thread) r
+    done w (record (with_records w0 i more) { travelling = ms }) (after_want_at w i x t thread) r
     (sending_outcome w0 w i (λ d. after_want d x t) (λ d. want_sends d x t thread) b more ms r e c.site at ok sent same unsent) l (wants_kept w i x t thread l c) (grows_wants w i x t thread l c)
 
 -- a message that travels is taken by its site
 pub take_outcome : {A E : Type 0} (w0 w : World) (place : ℕ) (m : Sent) (b more : Records) (ms ds : List Sent) (r : Result A E) → w0 ≡ w → IsSiteOf w m.to → b ≡ slice_index_or w0.binders (m.to - 1) b →
     OnOk r (more ≡ after_message b m.msg) → OnOk r (ms ≡ remove (w0.travelling ++ message_sends b m.msg) place) → OnOk r (ds ≡ w0.delivered ++ m ∷ []) →
     OnErr r (more ≡ b) → OnErr r (ms ≡ w0.travelling) → OnErr r (ds ≡ w0.delivered) →
-    Outcome w (record { binders = slice_set w0.binders (m.to - 1) more; travelling = ms; delivered = ds }) (comes (takes_message w m.to m.msg) place m) r
+    Outcome w (record { binders = slice_set w0.binders (m.to - 1) more; travelling = ms; delivered = ds }) (after_arrival (takes_message w m.to m.msg) place m) r
 take_outcome {A} {E} w0 w place m b more ms ds r e h at ok sent came same unsent undelivered = go r ok sent came same unsent undelivered
   where
     is : b ≡ records_of w m.to
@@ -197,7 +197,7 @@ take_outcome {A} {E} w0 w place m b more ms ds r e h at ok sent came same unsent
 
     go : (r : Result A E) → OnOk r (more ≡ after_message b m.msg) → OnOk r (ms ≡ remove (w0.travelling ++ message_sends b m.msg) place) → OnOk r (ds ≡ w0.delivered ++ m ∷ []) →
         OnErr r (more ≡ b) → OnErr r (ms ≡ w0.travelling) → OnErr r (ds ≡ w0.delivered) →
-        Outcome w (record { binders = slice_set w0.binders (m.to - 1) more; travelling = ms; delivered = ds }) (comes (takes_message w m.to m.msg) place m) r
+        Outcome w (record { binders = slice_set w0.binders (m.to - 1) more; travelling = ms; delivered = ds }) (after_arrival (takes_message w m.to m.msg) place m) r
     go (Ok a) ok sent came same unsent undelivered = record {
       ok = ap (λ v. record { binders = slice_set v.binders (m.to - 1) more; travelling = ms; delivered = ds }) e
           ∙ ap (λ c. record { binders = slice_set w.binders (m.to - 1) c; travelling = ms; delivered = ds }) (ok ∙ ap (λ c. after_message c m.msg) is)
@@ -227,11 +227,11 @@ travels_taken w0 w place m b e l0 at lent =
 pub take_done : {A E : Type 0} (w0 w : World) (place : ℕ) (m : Sent) (b more : Records) (ms ds : List Sent) (r : Result A E) → w0 ≡ w → IsLawful w0 → slice_get w.travelling place ≡ Some m → b ≡ slice_index_or w0.binders (m.to - 1) b →
     OnOk r (more ≡ after_message b m.msg) → OnOk r (ms ≡ remove (w0.travelling ++ message_sends b m.msg) place) → OnOk r (ds ≡ w0.delivered ++ m ∷ []) →
     OnErr r (more ≡ b) → OnErr r (ms ≡ w0.travelling) → OnErr r (ds ≡ w0.delivered) →
-    Done w (record { binders = slice_set w0.binders (m.to - 1) more; travelling = ms; delivered = ds }) (comes (takes_message w m.to m.msg) place m) r
+    Done w (record { binders = slice_set w0.binders (m.to - 1) more; travelling = ms; delivered = ds }) (after_arrival (takes_message w m.to m.msg) place m) r
 take_done w0 w place m b more ms ds r e l0 at lent ok sent came same unsent undelivered =
     let l : IsLawful w = lawful_of w0 w e l0 in
-    let k : Kept w (comes (takes_message w m.to m.msg) place m) = message_comes w place l m.to m.msg at (letter_of w place l m at) in
-    done w (record { binders = slice_set w0.binders (m.to - 1) more; travelling = ms; delivered = ds }) (comes (takes_message w m.to m.msg) place m) r
+    let k : Kept w (after_arrival (takes_message w m.to m.msg) place m) = message_comes w place l m.to m.msg at (letter_of w place l m at) in
+    done w (record { binders = slice_set w0.binders (m.to - 1) more; travelling = ms; delivered = ds }) (after_arrival (takes_message w m.to m.msg) place m) r
     (take_outcome w0 w place m b more ms ds r e (travels_to w0 w place m e l0 at) lent ok sent came same unsent undelivered) l k (grown w _ k (puts_sites w m.to (after_message (records_of w m.to) m.msg)))
 
 pub travels_range : (w0 w : World) (place : ℕ) (m : Sent) → w0 ≡ w → IsLawful w0 → slice_get w.travelling place ≡ Some m → m.to - 1 < length w0.binders
@@ -246,13 +246,13 @@ pub front_on : (ms ns os : List Sent) → IsFront ms ns → IsFront ns os → Is
 front_on ms ns os f g = λ place m at. g place m (f place m at)
 
 -- one more name of a list is met
-pub met_next : (w v : World) (i : ℕ) (xs : List VarName) (k : ℕ) (d : VarName) → k < length xs → v ≡ meets w i (get_or xs k d) → meets_all v i (drop (k + 1) xs) ≡ meets_all w i (drop k xs)
-met_next w v i xs k d h e = rw (e, add-one) (sym (ap (meets_all w i) (drop-cons xs k d h)))
+pub met_next : (w v : World) (i : ℕ) (xs : List VarName) (k : ℕ) (d : VarName) → k < length xs → v ≡ after_meet_at w i (get_or xs k d) → after_meeting v i (drop (k + 1) xs) ≡ after_meeting w i (drop k xs)
+met_next w v i xs k d h e = rw (e, add-one) (sym (ap (after_meeting w i) (drop-cons xs k d h)))
 
-pub met_next_field : (w v : World) (i : ℕ) (xs : List (Feature × VarName)) (k : ℕ) (f : Feature × VarName) (x : VarName) → k < length xs → f ≡ get_or xs k f → x ≡ f.1 → v ≡ meets w i x → meets_all v i (field_vars (drop (k + 1) xs)) ≡ meets_all w i (field_vars (drop k xs))
+pub met_next_field : (w v : World) (i : ℕ) (xs : List (Feature × VarName)) (k : ℕ) (f : Feature × VarName) (x : VarName) → k < length xs → f ≡ get_or xs k f → x ≡ f.1 → v ≡ after_meet_at w i x → after_meeting v i (field_vars (drop (k + 1) xs)) ≡ after_meeting w i (field_vars (drop k xs))
 met_next_field w v i xs k f x h is x_is e =
     let var : x ≡ (get_or xs k f).1 = x_is ∙ ap (λ (g : Feature × VarName). g.1) is in
-    rw (e, var, add-one) (sym (ap (λ fs. meets_all w i (field_vars fs)) (drop-cons xs k f h)))
+    rw (e, var, add-one) (sym (ap (λ fs. after_meeting w i (field_vars fs)) (drop-cons xs k f h)))
 
 each_var_of : (P : VarName → Type 0) (xs : List (Feature × VarName)) (k : ℕ) (d : Feature × VarName) → Each P (field_vars xs) → k < length xs → P (get_or xs k d).1
 each_var_of P [] k d h below = absurd (omega arith)
@@ -268,9 +268,9 @@ can_meet_field w0 w i xs k f x g h made below is x_is =
     record { site = (h.0, omega arith); made = g.known x.site x there }
 
 -- a delivery by its two parts
-pub delivers_parts : (w v u : World) (place : ℕ) (m : Sent) → slice_get w.travelling place ≡ Some m → v ≡ meets_all w m.to (met_first m.msg) → u ≡ comes (takes_message v m.to m.msg) place m → u ≡ delivers w place
+pub delivers_parts : (w v u : World) (place : ℕ) (m : Sent) → slice_get w.travelling place ≡ Some m → v ≡ after_meeting w m.to (met_first m.msg) → u ≡ after_arrival (takes_message v m.to m.msg) place m → u ≡ after_delivery w place
 delivers_parts w v u place m at first last =
-    last ∙ ap (λ x. comes (takes_message x m.to m.msg) place m) first ∙ sym (rw at refl)
+    last ∙ ap (λ x. after_arrival (takes_message x m.to m.msg) place m) first ∙ sym (rw at refl)
 
 -- what the site of a message meets was made
 pub travels_made : (w0 w : World) (place : ℕ) (m : Sent) → w0 ≡ w → IsLawful w0 → slice_get w.travelling place ≡ Some m → Each (IsMadeIn w) (met_first m.msg)

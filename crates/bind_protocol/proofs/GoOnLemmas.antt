@@ -9,12 +9,13 @@ use Rattle.bind_protocol.specs.Records.{Records, knowledge, sites_in}
 use Rattle.site_message.specs.declared.message.Msg.TheVariants as msg
 use Rattle.variable_owner.specs.Owners.{with_owner}
 use Rattle.variable_owner.specs.declared.owners.Owner.TheVariants.{Open}
-use Rattle.bind_protocol.specs.Rows.{sent, after_meet, meet_sends, after_meets, meets_send}
+use Rattle.bind_protocol.specs.Rows.{sent_message, after_meet, meet_sends, after_meets, meets_send}
 use Rattle.bind_protocol.specs.World.{is_register, is_binding}
-use Rattle.bind_protocol.specs.Lawful.{met, told, registers, bindings, times}
+use Rattle.bind_protocol.specs.Lawful.{met_count, known_count, register_count, binding_count, site_count}
 use Rattle.bind_protocol.specs.Count.{RowsCount, RowsHear, AreCounted, AreHeard, KeepsCounts, KeepsHeard, SameCounts, CountsJoin, GoesOn, CountsGoOn, CountedOnce, MessagesComeReady}
 use Rattle.bind_protocol.proofs.ListLemmas.{count_append, there_counted}
-use Rattle.bind_protocol.proofs.RowCountLemmas.{nat_decides, unused_counts, make_counts, meet_counts, register_counts, register_of, ask_counts, binding_counts, want_counts, others_count, owners_hears, meet_hears, register_hears, ask_hears, binding_hears, same_hear}
+use Rattle.bind_protocol.proofs.RowCountLemmas.{unused_counts, make_counts, meet_counts, register_counts, register_of, ask_counts, binding_counts, want_counts, others_count, owners_hears, meet_hears, register_hears, ask_hears, binding_hears, want_hears, same_hear, at_most_one}
+use Rattle.std.proofs.lemmas.Bool.Decides.{Decides-eqb}
 
 -- ---- one after another
 
@@ -22,32 +23,32 @@ counts_on : (b c d : Records) (h g o u : List Sent) → KeepsCounts b c h o → 
 counts_on b c d h g o u k l = record {
   site = l.site ∙ k.site;
   mine = λ x.
-      let e : registers x b.site (o ++ u) ≡ registers x b.site o + registers x b.site u = count_append (is_register x b.site) o u in
-      let n : met (b.site == x.site) (knowledge c x) + registers x b.site u ≤ met (b.site == x.site) (knowledge d x) =
-      subst (λ (i : ℕ). met (i == x.site) (knowledge c x) + registers x i u ≤ met (i == x.site) (knowledge d x)) k.site (l.mine x) in
+      let e : register_count x b.site (o ++ u) ≡ register_count x b.site o + register_count x b.site u = count_append (is_register x b.site) o u in
+      let n : met_count (b.site == x.site) (knowledge c x) + register_count x b.site u ≤ met_count (b.site == x.site) (knowledge d x) =
+      subst (λ (i : ℕ). met_count (i == x.site) (knowledge c x) + register_count x i u ≤ met_count (i == x.site) (knowledge d x)) k.site (l.mine x) in
       omega (arith, k.mine x);
   others = λ i x other.
-      let e : registers x i (o ++ u) ≡ registers x i o + registers x i u = count_append (is_register x i) o u in
+      let e : register_count x i (o ++ u) ≡ register_count x i o + register_count x i u = count_append (is_register x i) o u in
       omega (arith, k.others i x other, l.others i x (λ f. other (f ∙ k.site)));
   listed = λ i x own.
-      let e : bindings x i (o ++ u) ≡ bindings x i o + bindings x i u = count_append (is_binding x i) o u in
-      let f : registers x i (h ++ g) ≡ registers x i h + registers x i g = count_append (is_register x i) h g in
+      let e : binding_count x i (o ++ u) ≡ binding_count x i o + binding_count x i u = count_append (is_binding x i) o u in
+      let f : register_count x i (h ++ g) ≡ register_count x i h + register_count x i g = count_append (is_register x i) h g in
       omega (arith, k.listed i x own, l.listed i x (own ∙ sym k.site));
   elsewhere = λ i x other.
-      let e : bindings x i (o ++ u) ≡ bindings x i o + bindings x i u = count_append (is_binding x i) o u in
+      let e : binding_count x i (o ++ u) ≡ binding_count x i o + binding_count x i u = count_append (is_binding x i) o u in
       omega (arith, k.elsewhere i x other, l.elsewhere i x (λ f. other (f ∙ k.site)));
 }
 
 hears_on : (b c d : Records) (h g : List Sent) → c.site ≡ b.site → KeepsHeard b c h → KeepsHeard c d g → KeepsHeard b d (h ++ g)
 hears_on b c d h g same k l x =
-    let e : bindings x b.site (h ++ g) ≡ bindings x b.site h + bindings x b.site g = count_append (is_binding x b.site) h g in
-    let n : told (b.site == x.site) (knowledge d x) ≤ told (b.site == x.site) (knowledge c x) + bindings x b.site g =
-    subst (λ (i : ℕ). told (i == x.site) (knowledge d x) ≤ told (i == x.site) (knowledge c x) + bindings x i g) same (l x) in
+    let e : binding_count x b.site (h ++ g) ≡ binding_count x b.site h + binding_count x b.site g = count_append (is_binding x b.site) h g in
+    let n : known_count (b.site == x.site) (knowledge d x) ≤ known_count (b.site == x.site) (knowledge c x) + binding_count x b.site g =
+    subst (λ (i : ℕ). known_count (i == x.site) (knowledge d x) ≤ known_count (i == x.site) (knowledge c x) + binding_count x i g) same (l x) in
     omega (arith, k x)
 
 unused_heard : (b c : Records) (h g : List Sent) → KeepsHeard b c h → KeepsHeard b c (h ++ g)
 unused_heard b c h g k x =
-    let e : bindings x b.site (h ++ g) ≡ bindings x b.site h + bindings x b.site g = count_append (is_binding x b.site) h g in
+    let e : binding_count x b.site (h ++ g) ≡ binding_count x b.site h + binding_count x b.site g = count_append (is_binding x b.site) h g in
     omega (arith, k x)
 
 alike : (b c : Records) (h o u : List Sent) → SameCounts o u → KeepsCounts b c h o → KeepsCounts b c h u
@@ -77,7 +78,7 @@ rows_count = record {
   make = make_counts;
   meet = meet_counts;
   meets = meets_count;
-  register = λ b x k to own. register_counts b x k (sent to (msg.Register x k)) own (register_of x k to);
+  register = λ b x k to own. register_counts b x k (sent_message to (msg.Register x k)) own (register_of x k to);
   ask = ask_counts;
   binding = binding_counts;
   want = want_counts;
@@ -92,6 +93,7 @@ rows_hear = record {
   register = register_hears;
   ask = ask_hears;
   binding = binding_hears;
+  want = want_hears;
   same = same_hear;
 }
 
@@ -100,66 +102,63 @@ rows_hear = record {
 module _ (a : ℕ) (old new : ℕ → Records) (hand rest out all : List Sent) (g : GoesOn a old new) where
   counted_goes : KeepsCounts (old a) (new a) hand out → AreCounted old (hand ++ rest) all → AreCounted new (rest ++ out) (all ++ out)
   counted_goes k h = record {
-    once = λ i x. once i x (i == a) (nat_decides i a);
-    way = λ i x. way i x (x.site == a) (nat_decides x.site a);
+    once = λ i x. once i x (i == a) (Decides-eqb i a);
+    way = λ i x. way i x (x.site == a) (Decides-eqb x.site a);
   }
     where
-      once : (i : ℕ) (x : VarName) (b : Bool) → Decides b (i ≡ a) → registers x i (all ++ out) ≤ met (i == x.site) (knowledge (new i) x)
+      once : (i : ℕ) (x : VarName) (b : Bool) → Decides b (i ≡ a) → register_count x i (all ++ out) ≤ met_count (i == x.site) (knowledge (new i) x)
       once i x true d =
-          let e : registers x i (all ++ out) ≡ registers x i all + registers x i out = count_append (is_register x i) all out in
-          let mine : met (i == x.site) (knowledge (old i) x) + registers x i out ≤ met (i == x.site) (knowledge (new i) x) =
-          subst (λ (j : ℕ). met (j == x.site) (knowledge (old j) x) + registers x j out ≤ met (j == x.site) (knowledge (new j) x)) (sym (d.0 refl))
-          (subst (λ (j : ℕ). met (j == x.site) (knowledge (old a) x) + registers x j out ≤ met (j == x.site) (knowledge (new a) x)) g.own (k.mine x)) in
+          let e : register_count x i (all ++ out) ≡ register_count x i all + register_count x i out = count_append (is_register x i) all out in
+          let mine : met_count (i == x.site) (knowledge (old i) x) + register_count x i out ≤ met_count (i == x.site) (knowledge (new i) x) =
+          subst (λ (j : ℕ). met_count (j == x.site) (knowledge (old j) x) + register_count x j out ≤ met_count (j == x.site) (knowledge (new j) x)) (sym (d.0 refl))
+          (subst (λ (j : ℕ). met_count (j == x.site) (knowledge (old a) x) + register_count x j out ≤ met_count (j == x.site) (knowledge (new a) x)) g.own (k.mine x)) in
           omega (arith, h.once i x)
       once i x false d =
-          let e : registers x i (all ++ out) ≡ registers x i all + registers x i out = count_append (is_register x i) all out in
+          let e : register_count x i (all ++ out) ≡ register_count x i all + register_count x i out = count_append (is_register x i) all out in
           let other : i ≢ a = λ (q : i ≡ a). let yes : false ≡ true = d.1 q in cc in
-          let same : met (i == x.site) (knowledge (new i) x) ≡ met (i == x.site) (knowledge (old i) x) = ap (λ (r : Records). met (i == x.site) (knowledge r x)) (g.others i other) in
+          let same : met_count (i == x.site) (knowledge (new i) x) ≡ met_count (i == x.site) (knowledge (old i) x) = ap (λ (r : Records). met_count (i == x.site) (knowledge r x)) (g.others i other) in
           omega (arith, h.once i x, k.others i x (λ q. other (q ∙ g.own)))
 
-      way : (i : ℕ) (x : VarName) (b : Bool) → Decides b (x.site ≡ a) → registers x i (rest ++ out) + times i (sites_in (new x.site) x) + bindings x i (all ++ out) ≤ registers x i (all ++ out)
+      way : (i : ℕ) (x : VarName) (b : Bool) → Decides b (x.site ≡ a) → register_count x i (rest ++ out) + site_count i (sites_in (new x.site) x) + binding_count x i (all ++ out) ≤ register_count x i (all ++ out)
       way i x true d =
-          let e : registers x i (all ++ out) ≡ registers x i all + registers x i out = count_append (is_register x i) all out in
-          let f : bindings x i (all ++ out) ≡ bindings x i all + bindings x i out = count_append (is_binding x i) all out in
-          let r : registers x i (rest ++ out) ≡ registers x i rest + registers x i out = count_append (is_register x i) rest out in
-          let l : registers x i (hand ++ rest) ≡ registers x i hand + registers x i rest = count_append (is_register x i) hand rest in
+          let e : register_count x i (all ++ out) ≡ register_count x i all + register_count x i out = count_append (is_register x i) all out in
+          let f : binding_count x i (all ++ out) ≡ binding_count x i all + binding_count x i out = count_append (is_binding x i) all out in
+          let r : register_count x i (rest ++ out) ≡ register_count x i rest + register_count x i out = count_append (is_register x i) rest out in
+          let l : register_count x i (hand ++ rest) ≡ register_count x i hand + register_count x i rest = count_append (is_register x i) hand rest in
           let site : x.site ≡ a = d.0 refl in
-          let now : times i (sites_in (new x.site) x) ≡ times i (sites_in (new a) x) = ap (λ (j : ℕ). times i (sites_in (new j) x)) site in
-          let was : times i (sites_in (old x.site) x) ≡ times i (sites_in (old a) x) = ap (λ (j : ℕ). times i (sites_in (old j) x)) site in
+          let now : site_count i (sites_in (new x.site) x) ≡ site_count i (sites_in (new a) x) = ap (λ (j : ℕ). site_count i (sites_in (new j) x)) site in
+          let was : site_count i (sites_in (old x.site) x) ≡ site_count i (sites_in (old a) x) = ap (λ (j : ℕ). site_count i (sites_in (old j) x)) site in
           omega (arith, h.way i x, k.listed i x (site ∙ sym g.own))
       way i x false d =
-          let e : registers x i (all ++ out) ≡ registers x i all + registers x i out = count_append (is_register x i) all out in
-          let f : bindings x i (all ++ out) ≡ bindings x i all + bindings x i out = count_append (is_binding x i) all out in
-          let r : registers x i (rest ++ out) ≡ registers x i rest + registers x i out = count_append (is_register x i) rest out in
-          let l : registers x i (hand ++ rest) ≡ registers x i hand + registers x i rest = count_append (is_register x i) hand rest in
+          let e : register_count x i (all ++ out) ≡ register_count x i all + register_count x i out = count_append (is_register x i) all out in
+          let f : binding_count x i (all ++ out) ≡ binding_count x i all + binding_count x i out = count_append (is_binding x i) all out in
+          let r : register_count x i (rest ++ out) ≡ register_count x i rest + register_count x i out = count_append (is_register x i) rest out in
+          let l : register_count x i (hand ++ rest) ≡ register_count x i hand + register_count x i rest = count_append (is_register x i) hand rest in
           let other : x.site ≢ a = λ (q : x.site ≡ a). let yes : false ≡ true = d.1 q in cc in
-          let now : times i (sites_in (new x.site) x) ≡ times i (sites_in (old x.site) x) = ap (λ (s : Records). times i (sites_in s x)) (g.others x.site other) in
+          let now : site_count i (sites_in (new x.site) x) ≡ site_count i (sites_in (old x.site) x) = ap (λ (s : Records). site_count i (sites_in s x)) (g.others x.site other) in
           omega (arith, h.way i x, k.elsewhere i x (λ q. other (q ∙ g.own)))
 
-  heard_goes : ((i : ℕ) (x : VarName) → i ≢ a → bindings x i hand ≡ 0) → KeepsHeard (old a) (new a) hand → AreHeard old (hand ++ rest) all → AreHeard new (rest ++ out) (all ++ out)
-  heard_goes to k h i x = go (i == a) (nat_decides i a)
+  heard_goes : ((i : ℕ) (x : VarName) → i ≢ a → binding_count x i hand ≡ 0) → KeepsHeard (old a) (new a) hand → AreHeard old (hand ++ rest) all → AreHeard new (rest ++ out) (all ++ out)
+  heard_goes to k h i x = go (i == a) (Decides-eqb i a)
     where
-      go : (b : Bool) → Decides b (i ≡ a) → bindings x i (rest ++ out) + told (i == x.site) (knowledge (new i) x) ≤ bindings x i (all ++ out)
+      go : (b : Bool) → Decides b (i ≡ a) → binding_count x i (rest ++ out) + known_count (i == x.site) (knowledge (new i) x) ≤ binding_count x i (all ++ out)
       go true d =
-          let e : bindings x i (all ++ out) ≡ bindings x i all + bindings x i out = count_append (is_binding x i) all out in
-          let f : bindings x i (rest ++ out) ≡ bindings x i rest + bindings x i out = count_append (is_binding x i) rest out in
-          let l : bindings x i (hand ++ rest) ≡ bindings x i hand + bindings x i rest = count_append (is_binding x i) hand rest in
-          let mine : told (i == x.site) (knowledge (new i) x) ≤ told (i == x.site) (knowledge (old i) x) + bindings x i hand =
-          subst (λ (j : ℕ). told (j == x.site) (knowledge (new j) x) ≤ told (j == x.site) (knowledge (old j) x) + bindings x j hand) (sym (d.0 refl))
-          (subst (λ (j : ℕ). told (j == x.site) (knowledge (new a) x) ≤ told (j == x.site) (knowledge (old a) x) + bindings x j hand) g.own (k x)) in
+          let e : binding_count x i (all ++ out) ≡ binding_count x i all + binding_count x i out = count_append (is_binding x i) all out in
+          let f : binding_count x i (rest ++ out) ≡ binding_count x i rest + binding_count x i out = count_append (is_binding x i) rest out in
+          let l : binding_count x i (hand ++ rest) ≡ binding_count x i hand + binding_count x i rest = count_append (is_binding x i) hand rest in
+          let mine : known_count (i == x.site) (knowledge (new i) x) ≤ known_count (i == x.site) (knowledge (old i) x) + binding_count x i hand =
+          subst (λ (j : ℕ). known_count (j == x.site) (knowledge (new j) x) ≤ known_count (j == x.site) (knowledge (old j) x) + binding_count x j hand) (sym (d.0 refl))
+          (subst (λ (j : ℕ). known_count (j == x.site) (knowledge (new a) x) ≤ known_count (j == x.site) (knowledge (old a) x) + binding_count x j hand) g.own (k x)) in
           omega (arith, h i x)
       go false d =
-          let e : bindings x i (all ++ out) ≡ bindings x i all + bindings x i out = count_append (is_binding x i) all out in
-          let f : bindings x i (rest ++ out) ≡ bindings x i rest + bindings x i out = count_append (is_binding x i) rest out in
-          let l : bindings x i (hand ++ rest) ≡ bindings x i hand + bindings x i rest = count_append (is_binding x i) hand rest in
+          let e : binding_count x i (all ++ out) ≡ binding_count x i all + binding_count x i out = count_append (is_binding x i) all out in
+          let f : binding_count x i (rest ++ out) ≡ binding_count x i rest + binding_count x i out = count_append (is_binding x i) rest out in
+          let l : binding_count x i (hand ++ rest) ≡ binding_count x i hand + binding_count x i rest = count_append (is_binding x i) hand rest in
           let other : i ≢ a = λ (q : i ≡ a). let yes : false ≡ true = d.1 q in cc in
-          let same : told (i == x.site) (knowledge (new i) x) ≡ told (i == x.site) (knowledge (old i) x) = ap (λ (r : Records). told (i == x.site) (knowledge r x)) (g.others i other) in
+          let same : known_count (i == x.site) (knowledge (new i) x) ≡ known_count (i == x.site) (knowledge (old i) x) = ap (λ (r : Records). known_count (i == x.site) (knowledge r x)) (g.others i other) in
           omega (arith, h i x, to i x other)
 
-none_met : (b c : Bool) → 0 ≤ met b (cond {A = Option (Option Term)} c None None)
-none_met b c = omega arith
-
-none_told : (b c : Bool) → 0 + told b (cond {A = Option (Option Term)} c None None) ≤ 0
+none_told : (b c : Bool) → 0 + known_count b (cond {A = Option (Option Term)} c None None) ≤ 0
 none_told true c = omega arith
 none_told false true = omega arith
 none_told false false = omega arith
@@ -175,13 +174,8 @@ counts_go_on = record {
 
 -- ---- what follows
 
-at_most_one : (b : Bool) (o : Option (Option Term)) → met b o ≤ 1
-at_most_one true o = omega arith
-at_most_one false None = omega arith
-at_most_one false (Some o) = omega arith
-
-own_is_not_met : (i : ℕ) (x : VarName) (o : Option (Option Term)) → i ≡ x.site → met (i == x.site) o ≡ 0
-own_is_not_met i x o e = ap (λ (b : Bool). met b o) ((nat_decides i x.site).1 e)
+own_is_not_met : (i : ℕ) (x : VarName) (o : Option (Option Term)) → i ≡ x.site → met_count (i == x.site) o ≡ 0
+own_is_not_met i x o e = ap (λ (b : Bool). met_count b o) ((Decides-eqb i x.site).1 e)
 
 pub counted_once : CountedOnce
 counted_once records travelling all c i x =
@@ -191,12 +185,12 @@ counted_once records travelling all c i x =
       (λ own. let none = own_is_not_met i x (knowledge (records i) x) own in (omega (arith, c.once i x), omega (arith, c.once i x, c.way i x))),
     )
 
-met_known : (i : ℕ) (x : VarName) (b : Bool) (o : Option (Option Term)) → Decides b (i ≡ x.site) → 1 ≤ met b o → (i ≢ x.site) × IsTrue (is_some o)
+met_known : (i : ℕ) (x : VarName) (b : Bool) (o : Option (Option Term)) → Decides b (i ≡ x.site) → 1 ≤ met_count b o → (i ≢ x.site) × IsTrue (is_some o)
 met_known i x true o d some = absurd (omega (arith, some))
 met_known i x false None d some = absurd (omega (arith, some))
 met_known i x false (Some o) d some = ((λ (q : i ≡ x.site). let yes : false ≡ true = d.1 q in cc), refl)
 
-still_unbound : (i : ℕ) (x : VarName) (b : Bool) (o : Option (Option Term)) → Decides b (i ≡ x.site) → 1 ≤ met b o → told b o ≡ 0 → o ≡ Some None
+still_unbound : (i : ℕ) (x : VarName) (b : Bool) (o : Option (Option Term)) → Decides b (i ≡ x.site) → 1 ≤ met_count b o → known_count b o ≡ 0 → o ≡ Some None
 still_unbound i x true o d some none = absurd (omega (arith, some))
 still_unbound i x false None d some none = absurd (omega (arith, some))
 still_unbound i x false (Some None) d some none = refl
@@ -205,21 +199,21 @@ still_unbound i x false (Some (Some t)) d some none = cc
 pub messages_come_ready : MessagesComeReady
 messages_come_ready records travelling all c fewer_registers fewer_bindings = record {
   register = λ i x there. register i x there;
-  met = λ i x there. met_known i x (i == x.site) (knowledge (records i) x) (nat_decides i x.site) (some_met i x there);
-  unbound = λ heard i x there. still_unbound i x (i == x.site) (knowledge (records i) x) (nat_decides i x.site) (some_met i x there) (untold heard i x there);
+  met = λ i x there. met_known i x (i == x.site) (knowledge (records i) x) (Decides-eqb i x.site) (some_met i x there);
+  unbound = λ heard i x there. still_unbound i x (i == x.site) (knowledge (records i) x) (Decides-eqb i x.site) (some_met i x there) (untold heard i x there);
 }
   where
-    some_met : (i : ℕ) (x : VarName) → 1 ≤ bindings x i travelling → 1 ≤ met (i == x.site) (knowledge (records i) x)
+    some_met : (i : ℕ) (x : VarName) → 1 ≤ binding_count x i travelling → 1 ≤ met_count (i == x.site) (knowledge (records i) x)
     some_met i x there = omega (arith, there, fewer_bindings i x, c.way i x, c.once i x)
 
-    register : (i : ℕ) (x : VarName) → 1 ≤ registers x i travelling → (i ≢ x.site) × (Contains (sites_in (records x.site) x) i → ⊥)
+    register : (i : ℕ) (x : VarName) → 1 ≤ register_count x i travelling → (i ≢ x.site) × (Contains (sites_in (records x.site) x) i → ⊥)
     register i x there =
         let few = at_most_one (i == x.site) (knowledge (records i) x) in
-        let known = met_known i x (i == x.site) (knowledge (records i) x) (nat_decides i x.site) (omega (arith, there, fewer_registers i x, c.once i x)) in
-        let none : times i (sites_in (records x.site) x) ≡ 0 = omega (arith, there, c.way i x, c.once i x) in
-        (known.0, λ at. let one = there_counted (λ k. i == k) (sites_in (records x.site) x) i at ((nat_decides i i).1 refl) in omega arith)
+        let known = met_known i x (i == x.site) (knowledge (records i) x) (Decides-eqb i x.site) (omega (arith, there, fewer_registers i x, c.once i x)) in
+        let none : site_count i (sites_in (records x.site) x) ≡ 0 = omega (arith, there, c.way i x, c.once i x) in
+        (known.0, λ at. let one = there_counted (λ k. i == k) (sites_in (records x.site) x) i at ((Decides-eqb i i).1 refl) in omega arith)
 
-    untold : AreHeard records travelling all → (i : ℕ) (x : VarName) → 1 ≤ bindings x i travelling → told (i == x.site) (knowledge (records i) x) ≡ 0
+    untold : AreHeard records travelling all → (i : ℕ) (x : VarName) → 1 ≤ binding_count x i travelling → known_count (i == x.site) (knowledge (records i) x) ≡ 0
     untold heard i x there =
         let few = at_most_one (i == x.site) (knowledge (records i) x) in
         omega (arith, there, heard i x, c.way i x, c.once i x)

@@ -4,14 +4,15 @@ use Rattle.std.specs.Prelude.{Option, Some, is_some, IsTrue, ◌&&◌, ◌==◌}
 use Rattle.tree_node.specs.declared.names.VarName.{VarName}
 use Rattle.tree_node.specs.declared.node.Term.{Term}
 use Rattle.tree_node.specs.Each.{Each}
-use Rattle.tree_node.specs.Store.{same_name}
+use Rattle.tree_node.specs.Store.{equal_var}
 use Rattle.tree_node.proofs.ClassLemmas.{same_name_decides}
-use Rattle.tree_node.proofs.OrderLemmas.{Each-map}
 use Rattle.site_message.specs.declared.message.Sent.{Sent}
 use Rattle.site_message.specs.declared.message.Msg.{Msg}
 use Rattle.site_message.specs.declared.message.Msg.TheVariants as msg
 use Rattle.bind_protocol.specs.World.{vars_of}
 use Rattle.bind_protocol.specs.Lawful.{Knowing, Made, IsGood, Truth, IsLetter}
+use Rattle.std.proofs.lemmas.Bool.{eqb-true}
+use Rattle.tree_node.proofs.EnvLemmas.{each_more}
 
 -- site k knows v of y from now on, and nothing else is other than before
 pub record Changes (know more : Knowing) (k : ℕ) (y : VarName) (v : Option Term) : Type 0 where
@@ -19,24 +20,21 @@ pub record Changes (know more : Knowing) (k : ℕ) (y : VarName) (v : Option Ter
   pub others : (i : ℕ) (x : VarName) → (i ≡ k → x ≡ y → ⊥) → more i x ≡ know i x
 
 abbrev pub this_place : ℕ → VarName → ℕ → VarName → Bool
-this_place k y i x = same_name x y && (i == k)
-
-nat_decides : (i k : ℕ) → (i == k) ≡ true → i ≡ k
-nat_decides i k h = search rules
+this_place k y i x = equal_var x y && (i == k)
 
 nat_same : (k : ℕ) → (k == k) ≡ true
 nat_same k = search rules
 
 pub place_is : (k : ℕ) (y : VarName) (i : ℕ) (x : VarName) → this_place k y i x ≡ true → (i ≡ k) × (x ≡ y)
-place_is k y i x h = go (same_name x y) refl h
+place_is k y i x h = go (equal_var x y) refl h
   where
-    go : (b : Bool) → same_name x y ≡ b → (b && (i == k)) ≡ true → (i ≡ k) × (x ≡ y)
-    go true q e = (nat_decides i k e, (same_name_decides x y).0 q)
+    go : (b : Bool) → equal_var x y ≡ b → (b && (i == k)) ≡ true → (i ≡ k) × (x ≡ y)
+    go true q e = (eqb-true i k e, (same_name_decides x y).0 q)
     go false q e = cc
 
 pub place_is_not : (k : ℕ) (y : VarName) (i : ℕ) (x : VarName) → this_place k y i x ≡ false → i ≡ k → x ≡ y → ⊥
 place_is_not k y i x h e f =
-    let first : same_name x y ≡ true = (same_name_decides x y).1 f in
+    let first : equal_var x y ≡ true = (same_name_decides x y).1 f in
     let second : (i == k) ≡ true = subst (λ (j : ℕ). (i == j) ≡ true) e (nat_same i) in
     let both : this_place k y i x ≡ true = rw (first, second) refl in
     let contrary : true ≡ false = sym both ∙ h in cc
@@ -71,7 +69,7 @@ change_grows know more k y v ch unbound = record {
     bound_by i x t (inr n) h = ch.others i x n ∙ h
 
 pub good_stays : (know more : Knowing) → Grows know more → (x : VarName) (t : Term) → IsGood know x t → IsGood more x t
-good_stays know more g x t h = (Each-map (Made know) (Made more) (vars_of t) (λ z m. g.some z.site z m) h.0, h.1)
+good_stays know more g x t h = (each_more (Made know) (Made more) (vars_of t) (λ z m. g.some z.site z m) h.0, h.1)
 
 abbrev Fits : Knowing → ℕ → Msg → Type 0
 Fits know to m = IsLetter know (record { to = to; msg = m })
@@ -89,7 +87,7 @@ letter_stays know more g s h = go s.msg h
     go (msg.Put a b c) h = h
 
 pub letters_stay : (know more : Knowing) → Grows know more → (ms : List Sent) → Each (IsLetter know) ms → Each (IsLetter more) ms
-letters_stay know more g ms h = Each-map (IsLetter know) (IsLetter more) ms (λ s l. letter_stays know more g s l) h
+letters_stay know more g ms h = each_more (IsLetter know) (IsLetter more) ms (λ s l. letter_stays know more g s l) h
 
 -- what is learnt is true: an owner's own bind to a good term, or what the owner holds
 abbrev pub IsTrueTo : Knowing → ℕ → VarName → Option Term → Type 0

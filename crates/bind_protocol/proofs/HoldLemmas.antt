@@ -14,28 +14,27 @@ use Rattle.site_message.specs.declared.message.Msg.{Msg}
 use Rattle.site_message.specs.declared.message.Msg.TheVariants as msg
 use Rattle.bind_protocol.specs.Records.{Records}
 use Rattle.bind_protocol.specs.Rows.{register, binding}
-use Rattle.bind_protocol.specs.World.{World, Holds, EachIsTold, SentOnce, GoesElsewhere, GoesDown, empty_records, new_records, new_world, records_at, knows, known_at, listed, registered_at, is_register, is_binding}
-use Rattle.bind_protocol.specs.Lawful.{IsLetter, IsLawful, met, told, registers, bindings, times}
+use Rattle.bind_protocol.specs.World.{World, Holds, EachIsTold, SentOnce, GoesElsewhere, GoesDown, empty_records, new_records, new_world, records_at, knowledge_at, known_at, registered_sites, registered_at, is_register, is_binding}
+use Rattle.bind_protocol.specs.Lawful.{IsLetter, IsLawful, met_count, known_count, register_count, binding_count, site_count}
 use Rattle.bind_protocol.specs.Calls.{Call, Make, Meet, Want, Deliver, IsAllowed, IsAfter, CallsKeep, after_call}
 use Rattle.bind_protocol.proofs.ListLemmas.{count_append, counted_there}
 use Rattle.bind_protocol.proofs.GrowLemmas.{place_is}
 use Rattle.bind_protocol.proofs.RowLemmas.{Kept}
 use Rattle.bind_protocol.proofs.CallLemmas.{kept_same, kept_on, makes_kept, meets_kept, wants_kept}
 use Rattle.bind_protocol.proofs.DeliverLemmas.{delivers_kept, binding_awaited, register_awaited}
-
-at_most_one : (b : Bool) (o : Option (Option Term)) → met b o ≤ 1
-at_most_one true o = omega arith
-at_most_one false None = omega arith
-at_most_one false (Some o) = omega arith
+use Rattle.std.proofs.lemmas.Bool.{eqb-true}
+use Rattle.bind_protocol.proofs.RowCountLemmas.{at_most_one}
+use Rattle.bind_protocol.proofs.CountLemmas.{not_own}
+use Rattle.tree_node.proofs.EachLemmas.{each_in}
 
 pub once_holds : (w : World) → IsLawful w → SentOnce w
 once_holds w l i x =
-    let most : met (i == x.site) (known_at w i x) ≤ 1 = at_most_one (i == x.site) (known_at w i x) in
-    let asked : registers x i w.delivered + registers x i w.travelling ≡ met (i == x.site) (known_at w i x) = l.counts.asked i x in
-    let heard : bindings x i w.delivered ≡ told (i == x.site) (known_at w i x) = l.counts.heard i x in
-    let way : registers x i w.travelling + times i (registered_at w x) + bindings x i w.travelling + told (i == x.site) (known_at w i x) ≡ met (i == x.site) (known_at w i x) = l.counts.one_place i x in
-    let all_registers : count_by (is_register x i) (w.delivered ++ w.travelling) ≡ registers x i w.delivered + registers x i w.travelling = count_append (is_register x i) w.delivered w.travelling in
-    let all_bindings : count_by (is_binding x i) (w.delivered ++ w.travelling) ≡ bindings x i w.delivered + bindings x i w.travelling = count_append (is_binding x i) w.delivered w.travelling in
+    let most : met_count (i == x.site) (known_at w i x) ≤ 1 = at_most_one (i == x.site) (known_at w i x) in
+    let asked : register_count x i w.delivered + register_count x i w.travelling ≡ met_count (i == x.site) (known_at w i x) = l.counts.asked i x in
+    let heard : binding_count x i w.delivered ≡ known_count (i == x.site) (known_at w i x) = l.counts.heard i x in
+    let way : register_count x i w.travelling + site_count i (registered_at w x) + binding_count x i w.travelling + known_count (i == x.site) (known_at w i x) ≡ met_count (i == x.site) (known_at w i x) = l.counts.one_place i x in
+    let all_registers : count_by (is_register x i) (w.delivered ++ w.travelling) ≡ register_count x i w.delivered + register_count x i w.travelling = count_append (is_register x i) w.delivered w.travelling in
+    let all_bindings : count_by (is_binding x i) (w.delivered ++ w.travelling) ≡ binding_count x i w.delivered + binding_count x i w.travelling = count_append (is_binding x i) w.delivered w.travelling in
     (omega arith, omega arith)
 
 -- a counted Register or Binding that is a letter
@@ -63,12 +62,6 @@ the_binding w x i to (msg.Get a b) e fits = cc
 the_binding w x i to (msg.Forward a b) e fits = cc
 the_binding w x i to (msg.Put a b c) e fits = cc
 
-not_own : (i : ℕ) (x : VarName) → i ≢ x.site → (i == x.site) ≡ false
-not_own i x h = search rules
-
-number_is : (i j : ℕ) → (i == j) ≡ true → i ≡ j
-number_is i j h = search rules
-
 three : (a b c : ℕ) → 1 ≤ a + b + c → (1 ≤ a) ⊎ ((1 ≤ b) ⊎ (1 ≤ c))
 three (suc a) b c h = inl (omega arith)
 three zero (suc b) c h = inr (inl (omega arith))
@@ -78,14 +71,14 @@ three zero zero zero h = absurd (omega arith)
 pub told_holds : (w : World) → IsLawful w → EachIsTold w
 told_holds w l i x unbound other = go (three _ _ _ way)
   where
-    numbers : registers x i w.travelling + times i (registered_at w x) + bindings x i w.travelling + told (i == x.site) (known_at w i x) ≡ met (i == x.site) (known_at w i x)
+    numbers : register_count x i w.travelling + site_count i (registered_at w x) + binding_count x i w.travelling + known_count (i == x.site) (known_at w i x) ≡ met_count (i == x.site) (known_at w i x)
     numbers = l.counts.one_place i x
 
-    way : 1 ≤ registers x i w.travelling + times i (registered_at w x) + bindings x i w.travelling
+    way : 1 ≤ register_count x i w.travelling + site_count i (registered_at w x) + binding_count x i w.travelling
     way =
-        let one : registers x i w.travelling + times i (registered_at w x) + bindings x i w.travelling + 0 ≡ 1 = rw (not_own i x other, unbound) at numbers in omega arith
+        let one : register_count x i w.travelling + site_count i (registered_at w x) + binding_count x i w.travelling + 0 ≡ 1 = rw (not_own i x other, unbound) at numbers in omega arith
 
-    go : (1 ≤ registers x i w.travelling) ⊎ ((1 ≤ times i (registered_at w x)) ⊎ (1 ≤ bindings x i w.travelling)) →
+    go : (1 ≤ register_count x i w.travelling) ⊎ ((1 ≤ site_count i (registered_at w x)) ⊎ (1 ≤ binding_count x i w.travelling)) →
         Contains (registered_at w x) i ⊎ (Contains w.travelling (register x i) ⊎ ((t : Term) × Contains w.travelling (binding x t i)))
     go (inl h) =
         let f = counted_there (is_register x i) w.travelling h in
@@ -93,16 +86,12 @@ told_holds w l i x unbound other = go (three _ _ _ way)
         inr (inl (subst (λ (s : Sent). Contains w.travelling s) (the_register w x i f.0.to f.0.msg f.2 fits) f.1))
     go (inr (inl h)) =
         let f = counted_there (λ k. i == k) (registered_at w x) h in
-        inl (subst (λ (k : ℕ). Contains (registered_at w x) k) (sym (number_is i f.0 f.2)) f.1)
+        inl (subst (λ (k : ℕ). Contains (registered_at w x) k) (sym (eqb-true i f.0 f.2)) f.1)
     go (inr (inr h)) =
         let f = counted_there (is_binding x i) w.travelling h in
         let fits : IsLetter (known_at w) f.0 = Each-member (IsLetter (known_at w)) w.travelling f.0 l.letters f.1 in
         let is = the_binding w x i f.0.to f.0.msg f.2 fits in
         inr (inr (is.0, subst (λ (s : Sent). Contains w.travelling s) is.1 f.1))
-
-each_from : {X : Type 0} (P : X → Type 0) (xs : List X) → ((x : X) → Contains xs x → P x) → Each P xs
-each_from P [] f = tt
-each_from P (x ∷ xs) f = (f x (Contains-head x xs), each_from P xs (λ y h. f y (Contains-tail x y xs h)))
 
 elsewhere : (w : World) (to : ℕ) (m : Msg) → IsLawful w → IsLetter (known_at w) (record { to = to; msg = m }) → Contains w.travelling (record { to = to; msg = m }) → GoesElsewhere (record { to = to; msg = m })
 elsewhere w to (msg.Register y k) l fits at = λ e.
@@ -131,8 +120,8 @@ lawful_holds w l = record {
   owned = l.truth.owned;
   told = told_holds w l;
   once = once_holds w l;
-  elsewhere = each_from GoesElsewhere w.travelling (λ s at. elsewhere w s.to s.msg l (Each-member (IsLetter (known_at w)) w.travelling s l.letters at) at);
-  down = each_from GoesDown w.travelling (λ s at. down w s.to s.msg (Each-member (IsLetter (known_at w)) w.travelling s l.letters at));
+  elsewhere = each_in GoesElsewhere w.travelling (λ s at. elsewhere w s.to s.msg l (Each-member (IsLetter (known_at w)) w.travelling s l.letters at) at);
+  down = each_in GoesDown w.travelling (λ s at. down w s.to s.msg (Each-member (IsLetter (known_at w)) w.travelling s l.letters at));
   links = λ x t h. (l.truth.good x t h).1;
 }
 
@@ -156,33 +145,33 @@ new_at (suc n) k b e = last (new_records n) k e (new_length n) (λ f. new_at n k
         go (c ∷ cs) d zero e size old = old e
         go (c ∷ cs) d (suc k) e size old = let more : suc k + d ≡ k + suc d = omega arith in rw more (go cs (suc d) k e (omega arith) (λ f. rw (← more) (old f)))
 
-new_knows : (n i : ℕ) (x : VarName) → knows (records_at (new_records n) i) x ≡ None
+new_knows : (n i : ℕ) (x : VarName) → knowledge_at (records_at (new_records n) i) x ≡ None
 new_knows n zero x = refl
 new_knows n (suc k) x = go (slice_get (new_records n) k) refl
   where
-    go : (o : Option Records) → slice_get (new_records n) k ≡ o → knows (slice_get (new_records n) k) x ≡ None
+    go : (o : Option Records) → slice_get (new_records n) k ≡ o → knowledge_at (slice_get (new_records n) k) x ≡ None
     go None q = rw q refl
     go (Some b) q = rw (q, new_at n k b q) (empty_knows (suc k))
       where
-        empty_knows : (i : ℕ) → knows (Some (empty_records i)) x ≡ None
+        empty_knows : (i : ℕ) → knowledge_at (Some (empty_records i)) x ≡ None
         empty_knows i = search rules
 
 new_listed : (n : ℕ) (x : VarName) → registered_at (new_world n) x ≡ []
 new_listed n x = by_site x.site
   where
-    by_site : (i : ℕ) → listed (records_at (new_records n) i) x ≡ []
+    by_site : (i : ℕ) → registered_sites (records_at (new_records n) i) x ≡ []
     by_site zero = refl
     by_site (suc k) = go (slice_get (new_records n) k) refl
       where
-        go : (o : Option Records) → slice_get (new_records n) k ≡ o → listed (slice_get (new_records n) k) x ≡ []
+        go : (o : Option Records) → slice_get (new_records n) k ≡ o → registered_sites (slice_get (new_records n) k) x ≡ []
         go None q = rw q refl
         go (Some b) q = rw (q, new_at n k b q) refl
 
-no_met : (b : Bool) → met b None ≡ 0
+no_met : (b : Bool) → met_count b None ≡ 0
 no_met true = refl
 no_met false = refl
 
-no_told : (b : Bool) → told b None ≡ 0
+no_told : (b : Bool) → known_count b None ≡ 0
 no_told true = refl
 no_told false = refl
 

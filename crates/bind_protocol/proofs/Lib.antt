@@ -12,3 +12,5 @@ pub mod CodeLemmas
 pub mod RowCountLemmas
 pub mod GoOnLemmas
 pub mod LearnLemmas
+pub mod ToldLemmas
+pub mod EquationLemmas

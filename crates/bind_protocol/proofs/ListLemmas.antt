@@ -5,6 +5,8 @@ use Rattle.std.specs.List.{count_by}
 use Rattle.std.proofs.lemmas.List.Sums.{sum_by-append}
 use Rattle.tree_node.specs.Each.{Each}
 use Rattle.tree_node.proofs.ClassLemmas.{Contains-head, Contains-tail, Contains-cons_cases}
+use Rattle.site_message.proofs.JournalLemmas.{sent_more}
+use Rattle.tree_node.proofs.EachLemmas.{each_append}
 
 abbrev pub one : Bool → ℕ
 one b = cond b 1 0
@@ -42,15 +44,6 @@ count_out p (x ∷ xs) (suc i) m e =
     let whole : count_by p (remove (x ∷ xs) (suc i)) ≡ one (p x) + count_by p (remove xs i) = count_cons p x (remove xs i) in
     let both : count_by p (x ∷ xs) ≡ one (p x) + count_by p xs = count_cons p x xs in
     omega arith
-
-pub get_append : {X : Type 0} (xs ys : List X) (k : ℕ) (m : X) → slice_get xs k ≡ Some m → slice_get (xs ++ ys) k ≡ Some m
-get_append [] ys k m e = cc
-get_append (x ∷ xs) ys zero m e = e
-get_append (x ∷ xs) ys (suc k) m e = get_append xs ys k m e
-
-pub each_append : {X : Type 0} (P : X → Type 0) (xs ys : List X) → Each P xs → Each P ys → Each P (xs ++ ys)
-each_append P [] ys h k = k
-each_append P (x ∷ xs) ys h k = (h.0, each_append P xs ys h.1 k)
 
 pub each_out : {X : Type 0} (P : X → Type 0) (xs : List X) (i : ℕ) → Each P xs → Each P (remove xs i)
 each_out P [] i h = subst (Each P) (sym (out_nil i)) tt

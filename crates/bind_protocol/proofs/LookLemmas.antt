@@ -5,7 +5,7 @@ use Rattle.std.specs.Map.{lookup}
 use Rattle.indexmap.specs.IndexMap.{insert_entry}
 use Rattle.tree_node.specs.declared.names.VarName.{VarName}
 use Rattle.tree_node.specs.declared.node.Term.{Term}
-use Rattle.tree_node.specs.Store.{same_name}
+use Rattle.tree_node.specs.Store.{equal_var}
 use Rattle.tree_node.proofs.ClassLemmas.{same_name_decides, same_name_refl}
 use Rattle.proxy_table.specs.Proxies.{Proxy, entry_of}
 use Rattle.variable_owner.specs.declared.owners.Owner.{Owner}
@@ -13,47 +13,41 @@ use Rattle.variable_owner.specs.Owners.{owner_of, with_owner}
 use Rattle.bind_protocol.specs.Records.{Records, is_own, knowledge, owner_knows}
 use Rattle.bind_protocol.specs.World.{records_at}
 use Rattle.bind_protocol.proofs.ListLemmas.{set_here, set_other, get_there}
-
-pub names_differ : (x y : VarName) → x ≢ y → same_name x y ≡ false
-names_differ x y h = go (same_name x y) refl
-  where
-    go : (b : Bool) → same_name x y ≡ b → same_name x y ≡ false
-    go true e = absurd (h ((same_name_decides x y).0 e))
-    go false e = e
+use Rattle.tree_node.proofs.NameLemmas.{differ}
 
 -- an entry put in, or put last
-pub in_here : {V : Type 0} (es : List (VarName × V)) (x : VarName) (v : V) → lookup (same_name x) (insert_entry same_name es x v) ≡ Some v
+pub in_here : {V : Type 0} (es : List (VarName × V)) (x : VarName) (v : V) → lookup (equal_var x) (insert_entry equal_var es x v) ≡ Some v
 in_here [] x v = rw (same_name_refl x) refl
-in_here {V} ((z, r) ∷ es) x v = go (same_name x z) refl (in_here es x v)
+in_here {V} ((z, r) ∷ es) x v = go (equal_var x z) refl (in_here es x v)
   where
-    go : (b : Bool) → same_name x z ≡ b → lookup (same_name x) (insert_entry same_name es x v) ≡ Some v → lookup (same_name x) (cond (same_name x z) ((z, v) ∷ es) ((z, r) ∷ insert_entry same_name es x v)) ≡ Some v
+    go : (b : Bool) → equal_var x z ≡ b → lookup (equal_var x) (insert_entry equal_var es x v) ≡ Some v → lookup (equal_var x) (cond (equal_var x z) ((z, v) ∷ es) ((z, r) ∷ insert_entry equal_var es x v)) ≡ Some v
     go true q ih = rw (q, q) refl
     go false q ih = rw (q, q) ih
 
-pub in_other : {V : Type 0} (es : List (VarName × V)) (x y : VarName) (v : V) → y ≢ x → lookup (same_name y) (insert_entry same_name es x v) ≡ lookup (same_name y) es
-in_other [] x y v h = rw (names_differ y x h) refl
-in_other {V} ((z, r) ∷ es) x y v h = go (same_name x z) refl (in_other es x y v h)
+pub in_other : {V : Type 0} (es : List (VarName × V)) (x y : VarName) (v : V) → y ≢ x → lookup (equal_var y) (insert_entry equal_var es x v) ≡ lookup (equal_var y) es
+in_other [] x y v h = rw (differ y x h) refl
+in_other {V} ((z, r) ∷ es) x y v h = go (equal_var x z) refl (in_other es x y v h)
   where
-    go : (b : Bool) → same_name x z ≡ b → lookup (same_name y) (insert_entry same_name es x v) ≡ lookup (same_name y) es →
-        lookup (same_name y) (cond (same_name x z) ((z, v) ∷ es) ((z, r) ∷ insert_entry same_name es x v)) ≡ lookup (same_name y) ((z, r) ∷ es)
+    go : (b : Bool) → equal_var x z ≡ b → lookup (equal_var y) (insert_entry equal_var es x v) ≡ lookup (equal_var y) es →
+        lookup (equal_var y) (cond (equal_var x z) ((z, v) ∷ es) ((z, r) ∷ insert_entry equal_var es x v)) ≡ lookup (equal_var y) ((z, r) ∷ es)
     go true q ih =
         let same : x ≡ z = (same_name_decides x z).0 q in
-        let differs : same_name y z ≡ false = names_differ y z (λ e. h (e ∙ sym same)) in
+        let differs : equal_var y z ≡ false = differ y z (λ e. h (e ∙ sym same)) in
         rw (q, differs) refl
-    go false q ih = rw q (ap (λ (o : Option V). cond (same_name y z) (Some r) o) ih)
+    go false q ih = rw q (ap (λ (o : Option V). cond (equal_var y z) (Some r) o) ih)
 
-pub last_here : {V : Type 0} (es : List (VarName × V)) (x : VarName) (v : V) → lookup (same_name x) es ≡ None → lookup (same_name x) (es ++ (x, v) ∷ []) ≡ Some v
+pub last_here : {V : Type 0} (es : List (VarName × V)) (x : VarName) (v : V) → lookup (equal_var x) es ≡ None → lookup (equal_var x) (es ++ (x, v) ∷ []) ≡ Some v
 last_here [] x v e = rw (same_name_refl x) refl
-last_here {V} ((z, r) ∷ es) x v e = go (same_name x z) refl e (λ k. last_here es x v k)
+last_here {V} ((z, r) ∷ es) x v e = go (equal_var x z) refl e (λ k. last_here es x v k)
   where
-    go : (b : Bool) → same_name x z ≡ b → cond b (Some r) (lookup (same_name x) es) ≡ None → (lookup (same_name x) es ≡ None → lookup (same_name x) (es ++ (x, v) ∷ []) ≡ Some v) →
-        cond (same_name x z) (Some r) (lookup (same_name x) (es ++ (x, v) ∷ [])) ≡ Some v
+    go : (b : Bool) → equal_var x z ≡ b → cond b (Some r) (lookup (equal_var x) es) ≡ None → (lookup (equal_var x) es ≡ None → lookup (equal_var x) (es ++ (x, v) ∷ []) ≡ Some v) →
+        cond (equal_var x z) (Some r) (lookup (equal_var x) (es ++ (x, v) ∷ [])) ≡ Some v
     go true q k ih = cc
     go false q k ih = rw q (ih k)
 
-pub last_other : {V : Type 0} (es : List (VarName × V)) (x y : VarName) (v : V) → y ≢ x → lookup (same_name y) (es ++ (x, v) ∷ []) ≡ lookup (same_name y) es
-last_other [] x y v h = rw (names_differ y x h) refl
-last_other {V} ((z, r) ∷ es) x y v h = ap (λ (o : Option V). cond (same_name y z) (Some r) o) (last_other es x y v h)
+pub last_other : {V : Type 0} (es : List (VarName × V)) (x y : VarName) (v : V) → y ≢ x → lookup (equal_var y) (es ++ (x, v) ∷ []) ≡ lookup (equal_var y) es
+last_other [] x y v h = rw (differ y x h) refl
+last_other {V} ((z, r) ∷ es) x y v h = ap (λ (o : Option V). cond (equal_var y z) (Some r) o) (last_other es x y v h)
 
 -- an owner's part changes
 pub owner_here : (b : Records) (x : VarName) (o : Owner) → is_own b x ≡ true → knowledge (record b { owners = with_owner b.owners x o }) x ≡ owner_knows (Some o)

@@ -5,7 +5,7 @@ use Rattle.tree_node.specs.declared.names.ThreadName.{ThreadName}
 use Rattle.tree_node.specs.declared.node.Term.{Term}
 use Rattle.tree_node.specs.Each.{Each}
 use Rattle.tree_node.specs.Order.{IsLower}
-use Rattle.bind_protocol.specs.World.{World, Holds, IsSiteOf, IsMadeIn, EquationsStay, known_at, vars_of, new_world, makes, meets, wants, delivers}
+use Rattle.bind_protocol.specs.World.{World, Holds, IsSiteOf, IsMadeIn, EquationsStay, known_at, vars_of, new_world, after_make_at, after_meet_at, after_want_at, after_delivery}
 
 -- a site makes a variable of its own that it has not made
 pub record CanMake (w : World) (i : ℕ) (x : VarName) : Type 0 where
@@ -40,10 +40,10 @@ IsAllowed w (Want i x t thread) = CanWant w i x t
 IsAllowed w (Deliver place) = place < length w.travelling
 
 abbrev pub after_call : World → Call → World
-after_call w (Make i x) = makes w i x
-after_call w (Meet i x) = meets w i x
-after_call w (Want i x t thread) = wants w i x t thread
-after_call w (Deliver place) = delivers w place
+after_call w (Make i x) = after_make_at w i x
+after_call w (Meet i x) = after_meet_at w i x
+after_call w (Want i x t thread) = after_want_at w i x t thread
+after_call w (Deliver place) = after_delivery w place
 
 -- the world after these calls, one after another
 abbrev pub IsAfter : World → List Call → World → Type 0

@@ -40,34 +40,34 @@ IsLetter know s = fits s.msg
     fits _ = ⊥
 
 -- 1 where a site met a name that is not its own
-abbrev pub met : Bool → Option (Option Term) → ℕ
-met true o = 0
-met false None = 0
-met false (Some o) = 1
+abbrev pub met_count : Bool → Option (Option Term) → ℕ
+met_count true o = 0
+met_count false None = 0
+met_count false (Some o) = 1
 
 -- 1 where it knows that name bound
-abbrev pub told : Bool → Option (Option Term) → ℕ
-told true o = 0
-told false (Some (Some t)) = 1
-told false _ = 0
+abbrev pub known_count : Bool → Option (Option Term) → ℕ
+known_count true o = 0
+known_count false (Some (Some t)) = 1
+known_count false _ = 0
 
-abbrev pub registers : VarName → ℕ → List Sent → ℕ
-registers x i ms = count_by (is_register x i) ms
+abbrev pub register_count : VarName → ℕ → List Sent → ℕ
+register_count x i ms = count_by (is_register x i) ms
 
-abbrev pub bindings : VarName → ℕ → List Sent → ℕ
-bindings x i ms = count_by (is_binding x i) ms
+abbrev pub binding_count : VarName → ℕ → List Sent → ℕ
+binding_count x i ms = count_by (is_binding x i) ms
 
-abbrev pub times : ℕ → List ℕ → ℕ
-times i ks = count_by (λ k. i == k) ks
+abbrev pub site_count : ℕ → List ℕ → ℕ
+site_count i ks = count_by (λ k. i == k) ks
 
 -- a site that met a name owned elsewhere is in exactly one place on its way to the binding: its Register travels, or
 -- it is registered, or a Binding to it travels, or it knows the binding. What came before came once
 pub record Counts (know : Knowing) (list : VarName → List ℕ) (travelling delivered : List Sent) : Type 0 where
   pub one_place : (i : ℕ) (x : VarName) →
-      registers x i travelling + times i (list x) + bindings x i travelling + told (i == x.site) (know i x)
-      ≡ met (i == x.site) (know i x)
-  pub heard : (i : ℕ) (x : VarName) → bindings x i delivered ≡ told (i == x.site) (know i x)
-  pub asked : (i : ℕ) (x : VarName) → registers x i delivered + registers x i travelling ≡ met (i == x.site) (know i x)
+      register_count x i travelling + site_count i (list x) + binding_count x i travelling + known_count (i == x.site) (know i x)
+      ≡ met_count (i == x.site) (know i x)
+  pub heard : (i : ℕ) (x : VarName) → binding_count x i delivered ≡ known_count (i == x.site) (know i x)
+  pub asked : (i : ℕ) (x : VarName) → register_count x i delivered + register_count x i travelling ≡ met_count (i == x.site) (know i x)
 
 pub record IsLawful (w : World) : Type 0 where
   pub numbered : (i : ℕ) (b : Records) → records_at w.binders i ≡ Some b → b.site ≡ i

@@ -3,7 +3,7 @@ use Rattle.std.specs.Prelude.{◌≡◌, ◌≢◌, ◌⊎◌, ℕ, [], ◌∷�
 use Rattle.tree_node.specs.declared.names.VarName.{VarName}
 use Rattle.tree_node.specs.declared.node.Term.{Term}
 use Rattle.bind_protocol.specs.Records.{Records, knowledge, IsKnown, sites_in}
-use Rattle.bind_protocol.specs.Rows.{after_make, after_meet, meet_sends, register, after_register, after_ask, after_binding}
+use Rattle.bind_protocol.specs.Rows.{after_make, after_meet, meet_sends, register, after_register, after_ask, after_binding, after_want}
 
 -- it is the same site; what is known of x becomes this, and of other names nothing changes
 pub record Learns (b c : Records) (x : VarName) (o : Option (Option Term)) : Type 0 where
@@ -25,7 +25,7 @@ MeetCase b x =
     ((after_meet b x ≡ b) × (meet_sends b x ≡ []) × ((x.site ≡ b.site) ⊎ IsKnown b x))
     ⊎ (Learns b (after_meet b x) x (Some None) × (knowledge b x ≡ None) × (x.site ≢ b.site) × (meet_sends b x ≡ register x b.site ∷ []) × ((after_meet b x).owners ≡ b.owners))
 
--- what each row teaches
+-- what each row teaches. A bind that a thread wants of another's variable teaches nothing
 pub record RowsTeach : Type 0 where
   pub make : (b : Records) (x : VarName) → x.site ≡ b.site → Learns b (after_make b x) x (Some None)
   pub meet : (b : Records) (x : VarName) → MeetCase b x
@@ -33,6 +33,8 @@ pub record RowsTeach : Type 0 where
   pub ask : (b : Records) (x : VarName) (t : Term) → x.site ≡ b.site → knowledge b x ≡ Some None → Learns b (after_ask b x t) x (Some (Some t))
   pub late : (b : Records) (x : VarName) (t r : Term) → x.site ≡ b.site → knowledge b x ≡ Some (Some r) → Learns b (after_ask b x t) x (Some (Some r))
   pub binding : (b : Records) (x : VarName) (t : Term) → x.site ≢ b.site → Learns b (after_binding b x t) x (Some (Some t))
+  pub want : (b : Records) (x : VarName) (t : Term) → x.site ≡ b.site → knowledge b x ≡ Some None → Learns b (after_want b x t) x (Some (Some t))
+  pub request : (b : Records) (x : VarName) (t : Term) → x.site ≢ b.site → after_want b x t ≡ b
 
 -- what is known stays known
 pub record KnownStays : Type 0 where
@@ -40,3 +42,4 @@ pub record KnownStays : Type 0 where
   pub meet : (b : Records) (x y : VarName) → IsKnown b y → IsKnown (after_meet b x) y
   pub ask : (b : Records) (x : VarName) (t : Term) (y : VarName) → IsKnown b y → IsKnown (after_ask b x t) y
   pub binding : (b : Records) (x : VarName) (t : Term) (y : VarName) → IsKnown b y → IsKnown (after_binding b x t) y
+  pub want : (b : Records) (x : VarName) (t : Term) (y : VarName) → IsKnown b y → IsKnown (after_want b x t) y

@@ -6,3 +6,5 @@ pub mod Calls
 pub mod Count
 pub mod Learn
 pub mod Worked
+pub mod Told
+pub mod Equations

@@ -14,17 +14,17 @@ use Rattle.variable_owner.specs.Owners.{owner_of, sites_of, with_owner}
 use Rattle.variable_owner.specs.Owners as owners
 use Rattle.bind_protocol.specs.Records.{Records, is_own}
 
-abbrev pub sent : ℕ → Msg → Sent
-sent to message = record { to = to; msg = message }
+abbrev pub sent_message : ℕ → Msg → Sent
+sent_message to message = record { to = to; msg = message }
 
 abbrev pub register : VarName → ℕ → Sent
-register x asking = sent x.site (msg.Register x asking)
+register x asking = sent_message x.site (msg.Register x asking)
 
 abbrev pub request : VarName → Term → ThreadName → Sent
-request x t thread = sent x.site (msg.BindReq x thread t [])
+request x t thread = sent_message x.site (msg.BindReq x thread t [])
 
 abbrev pub binding : VarName → Term → ℕ → Sent
-binding x t to = sent to (msg.Binding x t [])
+binding x t to = sent_message to (msg.Binding x t [])
 
 -- A variable of the site's own is made, unbound
 abbrev pub after_make : Records → VarName → Records
@@ -50,12 +50,12 @@ meets_send b (x ∷ xs) = meet_sends b x ++ meets_send (after_meet b x) xs
 abbrev pub after_register : Records → VarName → ℕ → Records
 after_register b x k = record b { owners = owners.after_register b.owners x k }
 
-abbrev pub answers : Option Owner → VarName → ℕ → List Sent
-answers (Some (Bound t)) x k = binding x t k ∷ []
-answers _ x k = []
+abbrev pub register_answer : Option Owner → VarName → ℕ → List Sent
+register_answer (Some (Bound t)) x k = binding x t k ∷ []
+register_answer _ x k = []
 
 abbrev pub register_sends : Records → VarName → ℕ → List Sent
-register_sends b x k = answers (owner_of b.owners x) x k
+register_sends b x k = register_answer (owner_of b.owners x) x k
 
 -- BindReq(x, t), and the owner's own bind: an unbound x is bound to t, and a Binding goes to each of its sites. A
 -- bound x stays as it is, and nothing is sent

@@ -5,7 +5,7 @@ use Rattle.tree_node.specs.declared.names.VarName.{VarName}
 use Rattle.tree_node.specs.declared.names.ThreadName.{ThreadName}
 use Rattle.tree_node.specs.declared.node.Term.{Term}
 use Rattle.tree_node.specs.Each.{Each}
-use Rattle.tree_node.specs.Store.{same_name}
+use Rattle.tree_node.specs.Store.{equal_var}
 use Rattle.site_message.specs.declared.message.Sent.{Sent}
 use Rattle.site_message.specs.declared.message.Msg.{Msg}
 use Rattle.site_message.specs.declared.message.Msg.TheVariants as msg
@@ -43,20 +43,20 @@ abbrev pub IsSiteOf : World → ℕ → Type 0
 IsSiteOf w i = (1 ≤ i) × (i ≤ length w.binders)
 
 -- what a site knows of a variable
-abbrev pub knows : Option Records → VarName → Option (Option Term)
-knows None x = None
-knows (Some b) x = knowledge b x
+abbrev pub knowledge_at : Option Records → VarName → Option (Option Term)
+knowledge_at None x = None
+knowledge_at (Some b) x = knowledge b x
 
 abbrev pub known_at : World → ℕ → VarName → Option (Option Term)
-known_at w i x = knows (records_at w.binders i) x
+known_at w i x = knowledge_at (records_at w.binders i) x
 
 -- the sites that are registered at the owner
-abbrev pub listed : Option Records → VarName → List ℕ
-listed None x = []
-listed (Some b) x = sites_of (owner_of b.owners x)
+abbrev pub registered_sites : Option Records → VarName → List ℕ
+registered_sites None x = []
+registered_sites (Some b) x = sites_of (owner_of b.owners x)
 
 abbrev pub registered_at : World → VarName → List ℕ
-registered_at w x = listed (records_at w.binders x.site) x
+registered_at w x = registered_sites (records_at w.binders x.site) x
 
 abbrev pub IsMadeIn : World → VarName → Type 0
 IsMadeIn w x = IsTrue (is_some (known_at w x.site x))
@@ -66,32 +66,32 @@ abbrev pub IsEquation : World → VarName → Term → Type 0
 IsEquation w x t = known_at w x.site x ≡ Some (Some t)
 
 -- the site has these records from now on, and sends these messages
-abbrev pub puts : World → ℕ → Records → World
-puts w i b = record w { binders = slice_set w.binders (i - 1) b }
+abbrev pub with_records : World → ℕ → Records → World
+with_records w i b = record w { binders = slice_set w.binders (i - 1) b }
 
-abbrev pub sends : World → List Sent → World
-sends w ms = record w { travelling = w.travelling ++ ms }
+abbrev pub with_sent : World → List Sent → World
+with_sent w ms = record w { travelling = w.travelling ++ ms }
 
 -- site i makes x
-abbrev pub makes : World → ℕ → VarName → World
-makes w i x = puts w i (after_make (records_of w i) x)
+abbrev pub after_make_at : World → ℕ → VarName → World
+after_make_at w i x = with_records w i (after_make (records_of w i) x)
 
 -- site i meets x
-abbrev pub meets : World → ℕ → VarName → World
-meets w i x = sends (puts w i (after_meet (records_of w i) x)) (meet_sends (records_of w i) x)
+abbrev pub after_meet_at : World → ℕ → VarName → World
+after_meet_at w i x = with_sent (with_records w i (after_meet (records_of w i) x)) (meet_sends (records_of w i) x)
 
-abbrev pub meets_all : World → ℕ → List VarName → World
-meets_all w i [] = w
-meets_all w i (x ∷ xs) = meets_all (meets w i x) i xs
+abbrev pub after_meeting : World → ℕ → List VarName → World
+after_meeting w i [] = w
+after_meeting w i (x ∷ xs) = after_meeting (after_meet_at w i x) i xs
 
 -- a thread of site i wants to bind x to t
-abbrev pub wants : World → ℕ → VarName → Term → ThreadName → World
-wants w i x t thread =
-    sends (puts w i (after_want (records_of w i) x t)) (want_sends (records_of w i) x t thread)
+abbrev pub after_want_at : World → ℕ → VarName → Term → ThreadName → World
+after_want_at w i x t thread =
+    with_sent (with_records w i (after_want (records_of w i) x t)) (want_sends (records_of w i) x t thread)
 
 -- site i takes a message
 abbrev pub takes_message : World → ℕ → Msg → World
-takes_message w i m = sends (puts w i (after_message (records_of w i) m)) (message_sends (records_of w i) m)
+takes_message w i m = with_sent (with_records w i (after_message (records_of w i) m)) (message_sends (records_of w i) m)
 
 -- the variables that the site of a message meets first
 abbrev pub met_first : Msg → List VarName
@@ -100,33 +100,33 @@ met_first (msg.Binding x t bundle) = vars_of t
 met_first _ = []
 
 -- the message of the place has come
-abbrev pub comes : World → ℕ → Sent → World
-comes w place m = record w {
+abbrev pub after_arrival : World → ℕ → Sent → World
+after_arrival w place m = record w {
   travelling = remove w.travelling place;
   delivered = w.delivered ++ m ∷ [];
 }
 
 -- the message of the place is delivered
-abbrev pub delivers : World → ℕ → World
-delivers w place = delivered (slice_get w.travelling place)
+abbrev pub after_delivery : World → ℕ → World
+after_delivery w place = delivered (slice_get w.travelling place)
   where
     delivered : Option Sent → World
     delivered None = w
-    delivered (Some m) = comes (takes_message (meets_all w m.to (met_first m.msg)) m.to m.msg) place m
+    delivered (Some m) = after_arrival (takes_message (after_meeting w m.to (met_first m.msg)) m.to m.msg) place m
 
 -- a Register of x by site i, and a Binding of x to site i
 abbrev pub is_register : VarName → ℕ → Sent → Bool
 is_register x i s = asks s.msg
   where
     asks : Msg → Bool
-    asks (msg.Register y k) = same_name x y && (i == k)
+    asks (msg.Register y k) = equal_var x y && (i == k)
     asks _ = false
 
 abbrev pub is_binding : VarName → ℕ → Sent → Bool
 is_binding x i s = tells s.msg
   where
     tells : Msg → Bool
-    tells (msg.Binding y t bundle) = same_name x y && (i == s.to)
+    tells (msg.Binding y t bundle) = equal_var x y && (i == s.to)
     tells _ = false
 
 -- an equation at an owner stays

@@ -5,10 +5,12 @@ ghost use Rattle.tree_node.specs.Each.{Each};
 ghost use Rattle.variable_owner.specs.Owners.{IsMade};
 ghost use Rattle.bind_protocol.specs.Records.{IsKnowledge, Takes, knowledge};
 ghost use Rattle.bind_protocol.specs.Rows.{after_meet, meet_sends, after_want, want_sends, after_message, message_sends};
-ghost use Rattle.bind_protocol.specs.World.{Holds, Grows, IsFront, IsSiteOf, IsMadeIn, known_at, new_records, new_world, makes, meets, meets_all, wants, takes_message, met_first, comes, delivers, field_vars, vars_of};
+ghost use Rattle.bind_protocol.specs.World.{Holds, Grows, IsFront, IsSiteOf, IsMadeIn, known_at, new_records, new_world, after_make_at, after_meet_at, after_meeting, after_want_at, takes_message, met_first, after_arrival, after_delivery, field_vars, vars_of};
 ghost use Rattle.site_message.specs.declared.outcome.DeliverError.TheVariants.{NotThere};
 ghost use Rattle.bind_protocol.specs.Count.{RowsCount, RowsHear, CountsJoin, CountsGoOn, CountedOnce, MessagesComeReady};
 ghost use Rattle.bind_protocol.specs.Learn.{RowsTeach, KnownStays};
+ghost use Rattle.bind_protocol.specs.Equations.{RowsKeepEquations, EquationsJoin, EquationsGoOn};
+ghost use Rattle.bind_protocol.specs.Told.{RowsTell, TellingJoins, TellingGoesOn, WaitersAreTold};
 ghost use Rattle.bind_protocol.specs.Worked.{WorkedBind};
 ghost use Rattle.bind_protocol.specs.Calls.{CanMake, CanMeet, CanWant, CallsKeep};
 
@@ -73,6 +75,33 @@ pub fn counts_go_on()
     ensures world { CountsGoOn }
     ensures once { CountedOnce }
     ensures ready { MessagesComeReady }
+{}
+
+/// What each row does for those who wait for a name, in any world: a name that is met is asked for, a Register is kept or
+/// answered, and a Binding is heard. It does nothing: its clauses are the law.
+pub fn rows_tell()
+    ensures rows { RowsTell }
+    ensures together { TellingJoins }
+{}
+
+/// In a world of which one site goes on by such rows, and from which no message is dropped, each site that waits for a
+/// name's binding is registered, or its Register or a Binding to it travels.
+pub fn telling_goes_on()
+    ensures world { TellingGoesOn }
+    ensures waiters { WaitersAreTold }
+{}
+
+/// What each row does to equations, in any world: none is forgotten, one that is learnt is an own variable's and leads
+/// down or is told by a message, and messages tell what is known. It does nothing: its clauses are the law.
+pub fn rows_keep_equations()
+    ensures rows { RowsKeepEquations }
+    ensures together { EquationsJoin }
+{}
+
+/// In a world of which one site goes on by such rows, an equation at an owner stays, what sites know and messages tell are
+/// owners' equations, and equations and requests lead down.
+pub fn equations_go_on()
+    ensures { EquationsGoOn }
 {}
 
 // The records of new sites.
@@ -215,7 +244,7 @@ impl BindWorld {
     /// A site makes a variable of its own.
     pub fn make(&mut self, site: u32, var: VarName) -> Result<(), AllocError>
         requires { CanMake self.old site var }
-        ensures ok { OnOk result (self.new ≡ makes self.old site var) }
+        ensures ok { OnOk result (self.new ≡ after_make_at self.old site var) }
         ensures err { OnErr result (self.new ≡ self.old) }
         ensures holds { Holds self.new }
         ensures grows { Grows self.old self.new }
@@ -226,7 +255,7 @@ impl BindWorld {
     /// A site meets a name.
     pub fn meet(&mut self, site: u32, var: VarName) -> Result<(), AllocError>
         requires { CanMeet self.old site var }
-        ensures ok { OnOk result (self.new ≡ meets self.old site var) }
+        ensures ok { OnOk result (self.new ≡ after_meet_at self.old site var) }
         ensures err { OnErr result (self.new ≡ self.old) }
         ensures holds { Holds self.new }
         ensures grows { Grows self.old self.new }
@@ -249,7 +278,7 @@ impl BindWorld {
         thread: ThreadName,
     ) -> Result<(), AllocError>
         requires { CanWant self.old site var term }
-        ensures ok { OnOk result (self.new ≡ wants self.old site var term thread) }
+        ensures ok { OnOk result (self.new ≡ after_want_at self.old site var term thread) }
         ensures err { OnErr result (self.new ≡ self.old) }
         ensures holds { Holds self.new }
         ensures grows { Grows self.old self.new }
@@ -267,7 +296,7 @@ impl BindWorld {
     fn meet_vars(&mut self, site: u32, vars: &[VarName]) -> Result<(), AllocError>
         requires site { IsSiteOf self.old site }
         requires made { Each (IsMadeIn self.old) vars.now }
-        ensures ok { OnOk result (self.new ≡ meets_all self.old site vars.now) }
+        ensures ok { OnOk result (self.new ≡ after_meeting self.old site vars.now) }
         ensures holds { OnErr result (Holds self.new) }
         ensures grows { Grows self.old self.new }
         ensures front { IsFront self.old.travelling self.new.travelling }
@@ -283,7 +312,7 @@ impl BindWorld {
     fn meet_fields(&mut self, site: u32, fields: &[(Feature, VarName)]) -> Result<(), AllocError>
         requires site { IsSiteOf self.old site }
         requires made { Each (IsMadeIn self.old) (field_vars fields.now) }
-        ensures ok { OnOk result (self.new ≡ meets_all self.old site (field_vars fields.now)) }
+        ensures ok { OnOk result (self.new ≡ after_meeting self.old site (field_vars fields.now)) }
         ensures holds { OnErr result (Holds self.new) }
         ensures grows { Grows self.old self.new }
         ensures front { IsFront self.old.travelling self.new.travelling }
@@ -300,7 +329,7 @@ impl BindWorld {
     fn meet_term(&mut self, site: u32, term: &Term) -> Result<(), AllocError>
         requires site { IsSiteOf self.old site }
         requires made { Each (IsMadeIn self.old) (vars_of term.now) }
-        ensures ok { OnOk result (self.new ≡ meets_all self.old site (vars_of term.now)) }
+        ensures ok { OnOk result (self.new ≡ after_meeting self.old site (vars_of term.now)) }
         ensures holds { OnErr result (Holds self.new) }
         ensures grows { Grows self.old self.new }
         ensures front { IsFront self.old.travelling self.new.travelling }
@@ -318,7 +347,7 @@ impl BindWorld {
     fn meet_first(&mut self, site: u32, msg: &Msg) -> Result<(), AllocError>
         requires site { IsSiteOf self.old site }
         requires made { Each (IsMadeIn self.old) (met_first msg.now) }
-        ensures ok { OnOk result (self.new ≡ meets_all self.old site (met_first msg.now)) }
+        ensures ok { OnOk result (self.new ≡ after_meeting self.old site (met_first msg.now)) }
         ensures holds { OnErr result (Holds self.new) }
         ensures grows { Grows self.old self.new }
         ensures front { IsFront self.old.travelling self.new.travelling }
@@ -333,7 +362,7 @@ impl BindWorld {
     // The message of a place comes to its site, which has met its names.
     fn take(&mut self, place: usize, sent: Sent) -> Result<(), AllocError>
         requires { slice_get self.old.travelling place ≡ Some sent }
-        ensures ok { OnOk result (self.new ≡ comes (takes_message self.old sent.to sent.msg) place sent) }
+        ensures ok { OnOk result (self.new ≡ after_arrival (takes_message self.old sent.to sent.msg) place sent) }
         ensures err { OnErr result (self.new ≡ self.old) }
         ensures holds { Holds self.new }
         ensures grows { Grows self.old self.new }
@@ -353,7 +382,7 @@ impl BindWorld {
     pub fn deliver(&mut self, place: usize) -> Result<(), DeliverError>
         ensures not_there { IsErrOf result NotThere ↔ (length self.old.travelling ≤ place) }
         ensures unchanged { IsErrOf result NotThere → self.new ≡ self.old }
-        ensures ok { OnOk result (self.new ≡ delivers self.old place) }
+        ensures ok { OnOk result (self.new ≡ after_delivery self.old place) }
         ensures still { OnErr result (IsFront self.old.travelling self.new.travelling) }
         ensures undelivered { OnErr result (self.new.delivered ≡ self.old.delivered) }
         ensures holds { Holds self.new }

@@ -4,10 +4,11 @@ use Rattle.std.specs.Prelude.{Bool, true, false, ◌==◌}
 use Rattle.std.specs.Bool.{Decides}
 use Rattle.tree_node.specs.declared.names.VarName.{VarName}
 use Rattle.token_chain.specs.declared.token.Token.TheVariants.{Away, Asked, Here}
-use Rattle.token_chain.specs.Holding.{Holding, made}
+use Rattle.token_chain.specs.Holding.{Holding, here_with}
 use Rattle.token_chain.specs.Mail.{Mail, Get, Forward, Put, same_mail}
 use Rattle.token_chain.specs.Chain.{IsOn, IsFirst, IsNext, HasToken, IsTold, IsDue, IsChain}
 use Rattle.token_chain.proofs.ListLemmas.{on_cases}
+use Rattle.std.proofs.lemmas.Bool.Decides.{Decides-eqb}
 
 -- the only one of a message is gone, and this one is under way once
 pub record Moves (a b : Mail) (before after : Mail → ℕ) : Type 0 where
@@ -42,11 +43,8 @@ decided {P} false d = inr (λ p. let e : false ≡ true = d.1 p in absurd (cc))
 pub mail_or : (a b : Mail) → (a ≡ b) ⊎ (a ≢ b)
 mail_or a b = decided (same_mail a b) (same_mail_decides a b)
 
-pub number_decides : (a b : ℕ) → Decides (a == b) (a ≡ b)
-number_decides a b = search rules
-
 pub number_or : (a b : ℕ) → (a ≡ b) ⊎ (a ≢ b)
-number_or a b = decided (a == b) (number_decides a b)
+number_or a b = decided (a == b) (Decides-eqb a b)
 
 -- a fact about every site: at the one that changed, and at the others
 pub every : (P : ℕ → Type 0) (s : ℕ) → P s → ((r : ℕ) → r ≢ s → P r) → (r : ℕ) → P r
@@ -85,7 +83,7 @@ due_kept at to hs v (Put h w) e d = (d.0, token_of _ _ e ∙ d.1, d.2)
 
 -- ---- what a chain says
 
-made_here : (at : ℕ → Holding) (h : ℕ) (v : VarName) → at h ≡ made v → (at h).token ≡ Here v
+made_here : (at : ℕ → Holding) (h : ℕ) (v : VarName) → at h ≡ here_with v → (at h).token ≡ Here v
 made_here at h v e = token_of _ _ e
 
 pub first_used : (at : ℕ → Holding) (n : Mail → ℕ) (v : VarName) (h : ℕ) → HasToken at n v h → (at h).token ≢ Away

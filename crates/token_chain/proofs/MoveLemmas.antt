@@ -5,27 +5,28 @@ use Rattle.std.specs.Bool.{Decides}
 use Rattle.tree_node.specs.declared.names.VarName.{VarName}
 use Rattle.token_chain.specs.declared.token.Token.{Token}
 use Rattle.token_chain.specs.declared.token.Token.TheVariants.{Away, Asked, Here}
-use Rattle.token_chain.specs.Holding.{Holding, away, made, with_waiter, IsUsed}
-use Rattle.token_chain.specs.Mail.{Mail, Get, Forward, Put, same_mail, times}
+use Rattle.token_chain.specs.Holding.{Holding, away, here_with, with_waiter, IsUsed}
+use Rattle.token_chain.specs.Mail.{Mail, Get, Forward, Put, same_mail, mail_count}
 use Rattle.token_chain.specs.Chain.{IsOn, IsFirst, IsNext, HasToken, IsTold, IsDue, IsChain, ChainOf}
 use Rattle.token_chain.specs.Rows.{Reply, silent, leave_with, leave_reply, forward_reply, put_reply, get_reply, first_request, exchange_reply, last_after, content_then}
 use Rattle.token_chain.specs.Moves.{Replies, MakingStarts, AskingKeeps, WaitingKeeps, OwnAskingKeeps, GetKeeps, ForwardKeeps, PutKeeps, ExchangeKeeps, UnitKeeps, NothingKeeps, CanCome, MessagesCanCome, TokensHaveContents, SuccessorsAsked, AwayKeepsNothing}
 use Rattle.token_chain.proofs.ListLemmas.{first_on, last_on, before_on, last_no_next, next_differs, next_not_first}
-use Rattle.token_chain.proofs.ChangeLemmas.{Moves, Goes, Comes, IsPut, mail_or, number_or, number_decides, same_mail_decides, token_of, next_of, on_used, not_due, due_at}
+use Rattle.token_chain.proofs.ChangeLemmas.{Moves, Goes, Comes, IsPut, mail_or, number_or, same_mail_decides, token_of, next_of, on_used, not_due, due_at}
 use Rattle.token_chain.proofs.EventLemmas as event
 use Rattle.token_chain.proofs.TokenLemmas as token
 use Rattle.token_chain.proofs.WorldLemmas.{leaves_any, leaving_asked, leaving_last, party_cases, stored_next}
+use Rattle.std.proofs.lemmas.Bool.Decides.{Decides-eqb}
 
 -- ---- numbers of messages
 
-once_same : (a k : Mail) → k ≡ a → times (a ∷ []) k ≡ 1
+once_same : (a k : Mail) → k ≡ a → mail_count (a ∷ []) k ≡ 1
 once_same a k e = go (same_mail a k) ((same_mail_decides a k).1 (sym e))
   where
     go : (b : Bool) → b ≡ true → cond b 1 0 + 0 ≡ 1
     go true q = refl
     go false q = cc
 
-once_other : (a k : Mail) → k ≢ a → times (a ∷ []) k ≡ 0
+once_other : (a k : Mail) → k ≢ a → mail_count (a ∷ []) k ≡ 0
 once_other a k d = go (same_mail a k) (same_mail_decides a k)
   where
     go : (b : Bool) → Decides b (a ≡ k) → cond b 1 0 + 0 ≡ 0
@@ -33,7 +34,7 @@ once_other a k d = go (same_mail a k) (same_mail_decides a k)
     go false q = refl
 
 abbrev Counts : List Mail → List Mail → (Mail → ℕ) → (Mail → ℕ) → Type 0
-Counts gone sent n m = (k : Mail) → m k + times gone k ≡ n k + times sent k
+Counts gone sent n m = (k : Mail) → m k + mail_count gone k ≡ n k + mail_count sent k
 
 comes : (b : Mail) (n m : Mail → ℕ) → n b ≡ 0 → Counts [] (b ∷ []) n m → Comes b n m
 comes b n m none q = record {
@@ -180,7 +181,7 @@ waiting_keeps last at to n m v s (hs, c) was p = nothing_keeps last to to n m v
 
 -- one more of a message
 abbrev more : Mail → (Mail → ℕ) → Mail → ℕ
-more a n k = n k + times (a ∷ []) k
+more a n k = n k + mail_count (a ∷ []) k
 
 more_counts : (a : Mail) (n : Mail → ℕ) → Counts [] (a ∷ []) n (more a n)
 more_counts a n k = omega arith
@@ -221,7 +222,7 @@ forward_comes last at to n m hs v a b c there p = go (party_cases last at n hs v
     one : n (Forward a b) ≡ 1
     one = one_of last at n hs v c (Forward a b) there
 
-    go : (IsFirst hs a × (at a ≡ made v)) ⊎ ((at a).token ≡ Asked) → ChainOf last to m v
+    go : (IsFirst hs a × (at a ≡ here_with v)) ⊎ ((at a).token ≡ Asked) → ChainOf last to m v
     go (inl e) =
         let q : Replies a (record { held = away; sent = Put b v ∷ [] }) (Forward a b ∷ []) at to n m
         = as_reply a _ _ _ at to n m (ap (λ (h : Holding). forward_reply h b) e.1) p in
@@ -239,7 +240,7 @@ pub forward_keeps : ForwardKeeps
 forward_keeps last at to n m v a b (hs, c) there p = forward_comes last at to n m hs v a b c there p
 
 pub get_keeps : GetKeeps
-get_keeps last at to n m v o k (hs, c) there p = go (last == o) (number_decides last o) p
+get_keeps last at to n m v o k (hs, c) there p = go (last == o) (Decides-eqb last o) p
   where
     due : IsDue at hs v (Get k)
     due = due_at last at n hs v c (Get k) there
@@ -252,16 +253,16 @@ get_keeps last at to n m v o k (hs, c) there p = go (last == o) (number_decides 
 
     -- as if the Forward had been sent
     middle : Mail → ℕ
-    middle x = n x + times (Forward last k ∷ []) x - times (Get k ∷ []) x
+    middle x = n x + mail_count (Forward last k ∷ []) x - mail_count (Get k ∷ []) x
 
-    enough : (x : Mail) → times (Get k ∷ []) x ≤ n x
+    enough : (x : Mail) → mail_count (Get k ∷ []) x ≤ n x
     enough x = at_most x (mail_or x (Get k))
       where
-        at_most : (x : Mail) → (x ≡ Get k) ⊎ (x ≢ Get k) → times (Get k ∷ []) x ≤ n x
+        at_most : (x : Mail) → (x ≡ Get k) ⊎ (x ≢ Get k) → mail_count (Get k ∷ []) x ≤ n x
         at_most x (inl e) = let a = once_same (Get k) x e in let b : n x ≡ 1 = ap n e ∙ one in omega arith
         at_most x (inr d) = let a = once_other (Get k) x d in omega arith
 
-    counted : (x : Mail) → middle x + times (Get k ∷ []) x ≡ n x + times (Forward last k ∷ []) x
+    counted : (x : Mail) → middle x + mail_count (Get k ∷ []) x ≡ n x + mail_count (Forward last k ∷ []) x
     counted x = let a = enough x in omega arith
 
     joined : IsChain k at middle (hs ++ k ∷ []) v
@@ -273,7 +274,7 @@ get_keeps last at to n m v o k (hs, c) there p = go (last == o) (number_decides 
     go : (b : Bool) → Decides b (last ≡ o) → Replies o (cond b (forward_reply (at o) k) (record { held = at o; sent = Forward last k ∷ [] })) (Get k ∷ []) at to n m → ChainOf k to m v
     go true d q =
         let same : last ≡ o = d.0 refl in
-        let mail : (x : Mail) → m x + times (Forward last k ∷ []) x ≡ middle x + times (forward_reply (at o) k).sent x
+        let mail : (x : Mail) → m x + mail_count (Forward last k ∷ []) x ≡ middle x + mail_count (forward_reply (at o) k).sent x
         = λ x. let a = q.mail x in let b = counted x in omega arith in
         let to_last : Replies last (forward_reply (at last) k) (Forward last k ∷ []) at to middle m
         = subst (λ (x : ℕ). Replies x (forward_reply (at x) k) (Forward last k ∷ []) at to middle m) (sym same) (record { here = q.here; others = q.others; mail = mail }) in
@@ -328,18 +329,18 @@ put_keeps last at to n m v u w s (hs, c) there p =
 
 -- ---- an exchange where the token is
 
-first_made : (last : ℕ) (at : ℕ → Holding) (n : Mail → ℕ) (hs : List ℕ) (v : VarName) → IsChain last at n hs v → (s : ℕ) (u : VarName) → (at s).token ≡ Here u → IsFirst hs s × (at s ≡ made v)
+first_made : (last : ℕ) (at : ℕ → Holding) (n : Mail → ℕ) (hs : List ℕ) (v : VarName) → IsChain last at n hs v → (s : ℕ) (u : VarName) → (at s).token ≡ Here u → IsFirst hs s × (at s ≡ here_with v)
 first_made last at n hs v c s u e = go (c.here s u e) (c.first s (c.here s u e))
   where
-    go : IsFirst hs s → HasToken at n v s → IsFirst hs s × (at s ≡ made v)
+    go : IsFirst hs s → HasToken at n v s → IsFirst hs s × (at s ≡ here_with v)
     go f (inl g) = (f, g)
     go f (inr g) = let h : (at s).token ≡ Asked = g.0 in absurd (cc)
 
 pub exchange_keeps : ExchangeKeeps
 exchange_keeps last at to n m v u w s (hs, c) e p =
     let f = first_made last at n hs v c s u e in
-    let is : record (at s) { token = Here w } ≡ made w = ap (λ (h : Holding). record h { token = Here w }) f.1 in
-    let q : Replies s (silent (made w)) [] at to n m = as_reply s _ _ _ at to n m (ap silent is) p in
+    let is : record (at s) { token = Here w } ≡ here_with w = ap (λ (h : Holding). record h { token = Here w }) f.1 in
+    let q : Replies s (silent (here_with w)) [] at to n m = as_reply s _ _ _ at to n m (ap silent is) p in
     let same = same_counts n m q.mail in (
       hs,
       token.settles last at to n m hs v w s c f.0 (next_of _ _ f.1) (put_of _ _ _ _ _ _ _ q)
@@ -360,7 +361,7 @@ unit_keeps last at to n m v w manager s h p = go (at s).token refl
     first : (at s).token ≡ Away → (b : Bool) → Decides b (s ≡ manager) →
         Replies s (cond b (get_reply manager last s (with_waiter (at s))) (record { held = with_waiter (at s); sent = Get s ∷ [] })) [] at to n m → ChainOf (cond b s last) to m v
     first e false d q = asking_keeps last at to n m v s h e q
-    first e true d q = (own_asking_keeps last at to n m v s h e).1 (own (last == manager) (number_decides last manager) q)
+    first e true d q = (own_asking_keeps last at to n m v s h e).1 (own (last == manager) (Decides-eqb last manager) q)
       where
         apart : last ≢ manager
         apart f = (own_asking_keeps last at to n m v s h e).0 (f ∙ sym (d.0 refl))
@@ -373,7 +374,7 @@ unit_keeps last at to n m v w manager s h p = go (at s).token refl
     go : (t : Token) → (at s).token ≡ t → ChainOf (last_after manager last s (at s).token) to m (content_then v w (at s).token)
     go (Here u) e = rw e (exchange_keeps last at to n m v u w s h e (reply (Here u) e))
     go Asked e = rw e (waiting_keeps last at to n m v s h e (subst (λ (x : Holding). Replies s (silent x) [] at to n m) (ap (λ (x : Token). with_waiter (record (at s) { token = x })) (sym e)) (reply Asked e)))
-    go Away e = rw e (first e (s == manager) (number_decides s manager) (subst (λ (x : Holding). Replies s (first_request manager last s x) [] at to n m) (waits e) (reply Away e)))
+    go Away e = rw e (first e (s == manager) (Decides-eqb s manager) (subst (λ (x : Holding). Replies s (first_request manager last s x) [] at to n m) (waits e) (reply Away e)))
 
 -- ---- what a chain says
 
@@ -397,7 +398,7 @@ pub tokens_have_contents : TokensHaveContents
 tokens_have_contents last at n v u s (hs, c) e =
     let f = first_made last at n hs v c s u e in
     let same : u ≡ v = let g : (at s).token ≡ Here v = token_of _ _ f.1 in cc in
-    (same, subst (λ (x : VarName). at s ≡ made x) (sym same) f.1)
+    (same, subst (λ (x : VarName). at s ≡ here_with x) (sym same) f.1)
 
 pub away_keeps_nothing : AwayKeepsNothing
 away_keeps_nothing last at n v s (hs, c) e = c.idle s e

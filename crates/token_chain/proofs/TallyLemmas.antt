@@ -5,11 +5,12 @@ use Rattle.std.specs.Bool.{Decides}
 use Rattle.tree_node.specs.declared.names.VarName.{VarName}
 use Rattle.token_chain.specs.declared.token.Token.{Token}
 use Rattle.token_chain.specs.declared.token.Token.TheVariants.{Away, Asked, Here}
-use Rattle.token_chain.specs.Holding.{Holding, wanted, with_waiter, leaves, leaving}
-use Rattle.token_chain.specs.Mail.{Mail, Get, Forward, Put, same_mail, times}
+use Rattle.token_chain.specs.Holding.{Holding, after_want, with_waiter, departure, departure_of}
+use Rattle.token_chain.specs.Mail.{Mail, Get, Forward, Put, same_mail, mail_count}
 use Rattle.token_chain.specs.Rows.{Reply, silent, leave_with, leave_reply, forward_reply, put_reply, get_reply}
 use Rattle.token_chain.specs.Tally.{total, outstanding, held_here, weights, Tally, TalliesBound, KindsBound, Pays, HasWaiter, RowsPay, RepliesPay, MakingTallies}
-use Rattle.token_chain.proofs.ChangeLemmas.{number_or, number_decides}
+use Rattle.token_chain.proofs.ChangeLemmas.{number_or}
+use Rattle.std.proofs.lemmas.Bool.Decides.{Decides-eqb}
 
 -- ---- sums
 
@@ -71,7 +72,7 @@ kinds_bound n at travels gets forwards puts exchanges t =
 -- a number is at most one of 1 to n
 never : (n s : ℕ) → suc n ≤ s → total n (λ k. cond (s == k) 1 0) ≡ 0
 never zero s h = refl
-never (suc n) s h = go (s == suc n) (number_decides s (suc n)) (never n s (omega (arith, h)))
+never (suc n) s h = go (s == suc n) (Decides-eqb s (suc n)) (never n s (omega (arith, h)))
   where
     go : (b : Bool) → Decides b (s ≡ suc n) → total n (λ k. cond (s == k) 1 0) ≡ 0 → total n (λ k. cond (s == k) 1 0) + cond b 1 0 ≡ 0
     go true d ih = let e = d.0 refl in absurd (omega (arith, h))
@@ -79,7 +80,7 @@ never (suc n) s h = go (s == suc n) (number_decides s (suc n)) (never n s (omega
 
 once : (n s : ℕ) → total n (λ k. cond (s == k) 1 0) ≤ 1
 once zero s = omega arith
-once (suc n) s = go (s == suc n) (number_decides s (suc n)) (once n s)
+once (suc n) s = go (s == suc n) (Decides-eqb s (suc n)) (once n s)
   where
     go : (b : Bool) → Decides b (s ≡ suc n) → total n (λ k. cond (s == k) 1 0) ≤ 1 → total n (λ k. cond (s == k) 1 0) + cond b 1 0 ≤ 1
     go true d ih = let e = d.0 refl in let none = never n s (omega arith) in omega arith
@@ -87,7 +88,7 @@ once (suc n) s = go (s == suc n) (number_decides s (suc n)) (once n s)
 
 once_in : (n s : ℕ) → 1 ≤ s → s ≤ n → total n (λ k. cond (s == k) 1 0) ≡ 1
 once_in zero s low high = absurd (omega (arith, low, high))
-once_in (suc n) s low high = go (s == suc n) (number_decides s (suc n)) (λ h. once_in n s low h)
+once_in (suc n) s low high = go (s == suc n) (Decides-eqb s (suc n)) (λ h. once_in n s low h)
   where
     go : (b : Bool) → Decides b (s ≡ suc n) → (s ≤ n → total n (λ k. cond (s == k) 1 0) ≡ 1) → total n (λ k. cond (s == k) 1 0) + cond b 1 0 ≡ 1
     go true d ih = let e = d.0 refl in let none = never n s (omega arith) in omega arith
@@ -101,10 +102,10 @@ zeros zero = refl
 zeros (suc n) = let rest = zeros n in omega arith
 
 -- how many Gets of n sites are among these, at most
-gets_most : (n : ℕ) (ms : List Mail) → total n (λ k. times ms (Get k)) ≤ weights 1 0 0 ms
+gets_most : (n : ℕ) (ms : List Mail) → total n (λ k. mail_count ms (Get k)) ≤ weights 1 0 0 ms
 gets_most n [] = let z = zeros n in omega arith
 gets_most n (m ∷ ms) =
-    let sum = total_sum n (λ k. times ms (Get k)) (λ k. times (m ∷ ms) (Get k)) (λ k. 0) (λ k. cond (same_mail m (Get k)) 1 0) (λ k. omega arith) in
+    let sum = total_sum n (λ k. mail_count ms (Get k)) (λ k. mail_count (m ∷ ms) (Get k)) (λ k. 0) (λ k. cond (same_mail m (Get k)) 1 0) (λ k. omega arith) in
     let rest = gets_most n ms in
     let one = heads m in
     let none = zeros n in omega (arith, rest, one)
@@ -115,16 +116,16 @@ gets_most n (m ∷ ms) =
     heads (Put a v) = let z = zeros n in omega arith
 
 -- a Get of one of n sites is one of theirs
-pub one_came : (n k : ℕ) → 1 ≤ k → k ≤ n → total n (λ s. times (Get k ∷ []) (Get s)) ≡ 1
+pub one_came : (n k : ℕ) → 1 ≤ k → k ≤ n → total n (λ s. mail_count (Get k ∷ []) (Get s)) ≡ 1
 one_came n k low high =
-    let sum = total_sum n (λ s. cond (k == s) 1 0) (λ s. times (Get k ∷ []) (Get s)) (λ s. 0) (λ s. 0) (λ s. omega arith) in
+    let sum = total_sum n (λ s. cond (k == s) 1 0) (λ s. mail_count (Get k ∷ []) (Get s)) (λ s. 0) (λ s. 0) (λ s. omega arith) in
     let one = once_in n k low high in omega arith
 
 pub replies_pay : RepliesPay
 replies_pay n at to before after s r gone gets forwards puts exchanges more low high q pays t =
     let asks = total_change n s (λ k. outstanding (at k).token) (λ k. outstanding (to k).token) (outstanding (at s).token) (outstanding r.held.token) low high (swap (outstanding (to s).token) (outstanding r.held.token) (outstanding (at s).token) (ap (λ (h : Holding). outstanding h.token) q.here)) (λ k d. ap (λ (h : Holding). outstanding h.token) (q.others k d)) in
     let heres = total_change n s (λ k. held_here (at k).token) (λ k. held_here (to k).token) (held_here (at s).token) (held_here r.held.token) low high (swap (held_here (to s).token) (held_here r.held.token) (held_here (at s).token) (ap (λ (h : Holding). held_here h.token) q.here)) (λ k d. ap (λ (h : Holding). held_here h.token) (q.others k d)) in
-    let fly = total_sum n (λ k. before (Get k)) (λ k. after (Get k)) (λ k. times gone (Get k)) (λ k. times r.sent (Get k)) (λ k. q.mail (Get k)) in
+    let fly = total_sum n (λ k. before (Get k)) (λ k. after (Get k)) (λ k. mail_count gone (Get k)) (λ k. mail_count r.sent (Get k)) (λ k. q.mail (Get k)) in
     let most = gets_most n r.sent in
     let g = t.few_gets in
     let f = t.few_forwards in
@@ -150,11 +151,11 @@ replies_pay n at to before after s r gone gets forwards puts exchanges more low 
 
 -- ---- the replies
 
-none_leaves : (h : Holding) (o : Option (ℕ × VarName)) → leaving h ≡ o → (weights 0 0 1 (leave_with h o).sent + held_here (leave_with h o).held.token ≡ held_here h.token) × (outstanding (leave_with h o).held.token ≡ outstanding h.token)
+none_leaves : (h : Holding) (o : Option (ℕ × VarName)) → departure_of h ≡ o → (weights 0 0 1 (leave_with h o).sent + held_here (leave_with h o).held.token ≡ held_here h.token) × (outstanding (leave_with h o).held.token ≡ outstanding h.token)
 none_leaves h None e = (omega arith, refl)
 none_leaves h (Some (k, v)) e = let t = is_here h.token h.next h.waiting e in let a = ap held_here t in let b = ap outstanding t in (omega arith, omega arith)
   where
-    is_here : (t : Token) (o : Option ℕ) (m : ℕ) → leaves t o m ≡ Some (k, v) → t ≡ Here v
+    is_here : (t : Token) (o : Option ℕ) (m : ℕ) → departure t o m ≡ Some (k, v) → t ≡ Here v
     is_here Away o m f = cc
     is_here Asked o m f = cc
     is_here (Here w) None m f = cc
@@ -179,10 +180,10 @@ leave_wanted h (Some q) w e = absurd (cc)
 -- the token leaves, where it may
 leave_pays : (h : Holding) (came : ℕ) → (h.token ≡ Asked → 1 ≤ h.waiting) → Pays h (leave_reply h) came 0
 leave_pays h came w =
-    let l = none_leaves h (leaving h) refl in
-    let k = leave_kinds h (leaving h) in
+    let l = none_leaves h (departure_of h) refl in
+    let k = leave_kinds h (departure_of h) in
     record {
-      wanted = leave_wanted h (leaving h) w;
+      wanted = leave_wanted h (departure_of h) w;
       gets = let a = k.0 in let b = l.1 in omega arith;
       forwards = let a = k.0 in let b = k.1 in let c = l.1 in omega arith;
       puts = let a = l.0 in omega arith;
@@ -204,35 +205,35 @@ get_pays manager last k h w = go (last == manager)
 pub asking_pays : (h : Holding) (s : ℕ) → h.token ≡ Away → Pays h (record { held = with_waiter h; sent = Get s ∷ [] }) 0 0
 asking_pays h s e = record {
   wanted = λ q. omega arith;
-  gets = let a = ap outstanding e in let b = ap (λ (t : Token). outstanding (wanted t)) e in omega arith;
-  forwards = let a = ap outstanding e in let b = ap (λ (t : Token). outstanding (wanted t)) e in omega arith;
-  puts = let a = ap held_here e in let b = ap (λ (t : Token). held_here (wanted t)) e in omega arith;
+  gets = let a = ap outstanding e in let b = ap (λ (t : Token). outstanding (after_want t)) e in omega arith;
+  forwards = let a = ap outstanding e in let b = ap (λ (t : Token). outstanding (after_want t)) e in omega arith;
+  puts = let a = ap held_here e in let b = ap (λ (t : Token). held_here (after_want t)) e in omega arith;
 }
 
 pub own_asking_pays : (h : Holding) (last o : ℕ) → h.token ≡ Away → Pays h (record { held = with_waiter h; sent = Forward last o ∷ [] }) 0 0
 own_asking_pays h last o e = record {
   wanted = λ q. omega arith;
-  gets = let a = ap outstanding e in let b = ap (λ (t : Token). outstanding (wanted t)) e in omega arith;
-  forwards = let a = ap outstanding e in let b = ap (λ (t : Token). outstanding (wanted t)) e in omega arith;
-  puts = let a = ap held_here e in let b = ap (λ (t : Token). held_here (wanted t)) e in omega arith;
+  gets = let a = ap outstanding e in let b = ap (λ (t : Token). outstanding (after_want t)) e in omega arith;
+  forwards = let a = ap outstanding e in let b = ap (λ (t : Token). outstanding (after_want t)) e in omega arith;
+  puts = let a = ap held_here e in let b = ap (λ (t : Token). held_here (after_want t)) e in omega arith;
 }
 
 pub waiting_pays : (h : Holding) → h.token ≡ Asked → Pays h (silent (with_waiter h)) 0 0
 waiting_pays h e = record {
   wanted = λ q. omega arith;
-  gets = let a = ap outstanding e in let b = ap (λ (t : Token). outstanding (wanted t)) e in omega arith;
-  forwards = let a = ap outstanding e in let b = ap (λ (t : Token). outstanding (wanted t)) e in omega arith;
-  puts = let a = ap held_here e in let b = ap (λ (t : Token). held_here (wanted t)) e in omega arith;
+  gets = let a = ap outstanding e in let b = ap (λ (t : Token). outstanding (after_want t)) e in omega arith;
+  forwards = let a = ap outstanding e in let b = ap (λ (t : Token). outstanding (after_want t)) e in omega arith;
+  puts = let a = ap held_here e in let b = ap (λ (t : Token). held_here (after_want t)) e in omega arith;
 }
 
 -- a request ends with an exchange or more
 pub put_pays : (h : Holding) (v : VarName) (served : ℕ) → h.token ≡ Asked → 1 ≤ served → Pays h (put_reply h v) 0 served
 put_pays h v served e some =
-    let l = none_leaves (record h { token = Here v; waiting = 0 }) (leaving (record h { token = Here v; waiting = 0 })) refl in
-    let k = leave_kinds (record h { token = Here v; waiting = 0 }) (leaving (record h { token = Here v; waiting = 0 })) in
+    let l = none_leaves (record h { token = Here v; waiting = 0 }) (departure_of (record h { token = Here v; waiting = 0 })) refl in
+    let k = leave_kinds (record h { token = Here v; waiting = 0 }) (departure_of (record h { token = Here v; waiting = 0 })) in
     let a = ap outstanding e in
     record {
-      wanted = leave_wanted (record h { token = Here v; waiting = 0 }) (leaving (record h { token = Here v; waiting = 0 })) (λ q. absurd (cc));
+      wanted = leave_wanted (record h { token = Here v; waiting = 0 }) (departure_of (record h { token = Here v; waiting = 0 })) (λ q. absurd (cc));
       gets = let x = k.0 in omega (arith, some);
       forwards = let x = k.0 in let y = k.1 in omega (arith, some);
       puts = let x = l.0 in omega (arith, some);

@@ -3,8 +3,8 @@
 use Rattle.std.specs.Prelude.{◌≡◌, ◌≢◌, ℕ, ◌+◌, List, [], ◌∷◌, Some}
 use Rattle.tree_node.specs.declared.names.VarName.{VarName}
 use Rattle.token_chain.specs.declared.token.Token.TheVariants.{Away, Asked, Here}
-use Rattle.token_chain.specs.Holding.{Holding, away, made, with_waiter, CanFollow}
-use Rattle.token_chain.specs.Mail.{Mail, Get, Forward, Put, times}
+use Rattle.token_chain.specs.Holding.{Holding, away, here_with, with_waiter, CanFollow}
+use Rattle.token_chain.specs.Mail.{Mail, Get, Forward, Put, mail_count}
 use Rattle.token_chain.specs.Rows.{Reply, silent, forward_reply, put_reply, get_reply, exchange_reply, last_after, content_then}
 use Rattle.token_chain.specs.Chain.{ChainOf}
 
@@ -12,7 +12,7 @@ use Rattle.token_chain.specs.Chain.{ChainOf}
 pub record Replies (s : ℕ) (r : Reply) (gone : List Mail) (at to : ℕ → Holding) (before after : Mail → ℕ) : Type 0 where
   pub here : to s ≡ r.held
   pub others : (k : ℕ) → k ≢ s → to k ≡ at k
-  pub mail : (m : Mail) → after m + times gone m ≡ before m + times r.sent m
+  pub mail : (m : Mail) → after m + mail_count gone m ≡ before m + mail_count r.sent m
 
 -- ---- laws
 
@@ -20,7 +20,7 @@ pub record Replies (s : ℕ) (r : Reply) (gone : List Mail) (at to : ℕ → Hol
 abbrev pub MakingStarts : Type 0
 MakingStarts =
     (at to : ℕ → Holding) (n m : Mail → ℕ) (o : ℕ) (v : VarName) → ((s : ℕ) → at s ≡ away) → ((k : Mail) → n k ≡ 0) →
-    Replies o (silent (made v)) [] at to n m → ChainOf o to m v
+    Replies o (silent (here_with v)) [] at to n m → ChainOf o to m v
 
 -- a first thread of a site wants the token, and a Get goes to the manager
 abbrev pub AskingKeeps : Type 0
@@ -91,7 +91,7 @@ MessagesCanCome = (last : ℕ) (at : ℕ → Holding) (n : Mail → ℕ) (v : Va
 abbrev pub TokensHaveContents : Type 0
 TokensHaveContents =
     (last : ℕ) (at : ℕ → Holding) (n : Mail → ℕ) (v u : VarName) (s : ℕ) → ChainOf last at n v → (at s).token ≡ Here u →
-    (u ≡ v) × (at s ≡ made u)
+    (u ≡ v) × (at s ≡ here_with u)
 
 -- a stored successor is another site, which asked
 abbrev pub SuccessorsAsked : Type 0
@@ -103,3 +103,22 @@ SuccessorsAsked =
 abbrev pub AwayKeepsNothing : Type 0
 AwayKeepsNothing =
     (last : ℕ) (at : ℕ → Holding) (n : Mail → ℕ) (v : VarName) (s : ℕ) → ChainOf last at n v → (at s).token ≡ Away → at s ≡ away
+
+-- the site that asked last has the token or asked for it
+abbrev pub LastIsUsed : Type 0
+LastIsUsed = (last : ℕ) (at : ℕ → Holding) (n : Mail → ℕ) (v : VarName) → ChainOf last at n v → (at last).token ≢ Away
+
+-- the reply sends no Get of the manager's own site
+abbrev pub SendsNoGet : ℕ → Reply → Type 0
+SendsNoGet manager r = mail_count r.sent (Get manager) ≡ 0
+
+-- no row sends a Get of the manager's own site: where none was under way none comes to be, and each Get is another site's
+pub record GetsAreOfOthers : Type 0 where
+  pub unit : (manager last s : ℕ) (w : VarName) (h : Holding) → SendsNoGet manager (exchange_reply manager last s w h)
+  pub get : (manager last k : ℕ) (h : Holding) → SendsNoGet manager (get_reply manager last k h)
+  pub forward : (manager b : ℕ) (h : Holding) → SendsNoGet manager (forward_reply h b)
+  pub put : (manager : ℕ) (w : VarName) (h : Holding) → SendsNoGet manager (put_reply h w)
+  pub making : (manager : ℕ) (h : Holding) → SendsNoGet manager (silent h)
+  pub replies : (manager s : ℕ) (r : Reply) (gone : List Mail) (at to : ℕ → Holding) (n m : Mail → ℕ) → SendsNoGet manager r →
+      Replies s r gone at to n m → n (Get manager) ≡ 0 → m (Get manager) ≡ 0
+  pub another : (manager k : ℕ) (n : Mail → ℕ) → n (Get manager) ≡ 0 → n (Get k) ≢ 0 → k ≢ manager

@@ -4,7 +4,7 @@ use Rattle.std.specs.Prelude.{ℕ, List, [], ◌∷◌, ◌==◌, Option, Some, 
 use Rattle.tree_node.specs.declared.names.VarName.{VarName}
 use Rattle.token_chain.specs.declared.token.Token.{Token}
 use Rattle.token_chain.specs.declared.token.Token.TheVariants.{Away, Asked, Here}
-use Rattle.token_chain.specs.Holding.{Holding, away, with_waiter, leaving}
+use Rattle.token_chain.specs.Holding.{Holding, away, with_waiter, departure_of}
 use Rattle.token_chain.specs.Mail.{Mail, Get, Forward, Put}
 
 -- what a site keeps of the cell after an event, and what it sends
@@ -21,7 +21,7 @@ leave_with h (Some (k, v)) = record { held = away; sent = Put k v ∷ [] }
 
 -- the token leaves where it may, to the successor and with the content
 abbrev pub leave_reply : Holding → Reply
-leave_reply h = leave_with h (leaving h)
+leave_reply h = leave_with h (departure_of h)
 
 -- Forward(c, k): k is the successor, and a token that is here and that nobody waits for goes to it
 abbrev pub forward_reply : Holding → ℕ → Reply

@@ -3,8 +3,8 @@ use Rattle.std.specs.Prelude.{◌≡◌, ℕ, zero, suc, ◌+◌, ◌*◌, ◌�
 use Rattle.tree_node.specs.declared.names.VarName.{VarName}
 use Rattle.token_chain.specs.declared.token.Token.{Token}
 use Rattle.token_chain.specs.declared.token.Token.TheVariants.{Away, Asked, Here}
-use Rattle.token_chain.specs.Holding.{Holding, away, made, with_waiter}
-use Rattle.token_chain.specs.Mail.{Mail, Get, Forward, Put, times}
+use Rattle.token_chain.specs.Holding.{Holding, away, here_with, with_waiter}
+use Rattle.token_chain.specs.Mail.{Mail, Get, Forward, Put, mail_count}
 use Rattle.token_chain.specs.Moves.{Replies}
 use Rattle.token_chain.specs.Rows.{Reply, silent, forward_reply, put_reply, get_reply}
 
@@ -78,11 +78,11 @@ pub record RowsPay : Type 0 where
 abbrev pub RepliesPay : Type 0
 RepliesPay =
     (n : ℕ) (at to : ℕ → Holding) (before after : Mail → ℕ) (s : ℕ) (r : Reply) (gone : List Mail) (gets forwards puts exchanges more : ℕ) → 1 ≤ s → s ≤ n →
-    Replies s r gone at to before after → Pays (at s) r (total n (λ k. times gone (Get k))) more → Tally n at before gets forwards puts exchanges →
+    Replies s r gone at to before after → Pays (at s) r (total n (λ k. mail_count gone (Get k))) more → Tally n at before gets forwards puts exchanges →
     Tally n to after (gets + weights 1 0 0 r.sent) (forwards + weights 0 1 0 r.sent) (puts + weights 0 0 1 r.sent) (exchanges + more)
 
 -- a cell begins with its token where it is made
 abbrev pub MakingTallies : Type 0
 MakingTallies =
     (n : ℕ) (at to : ℕ → Holding) (before after : Mail → ℕ) (o : ℕ) (v : VarName) → 1 ≤ o → o ≤ n → ((s : ℕ) → at s ≡ away) → ((m : Mail) → before m ≡ 0) →
-    Replies o (silent (made v)) [] at to before after → Tally n to after 0 0 0 0
+    Replies o (silent (here_with v)) [] at to before after → Tally n to after 0 0 0 0

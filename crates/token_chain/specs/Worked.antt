@@ -2,7 +2,7 @@
 use Rattle.std.specs.Prelude.{◌≡◌, ℕ, [], ◌∷◌, None, Some}
 use Rattle.tree_node.specs.declared.names.VarName.{VarName}
 use Rattle.token_chain.specs.declared.token.Token.TheVariants.{Asked}
-use Rattle.token_chain.specs.Holding.{Holding, away, made}
+use Rattle.token_chain.specs.Holding.{Holding, away, here_with}
 use Rattle.token_chain.specs.Mail.{Get, Forward, Put}
 use Rattle.token_chain.specs.Rows.{silent, forward_reply, put_reply, get_reply, exchange_reply}
 
@@ -17,14 +17,14 @@ waiting_for k = record { token = Asked; next = None; waiting = k }
 -- way, and the Forward comes before the Put; then two threads of site 3 ask, with one Get, and are served in order
 pub record WorkedRequests : Type 0 where
   pub asks : exchange_reply 1 1 3 (variable 1) away ≡ record { held = waiting_for 1; sent = Get 3 ∷ [] }
-  pub leaves : get_reply 1 1 3 (made (variable 0)) ≡ record { held = away; sent = Put 3 (variable 0) ∷ [] }
+  pub leaves : get_reply 1 1 3 (here_with (variable 0)) ≡ record { held = away; sent = Put 3 (variable 0) ∷ [] }
   pub tells : get_reply 1 3 2 away ≡ record { held = away; sent = Forward 3 2 ∷ [] }
   pub early : forward_reply (waiting_for 1) 2 ≡ silent (record (waiting_for 1) { next = Some 2 })
   pub passes : put_reply (record (waiting_for 1) { next = Some 2 }) (variable 1) ≡ record { held = away; sent = Put 2 (variable 1) ∷ [] }
-  pub stays : put_reply (waiting_for 1) (variable 2) ≡ silent (made (variable 2))
+  pub stays : put_reply (waiting_for 1) (variable 2) ≡ silent (here_with (variable 2))
   pub again : exchange_reply 1 2 3 (variable 4) (waiting_for 1) ≡ silent (waiting_for 2)
-  pub hands : forward_reply (made (variable 2)) 3 ≡ record { held = away; sent = Put 3 (variable 2) ∷ [] }
-  pub serves : put_reply (waiting_for 2) (variable 4) ≡ silent (made (variable 4))
+  pub hands : forward_reply (here_with (variable 2)) 3 ≡ record { held = away; sent = Put 3 (variable 2) ∷ [] }
+  pub serves : put_reply (waiting_for 2) (variable 4) ≡ silent (here_with (variable 4))
   -- the manager's own site asks without a Get, and an exchange where the token is sends nothing
   pub own : exchange_reply 1 3 1 (variable 5) away ≡ record { held = waiting_for 1; sent = Forward 3 1 ∷ [] }
-  pub here : exchange_reply 1 3 3 (variable 5) (made (variable 4)) ≡ silent (made (variable 5))
+  pub here : exchange_reply 1 3 3 (variable 5) (here_with (variable 4)) ≡ silent (here_with (variable 5))

@@ -7,10 +7,10 @@ ghost use Rattle.site_message.specs.declared.message.Sent.{Sent};
 ghost use Rattle.site_message.specs.declared.outcome.DeliverError.TheVariants.{NotThere};
 ghost use Rattle.token_chain.specs.Chain.{QuietServesAll};
 ghost use Rattle.token_chain.specs.Holding.{answer_of};
-ghost use Rattle.token_chain.specs.Moves.{MakingStarts, AskingKeeps, WaitingKeeps, OwnAskingKeeps, GetKeeps, ForwardKeeps, PutKeeps, ExchangeKeeps, UnitKeeps, NothingKeeps, MessagesCanCome, TokensHaveContents, SuccessorsAsked, AwayKeepsNothing};
+ghost use Rattle.token_chain.specs.Moves.{MakingStarts, AskingKeeps, WaitingKeeps, OwnAskingKeeps, GetKeeps, ForwardKeeps, PutKeeps, ExchangeKeeps, UnitKeeps, NothingKeeps, MessagesCanCome, TokensHaveContents, SuccessorsAsked, AwayKeepsNothing, LastIsUsed, GetsAreOfOthers};
 ghost use Rattle.token_chain.specs.Tally.{MakingTallies, RowsPay, RepliesPay, TalliesBound, KindsBound};
 ghost use Rattle.token_chain.specs.Worked.{WorkedRequests};
-ghost use Rattle.token_chain.specs.World.{IsSite, held_at, AreHandedOn, line, begin};
+ghost use Rattle.token_chain.specs.World.{IsSite, held_at, AreHandedOn, line, first_world};
 ghost use Rattle.token_chain.specs.Calls.{Asks, Delivers, Step, HasChain, IsLinedUp, SendsFrom, EveryListOfCalls};
 
 use crate::ask::Ask;
@@ -52,7 +52,7 @@ impl CellWorld {
         content: VarName,
     ) -> Result<CellWorld, AllocError>
         requires owner { (1 ≤ owner) × (owner ≤ sites) }
-        ensures world { IfOk result (λ w. w ≡ begin sites owner content) }
+        ensures world { IfOk result (λ w. w ≡ first_world sites owner content) }
         ensures chain { IfOk result HasChain }
     {
         let parts = world::make(alloc, sites, owner, content)?;
@@ -161,13 +161,15 @@ pub fn moves_keep_the_chain()
     ensures nothing { NothingKeeps }
 {}
 
-/// What a chain says of a message under way, and of a site where the token is, which has a successor, or to which the
-/// cell is of no concern.
+/// What a chain says of a message under way, and of a site where the token is, which has a successor, which asked last, or
+/// to which the cell is of no concern. A Get under way is of another site than the manager's.
 pub fn chains_tell()
     ensures messages { MessagesCanCome }
     ensures contents { TokensHaveContents }
     ensures successors { SuccessorsAsked }
     ensures away { AwayKeepsNothing }
+    ensures last { LastIsUsed }
+    ensures gets { GetsAreOfOthers }
 {}
 
 /// The messages of a cell are paid for by its exchanges: each request has one Get, one Forward and one Put at most, and is

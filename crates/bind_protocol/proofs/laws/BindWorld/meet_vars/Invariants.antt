@@ -1,10 +1,10 @@
 use Rattle.std.proofs.Common.{◌≡◌, drop}
-use Rattle.bind_protocol.specs.World.{Grows, IsFront, meets_all}
+use Rattle.bind_protocol.specs.World.{Grows, IsFront, after_meeting}
 use Rattle.bind_protocol.proofs.laws.BindWorld.meet_vars.Given as goal
 
 abbrev pub invariant-loop-var : goal.invariant-loop-var
 invariant-loop-var l = record {
-  rest : meets_all l.self l.site (drop l.var-index l.vars) ≡ meets_all l.fn.self l.site l.vars;
+  rest : after_meeting l.self l.site (drop l.var-index l.vars) ≡ after_meeting l.fn.self l.site l.vars;
   grows : Grows l.fn.self l.self;
   front : IsFront l.fn.self.travelling l.self.travelling;
   delivered : l.self.delivered ≡ l.fn.self.delivered;

@@ -1,0 +1,5 @@
+use Rattle.bind_protocol.proofs.ToldLemmas.{rows_tell, telling_joins}
+use Rattle.bind_protocol.proofs.laws.rows_tell.Goals as goal
+
+pub returns : goal.returns
+returns c = record { rows = rows_tell; together = telling_joins }
