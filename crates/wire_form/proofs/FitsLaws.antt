@@ -1,0 +1,127 @@
+-- The values of the format are what can be spelled.
+use Rattle.std.proofs.Common.{ℕ, zero, suc, ◌<◌, List, [], ◌∷◌, ◌++◌, length, get_or, arith}
+use Rattle.tree_node.specs.declared.names.VarName.{VarName}
+use Rattle.tree_node.specs.declared.node.Feature.{Feature}
+use Rattle.tree_node.specs.declared.node.Feature.TheVariants as features
+use Rattle.tree_node.specs.declared.node.Node.TheVariants as nodes
+use Rattle.tree_node.specs.declared.node.Term.{Term}
+use Rattle.tree_node.specs.declared.node.Term.TheVariants as terms
+use Rattle.tree_node.specs.Each.{Each}
+use Rattle.tree_node.specs.Order.{IsBelow}
+use Rattle.tree_node.specs.Store.{Equation}
+use Rattle.site_message.specs.declared.message.Msg.{Msg}
+use Rattle.site_message.specs.declared.message.Msg.TheVariants as messages
+use Rattle.site_message.specs.Wire.{FitsText, FitsFeature, FitsField, FitsFields, FitsVar, FitsVars, FitsTerm, FitsEquation, FitsBundle, FitsWire}
+use Rattle.site_message.proofs.RiseLemmas.{RisesTo, fields_rise, names_rise}
+use Rattle.wire_form.specs.Field.{Field, EachBehind, IsAbove}
+use Rattle.wire_form.specs.Format.{var_name, text, feature, record_field, field_behind, record_fields, variables, term, equation, equation_behind, bundle, message, IsFeatureBelow}
+
+-- ---- items that follow one another
+
+-- above the last of a list is above that one
+last_above : {X A : Type 0} (key : X → A) (Below : A → A → Type 0) (front : List X) (p : X) (a : A) → IsAbove key Below (front ++ p ∷ []) a → Below (key p) a
+last_above key Below [] p a h = h
+last_above key Below (x ∷ []) p a h = h
+last_above key Below (x ∷ y ∷ xs) p a h = last_above key Below (y ∷ xs) p a h
+
+above_last : {X A : Type 0} (key : X → A) (Below : A → A → Type 0) (front : List X) (p : X) (a : A) → Below (key p) a → IsAbove key Below (front ++ p ∷ []) a
+above_last key Below [] p a h = h
+above_last key Below (x ∷ []) p a h = h
+above_last key Below (x ∷ y ∷ xs) p a h = above_last key Below (y ∷ xs) p a h
+
+-- what stands behind items is an item, above the last of them
+pub record IsOrdered {X A : Type 0} (Item : X → Type 0) (key : X → A) (Below : A → A → Type 0) (behind : List X → Field X) : Type 0 where
+  pub item : (front : List X) (x : X) → (behind front).Has x → Item x
+  pub above : (front : List X) (x : X) → (behind front).Has x → IsAbove key Below front (key x)
+  pub has : (front : List X) (x : X) → Item x → IsAbove key Below front (key x) → (behind front).Has x
+
+pub each_item : {X A : Type 0} (Item : X → Type 0) (key : X → A) (Below : A → A → Type 0) (behind : List X → Field X) → IsOrdered Item key Below behind
+    → (front xs : List X) → EachBehind behind front xs → Each Item xs
+each_item Item key Below behind o front [] h = tt
+each_item Item key Below behind o front (x ∷ xs) h = (o.item front x h.0, each_item Item key Below behind o (front ++ x ∷ []) xs h.1)
+
+rises_behind : {X A : Type 0} (Item : X → Type 0) (key : X → A) (Below : A → A → Type 0) (behind : List X → Field X) → IsOrdered Item key Below behind
+    → (p : X) (front xs : List X) → EachBehind behind (front ++ p ∷ []) xs
+    → (k : ℕ) (d : X) → suc k < length (p ∷ xs) → Below (key (get_or (p ∷ xs) k d)) (key (get_or (p ∷ xs) (suc k) d))
+rises_behind Item key Below behind o p front [] h k d lt = absurd (omega (arith, lt))
+rises_behind Item key Below behind o p front (x ∷ xs) h zero d lt = last_above key Below front p (key x) (o.above (front ++ p ∷ []) x h.0)
+rises_behind Item key Below behind o p front (x ∷ xs) h (suc k) d lt = rises_behind Item key Below behind o x (front ++ p ∷ []) xs h.1 k d (omega (arith, lt))
+
+pub rises_of : {X A : Type 0} (Item : X → Type 0) (key : X → A) (Below : A → A → Type 0) (behind : List X → Field X) → IsOrdered Item key Below behind
+    → (xs : List X) → EachBehind behind [] xs → RisesTo (λ x y. Below (key x) (key y)) xs (length xs)
+rises_of Item key Below behind o [] h k d low in_range = absurd (omega (arith, in_range))
+rises_of Item key Below behind o (x ∷ xs) h k d low in_range = rises_behind Item key Below behind o x [] xs h.1 k d in_range
+
+behind_rises : {X A : Type 0} (Item : X → Type 0) (key : X → A) (Below : A → A → Type 0) (behind : List X → Field X) → IsOrdered Item key Below behind
+    → (p : X) (front xs : List X) → Each Item xs
+    → ((k : ℕ) (d : X) → suc k < length (p ∷ xs) → Below (key (get_or (p ∷ xs) k d)) (key (get_or (p ∷ xs) (suc k) d)))
+    → EachBehind behind (front ++ p ∷ []) xs
+behind_rises Item key Below behind o p front [] each rises = tt
+behind_rises Item key Below behind o p front (x ∷ xs) each rises = (
+  o.has (front ++ p ∷ []) x each.0 (above_last key Below front p (key x) (rises 0 p (omega arith))),
+  behind_rises Item key Below behind o x (front ++ p ∷ []) xs each.1 (λ k d lt. rises (suc k) d (omega (arith, lt))),
+)
+
+pub behind_of : {X A : Type 0} (Item : X → Type 0) (key : X → A) (Below : A → A → Type 0) (behind : List X → Field X) → IsOrdered Item key Below behind
+    → (xs : List X) → Each Item xs → RisesTo (λ x y. Below (key x) (key y)) xs (length xs) → EachBehind behind [] xs
+behind_of Item key Below behind o [] each rises = tt
+behind_of Item key Below behind o (x ∷ xs) each rises =
+    (o.has [] x each.0 tt, behind_rises Item key Below behind o x [] xs each.1 (λ k d lt. rises k d (omega (arith, lt)) lt))
+
+pub fields_ordered : IsOrdered (λ x. record_field.Has x) (λ (x : Feature × VarName). x.0) IsFeatureBelow field_behind
+fields_ordered = record { item = λ front x h. (h.0.0, h.1); above = λ front x h. h.0.1; has = λ front x h above. ((h.0, above), h.1) }
+
+pub equations_ordered : IsOrdered (λ e. equation.Has e) (λ (e : Equation). e.0) IsBelow equation_behind
+equations_ordered = record { item = λ front x h. (h.0.0, h.1); above = λ front x h. h.0.1; has = λ front x h above. ((h.0, above), h.1) }
+
+-- ---- what the format has can be spelled
+
+pub each_weaker : {X : Type 0} (P Q : X → Type 0) → ((x : X) → P x → Q x) → (xs : List X) → Each P xs → Each Q xs
+each_weaker P Q go [] h = tt
+each_weaker P Q go (x ∷ xs) h = (go x h.0, each_weaker P Q go xs h.1)
+
+text_fits : (t : List ℕ) → text.Has t → FitsText t
+text_fits t h = (omega (arith, h.0), h.1)
+
+feature_fits : (f : Feature) → feature.Has f → FitsFeature f
+feature_fits (features.Int z) h = tt
+feature_fits (features.Atom t) h = text_fits t h
+
+var_fits : (x : VarName) → var_name.Has x → FitsVar x
+var_fits x h = h.0.1
+
+fields_fit : (fs : List (Feature × VarName)) → record_fields.Has fs → FitsFields fs
+fields_fit fs h =
+    let items = each_item (λ x. record_field.Has x) (λ (x : Feature × VarName). x.0) IsFeatureBelow field_behind fields_ordered [] fs h.1 in
+    let rises = rises_of (λ x. record_field.Has x) (λ (x : Feature × VarName). x.0) IsFeatureBelow field_behind fields_ordered fs h.1 in
+    (h.0.1.0, h.0.1.1, each_weaker (λ x. record_field.Has x) FitsField (λ x k. (feature_fits x.0 k.0, var_fits x.1 k.1)) fs items, (fields_rise fs).1 rises)
+
+each_var : (front xs : List VarName) → EachBehind (λ f. var_name) front xs → Each FitsVar xs
+each_var front [] h = tt
+each_var front (x ∷ xs) h = (var_fits x h.0, each_var (front ++ x ∷ []) xs h.1)
+
+vars_fit : (xs : List VarName) → variables.Has xs → FitsVars xs
+vars_fit xs h = (omega (arith, h.0), each_var [] xs h.1)
+
+term_fits : (t : Term) → term.Has t → FitsTerm t
+term_fits (terms.Var x) h = var_fits x h
+term_fits (terms.Node (nodes.Int z)) h = tt
+term_fits (terms.Node (nodes.Atom t)) h = text_fits t h
+term_fits (terms.Node (nodes.Rec label fields)) h = (text_fits label h.0, fields_fit fields h.1)
+term_fits (terms.Node (nodes.Proc p c n vars)) h = (h.0.0.1, h.1.1.0.1.1, vars_fit vars h.1.1.1)
+term_fits (terms.Node (nodes.Cell c)) h = h.0.1
+
+bundle_fits : (es : List Equation) → bundle.Has es → FitsBundle es
+bundle_fits es h =
+    let items = each_item (λ e. equation.Has e) (λ (e : Equation). e.0) IsBelow equation_behind equations_ordered [] es h.1 in
+    let rises = rises_of (λ e. equation.Has e) (λ (e : Equation). e.0) IsBelow equation_behind equations_ordered es h.1 in
+    (h.0.1.1, each_weaker (λ e. equation.Has e) FitsEquation (λ e k. (var_fits e.0 k.0, term_fits e.1 k.1)) es items, (names_rise es).1 rises)
+
+pub message_fits : (m : Msg) → message.Has m → FitsWire m
+message_fits (messages.Spawn t c vars es) h = (h.0.0.1, vars_fit vars h.1.1.0, bundle_fits es h.1.1.1)
+message_fits (messages.Register x asking) h = (var_fits x h.0, h.1.1)
+message_fits (messages.BindReq x t u es) h = (var_fits x h.0, h.1.0.0.1, term_fits u h.1.1.0, bundle_fits es h.1.1.1)
+message_fits (messages.Binding x u es) h = (var_fits x h.0, term_fits u h.1.0, bundle_fits es h.1.1)
+message_fits (messages.Get c asking) h = (h.0.0.1, h.1.1)
+message_fits (messages.Forward c next) h = (h.0.0.1, h.1.1)
+message_fits (messages.Put c x es) h = (h.0.0.1, var_fits x h.1.0, bundle_fits es h.1.1)

@@ -1,0 +1,257 @@
+-- Each field of the format is read by the function of its name.
+use Rattle.std.proofs.Common.{◌≡◌, ℕ, ◌+◌, Bool, true, false, cond, eqb, ltb, List, [], ◌∷◌, ◌++◌, length, Ok, Err, refl, sym, ap, ◌∙◌, arith, ◌⊎◌, inl, inr}
+use Rattle.std.specs.Int.{w8, w16, w32, w64}
+use Rattle.std.specs.declared.cmp.Ordering.{Ordering}
+use Rattle.std.specs.declared.cmp.Ordering.TheVariants.{Less, Equal, Greater}
+use Rattle.std.proofs.lemmas.Bool.{ltb-true, eqb-true, eq-eqb, ne_eqb, lt-ltb, true≢false, false≢true}
+use Rattle.tree_node.specs.declared.names.VarName.{VarName}
+use Rattle.tree_node.specs.declared.names.CellName.{CellName}
+use Rattle.tree_node.specs.declared.names.ProcName.{ProcName}
+use Rattle.tree_node.specs.declared.names.ThreadName.{ThreadName}
+use Rattle.tree_node.specs.declared.names.CodeId.{CodeId}
+use Rattle.tree_node.specs.declared.node.Feature.{Feature}
+use Rattle.tree_node.specs.declared.node.Feature.TheVariants as features
+use Rattle.tree_node.specs.declared.node.Node.TheVariants as nodes
+use Rattle.tree_node.specs.declared.node.Term.{Term}
+use Rattle.tree_node.specs.declared.node.Term.TheVariants as terms
+use Rattle.tree_node.specs.Node.{feature_cmp}
+use Rattle.tree_node.specs.Order.{IsBelow}
+use Rattle.tree_node.specs.Store.{Equation}
+use Rattle.wire_form.specs.declared.fault.WireFault.{WireFault}
+use Rattle.wire_form.specs.declared.fault.WireFault.TheVariants.{Short, Kind, Range, Order}
+use Rattle.wire_form.specs.Field.{restriction, number, IsAbove, ◌then◌}
+use Rattle.wire_form.specs.Format.{site, name, var_name, cell_name, proc_name, thread_name, code, integer, text, feature, record_field, IsFeatureBelow, field_behind, record_fields, variables, formals, tree, procedure, term, equation, equation_behind, bundle, within}
+use Rattle.wire_form.specs.Reading.{Left, ◌and◌, map_at, filter_at, number_at, byte_within_at, name_at, var_name_at, cell_name_at, proc_name_at, thread_name_at, code_at, integer_at, text_at, key_at, feature_at, is_less, is_above, feature_below, name_below, field_at, fields_at, variables_at, record_at, procedure_at, node_at, term_at, equation_at, bundle_at, is_within}
+use Rattle.wire_form.proofs.FieldLaws.{IsBytes, Takes, IsRead, failed, err_is, no_ok, and_read, made_read, tested_read}
+use Rattle.wire_form.proofs.BaseLaws.{IsBytes-rest, number_read, wide16, wide32, wide64, within_read, byte_within_read, integer_read, text_read}
+use Rattle.wire_form.proofs.ListLaws.{listed_read}
+use Rattle.wire_form.proofs.ChoiceLaws.{IsBehind, is_behind, again_behind, takes_step, fails_step, passes}
+
+-- ---- names and codes
+
+name_read : IsRead name name_at
+unfolding name_at
+name_read = and_read site (number w64) (byte_within_at 1 64) (number_at w64) (byte_within_read 1 64) (number_read w64 wide64)
+
+pub var_name_read : IsRead var_name var_name_at
+unfolding var_name_at
+var_name_read = made_read {X = VarName} {Y = ℕ × ℕ} name name_at (λ p. record { site = p.0; num = p.1 }) (λ x. (x.site, x.num)) (λ y. refl) (λ x. refl) name_read
+
+pub cell_name_read : IsRead cell_name cell_name_at
+unfolding cell_name_at
+cell_name_read = made_read {X = CellName} {Y = ℕ × ℕ} name name_at (λ p. record { site = p.0; num = p.1 }) (λ x. (x.site, x.num)) (λ y. refl) (λ x. refl) name_read
+
+pub proc_name_read : IsRead proc_name proc_name_at
+unfolding proc_name_at
+proc_name_read = made_read {X = ProcName} {Y = ℕ × ℕ} name name_at (λ p. record { site = p.0; num = p.1 }) (λ x. (x.site, x.num)) (λ y. refl) (λ x. refl) name_read
+
+pub thread_name_read : IsRead thread_name thread_name_at
+unfolding thread_name_at
+thread_name_read = made_read {X = ThreadName} {Y = ℕ × ℕ} name name_at (λ p. record { site = p.0; num = p.1 }) (λ x. (x.site, x.num)) (λ y. refl) (λ x. refl) name_read
+
+pub code_read : IsRead code code_at
+unfolding code_at
+code_read = made_read {X = CodeId} {Y = ℕ} (number w32) (number_at w32) (λ n. record { 0 = n }) (λ c. c.0) (λ y. refl) (λ x. refl) (number_read w32 wide32)
+
+-- ---- features
+
+int_behind : IsBehind feature 0 (map_at features.Int integer_at) integer.Fault
+int_behind = is_behind feature 0 integer integer_at features.Int (λ y h. h) (λ y. refl) integer_read
+
+atom_behind : IsBehind feature 1 (map_at features.Atom text_at) text.Fault
+atom_behind = is_behind feature 1 text text_at features.Atom (λ y h. h) (λ y. refl) text_read
+
+pub feature_read : IsRead feature feature_at
+unfolding feature_at key_at
+feature_read = record { takes = takes; again = again; fails = fails; failing = failing }
+  where
+    takes : (at : ℕ) (bytes : List ℕ) (x : Feature) (m : Left) → IsBytes bytes → feature_at (at, bytes) ≡ Ok (x, m) → Takes feature at bytes x m
+    takes at [] x m fits e = absurd (no_ok (x, m) (Short at) e)
+    takes at (tag ∷ bytes) x m fits e =
+        let small = IsBytes-rest tag bytes fits in
+        takes_step feature tag 0 _ _ int_behind _ at bytes x m small
+        (takes_step feature tag 1 _ _ atom_behind _ at bytes x m small (λ d. absurd (no_ok (x, m) (Kind at) d)))
+        e
+
+    again : (at : ℕ) (x : Feature) (rest : List ℕ) → feature.Has x → feature_at (at, feature.spelling x ++ rest) ≡ Ok (x, (at + length (feature.spelling x), rest))
+    again at (features.Int z) rest has = again_behind integer integer_at features.Int 0 at z rest integer_read has
+    again at (features.Atom t) rest has = again_behind text text_at features.Atom 1 at t rest text_read has
+
+    fails : (at : ℕ) (bytes : List ℕ) (f : WireFault) → IsBytes bytes → feature_at (at, bytes) ≡ Err f → feature.Fault at bytes f
+    fails at [] f fits e = sym (err_is {A = Feature × Left} (Short at) f e)
+    fails at (tag ∷ bytes) f fits e =
+        let small = IsBytes-rest tag bytes fits in
+        fails_step feature tag 0 _ _ int_behind _ _ at bytes f small
+        (λ n0. fails_step feature tag 1 _ _ atom_behind _ _ at bytes f small (λ n1 d. (omega (arith, n0, n1), sym (err_is {A = Feature × Left} (Kind at) f d))))
+        e
+
+    failing : (at : ℕ) (bytes : List ℕ) (f : WireFault) → feature.Fault at bytes f → feature_at (at, bytes) ≡ Err f
+    failing at [] f h = ap (λ (g : WireFault). failed g) (sym h)
+    failing at (tag ∷ bytes) f (inl h) = ap (λ (t : ℕ). key_at at t (at + 1, bytes)) h.0 ∙ int_behind.failing at bytes f h.1
+    failing at (tag ∷ bytes) f (inr (inl h)) = ap (λ (t : ℕ). key_at at t (at + 1, bytes)) h.0 ∙ atom_behind.failing at bytes f h.1
+    failing at (tag ∷ bytes) f (inr (inr h)) =
+        passes tag 0 _ _ _ (λ e. omega (arith, e, h.0)) (passes tag 1 _ _ _ (λ e. omega (arith, e, h.0)) (ap (λ (g : WireFault). failed g) (sym h.1)))
+
+-- ---- what is above the last of a list
+
+above_yes : {X A : Type 0} (key : X → A) (below : A → A → Bool) (Below : A → A → Type 0) → ((a b : A) → below a b ≡ true → Below a b)
+    → (front : List X) (a : A) → is_above key below front a ≡ true → IsAbove key Below front a
+above_yes key below Below holds [] a e = tt
+above_yes key below Below holds (x ∷ []) a e = holds (key x) a e
+above_yes key below Below holds (x ∷ y ∷ xs) a e = above_yes key below Below holds (y ∷ xs) a e
+
+above_no : {X A : Type 0} (key : X → A) (below : A → A → Bool) (Below : A → A → Type 0) → ((a b : A) → below a b ≡ false → Below a b → ⊥)
+    → (front : List X) (a : A) → is_above key below front a ≡ false → IsAbove key Below front a → ⊥
+above_no key below Below misses [] a e h = true≢false e
+above_no key below Below misses (x ∷ []) a e h = misses (key x) a e h
+above_no key below Below misses (x ∷ y ∷ xs) a e h = above_no key below Below misses (y ∷ xs) a e h
+
+less_yes : (o : Ordering) → is_less o ≡ true → o ≡ Less
+less_yes Less e = refl
+less_yes Equal e = absurd (false≢true e)
+less_yes Greater e = absurd (false≢true e)
+
+less_no : (o : Ordering) → is_less o ≡ false → o ≡ Less → ⊥
+less_no o e h = false≢true (sym e ∙ ap is_less h)
+
+name_yes : (a b : VarName) → name_below a b ≡ true → IsBelow a b
+name_yes a b e = elim (choice (eqb a.site b.site) (ltb a.num b.num) (ltb a.site b.site) e) [
+  | inl h ↦ inr (eqb-true a.site b.site h.0, ltb-true a.num b.num h.1)
+  | inr h ↦ inl (ltb-true a.site b.site h.1)
+]
+  where
+    choice : (c x y : Bool) → cond c x y ≡ true → ((c ≡ true) × (x ≡ true)) ⊎ ((c ≡ false) × (y ≡ true))
+    choice true x y e = inl (refl, e)
+    choice false x y e = inr (refl, e)
+
+name_no : (a b : VarName) → name_below a b ≡ false → IsBelow a b → ⊥
+name_no a b e (inl h) =
+    false≢true (sym e ∙ ap (λ (c : Bool). cond c (ltb a.num b.num) (ltb a.site b.site)) (ne_eqb a.site b.site (λ s. omega (arith, s, h))) ∙ lt-ltb a.site b.site h)
+name_no a b e (inr h) =
+    false≢true (sym e ∙ ap (λ (c : Bool). cond c (ltb a.num b.num) (ltb a.site b.site)) (eq-eqb a.site b.site h.0) ∙ lt-ltb a.num b.num h.1)
+
+-- ---- the fields of a record
+
+field_read : (front : List (Feature × VarName)) → IsRead (field_behind front) (field_at front)
+unfolding field_at
+field_read front =
+    let key : Feature × VarName → Feature = λ x. x.0 in
+    let holds = above_yes key feature_below IsFeatureBelow (λ a b e. less_yes (feature_cmp a b) e) front in
+    let misses = above_no key feature_below IsFeatureBelow (λ a b e. less_no (feature_cmp a b) e) front in
+    let first = tested_read feature feature_at (IsAbove key IsFeatureBelow front) (is_above key feature_below front) (λ at. Order at) holds misses feature_read in
+    and_read (restriction (IsAbove key IsFeatureBelow front) (λ at. Order at) feature) var_name (filter_at (is_above key feature_below front) (λ at. Order at) feature_at) var_name_at first var_name_read
+
+pub fields_read : IsRead record_fields fields_at
+unfolding fields_at
+fields_read =
+    listed_read (within 1 64 (number w8)) (byte_within_at 1 64) record_field field_behind field_at (byte_within_read 1 64) (record { read = field_read; spelling = λ front x. refl })
+
+pub variables_read : IsRead variables variables_at
+unfolding variables_at
+variables_read =
+    listed_read (number w16) (number_at w16) var_name (λ front. var_name) (λ front. var_name_at) (number_read w16 wide16) (record { read = λ front. var_name_read; spelling = λ front x. refl })
+
+-- ---- terms
+
+tree_read : IsRead tree (text_at and fields_at)
+tree_read = and_read text record_fields text_at fields_at text_read fields_read
+
+procedure_read : IsRead procedure (proc_name_at and code_at and byte_within_at 0 64 and variables_at)
+procedure_read =
+    and_read proc_name (code then formals then variables) proc_name_at (code_at and byte_within_at 0 64 and variables_at) proc_name_read
+    (and_read code (formals then variables) code_at (byte_within_at 0 64 and variables_at) code_read
+    (and_read formals variables (byte_within_at 0 64) variables_at (byte_within_read 0 64) variables_read))
+
+var_behind : IsBehind term 0 (map_at terms.Var var_name_at) var_name.Fault
+var_behind = is_behind term 0 var_name var_name_at terms.Var (λ y h. h) (λ y. refl) var_name_read
+
+number_behind : IsBehind term 1 (map_at (λ z. terms.Node (nodes.Int z)) integer_at) integer.Fault
+number_behind = is_behind term 1 integer integer_at (λ z. terms.Node (nodes.Int z)) (λ y h. h) (λ y. refl) integer_read
+
+text_behind : IsBehind term 2 (map_at (λ t. terms.Node (nodes.Atom t)) text_at) text.Fault
+text_behind = is_behind term 2 text text_at (λ t. terms.Node (nodes.Atom t)) (λ y h. h) (λ y. refl) text_read
+
+record_behind : IsBehind term 3 record_at tree.Fault
+unfolding record_at
+record_behind = is_behind term 3 tree (text_at and fields_at) (λ p. terms.Node (nodes.Rec p.0 p.1)) (λ y h. h) (λ y. refl) tree_read
+
+procedure_behind : IsBehind term 4 procedure_at procedure.Fault
+unfolding procedure_at
+procedure_behind =
+    is_behind term 4 procedure (proc_name_at and code_at and byte_within_at 0 64 and variables_at) (λ p. terms.Node (nodes.Proc p.0 p.1.0 p.1.1.0 p.1.1.1)) (λ y h. h) (λ y. refl) procedure_read
+
+cell_behind : IsBehind term 5 (map_at (λ c. terms.Node (nodes.Cell c)) cell_name_at) cell_name.Fault
+cell_behind = is_behind term 5 cell_name cell_name_at (λ c. terms.Node (nodes.Cell c)) (λ y h. h) (λ y. refl) cell_name_read
+
+pub term_read : IsRead term term_at
+unfolding term_at node_at record_at procedure_at
+term_read = record { takes = takes; again = again; fails = fails; failing = failing }
+  where
+    takes : (at : ℕ) (bytes : List ℕ) (x : Term) (m : Left) → IsBytes bytes → term_at (at, bytes) ≡ Ok (x, m) → Takes term at bytes x m
+    takes at [] x m fits e = absurd (no_ok (x, m) (Short at) e)
+    takes at (tag ∷ bytes) x m fits e =
+        let small = IsBytes-rest tag bytes fits in
+        takes_step term tag 0 _ _ var_behind _ at bytes x m small
+        (takes_step term tag 1 _ _ number_behind _ at bytes x m small
+        (takes_step term tag 2 _ _ text_behind _ at bytes x m small
+        (takes_step term tag 3 _ _ record_behind _ at bytes x m small
+        (takes_step term tag 4 _ _ procedure_behind _ at bytes x m small
+        (takes_step term tag 5 _ _ cell_behind _ at bytes x m small (λ d. absurd (no_ok (x, m) (Kind at) d)))))))
+        e
+
+    again : (at : ℕ) (x : Term) (rest : List ℕ) → term.Has x → term_at (at, term.spelling x ++ rest) ≡ Ok (x, (at + length (term.spelling x), rest))
+    again at (terms.Var x) rest has = again_behind var_name var_name_at terms.Var 0 at x rest var_name_read has
+    again at (terms.Node (nodes.Int z)) rest has = again_behind integer integer_at (λ z. terms.Node (nodes.Int z)) 1 at z rest integer_read has
+    again at (terms.Node (nodes.Atom t)) rest has = again_behind text text_at (λ t. terms.Node (nodes.Atom t)) 2 at t rest text_read has
+    again at (terms.Node (nodes.Rec label fields)) rest has =
+        again_behind tree (text_at and fields_at) (λ p. terms.Node (nodes.Rec p.0 p.1)) 3 at (label, fields) rest tree_read has
+    again at (terms.Node (nodes.Proc p c n vars)) rest has =
+        again_behind procedure (proc_name_at and code_at and byte_within_at 0 64 and variables_at) (λ p. terms.Node (nodes.Proc p.0 p.1.0 p.1.1.0 p.1.1.1)) 4 at (p, (c, (n, vars))) rest procedure_read has
+    again at (terms.Node (nodes.Cell c)) rest has = again_behind cell_name cell_name_at (λ c. terms.Node (nodes.Cell c)) 5 at c rest cell_name_read has
+
+    fails : (at : ℕ) (bytes : List ℕ) (f : WireFault) → IsBytes bytes → term_at (at, bytes) ≡ Err f → term.Fault at bytes f
+    fails at [] f fits e = sym (err_is {A = Term × Left} (Short at) f e)
+    fails at (tag ∷ bytes) f fits e =
+        let small = IsBytes-rest tag bytes fits in
+        fails_step term tag 0 _ _ var_behind _ _ at bytes f small
+        (λ n0. fails_step term tag 1 _ _ number_behind _ _ at bytes f small
+        (λ n1. fails_step term tag 2 _ _ text_behind _ _ at bytes f small
+        (λ n2. fails_step term tag 3 _ _ record_behind _ _ at bytes f small
+        (λ n3. fails_step term tag 4 _ _ procedure_behind _ _ at bytes f small
+        (λ n4. fails_step term tag 5 _ _ cell_behind _ _ at bytes f small
+        (λ n5 d. (omega (arith, n0, n1, n2, n3, n4, n5), sym (err_is {A = Term × Left} (Kind at) f d))))))))
+        e
+
+    failing : (at : ℕ) (bytes : List ℕ) (f : WireFault) → term.Fault at bytes f → term_at (at, bytes) ≡ Err f
+    failing at [] f h = ap (λ (g : WireFault). failed g) (sym h)
+    failing at (tag ∷ bytes) f (inl h) = ap (λ (t : ℕ). node_at at t (at + 1, bytes)) h.0 ∙ var_behind.failing at bytes f h.1
+    failing at (tag ∷ bytes) f (inr (inl h)) = ap (λ (t : ℕ). node_at at t (at + 1, bytes)) h.0 ∙ number_behind.failing at bytes f h.1
+    failing at (tag ∷ bytes) f (inr (inr (inl h))) = ap (λ (t : ℕ). node_at at t (at + 1, bytes)) h.0 ∙ text_behind.failing at bytes f h.1
+    failing at (tag ∷ bytes) f (inr (inr (inr (inl h)))) = ap (λ (t : ℕ). node_at at t (at + 1, bytes)) h.0 ∙ record_behind.failing at bytes f h.1
+    failing at (tag ∷ bytes) f (inr (inr (inr (inr (inl h))))) = ap (λ (t : ℕ). node_at at t (at + 1, bytes)) h.0 ∙ procedure_behind.failing at bytes f h.1
+    failing at (tag ∷ bytes) f (inr (inr (inr (inr (inr (inl h)))))) = ap (λ (t : ℕ). node_at at t (at + 1, bytes)) h.0 ∙ cell_behind.failing at bytes f h.1
+    failing at (tag ∷ bytes) f (inr (inr (inr (inr (inr (inr h)))))) =
+        passes tag 0 _ _ _ (λ e. omega (arith, e, h.0))
+        (passes tag 1 _ _ _ (λ e. omega (arith, e, h.0))
+        (passes tag 2 _ _ _ (λ e. omega (arith, e, h.0))
+        (passes tag 3 _ _ _ (λ e. omega (arith, e, h.0))
+        (passes tag 4 _ _ _ (λ e. omega (arith, e, h.0))
+        (passes tag 5 _ _ _ (λ e. omega (arith, e, h.0)) (ap (λ (g : WireFault). failed g) (sym h.1)))))))
+
+-- ---- bundles
+
+equation_read : (front : List Equation) → IsRead (equation_behind front) (equation_at front)
+unfolding equation_at
+equation_read front =
+    let key : Equation → VarName = λ e. e.0 in
+    let holds = above_yes key name_below IsBelow name_yes front in
+    let misses = above_no key name_below IsBelow name_no front in
+    let first = tested_read var_name var_name_at (IsAbove key IsBelow front) (is_above key name_below front) (λ at. Order at) holds misses var_name_read in
+    and_read (restriction (IsAbove key IsBelow front) (λ at. Order at) var_name) term (filter_at (is_above key name_below front) (λ at. Order at) var_name_at) term_at first term_read
+
+pub bundle_read : IsRead bundle bundle_at
+unfolding bundle_at
+bundle_read =
+    listed_read (within 0 256 (number w16)) (filter_at (is_within 0 256) (λ at. Range at) (number_at w16)) equation equation_behind equation_at
+    (within_read 0 256 (number w16) (number_at w16) (number_read w16 wide16))
+    (record { read = equation_read; spelling = λ front x. refl })

@@ -1,0 +1,97 @@
+-- Items that a loop writes one after another, and lists of them that were written.
+use Rattle.std.proofs.Common.{◌≡◌, ℕ, zero, suc, ◌+◌, ◌<◌, ◌≤◌, List, [], ◌∷◌, ◌++◌, length, get_or, take, sym, ap, subst, ◌∙◌, append_assoc, arith, ◌%◌, Result, Ok, Err}
+use Rattle.std.specs.Prelude.{OnOk}
+use Rattle.std.specs.Int.{w8, to_be_bytes}
+use Rattle.std.specs.List.{flat_map}
+use Rattle.std.proofs.lemmas.List.{append-nil, take_more, take_all, flat_map_more}
+use Rattle.tree_node.specs.declared.names.VarName.{VarName}
+use Rattle.tree_node.specs.declared.node.Feature.{Feature}
+use Rattle.tree_node.specs.Each.{Each}
+use Rattle.tree_node.specs.Order.{IsBelow}
+use Rattle.tree_node.specs.Store.{Equation}
+use Rattle.site_message.specs.Wire.{FitsFields, FitsVars, FitsBundle}
+use Rattle.site_message.proofs.RiseLemmas.{fields_rise, names_rise}
+use Rattle.wire_form.specs.Field.{Field, EachBehind, ◌then◌}
+use Rattle.wire_form.specs.Writing.{Writes}
+use Rattle.wire_form.specs.Format.{var_name, record_field, field_behind, record_fields, variables, formals, equation, equation_behind, bundle, IsFeatureBelow}
+use Rattle.wire_form.proofs.FitsLaws.{behind_of, fields_ordered, equations_ordered}
+
+pub each_get : {X : Type 0} (P : X → Type 0) (xs : List X) (i : ℕ) (d : X) → i < length xs → Each P xs → P (get_or xs i d)
+each_get P [] i d lt h = absurd (omega (arith, lt))
+each_get P (x ∷ xs) zero d lt h = h.0
+each_get P (x ∷ xs) (suc i) d lt h = each_get P xs i d (omega (arith, lt)) h.1
+
+each_push : {X : Type 0} (P : X → Type 0) (xs : List X) (x : X) → Each P xs → P x → Each P (xs ++ x ∷ [])
+each_push P [] x h p = (p, tt)
+each_push P (y ∷ ys) x h p = (h.0, each_push P ys x h.1 p)
+
+-- the first items are written behind what stood there
+pub record IsWriting {X : Type 0} (F : Field X) (start : List ℕ) (xs : List X) (i : ℕ) (out : List ℕ) : Type 0 where
+  pub each : Each (λ x. F.Has x) (take i xs)
+  pub written : out ≡ start ++ flat_map F.spelling (take i xs)
+
+pub writing_none : {X : Type 0} (F : Field X) (start : List ℕ) (xs : List X) → IsWriting F start xs 0 start
+writing_none F start xs = record { each = tt; written = sym (append-nil start) }
+
+pub writing_more : {X : Type 0} (F : Field X) (start : List ℕ) (xs : List X) (i : ℕ) (out new : List ℕ) (x : X) → i < length xs → x ≡ get_or xs i x
+    → IsWriting F start xs i out → F.Has x × (new ≡ out ++ F.spelling x) → IsWriting F start xs (i + 1) new
+writing_more F start xs i out new x lt at w one =
+    let more : take (i + 1) xs ≡ take i xs ++ x ∷ [] = take_more xs i x lt ∙ ap (λ (y : _). take i xs ++ y ∷ []) (sym at) in
+    record {
+      each = subst (λ (ys : List _). Each (λ x. F.Has x) ys) (sym more) (each_push (λ x. F.Has x) (take i xs) x w.each one.0);
+      written = one.1 ∙ ap (λ (z : List ℕ). z ++ F.spelling x) w.written ∙ flat_map_more F.spelling start (take i xs) x
+          ∙ ap (λ (ys : List _). start ++ flat_map F.spelling ys) (sym more);
+    }
+
+pub writing_all : {X : Type 0} (F : Field X) (start : List ℕ) (xs : List X) (i : ℕ) (out : List ℕ) → length xs ≤ i → IsWriting F start xs i out
+    → Each (λ x. F.Has x) xs × (out ≡ start ++ flat_map F.spelling xs)
+writing_all F start xs i out le w =
+    let all = take_all i xs le in
+    (subst (λ (ys : List _). Each (λ x. F.Has x) ys) all w.each, w.written ∙ ap (λ (ys : List _). start ++ flat_map F.spelling ys) all)
+
+-- ---- lists behind a count
+
+pub fields_have : (fs : List (Feature × VarName)) → FitsFields fs → Each (λ x. record_field.Has x) fs → record_fields.Has fs
+fields_have fs fits each = (
+  (omega (arith, fits.1), (fits.0, fits.1)),
+  behind_of (λ x. record_field.Has x) (λ (x : Feature × VarName). x.0) IsFeatureBelow field_behind fields_ordered fs each ((fields_rise fs).0 fits.3),
+)
+
+each_var : (front xs : List VarName) → Each (λ x. var_name.Has x) xs → EachBehind (λ f. var_name) front xs
+each_var front [] h = tt
+each_var front (x ∷ xs) h = (h.0, each_var (front ++ x ∷ []) xs h.1)
+
+pub variables_have : (xs : List VarName) → FitsVars xs → Each (λ x. var_name.Has x) xs → variables.Has xs
+variables_have xs fits each = (omega (arith, fits.0), each_var [] xs each)
+
+pub bundle_has : (es : List Equation) → FitsBundle es → Each (λ e. equation.Has e) es → bundle.Has es
+bundle_has es fits each = (
+  (omega (arith, fits.0), (omega arith, fits.0)),
+  behind_of (λ e. equation.Has e) (λ (e : Equation). e.0) IsBelow equation_behind equations_ordered es each ((names_rise es).0 fits.2),
+)
+
+-- ---- one part after another
+
+-- a tag, and what is written behind it
+pub writes_tag : {Y U E : Type 0} (tag : ℕ) (G : Field Y) (y : Y) (old mid new : List ℕ) (r : Result U E) → mid ≡ old ++ tag ∷ [] → Writes G y mid new r
+    → OnOk r (G.Has y × (new ≡ old ++ tag ∷ G.spelling y))
+writes_tag tag G y old mid new (Ok u) put h = (h.0, h.1 ∙ ap (λ (z : List ℕ). z ++ G.spelling y) put ∙ append_assoc old (tag ∷ []) (G.spelling y))
+writes_tag tag G y old mid new (Err e) put h = tt
+
+pub writes_then : {X Y U E : Type 0} (F : Field X) (G : Field Y) (x : X) (y : Y) (old mid new : List ℕ) (r : Result U E) → F.Has x × (mid ≡ old ++ F.spelling x)
+    → Writes G y mid new r → Writes (F then G) (x, y) old new r
+writes_then F G x y old mid new (Ok u) one h =
+    ((one.0, h.0), h.1 ∙ ap (λ (z : List ℕ). z ++ G.spelling y) one.1 ∙ append_assoc old (F.spelling x) (G.spelling y))
+writes_then F G x y old mid new (Err e) one h = tt
+
+-- ---- numbers of one and two bytes
+
+pub byte_is : (n : ℕ) → n < 256 → n ∷ [] ≡ to_be_bytes w8 n
+byte_is n small = let whole : n ≡ n % 256 = omega (arith, small) in ap (λ (k : ℕ). k ∷ []) whole
+
+pub put_list : {X : Type 0} (F : Field X) (old mid new count : List ℕ) (xs : List X) → mid ≡ old ++ count → new ≡ mid ++ flat_map F.spelling xs
+    → new ≡ old ++ (count ++ flat_map F.spelling xs)
+put_list F old mid new count xs put more = more ∙ ap (λ (z : List ℕ). z ++ flat_map F.spelling xs) put ∙ append_assoc old count (flat_map F.spelling xs)
+
+pub formals_written : (n : ℕ) (old new : List ℕ) → n ≤ 64 → new ≡ old ++ n ∷ [] → formals.Has n × (new ≡ old ++ formals.spelling n)
+formals_written n old new most put = ((omega (arith, most), (omega arith, most)), put ∙ ap (λ (z : List ℕ). old ++ z) (byte_is n (omega (arith, most))))

@@ -1,0 +1,17 @@
+use Rattle.wire_form.proofs.RowsRead.{cut, other_site, more, other_text, exchanged}
+use Rattle.wire_form.proofs.laws.worked_faults.Goals as goal
+
+pub returns-clause-cut : goal.returns-clause-cut
+returns-clause-cut c = cut
+
+pub returns-clause-site : goal.returns-clause-site
+returns-clause-site c = other_site
+
+pub returns-clause-more : goal.returns-clause-more
+returns-clause-more c = more
+
+pub returns-clause-text : goal.returns-clause-text
+returns-clause-text c = other_text
+
+pub returns-clause-order : goal.returns-clause-order
+returns-clause-order c = exchanged

@@ -1,0 +1,235 @@
+-- Reading from left to right, as functions on lists: what the decoder's parts give, for the proof that they give what the
+-- format says.
+use Rattle.std.specs.Prelude.{◌≡◌, ℕ, zero, suc, ◌+◌, ◌⊎◌, ◌&&◌, List, [], ◌∷◌, ◌++◌, length, take, drop, ℤ, Bool, true, false, Result, Ok, Err, nat_lt, nat_le, ◌==◌, if◌then◌else◌}
+use Rattle.std.specs.Int.{Width, w16, w32, w64, byte_len, from_be_bytes, cast_signed}
+use Rattle.std.specs.Str.{is_utf8}
+use Rattle.std.specs.declared.cmp.Ordering.{Ordering}
+use Rattle.std.specs.declared.cmp.Ordering.TheVariants.{Less, Equal, Greater}
+use Rattle.tree_node.specs.declared.names.VarName.{VarName}
+use Rattle.tree_node.specs.declared.names.CellName.{CellName}
+use Rattle.tree_node.specs.declared.names.ProcName.{ProcName}
+use Rattle.tree_node.specs.declared.names.ThreadName.{ThreadName}
+use Rattle.tree_node.specs.declared.names.CodeId.{CodeId}
+use Rattle.tree_node.specs.declared.node.Feature.{Feature}
+use Rattle.tree_node.specs.declared.node.Feature.TheVariants as features
+use Rattle.tree_node.specs.declared.node.Node.TheVariants as nodes
+use Rattle.tree_node.specs.declared.node.Term.{Term}
+use Rattle.tree_node.specs.declared.node.Term.TheVariants as terms
+use Rattle.tree_node.specs.Node.{feature_cmp}
+use Rattle.tree_node.specs.Store.{Equation}
+use Rattle.site_message.specs.declared.message.Msg.{Msg}
+use Rattle.site_message.specs.declared.message.Msg.TheVariants as messages
+use Rattle.wire_form.specs.declared.fault.WireFault.{WireFault}
+use Rattle.wire_form.specs.declared.fault.WireFault.TheVariants.{Short, Kind, Range, Order, Utf8, Rest, Memory}
+
+-- a place, and the bytes from it to the end
+abbrev pub Left : Type 0
+Left = ℕ × List ℕ
+
+-- a value and what is left behind it, or a fault
+abbrev pub Read : Type 0 → Type 0
+Read X = Result (X × Left) WireFault
+
+infixl 10 ◌>>=◌
+abbrev pub ◌>>=◌ : {A B : Type 0} → Result A WireFault → (A → Result B WireFault) → Result B WireFault
+(Ok x) >>= f = f x
+(Err e) >>= f = Err e
+
+-- a part of the decoder gives what reading gives, unless memory runs out
+abbrev pub Gives : {X : Type 0} → (Left → Read X) → Left → Left → Result X WireFault → Type 0
+Gives read old new (Ok x) = read old ≡ Ok (x, new)
+Gives read old new (Err f) = (f ≡ Memory) ⊎ (read old ≡ Err f)
+
+abbrev pub bytes_at : ℕ → Left → Read (List ℕ)
+bytes_at n l =
+    if nat_lt (length l.1) n then Err (Short (l.0 + length l.1)) else Ok (take n l.1, (l.0 + n, drop n l.1))
+
+abbrev pub byte_at : Left → Read ℕ
+byte_at (at, []) = Err (Short at)
+byte_at (at, b ∷ bytes) = Ok (b, (at + 1, bytes))
+
+-- one after another
+infixr 20 ◌and◌
+abbrev pub ◌and◌ : {X Y : Type 0} → (Left → Read X) → (Left → Read Y) → Left → Read (X × Y)
+(R and S) l = do
+  a ← R l
+  b ← S a.1
+  Ok ((a.0, b.0), b.1)
+
+-- a value made of what is read
+abbrev pub map_at : {X Y : Type 0} → (X → Y) → (Left → Read X) → Left → Read Y
+map_at f R l = do
+  r ← R l
+  Ok (f r.0, r.1)
+
+-- a value that passes a test, or else this fault at its place
+abbrev pub filter_at : {X : Type 0} → (X → Bool) → (ℕ → WireFault) → (Left → Read X) → Left → Read X
+filter_at test fault R l = do
+  r ← R l
+  if test r.0 then Ok r else Err (fault l.0)
+
+unfoldable pub number_at : Width → Left → Read ℕ
+number_at w = map_at (from_be_bytes w) (bytes_at (byte_len w))
+
+unfoldable pub integer_at : Left → Read ℤ
+integer_at = map_at (λ bs. cast_signed w64 (from_be_bytes w64 bs)) (bytes_at (byte_len w64))
+
+-- a byte of length and that many bytes
+unfoldable pub short_bytes_at : Left → Read (List ℕ)
+short_bytes_at l = do
+  n ← byte_at l
+  bytes_at n.0 n.1
+
+abbrev pub is_within : ℕ → ℕ → ℕ → Bool
+is_within least most n = nat_le least n && nat_le n most
+
+unfoldable pub byte_within_at : ℕ → ℕ → Left → Read ℕ
+byte_within_at least most = filter_at (is_within least most) Range byte_at
+
+unfoldable pub text_at : Left → Read (List ℕ)
+text_at = filter_at is_utf8 (λ at. Utf8 (at + 1)) short_bytes_at
+
+unfoldable pub name_at : Left → Read (ℕ × ℕ)
+name_at = byte_within_at 1 64 and number_at w64
+
+unfoldable pub var_name_at : Left → Read VarName
+var_name_at = map_at (λ p. record { site = p.0; num = p.1 }) name_at
+
+unfoldable pub cell_name_at : Left → Read CellName
+cell_name_at = map_at (λ p. record { site = p.0; num = p.1 }) name_at
+
+unfoldable pub proc_name_at : Left → Read ProcName
+proc_name_at = map_at (λ p. record { site = p.0; num = p.1 }) name_at
+
+unfoldable pub thread_name_at : Left → Read ThreadName
+thread_name_at = map_at (λ p. record { site = p.0; num = p.1 }) name_at
+
+unfoldable pub code_at : Left → Read CodeId
+code_at = map_at (λ n. record { 0 = n }) (number_at w32)
+
+-- what follows the tag of a feature
+unfoldable pub key_at : ℕ → ℕ → Left → Read Feature
+key_at start tag l =
+    if tag == 0 then map_at features.Int integer_at l
+    else if tag == 1 then map_at features.Atom text_at l
+    else Err (Kind start)
+
+unfoldable pub feature_at : Left → Read Feature
+feature_at l = do
+  tag ← byte_at l
+  key_at l.0 tag.0 tag.1
+
+-- a count of items that are read one after another, each behind those before it
+unfoldable pub items_at : {X : Type 0} → (List X → Left → Read X) → ℕ → List X → Left → Read (List X)
+items_at item zero front l = Ok (front, l)
+items_at item (suc n) front l = do
+  r ← item front l
+  items_at item n (front ++ r.0 ∷ []) r.1
+
+abbrev pub list_at : {X : Type 0} → (Left → Read ℕ) → (List X → Left → Read X) → Left → Read (List X)
+list_at count item l = do
+  n ← count l
+  items_at item n.0 [] n.1
+
+abbrev pub is_less : Ordering → Bool
+is_less Less = true
+is_less Equal = false
+is_less Greater = false
+
+-- a key above that of the last item
+abbrev pub is_above : {X A : Type 0} → (X → A) → (A → A → Bool) → List X → A → Bool
+is_above key below [] a = true
+is_above key below (x ∷ []) a = below (key x) a
+is_above key below (x ∷ y ∷ xs) a = is_above key below (y ∷ xs) a
+
+abbrev pub feature_below : Feature → Feature → Bool
+feature_below a b = is_less (feature_cmp a b)
+
+abbrev pub name_below : VarName → VarName → Bool
+name_below a b = if a.site == b.site then nat_lt a.num b.num else nat_lt a.site b.site
+
+unfoldable pub field_at : List (Feature × VarName) → Left → Read (Feature × VarName)
+field_at front = filter_at (is_above (λ (x : Feature × VarName). x.0) feature_below front) Order feature_at and var_name_at
+
+unfoldable pub fields_at : Left → Read (List (Feature × VarName))
+fields_at = list_at (byte_within_at 1 64) field_at
+
+unfoldable pub variables_at : Left → Read (List VarName)
+variables_at = list_at (number_at w16) (λ front. var_name_at)
+
+unfoldable pub record_at : Left → Read Term
+record_at = map_at (λ p. terms.Node (nodes.Rec p.0 p.1)) (text_at and fields_at)
+
+unfoldable pub procedure_at : Left → Read Term
+procedure_at = map_at (λ p. terms.Node (nodes.Proc p.0 p.1.0 p.1.1.0 p.1.1.1)) (proc_name_at and code_at and byte_within_at 0 64 and variables_at)
+
+-- what follows the tag of a term
+unfoldable pub node_at : ℕ → ℕ → Left → Read Term
+node_at start tag l =
+    if tag == 0 then map_at terms.Var var_name_at l
+    else if tag == 1 then map_at (λ z. terms.Node (nodes.Int z)) integer_at l
+    else if tag == 2 then map_at (λ t. terms.Node (nodes.Atom t)) text_at l
+    else if tag == 3 then record_at l
+    else if tag == 4 then procedure_at l
+    else if tag == 5 then map_at (λ c. terms.Node (nodes.Cell c)) cell_name_at l
+    else Err (Kind start)
+
+unfoldable pub term_at : Left → Read Term
+term_at l = do
+  tag ← byte_at l
+  node_at l.0 tag.0 tag.1
+
+unfoldable pub equation_at : List Equation → Left → Read Equation
+equation_at front = filter_at (is_above (λ (e : Equation). e.0) name_below front) Order var_name_at and term_at
+
+unfoldable pub bundle_at : Left → Read (List Equation)
+bundle_at = list_at (filter_at (is_within 0 256) Range (number_at w16)) equation_at
+
+unfoldable pub spawn_at : Left → Read Msg
+spawn_at = map_at (λ p. messages.Spawn p.0 p.1.0 p.1.1.0 p.1.1.1) (thread_name_at and code_at and variables_at and bundle_at)
+
+unfoldable pub register_at : Left → Read Msg
+register_at = map_at (λ p. messages.Register p.0 p.1) (var_name_at and byte_within_at 1 64)
+
+unfoldable pub bind_request_at : Left → Read Msg
+bind_request_at = map_at (λ p. messages.BindReq p.0 p.1.0 p.1.1.0 p.1.1.1) (var_name_at and thread_name_at and term_at and bundle_at)
+
+unfoldable pub binding_at : Left → Read Msg
+binding_at = map_at (λ p. messages.Binding p.0 p.1.0 p.1.1) (var_name_at and term_at and bundle_at)
+
+unfoldable pub get_at : Left → Read Msg
+get_at = map_at (λ p. messages.Get p.0 p.1) (cell_name_at and byte_within_at 1 64)
+
+unfoldable pub forward_at : Left → Read Msg
+forward_at = map_at (λ p. messages.Forward p.0 p.1) (cell_name_at and byte_within_at 1 64)
+
+unfoldable pub put_at : Left → Read Msg
+put_at = map_at (λ p. messages.Put p.0 p.1.0 p.1.1) (cell_name_at and var_name_at and bundle_at)
+
+-- what follows the kind of a message
+unfoldable pub body_at : ℕ → ℕ → Left → Read Msg
+body_at start kind l =
+    if kind == 1 then spawn_at l
+    else if kind == 2 then register_at l
+    else if kind == 3 then bind_request_at l
+    else if kind == 4 then binding_at l
+    else if kind == 5 then get_at l
+    else if kind == 6 then forward_at l
+    else if kind == 7 then put_at l
+    else Err (Kind start)
+
+unfoldable pub message_at : Left → Read Msg
+message_at l = do
+  kind ← byte_at l
+  body_at l.0 kind.0 kind.1
+
+-- all of the bytes
+unfoldable pub whole_of : List ℕ → Result Msg WireFault
+whole_of bytes = do
+  m ← message_at (0, bytes)
+  if length m.1.1 == 0 then Ok m.0 else Err (Rest m.1.0)
+
+-- the decoder answers what reading all of the bytes gives, unless memory runs out
+abbrev pub GivesWhole : List ℕ → Result Msg WireFault → Type 0
+GivesWhole bytes (Ok m) = whole_of bytes ≡ Ok m
+GivesWhole bytes (Err f) = (f ≡ Memory) ⊎ (whole_of bytes ≡ Err f)

@@ -1,0 +1,112 @@
+-- Worked messages, byte by byte, and worked faults.
+use Rattle.std.specs.Prelude.{◌≡◌, ℕ, List, [], ◌∷◌, ◌++◌, pos, negsuc, codes}
+use Rattle.tree_node.specs.declared.names.VarName.{VarName}
+use Rattle.tree_node.specs.declared.names.CellName.{CellName}
+use Rattle.tree_node.specs.declared.names.ProcName.{ProcName}
+use Rattle.tree_node.specs.declared.names.ThreadName.{ThreadName}
+use Rattle.tree_node.specs.declared.node.Feature.TheVariants as features
+use Rattle.tree_node.specs.declared.node.Node.TheVariants as nodes
+use Rattle.tree_node.specs.declared.node.Term.TheVariants as terms
+use Rattle.site_message.specs.declared.message.Msg.TheVariants as messages
+use Rattle.wire_form.specs.declared.fault.WireFault.TheVariants.{Short, Kind, Range, Order, Utf8, Rest}
+use Rattle.wire_form.specs.Format.{spelling, IsFirstFault}
+
+abbrev pub var : ℕ → ℕ → VarName
+var s n = record { site = s; num = n }
+
+abbrev pub cell : ℕ → ℕ → CellName
+cell s n = record { site = s; num = n }
+
+abbrev pub proc : ℕ → ℕ → ProcName
+proc s n = record { site = s; num = n }
+
+abbrev pub thread : ℕ → ℕ → ThreadName
+thread s n = record { site = s; num = n }
+
+-- a site below 256 and a number below 256, as nine bytes
+abbrev pub name_bytes : ℕ → ℕ → List ℕ
+name_bytes s n = s ∷ 0 ∷ 0 ∷ 0 ∷ 0 ∷ 0 ∷ 0 ∷ 0 ∷ n ∷ []
+
+-- variable 2 of site 1, asked for by site 3
+abbrev pub register_bytes : List ℕ
+register_bytes = 2 ∷ name_bytes 1 2 ++ 3 ∷ []
+
+abbrev pub RegisterIsSpelled : Type 0
+RegisterIsSpelled = spelling (messages.Register (var 1 2) 3) ≡ register_bytes
+
+-- variable 2 of site 1 is 5
+abbrev pub IntegerIsSpelled : Type 0
+IntegerIsSpelled =
+    spelling (messages.Binding (var 1 2) (terms.Node (nodes.Int (pos 5))) [])
+    ≡ 4 ∷ name_bytes 1 2 ++ 1 ∷ 0 ∷ 0 ∷ 0 ∷ 0 ∷ 0 ∷ 0 ∷ 0 ∷ 5 ∷ 0 ∷ 0 ∷ []
+
+-- and -2, in two's complement
+abbrev pub NegativeIsSpelled : Type 0
+NegativeIsSpelled =
+    spelling (messages.Binding (var 1 2) (terms.Node (nodes.Int (negsuc 1))) [])
+    ≡ 4 ∷ name_bytes 1 2 ++ 1 ∷ 255 ∷ 255 ∷ 255 ∷ 255 ∷ 255 ∷ 255 ∷ 255 ∷ 254 ∷ 0 ∷ 0 ∷ []
+
+-- thread 1 of site 3 asks that variable 2 of site 1 be the atom of this one byte
+abbrev pub atom_bytes : ℕ → List ℕ
+atom_bytes byte = 3 ∷ name_bytes 1 2 ++ name_bytes 3 1 ++ 2 ∷ 1 ∷ byte ∷ 0 ∷ 0 ∷ []
+
+abbrev pub AtomIsSpelled : Type 0
+AtomIsSpelled = spelling (messages.BindReq (var 1 2) (thread 3 1) (terms.Node (nodes.Atom (codes "a"))) []) ≡ atom_bytes 97
+
+-- variable 0 of site 2 is the record f with the fields 1 and a
+abbrev pub first_field : List ℕ
+first_field = 0 ∷ 0 ∷ 0 ∷ 0 ∷ 0 ∷ 0 ∷ 0 ∷ 0 ∷ 1 ∷ name_bytes 1 4
+
+abbrev pub second_field : List ℕ
+second_field = 1 ∷ 1 ∷ 97 ∷ name_bytes 1 5
+
+abbrev pub record_bytes : List ℕ → List ℕ → List ℕ
+record_bytes one other = 4 ∷ name_bytes 2 0 ++ 3 ∷ 1 ∷ 102 ∷ 2 ∷ one ++ other ++ 0 ∷ 0 ∷ []
+
+abbrev pub RecordIsSpelled : Type 0
+RecordIsSpelled =
+    spelling (messages.Binding (var 2 0) (terms.Node (nodes.Rec (codes "f") ((features.Int (pos 1), var 1 4) ∷ (features.Atom (codes "a"), var 1 5) ∷ []))) [])
+    ≡ record_bytes first_field second_field
+
+-- a thread of code 258 with two variables, and with it that variable 3 of site 1 is variable 1 of site 1
+abbrev pub SpawnIsSpelled : Type 0
+SpawnIsSpelled =
+    spelling (messages.Spawn (thread 1 0) (record { 0 = 258 }) (var 1 7 ∷ var 2 8 ∷ []) ((var 1 3, terms.Var (var 1 1)) ∷ []))
+    ≡ 1 ∷ name_bytes 1 0 ++ 0 ∷ 0 ∷ 1 ∷ 2 ∷ 0 ∷ 2 ∷ name_bytes 1 7 ++ name_bytes 2 8 ++ 0 ∷ 1 ∷ name_bytes 1 3 ++ 0 ∷ name_bytes 1 1
+
+-- a procedure of code 9 with one formal and one variable
+abbrev pub ProcedureIsSpelled : Type 0
+ProcedureIsSpelled =
+    spelling (messages.Binding (var 1 2) (terms.Node (nodes.Proc (proc 1 6) (record { 0 = 9 }) 1 (var 1 7 ∷ []))) [])
+    ≡ 4 ∷ name_bytes 1 2 ++ 4 ∷ name_bytes 1 6 ++ 0 ∷ 0 ∷ 0 ∷ 9 ∷ 1 ∷ 0 ∷ 1 ∷ name_bytes 1 7 ++ 0 ∷ 0 ∷ []
+
+abbrev pub CellsAreSpelled : Type 0
+CellsAreSpelled =
+    (spelling (messages.Get (cell 64 1) 2) ≡ 5 ∷ name_bytes 64 1 ++ 2 ∷ [])
+    × (spelling (messages.Forward (cell 64 1) 2) ≡ 6 ∷ name_bytes 64 1 ++ 2 ∷ [])
+    × (spelling (messages.Put (cell 64 1) (var 1 2) []) ≡ 7 ∷ name_bytes 64 1 ++ name_bytes 1 2 ++ 0 ∷ 0 ∷ [])
+
+-- no byte, and a kind that there is not
+abbrev pub NothingIsShort : Type 0
+NothingIsShort = IsFirstFault [] (Short 0)
+
+abbrev pub OtherKindIsNone : Type 0
+OtherKindIsNone = IsFirstFault (8 ∷ []) (Kind 0)
+
+-- the first message without its last byte, with another site, and with one byte more
+abbrev pub CutIsShort : Type 0
+CutIsShort = IsFirstFault (2 ∷ name_bytes 1 2) (Short 10)
+
+abbrev pub OtherSiteIsOut : Type 0
+OtherSiteIsOut = IsFirstFault (2 ∷ name_bytes 1 2 ++ 65 ∷ []) (Range 10)
+
+abbrev pub MoreIsRest : Type 0
+MoreIsRest = IsFirstFault (register_bytes ++ 0 ∷ []) (Rest 11)
+
+-- a text of a byte that no character begins with
+abbrev pub OtherTextIsNone : Type 0
+OtherTextIsNone = IsFirstFault (atom_bytes 255) (Utf8 21)
+
+-- the record with its fields exchanged
+abbrev pub ExchangedIsOutOfOrder : Type 0
+ExchangedIsOutOfOrder = IsFirstFault (record_bytes second_field first_field) (Order 26)

@@ -1,0 +1,6 @@
+-- What a part of the encoder does: it puts the spelling of a value behind the bytes before.
+use Rattle.std.specs.Prelude.{◌≡◌, ℕ, List, ◌++◌, Result, OnOk}
+use Rattle.wire_form.specs.Field.{Field}
+
+abbrev pub Writes : {X E U : Type 0} → Field X → X → List ℕ → List ℕ → Result U E → Type 0
+Writes F x old new result = OnOk result (F.Has x × (new ≡ old ++ F.spelling x))

@@ -1,0 +1,100 @@
+//! Names, codes and texts, read.
+
+ghost use Rattle.std.specs.Prelude.{◌≡◌};
+ghost use Rattle.std.specs.Str.{is_utf8};
+ghost use Rattle.wire_form.specs.Reading.{Gives, name_at, var_name_at, cell_name_at, proc_name_at, thread_name_at, code_at, text_at, feature_at};
+
+use crate::cursor::Cursor;
+use crate::fault::WireFault;
+use std::alloc::Global;
+use tree_node::{CellName, CodeId, Feature, ProcName, Shared, Text, ThreadName, VarName};
+
+// A site and a number.
+#[tactic(auto, unfolding(crate::specs::Reading::name_at))]
+fn name(cursor: &mut Cursor) -> Result<(u32, u64), WireFault>
+    ensures { Gives name_at cursor.old cursor.new result }
+{
+    let site = cursor.byte_within(1, 64)?;
+    let num = cursor.number_64()?;
+    Ok((site as u32, num))
+}
+
+/// A variable's name.
+#[tactic(auto, unfolding(crate::specs::Reading::var_name_at))]
+pub(crate) fn var_name(cursor: &mut Cursor) -> Result<VarName, WireFault>
+    ensures { Gives var_name_at cursor.old cursor.new result }
+{
+    let (site, num) = name(cursor)?;
+    Ok(VarName { site, num })
+}
+
+/// A cell's name.
+#[tactic(auto, unfolding(crate::specs::Reading::cell_name_at))]
+pub(crate) fn cell_name(cursor: &mut Cursor) -> Result<CellName, WireFault>
+    ensures { Gives cell_name_at cursor.old cursor.new result }
+{
+    let (site, num) = name(cursor)?;
+    Ok(CellName { site, num })
+}
+
+/// A procedure's name.
+#[tactic(auto, unfolding(crate::specs::Reading::proc_name_at))]
+pub(crate) fn proc_name(cursor: &mut Cursor) -> Result<ProcName, WireFault>
+    ensures { Gives proc_name_at cursor.old cursor.new result }
+{
+    let (site, num) = name(cursor)?;
+    Ok(ProcName { site, num })
+}
+
+/// A thread's name.
+#[tactic(auto, unfolding(crate::specs::Reading::thread_name_at))]
+pub(crate) fn thread_name(cursor: &mut Cursor) -> Result<ThreadName, WireFault>
+    ensures { Gives thread_name_at cursor.old cursor.new result }
+{
+    let (site, num) = name(cursor)?;
+    Ok(ThreadName { site, num })
+}
+
+/// The number of a statement.
+#[tactic(auto, unfolding(crate::specs::Reading::code_at))]
+pub(crate) fn code(cursor: &mut Cursor) -> Result<CodeId, WireFault>
+    ensures { Gives code_at cursor.old cursor.new result }
+{
+    let number = cursor.number_32()?;
+    Ok(CodeId(number))
+}
+
+// Whether bytes are UTF-8.
+#[tactic(auto, using(crate::proofs::TextLaws::same_test))]
+fn is_text(bytes: &[u8]) -> bool
+    ensures { result ≡ is_utf8 bytes.now }
+{
+    str::from_utf8(bytes).is_ok()
+}
+
+/// A text.
+#[tactic(auto, unfolding(crate::specs::Reading::text_at, crate::specs::Reading::short_bytes_at))]
+pub(crate) fn text(alloc: Global, cursor: &mut Cursor) -> Result<Text, WireFault>
+    ensures { Gives text_at cursor.old cursor.new result }
+{
+    let len = cursor.byte()?;
+    let at = cursor.place();
+    let bytes = cursor.bytes(len as usize)?;
+    if !is_text(bytes) {
+        return Err(WireFault::Utf8(at));
+    }
+    Ok(Shared::from_vec(Vec::from_slice(alloc, bytes)?)?)
+}
+
+/// A feature.
+#[tactic(auto, unfolding(crate::specs::Reading::feature_at, crate::specs::Reading::key_at))]
+pub(crate) fn feature(alloc: Global, cursor: &mut Cursor) -> Result<Feature, WireFault>
+    ensures { Gives feature_at cursor.old cursor.new result }
+{
+    let at = cursor.place();
+    match cursor.byte()? {
+        0 => Ok(Feature::Int(cursor.integer()?)),
+        1 => Ok(Feature::Atom(text(alloc, cursor)?)),
+        _ => Err(WireFault::Kind(at)),
+    }
+}

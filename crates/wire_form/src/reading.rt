@@ -1,0 +1,318 @@
+//! Bytes as messages.
+
+ghost use Rattle.std.specs.Prelude.{◌≡◌, ◌⊎◌, IfOk, IfErr, Ok, Err};
+ghost use Rattle.site_message.specs.Wire.{FitsWire};
+ghost use Rattle.site_message.specs.declared.message.Msg.{Msg as AMessage};
+ghost use Rattle.wire_form.specs.declared.fault.WireFault.TheVariants.{Memory};
+ghost use Rattle.wire_form.specs.declared.fault.WireFault.{WireFault as AFault};
+ghost use Rattle.wire_form.specs.Format.{Spells, IsFirstFault};
+ghost use Rattle.tree_node.specs.Store.{Equation};
+ghost use Rattle.tree_node.specs.declared.names.VarName.{VarName as AVarName};
+ghost use Rattle.tree_node.specs.declared.node.Feature.{Feature as AFeature};
+ghost use Rattle.wire_form.specs.Reading.{Gives, is_above, feature_below, name_below, field_at, fields_at, variables_at, record_at, procedure_at, node_at, term_at, equation_at, bundle_at, spawn_at, register_at, bind_request_at, binding_at, get_at, forward_at, put_at, body_at, message_at, whole_of, GivesWhole};
+
+use crate::cursor::Cursor;
+use crate::fault::WireFault;
+use crate::names::{cell_name, code, feature, proc_name, text, thread_name, var_name};
+use site_message::{Bundle, Msg};
+use std::alloc::Global;
+use std::cmp::Ordering;
+use tree_node::{Feature, Fields, Node, Shared, Term, VarName, Vars, compare_features, is_below};
+
+// Whether a feature is above that of the last field.
+#[tactic(auto, using(crate::proofs::OrderLaws::above_some, crate::proofs::OrderLaws::above_none))]
+fn rises(front: &[(Feature, VarName)], feature: &Feature) -> bool
+    ensures { result ≡ is_above (λ (x : AFeature × AVarName). x.0) feature_below front.now feature.now }
+{
+    match front.last() {
+        Some(last) => compare_features(&last.0, feature) == Ordering::Less,
+        None => true,
+    }
+}
+
+// A field of a record, behind those before it.
+#[tactic(auto, unfolding(crate::specs::Reading::field_at))]
+fn field(
+    alloc: Global,
+    cursor: &mut Cursor,
+    front: &[(Feature, VarName)],
+) -> Result<(Feature, VarName), WireFault>
+    ensures { Gives (field_at front.now) cursor.old cursor.new result }
+{
+    let at = cursor.place();
+    let feature = feature(alloc, cursor)?;
+    if !rises(front, &feature) {
+        return Err(WireFault::Order(at));
+    }
+    let var = var_name(cursor)?;
+    Ok((feature, var))
+}
+
+// The fields of a record.
+#[tactic(auto, unfolding(crate::specs::Reading::fields_at))]
+fn fields(alloc: Global, cursor: &mut Cursor) -> Result<Fields, WireFault>
+    ensures { Gives fields_at cursor.old cursor.new result }
+{
+    let count = cursor.byte_within(1, 64)?;
+    let mut items = Vec::with_capacity(alloc, cursor.len().min(count as usize))?;
+    for _ in 0..count {
+        let next = field(alloc, cursor, &items)?;
+        items.push(next)?;
+    }
+    Ok(Shared::from_vec(items)?)
+}
+
+// A list of variables.
+#[tactic(auto, unfolding(crate::specs::Reading::variables_at))]
+fn variables(alloc: Global, cursor: &mut Cursor) -> Result<Vars, WireFault>
+    ensures { Gives variables_at cursor.old cursor.new result }
+{
+    let count = cursor.number_16()?;
+    let mut items = Vec::with_capacity(alloc, cursor.len().min(count as usize))?;
+    for _ in 0..count {
+        let next = var_name(cursor)?;
+        items.push(next)?;
+    }
+    Ok(Shared::from_vec(items)?)
+}
+
+// A record.
+#[tactic(auto, unfolding(crate::specs::Reading::record_at))]
+fn tree(alloc: Global, cursor: &mut Cursor) -> Result<Term, WireFault>
+    ensures { Gives record_at cursor.old cursor.new result }
+{
+    let label = text(alloc, cursor)?;
+    let fields = fields(alloc, cursor)?;
+    Ok(Term::Node(Node::Rec(label, fields)))
+}
+
+// A procedure.
+#[tactic(auto, unfolding(crate::specs::Reading::procedure_at))]
+fn procedure(alloc: Global, cursor: &mut Cursor) -> Result<Term, WireFault>
+    ensures { Gives procedure_at cursor.old cursor.new result }
+{
+    let name = proc_name(cursor)?;
+    let code = code(cursor)?;
+    let formals = cursor.byte_within(0, 64)?;
+    let vars = variables(alloc, cursor)?;
+    Ok(Term::Node(Node::Proc(name, code, formals, vars)))
+}
+
+// What follows the tag of a term, which stands at the place.
+#[tactic(auto, unfolding(crate::specs::Reading::node_at))]
+fn node(alloc: Global, at: usize, tag: u8, cursor: &mut Cursor) -> Result<Term, WireFault>
+    ensures { Gives (node_at at tag) cursor.old cursor.new result }
+{
+    match tag {
+        0 => Ok(Term::Var(var_name(cursor)?)),
+        1 => Ok(Term::Node(Node::Int(cursor.integer()?))),
+        2 => Ok(Term::Node(Node::Atom(text(alloc, cursor)?))),
+        3 => tree(alloc, cursor),
+        4 => procedure(alloc, cursor),
+        5 => Ok(Term::Node(Node::Cell(cell_name(cursor)?))),
+        _ => Err(WireFault::Kind(at)),
+    }
+}
+
+// A term.
+#[tactic(auto, unfolding(crate::specs::Reading::term_at))]
+fn term(alloc: Global, cursor: &mut Cursor) -> Result<Term, WireFault>
+    ensures { Gives term_at cursor.old cursor.new result }
+{
+    let at = cursor.place();
+    let tag = cursor.byte()?;
+    node(alloc, at, tag, cursor)
+}
+
+// Whether a name is above that of the last equation.
+#[tactic(auto, using(crate::proofs::OrderLaws::above_some, crate::proofs::OrderLaws::above_none))]
+fn ascends(front: &[(VarName, Term)], var: VarName) -> bool
+    ensures { result ≡ is_above (λ (e : Equation). e.0) name_below front.now var }
+{
+    match front.last() {
+        Some(last) => is_below(last.0, var),
+        None => true,
+    }
+}
+
+// An equation of a bundle, behind those before it.
+#[tactic(auto, unfolding(crate::specs::Reading::equation_at))]
+fn equation(
+    alloc: Global,
+    cursor: &mut Cursor,
+    front: &[(VarName, Term)],
+) -> Result<(VarName, Term), WireFault>
+    ensures { Gives (equation_at front.now) cursor.old cursor.new result }
+{
+    let at = cursor.place();
+    let var = var_name(cursor)?;
+    if !ascends(front, var) {
+        return Err(WireFault::Order(at));
+    }
+    let term = term(alloc, cursor)?;
+    Ok((var, term))
+}
+
+// A bundle.
+#[tactic(auto, unfolding(crate::specs::Reading::bundle_at))]
+fn bundle(alloc: Global, cursor: &mut Cursor) -> Result<Bundle, WireFault>
+    ensures { Gives bundle_at cursor.old cursor.new result }
+{
+    let at = cursor.place();
+    let count = cursor.number_16()?;
+    if count > 256 {
+        return Err(WireFault::Range(at));
+    }
+    let mut items = Vec::new(alloc);
+    for _ in 0..count {
+        let next = equation(alloc, cursor, &items)?;
+        items.push(next)?;
+    }
+    Ok(Bundle::from_vec(items)?)
+}
+
+// A start of a thread.
+#[tactic(auto, unfolding(crate::specs::Reading::spawn_at))]
+fn spawn(alloc: Global, cursor: &mut Cursor) -> Result<Msg, WireFault>
+    ensures { Gives spawn_at cursor.old cursor.new result }
+{
+    let thread = thread_name(cursor)?;
+    let code = code(cursor)?;
+    let vars = variables(alloc, cursor)?;
+    let bundle = bundle(alloc, cursor)?;
+    Ok(Msg::Spawn {
+        thread,
+        code,
+        vars,
+        bundle,
+    })
+}
+
+// A registration.
+#[tactic(auto, unfolding(crate::specs::Reading::register_at))]
+fn register(cursor: &mut Cursor) -> Result<Msg, WireFault>
+    ensures { Gives register_at cursor.old cursor.new result }
+{
+    let var = var_name(cursor)?;
+    let asking = cursor.byte_within(1, 64)? as u32;
+    Ok(Msg::Register { var, asking })
+}
+
+// A request of a bind.
+#[tactic(auto, unfolding(crate::specs::Reading::bind_request_at))]
+fn bind_request(alloc: Global, cursor: &mut Cursor) -> Result<Msg, WireFault>
+    ensures { Gives bind_request_at cursor.old cursor.new result }
+{
+    let var = var_name(cursor)?;
+    let thread = thread_name(cursor)?;
+    let term = term(alloc, cursor)?;
+    let bundle = bundle(alloc, cursor)?;
+    Ok(Msg::BindReq {
+        var,
+        thread,
+        term,
+        bundle,
+    })
+}
+
+// A binding.
+#[tactic(auto, unfolding(crate::specs::Reading::binding_at))]
+fn binding(alloc: Global, cursor: &mut Cursor) -> Result<Msg, WireFault>
+    ensures { Gives binding_at cursor.old cursor.new result }
+{
+    let var = var_name(cursor)?;
+    let term = term(alloc, cursor)?;
+    let bundle = bundle(alloc, cursor)?;
+    Ok(Msg::Binding { var, term, bundle })
+}
+
+// A request of a cell's token.
+#[tactic(auto, unfolding(crate::specs::Reading::get_at))]
+fn get(cursor: &mut Cursor) -> Result<Msg, WireFault>
+    ensures { Gives get_at cursor.old cursor.new result }
+{
+    let cell = cell_name(cursor)?;
+    let asking = cursor.byte_within(1, 64)? as u32;
+    Ok(Msg::Get { cell, asking })
+}
+
+// Where a cell's token is to go.
+#[tactic(auto, unfolding(crate::specs::Reading::forward_at))]
+fn forward(cursor: &mut Cursor) -> Result<Msg, WireFault>
+    ensures { Gives forward_at cursor.old cursor.new result }
+{
+    let cell = cell_name(cursor)?;
+    let next = cursor.byte_within(1, 64)? as u32;
+    Ok(Msg::Forward { cell, next })
+}
+
+// A cell's token.
+#[tactic(auto, unfolding(crate::specs::Reading::put_at))]
+fn put(alloc: Global, cursor: &mut Cursor) -> Result<Msg, WireFault>
+    ensures { Gives put_at cursor.old cursor.new result }
+{
+    let cell = cell_name(cursor)?;
+    let content = var_name(cursor)?;
+    let bundle = bundle(alloc, cursor)?;
+    Ok(Msg::Put {
+        cell,
+        content,
+        bundle,
+    })
+}
+
+// What follows the kind of a message, which stands at the place.
+#[tactic(auto, unfolding(crate::specs::Reading::body_at))]
+fn body(alloc: Global, at: usize, kind: u8, cursor: &mut Cursor) -> Result<Msg, WireFault>
+    ensures { Gives (body_at at kind) cursor.old cursor.new result }
+{
+    match kind {
+        1 => spawn(alloc, cursor),
+        2 => register(cursor),
+        3 => bind_request(alloc, cursor),
+        4 => binding(alloc, cursor),
+        5 => get(cursor),
+        6 => forward(cursor),
+        7 => put(alloc, cursor),
+        _ => Err(WireFault::Kind(at)),
+    }
+}
+
+// A message, behind which bytes may stand.
+#[tactic(auto, unfolding(crate::specs::Reading::message_at))]
+fn message(alloc: Global, cursor: &mut Cursor) -> Result<Msg, WireFault>
+    ensures { Gives message_at cursor.old cursor.new result }
+{
+    let at = cursor.place();
+    let kind = cursor.byte()?;
+    body(alloc, at, kind, cursor)
+}
+
+// The message that all of the bytes spell.
+#[tactic(auto, unfolding(crate::specs::Reading::whole_of))]
+fn whole(alloc: Global, bytes: &[u8]) -> Result<Msg, WireFault>
+    ensures { GivesWhole bytes.now result }
+{
+    let mut cursor = Cursor::new(bytes);
+    let msg = message(alloc, &mut cursor)?;
+    if cursor.len() != 0 {
+        return Err(WireFault::Rest(cursor.place()));
+    }
+    Ok(msg)
+}
+
+/// The message that the bytes spell, or their first fault. It reads each byte once, and takes memory by the number of
+/// bytes, whatever the counts among them promise.
+pub fn decode(alloc: Global, bytes: &[u8]) -> Result<Msg, WireFault>
+    // What is read is spelled so, and fits.
+    ensures spelled { IfOk result (λ m. Spells bytes.now m) }
+    ensures fits { IfOk result (λ m. FitsWire m) }
+    // What is spelled so is read, unless memory runs out.
+    ensures only { (m : AMessage) → Spells bytes.now m → (result ≡ Ok m) ⊎ (result ≡ Err Memory) }
+    // A fault is the first one, unless memory runs out.
+    ensures fault { IfErr result (λ f. (f ≡ Memory) ⊎ IsFirstFault bytes.now f) }
+    // The first fault is answered, unless memory runs out.
+    ensures first { (f : AFault) → IsFirstFault bytes.now f → (result ≡ Err f) ⊎ (result ≡ Err Memory) }
+{
+    whole(alloc, bytes)
+}

@@ -1,0 +1,74 @@
+//! How many bytes a message's spelling has.
+
+use site_message::Msg;
+use tree_node::{Feature, Node, Term, VarName};
+
+// A site and a number.
+const NAME: usize = 9;
+
+// A count of two bytes.
+const COUNT: usize = 2;
+
+// A feature and a variable.
+fn field_size(field: &(Feature, VarName)) -> usize {
+    match &field.0 {
+        Feature::Int(_) => 1 + 8 + NAME,
+        Feature::Atom(text) => (2 + NAME).saturating_add(text.as_slice().len()),
+    }
+}
+
+// The fields of a record.
+fn fields_size(fields: &[(Feature, VarName)]) -> usize {
+    let mut size = 1usize;
+    for field in fields {
+        size = size.saturating_add(field_size(field));
+    }
+    size
+}
+
+// A count of two bytes and the names.
+fn variables_size(vars: &[VarName]) -> usize {
+    COUNT.saturating_add(vars.len().saturating_mul(NAME))
+}
+
+// A term with its tag.
+fn term_size(term: &Term) -> usize {
+    match term {
+        Term::Var(_) | Term::Node(Node::Cell(_)) => 1 + NAME,
+        Term::Node(Node::Int(_)) => 1 + 8,
+        Term::Node(Node::Atom(text)) => 2usize.saturating_add(text.as_slice().len()),
+        Term::Node(Node::Rec(label, fields)) => 2usize
+            .saturating_add(label.as_slice().len())
+            .saturating_add(fields_size(fields.as_slice())),
+        Term::Node(Node::Proc(_, _, _, vars)) => {
+            (1 + NAME + 4 + 1usize).saturating_add(variables_size(vars.as_slice()))
+        }
+    }
+}
+
+// A count of two bytes and the equations.
+fn bundle_size(equations: &[(VarName, Term)]) -> usize {
+    let mut size = COUNT;
+    for equation in equations {
+        size = size.saturating_add(NAME.saturating_add(term_size(&equation.1)));
+    }
+    size
+}
+
+/// The number of bytes of a message's spelling. It is looked at before they are written, so that they are written into
+/// memory that is taken once; nothing else rests on it.
+pub(crate) fn message_size(msg: &Msg) -> usize {
+    match msg {
+        Msg::Spawn { vars, bundle, .. } => (1 + NAME + 4)
+            .saturating_add(variables_size(vars.as_slice()))
+            .saturating_add(bundle_size(bundle.as_slice())),
+        Msg::Register { .. } | Msg::Get { .. } | Msg::Forward { .. } => 1 + NAME + 1,
+        Msg::BindReq { term, bundle, .. } => (1 + 2 * NAME)
+            .saturating_add(term_size(term))
+            .saturating_add(bundle_size(bundle.as_slice())),
+        Msg::Binding { term, bundle, .. } => (1 + NAME)
+            .saturating_add(term_size(term))
+            .saturating_add(bundle_size(bundle.as_slice())),
+        Msg::Put { bundle, .. } => { (1 + 2 * NAME).saturating_add(bundle_size(bundle.as_slice())) }
+    }
+}
