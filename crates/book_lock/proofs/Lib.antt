@@ -1,0 +1,4 @@
+pub mod Deals
+pub mod LedgerLemmas
+pub mod Parts
+pub mod Steps
