@@ -1,0 +1,4 @@
+pub mod BundleLemmas
+pub mod CellExampleRun
+pub mod ChoiceLemmas
+pub mod ExampleRun

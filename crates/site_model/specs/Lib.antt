@@ -1,0 +1,13 @@
+pub mod Bundle
+pub mod CellExample
+pub mod Cells
+pub mod Choice
+pub mod Example
+pub mod Fit
+pub mod Messages
+pub mod Run
+pub mod Site
+pub mod Transition
+pub mod Turn
+pub mod Unit
+pub mod Variables

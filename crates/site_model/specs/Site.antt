@@ -1,0 +1,107 @@
+-- The plain state of one site: what it keeps of variables (TOPLAS 21(3), 1999), of cells (TOPLAS 19(5), 1997) and of threads.
+use Rattle.std.specs.Prelude.{ℕ, List, [], ◌∷◌, length, Bool, ◌==◌, Option, unwrap_or, if◌then◌else◌}
+use Rattle.std.specs.Map.{lookup}
+use Rattle.indexmap.specs.IndexMap.{insert_entry}
+use Rattle.tree_node.specs.declared.names.CellName.{CellName}
+use Rattle.tree_node.specs.declared.names.ThreadName.{ThreadName}
+use Rattle.tree_node.specs.Assoc.{value_of}
+use Rattle.tree_node.specs.Goal.{equal_cell}
+use Rattle.tree_node.specs.State.{Stack, equal_thread}
+use Rattle.tree_node.specs.Store.{Store}
+use Rattle.kernel_syntax.specs.declared.stmt.Stmt.{Stmt}
+use Rattle.oz_model.specs.Run as model
+use Rattle.bind_protocol.specs.Records.{Records}
+use Rattle.thread_roster.specs.declared.mode.Mode.{Mode}
+use Rattle.thread_roster.specs.declared.mode.Mode.TheVariants.{Runs}
+use Rattle.thread_roster.specs.Threads.{waiting_of}
+use Rattle.token_chain.specs.Holding.{Holding, away}
+
+-- a thread's stack, and whether the thread can go on
+abbrev pub ThreadState : Type 0
+ThreadState = Stack × Mode
+
+-- living threads, the newest first
+abbrev pub Threads : Type 0
+Threads = List (ThreadName × ThreadState)
+
+-- what a site keeps of a cell, and the threads that wait there for its token, in the order in which they asked
+pub record CellRecord : Type 0 where
+  pub held : Holding
+  pub queue : List ThreadName
+
+-- how many names of each kind the site made
+pub record Counters : Type 0 where
+  pub vars : ℕ
+  pub cells : ℕ
+  pub procs : ℕ
+  pub threads : ℕ
+
+-- the known equations, the newest first; the records of variables (the site's number, its own variables with the sites
+-- registered for them, the names that it met); the last asker of each cell made here; the records of the cells used here;
+-- the living threads; the counters of names; the numbers of ended threads and of own steps
+pub record Site : Type 0 where
+  pub equations : Store
+  pub records : Records
+  pub managers : List (CellName × ℕ)
+  pub cell_records : List (CellName × CellRecord)
+  pub threads : Threads
+  pub counters : Counters
+  pub ended : ℕ
+  pub steps : ℕ
+
+-- ---- look-ups
+
+-- the state of a living thread
+abbrev pub thread_state : Site → ThreadName → Option ThreadState
+thread_state s n = value_of equal_thread s.threads n
+
+-- the site that asked last for a cell made here
+abbrev pub last_asker : Site → CellName → Option ℕ
+last_asker s c = lookup (equal_cell c) s.managers
+
+-- the record of a cell that the site has nothing to do with
+abbrev pub unused_cell : CellRecord
+unused_cell = record { held = away; queue = [] }
+
+abbrev pub cell_record_in : List (CellName × CellRecord) → CellName → CellRecord
+cell_record_in qs c = unwrap_or (lookup (equal_cell c) qs) unused_cell
+
+-- what the site keeps of a cell
+abbrev pub cell_record : Site → CellName → CellRecord
+cell_record s c = cell_record_in s.cell_records c
+
+abbrev pub with_cell_record : Site → CellName → CellRecord → Site
+with_cell_record s c q = record s { cell_records = insert_entry equal_cell s.cell_records c q }
+
+-- ---- totals
+
+-- how many threads wait
+abbrev pub waiting_count : Site → ℕ
+waiting_count s = waiting_of s.threads
+
+-- no thread can go on
+abbrev pub is_idle : Site → Bool
+is_idle s = waiting_count s == length s.threads
+
+-- ---- the start
+
+abbrev pub zero_counters : Counters
+zero_counters = record { vars = 0; cells = 0; procs = 0; threads = 0 }
+
+-- threads that can go on
+abbrev pub runnable_threads : List (ThreadName × Stack) → Threads
+runnable_threads [] = []
+runnable_threads (t ∷ ts) = (t.0, (t.1, Runs)) ∷ runnable_threads ts
+
+-- site 1 begins with the program's thread, the others with none
+abbrev pub initial_site : List Stmt → ℕ → Site
+initial_site p i = record {
+  equations = [];
+  records = record { site = i; owners = []; proxies = [] };
+  managers = [];
+  cell_records = [];
+  threads = if i == 1 then runnable_threads (model.start p).threads else [];
+  counters = record zero_counters { threads = if i == 1 then 1 else 0 };
+  ended = 0;
+  steps = 0;
+}

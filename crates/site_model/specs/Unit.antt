@@ -1,0 +1,189 @@
+-- One unit of a site: a step of a thread that can go on, or an attempt that ends in waiting.
+use Rattle.std.specs.Prelude.{◌≡◌, ℕ, suc, ◌+◌, ◌%◌, ℤ, pos, List, [], ◌∷◌, ◌++◌, ◌⊎◌, Bool, true, false, ◌==◌, Option, Some, None, if◌then◌else◌}
+use Rattle.indexmap.specs.IndexMap.{insert_entry}
+use Rattle.tree_node.specs.declared.names.VarName.{VarName}
+use Rattle.tree_node.specs.declared.names.CellName.{CellName}
+use Rattle.tree_node.specs.declared.names.ThreadName.{ThreadName}
+use Rattle.tree_node.specs.declared.names.Name.{Name}
+use Rattle.tree_node.specs.declared.names.Name.TheVariants as name
+use Rattle.tree_node.specs.declared.names.NameKind.{NameKind}
+use Rattle.tree_node.specs.declared.names.NameKind.TheVariants as kind
+use Rattle.tree_node.specs.declared.node.Term.{Term}
+use Rattle.tree_node.specs.declared.node.Term.TheVariants as term
+use Rattle.tree_node.specs.declared.pick.Pick.{Pick}
+use Rattle.tree_node.specs.Assoc.{with_optional_value, with_value}
+use Rattle.tree_node.specs.Goal.{Allows, equal_cell}
+use Rattle.tree_node.specs.Order.{IsLower}
+use Rattle.tree_node.specs.State.{Stack, equal_thread}
+use Rattle.tree_node.specs.Store.{Store, Equation, IsFree, IsClassName}
+use Rattle.kernel_syntax.specs.declared.stmt.Stmt.{Stmt}
+use Rattle.site_message.specs.declared.message.Msg.TheVariants as msg
+use Rattle.oz_model.specs.Need.{Need, Waits, Binds, Takes, stack_need}
+use Rattle.oz_model.specs.Effect.{Birth, CellChange, Stays, Made, Exchanged, Effect, stack_effect, vars_among}
+use Rattle.oz_model.specs.Step.{living_stack, end_count, lines_of}
+use Rattle.bind_protocol.specs.Rows.{sent_message, request}
+use Rattle.thread_roster.specs.declared.mode.Mode.TheVariants.{Runs}
+use Rattle.thread_roster.specs.declared.mode.Mode.TheVariants as mode
+use Rattle.token_chain.specs.declared.token.Token.{Token}
+use Rattle.token_chain.specs.declared.token.Token.TheVariants.{Here}
+use Rattle.token_chain.specs.Holding.{here_with}
+use Rattle.site_model.specs.Site.{Site, ThreadState, Counters, thread_state, cell_record, with_cell_record}
+use Rattle.site_model.specs.Bundle.{bundled}
+use Rattle.site_model.specs.Transition.{Transition, without_output, with_messages, with_pick, with_lines, and_then}
+use Rattle.site_model.specs.Variables.{after_makes, own_binds}
+use Rattle.site_model.specs.Cells.{exchange_stack, request_row}
+use Rattle.site_model.specs.Messages.{with_thread}
+
+-- ---- fresh names
+
+-- the next name of a kind that site i makes
+abbrev pub next_name : ℕ → Counters → NameKind → Name
+next_name i c kind.Var = name.Var (record { site = i; num = c.vars })
+next_name i c kind.Cell = name.Cell (record { site = i; num = c.cells })
+next_name i c kind.Proc = name.Proc (record { site = i; num = c.procs })
+next_name i c kind.Thread = name.Thread (record { site = i; num = c.threads })
+
+abbrev pub counter_after : Counters → NameKind → Counters
+counter_after c kind.Var = record c { vars = c.vars + 1 }
+counter_after c kind.Cell = record c { cells = c.cells + 1 }
+counter_after c kind.Proc = record c { procs = c.procs + 1 }
+counter_after c kind.Thread = record c { threads = c.threads + 1 }
+
+-- the next names of these kinds that site i makes, and its counters afterwards
+abbrev pub next_names : ℕ → Counters → List NameKind → List Name
+next_names i c [] = []
+next_names i c (k ∷ ks) = next_name i c k ∷ next_names i (counter_after c k) ks
+
+abbrev pub counters_after : Counters → List NameKind → Counters
+counters_after c [] = c
+counters_after c (k ∷ ks) = counters_after (counter_after c k) ks
+
+-- the fresh names of these kinds that the site takes next
+abbrev pub fresh_names : Site → List NameKind → List Name
+fresh_names s kinds = next_names s.records.site s.counters kinds
+
+-- the site has made them, the variables among them unbound
+abbrev pub with_fresh_names : List NameKind → Site → Site
+with_fresh_names kinds s = record s {
+  counters = counters_after s.counters kinds;
+  records = after_makes s.records (vars_among (next_names s.records.site s.counters kinds));
+}
+
+-- ---- steps
+
+-- the site, one of 1 to n, at which a thread is placed: `at k` counts the sites in a circle, and a thread without a place
+-- stays at site i
+abbrev pub placement : ℕ → ℕ → Option ℤ → ℕ
+placement n i (Some (pos (suc k))) = k % n + 1
+placement n i _ = i
+
+-- a new thread begins here, or goes to its site by Spawn
+abbrev pub birth_row : List Stmt → ℕ → ℕ → Option Birth → Site → Transition
+birth_row p n limit None s = without_output s
+birth_row p n limit (Some b) s =
+    if placement n s.records.site b.at == s.records.site then without_output (with_thread p (Some b) s)
+    else with_messages s (bundled limit s.equations (sent_message (placement n s.records.site b.at) (msg.Spawn b.name b.code b.vars [])) ∷ [])
+
+-- the content of the token that is here
+abbrev pub token_content : Token → VarName
+token_content (Here v) = v
+token_content _ = record { site = 0; num = 0 }
+
+-- the old content of the cell that is exchanged
+abbrev pub content_here : Site → CellChange → VarName
+content_here s (Exchanged c new told) = token_content (cell_record s c).held.token
+content_here s _ = record { site = 0; num = 0 }
+
+-- a new cell is here, and its own site asked last for it; an exchange changes the content here
+abbrev pub after_cell : CellChange → Site → Site
+after_cell Stays s = s
+after_cell (Made c v) s = record s {
+  managers = insert_entry equal_cell s.managers c s.records.site;
+  cell_records = insert_entry equal_cell s.cell_records c (record { held = here_with v; queue = [] });
+}
+after_cell (Exchanged c new told) s =
+    with_cell_record s c (record (cell_record s c) { held = record (cell_record s c).held { token = Here new } })
+
+abbrev pub runnable_state : Option Stack → Option ThreadState
+runnable_state None = None
+runnable_state (Some st) = Some (st, Runs)
+
+-- the thread is left with this stack, or has ended; one own step more
+abbrev pub with_stack : ThreadName → Stack → Site → Site
+with_stack n st s = record s {
+  threads = with_optional_value equal_thread s.threads n (runnable_state (living_stack st));
+  ended = s.ended + end_count st;
+  steps = s.steps + 1;
+}
+
+-- the site after a step of a thread with this effect
+abbrev pub after_effect : ThreadName → Effect → Site → Site
+after_effect n e s = with_stack n (exchange_stack (content_here s e.cell) e.cell e.stack) (after_cell e.cell s)
+
+-- a step: names are made, variables bound, the stack goes on, a line is printed, a thread is born
+abbrev pub step_row : List Stmt → ℕ → ℕ → Pick → List NameKind → Effect → Site → Transition
+step_row p n limit k kinds e s =
+    and_then (and_then (and_then (with_pick (with_fresh_names kinds s) k) (own_binds limit e.adds)) (λ t. with_lines (lines_of e.line) (after_effect k.thread e t))) (birth_row p n limit e.born)
+
+-- ---- units
+
+-- the thread waits for x
+abbrev pub with_waiting : ThreadName → Stack → VarName → Site → Site
+with_waiting n st x s = record s { threads = with_value equal_thread s.threads n (st, mode.Waits x) }
+
+abbrev pub step_pick : ThreadName → List Name → Option Equation → Pick
+step_pick n fresh bind = record { thread = n; fresh = fresh; bind = bind }
+
+-- what a stack does with the site's equations
+abbrev pub effect_here : List Stmt → Site → List Name → Option Equation → Stack → Effect
+effect_here p s fresh bind st = stack_effect p s.equations fresh bind st
+
+-- the step of a thread that takes these names
+abbrev pub thread_step : List Stmt → ℕ → ℕ → ThreadName → Stack → List NameKind → List Name → Option Equation → Site → Transition
+thread_step p n limit th st kinds fresh bind s =
+    step_row p n limit (step_pick th fresh bind) kinds (effect_here p s fresh bind st) s
+
+-- the token of the cell is here
+abbrev pub IsTokenHere : Site → CellName → Type 0
+IsTokenHere s c = (v : VarName) × ((cell_record s c).held.token ≡ Here v)
+
+-- an exchange waits for the token where it is not here; all else is a step
+abbrev pub IsStepOrRequest : ℕ → ThreadName → Stack → Site → Transition → CellChange → Transition → Type 0
+IsStepOrRequest limit th st s step (Exchanged c new told) d =
+    (IsTokenHere s c × (d ≡ step)) ⊎ ((IsTokenHere s c → ⊥) × (d ≡ request_row limit c new th st s))
+IsStepOrRequest limit th st s step _ d = d ≡ step
+
+abbrev pub IsNamedStep : List Stmt → ℕ → ℕ → Site → ThreadName → Stack → List NameKind → Transition → Type 0
+IsNamedStep p n limit s th st kinds d =
+    IsStepOrRequest limit th st s (thread_step p n limit th st kinds (fresh_names s kinds) None s)
+    (effect_here p s (fresh_names s kinds) None st).cell d
+
+-- a bind of a root without an equation of its own, to a lesser root or to the node of the other side
+abbrev pub IsRootBind : Store → Term → Term → VarName → Term → Type 0
+IsRootBind s a b u t = Allows s a b (u, t) × IsFree s u × IsLower t u × is_root t
+  where
+    is_root : Term → Type 0
+    is_root (term.Var v) = IsFree s v
+    is_root (term.Node m) = Unit {0}
+
+-- an own variable is bound at once; for one owned elsewhere a BindReq goes to the owner, and the thread waits
+abbrev pub bind_attempt : List Stmt → ℕ → ℕ → ThreadName → Stack → VarName → Term → Bool → Site → Transition
+bind_attempt p n limit th st u t true s = thread_step p n limit th st [] [] (Some (u, t)) s
+bind_attempt p n limit th st u t false s =
+    with_messages (with_waiting th st u s) (bundled limit s.equations (request u t th) ∷ [])
+
+abbrev pub IsBindUnit : List Stmt → ℕ → ℕ → Site → ThreadName → Stack → Term → Term → Transition → Type 0
+IsBindUnit p n limit s th st a b d =
+    (u : VarName) × (t : Term) × IsRootBind s.equations a b u t
+    × (d ≡ bind_attempt p n limit th st u t (u.site == s.records.site) s)
+
+-- by what the thread needs: it waits for the root of x's class, binds one of two sides, or takes names and steps
+abbrev pub IsUnitFor : List Stmt → ℕ → ℕ → Site → ThreadName → Stack → Need → Transition → Type 0
+IsUnitFor p n limit s th st (Waits x) d = (z : VarName) × IsClassName s.equations x z × (d ≡ without_output (with_waiting th st z s))
+IsUnitFor p n limit s th st (Binds a b) d = IsBindUnit p n limit s th st a b d
+IsUnitFor p n limit s th st (Takes kinds) d = IsNamedStep p n limit s th st kinds d
+
+-- a unit of this thread, which can go on
+abbrev pub IsUnit : List Stmt → ℕ → ℕ → ThreadName → Site → Transition → Type 0
+IsUnit p n limit th s d =
+    (st : Stack) × (thread_state s th ≡ Some (st, Runs)) × IsUnitFor p n limit s th st (stack_need p s.equations st) d

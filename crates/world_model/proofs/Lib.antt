@@ -1,0 +1,6 @@
+pub mod CellLemmas
+pub mod EffectLemmas
+pub mod ExampleTotals
+pub mod KeyLemmas
+pub mod MailLemmas
+pub mod PutLemmas

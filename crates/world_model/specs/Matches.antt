@@ -1,0 +1,206 @@
+-- What a world of sites and the centralised machine have to do with each other between two parts of a turn.
+use Rattle.std.specs.Prelude.{◌≡◌, ◌≢◌, ℕ, ◌+◌, ◌<◌, List, [], ◌∷◌, length, ◌⊎◌, Some, None, Contains}
+use Rattle.tree_node.specs.declared.names.VarName.{VarName}
+use Rattle.tree_node.specs.declared.names.CellName.{CellName}
+use Rattle.tree_node.specs.declared.names.ThreadName.{ThreadName}
+use Rattle.tree_node.specs.declared.names.CodeId.{CodeId}
+use Rattle.tree_node.specs.declared.names.Name.{Name}
+use Rattle.tree_node.specs.declared.node.Term.{Term}
+use Rattle.tree_node.specs.Assoc.{value_of}
+use Rattle.tree_node.specs.Classes.{HasOneEach}
+use Rattle.tree_node.specs.Each.{Each, AreDistinct}
+use Rattle.tree_node.specs.Goal.{Allows}
+use Rattle.tree_node.specs.Order.{IsLower}
+use Rattle.tree_node.specs.State.{Stack, State, equal_thread}
+use Rattle.tree_node.specs.Store.{Store, Equation, Same, IsFree, IsSound}
+use Rattle.kernel_syntax.specs.declared.stmt.Stmt.{Stmt}
+use Rattle.site_message.specs.declared.message.Msg.{Msg}
+use Rattle.site_message.specs.declared.message.Msg.TheVariants as msg
+use Rattle.oz_model.specs.Answers.{Includes, LinksGoDown}
+use Rattle.oz_model.specs.Need.{Waits, Binds, Takes, stack_need}
+use Rattle.oz_model.specs.Effect.{Exchanged, stack_effect}
+use Rattle.oz_model.specs.Step.{threads_born}
+use Rattle.variable_owner.specs.Owners.{owner_of, sites_of}
+use Rattle.bind_protocol.specs.Records.{Records, knowledge}
+use Rattle.site_model.specs.Site.{Threads, Counters, CellRecord, cell_record_in}
+use Rattle.thread_roster.specs.declared.mode.Mode.{Mode}
+use Rattle.thread_roster.specs.declared.mode.Mode.TheVariants.{WaitsFor}
+use Rattle.thread_roster.specs.declared.mode.Mode.TheVariants as site
+use Rattle.site_model.specs.Bundle.{message_bundle}
+use Rattle.site_model.specs.Messages.{birth}
+use Rattle.world_model.specs.World.{Sites, Mail, World, Travels, eqs, records, threads, cell_records, managers, counters}
+use Rattle.world_model.specs.Schedule.{sum_to}
+use Rattle.world_model.specs.Placed.{IsPlaced}
+use Rattle.world_model.specs.Names.{IsHere, AreHome, here_at, ContentsHome, IsCentreMade, KnownAreMade, AreMailNamesMade}
+use Rattle.world_model.specs.Chain.{Cells, AreGetsAddressed}
+
+-- ---- equations
+
+-- the equations that a message tells
+abbrev pub equations_in : Msg → List Equation
+equations_in (msg.Binding x t bundle) = (x, t) ∷ bundle
+equations_in m = message_bundle m
+
+-- the central equations are those held by owners, one a variable, and lead down; what a site knows or a message tells
+-- is among them
+pub record Knowledge (eqs : ℕ → Store) (mail : Mail) (c : Store) : Type 0 where
+  pub one : HasOneEach c
+  pub down : LinksGoDown c
+  pub owned : (x : VarName) (t : Term) → Contains c (x, t) → Contains (eqs x.site) (x, t)
+  pub known : (i : ℕ) → Includes (eqs i) c
+  pub told : (k to : ℕ) (m : Msg) → Travels mail k to m → Each (Contains c) (equations_in m)
+
+-- what a site keeps of variables is its equations, and it knows its number
+pub record IsKept (i : ℕ) (b : Records) (s : Store) : Type 0 where
+  pub site : b.site ≡ i
+  pub bound : (x : VarName) (t : Term) → knowledge b x ≡ Some (Some t) → Contains s (x, t)
+  pub held : (x : VarName) (t : Term) → Contains s (x, t) → knowledge b x ≡ Some (Some t)
+  pub sound : IsSound s
+
+abbrev pub AreKept : (ℕ → Records) → (ℕ → Store) → Type 0
+AreKept records eqs = (i : ℕ) → IsKept i (records i) (eqs i)
+
+-- ---- threads
+
+-- the thread is at site i with this stack
+abbrev pub IsThreadAt : (ℕ → Threads) → ℕ → ThreadName → Stack → Type 0
+IsThreadAt threads i n st = (m : Mode) × (value_of equal_thread (threads i) n ≡ Some (st, m))
+
+-- message k brings the thread
+abbrev pub IsInSpawn : List Stmt → Mail → ℕ → ThreadName → Stack → Type 0
+IsInSpawn p mail k n st =
+    (to : ℕ) × (code : CodeId) × (vars : List VarName) × (bundle : List Equation)
+    × Travels mail k to (msg.Spawn n code vars bundle) × (threads_born p (Some (birth n code vars)) ≡ (n, st) ∷ [])
+
+-- each central thread is at one site, or comes by one Spawn, with its stack
+abbrev pub Placed : List Stmt → (ℕ → Threads) → Mail → List (ThreadName × Stack) → Type 0
+Placed p threads mail ts = IsPlaced (IsThreadAt threads) (IsInSpawn p mail) (value_of equal_thread ts)
+
+-- ---- registrations
+
+abbrev pub sites_in : Records → VarName → List ℕ
+sites_in b x = sites_of (owner_of b.owners x)
+
+-- a site that met x and does not know it bound is registered, or will be, or a Binding comes
+abbrev pub IsTold : (ℕ → Records) → Mail → ℕ → VarName → Type 0
+IsTold records mail i x =
+    Contains (sites_in (records x.site) x) i
+    ⊎ (((k : ℕ) × Travels mail k x.site (msg.Register x i))
+    ⊎ ((k : ℕ) × (t : Term) × (bundle : List Equation) × Travels mail k i (msg.Binding x t bundle)))
+
+abbrev pub AreTold : (ℕ → Records) → Mail → Type 0
+AreTold records mail = (i : ℕ) (x : VarName) → knowledge (records i) x ≡ Some None → x.site ≢ i → IsTold records mail i x
+
+-- messages on variables go to their owners, which made them (what is nobody's goes to no site)
+abbrev pub IsAddressed : (ℕ → Records) → ℕ → Msg → Type 0
+IsAddressed records to (msg.Register x k) = (to ≡ x.site) × IsHere (records x.site) x
+IsAddressed records to (msg.BindReq x n t bundle) = (to ≡ x.site) × IsHere (records x.site) x × IsLower t x
+IsAddressed records to m = Unit {0}
+
+abbrev pub Addressed : (ℕ → Records) → Mail → Type 0
+Addressed records mail = (k to : ℕ) (m : Msg) → Travels mail k to m → IsAddressed records to m
+
+-- ---- waiting
+
+abbrev pub IsBound : Store → VarName → Type 0
+IsBound c x = (t : Term) × Contains c (x, t)
+
+-- the goal block on top allows this bind, which goes down
+abbrev pub Wants : List Stmt → Store → Stack → VarName → Term → Type 0
+Wants p s st x t =
+    (a : Term) × (b : Term) × (stack_need p s st ≡ Binds a b) × Allows s a b (x, t) × IsLower t x
+
+abbrev pub IsWaiting : (ℕ → Threads) → ℕ → ThreadName → Stack → VarName → Type 0
+IsWaiting threads i n st x = value_of equal_thread (threads i) n ≡ Some (st, site.Waits x)
+
+-- the top item waits for the class of x
+abbrev pub NeedsFirst : List Stmt → Store → Stack → VarName → Type 0
+NeedsFirst p s st x = (z : VarName) × (stack_need p s st ≡ Waits z) × Same s z x
+
+-- the thread asked for a bind of x: the request travels, or x is bound
+abbrev pub IsAsked : Mail → Store → ThreadName → VarName → Type 0
+IsAsked mail c n x =
+    ((k : ℕ) × (t : Term) × (bundle : List Equation) × Travels mail k x.site (msg.BindReq x n t bundle)) ⊎ IsBound c x
+
+-- the top item exchanges this cell
+abbrev pub IsExchange : List Stmt → Store → Stack → CellName → Type 0
+IsExchange p s st c =
+    (new told : VarName) × (stack_need p s st ≡ Takes []) × ((stack_effect p s [] None st).cell ≡ Exchanged c new told)
+
+-- the request is late, or its thread waits for the answer
+abbrev pub IsAwaited : List Stmt → (ℕ → Store) → (ℕ → Threads) → Store → VarName → Term → ThreadName → Type 0
+IsAwaited p eqs threads c x t n =
+    IsBound c x ⊎ ((i : ℕ) × (st : Stack) × IsWaiting threads i n st x × Wants p (eqs i) st x t)
+
+pub record Waiting (p : List Stmt) (eqs : ℕ → Store) (records : ℕ → Records) (threads : ℕ → Threads) (mail : Mail) (c : Store) : Type 0 where
+  pub asks : (k to : ℕ) (x : VarName) (t : Term) (n : ThreadName) (bundle : List Equation) → Travels mail k to (msg.BindReq x n t bundle) →
+      IsAwaited p eqs threads c x t n
+  pub waits : (i : ℕ) (n : ThreadName) (st : Stack) (x : VarName) → IsWaiting threads i n st x →
+      IsFree (eqs i) x × IsHere (records i) x × (NeedsFirst p (eqs i) st x ⊎ IsAsked mail c n x)
+  pub exchanges : (i : ℕ) (n : ThreadName) (st : Stack) (d : CellName) → value_of equal_thread (threads i) n ≡ Some (st, WaitsFor d) →
+      IsExchange p (eqs i) st d
+
+-- those that wait for a cell are its list, each once
+pub record IsQueue (q : CellRecord) (ts : Threads) (d : CellName) : Type 0 where
+  pub once : AreDistinct q.queue
+  pub long : q.held.waiting ≡ length q.queue
+  pub stand : (n : ThreadName) → Contains q.queue n → (st : Stack) × (value_of equal_thread ts n ≡ Some (st, WaitsFor d))
+  pub listed : (n : ThreadName) (st : Stack) → value_of equal_thread ts n ≡ Some (st, WaitsFor d) → Contains q.queue n
+
+abbrev pub Queues : (ℕ → List (CellName × CellRecord)) → (ℕ → Threads) → Type 0
+Queues cell_records threads = (i : ℕ) (d : CellName) → IsQueue (cell_record_in (cell_records i) d) (threads i) d
+
+-- ---- totals
+
+abbrev pub is_spawn : Msg → ℕ
+is_spawn (msg.Spawn n code vars bundle) = 1
+is_spawn _ = 0
+
+abbrev pub spawns : Mail → ℕ
+spawns [] = 0
+spawns (m ∷ ms) = is_spawn m.1.msg + spawns ms
+
+pub record Totals (n : ℕ) (ended living : ℕ → ℕ) (mail : Mail) (s : State) : Type 0 where
+  pub all_ended : s.ended ≡ sum_to n ended
+  pub all_living : length s.threads ≡ sum_to n living + spawns mail
+
+abbrev pub ended : Sites → ℕ → ℕ
+ended f i = (f i).ended
+
+abbrev pub living : Sites → ℕ → ℕ
+living f i = length (f i).threads
+
+-- ---- messages
+
+-- a number is one message's, below the number of those sent
+pub record IsNumbered (sent : ℕ) (mail : Mail) : Type 0 where
+  pub below : (k to : ℕ) (m : Msg) → Travels mail k to m → k < sent
+  pub once : (k a b : ℕ) (m o : Msg) → Travels mail k a m → Travels mail k b o → (a ≡ b) × (m ≡ o)
+
+-- ---- the whole
+
+-- which names are here, equations, records, threads and counters of the sites, the messages, and the centre
+pub record PartsMatch (p : List Stmt) (here : ℕ → Name → Type 0) (eqs : ℕ → Store) (records : ℕ → Records) (threads : ℕ → Threads) (counters : ℕ → Counters) (mail : Mail) (s : State) : Type 0 where
+  pub knowledge : Knowledge eqs mail s.equations
+  pub kept : AreKept records eqs
+  pub placed : Placed p threads mail s.threads
+  pub told : AreTold records mail
+  pub addressed : Addressed records mail
+  pub waiting : Waiting p eqs records threads mail s.equations
+  pub homes : AreHome here eqs threads
+  pub centred : IsCentreMade counters s
+  pub makers : KnownAreMade records counters
+  pub said : AreMailNamesMade counters mail
+
+pub record Matches (p : List Stmt) (n : ℕ) (w : World) (s : State) : Type 0 where
+  pub parts : PartsMatch p (here_at (records w.sites)) (eqs w.sites) (records w.sites) (threads w.sites) (counters w.sites) w.mail s
+  pub numbered : IsNumbered w.sent w.mail
+  pub totals : Totals n (ended w.sites) (living w.sites) w.mail s
+  pub lines : s.lines ≡ w.lines
+
+-- and the cells
+pub record CellsMatch (w : World) (s : State) : Type 0 where
+  pub queues : Queues (cell_records w.sites) (threads w.sites)
+  pub cells : Cells (managers w.sites) (cell_records w.sites) w.mail s.cells
+  pub gets : AreGetsAddressed w.mail
+  pub contents : ContentsHome (records w.sites) (cell_records w.sites)

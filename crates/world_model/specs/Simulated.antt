@@ -1,0 +1,45 @@
+-- The simulation: every run of sites is a run of the centralised machine.
+use Rattle.std.specs.Prelude.{◌≡◌, ℕ, List, [], ◌∷◌, IsTrue, length, ◌==◌, if◌then◌else◌}
+use Rattle.tree_node.specs.declared.names.CellName.{CellName}
+use Rattle.tree_node.specs.State.{State}
+use Rattle.tree_node.specs.Store.{IsSound}
+use Rattle.kernel_syntax.specs.declared.stmt.Stmt.{Stmt}
+use Rattle.site_message.specs.declared.turn.Turn.{Turn}
+use Rattle.site_message.specs.Journal.{is_quiet}
+use Rattle.oz_model.specs.Run.{Run, AtRest, exchanges, contents_given}
+use Rattle.oz_model.specs.Laws.{IsChainOf}
+use Rattle.tree_node.specs.Classes.{HasOneEach}
+use Rattle.site_model.specs.Site.{waiting_count}
+use Rattle.world_model.specs.Schedule.{schedule, sum_to}
+use Rattle.world_model.specs.World.{Sites, world_of}
+use Rattle.world_model.specs.Matches.{Matches, CellsMatch}
+
+-- where nothing travels and all sites are idle, the machine rests, and its threads are those that wait at the sites
+pub record IsAtRest (p : List Stmt) (n : ℕ) (f : Sites) (s : State) : Type 0 where
+  pub rest : AtRest p s
+  pub ended : s.ended ≡ sum_to n (λ i. (f i).ended)
+  pub living : length s.threads ≡ sum_to n (λ i. waiting_count (f i))
+
+-- what the last turn of a site told of it. A site without turns has ended none, and none of its threads waits
+abbrev pub last_ended : List Turn → ℕ → ℕ
+last_ended [] i = 0
+last_ended (e ∷ j) i = if e.site == i then e.ended else last_ended j i
+
+abbrev pub last_waiting : List Turn → ℕ → ℕ
+last_waiting [] i = 0
+last_waiting (e ∷ j) i = if e.site == i then e.waiting else last_waiting j i
+
+-- the ended and living threads of the machine are those that the sites told last
+pub record AreLastTotals (n : ℕ) (j : List Turn) (s : State) : Type 0 where
+  pub ended : s.ended ≡ sum_to n (last_ended j)
+  pub living : length s.threads ≡ sum_to n (last_waiting j)
+
+pub record IsSimulated (p : List Stmt) (n : ℕ) (j : List Turn) (f : Sites) (s : State) : Type 0 where
+  pub run : Run p (schedule j) s
+  pub matches : Matches p n (world_of j f) s
+  pub cells : CellsMatch (world_of j f) s
+  pub sound : IsSound s.equations
+  pub once : HasOneEach s.equations
+  pub chains : (c : CellName) → IsChainOf (contents_given p (schedule j) c) (exchanges p (schedule j) c)
+  pub quiet : IsTrue (is_quiet n j) → IsAtRest p n f s
+  pub told : IsTrue (is_quiet n j) → AreLastTotals n j s
