@@ -1,0 +1,2 @@
+pub mod CellCounts
+pub mod FitRuns

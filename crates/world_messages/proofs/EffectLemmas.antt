@@ -1,0 +1,127 @@
+-- The effects of steps of fitting threads fit.
+use Rattle.std.proofs.Common.{◌≡◌, ◌∙◌, sym, ap, refl, subst, ℕ, zero, suc, List, [], ◌∷◌, ◌++◌, map, length, Bool, true, false, cond, Some, None}
+use Rattle.std.specs.Prelude.{Option, Contains, take}
+use Rattle.tree_node.specs.declared.names.VarName.{VarName}
+use Rattle.tree_node.specs.declared.names.Name.{Name}
+use Rattle.tree_node.specs.declared.names.NameKind.{NameKind}
+use Rattle.tree_node.specs.declared.names.NameKind.TheVariants as kind
+use Rattle.tree_node.specs.declared.node.Term.{Term}
+use Rattle.tree_node.specs.Assoc.{value_of}
+use Rattle.tree_node.specs.Each.{Each}
+use Rattle.tree_node.specs.Goal.{Allows}
+use Rattle.tree_node.specs.State.{Stack}
+use Rattle.tree_node.specs.Store.{Store, Equation, equal_var}
+use Rattle.tree_node.proofs.ClassLemmas.{same_name_decides, Contains-head, Contains-tail}
+use Rattle.kernel_syntax.specs.declared.stmt.Stmt.{Stmt}
+use Rattle.kernel_syntax.specs.Program.{IsProgram}
+use Rattle.oz_model.specs.Need.{Need, Binds, Takes, stack_need, kinds_of}
+use Rattle.oz_model.specs.Effect.{Effect, with_equations, stack_effect, vars_among}
+use Rattle.oz_model.specs.Step.{IsBindFor, kind_of}
+use Rattle.oz_model.specs.WellFormed.{IsNode, IsNodeOf, AreNodesOf, EffectHas}
+use Rattle.oz_model.proofs.AloneLemmas.{effects_have_nodes}
+use Rattle.thread_machine.specs.Fits.{EquationsFit}
+use Rattle.thread_machine.specs.Effects.{EffectFits}
+use Rattle.thread_machine.proofs.KeepLemmas.{stack_effect_fits, stack_bound}
+use Rattle.world_model.proofs.EffectLemmas.{bind_effect as effect_of_bind}
+use Rattle.site_model.specs.Site.{Counters}
+use Rattle.site_model.specs.Bundle.{option_list, known_equations, distinct_vars, reachable_vars, reachable_equations, insert_ascending, ascending, bundle_from, is_below}
+use Rattle.site_model.specs.Unit.{next_names, counter_after}
+use Rattle.world_messages.specs.Fitting.{ThreadFits}
+use Rattle.world_messages.proofs.TermLemmas.{IsFitFor}
+use Rattle.tree_node.proofs.OrderLemmas.{Each-member}
+
+-- the names that a site makes are of the kinds that are wanted
+pub next_kinds : (i : ℕ) (c : Counters) (kinds : List NameKind) → map kind_of (next_names i c kinds) ≡ kinds
+next_kinds i c [] = refl
+next_kinds i c (kind.Var ∷ ks) = ap (λ (ns : List NameKind). kind.Var ∷ ns) (next_kinds i (counter_after c kind.Var) ks)
+next_kinds i c (kind.Cell ∷ ks) = ap (λ (ns : List NameKind). kind.Cell ∷ ns) (next_kinds i (counter_after c kind.Cell) ks)
+next_kinds i c (kind.Proc ∷ ks) = ap (λ (ns : List NameKind). kind.Proc ∷ ns) (next_kinds i (counter_after c kind.Proc) ks)
+next_kinds i c (kind.Thread ∷ ks) = ap (λ (ns : List NameKind). kind.Thread ∷ ns) (next_kinds i (counter_after c kind.Thread) ks)
+
+-- ---- effects
+
+pub record EffectIsFit (p : List Stmt) (known : List VarName) (e : Effect) : Type 0 where
+  pub fits : EffectFits p known e
+  pub nodes : Each (λ (q : Equation). IsNodeOf (IsNode p) q.1) e.adds × Each (AreNodesOf (IsNode p)) e.stack
+
+-- a step that takes names, which are known then
+pub step_is_fit : (p : List Stmt) (known : List VarName) (s : Store) (st : Stack) (kinds : List NameKind) (fresh : List Name) → IsProgram p → ThreadFits p known st → EquationsFit p known s → Each (λ (e : Equation). IsNodeOf (IsNode p) e.1) s →
+    stack_need p s st ≡ Takes kinds → map kind_of fresh ≡ kinds → Each (λ (x : VarName). Contains known x) (vars_among fresh) → EffectIsFit p known (stack_effect p s fresh None st)
+step_is_fit p known s st kinds fresh is h eqs nodes need of_kinds named = record {
+  fits = stack_effect_fits p known s st fresh None (record { names = tt; terms = tt }) is h.some h.stack eqs named (of_kinds ∙ sym (ap kinds_of need));
+  nodes = (has.adds, has.stack);
+}
+  where
+    has : EffectHas (IsNode p) (stack_effect p s fresh None st)
+    has = effects_have_nodes p s st fresh None is.stmts nodes h.nodes (subst (λ (d : Need). IsBindFor s d None) (sym need) tt)
+
+-- ---- binds
+
+abbrev bind_of : VarName → Term → Stack → Effect
+bind_of u t st = with_equations ((u, t) ∷ []) st
+
+-- a bind adds its equation, and the thread stays as it is
+pub bind_effect : (p : List Stmt) (s : Store) (st : Stack) (a b : Term) (u : VarName) (t : Term) → stack_need p s st ≡ Binds a b → stack_effect p s [] (Some (u, t)) st ≡ bind_of u t st
+bind_effect p s st a b u t need = effect_of_bind p s st a b (u, t) need
+
+pub bind_is_fit : (p : List Stmt) (known : List VarName) (s : Store) (st : Stack) (a b : Term) (u : VarName) (t : Term) → IsProgram p → ThreadFits p known st → EquationsFit p known s → Each (λ (e : Equation). IsNodeOf (IsNode p) e.1) s →
+    stack_need p s st ≡ Binds a b → Allows s a b (u, t) → IsFitFor p known u t
+bind_is_fit p known s st a b u t is h eqs nodes need allows =
+    let f = stack_bound p known s st a b u t h.stack eqs need allows in
+    (f.0, f.1, f.2, (subst (λ (e : Effect). Each (λ (q : Equation). IsNodeOf (IsNode p) q.1) e.adds) (bind_effect p s st a b u t need) has.adds).0)
+  where
+    has : EffectHas (IsNode p) (stack_effect p s [] (Some (u, t)) st)
+    has = effects_have_nodes p s st [] (Some (u, t)) is.stmts nodes h.nodes (subst (λ (d : Need). IsBindFor s d (Some (u, t))) (sym need) allows)
+
+pub bound_is_fit : (p : List Stmt) (known : List VarName) (u : VarName) (t : Term) (st : Stack) → ThreadFits p known st → IsFitFor p known u t → EffectIsFit p known (bind_of u t st)
+bound_is_fit p known u t st h f = record {
+  fits = record { adds = record { names = ((f.0, f.1), tt); terms = (f.2, tt) }; stack = h.stack; born = tt; cell = tt };
+  nodes = ((f.3, tt), h.nodes);
+}
+
+-- ---- bundles
+
+-- what holds of each equation of a store holds of each that goes with a message
+module _ (R : Equation → Type 0) where
+  pub value_in : (s : Store) (x : VarName) (t : Term) → value_of equal_var s x ≡ Some t → Contains s (x, t)
+  value_in [] x t e = cc
+  value_in ((y, r) ∷ s) x t e = go (equal_var y x) refl e (λ k. value_in s x t k)
+    where
+      go : (b : Bool) → equal_var y x ≡ b → cond b (Some r) (value_of equal_var s x) ≡ Some t → (value_of equal_var s x ≡ Some t → Contains s (x, t)) → Contains ((y, r) ∷ s) (x, t)
+      go true q k ih =
+          let same : y ≡ x = (same_name_decides y x).0 q in
+          let term : r ≡ t = cc in
+          subst (λ (z : VarName). Contains ((y, r) ∷ s) (z, t)) same (subst (λ (w : Term). Contains ((y, r) ∷ s) (y, w)) term (Contains-head (y, r) s))
+      go false q k ih = Contains-tail (y, r) (x, t) s (ih k)
+
+  each_append : (xs ys : List Equation) → Each R xs → Each R ys → Each R (xs ++ ys)
+  each_append [] ys h k = k
+  each_append (x ∷ xs) ys h k = (h.0, each_append xs ys h.1 k)
+
+  owns : (s : Store) → Each R s → (xs : List VarName) → Each R (known_equations s xs)
+  owns s h [] = tt
+  owns s h (x ∷ xs) = each_append _ (known_equations s xs) (first (value_of equal_var s x) refl) (owns s h xs)
+    where
+      first : (o : Option Term) → value_of equal_var s x ≡ o → Each R (map (λ (t : Term). (x, t)) (option_list o))
+      first None e = tt
+      first (Some t) e = (Each-member R s (x, t) h (value_in s x t e), tt)
+
+  takes : (n : ℕ) (es : List Equation) → Each R es → Each R (take n es)
+  takes zero es h = tt
+  takes (suc n) [] h = tt
+  takes (suc n) (e ∷ es) h = (h.0, takes n es h.1)
+
+  puts : (e : Equation) (es : List Equation) → R e → Each R es → Each R (insert_ascending e es)
+  puts e [] h k = (h, tt)
+  puts e (d ∷ ds) h k = go (is_below d.0 e.0) (puts e ds h k.1)
+    where
+      go : (b : Bool) → Each R (insert_ascending e ds) → Each R (cond b (d ∷ insert_ascending e ds) (e ∷ d ∷ ds))
+      go true ih = (k.0, ih)
+      go false ih = (h, k)
+
+  orders : (es : List Equation) → Each R es → Each R (ascending es)
+  orders [] h = tt
+  orders (e ∷ es) h = puts e (ascending es) h.0 (orders es h.1)
+
+  pub bundles : (limit : ℕ) (s : Store) (xs : List VarName) → Each R s → Each R (bundle_from limit s xs)
+  bundles limit s xs h = orders (take limit (reachable_equations s xs)) (takes limit (reachable_equations s xs) (owns s h (distinct_vars [] (reachable_vars (length s) s xs))))

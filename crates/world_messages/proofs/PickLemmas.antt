@@ -1,0 +1,418 @@
+-- What a turn makes of names, and how many threads it sends, against its picks.
+use Rattle.std.proofs.Common.{arith, ◌≡◌, ◌∙◌, sym, ap, refl, subst, append_assoc, ℕ, ◌+◌, ◌<◌, ◌≤◌, length, List, [], ◌∷◌, ◌++◌, map, ◌⊎◌, inl, inr, Bool, true, false, cond, Some, None, length-append}
+use Rattle.std.specs.Prelude.{Option, Contains, ◌==◌, is_some, codes}
+use Rattle.tree_node.specs.declared.names.VarName.{VarName}
+use Rattle.tree_node.specs.declared.names.CellName.{CellName}
+use Rattle.tree_node.specs.declared.names.ThreadName.{ThreadName}
+use Rattle.tree_node.specs.declared.names.Name.{Name}
+use Rattle.tree_node.specs.Goal.{Case, case_of}
+use Rattle.tree_node.specs.declared.names.NameKind.{NameKind}
+use Rattle.tree_node.specs.declared.node.Term.{Term}
+use Rattle.tree_node.specs.declared.pick.Pick.{Pick}
+use Rattle.tree_node.specs.State.{Stack}
+use Rattle.tree_node.specs.Store.{Store, Equation}
+use Rattle.kernel_syntax.specs.declared.stmt.Stmt.{Stmt}
+use Rattle.site_message.specs.declared.message.Msg.{Msg}
+use Rattle.site_message.specs.declared.message.Msg.TheVariants as msg
+use Rattle.site_message.specs.declared.message.Sent.{Sent}
+use Rattle.oz_model.specs.Need.{Need, Waits, Binds, Takes, stack_need, outcome_need}
+use Rattle.oz_model.specs.Effect.{Birth, CellChange, Stays, Made, Exchanged, Effect, vars_among, stack_effect, outcome_effect, goal_effect, pair_effect, exception_effect}
+use Rattle.bind_protocol.specs.Records.{Records, is_own, knowledge}
+use Rattle.proxy_table.specs.Proxies.{entry_of}
+use Rattle.bind_protocol.specs.Rows.{sent_message, request, register, binding, register_answer, after_meet, meet_sends, meets_send}
+use Rattle.bind_protocol.proofs.ListLemmas.{one, count_cons, count_append}
+use Rattle.site_model.specs.Site.{Site, Counters, ThreadState, thread_state, cell_record}
+use Rattle.site_model.specs.Bundle.{bundled, all_bundled, message_bundle, message_vars}
+use Rattle.site_model.specs.Transition.{Transition, without_output, with_messages, and_then, sequence}
+use Rattle.site_model.specs.Variables.{with_known_equation, with_known_equations, own_bind, own_binds, opening}
+use Rattle.site_model.specs.Cells.{last_before, leave_row, forward_row, get_row, serving, request_row, after_exchange, content_after_exchange}
+use Rattle.token_chain.specs.Mail as token
+use Rattle.token_chain.specs.Rows.{leave_reply, forward_reply, get_reply, exchange_reply}
+use Rattle.world_model.proofs.CellLemmas.{letters, request_only}
+use Rattle.site_model.specs.Messages.{with_thread, bind_request_row, message_row}
+use Rattle.site_model.specs.Unit.{next_names, with_fresh_names, birth_row, placement, step_row, after_effect, thread_step, fresh_names, effect_here, step_pick, bind_attempt, with_waiting, after_cell, IsStepOrRequest, IsUnitFor, counter_after, counters_after}
+use Rattle.site_model.specs.Turn.{IsReception, AreUnits, SiteTurn}
+use Rattle.std.specs.List.{count_by}
+use Rattle.tree_node.specs.declared.names.Name.TheVariants as name
+use Rattle.tree_node.specs.declared.names.NameKind.TheVariants as kind
+use Rattle.tree_node.specs.declared.node.Node.{Node}
+use Rattle.tree_node.specs.declared.item.Item.TheVariants as item
+use Rattle.tree_node.specs.Env.{Env}
+use Rattle.tree_node.specs.Goal as goal
+use Rattle.tree_node.specs.Shown.{shown}
+use Rattle.std.proofs.lemmas.List.Elements.{Contains-append_left, Contains-append_right}
+use Rattle.kernel_syntax.specs.Free.{stmt_at}
+use Rattle.oz_model.specs.declared.outcome.SystemException.{SystemException}
+use Rattle.oz_model.specs.declared.outcome.SystemException.TheVariants.{FailureTell}
+use Rattle.oz_model.specs.declared.outcome.Outcome.{Outcome}
+use Rattle.oz_model.specs.declared.outcome.Outcome.TheVariants as outcome
+use Rattle.oz_model.specs.Outcome.{outcome_of, print_outcome as prints_outcome}
+use Rattle.variable_owner.specs.Owners.{owner_of, sites_of}
+use Rattle.variable_owner.specs.declared.owners.Owner.{Owner}
+use Rattle.variable_owner.specs.declared.owners.Owner.TheVariants.{Open, Bound}
+use Rattle.tree_node.proofs.ClassLemmas.{Contains-head, Contains-tail}
+use Rattle.world_messages.specs.Messages.{fresh_in, threads_among, spawns}
+use Rattle.world_messages.proofs.KnownLemmas.{counted_cases}
+use Rattle.world_messages.proofs.DeedLemmas.{turn_tally, unit_tally}
+use Rattle.world_messages.proofs.EffectLemmas.{bind_effect}
+
+abbrev pub spawned : List Sent → ℕ
+spawned ms = count_by spawns ms
+
+-- ---- names of picks
+
+fresh_append : (ks ls : List Pick) → fresh_in (ks ++ ls) ≡ fresh_in ks ++ fresh_in ls
+fresh_append [] ls = refl
+fresh_append (k ∷ ks) ls = ap (λ (ns : List Name). k.fresh ++ ns) (fresh_append ks ls) ∙ sym (append_assoc k.fresh (fresh_in ks) (fresh_in ls))
+
+vars_append : (xs ys : List Name) → vars_among (xs ++ ys) ≡ vars_among xs ++ vars_among ys
+vars_append [] ys = refl
+vars_append (name.Var x ∷ xs) ys = ap (λ (ns : List VarName). x ∷ ns) (vars_append xs ys)
+vars_append (name.Cell x ∷ xs) ys = vars_append xs ys
+vars_append (name.Proc x ∷ xs) ys = vars_append xs ys
+vars_append (name.Thread x ∷ xs) ys = vars_append xs ys
+
+threads_append : (xs ys : List Name) → threads_among (xs ++ ys) ≡ threads_among xs ++ threads_among ys
+threads_append [] ys = refl
+threads_append (name.Var x ∷ xs) ys = threads_append xs ys
+threads_append (name.Cell x ∷ xs) ys = threads_append xs ys
+threads_append (name.Proc x ∷ xs) ys = threads_append xs ys
+threads_append (name.Thread x ∷ xs) ys = ap (λ (ns : List ThreadName). x ∷ ns) (threads_append xs ys)
+
+pub vars_in_both : (ks ls : List Pick) → vars_among (fresh_in (ks ++ ls)) ≡ vars_among (fresh_in ks) ++ vars_among (fresh_in ls)
+vars_in_both ks ls = ap vars_among (fresh_append ks ls) ∙ vars_append (fresh_in ks) (fresh_in ls)
+
+pub threads_in_both : (ks ls : List Pick) → threads_among (fresh_in (ks ++ ls)) ≡ threads_among (fresh_in ks) ++ threads_among (fresh_in ls)
+threads_in_both ks ls = ap threads_among (fresh_append ks ls) ∙ threads_append (fresh_in ks) (fresh_in ls)
+
+-- ---- deeds
+
+-- a variable that site i has made since is a fresh one of these picks; at most as many threads are sent as made
+pub record PicksOn (i : ℕ) (old : Counters) (new : Counters) (ks : List Pick) (out : List Sent) : Type 0 where
+  pub vars : (x : VarName) → x.site ≡ i → x.num < new.vars → (x.num < old.vars) ⊎ Contains (vars_among (fresh_in ks)) x
+  pub threads : (m : ThreadName) → m.site ≡ i → m.num < new.threads → (m.num < old.threads) ⊎ Contains (threads_among (fresh_in ks)) m
+  pub sent : spawned out ≤ length (threads_among (fresh_in ks))
+
+picks_then : (i : ℕ) (a b c : Counters) (ks ls : List Pick) (o u : List Sent) → PicksOn i a b ks o → PicksOn i b c ls u → PicksOn i a c (ks ++ ls) (o ++ u)
+picks_then i a b c ks ls o u h g = record {
+  vars = λ x own low. by x own (g.vars x own low);
+  threads = λ m own low. by_thread m own (g.threads m own low);
+  sent =
+      let e : length (threads_among (fresh_in (ks ++ ls))) ≡ length (threads_among (fresh_in ks)) + length (threads_among (fresh_in ls)) = ap (λ (ns : List ThreadName). length ns) (threads_in_both ks ls) ∙ length-append (threads_among (fresh_in ks)) (threads_among (fresh_in ls)) in
+      omega (arith, e, count_append spawns o u, h.sent, g.sent);
+}
+  where
+    later : (x : VarName) → Contains (vars_among (fresh_in ks)) x ⊎ Contains (vars_among (fresh_in ls)) x → Contains (vars_among (fresh_in (ks ++ ls))) x
+    later x (inl c0) = subst (λ (ns : List VarName). Contains ns x) (sym (vars_in_both ks ls)) (Contains-append_left (vars_among (fresh_in ks)) (vars_among (fresh_in ls)) x c0)
+    later x (inr c0) = subst (λ (ns : List VarName). Contains ns x) (sym (vars_in_both ks ls)) (Contains-append_right (vars_among (fresh_in ks)) (vars_among (fresh_in ls)) x c0)
+
+    later_thread : (m : ThreadName) → Contains (threads_among (fresh_in ks)) m ⊎ Contains (threads_among (fresh_in ls)) m → Contains (threads_among (fresh_in (ks ++ ls))) m
+    later_thread m (inl c0) = subst (λ (ns : List ThreadName). Contains ns m) (sym (threads_in_both ks ls)) (Contains-append_left (threads_among (fresh_in ks)) (threads_among (fresh_in ls)) m c0)
+    later_thread m (inr c0) = subst (λ (ns : List ThreadName). Contains ns m) (sym (threads_in_both ks ls)) (Contains-append_right (threads_among (fresh_in ks)) (threads_among (fresh_in ls)) m c0)
+
+    first_threads : (m : ThreadName) → (m.num < a.threads) ⊎ Contains (threads_among (fresh_in ks)) m → (m.num < a.threads) ⊎ Contains (threads_among (fresh_in (ks ++ ls))) m
+    first_threads m (inl k) = inl k
+    first_threads m (inr k) = inr (later_thread m (inl k))
+
+    by_thread : (m : ThreadName) → m.site ≡ i → (m.num < b.threads) ⊎ Contains (threads_among (fresh_in ls)) m → (m.num < a.threads) ⊎ Contains (threads_among (fresh_in (ks ++ ls))) m
+    by_thread m own (inl low) = first_threads m (h.threads m own low)
+    by_thread m own (inr k) = inr (later_thread m (inr k))
+
+    first : (x : VarName) → (x.num < a.vars) ⊎ Contains (vars_among (fresh_in ks)) x → (x.num < a.vars) ⊎ Contains (vars_among (fresh_in (ks ++ ls))) x
+    first x (inl k) = inl k
+    first x (inr k) = inr (later x (inl k))
+
+    by : (x : VarName) → x.site ≡ i → (x.num < b.vars) ⊎ Contains (vars_among (fresh_in ls)) x → (x.num < a.vars) ⊎ Contains (vars_among (fresh_in (ks ++ ls))) x
+    by x own (inl low) = first x (h.vars x own low)
+    by x own (inr k) = inr (later x (inr k))
+
+-- nothing is made, and no thread is sent
+record Still (s : Site) (d : Transition) : Type 0 where
+  counters : d.site.counters ≡ s.counters
+  sent : spawned d.sent ≡ 0
+
+still_same : (s : Site) → Still s (without_output s)
+still_same s = record { counters = refl; sent = refl }
+
+still_then : (s : Site) (d : Transition) (f : Site → Transition) → Still s d → Still d.site (f d.site) → Still s (and_then d f)
+still_then s d f h g = record { counters = g.counters ∙ h.counters; sent = omega (arith, count_append spawns d.sent (f d.site).sent, h.sent, g.sent) }
+
+still_picks : (i : ℕ) (s : Site) (d : Transition) → Still s d → PicksOn i s.counters d.site.counters d.picks d.sent
+still_picks i s d h = record {
+  vars = λ x own low. inl (subst (λ (c : Counters). x.num < c.vars) h.counters low);
+  threads = λ m own low. inl (subst (λ (c : Counters). m.num < c.threads) h.counters low);
+  sent = omega (arith, h.sent);
+}
+
+-- threads that are counted after names were made were counted before, or are among them
+threads_cases : (i : ℕ) (c : Counters) (kinds : List NameKind) (m : ThreadName) → m.site ≡ i → m.num < (counters_after c kinds).threads → (m.num < c.threads) ⊎ Contains (threads_among (next_names i c kinds)) m
+threads_cases i c [] m own h = inl h
+threads_cases i c (kind.Thread ∷ ks) m own h = go (threads_cases i (counter_after c kind.Thread) ks m own h)
+  where
+    names : (i k : ℕ) (m : ThreadName) → i ≡ m.site → k ≡ m.num → ◌≡◌ {A = ThreadName} (record { site = i; num = k }) m
+    names i k m p q = rw (p, q) refl
+
+    last : (m.num < c.threads) ⊎ (m.num ≡ c.threads) → (m.num < c.threads) ⊎ Contains (record { site = i; num = c.threads } ∷ threads_among (next_names i (counter_after c kind.Thread) ks)) m
+    last (inl k) = inl k
+    last (inr k) = inr (subst (λ (z : ThreadName). Contains (record { site = i; num = c.threads } ∷ threads_among (next_names i (counter_after c kind.Thread) ks)) z) (names i c.threads m (sym own) (sym k)) (Contains-head _ (threads_among (next_names i (counter_after c kind.Thread) ks))))
+
+    split : m.num < c.threads + 1 → (m.num < c.threads) ⊎ (m.num ≡ c.threads)
+    split k = search (arith, k)
+
+    go : (m.num < c.threads + 1) ⊎ Contains (threads_among (next_names i (counter_after c kind.Thread) ks)) m → (m.num < c.threads) ⊎ Contains (record { site = i; num = c.threads } ∷ threads_among (next_names i (counter_after c kind.Thread) ks)) m
+    go (inl k) = last (split k)
+    go (inr k) = inr (Contains-tail _ m (threads_among (next_names i (counter_after c kind.Thread) ks)) k)
+threads_cases i c (kind.Var ∷ ks) m own h = threads_cases i (counter_after c kind.Var) ks m own h
+threads_cases i c (kind.Cell ∷ ks) m own h = threads_cases i (counter_after c kind.Cell) ks m own h
+threads_cases i c (kind.Proc ∷ ks) m own h = threads_cases i (counter_after c kind.Proc) ks m own h
+
+module _ (p : List Stmt) (n limit : ℕ) where
+  no_spawns : (s : Store) (x : VarName) (t : Term) (ks : List ℕ) → spawned (all_bundled limit s (map (λ (k : ℕ). binding x t k) ks)) ≡ 0
+  no_spawns s x t [] = refl
+  no_spawns s x t (k ∷ ks) = omega (arith, no_spawns s x t ks, count_cons spawns (bundled limit s (binding x t k)) (all_bundled limit s (map (λ (k : ℕ). binding x t k) ks)))
+
+  meets_still : (xs : List VarName) (b : Records) → spawned (meets_send b xs) ≡ 0
+  meets_still [] b = refl
+  meets_still (x ∷ xs) b = omega (arith, count_append spawns (meet_sends b x) (meets_send (after_meet b x) xs), meets_still xs (after_meet b x), one_name (is_own b x) (is_some (entry_of b.proxies x)))
+    where
+      one_name : (c d : Bool) → spawned (cond c [] (cond d [] (register x b.site ∷ []))) ≡ 0
+      one_name true d = refl
+      one_name false true = refl
+      one_name false false = refl
+
+  told_made : (s : Site) (x : VarName) (t : Term) → (with_known_equation s x t).counters ≡ s.counters
+  told_made s x t = go (is_own s.records x) refl (knowledge s.records x) refl
+    where
+      go : (c : Bool) → is_own s.records x ≡ c → (o : Option (Option Term)) → knowledge s.records x ≡ o → (with_known_equation s x t).counters ≡ s.counters
+      go true q o k = rw (k, q) refl
+      go false q None k = rw (k, q) refl
+      go false q (Some None) k = rw (k, q) refl
+      go false q (Some (Some r)) k = rw (k, q) refl
+
+  pub told_all_made : (es : List Equation) (s : Site) → (with_known_equations s es).counters ≡ s.counters
+  told_all_made [] s = refl
+  told_all_made (e ∷ es) s = told_all_made es (with_known_equation s e.0 e.1) ∙ told_made s e.0 e.1
+
+  opens_still : (m : Msg) (s : Site) → Still s (opening m s)
+  opens_still m s = record { counters = told_all_made (message_bundle m) s; sent = meets_still (message_vars m) (with_known_equations s (message_bundle m)).records }
+
+  binds_each_still : (es : List Equation) (s : Site) → Still s (own_binds limit es s)
+  binds_each_still [] s = still_same s
+  binds_each_still (e ∷ es) s = still_then s (own_binds limit es s) (own_bind limit e.0 e.1) (binds_each_still es s) (record { counters = refl; sent = no_spawns ((e.0, e.1) ∷ (own_binds limit es s).site.equations) e.0 e.1 (sites_of (owner_of (own_binds limit es s).site.records.owners e.0)) })
+
+  -- no message of a cell is a Spawn
+  letters_still : (c : CellName) (s : Store) (ms : List token.Mail) → spawned (letters limit c s ms) ≡ 0
+  letters_still c s [] = refl
+  letters_still c s (token.Get k ∷ ms) = letters_still c s ms
+  letters_still c s (token.Forward to k ∷ ms) = letters_still c s ms
+  letters_still c s (token.Put to v ∷ ms) = letters_still c s ms
+
+  leave_still : (c : CellName) (s : Site) → Still s (leave_row limit c s)
+  leave_still c s = record { counters = refl; sent = letters_still c s.equations (leave_reply (cell_record s c).held).sent }
+
+  get_still : (c : CellName) (k : ℕ) (s : Site) → Still s (get_row limit c k s)
+  get_still c k s = record { counters = refl; sent = letters_still c s.equations (get_reply s.records.site (last_before s c) k (cell_record s c).held).sent }
+
+  forward_still : (c : CellName) (k : ℕ) (s : Site) → Still s (forward_row limit c k s)
+  forward_still c k s = record { counters = refl; sent = letters_still c s.equations (forward_reply (cell_record s c).held k).sent }
+
+  exchanges_made : (c : CellName) (th : ThreadName) (v : VarName) (s : Site) → (after_exchange p th v s).counters ≡ s.counters
+  exchanges_made c th v s = go (thread_state s th) refl
+    where
+      go : (o : Option ThreadState) → thread_state s th ≡ o → (after_exchange p th v s).counters ≡ s.counters
+      go None q = rw q refl
+      go (Some st) q = rw q refl
+
+  serves_still : (c : CellName) (ns : List ThreadName) (v : VarName) (s : Site) → Still s (serving p c ns v s)
+  serves_still c [] v s = record { counters = refl; sent = refl }
+  serves_still c (m ∷ ns) v s =
+      let ih : Still (after_exchange p m v s) (serving p c ns (content_after_exchange p m v s) (after_exchange p m v s)) = serves_still c ns (content_after_exchange p m v s) (after_exchange p m v s) in
+      record { counters = ih.counters ∙ exchanges_made c m v s; sent = ih.sent }
+
+  asks_still : (c : CellName) (new : VarName) (th : ThreadName) (st : Stack) (s : Site) → Still s (request_row limit c new th st s)
+  asks_still c new th st s = record { counters = (request_only limit c new th st s).counters; sent = letters_still c (request_row limit c new th st s).site.equations (exchange_reply c.site (last_before s c) s.records.site new (cell_record s c).held).sent }
+
+  asked_still : (x : VarName) (t : Term) (th : ThreadName) (s : Site) → Still s (bind_request_row limit x t th s)
+  asked_still x t th s = go (knowledge s.records x) refl
+    where
+      go : (o : Option (Option Term)) → knowledge s.records x ≡ o → Still s (bind_request_row limit x t th s)
+      go None q = rw q (still_same s)
+      go (Some None) q = rw q (record { counters = refl; sent = no_spawns ((x, t) ∷ s.equations) x t (sites_of (owner_of s.records.owners x)) })
+      go (Some (Some r)) q = rw q (still_same s)
+
+  answered_still : (s : Store) (x : VarName) (k : ℕ) (o : Option Owner) → spawned (all_bundled limit s (register_answer o x k)) ≡ 0
+  answered_still s x k None = refl
+  answered_still s x k (Some (Open ks)) = refl
+  answered_still s x k (Some (Bound t)) = refl
+
+  takes_still : (m : Msg) (s : Site) → Still s (message_row p limit m s)
+  takes_still (msg.Spawn a b c d) s = record { counters = refl; sent = refl }
+  takes_still (msg.Register x k) s = record { counters = refl; sent = answered_still s.equations x k (owner_of s.records.owners x) }
+  takes_still (msg.BindReq x th t bundle) s = asked_still x t th s
+  takes_still (msg.Binding x t bundle) s = record { counters = told_made s x t; sent = refl }
+  takes_still (msg.Get c k) s = get_still c k s
+  takes_still (msg.Forward c k) s = forward_still c k s
+  takes_still (msg.Put c v bundle) s = still_then s (serving p c (cell_record s c).queue v s) (leave_row limit c) (serves_still c (cell_record s c).queue v s) (leave_still c (serving p c (cell_record s c).queue v s).site)
+
+  heard_still : (m : Option Msg) (s : Site) (d : Transition) → IsReception p n limit m s d → Still s d
+  heard_still None s d h = subst (Still s) (sym h) (still_same s)
+  heard_still (Some m) s d (inl h) = subst (Still s) (sym h.1) (still_then s (opening m s) (message_row p limit m) (opens_still m s) (takes_still m (opening m s).site))
+  heard_still (Some m) s d (inr h) = subst (Still s) (sym h.1) (still_same s)
+
+  -- ---- steps
+
+  abbrev births : Option Birth → ℕ
+  births None = 0
+  births (Some b) = 1
+
+  bears_sent : (b : Option Birth) (s : Site) → ((birth_row p n limit b s).site.counters ≡ s.counters) × (spawned (birth_row p n limit b s).sent ≤ births b)
+  bears_sent None s = (refl, omega arith)
+  bears_sent (Some b) s = go (placement n s.records.site b.at == s.records.site)
+    where
+      go : (c : Bool) → ((cond c (without_output (with_thread p (Some b) s)) (with_messages s (bundled limit s.equations (sent_message (placement n s.records.site b.at) (msg.Spawn b.name b.code b.vars [])) ∷ []))).site.counters ≡ s.counters) × (spawned (cond c (without_output (with_thread p (Some b) s)) (with_messages s (bundled limit s.equations (sent_message (placement n s.records.site b.at) (msg.Spawn b.name b.code b.vars [])) ∷ []))).sent ≤ 1)
+      go true = (refl, omega arith)
+      go false = (refl, omega arith)
+
+  cell_made : (c : CellChange) (s : Site) → (after_cell c s).counters ≡ s.counters
+  cell_made Stays s = refl
+  cell_made (Made c v) s = refl
+  cell_made (Exchanged c new told) s = refl
+
+  steps_picks : (k : Pick) (kinds : List NameKind) (e : Effect) (s : Site) → k.fresh ≡ next_names s.records.site s.counters kinds → births e.born ≤ length (threads_among k.fresh) → PicksOn s.records.site s.counters (step_row p n limit k kinds e s).site.counters (step_row p n limit k kinds e s).picks (step_row p n limit k kinds e s).sent
+  steps_picks k kinds e s fresh few = record { vars = vars; threads = threads; sent = count }
+    where
+      bound_all : Transition
+      bound_all = own_binds limit e.adds (with_fresh_names kinds s)
+
+      kept : Still (with_fresh_names kinds s) (own_binds limit e.adds (with_fresh_names kinds s))
+      kept = binds_each_still e.adds (with_fresh_names kinds s)
+
+      born : ((birth_row p n limit e.born (after_effect k.thread e (own_binds limit e.adds (with_fresh_names kinds s)).site)).site.counters ≡ (after_effect k.thread e (own_binds limit e.adds (with_fresh_names kinds s)).site).counters) × (spawned (birth_row p n limit e.born (after_effect k.thread e (own_binds limit e.adds (with_fresh_names kinds s)).site)).sent ≤ births e.born)
+      born = bears_sent e.born (after_effect k.thread e (own_binds limit e.adds (with_fresh_names kinds s)).site)
+
+      made : (step_row p n limit k kinds e s).site.counters ≡ (with_fresh_names kinds s).counters
+      made = born.0 ∙ cell_made e.cell (own_binds limit e.adds (with_fresh_names kinds s)).site ∙ kept.counters
+
+      names_of : fresh_in (step_row p n limit k kinds e s).picks ≡ k.fresh
+      names_of = ap fresh_in (ap (λ (ks : List Pick). ((k ∷ ks) ++ []) ++ (birth_row p n limit e.born (after_effect k.thread e (own_binds limit e.adds (with_fresh_names kinds s)).site)).picks) (no_picks e.adds (with_fresh_names kinds s)) ∙ ap (λ (ks : List Pick). k ∷ ks) (bears_picks e.born (after_effect k.thread e (own_binds limit e.adds (with_fresh_names kinds s)).site))) ∙ no_names k.fresh
+        where
+          no_names : (xs : List Name) → xs ++ [] ≡ xs
+          no_names [] = refl
+          no_names (x ∷ xs) = ap (λ (ns : List Name). x ∷ ns) (no_names xs)
+
+          no_picks : (es : List Equation) (s : Site) → (own_binds limit es s).picks ≡ []
+          no_picks [] s = refl
+          no_picks (q ∷ es) s = ap (λ (ks : List Pick). ks ++ []) (no_picks es s)
+
+          bears_picks : (b : Option Birth) (s : Site) → (birth_row p n limit b s).picks ≡ []
+          bears_picks None s = refl
+          bears_picks (Some b) s = go (placement n s.records.site b.at == s.records.site)
+            where
+              go : (c : Bool) → (cond c (without_output (with_thread p (Some b) s)) (with_messages s (bundled limit s.equations (sent_message (placement n s.records.site b.at) (msg.Spawn b.name b.code b.vars [])) ∷ []))).picks ≡ []
+              go true = refl
+              go false = refl
+
+      vars : (x : VarName) → x.site ≡ s.records.site → x.num < (step_row p n limit k kinds e s).site.counters.vars → (x.num < s.counters.vars) ⊎ Contains (vars_among (fresh_in (step_row p n limit k kinds e s).picks)) x
+      vars x own low = subst (λ (ns : List Name). (x.num < s.counters.vars) ⊎ Contains (vars_among ns) x) (sym (names_of ∙ fresh)) (counted_cases s.records.site s.counters kinds x own (subst (λ (c : Counters). x.num < c.vars) made low))
+
+      threads : (m : ThreadName) → m.site ≡ s.records.site → m.num < (step_row p n limit k kinds e s).site.counters.threads → (m.num < s.counters.threads) ⊎ Contains (threads_among (fresh_in (step_row p n limit k kinds e s).picks)) m
+      threads m own low = subst (λ (ns : List Name). (m.num < s.counters.threads) ⊎ Contains (threads_among ns) m) (sym (names_of ∙ fresh)) (threads_cases s.records.site s.counters kinds m own (subst (λ (c : Counters). m.num < c.threads) made low))
+
+      count : spawned (step_row p n limit k kinds e s).sent ≤ length (threads_among (fresh_in (step_row p n limit k kinds e s).picks))
+      count = subst (λ (ns : List Name). spawned (step_row p n limit k kinds e s).sent ≤ length (threads_among ns)) (sym names_of)
+          (omega (arith, few, born.1, kept.sent, count_append spawns ((own_binds limit e.adds (with_fresh_names kinds s)).sent ++ []) (birth_row p n limit e.born (after_effect k.thread e (own_binds limit e.adds (with_fresh_names kinds s)).site)).sent, count_append spawns (own_binds limit e.adds (with_fresh_names kinds s)).sent []))
+
+  -- a thread is born only with a fresh thread name
+  fails_births : (e : SystemException) (rest : Stack) (xs : List VarName) → births (exception_effect e rest xs).born ≡ 0
+  fails_births e rest [] = refl
+  fails_births e rest (a ∷ []) = refl
+  fails_births e rest (a ∷ x ∷ []) = refl
+  fails_births e rest (a ∷ x ∷ y ∷ xs) = refl
+
+  one_thread : (i : ℕ) (c : Counters) (kinds : List NameKind) → kinds ≡ kind.Thread ∷ [] → 1 ≤ length (threads_among (next_names i c kinds))
+  one_thread i c kinds e = subst (λ (ks : List NameKind). 1 ≤ length (threads_among (next_names i c ks))) (sym e) (omega arith)
+
+  takes_one : (ks ls : List NameKind) → Takes ks ≡ Takes ls → ls ≡ ks
+  takes_one ks ls e = cc
+
+  outcome_births : (i : ℕ) (c : Counters) (env : Env) (rest : Stack) (fresh : List Name) (o : Outcome) (kinds : List NameKind) → outcome_need o ≡ Takes kinds → births (outcome_effect p env rest fresh o).born ≤ length (threads_among (next_names i c kinds))
+  outcome_births i c env rest fresh (outcome.Spawns at body vars) kinds e = one_thread i c kinds (takes_one (kind.Thread ∷ []) kinds e)
+  outcome_births i c env rest fresh (outcome.Fails x) kinds e = omega (arith, fails_births x rest (vars_among fresh))
+  outcome_births i c env rest fresh (outcome.Waits x) kinds e = omega arith
+  outcome_births i c env rest fresh (outcome.Runs items) kinds e = omega arith
+  outcome_births i c env rest fresh (outcome.Tells x t) kinds e = omega arith
+  outcome_births i c env rest fresh (outcome.Declares first count body) kinds e = omega arith
+  outcome_births i c env rest fresh (outcome.MakesProc left code formals vars) kinds e = omega arith
+  outcome_births i c env rest fresh (outcome.MakesCell content told) kinds e = omega arith
+  outcome_births i c env rest fresh (outcome.Exchanges cell new told) kinds e = omega arith
+  outcome_births i c env rest fresh (outcome.Tries body body_env handler first handler_env) kinds e = omega arith
+  outcome_births i c env rest fresh (outcome.Raises x) kinds e = omega arith
+  outcome_births i c env rest fresh (outcome.Prints line) kinds e = omega arith
+
+  goal_births : (s : Store) (met : List (Node × Node)) (rest : Stack) (fresh : List Name) (pairs : List (Term × Term)) → births (goal_effect s met rest fresh None pairs).born ≡ 0
+  goal_births s met rest fresh [] = refl
+  goal_births s met rest fresh ((a, b) ∷ pairs) = go (case_of s met a b)
+    where
+      go : (c : Case) → births (pair_effect a b pairs met rest fresh None c).born ≡ 0
+      go goal.Dropped = refl
+      go goal.Binds = refl
+      go (goal.Opened m n fs) = refl
+      go goal.Failed = fails_births FailureTell rest (vars_among fresh)
+
+  stack_births : (i : ℕ) (c : Counters) (s : Store) (fresh : List Name) (st : Stack) (kinds : List NameKind) → stack_need p s st ≡ Takes kinds → births (stack_effect p s fresh None st).born ≤ length (threads_among (next_names i c kinds))
+  stack_births i c s fresh [] kinds e = omega arith
+  stack_births i c s fresh (item.Run code env ∷ rest) kinds e = outcome_births i c env rest fresh (outcome_of p s code env (stmt_at p code)) kinds e
+  stack_births i c s fresh (item.Goals b ∷ rest) kinds e = omega (arith, goal_births s b.met rest fresh b.pairs)
+  stack_births i c s fresh (item.Mark code at env ∷ rest) kinds e = omega arith
+  stack_births i c s fresh (item.Report x ∷ rest) kinds e = outcome_births i c [] rest fresh (prints_outcome (codes "uncaught ") (shown s x)) kinds e
+
+  -- ---- units
+
+  abbrev DoesPicks : Site → Transition → Type 0
+  DoesPicks s d = PicksOn s.records.site s.counters d.site.counters d.picks d.sent
+
+  either_picks : (th : ThreadName) (st : Stack) (s : Site) (step : Transition) (c : CellChange) (d : Transition) → DoesPicks s step → IsStepOrRequest limit th st s step c d → DoesPicks s d
+  either_picks th st s step (Exchanged c new told) d k (inl h) = subst (DoesPicks s) (sym h.1) k
+  either_picks th st s step (Exchanged c new told) d k (inr h) = subst (DoesPicks s) (sym h.1) (still_picks s.records.site s (request_row limit c new th st s) (asks_still c new th st s))
+  either_picks th st s step Stays d k h = subst (DoesPicks s) (sym h) k
+  either_picks th st s step (Made c v) d k h = subst (DoesPicks s) (sym h) k
+
+  bind_picks : (th : ThreadName) (st : Stack) (u : VarName) (t : Term) (a b : Term) (c : Bool) (s : Site) → stack_need p s.equations st ≡ Binds a b → DoesPicks s (bind_attempt p n limit th st u t c s)
+  bind_picks th st u t a b true s need =
+      steps_picks (step_pick th [] (Some (u, t))) [] (effect_here p s [] (Some (u, t)) st) s refl
+      (subst (λ (e : Effect). births e.born ≤ 0) (sym (bind_effect p s.equations st a b u t need)) (omega arith))
+  bind_picks th st u t a b false s need = still_picks s.records.site s (with_messages (with_waiting th st u s) (bundled limit s.equations (request u t th) ∷ [])) (record { counters = refl; sent = refl })
+
+  need_picks : (s : Site) (th : ThreadName) (st : Stack) (need : Need) (d : Transition) → stack_need p s.equations st ≡ need → IsUnitFor p n limit s th st need d → DoesPicks s d
+  need_picks s th st (Waits x) d e h = subst (DoesPicks s) (sym h.2) (still_picks s.records.site s (without_output (with_waiting th st h.0 s)) (record { counters = refl; sent = refl }))
+  need_picks s th st (Binds a b) d e h = subst (DoesPicks s) (sym h.3) (bind_picks th st h.0 h.1 a b (h.0.site == s.records.site) s e)
+  need_picks s th st (Takes kinds) d e h =
+      either_picks th st s (thread_step p n limit th st kinds (fresh_names s kinds) None s) (effect_here p s (fresh_names s kinds) None st).cell d
+      (steps_picks (step_pick th (fresh_names s kinds) None) kinds (effect_here p s (fresh_names s kinds) None st) s refl (stack_births s.records.site s.counters s.equations (fresh_names s kinds) st kinds e)) h
+
+  units_picks : (ths : List ThreadName) (s : Site) (d : Transition) → AreUnits p n limit ths s d → DoesPicks s d
+  units_picks [] s d h = subst (DoesPicks s) (sym h) (still_picks s.records.site s (without_output s) (still_same s))
+  units_picks (th ∷ ths) s d (one, rest, unit, units, e) =
+      let first : DoesPicks s one = need_picks s th unit.0 (stack_need p s.equations unit.0) one refl unit.2 in
+      let site : one.site.records.site ≡ s.records.site = (unit_tally p n limit th s one unit).counts.site in
+      let next : PicksOn s.records.site one.site.counters rest.site.counters rest.picks rest.sent = subst (λ (i : ℕ). PicksOn i one.site.counters rest.site.counters rest.picks rest.sent) site (units_picks ths one.site rest units) in
+      subst (DoesPicks s) (sym e) (picks_then s.records.site s.counters one.site.counters rest.site.counters one.picks rest.picks one.sent rest.sent first next)
+
+  pub heard_site : (m : Option Msg) (s : Site) (d : Transition) → IsReception p n limit m s d → d.site.records.site ≡ s.records.site
+  heard_site m s d h = (turn_tally p n limit m s d ([], omega arith, (d, without_output d.site, h, refl, deed_same d))).counts.site
+    where
+      deed_same : (d : Transition) → d ≡ sequence d (without_output d.site)
+      deed_same d = deeds d.site d.picks (d.picks ++ []) d.sent (d.sent ++ []) d.lines (d.lines ++ []) (sym (ends_here d.picks)) (sym (ends_here d.sent)) (sym (ends_here d.lines))
+        where
+          ends_here : {X : Type 0} (xs : List X) → xs ++ [] ≡ xs
+          ends_here [] = refl
+          ends_here (x ∷ xs) = ap (λ ys. x ∷ ys) (ends_here xs)
+
+          deeds : (s : Site) (a b : List Pick) (o u : List Sent) (x y : List (List ℕ)) → a ≡ b → o ≡ u → x ≡ y → ◌≡◌ {A = Transition} (record { site = s; picks = a; sent = o; lines = x }) (record { site = s; picks = b; sent = u; lines = y })
+          deeds s a b o u x y e f g = rw (e, f, g) refl
+
+  pub turn_picks : (m : Option Msg) (s : Site) (d : Transition) → SiteTurn p n limit s m d → PicksOn s.records.site s.counters d.site.counters d.picks d.sent
+  turn_picks m s d (ths, few, (heard, rest, first, units, e)) =
+      let one : DoesPicks s heard = still_picks s.records.site s heard (heard_still m s heard first) in
+      let next : PicksOn s.records.site heard.site.counters rest.site.counters rest.picks rest.sent = subst (λ (i : ℕ). PicksOn i heard.site.counters rest.site.counters rest.picks rest.sent) (heard_site m s heard first) (units_picks ths heard.site rest units) in
+      subst (DoesPicks s) (sym e) (picks_then s.records.site s.counters heard.site.counters rest.site.counters heard.picks rest.picks heard.sent rest.sent one next)

@@ -1,0 +1,231 @@
+-- Terms, stacks and contents of a site go on fitting the program.
+use Rattle.std.proofs.Common.{◌≡◌, ◌≢◌, ◌∙◌, sym, ap, refl, subst, ◌<◌, List, [], ◌∷◌, ◌++◌, length, ◌⊎◌, inl, inr, Bool, true, false, cond, Some, None}
+use Rattle.std.specs.Prelude.{Option, Contains, slice_get, unwrap_or}
+use Rattle.std.specs.Map.{lookup}
+use Rattle.std.proofs.lemmas.Option.{slice_get_within}
+use Rattle.indexmap.specs.IndexMap.{insert_entry}
+use Rattle.tree_node.specs.declared.names.VarName.{VarName}
+use Rattle.tree_node.specs.declared.names.CellName.{CellName}
+use Rattle.tree_node.specs.declared.names.ThreadName.{ThreadName}
+use Rattle.tree_node.specs.declared.names.CodeId.{CodeId}
+use Rattle.tree_node.specs.declared.node.Node.{Node}
+use Rattle.tree_node.specs.declared.node.Node.TheVariants as node
+use Rattle.tree_node.specs.declared.node.Term.{Term}
+use Rattle.tree_node.specs.declared.node.Term.TheVariants as term
+use Rattle.tree_node.specs.Assoc.{value_of, with_optional_value}
+use Rattle.tree_node.specs.Each.{Each}
+use Rattle.tree_node.specs.Env.{env_for}
+use Rattle.tree_node.specs.declared.item.Item.TheVariants as item
+use Rattle.tree_node.specs.Goal.{equal_cell}
+use Rattle.tree_node.specs.Names.{EachOfTerm}
+use Rattle.tree_node.specs.State.{Stack, equal_thread}
+use Rattle.tree_node.specs.Store.{Store}
+use Rattle.kernel_syntax.specs.declared.stmt.Stmt.{Stmt}
+use Rattle.kernel_syntax.specs.declared.stmt.Stmt.TheVariants as stmt
+use Rattle.kernel_syntax.specs.Free.{free}
+use Rattle.kernel_syntax.specs.Scopes.{bodies_of}
+use Rattle.kernel_syntax.specs.Program.{IsProgram}
+use Rattle.oz_model.specs.WellFormed.{IsMadeBy, IsNode, IsNodeOf, AreNodesOf}
+use Rattle.oz_model.specs.Effect.{Birth}
+use Rattle.oz_model.specs.Step.{threads_born, living_stack}
+use Rattle.oz_model.proofs.KindLemmas.{equal_cell_decides}
+use Rattle.thread_machine.specs.Fits.{IsTellOf, NodeFits, TermFits, StackFits}
+use Rattle.thread_machine.specs.Fits as fits
+use Rattle.thread_machine.proofs.KeepLemmas.{stack_grows, equations_grow}
+use Rattle.thread_machine.proofs.FitLemmas.{begun_fits}
+use Rattle.token_chain.specs.declared.token.Token.TheVariants.{Here}
+use Rattle.site_model.specs.Site.{ThreadState, Threads, CellRecord, cell_record_in, unused_cell, runnable_threads}
+use Rattle.thread_roster.specs.declared.mode.Mode.TheVariants.{Runs}
+use Rattle.thread_roster.specs.Threads.{wake_all}
+use Rattle.site_model.specs.Unit.{runnable_state}
+use Rattle.world_model.proofs.KeyLemmas.{goes_cases, woken_old}
+use Rattle.world_messages.specs.Fitting.{ThreadFits, TermsFit}
+use Rattle.tree_node.proofs.NameLemmas.{same_thread_decides}
+
+-- ---- nodes of the program
+
+pub node_fits : (p : List Stmt) → IsProgram p → (n : Node) → IsNode p n → NodeFits p n
+node_fits p is (node.Int i) h = tt
+node_fits p is (node.Atom t) h = tt
+node_fits p is (node.Rec l fs) h = tt
+node_fits p is (node.Cell c) h = tt
+node_fits p is (node.Proc q code formals vars) h = go (slice_get p code.0) refl h
+  where
+    told : (st : Stmt) → IsMadeBy p formals vars st → Each (λ (c : CodeId). (code.0 < c.0) × (c.0 < length p)) (bodies_of st) → IsTellOf p st formals (length vars)
+    told (stmt.TellProc left first count body) h b = (h.0, sym h.1, b.0.1)
+    told (stmt.Seq bodies) h b = absurd h
+    told stmt.Skip h b = absurd h
+    told (stmt.Local first count body) h b = absurd h
+    told (stmt.TellVar left right) h b = absurd h
+    told (stmt.TellInt left value) h b = absurd h
+    told (stmt.TellAtom left text) h b = absurd h
+    told (stmt.TellRec left label fields) h b = absurd h
+    told (stmt.Calc left op a c) h b = absurd h
+    told (stmt.Select left source by) h b = absurd h
+    told (stmt.If subject first second) h b = absurd h
+    told (stmt.Case subject pat first c d) h b = absurd h
+    told (stmt.Call callee others) h b = absurd h
+    told (stmt.Browse x) h b = absurd h
+    told (stmt.Wait x) h b = absurd h
+    told (stmt.NewCell content cell) h b = absurd h
+    told (stmt.Exchange cell old new) h b = absurd h
+    told (stmt.Thread at body) h b = absurd h
+    told (stmt.Try body first handler) h b = absurd h
+    told (stmt.Raise x) h b = absurd h
+
+    go : (o : Option Stmt) → slice_get p code.0 ≡ o → IsMadeBy p formals vars (unwrap_or (slice_get p code.0) stmt.Skip) → NodeFits p (node.Proc q code formals vars)
+    go None e k = absurd (subst (λ (o : Option Stmt). IsMadeBy p formals vars (unwrap_or o stmt.Skip)) e k)
+    go (Some st) e k =
+        let made : IsMadeBy p formals vars st = subst (λ (o : Option Stmt). IsMadeBy p formals vars (unwrap_or o stmt.Skip)) e k in
+        let tells : IsTellOf p st formals (length vars) = told st made (is.bodies code.0 st e) in
+        (slice_get_within p code.0 st e, subst (λ (o : Option Stmt). IsTellOf p (unwrap_or o stmt.Skip) formals (length vars)) (sym e) tells)
+
+pub term_fits : (p : List Stmt) → IsProgram p → (t : Term) → IsNodeOf (IsNode p) t → TermFits p t
+term_fits p is (term.Var x) h = tt
+term_fits p is (term.Node n) h = node_fits p is n h
+
+-- ---- more variables
+
+abbrev pub IsMore : List VarName → List VarName → Type 0
+IsMore known more = (x : VarName) → Contains known x → Contains more x
+
+pub thread_grows : (p : List Stmt) (known more : List VarName) (st : Stack) → IsMore known more → ThreadFits p known st → ThreadFits p more st
+thread_grows p known more st w h = record { some = h.some; stack = stack_grows p known more st w h.stack; nodes = h.nodes }
+
+pub terms_grow : (p : List Stmt) (known more : List VarName) (s : Store) (ts : Threads) (qs : List (CellName × CellRecord)) → IsMore known more → TermsFit p known s ts qs → TermsFit p more s ts qs
+terms_grow p known more s ts qs w h = record {
+  equations = equations_grow p known more s w h.equations;
+  nodes = h.nodes;
+  stacks = λ n v e. thread_grows p known more v.0 w (h.stacks n v e);
+  contents = λ c v e. w v (h.contents c v e);
+}
+
+-- ---- one equation more
+
+-- the equation fits
+abbrev pub IsFitFor : List Stmt → List VarName → VarName → Term → Type 0
+IsFitFor p known x t = Contains known x × EachOfTerm (fits.IsKnown known) t × TermFits p t × IsNodeOf (IsNode p) t
+
+pub terms_learn : (p : List Stmt) (known : List VarName) (s : Store) (ts : Threads) (qs : List (CellName × CellRecord)) (x : VarName) (t : Term) → IsFitFor p known x t → TermsFit p known s ts qs → TermsFit p known ((x, t) ∷ s) (wake_all x ts) qs
+terms_learn p known s ts qs x t f h = record {
+  equations = record { names = ((f.0, f.1), h.equations.names); terms = (f.2, h.equations.terms) };
+  nodes = (f.3, h.nodes);
+  stacks = λ n v e. let o = woken_old x ts n v.0 v.1 e in h.stacks n (v.0, o.0) o.1;
+  contents = h.contents;
+}
+
+-- ---- a thread goes on
+
+pub terms_goes : (p : List Stmt) (known : List VarName) (s : Store) (ts : Threads) (qs : List (CellName × CellRecord)) (n : ThreadName) (w : ThreadState) (r : Option ThreadState) → value_of equal_thread ts n ≡ Some w →
+    ((v : ThreadState) → r ≡ Some v → ThreadFits p known v.0) → TermsFit p known s ts qs → TermsFit p known s (with_optional_value equal_thread ts n r) qs
+terms_goes p known s ts qs n w r at f h = record {
+  equations = h.equations;
+  nodes = h.nodes;
+  stacks = λ o v e. by o v (goes_cases equal_thread same_thread_decides ts n o r w v at e);
+  contents = h.contents;
+}
+  where
+    by : (o : ThreadName) (v : ThreadState) → ((o ≡ n) × (r ≡ Some v)) ⊎ ((n ≢ o) × (value_of equal_thread ts o ≡ Some v)) → ThreadFits p known v.0
+    by o v (inl k) = f v k.1
+    by o v (inr k) = h.stacks o v k.1
+
+-- a stack that is left, if the thread goes on
+pub left_fits : (p : List Stmt) (known : List VarName) (st : Stack) → StackFits p known st → Each (AreNodesOf (IsNode p)) st → (v : ThreadState) → runnable_state (living_stack st) ≡ Some v → ThreadFits p known v.0
+left_fits p known [] h g v e = cc
+left_fits p known (i ∷ is) h g v e =
+    let same : ◌≡◌ {A = ThreadState} (i ∷ is, Runs) v = cc in
+    subst (λ (u : ThreadState). ThreadFits p known u.0) same (record { some = λ (q : i ∷ is ≡ []). cc; stack = h; nodes = g })
+
+-- ---- a thread begins
+
+pub born_fits : (p : List Stmt) (known : List VarName) (b : Birth) → b.code.0 < length p → length b.vars ≡ length (free p b.code) → Each (λ (x : VarName). Contains known x) b.vars →
+    (n : ThreadName) (v : ThreadState) → value_of equal_thread (runnable_threads (threads_born p (Some b))) n ≡ Some v → ThreadFits p known v.0
+born_fits p known b low many names n v e = go (equal_thread b.name n) e
+  where
+    stack : Stack
+    stack = item.Run b.code (env_for (free p b.code) b.vars) ∷ []
+
+    begun : ThreadFits p known (item.Run b.code (env_for (free p b.code) b.vars) ∷ [])
+    begun = record { some = λ (q : item.Run b.code (env_for (free p b.code) b.vars) ∷ [] ≡ []). cc; stack = begun_fits p known b.code b.vars (item.Run b.code (env_for (free p b.code) b.vars) ∷ []) low (sym many) names refl; nodes = (tt, tt) }
+
+    go : (c : Bool) → cond c (Some (item.Run b.code (env_for (free p b.code) b.vars) ∷ [], Runs)) None ≡ Some v → ThreadFits p known v.0
+    go true k =
+        let same : ◌≡◌ {A = ThreadState} (item.Run b.code (env_for (free p b.code) b.vars) ∷ [], Runs) v = cc in
+        subst (λ (u : ThreadState). ThreadFits p known u.0) same begun
+    go false k = cc
+
+-- what a list of both has is in one of them
+pub value_cases : (xs ts : Threads) (n : ThreadName) (v : ThreadState) → value_of equal_thread (xs ++ ts) n ≡ Some v → (value_of equal_thread xs n ≡ Some v) ⊎ (value_of equal_thread ts n ≡ Some v)
+value_cases [] ts n v e = inr e
+value_cases (t ∷ xs) ts n v e = go (equal_thread t.0 n) e (λ k. value_cases xs ts n v k)
+  where
+    go : (b : Bool) → cond b (Some t.1) (value_of equal_thread (xs ++ ts) n) ≡ Some v → (value_of equal_thread (xs ++ ts) n ≡ Some v → (value_of equal_thread xs n ≡ Some v) ⊎ (value_of equal_thread ts n ≡ Some v)) →
+        (cond b (Some t.1) (value_of equal_thread xs n) ≡ Some v) ⊎ (value_of equal_thread ts n ≡ Some v)
+    go true k ih = inl k
+    go false k ih = ih k
+
+pub terms_start : (p : List Stmt) (known : List VarName) (s : Store) (ts : Threads) (qs : List (CellName × CellRecord)) (b : Birth) → b.code.0 < length p → length b.vars ≡ length (free p b.code) → Each (λ (x : VarName). Contains known x) b.vars →
+    TermsFit p known s ts qs → TermsFit p known s (runnable_threads (threads_born p (Some b)) ++ ts) qs
+terms_start p known s ts qs b low many names h = record {
+  equations = h.equations;
+  nodes = h.nodes;
+  stacks = λ n v e. by n v (value_cases (runnable_threads (threads_born p (Some b))) ts n v e);
+  contents = h.contents;
+}
+  where
+    by : (n : ThreadName) (v : ThreadState) → (value_of equal_thread (runnable_threads (threads_born p (Some b))) n ≡ Some v) ⊎ (value_of equal_thread ts n ≡ Some v) → ThreadFits p known v.0
+    by n v (inl k) = born_fits p known b low many names n v k
+    by n v (inr k) = h.stacks n v k
+
+-- ---- cells
+
+pub place_here : (qs : List (CellName × CellRecord)) (c : CellName) (q : CellRecord) → cell_record_in (insert_entry equal_cell qs c q) c ≡ q
+place_here [] c q = rw ((equal_cell_decides c c).1 refl) refl
+place_here ((d, r) ∷ qs) c q = go (equal_cell c d) refl (place_here qs c q)
+  where
+    go : (b : Bool) → equal_cell c d ≡ b → cell_record_in (insert_entry equal_cell qs c q) c ≡ q → cell_record_in (cond (equal_cell c d) ((d, q) ∷ qs) ((d, r) ∷ insert_entry equal_cell qs c q)) c ≡ q
+    go true e ih = rw (e, e) refl
+    go false e ih = rw (e, e) ih
+
+cells_differ : (c d : CellName) → c ≢ d → equal_cell c d ≡ false
+cells_differ c d h = go (equal_cell c d) refl
+  where
+    go : (b : Bool) → equal_cell c d ≡ b → equal_cell c d ≡ false
+    go true e = absurd (h ((equal_cell_decides c d).0 e))
+    go false e = e
+
+pub place_other : (qs : List (CellName × CellRecord)) (c d : CellName) (q : CellRecord) → d ≢ c → cell_record_in (insert_entry equal_cell qs c q) d ≡ cell_record_in qs d
+place_other [] c d q h = rw (cells_differ d c h) refl
+place_other ((e, r) ∷ qs) c d q h = go (equal_cell c e) refl (place_other qs c d q h)
+  where
+    go : (b : Bool) → equal_cell c e ≡ b → cell_record_in (insert_entry equal_cell qs c q) d ≡ cell_record_in qs d → cell_record_in (cond (equal_cell c e) ((e, q) ∷ qs) ((e, r) ∷ insert_entry equal_cell qs c q)) d ≡ cell_record_in ((e, r) ∷ qs) d
+    go true k ih =
+        let same : c ≡ e = (equal_cell_decides c e).0 k in
+        let differs : equal_cell d e ≡ false = cells_differ d e (λ z. h (z ∙ sym same)) in
+        rw (k, differs) refl
+    go false k ih = rw k (ap (λ (o : CellRecord). o) (next (equal_cell d e) ih))
+      where
+        next : (b : Bool) → cell_record_in (insert_entry equal_cell qs c q) d ≡ cell_record_in qs d → unwrap_or (cond b (Some r) (lookup (equal_cell d) (insert_entry equal_cell qs c q))) unused_cell ≡ unwrap_or (cond b (Some r) (lookup (equal_cell d) qs)) unused_cell
+        next true i = refl
+        next false i = i
+
+cell_cases : (c d : CellName) → (d ≡ c) ⊎ (d ≢ c)
+cell_cases c d = go (equal_cell d c) refl
+  where
+    go : (b : Bool) → equal_cell d c ≡ b → (d ≡ c) ⊎ (d ≢ c)
+    go true e = inl ((equal_cell_decides d c).0 e)
+    go false e = inr (λ q. let yes : equal_cell d c ≡ true = (equal_cell_decides d c).1 q in cc)
+
+-- what is kept of a cell changes, and its content, if it is here, is known
+pub terms_place : (p : List Stmt) (known : List VarName) (s : Store) (ts : Threads) (qs : List (CellName × CellRecord)) (c : CellName) (q : CellRecord) → ((v : VarName) → q.held.token ≡ Here v → Contains known v) →
+    TermsFit p known s ts qs → TermsFit p known s ts (insert_entry equal_cell qs c q)
+terms_place p known s ts qs c q f h = record {
+  equations = h.equations;
+  nodes = h.nodes;
+  stacks = h.stacks;
+  contents = λ d v e. by d v e (cell_cases c d);
+}
+  where
+    by : (d : CellName) (v : VarName) → (cell_record_in (insert_entry equal_cell qs c q) d).held.token ≡ Here v → (d ≡ c) ⊎ (d ≢ c) → Contains known v
+    by d v e (inl k) = f v (ap (λ (r : CellRecord). r.held.token) (sym (place_here qs c q)) ∙ subst (λ (z : CellName). (cell_record_in (insert_entry equal_cell qs c q) z).held.token ≡ Here v) k e)
+    by d v e (inr k) = h.contents d v (ap (λ (r : CellRecord). r.held.token) (sym (place_other qs c d q k)) ∙ e)

@@ -1,0 +1,7 @@
+pub mod Asked
+pub mod Counted
+pub mod Few
+pub mod Fitting
+pub mod Messages
+pub mod Texts
+pub mod Unfit

@@ -1,0 +1,94 @@
+-- No delivered message is unfit: what is shown of messages on variables, terms and codes, and what cells and names of
+-- other kinds give.
+use Rattle.std.specs.Prelude.{◌≡◌, ◌≢◌, ℕ, List, None, Contains}
+use Rattle.tree_node.specs.declared.names.VarName.{VarName}
+use Rattle.tree_node.specs.declared.names.Name.{Name}
+use Rattle.tree_node.specs.declared.node.Term.{Term}
+use Rattle.tree_node.specs.Each.{Each}
+use Rattle.tree_node.specs.Order.{IsLower}
+use Rattle.tree_node.specs.Store.{Equation}
+use Rattle.world_model.specs.Matches.{equations_in}
+use Rattle.tree_node.specs.declared.names.Name.TheVariants as name
+use Rattle.kernel_syntax.specs.declared.stmt.Stmt.{Stmt}
+use Rattle.site_message.specs.declared.message.Msg.{Msg}
+use Rattle.site_message.specs.declared.message.Msg.TheVariants as msg
+use Rattle.site_message.specs.declared.message.Sent.{Sent}
+use Rattle.site_message.specs.declared.turn.Turn.{Turn}
+use Rattle.site_message.specs.Journal.{IsTravelling}
+use Rattle.site_message.specs.Wire.{FitsWire}
+use Rattle.bind_protocol.specs.Records.{Takes, IsKnown}
+use Rattle.site_model.specs.Site.{Site, thread_state}
+use Rattle.site_model.specs.Bundle.{message_vars}
+use Rattle.site_model.specs.Fit.{EachOfMsg, IsOtherSite, IsKnownName, CodesFit, CanTake, IsFit}
+
+-- ---- the part on variables, terms and codes
+
+abbrev pub TakesVars : Site → Msg → Type 0
+TakesVars s (msg.Register x k) = Takes s.records (msg.Register x k)
+TakesVars s (msg.BindReq x n t bundle) = Takes s.records (msg.BindReq x n t bundle)
+TakesVars s (msg.Binding x t bundle) = (x.site ≢ s.records.site) × IsKnown s.records x
+TakesVars s m = Unit {0}
+
+abbrev pub SitesVars : ℕ → Site → Msg → Type 0
+SitesVars n s (msg.Register x k) = IsOtherSite n s k
+SitesVars n s m = Unit {0}
+
+pub record VarsFit (p : List Stmt) (n : ℕ) (s : Site) (m : Msg) : Type 0 where
+  pub takes : TakesVars s m
+  pub sites : SitesVars n s m
+  pub vars : (x : VarName) → Contains (message_vars m) x → IsKnownName n s (name.Var x)
+  pub codes : CodesFit p m
+
+-- ---- the part on cells and their tokens, on names that are no variables, and on lengths and texts
+
+abbrev pub TakesCells : Site → Msg → Type 0
+TakesCells s (msg.Get c k) = CanTake s (msg.Get c k)
+TakesCells s (msg.Forward c k) = CanTake s (msg.Forward c k)
+TakesCells s (msg.Put c v bundle) = CanTake s (msg.Put c v bundle)
+TakesCells s m = Unit {0}
+
+abbrev pub SitesCells : ℕ → Site → Msg → Type 0
+SitesCells n s (msg.Get c k) = IsOtherSite n s k
+SitesCells n s (msg.Forward c k) = IsOtherSite n s k
+SitesCells n s m = Unit {0}
+
+abbrev pub OnOthers : (Name → Type 0) → Name → Type 0
+OnOthers P (name.Var x) = Unit {0}
+OnOthers P x = P x
+
+pub record OthersFit (n : ℕ) (s : Site) (m : Msg) : Type 0 where
+  pub wire : FitsWire m
+  pub takes : TakesCells s m
+  pub sites : SitesCells n s m
+  pub names : EachOfMsg (OnOthers (IsKnownName n s)) m
+
+-- ---- the part on what a message tells and brings
+
+-- a bind that is asked for leads down
+abbrev pub AsksDown : Msg → Type 0
+AsksDown (msg.BindReq x n t bundle) = IsLower t x
+AsksDown m = Unit {0}
+
+-- a thread that comes does not live here
+abbrev pub BringsNew : Site → Msg → Type 0
+BringsNew s (msg.Spawn n code vars bundle) = thread_state s n ≡ None
+BringsNew s m = Unit {0}
+
+-- the equations that a message tells lead down, are those that the site knows where it knows one, and of the site's own
+-- variables tell none that it does not know
+pub record TellsFit (s : Site) (m : Msg) : Type 0 where
+  pub asks : AsksDown m
+  pub brings : BringsNew s m
+  pub down : Each (λ (e : Equation). IsLower e.1 e.0) (equations_in m)
+  pub same : (x : VarName) (t r : Term) → Contains (equations_in m) (x, t) → Contains s.equations (x, r) → t ≡ r
+  pub own : (x : VarName) (t : Term) → Contains (equations_in m) (x, t) → x.site ≡ s.records.site → Contains s.equations (x, t)
+
+-- ---- all together
+
+-- the three parts are the whole
+abbrev pub PartsAreFit : Type 0
+PartsAreFit = (p : List Stmt) (n : ℕ) (s : Site) (m : Msg) → VarsFit p n s m → OthersFit n s m → TellsFit s m → IsFit p n s m
+
+-- each message that travels is fit for the site that it goes to
+abbrev pub MessagesAreFit : List Stmt → ℕ → List Turn → (ℕ → Site) → Type 0
+MessagesAreFit p n j f = (k : ℕ) (m : Sent) → IsTravelling j k m → IsFit p n (f m.to) m.msg

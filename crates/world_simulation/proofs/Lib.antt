@@ -1,0 +1,5 @@
+pub mod GrowLemmas
+pub mod PremiseLemmas
+pub mod ProtocolLemmas
+pub mod SimulationLemmas
+pub mod TotalLemmas

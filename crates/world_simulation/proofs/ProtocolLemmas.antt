@@ -1,0 +1,62 @@
+-- What the simulation says of the sites and the travelling messages alone.
+use Rattle.std.proofs.Common.{◌≡◌, refl, ℕ, List, [], ◌∷◌, ◌⊎◌, inl, inr, Some, None}
+use Rattle.std.specs.Prelude.{Option, Contains}
+use Rattle.tree_node.specs.declared.names.VarName.{VarName}
+use Rattle.tree_node.specs.declared.names.CellName.{CellName}
+use Rattle.tree_node.specs.Assoc.{value_of}
+use Rattle.tree_node.specs.Each.{Each}
+use Rattle.tree_node.specs.Goal.{equal_cell}
+use Rattle.tree_node.specs.Names.{EachOfEquation}
+use Rattle.tree_node.specs.State.{State}
+use Rattle.tree_node.specs.Store.{Store, Equation}
+use Rattle.kernel_syntax.specs.declared.stmt.Stmt.{Stmt}
+use Rattle.site_message.specs.declared.message.Msg.TheVariants as msg
+use Rattle.site_message.specs.declared.turn.Turn.{Turn}
+use Rattle.site_message.specs.Journal.{travelling}
+use Rattle.site_message.proofs.JournalLemmas.{travelling_tells}
+use Rattle.site_model.specs.Site.{Site}
+use Rattle.world_model.specs.World.{counters, managers, cell_records}
+use Rattle.world_model.specs.Names.{IsMade}
+use Rattle.world_model.specs.Chain.{HasChain, IsNowhere}
+use Rattle.world_model.specs.Simulated.{IsSimulated}
+use Rattle.world_variables.proofs.FollowLemmas.{value_each, all_in}
+use Rattle.world_variables.proofs.TellLemmas.{each_of}
+use Rattle.world_messages.specs.Unfit.{MessagesAreFit}
+use Rattle.world_simulation.specs.Protocols.{ProtocolsHold, ProtocolsAlwaysHold}
+use Rattle.world_simulation.proofs.SimulationLemmas.{every_run_is_simulated}
+
+owners : (P : Equation → Type 0) (c : Store) → ((e : Equation) → Contains c e → P e) → (es : List Equation) → Each (Contains c) es → Each P es
+owners P c f [] h = tt
+owners P c f (e ∷ es) h = (f e h.0, owners P c f es h.1)
+
+protocols_hold : (p : List Stmt) (n : ℕ) (j : List Turn) (w : ℕ → Site) (s : State) → IsSimulated p n j w s → MessagesAreFit p n j w → ProtocolsHold p n j w
+protocols_hold p n j w s h fit = record {
+  known = λ i e c. owned e (h.matches.parts.knowledge.known i e c);
+  told = λ k m at. owners (λ (e : Equation). Contains (w e.0.site).equations e) s.equations owned _ (h.matches.parts.knowledge.told k m.to m.msg ((travelling_tells j k m).1 at));
+  one = λ i x t r c d. h.matches.parts.knowledge.one x t r (h.matches.parts.knowledge.known i (x, t) c) (h.matches.parts.knowledge.known i (x, r) d);
+  down = λ i x t c. h.matches.parts.knowledge.down x t (h.matches.parts.knowledge.known i (x, t) c);
+  asks = λ k to x th t bundle at. (h.matches.parts.addressed k to (msg.BindReq x th t bundle) ((travelling_tells j k (record { to = to; msg = msg.BindReq x th t bundle })).1 at)).2;
+  here = h.matches.parts.homes;
+  registered = h.matches.parts.told;
+  made = λ i. record {
+    equations = each_of (EachOfEquation (IsMade (counters w))) s.equations h.matches.parts.centred.all.0 (w i).equations (all_in (w i).equations s.equations (h.matches.parts.knowledge.known i));
+    stacks = λ n v e. (value_each (IsMade (counters w)) s.threads n v.0 h.matches.parts.centred.all.2 (h.matches.parts.placed.up i n v.0 (v.1, e))).1;
+  };
+  met = h.matches.parts.makers;
+  said = h.matches.parts.said;
+  chains = λ c. chains c (value_of equal_cell s.cells c) refl;
+  gets = h.cells.gets;
+  fit = fit;
+}
+  where
+    owned : (e : Equation) → Contains s.equations e → Contains (w e.0.site).equations e
+    owned e c = h.matches.parts.knowledge.owned e.0 e.1 c
+
+    chains : (c : CellName) (o : Option VarName) → value_of equal_cell s.cells c ≡ o → ((v : VarName) × HasChain (managers w) (cell_records w) (travelling j) c v) ⊎ IsNowhere (managers w) (cell_records w) (travelling j) c
+    chains c None e = inr (h.cells.cells.others c e)
+    chains c (Some v) e = inl (v, h.cells.cells.chains c v e)
+
+pub protocols_always_hold : ProtocolsAlwaysHold
+protocols_always_hold p n j w is low high run =
+    let r = every_run_is_simulated p n j w is low high run in
+    protocols_hold p n j w r.0 r.1 r.2

@@ -1,0 +1,4 @@
+pub mod Messages
+pub mod Protocols
+pub mod Simulation
+pub mod Stays

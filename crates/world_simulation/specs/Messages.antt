@@ -1,0 +1,48 @@
+-- How many messages a run sends at most.
+use Rattle.std.specs.Prelude.{ℕ, ◌+◌, ◌*◌, ◌-◌, ◌≤◌, List, [], ◌∷◌, length, Option, Some, None}
+use Rattle.tree_node.specs.declared.names.VarName.{VarName}
+use Rattle.tree_node.specs.declared.names.CellName.{CellName}
+use Rattle.tree_node.specs.State.{State}
+use Rattle.site_message.specs.declared.message.Msg.{Msg}
+use Rattle.site_message.specs.declared.message.Msg.TheVariants as msg
+use Rattle.oz_model.specs.Run.{Run, exchanges}
+use Rattle.std.specs.List.{count_by}
+use Rattle.kernel_syntax.specs.declared.stmt.Stmt.{Stmt}
+use Rattle.kernel_syntax.specs.Program.{IsProgram}
+use Rattle.site_message.specs.declared.turn.Turn.{Turn}
+use Rattle.site_message.specs.Journal.{sent_of}
+use Rattle.site_model.specs.Bundle.{bundle_limit}
+use Rattle.site_model.specs.Site.{Site}
+use Rattle.site_model.specs.Run.{WorldRun}
+use Rattle.world_model.specs.Schedule.{schedule}
+use Rattle.world_messages.specs.Messages.{vars_made, threads_made, spawns, asks_to_know, tells_binding, asks_to_bind}
+
+-- with T threads, the first among them, and V variables made by the schedule, the messages that are not a cell's are at
+-- most T + 2 * V * (n - 1) + T * V
+abbrev pub MessagesAreFew : Type 0
+MessagesAreFew =
+    (p : List Stmt) (n : ℕ) (j : List Turn) (w : ℕ → Site) → IsProgram p → 1 ≤ n → n ≤ 64 → WorldRun p n bundle_limit j w →
+    count_by spawns (sent_of j) + count_by asks_to_know (sent_of j) + count_by tells_binding (sent_of j) + count_by asks_to_bind (sent_of j)
+    ≤ length (threads_made (schedule j)) + 2 * (length (vars_made (schedule j)) * (n - 1)) + length (threads_made (schedule j)) * length (vars_made (schedule j))
+
+-- the cell that a message is about
+abbrev pub cell_of : Msg → Option CellName
+cell_of (msg.Get c k) = Some c
+cell_of (msg.Forward c k) = Some c
+cell_of (msg.Put c v bundle) = Some c
+cell_of _ = None
+
+-- what f gives for each of the cells, together
+abbrev pub sum_over : (CellName → ℕ) → List (CellName × VarName) → ℕ
+sum_over f [] = 0
+sum_over f (c ∷ cs) = f c.0 + sum_over f cs
+
+-- and all messages are at most so many and, for each cell that the machine has then, three for each of its exchanges and each
+-- site
+abbrev pub AllMessagesAreFew : Type 0
+AllMessagesAreFew =
+    (p : List Stmt) (n : ℕ) (j : List Turn) (w : ℕ → Site) → IsProgram p → 1 ≤ n → n ≤ 64 → WorldRun p n bundle_limit j w →
+    (s : State) × Run p (schedule j) s
+    × (length (sent_of j)
+    ≤ length (threads_made (schedule j)) + 2 * (length (vars_made (schedule j)) * (n - 1)) + length (threads_made (schedule j)) * length (vars_made (schedule j))
+    + sum_over (λ c. 3 * (length (exchanges p (schedule j) c) + n)) s.cells)

@@ -1,0 +1,79 @@
+-- Where nothing travels and every thread waits, the centralised machine rests.
+use Rattle.std.proofs.Common.{rules, ◌≡◌, ◌∙◌, sym, refl, subst, ℕ, List, ◌⊎◌, inl, inr, Bool, Some, None}
+use Rattle.std.specs.Prelude.{Option, Contains, ◌≢◌, is_some, IsTrue}
+use Rattle.tree_node.specs.declared.names.VarName.{VarName}
+use Rattle.tree_node.specs.declared.names.ThreadName.{ThreadName}
+use Rattle.tree_node.specs.declared.names.Name.{Name}
+use Rattle.tree_node.specs.declared.node.Term.{Term}
+use Rattle.tree_node.specs.Assoc.{value_of}
+use Rattle.tree_node.specs.State.{State, equal_thread}
+use Rattle.tree_node.specs.Store.{Store, IsFree, IsSound}
+use Rattle.kernel_syntax.specs.declared.stmt.Stmt.{Stmt}
+use Rattle.oz_model.specs.Need.{Need, IsWaiting, stack_need}
+use Rattle.oz_model.specs.Run.{AtRest}
+use Rattle.bind_protocol.specs.Records.{Records, knowledge, IsKnown}
+use Rattle.site_model.specs.Site.{ThreadState, Threads, Counters}
+use Rattle.thread_roster.specs.declared.mode.Mode.{Mode}
+use Rattle.thread_roster.specs.declared.mode.Mode.TheVariants.{Runs, WaitsFor}
+use Rattle.thread_roster.specs.declared.mode.Mode.TheVariants as site
+use Rattle.world_model.specs.World.{Mail}
+use Rattle.world_model.specs.Names.{IsHere}
+use Rattle.world_model.specs.Matches.{IsThreadAt, IsInSpawn, NeedsFirst, IsAsked, IsTold, PartsMatch}
+use Rattle.world_variables.proofs.LearnLemmas.{needs_more}
+use Rattle.world_variables.proofs.RecordLemmas.{registered_open}
+use Rattle.thread_roster.specs.Threads.{is_waiting}
+use Rattle.world_variables.specs.Rows.{IsStill}
+
+abbrev pub waits : ThreadName × ThreadState → Bool
+waits t = is_waiting t.1.1
+
+module _ (p : List Stmt) (here : ℕ → Name → Type 0) (eqs : ℕ → Store) (records : ℕ → Records) (threads : ℕ → Threads) (made : ℕ → Counters) (mail : Mail) (s : State) (parts : PartsMatch p here eqs records threads made mail s) (still : IsStill threads mail) where
+  -- what a site sees as free, and has here, is free at the centre
+  free_there : (i : ℕ) (x : VarName) → IsFree (eqs i) x → IsHere (records i) x → IsFree s.equations x
+  free_there i x free (inl zero) t h = parts.centred.nobody x zero t h
+  free_there i x free (inr known) t h = go (knowledge (records i) x) refl known
+    where
+      owned : knowledge (records x.site) x ≡ Some (Some t)
+      owned = (parts.kept x.site).held x t (parts.knowledge.owned x t h)
+
+      site_or : (a b : ℕ) → (a ≡ b) ⊎ (a ≢ b)
+      site_or a b = search rules
+
+      missing : (o : Option (Option Term)) → o ≡ None → IsTrue (is_some o) → ⊥
+      missing None e q = cc
+      missing (Some o) e q = cc
+
+      told : IsTold records mail i x → ⊥
+      told (inl r) =
+          let open_now : knowledge (records x.site) x ≡ Some None = registered_open (records x.site) x i (sym (parts.kept x.site).site) r in
+          let both : Some None ≡ Some (Some t) = sym open_now ∙ owned in cc
+      told (inr (inl (k, q))) = still.none k _ _ q
+      told (inr (inr (k, r, bundle, q))) = still.none k _ _ q
+
+      go : (o : Option (Option Term)) → knowledge (records i) x ≡ o → IsKnown (records i) x → ⊥
+      go None e k = missing (knowledge (records i) x) e k
+      go (Some (Some r)) e k = free r ((parts.kept i).bound x r e)
+      go (Some None) e k = at (site_or x.site i)
+        where
+          at : (x.site ≡ i) ⊎ (x.site ≢ i) → ⊥
+          at (inl own) = free t (subst (λ (j : ℕ). Contains (eqs j) (x, t)) own (parts.knowledge.owned x t h))
+          at (inr far) = told (parts.told i x e far)
+
+  pub quiet_rests : IsSound s.equations → AtRest p s
+  quiet_rests sound n st h = go (parts.placed.down n st h)
+    where
+      waiting : (i : ℕ) (m : Mode) → value_of equal_thread (threads i) n ≡ Some (st, m) → IsWaiting (stack_need p s.equations st)
+      waiting i Runs at = absurd (still.waits i n st at)
+      waiting i (WaitsFor d) at = absurd (still.cells i n st d at)
+      waiting i (site.Waits x) at = why (parts.waiting.waits i n st x at)
+        where
+          why : IsFree (eqs i) x × IsHere (records i) x × (NeedsFirst p (eqs i) st x ⊎ IsAsked mail s.equations n x) → IsWaiting (stack_need p s.equations st)
+          why (free, is, inl needs) =
+              let c = needs_more p (eqs i) s.equations st x sound parts.knowledge.one parts.knowledge.down (parts.knowledge.known i) (free_there i x free is) needs in
+              subst (λ (d : Need). IsWaiting d) (sym c.1) tt
+          why (free, is, inr (inl (k, t, bundle, q))) = absurd (still.none k _ _ q)
+          why (free, is, inr (inr (t, q))) = absurd (free_there i x free is t q)
+
+      go : ((i : ℕ) × IsThreadAt threads i n st) ⊎ ((k : ℕ) × IsInSpawn p mail k n st) → IsWaiting (stack_need p s.equations st)
+      go (inl (i, (m, at))) = waiting i m at
+      go (inr (k, b)) = absurd (still.none k b.0 _ b.4)
