@@ -1,0 +1,25 @@
+//! What a site does with the tokens of cells: the code behind the rows of `site_model` on cells.
+//!
+//! For: the machine of one site, which keeps a `Cells` beside its threads and variables, and hands it what its threads and
+//! its messages want of cells.
+//!
+//! It promises: contracts see `Cells` as `CellTables`, the two tables of cells in a site's plain state, and each call is a row
+//! of the site (`IsRow`, `IsChange`): `make` and `exchange` are `after_cell`, `request` is `request_row`, `get` is
+//! `get_row`, `forward` is `forward_row`; a Put is `arrive`, an `exchange` for each thread that it hands out, and `leave`,
+//! together `put_row`. `takes` tells which messages can be taken, `is_here` where the token is. After want of memory a
+//! call has changed nothing. The functions of `laws` say that the tests are those of the definitions of a site, and how
+//! the exchanges of a Put follow each other.
+//!
+//! It stands on `token_chain` (a site's part of a cell), `site_message` (messages, outbox), `site_model` (the definitions)
+//! and `indexmap`.
+//!
+//! Source: Van Roy and others, *Mobile Objects in Distributed Oz* (TOPLAS 19(5), 1997).
+#![tactic(auto)]
+
+mod cells;
+pub mod laws;
+mod place;
+mod tables;
+mod threads;
+
+pub use cells::Cells;

@@ -1,0 +1,5 @@
+mod LinkLemmas
+mod RowLemmas
+mod MeetLemmas
+pub mod MakeLemmas
+mod FitLemmas

@@ -1,0 +1,220 @@
+-- The rows of variables on a site with these parts.
+use Rattle.std.proofs.Common.{arith, zero, suc, ◌+◌, ◌<◌, length, take, get_or, append_assoc, add-one, ◌≡◌, ◌≢◌, ◌∙◌, sym, ap, refl, subst, ℕ, List, [], ◌∷◌, ◌++◌, map, ◌⊎◌, inl, inr, Bool, true, false, cond}
+use Rattle.std.specs.Prelude.{Option, Some, None, is_some}
+use Rattle.std.proofs.Math.Seq.{take-suc}
+use Rattle.indexmap.specs.IndexMap.{insert_entry}
+use Rattle.tree_node.specs.declared.names.VarName.{VarName}
+use Rattle.tree_node.specs.declared.names.ThreadName.{ThreadName}
+use Rattle.tree_node.specs.declared.node.Term.{Term}
+use Rattle.tree_node.specs.Each.{Each}
+use Rattle.tree_node.specs.Order.{IsLower}
+use Rattle.tree_node.specs.State.{Stack}
+use Rattle.tree_node.specs.Store.{Store, Equation, equal_var}
+use Rattle.tree_node.proofs.ClassLemmas.{same_name_refl}
+use Rattle.site_message.specs.declared.message.Msg.{Msg}
+use Rattle.site_message.specs.declared.message.Sent.{Sent}
+use Rattle.proxy_table.specs.Proxies.{Proxy, entry_of}
+use Rattle.proxy_table.specs.Proxies as proxies
+use Rattle.variable_owner.specs.declared.owners.Owner.{Owner}
+use Rattle.variable_owner.specs.declared.owners.Owner.TheVariants.{Open, Bound}
+use Rattle.variable_owner.specs.Owners.{owner_of, sites_of}
+use Rattle.bind_protocol.specs.Records.{Records, is_own, knowledge}
+use Rattle.bind_protocol.specs.Rows.{binding, after_meet, after_binding, after_ask, ask_sends, after_register, register_sends, register_answer, meets_send}
+use Rattle.bind_protocol.proofs.LookLemmas.{last_here}
+use Rattle.thread_roster.specs.Threads.{Entry, wake_all, wake}
+use Rattle.site_model.specs.Site.{Site, Threads}
+use Rattle.site_model.specs.Bundle.{all_bundled, message_vars, message_bundle}
+use Rattle.site_model.specs.Transition.{Transition, without_output, with_pick, and_then}
+use Rattle.site_model.specs.Variables.{with_known_equation_as, with_known_equation, with_known_equations, with_new_equation, own_bind, meeting, opening}
+use Rattle.site_model.specs.Messages.{register_row, bind_request_as, bind_request_row, bind_pick}
+use Rattle.site_variables.specs.declared.variables.Variables.{Variables}
+use Rattle.site_variables.specs.Variables.{Parts, IsDone, parts_of, stacks_of, with_parts}
+use Rattle.site_variables.specs.Meeting.{AreMet}
+
+pub nil_right : {X : Type 0} (xs : List X) → xs ++ [] ≡ xs
+nil_right [] = refl
+nil_right {X} (x ∷ xs) = ap (λ (l : List X). x ∷ l) (nil_right xs)
+
+-- ---- threads
+
+pub stacks_woken : {V : Type 0} (g : V → Stack) (x : VarName) (ts : List (Entry V)) → stacks_of g (wake_all x ts) ≡ wake_all x (stacks_of g ts)
+stacks_woken g x [] = refl
+stacks_woken {V} g x (t ∷ ts) = ap (λ (l : Threads). (t.0, (g t.1.0, wake x t.1.1)) ∷ l) (stacks_woken g x ts)
+
+-- ---- an equation that is told
+
+kept_as : (o : Bool) (k : Option (Option Term)) (s : Site) (x : VarName) (t : Term) → (o ≡ true) ⊎ ((r : Term) × (k ≡ Some (Some r))) → with_known_equation_as o k s x t ≡ s
+kept_as true k s x t h = refl
+kept_as false k s x t (inl e) = cc
+kept_as false None s x t (inr h) = let e = h.1 in cc
+kept_as false (Some None) s x t (inr h) = let e = h.1 in cc
+kept_as false (Some (Some r)) s x t (inr h) = refl
+
+new_as : (o : Bool) (k : Option (Option Term)) (s : Site) (x : VarName) (t : Term) → o ≡ false → ((r : Term) → k ≡ Some (Some r) → ⊥) → with_known_equation_as o k s x t ≡ with_new_equation s x t
+new_as true k s x t e h = cc
+new_as false None s x t e h = refl
+new_as false (Some None) s x t e h = refl
+new_as false (Some (Some r)) s x t e h = absurd (h r refl)
+
+-- nothing changes
+pub done_kept : (p : Parts) (x : VarName) (t : Term) → p.sent ≡ [] → (is_own p.records x ≡ true) ⊎ ((r : Term) × (knowledge p.records x ≡ Some (Some r))) → IsDone (λ s. without_output (with_known_equation s x t)) [] p p
+done_kept p x t none h = record {
+  more = [];
+  sent = sym (nil_right p.sent);
+  done = λ s. ap without_output (kept_as (is_own p.records x) (knowledge p.records x) (with_parts s p) x t h);
+}
+
+-- it is known from now on
+pub done_learnt : (p q : Parts) (x : VarName) (t : Term) → is_own p.records x ≡ false → ((r : Term) → knowledge p.records x ≡ Some (Some r) → ⊥) →
+    q.equations ≡ (x, t) ∷ p.equations → q.records ≡ after_binding p.records x t → q.threads ≡ wake_all x p.threads → q.sent ≡ p.sent → IsDone (λ s. without_output (with_known_equation s x t)) [] p q
+done_learnt p q x t own free a b c d = record {
+  more = [];
+  sent = d ∙ sym (nil_right p.sent);
+  done = λ s. ap without_output (new_as (is_own p.records x) (knowledge p.records x) (with_parts s p) x t own free) ∙ rw (a, b, c) refl;
+}
+
+-- ---- a name that is known without a Register
+
+last_put : (es : List Proxy) (x : VarName) (v w : Option Term) → entry_of es x ≡ None → insert_entry equal_var (es ++ (x, v) ∷ []) x w ≡ insert_entry equal_var es x w
+last_put [] x v w e = rw (same_name_refl x) refl
+last_put ((z, r) ∷ es) x v w e = go (equal_var x z) refl e (λ k. last_put es x v w k)
+  where
+    go : (b : Bool) → equal_var x z ≡ b → cond b (Some r) (entry_of es x) ≡ None → (entry_of es x ≡ None → insert_entry equal_var (es ++ (x, v) ∷ []) x w ≡ insert_entry equal_var es x w) →
+        cond (equal_var x z) ((z, w) ∷ (es ++ (x, v) ∷ [])) ((z, r) ∷ insert_entry equal_var (es ++ (x, v) ∷ []) x w) ≡ cond (equal_var x z) ((z, w) ∷ es) ((z, r) ∷ insert_entry equal_var es x w)
+    go true q k ih = cc
+    go false q k ih = rw (q, ih k) refl
+
+met_put : (es : List Proxy) (x : VarName) (t : Term) → proxies.after_bound (proxies.after_meet es x) x t ≡ proxies.after_bound es x t
+met_put es x t = go (entry_of es x) refl
+  where
+    go : (o : Option (Option Term)) → entry_of es x ≡ o → proxies.after_bound (cond (is_some o) es (es ++ (x, None) ∷ [])) x t ≡ proxies.after_bound es x t
+    go None e = last_put es x None (Some t) e
+    go (Some r) e = refl
+
+pub met_bound : (b : Records) (x : VarName) (t : Term) → is_own b x ≡ false → after_binding (after_meet b x) x t ≡ after_binding b x t
+met_bound b x t own = rw own (ap (λ (es : List Proxy). record b { proxies = es }) (met_put b.proxies x t))
+
+-- it stands among the proxies then, unbound
+pub met_entry : (b c : Records) (x : VarName) → is_own b x ≡ false → ((r : Term) → knowledge b x ≡ Some (Some r) → ⊥) → c ≡ after_meet b x → entry_of c.proxies x ≡ Some None
+met_entry b c x own free is = rw (is, own) (go (entry_of b.proxies x) refl (λ r e. free r (rw own e)))
+  where
+    go : (o : Option (Option Term)) → entry_of b.proxies x ≡ o → ((r : Term) → entry_of b.proxies x ≡ Some (Some r) → ⊥) → entry_of (cond (is_some o) b.proxies (b.proxies ++ (x, None) ∷ [])) x ≡ Some None
+    go None e never = last_here b.proxies x None e
+    go (Some None) e never = e
+    go (Some (Some r)) e never = absurd (never r e)
+
+-- ---- messages without bundles
+
+unbundled : (s : Store) (x : VarName) (t : Term) (ks : List ℕ) → all_bundled 0 s (map (λ k. binding x t k) ks) ≡ map (λ k. binding x t k) ks
+unbundled s x t [] = refl
+unbundled s x t (k ∷ ks) = ap (λ (ms : List Sent). binding x t k ∷ ms) (unbundled s x t ks)
+
+answer_unbundled : (s : Store) (o : Option Owner) (x : VarName) (k : ℕ) → all_bundled 0 s (register_answer o x k) ≡ register_answer o x k
+answer_unbundled s None x k = refl
+answer_unbundled s (Some (Open ks)) x k = refl
+answer_unbundled s (Some (Bound t)) x k = refl
+
+-- ---- an own bind, a registration, a request
+
+pub done_bound : (p q : Parts) (x : VarName) (t : Term) → q.equations ≡ (x, t) ∷ p.equations → q.records ≡ after_ask p.records x t → q.threads ≡ wake_all x p.threads → q.sent ≡ p.sent ++ ask_sends p.records x t → IsDone (own_bind 0 x t) [] p q
+done_bound p q x t a b c d = record {
+  more = ask_sends p.records x t;
+  sent = d;
+  done = λ s. rw (a, b, c, unbundled ((x, t) ∷ p.equations) x t (sites_of (owner_of p.records.owners x))) refl;
+}
+
+pub done_registered : (p q : Parts) (x : VarName) (k : ℕ) → q.equations ≡ p.equations → q.records ≡ after_register p.records x k → q.threads ≡ p.threads → q.sent ≡ p.sent ++ register_sends p.records x k → IsDone (register_row 0 x k) [] p q
+done_registered p q x k a b c d = record {
+  more = register_sends p.records x k;
+  sent = d;
+  done = λ s. rw (a, b, c, answer_unbundled p.equations (owner_of p.records.owners x) x k) refl;
+}
+
+late_as : (k : Option (Option Term)) (x : VarName) (t : Term) (n : ThreadName) (s : Site) → k ≢ Some None → bind_request_as k 0 x t n s ≡ without_output s
+late_as None x t n s h = refl
+late_as (Some None) x t n s h = absurd (h refl)
+late_as (Some (Some r)) x t n s h = refl
+
+pub done_late : (p : Parts) (x : VarName) (t : Term) (n : ThreadName) → knowledge p.records x ≢ Some None → IsDone (bind_request_row 0 x t n) [] p p
+done_late p x t n h = record {
+  more = [];
+  sent = sym (nil_right p.sent);
+  done = λ s. late_as (knowledge p.records x) x t n (with_parts s p) h;
+}
+
+taken_as : (k : Option (Option Term)) (x : VarName) (t : Term) (n : ThreadName) (s : Site) → k ≡ Some None → bind_request_as k 0 x t n s ≡ and_then (with_pick s (bind_pick n x t)) (own_bind 0 x t)
+taken_as None x t n s e = cc
+taken_as (Some None) x t n s e = refl
+taken_as (Some (Some r)) x t n s e = cc
+
+pub done_taken : (p q : Parts) (x : VarName) (t : Term) (n : ThreadName) → knowledge p.records x ≡ Some None → IsDone (own_bind 0 x t) [] p q → IsDone (bind_request_row 0 x t n) (bind_pick n x t ∷ []) p q
+done_taken p q x t n e done = record {
+  more = done.more;
+  sent = done.sent;
+  done = λ s. taken_as (knowledge p.records x) x t n (with_parts s p) e ∙ ap (λ (d : Transition). record { site = d.site; picks = bind_pick n x t ∷ d.picks; sent = d.sent; lines = d.lines }) (done.done s);
+}
+
+-- ---- one row after another
+
+-- equations that are told, one after another
+pub told_append : (s : Site) (es fs : List Equation) → with_known_equations s (es ++ fs) ≡ with_known_equations (with_known_equations s es) fs
+told_append s [] fs = refl
+told_append s (e ∷ es) fs = told_append (with_known_equation s e.0 e.1) es fs
+
+pub told_none : (p : Parts) → IsDone (λ s. without_output (with_known_equations s [])) [] p p
+told_none p = record { more = []; sent = sym (nil_right p.sent); done = λ s. refl }
+
+pub told_more : (es : List Equation) (k : ℕ) (d : Equation) (p q r : Parts) → k < length es → d ≡ get_or es k d → IsDone (λ s. without_output (with_known_equations s (take k es))) [] p q → IsDone (λ s. without_output (with_known_equation s d.0 d.1)) [] q r →
+    IsDone (λ s. without_output (with_known_equations s (take (k + 1) es))) [] p r
+told_more es k d p q r below at h g = record {
+  more = h.more ++ g.more;
+  sent = g.sent ∙ (ap (λ (ms : List Sent). ms ++ g.more) h.sent ∙ append_assoc p.sent h.more g.more);
+  done = go;
+}
+  where
+    taken : (s : Site) → with_known_equations s (take (k + 1) es) ≡ with_known_equation (with_known_equations s (take k es)) d.0 d.1
+    taken s = rw (add-one, take-suc es k d below, ← at) (told_append s (take k es) (d ∷ []))
+
+    go : (s : Site) → without_output (with_known_equations (with_parts s p) (take (k + 1) es)) ≡ record { site = with_parts s r; picks = []; sent = h.more ++ g.more; lines = [] }
+    go s =
+        let first : with_known_equations (with_parts s p) (take k es) ≡ with_parts s q = ap (λ (t : Transition). t.site) (h.done s) in
+        let second : with_known_equation (with_parts s q) d.0 d.1 ≡ with_parts s r = ap (λ (t : Transition). t.site) (g.done s) in
+        let before : [] ≡ h.more = ap (λ (t : Transition). t.sent) (h.done s) in
+        let after : [] ≡ g.more = ap (λ (t : Transition). t.sent) (g.done s) in
+        rw (taken (with_parts s p), first, second, ← before, ← after) refl
+
+-- names that were met
+pub done_met : (xs : List VarName) (v w : Variables) (ts : Threads) (o p : List Sent) → AreMet xs v o w p → IsDone (meeting xs) [] (parts_of v ts o) (parts_of w ts p)
+done_met xs v w ts o p h = record {
+  more = meets_send v.binder xs;
+  sent = h.sent;
+  done = λ s. rw (h.records, h.equations) refl;
+}
+
+-- a message that was opened
+pub done_opened : (m : Msg) (es : List Equation) (u v w : Variables) (ts rs : Threads) (o p : List Sent) → es ≡ message_bundle m → IsDone (λ s. without_output (with_known_equations s es)) [] (parts_of u ts []) (parts_of v rs []) → AreMet (message_vars m) v o w p →
+    IsDone (opening m) [] (parts_of u ts o) (parts_of w rs p)
+done_opened m es u v w ts rs o p is h met = record {
+  more = meets_send v.binder (message_vars m);
+  sent = met.sent;
+  done = go;
+}
+  where
+    go : (s : Site) → opening m (with_parts s (parts_of u ts o)) ≡ record { site = with_parts s (parts_of w rs p); picks = []; sent = meets_send v.binder (message_vars m); lines = [] }
+    go s =
+        let told : with_known_equations (with_parts s (parts_of u ts o)) es ≡ with_parts s (parts_of v rs []) = ap (λ (t : Transition). t.site) (h.done s) in
+        let all : with_known_equations (with_parts s (parts_of u ts o)) (message_bundle m) ≡ with_parts s (parts_of v rs []) = ap (λ (fs : List Equation). with_known_equations (with_parts s (parts_of u ts o)) fs) (sym is) ∙ told in
+        ap (λ (z : Site). meeting (message_vars m) z) all ∙ rw (met.records, met.equations) refl
+
+each_get : {X : Type 0} (P : X → Type 0) (xs : List X) (k : ℕ) (d : X) → Each P xs → k < length xs → P (get_or xs k d)
+each_get P [] k d h below = absurd (omega arith)
+each_get P (x ∷ xs) zero d h below = h.0
+each_get P (x ∷ xs) (suc k) d h below = each_get P xs k d h.1 (omega arith)
+
+pub lower_at : (es : List Equation) (k : ℕ) (d : Equation) → Each (λ (e : Equation). IsLower e.1 e.0) es → k < length es → d ≡ get_or es k d → IsLower d.1 d.0
+lower_at es k d h below at =
+    let there : IsLower (get_or es k d).1 (get_or es k d).0 = each_get (λ (e : Equation). IsLower e.1 e.0) es k d h below in
+    subst (λ (e : Equation). IsLower e.1 e.0) (sym at) there
+
+pub bundle_lower : (m : Msg) (es : List Equation) → es ≡ message_bundle m → Each (λ (e : Equation). IsLower e.1 e.0) (message_bundle m) → Each (λ (e : Equation). IsLower e.1 e.0) es
+bundle_lower m es is h = subst (λ (fs : List Equation). Each (λ (e : Equation). IsLower e.1 e.0) fs) (sym is) h

@@ -1,0 +1,28 @@
+//! What a site does with variables: it makes and meets them, learns and binds them, registers other sites and is asked for
+//! binds, in its store, its records and its threads together.
+//!
+//! For: the machine of a site, which calls this for the variables of its threads' steps and of the messages that come.
+//!
+//! It promises: each call does what the row of the site's definition says (`IsDone`), whatever the site keeps besides:
+//! `make`, `meet`, `open`, `learn`, `bind`, `follow_bind`, `register`, `request`, `ask`. After each of them the store's
+//! equations and names are those of the records (`IsLinked`), and no name is forgotten. Of a message, `can_take`,
+//! `bundle_fits`, `names_fit` and `sites_fit` tell exactly whether it is fit for the site as far as its variables, names and
+//! sites go. After want of memory no clause speaks, and the site is given up.
+//!
+//! Messages carry no equations yet: `bundle_limit` is 0. A message that does is opened whole.
+//!
+//! It stands on `tree_store` (equations), `bind_protocol` (records), `thread_roster` (who waits), `site_message`, and on
+//! `site_model`, whose rows it follows.
+//!
+//! Source: Haridi and others, *Efficient Logic Variables for Distributed Computing* (TOPLAS 21(3), 1999).
+#![tactic(auto)]
+
+mod fit;
+mod meeting;
+mod names;
+mod same;
+mod threads;
+mod variables;
+
+pub use names::{Bounds, names_fit, sites_fit};
+pub use variables::Variables;
