@@ -1,9 +1,9 @@
 -- Turns of a site: at most one message, then units.
-use Rattle.std.specs.Prelude.{◌≡◌, ℕ, ◌≤◌, List, [], ◌∷◌, ◌⊎◌, length, Option, Some, None}
+use Rattle.std.specs.Prelude.{◌≡◌, ℕ, ◌<◌, ◌≤◌, List, [], ◌∷◌, ◌⊎◌, length, true, Option, Some, None}
 use Rattle.tree_node.specs.declared.names.ThreadName.{ThreadName}
 use Rattle.kernel_syntax.specs.declared.stmt.Stmt.{Stmt}
 use Rattle.site_message.specs.declared.message.Msg.{Msg}
-use Rattle.site_model.specs.Site.{Site}
+use Rattle.site_model.specs.Site.{Site, is_idle}
 use Rattle.site_model.specs.Transition.{Transition, without_output, sequence}
 use Rattle.site_model.specs.Messages.{reception}
 use Rattle.site_model.specs.Unit.{IsUnit}
@@ -29,3 +29,8 @@ IsTurnOf p n limit ths s m d =
 -- at most 64 units
 abbrev pub SiteTurn : List Stmt → ℕ → ℕ → Site → Option Msg → Transition → Type 0
 SiteTurn p n limit s m d = (ths : List ThreadName) × (length ths ≤ 64) × IsTurnOf p n limit ths s m d
+
+-- a turn of as many units as the quantum, fewer only where the site is then idle
+abbrev pub IsFullTurn : List Stmt → ℕ → ℕ → ℕ → Site → Option Msg → Transition → Type 0
+IsFullTurn p n limit quantum s m d =
+    (ths : List ThreadName) × IsTurnOf p n limit ths s m d × (length ths ≤ quantum) × (length ths < quantum → is_idle d.site ≡ true)

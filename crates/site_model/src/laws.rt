@@ -3,14 +3,14 @@
 ghost use Rattle.site_model.specs.CellExample.{TokenGoesRound};
 ghost use Rattle.site_model.specs.Example.{BundleTravels, TokenReturns};
 
-/// A run of fourteen turns of two sites, in which every kind of message travels, is a run of a world and ends quiet. And a
-/// bundle takes a known structure along in one message. It does nothing: its clauses are the runs.
+/// A run of fourteen turns of two sites, in which every kind of message travels, is a run of a world and ends quiet. And rows
+/// in which a bundle takes a known structure along in one message. It does nothing: its clauses are worked examples.
 pub fn worked_turns()
     ensures run { TokenReturns }
     ensures bundle { BundleTravels }
 {}
 
-/// A cell's token goes round three sites, once with a Forward that comes before its Put.
+/// The rows in which a cell's token goes round three sites, once with a Forward that comes before its Put.
 pub fn worked_cells()
     ensures { TokenGoesRound }
 {}

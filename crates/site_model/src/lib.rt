@@ -5,8 +5,9 @@
 //!
 //! It promises the definitions: the state of a site (`specs/Site.antt`), one row for each message (`specs/Messages.antt`, over
 //! those of variables and of cells), a unit of a thread (`specs/Unit.antt`), the known equations that travel with a message
-//! (`specs/Bundle.antt`), which messages are fit (`IsFit`), turns (`SiteTurn`) and runs of a world (`WorldRun`). The laws
-//! `worked_turns` and `worked_cells` are runs by these definitions, in which every kind of message travels.
+//! (`specs/Bundle.antt`), which messages are fit (`IsFit`), turns (`SiteTurn`, `IsFullTurn`) and runs of a world (`WorldRun`).
+//! The law `worked_turns` is a run by these definitions, of fourteen turns, in which every kind of message travels, and rows
+//! with a bundle; `worked_cells` are rows of cells, worked one after another.
 //!
 //! It stands on `bind_protocol`, whose rows of variables it takes, on `token_chain` for those of cells, on `thread_roster` for
 //! the threads, and on `oz_model` for a thread's step. It has no code, and no tests.

@@ -26,7 +26,7 @@ use Rattle.site_model.specs.Cells.{serving, after_exchange, content_after_exchan
 use Rattle.site_model.specs.Messages.{with_thread, bind_request_row, message_row}
 use Rattle.site_model.specs.Unit.{with_fresh_names, placement, birth_row, after_cell, after_effect, step_row, thread_step, bind_attempt, fresh_names, effect_here, step_pick, IsStepOrRequest, IsUnitFor}
 use Rattle.site_model.specs.Turn.{IsReception, AreUnits, SiteTurn}
-use Rattle.site_model.specs.Run.{IsEntry, IsReachedBy, SiteRun, delivered_message}
+use Rattle.site_model.specs.Run.{delivered_message}
 use Rattle.world_model.proofs.CellLemmas.{request_only}
 use Rattle.world_simulation.specs.Stays.{EquationsStay}
 
@@ -144,8 +144,5 @@ module _ (p : List Stmt) (n limit : ℕ) where
 -- ---- runs
 
 pub equations_stay : EquationsStay
-equations_stay p n limit i e j s = go (e.site == i)
-  where
-    go : (b : Bool) → IsReachedBy b (λ old. SiteRun p n limit i j old) (λ old new. IsEntry p n limit j e old new) s → (old : Site) × SiteRun p n limit i j old × Includes old.equations s.equations
-    go true (old, before, (d, turn, told, is)) = (old, before, subst (λ (t : Site). Includes old.equations t.equations) (sym is) (turn_grows p n limit (delivered_message j e.delivered) old d turn))
-    go false before = (s, before, λ x c. c)
+equations_stay p n limit j e old new (d, turn, told, is) =
+    subst (λ (t : Site). Includes old.equations t.equations) (sym is) (turn_grows p n limit (delivered_message j e.delivered) old d turn)

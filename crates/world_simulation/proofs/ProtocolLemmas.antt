@@ -16,27 +16,48 @@ use Rattle.site_message.specs.Journal.{travelling}
 use Rattle.site_message.proofs.JournalLemmas.{travelling_tells}
 use Rattle.site_model.specs.Site.{Site}
 use Rattle.world_model.specs.World.{counters, managers, cell_records}
-use Rattle.world_model.specs.Names.{IsMade}
+use Rattle.world_model.specs.Names.{IsMade, IsHome}
 use Rattle.world_model.specs.Chain.{HasChain, IsNowhere}
 use Rattle.world_model.specs.Simulated.{IsSimulated}
 use Rattle.world_variables.proofs.FollowLemmas.{value_each, all_in}
 use Rattle.world_variables.proofs.TellLemmas.{each_of}
 use Rattle.world_messages.specs.Unfit.{MessagesAreFit}
-use Rattle.world_simulation.specs.Protocols.{ProtocolsHold, ProtocolsAlwaysHold}
-use Rattle.world_simulation.proofs.SimulationLemmas.{every_run_is_simulated}
+use Rattle.world_messages.specs.Fitting.{WorldFits, IsFitting}
+use Rattle.world_messages.proofs.OthersLemmas.{NamedIn}
+use Rattle.thread_machine.specs.Fits as fits
+use Rattle.oz_model.proofs.NameLemmas.{Each-weaker, EachOfEquation-weaker, EachOfItem-weaker}
+use Rattle.tree_node.specs.declared.names.Name.{Name}
+use Rattle.tree_node.specs.declared.names.Name.TheVariants as name
+use Rattle.world_simulation.specs.Protocols.{IsKnownHere, ProtocolsHold, ProtocolsAlwaysHold}
+use Rattle.world_simulation.proofs.SimulationLemmas.{every_run_is_simulated, joined_in}
 
 owners : (P : Equation → Type 0) (c : Store) → ((e : Equation) → Contains c e → P e) → (es : List Equation) → Each (Contains c) es → Each P es
 owners P c f [] h = tt
 owners P c f (e ∷ es) h = (f e h.0, owners P c f es h.1)
 
-protocols_hold : (p : List Stmt) (n : ℕ) (j : List Turn) (w : ℕ → Site) (s : State) → IsSimulated p n j w s → MessagesAreFit p n j w → ProtocolsHold p n j w
-protocols_hold p n j w s h fit = record {
+-- the variables of a site that fits are known to it
+known_here : (p : List Stmt) (n i : ℕ) (w : ℕ → Site) → IsFitting p n w i (w i) → IsHome (IsKnownHere n (w i).records) (w i).equations (w i).threads
+known_here p n i w (known, site, made) = record {
+  equations = Each-weaker _ _ (EachOfEquation-weaker (fits.IsKnown known) (IsKnownHere n (w i).records) weaker) (w i).equations site.terms.equations.names;
+  stacks = λ m v e. Each-weaker _ _ (EachOfItem-weaker (fits.IsKnown known) (IsKnownHere n (w i).records) weaker) v.0 (site.terms.stacks m v e).stack.names;
+}
+  where
+    weaker : (x : Name) → fits.IsKnown known x → IsKnownHere n (w i).records x
+    weaker (name.Var x) c = ((made x c).0, (made x c).1, site.names.here x c)
+    weaker (name.Cell x) c = tt
+    weaker (name.Proc x) c = tt
+    weaker (name.Thread x) c = tt
+
+protocols_hold : (p : List Stmt) (n : ℕ) (j : List Turn) (w : ℕ → Site) (s : State) → IsSimulated p n j w s → MessagesAreFit p n j w → WorldFits p n j w → NamedIn j w → ProtocolsHold p n j w
+protocols_hold p n j w s h fit fitting named = record {
   known = λ i e c. owned e (h.matches.parts.knowledge.known i e c);
   told = λ k m at. owners (λ (e : Equation). Contains (w e.0.site).equations e) s.equations owned _ (h.matches.parts.knowledge.told k m.to m.msg ((travelling_tells j k m).1 at));
   one = λ i x t r c d. h.matches.parts.knowledge.one x t r (h.matches.parts.knowledge.known i (x, t) c) (h.matches.parts.knowledge.known i (x, r) d);
   down = λ i x t c. h.matches.parts.knowledge.down x t (h.matches.parts.knowledge.known i (x, t) c);
   asks = λ k to x th t bundle at. (h.matches.parts.addressed k to (msg.BindReq x th t bundle) ((travelling_tells j k (record { to = to; msg = msg.BindReq x th t bundle })).1 at)).2;
   here = h.matches.parts.homes;
+  vars = λ i. known_here p n i w (fitting.sites i);
+  others = λ i. record { equations = (named.0 i).equations; stacks = λ m v e. ((named.0 i).stacks m v e).1 };
   registered = h.matches.parts.told;
   made = λ i. record {
     equations = each_of (EachOfEquation (IsMade (counters w))) s.equations h.matches.parts.centred.all.0 (w i).equations (all_in (w i).equations s.equations (h.matches.parts.knowledge.known i));
@@ -59,4 +80,5 @@ protocols_hold p n j w s h fit = record {
 pub protocols_always_hold : ProtocolsAlwaysHold
 protocols_always_hold p n j w is low high run =
     let r = every_run_is_simulated p n j w is low high run in
-    protocols_hold p n j w r.0 r.1 r.2
+    let k = joined_in p n is low high j w run in
+    protocols_hold p n j w r.0 r.1 r.2 k.fits k.named

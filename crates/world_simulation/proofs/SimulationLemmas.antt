@@ -36,8 +36,9 @@ use Rattle.world_model.specs.Simulated.{IsSimulated}
 use Rattle.world_messages.specs.Asked.{ThreadsArePlaced}
 use Rattle.world_messages.proofs.FewMessages as few
 use Rattle.world_simulation.proofs.PremiseLemmas.{threads_placed}
-use Rattle.world_simulation.specs.Messages.{MessagesAreFew}
-use Rattle.world_simulation.specs.Simulation.{EveryRunIsSimulated, CellMessagesAreFew}
+use Rattle.world_simulation.specs.Messages.{MessagesAreFew, RequestsAreSingle, CellRequestsArePaid}
+use Rattle.world_messages.proofs.AskRun.{asks_are_few}
+use Rattle.world_simulation.specs.Simulation.{EveryRunIsSimulated, DeliveredMessagesAreFit, CellMessagesAreFew}
 use Rattle.world_cells.proofs.JournalLemmas.{journal_paid, few_cell_messages}
 use Rattle.world_cells.proofs.TurnLemmas.{Paid}
 use Rattle.world_model.specs.Schedule.{schedule}
@@ -131,7 +132,7 @@ module _ (p : List Stmt) (n : ℕ) (is : IsProgram p) (low : 1 ≤ n) (high : n 
             by true q = absurd (other (sym ((nat_decides e.site i).0 q)))
             by false q = subst (λ (b : Bool). IsReachedBy b (λ old. SiteFitRun p n 0 i j old) (λ old new. IsFitEntry p n 0 j e old new) (f i)) (sym q) (h.fit i)
 
-  joined_in : (j : List Turn) (f : Sites) → WorldRun p n 0 j f → JoinedIn j f
+  pub joined_in : (j : List Turn) (f : Sites) → WorldRun p n 0 j f → JoinedIn j f
   joined_in j f run = every_run p n 0 JoinedIn (record { fit = λ i. refl; fits = start_world_fits p is n 0; named = (start_named p is, tt); texted = (start_texted p, tt) }) joined_entry j f run
 
   pub simulated : (j : List Turn) (f : Sites) → WorldRun p n 0 j f → (s : State) × IsSimulated p n j f s
@@ -158,8 +159,19 @@ every_run_is_simulated p n j f is low high run =
     let s = simulated p n is low high j f run in
     (s.0, s.1, fit p n is low high j f run)
 
+pub delivered_messages_are_fit : DeliveredMessagesAreFit
+delivered_messages_are_fit p n j f is low high run = (joined_in p n is low high j f run).fit
+
 pub cell_messages_are_few : CellMessagesAreFew
 cell_messages_are_few p n j f c is low high run = (few_cell_messages p n 0 j f c low run.wired run.sites (joined_in p n is low high j f run).fit).2
 
 pub messages_are_few : MessagesAreFew
 messages_are_few p n j f is low high run = few.messages_are_few p n 0 j f is (tokens_serve p n is low high) (threads_are_placed p n is low high) run
+
+pub requests_are_single : RequestsAreSingle
+requests_are_single p n j f is low high run = asks_are_few p n 0 j f (threads_are_placed p n is low high) run
+
+pub cell_requests_are_paid : CellRequestsArePaid
+cell_requests_are_paid p n j f is low high run =
+    let r = paid p n is low high j f run in
+    (r.reached.centre, r.reached.run, r.tally.tallied)

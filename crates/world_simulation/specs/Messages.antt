@@ -1,5 +1,5 @@
 -- How many messages a run sends at most.
-use Rattle.std.specs.Prelude.{ℕ, ◌+◌, ◌*◌, ◌-◌, ◌≤◌, List, [], ◌∷◌, length, Option, Some, None}
+use Rattle.std.specs.Prelude.{◌≡◌, ℕ, ◌+◌, ◌*◌, ◌-◌, ◌≤◌, List, [], ◌∷◌, length, Option, Some, None}
 use Rattle.tree_node.specs.declared.names.VarName.{VarName}
 use Rattle.tree_node.specs.declared.names.CellName.{CellName}
 use Rattle.tree_node.specs.State.{State}
@@ -10,11 +10,16 @@ use Rattle.std.specs.List.{count_by}
 use Rattle.kernel_syntax.specs.declared.stmt.Stmt.{Stmt}
 use Rattle.kernel_syntax.specs.Program.{IsProgram}
 use Rattle.site_message.specs.declared.turn.Turn.{Turn}
-use Rattle.site_message.specs.Journal.{sent_of}
+use Rattle.site_message.specs.Journal.{sent_of, travelling}
 use Rattle.site_model.specs.Bundle.{bundle_limit}
 use Rattle.site_model.specs.Site.{Site}
 use Rattle.site_model.specs.Run.{WorldRun}
 use Rattle.world_model.specs.Schedule.{schedule}
+use Rattle.world_messages.specs.Asked.{requests}
+use Rattle.world_cells.specs.CellCounts.{IsTallied}
+use Rattle.tree_node.specs.declared.names.ThreadName.{ThreadName}
+use Rattle.tree_node.specs.Assoc.{value_of}
+use Rattle.tree_node.specs.Goal.{equal_cell}
 use Rattle.world_messages.specs.Messages.{vars_made, threads_made, spawns, asks_to_know, tells_binding, asks_to_bind}
 
 -- with T threads, the first among them, and V variables made by the schedule, the messages that are not a cell's are at
@@ -24,6 +29,20 @@ MessagesAreFew =
     (p : List Stmt) (n : ℕ) (j : List Turn) (w : ℕ → Site) → IsProgram p → 1 ≤ n → n ≤ 64 → WorldRun p n bundle_limit j w →
     count_by spawns (sent_of j) + count_by asks_to_know (sent_of j) + count_by tells_binding (sent_of j) + count_by asks_to_bind (sent_of j)
     ≤ length (threads_made (schedule j)) + 2 * (length (vars_made (schedule j)) * (n - 1)) + length (threads_made (schedule j)) * length (vars_made (schedule j))
+
+-- no thread sends two requests to bind one variable
+abbrev pub RequestsAreSingle : Type 0
+RequestsAreSingle =
+    (p : List Stmt) (n : ℕ) (j : List Turn) (w : ℕ → Site) → IsProgram p → 1 ≤ n → n ≤ 64 → WorldRun p n bundle_limit j w →
+    (th : ThreadName) (x : VarName) → requests th x (sent_of j) ≤ 1
+
+-- each request for a cell's token has one Get, one Forward and one Put at most, and is followed by an exchange or is the one
+-- outstanding request of its site
+abbrev pub CellRequestsArePaid : Type 0
+CellRequestsArePaid =
+    (p : List Stmt) (n : ℕ) (j : List Turn) (w : ℕ → Site) → IsProgram p → 1 ≤ n → n ≤ 64 → WorldRun p n bundle_limit j w →
+    (s : State) × Run p (schedule j) s
+    × ((c : CellName) (v : VarName) → value_of equal_cell s.cells c ≡ Some v → IsTallied n w (travelling j) (sent_of j) c (length (exchanges p (schedule j) c)))
 
 -- the cell that a message is about
 abbrev pub cell_of : Msg → Option CellName

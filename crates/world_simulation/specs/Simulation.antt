@@ -14,6 +14,7 @@ use Rattle.world_model.specs.Schedule.{schedule}
 use Rattle.world_model.specs.Simulated.{IsSimulated}
 use Rattle.world_messages.specs.Unfit.{MessagesAreFit}
 use Rattle.world_cells.specs.CellCounts.{cell_weights}
+use Rattle.world_cells.specs.FitRuns.{SiteFitRun}
 
 -- for every program, every number of sites from 1 to 64 and every run of them, whatever the order of turns and deliveries:
 -- there is a state of the centralised machine to which the journal's picks lead and which the sites match, and each message
@@ -22,6 +23,12 @@ abbrev pub EveryRunIsSimulated : Type 0
 EveryRunIsSimulated =
     (p : List Stmt) (n : ℕ) (j : List Turn) (w : ℕ → Site) → IsProgram p → 1 ≤ n → n ≤ 64 → WorldRun p n bundle_limit j w →
     (s : State) × IsSimulated p n j w s × MessagesAreFit p n j w
+
+-- and no message that was delivered was unfit: each state is reached by turns whose messages were fit for the site before them
+abbrev pub DeliveredMessagesAreFit : Type 0
+DeliveredMessagesAreFit =
+    (p : List Stmt) (n : ℕ) (j : List Turn) (w : ℕ → Site) → IsProgram p → 1 ≤ n → n ≤ 64 → WorldRun p n bundle_limit j w →
+    (i : ℕ) → SiteFitRun p n bundle_limit i j (w i)
 
 -- the messages of a cell are at most three for each of its exchanges and each site
 abbrev pub CellMessagesAreFew : Type 0

@@ -1,16 +1,17 @@
 //! The simulation, as laws over all runs.
 
-ghost use Rattle.world_simulation.specs.Messages.{MessagesAreFew, AllMessagesAreFew};
+ghost use Rattle.world_simulation.specs.Messages.{MessagesAreFew, RequestsAreSingle, CellRequestsArePaid, AllMessagesAreFew};
 ghost use Rattle.world_simulation.specs.Protocols.{ProtocolsAlwaysHold};
-ghost use Rattle.world_simulation.specs.Simulation.{EveryRunIsSimulated, CellMessagesAreFew};
+ghost use Rattle.world_simulation.specs.Simulation.{EveryRunIsSimulated, DeliveredMessagesAreFit, CellMessagesAreFew};
 ghost use Rattle.world_simulation.specs.Stays.{EquationsStay};
 
 /// Every run of a program on 1 to 64 sites, whatever the order of turns and deliveries, is a run of the centralised machine: the
 /// picks of its journal lead that machine to a state that the sites match. Where the run is quiet the machine rests, with the
-/// ended and waiting threads that the sites told last. And each message that travels is fit for the site that it goes to. It does
-/// nothing: its clause is the law.
+/// ended and waiting threads that the sites told last. Each message that travels is fit for the site that it goes to, and each
+/// that was delivered was. It does nothing: its clauses are the law.
 pub fn sites_are_simulated()
-    ensures { EveryRunIsSimulated }
+    ensures simulated { EveryRunIsSimulated }
+    ensures fit { DeliveredMessagesAreFit }
 {}
 
 /// Between the entries of every run the protocols' invariants hold of the sites and of the messages that travel; and what a site
@@ -21,8 +22,12 @@ pub fn protocols_hold()
 {}
 
 /// How many messages a run sends at most: those on variables and threads by the variables and threads that its schedule makes,
-/// those of a cell by its exchanges; and all of them together.
+/// those of a cell by its exchanges; and all of them together. A thread asks once at most to bind a variable, and each request
+/// for a cell's token has one message of each kind at most. (`registers_are_few` of `world_messages` says that a site registers
+/// once at most for a variable, and is told once at most.)
 pub fn messages_are_few()
+    ensures single { RequestsAreSingle }
+    ensures paid { CellRequestsArePaid }
     ensures few { MessagesAreFew }
     ensures cells { CellMessagesAreFew }
     ensures all { AllMessagesAreFew }

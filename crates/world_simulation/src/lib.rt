@@ -6,7 +6,7 @@
 //! a state of the centralised machine to which the picks of the journal lead; the sites, their cells and the travelling
 //! messages match it, its lines are the journal's, each variable has at most one equation, the exchanges of each cell are one
 //! chain; where the run is quiet the machine rests, and its ended and waiting threads are those that the sites told last
-//! (`IsSimulated`). By `protocols_hold`: what the two protocols keep between the entries of every run (`ProtocolsHold`), among it
+//! (`IsSimulated`); and no delivered message was unfit. By `protocols_hold`: what the two protocols keep between the entries of every run (`ProtocolsHold`), among it
 //! that each message that travels is fit for its site; and what a site knows stays known. By `messages_are_few`: how many
 //! messages a run sends at most.
 //!
