@@ -1,5 +1,5 @@
 -- A table by the names of cells after a write.
-use Rattle.std.proofs.Common.{rules, ◌≡◌, ◌∙◌, ◌≢◌, sym, ap, subst, refl, ℕ, List, [], ◌∷◌, Bool, true, false, cond, Option, None, Some}
+use Rattle.std.proofs.Common.{rules, ◌≡◌, ◌∙◌, ◌≢◌, sym, ap, subst, refl, List, [], ◌∷◌, Bool, true, false, cond, Option, Some}
 use Rattle.std.specs.Prelude.{unwrap_or, Result, Ok, Err, OnOk, OnErr}
 use Rattle.std.specs.Bool.{Decides}
 use Rattle.std.specs.Map.{lookup, set_value}
@@ -88,7 +88,7 @@ record_here qs c q = ap (λ (o : Option CellRecord). unwrap_or o unused_cell) (w
 pub token_here : (qs rs : List (CellName × CellRecord)) (c : CellName) (q : CellRecord) → rs ≡ with_record c q qs → (cell_record_in rs c).held.token ≡ q.held.token
 token_here qs rs c q e = ap (λ (zs : List (CellName × CellRecord)). (cell_record_in zs c).held.token) e ∙ ap (λ (x : CellRecord). x.held.token) (record_here qs c q)
 
-record_other : (qs : List (CellName × CellRecord)) (c d : CellName) (q : CellRecord) → d ≢ c → cell_record_in (with_record c q qs) d ≡ cell_record_in qs d
+pub record_other : (qs : List (CellName × CellRecord)) (c d : CellName) (q : CellRecord) → d ≢ c → cell_record_in (with_record c q qs) d ≡ cell_record_in qs d
 record_other qs c d q h = ap (λ (o : Option CellRecord). unwrap_or o unused_cell) (written_other qs c d q h)
 
 -- the queues after one record is written

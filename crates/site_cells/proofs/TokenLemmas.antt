@@ -1,5 +1,5 @@
 -- What the tests of a site tell.
-use Rattle.std.proofs.Common.{◌≡◌, ◌∙◌, sym, ap, refl, ℕ, List, Bool, true, false, Option, None, Some}
+use Rattle.std.proofs.Common.{◌≡◌, sym, refl, ℕ, Bool, false, None, Some}
 use Rattle.std.specs.Prelude.{◌↔◌, IsTrue}
 use Rattle.tree_node.specs.declared.names.VarName.{VarName}
 use Rattle.tree_node.specs.declared.names.CellName.{CellName}

@@ -1,5 +1,5 @@
 -- What always holds of what a site keeps of a cell.
-use Rattle.std.specs.Prelude.{◌≡◌, ℕ, ◌^◌, ◌≤◌, List, length}
+use Rattle.std.specs.Prelude.{◌≡◌, ◌^◌, ◌≤◌, List, length}
 use Rattle.tree_node.specs.declared.names.ThreadName.{ThreadName}
 use Rattle.token_chain.specs.Holding.{Holding, IsPlausible}
 

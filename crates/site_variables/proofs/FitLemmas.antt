@@ -1,5 +1,5 @@
 -- Which messages fit.
-use Rattle.std.proofs.Common.{rules, true, false, ◌≡◌, ◌≢◌, ◌∙◌, sym, refl, subst, ℕ, ◌≤◌, List, [], ◌∷◌, Bool}
+use Rattle.std.proofs.Common.{rules, true, false, ◌≡◌, ◌≢◌, ◌∙◌, sym, refl, subst, ℕ, ◌≤◌, List, Bool}
 use Rattle.std.specs.Prelude.{Contains, ◌↔◌, IsTrue, not}
 use Rattle.tree_node.specs.declared.names.VarName.{VarName}
 use Rattle.tree_node.specs.declared.names.Name.{Name}
@@ -7,7 +7,6 @@ use Rattle.tree_node.specs.declared.node.Term.{Term}
 use Rattle.tree_node.specs.Each.{Each}
 use Rattle.tree_node.specs.Order.{IsLower, site_of}
 use Rattle.tree_node.specs.Store.{Equation, IsFree}
-use Rattle.tree_node.proofs.ClassLemmas.{Contains-head, Contains-tail}
 use Rattle.tree_store.specs.Forest.{IsForest}
 use Rattle.site_message.specs.declared.message.Msg.{Msg}
 use Rattle.bind_protocol.specs.Records.{Records, is_own}
@@ -17,6 +16,7 @@ use Rattle.site_variables.specs.declared.variables.Variables.{Variables}
 use Rattle.site_variables.specs.declared.names.Bounds.{Bounds}
 use Rattle.site_variables.specs.Fit.{with_variables, counters_of, IsBoundOf, IsWithin, EquationFits}
 use Rattle.tree_node.proofs.OrderLemmas.{Each-member}
+use Rattle.tree_node.proofs.EachLemmas.{each_in}
 
 -- ---- names
 
@@ -52,10 +52,6 @@ equation_new v x t o lower free same = (to, fro)
     fro : EquationFits v (x, t) → IsTrue o
     fro h = same.1 (λ q. free t (h.own q))
 
-each_contained : {X : Type 0} (P : X → Type 0) (xs : List X) → ((x : X) → Contains xs x → P x) → Each P xs
-each_contained P [] h = tt
-each_contained P (x ∷ xs) h = (h x (Contains-head x xs), each_contained P xs (λ y k. h y (Contains-tail x y xs k)))
-
 pub bundle_is : (s : Site) (v : Variables) (es : List Equation) (o : Bool) → (IsTrue o ↔ Each (EquationFits v) es) → IsTrue o ↔ BundleFits (with_variables s v) es
 bundle_is s v es o same = (to, fro)
   where
@@ -63,13 +59,13 @@ bundle_is s v es o same = (to, fro)
     to k =
         let all : Each (EquationFits v) es = same.0 k in
         record {
-          down = each_contained (λ (e : Equation). IsLower e.1 e.0) es (λ e at. (Each-member (EquationFits v) es e all at).down);
+          down = each_in (λ (e : Equation). IsLower e.1 e.0) es (λ e at. (Each-member (EquationFits v) es e all at).down);
           same = λ x t r at known. (Each-member (EquationFits v) es (x, t) all at).same r known;
           own = λ x t at q. (Each-member (EquationFits v) es (x, t) all at).own q;
         }
 
     fro : BundleFits (with_variables s v) es → IsTrue o
-    fro h = same.1 (each_contained (EquationFits v) es (λ e at. record {
+    fro h = same.1 (each_in (EquationFits v) es (λ e at. record {
       down = Each-member (λ (d : Equation). IsLower d.1 d.0) es e h.down at;
       same = λ r known. h.same e.0 e.1 r at known;
       own = λ q. h.own e.0 e.1 at q;

@@ -1,5 +1,6 @@
 -- Names that are met, one after another.
 use Rattle.std.proofs.Common.{rules, arith, ◌≡◌, ◌∙◌, sym, ap, refl, subst, ℕ, zero, suc, ◌+◌, ◌<◌, List, [], ◌∷◌, ◌++◌, length, take, get_or, ◌⊎◌, inl, inr, Bool, true, false, cond, append_assoc, add-one}
+use Rattle.std.proofs.lemmas.List.{append-nil}
 use Rattle.std.proofs.Math.Seq.{take-suc}
 use Rattle.std.specs.Prelude.{Contains, ◌↔◌}
 use Rattle.tree_node.specs.declared.names.VarName.{VarName}
@@ -7,6 +8,8 @@ use Rattle.tree_node.specs.declared.node.Feature.{Feature}
 use Rattle.tree_node.specs.Each.{Each}
 use Rattle.tree_node.specs.Store.{Store, Equation}
 use Rattle.tree_store.specs.Contents.{with_name}
+use Rattle.kernel_syntax.proofs.OrderLemmas.{Each-at}
+use Rattle.kernel_syntax.proofs.PreorderLemmas.{each_left, each_right}
 use Rattle.site_message.specs.declared.message.Msg.{Msg}
 use Rattle.site_message.specs.declared.message.Sent.{Sent}
 use Rattle.site_message.specs.Vars.{vars_of, field_vars}
@@ -20,7 +23,6 @@ use Rattle.site_variables.specs.declared.variables.Variables.{Variables}
 use Rattle.site_variables.specs.Variables.{IsRecorded, IsLinked, IsGrown, IsMadeIfOwn}
 use Rattle.site_variables.specs.Meeting.{AreMet}
 use Rattle.site_variables.proofs.LinkLemmas.{with_name_is, grown_name, same_recorded, named_recorded, own_made}
-use Rattle.site_variables.proofs.RowLemmas.{nil_right}
 use Rattle.tree_node.proofs.EachLemmas.{each_append}
 
 -- ---- one name
@@ -62,7 +64,7 @@ pub met_one : (v w : Variables) (before after : List Sent) (x : VarName) → IsL
     after ≡ before ++ meet_sends v.binder x → AreMet (x ∷ []) v before w after
 met_one v w before after x h made a b c d = record {
   records = a;
-  sent = d ∙ ap (λ (ms : List Sent). before ++ ms) (sym (nil_right (meet_sends v.binder x)));
+  sent = d ∙ ap (λ (ms : List Sent). before ++ ms) (sym (append-nil (meet_sends v.binder x)));
   linked = rw (a, b, c) (meet_recorded v.store.equations v.store.known v.binder x h made);
   known = (rw b ((with_name_is v.store.known x x).1 (inr refl)), tt);
   equations = c;
@@ -88,7 +90,7 @@ each_grown old new (x ∷ xs) g h = (g x h.0, each_grown old new xs g h.1)
 pub met_none : (v : Variables) (before : List Sent) → IsLinked v → AreMet [] v before v before
 met_none v before h = record {
   records = refl;
-  sent = sym (nil_right before);
+  sent = sym (append-nil before);
   linked = h;
   known = tt;
   equations = refl;
@@ -119,27 +121,14 @@ pub each_made : (b c : Records) (xs : List VarName) → c.owners ≡ b.owners �
 each_made b c [] e f h = tt
 each_made b c (x ∷ xs) e f h = (still_made b c x e f h.0, each_made b c xs e f h.1)
 
-pub each_left : {X : Type 0} (P : X → Type 0) (xs ys : List X) → Each P (xs ++ ys) → Each P xs
-each_left P [] ys h = tt
-each_left P (x ∷ xs) ys h = (h.0, each_left P xs ys h.1)
-
-pub each_right : {X : Type 0} (P : X → Type 0) (xs ys : List X) → Each P (xs ++ ys) → Each P ys
-each_right P [] ys h = h
-each_right P (x ∷ xs) ys h = each_right P xs ys h.1
-
 -- ---- lists gone through
 
 pub next_var : (xs : List VarName) (k : ℕ) (d : VarName) (v w u : Variables) (o p q : List Sent) → k < length xs → AreMet (take k xs) v o w p → AreMet (get_or xs k d ∷ []) w p u q → AreMet (take (k + 1) xs) v o u q
 next_var xs k d v w u o p q below h g =
     rw (add-one, take-suc xs k d below) (met_more (take k xs) (get_or xs k d ∷ []) v w u o p q h g)
 
-each_get : {X : Type 0} (P : X → Type 0) (xs : List X) (k : ℕ) (d : X) → Each P xs → k < length xs → P (get_or xs k d)
-each_get P [] k d h below = absurd (omega arith)
-each_get P (x ∷ xs) zero d h below = h.0
-each_get P (x ∷ xs) (suc k) d h below = each_get P xs k d h.1 (omega arith)
-
 pub var_made : (b c : Records) (xs : List VarName) (k : ℕ) (d : VarName) → c.owners ≡ b.owners → c.site ≡ b.site → Each (IsMadeIfOwn b) xs → k < length xs → IsMadeIfOwn c (get_or xs k d)
-var_made b c xs k d e f h below = still_made b c (get_or xs k d) e f (each_get (IsMadeIfOwn b) xs k d h below)
+var_made b c xs k d e f h below = still_made b c (get_or xs k d) e f (Each-at (IsMadeIfOwn b) xs k d h below)
 
 field_append : (xs ys : List (Feature × VarName)) → field_vars (xs ++ ys) ≡ field_vars xs ++ field_vars ys
 field_append [] ys = refl
@@ -168,7 +157,7 @@ equations_append (e ∷ es) fs = ap (λ (l : List VarName). (e.0 ∷ vars_of e.1
 pub next_equation : (es : List Equation) (k : ℕ) (d : Equation) (v w u : Variables) (o p q : List Sent) → k < length es → d ≡ get_or es k d → AreMet (vars_of_equations (take k es)) v o w p → AreMet (d.0 ∷ vars_of d.1) w p u q →
     AreMet (vars_of_equations (take (k + 1) es)) v o u q
 next_equation es k d v w u o p q below at h g =
-    rw (add-one, take-suc es k d below, ← at, equations_append (take k es) (d ∷ []), nil_right (d.0 ∷ vars_of d.1)) (met_more (vars_of_equations (take k es)) (d.0 ∷ vars_of d.1) v w u o p q h g)
+    rw (add-one, take-suc es k d below, ← at, equations_append (take k es) (d ∷ []), append-nil (d.0 ∷ vars_of d.1)) (met_more (vars_of_equations (take k es)) (d.0 ∷ vars_of d.1) v w u o p q h g)
 
 each_equation_at : (P : VarName → Type 0) (es : List Equation) (k : ℕ) (d : Equation) → Each P (vars_of_equations es) → k < length es → Each P ((get_or es k d).0 ∷ vars_of (get_or es k d).1)
 each_equation_at P [] k d h below = absurd (omega arith)

@@ -1,6 +1,7 @@
 -- The rows of variables on a site with these parts.
-use Rattle.std.proofs.Common.{arith, zero, suc, ◌+◌, ◌<◌, length, take, get_or, append_assoc, add-one, ◌≡◌, ◌≢◌, ◌∙◌, sym, ap, refl, subst, ℕ, List, [], ◌∷◌, ◌++◌, map, ◌⊎◌, inl, inr, Bool, true, false, cond}
+use Rattle.std.proofs.Common.{◌+◌, ◌<◌, length, take, get_or, append_assoc, add-one, ◌≡◌, ◌≢◌, ◌∙◌, sym, ap, refl, subst, ℕ, List, [], ◌∷◌, ◌++◌, map, ◌⊎◌, inl, inr, Bool, true, false, cond}
 use Rattle.std.specs.Prelude.{Option, Some, None, is_some}
+use Rattle.std.proofs.lemmas.List.{append-nil}
 use Rattle.std.proofs.Math.Seq.{take-suc}
 use Rattle.indexmap.specs.IndexMap.{insert_entry}
 use Rattle.tree_node.specs.declared.names.VarName.{VarName}
@@ -11,6 +12,7 @@ use Rattle.tree_node.specs.Order.{IsLower}
 use Rattle.tree_node.specs.State.{Stack}
 use Rattle.tree_node.specs.Store.{Store, Equation, equal_var}
 use Rattle.tree_node.proofs.ClassLemmas.{same_name_refl}
+use Rattle.kernel_syntax.proofs.OrderLemmas.{Each-at}
 use Rattle.site_message.specs.declared.message.Msg.{Msg}
 use Rattle.site_message.specs.declared.message.Sent.{Sent}
 use Rattle.proxy_table.specs.Proxies.{Proxy, entry_of}
@@ -30,10 +32,6 @@ use Rattle.site_model.specs.Messages.{register_row, bind_request_as, bind_reques
 use Rattle.site_variables.specs.declared.variables.Variables.{Variables}
 use Rattle.site_variables.specs.Variables.{Parts, IsDone, parts_of, stacks_of, with_parts}
 use Rattle.site_variables.specs.Meeting.{AreMet}
-
-pub nil_right : {X : Type 0} (xs : List X) → xs ++ [] ≡ xs
-nil_right [] = refl
-nil_right {X} (x ∷ xs) = ap (λ (l : List X). x ∷ l) (nil_right xs)
 
 -- ---- threads
 
@@ -60,7 +58,7 @@ new_as false (Some (Some r)) s x t e h = absurd (h r refl)
 pub done_kept : (p : Parts) (x : VarName) (t : Term) → p.sent ≡ [] → (is_own p.records x ≡ true) ⊎ ((r : Term) × (knowledge p.records x ≡ Some (Some r))) → IsDone (λ s. without_output (with_known_equation s x t)) [] p p
 done_kept p x t none h = record {
   more = [];
-  sent = sym (nil_right p.sent);
+  sent = sym (append-nil p.sent);
   done = λ s. ap without_output (kept_as (is_own p.records x) (knowledge p.records x) (with_parts s p) x t h);
 }
 
@@ -69,7 +67,7 @@ pub done_learnt : (p q : Parts) (x : VarName) (t : Term) → is_own p.records x 
     q.equations ≡ (x, t) ∷ p.equations → q.records ≡ after_binding p.records x t → q.threads ≡ wake_all x p.threads → q.sent ≡ p.sent → IsDone (λ s. without_output (with_known_equation s x t)) [] p q
 done_learnt p q x t own free a b c d = record {
   more = [];
-  sent = d ∙ sym (nil_right p.sent);
+  sent = d ∙ sym (append-nil p.sent);
   done = λ s. ap without_output (new_as (is_own p.records x) (knowledge p.records x) (with_parts s p) x t own free) ∙ rw (a, b, c) refl;
 }
 
@@ -138,7 +136,7 @@ late_as (Some (Some r)) x t n s h = refl
 pub done_late : (p : Parts) (x : VarName) (t : Term) (n : ThreadName) → knowledge p.records x ≢ Some None → IsDone (bind_request_row 0 x t n) [] p p
 done_late p x t n h = record {
   more = [];
-  sent = sym (nil_right p.sent);
+  sent = sym (append-nil p.sent);
   done = λ s. late_as (knowledge p.records x) x t n (with_parts s p) h;
 }
 
@@ -162,7 +160,7 @@ told_append s [] fs = refl
 told_append s (e ∷ es) fs = told_append (with_known_equation s e.0 e.1) es fs
 
 pub told_none : (p : Parts) → IsDone (λ s. without_output (with_known_equations s [])) [] p p
-told_none p = record { more = []; sent = sym (nil_right p.sent); done = λ s. refl }
+told_none p = record { more = []; sent = sym (append-nil p.sent); done = λ s. refl }
 
 pub told_more : (es : List Equation) (k : ℕ) (d : Equation) (p q r : Parts) → k < length es → d ≡ get_or es k d → IsDone (λ s. without_output (with_known_equations s (take k es))) [] p q → IsDone (λ s. without_output (with_known_equation s d.0 d.1)) [] q r →
     IsDone (λ s. without_output (with_known_equations s (take (k + 1) es))) [] p r
@@ -206,14 +204,9 @@ done_opened m es u v w ts rs o p is h met = record {
         let all : with_known_equations (with_parts s (parts_of u ts o)) (message_bundle m) ≡ with_parts s (parts_of v rs []) = ap (λ (fs : List Equation). with_known_equations (with_parts s (parts_of u ts o)) fs) (sym is) ∙ told in
         ap (λ (z : Site). meeting (message_vars m) z) all ∙ rw (met.records, met.equations) refl
 
-each_get : {X : Type 0} (P : X → Type 0) (xs : List X) (k : ℕ) (d : X) → Each P xs → k < length xs → P (get_or xs k d)
-each_get P [] k d h below = absurd (omega arith)
-each_get P (x ∷ xs) zero d h below = h.0
-each_get P (x ∷ xs) (suc k) d h below = each_get P xs k d h.1 (omega arith)
-
 pub lower_at : (es : List Equation) (k : ℕ) (d : Equation) → Each (λ (e : Equation). IsLower e.1 e.0) es → k < length es → d ≡ get_or es k d → IsLower d.1 d.0
 lower_at es k d h below at =
-    let there : IsLower (get_or es k d).1 (get_or es k d).0 = each_get (λ (e : Equation). IsLower e.1 e.0) es k d h below in
+    let there : IsLower (get_or es k d).1 (get_or es k d).0 = Each-at (λ (e : Equation). IsLower e.1 e.0) es k d h below in
     subst (λ (e : Equation). IsLower e.1 e.0) (sym at) there
 
 pub bundle_lower : (m : Msg) (es : List Equation) → es ≡ message_bundle m → Each (λ (e : Equation). IsLower e.1 e.0) (message_bundle m) → Each (λ (e : Equation). IsLower e.1 e.0) es

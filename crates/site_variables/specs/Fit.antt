@@ -32,9 +32,11 @@ IsBoundOf b s = (s.records.site ≡ b.site) × (s.counters ≡ counters_of b)
 abbrev pub IsWithin : Bounds → Name → Type 0
 IsWithin b x = (1 ≤ site_of x) × (site_of x ≤ b.sites) × (site_of x ≡ b.site → IsBelowCounter (counters_of b) x)
 
+-- a variable within the bounds
 abbrev pub IsVarWithin : Bounds → VarName → Type 0
 IsVarWithin b x = IsWithin b (name.Var x)
 
+-- a field whose variable is within the bounds
 abbrev pub IsFieldWithin : Bounds → Feature × VarName → Type 0
 IsFieldWithin b f = IsWithin b (name.Var f.1)
 

@@ -4,7 +4,8 @@
 //! For: the machine of a site, which calls this for the variables of its threads' steps and of the messages that come.
 //!
 //! It promises: each call does what the row of the site's definition says (`IsDone`), whatever the site keeps besides:
-//! `make`, `meet`, `open`, `learn`, `bind`, `follow_bind`, `register`, `request`, `ask`. After each of them the store's
+//! `meet`, `open`, `learn`, `bind`, `follow_bind`, `register`, `on_request`; `make` and `ask_owner` do the parts of a step that make
+//! names and send a request. After each of them the store's
 //! equations and names are those of the records (`IsLinked`), and no name is forgotten. Of a message, `can_take`,
 //! `bundle_fits`, `names_fit` and `sites_fit` tell exactly whether it is fit for the site as far as its variables, names and
 //! sites go. After want of memory no clause speaks, and the site is given up.
@@ -25,4 +26,4 @@ mod threads;
 mod variables;
 
 pub use names::{Bounds, names_fit, sites_fit};
-pub use variables::Variables;
+pub use variables::{Variables, bundle_of};

@@ -14,11 +14,17 @@ use tree_node::{Feature, Name, Node, Term, VarName};
 /// below these counters.
 #[derive(Clone, Copy, Debug, PartialEq, Eq)]
 pub struct Bounds {
+    /// How many sites the program runs on.
     pub sites: u32,
+    /// The site itself.
     pub site: u32,
+    /// How many variables it made.
     pub vars: u64,
+    /// How many cells.
     pub cells: u64,
+    /// How many procedures.
     pub procs: u64,
+    /// How many threads.
     pub threads: u64,
 }
 

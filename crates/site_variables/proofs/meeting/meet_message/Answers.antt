@@ -1,6 +1,7 @@
 use Rattle.site_model.specs.Bundle.{body_vars, vars_of_equations, message_bundle}
 use Rattle.site_variables.specs.Variables.{IsMadeIfOwn}
-use Rattle.site_variables.proofs.MeetLemmas.{each_left, bundle_met, bundle_made}
+use Rattle.kernel_syntax.proofs.PreorderLemmas.{each_left}
+use Rattle.site_variables.proofs.MeetLemmas.{bundle_met, bundle_made}
 use Rattle.site_variables.proofs.meeting.meet_message.Goals as goal
 
 pub returns : goal.returns

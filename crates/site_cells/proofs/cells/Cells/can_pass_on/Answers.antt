@@ -1,4 +1,4 @@
-use Rattle.std.proofs.Common.{subst, rules}
+use Rattle.std.proofs.Common.{subst}
 use Rattle.std.specs.Prelude.{◌↔◌, IsTrue, false}
 use Rattle.site_cells.specs.Tables.{CellTables, CanPassOn, last_asker_in}
 use Rattle.site_cells.proofs.TokenLemmas.{passes_on, passes_none}

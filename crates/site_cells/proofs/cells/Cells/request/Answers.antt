@@ -1,6 +1,5 @@
-use Rattle.std.proofs.Common.{ap, List, [], ◌∷◌, ◌++◌}
-use Rattle.tree_node.specs.declared.names.CellName.{CellName}
-use Rattle.site_model.specs.Site.{CellRecord, cell_record_in}
+use Rattle.std.proofs.Common.{ap, [], ◌∷◌, ◌++◌}
+use Rattle.site_model.specs.Site.{cell_record_in}
 use Rattle.site_cells.specs.Tables.{CellTables}
 use Rattle.site_cells.proofs.RecordLemmas.{on_ok, queue_changed}
 use Rattle.site_cells.proofs.cells.Cells.request.Goals as goal
