@@ -1,0 +1,128 @@
+-- Units in a row, and turns.
+use Rattle.std.proofs.Common.{arith, ◌≡◌, ◌∙◌, sym, ap, refl, subst, ℕ, suc, length, filter, List, [], ◌∷◌, ◌++◌, Bool, true, false, cond}
+use Rattle.std.specs.Prelude.{◌+◌, ◌≤◌, ◌<◌, ◌==◌}
+use Rattle.std.proofs.lemmas.Bool.Decides.{nat_tests}
+use Rattle.tree_node.specs.declared.names.ThreadName.{ThreadName}
+use Rattle.tree_node.specs.declared.pick.Pick.{Pick}
+use Rattle.kernel_syntax.specs.declared.stmt.Stmt.{Stmt}
+use Rattle.site_message.specs.declared.message.Sent.{Sent}
+use Rattle.thread_machine.specs.Running.{Running}
+use Rattle.thread_roster.specs.declared.mode.Mode.{Mode}
+use Rattle.thread_roster.specs.Threads.{Entry, AllWait, waiting_of, is_waiting}
+use Rattle.thread_roster.proofs.RouseLemmas.{as_many_wait}
+use Rattle.thread_roster.proofs.ThreadLemmas.{seen_length}
+use Rattle.site_model.specs.Site.{Site, is_idle}
+use Rattle.site_model.specs.Bundle.{bundle_limit}
+use Rattle.site_model.specs.Transition.{Transition, without_output, sequence}
+use Rattle.site_model.specs.Turn.{AreUnits}
+use Rattle.site_model.specs.Unit.{IsUnit}
+use Rattle.site_variables.specs.Variables.{stacks_of}
+use Rattle.site_units.specs.declared.data.Core.{Core}
+use Rattle.site_units.specs.declared.data.Output.{Output}
+use Rattle.site_units.specs.Core.{site_of, stack_in}
+use Rattle.site_units.specs.Facts.{IsConsistent}
+use Rattle.site_units.specs.Units.{IsReached, IsUnitMade}
+use Rattle.site_units.specs.Turns.{AreUnitsMade}
+use Rattle.site_units.proofs.SiteLemmas.{nil_right, joined}
+
+-- ---- transitions in a row
+
+pub sequence_joined : (a b c : Transition) → sequence (sequence a b) c ≡ sequence a (sequence b c)
+sequence_joined a b c = rw (joined a.picks b.picks c.picks, joined a.sent b.sent c.sent, joined a.lines b.lines c.lines) refl
+
+sequence_nothing : (d : Transition) → d ≡ sequence d (without_output d.site)
+sequence_nothing d = rw (nil_right d.picks, nil_right d.sent, nil_right d.lines) refl
+
+units_more : (p : List Stmt) (n limit : ℕ) (ths : List ThreadName) (th : ThreadName) (s : Site) (d one : Transition) → AreUnits p n limit ths s d → IsUnit p n limit th d.site one → AreUnits p n limit (ths ++ th ∷ []) s (sequence d one)
+units_more p n limit [] th s d one e u =
+    let here : IsUnit p n limit th s one = subst (λ (z : Transition). IsUnit p n limit th z.site one) e u in
+    (one, without_output one.site, here, refl, ap (λ (z : Transition). sequence z one) e ∙ sequence_nothing one)
+units_more p n limit (t ∷ ths) th s d one (first, rest, u0, us, e) u =
+    let tail : IsUnit p n limit th rest.site one = subst (λ (z : Transition). IsUnit p n limit th z.site one) e u in
+    (first, sequence rest one, u0, units_more p n limit ths th first.site rest one us tail, ap (λ (z : Transition). sequence z one) e ∙ sequence_joined first rest one)
+
+pub reached_more : (p : List Stmt) (d e : Transition) (c0 c1 c2 : Core) (o0 o1 o2 : Output) → IsReached p d c0 o0 c1 o1 → IsReached p e c1 o1 c2 o2 → IsReached p (sequence d e) c0 o0 c2 o2
+reached_more p d e c0 c1 c2 o0 o1 o2 h g = record {
+  site = g.site;
+  picks = g.picks ∙ (ap (λ (l : List Pick). l ++ e.picks) h.picks ∙ joined o0.picks.items d.picks e.picks);
+  sent = g.sent ∙ (ap (λ (l : List Sent). l ++ e.sent) h.sent ∙ joined o0.sent d.sent e.sent);
+  lines = g.lines ∙ (ap (λ (l : List (List ℕ)). l ++ e.lines) h.lines ∙ joined o0.lines.items d.lines e.lines);
+  consistent = g.consistent;
+  sites = g.sites ∙ h.sites;
+}
+
+pub reached_nothing : (p : List Stmt) (c : Core) (o : Output) → IsConsistent p c → IsReached p (without_output (site_of c)) c o c o
+reached_nothing p c o h = record {
+  site = refl;
+  picks = sym (nil_right o.picks.items);
+  sent = sym (nil_right o.sent);
+  lines = sym (nil_right o.lines.items);
+  consistent = h;
+  sites = refl;
+}
+
+-- ---- the loop of units
+
+-- so many units so far
+pub record UnitsSoFar (p : List Stmt) (count : ℕ) (c0 : Core) (o0 : Output) (c1 : Core) (o1 : Output) : Type 0 where
+  pub ths : List ThreadName
+  pub d : Transition
+  pub units : AreUnits p c0.sites bundle_limit ths (site_of c0) d
+  pub reached : IsReached p d c0 o0 c1 o1
+  pub as_many : length ths ≡ count
+  pub steps : c1.steps ≤ c0.steps + count
+
+pub no_units : (p : List Stmt) (c : Core) (o : Output) → IsConsistent p c → UnitsSoFar p 0 c o c o
+no_units p c o h = record { ths = []; d = without_output (site_of c); units = refl; reached = reached_nothing p c o h; as_many = refl; steps = omega arith }
+
+length_end : {X : Type 0} (xs : List X) (x : X) → length (xs ++ x ∷ []) ≡ suc (length xs)
+length_end [] x = refl
+length_end (y ∷ xs) x = ap suc (length_end xs x)
+
+pub one_more : (p : List Stmt) (count : ℕ) (c0 c1 c2 : Core) (o0 o1 o2 : Output) (th : ThreadName) → UnitsSoFar p count c0 o0 c1 o1 → IsUnitMade p th c1 o1 c2 o2 → c2.steps ≤ c1.steps + 1 → UnitsSoFar p (count + 1) c0 o0 c2 o2
+one_more p count c0 c1 c2 o0 o1 o2 th h (one, unit, reached) more = record {
+  ths = h.ths ++ th ∷ [];
+  d = sequence h.d one;
+  units = units_more p c0.sites bundle_limit h.ths th (site_of c0) h.d one h.units here;
+  reached = reached_more p h.d one c0 c1 c2 o0 o1 o2 h.reached reached;
+  as_many = let e : length (h.ths ++ th ∷ []) ≡ suc (length h.ths) = length_end h.ths th in let f : length h.ths ≡ count = h.as_many in omega arith;
+  steps = let f : c1.steps ≤ c0.steps + count = h.steps in omega arith;
+}
+  where
+    here : IsUnit p c0.sites bundle_limit th h.d.site one
+    here = subst (λ (s : Site). IsUnit p c0.sites bundle_limit th s one) h.reached.site (subst (λ (n : ℕ). IsUnit p n bundle_limit th (site_of c1) one) h.reached.sites unit)
+
+-- ---- rest
+
+pub waiting_seen : (ts : List (Entry Running)) → waiting_of (stacks_of stack_in ts) ≡ waiting_of ts
+waiting_seen [] = refl
+waiting_seen (t ∷ ts) = go (is_waiting t.1.1) (waiting_seen ts)
+  where
+    go : (b : Bool) → waiting_of (stacks_of stack_in ts) ≡ waiting_of ts →
+        length (cond b ((t.0, (t.1.0.stack, t.1.1)) ∷ filter (λ s. is_waiting s.1.1) (stacks_of stack_in ts)) (filter (λ s. is_waiting s.1.1) (stacks_of stack_in ts)))
+        ≡ length (cond b (t ∷ filter (λ (s : Entry Running). is_waiting s.1.1) ts) (filter (λ (s : Entry Running). is_waiting s.1.1) ts))
+    go true ih = ap suc ih
+    go false ih = ih
+
+equal_numbers : (a b : ℕ) → a ≡ b → (a == b) ≡ true
+equal_numbers a b h = grind (arith, nat_tests)
+
+pub all_idle : (c : Core) → AllWait c.threads.living → is_idle (site_of c) ≡ true
+all_idle c h =
+    equal_numbers (waiting_of (stacks_of stack_in c.threads.living)) (length (stacks_of stack_in c.threads.living))
+    (waiting_seen c.threads.living ∙ (as_many_wait c.threads.living h ∙ sym (seen_length (λ (e : Running × Mode). (stack_in e.0, e.1)) c.threads.living)))
+
+pub units_end : (p : List Stmt) (quantum count : ℕ) (c0 c1 : Core) (o0 o1 : Output) → UnitsSoFar p count c0 o0 c1 o1 → count ≤ quantum → (count < quantum → AllWait c1.threads.living) → AreUnitsMade p quantum c0 o0 c1 o1
+units_end p quantum count c0 c1 o0 o1 h most idle = (
+  h.ths,
+  h.d,
+  h.units,
+  h.reached,
+  (let f : length h.ths ≡ count = h.as_many in omega arith),
+  λ less. subst (λ (s : Site). is_idle s ≡ true) h.reached.site (all_idle c1 (idle (let f : length h.ths ≡ count = h.as_many in omega arith))),
+)
+
+-- nothing was done, since no thread can go on
+pub units_stop : (p : List Stmt) (quantum count : ℕ) (c0 c1 c2 : Core) (o0 o1 o2 : Output) → UnitsSoFar p count c0 o0 c1 o1 → c2 ≡ c1 → o2 ≡ o1 → count ≤ quantum → AllWait c1.threads.living → AreUnitsMade p quantum c0 o0 c2 o2
+units_stop p quantum count c0 c1 c2 o0 o1 o2 h same silent most idle =
+    subst (λ (c : Core). AreUnitsMade p quantum c0 o0 c o2) (sym same) (subst (λ (o : Output). AreUnitsMade p quantum c0 o0 c1 o) (sym silent) (units_end p quantum count c0 c1 o0 o1 h most (λ less. idle)))

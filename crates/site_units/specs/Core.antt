@@ -1,0 +1,30 @@
+-- The plain state that a site's data stands for.
+use Rattle.tree_node.specs.State.{Stack}
+use Rattle.thread_machine.specs.declared.fresh.Fresh.{Fresh}
+use Rattle.thread_machine.specs.declared.fresh.Fresh.TheVariants as fresh
+use Rattle.thread_machine.specs.Running.{Running}
+use Rattle.site_variables.specs.Variables.{stacks_of}
+use Rattle.site_model.specs.Site.{Site, Counters, zero_counters}
+use Rattle.site_units.specs.declared.data.Core.{Core}
+
+-- the stack of a thread
+abbrev pub stack_in : Running → Stack
+stack_in r = r.stack
+
+-- the numbers of the names that counters made
+abbrev pub counters_of : Fresh → Counters
+counters_of (fresh.Counted site vars cells procs threads) = record { vars = vars; cells = cells; procs = procs; threads = threads }
+counters_of (fresh.Given names) = zero_counters
+
+-- the site: equations and records, tables of cells, threads with their stacks, counters and totals
+abbrev pub site_of : Core → Site
+site_of c = record {
+  equations = c.variables.store.equations;
+  records = c.variables.binder;
+  managers = c.cells.managers;
+  cell_records = c.cells.cell_records;
+  threads = stacks_of stack_in c.threads.living;
+  counters = counters_of c.fresh;
+  ended = c.threads.ended;
+  steps = c.steps;
+}

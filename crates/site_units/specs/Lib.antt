@@ -1,0 +1,5 @@
+pub mod Core
+pub mod Facts
+pub mod Units
+pub mod Turns
+pub mod Serving

@@ -1,0 +1,22 @@
+-- Rows of messages and loops of units, over a site's data.
+use Rattle.std.specs.Prelude.{◌≡◌, ℕ, ◌<◌, ◌≤◌, List, length, true}
+use Rattle.tree_node.specs.declared.names.ThreadName.{ThreadName}
+use Rattle.kernel_syntax.specs.declared.stmt.Stmt.{Stmt}
+use Rattle.site_model.specs.Site.{Site, is_idle}
+use Rattle.site_model.specs.Bundle.{bundle_limit}
+use Rattle.site_model.specs.Transition.{Transition}
+use Rattle.site_model.specs.Turn.{AreUnits}
+use Rattle.site_units.specs.declared.data.Core.{Core}
+use Rattle.site_units.specs.declared.data.Output.{Output}
+use Rattle.site_units.specs.Core.{site_of}
+use Rattle.site_units.specs.Units.{IsReached}
+
+-- the data and the output came by this row of the site
+abbrev pub IsRowMade : List Stmt → (Site → Transition) → Core → Output → Core → Output → Type 0
+IsRowMade p f c0 o0 c1 o1 = IsReached p (f (site_of c0)) c0 o0 c1 o1
+
+-- so many units were made, fewer only where the site is then idle
+abbrev pub AreUnitsMade : List Stmt → ℕ → Core → Output → Core → Output → Type 0
+AreUnitsMade p quantum c0 o0 c1 o1 =
+    (ths : List ThreadName) × (d : Transition) × AreUnits p c0.sites bundle_limit ths (site_of c0) d × IsReached p d c0 o0 c1 o1
+    × (length ths ≤ quantum) × (length ths < quantum → is_idle d.site ≡ true)
