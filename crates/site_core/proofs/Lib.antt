@@ -1,0 +1,9 @@
+pub mod FitLemmas
+pub mod CodeLemmas
+pub mod NameLemmas
+pub mod DeliverLemmas
+pub mod IdleLemmas
+pub mod NumberLemmas
+pub mod EntryLemmas
+pub mod StartLemmas
+pub mod TurnLemmas

@@ -1,0 +1,167 @@
+-- A turn changes no site's number.
+use Rattle.std.proofs.Common.{◌≡◌, ◌∙◌, ap, refl, ℕ, List, [], ◌∷◌, inl, inr, Bool, true, false, cond, Some, None}
+use Rattle.std.specs.Prelude.{Option, ◌==◌}
+use Rattle.tree_node.specs.declared.names.VarName.{VarName}
+use Rattle.tree_node.specs.declared.names.CellName.{CellName}
+use Rattle.tree_node.specs.declared.names.ThreadName.{ThreadName}
+use Rattle.tree_node.specs.declared.names.NameKind.{NameKind}
+use Rattle.tree_node.specs.declared.node.Term.{Term}
+use Rattle.tree_node.specs.declared.pick.Pick.{Pick}
+use Rattle.tree_node.specs.Store.{Equation}
+use Rattle.kernel_syntax.specs.declared.stmt.Stmt.{Stmt}
+use Rattle.site_message.specs.declared.message.Msg.{Msg}
+use Rattle.site_message.specs.declared.message.Msg.TheVariants as msg
+use Rattle.site_message.specs.declared.message.Sent.{Sent}
+use Rattle.oz_model.specs.Need.{Need, Waits, Binds, Takes, stack_need}
+use Rattle.oz_model.specs.Effect.{Birth, CellChange, Stays, Made, Exchanged, Effect, vars_among}
+use Rattle.bind_protocol.specs.Records.{Records, is_own, knowledge}
+use Rattle.bind_protocol.specs.Rows.{after_make, after_meet, after_meets, sent_message}
+use Rattle.proxy_table.specs.Proxies as proxies
+use Rattle.token_chain.specs.declared.token.Token.{Token}
+use Rattle.token_chain.specs.declared.token.Token.TheVariants.{Away, Asked, Here}
+use Rattle.site_model.specs.Site.{Site, ThreadState, thread_state, cell_record}
+use Rattle.site_model.specs.Bundle.{bundled, message_vars, message_bundle}
+use Rattle.site_model.specs.Transition.{Transition, without_output, with_messages}
+use Rattle.site_model.specs.Variables.{after_makes, with_known_equation_as, with_known_equation, with_known_equations, own_binds, opening}
+use Rattle.site_model.specs.Cells.{serving, after_exchange, after_exchange_as, content_after_exchange, with_exchange_waiting, with_own_request, with_last_asker}
+use Rattle.site_model.specs.Messages.{with_thread, message_row, bind_request_as, reception}
+use Rattle.site_model.specs.Unit.{next_names, with_fresh_names, placement, birth_row, after_cell, after_effect, step_row, step_pick, effect_here, thread_step, fresh_names, bind_attempt, IsStepOrRequest, IsUnitFor, IsUnit}
+use Rattle.site_model.specs.Turn.{IsReception, AreUnits, IsFullTurn}
+
+abbrev number_of : Site → ℕ
+number_of s = s.records.site
+
+abbrev number_after : Transition → ℕ
+number_after d = d.site.records.site
+
+-- ---- variables
+
+meet_number : (b : Records) (x : VarName) → (after_meet b x).site ≡ b.site
+meet_number b x = go (is_own b x)
+  where
+    go : (c : Bool) → (cond c b (record b { proxies = proxies.after_meet b.proxies x })).site ≡ b.site
+    go true = refl
+    go false = refl
+
+meets_number : (b : Records) (xs : List VarName) → (after_meets b xs).site ≡ b.site
+meets_number b [] = refl
+meets_number b (x ∷ xs) = meets_number (after_meet b x) xs ∙ meet_number b x
+
+makes_number : (b : Records) (xs : List VarName) → (after_makes b xs).site ≡ b.site
+makes_number b [] = refl
+makes_number b (x ∷ xs) = makes_number (after_make b x) xs
+
+told_number : (s : Site) (x : VarName) (t : Term) → number_of (with_known_equation s x t) ≡ number_of s
+told_number s x t = go (is_own s.records x) (knowledge s.records x)
+  where
+    go : (b : Bool) (k : Option (Option Term)) → number_of (with_known_equation_as b k s x t) ≡ number_of s
+    go true k = refl
+    go false None = refl
+    go false (Some None) = refl
+    go false (Some (Some r)) = refl
+
+told_all_number : (es : List Equation) (s : Site) → number_of (with_known_equations s es) ≡ number_of s
+told_all_number [] s = refl
+told_all_number (e ∷ es) s = told_all_number es (with_known_equation s e.0 e.1) ∙ told_number s e.0 e.1
+
+binds_number : (limit : ℕ) (es : List Equation) (s : Site) → number_after (own_binds limit es s) ≡ number_of s
+binds_number limit [] s = refl
+binds_number limit (e ∷ es) s = binds_number limit es s
+
+-- ---- cells
+
+serving_number : (p : List Stmt) (c : CellName) (ns : List ThreadName) (v : VarName) (s : Site) → number_after (serving p c ns v s) ≡ number_of s
+serving_number p c [] v s = refl
+serving_number p c (n ∷ ns) v s = serving_number p c ns (content_after_exchange p n v s) (after_exchange p n v s) ∙ go (thread_state s n)
+  where
+    go : (o : Option ThreadState) → number_of (after_exchange_as p n v s o) ≡ number_of s
+    go None = refl
+    go (Some st) = refl
+
+cell_number : (c : CellChange) (s : Site) → number_of (after_cell c s) ≡ number_of s
+cell_number Stays s = refl
+cell_number (Made c v) s = refl
+cell_number (Exchanged c new told) s = refl
+
+own_request_number : (c : CellName) (t : Token) (s : Site) → number_of (with_own_request c t s) ≡ number_of s
+own_request_number c Away s = go (c.site == s.records.site)
+  where
+    go : (b : Bool) → number_of (cond b (with_last_asker c s.records.site s) s) ≡ number_of s
+    go true = refl
+    go false = refl
+own_request_number c Asked s = refl
+own_request_number c (Here v) s = refl
+
+-- ---- messages
+
+message_number : (p : List Stmt) (limit : ℕ) (m : Msg) (s : Site) → number_after (message_row p limit m s) ≡ number_of s
+message_number p limit (msg.Spawn n code vars es) s = refl
+message_number p limit (msg.Register x k) s = refl
+message_number p limit (msg.BindReq x n t es) s = go (knowledge s.records x)
+  where
+    go : (k : Option (Option Term)) → number_after (bind_request_as k limit x t n s) ≡ number_of s
+    go None = refl
+    go (Some None) = refl
+    go (Some (Some r)) = refl
+message_number p limit (msg.Binding x t es) s = told_number s x t
+message_number p limit (msg.Get c k) s = refl
+message_number p limit (msg.Forward c k) s = refl
+message_number p limit (msg.Put c v es) s = serving_number p c (cell_record s c).queue v s
+
+reception_number : (p : List Stmt) (limit : ℕ) (m : Msg) (s : Site) → number_after (reception p limit m s) ≡ number_of s
+reception_number p limit m s =
+    message_number p limit m (opening m s).site ∙ (meets_number (with_known_equations s (message_bundle m)).records (message_vars m) ∙ told_all_number (message_bundle m) s)
+
+heard_number : (p : List Stmt) (n limit : ℕ) (o : Option Msg) (s : Site) (d : Transition) → IsReception p n limit o s d → number_after d ≡ number_of s
+heard_number p n limit None s d e = ap number_after e
+heard_number p n limit (Some m) s d (inl h) = ap number_after h.1 ∙ reception_number p limit m s
+heard_number p n limit (Some m) s d (inr h) = ap number_after h.1
+
+-- ---- units
+
+birth_number : (p : List Stmt) (n limit : ℕ) (o : Option Birth) (s : Site) → number_after (birth_row p n limit o s) ≡ number_of s
+birth_number p n limit None s = refl
+birth_number p n limit (Some b) s = go (placement n s.records.site b.at == s.records.site)
+  where
+    born : Sent
+    born = bundled limit s.equations (sent_message (placement n s.records.site b.at) (msg.Spawn b.name b.code b.vars []))
+
+    go : (here : Bool) → number_after (cond here (without_output (with_thread p (Some b) s)) (with_messages s (born ∷ []))) ≡ number_of s
+    go true = refl
+    go false = refl
+
+step_number : (p : List Stmt) (n limit : ℕ) (k : Pick) (kinds : List NameKind) (e : Effect) (s : Site) → number_after (step_row p n limit k kinds e s) ≡ number_of s
+step_number p n limit k kinds e s =
+    birth_number p n limit e.born (after_effect k.thread e bound) ∙ (cell_number e.cell bound ∙ (binds_number limit e.adds (with_fresh_names kinds s) ∙ makes_number s.records (vars_among (next_names s.records.site s.counters kinds))))
+  where
+    bound : Site
+    bound = (own_binds limit e.adds (with_fresh_names kinds s)).site
+
+unit_number : (p : List Stmt) (n limit : ℕ) (th : ThreadName) (s : Site) (d : Transition) → IsUnit p n limit th s d → number_after d ≡ number_of s
+unit_number p n limit th s d (st, running, unit) = go (stack_need p s.equations st) unit
+  where
+    stepped : (kinds : List NameKind) (c : CellChange) → IsStepOrRequest limit th st s (thread_step p n limit th st kinds (fresh_names s kinds) None s) c d → number_after d ≡ number_of s
+    stepped kinds Stays e = ap number_after e ∙ step_number p n limit (step_pick th (fresh_names s kinds) None) kinds (effect_here p s (fresh_names s kinds) None st) s
+    stepped kinds (Made c v) e = ap number_after e ∙ step_number p n limit (step_pick th (fresh_names s kinds) None) kinds (effect_here p s (fresh_names s kinds) None st) s
+    stepped kinds (Exchanged c new told) (inl h) = ap number_after h.1 ∙ step_number p n limit (step_pick th (fresh_names s kinds) None) kinds (effect_here p s (fresh_names s kinds) None st) s
+    stepped kinds (Exchanged c new told) (inr h) = ap number_after h.1 ∙ own_request_number c (cell_record s c).held.token (with_exchange_waiting c th st s)
+
+    attempted : (u : VarName) (t : Term) (own : Bool) → number_after (bind_attempt p n limit th st u t own s) ≡ number_of s
+    attempted u t true = step_number p n limit (step_pick th [] (Some (u, t))) [] (effect_here p s [] (Some (u, t)) st) s
+    attempted u t false = refl
+
+    go : (need : Need) → IsUnitFor p n limit s th st need d → number_after d ≡ number_of s
+    go (Waits x) h = ap number_after h.2
+    go (Binds a b) h = ap number_after h.3 ∙ attempted h.0 h.1 (h.0.site == s.records.site)
+    go (Takes kinds) h = stepped kinds (effect_here p s (fresh_names s kinds) None st).cell h
+
+units_number : (p : List Stmt) (n limit : ℕ) (ths : List ThreadName) (s : Site) (d : Transition) → AreUnits p n limit ths s d → number_after d ≡ number_of s
+units_number p n limit [] s d e = ap number_after e
+units_number p n limit (th ∷ ths) s d (one, rest, unit, units, e) =
+    ap number_after e ∙ (units_number p n limit ths one.site rest units ∙ unit_number p n limit th s one unit)
+
+-- ---- a turn
+
+pub turn_number : (p : List Stmt) (n limit quantum : ℕ) (s : Site) (m : Option Msg) (d : Transition) → IsFullTurn p n limit quantum s m d → d.site.records.site ≡ s.records.site
+turn_number p n limit quantum s m d (ths, (heard, rest, reception, units, e), most, idle) =
+    ap number_after e ∙ (units_number p n limit ths heard.site rest units ∙ heard_number p n limit m s heard reception)

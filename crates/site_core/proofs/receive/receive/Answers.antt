@@ -1,0 +1,54 @@
+use Rattle.std.proofs.Common.{◌≡◌, ◌∙◌, sym, true, false}
+use Rattle.std.proofs.lemmas.Result.{on_ok_weaker}
+use Rattle.site_model.specs.Bundle.{bundle_limit}
+use Rattle.site_model.specs.Messages.{message_row}
+use Rattle.site_units.specs.Turns.{IsRowMade}
+use Rattle.site_core.proofs.CodeLemmas.{bundle_terms}
+use Rattle.site_core.proofs.DeliverLemmas.{vars_made, deliverable}
+use Rattle.site_core.proofs.TurnLemmas.{fit_received, unfit_received}
+use Rattle.site_core.proofs.receive.receive.Goals as goal
+
+pub returns-then-not-is_fit-clause-received : goal.returns-then-not-is_fit-clause-received
+returns-then-not-is_fit-clause-received c =
+    unfit_received c.args.program.now c.args.msg c.args.core.now c.args.output.now c.requires.consistent
+    (λ fit. let both : true ≡ false = sym (c.is_fit.ensures.1 fit) ∙ c.if-not-is_fit.true in cc)
+
+pub open_message-requires-clause-consistent : goal.open_message-requires-clause-consistent
+open_message-requires-clause-consistent c =
+    let fit = c.is_fit.ensures.0 c.if-not-is_fit.false in
+    (c.args.program.now, c.requires.consistent, bundle_terms c.args.program.now c.is_program.ensures c.args.msg fit.wire fit.codes)
+
+pub open_message-requires-clause-down : goal.open_message-requires-clause-down
+open_message-requires-clause-down c = (c.is_fit.ensures.0 c.if-not-is_fit.false).bundle.down
+
+pub open_message-requires-clause-made : goal.open_message-requires-clause-made
+open_message-requires-clause-made c = vars_made c.args.program.now c.args.core.now c.args.msg c.requires.consistent (c.is_fit.ensures.0 c.if-not-is_fit.false)
+
+pub deliver-requires-clause-consistent : goal.deliver-requires-clause-consistent
+deliver-requires-clause-consistent c =
+    let fit = c.is_fit.ensures.0 c.if-not-is_fit.false in
+    (c.in_ok-open_message.ensures.row c.args.program.now c.requires.consistent (bundle_terms c.args.program.now c.is_program.ensures c.args.msg fit.wire fit.codes)).consistent
+
+pub deliver-requires-clause-deliverable : goal.deliver-requires-clause-deliverable
+deliver-requires-clause-deliverable c =
+    let fit = c.is_fit.ensures.0 c.if-not-is_fit.false in
+    let e = c.in_ok-open_message.ensures in
+    deliverable c.args.program.now c.is_program.ensures c.tables_take_as_sites.ensures c.args.msg c.args.core.now c.open_message.new.core c.requires.consistent fit (record {
+      consistent = (e.row c.args.program.now c.requires.consistent (bundle_terms c.args.program.now c.is_program.ensures c.args.msg fit.wire fit.codes)).consistent;
+      known = e.known;
+      grows = e.grows;
+      lives = e.lives;
+      owners = e.owners;
+      site = e.site;
+      cells = e.cells;
+      counters = e.fresh;
+    })
+
+pub returns-clause-received : goal.returns-clause-received
+returns-clause-received c =
+    let fit = c.is_fit.ensures.0 c.if-not-is_fit.false in
+    let opened = c.in_ok-open_message.ensures.row c.args.program.now c.requires.consistent (bundle_terms c.args.program.now c.is_program.ensures c.args.msg fit.wire fit.codes) in
+    on_ok_weaker c.deliver.result
+    (λ (row : IsRowMade c.args.program.now (message_row c.args.program.now bundle_limit c.args.msg) c.open_message.new.core c.open_message.new.output c.deliver.new.core c.deliver.new.output).
+    fit_received c.args.program.now c.args.msg c.args.core.now c.open_message.new.core c.deliver.new.core c.args.output.now c.open_message.new.output c.deliver.new.output fit opened row)
+    c.deliver.ensures.row

@@ -1,0 +1,58 @@
+-- Messages that a site's data receive, and turns.
+use Rattle.std.specs.Prelude.{◌≡◌, ◌≢◌, ℕ, List, Option, None, Contains}
+use Rattle.tree_node.specs.declared.names.VarName.{VarName}
+use Rattle.tree_node.specs.declared.names.Name.TheVariants as name
+use Rattle.tree_node.specs.Assoc.{value_of}
+use Rattle.tree_node.specs.Each.{Each}
+use Rattle.tree_node.specs.Names.{EachOfTerm}
+use Rattle.tree_node.specs.Order.{IsLower}
+use Rattle.tree_node.specs.State.{equal_thread}
+use Rattle.kernel_syntax.specs.declared.stmt.Stmt.{Stmt}
+use Rattle.site_message.specs.declared.message.Msg.{Msg}
+use Rattle.site_message.specs.declared.message.Msg.TheVariants as msg
+use Rattle.variable_owner.specs.Owners.{IsMade as IsOwned, owner_of, sites_of}
+use Rattle.bind_protocol.specs.Records.{IsKnown as IsMet}
+use Rattle.thread_machine.specs.Fits.{VarsFit, TermFits, IsKnown}
+use Rattle.thread_machine.specs.Supply.{IsMade}
+use Rattle.site_cells.specs.Tables.{Takes}
+use Rattle.site_model.specs.Bundle.{bundle_limit}
+use Rattle.site_model.specs.Transition.{Transition}
+use Rattle.site_model.specs.Turn.{IsReception, IsFullTurn}
+use Rattle.site_units.specs.declared.data.Core.{Core}
+use Rattle.site_units.specs.declared.data.Output.{Output}
+use Rattle.site_units.specs.Core.{site_of}
+use Rattle.site_units.specs.Units.{IsReached}
+
+-- ---- messages
+
+-- the data can do the row of the message, which was opened: a new thread lives nowhere here, its name is no later one of this
+-- site's, and its code fits; an own variable was made, and the asking site is not registered; a term fits, leads down and is of
+-- known variables; a variable of another site was met; the cell can take its message, and its content is known
+abbrev pub CanDeliver : List Stmt → Core → Msg → Type 0
+CanDeliver p c (msg.Spawn n code vars bundle) =
+    (value_of equal_thread c.threads.living n ≡ None) × IsMade c.fresh (name.Thread n) × VarsFit p code vars
+    × Each (λ (x : VarName). Contains c.variables.store.known x) vars
+CanDeliver p c (msg.Register x k) =
+    (x.site ≡ c.variables.binder.site) × IsOwned c.variables.binder.owners x
+    × (Contains (sites_of (owner_of c.variables.binder.owners x)) k → ⊥)
+CanDeliver p c (msg.BindReq x n t bundle) =
+    (x.site ≡ c.variables.binder.site) × IsOwned c.variables.binder.owners x × IsLower t x
+    × EachOfTerm (IsKnown c.variables.store.known) t × TermFits p t
+CanDeliver p c (msg.Binding x t bundle) =
+    (x.site ≢ c.variables.binder.site) × IsMet c.variables.binder x × IsLower t x
+    × EachOfTerm (IsKnown c.variables.store.known) t × TermFits p t
+CanDeliver p c (msg.Get cell k) = Takes c.cells (msg.Get cell k)
+CanDeliver p c (msg.Forward cell k) = Takes c.cells (msg.Forward cell k)
+CanDeliver p c (msg.Put cell v bundle) = Takes c.cells (msg.Put cell v bundle) × Contains c.variables.store.known v
+
+-- the data and the output came by the message: by its row where it is fit, and nothing changed where it is not
+abbrev pub IsReceived : List Stmt → Option Msg → Core → Output → Core → Output → Type 0
+IsReceived p m c0 o0 c1 o1 =
+    (d : Transition) × IsReception p c0.sites bundle_limit m (site_of c0) d × IsReached p d c0 o0 c1 o1
+
+-- ---- turns
+
+-- the data and the output came by a full turn
+abbrev pub IsFullTurnMade : List Stmt → ℕ → Option Msg → Core → Output → Core → Output → Type 0
+IsFullTurnMade p quantum m c0 o0 c1 o1 =
+    (d : Transition) × IsFullTurn p c0.sites bundle_limit quantum (site_of c0) m d × IsReached p d c0 o0 c1 o1

@@ -1,0 +1,47 @@
+//! What a site does with a message that is fit, once it is opened.
+
+ghost use Rattle.std.specs.Prelude.{◌≡◌, ◌<◌, ◌^◌, OnOk};
+ghost use Rattle.site_model.specs.Bundle.{bundle_limit};
+ghost use Rattle.site_model.specs.Messages.{message_row};
+ghost use Rattle.site_units.specs.Facts.{IsConsistent};
+ghost use Rattle.site_units.specs.Turns.{IsRowMade};
+ghost use Rattle.site_core.specs.Turns.{CanDeliver};
+
+use kernel_syntax::Program;
+use site_message::Msg;
+use site_units::{Core, Output, begin, follow, grant, learn, pass_on, register, serve};
+use std::alloc::AllocError;
+
+/// The row of the message's kind.
+pub fn deliver(
+    core: &mut Core,
+    output: &mut Output,
+    program: &Program,
+    msg: Msg,
+) -> Result<(), AllocError>
+    requires consistent { IsConsistent program.now core.old }
+    requires deliverable { CanDeliver program.now core.old msg }
+    requires room { core.old.steps < 2 ^ 50 }
+    ensures row { OnOk result (IsRowMade program.now (message_row program.now bundle_limit msg) core.old output.old core.new output.new) }
+    ensures steps { OnOk result (core.new.steps ≡ core.old.steps) }
+{
+    match msg {
+        Msg::Spawn {
+            thread,
+            code,
+            vars,
+            ..
+        } => begin(core, output, program, thread, code, vars),
+        Msg::Register { var, asking } => register(core, output, var, asking),
+        Msg::BindReq {
+            var,
+            thread,
+            term,
+            ..
+        } => grant(core, output, var, thread, term),
+        Msg::Binding { var, term, .. } => learn(core, output, var, term),
+        Msg::Get { cell, asking } => pass_on(core, output, cell, asking),
+        Msg::Forward { cell, next } => follow(core, output, cell, next),
+        Msg::Put { cell, content, .. } => serve(core, output, program, cell, content),
+    }
+}

@@ -1,0 +1,189 @@
+//! One site of a program.
+
+ghost use Rattle.std.specs.Prelude.{◌≡◌, ◌≤◌, ◌+◌, ◌^◌, IfOk, OnErr, OnOk, false, true};
+ghost use Rattle.std.specs.Borrow.{sem};
+ghost use Rattle.site_model.specs.Run.{IsRecordOf};
+ghost use Rattle.site_model.specs.Site.{initial_site, is_idle};
+ghost use Rattle.site_units.specs.Core.{site_of};
+ghost use Rattle.site_core.specs.Lent.{LendsSeat};
+ghost use Rattle.site_core.specs.Seated.{IsTurnMade, message_in, number_in};
+
+use crate::start::{bare_core, first_core};
+use crate::turn::turn;
+use kernel_syntax::Program;
+use site_message::{Lines, Msg, NoSeat, Outside, Picks, Quantum, Turn};
+use site_units::{Core, Output, site_in};
+use std::alloc::{AllocError, Global};
+use std::marker::Model;
+
+/// One site of a program, with a seat. A site whose turn ran out of memory is spent: its data are given up and it makes no turn
+/// any more, but its seat can still be lent and taken.
+#[derive(Drop)]
+pub struct Site<'a, O> {
+    program: &'a Program,
+    core: Core,
+    spent: bool,
+    seat: O,
+}
+
+impl<'a, O> Model for Site<'a, O> {
+    ghost use Rattle.site_core.specs.Seated.{Seated};
+
+    ghost Value = { Seated O };
+
+    ghost use Rattle.site_units.specs.Core.{site_of};
+    ghost use Rattle.site_core.specs.Kept.{IsKept};
+
+    ghost view = { λ s. record { program = s.program.now; sites = s.core.sites; state = site_of s.core; spent = s.spent; seat = s.seat } };
+
+    ghost invariant = { λ s. IsKept s.program.now s.core s.spent };
+}
+
+// The number and the message of a numbered message.
+fn split(message: Option<(u64, Msg)>) -> (Option<u64>, Option<Msg>)
+    ensures number { result.0 ≡ number_in message }
+    ensures message { result.1 ≡ message_in message }
+{
+    match message {
+        None => (None, None),
+        Some((number, msg)) => (Some(number), Some(msg)),
+    }
+}
+
+// The entry of a turn of a site that left these data and this output. Its totals are looked up.
+fn entry(core: &Core, output: Output, site: u32, delivered: Option<u64>) -> Turn
+    ensures site { result.site ≡ site }
+    ensures delivered { result.delivered ≡ delivered }
+    ensures recorded { IsRecordOf result (record { site = site_of core.now; picks = output.picks.items; sent = output.sent; lines = output.lines.items }) }
+{
+    Turn {
+        site,
+        delivered,
+        picks: Picks::from_vec(output.picks),
+        sent: output.sent.into_list(),
+        lines: Lines::from_vec(output.lines),
+        idle: core.threads.idle(),
+        ended: core.threads.ended() as u64,
+        waiting: core.threads.waiting() as u64,
+        steps: core.steps,
+    }
+}
+
+impl<'a> Site<'a, NoSeat> {
+    /// Site `number` of so many, at its start: site 1 has the program's thread, the others none.
+    pub fn new(
+        alloc: Global,
+        number: u32,
+        sites: u32,
+        program: &'a Program,
+    ) -> Result<Site<'a, NoSeat>, AllocError>
+        requires some { 1 ≤ number }
+        requires among { number ≤ sites }
+        requires most { sites ≤ 64 }
+        ensures program { IfOk result (λ s. s.program ≡ program.now) }
+        ensures sites { IfOk result (λ s. s.sites ≡ sites) }
+        ensures state { IfOk result (λ s. s.state ≡ initial_site program.now number) }
+        ensures live { IfOk result (λ s. s.spent ≡ false) }
+    {
+        let core = first_core(alloc, number, sites, program)?;
+        Ok(Site {
+            program,
+            core,
+            spent: false,
+            seat: NoSeat,
+        })
+    }
+
+    /// Gives the site a seat.
+    pub fn seated<O: Outside>(self, seat: O) -> Site<'a, O>
+        ensures { result ≡ record { program = self.entry.program; sites = self.entry.sites; state = self.entry.state; spent = self.entry.spent; seat = seat } }
+    {
+        let Site {
+            program,
+            core,
+            spent,
+            seat: _,
+        } = self;
+        Site {
+            program,
+            core,
+            spent,
+            seat,
+        }
+    }
+}
+
+impl<'a, O: Outside> Site<'a, O> {
+    /// Lends the seat.
+    pub fn seat(&mut self) -> &mut O
+        ensures* writes_back { sem 𝓛 (LendsSeat O.row self.entry result) }
+        ensures value { result.now ≡ self.old.seat }
+    {
+        &mut self.seat
+    }
+
+    /// The seat; the site is given up.
+    pub fn into_seat(self) -> O
+        ensures { result ≡ self.entry.seat }
+    {
+        let Site {
+            program: _,
+            core: _,
+            spent: _,
+            seat,
+        } = self;
+        seat
+    }
+
+    /// Whether no thread of the site can go on.
+    pub fn idle(&self) -> bool
+        ensures { result ≡ is_idle self.now.state }
+    {
+        self.core.threads.idle()
+    }
+
+    /// How many own steps the site has made.
+    pub fn steps(&self) -> u64
+        ensures { result ≡ self.now.state.steps }
+    {
+        self.core.steps
+    }
+
+    /// One turn: the message, if there is one, with its number, and then as many units as the quantum, fewer only where no
+    /// thread can go on then. After want of memory the site is spent.
+    pub fn turn(
+        &mut self,
+        message: Option<(u64, Msg)>,
+        quantum: Quantum,
+    ) -> Result<Turn, AllocError>
+        requires outside { O.is_outside self.old.seat }
+        requires live { self.old.spent ≡ false }
+        requires most { quantum.0 ≤ 64 }
+        requires room { self.old.state.steps ≤ 2 ^ 48 }
+        ensures program { self.new.program ≡ self.old.program }
+        ensures sites { self.new.sites ≡ self.old.sites }
+        ensures seat { self.new.seat ≡ self.old.seat }
+        ensures turn { IfOk result (λ e. IsTurnMade self.old.program self.old.sites self.old.state message quantum.0 e self.new.state) }
+        ensures number { self.new.state.records.site ≡ self.old.state.records.site }
+        ensures few { OnOk result (self.new.state.steps ≤ self.old.state.steps + quantum.0) }
+        ensures live { OnOk result (self.new.spent ≡ false) }
+        ensures spent { OnErr result (self.new.spent ≡ true) }
+    {
+        let number = site_in(&self.core.fresh);
+        let sites = self.core.sites;
+        let alloc = self.core.alloc;
+        let (delivered, msg) = split(message);
+        let mut output = Output::new(alloc);
+        self.spent = true;
+        match turn(&mut self.core, &mut output, self.program, msg, quantum) {
+            Ok(()) => {
+                self.spent = false;
+                Ok(entry(&self.core, output, number, delivered))
+            }
+            Err(error) => {
+                self.core = bare_core(alloc, number, sites);
+                Err(error)
+            }
+        }
+    }
+}

@@ -1,0 +1,71 @@
+//! A site's data at the start of a program.
+
+ghost use Rattle.std.specs.Prelude.{◌≡◌, ◌≤◌, IfOk};
+ghost use Rattle.site_model.specs.Site.{initial_site};
+ghost use Rattle.site_units.specs.Core.{site_of};
+ghost use Rattle.site_units.specs.Facts.{IsConsistent};
+ghost use Rattle.site_core.specs.Start.{IsBare, first_living};
+
+use kernel_syntax::Program;
+use site_cells::Cells;
+use site_units::Core;
+use site_variables::Variables;
+use std::alloc::{AllocError, Global};
+use thread_machine::{Fresh, Thread};
+use thread_roster::Roster;
+use tree_node::{CodeId, ThreadName, Vars};
+
+// The threads at the start: site 1 has the program's thread.
+fn first_threads(
+    alloc: Global,
+    number: u32,
+    program: &Program,
+) -> Result<Roster<Thread>, AllocError>
+    ensures living { IfOk result (λ t. t.living ≡ first_living program.now number) }
+    ensures ended { IfOk result (λ t. t.ended ≡ 0) }
+{
+    let mut threads = Roster::new(alloc);
+    if number == 1 {
+        program.is_program();
+        let name = ThreadName { site: 1, num: 0 };
+        let vars = Vars::from_vec(Vec::new(alloc))?;
+        let first = Thread::new(alloc, name, CodeId(0), vars, program)?;
+        threads.start(name, first)?;
+    }
+    Ok(threads)
+}
+
+/// The data of a site that has no threads and made nothing. They take no memory.
+pub fn bare_core(alloc: Global, number: u32, sites: u32) -> Core
+    ensures { IsBare number sites result }
+{
+    Core {
+        alloc,
+        sites,
+        variables: Variables::new(alloc, number),
+        cells: Cells::new(alloc, number),
+        threads: Roster::new(alloc),
+        fresh: Fresh::of(number),
+        steps: 0,
+    }
+}
+
+/// The data of site `number` of so many, at the start of the program.
+pub fn first_core(
+    alloc: Global,
+    number: u32,
+    sites: u32,
+    program: &Program,
+) -> Result<Core, AllocError>
+    requires some { 1 ≤ number }
+    requires among { number ≤ sites }
+    ensures state { IfOk result (λ c. site_of c ≡ initial_site program.now number) }
+    ensures consistent { IfOk result (λ c. IsConsistent program.now c) }
+    ensures sites { IfOk result (λ c. c.sites ≡ sites) }
+{
+    program.is_program();
+    let threads = first_threads(alloc, number, program)?;
+    let mut core = bare_core(alloc, number, sites);
+    core.threads = threads;
+    Ok(core)
+}
