@@ -1,0 +1,2 @@
+mod ImportLemmas
+mod ExportLemmas

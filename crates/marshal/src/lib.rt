@@ -1,0 +1,23 @@
+//! Known equations that travel with a message: taken out of a store, and taken in.
+//!
+//! For: a site that sends a variable may send along what it knows of it, so that the other need not ask.
+//!
+//! It promises: `export` and `export_from` give equations of the store, each of a variable that is reached from the given ones,
+//! at most as many as the limit; none where the limit is 0. `import` adds each equation of the bundle whose variable has none
+//! (`with_equations`), and answers the names that were not known before, each once, in the order in which they stand there.
+//! After want of memory the store may know a part of the bundle, and the site is given up.
+//!
+//! Runs have the limit 0 today, and every bundle is empty. That the equations taken are the first ones, breadth first, is not
+//! proved yet.
+//!
+//! It stands on `tree_store` and `site_message`, and on `site_model` for words.
+//!
+//! Source: Haridi and others, *Efficient Logic Variables for Distributed Computing* (TOPLAS 21(3), 1999).
+#![tactic(auto)]
+
+mod exporting;
+mod importing;
+mod vars;
+
+pub use exporting::{export, export_from};
+pub use importing::import;
