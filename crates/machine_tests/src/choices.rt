@@ -1,7 +1,8 @@
 //! Picks as rows of tables, and what a machine answers to them.
 
-use central_machine::{Central, Refusal};
+use central_machine::{Central, Refusal, are_small};
 use std::alloc::{AllocError, Global};
+use std::process::Abort;
 use tree_node::{Name, NameList, Node, Pick, Term, Text, ThreadName, VarName};
 
 /// What a pick takes or binds.
@@ -81,13 +82,16 @@ fn answer_of(outcome: Result<(), Refusal>) -> Answer {
     }
 }
 
-/// What the pick of a thread is answered.
-pub fn answered(
+/// What the pick of a thread is answered, whose names have numbers below 2^60.
+pub fn answered<R: Abort>(
+    rt: &R,
     alloc: Global,
     machine: &mut Central<'_>,
     thread: ThreadName,
     choice: Choice,
 ) -> Result<Answer, AllocError> {
     let pick = pick_of(alloc, thread, choice)?;
+    let small = are_small(pick.fresh.as_slice());
+    assert!(rt; small);
     Ok(answer_of(machine.step(pick)))
 }

@@ -26,9 +26,14 @@ static MOVES: [Choice; 6] = [
 ];
 
 // Makes the step of a thread: false, where it has none.
-fn goes(alloc: Global, machine: &mut Central<'_>, name: ThreadName) -> Result<bool, AllocError> {
+fn goes<R: Abort>(
+    rt: &R,
+    alloc: Global,
+    machine: &mut Central<'_>,
+    name: ThreadName,
+) -> Result<bool, AllocError> {
     for choice in MOVES.as_slice() {
-        match answered(alloc, machine, name, *choice)? {
+        match answered(rt, alloc, machine, name, *choice)? {
             Answer::Goes => return Ok(true),
             Answer::Memory => return Err(AllocError),
             _ => {}
@@ -38,9 +43,14 @@ fn goes(alloc: Global, machine: &mut Central<'_>, name: ThreadName) -> Result<bo
 }
 
 // The threads of these numbers go one after the other: false, where one of them cannot.
-fn follows(alloc: Global, machine: &mut Central<'_>, path: &[u64]) -> Result<bool, AllocError> {
+fn follows<R: Abort>(
+    rt: &R,
+    alloc: Global,
+    machine: &mut Central<'_>,
+    path: &[u64],
+) -> Result<bool, AllocError> {
     for number in path {
-        if !goes(alloc, machine, thread(*number))? {
+        if !goes(rt, alloc, machine, thread(*number))? {
             return Ok(false);
         }
     }
@@ -79,8 +89,13 @@ enum End {
     Rests(Output),
 }
 
-fn end_after(alloc: Global, machine: &mut Central<'_>, path: &[u64]) -> Result<End, AllocError> {
-    if !follows(alloc, machine, path)? {
+fn end_after<R: Abort>(
+    rt: &R,
+    alloc: Global,
+    machine: &mut Central<'_>,
+    path: &[u64],
+) -> Result<End, AllocError> {
+    if !follows(rt, alloc, machine, path)? {
         return Ok(End::Refused);
     }
     if !machine.at_rest() {
@@ -89,9 +104,14 @@ fn end_after(alloc: Global, machine: &mut Central<'_>, path: &[u64]) -> Result<E
     Ok(End::Rests(output_of(machine.lines())))
 }
 
-fn end_of(alloc: Global, program: &Program, path: &[u64]) -> Result<End, AllocError> {
+fn end_of<R: Abort>(
+    rt: &R,
+    alloc: Global,
+    program: &Program,
+    path: &[u64],
+) -> Result<End, AllocError> {
     let mut machine = Central::new(alloc, program)?;
-    end_after(alloc, &mut machine, path)
+    end_after(rt, alloc, &mut machine, path)
 }
 
 /// How often each output comes.
@@ -129,13 +149,14 @@ fn turns_off(path: &mut Vec<u64>) -> Result<bool, AllocError> {
 }
 
 // Looks at a path, and goes to the next one: false, where there is none.
-fn looks(
+fn looks<R: Abort>(
+    rt: &R,
     alloc: Global,
     program: &Program,
     path: &mut Vec<u64>,
     tally: &mut Tally,
 ) -> Result<bool, AllocError> {
-    match end_of(alloc, program, path.as_slice())? {
+    match end_of(rt, alloc, program, path.as_slice())? {
         End::GoesOn => {
             path.push(0)?;
             Ok(true)
@@ -158,7 +179,7 @@ fn tally_of<R: Abort>(rt: &R, alloc: Global, program: &Program) -> Result<Tally,
     };
     let mut path = Vec::new(alloc);
     for _ in 0..10_000 {
-        if !looks(alloc, program, &mut path, &mut tally)? {
+        if !looks(rt, alloc, program, &mut path, &mut tally)? {
             return Ok(tally);
         }
     }

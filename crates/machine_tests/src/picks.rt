@@ -24,12 +24,6 @@ static SKIP: Story = Story {
     counts: (1, 0),
 };
 
-#[test]
-fn a_pick_is_refused_by_its_first_part(rt: HostRuntime) -> Result<(), Fail> {
-    goes_as_told(&rt, rt.alloc(), &SKIP)?;
-    Ok(())
-}
-
 // What waits is told before names and binds are looked at.
 static WAITING: Story = Story {
     text: "local X in {Browse X} end",
@@ -48,12 +42,6 @@ static WAITING: Story = Story {
     rests: true,
     counts: (0, 1),
 };
-
-#[test]
-fn a_thread_that_waits_is_refused_with_its_variable(rt: HostRuntime) -> Result<(), Fail> {
-    goes_as_told(&rt, rt.alloc(), &WAITING)?;
-    Ok(())
-}
 
 // A second declaration takes neither the name of the first, which still occurs, nor one of another kind, nor none or two.
 static USED: Story = Story {
@@ -79,12 +67,6 @@ static USED: Story = Story {
     counts: (1, 0),
 };
 
-#[test]
-fn a_used_name_is_not_fresh(rt: HostRuntime) -> Result<(), Fail> {
-    goes_as_told(&rt, rt.alloc(), &USED)?;
-    Ok(())
-}
-
 // The first variable is nowhere once its scope has no use of it.
 static GONE: Story = Story {
     text: "local X in local Y in skip end end",
@@ -97,12 +79,6 @@ static GONE: Story = Story {
     rests: true,
     counts: (1, 0),
 };
-
-#[test]
-fn a_name_that_occurs_no_more_is_fresh(rt: HostRuntime) -> Result<(), Fail> {
-    goes_as_told(&rt, rt.alloc(), &GONE)?;
-    Ok(())
-}
 
 // Two variables have two names. A lesser variable is bound to a greater one, and then any of the two to the atom.
 static LINKS: Story = Story {
@@ -142,7 +118,12 @@ static LINKS: Story = Story {
 };
 
 #[test]
-fn a_lesser_variable_is_bound_to_a_greater_one(rt: HostRuntime) -> Result<(), Fail> {
-    goes_as_told(&rt, rt.alloc(), &LINKS)?;
+fn picks_are_steps_or_refused_by_their_first_part(rt: HostRuntime) -> Result<(), Fail> {
+    let alloc = rt.alloc();
+    goes_as_told(&rt, alloc, &SKIP)?;
+    goes_as_told(&rt, alloc, &WAITING)?;
+    goes_as_told(&rt, alloc, &USED)?;
+    goes_as_told(&rt, alloc, &GONE)?;
+    goes_as_told(&rt, alloc, &LINKS)?;
     Ok(())
 }

@@ -1,25 +1,29 @@
 //! What is done with a machine, one call after the other, and what is seen of it.
 
+ghost use Rattle.std.specs.Prelude.{◌<◌, ◌^◌};
+ghost use Rattle.tree_node.specs.declared.names.Name.{Name as Named};
+ghost use Rattle.tree_node.specs.Each.{Each};
+ghost use Rattle.tree_node.specs.Order.{num_of};
+ghost use Rattle.central_machine.specs.Numbers.{NumbersBelow};
+
 use crate::choices::{Answer, Choice, answered};
 use crate::programs::program_of;
-use central_machine::Central;
+use central_machine::{Central, number_of};
 use kernel_syntax::Program;
 use std::alloc::{AllocError, Global};
 use std::process::Abort;
-use tree_node::{Line, ThreadName};
+use tree_node::{Line, Name, Pick, ThreadName};
 
 /// A call, and what is told of it.
 ///
 /// - `Pick`: the pick of a thread has this answer.
 /// - `Turns`: of at most so many steps so many are made.
 /// - `Rests`: of at most so many steps fewer are made, and nothing goes on.
-/// - `OneByOne`: steps are made one in a call, until nothing goes on.
 #[derive(Clone, Copy)]
 pub enum Row {
     Pick(ThreadName, Choice, Answer),
     Turns(u64, u64),
     Rests(u64),
-    OneByOne,
 }
 
 /// What can be seen of a machine: the numbers of its picks and lines, whether it is at rest, and the numbers of ended
@@ -64,7 +68,7 @@ fn picks<R: Abort>(
     want: Answer,
 ) -> Result<(), AllocError> {
     let before = seen(machine);
-    let told = answered(alloc, machine, thread, choice)?;
+    let told = answered(rt, alloc, machine, thread, choice)?;
     assert_eq!(rt; told, want);
     let after = seen(machine);
     if want == Answer::Goes {
@@ -75,22 +79,34 @@ fn picks<R: Abort>(
     Ok(())
 }
 
+// A pick's names have numbers far below 2^60.
+fn is_low<R: Abort>(rt: &R, names: &[Name])
+    ensures { Each (λ (x : Named). num_of x < 2 ^ 59) names.now }
+{
+    'names: for name in names {
+        let low = number_of(name) < 1 << 59;
+        assert!(rt; low);
+    }
+}
+
+// The names of picks have numbers far below 2^60.
+fn are_low<R: Abort>(rt: &R, picks: &[Pick])
+    ensures { NumbersBelow (2 ^ 59) picks.now }
+{
+    'picks: for pick in picks {
+        is_low(rt, pick.fresh.as_slice());
+    }
+}
+
 // At most so many steps: their number, which is that of the new picks.
 fn turns<R: Abort>(rt: &R, machine: &mut Central<'_>, limit: u64) -> Result<u64, AllocError> {
     let before = seen(machine);
+    are_low(rt, machine.picks());
+    assert!(rt; limit <= 1_000_000);
     let made = machine.run_turns(limit)?;
     assert_eq!(rt; seen(machine).picks, before.picks.wrapping_add(made));
     assert!(rt; made == limit || machine.at_rest());
     Ok(made)
-}
-
-fn one_by_one<R: Abort>(rt: &R, machine: &mut Central<'_>) -> Result<(), AllocError> {
-    for _ in 0..1_000_000 {
-        if turns(rt, machine, 1)? == 0 {
-            return Ok(());
-        }
-    }
-    panic!(rt; "steps are left")
 }
 
 fn tries<R: Abort>(
@@ -111,7 +127,6 @@ fn tries<R: Abort>(
             assert!(rt; made < limit);
             Ok(())
         }
-        Row::OneByOne => one_by_one(rt, machine),
     }
 }
 

@@ -4,7 +4,7 @@
 //! Contracts see a `Roster` as `Threads`: the list of those that live, the newest first, each with its value and its
 //! `Mode`, and the number of those that have ended. `start`, `end`, `wait`, `wait_for`, `run` and `wake` say which list
 //! they leave (after want of memory the roster is unchanged); `value_mut` lends a thread's value where it stands; `get`,
-//! `mode` and `lives` find a thread by its name; `len`, `waiting` and `ended` tell numbers that are kept and not counted;
+//! `mode` and `lives` find a thread by its name; `slots` shows all of them; `len`, `waiting` and `ended` tell numbers that are kept and not counted;
 //! `first` gives a thread that can go on, and gives none exactly where none can, as `idle` tells without looking for one.
 //! Slots, names, the run queue and the waiting keys are hidden; what they keep together is `IsKept`.
 //!
@@ -27,3 +27,4 @@ mod waiters;
 
 pub use mode::Mode;
 pub use roster::Roster;
+pub use slot::{Held, Slot};

@@ -6,6 +6,7 @@ ghost use Rattle.tree_node.specs.Assoc.{value_of, without_key};
 ghost use Rattle.tree_node.specs.State.{equal_thread};
 ghost use Rattle.thread_roster.specs.declared.mode.Mode.{Mode as Standing};
 ghost use Rattle.thread_roster.specs.declared.mode.Mode.TheVariants as stands;
+ghost use Rattle.thread_roster.specs.Slots.{threads_in as slots_hold};
 ghost use Rattle.thread_roster.specs.Threads.{set_mode, set_value, wake_all, waiting_of, AllWait, IsSuspended, IsRunnable};
 
 use crate::mode::Mode;
@@ -134,6 +135,13 @@ impl<V: Drop> Roster<V> {
                 Some(held) => Some(held.mode),
             },
         }
+    }
+
+    /// The slots of all threads, in the order in which they were born; that of a thread that has ended is empty.
+    pub fn slots(&self) -> &[Slot<V>]
+        ensures { slots_hold result.now ≡ self.now.living }
+    {
+        self.slots.as_slice()
     }
 
     /// The value of a thread, to be changed in its place.
