@@ -1,0 +1,14 @@
+use Rattle.std.proofs.Common.{sym, subst, List, false}
+use Rattle.site_message.specs.declared.turn.Turn.{Turn}
+use Rattle.world_core.specs.World.{IsConsistent}
+use Rattle.world_core.proofs.TurnLemmas.{starts, start_states}
+use Rattle.world_core.proofs.world.World.new.Goals as goal
+
+pub invariant_of-result : goal.invariant_of-result
+invariant_of-result c =
+    subst (λ (j : List Turn). IsConsistent c.args.program.now j c.in_ok-first_sites.field-0.items c.in_ok-new.field-0 0 false) (sym c.new.ensures)
+    (starts c.args.program.now c.args.sites c.in_ok-first_sites.field-0.items c.in_ok-new.field-0 c.is_program.ensures c.requires.some c.requires.most
+    c.in_ok-first_sites.ensures.length c.in_ok-first_sites.ensures.sites c.in_ok-new.ensures.queues c.in_ok-new.ensures.empty)
+
+pub returns-clause-states : goal.returns-clause-states
+returns-clause-states c = start_states c.args.program.now c.args.sites c.in_ok-first_sites.field-0.items c.in_ok-first_sites.ensures.sites

@@ -1,0 +1,48 @@
+-- What holds of every run of a program on 1 to 64 sites, said of one run.
+use Rattle.std.specs.Prelude.{ℕ, ◌+◌, ◌*◌, ◌-◌, ◌≤◌, List, length}
+use Rattle.std.specs.List.{count_by}
+use Rattle.tree_node.specs.declared.names.CellName.{CellName}
+use Rattle.tree_node.specs.State.{State}
+use Rattle.kernel_syntax.specs.declared.stmt.Stmt.{Stmt}
+use Rattle.site_message.specs.declared.turn.Turn.{Turn}
+use Rattle.site_message.specs.Journal.{sent_of}
+use Rattle.oz_model.specs.Run.{Run, exchanges}
+use Rattle.site_model.specs.Bundle.{bundle_limit}
+use Rattle.site_model.specs.Site.{Site}
+use Rattle.site_model.specs.Run.{WorldRun}
+use Rattle.world_model.specs.Schedule.{schedule}
+use Rattle.world_model.specs.Simulated.{IsSimulated, IsAtRest}
+use Rattle.world_messages.specs.Messages.{vars_made, threads_made, spawns, asks_to_know, tells_binding, asks_to_bind}
+use Rattle.world_cells.specs.CellCounts.{cell_weights}
+use Rattle.world_cells.specs.FitRuns.{SiteFitRun}
+use Rattle.world_simulation.specs.Messages.{sum_over}
+
+-- the journal is one of a run of the program on so many sites
+abbrev pub HasRun : List Stmt → ℕ → List Turn → Type 0
+HasRun p n j = (w : ℕ → Site) × WorldRun p n bundle_limit j w
+
+-- the picks of the journal lead the centralised machine to a state that the sites match
+abbrev pub HasMachine : List Stmt → ℕ → List Turn → (ℕ → Site) → Type 0
+HasMachine p n j w = (s : State) × IsSimulated p n j w s
+
+-- and the machine rests there, with the threads that ended and wait at the sites
+abbrev pub HasMachineAtRest : List Stmt → ℕ → List Turn → (ℕ → Site) → Type 0
+HasMachineAtRest p n j w = (s : State) × IsSimulated p n j w s × IsAtRest p n w s
+
+-- no message that was delivered was unfit
+abbrev pub WereFit : List Stmt → ℕ → List Turn → (ℕ → Site) → Type 0
+WereFit p n j w = (i : ℕ) → SiteFitRun p n bundle_limit i j (w i)
+
+-- with T threads, the first among them, and V variables made by the schedule
+abbrev pub most_messages : ℕ → List Turn → ℕ
+most_messages n j =
+    let threads = length (threads_made (schedule j)) in
+    let vars = length (vars_made (schedule j)) in
+    threads + 2 * (vars * (n - 1)) + threads * vars
+
+-- the messages on variables and threads are at most T + 2 * V * (n - 1) + T * V, those of a cell three for each of its
+-- exchanges and each site, and all messages together at most both
+pub record AreMessagesFew (p : List Stmt) (n : ℕ) (j : List Turn) : Type 0 where
+  pub variables : count_by spawns (sent_of j) + count_by asks_to_know (sent_of j) + count_by tells_binding (sent_of j) + count_by asks_to_bind (sent_of j) ≤ most_messages n j
+  pub cells : (c : CellName) → cell_weights c 1 1 1 (sent_of j) ≤ 3 * (length (exchanges p (schedule j) c) + n)
+  pub all : (s : State) × Run p (schedule j) s × (length (sent_of j) ≤ most_messages n j + sum_over (λ c. 3 * (length (exchanges p (schedule j) c) + n)) s.cells)

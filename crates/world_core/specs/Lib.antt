@@ -1,0 +1,3 @@
+pub mod Laws
+pub mod Travels
+pub mod World

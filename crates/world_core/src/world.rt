@@ -1,0 +1,229 @@
+//! The world.
+
+ghost use Rattle.std.specs.Prelude.{◌≡◌, ◌≢◌, ◌↔◌, ℕ, ◌+◌, ◌^◌, ◌<◌, ◌≤◌, [], length, map, true, false, None, Some, Ok, Err, IsTrue, IfOk, IfErr, OnOk, OnErr, MatchOption, slice_get};
+ghost use Rattle.site_message.specs.Journal.{is_quiet, sent_of};
+ghost use Rattle.site_message.specs.declared.turn.Turn.{Turn};
+ghost use Rattle.site_message.specs.declared.message.Sent.{Sent};
+ghost use Rattle.site_model.specs.Bundle.{bundle_limit};
+ghost use Rattle.site_model.specs.Site.{initial_site, is_idle};
+ghost use Rattle.site_model.specs.Run.{WorldRun};
+ghost use Rattle.world_simulation.specs.Protocols.{ProtocolsHold};
+ghost use Rattle.world_core.specs.declared.refusal.WorldRefusal.TheVariants.{NotThere, Memory};
+ghost use Rattle.world_core.specs.Laws.{HasRun, HasMachine, HasMachineAtRest, WereFit, AreMessagesFew};
+ghost use Rattle.world_mail.specs.Mail.{message_at, without_message};
+ghost use Rattle.world_mail.specs.Travels.{travel_of, IsNoneFor, IsFirstFor};
+ghost use Rattle.world_core.specs.Travels.{AreTravels, IsNotThere};
+ghost use Rattle.world_core.specs.World.{states_of, IsWorldTurn, IsNewSite, IsTaken};
+ghost use Rattle.site_core.specs.Seated.{Seated};
+ghost use Rattle.site_message.specs.declared.story.NoSeat.{NoSeat};
+
+use crate::refusal::WorldRefusal;
+use kernel_syntax::Program;
+use site_core::Site;
+use site_message::{Journal, Msg, NoSeat, Quantum};
+use std::alloc::{AllocError, Global};
+use std::marker::Model;
+use world_mail::{Mail, Travel};
+
+/// A program on 1 to 64 sites. Its sites take turns in whatever order the caller gives, and each turn delivers one message at
+/// most. After want of memory the world is given up: it makes no turn any more, and its journal tells the turns made before.
+#[derive(Drop)]
+pub struct World<'a> {
+    program: &'a Program,
+    sites: Vec<Site<'a, NoSeat>>,
+    journal: Journal,
+    mail: Mail,
+    sent: u64,
+    spent: bool,
+}
+
+impl<'a> Model for World<'a> {
+    ghost use Rattle.std.specs.Prelude.{length, map};
+    ghost use Rattle.world_mail.specs.Travels.{travel_of};
+    ghost use Rattle.world_core.specs.World.{WorldState, IsConsistent, state_in};
+
+    ghost Value = { WorldState };
+
+    ghost view = { λ w. record { program = w.program.now; sites = length w.sites.items; journal = w.journal; states = map state_in w.sites.items; travels = map travel_of w.mail.messages; spent = w.spent } };
+
+    ghost invariant = { λ w. IsConsistent w.program.now w.journal w.sites.items w.mail w.sent w.spent };
+}
+
+impl<'a> World<'a> {
+    /// The program on so many sites at its start: site 1 has the program's thread, the others none, and nothing travels.
+    pub fn new(alloc: Global, program: &'a Program, sites: u32) -> Result<World<'a>, AllocError>
+        requires some { 1 ≤ sites }
+        requires most { sites ≤ 64 }
+        ensures program { IfOk result (λ w. w.program ≡ program.now) }
+        ensures sites { IfOk result (λ w. w.sites ≡ sites) }
+        ensures journal { IfOk result (λ w. w.journal ≡ []) }
+        ensures states { IfOk result (λ w. (i : ℕ) → states_of w i ≡ initial_site program.now i) }
+        ensures travels { IfOk result (λ w. w.travels ≡ []) }
+        ensures live { IfOk result (λ w. w.spent ≡ false) }
+    {
+        program.is_program();
+        Ok(World {
+            program,
+            sites: first_sites(alloc, program, sites)?,
+            journal: Journal::new(alloc),
+            mail: Mail::new(alloc, sites)?,
+            sent: 0,
+            spent: false,
+        })
+    }
+
+    /// One turn of the site: the message at the place, if one is given, and then as many units as the quantum, fewer only
+    /// where no thread of the site can go on then. A place that holds no message for the site is refused, and nothing changes.
+    pub fn turn(
+        &mut self,
+        site: u32,
+        place: Option<usize>,
+        quantum: Quantum,
+    ) -> Result<(), WorldRefusal>
+        requires some { 1 ≤ site }
+        requires among { site ≤ self.old.sites }
+        requires live { self.old.spent ≡ false }
+        requires units { quantum.0 ≤ 64 }
+        requires room { (states_of self.old site).steps ≤ 2 ^ 48 }
+        ensures refused { (result ≡ Err NotThere) ↔ IsNotThere self.old.travels site place }
+        ensures same { result ≡ Err NotThere → self.new ≡ self.old }
+        ensures spent { result ≡ Err Memory → (self.new.spent ≡ true) × (self.new.journal ≡ self.old.journal) }
+        ensures program { (self.new.program ≡ self.old.program) × (self.new.sites ≡ self.old.sites) }
+        ensures live { OnOk result (self.new.spent ≡ false) }
+        ensures turn { OnOk result (IsWorldTurn self.old self.new site place quantum.0) }
+        ensures run { OnOk result (WorldRun self.new.program self.new.sites bundle_limit self.new.journal (states_of self.new)) }
+        ensures simulated { OnOk result (HasMachine self.new.program self.new.sites self.new.journal (states_of self.new)) }
+        ensures protocols { OnOk result (ProtocolsHold self.new.program self.new.sites self.new.journal (states_of self.new)) }
+        ensures fit { OnOk result (WereFit self.new.program self.new.sites self.new.journal (states_of self.new)) }
+        ensures few { OnOk result (AreMessagesFew self.new.program self.new.sites self.new.journal) }
+    {
+        let message = take_message(&mut self.mail, site, place)?;
+        self.spent = true;
+        let turn = self.sites[site as usize - 1].turn(message, quantum)?;
+        self.sent = self.mail.push_all(self.sent, turn.sent.as_slice())?;
+        if self.journal.push(turn).is_err() {
+            return Err(WorldRefusal::Memory);
+        }
+        self.spent = false;
+        Ok(())
+    }
+
+    /// The messages that travel, in no order that means anything: `turn` takes the place of one of them.
+    pub fn travelling(&self) -> &[Travel]
+        requires { self.now.spent ≡ false }
+        ensures value { result.now ≡ self.now.travels }
+        ensures exact { AreTravels self.now.journal result.now }
+    {
+        self.mail.travels()
+    }
+
+    /// The place of the message with the lowest number that travels to the site.
+    pub fn next_for(&self, site: u32) -> Option<usize>
+        requires among { site ≤ self.now.sites }
+        requires live { self.now.spent ≡ false }
+        ensures { MatchOption result (IsNoneFor self.now.travels site) (λ place. IsFirstFor self.now.travels site place) }
+    {
+        self.mail.next_for(site)
+    }
+
+    /// Whether no thread of the site can go on.
+    pub fn idle(&self, site: u32) -> bool
+        requires some { 1 ≤ site }
+        requires among { site ≤ self.now.sites }
+        ensures { result ≡ is_idle (states_of self.now site) }
+    {
+        self.sites[site as usize - 1].idle()
+    }
+
+    /// How many own steps the site has made.
+    pub fn steps(&self, site: u32) -> u64
+        requires some { 1 ≤ site }
+        requires among { site ≤ self.now.sites }
+        ensures { result ≡ (states_of self.now site).steps }
+    {
+        self.sites[site as usize - 1].steps()
+    }
+
+    /// How many messages were sent: the next one has this number.
+    pub fn sent(&self) -> u64
+        requires { self.now.spent ≡ false }
+        ensures { result ≡ length (sent_of self.now.journal) }
+    {
+        self.sent
+    }
+
+    /// Whether nothing travels and every site is idle: no turn changes anything any more.
+    pub fn quiet(&self) -> bool
+        requires { self.now.spent ≡ false }
+        ensures value { result ≡ is_quiet self.now.sites self.now.journal }
+        ensures rest { IsTrue result → HasMachineAtRest self.now.program self.now.sites self.now.journal (states_of self.now) }
+    {
+        self.mail.is_empty() && are_idle(self.sites.as_slice())
+    }
+
+    /// The turns made.
+    pub fn journal(&self) -> &Journal
+        ensures value { result.now ≡ self.now.journal }
+        ensures run { HasRun self.now.program self.now.sites self.now.journal }
+        ensures live { self.now.spent ≡ false → WorldRun self.now.program self.now.sites bundle_limit self.now.journal (states_of self.now) }
+        ensures few { AreMessagesFew self.now.program self.now.sites self.now.journal }
+    {
+        &self.journal
+    }
+
+    /// The turns made.
+    pub fn into_journal(self) -> Journal
+        ensures value { result ≡ self.entry.journal }
+        ensures run { HasRun self.entry.program self.entry.sites self.entry.journal }
+        ensures few { AreMessagesFew self.entry.program self.entry.sites self.entry.journal }
+    {
+        self.journal
+    }
+}
+
+// The sites 1 to the given number at their start.
+fn first_sites<'a>(
+    alloc: Global,
+    program: &'a Program,
+    sites: u32,
+) -> Result<Vec<Site<'a, NoSeat>>, AllocError>
+    requires some { 1 ≤ sites }
+    requires most { sites ≤ 64 }
+    ensures length { IfOk result (λ ss. length ss.items ≡ sites) }
+    ensures sites { IfOk result (λ ss. (i : ℕ) (s : Seated NoSeat) → slice_get ss.items i ≡ Some s → IsNewSite program.now sites i s) }
+{
+    let mut first = Vec::new(alloc);
+    for number in 1..sites + 1 {
+        first.push(Site::new(alloc, number, sites, program)?)?;
+    }
+    Ok(first)
+}
+
+// Whether no thread of any site can go on.
+fn are_idle(sites: &[Site<'_, NoSeat>]) -> bool
+    ensures { IsTrue result ↔ ((i : ℕ) (s : Seated NoSeat) → slice_get sites.now i ≡ Some s → is_idle s.state ≡ true) }
+{
+    sites.iter().all(|site| site.idle())
+}
+
+// Takes the message out that a turn of the site is to deliver: the one at the place, if one is given.
+fn take_message(
+    mail: &mut Mail,
+    site: u32,
+    place: Option<usize>,
+) -> Result<Option<(u64, Msg)>, WorldRefusal>
+    ensures queues { mail.new.queues ≡ mail.old.queues }
+    ensures refused { (result ≡ Err NotThere) ↔ IsNotThere (map travel_of mail.old.messages) site place }
+    ensures error { IfErr result (λ e. (e ≡ NotThere) × (mail.new ≡ mail.old)) }
+    ensures taken { IfOk result (λ m. IsTaken mail.old.messages mail.new.messages site place m) }
+{
+    let Some(place) = place else {
+        return Ok(None);
+    };
+    match mail.travels().get(place) {
+        Some(travel) if travel.to == site => {}
+        _ => return Err(WorldRefusal::NotThere),
+    }
+    let (number, sent) = mail.take(place);
+    Ok(Some((number, sent.msg)))
+}

@@ -1,0 +1,50 @@
+-- The messages on their way: by their places, and by the sites that they go to.
+use Rattle.std.specs.Prelude.{◌≡◌, ℕ, ◌<◌, ◌≤◌, List, [], Bool, true, false, ◌==◌, nat_eq, length, map, Option, Some, None, slice_index_or, if◌then◌else◌}
+use Rattle.std.specs.List.{IsDistinct, list_any}
+use Rattle.std.specs.Map.{lookup, keys_of}
+use Rattle.std.specs.Ordering.{nat_cmp}
+use Rattle.std.specs.BTreeMap.{is_at}
+use Rattle.site_message.specs.declared.message.Sent.{Sent}
+use Rattle.world_mail.specs.declared.travel.Travel.{Travel}
+use Rattle.world_mail.specs.Travels.{travel_of}
+
+-- how many queues there are, and the messages with their numbers, by places
+pub record MailState : Type 0 where
+  pub queues : ℕ
+  pub messages : List (ℕ × Sent)
+
+-- the message of a number
+abbrev pub message_at : List (ℕ × Sent) → ℕ → Option Sent
+message_at ms k = lookup (nat_eq k) ms
+
+-- and none of this number
+abbrev pub without_message : ℕ → List (ℕ × Sent) → ℕ → Option Sent
+without_message number ms k = if number == k then None else message_at ms k
+
+-- each number is below this one
+abbrev pub AreBelow : ℕ → List (ℕ × Sent) → Type 0
+AreBelow first ms = (k : ℕ) → first ≤ k → message_at ms k ≡ None
+
+-- the number is in the queue
+abbrev pub has : List ℕ → ℕ → Bool
+has ks k = list_any (is_at (nat_cmp k)) ks
+
+abbrev pub with_number : ℕ → (ℕ → Bool) → ℕ → Bool
+with_number number old k = if number == k then true else old k
+
+abbrev pub without : ℕ → (ℕ → Bool) → ℕ → Bool
+without number old k = if number == k then false else old k
+
+abbrev pub queue_at : List (List ℕ) → ℕ → List ℕ
+queue_at qs i = slice_index_or qs i []
+
+-- the message goes to this site
+abbrev pub is_for : ℕ → Option Sent → Bool
+is_for i None = false
+is_for i (Some m) = m.to == i
+
+-- no two messages have one number; the travels are those of the messages, and each queue has the numbers of those to its site
+pub record IsKept (ms : List (ℕ × Sent)) (ts : List Travel) (qs : List (List ℕ)) : Type 0 where
+  pub once : IsDistinct nat_eq (keys_of ms)
+  pub travels : ts ≡ map travel_of ms
+  pub queues : (i k : ℕ) → i < length qs → has (queue_at qs i) k ≡ is_for i (message_at ms k)

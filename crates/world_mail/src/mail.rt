@@ -1,0 +1,159 @@
+//! The messages on their way between the sites.
+
+ghost use Rattle.std.specs.Prelude.{◌≡◌, ℕ, ◌+◌, ◌^◌, ◌<◌, ◌≤◌, ◌≢◌, [], ◌∷◌, ◌++◌, length, map, IsTrue, ◌↔◌, Some, None, slice_get, Contains, nat_eq, IfOk, OnOk, OnErr, MatchOption};
+ghost use Rattle.std.specs.List.{enumerate_from, IsDistinct};
+ghost use Rattle.world_mail.specs.Travels.{travel_of, IsNoneFor, IsFirstFor};
+ghost use Rattle.world_mail.specs.Mail.{has, with_number, without, message_at, without_message, queue_at, AreBelow};
+ghost use Rattle.site_message.specs.declared.message.Msg.{Msg};
+ghost use Rattle.world_mail.specs.declared.travel.Travel.{Travel};
+
+use crate::queue::Queue;
+use crate::travel::Travel;
+use indexmap::IndexMap;
+use site_message::{Msg, Sent, copy_sent};
+use std::alloc::{AllocError, Global};
+use std::marker::Model;
+
+/// The messages on their way, each with its number, in the order of their places; those to a site are found by their
+/// numbers. A message that leaves gives its place to the last one.
+#[derive(Drop)]
+pub struct Mail {
+    messages: IndexMap<u64, Sent>,
+    travels: Vec<Travel>,
+    queues: Vec<Queue>,
+}
+
+impl Model for Mail {
+    ghost use Rattle.std.specs.Prelude.{length};
+    ghost use Rattle.world_mail.specs.Mail.{MailState, IsKept};
+
+    ghost Value = { MailState };
+
+    ghost view = { λ m. record { queues = length m.queues.items; messages = m.messages.entries } };
+
+    ghost invariant = { λ m. IsKept m.messages.entries m.travels.items m.queues.items };
+}
+
+impl Mail {
+    /// No messages, and a queue for each place up to the number of sites.
+    pub fn new(alloc: Global, sites: u32) -> Result<Mail, AllocError>
+        requires { sites ≤ 64 }
+        ensures queues { IfOk result (λ m. m.queues ≡ sites + 1) }
+        ensures empty { IfOk result (λ m. m.messages ≡ []) }
+    {
+        Ok(Mail {
+            messages: IndexMap::new(alloc),
+            travels: Vec::new(alloc),
+            queues: empty_queues(alloc, sites)?,
+        })
+    }
+
+    /// Whether nothing is on its way.
+    pub fn is_empty(&self) -> bool
+        ensures { IsTrue result ↔ (self.now.messages ≡ []) }
+    {
+        self.travels.is_empty()
+    }
+
+    /// What is on its way, by its places.
+    pub fn travels(&self) -> &[Travel]
+        ensures value { result.now ≡ map travel_of self.now.messages }
+        ensures told { (k to : ℕ) → Contains result.now (record { number = k; to = to }) ↔ ((m : Msg) × (message_at self.now.messages k ≡ Some (record { to = to; msg = m }))) }
+        ensures once { IsDistinct nat_eq (map (λ t. t.number) result.now) }
+    {
+        self.travels.as_slice()
+    }
+
+    /// The place of the message with the lowest number for the site.
+    pub fn next_for(&self, site: u32) -> Option<usize>
+        requires { site < self.now.queues }
+        ensures { MatchOption result (IsNoneFor (map travel_of self.now.messages) site) (λ place. IsFirstFor (map travel_of self.now.messages) site place) }
+    {
+        let number = self.queues[site as usize].first()?;
+        self.messages.get_index_of(&number)
+    }
+
+    /// One more message, of a number that none has.
+    pub fn push(&mut self, number: u64, sent: Sent) -> Result<(), AllocError>
+        requires { message_at self.old.messages number ≡ None }
+        ensures queues { self.new.queues ≡ self.old.queues }
+        ensures ok { OnOk result (self.new.messages ≡ self.old.messages ++ (number, sent) ∷ []) }
+        ensures err { OnErr result (self.new.messages ≡ self.old.messages) }
+    {
+        let to = sent.to;
+        self.messages.reserve(1)?;
+        self.travels.reserve(1)?;
+        enqueue(&mut self.queues, to as usize, number)?;
+        self.travels.push_reserved(Travel { number, to });
+        match self.messages.insert(number, sent) {
+            Ok(_) => Ok(()),
+            Err(_) => unreachable!(),
+        }
+    }
+
+    /// Copies of these messages, with numbers from the first one on.
+    pub fn push_all(&mut self, first: u64, sent: &[Sent]) -> Result<u64, AllocError>
+        requires below { AreBelow first self.old.messages }
+        ensures queues { self.new.queues ≡ self.old.queues }
+        ensures messages { OnOk result (self.new.messages ≡ self.old.messages ++ enumerate_from first sent.now) }
+        ensures next { IfOk result (λ next. next ≡ first + length sent.now) }
+    {
+        let mut number = first;
+        for one in sent {
+            self.push(number, copy_sent(one)?)?;
+            number = number.checked_add(1).ok_or(AllocError)?;
+        }
+        Ok(number)
+    }
+
+    /// Takes the message of a place out.
+    pub fn take(&mut self, place: usize) -> (u64, Sent)
+        requires { place < length self.old.messages }
+        ensures queues { self.new.queues ≡ self.old.queues }
+        ensures value { slice_get self.old.messages place ≡ Some result }
+        ensures found { message_at self.old.messages result.0 ≡ Some result.1 }
+        ensures others { (k : ℕ) → message_at self.new.messages k ≡ without_message result.0 self.old.messages k }
+    {
+        let (number, sent) = self.messages.swap_remove_index(place).unwrap();
+        let _ = self.travels.swap_remove(place);
+        dequeue(&mut self.queues, sent.to as usize, number);
+        (number, sent)
+    }
+}
+
+// A queue for each place from 0 to the number of sites.
+fn empty_queues(alloc: Global, sites: u32) -> Result<Vec<Queue>, AllocError>
+    requires { sites ≤ 64 }
+    ensures length { IfOk result (λ qs. length qs.items ≡ sites + 1) }
+    ensures empty { IfOk result (λ qs. (i : ℕ) → queue_at qs.items i ≡ []) }
+{
+    let mut queues = Vec::new(alloc);
+    for _ in 0..sites + 1 {
+        queues.push(Queue::new(alloc))?;
+    }
+    Ok(queues)
+}
+
+// One more number in the queue of a site, if that has one.
+fn enqueue(queues: &mut Vec<Queue>, site: usize, number: u64) -> Result<(), AllocError>
+    ensures length { length queues.new.items ≡ length queues.old.items }
+    ensures here { OnOk result (site < length queues.old.items → (k : ℕ) → has (queue_at queues.new.items site) k ≡ with_number number (has (queue_at queues.old.items site)) k) }
+    ensures others { OnOk result ((i : ℕ) → i ≢ site → queue_at queues.new.items i ≡ queue_at queues.old.items i) }
+    ensures err { OnErr result (queues.new.items ≡ queues.old.items) }
+{
+    if site < queues.len() {
+        queues[site].insert(number)?;
+    }
+    Ok(())
+}
+
+// The number leaves the queue of the site, if that has one.
+fn dequeue(queues: &mut Vec<Queue>, site: usize, number: u64)
+    ensures length { length queues.new.items ≡ length queues.old.items }
+    ensures here { site < length queues.old.items → (k : ℕ) → has (queue_at queues.new.items site) k ≡ without number (has (queue_at queues.old.items site)) k }
+    ensures others { (i : ℕ) → i ≢ site → queue_at queues.new.items i ≡ queue_at queues.old.items i }
+{
+    if site < queues.len() {
+        queues[site].remove(number);
+    }
+}
