@@ -1,0 +1,3 @@
+pub mod ProgressLemmas
+pub mod StepLemmas
+pub mod TotalsLemmas

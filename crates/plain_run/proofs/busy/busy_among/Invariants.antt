@@ -1,0 +1,6 @@
+use Rattle.std.proofs.Common.{◌<◌, ◌≤◌, ℕ}
+use Rattle.plain_run.specs.Going.{IsAtEase}
+use Rattle.plain_run.proofs.busy.busy_among.Given as goal
+
+abbrev pub invariant-loop-site : goal.invariant-loop-site
+invariant-loop-site l = (i : ℕ) → l.from ≤ i → i < l.site → IsAtEase l.world i

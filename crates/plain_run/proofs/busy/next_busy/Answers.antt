@@ -1,0 +1,5 @@
+use Rattle.plain_run.proofs.ProgressLemmas.{rounds}
+use Rattle.plain_run.proofs.busy.next_busy.Goals as goal
+
+pub returns-in-None : goal.returns-in-None
+returns-in-None c = rounds c.args.world.now c.args.last c.args.sites c.busy_among-in-None.result c.requires.last c.in-None.ensures c.busy_among-in-None.ensures

@@ -1,0 +1,101 @@
+//! The turns of a plain run.
+
+ghost use Rattle.std.specs.Prelude.{◌≡◌, ◌+◌, ◌<◌, ◌≤◌, ℕ, List, false, None, Some, Err, IfOk, IfErr, OnErr, MatchResult, MatchOption};
+ghost use Rattle.kernel_syntax.specs.declared.stmt.Stmt.{Stmt};
+ghost use Rattle.site_message.specs.declared.turn.Turn.{Turn};
+ghost use Rattle.site_message.specs.Journal.{end_of};
+ghost use Rattle.world_core.specs.World.{WorldState};
+ghost use Rattle.plain_run.specs.Going.{AreLimits, HasReason, IsBusy, IsGoing, IsMade, Progresses, left, limits_of};
+
+use crate::busy::next_busy;
+use crate::out::Limits;
+use site_message::{Quantum, Reason};
+use std::alloc::AllocError;
+use world_core::World;
+
+// One turn of the site: its message with the lowest number, if there is one, and then its threads, within its limit of own
+// steps. It tells whether the turn took a message or made an own step.
+fn take_turn(world: &mut World<'_>, site: u32, limits: Limits) -> Result<bool, AllocError>
+    requires limits { AreLimits limits }
+    requires going { IsGoing limits world.old.program world.old }
+    requires some { 1 ≤ site }
+    requires among { site ≤ limits.sites }
+    requires busy { IsBusy world.old site }
+    ensures err { OnErr result (world.new.journal ≡ world.old.journal) }
+    ensures same { (world.new.program ≡ world.old.program) × (world.new.sites ≡ world.old.sites) }
+    ensures made { IfOk result (λ _. IsMade limits world.old.program world.old world.new site) }
+    ensures progress { IfOk result (λ progress. Progresses limits world.old world.new progress) }
+{
+    let place = world.next_for(site);
+    let steps = world.steps(site);
+    let units = (limits.steps - steps).min(64) as u32;
+    if world.turn(site, place, Quantum(units)).is_err() {
+        return Err(AllocError);
+    }
+    Ok(place.is_some() || steps < world.steps(site))
+}
+
+// How the run ends after a turn of the site, if it does.
+fn end_after(world: &World<'_>, site: u32, limits: Limits) -> Option<Reason>
+    requires sites { world.now.sites ≡ limits.sites }
+    requires live { world.now.spent ≡ false }
+    requires some { 1 ≤ site }
+    requires among { site ≤ limits.sites }
+    ensures { (old : WorldState) (p : List Stmt) → IsMade limits p old world.now site → result ≡ end_of (limits_of limits) world.now.journal }
+{
+    if world.sent() > limits.messages {
+        return Some(Reason::Messages);
+    }
+    if world.steps(site) >= limits.steps && !world.idle(site) {
+        return Some(Reason::Steps(site));
+    }
+    if world.quiet() {
+        Some(Reason::Quiet)
+    } else {
+        None
+    }
+}
+
+// Turns up to the next one that takes a message or makes an own step, behind the site that went last: the site that made it,
+// or how the run ends before.
+fn advance(world: &mut World<'_>, last: u32, limits: Limits) -> Result<u32, Reason>
+    requires limits { AreLimits limits }
+    requires going { IsGoing limits world.old.program world.old }
+    requires last { last ≤ limits.sites }
+    ensures same { (world.new.program ≡ world.old.program) × (world.new.sites ≡ world.old.sites) }
+    ensures ended { IfErr result (λ reason. HasReason limits world.new.journal reason) }
+    ensures on { IfOk result (λ site. (site ≤ limits.sites) × IsGoing limits world.old.program world.new × (left limits world.new < left limits world.old)) }
+{
+    let mut last = last;
+    loop {
+        let Some(site) = next_busy(world, last, limits.sites) else {
+            return Err(Reason::Memory);
+        };
+        let Ok(progress) = take_turn(world, site, limits) else {
+            return Err(Reason::Memory);
+        };
+        if let Some(reason) = end_after(world, site, limits) {
+            return Err(reason);
+        }
+        if progress {
+            return Ok(site);
+        }
+        last = site;
+    }
+}
+
+// Turns in rounds of sites 1 to the last, up to the end of the run.
+pub(crate) fn drive(world: &mut World<'_>, limits: Limits) -> Reason
+    requires limits { AreLimits limits }
+    requires going { IsGoing limits world.old.program world.old }
+    ensures same { (world.new.program ≡ world.old.program) × (world.new.sites ≡ world.old.sites) }
+    ensures reason { HasReason limits world.new.journal result }
+{
+    let mut last = limits.sites;
+    loop {
+        match advance(world, last, limits) {
+            Ok(site) => last = site,
+            Err(reason) => return reason,
+        }
+    }
+}

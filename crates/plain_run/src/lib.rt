@@ -1,0 +1,33 @@
+//! The plain run of a program over several sites: one turn after another, in a fixed order, so that it is the same at each run.
+//!
+//! For: whoever runs a program over sites without threads of the machine (`--workers 0`).
+//!
+//! It promises: `run_plain` returns, whatever the program: its limits bound own steps and messages, and between them each turn
+//! lets a thread wait. Its journal is one of a run of the program on the sites (`HasRun`), the picks of which lead the
+//! centralised machine to a state that the sites match (`HasMachineRun`); where nothing travels and every site is idle the
+//! machine rests there. `schedule` has these picks in order; the reason is how the journal ends (`HasReason`, by `end_of` of
+//! `site_message`), or that memory ran out where it goes on; `ended` and `waiting` are the sums of what the sites told last; and no
+//! more messages were sent than the picks allow (`AreMessagesFew`).
+//!
+//! The order: sites 1 to the last in rounds, each taking its message with the lowest number and then its threads, first come
+//! first served, for at most 64 units and never past its limit of own steps. A site that has no message and is idle is left out.
+//! No clause tells the order of the sites: tests show that two runs print the same.
+//!
+//! A turn costs by what it does and by the number of sites; the journal is walked over twice at the end, for the schedule and
+//! for the totals.
+//!
+//! It stands on `world_core` for the world that it drives, and on the definitions below that. Tests of programs (`oz_tests`) run
+//! it with ample memory.
+//!
+//! Sources: Haridi and others, *Efficient Logic Variables for Distributed Computing* (TOPLAS 21(3), 1999), and Van Roy and
+//! others, *Mobile Objects in Distributed Oz* (TOPLAS 19(5), 1997). The order is of this project.
+#![tactic(auto)]
+
+mod busy;
+mod drive;
+mod out;
+mod run;
+mod totals;
+
+pub use out::{Limits, RunOut};
+pub use run::run_plain;
