@@ -17,16 +17,18 @@ is_due() {
 
 takes() {
     cat >&2 <<'END'
-./oz [--steps N] [run|central] [FILE.oz]
+./oz [--sites N] [--steps N] [--messages N] [run|central] [FILE.oz]
 
-  FILE.oz     the text to run; where it is left out, the text is standard input
-  run         runs the text; this is what is done where neither word stands
-  central     runs it on the centralised machine
-  --steps N   stops the run after N steps, 1 to 1,000,000,000; 1,000,000 where it is left out
+  FILE.oz        the text to run; where it is left out, the text is standard input
+  run            runs the text over its sites; this is what is done where neither word stands
+  central        runs it on the centralised machine, without sites
+  --sites N      the number of sites, 1 to 64; 4 where it is left out
+  --steps N      stops the run where a site made N steps, 1 to 1,000,000,000; 1,000,000 where it is left out
+  --messages N   stops the run after N messages, 0 to 4,000,000,000; 1,000,000 where it is left out
 
 It prints what the text shows, a line each, and a last line that tells how the run ended. The exit status is 0 where
-every thread ended, 1 where some wait for ever, 2 for words that are not taken, 3 for a text that is refused, 4 where
-the steps are used up, 6 and 7 where reading or writing failed, and 8 where memory was wanting.
+every thread ended, 1 where some wait for ever, 2 for words that are not taken, 3 for a text that is refused, 4 and 5 where
+the steps or the messages are used up, 6 and 7 where reading or writing failed, and 8 where memory was wanting.
 docs/language.md is the reference, and examples/ has texts to begin with.
 END
 }

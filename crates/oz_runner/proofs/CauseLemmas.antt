@@ -1,65 +1,42 @@
 -- How the cause of a status goes on to the status that stands before the writing, and to the one that is answered.
 use Rattle.std.proofs.Common.{◌≡◌, sym, subst, List, ℕ, ◌++◌, ◌∷◌, [], inl, inr, refl}
-use Rattle.std.specs.Str.{IsUtf8}
+use Rattle.std.specs.Str.{IsUtf8, IsValidUpTo}
 use Rattle.tree_node.specs.declared.pick.Pick.{Pick}
-use Rattle.tree_node.specs.Classes.{HasOneEach}
-use Rattle.tree_node.specs.State.{State}
-use Rattle.kernel_syntax.specs.declared.stmt.Stmt.{Stmt}
-use Rattle.thread_scheduler.specs.Ran.{EndsAt, HasReason}
-use Rattle.thread_scheduler.specs.declared.run.Ran as scheduler
-use Rattle.thread_scheduler.specs.declared.run.Reason.{Reason}
-use Rattle.thread_scheduler.specs.declared.run.Reason.TheVariants as reason
-use Rattle.oz_grammar.specs.Reads.{Reads}
-use Rattle.oz_words.specs.declared.options.Options.{Options}
+use Rattle.site_message.specs.declared.turn.Turn.{Turn}
 use Rattle.oz_model.specs.Output.{output, pieces_of}
+use Rattle.oz_words.specs.declared.options.Options.{Options}
 use Rattle.oz_show.specs.Status.{end_line, HasLine, HasNumbers}
 use Rattle.oz_show.specs.declared.status.Status.{Status}
-use Rattle.oz_show.specs.declared.status.Status.TheVariants.{Quiescent, Usage, Refused, NotUtf8, TooLong, StepLimit, ReadFault, WriteFault, Memory}
+use Rattle.oz_show.specs.declared.status.Status.TheVariants.{Quiescent, Usage, Refused, NotUtf8, TooLong, StepLimit, MessageLimit, ReadFault, WriteFault, Memory}
 use Rattle.oz_runner.specs.Seen.{Stream, Seen, Made, made_of}
-use Rattle.oz_runner.specs.Cause.{Cause, Failed, GaveText, Ran, Says}
-use Rattle.oz_runner.specs.Ends.{status_of}
+use Rattle.oz_runner.specs.Cause.{Cause, Failed, GaveText, Given, NothingRan, Says}
+use Rattle.oz_runner.specs.Run.{CameTo}
 use Rattle.oz_runner.specs.Headline.{Headline}
 use Rattle.oz_runner.specs.Written.{IsToldAs, Written, after_fault}
 
-module _ (seen : Seen) (options : Options) (text : List ℕ) (p : List Stmt) (s : State) (left : scheduler.Ran)
-    (says : Says seen options) (gave : GaveText seen.source text) (utf8 : IsUtf8 text) (reads : Reads text p)
-    (ends : EndsAt p options.steps s left) where
-  abbrev from_run : Made
-  from_run = made_of left.picks.items left.lines.items
+-- the end of a run
+pub ran_cause : (seen : Seen) (made : Made) (status : Status) (given : Given seen) → CameTo given.program given.options made status → Cause seen made status
+ran_cause seen made (Quiescent ended waiting) given came = (given, came)
+ran_cause seen made (StepLimit site) given came = (given, came)
+ran_cause seen made MessageLimit given came = (given, came)
+ran_cause seen made Memory given came = inr (given, came)
+ran_cause seen made Usage given came = absurd came
+ran_cause seen made (Refused fault) given came = absurd came
+ran_cause seen made (NotUtf8 at) given came = absurd came
+ran_cause seen made TooLong given came = absurd came
+ran_cause seen made ReadFault given came = absurd came
+ran_cause seen made WriteFault given came = absurd came
 
-  abbrev ran : HasOneEach s.equations → Ran seen from_run
-  ran once = record {
-    options = options;
-    says = says;
-    text = text;
-    gave = gave;
-    utf8 = utf8;
-    program = p;
-    reads = reads;
-    state = s;
-    run = ends.run;
-    within = ends.most;
-    same = ends.lines;
-    once = once;
-  }
-
-  by_reason : (why : Reason) → HasReason p options.steps s left why → Cause seen from_run (status_of why left.ended left.waiting)
-  by_reason reason.Quiet (tells, rest) = (ran tells.once, (rest, tells.ended, tells.waiting))
-  by_reason reason.Steps (tells, all, goes_on) = (ran tells.once, (all, goes_on), refl)
-  by_reason reason.Memory once = inr (ran once)
-
-  -- the end of a run
-  pub run_cause : (picks : List Pick) (lines : List (List ℕ)) (status : Status) → picks ≡ left.picks.items → lines ≡ left.lines.items
-      → status ≡ status_of left.reason left.ended left.waiting → Cause seen (made_of picks lines) status
-  run_cause picks lines status same_picks same_lines same_status =
-      subst (λ (ps : List Pick). Cause seen (made_of ps lines) status) (sym same_picks)
-      (subst (λ (ls : List (List ℕ)). Cause seen (made_of left.picks.items ls) status) (sym same_lines)
-      (subst (Cause seen from_run) (sym same_status) (by_reason left.reason ends.reason)))
+-- bytes that are no text
+pub bytes_cause : (seen : Seen) (made : Made) (options : Options) (bytes : List ℕ) (at : ℕ) → Says seen options → GaveText seen.source bytes
+    → (IsUtf8 bytes → ⊥) × IsValidUpTo bytes at → NothingRan made → Cause seen made (NotUtf8 at)
+bytes_cause seen made options bytes at says gave wrong nothing = (((options, says), (bytes, gave, wrong)), nothing)
 
 -- work whose end line finds no memory
 memory_cause : (seen : Seen) (made : Made) (status : Status) → HasNumbers status → Cause seen made status → Cause seen made Memory
-memory_cause seen made (Quiescent ended waiting) has cause = inr cause.0
-memory_cause seen made (StepLimit site) has cause = inr cause.0
+memory_cause seen made (Quiescent ended waiting) has (given, (state, end, quiet)) = inr (given, (state, end.run))
+memory_cause seen made (StepLimit site) has (given, (state, end)) = inr (given, (state, end.run))
+memory_cause seen made MessageLimit has cause = absurd has
 memory_cause seen made (NotUtf8 at) has ((taken, (text, gave, holds)), nothing) = inl (inr (taken, gave.3, (text, gave.0, gave.2)), nothing)
 memory_cause seen made (Refused fault) has ((taken, (text, gave, holds)), nothing) = inl (inr (taken, gave.3, (text, gave.0, gave.2)), nothing)
 memory_cause seen made Usage has cause = absurd has
@@ -87,10 +64,10 @@ answered_cause seen made bytes worked status (inl all) cause = subst (Cause seen
 answered_cause seen made bytes worked status (inr front) cause = subst (Cause seen made) (sym front.0) (fault_cause seen made worked front.1 cause)
 
 -- the work, and what was written of it
-pub headline : (seen : Seen) (made : Made) (status worked final : Status) (schedule : List Pick) → schedule ≡ made.schedule
-    → Cause seen made status → HasLine status → IsToldAs status worked
-    → Written seen.sink (output made.lines (end_line worked)) worked final → Headline seen (made_of schedule made.lines) final
-headline seen made status worked final schedule is cause has told wrote =
+pub headline : (seen : Seen) (made : Made) (status worked final : Status) (journal : List Turn) (schedule : List Pick)
+    → journal ≡ made.journal → schedule ≡ made.schedule → Cause seen made status → HasLine status → IsToldAs status worked
+    → Written seen.sink (output made.lines (end_line worked)) worked final → Headline seen (made_of journal schedule made.lines) final
+headline seen made status worked final journal schedule same_journal same_schedule cause has told wrote =
     let before = told_cause seen made status worked told cause in
     let whole : Headline seen made final = record {
       worked = worked;
@@ -99,7 +76,8 @@ headline seen made status worked final schedule is cause has told wrote =
       written = wrote;
       answered = answered_cause seen made _ worked final wrote before;
     } in
-    subst (λ (picks : List Pick). Headline seen (made_of picks made.lines) final) (sym is) whole
+    subst (λ (j : List Turn). Headline seen (made_of j schedule made.lines) final) (sym same_journal)
+    (subst (λ (picks : List Pick). Headline seen (made_of made.journal picks made.lines) final) (sym same_schedule) whole)
 
 abbrev Told : (sink : Stream) (lines : List (List ℕ)) (status final : Status) → Type 0
 Told sink lines status final = (worked : Status) × IsToldAs status worked × Written sink (output lines (end_line worked)) worked final

@@ -6,7 +6,7 @@ use Rattle.std.specs.Str.{IsUtf8}
 use Rattle.oz_grammar.specs.Laws.{TextsNeverHaveBoth}
 use Rattle.oz_grammar.specs.Reads.{Reads}
 use Rattle.oz_show.specs.declared.status.Status.{Status}
-use Rattle.oz_show.specs.declared.status.Status.TheVariants.{Quiescent, Usage, Refused, NotUtf8, TooLong, StepLimit, ReadFault, WriteFault, Memory}
+use Rattle.oz_show.specs.declared.status.Status.TheVariants.{Quiescent, Usage, Refused, NotUtf8, TooLong, StepLimit, MessageLimit, ReadFault, WriteFault, Memory}
 use Rattle.oz_runner.specs.Seen.{Seen, Made}
 use Rattle.oz_runner.specs.Cause.{Cause, GaveText}
 use Rattle.oz_runner.specs.Complete.{IsDone, IsGood}
@@ -30,6 +30,7 @@ same_text seen text good gave =
 pub complete : (seen : Seen) (made : Made) (status : Status) → TextsNeverHaveBoth → Cause seen made status → IsGood seen → IsDone status
 complete seen made (Quiescent ended waiting) never cause good = tt
 complete seen made (StepLimit site) never cause good = tt
+complete seen made MessageLimit never cause good = tt
 complete seen made Memory never cause good = tt
 complete seen made Usage never (refused, unread, nothing) good = refused good.accepted
 complete seen made WriteFault never failed good = good.wrote failed

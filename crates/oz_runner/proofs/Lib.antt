@@ -1,3 +1,5 @@
+pub mod RunLemmas
+pub mod MachineLemmas
 pub mod Pieces
 pub mod CauseLemmas
 pub mod CompleteLemmas

@@ -4,17 +4,15 @@ use Rattle.std.specs.Str.{IsUtf8, IsValidUpTo}
 use Rattle.std.specs.Io.KnownBytes.{Consumes, IsAtEnd}
 use Rattle.oz_base.specs.Streams.{Rose}
 use Rattle.oz_base.specs.Reading.{GaveFront}
-use Rattle.tree_node.specs.Classes.{HasOneEach}
-use Rattle.tree_node.specs.State.{State}
 use Rattle.kernel_syntax.specs.declared.stmt.Stmt.{Stmt}
-use Rattle.oz_model.specs.Run.{Run, AtRest}
 use Rattle.oz_grammar.specs.Reads.{Reads, FaultOf}
 use Rattle.oz_words.specs.Words.{ReadsWords}
 use Rattle.oz_words.specs.declared.options.Options.{Options}
 use Rattle.oz_words.specs.declared.options.WordsError.TheVariants as words_error
 use Rattle.oz_show.specs.declared.status.Status.{Status}
-use Rattle.oz_show.specs.declared.status.Status.TheVariants.{Quiescent, Usage, Refused, NotUtf8, TooLong, StepLimit, ReadFault, WriteFault, Memory}
+use Rattle.oz_show.specs.declared.status.Status.TheVariants.{Quiescent, Usage, Refused, NotUtf8, TooLong, StepLimit, MessageLimit, ReadFault, WriteFault, Memory}
 use Rattle.oz_runner.specs.Seen.{Stream, Seen, Made}
+use Rattle.oz_runner.specs.Run.{CameTo}
 
 -- the most bytes of a text
 abbrev pub text_limit : ℕ
@@ -41,9 +39,9 @@ abbrev pub GaveText : Stream → List ℕ → Type 0
 GaveText s text =
     Consumes s.bytes_before s.bytes_after text × IsAtEnd s.bytes_after × (length text ≤ text_limit) × NeverFailed s
 
--- nothing ran: there is no step and no line
+-- nothing ran: there is no turn, no step and no line
 abbrev pub NothingRan : Made → Type 0
-NothingRan made = (made.schedule ≡ []) × (made.lines ≡ [])
+NothingRan made = (made.journal ≡ []) × (made.schedule ≡ []) × (made.lines ≡ [])
 
 -- the command takes the words, and these are their options
 abbrev pub Says : Seen → Options → Type 0
@@ -57,10 +55,8 @@ IsTaken seen = (options : Options) × Says seen options
 abbrev pub GotText : Seen → (List ℕ → Type 0) → Type 0
 GotText seen Holds = IsTaken seen × ((text : List ℕ) × GaveText seen.source text × Holds text)
 
--- A run. The command takes the words; the source gave a text that reads a program; the schedule, which has at most as many
--- picks as the words say, leads the centralised machine from the start of the program to a state; and the lines are the
--- state's, in which each variable has at most one equation
-pub record Ran (seen : Seen) (made : Made) : Type 0 where
+-- the command takes the words, and the source gave a text that reads a program
+pub record Given (seen : Seen) : Type 0 where
   pub options : Options
   pub says : Says seen options
   pub text : List ℕ
@@ -68,20 +64,10 @@ pub record Ran (seen : Seen) (made : Made) : Type 0 where
   pub utf8 : IsUtf8 text
   pub program : List Stmt
   pub reads : Reads text program
-  pub state : State
-  pub run : Run program made.schedule state
-  pub within : length made.schedule ≤ options.steps
-  pub same : made.lines ≡ state.lines
-  pub once : HasOneEach state.equations
 
--- the machine has no step left, with so many threads ended and so many waiting
-abbrev pub IsQuiet : {seen : Seen} {made : Made} → Ran seen made → ℕ → ℕ → Type 0
-IsQuiet ran ended waiting =
-    AtRest ran.program ran.state × (ended ≡ ran.state.ended) × (waiting ≡ length ran.state.threads)
-
--- as many steps were made as may be, and the machine could go on
-abbrev pub IsStopped : {seen : Seen} {made : Made} → Ran seen made → Type 0
-IsStopped {seen} {made} ran = (length made.schedule ≡ ran.options.steps) × (AtRest ran.program ran.state → ⊥)
+-- and the run of that program, made as the words say, came to this status
+abbrev pub Ran : Seen → Made → Status → Type 0
+Ran seen made status = (given : Given seen) × CameTo given.program given.options made status
 
 -- no memory was left before anything ran: the words were not read yet, or no more than a short text was read
 abbrev pub Stopped : Seen → Made → Type 0
@@ -91,15 +77,15 @@ Stopped seen made =
     × NothingRan made
 
 -- The cause of each status. Where several causes hold, the first in the order of these lines stands. Want of memory is
--- the one free answer: it comes before anything ran, or in the middle of a run, whose lines are those of the steps that
--- were made
+-- the one free answer: it comes before anything ran, or in a run, whose lines are those of the schedule
 abbrev pub Cause : Seen → Made → Status → Type 0
 Cause seen made Usage = ReadsWords seen.words (Err words_error.Usage) × IsUntouched seen.source × NothingRan made
 Cause seen made ReadFault = IsTaken seen × Failed seen.source × Gave seen.source (λ n. n ≤ text_limit) × NothingRan made
 Cause seen made TooLong = IsTaken seen × NeverFailed seen.source × Gave seen.source (λ n. text_limit < n) × NothingRan made
 Cause seen made (NotUtf8 at) = GotText seen (λ text. (IsUtf8 text → ⊥) × IsValidUpTo text at) × NothingRan made
 Cause seen made (Refused fault) = GotText seen (λ text. IsUtf8 text × FaultOf text fault) × NothingRan made
-Cause seen made (Quiescent ended waiting) = (ran : Ran seen made) × IsQuiet ran ended waiting
-Cause seen made (StepLimit site) = (ran : Ran seen made) × IsStopped ran × (site ≡ 1)
+Cause seen made (Quiescent ended waiting) = Ran seen made (Quiescent ended waiting)
+Cause seen made (StepLimit site) = Ran seen made (StepLimit site)
+Cause seen made MessageLimit = Ran seen made MessageLimit
 Cause seen made WriteFault = Failed seen.sink
-Cause seen made Memory = Stopped seen made ⊎ Ran seen made
+Cause seen made Memory = Stopped seen made ⊎ Ran seen made Memory

@@ -5,7 +5,7 @@ use Rattle.kernel_syntax.specs.declared.stmt.Stmt.{Stmt}
 use Rattle.oz_grammar.specs.Reads.{Reads}
 use Rattle.oz_words.specs.Parsed.{words_fault}
 use Rattle.oz_show.specs.declared.status.Status.{Status}
-use Rattle.oz_show.specs.declared.status.Status.TheVariants.{Quiescent, Usage, Refused, NotUtf8, TooLong, StepLimit, ReadFault, WriteFault, Memory}
+use Rattle.oz_show.specs.declared.status.Status.TheVariants.{Quiescent, Usage, Refused, NotUtf8, TooLong, StepLimit, MessageLimit, ReadFault, WriteFault, Memory}
 use Rattle.oz_runner.specs.Seen.{Seen}
 use Rattle.oz_runner.specs.Cause.{Failed, text_limit}
 
@@ -21,10 +21,11 @@ pub record IsGood (seen : Seen) : Type 0 where
   pub read : Failed seen.source → ⊥
   pub wrote : Failed seen.sink → ⊥
 
--- quiescent, or stopped by the limit of steps, or out of memory
+-- quiescent, or stopped by a limit, or out of memory
 abbrev pub IsDone : Status → Type 0
 IsDone (Quiescent ended waiting) = Unit {0}
 IsDone (StepLimit site) = Unit {0}
+IsDone MessageLimit = Unit {0}
 IsDone Memory = Unit {0}
 IsDone Usage = ⊥
 IsDone (Refused fault) = ⊥

@@ -1,18 +1,33 @@
--- What the work left: the status of a run's end, the schedule and the lines.
-use Rattle.std.specs.Prelude.{ℕ}
-use Rattle.thread_scheduler.specs.declared.run.Reason.{Reason}
-use Rattle.thread_scheduler.specs.declared.run.Reason.TheVariants as reason
+-- What the work left: the status of a run's end, the journal, the schedule and the lines.
+use Rattle.std.specs.Prelude.{ℕ, List, []}
+use Rattle.site_message.specs.declared.outcome.Reason.{Reason}
+use Rattle.site_message.specs.declared.outcome.Reason.TheVariants as reason
+use Rattle.site_message.specs.declared.turn.Turn.{Turn}
+use Rattle.world_model.specs.Schedule.{lines_in}
 use Rattle.oz_show.specs.declared.status.Status.{Status}
-use Rattle.oz_show.specs.declared.status.Status.TheVariants.{Quiescent, StepLimit, Memory}
+use Rattle.oz_show.specs.declared.status.Status.TheVariants.{Quiescent, StepLimit, MessageLimit, Memory}
+use Rattle.oz_runner.specs.declared.work.Printed.{Printed}
+use Rattle.oz_runner.specs.declared.work.Printed.TheVariants as printed
 use Rattle.oz_runner.specs.declared.work.Work.{Work}
 use Rattle.oz_runner.specs.Seen.{Made, made_of}
 
 -- the status of a run that ended for this reason
 abbrev pub status_of : Reason → ℕ → ℕ → Status
 status_of reason.Quiet ended waiting = Quiescent ended waiting
-status_of reason.Steps ended waiting = StepLimit 1
+status_of (reason.Steps site) ended waiting = StepLimit site
+status_of reason.Messages ended waiting = MessageLimit
 status_of reason.Memory ended waiting = Memory
 
--- the schedule and the lines of the work
+-- the journal of the sites; the machine has none
+abbrev pub journal_of : Printed → List Turn
+journal_of (printed.Sites journal) = journal
+journal_of (printed.Machine lines) = []
+
+-- the lines of the turns, or those of the machine
+abbrev pub lines_of : Printed → List (List ℕ)
+lines_of (printed.Sites journal) = lines_in journal
+lines_of (printed.Machine lines) = lines.items
+
+-- the journal, the schedule and the lines of the work
 abbrev pub made_by : Work → Made
-made_by work = made_of work.picks.items work.lines.items
+made_by work = made_of (journal_of work.printed) work.schedule.items (lines_of work.printed)

@@ -1,7 +1,9 @@
 pub mod Seen
+pub mod Run
 pub mod Cause
 pub mod Written
 pub mod Headline
 pub mod Complete
 pub mod Ends
+pub mod Machine
 pub mod Started

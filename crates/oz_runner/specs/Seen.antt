@@ -1,6 +1,7 @@
 -- What a call of `oz` saw, and what it made.
 use Rattle.std.specs.Prelude.{ℕ, List}
 use Rattle.std.specs.declared.option.Option.{Option}
+use Rattle.site_message.specs.declared.turn.Turn.{Turn}
 use Rattle.tree_node.specs.declared.pick.Pick.{Pick}
 
 -- a source or a sink as the call found and left it: the bytes that the source has left, or the sink has taken, where it tells
@@ -29,10 +30,11 @@ pub record Seen : Type 0 where
 abbrev pub seen_of : List (List ℕ) → Stream → Stream → Seen
 seen_of words source sink = record { words = words; source = source; sink = sink }
 
--- the schedule of the run, and its lines; both are empty where nothing ran
+-- the journal of the sites, the schedule of the run, and its lines; all are empty where nothing ran
 pub record Made : Type 0 where
+  pub journal : List Turn
   pub schedule : List Pick
   pub lines : List (List ℕ)
 
-abbrev pub made_of : List Pick → List (List ℕ) → Made
-made_of schedule lines = record { schedule = schedule; lines = lines }
+abbrev pub made_of : List Turn → List Pick → List (List ℕ) → Made
+made_of journal schedule lines = record { journal = journal; schedule = schedule; lines = lines }

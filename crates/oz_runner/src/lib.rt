@@ -4,22 +4,27 @@
 //! by `oz`.
 //!
 //! **Promises**: `oz` (`headline`: `Headline` in `specs/Headline.antt`): the lines that were written, uncaught exceptions among
-//! them, are those of the centralised machine under the schedule of the report; where it is quiescent that machine has no
-//! step left, and the threads that ended and wait are that machine's; each status has its cause (`Cause` in
-//! `specs/Cause.antt`, one line a status), and what a failed write left is a front of what was due. `oz` (`complete`):
-//! with words that are taken, a text that reads a program, and no fault, the run goes to its end. `start`: the program ends with
-//! the number of the status that such a call answers.
+//! them, are those of the centralised machine under the schedule of the report, for every program and number of sites, whatever
+//! the order of turns and deliveries in the journal of the report; where it is quiescent no message travels, that machine has
+//! no step left, and the threads that ended and wait are that machine's (`CameTo` in `specs/Run.antt`); each status has its
+//! cause (`Cause` in `specs/Cause.antt`, one line a status), and what a failed write left is a front of what was due. `oz`
+//! (`complete`): with words that are taken, a text that reads a program, and no fault, the run goes to its end or to a limit.
+//! `start`: the program ends with the number of the status that such a call answers.
 //!
-//! **Stands on** `oz_words` for the words, `oz_base` for the text and the bytes written, `oz_parser` and `oz_grammar` for
-//! what a text reads, `thread_scheduler` and `oz_model` for the run, and `oz_show` for the end line.
+//! **Stands on** `oz_words` for the words, `oz_base` for the text and the bytes written, `oz_parser` and `oz_grammar` for what a
+//! text reads, `plain_run` for a run over sites and `world_simulation` for what the machine has to do with it,
+//! `central_machine` and `oz_model` for a run of the machine alone, and `oz_show` for the end line.
 //!
 //! **Tests alone show**, in `oz_tests`: that memory suffices for the texts there, and that two runs print the same.
 //!
 //! **Sources**: Van Roy and Haridi, Concepts, Techniques, and Models of Computer Programming, chapters 2, 4 and 6, for the
-//! machine whose lines these are.
+//! machine whose lines these are; Haridi and others, Efficient Logic Variables for Distributed Computing (TOPLAS 21(3), 1999),
+//! and Van Roy and others, Mobile Objects in Distributed Oz (TOPLAS 19(5), 1997), for what the sites do.
 #![tactic(auto)]
 
+mod machine;
 mod report;
+mod run;
 mod system;
 mod top;
 mod work;

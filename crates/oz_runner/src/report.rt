@@ -1,12 +1,14 @@
 //! What a call tells.
 
 use crate::Status;
+use site_message::Journal;
 use tree_node::Pick;
 
-/// How a call ended, and the schedule of its run: the picks under which the centralised machine prints the same lines.
-/// Where nothing ran the schedule is empty.
+/// How a call ended, the journal of its sites, and the schedule of its run: the picks under which the centralised machine
+/// prints the same lines. Where nothing ran both are empty, and a run of that machine itself has no journal.
 #[derive(Drop)]
 pub struct Report {
     pub status: Status,
     pub schedule: Vec<Pick>,
+    pub journal: Journal,
 }

@@ -5,15 +5,17 @@ ghost use Rattle.oz_model.specs.Output.{output, pieces_of};
 ghost use Rattle.oz_show.specs.Status.{end_line, HasLine};
 ghost use Rattle.oz_runner.specs.Seen.{stream_of, seen_of, made_of};
 ghost use Rattle.oz_runner.specs.Complete.{IsGood, IsDone};
+ghost use Rattle.oz_runner.specs.Ends.{journal_of, lines_of};
 ghost use Rattle.oz_runner.specs.Headline.{Headline};
 ghost use Rattle.oz_runner.specs.Written.{Written, IsToldAs, after_fault};
 
-use crate::work::{Work, do_work};
+use crate::work::{Printed, Work, do_work};
 use crate::write::write_all;
 use crate::{Report, Status};
 use oz_base::{Sink, Source};
 use oz_grammar::texts_have_one_of_both;
 use oz_show::{fixed_piece, last_line};
+use site_message::Journal;
 use std::alloc::Global;
 
 /// Reads the words and a text, runs it, and writes its lines and the end line. `words` are the program's name and the
@@ -27,7 +29,7 @@ pub fn oz<S: Source, K: Sink>(
     requires { 0 < length words.now }
     ensures headline { (lines : List (List ℕ)) × Headline
         (seen_of (map string_bytes words.now) (stream_of S.left S.faults source.old source.new) (stream_of K.taken K.faults sink.old sink.new))
-        (made_of result.schedule.items lines) result.status }
+        (made_of result.journal result.schedule.items lines) result.status }
     ensures complete { IsGood
         (seen_of (map string_bytes words.now) (stream_of S.left S.faults source.old source.new) (stream_of K.taken K.faults sink.old sink.new))
         → IsDone result.status }
@@ -41,44 +43,57 @@ pub fn oz<S: Source, K: Sink>(
 fn told<K: Sink>(alloc: Global, sink: &mut K, work: Work) -> Report
     requires { HasLine work.status }
     ensures written { (worked : Status) × IsToldAs work.status worked
-        × Written (stream_of K.taken K.faults sink.old sink.new) (output work.lines.items (end_line worked)) worked result.status }
-    ensures schedule { result.schedule ≡ work.picks }
+        × Written (stream_of K.taken K.faults sink.old sink.new) (output (lines_of work.printed) (end_line worked)) worked result.status }
+    ensures journal { result.journal ≡ journal_of work.printed }
+    ensures schedule { result.schedule ≡ work.schedule }
 {
     if let Some(end) = fixed_piece(work.status) {
-        return finish(sink, work, end);
+        return finish(alloc, sink, work, end);
     }
     match last_line(alloc, &work.status) {
-        Ok(end) => finish(sink, work, end.as_piece()),
-        Err(_) => finish(sink, out_of_memory(work), b"out of memory\n"),
+        Ok(end) => finish(alloc, sink, work, end.as_piece()),
+        Err(_) => finish(alloc, sink, out_of_memory(work), b"out of memory\n"),
     }
 }
 
-// The same picks and lines, where no memory is left for the end line.
+// The same schedule and lines, where no memory is left for the end line.
 fn out_of_memory(work: Work) -> Work
     ensures status { result.status ≡ Status.Memory }
-    ensures picks { result.picks ≡ work.picks }
-    ensures lines { result.lines ≡ work.lines }
+    ensures schedule { result.schedule ≡ work.schedule }
+    ensures printed { result.printed ≡ work.printed }
 {
     Work {
         status: Status::Memory,
-        picks: work.picks,
-        lines: work.lines,
+        schedule: work.schedule,
+        printed: work.printed,
     }
 }
 
 // Writes lines and the piece of an end line.
-fn finish<K: Sink>(sink: &mut K, work: Work, end: &[u8]) -> Report
+fn finish<K: Sink>(alloc: Global, sink: &mut K, work: Work, end: &[u8]) -> Report
     ensures written { Written (stream_of K.taken K.faults sink.old sink.new)
-        (pieces_of work.lines.items ++ end.now) work.status result.status }
-    ensures schedule { result.schedule ≡ work.picks }
+        (pieces_of (lines_of work.printed) ++ end.now) work.status result.status }
+    ensures journal { result.journal ≡ journal_of work.printed }
+    ensures schedule { result.schedule ≡ work.schedule }
 {
-    let status = match write_all(sink, &work.lines, end) {
+    let status = match write_all(sink, &work.printed, end) {
         Ok(()) => work.status,
         Err(_) => after_fault(work.status),
     };
     Report {
         status,
-        schedule: work.picks,
+        schedule: work.schedule,
+        journal: into_journal(alloc, work.printed),
+    }
+}
+
+// The journal of the sites; the centralised machine has none.
+fn into_journal(alloc: Global, printed: Printed) -> Journal
+    ensures { result ≡ journal_of printed }
+{
+    match printed {
+        Printed::Sites(journal) => journal,
+        Printed::Machine(_) => Journal::new(alloc),
     }
 }
 

@@ -5,26 +5,34 @@ ghost use Rattle.oz_words.specs.Words.{ReadsWords, InRange};
 ghost use Rattle.oz_show.specs.Status.{HasLine};
 ghost use Rattle.oz_runner.specs.Seen.{Stream, Seen, stream_of, seen_of};
 ghost use Rattle.oz_runner.specs.Cause.{Cause, Says, GaveText, text_limit};
-ghost use Rattle.oz_runner.specs.Ends.{status_of, made_by};
+ghost use Rattle.oz_runner.specs.Ends.{made_by, journal_of, lines_of};
 
 use crate::Status;
+use crate::run::run;
 use oz_base::{ReadError, Source, read_text};
 use oz_parser::{ParseError, parse};
 use oz_words::{Options, WordsError, read_options};
+use site_message::Journal;
 use std::alloc::Global;
 use std::str;
-use thread_scheduler::{Ran, Reason, run_program};
 use tree_node::{Line, Pick};
 
 // The most bytes of a text.
 const TEXT_LIMIT: u64 = 1_048_576;
 
-/// What the work came to: its status, and the picks and lines of the run, if there was one.
+/// Where the lines of a run stand: in the turns of its sites, or by themselves where the centralised machine ran.
+#[derive(Drop)]
+pub enum Printed {
+    Sites(Journal),
+    Machine(Vec<Line>),
+}
+
+/// What the work came to: its status, and the schedule and the lines of the run, if there was one.
 #[derive(Drop)]
 pub struct Work {
     pub status: Status,
-    pub picks: Vec<Pick>,
-    pub lines: Vec<Line>,
+    pub schedule: Vec<Pick>,
+    pub printed: Printed,
 }
 
 /// Reads the words, which are the program's name and those after it, then the text, and runs it.
@@ -67,7 +75,7 @@ fn work_on_text(alloc: Global, options: Options, text: &[u8]) -> Work
         Err(error) => return stopped(alloc, Status::NotUtf8(error.valid_up_to() as u64)),
     };
     match parse(alloc, text) {
-        Ok(program) => finished(run_program(alloc, &program, options.steps)),
+        Ok(program) => run(alloc, options, &program),
         Err(ParseError::Text(fault)) => stopped(alloc, Status::Refused(fault)),
         Err(ParseError::Memory) => stopped(alloc, Status::Memory),
     }
@@ -76,33 +84,13 @@ fn work_on_text(alloc: Global, options: Options, text: &[u8]) -> Work
 // The end before anything ran.
 fn stopped(alloc: Global, status: Status) -> Work
     ensures status { result.status ≡ status }
-    ensures picks { result.picks.items ≡ [] }
-    ensures lines { result.lines.items ≡ [] }
+    ensures journal { journal_of result.printed ≡ [] }
+    ensures schedule { result.schedule.items ≡ [] }
+    ensures lines { lines_of result.printed ≡ [] }
 {
     Work {
         status,
-        picks: Vec::new(alloc),
-        lines: Vec::new(alloc),
-    }
-}
-
-// The end of a run.
-fn finished(ran: Ran) -> Work
-    ensures status { result.status ≡ status_of ran.reason ran.ended ran.waiting }
-    ensures picks { result.picks ≡ ran.picks }
-    ensures lines { result.lines ≡ ran.lines }
-{
-    let status = match ran.reason {
-        Reason::Quiet => Status::Quiescent {
-            ended: ran.ended,
-            waiting: ran.waiting,
-        },
-        Reason::Steps => Status::StepLimit(1),
-        Reason::Memory => Status::Memory,
-    };
-    Work {
-        status,
-        picks: ran.picks,
-        lines: ran.lines,
+        schedule: Vec::new(alloc),
+        printed: Printed::Sites(Journal::new(alloc)),
     }
 }

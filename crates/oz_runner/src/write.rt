@@ -1,10 +1,14 @@
 //! The lines and the end line, written as pieces.
 
-ghost use Rattle.std.specs.Prelude.{◌++◌};
+ghost use Rattle.std.specs.Prelude.{◌++◌, reverse};
 ghost use Rattle.oz_base.specs.Streams.{HasCause, TakesPiece};
 ghost use Rattle.oz_model.specs.Output.{pieces_of};
+ghost use Rattle.world_model.specs.Schedule.{lines_in};
+ghost use Rattle.oz_runner.specs.Ends.{lines_of};
 
+use crate::work::Printed;
 use oz_base::{Failed, Sink, write_piece};
+use site_message::Turn;
 use tree_node::Line;
 
 /// Writes each line with its newline, in order, and stops at the first that fails.
@@ -20,12 +24,36 @@ pub fn write_lines<K: Sink>(sink: &mut K, lines: &[Line]) -> Result<(), Failed>
     Ok(())
 }
 
-/// Writes the lines and then the piece of the end line.
-pub fn write_all<K: Sink>(sink: &mut K, lines: &[Line], end: &[u8]) -> Result<(), Failed>
-    ensures bytes { TakesPiece (K.taken sink.old) (K.taken sink.new) result (pieces_of lines.now ++ end.now) }
+/// Writes the lines of turns, the oldest first, and stops at the first that fails.
+pub fn write_turns<K: Sink>(sink: &mut K, turns: &[Turn]) -> Result<(), Failed>
+    ensures bytes { TakesPiece (K.taken sink.old) (K.taken sink.new) result (pieces_of (lines_in (reverse turns.now))) }
     ensures cause { HasCause (K.faults sink.old) (K.faults sink.new) result }
 {
-    if let Err(failed) = write_lines(sink, lines) {
+    for turn in turns {
+        if let Err(failed) = write_lines(sink, turn.lines.as_slice()) {
+            return Err(failed);
+        }
+    }
+    Ok(())
+}
+
+/// Writes the lines of a run.
+pub fn write_printed<K: Sink>(sink: &mut K, printed: &Printed) -> Result<(), Failed>
+    ensures bytes { TakesPiece (K.taken sink.old) (K.taken sink.new) result (pieces_of (lines_of printed.now)) }
+    ensures cause { HasCause (K.faults sink.old) (K.faults sink.new) result }
+{
+    match printed {
+        Printed::Sites(journal) => write_turns(sink, journal.oldest_first()),
+        Printed::Machine(lines) => write_lines(sink, lines),
+    }
+}
+
+/// Writes the lines of a run and then the piece of the end line.
+pub fn write_all<K: Sink>(sink: &mut K, printed: &Printed, end: &[u8]) -> Result<(), Failed>
+    ensures bytes { TakesPiece (K.taken sink.old) (K.taken sink.new) result (pieces_of (lines_of printed.now) ++ end.now) }
+    ensures cause { HasCause (K.faults sink.old) (K.faults sink.new) result }
+{
+    if let Err(failed) = write_printed(sink, printed) {
         return Err(failed);
     }
     write_piece(sink, end)

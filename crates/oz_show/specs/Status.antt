@@ -1,7 +1,7 @@
 -- The end line of each status, and the number with which the program ends.
 use Rattle.std.specs.Prelude.{ℕ, zero, suc, List, [], ◌++◌, codes, decimal}
 use Rattle.oz_show.specs.declared.status.Status.{Status}
-use Rattle.oz_show.specs.declared.status.Status.TheVariants.{Quiescent, Usage, Refused, NotUtf8, TooLong, StepLimit, ReadFault, WriteFault, Memory}
+use Rattle.oz_show.specs.declared.status.Status.TheVariants.{Quiescent, Usage, Refused, NotUtf8, TooLong, StepLimit, MessageLimit, ReadFault, WriteFault, Memory}
 use Rattle.oz_show.specs.Refusal.{fault_line}
 
 abbrev pub end_line : Status → List ℕ
@@ -11,6 +11,7 @@ end_line (Refused fault) = fault_line fault
 end_line (NotUtf8 at) = codes "refused byte " ++ decimal at ++ codes " not UTF-8"
 end_line TooLong = codes "refused text too long"
 end_line (StepLimit site) = codes "stopped steps site=" ++ decimal site
+end_line MessageLimit = codes "stopped messages"
 end_line ReadFault = codes "read fault"
 end_line WriteFault = []
 end_line Memory = codes "out of memory"
@@ -23,6 +24,7 @@ status_number (Refused fault) = 3
 status_number (NotUtf8 at) = 3
 status_number TooLong = 3
 status_number (StepLimit site) = 4
+status_number MessageLimit = 5
 status_number ReadFault = 6
 status_number WriteFault = 7
 status_number Memory = 8

@@ -16,6 +16,7 @@ pub fn fixed_piece(status: Status) -> Option<&'static [u8]>
     match status {
         Status::Usage => Some(b"usage\n"),
         Status::TooLong => Some(b"refused text too long\n"),
+        Status::MessageLimit => Some(b"stopped messages\n"),
         Status::ReadFault => Some(b"read fault\n"),
         Status::Memory => Some(b"out of memory\n"),
         _ => None,
@@ -39,6 +40,7 @@ pub fn last_line(alloc: Global, status: &Status) -> Result<Line, AllocError>
         Status::NotUtf8(at) => format!(in alloc; "refused byte {at} not UTF-8")?,
         Status::TooLong => String::from_str(alloc, "refused text too long")?,
         Status::StepLimit(site) => format!(in alloc; "stopped steps site={site}")?,
+        Status::MessageLimit => String::from_str(alloc, "stopped messages")?,
         Status::ReadFault => String::from_str(alloc, "read fault")?,
         Status::WriteFault => String::new(alloc),
         Status::Memory => String::from_str(alloc, "out of memory")?,

@@ -19,8 +19,10 @@ pub enum Status {
     NotUtf8(u64),
     /// The text has more than 1,048,576 bytes.
     TooLong,
-    /// A site made as many steps as it may, and could go on.
+    /// This site, 1 to 64, made as many steps as it may, and could go on. The centralised machine is site 1.
     StepLimit(u32),
+    /// The sites sent more messages to each other than they may.
+    MessageLimit,
     /// The source failed.
     ReadFault,
     /// The sink failed: nothing more was written.
@@ -40,6 +42,7 @@ impl Status {
             Status::Usage => 2,
             Status::Refused(_) | Status::NotUtf8(_) | Status::TooLong => 3,
             Status::StepLimit(_) => 4,
+            Status::MessageLimit => 5,
             Status::ReadFault => 6,
             Status::WriteFault => 7,
             Status::Memory => 8,

@@ -1,7 +1,7 @@
 //! The examples of the repository, as `examples/check --table` prints them.
 
 // A text, what it prints and its status' number.
-pub static EXAMPLES: [(&str, &str, u8); 22] = [
+pub static EXAMPLES: [(&str, &str, u8); 24] = [
     (
         "% Lists are records with a head and a tail; nil is an atom. Append goes through the first list and shares the second.
 local Append A B C Nil L1 L2 L3 M in
@@ -385,6 +385,36 @@ end
         0,
     ),
     (
+        "% Work over sites: three threads, at sites 2, 3 and 4, add up ten numbers each, and the first site adds the three parts. Where
+% the threads run changes nothing of what is printed.
+local Sum Zero One Ten Eleven Twenty TwentyOne Thirty A B C Both All in
+  Zero = 0  One = 1  Ten = 10  Eleven = 11  Twenty = 20  TwentyOne = 21  Thirty = 30
+  % the numbers from From to To, and those before
+  proc {Sum From To Before ?Total}
+    local Ends in
+      Ends = From > To
+      if Ends then Total = Before
+      else
+        local Next More in
+          Next = From + One
+          More = Before + From
+          {Sum Next To More Total}
+        end
+      end
+    end
+  end
+  thread at 2 {Sum One Ten Zero A} end
+  thread at 3 {Sum Eleven Twenty Zero B} end
+  thread at 4 {Sum TwentyOne Thirty Zero C} end
+  Both = A + B
+  All = Both + C
+  {Browse All}
+end
+",
+        "465\nquiescent ended=4 waiting=0\n",
+        0,
+    ),
+    (
         "% Reversing a list with an accumulator. The last call leaves nothing on the stack.
 local Reverse A B C Nil Xs Ys in
   proc {Reverse Xs Done ?Ys}
@@ -594,6 +624,38 @@ end
 ",
         "refused 3:9 undeclared\n",
         3,
+    ),
+    (
+        "% State over sites: the content of a cell goes to each site that exchanges it, one after the other. Threads at four sites add
+% one to it five times each, and none of these is lost, in whatever order they come.
+local Cell Add Zero One Five D1 D2 D3 D4 in
+  Zero = 0  One = 1  Five = 5
+  {NewCell Zero Cell}
+  % adds one N times, and then tells that it is done
+  proc {Add N ?Done}
+    local Ends in
+      Ends = N =< Zero
+      if Ends then Done = true
+      else
+        local Old New Less in
+          {Exchange Cell Old New}
+          New = Old + One
+          Less = N - One
+          {Add Less Done}
+        end
+      end
+    end
+  end
+  thread at 1 {Add Five D1} end
+  thread at 2 {Add Five D2} end
+  thread at 3 {Add Five D3} end
+  thread at 4 {Add Five D4} end
+  {Wait D1} {Wait D2} {Wait D3} {Wait D4}
+  local Count in {Exchange Cell Count Count} {Browse Count} end
+end
+",
+        "20\nquiescent ended=5 waiting=0\n",
+        0,
     ),
     (
         "% A thread that waits for a variable that nobody binds waits for ever.

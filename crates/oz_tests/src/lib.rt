@@ -3,14 +3,20 @@
 //! **For**: whoever wants to see that the program runs. They are a crate of their own, at the top, since a crate with tests
 //! is proved twice.
 //!
-//! **They show** what no clause says: that the texts of the tables have their one lawful output with ample memory, refusals
-//! and end lines among them; that the examples of the repository print what stands beside them; that a text as long as
-//! may be is read and runs; that two runs print the same.
+//! **They show** what no clause says: that the texts of the tables have their one lawful output with ample memory, or one of
+//! their lawful outputs, on 1 to 64 sites, refusals and end lines among them; that the examples of the repository print what
+//! stands beside them; that a text as long as may be is read and runs; that two runs print the same.
 #![tactic(auto)]
 
 #[cfg(test)]
 mod examples;
 #[cfg(test)]
+mod placed;
+#[cfg(test)]
 mod rows;
+#[cfg(test)]
+mod sited;
+#[cfg(test)]
+mod sites;
 #[cfg(test)]
 mod texts;

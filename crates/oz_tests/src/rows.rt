@@ -5,7 +5,7 @@ const FIVE: &str = "local X in X = 5 {Browse X} end";
 const LOOP: &str = "local P in P = proc {$} {P} end {P} end";
 
 // A cell counts to a hundred over four threads.
-const COUNTER: &str = "local C Z One L N D1 D2 D3 D4 U in
+pub const COUNTER: &str = "local C Z One L N D1 D2 D3 D4 U in
   Z = 0 One = 1 N = 25 U = done
   {NewCell Z C}
   L = proc {$ K D}
@@ -201,7 +201,7 @@ pub static WORDED: [Worded; 10] = [
 ];
 
 // Words that are refused.
-pub static USAGE: [&[&str]; 10] = [
+pub static USAGE: [&[&str]; 16] = [
     &["walk"],
     &["run", "central"],
     &["--steps", "0"],
@@ -209,7 +209,13 @@ pub static USAGE: [&[&str]; 10] = [
     &["--steps", "many"],
     &["--steps"],
     &["--steps", "1", "--steps", "2"],
-    &["--sites", "3"],
+    &["--sites", "0"],
+    &["--sites", "65"],
+    &["--sites", "-1"],
+    &["--sites", "x"],
+    &["--sites", "2", "--sites", "3"],
+    &["--messages", "4000000001"],
+    &["--messages", "-1"],
     &["--help"],
     &["--version"],
 ];

@@ -8,7 +8,7 @@ use std::alloc::{AllocError, Global};
 use std::process::Abort;
 use std::test::Fail;
 
-fn words_of(alloc: Global, words: &[&str]) -> Result<Vec<String>, AllocError> {
+pub fn words_of(alloc: Global, words: &[&str]) -> Result<Vec<String>, AllocError> {
     let mut list = Vec::new(alloc);
     list.push(String::from_str(alloc, "oz")?)?;
     for word in words {
@@ -18,7 +18,7 @@ fn words_of(alloc: Global, words: &[&str]) -> Result<Vec<String>, AllocError> {
 }
 
 // The bytes taken, the status' number and the length of the schedule, with room for two thousand bytes.
-fn answer<R: Abort>(
+pub fn answer<R: Abort>(
     rt: &R,
     alloc: Global,
     words: &[&str],
@@ -193,18 +193,5 @@ fn a_long_program_is_read_and_runs(rt: HostRuntime) -> Result<(), Fail> {
     let told = answer(&rt, alloc, &["--steps", "1"], &text, &[], &[])?;
     assert_eq!(rt; told.0.as_slice(), b"stopped steps site=1\n".as_slice());
     assert_eq!(rt; told.1, 4);
-    Ok(())
-}
-
-// Two threads tell one variable two values, and a third shows it.
-const RACE: &[u8] = b"local X in thread X = 1 end thread X = 2 end thread {Browse X} end end";
-
-#[test]
-fn two_runs_print_the_same(rt: HostRuntime) -> Result<(), Fail> {
-    let alloc = rt.alloc();
-    let first = answer(&rt, alloc, &["central"], RACE, &[], &[])?;
-    let second = answer(&rt, alloc, &["central"], RACE, &[], &[])?;
-    assert_eq!(rt; first.0.as_slice(), second.0.as_slice());
-    assert_eq!(rt; first.2, second.2);
     Ok(())
 }

@@ -1,11 +1,42 @@
 -- The command that reads the words, in the terms of the crate that reads them.
-use Rattle.std.specs.Prelude.{◌≡◌, List, [], ◌∷◌, Some, codes, map, true}
+use Rattle.std.specs.Prelude.{◌≡◌, ◌≤◌, ℕ, List, [], ◌∷◌, Some, codes, map, true}
 use Rattle.std.specs.Borrow.{Bor}
 use Rattle.clap.specs.Words.{App, Rule, Text, new_app, new_rule, with_rule}
 use Rattle.clap.specs.declared.builder.ArgAction.TheVariants.{Set}
 use Rattle.clap.specs.declared.builder.ValueParser.{ValueParser}
 use Rattle.clap.specs.declared.builder.ValueParser.TheVariants as vp
 use Rattle.oz_words.specs.Places.{placeless_names}
+
+-- an option that takes a number: its name, the least and the most number, and the text of its default
+pub record NumberOption : Type 0 where
+  pub name : Text
+  pub least : ℕ
+  pub most : ℕ
+  pub default : Text
+
+-- from 1 to 64
+abbrev pub sites_option : NumberOption
+sites_option = record { name = codes "sites"; least = 1; most = 64; default = codes "4" }
+
+-- from 1 to 1,000,000,000
+abbrev pub steps_option : NumberOption
+steps_option = record { name = codes "steps"; least = 1; most = 1000000000; default = codes "1000000" }
+
+-- from 0 to 4,000,000,000
+abbrev pub messages_option : NumberOption
+messages_option = record { name = codes "messages"; least = 0; most = 4000000000; default = codes "1000000" }
+
+-- the number is one that the option takes
+abbrev pub IsWithin : NumberOption → ℕ → Type 0
+IsWithin o n = (o.least ≤ n) × (n ≤ o.most)
+
+-- the numbers from the least to the most
+abbrev pub numbers_from : ℕ → ℕ → ValueParser
+numbers_from least most = vp.Unsigned least most
+
+-- the numbers that the option takes
+abbrev pub numbers_of : NumberOption → ValueParser
+numbers_of o = numbers_from o.least o.most
 
 -- `--name N`, given at most once, with a default
 abbrev pub option_rule : Text → ValueParser → Text → Rule
@@ -16,15 +47,12 @@ option_rule name parser default = record (new_rule name) {
   defaults = default ∷ [];
 }
 
--- from 1 to 1,000,000,000
-abbrev pub steps_values : ValueParser
-steps_values = vp.Unsigned 1 1000000000
+-- `--name N` for a number of the option
+abbrev pub number_rule : NumberOption → Rule
+number_rule o = option_rule o.name (numbers_of o) o.default
 
 abbrev pub action_values : Bor (List (Bor Text)) → ValueParser
 action_values names = vp.Names names
-
-abbrev pub steps_rule : Rule
-steps_rule = option_rule (codes "steps") steps_values (codes "1000000")
 
 -- the word that is one of these names
 abbrev pub action_rule : Bor (List (Bor Text)) → Rule
@@ -34,11 +62,13 @@ action_rule names = record (new_rule (codes "action")) {
   defaults = codes "run" ∷ [];
 }
 
--- the options and the word
+-- the options, and the word after them
 abbrev pub rules_of_oz : Bor (List (Bor Text)) → App
-rules_of_oz names = with_rule (with_rule (new_app (codes "oz")) steps_rule) (action_rule names)
+rules_of_oz names =
+    with_rule (with_rule (with_rule (with_rule (new_app (codes "oz"))
+    (number_rule sites_option)) (number_rule steps_option)) (number_rule messages_option)) (action_rule names)
 
--- `oz [--steps N] [run|central]`
+-- `oz [--sites N] [--steps N] [--messages N] [run|central]`
 abbrev pub oz_app : Bor (List (Bor Text)) → App
 oz_app names = record (rules_of_oz names) {
   top = record (rules_of_oz names).top {

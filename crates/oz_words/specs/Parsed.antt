@@ -5,7 +5,7 @@ use Rattle.clap.specs.Values.{read_as, reading_of}
 use Rattle.clap.specs.declared.builder.ValueParser.{ValueParser}
 use Rattle.clap.specs.declared.parser.ArgMatches.{ArgMatches}
 use Rattle.oz_words.specs.Places.{placeless_names}
-use Rattle.oz_words.specs.Command.{action_names, action_values, oz_command, steps_values}
+use Rattle.oz_words.specs.Command.{NumberOption, sites_option, steps_option, messages_option, numbers_of, action_names, action_values, oz_command}
 use Rattle.oz_words.specs.declared.options.WordsError.{WordsError}
 use Rattle.oz_words.specs.declared.options.WordsError.TheVariants.{Usage, Memory}
 
@@ -25,11 +25,17 @@ TakesWordsOfOz a = (words : List Text) → (fault_of a words ≡ words_fault wor
 abbrev pub HasValue : ArgMatches → Text → ValueParser → Type 0
 HasValue m id q = (t : Text) × (one_text (found_of m) id ≡ Some (read_as (reading_of q) t)) × Accepts false q t
 
+-- the option has a value that is one of its numbers
+abbrev pub HasNumber : ArgMatches → NumberOption → Type 0
+HasNumber m o = HasValue m o.name (numbers_of o)
+
 -- the matches of words that the command takes, with a value for each argument
 pub record Parsed (words : List Text) (m : ArgMatches) : Type 0 where
   pub no_fault : words_fault words ≡ []
   pub rows : rows_of (found_of m) ≡ words_rows words
-  pub steps : HasValue m (codes "steps") steps_values
+  pub sites : HasNumber m sites_option
+  pub steps : HasNumber m steps_option
+  pub messages : HasNumber m messages_option
   pub action : HasValue m (codes "action") (action_values (placeless_names action_names))
 
 abbrev pub Parses : List Text → Result ArgMatches WordsError → Type 0

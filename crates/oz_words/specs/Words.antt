@@ -1,7 +1,8 @@
 -- What the words mean.
-use Rattle.std.specs.Prelude.{◌≡◌, ◌≢◌, ◌≤◌, ℕ, List, [], Option, Some, None, codes, Result, Ok, Err}
+use Rattle.std.specs.Prelude.{◌≡◌, ◌≢◌, ℕ, List, [], Option, Some, None, codes, Result, Ok, Err}
 use Rattle.std.specs.Str.Parse.{digits_value, without_leading_plus}
 use Rattle.clap.specs.Words.{Row, Text, one_of}
+use Rattle.oz_words.specs.Command.{IsWithin, sites_option, steps_option, messages_option}
 use Rattle.oz_words.specs.Parsed.{words_fault, words_rows}
 use Rattle.oz_words.specs.declared.options.Action.{Action}
 use Rattle.oz_words.specs.declared.options.Action.TheVariants.{Run, Central}
@@ -26,13 +27,16 @@ NamesAction text (Err unknown) = (text ≢ codes "run") × (text ≢ codes "cent
 
 -- the options are the matches
 pub record AreMatches (rows : List Row) (options : Options) : Type 0 where
-  pub steps : Says (one_of (codes "steps") rows) options.steps
+  pub sites : Says (one_of sites_option.name rows) options.sites
+  pub steps : Says (one_of steps_option.name rows) options.steps
+  pub messages : Says (one_of messages_option.name rows) options.messages
   pub action : one_of (codes "action") rows ≡ Some (action_name options.action)
 
 -- the numbers are in their ranges
 pub record InRange (options : Options) : Type 0 where
-  pub least_steps : 1 ≤ options.steps
-  pub most_steps : options.steps ≤ 1000000000
+  pub sites : IsWithin sites_option options.sites
+  pub steps : IsWithin steps_option options.steps
+  pub messages : IsWithin messages_option options.messages
 
 -- `Usage` comes exactly where the command refuses the words, and else the options are its matches of them.
 -- Want of memory says nothing.

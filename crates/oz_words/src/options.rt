@@ -1,10 +1,10 @@
 //! What the words say.
 
-ghost use Rattle.std.specs.Prelude.{◌≡◌, ◌≤◌, IfOk, codes, map, string_bytes, Some};
+ghost use Rattle.std.specs.Prelude.{◌≡◌, IfOk, codes, map, string_bytes, Some};
 ghost use Rattle.clap.specs.Words.{found_of, one_text};
 ghost use Rattle.oz_words.specs.Places.{placeless_names};
-ghost use Rattle.oz_words.specs.Command.{action_names, action_values, steps_values};
-ghost use Rattle.oz_words.specs.Parsed.{HasValue, Parses};
+ghost use Rattle.oz_words.specs.Command.{NumberOption, IsWithin, action_names, action_values};
+ghost use Rattle.oz_words.specs.Parsed.{HasValue, HasNumber, Parses};
 ghost use Rattle.oz_words.specs.Words.{ReadsWords, InRange, Says, action_name, NamesAction};
 
 use crate::taken::command;
@@ -38,10 +38,13 @@ impl FromStr for Action {
     }
 }
 
-/// What the words ask for: what to do, and the most steps, 1 to 1,000,000,000.
+/// What the words ask for: what to do, the number of sites, 1 to 64, the most steps of each, 1 to 1,000,000,000, and the most
+/// messages, 0 to 4,000,000,000. On the centralised machine there are no sites and no messages, and the steps are of the whole.
 #[derive(Clone, Copy, Debug, PartialEq, Eq)]
 pub struct Options {
+    pub sites: u32,
     pub steps: u64,
+    pub messages: u64,
     pub action: Action,
 }
 
@@ -69,13 +72,13 @@ fn parse<'a>(alloc: Global, words: &'a [String]) -> Result<ArgMatches<'a>, Words
     }
 }
 
-fn steps_of(matches: &ArgMatches) -> u64
-    requires { HasValue matches.now (codes "steps") steps_values }
-    ensures text { Says (one_text (found_of matches.now) (codes "steps")) result }
-    ensures least { 1 ≤ result }
-    ensures most { result ≤ 1000000000 }
+// The number of an option.
+fn number_of(matches: &ArgMatches, name: &str) -> u64
+    requires { (o : NumberOption) × (o.name ≡ name.now) × HasNumber matches.now o }
+    ensures text { Says (one_text (found_of matches.now) name.now) result }
+    ensures range { (o : NumberOption) → o.name ≡ name.now → HasNumber matches.now o → IsWithin o result }
 {
-    matches.get_one("steps").unwrap()
+    matches.get_one(name).unwrap()
 }
 
 fn action_in(matches: &ArgMatches) -> Action
@@ -93,7 +96,9 @@ pub fn read_options(alloc: Global, words: &[String]) -> Result<Options, WordsErr
 {
     let matches = parse(alloc, words)?;
     Ok(Options {
-        steps: steps_of(&matches),
+        sites: number_of(&matches, "sites") as u32,
+        steps: number_of(&matches, "steps"),
+        messages: number_of(&matches, "messages"),
         action: action_in(&matches),
     })
 }

@@ -2,7 +2,7 @@
 
 ghost use Rattle.std.specs.Prelude.{◌≡◌, IfOk, false};
 ghost use Rattle.clap.specs.Words.{app_of, rule_of};
-ghost use Rattle.oz_words.specs.Command.{AreActions, oz_app, option_rule, action_rule, steps_values};
+ghost use Rattle.oz_words.specs.Command.{AreActions, oz_app, option_rule, action_rule, numbers_from};
 ghost use Rattle.oz_words.specs.Parsed.{TakesWordsOfOz};
 
 use clap::builder::ValueParser;
@@ -34,10 +34,11 @@ fn action_of<'a>(alloc: Global, names: &'a [&'a str]) -> Arg<'a>
         .default_value("run")
 }
 
-fn steps_parser<'a>() -> ValueParser<'a>
-    ensures { result ≡ steps_values }
+// The numbers from the least to the most.
+fn numbers<'a>(least: u32, most: u32) -> ValueParser<'a>
+    ensures { result ≡ numbers_from least most }
 {
-    value_parser!(u64).range(1..=1_000_000_000)
+    value_parser!(u64).range(i64::from(least)..=i64::from(most))
 }
 
 // The names of the actions, at the lifetime that the caller wants.
@@ -47,9 +48,13 @@ fn action_names<'a>() -> &'a [&'a str]
     ACTIONS.as_slice()
 }
 
-/// The command that takes `oz [--steps N] [run|central]`:
+/// The command that takes `oz [--sites N] [--steps N] [--messages N] [run|central]`:
 ///
-/// - `--steps N`, the most steps of a run, from 1 to 1,000,000,000; 1,000,000 where it is left out;
+/// - `--sites N`, the number of sites of a run, from 1 to 64; 4 where it is left out;
+/// - `--steps N`, the most steps of a site, or of the centralised machine, from 1 to 1,000,000,000; 1,000,000 where it is
+///   left out;
+/// - `--messages N`, the most messages that sites send to each other, from 0 to 4,000,000,000; 1,000,000 where it is left
+///   out;
 /// - `run` or `central`, what to do with the text; `run` where it is left out.
 ///
 /// Each is given at most once, and there is neither `--help` nor `--version`. The command borrows constants alone, so it
@@ -58,11 +63,15 @@ pub fn command<'a>(alloc: Global) -> Result<Command<'a>, AllocError>
     ensures app { (names : _) × AreActions names.now × IfOk result (λ c. app_of c ≡ oz_app names) }
     ensures words { IfOk result (λ c. TakesWordsOfOz (app_of c)) }
 {
-    let steps = option_of(alloc, "steps", steps_parser(), "1000000");
+    let sites = option_of(alloc, "sites", numbers(1, 64), "4");
+    let steps = option_of(alloc, "steps", numbers(1, 1_000_000_000), "1000000");
+    let messages = option_of(alloc, "messages", numbers(0, 4_000_000_000), "1000000");
     let action = action_of(alloc, action_names());
     Command::new(alloc, "oz")
         .disable_help_flag(true)
         .disable_version_flag(true)
+        .arg(sites)?
         .arg(steps)?
+        .arg(messages)?
         .arg(action)
 }

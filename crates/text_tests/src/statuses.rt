@@ -7,7 +7,7 @@ use std::test::Fail;
 use tree_node::Line;
 
 // A status, its number, its last line, and the piece that takes no memory, where it has one.
-static STATUSES: [(Status, u8, &str, Option<&str>); 15] = [
+static STATUSES: [(Status, u8, &str, Option<&str>); 17] = [
     (
         Status::Quiescent {
             ended: 5,
@@ -85,6 +85,13 @@ static STATUSES: [(Status, u8, &str, Option<&str>); 15] = [
         Some("refused text too long\n"),
     ),
     (Status::StepLimit(1), 4, "stopped steps site=1", None),
+    (Status::StepLimit(64), 4, "stopped steps site=64", None),
+    (
+        Status::MessageLimit,
+        5,
+        "stopped messages",
+        Some("stopped messages\n"),
+    ),
     (Status::ReadFault, 6, "read fault", Some("read fault\n")),
     (Status::WriteFault, 7, "", None),
     (Status::Memory, 8, "out of memory", Some("out of memory\n")),

@@ -1,4 +1,5 @@
 use Rattle.std.proofs.Common.{ap}
+use Rattle.oz_runner.specs.Ends.{lines_of}
 use Rattle.oz_runner.specs.Seen.{stream_of}
 use Rattle.oz_runner.proofs.CauseLemmas.{headline}
 use Rattle.oz_runner.proofs.CompleteLemmas.{complete}
@@ -9,8 +10,8 @@ returns-clause-headline g c =
     let work = c.do_work-work in
     let told = c.told.ensures in
     let sink = stream_of g.K.Sink.taken g.K.Sink.faults c.args.sink.now c.told.new.sink in (
-      work.result.lines.items,
-      headline _ _ _ _ _ _ (ap (λ v. v.items) told.schedule) (work.ensures.cause sink) work.ensures.line told.written.1 told.written.2,
+      lines_of work.result.printed,
+      headline _ _ _ _ _ _ _ told.journal (ap (λ v. v.items) told.schedule) (work.ensures.cause sink) work.ensures.line told.written.1 told.written.2,
     )
 
 pub returns-clause-complete : goal.returns-clause-complete

@@ -1,0 +1,54 @@
+-- What a run of the centralised machine comes to, by what it left.
+use Rattle.std.proofs.Common.{◌≡◌, sym, subst, refl, List, []}
+use Rattle.tree_node.specs.Classes.{HasOneEach}
+use Rattle.tree_node.specs.State.{State}
+use Rattle.kernel_syntax.specs.declared.stmt.Stmt.{Stmt}
+use Rattle.site_message.specs.declared.outcome.Reason.{Reason}
+use Rattle.site_message.specs.declared.outcome.Reason.TheVariants as reason
+use Rattle.central_machine.specs.Ran.{EndsAt, HasReason}
+use Rattle.central_machine.specs.declared.run.Ran.{Ran}
+use Rattle.central_machine.specs.declared.run.Reason as stop
+use Rattle.central_machine.specs.declared.run.Reason.TheVariants as stops
+use Rattle.oz_words.specs.declared.options.Action.{Action}
+use Rattle.oz_words.specs.declared.options.Action.TheVariants as action
+use Rattle.oz_words.specs.declared.options.Options.{Options}
+use Rattle.oz_runner.specs.Seen.{Made, made_of}
+use Rattle.oz_runner.specs.Run.{AreSilent, CameTo, EndsFor, HasEnded, IsMadeBy, IsRun}
+use Rattle.oz_runner.specs.Machine.{status_after}
+
+module _ (p : List Stmt) (options : Options) (s : State) (left : Ran) (is : options.action ≡ action.Central) (ends : EndsAt p options.steps s left) where
+  abbrev by_machine : Made
+  by_machine = made_of [] left.picks.items left.lines.items
+
+  machine_run : HasOneEach s.equations → IsRun p options by_machine s
+  machine_run once = record {
+    made_by = subst (λ (a : Action). IsMadeBy a p options by_machine) (sym is) (refl, ends.most);
+    run = ends.run;
+    lines = ends.lines;
+    once = once;
+  }
+
+  machine_end : (why : Reason) → HasOneEach s.equations → EndsFor action.Central p options by_machine s why → HasEnded p options by_machine why s
+  machine_end why once how = record {
+    run = machine_run once;
+    ends = subst (λ (a : Action). EndsFor a p options by_machine s why) (sym is) how;
+  }
+
+  came_for : (why : stop.Reason) → HasReason p options.steps s left why → CameTo p options by_machine (status_after why left.ended left.waiting)
+  came_for stops.Quiet (tells, rest) = (
+    s,
+    machine_end reason.Quiet tells.once rest,
+    record {
+      silent = subst (λ (a : Action). AreSilent a options by_machine) (sym is) tt;
+      rest = rest;
+      ended = tells.ended;
+      waiting = tells.waiting;
+    },
+  )
+  came_for stops.Steps (tells, all, goes_on) = (s, machine_end (reason.Steps 1) tells.once (refl, all, goes_on))
+  came_for stops.Memory once = (s, machine_run once)
+
+-- a run of the machine comes to the status of its reason
+pub machine_came : (p : List Stmt) (options : Options) (s : State) (left : Ran) → options.action ≡ action.Central → EndsAt p options.steps s left
+    → CameTo p options (made_of [] left.picks.items left.lines.items) (status_after left.reason left.ended left.waiting)
+machine_came p options s left is ends = came_for p options s left is ends left.reason ends.reason

@@ -1,0 +1,134 @@
+-- What a run over sites comes to, by what it left.
+use Rattle.std.proofs.Common.{◌≡◌, ◌∙◌, sym, subst, refl, not, ℕ, List, [], ◌∷◌, length, Bool, true, false, Some, None, inl, inr}
+use Rattle.std.specs.Prelude.{◌&&◌, nat_lt, nat_le, if◌then◌else◌}
+use Rattle.tree_node.specs.State.{State}
+use Rattle.tree_node.specs.declared.pick.Pick.{Pick}
+use Rattle.oz_model.specs.Run.{Run}
+use Rattle.kernel_syntax.specs.declared.stmt.Stmt.{Stmt}
+use Rattle.site_message.specs.declared.outcome.Reason.{Reason}
+use Rattle.site_message.specs.declared.outcome.Reason.TheVariants as reason
+use Rattle.site_message.specs.declared.turn.Turn.{Turn}
+use Rattle.site_message.specs.Journal as journal
+use Rattle.site_message.specs.Journal.{are_idle, end_of, is_empty, is_quiet, sent_of, travelling}
+use Rattle.site_message.specs.Rows.{QuietTells}
+use Rattle.site_model.specs.Site.{Site}
+use Rattle.world_model.specs.Simulated.{IsSimulated, last_ended, last_waiting}
+use Rattle.plain_run.specs.Going.{HasReason}
+use Rattle.plain_run.specs.Simulated.{HasMachineRun}
+use Rattle.plain_run.specs.declared.out.Limits.{Limits}
+use Rattle.plain_run.specs.declared.out.RunOut.{RunOut}
+use Rattle.oz_words.specs.declared.options.Action.{Action}
+use Rattle.oz_words.specs.declared.options.Action.TheVariants as action
+use Rattle.oz_words.specs.declared.options.Options.{Options}
+use Rattle.oz_show.specs.Status.{HasLine}
+use Rattle.oz_show.specs.declared.status.Status.{Status}
+use Rattle.oz_show.specs.declared.status.Status.TheVariants.{Quiescent, Usage, Refused, NotUtf8, TooLong, StepLimit, MessageLimit, ReadFault, WriteFault, Memory}
+use Rattle.oz_runner.specs.Seen.{Made, made_of}
+use Rattle.oz_runner.specs.Run.{AreSilent, CameTo, EndsFor, HasEnded, IsMadeBy, IsQuiet, IsRun, limits_of}
+use Rattle.oz_runner.specs.Ends.{status_of}
+use Rattle.world_model.specs.Schedule.{lines_in, schedule, sum_to}
+
+-- ---- the end of a journal
+
+chosen_quiet : (a b c : Bool) (site : ℕ)
+    → (if a then Some reason.Messages else if b then Some (reason.Steps site) else if c then Some reason.Quiet else None) ≡ Some reason.Quiet
+    → c ≡ true
+chosen_quiet true b c site e = cc
+chosen_quiet false true c site e = cc
+chosen_quiet false false true site e = refl
+chosen_quiet false false false site e = cc
+
+-- a journal that ends quiet is quiet
+quiet_end : (l : journal.Limits) (j : List Turn) → end_of l j ≡ Some reason.Quiet → is_quiet l.sites j ≡ true
+quiet_end l [] is = cc
+quiet_end l (e ∷ j) is =
+    chosen_quiet (nat_lt l.messages (length (sent_of (e ∷ j)))) (nat_le l.steps e.steps && not e.idle) (is_quiet l.sites (e ∷ j)) e.site is
+
+none_of : {X : Type 0} (xs : List X) (b : Bool) → (is_empty xs && b) ≡ true → xs ≡ []
+none_of [] b e = refl
+none_of (x ∷ xs) b e = cc
+
+-- ---- the sites
+
+-- the limits that the sites are given
+abbrev pub plain_limits : Options → Limits
+plain_limits options = record { sites = options.sites; steps = options.steps; messages = options.messages }
+
+-- what a run over sites left
+pub record Leaves (p : List Stmt) (options : Options) (out : RunOut) : Type 0 where
+  pub run : HasMachineRun p options.sites out.journal
+  pub picks : out.schedule.items ≡ schedule out.journal
+  pub reason : HasReason (plain_limits options) out.journal out.reason
+  pub ended : out.ended ≡ sum_to options.sites (last_ended out.journal)
+  pub waiting : out.waiting ≡ sum_to options.sites (last_waiting out.journal)
+
+module _ (p : List Stmt) (options : Options) (out : RunOut) (is : options.action ≡ action.Run) (tells : QuietTells) (left : Leaves p options out) where
+  abbrev states : ℕ → Site
+  states = left.run.0
+
+  abbrev s : State
+  s = left.run.2.0
+
+  abbrev simulated : IsSimulated p options.sites out.journal states s
+  simulated = left.run.2.1
+
+  abbrev by_sites : Made
+  by_sites = made_of out.journal out.schedule.items (lines_in out.journal)
+
+  sites_run : IsRun p options by_sites s
+  sites_run = record {
+    made_by = subst (λ (a : Action). IsMadeBy a p options by_sites) (sym is) (states, left.run.1, left.picks);
+    run = subst (λ (picks : List Pick). Run p picks s) (sym left.picks) simulated.run;
+    lines = sym simulated.matches.lines;
+    once = simulated.once;
+  }
+
+  abbrev Ends : Reason → Type 0
+  Ends why = end_of (limits_of options) out.journal ≡ Some why
+
+  sites_end : (why : Reason) → Ends why → HasEnded p options by_sites why s
+  sites_end why ends = record {
+    run = sites_run;
+    ends = subst (λ (a : Action). EndsFor a p options by_sites s why) (sym is) ends;
+  }
+
+  sites_quiet : Ends reason.Quiet → IsQuiet p options by_sites s out.ended out.waiting
+  sites_quiet ends =
+      let quiet = quiet_end (limits_of options) out.journal ends in
+      let told = simulated.told quiet in
+      record {
+        silent = subst (λ (a : Action). AreSilent a options by_sites) (sym is)
+            (none_of (travelling out.journal) (are_idle options.sites out.journal) quiet, ((tells options.sites out.journal).0 quiet).1);
+        rest = (simulated.quiet quiet).rest;
+        ended = left.ended ∙ sym told.ended;
+        waiting = left.waiting ∙ sym told.living;
+      }
+
+  by_reason : (why : Reason) → HasReason (plain_limits options) out.journal why → CameTo p options by_sites (status_of why out.ended out.waiting)
+  by_reason reason.Quiet (inl ends) = (s, sites_end reason.Quiet ends, sites_quiet ends)
+  by_reason reason.Quiet (inr memory) = cc memory.0
+  by_reason (reason.Steps site) (inl ends) = (s, sites_end (reason.Steps site) ends)
+  by_reason (reason.Steps site) (inr memory) = cc memory.0
+  by_reason reason.Messages (inl ends) = (s, sites_end reason.Messages ends)
+  by_reason reason.Messages (inr memory) = cc memory.0
+  by_reason reason.Memory how = (s, sites_run)
+
+-- a run over sites comes to the status of its reason
+pub sites_came : (p : List Stmt) (options : Options) (out : RunOut) → options.action ≡ action.Run → QuietTells → Leaves p options out
+    → CameTo p options (made_of out.journal out.schedule.items (lines_in out.journal)) (status_of out.reason out.ended out.waiting)
+sites_came p options out is tells left = by_reason p options out is tells left out.reason left.reason
+
+-- ---- the status
+
+-- each status that a run comes to has an end line
+pub came_line : (p : List Stmt) (options : Options) (made : Made) (status : Status) → CameTo p options made status → HasLine status
+came_line p options made WriteFault came = absurd came
+came_line p options made (Quiescent ended waiting) came = tt
+came_line p options made Usage came = tt
+came_line p options made (Refused fault) came = tt
+came_line p options made (NotUtf8 at) came = tt
+came_line p options made TooLong came = tt
+came_line p options made (StepLimit site) came = tt
+came_line p options made MessageLimit came = tt
+came_line p options made ReadFault came = tt
+came_line p options made Memory came = tt

@@ -1,0 +1,72 @@
+-- What the run of a program comes to.
+use Rattle.std.specs.Prelude.{◌≡◌, ◌≤◌, ℕ, List, [], length, IsTrue, Some}
+use Rattle.tree_node.specs.Classes.{HasOneEach}
+use Rattle.tree_node.specs.State.{State}
+use Rattle.kernel_syntax.specs.declared.stmt.Stmt.{Stmt}
+use Rattle.oz_model.specs.Run.{Run, AtRest}
+use Rattle.site_message.specs.Journal.{Limits, end_of, is_idle, travelling}
+use Rattle.site_message.specs.declared.outcome.Reason.{Reason}
+use Rattle.site_message.specs.declared.outcome.Reason.TheVariants.{Quiet, Steps, Messages}
+use Rattle.site_model.specs.Bundle.{bundle_limit}
+use Rattle.site_model.specs.Site.{Site}
+use Rattle.site_model.specs.Run.{WorldRun}
+use Rattle.world_model.specs.Schedule.{schedule}
+use Rattle.oz_words.specs.declared.options.Action.{Action}
+use Rattle.oz_words.specs.declared.options.Action.TheVariants as action
+use Rattle.oz_words.specs.declared.options.Options.{Options}
+use Rattle.oz_show.specs.declared.status.Status.{Status}
+use Rattle.oz_show.specs.declared.status.Status.TheVariants.{Quiescent, StepLimit, MessageLimit, Memory}
+use Rattle.oz_runner.specs.Seen.{Made}
+
+-- the limits that the words set for the sites
+abbrev pub limits_of : Options → Limits
+limits_of options = record { sites = options.sites; steps = options.steps; messages = options.messages }
+
+-- `run` is made by the sites: the journal is one of the program on that many, and the schedule has its picks. `central` is made
+-- by the machine alone, without a journal and in at most as many steps as the words say
+abbrev pub IsMadeBy : Action → List Stmt → Options → Made → Type 0
+IsMadeBy action.Run p options made =
+    (sites : ℕ → Site) × WorldRun p options.sites bundle_limit made.journal sites × (made.schedule ≡ schedule made.journal)
+IsMadeBy action.Central p options made = (made.journal ≡ []) × (length made.schedule ≤ options.steps)
+
+-- The schedule leads the centralised machine from the start of the program to this state, whose lines these are and in which
+-- each variable has at most one equation
+pub record IsRun (p : List Stmt) (options : Options) (made : Made) (s : State) : Type 0 where
+  pub made_by : IsMadeBy options.action p options made
+  pub run : Run p made.schedule s
+  pub lines : made.lines ≡ s.lines
+  pub once : HasOneEach s.equations
+
+-- the sites' run ended for the reason that its journal tells; the machine's where it rests, or at its limit where it could go on
+abbrev pub EndsFor : Action → List Stmt → Options → Made → State → Reason → Type 0
+EndsFor action.Run p options made s reason = end_of (limits_of options) made.journal ≡ Some reason
+EndsFor action.Central p options made s Quiet = AtRest p s
+EndsFor action.Central p options made s (Steps site) = (site ≡ 1) × (length made.schedule ≡ options.steps) × (AtRest p s → ⊥)
+EndsFor action.Central p options made s _ = ⊥
+
+-- no message travels, and each site is idle by its last turn
+abbrev pub AreSilent : Action → Options → Made → Type 0
+AreSilent action.Run options made =
+    (travelling made.journal ≡ []) × ((i : ℕ) → 1 ≤ i → i ≤ options.sites → IsTrue (is_idle made.journal i))
+AreSilent action.Central options made = Unit {0}
+
+-- nothing goes on: the sites are silent, the machine has no step left, and so many of its threads have ended and so many wait
+pub record IsQuiet (p : List Stmt) (options : Options) (made : Made) (s : State) (told_ended told_waiting : ℕ) : Type 0 where
+  pub silent : AreSilent options.action options made
+  pub rest : AtRest p s
+  pub ended : told_ended ≡ s.ended
+  pub waiting : told_waiting ≡ length s.threads
+
+-- the run ended for this reason, in this state
+pub record HasEnded (p : List Stmt) (options : Options) (made : Made) (reason : Reason) (s : State) : Type 0 where
+  pub run : IsRun p options made s
+  pub ends : EndsFor options.action p options made s reason
+
+-- The run of the program came to this status. Want of memory may come at any point of it; the lines are then those of the
+-- schedule, as ever
+abbrev pub CameTo : List Stmt → Options → Made → Status → Type 0
+CameTo p options made (Quiescent ended waiting) = (s : State) × HasEnded p options made Quiet s × IsQuiet p options made s ended waiting
+CameTo p options made (StepLimit site) = (s : State) × HasEnded p options made (Steps site) s
+CameTo p options made MessageLimit = (s : State) × HasEnded p options made Messages s
+CameTo p options made Memory = (s : State) × IsRun p options made s
+CameTo p options made _ = ⊥

@@ -1,0 +1,39 @@
+//! The run of a program on the centralised machine.
+
+ghost use Rattle.std.specs.Prelude.{◌≡◌};
+ghost use Rattle.oz_words.specs.Words.{InRange};
+ghost use Rattle.oz_words.specs.declared.options.Action.TheVariants.{Central};
+ghost use Rattle.oz_runner.specs.Run.{CameTo};
+ghost use Rattle.oz_runner.specs.Ends.{made_by};
+ghost use Rattle.oz_runner.specs.Machine.{status_after};
+
+use crate::Status;
+use crate::work::{Printed, Work};
+use central_machine::{Reason, run_program};
+use kernel_syntax::Program;
+use oz_words::Options;
+use std::alloc::Global;
+
+/// Runs a program on the centralised machine.
+pub fn run_machine(alloc: Global, options: Options, program: &Program) -> Work
+    requires { InRange options }
+    ensures { options.action ≡ Central → CameTo program.now options (made_by result) result.status }
+{
+    let ran = run_program(alloc, program, options.steps);
+    Work {
+        status: status_after(ran.reason, ran.ended, ran.waiting),
+        schedule: ran.picks,
+        printed: Printed::Machine(ran.lines),
+    }
+}
+
+// The status of a run that stopped for this reason. The machine is site 1.
+fn status_after(reason: Reason, ended: u64, waiting: u64) -> Status
+    ensures { result ≡ status_after reason ended waiting }
+{
+    match reason {
+        Reason::Quiet => Status::Quiescent { ended, waiting },
+        Reason::Steps => Status::StepLimit(1),
+        Reason::Memory => Status::Memory,
+    }
+}

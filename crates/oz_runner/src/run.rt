@@ -1,0 +1,58 @@
+//! The run of a program: over its sites, or on the centralised machine.
+
+ghost use Rattle.std.specs.Prelude.{◌≡◌};
+ghost use Rattle.oz_words.specs.Words.{InRange};
+ghost use Rattle.oz_words.specs.declared.options.Action.TheVariants.{Run};
+ghost use Rattle.oz_runner.specs.Run.{CameTo};
+ghost use Rattle.oz_runner.specs.Ends.{status_of, made_by};
+
+use crate::Status;
+use crate::machine::run_machine;
+use crate::work::{Printed, Work};
+use kernel_syntax::Program;
+use oz_words::{Action, Options};
+use plain_run::{Limits, run_plain};
+use site_message::{Reason, quiet_tells};
+use std::alloc::Global;
+
+/// Runs a program, as the options say.
+pub fn run(alloc: Global, options: Options, program: &Program) -> Work
+    requires { InRange options }
+    ensures { CameTo program.now options (made_by result) result.status }
+{
+    match options.action {
+        Action::Run => run_sites(alloc, options, program),
+        Action::Central => run_machine(alloc, options, program),
+    }
+}
+
+// Runs a program over its sites.
+fn run_sites(alloc: Global, options: Options, program: &Program) -> Work
+    requires { InRange options }
+    ensures { options.action ≡ Run → CameTo program.now options (made_by result) result.status }
+{
+    let limits = Limits {
+        sites: options.sites,
+        steps: options.steps,
+        messages: options.messages,
+    };
+    let out = run_plain(alloc, program, limits);
+    quiet_tells();
+    Work {
+        status: status_of(out.reason, out.ended, out.waiting),
+        schedule: out.schedule,
+        printed: Printed::Sites(out.journal),
+    }
+}
+
+// The status of a run that ended for this reason.
+fn status_of(reason: Reason, ended: u64, waiting: u64) -> Status
+    ensures { result ≡ status_of reason ended waiting }
+{
+    match reason {
+        Reason::Quiet => Status::Quiescent { ended, waiting },
+        Reason::Steps(site) => Status::StepLimit(site),
+        Reason::Messages => Status::MessageLimit,
+        Reason::Memory => Status::Memory,
+    }
+}
