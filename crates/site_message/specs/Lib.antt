@@ -1,5 +1,6 @@
 pub mod Bundle
 pub mod Journal
+pub mod Progress
 pub mod Wire
 pub mod Story
 pub mod Rows
