@@ -104,6 +104,7 @@ take_kept l j sent bs r p b o k below t = let many = k.places in record {
   are_sites = k.are_sites;
   inboxes = inboxes_set l.sites j bs p b (omega arith) k.inboxes (take_inbox l.sites j p (inbox_at bs p) b o t (k.inboxes p below));
   reason = k.reason;
+  went = k.went;
 }
 
 -- the hands as the lock sees them

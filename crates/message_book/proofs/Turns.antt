@@ -35,6 +35,7 @@ kept_same l j sent bs cs r len same k = record {
   are_sites = k.are_sites;
   inboxes = λ i below. same_inbox l.sites j i (inbox_at bs i) (inbox_at cs i) (same i) (k.inboxes i below);
   reason = k.reason;
+  went = k.went;
 }
 
 pub shown_same : (l : Limits) (j : List Turn) (bs cs : List InboxState) (r : Option Reason) (v : BookState) → length cs ≡ length bs → ((i : ℕ) → HoldsSame (inbox_at bs i) (inbox_at cs i)) → state_of l j bs r ≡ v → state_of l j cs r ≡ v
@@ -60,6 +61,11 @@ few_sent l (e ∷ j) h = go (nat_lt l.messages (length (sent_of (e ∷ j)))) ref
     go : (t : Bool) → nat_lt l.messages (length (sent_of (e ∷ j))) ≡ t → length (sent_of (e ∷ j)) ≤ l.messages
     go true is = absurd (⊎_elim (λ (x : None ≡ end_of l (e ∷ j)). let y = x ∙ ap (λ b. cond b (Some Messages) (cond (nat_le l.steps e.steps && not e.idle) (Some (Steps e.site)) (cond (is_quiet l.sites (e ∷ j)) (Some Quiet) None))) is in cc) (λ (x : (None ≡ Some Memory) × (end_of l (e ∷ j) ≡ None)). let y = x.0 in cc) h)
     go false is = let h = ltb-false l.messages (length (sent_of (e ∷ j))) is in omega arith
+
+-- a journal goes on where there is no reason
+goes_on : (l : Limits) (j : List Turn) (r : Option Reason) → IsReason l j r → ((x : Reason) → r ≡ Some x → ⊥) → end_of l j ≡ None
+goes_on l j (Some x) is none = absurd (none x refl)
+goes_on l j None is none = ⊎_elim (λ (x : None ≡ end_of l j). sym x) (λ (x : (None ≡ Some Memory) × (end_of l j ≡ None)). x.1) is
 
 module _ (l : Limits) (j : List Turn) (sent : ℕ) (bs : List InboxState) (r : Option Reason) (kept : IsConsistent l j sent bs r) (e : Turn) (site : IsSiteOf l.sites e.site)
     (given : (k : ℕ) → e.delivered ≡ Some k → Contains (inbox_at bs e.site).hand k) where
@@ -133,8 +139,8 @@ module _ (l : Limits) (j : List Turn) (sent : ℕ) (bs : List InboxState) (r : O
           idle = idle_after i b.idle;
         }
 
-    pub kept_after : (n : ℕ) → n ≡ sent + length e.sent → IsConsistent l (e ∷ j) n cs (end_of l (e ∷ j))
-    kept_after n is = record {
+    pub kept_after : (n : ℕ) → n ≡ sent + length e.sent → ((x : Reason) → r ≡ Some x → ⊥) → IsConsistent l (e ∷ j) n cs (end_of l (e ∷ j))
+    kept_after n is none = record {
       sites = kept.sites;
       few_messages = kept.few_messages;
       step_range = kept.step_range;
@@ -144,6 +150,7 @@ module _ (l : Limits) (j : List Turn) (sent : ℕ) (bs : List InboxState) (r : O
       are_sites = (site, kept.are_sites);
       inboxes = inboxes_after;
       reason = inl refl;
+      went = (kept.went, goes_on l j r kept.reason none);
     }
 
     pub reason_after : (n : ℕ) (t : Option Reason) → n ≡ sent + length e.sent

@@ -7,6 +7,7 @@ use Rattle.site_message.specs.declared.turn.Turn.{Turn}
 use Rattle.site_message.specs.declared.outcome.Reason.{Reason}
 use Rattle.site_message.specs.declared.outcome.Reason.TheVariants.{Messages, Steps, Quiet}
 use Rattle.site_message.specs.Journal.{Limits, Wired, sent_of, travelling, is_idle}
+use Rattle.site_message.specs.Progress.{WentOn}
 use Rattle.message_book.specs.Inbox.{InboxState}
 use Rattle.message_book.specs.Book.{IsSiteOf, AreSites, IsReason, without}
 
@@ -59,6 +60,7 @@ pub record IsConsistent (l : Limits) (j : List Turn) (sent : ℕ) (bs : List Inb
   pub are_sites : AreSites l.sites j
   pub inboxes : AllHoldTravelling l.sites j bs
   pub reason : IsReason l j r
+  pub went : WentOn l j
 
 -- the new messages of a place: the copies of those sent, with their numbers from n on
 abbrev pub new_messages : ℕ → ℕ → List (ℕ × Msg) → List (ℕ × Msg)

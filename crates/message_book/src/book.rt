@@ -2,6 +2,7 @@
 
 ghost use Rattle.std.specs.Prelude.{◌≡◌, ◌≢◌, ◌⊎◌, ℕ, List, ◌+◌, ◌&&◌, not, nat_le, ◌↔◌, [], ◌∷◌, ◌++◌, ◌≤◌, ◌<◌, ◌^◌, Some, None, Err, IsTrue, Contains, IfOk, OnOk, OnErr, MatchOption, map, length, slice_set};
 ghost use Rattle.site_message.specs.Journal.{Wired, IsTravelling, sent_of, is_quiet, end_of};
+ghost use Rattle.site_message.specs.Progress.{WentOn};
 ghost use Rattle.site_message.specs.Story.{hand};
 ghost use Rattle.message_book.specs.Book.{IsSiteOf, AreSites, IsUntaken, IsReason, without, sight_of, first_reason};
 ghost use Rattle.message_book.specs.Inboxes.{IsNewInbox, IsQuietInbox, IsAfterTurn, HasRoom, AllHoldTravelling, reason_by, addressed, inbox_at};
@@ -174,6 +175,7 @@ impl Book {
         ensures value { result.now ≡ self.now.journal }
         ensures wired { Wired self.now.journal }
         ensures sites { AreSites self.now.limits.sites self.now.journal }
+        ensures went { WentOn self.now.limits self.now.journal }
     {
         &self.journal
     }
@@ -183,6 +185,7 @@ impl Book {
         ensures value { result ≡ self.journal }
         ensures wired { Wired self.journal }
         ensures sites { AreSites self.limits.sites self.journal }
+        ensures went { WentOn self.limits self.journal }
     {
         self.journal
     }

@@ -75,7 +75,7 @@ unfolding limits_of
 invariant_of-self-2 c =
     let l = limits_of c in
     let k = kept_of c in
-    let after = kept_after l _ _ c.prepare.new.inboxes.items _ k c.args.turn (site_of c) (given_of c) c.apply_turn.new.inboxes.items (settled_of c) _ (count_of c) in
+    let after = kept_after l _ _ c.prepare.new.inboxes.items _ k c.args.turn (site_of c) (given_of c) c.apply_turn.new.inboxes.items (settled_of c) _ (count_of c) c.in_default.not-Some in
     rw (pushed c, ended c) after
 
 pub returns-clause-reason : goal.returns-clause-reason
