@@ -75,7 +75,7 @@ quiet_then i low cap P start base d f h g = let k : Quiet i low cap P start base
 
 module _ (p : List Stmt) (n limit : ℕ) where
   -- a thread born is new
-  abbrev NewBirth : ℕ → Counters → Counters → Option Birth → Type 0
+  abbrev pub NewBirth : ℕ → Counters → Counters → Option Birth → Type 0
   NewBirth k old new None = Unit {0}
   NewBirth k old new (Some b) = (b.name.site ≡ k) × (old.threads ≤ b.name.num) × (b.name.num < new.threads)
 
@@ -118,29 +118,29 @@ module _ (p : List Stmt) (n limit : ℕ) where
       go (goal.Opened m n fs) = refl
       go goal.Failed = fails_none FailureTell rest (vars_among fresh)
 
-  stack_new : (k : ℕ) (c : Counters) (s : Store) (st : Stack) (kinds : List NameKind) → stack_need p s st ≡ Takes kinds → NewBirth k c (counters_after c kinds) (stack_effect p s (next_names k c kinds) None st).born
+  pub stack_new : (k : ℕ) (c : Counters) (s : Store) (st : Stack) (kinds : List NameKind) → stack_need p s st ≡ Takes kinds → NewBirth k c (counters_after c kinds) (stack_effect p s (next_names k c kinds) None st).born
   stack_new k c s [] kinds e = tt
   stack_new k c s (item.Run code env ∷ rest) kinds e = outcome_new k c env rest (outcome_of p s code env (stmt_at p code)) kinds e
   stack_new k c s (item.Goals b ∷ rest) kinds e = no_birth k c (counters_after c kinds) _ (goal_none s b.met rest (next_names k c kinds) b.pairs)
   stack_new k c s (item.Mark code at env ∷ rest) kinds e = tt
   stack_new k c s (item.Report x ∷ rest) kinds e = outcome_new k c [] rest (prints_outcome (codes "uncaught ") (shown s x)) kinds e
 
-  more_threads : (c : Counters) (kinds : List NameKind) → c.threads ≤ (counters_after c kinds).threads
+  pub more_threads : (c : Counters) (kinds : List NameKind) → c.threads ≤ (counters_after c kinds).threads
   more_threads c [] = omega arith
   more_threads c (kind.Var ∷ ks) = more_threads (counter_after c kind.Var) ks
   more_threads c (kind.Cell ∷ ks) = more_threads (counter_after c kind.Cell) ks
   more_threads c (kind.Proc ∷ ks) = more_threads (counter_after c kind.Proc) ks
   more_threads c (kind.Thread ∷ ks) = omega (arith, more_threads (counter_after c kind.Thread) ks)
 
-  runs_stay : (es : List Equation) (s : Site) (th : ThreadName) (st : Stack) → thread_state s th ≡ Some (st, Runs) → thread_state (own_binds limit es s).site th ≡ Some (st, Runs)
+  pub runs_stay : (es : List Equation) (s : Site) (th : ThreadName) (st : Stack) → thread_state s th ≡ Some (st, Runs) → thread_state (own_binds limit es s).site th ≡ Some (st, Runs)
   runs_stay [] s th st e = e
   runs_stay (q ∷ es) s th st e = woken_new q.0 (own_binds limit es s).site.threads th st Runs (runs_stay es s th st e)
 
-  made_stay : (es : List Equation) (s : Site) → (own_binds limit es s).site.counters ≡ s.counters
+  pub made_stay : (es : List Equation) (s : Site) → (own_binds limit es s).site.counters ≡ s.counters
   made_stay [] s = refl
   made_stay (q ∷ es) s = made_stay es s
 
-  cell_threads : (c : CellChange) (s : Site) → ((after_cell c s).threads ≡ s.threads) × ((after_cell c s).equations ≡ s.equations) × ((after_cell c s).counters ≡ s.counters)
+  pub cell_threads : (c : CellChange) (s : Site) → ((after_cell c s).threads ≡ s.threads) × ((after_cell c s).equations ≡ s.equations) × ((after_cell c s).counters ≡ s.counters)
   cell_threads Stays s = (refl, refl, refl)
   cell_threads (Made c v) s = (refl, refl, refl)
   cell_threads (Exchanged c new told) s = (refl, refl, refl)

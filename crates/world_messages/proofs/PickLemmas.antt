@@ -127,9 +127,9 @@ picks_then i a b c ks ls o u h g = record {
     by x own (inr k) = inr (later x (inr k))
 
 -- nothing is made, and no thread is sent
-record Still (s : Site) (d : Transition) : Type 0 where
-  counters : d.site.counters ≡ s.counters
-  sent : spawned d.sent ≡ 0
+pub record Still (s : Site) (d : Transition) : Type 0 where
+  pub counters : d.site.counters ≡ s.counters
+  pub sent : spawned d.sent ≡ 0
 
 still_same : (s : Site) → Still s (without_output s)
 still_same s = record { counters = refl; sent = refl }
@@ -196,7 +196,7 @@ module _ (p : List Stmt) (n limit : ℕ) where
   opens_still : (m : Msg) (s : Site) → Still s (opening m s)
   opens_still m s = record { counters = told_all_made (message_bundle m) s; sent = meets_still (message_vars m) (with_known_equations s (message_bundle m)).records }
 
-  binds_each_still : (es : List Equation) (s : Site) → Still s (own_binds limit es s)
+  pub binds_each_still : (es : List Equation) (s : Site) → Still s (own_binds limit es s)
   binds_each_still [] s = still_same s
   binds_each_still (e ∷ es) s = still_then s (own_binds limit es s) (own_bind limit e.0 e.1) (binds_each_still es s) (record { counters = refl; sent = no_spawns ((e.0, e.1) ∷ (own_binds limit es s).site.equations) e.0 e.1 (sites_of (owner_of (own_binds limit es s).site.records.owners e.0)) })
 
@@ -229,7 +229,7 @@ module _ (p : List Stmt) (n limit : ℕ) where
       let ih : Still (after_exchange p m v s) (serving p c ns (content_after_exchange p m v s) (after_exchange p m v s)) = serves_still c ns (content_after_exchange p m v s) (after_exchange p m v s) in
       record { counters = ih.counters ∙ exchanges_made c m v s; sent = ih.sent }
 
-  asks_still : (c : CellName) (new : VarName) (th : ThreadName) (st : Stack) (s : Site) → Still s (request_row limit c new th st s)
+  pub asks_still : (c : CellName) (new : VarName) (th : ThreadName) (st : Stack) (s : Site) → Still s (request_row limit c new th st s)
   asks_still c new th st s = record { counters = (request_only limit c new th st s).counters; sent = letters_still c (request_row limit c new th st s).site.equations (exchange_reply c.site (last_before s c) s.records.site new (cell_record s c).held).sent }
 
   asked_still : (x : VarName) (t : Term) (th : ThreadName) (s : Site) → Still s (bind_request_row limit x t th s)
@@ -254,7 +254,7 @@ module _ (p : List Stmt) (n limit : ℕ) where
   takes_still (msg.Forward c k) s = forward_still c k s
   takes_still (msg.Put c v bundle) s = still_then s (serving p c (cell_record s c).queue v s) (leave_row limit c) (serves_still c (cell_record s c).queue v s) (leave_still c (serving p c (cell_record s c).queue v s).site)
 
-  heard_still : (m : Option Msg) (s : Site) (d : Transition) → IsReception p n limit m s d → Still s d
+  pub heard_still : (m : Option Msg) (s : Site) (d : Transition) → IsReception p n limit m s d → Still s d
   heard_still None s d h = subst (Still s) (sym h) (still_same s)
   heard_still (Some m) s d (inl h) = subst (Still s) (sym h.1) (still_then s (opening m s) (message_row p limit m) (opens_still m s) (takes_still m (opening m s).site))
   heard_still (Some m) s d (inr h) = subst (Still s) (sym h.1) (still_same s)

@@ -1,0 +1,4 @@
+pub mod PartLemmas
+pub mod HeardLemmas
+pub mod UnitLemmas
+pub mod PlaceLemmas
