@@ -1,3 +1,5 @@
 pub mod ProgressLemmas
+pub mod ReachLemmas
+pub mod SpawnLemmas
 pub mod StepLemmas
 pub mod TotalsLemmas

@@ -7,6 +7,7 @@ use Rattle.kernel_syntax.specs.declared.stmt.Stmt.{Stmt}
 use Rattle.site_message.specs.declared.message.Sent.{Sent}
 use Rattle.site_message.specs.declared.turn.Turn.{Turn}
 use Rattle.site_message.specs.Journal.{Wired, IsTravelling, sent_of, travelling, deliveries, delivers}
+use Rattle.site_message.specs.Progress.{WentOn}
 use Rattle.site_message.proofs.JournalLemmas.{travelling_tells}
 use Rattle.site_message.proofs.TravelLemmas.{messages_add_up}
 use Rattle.site_model.specs.Bundle.{bundle_limit}
@@ -20,7 +21,7 @@ use Rattle.world_core.specs.Travels.{IsNumberAt}
 use Rattle.world_core.specs.World.{WorldState, IsWorldTurn, states_of}
 use Rattle.plain_run.specs.declared.out.Limits.{Limits}
 use Rattle.plain_run.specs.Counts.{runnable_count}
-use Rattle.plain_run.specs.Going.{IsGoing, IsMade, IsAtEase, IsBusy, Progresses, left, steps_left}
+use Rattle.plain_run.specs.Going.{IsGoing, IsMade, IsAtEase, IsBusy, Progresses, left, limits_of, steps_left}
 use Rattle.plain_run.proofs.StepLemmas.{turn_steps, turn_goes_on}
 
 pub on_ok : {A E : Type 0} (r : Result A E) (P : Type 0) → is_err r ≡ false → OnOk r P → P
@@ -115,6 +116,7 @@ module _ (l : Limits) (p : List Stmt) (old new : WorldState) (site quantum : ℕ
     run = run;
     within = λ i. by i (either_site i);
     idle = λ i other full. idle i (t.others i (λ (e : i ≡ site). other (t.site_is ∙ sym e))) full;
+    went = subst (WentOn (limits_of l)) (sym t.journal) (going.went, going.goes_on);
   }
     where
       by : (i : ℕ) → (i ≡ site) ⊎ (i ≢ site) → (states_of new i).steps ≤ l.steps
@@ -219,9 +221,9 @@ pub some_for : (ts : List Travel) (site : ℕ) (place : Option ℕ) → MatchOpt
 some_for ts site None h e none = cc
 some_for ts site (Some q) (number, at, least) e none = none (record { number = number; to = site }) (at_contains ts (record { number = number; to = site }) q at) refl
 
-pub none_for : (ts : List Travel) (site : ℕ) (place : Option ℕ) → MatchOption place (IsNoneFor ts site) (λ q. IsFirstFor ts site q) → is_some place ≡ false → IsNoneFor ts site
-none_for ts site None h e = h
-none_for ts site (Some q) h e = cc
+pub is_none : (place : Option ℕ) → is_some place ≡ false → place ≡ None
+is_none None e = refl
+is_none (Some q) e = cc
 
 -- the sites behind the last one, and then the others
 pub rounds : (w : WorldState) (last sites : ℕ) (r : Option ℕ) → last ≤ sites → ((i : ℕ) → last + 1 ≤ i → i < sites + 1 → IsAtEase w i) → MatchOption r ((i : ℕ) → 1 ≤ i → i < last + 1 → IsAtEase w i) (λ i. (1 ≤ i) × (i < last + 1) × IsBusy w i) →

@@ -6,11 +6,13 @@ use Rattle.site_message.specs.declared.outcome.Reason.{Reason}
 use Rattle.site_message.specs.declared.outcome.Reason.TheVariants.{Memory}
 use Rattle.site_message.specs.Journal as journal
 use Rattle.site_message.specs.Journal.{sent_of, deliveries, end_of, is_quiet}
+use Rattle.site_message.specs.Progress.{WentOn}
 use Rattle.site_model.specs.Bundle.{bundle_limit}
 use Rattle.site_model.specs.Site.{is_idle}
 use Rattle.site_model.specs.Run.{WorldRun}
 use Rattle.world_model.specs.Schedule.{sum_to}
 use Rattle.world_mail.specs.Travels.{IsNoneFor}
+use Rattle.world_core.specs.Travels.{IsNothingFor}
 use Rattle.world_core.specs.World.{WorldState, states_of}
 use Rattle.plain_run.specs.declared.out.Limits.{Limits}
 use Rattle.plain_run.specs.Counts.{runnable_count}
@@ -35,7 +37,7 @@ HasReason l j r = (end_of (limits_of l) j ≡ Some r) ⊎ ((r ≡ Memory) × (en
 
 -- the site has no message and cannot go on
 abbrev pub IsAtEase : WorldState → ℕ → Type 0
-IsAtEase w i = (is_idle (states_of w i) ≡ true) × IsNoneFor w.travels i
+IsAtEase w i = (is_idle (states_of w i) ≡ true) × IsNothingFor w.journal i
 
 -- the site has a message or can go on
 abbrev pub IsBusy : WorldState → ℕ → Type 0
@@ -44,7 +46,7 @@ IsBusy w i = (is_idle (states_of w i) ≡ false) ⊎ (IsNoneFor w.travels i → 
 -- ---- runs that go on
 
 -- no limit is reached: no site that can go on is at its limit of own steps, no more messages were sent than the limit, and the
--- journal has no end
+-- journal has no end and had none before
 pub record IsGoing (l : Limits) (p : List Stmt) (w : WorldState) : Type 0 where
   pub program : w.program ≡ p
   pub sites : w.sites ≡ l.sites
@@ -54,6 +56,7 @@ pub record IsGoing (l : Limits) (p : List Stmt) (w : WorldState) : Type 0 where
   pub idle : (i : ℕ) → (states_of w i).steps ≡ l.steps → is_idle (states_of w i) ≡ true
   pub few : length (sent_of w.journal) ≤ l.messages
   pub goes_on : end_of (limits_of l) w.journal ≡ None
+  pub went : WentOn (limits_of l) w.journal
 
 -- the own steps and the deliveries that are left
 abbrev pub steps_left : Limits → WorldState → ℕ → ℕ
@@ -81,6 +84,7 @@ pub record IsMade (l : Limits) (p : List Stmt) (old new : WorldState) (site : �
   pub run : WorldRun new.program new.sites bundle_limit new.journal (states_of new)
   pub within : (i : ℕ) → (states_of new i).steps ≤ l.steps
   pub idle : (i : ℕ) → (entry.site ≡ i → ⊥) → (states_of new i).steps ≡ l.steps → is_idle (states_of new i) ≡ true
+  pub went : WentOn (limits_of l) new.journal
 
 -- a turn that takes a message or makes an own step leaves fewer of them; after another one fewer threads can go on
 abbrev pub Progresses : Limits → WorldState → WorldState → Bool → Type 0

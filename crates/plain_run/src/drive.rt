@@ -2,8 +2,10 @@
 
 ghost use Rattle.std.specs.Prelude.{◌≡◌, ◌+◌, ◌<◌, ◌≤◌, ℕ, List, false, None, Some, Err, IfOk, IfErr, OnErr, MatchResult, MatchOption};
 ghost use Rattle.kernel_syntax.specs.declared.stmt.Stmt.{Stmt};
+ghost use Rattle.kernel_syntax.specs.Program.{IsProgram};
 ghost use Rattle.site_message.specs.declared.turn.Turn.{Turn};
 ghost use Rattle.site_message.specs.Journal.{end_of};
+ghost use Rattle.site_message.specs.Progress.{WentOn};
 ghost use Rattle.world_core.specs.World.{WorldState};
 ghost use Rattle.plain_run.specs.Going.{AreLimits, HasReason, IsBusy, IsGoing, IsMade, Progresses, left, limits_of};
 
@@ -59,17 +61,20 @@ fn end_after(world: &World<'_>, site: u32, limits: Limits) -> Option<Reason>
 // Turns up to the next one that takes a message or makes an own step, behind the site that went last: the site that made it,
 // or how the run ends before.
 fn advance(world: &mut World<'_>, last: u32, limits: Limits) -> Result<u32, Reason>
+    requires program { IsProgram world.old.program }
     requires limits { AreLimits limits }
     requires going { IsGoing limits world.old.program world.old }
     requires last { last ≤ limits.sites }
     ensures same { (world.new.program ≡ world.old.program) × (world.new.sites ≡ world.old.sites) }
     ensures ended { IfErr result (λ reason. HasReason limits world.new.journal reason) }
+    ensures went { WentOn (limits_of limits) world.new.journal }
     ensures on { IfOk result (λ site. (site ≤ limits.sites) × IsGoing limits world.old.program world.new × (left limits world.new < left limits world.old)) }
 {
     let mut last = last;
     loop {
         let Some(site) = next_busy(world, last, limits.sites) else {
-            return Err(Reason::Memory);
+            // The run would have ended.
+            unreachable!();
         };
         let Ok(progress) = take_turn(world, site, limits) else {
             return Err(Reason::Memory);
@@ -86,10 +91,12 @@ fn advance(world: &mut World<'_>, last: u32, limits: Limits) -> Result<u32, Reas
 
 // Turns in rounds of sites 1 to the last, up to the end of the run.
 pub(crate) fn drive(world: &mut World<'_>, limits: Limits) -> Reason
+    requires program { IsProgram world.old.program }
     requires limits { AreLimits limits }
     requires going { IsGoing limits world.old.program world.old }
     ensures same { (world.new.program ≡ world.old.program) × (world.new.sites ≡ world.old.sites) }
     ensures reason { HasReason limits world.new.journal result }
+    ensures went { WentOn (limits_of limits) world.new.journal }
 {
     let mut last = limits.sites;
     loop {

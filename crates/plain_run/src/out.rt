@@ -12,6 +12,13 @@ pub struct Limits {
     pub messages: u64,
 }
 
+/// What the driver of a run leaves: the turns that were made, and why no more were.
+#[derive(Drop)]
+pub struct Driven {
+    pub journal: Journal,
+    pub reason: Reason,
+}
+
 /// How a run ended: the reason, how many threads ended and wait by what the sites told last, the turns made, and the picks by
 /// which the centralised machine makes the same run.
 #[derive(Drop)]

@@ -1,20 +1,20 @@
 //! The plain run.
 
-ghost use Rattle.std.specs.Prelude.{◌≡◌, []};
+ghost use Rattle.std.specs.Prelude.{◌≡◌};
 ghost use Rattle.world_model.specs.Schedule.{schedule, sum_to};
 ghost use Rattle.world_model.specs.Simulated.{last_ended, last_waiting};
-ghost use Rattle.site_message.specs.declared.outcome.Reason.TheVariants.{Memory};
+ghost use Rattle.site_message.specs.Progress.{WentOn};
 ghost use Rattle.world_core.specs.Laws.{HasRun, AreMessagesFew};
-ghost use Rattle.plain_run.specs.Going.{AreLimits, HasReason};
+ghost use Rattle.plain_run.specs.Going.{AreLimits, HasReason, limits_of};
 ghost use Rattle.plain_run.specs.Simulated.{HasMachineRun};
 
 use crate::drive::drive;
-use crate::out::{Limits, RunOut};
-use crate::totals::last_totals;
+use crate::finish::finish_run;
+use crate::out::{Driven, Limits, RunOut};
 use kernel_syntax::Program;
 use site_message::{Journal, Reason};
 use std::alloc::Global;
-use world_core::{World, schedule};
+use world_core::World;
 
 /// Runs the program on sites 1 to the last, in rounds: each site takes its message with the lowest number, if there is one, and
 /// then its threads go, first come first served, for at most 64 units and never past the limit of own steps. A site that has
@@ -28,52 +28,32 @@ pub fn run_plain(alloc: Global, program: &Program, limits: Limits) -> RunOut
     ensures few { AreMessagesFew program.now limits.sites result.journal }
     ensures schedule { result.schedule.items ≡ schedule result.journal }
     ensures reason { HasReason limits result.journal result.reason }
+    ensures went { WentOn (limits_of limits) result.journal }
     ensures ended { result.ended ≡ sum_to limits.sites (last_ended result.journal) }
     ensures waiting { result.waiting ≡ sum_to limits.sites (last_waiting result.journal) }
 {
-    program.is_program();
-    let (journal, reason) = run_world(alloc, program, limits);
-    match schedule(alloc, &journal) {
-        Ok(picks) => {
-            let (ended, waiting) = last_totals(&journal, limits.sites);
-            RunOut {
-                reason,
-                ended,
-                waiting,
-                journal,
-                schedule: picks,
-            }
-        }
-        Err(_) => no_run(alloc),
-    }
+    finish_run(alloc, program, limits, run_world(alloc, program, limits))
 }
 
 // The turns of the run, and how it ended.
-fn run_world(alloc: Global, program: &Program, limits: Limits) -> (Journal, Reason)
+fn run_world(alloc: Global, program: &Program, limits: Limits) -> Driven
     requires { AreLimits limits }
-    ensures run { HasRun program.now limits.sites result.0 }
-    ensures reason { HasReason limits result.0 result.1 }
+    ensures run { HasRun program.now limits.sites result.journal }
+    ensures reason { HasReason limits result.journal result.reason }
+    ensures went { WentOn (limits_of limits) result.journal }
 {
+    program.is_program();
     match World::new(alloc, program, limits.sites) {
         Ok(mut world) => {
             let reason = drive(&mut world, limits);
-            (world.into_journal(), reason)
+            Driven {
+                journal: world.into_journal(),
+                reason,
+            }
         }
-        Err(_) => (Journal::new(alloc), Reason::Memory),
-    }
-}
-
-// No turns, where memory ran out.
-fn no_run(alloc: Global) -> RunOut
-    ensures reason { result.reason ≡ Memory }
-    ensures totals { (result.ended ≡ 0) × (result.waiting ≡ 0) }
-    ensures empty { (result.journal ≡ []) × (result.schedule.items ≡ []) }
-{
-    RunOut {
-        reason: Reason::Memory,
-        ended: 0,
-        waiting: 0,
-        journal: Journal::new(alloc),
-        schedule: Vec::new(alloc),
+        Err(_) => Driven {
+            journal: Journal::new(alloc),
+            reason: Reason::Memory,
+        },
     }
 }

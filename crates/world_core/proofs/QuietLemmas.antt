@@ -1,7 +1,9 @@
 -- When a world is quiet, and what it tells of its messages.
-use Rattle.std.proofs.Common.{rules, arith, ◌≡◌, ◌∙◌, sym, ap, refl, ℕ, zero, suc, ◌<◌, ◌≤◌, List, [], ◌∷◌, length, map, Bool, true, false, cond}
+use Rattle.std.proofs.Common.{rules, arith, ◌≡◌, ◌∙◌, sym, subst, ap, refl, ℕ, zero, suc, ◌<◌, ◌≤◌, List, [], ◌∷◌, length, map, Bool, true, false, cond}
 use Rattle.std.specs.Prelude.{Option, Some, None, ◌==◌, ◌↔◌, not, IsTrue, Contains, nat_eq, slice_get}
 use Rattle.std.specs.List.{IsDistinct}
+use Rattle.std.proofs.lemmas.Map.Entries.{place_from_lookup}
+use Rattle.tree_node.proofs.ClassLemmas.{Contains-head, Contains-tail}
 use Rattle.kernel_syntax.specs.declared.stmt.Stmt.{Stmt}
 use Rattle.std.proofs.lemmas.Option.{slice_get_within}
 use Rattle.site_message.specs.declared.message.Msg.{Msg}
@@ -17,8 +19,10 @@ use Rattle.site_model.specs.Run.{SiteRun, IsReachedBy, IsEntry}
 use Rattle.site_core.specs.Seated.{Seated}
 use Rattle.world_mail.specs.declared.travel.Travel.{Travel}
 use Rattle.world_mail.specs.Mail.{MailState, message_at}
+use Rattle.world_mail.specs.Travels.{travel_of, IsNoneFor}
+use Rattle.world_mail.proofs.MailLemmas.{travel_at}
 use Rattle.world_core.specs.Laws.{HasMachineAtRest}
-use Rattle.world_core.specs.Travels.{AreTravels}
+use Rattle.world_core.specs.Travels.{AreTravels, IsNothingFor}
 use Rattle.world_core.specs.World.{IsLive, IsConsistent, state_in, states_by}
 use Rattle.world_core.proofs.PlaceLemmas.{read_there, there}
 use Rattle.world_core.proofs.TravelLemmas.{travels_there, there_travels}
@@ -36,6 +40,11 @@ idle_as_told p n limit i (e ∷ j) s run = by (e.site == i) run (λ r. idle_as_t
     by : (b : Bool) → IsReachedBy b (λ old. SiteRun p n limit i j old) (λ old new. IsEntry p n limit j e old new) s → (SiteRun p n limit i j s → journal.is_idle j i ≡ is_idle s) → cond b e.idle (journal.is_idle j i) ≡ is_idle s
     by true (old, before, (d, turn, tells, is)) rest = tells.idle ∙ ap is_idle (sym is)
     by false before rest = rest before
+
+at_contains : (xs : List Travel) (x : Travel) (p : ℕ) → slice_get xs p ≡ Some x → Contains xs x
+at_contains [] x p e = cc
+at_contains (y ∷ ys) x zero e = let same : y ≡ x = cc in subst (λ (z : Travel). Contains (y ∷ ys) z) same (Contains-head y ys)
+at_contains (y ∷ ys) x (suc p) e = Contains-tail y x ys (at_contains ys x p e)
 
 -- ---- quiet
 
@@ -111,3 +120,14 @@ module _ (p : List Stmt) (j : List Turn) (ss : List (Seated NoSeat)) (mail : Mai
     );
     once = once;
   }
+
+  -- what travels by the journal is among the travels
+  pub travels_have : (q : ℕ) (m : Sent) → IsTravelling j q m → Contains (map travel_of mail.messages) (record { number = q; to = m.to })
+  travels_have q m at =
+      let found = place_from_lookup (nat_eq q) mail.messages m (live.travels q ∙ there_travels j q m at) in
+      let same : q ≡ found.1 = search rules in
+      let entry : slice_get mail.messages found.0 ≡ Some (q, m) = subst (λ (x : ℕ). slice_get mail.messages found.0 ≡ Some (x, m)) (sym same) found.2 in
+      at_contains (map travel_of mail.messages) (record { number = q; to = m.to }) found.0 (travel_at mail.messages found.0 q m entry)
+
+  pub nothing_for : (site : ℕ) → IsNoneFor (map travel_of mail.messages) site → IsNothingFor j site
+  nothing_for site none q m at to = none (record { number = q; to = m.to }) (travels_have q m at) to

@@ -12,7 +12,7 @@ ghost use Rattle.world_core.specs.declared.refusal.WorldRefusal.TheVariants.{Not
 ghost use Rattle.world_core.specs.Laws.{HasRun, HasMachine, HasMachineAtRest, WereFit, AreMessagesFew};
 ghost use Rattle.world_mail.specs.Mail.{message_at, without_message};
 ghost use Rattle.world_mail.specs.Travels.{travel_of, IsNoneFor, IsFirstFor};
-ghost use Rattle.world_core.specs.Travels.{AreTravels, IsNotThere};
+ghost use Rattle.world_core.specs.Travels.{AreTravels, IsNothingFor, IsNotThere};
 ghost use Rattle.world_core.specs.World.{states_of, IsWorldTurn, IsNewSite, IsTaken};
 ghost use Rattle.site_core.specs.Seated.{Seated};
 ghost use Rattle.site_message.specs.declared.story.NoSeat.{NoSeat};
@@ -121,7 +121,8 @@ impl<'a> World<'a> {
     pub fn next_for(&self, site: u32) -> Option<usize>
         requires among { site ≤ self.now.sites }
         requires live { self.now.spent ≡ false }
-        ensures { MatchOption result (IsNoneFor self.now.travels site) (λ place. IsFirstFor self.now.travels site place) }
+        ensures place { MatchOption result (IsNoneFor self.now.travels site) (λ place. IsFirstFor self.now.travels site place) }
+        ensures none { result ≡ None → IsNothingFor self.now.journal site }
     {
         self.mail.next_for(site)
     }

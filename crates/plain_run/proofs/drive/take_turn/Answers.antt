@@ -20,7 +20,7 @@ returns-else-is_some-clause-progress c =
     let run = on_ok c.turn.result _ ok c.turn.ensures.run in
     let none : is_some c.next_for-place.result ≡ false = sym c.is_some.ensures ∙ c.if-is_some.false in
     let units = c.min-units.ensures ∙ ap (λ (k : ℕ). min (c.args.limits.steps - k) 64) c.steps-steps.ensures in
-    let busy = busy_runs c.args.world.now c.args.site c.next_for-place.result c.requires.busy c.next_for-place.ensures none in
+    let busy = busy_runs c.args.world.now c.args.site c.next_for-place.result c.requires.busy c.next_for-place.ensures.place none in
     subst (λ (b : Bool). Progresses c.args.limits c.args.world.now c.turn.new.self b) (λ i. nat_lt (sym c.steps-steps.ensures i) (sym c.steps.ensures i))
     (went c.args.limits c.args.world.now.program c.args.world.now c.turn.new.self c.args.site c.min-units.result c.next_for-place.result c.requires.going c.requires.some c.requires.among turn run units none busy)
 

@@ -1,0 +1,107 @@
+-- Each message goes to one of the sites, so a run in which no site has a message or can go on is quiet.
+use Rattle.std.proofs.Common.{rules, arith, ◌≡◌, ◌∙◌, refl, subst, ℕ, zero, suc, ◌<◌, ◌≤◌, List, [], ◌∷◌, length, Bool, true, false, cond, ◌⊎◌, inl, inr, Some, None}
+use Rattle.std.specs.Prelude.{Option, ◌==◌, is_some, IsTrue, nat_lt, nat_le, ◌&&◌, not}
+use Rattle.std.proofs.lemmas.Bool.{cases_lt}
+use Rattle.tree_node.specs.declared.names.VarName.{VarName}
+use Rattle.tree_node.specs.Each.{Each}
+use Rattle.kernel_syntax.specs.declared.stmt.Stmt.{Stmt}
+use Rattle.kernel_syntax.specs.Program.{IsProgram}
+use Rattle.site_message.specs.declared.message.Msg.{Msg}
+use Rattle.site_message.specs.declared.message.Msg.TheVariants as msg
+use Rattle.site_message.specs.declared.message.Sent.{Sent}
+use Rattle.site_message.specs.declared.turn.Turn.{Turn}
+use Rattle.site_message.specs.declared.outcome.Reason.{Reason}
+use Rattle.site_message.specs.declared.outcome.Reason.TheVariants.{Messages, Steps, Quiet}
+use Rattle.site_message.specs.Journal as journal
+use Rattle.site_message.specs.Journal.{IsTravelling, sent_of, end_of, is_quiet}
+use Rattle.site_message.proofs.JournalLemmas.{quiet_tells}
+use Rattle.bind_protocol.specs.Records.{owner_knows, is_own, IsKnown}
+use Rattle.bind_protocol.proofs.ListLemmas.{each_at}
+use Rattle.variable_owner.specs.Owners.{owner_of}
+use Rattle.token_chain.specs.Holding.{CanFollow}
+use Rattle.token_chain.specs.declared.token.Token.{Token}
+use Rattle.token_chain.specs.declared.token.Token.TheVariants.{Away, Asked}
+use Rattle.site_model.specs.Bundle.{bundle_limit}
+use Rattle.site_model.specs.Fit.{IsFit}
+use Rattle.site_model.specs.Site.{Site, initial_site, is_idle, cell_record}
+use Rattle.site_model.specs.Run.{WorldRun, SiteRun, IsReachedBy, IsEntry, IsSiteIn}
+use Rattle.world_simulation.proofs.SimulationLemmas.{every_run_is_simulated}
+use Rattle.world_core.specs.Travels.{IsNothingFor}
+use Rattle.world_core.proofs.QuietLemmas.{idle_as_told}
+use Rattle.plain_run.specs.declared.out.Limits.{Limits}
+use Rattle.plain_run.specs.Going.{limits_of}
+use Rattle.plain_run.proofs.SpawnLemmas.{SpawnsWithin, spawns_within}
+
+-- a site that is none of n stays as it began
+outside : (p : List Stmt) (n limit i : ℕ) → ((1 ≤ i) × (i ≤ n) → ⊥) → (j : List Turn) (s : Site) → Each (IsSiteIn n) j → SiteRun p n limit i j s → s ≡ initial_site p i
+outside p n limit i out [] s each run = run
+outside p n limit i out (e ∷ j) s each run = by (e.site == i) refl run (λ r. outside p n limit i out j s each.1 r)
+  where
+    by : (b : Bool) → (e.site == i) ≡ b → IsReachedBy b (λ old. SiteRun p n limit i j old) (λ old new. IsEntry p n limit j e old new) s → (SiteRun p n limit i j s → s ≡ initial_site p i) → s ≡ initial_site p i
+    by true q r rest = let same : e.site ≡ i = search rules in absurd (out (subst (λ (x : ℕ). (1 ≤ x) × (x ≤ n)) same each.0))
+    by false q r rest = rest r
+
+in_or_out : (i n : ℕ) → ((1 ≤ i) × (i ≤ n)) ⊎ ((1 ≤ i) × (i ≤ n) → ⊥)
+in_or_out zero n = inr (λ h. (let low = h.0 in omega arith))
+in_or_out (suc i) n = by (cases_lt n (suc i))
+  where
+    by : (n < suc i) ⊎ (suc i ≤ n) → ((1 ≤ suc i) × (suc i ≤ n)) ⊎ ((1 ≤ suc i) × (suc i ≤ n) → ⊥)
+    by (inl above) = inr (λ h. (let high = h.1 in omega arith))
+    by (inr below) = inl (omega arith, below)
+
+-- a site that began just now knows no variable, and can be told nothing of a cell
+knows_none : (p : List Stmt) (i : ℕ) (x : VarName) → IsKnown (initial_site p i).records x → ⊥
+knows_none p i x h = by (is_own (initial_site p i).records x) h
+  where
+    by : (b : Bool) → IsTrue (is_some (cond b (owner_knows (owner_of [] x)) None)) → ⊥
+    by true k = cc
+    by false k = cc
+
+module _ (p : List Stmt) (n : ℕ) (j : List Turn) (w : ℕ → Site) (is : IsProgram p) (low : 1 ≤ n) (high : n ≤ 64) (run : WorldRun p n bundle_limit j w) where
+  number : (i : ℕ) → (w i).records.site ≡ i
+  number i = ((every_run_is_simulated p n j w is low high run).1.matches.parts.kept i).site
+
+  began : (i : ℕ) → ((1 ≤ i) × (i ≤ n) → ⊥) → w i ≡ initial_site p i
+  began i out = outside p n bundle_limit i out j (w i) run.sites (run.runs i)
+
+  named : (to site : ℕ) → site ≡ (w to).records.site → (1 ≤ site) × (site ≤ n) → (1 ≤ to) × (to ≤ n)
+  named to site e h = subst (λ (x : ℕ). (1 ≤ x) × (x ≤ n)) (e ∙ number to) h
+
+  inside : (to : ℕ) → (((1 ≤ to) × (to ≤ n) → ⊥) → ⊥) → (1 ≤ to) × (to ≤ n)
+  inside to h = by (in_or_out to n)
+    where
+      by : ((1 ≤ to) × (to ≤ n)) ⊎ ((1 ≤ to) × (to ≤ n) → ⊥) → (1 ≤ to) × (to ≤ n)
+      by (inl q) = q
+      by (inr out) = absurd (h out)
+
+  goes_within : (k to : ℕ) (o : Msg) → IsTravelling j k (record { to = to; msg = o }) → IsFit p n (w to) o → (1 ≤ to) × (to ≤ n)
+  goes_within k to (msg.Spawn th code vars bundle) at fit = each_at (SpawnsWithin n) (sent_of j) k (record { to = to; msg = msg.Spawn th code vars bundle }) (spawns_within p n bundle_limit low j w run) at.0
+  goes_within k to (msg.Register x q) at fit = named to x.site fit.takes.0 (fit.names.0, fit.names.1)
+  goes_within k to (msg.BindReq x th t bundle) at fit = named to x.site fit.takes.1.0 (fit.names.0.0, fit.names.0.1)
+  goes_within k to (msg.Binding x t bundle) at fit = inside to (λ out. knows_none p to x (subst (λ (s : Site). IsKnown s.records x) (began to out) fit.takes.2))
+  goes_within k to (msg.Get c q) at fit = named to c.site fit.takes.0 (fit.names.0, fit.names.1)
+  goes_within k to (msg.Forward c q) at fit = inside to (λ out. (subst (λ (s : Site). CanFollow (cell_record s c).held) (began to out) fit.takes).1)
+  goes_within k to (msg.Put c v bundle) at fit = inside to (λ out. (let none : ◌≡◌ {A = Token} Away Asked = subst (λ (s : Site). (cell_record s c).held.token ≡ Asked) (began to out) fit.takes in cc))
+
+  -- where all rest and nothing is for them, the run is quiet
+  pub all_quiet : ((i : ℕ) → 1 ≤ i → i ≤ n → (is_idle (w i) ≡ true) × IsNothingFor j i) → is_quiet n j ≡ true
+  all_quiet ease = (quiet_tells n j).1 (nothing, idle)
+    where
+      nothing : (k : ℕ) (m : Sent) → IsTravelling j k m → ⊥
+      nothing k m at =
+          let r = goes_within k m.to m.msg at ((every_run_is_simulated p n j w is low high run).2 k m at) in
+          (ease m.to r.0 r.1).1 k m at refl
+
+      idle : (i : ℕ) → 1 ≤ i → i ≤ n → journal.is_idle j i ≡ true
+      idle i a b = idle_as_told p n bundle_limit i j (w i) (run.runs i) ∙ (ease i a b).0
+
+-- a quiet run does not go on
+pub quiet_ends : (l : Limits) (j : List Turn) → 1 ≤ l.sites → end_of (limits_of l) j ≡ None → is_quiet l.sites j ≡ true → ⊥
+quiet_ends l [] low on quiet = let first = ((quiet_tells l.sites []).0 quiet).1 1 (omega arith) low in cc
+quiet_ends l (e ∷ j) low on quiet = by (nat_lt l.messages (length (sent_of (e ∷ j)))) (nat_le l.steps e.steps && not e.idle) (is_quiet l.sites (e ∷ j)) quiet on
+  where
+    by : (a b c : Bool) → c ≡ true → ◌≡◌ {A = Option Reason} (cond a (Some Messages) (cond b (Some (Steps e.site)) (cond c (Some Quiet) None))) None → ⊥
+    by true b c q h = cc
+    by false true c q h = cc
+    by false false true q h = cc
+    by false false false q h = cc
