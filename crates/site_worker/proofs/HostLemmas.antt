@@ -1,0 +1,297 @@
+-- How a host goes on from one part of a visit to the next.
+use Rattle.std.proofs.Common.{min, inl, inr, ⊎_elim, ◌-◌, ◌≡◌, ℕ, ◌≤◌, List, [], ◌∷◌, ◌++◌, cond, not, Bool, true, false, eq-eqb, Option, Some, None, refl, sym, ap, ◌∙◌, subst, arith}
+use Rattle.std.specs.Prelude.{slice_get, slice_index_or}
+use Rattle.atomic_table.specs.Seated.{TableId}
+use Rattle.kernel_syntax.specs.declared.stmt.Stmt.{Stmt}
+use Rattle.site_message.specs.declared.message.Msg.{Msg}
+use Rattle.site_message.specs.declared.turn.Turn.{Turn}
+use Rattle.site_message.specs.declared.story.Sight.{Sight}
+use Rattle.site_message.specs.declared.outcome.Reason.{Reason}
+use Rattle.site_message.specs.Journal.{sent_of}
+use Rattle.site_message.specs.Story.{own, hand}
+use Rattle.message_book.specs.Book.{IsSiteOf, without}
+use Rattle.book_lock.specs.declared.lock.SiteSeat.{SiteSeat}
+use Rattle.book_lock.specs.Rule.{BeginsWith}
+use Rattle.book_lock.specs.Seats.{last_seen, IsOutsideOf}
+use Rattle.site_model.specs.Site.{Site, is_idle}
+use Rattle.site_model.specs.Bundle.{bundle_limit}
+use Rattle.site_model.specs.Transition.{Transition}
+use Rattle.site_model.specs.Turn.{SiteTurn, IsFullTurn}
+use Rattle.site_model.specs.Run.{SiteRun, IsEntry, message_of, delivered_message}
+use Rattle.site_core.specs.Seated.{Seated, IsTurnMade, message_in, number_in}
+use Rattle.site_worker.specs.declared.host.Host.{Host}
+use Rattle.site_worker.specs.declared.inside.Fetched.{Fetched}
+use Rattle.site_worker.specs.declared.inside.Fetched.TheVariants.{Over, Open}
+use Rattle.site_worker.specs.declared.inside.Delivered.TheVariants.{Posted, Refused}
+use Rattle.site_worker.specs.Inside.{book_sites, book_steps, NoneWaits, HasTaken, HasFetched, HasDelivered, HasClosed, Since}
+use Rattle.site_worker.specs.Host.{state_of, sight, program_of, sites_of, fixed_of, IsRunTo, IsSeated, HasCome, IsHost, HasMessage, HasTurned, HasFailed, number_list}
+use Rattle.site_worker.specs.declared.outcome.Visited.{Visited}
+use Rattle.site_worker.specs.declared.outcome.Visited.TheVariants.{Did, Nothing}
+use Rattle.site_worker.specs.declared.outcome.Visited.TheVariants as visited
+use Rattle.site_worker.specs.Visit.{IsVisit, IsFirstHalf, IsSecondHalf, HasNoEntry, HasEntry, HasMadeTurn}
+use Rattle.site_worker.proofs.RunLemmas.{message_later, run_later, run_entry}
+
+-- the host with another value of its seat
+abbrev pub with_seat : Host → SiteSeat → Host
+with_seat h x = record h { site = record h.site { seat = x } }
+
+off : true ≡ false → ⊥
+off e = cc
+
+seated_later : (table : TableId) (h : Host) (x : SiteSeat) → IsSeated table h → IsOutsideOf table x → x.site ≡ h.site.seat.site → (last_seen x).fixed ≡ (sight h).fixed → IsSeated table (with_seat h x)
+seated_later table h x mine out same fixed = record {
+  outside = out;
+  seat = mine.seat ∙ sym same;
+  site = mine.site;
+  sites = ap (λ (l : List ℕ). slice_index_or l 0 0) fixed ∙ mine.sites;
+  range = mine.range;
+}
+
+come_later : (h : Host) (x : SiteSeat) (s : Site) → BeginsWith (last_seen x).entries (sight h).entries → HasNoEntry h.number (sight h) (last_seen x) → HasCome h s → HasCome (with_seat h x) s
+come_later h x s on same come = record {
+  run = run_later (program_of h) (sites_of h) bundle_limit h.number (sight h).entries (last_seen x).entries s on same come.run;
+  state = come.state;
+  live = come.live;
+}
+
+-- ---- the first half
+
+alive : (b : Bool) (spent : Bool) → spent ≡ b → (spent ≡ true → ⊥) → spent ≡ false
+alive true spent e dead = absurd (dead e)
+alive false spent e dead = e
+
+-- what was taken is in hand, and was sent by its number
+taken_first : (h : Host) (x : SiteSeat) (o : Option (ℕ × Msg)) (now : Sight) → (last_seen x).entries ≡ now.entries → hand h.number now.hands ≡ [] → HasTaken h.number now (last_seen x) o
+    → (hand h.number (last_seen x).hands ≡ number_list (number_in o)) × (delivered_message (last_seen x).entries (number_in o) ≡ message_in o) × (o ≡ None → NoneWaits h.number (last_seen x))
+taken_first h x None now entries none t = (ap (λ (s : Sight). hand h.number s.hands) t.0 ∙ none, refl, λ _. subst (NoneWaits h.number) (sym t.0) t.1)
+taken_first h x (Some y) now entries none t =
+    (t.1 ∙ ap (λ l. l ++ y.0 ∷ []) none, ap (λ (es : List Turn). message_of (slice_get (sent_of es) y.0)) entries ∙ ap message_of t.0, λ e. absurd (cc))
+
+module _ (table : TableId) (h : Host) (x : SiteSeat) (mine : IsHost table h) (out : IsOutsideOf table x) (same : x.site ≡ h.site.seat.site) where
+  fetched_from : (r : Fetched) → Since h.number (sight h) (last_seen x) (λ now. HasFetched h.number now (last_seen x) r) → IsFirstHalf table h (with_seat h x) r
+  fetched_from (Over r) a =
+      let found = a.2 in
+      let own_same : HasNoEntry h.number (sight h) (last_seen x) = ap (own h.number) found.1 ∙ a.1.own_entries in
+      let on : BeginsWith (last_seen x).entries (sight h).entries = subst (λ (es : List Turn). BeginsWith es (sight h).entries) (sym found.1) a.1.begins in (
+        record {
+          seated = seated_later table h x mine.seated out same a.3;
+          state = mine.state;
+          run = run_later (program_of h) (sites_of h) bundle_limit h.number (sight h).entries (last_seen x).entries mine.state on own_same mine.run;
+          live = λ is. (come_later h x mine.state on own_same (mine.live is).0, ap (hand h.number) found.2 ∙ (a.1.own_hands ∙ (mine.live is).1));
+          over = λ is. (r, found.0);
+          steps = mine.steps;
+        },
+        found.0,
+        own_same,
+      )
+  fetched_from (Open o limit) a =
+      let now = a.0 in
+      let found = a.2 in
+      let own_same : HasNoEntry h.number (sight h) (last_seen x) = ap (own h.number) found.2 ∙ a.1.own_entries in
+      let on : BeginsWith (last_seen x).entries (sight h).entries = subst (λ (es : List Turn). BeginsWith es (sight h).entries) (sym found.2) a.1.begins in
+      let live : h.spent ≡ false = alive h.spent h.spent refl (λ yes. let t = mine.over yes in let e = sym (a.1.reason t.0 t.1) ∙ found.0 in cc) in
+      let is = mine.live live in
+      let come = come_later h x mine.state on own_same is.0 in
+      let taken = taken_first h x o now found.2 (a.1.own_hands ∙ is.1) found.4 in (
+        record {
+          seated = seated_later table h x mine.seated out same a.3;
+          come = subst (HasCome (with_seat h x)) (sym is.0.state) come;
+          hands = taken.0;
+          message = taken.1;
+          live = live;
+          steps = subst (λ (s : Site). s.steps ≤ 1000000000) (sym is.0.state) mine.steps;
+          reason = found.1;
+          waits = taken.2;
+        },
+        own_same,
+        found.3,
+      )
+
+pub fetched_host : (table : TableId) (h : Host) (y x : SiteSeat) (r : Fetched) → y ≡ h.site.seat → IsHost table h → IsOutsideOf table x × (x.site ≡ y.site)
+    → Since y.site (last_seen y) (last_seen x) (λ now. HasFetched y.site now (last_seen x) r) → IsFirstHalf table h (with_seat h x) r
+fetched_host table h y x r is mine out a =
+    let b : Since h.site.seat.site (sight h) (last_seen x) (λ now. HasFetched h.site.seat.site now (last_seen x) r) = subst (λ (z : SiteSeat). Since z.site (last_seen z) (last_seen x) (λ now. HasFetched z.site now (last_seen x) r)) is a in
+    fetched_from table h x mine out.0 (out.1 ∙ ap (λ (z : SiteSeat). z.site) is) r (subst (λ (k : ℕ). Since k (sight h) (last_seen x) (λ now. HasFetched k now (last_seen x) r)) (sym mine.seated.seat) b)
+
+-- ---- the turn
+
+-- a full turn of a quantum that is small enough is a turn
+site_turn : (p : List Stmt) (n limit quantum : ℕ) (s : Site) (m : Option Msg) (d : Transition) → quantum ≤ 64 → IsFullTurn p n limit quantum s m d → SiteTurn p n limit s m d
+site_turn p n limit quantum s m d few full = let short = full.2 in (full.0, omega arith, full.1)
+
+seated_turn : (table : TableId) (h : Host) (v : Seated SiteSeat) → v.seat ≡ h.site.seat → (v.program ≡ program_of h) × (v.sites ≡ sites_of h) × (v.state.records.site ≡ (state_of h).records.site)
+    → IsSeated table h → IsSeated table (record h { site = v })
+seated_turn table h v seat same mine = record {
+  outside = subst (IsOutsideOf table) (sym seat) mine.outside;
+  seat = mine.seat ∙ ap (λ (z : SiteSeat). z.site) (sym seat);
+  site = same.2 ∙ mine.site;
+  sites = ap (λ (z : SiteSeat). book_sites (last_seen z)) seat ∙ (mine.sites ∙ sym same.1);
+  range = subst (λ n. IsSiteOf n h.number) (sym same.1) mine.range;
+}
+
+-- a host whose site made a turn with what was taken
+pub turned_host : (table : TableId) (h : Host) (v : Seated SiteSeat) (recipients quantum : ℕ) (o : Option (ℕ × Msg)) (e : Turn) → HasMessage table h o → v.seat ≡ h.site.seat
+    → (v.program ≡ program_of h) × (v.sites ≡ sites_of h) × (v.state.records.site ≡ (state_of h).records.site) → v.spent ≡ false → quantum ≤ 64
+    → IsTurnMade (program_of h) (sites_of h) (state_of h) o quantum e v.state → v.state.steps ≤ 1000000000 → HasTurned table (record h { site = v; recipients = recipients }) e
+turned_host table h v recipients quantum o e mine seat same live few turn steps =
+    let seated = seated_turn table h v seat same mine.seated in
+    record {
+      seated = record { outside = seated.outside; seat = seated.seat; site = seated.site; sites = seated.sites; range = seated.range };
+      before = state_of h;
+      taken = o;
+      quantum = quantum;
+      few = few;
+      run = subst (λ (z : List Stmt × ℕ × SiteSeat). SiteRun z.0 z.1 bundle_limit h.number (last_seen z.2).entries (state_of h)) (λ i. (sym same.0 i, sym same.1 i, sym seat i)) mine.come.run;
+      turn = subst (λ (z : List Stmt × ℕ). IsTurnMade z.0 z.1 (state_of h) o quantum e v.state) (λ i. (sym same.0 i, sym same.1 i)) turn;
+      site = turn.site ∙ mine.seated.site;
+      message = subst (λ (z : SiteSeat). delivered_message (last_seen z).entries (number_in o) ≡ message_in o) (sym seat) mine.message;
+      hands = ap (λ (z : SiteSeat). hand h.number (last_seen z).hands) seat ∙ (mine.hands ∙ ap number_list (sym turn.delivered));
+      live = (mine.live, live);
+      steps = (mine.steps, steps);
+    }
+
+-- a host whose site had no memory for its turn
+pub spent_host : (table : TableId) (h : Host) (v : Seated SiteSeat) (o : Option (ℕ × Msg)) → HasMessage table h o → v.seat ≡ h.site.seat
+    → (v.program ≡ program_of h) × (v.sites ≡ sites_of h) × (v.state.records.site ≡ (state_of h).records.site) → HasFailed table (record h { site = v; spent = true })
+spent_host table h v o mine seat same =
+    let seated = seated_turn table h v seat same mine.seated in
+    record {
+      seated = record { outside = seated.outside; seat = seated.seat; site = seated.site; sites = seated.sites; range = seated.range };
+      before = state_of h;
+      run = subst (λ (z : List Stmt × ℕ × SiteSeat). SiteRun z.0 z.1 bundle_limit h.number (last_seen z.2).entries (state_of h)) (λ i. (sym same.0 i, sym same.1 i, sym seat i)) mine.come.run;
+      spent = refl;
+      steps = mine.steps;
+    }
+
+-- ---- the second half
+
+without_this : (o : Option ℕ) → without o (number_list o) ≡ []
+without_this None = refl
+without_this (Some n) = ap (λ b. cond (not b) (n ∷ []) []) (eq-eqb n n refl)
+
+own_first : (k : ℕ) (e : Turn) (es : List Turn) → e.site ≡ k → own k (e ∷ es) ≡ e ∷ own k es
+own_first k e es is = ap (λ b. cond b (e ∷ own k es) (own k es)) (eq-eqb e.site k is)
+
+module _ (table : TableId) (h : Host) (e : Turn) (x : SiteSeat) (mine : HasTurned table h e) (out : IsOutsideOf table x) (same : x.site ≡ h.site.seat.site) where
+  posted_host : (o : Option Reason) → Since h.number (sight h) (last_seen x) (λ now. HasDelivered e now (last_seen x) (Posted o))
+      → IsHost table (with_seat h x) × ((last_seen x).reason ≡ o) × HasEntry h.number (sight h) (last_seen x) e × (hand h.number (last_seen x).hands ≡ []) × BeginsWith (last_seen x).entries (sight h).entries
+  posted_host o a =
+      let now = a.0 in
+      let found = a.2 in
+      let k = h.number in
+      let mine_new : HasEntry k (sight h) (last_seen x) e = ap (own k) found.0 ∙ (own_first k e now.entries mine.site ∙ ap (λ l. e ∷ l) a.1.own_entries) in
+      let hands : hand k (last_seen x).hands ≡ [] = subst (λ (i : ℕ). hand i (last_seen x).hands ≡ without e.delivered (hand i now.hands)) mine.site found.1 ∙ (ap (without e.delivered) (a.1.own_hands ∙ mine.hands) ∙ without_this e.delivered) in
+      let before = run_later (program_of h) (sites_of h) bundle_limit k (sight h).entries now.entries mine.before a.1.begins a.1.own_entries mine.run in
+      let message : message_in mine.taken ≡ delivered_message now.entries e.delivered =
+      sym (ap (delivered_message now.entries) mine.turn.delivered ∙ message_later (sight h).entries now.entries mine.taken a.1.begins mine.message) in
+      let t = mine.turn.turn in
+      let turn = site_turn (program_of h) (sites_of h) bundle_limit mine.quantum mine.before (message_in mine.taken) t.0 mine.few t.1 in
+      let entry : IsEntry (program_of h) (sites_of h) bundle_limit now.entries e mine.before (state_of h) =
+      (t.0, subst (λ m. SiteTurn (program_of h) (sites_of h) bundle_limit mine.before m t.0) message turn, t.2, t.3) in
+      let run : IsRunTo h (last_seen x).entries (state_of h) =
+      subst (λ (es : List Turn). IsRunTo h es (state_of h)) (sym found.0) (run_entry (program_of h) (sites_of h) bundle_limit k e now.entries mine.before (state_of h) mine.site before entry) in (
+        record {
+          seated = seated_later table h x mine.seated out same a.3;
+          state = state_of h;
+          run = run;
+          live = λ _. (record { run = run; state = refl; live = mine.live.1 }, hands);
+          over = λ yes. absurd (off (sym yes ∙ mine.live.0));
+          steps = mine.steps.1;
+        },
+        found.2,
+        mine_new,
+        hands,
+        (e ∷ a.1.begins.0, found.0 ∙ ap (λ l. e ∷ l) a.1.begins.1),
+      )
+
+  refused_host : (r : Reason) → Since h.number (sight h) (last_seen x) (λ now. HasDelivered e now (last_seen x) (Refused r))
+      → IsHost table (record (with_seat h x) { spent = true }) × ((last_seen x).reason ≡ Some r) × HasNoEntry h.number (sight h) (last_seen x) × BeginsWith (last_seen x).entries (sight h).entries
+  refused_host r a =
+      let found = a.2 in
+      let own_same : HasNoEntry h.number (sight h) (last_seen x) = ap (own h.number) found.0 ∙ a.1.own_entries in
+      let on : BeginsWith (last_seen x).entries (sight h).entries = subst (λ (es : List Turn). BeginsWith es (sight h).entries) (sym found.0) a.1.begins in
+      let seated = seated_later table h x mine.seated out same a.3 in (
+        record {
+          seated = record { outside = seated.outside; seat = seated.seat; site = seated.site; sites = seated.sites; range = seated.range };
+          state = mine.before;
+          run = run_later (program_of h) (sites_of h) bundle_limit h.number (sight h).entries (last_seen x).entries mine.before on own_same mine.run;
+          live = λ no_more. absurd (off no_more);
+          over = λ _. (r, found.1);
+          steps = mine.steps.0;
+        },
+        found.1,
+        own_same,
+        on,
+      )
+
+failed_host : (table : TableId) (h : Host) (x : SiteSeat) (mine : HasFailed table h) (out : IsOutsideOf table x) (same : x.site ≡ h.site.seat.site) (r : Reason)
+    → Since h.number (sight h) (last_seen x) (λ now. HasClosed now (last_seen x) r) → IsHost table (with_seat h x) × ((last_seen x).reason ≡ Some r) × HasNoEntry h.number (sight h) (last_seen x)
+failed_host table h x mine out same r a =
+    let found = a.2 in
+    let own_same : HasNoEntry h.number (sight h) (last_seen x) = ap (own h.number) found.1 ∙ a.1.own_entries in
+    let on : BeginsWith (last_seen x).entries (sight h).entries = subst (λ (es : List Turn). BeginsWith es (sight h).entries) (sym found.1) a.1.begins in (
+      record {
+        seated = seated_later table h x mine.seated out same a.3;
+        state = mine.before;
+        run = run_later (program_of h) (sites_of h) bundle_limit h.number (sight h).entries (last_seen x).entries mine.before on own_same mine.run;
+        live = λ living. absurd (off (sym mine.spent ∙ living));
+        over = λ _. (r, found.0);
+        steps = mine.steps;
+      },
+      found.0,
+      own_same,
+    )
+
+-- a seat that was lent, and the site's number
+lent : (y z : SiteSeat) (k : ℕ) (new : Sight) (P : Sight → Type 0) → y ≡ z → k ≡ z.site → Since y.site (last_seen y) new P → Since k (last_seen z) new P
+lent y z k new P is number a = subst (λ (i : ℕ). Since i (last_seen z) new P) (sym number) (subst (λ (w : SiteSeat). Since w.site (last_seen w) new P) is a)
+
+pub posted_by : (table : TableId) (h : Host) (e : Turn) (y x : SiteSeat) → y ≡ h.site.seat → HasTurned table h e → IsOutsideOf table x × (x.site ≡ y.site) → (o : Option Reason)
+    → Since y.site (last_seen y) (last_seen x) (λ now. HasDelivered e now (last_seen x) (Posted o))
+    → IsHost table (with_seat h x) × ((last_seen x).reason ≡ o) × HasEntry h.number (sight h) (last_seen x) e × (hand h.number (last_seen x).hands ≡ []) × BeginsWith (last_seen x).entries (sight h).entries
+posted_by table h e y x is mine out o a =
+    posted_host table h e x mine out.0 (out.1 ∙ ap (λ (z : SiteSeat). z.site) is) o (lent y h.site.seat h.number (last_seen x) (λ now. HasDelivered e now (last_seen x) (Posted o)) is mine.seated.seat a)
+
+pub refused_by : (table : TableId) (h : Host) (e : Turn) (y x : SiteSeat) → y ≡ h.site.seat → HasTurned table h e → IsOutsideOf table x × (x.site ≡ y.site) → (r : Reason)
+    → Since y.site (last_seen y) (last_seen x) (λ now. HasDelivered e now (last_seen x) (Refused r))
+    → IsHost table (record (with_seat h x) { spent = true }) × ((last_seen x).reason ≡ Some r) × HasNoEntry h.number (sight h) (last_seen x) × BeginsWith (last_seen x).entries (sight h).entries
+refused_by table h e y x is mine out r a =
+    refused_host table h e x mine out.0 (out.1 ∙ ap (λ (z : SiteSeat). z.site) is) r (lent y h.site.seat h.number (last_seen x) (λ now. HasDelivered e now (last_seen x) (Refused r)) is mine.seated.seat a)
+
+pub failed_by : (table : TableId) (h : Host) (y x : SiteSeat) → y ≡ h.site.seat → HasFailed table h → IsOutsideOf table x × (x.site ≡ y.site) → (r : Reason)
+    → Since y.site (last_seen y) (last_seen x) (λ now. HasClosed now (last_seen x) r)
+    → IsHost table (with_seat h x) × ((last_seen x).reason ≡ Some r) × HasNoEntry h.number (sight h) (last_seen x)
+failed_by table h y x is mine out r a =
+    failed_host table h x mine out.0 (out.1 ∙ ap (λ (z : SiteSeat). z.site) is) r (lent y h.site.seat h.number (last_seen x) (λ now. HasClosed now (last_seen x) r) is mine.seated.seat a)
+
+-- ---- the whole visit
+
+-- a turn that was made with what was taken, and posted
+pub made_turn : (a b c d : Host) (limit : ℕ) (o : Option (ℕ × Msg)) (e : Turn)
+    → (b.number ≡ a.number) × (program_of b ≡ program_of a) × (sites_of b ≡ sites_of a) × (fixed_of b ≡ fixed_of a) × (state_of b ≡ state_of a)
+    → HasNoEntry a.number (sight a) (sight b) → limit ≡ book_steps (sight b) → delivered_message (sight b).entries (number_in o) ≡ message_in o
+    → (c.number ≡ b.number) × (c.site.seat ≡ b.site.seat) → IsTurnMade (program_of b) (sites_of b) (state_of b) o (min (limit - (state_of b).steps) 64) e (state_of c)
+    → HasEntry c.number (sight c) (sight d) e → state_of d ≡ state_of c → BeginsWith (sight d).entries (sight c).entries → (o ≡ None → is_idle (state_of a) ≡ false) → HasMadeTurn a d
+made_turn a b c d limit o e same none left content seat turn posted state begins cause =
+    let number : c.number ≡ a.number = seat.0 ∙ same.0 in
+    let mine : own a.number (sight d).entries ≡ e ∷ own a.number (sight c).entries = subst (λ k. own k (sight d).entries ≡ e ∷ own k (sight c).entries) number posted in
+    let steps : limit ≡ book_steps (sight a) = left ∙ ap (λ (y : List ℕ). slice_index_or y 1 0) same.3 in
+    record {
+      entry = e;
+      message = o;
+      posted = mine ∙ (ap (λ (z : SiteSeat). e ∷ own a.number (last_seen z).entries) seat.1 ∙ ap (λ l. e ∷ l) none);
+      turn = subst (λ (z : List Stmt × ℕ × Site × ℕ × Site). IsTurnMade z.0 z.1 z.2 o z.3 e z.4) (λ i. (same.1 i, same.2 i, same.4 i, min (steps i - (same.4 i).steps) 64, sym state i)) turn;
+      content = message_later (sight c).entries (sight d).entries o begins (subst (λ (z : SiteSeat). delivered_message (last_seen z).entries (number_in o) ≡ message_in o) (sym seat.1) content);
+      cause = cause;
+    }
+
+pub visited_by : (a c d : Host) (e : Turn) (r : Visited) → c.number ≡ a.number → (HasEntry c.number (sight c) (sight d) e → HasMadeTurn a d) → (HasNoEntry c.number (sight c) (sight d) → HasNoEntry a.number (sight a) (sight d))
+    → IsSecondHalf c.number e (sight c) (sight d) r → IsVisit a d r
+visited_by a c d e Did number made none half = (half.0, made half.1, subst (λ k. hand k (sight d).hands ≡ []) number half.2)
+visited_by a c d e Nothing number made none half = absurd half
+visited_by a c d e (visited.Over r) number made none half = (half.0, ⊎_elim (λ (same : HasNoEntry c.number (sight c) (sight d)). inl (none same)) (λ (more : HasEntry c.number (sight c) (sight d) e). inr (made more)) half.1)
+
+-- no entry more in the halves, so none in the visit
+pub none_by : (a b c d : Host) → c.number ≡ a.number → c.site.seat ≡ b.site.seat → HasNoEntry a.number (sight a) (sight b) → HasNoEntry c.number (sight c) (sight d) → HasNoEntry a.number (sight a) (sight d)
+none_by a b c d number seat first second =
+    subst (λ k. own k (sight d).entries ≡ own k (sight c).entries) number second ∙ (ap (λ (z : SiteSeat). own a.number (last_seen z).entries) seat ∙ first)

@@ -1,0 +1,12 @@
+use Rattle.std.proofs.Common.{refl, ap, ◌∙◌}
+use Rattle.book_lock.specs.declared.lock.SiteSeat.{SiteSeat}
+use Rattle.book_lock.specs.Seats.{last_seen}
+use Rattle.site_worker.proofs.HostLemmas.{fetched_host}
+use Rattle.site_worker.proofs.host.Host.fetch.Goals as goal
+
+pub returns-clause-fetched : goal.returns-clause-fetched
+returns-clause-fetched g c = fetched_host _ c.args.self.now c.seat.result.now c.fetch.new.seat c.fetch.result c.seat.ensures.value c.requires c.fetch.ensures.seat c.fetch.ensures.fetched
+
+pub returns-clause-same : goal.returns-clause-same
+returns-clause-same g c =
+    (record { number = refl; program = refl; sites = refl; fixed = c.fetch.ensures.fetched.3 ∙ ap (λ (z : SiteSeat). (last_seen z).fixed) c.seat.ensures.value }, refl)

@@ -1,0 +1,57 @@
+-- What a site does to the book inside the lock.
+use Rattle.std.specs.Prelude.{◌≡◌, ℕ, ◌≤◌, [], ◌∷◌, ◌++◌, Option, Some, None, Contains, slice_get, slice_index_or}
+use Rattle.site_message.specs.declared.message.Msg.{Msg}
+use Rattle.site_message.specs.declared.turn.Turn.{Turn}
+use Rattle.site_message.specs.declared.story.Sight.{Sight}
+use Rattle.site_message.specs.declared.outcome.Reason.{Reason}
+use Rattle.site_message.specs.declared.outcome.Reason.TheVariants.{Memory}
+use Rattle.site_message.specs.Journal.{IsTravelling, sent_of}
+use Rattle.site_message.specs.Story.{hand}
+use Rattle.message_book.specs.Book.{BookState, without, first_reason}
+use Rattle.book_lock.specs.Rule.{Agrees}
+use Rattle.site_worker.specs.declared.inside.Fetched.{Fetched}
+use Rattle.site_worker.specs.declared.inside.Fetched.TheVariants.{Over, Open}
+use Rattle.site_worker.specs.declared.inside.Delivered.{Delivered}
+use Rattle.site_worker.specs.declared.inside.Delivered.TheVariants.{Posted, Refused}
+
+-- the number of sites of the book that shows this
+abbrev pub book_sites : Sight → ℕ
+book_sites x = slice_index_or x.fixed 0 0
+
+-- the own steps that each site of the book that shows this may make
+abbrev pub book_steps : Sight → ℕ
+book_steps x = slice_index_or x.fixed 1 0
+
+-- no message waits for the site k: what travels to it is in hand
+abbrev pub NoneWaits : ℕ → Sight → Type 0
+NoneWaits k x = (n : ℕ) (m : Msg) → IsTravelling x.entries n (record { to = k; msg = m }) × (Contains (hand k x.hands) n → ⊥) → ⊥
+
+-- a message that was sent to the site k is in hand besides; or none waits, and nothing changed
+abbrev pub HasTaken : ℕ → Sight → Sight → Option (ℕ × Msg) → Type 0
+HasTaken k old new None = (new ≡ old) × NoneWaits k old
+HasTaken k old new (Some x) = (slice_get (sent_of old.entries) x.0 ≡ Some (record { to = k; msg = x.1 })) × (hand k new.hands ≡ hand k old.hands ++ x.0 ∷ [])
+
+-- the book has a reason, and nothing changed; or it has none, and what was taken is told
+abbrev pub HasFetched : ℕ → Sight → Sight → Fetched → Type 0
+HasFetched k old new (Over r) = (new.reason ≡ Some r) × (new.entries ≡ old.entries) × (new.hands ≡ old.hands)
+HasFetched k old new (Open o limit) = (old.reason ≡ None) × (new.reason ≡ None) × (new.entries ≡ old.entries)
+    × ((limit ≡ book_steps new) × (limit ≤ 1000000000)) × HasTaken k old new o
+
+-- the turn is the newest entry, its message is off the hand, and the book has this reason or none; or the book has this
+-- reason and no entry more
+abbrev pub HasDelivered : Turn → Sight → Sight → Delivered → Type 0
+HasDelivered e old new (Posted o) = (new.entries ≡ e ∷ old.entries) × (hand e.site new.hands ≡ without e.delivered (hand e.site old.hands)) × (new.reason ≡ o)
+HasDelivered e old new (Refused r) = (new.entries ≡ old.entries) × (new.reason ≡ Some r)
+
+-- the book has this reason, which is its first one or want of memory, and nothing else changed
+abbrev pub IsClosedBy : BookState → BookState → Reason → Type 0
+IsClosedBy old new r = (new.reason ≡ Some r) × (first_reason old.reason Memory ≡ Some r) × (new.limits ≡ old.limits) × (new.journal ≡ old.journal) × (new.hands ≡ old.hands)
+
+-- the book has this reason, and the entries are those that there were
+abbrev pub HasClosed : Sight → Sight → Reason → Type 0
+HasClosed old new r = (new.reason ≡ Some r) × (new.entries ≡ old.entries)
+
+-- when the seat of the site k came in it found what it had left and what others did since; P is of what it found. The fixed
+-- part stays
+abbrev pub Since : ℕ → Sight → Sight → (Sight → Type 0) → Type 0
+Since k old new P = (now : Sight) × Agrees k now old × P now × (new.fixed ≡ old.fixed)

@@ -1,0 +1,5 @@
+pub mod Inside
+pub mod Host
+pub mod Visit
+pub mod Hosts
+pub mod Sites

@@ -1,0 +1,62 @@
+//! What is done to the book inside the lock, each part in one call.
+
+ghost use Rattle.std.specs.Prelude.{◌≡◌, ℕ, Some, Contains};
+ghost use Rattle.site_message.specs.Story.{hand};
+ghost use Rattle.message_book.specs.Book.{IsSiteOf, sight_of};
+ghost use Rattle.book_lock.specs.Rule.{IsLawfulChange};
+ghost use Rattle.site_worker.specs.Inside.{HasFetched, HasDelivered, IsClosedBy};
+
+use message_book::{Book, Posted};
+use site_message::{Msg, Reason, Turn};
+
+/// What the first half of a visit finds: a reason to end, or a message or none, and the limit of own steps.
+#[derive(Drop)]
+pub(crate) enum Fetched {
+    Over(Reason),
+    Open(Option<(u64, Msg)>, u64),
+}
+
+/// What the second half leaves: the turn was posted, and the book has a reason now or none; or it was refused.
+#[derive(Drop)]
+pub(crate) enum Delivered {
+    Posted(Option<Reason>),
+    Refused(Reason),
+}
+
+// Hands out a message, unless the book has a reason.
+pub(crate) fn fetch(book: &mut Book, site: u32) -> Fetched
+    requires { IsSiteOf book.old.limits.sites site }
+    ensures lawful { IsLawfulChange site (sight_of book.old) (sight_of book.new) }
+    ensures fetched { HasFetched site (sight_of book.old) (sight_of book.new) result }
+{
+    if let Some(reason) = book.reason() {
+        return Fetched::Over(reason);
+    }
+    let limit = book.step_limit();
+    Fetched::Open(book.take(site), limit)
+}
+
+// Posts the turn. Where memory is wanting the book is closed.
+pub(crate) fn deliver(book: &mut Book, turn: Turn) -> Delivered
+    requires site { IsSiteOf book.old.limits.sites turn.site }
+    requires delivered { (k : ℕ) → turn.delivered ≡ Some k → Contains (hand turn.site book.old.hands) k }
+    ensures lawful { IsLawfulChange turn.site (sight_of book.old) (sight_of book.new) }
+    ensures delivered { HasDelivered turn (sight_of book.old) (sight_of book.new) result }
+{
+    match book.post(turn) {
+        Ok(()) => Delivered::Posted(book.reason()),
+        Err(Posted::Closed(reason)) => Delivered::Refused(reason),
+        Err(Posted::Memory) => Delivered::Refused(fail(book)),
+    }
+}
+
+// Closes the book for want of memory, and tells its reason.
+pub(crate) fn fail(book: &mut Book) -> Reason
+    ensures { IsClosedBy book.old book.new result }
+{
+    book.close(Reason::Memory);
+    match book.reason() {
+        Some(reason) => reason,
+        None => Reason::Memory,
+    }
+}

@@ -1,0 +1,37 @@
+//! Workers that drive the sites of a run on threads of the system: each visit of a site takes a message from the book, makes a
+//! turn outside the lock, and posts it.
+//!
+//! It promises (`specs/Host.antt`, `specs/Visit.antt`, `specs/Hosts.antt`): a `Host` is a site with its seat, and the entries of
+//! its site that the seat saw are turns of the site in a row from its start (`IsHost`). `visit` keeps that, and tells what it
+//! did (`IsVisit`): `Over` exactly where the book has that reason as the seat leaves it; else `Nothing` exactly where no message
+//! waited and the site was idle; else `Did`, with exactly one entry more and nothing in hand. The entry is a turn of 64 units or
+//! of the own steps that were left, where these are fewer, and of fewer only where the site is then idle (`HasMadeTurn`). A
+//! turn is made while the seat is outside the lock alone (the condition of the site's `turn`). `drive` gives back the hosts
+//! that it was given, each once with its seat, and when it ends in `Ok` some seat saw a reason to end; without memory nothing
+//! was done. `finish` takes the book out: its journal is a run of the world of sites (`IsWorldRun`, which is `WorldRun` of
+//! `site_model` with some states), nothing had ended it before its last turn (`WentOn`), and its limits are those that the seats
+//! saw. `run_sites` does all of it from a program to the finished book, which has a reason.
+//!
+//! It stands on `site_core` for a site and its turns, on `site_model` for what turns and runs are, on `message_book` and
+//! `book_lock` for the book and its lock, and on `crossbeam_utils` for the sleep of workers with nothing to do. Nothing is said of
+//! who comes first, nor that a worker is woken, nor that two turns are under way at once.
+#![tactic(auto)]
+
+mod drives;
+mod gate;
+mod host;
+mod inside;
+mod load;
+mod outcome;
+mod run;
+mod seats;
+mod shared;
+mod sites;
+mod work;
+
+pub use drives::drive;
+pub use gate::{Gate, OpenGate};
+pub use host::{Host, visit};
+pub use outcome::Visited;
+pub use run::finish;
+pub use sites::{Bounds, run_sites};

@@ -1,0 +1,110 @@
+//! A whole run: new sites with their seats, driven to an end.
+
+ghost use Rattle.std.specs.Prelude.{◌≡◌, ℕ, ◌<◌, ◌≤◌, [], Some, length, vec_capacity, IfOk};
+ghost use Rattle.site_message.specs.declared.outcome.Reason.{Reason};
+ghost use Rattle.site_message.specs.declared.story.Sight.{Sight};
+ghost use Rattle.site_message.specs.Progress.{WentOn};
+ghost use Rattle.message_book.specs.Book.{IsSiteOf};
+ghost use Rattle.book_lock.specs.Seats.{lock_id, AreNewSeats};
+ghost use Rattle.site_worker.specs.Hosts.{AreHosts, AreHostsOf, IsComplete, IsWorldRun};
+ghost use Rattle.site_worker.specs.Sites.{AreNewSites, IsFresh};
+
+use crate::drives::drive;
+use crate::gate::Gate;
+use crate::host::Host;
+use crate::run::finish;
+use book_lock::{CountedLock, SiteSeat};
+use kernel_syntax::Program;
+use message_book::Book;
+use site_core::Site;
+use site_message::NoSeat;
+use std::alloc::{AllocError, Global};
+use std::sync::Wait;
+use std::thread::Threads;
+
+/// How large a run may be: its sites, the own steps of each, and the messages; and how many workers drive it.
+#[derive(Clone, Copy, Debug, PartialEq, Eq)]
+pub struct Bounds {
+    pub sites: u32,
+    pub workers: u32,
+    pub steps: u64,
+    pub messages: u64,
+}
+
+// The sites of a program at their start, that of site 1 first.
+fn new_sites<'a>(
+    alloc: Global,
+    count: u32,
+    program: &'a Program,
+) -> Result<Vec<Site<'a, NoSeat>>, AllocError>
+    requires { count ≤ 64 }
+    ensures count { IfOk result (λ ss. length ss.items ≡ count) }
+    ensures new { IfOk result (λ ss. AreNewSites program.now count 1 ss.items) }
+{
+    let mut sites = Vec::new(alloc);
+    for k in 0..count {
+        sites.push(Site::new(alloc, k + 1, count, program)?)?;
+    }
+    Ok(sites)
+}
+
+// Gives each site its seat. The empty list has room for the hosts.
+fn seat_all<'a>(
+    mut sites: Vec<Site<'a, NoSeat>>,
+    mut seats: Vec<SiteSeat>,
+    mut hosts: Vec<Host<'a>>,
+    count: u32,
+    program: &'a Program,
+    lock: &CountedLock<Book>,
+) -> Vec<Host<'a>>
+    requires room { (hosts.items ≡ []) × (count ≤ vec_capacity hosts) }
+    requires sites { (length sites.items ≡ count) × AreNewSites program.now count 1 sites.items }
+    requires seats { (length seats.items ≡ count) × ((x : Sight) × IsFresh count x × AreNewSeats (lock_id lock.now) 1 x seats.items) }
+    ensures hosts { AreHosts (lock_id lock.now) result.items }
+    ensures of { (x : Sight) → AreNewSeats (lock_id lock.now) 1 x seats.items → AreHostsOf program.now x.fixed result.items }
+    ensures complete { IsComplete count result.items }
+    ensures count { length result.items ≡ count }
+{
+    while let Some(seat) = seats.pop() {
+        let site = sites.pop().unwrap();
+        hosts.push_reserved(Host::new(site, seat));
+    }
+    seats.destroy_empty();
+    sites.destroy_empty();
+    hosts
+}
+
+/// Runs a program on new sites to a reason to end. Without the memory to begin, nothing is run.
+pub fn run_sites<G: Gate + Sync, R: Threads + Wait + Sync>(
+    rt: &R,
+    alloc: Global,
+    program: &Program,
+    bounds: Bounds,
+    gate: &G,
+) -> Result<Book, AllocError>
+    requires sites { IsSiteOf 64 bounds.sites }
+    requires workers { IsSiteOf 64 bounds.workers }
+    requires steps { (1 ≤ bounds.steps) × (bounds.steps ≤ 1000000000) }
+    requires messages { bounds.messages ≤ 4000000000 }
+    ensures run { IfOk result (λ b. IsWorldRun program.now bounds.sites b.journal) }
+    ensures limits { IfOk result (λ b. (b.limits.sites ≡ bounds.sites) × (b.limits.steps ≡ bounds.steps) × (b.limits.messages ≡ bounds.messages)) }
+    ensures went { IfOk result (λ b. WentOn b.limits b.journal) }
+    ensures over { IfOk result (λ b. (r : Reason) × (b.reason ≡ Some r)) }
+{
+    let size = bounds.sites as usize;
+    let hosts = Vec::with_capacity(alloc, size)?;
+    let room = Vec::with_capacity(alloc, size)?;
+    let sites = new_sites(alloc, bounds.sites, program)?;
+    let book = Book::new(alloc, bounds.sites, bounds.steps, bounds.messages)?;
+    let Ok((lock, seats)) = CountedLock::begin(alloc, book, bounds.sites) else {
+        return Err(AllocError);
+    };
+    let hosts = seat_all(sites, seats, hosts, bounds.sites, program, &lock);
+    match drive(rt, alloc, hosts, bounds.workers, &lock, gate) {
+        Ok(hosts) => Ok(finish(lock, hosts, room)),
+        Err((hosts, _)) => {
+            drop(finish(lock, hosts, room));
+            Err(AllocError)
+        }
+    }
+}

@@ -1,0 +1,91 @@
+//! How runs of programs end, with any number of workers.
+
+ghost use Rattle.std.specs.Prelude.{◌≤◌};
+
+use crate::programs::program_of;
+use message_book::Book;
+use site_message::Reason;
+use site_worker::{Bounds, OpenGate, run_sites};
+use std::alloc::{AllocError, Global};
+use std::process::Abort;
+use std::sync::Wait;
+use std::test::Fail;
+use std::thread::Threads;
+
+// Rows: a text, its sites, and its workers. Each run comes to rest.
+const QUIET: [(&str, u32, u32); 7] = [
+    ("skip", 1, 1),
+    ("skip", 64, 64),
+    ("local X in {Browse X} end", 2, 2),
+    ("local X in thread at 2 X = a end {Browse X} end", 2, 1),
+    (
+        "local X Y in thread at 2 X = a end thread at 3 Y = X end {Browse Y} end",
+        4,
+        4,
+    ),
+    (
+        "local X Y in thread at 2 X = a end thread at 3 Y = X end {Browse Y} end",
+        4,
+        3,
+    ),
+    (ROUNDS, 3, 3),
+];
+
+// The token of a cell goes to and fro between sites 2 and 3, whose workers sleep while it is away.
+const ROUNDS: &str = "local Cell Add Zero One N A B in
+  Zero = 0  One = 1  N = 100
+  {NewCell Zero Cell}
+  proc {Add N ?Done}
+    local Ends in
+      Ends = N =< Zero
+      if Ends then Done = true
+      else
+        local Old New Less in
+          {Exchange Cell Old New}
+          New = Old + One
+          Less = N - One
+          {Add Less Done}
+        end
+      end
+    end
+  end
+  thread at 2 {Add N A} end
+  thread at 3 {Add N B} end
+  {Wait A} {Wait B}
+end";
+
+const LOOP: &str = "local P in P = proc {$} {P} end {P} end";
+
+// The reason by which a run of the text ends on so many sites with so many workers.
+fn reason_of<R: Abort + Threads + Wait + Sync>(
+    rt: &R,
+    alloc: Global,
+    row: (&str, u32, u32),
+) -> Result<Option<Reason>, AllocError>
+    requires { (1 ≤ row.1) × (row.1 ≤ 64) × (1 ≤ row.2) × (row.2 ≤ 64) }
+{
+    let program = program_of(rt, alloc, row.0)?;
+    let bounds = Bounds {
+        sites: row.1,
+        workers: row.2,
+        steps: 10_000,
+        messages: 4_000_000_000,
+    };
+    let book: Book = run_sites(rt, alloc, &program, bounds, &OpenGate)?;
+    Ok(book.reason())
+}
+
+#[test]
+fn runs_come_to_rest(rt: HostRuntime) -> Result<(), Fail> {
+    for row in QUIET {
+        assert_eq!(rt; reason_of(&rt, rt.alloc(), row)?, Some(Reason::Quiet));
+    }
+    Ok(())
+}
+
+#[test]
+fn a_loop_comes_to_its_limit(rt: HostRuntime) -> Result<(), Fail> {
+    let reason = reason_of(&rt, rt.alloc(), (LOOP, 3, 4))?;
+    assert_eq!(rt; reason, Some(Reason::Steps(1)));
+    Ok(())
+}
