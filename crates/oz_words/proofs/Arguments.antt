@@ -22,7 +22,7 @@ use Rattle.clap.specs.declared.parser.ArgMatches.{ArgMatches}
 use Rattle.clap.proofs.WalkLemmas.{both, list_any-map}
 use Rattle.clap.proofs.SimpleLemmas.{is_false, is_nil, plain_fields}
 use Rattle.oz_words.specs.Places.{placeless_names}
-use Rattle.oz_words.specs.Command.{AreActions, action_names, oz_app, sites_option, steps_option, messages_option, number_rule, numbers_of, action_rule, action_values}
+use Rattle.oz_words.specs.Command.{AreActions, action_names, oz_app, sites_option, workers_option, steps_option, messages_option, number_rule, numbers_of, action_rule, action_values}
 use Rattle.oz_words.specs.Parsed.{HasValue, HasNumber}
 use Rattle.oz_words.proofs.DefaultValues.{defaulted_reads}
 
@@ -71,47 +71,54 @@ record IsKind (r : Rule) (q : ValueParser) : Type 0 where
   case : r.ignore_case ≡ false
 
 abbrev rules_of : Bor (List (Bor (List ℕ))) → List Rule
-rules_of names = number_rule sites_option ∷ number_rule steps_option ∷ number_rule messages_option ∷ action_rule names ∷ []
+rules_of names = number_rule sites_option ∷ number_rule workers_option ∷ number_rule steps_option ∷ number_rule messages_option ∷ action_rule names ∷ []
 
--- what holds of each of the four places
-each_of : (P : ℕ → Type 0) → P 0 → P 1 → P 2 → P 3 → (k : ℕ) → k < 4 → P k
-each_of P a b c d zero lt = a
-each_of P a b c d (suc zero) lt = b
-each_of P a b c d (suc (suc zero)) lt = c
-each_of P a b c d (suc (suc (suc zero))) lt = d
-each_of P a b c d (suc (suc (suc (suc k)))) lt = absurd (omega arith)
+-- two texts with a different letter
+differ : (a b : List ℕ) → bytes_eq a b ≡ false → a ≡ b → ⊥
+differ a b other same = true≢false (sym ((bytes_eq-Decides a b).1 same) ∙ other)
+
+-- what holds of each of the five places
+each_of : (P : ℕ → Type 0) → P 0 → P 1 → P 2 → P 3 → P 4 → (k : ℕ) → k < 5 → P k
+each_of P a b c d e zero lt = a
+each_of P a b c d e (suc zero) lt = b
+each_of P a b c d e (suc (suc zero)) lt = c
+each_of P a b c d e (suc (suc (suc zero))) lt = d
+each_of P a b c d e (suc (suc (suc (suc zero)))) lt = e
+each_of P a b c d e (suc (suc (suc (suc (suc k))))) lt = absurd (omega arith)
 
 -- the place of the argument with this name
 abbrev place_of : List ℕ → ℕ
 place_of id =
     if bytes_eq id (codes "sites") then 0
-    else if bytes_eq id (codes "steps") then 1
-    else if bytes_eq id (codes "messages") then 2
-    else 3
+    else if bytes_eq id (codes "workers") then 1
+    else if bytes_eq id (codes "steps") then 2
+    else if bytes_eq id (codes "messages") then 3
+    else 4
 
 module _ (c : Command) (names : Bor (List (Bor (List ℕ)))) (is : app_of c ≡ oz_app names) where
   rules : map rule_of (args_of c) ≡ rules_of names
   rules = ap (λ (a : App). a.top.rules) is
 
-  count : length (args_of c) ≡ 4
+  count : length (args_of c) ≡ 5
   count = sym (length-map (args_of c) rule_of) ∙ ap length rules
 
-  below : (k : ℕ) → k < 4 → k < length (args_of c)
+  below : (k : ℕ) → k < 5 → k < length (args_of c)
   below k lt = omega (arith, count)
 
-  rule_at : (k : ℕ) (d : Arg) → k < 4 → rule_of (slice_index_or (args_of c) k d) ≡ slice_index_or (rules_of names) k (rule_of d)
+  rule_at : (k : ℕ) (d : Arg) → k < 5 → rule_of (slice_index_or (args_of c) k d) ≡ slice_index_or (rules_of names) k (rule_of d)
   rule_at k d lt = sym (get_or-map rule_of (args_of c) k d (rule_of d) (below k lt)) ∙ ap (λ l. slice_index_or l k (rule_of d)) rules
 
-  kind_at : (k : ℕ) (e : Rule) → k < 4 → (q : ValueParser) × IsKind (slice_index_or (rules_of names) k e) q
+  kind_at : (k : ℕ) (e : Rule) → k < 5 → (q : ValueParser) × IsKind (slice_index_or (rules_of names) k e) q
   kind_at k e lt =
       each_of (λ i. (q : ValueParser) × IsKind (slice_index_or (rules_of names) i e) q)
       (_, record { simple = refl; free = refl; action = refl; range = refl; default = (_, refl); parser = refl; case = refl })
       (_, record { simple = refl; free = refl; action = refl; range = refl; default = (_, refl); parser = refl; case = refl })
       (_, record { simple = refl; free = refl; action = refl; range = refl; default = (_, refl); parser = refl; case = refl })
       (_, record { simple = refl; free = refl; action = refl; range = refl; default = (_, refl); parser = refl; case = refl })
+      (_, record { simple = refl; free = refl; action = refl; range = refl; default = (_, refl); parser = refl; case = refl })
       k lt
 
-  plain_at : (k : ℕ) (d : Arg) → k < 4 → Plain (slice_index_or (args_of c) k d)
+  plain_at : (k : ℕ) (d : Arg) → k < 5 → Plain (slice_index_or (args_of c) k d)
   plain_at k d lt =
       let kind = (kind_at k (rule_of d) lt).1 in
       let at = rule_at k d lt in
@@ -123,29 +130,29 @@ module _ (c : Command) (names : Bor (List (Bor (List ℕ)))) (is : app_of c ≡ 
     (plain_fields c (ap (λ (a : App). a.top.is_plain) is)).groups,
   )
 
-  id_at : (k : ℕ) (d : Arg) → k < 4 → (slice_index_or (args_of c) k d).id.now ≡ (slice_index_or (rules_of names) k (rule_of d)).id
+  id_at : (k : ℕ) (d : Arg) → k < 5 → (slice_index_or (args_of c) k d).id.now ≡ (slice_index_or (rules_of names) k (rule_of d)).id
   id_at k d lt = ap (λ (r : Rule). r.id) (rule_at k d lt)
 
-  place_at : (k : ℕ) (x : Rule) → k < 4 → place_of (slice_index_or (rules_of names) k x).id ≡ k
-  place_at k x lt = each_of (λ i. place_of (slice_index_or (rules_of names) i x).id ≡ i) refl refl refl refl k lt
+  place_at : (k : ℕ) (x : Rule) → k < 5 → place_of (slice_index_or (rules_of names) k x).id ≡ k
+  place_at k x lt = each_of (λ i. place_of (slice_index_or (rules_of names) i x).id ≡ i) refl refl refl refl refl k lt
 
-  distinct : (j k : ℕ) (x y : Rule) → j < 4 → k < 4
+  distinct : (j k : ℕ) (x y : Rule) → j < 5 → k < 5
       → bytes_eq (slice_index_or (rules_of names) j x).id (slice_index_or (rules_of names) k y).id ≡ true → j ≡ k
   distinct j k x y l m e =
       let same : (slice_index_or (rules_of names) j x).id ≡ (slice_index_or (rules_of names) k y).id = (bytes_eq-Decides _ _).0 e in
       sym (place_at j x l) ∙ (ap place_of {x = (slice_index_or (rules_of names) j x).id} {y = (slice_index_or (rules_of names) k y).id} same ∙ place_at k y m)
 
   -- the id is neither empty nor one that building adds
-  own_id : (k : ℕ) (x : Rule) → k < 4 → (((slice_index_or (rules_of names) k x).id ≡ []) → ⊥)
+  own_id : (k : ℕ) (x : Rule) → k < 5 → (((slice_index_or (rules_of names) k x).id ≡ []) → ⊥)
       × (((slice_index_or (rules_of names) k x).id ≡ codes "help") → ⊥) × (((slice_index_or (rules_of names) k x).id ≡ codes "version") → ⊥)
   own_id k x lt =
       each_of (λ i. (((slice_index_or (rules_of names) i x).id ≡ []) → ⊥)
       × (((slice_index_or (rules_of names) i x).id ≡ codes "help") → ⊥) × (((slice_index_or (rules_of names) i x).id ≡ codes "version") → ⊥))
-      ((λ e. cc), (λ e. cc), (λ e. cc)) ((λ e. cc), (λ e. cc), (λ e. cc)) ((λ e. cc), (λ e. cc), (λ e. cc)) ((λ e. cc), (λ e. cc), (λ e. cc))
+      ((λ e. cc), differ _ _ refl, differ _ _ refl) ((λ e. cc), differ _ _ refl, differ _ _ refl) ((λ e. cc), differ _ _ refl, differ _ _ refl) ((λ e. cc), differ _ _ refl, differ _ _ refl) ((λ e. cc), differ _ _ refl, differ _ _ refl)
       k lt
 
   -- each argument has a value that its parser took
-  reads_at : (m : ArgMatches) → IsParsedFrom c m → (k : ℕ) (d : Arg) → k < 4 → (q : ValueParser)
+  reads_at : (m : ArgMatches) → IsParsedFrom c m → (k : ℕ) (d : Arg) → k < 5 → (q : ValueParser)
       → (slice_index_or (rules_of names) k (rule_of d)).parser ≡ Some q
       → (t : List ℕ) × (one_text (found_of m) (slice_index_or (rules_of names) k (rule_of d)).id ≡ Some (read_as (reading_of q) t)) × Accepts false q t
   reads_at m p k d lt q parser =
@@ -179,15 +186,18 @@ module _ (c : Command) (names : Bor (List (Bor (List ℕ)))) (is : app_of c ≡ 
   pub sites_number : (m : ArgMatches) → IsParsedFrom c m → HasNumber m sites_option
   sites_number m p = reads_at m p 0 some_arg (omega arith) (numbers_of sites_option) refl
 
+  pub workers_number : (m : ArgMatches) → IsParsedFrom c m → HasNumber m workers_option
+  workers_number m p = reads_at m p 1 some_arg (omega arith) (numbers_of workers_option) refl
+
   pub steps_number : (m : ArgMatches) → IsParsedFrom c m → HasNumber m steps_option
-  steps_number m p = reads_at m p 1 some_arg (omega arith) (numbers_of steps_option) refl
+  steps_number m p = reads_at m p 2 some_arg (omega arith) (numbers_of steps_option) refl
 
   pub messages_number : (m : ArgMatches) → IsParsedFrom c m → HasNumber m messages_option
-  messages_number m p = reads_at m p 2 some_arg (omega arith) (numbers_of messages_option) refl
+  messages_number m p = reads_at m p 3 some_arg (omega arith) (numbers_of messages_option) refl
 
   pub action_value : AreActions names.now → (m : ArgMatches) → IsParsedFrom c m → HasValue m (codes "action") (action_values (placeless_names action_names))
   action_value are m p =
-      let value = reads_at m p 3 some_arg (omega arith) (action_values names) refl in
+      let value = reads_at m p 4 some_arg (omega arith) (action_values names) refl in
       (value.0, value.1, is_one_of value.0 value.2)
     where
       is_one_of : (t : List ℕ) → Accepts false (action_values names) t → Accepts false (action_values (placeless_names action_names)) t

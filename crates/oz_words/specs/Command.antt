@@ -18,6 +18,10 @@ pub record NumberOption : Type 0 where
 abbrev pub sites_option : NumberOption
 sites_option = record { name = codes "sites"; least = 1; most = 64; default = codes "4" }
 
+-- from 0 to 64
+abbrev pub workers_option : NumberOption
+workers_option = record { name = codes "workers"; least = 0; most = 64; default = codes "4" }
+
 -- from 1 to 1,000,000,000
 abbrev pub steps_option : NumberOption
 steps_option = record { name = codes "steps"; least = 1; most = 1000000000; default = codes "1000000" }
@@ -65,10 +69,10 @@ action_rule names = record (new_rule (codes "action")) {
 -- the options, and the word after them
 abbrev pub rules_of_oz : Bor (List (Bor Text)) → App
 rules_of_oz names =
-    with_rule (with_rule (with_rule (with_rule (new_app (codes "oz"))
-    (number_rule sites_option)) (number_rule steps_option)) (number_rule messages_option)) (action_rule names)
+    with_rule (with_rule (with_rule (with_rule (with_rule (new_app (codes "oz"))
+    (number_rule sites_option)) (number_rule workers_option)) (number_rule steps_option)) (number_rule messages_option)) (action_rule names)
 
--- `oz [--sites N] [--steps N] [--messages N] [run|central]`
+-- `oz [--sites N] [--workers N] [--steps N] [--messages N] [run|central]`
 abbrev pub oz_app : Bor (List (Bor Text)) → App
 oz_app names = record (rules_of_oz names) {
   top = record (rules_of_oz names).top {

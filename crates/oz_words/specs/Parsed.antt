@@ -5,7 +5,7 @@ use Rattle.clap.specs.Values.{read_as, reading_of}
 use Rattle.clap.specs.declared.builder.ValueParser.{ValueParser}
 use Rattle.clap.specs.declared.parser.ArgMatches.{ArgMatches}
 use Rattle.oz_words.specs.Places.{placeless_names}
-use Rattle.oz_words.specs.Command.{NumberOption, sites_option, steps_option, messages_option, numbers_of, action_names, action_values, oz_command}
+use Rattle.oz_words.specs.Command.{NumberOption, sites_option, workers_option, steps_option, messages_option, numbers_of, action_names, action_values, oz_command}
 use Rattle.oz_words.specs.declared.options.WordsError.{WordsError}
 use Rattle.oz_words.specs.declared.options.WordsError.TheVariants.{Usage, Memory}
 
@@ -34,6 +34,7 @@ pub record Parsed (words : List Text) (m : ArgMatches) : Type 0 where
   pub no_fault : words_fault words ≡ []
   pub rows : rows_of (found_of m) ≡ words_rows words
   pub sites : HasNumber m sites_option
+  pub workers : HasNumber m workers_option
   pub steps : HasNumber m steps_option
   pub messages : HasNumber m messages_option
   pub action : HasValue m (codes "action") (action_values (placeless_names action_names))

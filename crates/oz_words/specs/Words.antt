@@ -2,7 +2,7 @@
 use Rattle.std.specs.Prelude.{◌≡◌, ◌≢◌, ℕ, List, [], Option, Some, None, codes, Result, Ok, Err}
 use Rattle.std.specs.Str.Parse.{digits_value, without_leading_plus}
 use Rattle.clap.specs.Words.{Row, Text, one_of}
-use Rattle.oz_words.specs.Command.{IsWithin, sites_option, steps_option, messages_option}
+use Rattle.oz_words.specs.Command.{IsWithin, sites_option, workers_option, steps_option, messages_option}
 use Rattle.oz_words.specs.Parsed.{words_fault, words_rows}
 use Rattle.oz_words.specs.declared.options.Action.{Action}
 use Rattle.oz_words.specs.declared.options.Action.TheVariants.{Run, Central}
@@ -28,6 +28,7 @@ NamesAction text (Err unknown) = (text ≢ codes "run") × (text ≢ codes "cent
 -- the options are the matches
 pub record AreMatches (rows : List Row) (options : Options) : Type 0 where
   pub sites : Says (one_of sites_option.name rows) options.sites
+  pub workers : Says (one_of workers_option.name rows) options.workers
   pub steps : Says (one_of steps_option.name rows) options.steps
   pub messages : Says (one_of messages_option.name rows) options.messages
   pub action : one_of (codes "action") rows ≡ Some (action_name options.action)
@@ -35,6 +36,7 @@ pub record AreMatches (rows : List Row) (options : Options) : Type 0 where
 -- the numbers are in their ranges
 pub record InRange (options : Options) : Type 0 where
   pub sites : IsWithin sites_option options.sites
+  pub workers : IsWithin workers_option options.workers
   pub steps : IsWithin steps_option options.steps
   pub messages : IsWithin messages_option options.messages
 

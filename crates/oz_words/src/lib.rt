@@ -2,7 +2,7 @@
 //!
 //! **For**: `oz_runner`, which reads its options here, and whoever wants the command itself, as for a page of help.
 //!
-//! **Promises**: `command` is `oz [--sites N] [--steps N] [--messages N] [run|central]` in the terms of the crate that reads words (`app`: `oz_app` in
+//! **Promises**: `command` is `oz [--sites N] [--workers N] [--steps N] [--messages N] [run|central]` in the terms of the crate that reads words (`app`: `oz_app` in
 //! `specs/Command.antt`), and what it makes of any words is determined: `words_fault` and `words_rows` (`words`), wherever in
 //! memory the names of its actions lie. `read_options` answers `Usage` exactly where that command refuses the words, and else
 //! the options that its matches say (`text`: `ReadsWords`), whose numbers are in their ranges (`range`).

@@ -38,11 +38,13 @@ impl FromStr for Action {
     }
 }
 
-/// What the words ask for: what to do, the number of sites, 1 to 64, the most steps of each, 1 to 1,000,000,000, and the most
-/// messages, 0 to 4,000,000,000. On the centralised machine there are no sites and no messages, and the steps are of the whole.
+/// What the words ask for: what to do, the number of sites, 1 to 64, the number of workers that drive them, 0 to 64, the most
+/// steps of each site, 1 to 1,000,000,000, and the most messages, 0 to 4,000,000,000. Without workers the sites take turns on
+/// the caller's thread. On the centralised machine there are no sites, workers and messages, and the steps are of the whole.
 #[derive(Clone, Copy, Debug, PartialEq, Eq)]
 pub struct Options {
     pub sites: u32,
+    pub workers: u32,
     pub steps: u64,
     pub messages: u64,
     pub action: Action,
@@ -97,6 +99,7 @@ pub fn read_options(alloc: Global, words: &[String]) -> Result<Options, WordsErr
     let matches = parse(alloc, words)?;
     Ok(Options {
         sites: number_of(&matches, "sites") as u32,
+        workers: number_of(&matches, "workers") as u32,
         steps: number_of(&matches, "steps"),
         messages: number_of(&matches, "messages"),
         action: action_in(&matches),

@@ -48,9 +48,10 @@ fn action_names<'a>() -> &'a [&'a str]
     ACTIONS.as_slice()
 }
 
-/// The command that takes `oz [--sites N] [--steps N] [--messages N] [run|central]`:
+/// The command that takes `oz [--sites N] [--workers N] [--steps N] [--messages N] [run|central]`:
 ///
 /// - `--sites N`, the number of sites of a run, from 1 to 64; 4 where it is left out;
+/// - `--workers N`, the number of workers that drive the sites, from 0 to 64; 4 where it is left out;
 /// - `--steps N`, the most steps of a site, or of the centralised machine, from 1 to 1,000,000,000; 1,000,000 where it is
 ///   left out;
 /// - `--messages N`, the most messages that sites send to each other, from 0 to 4,000,000,000; 1,000,000 where it is left
@@ -64,6 +65,7 @@ pub fn command<'a>(alloc: Global) -> Result<Command<'a>, AllocError>
     ensures words { IfOk result (λ c. TakesWordsOfOz (app_of c)) }
 {
     let sites = option_of(alloc, "sites", numbers(1, 64), "4");
+    let workers = option_of(alloc, "workers", numbers(0, 64), "4");
     let steps = option_of(alloc, "steps", numbers(1, 1_000_000_000), "1000000");
     let messages = option_of(alloc, "messages", numbers(0, 4_000_000_000), "1000000");
     let action = action_of(alloc, action_names());
@@ -71,6 +73,7 @@ pub fn command<'a>(alloc: Global) -> Result<Command<'a>, AllocError>
         .disable_help_flag(true)
         .disable_version_flag(true)
         .arg(sites)?
+        .arg(workers)?
         .arg(steps)?
         .arg(messages)?
         .arg(action)

@@ -2,7 +2,7 @@ use Rattle.std.proofs.Common.{◌≡◌, ◌∙◌, ap, refl, sym, subst, List, 
 use Rattle.clap.specs.Words.{Row, Text, found_of, one_of, one_text, rows_of}
 use Rattle.clap.specs.declared.parser.matches.Found.{Found}
 use Rattle.clap.proofs.WalkLemmas.{one_text-rows}
-use Rattle.oz_words.specs.Command.{sites_option, steps_option, messages_option}
+use Rattle.oz_words.specs.Command.{sites_option, workers_option, steps_option, messages_option}
 use Rattle.oz_words.specs.Words.{Says}
 use Rattle.oz_words.proofs.options.read_options.Goals as goal
 
@@ -17,8 +17,9 @@ returns-clause-text c =
       p.no_fault,
       record {
         sites = subst (λ (t : Option Text). Says t c.number_of.result) (by_rows f _ _ p.rows) c.number_of.ensures.text;
-        steps = subst (λ (t : Option Text). Says t c.number_of-2.result) (by_rows f _ _ p.rows) c.number_of-2.ensures.text;
-        messages = subst (λ (t : Option Text). Says t c.number_of-3.result) (by_rows f _ _ p.rows) c.number_of-3.ensures.text;
+        workers = subst (λ (t : Option Text). Says t c.number_of-2.result) (by_rows f _ _ p.rows) c.number_of-2.ensures.text;
+        steps = subst (λ (t : Option Text). Says t c.number_of-3.result) (by_rows f _ _ p.rows) c.number_of-3.ensures.text;
+        messages = subst (λ (t : Option Text). Says t c.number_of-4.result) (by_rows f _ _ p.rows) c.number_of-4.ensures.text;
         action = sym (by_rows f _ _ p.rows) ∙ c.action_in.ensures;
       },
     )
@@ -27,7 +28,10 @@ pub number_of-requires : goal.number_of-requires
 number_of-requires c = (sites_option, refl, c.in_ok-matches.ensures.sites)
 
 pub number_of-requires-2 : goal.number_of-requires-2
-number_of-requires-2 c = (steps_option, refl, c.in_ok-matches.ensures.steps)
+number_of-requires-2 c = (workers_option, refl, c.in_ok-matches.ensures.workers)
 
 pub number_of-requires-3 : goal.number_of-requires-3
-number_of-requires-3 c = (messages_option, refl, c.in_ok-matches.ensures.messages)
+number_of-requires-3 c = (steps_option, refl, c.in_ok-matches.ensures.steps)
+
+pub number_of-requires-4 : goal.number_of-requires-4
+number_of-requires-4 c = (messages_option, refl, c.in_ok-matches.ensures.messages)

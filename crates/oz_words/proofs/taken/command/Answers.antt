@@ -5,7 +5,7 @@ use Rattle.clap.specs.Words.{AddsArg, App, Rule, Text, app_of, new_app, rule_of,
 use Rattle.clap.specs.declared.builder.Arg.{Arg}
 use Rattle.clap.specs.declared.builder.Command.{Command}
 use Rattle.clap.specs.declared.builder.ValueParser.{ValueParser}
-use Rattle.oz_words.specs.Command.{AreActions, NumberOption, number_rule, numbers_of, option_rule, oz_app, sites_option, steps_option, messages_option}
+use Rattle.oz_words.specs.Command.{AreActions, NumberOption, number_rule, numbers_of, option_rule, oz_app, sites_option, workers_option, steps_option, messages_option}
 use Rattle.oz_words.specs.Parsed.{TakesWordsOfOz}
 use Rattle.oz_words.proofs.PlaceLemmas.{takes_words_of_oz}
 use Rattle.oz_words.proofs.taken.command.Goals as goal
@@ -40,15 +40,17 @@ bare_app = record (new_app (codes "oz")) {
   };
 }
 
-is_command : (c : goal.After-arg-4) → IfOk c.arg-4.result (λ made. app_of made ≡ oz_app c.action_names.result)
+is_command : (c : goal.After-arg-5) → IfOk c.arg-5.result (λ made. app_of made ≡ oz_app c.action_names.result)
 is_command c =
     let sites = with_numbers c.option_of-sites.result sites_option c.numbers.result c.option_of-sites.ensures.rule c.numbers.ensures in
-    let steps = with_numbers c.option_of-steps.result steps_option c.numbers-2.result c.option_of-steps.ensures.rule c.numbers-2.ensures in
-    let messages = with_numbers c.option_of-messages.result messages_option c.numbers-3.result c.option_of-messages.ensures.rule c.numbers-3.ensures in
+    let workers = with_numbers c.option_of-workers.result workers_option c.numbers-2.result c.option_of-workers.ensures.rule c.numbers-2.ensures in
+    let steps = with_numbers c.option_of-steps.result steps_option c.numbers-3.result c.option_of-steps.ensures.rule c.numbers-3.ensures in
+    let messages = with_numbers c.option_of-messages.result messages_option c.numbers-4.result c.option_of-messages.ensures.rule c.numbers-4.ensures in
     let first = added _ c.in_ok-arg.field-0 _ bare_app _ c.in_ok-arg.ensures c.option_of-sites.ensures.local sites (search rules) in
-    let second = added _ c.in_ok-arg-2.field-0 _ _ _ c.in_ok-arg-2.ensures c.option_of-steps.ensures.local steps first in
-    let third = added _ c.in_ok-arg-3.field-0 _ _ _ c.in_ok-arg-3.ensures c.option_of-messages.ensures.local messages second in
-    last_added _ c.arg-4.result _ _ _ c.arg-4.ensures c.action_of-action.ensures.local c.action_of-action.ensures.rule third
+    let second = added _ c.in_ok-arg-2.field-0 _ _ _ c.in_ok-arg-2.ensures c.option_of-workers.ensures.local workers first in
+    let third = added _ c.in_ok-arg-3.field-0 _ _ _ c.in_ok-arg-3.ensures c.option_of-steps.ensures.local steps second in
+    let fourth = added _ c.in_ok-arg-4.field-0 _ _ _ c.in_ok-arg-4.ensures c.option_of-messages.ensures.local messages third in
+    last_added _ c.arg-5.result _ _ _ c.arg-5.ensures c.action_of-action.ensures.local c.action_of-action.ensures.rule fourth
 
 pub returns-clause-app : goal.returns-clause-app
 returns-clause-app c = (c.action_names.result, c.action_names.ensures, is_command c)
@@ -59,5 +61,8 @@ returns-in_err-arg-2-clause-app c = (c.action_names.result, c.action_names.ensur
 pub returns-in_err-arg-3-clause-app : goal.returns-in_err-arg-3-clause-app
 returns-in_err-arg-3-clause-app c = (c.action_names.result, c.action_names.ensures, search rules)
 
+pub returns-in_err-arg-4-clause-app : goal.returns-in_err-arg-4-clause-app
+returns-in_err-arg-4-clause-app c = (c.action_names.result, c.action_names.ensures, search rules)
+
 pub returns-clause-words : goal.returns-clause-words
-returns-clause-words c = takes_words c.arg-4.result c.action_names.result c.action_names.ensures (is_command c)
+returns-clause-words c = takes_words c.arg-5.result c.action_names.result c.action_names.ensures (is_command c)
