@@ -17,12 +17,14 @@ is_due() {
 
 takes() {
     cat >&2 <<'END'
-./oz [--sites N] [--steps N] [--messages N] [run|central] [FILE.oz]
+./oz [--sites N] [--workers N] [--steps N] [--messages N] [run|central] [FILE.oz]
 
   FILE.oz        the text to run; where it is left out, the text is standard input
   run            runs the text over its sites; this is what is done where neither word stands
   central        runs it on the centralised machine, without sites
   --sites N      the number of sites, 1 to 64; 4 where it is left out
+  --workers N    the number of workers that drive the sites, 0 to 64; 4 where it is left out. With 0 the sites take
+                 turns in a fixed order, and each run of a text prints the same
   --steps N      stops the run where a site made N steps, 1 to 1,000,000,000; 1,000,000 where it is left out
   --messages N   stops the run after N messages, 0 to 4,000,000,000; 1,000,000 where it is left out
 

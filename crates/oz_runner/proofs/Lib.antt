@@ -1,4 +1,5 @@
 pub mod RunLemmas
+pub mod BookLemmas
 pub mod MachineLemmas
 pub mod Pieces
 pub mod CauseLemmas

@@ -10,9 +10,13 @@ use Rattle.site_message.specs.declared.outcome.Reason.TheVariants as reason
 use Rattle.site_message.specs.declared.turn.Turn.{Turn}
 use Rattle.site_message.specs.Journal as journal
 use Rattle.site_message.specs.Journal.{are_idle, end_of, is_empty, is_quiet, sent_of, travelling}
+use Rattle.site_message.specs.Progress.{WentOn}
 use Rattle.site_message.specs.Rows.{QuietTells}
+use Rattle.site_model.specs.Bundle.{bundle_limit}
 use Rattle.site_model.specs.Site.{Site}
 use Rattle.world_model.specs.Simulated.{IsSimulated, last_ended, last_waiting}
+use Rattle.world_places.specs.Places.{ThreadsStayHome}
+use Rattle.world_runs.specs.Distributed.{DistributedRun}
 use Rattle.plain_run.specs.Going.{HasReason}
 use Rattle.plain_run.specs.Simulated.{HasMachineRun}
 use Rattle.plain_run.specs.declared.out.Limits.{Limits}
@@ -24,7 +28,7 @@ use Rattle.oz_show.specs.Status.{HasLine}
 use Rattle.oz_show.specs.declared.status.Status.{Status}
 use Rattle.oz_show.specs.declared.status.Status.TheVariants.{Quiescent, Usage, Refused, NotUtf8, TooLong, StepLimit, MessageLimit, ReadFault, WriteFault, Memory}
 use Rattle.oz_runner.specs.Seen.{Made, made_of}
-use Rattle.oz_runner.specs.Run.{AreSilent, CameTo, EndsFor, HasEnded, IsMadeBy, IsQuiet, IsRun, limits_of}
+use Rattle.oz_runner.specs.Run.{AreSilent, CameTo, EndsFor, HasEnded, IsMadeBy, IsMadeBySites, IsQuiet, IsRun, limits_of}
 use Rattle.oz_runner.specs.Ends.{status_of}
 use Rattle.world_model.specs.Schedule.{lines_in, schedule, sum_to}
 
@@ -57,8 +61,11 @@ plain_limits options = record { sites = options.sites; steps = options.steps; me
 -- what a run over sites left
 pub record Leaves (p : List Stmt) (options : Options) (out : RunOut) : Type 0 where
   pub run : HasMachineRun p options.sites out.journal
+  pub rows : DistributedRun p options.sites bundle_limit out.journal run.0
+  pub homes : ThreadsStayHome out.journal
   pub picks : out.schedule.items ≡ schedule out.journal
   pub reason : HasReason (plain_limits options) out.journal out.reason
+  pub went : WentOn (limits_of options) out.journal
   pub ended : out.ended ≡ sum_to options.sites (last_ended out.journal)
   pub waiting : out.waiting ≡ sum_to options.sites (last_waiting out.journal)
 
@@ -75,9 +82,18 @@ module _ (p : List Stmt) (options : Options) (out : RunOut) (is : options.action
   abbrev by_sites : Made
   by_sites = made_of out.journal out.schedule.items (lines_in out.journal)
 
+  made_by_sites : IsMadeBySites p options by_sites
+  made_by_sites = record {
+    states = states;
+    run = left.rows;
+    went = left.went;
+    picks = left.picks;
+    homes = left.homes;
+  }
+
   sites_run : IsRun p options by_sites s
   sites_run = record {
-    made_by = subst (λ (a : Action). IsMadeBy a p options by_sites) (sym is) (states, left.run.1, left.picks);
+    made_by = subst (λ (a : Action). IsMadeBy a p options by_sites) (sym is) made_by_sites;
     run = subst (λ (picks : List Pick). Run p picks s) (sym left.picks) simulated.run;
     lines = sym simulated.matches.lines;
     once = simulated.once;

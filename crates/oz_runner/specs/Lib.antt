@@ -5,5 +5,6 @@ pub mod Written
 pub mod Headline
 pub mod Complete
 pub mod Ends
+pub mod Bounds
 pub mod Machine
 pub mod Started

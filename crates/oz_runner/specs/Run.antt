@@ -5,12 +5,14 @@ use Rattle.tree_node.specs.State.{State}
 use Rattle.kernel_syntax.specs.declared.stmt.Stmt.{Stmt}
 use Rattle.oz_model.specs.Run.{Run, AtRest}
 use Rattle.site_message.specs.Journal.{Limits, end_of, is_idle, travelling}
+use Rattle.site_message.specs.Progress.{WentOn}
 use Rattle.site_message.specs.declared.outcome.Reason.{Reason}
 use Rattle.site_message.specs.declared.outcome.Reason.TheVariants.{Quiet, Steps, Messages}
 use Rattle.site_model.specs.Bundle.{bundle_limit}
 use Rattle.site_model.specs.Site.{Site}
-use Rattle.site_model.specs.Run.{WorldRun}
 use Rattle.world_model.specs.Schedule.{schedule}
+use Rattle.world_places.specs.Places.{ThreadsStayHome}
+use Rattle.world_runs.specs.Distributed.{DistributedRun}
 use Rattle.oz_words.specs.declared.options.Action.{Action}
 use Rattle.oz_words.specs.declared.options.Action.TheVariants as action
 use Rattle.oz_words.specs.declared.options.Options.{Options}
@@ -22,11 +24,18 @@ use Rattle.oz_runner.specs.Seen.{Made}
 abbrev pub limits_of : Options → Limits
 limits_of options = record { sites = options.sites; steps = options.steps; messages = options.messages }
 
--- `run` is made by the sites: the journal is one of the program on that many, and the schedule has its picks. `central` is made
--- by the machine alone, without a journal and in at most as many steps as the words say
+-- what the sites made: the journal is one of the program on that many, no turn but the last ended it, the schedule has its picks, and
+-- each own step of a thread is of the site where the thread was placed
+pub record IsMadeBySites (p : List Stmt) (options : Options) (made : Made) : Type 0 where
+  pub states : ℕ → Site
+  pub run : DistributedRun p options.sites bundle_limit made.journal states
+  pub went : WentOn (limits_of options) made.journal
+  pub picks : made.schedule ≡ schedule made.journal
+  pub homes : ThreadsStayHome made.journal
+
+-- `run` is made by the sites, `central` by the machine alone, without a journal and in at most as many steps as the words say
 abbrev pub IsMadeBy : Action → List Stmt → Options → Made → Type 0
-IsMadeBy action.Run p options made =
-    (sites : ℕ → Site) × WorldRun p options.sites bundle_limit made.journal sites × (made.schedule ≡ schedule made.journal)
+IsMadeBy action.Run p options made = IsMadeBySites p options made
 IsMadeBy action.Central p options made = (made.journal ≡ []) × (length made.schedule ≤ options.steps)
 
 -- The schedule leads the centralised machine from the start of the program to this state, whose lines these are and in which

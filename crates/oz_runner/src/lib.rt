@@ -1,21 +1,23 @@
 //! The top call of `oz`: from words and a text to lines, an end line and a status.
 //!
 //! **For**: `oz_main`, whose `main` is `start`, and whoever embeds the whole program over a source and a sink of their own,
-//! by `oz`.
+//! by `oz`, or runs a program over its sites, by `run_program`.
 //!
 //! **Promises**: `oz` (`headline`: `Headline` in `specs/Headline.antt`): the lines that were written, uncaught exceptions among
 //! them, are those of the centralised machine under the schedule of the report, for every program and number of sites, whatever
-//! the order of turns and deliveries in the journal of the report; where it is quiescent no message travels, that machine has
+//! the order of turns and deliveries in the journal of the report, and whatever drove the sites; where it is quiescent no message travels, that machine has
 //! no step left, and the threads that ended and wait are that machine's (`CameTo` in `specs/Run.antt`); each status has its
 //! cause (`Cause` in `specs/Cause.antt`, one line a status), and what a failed write left is a front of what was due. `oz`
 //! (`complete`): with words that are taken, a text that reads a program, and no fault, the run goes to its end or to a limit.
-//! `start`: the program ends with the number of the status that such a call answers.
+//! `run_program`: the journal that workers, or the plain rounds, leave is a run of the program on so many sites, with its schedule and
+//! totals, and ends by the reason that is told. `start`: the program ends with the number of the status that a call of `oz` answers.
 //!
 //! **Stands on** `oz_words` for the words, `oz_base` for the text and the bytes written, `oz_parser` and `oz_grammar` for what a
-//! text reads, `plain_run` for a run over sites and `world_simulation` for what the machine has to do with it,
+//! text reads, `site_worker` and `plain_run` for a run over sites and `world_simulation` for what the machine has to do with it,
 //! `central_machine` and `oz_model` for a run of the machine alone, and `oz_show` for the end line.
 //!
-//! **Tests alone show**, in `oz_tests`: that memory suffices for the texts there, and that two runs print the same.
+//! **Tests alone show**, in `oz_tests`: that memory suffices for the texts there, that runs with workers end, and that two runs
+//! without them print the same.
 //!
 //! **Sources**: Van Roy and Haridi, Concepts, Techniques, and Models of Computer Programming, chapters 2, 4 and 6, for the
 //! machine whose lines these are; Haridi and others, Efficient Logic Variables for Distributed Computing (TOPLAS 21(3), 1999),
@@ -23,6 +25,7 @@
 #![tactic(auto)]
 
 mod machine;
+mod program;
 mod report;
 mod run;
 mod system;
@@ -32,6 +35,9 @@ mod write;
 
 pub use oz_show::Status;
 pub use oz_words::command;
+pub use plain_run::RunOut;
+pub use program::run_program;
 pub use report::Report;
+pub use site_worker::{Bounds, Gate, OpenGate};
 pub use system::start;
 pub use top::oz;

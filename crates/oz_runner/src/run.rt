@@ -8,36 +8,57 @@ ghost use Rattle.oz_runner.specs.Ends.{status_of, made_by};
 
 use crate::Status;
 use crate::machine::run_machine;
+use crate::program::run_program;
 use crate::work::{Printed, Work};
 use kernel_syntax::Program;
 use oz_words::{Action, Options};
-use plain_run::{Limits, run_plain};
 use site_message::{Reason, quiet_tells};
+use site_worker::{Bounds, Gate};
 use std::alloc::Global;
+use std::sync::Wait;
+use std::thread::Threads;
+use world_places::threads_stay_home;
+use world_runs::runs_take_rows;
 
 /// Runs a program, as the options say.
-pub fn run(alloc: Global, options: Options, program: &Program) -> Work
+pub fn run<G: Gate + Sync, R: Threads + Wait + Sync>(
+    rt: &R,
+    alloc: Global,
+    options: Options,
+    program: &Program,
+    gate: &G,
+) -> Work
     requires { InRange options }
     ensures { CameTo program.now options (made_by result) result.status }
 {
     match options.action {
-        Action::Run => run_sites(alloc, options, program),
+        Action::Run => run_over_sites(rt, alloc, options, program, gate),
         Action::Central => run_machine(alloc, options, program),
     }
 }
 
 // Runs a program over its sites.
-fn run_sites(alloc: Global, options: Options, program: &Program) -> Work
+fn run_over_sites<G: Gate + Sync, R: Threads + Wait + Sync>(
+    rt: &R,
+    alloc: Global,
+    options: Options,
+    program: &Program,
+    gate: &G,
+) -> Work
     requires { InRange options }
     ensures { options.action ≡ Run → CameTo program.now options (made_by result) result.status }
 {
-    let limits = Limits {
+    let bounds = Bounds {
         sites: options.sites,
+        workers: options.workers,
         steps: options.steps,
         messages: options.messages,
     };
-    let out = run_plain(alloc, program, limits);
+    let out = run_program(rt, alloc, program, bounds, gate);
     quiet_tells();
+    program.is_program();
+    runs_take_rows();
+    threads_stay_home();
     Work {
         status: status_of(out.reason, out.ended, out.waiting),
         schedule: out.schedule,

@@ -6,11 +6,15 @@ ghost use Rattle.oz_runner.specs.Started.{Started};
 
 use crate::oz;
 use oz_base::{Sink, Source};
+use site_worker::OpenGate;
 use std::alloc::{AllocError, Global};
 use std::env;
 use std::io::ErrorKind;
+use std::mem::forget;
 use std::process::ExitCode;
 use std::rt::Env;
+use std::sync::Wait;
+use std::thread::Threads;
 
 // The number that the program ends with where not even its words find memory.
 const OUT_OF_MEMORY: u8 = 8;
@@ -74,7 +78,7 @@ fn words<R: Env + AllocGlobal>(rt: &R) -> Result<Vec<String>, AllocError>
 
 /// Calls `oz` with the words that the system gives, and tells the number of its status, with which the program ends. It is
 /// all that `main` does. A word that is no text is refused, as a word is that the command does not take.
-pub fn start<R: Env + AllocGlobal, S: Source, K: Sink>(
+pub fn start<R: Env + AllocGlobal + Threads + Wait + Sync, S: Source, K: Sink>(
     rt: &R,
     source: &mut S,
     sink: &mut K,
@@ -82,7 +86,13 @@ pub fn start<R: Env + AllocGlobal, S: Source, K: Sink>(
     ensures { Started (stream_of S.left S.faults source.old source.new) (stream_of K.taken K.faults sink.old sink.new) result }
 {
     match words(rt) {
-        Ok(words) => ExitCode::from(oz(rt.alloc(), &words, source, sink).status.number()),
+        Ok(words) => {
+            let report = oz(rt, rt.alloc(), &words, source, sink, &OpenGate);
+            let code = ExitCode::from(report.status.number());
+            // The program ends, and its memory goes back to the system as a whole.
+            forget(report);
+            code
+        }
         Err(_) => ExitCode::from(OUT_OF_MEMORY),
     }
 }

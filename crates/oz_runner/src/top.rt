@@ -16,15 +16,20 @@ use oz_base::{Sink, Source};
 use oz_grammar::texts_have_one_of_both;
 use oz_show::{fixed_piece, last_line};
 use site_message::Journal;
+use site_worker::Gate;
 use std::alloc::Global;
+use std::sync::Wait;
+use std::thread::Threads;
 
 /// Reads the words and a text, runs it, and writes its lines and the end line. `words` are the program's name and the
-/// words after it. It is what `main` calls.
-pub fn oz<S: Source, K: Sink>(
+/// words after it. Workers call the gate before each turn of a site.
+pub fn oz<S: Source, K: Sink, G: Gate + Sync, R: Threads + Wait + Sync>(
+    rt: &R,
     alloc: Global,
     words: &[String],
     source: &mut S,
     sink: &mut K,
+    gate: &G,
 ) -> Report
     requires { 0 < length words.now }
     ensures headline { (lines : List (List ℕ)) × Headline
@@ -35,7 +40,7 @@ pub fn oz<S: Source, K: Sink>(
         → IsDone result.status }
 {
     texts_have_one_of_both();
-    let work = do_work(alloc, words, source);
+    let work = do_work(rt, alloc, words, source, gate);
     told(alloc, sink, work)
 }
 

@@ -13,8 +13,11 @@ use oz_base::{ReadError, Source, read_text};
 use oz_parser::{ParseError, parse};
 use oz_words::{Options, WordsError, read_options};
 use site_message::Journal;
+use site_worker::Gate;
 use std::alloc::Global;
 use std::str;
+use std::sync::Wait;
+use std::thread::Threads;
 use tree_node::{Line, Pick};
 
 // The most bytes of a text.
@@ -36,27 +39,39 @@ pub struct Work {
 }
 
 /// Reads the words, which are the program's name and those after it, then the text, and runs it.
-pub fn do_work<S: Source>(alloc: Global, words: &[String], source: &mut S) -> Work
+pub fn do_work<S: Source, G: Gate + Sync, R: Threads + Wait + Sync>(
+    rt: &R,
+    alloc: Global,
+    words: &[String],
+    source: &mut S,
+    gate: &G,
+) -> Work
     ensures cause { (sink : Stream) → Cause
         (seen_of (map string_bytes words.now) (stream_of S.left S.faults source.old source.new) sink) (made_by result) result.status }
     ensures line { HasLine result.status }
 {
     match read_options(alloc, words) {
-        Ok(options) => work_on_source(alloc, options, source),
+        Ok(options) => work_on_source(rt, alloc, options, source, gate),
         Err(WordsError::Usage) => stopped(alloc, Status::Usage),
         Err(WordsError::Memory) => stopped(alloc, Status::Memory),
     }
 }
 
 // Reads the text of a source and runs it, as the options say.
-fn work_on_source<S: Source>(alloc: Global, options: Options, source: &mut S) -> Work
+fn work_on_source<S: Source, G: Gate + Sync, R: Threads + Wait + Sync>(
+    rt: &R,
+    alloc: Global,
+    options: Options,
+    source: &mut S,
+    gate: &G,
+) -> Work
     requires { InRange options }
     ensures cause { (words : List (List ℕ)) (sink : Stream) → ReadsWords words (Ok options) → Cause
         (seen_of words (stream_of S.left S.faults source.old source.new) sink) (made_by result) result.status }
     ensures line { HasLine result.status }
 {
     match read_text(alloc, source, TEXT_LIMIT) {
-        Ok(text) => work_on_text(alloc, options, &text),
+        Ok(text) => work_on_text(rt, alloc, options, &text, gate),
         Err(ReadError::Fault) => stopped(alloc, Status::ReadFault),
         Err(ReadError::TooLong) => stopped(alloc, Status::TooLong),
         Err(ReadError::Memory) => stopped(alloc, Status::Memory),
@@ -64,7 +79,13 @@ fn work_on_source<S: Source>(alloc: Global, options: Options, source: &mut S) ->
 }
 
 // Runs a text, as the options say.
-fn work_on_text(alloc: Global, options: Options, text: &[u8]) -> Work
+fn work_on_text<G: Gate + Sync, R: Threads + Wait + Sync>(
+    rt: &R,
+    alloc: Global,
+    options: Options,
+    text: &[u8],
+    gate: &G,
+) -> Work
     requires range { InRange options }
     requires bytes { length text.now ≤ text_limit }
     ensures cause { (seen : Seen) → Says seen options → GaveText seen.source text.now → Cause seen (made_by result) result.status }
@@ -75,7 +96,7 @@ fn work_on_text(alloc: Global, options: Options, text: &[u8]) -> Work
         Err(error) => return stopped(alloc, Status::NotUtf8(error.valid_up_to() as u64)),
     };
     match parse(alloc, text) {
-        Ok(program) => run(alloc, options, &program),
+        Ok(program) => run(rt, alloc, options, &program, gate),
         Err(ParseError::Text(fault)) => stopped(alloc, Status::Refused(fault)),
         Err(ParseError::Memory) => stopped(alloc, Status::Memory),
     }

@@ -201,7 +201,7 @@ pub static WORDED: [Worded; 10] = [
 ];
 
 // Words that are refused.
-pub static USAGE: [&[&str]; 16] = [
+pub static USAGE: [&[&str]; 20] = [
     &["walk"],
     &["run", "central"],
     &["--steps", "0"],
@@ -214,6 +214,10 @@ pub static USAGE: [&[&str]; 16] = [
     &["--sites", "-1"],
     &["--sites", "x"],
     &["--sites", "2", "--sites", "3"],
+    &["--workers", "65"],
+    &["--workers", "-1"],
+    &["--workers", "x"],
+    &["--workers", "2", "--workers", "3"],
     &["--messages", "4000000001"],
     &["--messages", "-1"],
     &["--help"],

@@ -86,7 +86,7 @@ pub static SITED: [Sited; 17] = [
     (
         &["--steps", "100", "--sites", "2"],
         "local P in P = proc {$} {P} end thread at 2 {P} end end",
-        &["stopped steps site=2\n"],
+        &["stopped steps site=1\n", "stopped steps site=2\n"],
         4,
     ),
     (

@@ -3,12 +3,14 @@
 use crate::placed::{CELLS, Placed, RAISED, SENT, SITES, THREADS};
 use crate::rows::COUNTER;
 use crate::sited::{FIRST_LINES, RACE, SITED, THIRD};
-use crate::texts::{answer, words_of};
+use crate::texts::{answer, with_workers, words_of};
 use oz_base::{MemSink, MemSource};
-use oz_runner::oz;
+use oz_runner::{OpenGate, oz};
 use std::alloc::{AllocError, Global};
 use std::process::Abort;
+use std::sync::Wait;
 use std::test::Fail;
+use std::thread::Threads;
 
 // Whether the bytes are one of the outputs.
 fn is_among(bytes: &[u8], outputs: &[&str]) -> bool {
@@ -16,7 +18,7 @@ fn is_among(bytes: &[u8], outputs: &[&str]) -> bool {
 }
 
 // These words and this text have one of these outputs, and this number.
-fn prints_one_of<R: Abort>(
+fn prints_one_of<R: Abort + Threads + Wait + Sync>(
     rt: &R,
     alloc: Global,
     words: &[&str],
@@ -30,25 +32,32 @@ fn prints_one_of<R: Abort>(
     Ok(())
 }
 
-// So do these texts on each number of sites.
-fn print_on_all_sites<R: Abort>(rt: &R, alloc: Global, rows: &[Placed]) -> Result<(), AllocError> {
+// So do these texts on each number of sites, with so many workers.
+fn print_on_all_sites<R: Abort + Threads + Wait + Sync>(
+    rt: &R,
+    alloc: Global,
+    workers: &'static str,
+    rows: &[Placed],
+) -> Result<(), AllocError> {
     for row in rows {
-        for words in SITES.as_slice() {
-            prints_one_of(rt, alloc, words, row.0, row.1, row.2)?;
+        for sites in SITES.as_slice() {
+            let words = with_workers(alloc, sites, workers)?;
+            prints_one_of(rt, alloc, &words, row.0, row.1, row.2)?;
         }
     }
     Ok(())
 }
 
-// Two runs of a text print the same, and have schedules of the same length.
-fn prints_twice<R: Abort>(
+// Two runs of a text without workers print the same, and have schedules of the same length.
+fn prints_twice<R: Abort + Threads + Wait + Sync>(
     rt: &R,
     alloc: Global,
-    words: &[&str],
+    words: &[&'static str],
     text: &str,
 ) -> Result<(), AllocError> {
-    let first = answer(rt, alloc, words, text.as_bytes(), &[], &[])?;
-    let second = answer(rt, alloc, words, text.as_bytes(), &[], &[])?;
+    let words = with_workers(alloc, words, "0")?;
+    let first = answer(rt, alloc, &words, text.as_bytes(), &[], &[])?;
+    let second = answer(rt, alloc, &words, text.as_bytes(), &[], &[])?;
     assert_eq!(rt; first.0.as_slice(), second.0.as_slice());
     assert_eq!(rt; first.2, second.2);
     Ok(())
@@ -57,8 +66,11 @@ fn prints_twice<R: Abort>(
 #[test]
 fn worked_texts_have_a_lawful_output(rt: HostRuntime) -> Result<(), Fail> {
     let alloc = rt.alloc();
-    for row in SITED.as_slice() {
-        prints_one_of(&rt, alloc, row.0, row.1, row.2, row.3)?;
+    for workers in ["0", "1", "2", "4"] {
+        for row in SITED.as_slice() {
+            let words = with_workers(alloc, row.0, workers)?;
+            prints_one_of(&rt, alloc, &words, row.1, row.2, row.3)?;
+        }
     }
     Ok(())
 }
@@ -66,10 +78,12 @@ fn worked_texts_have_a_lawful_output(rt: HostRuntime) -> Result<(), Fail> {
 #[test]
 fn any_number_of_sites_prints_what_is_lawful(rt: HostRuntime) -> Result<(), Fail> {
     let alloc = rt.alloc();
-    print_on_all_sites(&rt, alloc, SENT.as_slice())?;
-    print_on_all_sites(&rt, alloc, THREADS.as_slice())?;
-    print_on_all_sites(&rt, alloc, CELLS.as_slice())?;
-    print_on_all_sites(&rt, alloc, RAISED.as_slice())?;
+    for workers in ["0", "3"] {
+        print_on_all_sites(&rt, alloc, workers, SENT.as_slice())?;
+        print_on_all_sites(&rt, alloc, workers, THREADS.as_slice())?;
+        print_on_all_sites(&rt, alloc, workers, CELLS.as_slice())?;
+        print_on_all_sites(&rt, alloc, workers, RAISED.as_slice())?;
+    }
     Ok(())
 }
 
@@ -106,7 +120,7 @@ fn a_line_stands_in_a_turn_of_its_site(rt: HostRuntime) -> Result<(), Fail> {
     assert!(rt; !words.is_empty());
     let mut source = MemSource::new(THIRD.as_bytes(), &[]);
     let mut sink = MemSink::new(alloc, &[], 2000)?;
-    let report = oz(alloc, &words, &mut source, &mut sink);
+    let report = oz(&rt, alloc, &words, &mut source, &mut sink, &OpenGate);
     let mut lines = 0;
     for turn in report.journal.oldest_first() {
         if !turn.lines.as_slice().is_empty() {

@@ -3,10 +3,12 @@
 use crate::examples::EXAMPLES;
 use crate::rows::{FAILING, LIST, REFUSED, RUNS, USAGE, WORDED};
 use oz_base::{MemSink, MemSource};
-use oz_runner::oz;
+use oz_runner::{OpenGate, oz};
 use std::alloc::{AllocError, Global};
 use std::process::Abort;
+use std::sync::Wait;
 use std::test::Fail;
+use std::thread::Threads;
 
 pub fn words_of(alloc: Global, words: &[&str]) -> Result<Vec<String>, AllocError> {
     let mut list = Vec::new(alloc);
@@ -17,8 +19,23 @@ pub fn words_of(alloc: Global, words: &[&str]) -> Result<Vec<String>, AllocError
     Ok(list)
 }
 
+/// These words, and so many workers.
+pub fn with_workers(
+    alloc: Global,
+    words: &[&'static str],
+    workers: &'static str,
+) -> Result<Vec<&'static str>, AllocError> {
+    let mut all = Vec::new(alloc);
+    for word in words {
+        all.push(*word)?;
+    }
+    all.push("--workers")?;
+    all.push(workers)?;
+    Ok(all)
+}
+
 // The bytes taken, the status' number and the length of the schedule, with room for two thousand bytes.
-pub fn answer<R: Abort>(
+pub fn answer<R: Abort + Threads + Wait + Sync>(
     rt: &R,
     alloc: Global,
     words: &[&str],
@@ -30,13 +47,18 @@ pub fn answer<R: Abort>(
     assert!(rt; !list.is_empty());
     let mut source = MemSource::new(text, reads);
     let mut sink = MemSink::new(alloc, writes, 2000)?;
-    let report = oz(alloc, &list, &mut source, &mut sink);
+    let report = oz(rt, alloc, &list, &mut source, &mut sink, &OpenGate);
     let bytes = Vec::from_slice(alloc, sink.bytes())?;
     Ok((bytes, report.status.number(), report.schedule.len()))
 }
 
 // A text is refused with this line.
-fn refuses<R: Abort>(rt: &R, alloc: Global, text: &[u8], line: &str) -> Result<(), AllocError> {
+fn refuses<R: Abort + Threads + Wait + Sync>(
+    rt: &R,
+    alloc: Global,
+    text: &[u8],
+    line: &str,
+) -> Result<(), AllocError> {
     let told = answer(rt, alloc, &[], text, &[], &[])?;
     let bytes = format!(in alloc; "{line}\n")?;
     assert_eq!(rt; told.0.as_slice(), bytes.as_bytes());
@@ -45,7 +67,7 @@ fn refuses<R: Abort>(rt: &R, alloc: Global, text: &[u8], line: &str) -> Result<(
 }
 
 // These words and this text have these bytes as their output, and this number.
-fn prints<R: Abort>(
+fn prints<R: Abort + Threads + Wait + Sync>(
     rt: &R,
     alloc: Global,
     words: &[&str],
@@ -62,11 +84,15 @@ fn prints<R: Abort>(
 #[test]
 fn texts_have_their_output(rt: HostRuntime) -> Result<(), Fail> {
     let alloc = rt.alloc();
-    for row in RUNS.as_slice() {
-        prints(&rt, alloc, &[], row.0, row.1, row.2)?;
-    }
-    for row in WORDED.as_slice() {
-        prints(&rt, alloc, row.0, row.1, row.2, row.3)?;
+    for workers in ["0", "4"] {
+        for row in RUNS.as_slice() {
+            let words = with_workers(alloc, &[], workers)?;
+            prints(&rt, alloc, &words, row.0, row.1, row.2)?;
+        }
+        for row in WORDED.as_slice() {
+            let words = with_workers(alloc, row.0, workers)?;
+            prints(&rt, alloc, &words, row.1, row.2, row.3)?;
+        }
     }
     for example in EXAMPLES.as_slice() {
         prints(&rt, alloc, &[], example.0, example.1, example.2)?;
@@ -156,7 +182,12 @@ fn texts_have_limits(rt: HostRuntime) -> Result<(), Fail> {
 }
 
 // What a list of so many atoms prints, and what ends it.
-fn shows_list<R: Abort>(rt: &R, alloc: Global, count: u64, end: &[u8]) -> Result<(), AllocError> {
+fn shows_list<R: Abort + Threads + Wait + Sync>(
+    rt: &R,
+    alloc: Global,
+    count: u64,
+    end: &[u8],
+) -> Result<(), AllocError> {
     let mut text = Vec::new(alloc);
     let front = format!(in alloc; "local Mk One Zero A N L in One = 1 Zero = 0 A = a N = {count}")?;
     text.extend_from_slice(front.as_bytes())?;

@@ -5,13 +5,13 @@ use Rattle.oz_runner.proofs.RunLemmas.{came_line}
 use Rattle.oz_runner.proofs.work.work_on_text.Goals as goal
 
 pub returns-in-Err-clause-cause : goal.returns-in-Err-clause-cause
-returns-in-Err-clause-cause c =
+returns-in-Err-clause-cause g c =
     let nothing = c.stopped.ensures in
     λ seen says gave. subst (Cause seen _) (sym nothing.status)
     (bytes_cause seen _ c.args.options c.args.text.now c.valid_up_to.result says gave (search rules) (nothing.journal, nothing.schedule, nothing.lines))
 
 pub returns-in-Ok-parse-clause-cause : goal.returns-in-Ok-parse-clause-cause
-returns-in-Ok-parse-clause-cause c =
+returns-in-Ok-parse-clause-cause g c =
     λ seen says gave. ran_cause seen _ _ (record {
       options = c.args.options;
       says = says;
@@ -23,4 +23,4 @@ returns-in-Ok-parse-clause-cause c =
     }) c.run.ensures
 
 pub returns-in-Ok-parse-clause-line : goal.returns-in-Ok-parse-clause-line
-returns-in-Ok-parse-clause-line c = came_line _ _ _ _ c.run.ensures
+returns-in-Ok-parse-clause-line g c = came_line _ _ _ _ c.run.ensures

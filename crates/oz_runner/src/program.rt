@@ -1,0 +1,90 @@
+//! The run of a program over its sites, whatever drives them.
+
+ghost use Rattle.std.specs.Prelude.{◌≡◌, ◌≤◌, Some};
+ghost use Rattle.site_message.specs.declared.outcome.Reason.{Reason};
+ghost use Rattle.site_message.specs.Progress.{WentOn};
+ghost use Rattle.message_book.specs.Book.{IsReason};
+ghost use Rattle.world_model.specs.Schedule.{schedule, sum_to};
+ghost use Rattle.world_model.specs.Simulated.{last_ended, last_waiting};
+ghost use Rattle.world_core.specs.Laws.{HasRun, AreMessagesFew};
+ghost use Rattle.plain_run.specs.Going.{HasReason, limits_of};
+ghost use Rattle.plain_run.specs.Simulated.{HasMachineRun};
+ghost use Rattle.oz_runner.specs.Bounds.{AreBounds, limits_in};
+
+use kernel_syntax::Program;
+use message_book::Book;
+use plain_run::{Driven, Limits, RunOut, finish_run, run_plain};
+use site_message::{Journal, Reason};
+use site_worker::{Bounds, Gate, run_sites};
+use std::alloc::Global;
+use std::sync::Wait;
+use std::thread::Threads;
+
+/// Runs a program over its sites. Workers drive them on threads of the system, and call the gate before each turn; without
+/// workers the sites take turns here, in a fixed order, and there is no gate.
+pub fn run_program<G: Gate + Sync, R: Threads + Wait + Sync>(
+    rt: &R,
+    alloc: Global,
+    program: &Program,
+    bounds: Bounds,
+    gate: &G,
+) -> RunOut
+    requires { AreBounds bounds }
+    ensures run { HasRun program.now bounds.sites result.journal }
+    ensures simulated { HasMachineRun program.now bounds.sites result.journal }
+    ensures few { AreMessagesFew program.now bounds.sites result.journal }
+    ensures schedule { result.schedule.items ≡ schedule result.journal }
+    ensures reason { HasReason (limits_in bounds) result.journal result.reason }
+    ensures went { WentOn (limits_of (limits_in bounds)) result.journal }
+    ensures ended { result.ended ≡ sum_to bounds.sites (last_ended result.journal) }
+    ensures waiting { result.waiting ≡ sum_to bounds.sites (last_waiting result.journal) }
+{
+    let limits = Limits {
+        sites: bounds.sites,
+        steps: bounds.steps,
+        messages: bounds.messages,
+    };
+    if bounds.workers == 0 {
+        return run_plain(alloc, program, limits);
+    }
+    let driven = drive_sites(rt, alloc, program, bounds, gate);
+    finish_run(alloc, program, limits, driven)
+}
+
+// What workers leave, of which there are no more than sites.
+fn drive_sites<G: Gate + Sync, R: Threads + Wait + Sync>(
+    rt: &R,
+    alloc: Global,
+    program: &Program,
+    bounds: Bounds,
+    gate: &G,
+) -> Driven
+    requires bounds { AreBounds bounds }
+    requires some { 1 ≤ bounds.workers }
+    ensures run { HasRun program.now bounds.sites result.journal }
+    ensures reason { HasReason (limits_in bounds) result.journal result.reason }
+    ensures went { WentOn (limits_of (limits_in bounds)) result.journal }
+{
+    let workers = bounds.workers.min(bounds.sites);
+    match run_sites(rt, alloc, program, Bounds { workers, ..bounds }, gate) {
+        Ok(book) => left_in(book),
+        Err(_) => Driven {
+            journal: Journal::new(alloc),
+            reason: Reason::Memory,
+        },
+    }
+}
+
+// What a book leaves that has a reason.
+fn left_in(book: Book) -> Driven
+    requires { (r : Reason) × (book.reason ≡ Some r) }
+    ensures journal { result.journal ≡ book.journal }
+    ensures reason { IsReason book.limits book.journal (Some result.reason) }
+    ensures went { WentOn book.limits book.journal }
+{
+    let reason = book.reason().unwrap();
+    Driven {
+        journal: book.into_journal(),
+        reason,
+    }
+}
