@@ -36,7 +36,7 @@ fn turn(alloc: Global, site: u32, steps: u64) -> Turn
     Turn {
         site,
         delivered: None,
-        picks: Picks::new(alloc),
+        picks: Picks::new(),
         sent: SentList::new(alloc),
         lines: Lines::new(alloc),
         idle: true,

@@ -63,7 +63,7 @@ pub record Leaves (p : List Stmt) (options : Options) (out : RunOut) : Type 0 wh
   pub run : HasMachineRun p options.sites out.journal
   pub rows : DistributedRun p options.sites bundle_limit out.journal run.0
   pub homes : ThreadsStayHome out.journal
-  pub picks : out.schedule.items ≡ schedule out.journal
+  pub picks : out.schedule ≡ schedule out.journal
   pub reason : HasReason (plain_limits options) out.journal out.reason
   pub went : WentOn (limits_of options) out.journal
   pub ended : out.ended ≡ sum_to options.sites (last_ended out.journal)
@@ -80,7 +80,7 @@ module _ (p : List Stmt) (options : Options) (out : RunOut) (is : options.action
   simulated = left.run.2.1
 
   abbrev by_sites : Made
-  by_sites = made_of out.journal out.schedule.items (lines_in out.journal)
+  by_sites = made_of out.journal out.schedule (lines_in out.journal)
 
   made_by_sites : IsMadeBySites p options by_sites
   made_by_sites = record {
@@ -131,7 +131,7 @@ module _ (p : List Stmt) (options : Options) (out : RunOut) (is : options.action
 
 -- a run over sites comes to the status of its reason
 pub sites_came : (p : List Stmt) (options : Options) (out : RunOut) → options.action ≡ action.Run → QuietTells → Leaves p options out
-    → CameTo p options (made_of out.journal out.schedule.items (lines_in out.journal)) (status_of out.reason out.ended out.waiting)
+    → CameTo p options (made_of out.journal out.schedule (lines_in out.journal)) (status_of out.reason out.ended out.waiting)
 sites_came p options out is tells left = by_reason p options out is tells left out.reason left.reason
 
 -- ---- the status

@@ -30,4 +30,4 @@ lines_of (printed.Machine lines) = lines.items
 
 -- the journal, the schedule and the lines of the work
 abbrev pub made_by : Work → Made
-made_by work = made_of (journal_of work.printed) work.schedule.items (lines_of work.printed)
+made_by work = made_of (journal_of work.printed) work.schedule (lines_of work.printed)

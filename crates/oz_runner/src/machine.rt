@@ -12,6 +12,7 @@ use crate::work::{Printed, Work};
 use central_machine::{Reason, run_program};
 use kernel_syntax::Program;
 use oz_words::Options;
+use site_message::Schedule;
 use std::alloc::Global;
 
 /// Runs a program on the centralised machine.
@@ -22,7 +23,7 @@ pub fn run_machine(alloc: Global, options: Options, program: &Program) -> Work
     let ran = run_program(alloc, program, options.steps);
     Work {
         status: status_after(ran.reason, ran.ended, ran.waiting),
-        schedule: ran.picks,
+        schedule: Schedule::from_vec(alloc, ran.picks),
         printed: Printed::Machine(ran.lines),
     }
 }

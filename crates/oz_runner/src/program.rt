@@ -33,7 +33,7 @@ pub fn run_program<G: Gate + Sync, R: Threads + Wait + Sync>(
     ensures run { HasRun program.now bounds.sites result.journal }
     ensures simulated { HasMachineRun program.now bounds.sites result.journal }
     ensures few { AreMessagesFew program.now bounds.sites result.journal }
-    ensures schedule { result.schedule.items ≡ schedule result.journal }
+    ensures schedule { result.schedule ≡ schedule result.journal }
     ensures reason { HasReason (limits_in bounds) result.journal result.reason }
     ensures went { WentOn (limits_of (limits_in bounds)) result.journal }
     ensures ended { result.ended ≡ sum_to bounds.sites (last_ended result.journal) }

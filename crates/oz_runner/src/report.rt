@@ -1,14 +1,13 @@
 //! What a call tells.
 
 use crate::Status;
-use site_message::Journal;
-use tree_node::Pick;
+use site_message::{Journal, Schedule};
 
 /// How a call ended, the journal of its sites, and the schedule of its run: the picks under which the centralised machine
 /// prints the same lines. Where nothing ran both are empty, and a run of that machine itself has no journal.
 #[derive(Drop)]
 pub struct Report {
     pub status: Status,
-    pub schedule: Vec<Pick>,
+    pub schedule: Schedule,
     pub journal: Journal,
 }

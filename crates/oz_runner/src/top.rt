@@ -34,7 +34,7 @@ pub fn oz<S: Source, K: Sink, G: Gate + Sync, R: Threads + Wait + Sync>(
     requires { 0 < length words.now }
     ensures headline { (lines : List (List ℕ)) × Headline
         (seen_of (map string_bytes words.now) (stream_of S.left S.faults source.old source.new) (stream_of K.taken K.faults sink.old sink.new))
-        (made_of result.journal result.schedule.items lines) result.status }
+        (made_of result.journal result.schedule lines) result.status }
     ensures complete { IsGood
         (seen_of (map string_bytes words.now) (stream_of S.left S.faults source.old source.new) (stream_of K.taken K.faults sink.old sink.new))
         → IsDone result.status }

@@ -12,13 +12,13 @@ use crate::run::run;
 use oz_base::{ReadError, Source, read_text};
 use oz_parser::{ParseError, parse};
 use oz_words::{Options, WordsError, read_options};
-use site_message::Journal;
+use site_message::{Journal, Schedule};
 use site_worker::Gate;
 use std::alloc::Global;
 use std::str;
 use std::sync::Wait;
 use std::thread::Threads;
-use tree_node::{Line, Pick};
+use tree_node::Line;
 
 // The most bytes of a text.
 const TEXT_LIMIT: u64 = 1_048_576;
@@ -34,7 +34,7 @@ pub enum Printed {
 #[derive(Drop)]
 pub struct Work {
     pub status: Status,
-    pub schedule: Vec<Pick>,
+    pub schedule: Schedule,
     pub printed: Printed,
 }
 
@@ -106,12 +106,12 @@ fn work_on_text<G: Gate + Sync, R: Threads + Wait + Sync>(
 fn stopped(alloc: Global, status: Status) -> Work
     ensures status { result.status ≡ status }
     ensures journal { journal_of result.printed ≡ [] }
-    ensures schedule { result.schedule.items ≡ [] }
+    ensures schedule { result.schedule ≡ [] }
     ensures lines { lines_of result.printed ≡ [] }
 {
     Work {
         status,
-        schedule: Vec::new(alloc),
+        schedule: Schedule::new(alloc),
         printed: Printed::Sites(Journal::new(alloc)),
     }
 }

@@ -49,7 +49,10 @@ pub fn answer<R: Abort + Threads + Wait + Sync>(
     let mut sink = MemSink::new(alloc, writes, 2000)?;
     let report = oz(rt, alloc, &list, &mut source, &mut sink, &OpenGate);
     let bytes = Vec::from_slice(alloc, sink.bytes())?;
-    Ok((bytes, report.status.number(), report.schedule.len()))
+    let count = report.schedule.len();
+    let picks = report.schedule.into_vec(alloc)?;
+    assert_eq!(rt; picks.len(), count);
+    Ok((bytes, report.status.number(), count))
 }
 
 // A text is refused with this line.

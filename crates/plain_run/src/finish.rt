@@ -12,7 +12,7 @@ ghost use Rattle.plain_run.specs.Simulated.{HasMachineRun};
 use crate::out::{Driven, Limits, RunOut};
 use crate::totals::last_totals;
 use kernel_syntax::Program;
-use site_message::{Journal, Reason};
+use site_message::{Journal, Reason, Schedule};
 use std::alloc::Global;
 use world_core::schedule;
 
@@ -26,7 +26,7 @@ pub fn finish_run(alloc: Global, program: &Program, limits: Limits, driven: Driv
     ensures run { HasRun program.now limits.sites result.journal }
     ensures simulated { HasMachineRun program.now limits.sites result.journal }
     ensures few { AreMessagesFew program.now limits.sites result.journal }
-    ensures schedule { result.schedule.items ≡ schedule result.journal }
+    ensures schedule { result.schedule ≡ schedule result.journal }
     ensures reason { HasReason limits result.journal result.reason }
     ensures went { WentOn (limits_of limits) result.journal }
     ensures ended { result.ended ≡ sum_to limits.sites (last_ended result.journal) }
@@ -35,6 +35,7 @@ pub fn finish_run(alloc: Global, program: &Program, limits: Limits, driven: Driv
     program.is_program();
     match schedule(alloc, &driven.journal) {
         Ok(picks) => {
+            picks.is_short();
             let (ended, waiting) = last_totals(&driven.journal, limits.sites);
             RunOut {
                 reason: driven.reason,
@@ -52,13 +53,13 @@ pub fn finish_run(alloc: Global, program: &Program, limits: Limits, driven: Driv
 fn no_run(alloc: Global) -> RunOut
     ensures reason { result.reason ≡ Memory }
     ensures totals { (result.ended ≡ 0) × (result.waiting ≡ 0) }
-    ensures empty { (result.journal ≡ []) × (result.schedule.items ≡ []) }
+    ensures empty { (result.journal ≡ []) × (result.schedule ≡ []) }
 {
     RunOut {
         reason: Reason::Memory,
         ended: 0,
         waiting: 0,
         journal: Journal::new(alloc),
-        schedule: Vec::new(alloc),
+        schedule: Schedule::new(alloc),
     }
 }

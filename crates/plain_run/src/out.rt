@@ -1,7 +1,6 @@
 //! The limits of a run and what it gives.
 
-use site_message::{Journal, Reason};
-use tree_node::Pick;
+use site_message::{Journal, Reason, Schedule};
 
 /// On how many sites a program runs, 1 to 64, how many own steps each site may make, 1 to 1,000,000,000, and how many messages
 /// may be sent, at most 4,000,000,000.
@@ -27,5 +26,5 @@ pub struct RunOut {
     pub ended: u64,
     pub waiting: u64,
     pub journal: Journal,
-    pub schedule: Vec<Pick>,
+    pub schedule: Schedule,
 }

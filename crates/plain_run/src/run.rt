@@ -26,7 +26,7 @@ pub fn run_plain(alloc: Global, program: &Program, limits: Limits) -> RunOut
     ensures run { HasRun program.now limits.sites result.journal }
     ensures simulated { HasMachineRun program.now limits.sites result.journal }
     ensures few { AreMessagesFew program.now limits.sites result.journal }
-    ensures schedule { result.schedule.items ≡ schedule result.journal }
+    ensures schedule { result.schedule ≡ schedule result.journal }
     ensures reason { HasReason limits result.journal result.reason }
     ensures went { WentOn (limits_of limits) result.journal }
     ensures ended { result.ended ≡ sum_to limits.sites (last_ended result.journal) }

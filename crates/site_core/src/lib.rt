@@ -19,6 +19,7 @@
 #![tactic(auto)]
 
 mod deliver;
+mod entry;
 mod fit;
 mod receive;
 mod site;

@@ -2,17 +2,16 @@
 
 ghost use Rattle.std.specs.Prelude.{◌≡◌, ◌≤◌, ◌+◌, ◌^◌, IfOk, OnErr, OnOk, false, true};
 ghost use Rattle.std.specs.Borrow.{sem};
-ghost use Rattle.site_model.specs.Run.{IsRecordOf};
 ghost use Rattle.site_model.specs.Site.{initial_site, is_idle};
 ghost use Rattle.site_units.specs.Core.{site_of};
 ghost use Rattle.site_core.specs.Lent.{LendsSeat};
-ghost use Rattle.site_core.specs.Seated.{IsTurnMade, message_in, number_in};
+ghost use Rattle.site_core.specs.Seated.{IsTurnMade};
 
+use crate::entry::recorded_turn;
 use crate::start::{bare_core, first_core};
-use crate::turn::turn;
 use kernel_syntax::Program;
-use site_message::{Lines, Msg, NoSeat, Outside, Picks, Quantum, Turn};
-use site_units::{Core, Output, site_in};
+use site_message::{Msg, NoSeat, Outside, Quantum, Turn};
+use site_units::{Core, site_in};
 use std::alloc::{AllocError, Global};
 use std::marker::Model;
 
@@ -37,36 +36,6 @@ impl<'a, O> Model for Site<'a, O> {
     ghost view = { λ s. record { program = s.program.now; sites = s.core.sites; state = site_of s.core; spent = s.spent; seat = s.seat } };
 
     ghost invariant = { λ s. IsKept s.program.now s.core s.spent };
-}
-
-// The number and the message of a numbered message.
-fn split(message: Option<(u64, Msg)>) -> (Option<u64>, Option<Msg>)
-    ensures number { result.0 ≡ number_in message }
-    ensures message { result.1 ≡ message_in message }
-{
-    match message {
-        None => (None, None),
-        Some((number, msg)) => (Some(number), Some(msg)),
-    }
-}
-
-// The entry of a turn of a site that left these data and this output. Its totals are looked up.
-fn entry(core: &Core, output: Output, site: u32, delivered: Option<u64>) -> Turn
-    ensures site { result.site ≡ site }
-    ensures delivered { result.delivered ≡ delivered }
-    ensures recorded { IsRecordOf result (record { site = site_of core.now; picks = output.picks.items; sent = output.sent; lines = output.lines.items }) }
-{
-    Turn {
-        site,
-        delivered,
-        picks: Picks::from_vec(output.picks),
-        sent: output.sent.into_list(),
-        lines: Lines::from_vec(output.lines),
-        idle: core.threads.idle(),
-        ended: core.threads.ended() as u64,
-        waiting: core.threads.waiting() as u64,
-        steps: core.steps,
-    }
 }
 
 impl<'a> Site<'a, NoSeat> {
@@ -172,13 +141,11 @@ impl<'a, O: Outside> Site<'a, O> {
         let number = site_in(&self.core.fresh);
         let sites = self.core.sites;
         let alloc = self.core.alloc;
-        let (delivered, msg) = split(message);
-        let mut output = Output::new(alloc);
         self.spent = true;
-        match turn(&mut self.core, &mut output, self.program, msg, quantum) {
-            Ok(()) => {
+        match recorded_turn(&mut self.core, self.program, message, quantum) {
+            Ok(entry) => {
                 self.spent = false;
-                Ok(entry(&self.core, output, number, delivered))
+                Ok(entry)
             }
             Err(error) => {
                 self.core = bare_core(alloc, number, sites);

@@ -1,4 +1,5 @@
-pub mod Bundle
+pub mod SharedSeq
+pub mod Schedule
 pub mod Journal
 pub mod Progress
 pub mod Wire

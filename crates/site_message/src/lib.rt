@@ -1,9 +1,10 @@
 //! What sites say to each other, and what is said of it: the messages of the protocols of variables and cells, the
-//! outbox that a site pushes them to, the turns of sites and the journal of a run, and what a lock needs of the value
-//! that it guards.
+//! outbox that a site pushes them to, the turns of sites, the journal of a run and its schedule, and what a lock needs of
+//! the value that it guards.
 //!
-//! It promises: `wire_fits` tells which messages can be spelled (`FitsWire`); a bundle, an outbox, the lists of a turn
-//! and a journal are the lists of what was put into them; copies are equal to what they were made of, and share it.
+//! It promises: `wire_fits` tells which messages can be spelled (`FitsWire`); a bundle, an outbox, the lists of a turn, a
+//! journal and a schedule are the lists of what was put into them; copies are equal to what they were made of, and share
+//! it.
 //! Of journals it defines which deliveries are lawful (`Wired`), which messages travel (`travelling`) and how a run ends
 //! (`end_of`), and the functions of `laws` say what follows: `travelling_tells`, `travelling_grows` (how a turn changes
 //! what travels), `deliveries_add_up`, `wired_tells`, `quiet_tells`, `worked_ends`.
@@ -15,25 +16,27 @@
 //! and others, *Mobile Objects in Distributed Oz* (TOPLAS 19(5), 1997).
 #![tactic(auto)]
 
-mod bundle;
 mod copy;
 mod laws;
 mod message;
 mod outbox;
 mod outcome;
+mod schedule;
+mod shared_seq;
 mod story;
 mod threads;
 mod turn;
 mod wire;
 
-pub use bundle::Bundle;
 pub use copy::{copy_msg, copy_sent};
 pub use laws::{
     deliveries_add_up, quiet_tells, travelling_grows, travelling_tells, wired_tells, worked_ends,
 };
-pub use message::{Msg, Sent, SentList};
+pub use message::{Bundle, Msg, Sent, SentList};
 pub use outbox::Outbox;
 pub use outcome::{DeliverError, Reason};
+pub use schedule::Schedule;
+pub use shared_seq::SharedSeq;
 pub use story::{NoSeat, Outside, Sight, Story};
 pub use turn::{Journal, Lines, Picks, Quantum, Turn};
 pub use wire::wire_fits;

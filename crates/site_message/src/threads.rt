@@ -1,10 +1,10 @@
 //! What may cross from one thread to another, and what threads may share. A type that loses Send or Sync is refused here.
 
-use crate::bundle::Bundle;
-use crate::message::{Msg, Sent};
+use crate::message::{Bundle, Msg, Sent};
 use crate::outbox::Outbox;
 use crate::outcome::Reason;
-use crate::turn::{Journal, Turn};
+use crate::schedule::Schedule;
+use crate::turn::{Journal, Picks, Turn};
 
 fn is_send_and_sync<T: Send + Sync>() {}
 
@@ -13,8 +13,10 @@ fn cross_threads() {
     is_send_and_sync::<Bundle>();
     is_send_and_sync::<Msg>();
     is_send_and_sync::<Sent>();
+    is_send_and_sync::<Picks>();
     is_send_and_sync::<Turn>();
     is_send_and_sync::<Journal>();
+    is_send_and_sync::<Schedule>();
     is_send_and_sync::<Outbox>();
     is_send_and_sync::<Reason>();
 }

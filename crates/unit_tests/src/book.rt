@@ -31,7 +31,7 @@ fn turn(alloc: Global, site: u32, delivered: Option<u64>, sent: SentList) -> Tur
     Turn {
         site,
         delivered,
-        picks: Picks::new(alloc),
+        picks: Picks::new(),
         sent,
         lines: Lines::new(alloc),
         idle: true,

@@ -1,4 +1,6 @@
-use Rattle.std.proofs.Common.{subst, sym}
+use Rattle.std.proofs.Common.{List, [], subst, sym}
+use Rattle.tree_node.specs.declared.pick.Pick.{Pick}
+use Rattle.oz_runner.specs.Seen.{made_of}
 use Rattle.oz_runner.specs.Run.{CameTo}
 use Rattle.oz_runner.proofs.MachineLemmas.{machine_came}
 use Rattle.oz_runner.proofs.machine.run_machine.Goals as goal
@@ -6,4 +8,5 @@ use Rattle.oz_runner.proofs.machine.run_machine.Goals as goal
 pub returns : goal.returns
 returns c =
     let ran = c.run_program-ran in
-    λ is. subst (CameTo _ _ _) (sym c.status_after.ensures) (machine_came c.args.program.now c.args.options ran.ensures.0 ran.result is ran.ensures.1)
+    λ is. subst (λ (picks : List Pick). CameTo c.args.program.now c.args.options (made_of [] picks ran.result.lines.items) c.status_after.result) (sym c.from_vec.ensures)
+    (subst (CameTo _ _ _) (sym c.status_after.ensures) (machine_came c.args.program.now c.args.options ran.ensures.0 ran.result is ran.ensures.1))

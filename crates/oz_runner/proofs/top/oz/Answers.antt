@@ -11,7 +11,7 @@ returns-clause-headline g c =
     let told = c.told.ensures in
     let sink = stream_of g.K.Sink.taken g.K.Sink.faults c.args.sink.now c.told.new.sink in (
       lines_of work.result.printed,
-      headline _ _ _ _ _ _ _ told.journal (ap (λ v. v.items) told.schedule) (work.ensures.cause sink) work.ensures.line told.written.1 told.written.2,
+      headline _ _ _ _ _ _ _ told.journal told.schedule (work.ensures.cause sink) work.ensures.line told.written.1 told.written.2,
     )
 
 pub returns-clause-complete : goal.returns-clause-complete

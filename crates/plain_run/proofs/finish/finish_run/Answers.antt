@@ -12,20 +12,16 @@ use Rattle.plain_run.proofs.finish.finish_run.Goals as goal
 pub last_totals-ended-requires-clause-ended : goal.last_totals-ended-requires-clause-ended
 last_totals-ended-requires-clause-ended c =
     let fits = (totals_fit c.args.program.now c.args.limits.sites c.args.driven.journal c.is_program.ensures c.requires.limits.some_site c.requires.limits.most_sites c.requires.run).0 in
-    let long : length c.in-Ok.picks.items ≡ length (schedule c.args.driven.journal) = ap length c.in-Ok.ensures in
-    let len = c.in-Ok.picks.ok.0 in
-    let within = c.in-Ok.picks.ok.1 in
-    let small = c.in-Ok.picks.small in
-    omega (arith, fits, long, len, within, small)
+    let long : length c.in-Ok.picks ≡ length (schedule c.args.driven.journal) = ap length c.in-Ok.ensures in
+    let short = c.is_short.ensures in
+    omega (arith, fits, long, short)
 
 pub last_totals-ended-requires-clause-waiting : goal.last_totals-ended-requires-clause-waiting
 last_totals-ended-requires-clause-waiting c =
     let fits = (totals_fit c.args.program.now c.args.limits.sites c.args.driven.journal c.is_program.ensures c.requires.limits.some_site c.requires.limits.most_sites c.requires.run).1 in
-    let long : length c.in-Ok.picks.items ≡ length (schedule c.args.driven.journal) = ap length c.in-Ok.ensures in
-    let len = c.in-Ok.picks.ok.0 in
-    let within = c.in-Ok.picks.ok.1 in
-    let small = c.in-Ok.picks.small in
-    omega (arith, fits, long, len, within, small)
+    let long : length c.in-Ok.picks ≡ length (schedule c.args.driven.journal) = ap length c.in-Ok.ensures in
+    let short = c.is_short.ensures in
+    omega (arith, fits, long, short)
 
 pub returns-in-Ok-clause-simulated : goal.returns-in-Ok-clause-simulated
 returns-in-Ok-clause-simulated c = machine_run c.args.program.now c.args.limits.sites c.args.driven.journal c.is_program.ensures c.requires.limits.some_site c.requires.limits.most_sites c.requires.run

@@ -2,7 +2,6 @@ use Rattle.std.proofs.Common.{◌∙◌, ap, subst}
 use Rattle.bind_protocol.specs.Records.{Records}
 use Rattle.site_units.specs.Core.{site_of}
 use Rattle.site_core.specs.Seated.{IsTurnMade}
-use Rattle.site_core.proofs.EntryLemmas.{number_stays, turn_recorded}
 use Rattle.site_core.proofs.site.Site.turn.Goals as goal
 
 pub returns-in-Err-clause-sites : goal.returns-in-Err-clause-sites
@@ -14,14 +13,8 @@ returns-in-Err-clause-number g c =
     ap (λ (b : Records). b.site) c.bare_core.ensures.records ∙ (c.site_in-number.ensures _ consistent.site ∙ ap (λ s. s.state.records.site) c.self.view_is)
 
 pub returns-in-Ok-clause-number : goal.returns-in-Ok-clause-number
-returns-in-Ok-clause-number g c =
-    number_stays c.self.inside.program.now c.args.quantum.0 c.split-delivered.result.1 c.self.inside.core c.turn.new.core c.new-output.result c.turn.new.output c.in-Ok.ensures.turn
-    ∙ ap (λ s. s.state.records.site) c.self.view_is
+returns-in-Ok-clause-number g c = c.in-Ok.ensures.number ∙ ap (λ s. s.state.records.site) c.self.view_is
 
 pub returns-in-Ok-clause-turn : goal.returns-in-Ok-clause-turn
 returns-in-Ok-clause-turn g c =
-    let consistent = c.self.invariant (ap (λ s. s.spent) c.self.view_is ∙ c.requires.live) in
-    subst (λ s. IsTurnMade s.program s.sites s.state c.args.message c.args.quantum.0 c.entry.result (site_of c.turn.new.core)) c.self.view_is
-    (turn_recorded c.self.inside.program.now c.args.quantum.0 c.args.message c.split-delivered.result.1 c.self.inside.core c.turn.new.core c.new-output.result c.turn.new.output c.entry.result
-    c.new-output.ensures.picks c.new-output.ensures.sent c.new-output.ensures.lines c.split-delivered.ensures.message c.in-Ok.ensures.turn
-    (c.entry.ensures.site ∙ c.site_in-number.ensures _ consistent.site) (c.entry.ensures.delivered ∙ c.split-delivered.ensures.number) c.entry.ensures.recorded)
+    subst (λ s. IsTurnMade s.program s.sites s.state c.args.message c.args.quantum.0 c.in-Ok.entry (site_of c.recorded_turn.new.core)) c.self.view_is c.in-Ok.ensures.turn

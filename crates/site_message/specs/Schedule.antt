@@ -1,0 +1,7 @@
+-- What a schedule holds.
+use Rattle.std.specs.Prelude.{List, ◌++◌, flat_map}
+use Rattle.tree_node.specs.declared.pick.Pick.{Pick}
+
+-- the picks of a first list, and then those of lists of further turns
+abbrev pub picks_in : List Pick → List (List Pick) → List Pick
+picks_in first turns = first ++ flat_map (λ (picks : List Pick). picks) turns
