@@ -1,17 +1,16 @@
 -- When a book is quiet, and what an empty one holds.
-use Rattle.std.proofs.Common.{◌≡◌, ℕ, zero, suc, ◌+◌, ◌<◌, ◌≤◌, List, [], ◌∷◌, ◌++◌, length, map, Bool, true, false, cond, None, refl, sym, ap, ◌∙◌, subst, arith, ⊎_elim, nat_le, get_or}
+use Rattle.std.proofs.Common.{◌≡◌, ℕ, zero, suc, ◌+◌, ◌<◌, ◌≤◌, List, [], ◌∷◌, ◌++◌, length, map, Bool, true, false, cond, None, refl, sym, ap, ◌∙◌, subst, arith, ⊎_elim, nat_le}
 use Rattle.std.specs.Prelude.{◌↔◌, IsTrue, Contains}
 use Rattle.std.proofs.lemmas.Bool.{cases_lt, leb-true}
 use Rattle.tree_node.proofs.ClassLemmas.{Contains-head}
-use Rattle.site_message.specs.declared.message.Msg.{Msg}
-use Rattle.site_message.specs.declared.message.Sent.{Sent}
 use Rattle.site_message.specs.declared.turn.Turn.{Turn}
 use Rattle.site_message.specs.Journal.{is_idle, is_quiet}
 use Rattle.site_message.specs.Story.{hand}
 use Rattle.site_message.proofs.JournalLemmas.{quiet_tells}
 use Rattle.message_book.specs.Inbox.{InboxState}
 use Rattle.message_book.specs.Book.{without}
-use Rattle.message_book.specs.Inboxes.{AllHoldTravelling, IsQuietInbox, IsNewInbox, place, messages_at, number_of, hand_of, addressed, inbox_at, no_inbox, idle_at}
+use Rattle.message_book.specs.Inboxes.{AllHoldTravelling, IsQuietInbox, IsNewInbox, place, messages_at, number_of, hand_of, inbox_at, no_inbox, idle_at}
+use Rattle.wire_form.specs.Format.{spelling}
 use Rattle.message_book.proofs.Posts.{in_messages, to_messages, hand_at}
 
 past : (bs : List InboxState) (i : ℕ) → length bs ≤ i → inbox_at bs i ≡ no_inbox
@@ -26,7 +25,7 @@ pub without_none : (ks : List ℕ) → without None ks ≡ ks
 without_none [] = refl
 without_none (k ∷ ks) = ap (λ l. k ∷ l) (without_none ks)
 
-place_below : (n to : ℕ) → place n to ≤ n
+pub place_below : (n to : ℕ) → place n to ≤ n
 place_below n to = go (nat_le to n) refl
   where
     go : (t : Bool) → nat_le to n ≡ t → cond (nat_le to n) to 0 ≤ n
@@ -37,7 +36,7 @@ both_empty : {A : Type 0} (xs ys : List A) → xs ++ ys ≡ [] → (xs ≡ []) �
 both_empty [] ys e = (refl, e)
 both_empty (x ∷ xs) ys e = absurd (cc)
 
-no_numbers : (xs : List (ℕ × Msg)) → map number_of xs ≡ [] → xs ≡ []
+no_numbers : (xs : List (ℕ × List ℕ)) → map number_of xs ≡ [] → xs ≡ []
 no_numbers [] e = refl
 no_numbers (x ∷ xs) e = absurd (cc)
 
@@ -73,7 +72,7 @@ module _ (n : ℕ) (j : List Turn) (bs : List InboxState) (places : length bs �
     (λ m s travels.
         let p = place n s.to in
         let at = to_messages n j p m s travels refl in
-        none_in (m, s.msg) (subst (λ w. Contains w (m, s.msg)) (no_messages p (place_below n s.to) done) at)),
+        none_in (m, spelling s.msg) (subst (λ w. Contains w (m, spelling s.msg)) (no_messages p (place_below n s.to) done) at)),
     (λ i low high. idle i low high),
   )
     where
@@ -98,8 +97,3 @@ module _ (n : ℕ) (j : List Turn) (bs : List InboxState) (places : length bs �
   pub quiet_is : (t : Bool) → IsTrue t ↔ ((i : ℕ) → i < length bs → IsQuietInbox (inbox_at bs i)) → t ≡ is_quiet n j
   unfolding Done
   quiet_is t h = same_truth t (is_quiet n j) ((λ e. to_quiet (h.0 e)), (λ q. h.1 (from_quiet q)))
-
-pub copies_inside : (n len : ℕ) → n < len → (ss : List Sent) (k : ℕ) (d : ℕ × Msg) → k < length (map (addressed n) ss) → (get_or (map (addressed n) ss) k d).0 < len
-copies_inside n len below [] k d inside = absurd (omega arith)
-copies_inside n len below (s ∷ ss) zero d inside = let h = place_below n s.to in omega arith
-copies_inside n len below (s ∷ ss) (suc k) d inside = copies_inside n len below ss k d (omega arith)

@@ -3,7 +3,6 @@ use Rattle.std.proofs.Common.{◌≡◌, ◌≢◌, ℕ, zero, suc, ◌+◌, ◌
 use Rattle.std.specs.Prelude.{Contains, slice_get, Result, Ok, Err, OnErr}
 use mathlib.Core.Logic.{dite}
 use native.Mathlib.Decide.{ℕ_discrete}
-use Rattle.site_message.specs.declared.message.Msg.{Msg}
 use Rattle.site_message.specs.declared.message.Sent.{Sent}
 use Rattle.site_message.specs.declared.turn.Turn.{Turn}
 use Rattle.site_message.specs.declared.outcome.Reason.{Reason}
@@ -15,10 +14,12 @@ use Rattle.tree_node.proofs.ClassLemmas.{Contains-head, Contains-tail}
 use Rattle.std.proofs.lemmas.List.Elements.{Contains-append_left, filter-append}
 use Rattle.message_book.specs.Inbox.{InboxState, HoldsSame}
 use Rattle.message_book.specs.Book.{BookState, IsSiteOf, IsReason, without}
-use Rattle.message_book.specs.Inboxes.{HoldsTravelling, AllHoldTravelling, IsConsistent, IsAfterTurn, place, messages_at, number_of, hand_of, new_messages, addressed, inbox_at, idle_at, reason_by}
+use Rattle.message_book.specs.Inboxes.{HoldsTravelling, AllHoldTravelling, IsConsistent, IsAfterTurn, place, messages_at, number_of, hand_of, new_messages, letter_of, AllOfFormat, inbox_at, idle_at, reason_by}
 use Rattle.message_book.proofs.Travels.{messages_step, without_message, messages_ascend, LacksNumber, after_low, without_none_there, map_filter, right}
 use Rattle.site_message.specs.Rows.{Ascends}
-use Rattle.message_book.proofs.Posts.{has_number, message_of, in_messages, placed, place_is, state_of, hand_at, same_hands}
+use Rattle.tree_node.proofs.EachLemmas.{each_append}
+use Rattle.wire_form.specs.Format.{message}
+use Rattle.message_book.proofs.Posts.{has_number, spelling_at, in_messages, placed, place_is, state_of, hand_at, same_hands}
 
 same_inbox : (n : ℕ) (j : List Turn) (i : ℕ) (old new : InboxState) → HoldsSame old new → HoldsTravelling n j i old → HoldsTravelling n j i new
 same_inbox n j i old new s b = record { in_hand = b.in_hand; hand = s.0 ∙ b.hand; messages = ap (λ w. b.in_hand ++ w) s.1 ∙ b.messages; idle = s.2 ∙ b.idle }
@@ -34,6 +35,7 @@ kept_same l j sent bs cs r len same k = record {
   wired = k.wired;
   are_sites = k.are_sites;
   inboxes = λ i below. same_inbox l.sites j i (inbox_at bs i) (inbox_at cs i) (same i) (k.inboxes i below);
+  spelled = k.spelled;
   reason = k.reason;
   went = k.went;
 }
@@ -41,15 +43,15 @@ kept_same l j sent bs cs r len same k = record {
 pub shown_same : (l : Limits) (j : List Turn) (bs cs : List InboxState) (r : Option Reason) (v : BookState) → length cs ≡ length bs → ((i : ℕ) → HoldsSame (inbox_at bs i) (inbox_at cs i)) → state_of l j bs r ≡ v → state_of l j cs r ≡ v
 shown_same l j bs cs r v len same is = ap (λ (h : List (List ℕ)). record { limits = l; journal = j; hands = h; reason = r }) (same_hands cs bs len (λ i. (same i).0)) ∙ is
 
-without_no_message : (xs : List (ℕ × Msg)) → without_message None xs ≡ xs
+without_no_message : (xs : List (ℕ × List ℕ)) → without_message None xs ≡ xs
 without_no_message [] = refl
 without_no_message (x ∷ xs) = ap (λ l. x ∷ l) (without_no_message xs)
 
-away : (k : ℕ) (xs : List (ℕ × Msg)) → ((p : ℕ × Msg) → Contains xs p → k ≢ p.0) → LacksNumber k xs
+away : (k : ℕ) (xs : List (ℕ × List ℕ)) → ((p : ℕ × List ℕ) → Contains xs p → k ≢ p.0) → LacksNumber k xs
 away k [] h = tt
 away k (p ∷ ps) h = (h p (Contains-head p ps), away k ps (λ q at. h q (Contains-tail p q ps at)))
 
-left : (k : ℕ) (xs ys : List (ℕ × Msg)) → LacksNumber k (xs ++ ys) → LacksNumber k xs
+left : (k : ℕ) (xs ys : List (ℕ × List ℕ)) → LacksNumber k (xs ++ ys) → LacksNumber k xs
 left k [] ys h = tt
 left k (x ∷ xs) ys h = (h.0, left k xs ys h.1)
 
@@ -76,7 +78,7 @@ module _ (l : Limits) (j : List Turn) (sent : ℕ) (bs : List InboxState) (r : O
   pub delivers : DeliversOnce j e
   delivers k is =
       let has = has_number k mine.in_hand (subst (λ h. Contains h k) mine.hand (given k is)) in
-      let m = message_of k mine.in_hand has in
+      let m = spelling_at k mine.in_hand has in
       let t = in_messages l.sites j e.site k m.0 (subst (λ w. Contains w (k, m.0)) mine.messages (Contains-append_left mine.in_hand (inbox_at bs e.site).waiting (k, m.0) m.1)) in
       (t.0, t.1, placed l.sites t.0.to e.site t.3 site.0)
 
@@ -110,11 +112,11 @@ module _ (l : Limits) (j : List Turn) (sent : ℕ) (bs : List InboxState) (r : O
   gone_stays i b other None is = without_no_message b.in_hand
   gone_stays i b other (Some k) is = without_none_there k b.in_hand (left k b.in_hand (inbox_at bs i).waiting (subst (LacksNumber k) (sym b.messages) (elsewhere k i is other)))
 
-  module _ (cs : List InboxState) (s : IsAfterTurn e.site e.delivered e.idle sent (map (addressed l.sites) e.sent) bs cs) where
+  module _ (cs : List InboxState) (s : IsAfterTurn l.sites e.site e.delivered e.idle sent (map letter_of e.sent) bs cs) where
     hand_after : (i : ℕ) (b : HoldsTravelling l.sites j i (inbox_at bs i)) → (inbox_at cs i).hand ≡ map number_of (without_message e.delivered b.in_hand)
     hand_after i b = dite (ℕ_discrete i e.site)
         (λ same. subst (λ (p : ℕ). (inbox_at cs p).hand ≡ without e.delivered (inbox_at bs p).hand) (sym same) s.here.0
-        ∙ (ap (without e.delivered) b.hand ∙ sym (map_filter number_of (λ (p : ℕ × Msg). not (is_number e.delivered p.0)) (λ (k : ℕ). not (is_number e.delivered k)) (λ p. refl) b.in_hand)))
+        ∙ (ap (without e.delivered) b.hand ∙ sym (map_filter number_of (λ (p : ℕ × List ℕ). not (is_number e.delivered p.0)) (λ (k : ℕ). not (is_number e.delivered k)) (λ p. refl) b.in_hand)))
         (λ other. (s.others i other).0 ∙ (b.hand ∙ ap (map number_of) (sym (gone_stays i b other e.delivered refl))))
 
     idle_after : (i : ℕ) → (inbox_at bs i).idle ≡ idle_at j i → (inbox_at cs i).idle ≡ idle_at (e ∷ j) i
@@ -127,20 +129,20 @@ module _ (l : Limits) (j : List Turn) (sent : ℕ) (bs : List InboxState) (r : O
     inboxes_after i below =
         let b = kept.inboxes i below in
         let o = e.delivered in
-        let new = new_messages i sent (map (addressed l.sites) e.sent) in record {
+        let new = new_messages l.sites i sent (map letter_of e.sent) in record {
           in_hand = without_message o b.in_hand;
           hand = hand_after i b;
           messages = ap (λ w. without_message o b.in_hand ++ w) (s.waiting i)
               ∙ (sym (append_assoc (without_message o b.in_hand) (inbox_at bs i).waiting new)
               ∙ (ap (λ w. (without_message o b.in_hand ++ w) ++ new) (sym (stays i below o refl))
-              ∙ (ap (λ w. w ++ new) (sym (filter-append (λ (p : ℕ × Msg). not (is_number o p.0)) b.in_hand (inbox_at bs i).waiting) ∙ ap (without_message o) b.messages)
-              ∙ (ap (λ n. without_message o (messages_at l.sites j i) ++ new_messages i n (map (addressed l.sites) e.sent)) kept.count
+              ∙ (ap (λ w. w ++ new) (sym (filter-append (λ (p : ℕ × List ℕ). not (is_number o p.0)) b.in_hand (inbox_at bs i).waiting) ∙ ap (without_message o) b.messages)
+              ∙ (ap (λ n. without_message o (messages_at l.sites j i) ++ new_messages l.sites i n (map letter_of e.sent)) kept.count
               ∙ sym (messages_step l.sites j e i wired)))));
           idle = idle_after i b.idle;
         }
 
-    pub kept_after : (n : ℕ) → n ≡ sent + length e.sent → ((x : Reason) → r ≡ Some x → ⊥) → IsConsistent l (e ∷ j) n cs (end_of l (e ∷ j))
-    kept_after n is none = record {
+    pub kept_after : (n : ℕ) → n ≡ sent + length e.sent → AllOfFormat e.sent → ((x : Reason) → r ≡ Some x → ⊥) → IsConsistent l (e ∷ j) n cs (end_of l (e ∷ j))
+    kept_after n is spelled none = record {
       sites = kept.sites;
       few_messages = kept.few_messages;
       step_range = kept.step_range;
@@ -149,6 +151,7 @@ module _ (l : Limits) (j : List Turn) (sent : ℕ) (bs : List InboxState) (r : O
       wired = wired;
       are_sites = (site, kept.are_sites);
       inboxes = inboxes_after;
+      spelled = each_append (λ (s : Sent). message.Has s.msg) (sent_of j) e.sent kept.spelled spelled;
       reason = inl refl;
       went = (kept.went, goes_on l j r kept.reason none);
     }

@@ -1,12 +1,11 @@
 -- The messages on their way to one site.
 use Rattle.std.specs.Prelude.{◌≡◌, ℕ, ◌+◌, ◌-◌, List, Bool, min}
-use Rattle.site_message.specs.declared.message.Msg.{Msg}
 
--- the numbers in hand, the messages that wait with their numbers, whether the site is idle, and for how many more
--- messages there is room
+-- the numbers in hand, the spellings of the messages that wait with their numbers, whether the site is idle, and for how
+-- many more messages there is room
 pub record InboxState : Type 0 where
   pub hand : List ℕ
-  pub waiting : List (ℕ × Msg)
+  pub waiting : List (ℕ × List ℕ)
   pub idle : Bool
   pub room : ℕ
 

@@ -1,12 +1,13 @@
 -- What stays true of a book: each inbox holds the travelling messages of its site.
 use Rattle.std.specs.Prelude.{◌≡◌, ◌≢◌, ℕ, zero, suc, ◌+◌, ◌≤◌, ◌<◌, List, [], ◌∷◌, ◌++◌, map, length, Bool, true, not, ◌==◌, nat_le, Option, Some, None, slice_index_or, if◌then◌else◌}
 use Rattle.std.specs.List.{filter, All}
-use Rattle.site_message.specs.declared.message.Msg.{Msg}
 use Rattle.site_message.specs.declared.message.Sent.{Sent}
 use Rattle.site_message.specs.declared.turn.Turn.{Turn}
 use Rattle.site_message.specs.declared.outcome.Reason.{Reason}
 use Rattle.site_message.specs.declared.outcome.Reason.TheVariants.{Messages, Steps, Quiet}
 use Rattle.site_message.specs.Journal.{Limits, Wired, sent_of, travelling, is_idle}
+use Rattle.tree_node.specs.Each.{Each}
+use Rattle.wire_form.specs.Format.{message, spelling}
 use Rattle.site_message.specs.Progress.{WentOn}
 use Rattle.message_book.specs.Inbox.{InboxState}
 use Rattle.message_book.specs.Book.{IsSiteOf, AreSites, IsReason, without}
@@ -15,12 +16,12 @@ use Rattle.message_book.specs.Book.{IsSiteOf, AreSites, IsReason, without}
 abbrev pub place : ℕ → ℕ → ℕ
 place n to = if nat_le to n then to else 0
 
-abbrev pub content_of : ℕ × Sent → ℕ × Msg
-content_of p = (p.0, p.1.msg)
+abbrev pub spelling_of : ℕ × Sent → ℕ × List ℕ
+spelling_of p = (p.0, spelling p.1.msg)
 
--- the travelling messages of a place, in the order in which they were sent
-abbrev pub messages_at : ℕ → List Turn → ℕ → List (ℕ × Msg)
-messages_at n j i = map content_of (filter (λ (p : ℕ × Sent). place n p.1.to == i) (travelling j))
+-- the spellings of the travelling messages of a place, in the order in which they were sent
+abbrev pub messages_at : ℕ → List Turn → ℕ → List (ℕ × List ℕ)
+messages_at n j i = map spelling_of (filter (λ (p : ℕ × Sent). place n p.1.to == i) (travelling j))
 
 abbrev pub no_inbox : InboxState
 no_inbox = record { hand = []; waiting = []; idle = true; room = 0 }
@@ -33,12 +34,12 @@ abbrev pub idle_at : List Turn → ℕ → Bool
 idle_at j zero = true
 idle_at j (suc i) = is_idle j (suc i)
 
-abbrev pub number_of : ℕ × Msg → ℕ
+abbrev pub number_of : ℕ × List ℕ → ℕ
 number_of p = p.0
 
 -- the messages of the place i are the travelling ones: first those in hand, then those that wait
 pub record HoldsTravelling (n : ℕ) (j : List Turn) (i : ℕ) (b : InboxState) : Type 0 where
-  pub in_hand : List (ℕ × Msg)
+  pub in_hand : List (ℕ × List ℕ)
   pub hand : b.hand ≡ map number_of in_hand
   pub messages : in_hand ++ b.waiting ≡ messages_at n j i
   pub idle : b.idle ≡ idle_at j i
@@ -48,6 +49,10 @@ AllHoldTravelling n j bs = (i : ℕ) → i ≤ n → HoldsTravelling n j i (inbo
 
 abbrev pub hand_of : InboxState → List ℕ
 hand_of b = b.hand
+
+-- each message is one of the format
+abbrev pub AllOfFormat : List Sent → Type 0
+AllOfFormat ms = Each (λ (s : Sent). message.Has s.msg) ms
 
 -- what stays true of a book
 pub record IsConsistent (l : Limits) (j : List Turn) (sent : ℕ) (bs : List InboxState) (r : Option Reason) : Type 0 where
@@ -59,20 +64,22 @@ pub record IsConsistent (l : Limits) (j : List Turn) (sent : ℕ) (bs : List Inb
   pub wired : Wired j
   pub are_sites : AreSites l.sites j
   pub inboxes : AllHoldTravelling l.sites j bs
+  pub spelled : AllOfFormat (sent_of j)
   pub reason : IsReason l j r
   pub went : WentOn l j
 
--- the new messages of a place: the copies of those sent, with their numbers from n on
-abbrev pub new_messages : ℕ → ℕ → List (ℕ × Msg) → List (ℕ × Msg)
-new_messages i n [] = []
-new_messages i n (c ∷ cs) = if c.0 == i then (n, c.1) ∷ new_messages i (n + 1) cs else new_messages i (n + 1) cs
+-- the spelling of a message, behind the site that it goes to
+abbrev pub letter_of : Sent → ℕ × List ℕ
+letter_of s = (s.to, spelling s.msg)
 
-abbrev pub addressed : ℕ → Sent → ℕ × Msg
-addressed n s = (place n s.to, s.msg)
+-- those of these letters that go to a place, with their numbers from k on
+abbrev pub new_messages : ℕ → ℕ → ℕ → List (ℕ × List ℕ) → List (ℕ × List ℕ)
+new_messages n i k [] = []
+new_messages n i k (c ∷ cs) = if place n c.0 == i then (k, c.1) ∷ new_messages n i (k + 1) cs else new_messages n i (k + 1) cs
 
--- there is room for so many messages at the place of each of these
-abbrev pub HasRoom : List InboxState → ℕ → List (ℕ × Msg) → Type 0
-HasRoom bs count cs = All (λ (c : ℕ × Msg). (c.0 < length bs) × (count ≤ (inbox_at bs c.0).room)) cs
+-- there is room for so many messages at the place of each of these letters
+abbrev pub HasRoom : ℕ → List InboxState → ℕ → List (ℕ × List ℕ) → Type 0
+HasRoom n bs count cs = All (λ (c : ℕ × List ℕ). (place n c.0 < length bs) × (count ≤ (inbox_at bs (place n c.0)).room)) cs
 
 -- nothing lies there yet, and site 1 alone is not idle
 abbrev pub IsNewInbox : ℕ → InboxState → Type 0
@@ -82,12 +89,12 @@ IsNewInbox i b = (b.hand ≡ []) × (b.waiting ≡ []) × (b.idle ≡ not (i == 
 abbrev pub IsQuietInbox : InboxState → Type 0
 IsQuietInbox b = (b.hand ≡ []) × (b.waiting ≡ []) × (b.idle ≡ true)
 
--- what the turn of a site leaves: what it delivered is in hand no more, its site is idle or not, and what it sent waits
-pub record IsAfterTurn (site : ℕ) (delivered : Option ℕ) (idle : Bool) (first : ℕ) (cs : List (ℕ × Msg)) (old new : List InboxState) : Type 0 where
+-- what the turn of a site of n leaves: what it delivered is in hand no more, its site is idle or not, and what it sent waits
+pub record IsAfterTurn (n site : ℕ) (delivered : Option ℕ) (idle : Bool) (first : ℕ) (cs : List (ℕ × List ℕ)) (old new : List InboxState) : Type 0 where
   pub places : length new ≡ length old
   pub here : ((inbox_at new site).hand ≡ without delivered (inbox_at old site).hand) × ((inbox_at new site).idle ≡ idle)
   pub others : (i : ℕ) → i ≢ site → ((inbox_at new i).hand ≡ (inbox_at old i).hand) × ((inbox_at new i).idle ≡ (inbox_at old i).idle)
-  pub waiting : (i : ℕ) → (inbox_at new i).waiting ≡ (inbox_at old i).waiting ++ new_messages i first cs
+  pub waiting : (i : ℕ) → (inbox_at new i).waiting ≡ (inbox_at old i).waiting ++ new_messages n i first cs
 
 -- how a run ends where more messages were sent than the limit, where the site came to its limit, where it is quiet
 abbrev pub reason_by : Bool → Bool → ℕ → Bool → Option Reason

@@ -4,8 +4,8 @@ ghost use Rattle.std.specs.Prelude.{◌≡◌, ◌≢◌, ◌⊎◌, ℕ, List, 
 ghost use Rattle.site_message.specs.Journal.{Wired, IsTravelling, sent_of, is_quiet, end_of};
 ghost use Rattle.site_message.specs.Progress.{WentOn};
 ghost use Rattle.site_message.specs.Story.{hand};
-ghost use Rattle.message_book.specs.Book.{IsSiteOf, AreSites, IsUntaken, IsReason, without, sight_of, first_reason};
-ghost use Rattle.message_book.specs.Inboxes.{IsNewInbox, IsQuietInbox, IsAfterTurn, HasRoom, AllHoldTravelling, reason_by, addressed, inbox_at};
+ghost use Rattle.message_book.specs.Book.{IsSiteOf, AreSites, IsUntaken, IsUntakenSpelling, IsReason, without, sight_of, first_reason};
+ghost use Rattle.message_book.specs.Inboxes.{IsNewInbox, IsQuietInbox, IsAfterTurn, HasRoom, AllHoldTravelling, reason_by, inbox_at};
 ghost use Rattle.message_book.specs.declared.posted.Posted.TheVariants.{Closed};
 ghost use Rattle.site_message.specs.declared.outcome.Reason.TheVariants.{Memory};
 ghost use Rattle.site_message.specs.declared.message.Msg.{Msg};
@@ -14,17 +14,18 @@ ghost use Rattle.message_book.specs.Inbox.{HoldsSame};
 ghost use Rattle.site_message.specs.declared.turn.Turn.{Turn};
 
 use crate::inbox::Inbox;
-use crate::outgoing::{copy_messages, enqueue_all, make_room};
+use crate::outgoing::{enqueue_all, make_room};
 use crate::posted::Posted;
-use site_message::{Journal, Msg, Reason, Sent, Story, Turn};
+use crate::spelled::Spelled;
+use site_message::{Journal, Reason, Story};
 use std::alloc::{AllocError, Global};
 use std::collections::VecDeque;
 use std::marker::Model;
+use wire_form::Bytes;
 
 /// The turns posted, the messages sent and not delivered, and the reason why the run ends, if there is one.
 #[derive(Drop)]
 pub struct Book {
-    alloc: Global,
     sites: u32,
     step_limit: u64,
     message_limit: u64,
@@ -67,7 +68,6 @@ impl Book {
     {
         let inboxes = empty_inboxes(alloc, sites)?;
         Ok(Book {
-            alloc,
             sites,
             step_limit,
             message_limit,
@@ -78,8 +78,9 @@ impl Book {
         })
     }
 
-    /// Appends a turn, and finds out whether the run has come to an end. A book with a reason takes no turn.
-    pub fn post(&mut self, turn: Turn) -> Result<(), Posted>
+    /// Appends a turn, and finds out whether the run has come to an end. A book with a reason takes no turn. Its messages were
+    /// spelled before, so memory is taken for their places and the journal alone.
+    pub fn post(&mut self, turn: Spelled) -> Result<(), Posted>
         requires site { IsSiteOf self.old.limits.sites turn.site }
         requires delivered { (k : ℕ) → turn.delivered ≡ Some k → Contains (hand turn.site self.old.hands) k }
         ensures closed { (r : Reason) → (result ≡ Err (Closed r)) ↔ (self.old.reason ≡ Some r) }
@@ -93,41 +94,34 @@ impl Book {
         if let Some(reason) = self.reason {
             return Err(Posted::Closed(reason));
         }
-        let messages = prepare(
-            self.alloc,
-            self.sites,
-            &mut self.inboxes,
-            turn.sent.as_slice(),
-        )?;
-        let (site, delivered) = (turn.site, turn.delivered);
-        let (idle, steps) = (turn.idle, turn.steps);
-        let count = messages.len() as u64;
+        let (turn, letters) = turn.into_parts();
+        prepare(&mut self.inboxes, self.sites, letters.as_slice())?;
+        let end = TurnEnd {
+            site: turn.site,
+            delivered: turn.delivered,
+            idle: turn.idle,
+        };
+        let steps = turn.steps;
+        let count = letters.len() as u64;
         if self.journal.push(turn).is_err() {
             return Err(Posted::Memory);
         }
         let first = self.sent;
         self.sent += count;
-        apply_turn(
-            &mut self.inboxes,
-            site as usize,
-            delivered,
-            idle,
-            messages,
-            first,
-        );
+        apply_turn(&mut self.inboxes, self.sites, end, letters, first);
         self.reason = find_reason(
             self.sent > self.message_limit,
-            is_at_limit(steps, self.step_limit, idle),
-            site,
+            is_at_limit(steps, self.step_limit, end.idle),
+            end.site,
             self.inboxes.as_slice(),
         );
         Ok(())
     }
 
-    /// Hands out a message for the site that no site has taken. It takes no memory.
-    pub fn take(&mut self, site: u32) -> Option<(u64, Msg)>
+    /// Hands out a message for the site that no site has taken: its number, and its spelling. It takes no memory.
+    pub fn take(&mut self, site: u32) -> Option<(u64, Bytes)>
         requires { IsSiteOf self.old.limits.sites site }
-        ensures taken { MatchOption result ((self.new ≡ self.old) × ((k : ℕ) (m : Msg) → IsUntaken self.old site k m → ⊥)) (λ x. IsUntaken self.old site x.0 x.1 × (hand site self.new.hands ≡ hand site self.old.hands ++ x.0 ∷ [])) }
+        ensures taken { MatchOption result ((self.new ≡ self.old) × ((k : ℕ) (m : Msg) → IsUntaken self.old site k m → ⊥)) (λ x. IsUntakenSpelling self.old site x.0 x.1 × (hand site self.new.hands ≡ hand site self.old.hands ++ x.0 ∷ [])) }
         ensures others { (i : ℕ) → i ≢ site → hand i self.new.hands ≡ hand i self.old.hands }
         ensures same { (self.new.limits ≡ self.old.limits) × (self.new.journal ≡ self.old.journal) × (self.new.reason ≡ self.old.reason) }
         ensures wired { Wired self.old.journal }
@@ -191,6 +185,14 @@ impl Book {
     }
 }
 
+// The site of a turn, what it delivered, and whether the site is idle now.
+#[derive(Clone, Copy)]
+struct TurnEnd {
+    site: u32,
+    delivered: Option<u64>,
+    idle: bool,
+}
+
 // An inbox for each place from 0 to the number of sites. Site 1 has the program's thread, and is not idle.
 fn empty_inboxes(alloc: Global, sites: u32) -> Result<Vec<Inbox>, AllocError>
     requires { sites ≤ 64 }
@@ -215,39 +217,41 @@ fn are_quiet(inboxes: &[Inbox]) -> bool
     true
 }
 
-// Copies of the messages sent, each with its place, where there is room for them.
+// Makes room for the messages of a turn.
 fn prepare(
-    alloc: Global,
-    sites: u32,
     inboxes: &mut Vec<Inbox>,
-    sent: &[Sent],
-) -> Result<Vec<(usize, Msg)>, AllocError>
+    sites: u32,
+    letters: &[(u32, Bytes)],
+) -> Result<(), AllocError>
     requires { sites < length inboxes.old.items }
     ensures length { length inboxes.new.items ≡ length inboxes.old.items }
     ensures same { (i : ℕ) → HoldsSame (inbox_at inboxes.old.items i) (inbox_at inboxes.new.items i) }
-    ensures ok { IfOk result (λ cs. (cs.items ≡ map (addressed sites) sent.now) × HasRoom inboxes.new.items (length cs.items) cs.items) }
+    ensures ok { OnOk result (HasRoom sites inboxes.new.items (length letters.now) letters.now) }
 {
-    let messages = copy_messages(alloc, sites, sent)?;
-    make_room(inboxes.as_mut_slice(), messages.as_slice())?;
-    Ok(messages)
+    make_room(inboxes.as_mut_slice(), sites, letters)?;
+    Ok(())
 }
 
 // What the turn of a site leaves, for which there is room: what it delivered is gone, and what it sent waits.
 fn apply_turn(
     inboxes: &mut Vec<Inbox>,
-    site: usize,
-    delivered: Option<u64>,
-    idle: bool,
-    messages: Vec<(usize, Msg)>,
+    sites: u32,
+    end: TurnEnd,
+    letters: Vec<(u32, Bytes)>,
     first: u64,
 )
-    requires site { site < length inboxes.old.items }
-    requires room { HasRoom inboxes.old.items (length messages.items) messages.items }
-    requires few { first + length messages.items < 2 ^ 64 }
-    ensures after { IsAfterTurn site delivered idle first messages.items inboxes.old.items inboxes.new.items }
+    requires site { end.site < length inboxes.old.items }
+    requires room { HasRoom sites inboxes.old.items (length letters.items) letters.items }
+    requires few { first + length letters.items < 2 ^ 64 }
+    ensures after { IsAfterTurn sites end.site end.delivered end.idle first letters.items inboxes.old.items inboxes.new.items }
 {
-    inboxes[site].apply_turn(delivered, idle);
-    enqueue_all(inboxes.as_mut_slice(), VecDeque::from_vec(messages), first);
+    inboxes[end.site as usize].apply_turn(end.delivered, end.idle);
+    enqueue_all(
+        inboxes.as_mut_slice(),
+        sites,
+        VecDeque::from_vec(letters),
+        first,
+    );
 }
 
 // Whether a site came to its limit of own steps, and is not idle.

@@ -5,18 +5,18 @@ ghost use Rattle.std.specs.List.{filter};
 ghost use Rattle.message_book.specs.Inbox.{HoldsSame};
 ghost use Rattle.message_book.specs.Book.{without};
 
-use site_message::Msg;
 use std::alloc::{AllocError, Global};
 use std::collections::VecDeque;
 use std::marker::Model;
+use wire_form::Bytes;
 
-/// The messages that the site has not taken, the first come first, each with its number; the numbers of those that it
+/// The spellings of the messages that the site has not taken, the first come first, each with its number; the numbers of those that it
 /// has taken and no turn has delivered; and whether the site is idle. A number in hand keeps its room from the time
 /// that the message came.
 #[derive(Drop)]
 pub(crate) struct Inbox {
     hand: Vec<u64>,
-    waiting: VecDeque<(u64, Msg)>,
+    waiting: VecDeque<(u64, Bytes)>,
     idle: bool,
 }
 
@@ -63,17 +63,17 @@ impl Inbox {
     }
 
     // One more message, for which there is room.
-    pub(crate) fn enqueue(&mut self, number: u64, msg: Msg)
+    pub(crate) fn enqueue(&mut self, number: u64, bytes: Bytes)
         requires { 0 < self.old.room }
-        ensures waiting { self.new.waiting ≡ self.old.waiting ++ (number, msg) ∷ [] }
+        ensures waiting { self.new.waiting ≡ self.old.waiting ++ (number, bytes) ∷ [] }
         ensures others { (self.new.hand ≡ self.old.hand) × (self.new.idle ≡ self.old.idle) }
         ensures room { self.old.room ≤ self.new.room + 1 }
     {
-        self.waiting.push_back_reserved((number, msg));
+        self.waiting.push_back_reserved((number, bytes));
     }
 
     // Hands out the first message.
-    pub(crate) fn take(&mut self) -> Option<(u64, Msg)>
+    pub(crate) fn take(&mut self) -> Option<(u64, Bytes)>
         ensures taken { MatchOption result ((self.old.waiting ≡ []) × (self.new ≡ self.old)) (λ x. (self.old.waiting ≡ x ∷ self.new.waiting) × (self.new.hand ≡ self.old.hand ++ x.0 ∷ []) × (self.new.idle ≡ self.old.idle)) }
     {
         let message = self.waiting.pop_front()?;

@@ -1,9 +1,11 @@
 //! The book of a run over several sites: the journal of the turns that were posted, the messages that were sent and not
 //! delivered, the numbers of those that a site has in hand, and the reason why the run ends.
 //!
-//! It promises: `post` appends the turn given and sets the reason by which the journal ends then (`end_of`), or changes
-//! nothing; `Closed` comes exactly where there was a reason. `take` hands out a message that travels to the site and
-//! that no site has taken, and nothing exactly where there is none (`IsUntaken`); it takes no memory, nor do `quiet` and
+//! It promises: `Spelled` is a turn with the spellings of its messages, made before the turn is posted, which wants that each
+//! can be spelled (`FitsWire`). `post` appends the turn given and sets the reason by which the journal ends then (`end_of`), or changes
+//! nothing; `Closed` comes exactly where there was a reason. `take` hands out the number and the bytes of a message
+//! that travels to the site and that no site has taken (`IsUntakenSpelling`: `decode` reads it back), and nothing exactly where
+//! there is none; it takes no memory, nor do `quiet` and
 //! `close`. `quiet` holds exactly where no message travels and every site is idle (`is_quiet`), so a message in hand
 //! keeps the run going. `close` keeps the first reason. `journal` and `into_journal` give the turns posted: each message
 //! was delivered once at most, after it was sent, to the site that it was sent to (`Wired`), and every turn is of a site
@@ -11,7 +13,7 @@
 //!
 //! No call walks over the journal: `take` takes one step, `post` as many as the turn sent messages and there are sites.
 //!
-//! It stands on `site_message` for turns, journals and their laws, and on `tree_node`. `threads` shows that a book may
+//! It stands on `wire_form` for the spellings, on `site_message` for turns, journals and their laws, and on `tree_node`. `threads` shows that a book may
 //! cross from thread to thread. A test (`unit_tests`) runs two turns to a quiet end; no promise is left to it alone.
 //!
 //! Sources: the messages in a book are those of Haridi and others, *Efficient Logic Variables for Distributed Computing*
@@ -23,8 +25,10 @@ mod book;
 mod inbox;
 mod outgoing;
 mod posted;
+mod spelled;
 mod threads;
 
 pub use book::Book;
 pub use posted::Posted;
+pub use spelled::Spelled;
 pub use site_message::Reason;

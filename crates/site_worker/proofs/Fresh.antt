@@ -1,6 +1,8 @@
 -- New hosts.
-use Rattle.std.proofs.Common.{◌≡◌, ℕ, List, [], true, false, refl, sym, ap, ◌∙◌, subst, arith}
+use Rattle.std.proofs.Common.{◌≡◌, ℕ, ◌≤◌, List, [], true, false, refl, sym, ap, ◌∙◌, subst, arith}
 use Rattle.atomic_table.specs.Seated.{TableId}
+use Rattle.kernel_syntax.specs.declared.stmt.Stmt.{Stmt}
+use Rattle.kernel_syntax.specs.Program.{IsProgram}
 use Rattle.site_message.specs.declared.turn.Turn.{Turn}
 use Rattle.site_message.specs.declared.story.NoSeat.{NoSeat}
 use Rattle.site_message.specs.Story.{hand}
@@ -21,8 +23,8 @@ no_entries h es none = subst (λ (es : List Turn). IsRunTo h es (initial_site (p
 
 -- a new site with its new seat
 pub new_host : (t : TableId) (h : Host) (v : Seated NoSeat) (x : SiteSeat) → h.site ≡ record { program = v.program; sites = v.sites; state = v.state; spent = v.spent; seat = x }
-    → v.state ≡ initial_site v.program x.site → v.spent ≡ false → h.number ≡ x.site → h.spent ≡ false → IsNewSeat t v.sites x → IsHost t h
-new_host t h v x is start fresh mine live new =
+    → v.state ≡ initial_site v.program x.site → v.spent ≡ false → h.number ≡ x.site → h.spent ≡ false → IsProgram v.program → v.sites ≤ 64 → IsNewSeat t v.sites x → IsHost t h
+new_host t h v x is start fresh mine live real few new =
     let seat : h.site.seat ≡ x = ap (λ (w : Seated SiteSeat). w.seat) is in
     let program : program_of h ≡ v.program = ap (λ (w : Seated SiteSeat). w.program) is in
     let sites : sites_of h ≡ v.sites = ap (λ (w : Seated SiteSeat). w.sites) is in
@@ -37,6 +39,8 @@ new_host t h v x is start fresh mine live new =
         site = ap (λ (s : Site). s.records.site) state;
         sites = ap (λ (z : SiteSeat). book_sites (last_seen z)) seat ∙ (new.2 ∙ sym sites);
         range = subst (λ (z : ℕ × ℕ). IsSiteOf z.0 z.1) (λ i. (sym sites i, sym mine i)) new.1;
+        most = subst (λ (n : ℕ). n ≤ 64) (sym sites) few;
+        program = subst IsProgram (sym program) real;
       };
       state = initial_site (program_of h) h.number;
       run = run;

@@ -3,12 +3,14 @@ use Rattle.std.proofs.Common.{min, inl, inr, ⊎_elim, ◌-◌, ◌≡◌, ℕ, 
 use Rattle.std.specs.Prelude.{slice_get, slice_index_or}
 use Rattle.atomic_table.specs.Seated.{TableId}
 use Rattle.kernel_syntax.specs.declared.stmt.Stmt.{Stmt}
+use Rattle.kernel_syntax.specs.Program.{IsProgram}
 use Rattle.site_message.specs.declared.message.Msg.{Msg}
 use Rattle.site_message.specs.declared.turn.Turn.{Turn}
 use Rattle.site_message.specs.declared.story.Sight.{Sight}
 use Rattle.site_message.specs.declared.outcome.Reason.{Reason}
 use Rattle.site_message.specs.Journal.{sent_of}
 use Rattle.site_message.specs.Story.{own, hand}
+use Rattle.wire_form.specs.Format.{Spells}
 use Rattle.message_book.specs.Book.{IsSiteOf, without}
 use Rattle.book_lock.specs.declared.lock.SiteSeat.{SiteSeat}
 use Rattle.book_lock.specs.Rule.{BeginsWith}
@@ -18,13 +20,16 @@ use Rattle.site_model.specs.Bundle.{bundle_limit}
 use Rattle.site_model.specs.Transition.{Transition}
 use Rattle.site_model.specs.Turn.{SiteTurn, IsFullTurn}
 use Rattle.site_model.specs.Run.{SiteRun, IsEntry, message_of, delivered_message}
+use Rattle.tree_node.specs.Each.{Each}
+use Rattle.site_wire.specs.Laws.{SitesSendWhatFits}
+use Rattle.site_wire.specs.Sending.{CanBeSpelled}
 use Rattle.site_core.specs.Seated.{Seated, IsTurnMade, message_in, number_in}
 use Rattle.site_worker.specs.declared.host.Host.{Host}
 use Rattle.site_worker.specs.declared.inside.Fetched.{Fetched}
 use Rattle.site_worker.specs.declared.inside.Fetched.TheVariants.{Over, Open}
 use Rattle.site_worker.specs.declared.inside.Delivered.TheVariants.{Posted, Refused}
 use Rattle.site_worker.specs.Inside.{book_sites, book_steps, NoneWaits, HasTaken, HasFetched, HasDelivered, HasClosed, Since}
-use Rattle.site_worker.specs.Host.{state_of, sight, program_of, sites_of, fixed_of, IsRunTo, IsSeated, HasCome, IsHost, HasMessage, HasTurned, HasFailed, number_list}
+use Rattle.site_worker.specs.Host.{state_of, sight, program_of, sites_of, fixed_of, IsRunTo, IsSeated, HasCome, IsHost, IsSpelledBy, HasMessage, HasSpelling, HasTurned, HasFailed, number_list}
 use Rattle.site_worker.specs.declared.outcome.Visited.{Visited}
 use Rattle.site_worker.specs.declared.outcome.Visited.TheVariants.{Did, Nothing}
 use Rattle.site_worker.specs.declared.outcome.Visited.TheVariants as visited
@@ -45,6 +50,8 @@ seated_later table h x mine out same fixed = record {
   site = mine.site;
   sites = ap (λ (l : List ℕ). slice_index_or l 0 0) fixed ∙ mine.sites;
   range = mine.range;
+  most = mine.most;
+  program = mine.program;
 }
 
 come_later : (h : Host) (x : SiteSeat) (s : Site) → BeginsWith (last_seen x).entries (sight h).entries → HasNoEntry h.number (sight h) (last_seen x) → HasCome h s → HasCome (with_seat h x) s
@@ -60,12 +67,29 @@ alive : (b : Bool) (spent : Bool) → spent ≡ b → (spent ≡ true → ⊥) �
 alive true spent e dead = absurd (dead e)
 alive false spent e dead = e
 
--- what was taken is in hand, and was sent by its number
-taken_first : (h : Host) (x : SiteSeat) (o : Option (ℕ × Msg)) (now : Sight) → (last_seen x).entries ≡ now.entries → hand h.number now.hands ≡ [] → HasTaken h.number now (last_seen x) o
-    → (hand h.number (last_seen x).hands ≡ number_list (number_in o)) × (delivered_message (last_seen x).entries (number_in o) ≡ message_in o) × (o ≡ None → NoneWaits h.number (last_seen x))
-taken_first h x None now entries none t = (ap (λ (s : Sight). hand h.number s.hands) t.0 ∙ none, refl, λ _. subst (NoneWaits h.number) (sym t.0) t.1)
-taken_first h x (Some y) now entries none t =
-    (t.1 ∙ ap (λ l. l ++ y.0 ∷ []) none, ap (λ (es : List Turn). message_of (slice_get (sent_of es) y.0)) entries ∙ ap message_of t.0, λ e. absurd (cc))
+-- the message that was taken: it is in hand, and was sent by its number
+record IsFirst (h : Host) (x : SiteSeat) (o : Option (ℕ × List ℕ)) : Type 0 where
+  message : Option (ℕ × Msg)
+  spelled : IsSpelledBy o message
+  hands : hand h.number (last_seen x).hands ≡ number_list (number_in message)
+  content : delivered_message (last_seen x).entries (number_in message) ≡ message_in message
+  waits : message ≡ None → NoneWaits h.number (last_seen x)
+
+taken_first : (h : Host) (x : SiteSeat) (o : Option (ℕ × List ℕ)) (now : Sight) → (last_seen x).entries ≡ now.entries → hand h.number now.hands ≡ [] → HasTaken h.number now (last_seen x) o → IsFirst h x o
+taken_first h x None now entries none t = record {
+  message = None;
+  spelled = tt;
+  hands = ap (λ (s : Sight). hand h.number s.hands) t.0 ∙ none;
+  content = refl;
+  waits = λ _. subst (NoneWaits h.number) (sym t.0) t.1;
+}
+taken_first h x (Some y) now entries none t = record {
+  message = Some (y.0, t.0.0);
+  spelled = (refl, t.0.2);
+  hands = t.1 ∙ ap (λ l. l ++ y.0 ∷ []) none;
+  content = ap (λ (es : List Turn). message_of (slice_get (sent_of es) y.0)) entries ∙ ap message_of t.0.1;
+  waits = λ e. absurd (cc);
+}
 
 module _ (table : TableId) (h : Host) (x : SiteSeat) (mine : IsHost table h) (out : IsOutsideOf table x) (same : x.site ≡ h.site.seat.site) where
   fetched_from : (r : Fetched) → Since h.number (sight h) (last_seen x) (λ now. HasFetched h.number now (last_seen x) r) → IsFirstHalf table h (with_seat h x) r
@@ -93,16 +117,16 @@ module _ (table : TableId) (h : Host) (x : SiteSeat) (mine : IsHost table h) (ou
       let is = mine.live live in
       let come = come_later h x mine.state on own_same is.0 in
       let taken = taken_first h x o now found.2 (a.1.own_hands ∙ is.1) found.4 in (
-        record {
+        (taken.message, taken.spelled, record {
           seated = seated_later table h x mine.seated out same a.3;
           come = subst (HasCome (with_seat h x)) (sym is.0.state) come;
-          hands = taken.0;
-          message = taken.1;
+          hands = taken.hands;
+          message = taken.content;
           live = live;
           steps = subst (λ (s : Site). s.steps ≤ 1000000000) (sym is.0.state) mine.steps;
           reason = found.1;
-          waits = taken.2;
-        },
+          waits = taken.waits;
+        }),
         own_same,
         found.3,
       )
@@ -127,6 +151,8 @@ seated_turn table h v seat same mine = record {
   site = same.2 ∙ mine.site;
   sites = ap (λ (z : SiteSeat). book_sites (last_seen z)) seat ∙ (mine.sites ∙ sym same.1);
   range = subst (λ n. IsSiteOf n h.number) (sym same.1) mine.range;
+  most = subst (λ n. n ≤ 64) (sym same.1) mine.most;
+  program = subst IsProgram (sym same.0) mine.program;
 }
 
 -- a host whose site made a turn with what was taken
@@ -136,7 +162,7 @@ pub turned_host : (table : TableId) (h : Host) (v : Seated SiteSeat) (recipients
 turned_host table h v recipients quantum o e mine seat same live few turn steps =
     let seated = seated_turn table h v seat same mine.seated in
     record {
-      seated = record { outside = seated.outside; seat = seated.seat; site = seated.site; sites = seated.sites; range = seated.range };
+      seated = record { outside = seated.outside; seat = seated.seat; site = seated.site; sites = seated.sites; range = seated.range; most = seated.most; program = seated.program };
       before = state_of h;
       taken = o;
       quantum = quantum;
@@ -156,12 +182,45 @@ pub spent_host : (table : TableId) (h : Host) (v : Seated SiteSeat) (o : Option 
 spent_host table h v o mine seat same =
     let seated = seated_turn table h v seat same mine.seated in
     record {
-      seated = record { outside = seated.outside; seat = seated.seat; site = seated.site; sites = seated.sites; range = seated.range };
+      seated = record { outside = seated.outside; seat = seated.seat; site = seated.site; sites = seated.sites; range = seated.range; most = seated.most; program = seated.program };
       before = state_of h;
       run = subst (λ (z : List Stmt × ℕ × SiteSeat). SiteRun z.0 z.1 bundle_limit h.number (last_seen z.2).entries (state_of h)) (λ i. (sym same.0 i, sym same.1 i, sym seat i)) mine.come.run;
       spent = refl;
       steps = mine.steps;
     }
+
+-- a host that counts its turns
+pub counted_host : (table : TableId) (h : Host) (turns : ℕ) (o : Option (ℕ × Msg)) → HasMessage table h o → HasMessage table (record h { turns = turns }) o
+counted_host table h turns o mine = record {
+  seated = record { outside = mine.seated.outside; seat = mine.seated.seat; site = mine.seated.site; sites = mine.seated.sites; range = mine.seated.range; most = mine.seated.most; program = mine.seated.program };
+  come = record { run = mine.come.run; state = mine.come.state; live = mine.come.live };
+  hands = mine.hands;
+  message = mine.message;
+  live = mine.live;
+  steps = mine.steps;
+  reason = mine.reason;
+  waits = mine.waits;
+}
+
+-- a host that had no memory to read the message that was taken
+pub unread_host : (table : TableId) (h : Host) (o : Option (ℕ × Msg)) → HasMessage table h o → HasFailed table (record h { spent = true })
+unread_host table h o mine = record {
+  seated = record { outside = mine.seated.outside; seat = mine.seated.seat; site = mine.seated.site; sites = mine.seated.sites; range = mine.seated.range; most = mine.seated.most; program = mine.seated.program };
+  before = state_of h;
+  run = mine.come.run;
+  spent = refl;
+  steps = mine.steps;
+}
+
+-- a host that had no memory to spell what its turn sends
+pub unspelled_host : (table : TableId) (h : Host) (e : Turn) → HasTurned table h e → HasFailed table (record h { spent = true })
+unspelled_host table h e mine = record {
+  seated = record { outside = mine.seated.outside; seat = mine.seated.seat; site = mine.seated.site; sites = mine.seated.sites; range = mine.seated.range; most = mine.seated.most; program = mine.seated.program };
+  before = mine.before;
+  run = mine.run;
+  spent = refl;
+  steps = mine.steps.0;
+}
 
 -- ---- the second half
 
@@ -172,6 +231,27 @@ without_this (Some n) = ap (λ b. cond (not b) (n ∷ []) []) (eq-eqb n n refl)
 own_first : (k : ℕ) (e : Turn) (es : List Turn) → e.site ≡ k → own k (e ∷ es) ≡ e ∷ own k es
 own_first k e es is = ap (λ b. cond b (e ∷ own k es) (own k es)) (eq-eqb e.site k is)
 
+-- a turn that was made is one over any journal that begins with what was seen
+entry_over : (table : TableId) (h : Host) (e : Turn) (es : List Turn) → HasTurned table h e → BeginsWith es (sight h).entries → own h.number es ≡ own h.number (sight h).entries → IsRunTo h (e ∷ es) (state_of h)
+entry_over table h e es mine on same =
+    let before = run_later (program_of h) (sites_of h) bundle_limit h.number (sight h).entries es mine.before on same mine.run in
+    let message : message_in mine.taken ≡ delivered_message es e.delivered =
+    sym (ap (delivered_message es) mine.turn.delivered ∙ message_later (sight h).entries es mine.taken on mine.message) in
+    let t = mine.turn.turn in
+    let turn = site_turn (program_of h) (sites_of h) bundle_limit mine.quantum mine.before (message_in mine.taken) t.0 mine.few t.1 in
+    let entry : IsEntry (program_of h) (sites_of h) bundle_limit es e mine.before (state_of h) =
+    (t.0, subst (λ m. SiteTurn (program_of h) (sites_of h) bundle_limit mine.before m t.0) message turn, t.2, t.3) in
+    run_entry (program_of h) (sites_of h) bundle_limit h.number e es mine.before (state_of h) mine.site before entry
+
+-- each message that it sends can be spelled
+pub sent_fits : SitesSendWhatFits → (table : TableId) (h : Host) (e : Turn) → HasTurned table h e → CanBeSpelled e.sent
+sent_fits law table h e mine =
+    let k = h.number in
+    let es = (sight h).entries in
+    let run : IsRunTo h (e ∷ es) (state_of h) = entry_over table h e es mine ([], refl) refl in
+    let all = law (program_of h) (sites_of h) bundle_limit k (e ∷ es) (state_of h) mine.seated.program mine.seated.most (omega arith) mine.seated.range.0 mine.seated.range.1 run in
+    (subst (Each (λ (d : Turn). CanBeSpelled d.sent)) (own_first k e es mine.site) all).0
+
 module _ (table : TableId) (h : Host) (e : Turn) (x : SiteSeat) (mine : HasTurned table h e) (out : IsOutsideOf table x) (same : x.site ≡ h.site.seat.site) where
   posted_host : (o : Option Reason) → Since h.number (sight h) (last_seen x) (λ now. HasDelivered e now (last_seen x) (Posted o))
       → IsHost table (with_seat h x) × ((last_seen x).reason ≡ o) × HasEntry h.number (sight h) (last_seen x) e × (hand h.number (last_seen x).hands ≡ []) × BeginsWith (last_seen x).entries (sight h).entries
@@ -181,15 +261,8 @@ module _ (table : TableId) (h : Host) (e : Turn) (x : SiteSeat) (mine : HasTurne
       let k = h.number in
       let mine_new : HasEntry k (sight h) (last_seen x) e = ap (own k) found.0 ∙ (own_first k e now.entries mine.site ∙ ap (λ l. e ∷ l) a.1.own_entries) in
       let hands : hand k (last_seen x).hands ≡ [] = subst (λ (i : ℕ). hand i (last_seen x).hands ≡ without e.delivered (hand i now.hands)) mine.site found.1 ∙ (ap (without e.delivered) (a.1.own_hands ∙ mine.hands) ∙ without_this e.delivered) in
-      let before = run_later (program_of h) (sites_of h) bundle_limit k (sight h).entries now.entries mine.before a.1.begins a.1.own_entries mine.run in
-      let message : message_in mine.taken ≡ delivered_message now.entries e.delivered =
-      sym (ap (delivered_message now.entries) mine.turn.delivered ∙ message_later (sight h).entries now.entries mine.taken a.1.begins mine.message) in
-      let t = mine.turn.turn in
-      let turn = site_turn (program_of h) (sites_of h) bundle_limit mine.quantum mine.before (message_in mine.taken) t.0 mine.few t.1 in
-      let entry : IsEntry (program_of h) (sites_of h) bundle_limit now.entries e mine.before (state_of h) =
-      (t.0, subst (λ m. SiteTurn (program_of h) (sites_of h) bundle_limit mine.before m t.0) message turn, t.2, t.3) in
       let run : IsRunTo h (last_seen x).entries (state_of h) =
-      subst (λ (es : List Turn). IsRunTo h es (state_of h)) (sym found.0) (run_entry (program_of h) (sites_of h) bundle_limit k e now.entries mine.before (state_of h) mine.site before entry) in (
+      subst (λ (es : List Turn). IsRunTo h es (state_of h)) (sym found.0) (entry_over table h e now.entries mine a.1.begins a.1.own_entries) in (
         record {
           seated = seated_later table h x mine.seated out same a.3;
           state = state_of h;
@@ -212,7 +285,7 @@ module _ (table : TableId) (h : Host) (e : Turn) (x : SiteSeat) (mine : HasTurne
       let on : BeginsWith (last_seen x).entries (sight h).entries = subst (λ (es : List Turn). BeginsWith es (sight h).entries) (sym found.0) a.1.begins in
       let seated = seated_later table h x mine.seated out same a.3 in (
         record {
-          seated = record { outside = seated.outside; seat = seated.seat; site = seated.site; sites = seated.sites; range = seated.range };
+          seated = record { outside = seated.outside; seat = seated.seat; site = seated.site; sites = seated.sites; range = seated.range; most = seated.most; program = seated.program };
           state = mine.before;
           run = run_later (program_of h) (sites_of h) bundle_limit h.number (sight h).entries (last_seen x).entries mine.before on own_same mine.run;
           live = λ no_more. absurd (off no_more);
@@ -265,6 +338,17 @@ failed_by table h y x is mine out r a =
     failed_host table h x mine out.0 (out.1 ∙ ap (λ (z : SiteSeat). z.site) is) r (lent y h.site.seat h.number (last_seen x) (λ now. HasClosed now (last_seen x) r) is mine.seated.seat a)
 
 -- ---- the whole visit
+
+-- there is a message exactly where there are bytes
+pub none_taken : (o : Option (ℕ × List ℕ)) (m : Option (ℕ × Msg)) → IsSpelledBy o m → m ≡ None → o ≡ None
+none_taken None m s e = refl
+none_taken (Some x) None s e = absurd s
+none_taken (Some x) (Some y) s e = absurd (cc)
+
+pub none_read : (o : Option (ℕ × List ℕ)) (m : Option (ℕ × Msg)) → IsSpelledBy o m → o ≡ None → m ≡ None
+none_read o None s e = refl
+none_read None (Some y) s e = absurd s
+none_read (Some x) (Some y) s e = absurd (cc)
 
 -- a turn that was made with what was taken, and posted
 pub made_turn : (a b c d : Host) (limit : ℕ) (o : Option (ℕ × Msg)) (e : Turn)

@@ -2,11 +2,13 @@
 use Rattle.std.specs.Prelude.{◌≡◌, ℕ, ◌≤◌, List, [], ◌∷◌, true, false, Option, Some, None}
 use Rattle.atomic_table.specs.Seated.{TableId}
 use Rattle.kernel_syntax.specs.declared.stmt.Stmt.{Stmt}
+use Rattle.kernel_syntax.specs.Program.{IsProgram}
 use Rattle.site_message.specs.declared.message.Msg.{Msg}
 use Rattle.site_message.specs.declared.turn.Turn.{Turn}
 use Rattle.site_message.specs.declared.story.Sight.{Sight}
 use Rattle.site_message.specs.declared.outcome.Reason.{Reason}
 use Rattle.site_message.specs.Story.{hand}
+use Rattle.wire_form.specs.Format.{Spells}
 use Rattle.message_book.specs.Book.{IsSiteOf}
 use Rattle.book_lock.specs.declared.lock.SiteSeat.{SiteSeat}
 use Rattle.book_lock.specs.Seats.{last_seen, IsOutsideOf}
@@ -45,13 +47,15 @@ abbrev pub IsRunTo : Host → List Turn → Site → Type 0
 IsRunTo h j s = SiteRun (program_of h) (sites_of h) bundle_limit h.number j s
 
 -- a host with a seat of the table, which is outside; its site and its seat are of its number, which is one of the sites of
--- the book
+-- the book, at most 64; and the site's program is one
 pub record IsSeated (table : TableId) (h : Host) : Type 0 where
   pub outside : IsOutsideOf table h.site.seat
   pub seat : h.number ≡ h.site.seat.site
   pub site : (state_of h).records.site ≡ h.number
   pub sites : book_sites (sight h) ≡ sites_of h
   pub range : IsSiteOf (sites_of h) h.number
+  pub most : sites_of h ≤ 64
+  pub program : IsProgram (program_of h)
 
 -- the site, which is not spent, has come to this state by the entries of its own that were seen
 pub record HasCome (h : Host) (s : Site) : Type 0 where
@@ -86,6 +90,17 @@ pub record HasMessage (table : TableId) (h : Host) (o : Option (ℕ × Msg)) : T
   pub steps : (state_of h).steps ≤ 1000000000
   pub reason : (sight h).reason ≡ None
   pub waits : o ≡ None → NoneWaits h.number (sight h)
+
+-- the bytes spell the message, and both have one number; or there is neither
+abbrev pub IsSpelledBy : Option (ℕ × List ℕ) → Option (ℕ × Msg) → Type 0
+IsSpelledBy None None = Unit {0}
+IsSpelledBy None (Some m) = ⊥
+IsSpelledBy (Some x) None = ⊥
+IsSpelledBy (Some x) (Some m) = (m.0 ≡ x.0) × Spells x.1 m.1
+
+-- the same where the bytes of the message were taken
+abbrev pub HasSpelling : TableId → Host → Option (ℕ × List ℕ) → Type 0
+HasSpelling table h o = (m : Option (ℕ × Msg)) × IsSpelledBy o m × HasMessage table h m
 
 -- the host between its turn, which delivers what was taken, and the post
 pub record HasTurned (table : TableId) (h : Host) (e : Turn) : Type 0 where

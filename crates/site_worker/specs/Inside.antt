@@ -1,5 +1,5 @@
 -- What a site does to the book inside the lock.
-use Rattle.std.specs.Prelude.{◌≡◌, ℕ, ◌≤◌, [], ◌∷◌, ◌++◌, Option, Some, None, Contains, slice_get, slice_index_or}
+use Rattle.std.specs.Prelude.{◌≡◌, ℕ, ◌≤◌, List, [], ◌∷◌, ◌++◌, Option, Some, None, Contains, slice_get, slice_index_or}
 use Rattle.site_message.specs.declared.message.Msg.{Msg}
 use Rattle.site_message.specs.declared.turn.Turn.{Turn}
 use Rattle.site_message.specs.declared.story.Sight.{Sight}
@@ -7,6 +7,7 @@ use Rattle.site_message.specs.declared.outcome.Reason.{Reason}
 use Rattle.site_message.specs.declared.outcome.Reason.TheVariants.{Memory}
 use Rattle.site_message.specs.Journal.{IsTravelling, sent_of}
 use Rattle.site_message.specs.Story.{hand}
+use Rattle.wire_form.specs.Format.{Spells}
 use Rattle.message_book.specs.Book.{BookState, without, first_reason}
 use Rattle.book_lock.specs.Rule.{Agrees}
 use Rattle.site_worker.specs.declared.inside.Fetched.{Fetched}
@@ -26,10 +27,14 @@ book_steps x = slice_index_or x.fixed 1 0
 abbrev pub NoneWaits : ℕ → Sight → Type 0
 NoneWaits k x = (n : ℕ) (m : Msg) → IsTravelling x.entries n (record { to = k; msg = m }) × (Contains (hand k x.hands) n → ⊥) → ⊥
 
--- a message that was sent to the site k is in hand besides; or none waits, and nothing changed
-abbrev pub HasTaken : ℕ → Sight → Sight → Option (ℕ × Msg) → Type 0
+-- the bytes spell the message that was sent to the site k by this number
+abbrev pub IsSentSpelling : ℕ → Sight → ℕ → List ℕ → Type 0
+IsSentSpelling k x n bytes = (m : Msg) × (slice_get (sent_of x.entries) n ≡ Some (record { to = k; msg = m })) × Spells bytes m
+
+-- a message that was sent to the site k is in hand besides, as the bytes that spell it; or none waits, and nothing changed
+abbrev pub HasTaken : ℕ → Sight → Sight → Option (ℕ × List ℕ) → Type 0
 HasTaken k old new None = (new ≡ old) × NoneWaits k old
-HasTaken k old new (Some x) = (slice_get (sent_of old.entries) x.0 ≡ Some (record { to = k; msg = x.1 })) × (hand k new.hands ≡ hand k old.hands ++ x.0 ∷ [])
+HasTaken k old new (Some x) = IsSentSpelling k old x.0 x.1 × (hand k new.hands ≡ hand k old.hands ++ x.0 ∷ [])
 
 -- the book has a reason, and nothing changed; or it has none, and what was taken is told
 abbrev pub HasFetched : ℕ → Sight → Sight → Fetched → Type 0

@@ -9,7 +9,7 @@ use Rattle.site_model.specs.Run.{delivered_message}
 use Rattle.site_model.specs.Site.{is_idle}
 use Rattle.site_core.specs.Seated.{IsTurnMade, message_in, number_in}
 use Rattle.site_worker.specs.Inside.{book_steps, NoneWaits}
-use Rattle.site_worker.specs.Host.{IsHost, HasMessage, program_of, sites_of, state_of, fixed_of, sight}
+use Rattle.site_worker.specs.Host.{IsHost, HasSpelling, program_of, sites_of, state_of, fixed_of, sight}
 use Rattle.site_worker.specs.declared.host.Host.{Host}
 use Rattle.site_worker.specs.declared.inside.Fetched.{Fetched}
 use Rattle.site_worker.specs.declared.inside.Fetched.TheVariants as fetched
@@ -58,7 +58,7 @@ pub record IsSameHost (old new : Host) : Type 0 where
 -- the first half of a visit: the book has a reason, and the host is as it was; or the visit goes on with what was taken
 abbrev pub IsFirstHalf : TableId → Host → Host → Fetched → Type 0
 IsFirstHalf table old new (fetched.Over r) = IsHost table new × ((sight new).reason ≡ Some r) × HasNoEntry old.number (sight old) (sight new)
-IsFirstHalf table old new (fetched.Open o limit) = HasMessage table new o × HasNoEntry old.number (sight old) (sight new) × ((limit ≡ book_steps (sight new)) × (limit ≤ 1000000000))
+IsFirstHalf table old new (fetched.Open o limit) = HasSpelling table new o × HasNoEntry old.number (sight old) (sight new) × ((limit ≡ book_steps (sight new)) × (limit ≤ 1000000000))
 
 -- the second half: the turn was posted, and the book has a reason or none; or the book has a reason, and refused it
 abbrev pub IsSecondHalf : ℕ → Turn → Sight → Sight → Visited → Type 0

@@ -1,12 +1,14 @@
 //! A site with its seat, and a visit.
 
-ghost use Rattle.std.specs.Prelude.{◌≡◌, ◌≤◌, ◌-◌, min, ℕ, false, IfSome};
+ghost use Rattle.std.specs.Prelude.{◌≡◌, ◌≤◌, ◌-◌, min, ℕ, false, Option, IfOk, IfSome};
 ghost use Rattle.atomic_table.specs.Seated.{TableId};
 ghost use Rattle.book_lock.specs.Rule.{BeginsWith};
 ghost use Rattle.book_lock.specs.Seats.{lock_id, last_seen};
+ghost use Rattle.kernel_syntax.specs.Program.{IsProgram};
+ghost use Rattle.site_message.specs.declared.message.Msg.{Msg as AMsg};
 ghost use Rattle.site_model.specs.Site.{initial_site};
 ghost use Rattle.site_core.specs.Seated.{IsTurnMade};
-ghost use Rattle.site_worker.specs.Host.{IsHost, IsHostOf, IsNewSeat, HasMessage, HasTurned, HasFailed, HasTriedTurn, program_of, sites_of, state_of, sight};
+ghost use Rattle.site_worker.specs.Host.{IsHost, IsHostOf, IsNewSeat, IsSpelledBy, HasMessage, HasSpelling, HasTurned, HasFailed, HasTriedTurn, program_of, sites_of, state_of, sight};
 ghost use Rattle.site_worker.specs.Visit.{IsVisit, IsSameHost, IsFirstHalf, IsSecondHalf, IsGivenUp};
 
 use crate::gate::Gate;
@@ -14,15 +16,19 @@ use crate::inside::{Delivered, Fetched};
 use crate::outcome::Visited;
 use crate::seats;
 use book_lock::{CountedLock, SiteSeat};
-use message_book::Book;
+use message_book::{Book, Spelled};
 use site_core::Site;
 use site_message::{Msg, NoSeat, Quantum, Sent, Turn};
+use site_wire::sites_send_what_fits;
+use std::alloc::{AllocError, Global};
 use std::sync::Wait;
+use wire_form::{Bytes, WireFault, decode};
 
 /// A site of a run with its seat: the site's number, the turns that it has begun, whether it was given up, and the sites
 /// that its last turn sent to, the bit `k - 1` for the site `k`.
 #[derive(Drop)]
 pub struct Host<'a> {
+    pub(crate) alloc: Global,
     pub(crate) site: Site<'a, SiteSeat>,
     pub(crate) number: u32,
     pub(crate) turns: u64,
@@ -30,8 +36,8 @@ pub struct Host<'a> {
     pub(crate) recipients: u64,
 }
 
-/// Visits the site once: takes a message, and where there is one or the site is not idle, makes a turn outside the lock
-/// and posts it.
+/// Visits the site once: takes the bytes of a message, and where there are some or the site is not idle, reads them, makes a turn
+/// and spells what it sends, all outside the lock, and posts the turn.
 pub fn visit<'a, G: Gate, R: Wait>(
     rt: &R,
     host: &mut Host<'a>,
@@ -45,13 +51,13 @@ pub fn visit<'a, G: Gate, R: Wait>(
     host.recipients = 0;
     match host.fetch(rt, lock) {
         Fetched::Over(reason) => Visited::Over(reason),
-        Fetched::Open(message, limit) => {
-            if message.is_none() && host.site.idle() {
+        Fetched::Open(taken, limit) => {
+            if taken.is_none() && host.site.idle() {
                 return Visited::Nothing;
             }
             host.turns = host.turns.saturating_add(1);
             gate.before_turn(rt, host.number, host.turns);
-            match host.turn(message, limit) {
+            match host.turn(taken, limit) {
                 Some(turn) => host.deliver(rt, lock, turn),
                 None => host.fail(rt, lock),
             }
@@ -60,8 +66,10 @@ pub fn visit<'a, G: Gate, R: Wait>(
 }
 
 impl<'a> Host<'a> {
-    /// A new site and its new seat.
-    pub fn new(site: Site<'a, NoSeat>, seat: SiteSeat) -> Host<'a>
+    /// A new site and its new seat. Its visits take memory of the allocator.
+    pub fn new(alloc: Global, site: Site<'a, NoSeat>, seat: SiteSeat) -> Host<'a>
+        requires program { IsProgram site.program }
+        requires most { site.sites ≤ 64 }
         requires site { site.state ≡ initial_site site.program seat.site }
         requires live { site.spent ≡ false }
         requires seat { (t : TableId) × IsNewSeat t site.sites seat }
@@ -71,6 +79,7 @@ impl<'a> Host<'a> {
     {
         let number = seat.site();
         Host {
+            alloc,
             site: site.seated(seat),
             number,
             turns: 0,
@@ -95,8 +104,30 @@ impl<'a> Host<'a> {
         seats::fetch(rt, lock, self.site.seat())
     }
 
-    // The turn, outside the lock. Without memory the site is given up.
-    fn turn(&mut self, message: Option<(u64, Msg)>, limit: u64) -> Option<Turn>
+    // The turn, outside the lock, from the bytes of its message to those of the messages that it sends. Without memory the site
+    // is given up.
+    fn turn(&mut self, taken: Option<(u64, Bytes)>, limit: u64) -> Option<Spelled>
+        requires taken { (t : TableId) × HasSpelling t self.old taken }
+        requires limit { limit ≤ 1000000000 }
+        ensures same { IsSameHost self.old self.new × (self.new.site.seat ≡ self.old.site.seat) }
+        ensures turned { (t : TableId) → HasSpelling t self.old taken → HasTriedTurn t self.new result }
+        ensures turn { (m : Option (ℕ × AMsg)) → IsSpelledBy taken m → IfSome result (λ e. IsTurnMade (program_of self.old) (sites_of self.old) (state_of self.old) m (min (limit - (state_of self.old).steps) 64) e (state_of self.new)) }
+    {
+        let Ok(message) = read(self.alloc, taken) else {
+            self.spent = true;
+            return None;
+        };
+        let turn = self.make_turn(message, limit)?;
+        sites_send_what_fits();
+        let Ok(spelled) = Spelled::new(self.alloc, turn) else {
+            self.spent = true;
+            return None;
+        };
+        Some(spelled)
+    }
+
+    // The turn with its message. Without memory the site is given up.
+    fn make_turn(&mut self, message: Option<(u64, Msg)>, limit: u64) -> Option<Turn>
         requires message { (t : TableId) × HasMessage t self.old message }
         requires limit { limit ≤ 1000000000 }
         ensures same { IsSameHost self.old self.new × (self.new.site.seat ≡ self.old.site.seat) }
@@ -117,7 +148,7 @@ impl<'a> Host<'a> {
     }
 
     // The second half of a visit. A site whose turn is refused is given up.
-    fn deliver<R: Wait>(&mut self, rt: &R, lock: &CountedLock<Book>, turn: Turn) -> Visited
+    fn deliver<R: Wait>(&mut self, rt: &R, lock: &CountedLock<Book>, turn: Spelled) -> Visited
         requires { HasTurned (lock_id lock.now) self.old turn }
         ensures host { IsHost (lock_id lock.now) self.new × IsSameHost self.old self.new }
         ensures visited { IsSecondHalf self.old.number turn (sight self.old) (sight self.new) result }
@@ -141,6 +172,24 @@ impl<'a> Host<'a> {
         ensures visited { IsGivenUp self.old.number (sight self.old) (sight self.new) result }
     {
         Visited::Over(seats::fail(rt, lock, self.site.seat()))
+    }
+}
+
+// The message that was taken. Its bytes spell one, so no fault comes.
+fn read(
+    alloc: Global,
+    taken: Option<(u64, Bytes)>,
+) -> Result<Option<(u64, Msg)>, AllocError>
+    requires { (m : Option (ℕ × AMsg)) × IsSpelledBy taken m }
+    ensures { IfOk result (λ o. (m : Option (ℕ × AMsg)) → IsSpelledBy taken m → o ≡ m) }
+{
+    let Some((number, bytes)) = taken else {
+        return Ok(None);
+    };
+    match decode(alloc, bytes.as_slice()) {
+        Ok(msg) => Ok(Some((number, msg))),
+        Err(WireFault::Memory) => Err(AllocError),
+        Err(_) => unreachable!(),
     }
 }
 

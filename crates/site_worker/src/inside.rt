@@ -6,14 +6,16 @@ ghost use Rattle.message_book.specs.Book.{IsSiteOf, sight_of};
 ghost use Rattle.book_lock.specs.Rule.{IsLawfulChange};
 ghost use Rattle.site_worker.specs.Inside.{HasFetched, HasDelivered, IsClosedBy};
 
-use message_book::{Book, Posted};
-use site_message::{Msg, Reason, Turn};
+use message_book::{Book, Posted, Spelled};
+use site_message::Reason;
+use wire_form::Bytes;
 
-/// What the first half of a visit finds: a reason to end, or a message or none, and the limit of own steps.
+/// What the first half of a visit finds: a reason to end, or a message as its number and its bytes or none, and the limit of
+/// own steps.
 #[derive(Drop)]
 pub(crate) enum Fetched {
     Over(Reason),
-    Open(Option<(u64, Msg)>, u64),
+    Open(Option<(u64, Bytes)>, u64),
 }
 
 /// What the second half leaves: the turn was posted, and the book has a reason now or none; or it was refused.
@@ -37,7 +39,7 @@ pub(crate) fn fetch(book: &mut Book, site: u32) -> Fetched
 }
 
 // Posts the turn. Where memory is wanting the book is closed.
-pub(crate) fn deliver(book: &mut Book, turn: Turn) -> Delivered
+pub(crate) fn deliver(book: &mut Book, turn: Spelled) -> Delivered
     requires site { IsSiteOf book.old.limits.sites turn.site }
     requires delivered { (k : ℕ) → turn.delivered ≡ Some k → Contains (hand turn.site book.old.hands) k }
     ensures lawful { IsLawfulChange turn.site (sight_of book.old) (sight_of book.new) }

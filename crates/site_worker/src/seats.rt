@@ -11,8 +11,8 @@ ghost use Rattle.site_worker.specs.Inside.{HasFetched, HasDelivered, HasClosed, 
 use crate::inside;
 use crate::inside::{Delivered, Fetched};
 use book_lock::{CountedLock, SiteSeat};
-use message_book::Book;
-use site_message::{Reason, Turn};
+use message_book::{Book, Spelled};
+use site_message::Reason;
 use std::sync::Wait;
 
 // The first half of a visit.
@@ -34,7 +34,7 @@ pub(crate) fn deliver<R: Wait>(
     rt: &R,
     lock: &CountedLock<Book>,
     seat: &mut SiteSeat,
-    turn: Turn,
+    turn: Spelled,
 ) -> Delivered
     requires out { IsOutsideOf (lock_id lock.now) seat.old }
     requires site { IsSiteOf (book_sites (last_seen seat.old)) seat.old.site × (turn.site ≡ seat.old.site) }

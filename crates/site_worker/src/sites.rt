@@ -57,6 +57,7 @@ fn seat_all<'a>(
     program: &'a Program,
     lock: &CountedLock<Book>,
 ) -> Vec<Host<'a>>
+    requires count { count ≤ 64 }
     requires room { (hosts.items ≡ []) × (count ≤ vec_capacity hosts) }
     requires sites { (length sites.items ≡ count) × AreNewSites program.now count 1 sites.items }
     requires seats { (length seats.items ≡ count) × ((x : Sight) × IsFresh count x × AreNewSeats (lock_id lock.now) 1 x seats.items) }
@@ -65,9 +66,11 @@ fn seat_all<'a>(
     ensures complete { IsComplete count result.items }
     ensures count { length result.items ≡ count }
 {
+    program.is_program();
+    let alloc = *hosts.allocator();
     while let Some(seat) = seats.pop() {
         let site = sites.pop().unwrap();
-        hosts.push_reserved(Host::new(site, seat));
+        hosts.push_reserved(Host::new(alloc, site, seat));
     }
     seats.destroy_empty();
     sites.destroy_empty();

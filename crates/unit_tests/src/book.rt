@@ -1,21 +1,25 @@
 // A worked list of turns.
 
-ghost use Rattle.std.specs.Prelude.{◌≡◌, ℕ, Contains, IfSome, IsTrue};
+ghost use Rattle.std.specs.Prelude.{◌≡◌, ◌↔◌, ℕ, Contains, IfSome, IsTrue};
+ghost use Rattle.tree_node.specs.Each.{Each};
+ghost use Rattle.site_message.specs.declared.message.Sent.{Sent as ASent};
+ghost use Rattle.site_message.specs.Wire.{FitsWire};
 ghost use Rattle.message_book.specs.Book.{IsSiteOf};
 ghost use Rattle.site_message.specs.Story.{hand};
 
-use message_book::{Book, Posted};
-use site_message::{Bundle, Lines, Msg, Picks, Reason, Sent, SentList, Turn};
+use message_book::{Book, Posted, Spelled};
+use site_message::{Bundle, Lines, Msg, Picks, Reason, Sent, SentList, Turn, wire_fits};
 use std::alloc::{AllocError, Global};
 use std::test::Fail;
 use tree_node::{CodeId, Seq, ThreadName, Vars};
+use wire_form::Bytes;
 
 // What is seen of a book while site 1 sends a thread to site 2, which runs it to its end.
 #[derive(Drop)]
 struct Observed {
     after_first: Option<Reason>,
     number: u64,
-    is_spawn: bool,
+    is_spelling: bool,
     quiet_in_between: bool,
     after_second: Option<Reason>,
     third: Result<(), Posted>,
@@ -54,18 +58,49 @@ fn one_spawn(alloc: Global) -> Result<SentList, AllocError> {
     Ok(Seq::from_vec(sent))
 }
 
+// Whether each message can be spelled.
+#[tactic(auto, using(site_message::proofs::EachLemmas::each_step, site_message::proofs::EachLemmas::each_stop, site_message::proofs::EachLemmas::each_end))]
+fn all_fit(sent: &[Sent]) -> bool
+    ensures { IsTrue result ↔ Each (λ (s : ASent). FitsWire s.msg) sent.now }
+{
+    for one in sent {
+        if !wire_fits(&one.msg) {
+            return false;
+        }
+    }
+    true
+}
+
+// The turn with the spellings of its messages, where each can be spelled.
+fn spelled(alloc: Global, turn: Turn) -> Option<Spelled>
+    ensures { IfSome result (λ s. s ≡ turn) }
+{
+    if all_fit(turn.sent.as_slice()) {
+        Spelled::new(alloc, turn).ok()
+    } else {
+        None
+    }
+}
+
+// Whether the bytes are those of the message that `one_spawn` sends: its kind, the thread 1 of site 1, code 3, no variables
+// and no equations.
+fn is_spelling(bytes: &Bytes) -> bool {
+    bytes.as_slice() == [1, 1, 0, 0, 0, 0, 0, 0, 0, 1, 0, 0, 0, 3, 0, 0, 0, 0].as_slice()
+}
+
 // A book of two sites, to which site 1 has posted that it sent a thread to site 2.
 fn first_posted(alloc: Global) -> Option<Book>
     ensures { IfSome result (λ b. b.limits.sites ≡ 2) }
 {
     let mut book = Book::new(alloc, 2, 10, 1).ok()?;
     let sent = one_spawn(alloc).ok()?;
-    book.post(turn(alloc, 1, None, sent)).ok()?;
+    let first = spelled(alloc, turn(alloc, 1, None, sent))?;
+    book.post(first).ok()?;
     Some(book)
 }
 
 // Site 2 takes a message.
-fn taken(book: &mut Book) -> Option<(u64, Msg)>
+fn taken(book: &mut Book) -> Option<(u64, Bytes)>
     requires { book.old.limits.sites ≡ 2 }
     ensures sites { book.new.limits.sites ≡ 2 }
     ensures hand { IfSome result (λ x. Contains (hand 2 book.new.hands) x.0) }
@@ -91,7 +126,10 @@ fn second_posted(alloc: Global, book: &mut Book, number: u64) -> bool
     ensures { book.new.limits.sites ≡ 2 }
 {
     let none = SentList::new(alloc);
-    book.post(turn(alloc, 2, Some(number), none)).is_ok()
+    match spelled(alloc, turn(alloc, 2, Some(number), none)) {
+        Some(second) => book.post(second).is_ok(),
+        None => false,
+    }
 }
 
 // Site 1 posts a turn that delivers nothing.
@@ -100,7 +138,10 @@ fn third_posted(alloc: Global, book: &mut Book) -> Result<(), Posted>
     ensures { book.new.limits.sites ≡ 2 }
 {
     let none = SentList::new(alloc);
-    book.post(turn(alloc, 1, None, none))
+    match spelled(alloc, turn(alloc, 1, None, none)) {
+        Some(third) => book.post(third),
+        None => Err(Posted::Memory),
+    }
 }
 
 // Closes a book that has a reason, and tells the reason that it has then.
@@ -117,7 +158,7 @@ fn run_two_turns(alloc: Global) -> Option<Observed> {
     if !has_none(&mut book, 1) {
         return None;
     }
-    let (number, msg) = taken(&mut book)?;
+    let (number, bytes) = taken(&mut book)?;
     if !has_none(&mut book, 2) {
         return None;
     }
@@ -131,7 +172,7 @@ fn run_two_turns(alloc: Global) -> Option<Observed> {
     Some(Observed {
         after_first,
         number,
-        is_spawn: matches!(msg, Msg::Spawn { .. }),
+        is_spelling: is_spelling(&bytes),
         quiet_in_between,
         after_second,
         third,
@@ -149,7 +190,7 @@ fn two_turns_make_a_run_quiet(rt: HostRuntime) -> Result<(), Fail> {
     };
     assert!(rt; seen.after_first.is_none());
     assert_eq!(rt; seen.number, 0);
-    assert!(rt; seen.is_spawn);
+    assert!(rt; seen.is_spelling);
     assert!(rt; !seen.quiet_in_between);
     assert_eq!(rt; seen.after_second, Some(Reason::Quiet));
     assert_eq!(rt; seen.third, Err(Posted::Closed(Reason::Quiet)));

@@ -1,4 +1,4 @@
-use Rattle.std.proofs.Common.{arith, ◌≡◌, ◌∙◌, ap, sym, subst, List, [], length}
+use Rattle.std.proofs.Common.{arith, ◌≡◌, ◌∙◌, ap, sym, refl, subst, List, [], length, inl, inr}
 use Rattle.site_message.specs.declared.turn.Turn.{Turn}
 use Rattle.site_message.specs.Progress.{WentOn}
 use Rattle.world_model.specs.Schedule.{schedule, sum_to}
@@ -23,11 +23,17 @@ last_totals-ended-requires-clause-waiting c =
     let short = c.is_short.ensures in
     omega (arith, fits, long, short)
 
+pub returns-in-Ok-clause-told : goal.returns-in-Ok-clause-told
+returns-in-Ok-clause-told c = inl (refl, refl)
+
 pub returns-in-Ok-clause-simulated : goal.returns-in-Ok-clause-simulated
 returns-in-Ok-clause-simulated c = machine_run c.args.program.now c.args.limits.sites c.args.driven.journal c.is_program.ensures c.requires.limits.some_site c.requires.limits.most_sites c.requires.run
 
 pub returns-in-Ok-clause-few : goal.returns-in-Ok-clause-few
 returns-in-Ok-clause-few c = few_of c.args.program.now c.args.limits.sites c.args.driven.journal c.is_program.ensures c.requires.limits.some_site c.requires.limits.most_sites c.requires.run
+
+pub returns-in-Err-clause-told : goal.returns-in-Err-clause-told
+returns-in-Err-clause-told c = inr (c.no_run.ensures.empty.0, c.no_run.ensures.reason)
 
 pub returns-in-Err-clause-run : goal.returns-in-Err-clause-run
 returns-in-Err-clause-run c = subst (HasRun c.args.program.now c.args.limits.sites) (sym c.no_run.ensures.empty.0) (empty_run c.args.program.now c.args.limits.sites)

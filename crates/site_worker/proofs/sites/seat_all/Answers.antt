@@ -1,5 +1,6 @@
-use Rattle.std.proofs.Common.{◌≡◌, ◌+◌, ◌++◌, ◌∷◌, [], length, length-append, sym, ap, ◌∙◌, subst, arith}
+use Rattle.std.proofs.Common.{◌≡◌, ◌≤◌, ◌+◌, ◌++◌, ◌∷◌, [], length, length-append, sym, ap, ◌∙◌, subst, arith}
 use Rattle.std.proofs.lemmas.List.Elements.{All-push}
+use Rattle.kernel_syntax.specs.Program.{IsProgram}
 use Rattle.site_message.specs.declared.story.Sight.{Sight}
 use Rattle.site_model.specs.Site.{initial_site}
 use Rattle.book_lock.specs.Seats.{lock_id, AreNewSeats}
@@ -25,6 +26,42 @@ new-requires-clause-site c =
     let new_seats = (old.of x c.requires.seats.1.2).0 in
     let next = next_host t p n x c.pop-in-Some.new.self.items c.pop.new.self.items c.unwrap-site.result c.in-Some.seat fresh (omega arith) (omega arith) (subst (AreNewSites p n 1) sites old.sites.1) (subst (AreNewSeats t 1 x) seats new_seats) in
     next.0.state ∙ ap (λ q. initial_site q c.in-Some.seat.site) (sym next.0.program)
+
+pub new-requires-clause-program : goal.new-requires-clause-program
+new-requires-clause-program c =
+    let t = lock_id c.args.lock.now in
+    let p = c.args.program.now in
+    let n = c.args.count in
+    let old = c.loop-seat.invariant in
+    let x = c.requires.seats.1.0 in
+    let fresh = c.requires.seats.1.1 in
+    let sites : c.loop-seat.sites.items ≡ c.pop-in-Some.new.self.items ++ c.unwrap-site.result ∷ [] = rw c.unwrap-site.ensures at c.pop-in-Some.ensures.items in
+    let seats : c.loop-seat.seats.items ≡ c.pop.new.self.items ++ c.in-Some.seat ∷ [] = c.in-Some.ensures.items in
+    let many_sites : length c.loop-seat.sites.items ≡ length c.pop-in-Some.new.self.items + 1 = ap length sites ∙ length-append c.pop-in-Some.new.self.items (c.unwrap-site.result ∷ []) in
+    let many_seats : length c.loop-seat.seats.items ≡ length c.pop.new.self.items + 1 = ap length seats ∙ length-append c.pop.new.self.items (c.in-Some.seat ∷ []) in
+    let same = old.sites.0 in
+    let count = old.count in
+    let new_seats = (old.of x c.requires.seats.1.2).0 in
+    let next = next_host t p n x c.pop-in-Some.new.self.items c.pop.new.self.items c.unwrap-site.result c.in-Some.seat fresh (omega arith) (omega arith) (subst (AreNewSites p n 1) sites old.sites.1) (subst (AreNewSeats t 1 x) seats new_seats) in
+    subst IsProgram (sym next.0.program) c.is_program.ensures
+
+pub new-requires-clause-most : goal.new-requires-clause-most
+new-requires-clause-most c =
+    let t = lock_id c.args.lock.now in
+    let p = c.args.program.now in
+    let n = c.args.count in
+    let old = c.loop-seat.invariant in
+    let x = c.requires.seats.1.0 in
+    let fresh = c.requires.seats.1.1 in
+    let sites : c.loop-seat.sites.items ≡ c.pop-in-Some.new.self.items ++ c.unwrap-site.result ∷ [] = rw c.unwrap-site.ensures at c.pop-in-Some.ensures.items in
+    let seats : c.loop-seat.seats.items ≡ c.pop.new.self.items ++ c.in-Some.seat ∷ [] = c.in-Some.ensures.items in
+    let many_sites : length c.loop-seat.sites.items ≡ length c.pop-in-Some.new.self.items + 1 = ap length sites ∙ length-append c.pop-in-Some.new.self.items (c.unwrap-site.result ∷ []) in
+    let many_seats : length c.loop-seat.seats.items ≡ length c.pop.new.self.items + 1 = ap length seats ∙ length-append c.pop.new.self.items (c.in-Some.seat ∷ []) in
+    let same = old.sites.0 in
+    let count = old.count in
+    let new_seats = (old.of x c.requires.seats.1.2).0 in
+    let next = next_host t p n x c.pop-in-Some.new.self.items c.pop.new.self.items c.unwrap-site.result c.in-Some.seat fresh (omega arith) (omega arith) (subst (AreNewSites p n 1) sites old.sites.1) (subst (AreNewSeats t 1 x) seats new_seats) in
+    subst (λ m. m ≤ 64) (sym next.0.sites) c.requires.count
 
 pub new-requires-clause-live : goal.new-requires-clause-live
 new-requires-clause-live c =

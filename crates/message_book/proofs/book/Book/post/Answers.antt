@@ -1,20 +1,20 @@
 use Rattle.std.proofs.Common.{◌≡◌, ◌∙◌, ℕ, ◌+◌, ◌∷◌, List, length, map, sym, ap, subst, rules}
 use Rattle.site_message.specs.Story.{hand}
 use Rattle.site_message.specs.Journal.{Limits, end_of, is_quiet}
-use Rattle.std.specs.Prelude.{Contains, Some, nat_lt}
+use Rattle.std.specs.Prelude.{Contains, Some, nat_lt, nat_le, not, ◌&&◌}
+use Rattle.site_message.specs.declared.turn.Turn.{Turn}
 use lib.ListN.{length-map}
-use Rattle.site_message.specs.declared.message.Msg.{Msg}
 use Rattle.message_book.specs.Book.{BookState, IsSiteOf}
-use Rattle.message_book.specs.Inboxes.{IsConsistent, AllHoldTravelling, IsAfterTurn, addressed, reason_by, inbox_at}
+use Rattle.message_book.specs.Inboxes.{IsConsistent, AllHoldTravelling, IsAfterTurn, letter_of, reason_by, inbox_at}
 use Rattle.message_book.proofs.Posts.{state_of, hand_at}
 use Rattle.message_book.proofs.Turns.{on_err, kept_same, shown_same, inboxes_after, kept_after, hand_here, hand_there, reason_after}
 use Rattle.message_book.proofs.book.Book.post.Goals as goal
 
-pub returns-in_err-messages-clause-refused : goal.returns-in_err-messages-clause-refused
-returns-in_err-messages-clause-refused c = on_err c.from_residual.result _ (shown_same _ _ c.self.inside.inboxes.items c.prepare.new.inboxes.items _ c.args.self.now c.prepare.ensures.length c.prepare.ensures.same c.self.view_is)
+pub returns-in_err-prepare-clause-refused : goal.returns-in_err-prepare-clause-refused
+returns-in_err-prepare-clause-refused c = on_err c.from_residual.result _ (shown_same _ _ c.self.inside.inboxes.items c.prepare.new.inboxes.items _ c.args.self.now c.prepare.ensures.length c.prepare.ensures.same c.self.view_is)
 
-pub returns-in_err-messages-clause-other_hands : goal.returns-in_err-messages-clause-other_hands
-returns-in_err-messages-clause-other_hands c i other = ap (λ (v : BookState). hand i v.hands) (shown_same _ _ c.self.inside.inboxes.items c.prepare.new.inboxes.items _ c.args.self.now c.prepare.ensures.length c.prepare.ensures.same c.self.view_is)
+pub returns-in_err-prepare-clause-other_hands : goal.returns-in_err-prepare-clause-other_hands
+returns-in_err-prepare-clause-other_hands c i other = ap (λ (v : BookState). hand i v.hands) (shown_same _ _ c.self.inside.inboxes.items c.prepare.new.inboxes.items _ c.args.self.now c.prepare.ensures.length c.prepare.ensures.same c.self.view_is)
 
 pub returns-then-is_err-clause-refused : goal.returns-then-is_err-clause-refused
 returns-then-is_err-clause-refused c =
@@ -42,16 +42,27 @@ site_of c = subst (λ (v : BookState). IsSiteOf v.limits.sites c.args.turn.site)
 given_of : (c : goal.After-self-2-1) (k : ℕ) → c.args.turn.delivered ≡ Some k → Contains (inbox_at c.prepare.new.inboxes.items c.args.turn.site).hand k
 given_of c k is = subst (λ (h : List ℕ). Contains h k) (sym (ap (λ (v : BookState). hand c.args.turn.site v.hands) (shown_of c)) ∙ hand_at c.prepare.new.inboxes.items c.args.turn.site) (c.requires.delivered k is)
 
-settled_of : (c : goal.After-self-2-1) → IsAfterTurn c.args.turn.site c.args.turn.delivered c.args.turn.idle c.self.inside.sent (map (addressed (limits_of c).sites) c.args.turn.sent) c.prepare.new.inboxes.items c.apply_turn.new.inboxes.items
+-- the turn, and its letters
+turn_of : (c : goal.After-self-2-1) → c.into_parts-turn.result.0 ≡ c.args.turn
+turn_of c = c.into_parts-turn.ensures.turn
+
+letters_of : (c : goal.After-self-2-1) → c.into_parts-turn.result.1.items ≡ map letter_of c.args.turn.sent
+letters_of c = c.into_parts-turn.ensures.letters
+
+settled_of : (c : goal.After-self-2-1) → IsAfterTurn (limits_of c).sites c.args.turn.site c.args.turn.delivered c.args.turn.idle c.self.inside.sent (map letter_of c.args.turn.sent) c.prepare.new.inboxes.items c.apply_turn.new.inboxes.items
 unfolding limits_of
-settled_of c = subst (λ (cs : List (ℕ × Msg)). IsAfterTurn c.args.turn.site c.args.turn.delivered c.args.turn.idle c.self.inside.sent cs c.prepare.new.inboxes.items c.apply_turn.new.inboxes.items)
-    (c.in_ok-messages.ensures.ok.0 ∙ ap (map (addressed c.self.inside.sites)) c.as_slice.ensures) c.apply_turn.ensures.after
+settled_of c = subst (λ (e : Turn). IsAfterTurn c.self.inside.sites e.site e.delivered e.idle c.self.inside.sent (map letter_of c.args.turn.sent) c.prepare.new.inboxes.items c.apply_turn.new.inboxes.items) (turn_of c)
+    (subst (λ (ls : List (ℕ × List ℕ)). IsAfterTurn c.self.inside.sites c.into_parts-turn.result.0.site c.into_parts-turn.result.0.delivered c.into_parts-turn.result.0.idle c.self.inside.sent ls c.prepare.new.inboxes.items c.apply_turn.new.inboxes.items) (letters_of c) c.apply_turn.ensures.after)
 
 count_of : (c : goal.After-self-2-1) → c.self.inside.sent + c.len-count.result ≡ c.self.inside.sent + length c.args.turn.sent
 count_of c =
-    let len : length c.in_ok-messages.messages.items ≡ length c.args.turn.sent = ap length (c.in_ok-messages.ensures.ok.0 ∙ ap (map (addressed c.self.inside.sites)) c.as_slice.ensures) ∙ length-map c.args.turn.sent (addressed c.self.inside.sites) in
-    let found : c.len-count.result ≡ length c.in_ok-messages.messages.items = search rules in
+    let len : length c.into_parts-turn.result.1.items ≡ length c.args.turn.sent = ap length (letters_of c) ∙ length-map c.args.turn.sent letter_of in
+    let found : c.len-count.result ≡ length c.into_parts-turn.result.1.items = search rules in
     ap (λ n. c.self.inside.sent + n) (found ∙ len)
+
+-- the turn came to the limit of own steps
+limit_of : (c : goal.After-self-2-1) → c.is_at_limit.result ≡ (nat_le c.self.inside.step_limit c.args.turn.steps && not c.args.turn.idle)
+limit_of c = subst (λ (e : Turn). c.is_at_limit.result ≡ (nat_le c.self.inside.step_limit e.steps && not e.idle)) (turn_of c) c.is_at_limit.ensures
 
 pushed : (c : goal.After-self-2-1) → c.push.new.self ≡ c.args.turn ∷ c.self.inside.journal
 pushed c = search rules
@@ -67,15 +78,17 @@ ended c =
     let slice : c.as_slice-2.result.now ≡ cs = c.as_slice-2.ensures.value in
     let places : length c.as_slice-2.result.now ≡ l.sites + 1 = ap length slice ∙ ((settled_of c).places ∙ k.places) in
     let told = c.find_reason-self-inside.ensures l.sites (c.args.turn ∷ c.self.inside.journal) places (subst (AllHoldTravelling l.sites (c.args.turn ∷ c.self.inside.journal)) (sym slice) inboxes) in
+    let here : c.find_reason-self-inside.result ≡ reason_by (nat_lt c.self.inside.message_limit (c.self.inside.sent + c.len-count.result)) c.is_at_limit.result c.args.turn.site (is_quiet l.sites (c.args.turn ∷ c.self.inside.journal)) =
+    subst (λ (e : Turn). c.find_reason-self-inside.result ≡ reason_by (nat_lt c.self.inside.message_limit (c.self.inside.sent + c.len-count.result)) c.is_at_limit.result e.site (is_quiet l.sites (c.args.turn ∷ c.self.inside.journal))) (turn_of c) told in
     reason_after l _ _ bs _ k c.args.turn (site_of c) (given_of c) cs (settled_of c) _ _ (count_of c)
-    (told ∙ ap (λ b. reason_by (nat_lt c.self.inside.message_limit (c.self.inside.sent + c.len-count.result)) b c.args.turn.site (is_quiet l.sites (c.args.turn ∷ c.self.inside.journal))) c.is_at_limit.ensures)
+    (here ∙ ap (λ b. reason_by (nat_lt c.self.inside.message_limit (c.self.inside.sent + c.len-count.result)) b c.args.turn.site (is_quiet l.sites (c.args.turn ∷ c.self.inside.journal))) (limit_of c))
 
 pub invariant_of-self-2 : goal.invariant_of-self-2
 unfolding limits_of
 invariant_of-self-2 c =
     let l = limits_of c in
     let k = kept_of c in
-    let after = kept_after l _ _ c.prepare.new.inboxes.items _ k c.args.turn (site_of c) (given_of c) c.apply_turn.new.inboxes.items (settled_of c) _ (count_of c) c.in_default.not-Some in
+    let after = kept_after l _ _ c.prepare.new.inboxes.items _ k c.args.turn (site_of c) (given_of c) c.apply_turn.new.inboxes.items (settled_of c) _ (count_of c) c.into_parts-turn.ensures.spelled c.in_default.not-Some in
     rw (pushed c, ended c) after
 
 pub returns-clause-reason : goal.returns-clause-reason

@@ -1,0 +1,10 @@
+pub mod TextLemmas
+pub mod TermLemmas
+pub mod BundleLemmas
+pub mod EffectLemmas
+pub mod ThreadLemmas
+pub mod CellLemmas
+pub mod SiteLemmas
+pub mod StepLemmas
+pub mod MessageLemmas
+pub mod RunLemmas

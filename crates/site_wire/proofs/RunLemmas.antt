@@ -1,0 +1,63 @@
+-- A site fits after each of its turns, so each message that it sends can be spelled.
+use Rattle.std.proofs.Common.{arith, sym, refl, subst, ℕ, ◌≤◌, List, [], ◌∷◌, Bool, true, false, cond}
+use Rattle.std.specs.Prelude.{◌==◌}
+use Rattle.tree_node.specs.Each.{Each}
+use Rattle.tree_node.specs.Env.{restriction}
+use Rattle.tree_node.specs.Names.{EachOfEnv}
+use Rattle.kernel_syntax.specs.declared.stmt.Stmt.{Stmt}
+use Rattle.kernel_syntax.specs.Program.{IsProgram}
+use Rattle.site_message.specs.declared.turn.Turn.{Turn}
+use Rattle.site_message.specs.Story.{own}
+use Rattle.site_message.specs.Wire.{IsSite}
+use Rattle.oz_model.specs.Covered.{Covers}
+use Rattle.oz_model.specs.Effect.{body_item}
+use Rattle.oz_model.specs.Run.{start, first_thread}
+use Rattle.site_model.specs.Site.{Site, initial_site, runnable_threads}
+use Rattle.site_model.specs.Run.{IsReachedBy, IsEntry, SiteRun, delivered_message}
+use Rattle.site_wire.specs.Sending.{CanBeSpelled, IsOfSites, StackFits, ThreadsFit, queue_in, SiteFits, TransitionFits}
+use Rattle.site_wire.specs.Laws.{SitesSendWhatFits}
+use Rattle.site_wire.proofs.ThreadLemmas.{starts_fit}
+use Rattle.site_wire.proofs.MessageLemmas.{turn_fits}
+
+module _ (p : List Stmt) (is : IsProgram p) (i : ℕ) where
+  no_threads : (made : ℕ) → ThreadsFit p i made [] (queue_in [])
+  no_threads made = record { each = λ n v at. cc; own = λ n v at mine. cc; queues = λ c. record { once = tt; inside = tt } }
+
+  first_stack : StackFits p (body_item p (record { 0 = 0 }) [] ∷ [])
+  first_stack = record {
+    names = (subst (λ (ks : List ℕ). EachOfEnv IsOfSites (restriction ks [])) (sym is.closed) tt, tt);
+    nodes = (tt, tt);
+    covered = (subst (λ (ks : List ℕ). Covers (restriction ks []) ks) (sym is.closed) tt, tt);
+  }
+
+  first_threads : (b : Bool) → ThreadsFit p i (cond b 1 0) (cond b (runnable_threads (start p).threads) []) (queue_in [])
+  first_threads true = starts_fit p i 1 [] (queue_in []) first_thread (body_item p (record { 0 = 0 }) [] ∷ []) refl (omega arith, omega arith) first_stack (λ mine. omega arith) (no_threads 1)
+  first_threads false = no_threads 0
+
+  start_fits : SiteFits p i (initial_site p i)
+  start_fits = record {
+    site = refl;
+    equations = record { names = tt; nodes = tt };
+    owners = λ x t e. cc;
+    threads = first_threads (i == 1);
+    contents = λ c. tt;
+  }
+
+module _ (p : List Stmt) (is : IsProgram p) (n limit : ℕ) (high : limit ≤ 256) (i : ℕ) (low : IsSite i) where
+  abbrev Fits : List Turn → Site → Type 0
+  Fits j s = SiteFits p i s × Each (λ (e : Turn). CanBeSpelled e.sent) (own i j)
+
+  run_fits : (j : List Turn) (s : Site) → SiteRun p n limit i j s → Fits j s
+  run_fits [] s e = (subst (SiteFits p i) (sym e) (start_fits p is i), tt)
+  run_fits (e ∷ j) s run = go (e.site == i) run (λ t k. run_fits j t k)
+    where
+      go : (b : Bool) → IsReachedBy b (λ (old : Site). SiteRun p n limit i j old) (λ (old new : Site). IsEntry p n limit j e old new) s → ((t : Site) → SiteRun p n limit i j t → Fits j t)
+          → SiteFits p i s × Each (λ (e : Turn). CanBeSpelled e.sent) (cond b (e ∷ own i j) (own i j))
+      go true (old, before, entry) ih =
+          let was : Fits j old = ih old before in
+          let d : TransitionFits p i entry.0 = turn_fits p is n limit high i low (delivered_message j e.delivered) old entry.0 was.0 entry.1 in
+          (subst (SiteFits p i) (sym entry.3) d.site, (subst CanBeSpelled (sym entry.2.sent) d.sent, was.1))
+      go false before ih = ih s before
+
+pub sites_send_what_fits : SitesSendWhatFits
+sites_send_what_fits p n limit i j s is many high low most run = (run_fits p is n limit high i (low, omega (arith, many, most)) j s run).1
