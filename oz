@@ -18,10 +18,12 @@ is_due() {
 takes() {
     cat >&2 <<'END'
 ./oz [--sites N] [--workers N] [--steps N] [--messages N] [run|central] [FILE.oz]
+./oz [--sites N] [--workers N] [--steps N] [--messages N] gen NUMBER
 
   FILE.oz        the text to run; where it is left out, the text is standard input
   run            runs the text over its sites; this is what is done where neither word stands
   central        runs it on the centralised machine, without sites
+  gen NUMBER     runs a large text of that size, 1 to 1,000, over its sites: no text is read
   --sites N      the number of sites, 1 to 64; 4 where it is left out
   --workers N    the number of workers that drive the sites, 0 to 64; 4 where it is left out. With 0 the sites take
                  turns in a fixed order, and each run of a text prints the same

@@ -218,11 +218,7 @@ fn are_quiet(inboxes: &[Inbox]) -> bool
 }
 
 // Makes room for the messages of a turn.
-fn prepare(
-    inboxes: &mut Vec<Inbox>,
-    sites: u32,
-    letters: &[(u32, Bytes)],
-) -> Result<(), AllocError>
+fn prepare(inboxes: &mut Vec<Inbox>, sites: u32, letters: &[(u32, Bytes)]) -> Result<(), AllocError>
     requires { sites < length inboxes.old.items }
     ensures length { length inboxes.new.items ≡ length inboxes.old.items }
     ensures same { (i : ℕ) → HoldsSame (inbox_at inboxes.old.items i) (inbox_at inboxes.new.items i) }

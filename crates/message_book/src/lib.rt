@@ -30,5 +30,5 @@ mod threads;
 
 pub use book::Book;
 pub use posted::Posted;
-pub use spelled::Spelled;
 pub use site_message::Reason;
+pub use spelled::Spelled;

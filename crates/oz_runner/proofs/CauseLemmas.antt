@@ -1,15 +1,19 @@
 -- How the cause of a status goes on to the status that stands before the writing, and to the one that is answered.
-use Rattle.std.proofs.Common.{◌≡◌, sym, subst, List, ℕ, ◌++◌, ◌∷◌, [], inl, inr, refl}
+use Rattle.std.proofs.Common.{◌≡◌, ◌⊎◌, ◌≤◌, sym, subst, List, ℕ, ◌++◌, ◌∷◌, [], inl, inr, refl}
 use Rattle.std.specs.Str.{IsUtf8, IsValidUpTo}
 use Rattle.tree_node.specs.declared.pick.Pick.{Pick}
 use Rattle.site_message.specs.declared.turn.Turn.{Turn}
 use Rattle.oz_model.specs.Output.{output, pieces_of}
+use Rattle.oz_grammar.specs.Reads.{FaultOf}
+use Rattle.oz_grammar.specs.declared.fault.TextFault.{TextFault}
+use Rattle.oz_words.specs.declared.options.Action.{Action}
+use Rattle.oz_words.specs.declared.options.Action.TheVariants as action
 use Rattle.oz_words.specs.declared.options.Options.{Options}
 use Rattle.oz_show.specs.Status.{end_line, HasLine, HasNumbers}
 use Rattle.oz_show.specs.declared.status.Status.{Status}
 use Rattle.oz_show.specs.declared.status.Status.TheVariants.{Quiescent, Usage, Refused, NotUtf8, TooLong, StepLimit, MessageLimit, ReadFault, WriteFault, Memory}
 use Rattle.oz_runner.specs.Seen.{Stream, Seen, Made, made_of}
-use Rattle.oz_runner.specs.Cause.{Cause, Failed, GaveText, Given, NothingRan, Says}
+use Rattle.oz_runner.specs.Cause.{Cause, Failed, Gave, GaveText, Given, IsTextOf, IsUntouched, NeverFailed, NothingRan, ReadsSource, Says, WantsSource, text_limit}
 use Rattle.oz_runner.specs.Run.{CameTo}
 use Rattle.oz_runner.specs.Headline.{Headline}
 use Rattle.oz_runner.specs.Written.{IsToldAs, Written, after_fault}
@@ -28,9 +32,32 @@ ran_cause seen made ReadFault given came = absurd came
 ran_cause seen made WriteFault given came = absurd came
 
 -- bytes that are no text
-pub bytes_cause : (seen : Seen) (made : Made) (options : Options) (bytes : List ℕ) (at : ℕ) → Says seen options → GaveText seen.source bytes
+pub bytes_cause : (seen : Seen) (made : Made) (options : Options) (bytes : List ℕ) (at : ℕ) → Says seen options → ReadsSource options.action → GaveText seen.source bytes
     → (IsUtf8 bytes → ⊥) × IsValidUpTo bytes at → NothingRan made → Cause seen made (NotUtf8 at)
-bytes_cause seen made options bytes at says gave wrong nothing = (((options, says), (bytes, gave, wrong)), nothing)
+bytes_cause seen made options bytes at says reads gave wrong nothing = (((options, says, reads), (bytes, gave, wrong)), nothing)
+
+-- a text that the source gave is the one that is run
+pub source_text : (a : Action) (source : Stream) (bytes text : List ℕ) → ReadsSource a → text ≡ bytes → GaveText source bytes → IsTextOf a source text
+source_text action.Run source bytes text reads same gave = subst (GaveText source) (sym same) gave
+source_text action.Central source bytes text reads same gave = subst (GaveText source) (sym same) gave
+source_text (action.Gen size) source bytes text reads same gave = absurd reads
+
+-- a text that is refused
+pub refused_cause : (seen : Seen) (made : Made) (options : Options) (text : List ℕ) (fault : TextFault) → Says seen options → IsTextOf options.action seen.source text
+    → IsUtf8 text → FaultOf text fault → NothingRan made → Cause seen made (Refused fault)
+refused_cause seen made options text fault says is_text utf8 applies nothing = ((options, says, (text, is_text, (utf8, applies))), nothing)
+
+-- no more was read than a short text
+read_front : (seen : Seen) (options : Options) (text : List ℕ) (a : Action) → options.action ≡ a → Says seen options → IsTextOf a seen.source text
+    → IsUntouched seen.source ⊎ (WantsSource seen × NeverFailed seen.source × Gave seen.source (λ n. n ≤ text_limit))
+read_front seen options text action.Run is says gave = inr ((options, says, subst ReadsSource (sym is) tt), gave.3, (text, gave.0, gave.2))
+read_front seen options text action.Central is says gave = inr ((options, says, subst ReadsSource (sym is) tt), gave.3, (text, gave.0, gave.2))
+read_front seen options text (action.Gen size) is says gave = inl gave.1
+
+-- a text for which no memory was left
+pub text_stops : (seen : Seen) (made : Made) (options : Options) (text : List ℕ) → Says seen options → IsTextOf options.action seen.source text
+    → NothingRan made → Cause seen made Memory
+text_stops seen made options text says is_text nothing = inl (read_front seen options text options.action refl says is_text, nothing)
 
 -- work whose end line finds no memory
 memory_cause : (seen : Seen) (made : Made) (status : Status) → HasNumbers status → Cause seen made status → Cause seen made Memory
@@ -38,7 +65,7 @@ memory_cause seen made (Quiescent ended waiting) has (given, (state, end, quiet)
 memory_cause seen made (StepLimit site) has (given, (state, end)) = inr (given, (state, end.run))
 memory_cause seen made MessageLimit has cause = absurd has
 memory_cause seen made (NotUtf8 at) has ((taken, (text, gave, holds)), nothing) = inl (inr (taken, gave.3, (text, gave.0, gave.2)), nothing)
-memory_cause seen made (Refused fault) has ((taken, (text, gave, holds)), nothing) = inl (inr (taken, gave.3, (text, gave.0, gave.2)), nothing)
+memory_cause seen made (Refused fault) has ((options, says, (text, is_text, holds)), nothing) = text_stops seen made options text says is_text nothing
 memory_cause seen made Usage has cause = absurd has
 memory_cause seen made TooLong has cause = absurd has
 memory_cause seen made ReadFault has cause = absurd has

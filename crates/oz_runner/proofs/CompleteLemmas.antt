@@ -1,5 +1,7 @@
 -- Where nothing stands in the way, the run is done.
-use Rattle.std.proofs.Common.{◌≡◌, ◌∙◌, ◌≤◌, ◌++◌, ℕ, List, length, Option, Some, None, ap, subst, arith, length-append}
+use Rattle.std.proofs.Common.{◌≡◌, ◌∙◌, ◌≤◌, ◌++◌, ℕ, List, [], length, Option, Some, None, unwrap_or, true, false, true≢false, ap, refl, sym, subst, arith, length-append}
+use Rattle.std.specs.Str.{bytes_eq}
+use Rattle.std.proofs.lemmas.Slice.Eq.{bytes_eq-Decides}
 use Rattle.std.proofs.lemmas.List.{append-nil}
 use Rattle.std.specs.Io.KnownBytes.{Consumes, IsAtEnd}
 use Rattle.std.specs.Str.{IsUtf8}
@@ -7,9 +9,14 @@ use Rattle.oz_grammar.specs.Laws.{TextsNeverHaveBoth}
 use Rattle.oz_grammar.specs.Reads.{Reads}
 use Rattle.oz_show.specs.declared.status.Status.{Status}
 use Rattle.oz_show.specs.declared.status.Status.TheVariants.{Quiescent, Usage, Refused, NotUtf8, TooLong, StepLimit, MessageLimit, ReadFault, WriteFault, Memory}
-use Rattle.oz_runner.specs.Seen.{Seen, Made}
-use Rattle.oz_runner.specs.Cause.{Cause, GaveText}
-use Rattle.oz_runner.specs.Complete.{IsDone, IsGood}
+use Rattle.oz_words.specs.Words.{SaysAction}
+use Rattle.oz_words.specs.Words as words
+use Rattle.oz_words.specs.declared.options.Action.{Action}
+use Rattle.oz_words.specs.declared.options.Action.TheVariants as action
+use Rattle.oz_words.specs.declared.options.Options.{Options}
+use Rattle.oz_runner.specs.Seen.{Seen, Stream, Made}
+use Rattle.oz_runner.specs.Cause.{Cause, GaveText, IsTextOf, ReadsSource, Says}
+use Rattle.oz_runner.specs.Complete.{HasText, IsDone, IsGood}
 
 -- a source gives no more than it has
 no_more : (text bytes : List ℕ) (new : Option (List ℕ)) → Consumes (Some text) new bytes → length bytes ≤ length text
@@ -21,27 +28,71 @@ all_of_it : (text bytes : List ℕ) (new : Option (List ℕ)) → Consumes (Some
 all_of_it text bytes None h end = absurd h
 all_of_it text bytes (Some ys) h end = h ∙ (ap (λ l. bytes ++ l) end ∙ append-nil bytes)
 
+-- ---- the words say one action
+
+other : (a b : List ℕ) (o : Option (List ℕ)) → bytes_eq a b ≡ false → o ≡ Some a → o ≡ Some b → ⊥
+other a b o differ is also =
+    let same : a ≡ b = ap (λ (t : Option (List ℕ)). unwrap_or t []) (sym is ∙ also) in
+    true≢false (sym ((bytes_eq-Decides a b).1 same) ∙ differ)
+
+one_number : (o : Option (List ℕ)) (n m : ℕ) → words.Says o n → words.Says o m → n ≡ m
+one_number None n m one two = absurd one
+one_number (Some text) n m one two = one ∙ sym two
+
+one_action : (named number : Option (List ℕ)) (a b : Action) → SaysAction named number a → SaysAction named number b → a ≡ b
+one_action named number action.Run action.Run one two = refl
+one_action named number action.Run action.Central one two = absurd (other _ _ named refl one two)
+one_action named number action.Run (action.Gen m) one two = absurd (other _ _ named refl one two.0)
+one_action named number action.Central action.Run one two = absurd (other _ _ named refl one two)
+one_action named number action.Central action.Central one two = refl
+one_action named number action.Central (action.Gen m) one two = absurd (other _ _ named refl one two.0)
+one_action named number (action.Gen n) action.Run one two = absurd (other _ _ named refl one.0 two)
+one_action named number (action.Gen n) action.Central one two = absurd (other _ _ named refl one.0 two)
+one_action named number (action.Gen n) (action.Gen m) one two = ap action.Gen (one_number number n m one.1 two.1)
+
+same_action : (seen : Seen) (good : IsGood seen) (options : Options) → Says seen options → good.options.action ≡ options.action
+same_action seen good options says = one_action _ _ good.options.action options.action good.says.1.action says.1.action
+
+-- ---- the text is the one that was told
+
+source_told : (a b : Action) (source : Stream) (text : List ℕ) → a ≡ b → ReadsSource b → HasText a source text → source.bytes_before ≡ Some text
+source_told action.Run b source text same reads told = told
+source_told action.Central b source text same reads told = told
+source_told (action.Gen size) b source text same reads told = absurd (subst ReadsSource (sym same) reads)
+
 -- the text that was read is the one that the source had
-same_text : (seen : Seen) (text : List ℕ) → (good : IsGood seen) → GaveText seen.source text → good.text ≡ text
-same_text seen text good gave =
-    all_of_it good.text text seen.source.bytes_after
-    (subst (λ (o : Option (List ℕ)). Consumes o seen.source.bytes_after text) good.told gave.0) gave.1
+read_told : (source : Stream) (told text : List ℕ) → source.bytes_before ≡ Some told → GaveText source text → told ≡ text
+read_told source told text before gave =
+    all_of_it told text source.bytes_after (subst (λ (o : Option (List ℕ)). Consumes o source.bytes_after text) before gave.0) gave.1
+
+run_told : (a : Action) (source : Stream) (told text : List ℕ) → HasText a source told → IsTextOf a source text → told ≡ text
+run_told action.Run source told text before gave = read_told source told text before gave
+run_told action.Central source told text before gave = read_told source told text before gave
+run_told (action.Gen size) source told text before gave = before ∙ sym gave.0
+
+-- the text that was run is the one that was told
+same_text : (seen : Seen) (good : IsGood seen) (options : Options) (text : List ℕ) → Says seen options → IsTextOf options.action seen.source text → good.text ≡ text
+same_text seen good options text says is_text =
+    run_told good.options.action seen.source good.text text good.told
+    (subst (λ (a : Action). IsTextOf a seen.source text) (sym (same_action seen good options says)) is_text)
 
 pub complete : (seen : Seen) (made : Made) (status : Status) → TextsNeverHaveBoth → Cause seen made status → IsGood seen → IsDone status
 complete seen made (Quiescent ended waiting) never cause good = tt
 complete seen made (StepLimit site) never cause good = tt
 complete seen made MessageLimit never cause good = tt
 complete seen made Memory never cause good = tt
-complete seen made Usage never (refused, unread, nothing) good = refused good.accepted
+complete seen made Usage never (refused, unread, nothing) good = refused good.says.0
 complete seen made WriteFault never failed good = good.wrote failed
-complete seen made ReadFault never (taken, failed, gave, nothing) good = good.read failed
-complete seen made TooLong never (taken, steady, (bytes, given, past), nothing) good =
+complete seen made ReadFault never (wants, failed, gave, nothing) good = good.read failed
+complete seen made TooLong never ((options, says, reads), steady, (bytes, given, past), nothing) good =
+    let told = source_told good.options.action options.action seen.source good.text (same_action seen good options says) reads good.told in
     let whole : Consumes (Some good.text) seen.source.bytes_after bytes =
-    subst (λ (o : Option (List ℕ)). Consumes o seen.source.bytes_after bytes) good.told given in
+    subst (λ (o : Option (List ℕ)). Consumes o seen.source.bytes_after bytes) told given in
     let most = no_more good.text bytes seen.source.bytes_after whole in
     let fits = good.fits in
     absurd (omega arith)
-complete seen made (NotUtf8 at) never ((taken, (text, gave, (bad, up_to))), nothing) good =
-    bad (subst IsUtf8 (same_text seen text good gave) good.utf8)
-complete seen made (Refused fault) never ((taken, (text, gave, (utf8, applies))), nothing) good =
-    never text good.program fault (subst (λ (t : List ℕ). Reads t good.program) (same_text seen text good gave) good.reads) applies
+complete seen made (NotUtf8 at) never (((options, says, reads), (text, gave, (bad, up_to))), nothing) good =
+    let told = source_told good.options.action options.action seen.source good.text (same_action seen good options says) reads good.told in
+    bad (subst IsUtf8 (read_told seen.source good.text text told gave) good.utf8)
+complete seen made (Refused fault) never ((options, says, (text, is_text, (utf8, applies))), nothing) good =
+    never text good.program fault (subst (λ (t : List ℕ). Reads t good.program) (same_text seen good options text says is_text) good.reads) applies

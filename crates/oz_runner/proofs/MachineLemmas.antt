@@ -22,7 +22,7 @@ module _ (p : List Stmt) (options : Options) (s : State) (left : Ran) (is : opti
 
   machine_run : HasOneEach s.equations → IsRun p options by_machine s
   machine_run once = record {
-    made_by = subst (λ (a : Action). IsMadeBy a p options by_machine) (sym is) (refl, ends.most);
+    made_by = subst (λ (a : Action). IsMadeBy a p options by_machine s) (sym is) (refl, ends.most);
     run = ends.run;
     lines = ends.lines;
     once = once;

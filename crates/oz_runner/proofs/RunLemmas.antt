@@ -1,9 +1,10 @@
 -- What a run over sites comes to, by what it left.
-use Rattle.std.proofs.Common.{◌≡◌, ◌∙◌, sym, subst, refl, not, ℕ, List, [], ◌∷◌, length, Bool, true, false, Some, None, inl, inr}
+use Rattle.std.proofs.Common.{◌≡◌, ◌∙◌, ◌≤◌, sym, subst, refl, not, ℕ, List, [], ◌∷◌, length, Bool, true, false, Some, None, inl, inr}
 use Rattle.std.specs.Prelude.{◌&&◌, nat_lt, nat_le, if◌then◌else◌}
 use Rattle.tree_node.specs.State.{State}
 use Rattle.tree_node.specs.declared.pick.Pick.{Pick}
-use Rattle.oz_model.specs.Run.{Run}
+use Rattle.oz_model.specs.Laws.{AtMostOneEnd}
+use Rattle.oz_model.specs.Run.{Run, start}
 use Rattle.kernel_syntax.specs.declared.stmt.Stmt.{Stmt}
 use Rattle.site_message.specs.declared.outcome.Reason.{Reason}
 use Rattle.site_message.specs.declared.outcome.Reason.TheVariants as reason
@@ -15,6 +16,7 @@ use Rattle.site_message.specs.Rows.{QuietTells}
 use Rattle.site_model.specs.Bundle.{bundle_limit}
 use Rattle.site_model.specs.Site.{Site}
 use Rattle.world_model.specs.Simulated.{IsSimulated, last_ended, last_waiting}
+use Rattle.world_core.specs.Laws.{AreMessagesFew}
 use Rattle.world_places.specs.Places.{ThreadsStayHome}
 use Rattle.world_runs.specs.Distributed.{DistributedRun}
 use Rattle.plain_run.specs.Going.{HasReason}
@@ -28,7 +30,8 @@ use Rattle.oz_show.specs.Status.{HasLine}
 use Rattle.oz_show.specs.declared.status.Status.{Status}
 use Rattle.oz_show.specs.declared.status.Status.TheVariants.{Quiescent, Usage, Refused, NotUtf8, TooLong, StepLimit, MessageLimit, ReadFault, WriteFault, Memory}
 use Rattle.oz_runner.specs.Seen.{Made, made_of}
-use Rattle.oz_runner.specs.Run.{AreSilent, CameTo, EndsFor, HasEnded, IsMadeBy, IsMadeBySites, IsQuiet, IsRun, limits_of}
+use Rattle.oz_runner.specs.Messages.{most_messages}
+use Rattle.oz_runner.specs.Run.{AreSilent, CameTo, EndsFor, HasEnded, IsMadeBy, IsMadeBySites, IsOverSites, IsQuiet, IsRun, SitesAreSilent, limits_of}
 use Rattle.oz_runner.specs.Ends.{status_of}
 use Rattle.world_model.specs.Schedule.{lines_in, schedule, sum_to}
 
@@ -64,12 +67,40 @@ pub record Leaves (p : List Stmt) (options : Options) (out : RunOut) : Type 0 wh
   pub rows : DistributedRun p options.sites bundle_limit out.journal run.0
   pub homes : ThreadsStayHome out.journal
   pub picks : out.schedule ≡ schedule out.journal
+  pub few : AreMessagesFew p options.sites out.journal
   pub reason : HasReason (plain_limits options) out.journal out.reason
   pub went : WentOn (limits_of options) out.journal
   pub ended : out.ended ≡ sum_to options.sites (last_ended out.journal)
   pub waiting : out.waiting ≡ sum_to options.sites (last_waiting out.journal)
 
-module _ (p : List Stmt) (options : Options) (out : RunOut) (is : options.action ≡ action.Run) (tells : QuietTells) (left : Leaves p options out) where
+-- ---- what is said of each action that runs over the sites
+
+made_over_sites : (a : Action) (p : List Stmt) (options : Options) (made : Made) (s : State) → IsOverSites a → IsMadeBySites p options made s → IsMadeBy a p options made s
+made_over_sites action.Run p options made s over by = by
+made_over_sites (action.Gen size) p options made s over by = by
+made_over_sites action.Central p options made s over by = absurd over
+
+ends_over_sites : (a : Action) (p : List Stmt) (options : Options) (made : Made) (s : State) (why : Reason) → IsOverSites a
+    → end_of (limits_of options) made.journal ≡ Some why → EndsFor a p options made s why
+ends_over_sites action.Run p options made s why over ends = ends
+ends_over_sites (action.Gen size) p options made s why over ends = ends
+ends_over_sites action.Central p options made s why over ends = absurd over
+
+silent_over_sites : (a : Action) (options : Options) (made : Made) → IsOverSites a → SitesAreSilent options.sites made.journal → AreSilent a options made
+silent_over_sites action.Run options made over silent = silent
+silent_over_sites (action.Gen size) options made over silent = silent
+silent_over_sites action.Central options made over silent = absurd over
+
+-- the bound on messages, in the state that the picks lead to
+few_in : (p : List Stmt) (n : ℕ) (j : List Turn) (picks : List Pick) (s : State) → AtMostOneEnd → picks ≡ schedule j → Run p (schedule j) s
+    → AreMessagesFew p n j → length (sent_of j) ≤ most_messages p n picks s
+few_in p n j picks s one is run few =
+    let all = few.all in
+    let same : all.0 ≡ s = one p (start p) (schedule j) all.0 s all.1 run in
+    let within : length (sent_of j) ≤ most_messages p n (schedule j) s = subst (λ (t : State). length (sent_of j) ≤ most_messages p n (schedule j) t) same all.2 in
+    subst (λ (ks : List Pick). length (sent_of j) ≤ most_messages p n ks s) (sym is) within
+
+module _ (p : List Stmt) (options : Options) (out : RunOut) (is : IsOverSites options.action) (tells : QuietTells) (one : AtMostOneEnd) (left : Leaves p options out) where
   abbrev states : ℕ → Site
   states = left.run.0
 
@@ -82,18 +113,19 @@ module _ (p : List Stmt) (options : Options) (out : RunOut) (is : options.action
   abbrev by_sites : Made
   by_sites = made_of out.journal out.schedule (lines_in out.journal)
 
-  made_by_sites : IsMadeBySites p options by_sites
+  made_by_sites : IsMadeBySites p options by_sites s
   made_by_sites = record {
     states = states;
     run = left.rows;
     went = left.went;
     picks = left.picks;
     homes = left.homes;
+    few = few_in p options.sites out.journal out.schedule s one left.picks simulated.run left.few;
   }
 
   sites_run : IsRun p options by_sites s
   sites_run = record {
-    made_by = subst (λ (a : Action). IsMadeBy a p options by_sites) (sym is) made_by_sites;
+    made_by = made_over_sites options.action p options by_sites s is made_by_sites;
     run = subst (λ (picks : List Pick). Run p picks s) (sym left.picks) simulated.run;
     lines = sym simulated.matches.lines;
     once = simulated.once;
@@ -105,7 +137,7 @@ module _ (p : List Stmt) (options : Options) (out : RunOut) (is : options.action
   sites_end : (why : Reason) → Ends why → HasEnded p options by_sites why s
   sites_end why ends = record {
     run = sites_run;
-    ends = subst (λ (a : Action). EndsFor a p options by_sites s why) (sym is) ends;
+    ends = ends_over_sites options.action p options by_sites s why is ends;
   }
 
   sites_quiet : Ends reason.Quiet → IsQuiet p options by_sites s out.ended out.waiting
@@ -113,7 +145,7 @@ module _ (p : List Stmt) (options : Options) (out : RunOut) (is : options.action
       let quiet = quiet_end (limits_of options) out.journal ends in
       let told = simulated.told quiet in
       record {
-        silent = subst (λ (a : Action). AreSilent a options by_sites) (sym is)
+        silent = silent_over_sites options.action options by_sites is
             (none_of (travelling out.journal) (are_idle options.sites out.journal) quiet, ((tells options.sites out.journal).0 quiet).1);
         rest = (simulated.quiet quiet).rest;
         ended = left.ended ∙ sym told.ended;
@@ -130,9 +162,9 @@ module _ (p : List Stmt) (options : Options) (out : RunOut) (is : options.action
   by_reason reason.Memory how = (s, sites_run)
 
 -- a run over sites comes to the status of its reason
-pub sites_came : (p : List Stmt) (options : Options) (out : RunOut) → options.action ≡ action.Run → QuietTells → Leaves p options out
+pub sites_came : (p : List Stmt) (options : Options) (out : RunOut) → IsOverSites options.action → QuietTells → AtMostOneEnd → Leaves p options out
     → CameTo p options (made_of out.journal out.schedule (lines_in out.journal)) (status_of out.reason out.ended out.waiting)
-sites_came p options out is tells left = by_reason p options out is tells left out.reason left.reason
+sites_came p options out is tells one left = by_reason p options out is tells one left out.reason left.reason
 
 -- ---- the status
 

@@ -7,6 +7,9 @@ use Rattle.oz_base.specs.Reading.{GaveFront}
 use Rattle.kernel_syntax.specs.declared.stmt.Stmt.{Stmt}
 use Rattle.oz_grammar.specs.Reads.{Reads, FaultOf}
 use Rattle.oz_words.specs.Words.{ReadsWords}
+use Rattle.large_run.specs.Text.{large_text}
+use Rattle.oz_words.specs.declared.options.Action.{Action}
+use Rattle.oz_words.specs.declared.options.Action.TheVariants as action
 use Rattle.oz_words.specs.declared.options.Options.{Options}
 use Rattle.oz_words.specs.declared.options.WordsError.TheVariants as words_error
 use Rattle.oz_show.specs.declared.status.Status.{Status}
@@ -39,28 +42,45 @@ abbrev pub GaveText : Stream → List ℕ → Type 0
 GaveText s text =
     Consumes s.bytes_before s.bytes_after text × IsAtEnd s.bytes_after × (length text ≤ text_limit) × NeverFailed s
 
+-- the text that is run: what the source gave, or with `gen` the large text of the size, and the source is not touched
+abbrev pub IsTextOf : Action → Stream → List ℕ → Type 0
+IsTextOf action.Run source text = GaveText source text
+IsTextOf action.Central source text = GaveText source text
+IsTextOf (action.Gen size) source text = (text ≡ large_text size) × IsUntouched source
+
+-- the text is that of the source
+abbrev pub ReadsSource : Action → Type 0
+ReadsSource action.Run = Unit {0}
+ReadsSource action.Central = Unit {0}
+ReadsSource (action.Gen size) = ⊥
+
 -- nothing ran: there is no turn, no step and no line
 abbrev pub NothingRan : Made → Type 0
 NothingRan made = (made.journal ≡ []) × (made.schedule ≡ []) × (made.lines ≡ [])
 
--- the command takes the words, and these are their options
+-- the words are taken, and these are their options
 abbrev pub Says : Seen → Options → Type 0
 Says seen options = ReadsWords seen.words (Ok options)
 
--- the command takes the words
-abbrev pub IsTaken : Seen → Type 0
-IsTaken seen = (options : Options) × Says seen options
+-- the words are taken, and by them the text is that of the source
+abbrev pub WantsSource : Seen → Type 0
+WantsSource seen = (options : Options) × Says seen options × ReadsSource options.action
 
--- the command takes the words, and the source gave a text of which this holds
+-- and the source gave a text of which this holds
+abbrev pub GotSource : Seen → (List ℕ → Type 0) → Type 0
+GotSource seen Holds = WantsSource seen × ((text : List ℕ) × GaveText seen.source text × Holds text)
+
+-- the words are taken, and this holds of the text that is run
 abbrev pub GotText : Seen → (List ℕ → Type 0) → Type 0
-GotText seen Holds = IsTaken seen × ((text : List ℕ) × GaveText seen.source text × Holds text)
+GotText seen Holds =
+    (options : Options) × Says seen options × ((text : List ℕ) × IsTextOf options.action seen.source text × Holds text)
 
--- the command takes the words, and the source gave a text that reads a program
+-- the words are taken, and the text that is run reads a program
 pub record Given (seen : Seen) : Type 0 where
   pub options : Options
   pub says : Says seen options
   pub text : List ℕ
-  pub gave : GaveText seen.source text
+  pub is_text : IsTextOf options.action seen.source text
   pub utf8 : IsUtf8 text
   pub program : List Stmt
   pub reads : Reads text program
@@ -69,20 +89,20 @@ pub record Given (seen : Seen) : Type 0 where
 abbrev pub Ran : Seen → Made → Status → Type 0
 Ran seen made status = (given : Given seen) × CameTo given.program given.options made status
 
--- no memory was left before anything ran: the words were not read yet, or no more than a short text was read
+-- no memory was left before anything ran: the source was not read, or no more of it than a short text
 abbrev pub Stopped : Seen → Made → Type 0
 Stopped seen made =
     (IsUntouched seen.source
-    ⊎ (IsTaken seen × NeverFailed seen.source × Gave seen.source (λ n. n ≤ text_limit)))
+    ⊎ (WantsSource seen × NeverFailed seen.source × Gave seen.source (λ n. n ≤ text_limit)))
     × NothingRan made
 
 -- The cause of each status. Where several causes hold, the first in the order of these lines stands. Want of memory is
 -- the one free answer: it comes before anything ran, or in a run, whose lines are those of the schedule
 abbrev pub Cause : Seen → Made → Status → Type 0
 Cause seen made Usage = ReadsWords seen.words (Err words_error.Usage) × IsUntouched seen.source × NothingRan made
-Cause seen made ReadFault = IsTaken seen × Failed seen.source × Gave seen.source (λ n. n ≤ text_limit) × NothingRan made
-Cause seen made TooLong = IsTaken seen × NeverFailed seen.source × Gave seen.source (λ n. text_limit < n) × NothingRan made
-Cause seen made (NotUtf8 at) = GotText seen (λ text. (IsUtf8 text → ⊥) × IsValidUpTo text at) × NothingRan made
+Cause seen made ReadFault = WantsSource seen × Failed seen.source × Gave seen.source (λ n. n ≤ text_limit) × NothingRan made
+Cause seen made TooLong = WantsSource seen × NeverFailed seen.source × Gave seen.source (λ n. text_limit < n) × NothingRan made
+Cause seen made (NotUtf8 at) = GotSource seen (λ text. (IsUtf8 text → ⊥) × IsValidUpTo text at) × NothingRan made
 Cause seen made (Refused fault) = GotText seen (λ text. IsUtf8 text × FaultOf text fault) × NothingRan made
 Cause seen made (Quiescent ended waiting) = Ran seen made (Quiescent ended waiting)
 Cause seen made (StepLimit site) = Ran seen made (StepLimit site)

@@ -1,19 +1,29 @@
 -- Where nothing stands in the way, the program runs to its end.
-use Rattle.std.specs.Prelude.{◌≡◌, ◌≤◌, ℕ, List, [], length, Some}
+use Rattle.std.specs.Prelude.{◌≡◌, ◌≤◌, ℕ, List, length, Some}
 use Rattle.std.specs.Str.{IsUtf8}
 use Rattle.kernel_syntax.specs.declared.stmt.Stmt.{Stmt}
 use Rattle.oz_grammar.specs.Reads.{Reads}
-use Rattle.oz_words.specs.Parsed.{words_fault}
+use Rattle.large_run.specs.Text.{large_text}
+use Rattle.oz_words.specs.declared.options.Action.{Action}
+use Rattle.oz_words.specs.declared.options.Action.TheVariants as action
+use Rattle.oz_words.specs.declared.options.Options.{Options}
 use Rattle.oz_show.specs.declared.status.Status.{Status}
 use Rattle.oz_show.specs.declared.status.Status.TheVariants.{Quiescent, Usage, Refused, NotUtf8, TooLong, StepLimit, MessageLimit, ReadFault, WriteFault, Memory}
-use Rattle.oz_runner.specs.Seen.{Seen}
-use Rattle.oz_runner.specs.Cause.{Failed, text_limit}
+use Rattle.oz_runner.specs.Seen.{Seen, Stream}
+use Rattle.oz_runner.specs.Cause.{Failed, Says, text_limit}
 
--- the command takes the words, the text is told, short enough and UTF-8, it reads a program, and there was no fault
+-- the text that is to be run: what the source has, where it tells that, or the large text of the size
+abbrev pub HasText : Action → Stream → List ℕ → Type 0
+HasText action.Run source text = source.bytes_before ≡ Some text
+HasText action.Central source text = source.bytes_before ≡ Some text
+HasText (action.Gen size) source text = text ≡ large_text size
+
+-- the words are taken, the text is told, short enough and UTF-8, it reads a program, and there was no fault
 pub record IsGood (seen : Seen) : Type 0 where
-  pub accepted : words_fault seen.words ≡ []
+  pub options : Options
+  pub says : Says seen options
   pub text : List ℕ
-  pub told : seen.source.bytes_before ≡ Some text
+  pub told : HasText options.action seen.source text
   pub fits : length text ≤ text_limit
   pub utf8 : IsUtf8 text
   pub program : List Stmt

@@ -1,4 +1,5 @@
 pub mod Seen
+pub mod Messages
 pub mod Run
 pub mod Cause
 pub mod Written

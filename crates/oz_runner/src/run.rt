@@ -2,8 +2,7 @@
 
 ghost use Rattle.std.specs.Prelude.{◌≡◌};
 ghost use Rattle.oz_words.specs.Words.{InRange};
-ghost use Rattle.oz_words.specs.declared.options.Action.TheVariants.{Run};
-ghost use Rattle.oz_runner.specs.Run.{CameTo};
+ghost use Rattle.oz_runner.specs.Run.{CameTo, IsOverSites};
 ghost use Rattle.oz_runner.specs.Ends.{status_of, made_by};
 
 use crate::Status;
@@ -11,6 +10,7 @@ use crate::machine::run_machine;
 use crate::program::run_program;
 use crate::work::{Printed, Work};
 use kernel_syntax::Program;
+use oz_model::runs_are_determined;
 use oz_words::{Action, Options};
 use site_message::{Reason, quiet_tells};
 use site_worker::{Bounds, Gate};
@@ -32,7 +32,7 @@ pub fn run<G: Gate + Sync, R: Threads + Wait + Sync>(
     ensures { CameTo program.now options (made_by result) result.status }
 {
     match options.action {
-        Action::Run => run_over_sites(rt, alloc, options, program, gate),
+        Action::Run | Action::Gen(_) => run_over_sites(rt, alloc, options, program, gate),
         Action::Central => run_machine(alloc, options, program),
     }
 }
@@ -46,7 +46,7 @@ fn run_over_sites<G: Gate + Sync, R: Threads + Wait + Sync>(
     gate: &G,
 ) -> Work
     requires { InRange options }
-    ensures { options.action ≡ Run → CameTo program.now options (made_by result) result.status }
+    ensures { IsOverSites options.action → CameTo program.now options (made_by result) result.status }
 {
     let bounds = Bounds {
         sites: options.sites,
@@ -59,6 +59,7 @@ fn run_over_sites<G: Gate + Sync, R: Threads + Wait + Sync>(
     program.is_program();
     runs_take_rows();
     threads_stay_home();
+    runs_are_determined();
     Work {
         status: status_of(out.reason, out.ended, out.waiting),
         schedule: out.schedule,

@@ -4,14 +4,16 @@ ghost use Rattle.std.specs.Prelude.{◌≡◌, ◌≤◌, [], length, List, ℕ,
 ghost use Rattle.oz_words.specs.Words.{ReadsWords, InRange};
 ghost use Rattle.oz_show.specs.Status.{HasLine};
 ghost use Rattle.oz_runner.specs.Seen.{Stream, Seen, stream_of, seen_of};
-ghost use Rattle.oz_runner.specs.Cause.{Cause, Says, GaveText, text_limit};
+ghost use Rattle.oz_words.specs.declared.options.Action.TheVariants.{Gen};
+ghost use Rattle.oz_runner.specs.Cause.{Cause, Says, GaveText, IsTextOf, IsUntouched, ReadsSource, text_limit};
 ghost use Rattle.oz_runner.specs.Ends.{made_by, journal_of, lines_of};
 
 use crate::Status;
 use crate::run::run;
+use large_run::large_text;
 use oz_base::{ReadError, Source, read_text};
 use oz_parser::{ParseError, parse};
-use oz_words::{Options, WordsError, read_options};
+use oz_words::{Action, Options, WordsError, read_options};
 use site_message::{Journal, Schedule};
 use site_worker::Gate;
 use std::alloc::Global;
@@ -38,7 +40,7 @@ pub struct Work {
     pub printed: Printed,
 }
 
-/// Reads the words, which are the program's name and those after it, then the text, and runs it.
+/// Reads the words, which are the program's name and those after it, then the text, if it is the source's, and runs it.
 pub fn do_work<S: Source, G: Gate + Sync, R: Threads + Wait + Sync>(
     rt: &R,
     alloc: Global,
@@ -51,14 +53,14 @@ pub fn do_work<S: Source, G: Gate + Sync, R: Threads + Wait + Sync>(
     ensures line { HasLine result.status }
 {
     match read_options(alloc, words) {
-        Ok(options) => work_on_source(rt, alloc, options, source, gate),
+        Ok(options) => work_as_said(rt, alloc, options, source, gate),
         Err(WordsError::Usage) => stopped(alloc, Status::Usage),
         Err(WordsError::Memory) => stopped(alloc, Status::Memory),
     }
 }
 
-// Reads the text of a source and runs it, as the options say.
-fn work_on_source<S: Source, G: Gate + Sync, R: Threads + Wait + Sync>(
+// Runs the text that the options want: the large one of their size, or that of the source.
+fn work_as_said<S: Source, G: Gate + Sync, R: Threads + Wait + Sync>(
     rt: &R,
     alloc: Global,
     options: Options,
@@ -70,11 +72,70 @@ fn work_on_source<S: Source, G: Gate + Sync, R: Threads + Wait + Sync>(
         (seen_of words (stream_of S.left S.faults source.old source.new) sink) (made_by result) result.status }
     ensures line { HasLine result.status }
 {
-    match read_text(alloc, source, TEXT_LIMIT) {
+    match options.action {
+        Action::Run | Action::Central => work_on_source(rt, alloc, options, source, gate),
+        Action::Gen(size) => work_on_size(rt, alloc, options, size, gate),
+    }
+}
+
+// Runs the large text of this size.
+fn work_on_size<G: Gate + Sync, R: Threads + Wait + Sync>(
+    rt: &R,
+    alloc: Global,
+    options: Options,
+    size: u32,
+    gate: &G,
+) -> Work
+    requires range { InRange options }
+    requires size { options.action ≡ Gen size }
+    ensures cause { (seen : Seen) → Says seen options → IsUntouched seen.source → Cause seen (made_by result) result.status }
+    ensures line { HasLine result.status }
+{
+    match large_text(alloc, size) {
         Ok(text) => work_on_text(rt, alloc, options, &text, gate),
+        Err(_) => stopped(alloc, Status::Memory),
+    }
+}
+
+// Reads the text of a source and runs it, as the options say.
+fn work_on_source<S: Source, G: Gate + Sync, R: Threads + Wait + Sync>(
+    rt: &R,
+    alloc: Global,
+    options: Options,
+    source: &mut S,
+    gate: &G,
+) -> Work
+    requires range { InRange options }
+    requires source { ReadsSource options.action }
+    ensures cause { (words : List (List ℕ)) (sink : Stream) → ReadsWords words (Ok options) → Cause
+        (seen_of words (stream_of S.left S.faults source.old source.new) sink) (made_by result) result.status }
+    ensures line { HasLine result.status }
+{
+    match read_text(alloc, source, TEXT_LIMIT) {
+        Ok(text) => work_on_bytes(rt, alloc, options, &text, gate),
         Err(ReadError::Fault) => stopped(alloc, Status::ReadFault),
         Err(ReadError::TooLong) => stopped(alloc, Status::TooLong),
         Err(ReadError::Memory) => stopped(alloc, Status::Memory),
+    }
+}
+
+// Runs the text that the bytes of a source are, as the options say.
+fn work_on_bytes<G: Gate + Sync, R: Threads + Wait + Sync>(
+    rt: &R,
+    alloc: Global,
+    options: Options,
+    bytes: &[u8],
+    gate: &G,
+) -> Work
+    requires range { InRange options }
+    requires source { ReadsSource options.action }
+    requires short { length bytes.now ≤ text_limit }
+    ensures cause { (seen : Seen) → Says seen options → GaveText seen.source bytes.now → Cause seen (made_by result) result.status }
+    ensures line { HasLine result.status }
+{
+    match str::from_utf8(bytes) {
+        Ok(text) => work_on_text(rt, alloc, options, text, gate),
+        Err(error) => stopped(alloc, Status::NotUtf8(error.valid_up_to() as u64)),
     }
 }
 
@@ -83,18 +144,14 @@ fn work_on_text<G: Gate + Sync, R: Threads + Wait + Sync>(
     rt: &R,
     alloc: Global,
     options: Options,
-    text: &[u8],
+    text: &str,
     gate: &G,
 ) -> Work
     requires range { InRange options }
-    requires bytes { length text.now ≤ text_limit }
-    ensures cause { (seen : Seen) → Says seen options → GaveText seen.source text.now → Cause seen (made_by result) result.status }
+    requires short { length text.now ≤ text_limit }
+    ensures cause { (seen : Seen) → Says seen options → IsTextOf options.action seen.source text.now → Cause seen (made_by result) result.status }
     ensures line { HasLine result.status }
 {
-    let text = match str::from_utf8(text) {
-        Ok(text) => text,
-        Err(error) => return stopped(alloc, Status::NotUtf8(error.valid_up_to() as u64)),
-    };
     match parse(alloc, text) {
         Ok(program) => run(rt, alloc, options, &program, gate),
         Err(ParseError::Text(fault)) => stopped(alloc, Status::Refused(fault)),

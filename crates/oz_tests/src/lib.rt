@@ -12,6 +12,8 @@
 #[cfg(test)]
 mod examples;
 #[cfg(test)]
+mod large;
+#[cfg(test)]
 mod placed;
 #[cfg(test)]
 mod rows;

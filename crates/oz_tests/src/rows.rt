@@ -201,7 +201,15 @@ pub static WORDED: [Worded; 10] = [
 ];
 
 // Words that are refused.
-pub static USAGE: [&[&str]; 20] = [
+pub static USAGE: [&[&str]; 28] = [
+    &["gen"],
+    &["gen", "0"],
+    &["gen", "1001"],
+    &["gen", "x"],
+    &["gen", "1", "2"],
+    &["run", "4"],
+    &["central", "4"],
+    &["4"],
     &["walk"],
     &["run", "central"],
     &["--steps", "0"],

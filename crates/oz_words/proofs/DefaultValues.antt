@@ -1,5 +1,5 @@
 -- An argument with a default has a value after each parse that succeeds, which its parser took.
-use Rattle.std.proofs.Common.{zero, suc, ◌≡◌, ◌∙◌, ◌<◌, ◌≤◌, ℕ, Bool, true, false, List, [], ◌∷◌, length, Option, Some, None, refl, sym, ap, subst, inl, inr, arith}
+use Rattle.std.proofs.Common.{zero, suc, ◌≡◌, ◌∙◌, ◌<◌, ◌≤◌, ◌⊎◌, ℕ, Bool, true, false, List, [], ◌∷◌, length, Option, Some, None, refl, sym, ap, subst, inl, inr, arith}
 use Rattle.std.specs.List.{All, slice_index_or}
 use Rattle.std.specs.Str.{bytes_eq}
 use Rattle.std.specs.Prelude.{option_map, slice_get, find}
@@ -110,19 +110,43 @@ module _ (c : Command) (m : ArgMatches) (p : IsParsedFrom c m) (plain : IsPlain 
         taken_by front.0.now (subst (λ (w : List ℕ). PassesArg p.built w front.0.now) id front.2),
       )
 
-pub defaulted_reads : (c : Command) (m : ArgMatches) (p : IsParsedFrom c m) → IsPlain c → (out-Command c).has_globals ≡ false
-    → (k : ℕ) (d : Arg) → k < length (args_of c) → WantsDefault (slice_index_or (args_of c) k d)
-    → (slice_index_or (args_of c) k d).action ≡ Some Set → (slice_index_or (args_of c) k d).val_delim ≡ None
-    → 1 ≤ least_values (slice_index_or (args_of c) k d)
-    → ((j : ℕ) (e : Arg) → j < length (args_of c) → bytes_eq (slice_index_or (args_of c) j e).id.now (slice_index_or (args_of c) k d).id.now ≡ true → j ≡ k)
-    → ((slice_index_or (args_of c) k d).id.now ≡ [] → ⊥) → (IsAuto (slice_index_or (args_of c) k d) → ⊥)
-    → (q : ValueParser) → (slice_index_or (args_of c) k d).value_parser ≡ Some q
-    → (t : List ℕ) × (one_text (found_of m) (slice_index_or (args_of c) k d).id.now ≡ Some (read_as (reading_of q) t))
-    × Accepts (slice_index_or (args_of c) k d).ignore_case q t
-defaulted_reads c m p plain globals k d lt wants set undivided least unique named own q parser =
-    let a = slice_index_or (args_of c) k d in
-    let parsed = p.parsed (p.from.globals ∙ globals) in
-    let matched = matched_in (found_of m).entries.items a.id.now (default_present c m p globals k d lt wants) in
-    let entry = entry_by_id (EntryPasses p.built) (found_of m).entries.items a.id.now matched.0 parsed.values matched.1 in
-    of_entry c m p plain globals a (same_rules_by_id c m p k d lt unique own) named set undivided least q parser matched.0 entry.0 matched.1 entry.1
-    ((bytes_eq-Decides _ _).0 entry.2) entry.3
+-- the argument at place k takes one value by this parser, and its id is its own
+pub record IsOwn (c : Command) (k : ℕ) (d : Arg) (q : ValueParser) : Type 0 where
+  pub below : k < length (args_of c)
+  pub set : (slice_index_or (args_of c) k d).action ≡ Some Set
+  pub undivided : (slice_index_or (args_of c) k d).val_delim ≡ None
+  pub least : 1 ≤ least_values (slice_index_or (args_of c) k d)
+  pub unique : (j : ℕ) (e : Arg) → j < length (args_of c) → bytes_eq (slice_index_or (args_of c) j e).id.now (slice_index_or (args_of c) k d).id.now ≡ true → j ≡ k
+  pub named : (slice_index_or (args_of c) k d).id.now ≡ [] → ⊥
+  pub own : IsAuto (slice_index_or (args_of c) k d) → ⊥
+  pub parser : (slice_index_or (args_of c) k d).value_parser ≡ Some q
+
+module _ (c : Command) (m : ArgMatches) (p : IsParsedFrom c m) (plain : IsPlain c) (globals : (out-Command c).has_globals ≡ false)
+    (k : ℕ) (d : Arg) (q : ValueParser) (is : IsOwn c k d q) where
+  abbrev a : Arg
+  a = slice_index_or (args_of c) k d
+
+  -- what an entry of the argument says
+  abbrev pub Reads : Type 0
+  Reads = (t : List ℕ) × (one_text (found_of m) a.id.now ≡ Some (read_as (reading_of q) t)) × Accepts a.ignore_case q t
+
+  of_match : (x : MatchedArg) → matched_of (found_of m) a.id.now ≡ Some x → Reads
+  of_match x found =
+      let parsed = p.parsed (p.from.globals ∙ globals) in
+      let entry = entry_by_id (EntryPasses p.built) (found_of m).entries.items a.id.now x parsed.values found in
+      of_entry c m p plain globals a (same_rules_by_id c m p k d is.below is.unique is.own) is.named is.set is.undivided is.least q is.parser x entry.0 found entry.1
+      ((bytes_eq-Decides _ _).0 entry.2) entry.3
+
+  -- an argument with a default has a value
+  pub defaulted_reads : WantsDefault a → Reads
+  defaulted_reads wants =
+      let matched = matched_in (found_of m).entries.items a.id.now (default_present c m p globals k d is.below wants) in
+      of_match matched.0 matched.1
+
+  -- another one has none, or one that its parser took
+  pub optional_reads : (one_text (found_of m) a.id.now ≡ None) ⊎ Reads
+  optional_reads = go (matched_of (found_of m) a.id.now) refl
+    where
+      go : (o : Option MatchedArg) → matched_of (found_of m) a.id.now ≡ o → (one_text (found_of m) a.id.now ≡ None) ⊎ Reads
+      go None none = inl (rw none refl)
+      go (Some x) found = inr (of_match x found)

@@ -66,13 +66,28 @@ action_rule names = record (new_rule (codes "action")) {
   defaults = codes "run" ∷ [];
 }
 
--- the options, and the word after them
+-- the sizes of a large text
+abbrev pub IsSize : ℕ → Type 0
+IsSize n = (1 ≤ n) × (n ≤ 1000)
+
+abbrev pub sizes : ValueParser
+sizes = numbers_from 1 1000
+
+-- a number of these, which may be left out
+abbrev pub size_rule : ValueParser → Rule
+size_rule parser = record (new_rule (codes "number")) {
+  action = Some Set;
+  parser = Some parser;
+}
+
+-- the options, and the two words after them
 abbrev pub rules_of_oz : Bor (List (Bor Text)) → App
 rules_of_oz names =
-    with_rule (with_rule (with_rule (with_rule (with_rule (new_app (codes "oz"))
-    (number_rule sites_option)) (number_rule workers_option)) (number_rule steps_option)) (number_rule messages_option)) (action_rule names)
+    with_rule (with_rule (with_rule (with_rule (with_rule (with_rule (new_app (codes "oz"))
+    (number_rule sites_option)) (number_rule workers_option)) (number_rule steps_option)) (number_rule messages_option))
+    (action_rule names)) (size_rule sizes)
 
--- `oz [--sites N] [--workers N] [--steps N] [--messages N] [run|central]`
+-- `oz [--sites N] [--workers N] [--steps N] [--messages N] [run|central|gen] [NUMBER]`
 abbrev pub oz_app : Bor (List (Bor Text)) → App
 oz_app names = record (rules_of_oz names) {
   top = record (rules_of_oz names).top {
@@ -83,7 +98,7 @@ oz_app names = record (rules_of_oz names) {
 
 -- the names of the actions
 abbrev pub action_names : List Text
-action_names = codes "run" ∷ codes "central" ∷ []
+action_names = codes "run" ∷ codes "central" ∷ codes "gen" ∷ []
 
 -- these are the names of the actions, wherever they lie
 abbrev pub AreActions : List (Bor Text) → Type 0

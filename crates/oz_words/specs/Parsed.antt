@@ -1,11 +1,11 @@
 -- What the command makes of the words.
-use Rattle.std.specs.Prelude.{◌≡◌, ◌≢◌, List, [], Some, false, codes, Result, Ok, Err}
+use Rattle.std.specs.Prelude.{◌≡◌, ◌≢◌, ◌⊎◌, List, [], Some, None, false, codes, Result, Ok, Err}
 use Rattle.clap.specs.Words.{Accepts, App, Text, found_of, matches_of, one_text, rows_of, fault_of, Row, Kinds}
 use Rattle.clap.specs.Values.{read_as, reading_of}
 use Rattle.clap.specs.declared.builder.ValueParser.{ValueParser}
 use Rattle.clap.specs.declared.parser.ArgMatches.{ArgMatches}
 use Rattle.oz_words.specs.Places.{placeless_names}
-use Rattle.oz_words.specs.Command.{NumberOption, sites_option, workers_option, steps_option, messages_option, numbers_of, action_names, action_values, oz_command}
+use Rattle.oz_words.specs.Command.{NumberOption, sites_option, workers_option, steps_option, messages_option, numbers_of, sizes, action_names, action_values, oz_command}
 use Rattle.oz_words.specs.declared.options.WordsError.{WordsError}
 use Rattle.oz_words.specs.declared.options.WordsError.TheVariants.{Usage, Memory}
 
@@ -29,7 +29,11 @@ HasValue m id q = (t : Text) × (one_text (found_of m) id ≡ Some (read_as (rea
 abbrev pub HasNumber : ArgMatches → NumberOption → Type 0
 HasNumber m o = HasValue m o.name (numbers_of o)
 
--- the matches of words that the command takes, with a value for each argument
+-- the number behind the action's name is left out, or is one of the sizes
+abbrev pub MayHaveSize : ArgMatches → Type 0
+MayHaveSize m = (one_text (found_of m) (codes "number") ≡ None) ⊎ HasValue m (codes "number") sizes
+
+-- the matches of words that the command takes, with a value for each argument but the last, which may be left out
 pub record Parsed (words : List Text) (m : ArgMatches) : Type 0 where
   pub no_fault : words_fault words ≡ []
   pub rows : rows_of (found_of m) ≡ words_rows words
@@ -38,6 +42,7 @@ pub record Parsed (words : List Text) (m : ArgMatches) : Type 0 where
   pub steps : HasNumber m steps_option
   pub messages : HasNumber m messages_option
   pub action : HasValue m (codes "action") (action_values (placeless_names action_names))
+  pub size : MayHaveSize m
 
 abbrev pub Parses : List Text → Result ArgMatches WordsError → Type 0
 Parses words (Ok m) = Parsed words m

@@ -1,11 +1,15 @@
 -- What the words mean.
-use Rattle.std.specs.Prelude.{◌≡◌, ◌≢◌, ℕ, List, [], Option, Some, None, codes, Result, Ok, Err}
+use Rattle.std.specs.Prelude.{◌≡◌, ◌≢◌, ℕ, Bool, false, List, [], Option, Some, None, codes, is_some, Result, Ok, Err}
+use Rattle.std.specs.Option.{option_map_or}
+use Rattle.std.specs.Str.{bytes_eq}
 use Rattle.std.specs.Str.Parse.{digits_value, without_leading_plus}
 use Rattle.clap.specs.Words.{Row, Text, one_of}
-use Rattle.oz_words.specs.Command.{IsWithin, sites_option, workers_option, steps_option, messages_option}
+use Rattle.oz_words.specs.Command.{IsSize, IsWithin, sites_option, workers_option, steps_option, messages_option}
 use Rattle.oz_words.specs.Parsed.{words_fault, words_rows}
 use Rattle.oz_words.specs.declared.options.Action.{Action}
-use Rattle.oz_words.specs.declared.options.Action.TheVariants.{Run, Central}
+use Rattle.oz_words.specs.declared.options.Action.TheVariants.{Run, Central, Gen}
+use Rattle.oz_words.specs.declared.options.ActionName.{ActionName}
+use Rattle.oz_words.specs.declared.options.ActionName.TheVariants as name
 use Rattle.oz_words.specs.declared.options.Options.{Options}
 use Rattle.oz_words.specs.declared.options.UnknownAction.{UnknownAction}
 use Rattle.oz_words.specs.declared.options.WordsError.{WordsError}
@@ -16,14 +20,40 @@ abbrev pub Says : Option Text → ℕ → Type 0
 Says None n = ⊥
 Says (Some text) n = n ≡ digits_value 10 (without_leading_plus text)
 
-abbrev pub action_name : Action → Text
-action_name Run = codes "run"
-action_name Central = codes "central"
+abbrev pub action_name : ActionName → Text
+action_name name.Run = codes "run"
+action_name name.Central = codes "central"
+action_name name.Gen = codes "gen"
 
 -- what reading an action's name gives
-abbrev pub NamesAction : Text → Result Action UnknownAction → Type 0
+abbrev pub NamesAction : Text → Result ActionName UnknownAction → Type 0
 NamesAction text (Ok action) = text ≡ action_name action
-NamesAction text (Err unknown) = (text ≢ codes "run") × (text ≢ codes "central")
+NamesAction text (Err unknown) = (text ≢ codes "run") × (text ≢ codes "central") × (text ≢ codes "gen")
+
+-- the action, by its name and the number behind it
+abbrev pub SaysAction : Option Text → Option Text → Action → Type 0
+SaysAction named number Run = named ≡ Some (codes "run")
+SaysAction named number Central = named ≡ Some (codes "central")
+SaysAction named number (Gen size) = (named ≡ Some (codes "gen")) × Says number size
+
+abbrev pub is_gen : Option Text → Bool
+is_gen named = option_map_or (λ text. bytes_eq text (codes "gen")) named false
+
+-- a number stands behind `gen`, and behind nothing else
+abbrev pub GoTogether : Option Text → Option Text → Type 0
+GoTogether named number = is_some number ≡ is_gen named
+
+-- the action, where its name and the number go together
+abbrev pub ReadsAction : Option Text → Option Text → Result Action WordsError → Type 0
+ReadsAction named number (Ok action) = GoTogether named number × SaysAction named number action
+ReadsAction named number (Err Usage) = GoTogether named number → ⊥
+ReadsAction named number (Err Memory) = ⊥
+
+-- the command takes the words, and the number goes with the action
+abbrev pub AreTaken : List Text → Type 0
+AreTaken words =
+    (words_fault words ≡ [])
+    × GoTogether (one_of (codes "action") (words_rows words)) (one_of (codes "number") (words_rows words))
 
 -- the options are the matches
 pub record AreMatches (rows : List Row) (options : Options) : Type 0 where
@@ -31,7 +61,11 @@ pub record AreMatches (rows : List Row) (options : Options) : Type 0 where
   pub workers : Says (one_of workers_option.name rows) options.workers
   pub steps : Says (one_of steps_option.name rows) options.steps
   pub messages : Says (one_of messages_option.name rows) options.messages
-  pub action : one_of (codes "action") rows ≡ Some (action_name options.action)
+  pub action : SaysAction (one_of (codes "action") rows) (one_of (codes "number") rows) options.action
+
+abbrev pub IsActionInRange : Action → Type 0
+IsActionInRange (Gen size) = IsSize size
+IsActionInRange action = Unit {0}
 
 -- the numbers are in their ranges
 pub record InRange (options : Options) : Type 0 where
@@ -39,10 +73,11 @@ pub record InRange (options : Options) : Type 0 where
   pub workers : IsWithin workers_option options.workers
   pub steps : IsWithin steps_option options.steps
   pub messages : IsWithin messages_option options.messages
+  pub action : IsActionInRange options.action
 
--- `Usage` comes exactly where the command refuses the words, and else the options are its matches of them.
+-- `Usage` comes exactly where the words are not taken, and else the options are the command's matches of them.
 -- Want of memory says nothing.
 abbrev pub ReadsWords : List Text → Result Options WordsError → Type 0
-ReadsWords words (Ok options) = (words_fault words ≡ []) × AreMatches (words_rows words) options
-ReadsWords words (Err Usage) = words_fault words ≢ []
+ReadsWords words (Ok options) = AreTaken words × AreMatches (words_rows words) options
+ReadsWords words (Err Usage) = AreTaken words → ⊥
 ReadsWords words (Err Memory) = Unit {0}

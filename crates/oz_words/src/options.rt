@@ -1,11 +1,11 @@
 //! What the words say.
 
-ghost use Rattle.std.specs.Prelude.{◌≡◌, IfOk, codes, map, string_bytes, Some};
+ghost use Rattle.std.specs.Prelude.{◌≡◌, IfOk, codes, map, string_bytes};
 ghost use Rattle.clap.specs.Words.{found_of, one_text};
 ghost use Rattle.oz_words.specs.Places.{placeless_names};
 ghost use Rattle.oz_words.specs.Command.{NumberOption, IsWithin, action_names, action_values};
-ghost use Rattle.oz_words.specs.Parsed.{HasValue, HasNumber, Parses};
-ghost use Rattle.oz_words.specs.Words.{ReadsWords, InRange, Says, action_name, NamesAction};
+ghost use Rattle.oz_words.specs.Parsed.{HasValue, HasNumber, MayHaveSize, Parses};
+ghost use Rattle.oz_words.specs.Words.{ReadsWords, InRange, IsActionInRange, Says, NamesAction, ReadsAction};
 
 use crate::taken::command;
 use clap::ArgMatches;
@@ -13,26 +13,37 @@ use clap::error::ErrorKind;
 use std::alloc::Global;
 use std::str::FromStr;
 
-/// What to do with the text: run it over its sites, or on the centralised machine.
+/// What to run: the text of the source over its sites, or on the centralised machine; or the large text of this size, 1 to
+/// 1,000, over its sites.
 #[derive(Clone, Copy, Debug, PartialEq, Eq)]
 pub enum Action {
     Run,
     Central,
+    Gen(u32),
+}
+
+/// The word that names what to run.
+#[derive(Clone, Copy, Debug, PartialEq, Eq)]
+pub(crate) enum ActionName {
+    Run,
+    Central,
+    Gen,
 }
 
 /// A text that names no action.
 #[derive(Clone, Copy, Debug, PartialEq, Eq)]
-pub struct UnknownAction;
+pub(crate) struct UnknownAction;
 
-impl FromStr for Action {
+impl FromStr for ActionName {
     type Err = UnknownAction;
 
     ghost from_str_gives = { NamesAction };
 
-    fn from_str(text: &str) -> Result<Action, UnknownAction> {
+    fn from_str(text: &str) -> Result<ActionName, UnknownAction> {
         match text {
-            "run" => Ok(Action::Run),
-            "central" => Ok(Action::Central),
+            "run" => Ok(ActionName::Run),
+            "central" => Ok(ActionName::Central),
+            "gen" => Ok(ActionName::Gen),
             _ => Err(UnknownAction),
         }
     }
@@ -50,7 +61,7 @@ pub struct Options {
     pub action: Action,
 }
 
-/// Why words give no options: the command refuses them, or memory is wanting.
+/// Why words give no options: they are refused, or memory is wanting.
 #[derive(Clone, Copy, Debug, PartialEq, Eq)]
 pub enum WordsError {
     Usage,
@@ -83,25 +94,35 @@ fn number_of(matches: &ArgMatches, name: &str) -> u64
     matches.get_one(name).unwrap()
 }
 
-fn action_in(matches: &ArgMatches) -> Action
-    requires { HasValue matches.now (codes "action") (action_values (placeless_names action_names)) }
-    ensures { one_text (found_of matches.now) (codes "action") ≡ Some (action_name result) }
+// What to run: the action's name, and the number where it takes one.
+fn action_in(matches: &ArgMatches) -> Result<Action, WordsError>
+    requires name { HasValue matches.now (codes "action") (action_values (placeless_names action_names)) }
+    requires size { MayHaveSize matches.now }
+    ensures text { ReadsAction (one_text (found_of matches.now) (codes "action")) (one_text (found_of matches.now) (codes "number")) result }
+    ensures range { IfOk result IsActionInRange }
 {
-    matches.get_one("action").unwrap()
+    let size: Option<u64> = matches.get_one("number");
+    match (matches.get_one("action").unwrap(), size) {
+        (ActionName::Run, None) => Ok(Action::Run),
+        (ActionName::Central, None) => Ok(Action::Central),
+        (ActionName::Gen, Some(size)) => Ok(Action::Gen(size as u32)),
+        _ => Err(WordsError::Usage),
+    }
 }
 
 /// The options that the words say, the first word being the program's name.
-/// `Usage` comes exactly where the command refuses the words.
+/// `Usage` comes exactly where the command refuses the words, or a number stands without `gen` or is missing with it.
 pub fn read_options(alloc: Global, words: &[String]) -> Result<Options, WordsError>
     ensures text { ReadsWords (map string_bytes words.now) result }
     ensures range { IfOk result InRange }
 {
     let matches = parse(alloc, words)?;
+    let action = action_in(&matches)?;
     Ok(Options {
         sites: number_of(&matches, "sites") as u32,
         workers: number_of(&matches, "workers") as u32,
         steps: number_of(&matches, "steps"),
         messages: number_of(&matches, "messages"),
-        action: action_in(&matches),
+        action,
     })
 }

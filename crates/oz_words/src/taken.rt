@@ -2,14 +2,14 @@
 
 ghost use Rattle.std.specs.Prelude.{◌≡◌, IfOk, false};
 ghost use Rattle.clap.specs.Words.{app_of, rule_of};
-ghost use Rattle.oz_words.specs.Command.{AreActions, oz_app, option_rule, action_rule, numbers_from};
+ghost use Rattle.oz_words.specs.Command.{AreActions, oz_app, option_rule, action_rule, size_rule, numbers_from};
 ghost use Rattle.oz_words.specs.Parsed.{TakesWordsOfOz};
 
 use clap::builder::ValueParser;
 use clap::{Arg, ArgAction, Command, value_parser};
 use std::alloc::{AllocError, Global};
 
-static ACTIONS: [&str; 2] = ["run", "central"];
+static ACTIONS: [&str; 3] = ["run", "central", "gen"];
 
 // `--name N`, given at most once, with a default.
 fn option_of<'a>(alloc: Global, name: &'a str, parser: ValueParser<'a>, default: &'a str) -> Arg<'a>
@@ -34,6 +34,16 @@ fn action_of<'a>(alloc: Global, names: &'a [&'a str]) -> Arg<'a>
         .default_value("run")
 }
 
+// The number behind the action's name, which may be left out.
+fn size_of<'a>(alloc: Global, parser: ValueParser<'a>) -> Arg<'a>
+    ensures rule { rule_of result ≡ size_rule parser.entry }
+    ensures local { result.global ≡ false }
+{
+    Arg::new(alloc, "number")
+        .action(ArgAction::Set)
+        .value_parser(parser)
+}
+
 // The numbers from the least to the most.
 fn numbers<'a>(least: u32, most: u32) -> ValueParser<'a>
     ensures { result ≡ numbers_from least most }
@@ -48,7 +58,7 @@ fn action_names<'a>() -> &'a [&'a str]
     ACTIONS.as_slice()
 }
 
-/// The command that takes `oz [--sites N] [--workers N] [--steps N] [--messages N] [run|central]`:
+/// The command that takes `oz [--sites N] [--workers N] [--steps N] [--messages N] [run|central|gen] [NUMBER]`:
 ///
 /// - `--sites N`, the number of sites of a run, from 1 to 64; 4 where it is left out;
 /// - `--workers N`, the number of workers that drive the sites, from 0 to 64; 4 where it is left out;
@@ -56,7 +66,8 @@ fn action_names<'a>() -> &'a [&'a str]
 ///   left out;
 /// - `--messages N`, the most messages that sites send to each other, from 0 to 4,000,000,000; 1,000,000 where it is left
 ///   out;
-/// - `run` or `central`, what to do with the text; `run` where it is left out.
+/// - `run`, `central` or `gen`, what to run; `run` where it is left out;
+/// - a number from 1 to 1,000 behind it. `read_options` refuses it without `gen`, and `gen` without it.
 ///
 /// Each is given at most once, and there is neither `--help` nor `--version`. The command borrows constants alone, so it
 /// comes at the lifetime that its caller wants: `'static`, or that of the words that it is to read.
@@ -69,6 +80,7 @@ pub fn command<'a>(alloc: Global) -> Result<Command<'a>, AllocError>
     let steps = option_of(alloc, "steps", numbers(1, 1_000_000_000), "1000000");
     let messages = option_of(alloc, "messages", numbers(0, 4_000_000_000), "1000000");
     let action = action_of(alloc, action_names());
+    let size = size_of(alloc, numbers(1, 1_000));
     Command::new(alloc, "oz")
         .disable_help_flag(true)
         .disable_version_flag(true)
@@ -76,5 +88,6 @@ pub fn command<'a>(alloc: Global) -> Result<Command<'a>, AllocError>
         .arg(workers)?
         .arg(steps)?
         .arg(messages)?
-        .arg(action)
+        .arg(action)?
+        .arg(size)
 }

@@ -1,7 +1,6 @@
 -- New hosts.
 use Rattle.std.proofs.Common.{◌≡◌, ℕ, ◌≤◌, List, [], true, false, refl, sym, ap, ◌∙◌, subst, arith}
 use Rattle.atomic_table.specs.Seated.{TableId}
-use Rattle.kernel_syntax.specs.declared.stmt.Stmt.{Stmt}
 use Rattle.kernel_syntax.specs.Program.{IsProgram}
 use Rattle.site_message.specs.declared.turn.Turn.{Turn}
 use Rattle.site_message.specs.declared.story.NoSeat.{NoSeat}

@@ -10,7 +10,6 @@ use Rattle.site_message.specs.declared.story.Sight.{Sight}
 use Rattle.site_message.specs.declared.outcome.Reason.{Reason}
 use Rattle.site_message.specs.Journal.{sent_of}
 use Rattle.site_message.specs.Story.{own, hand}
-use Rattle.wire_form.specs.Format.{Spells}
 use Rattle.message_book.specs.Book.{IsSiteOf, without}
 use Rattle.book_lock.specs.declared.lock.SiteSeat.{SiteSeat}
 use Rattle.book_lock.specs.Rule.{BeginsWith}
@@ -29,7 +28,7 @@ use Rattle.site_worker.specs.declared.inside.Fetched.{Fetched}
 use Rattle.site_worker.specs.declared.inside.Fetched.TheVariants.{Over, Open}
 use Rattle.site_worker.specs.declared.inside.Delivered.TheVariants.{Posted, Refused}
 use Rattle.site_worker.specs.Inside.{book_sites, book_steps, NoneWaits, HasTaken, HasFetched, HasDelivered, HasClosed, Since}
-use Rattle.site_worker.specs.Host.{state_of, sight, program_of, sites_of, fixed_of, IsRunTo, IsSeated, HasCome, IsHost, IsSpelledBy, HasMessage, HasSpelling, HasTurned, HasFailed, number_list}
+use Rattle.site_worker.specs.Host.{state_of, sight, program_of, sites_of, fixed_of, IsRunTo, IsSeated, HasCome, IsHost, IsSpelledBy, HasMessage, HasTurned, HasFailed, number_list}
 use Rattle.site_worker.specs.declared.outcome.Visited.{Visited}
 use Rattle.site_worker.specs.declared.outcome.Visited.TheVariants.{Did, Nothing}
 use Rattle.site_worker.specs.declared.outcome.Visited.TheVariants as visited
@@ -117,16 +116,20 @@ module _ (table : TableId) (h : Host) (x : SiteSeat) (mine : IsHost table h) (ou
       let is = mine.live live in
       let come = come_later h x mine.state on own_same is.0 in
       let taken = taken_first h x o now found.2 (a.1.own_hands ∙ is.1) found.4 in (
-        (taken.message, taken.spelled, record {
-          seated = seated_later table h x mine.seated out same a.3;
-          come = subst (HasCome (with_seat h x)) (sym is.0.state) come;
-          hands = taken.hands;
-          message = taken.content;
-          live = live;
-          steps = subst (λ (s : Site). s.steps ≤ 1000000000) (sym is.0.state) mine.steps;
-          reason = found.1;
-          waits = taken.waits;
-        }),
+        (
+          taken.message,
+          taken.spelled,
+          record {
+            seated = seated_later table h x mine.seated out same a.3;
+            come = subst (HasCome (with_seat h x)) (sym is.0.state) come;
+            hands = taken.hands;
+            message = taken.content;
+            live = live;
+            steps = subst (λ (s : Site). s.steps ≤ 1000000000) (sym is.0.state) mine.steps;
+            reason = found.1;
+            waits = taken.waits;
+          },
+        ),
         own_same,
         found.3,
       )

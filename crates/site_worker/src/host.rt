@@ -176,10 +176,7 @@ impl<'a> Host<'a> {
 }
 
 // The message that was taken. Its bytes spell one, so no fault comes.
-fn read(
-    alloc: Global,
-    taken: Option<(u64, Bytes)>,
-) -> Result<Option<(u64, Msg)>, AllocError>
+fn read(alloc: Global, taken: Option<(u64, Bytes)>) -> Result<Option<(u64, Msg)>, AllocError>
     requires { (m : Option (ℕ × AMsg)) × IsSpelledBy taken m }
     ensures { IfOk result (λ o. (m : Option (ℕ × AMsg)) → IsSpelledBy taken m → o ≡ m) }
 {

@@ -8,11 +8,12 @@ pub returns : goal.returns
 returns g c =
     let out = c.run_program-out in
     λ is. subst (CameTo _ _ _) (sym c.status_of.ensures)
-    (sites_came c.args.program.now c.args.options out.result is c.quiet_tells.ensures (record {
+    (sites_came c.args.program.now c.args.options out.result is c.quiet_tells.ensures c.runs_are_determined.ensures.end (record {
       run = out.ensures.simulated;
       rows = (c.runs_take_rows.ensures.rows c.args.program.now c.args.options.sites out.result.journal out.ensures.simulated.0 c.is_program.ensures c.requires.sites.0 c.requires.sites.1).0 out.ensures.simulated.1;
       homes = c.threads_stay_home.ensures.home c.args.program.now c.args.options.sites bundle_limit out.result.journal out.ensures.simulated.0 out.ensures.simulated.1;
       picks = out.ensures.schedule;
+      few = out.ensures.few;
       reason = out.ensures.reason;
       went = out.ensures.went;
       ended = out.ensures.ended;

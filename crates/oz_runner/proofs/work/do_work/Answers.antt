@@ -1,4 +1,4 @@
 use Rattle.oz_runner.proofs.work.do_work.Goals as goal
 
 pub returns-in-Ok-clause-cause : goal.returns-in-Ok-clause-cause
-returns-in-Ok-clause-cause g c = λ sink. c.work_on_source.ensures.cause _ sink c.in-Ok.ensures.text
+returns-in-Ok-clause-cause g c = λ sink. c.work_as_said.ensures.cause _ sink c.in-Ok.ensures.text

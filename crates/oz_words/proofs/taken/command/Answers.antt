@@ -5,7 +5,7 @@ use Rattle.clap.specs.Words.{AddsArg, App, Rule, Text, app_of, new_app, rule_of,
 use Rattle.clap.specs.declared.builder.Arg.{Arg}
 use Rattle.clap.specs.declared.builder.Command.{Command}
 use Rattle.clap.specs.declared.builder.ValueParser.{ValueParser}
-use Rattle.oz_words.specs.Command.{AreActions, NumberOption, number_rule, numbers_of, option_rule, oz_app, sites_option, workers_option, steps_option, messages_option}
+use Rattle.oz_words.specs.Command.{AreActions, NumberOption, number_rule, numbers_of, option_rule, oz_app, size_rule, sizes, sites_option, workers_option, steps_option, messages_option}
 use Rattle.oz_words.specs.Parsed.{TakesWordsOfOz}
 use Rattle.oz_words.proofs.PlaceLemmas.{takes_words_of_oz}
 use Rattle.oz_words.proofs.taken.command.Goals as goal
@@ -40,7 +40,11 @@ bare_app = record (new_app (codes "oz")) {
   };
 }
 
-is_command : (c : goal.After-arg-5) → IfOk c.arg-5.result (λ made. app_of made ≡ oz_app c.action_names.result)
+-- the rule of the number, which takes the sizes
+with_sizes : (a : Arg) (parser : ValueParser) → rule_of a ≡ size_rule parser → parser ≡ sizes → rule_of a ≡ size_rule sizes
+with_sizes a parser rule takes = rule ∙ ap size_rule takes
+
+is_command : (c : goal.After-arg-6) → IfOk c.arg-6.result (λ made. app_of made ≡ oz_app c.action_names.result)
 is_command c =
     let sites = with_numbers c.option_of-sites.result sites_option c.numbers.result c.option_of-sites.ensures.rule c.numbers.ensures in
     let workers = with_numbers c.option_of-workers.result workers_option c.numbers-2.result c.option_of-workers.ensures.rule c.numbers-2.ensures in
@@ -50,7 +54,9 @@ is_command c =
     let second = added _ c.in_ok-arg-2.field-0 _ _ _ c.in_ok-arg-2.ensures c.option_of-workers.ensures.local workers first in
     let third = added _ c.in_ok-arg-3.field-0 _ _ _ c.in_ok-arg-3.ensures c.option_of-steps.ensures.local steps second in
     let fourth = added _ c.in_ok-arg-4.field-0 _ _ _ c.in_ok-arg-4.ensures c.option_of-messages.ensures.local messages third in
-    last_added _ c.arg-5.result _ _ _ c.arg-5.ensures c.action_of-action.ensures.local c.action_of-action.ensures.rule fourth
+    let fifth = added _ c.in_ok-arg-5.field-0 _ _ _ c.in_ok-arg-5.ensures c.action_of-action.ensures.local c.action_of-action.ensures.rule fourth in
+    let size = with_sizes c.size_of-size.result c.numbers-5.result c.size_of-size.ensures.rule c.numbers-5.ensures in
+    last_added _ c.arg-6.result _ _ _ c.arg-6.ensures c.size_of-size.ensures.local size fifth
 
 pub returns-clause-app : goal.returns-clause-app
 returns-clause-app c = (c.action_names.result, c.action_names.ensures, is_command c)
@@ -64,5 +70,8 @@ returns-in_err-arg-3-clause-app c = (c.action_names.result, c.action_names.ensur
 pub returns-in_err-arg-4-clause-app : goal.returns-in_err-arg-4-clause-app
 returns-in_err-arg-4-clause-app c = (c.action_names.result, c.action_names.ensures, search rules)
 
+pub returns-in_err-arg-5-clause-app : goal.returns-in_err-arg-5-clause-app
+returns-in_err-arg-5-clause-app c = (c.action_names.result, c.action_names.ensures, search rules)
+
 pub returns-clause-words : goal.returns-clause-words
-returns-clause-words c = takes_words c.arg-5.result c.action_names.result c.action_names.ensures (is_command c)
+returns-clause-words c = takes_words c.arg-6.result c.action_names.result c.action_names.ensures (is_command c)

@@ -1,4 +1,4 @@
-use Rattle.std.proofs.Common.{List, drop}
+use Rattle.std.proofs.Common.{drop}
 use Rattle.std.specs.Prelude.{◌↔◌}
 use Rattle.tree_node.specs.Each.{Each}
 use Rattle.site_message.specs.declared.message.Sent.{Sent}

@@ -1,4 +1,4 @@
-use Rattle.std.proofs.Common.{◌≡◌, ◌-◌, min, ℕ, Option, sym, subst}
+use Rattle.std.proofs.Common.{◌-◌, min, ℕ, Option, sym, subst}
 use Rattle.site_message.specs.declared.message.Msg.{Msg}
 use Rattle.site_message.specs.declared.turn.Turn.{Turn}
 use Rattle.site_core.specs.Seated.{IsTurnMade}
@@ -12,7 +12,7 @@ new-requires c =
     let had = c.requires.taken.1 in
     let message = c.in-Ok.ensures had.0 had.1 in
     sent_fits c.sites_send_what_fits.ensures t c.make_turn.new.self c.in_ok-turn.turn
-        (c.in_ok-turn.ensures.turned t (subst (λ (o : Option (ℕ × Msg)). HasMessage t c.args.self.now o) (sym message) had.2))
+    (c.in_ok-turn.ensures.turned t (subst (λ (o : Option (ℕ × Msg)). HasMessage t c.args.self.now o) (sym message) had.2))
 
 pub returns-clause-turn : goal.returns-clause-turn
 returns-clause-turn c m spelled =
