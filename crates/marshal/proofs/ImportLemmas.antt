@@ -39,11 +39,11 @@ or_swap true false c = refl
 or_swap false true c = refl
 or_swap false false c = refl
 
-seen_moved : (p : VarName → Bool) (x : VarName) (s d : List VarName) → list_any p (x ∷ (s ++ d)) ≡ list_any p (s ++ x ∷ d)
+pub seen_moved : (p : VarName → Bool) (x : VarName) (s d : List VarName) → list_any p (x ∷ (s ++ d)) ≡ list_any p (s ++ x ∷ d)
 seen_moved p x [] d = refl
 seen_moved p x (z ∷ s) d = or_swap (p x) (p z) (list_any p (s ++ d)) ∙ ap (λ (b : Bool). p z || b) (seen_moved p x s d)
 
-distinct_append : (xs ys seen : List VarName) → distinct_vars seen (xs ++ ys) ≡ distinct_vars seen xs ++ distinct_vars (seen ++ distinct_vars seen xs) ys
+pub distinct_append : (xs ys seen : List VarName) → distinct_vars seen (xs ++ ys) ≡ distinct_vars seen xs ++ distinct_vars (seen ++ distinct_vars seen xs) ys
 distinct_append [] ys seen = ap (λ (s : List VarName). distinct_vars s ys) (sym (append-nil seen))
 distinct_append (x ∷ xs) ys seen = go (list_any (equal_var x) seen) (distinct_append xs ys seen) (distinct_append xs ys (x ∷ seen))
   where

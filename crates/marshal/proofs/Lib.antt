@@ -1,2 +1,6 @@
 mod ImportLemmas
 mod ExportLemmas
+mod BreadthLemmas
+mod PlaceLemmas
+mod GatherLemmas
+mod TakenLemmas

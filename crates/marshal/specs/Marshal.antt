@@ -1,12 +1,14 @@
 -- What is known and reached, and what a store takes in.
-use Rattle.std.specs.Prelude.{◌≡◌, List, [], ◌∷◌, ◌++◌, is_some, Contains, if◌then◌else◌}
+use Rattle.std.specs.Prelude.{◌≡◌, ℕ, ◌<◌, List, [], ◌∷◌, ◌++◌, length, take, get_or, false, is_some, Contains, if◌then◌else◌}
+use Rattle.std.specs.List.{list_any}
 use Rattle.tree_node.specs.declared.names.VarName.{VarName}
 use Rattle.tree_node.specs.declared.node.Term.{Term}
 use Rattle.tree_node.specs.Assoc.{value_of}
 use Rattle.tree_node.specs.Store.{Store, Equation, equal_var}
 use Rattle.tree_store.specs.Contents.{Contents as Held}
 use Rattle.site_message.specs.Vars.{vars_of}
-use Rattle.site_model.specs.Bundle.{distinct_vars}
+use Rattle.site_model.specs.Bundle.{distinct_vars, known_equations}
+use Rattle.site_model.specs.Laws.{names_of}
 
 -- ---- what goes out
 
@@ -18,6 +20,18 @@ pub data IsReached (s : Store) (xs : List VarName) : VarName → Type 0 where
 -- an equation of the store, of a variable that is reached
 abbrev pub IsReachedEquation : Store → List VarName → Equation → Type 0
 IsReachedEquation s xs e = Contains s e × IsReached s xs e.0
+
+-- the equations of the variables in a list, each once
+abbrev pub equations_among : Store → List VarName → List Equation
+equations_among s xs = known_equations s (distinct_vars [] xs)
+
+-- The next equation to take stands at this place of the queue: the places before it add none to those that were taken from
+-- the first places
+pub record IsNext (s : Store) (queue : List VarName) (from : ℕ) (taken : List Equation) (place : ℕ) (t : Term) : Type 0 where
+  pub there : place < length queue
+  pub passed : equations_among s (take place queue) ≡ equations_among s (take from queue)
+  pub known : (d : VarName) → Contains s (get_or queue place d, t)
+  pub new : (d : VarName) → list_any (equal_var (get_or queue place d)) (names_of taken) ≡ false
 
 -- ---- what comes in
 

@@ -1,9 +1,13 @@
 //! Known equations are taken out of a store.
 
-ghost use Rattle.std.specs.Prelude.{◌≡◌, ◌≤◌, ◌<◌, ◌+◌, ◌∷◌, [], List, IfOk, IfSome, OnOk, length};
-ghost use Rattle.tree_node.specs.declared.names.VarName.{VarName as Variable};
+ghost use Rattle.std.specs.Prelude.{◌≡◌, ◌≤◌, ◌++◌, ◌∷◌, ◌⊎◌, [], false, true, Contains, IfOk, IfSome, IfNone, OnOk, length, take as first};
+ghost use Rattle.std.specs.List.{list_any, insert};
 ghost use Rattle.tree_node.specs.Each.{Each};
-ghost use Rattle.marshal.specs.Marshal.{IsReached, IsReachedEquation};
+ghost use Rattle.tree_node.specs.Store.{Equation, IsFree, equal_var};
+ghost use Rattle.site_message.specs.Vars.{vars_of as term_vars};
+ghost use Rattle.site_model.specs.Bundle.{insert_ascending, ascending, bundle_from};
+ghost use Rattle.site_model.specs.Laws.{names_of};
+ghost use Rattle.marshal.specs.Marshal.{IsReachedEquation, IsNext, equations_among};
 
 use crate::vars::vars_of;
 use site_message::Bundle;
@@ -11,26 +15,29 @@ use std::alloc::{AllocError, Global};
 use tree_node::{Term, VarName, copy_term, is_below};
 use tree_store::Store;
 
-/// Known equations that are reached from a variable, at most so many.
+/// The first known equations that are reached from a variable, breadth first, at most so many, in the order of their names.
 pub fn export(
     alloc: Global,
     store: &Store,
     var: VarName,
     limit: usize,
 ) -> Result<Bundle, AllocError>
+    ensures bundle { IfOk result (λ b. b ≡ bundle_from limit store.now.equations (var ∷ [])) }
     ensures few { IfOk result (λ b. length b ≤ limit) }
     ensures reached { IfOk result (λ b. Each (IsReachedEquation store.now.equations (var ∷ [])) b) }
 {
     export_from(alloc, store, &[var], limit)
 }
 
-/// Known equations that are reached from variables, breadth first, at most so many.
+/// The first known equations that are reached from variables, breadth first, at most so many, in the order of their names. It
+/// costs by what it takes, and by the variables of that.
 pub fn export_from(
     alloc: Global,
     store: &Store,
     vars: &[VarName],
     limit: usize,
 ) -> Result<Bundle, AllocError>
+    ensures bundle { IfOk result (λ b. b ≡ bundle_from limit store.now.equations vars.now) }
     ensures few { IfOk result (λ b. length b ≤ limit) }
     ensures reached { IfOk result (λ b. Each (IsReachedEquation store.now.equations vars.now) b) }
 {
@@ -50,75 +57,95 @@ fn gather(
     limit: usize,
 ) -> Result<(), AllocError>
     requires { taken.old.items ≡ [] }
-    ensures few { OnOk result (length taken.new.items ≤ limit) }
-    ensures reached { OnOk result ((xs : List Variable) → Each (IsReached store.now.equations xs) queue.old.items → Each (IsReachedEquation store.now.equations xs) taken.new.items) }
+    ensures { OnOk result (taken.new.items ≡ bundle_from limit store.now.equations queue.old.items) }
 {
+    store.forest();
     let mut from = 0;
     for count in 0..limit {
         match next(store, queue, from, taken) {
             None => return Ok(()),
-            Some(place) => {
-                from = place + 1;
+            Some((place, term)) => {
                 let var = queue[place];
-                take(alloc, store, queue, taken, var)?;
+                take(alloc, queue, taken, var, term)?;
+                from = place + 1;
             }
         }
     }
     Ok(())
 }
 
-// The first place from one on whose variable is known and was not taken.
-fn next(store: &Store, queue: &[VarName], from: usize, taken: &[(VarName, Term)]) -> Option<usize>
-    ensures { IfSome result (λ p. p < length queue.now) }
+// The first place from one on whose variable has an equation that was not taken, with its term.
+fn next<'a>(
+    store: &'a Store,
+    queue: &[VarName],
+    from: usize,
+    taken: &[(VarName, Term)],
+) -> Option<(usize, &'a Term)>
+    requires { taken.now ≡ ascending (equations_among store.now.equations (first from queue.now)) }
+    ensures none { IfNone result (equations_among store.now.equations queue.now ≡ equations_among store.now.equations (first from queue.now)) }
+    ensures some { IfSome result (λ r. IsNext store.now.equations queue.now from taken.now r.0 r.1.now) }
 {
     for place in from..queue.len() {
-        let var = queue[place];
-        if store.equation(var).is_some() && !is_taken(taken, var) {
-            return Some(place);
+        match untaken(store, taken, queue[place]) {
+            Some(term) => return Some((place, term)),
+            None => (),
         }
     }
     None
 }
 
+// The equation of a variable, where there is one that was not taken.
+fn untaken<'a>(store: &'a Store, taken: &[(VarName, Term)], var: VarName) -> Option<&'a Term>
+    ensures known { IfSome result (λ t. Contains store.now.equations (var, t.now)) }
+    ensures new { IfSome result (λ _. list_any (equal_var var) (names_of taken.now) ≡ false) }
+    ensures none { IfNone result (IsFree store.now.equations var ⊎ (list_any (equal_var var) (names_of taken.now) ≡ true)) }
+{
+    if is_taken(taken, var) {
+        return None;
+    }
+    store.equation(var)
+}
+
+// Whether the equation of a variable was taken.
+fn is_taken(taken: &[(VarName, Term)], var: VarName) -> bool
+    ensures { result ≡ list_any (equal_var var) (names_of taken.now) }
+{
+    for place in 0..taken.len() {
+        if taken[place].0 == var {
+            return true;
+        }
+    }
+    false
+}
+
 // How many of these equations, whose names ascend, have a name below this one.
 fn place_of(taken: &[(VarName, Term)], var: VarName) -> usize
-    ensures { result ≤ length taken.now }
+    ensures within { result ≤ length taken.now }
+    ensures place { (e : Equation) → e.0 ≡ var → insert_ascending e taken.now ≡ insert taken.now result e }
 {
-    for (place, equation) in taken.iter().enumerate() {
-        if !is_below(equation.0, var) {
+    for place in 0..taken.len() {
+        if !is_below(taken[place].0, var) {
             return place;
         }
     }
     taken.len()
 }
 
-// Whether the equation of a variable was taken.
-fn is_taken(taken: &[(VarName, Term)], var: VarName) -> bool {
-    let place = place_of(taken, var);
-    place < taken.len() && taken[place].0 == var
-}
-
-// The equation of a variable is taken, where there is one.
+// An equation is taken: it has its place among the others, and the variables of its term go behind the queue.
 fn take(
     alloc: Global,
-    store: &Store,
     queue: &mut Vec<VarName>,
     taken: &mut Vec<(VarName, Term)>,
     var: VarName,
+    term: &Term,
 ) -> Result<(), AllocError>
-    ensures few { OnOk result (length taken.new.items ≤ length taken.old.items + 1) }
-    ensures queue { OnOk result ((xs : List Variable) → IsReached store.now.equations xs var → Each (IsReached store.now.equations xs) queue.old.items → Each (IsReached store.now.equations xs) queue.new.items) }
-    ensures taken { OnOk result ((xs : List Variable) → IsReached store.now.equations xs var → Each (IsReachedEquation store.now.equations xs) taken.old.items → Each (IsReachedEquation store.now.equations xs) taken.new.items) }
+    ensures queue { OnOk result (queue.new.items ≡ queue.old.items ++ term_vars term.now) }
+    ensures taken { OnOk result (taken.new.items ≡ insert_ascending (var, term.now) taken.old.items) }
 {
-    match store.equation(var) {
-        None => Ok(()),
-        Some(term) => {
-            let mut vars = vars_of(alloc, term)?;
-            let copy = copy_term(term)?;
-            let place = place_of(taken, var);
-            queue.append(&mut vars)?;
-            taken.insert(place, (var, copy))?;
-            Ok(())
-        }
-    }
+    let mut vars = vars_of(alloc, term)?;
+    let copy = copy_term(term)?;
+    let place = place_of(taken, var);
+    queue.append(&mut vars)?;
+    taken.insert(place, (var, copy))?;
+    Ok(())
 }

@@ -2,13 +2,14 @@
 //!
 //! For: a site that sends a variable may send along what it knows of it, so that the other need not ask.
 //!
-//! It promises: `export` and `export_from` give equations of the store, each of a variable that is reached from the given ones,
-//! at most as many as the limit; none where the limit is 0. `import` adds each equation of the bundle whose variable has none
-//! (`with_equations`), and answers the names that were not known before, each once, in the order in which they stand there.
-//! After want of memory the store may know a part of the bundle, and the site is given up.
+//! It promises: `export` and `export_from` give exactly the bundle of the definitions (`bundle_from` of `site_model`): of the
+//! equations of the store the first that are reached from the given variables, breadth first, at most as many as the limit, in
+//! the order of their names; none where the limit is 0. `pack` gives a message that bundle (`bundled`). `import` adds each
+//! equation of the bundle whose variable has none (`with_equations`), and answers the names that were not known before, each
+//! once, in the order in which they stand there. After want of memory the store may know a part of the bundle, and the site is
+//! given up.
 //!
-//! Runs have the limit 0 today, and every bundle is empty. That the equations taken are the first ones, breadth first, is not
-//! proved yet.
+//! Runs have the limit 0 today, and every bundle is empty.
 //!
 //! It stands on `tree_store` and `site_message`, and on `site_model` for words.
 //!
@@ -17,7 +18,9 @@
 
 mod exporting;
 mod importing;
+mod packing;
 mod vars;
 
 pub use exporting::{export, export_from};
 pub use importing::import;
+pub use packing::pack;

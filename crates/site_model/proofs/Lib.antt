@@ -1,3 +1,4 @@
+pub mod AscendingLemmas
 pub mod BundleLemmas
 pub mod CellExampleRun
 pub mod ChoiceLemmas

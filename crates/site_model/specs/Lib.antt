@@ -4,6 +4,7 @@ pub mod Cells
 pub mod Choice
 pub mod Example
 pub mod Fit
+pub mod Laws
 pub mod Messages
 pub mod Run
 pub mod Site

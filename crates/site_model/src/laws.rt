@@ -1,7 +1,8 @@
-//! Worked runs by the definitions.
+//! Laws of the definitions, and worked runs by them.
 
 ghost use Rattle.site_model.specs.CellExample.{TokenGoesRound};
 ghost use Rattle.site_model.specs.Example.{BundleTravels, TokenReturns};
+ghost use Rattle.site_model.specs.Laws.{BundlesAreOrdered};
 
 /// A run of fourteen turns of two sites, in which every kind of message travels, is a run of a world and ends quiet. And rows
 /// in which a bundle takes a known structure along in one message. It does nothing: its clauses are worked examples.
@@ -13,4 +14,10 @@ pub fn worked_turns()
 /// The rows in which a cell's token goes round three sites, once with a Forward that comes before its Put.
 pub fn worked_cells()
     ensures { TokenGoesRound }
+{}
+
+/// The bundle of a message has at most as many equations as the limit, in the strictly ascending order of their names. It does
+/// nothing: its clause is the law.
+pub fn bundles_are_ordered()
+    ensures { BundlesAreOrdered }
 {}

@@ -1,28 +1,24 @@
-use Rattle.std.proofs.Common.{arith, sym, subst, List, ◌≤◌, ◌<◌, length}
+use Rattle.std.proofs.Common.{arith, ◌≡◌, ◌∙◌, ap, subst, List, take}
 use Rattle.tree_node.specs.declared.names.VarName.{VarName}
-use Rattle.tree_node.specs.Each.{Each}
 use Rattle.tree_node.specs.Store.{Equation}
-use Rattle.kernel_syntax.proofs.OrderLemmas.{Each-at}
-use Rattle.marshal.specs.Marshal.{IsReached}
-use Rattle.marshal.proofs.ExportLemmas.{none_taken}
+use Rattle.site_model.specs.Bundle.{insert_ascending}
+use Rattle.marshal.specs.Marshal.{IsNext, equations_among}
+use Rattle.marshal.proofs.GatherLemmas.{gathered_more, gathered_all}
 use Rattle.marshal.proofs.exporting.gather.Goals as goal
 
-pub loop-count-init : goal.loop-count-init
-loop-count-init c = record {
-  few = subst (λ (es : List Equation). length es ≤ 0) (sym c.requires) (omega arith);
-  queue = λ xs h. h;
-  taken = λ xs h. none_taken c.args.store.now.equations xs c.args.taken.now.items c.requires;
-}
+pub returns-in-None : goal.returns-in-None
+returns-in-None c =
+    gathered_all c.args.store.now.equations c.args.queue.now.items c.loop-count.queue.items c.loop-count.from c.args.limit c.loop-count.count c.loop-count.taken.items c.loop-count.invariant
+    (subst (λ (l : List VarName). equations_among c.args.store.now.equations l ≡ equations_among c.args.store.now.equations (take c.loop-count.from l)) c.deref.ensures.value c.in-None.ensures.none)
+    (let more = c.loop-count-test.true in omega (arith, more))
 
 pub loop-count-preserved : goal.loop-count-preserved
-loop-count-preserved c = record {
-  few = omega (arith, c.in_ok-take-in-Some.ensures.few, c.loop-count.invariant.few);
-  queue = λ xs h. c.in_ok-take-in-Some.ensures.queue xs (reached xs h) (c.loop-count.invariant.queue xs h);
-  taken = λ xs h. c.in_ok-take-in-Some.ensures.taken xs (reached xs h) (c.loop-count.invariant.taken xs h);
-}
+loop-count-preserved c =
+    gathered_more c.args.store.now.equations c.args.queue.now.items c.loop-count.queue.items c.take.new.queue.items c.loop-count.from c.in-Some.place c.loop-count.count c.loop-count.taken.items c.take.new.taken.items
+    c.in-Some.term.now c.index-var.result.now c.forest.ensures.forest c.loop-count.invariant next c.in_ok-take-in-Some.ensures.queue
+    (c.in_ok-take-in-Some.ensures.taken ∙ ap (λ (x : VarName). insert_ascending (x, c.in-Some.term.now) c.loop-count.taken.items) c.index-var.ensures)
   where
-    reached : (xs : List VarName) → Each (IsReached c.args.store.now.equations xs) c.args.queue.now.items → IsReached c.args.store.now.equations xs c.index-var.result.now
-    reached xs h = subst (IsReached c.args.store.now.equations xs) (sym c.index-var.ensures) (Each-at (IsReached c.args.store.now.equations xs) c.loop-count.queue.items c.in-Some.place _ (c.loop-count.invariant.queue xs h) below)
-      where
-        below : c.in-Some.place < length c.loop-count.queue.items
-        below = subst (λ (q : List VarName). c.in-Some.place < length q) c.deref.ensures.value c.in-Some.ensures
+    next : IsNext c.args.store.now.equations c.loop-count.queue.items c.loop-count.from c.loop-count.taken.items c.in-Some.place c.in-Some.term.now
+    next =
+        subst (λ (l : List VarName). IsNext c.args.store.now.equations l c.loop-count.from c.loop-count.taken.items c.in-Some.place c.in-Some.term.now) c.deref.ensures.value
+        (subst (λ (es : List Equation). IsNext c.args.store.now.equations c.deref.result.now c.loop-count.from es c.in-Some.place c.in-Some.term.now) c.deref-in-loop-count.ensures.value c.in-Some.ensures.some)

@@ -1,0 +1,77 @@
+//! A message gets its bundle.
+
+ghost use Rattle.std.specs.Prelude.{◌≡◌, IfOk};
+ghost use Rattle.site_message.specs.Vars.{vars_of as term_vars};
+ghost use Rattle.site_model.specs.Bundle.{bundled, bundle_from};
+
+use crate::exporting::{export, export_from};
+use crate::vars::vars_of;
+use site_message::{Bundle, Msg, Sent};
+use std::alloc::{AllocError, Global};
+use tree_node::Term;
+use tree_store::Store;
+
+/// The message with its bundle: the first known equations that are reached from a new thread's variables, from those of a term
+/// that is told or asked for, or from a cell's content. A message of another kind has none.
+pub fn pack(alloc: Global, store: &Store, sent: Sent, limit: usize) -> Result<Sent, AllocError>
+    ensures { IfOk result (λ m. m ≡ bundled limit store.now.equations sent) }
+{
+    let Sent { to, msg } = sent;
+    let msg = match msg {
+        Msg::Spawn {
+            thread,
+            code,
+            vars,
+            ..
+        } => {
+            let bundle = export_from(alloc, store, vars.as_slice(), limit)?;
+            Msg::Spawn {
+                thread,
+                code,
+                vars,
+                bundle,
+            }
+        }
+        Msg::BindReq {
+            var,
+            thread,
+            term,
+            ..
+        } => {
+            let bundle = export_term(alloc, store, &term, limit)?;
+            Msg::BindReq {
+                var,
+                thread,
+                term,
+                bundle,
+            }
+        }
+        Msg::Binding { var, term, .. } => {
+            let bundle = export_term(alloc, store, &term, limit)?;
+            Msg::Binding { var, term, bundle }
+        }
+        Msg::Put { cell, content, .. } => {
+            let bundle = export(alloc, store, content, limit)?;
+            Msg::Put {
+                cell,
+                content,
+                bundle,
+            }
+        }
+        other => other,
+    };
+    Ok(Sent { to, msg })
+}
+
+// The first known equations that are reached from the variables of a term.
+fn export_term(
+    alloc: Global,
+    store: &Store,
+    term: &Term,
+    limit: usize,
+) -> Result<Bundle, AllocError>
+    ensures { IfOk result (λ b. b ≡ bundle_from limit store.now.equations (term_vars term.now)) }
+{
+    let vars = vars_of(alloc, term)?;
+    export_from(alloc, store, &vars, limit)
+}
