@@ -7,6 +7,7 @@ ghost use Rattle.message_book.specs.Book.{IsReason};
 ghost use Rattle.world_model.specs.Schedule.{schedule, sum_to};
 ghost use Rattle.world_model.specs.Simulated.{last_ended, last_waiting};
 ghost use Rattle.world_core.specs.Laws.{HasRun, AreMessagesFew};
+ghost use Rattle.world_places.specs.Places.{ThreadsStayHome};
 ghost use Rattle.plain_run.specs.Going.{HasReason, limits_of};
 ghost use Rattle.plain_run.specs.Simulated.{HasMachineRun};
 ghost use Rattle.oz_runner.specs.Bounds.{AreBounds, limits_in};
@@ -19,6 +20,7 @@ use site_worker::{Bounds, Gate, run_sites};
 use std::alloc::Global;
 use std::sync::Wait;
 use std::thread::Threads;
+use world_places::threads_stay_home;
 
 /// Runs a program over its sites. Workers drive them on threads of the system, and call the gate before each turn; without
 /// workers the sites take turns here, in a fixed order, and there is no gate.
@@ -33,6 +35,7 @@ pub fn run_program<G: Gate + Sync, R: Threads + Wait + Sync>(
     ensures run { HasRun program.now bounds.sites result.journal }
     ensures simulated { HasMachineRun program.now bounds.sites result.journal }
     ensures few { AreMessagesFew program.now bounds.sites result.journal }
+    ensures homes { ThreadsStayHome result.journal }
     ensures schedule { result.schedule ≡ schedule result.journal }
     ensures reason { HasReason (limits_in bounds) result.journal result.reason }
     ensures went { WentOn (limits_of (limits_in bounds)) result.journal }
@@ -44,6 +47,7 @@ pub fn run_program<G: Gate + Sync, R: Threads + Wait + Sync>(
         steps: bounds.steps,
         messages: bounds.messages,
     };
+    threads_stay_home();
     if bounds.workers == 0 {
         return run_plain(alloc, program, limits);
     }

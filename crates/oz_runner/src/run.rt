@@ -17,7 +17,6 @@ use site_worker::{Bounds, Gate};
 use std::alloc::Global;
 use std::sync::Wait;
 use std::thread::Threads;
-use world_places::threads_stay_home;
 use world_runs::runs_take_rows;
 
 /// Runs a program, as the options say.
@@ -58,7 +57,6 @@ fn run_over_sites<G: Gate + Sync, R: Threads + Wait + Sync>(
     quiet_tells();
     program.is_program();
     runs_take_rows();
-    threads_stay_home();
     runs_are_determined();
     Work {
         status: status_of(out.reason, out.ended, out.waiting),

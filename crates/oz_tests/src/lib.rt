@@ -6,13 +6,15 @@
 //! **They show** what no clause says: that the texts of the tables have their one lawful output with ample memory, or one of
 //! their lawful outputs, on 1 to 64 sites, refusals and end lines among them; that the examples of the repository print what
 //! stands beside them; that a text as long as may be is read and runs; that two runs without
-//! workers print the same.
+//! workers print the same; that turns of two sites are under way at once.
 #![tactic(auto)]
 
 #[cfg(test)]
 mod examples;
 #[cfg(test)]
 mod large;
+#[cfg(test)]
+mod meeting;
 #[cfg(test)]
 mod placed;
 #[cfg(test)]

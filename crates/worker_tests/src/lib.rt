@@ -2,8 +2,6 @@
 #![tactic(auto)]
 
 #[cfg(test)]
-mod meeting;
-#[cfg(test)]
 mod programs;
 #[cfg(test)]
 mod runs;

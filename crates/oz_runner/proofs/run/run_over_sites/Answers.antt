@@ -1,5 +1,4 @@
 use Rattle.std.proofs.Common.{subst, sym}
-use Rattle.site_model.specs.Bundle.{bundle_limit}
 use Rattle.oz_runner.specs.Run.{CameTo}
 use Rattle.oz_runner.proofs.RunLemmas.{sites_came}
 use Rattle.oz_runner.proofs.run.run_over_sites.Goals as goal
@@ -11,7 +10,7 @@ returns g c =
     (sites_came c.args.program.now c.args.options out.result is c.quiet_tells.ensures c.runs_are_determined.ensures.end (record {
       run = out.ensures.simulated;
       rows = (c.runs_take_rows.ensures.rows c.args.program.now c.args.options.sites out.result.journal out.ensures.simulated.0 c.is_program.ensures c.requires.sites.0 c.requires.sites.1).0 out.ensures.simulated.1;
-      homes = c.threads_stay_home.ensures.home c.args.program.now c.args.options.sites bundle_limit out.result.journal out.ensures.simulated.0 out.ensures.simulated.1;
+      homes = out.ensures.homes;
       picks = out.ensures.schedule;
       few = out.ensures.few;
       reason = out.ensures.reason;

@@ -1,11 +1,8 @@
 //! Turns of two sites are under way at once.
 
-ghost use Rattle.std.specs.Prelude.{◌≤◌};
-
-use crate::programs::program_of;
-use message_book::Book;
-use site_message::Reason;
-use site_worker::{Bounds, Gate, run_sites};
+use crate::texts::{with_workers, words_of};
+use oz_base::{MemSink, MemSource};
+use oz_runner::{Gate, Status, oz};
 use std::alloc::{AllocError, Global};
 use std::process::Abort;
 use std::sync::Wait;
@@ -51,41 +48,38 @@ impl Gate for Meeting {
 
 const TWO_LOOPS: &str = "local P in P = proc {$} {P} end thread at 2 {P} end {P} end";
 
-// Runs the two loops with so many workers. It tells whether a turn gave up, and why the run ended.
+// Runs the two loops with so many workers. It tells whether a turn gave up, and how the run ended.
 fn run_loops<R: Abort + Threads + Wait + Sync>(
     rt: &R,
     alloc: Global,
-    workers: u32,
-) -> Result<(bool, Option<Reason>), AllocError>
-    requires { (1 ≤ workers) × (workers ≤ 64) }
-{
-    let program = program_of(rt, alloc, TWO_LOOPS)?;
+    workers: &'static str,
+) -> Result<(bool, Status), AllocError> {
+    let words = with_workers(alloc, &["--sites", "2", "--steps", "1000"], workers)?;
+    let list = words_of(alloc, &words)?;
+    assert!(rt; !list.is_empty());
+    let mut source = MemSource::new(TWO_LOOPS.as_bytes(), &[]);
+    let mut sink = MemSink::new(alloc, &[], 2000)?;
     let gate = Meeting {
         first: AtomicU64::new(0),
         second: AtomicU64::new(0),
         gave_up: AtomicU64::new(0),
     };
-    let bounds = Bounds {
-        sites: 2,
-        workers,
-        steps: 1_000,
-        messages: 4_000_000_000,
-    };
-    let book: Book = run_sites(rt, alloc, &program, bounds, &gate)?;
-    Ok((gate.gave_up.load(SeqCst) == 1, book.reason()))
+    let report = oz(rt, alloc, &list, &mut source, &mut sink, &gate);
+    Ok((gate.gave_up.load(SeqCst) == 1, report.status))
 }
 
 #[test]
 fn two_turns_are_under_way_at_once(rt: HostRuntime) -> Result<(), Fail> {
-    let (gave_up, reason) = run_loops(&rt, rt.alloc(), 2)?;
+    let (gave_up, status) = run_loops(&rt, rt.alloc(), "2")?;
     assert!(rt; !gave_up);
-    assert!(rt; reason == Some(Reason::Steps(1)) || reason == Some(Reason::Steps(2)));
+    assert!(rt; matches!(status, Status::StepLimit(1) | Status::StepLimit(2)));
+    assert_eq!(rt; status.number(), 4);
     Ok(())
 }
 
 #[test]
 fn one_thread_alone_gives_up(rt: HostRuntime) -> Result<(), Fail> {
-    let (gave_up, _) = run_loops(&rt, rt.alloc(), 1)?;
+    let (gave_up, _) = run_loops(&rt, rt.alloc(), "1")?;
     assert!(rt; gave_up);
     Ok(())
 }

@@ -1,0 +1,12 @@
+use Rattle.site_model.specs.Bundle.{bundle_limit}
+use Rattle.oz_runner.proofs.program.run_program.Goals as goal
+
+pub returns-then-bounds-eq0-clause-homes : goal.returns-then-bounds-eq0-clause-homes
+returns-then-bounds-eq0-clause-homes g c =
+    let ran = c.run_plain.ensures.run in
+    c.threads_stay_home.ensures.home c.args.program.now c.args.bounds.sites bundle_limit c.run_plain.result.journal ran.0 ran.1
+
+pub returns-clause-homes : goal.returns-clause-homes
+returns-clause-homes g c =
+    let ran = c.finish_run.ensures.run in
+    c.threads_stay_home.ensures.home c.args.program.now c.args.bounds.sites bundle_limit c.finish_run.result.journal ran.0 ran.1
