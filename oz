@@ -95,6 +95,16 @@ if is_due; then
     "$top/.ci/build" || exit 1
 fi
 
+# `gen` reads no text. A file beside it is a word too many.
+for word in "$@"; do
+    [ "$word" = gen ] || continue
+    [ -z "$file" ] || set -- "$@" "$file"
+    "$program" "$@" </dev/null
+    status=$?
+    [ "$status" -ne 2 ] || takes
+    exit "$status"
+done
+
 # Words that are not taken are refused before anything is read.
 "$program" "$@" </dev/null >/dev/null 2>&1
 if [ $? -eq 2 ]; then
