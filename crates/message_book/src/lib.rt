@@ -8,13 +8,15 @@
 //! there is none; it takes no memory, nor do `quiet` and
 //! `close`. `quiet` holds exactly where no message travels and every site is idle (`is_quiet`), so a message in hand
 //! keeps the run going. `close` keeps the first reason. `journal` and `into_journal` give the turns posted: each message
-//! was delivered once at most, after it was sent, to the site that it was sent to (`Wired`), and every turn is of a site
-//! of the book. `Book` is a `Story` for a lock: its fixed part is the number of sites and both limits.
+//! was delivered once at most, after it was sent, to the site that it was sent to (`Wired`), every turn is of a site
+//! of the book, and none but the last had ended the run (`WentOn`). `Book` is a `Story` for a lock: its fixed part is the number of sites and both limits.
 //!
-//! No call walks over the journal: `take` takes one step, `post` as many as the turn sent messages and there are sites.
+//! No call walks over the journal: `take` takes one step, `post` as many as the turn sent messages and there are sites, on
+//! average, since a list that is full is moved to a greater room.
 //!
-//! It stands on `wire_form` for the spellings, on `site_message` for turns, journals and their laws, and on `tree_node`. `threads` shows that a book may
-//! cross from thread to thread. A test (`unit_tests`) runs two turns to a quiet end; no promise is left to it alone.
+//! It stands on `wire_form` for the spellings, on `site_message` for turns, journals and their laws, and on `tree_node`.
+//! `threads` shows that a book may cross from thread to thread. A test (`unit_tests`) runs two turns to a quiet end; no promise
+//! is left to it alone.
 //!
 //! Sources: the messages in a book are those of Haridi and others, *Efficient Logic Variables for Distributed Computing*
 //! (TOPLAS 21(3), 1999), and Van Roy and others, *Mobile Objects in Distributed Oz* (TOPLAS 19(5), 1997). The book itself
