@@ -5,5 +5,6 @@ pub mod Below
 pub mod FreeLemmas
 pub mod PreorderLemmas
 pub mod ShortLemmas
+pub mod PositionListLemmas
 pub mod TableLemmas
 pub mod ArithmeticLemmas

@@ -5,5 +5,6 @@ pub mod Preorder
 pub mod Program
 pub mod Uses
 pub mod Laws
+pub mod PositionLists
 pub mod Table
 pub mod Arithmetic

@@ -20,6 +20,7 @@
 
 mod laws;
 mod limits;
+mod position_lists;
 mod preorder;
 mod program;
 mod stmt;

@@ -9,20 +9,21 @@ ghost use Rattle.kernel_syntax.specs.Program.{IsProgram, IsStmt};
 ghost use Rattle.kernel_syntax.specs.Texts.{HasTexts};
 
 use crate::limits::is_stmt;
+use crate::position_lists::PositionLists;
 use crate::preorder::is_in_preorder;
 use crate::stmt::Stmt;
 use crate::table::{free_table, row};
 use crate::texts::has_texts;
 use std::alloc::{AllocError, Global};
 use std::marker::Model;
-use tree_node::{CodeId, Seq};
+use tree_node::CodeId;
 
 /// A program: its statements by number, from 0, which is the whole; a body's number is above its owner's. Contracts see
 /// the list of the statements. The free positions of each are kept beside it, the last statement's first.
 #[derive(Drop)]
 pub struct Program {
     stmts: Vec<Stmt>,
-    free: Vec<Seq<u32>>,
+    free: PositionLists,
 }
 
 impl Model for Program {
@@ -34,7 +35,7 @@ impl Model for Program {
 
     ghost view = { λ p. p.stmts.items };
 
-    ghost invariant = { λ p. IsKept p.stmts.items p.free.items };
+    ghost invariant = { λ p. IsKept p.stmts.items p.free };
 }
 
 /// Why statements make no program.
@@ -132,6 +133,6 @@ impl Program {
         ensures value { result.now ≡ free self.now code }
         ensures order { AreRising result.now }
     {
-        row(self.free.as_slice(), self.stmts.len(), code)
+        row(&self.free, self.stmts.len(), code)
     }
 }

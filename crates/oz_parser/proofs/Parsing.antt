@@ -1,6 +1,8 @@
 -- Programs and faults of texts.
-use Rattle.std.proofs.Common.{◌≡◌, ℕ, suc, ◌-◌, ◌<◌, ◌≤◌, ◌^◌, List, [], ◌∷◌, ◌++◌, length, take, map, get_or, true, IsUtf8, Result, Ok, Err, refl, sym, subst, ap, ◌∙◌, arith, inl, inr}
+use Rattle.std.proofs.Common.{◌≡◌, ℕ, zero, suc, ◌-◌, ◌<◌, ◌≤◌, ◌^◌, List, [], ◌∷◌, ◌++◌, length, take, map, get_or, true, IsUtf8, Result, Ok, Err, refl, sym, subst, ap, ◌∙◌, arith, inl, inr}
 use Rattle.std.proofs.lemmas.Bool.{cases_lt}
+use Rattle.std.proofs.lemmas.List.{length-map}
+use Rattle.tree_node.specs.Each.{Each}
 use Rattle.kernel_syntax.specs.declared.stmt.Stmt.{Stmt}
 use Rattle.kernel_syntax.specs.Program.{IsProgram}
 use Rattle.oz_lexer.specs.Tokens.{Lexeme}
@@ -19,7 +21,7 @@ use Rattle.oz_grammar.proofs.TextLaws.{tokens_end, fault_left, reads_text, fault
 use Rattle.oz_parser.specs.declared.error.ParseError.{ParseError}
 use Rattle.oz_parser.specs.declared.error.ParseError.TheVariants as errors
 use Rattle.oz_parser.specs.Fits.{RowsFit}
-use Rattle.oz_parser.specs.Tokens.{start_of, AreSymbols}
+use Rattle.oz_phrases.specs.TextSymbols.{start_of, AreSymbols}
 use Rattle.oz_parser.specs.Parses.{Parses, GivesProgram, GivesFault}
 use Rattle.oz_parser.proofs.Shifting.{program_fits, same_count}
 
@@ -52,13 +54,14 @@ made_parses text symbols starts rows (Err (errors.Text f)) a e g = absurd g
 pub fault_stands : (text : List ℕ) (symbols : List Symbol) (starts : List ℕ) (fault : Fault) → AreSymbols text symbols starts → program_at symbols ≡ Err fault → (0 < fault.left) × (fault.left ≤ length symbols)
 fault_stands text symbols starts fault a e = fault_left symbols fault (symbols_end text symbols starts a) (fault_is symbols fault e)
 
-map_length : {A B : Type 0} (f : A → B) (xs : List A) → length (map f xs) ≡ length xs
-map_length f [] = refl
-map_length f (x ∷ xs) = ap suc (map_length f xs)
+pub each_within : (n : ℕ) (xs : List ℕ) (i : ℕ) → Each (λ (s : ℕ). s ≤ n) xs → i < length xs → get_or xs i 0 ≤ n
+each_within n [] i h lt = absurd (omega arith)
+each_within n (x ∷ xs) zero h lt = h.0
+each_within n (x ∷ xs) (suc i) h lt = each_within n xs i h.1 (omega arith)
 
 pub same_length : (text : List ℕ) (symbols : List Symbol) (starts : List ℕ) → AreSymbols text symbols starts → length starts ≡ length symbols
 same_length text symbols starts a =
-    ap (λ (xs : List ℕ). length xs) a.starts_are ∙ map_length start_of a.tokens ∙ sym (map_length symbol_of a.tokens) ∙ sym (ap (λ (xs : List Symbol). length xs) a.symbols_are)
+    ap (λ (xs : List ℕ). length xs) a.starts_are ∙ length-map a.tokens start_of ∙ sym (length-map a.tokens symbol_of) ∙ sym (ap (λ (xs : List Symbol). length xs) a.symbols_are)
 
 -- the token at which so many are left
 record Left (tokens : List Lexeme) (left : ℕ) : Type 0 where
@@ -96,8 +99,8 @@ pub fault_of : (text : List ℕ) (symbols : List Symbol) (starts : List ℕ) (fa
     → f.kind ≡ fault.kind → (f.line, f.column) ≡ place_of (take (get_or starts (length starts - fault.left) 0) text) → FaultOf text f
 fault_of text symbols starts fault f a e kind place =
     let stands = fault_stands text symbols starts fault a e in
-    let n : length starts ≡ length a.tokens = ap (λ (xs : List ℕ). length xs) a.starts_are ∙ map_length start_of a.tokens in
-    let m : length symbols ≡ length a.tokens = ap (λ (xs : List Symbol). length xs) a.symbols_are ∙ map_length symbol_of a.tokens in
+    let n : length starts ≡ length a.tokens = ap (λ (xs : List ℕ). length xs) a.starts_are ∙ length-map a.tokens start_of in
+    let m : length symbols ≡ length a.tokens = ap (λ (xs : List Symbol). length xs) a.symbols_are ∙ length-map a.tokens symbol_of in
     let l = left_at a.tokens fault.left stands.0 (let s = stands.1 in omega arith) in
     let there : get_or starts (length starts - fault.left) 0 ≡ l.token.start =
     ap (λ (k : ℕ). get_or starts (k - fault.left) 0) n ∙ ap (λ (xs : List ℕ). get_or xs (length a.tokens - fault.left) 0) a.starts_are ∙ l.start in

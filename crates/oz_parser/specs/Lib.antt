@@ -1,8 +1,4 @@
-pub mod Scoped
-pub mod Scan
-pub mod Gives
-pub mod Marked
+pub mod State
 pub mod Heads
 pub mod Fits
-pub mod Tokens
 pub mod Parses

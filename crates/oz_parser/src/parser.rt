@@ -9,44 +9,33 @@ ghost use Rattle.oz_grammar.specs.declared.fault.TextFault.{TextFault};
 ghost use Rattle.oz_grammar.specs.Symbols.{ends_once};
 ghost use Rattle.oz_grammar.specs.Reading.{program_at};
 ghost use Rattle.oz_grammar.specs.Reads.{Reads, FaultOf};
-ghost use Rattle.oz_parser.specs.Gives.{Gives, Fails};
-ghost use Rattle.oz_parser.specs.Tokens.{AreSymbols};
+ghost use Rattle.oz_phrases.specs.Gives.{Gives, Fails};
+ghost use Rattle.oz_phrases.specs.TextSymbols.{AreSymbols};
 ghost use Rattle.oz_parser.specs.Parses.{Answers, Parses, GivesProgram, GivesFault, IfFault};
 
 use crate::error::ParseError;
-use crate::fault::Refusal;
-use crate::lexing::symbols_of;
-use crate::reader::sequence;
-use crate::scope::Scope;
+use crate::reader::Reader;
 use crate::table::shift_rows;
 use kernel_syntax::{Program, Stmt};
 use oz_grammar::{Closer, Fault, Symbol, TextFault, What};
 use oz_lexer::line_and_column;
+use oz_phrases::{Stop, symbols_of};
 use std::alloc::Global;
 
 /// The rows of the program that these symbols are.
 #[tactic(auto, unfolding(oz_grammar::specs::Reading::program_at))]
-fn table(alloc: Global, symbols: &[Symbol]) -> Result<Vec<Stmt>, Refusal>
+fn table(alloc: Global, symbols: &[Symbol]) -> Result<Vec<Stmt>, Stop>
     requires few { length symbols.now < 2 ^ 29 }
     requires ends { ends_once symbols.now ≡ true }
     ensures { Gives (λ v. v.items) result (program_at symbols.now) }
 {
-    let mut rows = Vec::new(alloc);
-    let mut scope = Scope::new(alloc);
-    let _rest = sequence(
-        alloc,
-        &mut rows,
-        &mut scope,
-        200,
-        Closer::EndOfText,
-        What::Statement,
-        symbols,
-    )?;
-    Ok(shift_rows(alloc, rows)?)
+    let mut reader = Reader::new(alloc, symbols);
+    reader.sequence(200, Closer::EndOfText, What::Statement)?;
+    Ok(shift_rows(alloc, reader.into_rows())?)
 }
 
 /// A fault with its line and column, where so many symbols are left.
-#[tactic(auto, using(crate::proofs::TokenLists::each_within))]
+#[tactic(auto, using(crate::proofs::Parsing::each_within))]
 fn placed(text: &str, starts: &[usize], fault: Fault) -> TextFault
     requires some { 0 < fault.left }
     requires left { fault.left ≤ length starts.now }
@@ -74,14 +63,14 @@ fn made(alloc: Global, rows: Vec<Stmt>) -> Result<Program, ParseError>
 }
 
 /// The fault of a text where reading its symbols was refused.
-fn refusal_of(text: &str, symbols: &[Symbol], starts: &[usize], refusal: Refusal) -> ParseError
+fn fault_of(text: &str, symbols: &[Symbol], starts: &[usize], stop: Stop) -> ParseError
     requires symbols { AreSymbols text.now symbols.now starts.now }
-    requires fails { Fails refusal (program_at symbols.now) }
+    requires fails { Fails stop (program_at symbols.now) }
     ensures { Answers text.now result }
 {
-    match refusal {
-        Refusal::Memory => ParseError::Memory,
-        Refusal::Fault(fault) => ParseError::Text(placed(text, starts, fault)),
+    match stop {
+        Stop::Memory => ParseError::Memory,
+        Stop::Fault(fault) => ParseError::Text(placed(text, starts, fault)),
     }
 }
 
@@ -98,7 +87,7 @@ fn program(
 {
     match table(alloc, symbols) {
         Ok(rows) => made(alloc, rows),
-        Err(refusal) => Err(refusal_of(text, symbols, starts, refusal)),
+        Err(stop) => Err(fault_of(text, symbols, starts, stop)),
     }
 }
 

@@ -4,4 +4,3 @@ pub mod SpelledTokens
 pub mod CanonicalWritten
 pub mod Utf8Texts
 pub mod RoundTrip
-pub mod Reversed

@@ -39,7 +39,7 @@ impl Symbols {
     }
 
     /// Puts a symbol before the others.
-    #[tactic(auto, using(crate::proofs::Reversed::put_before))]
+    #[tactic(auto, using(kernel_syntax::proofs::Reversed::put_before))]
     pub fn put(&mut self, symbol: Symbol) -> Result<(), AllocError>
         ensures { OnOk result (self.new ≡ symbol ∷ self.old) }
     {
@@ -48,7 +48,7 @@ impl Symbols {
     }
 
     /// Takes the first.
-    #[tactic(auto, using(crate::proofs::Reversed::taken, crate::proofs::Reversed::none_left))]
+    #[tactic(auto, using(kernel_syntax::proofs::Reversed::taken, kernel_syntax::proofs::Reversed::none_left))]
     pub fn take(&mut self) -> Option<Symbol>
         ensures some { IfSome result (λ s. self.old ≡ s ∷ self.new) }
         ensures none { IfNone result ((self.old ≡ []) × (self.new ≡ [])) }

@@ -1,0 +1,58 @@
+//! Lists of positions that stand one behind the other.
+
+ghost use Rattle.std.specs.Prelude.{◌≡◌, ◌<◌, [], ◌∷◌, ◌++◌, length, slice_index_or, OnOk};
+
+use std::alloc::{AllocError, Global};
+use std::marker::Model;
+
+/// Lists of positions, which contracts see as a list of lists. They stand in one vector, so that a list takes no memory of its
+/// own.
+#[derive(Drop)]
+pub struct PositionLists {
+    positions: Vec<u32>,
+    /// Where each list begins and ends.
+    spans: Vec<(usize, usize)>,
+}
+
+impl Model for PositionLists {
+    ghost use Rattle.std.specs.Prelude.{List, ℕ};
+    ghost use Rattle.tree_node.specs.Each.{Each};
+    ghost use Rattle.kernel_syntax.specs.PositionLists.{lists_of, IsWithin};
+
+    ghost Value = { List (List ℕ) };
+
+    ghost view = { λ s. lists_of s.positions.items s.spans.items };
+
+    ghost invariant = { λ s. Each (IsWithin s.positions.items) s.spans.items };
+}
+
+impl PositionLists {
+    /// None.
+    pub fn new(alloc: Global) -> PositionLists
+        ensures { result ≡ [] }
+    {
+        PositionLists {
+            positions: Vec::new(alloc),
+            spans: Vec::new(alloc),
+        }
+    }
+
+    /// One list more.
+    pub fn push(&mut self, list: &[u32]) -> Result<(), AllocError>
+        ensures { OnOk result (self.new ≡ self.old ++ list.now ∷ []) }
+    {
+        let start = self.positions.len();
+        self.positions.extend_from_slice(list)?;
+        self.spans.push((start, self.positions.len()))?;
+        Ok(())
+    }
+
+    /// A list by its number, from 0.
+    pub fn get(&self, at: usize) -> &[u32]
+        requires { at < length self.now }
+        ensures { result.now ≡ slice_index_or self.now at [] }
+    {
+        let (start, end) = self.spans[at];
+        &self.positions[start..end]
+    }
+}

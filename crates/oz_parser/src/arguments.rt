@@ -1,0 +1,85 @@
+//! The arguments of calls.
+
+ghost use Rattle.std.specs.Prelude.{◌≡◌, ◌<◌, ◌≤◌, ◌^◌, [], length, IfOk};
+ghost use Rattle.oz_grammar.specs.Scoping.{arity_of};
+ghost use Rattle.oz_grammar.specs.Faults.{argument_fault};
+ghost use Rattle.oz_grammar.specs.Reading.{arguments_at, wanted_at};
+ghost use Rattle.oz_phrases.specs.Gives.{Gives};
+
+use oz_grammar::{BuiltIn, FaultKind, Symbol, What};
+use oz_phrases::{Read, Scope, close, count_fault, fault, place_of, refused, used};
+use std::alloc::Global;
+use tree_node::Text;
+
+/// What is wrong with one argument more than so many.
+fn argument_fault(scope: &Scope, count: usize, name: &Text) -> Option<FaultKind>
+    ensures { result ≡ argument_fault scope.now count name.now }
+{
+    match count_fault(count) {
+        Some(kind) => Some(kind),
+        None => match scope.position(name.as_slice()) {
+            Some(_) => None,
+            None => Some(FaultKind::Unbound),
+        },
+    }
+}
+
+/// The positions of the arguments of a call.
+pub fn arguments<'t>(alloc: Global, scope: &Scope, symbols: &'t [Symbol]) -> Read<'t, Vec<u32>>
+    requires { length scope.now < 2 ^ 32 }
+    ensures read { Gives (λ x. (x.0.items, x.1.now)) result (arguments_at scope.now [] symbols.now) }
+    ensures shorter { IfOk result (λ x. length x.1.now < length symbols.now) }
+{
+    let mut ids = Vec::new(alloc);
+    let mut rest = symbols;
+    loop {
+        match rest {
+            [Symbol::CloseCurly, behind @ ..] => return Ok((ids, behind)),
+            [Symbol::Variable(name), behind @ ..] => match argument_fault(scope, ids.len(), name) {
+                Some(kind) => return Err(fault(kind, rest)),
+                None => {
+                    ids.push(place_of(scope, name.as_slice()))?;
+                    rest = behind;
+                }
+            },
+            _ => return Err(refused(What::VariableOrClose, rest)),
+        }
+    }
+}
+
+/// How many arguments what is built in has.
+pub fn arity_of(built_in: BuiltIn) -> u32
+    ensures value { result ≡ arity_of built_in }
+    ensures small { result ≤ 3 }
+{
+    match built_in {
+        BuiltIn::Browse | BuiltIn::Wait => 1,
+        BuiltIn::NewCell => 2,
+        BuiltIn::Exchange => 3,
+    }
+}
+
+/// The positions of so many arguments, and the bracket behind them.
+#[tactic(auto, using(crate::proofs::Unfold::wanted_none, crate::proofs::Unfold::wanted_some))]
+pub fn wanted<'t>(
+    alloc: Global,
+    scope: &Scope,
+    count: u32,
+    symbols: &'t [Symbol],
+) -> Read<'t, Vec<u32>>
+    requires { length scope.now < 2 ^ 32 }
+    ensures read { Gives (λ x. (x.0.items, x.1.now)) result (wanted_at scope.now count [] symbols.now) }
+    ensures shorter { IfOk result (λ x. length x.1.now < length symbols.now) }
+{
+    let mut ids = Vec::new(alloc);
+    let mut rest = symbols;
+    let mut missing = count;
+    while missing > 0 {
+        let (position, behind) = used(What::Variable, scope, rest)?;
+        ids.push(position)?;
+        rest = behind;
+        missing -= 1;
+    }
+    let behind = close(rest)?;
+    Ok((ids, behind))
+}

@@ -1,0 +1,22 @@
+-- How the private functions go through what is spelled between quotes.
+use Rattle.std.specs.Prelude.{ℕ, List, [], ◌∷◌, ◌++◌, Bool, true, false, ◌==◌, if◌then◌else◌}
+
+-- what an escape of this byte stands for
+abbrev pub meaning_of : ℕ → ℕ
+meaning_of b = if b == 110 then 10 else b
+
+-- what a byte between quotes adds, behind a \ that escapes or not
+abbrev pub meant : Bool → ℕ → List ℕ
+meant true b = meaning_of b ∷ []
+meant false b = if b == 92 then [] else b ∷ []
+
+-- the byte is such a \
+abbrev pub escapes : Bool → ℕ → Bool
+escapes true b = false
+escapes false b = b == 92
+
+-- each escape as what it stands for, behind a \ that escapes or not
+abbrev pub unescaped_from : Bool → List ℕ → List ℕ
+unescaped_from true [] = 92 ∷ []
+unescaped_from false [] = []
+unescaped_from escaping (b ∷ bs) = meant escaping b ++ unescaped_from (escapes escaping b) bs

@@ -1,0 +1,14 @@
+-- What a reader's answer says.
+use Rattle.std.specs.Prelude.{◌≡◌, Result, Ok, Err}
+use Rattle.oz_grammar.specs.declared.fault.Fault.{Fault}
+use Rattle.oz_phrases.specs.declared.stop.Stop.{Stop}
+use Rattle.oz_phrases.specs.declared.stop.Stop.TheVariants as stops
+
+abbrev pub Fails : {Y : Type 0} → Stop → Result Y Fault → Type 0
+Fails stops.Memory read = Unit {0}
+Fails (stops.Fault f) read = read ≡ Err f
+
+-- what a function returned, seen by view, is what reading gives, unless memory ran out
+abbrev pub Gives : {X Y : Type 0} → (X → Y) → Result X Stop → Result Y Fault → Type 0
+Gives view (Ok x) read = read ≡ Ok (view x)
+Gives view (Err e) read = Fails e read

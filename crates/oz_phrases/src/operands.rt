@@ -1,0 +1,78 @@
+//! Identifiers that are used, what a selection selects by, the places of threads, and the name in `catch`.
+
+ghost use Rattle.std.specs.Prelude.{◌≡◌, ◌+◌, ◌<◌, ◌^◌, length, IfOk};
+ghost use Rattle.oz_grammar.specs.Reading.{used_at, selection_at, site_at, caught_at};
+ghost use Rattle.oz_phrases.specs.Gives.{Gives};
+
+use crate::scope::Scope;
+use crate::stop::{Read, Stop, fault, refused};
+use kernel_syntax::Selector;
+use oz_grammar::{FaultKind, Symbol, What};
+use tree_node::{Feature, Text};
+
+/// The position of the used variable at the front.
+pub fn used<'t>(what: What, scope: &Scope, symbols: &'t [Symbol]) -> Read<'t, u32>
+    requires { length scope.now < 2 ^ 32 }
+    ensures read { Gives (λ x. (x.0, x.1.now)) result (used_at what scope.now symbols.now) }
+    ensures shorter { IfOk result (λ x. length x.1.now + 1 ≡ length symbols.now) }
+{
+    match symbols {
+        [Symbol::Variable(name), rest @ ..] => match scope.position(name.as_slice()) {
+            Some(position) => Ok((position as u32, rest)),
+            None => Err(fault(FaultKind::Unbound, symbols)),
+        },
+        _ => Err(refused(what, symbols)),
+    }
+}
+
+/// What a selection selects by.
+pub fn selection<'t>(scope: &Scope, symbols: &'t [Symbol]) -> Read<'t, Selector>
+    requires { length scope.now < 2 ^ 32 }
+    ensures read { Gives (λ x. (x.0, x.1.now)) result (selection_at scope.now symbols.now) }
+    ensures shorter { IfOk result (λ x. length x.1.now + 1 ≡ length symbols.now) }
+{
+    match symbols {
+        [Symbol::Variable(name), rest @ ..] => match scope.position(name.as_slice()) {
+            Some(position) => Ok((Selector::Var(position as u32), rest)),
+            None => Err(fault(FaultKind::Unbound, symbols)),
+        },
+        [Symbol::Atom(text), rest @ ..] => {
+            let feature = Feature::Atom(text.copy()?);
+            Ok((Selector::Feature(feature), rest))
+        }
+        [Symbol::Integer(Some(value)), rest @ ..] => {
+            Ok((Selector::Feature(Feature::Int(*value)), rest))
+        }
+        [Symbol::Integer(None), ..] => Err(fault(FaultKind::Number, symbols)),
+        _ => Err(refused(What::VariableOrFeature, symbols)),
+    }
+}
+
+/// The place of a thread.
+pub fn site(symbols: &[Symbol]) -> Result<(i64, &[Symbol]), Stop>
+    ensures read { Gives (λ x. (x.0, x.1.now)) result (site_at symbols.now) }
+    ensures shorter { IfOk result (λ x. length x.1.now + 1 ≡ length symbols.now) }
+{
+    match symbols {
+        [Symbol::Integer(Some(value)), rest @ ..] => {
+            if *value < 1 {
+                Err(fault(FaultKind::Site, symbols))
+            } else {
+                Ok((*value, rest))
+            }
+        }
+        [Symbol::Integer(None), ..] => Err(fault(FaultKind::Number, symbols)),
+        _ => Err(refused(What::Integer, symbols)),
+    }
+}
+
+/// The name that `catch` declares.
+pub fn caught(symbols: &[Symbol]) -> Result<(Text, &[Symbol]), Stop>
+    ensures read { Gives (λ x. (x.0, x.1.now)) result (caught_at symbols.now) }
+    ensures shorter { IfOk result (λ x. length x.1.now + 1 ≡ length symbols.now) }
+{
+    match symbols {
+        [Symbol::Variable(name), rest @ ..] => Ok((name.copy()?, rest)),
+        _ => Err(refused(What::Variable, symbols)),
+    }
+}

@@ -1,0 +1,199 @@
+//! Identifiers and the declarations around them.
+
+ghost use Rattle.std.specs.Prelude.{◌≡◌, ◌<◌, ◌≤◌, ◌^◌, ◌+◌, ◌-◌, ◌++◌, ◌∷◌, ℕ, List, [], take, length, if◌then◌else◌, Some, IsSome, IfSome, OnOk, OnErr};
+ghost use Rattle.std.specs.Str.{bytes_eq};
+ghost use Rattle.oz_grammar.specs.Scoping.{position_of, declaration_of, built_in_of, built_in_at};
+ghost use Rattle.oz_phrases.specs.Scoped.{place_named};
+
+use indexmap::IndexMap;
+use oz_grammar::BuiltIn;
+use std::alloc::{AllocError, Global};
+use std::marker::Model;
+use tree_node::Text;
+
+/// The names declared around a place, from the outside inwards, hidden ones too. Contracts see the list of the names.
+/// A name is found by its spelling, however many there are.
+#[derive(Drop)]
+pub struct Scope {
+    alloc: Global,
+    /// Each name, with the position of the declaration that it hides.
+    declared: Vec<(Text, Option<usize>)>,
+    /// The position of each name, none of one that is declared no more.
+    places: IndexMap<Vec<u8>, Option<usize>>,
+}
+
+impl Model for Scope {
+    ghost use Rattle.std.specs.Prelude.{List, ℕ};
+
+    ghost Value = { List (List ℕ) };
+
+    ghost use Rattle.oz_phrases.specs.Scoped.{names_of, IsIndexed};
+
+    ghost view = { λ s. names_of s.declared.items };
+
+    ghost invariant = { λ s. IsIndexed s.declared.items s.places.entries };
+}
+
+fn place_named(places: &IndexMap<Vec<u8>, Option<usize>>, name: &[u8]) -> Option<usize>
+    ensures { result ≡ place_named places.now.entries name.now }
+{
+    match places.get(name) {
+        Some(place) => *place,
+        None => None,
+    }
+}
+
+/// Keeps a name with a place.
+fn insert(
+    alloc: Global,
+    places: &mut IndexMap<Vec<u8>, Option<usize>>,
+    name: &[u8],
+    place: usize,
+) -> Result<(), AllocError>
+    ensures ok { OnOk result ((x : List ℕ) → place_named places.new.entries x ≡ (if bytes_eq x name.now then Some place else place_named places.old.entries x)) }
+    ensures err { OnErr result (places.new.entries ≡ places.old.entries) }
+{
+    let key = Vec::from_slice(alloc, name)?;
+    places.insert(key, Some(place))?;
+    Ok(())
+}
+
+/// Gives a name a place. A name that was declared before is kept already, and takes no memory.
+fn put(
+    alloc: Global,
+    places: &mut IndexMap<Vec<u8>, Option<usize>>,
+    name: &[u8],
+    place: usize,
+) -> Result<(), AllocError>
+    ensures ok { OnOk result ((x : List ℕ) → place_named places.new.entries x ≡ (if bytes_eq x name.now then Some place else place_named places.old.entries x)) }
+    ensures err { OnErr result (places.new.entries ≡ places.old.entries) }
+{
+    if let Some(held) = places.get_mut(name) {
+        *held = Some(place);
+        return Ok(());
+    }
+    insert(alloc, places, name, place)
+}
+
+/// Gives a name that has a place the one that it had before.
+fn put_back(places: &mut IndexMap<Vec<u8>, Option<usize>>, name: &[u8], place: Option<usize>)
+    requires { IsSome (place_named places.old.entries name.now) }
+    ensures { (x : List ℕ) → place_named places.new.entries x ≡ (if bytes_eq x name.now then place else place_named places.old.entries x) }
+{
+    if let Some(held) = places.get_mut(name) {
+        *held = place;
+    }
+}
+
+impl Scope {
+    /// No declarations.
+    pub fn new(alloc: Global) -> Scope
+        ensures { result ≡ [] }
+    {
+        Scope {
+            alloc,
+            declared: Vec::new(alloc),
+            places: IndexMap::new(alloc),
+        }
+    }
+
+    /// How many declarations there are.
+    pub fn len(&self) -> usize
+        ensures { result ≡ length self.now }
+    {
+        self.declared.len()
+    }
+
+    /// The number of declarations around the innermost one of a name.
+    pub fn position(&self, name: &[u8]) -> Option<usize>
+        ensures value { result ≡ position_of self.now name.now }
+        ensures within { IfSome result (λ p. p < length self.now) }
+    {
+        place_named(&self.places, name)
+    }
+
+    /// One declaration more, within those before.
+    fn declare(&mut self, name: &Text) -> Result<(), AllocError>
+        ensures ok { OnOk result (self.new ≡ self.old ++ name.now ∷ []) }
+        ensures err { OnErr result (self.new ≡ self.old) }
+    {
+        let hidden = place_named(&self.places, name.as_slice());
+        let place = self.declared.len();
+        self.declared.push((name.copy()?, hidden))?;
+        match put(self.alloc, &mut self.places, name.as_slice(), place) {
+            Ok(()) => Ok(()),
+            Err(_) => {
+                self.declared.pop();
+                Err(AllocError)
+            }
+        }
+    }
+
+    /// More declarations, each within those before.
+    pub fn declare_all(&mut self, names: &[Text]) -> Result<(), AllocError>
+        ensures ok { OnOk result (self.new ≡ self.old ++ names.now) }
+        ensures few { length self.new ≤ length self.old + length names.now }
+    {
+        for name in names {
+            self.declare(name)?;
+        }
+        Ok(())
+    }
+
+    /// Takes the innermost declaration away.
+    fn leave(&mut self)
+        ensures { self.new ≡ take (length self.old - 1) self.old }
+    {
+        if let Some((name, hidden)) = self.declared.pop() {
+            put_back(&mut self.places, name.as_slice(), hidden);
+        }
+    }
+
+    /// Only the first of the declarations.
+    pub fn truncate(&mut self, outer: usize)
+        ensures { self.new ≡ take outer self.old }
+    {
+        'declarations: while self.len() > outer {
+            self.leave();
+        }
+    }
+}
+
+fn built_in_of(name: &[u8]) -> Option<BuiltIn>
+    ensures { result ≡ built_in_of name.now }
+{
+    if name == b"Browse".as_slice() {
+        Some(BuiltIn::Browse)
+    } else if name == b"Wait".as_slice() {
+        Some(BuiltIn::Wait)
+    } else if name == b"NewCell".as_slice() {
+        Some(BuiltIn::NewCell)
+    } else if name == b"Exchange".as_slice() {
+        Some(BuiltIn::Exchange)
+    } else {
+        None
+    }
+}
+
+/// What a call of this name calls, where it is built in: where nothing declares the name.
+#[tactic(auto, unfolding(oz_grammar::specs::Scoping::built_in_at))]
+pub fn built_in_at(scope: &Scope, name: &[u8]) -> Option<BuiltIn>
+    ensures { result ≡ built_in_at scope.now name.now }
+{
+    if scope.position(name).is_some() {
+        None
+    } else {
+        built_in_of(name)
+    }
+}
+
+/// The position of an identifier, 0 of one that nothing declares.
+pub fn place_of(scope: &Scope, name: &[u8]) -> u32
+    requires { length scope.now < 2 ^ 32 }
+    ensures { result ≡ declaration_of scope.now name.now }
+{
+    match scope.position(name) {
+        Some(position) => position as u32,
+        None => 0,
+    }
+}
