@@ -4,4 +4,3 @@ pub mod Posts
 pub mod Quiet
 pub mod Turns
 pub mod Hands
-pub mod Spelling

@@ -19,15 +19,11 @@ use Rattle.message_book.specs.Book.{BookState, IsUntaken, IsUntakenSpelling, IsS
 use Rattle.wire_form.specs.Format.{message, spelling, Spells}
 use Rattle.tree_node.specs.Each.{Each}
 use Rattle.message_book.specs.Inboxes.{HoldsTravelling, AllHoldTravelling, IsConsistent, place, spelling_of, messages_at, number_of, hand_of, inbox_at}
-use Rattle.message_book.proofs.Travels.{messages_ascend, HasNumber, after_low, map_append}
+use Rattle.message_book.proofs.Travels.{messages_ascend, HasNumber, after_low}
 use Rattle.site_message.specs.Rows.{Ascends}
 use Rattle.message_book.proofs.Inboxes.{inbox_set_here, inbox_set_other, inbox_related}
-
--- what holds of each is so at a place
-each_at : {X : Type 0} (P : X → Type 0) (xs : List X) (k : ℕ) (x : X) → Each P xs → slice_get xs k ≡ Some x → P x
-each_at P [] k x h e = cc
-each_at P (y ∷ ys) zero x h e = let same : y ≡ x = cc in subst P same h.0
-each_at P (y ∷ ys) (suc k) x h e = each_at P ys k x h.1 e
+use Rattle.tree_node.proofs.EachLemmas.{each_at_place}
+use Rattle.std.proofs.lemmas.List.{map-append}
 
 -- a list and membership
 pub has_number : (k : ℕ) (xs : List (ℕ × List ℕ)) → Contains (map number_of xs) k → HasNumber k xs
@@ -91,7 +87,7 @@ pub take_inbox : (n : ℕ) (j : List Turn) (i : ℕ) (old new : InboxState) (o :
 take_inbox n j i old new None t b = subst (HoldsTravelling n j i) (sym t.1) b
 take_inbox n j i old new (Some x) t b = record {
   in_hand = b.in_hand ++ x ∷ [];
-  hand = t.1 ∙ (ap (λ l. l ++ x.0 ∷ []) b.hand ∙ sym (map_append number_of b.in_hand (x ∷ [])));
+  hand = t.1 ∙ (ap (λ l. l ++ x.0 ∷ []) b.hand ∙ sym (map-append number_of b.in_hand (x ∷ [])));
   messages = append_assoc b.in_hand (x ∷ []) new.waiting ∙ (ap (λ l. b.in_hand ++ l) (sym t.0) ∙ b.messages);
   idle = t.2 ∙ b.idle;
 }
@@ -151,7 +147,7 @@ module _ (l : Limits) (j : List Turn) (sent : ℕ) (bs : List InboxState) (r : O
             let has = has_number x.0 b.in_hand (subst (λ h. Contains h x.0) b.hand held) in
             let apart = after_low 0 x.0 b.in_hand (x ∷ rest) (subst (Ascends 0) (sym all) (messages_ascend l.sites j p)) has in
             apart.0 refl,
-        (each_at (λ (m : Sent). message.Has m.msg) (sent_of j) x.0 s k.spelled t.1.0, sym t.2),
+        (each_at_place (λ (m : Sent). message.Has m.msg) (sent_of j) x.0 s k.spelled t.1.0, sym t.2),
       )
 
   pub none_untaken : (inbox_at bs p).waiting ≡ [] → (n : ℕ) (m : Msg) → IsTravelling j n (record { to = p; msg = m }) → Contains (inbox_at bs p).hand n

@@ -9,6 +9,7 @@ use Rattle.site_message.specs.Rows.{Ascends}
 use Rattle.site_message.proofs.TravelLemmas.{travelling_grows, travelling_ascends, ascends_filter}
 use Rattle.wire_form.specs.Format.{spelling}
 use Rattle.message_book.specs.Inboxes.{place, spelling_of, messages_at, new_messages, letter_of}
+use Rattle.std.proofs.lemmas.List.{map-append}
 
 -- filters change their order
 swap_step : {X : Type 0} (a b : X → Bool) (x : X) (xs : List X) (s t : Bool) → a x ≡ s → b x ≡ t → filter a (filter b xs) ≡ filter b (filter a xs) → filter a (filter b (x ∷ xs)) ≡ filter b (filter a (x ∷ xs))
@@ -29,10 +30,6 @@ map_step f a b x xs false p q rest = rw (p, q) rest
 pub map_filter : {X Y : Type 0} (f : X → Y) (a : X → Bool) (b : Y → Bool) → ((x : X) → a x ≡ b (f x)) → (xs : List X) → map f (filter a xs) ≡ filter b (map f xs)
 map_filter f a b same [] = refl
 map_filter f a b same (x ∷ xs) = map_step f a b x xs (a x) refl (sym (same x)) (map_filter f a b same xs)
-
-pub map_append : {X Y : Type 0} (f : X → Y) (xs ys : List X) → map f (xs ++ ys) ≡ map f xs ++ map f ys
-map_append f [] ys = refl
-map_append f (x ∷ xs) ys = ap (λ l. f x ∷ l) (map_append f xs ys)
 
 -- the new messages of a place
 new_step : (n i k : ℕ) (s : Sent) (ss : List Sent) (t : Bool) → eqb (place n s.to) i ≡ t
@@ -56,7 +53,7 @@ messages_step n j e i w =
     let len = length (sent_of j) in
     ap (λ l. map spelling_of (filter q l)) (travelling_grows j e w)
     ∙ (ap (map spelling_of) (filter-append q (filter d (travelling j)) (enumerate_from len e.sent))
-    ∙ (map_append spelling_of (filter q (filter d (travelling j))) (filter q (enumerate_from len e.sent))
+    ∙ (map-append spelling_of (filter q (filter d (travelling j))) (filter q (enumerate_from len e.sent))
     ∙ (λ t. (ap (map spelling_of) (filters_swap q d (travelling j)) ∙ map_filter spelling_of d (λ (p : ℕ × List ℕ). not (is_number e.delivered p.0)) (λ p. refl) (filter q (travelling j))) t ++ new_are n i len e.sent t)))
 
 -- the numbers of an inbox ascend

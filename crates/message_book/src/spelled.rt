@@ -52,7 +52,7 @@ impl Spelled {
 }
 
 // The spellings of the messages, each behind the site that it goes to.
-#[tactic(auto, using(crate::proofs::Spelling::each_here, crate::proofs::Spelling::each_more))]
+#[tactic(auto, using(wire_form::proofs::WriteLaws::each_get, tree_node::proofs::EachLemmas::each_take_more))]
 fn spell_all(alloc: Global, sent: &[Sent]) -> Result<Vec<(u32, Bytes)>, AllocError>
     requires { Each (λ (s : ASent). FitsWire s.msg) sent.now }
     ensures { IfOk result (λ ls. (ls.items ≡ map letter_of sent.now) × AllOfFormat sent.now) }

@@ -23,3 +23,4 @@ pub mod NodesWell
 pub mod ShownNames
 pub mod AloneLemmas
 pub mod TakenLemmas
+pub mod BirthLemmas

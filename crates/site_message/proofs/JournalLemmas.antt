@@ -1,7 +1,7 @@
 -- What the definitions of journals say.
 use Rattle.std.proofs.Common.{arith, ◌≡◌, ◌∙◌, ℕ, zero, suc, ◌+◌, ◌<◌, ◌≤◌, List, [], ◌∷◌, ◌++◌, refl, sym, ap, subst, ◌⊎◌, inl, inr, Bool, true, false, cond}
 use Rattle.std.proofs.Common.{rules}
-use Rattle.std.proofs.lemmas.Bool.{cases_lt, or_parts}
+use Rattle.std.proofs.lemmas.Bool.{cases_lt, or_parts, not-true}
 use Rattle.std.specs.Prelude.{◌↔◌, ◌&&◌, ◌||◌, ◌==◌, IsTrue, Option, Some, None, Contains, not, slice_get}
 use Rattle.std.specs.List.{filter, enumerate_from}
 use Rattle.tree_node.proofs.ClassLemmas.{Contains-head, Contains-tail, Contains-cons_cases}
@@ -63,10 +63,6 @@ at_number {X} n (y ∷ ys) m x at = go (λ k. at_number (n + 1) ys m x k) (Conta
         (0, omega arith, ap Some same)
     go rest (inr k) = let h = rest k in let e : m ≡ n + 1 + h.0 = h.1 in (suc h.0, omega arith, h.2)
 
-is_not : (b : Bool) → not b ≡ true → b ≡ false
-is_not true e = cc
-is_not false e = refl
-
 pub travelling_tells : TravellingTells
 travelling_tells j k m = (there, back)
   where
@@ -76,7 +72,7 @@ travelling_tells j k m = (there, back)
         let place = at_number 0 (sent_of j) k m h.0 in
         let found : k ≡ 0 + place.0 = place.1 in
         let e : k ≡ place.0 = omega arith in
-        (rw e place.2, is_not (was_delivered j k) h.1)
+        (rw e place.2, not-true (was_delivered j k) h.1)
 
     back : IsTravelling j k m → Contains (travelling j) (k, m)
     back h = kept (λ (p : ℕ × Sent). not (was_delivered j p.0)) (enumerate_from 0 (sent_of j)) (k, m) (numbered 0 (sent_of j) k k m (omega arith) h.0) (ap not h.1)

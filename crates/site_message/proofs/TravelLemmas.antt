@@ -12,9 +12,10 @@ use Rattle.site_message.specs.Rows.{Ascends, TravellingGrows, TravellingAscends,
 use Rattle.site_message.specs.Story.{own}
 use Rattle.site_message.proofs.JournalLemmas.{travelling_tells}
 use Rattle.tree_node.proofs.OrderLemmas.{none}
-use Rattle.std.proofs.lemmas.Bool.{or_cases}
+use Rattle.std.proofs.lemmas.Bool.{or_cases, false_from_ne_true}
+use Rattle.std.proofs.lemmas.Option.{slice_get_within}
 
-enumerate-append : {X : Type 0} (n : ℕ) (xs ys : List X) → enumerate_from n (xs ++ ys) ≡ enumerate_from n xs ++ enumerate_from (n + length xs) ys
+pub enumerate-append : {X : Type 0} (n : ℕ) (xs ys : List X) → enumerate_from n (xs ++ ys) ≡ enumerate_from n xs ++ enumerate_from (n + length xs) ys
 enumerate-append n [] ys = ap (λ k. enumerate_from k ys) (omega arith)
 enumerate-append n (x ∷ xs) ys = ap (λ l. (n, x) ∷ l) (enumerate-append (n + 1) xs ys ∙ ap (λ k. enumerate_from (n + 1) xs ++ enumerate_from k ys) (omega arith))
 
@@ -31,17 +32,12 @@ filter_twice : {X : Type 0} (a b : X → Bool) (xs : List X) → filter (λ x. n
 filter_twice a b [] = refl
 filter_twice a b (x ∷ xs) = filter_step a b x xs (a x) (b x) refl refl (filter_twice a b xs)
 
-get_inside : {X : Type 0} (xs : List X) (k : ℕ) (x : X) → slice_get xs k ≡ Some x → k < length xs
-get_inside [] k x e = absurd (cc)
-get_inside (y ∷ ys) zero x e = omega arith
-get_inside (y ∷ ys) (suc k) x e = let h = get_inside ys k x e in omega arith
-
 this_number : (o : Option ℕ) (k : ℕ) → is_number o k ≡ true → o ≡ Some k
 this_number None k e = absurd (cc)
 this_number (Some n) k e = ap Some (eqb-true n k e)
 
 delivered_inside : (j : List Turn) (e : Turn) → Wired (e ∷ j) → (k : ℕ) → is_number e.delivered k ≡ true → k < length (sent_of j)
-delivered_inside j e w k h = let t = w.1 k (this_number e.delivered k h) in get_inside (sent_of j) k t.0 t.1.0
+delivered_inside j e w k h = let t = w.1 k (this_number e.delivered k h) in slice_get_within (sent_of j) k t.0 t.1.0
 
 delivered_below : (j : List Turn) → Wired j → (k : ℕ) → was_delivered j k ≡ true → k < length (sent_of j)
 delivered_below [] w k d = absurd (cc)
@@ -52,16 +48,11 @@ delivered_below (e ∷ j) w k d =
     (λ (h : was_delivered j k ≡ true). let b = delivered_below j w.0 k h in omega arith)
     (or_cases (is_number e.delivered k) (was_delivered j k) d)
 
--- a test that cannot be true is false
-is_false : (b : Bool) → (b ≡ true → ⊥) → b ≡ false
-is_false true h = absurd (h refl)
-is_false false h = refl
-
 -- a new message was not delivered
 new_undelivered : (j : List Turn) (e : Turn) → Wired (e ∷ j) → (k : ℕ) → length (sent_of j) ≤ k → was_delivered (e ∷ j) k ≡ false
 new_undelivered j e w k above =
-    let now = is_false (is_number e.delivered k) (λ h. let b = delivered_inside j e w k h in omega arith) in
-    let before = is_false (was_delivered j k) (λ h. let b = delivered_below j w.0 k h in omega arith) in
+    let now = false_from_ne_true (is_number e.delivered k) (λ h. let b = delivered_inside j e w k h in omega arith) in
+    let before = false_from_ne_true (was_delivered j k) (λ h. let b = delivered_below j w.0 k h in omega arith) in
     rw (now, before) refl
 
 abbrev undelivered : List Turn → ℕ × Sent → Bool

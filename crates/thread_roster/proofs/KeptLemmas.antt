@@ -10,8 +10,8 @@ use Rattle.tree_node.proofs.ClassLemmas.{same_name_decides, same_name_refl, Cont
 use Rattle.thread_roster.specs.declared.mode.Mode.{Mode}
 use Rattle.thread_roster.specs.declared.mode.Mode.TheVariants as mode
 use Rattle.thread_roster.specs.declared.slot.Held.{Held}
-use Rattle.thread_roster.specs.Keys as keys
-use Rattle.thread_roster.specs.Keys.{keys_among}
+use Rattle.waiting_keys.specs.Keys as keys
+use Rattle.waiting_keys.specs.Keys.{keys_among}
 use Rattle.thread_roster.specs.Kept.{IsKept}
 use Rattle.thread_roster.specs.Slots.{Slot, Lacks, Holds, IsOnlyAt, IsPlaced, ArePlaced, place_in, changed, StandsAt, AreInside, rouse, rouse_all, total, one, weight, waiting, entry, threads_in, IsLeft, IsRest, IsNext, with_value_in, value_there}
 use Rattle.thread_roster.specs.Threads.{Threads, wake, wake_all, set_mode, set_value, AllWait, IsRunnable}
@@ -20,7 +20,8 @@ use Rattle.tree_node.specs.State.{equal_thread}
 use Rattle.thread_roster.proofs.NameLemmas.{is_same, is_other}
 use Rattle.thread_roster.proofs.SlotLemmas.{placed_set, placed_end, placed_born, total_set, total_end, total_born, only_inside, only_at, held_at, lacking, found, placed_there, has_place, mode_put, value_put, thread_ended, thread_born, living_le}
 use Rattle.thread_roster.proofs.RouseLemmas.{mode_in, roused_all, living_roused, threads_woken}
-use Rattle.tree_node.proofs.EachLemmas.{each_append}
+use Rattle.tree_node.proofs.EachLemmas.{each_append, each_take}
+use Rattle.std.proofs.lemmas.List.{length_push}
 
 abbrev pub Waiting : Type 0
 Waiting = List (VarName × List ℕ)
@@ -41,11 +42,6 @@ kept_none {V} slots places queue waiting_keys a b c d = rw (a, b, c, d) (empty)
       alive = refl;
       waiters = refl;
     }
-
-each_take : {X : Type 0} (P : X → Type 0) (n : ℕ) (xs : List X) → Each P xs → Each P (take n xs)
-each_take P zero xs h = tt
-each_take P (suc n) [] h = tt
-each_take P (suc n) (x ∷ xs) h = (h.0, each_take P n xs h.1)
 
 -- slots in the queue besides change nothing
 pub kept_more : {V : Type 0} (slots : List (Slot V)) (places : Places) (queue more : List ℕ) (waiting_keys : Waiting) (a b : ℕ) → IsKept slots places queue waiting_keys a b → AreInside slots more → IsKept slots places (queue ++ more) waiting_keys a b
@@ -331,13 +327,9 @@ stands_more {V} (o ∷ slots) w (suc j) m h = go (stands_more slots w j m h)
     go (inl s) = inl (ap suc s.0, s.1)
     go (inr s) = inr s
 
-more_length : {X : Type 0} (xs : List X) (x : X) → length (xs ++ x ∷ []) ≡ suc (length xs)
-more_length [] x = refl
-more_length (y ∷ xs) x = ap suc (more_length xs x)
-
 inside_more : {X : Type 0} (xs : List X) (x : X) (js : List ℕ) → AreInside xs js → AreInside (xs ++ x ∷ []) js
 inside_more xs x [] h = tt
-inside_more xs x (j ∷ js) h = let more = more_length xs x in let below = h.0 in (omega (arith, more, below), inside_more xs x js h.1)
+inside_more xs x (j ∷ js) h = let more = length_push xs x in let below = h.0 in (omega (arith, more, below), inside_more xs x js h.1)
 
 pub kept_born : {V : Type 0} (slots now : List (Slot V)) (places more : Places) (queue longer : List ℕ) (waiting_keys : Waiting) (a b c : ℕ) (n : ThreadName) (w : Held V) → IsKept slots places queue waiting_keys a b → place_in places n ≡ None →
     w.name ≡ n → w.mode ≡ mode.Runs → now ≡ slots ++ Some w ∷ [] → ((k : ThreadName) → place_in more k ≡ changed (place_in places) n (Some (length slots)) k) → longer ≡ queue ++ length slots ∷ [] → c ≡ a + 1 → IsKept now more longer waiting_keys c b
@@ -346,7 +338,7 @@ kept_born {V} slots now places more queue longer waiting_keys a b c n w h none i
       placed = placed_born n slots (place_in places) (place_in more) w h.placed none (g n ∙ rw (is_same n n refl) refl) (λ k differs. g k ∙ rw (is_other n k differs) refl) is;
       queued = λ j s. goes j (stands_more slots w j mode.Runs s);
       parked = λ j x s. waits j x (stands_more slots w j (mode.Waits x) s);
-      inside = each_append _ queue (length slots ∷ []) (inside_more slots (Some w) queue h.inside) (let more = more_length slots (Some w) in omega (arith, more), tt);
+      inside = each_append _ queue (length slots ∷ []) (inside_more slots (Some w) queue h.inside) (let more = length_push slots (Some w) in omega (arith, more), tt);
       keys_inside = λ x. inside_more slots (Some w) (keys_among waiting_keys x) (h.keys_inside x);
       alive = let all = h.alive in let further = total_born one slots w in omega (arith, all, further, counted);
       waiters = let all = h.waiters in let further = total_born waiting slots w in let zero_weight : weight w.mode ≡ 0 = rw runs refl in omega (arith, all, further, zero_weight);
@@ -465,7 +457,7 @@ pub ended_born : {V : Type 0} (slots now : List (Slot V)) (h : Held V) → now �
 ended_born {V} slots now h f = ap (λ (l : List (Slot V)). ended_in l) f ∙ same
   where
     same : ended_in (slots ++ Some h ∷ []) ≡ ended_in slots
-    same = let long = more_length slots (Some h) in let sum = total_born one slots h in let most = living_le slots in omega (arith, long, sum, most)
+    same = let long = length_push slots (Some h) in let sum = total_born one slots h in let most = living_le slots in omega (arith, long, sum, most)
 
 pub born_view : {V : Type 0} (slots now : List (Slot V)) (h : Held V) → now ≡ slots ++ Some h ∷ [] → threads_in now ≡ entry h ∷ threads_in slots
 born_view {V} slots now h f = ap (λ (l : List (Slot V)). threads_in l) f ∙ thread_born slots h

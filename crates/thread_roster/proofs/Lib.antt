@@ -1,4 +1,3 @@
-pub mod WaitLemmas
 pub mod NameLemmas
 pub mod SlotLemmas
 pub mod RouseLemmas

@@ -54,10 +54,6 @@ one_here x n e = rw (is_same x.0 n e) refl
 pub one_other : {W : Type 0} (x : ThreadName × W) (n : ThreadName) → x.0 ≢ n → Unnamed (x ∷ []) n
 one_other x n h = rw (is_other x.0 n h) refl
 
-pub append_nil : {W : Type 0} (xs : List W) → xs ++ [] ≡ xs
-append_nil [] = refl
-append_nil {W} (x ∷ xs) = ap (λ (l : List W). x ∷ l) (append_nil xs)
-
 pub without_append : {W : Type 0} (xs ys : List (ThreadName × W)) (n : ThreadName) → without_key equal_thread (xs ++ ys) n ≡ without_key equal_thread xs n ++ without_key equal_thread ys n
 without_append [] ys n = refl
 without_append {W} (x ∷ xs) ys n = go (equal_thread x.0 n) (without_append xs ys n)

@@ -157,7 +157,7 @@ none_woken {V} x ((n, (v, mode.Runs)) ∷ ts) e = ap (λ (l : List (Entry V)). (
 none_woken x ((n, (v, mode.Waits y)) ∷ ts) e = cc
 none_woken x ((n, (v, mode.WaitsFor c)) ∷ ts) e = cc
 
-waiting_at_most : {V : Type 0} (ts : List (Entry V)) → waiting_of ts ≤ length ts
+pub waiting_at_most : {V : Type 0} (ts : List (Entry V)) → waiting_of ts ≤ length ts
 waiting_at_most [] = omega arith
 waiting_at_most {V} ((n, (v, mode.Runs)) ∷ ts) = let rest = waiting_at_most ts in omega (arith, rest)
 waiting_at_most {V} ((n, (v, mode.Waits y)) ∷ ts) = let rest = waiting_at_most ts in omega (arith, rest)

@@ -10,7 +10,8 @@ use Rattle.thread_roster.specs.declared.mode.Mode.{Mode}
 use Rattle.thread_roster.specs.declared.slot.Held.{Held}
 use Rattle.thread_roster.specs.Threads.{Entry, set_value, set_mode, is_waiting}
 use Rattle.thread_roster.specs.Slots.{Slot, entry, threads_in, Lacks, Holds, IsOnlyAt, IsPlaced, ArePlaced, total, one, weight, waiting}
-use Rattle.thread_roster.proofs.NameLemmas.{is_same, is_other, name_cases, value_right, value_left, one_here, one_other, append_nil, without_append, without_none, set_both, both_left, both_right, set_value_both, set_mode_both}
+use Rattle.thread_roster.proofs.NameLemmas.{is_same, is_other, name_cases, value_right, value_left, one_here, one_other, without_append, without_none, set_both, both_left, both_right, set_value_both, set_mode_both}
+use Rattle.std.proofs.lemmas.List.{append-nil}
 
 -- what an index gives
 pub at_index : {X : Type 0} (xs : List X) (i : ℕ) (x : X) → i < length xs → x ≡ get_or xs i x → slice_get xs i ≡ Some x
@@ -109,7 +110,7 @@ thread_ended n [] i l = absurd l
 thread_ended n (None ∷ slots) zero l = absurd l.0
 thread_ended {V} n (Some h ∷ slots) zero l =
     let gone : without_key equal_thread (entry h ∷ []) n ≡ [] = rw (is_same h.name n l.0) refl in
-    sym (without_append (threads_in slots) (entry h ∷ []) n ∙ (ap (λ (xs : List (Entry V)). without_key equal_thread (threads_in slots) n ++ xs) gone ∙ (append_nil (without_key equal_thread (threads_in slots) n) ∙ without_none (threads_in slots) n (lacking n slots l.1))))
+    sym (without_append (threads_in slots) (entry h ∷ []) n ∙ (ap (λ (xs : List (Entry V)). without_key equal_thread (threads_in slots) n ++ xs) gone ∙ (append-nil (without_key equal_thread (threads_in slots) n) ∙ without_none (threads_in slots) n (lacking n slots l.1))))
 thread_ended n (None ∷ slots) (suc i) l = thread_ended n slots i l.1
 thread_ended {V} n (Some h ∷ slots) (suc i) l =
     let stays : without_key equal_thread (entry h ∷ []) n ≡ entry h ∷ [] = rw (is_other h.name n l.0) refl in

@@ -169,3 +169,35 @@ living_same {V} (t ∷ ts) n k = go (equal_thread t.0 n) (living_same ts n k)
     go : (b : Bool) → length (set_mode ts n k) ≡ length ts → length (cond b ((n, (t.1.0, k)) ∷ ts) (t ∷ set_mode ts n k)) ≡ suc (length ts)
     go true ih = refl
     go false ih = ap suc ih
+
+-- ---- one value after another
+
+pub set_same : {V : Type 0} (ts : List (Entry V)) (n : ThreadName) (v : V) (m : Mode) → value_of equal_thread ts n ≡ Some (v, m) → set_value ts n v ≡ ts
+set_same [] n v m h = refl
+set_same {V} (t ∷ ts) n v m h = go (equal_thread t.0 n) refl h (λ k. set_same ts n v m k)
+  where
+    go : (b : Bool) → equal_thread t.0 n ≡ b → cond b (Some t.1) (value_of equal_thread ts n) ≡ Some (v, m) → (value_of equal_thread ts n ≡ Some (v, m) → set_value ts n v ≡ ts) →
+        cond b ((n, (v, t.1.1)) ∷ ts) (t ∷ set_value ts n v) ≡ t ∷ ts
+    go true q k ih =
+        let same : t.1 ≡ (v, m) = cc in
+        let named : t.0 ≡ n = (same_thread_decides t.0 n).0 q in
+        ap (λ (e : Entry V). e ∷ ts) (ap (λ (x : ThreadName). (x, (v, t.1.1))) (sym named) ∙ ap (λ (w : V). (t.0, (w, t.1.1))) (sym (ap (λ (u : V × Mode). u.0) same)))
+    go false q k ih = ap (λ (l : List (Entry V)). t ∷ l) (ih k)
+
+pub set_set : {V : Type 0} (ts : List (Entry V)) (n : ThreadName) (a b : V) → set_value (set_value ts n a) n b ≡ set_value ts n b
+set_set [] n a b = refl
+set_set {V} (t ∷ ts) n a b = go (equal_thread t.0 n) refl (set_set ts n a b)
+  where
+    go : (r : Bool) → equal_thread t.0 n ≡ r → set_value (set_value ts n a) n b ≡ set_value ts n b →
+        set_value (cond r ((n, (a, t.1.1)) ∷ ts) (t ∷ set_value ts n a)) n b ≡ cond r ((n, (b, t.1.1)) ∷ ts) (t ∷ set_value ts n b)
+    go true q ih = rw ((same_thread_decides n n).1 refl) refl
+    go false q ih = rw q (ap (λ (l : List (Entry V)). t ∷ l) ih)
+
+pub end_set : {V : Type 0} (ts : List (Entry V)) (n : ThreadName) (a : V) → without_key equal_thread (set_value ts n a) n ≡ without_key equal_thread ts n
+end_set [] n a = refl
+end_set {V} (t ∷ ts) n a = go (equal_thread t.0 n) refl (end_set ts n a)
+  where
+    go : (r : Bool) → equal_thread t.0 n ≡ r → without_key equal_thread (set_value ts n a) n ≡ without_key equal_thread ts n →
+        without_key equal_thread (cond r ((n, (a, t.1.1)) ∷ ts) (t ∷ set_value ts n a)) n ≡ cond r (without_key equal_thread ts n) (t ∷ without_key equal_thread ts n)
+    go true q ih = rw ((same_thread_decides n n).1 refl) refl
+    go false q ih = rw q (ap (λ (l : List (Entry V)). t ∷ l) ih)

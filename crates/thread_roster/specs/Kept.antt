@@ -3,7 +3,7 @@ use Rattle.std.specs.Prelude.{◌≡◌, ℕ, List, Contains}
 use Rattle.tree_node.specs.declared.names.VarName.{VarName}
 use Rattle.tree_node.specs.declared.names.ThreadName.{ThreadName}
 use Rattle.thread_roster.specs.declared.mode.Mode.TheVariants.{Runs, Waits}
-use Rattle.thread_roster.specs.Keys.{keys_among}
+use Rattle.waiting_keys.specs.Keys.{keys_among}
 use Rattle.thread_roster.specs.Slots.{Slot, ArePlaced, place_in, StandsAt, AreInside, total, one, waiting}
 
 -- each name has one slot, which the table has; each thread that can go on has its slot in the queue, and each that waits

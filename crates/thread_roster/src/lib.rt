@@ -13,7 +13,8 @@
 //! list stays in the order of birth; an ended thread leaves an empty one.
 //!
 //! That turns are taken first come first served, and that a thread that is woken or passed by goes behind the others, no
-//! clause says yet. It stands on `tree_node` (names), `indexmap` and `slab`. Threads that wait for variables are those
+//! clause says yet. It stands on `tree_node` (names), `waiting_keys`
+//! and `indexmap`. Threads that wait for variables are those
 //! of CTM sections 2.4 and 4.1.
 #![tactic(auto)]
 
@@ -23,7 +24,6 @@ mod queue;
 mod roster;
 mod slot;
 mod threads;
-mod waiters;
 
 pub use mode::Mode;
 pub use roster::Roster;

@@ -16,6 +16,14 @@ use tree_node::ThreadName;
 /// The slots of threads by their names.
 pub type Places = IndexMap<ThreadName, usize>;
 
+// The slot of a name by the table. Most look-ups find it before, and do without the room of this one.
+#[inline(never)]
+fn by_table(places: &Places, name: ThreadName) -> Option<usize>
+    ensures { result ≡ place_in places.now.entries name }
+{
+    places.get(&name).copied()
+}
+
 /// The slot of a name, if it has one. The first of the queue is looked at before the table.
 pub fn place_of<V>(
     slots: &Vec<Slot<V>>,
@@ -32,7 +40,7 @@ pub fn place_of<V>(
             return Some(place);
         }
     }
-    places.get(&name).copied()
+    by_table(places, name)
 }
 
 /// The slot of a living thread.

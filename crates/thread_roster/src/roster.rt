@@ -15,11 +15,11 @@ use crate::place::{
 };
 use crate::queue::Queue;
 use crate::slot::{Held, Slot, clear, rouse_all, set_mode, value_in};
-use crate::waiters::Waiters;
 use indexmap::IndexMap;
 use std::alloc::{AllocError, Global};
 use std::marker::Model;
 use tree_node::{CellName, ThreadName, VarName};
+use waiting_keys::Waiters;
 
 /// Threads by name, each with a value and how it stands, which contracts see as a list, the newest first, and the number of
 /// those that have ended. A thread keeps its slot until it has ended. Those that can go on have their slots in a queue; a

@@ -32,9 +32,9 @@ abbrev pub weights : (g f u : ℕ) → List Mail → ℕ
 weights g f u [] = 0
 weights g f u (m ∷ ms) = weight g f u m + weights g f u ms
 
--- so many Gets, Forwards and Puts were sent, with so many exchanges. An outstanding request has a thread that waits; each
--- request that is not outstanding was followed by an exchange; it has one Get, one Forward and one Put at most. The
--- first Put takes the token from the site that made the cell
+-- so many Gets, Forwards and Puts were sent, with so many exchanges: over all sites no more Gets, and no more Forwards, than
+-- exchanges and outstanding requests, and no more Puts than exchanges and one, which took the token from the site that made
+-- the cell. An outstanding request has a thread that waits
 pub record Tally (n : ℕ) (at : ℕ → Holding) (travels : Mail → ℕ) (gets forwards puts exchanges : ℕ) : Type 0 where
   pub wanted : (s : ℕ) → (at s).token ≡ Asked → 1 ≤ (at s).waiting
   pub few_gets : gets ≤ exchanges + total n (λ s. outstanding (at s).token)

@@ -1,6 +1,6 @@
 -- Look-up laws of association lists: what a key has, and what holds of all entries, after a value is put, a key is left
 -- out, or entries stand before.
-use Rattle.std.proofs.Common.{◌≡◌, ◌∙◌, sym, ap, refl, subst, List, [], ◌∷◌, ◌++◌, map, ◌⊎◌, inl, inr, Bool, true, false, cond, Some, None}
+use Rattle.std.proofs.Common.{◌≡◌, ◌∙◌, sym, ap, refl, subst, suc, length, List, [], ◌∷◌, ◌++◌, map, ◌⊎◌, inl, inr, Bool, true, false, cond, Some, None}
 use Rattle.std.specs.Prelude.{Option, IsSome, unwrap_or, ◌≢◌}
 use Rattle.std.specs.Bool.{Decides}
 use Rattle.tree_node.specs.Assoc.{value_of, with_value, without_key, with_optional_value}
@@ -189,3 +189,14 @@ module _ {K V : Type 0} (same : K → K → Bool) (decides : (a b : K) → Decid
   pub AreDistinct-goes_on : (es : List (K × V)) (k : K) (o : Option V) → AreDistinct (keys es) → AreDistinct (keys (with_optional_value same es k o))
   AreDistinct-goes_on es k None h = AreDistinct-without_key es k h
   AreDistinct-goes_on es k (Some v) h = AreDistinct-with_value es k v h
+
+-- ---- lengths
+
+module _ {K V : Type 0} (same : K → K → Bool) where
+  pub length-with_value : (es : List (K × V)) (k : K) (v : V) → length (with_value same es k v) ≡ length es
+  length-with_value [] k v = refl
+  length-with_value (e ∷ es) k v = go (same e.0 k) (length-with_value es k v)
+    where
+      go : (b : Bool) → length (with_value same es k v) ≡ length es → length (cond b ((k, v) ∷ es) (e ∷ with_value same es k v)) ≡ suc (length es)
+      go true ih = refl
+      go false ih = ap suc ih

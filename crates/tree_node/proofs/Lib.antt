@@ -11,3 +11,4 @@ pub mod TextLemmas
 pub mod CaseLemmas
 pub mod NameLemmas
 pub mod FeatureOrder
+pub mod OptionLemmas

@@ -1,14 +1,19 @@
 -- Sound stores: one node a class, and the root as the class's name.
 use Rattle.std.proofs.Common.{arith, ◌≡◌, ◌∙◌, sym, ap, refl, subst, [], ◌∷◌, ◌⊎◌, inl, inr, Bool, true, false, cond, Some, None}
 use Rattle.std.specs.Prelude.{Contains, Option}
+use Rattle.tree_node.specs.declared.names.Name.{Name}
+use Rattle.tree_node.specs.declared.names.Name.TheVariants as name
 use Rattle.tree_node.specs.declared.names.VarName.{VarName}
 use Rattle.tree_node.specs.declared.node.Node.{Node}
 use Rattle.tree_node.specs.declared.node.Term.{Term}
 use Rattle.tree_node.specs.declared.node.Term.TheVariants as term
+use Rattle.tree_node.specs.Each.{Each}
+use Rattle.tree_node.specs.Names.{EachOfEquation}
 use Rattle.tree_node.specs.Store.{Equation, Store, Same, here, onward, IsSound, IsFree, equal_var, joined_root, root_of, node_among, node_of}
 use Rattle.tree_node.specs.Classes.{SoundHasOne, HasOneEach, OneNamesClass, RootNamesClass}
 use Rattle.tree_node.proofs.ClassLemmas.{same_name_decides, Contains-cons_cases, Same-trans, Same-sym, Same-root, to_root, joined_when, joined_end}
 use Rattle.tree_node.proofs.DetLemmas.{found, missing}
+use Rattle.tree_node.proofs.OrderLemmas.{Each-member}
 
 pub same_var : {x y : VarName} → term.Var x ≡ term.Var y → x ≡ y
 same_var e = cc
@@ -146,3 +151,9 @@ root_is_free ((u, term.Var v) ∷ s) x is e =
 
 pub root_names_class : RootNamesClass
 root_names_class s x is e = (to_root s x, root_is_free s x is e)
+
+-- a class has the variables of the equations, and the one that it is the class of
+pub class_names : (P : Name → Type 0) (s : Store) (u x : VarName) → Each (EachOfEquation P) s → Same s u x → P (name.Var u) → P (name.Var x)
+class_names P s u x h here g = g
+class_names P s u x h (onward (inl l) q) g = class_names P s _ x h q (Each-member (EachOfEquation P) s _ h l).1
+class_names P s u x h (onward (inr l) q) g = class_names P s _ x h q (Each-member (EachOfEquation P) s _ h l).0

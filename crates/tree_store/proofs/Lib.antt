@@ -2,7 +2,6 @@ pub mod EntryLemmas
 pub mod FiledLemmas
 pub mod ForestLemmas
 pub mod OrderLemmas
-pub mod WaitLemmas
 pub mod WalkLemmas
 pub mod NameLemmas
 pub mod NeedLemmas

@@ -1,6 +1,5 @@
 pub mod Forest
 pub mod Contents
-pub mod Waiting
 pub mod Names
 pub mod Links
 pub mod Consistent

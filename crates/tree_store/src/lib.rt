@@ -17,9 +17,9 @@
 //! No call walks the store. The equations stand in a list, in order, and each name is filed with the place of its own one:
 //! the names of the site of the first `fresh` in a row by number, as long as their numbers come without gaps, and all
 //! others in a map (`names`). Classes are kept by union and find, so that a root is found in steps that grow with the
-//! logarithm of the class (`links`). `walk` writes shown values, and `waiters` keeps the keys.
+//! logarithm of the class (`links`). `walk` writes shown values. The waiting keys are those of `waiting_keys`.
 //!
-//! It stands on `tree_node`, whose definitions of stores and shown lines it meets, and on `indexmap` and `slab`.
+//! It stands on `tree_node`, whose definitions of stores and shown lines it meets, on `waiting_keys`, and on `indexmap`.
 //! `threads` shows that a store may go to another thread.
 //!
 //! Sources: Van Roy and Haridi, *Concepts, Techniques, and Models of Computer Programming*, sections 2.3 and 2.8.2.
@@ -29,8 +29,7 @@ mod links;
 mod names;
 mod store;
 mod threads;
-mod waiters;
 mod walk;
 
 pub use store::{Root, Shown, Store};
-pub use waiters::Keys;
+pub use waiting_keys::Keys;

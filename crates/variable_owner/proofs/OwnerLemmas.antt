@@ -12,11 +12,6 @@ use Rattle.variable_owner.specs.declared.owners.Registered.{Registered}
 use Rattle.variable_owner.specs.declared.owners.Registered.TheVariants.{Kept, Answer}
 use Rattle.variable_owner.specs.Owners.{Owned, OnAnswer, owner_of, binding_of, with_registered, with_owner, after_register, after_ask}
 
--- what is lent is there
-pub lent_some : {X : Type 0} (o : Option (Bor X)) (l : Option X) → option_copied o ≡ l → is_some o ≡ is_some l
-lent_some None l e = ap is_some e
-lent_some (Some b) l e = ap is_some e
-
 -- a value written in the place of one that is there
 pub written : (es : List Owned) (x : VarName) (o p : Owner) → owner_of es x ≡ Some o → set_value (equal_var x) es p ≡ with_owner es x p
 written [] x o p e = cc
@@ -36,14 +31,6 @@ written_back ((y, r) ∷ es) x o e = go (equal_var x y) refl e (λ k. written_ba
         cond b ((y, o) ∷ es) ((y, r) ∷ with_owner es x o) ≡ (y, r) ∷ es
     go true q k ih = let same : r ≡ o = cc in ap (λ (z : Owner). (y, z) ∷ es) (sym same)
     go false q k ih = ap (λ (zs : List Owned). (y, r) ∷ zs) (ih k)
-
-pub on_ok : {A E P Q : Type 0} (r : Result A E) → (P → Q) → OnOk r P → OnOk r Q
-on_ok (Ok v) f h = f h
-on_ok (Err e) f h = tt
-
-pub on_err : {A E P Q : Type 0} (r : Result A E) → (P → Q) → OnErr r P → OnErr r Q
-on_err (Ok v) f h = tt
-on_err (Err e) f h = f h
 
 -- a registration writes the owner in its place
 pub registered : (s es fs : List Owned) (x : VarName) (k : ℕ) (o p : Owner) → es ≡ s → Some o ≡ owner_of es x → fs ≡ set_value (equal_var x) es p → p ≡ with_registered o k → fs ≡ after_register s x k

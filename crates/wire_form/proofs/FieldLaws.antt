@@ -4,6 +4,7 @@ use Rattle.std.proofs.lemmas.List.{length-append}
 use Rattle.wire_form.specs.declared.fault.WireFault.{WireFault}
 use Rattle.wire_form.specs.Field.{Field, restriction, ◌then◌, part_field}
 use Rattle.wire_form.specs.Reading.{Left, Read, ◌>>=◌, ◌and◌, map_at, filter_at}
+use Rattle.std.proofs.lemmas.Bool.{true_from_ne_false, false_from_ne_true}
 
 abbrev pub IsBytes : List ℕ → Type 0
 IsBytes bytes = (i : ℕ) → get_or bytes i 0 < 256
@@ -57,14 +58,6 @@ passed false d x y e = absurd (no_ok y d e)
 pub not_passed : {A : Type 0} (b : Bool) (d : WireFault) (x : A) (f : WireFault) → cond b (Ok x) (Err d) ≡ Err f → (b ≡ false) × (d ≡ f)
 not_passed true d x f e = absurd (no_err x f e)
 not_passed false d x f e = (refl, err_is d f e)
-
-pub true_or : (b : Bool) → (b ≡ false → ⊥) → b ≡ true
-true_or true h = refl
-true_or false h = absurd (h refl)
-
-pub false_or : (b : Bool) → (b ≡ true → ⊥) → b ≡ false
-false_or true h = absurd (h refl)
-false_or false h = refl
 
 -- what a value was taken from reads as that value
 pub reads : {X : Type 0} (F : Field X) (R : Left → Read X) → IsRead F R → (at : ℕ) (bytes rest : List ℕ) (x : X) → F.Has x → bytes ≡ F.spelling x ++ rest
@@ -166,7 +159,7 @@ tested_read {X = X} F R P test fault passes misses r = record { takes = takes; a
     again at x rest has =
         let l : Left = (at + length (F.spelling x), rest) in
         ap (λ (a : Read X). a >>= λ a. cond (test a.0) (Ok a) (Err (fault at))) (r.again at x rest has.0)
-        ∙ ap (λ (b : Bool). cond b (done (x, l)) (Err (fault at))) (true_or (test x) (λ e. misses x e has.1))
+        ∙ ap (λ (b : Bool). cond b (done (x, l)) (Err (fault at))) (true_from_ne_false (test x) (λ e. misses x e has.1))
 
     fails : (at : ℕ) (bytes : List ℕ) (f : WireFault) → IsBytes bytes → filter_at test fault R (at, bytes) ≡ Err f → (restriction P fault F).Fault at bytes f
     fails at bytes f fits e = elim (bind_err (R (at, bytes)) (λ a. cond (test a.0) (Ok a) (Err (fault at))) f e) [
@@ -182,5 +175,5 @@ tested_read {X = X} F R P test fault passes misses r = record { takes = takes; a
     failing at bytes f (inr h) =
         let l : Left = (at + length (F.spelling h.0), h.1) in
         ap (λ (a : Read X). a >>= λ a. cond (test a.0) (Ok a) (Err (fault at))) (reads F R r at bytes h.1 h.0 h.2 h.3)
-        ∙ ap (λ (b : Bool). cond b (done (h.0, l)) (Err (fault at))) (false_or (test h.0) (λ e. h.4.0 (passes h.0 e)))
+        ∙ ap (λ (b : Bool). cond b (done (h.0, l)) (Err (fault at))) (false_from_ne_true (test h.0) (λ e. h.4.0 (passes h.0 e)))
         ∙ ap (λ (g : WireFault). failed g) (sym h.4.1)

@@ -15,6 +15,7 @@ use Rattle.site_message.specs.Wire.{FitsText, FitsFeature, FitsField, FitsFields
 use Rattle.site_message.proofs.RiseLemmas.{RisesTo, fields_rise, names_rise}
 use Rattle.wire_form.specs.Field.{Field, EachBehind, IsAbove}
 use Rattle.wire_form.specs.Format.{var_name, text, feature, record_field, field_behind, record_fields, variables, term, equation, equation_behind, bundle, message, IsFeatureBelow}
+use Rattle.tree_node.proofs.EnvLemmas.{each_more}
 
 -- ---- items that follow one another
 
@@ -76,10 +77,6 @@ equations_ordered = record { item = λ front x h. (h.0.0, h.1); above = λ front
 
 -- ---- what the format has can be spelled
 
-pub each_weaker : {X : Type 0} (P Q : X → Type 0) → ((x : X) → P x → Q x) → (xs : List X) → Each P xs → Each Q xs
-each_weaker P Q go [] h = tt
-each_weaker P Q go (x ∷ xs) h = (go x h.0, each_weaker P Q go xs h.1)
-
 text_fits : (t : List ℕ) → text.Has t → FitsText t
 text_fits t h = (omega (arith, h.0), h.1)
 
@@ -94,7 +91,7 @@ fields_fit : (fs : List (Feature × VarName)) → record_fields.Has fs → FitsF
 fields_fit fs h =
     let items = each_item (λ x. record_field.Has x) (λ (x : Feature × VarName). x.0) IsFeatureBelow field_behind fields_ordered [] fs h.1 in
     let rises = rises_of (λ x. record_field.Has x) (λ (x : Feature × VarName). x.0) IsFeatureBelow field_behind fields_ordered fs h.1 in
-    (h.0.1.0, h.0.1.1, each_weaker (λ x. record_field.Has x) FitsField (λ x k. (feature_fits x.0 k.0, var_fits x.1 k.1)) fs items, (fields_rise fs).1 rises)
+    (h.0.1.0, h.0.1.1, each_more (λ x. record_field.Has x) FitsField fs (λ x k. (feature_fits x.0 k.0, var_fits x.1 k.1)) items, (fields_rise fs).1 rises)
 
 each_var : (front xs : List VarName) → EachBehind (λ f. var_name) front xs → Each FitsVar xs
 each_var front [] h = tt
@@ -115,7 +112,7 @@ bundle_fits : (es : List Equation) → bundle.Has es → FitsBundle es
 bundle_fits es h =
     let items = each_item (λ e. equation.Has e) (λ (e : Equation). e.0) IsBelow equation_behind equations_ordered [] es h.1 in
     let rises = rises_of (λ e. equation.Has e) (λ (e : Equation). e.0) IsBelow equation_behind equations_ordered es h.1 in
-    (h.0.1.1, each_weaker (λ e. equation.Has e) FitsEquation (λ e k. (var_fits e.0 k.0, term_fits e.1 k.1)) es items, (names_rise es).1 rises)
+    (h.0.1.1, each_more (λ e. equation.Has e) FitsEquation es (λ e k. (var_fits e.0 k.0, term_fits e.1 k.1)) items, (names_rise es).1 rises)
 
 pub message_fits : (m : Msg) → message.Has m → FitsWire m
 message_fits (messages.Spawn t c vars es) h = (h.0.0.1, vars_fit vars h.1.1.0, bundle_fits es h.1.1.1)

@@ -16,8 +16,9 @@ use Rattle.wire_form.specs.Field.{EachBehind}
 use Rattle.wire_form.specs.Format.{site, name, var_name, text, feature, record_field, field_behind, variables, term, equation, equation_behind, bundle, message, IsFeatureBelow}
 use Rattle.wire_form.specs.Numbers.{HoldsVar, HoldsFeature, HoldsField, HoldsTerm, HoldsEquation, HoldsBundle, HoldsNumbers}
 use Rattle.wire_form.specs.Laws.{FormatIsWhatFits}
-use Rattle.wire_form.proofs.FitsLaws.{each_item, each_weaker, fields_ordered, equations_ordered, message_fits}
+use Rattle.wire_form.proofs.FitsLaws.{each_item, fields_ordered, equations_ordered, message_fits}
 use Rattle.wire_form.proofs.WriteLaws.{fields_have, variables_have, bundle_has}
+use Rattle.tree_node.proofs.EnvLemmas.{each_more}
 
 each_both : {X : Type 0} (P Q R : X → Type 0) → ((x : X) → P x → Q x → R x) → (xs : List X) → Each P xs → Each Q xs → Each R xs
 each_both P Q R go [] h k = tt
@@ -39,14 +40,14 @@ term_holds (terms.Node (nodes.Int z)) h = h
 term_holds (terms.Node (nodes.Atom t)) h = tt
 term_holds (terms.Node (nodes.Rec label fields)) h =
     let items = each_item (λ x. record_field.Has x) (λ (x : Feature × VarName). x.0) IsFeatureBelow field_behind fields_ordered [] fields h.1.1 in
-    each_weaker (λ x. record_field.Has x) HoldsField (λ x k. (feature_holds x.0 k.0, k.1.1)) fields items
+    each_more (λ x. record_field.Has x) HoldsField fields (λ x k. (feature_holds x.0 k.0, k.1.1)) items
 term_holds (terms.Node (nodes.Proc p c n vars)) h = (h.0.1, h.1.0, each_var_holds [] vars h.1.1.1.1)
 term_holds (terms.Node (nodes.Cell c)) h = h.1
 
 bundle_holds : (es : List Equation) → bundle.Has es → HoldsBundle es
 bundle_holds es h =
     let items = each_item (λ e. equation.Has e) (λ (e : Equation). e.0) IsBelow equation_behind equations_ordered [] es h.1 in
-    each_weaker (λ e. equation.Has e) HoldsEquation (λ e k. (k.0.1, term_holds e.1 k.1)) es items
+    each_more (λ e. equation.Has e) HoldsEquation es (λ e k. (k.0.1, term_holds e.1 k.1)) items
 
 message_holds : (m : Msg) → message.Has m → HoldsNumbers m
 message_holds (messages.Spawn t c vars es) h = (h.0.1, h.1.0, each_var_holds [] vars h.1.1.0.1, bundle_holds es h.1.1.1)

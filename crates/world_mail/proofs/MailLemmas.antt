@@ -7,7 +7,7 @@ use Rattle.std.specs.Ordering.{nat_cmp, is_eq, is_gt}
 use Rattle.std.specs.declared.cmp.Ordering.TheVariants.{Less, Equal, Greater}
 use Rattle.std.specs.Cmp.{nat_eq_equiv}
 use Rattle.std.specs.BTreeMap.{is_at}
-use Rattle.std.proofs.lemmas.List.{map-set, take-map, get_or-map, take_more}
+use Rattle.std.proofs.lemmas.List.{map-set, take-map, get_or-map, take_more, map-append, length-map}
 use Rattle.std.proofs.lemmas.List.Quantifiers.{position-Some}
 use Rattle.std.proofs.lemmas.Map.Entries.{lookup_from_place, place_from_lookup}
 use Rattle.std.proofs.lemmas.Grind.{common_steps}
@@ -19,11 +19,9 @@ use Rattle.std.specs.Bool.{Decides}
 use Rattle.world_mail.specs.declared.travel.Travel.{Travel}
 use Rattle.world_mail.specs.Mail.{IsKept, message_at, has, with_number, without, queue_at, is_for}
 use Rattle.world_mail.specs.Travels.{travel_of, IsNoneFor, IsFirstFor}
+use Rattle.std.proofs.lemmas.Bool.Decides.{Decides-eqb}
 
 -- ---- numbers
-
-nat_decides : (a b : ℕ) → Decides (a == b) (a ≡ b)
-nat_decides a b = search rules
 
 pub same_number : (a b : ℕ) → is_at (nat_cmp a) b ≡ (a == b)
 same_number a b = by (nat_lt a b) (a == b) refl refl
@@ -31,7 +29,7 @@ same_number a b = by (nat_lt a b) (a == b) refl refl
     by : (s t : Bool) → nat_lt a b ≡ s → (a == b) ≡ t → is_eq (cond s Less (cond t Equal Greater)) ≡ t
     by true true p q =
         let low : a < b = search rules in
-        let same : a ≡ b = (nat_decides a b).0 q in
+        let same : a ≡ b = (Decides-eqb a b).0 q in
         absurd (omega arith)
     by true false p q = refl
     by false true p q = refl
@@ -42,7 +40,7 @@ not_above a b e = by (nat_lt a b) (a == b) refl refl e
   where
     by : (s t : Bool) → nat_lt a b ≡ s → (a == b) ≡ t → is_gt (cond s Less (cond t Equal Greater)) ≡ false → a ≤ b
     by true t p q h = let low : a < b = search rules in omega arith
-    by false true p q h = let same : a ≡ b = (nat_decides a b).0 q in omega arith
+    by false true p q h = let same : a ≡ b = (Decides-eqb a b).0 q in omega arith
     by false false p q h = cc
 
 -- ---- queues
@@ -61,16 +59,16 @@ module _ (qs rs : List (List ℕ)) (ms ns : List (ℕ × Sent)) (number : ℕ) (
   queues_with here new now i k inside = by (either_site i)
     where
       at_home : sent.to < length qs → (b : Bool) → cond b true (has (queue_at qs sent.to) k) ≡ is_for sent.to (cond b (Some sent) (message_at ms k))
-      at_home within true = sym ((nat_decides sent.to sent.to).1 refl)
+      at_home within true = sym ((Decides-eqb sent.to sent.to).1 refl)
       at_home within false = old sent.to k within
 
       elsewhere : i ≢ sent.to → (b : Bool) → nat_eq number k ≡ b → has (queue_at qs i) k ≡ is_for i (cond b (Some sent) (message_at ms k))
       elsewhere other true e =
-          let same : number ≡ k = (nat_decides number k).0 e in
+          let same : number ≡ k = (Decides-eqb number k).0 e in
           old i k (omega arith) ∙ ap (is_for i) (ap (message_at ms) (sym same) ∙ new) ∙ no (sent.to == i) refl
         where
           no : (b : Bool) → (sent.to == i) ≡ b → false ≡ b
-          no true q = absurd (other (sym ((nat_decides sent.to i).0 q)))
+          no true q = absurd (other (sym ((Decides-eqb sent.to i).0 q)))
           no false q = refl
       elsewhere other false e = old i k (omega arith)
 
@@ -92,11 +90,11 @@ module _ (qs rs : List (List ℕ)) (ms ns : List (ℕ × Sent)) (number : ℕ) (
 
       elsewhere : i ≢ sent.to → (b : Bool) → nat_eq number k ≡ b → has (queue_at qs i) k ≡ is_for i (cond b None (message_at ms k))
       elsewhere other true e =
-          let same : number ≡ k = (nat_decides number k).0 e in
+          let same : number ≡ k = (Decides-eqb number k).0 e in
           old i k (omega arith) ∙ ap (is_for i) (ap (message_at ms) (sym same) ∙ there) ∙ no (sent.to == i) refl
         where
           no : (b : Bool) → (sent.to == i) ≡ b → b ≡ false
-          no true q = absurd (other (sym ((nat_decides sent.to i).0 q)))
+          no true q = absurd (other (sym ((Decides-eqb sent.to i).0 q)))
           no false q = refl
       elsewhere other false e = old i k (omega arith)
 
@@ -108,20 +106,12 @@ module _ (qs rs : List (List ℕ)) (ms ns : List (ℕ × Sent)) (number : ℕ) (
 
 -- ---- places
 
-pub map_append : {X Y : Type 0} (f : X → Y) (xs ys : List X) → map f (xs ++ ys) ≡ map f xs ++ map f ys
-map_append f [] ys = refl
-map_append f (x ∷ xs) ys = ap (λ l. f x ∷ l) (map_append f xs ys)
-
-length_map : {X Y : Type 0} (f : X → Y) (xs : List X) → length (map f xs) ≡ length xs
-length_map f [] = refl
-length_map f (x ∷ xs) = let e = length_map f xs in omega arith
-
 pub map_swap_remove : {X Y : Type 0} (f : X → Y) (xs : List X) (i : ℕ) (x : X) (y : Y) → i < length xs → map f (swap_remove xs i x) ≡ swap_remove (map f xs) i y
 map_swap_remove {X} {Y} f xs i x y inside =
     let last : length xs - 1 < length xs = omega arith in
     sym (take-map f (length xs - 1) (slice_set xs i (get_or xs (length xs - 1) x)))
     ∙ ap (take (length xs - 1)) (map-set f xs i (get_or xs (length xs - 1) x) ∙ ap (slice_set (map f xs) i) (sym (get_or-map f xs (length xs - 1) x y last)))
-    ∙ ap (λ (n : ℕ). take (n - 1) (slice_set (map f xs) i (get_or (map f xs) (n - 1) y))) (sym (length_map f xs))
+    ∙ ap (λ (n : ℕ). take (n - 1) (slice_set (map f xs) i (get_or (map f xs) (n - 1) y))) (sym (length-map xs f))
 
 contains_at : {X : Type 0} (xs : List X) (x : X) → Contains xs x → (p : ℕ) × (slice_get xs p ≡ Some x)
 contains_at [] x (k, below, is) = absurd (omega arith)
@@ -174,7 +164,7 @@ travels_tell ms once k to = (there, back)
     back : (m : Msg) × (message_at ms k ≡ Some (record { to = to; msg = m })) → Contains (map travel_of ms) (record { number = k; to = to })
     back (m, e) =
         let found = place_from_lookup (nat_eq k) ms (record { to = to; msg = m }) e in
-        let same : k ≡ found.1 = (nat_decides k found.1).0 found.3 in
+        let same : k ≡ found.1 = (Decides-eqb k found.1).0 found.3 in
         let entry : slice_get ms found.0 ≡ Some (k, record { to = to; msg = m }) = subst (λ (x : ℕ). slice_get ms found.0 ≡ Some (x, record { to = to; msg = m })) (sym same) found.2 in
         at_contains (map travel_of ms) _ found.0 (travel_at ms found.0 k (record { to = to; msg = m }) entry)
 
@@ -187,7 +177,7 @@ module _ (ms : List (ℕ × Sent)) (ts : List Travel) (qs : List (List ℕ)) (ke
       let p = contains_at (map travel_of ms) t at in
       let e = entry_at ms t p.0 p.1 in
       let found = found_at ms p.0 t.number e.0 kept.once e.1 in
-      kept.queues site t.number inside ∙ ap (is_for site) found ∙ (nat_decides e.0.to site).1 (e.2 ∙ to)
+      kept.queues site t.number inside ∙ ap (is_for site) found ∙ (Decides-eqb e.0.to site).1 (e.2 ∙ to)
 
   pub none_queued : ((k : ℕ) → has (queue_at qs site) k ≡ false) → IsNoneFor (map travel_of ms) site
   none_queued none t at to = let yes = queued t at to in let no = none t.number in cc
@@ -200,7 +190,7 @@ module _ (ms : List (ℕ × Sent)) (ts : List Travel) (qs : List (List ℕ)) (ke
       by None q = let no : true ≡ false = sym h ∙ kept.queues site number inside ∙ ap (is_for site) q in cc
       by (Some m) q =
           let yes : (m.to == site) ≡ true = sym (ap (is_for site) q) ∙ sym (kept.queues site number inside) ∙ h in
-          (m, q, (nat_decides m.to site).0 yes)
+          (m, q, (Decides-eqb m.to site).0 yes)
 
   pub first_queued : (number : ℕ) → has (queue_at qs site) number ≡ true → ((k : ℕ) → has (queue_at qs site) k ≡ true → number ≤ k) →
       (r : Option ℕ) → r ≡ position (nat_eq number) (keys_of ms) → is_some r ≡ is_some (message_at ms number) → IfSome r (λ i. slice_get (values_of ms) i ≡ message_at ms number) →
@@ -212,7 +202,7 @@ module _ (ms : List (ℕ × Sent)) (ts : List Travel) (qs : List (List ℕ)) (ke
   first_queued number there least (Some place) index found value =
       let m = held number there in
       let key = (position-Some (nat_eq number) (keys_of ms) place 0 (sym index)).1 in
-      let same : number ≡ get_or (keys_of ms) place 0 = (nat_decides number (get_or (keys_of ms) place 0)).0 key in
+      let same : number ≡ get_or (keys_of ms) place 0 = (Decides-eqb number (get_or (keys_of ms) place 0)).0 key in
       let at = entry_of ms place number m.0 (value ∙ m.1) (sym same) in
       (number, subst (λ (x : ℕ). slice_get (map travel_of ms) place ≡ Some (record { number = number; to = x })) m.2 (travel_at ms place number m.0 at), λ t in_list to. least t.number (queued t in_list to))
 
@@ -224,7 +214,7 @@ pub kept_with : (ms ns : List (ℕ × Sent)) (ts us : List Travel) (qs rs : List
     us ≡ ts ++ record { number = number; to = sent.to } ∷ [] → ns ≡ ms ++ (number, sent) ∷ [] → IsDistinct nat_eq (keys_of ns) → ((k : ℕ) → message_at ns k ≡ cond (nat_eq number k) (Some sent) (message_at ms k)) → IsKept ns us rs
 kept_with ms ns ts us qs rs number sent kept new long here others more grown once now = record {
   once = once;
-  travels = more ∙ ap (λ (l : List Travel). l ++ record { number = number; to = sent.to } ∷ []) kept.travels ∙ sym (map_append travel_of ms ((number, sent) ∷ [])) ∙ ap (map travel_of) (sym grown);
+  travels = more ∙ ap (λ (l : List Travel). l ++ record { number = number; to = sent.to } ∷ []) kept.travels ∙ sym (map-append travel_of ms ((number, sent) ∷ [])) ∙ ap (map travel_of) (sym grown);
   queues = queues_with qs rs ms ns number sent kept.queues long others here new now;
 }
 
@@ -272,7 +262,7 @@ pub none_after : (ms : List (ℕ × Sent)) (k number : ℕ) (s : Sent) → numbe
 none_after [] k number s low e = rw (no (nat_eq k number) refl) refl
   where
     no : (b : Bool) → nat_eq k number ≡ b → nat_eq k number ≡ false
-    no true q = let same : k ≡ number = (nat_decides k number).0 q in absurd (omega arith)
+    no true q = let same : k ≡ number = (Decides-eqb k number).0 q in absurd (omega arith)
     no false q = q
 none_after ((n, t) ∷ ms) k number s low e = by (nat_eq k n) e (λ h. none_after ms k number s low h)
   where

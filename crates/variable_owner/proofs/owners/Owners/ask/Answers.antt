@@ -1,8 +1,9 @@
 use Rattle.std.proofs.Common.{◌≡◌, ◌∙◌, sym, true}
 use Rattle.std.specs.Prelude.{is_some}
 use Rattle.variable_owner.specs.Owners.{owner_of, binding_of}
-use Rattle.variable_owner.proofs.OwnerLemmas.{late_same, lent_some}
+use Rattle.variable_owner.proofs.OwnerLemmas.{late_same}
 use Rattle.variable_owner.proofs.owners.Owners.ask.Goals as goal
+use Rattle.tree_node.proofs.OptionLemmas.{lent_some}
 
 pub returns-then-is_some-clause-after : goal.returns-then-is_some-clause-after
 returns-then-is_some-clause-after c =

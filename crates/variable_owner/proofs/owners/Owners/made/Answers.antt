@@ -1,8 +1,8 @@
 use Rattle.std.proofs.Common.{◌≡◌, ◌∙◌, sym, ap}
 use Rattle.std.specs.Prelude.{is_some}
 use Rattle.variable_owner.specs.Owners.{owner_of}
-use Rattle.variable_owner.proofs.OwnerLemmas.{lent_some}
 use Rattle.variable_owner.proofs.owners.Owners.made.Goals as goal
+use Rattle.tree_node.proofs.OptionLemmas.{lent_some}
 
 pub returns : goal.returns
 returns c =

@@ -1,0 +1,17 @@
+//! Keys that wait for variables: the store of a site parks keys here, and a roster of threads the places of its threads.
+//!
+//! Contracts see `Waiters` as variables with the keys that wait for them (`specs/Keys.antt`). `add` puts a key behind the
+//! others of its variable (after want of memory nothing has changed), `look` lends a variable's keys, the first to come
+//! first, and `take` takes them all. Nothing is said of the order of the variables.
+//!
+//! A call costs one look-up. The queues stand by number in a slab; that each variable has a queue of its own is the
+//! invariant (`IsFiled` in `specs/Waiting.antt`).
+//!
+//! It stands on `tree_node` (names, `Seq`), `indexmap` and `slab`. `threads` shows that threads may hold and share it. No
+//! tests of its own.
+#![tactic(auto)]
+
+mod threads;
+mod waiters;
+
+pub use waiters::{Keys, Waiters};

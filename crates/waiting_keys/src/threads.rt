@@ -1,0 +1,10 @@
+//! What may cross from one thread to another, and what threads may share. A type that loses Send or Sync is refused here.
+
+use crate::waiters::Waiters;
+
+fn is_send_and_sync<T: Send + Sync>() {}
+
+// Threads may hold and share these keys.
+fn cross_threads() {
+    is_send_and_sync::<Waiters>();
+}
