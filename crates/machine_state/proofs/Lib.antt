@@ -1,0 +1,12 @@
+pub mod KeyLemmas
+pub mod CellLemmas
+pub mod AnyLemmas
+pub mod EachLemmas
+pub mod MirrorLemmas
+pub mod MirrorAnswers
+pub mod JoinLemmas
+pub mod TieLemmas
+pub mod LinkLemmas
+pub mod SaidLemmas
+pub mod FreshNameLemmas
+pub mod StartLemmas
