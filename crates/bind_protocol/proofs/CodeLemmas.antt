@@ -12,7 +12,7 @@ use Rattle.site_message.specs.declared.message.Msg.{Msg}
 use Rattle.variable_owner.specs.Owners.{owner_of, IsMade}
 use Rattle.variable_owner.specs.declared.owners.Owner.{Owner}
 use Rattle.variable_owner.specs.declared.owners.Owner.TheVariants.{Open, Bound}
-use Rattle.bind_protocol.specs.Records.{Records, Takes, knowledge, owner_knows}
+use Rattle.bind_protocol.specs.Records.{Records, TakesNews, knowledge, owner_knows}
 use Rattle.bind_protocol.specs.Rows.{after_make, after_meet, meet_sends, after_want, want_sends, after_message, message_sends}
 use Rattle.bind_protocol.specs.World.{World, Holds, Grows, IsFront, IsSiteOf, IsMadeIn, records_of, known_at, with_records, with_sent, after_make_at, after_meet_at, after_meeting, after_want_at, takes_message, met_first, after_arrival, after_delivery, field_vars}
 use Rattle.bind_protocol.specs.Lawful.{IsLawful}
@@ -112,8 +112,8 @@ module _ (w0 w : World) (i : ℕ) (b : Records) (e : w0 ≡ w) (l0 : IsLawful w0
   pub lent_knows : (x : VarName) → knowledge b x ≡ known_at w i x
   lent_knows x = ap (λ (c : Records). knowledge c x) lent_is ∙ sym (known_records w i x h)
 
-  pub lent_takes : (m : Msg) → Takes (records_of w i) m → Takes b m
-  lent_takes m t = subst (λ (c : Records). Takes c m) (sym lent_is) t
+  pub lent_takes : (m : Msg) → TakesNews (records_of w i) m → TakesNews b m
+  lent_takes m t = subst (λ (c : Records). TakesNews c m) (sym lent_is) t
 
   owner_none : (o : Option Owner) → owner_knows o ≡ None → o ≡ None
   owner_none None q = refl
@@ -219,7 +219,7 @@ travels_to w0 w place m e l0 at =
     let l : IsLawful w = lawful_of w0 w e l0 in
     goes_to_site w m.to m.msg l (get_contains w.travelling place m at) (letter_of w place l m at)
 
-pub travels_taken : (w0 w : World) (place : ℕ) (m : Sent) (b : Records) → w0 ≡ w → IsLawful w0 → slice_get w.travelling place ≡ Some m → b ≡ slice_index_or w0.binders (m.to - 1) b → Takes b m.msg
+pub travels_taken : (w0 w : World) (place : ℕ) (m : Sent) (b : Records) → w0 ≡ w → IsLawful w0 → slice_get w.travelling place ≡ Some m → b ≡ slice_index_or w0.binders (m.to - 1) b → TakesNews b m.msg
 travels_taken w0 w place m b e l0 at lent =
     let l : IsLawful w = lawful_of w0 w e l0 in
     lent_takes w0 w m.to b e l0 (travels_to w0 w place m e l0 at) lent m.msg (site_takes w m.to m.msg l (get_contains w.travelling place m at) (letter_of w place l m at))
@@ -254,7 +254,7 @@ met_next_field w v i xs k f x h is x_is e =
     let var : x ≡ (get_or xs k f).1 = x_is ∙ ap (λ (g : Feature × VarName). g.1) is in
     rw (e, var, add-one) (sym (ap (λ fs. after_meeting w i (field_vars fs)) (drop-cons xs k f h)))
 
-each_var_of : (P : VarName → Type 0) (xs : List (Feature × VarName)) (k : ℕ) (d : Feature × VarName) → Each P (field_vars xs) → k < length xs → P (get_or xs k d).1
+pub each_var_of : (P : VarName → Type 0) (xs : List (Feature × VarName)) (k : ℕ) (d : Feature × VarName) → Each P (field_vars xs) → k < length xs → P (get_or xs k d).1
 each_var_of P [] k d h below = absurd (omega arith)
 each_var_of P (x ∷ xs) zero d h below = h.0
 each_var_of P (x ∷ xs) (suc k) d h below = each_var_of P xs k d h.1 (omega arith)

@@ -15,7 +15,7 @@ use Rattle.variable_owner.specs.declared.owners.Owner.{Owner}
 use Rattle.variable_owner.specs.declared.owners.Owner.TheVariants.{Open, Bound}
 use Rattle.variable_owner.specs.Owners.{owner_of, IsMade, with_owner}
 use Rattle.variable_owner.proofs.OwnerLemmas.{written_back}
-use Rattle.bind_protocol.specs.Records.{Records, Takes, owner_knows}
+use Rattle.bind_protocol.specs.Records.{Records, Takes, TakesNews, owner_knows}
 use Rattle.bind_protocol.specs.Rows.{register, binding, after_register, register_sends, after_binding}
 use Rattle.bind_protocol.specs.World.{World, IsSiteOf, records_of, known_at, registered_at, with_records, with_sent, after_meeting, takes_message, met_first, after_arrival, after_delivery, is_register, is_binding}
 use Rattle.bind_protocol.specs.Lawful.{Made, IsGood, IsLetter, IsLawful, met_count, known_count, register_count, binding_count, site_count}
@@ -182,7 +182,7 @@ made_owner (Some (Open ks)) e = refl
 made_owner (Some (Bound t)) e = refl
 
 -- the site of a message that travels can take it
-pub site_takes : (w : World) (to : ℕ) (m : Msg) → IsLawful w → Contains w.travelling (record { to = to; msg = m }) → IsLetter (known_at w) (record { to = to; msg = m }) → Takes (records_of w to) m
+pub site_takes : (w : World) (to : ℕ) (m : Msg) → IsLawful w → Contains w.travelling (record { to = to; msg = m }) → IsLetter (known_at w) (record { to = to; msg = m }) → TakesNews (records_of w to) m
 site_takes w to (msg.Register y k) l at fits = subst (λ (j : ℕ). Takes (records_of w j) (msg.Register y k)) (sym fits.0) (
   sym (site_of w y.site l h),
   made_here,

@@ -22,11 +22,10 @@ use Rattle.bind_protocol.specs.Equations.{equations_in, IsTold, IsBound, Equatio
 use Rattle.bind_protocol.proofs.RowCountLemmas.{name_cases}
 use Rattle.bind_protocol.proofs.LearnLemmas.{own_is, meet_case, binding_learns, make_learns, ask_learns, late_learns, registers_is}
 use Rattle.std.proofs.lemmas.Bool.Decides.{Decides-eqb}
+use Rattle.tree_node.proofs.OrderLemmas.{none as nothing}
+use Rattle.bind_protocol.proofs.ToldLemmas.{owner_knowledge}
 
 -- ---- what messages tell
-
-nothing : {X : Type 0} (x : X) → Contains [] x → ⊥
-nothing x h = let low : h.0 < 0 = h.1 in omega arith
 
 none_told : (x : VarName) (t : Term) → IsTold [] x t → ⊥
 none_told x t h = nothing h.0 h.1
@@ -127,9 +126,6 @@ meet_equations b x = go (meet_case b x)
     go (inl (same, none, known)) = rw (same, none) (unchanged b [])
     go (inr (l, new, elsewhere, sends, owners)) = rw sends (learns_equations b (after_meet b x) [] (register x b.site ∷ []) x (Some None) l (λ t h. absurd (not_known (knowledge b x) t new h)) (λ t e. absurd (not_bound t e))
         (λ y t h. absurd (nothing {X = Equation} (y, t) (one_told (register x b.site) y t h))) (one_asked (register x b.site) tt))
-
-owner_knowledge : (b : Records) (x : VarName) → x.site ≡ b.site → knowledge b x ≡ owner_knows (owner_of b.owners x)
-owner_knowledge b x own = rw (own_is b x own) refl
 
 register_equations : (b : Records) (x : VarName) (k : ℕ) → x.site ≡ b.site → KeepsEquations b (after_register b x k) [] (register_sends b x k)
 register_equations b x k own = go (owner_of b.owners x) refl

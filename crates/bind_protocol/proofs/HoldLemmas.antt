@@ -26,6 +26,7 @@ use Rattle.std.proofs.lemmas.Bool.{eqb-true}
 use Rattle.bind_protocol.proofs.RowCountLemmas.{at_most_one}
 use Rattle.bind_protocol.proofs.CountLemmas.{not_own}
 use Rattle.tree_node.proofs.EachLemmas.{each_in}
+use Rattle.bind_protocol.proofs.ToldLemmas.{unknown_is_not_bound}
 
 pub once_holds : (w : World) → IsLawful w → SentOnce w
 once_holds w l i x =
@@ -171,10 +172,6 @@ no_met : (b : Bool) → met_count b None ≡ 0
 no_met true = refl
 no_met false = refl
 
-no_told : (b : Bool) → known_count b None ≡ 0
-no_told true = refl
-no_told false = refl
-
 pub new_lawful : (n : ℕ) → IsLawful (new_world n)
 new_lawful n = record {
   numbered = λ i b e. number i b e;
@@ -185,8 +182,8 @@ new_lawful n = record {
   };
   letters = tt;
   counts = record {
-    one_place = λ i x. rw (new_knows n i x, new_listed n x, no_met (i == x.site), no_told (i == x.site)) refl;
-    heard = λ i x. rw (new_knows n i x, no_told (i == x.site)) refl;
+    one_place = λ i x. rw (new_knows n i x, new_listed n x, no_met (i == x.site), unknown_is_not_bound (i == x.site)) refl;
+    heard = λ i x. rw (new_knows n i x, unknown_is_not_bound (i == x.site)) refl;
     asked = λ i x. rw (new_knows n i x, no_met (i == x.site)) refl;
   };
 }

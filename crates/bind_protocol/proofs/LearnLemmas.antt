@@ -21,7 +21,7 @@ use Rattle.std.proofs.lemmas.Bool.Decides.{Decides-eqb}
 pub own_is : (b : Records) (x : VarName) → x.site ≡ b.site → is_own b x ≡ true
 own_is b x e = (Decides-eqb x.site b.site).1 e
 
-not_own : (b : Records) (x : VarName) → x.site ≢ b.site → is_own b x ≡ false
+pub not_own : (b : Records) (x : VarName) → x.site ≢ b.site → is_own b x ≡ false
 not_own b x e = go (is_own b x) refl
   where
     go : (c : Bool) → is_own b x ≡ c → is_own b x ≡ false
@@ -29,21 +29,21 @@ not_own b x e = go (is_own b x) refl
     go false q = q
 
 -- the owner of a variable that its site knows
-owner_at : (b : Records) (x : VarName) (o : Option Term) → x.site ≡ b.site → knowledge b x ≡ Some o → (r : Owner) × (owner_of b.owners x ≡ Some r) × (owner_knows (Some r) ≡ Some o)
+pub owner_at : (b : Records) (x : VarName) (o : Option Term) → x.site ≡ b.site → knowledge b x ≡ Some o → (r : Owner) × (owner_of b.owners x ≡ Some r) × (owner_knows (Some r) ≡ Some o)
 owner_at b x o own k = go (owner_of b.owners x) refl (subst (λ (c : Bool). cond c (owner_knows (owner_of b.owners x)) (entry_of b.proxies x) ≡ Some o) (own_is b x own) k)
   where
     go : (p : Option Owner) → owner_of b.owners x ≡ p → owner_knows p ≡ Some o → (r : Owner) × (owner_of b.owners x ≡ Some r) × (owner_knows (Some r) ≡ Some o)
     go None e q = cc
     go (Some r) e q = (r, e, q)
 
-open_at : (b : Records) (x : VarName) → x.site ≡ b.site → knowledge b x ≡ Some None → (ks : List ℕ) × (owner_of b.owners x ≡ Some (Open ks))
+pub open_at : (b : Records) (x : VarName) → x.site ≡ b.site → knowledge b x ≡ Some None → (ks : List ℕ) × (owner_of b.owners x ≡ Some (Open ks))
 open_at b x own k = go (owner_at b x None own k)
   where
     go : (r : Owner) × (owner_of b.owners x ≡ Some r) × (owner_knows (Some r) ≡ Some None) → (ks : List ℕ) × (owner_of b.owners x ≡ Some (Open ks))
     go (Open ks, e, q) = (ks, e)
     go (Bound t, e, q) = cc
 
-bound_at : (b : Records) (x : VarName) (t : Term) → x.site ≡ b.site → knowledge b x ≡ Some (Some t) → owner_of b.owners x ≡ Some (Bound t)
+pub bound_at : (b : Records) (x : VarName) (t : Term) → x.site ≡ b.site → knowledge b x ≡ Some (Some t) → owner_of b.owners x ≡ Some (Bound t)
 bound_at b x t own k = go (owner_at b x (Some t) own k)
   where
     go : (r : Owner) × (owner_of b.owners x ≡ Some r) × (owner_knows (Some r) ≡ Some (Some t)) → owner_of b.owners x ≡ Some (Bound t)
@@ -167,7 +167,7 @@ registers_is b x k own = go (owner_of b.owners x) refl
 
 -- ---- what is known stays known
 
-owner_known : (b : Records) (x y : VarName) (o : Owner) → IsKnown b y → IsKnown (record b { owners = with_owner b.owners x o }) y
+pub owner_known : (b : Records) (x y : VarName) (o : Owner) → IsKnown b y → IsKnown (record b { owners = with_owner b.owners x o }) y
 owner_known b x y o h = own (is_own b y) refl
   where
     own : (c : Bool) → is_own b y ≡ c → IsKnown (record b { owners = with_owner b.owners x o }) y
@@ -185,31 +185,31 @@ owner_known b x y o h = own (is_own b y) refl
         go true e = let is : y ≡ x = (same_name_decides y x).0 e in rw (is, in_here b.owners x o) (some o)
         go false e = rw (in_other b.owners x y o (λ (k : y ≡ x). let yes : equal_var y x ≡ true = (same_name_decides y x).1 k in cc)) before
 
-make_known : (b : Records) (x y : VarName) → IsKnown b y → IsKnown (after_make b x) y
+pub make_known : (b : Records) (x y : VarName) → IsKnown b y → IsKnown (after_make b x) y
 make_known b x y h = owner_known b x y (Open []) h
 
-ask_known : (b : Records) (x : VarName) (t : Term) (y : VarName) → IsKnown b y → IsKnown (after_ask b x t) y
+pub ask_known : (b : Records) (x : VarName) (t : Term) (y : VarName) → IsKnown b y → IsKnown (after_ask b x t) y
 ask_known b x t y h = go (owner_of b.owners x) refl
   where
     go : (o : Option Owner) → owner_of b.owners x ≡ o → IsKnown (after_ask b x t) y
     go None e = rw e h
     go (Some r) e = rw e (owner_known b x y (owners.after_bind r t) h)
 
-proxy_known : (b : Records) (y : VarName) (es : List proxies.Proxy) → (IsTrue (is_some (entry_of b.proxies y)) → IsTrue (is_some (entry_of es y))) → IsKnown b y → IsKnown (record b { proxies = es }) y
+pub proxy_known : (b : Records) (y : VarName) (es : List proxies.Proxy) → (IsTrue (is_some (entry_of b.proxies y)) → IsTrue (is_some (entry_of es y))) → IsKnown b y → IsKnown (record b { proxies = es }) y
 proxy_known b y es more h = own (is_own b y) refl
   where
     own : (c : Bool) → is_own b y ≡ c → IsKnown (record b { proxies = es }) y
     own true q = rw q (subst (λ (d : Bool). IsTrue (is_some (cond d (owner_knows (owner_of b.owners y)) (entry_of b.proxies y)))) q h)
     own false q = rw q (more (subst (λ (d : Bool). IsTrue (is_some (cond d (owner_knows (owner_of b.owners y)) (entry_of b.proxies y)))) q h))
 
-binding_known : (b : Records) (x : VarName) (t : Term) (y : VarName) → IsKnown b y → IsKnown (after_binding b x t) y
+pub binding_known : (b : Records) (x : VarName) (t : Term) (y : VarName) → IsKnown b y → IsKnown (after_binding b x t) y
 binding_known b x t y h = proxy_known b y _ (λ k. go k (equal_var y x) refl) h
   where
     go : IsTrue (is_some (entry_of b.proxies y)) → (e : Bool) → equal_var y x ≡ e → IsTrue (is_some (entry_of (proxies.after_bound b.proxies x t) y))
     go k true e = let is : y ≡ x = (same_name_decides y x).0 e in rw (is, in_here b.proxies x (Some t)) refl
     go k false e = rw (in_other b.proxies x y (Some t) (λ (q : y ≡ x). let yes : equal_var y x ≡ true = (same_name_decides y x).1 q in cc)) k
 
-meet_known : (b : Records) (x y : VarName) → IsKnown b y → IsKnown (after_meet b x) y
+pub meet_known : (b : Records) (x y : VarName) → IsKnown b y → IsKnown (after_meet b x) y
 meet_known b x y h = go (meet_case b x)
   where
     go : MeetCase b x → IsKnown (after_meet b x) y

@@ -7,6 +7,7 @@ use Rattle.tree_node.specs.Each.{Each}
 use Rattle.tree_node.proofs.ClassLemmas.{Contains-head, Contains-tail, Contains-cons_cases}
 use Rattle.site_message.proofs.JournalLemmas.{sent_more}
 use Rattle.tree_node.proofs.EachLemmas.{each_append}
+pub use Rattle.tree_node.proofs.EachLemmas.{each_at_place as each_at}
 
 abbrev pub one : Bool → ℕ
 one b = cond b 1 0
@@ -49,11 +50,6 @@ pub each_out : {X : Type 0} (P : X → Type 0) (xs : List X) (i : ℕ) → Each 
 each_out P [] i h = subst (Each P) (sym (out_nil i)) tt
 each_out P (x ∷ xs) zero h = subst (Each P) (sym (out_head x xs)) h.1
 each_out P (x ∷ xs) (suc i) h = (h.0, each_out P xs i h.1)
-
-pub each_at : {X : Type 0} (P : X → Type 0) (xs : List X) (i : ℕ) (m : X) → Each P xs → slice_get xs i ≡ Some m → P m
-each_at P [] i m h e = cc
-each_at P (x ∷ xs) zero m h e = let same : x ≡ m = cc in subst P same h.0
-each_at P (x ∷ xs) (suc i) m h e = each_at P xs i m h.1 e
 
 -- what is counted is there
 abbrev pub Passing : {X : Type 0} → (X → Bool) → List X → Type 0

@@ -9,10 +9,7 @@ use Rattle.bind_protocol.specs.Records.{Records, is_own, knowledge, owner_knows}
 use Rattle.bind_protocol.specs.World.{World, IsSiteOf, records_at, records_of, knowledge_at, known_at, registered_sites, registered_at, with_records}
 use Rattle.bind_protocol.proofs.LookLemmas.{in_here, in_other, owner_here, owner_other, put_here, put_other, site_there}
 use Rattle.bind_protocol.proofs.GrowLemmas.{Changes}
-
-pub append_nil : {X : Type 0} (xs : List X) → xs ++ [] ≡ xs
-append_nil [] = refl
-append_nil (x ∷ xs) = ap (λ ys. x ∷ ys) (append_nil xs)
+pub use Rattle.std.proofs.lemmas.List.{append-nil as append_nil}
 
 same_set : {X : Type 0} (xs : List X) (k : ℕ) (y : X) → slice_get xs k ≡ Some y → slice_set xs k y ≡ xs
 same_set [] k y e = cc

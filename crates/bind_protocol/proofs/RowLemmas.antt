@@ -24,6 +24,7 @@ use Rattle.bind_protocol.proofs.PlaceLemmas.{site_records, known_records, listed
 use Rattle.bind_protocol.proofs.RowCountLemmas.{name_cases}
 use Rattle.tree_node.proofs.EachLemmas.{each_append}
 use Rattle.tree_node.proofs.NameLemmas.{differ}
+use Rattle.bind_protocol.proofs.ToldLemmas.{no_sites}
 
 -- a lawful world in which sites know no less
 pub record Kept (w v : World) : Type 0 where
@@ -53,11 +54,6 @@ own_knows b x e = rw e refl
 
 pub proxy_knows : (b : Records) (x : VarName) → is_own b x ≡ false → knowledge b x ≡ entry_of b.proxies x
 proxy_knows b x e = rw e refl
-
-no_sites : (o : Option Owner) → owner_knows o ≡ None → sites_of o ≡ []
-no_sites None e = refl
-no_sites (Some (Open ks)) e = cc
-no_sites (Some (Bound t)) e = cc
 
 -- an own variable is made
 pub make_row : (w : World) (y : VarName) → IsLawful w → IsSiteOf w y.site → known_at w y.site y ≡ None →

@@ -54,10 +54,10 @@ owners_told b es hand out none l = record {
   heard = λ x other some. absurd (omega (arith, none x, some));
 }
 
-owner_knowledge : (b : Records) (x : VarName) → x.site ≡ b.site → knowledge b x ≡ owner_knows (owner_of b.owners x)
+pub owner_knowledge : (b : Records) (x : VarName) → x.site ≡ b.site → knowledge b x ≡ owner_knows (owner_of b.owners x)
 owner_knowledge b x own = rw (own_is b x own) refl
 
-no_sites : (o : Option Owner) → owner_knows o ≡ None → sites_of o ≡ []
+pub no_sites : (o : Option Owner) → owner_knows o ≡ None → sites_of o ≡ []
 no_sites None e = refl
 no_sites (Some (Open ks)) e = cc
 no_sites (Some (Bound t)) e = cc
@@ -97,7 +97,7 @@ ask_told b x t own = go (owner_of b.owners x) refl
     go None q = rw q (owners_told b b.owners [] [] (λ y. refl) (λ i y mine. omega arith))
     go (Some o) q = rw q (owners_told b (with_owner b.owners x (after_bind o t)) [] (out (sites_of (Some o))) (λ y. refl) (λ i y mine. listed o q i y (name_cases y x)))
 
-unknown : (o : Option (Option Term)) → o ≡ None → IsTrue (is_some o) → ⊥
+pub unknown : (o : Option (Option Term)) → o ≡ None → IsTrue (is_some o) → ⊥
 unknown None e h = cc
 unknown (Some o) e h = cc
 
@@ -146,7 +146,7 @@ open_at_most_one false None = omega arith
 open_at_most_one false (Some None) = omega arith
 open_at_most_one false (Some (Some t)) = omega arith
 
-unknown_is_not_bound : (b : Bool) → known_count b None ≡ 0
+pub unknown_is_not_bound : (b : Bool) → known_count b None ≡ 0
 unknown_is_not_bound true = refl
 unknown_is_not_bound false = refl
 

@@ -6,7 +6,7 @@ use Rattle.site_message.specs.declared.message.Msg.{Msg}
 use Rattle.site_message.specs.declared.message.Msg.TheVariants as msg
 use Rattle.bind_protocol.specs.declared.binder.Knows.{Knows}
 use Rattle.bind_protocol.specs.declared.binder.Knows.TheVariants.{Nothing, Unbound, Bound as Known}
-use Rattle.proxy_table.specs.Proxies.{Proxy, entry_of}
+use Rattle.proxy_table.specs.Proxies.{Proxy, IsMet, entry_of}
 use Rattle.variable_owner.specs.declared.owners.Owner.{Owner}
 use Rattle.variable_owner.specs.declared.owners.Owner.TheVariants.{Open, Bound}
 use Rattle.variable_owner.specs.Owners.{Owned, owner_of, sites_of, IsMade}
@@ -39,12 +39,17 @@ abbrev pub IsKnown : Records → VarName → Type 0
 IsKnown b x = IsTrue (is_some (knowledge b x))
 
 -- the site can take the message: a registration for a variable of its own that it made, of a site that is not
--- registered; a request for such a variable; a binding of a name that it met and does not know bound
+-- registered; a request for such a variable; a binding of a name that it met
 abbrev pub Takes : Records → Msg → Type 0
 Takes b (msg.Register x k) = (x.site ≡ b.site) × IsMade b.owners x × (Contains (sites_of (owner_of b.owners x)) k → ⊥)
 Takes b (msg.BindReq x thread t bundle) = (x.site ≡ b.site) × IsMade b.owners x
-Takes b (msg.Binding x t bundle) = entry_of b.proxies x ≡ Some None
+Takes b (msg.Binding x t bundle) = IsMet b.proxies x
 Takes b _ = Unit {0}
+
+-- and a binding tells what it did not know: so it is where no message has a bundle
+abbrev pub TakesNews : Records → Msg → Type 0
+TakesNews b (msg.Binding x t bundle) = entry_of b.proxies x ≡ Some None
+TakesNews b m = Takes b m
 
 -- an answer that tells this knowledge
 abbrev pub IsKnowledge : Option (Option Term) → Knows → Type 0

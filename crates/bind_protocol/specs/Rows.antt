@@ -69,6 +69,10 @@ ask_sends b x t = map (λ k. binding x t k) (sites_of (owner_of b.owners x))
 abbrev pub after_binding : Records → VarName → Term → Records
 after_binding b x t = record b { proxies = proxies.after_bound b.proxies x t }
 
+-- A name is met together with its term, which a bundle tells: nothing is sent for it
+abbrev pub after_meet_bound : Records → VarName → Term → Records
+after_meet_bound b x t = if is_own b x then b else after_binding b x t
+
 -- A bind that a thread of the site wants: of an own variable it is made, else a BindReq goes to the owner, and the
 -- site knows no more than before
 abbrev pub after_want : Records → VarName → Term → Records

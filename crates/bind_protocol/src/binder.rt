@@ -1,12 +1,13 @@
 //! The protocol's part at one site.
 
 ghost use Rattle.std.specs.Prelude.{◌≡◌, ◌↔◌, [], ◌++◌, map, Some, None, IsTrue, IsSome, is_some, IfOk, OnOk, OnErr, Contains, option_copied, option_and_then};
-ghost use Rattle.proxy_table.specs.Proxies.{entry_of};
+ghost use Rattle.tree_node.specs.declared.node.Term.{Term as TheTerm};
+ghost use Rattle.proxy_table.specs.Proxies.{IsMet, entry_of, term_of};
 ghost use Rattle.proxy_table.specs.declared.proxies.Met.TheVariants.{New};
 ghost use Rattle.variable_owner.specs.Owners.{IsMade, owner_of, sites_of, binding_of};
 ghost use Rattle.variable_owner.specs.declared.owners.Asked.TheVariants.{Late};
 ghost use Rattle.bind_protocol.specs.Records.{IsKnown, IsKnowledge, Takes, is_own, knowledge};
-ghost use Rattle.bind_protocol.specs.Rows.{binding, after_make, after_meet, meet_sends, after_register, register_sends, after_ask, ask_sends, after_binding, after_want, want_sends};
+ghost use Rattle.bind_protocol.specs.Rows.{binding, after_make, after_meet, meet_sends, after_register, register_sends, after_ask, ask_sends, after_binding, after_meet_bound, after_want, want_sends};
 ghost use Rattle.bind_protocol.specs.declared.binder.Want.TheVariants as want;
 
 use proxy_table::{Met, Proxies};
@@ -164,6 +165,21 @@ impl Binder {
         }
     }
 
+    /// Meets a name together with its term, which a bundle tells. Nobody is asked for it. A name of the site's own is known.
+    pub fn meet_bound(&mut self, var: VarName, term: Term) -> Result<Met, AllocError>
+        requires same { (t : TheTerm) → knowledge self.old var ≡ Some (Some t) → t ≡ term }
+        requires own { var.site ≡ self.old.site → knowledge self.old var ≡ Some (Some term) }
+        ensures new { IfOk result (λ m. (m ≡ New) ↔ (knowledge self.old var ≡ None)) }
+        ensures records { OnOk result (self.new ≡ after_meet_bound self.old var term) }
+        ensures bound { OnOk result (knowledge self.new var ≡ Some (Some term)) }
+        ensures same { OnErr result (self.new ≡ self.old) }
+    {
+        if self.owns(var) {
+            return Ok(Met::Known);
+        }
+        self.proxies.meet_bound(var, term)
+    }
+
     /// A site registers for a variable of this site's own: it is kept while the variable is unbound, and else a
     /// Binding goes to it.
     pub fn on_register(
@@ -215,12 +231,15 @@ impl Binder {
         Ok(self.owners.ask(var, term))
     }
 
-    /// The binding of a name that the site met has come.
+    /// The binding of a name that the site met has come. Nothing changes where a bundle told it before.
     pub fn on_binding(&mut self, var: VarName, term: Term)
-        requires { entry_of self.old.proxies var ≡ Some None }
-        ensures { self.new ≡ after_binding self.old var term }
+        requires { IsMet self.old.proxies var }
+        ensures unbound { entry_of self.old.proxies var ≡ Some None → self.new ≡ after_binding self.old var term }
+        ensures bound { IsSome (term_of self.old.proxies var) → self.new ≡ self.old }
     {
-        self.proxies.bound(var, term);
+        if self.proxies.state(var).is_none() {
+            self.proxies.bound(var, term);
+        }
     }
 
     /// A thread of the site wants to bind a variable that is known and unbound here. A variable of the site's own is
@@ -264,8 +283,7 @@ impl Binder {
                     && !self.owners.registered(*var).contains(asking)
             }
             Msg::BindReq { var, .. } => var.site == self.site && self.owners.made(*var),
-            Msg::Binding { var, .. } => self.proxies.met(*var)
-                && self.proxies.state(*var).is_none(),
+            Msg::Binding { var, .. } => self.proxies.met(*var),
             _ => true,
         }
     }

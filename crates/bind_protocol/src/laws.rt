@@ -3,7 +3,7 @@
 ghost use Rattle.std.specs.Prelude.{◌≡◌, ◌↔◌, ◌<◌, ◌≤◌, [], ◌∷◌, ◌++◌, length, remove, slice_get, Some, None, IfOk, OnOk, OnErr, IsErrOf};
 ghost use Rattle.tree_node.specs.Each.{Each};
 ghost use Rattle.variable_owner.specs.Owners.{IsMade};
-ghost use Rattle.bind_protocol.specs.Records.{IsKnowledge, Takes, knowledge};
+ghost use Rattle.bind_protocol.specs.Records.{IsKnowledge, TakesNews, knowledge};
 ghost use Rattle.bind_protocol.specs.Rows.{after_meet, meet_sends, after_want, want_sends, after_message, message_sends};
 ghost use Rattle.bind_protocol.specs.World.{Holds, Grows, IsFront, IsSiteOf, IsMadeIn, known_at, new_records, new_world, after_make_at, after_meet_at, after_meeting, after_want_at, takes_message, met_first, after_arrival, after_delivery, field_vars, vars_of};
 ghost use Rattle.site_message.specs.declared.outcome.DeliverError.TheVariants.{NotThere};
@@ -154,7 +154,7 @@ fn want_at(
 
 // A site takes a message.
 fn take_at(binder: &mut Binder, travelling: &mut Outbox, msg: Msg) -> Result<(), AllocError>
-    requires { Takes binder.old msg }
+    requires { TakesNews binder.old msg }
     ensures records { OnOk result (binder.new ≡ after_message binder.old msg) }
     ensures sent { OnOk result (travelling.new ≡ travelling.old ++ message_sends binder.old msg) }
     ensures same { OnErr result (binder.new ≡ binder.old) }
@@ -186,7 +186,7 @@ fn come(
     sent: Sent,
 ) -> Result<(), AllocError>
     requires there { slice_get travelling.old place ≡ Some sent }
-    requires taken { Takes binder.old sent.msg }
+    requires taken { TakesNews binder.old sent.msg }
     ensures records { OnOk result (binder.new ≡ after_message binder.old sent.msg) }
     ensures travelling { OnOk result (travelling.new ≡ remove (travelling.old ++ message_sends binder.old sent.msg) place) }
     ensures delivered { OnOk result (delivered.new.items ≡ delivered.old.items ++ sent ∷ []) }

@@ -12,17 +12,7 @@ use Rattle.tree_node.proofs.EachLemmas.{each_append, each_in}
 use Rattle.site_message.specs.Vars.{vars_of}
 use Rattle.site_model.specs.Bundle.{vars_of_terms, option_list, known_terms, reachable_vars, distinct_vars, known_equations, reachable_equations, is_below, insert_ascending, ascending, bundle_from}
 use Rattle.marshal.specs.Marshal.{IsReached, first, onward, IsReachedEquation}
-
-value_there : (s : Store) (x : VarName) (t : Term) → value_of equal_var s x ≡ Some t → Contains s (x, t)
-value_there [] x t e = cc
-value_there ((y, r) ∷ s) x t e = go (equal_var y x) refl e (λ k. value_there s x t k)
-  where
-    go : (b : Bool) → equal_var y x ≡ b → cond b (Some r) (value_of equal_var s x) ≡ Some t → (value_of equal_var s x ≡ Some t → Contains s (x, t)) → Contains ((y, r) ∷ s) (x, t)
-    go true q k ih =
-        let same : y ≡ x = (same_name_decides y x).0 q in
-        let term : r ≡ t = cc in
-        rw (same, term) (Contains-head _ s)
-    go false q k ih = Contains-tail _ _ s (ih k)
+use Rattle.site_model.proofs.BundleLemmas.{value_there}
 
 -- what holds of all that are reached, for the variables in their terms
 module _ (s : Store) (xs : List VarName) where

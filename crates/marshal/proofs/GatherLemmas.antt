@@ -10,12 +10,13 @@ use Rattle.tree_node.specs.Store.{Store, Equation, IsFree, equal_var}
 use Rattle.tree_node.proofs.ClassLemmas.{same_name_decides, Contains-cons_cases, Contains-head, Contains-tail}
 use Rattle.tree_store.specs.Forest.{IsForest}
 use Rattle.site_message.specs.Vars.{vars_of}
+use Rattle.site_message.specs.Wire.{NamesAscend}
 use Rattle.site_model.specs.Bundle.{option_list, distinct_vars, known_equations, reachable_equations, insert_ascending, ascending, bundle_from}
 use Rattle.site_model.specs.Laws.{names_of}
 use Rattle.marshal.specs.Marshal.{equations_among, IsNext}
 use Rattle.marshal.proofs.ImportLemmas.{distinct_append}
 use Rattle.marshal.proofs.BreadthLemmas.{IsFirst, IsWalk, walk_begins, walk_goes_on, walk_ends, known_append}
-use Rattle.site_model.proofs.AscendingLemmas.{ascending_names, ascending_more}
+use Rattle.site_model.proofs.AscendingLemmas.{ascending_names, ascending_more, bundles_are_ordered}
 
 -- ---- the equation of a variable
 
@@ -174,3 +175,7 @@ gathered_enough s xs queue from limit taken h = go h.walk.begins
 
     go : IsFirst es (reachable_equations s xs) → taken ≡ bundle_from limit s xs
     go (gs, e) = h.order ∙ ap ascending (sym (ap (λ (l : List Equation). take limit l) e ∙ take_at es gs limit h.many))
+
+-- their names ascend
+pub gathered_ascends : (s : Store) (xs queue : List VarName) (from count : ℕ) (taken : List Equation) → IsGathered s xs queue from taken count → NamesAscend taken
+gathered_ascends s xs queue from count taken h = subst NamesAscend (sym (gathered_enough s xs queue from count taken h)) (bundles_are_ordered count s xs).1

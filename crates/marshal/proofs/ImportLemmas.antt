@@ -18,6 +18,8 @@ use Rattle.kernel_syntax.proofs.OrderLemmas.{Each-at}
 use Rattle.site_message.specs.Vars.{vars_of}
 use Rattle.site_model.specs.Bundle.{distinct_vars, vars_of_equations}
 use Rattle.marshal.specs.Marshal.{with_equation, with_equations, AreKnown}
+use Rattle.site_model.proofs.AscendingLemmas.{or_other}
+use Rattle.site_model.proofs.BundleLemmas.{equations_append}
 
 -- ---- names, each once
 
@@ -33,15 +35,9 @@ same_seen (x ∷ xs) r s h = go (list_any (equal_var x) r) (list_any (equal_var 
     go false true e f g = cc
     go false false e f g = ap (λ (l : List VarName). x ∷ l) g
 
-or_swap : (a b c : Bool) → (a || (b || c)) ≡ (b || (a || c))
-or_swap true true c = refl
-or_swap true false c = refl
-or_swap false true c = refl
-or_swap false false c = refl
-
 pub seen_moved : (p : VarName → Bool) (x : VarName) (s d : List VarName) → list_any p (x ∷ (s ++ d)) ≡ list_any p (s ++ x ∷ d)
 seen_moved p x [] d = refl
-seen_moved p x (z ∷ s) d = or_swap (p x) (p z) (list_any p (s ++ d)) ∙ ap (λ (b : Bool). p z || b) (seen_moved p x s d)
+seen_moved p x (z ∷ s) d = or_other (p x) (p z) (list_any p (s ++ d)) ∙ ap (λ (b : Bool). p z || b) (seen_moved p x s d)
 
 pub distinct_append : (xs ys seen : List VarName) → distinct_vars seen (xs ++ ys) ≡ distinct_vars seen xs ++ distinct_vars (seen ++ distinct_vars seen xs) ys
 distinct_append [] ys seen = ap (λ (s : List VarName). distinct_vars s ys) (sym (append-nil seen))
@@ -101,10 +97,6 @@ still_known xs s t b c x h k = subst (λ (l : List VarName). Contains l x) (sym 
 pub next_known : (xs : List VarName) (k : ℕ) (d : VarName) (s t u : Held) (b c e : List VarName) → k < length xs → AreKnown (take k xs) s b t c → AreKnown (get_or xs k d ∷ []) t c u e → AreKnown (take (k + 1) xs) s b u e
 next_known xs k d s t u b c e below h g = rw (add-one, take-suc xs k d below) (known_more (take k xs) (get_or xs k d ∷ []) s t u b c e h g)
 
-equations_append : (es fs : List Equation) → vars_of_equations (es ++ fs) ≡ vars_of_equations es ++ vars_of_equations fs
-equations_append [] fs = refl
-equations_append (e ∷ es) fs = ap (λ (l : List VarName). (e.0 ∷ vars_of e.1) ++ l) (equations_append es fs) ∙ sym (append_assoc (e.0 ∷ vars_of e.1) (vars_of_equations es) (vars_of_equations fs))
-
 pub next_equation : (es : List Equation) (k : ℕ) (d : Equation) (s t u : Held) (b c e : List VarName) → k < length es → d ≡ get_or es k d → AreKnown (vars_of_equations (take k es)) s b t c → AreKnown (d.0 ∷ vars_of d.1) t c u e →
     AreKnown (vars_of_equations (take (k + 1) es)) s b u e
 next_equation es k d s t u b c e below at h g =
@@ -147,8 +139,3 @@ with_append s (e ∷ es) fs = with_append (with_equation s e) es fs
 pub next_taken : (es : List Equation) (k : ℕ) (d : Equation) (s t u : Store) → k < length es → d ≡ get_or es k d → t ≡ with_equations s (take k es) → u ≡ with_equation t (d.0, d.1) → u ≡ with_equations s (take (k + 1) es)
 next_taken es k d s t u below at e f =
     rw (add-one, take-suc es k d below, ← at, with_append s (take k es) (d ∷ [])) (f ∙ ap (λ (z : Store). with_equation z (d.0, d.1)) e)
-
-pub lower_at : (es : List Equation) (k : ℕ) (d : Equation) → Each (λ (e : Equation). IsLower e.1 e.0) es → k < length es → d ≡ get_or es k d → IsLower d.1 d.0
-lower_at es k d h below at =
-    let there : IsLower (get_or es k d).1 (get_or es k d).0 = Each-at (λ (e : Equation). IsLower e.1 e.0) es k d h below in
-    subst (λ (e : Equation). IsLower e.1 e.0) (sym at) there

@@ -3,4 +3,3 @@ mod ExportLemmas
 mod BreadthLemmas
 mod PlaceLemmas
 mod GatherLemmas
-mod TakenLemmas

@@ -1,36 +1,90 @@
--- Where an equation is put in among those whose names ascend.
-use Rattle.std.proofs.Common.{rules, ◌≡◌, ◌∙◌, sym, ap, refl, ℕ, ◌+◌, ◌≤◌, ◌<◌, List, [], ◌∷◌, ◌++◌, length, take, drop, get_or, append_assoc, Bool, true, false, cond}
-use Rattle.std.proofs.lemmas.List.{drop_more, take_more, drop_all}
-use Rattle.std.specs.List.{insert}
+-- Where a name stands among equations whose names ascend.
+use Rattle.std.proofs.Common.{rules, arith, ◌≡◌, ◌∙◌, ap, refl, ℕ, zero, suc, ◌≤◌, ◌<◌, List, [], ◌∷◌, length, get_or, Bool, true, false, cond, ◌||◌}
+use Rattle.std.specs.List.{list_any, insert}
+use Rattle.std.specs.List.Sorted.{IsPartitionedBy, IsPartitionPoint}
 use Rattle.tree_node.specs.declared.names.VarName.{VarName}
+use Rattle.tree_node.specs.Each.{Each}
 use Rattle.tree_node.specs.Order.{IsBelow}
-use Rattle.tree_node.specs.Store.{Equation}
+use Rattle.tree_node.specs.Store.{Equation, equal_var}
+use Rattle.tree_node.proofs.NameLemmas.{below_trans}
+use Rattle.kernel_syntax.proofs.OrderLemmas.{Each-at}
+use Rattle.site_message.specs.Wire.{NamesAscend}
 use Rattle.site_model.specs.Bundle.{is_below, insert_ascending}
+use Rattle.site_model.specs.Laws.{names_of}
+use Rattle.site_model.proofs.AscendingLemmas.{below_yes}
 
-below_yes : (a b : VarName) → IsBelow a b → is_below a b ≡ true
-below_yes a b h = search rules
+is_so : (a b : VarName) → IsBelow a b → is_below a b ≡ true
+is_so a b h = search rules
 
-below_no : (a b : VarName) → (IsBelow a b → ⊥) → is_below a b ≡ false
-below_no a b h = search rules
+below_differs : (a b : VarName) → is_below a b ≡ true → equal_var b a ≡ false
+below_differs a b h = search rules
 
--- its place is behind the first ones, which are below it
-pub place_begins : (ds : List Equation) (e : Equation) → insert_ascending e ds ≡ take 0 ds ++ insert_ascending e (drop 0 ds)
-place_begins ds e = refl
+above_differs : (a b c : VarName) → IsBelow a b → is_below a c ≡ false → equal_var c b ≡ false
+above_differs a b c h g = search rules
 
-pub place_goes_on : (ds : List Equation) (e d : Equation) (i : ℕ) → i < length ds → IsBelow (get_or ds i d).0 e.0 → insert_ascending e ds ≡ take i ds ++ insert_ascending e (drop i ds) →
-    insert_ascending e ds ≡ take (i + 1) ds ++ insert_ascending e (drop (i + 1) ds)
-place_goes_on ds e d i at below h =
-    h ∙ (ap (λ (l : List Equation). take i ds ++ insert_ascending e l) (drop_more ds i d at)
-    ∙ (ap (λ (b : Bool). take i ds ++ cond b (get_or ds i d ∷ insert_ascending e (drop (i + 1) ds)) (e ∷ get_or ds i d ∷ drop (i + 1) ds)) (below_yes (get_or ds i d).0 e.0 below)
-    ∙ (sym (append_assoc (take i ds) (get_or ds i d ∷ []) (insert_ascending e (drop (i + 1) ds)))
-    ∙ ap (λ (l : List Equation). l ++ insert_ascending e (drop (i + 1) ds)) (sym (take_more ds i d at)))))
+-- ---- names that ascend
 
-pub place_found : (ds : List Equation) (e d : Equation) (i : ℕ) → i < length ds → (IsBelow (get_or ds i d).0 e.0 → ⊥) → insert_ascending e ds ≡ take i ds ++ insert_ascending e (drop i ds) →
-    insert_ascending e ds ≡ insert ds i e
-place_found ds e d i at above h =
-    h ∙ (ap (λ (l : List Equation). take i ds ++ insert_ascending e l) (drop_more ds i d at)
-    ∙ (ap (λ (b : Bool). take i ds ++ cond b (get_or ds i d ∷ insert_ascending e (drop (i + 1) ds)) (e ∷ get_or ds i d ∷ drop (i + 1) ds)) (below_no (get_or ds i d).0 e.0 above)
-    ∙ ap (λ (l : List Equation). take i ds ++ e ∷ l) (sym (drop_more ds i d at))))
+above_more : (a b : VarName) → IsBelow a b → (es : List Equation) → Each (λ (e : Equation). IsBelow b e.0) es → Each (λ (e : Equation). IsBelow a e.0) es
+above_more a b h [] g = tt
+above_more a b h (e ∷ es) g = (below_trans a b e.0 h g.0, above_more a b h es g.1)
 
-pub place_last : (ds : List Equation) (e : Equation) (i : ℕ) → length ds ≤ i → insert_ascending e ds ≡ take i ds ++ insert_ascending e (drop i ds) → insert_ascending e ds ≡ insert ds i e
-place_last ds e i all h = h ∙ (ap (λ (l : List Equation). take i ds ++ insert_ascending e l) (drop_all i ds all) ∙ ap (λ (l : List Equation). take i ds ++ e ∷ l) (sym (drop_all i ds all)))
+-- the names behind the first are above it, and ascend
+ascend_rest : (e : Equation) (es : List Equation) → NamesAscend (e ∷ es) → Each (λ (d : Equation). IsBelow e.0 d.0) es × NamesAscend es
+ascend_rest e [] h = (tt, tt)
+ascend_rest e (d ∷ es) h = ((h.0, above_more e.0 d.0 h.0 es (ascend_rest d es h.1).0), h.1)
+
+-- so those below a name come first
+pub below_first : (es : List Equation) (x : VarName) → NamesAscend es → IsPartitionedBy (λ (e : Equation). is_below e.0 x) es
+below_first [] x h i j d order inside low = absurd (omega arith)
+below_first (e ∷ es) x h zero zero d order inside low = low
+below_first (e ∷ es) x h zero (suc j) d order inside low =
+    let above : IsBelow e.0 (get_or es j d).0 = Each-at (λ (c : Equation). IsBelow e.0 c.0) es j d (ascend_rest e es h).0 (omega arith) in
+    is_so e.0 x (below_trans e.0 (get_or es j d).0 x above (below_yes (get_or es j d).0 x low))
+below_first (e ∷ es) x h (suc i) zero d order inside low = absurd (omega arith)
+below_first (e ∷ es) x h (suc i) (suc j) d order inside low = below_first es x (ascend_rest e es h).1 i j d (omega arith) (omega arith) low
+
+-- ---- a name among them
+
+-- so many have a name below x, and they come first
+abbrev pub IsPlace : List Equation → VarName → ℕ → Type 0
+IsPlace es x place = IsPartitionPoint (λ (e : Equation). is_below e.0 x ≡ true) (λ (e : Equation). is_below e.0 x ≡ false) es place
+
+place_rest : (e : Equation) (es : List Equation) (x : VarName) (place : ℕ) → IsPlace (e ∷ es) x (suc place) → IsPlace es x place
+place_rest e es x place h = (
+  λ k d low high. h.0 (suc k) d (omega arith) (omega arith),
+  λ k d low high. h.1 (suc k) d (omega arith) (omega arith),
+)
+
+absent : (es : List Equation) (e x : VarName) → Each (λ (d : Equation). IsBelow e d.0) es → is_below e x ≡ false → list_any (equal_var x) (names_of es) ≡ false
+absent [] e x h above = refl
+absent (d ∷ es) e x h above = ap (λ (b : Bool). b || list_any (equal_var x) (names_of es)) (above_differs e d.0 x h.0 above) ∙ absent es e x h.1 above
+
+-- behind all of them it is none of theirs
+pub place_behind : (es : List Equation) (x : VarName) (place : ℕ) → IsPlace es x place → length es ≤ place → list_any (equal_var x) (names_of es) ≡ false
+place_behind [] x place h all = refl
+place_behind (e ∷ es) x zero h all = absurd (omega arith)
+place_behind (e ∷ es) x (suc place) h all =
+    ap (λ (b : Bool). b || list_any (equal_var x) (names_of es)) (below_differs e.0 x (h.0 0 e (omega arith) (omega arith))) ∙ place_behind es x place (place_rest e es x place h) (omega arith)
+
+or_none : (b c : Bool) → c ≡ false → (b || c) ≡ b
+or_none true c e = refl
+or_none false c e = e
+
+-- else it is one of theirs exactly where it stands at its place
+pub place_holds : (es : List Equation) (x : VarName) (place : ℕ) (d : Equation) → NamesAscend es → IsPlace es x place → place < length es → list_any (equal_var x) (names_of es) ≡ equal_var x (get_or es place d).0
+place_holds [] x place d order h inside = absurd (omega arith)
+place_holds (e ∷ es) x zero d order h inside =
+    or_none (equal_var x e.0) (list_any (equal_var x) (names_of es)) (absent es e.0 x (ascend_rest e es order).0 (h.1 0 e (omega arith) (omega arith)))
+place_holds (e ∷ es) x (suc place) d order h inside =
+    ap (λ (b : Bool). b || list_any (equal_var x) (names_of es)) (below_differs e.0 x (h.0 0 e (omega arith) (omega arith)))
+    ∙ place_holds es x place d (ascend_rest e es order).1 (place_rest e es x place h) (omega arith)
+
+-- ---- an equation is put in at the place of its name
+
+pub place_put : (es : List Equation) (e : Equation) (place : ℕ) → IsPlace es e.0 place → place ≤ length es → insert_ascending e es ≡ insert es place e
+place_put [] e zero h inside = refl
+place_put [] e (suc place) h inside = absurd (omega arith)
+place_put (d ∷ es) e zero h inside = ap (λ (b : Bool). cond b (d ∷ insert_ascending e es) (e ∷ d ∷ es)) (h.1 0 d (omega arith) (omega arith))
+place_put (d ∷ es) e (suc place) h inside =
+    ap (λ (b : Bool). cond b (d ∷ insert_ascending e es) (e ∷ d ∷ es)) (h.0 0 d (omega arith) (omega arith))
+    ∙ ap (λ (l : List Equation). d ∷ l) (place_put es e place (place_rest d es e.0 place h) (omega arith))

@@ -1,11 +1,13 @@
 //! Known equations are taken out of a store.
 
 ghost use Rattle.std.specs.Prelude.{◌≡◌, ◌≤◌, ◌++◌, ◌∷◌, ◌⊎◌, [], false, true, Contains, IfOk, IfSome, IfNone, OnOk, length, take as first};
-ghost use Rattle.std.specs.List.{list_any, insert};
+ghost use Rattle.std.specs.List.{list_any};
+ghost use Rattle.std.specs.List.Sorted.{IsPartitionPoint};
 ghost use Rattle.tree_node.specs.Each.{Each};
 ghost use Rattle.tree_node.specs.Store.{Equation, IsFree, equal_var};
 ghost use Rattle.site_message.specs.Vars.{vars_of as term_vars};
-ghost use Rattle.site_model.specs.Bundle.{insert_ascending, ascending, bundle_from};
+ghost use Rattle.site_message.specs.Wire.{NamesAscend};
+ghost use Rattle.site_model.specs.Bundle.{is_below as below, insert_ascending, ascending, bundle_from};
 ghost use Rattle.site_model.specs.Laws.{names_of};
 ghost use Rattle.marshal.specs.Marshal.{IsReachedEquation, IsNext, equations_among};
 
@@ -81,7 +83,8 @@ fn next<'a>(
     from: usize,
     taken: &[(VarName, Term)],
 ) -> Option<(usize, &'a Term)>
-    requires { taken.now ≡ ascending (equations_among store.now.equations (first from queue.now)) }
+    requires ordered { NamesAscend taken.now }
+    requires taken { taken.now ≡ ascending (equations_among store.now.equations (first from queue.now)) }
     ensures none { IfNone result (equations_among store.now.equations queue.now ≡ equations_among store.now.equations (first from queue.now)) }
     ensures some { IfSome result (λ r. IsNext store.now.equations queue.now from taken.now r.0 r.1.now) }
 {
@@ -96,6 +99,7 @@ fn next<'a>(
 
 // The equation of a variable, where there is one that was not taken.
 fn untaken<'a>(store: &'a Store, taken: &[(VarName, Term)], var: VarName) -> Option<&'a Term>
+    requires { NamesAscend taken.now }
     ensures known { IfSome result (λ t. Contains store.now.equations (var, t.now)) }
     ensures new { IfSome result (λ _. list_any (equal_var var) (names_of taken.now) ≡ false) }
     ensures none { IfNone result (IsFree store.now.equations var ⊎ (list_any (equal_var var) (names_of taken.now) ≡ true)) }
@@ -108,27 +112,24 @@ fn untaken<'a>(store: &'a Store, taken: &[(VarName, Term)], var: VarName) -> Opt
 
 // Whether the equation of a variable was taken.
 fn is_taken(taken: &[(VarName, Term)], var: VarName) -> bool
+    requires { NamesAscend taken.now }
     ensures { result ≡ list_any (equal_var var) (names_of taken.now) }
 {
-    for place in 0..taken.len() {
-        if taken[place].0 == var {
-            return true;
-        }
-    }
-    false
+    let place = place_of(taken, var);
+    place < taken.len() && taken[place].0 == var
 }
 
-// How many of these equations, whose names ascend, have a name below this one.
+// How many of these equations, whose names ascend, have a name below this one. It looks at few of them, by halves.
 fn place_of(taken: &[(VarName, Term)], var: VarName) -> usize
+    requires { NamesAscend taken.now }
     ensures within { result ≤ length taken.now }
-    ensures place { (e : Equation) → e.0 ≡ var → insert_ascending e taken.now ≡ insert taken.now result e }
+    ensures parted { IsPartitionPoint (λ (e : Equation). below e.0 var ≡ true) (λ (e : Equation). below e.0 var ≡ false) taken.now result }
 {
-    for place in 0..taken.len() {
-        if !is_below(taken[place].0, var) {
-            return place;
-        }
-    }
-    taken.len()
+    taken.partition_point(
+        |equation: &(VarName, Term)| -> bool
+            ensures { result ≡ below equation.now.0 var }
+        { is_below(equation.0, var) },
+    )
 }
 
 // An equation is taken: it has its place among the others, and the variables of its term go behind the queue.
@@ -139,6 +140,7 @@ fn take(
     var: VarName,
     term: &Term,
 ) -> Result<(), AllocError>
+    requires { NamesAscend taken.old.items }
     ensures queue { OnOk result (queue.new.items ≡ queue.old.items ++ term_vars term.now) }
     ensures taken { OnOk result (taken.new.items ≡ insert_ascending (var, term.now) taken.old.items) }
 {

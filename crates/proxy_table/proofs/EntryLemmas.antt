@@ -9,11 +9,6 @@ use Rattle.tree_node.specs.declared.node.Term.{Term}
 use Rattle.tree_node.specs.Store.{equal_var}
 use Rattle.proxy_table.specs.Proxies.{Proxy, IsMet, entry_of, after_meet}
 
--- what is lent is there
-pub lent_some : {X : Type 0} (o : Option (Bor X)) (l : Option X) → option_copied o ≡ l → is_some o ≡ is_some l
-lent_some None l e = ap is_some e
-lent_some (Some b) l e = ap is_some e
-
 insert_last : (es : List Proxy) (x : VarName) (v : Option Term) → is_some (entry_of es x) ≡ false → insert_entry equal_var es x v ≡ es ++ (x, v) ∷ []
 insert_last [] x v e = refl
 insert_last ((y, r) ∷ es) x v e = go (equal_var x y) refl e (λ k. insert_last es x v k)

@@ -2,8 +2,8 @@
 //! half of a site's records in `bind_protocol`, which decides what is sent.
 //!
 //! It promises: `Proxies` is the list of the names met, in the order of first meeting, each with its term where that is
-//! known; a name is new exactly the first time that `meet` is called for it, and `bound` needs no memory. Its rows are
-//! `after_meet` and `after_bound`.
+//! known; a name is new exactly the first time that `meet` or `meet_bound` is called for it, and `bound` needs no memory.
+//! Its rows are `after_meet` and `after_bound`.
 //!
 //! It stands on `tree_node` and on `indexmap`. Nothing is left to tests.
 //!

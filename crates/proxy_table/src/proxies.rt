@@ -3,6 +3,7 @@
 ghost use Rattle.std.specs.Prelude.{◌≡◌, ◌↔◌, [], Some, None, IsTrue, IfOk, OnOk, OnErr, option_copied};
 ghost use Rattle.proxy_table.specs.Proxies.{IsMet, entry_of, term_of, after_meet, after_bound};
 ghost use Rattle.proxy_table.specs.declared.proxies.Met.TheVariants.{New};
+ghost use Rattle.tree_node.specs.declared.node.Term.{Term as TheTerm};
 
 use indexmap::IndexMap;
 use std::alloc::{AllocError, Global};
@@ -71,6 +72,18 @@ impl Proxies {
         }
         self.entries.insert(var, None)?;
         Ok(Met::New)
+    }
+
+    /// Meets a name together with the term that it is known to be bound to. It is new exactly the first time.
+    pub fn meet_bound(&mut self, var: VarName, term: Term) -> Result<Met, AllocError>
+        requires { (t : TheTerm) → entry_of self.old var ≡ Some (Some t) → t ≡ term }
+        ensures new { IfOk result (λ m. (m ≡ New) ↔ (entry_of self.old var ≡ None)) }
+        ensures bound { OnOk result (self.new ≡ after_bound self.old var term) }
+        ensures err { OnErr result (self.new ≡ self.old) }
+    {
+        let met = if self.met(var) { Met::Known } else { Met::New };
+        self.entries.insert(var, Some(term))?;
+        Ok(met)
     }
 
     /// The name is known to be bound to the term from now on.

@@ -9,19 +9,8 @@ use Rattle.tree_node.specs.declared.names.ThreadName.{ThreadName}
 use Rattle.tree_node.specs.Goal.{equal_cell}
 use Rattle.site_model.specs.Site.{CellRecord, cell_record_in, unused_cell}
 use Rattle.site_cells.specs.Tables.{CellTables, queue_of, with_record}
-
-cell_decides : (a b : CellName) → Decides (equal_cell a b) (a ≡ b)
-cell_decides a b = search rules
-
-cell_refl : (c : CellName) → equal_cell c c ≡ true
-cell_refl c = (cell_decides c c).1 refl
-
-cells_differ : (a b : CellName) → a ≢ b → equal_cell a b ≡ false
-cells_differ a b h = go (equal_cell a b) refl
-  where
-    go : (k : Bool) → equal_cell a b ≡ k → equal_cell a b ≡ false
-    go true e = absurd (h ((cell_decides a b).0 e))
-    go false e = e
+use Rattle.oz_model.proofs.KindLemmas.{equal_cell_decides, cell_same, cells_differ}
+use Rattle.site_model.proofs.CellKeyLemmas.{entry_here, entry_other}
 
 -- ---- one table
 
@@ -45,31 +34,9 @@ written_back {V} ((d, r) ∷ es) c v e = go (equal_cell c d) refl e (λ k. writt
     go true q k ih = let same : r ≡ v = cc in ap (λ (z : V). (d, z) ∷ es) (sym same)
     go false q k ih = ap (λ (zs : List (CellName × V)). (d, r) ∷ zs) (ih k)
 
--- a value that was written is found
-pub written_here : {V : Type 0} (es : List (CellName × V)) (c : CellName) (v : V) → lookup (equal_cell c) (insert_entry equal_cell es c v) ≡ Some v
-written_here [] c v = rw (cell_refl c) refl
-written_here {V} ((d, r) ∷ es) c v = go (equal_cell c d) refl (written_here es c v)
-  where
-    go : (b : Bool) → equal_cell c d ≡ b → lookup (equal_cell c) (insert_entry equal_cell es c v) ≡ Some v → lookup (equal_cell c) (cond (equal_cell c d) ((d, v) ∷ es) ((d, r) ∷ insert_entry equal_cell es c v)) ≡ Some v
-    go true q ih = rw (q, q) refl
-    go false q ih = rw (q, q) ih
-
--- and of another cell nothing changes
-pub written_other : {V : Type 0} (es : List (CellName × V)) (c d : CellName) (v : V) → d ≢ c → lookup (equal_cell d) (insert_entry equal_cell es c v) ≡ lookup (equal_cell d) es
-written_other [] c d v h = rw (cells_differ d c h) refl
-written_other {V} ((b, r) ∷ es) c d v h = go (equal_cell c b) refl (written_other es c d v h)
-  where
-    go : (k : Bool) → equal_cell c b ≡ k → lookup (equal_cell d) (insert_entry equal_cell es c v) ≡ lookup (equal_cell d) es →
-        lookup (equal_cell d) (cond (equal_cell c b) ((b, v) ∷ es) ((b, r) ∷ insert_entry equal_cell es c v)) ≡ lookup (equal_cell d) ((b, r) ∷ es)
-    go true q ih =
-        let same : c ≡ b = (cell_decides c b).0 q in
-        let differs : equal_cell d b ≡ false = cells_differ d b (λ e. h (e ∙ sym same)) in
-        rw (q, differs) refl
-    go false q ih = rw q (ap (λ (o : Option V). cond (equal_cell d b) (Some r) o) ih)
-
 -- of two values written the second stays
 pub written_twice : {V : Type 0} (es : List (CellName × V)) (c : CellName) (v w : V) → insert_entry equal_cell (insert_entry equal_cell es c v) c w ≡ insert_entry equal_cell es c w
-written_twice [] c v w = rw (cell_refl c) refl
+written_twice [] c v w = rw (cell_same c) refl
 written_twice {V} ((d, r) ∷ es) c v w = go (equal_cell c d) refl (written_twice es c v w)
   where
     go : (b : Bool) → equal_cell c d ≡ b → insert_entry equal_cell (insert_entry equal_cell es c v) c w ≡ insert_entry equal_cell es c w →
@@ -83,13 +50,13 @@ pub record_found : (qs : List (CellName × CellRecord)) (c : CellName) (q : Cell
 record_found qs c q e = sym (ap (λ (o : Option CellRecord). unwrap_or o unused_cell) e)
 
 pub record_here : (qs : List (CellName × CellRecord)) (c : CellName) (q : CellRecord) → cell_record_in (with_record c q qs) c ≡ q
-record_here qs c q = ap (λ (o : Option CellRecord). unwrap_or o unused_cell) (written_here qs c q)
+record_here qs c q = ap (λ (o : Option CellRecord). unwrap_or o unused_cell) (entry_here qs c q)
 
 pub token_here : (qs rs : List (CellName × CellRecord)) (c : CellName) (q : CellRecord) → rs ≡ with_record c q qs → (cell_record_in rs c).held.token ≡ q.held.token
 token_here qs rs c q e = ap (λ (zs : List (CellName × CellRecord)). (cell_record_in zs c).held.token) e ∙ ap (λ (x : CellRecord). x.held.token) (record_here qs c q)
 
 pub record_other : (qs : List (CellName × CellRecord)) (c d : CellName) (q : CellRecord) → d ≢ c → cell_record_in (with_record c q qs) d ≡ cell_record_in qs d
-record_other qs c d q h = ap (λ (o : Option CellRecord). unwrap_or o unused_cell) (written_other qs c d q h)
+record_other qs c d q h = ap (λ (o : Option CellRecord). unwrap_or o unused_cell) (entry_other qs c d q h)
 
 -- the queues after one record is written
 pub queue_changed : (t : CellTables) (qs rs : List (CellName × CellRecord)) (c : CellName) (q : CellRecord) (queue : List ThreadName) → qs ≡ t.cell_records → rs ≡ with_record c q qs → q.queue ≡ queue →
@@ -107,8 +74,8 @@ queues_kept t qs rs c q view e same d = go (equal_cell d c) refl
     changed = queue_changed t qs rs c q (queue_of t c) view e (same ∙ ap (λ (zs : List (CellName × CellRecord)). (cell_record_in zs c).queue) view)
 
     go : (k : Bool) → equal_cell d c ≡ k → (cell_record_in rs d).queue ≡ queue_of t d
-    go true f = let is : d ≡ c = (cell_decides d c).0 f in subst (λ (x : CellName). (cell_record_in rs x).queue ≡ queue_of t x) (sym is) changed.0
-    go false f = changed.1 d (λ is. let yes : equal_cell d c ≡ true = (cell_decides d c).1 is in cc)
+    go true f = let is : d ≡ c = (equal_cell_decides d c).0 f in subst (λ (x : CellName). (cell_record_in rs x).queue ≡ queue_of t x) (sym is) changed.0
+    go false f = changed.1 d (λ is. let yes : equal_cell d c ≡ true = (equal_cell_decides d c).1 is in cc)
 
 -- a call on the record in its place that makes it a function of what it was
 pub record_written : (qs rs : List (CellName × CellRecord)) (c : CellName) (f : CellRecord → CellRecord) (q p : CellRecord) → Some q ≡ lookup (equal_cell c) qs → rs ≡ set_value (equal_cell c) qs p → p ≡ f q →
@@ -119,11 +86,3 @@ record_written qs rs c f q p found e is =
 -- or leaves it
 pub record_left : (qs rs : List (CellName × CellRecord)) (c : CellName) (q p : CellRecord) → Some q ≡ lookup (equal_cell c) qs → rs ≡ set_value (equal_cell c) qs p → p ≡ q → rs ≡ qs
 record_left qs rs c q p found e is = e ∙ written qs c q p (sym found) ∙ ap (λ (x : CellRecord). insert_entry equal_cell qs c x) is ∙ written_back qs c q (sym found)
-
-pub on_ok : {A E P Q : Type 0} (r : Result A E) → (P → Q) → OnOk r P → OnOk r Q
-on_ok (Ok v) f h = f h
-on_ok (Err e) f h = tt
-
-pub on_err : {A E P Q : Type 0} (r : Result A E) → (P → Q) → OnErr r P → OnErr r Q
-on_err (Ok v) f h = tt
-on_err (Err e) f h = f h

@@ -8,7 +8,6 @@ ghost use Rattle.site_message.specs.declared.message.Msg.TheVariants as msg;
 ghost use Rattle.token_chain.specs.declared.token.Token.TheVariants.{Asked, Here};
 ghost use Rattle.oz_model.specs.Effect.{Made, Exchanged};
 ghost use Rattle.site_model.specs.Site.{Site, unused_cell};
-ghost use Rattle.site_model.specs.Bundle.{bundle_limit};
 ghost use Rattle.site_model.specs.Transition.{without_output};
 ghost use Rattle.site_model.specs.Unit.{after_cell};
 ghost use Rattle.site_model.specs.Cells.{forward_row, get_row, leave_row, request_row, serving, with_exchange_waiting};
@@ -93,7 +92,7 @@ impl Cells {
         outbox: &mut Outbox,
     ) -> Result<(), AllocError>
         requires elsewhere { HasToken self.old cell → ⊥ }
-        ensures row { OnOk result ((new : VarName) (st : Stack) → IsRow (request_row bundle_limit cell new thread st) (with_exchange_waiting cell thread st) self.old self.new outbox.old outbox.new) }
+        ensures row { OnOk result ((new : VarName) (st : Stack) → IsRow (request_row 0 cell new thread st) (with_exchange_waiting cell thread st) self.old self.new outbox.old outbox.new) }
         ensures queues { OnOk result (ChangesQueue self.old self.new cell (queue_of self.old cell ++ thread ∷ [])) }
         ensures same { OnErr result (self.new ≡ self.old) }
         ensures unsent { OnErr result (outbox.new ≡ outbox.old) }
@@ -112,7 +111,7 @@ impl Cells {
         outbox: &mut Outbox,
     ) -> Result<(), AllocError>
         requires takes { Takes self.old (msg.Get cell asking) }
-        ensures row { OnOk result (IsRow (get_row bundle_limit cell asking) same_site self.old self.new outbox.old outbox.new) }
+        ensures row { OnOk result (IsRow (get_row 0 cell asking) same_site self.old self.new outbox.old outbox.new) }
         ensures queues { OnOk result (KeepsQueues self.old self.new) }
         ensures same { OnErr result (self.new ≡ self.old) }
         ensures unsent { OnErr result (outbox.new ≡ outbox.old) }
@@ -132,7 +131,7 @@ impl Cells {
         outbox: &mut Outbox,
     ) -> Result<(), AllocError>
         requires takes { Takes self.old (msg.Forward cell next) }
-        ensures row { OnOk result (IsRow (forward_row bundle_limit cell next) same_site self.old self.new outbox.old outbox.new) }
+        ensures row { OnOk result (IsRow (forward_row 0 cell next) same_site self.old self.new outbox.old outbox.new) }
         ensures queues { OnOk result (KeepsQueues self.old self.new) }
         ensures same { OnErr result (self.new ≡ self.old) }
         ensures unsent { OnErr result (outbox.new ≡ outbox.old) }
@@ -156,7 +155,7 @@ impl Cells {
     /// The token goes to the successor, where one is known and nobody waits.
     pub fn leave(&mut self, cell: CellName, outbox: &mut Outbox) -> Result<(), AllocError>
         requires here { HasToken self.old cell }
-        ensures row { OnOk result (IsRow (leave_row bundle_limit cell) same_site self.old self.new outbox.old outbox.new) }
+        ensures row { OnOk result (IsRow (leave_row 0 cell) same_site self.old self.new outbox.old outbox.new) }
         ensures queues { OnOk result (KeepsQueues self.old self.new) }
         ensures same { OnErr result (self.new ≡ self.old) }
         ensures unsent { OnErr result (outbox.new ≡ outbox.old) }
@@ -172,7 +171,7 @@ impl Cells {
         outbox: &mut Outbox,
     ) -> Result<(), AllocError>
         requires unused { record_of self.old cell ≡ unused_cell }
-        ensures row { OnOk result ((new : VarName) (st : Stack) → IsRow (request_row bundle_limit cell new thread st) (with_exchange_waiting cell thread st) self.old self.new outbox.old outbox.new) }
+        ensures row { OnOk result ((new : VarName) (st : Stack) → IsRow (request_row 0 cell new thread st) (with_exchange_waiting cell thread st) self.old self.new outbox.old outbox.new) }
         ensures queues { OnOk result (ChangesQueue self.old self.new cell (queue_of self.old cell ++ thread ∷ [])) }
         ensures same { OnErr result (self.new ≡ self.old) }
         ensures unsent { OnErr result (outbox.new ≡ outbox.old) }

@@ -19,15 +19,9 @@ use Rattle.bind_protocol.specs.Learn.{Learns}
 use Rattle.bind_protocol.proofs.LearnLemmas.{rows_teach}
 use Rattle.site_variables.specs.declared.variables.Variables.{Variables}
 use Rattle.site_variables.specs.Variables.{IsRecorded, IsLinked, IsGrown}
+use Rattle.bind_protocol.proofs.RowCountLemmas.{name_cases}
 
 -- ---- names
-
-pub name_or : (y x : VarName) → (y ≡ x) ⊎ (y ≢ x)
-name_or y x = go (equal_var y x) refl
-  where
-    go : (o : Bool) → equal_var y x ≡ o → (y ≡ x) ⊎ (y ≢ x)
-    go true q = inl ((same_name_decides y x).0 q)
-    go false q = inr (λ k. let yes : equal_var y x ≡ true = (same_name_decides y x).1 k in cc)
 
 -- one more name
 pub with_name_is : (names : List VarName) (x y : VarName) → Contains (with_name names x) y ↔ (Contains names y ⊎ (y ≡ x))
@@ -76,7 +70,7 @@ none_is es x y r = (λ k. inl k, fro)
 
 learns_recorded : (es fs : Store) (old new : List VarName) (b c : Records) (x : VarName) (o : Option Term) → IsRecorded es old b → ((r : Term) → knowledge b x ≡ Some (Some r) → ⊥) → Learns b c x (Some o) →
     ((y : VarName) (r : Term) → Contains fs (y, r) ↔ (Contains es (y, r) ⊎ ((y ≡ x) × (o ≡ Some r)))) → ((y : VarName) → Contains new y ↔ (Contains old y ⊎ (y ≡ x))) → IsRecorded fs new c
-learns_recorded es fs old new b c x o h free learns more names = record { bound = λ y r. bound_at y r (name_or y x); names = λ y. names_at y (name_or y x) }
+learns_recorded es fs old new b c x o h free learns more names = record { bound = λ y r. bound_at y r (name_cases y x); names = λ y. names_at y (name_cases y x) }
   where
     here : (y : VarName) → y ≡ x → knowledge c y ≡ Some o
     here y q = ap (λ (z : VarName). knowledge c z) q ∙ learns.here

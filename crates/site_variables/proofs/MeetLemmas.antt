@@ -24,6 +24,9 @@ use Rattle.site_variables.specs.Variables.{IsRecorded, IsLinked, IsGrown, IsMade
 use Rattle.site_variables.specs.Meeting.{AreMet}
 use Rattle.site_variables.proofs.LinkLemmas.{with_name_is, grown_name, same_recorded, named_recorded, own_made}
 use Rattle.tree_node.proofs.EachLemmas.{each_append}
+use Rattle.site_model.proofs.StillLemmas.{meet_site}
+use Rattle.bind_protocol.proofs.CodeLemmas.{each_var_of}
+use Rattle.site_model.proofs.BundleLemmas.{equations_append}
 
 -- ---- one name
 
@@ -50,13 +53,6 @@ meet_owners : (b : Records) (x : VarName) → (after_meet b x).owners ≡ b.owne
 meet_owners b x = go (is_own b x)
   where
     go : (o : Bool) → (cond o b (record b { proxies = proxies.after_meet b.proxies x })).owners ≡ b.owners
-    go true = refl
-    go false = refl
-
-meet_site : (b : Records) (x : VarName) → (after_meet b x).site ≡ b.site
-meet_site b x = go (is_own b x)
-  where
-    go : (o : Bool) → (cond o b (record b { proxies = proxies.after_meet b.proxies x })).site ≡ b.site
     go true = refl
     go false = refl
 
@@ -140,19 +136,10 @@ next_field xs k d x v w u o p q below at is h g =
     let same : x ≡ (get_or xs k d).1 = is ∙ ap (λ (f : Feature × VarName). f.1) at in
     rw (add-one, take-suc xs k d below, field_append (take k xs) (get_or xs k d ∷ []), ← same) (met_more (field_vars (take k xs)) (x ∷ []) v w u o p q h g)
 
-each_field_at : (P : VarName → Type 0) (xs : List (Feature × VarName)) (k : ℕ) (d : Feature × VarName) → Each P (field_vars xs) → k < length xs → P (get_or xs k d).1
-each_field_at P [] k d h below = absurd (omega arith)
-each_field_at P (x ∷ xs) zero d h below = h.0
-each_field_at P (x ∷ xs) (suc k) d h below = each_field_at P xs k d h.1 (omega arith)
-
 pub field_made : (b c : Records) (xs : List (Feature × VarName)) (k : ℕ) (d : Feature × VarName) (x : VarName) → c.owners ≡ b.owners → c.site ≡ b.site → Each (IsMadeIfOwn b) (field_vars xs) → k < length xs → d ≡ get_or xs k d → x ≡ d.1 → IsMadeIfOwn c x
 field_made b c xs k d x e f h below at is =
     let same : x ≡ (get_or xs k d).1 = is ∙ ap (λ (g : Feature × VarName). g.1) at in
-    still_made b c x e f (subst (IsMadeIfOwn b) (sym same) (each_field_at (IsMadeIfOwn b) xs k d h below))
-
-equations_append : (es fs : List Equation) → vars_of_equations (es ++ fs) ≡ vars_of_equations es ++ vars_of_equations fs
-equations_append [] fs = refl
-equations_append (e ∷ es) fs = ap (λ (l : List VarName). (e.0 ∷ vars_of e.1) ++ l) (equations_append es fs) ∙ sym (append_assoc (e.0 ∷ vars_of e.1) (vars_of_equations es) (vars_of_equations fs))
+    still_made b c x e f (subst (IsMadeIfOwn b) (sym same) (each_var_of (IsMadeIfOwn b) xs k d h below))
 
 pub next_equation : (es : List Equation) (k : ℕ) (d : Equation) (v w u : Variables) (o p q : List Sent) → k < length es → d ≡ get_or es k d → AreMet (vars_of_equations (take k es)) v o w p → AreMet (d.0 ∷ vars_of d.1) w p u q →
     AreMet (vars_of_equations (take (k + 1) es)) v o u q

@@ -1,28 +1,23 @@
 -- The rows of variables on a site with these parts.
-use Rattle.std.proofs.Common.{◌+◌, ◌<◌, length, take, get_or, append_assoc, add-one, ◌≡◌, ◌≢◌, ◌∙◌, sym, ap, refl, subst, ℕ, List, [], ◌∷◌, ◌++◌, map, ◌⊎◌, inl, inr, Bool, true, false, cond}
-use Rattle.std.specs.Prelude.{Option, Some, None, is_some}
+use Rattle.std.proofs.Common.{◌+◌, ◌<◌, length, take, get_or, append_assoc, add-one, ◌≡◌, ◌≢◌, ◌∙◌, sym, ap, refl, subst, ℕ, List, [], ◌∷◌, ◌++◌, map, ◌⊎◌, inl, inr, Bool, true, false}
+use Rattle.std.specs.Prelude.{Option, Some, None}
 use Rattle.std.proofs.lemmas.List.{append-nil}
 use Rattle.std.proofs.Math.Seq.{take-suc}
-use Rattle.indexmap.specs.IndexMap.{insert_entry}
 use Rattle.tree_node.specs.declared.names.VarName.{VarName}
 use Rattle.tree_node.specs.declared.names.ThreadName.{ThreadName}
 use Rattle.tree_node.specs.declared.node.Term.{Term}
 use Rattle.tree_node.specs.Each.{Each}
 use Rattle.tree_node.specs.Order.{IsLower}
 use Rattle.tree_node.specs.State.{Stack}
-use Rattle.tree_node.specs.Store.{Store, Equation, equal_var}
-use Rattle.tree_node.proofs.ClassLemmas.{same_name_refl}
+use Rattle.tree_node.specs.Store.{Store, Equation}
 use Rattle.kernel_syntax.proofs.OrderLemmas.{Each-at}
 use Rattle.site_message.specs.declared.message.Msg.{Msg}
 use Rattle.site_message.specs.declared.message.Sent.{Sent}
-use Rattle.proxy_table.specs.Proxies.{Proxy, entry_of}
-use Rattle.proxy_table.specs.Proxies as proxies
 use Rattle.variable_owner.specs.declared.owners.Owner.{Owner}
 use Rattle.variable_owner.specs.declared.owners.Owner.TheVariants.{Open, Bound}
 use Rattle.variable_owner.specs.Owners.{owner_of, sites_of}
-use Rattle.bind_protocol.specs.Records.{Records, is_own, knowledge}
-use Rattle.bind_protocol.specs.Rows.{binding, after_meet, after_binding, after_ask, ask_sends, after_register, register_sends, register_answer, meets_send}
-use Rattle.bind_protocol.proofs.LookLemmas.{last_here}
+use Rattle.bind_protocol.specs.Records.{is_own, knowledge}
+use Rattle.bind_protocol.specs.Rows.{binding, after_binding, after_ask, ask_sends, after_register, register_sends, register_answer, meets_send}
 use Rattle.thread_roster.specs.Threads.{Entry, wake_all, wake}
 use Rattle.site_model.specs.Site.{Site, Threads}
 use Rattle.site_model.specs.Bundle.{all_bundled, message_vars, message_bundle}
@@ -70,36 +65,6 @@ done_learnt p q x t own free a b c d = record {
   sent = d ∙ sym (append-nil p.sent);
   done = λ s. ap without_output (new_as (is_own p.records x) (knowledge p.records x) (with_parts s p) x t own free) ∙ rw (a, b, c) refl;
 }
-
--- ---- a name that is known without a Register
-
-last_put : (es : List Proxy) (x : VarName) (v w : Option Term) → entry_of es x ≡ None → insert_entry equal_var (es ++ (x, v) ∷ []) x w ≡ insert_entry equal_var es x w
-last_put [] x v w e = rw (same_name_refl x) refl
-last_put ((z, r) ∷ es) x v w e = go (equal_var x z) refl e (λ k. last_put es x v w k)
-  where
-    go : (b : Bool) → equal_var x z ≡ b → cond b (Some r) (entry_of es x) ≡ None → (entry_of es x ≡ None → insert_entry equal_var (es ++ (x, v) ∷ []) x w ≡ insert_entry equal_var es x w) →
-        cond (equal_var x z) ((z, w) ∷ (es ++ (x, v) ∷ [])) ((z, r) ∷ insert_entry equal_var (es ++ (x, v) ∷ []) x w) ≡ cond (equal_var x z) ((z, w) ∷ es) ((z, r) ∷ insert_entry equal_var es x w)
-    go true q k ih = cc
-    go false q k ih = rw (q, ih k) refl
-
-met_put : (es : List Proxy) (x : VarName) (t : Term) → proxies.after_bound (proxies.after_meet es x) x t ≡ proxies.after_bound es x t
-met_put es x t = go (entry_of es x) refl
-  where
-    go : (o : Option (Option Term)) → entry_of es x ≡ o → proxies.after_bound (cond (is_some o) es (es ++ (x, None) ∷ [])) x t ≡ proxies.after_bound es x t
-    go None e = last_put es x None (Some t) e
-    go (Some r) e = refl
-
-pub met_bound : (b : Records) (x : VarName) (t : Term) → is_own b x ≡ false → after_binding (after_meet b x) x t ≡ after_binding b x t
-met_bound b x t own = rw own (ap (λ (es : List Proxy). record b { proxies = es }) (met_put b.proxies x t))
-
--- it stands among the proxies then, unbound
-pub met_entry : (b c : Records) (x : VarName) → is_own b x ≡ false → ((r : Term) → knowledge b x ≡ Some (Some r) → ⊥) → c ≡ after_meet b x → entry_of c.proxies x ≡ Some None
-met_entry b c x own free is = rw (is, own) (go (entry_of b.proxies x) refl (λ r e. free r (rw own e)))
-  where
-    go : (o : Option (Option Term)) → entry_of b.proxies x ≡ o → ((r : Term) → entry_of b.proxies x ≡ Some (Some r) → ⊥) → entry_of (cond (is_some o) b.proxies (b.proxies ++ (x, None) ∷ [])) x ≡ Some None
-    go None e never = last_here b.proxies x None e
-    go (Some None) e never = e
-    go (Some (Some r)) e never = absurd (never r e)
 
 -- ---- messages without bundles
 
@@ -203,11 +168,6 @@ done_opened m es u v w ts rs o p is h met = record {
         let told : with_known_equations (with_parts s (parts_of u ts o)) es ≡ with_parts s (parts_of v rs []) = ap (λ (t : Transition). t.site) (h.done s) in
         let all : with_known_equations (with_parts s (parts_of u ts o)) (message_bundle m) ≡ with_parts s (parts_of v rs []) = ap (λ (fs : List Equation). with_known_equations (with_parts s (parts_of u ts o)) fs) (sym is) ∙ told in
         ap (λ (z : Site). meeting (message_vars m) z) all ∙ rw (met.records, met.equations) refl
-
-pub lower_at : (es : List Equation) (k : ℕ) (d : Equation) → Each (λ (e : Equation). IsLower e.1 e.0) es → k < length es → d ≡ get_or es k d → IsLower d.1 d.0
-lower_at es k d h below at =
-    let there : IsLower (get_or es k d).1 (get_or es k d).0 = Each-at (λ (e : Equation). IsLower e.1 e.0) es k d h below in
-    subst (λ (e : Equation). IsLower e.1 e.0) (sym at) there
 
 pub bundle_lower : (m : Msg) (es : List Equation) → es ≡ message_bundle m → Each (λ (e : Equation). IsLower e.1 e.0) (message_bundle m) → Each (λ (e : Equation). IsLower e.1 e.0) es
 bundle_lower m es is h = subst (λ (fs : List Equation). Each (λ (e : Equation). IsLower e.1 e.0) fs) (sym is) h

@@ -10,7 +10,8 @@
 //! `bundle_fits`, `names_fit` and `sites_fit` tell exactly whether it is fit for the site as far as its variables, names and
 //! sites go. After want of memory no clause speaks, and the site is given up.
 //!
-//! Messages carry no equations yet: `bundle_limit` is 0. A message that does is opened whole.
+//! A message that comes is opened whole, with the equations that it carries. What is sent here carries none, so the limit in
+//! these rows is 0: each message gets its bundle when the row or the unit that sends it is done.
 //!
 //! It stands on `tree_store` (equations), `bind_protocol` (records), `thread_roster` (who waits), `site_message`, and on
 //! `site_model`, whose rows it follows.

@@ -1,6 +1,7 @@
 use Rattle.std.proofs.Common.{refl}
-use Rattle.marshal.proofs.ImportLemmas.{known_none, next_equation, next_taken, lower_at}
+use Rattle.marshal.proofs.ImportLemmas.{known_none, next_equation, next_taken}
 use Rattle.marshal.proofs.importing.take_all.Goals as goal
+use Rattle.site_model.proofs.BundleLemmas.{lower_at}
 
 pub loop-var-init : goal.loop-var-init
 loop-var-init c = record { known = known_none _ _; equations = refl }

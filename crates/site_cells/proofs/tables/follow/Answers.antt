@@ -1,16 +1,17 @@
 use Rattle.token_chain.specs.Rows.{forward_reply}
 use Rattle.site_model.specs.Site.{CellRecord}
-use Rattle.site_cells.proofs.RecordLemmas.{record_written, record_left, on_ok, on_err}
+use Rattle.site_cells.proofs.RecordLemmas.{record_written, record_left}
 use Rattle.site_cells.proofs.tables.follow.Goals as goal
+use Rattle.std.proofs.lemmas.Result.{on_ok_weaker, on_err_weaker}
 
 pub returns-clause-records : goal.returns-clause-records
 returns-clause-records c =
-    on_ok c.follow.result
+    on_ok_weaker c.follow.result
     (λ is. record_written c.args.records.now.entries _ c.args.cell (λ (q : CellRecord). record q { held = (forward_reply q.held c.args.next).held }) c.in-Some.place.now c.follow.new.self c.in-Some.ensures.value (c.get_mut.follows.holds c.follow.new.self).0 is)
     c.follow.ensures.held
 
 pub returns-clause-same : goal.returns-clause-same
 returns-clause-same c =
-    on_err c.follow.result
+    on_err_weaker c.follow.result
     (λ is. record_left c.args.records.now.entries _ c.args.cell c.in-Some.place.now c.follow.new.self c.in-Some.ensures.value (c.get_mut.follows.holds c.follow.new.self).0 is)
     c.follow.ensures.same

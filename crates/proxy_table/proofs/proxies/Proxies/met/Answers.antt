@@ -1,8 +1,8 @@
 use Rattle.std.proofs.Common.{◌≡◌, ◌∙◌, sym, ap}
 use Rattle.std.specs.Prelude.{is_some}
 use Rattle.proxy_table.specs.Proxies.{entry_of}
-use Rattle.proxy_table.proofs.EntryLemmas.{lent_some}
 use Rattle.proxy_table.proofs.proxies.Proxies.met.Goals as goal
+use Rattle.tree_node.proofs.OptionLemmas.{lent_some}
 
 pub returns : goal.returns
 returns c =

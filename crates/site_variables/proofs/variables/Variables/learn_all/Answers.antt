@@ -1,7 +1,8 @@
 use Rattle.std.proofs.Common.{◌∙◌, refl}
 use Rattle.site_variables.proofs.LinkLemmas.{grown_same, grown_on}
-use Rattle.site_variables.proofs.RowLemmas.{told_none, told_more, lower_at}
+use Rattle.site_variables.proofs.RowLemmas.{told_none, told_more}
 use Rattle.site_variables.proofs.variables.Variables.learn_all.Goals as goal
+use Rattle.site_model.proofs.BundleLemmas.{lower_at}
 
 pub loop-var-init : goal.loop-var-init
 loop-var-init g c = record {
