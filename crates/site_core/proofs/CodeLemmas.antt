@@ -22,6 +22,7 @@ use Rattle.thread_machine.specs.Fits.{IsTellOf, NodeFits, TermFits}
 use Rattle.site_model.specs.Bundle.{message_bundle}
 use Rattle.site_model.specs.Fit.{CodesFit}
 use Rattle.site_core.specs.Fitting.{IsEquationFit, PartsFit}
+use Rattle.site_model.proofs.BundleLemmas.{bundle_wire}
 
 -- ---- a procedure
 
@@ -83,16 +84,6 @@ codes_same p is (msg.Forward c k) w = (λ h. (tt, (tt, tt)), λ h. tt)
 codes_same p is (msg.Put c v es) w =
     let rest = equations_same p is es w.2.1 in
     (λ h. (tt, (tt, rest.0 h)), λ h. rest.1 h.1.1)
-
--- the equations of a message that can be spelled can be
-bundle_wire : (m : Msg) → FitsWire m → Each FitsEquation (message_bundle m)
-bundle_wire (msg.Spawn n code vars es) w = w.2.1
-bundle_wire (msg.Register x k) w = tt
-bundle_wire (msg.BindReq x n t es) w = w.3.1
-bundle_wire (msg.Binding x t es) w = w.2.1
-bundle_wire (msg.Get c k) w = tt
-bundle_wire (msg.Forward c k) w = tt
-bundle_wire (msg.Put c v es) w = w.2.1
 
 pub bundle_terms : (p : List Stmt) → IsProgram p → (m : Msg) → FitsWire m → CodesFit p m → Each (IsEquationFit p) (message_bundle m)
 bundle_terms p is m w codes = (equations_same p is (message_bundle m) (bundle_wire m w)).1 codes.1.1

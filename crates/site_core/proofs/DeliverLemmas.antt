@@ -25,7 +25,7 @@ use Rattle.thread_machine.specs.Running.{Running}
 use Rattle.thread_machine.specs.Supply.{site_in, IsMade}
 use Rattle.thread_roster.specs.declared.mode.Mode.{Mode}
 use Rattle.thread_roster.proofs.ThreadLemmas.{seen_none}
-use Rattle.site_model.specs.Bundle.{bundle_limit, vars_of_equations, message_vars}
+use Rattle.site_model.specs.Bundle.{vars_of_equations, message_vars}
 use Rattle.site_model.specs.Fit.{IsFit, IsKnownName, IsBelowCounter}
 use Rattle.site_model.specs.Messages.{message_row}
 use Rattle.site_cells.specs.Tables.{CellTables, AreTablesOf, TakesAsSites, Takes}
@@ -38,21 +38,22 @@ use Rattle.site_units.specs.Turns.{IsRowMade}
 use Rattle.site_units.proofs.ThreadLemmas.{Living}
 use Rattle.site_core.specs.Turns.{CanDeliver}
 use Rattle.site_core.proofs.CodeLemmas.{term_same}
-use Rattle.site_core.proofs.NameLemmas.{each_left, message_each, term_known}
+use Rattle.site_core.proofs.NameLemmas.{message_each, term_known}
+use Rattle.kernel_syntax.proofs.PreorderLemmas.{each_left}
 
 -- ---- rows for each program
 
 -- a row that is made whatever the program is made for this one
-pub row_for : {T E : Type 0} (r : Result T E) (p : List Stmt) (m n : Msg) (c0 c1 : Core) (o0 o1 : Output) → OnOk r ((q : List Stmt) → IsConsistent q c0 → IsRowMade q (message_row q bundle_limit n) c0 o0 c1 o1) → m ≡ n → IsConsistent p c0 →
-    OnOk r (IsRowMade p (message_row p bundle_limit m) c0 o0 c1 o1)
+pub row_for : {T E : Type 0} (r : Result T E) (p : List Stmt) (m n : Msg) (c0 c1 : Core) (o0 o1 : Output) → OnOk r ((q : List Stmt) → IsConsistent q c0 → IsRowMade q (message_row q 0 n) c0 o0 c1 o1) → m ≡ n → IsConsistent p c0 →
+    OnOk r (IsRowMade p (message_row p 0 m) c0 o0 c1 o1)
 row_for {T} {E} r p m n c0 c1 o0 o1 rows is h =
-    on_ok_weaker r (λ (f : (q : List Stmt) → IsConsistent q c0 → IsRowMade q (message_row q bundle_limit n) c0 o0 c1 o1). subst (λ (k : Msg). IsRowMade p (message_row p bundle_limit k) c0 o0 c1 o1) (sym is) (f p h)) rows
+    on_ok_weaker r (λ (f : (q : List Stmt) → IsConsistent q c0 → IsRowMade q (message_row q 0 n) c0 o0 c1 o1). subst (λ (k : Msg). IsRowMade p (message_row p 0 k) c0 o0 c1 o1) (sym is) (f p h)) rows
 
 -- one with a term that fits it
 pub row_for_term : {T E : Type 0} (r : Result T E) (p : List Stmt) (m n : Msg) (t : Term) (c0 c1 : Core) (o0 o1 : Output) →
-    OnOk r ((q : List Stmt) → IsConsistent q c0 → TermFits q t → IsRowMade q (message_row q bundle_limit n) c0 o0 c1 o1) → m ≡ n → IsConsistent p c0 → TermFits p t → OnOk r (IsRowMade p (message_row p bundle_limit m) c0 o0 c1 o1)
+    OnOk r ((q : List Stmt) → IsConsistent q c0 → TermFits q t → IsRowMade q (message_row q 0 n) c0 o0 c1 o1) → m ≡ n → IsConsistent p c0 → TermFits p t → OnOk r (IsRowMade p (message_row p 0 m) c0 o0 c1 o1)
 row_for_term {T} {E} r p m n t c0 c1 o0 o1 rows is h fits =
-    on_ok_weaker r (λ (f : (q : List Stmt) → IsConsistent q c0 → TermFits q t → IsRowMade q (message_row q bundle_limit n) c0 o0 c1 o1). subst (λ (k : Msg). IsRowMade p (message_row p bundle_limit k) c0 o0 c1 o1) (sym is) (f p h fits)) rows
+    on_ok_weaker r (λ (f : (q : List Stmt) → IsConsistent q c0 → TermFits q t → IsRowMade q (message_row q 0 n) c0 o0 c1 o1). subst (λ (k : Msg). IsRowMade p (message_row p 0 k) c0 o0 c1 o1) (sym is) (f p h fits)) rows
 
 -- ---- a thread that lives nowhere here
 

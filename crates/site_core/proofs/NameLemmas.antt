@@ -21,10 +21,6 @@ use Rattle.site_model.specs.Fit.{EachOfMsg}
 
 -- ---- the first part of a list
 
-pub each_left : {X : Type 0} (P : X → Type 0) (xs ys : List X) → Each P (xs ++ ys) → Each P xs
-each_left P [] ys h = tt
-each_left P (x ∷ xs) ys h = (h.0, each_left P xs ys h.1)
-
 -- ---- from names to variables
 
 module _ (P : Name → Type 0) where

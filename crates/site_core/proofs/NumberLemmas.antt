@@ -27,6 +27,7 @@ use Rattle.site_model.specs.Cells.{serving, after_exchange, after_exchange_as, c
 use Rattle.site_model.specs.Messages.{with_thread, message_row, bind_request_as, reception}
 use Rattle.site_model.specs.Unit.{next_names, with_fresh_names, placement, birth_row, after_cell, after_effect, step_row, step_pick, effect_here, thread_step, fresh_names, bind_attempt, IsStepOrRequest, IsUnitFor, IsUnit}
 use Rattle.site_model.specs.Turn.{IsReception, AreUnits, IsFullTurn}
+use Rattle.site_model.proofs.StillLemmas.{meets_site, makes_site}
 
 abbrev number_of : Site → ℕ
 number_of s = s.records.site
@@ -35,21 +36,6 @@ abbrev number_after : Transition → ℕ
 number_after d = d.site.records.site
 
 -- ---- variables
-
-meet_number : (b : Records) (x : VarName) → (after_meet b x).site ≡ b.site
-meet_number b x = go (is_own b x)
-  where
-    go : (c : Bool) → (cond c b (record b { proxies = proxies.after_meet b.proxies x })).site ≡ b.site
-    go true = refl
-    go false = refl
-
-meets_number : (b : Records) (xs : List VarName) → (after_meets b xs).site ≡ b.site
-meets_number b [] = refl
-meets_number b (x ∷ xs) = meets_number (after_meet b x) xs ∙ meet_number b x
-
-makes_number : (b : Records) (xs : List VarName) → (after_makes b xs).site ≡ b.site
-makes_number b [] = refl
-makes_number b (x ∷ xs) = makes_number (after_make b x) xs
 
 told_number : (s : Site) (x : VarName) (t : Term) → number_of (with_known_equation s x t) ≡ number_of s
 told_number s x t = go (is_own s.records x) (knowledge s.records x)
@@ -110,7 +96,7 @@ message_number p limit (msg.Put c v es) s = serving_number p c (cell_record s c)
 
 reception_number : (p : List Stmt) (limit : ℕ) (m : Msg) (s : Site) → number_after (reception p limit m s) ≡ number_of s
 reception_number p limit m s =
-    message_number p limit m (opening m s).site ∙ (meets_number (with_known_equations s (message_bundle m)).records (message_vars m) ∙ told_all_number (message_bundle m) s)
+    message_number p limit m (opening m s).site ∙ (meets_site (with_known_equations s (message_bundle m)).records (message_vars m) ∙ told_all_number (message_bundle m) s)
 
 heard_number : (p : List Stmt) (n limit : ℕ) (o : Option Msg) (s : Site) (d : Transition) → IsReception p n limit o s d → number_after d ≡ number_of s
 heard_number p n limit None s d e = ap number_after e
@@ -132,7 +118,7 @@ birth_number p n limit (Some b) s = go (placement n s.records.site b.at == s.rec
 
 step_number : (p : List Stmt) (n limit : ℕ) (k : Pick) (kinds : List NameKind) (e : Effect) (s : Site) → number_after (step_row p n limit k kinds e s) ≡ number_of s
 step_number p n limit k kinds e s =
-    birth_number p n limit e.born (after_effect k.thread e bound) ∙ (cell_number e.cell bound ∙ (binds_number limit e.adds (with_fresh_names kinds s) ∙ makes_number s.records (vars_among (next_names s.records.site s.counters kinds))))
+    birth_number p n limit e.born (after_effect k.thread e bound) ∙ (cell_number e.cell bound ∙ (binds_number limit e.adds (with_fresh_names kinds s) ∙ makes_site s.records (vars_among (next_names s.records.site s.counters kinds))))
   where
     bound : Site
     bound = (own_binds limit e.adds (with_fresh_names kinds s)).site

@@ -1,7 +1,6 @@
 //! What a site does with a message that is fit, once it is opened.
 
 ghost use Rattle.std.specs.Prelude.{◌≡◌, ◌<◌, ◌^◌, OnOk};
-ghost use Rattle.site_model.specs.Bundle.{bundle_limit};
 ghost use Rattle.site_model.specs.Messages.{message_row};
 ghost use Rattle.site_units.specs.Facts.{IsConsistent};
 ghost use Rattle.site_units.specs.Turns.{IsRowMade};
@@ -12,7 +11,7 @@ use site_message::Msg;
 use site_units::{Core, Output, begin, follow, grant, learn, pass_on, register, serve};
 use std::alloc::AllocError;
 
-/// The row of the message's kind.
+/// The row of the message's kind. What it sends is bare: it gets its bundles at the row's end.
 pub fn deliver(
     core: &mut Core,
     output: &mut Output,
@@ -22,7 +21,7 @@ pub fn deliver(
     requires consistent { IsConsistent program.now core.old }
     requires deliverable { CanDeliver program.now core.old msg }
     requires room { core.old.steps < 2 ^ 50 }
-    ensures row { OnOk result (IsRowMade program.now (message_row program.now bundle_limit msg) core.old output.old core.new output.new) }
+    ensures row { OnOk result (IsRowMade program.now (message_row program.now 0 msg) core.old output.old core.new output.new) }
     ensures steps { OnOk result (core.new.steps ≡ core.old.steps) }
 {
     match msg {

@@ -9,7 +9,8 @@ use crate::fit::is_fit;
 use kernel_syntax::Program;
 use site_cells::laws::tables_take_as_sites;
 use site_message::Msg;
-use site_units::{Core, Output, open_message};
+use site_model::bundles_come_last;
+use site_units::{Core, Output, open_message, pack_sent};
 use std::alloc::AllocError;
 
 /// A message has come: where it is fit it is opened, and the site does what its kind says; one that is unfit changes
@@ -31,5 +32,8 @@ pub fn receive(
         return Ok(());
     }
     open_message(core, output, &msg)?;
-    deliver(core, output, program, msg)
+    let before = output.sent.len();
+    deliver(core, output, program, msg)?;
+    bundles_come_last();
+    pack_sent(core, output, before)
 }

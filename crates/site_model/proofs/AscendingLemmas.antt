@@ -59,7 +59,7 @@ ascending_more (d ∷ es) e new = go (equal_var e.0 d.0) refl new (λ k. ascendi
     go false q k ih = ap (λ (l : List Equation). insert_ascending d l) (ih k) ∙ sym (insert_both e d q (ascending es))
 
 -- which names there are does not hang on the order
-or_other : (a b c : Bool) → (a || (b || c)) ≡ (b || (a || c))
+pub or_other : (a b c : Bool) → (a || (b || c)) ≡ (b || (a || c))
 or_other true true c = refl
 or_other true false c = refl
 or_other false true c = refl
@@ -151,7 +151,7 @@ take_once (suc n) (e ∷ es) h = (take_none (equal_var e.0) n es h.0, take_once 
 
 -- ---- in order
 
-below_yes : (a b : VarName) → is_below a b ≡ true → IsBelow a b
+pub below_yes : (a b : VarName) → is_below a b ≡ true → IsBelow a b
 below_yes a b h = search rules
 
 abbrev IsUnder : Equation → List Equation → Type 0

@@ -18,7 +18,6 @@ use Rattle.oz_model.specs.Effect.{CellChange, Stays, Made, Exchanged}
 use Rattle.token_chain.specs.declared.token.Token.{Token}
 use Rattle.token_chain.specs.declared.token.Token.TheVariants.{Away, Asked, Here}
 use Rattle.site_model.specs.Site.{Site, ThreadState, thread_state, cell_record}
-use Rattle.thread_roster.specs.declared.mode.Mode.{Mode}
 use Rattle.thread_roster.specs.declared.mode.Mode.TheVariants.{Runs}
 use Rattle.thread_roster.specs.declared.mode.Mode.TheVariants as site
 use Rattle.site_model.specs.Bundle.{is_below}
@@ -29,9 +28,9 @@ use Rattle.site_message.specs.declared.message.Msg.{Msg}
 use Rattle.site_model.specs.Fit.{IsFit}
 use Rattle.site_model.specs.Turn.{AreUnits, IsReception, SiteTurn}
 use Rattle.site_model.specs.Choice.{reception_of, next_turn, nobody, is_missing, to_lesser, bind_between, root_bind, is_free, leads_down, is_here, step_or_request, unit_for, unit_from, next_unit, next_units, is_possible, can_go_from, can_go, can_all_go}
-
-both : (a b : Bool) → (a && b) ≡ true → (a ≡ true) × (b ≡ true)
-both a b e = search rules
+use Rattle.tree_node.proofs.SoundLemmas.{root_root}
+use Rattle.std.proofs.lemmas.Bool.{and_parts}
+use Rattle.site_model.proofs.AscendingLemmas.{below_yes}
 
 free_tells : (s : Store) (x : VarName) → is_free s x ≡ true → IsFree s x
 free_tells [] x e t (k, below, is) = absurd (omega arith)
@@ -44,17 +43,11 @@ free_tells ((y, r) ∷ s) x e t h = go (equal_var y x) refl e (λ k. free_tells 
         let yes : equal_var y x ≡ true = subst (λ (z : VarName). equal_var y z ≡ true) same (same_name_refl y) in cc
     go false q k ih (inr h) = ih k t h
 
-below_tells : (a b : VarName) → is_below a b ≡ true → IsBelow a b
-below_tells a b e = search rules
-
-root_root : (s : Store) (x : VarName) → root_of s (root_of s x) ≡ root_of s x
-root_root s x = sym (Same-root (to_root s x))
-
 down_tells : (s : Store) (u : VarName) (v : VarName) → leads_down s (u, term.Var v) ≡ true → IsFree s u × IsFree s v × IsBelow v u
 down_tells s u v e =
-    let one = both (is_free s u) _ e in
-    let two = both (is_free s v) _ one.1 in
-    (free_tells s u one.0, free_tells s v two.0, below_tells v u two.1)
+    let one = and_parts (is_free s u) _ e in
+    let two = and_parts (is_free s v) _ one.1 in
+    (free_tells s u one.0, free_tells s v two.0, below_yes v u two.1)
 
 -- the bind of two classes without a node, whichever root is the to_lesser
 lesser_bind : (s : Store) (x y : VarName) → node_of s x ≡ None → node_of s y ≡ None → leads_down s (to_lesser (root_of s x) (root_of s y)) ≡ true →
@@ -129,7 +122,7 @@ unit_is p n limit s th e = go (thread_state s th) refl e
 pub units_are : (p : List Stmt) (n limit : ℕ) (ths : List ThreadName) (s : Site) → can_all_go p n limit ths s ≡ true → AreUnits p n limit ths s (next_units p n limit ths s)
 units_are p n limit [] s e = refl
 units_are p n limit (th ∷ ths) s e =
-    let b = both (can_go p s th) _ e in
+    let b = and_parts (can_go p s th) _ e in
     (next_unit p n limit th s, next_units p n limit ths (next_unit p n limit th s).site, unit_is p n limit s th b.0, units_are p n limit ths (next_unit p n limit th s).site b.1, refl)
 
 -- the delivered message is one that the site can take

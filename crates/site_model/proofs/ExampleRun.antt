@@ -21,6 +21,8 @@ use Rattle.site_model.specs.Run as run
 use Rattle.site_model.proofs.ChoiceLemmas.{turn_is, CanHear}
 use Rattle.site_model.specs.Example.{BundleTravels, Story, program, times, first_turn, second_turn, begun, sites_of, TokenReturns}
 use Rattle.site_model.specs.Example as example
+use Rattle.tree_node.proofs.OrderLemmas.{none as nothing}
+use Rattle.std.proofs.lemmas.Bool.{ne_eqb as off}
 
 le : (m n : ℕ) → nat_le m n ≡ true → m ≤ n
 le m n e = search rules
@@ -34,9 +36,6 @@ other m n e h = absurd (search rules)
 -- a name of another site
 far : {X : Type 0} (m n : ℕ) → (m == n) ≡ false → m ≡ n → X
 far m n e h = absurd (other m n e h)
-
-nothing : {X : Type 0} (x : X) → Contains [] x → ⊥
-nothing x (k, below, is) = absurd (omega arith)
 
 no_bundle_fits : {s : Site} → BundleFits s []
 no_bundle_fits = record { down = tt; same = λ x t r h. absurd (nothing _ h); own = λ x t h. absurd (nothing _ h) }
@@ -197,13 +196,6 @@ hear_14 = record {
   codes = (tt, (tt, tt));
   bundle = no_bundle_fits;
 }
-
-off : (m n : ℕ) → m ≢ n → (m == n) ≡ false
-off m n h = go (m == n) refl
-  where
-    go : (b : Bool) → (m == n) ≡ b → (m == n) ≡ false
-    go true e = absurd (h (search rules))
-    go false e = e
 
 passes : (b : Bool) (before : Site → Type 0) (entry : Site → Site → Type 0) (s : Site) → b ≡ false → before s → run.IsReachedBy b before entry s
 passes true before entry s e h = cc

@@ -2,4 +2,8 @@ pub mod AscendingLemmas
 pub mod BundleLemmas
 pub mod CellExampleRun
 pub mod ChoiceLemmas
+pub mod EffectLemmas
 pub mod ExampleRun
+pub mod FilledLemmas
+pub mod CellKeyLemmas
+pub mod StillLemmas

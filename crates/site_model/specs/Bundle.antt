@@ -12,7 +12,7 @@ use Rattle.site_message.specs.Vars.{vars_of}
 
 -- how many equations a message of a run carries at most
 abbrev pub bundle_limit : ℕ
-bundle_limit = 0
+bundle_limit = 256
 
 -- ---- which equations
 

@@ -1,5 +1,5 @@
 -- One unit of a site: a step of a thread that can go on, or an attempt that ends in waiting.
-use Rattle.std.specs.Prelude.{◌≡◌, ℕ, suc, ◌+◌, ◌%◌, ℤ, pos, List, [], ◌∷◌, ◌++◌, ◌⊎◌, Bool, true, false, ◌==◌, Option, Some, None, if◌then◌else◌}
+use Rattle.std.specs.Prelude.{◌≡◌, ℕ, suc, ◌+◌, ◌%◌, ℤ, pos, List, [], ◌∷◌, ◌⊎◌, Bool, true, false, ◌==◌, Option, Some, None, if◌then◌else◌}
 use Rattle.indexmap.specs.IndexMap.{insert_entry}
 use Rattle.tree_node.specs.declared.names.VarName.{VarName}
 use Rattle.tree_node.specs.declared.names.CellName.{CellName}

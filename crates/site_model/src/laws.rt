@@ -2,7 +2,7 @@
 
 ghost use Rattle.site_model.specs.CellExample.{TokenGoesRound};
 ghost use Rattle.site_model.specs.Example.{BundleTravels, TokenReturns};
-ghost use Rattle.site_model.specs.Laws.{BundlesAreOrdered};
+ghost use Rattle.site_model.specs.Laws.{BundlesAreOrdered, RowsFillLast, UnitsFillLast};
 
 /// A run of fourteen turns of two sites, in which every kind of message travels, is a run of a world and ends quiet. And rows
 /// in which a bundle takes a known structure along in one message. It does nothing: its clauses are worked examples.
@@ -20,4 +20,11 @@ pub fn worked_cells()
 /// nothing: its clause is the law.
 pub fn bundles_are_ordered()
     ensures { BundlesAreOrdered }
+{}
+
+/// A row and a unit can be made without bundles, and the messages get theirs at its end. It does nothing: its clauses are the
+/// laws.
+pub fn bundles_come_last()
+    ensures rows { RowsFillLast }
+    ensures units { UnitsFillLast }
 {}

@@ -8,7 +8,7 @@
 //! (`specs/Bundle.antt`), which messages are fit (`IsFit`), turns (`SiteTurn`, `IsFullTurn`) and runs of a world (`WorldRun`).
 //! The law `worked_turns` is a run by these definitions, of fourteen turns, in which every kind of message travels, and rows
 //! with a bundle; `worked_cells` are rows of cells, worked one after another. By `bundles_are_ordered` bundles keep to their limit
-//! and to the order of names.
+//! and to the order of names; by `bundles_come_last` the messages of a row or a unit get them at its end.
 //!
 //! It stands on `bind_protocol`, whose rows of variables it takes, on `token_chain` for those of cells, on `thread_roster` for
 //! the threads, and on `oz_model` for a thread's step. It has no code, and no tests.
@@ -19,4 +19,4 @@
 
 mod laws;
 
-pub use laws::{bundles_are_ordered, worked_cells, worked_turns};
+pub use laws::{bundles_are_ordered, bundles_come_last, worked_cells, worked_turns};

@@ -35,7 +35,7 @@ use Rattle.thread_roster.proofs.ThreadLemmas.{each_found}
 use Rattle.thread_roster.proofs.NameLemmas.{is_other}
 use Rattle.token_chain.specs.Holding.{here_with}
 use Rattle.site_model.specs.Site.{Site, CellRecord, ThreadState, cell_record_in}
-use Rattle.site_model.specs.Bundle.{bundle_limit, bundled}
+use Rattle.site_model.specs.Bundle.{bundled}
 use Rattle.site_model.specs.Transition.{Transition, without_output, with_messages}
 use Rattle.site_model.specs.Messages.{with_thread}
 use Rattle.site_model.specs.Unit.{IsUnit, placement, birth_row, with_stack, with_fresh_names, after_cell, next_names}
@@ -49,11 +49,12 @@ use Rattle.site_units.specs.Facts.{ThreadFits, IsAwaiting, CellFits, CellsFit, I
 use Rattle.site_units.specs.Units.{IsStepping, IsFinished, IsUnitMade, settled}
 use Rattle.site_units.proofs.ThreadLemmas.{Living, other_set, other_without}
 use Rattle.site_units.proofs.FreshLemmas.{counted_in, makes_site}
-use Rattle.site_units.proofs.EffectLemmas.{BornBy, stack_born}
+use Rattle.oz_model.proofs.BirthLemmas.{BornBy, stack_born}
 use Rattle.site_units.proofs.SiteLemmas.{nil_right}
 use Rattle.site_units.proofs.NextLemmas.{next_consistent}
 use Rattle.site_units.proofs.CellLemmas.{replaced}
 use Rattle.site_units.proofs.StepLemmas.{Taken, row, is_unit, finished_site, finished_next}
+use Rattle.std.proofs.lemmas.Bool.{ne_eqb, eq-eqb}
 
 -- ---- cells
 
@@ -235,12 +236,12 @@ module _ (p : List Stmt) (c0 c c1 : Core) (o0 o1 : Output) (th : ThreadName) (r 
   own = makes_site c0.variables.binder (vars_among (next_names c0.variables.binder.site (counters_of c0.fresh) taken.goes.takes.kinds))
 
   births : (b : Bool) → (placement c0.sites c0.variables.binder.site at == c0.variables.binder.site) ≡ b →
-      birth_row p c0.sites bundle_limit (Some birth) begun ≡ cond b (without_output (with_thread p (Some birth) begun)) (with_messages begun (bundled bundle_limit begun.equations (sent_message (placement c0.sites begun.records.site at) (msg.Spawn n code vars [])) ∷ []))
+      birth_row p c0.sites 0 (Some birth) begun ≡ cond b (without_output (with_thread p (Some birth) begun)) (with_messages begun (bundled 0 begun.equations (sent_message (placement c0.sites begun.records.site at) (msg.Spawn n code vars [])) ∷ []))
   births b e =
-      ap (λ (z : Bool). cond z (without_output (with_thread p (Some birth) begun)) (with_messages begun (bundled bundle_limit begun.equations (sent_message (placement c0.sites begun.records.site at) (msg.Spawn n code vars [])) ∷ [])))
+      ap (λ (z : Bool). cond z (without_output (with_thread p (Some birth) begun)) (with_messages begun (bundled 0 begun.equations (sent_message (placement c0.sites begun.records.site at) (msg.Spawn n code vars [])) ∷ [])))
       (subst (λ (i : ℕ). (placement c0.sites i at == i) ≡ b) (sym own) e)
 
-  unit : IsUnit p c0.sites bundle_limit th (site_of c0) whole
+  unit : IsUnit p c0.sites 0 th (site_of c0) whole
   unit = is_unit p c0 c th r q (out.Spawn k at n code vars) k [] None (Some birth) Stays h taken h.made tt
 
   pub spawned_here : (ts : Roster Running) (w : Running) → (placement c0.sites c0.variables.binder.site at == c0.variables.binder.site) ≡ true → w ≡ record { name = n; stack = item.Run code (env_for (free p code) vars) ∷ []; told = None } →
@@ -296,12 +297,6 @@ module _ (p : List Stmt) (c0 c c1 : Core) (o0 o1 : Output) (th : ThreadName) (r 
 
 -- ---- where a thread is placed
 
-equal_numbers : (a b : ℕ) → a ≡ b → (a == b) ≡ true
-equal_numbers a b h = grind (arith, nat_tests)
-
-other_numbers : (a b : ℕ) → a ≢ b → (a == b) ≡ false
-other_numbers a b h = grind (arith, nat_tests)
-
 pub placed_at : (p : List Stmt) (c0 c : Core) (th : ThreadName) (r q : Running) (o : StepOut) (at : Option ℤ) (to site : ℕ) → IsStepping p c0 c th r q o → to ≡ placement c.sites site at →
     ((i : ℕ) → site_in c.fresh ≡ Some i → site ≡ i) → to ≡ placement c0.sites c0.variables.binder.site at
 placed_at p c0 c th r q o at to site h e own =
@@ -311,11 +306,11 @@ placed_at p c0 c th r q o at to site h e own =
 pub placed_here : (p : List Stmt) (c0 c : Core) (th : ThreadName) (r q : Running) (o : StepOut) (at : Option ℤ) (to site : ℕ) → IsStepping p c0 c th r q o → to ≡ placement c.sites site at →
     ((i : ℕ) → site_in c.fresh ≡ Some i → site ≡ i) → to ≡ site → (placement c0.sites c0.variables.binder.site at == c0.variables.binder.site) ≡ true
 placed_here p c0 c th r q o at to site h e own same =
-    equal_numbers (placement c0.sites c0.variables.binder.site at) c0.variables.binder.site
+    eq-eqb (placement c0.sites c0.variables.binder.site at) c0.variables.binder.site
     (sym (placed_at p c0 c th r q o at to site h e own) ∙ (same ∙ own c0.variables.binder.site (h.site ∙ h.consistent.site)))
 
 pub placed_away : (p : List Stmt) (c0 c : Core) (th : ThreadName) (r q : Running) (o : StepOut) (at : Option ℤ) (to site : ℕ) → IsStepping p c0 c th r q o → to ≡ placement c.sites site at →
     ((i : ℕ) → site_in c.fresh ≡ Some i → site ≡ i) → to ≢ site → (placement c0.sites c0.variables.binder.site at == c0.variables.binder.site) ≡ false
 placed_away p c0 c th r q o at to site h e own apart =
-    other_numbers (placement c0.sites c0.variables.binder.site at) c0.variables.binder.site
+    ne_eqb (placement c0.sites c0.variables.binder.site at) c0.variables.binder.site
     (λ same. apart (placed_at p c0 c th r q o at to site h e own ∙ (same ∙ sym (own c0.variables.binder.site (h.site ∙ h.consistent.site)))))

@@ -19,6 +19,7 @@ use Rattle.site_model.specs.Cells.{with_last_asker, with_own_request}
 use Rattle.site_cells.proofs.RecordLemmas.{record_here, record_other}
 use Rattle.site_units.specs.declared.data.Core.{Core}
 use Rattle.site_units.specs.Facts.{ContentKnown, CellFits, CellsFit}
+pub use Rattle.site_model.proofs.StillLemmas.{request_records}
 
 -- a record in the place of the cell's own
 pub replaced : (p : List Stmt) (c : Core) (es : List (CellName × CellRecord)) (cell : CellName) (v : CellRecord) → CellFits p c (cell, v) → CellsFit p c es → CellsFit p c (insert_entry equal_cell es cell v)
@@ -34,15 +35,6 @@ replaced p c es cell v here all d = go (equal_cell d cell) refl
         subst (λ (x : CellRecord). CellFits p c (d, x)) (sym (record_other es cell d v apart)) (all d)
 
 -- ---- a request
-
-pub request_records : (c : CellName) (t : Token) (s : Site) → (with_own_request c t s).cell_records ≡ s.cell_records
-request_records c Away s = go (c.site == s.records.site)
-  where
-    go : (b : Bool) → (cond b (with_last_asker c s.records.site s) s).cell_records ≡ s.cell_records
-    go true = refl
-    go false = refl
-request_records c Asked s = refl
-request_records c (Here v) s = refl
 
 -- a token that is not here does not come by a request
 pub not_content : (known : List VarName) (manager last s : ℕ) (w : VarName) (h : Holding) → ((v : VarName) → h.token ≡ Here v → ⊥) → ContentKnown known (exchange_reply manager last s w h).held.token

@@ -28,6 +28,7 @@ use Rattle.site_model.specs.Unit as unit
 use Rattle.site_variables.specs.Variables.{IsUnion}
 use Rattle.site_units.specs.Core.{counters_of}
 use Rattle.tree_node.proofs.OrderLemmas.{Each-member}
+pub use Rattle.site_model.proofs.StillLemmas.{makes_site}
 
 pub counted_in : (f : Fresh) (i : ℕ) → site_in f ≡ Some i → IsCounted f
 counted_in (fresh.Counted site vars cells procs threads) i e = tt
@@ -178,10 +179,6 @@ union_after known xs x = (parts, whole)
     whole : Contains known x ⊎ Contains xs x → Contains (known_after known xs) x
     whole (inl h) = kept_after known xs x h
     whole (inr h) = Each-member (λ (y : VarName). Contains (known_after known xs) y) xs x (named_after known xs) h
-
-pub makes_site : (b : Records) (xs : List VarName) → (after_makes b xs).site ≡ b.site
-makes_site b [] = refl
-makes_site b (x ∷ xs) = makes_site (after_make b x) xs
 
 pub below_more : (n m : ℕ) (f : Fresh) → n ≤ m → AreBelow n f → AreBelow m f
 below_more n m (fresh.Counted site vars cells procs threads) h b = (omega (arith, b.0), omega (arith, b.1), omega (arith, b.2), omega (arith, b.3))

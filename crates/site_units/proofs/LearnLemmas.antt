@@ -31,7 +31,6 @@ use Rattle.thread_roster.specs.Threads.{Threads as Roster, Entry, wake, wake_all
 use Rattle.thread_roster.proofs.ThreadLemmas.{each_woken}
 use Rattle.oz_model.proofs.NameLemmas.{Each-weaker}
 use Rattle.site_model.specs.Site.{Site}
-use Rattle.site_model.specs.Bundle.{bundle_limit}
 use Rattle.site_model.specs.Transition.{Transition, without_output}
 use Rattle.site_model.specs.Variables.{with_known_equation, with_known_equation_as}
 use Rattle.site_model.specs.Messages.{bind_request_row, bind_request_as}
@@ -49,6 +48,7 @@ use Rattle.site_units.proofs.NextLemmas.{next_consistent, thread_grows, exchange
 use Rattle.site_units.proofs.SiteLemmas.{nil_right}
 use Rattle.site_units.proofs.RowLemmas.{row_reached}
 use Rattle.tree_node.proofs.OrderLemmas.{Each-member}
+use Rattle.std.proofs.lemmas.Bool.{ne_eqb, eq-eqb}
 
 -- ---- woken one after another
 
@@ -66,20 +66,17 @@ made_if_own : (f : Fresh) (i : ℕ) (x : VarName) → site_in f ≡ Some i → (
 made_if_own (fresh.Counted site vars cells procs threads) i x e h = let is : site ≡ i = cc in λ same. h (same ∙ is) same
 made_if_own (fresh.Given names) i x e h = let no : None ≡ Some i = e in cc
 
-equal_sites : (a b : ℕ) → a ≡ b → (a == b) ≡ true
-equal_sites a b h = grind (arith, nat_tests)
-
 -- own names are known by the owners' table alone
 pub own_known : (b b1 : Records) (x : VarName) → b1.site ≡ b.site → b1.owners ≡ b.owners → x.site ≡ b.site → IsKnown b1 x → IsKnown b x
 own_known b b1 x site owners own known =
-    let here : is_own b x ≡ true = equal_sites x.site b.site own in
-    let there : is_own b1 x ≡ true = equal_sites x.site b1.site (own ∙ sym site) in
+    let here : is_own b x ≡ true = eq-eqb x.site b.site own in
+    let there : is_own b1 x ≡ true = eq-eqb x.site b1.site (own ∙ sym site) in
     let now : is_some (owner_knows (owner_of b1.owners x)) ≡ true = subst (λ (c : Bool). is_some (cond c (owner_knows (owner_of b1.owners x)) (entry_of b1.proxies x)) ≡ true) there known in
     subst (λ (c : Bool). is_some (cond c (owner_knows (owner_of b.owners x)) (entry_of b.proxies x)) ≡ true) (sym here) (subst (λ (o : List Owned). is_some (owner_knows (owner_of o x)) ≡ true) owners now)
 
 pub owned_known : (b : Records) (x : VarName) → x.site ≡ b.site → IsOwned b.owners x → IsKnown b x
 owned_known b x own made =
-    let here : is_own b x ≡ true = equal_sites x.site b.site own in
+    let here : is_own b x ≡ true = eq-eqb x.site b.site own in
     subst (λ (c : Bool). is_some (cond c (owner_knows (owner_of b.owners x)) (entry_of b.proxies x)) ≡ true) (sym here) (go (owner_of b.owners x) refl)
   where
     go : (o : Option Owner) → owner_of b.owners x ≡ o → is_some (owner_knows (owner_of b.owners x)) ≡ true
@@ -162,13 +159,13 @@ one_learned p c v1 ts1 x t h linked own grows names sound known term fits (inr s
 
 abbrev pub Requested : Core → Variables → Roster Running → Output → Output → VarName → Term → ThreadName → Asked → Type 0
 Requested c v1 ts1 o0 o1 x t n a =
-    (g : Running → Stack) → IsDone (bind_request_row bundle_limit x t n) (request_picks a n x t) (parts_of c.variables (stacks_of g c.threads.living) o0.sent) (parts_of v1 (stacks_of g ts1.living) o1.sent)
+    (g : Running → Stack) → IsDone (bind_request_row 0 x t n) (request_picks a n x t) (parts_of c.variables (stacks_of g c.threads.living) o0.sent) (parts_of v1 (stacks_of g ts1.living) o1.sent)
 
 granted : (c : Core) (v1 : Variables) (ts1 : Roster Running) (o0 o1 : Output) (x : VarName) (t : Term) (n : ThreadName) (a : Asked) → Requested c v1 ts1 o0 o1 x t n a → IsOneMore x t c v1 ts1 × (v1.binder.site ≡ c.variables.binder.site)
 granted c v1 ts1 o0 o1 x t n a done = go (knowledge c.variables.binder x) (λ g. (done g).done (site_of c))
   where
     go : (k : Option (Option Term)) →
-        ((g : Running → Stack) → bind_request_as k bundle_limit x t n (with_parts (site_of c) (parts_of c.variables (stacks_of g c.threads.living) o0.sent)) ≡ record { site = with_parts (site_of c) (parts_of v1 (stacks_of g ts1.living) o1.sent); picks = request_picks a n x t; sent = (done g).more; lines = [] }) →
+        ((g : Running → Stack) → bind_request_as k 0 x t n (with_parts (site_of c) (parts_of c.variables (stacks_of g c.threads.living) o0.sent)) ≡ record { site = with_parts (site_of c) (parts_of v1 (stacks_of g ts1.living) o1.sent); picks = request_picks a n x t; sent = (done g).more; lines = [] }) →
         IsOneMore x t c v1 ts1 × (v1.binder.site ≡ c.variables.binder.site)
     go None e = (inr (sym (ap (λ (d : Transition). d.site.equations) (e stack_in)), recovered_all c.threads.living ts1.living (sym (ap (λ (d : Transition). d.site.threads) (e encode)))), sym (ap (λ (d : Transition). d.site.records.site) (e stack_in)))
     go (Some None) e = (inl (sym (ap (λ (d : Transition). d.site.equations) (e stack_in)), woken_living x c.threads.living ts1.living (sym (ap (λ (d : Transition). d.site.threads) (e encode)))), sym (ap (λ (d : Transition). d.site.records.site) (e stack_in)))
@@ -176,10 +173,10 @@ granted c v1 ts1 o0 o1 x t n a done = go (knowledge c.variables.binder x) (λ g.
 
 pub grant_made : (p : List Stmt) (c : Core) (v1 : Variables) (ts1 : Roster Running) (o0 o1 : Output) (x : VarName) (t : Term) (n : ThreadName) (a : Asked) → Requested c v1 ts1 o0 o1 x t n a → ts1.ended ≡ c.threads.ended → IsLinked v1 →
     v1.store.known ≡ c.variables.store.known → IsSound v1.store.equations → Contains c.variables.store.known x → EachOfTerm (IsAmong c.variables.store.known) t → TermFits p t → IsConsistent p c →
-    o1.picks.items ≡ o0.picks.items ++ request_picks a n x t → o1.lines.items ≡ o0.lines.items → IsRowMade p (bind_request_row bundle_limit x t n) c o0 (record c { variables = v1; threads = ts1 }) o1
+    o1.picks.items ≡ o0.picks.items ++ request_picks a n x t → o1.lines.items ≡ o0.lines.items → IsRowMade p (bind_request_row 0 x t n) c o0 (record c { variables = v1; threads = ts1 }) o1
 grant_made p c v1 ts1 o0 o1 x t n a done ended linked same sound known term fits h picks lines =
     let more = granted c v1 ts1 o0 o1 x t n a done in
-    row_reached p (bind_request_row bundle_limit x t n) (request_picks a n x t) c v1 ts1 o0 o1 (done stack_in) ended picks lines
+    row_reached p (bind_request_row 0 x t n) (request_picks a n x t) c v1 ts1 o0 o1 (done stack_in) ended picks lines
     (learned_consistent p c v1 ts1 h
     (one_learned p c v1 ts1 x t h linked more.1 (λ y m. subst (λ (l : List VarName). Contains l y) (sym same) m) (λ y own m. subst (λ (l : List VarName). Contains l y) same m) sound known term fits more.0))
 
@@ -189,12 +186,9 @@ abbrev pub Told : Core → Variables → Roster Running → VarName → Term →
 Told c v1 ts1 x t =
     (g : Running → Stack) → IsDone (λ s. without_output (with_known_equation s x t)) [] (parts_of c.variables (stacks_of g c.threads.living) []) (parts_of v1 (stacks_of g ts1.living) [])
 
-not_equal : (a b : ℕ) → a ≢ b → (a == b) ≡ false
-not_equal a b h = grind (arith, nat_tests)
-
 told_one : (c : Core) (v1 : Variables) (ts1 : Roster Running) (x : VarName) (t : Term) → x.site ≢ c.variables.binder.site → Told c v1 ts1 x t → IsOneMore x t c v1 ts1
 told_one c v1 ts1 x t elsewhere done =
-    go (knowledge c.variables.binder x) (λ g. subst (λ (b : Bool). with_known_equation_as b (knowledge c.variables.binder x) (begun g) x t ≡ after g) (not_equal x.site c.variables.binder.site elsewhere) (ap (λ (d : Transition). d.site) ((done g).done (site_of c))))
+    go (knowledge c.variables.binder x) (λ g. subst (λ (b : Bool). with_known_equation_as b (knowledge c.variables.binder x) (begun g) x t ≡ after g) (ne_eqb x.site c.variables.binder.site elsewhere) (ap (λ (d : Transition). d.site) ((done g).done (site_of c))))
   where
     begun : (Running → Stack) → Site
     begun g = with_parts (site_of c) (parts_of c.variables (stacks_of g c.threads.living) [])

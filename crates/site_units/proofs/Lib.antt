@@ -1,4 +1,3 @@
-pub mod EffectLemmas
 pub mod ThreadLemmas
 pub mod FreshLemmas
 pub mod SiteLemmas
@@ -21,3 +20,4 @@ pub mod LearnLemmas
 pub mod OpenLemmas
 pub mod ServeLemmas
 pub mod PutLemmas
+pub mod PackLemmas

@@ -47,6 +47,7 @@ use Rattle.site_units.proofs.WakeLemmas.{encode, woken_each, woken_back}
 use Rattle.site_units.proofs.LearnLemmas.{own_known, learned_consistent}
 use Rattle.site_units.proofs.SiteLemmas.{nil_right}
 use Rattle.site_units.proofs.RowLemmas.{row_reached}
+use Rattle.std.proofs.lemmas.Bool.{eq-eqb}
 
 -- ---- what a bundle brings
 
@@ -124,13 +125,10 @@ equations_known known (e ∷ es) h =
 
 -- ---- own variables
 
-equal_sites : (a b : ℕ) → a ≡ b → (a == b) ≡ true
-equal_sites a b h = rw h search rules
-
 -- an own variable that is known was made
 own_made : (b : Records) (x : VarName) → IsKnown b x → IsMadeIfOwn b x
 own_made b x known own =
-    let here : is_own b x ≡ true = equal_sites x.site b.site own in
+    let here : is_own b x ≡ true = eq-eqb x.site b.site own in
     owned (owner_of b.owners x) refl (subst (λ (c : Bool). is_some (cond c (owner_knows (owner_of b.owners x)) (entry_of b.proxies x)) ≡ true) here known)
   where
     owned : (o : Option Owner) → owner_of b.owners x ≡ o → is_some (owner_knows (owner_of b.owners x)) ≡ true → is_some (owner_of b.owners x) ≡ true

@@ -25,7 +25,6 @@ use Rattle.token_chain.specs.Holding.{Holding, departure_of}
 use Rattle.token_chain.specs.Mail.{Forward}
 use Rattle.token_chain.specs.Rows.{leave_with, forward_reply, get_reply}
 use Rattle.site_model.specs.Site.{Site, ThreadState, cell_record_in}
-use Rattle.site_model.specs.Bundle.{bundle_limit}
 use Rattle.site_model.specs.Transition.{Transition, without_output, with_messages}
 use Rattle.site_model.specs.Messages.{with_thread, birth, register_row}
 use Rattle.site_model.specs.Cells.{get_row, forward_row, last_before}
@@ -83,10 +82,10 @@ registered_consistent p c v1 h linked store own = next_consistent p c (record c 
     grows x m = subst (λ (s : Contents). Contains s.known x) (sym store) m
 
 pub register_made : (p : List Stmt) (c : Core) (v1 : Variables) (o0 o1 : Output) (x : VarName) (k : ℕ) →
-    ((ts : List (ThreadName × ThreadState)) → IsDone (register_row bundle_limit x k) [] (parts_of c.variables ts o0.sent) (parts_of v1 ts o1.sent)) → IsLinked v1 → v1.store ≡ c.variables.store →
-    o1.picks.items ≡ o0.picks.items → o1.lines.items ≡ o0.lines.items → IsConsistent p c → IsRowMade p (register_row bundle_limit x k) c o0 (record c { variables = v1 }) o1
+    ((ts : List (ThreadName × ThreadState)) → IsDone (register_row 0 x k) [] (parts_of c.variables ts o0.sent) (parts_of v1 ts o1.sent)) → IsLinked v1 → v1.store ≡ c.variables.store →
+    o1.picks.items ≡ o0.picks.items → o1.lines.items ≡ o0.lines.items → IsConsistent p c → IsRowMade p (register_row 0 x k) c o0 (record c { variables = v1 }) o1
 register_made p c v1 o0 o1 x k done linked store picks lines h =
-    row_reached p (register_row bundle_limit x k) [] c v1 c.threads o0 o1 (done (stacks_of stack_in c.threads.living)) refl (picks ∙ sym (nil_right o0.picks.items)) lines
+    row_reached p (register_row 0 x k) [] c v1 c.threads o0 o1 (done (stacks_of stack_in c.threads.living)) refl (picks ∙ sym (nil_right o0.picks.items)) lines
     (registered_consistent p c v1 h linked store (sym (ap (λ (d : Transition). d.site.records.site) ((done []).done (site_of c)))))
 
 -- ---- rows of cells
@@ -122,9 +121,9 @@ get_content known manager last k h e = go (last == manager)
     go true = forward_content known h k e
     go false = e
 
-pub get_made : (p : List Stmt) (c : Core) (t2 : CellTables) (o0 o1 : Output) (cell : CellName) (k : ℕ) → IsRow (get_row bundle_limit cell k) same_site c.cells t2 o0.sent o1.sent →
-    o1.picks.items ≡ o0.picks.items → o1.lines.items ≡ o0.lines.items → IsConsistent p c → IsRowMade p (get_row bundle_limit cell k) c o0 (record c { cells = t2 }) o1
-get_made p c t2 o0 o1 cell k h picks lines consistent = cells_reached p (get_row bundle_limit cell k) c t2 o0 o1 h picks lines consistent records
+pub get_made : (p : List Stmt) (c : Core) (t2 : CellTables) (o0 o1 : Output) (cell : CellName) (k : ℕ) → IsRow (get_row 0 cell k) same_site c.cells t2 o0.sent o1.sent →
+    o1.picks.items ≡ o0.picks.items → o1.lines.items ≡ o0.lines.items → IsConsistent p c → IsRowMade p (get_row 0 cell k) c o0 (record c { cells = t2 }) o1
+get_made p c t2 o0 o1 cell k h picks lines consistent = cells_reached p (get_row 0 cell k) c t2 o0 o1 h picks lines consistent records
   where
     now : CellFits p c (cell, cell_record_in c.cells.cell_records cell)
     now = consistent.cells cell
@@ -135,9 +134,9 @@ get_made p c t2 o0 o1 cell k h picks lines consistent = cells_reached p (get_row
         (replaced p c c.cells.cell_records cell _
         (record { content = get_content c.variables.store.known c.variables.binder.site (last_before (site_of c) cell) k (cell_record_in c.cells.cell_records cell).held now.content; queue = now.queue; once = now.once }) consistent.cells)
 
-pub forward_made : (p : List Stmt) (c : Core) (t2 : CellTables) (o0 o1 : Output) (cell : CellName) (k : ℕ) → IsRow (forward_row bundle_limit cell k) same_site c.cells t2 o0.sent o1.sent →
-    o1.picks.items ≡ o0.picks.items → o1.lines.items ≡ o0.lines.items → IsConsistent p c → IsRowMade p (forward_row bundle_limit cell k) c o0 (record c { cells = t2 }) o1
-forward_made p c t2 o0 o1 cell k h picks lines consistent = cells_reached p (forward_row bundle_limit cell k) c t2 o0 o1 h picks lines consistent records
+pub forward_made : (p : List Stmt) (c : Core) (t2 : CellTables) (o0 o1 : Output) (cell : CellName) (k : ℕ) → IsRow (forward_row 0 cell k) same_site c.cells t2 o0.sent o1.sent →
+    o1.picks.items ≡ o0.picks.items → o1.lines.items ≡ o0.lines.items → IsConsistent p c → IsRowMade p (forward_row 0 cell k) c o0 (record c { cells = t2 }) o1
+forward_made p c t2 o0 o1 cell k h picks lines consistent = cells_reached p (forward_row 0 cell k) c t2 o0 o1 h picks lines consistent records
   where
     now : CellFits p c (cell, cell_record_in c.cells.cell_records cell)
     now = consistent.cells cell

@@ -30,7 +30,6 @@ use Rattle.tree_store.specs.Contents.{Contents}
 use Rattle.site_cells.specs.Tables.{CellTables}
 use Rattle.site_variables.specs.Variables.{stacks_of}
 use Rattle.site_model.specs.Site.{Site}
-use Rattle.site_model.specs.Bundle.{bundle_limit}
 use Rattle.site_model.specs.Transition.{Transition}
 use Rattle.site_model.specs.Variables.{after_makes}
 use Rattle.site_model.specs.Unit.{IsUnit, IsUnitFor, IsStepOrRequest, step_row, step_pick, thread_step, effect_here, fresh_names, with_fresh_names, with_stack, runnable_state, next_names, counters_after}
@@ -75,7 +74,7 @@ step_alone limit th st s step d (Exchanged c new told) h e = absurd h
 module _ (p : List Stmt) (c0 c : Core) (th : ThreadName) (r q : Running) (o : StepOut) (k : Pick) (adds : List Equation) (line : Option (List ℕ)) (born : Option Birth) (cell : CellChange)
     (h : IsStepping p c0 c th r q o) (t : Taken p c0 c r q k adds line born cell) (made : Each (HasMade c.fresh) k.fresh) where
   abbrev pub row : Transition
-  row = step_row p c0.sites bundle_limit k t.goes.takes.kinds (effect_with adds q.stack line born cell) (site_of c0)
+  row = step_row p c0.sites 0 k t.goes.takes.kinds (effect_with adds q.stack line born cell) (site_of c0)
 
   pub names : fresh_names (site_of c0) t.goes.takes.kinds ≡ k.fresh
   names = sym (names_next c0.fresh c0.variables.binder.site t.goes.takes.kinds h.consistent.site) ∙ sym t.goes.takes.fresh
@@ -92,24 +91,24 @@ module _ (p : List Stmt) (c0 c : Core) (th : ThreadName) (r q : Running) (o : St
   picked : k ≡ step_pick th k.fresh None
   picked = same_pick k th thread t.goes.takes.bind
 
-  pub is_unit : IsNoExchange cell → IsUnit p c0.sites bundle_limit th (site_of c0) row
+  pub is_unit : IsNoExchange cell → IsUnit p c0.sites 0 th (site_of c0) row
   is_unit plain = (
     r.stack,
     thread_found c0.threads.living th r mode.Runs h.running,
-    subst (λ (need : Need). IsUnitFor p c0.sites bundle_limit (site_of c0) th r.stack need row) (sym t.goes.takes.takes) named,
+    subst (λ (need : Need). IsUnitFor p c0.sites 0 (site_of c0) th r.stack need row) (sym t.goes.takes.takes) named,
   )
     where
-      at_effect : IsStepOrRequest bundle_limit th r.stack (site_of c0) (step_row p c0.sites bundle_limit (step_pick th k.fresh None) t.goes.takes.kinds (effect_with adds q.stack line born cell) (site_of c0)) cell row
-      at_effect = step_alone bundle_limit th r.stack (site_of c0) _ row cell plain (ap (λ (j : Pick). step_row p c0.sites bundle_limit j t.goes.takes.kinds (effect_with adds q.stack line born cell) (site_of c0)) picked)
+      at_effect : IsStepOrRequest 0 th r.stack (site_of c0) (step_row p c0.sites 0 (step_pick th k.fresh None) t.goes.takes.kinds (effect_with adds q.stack line born cell) (site_of c0)) cell row
+      at_effect = step_alone 0 th r.stack (site_of c0) _ row cell plain (ap (λ (j : Pick). step_row p c0.sites 0 j t.goes.takes.kinds (effect_with adds q.stack line born cell) (site_of c0)) picked)
 
-      at_names : IsStepOrRequest bundle_limit th r.stack (site_of c0) (thread_step p c0.sites bundle_limit th r.stack t.goes.takes.kinds k.fresh None (site_of c0)) (effect_here p (site_of c0) k.fresh None r.stack).cell row
+      at_names : IsStepOrRequest 0 th r.stack (site_of c0) (thread_step p c0.sites 0 th r.stack t.goes.takes.kinds k.fresh None (site_of c0)) (effect_here p (site_of c0) k.fresh None r.stack).cell row
       at_names =
-          subst (λ (e : Effect). IsStepOrRequest bundle_limit th r.stack (site_of c0) (step_row p c0.sites bundle_limit (step_pick th k.fresh None) t.goes.takes.kinds e (site_of c0)) e.cell row)
+          subst (λ (e : Effect). IsStepOrRequest 0 th r.stack (site_of c0) (step_row p c0.sites 0 (step_pick th k.fresh None) t.goes.takes.kinds e (site_of c0)) e.cell row)
           (sym effect) at_effect
 
-      named : IsUnitFor p c0.sites bundle_limit (site_of c0) th r.stack (Takes t.goes.takes.kinds) row
+      named : IsUnitFor p c0.sites 0 (site_of c0) th r.stack (Takes t.goes.takes.kinds) row
       named =
-          subst (λ (ns : List Name). IsStepOrRequest bundle_limit th r.stack (site_of c0) (thread_step p c0.sites bundle_limit th r.stack t.goes.takes.kinds ns None (site_of c0)) (effect_here p (site_of c0) ns None r.stack).cell row)
+          subst (λ (ns : List Name). IsStepOrRequest 0 th r.stack (site_of c0) (thread_step p c0.sites 0 th r.stack t.goes.takes.kinds ns None (site_of c0)) (effect_here p (site_of c0) ns None r.stack).cell row)
           (sym names) at_names
 
   -- the site once the names are made and the thread is left

@@ -20,6 +20,7 @@ use Rattle.site_model.specs.Unit.{runnable_state}
 use Rattle.site_variables.specs.Variables.{stacks_of}
 use Rattle.site_units.specs.Core.{stack_in}
 use Rattle.site_units.specs.Units.{settled}
+pub use Rattle.thread_roster.proofs.ThreadLemmas.{set_set as value_twice, end_set as without_value}
 
 abbrev pub Living : Type 0
 Living = List (Entry Running)
@@ -43,24 +44,6 @@ without_set {W} (t ∷ ts) n v = go (equal_thread t.0 n) refl (without_set ts n 
         without_key equal_thread (cond b ((n, v) ∷ ts) (t ∷ with_value equal_thread ts n v)) n ≡ cond b (without_key equal_thread ts n) (t ∷ without_key equal_thread ts n)
     go true q ih = rw (is_same n n refl) refl
     go false q ih = rw q (ap (λ (l : List (ThreadName × W)). t ∷ l) ih)
-
-pub without_value : (ts : Living) (n : ThreadName) (q : Running) → without_key equal_thread (set_value ts n q) n ≡ without_key equal_thread ts n
-without_value [] n q = refl
-without_value (t ∷ ts) n q = go (equal_thread t.0 n) refl (without_value ts n q)
-  where
-    go : (b : Bool) → equal_thread t.0 n ≡ b → without_key equal_thread (set_value ts n q) n ≡ without_key equal_thread ts n →
-        without_key equal_thread (cond b ((n, (q, t.1.1)) ∷ ts) (t ∷ set_value ts n q)) n ≡ cond b (without_key equal_thread ts n) (t ∷ without_key equal_thread ts n)
-    go true e ih = rw (is_same n n refl) refl
-    go false e ih = rw e (ap (λ (l : Living). t ∷ l) ih)
-
--- a value set twice is the last one
-pub value_twice : (ts : Living) (n : ThreadName) (q r : Running) → set_value (set_value ts n q) n r ≡ set_value ts n r
-value_twice [] n q r = refl
-value_twice (t ∷ ts) n q r = go (equal_thread t.0 n) refl (value_twice ts n q r)
-  where
-    go : (b : Bool) → equal_thread t.0 n ≡ b → set_value (set_value ts n q) n r ≡ set_value ts n r → set_value (cond b ((n, (q, t.1.1)) ∷ ts) (t ∷ set_value ts n q)) n r ≡ cond b ((n, (r, t.1.1)) ∷ ts) (t ∷ set_value ts n r)
-    go true e ih = rw (is_same n n refl) refl
-    go false e ih = rw e (ap (λ (l : Living). t ∷ l) ih)
 
 pub some_there : {W : Type 0} (o : Option W) (w : W) → o ≡ Some w → IsSome o
 some_there o w e = rw e refl

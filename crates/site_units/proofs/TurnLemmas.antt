@@ -21,9 +21,10 @@ use Rattle.site_units.specs.declared.data.Core.{Core}
 use Rattle.site_units.specs.declared.data.Output.{Output}
 use Rattle.site_units.specs.Core.{site_of, stack_in}
 use Rattle.site_units.specs.Facts.{IsConsistent}
-use Rattle.site_units.specs.Units.{IsReached, IsUnitMade}
+use Rattle.site_units.specs.Units.{IsReached, IsUnitPacked}
 use Rattle.site_units.specs.Turns.{AreUnitsMade}
 use Rattle.site_units.proofs.SiteLemmas.{nil_right, joined}
+use Rattle.std.proofs.lemmas.Bool.{eq-eqb}
 
 -- ---- transitions in a row
 
@@ -79,7 +80,7 @@ length_end : {X : Type 0} (xs : List X) (x : X) → length (xs ++ x ∷ []) ≡ 
 length_end [] x = refl
 length_end (y ∷ xs) x = ap suc (length_end xs x)
 
-pub one_more : (p : List Stmt) (count : ℕ) (c0 c1 c2 : Core) (o0 o1 o2 : Output) (th : ThreadName) → UnitsSoFar p count c0 o0 c1 o1 → IsUnitMade p th c1 o1 c2 o2 → c2.steps ≤ c1.steps + 1 → UnitsSoFar p (count + 1) c0 o0 c2 o2
+pub one_more : (p : List Stmt) (count : ℕ) (c0 c1 c2 : Core) (o0 o1 o2 : Output) (th : ThreadName) → UnitsSoFar p count c0 o0 c1 o1 → IsUnitPacked p th c1 o1 c2 o2 → c2.steps ≤ c1.steps + 1 → UnitsSoFar p (count + 1) c0 o0 c2 o2
 one_more p count c0 c1 c2 o0 o1 o2 th h (one, unit, reached) more = record {
   ths = h.ths ++ th ∷ [];
   d = sequence h.d one;
@@ -104,12 +105,9 @@ waiting_seen (t ∷ ts) = go (is_waiting t.1.1) (waiting_seen ts)
     go true ih = ap suc ih
     go false ih = ih
 
-equal_numbers : (a b : ℕ) → a ≡ b → (a == b) ≡ true
-equal_numbers a b h = grind (arith, nat_tests)
-
 pub all_idle : (c : Core) → AllWait c.threads.living → is_idle (site_of c) ≡ true
 all_idle c h =
-    equal_numbers (waiting_of (stacks_of stack_in c.threads.living)) (length (stacks_of stack_in c.threads.living))
+    eq-eqb (waiting_of (stacks_of stack_in c.threads.living)) (length (stacks_of stack_in c.threads.living))
     (waiting_seen c.threads.living ∙ (as_many_wait c.threads.living h ∙ sym (seen_length (λ (e : Running × Mode). (stack_in e.0, e.1)) c.threads.living)))
 
 pub units_end : (p : List Stmt) (quantum count : ℕ) (c0 c1 : Core) (o0 o1 : Output) → UnitsSoFar p count c0 o0 c1 o1 → count ≤ quantum → (count < quantum → AllWait c1.threads.living) → AreUnitsMade p quantum c0 o0 c1 o1

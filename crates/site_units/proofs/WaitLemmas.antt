@@ -22,7 +22,6 @@ use Rattle.thread_roster.specs.declared.mode.Mode.{Mode}
 use Rattle.thread_roster.specs.declared.mode.Mode.TheVariants as mode
 use Rattle.thread_roster.specs.Threads.{Entry, set_value, set_mode}
 use Rattle.thread_roster.proofs.ThreadLemmas.{each_found, each_value, each_mode, value_there}
-use Rattle.site_model.specs.Bundle.{bundle_limit}
 use Rattle.site_model.specs.Transition.{Transition, without_output}
 use Rattle.site_model.specs.Unit.{IsUnit, IsUnitFor, with_waiting}
 use Rattle.site_cells.specs.Tables.{CellTables, with_tables}
@@ -113,9 +112,9 @@ module _ (p : List Stmt) (c0 c c1 : Core) (th : ThreadName) (r q : Running) (o :
 
 -- the unit of a thread with this need
 pub unit_of : (p : List Stmt) (c : Core) (th : ThreadName) (r : Running) (need : Need) (d : Transition) → value_of equal_thread c.threads.living th ≡ Some (r, mode.Runs) → stack_need p c.variables.store.equations r.stack ≡ need →
-    IsUnitFor p c.sites bundle_limit (site_of c) th r.stack need d → IsUnit p c.sites bundle_limit th (site_of c) d
+    IsUnitFor p c.sites 0 (site_of c) th r.stack need d → IsUnit p c.sites 0 th (site_of c) d
 unit_of p c th r need d runs e u =
-    (r.stack, thread_found c.threads.living th r mode.Runs runs, subst (λ (k : Need). IsUnitFor p c.sites bundle_limit (site_of c) th r.stack k d) (sym e) u)
+    (r.stack, thread_found c.threads.living th r mode.Runs runs, subst (λ (k : Need). IsUnitFor p c.sites 0 (site_of c) th r.stack k d) (sym e) u)
 
 pub wait_made : (p : List Stmt) (c0 c c1 : Core) (o0 : Output) (th : ThreadName) (r q : Running) (x : VarName) → IsStepping p c0 c th r q (out.Waits x) →
     c1.variables ≡ c.variables → c1.fresh ≡ c.fresh → c1.threads.living ≡ set_mode c.threads.living th (mode.Waits x) → c1.steps ≡ c.steps → c1.sites ≡ c.sites → c1.threads.ended ≡ c.threads.ended → c1.cells ≡ c.cells →

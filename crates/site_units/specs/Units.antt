@@ -39,9 +39,17 @@ pub record IsReached (p : List Stmt) (d : Transition) (c0 : Core) (o0 : Output) 
 
 -- ---- a unit
 
--- the thread made a unit
+-- The functions that make a unit, and those of a message's row, send messages bare: their clauses have 0 where the limit of
+-- bundles stands. As the unit or the row ends, each message gets its bundle (`pack_sent`), of all that the site knows then. By the
+-- law `bundles_come_last` that is the bundle which the definitions want.
+
+-- the thread made a unit, whose messages are bare
 abbrev pub IsUnitMade : List Stmt → ThreadName → Core → Output → Core → Output → Type 0
-IsUnitMade p th c0 o0 c1 o1 = (d : Transition) × IsUnit p c0.sites bundle_limit th (site_of c0) d × IsReached p d c0 o0 c1 o1
+IsUnitMade p th c0 o0 c1 o1 = (d : Transition) × IsUnit p c0.sites 0 th (site_of c0) d × IsReached p d c0 o0 c1 o1
+
+-- and they got those of the run
+abbrev pub IsUnitPacked : List Stmt → ThreadName → Core → Output → Core → Output → Type 0
+IsUnitPacked p th c0 o0 c1 o1 = (d : Transition) × IsUnit p c0.sites bundle_limit th (site_of c0) d × IsReached p d c0 o0 c1 o1
 
 -- the thread of this name is r, and can go on
 abbrev pub IsRunning : Core → ThreadName → Running → Type 0

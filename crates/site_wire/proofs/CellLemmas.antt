@@ -10,7 +10,7 @@ use Rattle.tree_node.specs.Goal.{equal_cell}
 use Rattle.tree_node.specs.Store.{Store}
 use Rattle.kernel_syntax.specs.declared.stmt.Stmt.{Stmt}
 use Rattle.kernel_syntax.specs.Program.{IsProgram}
-use Rattle.oz_model.proofs.KindLemmas.{equal_cell_decides}
+use Rattle.oz_model.proofs.KindLemmas.{equal_cell_decides, cell_cases}
 use Rattle.site_message.specs.declared.message.Msg.TheVariants as msg
 use Rattle.site_message.specs.Wire.{IsSite, FitsVar}
 use Rattle.token_chain.specs.declared.token.Token.{Token}
@@ -22,7 +22,7 @@ use Rattle.site_model.specs.Site.{CellRecord, Threads, cell_record_in, unused_ce
 use Rattle.world_model.proofs.CellLemmas.{leaves_here, letters}
 use Rattle.site_wire.specs.Sending.{CanBeSpelled, EquationsFit, ContentFits, QueueFits, ThreadsFit, queue_in}
 use Rattle.site_wire.proofs.BundleLemmas.{carried}
-use Rattle.site_wire.proofs.ThreadLemmas.{cell_cases}
+use Rattle.site_model.proofs.CellKeyLemmas.{place_here, place_other}
 
 -- ---- replies
 
@@ -75,47 +75,17 @@ mails_spelled p is limit high c s pc h (Put to v ∷ ms) f = (carried p is limit
 
 -- ---- records
 
-cells_differ : (c d : CellName) → c ≢ d → equal_cell c d ≡ false
-cells_differ c d h = go (equal_cell c d) refl
-  where
-    go : (b : Bool) → equal_cell c d ≡ b → equal_cell c d ≡ false
-    go true e = absurd (h ((equal_cell_decides c d).0 e))
-    go false e = e
-
-pub record_here : (qs : List (CellName × CellRecord)) (c : CellName) (q : CellRecord) → cell_record_in (insert_entry equal_cell qs c q) c ≡ q
-record_here [] c q = rw ((equal_cell_decides c c).1 refl) refl
-record_here ((d, r) ∷ qs) c q = go (equal_cell c d) refl (record_here qs c q)
-  where
-    go : (b : Bool) → equal_cell c d ≡ b → cell_record_in (insert_entry equal_cell qs c q) c ≡ q → cell_record_in (cond (equal_cell c d) ((d, q) ∷ qs) ((d, r) ∷ insert_entry equal_cell qs c q)) c ≡ q
-    go true e ih = rw (e, e) refl
-    go false e ih = rw (e, e) ih
-
-pub record_other : (qs : List (CellName × CellRecord)) (c d : CellName) (q : CellRecord) → d ≢ c → cell_record_in (insert_entry equal_cell qs c q) d ≡ cell_record_in qs d
-record_other [] c d q h = rw (cells_differ d c h) refl
-record_other ((e, r) ∷ qs) c d q h = go (equal_cell c e) refl (record_other qs c d q h)
-  where
-    go : (b : Bool) → equal_cell c e ≡ b → cell_record_in (insert_entry equal_cell qs c q) d ≡ cell_record_in qs d → cell_record_in (cond (equal_cell c e) ((e, q) ∷ qs) ((e, r) ∷ insert_entry equal_cell qs c q)) d ≡ cell_record_in ((e, r) ∷ qs) d
-    go true k ih =
-        let same : c ≡ e = (equal_cell_decides c e).0 k in
-        let differs : equal_cell d e ≡ false = cells_differ d e (λ z. h (z ∙ sym same)) in
-        rw (k, differs) refl
-    go false k ih = rw k (next (equal_cell d e) ih)
-      where
-        next : (b : Bool) → cell_record_in (insert_entry equal_cell qs c q) d ≡ cell_record_in qs d → unwrap_or (cond b (Some r) (lookup (equal_cell d) (insert_entry equal_cell qs c q))) unused_cell ≡ unwrap_or (cond b (Some r) (lookup (equal_cell d) qs)) unused_cell
-        next true i = refl
-        next false i = i
-
 -- another record of a cell
 pub contents_put : (qs : List (CellName × CellRecord)) (c : CellName) (r : CellRecord) → ContentFits r.held.token → ((d : CellName) → ContentFits (cell_record_in qs d).held.token) → (d : CellName) → ContentFits (cell_record_in (insert_entry equal_cell qs c r) d).held.token
-contents_put qs c r f h d = go (cell_cases c d)
+contents_put qs c r f h d = go (cell_cases d c)
   where
     go : (d ≡ c) ⊎ (d ≢ c) → ContentFits (cell_record_in (insert_entry equal_cell qs c r) d).held.token
-    go (inl e) = subst (λ (z : CellName). ContentFits (cell_record_in (insert_entry equal_cell qs c r) z).held.token) (sym e) (subst (λ (q : CellRecord). ContentFits q.held.token) (sym (record_here qs c r)) f)
-    go (inr e) = subst (λ (q : CellRecord). ContentFits q.held.token) (sym (record_other qs c d r e)) (h d)
+    go (inl e) = subst (λ (z : CellName). ContentFits (cell_record_in (insert_entry equal_cell qs c r) z).held.token) (sym e) (subst (λ (q : CellRecord). ContentFits q.held.token) (sym (place_here qs c r)) f)
+    go (inr e) = subst (λ (q : CellRecord). ContentFits q.held.token) (sym (place_other qs c d r e)) (h d)
 
 pub queues_put : (p : List Stmt) (i made : ℕ) (ts : Threads) (qs : List (CellName × CellRecord)) (c : CellName) (r : CellRecord) → QueueFits ts c r.queue → ThreadsFit p i made ts (queue_in qs) → ThreadsFit p i made ts (queue_in (insert_entry equal_cell qs c r))
-queues_put p i made ts qs c r f h = record { each = h.each; own = h.own; queues = λ d. go d (cell_cases c d) }
+queues_put p i made ts qs c r f h = record { each = h.each; own = h.own; queues = λ d. go d (cell_cases d c) }
   where
     go : (d : CellName) → (d ≡ c) ⊎ (d ≢ c) → QueueFits ts d (queue_in (insert_entry equal_cell qs c r) d)
-    go d (inl e) = subst (λ (z : CellName). QueueFits ts z (queue_in (insert_entry equal_cell qs c r) z)) (sym e) (subst (λ (q : CellRecord). QueueFits ts c q.queue) (sym (record_here qs c r)) f)
-    go d (inr e) = subst (λ (q : CellRecord). QueueFits ts d q.queue) (sym (record_other qs c d r e)) (h.queues d)
+    go d (inl e) = subst (λ (z : CellName). QueueFits ts z (queue_in (insert_entry equal_cell qs c r) z)) (sym e) (subst (λ (q : CellRecord). QueueFits ts c q.queue) (sym (place_here qs c r)) f)
+    go d (inr e) = subst (λ (q : CellRecord). QueueFits ts d q.queue) (sym (place_other qs c d r e)) (h.queues d)

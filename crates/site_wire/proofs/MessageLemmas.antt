@@ -24,7 +24,7 @@ use Rattle.site_message.specs.Vars.{vars_of, field_vars}
 use Rattle.site_message.specs.Wire.{IsSite, FitsVar, FitsField, FitsTerm, FitsEquation, FitsWire}
 use Rattle.oz_model.specs.Effect.{CellChange, Stays, Made, Exchanged, stack_effect}
 use Rattle.oz_model.specs.EffectNames.{EachOfChange}
-use Rattle.oz_model.proofs.KindLemmas.{equal_cell_decides}
+use Rattle.oz_model.proofs.KindLemmas.{equal_cell_decides, cell_cases}
 use Rattle.variable_owner.specs.declared.owners.Owner.{Owner}
 use Rattle.variable_owner.specs.declared.owners.Owner.TheVariants.{Open, Bound}
 use Rattle.variable_owner.specs.Owners.{owner_of}
@@ -43,10 +43,13 @@ use Rattle.site_model.specs.Turn.{IsReception, SiteTurn}
 use Rattle.site_wire.specs.Sending.{CanBeSpelled, IsOfSites, TermFits, EquationsFit, OwnersFit, StackFits, ThreadFits, IsInLine, ThreadsFit, ContentFits, queue_in, SiteFits, TransitionFits}
 use Rattle.site_wire.proofs.TermLemmas.{term_heard, equations_heard}
 use Rattle.site_wire.proofs.EffectLemmas.{GoesOn, calm_fits}
-use Rattle.site_wire.proofs.ThreadLemmas.{cell_cases, besides, besides_fit, served_fit, line_stays, queues_same}
-use Rattle.site_wire.proofs.CellLemmas.{leave_fits, get_fits, record_here, record_other, contents_put}
+use Rattle.site_wire.proofs.ThreadLemmas.{besides, besides_fit, served_fit, line_stays, queues_same}
+use Rattle.site_wire.proofs.CellLemmas.{leave_fits, get_fits, contents_put}
 use Rattle.site_wire.proofs.SiteLemmas.{registered_fit, still, fits_then, meets_fit, told_fit, told_all_fit, told_each, bind_fits, reply_fits}
 use Rattle.site_wire.proofs.StepLemmas.{dead_woken, begins_fits, settled_fits, units_fit}
+use Rattle.site_model.proofs.CellKeyLemmas.{place_here, place_other}
+use Rattle.site_model.proofs.StillLemmas.{told_all_counters}
+use Rattle.site_model.proofs.BundleLemmas.{bundle_wire}
 
 -- ---- the variables of a message
 
@@ -66,15 +69,6 @@ equations_vars : (es : List Equation) → Each FitsEquation es → Each FitsVar 
 equations_vars [] h = tt
 equations_vars (e ∷ es) h = each_append FitsVar (e.0 ∷ vars_of e.1) (vars_of_equations es) (h.0.0, term_vars e.1 h.0.1) (equations_vars es h.1)
 
-bundle_fits : (m : Msg) → FitsWire m → Each FitsEquation (message_bundle m)
-bundle_fits (msg.Spawn th code vars es) h = h.2.1
-bundle_fits (msg.Register x k) h = tt
-bundle_fits (msg.BindReq x th t es) h = h.3.1
-bundle_fits (msg.Binding x t es) h = h.2.1
-bundle_fits (msg.Get c k) h = tt
-bundle_fits (msg.Forward c k) h = tt
-bundle_fits (msg.Put c v es) h = h.2.1
-
 body_fits : (m : Msg) → FitsWire m → Each FitsVar (body_vars m)
 body_fits (msg.Spawn th code vars es) h = h.1.1
 body_fits (msg.Register x k) h = (h.0, tt)
@@ -85,7 +79,7 @@ body_fits (msg.Forward c k) h = tt
 body_fits (msg.Put c v es) h = (h.1, tt)
 
 vars_fit : (m : Msg) → FitsWire m → Each FitsVar (message_vars m)
-vars_fit m h = each_append FitsVar (body_vars m) (vars_of_equations (message_bundle m)) (body_fits m h) (equations_vars (message_bundle m) (bundle_fits m h))
+vars_fit m h = each_append FitsVar (body_vars m) (vars_of_equations (message_bundle m)) (body_fits m h) (equations_vars (message_bundle m) (bundle_wire m h))
 
 -- ---- what equations that come to be known leave as it was
 
@@ -101,19 +95,6 @@ told_dead s x t n none = go (is_own s.records x) refl (knowledge s.records x) re
 told_all_dead : (es : List Equation) (s : Site) (n : ThreadName) → thread_state s n ≡ None → thread_state (with_known_equations s es) n ≡ None
 told_all_dead [] s n none = none
 told_all_dead (e ∷ es) s n none = told_all_dead es (with_known_equation s e.0 e.1) n (told_dead s e.0 e.1 n none)
-
-told_counters : (s : Site) (x : VarName) (t : Term) → (with_known_equation s x t).counters ≡ s.counters
-told_counters s x t = go (is_own s.records x) refl (knowledge s.records x) refl
-  where
-    go : (c : Bool) → is_own s.records x ≡ c → (o : Option (Option Term)) → knowledge s.records x ≡ o → (with_known_equation s x t).counters ≡ s.counters
-    go true q o e = rw (e, q) refl
-    go false q None e = rw (e, q) refl
-    go false q (Some None) e = rw (e, q) refl
-    go false q (Some (Some r)) e = rw (e, q) refl
-
-told_all_counters : (es : List Equation) (s : Site) → (with_known_equations s es).counters ≡ s.counters
-told_all_counters [] s = refl
-told_all_counters (e ∷ es) s = told_all_counters es (with_known_equation s e.0 e.1) ∙ told_counters s e.0 e.1
 
 -- ---- contents
 
@@ -133,7 +114,7 @@ record BesidesFits (p : List Stmt) (i : ℕ) (c : CellName) (s : Site) : Type 0 
 module _ (p : List Stmt) (is : IsProgram p) (n limit : ℕ) (high : limit ≤ 256) (i : ℕ) (low : IsSite i) where
   opens_fit : (m : Msg) (s : Site) → FitsWire m → CodesFit p m → SiteFits p i s → TransitionFits p i (opening m s)
   opens_fit m s w c h = meets_fit p is limit high i low (message_vars m) (with_known_equations s (message_bundle m)) (vars_fit m w)
-      (told_all_fit p is limit high i low (message_bundle m) s (equations_heard p (message_bundle m) (bundle_fits m w) c.1.1) h)
+      (told_all_fit p is limit high i low (message_bundle m) s (equations_heard p (message_bundle m) (bundle_wire m w) c.1.1) h)
 
   -- ---- those that waited are served
 
@@ -143,7 +124,7 @@ module _ (p : List Stmt) (is : IsProgram p) (n limit : ℕ) (high : limit ≤ 25
       site = h.site;
       equations = h.equations;
       owners = h.owners;
-      threads = queues_same p i s.counters.threads s.threads (besides c (queue_in s.cell_records)) _ (λ d. same d (cell_cases c d)) h.threads;
+      threads = queues_same p i s.counters.threads s.threads (besides c (queue_in s.cell_records)) _ (λ d. same d (cell_cases d c)) h.threads;
       contents = contents_put s.cell_records c (record { held = record (cell_record s c).held { token = Here v; waiting = 0 }; queue = [] }) fits h.contents;
     };
     sent = tt;
@@ -152,10 +133,10 @@ module _ (p : List Stmt) (is : IsProgram p) (n limit : ℕ) (high : limit ≤ 25
       same : (d : CellName) → (d ≡ c) ⊎ (d ≢ c) → queue_in (insert_entry equal_cell s.cell_records c (record { held = record (cell_record s c).held { token = Here v; waiting = 0 }; queue = [] })) d ≡ besides c (queue_in s.cell_records) d
       same d (inl e) =
           let none : queue_in (insert_entry equal_cell s.cell_records c (record { held = record (cell_record s c).held { token = Here v; waiting = 0 }; queue = [] })) d ≡ [] =
-          subst (λ (z : CellName). queue_in (insert_entry equal_cell s.cell_records c (record { held = record (cell_record s c).held { token = Here v; waiting = 0 }; queue = [] })) z ≡ []) (sym e) (ap (λ (q : CellRecord). q.queue) (record_here s.cell_records c (record { held = record (cell_record s c).held { token = Here v; waiting = 0 }; queue = [] }))) in
+          subst (λ (z : CellName). queue_in (insert_entry equal_cell s.cell_records c (record { held = record (cell_record s c).held { token = Here v; waiting = 0 }; queue = [] })) z ≡ []) (sym e) (ap (λ (q : CellRecord). q.queue) (place_here s.cell_records c (record { held = record (cell_record s c).held { token = Here v; waiting = 0 }; queue = [] }))) in
           let yes : equal_cell d c ≡ true = (equal_cell_decides d c).1 e in
           none ∙ sym (ap (λ (b : Bool). cond b [] (queue_in s.cell_records d)) yes)
-      same d (inr e) = ap (λ (q : CellRecord). q.queue) (record_other s.cell_records c d (record { held = record (cell_record s c).held { token = Here v; waiting = 0 }; queue = [] }) e) ∙ go (equal_cell d c) refl
+      same d (inr e) = ap (λ (q : CellRecord). q.queue) (place_other s.cell_records c d (record { held = record (cell_record s c).held { token = Here v; waiting = 0 }; queue = [] }) e) ∙ go (equal_cell d c) refl
         where
           go : (b : Bool) → equal_cell d c ≡ b → queue_in s.cell_records d ≡ cond b [] (queue_in s.cell_records d)
           go true q = absurd (e ((equal_cell_decides d c).0 q))

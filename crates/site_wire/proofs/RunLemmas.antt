@@ -34,7 +34,7 @@ module _ (p : List Stmt) (is : IsProgram p) (i : ℕ) where
   first_threads true = starts_fit p i 1 [] (queue_in []) first_thread (body_item p (record { 0 = 0 }) [] ∷ []) refl (omega arith, omega arith) first_stack (λ mine. omega arith) (no_threads 1)
   first_threads false = no_threads 0
 
-  start_fits : SiteFits p i (initial_site p i)
+  pub start_fits : SiteFits p i (initial_site p i)
   start_fits = record {
     site = refl;
     equations = record { names = tt; nodes = tt };
@@ -44,10 +44,11 @@ module _ (p : List Stmt) (is : IsProgram p) (i : ℕ) where
   }
 
 module _ (p : List Stmt) (is : IsProgram p) (n limit : ℕ) (high : limit ≤ 256) (i : ℕ) (low : IsSite i) where
-  abbrev Fits : List Turn → Site → Type 0
+  abbrev pub Fits : List Turn → Site → Type 0
   Fits j s = SiteFits p i s × Each (λ (e : Turn). CanBeSpelled e.sent) (own i j)
 
-  run_fits : (j : List Turn) (s : Site) → SiteRun p n limit i j s → Fits j s
+  -- after each turn the site keeps only what fits, and its turns sent what can be spelled
+  pub run_fits : (j : List Turn) (s : Site) → SiteRun p n limit i j s → Fits j s
   run_fits [] s e = (subst (SiteFits p i) (sym e) (start_fits p is i), tt)
   run_fits (e ∷ j) s run = go (e.site == i) run (λ t k. run_fits j t k)
     where

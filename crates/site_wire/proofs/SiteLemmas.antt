@@ -38,6 +38,7 @@ use Rattle.site_wire.proofs.TermLemmas.{term_spelled, more_fits}
 use Rattle.site_wire.proofs.BundleLemmas.{carried}
 use Rattle.site_wire.proofs.ThreadLemmas.{woken_fit, made_more}
 use Rattle.site_wire.proofs.CellLemmas.{ReplyFits, mails_spelled, contents_put, queues_put}
+use Rattle.site_model.proofs.StillLemmas.{makes_site}
 
 -- ---- own variables
 
@@ -80,10 +81,6 @@ registered_fit p os x k h = go (owner_of os x) refl
 made_fit : (p : List Stmt) (b : Records) (xs : List VarName) → OwnersFit p b.owners → OwnersFit p (after_makes b xs).owners
 made_fit p b [] h = h
 made_fit p b (x ∷ xs) h = made_fit p (record b { owners = with_owner b.owners x (Open []) }) xs (owner_put p b.owners x (Open []) (never_open p []) h)
-
-made_site : (b : Records) (xs : List VarName) → (after_makes b xs).site ≡ b.site
-made_site b [] = refl
-made_site b (x ∷ xs) = made_site (record b { owners = with_owner b.owners x (Open []) }) xs
 
 threads_counted : (c : Counters) (kinds : List NameKind) → c.threads ≤ (counters_after c kinds).threads
 threads_counted c [] = omega arith
@@ -186,7 +183,7 @@ module _ (p : List Stmt) (is : IsProgram p) (limit : ℕ) (high : limit ≤ 256)
 
   pub fresh_fits : (kinds : List NameKind) (s : Site) → SiteFits p i s → SiteFits p i (with_fresh_names kinds s)
   fresh_fits kinds s h = record {
-    site = made_site s.records (vars_among (fresh_names s kinds)) ∙ h.site;
+    site = makes_site s.records (vars_among (fresh_names s kinds)) ∙ h.site;
     equations = h.equations;
     owners = made_fit p s.records (vars_among (fresh_names s kinds)) h.owners;
     threads = made_more p i s.counters.threads (counters_after s.counters kinds).threads s.threads _ (threads_counted s.counters kinds) h.threads;

@@ -53,7 +53,7 @@ use Rattle.site_model.specs.Cells.{exchange_stack, with_own_request, with_last_a
 use Rattle.site_model.specs.Messages.{with_thread}
 use Rattle.site_model.specs.Turn.{AreUnits}
 use Rattle.site_model.specs.Unit.{next_names, counter_after, with_fresh_names, fresh_names, placement, birth_row, content_here, after_cell, runnable_state, after_effect, step_row, with_waiting, step_pick, effect_here, IsTokenHere, IsStepOrRequest, bind_attempt, IsUnitFor}
-use Rattle.world_model.proofs.EffectLemmas.{bind_effect}
+use Rattle.site_model.proofs.EffectLemmas.{bind_effect}
 use Rattle.world_model.proofs.KeyLemmas.{goes_there, woken_new, woken_old}
 use Rattle.site_wire.specs.Sending.{IsOfSites, EquationsFit, StackFits, IsAtNameless, ThreadFits, QueueFits, ContentFits, SiteFits, TransitionFits}
 use Rattle.site_wire.proofs.TextLemmas.{free_short}
@@ -63,6 +63,8 @@ use Rattle.site_wire.proofs.EffectLemmas.{BirthFits, EffectFits, effect_fits, ex
 use Rattle.site_wire.proofs.ThreadLemmas.{running_fits, goes_fit, starts_fit, lines_up}
 use Rattle.site_wire.proofs.CellLemmas.{request_fits, contents_put, queues_put}
 use Rattle.site_wire.proofs.SiteLemmas.{still, binds_fit, fresh_fits, reply_fits}
+use Rattle.site_model.proofs.StillLemmas.{binds_counters}
+use Rattle.site_model.proofs.FilledLemmas.{next_kinds}
 
 -- ---- the name of a thread that is born is the fresh one
 
@@ -117,13 +119,6 @@ fresh_of i c (kind.Cell ∷ ks) low = (low, fresh_of i (counter_after c kind.Cel
 fresh_of i c (kind.Proc ∷ ks) low = (low, fresh_of i (counter_after c kind.Proc) ks low)
 fresh_of i c (kind.Thread ∷ ks) low = (low, fresh_of i (counter_after c kind.Thread) ks low)
 
-fresh_kinds : (i : ℕ) (c : Counters) (kinds : List NameKind) → map kind_of (next_names i c kinds) ≡ kinds
-fresh_kinds i c [] = refl
-fresh_kinds i c (kind.Var ∷ ks) = ap (λ (ns : List NameKind). kind.Var ∷ ns) (fresh_kinds i (counter_after c kind.Var) ks)
-fresh_kinds i c (kind.Cell ∷ ks) = ap (λ (ns : List NameKind). kind.Cell ∷ ns) (fresh_kinds i (counter_after c kind.Cell) ks)
-fresh_kinds i c (kind.Proc ∷ ks) = ap (λ (ns : List NameKind). kind.Proc ∷ ns) (fresh_kinds i (counter_after c kind.Proc) ks)
-fresh_kinds i c (kind.Thread ∷ ks) = ap (λ (ns : List NameKind). kind.Thread ∷ ns) (fresh_kinds i (counter_after c kind.Thread) ks)
-
 -- ---- a name that no thread has
 
 pub dead_woken : (x : VarName) (ts : Threads) (n : ThreadName) → value_of equal_thread ts n ≡ None → value_of equal_thread (wake_all x ts) n ≡ None
@@ -156,10 +151,6 @@ runs_stay limit (q ∷ es) s th st e = woken_new q.0 (own_binds limit es s).site
 tokens_stay : (limit : ℕ) (es : List Equation) (s : Site) (c : CellName) → IsTokenHere s c → IsTokenHere (own_binds limit es s).site c
 tokens_stay limit [] s c h = h
 tokens_stay limit (q ∷ es) s c h = tokens_stay limit es s c h
-
-counters_stay : (limit : ℕ) (es : List Equation) (s : Site) → (own_binds limit es s).site.counters ≡ s.counters
-counters_stay limit [] s = refl
-counters_stay limit (q ∷ es) s = counters_stay limit es s
 
 -- what a step takes: a name for the thread that it bears, and the token of the cell that it exchanges
 pub record IsGiven (i : ℕ) (kinds : List NameKind) (e : Effect) (s : Site) : Type 0 where
@@ -286,7 +277,7 @@ module _ (p : List Stmt) (is : IsProgram p) (n limit : ℕ) (high : limit ≤ 25
       given b q = (
         dead_goes (after_cell e.cell (own_binds limit e.adds (with_fresh_names kinds s)).site).threads k.thread b.name _ (st, Runs) runs
             (subst (λ (ts : Threads). value_of equal_thread ts b.name ≡ None) (sym same.0) (dead_binds limit e.adds (with_fresh_names kinds s) b.name (g.none b q))),
-        (λ mine. subst (λ (c : Counters). b.name.num < c.threads) (sym (same.1 ∙ counters_stay limit e.adds (with_fresh_names kinds s))) (g.number b q mine)),
+        (λ mine. subst (λ (c : Counters). b.name.num < c.threads) (sym (same.1 ∙ binds_counters limit e.adds (with_fresh_names kinds s))) (g.number b q mine)),
       )
 
       born : TransitionFits p i (birth_row p n limit e.born (after_effect k.thread e (own_binds limit e.adds (with_fresh_names kinds s)).site))
@@ -377,7 +368,7 @@ module _ (p : List Stmt) (is : IsProgram p) (n limit : ℕ) (high : limit ≤ 25
     where
       f : EffectFits p (effect_here p s (fresh_names s kinds) None st)
       f = effect_fits p is s.equations (fresh_names s kinds) None st h.equations (h.threads.each th (st, Runs) now).stack (fresh_of s.records.site s.counters kinds (subst IsSite (sym h.site) low))
-          (fresh_kinds s.records.site s.counters kinds ∙ sym (ap kinds_of q)) (subst (λ (d : Need). IsBindFor s.equations d None) (sym q) tt)
+          (next_kinds s.records.site s.counters kinds ∙ sym (ap kinds_of q)) (subst (λ (d : Need). IsBindFor s.equations d None) (sym q) tt)
 
       -- the name that is taken next
       next : (ks : List NameKind) → ks ≡ kind.Thread ∷ [] → (thread_among (next_names s.records.site s.counters ks) ≡ record { site = s.records.site; num = s.counters.threads }) × (s.counters.threads < (with_fresh_names ks s).counters.threads)

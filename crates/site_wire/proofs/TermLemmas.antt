@@ -16,11 +16,7 @@ use Rattle.kernel_syntax.specs.Program.{IsProgram, IsStmt}
 use Rattle.oz_model.specs.WellFormed.{IsMadeBy, IsNode, IsNodeOf}
 use Rattle.site_message.specs.Wire.{FitsFeature, FitsField, FitsVar, FitsTerm, FitsEquation}
 use Rattle.site_wire.specs.Sending.{IsOfSites, TermFits, EquationsFit}
-
-statement_is : (p : List Stmt) (i : ℕ) → Each IsStmt p → IsStmt (unwrap_or (slice_get p i) stmt.Skip)
-statement_is [] i h = tt
-statement_is (st ∷ p) zero h = h.0
-statement_is (st ∷ p) (suc i) h = statement_is p i h.1
+use Rattle.oz_model.proofs.NodesWell.{fits}
 
 few_formals : (p : List Stmt) (formals : ℕ) (vars : List VarName) (st : Stmt) → IsStmt st → IsMadeBy p formals vars st → formals ≤ 64
 few_formals p formals vars (stmt.TellProc left first count body) h m = subst (λ (k : ℕ). k ≤ 64) m.0 h.0
@@ -44,7 +40,7 @@ module _ (p : List Stmt) (is : IsProgram p) where
   term_spelled (term.Node (node.Int i)) h = tt
   term_spelled (term.Node (node.Atom t)) h = h.1.1
   term_spelled (term.Node (node.Rec l fs)) h = (h.1.1.0, (h.1.0.0, h.1.0.1, fields_fit fs h.0 h.1.1.1, h.1.0.2))
-  term_spelled (term.Node (node.Proc q code formals vars)) h = (h.0.0, few_formals p formals vars (stmt_at p code) (statement_is p code.0 is.stmts) h.1.0, (h.1.1, h.0.1))
+  term_spelled (term.Node (node.Proc q code formals vars)) h = (h.0.0, few_formals p formals vars (stmt_at p code) (fits p code is.stmts) h.1.0, (h.1.1, h.0.1))
   term_spelled (term.Node (node.Cell c)) h = h.0
 
   pub equation_spelled : (e : Equation) → FitsVar e.0 → TermFits p e.1 → FitsEquation e

@@ -21,13 +21,6 @@ use Rattle.world_model.proofs.KeyLemmas.{with_here, with_there, goes_cases, goes
 use Rattle.site_message.specs.Wire.{IsSite}
 use Rattle.site_wire.specs.Sending.{StackFits, ThreadFits, IsInLine, QueueFits, ThreadsFit}
 
-pub cell_cases : (c d : CellName) → (d ≡ c) ⊎ (d ≢ c)
-cell_cases c d = go (equal_cell d c) refl
-  where
-    go : (b : Bool) → equal_cell d c ≡ b → (d ≡ c) ⊎ (d ≢ c)
-    go true e = inl ((equal_cell_decides d c).0 e)
-    go false e = inr (λ q. let yes : equal_cell d c ≡ true = (equal_cell_decides d c).1 q in cc)
-
 -- how a living thread stands is told once
 one_state : (ts : Threads) (n : ThreadName) (u v : ThreadState) → value_of equal_thread ts n ≡ Some u → value_of equal_thread ts n ≡ Some v → u ≡ v
 one_state ts n u v e f = let whole : ◌≡◌ {A = Option ThreadState} (Some u) (Some v) = sym e ∙ f in cc

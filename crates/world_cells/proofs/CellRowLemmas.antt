@@ -31,13 +31,13 @@ use Rattle.world_variables.proofs.RegisterLemmas.{MaySend, parts_posts, parts_go
 use Rattle.world_variables.proofs.RowLemmas.{to_put}
 use Rattle.world_variables.proofs.ModeLemmas.{mode_parts}
 use Rattle.world_model.proofs.CellLemmas.{OnlyCells, letters, forward_only, get_only, request_only, leave_each, get_each, request_each, get_keeps, leave_keeps, request_keeps, from_each}
-use Rattle.world_cells.proofs.CellKeyLemmas.{cell_or}
 use Rattle.world_cells.proofs.ReplyLemmas.{Answers, reply_answers, forward_answers, request_answers}
 use Rattle.world_cells.proofs.SendLemmas.{leave_may, reply_may, request_may}
 use Rattle.world_cells.proofs.ChainLemmas.{gets_posts, gets_gone, ChainAt, cell_there, get_arrives, forward_arrives, arrives_there, get_cells, forward_cells, request_cells}
 use Rattle.world_cells.proofs.QueueLemmas.{queues_put, forward_lists, get_lists, request_lists}
 use Rattle.world_cells.proofs.PutRowLemmas.{OneMessage, one_number, cell_may_go}
 use Rattle.world_variables.specs.Rows.{PartsIn}
+use Rattle.oz_model.proofs.KindLemmas.{cell_cases}
 
 -- ---- a deed that changes what is kept of cells alone
 
@@ -63,7 +63,7 @@ request_here : (manager last i : ℕ) (new : VarName) (h : Holding) → ((u : Va
 request_here manager last i new h elsewhere u e = absurd (request_keeps manager last i new h u elsewhere e)
 
 answers_here : (c : CellName) (r : Reply) (s : Site) (d : Transition) → Answers c r s d → ((u : VarName) → r.held.token ≡ Here u → (cell_record s c).held.token ≡ Here u) → (b : CellName) (u : VarName) → (cell_record d.site b).held.token ≡ Here u → (cell_record s b).held.token ≡ Here u
-answers_here c r s d a same b u h = go (cell_or b c)
+answers_here c r s d a same b u h = go (cell_cases b c)
   where
     go : (b ≡ c) ⊎ (b ≢ c) → (cell_record s b).held.token ≡ Here u
     go (inl e) = subst (λ (x : CellName). (cell_record s x).held.token ≡ Here u) (sym e) (same u (sym (ap (λ (x : Holding). x.token) a.held) ∙ subst (λ (x : CellName). (cell_record d.site x).held.token ≡ Here u) e h))

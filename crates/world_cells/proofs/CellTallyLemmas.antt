@@ -17,10 +17,10 @@ use Rattle.site_model.specs.Site.{last_asker}
 use Rattle.site_model.specs.Transition.{Transition}
 use Rattle.world_model.specs.World.{World, Sites, Mail, after_transition}
 use Rattle.world_cells.specs.CellCounts.{cell_weight, cell_weights, IsTallied}
-use Rattle.world_cells.proofs.CellKeyLemmas.{cell_or}
 use Rattle.world_cells.proofs.UnitQueueLemmas.{not_both}
 use Rattle.world_cells.proofs.ReplyLemmas.{Answers}
 use Rattle.world_cells.proofs.ChainLemmas.{held, tally, Came, Untouched, others_stay, lifts}
+use Rattle.oz_model.proofs.KindLemmas.{cell_cases}
 
 pub weighs_append : (c : CellName) (g f u : ℕ) (ms os : List Sent) → cell_weights c g f u (ms ++ os) ≡ cell_weights c g f u ms + cell_weights c g f u os
 weighs_append c g f u [] os = omega arith
@@ -94,9 +94,9 @@ pub tallied_row : (n : ℕ) (f g : Sites) (mail more : Mail) (cells to : List (C
     ((b : CellName) → b ≢ c → value_of equal_cell to b ≡ value_of equal_cell cells b) → ((b : CellName) → b ≢ c → (k l u : ℕ) → cell_weights b k l u sent ≡ 0) → ((b : CellName) → b ≢ c → y b ≡ x b) →
     (v : VarName) → value_of equal_cell to c ≡ Some v → IsTallied n g more (out ++ sent) c (y c) → CellsTallied n f mail cells out x → CellsTallied n g more to (out ++ sent) y
 tallied_row n f g mail more cells to out sent x y c others values silent counts v value here t = record {
-  tallied = λ b u e. made b u e (cell_or b c);
-  unmade = λ b e k l u. unmade b e k l u (cell_or b c);
-  still = λ b e. still b e (cell_or b c);
+  tallied = λ b u e. made b u e (cell_cases b c);
+  unmade = λ b e k l u. unmade b e k l u (cell_cases b c);
+  still = λ b e. still b e (cell_cases b c);
 }
   where
     made : (b : CellName) (u : VarName) → value_of equal_cell to b ≡ Some u → (b ≡ c) ⊎ (b ≢ c) → IsTallied n g more (out ++ sent) b (y b)

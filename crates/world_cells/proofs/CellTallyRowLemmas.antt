@@ -36,7 +36,6 @@ use Rattle.world_model.specs.World.{World, Travels, after_transition, after_rece
 use Rattle.world_cells.specs.CellCounts.{cell_weights, IsTallied}
 use Rattle.world_model.specs.Matches.{CellsMatch}
 use Rattle.world_model.proofs.MailLemmas.{sent_to}
-use Rattle.world_cells.proofs.CellKeyLemmas.{cell_same, cell_differs}
 use Rattle.world_cells.proofs.TallyLemmas.{OneOfNumber}
 use Rattle.world_cells.proofs.ReplyLemmas.{get_answers, get_manages, forward_answers, request_answers, request_others}
 use Rattle.world_cells.proofs.FrameLemmas.{NoCells, silent_list, weightless}
@@ -45,6 +44,7 @@ use Rattle.world_cells.proofs.UnitCellLemmas.{stays_nothing, exchanged_answers, 
 use Rattle.world_cells.proofs.UnitCellRowLemmas.{IsReachable, IsOwnCell}
 use Rattle.world_cells.proofs.CellTallyLemmas.{CellsTallied, row_tally, tallied_row, tallied_still, weighs_append}
 use Rattle.world_cells.proofs.PutRowLemmas.{PutRow}
+use Rattle.oz_model.proofs.KindLemmas.{cell_same, cells_differ}
 
 same_count : (x : CellName → ℕ) (c : CellName) → x c ≡ x c + 0
 same_count x c = omega arith
@@ -180,7 +180,7 @@ module _ (n : ℕ) (w : World) (z : State) (x : CellsMatch w z) (out : List Sent
         let tallied = making_tallies n (held w.sites c) (held (after_transition w i unit_deed).sites c) (tally c w.mail) (tally c (after_transition w i unit_deed).mail) i v low high nowhere.away nowhere.quiet (lifts w i unit_deed c _ [] w.mail a (none_came c w.mail)) in
         tallied_row n w.sites (after_transition w i unit_deed).sites w.mail (after_transition w i unit_deed).mail z.cells ((c, v) ∷ z.cells) out unit_deed.sent count (λ b. count b + 0) c
         (λ b d. others_stay w i unit_deed b w.mail (a.others b d) (m.others b d) (a.silent b d) (λ m. refl))
-        (λ b d. rw (cell_differs c b (λ q. d (sym q))) refl) a.no_kinds (λ b d. sym (same_count count b)) v (rw (cell_same c) refl)
+        (λ b d. rw (cells_differ c b (λ q. d (sym q))) refl) a.no_kinds (λ b d. sym (same_count count b)) v (rw (cell_same c) refl)
         (rw (kind c (t.unmade c f) a.kinds 1 0 0, kind c (t.unmade c f) a.kinds 0 1 0, kind c (t.unmade c f) a.kinds 0 0 1, t.still c f) tallied) t
       where
         kind : (c : CellName) → ((g l u : ℕ) → cell_weights c g l u out ≡ 0) → ((g l u : ℕ) → cell_weights c g l u unit_deed.sent ≡ 0) → (g l u : ℕ) → cell_weights c g l u (out ++ unit_deed.sent) ≡ 0
@@ -188,7 +188,7 @@ module _ (n : ℕ) (w : World) (z : State) (x : CellsMatch w z) (out : List Sent
     unit_go (Exchanged c new told) is f r o =
         row_tally n w w.mail i unit_deed c (silent (record (cell_record (w.sites i) c).held { token = Here new })) [] z.cells (with_value equal_cell z.cells c new) out count (λ b. count b + cond (equal_cell c b) 1 0) 1 low high (exchanged_answers p n limit k kinds e (w.sites i) c new told is)
         (λ b d. ap (lookup (equal_cell b)) (exchanged_managers p n limit k kinds e (w.sites i) c new told is)) (none_came c w.mail) (λ b d m. refl)
-        (λ b d. put_there z.cells c b new (cell_differs c b (λ q. d (sym q)))) (λ b d. other_count (count b) (equal_cell c b) (cell_differs c b (λ q. d (sym q)))) (one_count (count c) (equal_cell c c) (cell_same c))
+        (λ b d. put_there z.cells c b new (cells_differ c b (λ q. d (sym q)))) (λ b d. other_count (count b) (equal_cell c b) (cells_differ c b (λ q. d (sym q)))) (one_count (count c) (equal_cell c c) (cell_same c))
         (pays_came (held w.sites c i) _ _ 1 (exchange_pays (held w.sites c i) r.0 new r.1)) new (put_here z.cells c f.0 new f.1) (t.tallied c f.0 f.1) t
 
     pub unit_tally : FindsCell z.cells e.cell → IsReachable (w.sites i) e.cell → IsOwnCell i e.cell → Then (after_transition w i unit_deed) unit_deed.sent (cells_after z.cells e.cell) (λ b. count b + exchanges_of e.cell b)

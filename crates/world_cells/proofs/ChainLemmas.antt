@@ -28,9 +28,9 @@ use Rattle.world_model.specs.World.{Sites, Mail, World, Travels, cell_records, m
 use Rattle.world_model.specs.Chain.{held_in, messages, HasChain, IsNowhere, Cells, AreGetsAddressed}
 use Rattle.world_model.proofs.PutLemmas.{nat_decides, at_here, at_other}
 use Rattle.world_model.proofs.MailLemmas.{sent_to, posts, gone}
-use Rattle.world_cells.proofs.CellKeyLemmas.{cell_or}
 use Rattle.world_cells.proofs.TallyLemmas.{Says, IsSilent, OneOfNumber, says_get, says_forward, says_put, silent_get, silent_forward, silent_put, tally_sent, tally_came, tally_other, tally_there}
 use Rattle.world_cells.proofs.ReplyLemmas.{Answers, get_answers, get_manages, forward_answers, request_answers, request_last, request_elsewhere, request_others, request_same}
+use Rattle.oz_model.proofs.KindLemmas.{cell_cases}
 
 abbrev pub held : Sites → CellName → ℕ → Holding
 held f c = held_in (cell_records f) c
@@ -77,8 +77,8 @@ pub record OneCell (f g : Sites) (mail more : Mail) (cells to : List (CellName �
 
 pub one_cell : (f g : Sites) (mail more : Mail) (cells to : List (CellName × VarName)) (c : CellName) → CellsAt f mail cells → OneCell f g mail more cells to c → CellsAt g more to
 one_cell f g mail more cells to c all o = record {
-  chains = λ b v e. chains b v e (cell_or b c);
-  others = λ b e. others b e (cell_or b c);
+  chains = λ b v e. chains b v e (cell_cases b c);
+  others = λ b e. others b e (cell_cases b c);
 }
   where
     chains : (b : CellName) (v : VarName) → value_of equal_cell to b ≡ Some v → (b ≡ c) ⊎ (b ≢ c) → ChainAt g more b v

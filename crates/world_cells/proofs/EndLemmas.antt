@@ -29,6 +29,7 @@ use Rattle.world_cells.proofs.CellFitLemmas.{nobody_waits}
 use Rattle.tree_node.proofs.ClassLemmas.{Contains-head}
 use Rattle.world_variables.proofs.StartLemmas.{start_thread}
 use Rattle.world_variables.proofs.QuietLemmas.{quiet_rests}
+use Rattle.world_variables.proofs.SumLemmas.{in_or}
 
 fewer : (ts : Threads) → length (filter waits ts) ≤ length ts
 fewer [] = omega arith
@@ -89,9 +90,6 @@ no_site p n limit i (e ∷ j) s some inside out run m v h = go (e.site == i) ref
     go true q run ih = let same : e.site ≡ i = (nat_decides e.site i).0 q in out (subst (λ (k : ℕ). (1 ≤ k) × (k ≤ n)) same inside.0)
     go false q run ih = ih run
 
-pub in_or_out : (i n : ℕ) → ((1 ≤ i) × (i ≤ n)) ⊎ (((1 ≤ i) × (i ≤ n)) → ⊥)
-in_or_out i n = search (rules, arith)
-
 no_mail : (mail : Mail) → ((k to : ℕ) (m : Msg) → Travels mail k to m → ⊥) → mail ≡ []
 no_mail [] h = refl
 no_mail (x ∷ mail) h = absurd (h x.0 x.1.to x.1.msg (Contains-head x mail))
@@ -104,7 +102,7 @@ quiet_mail n j q = no_mail (journal.travelling j) (λ k to m h. ((quiet_tells n 
 pub rests : (p : List Stmt) (n limit : ℕ) (j : List Turn) (f : Sites) → 1 ≤ n → Each (IsSiteIn n) j → ((i : ℕ) → SiteFitRun p n limit i j (f i)) → (r : Reached p (world_of j f) (Schedule.schedule j)) → IsTrue (is_quiet n j) → AtRest p r.centre
 rests p n limit j f some inside runs r q = quiet_rests p (here_at (records f)) (eqs f) (records f) (threads f) (counters f) (world_of j f).mail r.centre r.parts (record {
   none = none;
-  waits = λ i m st h. stands i m st h (in_or_out i n);
+  waits = λ i m st h. stands i m st h (in_or i n);
   cells = λ i m st d h. nobody_waits (world_of j f) r.centre r.cells (no_mail (world_of j f).mail none) i m st d h;
 }) (runs_are_sound p (Schedule.schedule j) r.centre r.run)
   where

@@ -30,6 +30,7 @@ use Rattle.site_model.specs.Messages.{with_thread, register_row, bind_request_ro
 use Rattle.site_model.specs.Unit.{next_names, with_fresh_names, placement, birth_row}
 use Rattle.world_cells.specs.CellCounts.{cell_weight, cell_weights}
 use Rattle.world_cells.proofs.TallyLemmas.{IsOfNone, none_says, silent_counts, travels_more, travels_none}
+use Rattle.site_model.proofs.StillLemmas.{meets_site, makes_site}
 
 abbrev pub AreOfNone : List Sent → Type 0
 AreOfNone ms = Each (λ (m : Sent). IsOfNone m.msg) ms
@@ -100,10 +101,6 @@ all_filled_none limit s (m ∷ ms) h = (filled_none limit s m h.0, all_filled_no
 
 -- ---- names are met
 
-after_meet_site : (b : Records) (x : VarName) (o : Bool) → is_own b x ≡ o → (after_meet b x).site ≡ b.site
-after_meet_site b x true e = rw e refl
-after_meet_site b x false e = rw e refl
-
 meet_none : (b : Records) (x : VarName) → AreOfNone (meet_sends b x)
 meet_none b x = go (is_own b x) (is_some (entry_of b.proxies x))
   where
@@ -111,10 +108,6 @@ meet_none b x = go (is_own b x) (is_some (entry_of b.proxies x))
     go true k = tt
     go false true = tt
     go false false = (tt, tt)
-
-meets_site : (b : Records) (xs : List VarName) → (after_meets b xs).site ≡ b.site
-meets_site b [] = refl
-meets_site b (x ∷ xs) = meets_site (after_meet b x) xs ∙ after_meet_site b x (is_own b x) refl
 
 meets_none : (b : Records) (xs : List VarName) → AreOfNone (meets_send b xs)
 meets_none b [] = tt
@@ -215,7 +208,3 @@ begins_nothing limit k kinds adds s = none_then s (with_pick (with_fresh_names k
   where
     makes_keeps : (kinds : List NameKind) (s : Site) (k : Pick) → NoCells s (with_pick (with_fresh_names kinds s) k)
     makes_keeps kinds s k = record { cell_records = refl; managers = refl; site = makes_site s.records (vars_among (next_names s.records.site s.counters kinds)); silent = tt }
-      where
-        makes_site : (b : Records) (xs : List VarName) → (after_makes b xs).site ≡ b.site
-        makes_site b [] = refl
-        makes_site b (x ∷ xs) = makes_site (after_make b x) xs

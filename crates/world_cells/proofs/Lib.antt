@@ -1,5 +1,4 @@
 pub mod CellFitLemmas
-pub mod CellKeyLemmas
 pub mod CellRowLemmas
 pub mod CellTallyLemmas
 pub mod CellTallyRowLemmas

@@ -37,7 +37,7 @@ use Rattle.world_model.specs.Matches.{IsNumbered, CellsMatch, IsAddressed, equat
 use Rattle.world_model.proofs.PutLemmas.{field_kept, at_here}
 use Rattle.world_model.proofs.MailLemmas.{gone, acts_after}
 use Rattle.world_variables.proofs.PlaceLemmas.{lands_none}
-use Rattle.world_model.proofs.EffectLemmas.{bind_effect}
+use Rattle.site_model.proofs.EffectLemmas.{bind_effect}
 use Rattle.world_variables.proofs.OpenLemmas.{meets_known, told_all_known, Opened, opens_row}
 use Rattle.world_variables.proofs.ReceiveLemmas.{IsAtOwner, takes_known, numbered_acts, Received, receive_row}
 use Rattle.world_variables.proofs.RunsLemmas.{runs_append}

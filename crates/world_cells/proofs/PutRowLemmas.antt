@@ -38,15 +38,16 @@ use Rattle.world_model.proofs.PutLemmas.{at_all, at_own}
 use Rattle.world_model.proofs.MailLemmas.{nothing, sent_to}
 use Rattle.world_variables.proofs.RegisterLemmas.{MayGo, parts_posts, parts_gone}
 use Rattle.world_variables.proofs.RowLemmas.{to_put}
-use Rattle.world_cells.proofs.CellKeyLemmas.{cell_or}
 use Rattle.world_cells.proofs.TallyLemmas.{OneOfNumber}
 use Rattle.world_cells.proofs.ReplyLemmas.{Answers, leave_answers, from_held}
 use Rattle.world_cells.proofs.SendLemmas.{leave_may}
 use Rattle.world_cells.proofs.ChainLemmas.{gets_posts, gets_gone, tally, CellsAt, ChainAt, cell_there, row_cells, put_arrives, arrives_there, arrives_here, arrives_other, last_same}
-use Rattle.world_cells.proofs.QueueLemmas.{SameWaiters, queue_same, queues_put, one_list_stays, waiters_equal, leave_queue, running_not, waits_same, thread_or}
+use Rattle.world_cells.proofs.QueueLemmas.{SameWaiters, queue_same, queues_put, one_list_stays, waiters_equal, leave_queue, running_not, waits_same}
 use Rattle.world_cells.proofs.UnitQueueLemmas.{Lists}
 use Rattle.world_cells.proofs.ServeAllLemmas.{Around, PartsOf, Served, serve_all}
 use Rattle.world_variables.specs.Rows.{PartsIn}
+use Rattle.thread_roster.proofs.NameLemmas.{name_cases as thread_or}
+use Rattle.oz_model.proofs.KindLemmas.{cell_cases}
 
 -- ---- lists
 
@@ -93,7 +94,7 @@ module _ (p : List Stmt) (a : Around) (i : ℕ) (c : CellName) (v : VarName) (s 
       new m st h (inr k) = r.rest m k ∙ h
 
   pub served_lists : Lists d.site
-  served_lists b = go (cell_or b c)
+  served_lists b = go (cell_cases b c)
     where
       empty : IsQueue (record { held = record (cell_record s c).held { token = Here r.content; waiting = 0 }; queue = [] }) d.site.threads c
       empty = record {
@@ -217,7 +218,7 @@ module _ (p : List Stmt) (limit : ℕ) (w : World) (z : State) (k i : ℕ) (c : 
   lists_after = leave_lists limit c first.site (served_lists p around i c v (w.sites i) z first served (x.queues i))
 
   contents_after : AreContentsHome (w.sites i).records whole.site.cell_records
-  contents_after b u e = go (cell_or b c)
+  contents_after b u e = go (cell_cases b c)
     where
       go : (b ≡ c) ⊎ (b ≢ c) → IsHere (w.sites i).records u
       go (inl q) =

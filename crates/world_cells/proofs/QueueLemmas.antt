@@ -26,9 +26,11 @@ use Rattle.world_model.proofs.PutLemmas.{nat_decides, at_all}
 use Rattle.world_model.proofs.MailLemmas.{nothing}
 use Rattle.world_model.proofs.KeyLemmas.{with_here, with_there, goes_cases, goes_there, woken_new, woken_old, wake_cell, front_here, front_other, running_old}
 use Rattle.world_model.proofs.CellLemmas.{request_only}
-use Rattle.world_cells.proofs.CellKeyLemmas.{cell_or}
 use Rattle.world_cells.proofs.ReplyLemmas.{reply_answers, reply_queue, leave_answers, forward_answers, request_answers, request_queue}
 use Rattle.tree_node.proofs.NameLemmas.{same_thread_decides}
+use Rattle.thread_roster.proofs.NameLemmas.{name_cases as thread_or}
+use Rattle.token_chain.proofs.AlikeLemmas.{leaves_none}
+use Rattle.oz_model.proofs.KindLemmas.{cell_cases}
 
 -- the same threads wait for the cell, with the same stacks
 pub record SameWaiters (ts us : Threads) (d : CellName) : Type 0 where
@@ -106,19 +108,9 @@ born_waiters xs ts d apart = record {
 
 -- ---- the token leaves
 
-leaves_number : (t : Token) (o : Option ℕ) (n : ℕ) (p : ℕ × VarName) → departure t o n ≡ Some p → n ≡ 0
-leaves_number Away o n p e = absurd (cc)
-leaves_number Asked o n p e = absurd (cc)
-leaves_number (Here v) None n p e = absurd (cc)
-leaves_number (Here v) (Some k) n p e = go (n == 0) refl e
-  where
-    go : (b : Bool) → (n == 0) ≡ b → (if b then Some (k, v) else None) ≡ Some p → n ≡ 0
-    go true f g = (nat_decides n 0).0 f
-    go false f g = absurd (cc)
-
 leaves_waiting : (h : Holding) (o : Option (ℕ × VarName)) → departure_of h ≡ o → (leave_with h o).held.waiting ≡ h.waiting
 leaves_waiting h None e = refl
-leaves_waiting h (Some (k, v)) e = sym (leaves_number h.token h.next h.waiting (k, v) e)
+leaves_waiting h (Some (k, v)) e = sym (leaves_none h.token h.next h.waiting (k, v) e)
 
 pub leave_waiting : (h : Holding) → (leave_reply h).held.waiting ≡ h.waiting
 leave_waiting h = leaves_waiting h (departure_of h) refl
@@ -171,7 +163,7 @@ get_queue limit c k s = record {
 -- a row that changes one cell, and keeps its list
 pub one_list_stays : (c : CellName) (s : Site) (d : Transition) → ((b : CellName) → IsQueue (cell_record s b) s.threads b) → KeepsQueue c s d → ((b : CellName) → b ≢ c → cell_record d.site b ≡ cell_record s b) →
     ((b : CellName) → SameWaiters s.threads d.site.threads b) → (b : CellName) → IsQueue (cell_record d.site b) d.site.threads b
-one_list_stays c s d all k others w b = go (cell_or b c)
+one_list_stays c s d all k others w b = go (cell_cases b c)
   where
     go : (b ≡ c) ⊎ (b ≢ c) → IsQueue (cell_record d.site b) d.site.threads b
     go (inl e) = subst (λ (x : CellName). IsQueue (cell_record d.site x) d.site.threads x) (sym e)
@@ -198,13 +190,6 @@ distinct_append [] x h none = (tt, tt)
 distinct_append (y ∷ xs) x h none =
     (each_append xs x y h.0 (λ e. none (subst (λ (z : ThreadName). Contains (y ∷ xs) z) e (Contains-head y xs))), distinct_append xs x h.1 (λ k. none (Contains-tail _ _ xs k)))
 
-pub thread_or : (n m : ThreadName) → (n ≡ m) ⊎ (n ≢ m)
-thread_or n m = go (equal_thread n m) refl
-  where
-    go : (b : Bool) → equal_thread n m ≡ b → (n ≡ m) ⊎ (n ≢ m)
-    go true e = inl ((same_thread_decides n m).0 e)
-    go false e = inr (λ p. let yes : equal_thread n m ≡ true = (same_thread_decides n m).1 p in cc)
-
 abbrev pub mode_in : Option ThreadState → Mode
 mode_in None = Runs
 mode_in (Some u) = u.1
@@ -217,7 +202,7 @@ waits_same st r c b e = let f : WaitsFor c ≡ WaitsFor b = ap mode_in e in cc
 
 pub request_lists : (limit : ℕ) (c : CellName) (new : VarName) (n : ThreadName) (st : Stack) (s : Site) → ((u : VarName) → (cell_record s c).held.token ≢ Here u) → value_of equal_thread s.threads n ≡ Some (st, Runs) → ((b : CellName) → IsQueue (cell_record s b) s.threads b) →
     (b : CellName) → IsQueue (cell_record (request_row limit c new n st s).site b) (request_row limit c new n st s).site.threads b
-request_lists limit c new n st s elsewhere runs all b = go (cell_or b c)
+request_lists limit c new n st s elsewhere runs all b = go (cell_cases b c)
   where
     q : CellRecord
     q = cell_record s c

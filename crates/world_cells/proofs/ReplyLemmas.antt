@@ -22,8 +22,10 @@ use Rattle.site_model.specs.Cells.{cell_reply, leave_row, forward_row, last_befo
 use Rattle.world_model.proofs.PutLemmas.{nat_decides}
 use Rattle.world_model.proofs.CellLemmas.{letter, letters}
 use Rattle.world_cells.specs.CellCounts.{cell_weight, cell_weights}
-use Rattle.world_cells.proofs.CellKeyLemmas.{cell_same, cell_differs, entry_here, entry_other, place_here, place_other}
+use Rattle.site_model.proofs.CellKeyLemmas.{entry_here, entry_other, place_here, place_other}
 use Rattle.world_cells.proofs.TallyLemmas.{Says, IsSilent, says_get, says_forward, says_put, silent_get, silent_forward, silent_put, silent_counts, travels_more, travels_none, travels_append}
+use Rattle.oz_model.proofs.KindLemmas.{cell_same, cells_differ}
+use Rattle.site_model.proofs.StillLemmas.{request_records}
 
 -- the site keeps this of the cell and sends these of its messages, and does nothing with other cells
 pub record Answers (c : CellName) (r : Reply) (s : Site) (d : Transition) : Type 0 where
@@ -79,9 +81,9 @@ letter_kind limit c s (Forward to k) g f u = one_kind (same_cell c c) f (cell_sa
 letter_kind limit c s (Put to v) g f u = one_kind (same_cell c c) u (cell_same c)
 
 letter_no_kind : (limit : ℕ) (b c : CellName) (s : Store) (a : token.Mail) → b ≢ c → (g f u : ℕ) → cell_weight b g f u (letter limit c s a).msg ≡ 0
-letter_no_kind limit b c s (Get k) h g f u = other_kind (same_cell b c) g (cell_differs b c h)
-letter_no_kind limit b c s (Forward to k) h g f u = other_kind (same_cell b c) f (cell_differs b c h)
-letter_no_kind limit b c s (Put to v) h g f u = other_kind (same_cell b c) u (cell_differs b c h)
+letter_no_kind limit b c s (Get k) h g f u = other_kind (same_cell b c) g (cells_differ b c h)
+letter_no_kind limit b c s (Forward to k) h g f u = other_kind (same_cell b c) f (cells_differ b c h)
+letter_no_kind limit b c s (Put to v) h g f u = other_kind (same_cell b c) u (cells_differ b c h)
 
 -- ---- those of a reply
 
@@ -162,15 +164,6 @@ get_manages limit c k s = record { here = entry_here s.managers c k; others = λ
 
 -- ---- a thread asks
 
-own_cells : (c : CellName) (t : Token) (u : Site) → (with_own_request c t u).cell_records ≡ u.cell_records
-own_cells c Away u = go (c.site == u.records.site)
-  where
-    go : (b : Bool) → (cond b (with_last_asker c u.records.site u) u).cell_records ≡ u.cell_records
-    go true = refl
-    go false = refl
-own_cells c Asked u = refl
-own_cells c (Here v) u = refl
-
 -- the last asker, where the site manages the cell
 own_last : (c : CellName) (t : Token) (u : Site) (last : ℕ) → c.site ≡ u.records.site → last_asker u c ≡ Some last → last_asker (with_own_request c t u) c ≡ Some (last_after c.site last u.records.site t)
 own_last c Away u last own e =
@@ -203,7 +196,7 @@ module _ (limit : ℕ) (c : CellName) (new : VarName) (n : ThreadName) (st : Sta
   token_here = (cell_record s c).held.token
 
   pub request_answers : Answers c (exchange_reply c.site (last_before s c) s.records.site new (cell_record s c).held) s (request_row limit c new n st s)
-  request_answers = reply_answers limit c _ _ s (with_own_request c token_here (with_exchange_waiting c n st s)) (own_cells c token_here (with_exchange_waiting c n st s))
+  request_answers = reply_answers limit c _ _ s (with_own_request c token_here (with_exchange_waiting c n st s)) (request_records c token_here (with_exchange_waiting c n st s))
 
   pub request_queue : (cell_record (request_row limit c new n st s).site c).queue ≡ (cell_record s c).queue ++ n ∷ []
   request_queue = reply_queue limit c _ (exchange_reply c.site (last_before s c) s.records.site new (cell_record s c).held) (with_own_request c token_here (with_exchange_waiting c n st s))

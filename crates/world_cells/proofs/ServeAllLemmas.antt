@@ -29,10 +29,12 @@ use Rattle.world_model.specs.Matches.{PartsMatch, IsExchange}
 use Rattle.world_model.proofs.PutLemmas.{at_here, at_twice}
 use Rattle.world_model.proofs.MailLemmas.{nothing}
 use Rattle.world_model.proofs.KeyLemmas.{with_here, with_there}
-use Rattle.world_cells.proofs.CellKeyLemmas.{place_here, place_other, cell_same, cell_differs}
+use Rattle.site_model.proofs.CellKeyLemmas.{place_here, place_other}
 use Rattle.world_cells.proofs.ExchangeStepLemmas.{Exchanges, stack_left, pick_of}
 use Rattle.world_cells.proofs.ServeLemmas.{serve_step, serve_parts, new_home}
 use Rattle.tree_node.proofs.NameLemmas.{same_thread_decides}
+use Rattle.oz_model.proofs.KindLemmas.{cell_same, cells_differ}
+use Rattle.tree_node.proofs.AssocLemmas.{length-with_value}
 
 -- ---- what the site does with one of them
 
@@ -48,22 +50,6 @@ module _ (p : List Stmt) (n : ThreadName) (v : VarName) (s : Site) (st : Stack) 
       ap (content_after_exchange_as p v s) at
       ∙ ap (λ (f : Effect). content_after_change v f.cell) (ap (λ (r : Store). stack_effect p r [] None st) (sym e))
       ∙ ap (content_after_change v) x.3
-
-with_length : (ts : Threads) (n : ThreadName) (v : ThreadState) → length (with_value equal_thread ts n v) ≡ length ts
-with_length [] n v = refl
-with_length ((m, u) ∷ ts) n v = go (equal_thread m n) (with_length ts n v)
-  where
-    go : (b : Bool) → length (with_value equal_thread ts n v) ≡ length ts → length (cond b ((n, v) ∷ ts) ((m, u) ∷ with_value equal_thread ts n v)) ≡ suc (length ts)
-    go true ih = refl
-    go false ih = ap suc ih
-
-stacks_length : (ts : List (ThreadName × Stack)) (n : ThreadName) (v : Stack) → length (with_value equal_thread ts n v) ≡ length ts
-stacks_length [] n v = refl
-stacks_length ((m, u) ∷ ts) n v = go (equal_thread m n) (stacks_length ts n v)
-  where
-    go : (b : Bool) → length (with_value equal_thread ts n v) ≡ length ts → length (cond b ((n, v) ∷ ts) ((m, u) ∷ with_value equal_thread ts n v)) ≡ suc (length ts)
-    go true ih = refl
-    go false ih = ap suc ih
 
 -- ---- all
 
@@ -159,12 +145,12 @@ module _ (p : List Stmt) (a : Around) (i : ℕ) (c : CellName) (n : ThreadName) 
     runs = (after.0, after.1.step, r.runs);
     parts = r.parts;
     value = r.value;
-    others = λ b h. r.others b h ∙ ap (λ (cells : List (CellName × VarName)). value_of equal_cell cells b) after.1.cells ∙ put_there z.cells c b exchange.0 (cell_differs c b (λ e. h (sym e)));
+    others = λ b h. r.others b h ∙ ap (λ (cells : List (CellName × VarName)). value_of equal_cell cells b) after.1.cells ∙ put_there z.cells c b exchange.0 (cells_differ c b (λ e. h (sym e)));
     home = r.home;
     known = r.known ∙ after.1.equations;
     lines = r.lines ∙ after.1.lines;
     ended = r.ended ∙ after.1.ended;
-    living = r.living ∙ ap length after.1.threads ∙ stacks_length z.threads n stack;
+    living = r.living ∙ ap length after.1.threads ∙ length-with_value equal_thread z.threads n stack;
     exchanged = counted;
     apart = λ b h. not_counted b h;
     place = r.place;
@@ -173,7 +159,7 @@ module _ (p : List Stmt) (a : Around) (i : ℕ) (c : CellName) (n : ThreadName) 
     records = r.records;
     managers = r.managers;
     counters = r.counters;
-    totals = (r.totals.0, r.totals.1, r.totals.2 ∙ with_length s.threads n (stack, site.Runs));
+    totals = (r.totals.0, r.totals.1, r.totals.2 ∙ length-with_value equal_thread s.threads n (stack, site.Runs));
     done = λ m h. done m (Contains-cons_cases _ _ ns h);
     rest = λ m h. r.rest m (λ k. h (Contains-tail _ _ ns k)) ∙ there m (λ e. h (subst (λ (x : ThreadName). Contains (n ∷ ns) x) e (Contains-head n ns)));
     sent = r.sent;
@@ -193,7 +179,7 @@ module _ (p : List Stmt) (a : Around) (i : ℕ) (c : CellName) (n : ThreadName) 
 
       not_counted : (b : CellName) → b ≢ c → exchange_in z b (effect_of p z (pick_of n)).cell ++ exchanges_from p b (model.next p z (pick_of n)) rest_deed.picks ≡ []
       not_counted b h = ap (λ (y : CellChange). exchange_in z b y ++ exchanges_from p b (model.next p z (pick_of n)) rest_deed.picks) after.1.effect
-          ∙ none (equal_cell c b) (cell_differs c b (λ e. h (sym e)))
+          ∙ none (equal_cell c b) (cells_differ c b (λ e. h (sym e)))
         where
           none : (x : Bool) → x ≡ false → cond x ((content_of z.cells c, exchange.0) ∷ []) [] ++ exchanges_from p b (model.next p z (pick_of n)) rest_deed.picks ≡ []
           none true e = cc

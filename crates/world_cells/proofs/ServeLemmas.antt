@@ -24,10 +24,10 @@ use Rattle.world_model.specs.Matches.{PartsMatch, IsThreadAt, IsWaiting, IsAwait
 use Rattle.world_model.proofs.PutLemmas.{at_all, at_here, at_twice}
 use Rattle.world_variables.proofs.LearnLemmas.{placed_alike}
 use Rattle.world_model.proofs.KeyLemmas.{with_here, with_there, goes_cases}
-use Rattle.world_variables.proofs.ModeLemmas.{threads_decide}
 use Rattle.world_variables.proofs.StepLemmas.{goes_parts}
 use Rattle.world_cells.proofs.ExchangeStepLemmas.{Exchanges, exchange_steps, exchange_home, stack_left, pick_of}
 use Rattle.tree_node.proofs.NameLemmas.{same_thread_decides}
+use Rattle.thread_roster.proofs.NameLemmas.{name_cases as threads_decide}
 
 module _ (p : List Stmt) (here : ℕ → Name → Type 0) (eqs : ℕ → Store) (records : ℕ → Records) (threads : ℕ → Threads) (made : ℕ → Counters) (mail : Mail) (s : State) (parts : PartsMatch p here eqs records threads made mail s) where
   -- thread n of site i, which waited for a cell, can go on

@@ -29,7 +29,8 @@ use Rattle.world_cells.proofs.UnitLemmas.{Reached}
 use Rattle.oz_model.proofs.SoundLemmas.{runs_are_sound}
 use Rattle.oz_model.proofs.CellLemmas.{cells_are_chains}
 use Rattle.world_cells.proofs.JournalLemmas.{journal_paid}
-use Rattle.world_cells.proofs.EndLemmas.{no_site, in_or_out, quiet_mail, rests}
+use Rattle.world_cells.proofs.EndLemmas.{no_site, quiet_mail, rests}
+use Rattle.world_variables.proofs.SumLemmas.{in_or}
 
 -- a site that is none of the world's has ended no thread
 no_ended : (p : List Stmt) (n limit i : ℕ) (j : List Turn) (s : Site) → Each (IsSiteIn n) j → ((1 ≤ i) × (i ≤ n) → ⊥) → SiteFitRun p n limit i j s → s.ended ≡ 0
@@ -84,7 +85,7 @@ module _ (p : List Stmt) (n limit : ℕ) (j : List Turn) (f : Sites) (some : 1 �
   totals : Totals n (ended f) (living f) (travelling j) r.centre
   totals = record {
     all_ended = r.sums.all_ended n (λ i out. no_ended p n limit i j (f i) inside out (runs i));
-    all_living = all_living p n f (travelling j) r.centre r.parts.placed (runs_are_once p (schedule j) r.centre r.run).threads r.sums.once (travelling_once j) (λ i z v h. go i z v h (in_or_out i n));
+    all_living = all_living p n f (travelling j) r.centre r.parts.placed (runs_are_once p (schedule j) r.centre r.run).threads r.sums.once (travelling_once j) (λ i z v h. go i z v h (in_or i n));
   }
     where
       go : (i : ℕ) (z : ThreadName) (v : ThreadState) → value_of equal_thread (f i).threads z ≡ Some v → ((1 ≤ i) × (i ≤ n)) ⊎ (((1 ≤ i) × (i ≤ n)) → ⊥) → (1 ≤ i) × (i ≤ n)

@@ -18,7 +18,7 @@ use Rattle.world_model.specs.World.{Mail, Travels, numbered, without_number}
 use Rattle.world_model.specs.Chain.{messages}
 use Rattle.world_model.proofs.PutLemmas.{nat_decides}
 use Rattle.world_model.proofs.MailLemmas.{nothing, sent_to}
-use Rattle.world_cells.proofs.CellKeyLemmas.{cell_differs}
+use Rattle.oz_model.proofs.KindLemmas.{cells_differ}
 
 -- how often a message counts as this one of the cell
 abbrev pub counts : CellName → token.Mail → Sent → ℕ
@@ -72,13 +72,13 @@ other_put b c to v bundle e (Put h u) = rw e refl
 
 -- what is said of a cell is said of no other
 pub silent_get : (b c : CellName) (to k : ℕ) → b ≢ c → IsSilent b to (msg.Get c k)
-silent_get b c to k d = other_get b c to k (cell_differs b c d)
+silent_get b c to k d = other_get b c to k (cells_differ b c d)
 
 pub silent_forward : (b c : CellName) (to k : ℕ) → b ≢ c → IsSilent b to (msg.Forward c k)
-silent_forward b c to k d = other_forward b c to k (cell_differs b c d)
+silent_forward b c to k d = other_forward b c to k (cells_differ b c d)
 
 pub silent_put : (b c : CellName) (to : ℕ) (v : VarName) (bundle : List Equation) → b ≢ c → IsSilent b to (msg.Put c v bundle)
-silent_put b c to v bundle d = other_put b c to v bundle (cell_differs b c d)
+silent_put b c to v bundle d = other_put b c to v bundle (cells_differ b c d)
 
 -- messages on threads and variables say nothing of cells
 abbrev pub IsOfNone : Msg → Type 0

@@ -20,10 +20,11 @@ use Rattle.site_model.specs.Variables.{own_binds}
 use Rattle.site_model.specs.Unit.{with_fresh_names, birth_row, after_cell, after_effect, step_row}
 use Rattle.oz_model.specs.Step.{lines_of}
 use Rattle.world_model.specs.World.{World, after_transition}
-use Rattle.world_cells.proofs.CellKeyLemmas.{entry_here, entry_other, place_here, place_other, cell_same, cell_differs}
+use Rattle.site_model.proofs.CellKeyLemmas.{entry_here, entry_other, place_here, place_other}
 use Rattle.world_cells.proofs.ReplyLemmas.{Answers, Manages}
 use Rattle.world_cells.proofs.ChainLemmas.{CellsAt, NowhereAt, ChainAt, none_came, row_cells, cells_stay, last_put, last_same}
 use Rattle.world_cells.proofs.FrameLemmas.{NoCells, AreOfNone, silent_list, weightless, none_append, begins_nothing, bears_nothing}
+use Rattle.oz_model.proofs.KindLemmas.{cell_same, cells_differ}
 
 module _ (p : List Stmt) (n limit : ℕ) (k : Pick) (kinds : List NameKind) (e : Effect) (s : Site) where
   abbrev pub begun : Transition
@@ -131,7 +132,7 @@ module _ (p : List Stmt) (n limit : ℕ) (k : Pick) (kinds : List NameKind) (e :
       let l = exchanged_managers p n limit k kinds e (w.sites i) c new told is in (
         (tokens_have_contents chain.0 _ _ v u i chain.2 here).0,
         row_cells w w.mail i c [] cells (with_value equal_cell cells c new) unit_deed _ all (none_came c w.mail) (λ b d m. refl) (exchanged_answers p n limit k kinds e (w.sites i) c new told is)
-            (λ b d. ap (lookup (equal_cell b)) l) (λ b d. put_there cells c b new (cell_differs c b (λ x. d (sym x)))) new (put_here cells c v new value)
+            (λ b d. ap (lookup (equal_cell b)) l) (λ b d. put_there cells c b new (cells_differ c b (λ x. d (sym x)))) new (put_here cells c v new value)
             (λ replies. (chain.0, last_same w.sites i unit_deed.site c (ap (lookup (equal_cell c)) l) ∙ chain.1, exchange_keeps chain.0 _ _ _ _ v u new i chain.2 here replies)),
       )
 
@@ -142,5 +143,5 @@ module _ (p : List Stmt) (n limit : ℕ) (k : Pick) (kinds : List NameKind) (e :
       let nowhere : NowhereAt w.sites w.mail c = all.others c none in
       let m = made_manages p n limit k kinds e (w.sites i) c v is in
       row_cells w w.mail i c [] cells ((c, v) ∷ cells) unit_deed _ all (none_came c w.mail) (λ b d m. refl) (made_answers p n limit k kinds e (w.sites i) c v is) m.others
-      (λ b d. rw (cell_differs c b (λ x. d (sym x))) refl) v (rw (cell_same c) refl)
+      (λ b d. rw (cells_differ c b (λ x. d (sym x))) refl) v (rw (cell_same c) refl)
       (λ replies. (i, last_put w.sites i unit_deed.site c (sym at) ∙ m.here ∙ ap Some number, making_starts _ _ _ _ i v nowhere.away nowhere.quiet replies))

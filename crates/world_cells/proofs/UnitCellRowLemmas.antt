@@ -30,7 +30,6 @@ use Rattle.world_model.specs.Names.{IsHere, AreContentsHome, ContentsHome}
 use Rattle.world_model.specs.Matches.{CellsMatch}
 use Rattle.world_model.proofs.PutLemmas.{at_all}
 use Rattle.world_model.proofs.MailLemmas.{nothing, sent_to}
-use Rattle.world_cells.proofs.CellKeyLemmas.{cell_or}
 use Rattle.world_cells.proofs.TallyLemmas.{IsOfNone, OneOfNumber, tally_other, none_says}
 use Rattle.world_cells.proofs.ChainLemmas.{gets_posts, gets_gone, CellsAt, Untouched, chain_stays, nowhere_stays, cells_stay}
 use Rattle.world_cells.proofs.FrameLemmas.{AreOfNone, NoCells, silent_list}
@@ -38,6 +37,7 @@ use Rattle.world_cells.proofs.ReplyLemmas.{Answers}
 use Rattle.world_cells.proofs.QueueLemmas.{queues_put, SameWaiters}
 use Rattle.world_cells.proofs.UnitQueueLemmas.{lists_of, step_lists, IsUnused, IsUnmade}
 use Rattle.world_cells.proofs.UnitCellLemmas.{begun, begins, step_silent, stays_nothing, exchanged_answers, made_answers, stays_cells, exchange_cells, made_cells}
+use Rattle.oz_model.proofs.KindLemmas.{cell_cases}
 
 -- what says nothing of cells is no request for a token
 pub no_gets : (ms : List Sent) → AreOfNone ms → (to : ℕ) (c : CellName) (a : ℕ) → Contains ms (sent_to to (msg.Get c a)) → ⊥
@@ -124,7 +124,7 @@ module _ (p : List Stmt) (n limit : ℕ) (k : Pick) (kinds : List NameKind) (e :
 
     contents_now : (c : CellChange) → e.cell ≡ c → IsContentHere unit_deed.site.records c → (b : CellName) (u : VarName) → (cell_record unit_deed.site b).held.token ≡ Here u → IsHere unit_deed.site.records u
     contents_now Stays is h b u q = wider u (x.contents i b u (sym (ap (λ (qs : List (CellName × CellRecord)). (cell_record_in qs b).held.token) (stays_nothing p n limit k kinds e (w.sites i) is).cell_records) ∙ q))
-    contents_now (Made c v) is h b u q = go (cell_or b c)
+    contents_now (Made c v) is h b u q = go (cell_cases b c)
       where
         a : Answers c (silent (here_with v)) (w.sites i) unit_deed
         a = made_answers p n limit k kinds e (w.sites i) c v is
@@ -134,7 +134,7 @@ module _ (p : List Stmt) (n limit : ℕ) (k : Pick) (kinds : List NameKind) (e :
             let at : (cell_record unit_deed.site c).held.token ≡ Here u = subst (λ (y : CellName). (cell_record unit_deed.site y).held.token ≡ Here u) same q in
             subst (λ (y : VarName). IsHere unit_deed.site.records y) (here_same v u (sym (ap (λ (y : Holding). y.token) a.held) ∙ at)) h
         go (inr other) = wider u (x.contents i b u (sym (ap (λ (y : CellRecord). y.held.token) (a.others b other)) ∙ q))
-    contents_now (Exchanged c fresh told) is h b u q = go (cell_or b c)
+    contents_now (Exchanged c fresh told) is h b u q = go (cell_cases b c)
       where
         a : Answers c (silent (record (cell_record (w.sites i) c).held { token = Here fresh })) (w.sites i) unit_deed
         a = exchanged_answers p n limit k kinds e (w.sites i) c fresh told is

@@ -60,7 +60,7 @@ use Rattle.world_variables.proofs.RunsLemmas.{runs_append}
 use Rattle.world_variables.proofs.ReceiveLemmas.{numbered_acts}
 use Rattle.world_variables.proofs.UnitLemmas.{step_here, SiteStep, CellAgrees, UnitDone, unit_step}
 use Rattle.world_variables.proofs.FollowLemmas.{Follows, steps_picks, unit_follows}
-use Rattle.world_model.proofs.EffectLemmas.{bind_effect}
+use Rattle.site_model.proofs.EffectLemmas.{bind_effect}
 use Rattle.world_cells.proofs.FrameLemmas.{NoCells}
 use Rattle.world_variables.specs.Plain.{IsCellUnit}
 use Rattle.world_cells.proofs.ChainLemmas.{ChainAt}

@@ -27,10 +27,12 @@ use Rattle.site_model.specs.Messages.{with_thread}
 use Rattle.site_model.specs.Unit.{with_fresh_names, placement, birth_row, after_cell, content_here, runnable_state, after_effect, step_row}
 use Rattle.world_model.specs.Matches.{IsQueue}
 use Rattle.world_model.proofs.KeyLemmas.{woken_new}
-use Rattle.world_cells.proofs.CellKeyLemmas.{place_here, place_other, cell_or}
+use Rattle.site_model.proofs.CellKeyLemmas.{place_here, place_other}
 use Rattle.world_cells.proofs.QueueLemmas.{SameWaiters, waiters_same, waiters_then, queue_same, woken_waiters, goes_waiters, born_waiters, running_not, IsOtherMode}
 use Rattle.world_cells.proofs.UnitCellLemmas.{step_places, begins}
 use Rattle.tree_node.proofs.NameLemmas.{same_thread_decides}
+use Rattle.world_variables.proofs.OwnLemmas.{binds_run}
+use Rattle.oz_model.proofs.KindLemmas.{cell_cases}
 
 abbrev pub Lists : Site → Type 0
 Lists s = (d : CellName) → IsQueue (cell_record s d) s.threads d
@@ -63,11 +65,6 @@ pub binds_each_waiters : (limit : ℕ) (es : List Equation) (s : Site) (d : Cell
 binds_each_waiters limit [] s d = waiters_same s.threads d
 binds_each_waiters limit (e ∷ es) s d = waiters_then s.threads (own_binds limit es s).site.threads _ d (binds_each_waiters limit es s d) (woken_waiters e.0 (own_binds limit es s).site.threads d)
 
--- who can go on still can
-pub binds_each_running : (limit : ℕ) (es : List Equation) (s : Site) (n : ThreadName) (st : Stack) → value_of equal_thread s.threads n ≡ Some (st, Runs) → value_of equal_thread (own_binds limit es s).site.threads n ≡ Some (st, Runs)
-binds_each_running limit [] s n st h = h
-binds_each_running limit (e ∷ es) s n st h = woken_new e.0 (own_binds limit es s).site.threads n st Runs (binds_each_running limit es s n st h)
-
 -- ---- a step
 
 module _ (p : List Stmt) (n limit : ℕ) (k : Pick) (kinds : List NameKind) (e : Effect) (s : Site) (st : Stack) (runs : value_of equal_thread s.threads k.thread ≡ Some (st, Runs)) where
@@ -98,7 +95,7 @@ module _ (p : List Stmt) (n limit : ℕ) (k : Pick) (kinds : List NameKind) (e :
   went_waiters : (d : CellName) → SameWaiters s.threads (after_effect k.thread e begun.site).threads d
   went_waiters d = subst (λ (ts : Threads). SameWaiters s.threads ts d) (sym went_is)
       (waiters_then s.threads begun.site.threads went d (begun_waiters d)
-      (goes_waiters begun.site.threads k.thread (runnable_state (living_stack left)) (st, Runs) d (binds_each_running limit e.adds (with_fresh_names kinds s) k.thread st runs) (λ r q. running_not st r d q) (runs_other (living_stack left) d)))
+      (goes_waiters begun.site.threads k.thread (runnable_state (living_stack left)) (st, Runs) d (binds_run limit e.adds (with_fresh_names kinds s) k.thread st runs) (λ r q. running_not st r d q) (runs_other (living_stack left) d)))
 
   -- a new thread's name is no other thread's
   abbrev pub IsUnused : Option Birth → Type 0
@@ -151,14 +148,14 @@ module _ (p : List Stmt) (n limit : ℕ) (k : Pick) (kinds : List NameKind) (e :
 
       go : (c : CellChange) → e.cell ≡ c → IsUnmade c → IsQueue (cell_record t d) t.threads d
       go Stays is h = kept (cell_record s d) (at Stays is d ∙ was d) refl refl
-      go (Exchanged c fresh told) is h = one (cell_or d c)
+      go (Exchanged c fresh told) is h = one (cell_cases d c)
         where
           one : (d ≡ c) ⊎ (d ≢ c) → IsQueue (cell_record t d) t.threads d
           one (inl same) =
               let q = at (Exchanged c fresh told) is d ∙ ap (cell_record_in (after_cell (Exchanged c fresh told) begun.site).cell_records) same ∙ place_here begun.site.cell_records c _ in
               kept _ q (ap (λ (x : CellRecord). x.queue) (was c) ∙ ap (λ (x : CellName). (cell_record s x).queue) (sym same)) (ap (λ (x : CellRecord). x.held.waiting) (was c) ∙ ap (λ (x : CellName). (cell_record s x).held.waiting) (sym same))
           one (inr other) = kept (cell_record s d) (at (Exchanged c fresh told) is d ∙ place_other begun.site.cell_records c d _ other ∙ was d) refl refl
-      go (Made c v) is h = one (cell_or d c)
+      go (Made c v) is h = one (cell_cases d c)
         where
           one : (d ≡ c) ⊎ (d ≢ c) → IsQueue (cell_record t d) t.threads d
           one (inl same) =

@@ -28,7 +28,7 @@ use Rattle.world_model.specs.World.{World, Sites, Mail, after_transition, record
 use Rattle.world_model.specs.Names.{here_at}
 use Rattle.world_variables.proofs.SumLemmas.{Sums}
 use Rattle.world_model.proofs.PutLemmas.{nat_decides}
-use Rattle.world_model.proofs.EffectLemmas.{bind_effect}
+use Rattle.site_model.proofs.EffectLemmas.{bind_effect}
 use Rattle.world_variables.proofs.UnitLemmas.{SiteStep, UnitDone}
 use Rattle.world_variables.proofs.FollowLemmas.{steps_picks}
 use Rattle.world_variables.proofs.RunsLemmas.{runs_append}

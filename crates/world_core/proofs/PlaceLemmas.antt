@@ -1,6 +1,7 @@
 -- What stands at the places of a list.
 use Rattle.std.proofs.Common.{arith, ◌≡◌, ◌≢◌, ◌∙◌, sym, ap, refl, subst, ℕ, zero, suc, ◌<◌, List, [], ◌∷◌, ◌++◌, length, map, get_or}
 use Rattle.std.specs.Prelude.{Option, Some, None, slice_get, slice_set}
+use Rattle.bind_protocol.proofs.ListLemmas.{get_there}
 
 -- what holds of each item with its place, and of one more
 pub push_all : {X : Type 0} (P : ℕ → X → Type 0) (xs : List X) (y : X) → ((i : ℕ) (x : X) → slice_get xs i ≡ Some x → P i x) → P (length xs) y → (i : ℕ) (x : X) → slice_get (xs ++ y ∷ []) i ≡ Some x → P i x
@@ -29,23 +30,6 @@ pub read_past : {X Y : Type 0} (f : X → Y) (xs : List X) (i : ℕ) (d : Y) →
 read_past f [] i d e = refl
 read_past f (z ∷ zs) zero d e = cc
 read_past f (z ∷ zs) (suc i) d e = read_past f zs i d e
-
-pub there : {X : Type 0} (xs : List X) (i : ℕ) → i < length xs → (x : X) × (slice_get xs i ≡ Some x)
-there [] i low = absurd (omega arith)
-there (z ∷ zs) zero low = (z, refl)
-there (z ∷ zs) (suc i) low = there zs i (omega arith)
-
-pub set_there : {X : Type 0} (xs : List X) (k : ℕ) (y : X) → k < length xs → slice_get (slice_set xs k y) k ≡ Some y
-set_there [] k y low = absurd (omega arith)
-set_there (z ∷ zs) zero y low = refl
-set_there (z ∷ zs) (suc k) y low = set_there zs k y (omega arith)
-
-pub set_elsewhere : {X : Type 0} (xs : List X) (k i : ℕ) (y : X) → i ≢ k → slice_get (slice_set xs k y) i ≡ slice_get xs i
-set_elsewhere [] k i y other = refl
-set_elsewhere (z ∷ zs) zero zero y other = absurd (other refl)
-set_elsewhere (z ∷ zs) zero (suc i) y other = refl
-set_elsewhere (z ∷ zs) (suc k) zero y other = refl
-set_elsewhere (z ∷ zs) (suc k) (suc i) y other = set_elsewhere zs k i y (λ e. other (ap suc e))
 
 -- two lists that have the same at a place, read there
 pub read_same : {X Y : Type 0} (f : X → Y) (xs ys : List X) (i : ℕ) (d : Y) → slice_get xs i ≡ slice_get ys i → get_or (map f xs) i d ≡ get_or (map f ys) i d

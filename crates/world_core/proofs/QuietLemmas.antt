@@ -24,9 +24,10 @@ use Rattle.world_mail.proofs.MailLemmas.{travel_at}
 use Rattle.world_core.specs.Laws.{HasMachineAtRest}
 use Rattle.world_core.specs.Travels.{AreTravels, IsNothingFor}
 use Rattle.world_core.specs.World.{IsLive, IsConsistent, state_in, states_by}
-use Rattle.world_core.proofs.PlaceLemmas.{read_there, there}
+use Rattle.world_core.proofs.PlaceLemmas.{read_there}
 use Rattle.world_core.proofs.TravelLemmas.{travels_there, there_travels}
 use Rattle.world_core.proofs.WorldLemmas.{machine}
+use Rattle.bind_protocol.proofs.ListLemmas.{get_there}
 
 start_idle : (p : List Stmt) (i : ℕ) (b : Bool) → (i == 1) ≡ b → not (i == 1) ≡ is_idle (initial_site p i)
 start_idle p i true q = rw q refl
@@ -41,7 +42,7 @@ idle_as_told p n limit i (e ∷ j) s run = by (e.site == i) run (λ r. idle_as_t
     by true (old, before, (d, turn, tells, is)) rest = tells.idle ∙ ap is_idle (sym is)
     by false before rest = rest before
 
-at_contains : (xs : List Travel) (x : Travel) (p : ℕ) → slice_get xs p ≡ Some x → Contains xs x
+pub at_contains : (xs : List Travel) (x : Travel) (p : ℕ) → slice_get xs p ≡ Some x → Contains xs x
 at_contains [] x p e = cc
 at_contains (y ∷ ys) x zero e = let same : y ≡ x = cc in subst (λ (z : Travel). Contains (y ∷ ys) z) same (Contains-head y ys)
 at_contains (y ∷ ys) x (suc p) e = Contains-tail y x ys (at_contains ys x p e)
@@ -77,7 +78,7 @@ module _ (p : List Stmt) (j : List Turn) (ss : List (Seated NoSeat)) (mail : Mai
 
       all : (i : ℕ) → 1 ≤ i → i ≤ length ss → journal.is_idle j i ≡ true
       all zero low high = absurd (omega arith)
-      all (suc i) low high = let s = there ss i (omega arith) in idle_here i s.0 s.1 ∙ idle i s.0 s.1
+      all (suc i) low high = let s = get_there ss i (omega arith) in idle_here i s.0 s.1 ∙ idle i s.0 s.1
 
   pub quiet_seen : is_quiet (length ss) j ≡ true → IsSeenQuiet
   quiet_seen q = (none mail.messages refl, idle)

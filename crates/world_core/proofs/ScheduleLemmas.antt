@@ -6,7 +6,7 @@ use Rattle.std.proofs.lemmas.Grind.{common_steps}
 use Rattle.site_message.specs.declared.turn.Turn.{Turn}
 use Rattle.world_model.specs.Schedule.{schedule}
 
-reverse_push : (xs : List Turn) (x : Turn) → reverse (xs ++ x ∷ []) ≡ x ∷ reverse xs
+pub reverse_push : (xs : List Turn) (x : Turn) → reverse (xs ++ x ∷ []) ≡ x ∷ reverse xs
 reverse_push xs x = grind (arith, common_steps)
 
 pub schedule_more : (xs : List Turn) (i : ℕ) (x : Turn) → i < length xs → x ≡ get_or xs i x → schedule (reverse (take (i + 1) xs)) ≡ schedule (reverse (take i xs)) ++ x.picks

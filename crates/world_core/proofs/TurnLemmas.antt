@@ -1,6 +1,6 @@
 -- A world at its start, and after a turn.
 use Rattle.std.proofs.Common.{arith, ◌≡◌, ◌≢◌, ◌∙◌, sym, ap, refl, subst, ℕ, zero, suc, ◌+◌, ◌-◌, ◌<◌, ◌≤◌, List, [], ◌∷◌, ◌++◌, length, length-append, length-set, map, get_or, Bool, true, false, cond}
-use Rattle.std.specs.Prelude.{Option, Some, None, slice_get, slice_set}
+use Rattle.std.specs.Prelude.{Option, Some, None, ◌==◌, slice_get, slice_set}
 use Rattle.std.specs.List.{enumerate_from}
 use Rattle.std.proofs.lemmas.Option.{slice_get_read}
 use Rattle.kernel_syntax.specs.declared.stmt.Stmt.{Stmt}
@@ -20,10 +20,15 @@ use Rattle.world_mail.specs.Mail.{MailState, message_at, AreBelow}
 use Rattle.world_mail.specs.Travels.{travel_of}
 use Rattle.world_mail.proofs.MailLemmas.{travel_at}
 use Rattle.world_core.specs.Travels.{IsNumberAt}
-use Rattle.world_core.specs.World.{WorldState, IsWorldTurn, IsLive, IsConsistent, IsSiteOf, IsNewSite, IsTaken, state_in, states_by, states_of, travelling_at}
-use Rattle.world_core.proofs.PlaceLemmas.{set_all, read_there, read_past, read_same, set_there, set_elsewhere}
+use Rattle.world_core.specs.World.{WorldState, IsWorldTurn, KnowledgeStays, IsLive, IsConsistent, IsSiteOf, IsNewSite, IsTaken, state_in, states_by, states_of, travelling_at}
+use Rattle.world_core.proofs.PlaceLemmas.{set_all, read_there, read_past, read_same}
 use Rattle.world_core.proofs.TravelLemmas.{mail_grows, travels_there, none_either, get_past}
-use Rattle.world_core.proofs.WorldLemmas.{run_grows, run_starts, few_units, machine}
+use Rattle.world_core.proofs.WorldLemmas.{run_grows, run_starts, machine}
+use Rattle.site_model.proofs.StillLemmas.{few_units}
+use Rattle.oz_model.specs.Answers.{Includes}
+use Rattle.world_model.proofs.PutLemmas.{nat_decides}
+use Rattle.world_simulation.proofs.GrowLemmas.{equations_stay}
+use Rattle.bind_protocol.proofs.ListLemmas.{set_here, set_other}
 
 -- ---- the start
 
@@ -119,11 +124,11 @@ module _ (p : List Stmt) (j : List Turn) (ss : List (Seated NoSeat)) (mail : Mai
   here = read_there state_in ss i s (initial_site p (suc i)) at
 
   here_now : v (suc i) ≡ t.state
-  here_now = read_there state_in (slice_set ss i t) i t (initial_site p (suc i)) (set_there ss i t inside)
+  here_now = read_there state_in (slice_set ss i t) i t (initial_site p (suc i)) (set_here ss i t inside)
 
   pub others_now : (x : ℕ) → x ≢ suc i → v x ≡ w x
   others_now zero other = refl
-  others_now (suc x) other = read_same state_in (slice_set ss i t) ss x (initial_site p (suc x)) (set_elsewhere ss i x t (λ e. other (ap suc e)))
+  others_now (suc x) other = read_same state_in (slice_set ss i t) ss x (initial_site p (suc x)) (set_other ss i x t (λ e. other (ap suc e)))
 
   is_here : IsSiteOf p (length ss) s
   is_here = live.each i s at
@@ -243,3 +248,19 @@ after_turn p j ss mail box sent k (suc i) low high place quantum few s t at mess
       consistent = consistent_now p j ss mail sent k i inside place quantum few s t found message box taken e made;
       turn = world_turn p j ss mail sent k i inside place quantum few s t found message box taken e made;
     })
+
+-- ---- what the sites know stays
+
+pub turn_stays : (old new : WorldState) (site : ℕ) (place : Option ℕ) (quantum : ℕ) → quantum ≤ 64 → IsWorldTurn old new site place quantum → KnowledgeStays old new
+turn_stays old new site place quantum most t i = by (site == i) refl
+  where
+    here : Includes (states_of old site).equations (states_of new site).equations
+    here =
+        equations_stay old.program old.sites bundle_limit old.journal t.entry (states_of old site) (states_of new site)
+        (t.turn.0, few_units old.program old.sites bundle_limit quantum (states_of old site) (delivered_message old.journal t.entry.delivered) t.turn.0 most t.turn.1, t.turn.2, t.turn.3)
+
+    by : (b : Bool) → (site == i) ≡ b → Includes (states_of old i).equations (states_of new i).equations
+    by true q = subst (λ (x : ℕ). Includes (states_of old x).equations (states_of new x).equations) ((nat_decides site i).0 q) here
+    by false q =
+        let other : i ≢ site = λ same. (let yes : (site == i) ≡ true = (nat_decides site i).1 (sym same) in cc) in
+        subst (λ (x : Site). Includes (states_of old i).equations x.equations) (sym (t.others i other)) (λ e there. there)

@@ -12,15 +12,12 @@ use Rattle.site_model.specs.Run.{WorldRun, SiteRun, IsEntry, IsReachedBy, IsReco
 use Rattle.site_model.specs.Transition.{Transition}
 use Rattle.site_model.specs.Turn.{SiteTurn, IsFullTurn}
 use Rattle.world_model.proofs.PutLemmas.{nat_decides}
+use Rattle.world_messages.proofs.CountedLemmas.{once_each, none_own}
 use Rattle.world_simulation.specs.Protocols.{ProtocolsHold}
-use Rattle.world_simulation.proofs.SimulationLemmas.{every_run_is_simulated, delivered_messages_are_fit, cell_messages_are_few, messages_are_few}
+use Rattle.world_simulation.proofs.SimulationLemmas.{every_run_is_simulated, delivered_messages_are_fit, cell_messages_are_few, messages_are_few, requests_are_single}
 use Rattle.world_simulation.proofs.ProtocolLemmas.{protocols_always_hold}
 use Rattle.world_simulation.proofs.TotalLemmas.{all_messages_are_few}
 use Rattle.world_core.specs.Laws.{HasMachine, WereFit, AreMessagesFew}
-
--- a turn of so many units at most is one of 64 at most
-pub few_units : (p : List Stmt) (n limit quantum : ℕ) (s : Site) (m : Option Msg) (d : Transition) → quantum ≤ 64 → IsFullTurn p n limit quantum s m d → SiteTurn p n limit s m d
-few_units p n limit quantum s m d few (ths, turn, most, idle) = (ths, omega (arith, few, most), turn)
 
 -- the run goes on by one entry
 module _ (p : List Stmt) (n limit : ℕ) (j : List Turn) (e : Turn) (w v : ℕ → Site) (d : Transition)
@@ -49,18 +46,24 @@ run_starts p n limit w start = record { wired = tt; sites = tt; runs = start }
 -- ---- what the laws say of this run
 
 module _ (p : List Stmt) (n : ℕ) (j : List Turn) (w : ℕ → Site) (is : IsProgram p) (low : 1 ≤ n) (high : n ≤ 64) (run : WorldRun p n bundle_limit j w) where
+  short : bundle_limit ≤ 256
+  short = omega arith
+
   pub machine : HasMachine p n j w
-  machine = let s = every_run_is_simulated p n j w is low high run in (s.0, s.1)
+  machine = let s = every_run_is_simulated p n bundle_limit j w is low high short run in (s.0, s.1)
 
   pub were_fit : WereFit p n j w
-  were_fit = delivered_messages_are_fit p n j w is low high run
+  were_fit = delivered_messages_are_fit p n bundle_limit j w is low high short run
 
   pub protocols : ProtocolsHold p n j w
-  protocols = protocols_always_hold p n j w is low high run
+  protocols = protocols_always_hold p n bundle_limit j w is low high short run
 
   pub messages_few : AreMessagesFew p n j
   messages_few = record {
-    variables = messages_are_few p n j w is low high run;
-    cells = λ c. cell_messages_are_few p n j w c is low high run;
-    all = all_messages_are_few p n j w is low high run;
+    once = once_each p n bundle_limit j w run;
+    own = none_own p n bundle_limit j w run;
+    single = requests_are_single p n bundle_limit j w is low high short run;
+    variables = messages_are_few p n bundle_limit j w is low high short run;
+    cells = λ c. cell_messages_are_few p n bundle_limit j w c is low high short run;
+    all = all_messages_are_few p n bundle_limit j w is low high short run;
   }

@@ -1,17 +1,21 @@
 -- What holds of every run of a program on 1 to 64 sites, said of one run.
-use Rattle.std.specs.Prelude.{ℕ, ◌+◌, ◌*◌, ◌-◌, ◌≤◌, List, length}
+use Rattle.std.specs.Prelude.{◌≡◌, ℕ, ◌+◌, ◌*◌, ◌-◌, ◌≤◌, List, length}
 use Rattle.std.specs.List.{count_by}
 use Rattle.tree_node.specs.declared.names.CellName.{CellName}
+use Rattle.tree_node.specs.declared.names.ThreadName.{ThreadName}
+use Rattle.tree_node.specs.declared.names.VarName.{VarName}
 use Rattle.tree_node.specs.State.{State}
 use Rattle.kernel_syntax.specs.declared.stmt.Stmt.{Stmt}
 use Rattle.site_message.specs.declared.turn.Turn.{Turn}
 use Rattle.site_message.specs.Journal.{sent_of}
 use Rattle.oz_model.specs.Run.{Run, exchanges}
+use Rattle.bind_protocol.specs.Lawful.{register_count, binding_count}
 use Rattle.site_model.specs.Bundle.{bundle_limit}
 use Rattle.site_model.specs.Site.{Site}
 use Rattle.site_model.specs.Run.{WorldRun}
 use Rattle.world_model.specs.Schedule.{schedule}
 use Rattle.world_model.specs.Simulated.{IsSimulated, IsAtRest}
+use Rattle.world_messages.specs.Asked.{requests}
 use Rattle.world_messages.specs.Messages.{vars_made, threads_made, spawns, asks_to_know, tells_binding, asks_to_bind}
 use Rattle.world_cells.specs.CellCounts.{cell_weights}
 use Rattle.world_cells.specs.FitRuns.{SiteFitRun}
@@ -34,15 +38,19 @@ abbrev pub WereFit : List Stmt → ℕ → List Turn → (ℕ → Site) → Type
 WereFit p n j w = (i : ℕ) → SiteFitRun p n bundle_limit i j (w i)
 
 -- with T threads, the first among them, and V variables made by the schedule
-abbrev pub most_messages : ℕ → List Turn → ℕ
-most_messages n j =
+abbrev pub variable_messages : ℕ → List Turn → ℕ
+variable_messages n j =
     let threads = length (threads_made (schedule j)) in
     let vars = length (vars_made (schedule j)) in
     threads + 2 * (vars * (n - 1)) + threads * vars
 
--- the messages on variables and threads are at most T + 2 * V * (n - 1) + T * V, those of a cell three for each of its
--- exchanges and each site, and all messages together at most both
+-- each site sends at most one Register for a variable and is sent at most one Binding, and none for its own; no thread asks
+-- twice to bind a variable. The messages on variables and threads are at most T + 2 * V * (n - 1) + T * V, those of a cell three
+-- for each of its exchanges and each site, and all messages together at most both
 pub record AreMessagesFew (p : List Stmt) (n : ℕ) (j : List Turn) : Type 0 where
-  pub variables : count_by spawns (sent_of j) + count_by asks_to_know (sent_of j) + count_by tells_binding (sent_of j) + count_by asks_to_bind (sent_of j) ≤ most_messages n j
+  pub once : (i : ℕ) (x : VarName) → (register_count x i (sent_of j) ≤ 1) × (binding_count x i (sent_of j) ≤ 1)
+  pub own : (i : ℕ) (x : VarName) → i ≡ x.site → (register_count x i (sent_of j) ≡ 0) × (binding_count x i (sent_of j) ≡ 0)
+  pub single : (th : ThreadName) (x : VarName) → requests th x (sent_of j) ≤ 1
+  pub variables : count_by spawns (sent_of j) + count_by asks_to_know (sent_of j) + count_by tells_binding (sent_of j) + count_by asks_to_bind (sent_of j) ≤ variable_messages n j
   pub cells : (c : CellName) → cell_weights c 1 1 1 (sent_of j) ≤ 3 * (length (exchanges p (schedule j) c) + n)
-  pub all : (s : State) × Run p (schedule j) s × (length (sent_of j) ≤ most_messages n j + sum_over (λ c. 3 * (length (exchanges p (schedule j) c) + n)) s.cells)
+  pub all : (s : State) × Run p (schedule j) s × (length (sent_of j) ≤ variable_messages n j + sum_over (λ c. 3 * (length (exchanges p (schedule j) c) + n)) s.cells)

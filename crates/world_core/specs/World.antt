@@ -7,6 +7,7 @@ use Rattle.site_message.specs.declared.message.Sent.{Sent}
 use Rattle.site_message.specs.declared.story.NoSeat.{NoSeat}
 use Rattle.site_message.specs.declared.turn.Turn.{Turn}
 use Rattle.site_message.specs.Journal.{sent_of, was_delivered}
+use Rattle.oz_model.specs.Answers.{Includes}
 use Rattle.site_model.specs.Bundle.{bundle_limit}
 use Rattle.site_model.specs.Site.{Site, initial_site}
 use Rattle.site_model.specs.Run.{WorldRun, IsRecordOf, delivered_message}
@@ -45,6 +46,10 @@ pub record IsWorldTurn (old new : WorldState) (site : ℕ) (place : Option ℕ) 
   pub turn : (d : Transition) × IsFullTurn old.program old.sites bundle_limit quantum (states_of old site) (delivered_message old.journal entry.delivered) d × IsRecordOf entry d × (states_of new site ≡ d.site)
   pub few : (states_of new site).steps ≤ (states_of old site).steps + quantum
   pub others : (i : ℕ) → i ≢ site → states_of new i ≡ states_of old i
+
+-- each site knows what it knew: an equation at its owner stays
+abbrev pub KnowledgeStays : WorldState → WorldState → Type 0
+KnowledgeStays old new = (i : ℕ) → Includes (states_of old i).equations (states_of new i).equations
 
 -- ---- what stays true
 

@@ -13,7 +13,7 @@ ghost use Rattle.world_core.specs.Laws.{HasRun, HasMachine, HasMachineAtRest, We
 ghost use Rattle.world_mail.specs.Mail.{message_at, without_message};
 ghost use Rattle.world_mail.specs.Travels.{travel_of, IsNoneFor, IsFirstFor};
 ghost use Rattle.world_core.specs.Travels.{AreTravels, IsNothingFor, IsNotThere};
-ghost use Rattle.world_core.specs.World.{states_of, IsWorldTurn, IsNewSite, IsTaken};
+ghost use Rattle.world_core.specs.World.{states_of, IsWorldTurn, KnowledgeStays, IsNewSite, IsTaken};
 ghost use Rattle.site_core.specs.Seated.{Seated};
 ghost use Rattle.site_message.specs.declared.story.NoSeat.{NoSeat};
 
@@ -91,6 +91,7 @@ impl<'a> World<'a> {
         ensures program { (self.new.program ≡ self.old.program) × (self.new.sites ≡ self.old.sites) }
         ensures live { OnOk result (self.new.spent ≡ false) }
         ensures turn { OnOk result (IsWorldTurn self.old self.new site place quantum.0) }
+        ensures stays { OnOk result (KnowledgeStays self.old self.new) }
         ensures run { OnOk result (WorldRun self.new.program self.new.sites bundle_limit self.new.journal (states_of self.new)) }
         ensures simulated { OnOk result (HasMachine self.new.program self.new.sites self.new.journal (states_of self.new)) }
         ensures protocols { OnOk result (ProtocolsHold self.new.program self.new.sites self.new.journal (states_of self.new)) }

@@ -10,7 +10,6 @@ use Rattle.tree_node.specs.State.{Stack, equal_thread}
 use Rattle.tree_node.specs.Store.{Store, equal_var, IsFree}
 use Rattle.tree_node.proofs.ClassLemmas.{same_name_decides, Contains-head, Contains-tail}
 use Rattle.site_message.specs.declared.message.Sent.{Sent}
-use Rattle.oz_model.specs.Need.{Waits}
 use Rattle.bind_protocol.specs.Rows.{request}
 use Rattle.bind_protocol.proofs.ListLemmas.{one, count_cons, count_append, count_push}
 use Rattle.site_model.specs.Site.{Site, Counters, ThreadState, thread_state, Threads}
@@ -141,9 +140,6 @@ goes i low cap P start base s t th w r e f g at runs h = changes i low cap P sta
     from n v q = by n v (goes_cases equal_thread same_thread_decides s.threads th n r w v at (subst (λ (ts : Threads). value_of equal_thread ts n ≡ Some v) e q))
 
 -- ---- a request
-
-request_of : (u : VarName) (t : Term) (th n : ThreadName) (x : VarName) (limit : ℕ) (s : Store) → is_request n x (bundled limit s (request u t th)) ≡ (equal_thread n th && equal_var x u)
-request_of u t th n x limit s = refl
 
 -- a thread that can go on asks to bind a variable that has no equation here, and waits for it
 pub asks_once : (i limit low cap : ℕ) (P : ThreadName → Type 0) (start : List Sent) (base : List Sent) (s : Site) (th : ThreadName) (st : Stack) (u : VarName) (r : Term) → thread_state s th ≡ Some (st, Runs) → IsFree s.equations u → Asks i low cap P start base s →

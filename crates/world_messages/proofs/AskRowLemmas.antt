@@ -57,12 +57,13 @@ use Rattle.world_model.specs.Matches.{IsBound}
 use Rattle.world_model.proofs.CellLemmas.{OnlyCells, letters, request_only}
 use Rattle.world_model.proofs.KeyLemmas.{goes_cases, woken_new}
 use Rattle.world_messages.proofs.DeedLemmas.{unit_tally}
-use Rattle.world_messages.proofs.PickLemmas.{heard_site, told_all_made}
+use Rattle.world_messages.proofs.PickLemmas.{heard_site}
 use Rattle.world_messages.specs.Messages.{is_request}
 use Rattle.world_messages.specs.Asked.{requests, is_spawn, flights, Asks, ComesNew}
 use Rattle.world_messages.proofs.AskLemmas.{IsNone, runs_not, waits_not, asks_more, same_threads, wakes, goes, asks_once}
 use Rattle.tree_node.proofs.EachLemmas.{each_append}
 use Rattle.tree_node.proofs.NameLemmas.{same_thread_decides}
+use Rattle.site_model.proofs.StillLemmas.{told_all_counters}
 
 -- ---- transitions without requests
 
@@ -477,7 +478,7 @@ module _ (p : List Stmt) (n limit : ℕ) (i low : ℕ) (P : ThreadName → Type 
 
   heard_asks : (m : Option Msg) (s : Site) (d : Transition) → HearsNew m s → Full start s → IsReception p n limit m s d → AsksOn start d
   heard_asks None s d new h e = subst (AsksOn start) (sym e) (of_quiet s.counters.threads start (without_output s) (still p n limit i low s.counters.threads P start start s h))
-  heard_asks (Some m) s d new h (inl e) = subst (AsksOn start) (sym e.1) (of_quiet s.counters.threads start (reception p limit m s) (receives_asks p n limit i low s.counters.threads P start start m s (ap (λ (c : Counters). c.threads) (sym (told_all_made p n limit (message_bundle m) s))) refl new h))
+  heard_asks (Some m) s d new h (inl e) = subst (AsksOn start) (sym e.1) (of_quiet s.counters.threads start (reception p limit m s) (receives_asks p n limit i low s.counters.threads P start start m s (ap (λ (c : Counters). c.threads) (sym (told_all_counters (message_bundle m) s))) refl new h))
   heard_asks (Some m) s d new h (inr e) = subst (AsksOn start) (sym e.1) (of_quiet s.counters.threads start (without_output s) (still p n limit i low s.counters.threads P start start s h))
 
   -- in a whole turn no thread of the site asks twice

@@ -34,9 +34,10 @@ use Rattle.world_model.proofs.KeyLemmas.{woken_old, running_old}
 use Rattle.world_messages.specs.Asked.{requests, is_spawn, flights, ComesNew, BringsThread, ThreadsPlaced, ThreadsArePlaced, AsksAreFew}
 use Rattle.world_messages.proofs.AskRowLemmas.{turn_asks, Full, HearsNew}
 use Rattle.world_messages.proofs.CountedLemmas.{counted_in}
-use Rattle.world_messages.proofs.PickLemmas.{told_all_made}
 use Rattle.world_messages.proofs.RunLemmas.{Entry, every_run}
 use Rattle.tree_node.proofs.NameLemmas.{same_thread_decides}
+use Rattle.std.proofs.lemmas.Bool.{or_parts}
+use Rattle.site_model.proofs.StillLemmas.{told_all_counters}
 
 -- the thread was made by its site
 abbrev pub IsReal : Sites → ThreadName → Type 0
@@ -63,10 +64,6 @@ get_cases [] ys k m e = inr (place ys k e)
     place (z ∷ zs) (suc k) e = Contains-tail z m zs (place zs k e)
 get_cases (x ∷ xs) ys zero m e = inl e
 get_cases (x ∷ xs) ys (suc k) m e = get_cases xs ys k m e
-
-no_or : (a b : Bool) → (a || b) ≡ false → (a ≡ false) × (b ≡ false)
-no_or true b e = cc
-no_or false b e = (refl, e)
 
 zero_or : (k : ℕ) → (k ≡ 0) ⊎ (1 ≤ k)
 zero_or zero = inl refl
@@ -168,7 +165,7 @@ module _ (p : List Stmt) (n limit : ℕ) (placed : ThreadsArePlaced p n limit) (
   }
 
   made_same : (o : Msg) → (opening o (f e.site)).site.counters.threads ≡ (f e.site).counters.threads
-  made_same o = ap (λ (c : Counters). c.threads) (told_all_made p n limit (message_bundle o) (f e.site))
+  made_same o = ap (λ (c : Counters). c.threads) (told_all_counters (message_bundle o) (f e.site))
 
   new_of : (k to : ℕ) (o : Msg) → IsTravelling j k (record { to = to; msg = o }) → delivered_message j e.delivered ≡ Some o → ComesNew e.site MayAsk (sent_of j) o (opening o (f e.site)).site
   new_of k to (msg.Spawn m code vars bundle) at is =
@@ -268,7 +265,7 @@ module _ (p : List Stmt) (n limit : ℕ) (placed : ThreadsArePlaced p n limit) (
   flies_after k to m o (at, still) brings = go (get_cases (sent_of j) e.sent k (record { to = to; msg = o }) at)
     where
       apart : (is_number e.delivered k ≡ false) × (was_delivered j k ≡ false)
-      apart = no_or (is_number e.delivered k) (was_delivered j k) still
+      apart = or_parts (is_number e.delivered k) (was_delivered j k) still
 
       none_of : (x : VarName) → IsTravelling j k (record { to = to; msg = o }) → (requests m x (sent_of j ++ e.sent) ≡ 0) ⊎ (1 ≤ requests m x (sent_of j ++ e.sent)) → requests m x (sent_of j ++ e.sent) ≡ 0
       none_of x old (inl z) = z

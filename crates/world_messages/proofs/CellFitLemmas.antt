@@ -24,7 +24,7 @@ use Rattle.token_chain.specs.Mail.{same_cell, is_mail, travels as on_way}
 use Rattle.token_chain.specs.Mail as token
 use Rattle.token_chain.specs.Chain.{IsChain, IsDue, IsNext}
 use Rattle.token_chain.proofs.ChangeLemmas.{on_used, due_at}
-use Rattle.token_chain.proofs.ListLemmas.{last_on, next_on, before_on}
+use Rattle.token_chain.proofs.ListLemmas.{last_on, next_on, before_on, next_differs}
 use Rattle.site_model.specs.Site.{Site, initial_site, cell_record_in, cell_record, last_asker}
 use Rattle.site_model.specs.Fit.{CanRequest}
 use Rattle.site_model.specs.Run.{WorldRun}
@@ -34,27 +34,13 @@ use Rattle.world_model.specs.Matches.{CellsMatch}
 use Rattle.world_model.proofs.PutLemmas.{nat_decides}
 use Rattle.world_messages.specs.Unfit.{TakesCells, SitesCells}
 use Rattle.world_messages.proofs.UnfitLemmas.{travels_counted, outside, goes_home, own_number}
-
-used_of : (t : Token) → t ≢ Away → IsUsed t
-used_of Away d = absurd (d refl)
-used_of Asked d = tt
-used_of (Here v) d = tt
+use Rattle.token_chain.proofs.FitLemmas.{used_of}
 
 not_zero : (k : ℕ) → 1 ≤ k → k ≢ 0
 not_zero k h e = omega (arith, h, e)
 
 asked_not : Asked ≡ Away → ⊥
 asked_not e = cc
-
--- a site that is none of n has nothing to do with a cell
-away_start : (p : List Stmt) (c : CellName) (i : ℕ) → (cell_record_in (initial_site p i).cell_records c).held.token ≡ Away
-away_start p c i = refl
-
-next_differ : (hs : List ℕ) (a b : ℕ) → AreDistinct hs → IsNext hs a b → a ≢ b
-next_differ [] a b d h e = absurd h
-next_differ (x ∷ []) a b d h e = absurd h
-next_differ (x ∷ y ∷ hs) a b d (inl h) e = d.0.0 (h.0 ∙ e ∙ sym h.1)
-next_differ (x ∷ y ∷ hs) a b d (inr h) e = next_differ (y ∷ hs) a b d.1 h e
 
 module _ (p : List Stmt) (n limit : ℕ) (j : List Turn) (f : Sites) (run : WorldRun p n limit j f) (s : State) (cells : CellsMatch (world_of j f) s) where
   at_of : CellName → ℕ → Holding
@@ -130,7 +116,7 @@ module _ (p : List Stmt) (n limit : ℕ) (j : List Turn) (f : Sites) (run : Worl
       this = rw (same_self c, (nat_decides to to).1 refl, (nat_decides b b).1 refl) refl
 
       go : Chained c (token.Forward to b) → TakesCells (f to) (msg.Forward c b) × SitesCells n (f to) (msg.Forward c b)
-      go (v, last, hs, at_manager, chain, due) = (ready c to used due.1, (range.0, range.1, λ (e : b ≡ (f to).records.site). next_differ hs to b chain.distinct due.0 (sym (e ∙ own))))
+      go (v, last, hs, at_manager, chain, due) = (ready c to used due.1, (range.0, range.1, λ (e : b ≡ (f to).records.site). next_differs hs to b chain.distinct due.0 (sym (e ∙ own))))
         where
           used : (held_in (cell_records f) c to).token ≢ Away
           used = on_used last (held_in (cell_records f) c) (on_way c (messages (travelling j))) hs v chain to (before_on hs to b due.0)

@@ -1,5 +1,5 @@
 -- The counts of messages on variables in every run.
-use Rattle.std.proofs.Common.{arith, ◌≡◌, ◌≢◌, ◌∙◌, sym, ap, refl, subst, ℕ, ◌+◌, ◌≤◌, List, [], ◌∷◌, ◌++◌, Bool, true, false, cond, Some, None}
+use Rattle.std.proofs.Common.{arith, ◌≡◌, ◌≢◌, ◌∙◌, sym, ap, refl, subst, ℕ, ◌≤◌, List, [], ◌∷◌, ◌++◌, Bool, true, false, cond, Some, None}
 use Rattle.std.specs.Prelude.{Option, ◌==◌, slice_get}
 use Rattle.tree_node.specs.declared.names.VarName.{VarName}
 use Rattle.kernel_syntax.specs.declared.stmt.Stmt.{Stmt}
@@ -11,7 +11,6 @@ use Rattle.bind_protocol.specs.Records.{Records}
 use Rattle.bind_protocol.specs.World.{is_register}
 use Rattle.bind_protocol.specs.Lawful.{register_count}
 use Rattle.site_model.specs.Site.{Site, initial_site}
-use Rattle.site_model.specs.Bundle.{message_bundle}
 use Rattle.site_model.specs.Transition.{Transition}
 use Rattle.site_model.specs.Run.{WorldRun, delivered_message, message_of}
 use Rattle.world_model.specs.World.{Sites, records, at_put, put}
@@ -20,8 +19,7 @@ use Rattle.world_model.proofs.PutLemmas.{nat_decides, at_all, field_put}
 use Rattle.bind_protocol.specs.Count.{AreCounted, KeepsCounts, GoesOn}
 use Rattle.bind_protocol.proofs.GoOnLemmas.{counts_go_on, counted_once}
 use Rattle.world_messages.specs.Counted.{OncePerSite, NoneOfOwn}
-use Rattle.world_messages.proofs.SentLemmas.{turn_plain}
-use Rattle.world_messages.proofs.DeedLemmas.{Tallies, ArePlain, heard_in, turn_tally}
+use Rattle.world_messages.proofs.DeedLemmas.{Tallies, heard_in, turn_tally}
 use Rattle.world_messages.proofs.RunLemmas.{Entry, every_run}
 use Rattle.world_messages.proofs.WireLemmas.{left_over, travel_after, travel_less, travel_one}
 use Rattle.tree_node.proofs.EachLemmas.{each_append}
@@ -118,16 +116,6 @@ module _ (p : List Stmt) (n limit : ℕ) where
 
   pub counted_in : (j : List Turn) (f : Sites) → WorldRun p n limit j f → CountedIn j f
   counted_in j f run = every_run p n limit CountedIn (counted_start p) counted_entry j f run
-
--- ---- where bundles are empty
-
-plain_entry : (p : List Stmt) (n : ℕ) (j : List Turn) (e : Turn) (f : Sites) (d : Transition) → Entry p n 0 j e f d → ArePlain (sent_of j) → ArePlain (sent_of (e ∷ j))
-plain_entry p n j e f d entry plain =
-    each_append (λ (m : Sent). message_bundle m.msg ≡ []) (sent_of j) e.sent plain (subst ArePlain (sym entry.tells.sent) (turn_plain p n (delivered_message j e.delivered) (f e.site) d entry.turn))
-
--- in a run without bundles no message brings one
-pub plain_in_run : (p : List Stmt) (n : ℕ) (j : List Turn) (f : Sites) → WorldRun p n 0 j f → ArePlain (sent_of j)
-plain_in_run p n j f run = every_run p n 0 (λ j f. ArePlain (sent_of j)) tt (plain_entry p n) j f run
 
 -- ---- what follows
 

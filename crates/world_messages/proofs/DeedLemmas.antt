@@ -1,5 +1,5 @@
 -- What each row of a turn does to the counts of messages on variables.
-use Rattle.std.proofs.Common.{◌≡◌, ◌∙◌, sym, ap, refl, subst, ℕ, ◌+◌, List, [], ◌∷◌, ◌++◌, inl, inr, Bool, true, false, cond, Some, None}
+use Rattle.std.proofs.Common.{◌≡◌, ◌∙◌, sym, ap, refl, subst, ℕ, ◌≤◌, length, List, [], ◌∷◌, ◌++◌, inl, inr, Bool, true, false, cond, Some, None}
 use Rattle.std.specs.Prelude.{Option, ◌==◌, ◌&&◌}
 use Rattle.tree_node.specs.declared.names.VarName.{VarName}
 use Rattle.tree_node.specs.declared.names.CellName.{CellName}
@@ -17,6 +17,7 @@ use Rattle.kernel_syntax.specs.declared.stmt.Stmt.{Stmt}
 use Rattle.site_message.specs.declared.message.Msg.{Msg}
 use Rattle.site_message.specs.declared.message.Msg.TheVariants as msg
 use Rattle.site_message.specs.declared.message.Sent.{Sent}
+use Rattle.site_message.specs.Wire.{NamesAscend}
 use Rattle.oz_model.specs.Need.{Need, Waits, Binds, Takes, stack_need}
 use Rattle.oz_model.specs.Effect.{Birth, CellChange, Stays, Made, Exchanged, Effect, vars_among, equations_of}
 use Rattle.bind_protocol.specs.Records.{Records, is_own, knowledge}
@@ -39,10 +40,7 @@ use Rattle.bind_protocol.proofs.RowCountLemmas.{others_count, unused_counts, mak
 use Rattle.bind_protocol.proofs.GoOnLemmas.{counts_join}
 use Rattle.world_messages.proofs.BundleCounts.{counts_filled}
 use Rattle.world_messages.proofs.AddsLemmas.{effect_lefts, fresh_own}
-
--- no message brings a bundle
-abbrev pub ArePlain : List Sent → Type 0
-ArePlain ms = Each (λ (m : Sent). message_bundle m.msg ≡ []) ms
+use Rattle.site_model.proofs.StillLemmas.{cell_keeps_records}
 
 -- the counts go on
 pub record Tallies (b c : Records) (hand out : List Sent) : Type 0 where
@@ -183,14 +181,9 @@ bears_tally p n limit (Some b) s = go (placement n s.records.site b.at == s.reco
     go true = quiet s.records [] tt
     go false = quiet s.records _ (spawn_neither limit s.equations (placement n s.records.site b.at) b.name b.code b.vars [], tt)
 
-after_cell_records : (c : CellChange) (s : Site) → (after_cell c s).records ≡ s.records
-after_cell_records Stays s = refl
-after_cell_records (Made c v) s = refl
-after_cell_records (Exchanged c new told) s = refl
-
 steps_tally : (p : List Stmt) (n limit : ℕ) (k : Pick) (kinds : List NameKind) (e : Effect) (s : Site) → Each (λ (q : Equation). q.0.site ≡ s.records.site) e.adds → Counts s [] (step_row p n limit k kinds e s)
 steps_tally p n limit k kinds e s own =
-    tallies_on s.records on.records _ [] [] _ _ (subst (λ (b : Records). Tallies s.records b [] ((bound_all.sent ++ []))) (sym (after_cell_records e.cell bound_all.site)) three) (bears_tally p n limit e.born on)
+    tallies_on s.records on.records _ [] [] _ _ (subst (λ (b : Records). Tallies s.records b [] ((bound_all.sent ++ []))) (sym (cell_keeps_records e.cell bound_all.site)) three) (bears_tally p n limit e.born on)
   where
     made : Tallies s.records (with_fresh_names kinds s).records [] []
     made = makes_tally (vars_among (next_names s.records.site s.counters kinds)) s.records

@@ -22,21 +22,13 @@ use Rattle.oz_model.proofs.AloneLemmas.{effects_have_nodes}
 use Rattle.thread_machine.specs.Fits.{EquationsFit}
 use Rattle.thread_machine.specs.Effects.{EffectFits}
 use Rattle.thread_machine.proofs.KeepLemmas.{stack_effect_fits, stack_bound}
-use Rattle.world_model.proofs.EffectLemmas.{bind_effect as effect_of_bind}
+use Rattle.site_model.proofs.EffectLemmas.{bind_effect as effect_of_bind}
 use Rattle.site_model.specs.Site.{Counters}
 use Rattle.site_model.specs.Bundle.{option_list, known_equations, distinct_vars, reachable_vars, reachable_equations, insert_ascending, ascending, bundle_from, is_below}
 use Rattle.site_model.specs.Unit.{next_names, counter_after}
 use Rattle.world_messages.specs.Fitting.{ThreadFits}
 use Rattle.world_messages.proofs.TermLemmas.{IsFitFor}
 use Rattle.tree_node.proofs.OrderLemmas.{Each-member}
-
--- the names that a site makes are of the kinds that are wanted
-pub next_kinds : (i : ℕ) (c : Counters) (kinds : List NameKind) → map kind_of (next_names i c kinds) ≡ kinds
-next_kinds i c [] = refl
-next_kinds i c (kind.Var ∷ ks) = ap (λ (ns : List NameKind). kind.Var ∷ ns) (next_kinds i (counter_after c kind.Var) ks)
-next_kinds i c (kind.Cell ∷ ks) = ap (λ (ns : List NameKind). kind.Cell ∷ ns) (next_kinds i (counter_after c kind.Cell) ks)
-next_kinds i c (kind.Proc ∷ ks) = ap (λ (ns : List NameKind). kind.Proc ∷ ns) (next_kinds i (counter_after c kind.Proc) ks)
-next_kinds i c (kind.Thread ∷ ks) = ap (λ (ns : List NameKind). kind.Thread ∷ ns) (next_kinds i (counter_after c kind.Thread) ks)
 
 -- ---- effects
 

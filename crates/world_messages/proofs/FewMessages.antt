@@ -43,6 +43,7 @@ use Rattle.world_messages.proofs.UnfitLemmas.{known_inside, met_some}
 use Rattle.world_messages.proofs.WorldFitLemmas.{run_fits}
 use Rattle.tree_node.proofs.NameLemmas.{same_thread_decides}
 use Rattle.tree_node.proofs.OrderLemmas.{Each-member as each_member}
+use Rattle.std.proofs.lemmas.Bool.{leb-true}
 
 -- ---- what a schedule makes
 
@@ -136,9 +137,6 @@ spawns_are_few p n limit j f run = omega (arith, (scheduled_in p n limit j f run
 le_is : (a b : ℕ) → a ≤ b → nat_le a b ≡ true
 le_is a b h = search (rules, arith, h)
 
-is_le : (a b : ℕ) → nat_le a b ≡ true → a ≤ b
-is_le a b h = search (rules, arith, h)
-
 is_kind_register : (x : VarName) (i to : ℕ) → is_register x i (record { to = to; msg = msg.Register x i }) ≡ true
 is_kind_register x i to = rw (same_name_refl x, (nat_decides i i).1 refl) refl
 
@@ -184,7 +182,7 @@ module _ (p : List Stmt) (n limit : ℕ) (j : List Turn) (f : Sites) (is : IsPro
   few_keys = many_pairs others (n - 1) (vars_made (schedule j)) (λ x c. go x (nat_le 1 x.site) refl (nat_le x.site n) refl)
     where
       go : (x : VarName) (a : Bool) → nat_le 1 x.site ≡ a → (b : Bool) → nat_le x.site n ≡ b → length (cond (a && b) (sites_but n x.site) []) ≤ n - 1
-      go x true q true r = others_few n x.site (is_le 1 x.site q) (is_le x.site n r)
+      go x true q true r = others_few n x.site (leb-true 1 x.site q) (leb-true x.site n r)
       go x true q false r = omega arith
       go x false q b r = omega arith
 

@@ -21,13 +21,8 @@ use Rattle.site_model.specs.Variables.{after_makes}
 use Rattle.site_model.specs.Unit.{next_names, counter_after, counters_after}
 use Rattle.world_model.proofs.PutLemmas.{nat_decides}
 use Rattle.world_model.proofs.MailLemmas.{nothing}
-
-name_cases : (x y : VarName) → (x ≡ y) ⊎ (x ≢ y)
-name_cases x y = go (equal_var x y) refl
-  where
-    go : (b : Bool) → equal_var x y ≡ b → (x ≡ y) ⊎ (x ≢ y)
-    go true q = inl ((same_name_decides x y).0 q)
-    go false q = inr (λ e. let yes : equal_var x y ≡ true = (same_name_decides x y).1 e in cc)
+use Rattle.bind_protocol.proofs.RowCountLemmas.{name_cases}
+use Rattle.bind_protocol.proofs.LearnLemmas.{own_is, not_own}
 
 -- what is known stays known; what is newly known bound is x, to t
 pub record Goes (b c : Records) (x : VarName) (o : Option Term) : Type 0 where
@@ -66,16 +61,6 @@ changes b c x v o site here others new = record {
         go (inl k) = inl (subst (λ (z : VarName). knowledge b z ≡ Some (Some r)) (sym q) k)
         go (inr k) = inr (q, k)
     bound y r e (inr n) = inl (sym (others y n) ∙ e)
-
-own_is : (b : Records) (x : VarName) → x.site ≡ b.site → is_own b x ≡ true
-own_is b x e = (nat_decides x.site b.site).1 e
-
-pub not_own : (b : Records) (x : VarName) → x.site ≢ b.site → is_own b x ≡ false
-not_own b x e = go (is_own b x) refl
-  where
-    go : (c : Bool) → is_own b x ≡ c → is_own b x ≡ false
-    go true q = absurd (e ((nat_decides x.site b.site).0 q))
-    go false q = q
 
 pub make_goes : (b : Records) (x : VarName) → x.site ≡ b.site → Goes b (after_make b x) x None
 make_goes b x own = changes b (after_make b x) x None None refl (owner_here b x (Open []) (own_is b x own)) (λ y n. owner_other b x y (Open []) n) (λ r e. let no : ◌≡◌ {A = Option Term} None (Some r) = e in cc)

@@ -55,6 +55,7 @@ use Rattle.world_messages.specs.Messages.{fresh_in, threads_among, spawns}
 use Rattle.world_messages.proofs.KnownLemmas.{counted_cases}
 use Rattle.world_messages.proofs.DeedLemmas.{turn_tally, unit_tally}
 use Rattle.world_messages.proofs.EffectLemmas.{bind_effect}
+use Rattle.site_model.proofs.StillLemmas.{told_all_counters, told_counters}
 
 abbrev pub spawned : List Sent → ℕ
 spawned ms = count_by spawns ms
@@ -180,21 +181,8 @@ module _ (p : List Stmt) (n limit : ℕ) where
       one_name false true = refl
       one_name false false = refl
 
-  told_made : (s : Site) (x : VarName) (t : Term) → (with_known_equation s x t).counters ≡ s.counters
-  told_made s x t = go (is_own s.records x) refl (knowledge s.records x) refl
-    where
-      go : (c : Bool) → is_own s.records x ≡ c → (o : Option (Option Term)) → knowledge s.records x ≡ o → (with_known_equation s x t).counters ≡ s.counters
-      go true q o k = rw (k, q) refl
-      go false q None k = rw (k, q) refl
-      go false q (Some None) k = rw (k, q) refl
-      go false q (Some (Some r)) k = rw (k, q) refl
-
-  pub told_all_made : (es : List Equation) (s : Site) → (with_known_equations s es).counters ≡ s.counters
-  told_all_made [] s = refl
-  told_all_made (e ∷ es) s = told_all_made es (with_known_equation s e.0 e.1) ∙ told_made s e.0 e.1
-
   opens_still : (m : Msg) (s : Site) → Still s (opening m s)
-  opens_still m s = record { counters = told_all_made (message_bundle m) s; sent = meets_still (message_vars m) (with_known_equations s (message_bundle m)).records }
+  opens_still m s = record { counters = told_all_counters (message_bundle m) s; sent = meets_still (message_vars m) (with_known_equations s (message_bundle m)).records }
 
   pub binds_each_still : (es : List Equation) (s : Site) → Still s (own_binds limit es s)
   binds_each_still [] s = still_same s
@@ -249,7 +237,7 @@ module _ (p : List Stmt) (n limit : ℕ) where
   takes_still (msg.Spawn a b c d) s = record { counters = refl; sent = refl }
   takes_still (msg.Register x k) s = record { counters = refl; sent = answered_still s.equations x k (owner_of s.records.owners x) }
   takes_still (msg.BindReq x th t bundle) s = asked_still x t th s
-  takes_still (msg.Binding x t bundle) s = record { counters = told_made s x t; sent = refl }
+  takes_still (msg.Binding x t bundle) s = record { counters = told_counters s x t; sent = refl }
   takes_still (msg.Get c k) s = get_still c k s
   takes_still (msg.Forward c k) s = forward_still c k s
   takes_still (msg.Put c v bundle) s = still_then s (serving p c (cell_record s c).queue v s) (leave_row limit c) (serves_still c (cell_record s c).queue v s) (leave_still c (serving p c (cell_record s c).queue v s).site)

@@ -1,5 +1,5 @@
 -- What holds of each message that a site sends: of those that carry what is known, and of a Register, a Get and a Forward.
-use Rattle.std.proofs.Common.{◌≡◌, ◌≢◌, sym, refl, subst, ℕ, List, [], ◌∷◌, ◌++◌, map, inl, inr, Bool, true, false, cond, Some, None}
+use Rattle.std.proofs.Common.{arith, ◌≡◌, ◌≢◌, sym, refl, subst, ℕ, ◌≤◌, List, [], ◌∷◌, ◌++◌, map, inl, inr, Bool, true, false, cond, Some, None}
 use Rattle.std.specs.Prelude.{Option, ◌==◌, is_some}
 use Rattle.tree_node.specs.declared.names.VarName.{VarName}
 use Rattle.tree_node.specs.declared.names.CellName.{CellName}
@@ -34,6 +34,8 @@ use Rattle.site_model.specs.Unit.{with_fresh_names, birth_row, placement, step_r
 use Rattle.world_model.proofs.PutLemmas.{nat_decides}
 use Rattle.site_model.specs.Turn.{IsReception, AreUnits, SiteTurn}
 use Rattle.tree_node.proofs.EachLemmas.{each_append}
+use Rattle.site_message.specs.Vars.{vars_of}
+use Rattle.site_message.specs.Wire.{NamesAscend}
 
 module _ (p : List Stmt) (n limit : ℕ) (Q : Sent → Type 0)
     (spawns : (s : Store) (to : ℕ) (th : ThreadName) (code : CodeId) (vars : List VarName) → Q (bundled limit s (sent_message to (msg.Spawn th code vars [])))) (requests : (s : Store) (x : VarName) (t : Term) (th : ThreadName) → Q (bundled limit s (request x t th)))
@@ -162,7 +164,3 @@ GoesHome m = to_home m.msg
 
 pub turn_home : (p : List Stmt) (n limit : ℕ) (m : Option Msg) (s : Site) (d : Transition) → SiteTurn p n limit s m d → Each GoesHome d.sent
 turn_home p n limit m s d turn = turn_all p n limit GoesHome (λ t to th code vars. tt) (λ t x r th. refl) (λ t x r k. tt) (λ t k c v. tt) (λ x i. refl) (λ c k other. (refl, other)) (λ to c k. tt) m s d turn
-
--- where bundles are to be empty, they are
-pub turn_plain : (p : List Stmt) (n : ℕ) (m : Option Msg) (s : Site) (d : Transition) → SiteTurn p n 0 s m d → Each (λ (o : Sent). message_bundle o.msg ≡ []) d.sent
-turn_plain p n m s d turn = turn_all p n 0 (λ (o : Sent). message_bundle o.msg ≡ []) (λ t to th code vars. refl) (λ t x r th. refl) (λ t x r k. refl) (λ t k c v. refl) (λ x i. refl) (λ c k other. refl) (λ to c k. refl) m s d turn

@@ -28,7 +28,7 @@ use Rattle.kernel_syntax.specs.Program.{IsProgram}
 use Rattle.oz_model.specs.WellFormed.{IsMadeBy, IsNode, IsNodeOf, AreNodesOf}
 use Rattle.oz_model.specs.Effect.{Birth}
 use Rattle.oz_model.specs.Step.{threads_born, living_stack}
-use Rattle.oz_model.proofs.KindLemmas.{equal_cell_decides}
+use Rattle.oz_model.proofs.KindLemmas.{equal_cell_decides, cell_cases}
 use Rattle.thread_machine.specs.Fits.{IsTellOf, NodeFits, TermFits, StackFits}
 use Rattle.thread_machine.specs.Fits as fits
 use Rattle.thread_machine.proofs.KeepLemmas.{stack_grows, equations_grow}
@@ -41,6 +41,7 @@ use Rattle.site_model.specs.Unit.{runnable_state}
 use Rattle.world_model.proofs.KeyLemmas.{goes_cases, woken_old}
 use Rattle.world_messages.specs.Fitting.{ThreadFits, TermsFit}
 use Rattle.tree_node.proofs.NameLemmas.{same_thread_decides}
+use Rattle.site_model.proofs.CellKeyLemmas.{place_here, place_other}
 
 -- ---- nodes of the program
 
@@ -116,19 +117,6 @@ terms_learn p known s ts qs x t f h = record {
 
 -- ---- a thread goes on
 
-pub terms_goes : (p : List Stmt) (known : List VarName) (s : Store) (ts : Threads) (qs : List (CellName × CellRecord)) (n : ThreadName) (w : ThreadState) (r : Option ThreadState) → value_of equal_thread ts n ≡ Some w →
-    ((v : ThreadState) → r ≡ Some v → ThreadFits p known v.0) → TermsFit p known s ts qs → TermsFit p known s (with_optional_value equal_thread ts n r) qs
-terms_goes p known s ts qs n w r at f h = record {
-  equations = h.equations;
-  nodes = h.nodes;
-  stacks = λ o v e. by o v (goes_cases equal_thread same_thread_decides ts n o r w v at e);
-  contents = h.contents;
-}
-  where
-    by : (o : ThreadName) (v : ThreadState) → ((o ≡ n) × (r ≡ Some v)) ⊎ ((n ≢ o) × (value_of equal_thread ts o ≡ Some v)) → ThreadFits p known v.0
-    by o v (inl k) = f v k.1
-    by o v (inr k) = h.stacks o v k.1
-
 -- a stack that is left, if the thread goes on
 pub left_fits : (p : List Stmt) (known : List VarName) (st : Stack) → StackFits p known st → Each (AreNodesOf (IsNode p)) st → (v : ThreadState) → runnable_state (living_stack st) ≡ Some v → ThreadFits p known v.0
 left_fits p known [] h g v e = cc
@@ -179,43 +167,6 @@ terms_start p known s ts qs b low many names h = record {
 
 -- ---- cells
 
-pub place_here : (qs : List (CellName × CellRecord)) (c : CellName) (q : CellRecord) → cell_record_in (insert_entry equal_cell qs c q) c ≡ q
-place_here [] c q = rw ((equal_cell_decides c c).1 refl) refl
-place_here ((d, r) ∷ qs) c q = go (equal_cell c d) refl (place_here qs c q)
-  where
-    go : (b : Bool) → equal_cell c d ≡ b → cell_record_in (insert_entry equal_cell qs c q) c ≡ q → cell_record_in (cond (equal_cell c d) ((d, q) ∷ qs) ((d, r) ∷ insert_entry equal_cell qs c q)) c ≡ q
-    go true e ih = rw (e, e) refl
-    go false e ih = rw (e, e) ih
-
-cells_differ : (c d : CellName) → c ≢ d → equal_cell c d ≡ false
-cells_differ c d h = go (equal_cell c d) refl
-  where
-    go : (b : Bool) → equal_cell c d ≡ b → equal_cell c d ≡ false
-    go true e = absurd (h ((equal_cell_decides c d).0 e))
-    go false e = e
-
-pub place_other : (qs : List (CellName × CellRecord)) (c d : CellName) (q : CellRecord) → d ≢ c → cell_record_in (insert_entry equal_cell qs c q) d ≡ cell_record_in qs d
-place_other [] c d q h = rw (cells_differ d c h) refl
-place_other ((e, r) ∷ qs) c d q h = go (equal_cell c e) refl (place_other qs c d q h)
-  where
-    go : (b : Bool) → equal_cell c e ≡ b → cell_record_in (insert_entry equal_cell qs c q) d ≡ cell_record_in qs d → cell_record_in (cond (equal_cell c e) ((e, q) ∷ qs) ((e, r) ∷ insert_entry equal_cell qs c q)) d ≡ cell_record_in ((e, r) ∷ qs) d
-    go true k ih =
-        let same : c ≡ e = (equal_cell_decides c e).0 k in
-        let differs : equal_cell d e ≡ false = cells_differ d e (λ z. h (z ∙ sym same)) in
-        rw (k, differs) refl
-    go false k ih = rw k (ap (λ (o : CellRecord). o) (next (equal_cell d e) ih))
-      where
-        next : (b : Bool) → cell_record_in (insert_entry equal_cell qs c q) d ≡ cell_record_in qs d → unwrap_or (cond b (Some r) (lookup (equal_cell d) (insert_entry equal_cell qs c q))) unused_cell ≡ unwrap_or (cond b (Some r) (lookup (equal_cell d) qs)) unused_cell
-        next true i = refl
-        next false i = i
-
-cell_cases : (c d : CellName) → (d ≡ c) ⊎ (d ≢ c)
-cell_cases c d = go (equal_cell d c) refl
-  where
-    go : (b : Bool) → equal_cell d c ≡ b → (d ≡ c) ⊎ (d ≢ c)
-    go true e = inl ((equal_cell_decides d c).0 e)
-    go false e = inr (λ q. let yes : equal_cell d c ≡ true = (equal_cell_decides d c).1 q in cc)
-
 -- what is kept of a cell changes, and its content, if it is here, is known
 pub terms_place : (p : List Stmt) (known : List VarName) (s : Store) (ts : Threads) (qs : List (CellName × CellRecord)) (c : CellName) (q : CellRecord) → ((v : VarName) → q.held.token ≡ Here v → Contains known v) →
     TermsFit p known s ts qs → TermsFit p known s ts (insert_entry equal_cell qs c q)
@@ -223,7 +174,7 @@ terms_place p known s ts qs c q f h = record {
   equations = h.equations;
   nodes = h.nodes;
   stacks = h.stacks;
-  contents = λ d v e. by d v e (cell_cases c d);
+  contents = λ d v e. by d v e (cell_cases d c);
 }
   where
     by : (d : CellName) (v : VarName) → (cell_record_in (insert_entry equal_cell qs c q) d).held.token ≡ Here v → (d ≡ c) ⊎ (d ≢ c) → Contains known v

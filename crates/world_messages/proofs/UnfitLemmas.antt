@@ -38,6 +38,8 @@ use Rattle.world_messages.proofs.SentLemmas.{GoesHome, turn_home}
 use Rattle.world_messages.proofs.RunLemmas.{every_run}
 use Rattle.world_messages.proofs.WireLemmas.{is_left, kept_fewer}
 use Rattle.tree_node.proofs.EachLemmas.{each_append}
+use Rattle.bind_protocol.proofs.RowCountLemmas.{at_most_one}
+use Rattle.std.proofs.lemmas.Bool.{eqb-false}
 
 -- ---- what travels is counted
 
@@ -81,14 +83,6 @@ met_some true o h = absurd (omega (arith, h))
 met_some false None h = absurd (omega (arith, h))
 met_some false (Some v) h = (refl, refl)
 
-met_few : (b : Bool) (o : Option (Option Term)) → met_count b o ≤ 1
-met_few true o = omega arith
-met_few false None = omega arith
-met_few false (Some o) = omega arith
-
-not_same : (i k : ℕ) → (i == k) ≡ false → i ≢ k
-not_same i k e same = let yes : (i == k) ≡ true = (nat_decides i k).1 same in cc
-
 -- nobody among the registered
 none_there : (i : ℕ) (ks : List ℕ) → site_count i ks ≡ 0 → Contains ks i → ⊥
 none_there i ks e at = let h : 1 ≤ site_count i ks = there_counted (λ k. i == k) ks i at ((nat_decides i i).1 refl) in absurd (omega (arith, h, e))
@@ -117,10 +111,10 @@ module _ (p : List Stmt) (n limit : ℕ) (j : List Turn) (f : Sites) (run : Worl
       (site_count i (sites_in (f x.site).records x) ≡ 0) × (i ≢ x.site) × IsKnown (f i).records x
   register_way k i to x at =
       let here : 1 ≤ register_count x i (messages (travelling j)) = travels_counted (is_register x i) (travelling j) (k, record { to = to; msg = msg.Register x i }) ((travelling_tells j k _).1 at) this in
-      let most : met_count (i == x.site) (knowledge (records f i) x) ≤ 1 = met_few _ _ in
+      let most : met_count (i == x.site) (knowledge (records f i) x) ≤ 1 = at_most_one _ _ in
       let some : 1 ≤ met_count (i == x.site) (knowledge (records f i) x) = omega (arith, counts.once i x, counts.way i x) in
       let m = met_some (i == x.site) (knowledge (records f i) x) some in
-      (omega (arith, counts.once i x, counts.way i x), not_same i x.site m.0, m.1)
+      (omega (arith, counts.once i x, counts.way i x), eqb-false i x.site m.0, m.1)
     where
       this : (equal_var x x && (i == i)) ≡ true
       this = rw (same_name_refl x, (nat_decides i i).1 refl) refl
@@ -184,7 +178,7 @@ fit_now p n limit j f fits run k m at = record {
     takes (msg.BindReq x th t bundle) at =
         let to : m.to ≡ x.site = home (msg.BindReq x th t bundle) at in
         (sym to ∙ sym (own m.to), made_here x to (vars_here (msg.BindReq x th t bundle) at x (Contains-head x _)))
-    takes (msg.Binding x t bundle) at = let w = binding_way p n limit j f run k m.to x t bundle at in (λ (e : x.site ≡ (f m.to).records.site). not_same m.to x.site w.1 (sym (e ∙ own m.to)), w.2)
+    takes (msg.Binding x t bundle) at = let w = binding_way p n limit j f run k m.to x t bundle at in (λ (e : x.site ≡ (f m.to).records.site). eqb-false m.to x.site w.1 (sym (e ∙ own m.to)), w.2)
     takes (msg.Spawn a b c d) at = tt
     takes (msg.Get a b) at = tt
     takes (msg.Forward a b) at = tt

@@ -58,10 +58,11 @@ use Rattle.world_model.proofs.CellLemmas.{letter, letters, leave_each, get_each,
 use Rattle.world_messages.specs.Fitting.{ThreadFits, SiteFits, MsgFits, AllFit}
 use Rattle.world_messages.proofs.AddsLemmas.{effect_lefts, fresh_own}
 use Rattle.world_messages.proofs.TermLemmas.{IsFitFor, thread_grows, left_fits, terms_start, terms_place}
-use Rattle.world_messages.proofs.EffectLemmas.{EffectIsFit, next_kinds, step_is_fit, bind_effect, bind_is_fit, bound_is_fit}
+use Rattle.world_messages.proofs.EffectLemmas.{EffectIsFit, step_is_fit, bind_effect, bind_is_fit, bound_is_fit}
 use Rattle.site_model.specs.Turn.{AreUnits}
 use Rattle.world_messages.proofs.SiteFitLemmas.{FitsOn, becomes_fits, carried, new_of, makes_fits, binds_each_fits, thread_goes, thread_with, all_append, all_grow, new_then}
 use Rattle.tree_node.proofs.OrderLemmas.{Each-member}
+use Rattle.site_model.proofs.FilledLemmas.{next_kinds}
 
 module _ (p : List Stmt) (is : IsProgram p) (n limit : ℕ) (i : ℕ) (R : VarName → Type 0) (mine : (x : VarName) → x.site ≡ i → R x) where
   -- nothing is sent

@@ -9,7 +9,7 @@ use Rattle.site_message.specs.Journal.{IsTravelling, sent_of, travelling, was_de
 use Rattle.site_message.proofs.JournalLemmas.{travelling_tells}
 use Rattle.bind_protocol.proofs.ListLemmas.{one, count_append, count_cons}
 use Rattle.world_model.specs.Chain.{messages}
-use Rattle.world_model.proofs.MailLemmas.{nothing}
+use Rattle.world_model.proofs.MailLemmas.{nothing, numbered_append}
 use Rattle.world_model.proofs.PutLemmas.{nat_decides}
 
 abbrev Numbered : Type 0
@@ -59,12 +59,6 @@ filter_append f (x ∷ xs) ys = go (f x) (filter_append f xs ys)
     go : (b : Bool) → filter f (xs ++ ys) ≡ filter f xs ++ filter f ys → cond b (x ∷ filter f (xs ++ ys)) (filter f (xs ++ ys)) ≡ cond b (x ∷ filter f xs) (filter f xs) ++ filter f ys
     go true ih = ap (λ (zs : List Numbered). x ∷ zs) ih
     go false ih = ih
-
-numbered_append : (n : ℕ) (xs ys : List Sent) → enumerate_from n (xs ++ ys) ≡ enumerate_from n xs ++ enumerate_from (n + length xs) ys
-numbered_append n [] ys = let e : n + 0 ≡ n = omega arith in rw e refl
-numbered_append n (x ∷ xs) ys =
-    let e : n + suc (length xs) ≡ n + 1 + length xs = omega arith in
-    rw e (ap (λ (zs : List Numbered). (n, x) ∷ zs) (numbered_append (n + 1) xs ys))
 
 messages_append : (xs ys : List Numbered) → messages (xs ++ ys) ≡ messages xs ++ messages ys
 messages_append [] ys = refl

@@ -3,5 +3,4 @@ pub mod Counted
 pub mod Few
 pub mod Fitting
 pub mod Messages
-pub mod Texts
 pub mod Unfit

@@ -1,5 +1,4 @@
 pub mod CellLemmas
-pub mod EffectLemmas
 pub mod ExampleTotals
 pub mod KeyLemmas
 pub mod MailLemmas

@@ -3,21 +3,16 @@ use Rattle.std.proofs.Common.{arith, ◌≡◌, ◌∙◌, sym, ap, refl, subst,
 use Rattle.std.specs.Prelude.{Contains, ◌≢◌, ◌==◌, not}
 use Rattle.std.specs.List.{filter, enumerate_from}
 use Rattle.std.proofs.lemmas.List.Elements.{Contains-append_left, Contains-append_right, Contains-append_cases}
+pub use Rattle.tree_node.proofs.OrderLemmas.{none as nothing}
 use Rattle.tree_node.proofs.ClassLemmas.{Contains-cons_cases, Contains-head, Contains-tail}
 use Rattle.site_message.specs.declared.message.Msg.{Msg}
 use Rattle.site_message.specs.declared.message.Sent.{Sent}
-use Rattle.site_model.specs.Fit.{BundleFits}
-use Rattle.site_model.specs.Site.{Site}
+pub use Rattle.site_message.proofs.TravelLemmas.{enumerate-append as numbered_append}
 use Rattle.site_model.specs.Transition.{Transition, sequence}
+use Rattle.site_model.specs.Site.{Site}
 use Rattle.world_model.specs.World.{World, Mail, Travels, numbered, without_number, after_transition}
 use Rattle.world_model.proofs.PutLemmas.{nat_decides, at_twice}
-
-pub nothing : {X : Type 0} (x : X) → Contains [] x → ⊥
-nothing x (k, below, is) = absurd (omega arith)
-
--- a message without a bundle says nothing that a site could know otherwise
-pub no_bundle_fits : (s : Site) → BundleFits s []
-no_bundle_fits s = record { down = tt; same = λ x t r h. absurd (nothing _ h); own = λ x t h. absurd (nothing _ h) }
+use Rattle.site_message.proofs.JournalLemmas.{kept as filter_kept, passed}
 
 abbrev pub sent_to : ℕ → Msg → Sent
 sent_to to m = record { to = to; msg = m }
@@ -89,31 +84,9 @@ from_number mail n out k to m h = go (Contains-append_cases mail (numbered n out
     go (inl q) = inl q
     go (inr q) = inr (number_of n out k (sent_to to m) q)
 
-filter_old : {X : Type 0} (p : X → Bool) (xs : List X) (x : X) → Contains (filter p xs) x → Contains xs x × (p x ≡ true)
-filter_old p [] x h = absurd (nothing _ h)
-filter_old {X} p (y ∷ ys) x h = go (p y) refl (λ q. filter_old p ys x q) h
-  where
-    go : (b : Bool) → p y ≡ b → (Contains (filter p ys) x → Contains ys x × (p x ≡ true)) → Contains (cond b (y ∷ filter p ys) (filter p ys)) x → Contains (y ∷ ys) x × (p x ≡ true)
-    go true e ih q = one (Contains-cons_cases _ _ (filter p ys) q)
-      where
-        one : (y ≡ x) ⊎ Contains (filter p ys) x → Contains (y ∷ ys) x × (p x ≡ true)
-        one (inl same) = (subst (λ (z : X). Contains (y ∷ ys) z) same (Contains-head y ys), subst (λ (z : X). p z ≡ true) same e)
-        one (inr r) = let d = ih r in (Contains-tail _ _ ys d.0, d.1)
-    go false e ih q = let d = ih q in (Contains-tail _ _ ys d.0, d.1)
-
-filter_kept : {X : Type 0} (p : X → Bool) (xs : List X) (x : X) → Contains xs x → p x ≡ true → Contains (filter p xs) x
-filter_kept p [] x h e = absurd (nothing _ h)
-filter_kept {X} p (y ∷ ys) x h e = go (p y) refl (λ q. filter_kept p ys x q e) (Contains-cons_cases _ _ ys h)
-  where
-    go : (b : Bool) → p y ≡ b → (Contains ys x → Contains (filter p ys) x) → (y ≡ x) ⊎ Contains ys x → Contains (cond b (y ∷ filter p ys) (filter p ys)) x
-    go true q ih (inl same) = subst (λ (z : X). Contains (y ∷ filter p ys) z) same (Contains-head y (filter p ys))
-    go true q ih (inr r) = Contains-tail _ _ (filter p ys) (ih r)
-    go false q ih (inl same) = let both : p x ≡ false = subst (λ (z : X). p z ≡ false) same q in cc
-    go false q ih (inr r) = ih r
-
 pub gone : (k : ℕ) (mail : Mail) → Gone k mail (without_number k mail)
 gone k mail = record {
-  old = λ l to m h. let d = filter_old (λ (q : ℕ × Sent). not (k == q.0)) mail (l, sent_to to m) h in (d.0, λ e. not_same l e d.1);
+  old = λ l to m h. let d = passed (λ (q : ℕ × Sent). not (k == q.0)) mail (l, sent_to to m) h in (d.0, λ e. not_same l e d.1);
   kept = λ l to m h other. filter_kept (λ (q : ℕ × Sent). not (k == q.0)) mail (l, sent_to to m) h (same_not l other);
 }
   where
@@ -128,12 +101,6 @@ gone k mail = record {
         go false e = refl
 
 -- ---- deeds one after another
-
-pub numbered_append : {X : Type 0} (n : ℕ) (xs ys : List X) → enumerate_from n (xs ++ ys) ≡ enumerate_from n xs ++ enumerate_from (n + length xs) ys
-numbered_append {X} n [] ys = let e : n + 0 ≡ n = omega arith in rw e refl
-numbered_append {X} n (x ∷ xs) ys =
-    let e : n + suc (length xs) ≡ n + 1 + length xs = omega arith in
-    rw e (ap (λ (zs : List (ℕ × X)). (n, x) ∷ zs) (numbered_append (n + 1) xs ys))
 
 pub same_world : (f g : ℕ → Site) (a b : ℕ) (m o : Mail) (x y : List (List ℕ)) → f ≡ g → a ≡ b → m ≡ o → x ≡ y →
     ◌≡◌ {A = World} (record { sites = f; sent = a; mail = m; lines = x }) (record { sites = g; sent = b; mail = o; lines = y })

@@ -1,12 +1,9 @@
 -- Functions that are changed at one place.
 use Rattle.std.proofs.Common.{rules, ◌≡◌, ◌∙◌, sym, ap, refl, subst, ℕ, Bool, true, false, cond}
 use Rattle.std.specs.Prelude.{◌≢◌, ◌==◌}
-use Rattle.std.specs.Bool.{Decides}
+pub use Rattle.std.proofs.lemmas.Bool.Decides.{Decides-eqb as nat_decides}
 use Rattle.site_model.specs.Site.{Site}
 use Rattle.world_model.specs.World.{Sites, at_put, put}
-
-pub nat_decides : (a b : ℕ) → Decides (a == b) (a ≡ b)
-nat_decides a b = search rules
 
 -- a fact about every place: at the one that changed, and at the others
 pub at_all : {X : Type 0} (g : ℕ → X) (j : ℕ) (v : X) (P : ℕ → X → Type 0) → P j v → ((i : ℕ) → i ≢ j → P i (g i)) → (i : ℕ) → P i (at_put g j v i)

@@ -20,8 +20,7 @@ use Rattle.oz_model.specs.Answers.{Includes, LinksGoDown}
 use Rattle.oz_model.specs.Need.{Waits, Binds, Takes, stack_need}
 use Rattle.oz_model.specs.Effect.{Exchanged, stack_effect}
 use Rattle.oz_model.specs.Step.{threads_born}
-use Rattle.variable_owner.specs.Owners.{owner_of, sites_of}
-use Rattle.bind_protocol.specs.Records.{Records, knowledge}
+use Rattle.bind_protocol.specs.Records.{Records, knowledge, sites_in}
 use Rattle.site_model.specs.Site.{Threads, Counters, CellRecord, cell_record_in}
 use Rattle.thread_roster.specs.declared.mode.Mode.{Mode}
 use Rattle.thread_roster.specs.declared.mode.Mode.TheVariants.{WaitsFor}
@@ -77,9 +76,6 @@ abbrev pub Placed : List Stmt → (ℕ → Threads) → Mail → List (ThreadNam
 Placed p threads mail ts = IsPlaced (IsThreadAt threads) (IsInSpawn p mail) (value_of equal_thread ts)
 
 -- ---- registrations
-
-abbrev pub sites_in : Records → VarName → List ℕ
-sites_in b x = sites_of (owner_of b.owners x)
 
 -- a site that met x and does not know it bound is registered, or will be, or a Binding comes
 abbrev pub IsTold : (ℕ → Records) → Mail → ℕ → VarName → Type 0

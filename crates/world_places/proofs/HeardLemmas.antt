@@ -38,9 +38,10 @@ use Rattle.world_model.proofs.KeyLemmas.{goes_cases, woken_old}
 use Rattle.world_model.proofs.MailLemmas.{nothing}
 use Rattle.world_messages.specs.Messages.{fresh_in, threads_among}
 use Rattle.world_messages.proofs.PickLemmas.{heard_still}
-use Rattle.world_messages.proofs.TermLemmas.{value_cases, place_here, place_other}
+use Rattle.world_messages.proofs.TermLemmas.{value_cases}
 use Rattle.world_places.specs.Places.{IsRequested}
 use Rattle.world_places.proofs.PartLemmas.{IsHere, Part, still_part}
+use Rattle.site_model.proofs.CellKeyLemmas.{place_here, place_other}
 
 -- ---- lists of those that wait
 

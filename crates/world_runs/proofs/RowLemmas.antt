@@ -7,7 +7,6 @@ use Rattle.site_message.specs.declared.message.Msg.{Msg}
 use Rattle.site_message.specs.declared.message.Sent.{Sent}
 use Rattle.site_message.specs.declared.turn.Turn.{Turn}
 use Rattle.site_message.specs.Journal.{IsTravelling}
-use Rattle.site_model.specs.Bundle.{bundle_limit}
 use Rattle.site_model.specs.Fit.{IsFit}
 use Rattle.site_model.specs.Site.{Site}
 use Rattle.site_model.specs.Transition.{Transition, sequence}
@@ -120,19 +119,19 @@ module _ (p : List Stmt) (n : ℕ) where
             apart : i ≢ e.site
             apart k = let yes : (e.site == i) ≡ true = (nat_decides e.site i).1 (sym k) in cc
 
-  module _ (simulated : EveryRunIsSimulated) (were_fit : DeliveredMessagesAreFit) (is : IsProgram p) (low : 1 ≤ n) (high : n ≤ 64) where
-    to_world : (j : List Turn) (w : ℕ → Site) → DistributedRun p n bundle_limit j w → WorldRun p n bundle_limit j w
+  module _ (simulated : EveryRunIsSimulated) (were_fit : DeliveredMessagesAreFit) (is : IsProgram p) (low : 1 ≤ n) (high : n ≤ 64) (limit : ℕ) (short : limit ≤ 256) where
+    to_world : (j : List Turn) (w : ℕ → Site) → DistributedRun p n limit j w → WorldRun p n limit j w
     to_world [] w run = record { wired = tt; sites = tt; runs = run.turns }
     to_world (e ∷ j) w run =
-        let was = to_world j (put w e.site (last bundle_limit j e w run).0) (before bundle_limit j e w run) in
-        world_run bundle_limit j e w run was (simulated p n j (put w e.site (last bundle_limit j e w run).0) is low high was).2
+        let was = to_world j (put w e.site (last limit j e w run).0) (before limit j e w run) in
+        world_run limit j e w run was (simulated p n limit j (put w e.site (last limit j e w run).0) is low high short was).2
 
-    to_distributed : (j : List Turn) (w : ℕ → Site) → WorldRun p n bundle_limit j w → DistributedRun p n bundle_limit j w
+    to_distributed : (j : List Turn) (w : ℕ → Site) → WorldRun p n limit j w → DistributedRun p n limit j w
     to_distributed j w run = record {
       wired = run.wired;
       sites = run.sites;
-      turns = λ i. to_turns bundle_limit i j (w i) (were_fit p n j w is low high run i);
+      turns = λ i. to_turns limit i j (w i) (were_fit p n limit j w is low high short run i);
     }
 
 pub runs_take_rows : EveryRunIsSimulated → DeliveredMessagesAreFit → RunsTakeRows
-runs_take_rows simulated fit p n j w is low high = (to_distributed p n simulated fit is low high j w, to_world p n simulated fit is low high j w)
+runs_take_rows simulated fit p n limit j w is low high short = (to_distributed p n simulated fit is low high limit short j w, to_world p n simulated fit is low high limit short j w)

@@ -7,7 +7,6 @@ use Rattle.kernel_syntax.specs.Program.{IsProgram}
 use Rattle.site_message.specs.declared.message.Msg.{Msg}
 use Rattle.site_message.specs.declared.turn.Turn.{Turn}
 use Rattle.site_message.specs.Journal.{Wired}
-use Rattle.site_model.specs.Bundle.{bundle_limit}
 use Rattle.site_model.specs.Site.{Site, initial_site}
 use Rattle.site_model.specs.Transition.{Transition, without_output, sequence}
 use Rattle.site_model.specs.Messages.{reception}
@@ -42,4 +41,4 @@ pub record DistributedRun (p : List Stmt) (n limit : ℕ) (j : List Turn) (w : �
 -- These are the runs of `site_model`, in which an unfit message would change nothing: none comes
 abbrev pub RunsTakeRows : Type 0
 RunsTakeRows =
-    (p : List Stmt) (n : ℕ) (j : List Turn) (w : ℕ → Site) → IsProgram p → 1 ≤ n → n ≤ 64 → WorldRun p n bundle_limit j w ↔ DistributedRun p n bundle_limit j w
+    (p : List Stmt) (n limit : ℕ) (j : List Turn) (w : ℕ → Site) → IsProgram p → 1 ≤ n → n ≤ 64 → limit ≤ 256 → WorldRun p n limit j w ↔ DistributedRun p n limit j w

@@ -23,7 +23,7 @@ use Rattle.world_variables.proofs.FollowLemmas.{value_each, all_in}
 use Rattle.world_variables.proofs.TellLemmas.{each_of}
 use Rattle.world_messages.specs.Unfit.{MessagesAreFit}
 use Rattle.world_messages.specs.Fitting.{WorldFits, IsFitting}
-use Rattle.world_messages.proofs.OthersLemmas.{NamedIn}
+use Rattle.world_messages.proofs.SpelledLemmas.{NamedIn, named_in}
 use Rattle.thread_machine.specs.Fits as fits
 use Rattle.oz_model.proofs.NameLemmas.{Each-weaker, EachOfEquation-weaker, EachOfItem-weaker}
 use Rattle.tree_node.specs.declared.names.Name.{Name}
@@ -78,7 +78,7 @@ protocols_hold p n j w s h fit fitting named = record {
     chains c (Some v) e = inl (v, h.cells.cells.chains c v e)
 
 pub protocols_always_hold : ProtocolsAlwaysHold
-protocols_always_hold p n j w is low high run =
-    let r = every_run_is_simulated p n j w is low high run in
-    let k = joined_in p n is low high j w run in
-    protocols_hold p n j w r.0 r.1 r.2 k.fits k.named
+protocols_always_hold p n limit j w is low high short run =
+    let r = every_run_is_simulated p n limit j w is low high short run in
+    let k = joined_in p n limit is low high short j w run in
+    protocols_hold p n j w r.0 r.1 r.2 k.fits (named_in p is n limit high short j w run)

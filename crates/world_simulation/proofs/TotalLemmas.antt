@@ -102,10 +102,10 @@ cells_counted cs (m ∷ ms) h = go (cell_of m.msg) refl (cells_counted cs ms (λ
         goal_of 1 (ap (λ (o : Option CellName). one (is_some o)) e) (found m.msg d at.0 e cs at.1) rest
 
 pub all_messages_are_few : AllMessagesAreFew
-all_messages_are_few p n j w is low high run = (r.reached.centre, r.reached.run, omega (arith, by_kind (sent_of j), messages_are_few p n j w is low high run, counted, few))
+all_messages_are_few p n limit j w is low high short run = (r.reached.centre, r.reached.run, omega (arith, by_kind (sent_of j), messages_are_few p n limit j w is low high short run, counted, few))
   where
     r : Paid p n (world_of j w) (schedule j) (sent_of j)
-    r = paid p n is low high j w run
+    r = paid p n limit is low high short j w run
 
     counted : count_by is_of_cell (sent_of j) ≤ sum_over (λ c. cell_weights c 1 1 1 (sent_of j)) r.reached.centre.cells
     counted = cells_counted r.reached.centre.cells (sent_of j) has

@@ -11,7 +11,6 @@ use Rattle.kernel_syntax.specs.declared.stmt.Stmt.{Stmt}
 use Rattle.kernel_syntax.specs.Program.{IsProgram}
 use Rattle.site_message.specs.declared.turn.Turn.{Turn}
 use Rattle.site_message.specs.Journal.{sent_of, travelling}
-use Rattle.site_model.specs.Bundle.{bundle_limit}
 use Rattle.site_model.specs.Site.{Site}
 use Rattle.site_model.specs.Run.{WorldRun}
 use Rattle.world_model.specs.Schedule.{schedule}
@@ -26,21 +25,21 @@ use Rattle.world_messages.specs.Messages.{vars_made, threads_made, spawns, asks_
 -- most T + 2 * V * (n - 1) + T * V
 abbrev pub MessagesAreFew : Type 0
 MessagesAreFew =
-    (p : List Stmt) (n : ℕ) (j : List Turn) (w : ℕ → Site) → IsProgram p → 1 ≤ n → n ≤ 64 → WorldRun p n bundle_limit j w →
+    (p : List Stmt) (n limit : ℕ) (j : List Turn) (w : ℕ → Site) → IsProgram p → 1 ≤ n → n ≤ 64 → limit ≤ 256 → WorldRun p n limit j w →
     count_by spawns (sent_of j) + count_by asks_to_know (sent_of j) + count_by tells_binding (sent_of j) + count_by asks_to_bind (sent_of j)
     ≤ length (threads_made (schedule j)) + 2 * (length (vars_made (schedule j)) * (n - 1)) + length (threads_made (schedule j)) * length (vars_made (schedule j))
 
 -- no thread sends two requests to bind one variable
 abbrev pub RequestsAreSingle : Type 0
 RequestsAreSingle =
-    (p : List Stmt) (n : ℕ) (j : List Turn) (w : ℕ → Site) → IsProgram p → 1 ≤ n → n ≤ 64 → WorldRun p n bundle_limit j w →
+    (p : List Stmt) (n limit : ℕ) (j : List Turn) (w : ℕ → Site) → IsProgram p → 1 ≤ n → n ≤ 64 → limit ≤ 256 → WorldRun p n limit j w →
     (th : ThreadName) (x : VarName) → requests th x (sent_of j) ≤ 1
 
--- each request for a cell's token has one Get, one Forward and one Put at most, and is followed by an exchange or is the one
--- outstanding request of its site
+-- of each cell, over all sites, no more Gets and no more Forwards were sent than there were exchanges and are outstanding
+-- requests, and no more Puts than exchanges and one
 abbrev pub CellRequestsArePaid : Type 0
 CellRequestsArePaid =
-    (p : List Stmt) (n : ℕ) (j : List Turn) (w : ℕ → Site) → IsProgram p → 1 ≤ n → n ≤ 64 → WorldRun p n bundle_limit j w →
+    (p : List Stmt) (n limit : ℕ) (j : List Turn) (w : ℕ → Site) → IsProgram p → 1 ≤ n → n ≤ 64 → limit ≤ 256 → WorldRun p n limit j w →
     (s : State) × Run p (schedule j) s
     × ((c : CellName) (v : VarName) → value_of equal_cell s.cells c ≡ Some v → IsTallied n w (travelling j) (sent_of j) c (length (exchanges p (schedule j) c)))
 
@@ -60,7 +59,7 @@ sum_over f (c ∷ cs) = f c.0 + sum_over f cs
 -- site
 abbrev pub AllMessagesAreFew : Type 0
 AllMessagesAreFew =
-    (p : List Stmt) (n : ℕ) (j : List Turn) (w : ℕ → Site) → IsProgram p → 1 ≤ n → n ≤ 64 → WorldRun p n bundle_limit j w →
+    (p : List Stmt) (n limit : ℕ) (j : List Turn) (w : ℕ → Site) → IsProgram p → 1 ≤ n → n ≤ 64 → limit ≤ 256 → WorldRun p n limit j w →
     (s : State) × Run p (schedule j) s
     × (length (sent_of j)
     ≤ length (threads_made (schedule j)) + 2 * (length (vars_made (schedule j)) * (n - 1)) + length (threads_made (schedule j)) * length (vars_made (schedule j))

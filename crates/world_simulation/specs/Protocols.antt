@@ -18,7 +18,6 @@ use Rattle.site_message.specs.declared.message.Sent.{Sent}
 use Rattle.site_message.specs.declared.turn.Turn.{Turn}
 use Rattle.site_message.specs.Journal.{IsTravelling, travelling}
 use Rattle.oz_model.specs.Answers.{LinksGoDown}
-use Rattle.site_model.specs.Bundle.{bundle_limit}
 use Rattle.site_model.specs.Site.{Site}
 use Rattle.site_model.specs.Run.{WorldRun}
 use Rattle.world_model.specs.World.{records, counters, managers, cell_records}
@@ -57,7 +56,7 @@ pub record ProtocolsHold (p : List Stmt) (n : ℕ) (j : List Turn) (w : ℕ → 
   pub gets : AreGetsAddressed (travelling j)
   pub fit : MessagesAreFit p n j w
 
--- in every run of a program on 1 to 64 sites
+-- in every run of a program on 1 to 64 sites, with any limit of bundles up to 256
 abbrev pub ProtocolsAlwaysHold : Type 0
 ProtocolsAlwaysHold =
-    (p : List Stmt) (n : ℕ) (j : List Turn) (w : ℕ → Site) → IsProgram p → 1 ≤ n → n ≤ 64 → WorldRun p n bundle_limit j w → ProtocolsHold p n j w
+    (p : List Stmt) (n limit : ℕ) (j : List Turn) (w : ℕ → Site) → IsProgram p → 1 ≤ n → n ≤ 64 → limit ≤ 256 → WorldRun p n limit j w → ProtocolsHold p n j w

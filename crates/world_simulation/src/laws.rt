@@ -22,9 +22,9 @@ pub fn protocols_hold()
 {}
 
 /// How many messages a run sends at most: those on variables and threads by the variables and threads that its schedule makes,
-/// those of a cell by its exchanges; and all of them together. A thread asks once at most to bind a variable, and each request
-/// for a cell's token has one message of each kind at most. (`registers_are_few` of `world_messages` says that a site registers
-/// once at most for a variable, and is told once at most.)
+/// those of a cell by its exchanges; and all of them together. A thread asks once at most to bind a variable; and the requests
+/// for the token of each cell were followed by exchanges, but for those outstanding. (`registers_are_few` of `world_messages` says
+/// that a site registers once at most for a variable, and is told once at most.)
 pub fn messages_are_few()
     ensures single { RequestsAreSingle }
     ensures paid { CellRequestsArePaid }

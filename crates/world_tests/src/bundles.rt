@@ -1,8 +1,9 @@
 //! Equations that go out with a message, and come in.
 
-use marshal::{export, import};
+use marshal::{export, export_from, import};
+use std::alloc::{AllocError, Global};
 use std::test::Fail;
-use tree_node::{Node, Term};
+use tree_node::{Feature, Fields, Node, Term, Text, VarName};
 use tree_store::Store;
 
 #[test]
@@ -17,5 +18,97 @@ fn nothing_goes_out_where_the_limit_is_0(rt: HostRuntime) -> Result<(), Fail> {
             .as_slice()
             .is_empty()
     );
+    Ok(())
+}
+
+// A record whose label is a letter, with these variables of site 1 at the features from 1 on.
+fn record(alloc: Global, letter: u8, numbers: &[u64]) -> Result<Node, AllocError> {
+    let mut fields = Vec::new(alloc);
+    let mut feature: i64 = 1;
+    for num in numbers {
+        fields.push((Feature::Int(feature), VarName { site: 1, num: *num }))?;
+        feature = feature.saturating_add(1);
+    }
+    let label = Text::from_vec(Vec::from_slice(alloc, &[letter])?)?;
+    Ok(Node::Rec(label, Fields::from_vec(fields)?))
+}
+
+// A variable of site 1 is bound to a node, unless it has an equation. Whether it was bound.
+fn tell(store: &mut Store, num: u64, node: Node) -> Result<bool, AllocError> {
+    let var = VarName { site: 1, num };
+    store.know(var)?;
+    match (store.known(var), store.equation(var)) {
+        (true, None) => (),
+        _ => return Ok(false),
+    }
+    store.bind(var, Term::Node(node))?;
+    Ok(true)
+}
+
+// A variable of site 1 is made equal to one with a lower number, unless it has an equation. Whether it was done.
+fn link(store: &mut Store, num: u64, lower: u64) -> Result<bool, AllocError> {
+    let var = VarName { site: 1, num };
+    store.know(var)?;
+    match (store.known(var), store.equation(var)) {
+        (true, None) => (),
+        _ => return Ok(false),
+    }
+    if lower >= num {
+        return Ok(false);
+    }
+    store.bind(
+        var,
+        Term::Var(VarName {
+            site: 1,
+            num: lower,
+        }),
+    )?;
+    Ok(true)
+}
+
+// Variable 4 leads to 3, which is f(2 1); 2 is g(0), 1 is 1 and 0 is 2. Whether the store was made so.
+fn fill(alloc: Global, store: &mut Store) -> Result<bool, AllocError> {
+    let inner = record(alloc, b'g', &[0])?;
+    let outer = record(alloc, b'f', &[2, 1])?;
+    Ok(
+        tell(store, 0, Node::Int(2))?
+            && tell(store, 1, Node::Int(1))?
+            && tell(store, 2, inner)?
+            && tell(store, 3, outer)?
+            && link(store, 4, 3)?,
+    )
+}
+
+// The numbers of the names in a bundle from variable 4 of site 1.
+fn names_out(alloc: Global, store: &Store, limit: usize) -> Result<Vec<u64>, AllocError> {
+    let first = VarName { site: 1, num: 4 };
+    let bundle = export_from(alloc, store, &[first, first], limit)?;
+    let mut numbers = Vec::new(alloc);
+    for (var, _) in bundle.as_slice() {
+        numbers.push(var.num)?;
+    }
+    Ok(numbers)
+}
+
+// From 4 on the variables are reached breadth first: 4, 3, 2, 1, 0. What is taken of them stands in the order of names.
+const OUT: [(usize, &[u64]); 7] = [
+    (0, &[]),
+    (1, &[4]),
+    (2, &[3, 4]),
+    (3, &[2, 3, 4]),
+    (4, &[1, 2, 3, 4]),
+    (5, &[0, 1, 2, 3, 4]),
+    (256, &[0, 1, 2, 3, 4]),
+];
+
+#[test]
+fn the_first_equations_go_out_by_their_names(rt: HostRuntime) -> Result<(), Fail> {
+    let alloc = rt.alloc();
+    let mut store = Store::new(alloc);
+    assert!(rt; fill(alloc, &mut store)?);
+    for (limit, numbers) in OUT {
+        let found = names_out(alloc, &store, limit)?;
+        assert_eq!(rt; found.as_slice(), numbers, "{limit}");
+    }
     Ok(())
 }

@@ -23,7 +23,7 @@ use Rattle.site_model.specs.Messages.{bind_pick}
 use Rattle.world_model.specs.World.{Mail, Travels}
 use Rattle.world_model.specs.Matches.{IsAwaited, PartsMatch}
 use Rattle.world_variables.proofs.TellLemmas.{with_equation}
-use Rattle.world_model.proofs.EffectLemmas.{bind_effect}
+use Rattle.site_model.proofs.EffectLemmas.{bind_effect}
 use Rattle.tree_node.proofs.NameLemmas.{same_thread_decides}
 
 with_same : {V : Type 0} (ts : List (ThreadName × V)) (n : ThreadName) (v : V) → value_of equal_thread ts n ≡ Some v → with_value equal_thread ts n v ≡ ts

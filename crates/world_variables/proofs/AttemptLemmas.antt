@@ -34,14 +34,6 @@ use Rattle.world_variables.proofs.RowLemmas.{to_put, unsent}
 use Rattle.world_variables.specs.Rows.{PartsIn}
 use Rattle.tree_node.proofs.OrderLemmas.{Each-member}
 
-pub path_named : (P : Name → Type 0) (s : Store) (x z : VarName) → Each (EachOfEquation P) s → Same s x z → P (name.Var x) → P (name.Var z)
-path_named P s x z h here g = g
-path_named P s x z h (onward {y = y} l q) g = path_named P s y z h q (step l)
-  where
-    step : Contains s (x, term.Var y) ⊎ Contains s (y, term.Var x) → P (name.Var y)
-    step (inl k) = (Each-member (EachOfEquation P) s _ h k).1
-    step (inr k) = (Each-member (EachOfEquation P) s _ h k).0
-
 module _ (p : List Stmt) (hereF : ℕ → Name → Type 0) (w : World) (c : State) (i : ℕ) (n : ThreadName) (st : Stack) (h : PartsIn p hereF w c) (at : value_of equal_thread (threads w.sites i) n ≡ Some (st, Runs)) where
   pub wait_row : (x z : VarName) → stack_need p (eqs w.sites i) st ≡ Waits x → IsClassName (eqs w.sites i) x z → IsHere (records w.sites i) z → PartsIn p hereF (after_transition w i (without_output (with_waiting n st z (w.sites i)))) c
   wait_row x z need (joined, free) is =

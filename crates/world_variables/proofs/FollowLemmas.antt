@@ -22,7 +22,7 @@ use Rattle.oz_model.specs.Run.{Runs}
 use Rattle.oz_model.specs.Step.{IsBindFor, next}
 use Rattle.oz_model.proofs.EffectNames.{stack_effect_names}
 use Rattle.tree_node.proofs.ClassLemmas.{Contains-head, Contains-tail}
-use Rattle.world_model.proofs.EffectLemmas.{bind_effect}
+use Rattle.site_model.proofs.EffectLemmas.{bind_effect}
 use Rattle.world_variables.proofs.TellLemmas.{each_of}
 use Rattle.bind_protocol.specs.Records.{Records}
 use Rattle.bind_protocol.specs.Rows as Rows
@@ -39,10 +39,11 @@ use Rattle.world_model.specs.Names.{IsHere, IsMade, here_at}
 use Rattle.world_model.specs.Matches.{IsNumbered}
 use Rattle.world_model.proofs.PutLemmas.{field_kept, nat_decides}
 use Rattle.world_variables.proofs.UnitLemmas.{SiteStep, CellAgrees, UnitDone, unit_step}
-use Rattle.world_variables.proofs.AttemptLemmas.{path_named, wait_row, ask_row}
+use Rattle.world_variables.proofs.AttemptLemmas.{wait_row, ask_row}
 use Rattle.world_variables.specs.Rows.{PartsIn}
 use Rattle.oz_model.proofs.EffectNames.{stack_need_has}
 use Rattle.tree_node.proofs.NameLemmas.{same_thread_decides}
+use Rattle.tree_node.proofs.SoundLemmas.{class_names}
 
 abbrev pub Follows : List Stmt → World → State → ℕ → Transition → Type 0
 Follows p w c i d = (c2 : State) × Runs p c d.picks c2 × PartsIn p (here_at (records (after_transition w i d).sites)) (after_transition w i d) c2
@@ -126,7 +127,7 @@ module _ (p : List Stmt) (w : World) (c : State) (n limit i : ℕ) (th : ThreadN
         refl,
         stands (with_waiting th st z s) (without_output s) refl refl
             (wait_row p (here_at (records w.sites)) w c i th st h at x z need class
-            (path_named (here_at (records w.sites) i) s.equations x z (h.homes i).equations class.0
+            (class_names (here_at (records w.sites) i) s.equations x z (h.homes i).equations class.0
             (stack_need_has (here_at (records w.sites) i) p s.equations st x (inl nob) (h.homes i).equations ((h.homes i).stacks th (st, site.Runs) at) need))),
       )
 

@@ -9,6 +9,7 @@ use Rattle.site_model.specs.Transition.{Transition}
 use Rattle.world_model.specs.World.{World, Mail, put, after_transition, after_receipt, numbered, without_number}
 use Rattle.world_model.proofs.PutLemmas.{nat_decides}
 use Rattle.world_model.proofs.MailLemmas.{numbered_append}
+use Rattle.std.proofs.lemmas.Option.{slice_get_within}
 
 filter_append : {X : Type 0} (p : X → Bool) (xs ys : List X) → filter p (xs ++ ys) ≡ filter p xs ++ filter p ys
 filter_append p [] ys = refl
@@ -34,11 +35,6 @@ filter_twice k d (m ∷ ms) = go (k == m.0) refl (d m.0) (filter_twice k d ms)
     go true at false e = rw at e
     go false at false e = rw at (ap (λ (zs : Mail). m ∷ zs) e)
 
-place_low : {X : Type 0} (xs : List X) (k : ℕ) (x : X) → slice_get xs k ≡ Some x → k < length xs
-place_low [] k x e = cc
-place_low (y ∷ ys) zero x e = omega arith
-place_low (y ∷ ys) (suc k) x e = let r = place_low ys k x e in omega (arith, r)
-
 -- what was not sent was not delivered
 undelivered : (j : List Turn) (k : ℕ) → Wired j → length (sent_of j) ≤ k → was_delivered j k ≡ false
 undelivered [] k w h = refl
@@ -58,7 +54,7 @@ undelivered (e ∷ j) k w h = go e.delivered refl (undelivered j k w.0 low)
         one false at = rest
         one true at =
             let t = w.1 n q in
-            let place = place_low (sent_of j) n t.0 t.1.0 in
+            let place = slice_get_within (sent_of j) n t.0 t.1.0 in
             let same : n ≡ k = (nat_decides n k).0 at in absurd (omega (arith, place, low, same))
 
 -- the messages that travel after one more turn

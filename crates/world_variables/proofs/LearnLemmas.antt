@@ -42,7 +42,7 @@ use Rattle.world_model.specs.Matches.{equations_in, Knowledge, IsKept, AreKept, 
 use Rattle.world_model.proofs.PutLemmas.{two_all, at_all, at_here}
 use Rattle.world_model.proofs.MailLemmas.{sent_to, Posts}
 use Rattle.world_model.proofs.KeyLemmas.{woken_new, woken_old, wake_waits, wake_other, wake_cell}
-use Rattle.world_variables.proofs.RecordLemmas.{Learns}
+use Rattle.bind_protocol.specs.Learn.{Learns}
 
 -- ---- stores
 

@@ -31,9 +31,13 @@ use Rattle.world_model.specs.World.{Mail, at_put}
 use Rattle.world_model.specs.Names.{IsMade, IsCentreMade}
 use Rattle.world_model.specs.Matches.{PartsMatch}
 use Rattle.world_model.proofs.PutLemmas.{at_all, at_here, at_own, at_twice, two_all}
-use Rattle.world_variables.proofs.RecordLemmas.{Learns, make_learns, registered_open}
+use Rattle.world_variables.proofs.RecordLemmas.{registered_open}
 use Rattle.world_variables.proofs.AlikeLemmas.{Wider, kept_wider, addressed_wider, told_wider, waiting_wider}
-use Rattle.world_variables.proofs.MeetLemmas.{names_decide, learns_wider}
+use Rattle.world_variables.proofs.MeetLemmas.{learns_wider}
+use Rattle.bind_protocol.proofs.RowCountLemmas.{name_cases}
+use Rattle.bind_protocol.proofs.LearnLemmas.{make_learns}
+use Rattle.bind_protocol.specs.Learn.{Learns}
+use Rattle.site_model.proofs.FilledLemmas.{next_kinds}
 
 var_is : (y : VarName) (a b : ℕ) → y.site ≡ a → y.num ≡ b → y ≡ record { site = a; num = b }
 var_is y a b p q = rw (← p, ← q) refl
@@ -129,10 +133,6 @@ next_are i c (k ∷ ks) = (
   Each-weaker _ _ (λ x h. (h.0, uncounted_less c k x h.1, h.2)) (next_names i (counter_after c k) ks) (next_are i (counter_after c k) ks),
 )
 
-next_kinds : (i : ℕ) (c : Counters) (ks : List NameKind) → map kind_of (next_names i c ks) ≡ ks
-next_kinds i c [] = refl
-next_kinds i c (k ∷ ks) = rw (next_kind i c k, next_kinds i (counter_after c k) ks) refl
-
 next_distinct : (i : ℕ) (c : Counters) (ks : List NameKind) → AreDistinct (next_names i c ks)
 next_distinct i c [] = tt
 next_distinct i c (k ∷ ks) = (
@@ -218,7 +218,7 @@ module _ (p : List Stmt) (here : ℕ → Name → Type 0) (eqs : ℕ → Store) 
       wide_same = record { site = λ j. refl; known = λ j x h. h; bound = λ j x t h. h; held = λ j x t h. h; listed = λ j x o h. h }
 
   var_parts : (i : ℕ) → PartsMatch p here eqs (at_put records i (after_make (records i) (record { site = i; num = (made i).vars }))) threads (at_put made i (counter_after (made i) kind.Var)) mail s
-  var_parts i = count_parts i kind.Var b (learns_wider records i b x l none (λ y o h. listed y o (names_decide y x) h)) (λ y at. own y at (names_decide y x)) (λ y h. met y h (names_decide y x)) (λ y far. l.others y (λ e. far (ap (λ (z : VarName). z.site) e)))
+  var_parts i = count_parts i kind.Var b (learns_wider records i b x l none (λ y o h. listed y o (name_cases y x) h)) (λ y at. own y at (name_cases y x)) (λ y h. met y h (name_cases y x)) (λ y far. l.others y (λ e. far (ap (λ (z : VarName). z.site) e)))
     where
       x : VarName
       x = record { site = i; num = (made i).vars }

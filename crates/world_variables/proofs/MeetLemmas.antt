@@ -21,24 +21,19 @@ use Rattle.world_model.specs.Names.{IsHere, IsMade, KnownAreMade}
 use Rattle.world_model.specs.Matches.{IsTold, PartsMatch}
 use Rattle.world_model.proofs.PutLemmas.{at_all, at_own}
 use Rattle.world_model.proofs.MailLemmas.{nothing, sent_to, Posts, posts}
-use Rattle.world_variables.proofs.RecordLemmas.{Learns, MeetCase, meet_case}
 use Rattle.world_variables.proofs.AlikeLemmas.{knowledge_posts, told_posts, addressed_posts, said_posts, waiting_posts, placed_posts, Wider, kept_wider, addressed_wider, told_wider, waiting_wider}
-
-pub names_decide : (x y : VarName) → (x ≡ y) ⊎ (x ≢ y)
-names_decide x y = go (equal_var x y) refl
-  where
-    go : (b : Bool) → equal_var x y ≡ b → (x ≡ y) ⊎ (x ≢ y)
-    go true q = inl ((same_name_decides x y).0 q)
-    go false q = inr (λ (e : x ≡ y). let yes : equal_var x y ≡ true = (same_name_decides x y).1 e in cc)
+use Rattle.bind_protocol.proofs.RowCountLemmas.{name_cases}
+use Rattle.bind_protocol.proofs.LearnLemmas.{meet_case}
+use Rattle.bind_protocol.specs.Learn.{Learns, MeetCase}
 
 -- a site knows one more name, unbound
 pub learns_wider : (records : ℕ → Records) (i : ℕ) (b : Records) (x : VarName) → Learns (records i) b x (Some None) → knowledge (records i) x ≡ None →
     ((y : VarName) (k : ℕ) → Contains (sites_in (records i) y) k → Contains (sites_in b y) k) → Wider records (at_put records i b)
 learns_wider records i b x l none listed = record {
   site = at_all records i b (λ j (o : Records). o.site ≡ (records j).site) l.site (λ j other. refl);
-  known = at_all records i b (λ j (o : Records). (y : VarName) → IsKnown (records j) y → IsKnown o y) (λ y h. known y (names_decide y x) h) (λ j other y h. h);
-  bound = at_all records i b (λ j (o : Records). (y : VarName) (t : Term) → knowledge o y ≡ Some (Some t) → knowledge (records j) y ≡ Some (Some t)) (λ y t h. bound y t (names_decide y x) h) (λ j other y t h. h);
-  held = at_all records i b (λ j (o : Records). (y : VarName) (t : Term) → knowledge (records j) y ≡ Some (Some t) → knowledge o y ≡ Some (Some t)) (λ y t h. held y t (names_decide y x) h) (λ j other y t h. h);
+  known = at_all records i b (λ j (o : Records). (y : VarName) → IsKnown (records j) y → IsKnown o y) (λ y h. known y (name_cases y x) h) (λ j other y h. h);
+  bound = at_all records i b (λ j (o : Records). (y : VarName) (t : Term) → knowledge o y ≡ Some (Some t) → knowledge (records j) y ≡ Some (Some t)) (λ y t h. bound y t (name_cases y x) h) (λ j other y t h. h);
+  held = at_all records i b (λ j (o : Records). (y : VarName) (t : Term) → knowledge (records j) y ≡ Some (Some t) → knowledge o y ≡ Some (Some t)) (λ y t h. held y t (name_cases y x) h) (λ j other y t h. h);
   listed = at_all records i b (λ j (o : Records). (y : VarName) (k : ℕ) → Contains (sites_in (records j) y) k → Contains (sites_in o y) k) listed (λ j other y k h. h);
 }
   where
@@ -96,7 +91,7 @@ module _ (p : List Stmt) (here : ℕ → Name → Type 0) (eqs : ℕ → Store) 
 
           told : (j : ℕ) (y : VarName) → knowledge (at_put records i b j) y ≡ Some None → y.site ≢ j → IsTold (at_put records i b) more j y
           told = at_all records i b (λ j (o : Records). (y : VarName) → knowledge o y ≡ Some None → y.site ≢ j → IsTold (at_put records i b) more j y)
-              (λ y unbound other. at_i y unbound other (names_decide y x)) (λ j other y unbound far. old j y (parts.told j y unbound far))
+              (λ y unbound other. at_i y unbound other (name_cases y x)) (λ j other y unbound far. old j y (parts.told j y unbound far))
             where
               old : (j : ℕ) (y : VarName) → IsTold records mail j y → IsTold (at_put records i b) more j y
               old j y h = told_wider records (at_put records i b) wide more j y (told_posts mail more out sent records j y h)
@@ -127,8 +122,8 @@ module _ (p : List Stmt) (here : ℕ → Name → Type 0) (eqs : ℕ → Store) 
               makers : KnownAreMade (at_put records i b) made
               makers = record {
                 own = at_all records i b (λ j (o : Records). (y : VarName) → y.site ≡ j → Fit.IsBelowCounter (made j) (name.Var y) ↔ IsKnown o y)
-                    (λ y at. own y at (names_decide y x)) (λ j other y at. parts.makers.own j y at);
-                met = at_all records i b (λ j (o : Records). (y : VarName) → IsKnown o y → IsMade made (name.Var y)) (λ y h. met y h (names_decide y x)) (λ j other y h. parts.makers.met j y h);
+                    (λ y at. own y at (name_cases y x)) (λ j other y at. parts.makers.own j y at);
+                met = at_all records i b (λ j (o : Records). (y : VarName) → IsKnown o y → IsMade made (name.Var y)) (λ y h. met y h (name_cases y x)) (λ j other y h. parts.makers.met j y h);
               }
                 where
                   own : (y : VarName) → y.site ≡ i → (y ≡ x) ⊎ (y ≢ x) → Fit.IsBelowCounter (made i) (name.Var y) ↔ IsKnown b y

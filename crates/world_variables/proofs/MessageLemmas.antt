@@ -30,7 +30,6 @@ use Rattle.world_model.specs.World.{World, Sites, Mail, Travels, put, after_tran
 use Rattle.world_model.specs.Names.{IsHere, IsMade}
 use Rattle.world_model.specs.Matches.{IsBound, IsNumbered, PartsMatch}
 use Rattle.world_model.proofs.PutLemmas.{at_here, at_own, nat_decides}
-use Rattle.world_variables.proofs.RecordLemmas.{binding_learns}
 use Rattle.world_model.proofs.MailLemmas.{sent_to, from_number}
 use Rattle.world_variables.proofs.TellLemmas.{with_equation, learnt_parts}
 use Rattle.world_variables.proofs.RegisterLemmas.{MayGo, parts_gone, register_parts}
@@ -38,6 +37,7 @@ use Rattle.world_variables.proofs.StepLemmas.{land_parts}
 use Rattle.world_variables.proofs.RowLemmas.{to_put, bind_row}
 use Rattle.world_variables.proofs.AcceptLemmas.{asked_is_step}
 use Rattle.world_variables.specs.Rows.{PartsIn}
+use Rattle.bind_protocol.proofs.LearnLemmas.{binding_learns}
 
 -- a site is told an equation of another site's variable
 pub told_parts : (p : List Stmt) (here : ℕ → Name → Type 0) (w : World) (c : State) (i : ℕ) (x : VarName) (t : Term) → PartsIn p here w c → x.site ≢ i → Contains c.equations (x, t) → EachOfEquation (here i) (x, t) → IsMade (counters w.sites) (name.Var x) →

@@ -31,13 +31,7 @@ use Rattle.world_model.proofs.PutLemmas.{at_all, at_here}
 use Rattle.world_variables.proofs.LearnLemmas.{placed_alike}
 use Rattle.world_model.proofs.KeyLemmas.{with_here, with_there, goes_cases}
 use Rattle.tree_node.proofs.NameLemmas.{same_thread_decides}
-
-pub threads_decide : (x y : ThreadName) → (x ≡ y) ⊎ (x ≢ y)
-threads_decide x y = go (equal_thread x y) refl
-  where
-    go : (b : Bool) → equal_thread x y ≡ b → (x ≡ y) ⊎ (x ≢ y)
-    go true q = inl ((same_thread_decides x y).0 q)
-    go false q = inr (λ (e : x ≡ y). let yes : equal_thread x y ≡ true = (same_thread_decides x y).1 e in cc)
+use Rattle.thread_roster.proofs.NameLemmas.{name_cases as threads_decide}
 
 -- why a thread may wait so
 abbrev pub MayWait : List Stmt → Store → Records → Mail → Store → ThreadName → Stack → Mode → Type 0

@@ -29,12 +29,15 @@ use Rattle.world_model.specs.Names.{IsHere, IsHereName, IsMade, here_at}
 use Rattle.world_model.specs.Matches.{PartsMatch}
 use Rattle.world_model.proofs.PutLemmas.{at_all, at_here, at_own, at_twice, field_kept, nat_decides}
 use Rattle.world_model.proofs.MailLemmas.{acts_after}
-use Rattle.world_variables.proofs.RecordLemmas.{binding_known, meet_known, met_known}
+use Rattle.world_variables.proofs.RecordLemmas.{met_known}
 use Rattle.world_variables.proofs.AlikeLemmas.{parts_weaker}
 use Rattle.world_variables.proofs.RowLemmas.{to_put, unsent, meets_one, meet_row}
 use Rattle.world_variables.proofs.MessageLemmas.{told_parts}
 use Rattle.world_variables.specs.Rows.{PartsIn}
 use Rattle.tree_node.proofs.EachLemmas.{each_append}
+use Rattle.kernel_syntax.proofs.PreorderLemmas.{each_left, each_right}
+use Rattle.bind_protocol.proofs.LearnLemmas.{binding_known, meet_known}
+use Rattle.site_model.proofs.StillLemmas.{told_all_counters, told_counters, meet_site}
 
 -- ---- variables of a term
 
@@ -45,14 +48,6 @@ each_map f P (x ∷ xs) h = (h.0, each_map f P xs h.1)
 each_unmap : {X Y : Type 0} (f : X → Y) (P : Y → Type 0) (xs : List X) → Each (λ x. P (f x)) xs → Each P (map f xs)
 each_unmap f P [] h = tt
 each_unmap f P (x ∷ xs) h = (h.0, each_unmap f P xs h.1)
-
-pub each_first : {X : Type 0} (P : X → Type 0) (xs ys : List X) → Each P (xs ++ ys) → Each P xs
-each_first P [] ys h = tt
-each_first P (x ∷ xs) ys h = (h.0, each_first P xs ys h.1)
-
-each_last : {X : Type 0} (P : X → Type 0) (xs ys : List X) → Each P (xs ++ ys) → Each P ys
-each_last P [] ys h = h
-each_last P (x ∷ xs) ys h = each_last P xs ys h.1
 
 pub term_here : (b : Records) (t : Term) → Each (IsHere b) (vars_of t) → EachOfTerm (IsHereName b) t
 term_here b (term.Var x) h = h.0
@@ -77,7 +72,7 @@ equations_have P (e ∷ es) h = (h.0.0, each_append _ (vars_of e.1) (vars_of_equ
 
 equations_here : (b : Records) (es : List Equation) → Each (IsHere b) (vars_of_equations es) → Each (EachOfEquation (IsHereName b)) es
 equations_here b [] h = tt
-equations_here b (e ∷ es) h = ((h.0, term_here b e.1 (each_first (IsHere b) (vars_of e.1) (vars_of_equations es) h.1)), equations_here b es (each_last (IsHere b) (vars_of e.1) (vars_of_equations es) h.1))
+equations_here b (e ∷ es) h = ((h.0, term_here b e.1 (each_left (IsHere b) (vars_of e.1) (vars_of_equations es) h.1)), equations_here b es (each_right (IsHere b) (vars_of e.1) (vars_of_equations es) h.1))
 
 -- the variables in a message that was made of made names were made
 pub vars_made : (P : Name → Type 0) (m : Msg) → Fit.EachOfMsg P m → Each (λ (x : VarName). P (name.Var x)) (message_vars m)
@@ -117,13 +112,6 @@ pub meets_known : (xs : List VarName) (b : Records) (y : VarName) → IsKnown b 
 meets_known [] b y h = h
 meets_known (x ∷ xs) b y h = meets_known xs (after_meet b x) y (meet_known b x y h)
 
-meet_site : (b : Records) (x : VarName) → (after_meet b x).site ≡ b.site
-meet_site b x = go (is_own b x)
-  where
-    go : (q : Bool) → (cond q b (record b { proxies = Proxies.after_meet b.proxies x })).site ≡ b.site
-    go true = refl
-    go false = refl
-
 -- all that are met are known afterwards, or the site's own
 all_met : (xs : List VarName) (b : Records) → Each (λ (x : VarName). IsKnown (after_meets b xs) x ⊎ (x.site ≡ b.site)) xs
 all_met [] b = tt
@@ -152,19 +140,6 @@ told_row p here w c i e h has names real = go (is_own (w.sites i).records e.0) r
         let is : with_known_equation (w.sites i) e.0 e.1 ≡ w.sites i = rw q refl in
         rw is (to_put p here w.sites i (w.sites i) w.mail c (rw (at_own (eqs w.sites) i, at_own (records w.sites) i, at_own (threads w.sites) i, at_own (counters w.sites) i) h))
 
-told_made : (s : Site) (x : VarName) (t : Term) → (with_known_equation s x t).counters ≡ s.counters
-told_made s x t = go (is_own s.records x) (knowledge s.records x)
-  where
-    go : (b : Bool) (o : Option (Option Term)) → (with_known_equation_as b o s x t).counters ≡ s.counters
-    go true o = refl
-    go false (Some (Some r)) = refl
-    go false (Some None) = refl
-    go false None = refl
-
-told_all_made : (es : List Equation) (t : Site) → (with_known_equations t es).counters ≡ t.counters
-told_all_made [] t = refl
-told_all_made (e ∷ es) t = told_all_made es (with_known_equation t e.0 e.1) ∙ told_made t e.0 e.1
-
 told_all_row : (p : List Stmt) (here : ℕ → Name → Type 0) (c : State) (i : ℕ) (es : List Equation) (w : World) → PartsIn p here w c → Each (Contains c.equations) es → Each (EachOfEquation (here i)) es → Each (λ (e : Equation). IsMade (counters w.sites) (name.Var e.0)) es →
     PartsIn p here (record w { sites = put w.sites i (with_known_equations (w.sites i) es) }) c
 told_all_row p here c i [] w h has names real = to_put p here w.sites i (w.sites i) w.mail c (rw (at_own (eqs w.sites) i, at_own (records w.sites) i, at_own (threads w.sites) i, at_own (counters w.sites) i) h)
@@ -172,7 +147,7 @@ told_all_row p here c i (e ∷ es) w h has names real =
     let s = with_known_equation (w.sites i) e.0 e.1 in
     let v = record w { sites = put w.sites i s } in
     let one = told_row p here w c i e h has.0 names.0 real.0 in
-    let same : counters v.sites ≡ counters w.sites = field_kept (λ (t : Site). t.counters) w.sites i s (told_made (w.sites i) e.0 e.1) in
+    let same : counters v.sites ≡ counters w.sites = field_kept (λ (t : Site). t.counters) w.sites i s (told_counters (w.sites i) e.0 e.1) in
     let rest = told_all_row p here c i es v one has.1 names.1 (subst (λ (m : ℕ → Counters). Each (λ (e : Equation). IsMade m (name.Var e.0)) es) (sym same) real.1) in
     let at = subst (λ (t : Site). PartsIn p here (record w { sites = put (put w.sites i s) i (with_known_equations t es) }) c) (at_here w.sites i s) rest in
     subst (λ (u : World). PartsIn p here u c) (put_put w i s (with_known_equations s es)) at
@@ -259,7 +234,7 @@ opens_row p w c k i m h at has = record { parts = parts; vars = vars }
 
     bundle_here : Each (EachOfEquation (here i)) (message_bundle m)
     bundle_here = subst (λ (b : Records). Each (EachOfEquation (IsHereName b)) (message_bundle m)) (sym (opened_records w i m))
-        (equations_here (after_meets s2.records (message_vars m)) (message_bundle m) (each_last (IsHere (after_meets s2.records (message_vars m))) (body_vars m) (vars_of_equations (message_bundle m)) known))
+        (equations_here (after_meets s2.records (message_vars m)) (message_bundle m) (each_right (IsHere (after_meets s2.records (message_vars m))) (body_vars m) (vars_of_equations (message_bundle m)) known))
 
     v : World
     v = record w { sites = put w.sites i s2 }
@@ -269,7 +244,7 @@ opens_row p w c k i m h at has = record { parts = parts; vars = vars }
         (heads (message_bundle m) (bundle_made (IsMade (counters w.sites)) m (h.said k i m at)))
 
     same : counters v.sites ≡ counters w.sites
-    same = field_kept (λ (t : Site). t.counters) w.sites i s2 (told_all_made (message_bundle m) s)
+    same = field_kept (λ (t : Site). t.counters) w.sites i s2 (told_all_counters (message_bundle m) s)
 
     parts : PartsIn p here (after_transition w i (opening m s)) c
     parts =

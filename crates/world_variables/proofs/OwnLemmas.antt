@@ -50,6 +50,8 @@ use Rattle.oz_model.specs.Laws.{nobody}
 use Rattle.oz_model.proofs.ClosureLemmas.{for_names}
 use Rattle.world_variables.specs.Rows.{PartsIn}
 use Rattle.tree_node.proofs.NameLemmas.{same_thread_decides}
+use Rattle.kernel_syntax.proofs.PreorderLemmas.{each_right}
+use Rattle.site_model.proofs.StillLemmas.{binds_counters}
 
 -- ---- equations are added
 
@@ -78,12 +80,8 @@ abbrev pub CanAddEach : (Name → Type 0) → (ℕ → Counters) → ℕ → Sto
 CanAddEach here counters i c [] = Unit {0}
 CanAddEach here counters i c (e ∷ es) = CanAddEach here counters i c es × CanAdd here counters i (es ++ c) e
 
-binds_made : (limit : ℕ) (es : List Equation) (s : Site) → (own_binds limit es s).site.counters ≡ s.counters
-binds_made limit [] s = refl
-binds_made limit (e ∷ es) s = binds_made limit es s
-
 pub made_binds : (w : World) (i limit : ℕ) (es : List Equation) → counters (after_transition w i (own_binds limit es (w.sites i))).sites ≡ counters w.sites
-made_binds w i limit es = field_kept (λ (t : Site). t.counters) w.sites i (own_binds limit es (w.sites i)).site (binds_made limit es (w.sites i))
+made_binds w i limit es = field_kept (λ (t : Site). t.counters) w.sites i (own_binds limit es (w.sites i)).site (binds_counters limit es (w.sites i))
 
 pub binds_rows : (p : List Stmt) (here : ℕ → Name → Type 0) (w : World) (c : State) (i limit : ℕ) (es : List Equation) → i ≢ 0 → CanAddEach (here i) (counters w.sites) i c.equations es → PartsIn p here w c →
     PartsIn p here (after_transition w i (own_binds limit es (w.sites i))) (record c { equations = es ++ c.equations })
@@ -183,10 +181,6 @@ bears_row p here w c d i n limit (Some b) nob below names was new eq th centred 
 
 -- ---- the whole step
 
-each_tail : {X : Type 0} (P : X → Type 0) (xs ys : List X) → Each P (xs ++ ys) → Each P ys
-each_tail P [] ys h = h
-each_tail P (x ∷ xs) ys h = each_tail P xs ys h.1
-
 -- numbers of messages after a part of a turn
 pub below_acts : (w : World) (i : ℕ) (d : Transition) → ((l a : ℕ) (m : Msg) → Travels w.mail l a m → l < w.sent) → (l a : ℕ) (m : Msg) → Travels (after_transition w i d).mail l a m → l < (after_transition w i d).sent
 below_acts w i d below l a m h = go (from_number w.mail w.sent d.sent l a m h)
@@ -250,7 +244,7 @@ own_step p here w c n limit i k kinds st q h =
     h2 = at_site p here w i d1 (own_binds limit e.adds) c2 (binds_rows p here w1 c i limit e.adds q.real q.adds h1)
 
     made2 : counters w2.sites ≡ counters w1.sites
-    made2 = field_kept (λ (t : Site). t.counters) w1.sites i d2.site (binds_made limit e.adds d1.site ∙ sym (ap (λ (t : Site). t.counters) (at_here w.sites i d1.site)))
+    made2 = field_kept (λ (t : Site). t.counters) w1.sites i d2.site (binds_counters limit e.adds d1.site ∙ sym (ap (λ (t : Site). t.counters) (at_here w.sites i d1.site)))
 
     fresh_made : Each (IsMade (counters w1.sites)) k.fresh
     fresh_made = subst (λ (ns : List Name). Each (IsMade (counters w1.sites)) ns) (sym q.fresh) (Each-weaker _ _ one (next_names i (counters w.sites i) kinds) (next_are i (counters w.sites i) kinds))
@@ -269,7 +263,7 @@ own_step p here w c n limit i k kinds st q h =
 
     centred3 : IsCentreMade (counters w2.sites) c3
     centred3 = record {
-      all = (centred4.all.0, centred4.all.1, each_tail (EachOfThread (IsMade (counters w2.sites))) (threads_born p e.born) (with_optional_value equal_thread c.threads k.thread (living_stack su)) centred4.all.2);
+      all = (centred4.all.0, centred4.all.1, each_right (EachOfThread (IsMade (counters w2.sites))) (threads_born p e.born) (with_optional_value equal_thread c.threads k.thread (living_stack su)) centred4.all.2);
       nobody = centred4.nobody;
     }
 

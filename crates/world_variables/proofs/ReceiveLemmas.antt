@@ -31,12 +31,13 @@ use Rattle.oz_model.specs.Laws.{nobody}
 use Rattle.oz_model.proofs.NameLemmas.{Each-weaker}
 use Rattle.site_message.specs.Vars.{vars_of}
 use Rattle.site_message.specs.declared.message.Sent.{Sent}
-use Rattle.world_variables.proofs.RecordLemmas.{ask_known, registers_is}
 use Rattle.world_variables.proofs.AlikeLemmas.{parts_weaker}
 use Rattle.world_variables.proofs.MessageLemmas.{Taken, spawn_row, register_kept, request_kept, binding_row}
-use Rattle.world_variables.proofs.OpenLemmas.{told_known, opened_here, Opened, opens_row, term_here, each_first}
+use Rattle.world_variables.proofs.OpenLemmas.{told_known, opened_here, Opened, opens_row, term_here}
 use Rattle.world_variables.proofs.OwnLemmas.{below_acts}
 use Rattle.world_variables.specs.Rows.{IsElsewhere, PartsIn}
+use Rattle.kernel_syntax.proofs.PreorderLemmas.{each_left}
+use Rattle.bind_protocol.proofs.LearnLemmas.{registers_is, ask_known}
 
 -- a Register is for the site's own variable
 abbrev pub IsAtOwner : ℕ → Msg → Type 0
@@ -74,10 +75,10 @@ numbered_acts w i d h = record {
 -- what the message tells is here once it is opened
 pub takes_row : (p : List Stmt) (here : ℕ → Name → Type 0) (w : World) (c : State) (limit k i : ℕ) (m : Msg) → PartsIn p here w c → IsNumbered w.sent w.mail → i ≢ 0 → IsSound c.equations → IsPlain m → IsElsewhere i m → Travels w.mail k i m →
     here i (name.Var nobody) → Each (λ (x : VarName). here i (name.Var x)) (message_vars m) → ((x : VarName) (t : Term) → Each (λ (y : VarName). here i (name.Var y)) (x ∷ vars_of t) → EachOfEquation (here i) (x, t)) → Taken p here w c k i (message_row p limit m (w.sites i))
-takes_row p here w c limit k i (msg.Spawn n code vars bundle) h numbers real sound plain far at nob names term = spawn_row p here w c k i h numbers real n code vars bundle at nob (each_first _ vars _ names)
+takes_row p here w c limit k i (msg.Spawn n code vars bundle) h numbers real sound plain far at nob names term = spawn_row p here w c k i h numbers real n code vars bundle at nob (each_left _ vars _ names)
 takes_row p here w c limit k i (msg.Register x o) h numbers real sound plain far at nob names term = register_kept p here w c k i h numbers real limit x o at
-takes_row p here w c limit k i (msg.BindReq x n t bundle) h numbers real sound plain far at nob names term = request_kept p here w c k i h numbers real limit x t n bundle sound at (term x t (each_first _ (x ∷ vars_of t) _ names))
-takes_row p here w c limit k i (msg.Binding x t bundle) h numbers real sound plain far at nob names term = binding_row p here w c k i h numbers real x t bundle far at (term x t (each_first _ (x ∷ vars_of t) _ names))
+takes_row p here w c limit k i (msg.BindReq x n t bundle) h numbers real sound plain far at nob names term = request_kept p here w c k i h numbers real limit x t n bundle sound at (term x t (each_left _ (x ∷ vars_of t) _ names))
+takes_row p here w c limit k i (msg.Binding x t bundle) h numbers real sound plain far at nob names term = binding_row p here w c k i h numbers real x t bundle far at (term x t (each_left _ (x ∷ vars_of t) _ names))
 takes_row p here w c limit k i (msg.Get d o) h numbers real sound plain far at nob names term = absurd plain
 takes_row p here w c limit k i (msg.Forward d o) h numbers real sound plain far at nob names term = absurd plain
 takes_row p here w c limit k i (msg.Put d v bundle) h numbers real sound plain far at nob names term = absurd plain

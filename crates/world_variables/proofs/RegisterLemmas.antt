@@ -30,14 +30,13 @@ use Rattle.world_model.specs.Names.{IsHere, IsMade}
 use Rattle.world_model.specs.Matches.{equations_in, IsTold, IsAddressed, IsBound, IsAwaited, PartsMatch}
 use Rattle.world_model.proofs.PutLemmas.{at_all, at_here}
 use Rattle.world_model.proofs.MailLemmas.{nothing, sent_to, Posts, posts, Gone, gone, new_number, from_number}
-use Rattle.world_variables.proofs.RecordLemmas.{Registers, registers_is, bound_at, bound_knows}
+use Rattle.world_variables.proofs.RecordLemmas.{bound_knows}
 use Rattle.world_variables.proofs.AlikeLemmas.{knowledge_posts, told_posts, addressed_posts, said_posts, waiting_posts, placed_posts, knowledge_gone, addressed_gone, said_gone, told_gone, waiting_gone, placed_gone, Wider, kept_wider, addressed_wider, told_wider, waiting_wider}
 use Rattle.world_variables.proofs.TellLemmas.{each_of}
 use Rattle.tree_node.proofs.OrderLemmas.{Each-member}
-
-unknown : (o : Option (Option Term)) → o ≡ None → IsTrue (is_some o) → ⊥
-unknown None e h = cc
-unknown (Some o) e h = cc
+use Rattle.bind_protocol.proofs.LearnLemmas.{bound_at, registers_is}
+use Rattle.bind_protocol.specs.Learn.{Registers}
+use Rattle.bind_protocol.proofs.ToldLemmas.{unknown}
 
 -- what is sent may be sent
 pub record MaySend (p : List Stmt) (eqs : ℕ → Store) (records : ℕ → Records) (threads : ℕ → Threads) (made : ℕ → Counters) (c : Store) (out : List Sent) : Type 0 where

@@ -163,7 +163,7 @@ sum_in f i s more e (suc n) low high = go (nat_or i (suc n)) (λ below. sum_in f
         let last : (put f i s (suc n)).ended ≡ (f (suc n)).ended = ap (λ (y : Site). y.ended) (at_other f i s (suc n) (λ (k : suc n ≡ i). d (sym k))) in
         omega (arith, rest, last)
 
-in_or : (i n : ℕ) → ((1 ≤ i) × (i ≤ n)) ⊎ (((1 ≤ i) × (i ≤ n)) → ⊥)
+pub in_or : (i n : ℕ) → ((1 ≤ i) × (i ≤ n)) ⊎ (((1 ≤ i) × (i ≤ n)) → ⊥)
 in_or i n = search (rules, arith)
 
 pub sums_row : (w : World) (i : ℕ) (d : Transition) (c t : State) → Summed (w.sites i) d c t → Sums w.sites w.lines c → Sums (after_transition w i d).sites (after_transition w i d).lines t

@@ -34,10 +34,11 @@ use Rattle.world_model.specs.Names.{IsMade, KnownAreMade}
 use Rattle.world_model.specs.Matches.{AreKept, PartsMatch}
 use Rattle.world_model.proofs.PutLemmas.{at_all}
 use Rattle.world_model.proofs.MailLemmas.{nothing, sent_to, Posts, posts}
-use Rattle.world_variables.proofs.RecordLemmas.{Learns, binding_learns, ask_learns}
 use Rattle.world_variables.proofs.LearnLemmas.{IsLearnt, head_or_tail, learnt_knowledge, learnt_kept, learnt_placed, learnt_told, learnt_addressed, learnt_waiting, learnt_homes}
-use Rattle.world_variables.proofs.MeetLemmas.{names_decide}
 use Rattle.tree_node.proofs.OrderLemmas.{Each-member}
+use Rattle.bind_protocol.proofs.RowCountLemmas.{name_cases}
+use Rattle.bind_protocol.proofs.LearnLemmas.{ask_learns, binding_learns}
+use Rattle.bind_protocol.specs.Learn.{Learns}
 
 -- what holds of all of a list holds of some of its elements
 pub each_of : (P : Equation → Type 0) (xs : List Equation) → Each P xs → (ys : List Equation) → Each (Contains xs) ys → Each P ys
@@ -66,8 +67,8 @@ module _ (p : List Stmt) (here : ℕ → Name → Type 0) (eqs : ℕ → Store) 
   -- who knows names of its own and others
   learnt_makers : (i : ℕ) (b : Records) (x : VarName) (o : Option Term) → Learns (records i) b x (Some o) → IsMade made (name.Var x) → (x.site ≡ i → IsKnown (records i) x) → KnownAreMade (at_put records i b) made
   learnt_makers i b x o l real known = record {
-    own = at_all records i b (λ j (r : Records). (y : VarName) → y.site ≡ j → Fit.IsBelowCounter (made j) (name.Var y) ↔ IsKnown r y) (λ y at. own y at (names_decide y x)) (λ j other y at. parts.makers.own j y at);
-    met = at_all records i b (λ j (r : Records). (y : VarName) → IsKnown r y → IsMade made (name.Var y)) (λ y h. met y h (names_decide y x)) (λ j other y h. parts.makers.met j y h);
+    own = at_all records i b (λ j (r : Records). (y : VarName) → y.site ≡ j → Fit.IsBelowCounter (made j) (name.Var y) ↔ IsKnown r y) (λ y at. own y at (name_cases y x)) (λ j other y at. parts.makers.own j y at);
+    met = at_all records i b (λ j (r : Records). (y : VarName) → IsKnown r y → IsMade made (name.Var y)) (λ y h. met y h (name_cases y x)) (λ j other y h. parts.makers.met j y h);
   }
     where
       own : (y : VarName) → y.site ≡ i → (y ≡ x) ⊎ (y ≢ x) → Fit.IsBelowCounter (made i) (name.Var y) ↔ IsKnown b y
@@ -215,7 +216,7 @@ module _ (p : List Stmt) (here : ℕ → Name → Type 0) (eqs : ℕ → Store) 
         grows = λ e h. Contains-tail _ _ s.equations h;
         has = Contains-head _ s.equations;
         new = λ y r h. new y r (head_or_tail x y t r s.equations h);
-        kept = λ y o h. kept_sites y o (names_decide y x) h;
+        kept = λ y o h. kept_sites y o (name_cases y x) h;
         posts = sent;
         told = λ to m h. (bundle, (sent_asks limit ((x, t) ∷ eqs i) x t (sites_in (records i) x) to m h).0, carried);
       }

@@ -47,15 +47,16 @@ use Rattle.site_message.specs.declared.message.Msg.TheVariants as msg
 use Rattle.world_model.specs.World.{World, Travels, after_transition, eqs, records, threads, counters}
 use Rattle.world_model.specs.Names.{IsHere, IsHereName, IsMade, here_at}
 use Rattle.world_model.proofs.PutLemmas.{at_all, at_here}
-use Rattle.world_variables.proofs.RecordLemmas.{make_learns, make_known, ask_known}
 use Rattle.world_variables.proofs.MakeLemmas.{IsNextOf, next_are, next_fresh}
-use Rattle.world_model.proofs.EffectLemmas.{AddsFresh, stack_adds, bind_effect}
+use Rattle.site_model.proofs.EffectLemmas.{AddsFresh, stack_adds, bind_effect}
 use Rattle.world_variables.proofs.AlikeLemmas.{parts_weaker}
 use Rattle.world_variables.proofs.RowLemmas.{makes_row}
 use Rattle.world_variables.proofs.LearnLemmas.{head_or_tail}
 use Rattle.world_variables.proofs.OwnLemmas.{CanAdd, CanAddEach, IsOwnStep, own_step, new_none}
 use Rattle.world_variables.specs.Rows.{PartsIn}
 use Rattle.tree_node.proofs.OrderLemmas.{Each-member}
+use Rattle.bind_protocol.proofs.LearnLemmas.{make_learns, make_known, ask_known}
+use Rattle.site_model.proofs.StillLemmas.{cell_keeps_records}
 
 -- ---- what is known after a step
 
@@ -71,11 +72,6 @@ made_known : (xs : List VarName) (b : Records) → Each (λ (x : VarName). x.sit
 made_known [] b h = tt
 made_known (x ∷ xs) b h = (makes_known xs (after_make b x) x (rw (make_learns b x h.0).here refl), made_known xs (after_make b x) h.1)
 
-cells_kept : (ch : CellChange) (s : Site) → (after_cell ch s).records ≡ s.records
-cells_kept Stays s = refl
-cells_kept (Made c v) s = refl
-cells_kept (Exchanged c new told) s = refl
-
 bears_records : (p : List Stmt) (n limit : ℕ) (o : Option Birth) (s : Site) → (birth_row p n limit o s).site.records ≡ s.records
 bears_records p n limit None s = refl
 bears_records p n limit (Some b) s = go (Unit.placement n s.records.site b.at == s.records.site)
@@ -86,7 +82,7 @@ bears_records p n limit (Some b) s = go (Unit.placement n s.records.site b.at ==
 
 pub steps_known : (p : List Stmt) (n limit : ℕ) (k : Pick) (kinds : List NameKind) (e : Effect) (s : Site) (y : VarName) → IsKnown (with_fresh_names kinds s).records y → IsKnown (step_row p n limit k kinds e s).site.records y
 steps_known p n limit k kinds e s y h =
-    subst (λ (b : Records). IsKnown b y) (sym (bears_records p n limit e.born (after_effect k.thread e (own_binds limit e.adds (with_fresh_names kinds s)).site) ∙ cells_kept e.cell (own_binds limit e.adds (with_fresh_names kinds s)).site))
+    subst (λ (b : Records). IsKnown b y) (sym (bears_records p n limit e.born (after_effect k.thread e (own_binds limit e.adds (with_fresh_names kinds s)).site) ∙ cell_keeps_records e.cell (own_binds limit e.adds (with_fresh_names kinds s)).site))
     (asks_known limit e.adds (with_fresh_names kinds s) y h)
 
 -- what is here stays here

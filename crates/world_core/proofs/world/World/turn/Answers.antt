@@ -6,7 +6,7 @@ use Rattle.site_message.specs.declared.turn.Turn.{Turn}
 use Rattle.site_model.specs.Bundle.{bundle_limit}
 use Rattle.site_model.specs.Run.{WorldRun}
 use Rattle.world_core.specs.World.{WorldState, IsConsistent, state_in, states_by}
-use Rattle.world_core.proofs.TurnLemmas.{After, after_turn, taken_below}
+use Rattle.world_core.proofs.TurnLemmas.{After, after_turn, taken_below, turn_stays}
 use Rattle.world_core.proofs.WorldLemmas.{machine, were_fit, protocols, messages_few}
 use Rattle.world_core.proofs.world.World.turn.Goals as goal
 
@@ -48,6 +48,9 @@ pub returns-clause-turn : goal.returns-clause-turn
 returns-clause-turn c =
     (after c).turn c.args.self.now _ (ap (λ (v : WorldState). v.program) (sym c.self.view_is)) (ap (λ (v : WorldState). v.sites) (sym c.self.view_is)) (ap (λ (v : WorldState). v.journal) (sym c.self.view_is))
     (ap (λ (v : WorldState). v.states) (sym c.self.view_is)) (ap (λ (v : WorldState). v.travels) (sym c.self.view_is)) refl (pushed c) refl c.in_ok-turn.ensures.few
+
+pub returns-clause-stays : goal.returns-clause-stays
+returns-clause-stays c = turn_stays _ _ c.args.site c.args.place c.args.quantum.0 c.requires.units (returns-clause-turn c)
 
 -- the run goes on
 run : (c : goal.After-self-4-1) → WorldRun c.self.inside.program.now (length (slice_set c.self.inside.sites.items (c.args.site - 1) c.turn.new.self)) bundle_limit c.push.new.self (states_by c.self.inside.program.now (map state_in (slice_set c.self.inside.sites.items (c.args.site - 1) c.turn.new.self)))

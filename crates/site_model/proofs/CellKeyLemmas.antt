@@ -6,25 +6,8 @@ use Rattle.std.specs.Map.{lookup}
 use Rattle.indexmap.specs.IndexMap.{insert_entry}
 use Rattle.tree_node.specs.declared.names.CellName.{CellName}
 use Rattle.tree_node.specs.Goal.{equal_cell}
-use Rattle.oz_model.proofs.KindLemmas.{equal_cell_decides}
+use Rattle.oz_model.proofs.KindLemmas.{equal_cell_decides, cell_same, cells_differ}
 use Rattle.site_model.specs.Site.{CellRecord, cell_record_in, unused_cell}
-
-pub cell_same : (c : CellName) → equal_cell c c ≡ true
-cell_same c = (equal_cell_decides c c).1 refl
-
-pub cell_differs : (c d : CellName) → c ≢ d → equal_cell c d ≡ false
-cell_differs c d h = go (equal_cell c d) refl
-  where
-    go : (b : Bool) → equal_cell c d ≡ b → equal_cell c d ≡ false
-    go true e = absurd (h ((equal_cell_decides c d).0 e))
-    go false e = e
-
-pub cell_or : (c d : CellName) → (c ≡ d) ⊎ (c ≢ d)
-cell_or c d = go (equal_cell c d) (equal_cell_decides c d)
-  where
-    go : (b : Bool) → Decides b (c ≡ d) → (c ≡ d) ⊎ (c ≢ d)
-    go true e = inl (e.0 refl)
-    go false e = inr (λ p. let no : false ≡ true = e.1 p in cc)
 
 pub entry_here : {V : Type 0} (es : List (CellName × V)) (c : CellName) (v : V) → lookup (equal_cell c) (insert_entry equal_cell es c v) ≡ Some v
 entry_here [] c v = rw (cell_same c) refl
@@ -35,14 +18,14 @@ entry_here {V} ((d, u) ∷ es) c v = go (equal_cell c d) refl (entry_here es c v
     go false q ih = rw (q, q) ih
 
 pub entry_other : {V : Type 0} (es : List (CellName × V)) (c b : CellName) (v : V) → b ≢ c → lookup (equal_cell b) (insert_entry equal_cell es c v) ≡ lookup (equal_cell b) es
-entry_other [] c b v h = rw (cell_differs b c h) refl
+entry_other [] c b v h = rw (cells_differ b c h) refl
 entry_other {V} ((d, u) ∷ es) c b v h = go (equal_cell c d) refl (entry_other es c b v h)
   where
     go : (x : Bool) → equal_cell c d ≡ x → lookup (equal_cell b) (insert_entry equal_cell es c v) ≡ lookup (equal_cell b) es →
         lookup (equal_cell b) (cond (equal_cell c d) ((d, v) ∷ es) ((d, u) ∷ insert_entry equal_cell es c v)) ≡ lookup (equal_cell b) ((d, u) ∷ es)
     go true q ih =
         let same : c ≡ d = (equal_cell_decides c d).0 q in
-        let differs : equal_cell b d ≡ false = cell_differs b d (λ e. h (e ∙ sym same)) in
+        let differs : equal_cell b d ≡ false = cells_differ b d (λ e. h (e ∙ sym same)) in
         rw (q, differs) refl
     go false q ih = rw q (ap (λ (o : Option V). cond (equal_cell b d) (Some u) o) ih)
 

@@ -1,0 +1,50 @@
+//! Messages get their bundles as a unit or a row ends: what the site knows then is what it knew as it sent them.
+
+ghost use Rattle.std.specs.Prelude.{◌≡◌, ◌≤◌, ◌++◌, OnOk, IfOk, length, take, drop};
+ghost use Rattle.site_model.specs.Bundle.{bundle_limit, all_bundled};
+
+use crate::data::{Core, Output};
+use marshal::pack;
+use site_message::{Outbox, Sent};
+use std::alloc::{AllocError, Global};
+use tree_store::Store;
+
+// How many equations a message carries at most.
+const BUNDLE_LIMIT: usize = 256;
+
+/// The messages behind the first `from` get their bundles. Where there are none it costs nothing.
+pub fn pack_sent(core: &Core, output: &mut Output, from: usize) -> Result<(), AllocError>
+    ensures sent { OnOk result (output.new.sent ≡ take from output.old.sent ++ all_bundled bundle_limit core.now.variables.store.equations (drop from output.old.sent)) }
+    ensures picks { output.new.picks ≡ output.old.picks }
+    ensures lines { output.new.lines ≡ output.old.lines }
+{
+    if output.sent.len() <= from {
+        return Ok(());
+    }
+    let packed = pack_last(core.alloc, &core.variables.store, &mut output.sent, from)?;
+    output.sent.append(packed)
+}
+
+// Takes the messages behind the first `from` out, and gives them in their order, each with its bundle.
+fn pack_last(
+    alloc: Global,
+    store: &Store,
+    sent: &mut Outbox,
+    from: usize,
+) -> Result<Vec<Sent>, AllocError>
+    requires some { from ≤ length sent.old }
+    ensures rest { OnOk result (sent.new ≡ take from sent.old) }
+    ensures packed { IfOk result (λ v. v.items ≡ all_bundled bundle_limit store.now.equations (drop from sent.old)) }
+{
+    let count = sent.len() - from;
+    let mut packed = Vec::new(alloc);
+    for taken in 0..count {
+        let _ = taken;
+        match sent.pop() {
+            None => unreachable!(),
+            Some(last) => packed.push(pack(alloc, store, last, BUNDLE_LIMIT)?)?,
+        }
+    }
+    packed.reverse();
+    Ok(packed)
+}

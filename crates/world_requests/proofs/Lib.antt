@@ -1,0 +1,9 @@
+pub mod CopyLemmas
+pub mod TurnLemmas
+pub mod PartLemmas
+pub mod PaidLemmas
+pub mod SaidLemmas
+pub mod OwnLemmas
+pub mod CountLemmas
+pub mod TravelLemmas
+pub mod RequestLemmas
