@@ -1,5 +1,5 @@
 -- What a finished book tells of the run that workers made.
-use Rattle.std.proofs.Common.{◌≡◌, sym, subst, refl, List, Some, None, inl, inr}
+use Rattle.std.proofs.Common.{◌≡◌, sym, subst, refl, List, Some, inl, inr}
 use Rattle.site_message.specs.declared.turn.Turn.{Turn}
 use Rattle.site_message.specs.declared.outcome.Reason.{Reason}
 use Rattle.site_message.specs.declared.outcome.Reason.TheVariants.{Memory}

@@ -1,8 +1,10 @@
 -- What a run of the centralised machine comes to, by what it left.
-use Rattle.std.proofs.Common.{◌≡◌, sym, subst, refl, List, []}
+use Rattle.std.proofs.Common.{◌≡◌, sym, subst, refl, List, [], Some}
 use Rattle.tree_node.specs.Classes.{HasOneEach}
 use Rattle.tree_node.specs.State.{State}
 use Rattle.kernel_syntax.specs.declared.stmt.Stmt.{Stmt}
+use Rattle.oz_model.specs.Laws.{CellsAreChains}
+use Rattle.site_message.specs.Journal.{end_of}
 use Rattle.site_message.specs.declared.outcome.Reason.{Reason}
 use Rattle.site_message.specs.declared.outcome.Reason.TheVariants as reason
 use Rattle.central_machine.specs.Ran.{EndsAt, HasReason}
@@ -13,25 +15,30 @@ use Rattle.oz_words.specs.declared.options.Action.{Action}
 use Rattle.oz_words.specs.declared.options.Action.TheVariants as action
 use Rattle.oz_words.specs.declared.options.Options.{Options}
 use Rattle.oz_runner.specs.Seen.{Made, made_of}
-use Rattle.oz_runner.specs.Run.{AreSilent, CameTo, EndsFor, HasEnded, IsMadeBy, IsRun}
+use Rattle.oz_runner.specs.Run.{CameTo, HasEnded, IsMadeByMachine, IsMadeBySites, IsRun, OfSitesOrMachine, SitesAreSilent, StopsFor, limits_of}
 use Rattle.oz_runner.specs.Machine.{status_after}
 
-module _ (p : List Stmt) (options : Options) (s : State) (left : Ran) (is : options.action ≡ action.Central) (ends : EndsAt p options.steps s left) where
+-- what is said of `central`
+alone : (a : Action) (OfSites OfMachine : Type 0) → a ≡ action.Central → OfMachine → OfSitesOrMachine a OfSites OfMachine
+alone a OfSites OfMachine is holds = subst (λ (a : Action). OfSitesOrMachine a OfSites OfMachine) (sym is) holds
+
+module _ (p : List Stmt) (options : Options) (s : State) (left : Ran) (is : options.action ≡ action.Central) (chain : CellsAreChains) (ends : EndsAt p options.steps s left) where
   abbrev by_machine : Made
   by_machine = made_of [] left.picks.items left.lines.items
 
   machine_run : HasOneEach s.equations → IsRun p options by_machine s
   machine_run once = record {
-    made_by = subst (λ (a : Action). IsMadeBy a p options by_machine s) (sym is) (refl, ends.most);
+    made_by = alone options.action (IsMadeBySites p options by_machine s) (IsMadeByMachine options by_machine) is (refl, ends.most);
     run = ends.run;
     lines = ends.lines;
     once = once;
+    chains = λ c. chain p left.picks.items s c ends.run;
   }
 
-  machine_end : (why : Reason) → HasOneEach s.equations → EndsFor action.Central p options by_machine s why → HasEnded p options by_machine why s
+  machine_end : (why : Reason) → HasOneEach s.equations → StopsFor p options by_machine s why → HasEnded p options by_machine why s
   machine_end why once how = record {
     run = machine_run once;
-    ends = subst (λ (a : Action). EndsFor a p options by_machine s why) (sym is) how;
+    ends = alone options.action (end_of (limits_of options) [] ≡ Some why) (StopsFor p options by_machine s why) is how;
   }
 
   came_for : (why : stop.Reason) → HasReason p options.steps s left why → CameTo p options by_machine (status_after why left.ended left.waiting)
@@ -39,7 +46,7 @@ module _ (p : List Stmt) (options : Options) (s : State) (left : Ran) (is : opti
     s,
     machine_end reason.Quiet tells.once rest,
     record {
-      silent = subst (λ (a : Action). AreSilent a options by_machine) (sym is) tt;
+      silent = alone options.action (SitesAreSilent options.sites []) (Unit {0}) is tt;
       rest = rest;
       ended = tells.ended;
       waiting = tells.waiting;
@@ -49,6 +56,6 @@ module _ (p : List Stmt) (options : Options) (s : State) (left : Ran) (is : opti
   came_for stops.Memory once = (s, machine_run once)
 
 -- a run of the machine comes to the status of its reason
-pub machine_came : (p : List Stmt) (options : Options) (s : State) (left : Ran) → options.action ≡ action.Central → EndsAt p options.steps s left
+pub machine_came : (p : List Stmt) (options : Options) (s : State) (left : Ran) → options.action ≡ action.Central → CellsAreChains → EndsAt p options.steps s left
     → CameTo p options (made_of [] left.picks.items left.lines.items) (status_after left.reason left.ended left.waiting)
-machine_came p options s left is ends = came_for p options s left is ends left.reason ends.reason
+machine_came p options s left is chain ends = came_for p options s left is chain ends left.reason ends.reason

@@ -3,7 +3,7 @@ use Rattle.std.proofs.Common.{◌≡◌, ◌∙◌, ◌≤◌, sym, subst, refl,
 use Rattle.std.specs.Prelude.{◌&&◌, nat_lt, nat_le, if◌then◌else◌}
 use Rattle.tree_node.specs.State.{State}
 use Rattle.tree_node.specs.declared.pick.Pick.{Pick}
-use Rattle.oz_model.specs.Laws.{AtMostOneEnd}
+use Rattle.oz_model.specs.Laws.{AtMostOneEnd, CellsAreChains}
 use Rattle.oz_model.specs.Run.{Run, start}
 use Rattle.kernel_syntax.specs.declared.stmt.Stmt.{Stmt}
 use Rattle.site_message.specs.declared.outcome.Reason.{Reason}
@@ -15,7 +15,9 @@ use Rattle.site_message.specs.Progress.{WentOn}
 use Rattle.site_message.specs.Rows.{QuietTells}
 use Rattle.site_model.specs.Bundle.{bundle_limit}
 use Rattle.site_model.specs.Site.{Site}
+use Rattle.world_model.specs.Matches.{Knowledge}
 use Rattle.world_model.specs.Simulated.{IsSimulated, last_ended, last_waiting}
+use Rattle.world_model.specs.World.{eqs}
 use Rattle.world_core.specs.Laws.{AreMessagesFew}
 use Rattle.world_places.specs.Places.{ThreadsStayHome}
 use Rattle.world_runs.specs.Distributed.{DistributedRun}
@@ -31,8 +33,8 @@ use Rattle.oz_show.specs.declared.status.Status.{Status}
 use Rattle.oz_show.specs.declared.status.Status.TheVariants.{Quiescent, Usage, Refused, NotUtf8, TooLong, StepLimit, MessageLimit, ReadFault, WriteFault, Memory}
 use Rattle.oz_runner.specs.Seen.{Made, made_of}
 use Rattle.oz_runner.specs.Messages.{most_messages}
-use Rattle.oz_runner.specs.Run.{AreSilent, CameTo, EndsFor, HasEnded, IsMadeBy, IsMadeBySites, IsOverSites, IsQuiet, IsRun, SitesAreSilent, limits_of}
-use Rattle.oz_runner.specs.Ends.{status_of}
+use Rattle.oz_runner.specs.Run.{CameTo, HasEnded, IsMadeByMachine, IsMadeBySites, IsQuiet, IsRun, OfSitesOrMachine, SitesAreSilent, StopsFor, limits_of}
+use Rattle.oz_runner.specs.Ends.{IsOverSites, status_of}
 use Rattle.world_model.specs.Schedule.{lines_in, schedule, sum_to}
 
 -- ---- the end of a journal
@@ -75,21 +77,10 @@ pub record Leaves (p : List Stmt) (options : Options) (out : RunOut) : Type 0 wh
 
 -- ---- what is said of each action that runs over the sites
 
-made_over_sites : (a : Action) (p : List Stmt) (options : Options) (made : Made) (s : State) → IsOverSites a → IsMadeBySites p options made s → IsMadeBy a p options made s
-made_over_sites action.Run p options made s over by = by
-made_over_sites (action.Gen size) p options made s over by = by
-made_over_sites action.Central p options made s over by = absurd over
-
-ends_over_sites : (a : Action) (p : List Stmt) (options : Options) (made : Made) (s : State) (why : Reason) → IsOverSites a
-    → end_of (limits_of options) made.journal ≡ Some why → EndsFor a p options made s why
-ends_over_sites action.Run p options made s why over ends = ends
-ends_over_sites (action.Gen size) p options made s why over ends = ends
-ends_over_sites action.Central p options made s why over ends = absurd over
-
-silent_over_sites : (a : Action) (options : Options) (made : Made) → IsOverSites a → SitesAreSilent options.sites made.journal → AreSilent a options made
-silent_over_sites action.Run options made over silent = silent
-silent_over_sites (action.Gen size) options made over silent = silent
-silent_over_sites action.Central options made over silent = absurd over
+over_sites : (a : Action) (OfSites OfMachine : Type 0) → IsOverSites a → OfSites → OfSitesOrMachine a OfSites OfMachine
+over_sites action.Run OfSites OfMachine over holds = holds
+over_sites (action.Gen size) OfSites OfMachine over holds = holds
+over_sites action.Central OfSites OfMachine over holds = absurd over
 
 -- the bound on messages, in the state that the picks lead to
 few_in : (p : List Stmt) (n : ℕ) (j : List Turn) (picks : List Pick) (s : State) → AtMostOneEnd → picks ≡ schedule j → Run p (schedule j) s
@@ -100,7 +91,7 @@ few_in p n j picks s one is run few =
     let within : length (sent_of j) ≤ most_messages p n (schedule j) s = subst (λ (t : State). length (sent_of j) ≤ most_messages p n (schedule j) t) same all.2 in
     subst (λ (ks : List Pick). length (sent_of j) ≤ most_messages p n ks s) (sym is) within
 
-module _ (p : List Stmt) (options : Options) (out : RunOut) (is : IsOverSites options.action) (tells : QuietTells) (one : AtMostOneEnd) (left : Leaves p options out) where
+module _ (p : List Stmt) (options : Options) (out : RunOut) (is : IsOverSites options.action) (tells : QuietTells) (one : AtMostOneEnd) (chain : CellsAreChains) (left : Leaves p options out) where
   abbrev states : ℕ → Site
   states = left.run.0
 
@@ -113,22 +104,33 @@ module _ (p : List Stmt) (options : Options) (out : RunOut) (is : IsOverSites op
   abbrev by_sites : Made
   by_sites = made_of out.journal out.schedule (lines_in out.journal)
 
+  abbrev knowledge : Knowledge (eqs states) (travelling out.journal) s.equations
+  knowledge = simulated.matches.parts.knowledge
+
   made_by_sites : IsMadeBySites p options by_sites s
   made_by_sites = record {
     states = states;
     run = left.rows;
     went = left.went;
     picks = left.picks;
+    lines = refl;
+    known = λ i e there.
+        let central = knowledge.known i e there in
+        (central, knowledge.owned e.0 e.1 central);
     homes = left.homes;
     few = few_in p options.sites out.journal out.schedule s one left.picks simulated.run left.few;
   }
 
+  run_by_picks : Run p out.schedule s
+  run_by_picks = subst (λ (picks : List Pick). Run p picks s) (sym left.picks) simulated.run
+
   sites_run : IsRun p options by_sites s
   sites_run = record {
-    made_by = made_over_sites options.action p options by_sites s is made_by_sites;
-    run = subst (λ (picks : List Pick). Run p picks s) (sym left.picks) simulated.run;
+    made_by = over_sites options.action (IsMadeBySites p options by_sites s) (IsMadeByMachine options by_sites) is made_by_sites;
+    run = run_by_picks;
     lines = sym simulated.matches.lines;
     once = simulated.once;
+    chains = λ c. chain p out.schedule s c run_by_picks;
   }
 
   abbrev Ends : Reason → Type 0
@@ -137,7 +139,7 @@ module _ (p : List Stmt) (options : Options) (out : RunOut) (is : IsOverSites op
   sites_end : (why : Reason) → Ends why → HasEnded p options by_sites why s
   sites_end why ends = record {
     run = sites_run;
-    ends = ends_over_sites options.action p options by_sites s why is ends;
+    ends = over_sites options.action (Ends why) (StopsFor p options by_sites s why) is ends;
   }
 
   sites_quiet : Ends reason.Quiet → IsQuiet p options by_sites s out.ended out.waiting
@@ -145,7 +147,7 @@ module _ (p : List Stmt) (options : Options) (out : RunOut) (is : IsOverSites op
       let quiet = quiet_end (limits_of options) out.journal ends in
       let told = simulated.told quiet in
       record {
-        silent = silent_over_sites options.action options by_sites is
+        silent = over_sites options.action (SitesAreSilent options.sites out.journal) (Unit {0}) is
             (none_of (travelling out.journal) (are_idle options.sites out.journal) quiet, ((tells options.sites out.journal).0 quiet).1);
         rest = (simulated.quiet quiet).rest;
         ended = left.ended ∙ sym told.ended;
@@ -162,9 +164,9 @@ module _ (p : List Stmt) (options : Options) (out : RunOut) (is : IsOverSites op
   by_reason reason.Memory how = (s, sites_run)
 
 -- a run over sites comes to the status of its reason
-pub sites_came : (p : List Stmt) (options : Options) (out : RunOut) → IsOverSites options.action → QuietTells → AtMostOneEnd → Leaves p options out
+pub sites_came : (p : List Stmt) (options : Options) (out : RunOut) → IsOverSites options.action → QuietTells → AtMostOneEnd → CellsAreChains → Leaves p options out
     → CameTo p options (made_of out.journal out.schedule (lines_in out.journal)) (status_of out.reason out.ended out.waiting)
-sites_came p options out is tells one left = by_reason p options out is tells one left out.reason left.reason
+sites_came p options out is tells one chain left = by_reason p options out is tells one chain left out.reason left.reason
 
 -- ---- the status
 

@@ -6,7 +6,7 @@ use Rattle.oz_base.specs.Streams.{Rose}
 use Rattle.oz_base.specs.Reading.{GaveFront}
 use Rattle.kernel_syntax.specs.declared.stmt.Stmt.{Stmt}
 use Rattle.oz_grammar.specs.Reads.{Reads, FaultOf}
-use Rattle.oz_words.specs.Words.{ReadsWords}
+use Rattle.oz_words.specs.Words.{InRange, ReadsWords}
 use Rattle.large_run.specs.Text.{large_text}
 use Rattle.oz_words.specs.declared.options.Action.{Action}
 use Rattle.oz_words.specs.declared.options.Action.TheVariants as action
@@ -75,10 +75,11 @@ abbrev pub GotText : Seen → (List ℕ → Type 0) → Type 0
 GotText seen Holds =
     (options : Options) × Says seen options × ((text : List ℕ) × IsTextOf options.action seen.source text × Holds text)
 
--- the words are taken, and the text that is run reads a program
+-- the words are taken, their numbers are in their ranges, and the text that is run reads a program
 pub record Given (seen : Seen) : Type 0 where
   pub options : Options
   pub says : Says seen options
+  pub range : InRange options
   pub text : List ℕ
   pub is_text : IsTextOf options.action seen.source text
   pub utf8 : IsUtf8 text
@@ -96,8 +97,8 @@ Stopped seen made =
     ⊎ (WantsSource seen × NeverFailed seen.source × Gave seen.source (λ n. n ≤ text_limit)))
     × NothingRan made
 
--- The cause of each status. Where several causes hold, the first in the order of these lines stands. Want of memory is
--- the one free answer: it comes before anything ran, or in a run, whose lines are those of the schedule
+-- The cause of each status. Want of memory is the one free answer: it comes before anything ran, or in a run, whose lines are
+-- those of the schedule
 abbrev pub Cause : Seen → Made → Status → Type 0
 Cause seen made Usage = ReadsWords seen.words (Err words_error.Usage) × IsUntouched seen.source × NothingRan made
 Cause seen made ReadFault = WantsSource seen × Failed seen.source × Gave seen.source (λ n. n ≤ text_limit) × NothingRan made

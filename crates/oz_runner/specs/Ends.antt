@@ -1,15 +1,23 @@
--- What the work left: the status of a run's end, the journal, the schedule and the lines.
+-- What the work left: the status of a run's end, the journal, the schedule and the lines, and whether they are of sites.
 use Rattle.std.specs.Prelude.{ℕ, List, []}
 use Rattle.site_message.specs.declared.outcome.Reason.{Reason}
 use Rattle.site_message.specs.declared.outcome.Reason.TheVariants as reason
 use Rattle.site_message.specs.declared.turn.Turn.{Turn}
 use Rattle.world_model.specs.Schedule.{lines_in}
+use Rattle.oz_words.specs.declared.options.Action.{Action}
+use Rattle.oz_words.specs.declared.options.Action.TheVariants as action
 use Rattle.oz_show.specs.declared.status.Status.{Status}
 use Rattle.oz_show.specs.declared.status.Status.TheVariants.{Quiescent, StepLimit, MessageLimit, Memory}
 use Rattle.oz_runner.specs.declared.work.Printed.{Printed}
 use Rattle.oz_runner.specs.declared.work.Printed.TheVariants as printed
 use Rattle.oz_runner.specs.declared.work.Work.{Work}
 use Rattle.oz_runner.specs.Seen.{Made, made_of}
+
+-- the program runs over the sites
+abbrev pub IsOverSites : Action → Type 0
+IsOverSites action.Run = Unit {0}
+IsOverSites (action.Gen size) = Unit {0}
+IsOverSites action.Central = ⊥
 
 -- the status of a run that ended for this reason
 abbrev pub status_of : Reason → ℕ → ℕ → Status

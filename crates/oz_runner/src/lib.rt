@@ -13,8 +13,9 @@
 //! totals, and ends by the reason that is told. `start`: the program ends with the number of the status that a call of `oz` answers.
 //!
 //! **Stands on** `oz_words` for the words, `oz_base` for the text and the bytes written, `oz_parser` and `oz_grammar` for what a
-//! text reads, `site_worker` and `plain_run` for a run over sites and `world_simulation` for what the machine has to do with it,
-//! `central_machine` and `oz_model` for a run of the machine alone, and `oz_show` for the end line.
+//! text reads, `large_run` for the text of `gen`, `site_worker`, `message_book` and `plain_run` for a run over sites, `world_runs`
+//! and `world_places` for what such a run is and where its threads stay, `central_machine` and `oz_model` for a run of the machine
+//! alone, and `oz_show` for the end line.
 //!
 //! **Tests alone show**, in `oz_tests`: that memory suffices for the texts there, that runs with workers end, and that two runs
 //! without them print the same.

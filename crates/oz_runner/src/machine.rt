@@ -11,6 +11,7 @@ use crate::Status;
 use crate::work::{Printed, Work};
 use central_machine::{Reason, run_program};
 use kernel_syntax::Program;
+use oz_model::exchanges_are_a_chain;
 use oz_words::Options;
 use site_message::Schedule;
 use std::alloc::Global;
@@ -21,6 +22,7 @@ pub fn run_machine(alloc: Global, options: Options, program: &Program) -> Work
     ensures { options.action ≡ Central → CameTo program.now options (made_by result) result.status }
 {
     let ran = run_program(alloc, program, options.steps);
+    exchanges_are_a_chain();
     Work {
         status: status_after(ran.reason, ran.ended, ran.waiting),
         schedule: Schedule::from_vec(alloc, ran.picks),

@@ -2,15 +2,15 @@
 
 ghost use Rattle.std.specs.Prelude.{◌≡◌};
 ghost use Rattle.oz_words.specs.Words.{InRange};
-ghost use Rattle.oz_runner.specs.Run.{CameTo, IsOverSites};
-ghost use Rattle.oz_runner.specs.Ends.{status_of, made_by};
+ghost use Rattle.oz_runner.specs.Run.{CameTo};
+ghost use Rattle.oz_runner.specs.Ends.{IsOverSites, status_of, made_by};
 
 use crate::Status;
 use crate::machine::run_machine;
 use crate::program::run_program;
 use crate::work::{Printed, Work};
 use kernel_syntax::Program;
-use oz_model::runs_are_determined;
+use oz_model::{exchanges_are_a_chain, runs_are_determined};
 use oz_words::{Action, Options};
 use site_message::{Reason, quiet_tells};
 use site_worker::{Bounds, Gate};
@@ -58,6 +58,7 @@ fn run_over_sites<G: Gate + Sync, R: Threads + Wait + Sync>(
     program.is_program();
     runs_take_rows();
     runs_are_determined();
+    exchanges_are_a_chain();
     Work {
         status: status_of(out.reason, out.ended, out.waiting),
         schedule: out.schedule,

@@ -23,6 +23,7 @@ use Rattle.plain_run.specs.declared.out.Limits.{Limits}
 use Rattle.plain_run.specs.Counts.{runnable_count}
 use Rattle.plain_run.specs.Going.{IsGoing, IsMade, IsAtEase, IsBusy, Progresses, left, limits_of, steps_left}
 use Rattle.plain_run.proofs.StepLemmas.{turn_steps, turn_goes_on}
+use Rattle.world_core.proofs.QuietLemmas.{at_contains}
 
 pub on_ok : {A E : Type 0} (r : Result A E) (P : Type 0) → is_err r ≡ false → OnOk r P → P
 on_ok (Ok x) P e h = h
@@ -210,11 +211,6 @@ busy_runs w site None (inr some) none e = absurd (some none)
 busy_runs w site (Some q) busy first e = cc
 
 -- ---- which site goes next
-
-at_contains : (xs : List Travel) (x : Travel) (p : ℕ) → slice_get xs p ≡ Some x → Contains xs x
-at_contains [] x p e = cc
-at_contains (y ∷ ys) x zero e = let same : y ≡ x = cc in subst (λ (z : Travel). Contains (y ∷ ys) z) same (Contains-head y ys)
-at_contains (y ∷ ys) x (suc p) e = Contains-tail y x ys (at_contains ys x p e)
 
 -- by what is found for the site
 pub some_for : (ts : List Travel) (site : ℕ) (place : Option ℕ) → MatchOption place (IsNoneFor ts site) (λ q. IsFirstFor ts site q) → is_some place ≡ true → IsNoneFor ts site → ⊥

@@ -4,6 +4,7 @@ use Rattle.std.specs.Prelude.{Option, ◌==◌, is_some, IsTrue, nat_lt, nat_le,
 use Rattle.std.proofs.lemmas.Bool.{cases_lt}
 use Rattle.tree_node.specs.declared.names.VarName.{VarName}
 use Rattle.tree_node.specs.Each.{Each}
+use Rattle.tree_node.specs.State.{State}
 use Rattle.kernel_syntax.specs.declared.stmt.Stmt.{Stmt}
 use Rattle.kernel_syntax.specs.Program.{IsProgram}
 use Rattle.site_message.specs.declared.message.Msg.{Msg}
@@ -25,6 +26,8 @@ use Rattle.site_model.specs.Bundle.{bundle_limit}
 use Rattle.site_model.specs.Fit.{IsFit}
 use Rattle.site_model.specs.Site.{Site, initial_site, is_idle, cell_record}
 use Rattle.site_model.specs.Run.{WorldRun, SiteRun, IsReachedBy, IsEntry, IsSiteIn}
+use Rattle.world_model.specs.Simulated.{IsSimulated}
+use Rattle.world_messages.specs.Unfit.{MessagesAreFit}
 use Rattle.world_simulation.proofs.SimulationLemmas.{every_run_is_simulated}
 use Rattle.world_core.specs.Travels.{IsNothingFor}
 use Rattle.world_core.proofs.QuietLemmas.{idle_as_told}
@@ -58,8 +61,11 @@ knows_none p i x h = by (is_own (initial_site p i).records x) h
     by false k = cc
 
 module _ (p : List Stmt) (n : ℕ) (j : List Turn) (w : ℕ → Site) (is : IsProgram p) (low : 1 ≤ n) (high : n ≤ 64) (run : WorldRun p n bundle_limit j w) where
+  simulated : (s : State) × IsSimulated p n j w s × MessagesAreFit p n j w
+  simulated = every_run_is_simulated p n bundle_limit j w is low high (omega arith) run
+
   number : (i : ℕ) → (w i).records.site ≡ i
-  number i = ((every_run_is_simulated p n j w is low high run).1.matches.parts.kept i).site
+  number i = (simulated.1.matches.parts.kept i).site
 
   began : (i : ℕ) → ((1 ≤ i) × (i ≤ n) → ⊥) → w i ≡ initial_site p i
   began i out = outside p n bundle_limit i out j (w i) run.sites (run.runs i)
@@ -89,7 +95,7 @@ module _ (p : List Stmt) (n : ℕ) (j : List Turn) (w : ℕ → Site) (is : IsPr
     where
       nothing : (k : ℕ) (m : Sent) → IsTravelling j k m → ⊥
       nothing k m at =
-          let r = goes_within k m.to m.msg at ((every_run_is_simulated p n j w is low high run).2 k m at) in
+          let r = goes_within k m.to m.msg at (simulated.2 k m at) in
           (ease m.to r.0 r.1).1 k m at refl
 
       idle : (i : ℕ) → 1 ≤ i → i ≤ n → journal.is_idle j i ≡ true

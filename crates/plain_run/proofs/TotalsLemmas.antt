@@ -26,6 +26,7 @@ use Rattle.world_core.proofs.WorldLemmas.{machine, were_fit, messages_few}
 use Rattle.plain_run.specs.Simulated.{HasMachineRun}
 use Rattle.plain_run.proofs.ProgressLemmas.{sum_fewer, sum_same}
 use Rattle.plain_run.proofs.StepLemmas.{waiting_fit}
+use Rattle.world_core.proofs.ScheduleLemmas.{reverse_push}
 
 -- ---- the centralised machine
 
@@ -116,9 +117,6 @@ totals_fit p n j is low high (w, run) =
 told_step : (e : Turn) (j : List Turn) (i : ℕ) (b : Bool) → (e.site == i) ≡ b → ◌≡◌ {A = ℕ × ℕ} (last_ended (e ∷ j) i, last_waiting (e ∷ j) i) (cond b (e.ended, e.waiting) (last_ended j i, last_waiting j i))
 told_step e j i true q = rw q refl
 told_step e j i false q = rw q refl
-
-reverse_push : (xs : List Turn) (x : Turn) → reverse (xs ++ x ∷ []) ≡ x ∷ reverse xs
-reverse_push xs x = grind (arith, common_steps)
 
 turns_more : (xs : List Turn) (k : ℕ) (x : Turn) → k < length xs → x ≡ get_or xs k x → reverse (take (k + 1) xs) ≡ x ∷ reverse (take k xs)
 turns_more xs k x inside is = ap reverse (take_more xs k x inside ∙ ap (λ (y : Turn). take k xs ++ y ∷ []) (sym is)) ∙ reverse_push (take k xs) x

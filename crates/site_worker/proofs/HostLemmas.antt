@@ -34,6 +34,7 @@ use Rattle.site_worker.specs.declared.outcome.Visited.TheVariants.{Did, Nothing}
 use Rattle.site_worker.specs.declared.outcome.Visited.TheVariants as visited
 use Rattle.site_worker.specs.Visit.{IsVisit, IsFirstHalf, IsSecondHalf, HasNoEntry, HasEntry, HasMadeTurn}
 use Rattle.site_worker.proofs.RunLemmas.{message_later, run_later, run_entry}
+use Rattle.site_model.proofs.StillLemmas.{few_units}
 
 -- the host with another value of its seat
 abbrev pub with_seat : Host → SiteSeat → Host
@@ -142,10 +143,6 @@ fetched_host table h y x r is mine out a =
 
 -- ---- the turn
 
--- a full turn of a quantum that is small enough is a turn
-site_turn : (p : List Stmt) (n limit quantum : ℕ) (s : Site) (m : Option Msg) (d : Transition) → quantum ≤ 64 → IsFullTurn p n limit quantum s m d → SiteTurn p n limit s m d
-site_turn p n limit quantum s m d few full = let short = full.2 in (full.0, omega arith, full.1)
-
 seated_turn : (table : TableId) (h : Host) (v : Seated SiteSeat) → v.seat ≡ h.site.seat → (v.program ≡ program_of h) × (v.sites ≡ sites_of h) × (v.state.records.site ≡ (state_of h).records.site)
     → IsSeated table h → IsSeated table (record h { site = v })
 seated_turn table h v seat same mine = record {
@@ -241,7 +238,7 @@ entry_over table h e es mine on same =
     let message : message_in mine.taken ≡ delivered_message es e.delivered =
     sym (ap (delivered_message es) mine.turn.delivered ∙ message_later (sight h).entries es mine.taken on mine.message) in
     let t = mine.turn.turn in
-    let turn = site_turn (program_of h) (sites_of h) bundle_limit mine.quantum mine.before (message_in mine.taken) t.0 mine.few t.1 in
+    let turn = few_units (program_of h) (sites_of h) bundle_limit mine.quantum mine.before (message_in mine.taken) t.0 mine.few t.1 in
     let entry : IsEntry (program_of h) (sites_of h) bundle_limit es e mine.before (state_of h) =
     (t.0, subst (λ m. SiteTurn (program_of h) (sites_of h) bundle_limit mine.before m t.0) message turn, t.2, t.3) in
     run_entry (program_of h) (sites_of h) bundle_limit h.number e es mine.before (state_of h) mine.site before entry

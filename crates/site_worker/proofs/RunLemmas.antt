@@ -12,6 +12,7 @@ use Rattle.book_lock.specs.Rule.{BeginsWith, Each}
 use Rattle.site_model.specs.Site.{Site, initial_site}
 use Rattle.site_model.specs.Run.{SiteRun, IsEntry, IsReachedBy, IsSiteIn, delivered_message, message_of}
 use Rattle.site_core.specs.Seated.{message_in, number_in}
+use Rattle.site_message.proofs.JournalLemmas.{sent_more}
 
 -- ---- messages
 
@@ -19,11 +20,6 @@ use Rattle.site_core.specs.Seated.{message_in, number_in}
 sent_later : (more j : List Turn) → (rest : List Sent) × (sent_of (more ++ j) ≡ sent_of j ++ rest)
 sent_later [] j = ([], sym (append-nil (sent_of j)))
 sent_later (e ∷ more) j = let h = sent_later more j in (h.0 ++ e.sent, ap (λ l. l ++ e.sent) h.1 ∙ append_assoc (sent_of j) h.0 e.sent)
-
-get_later : {X : Type 0} (xs ys : List X) (k : ℕ) (x : X) → slice_get xs k ≡ Some x → slice_get (xs ++ ys) k ≡ Some x
-get_later [] ys k x e = absurd (cc)
-get_later (y ∷ xs) ys zero x e = e
-get_later (y ∷ xs) ys (suc k) x e = get_later xs ys k x e
 
 sent_with : (o : Option Sent) (m : Msg) → message_of o ≡ Some m → (s : Sent) × (o ≡ Some s) × (message_of (Some s) ≡ Some m)
 sent_with None m e = absurd (cc)
@@ -35,7 +31,7 @@ message_later old new None on h = refl
 message_later old new (Some x) on h =
     let t = sent_later on.0 old in
     let s = sent_with (slice_get (sent_of old) x.0) x.1 h in
-    ap (λ l. message_of (slice_get l x.0)) (ap sent_of on.1 ∙ t.1) ∙ (ap message_of (get_later (sent_of old) t.0 x.0 s.0 s.1) ∙ s.2)
+    ap (λ l. message_of (slice_get l x.0)) (ap sent_of on.1 ∙ t.1) ∙ (ap message_of (sent_more (sent_of old) t.0 x.0 s.0 s.1) ∙ s.2)
 
 -- ---- runs
 

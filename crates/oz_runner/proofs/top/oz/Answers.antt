@@ -1,4 +1,3 @@
-use Rattle.std.proofs.Common.{ap}
 use Rattle.oz_runner.specs.Ends.{lines_of}
 use Rattle.oz_runner.specs.Seen.{stream_of}
 use Rattle.oz_runner.proofs.CauseLemmas.{headline}

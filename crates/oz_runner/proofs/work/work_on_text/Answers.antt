@@ -1,6 +1,5 @@
-use Rattle.std.proofs.Common.{rules, subst, sym}
-use Rattle.oz_runner.specs.Cause.{Cause}
-use Rattle.oz_runner.proofs.CauseLemmas.{ran_cause, refused_cause, text_stops}
+use Rattle.std.proofs.Common.{rules}
+use Rattle.oz_runner.proofs.CauseLemmas.{ran_cause}
 use Rattle.oz_runner.proofs.RunLemmas.{came_line}
 use Rattle.oz_runner.proofs.work.work_on_text.Goals as goal
 
@@ -9,6 +8,7 @@ returns-in-Ok-clause-cause g c =
     λ seen says is_text. ran_cause seen _ _ (record {
       options = c.args.options;
       says = says;
+      range = c.requires.range;
       text = c.args.text.now;
       is_text = is_text;
       utf8 = search rules;
