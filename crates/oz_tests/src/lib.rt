@@ -6,11 +6,13 @@
 //! **They show** what no clause says: that the texts of the tables have their one lawful output with ample memory, or one of
 //! their lawful outputs, on 1 to 64 sites, refusals and end lines among them; that the examples of the repository print what
 //! stands beside them; that a text as long as may be is read and runs; that two runs without
-//! workers print the same; that turns of two sites are under way at once.
+//! workers print the same; that turns of two sites are under way at once; that what a site knows goes out with its messages.
 #![tactic(auto)]
 
 #[cfg(test)]
 mod examples;
+#[cfg(test)]
+mod known;
 #[cfg(test)]
 mod large;
 #[cfg(test)]

@@ -23,7 +23,10 @@ pub const COUNTER: &str = "local C Z One L N D1 D2 D3 D4 U in
   local V in {Exchange C V V} {Browse V} end
 end";
 
-// A list of so many atoms is made and shown.
+// A record whose field is known, and a thread that shows it.
+pub const KNOWN: &str = "local X Y in Y = 5 X = f(Y) thread at 2 {Browse X} end end";
+
+// A list of N atoms is made. How many that is stands before it, and who shows it behind it.
 pub const LIST: &str = "
   Mk = proc {$ K R}
     local B in
@@ -32,8 +35,54 @@ pub const LIST: &str = "
       else local K1 T in K1 = K - One R = A|T {Mk K1 T} end end
     end
   end
-  {Mk N L} {Browse L}
-end";
+  {Mk N L} ";
+
+// The words after the name, how many atoms a list has, who shows it, the end of its line, the last line, and the status'
+// number. Where the run is stopped there is no line before the last.
+pub type Listed = (
+    &'static [&'static str],
+    u64,
+    &'static str,
+    &'static str,
+    &'static str,
+    u8,
+);
+
+// A list that is shown at another site goes there with what is known of it: 256 equations a message.
+pub static LISTED: [Listed; 4] = [
+    (
+        &[],
+        500,
+        "{Browse L} end",
+        ",,,",
+        "quiescent ended=1 waiting=0",
+        0,
+    ),
+    (
+        &[],
+        499,
+        "{Browse L} end",
+        "nil",
+        "quiescent ended=1 waiting=0",
+        0,
+    ),
+    (
+        &["--sites", "2", "--messages", "3"],
+        500,
+        "thread at 2 {Browse L} end end",
+        ",,,",
+        "quiescent ended=2 waiting=0",
+        0,
+    ),
+    (
+        &["--sites", "2", "--messages", "2"],
+        500,
+        "thread at 2 {Browse L} end end",
+        "",
+        "stopped messages",
+        5,
+    ),
+];
 
 // A text, the bytes that are taken, and the status' number.
 type Run = (&'static str, &'static str, u8);
@@ -162,7 +211,7 @@ pub static RUNS: [Run; 26] = [
 // The words after the name, a text, the bytes that are taken, and the status' number.
 type Worded = (&'static [&'static str], &'static str, &'static str, u8);
 
-pub static WORDED: [Worded; 10] = [
+pub static WORDED: [Worded; 14] = [
     (&["run"], FIVE, "5\nquiescent ended=1 waiting=0\n", 0),
     (&["central"], FIVE, "5\nquiescent ended=1 waiting=0\n", 0),
     (
@@ -196,6 +245,34 @@ pub static WORDED: [Worded; 10] = [
         &["--steps", "1000000000"],
         "skip",
         "quiescent ended=1 waiting=0\n",
+        0,
+    ),
+    (
+        &["run"],
+        "local X in",
+        "refused 1:11 expected a statement\n",
+        3,
+    ),
+    // What is known goes out with a thread, with a request to bind, and with the token of a cell.
+    (
+        &["--sites", "2", "--messages", "1"],
+        KNOWN,
+        "f(5)\nquiescent ended=2 waiting=0\n",
+        0,
+    ),
+    (
+        &["--sites", "2", "--messages", "4"],
+        "local X in thread at 2 local Y in Y = 5 X = f(Y) end end {Browse X} end",
+        "f(5)\nquiescent ended=2 waiting=0\n",
+        0,
+    ),
+    (
+        &["--sites", "2", "--messages", "3"],
+        "local C X Y in
+          Y = 5 X = f(Y) {NewCell X C}
+          thread at 2 local V W in {Exchange C V W} {Browse V} end end
+        end",
+        "f(5)\nquiescent ended=2 waiting=0\n",
         0,
     ),
 ];

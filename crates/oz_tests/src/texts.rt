@@ -1,7 +1,7 @@
 //! Texts, and what the whole call makes of them.
 
 use crate::examples::EXAMPLES;
-use crate::rows::{FAILING, LIST, REFUSED, RUNS, USAGE, WORDED};
+use crate::rows::{FAILING, LIST, LISTED, Listed, REFUSED, RUNS, USAGE, WORDED};
 use oz_base::{MemSink, MemSource};
 use oz_runner::{OpenGate, oz};
 use std::alloc::{AllocError, Global};
@@ -184,34 +184,49 @@ fn texts_have_limits(rt: HostRuntime) -> Result<(), Fail> {
     Ok(())
 }
 
-// What a list of so many atoms prints, and what ends it.
+// The line of a list of so many atoms, up to where it ends or is cut.
+fn push_line(alloc: Global, lines: &mut Vec<u8>, count: u64, end: &str) -> Result<(), AllocError> {
+    for _ in 0..count {
+        lines.extend_from_slice(b"a|")?;
+    }
+    let rest = format!(in alloc; "{end}\n")?;
+    lines.extend_from_slice(rest.as_bytes())?;
+    Ok(())
+}
+
+// What is printed of a list of so many atoms.
 fn shows_list<R: Abort + Threads + Wait + Sync>(
     rt: &R,
     alloc: Global,
-    count: u64,
-    end: &[u8],
+    workers: &'static str,
+    row: &Listed,
 ) -> Result<(), AllocError> {
-    let mut text = Vec::new(alloc);
+    let (words, count, shown, end, last, number) = *row;
     let front = format!(in alloc; "local Mk One Zero A N L in One = 1 Zero = 0 A = a N = {count}")?;
-    text.extend_from_slice(front.as_bytes())?;
+    let mut text = Vec::from_slice(alloc, front.as_bytes())?;
     text.extend_from_slice(LIST.as_bytes())?;
-    let mut line = Vec::new(alloc);
-    for _ in 0..count {
-        line.extend_from_slice(b"a|")?;
+    text.extend_from_slice(shown.as_bytes())?;
+    let mut lines = Vec::new(alloc);
+    if number == 0 {
+        push_line(alloc, &mut lines, count, end)?;
     }
-    line.extend_from_slice(end)?;
-    line.extend_from_slice(b"\nquiescent ended=1 waiting=0\n")?;
-    let told = answer(rt, alloc, &[], &text, &[], &[])?;
-    assert_eq!(rt; told.0.as_slice(), line.as_slice());
-    assert_eq!(rt; told.1, 0);
+    lines.extend_from_slice(last.as_bytes())?;
+    lines.push(b'\n')?;
+    let words = with_workers(alloc, words, workers)?;
+    let told = answer(rt, alloc, &words, &text, &[], &[])?;
+    assert_eq!(rt; told.0.as_slice(), lines.as_slice());
+    assert_eq!(rt; told.1, number);
     Ok(())
 }
 
 #[test]
 fn long_lists_are_cut(rt: HostRuntime) -> Result<(), Fail> {
     let alloc = rt.alloc();
-    shows_list(&rt, alloc, 500, b",,,")?;
-    shows_list(&rt, alloc, 499, b"nil")?;
+    for workers in ["0", "4"] {
+        for row in LISTED.as_slice() {
+            shows_list(&rt, alloc, workers, row)?;
+        }
+    }
     Ok(())
 }
 

@@ -81,6 +81,22 @@ fn a_site_registers_once_and_sends_its_request(rt: HostRuntime) -> Result<(), Fa
     Ok(())
 }
 
+// A bundle told X with its term: nobody is asked for it.
+#[test]
+fn a_name_that_is_met_with_its_term_is_not_registered(rt: HostRuntime) -> Result<(), Fail> {
+    let alloc = rt.alloc();
+    let mut site = Binder::new(alloc, 2);
+    assert!(rt; site.meet_bound(X, int(5))? == Met::New);
+    let mut outbox = Outbox::new(alloc);
+    assert!(rt; site.meet(X, &mut outbox)? == Met::Known);
+    assert_eq!(rt; outbox.len(), 0);
+    match site.knows(X) {
+        Knows::Bound(term) => assert_eq!(rt; int_of(term), Some(5)),
+        _ => panic!(rt; "X is not known bound"),
+    }
+    Ok(())
+}
+
 // The owner of X, for which 5 was asked, with what the request came to.
 fn asked_for_five(
     alloc: Global,

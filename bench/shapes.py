@@ -1,0 +1,432 @@
+"""The texts that bench/run measures: each grows with a number."""
+
+KIB = 1024
+
+COUNT = """
+  proc {Count N ?L}
+    local Ends in
+      Ends = N =< Zero
+      if Ends then L = nil
+      else local M T in M = N - One L = N|T {Count M T} end end
+    end
+  end
+"""
+
+APPEND = """
+  proc {Append Xs Ys ?Zs}
+    case Xs of X|Xr then local Zr in Zs = X|Zr {Append Xr Ys Zr} end
+    else Zs = Ys end
+  end
+"""
+
+
+def constants(n):
+    return f"Zero = 0 One = 1 N = {n} Nil = nil"
+
+
+def countdown(n):
+    """A loop of n turns."""
+    return f"""local Loop Zero One N Nil in {constants(n)}
+  proc {{Loop K}}
+    local Ends in
+      Ends = K =< Zero
+      if Ends then skip else local M in M = K - One {{Loop M}} end end
+    end
+  end
+  {{Loop N}}
+end"""
+
+
+def build_reverse(n):
+    """A list of n elements built and reversed with an accumulator."""
+    return f"""local Count Reverse Zero One N Nil L R in {constants(n)} {COUNT}
+  proc {{Reverse Xs Done ?Ys}}
+    case Xs of X|Xr then local More in More = X|Done {{Reverse Xr More Ys}} end
+    else Ys = Done end
+  end
+  {{Count N L}} {{Reverse L Nil R}}
+end"""
+
+
+def naive_reverse(n):
+    """A list of n elements reversed by appending each to the end: the steps grow by the square."""
+    return f"""local Count Append Reverse Zero One N Nil L R in {constants(n)} {COUNT} {APPEND}
+  proc {{Reverse Xs ?Ys}}
+    case Xs of X|Xr then local Yr Last in {{Reverse Xr Yr}} Last = X|Nil {{Append Yr Last Ys}} end
+    else Ys = nil end
+  end
+  {{Count N L}} {{Reverse L R}}
+end"""
+
+
+def ring(n):
+    """A token passed round a ring of n threads."""
+    return f"""local Start Pass Zero One N Nil First Last in {constants(n)}
+  proc {{Pass In ?Out}} local T in T = token {{Wait In}} Out = T end end
+  proc {{Start K In ?Out}}
+    local Ends in
+      Ends = K =< Zero
+      if Ends then Out = In
+      else local M Next in M = K - One thread {{Pass In Next}} end {{Start M Next Out}} end end
+    end
+  end
+  {{Start N First Last}}
+  First = token
+  {{Wait Last}}
+end"""
+
+
+def streams(n):
+    """n producers, each with a stream of eight elements, and one consumer that goes through all of them."""
+    return f"""local Produce Consume Start Zero One Eight N Nil Ss Sum in {constants(n)} Eight = 8
+  proc {{Produce K ?Xs}}
+    local Ends in
+      Ends = K =< Zero
+      if Ends then Xs = nil else local M Xr in M = K - One Xs = K|Xr {{Produce M Xr}} end end
+    end
+  end
+  proc {{Consume Xs S ?Sum}}
+    case Xs of X|Xr then local T in T = S + X {{Consume Xr T Sum}} end else Sum = S end
+  end
+  proc {{Start K S ?Sum}}
+    local Ends in
+      Ends = K =< Zero
+      if Ends then Sum = S
+      else local M Xs T in M = K - One thread {{Produce Eight Xs}} end {{Consume Xs S T}} {{Start M T Sum}} end end
+    end
+  end
+  {{Start N Zero Sum}}
+end"""
+
+
+def cell(n):
+    """n increments of one cell."""
+    return f"""local Loop C Zero One N Nil in {constants(n)}
+  {{NewCell Zero C}}
+  proc {{Loop K}}
+    local Ends in
+      Ends = K =< Zero
+      if Ends then skip
+      else local Old New M in {{Exchange C Old New}} New = Old + One M = K - One {{Loop M}} end end
+    end
+  end
+  {{Loop N}}
+end"""
+
+
+def marks(n):
+    """n nested catch marks, and a raise that goes through them: each handler raises again."""
+    return f"""local Deep Zero One N Nil in {constants(n)}
+  proc {{Deep K}}
+    local Ends in
+      Ends = K =< Zero
+      if Ends then raise N end
+      else
+        local M in
+          M = K - One
+          try {{Deep M}} catch E then raise E end end
+        end
+      end
+    end
+  end
+  try {{Deep N}} catch E then skip end
+end"""
+
+
+def tree(n):
+    """A tree of n nodes, nearly, built and summed: n is 2 to some power."""
+    depth = n.bit_length() - 1
+    return f"""local Build Sum Zero One N Nil T S in {constants(depth)}
+  proc {{Build K ?T}}
+    local Ends in
+      Ends = K =< Zero
+      if Ends then T = leaf
+      else local L R M in T = node(K L R) M = K - One {{Build M L}} {{Build M R}} end end
+    end
+  end
+  proc {{Sum T ?S}}
+    case T of node(K L R) then local A B C in {{Sum L A}} {{Sum R B}} C = A + B S = C + K end
+    else S = 0 end
+  end
+  {{Build N T}} {{Sum T S}}
+end"""
+
+
+def waiters(n):
+    """n threads that wait, and one that runs: a loop of n turns beside them."""
+    return f"""local Start Loop Zero One N Nil Never in {constants(n)}
+  proc {{Start K}}
+    local Ends in
+      Ends = K =< Zero
+      if Ends then skip else local M in M = K - One thread {{Wait Never}} end {{Start M}} end end
+    end
+  end
+  proc {{Loop K}}
+    local Ends in
+      Ends = K =< Zero
+      if Ends then skip else local M in M = K - One {{Loop M}} end end
+    end
+  end
+  {{Start N}} {{Loop N}}
+end"""
+
+
+def tells(n):
+    """n tells of one value, one after the other."""
+    return "local X in X = 5\n" + "X = 5\n" * n + "end"
+
+
+def show_list(n):
+    """A list of n elements built and shown: its line is cut at 1,000 nodes."""
+    return f"""local Count Zero One N Nil L in {constants(n)} {COUNT} {{Count N L}} {{Browse L}} end"""
+
+
+def equal_lists(n):
+    """Two lists of n equal elements, made equal."""
+    return f"""local Count Zero One N Nil L M in {constants(n)} {COUNT} {{Count N L}} {{Count N M}} L = M end"""
+
+
+def equal_rings(n):
+    """Two rings of n nodes, made equal."""
+    return f"""local Ring Zero One N Nil L M in {constants(n)}
+  proc {{Ring K First ?L}}
+    local Ends in
+      Ends = K =< One
+      if Ends then L = f(First) else local M T in M = K - One L = f(T) {{Ring M First T}} end end
+    end
+  end
+  {{Ring N L L}} {{Ring N M M}} L = M
+end"""
+
+
+def chain(n, tell):
+    return f"""local Chain Zero One N Nil First Last in {constants(n)}
+  proc {{Chain K X ?Y}}
+    local Ends in
+      Ends = K =< Zero
+      if Ends then Y = X
+      else local M Next in {tell} M = K - One {{Chain M Next Y}} end end
+    end
+  end
+  {{Chain N First Last}} Last = a {{Browse First}}
+end"""
+
+
+def chain_down(n):
+    """n variables, each told to be the one before."""
+    return chain(n, "Next = X")
+
+
+def chain_up(n):
+    """n variables, joined from the last to the first."""
+    return f"""local Chain Zero One N Nil First Last in {constants(n)}
+  proc {{Chain K X ?Y}}
+    local Ends in
+      Ends = K =< Zero
+      if Ends then Y = X
+      else local M Next in M = K - One {{Chain M Next Y}} X = Next end end
+    end
+  end
+  {{Chain N First Last}} Last = a {{Browse First}}
+end"""
+
+
+def chain_read(n):
+    """n variables, joined from the last to the first, and the last of them looked at n times."""
+    return f"""local Chain Read Zero One N Nil First Last in {constants(n)}
+  proc {{Chain K X ?Y}}
+    local Ends in
+      Ends = K =< Zero
+      if Ends then Y = X
+      else local M Next in M = K - One {{Chain M Next Y}} X = Next end end
+    end
+  end
+  proc {{Read K}}
+    local Ends in
+      Ends = K =< Zero
+      if Ends then skip else local M in {{Wait Last}} M = K - One {{Read M}} end end
+    end
+  end
+  {{Chain N First Last}} First = a {{Read N}}
+end"""
+
+
+# programs that are placed on sites
+
+def large(n):
+    """The text of `gen n`."""
+    return f"""local C E Z One J P Q R in Z = 0 One = 1 J = 10
+{{NewCell Z C}} {{NewCell Z E}}
+P = proc {{$ K J S}} local B in B = J =< Z if B then S = nil else local O M K1 J1 T in {{Exchange C O M}} M = O + One K1 = K + One J1 = J - One S = K|T {{P K1 J1 T}} end end end end
+Q = proc {{$ S A D}} case S of H|T then local F in F = A + H {{Q T F D}} end else D = A end end
+R = proc {{$ D}} local O M in {{Exchange E O M}} thread M = O + D end end end
+{"".join(stream(k) for k in range(1, n + 1))}local T V in {{Exchange E T T}} {{Browse T}} {{Exchange C V V}} {{Browse V}} end end
+"""
+
+
+def stream(k):
+    return f"local K S D in K = {k} thread at {k} {{P K J S}} end thread at {k + 1} {{Q S Z D}} end {{R D}} end\n"
+
+
+INCREASE = """
+  proc {Increase K ?Done}
+    local Ends in
+      Ends = K =< Zero
+      if Ends then Done = done
+      else local Old New M in {Exchange C Old New} New = Old + One {Wait New} M = K - One {Increase M Done} end end
+    end
+  end
+"""
+
+ADD = """
+  proc {Add Xs S ?Sum}
+    case Xs of X|Xr then local T in T = S + X {Add Xr T Sum} end else Sum = S end
+  end
+"""
+
+
+def round_cell(n):
+    """A cell that four sites exchange n times each, and so goes round."""
+    return f"""local Increase C Zero One N Nil A B D E in {constants(n)} {{NewCell Zero C}} {INCREASE}
+  thread at 1 {{Increase N A}} end thread at 2 {{Increase N B}} end
+  thread at 3 {{Increase N D}} end thread at 4 {{Increase N E}} end
+  {{Wait A}} {{Wait B}} {{Wait D}} {{Wait E}}
+end"""
+
+
+def list_read(n):
+    """A list of n elements made at one site and read at another."""
+    return f"""local Count Add Zero One N Nil L Sum in {constants(n)} {COUNT} {ADD}
+  thread at 1 {{Count N L}} end
+  thread at 2 {{Add L Zero Sum}} end
+  {{Wait Sum}}
+end"""
+
+
+def list_known(n):
+    """A list of n times one element, which is whole at one site before another goes through it."""
+    return f"""local Fill Length A Zero One N Nil L in {constants(n)} A = a
+  proc {{Fill K ?L}}
+    local Ends in
+      Ends = K =< Zero
+      if Ends then L = nil else local M T in L = A|T M = K - One {{Fill M T}} end end
+    end
+  end
+  proc {{Length Xs S ?R}}
+    case Xs of X|Xr then local T in T = S + One {{Length Xr T R}} end else R = S end
+  end
+  {{Fill N L}}
+  thread at 2 local S in {{Length L Zero S}} end end
+end"""
+
+
+def numbers_known(n):
+    """A list of n numbers, each a variable of its own, which is whole at one site before another adds it up."""
+    return f"""local Count Add Zero One N Nil L in {constants(n)} {COUNT} {ADD}
+  {{Count N L}}
+  thread at 2 local S in {{Add L Zero S}} end end
+end"""
+
+
+def met_by_three(n):
+    """n variables that three sites meet, each bound after they were met or before."""
+    return f"""local Make Add Zero One N Nil L A B in {constants(n)} {ADD}
+  proc {{Make K ?L}}
+    local Ends in
+      Ends = K =< Zero
+      if Ends then L = nil
+      else local M T X in M = K - One L = X|T thread X = K end {{Make M T}} end end
+    end
+  end
+  thread at 2 {{Add L Zero A}} end thread at 3 {{Add L Zero B}} end
+  {{Make N L}} {{Wait A}} {{Wait B}}
+end"""
+
+
+def placed_threads(n):
+    """n threads placed over 64 sites."""
+    return "\n".join(f"thread at {k % 64 + 1} skip end" for k in range(n))
+
+
+def asked_by_all(n):
+    """A cell that 64 sites ask for at once, n times each."""
+    threads = "\n  ".join(f"thread at {k} {{Wait Go}} {{Increase N D{k}}} end" for k in range(2, 64))
+    names = " ".join(f"D{k}" for k in range(2, 56))
+    more = " ".join(f"D{k}" for k in range(56, 64))
+    return f"""local {names} Increase C Zero One N Nil Go in local {more} in {constants(n)} {{NewCell Zero C}} {INCREASE}
+  {threads}
+  Go = go
+end end"""
+
+
+def spread(n):
+    """A loop of n turns at each of four sites."""
+    return f"""local Loop Zero One N Nil in {constants(n)}
+  proc {{Loop K}}
+    local Ends in
+      Ends = K =< Zero
+      if Ends then skip else local M in M = K - One {{Loop M}} end end
+    end
+  end
+  thread at 1 {{Loop N}} end thread at 2 {{Loop N}} end thread at 3 {{Loop N}} end thread at 4 {{Loop N}} end
+end"""
+
+
+# texts that are read: pieces side by side
+
+def statements():
+    """Small statements."""
+    return "local X in X = a end\n"
+
+
+def nests():
+    """Nests of 200 levels."""
+    return "local X in " * 199 + "skip" + " end" * 199 + "\n"
+
+
+def locals_():
+    """Declarations of 64 variables."""
+    names = " ".join(f"V{k}" for k in range(64))
+    return f"local {names} in V0 = V63 end\n"
+
+
+def repeated(piece, size):
+    """A text of so many KiB, of pieces side by side."""
+    one = piece()
+    return (one * (size * KIB // len(one))).ljust(size * KIB)
+
+
+# shape, the degree of its steps, the sizes that find them, the first size measured, and how often it is doubled
+SHAPES = [
+    (countdown, 1, (8, 16, 32), 25000, 3),
+    (build_reverse, 1, (8, 16, 32), 10000, 3),
+    (naive_reverse, 2, (4, 8, 12, 16), 100, 3),
+    (ring, 1, (8, 16, 32), 5000, 3),
+    (streams, 1, (8, 16, 32), 1000, 3),
+    (cell, 1, (8, 16, 32), 10000, 3),
+    (marks, 1, (8, 16, 32), 10000, 3),
+    (tree, 1, (8, 16, 32), 4096, 3),
+    (waiters, 1, (8, 16, 32), 10000, 3),
+    (tells, 1, (8, 16, 32), 20000, 3),
+    (show_list, 1, (2000, 2001, 2003), 10000, 3),
+    (equal_lists, 1, (8, 16, 32), 4000, 3),
+    (equal_rings, 1, (8, 16, 32), 4000, 3),
+    (chain_down, 1, (8, 16, 32), 10000, 3),
+    (chain_up, 1, (8, 16, 32), 10000, 3),
+    (chain_read, 1, (8, 16, 32), 10000, 3),
+]
+
+# programs that are placed on sites: shape, the number of sites, the first size measured, and how often it is doubled
+PLACED = [
+    (round_cell, 4, 2000, 3),
+    (list_read, 2, 4000, 3),
+    (list_known, 2, 4000, 3),
+    (numbers_known, 2, 4000, 3),
+    (met_by_three, 3, 2000, 3),
+    (placed_threads, 64, 2000, 3),
+    (asked_by_all, 64, 40, 3),
+    (spread, 4, 5000, 3),
+]
+
+TEXTS = [statements, nests, locals_]
+TEXT_SIZES = (128, 256, 512, 1024)
