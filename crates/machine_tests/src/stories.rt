@@ -99,9 +99,15 @@ fn are_low<R: Abort>(rt: &R, picks: &[Pick])
 }
 
 // At most so many steps: their number, which is that of the new picks.
-fn turns<R: Abort>(rt: &R, machine: &mut Central<'_>, limit: u64) -> Result<u64, AllocError> {
+fn turns<R: Abort>(
+    rt: &R,
+    alloc: Global,
+    machine: &mut Central<'_>,
+    limit: u64,
+) -> Result<u64, AllocError> {
     let before = seen(machine);
-    are_low(rt, machine.picks());
+    let told = machine.picks().to_vec(alloc)?;
+    are_low(rt, told.as_slice());
     assert!(rt; limit <= 1_000_000);
     let made = machine.run_turns(limit)?;
     assert_eq!(rt; seen(machine).picks, before.picks.wrapping_add(made));
@@ -118,12 +124,12 @@ fn tries<R: Abort>(
     match row {
         Row::Pick(thread, choice, want) => picks(rt, alloc, machine, thread, choice, want),
         Row::Turns(limit, want) => {
-            let made = turns(rt, machine, limit)?;
+            let made = turns(rt, alloc, machine, limit)?;
             assert_eq!(rt; made, want);
             Ok(())
         }
         Row::Rests(limit) => {
-            let made = turns(rt, machine, limit)?;
+            let made = turns(rt, alloc, machine, limit)?;
             assert!(rt; made < limit);
             Ok(())
         }

@@ -20,7 +20,7 @@ mod copy;
 mod laws;
 mod message;
 mod outbox;
-mod outcome;
+mod reason;
 mod schedule;
 mod shared_seq;
 mod story;
@@ -34,7 +34,7 @@ pub use laws::{
 };
 pub use message::{Bundle, Msg, Sent, SentList};
 pub use outbox::Outbox;
-pub use outcome::{DeliverError, Reason};
+pub use reason::{DeliverError, Reason};
 pub use schedule::Schedule;
 pub use shared_seq::SharedSeq;
 pub use story::{NoSeat, Outside, Sight, Story};

@@ -3,6 +3,7 @@
 ghost use Rattle.std.specs.Prelude.{◌≡◌, ◌<◌, ◌^◌, [], ◌++◌, length, IfOk, OnOk, OnErr};
 
 use crate::turn::Picks;
+use pick_list::PickList;
 use std::alloc::{AllocError, Global};
 use std::marker::Model;
 use tree_node::{Pick, copy_pick};
@@ -15,7 +16,7 @@ const MOST: usize = isize::MAX as usize;
 /// run stand in memory once; a turn costs a step, however many picks it has.
 #[derive(Drop)]
 pub struct Schedule {
-    first: Vec<Pick>,
+    first: PickList,
     turns: Vec<Picks>,
     count: usize,
 }
@@ -27,9 +28,9 @@ impl Model for Schedule {
 
     ghost Value = { List Pick };
 
-    ghost view = { λ s. picks_in s.first.items s.turns.items };
+    ghost view = { λ s. picks_in s.first s.turns.items };
 
-    ghost invariant = { λ s. (s.count ≡ length (picks_in s.first.items s.turns.items)) × (s.count < 2 ^ 63) };
+    ghost invariant = { λ s. (s.count ≡ length (picks_in s.first s.turns.items)) × (s.count < 2 ^ 63) };
 }
 
 impl Schedule {
@@ -37,13 +38,14 @@ impl Schedule {
     pub fn new(alloc: Global) -> Schedule
         ensures { result ≡ [] }
     {
-        Schedule::from_vec(alloc, Vec::new(alloc))
+        Schedule::from_picks(alloc, PickList::new(alloc))
     }
 
-    /// The picks of a vector, as they stand there. It takes no memory.
-    pub fn from_vec(alloc: Global, picks: Vec<Pick>) -> Schedule
-        ensures { result ≡ picks.items }
+    /// The picks of a list, as they stand there. It takes no memory.
+    pub fn from_picks(alloc: Global, picks: PickList) -> Schedule
+        ensures { result ≡ picks }
     {
+        picks.is_short();
         Schedule {
             count: picks.len(),
             first: picks,
@@ -83,7 +85,7 @@ impl Schedule {
     pub fn into_vec(self, alloc: Global) -> Result<Vec<Pick>, AllocError>
         ensures { IfOk result (λ picks. picks.items ≡ self) }
     {
-        let mut picks = self.first;
+        let mut picks = self.first.to_vec(alloc)?;
         for turn in self.turns.as_slice() {
             push_copies(alloc, &mut picks, turn.as_slice())?;
         }

@@ -2,7 +2,7 @@
 
 use crate::message::{Bundle, Msg, Sent};
 use crate::outbox::Outbox;
-use crate::outcome::Reason;
+use crate::reason::Reason;
 use crate::schedule::Schedule;
 use crate::turn::{Journal, Picks, Turn};
 

@@ -1,0 +1,22 @@
+use Rattle.std.proofs.Common.{◌-◌, ◌++◌, ap, ◌∙◌, List, take, arith, refl}
+use Rattle.std.specs.Prelude.{reverse}
+use Rattle.tree_node.specs.declared.pick.Pick.{Pick}
+use Rattle.pick_list.specs.Columns.{columns_of, picks_below}
+use Rattle.pick_list.proofs.ColumnLemmas.{picks_before, told_before}
+use Rattle.pick_list.proofs.list.PickList.to_vec.Goals as goal
+
+pub picks-preserved : goal.picks-preserved
+picks-preserved c =
+    let l = c.picks in
+    let n = l.pick - 1 in
+    let old = columns_of l.runs.now l.takes.now l.names.now l.binds.now in
+    let new = columns_of (take c.runs_before.result l.runs.now) (take c.takes_before-taken.result.0 l.takes.now) (take c.takes_before-taken.result.1 l.names.now) (take c.binds_before.result l.binds.now) in
+    let runs = c.runs_before.ensures.before in
+    let takes = c.takes_before-taken.ensures.before l.names.now refl in
+    let binds = c.binds_before.ensures.before in
+    record {
+      columns = record { runs = runs.runs; takes = takes.takes; binds = binds.binds };
+      told =
+          ap (λ (ks : List Pick). picks_below new n ++ reverse ks) c.in_ok-push.ensures.items
+          ∙ told_before old new l.pick n l.picks.items c.in_ok-last.last c.args.self.now (let some = c.picks-test.true in omega arith) (picks_before old new n runs takes binds) c.in_ok-last.ensures l.invariant.told;
+    }

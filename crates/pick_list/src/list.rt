@@ -1,0 +1,178 @@
+//! Lists of picks.
+
+ghost use Rattle.std.specs.Prelude.{◌≡◌, ◌<◌, ◌-◌, ◌^◌, ◌++◌, ◌∷◌, [], None, IfOk, OnOk, OnErr, length, map, take};
+ghost use Rattle.pick_list.specs.Binds.{binds_of, equation_of};
+
+use crate::columns::{Bind, Run, Take, binds_before, last_pick, put, runs_before, takes_before};
+use std::alloc::{AllocError, Global};
+use std::marker::Model;
+use tree_node::{Name, Pick, Term, ThreadName, VarName};
+
+// The most picks of a list.
+const MOST: usize = isize::MAX as usize;
+
+/// The picks of a run in the order of its steps, which contracts see as a list. They stand in columns: the runs of picks of one
+/// thread, the takes, the names of all picks, and the binds. A pick of the thread of the one before it that takes no name and
+/// adds no equation takes no memory.
+#[derive(Drop)]
+pub struct PickList {
+    runs: Vec<Run>,
+    takes: Vec<Take>,
+    names: Vec<Name>,
+    binds: Vec<Bind>,
+    count: usize,
+}
+
+impl Model for PickList {
+    ghost use Rattle.std.specs.Prelude.{◌<◌, ◌^◌, List};
+    ghost use Rattle.tree_node.specs.declared.pick.Pick.{Pick};
+    ghost use Rattle.pick_list.specs.Columns.{AreColumns, columns_of, picks_below};
+
+    ghost Value = { List Pick };
+
+    ghost view = { λ s. picks_below (columns_of s.runs.items s.takes.items s.names.items s.binds.items) s.count };
+
+    ghost invariant = { λ s. AreColumns s.count (columns_of s.runs.items s.takes.items s.names.items s.binds.items) × (s.count < 2 ^ 63) };
+}
+
+impl PickList {
+    /// No picks. It takes no memory.
+    pub fn new(alloc: Global) -> PickList
+        ensures { result ≡ [] }
+    {
+        PickList {
+            runs: Vec::new(alloc),
+            takes: Vec::new(alloc),
+            names: Vec::new(alloc),
+            binds: Vec::new(alloc),
+            count: 0,
+        }
+    }
+
+    /// The number of picks.
+    pub fn len(&self) -> usize
+        ensures { result ≡ length self.now }
+    {
+        self.count
+    }
+
+    /// That a list has less than 2^63 picks, as a vector has. It does nothing: a caller learns the fact.
+    pub fn is_short(&self)
+        ensures { length self.now < 2 ^ 63 }
+    {
+        let _ = &self.count;
+    }
+
+    /// The equations that the picks add, in order.
+    pub fn binds(&self) -> &[Bind]
+        ensures { map equation_of result.now ≡ binds_of self.now }
+    {
+        self.binds.as_slice()
+    }
+
+    /// A pick behind the others that adds no equation.
+    pub fn push_plain(&mut self, thread: ThreadName, fresh: &[Name]) -> Result<(), AllocError>
+        ensures ok { OnOk result (self.new ≡ self.old ++ record { thread = thread; fresh = fresh.now; bind = None } ∷ []) }
+        ensures err { OnErr result (self.new ≡ self.old) }
+    {
+        if self.count >= MOST {
+            return Err(AllocError);
+        }
+        put(
+            &mut self.runs,
+            &mut self.takes,
+            &mut self.names,
+            self.count,
+            thread,
+            fresh,
+        )?;
+        self.count += 1;
+        Ok(())
+    }
+
+    // A pick behind the others that adds an equation.
+    fn push_bind(
+        &mut self,
+        thread: ThreadName,
+        fresh: &[Name],
+        var: VarName,
+        term: Term,
+    ) -> Result<(), AllocError>
+        ensures ok { OnOk result (self.new ≡ self.old ++ record { thread = thread; fresh = fresh.now; bind = Some (var, term) } ∷ []) }
+        ensures err { OnErr result (self.new ≡ self.old) }
+    {
+        if self.count >= MOST {
+            return Err(AllocError);
+        }
+        self.binds.reserve(1)?;
+        put(
+            &mut self.runs,
+            &mut self.takes,
+            &mut self.names,
+            self.count,
+            thread,
+            fresh,
+        )?;
+        self.binds.push_reserved(Bind {
+            pick: self.count,
+            var,
+            term,
+        });
+        self.count += 1;
+        Ok(())
+    }
+
+    /// A pick behind the others.
+    pub fn push(&mut self, pick: Pick) -> Result<(), AllocError>
+        ensures ok { OnOk result (self.new ≡ self.old ++ pick ∷ []) }
+        ensures err { OnErr result (self.new ≡ self.old) }
+    {
+        let Pick {
+            thread,
+            fresh,
+            bind,
+        } = pick;
+        match bind {
+            None => self.push_plain(thread, fresh.as_slice()),
+            Some((var, term)) => self.push_bind(thread, fresh.as_slice(), var, term),
+        }
+    }
+
+    /// Takes the last pick away.
+    pub fn drop_last(&mut self)
+        requires { 0 < length self.old }
+        ensures { self.new ≡ take (length self.old - 1) self.old }
+    {
+        let last = self.count - 1;
+        let runs = runs_before(self.runs.as_slice(), last);
+        let (takes, names) = takes_before(self.takes.as_slice(), self.names.len(), last);
+        let binds = binds_before(self.binds.as_slice(), last);
+        self.runs.truncate(runs);
+        self.takes.truncate(takes);
+        self.names.truncate(names);
+        self.binds.truncate(binds);
+        self.count = last;
+    }
+
+    /// The vector of these picks. It takes memory for each of them.
+    pub fn to_vec(&self, alloc: Global) -> Result<Vec<Pick>, AllocError>
+        ensures { IfOk result (λ picks. picks.items ≡ self.now) }
+    {
+        let mut picks = Vec::with_capacity(alloc, self.count)?;
+        let mut runs = self.runs.as_slice();
+        let mut takes = self.takes.as_slice();
+        let mut names = self.names.as_slice();
+        let mut binds = self.binds.as_slice();
+        'picks: for pick in (0..self.count).rev() {
+            let last = last_pick(alloc, runs, takes, names, binds, pick)?;
+            picks.push(last)?;
+            let (taken, named) = takes_before(takes, names.len(), pick);
+            runs = &runs[..runs_before(runs, pick)];
+            takes = &takes[..taken];
+            names = &names[..named];
+            binds = &binds[..binds_before(binds, pick)];
+        }
+        picks.reverse();
+        Ok(picks)
+    }
+}
