@@ -1,10 +1,6 @@
--- What holds of each element of a list, by recursion on the list.
+-- What holds of each element of a list: std's definition by recursion on the list, under a short name.
 use Rattle.std.specs.Prelude.{List, [], ◌∷◌, ◌≢◌}
-
--- P holds of each element
-abbrev pub Each : {X : Type 0} → (X → Type 0) → List X → Type 0
-Each P [] = Unit {0}
-Each P (x ∷ xs) = P x × Each P xs
+pub use Rattle.std.specs.List.{AllByRecursion as Each}
 
 -- no two of them are the same
 abbrev pub AreDistinct : {X : Type 0} → List X → Type 0

@@ -12,7 +12,7 @@ use Rattle.tree_node.specs.declared.names.VarName.{VarName}
 use Rattle.tree_node.specs.Store.{equal_var}
 use Rattle.tree_node.proofs.ClassLemmas.{same_name_decides, Contains-cons_cases, Contains-head, Contains-tail}
 use Rattle.tree_store.specs.declared.names.Entry.{Entry}
-use Rattle.tree_store.specs.Names.{Filed, run, woven, IsRising, IsPut, names_in, is_own, entry_ordinal, ordinal_of}
+use Rattle.tree_store.specs.Names.{Filed, successive_names, interleaving, IsRising, IsPut, names_in, is_own, entry_ordinal, ordinal_of}
 use Rattle.tree_store.proofs.LinkLemmas.{apart_false, put_lookup}
 
 -- ---- a row
@@ -24,22 +24,22 @@ InRun site first n x = (x.site ≡ site) × (first ≤ x.num) × (x.num < first 
 by_parts : (site num : ℕ) (x : VarName) → x.site ≡ site → x.num ≡ num → record { site = site; num = num } ≡ x
 by_parts site num x p q = ap (λ (s : ℕ). record { site = s; num = num }) (sym p) ∙ ap (λ (n : ℕ). record { site = x.site; num = n }) (sym q)
 
-run_contains : (site first n : ℕ) (x : VarName) → InRun site first n x → Contains (run site first n) x
+run_contains : (site first n : ℕ) (x : VarName) → InRun site first n x → Contains (successive_names site first n) x
 run_contains site first zero x h = absurd (omega (arith, h.1, h.2))
 run_contains site first (suc n) x h = go (nat_lt x.num (first + n)) refl (λ k. run_contains site first n x k)
   where
-    go : (b : Bool) → nat_lt x.num (first + n) ≡ b → (InRun site first n x → Contains (run site first n) x) → Contains (run site first (suc n)) x
-    go true e ih = Contains-append_left (run site first n) _ x (ih (h.0, h.1, grind (arith, nat_tests)))
+    go : (b : Bool) → nat_lt x.num (first + n) ≡ b → (InRun site first n x → Contains (successive_names site first n) x) → Contains (successive_names site first (suc n)) x
+    go true e ih = Contains-append_left (successive_names site first n) _ x (ih (h.0, h.1, grind (arith, nat_tests)))
     go false e ih =
         let num : x.num ≡ first + n = grind (arith, nat_tests, h.2) in
         let name = by_parts site (first + n) x h.0 num in
-        subst (λ (y : VarName). Contains (run site first (suc n)) y) name (Contains-push (run site first n) _)
+        subst (λ (y : VarName). Contains (successive_names site first (suc n)) y) name (Contains-push (successive_names site first n) _)
 
-run_among : (site first n : ℕ) (x : VarName) → Contains (run site first n) x → InRun site first n x
+run_among : (site first n : ℕ) (x : VarName) → Contains (successive_names site first n) x → InRun site first n x
 run_among site first zero x (k, below, is) = absurd (omega arith)
-run_among site first (suc n) x h = go (Contains-push_cases (run site first n) _ x h) (λ k. run_among site first n x k)
+run_among site first (suc n) x h = go (Contains-push_cases (successive_names site first n) _ x h) (λ k. run_among site first n x k)
   where
-    go : Contains (run site first n) x ⊎ (record { site = site; num = first + n } ≡ x) → (Contains (run site first n) x → InRun site first n x) → InRun site first (suc n) x
+    go : Contains (successive_names site first n) x ⊎ (record { site = site; num = first + n } ≡ x) → (Contains (successive_names site first n) x → InRun site first n x) → InRun site first (suc n) x
     go (inl k) ih = let in_row : InRun site first n x = ih k in (in_row.0, in_row.1, omega (arith, in_row.2))
     go (inr e) ih = (sym (ap (λ (y : VarName). y.site) e), omega (arith, ap (λ (y : VarName). y.num) e), omega (arith, ap (λ (y : VarName). y.num) e))
 
@@ -48,36 +48,36 @@ run_among site first (suc n) x h = go (Contains-push_cases (run site first n) _ 
 abbrev Entries : Type 0
 Entries = List (VarName × Entry)
 
-woven_contains_row : (site first from last : ℕ) (es : Entries) (x : VarName) → InRun site (first + from) (last - from) x → Contains (woven site first from last es) x
+woven_contains_row : (site first from last : ℕ) (es : Entries) (x : VarName) → InRun site (first + from) (last - from) x → Contains (interleaving site first from last es) x
 woven_contains_row site first from last [] x h = run_contains site (first + from) (last - from) x h
 woven_contains_row site first from last ((y, e) ∷ es) x h = go (nat_lt x.num (first + e.before)) refl (λ k. woven_contains_row site first e.before last es x k)
   where
-    go : (b : Bool) → nat_lt x.num (first + e.before) ≡ b → (InRun site (first + e.before) (last - e.before) x → Contains (woven site first e.before last es) x) →
-        Contains (woven site first from last ((y, e) ∷ es)) x
+    go : (b : Bool) → nat_lt x.num (first + e.before) ≡ b → (InRun site (first + e.before) (last - e.before) x → Contains (interleaving site first e.before last es) x) →
+        Contains (interleaving site first from last ((y, e) ∷ es)) x
     go true e1 ih =
-        Contains-append_left (run site (first + from) (e.before - from)) _ x
+        Contains-append_left (successive_names site (first + from) (e.before - from)) _ x
         (run_contains site (first + from) (e.before - from) x (h.0, h.1, grind (arith, nat_tests, h.1)))
     go false e1 ih =
-        Contains-append_right (run site (first + from) (e.before - from)) _ x
+        Contains-append_right (successive_names site (first + from) (e.before - from)) _ x
         (Contains-tail y x _ (ih (h.0, grind (arith, nat_tests), grind (arith, nat_tests, h.2))))
 
-woven_contains_other : (site first from last : ℕ) (es : Entries) (x : VarName) → Contains (keys_of es) x → Contains (woven site first from last es) x
+woven_contains_other : (site first from last : ℕ) (es : Entries) (x : VarName) → Contains (keys_of es) x → Contains (interleaving site first from last es) x
 woven_contains_other site first from last [] x (k, below, is) = absurd (omega arith)
 woven_contains_other site first from last ((y, e) ∷ es) x h =
-    Contains-append_right (run site (first + from) (e.before - from)) _ x (go (Contains-cons_cases y x (keys_of es) h) (λ k. woven_contains_other site first e.before last es x k))
+    Contains-append_right (successive_names site (first + from) (e.before - from)) _ x (go (Contains-cons_cases y x (keys_of es) h) (λ k. woven_contains_other site first e.before last es x k))
   where
-    go : (y ≡ x) ⊎ Contains (keys_of es) x → (Contains (keys_of es) x → Contains (woven site first e.before last es) x) → Contains (y ∷ woven site first e.before last es) x
-    go (inl same) ih = subst (λ (z : VarName). Contains (y ∷ woven site first e.before last es) z) same (Contains-head y _)
+    go : (y ≡ x) ⊎ Contains (keys_of es) x → (Contains (keys_of es) x → Contains (interleaving site first e.before last es) x) → Contains (y ∷ interleaving site first e.before last es) x
+    go (inl same) ih = subst (λ (z : VarName). Contains (y ∷ interleaving site first e.before last es) z) same (Contains-head y _)
     go (inr k) ih = Contains-tail y x _ (ih k)
 
 rising_reach : (from last : ℕ) (es : Entries) → IsRising from last es → from ≤ last
 rising_reach from last [] h = h
 rising_reach from last ((y, e) ∷ es) h = omega (arith, h.0, rising_reach e.before last es h.1)
 
-woven_among : (site first from last : ℕ) (es : Entries) (x : VarName) → IsRising from last es → Contains (woven site first from last es) x →
+woven_among : (site first from last : ℕ) (es : Entries) (x : VarName) → IsRising from last es → Contains (interleaving site first from last es) x →
     InRun site (first + from) (last - from) x ⊎ Contains (keys_of es) x
 woven_among site first from last [] x r h = inl (run_among site (first + from) (last - from) x h)
-woven_among site first from last ((y, e) ∷ es) x r h = go (Contains-append_cases (run site (first + from) (e.before - from)) _ x h) (λ k. woven_among site first e.before last es x r.1 k)
+woven_among site first from last ((y, e) ∷ es) x r h = go (Contains-append_cases (successive_names site (first + from) (e.before - from)) _ x h) (λ k. woven_among site first e.before last es x r.1 k)
   where
     reach : e.before ≤ last
     reach = rising_reach e.before last es r.1
@@ -86,44 +86,44 @@ woven_among site first from last ((y, e) ∷ es) x r h = go (Contains-append_cas
     behind (inl k) = inl (k.0, omega (arith, r.0, k.1), omega (arith, r.0, k.2))
     behind (inr k) = inr (Contains-tail y x (keys_of es) k)
 
-    next : (y ≡ x) ⊎ Contains (woven site first e.before last es) x → (Contains (woven site first e.before last es) x → InRun site (first + e.before) (last - e.before) x ⊎ Contains (keys_of es) x) →
+    next : (y ≡ x) ⊎ Contains (interleaving site first e.before last es) x → (Contains (interleaving site first e.before last es) x → InRun site (first + e.before) (last - e.before) x ⊎ Contains (keys_of es) x) →
         InRun site (first + from) (last - from) x ⊎ Contains (y ∷ keys_of es) x
     next (inl same) ih = inr (subst (λ (z : VarName). Contains (y ∷ keys_of es) z) same (Contains-head y (keys_of es)))
     next (inr k) ih = behind (ih k)
 
-    go : Contains (run site (first + from) (e.before - from)) x ⊎ Contains (y ∷ woven site first e.before last es) x →
-        (Contains (woven site first e.before last es) x → InRun site (first + e.before) (last - e.before) x ⊎ Contains (keys_of es) x) → InRun site (first + from) (last - from) x ⊎ Contains (y ∷ keys_of es) x
+    go : Contains (successive_names site (first + from) (e.before - from)) x ⊎ Contains (y ∷ interleaving site first e.before last es) x →
+        (Contains (interleaving site first e.before last es) x → InRun site (first + e.before) (last - e.before) x ⊎ Contains (keys_of es) x) → InRun site (first + from) (last - from) x ⊎ Contains (y ∷ keys_of es) x
     go (inl k) ih = let in_row = run_among site (first + from) (e.before - from) x k in inl (in_row.0, in_row.1, omega (arith, reach, in_row.2))
     go (inr k) ih = next (Contains-cons_cases y x _ k) ih
 
 -- one more name in the row
-row_grows : (site first from last : ℕ) → from ≤ last → run site (first + from) (suc last - from) ≡ run site (first + from) (last - from) ++ record { site = site; num = first + last } ∷ []
+row_grows : (site first from last : ℕ) → from ≤ last → successive_names site (first + from) (suc last - from) ≡ successive_names site (first + from) (last - from) ++ record { site = site; num = first + last } ∷ []
 row_grows site first from last h =
     let more : suc last - from ≡ suc (last - from) = omega arith in
     let num : first + from + (last - from) ≡ first + last = omega arith in
-    rw more (ap (λ (k : ℕ). run site (first + from) (last - from) ++ record { site = site; num = k } ∷ []) num)
+    rw more (ap (λ (k : ℕ). successive_names site (first + from) (last - from) ++ record { site = site; num = k } ∷ []) num)
 
 woven_grows : (site first from last : ℕ) (es : Entries) → IsRising from last es →
-    woven site first from (suc last) es ≡ woven site first from last es ++ record { site = site; num = first + last } ∷ []
+    interleaving site first from (suc last) es ≡ interleaving site first from last es ++ record { site = site; num = first + last } ∷ []
 woven_grows site first from last [] r = row_grows site first from last r
 woven_grows site first from last ((y, e) ∷ es) r =
-    ap (λ (xs : List VarName). run site (first + from) (e.before - from) ++ y ∷ xs) (woven_grows site first e.before last es r.1)
-    ∙ sym (append_assoc (run site (first + from) (e.before - from)) (y ∷ woven site first e.before last es) _)
+    ap (λ (xs : List VarName). successive_names site (first + from) (e.before - from) ++ y ∷ xs) (woven_grows site first e.before last es r.1)
+    ∙ sym (append_assoc (successive_names site (first + from) (e.before - from)) (y ∷ interleaving site first e.before last es) _)
 
 rising_grows : (from last : ℕ) (es : Entries) → IsRising from last es → IsRising from (suc last) es
 rising_grows from last [] r = omega arith
 rising_grows from last ((y, e) ∷ es) r = (r.0, rising_grows e.before last es r.1)
 
 -- one more name beside the row
-none_left : (site first last : ℕ) → run site (first + last) (last - last) ≡ []
+none_left : (site first last : ℕ) → successive_names site (first + last) (last - last) ≡ []
 none_left site first last = let none : last - last ≡ 0 = omega arith in rw none refl
 
 woven_more : (site first from last : ℕ) (es : Entries) (x : VarName) (e : Entry) → e.before ≡ last →
-    woven site first from last (es ++ (x, e) ∷ []) ≡ woven site first from last es ++ x ∷ []
-woven_more site first from last [] x e h = rw h (ap (λ (xs : List VarName). run site (first + from) (last - from) ++ x ∷ xs) (none_left site first last))
+    interleaving site first from last (es ++ (x, e) ∷ []) ≡ interleaving site first from last es ++ x ∷ []
+woven_more site first from last [] x e h = rw h (ap (λ (xs : List VarName). successive_names site (first + from) (last - from) ++ x ∷ xs) (none_left site first last))
 woven_more site first from last ((y, o) ∷ es) x e h =
-    ap (λ (xs : List VarName). run site (first + from) (o.before - from) ++ y ∷ xs) (woven_more site first o.before last es x e h)
-    ∙ sym (append_assoc (run site (first + from) (o.before - from)) (y ∷ woven site first o.before last es) _)
+    ap (λ (xs : List VarName). successive_names site (first + from) (o.before - from) ++ y ∷ xs) (woven_more site first o.before last es x e h)
+    ∙ sym (append_assoc (successive_names site (first + from) (o.before - from)) (y ∷ interleaving site first o.before last es) _)
 
 rising_more : (from last : ℕ) (es : Entries) (x : VarName) (e : Entry) → e.before ≡ last → IsRising from last es → IsRising from last (es ++ (x, e) ∷ [])
 rising_more from last [] x e h r = (omega arith, omega arith)
@@ -131,18 +131,18 @@ rising_more from last ((y, o) ∷ es) x e h r = (r.0, rising_more o.before last 
 
 -- another ordinal at an entry
 woven_put : (site first from last : ℕ) (es : Entries) (x : VarName) (e o : Entry) → lookup (equal_var x) es ≡ Some e → o.before ≡ e.before →
-    woven site first from last (set_value (equal_var x) es o) ≡ woven site first from last es
+    interleaving site first from last (set_value (equal_var x) es o) ≡ interleaving site first from last es
 woven_put site first from last [] x e o h same = refl
 woven_put site first from last ((y, w) ∷ es) x e o h same = go (equal_var x y) refl h (λ k. woven_put site first w.before last es x e o k same)
   where
     go : (b : Bool) → equal_var x y ≡ b → cond b (Some w) (lookup (equal_var x) es) ≡ Some e →
-        (lookup (equal_var x) es ≡ Some e → woven site first w.before last (set_value (equal_var x) es o) ≡ woven site first w.before last es) →
-        woven site first from last (cond b ((y, o) ∷ es) ((y, w) ∷ set_value (equal_var x) es o)) ≡ woven site first from last ((y, w) ∷ es)
+        (lookup (equal_var x) es ≡ Some e → interleaving site first w.before last (set_value (equal_var x) es o) ≡ interleaving site first w.before last es) →
+        interleaving site first from last (cond b ((y, o) ∷ es) ((y, w) ∷ set_value (equal_var x) es o)) ≡ interleaving site first from last ((y, w) ∷ es)
     go true p k ih =
         let entry : w ≡ e = cc in
         let place : o.before ≡ w.before = same ∙ sym (ap (λ (d : Entry). d.before) entry) in
         rw place refl
-    go false p k ih = ap (λ (xs : List VarName). run site (first + from) (w.before - from) ++ y ∷ xs) (ih k)
+    go false p k ih = ap (λ (xs : List VarName). successive_names site (first + from) (w.before - from) ++ y ∷ xs) (ih k)
 
 rising_put : (from last : ℕ) (es : Entries) (x : VarName) (e o : Entry) → lookup (equal_var x) es ≡ Some e → o.before ≡ e.before → IsRising from last es →
     IsRising from last (set_value (equal_var x) es o)
@@ -158,7 +158,7 @@ rising_put from last ((y, w) ∷ es) x e o h same r = go (equal_var x y) refl h 
     go false p k ih = (r.0, ih k)
 
 -- a row without names may begin anywhere
-woven_none : (site first other start from : ℕ) (es : Entries) → IsRising from 0 es → woven site first from 0 es ≡ woven other start from 0 es
+woven_none : (site first other start from : ℕ) (es : Entries) → IsRising from 0 es → interleaving site first from 0 es ≡ interleaving other start from 0 es
 woven_none site first other start from [] r = let none : 0 - from ≡ 0 = omega arith in rw none refl
 woven_none site first other start from ((y, e) ∷ es) r =
     let none : e.before - from ≡ 0 = omega (arith, rising_reach e.before 0 es r.1) in

@@ -5,8 +5,8 @@ use Rattle.std.specs.Map.{lookup, set_value}
 use Rattle.tree_node.specs.declared.names.VarName.{VarName}
 use Rattle.tree_node.specs.Store.{equal_var, joined_root}
 use Rattle.tree_node.proofs.ClassLemmas.{same_name_decides, same_name_refl, joined_when, joined_same}
-use Rattle.tree_store.specs.declared.links.Place.{Place}
-use Rattle.tree_store.specs.Links.{Places, alone, place_in, IsTop, weight, total, IsTree, AreClasses, place_after}
+use Rattle.tree_store.specs.declared.links.ClassEntry.{ClassEntry}
+use Rattle.tree_store.specs.Links.{ClassEntries, singleton, entry_in, IsRepresentative, weight, total, IsTree, AreClasses, entry_after_union}
 
 same_true : (x y : VarName) → x ≡ y → equal_var x y ≡ true
 same_true x y e = (same_name_decides x y).1 e
@@ -44,14 +44,14 @@ put_lookup ((z, q) ∷ es) x y p h = go (equal_var x z) (equal_var y z) refl ref
     go false false e f h ih = rw f (ih h)
 
 -- a place that is put where one was
-pub place_put : (es : Places) (x y : VarName) (p : Place) → IsSome (lookup (equal_var x) es) → place_in (set_value (equal_var x) es p) y ≡ cond (equal_var x y) p (place_in es y)
-place_put es x y p some = ap (λ (o : Option Place). unwrap_or o (alone y)) (put_lookup es x y p some) ∙ go (equal_var x y)
+pub place_put : (es : ClassEntries) (x y : VarName) (p : ClassEntry) → IsSome (lookup (equal_var x) es) → entry_in (set_value (equal_var x) es p) y ≡ cond (equal_var x y) p (entry_in es y)
+place_put es x y p some = ap (λ (o : Option ClassEntry). unwrap_or o (singleton y)) (put_lookup es x y p some) ∙ go (equal_var x y)
   where
-    go : (b : Bool) → unwrap_or (cond b (Some p) (lookup (equal_var y) es)) (alone y) ≡ cond b p (place_in es y)
+    go : (b : Bool) → unwrap_or (cond b (Some p) (lookup (equal_var y) es)) (singleton y) ≡ cond b p (entry_in es y)
     go true = refl
     go false = refl
 
-pub put_stays : (es : Places) (x y : VarName) (p : Place) → IsSome (lookup (equal_var y) es) → IsSome (lookup (equal_var y) (set_value (equal_var x) es p))
+pub put_stays : (es : ClassEntries) (x y : VarName) (p : ClassEntry) → IsSome (lookup (equal_var y) es) → IsSome (lookup (equal_var y) (set_value (equal_var x) es p))
 put_stays [] x y p h = h
 put_stays ((z, q) ∷ es) x y p h = go (equal_var x z) (equal_var y z) refl h (λ k. put_stays es x y p k)
   where
@@ -62,7 +62,7 @@ put_stays ((z, q) ∷ es) x y p h = go (equal_var x z) (equal_var y z) refl h (�
     go false true e h ih = rw e refl
     go false false e h ih = rw e (ih h)
 
-put_length : (es : Places) (x : VarName) (p : Place) → length (set_value (equal_var x) es p) ≡ length es
+put_length : (es : ClassEntries) (x : VarName) (p : ClassEntry) → length (set_value (equal_var x) es p) ≡ length es
 put_length [] x p = refl
 put_length ((z, q) ∷ es) x p = go (equal_var x z) (put_length es x p)
   where
@@ -71,77 +71,77 @@ put_length ((z, q) ∷ es) x p = go (equal_var x z) (put_length es x p)
     go false e = omega arith
 
 -- what a place that is put adds to the sizes
-put_total : (es : Places) (x : VarName) (p : Place) → IsSome (lookup (equal_var x) es) → total (set_value (equal_var x) es p) + weight x (place_in es x) ≡ total es + weight x p
+put_total : (es : ClassEntries) (x : VarName) (p : ClassEntry) → IsSome (lookup (equal_var x) es) → total (set_value (equal_var x) es p) + weight x (entry_in es x) ≡ total es + weight x p
 put_total [] x p h = cc
 put_total ((z, q) ∷ es) x p h = go (equal_var x z) refl h (λ k. put_total es x p k)
   where
     go : (b : Bool) → equal_var x z ≡ b → IsSome (cond b (Some q) (lookup (equal_var x) es)) →
-        (IsSome (lookup (equal_var x) es) → total (set_value (equal_var x) es p) + weight x (place_in es x) ≡ total es + weight x p) →
-        total (cond b ((z, p) ∷ es) ((z, q) ∷ set_value (equal_var x) es p)) + weight x (unwrap_or (cond b (Some q) (lookup (equal_var x) es)) (alone x)) ≡ weight z q + total es + weight x p
+        (IsSome (lookup (equal_var x) es) → total (set_value (equal_var x) es p) + weight x (entry_in es x) ≡ total es + weight x p) →
+        total (cond b ((z, p) ∷ es) ((z, q) ∷ set_value (equal_var x) es p)) + weight x (unwrap_or (cond b (Some q) (lookup (equal_var x) es)) (singleton x)) ≡ weight z q + total es + weight x p
     go true e h ih = let at : x ≡ z = same_back x z e in subst (λ (y : VarName). weight y p + total es + weight x q ≡ weight y q + total es + weight x p) at (omega arith)
     go false e h ih = let rest = ih h in omega arith
 
 -- a top's size is at most all sizes
-top_total : (es : Places) (x : VarName) → IsSome (lookup (equal_var x) es) → weight x (place_in es x) ≤ total es
+top_total : (es : ClassEntries) (x : VarName) → IsSome (lookup (equal_var x) es) → weight x (entry_in es x) ≤ total es
 top_total [] x h = cc
 top_total ((z, q) ∷ es) x h = go (equal_var x z) refl h (λ k. top_total es x k)
   where
-    go : (b : Bool) → equal_var x z ≡ b → IsSome (cond b (Some q) (lookup (equal_var x) es)) → (IsSome (lookup (equal_var x) es) → weight x (place_in es x) ≤ total es) →
-        weight x (unwrap_or (cond b (Some q) (lookup (equal_var x) es)) (alone x)) ≤ weight z q + total es
+    go : (b : Bool) → equal_var x z ≡ b → IsSome (cond b (Some q) (lookup (equal_var x) es)) → (IsSome (lookup (equal_var x) es) → weight x (entry_in es x) ≤ total es) →
+        weight x (unwrap_or (cond b (Some q) (lookup (equal_var x) es)) (singleton x)) ≤ weight z q + total es
     go true e h ih = let at : x ≡ z = same_back x z e in subst (λ (y : VarName). weight x q ≤ weight y q + total es) at (omega arith)
     go false e h ih = let rest = ih h in omega arith
 
-top_weight : (place : VarName → Place) (x : VarName) → IsTop place x → weight x (place x) ≡ (place x).size
+top_weight : (place : VarName → ClassEntry) (x : VarName) → IsRepresentative place x → weight x (place x) ≡ (place x).size
 top_weight place x t = rw (same_true (place x).parent x t) refl
 
 -- ---- a variable that is written down
 
-pub alone_total : (es : Places) (x : VarName) → total (es ++ (x, alone x) ∷ []) ≡ total es + 1
+pub alone_total : (es : ClassEntries) (x : VarName) → total (es ++ (x, singleton x) ∷ []) ≡ total es + 1
 alone_total [] x = rw (same_name_refl x) refl
 alone_total ((z, q) ∷ es) x = let rest = alone_total es x in omega arith
 
-alone_length : (es : Places) (x : VarName) → length (es ++ (x, alone x) ∷ []) ≡ length es + 1
+alone_length : (es : ClassEntries) (x : VarName) → length (es ++ (x, singleton x) ∷ []) ≡ length es + 1
 alone_length [] x = refl
 alone_length ((z, q) ∷ es) x = let rest = alone_length es x in omega arith
 
-pub alone_lookup : (es : Places) (x y : VarName) → lookup (equal_var x) es ≡ None → place_in (es ++ (x, alone x) ∷ []) y ≡ place_in es y
+pub alone_lookup : (es : ClassEntries) (x y : VarName) → lookup (equal_var x) es ≡ None → entry_in (es ++ (x, singleton x) ∷ []) y ≡ entry_in es y
 alone_lookup [] x y h = go (equal_var y x) refl
   where
-    go : (b : Bool) → equal_var y x ≡ b → unwrap_or (cond b (Some (alone x)) None) (alone y) ≡ alone y
-    go true e = ap alone (sym (same_back y x e))
+    go : (b : Bool) → equal_var y x ≡ b → unwrap_or (cond b (Some (singleton x)) None) (singleton y) ≡ singleton y
+    go true e = ap singleton (sym (same_back y x e))
     go false e = refl
 alone_lookup ((z, q) ∷ es) x y h = go (equal_var x z) (equal_var y z) refl h (λ k. alone_lookup es x y k)
   where
-    go : (b d : Bool) → equal_var x z ≡ b → cond b (Some q) (lookup (equal_var x) es) ≡ None → (lookup (equal_var x) es ≡ None → place_in (es ++ (x, alone x) ∷ []) y ≡ place_in es y) →
-        unwrap_or (cond d (Some q) (lookup (equal_var y) (es ++ (x, alone x) ∷ []))) (alone y) ≡ unwrap_or (cond d (Some q) (lookup (equal_var y) es)) (alone y)
+    go : (b d : Bool) → equal_var x z ≡ b → cond b (Some q) (lookup (equal_var x) es) ≡ None → (lookup (equal_var x) es ≡ None → entry_in (es ++ (x, singleton x) ∷ []) y ≡ entry_in es y) →
+        unwrap_or (cond d (Some q) (lookup (equal_var y) (es ++ (x, singleton x) ∷ []))) (singleton y) ≡ unwrap_or (cond d (Some q) (lookup (equal_var y) es)) (singleton y)
     go true d e h ih = cc
     go false true e h ih = refl
     go false false e h ih = ih h
 
-pub alone_stays : (es : Places) (x y : VarName) → IsSome (lookup (equal_var y) es) → IsSome (lookup (equal_var y) (es ++ (x, alone x) ∷ []))
+pub alone_stays : (es : ClassEntries) (x y : VarName) → IsSome (lookup (equal_var y) es) → IsSome (lookup (equal_var y) (es ++ (x, singleton x) ∷ []))
 alone_stays [] x y h = cc
 alone_stays ((z, q) ∷ es) x y h = go (equal_var y z) h (λ k. alone_stays es x y k)
   where
-    go : (b : Bool) → IsSome (cond b (Some q) (lookup (equal_var y) es)) → (IsSome (lookup (equal_var y) es) → IsSome (lookup (equal_var y) (es ++ (x, alone x) ∷ []))) →
-        IsSome (cond b (Some q) (lookup (equal_var y) (es ++ (x, alone x) ∷ [])))
+    go : (b : Bool) → IsSome (cond b (Some q) (lookup (equal_var y) es)) → (IsSome (lookup (equal_var y) es) → IsSome (lookup (equal_var y) (es ++ (x, singleton x) ∷ []))) →
+        IsSome (cond b (Some q) (lookup (equal_var y) (es ++ (x, singleton x) ∷ [])))
     go true h ih = h
     go false h ih = ih h
 
 -- trees of the same places
-same_rises : (es fs : Places) → ((y : VarName) → place_in fs y ≡ place_in es y) → (x : VarName) → IsTop (place_in es) x ⊎ (2 * (place_in es x).size ≤ (place_in es (place_in es x).parent).size) →
-    IsTop (place_in fs) x ⊎ (2 * (place_in fs x).size ≤ (place_in fs (place_in fs x).parent).size)
-same_rises es fs h x r = rw (h x, h (place_in es x).parent) r
+same_rises : (es fs : ClassEntries) → ((y : VarName) → entry_in fs y ≡ entry_in es y) → (x : VarName) → IsRepresentative (entry_in es) x ⊎ (2 * (entry_in es x).size ≤ (entry_in es (entry_in es x).parent).size) →
+    IsRepresentative (entry_in fs) x ⊎ (2 * (entry_in fs x).size ≤ (entry_in fs (entry_in fs x).parent).size)
+same_rises es fs h x r = rw (h x, h (entry_in es x).parent) r
 
-pub tree_alone : (es fs : Places) (x : VarName) → fs ≡ es ++ (x, alone x) ∷ [] → lookup (equal_var x) es ≡ None → IsTree es → IsTree fs
+pub tree_alone : (es fs : ClassEntries) (x : VarName) → fs ≡ es ++ (x, singleton x) ∷ [] → lookup (equal_var x) es ≡ None → IsTree es → IsTree fs
 tree_alone es fs x e none t =
-    let same : (y : VarName) → place_in fs y ≡ place_in es y = λ y. ap (λ (gs : Places). place_in gs y) e ∙ alone_lookup es x y none in
+    let same : (y : VarName) → entry_in fs y ≡ entry_in es y = λ y. ap (λ (gs : ClassEntries). entry_in gs y) e ∙ alone_lookup es x y none in
     record {
       rises = λ y. same_rises es fs same y (t.rises y);
       positive = λ y. rw (same y) (t.positive y);
       counts = rw e (alone_total es x ∙ ap (λ (n : ℕ). n + 1) t.counts ∙ sym (alone_length es x));
     }
 
-pub tells_same : (root : VarName → VarName) (place other : VarName → Place) → ((y : VarName) → other y ≡ place y) → AreClasses root place → AreClasses root other
+pub tells_same : (root : VarName → VarName) (place other : VarName → ClassEntry) → ((y : VarName) → other y ≡ place y) → AreClasses root place → AreClasses root other
 tells_same root place other h t = record {
   parent = λ x. rw (h x) (t.parent x);
   end = λ x top. rw (h x) (t.end x (rw (h x) at top));
@@ -150,21 +150,21 @@ tells_same root place other h t = record {
 
 -- ---- one tree below the top of another
 
-abbrev pub below_place : (VarName → Place) → VarName → VarName → Place
+abbrev pub below_place : (VarName → ClassEntry) → VarName → VarName → ClassEntry
 below_place place c w = record { parent = w; size = (place c).size; end = (place c).end }
 
-abbrev pub above_place : (VarName → Place) → VarName → VarName → VarName → Place
+abbrev pub above_place : (VarName → ClassEntry) → VarName → VarName → VarName → ClassEntry
 above_place place c w e = record { parent = w; size = (place c).size + (place w).size; end = e }
 
-abbrev pub places_after : Places → VarName → VarName → VarName → Places
-places_after es c w e = set_value (equal_var w) (set_value (equal_var c) es (below_place (place_in es) c w)) (above_place (place_in es) c w e)
+abbrev pub places_after : ClassEntries → VarName → VarName → VarName → ClassEntries
+places_after es c w e = set_value (equal_var w) (set_value (equal_var c) es (below_place (entry_in es) c w)) (above_place (entry_in es) c w e)
 
-pub places_hung : (es : Places) (c w e y : VarName) → IsSome (lookup (equal_var c) es) → IsSome (lookup (equal_var w) es) → place_in (places_after es c w e) y ≡ place_after (place_in es) c w e y
+pub places_hung : (es : ClassEntries) (c w e y : VarName) → IsSome (lookup (equal_var c) es) → IsSome (lookup (equal_var w) es) → entry_in (places_after es c w e) y ≡ entry_after_union (entry_in es) c w e y
 places_hung es c w e y hc hw =
-    place_put (set_value (equal_var c) es (below_place (place_in es) c w)) w y (above_place (place_in es) c w e) (put_stays es c w (below_place (place_in es) c w) hw)
-    ∙ ap (λ (p : Place). cond (equal_var w y) (above_place (place_in es) c w e) p) (place_put es c y (below_place (place_in es) c w) hc)
+    place_put (set_value (equal_var c) es (below_place (entry_in es) c w)) w y (above_place (entry_in es) c w e) (put_stays es c w (below_place (entry_in es) c w) hw)
+    ∙ ap (λ (p : ClassEntry). cond (equal_var w y) (above_place (entry_in es) c w e) p) (place_put es c y (below_place (entry_in es) c w) hc)
 
-size_hung : (place : VarName → Place) (c w e x : VarName) → (place x).size ≤ (place_after place c w e x).size
+size_hung : (place : VarName → ClassEntry) (c w e x : VarName) → (place x).size ≤ (entry_after_union place c w e x).size
 size_hung place c w e x = go (equal_var w x) (equal_var c x) refl refl
   where
     go : (b d : Bool) → equal_var w x ≡ b → equal_var c x ≡ d → (place x).size ≤ (cond b (above_place place c w e) (cond d (below_place place c w) (place x))).size
@@ -172,72 +172,72 @@ size_hung place c w e x = go (equal_var w x) (equal_var c x) refl refl
     go false true p q = subst (λ (z : VarName). (place z).size ≤ (place c).size) (same_back c x q) (omega arith)
     go false false p q = omega arith
 
-above_there : (place : VarName → Place) (c w e : VarName) → place_after place c w e w ≡ above_place place c w e
+above_there : (place : VarName → ClassEntry) (c w e : VarName) → entry_after_union place c w e w ≡ above_place place c w e
 above_there place c w e = rw (same_name_refl w) refl
 
-rises_hung : (place : VarName → Place) (c w e y : VarName) → (place c).size ≤ (place w).size → IsTop place y ⊎ (2 * (place y).size ≤ (place (place y).parent).size) →
-    IsTop (place_after place c w e) y ⊎ (2 * (place_after place c w e y).size ≤ (place_after place c w e (place_after place c w e y).parent).size)
+rises_hung : (place : VarName → ClassEntry) (c w e y : VarName) → (place c).size ≤ (place w).size → IsRepresentative place y ⊎ (2 * (place y).size ≤ (place (place y).parent).size) →
+    IsRepresentative (entry_after_union place c w e) y ⊎ (2 * (entry_after_union place c w e y).size ≤ (entry_after_union place c w e (entry_after_union place c w e y).parent).size)
 rises_hung place c w e y smaller rises = go (equal_var w y) (equal_var c y) refl refl
   where
-    Rises : Place → Type 0
-    Rises p = (p.parent ≡ y) ⊎ (2 * p.size ≤ (place_after place c w e p.parent).size)
+    Rises : ClassEntry → Type 0
+    Rises p = (p.parent ≡ y) ⊎ (2 * p.size ≤ (entry_after_union place c w e p.parent).size)
 
-    old : IsTop place y ⊎ (2 * (place y).size ≤ (place (place y).parent).size) → Rises (place y)
+    old : IsRepresentative place y ⊎ (2 * (place y).size ≤ (place (place y).parent).size) → Rises (place y)
     old (inl t) = inl t
     old (inr r) = let more = size_hung place c w e (place y).parent in inr (omega arith)
 
     go : (b d : Bool) → equal_var w y ≡ b → equal_var c y ≡ d → Rises (cond b (above_place place c w e) (cond d (below_place place c w) (place y)))
     go true d p q = inl (same_back w y p)
     go false true p q =
-        let sum : (place_after place c w e w).size ≡ (place c).size + (place w).size = ap (λ (r : Place). r.size) (above_there place c w e) in
+        let sum : (entry_after_union place c w e w).size ≡ (place c).size + (place w).size = ap (λ (r : ClassEntry). r.size) (above_there place c w e) in
         inr (omega arith)
     go false false p q = old rises
 
-moved_rises : (place other : VarName → Place) (y : VarName) → ((x : VarName) → other x ≡ place x) → IsTop place y ⊎ (2 * (place y).size ≤ (place (place y).parent).size) →
-    IsTop other y ⊎ (2 * (other y).size ≤ (other (other y).parent).size)
+moved_rises : (place other : VarName → ClassEntry) (y : VarName) → ((x : VarName) → other x ≡ place x) → IsRepresentative place y ⊎ (2 * (place y).size ≤ (place (place y).parent).size) →
+    IsRepresentative other y ⊎ (2 * (other y).size ≤ (other (other y).parent).size)
 moved_rises place other y h r = rw (h y, h (place y).parent) r
 
-top_there : (es : Places) (c w : VarName) → (c ≡ w → ⊥) → IsSome (lookup (equal_var c) es) → place_in (set_value (equal_var c) es (below_place (place_in es) c w)) w ≡ place_in es w
-top_there es c w differ hc = place_put es c w (below_place (place_in es) c w) hc ∙ rw (apart_false c w differ) refl
+top_there : (es : ClassEntries) (c w : VarName) → (c ≡ w → ⊥) → IsSome (lookup (equal_var c) es) → entry_in (set_value (equal_var c) es (below_place (entry_in es) c w)) w ≡ entry_in es w
+top_there es c w differ hc = place_put es c w (below_place (entry_in es) c w) hc ∙ rw (apart_false c w differ) refl
 
-below_total : (es : Places) (c w : VarName) → (c ≡ w → ⊥) → IsTop (place_in es) c → IsSome (lookup (equal_var c) es) →
-    total (set_value (equal_var c) es (below_place (place_in es) c w)) + (place_in es c).size ≡ total es
+below_total : (es : ClassEntries) (c w : VarName) → (c ≡ w → ⊥) → IsRepresentative (entry_in es) c → IsSome (lookup (equal_var c) es) →
+    total (set_value (equal_var c) es (below_place (entry_in es) c w)) + (entry_in es c).size ≡ total es
 below_total es c w differ tc hc =
-    let put = put_total es c (below_place (place_in es) c w) hc in
-    let own : weight c (place_in es c) ≡ (place_in es c).size = top_weight (place_in es) c tc in
-    let none : weight c (below_place (place_in es) c w) ≡ 0 = rw (apart_false w c (λ e. differ (sym e))) refl in
+    let put = put_total es c (below_place (entry_in es) c w) hc in
+    let own : weight c (entry_in es c) ≡ (entry_in es c).size = top_weight (entry_in es) c tc in
+    let none : weight c (below_place (entry_in es) c w) ≡ 0 = rw (apart_false w c (λ e. differ (sym e))) refl in
     omega arith
 
-pub sizes_fit : (es : Places) (c w : VarName) → IsTree es → (c ≡ w → ⊥) → IsTop (place_in es) c → IsTop (place_in es) w → IsSome (lookup (equal_var c) es) → IsSome (lookup (equal_var w) es) →
-    (place_in es c).size + (place_in es w).size ≤ length es
+pub sizes_fit : (es : ClassEntries) (c w : VarName) → IsTree es → (c ≡ w → ⊥) → IsRepresentative (entry_in es) c → IsRepresentative (entry_in es) w → IsSome (lookup (equal_var c) es) → IsSome (lookup (equal_var w) es) →
+    (entry_in es c).size + (entry_in es w).size ≤ length es
 sizes_fit es c w t differ tc tw hc hw =
     let first = below_total es c w differ tc hc in
     let there = top_there es c w differ hc in
-    let part = top_total (set_value (equal_var c) es (below_place (place_in es) c w)) w (put_stays es c w (below_place (place_in es) c w) hw) in
-    let own : weight w (place_in (set_value (equal_var c) es (below_place (place_in es) c w)) w) ≡ (place_in es w).size = ap (weight w) there ∙ top_weight (place_in es) w tw in
+    let part = top_total (set_value (equal_var c) es (below_place (entry_in es) c w)) w (put_stays es c w (below_place (entry_in es) c w) hw) in
+    let own : weight w (entry_in (set_value (equal_var c) es (below_place (entry_in es) c w)) w) ≡ (entry_in es w).size = ap (weight w) there ∙ top_weight (entry_in es) w tw in
     let all = t.counts in
     omega arith
 
-pub tree_hung : (es : Places) (c w e : VarName) → IsTree es → (c ≡ w → ⊥) → IsTop (place_in es) c → IsTop (place_in es) w → IsSome (lookup (equal_var c) es) → IsSome (lookup (equal_var w) es) →
-    (place_in es c).size ≤ (place_in es w).size → IsTree (places_after es c w e)
+pub tree_hung : (es : ClassEntries) (c w e : VarName) → IsTree es → (c ≡ w → ⊥) → IsRepresentative (entry_in es) c → IsRepresentative (entry_in es) w → IsSome (lookup (equal_var c) es) → IsSome (lookup (equal_var w) es) →
+    (entry_in es c).size ≤ (entry_in es w).size → IsTree (places_after es c w e)
 tree_hung es c w e t differ tc tw hc hw smaller = record {
-  rises = λ y. moved_rises (place_after (place_in es) c w e) (place_in (places_after es c w e)) y at (rises_hung (place_in es) c w e y smaller (t.rises y));
-  positive = λ y. let some = t.positive y in let more = size_hung (place_in es) c w e y in rw (at y) (omega arith);
+  rises = λ y. moved_rises (entry_after_union (entry_in es) c w e) (entry_in (places_after es c w e)) y at (rises_hung (entry_in es) c w e y smaller (t.rises y));
+  positive = λ y. let some = t.positive y in let more = size_hung (entry_in es) c w e y in rw (at y) (omega arith);
   counts = sums;
 }
   where
-    at : (x : VarName) → place_in (places_after es c w e) x ≡ place_after (place_in es) c w e x
+    at : (x : VarName) → entry_in (places_after es c w e) x ≡ entry_after_union (entry_in es) c w e x
     at x = places_hung es c w e x hc hw
 
     sums : total (places_after es c w e) ≡ length (places_after es c w e)
     sums =
         let first = below_total es c w differ tc hc in
         let there = top_there es c w differ hc in
-        let fs : Places = set_value (equal_var c) es (below_place (place_in es) c w) in
-        let second = put_total fs w (above_place (place_in es) c w e) (put_stays es c w (below_place (place_in es) c w) hw) in
-        let own : weight w (place_in fs w) ≡ (place_in es w).size = ap (weight w) there ∙ top_weight (place_in es) w tw in
-        let new : weight w (above_place (place_in es) c w e) ≡ (place_in es c).size + (place_in es w).size = rw (same_name_refl w) refl in
-        let long : length (places_after es c w e) ≡ length es = put_length fs w (above_place (place_in es) c w e) ∙ put_length es c (below_place (place_in es) c w) in
+        let fs : ClassEntries = set_value (equal_var c) es (below_place (entry_in es) c w) in
+        let second = put_total fs w (above_place (entry_in es) c w e) (put_stays es c w (below_place (entry_in es) c w) hw) in
+        let own : weight w (entry_in fs w) ≡ (entry_in es w).size = ap (weight w) there ∙ top_weight (entry_in es) w tw in
+        let new : weight w (above_place (entry_in es) c w e) ≡ (entry_in es c).size + (entry_in es w).size = rw (same_name_refl w) refl in
+        let long : length (places_after es c w e) ≡ length es = put_length fs w (above_place (entry_in es) c w e) ∙ put_length es c (below_place (entry_in es) c w) in
         let all = t.counts in
         omega arith
 
@@ -266,22 +266,22 @@ top_joined root x y c w (inl h) = joined_right root x y w h.1
 top_joined root x y c w (inr h) = joined_when root x y w h.1
 
 -- another top is of neither class
-not_left : (root : VarName → VarName) (place : VarName → Place) (x y c w z : VarName) → AreClasses root place → IsTop place c → IsTop place w → AreTopsOf root x y c w → IsTop place z →
+not_left : (root : VarName → VarName) (place : VarName → ClassEntry) (x y c w z : VarName) → AreClasses root place → IsRepresentative place c → IsRepresentative place w → AreTopsOf root x y c w → IsRepresentative place z →
     (c ≡ z → ⊥) → (w ≡ z → ⊥) → root z ≡ root x → ⊥
 not_left root place x y c w z t tc tw (inl h) tz nc nw e = nc (t.one c z tc tz (h.0 ∙ sym e))
 not_left root place x y c w z t tc tw (inr h) tz nc nw e = nw (t.one w z tw tz (h.1 ∙ sym e))
 
-not_right : (root : VarName → VarName) (place : VarName → Place) (x y c w z : VarName) → AreClasses root place → IsTop place c → IsTop place w → AreTopsOf root x y c w → IsTop place z →
+not_right : (root : VarName → VarName) (place : VarName → ClassEntry) (x y c w z : VarName) → AreClasses root place → IsRepresentative place c → IsRepresentative place w → AreTopsOf root x y c w → IsRepresentative place z →
     (c ≡ z → ⊥) → (w ≡ z → ⊥) → root z ≡ root y → ⊥
 not_right root place x y c w z t tc tw (inl h) tz nc nw e = nw (t.one w z tw tz (h.1 ∙ sym e))
 not_right root place x y c w z t tc tw (inr h) tz nc nw e = nc (t.one c z tc tz (h.0 ∙ sym e))
 
 -- a top after the joining is the top w, or one of another class
-data IsKept (place : VarName → Place) (c w z : VarName) : Type 0 where
+data IsKept (place : VarName → ClassEntry) (c w z : VarName) : Type 0 where
   joint : w ≡ z → IsKept place c w z
-  other : IsTop place z → (c ≡ z → ⊥) → (w ≡ z → ⊥) → IsKept place c w z
+  other : IsRepresentative place z → (c ≡ z → ⊥) → (w ≡ z → ⊥) → IsKept place c w z
 
-kept : (place : VarName → Place) (c w e z : VarName) → (c ≡ w → ⊥) → IsTop (place_after place c w e) z → IsKept place c w z
+kept : (place : VarName → ClassEntry) (c w e z : VarName) → (c ≡ w → ⊥) → IsRepresentative (entry_after_union place c w e) z → IsKept place c w z
 kept place c w e z differ t = go (equal_var w z) (equal_var c z) refl refl t
   where
     go : (b d : Bool) → equal_var w z ≡ b → equal_var c z ≡ d → (cond b (above_place place c w e) (cond d (below_place place c w) (place z))).parent ≡ z → IsKept place c w z
@@ -289,11 +289,11 @@ kept place c w e z differ t = go (equal_var w z) (equal_var c z) refl refl t
     go false true p q h = absurd (differ (same_back c z q ∙ sym h))
     go false false p q h = other h (λ k. both_ways (sym (same_true c z k) ∙ q)) (λ k. both_ways (sym (same_true w z k) ∙ p))
 
-pub tells_hung : (root : VarName → VarName) (place : VarName → Place) (x y c w e : VarName) → AreClasses root place → IsTop place c → IsTop place w → (c ≡ w → ⊥) → (root x ≡ root y → ⊥) →
-    AreTopsOf root x y c w → e ≡ root y → AreClasses (joined_root root x y) (place_after place c w e)
+pub tells_hung : (root : VarName → VarName) (place : VarName → ClassEntry) (x y c w e : VarName) → AreClasses root place → IsRepresentative place c → IsRepresentative place w → (c ≡ w → ⊥) → (root x ≡ root y → ⊥) →
+    AreTopsOf root x y c w → e ≡ root y → AreClasses (joined_root root x y) (entry_after_union place c w e)
 tells_hung root place x y c w e t tc tw differ apart tops ends = record { parent = parent; end = end; one = one }
   where
-    parent : (z : VarName) → joined_root root x y (place_after place c w e z).parent ≡ joined_root root x y z
+    parent : (z : VarName) → joined_root root x y (entry_after_union place c w e z).parent ≡ joined_root root x y z
     parent z = go (equal_var w z) (equal_var c z) refl refl
       where
         go : (b d : Bool) → equal_var w z ≡ b → equal_var c z ≡ d → joined_root root x y (cond b (above_place place c w e) (cond d (below_place place c w) (place z))).parent ≡ joined_root root x y z
@@ -302,17 +302,17 @@ tells_hung root place x y c w e t tc tw differ apart tops ends = record { parent
         go false false p q = joined_same root x y (place z).parent z (t.parent z)
 
     -- the root of another top is its own
-    alone_root : (z : VarName) → IsTop place z → (c ≡ z → ⊥) → (w ≡ z → ⊥) → joined_root root x y z ≡ root z
+    alone_root : (z : VarName) → IsRepresentative place z → (c ≡ z → ⊥) → (w ≡ z → ⊥) → joined_root root x y z ≡ root z
     alone_root z tz nc nw = joined_other root x y z (not_left root place x y c w z t tc tw tops tz nc nw)
 
-    end : (z : VarName) → IsTop (place_after place c w e) z → joined_root root x y z ≡ (place_after place c w e z).end
+    end : (z : VarName) → IsRepresentative (entry_after_union place c w e) z → joined_root root x y z ≡ (entry_after_union place c w e z).end
     end z tz = go (kept place c w e z differ tz)
       where
-        go : IsKept place c w z → joined_root root x y z ≡ (place_after place c w e z).end
-        go (joint p) = subst (λ (v : VarName). joined_root root x y v ≡ (place_after place c w e v).end) p (top_joined root x y c w tops ∙ sym ends ∙ ap (λ (r : Place). r.end) (sym (above_there place c w e)))
+        go : IsKept place c w z → joined_root root x y z ≡ (entry_after_union place c w e z).end
+        go (joint p) = subst (λ (v : VarName). joined_root root x y v ≡ (entry_after_union place c w e v).end) p (top_joined root x y c w tops ∙ sym ends ∙ ap (λ (r : ClassEntry). r.end) (sym (above_there place c w e)))
         go (other p nc nw) = alone_root z p nc nw ∙ t.end z p ∙ sym (rw (apart_false w z nw, apart_false c z nc) refl)
 
-    one : (a b : VarName) → IsTop (place_after place c w e) a → IsTop (place_after place c w e) b → joined_root root x y a ≡ joined_root root x y b → a ≡ b
+    one : (a b : VarName) → IsRepresentative (entry_after_union place c w e) a → IsRepresentative (entry_after_union place c w e) b → joined_root root x y a ≡ joined_root root x y b → a ≡ b
     one a b ta tb same = go (kept place c w e a differ ta) (kept place c w e b differ tb)
       where
         go : IsKept place c w a → IsKept place c w b → a ≡ b
@@ -324,16 +324,16 @@ tells_hung root place x y c w e t tc tw differ apart tops ends = record { parent
         go (other p nc nw) (other q mc mw) = t.one a b p q (sym (alone_root a p nc nw) ∙ same ∙ alone_root b q mc mw)
 
 -- the same where the places were written down in between
-pub join_tells : (root : VarName → VarName) (place settled new : VarName → Place) (x y c w e : VarName) → AreClasses root place → ((z : VarName) → settled z ≡ place z) →
-    IsTop place c → IsTop place w → (c ≡ w → ⊥) → (root x ≡ root y → ⊥) → AreTopsOf root x y c w → e ≡ root y → ((z : VarName) → new z ≡ place_after settled c w e z) →
+pub join_tells : (root : VarName → VarName) (place settled new : VarName → ClassEntry) (x y c w e : VarName) → AreClasses root place → ((z : VarName) → settled z ≡ place z) →
+    IsRepresentative place c → IsRepresentative place w → (c ≡ w → ⊥) → (root x ≡ root y → ⊥) → AreTopsOf root x y c w → e ≡ root y → ((z : VarName) → new z ≡ entry_after_union settled c w e z) →
     AreClasses (joined_root root x y) new
 join_tells root place settled new x y c w e t same tc tw differ apart tops ends at =
-    tells_same (joined_root root x y) (place_after settled c w e) new at
+    tells_same (joined_root root x y) (entry_after_union settled c w e) new at
     (tells_hung root settled x y c w e (tells_same root place settled same t) (rw (same c) tc) (rw (same w) tw) differ apart tops ends)
 
-pub end_told : (root : VarName → VarName) (place settled : VarName → Place) (top x : VarName) (p : Place) → AreClasses root place → ((z : VarName) → settled z ≡ place z) → IsTop place top →
+pub end_told : (root : VarName → VarName) (place settled : VarName → ClassEntry) (top x : VarName) (p : ClassEntry) → AreClasses root place → ((z : VarName) → settled z ≡ place z) → IsRepresentative place top →
     root top ≡ root x → p ≡ settled top → p.end ≡ root x
-end_told root place settled top x p t same h e at = ap (λ (r : Place). r.end) (at ∙ same top) ∙ sym (t.end top h) ∙ e
+end_told root place settled top x p t same h e at = ap (λ (r : ClassEntry). r.end) (at ∙ same top) ∙ sym (t.end top h) ∙ e
 
 pub on_err : {A B : Type 0} {P : Type 0} (r : Result A B) → P → OnErr r P
 on_err (Ok x) p = tt
@@ -342,13 +342,13 @@ on_err (Err e) p = p
 -- ---- the way to the top
 
 -- after so many steps from a variable
-pub record IsOnTheWay (places : Places) (x : VarName) (steps : ℕ) (at : VarName) (place : Place) : Type 0 where
-  pub here : place ≡ place_in places at
+pub record IsOnTheWay (places : ClassEntries) (x : VarName) (steps : ℕ) (at : VarName) (place : ClassEntry) : Type 0 where
+  pub here : place ≡ entry_in places at
   pub doubled : 2 ^ steps ≤ place.size
-  pub class : (root : VarName → VarName) → AreClasses root (place_in places) → root at ≡ root x
+  pub class : (root : VarName → VarName) → AreClasses root (entry_in places) → root at ≡ root x
 
 -- 64 steps are too many
-pub way_ends : (places : Places) (x : VarName) (steps : ℕ) (at : VarName) (place : Place) → IsOnTheWay places x steps at place → place.size < 2 ^ 64 → 64 ≤ steps → steps ≤ 64 → ⊥
+pub way_ends : (places : ClassEntries) (x : VarName) (steps : ℕ) (at : VarName) (place : ClassEntry) → IsOnTheWay places x steps at place → place.size < 2 ^ 64 → 64 ≤ steps → steps ≤ 64 → ⊥
 way_ends places x steps at place way fits least most =
     let full : steps ≡ 64 = omega (arith, least, most) in
     let doubled = subst (λ (n : ℕ). 2 ^ n ≤ place.size) full way.doubled in

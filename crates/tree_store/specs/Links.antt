@@ -7,46 +7,46 @@ use Rattle.tree_node.specs.declared.node.Term.{Term}
 use Rattle.tree_node.specs.declared.node.Term.TheVariants as term
 use Rattle.tree_node.specs.Store.{Store, equal_var, joined_root, root_of}
 use Rattle.tree_store.specs.Forest.{IsGrown}
-use Rattle.tree_store.specs.declared.links.Place.{Place}
+use Rattle.tree_store.specs.declared.links.ClassEntry.{ClassEntry}
 
-abbrev pub Places : Type 0
-Places = List (VarName × Place)
+abbrev pub ClassEntries : Type 0
+ClassEntries = List (VarName × ClassEntry)
 
 -- a variable without a place is alone in its class
-abbrev pub alone : VarName → Place
-alone x = record { parent = x; size = 1; end = x }
+abbrev pub singleton : VarName → ClassEntry
+singleton x = record { parent = x; size = 1; end = x }
 
-abbrev pub place_in : Places → VarName → Place
-place_in places x = unwrap_or (lookup (equal_var x) places) (alone x)
+abbrev pub entry_in : ClassEntries → VarName → ClassEntry
+entry_in places x = unwrap_or (lookup (equal_var x) places) (singleton x)
 
 -- the variable stands for its class
-abbrev pub IsTop : (VarName → Place) → VarName → Type 0
-IsTop place x = (place x).parent ≡ x
+abbrev pub IsRepresentative : (VarName → ClassEntry) → VarName → Type 0
+IsRepresentative place x = (place x).parent ≡ x
 
 -- the sizes of the classes, added up
-abbrev pub weight : VarName → Place → ℕ
+abbrev pub weight : VarName → ClassEntry → ℕ
 weight x p = if equal_var p.parent x then p.size else 0
 
-abbrev pub total : Places → ℕ
+abbrev pub total : ClassEntries → ℕ
 total [] = 0
 total ((x, p) ∷ places) = weight x p + total places
 
 -- on each step to the top the size is twice as large or more, so from a variable of a class of n there are at most log2 n
 -- steps; and no size is above the number of places
-pub record IsTree (places : Places) : Type 0 where
-  pub rises : (x : VarName) → IsTop (place_in places) x ⊎ (2 * (place_in places x).size ≤ (place_in places (place_in places x).parent).size)
-  pub positive : (x : VarName) → 0 < (place_in places x).size
+pub record IsTree (places : ClassEntries) : Type 0 where
+  pub rises : (x : VarName) → IsRepresentative (entry_in places) x ⊎ (2 * (entry_in places x).size ≤ (entry_in places (entry_in places x).parent).size)
+  pub positive : (x : VarName) → 0 < (entry_in places x).size
   pub counts : total places ≡ length places
 
 -- the trees are the classes of root, which names each class by the variable at which its links end
-pub record AreClasses (root : VarName → VarName) (place : VarName → Place) : Type 0 where
+pub record AreClasses (root : VarName → VarName) (place : VarName → ClassEntry) : Type 0 where
   pub parent : (x : VarName) → root (place x).parent ≡ root x
-  pub end : (x : VarName) → IsTop place x → root x ≡ (place x).end
-  pub one : (x y : VarName) → IsTop place x → IsTop place y → root x ≡ root y → x ≡ y
+  pub end : (x : VarName) → IsRepresentative place x → root x ≡ (place x).end
+  pub one : (x y : VarName) → IsRepresentative place x → IsRepresentative place y → root x ≡ root y → x ≡ y
 
 -- the places once a tree is hung below the top of another, whose class ends at e from now on
-abbrev pub place_after : (VarName → Place) → VarName → VarName → VarName → VarName → Place
-place_after place child top e x =
+abbrev pub entry_after_union : (VarName → ClassEntry) → VarName → VarName → VarName → VarName → ClassEntry
+entry_after_union place child top e x =
     if equal_var top x then record { parent = top; size = (place child).size + (place top).size; end = e }
     else (if equal_var child x then record { parent = top; size = (place child).size; end = (place child).end } else place x)
 
@@ -60,6 +60,6 @@ IsApart root u (term.Var v) = root u ≡ root v → ⊥
 IsApart root u (term.Node n) = Unit {0}
 
 -- the trees are the classes of a store
-pub record IsLinked (s : Store) (places : Places) : Type 0 where
+pub record IsLinked (s : Store) (places : ClassEntries) : Type 0 where
   pub grown : IsGrown s
-  pub classes : AreClasses (root_of s) (place_in places)
+  pub classes : AreClasses (root_of s) (entry_in places)

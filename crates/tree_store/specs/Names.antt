@@ -13,15 +13,15 @@ pub record Filed : Type 0 where
   pub others : List (VarName × Entry)
 
 -- so many names of a site in a row
-abbrev pub run : ℕ → ℕ → ℕ → List VarName
-run site first zero = []
-run site first (suc n) = run site first n ++ record { site = site; num = first + n } ∷ []
+abbrev pub successive_names : ℕ → ℕ → ℕ → List VarName
+successive_names site first zero = []
+successive_names site first (suc n) = successive_names site first n ++ record { site = site; num = first + n } ∷ []
 
 -- the names in a row from one place to the last, and between them the others, each at its place
-abbrev pub woven : ℕ → ℕ → ℕ → ℕ → List (VarName × Entry) → List VarName
-woven site first from last [] = run site (first + from) (last - from)
-woven site first from last ((x, e) ∷ others) =
-    run site (first + from) (e.before - from) ++ x ∷ woven site first e.before last others
+abbrev pub interleaving : ℕ → ℕ → ℕ → ℕ → List (VarName × Entry) → List VarName
+interleaving site first from last [] = successive_names site (first + from) (last - from)
+interleaving site first from last ((x, e) ∷ others) =
+    successive_names site (first + from) (e.before - from) ++ x ∷ interleaving site first e.before last others
 
 -- the places rise
 abbrev pub IsRising : ℕ → ℕ → List (VarName × Entry) → Type 0
@@ -30,7 +30,7 @@ IsRising from last ((x, e) ∷ others) = (from ≤ e.before) × IsRising e.befor
 
 -- the names, in the order in which they became known
 unfoldable pub names_in : Filed → List VarName
-names_in f = woven f.site f.first 0 (length f.own) f.others
+names_in f = interleaving f.site f.first 0 (length f.own) f.others
 
 -- the name stands in the row
 abbrev pub is_own : Filed → VarName → Bool

@@ -191,7 +191,7 @@ pub fn walk(
     }
 }
 
-// Walks from a part of a node, with a text before it and one behind it.
+// Walks from a part of a node, within a frame: a text before it and one behind it.
 #[cycle(walking)]
 #[tactic(auto, using(crate::proofs::WalkLemmas::framed, crate::proofs::WalkLemmas::framed_needs))]
 fn walk_part(
@@ -200,13 +200,12 @@ fn walk_part(
     out: &mut Vec<u8>,
     bounds: Bounds,
     x: VarName,
-    front: &[u8],
-    back: &[u8],
+    frame: (&[u8], &[u8]),
 ) -> Result<Found, AllocError>
     requires { bounds.level ≤ 20 }
-    ensures { IfOk result (λ f. text_end f out.new.items ≡ text_after out.old.items (between front.now back.now (show_var bounds.depth store.now.equations (bounds.level + 1) bounds.left x))) }
+    ensures { IfOk result (λ f. text_end f out.new.items ≡ text_after out.old.items (between frame.entry.0.now frame.entry.1.now (show_var bounds.depth store.now.equations (bounds.level + 1) bounds.left x))) }
 {
-    out.extend_from_slice(front)?;
+    out.extend_from_slice(frame.0)?;
     let inner = Bounds {
         depth: bounds.depth,
         level: bounds.level + 1,
@@ -216,7 +215,7 @@ fn walk_part(
     match found {
         Found::Needs(y) => Ok(Found::Needs(y)),
         Found::Left(left) => {
-            out.extend_from_slice(back)?;
+            out.extend_from_slice(frame.1)?;
             Ok(Found::Left(left))
         }
     }
@@ -238,7 +237,7 @@ fn walk_head(
     let brackets = has_brackets(store, bounds, head);
     let front = head_front(brackets);
     let back = head_back(brackets);
-    let found = walk_part(alloc, store, out, bounds, head, front, back)?;
+    let found = walk_part(alloc, store, out, bounds, head, (front, back))?;
     Ok(found)
 }
 
@@ -309,7 +308,7 @@ fn walk_fields(
     'fields: while let Some((field, more)) = rest.split_first() {
         let name = field_name(alloc, next, &field.0)?;
         let front = name.as_slice();
-        let found = walk_part(alloc, store, out, bounds, field.1, front, gap(more))?;
+        let found = walk_part(alloc, store, out, bounds, field.1, (front, gap(more)))?;
         match found {
             Found::Needs(y) => return Ok(Found::Needs(y)),
             Found::Left(left) => {

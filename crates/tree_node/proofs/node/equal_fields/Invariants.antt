@@ -1,6 +1,6 @@
 use Rattle.std.proofs.Common.{◌≡◌, take, drop, length}
 use Rattle.tree_node.specs.Goal.{equal_fields}
-use Rattle.tree_node.proofs.node.same_fields.Given as goal
+use Rattle.tree_node.proofs.node.equal_fields.Given as goal
 
 abbrev pub invariant-loop-at : goal.invariant-loop-at
 invariant-loop-at l = record {

@@ -3,7 +3,7 @@ use Rattle.tree_node.specs.declared.names.VarName.{VarName}
 use Rattle.tree_node.specs.declared.node.Feature.{Feature}
 use Rattle.tree_node.specs.Goal.{equal_fields, equal_feature}
 use Rattle.tree_node.specs.Store.{equal_var}
-use Rattle.tree_node.proofs.node.same_fields.Goals as goal
+use Rattle.tree_node.proofs.node.equal_fields.Goals as goal
 
 and_false : (a b : Bool) → (a && (b && false)) ≡ false
 and_false true true = refl
