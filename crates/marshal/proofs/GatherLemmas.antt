@@ -12,7 +12,7 @@ use Rattle.tree_store.specs.Forest.{IsForest}
 use Rattle.site_message.specs.Vars.{vars_of}
 use Rattle.site_message.specs.Wire.{NamesAscend}
 use Rattle.site_model.specs.Bundle.{option_list, distinct_vars, known_equations, reachable_equations, insert_ascending, ascending, bundle_from}
-use Rattle.site_model.specs.Laws.{names_of}
+use Rattle.site_model.specs.Laws.{left_names}
 use Rattle.marshal.specs.Marshal.{equations_among, IsNext}
 use Rattle.marshal.proofs.ImportLemmas.{distinct_append}
 use Rattle.marshal.proofs.BreadthLemmas.{IsFirst, IsWalk, walk_begins, walk_goes_on, walk_ends, known_append}
@@ -48,29 +48,29 @@ no_value ((y, r) ∷ s) x free = go (equal_var y x) refl (no_value s x (λ t k. 
 among_more : (s : Store) (xs : List VarName) (x : VarName) → equations_among s (xs ++ x ∷ []) ≡ equations_among s xs ++ known_equations s (distinct_vars (distinct_vars [] xs) (x ∷ []))
 among_more s xs x = ap (λ (l : List VarName). known_equations s l) (distinct_append xs (x ∷ []) []) ∙ known_append s (distinct_vars [] xs) (distinct_vars (distinct_vars [] xs) (x ∷ []))
 
-taken_seen : (s : Store) (x : VarName) (xs : List VarName) → list_any (equal_var x) (names_of (known_equations s xs)) ≡ true → list_any (equal_var x) xs ≡ true
+taken_seen : (s : Store) (x : VarName) (xs : List VarName) → list_any (equal_var x) (left_names (known_equations s xs)) ≡ true → list_any (equal_var x) xs ≡ true
 taken_seen s x [] h = h
 taken_seen s x (y ∷ xs) h = go (equal_var x y) (value_of equal_var s y) refl h (λ k. taken_seen s x xs k)
   where
-    go : (b : Bool) (o : Option Term) → equal_var x y ≡ b → list_any (equal_var x) (names_of (map (λ (t : Term). (y, t)) (option_list o) ++ known_equations s xs)) ≡ true →
-        (list_any (equal_var x) (names_of (known_equations s xs)) ≡ true → list_any (equal_var x) xs ≡ true) → (b || list_any (equal_var x) xs) ≡ true
+    go : (b : Bool) (o : Option Term) → equal_var x y ≡ b → list_any (equal_var x) (left_names (map (λ (t : Term). (y, t)) (option_list o) ++ known_equations s xs)) ≡ true →
+        (list_any (equal_var x) (left_names (known_equations s xs)) ≡ true → list_any (equal_var x) xs ≡ true) → (b || list_any (equal_var x) xs) ≡ true
     go true o e k ih = refl
     go false None e k ih = ih k
-    go false (Some t) e k ih = ih (subst (λ (b : Bool). (b || list_any (equal_var x) (names_of (known_equations s xs))) ≡ true) e k)
+    go false (Some t) e k ih = ih (subst (λ (b : Bool). (b || list_any (equal_var x) (left_names (known_equations s xs))) ≡ true) e k)
 
-new_unseen : (s : Store) (x : VarName) (t : Term) (xs : List VarName) → value_of equal_var s x ≡ Some t → list_any (equal_var x) (names_of (known_equations s xs)) ≡ false → list_any (equal_var x) xs ≡ false
+new_unseen : (s : Store) (x : VarName) (t : Term) (xs : List VarName) → value_of equal_var s x ≡ Some t → list_any (equal_var x) (left_names (known_equations s xs)) ≡ false → list_any (equal_var x) xs ≡ false
 new_unseen s x t [] e h = refl
 new_unseen s x t (y ∷ xs) e h = go (equal_var x y) (value_of equal_var s y) refl refl h (λ k. new_unseen s x t xs e k)
   where
-    go : (b : Bool) (o : Option Term) → equal_var x y ≡ b → value_of equal_var s y ≡ o → list_any (equal_var x) (names_of (map (λ (r : Term). (y, r)) (option_list o) ++ known_equations s xs)) ≡ false →
-        (list_any (equal_var x) (names_of (known_equations s xs)) ≡ false → list_any (equal_var x) xs ≡ false) → (b || list_any (equal_var x) xs) ≡ false
+    go : (b : Bool) (o : Option Term) → equal_var x y ≡ b → value_of equal_var s y ≡ o → list_any (equal_var x) (left_names (map (λ (r : Term). (y, r)) (option_list o) ++ known_equations s xs)) ≡ false →
+        (list_any (equal_var x) (left_names (known_equations s xs)) ≡ false → list_any (equal_var x) xs ≡ false) → (b || list_any (equal_var x) xs) ≡ false
     go true None q v k ih =
         let same : x ≡ y = (same_name_decides x y).0 q in
         let some : value_of equal_var s y ≡ Some t = subst (λ (z : VarName). value_of equal_var s z ≡ Some t) same e in
         cc
-    go true (Some r) q v k ih = let yes : (true || list_any (equal_var x) (names_of (known_equations s xs))) ≡ false = subst (λ (b : Bool). (b || list_any (equal_var x) (names_of (known_equations s xs))) ≡ false) q k in cc
+    go true (Some r) q v k ih = let yes : (true || list_any (equal_var x) (left_names (known_equations s xs))) ≡ false = subst (λ (b : Bool). (b || list_any (equal_var x) (left_names (known_equations s xs))) ≡ false) q k in cc
     go false None q v k ih = ih k
-    go false (Some r) q v k ih = ih (subst (λ (b : Bool). (b || list_any (equal_var x) (names_of (known_equations s xs))) ≡ false) q k)
+    go false (Some r) q v k ih = ih (subst (λ (b : Bool). (b || list_any (equal_var x) (left_names (known_equations s xs))) ≡ false) q k)
 
 -- a variable without an equation, or whose equation was taken, adds nothing
 free_adds_nothing : (s : Store) (seen : List VarName) (x : VarName) → value_of equal_var s x ≡ None → known_equations s (distinct_vars seen (x ∷ [])) ≡ []
@@ -83,17 +83,17 @@ free_adds_nothing s seen x e = go (list_any (equal_var x) seen)
 free_passed : (s : Store) (xs : List VarName) (x : VarName) → IsFree s x → equations_among s (xs ++ x ∷ []) ≡ equations_among s xs
 free_passed s xs x free = among_more s xs x ∙ (ap (λ (l : List Equation). equations_among s xs ++ l) (free_adds_nothing s (distinct_vars [] xs) x (no_value s x free)) ∙ append-nil (equations_among s xs))
 
-taken_passed : (s : Store) (xs : List VarName) (taken : List Equation) (x : VarName) → taken ≡ ascending (equations_among s xs) → list_any (equal_var x) (names_of taken) ≡ true → equations_among s (xs ++ x ∷ []) ≡ equations_among s xs
+taken_passed : (s : Store) (xs : List VarName) (taken : List Equation) (x : VarName) → taken ≡ ascending (equations_among s xs) → list_any (equal_var x) (left_names taken) ≡ true → equations_among s (xs ++ x ∷ []) ≡ equations_among s xs
 taken_passed s xs taken x e h =
     among_more s xs x
     ∙ (ap (λ (b : Bool). equations_among s xs ++ known_equations s (cond b [] (x ∷ []))) (taken_seen s x (distinct_vars [] xs) there) ∙ append-nil (equations_among s xs))
   where
-    there : list_any (equal_var x) (names_of (equations_among s xs)) ≡ true
-    there = sym (ap (λ (l : List Equation). list_any (equal_var x) (names_of l)) e ∙ ascending_names (equal_var x) (equations_among s xs)) ∙ h
+    there : list_any (equal_var x) (left_names (equations_among s xs)) ≡ true
+    there = sym (ap (λ (l : List Equation). list_any (equal_var x) (left_names l)) e ∙ ascending_names (equal_var x) (equations_among s xs)) ∙ h
 
 -- so the places that add nothing are passed
 pub passed_more : (s : Store) (queue : List VarName) (from place : ℕ) (taken : List Equation) (d : VarName) → place < length queue → taken ≡ ascending (equations_among s (take from queue)) →
-    IsFree s (get_or queue place d) ⊎ (list_any (equal_var (get_or queue place d)) (names_of taken) ≡ true) →
+    IsFree s (get_or queue place d) ⊎ (list_any (equal_var (get_or queue place d)) (left_names taken) ≡ true) →
     equations_among s (take place queue) ≡ equations_among s (take from queue) → equations_among s (take (place + 1) queue) ≡ equations_among s (take from queue)
 passed_more s queue from place taken d at e (inl free) h =
     ap (λ (l : List VarName). equations_among s l) (take_more queue place d at) ∙ (free_passed s (take place queue) (get_or queue place d) free ∙ h)
@@ -102,7 +102,7 @@ passed_more s queue from place taken d at e (inr there) h =
     ∙ (taken_passed s (take place queue) taken (get_or queue place d) (e ∙ ap (λ (l : List Equation). ascending l) (sym h)) there ∙ h)
 
 -- another one adds its equation
-new_taken : (s : Store) (xs : List VarName) (x : VarName) (t : Term) → value_of equal_var s x ≡ Some t → list_any (equal_var x) (names_of (equations_among s xs)) ≡ false → equations_among s (xs ++ x ∷ []) ≡ equations_among s xs ++ (x, t) ∷ []
+new_taken : (s : Store) (xs : List VarName) (x : VarName) (t : Term) → value_of equal_var s x ≡ Some t → list_any (equal_var x) (left_names (equations_among s xs)) ≡ false → equations_among s (xs ++ x ∷ []) ≡ equations_among s xs ++ (x, t) ∷ []
 new_taken s xs x t e new =
     among_more s xs x
     ∙ (ap (λ (b : Bool). equations_among s xs ++ known_equations s (cond b [] (x ∷ []))) (new_unseen s x t (distinct_vars [] xs) e new)
@@ -143,11 +143,11 @@ gathered_more s xs queue queue2 from place count taken taken2 t d forest h next 
     value : value_of equal_var s x ≡ Some t
     value = only_value s x t (λ r k. forest.one x r t k (next.known d)) (next.known d)
 
-    new : list_any (equal_var x) (names_of es) ≡ false
-    new = sym (ap (λ (l : List Equation). list_any (equal_var x) (names_of l)) h.order ∙ ascending_names (equal_var x) es) ∙ next.new d
+    new : list_any (equal_var x) (left_names es) ≡ false
+    new = sym (ap (λ (l : List Equation). list_any (equal_var x) (left_names l)) h.order ∙ ascending_names (equal_var x) es) ∙ next.new d
 
-    new_there : list_any (equal_var x) (names_of (equations_among s (take place queue))) ≡ false
-    new_there = ap (λ (l : List Equation). list_any (equal_var x) (names_of l)) next.passed ∙ new
+    new_there : list_any (equal_var x) (left_names (equations_among s (take place queue))) ≡ false
+    new_there = ap (λ (l : List Equation). list_any (equal_var x) (left_names l)) next.passed ∙ new
 
     added : equations_among s (take (place + 1) queue) ≡ es ++ e ∷ []
     added =

@@ -10,7 +10,7 @@ use Rattle.tree_node.proofs.NameLemmas.{below_trans}
 use Rattle.kernel_syntax.proofs.OrderLemmas.{Each-at}
 use Rattle.site_message.specs.Wire.{NamesAscend}
 use Rattle.site_model.specs.Bundle.{is_below, insert_ascending}
-use Rattle.site_model.specs.Laws.{names_of}
+use Rattle.site_model.specs.Laws.{left_names}
 use Rattle.site_model.proofs.AscendingLemmas.{below_yes}
 
 is_so : (a b : VarName) → IsBelow a b → is_below a b ≡ true
@@ -55,28 +55,28 @@ place_rest e es x place h = (
   λ k d low high. h.1 (suc k) d (omega arith) (omega arith),
 )
 
-absent : (es : List Equation) (e x : VarName) → Each (λ (d : Equation). IsBelow e d.0) es → is_below e x ≡ false → list_any (equal_var x) (names_of es) ≡ false
+absent : (es : List Equation) (e x : VarName) → Each (λ (d : Equation). IsBelow e d.0) es → is_below e x ≡ false → list_any (equal_var x) (left_names es) ≡ false
 absent [] e x h above = refl
-absent (d ∷ es) e x h above = ap (λ (b : Bool). b || list_any (equal_var x) (names_of es)) (above_differs e d.0 x h.0 above) ∙ absent es e x h.1 above
+absent (d ∷ es) e x h above = ap (λ (b : Bool). b || list_any (equal_var x) (left_names es)) (above_differs e d.0 x h.0 above) ∙ absent es e x h.1 above
 
 -- behind all of them it is none of theirs
-pub place_behind : (es : List Equation) (x : VarName) (place : ℕ) → IsPlace es x place → length es ≤ place → list_any (equal_var x) (names_of es) ≡ false
+pub place_behind : (es : List Equation) (x : VarName) (place : ℕ) → IsPlace es x place → length es ≤ place → list_any (equal_var x) (left_names es) ≡ false
 place_behind [] x place h all = refl
 place_behind (e ∷ es) x zero h all = absurd (omega arith)
 place_behind (e ∷ es) x (suc place) h all =
-    ap (λ (b : Bool). b || list_any (equal_var x) (names_of es)) (below_differs e.0 x (h.0 0 e (omega arith) (omega arith))) ∙ place_behind es x place (place_rest e es x place h) (omega arith)
+    ap (λ (b : Bool). b || list_any (equal_var x) (left_names es)) (below_differs e.0 x (h.0 0 e (omega arith) (omega arith))) ∙ place_behind es x place (place_rest e es x place h) (omega arith)
 
 or_none : (b c : Bool) → c ≡ false → (b || c) ≡ b
 or_none true c e = refl
 or_none false c e = e
 
 -- else it is one of theirs exactly where it stands at its place
-pub place_holds : (es : List Equation) (x : VarName) (place : ℕ) (d : Equation) → NamesAscend es → IsPlace es x place → place < length es → list_any (equal_var x) (names_of es) ≡ equal_var x (get_or es place d).0
+pub place_holds : (es : List Equation) (x : VarName) (place : ℕ) (d : Equation) → NamesAscend es → IsPlace es x place → place < length es → list_any (equal_var x) (left_names es) ≡ equal_var x (get_or es place d).0
 place_holds [] x place d order h inside = absurd (omega arith)
 place_holds (e ∷ es) x zero d order h inside =
-    or_none (equal_var x e.0) (list_any (equal_var x) (names_of es)) (absent es e.0 x (ascend_rest e es order).0 (h.1 0 e (omega arith) (omega arith)))
+    or_none (equal_var x e.0) (list_any (equal_var x) (left_names es)) (absent es e.0 x (ascend_rest e es order).0 (h.1 0 e (omega arith) (omega arith)))
 place_holds (e ∷ es) x (suc place) d order h inside =
-    ap (λ (b : Bool). b || list_any (equal_var x) (names_of es)) (below_differs e.0 x (h.0 0 e (omega arith) (omega arith)))
+    ap (λ (b : Bool). b || list_any (equal_var x) (left_names es)) (below_differs e.0 x (h.0 0 e (omega arith) (omega arith)))
     ∙ place_holds es x place d (ascend_rest e es order).1 (place_rest e es x place h) (omega arith)
 
 -- ---- an equation is put in at the place of its name

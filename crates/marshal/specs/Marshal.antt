@@ -8,7 +8,7 @@ use Rattle.tree_node.specs.Store.{Store, Equation, equal_var}
 use Rattle.tree_store.specs.Contents.{Contents as Held}
 use Rattle.site_message.specs.Vars.{vars_of}
 use Rattle.site_model.specs.Bundle.{distinct_vars, known_equations}
-use Rattle.site_model.specs.Laws.{names_of}
+use Rattle.site_model.specs.Laws.{left_names}
 
 -- ---- what goes out
 
@@ -31,7 +31,7 @@ pub record IsNext (s : Store) (queue : List VarName) (from : ℕ) (taken : List 
   pub there : place < length queue
   pub passed : equations_among s (take place queue) ≡ equations_among s (take from queue)
   pub known : (d : VarName) → Contains s (get_or queue place d, t)
-  pub new : (d : VarName) → list_any (equal_var (get_or queue place d)) (names_of taken) ≡ false
+  pub new : (d : VarName) → list_any (equal_var (get_or queue place d)) (left_names taken) ≡ false
 
 -- ---- what comes in
 

@@ -8,7 +8,7 @@ ghost use Rattle.tree_node.specs.Store.{Equation, IsFree, equal_var};
 ghost use Rattle.site_message.specs.Vars.{vars_of as term_vars};
 ghost use Rattle.site_message.specs.Wire.{NamesAscend};
 ghost use Rattle.site_model.specs.Bundle.{is_below as below, insert_ascending, ascending, bundle_from};
-ghost use Rattle.site_model.specs.Laws.{names_of};
+ghost use Rattle.site_model.specs.Laws.{left_names};
 ghost use Rattle.marshal.specs.Marshal.{IsReachedEquation, IsNext, equations_among};
 
 use crate::vars::vars_of;
@@ -101,8 +101,8 @@ fn next<'a>(
 fn untaken<'a>(store: &'a Store, taken: &[(VarName, Term)], var: VarName) -> Option<&'a Term>
     requires { NamesAscend taken.now }
     ensures known { IfSome result (λ t. Contains store.now.equations (var, t.now)) }
-    ensures new { IfSome result (λ _. list_any (equal_var var) (names_of taken.now) ≡ false) }
-    ensures none { IfNone result (IsFree store.now.equations var ⊎ (list_any (equal_var var) (names_of taken.now) ≡ true)) }
+    ensures new { IfSome result (λ _. list_any (equal_var var) (left_names taken.now) ≡ false) }
+    ensures none { IfNone result (IsFree store.now.equations var ⊎ (list_any (equal_var var) (left_names taken.now) ≡ true)) }
 {
     if is_taken(taken, var) {
         return None;
@@ -113,7 +113,7 @@ fn untaken<'a>(store: &'a Store, taken: &[(VarName, Term)], var: VarName) -> Opt
 // Whether the equation of a variable was taken.
 fn is_taken(taken: &[(VarName, Term)], var: VarName) -> bool
     requires { NamesAscend taken.now }
-    ensures { result ≡ list_any (equal_var var) (names_of taken.now) }
+    ensures { result ≡ list_any (equal_var var) (left_names taken.now) }
 {
     let place = place_of(taken, var);
     place < taken.len() && taken[place].0 == var

@@ -2,7 +2,7 @@
 
 ghost use Rattle.std.specs.Prelude.{◌≡◌, IfOk};
 ghost use Rattle.site_message.specs.Vars.{vars_of as term_vars};
-ghost use Rattle.site_model.specs.Bundle.{bundled, bundle_from};
+ghost use Rattle.site_model.specs.Bundle.{with_own_bundle, bundle_of, with_bundle, bundle_from};
 
 use crate::exporting::{export, export_from};
 use crate::vars::vars_of;
@@ -14,53 +14,64 @@ use tree_store::Store;
 /// The message with its bundle: the first known equations that are reached from a new thread's variables, from those of a term
 /// that is told or asked for, or from a cell's content. A message of another kind has none.
 pub fn pack(alloc: Global, store: &Store, sent: Sent, limit: usize) -> Result<Sent, AllocError>
-    ensures { IfOk result (λ m. m ≡ bundled limit store.now.equations sent) }
+    ensures { IfOk result (λ m. m ≡ with_own_bundle limit store.now.equations sent) }
 {
     let Sent { to, msg } = sent;
-    let msg = match msg {
+    let bundle = bundle_of(alloc, store, &msg, limit)?;
+    Ok(Sent {
+        to,
+        msg: with_bundle(msg, bundle),
+    })
+}
+
+// The bundle of a message, empty where its kind has none.
+fn bundle_of(alloc: Global, store: &Store, msg: &Msg, limit: usize) -> Result<Bundle, AllocError>
+    ensures { IfOk result (λ b. with_bundle b msg.now ≡ with_bundle (bundle_of limit store.now.equations msg.now) msg.now) }
+{
+    match msg {
+        Msg::Spawn { vars, .. } => export_from(alloc, store, vars.as_slice(), limit),
+        Msg::BindReq { term, .. } => export_term(alloc, store, term, limit),
+        Msg::Binding { term, .. } => export_term(alloc, store, term, limit),
+        Msg::Put { content, .. } => export(alloc, store, *content, limit),
+        _ => Ok(Bundle::new()),
+    }
+}
+
+// The message with this bundle, where its kind has one.
+fn with_bundle(msg: Msg, bundle: Bundle) -> Msg
+    ensures { result ≡ with_bundle bundle msg }
+{
+    match msg {
         Msg::Spawn {
             thread,
             code,
             vars,
             ..
-        } => {
-            let bundle = export_from(alloc, store, vars.as_slice(), limit)?;
-            Msg::Spawn {
-                thread,
-                code,
-                vars,
-                bundle,
-            }
-        }
+        } => Msg::Spawn {
+            thread,
+            code,
+            vars,
+            bundle,
+        },
         Msg::BindReq {
             var,
             thread,
             term,
             ..
-        } => {
-            let bundle = export_term(alloc, store, &term, limit)?;
-            Msg::BindReq {
-                var,
-                thread,
-                term,
-                bundle,
-            }
-        }
-        Msg::Binding { var, term, .. } => {
-            let bundle = export_term(alloc, store, &term, limit)?;
-            Msg::Binding { var, term, bundle }
-        }
-        Msg::Put { cell, content, .. } => {
-            let bundle = export(alloc, store, content, limit)?;
-            Msg::Put {
-                cell,
-                content,
-                bundle,
-            }
-        }
+        } => Msg::BindReq {
+            var,
+            thread,
+            term,
+            bundle,
+        },
+        Msg::Binding { var, term, .. } => Msg::Binding { var, term, bundle },
+        Msg::Put { cell, content, .. } => Msg::Put {
+            cell,
+            content,
+            bundle,
+        },
         other => other,
-    };
-    Ok(Sent { to, msg })
+    }
 }
 
 // The first known equations that are reached from the variables of a term.

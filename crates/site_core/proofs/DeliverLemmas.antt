@@ -18,8 +18,8 @@ use Rattle.site_message.specs.declared.message.Msg.TheVariants as msg
 use Rattle.site_message.specs.Vars.{vars_of}
 use Rattle.variable_owner.specs.Owners.{Owned, owner_of, sites_of, IsMade as IsOwned}
 use Rattle.oz_model.proofs.NameLemmas.{Each-weaker}
-use Rattle.thread_machine.specs.declared.fresh.Fresh.{Fresh}
-use Rattle.thread_machine.specs.declared.fresh.Fresh.TheVariants as fresh
+use Rattle.name_supply.specs.declared.fresh.Fresh.{Fresh}
+use Rattle.name_supply.specs.declared.fresh.Fresh.TheVariants as fresh
 use Rattle.thread_machine.specs.Fits.{TermFits}
 use Rattle.thread_machine.specs.Running.{Running}
 use Rattle.thread_machine.specs.Supply.{site_in, IsMade}

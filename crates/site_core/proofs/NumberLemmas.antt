@@ -20,7 +20,7 @@ use Rattle.proxy_table.specs.Proxies as proxies
 use Rattle.token_chain.specs.declared.token.Token.{Token}
 use Rattle.token_chain.specs.declared.token.Token.TheVariants.{Away, Asked, Here}
 use Rattle.site_model.specs.Site.{Site, ThreadState, thread_state, cell_record}
-use Rattle.site_model.specs.Bundle.{bundled, message_vars, message_bundle}
+use Rattle.site_model.specs.Bundle.{with_own_bundle, message_vars, message_bundle}
 use Rattle.site_model.specs.Transition.{Transition, without_output, with_messages}
 use Rattle.site_model.specs.Variables.{after_makes, with_known_equation_as, with_known_equation, with_known_equations, own_binds, opening}
 use Rattle.site_model.specs.Cells.{serving, after_exchange, after_exchange_as, content_after_exchange, with_exchange_waiting, with_own_request, with_last_asker}
@@ -110,7 +110,7 @@ birth_number p n limit None s = refl
 birth_number p n limit (Some b) s = go (placement n s.records.site b.at == s.records.site)
   where
     born : Sent
-    born = bundled limit s.equations (sent_message (placement n s.records.site b.at) (msg.Spawn b.name b.code b.vars []))
+    born = with_own_bundle limit s.equations (sent_message (placement n s.records.site b.at) (msg.Spawn b.name b.code b.vars []))
 
     go : (here : Bool) → number_after (cond here (without_output (with_thread p (Some b) s)) (with_messages s (born ∷ []))) ≡ number_of s
     go true = refl

@@ -13,8 +13,8 @@ use Rattle.kernel_syntax.specs.Program.{IsProgram}
 use Rattle.oz_model.specs.Run.{first_thread}
 use Rattle.oz_model.specs.Run as model
 use Rattle.bind_protocol.specs.Records.{Records}
-use Rattle.thread_machine.specs.declared.fresh.Fresh.{Fresh}
-use Rattle.thread_machine.specs.declared.fresh.Fresh.TheVariants as fresh
+use Rattle.name_supply.specs.declared.fresh.Fresh.{Fresh}
+use Rattle.name_supply.specs.declared.fresh.Fresh.TheVariants as fresh
 use Rattle.thread_machine.specs.Fits.{EquationsFit}
 use Rattle.thread_machine.specs.Running.{Running}
 use Rattle.thread_machine.specs.Supply.{site_in, IsMade, HasMade, AreBelow}

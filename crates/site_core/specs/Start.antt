@@ -6,7 +6,7 @@ use Rattle.tree_node.specs.Env.{env_for}
 use Rattle.kernel_syntax.specs.declared.stmt.Stmt.{Stmt}
 use Rattle.kernel_syntax.specs.Free.{free}
 use Rattle.oz_model.specs.Run.{first_thread}
-use Rattle.thread_machine.specs.declared.fresh.Fresh.TheVariants.{Counted}
+use Rattle.name_supply.specs.declared.fresh.Fresh.TheVariants.{Counted}
 use Rattle.thread_machine.specs.Running.{Running}
 use Rattle.thread_roster.specs.declared.mode.Mode.TheVariants.{Runs}
 use Rattle.thread_roster.specs.Threads.{Entry}

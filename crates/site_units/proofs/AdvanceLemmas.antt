@@ -12,10 +12,10 @@ use Rattle.tree_node.specs.State.{equal_thread}
 use Rattle.tree_store.specs.Contents.{Contents}
 use Rattle.kernel_syntax.specs.declared.stmt.Stmt.{Stmt}
 use Rattle.thread_machine.specs.declared.answer.StepOut.{StepOut}
-use Rattle.thread_machine.specs.declared.fresh.Fresh.{Fresh}
-use Rattle.thread_machine.specs.declared.fresh.Fresh.TheVariants as fresh
+use Rattle.name_supply.specs.declared.fresh.Fresh.{Fresh}
+use Rattle.name_supply.specs.declared.fresh.Fresh.TheVariants as fresh
 use Rattle.thread_machine.specs.Running.{Running}
-use Rattle.thread_machine.specs.Step.{IsStep, Fits, OutFits, HasPlace, fresh_of}
+use Rattle.thread_machine.specs.Step.{IsStep, Fits, OutFits, HasThreadSite, fresh_of}
 use Rattle.thread_machine.specs.Supply.{CanName, IsCounted, site_in, IsMade, HasMade, AreBelow}
 use Rattle.thread_roster.specs.declared.mode.Mode.{Mode}
 use Rattle.thread_roster.specs.declared.mode.Mode.TheVariants as mode
@@ -47,7 +47,7 @@ pub can_name : (p : List Stmt) (c : Core) (kinds : List NameKind) → IsConsiste
 can_name p c kinds h small = names_for_steps c.variables.store kinds c.fresh c.variables.binder.site c.steps h.site small h.below h.known_made
 
 pub stepped : (p : List Stmt) (c0 c1 : Core) (th : ThreadName) (r v q : Running) (o : StepOut) → IsConsistent p c0 → IsRunning c0 th r → v ≡ r → c0.steps < 2 ^ 50 → IsStep p v c0.variables.store c0.fresh o q c1.variables.store c1.fresh →
-    Fits p q c1.variables.store → OutFits p c1.variables.store.known o → HasPlace o → (IsCounted c0.fresh → Each (λ (x : Name). IsMade c0.fresh x → ⊥) (fresh_of o)) → (IsCounted c0.fresh → Each (HasMade c1.fresh) (fresh_of o)) →
+    Fits p q c1.variables.store → OutFits p c1.variables.store.known o → HasThreadSite o → (IsCounted c0.fresh → Each (λ (x : Name). IsMade c0.fresh x → ⊥) (fresh_of o)) → (IsCounted c0.fresh → Each (HasMade c1.fresh) (fresh_of o)) →
     ((x : Name) → IsMade c0.fresh x → IsMade c1.fresh x) → site_in c1.fresh ≡ site_in c0.fresh → ((n : ℕ) → AreBelow n c0.fresh → AreBelow (n + 64) c1.fresh) → c1.threads.living ≡ set_value c0.threads.living th q →
     c1.threads.ended ≡ c0.threads.ended → c1.variables.binder ≡ c0.variables.binder → c1.cells ≡ c0.cells → c1.sites ≡ c0.sites → c1.steps ≡ c0.steps → IsStepping p c0 c1 th r q o
 stepped p c0 c1 th r v q o h runs same room step fits handed place unmade made stays site few living ended records cells sites steps =

@@ -23,8 +23,8 @@ use Rattle.oz_model.proofs.NameLemmas.{Each-weaker}
 use Rattle.site_message.specs.declared.message.Msg.TheVariants as msg
 use Rattle.thread_machine.specs.declared.answer.StepOut.{StepOut}
 use Rattle.thread_machine.specs.declared.answer.StepOut.TheVariants as out
-use Rattle.thread_machine.specs.declared.fresh.Fresh.{Fresh}
-use Rattle.thread_machine.specs.declared.fresh.Fresh.TheVariants as fresh
+use Rattle.name_supply.specs.declared.fresh.Fresh.{Fresh}
+use Rattle.name_supply.specs.declared.fresh.Fresh.TheVariants as fresh
 use Rattle.thread_machine.specs.Fits.{StackFits}
 use Rattle.thread_machine.specs.Running.{Running}
 use Rattle.thread_machine.specs.Supply.{names_for, IsCounted, site_in, IsMade, HasMade}
@@ -35,7 +35,7 @@ use Rattle.thread_roster.proofs.ThreadLemmas.{each_found}
 use Rattle.thread_roster.proofs.NameLemmas.{is_other}
 use Rattle.token_chain.specs.Holding.{here_with}
 use Rattle.site_model.specs.Site.{Site, CellRecord, ThreadState, cell_record_in}
-use Rattle.site_model.specs.Bundle.{bundled}
+use Rattle.site_model.specs.Bundle.{with_own_bundle}
 use Rattle.site_model.specs.Transition.{Transition, without_output, with_messages}
 use Rattle.site_model.specs.Messages.{with_thread}
 use Rattle.site_model.specs.Unit.{IsUnit, placement, birth_row, with_stack, with_fresh_names, after_cell, next_names}
@@ -46,7 +46,7 @@ use Rattle.site_units.specs.declared.data.Core.{Core}
 use Rattle.site_units.specs.declared.data.Output.{Output}
 use Rattle.site_units.specs.Core.{site_of, stack_in, counters_of}
 use Rattle.site_units.specs.Facts.{ThreadFits, IsAwaiting, CellFits, CellsFit, IsConsistent}
-use Rattle.site_units.specs.Units.{IsStepping, IsFinished, IsUnitMade, settled}
+use Rattle.site_units.specs.Units.{IsStepping, IsFinished, IsUnitMade, without_ended}
 use Rattle.site_units.proofs.ThreadLemmas.{Living, other_set, other_without}
 use Rattle.site_units.proofs.FreshLemmas.{counted_in, makes_site}
 use Rattle.oz_model.proofs.BirthLemmas.{BornBy, stack_born}
@@ -138,7 +138,7 @@ lives_apart : (ts : Living) (n m : ThreadName) (r : Running) → value_of equal_
 lives_apart ts n m r runs none same =
     let both : ◌≡◌ {A = Option (Running × Mode)} (Some (r, mode.Runs)) None = sym runs ∙ (ap (λ (x : ThreadName). value_of equal_thread ts x) same ∙ none) in cc
 
-settled_other : (ts : Living) (n m : ThreadName) (q : Running) (st : Stack) → n ≢ m → value_of equal_thread (settled (set_value ts n q) n st) m ≡ value_of equal_thread ts m
+settled_other : (ts : Living) (n m : ThreadName) (q : Running) (st : Stack) → n ≢ m → value_of equal_thread (without_ended (set_value ts n q) n st) m ≡ value_of equal_thread ts m
 settled_other ts n m q [] apart = other_without (set_value ts n q) n m apart ∙ other_set ts n m q apart
 settled_other ts n m q (i ∷ is) apart = other_set ts n m q apart
 
@@ -222,7 +222,7 @@ module _ (p : List Stmt) (c0 c c1 : Core) (o0 o1 : Output) (th : ThreadName) (r 
   -- the name of the new thread is new
   pub born_new : value_of equal_thread c1.threads.living n ≡ None
   born_new =
-      ap (λ (l : Living). value_of equal_thread l n) (f.living ∙ ap (λ (l : Living). settled l th q.stack) h.living)
+      ap (λ (l : Living). value_of equal_thread l n) (f.living ∙ ap (λ (l : Living). without_ended l th q.stack) h.living)
       ∙ (settled_other c0.threads.living th n q q.stack (lives_apart c0.threads.living th n r h.running not_here) ∙ not_here)
 
   -- the site before the birth, and what was done so far
@@ -236,9 +236,9 @@ module _ (p : List Stmt) (c0 c c1 : Core) (o0 o1 : Output) (th : ThreadName) (r 
   own = makes_site c0.variables.binder (vars_among (next_names c0.variables.binder.site (counters_of c0.fresh) taken.goes.takes.kinds))
 
   births : (b : Bool) → (placement c0.sites c0.variables.binder.site at == c0.variables.binder.site) ≡ b →
-      birth_row p c0.sites 0 (Some birth) begun ≡ cond b (without_output (with_thread p (Some birth) begun)) (with_messages begun (bundled 0 begun.equations (sent_message (placement c0.sites begun.records.site at) (msg.Spawn n code vars [])) ∷ []))
+      birth_row p c0.sites 0 (Some birth) begun ≡ cond b (without_output (with_thread p (Some birth) begun)) (with_messages begun (with_own_bundle 0 begun.equations (sent_message (placement c0.sites begun.records.site at) (msg.Spawn n code vars [])) ∷ []))
   births b e =
-      ap (λ (z : Bool). cond z (without_output (with_thread p (Some birth) begun)) (with_messages begun (bundled 0 begun.equations (sent_message (placement c0.sites begun.records.site at) (msg.Spawn n code vars [])) ∷ [])))
+      ap (λ (z : Bool). cond z (without_output (with_thread p (Some birth) begun)) (with_messages begun (with_own_bundle 0 begun.equations (sent_message (placement c0.sites begun.records.site at) (msg.Spawn n code vars [])) ∷ [])))
       (subst (λ (i : ℕ). (placement c0.sites i at == i) ≡ b) (sym own) e)
 
   unit : IsUnit p c0.sites 0 th (site_of c0) whole

@@ -20,8 +20,8 @@ use Rattle.variable_owner.specs.Owners.{Owned, owner_of}
 use Rattle.variable_owner.specs.Owners.{IsMade as IsOwned}
 use Rattle.proxy_table.specs.Proxies.{entry_of}
 use Rattle.variable_owner.specs.declared.owners.Asked.{Asked}
-use Rattle.thread_machine.specs.declared.fresh.Fresh.{Fresh}
-use Rattle.thread_machine.specs.declared.fresh.Fresh.TheVariants as fresh
+use Rattle.name_supply.specs.declared.fresh.Fresh.{Fresh}
+use Rattle.name_supply.specs.declared.fresh.Fresh.TheVariants as fresh
 use Rattle.thread_machine.specs.Fits.{IsKnown as IsAmong, TermFits, EquationsFit}
 use Rattle.thread_machine.specs.Running.{Running}
 use Rattle.thread_machine.specs.Supply.{site_in, IsMade}

@@ -25,7 +25,7 @@ use Rattle.variable_owner.specs.Owners.{owner_of}
 use Rattle.proxy_table.specs.Proxies.{entry_of}
 use Rattle.site_message.specs.declared.message.Msg.{Msg}
 use Rattle.site_message.specs.Vars.{vars_of, field_vars}
-use Rattle.thread_machine.specs.declared.fresh.Fresh.{Fresh}
+use Rattle.name_supply.specs.declared.fresh.Fresh.{Fresh}
 use Rattle.thread_machine.specs.Fits.{IsKnown as IsAmong, TermFits, EquationsFit}
 use Rattle.thread_machine.specs.Running.{Running}
 use Rattle.thread_machine.specs.Supply.{site_in, IsMade, HasMade}

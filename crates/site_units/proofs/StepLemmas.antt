@@ -20,7 +20,7 @@ use Rattle.thread_machine.specs.Running.{Running}
 use Rattle.thread_machine.specs.Step.{Goes, effect_of}
 use Rattle.thread_machine.specs.Fits.{EquationsFit}
 use Rattle.thread_machine.specs.Supply.{names_for, known_after, site_in, IsMade, HasMade, AreBelow}
-use Rattle.thread_machine.specs.declared.fresh.Fresh.{Fresh}
+use Rattle.name_supply.specs.declared.fresh.Fresh.{Fresh}
 use Rattle.thread_machine.proofs.SupplyLemmas.{kept_after, named_after}
 use Rattle.thread_roster.specs.declared.mode.Mode.TheVariants as mode
 use Rattle.thread_roster.specs.Threads.{Entry, set_value}
@@ -36,7 +36,7 @@ use Rattle.site_model.specs.Unit.{IsUnit, IsUnitFor, IsStepOrRequest, step_row, 
 use Rattle.site_units.specs.declared.data.Core.{Core}
 use Rattle.site_units.specs.Core.{site_of, stack_in, counters_of}
 use Rattle.site_units.specs.Facts.{ThreadFits}
-use Rattle.site_units.specs.Units.{IsStepping, IsFinished, settled}
+use Rattle.site_units.specs.Units.{IsStepping, IsFinished, without_ended}
 use Rattle.site_units.proofs.ThreadLemmas.{Living, WaitsStay, threads_settled, thread_found, settled_each, waits_trans, waits_set, waits_settled}
 use Rattle.site_units.proofs.FreshLemmas.{counted_in, names_next, counters_next, made_split, each_var, each_after, makes_site}
 use Rattle.site_units.proofs.NextLemmas.{Next, thread_grows, exchanges_known}
@@ -127,7 +127,7 @@ module _ (p : List Stmt) (c0 c : Core) (th : ThreadName) (r q : Running) (o : St
 
       threads : (site_of c1).threads ≡ (with_stack k.thread q.stack (with_fresh_names t.goes.takes.kinds (site_of c0))).threads
       threads =
-          ap (λ (l : Living). stacks_of stack_in l) (f.living ∙ ap (λ (l : Living). settled l th q.stack) h.living)
+          ap (λ (l : Living). stacks_of stack_in l) (f.living ∙ ap (λ (l : Living). without_ended l th q.stack) h.living)
           ∙ (threads_settled c0.threads.living th r q h.running
           ∙ ap (λ (n : ThreadName). with_optional_value equal_thread (stacks_of stack_in c0.threads.living) n (runnable_state (living_stack q.stack))) (sym thread))
 
@@ -191,10 +191,10 @@ module _ (p : List Stmt) (c0 c : Core) (th : ThreadName) (r q : Running) (o : St
       stored : c1.variables.store.known ≡ c.variables.store.known
       stored = ap (λ (x : Contents). x.known) f.store
 
-      living : c1.threads.living ≡ settled (set_value c0.threads.living th q) th q.stack
-      living = f.living ∙ ap (λ (l : Living). settled l th q.stack) h.living
+      living : c1.threads.living ≡ without_ended (set_value c0.threads.living th q) th q.stack
+      living = f.living ∙ ap (λ (l : Living). without_ended l th q.stack) h.living
 
-      threads : Each (ThreadFits p c.variables.store.known) (settled (set_value c0.threads.living th q) th q.stack)
+      threads : Each (ThreadFits p c.variables.store.known) (without_ended (set_value c0.threads.living th q) th q.stack)
       threads =
           settled_each (ThreadFits p c.variables.store.known) c0.threads.living th q q.stack (λ goes m. record { named = named; goes = goes; fits = h.fits.stack })
           (Each-weaker (ThreadFits p c0.variables.store.known) (ThreadFits p c.variables.store.known) (λ t1 g. thread_grows p c0.variables.store.known c.variables.store.known t1 kept g) c0.threads.living h.consistent.threads)
@@ -205,15 +205,15 @@ module _ (p : List Stmt) (c0 c : Core) (th : ThreadName) (r q : Running) (o : St
       room : 64 * c0.steps + 2 + 64 ≡ 64 * c1.steps + 2
       room = let one : c1.steps ≡ c0.steps + 1 = f.steps ∙ ap (λ (m : ℕ). m + 1) h.steps in omega arith
 
-      threads_made : Each (λ (t : Entry Running). IsMade c.fresh (name.Thread t.0)) (settled (set_value c0.threads.living th q) th q.stack)
+      threads_made : Each (λ (t : Entry Running). IsMade c.fresh (name.Thread t.0)) (without_ended (set_value c0.threads.living th q) th q.stack)
       threads_made =
           settled_each (λ (t : Entry Running). IsMade c.fresh (name.Thread t.0)) c0.threads.living th q q.stack
           (λ goes m. h.stays (name.Thread th) (each_found (λ (t : Entry Running). IsMade c0.fresh (name.Thread t.0)) c0.threads.living th (r, mode.Runs) h.running h.consistent.threads_made))
           (Each-weaker (λ (t : Entry Running). IsMade c0.fresh (name.Thread t.0)) (λ (t : Entry Running). IsMade c.fresh (name.Thread t.0)) (λ t m. h.stays (name.Thread t.0) m) c0.threads.living h.consistent.threads_made)
 
-      waits : WaitsStay c0.threads.living (settled (set_value c0.threads.living th q) th q.stack)
+      waits : WaitsStay c0.threads.living (without_ended (set_value c0.threads.living th q) th q.stack)
       waits =
-          waits_trans c0.threads.living (set_value c0.threads.living th q) (settled (set_value c0.threads.living th q) th q.stack)
+          waits_trans c0.threads.living (set_value c0.threads.living th q) (without_ended (set_value c0.threads.living th q) th q.stack)
           (waits_set c0.threads.living th r q h.running) (waits_settled (set_value c0.threads.living th q) th q q.stack (value_there c0.threads.living th r mode.Runs q h.running))
 
       same_equations : c1.variables.store.equations ≡ c0.variables.store.equations

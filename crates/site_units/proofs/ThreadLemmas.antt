@@ -19,7 +19,7 @@ use Rattle.site_model.specs.Site.{Threads}
 use Rattle.site_model.specs.Unit.{runnable_state}
 use Rattle.site_variables.specs.Variables.{stacks_of}
 use Rattle.site_units.specs.Core.{stack_in}
-use Rattle.site_units.specs.Units.{settled}
+use Rattle.site_units.specs.Units.{without_ended}
 pub use Rattle.thread_roster.proofs.ThreadLemmas.{set_set as value_twice, end_set as without_value}
 
 abbrev pub Living : Type 0
@@ -133,7 +133,7 @@ pub waits_mode : (ts : Living) (n : ThreadName) (r : Running) (k : Mode) → val
 waits_mode ts n r k runs m s c waits =
     other_mode ts n m k (modes_apart ts n m r s (mode.WaitsFor c) runs waits (runs_other c)) ∙ waits
 
-pub waits_settled : (ts : Living) (n : ThreadName) (r : Running) (st : Stack) → value_of equal_thread ts n ≡ Some (r, mode.Runs) → WaitsStay ts (settled ts n st)
+pub waits_settled : (ts : Living) (n : ThreadName) (r : Running) (st : Stack) → value_of equal_thread ts n ≡ Some (r, mode.Runs) → WaitsStay ts (without_ended ts n st)
 waits_settled ts n r [] runs m s c waits =
     other_without ts n m (modes_apart ts n m r s (mode.WaitsFor c) runs waits (runs_other c)) ∙ waits
 waits_settled ts n r (i ∷ is) runs m s c waits = waits
@@ -145,10 +145,10 @@ waits_trans ts us vs h g m s c waits = g m s c (h m s c waits)
 
 -- the thread made its step where it stands, and goes on or has ended
 pub threads_settled : (ts : Living) (n : ThreadName) (r q : Running) → value_of equal_thread ts n ≡ Some (r, mode.Runs) →
-    stacks_of stack_in (settled (set_value ts n q) n q.stack) ≡ with_optional_value equal_thread (stacks_of stack_in ts) n (runnable_state (living_stack q.stack))
+    stacks_of stack_in (without_ended (set_value ts n q) n q.stack) ≡ with_optional_value equal_thread (stacks_of stack_in ts) n (runnable_state (living_stack q.stack))
 threads_settled ts n r q runs = go q.stack refl
   where
-    go : (st : Stack) → q.stack ≡ st → stacks_of stack_in (settled (set_value ts n q) n st) ≡ with_optional_value equal_thread (stacks_of stack_in ts) n (runnable_state (living_stack st))
+    go : (st : Stack) → q.stack ≡ st → stacks_of stack_in (without_ended (set_value ts n q) n st) ≡ with_optional_value equal_thread (stacks_of stack_in ts) n (runnable_state (living_stack st))
     go [] e =
         seen_end (λ (v : Running × Mode). (v.0.stack, v.1)) (set_value ts n q) n
         ∙ (ap (λ (l : Threads). without_key equal_thread l n) (seen_value (λ (v : Running × Mode). (v.0.stack, v.1)) ts n r mode.Runs q runs)
@@ -180,17 +180,17 @@ value_same {W} (t ∷ ts) n w e = go (equal_thread t.0 n) refl e (λ k. value_sa
 
 -- the thread goes on or has ended, and its step was made before
 pub settled_stacks : (ts : Living) (n : ThreadName) (q : Running) → value_of equal_thread ts n ≡ Some (q, mode.Runs) →
-    stacks_of stack_in (settled ts n q.stack) ≡ with_optional_value equal_thread (stacks_of stack_in ts) n (runnable_state (living_stack q.stack))
+    stacks_of stack_in (without_ended ts n q.stack) ≡ with_optional_value equal_thread (stacks_of stack_in ts) n (runnable_state (living_stack q.stack))
 settled_stacks ts n q runs = go q.stack refl
   where
     found : value_of equal_thread (stacks_of stack_in ts) n ≡ Some (q.stack, mode.Runs)
     found = seen_found (λ (v : Running × Mode). (v.0.stack, v.1)) ts n (q, mode.Runs) runs
 
-    go : (st : Stack) → q.stack ≡ st → stacks_of stack_in (settled ts n st) ≡ with_optional_value equal_thread (stacks_of stack_in ts) n (runnable_state (living_stack st))
+    go : (st : Stack) → q.stack ≡ st → stacks_of stack_in (without_ended ts n st) ≡ with_optional_value equal_thread (stacks_of stack_in ts) n (runnable_state (living_stack st))
     go [] e = seen_end (λ (v : Running × Mode). (v.0.stack, v.1)) ts n
     go (i ∷ is) e = sym (value_same (stacks_of stack_in ts) n (i ∷ is, mode.Runs) (subst (λ (st : Stack). value_of equal_thread (stacks_of stack_in ts) n ≡ Some (st, mode.Runs)) e found))
 
-pub settled_keeps : (P : Entry Running → Type 0) (ts : Living) (n : ThreadName) (st : Stack) → Each P ts → Each P (settled ts n st)
+pub settled_keeps : (P : Entry Running → Type 0) (ts : Living) (n : ThreadName) (st : Stack) → Each P ts → Each P (without_ended ts n st)
 settled_keeps P ts n [] all = each_end P ts n all
 settled_keeps P ts n (i ∷ is) all = all
 
@@ -204,7 +204,7 @@ stacks_same ts n r q runs e =
 pub thread_found : (ts : Living) (n : ThreadName) (r : Running) (k : Mode) → value_of equal_thread ts n ≡ Some (r, k) → value_of equal_thread (stacks_of stack_in ts) n ≡ Some (r.stack, k)
 thread_found ts n r k runs = seen_found (λ (v : Running × Mode). (v.0.stack, v.1)) ts n (r, k) runs
 
-pub settled_each : (P : Entry Running → Type 0) (ts : Living) (n : ThreadName) (q : Running) (st : Stack) → (st ≢ [] → (m : Mode) → P (n, (q, m))) → Each P ts → Each P (settled (set_value ts n q) n st)
+pub settled_each : (P : Entry Running → Type 0) (ts : Living) (n : ThreadName) (q : Running) (st : Stack) → (st ≢ [] → (m : Mode) → P (n, (q, m))) → Each P ts → Each P (without_ended (set_value ts n q) n st)
 settled_each P ts n q [] here all = subst (Each P) (sym (without_value ts n q)) (each_end P ts n all)
 settled_each P ts n q (i ∷ is) here all = each_value P ts n q (here not_nil) all
   where

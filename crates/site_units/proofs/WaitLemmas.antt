@@ -14,7 +14,7 @@ use Rattle.oz_model.specs.Need.{Need, Waits, stack_need}
 use Rattle.bind_protocol.specs.Records.{Records}
 use Rattle.thread_machine.specs.declared.answer.StepOut.{StepOut}
 use Rattle.thread_machine.specs.declared.answer.StepOut.TheVariants as out
-use Rattle.thread_machine.specs.declared.fresh.Fresh.{Fresh}
+use Rattle.name_supply.specs.declared.fresh.Fresh.{Fresh}
 use Rattle.thread_machine.specs.Fits.{StackFits, EquationsFit}
 use Rattle.thread_machine.specs.Running.{Running}
 use Rattle.thread_machine.specs.Supply.{site_in, IsMade, HasMade, AreBelow}

@@ -1,7 +1,7 @@
 -- The plain state that a site's data stands for.
 use Rattle.tree_node.specs.State.{Stack}
-use Rattle.thread_machine.specs.declared.fresh.Fresh.{Fresh}
-use Rattle.thread_machine.specs.declared.fresh.Fresh.TheVariants as fresh
+use Rattle.name_supply.specs.declared.fresh.Fresh.{Fresh}
+use Rattle.name_supply.specs.declared.fresh.Fresh.TheVariants as fresh
 use Rattle.thread_machine.specs.Running.{Running}
 use Rattle.site_variables.specs.Variables.{stacks_of}
 use Rattle.site_model.specs.Site.{Site, Counters, zero_counters}

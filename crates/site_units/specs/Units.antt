@@ -12,7 +12,7 @@ use Rattle.oz_model.specs.Step.{end_count}
 use Rattle.thread_machine.specs.declared.answer.StepOut.{StepOut}
 use Rattle.thread_machine.specs.declared.answer.StepOut.TheVariants as out
 use Rattle.thread_machine.specs.Running.{Running}
-use Rattle.thread_machine.specs.Step.{IsStep, Fits, OutFits, HasPlace, fresh_of}
+use Rattle.thread_machine.specs.Step.{IsStep, Fits, OutFits, HasThreadSite, fresh_of}
 use Rattle.thread_machine.specs.Supply.{IsMade, HasMade, site_in, AreBelow}
 use Rattle.thread_roster.specs.declared.mode.Mode.TheVariants.{Runs}
 use Rattle.thread_roster.specs.Threads.{Entry, set_value}
@@ -63,7 +63,7 @@ pub record IsStepping (p : List Stmt) (c0 c : Core) (n : ThreadName) (r q : Runn
   pub step : IsStep p r c0.variables.store c0.fresh out q c.variables.store c.fresh
   pub fits : Fits p q c.variables.store
   pub handed : OutFits p c.variables.store.known out
-  pub place : HasPlace out
+  pub place : HasThreadSite out
   pub unmade : Each (λ (x : Name). IsMade c0.fresh x → ⊥) (fresh_of out)
   pub made : Each (HasMade c.fresh) (fresh_of out)
   pub stays : (x : Name) → IsMade c0.fresh x → IsMade c.fresh x
@@ -91,15 +91,15 @@ abbrev pub IsPicked : List Stmt → Core → Core → ThreadName → Running →
 IsPicked p c0 c n r q out k = IsStepping p c0 c n r q out × (pick_of out ≡ Some k)
 
 -- the thread of a name stays where it stands, or has ended with this stack
-abbrev pub settled : List (Entry Running) → ThreadName → Stack → List (Entry Running)
-settled ts n [] = without_key equal_thread ts n
-settled ts n (i ∷ is) = ts
+abbrev pub without_ended : List (Entry Running) → ThreadName → Stack → List (Entry Running)
+without_ended ts n [] = without_key equal_thread ts n
+without_ended ts n (i ∷ is) = ts
 
 -- the thread made an own step, and goes on or has ended
 pub record IsSettled (c : Core) (n : ThreadName) (q : Running) (c1 : Core) : Type 0 where
   pub variables : c1.variables ≡ c.variables
   pub cells : c1.cells ≡ c.cells
-  pub living : c1.threads.living ≡ settled c.threads.living n q.stack
+  pub living : c1.threads.living ≡ without_ended c.threads.living n q.stack
   pub ended : c1.threads.ended ≡ c.threads.ended + end_count q.stack
   pub fresh : c1.fresh ≡ c.fresh
   pub sites : c1.sites ≡ c.sites
@@ -111,7 +111,7 @@ pub record IsFinished (c : Core) (n : ThreadName) (q : Running) (k : Pick) (c1 :
   pub records : c1.variables.binder ≡ after_makes c.variables.binder (vars_among k.fresh)
   pub linked : IsLinked c1.variables
   pub cells : c1.cells ≡ c.cells
-  pub living : c1.threads.living ≡ settled c.threads.living n q.stack
+  pub living : c1.threads.living ≡ without_ended c.threads.living n q.stack
   pub ended : c1.threads.ended ≡ c.threads.ended + end_count q.stack
   pub fresh : c1.fresh ≡ c.fresh
   pub sites : c1.sites ≡ c.sites

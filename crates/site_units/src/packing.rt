@@ -1,7 +1,7 @@
 //! Messages get their bundles as a unit or a row ends: what the site knows then is what it knew as it sent them.
 
 ghost use Rattle.std.specs.Prelude.{◌≡◌, ◌≤◌, ◌++◌, OnOk, IfOk, length, take, drop};
-ghost use Rattle.site_model.specs.Bundle.{bundle_limit, all_bundled};
+ghost use Rattle.site_model.specs.Bundle.{bundle_limit, with_own_bundles};
 
 use crate::data::{Core, Output};
 use marshal::pack;
@@ -14,13 +14,24 @@ const BUNDLE_LIMIT: usize = 256;
 
 /// The messages behind the first `from` get their bundles. Where there are none it costs nothing.
 pub fn pack_sent(core: &Core, output: &mut Output, from: usize) -> Result<(), AllocError>
-    ensures sent { OnOk result (output.new.sent ≡ take from output.old.sent ++ all_bundled bundle_limit core.now.variables.store.equations (drop from output.old.sent)) }
+    ensures sent { OnOk result (output.new.sent ≡ take from output.old.sent ++ with_own_bundles bundle_limit core.now.variables.store.equations (drop from output.old.sent)) }
     ensures picks { output.new.picks ≡ output.old.picks }
     ensures lines { output.new.lines ≡ output.old.lines }
 {
     if output.sent.len() <= from {
         return Ok(());
     }
+    pack_behind(core, output, from)
+}
+
+// The same, where there are some. Most units do without its room.
+#[inline(never)]
+fn pack_behind(core: &Core, output: &mut Output, from: usize) -> Result<(), AllocError>
+    requires some { from ≤ length output.old.sent }
+    ensures sent { OnOk result (output.new.sent ≡ take from output.old.sent ++ with_own_bundles bundle_limit core.now.variables.store.equations (drop from output.old.sent)) }
+    ensures picks { output.new.picks ≡ output.old.picks }
+    ensures lines { output.new.lines ≡ output.old.lines }
+{
     let packed = pack_last(core.alloc, &core.variables.store, &mut output.sent, from)?;
     output.sent.append(packed)
 }
@@ -34,7 +45,7 @@ fn pack_last(
 ) -> Result<Vec<Sent>, AllocError>
     requires some { from ≤ length sent.old }
     ensures rest { OnOk result (sent.new ≡ take from sent.old) }
-    ensures packed { IfOk result (λ v. v.items ≡ all_bundled bundle_limit store.now.equations (drop from sent.old)) }
+    ensures packed { IfOk result (λ v. v.items ≡ with_own_bundles bundle_limit store.now.equations (drop from sent.old)) }
 {
     let count = sent.len() - from;
     let mut packed = Vec::new(alloc);

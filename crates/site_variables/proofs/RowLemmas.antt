@@ -20,7 +20,7 @@ use Rattle.bind_protocol.specs.Records.{is_own, knowledge}
 use Rattle.bind_protocol.specs.Rows.{binding, after_binding, after_ask, ask_sends, after_register, register_sends, register_answer, meets_send}
 use Rattle.thread_roster.specs.Threads.{Entry, wake_all, wake}
 use Rattle.site_model.specs.Site.{Site, Threads}
-use Rattle.site_model.specs.Bundle.{all_bundled, message_vars, message_bundle}
+use Rattle.site_model.specs.Bundle.{with_own_bundles, message_vars, message_bundle}
 use Rattle.site_model.specs.Transition.{Transition, without_output, with_pick, and_then}
 use Rattle.site_model.specs.Variables.{with_known_equation_as, with_known_equation, with_known_equations, with_new_equation, own_bind, meeting, opening}
 use Rattle.site_model.specs.Messages.{register_row, bind_request_as, bind_request_row, bind_pick}
@@ -68,11 +68,11 @@ done_learnt p q x t own free a b c d = record {
 
 -- ---- messages without bundles
 
-unbundled : (s : Store) (x : VarName) (t : Term) (ks : List ℕ) → all_bundled 0 s (map (λ k. binding x t k) ks) ≡ map (λ k. binding x t k) ks
+unbundled : (s : Store) (x : VarName) (t : Term) (ks : List ℕ) → with_own_bundles 0 s (map (λ k. binding x t k) ks) ≡ map (λ k. binding x t k) ks
 unbundled s x t [] = refl
 unbundled s x t (k ∷ ks) = ap (λ (ms : List Sent). binding x t k ∷ ms) (unbundled s x t ks)
 
-answer_unbundled : (s : Store) (o : Option Owner) (x : VarName) (k : ℕ) → all_bundled 0 s (register_answer o x k) ≡ register_answer o x k
+answer_unbundled : (s : Store) (o : Option Owner) (x : VarName) (k : ℕ) → with_own_bundles 0 s (register_answer o x k) ≡ register_answer o x k
 answer_unbundled s None x k = refl
 answer_unbundled s (Some (Open ks)) x k = refl
 answer_unbundled s (Some (Bound t)) x k = refl

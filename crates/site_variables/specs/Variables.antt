@@ -12,7 +12,7 @@ use Rattle.variable_owner.specs.declared.owners.Asked.TheVariants.{Taken, Late}
 use Rattle.variable_owner.specs.Owners.{IsMade}
 use Rattle.bind_protocol.specs.Records.{Records, IsKnown, knowledge}
 use Rattle.thread_roster.specs.declared.mode.Mode.{Mode}
-use Rattle.thread_roster.specs.Threads.{Entry, seen}
+use Rattle.thread_roster.specs.Threads.{Entry, map_entries}
 use Rattle.site_model.specs.Site.{Site, Threads}
 use Rattle.site_model.specs.Transition.{Transition}
 use Rattle.site_model.specs.Messages.{bind_pick}
@@ -61,7 +61,7 @@ parts_of v threads sent = record { equations = v.store.equations; records = v.bi
 
 -- threads with the stacks that g tells of their values
 abbrev pub stacks_of : {V : Type 0} → (V → Stack) → List (Entry V) → Threads
-stacks_of {V} g ts = seen (λ (e : V × Mode). (g e.0, e.1)) ts
+stacks_of {V} g ts = map_entries (λ (e : V × Mode). (g e.0, e.1)) ts
 
 -- the site with these parts
 abbrev pub with_parts : Site → Parts → Site

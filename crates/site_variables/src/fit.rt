@@ -7,7 +7,7 @@ ghost use Rattle.site_model.specs.Site.{Site as TheSite};
 ghost use Rattle.site_model.specs.Fit.{BundleFits};
 ghost use Rattle.site_variables.specs.Fit.{with_variables, CanTakeVariable, EquationFits};
 
-use crate::same::same_term;
+use crate::same::equal_term;
 use crate::variables::Variables;
 use site_message::Msg;
 use tree_node::{Term, VarName, is_below};
@@ -48,7 +48,7 @@ impl Variables {
     {
         self.store.forest();
         match self.store.equation(var) {
-            Some(known) => same_term(term, known),
+            Some(known) => equal_term(term, known),
             None => !self.binder.owns(var),
         }
     }

@@ -1,6 +1,6 @@
 use Rattle.std.proofs.Common.{◌≡◌, ◌∙◌, sym, ◌++◌, take, drop, true, false}
 use Rattle.std.proofs.lemmas.Result.{on_ok_weaker}
-use Rattle.site_model.specs.Bundle.{bundle_limit, all_bundled}
+use Rattle.site_model.specs.Bundle.{bundle_limit, with_own_bundles}
 use Rattle.site_units.proofs.PackLemmas.{row_packed}
 use Rattle.site_core.proofs.CodeLemmas.{bundle_terms}
 use Rattle.site_core.proofs.DeliverLemmas.{vars_made, deliverable}
@@ -48,7 +48,7 @@ returns-clause-received c =
     let fit = c.is_fit.ensures.0 c.if-not-is_fit.false in
     let opened = c.in_ok-open_message.ensures.row c.args.program.now c.requires.consistent (bundle_terms c.args.program.now c.is_program.ensures c.args.msg fit.wire fit.codes) in
     on_ok_weaker c.pack_sent.result
-    (λ (sent : c.pack_sent.new.output.sent ≡ take c.len-before.result c.deliver.new.output.sent ++ all_bundled bundle_limit c.deliver.new.core.variables.store.equations (drop c.len-before.result c.deliver.new.output.sent)).
+    (λ (sent : c.pack_sent.new.output.sent ≡ take c.len-before.result c.deliver.new.output.sent ++ with_own_bundles bundle_limit c.deliver.new.core.variables.store.equations (drop c.len-before.result c.deliver.new.output.sent)).
     fit_received c.args.program.now c.args.msg c.args.core.now c.open_message.new.core c.deliver.new.core c.args.output.now c.open_message.new.output c.pack_sent.new.output fit opened
     (row_packed c.bundles_come_last.ensures.rows c.args.program.now c.args.msg c.open_message.new.core c.deliver.new.core c.open_message.new.output c.deliver.new.output c.pack_sent.new.output c.len-before.result
     c.in_ok-deliver.ensures.row (sym c.len-before.ensures) sent c.pack_sent.ensures.picks c.pack_sent.ensures.lines))
