@@ -7,7 +7,7 @@ use Rattle.tree_node.specs.Each.{Each}
 use Rattle.tree_node.proofs.ClassLemmas.{Contains-head, Contains-tail, Contains-cons_cases}
 use Rattle.kernel_syntax.specs.declared.stmt.Stmt.{Stmt}
 use Rattle.kernel_syntax.specs.declared.stmt.Stmt.TheVariants as stmt
-use Rattle.kernel_syntax.specs.Scopes.{Scope, stmt_at, bodies_of, scopes_of, undeclaring, names_of}
+use Rattle.kernel_syntax.specs.Scopes.{BodyScope, stmt_at, bodies_of, scopes_of, bare_scope, named_positions}
 use Rattle.kernel_syntax.specs.Free.{AreRising, with_position, with_positions, is_declared, without_declared, free_in_each, free_of, free_within, free}
 use Rattle.kernel_syntax.specs.Program.{IsProgram}
 use Rattle.kernel_syntax.specs.Uses.{IsDeclared, IsBodyOutside, Uses, itself, within}
@@ -17,16 +17,16 @@ use Rattle.tree_node.proofs.OrderLemmas.{none}
 use Rattle.tree_node.proofs.EnvLemmas.{each_more}
 
 -- statements that agree on the bodies have the same free positions
-each_agrees : (f g : CodeId → List ℕ) (js : List ℕ) (ss : List Scope) → Each (λ (s : Scope). f s.body ≡ g s.body) ss → free_in_each f js ss ≡ free_in_each g js ss
+each_agrees : (f g : CodeId → List ℕ) (js : List ℕ) (ss : List BodyScope) → Each (λ (s : BodyScope). f s.body ≡ g s.body) ss → free_in_each f js ss ≡ free_in_each g js ss
 each_agrees f g js [] h = refl
 each_agrees f g js (s ∷ ss) h = rw h.0 (each_agrees f g (with_positions js (without_declared s.first s.count (g s.body))) ss h.1)
 
 -- what holds of each body holds of each body with what is declared for it
-bodies_alone : (P : CodeId → Type 0) (cs : List CodeId) → Each P cs → Each (λ (s : Scope). P s.body) (map undeclaring cs)
+bodies_alone : (P : CodeId → Type 0) (cs : List CodeId) → Each P cs → Each (λ (s : BodyScope). P s.body) (map bare_scope cs)
 bodies_alone P [] h = tt
 bodies_alone P (c ∷ cs) h = (h.0, bodies_alone P cs h.1)
 
-pub scopes_have : (P : CodeId → Type 0) (st : Stmt) → Each P (bodies_of st) → Each (λ (s : Scope). P s.body) (scopes_of st)
+pub scopes_have : (P : CodeId → Type 0) (st : Stmt) → Each P (bodies_of st) → Each (λ (s : BodyScope). P s.body) (scopes_of st)
 scopes_have P (stmt.Seq bodies) h = bodies_alone P bodies h
 scopes_have P stmt.Skip h = tt
 scopes_have P (stmt.Local first count body) h = h
@@ -86,14 +86,14 @@ pub free_unfolds : FreeUnfolds
 free_unfolds p code is = unfolds p (goes_on p is) code
 
 -- they ascend
-ascends-each : (f : CodeId → List ℕ) (js : List ℕ) (ss : List Scope) → AreRising js → AreRising (free_in_each f js ss)
+ascends-each : (f : CodeId → List ℕ) (js : List ℕ) (ss : List BodyScope) → AreRising js → AreRising (free_in_each f js ss)
 ascends-each f js [] up = up
 ascends-each f js (s ∷ ss) up =
     let row : List ℕ = without_declared s.first s.count (f s.body) in
     ascends-each f (with_positions js row) ss (ascends_with_all js row up)
 
 pub ascends_of : (f : CodeId → List ℕ) (st : Stmt) → AreRising (free_of f st)
-ascends_of f st = ascends_with_all (free_in_each f [] (scopes_of st)) (names_of st) (ascends-each f [] (scopes_of st) tt)
+ascends_of f st = ascends_with_all (free_in_each f [] (scopes_of st)) (named_positions st) (ascends-each f [] (scopes_of st) tt)
 
 pub free_ascends : FreeAscends
 unfolding free
@@ -195,10 +195,10 @@ without-others first count (k ∷ ks) x h out = go (is_declared first count k) r
     go false e ih (inr g) = Contains-tail k x (without_declared first count ks) (ih g)
 
 -- a position that is free in one of these bodies, and not declared for it
-abbrev FromBody : (CodeId → List ℕ) → List Scope → ℕ → Type 0
-FromBody f ss x = (s : Scope) × Contains ss s × Contains (f s.body) x × (IsDeclared s.first s.count x → ⊥)
+abbrev FromBody : (CodeId → List ℕ) → List BodyScope → ℕ → Type 0
+FromBody f ss x = (s : BodyScope) × Contains ss s × Contains (f s.body) x × (IsDeclared s.first s.count x → ⊥)
 
-from_each : (f : CodeId → List ℕ) (js : List ℕ) (ss : List Scope) (x : ℕ) → Contains (free_in_each f js ss) x → Contains js x ⊎ FromBody f ss x
+from_each : (f : CodeId → List ℕ) (js : List ℕ) (ss : List BodyScope) (x : ℕ) → Contains (free_in_each f js ss) x → Contains js x ⊎ FromBody f ss x
 from_each f js [] x h = inl h
 from_each f js (s ∷ ss) x h = go (from_each f (with_positions js row) ss x h)
   where
@@ -213,47 +213,47 @@ from_each f js (s ∷ ss) x h = go (from_each f (with_positions js row) ss x h)
     go (inl g) = first (from_all js row x g)
     go (inr (b, at, g, out)) = inr (b, Contains-tail s b ss at, g, out)
 
-each-old : (f : CodeId → List ℕ) (js : List ℕ) (ss : List Scope) (x : ℕ) → Contains js x → Contains (free_in_each f js ss) x
+each-old : (f : CodeId → List ℕ) (js : List ℕ) (ss : List BodyScope) (x : ℕ) → Contains js x → Contains (free_in_each f js ss) x
 each-old f js [] x h = h
 each-old f js (s ∷ ss) x h =
     let row : List ℕ = without_declared s.first s.count (f s.body) in
     each-old f (with_positions js row) ss x (all-old js row x h)
 
-each-new : (f : CodeId → List ℕ) (js : List ℕ) (ss : List Scope) (b : Scope) (x : ℕ) → Contains ss b → Contains (f b.body) x → (IsDeclared b.first b.count x → ⊥) → Contains (free_in_each f js ss) x
+each-new : (f : CodeId → List ℕ) (js : List ℕ) (ss : List BodyScope) (b : BodyScope) (x : ℕ) → Contains ss b → Contains (f b.body) x → (IsDeclared b.first b.count x → ⊥) → Contains (free_in_each f js ss) x
 each-new f js [] b x h g out = absurd (none b h)
 each-new f js (s ∷ ss) b x h g out = go (λ at. each-new f (with_positions js (row s)) ss b x at g out) (Contains-cons_cases s b ss h)
   where
-    row : Scope → List ℕ
+    row : BodyScope → List ℕ
     row t = without_declared t.first t.count (f t.body)
 
     here : Contains (row b) x
     here = without-others b.first b.count (f b.body) x g out
 
     go : (Contains ss b → Contains (free_in_each f (with_positions js (row s)) ss) x) → (s ≡ b) ⊎ Contains ss b → Contains (free_in_each f (with_positions js (row s)) ss) x
-    go ih (inl e) = each-old f (with_positions js (row s)) ss x (all-new js (row s) x (subst (λ (t : Scope). Contains (row t) x) (sym e) here))
+    go ih (inl e) = each-old f (with_positions js (row s)) ss x (all-new js (row s) x (subst (λ (t : BodyScope). Contains (row t) x) (sym e) here))
     go ih (inr at) = ih at
 
 -- a free position is named by the statement itself or comes from a body that it is not declared for
 abbrev FromStmt : (CodeId → List ℕ) → Stmt → ℕ → Type 0
-FromStmt f st x = Contains (names_of st) x ⊎ ((c : CodeId) × IsBodyOutside st c x × Contains (f c) x)
+FromStmt f st x = Contains (named_positions st) x ⊎ ((c : CodeId) × IsBodyOutside st c x × Contains (f c) x)
 
 from_of : (f : CodeId → List ℕ) (st : Stmt) (x : ℕ) → Contains (free_of f st) x → FromStmt f st x
-from_of f st x h = go (from_all (free_in_each f [] (scopes_of st)) (names_of st) x h)
+from_of f st x h = go (from_all (free_in_each f [] (scopes_of st)) (named_positions st) x h)
   where
     inner : Contains [] x ⊎ FromBody f (scopes_of st) x → FromStmt f st x
     inner (inl g) = absurd (none x g)
     inner (inr (s, at, g, out)) = inr (s.body, (s, at, refl, out), g)
 
-    go : Contains (free_in_each f [] (scopes_of st)) x ⊎ Contains (names_of st) x → FromStmt f st x
+    go : Contains (free_in_each f [] (scopes_of st)) x ⊎ Contains (named_positions st) x → FromStmt f st x
     go (inl g) = inner (from_each f [] (scopes_of st) x g)
     go (inr g) = inl g
 
-of-names : (f : CodeId → List ℕ) (st : Stmt) (x : ℕ) → Contains (names_of st) x → Contains (free_of f st) x
-of-names f st x h = all-new (free_in_each f [] (scopes_of st)) (names_of st) x h
+of-names : (f : CodeId → List ℕ) (st : Stmt) (x : ℕ) → Contains (named_positions st) x → Contains (free_of f st) x
+of-names f st x h = all-new (free_in_each f [] (scopes_of st)) (named_positions st) x h
 
 of-bodies : (f : CodeId → List ℕ) (st : Stmt) (c : CodeId) (x : ℕ) → IsBodyOutside st c x → Contains (f c) x → Contains (free_of f st) x
 of-bodies f st c x (s, at, same, out) h =
-    all-old (free_in_each f [] (scopes_of st)) (names_of st) x
+    all-old (free_in_each f [] (scopes_of st)) (named_positions st) x
     (each-new f [] (scopes_of st) s x at (subst (λ (y : CodeId). Contains (f y) x) (sym same) h) out)
 
 -- they are those that the code uses

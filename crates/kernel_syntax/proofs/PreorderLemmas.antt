@@ -8,7 +8,7 @@ use Rattle.kernel_syntax.specs.declared.stmt.Pattern.{Pattern}
 use Rattle.kernel_syntax.specs.declared.stmt.Pattern.TheVariants as pattern
 use Rattle.kernel_syntax.specs.declared.stmt.Stmt.{Stmt}
 use Rattle.kernel_syntax.specs.declared.stmt.Stmt.TheVariants as stmt
-use Rattle.kernel_syntax.specs.Scopes.{stmt_at, bodies_of, scopes_of, undeclaring, names_of, features_in}
+use Rattle.kernel_syntax.specs.Scopes.{stmt_at, bodies_of, scopes_of, bare_scope, named_positions, features_in}
 use Rattle.kernel_syntax.specs.Free.{with_positions, without_declared, free_in_each, free_of, free}
 use Rattle.kernel_syntax.specs.Texts.{HasTexts}
 use Rattle.kernel_syntax.specs.Preorder.{one_of, bodies_in, DeclaresBehind, IsBody, AreBodies, HasRoom, whole, IsInPreorder}
@@ -102,7 +102,7 @@ declared inner n first count c e q =
     let at : Below n (without_declared n count (inner c)) = without_below n count (inner c) q in
     all_below n [] (without_declared first count (inner c)) tt (subst (λ (m : ℕ). Below n (without_declared m count (inner c))) (sym e) at)
 
-sequence_closed : (inner : CodeId → List ℕ) (b : Body) (js : List ℕ) (cs : List CodeId) → Below b.around js → Each (IsClosed inner) (map (one_of b) cs) → Below b.around (free_in_each inner js (map undeclaring cs))
+sequence_closed : (inner : CodeId → List ℕ) (b : Body) (js : List ℕ) (cs : List CodeId) → Below b.around js → Each (IsClosed inner) (map (one_of b) cs) → Below b.around (free_in_each inner js (map bare_scope cs))
 sequence_closed inner b js [] p h = p
 sequence_closed inner b js (c ∷ cs) p h =
     sequence_closed inner b (with_positions js (without_declared 0 0 (inner c))) cs (undeclared inner b.around js c p h.0) h.1
@@ -148,7 +148,7 @@ are_closed p on pre k (b ∷ bs) (st ∷ sts) e at h =
     let same : stmt_at p b.code ≡ st = ap (λ o. unwrap_or o stmt.Skip) found in
     let is : free p b.code ≡ free_of (free p) st = unfolds p on b.code ∙ ap (free_of (free p)) same in
     let inner = bodies_closed (free p) b st h.1.declares (each_left _ (bodies_in b st) bs more) in
-    (subst (Below b.around) (sym is) (all_below b.around (free_in_each (free p) [] (scopes_of st)) (names_of st) inner h.1.names), each_right _ (bodies_in b st) bs more)
+    (subst (Below b.around) (sym is) (all_below b.around (free_in_each (free p) [] (scopes_of st)) (named_positions st) inner h.1.names), each_right _ (bodies_in b st) bs more)
 
 nothing_free : (p : List Stmt) → IsInPreorder p → free p (record { 0 = 0 }) ≡ []
 nothing_free p order = none_below _ (are_closed p (go_on p (behind p order)) [] 0 (whole ∷ []) p refl refl order).0
@@ -188,14 +188,14 @@ bodies_room b (stmt.Raise x) room limits level = tt
 
 -- a statement names positions below 12,800
 abbrev pub NamesFew : Stmt → Type 0
-NamesFew st = Below 12800 (names_of st)
+NamesFew st = Below 12800 (named_positions st)
 
 pub names_few : (k : ℕ) (bs : List Body) (sts : List Stmt) → Each IsStmt sts → Each HasRoom bs → AreBodies k bs sts → Each NamesFew sts
 names_few k [] [] limits room h = tt
 names_few k [] (st ∷ sts) limits room h = absurd h
 names_few k (b ∷ bs) [] limits room h = absurd h
 names_few k (b ∷ bs) (st ∷ sts) limits room h = (
-  each_more _ (λ (j : ℕ). j < 12800) (names_of st) (λ j low. omega (arith, low, room.0)) h.1.names,
+  each_more _ (λ (j : ℕ). j < 12800) (named_positions st) (λ j low. omega (arith, low, room.0)) h.1.names,
   names_few (k + 1) (bodies_in b st ++ bs) sts limits.1 (each_append HasRoom (bodies_in b st) bs (bodies_room b st room.0 limits.0 h.1.level) room.1) h.2,
 )
 

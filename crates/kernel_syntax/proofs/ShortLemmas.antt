@@ -7,7 +7,7 @@ use Rattle.tree_node.proofs.ClassLemmas.{Contains-head, Contains-tail, Contains-
 use Rattle.std.proofs.Common.{◌⊎◌, inl, inr}
 use Rattle.kernel_syntax.specs.declared.stmt.Stmt.{Stmt}
 use Rattle.kernel_syntax.specs.declared.stmt.Stmt.TheVariants.{Skip}
-use Rattle.kernel_syntax.specs.Scopes.{stmt_at, names_of}
+use Rattle.kernel_syntax.specs.Scopes.{stmt_at, named_positions}
 use Rattle.kernel_syntax.specs.Free.{AreRising, free}
 use Rattle.kernel_syntax.specs.Preorder.{whole}
 use Rattle.kernel_syntax.specs.Program.{IsProgram}
@@ -32,7 +32,7 @@ of_contained n (j ∷ js) below k h = go (λ g. of_contained n js below.1 k g) (
     go more (inr g) = more g
 
 uses_few : (p : List Stmt) → Each NamesFew p → {code : CodeId} {k : ℕ} → Uses p code k → k < 12800
-uses_few p few (itself {code} {k} h) = of_contained 12800 (names_of (stmt_at p code)) (few_at p code.0 few) k h
+uses_few p few (itself {code} {k} h) = of_contained 12800 (named_positions (stmt_at p code)) (few_at p code.0 few) k h
 uses_few p few (within c outside u) = uses_few p few u
 
 each_contained : (n : ℕ) (js : List ℕ) → ((k : ℕ) → Contains js k → k < n) → Below n js

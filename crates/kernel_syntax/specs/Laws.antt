@@ -4,7 +4,7 @@ use Rattle.tree_node.specs.declared.names.CodeId.{CodeId}
 use Rattle.tree_node.specs.Each.{Each}
 use Rattle.kernel_syntax.specs.declared.stmt.Stmt.{Stmt}
 use Rattle.kernel_syntax.specs.Free.{AreRising, free, free_of}
-use Rattle.kernel_syntax.specs.Scopes.{stmt_at, names_of}
+use Rattle.kernel_syntax.specs.Scopes.{stmt_at, named_positions}
 use Rattle.kernel_syntax.specs.Program.{IsProgram}
 use Rattle.kernel_syntax.specs.Uses.{IsBodyOutside, Uses}
 use Rattle.kernel_syntax.specs.declared.stmt.Op.{Op}
@@ -36,7 +36,7 @@ OwnersHaveFree = (p : List Stmt) (code c : CodeId) (k : ℕ) → IsProgram p →
 
 -- what a statement names is free in it
 abbrev pub NamesAreFree : Type 0
-NamesAreFree = (p : List Stmt) (code : CodeId) (k : ℕ) → IsProgram p → Contains (names_of (stmt_at p code)) k → Contains (free p code) k
+NamesAreFree = (p : List Stmt) (code : CodeId) (k : ℕ) → IsProgram p → Contains (named_positions (stmt_at p code)) k → Contains (free p code) k
 
 -- the quotient and the rest make up the dividend, and the rest is smaller than the divisor
 abbrev pub DivisionIsExact : Type 0

@@ -5,7 +5,7 @@ use Rattle.tree_node.specs.Each.{Each}
 use Rattle.kernel_syntax.specs.declared.preorder.Body.{Body}
 use Rattle.kernel_syntax.specs.declared.stmt.Stmt.{Stmt}
 use Rattle.kernel_syntax.specs.declared.stmt.Stmt.TheVariants as stmt
-use Rattle.kernel_syntax.specs.Scopes.{names_of, features_in}
+use Rattle.kernel_syntax.specs.Scopes.{named_positions, features_in}
 
 -- a body of a statement that is no sequence: a level further in, under so many declarations
 abbrev pub within : Body → ℕ → CodeId → Body
@@ -43,7 +43,7 @@ IsWholeSequence in_sequence _ = Unit {0}
 -- the statement may be this body: a level is left for it, and it names what is declared around it
 pub record IsBody (b : Body) (st : Stmt) : Type 0 where
   pub level : 1 ≤ b.levels
-  pub names : Each (λ (k : ℕ). k < b.around) (names_of st)
+  pub names : Each (λ (k : ℕ). k < b.around) (named_positions st)
   pub declares : DeclaresBehind b.around st
   pub sequence : IsWholeSequence b.in_sequence st
 

@@ -3,21 +3,21 @@ use Rattle.std.specs.Prelude.{◌≡◌, ℕ, suc, ◌+◌, ◌-◌, ◌<◌, �
 use Rattle.tree_node.specs.declared.names.CodeId.{CodeId}
 use Rattle.kernel_syntax.specs.declared.stmt.Stmt.{Stmt}
 use Rattle.kernel_syntax.specs.declared.stmt.Stmt.TheVariants as stmt
-use Rattle.kernel_syntax.specs.Scopes.{Scope, scopes_of}
+use Rattle.kernel_syntax.specs.Scopes.{BodyScope, scopes_of}
 use Rattle.kernel_syntax.specs.Free.{free}
 use Rattle.kernel_syntax.specs.Program.{IsProgram}
 
 -- the row of a statement, where there are len of them
-abbrev pub row_of : ℕ → List (List ℕ) → CodeId → List ℕ
-row_of len rows code = slice_index_or rows (len - suc code.0) []
+abbrev pub free_at : ℕ → List (List ℕ) → CodeId → List ℕ
+free_at len rows code = slice_index_or rows (len - suc code.0) []
 
 -- the statement has a row: rows stand for the last ones of len statements
-abbrev pub HasRow : ℕ → List (List ℕ) → CodeId → Type 0
-HasRow len rows code = (code.0 < len) × (len ≤ length rows + code.0)
+abbrev pub HasFree : ℕ → List (List ℕ) → CodeId → Type 0
+HasFree len rows code = (code.0 < len) × (len ≤ length rows + code.0)
 
 -- each row has the free positions of its statement
 pub record IsTable (p : List Stmt) (rows : List (List ℕ)) : Type 0 where
-  pub row : (code : CodeId) → HasRow (length p) rows code → row_of (length p) rows code ≡ free p code
+  pub row : (code : CodeId) → HasFree (length p) rows code → free_at (length p) rows code ≡ free p code
 
 -- what a program keeps
 pub record IsKept (p : List Stmt) (rows : List (List ℕ)) : Type 0 where
@@ -26,7 +26,7 @@ pub record IsKept (p : List Stmt) (rows : List (List ℕ)) : Type 0 where
   pub table : IsTable p rows
 
 -- the bodies of a statement that has two, with what it declares for each, and none of another
-abbrev pub branches_of : Stmt → List Scope
+abbrev pub branches_of : Stmt → List BodyScope
 branches_of (stmt.If subject chosen other) = scopes_of (stmt.If subject chosen other)
 branches_of (stmt.Case subject pattern first chosen other) = scopes_of (stmt.Case subject pattern first chosen other)
 branches_of (stmt.Try body first handler) = scopes_of (stmt.Try body first handler)

@@ -30,4 +30,4 @@ mod threads;
 
 pub use laws::{free_goes_out, free_is_few, free_is_used, free_unfolds, operators_divide};
 pub use program::{Program, ProgramError};
-pub use stmt::{Bodies, Features, Ids, Op, Pattern, Selector, Slots, Stmt, features};
+pub use stmt::{Bodies, Features, Op, Pattern, Positions, Selector, Slots, Stmt, features};

@@ -5,7 +5,7 @@ ghost use Rattle.std.specs.declared.cmp.Ordering.TheVariants.{Less};
 ghost use Rattle.tree_node.specs.declared.node.Feature.{Feature};
 ghost use Rattle.tree_node.specs.Each.{Each};
 ghost use Rattle.tree_node.specs.Node.{feature_cmp, AreAscending};
-ghost use Rattle.kernel_syntax.specs.Program.{AreFeatures, IsPattern, IsPlace, IsStmt};
+ghost use Rattle.kernel_syntax.specs.Program.{AreFeatures, IsPattern, IsThreadSite, IsStmt};
 
 use crate::stmt::{Pattern, Stmt, features};
 use std::cmp::Ordering;
@@ -27,7 +27,7 @@ pub fn is_stmt(stmt: &Stmt) -> bool
             is_pattern(pattern) && fits_behind(*first, features(pattern))
         }
         Stmt::Call { args, .. } => args.as_slice().len() <= 64,
-        Stmt::Thread { at, .. } => is_place(*at),
+        Stmt::Thread { at, .. } => is_thread_site(*at),
         Stmt::Try { first, .. } => *first as u64 + 1 < LIMIT,
         _ => true,
     }
@@ -36,8 +36,8 @@ pub fn is_stmt(stmt: &Stmt) -> bool
 // Above all positions.
 const LIMIT: u64 = 1 << 32;
 
-fn is_place(at: Option<i64>) -> bool
-    ensures { IsTrue result ↔ IsPlace at }
+fn is_thread_site(at: Option<i64>) -> bool
+    ensures { IsTrue result ↔ IsThreadSite at }
 {
     match at {
         Some(site) => 1 <= site,

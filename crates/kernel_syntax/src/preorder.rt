@@ -4,7 +4,7 @@ ghost use Rattle.std.specs.Prelude.{◌≡◌, ◌↔◌, ℕ, ◌+◌, ◌<◌,
 ghost use Rattle.tree_node.specs.declared.names.CodeId.{CodeId};
 ghost use Rattle.tree_node.specs.declared.node.Feature.{Feature};
 ghost use Rattle.tree_node.specs.Each.{Each};
-ghost use Rattle.kernel_syntax.specs.Scopes.{names_of, selected_by};
+ghost use Rattle.kernel_syntax.specs.Scopes.{named_positions, selector_positions};
 ghost use Rattle.kernel_syntax.specs.Program.{IsStmt};
 ghost use Rattle.kernel_syntax.specs.Preorder.{within, one_of, bodies_in, DeclaresBehind, IsWholeSequence, IsBody, HasRoom, IsInPreorder};
 
@@ -190,7 +190,7 @@ fn declares_behind(around: u32, stmt: &Stmt) -> bool
 }
 
 fn names_are_within(around: u32, stmt: &Stmt) -> bool
-    ensures { IsTrue result ↔ Each (λ k. k < around) (names_of stmt.now) }
+    ensures { IsTrue result ↔ Each (λ k. k < around) (named_positions stmt.now) }
 {
     match stmt {
         Stmt::TellVar { left, right } => *left < around && *right < around,
@@ -217,7 +217,7 @@ fn names_are_within(around: u32, stmt: &Stmt) -> bool
 }
 
 fn selector_is_within(around: u32, by: &Selector) -> bool
-    ensures { IsTrue result ↔ Each (λ k. k < around) (selected_by by.now) }
+    ensures { IsTrue result ↔ Each (λ k. k < around) (selector_positions by.now) }
 {
     match by {
         Selector::Var(position) => *position < around,

@@ -12,7 +12,7 @@ use crate::limits::is_stmt;
 use crate::position_lists::PositionLists;
 use crate::preorder::is_in_preorder;
 use crate::stmt::Stmt;
-use crate::table::{free_table, row};
+use crate::table::{free_at, free_table};
 use crate::texts::has_texts;
 use std::alloc::{AllocError, Global};
 use std::marker::Model;
@@ -133,6 +133,6 @@ impl Program {
         ensures value { result.now ≡ free self.now code }
         ensures order { AreRising result.now }
     {
-        row(&self.free, self.stmts.len(), code)
+        free_at(&self.free, self.stmts.len(), code)
     }
 }

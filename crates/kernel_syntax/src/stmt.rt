@@ -9,7 +9,7 @@ use tree_node::{CodeId, Feature, Seq, Text};
 pub type Bodies = Seq<CodeId>;
 
 /// The positions of a call's arguments.
-pub type Ids = Seq<u32>;
+pub type Positions = Seq<u32>;
 
 /// The features of a record pattern in ascending order, integers first, then atoms by their bytes.
 pub type Features = Seq<Feature>;
@@ -109,7 +109,7 @@ pub enum Stmt {
     },
     Call {
         callee: u32,
-        args: Ids,
+        args: Positions,
     },
     Browse(u32),
     Wait(u32),

@@ -8,8 +8,8 @@ use Rattle.kernel_syntax.specs.declared.preorder.Body.{Body}
 use Rattle.kernel_syntax.specs.declared.stmt.Pattern.{Pattern}
 use Rattle.kernel_syntax.specs.declared.stmt.Stmt.{Stmt}
 use Rattle.kernel_syntax.specs.declared.stmt.Stmt.TheVariants as stmt
-use Rattle.kernel_syntax.specs.Scopes.{names_of, features_in}
-use Rattle.kernel_syntax.specs.Program.{IsStmt, IsPattern, IsPlace, IsProgram}
+use Rattle.kernel_syntax.specs.Scopes.{named_positions, features_in}
+use Rattle.kernel_syntax.specs.Program.{IsStmt, IsPattern, IsThreadSite, IsProgram}
 use Rattle.kernel_syntax.specs.Preorder.{within, one_of, bodies_in, IsBody, AreBodies, HasRoom, whole}
 use Rattle.kernel_syntax.proofs.Below.{Below}
 use Rattle.kernel_syntax.proofs.PreorderLemmas.{bodies_room}
@@ -61,7 +61,7 @@ level_left (suc d) le = refl
 
 -- ---- rows without bodies
 
-plain_is : (row : Stmt) (d n k : ℕ) → IsPlainRow row → IsStmt row → 1 ≤ d → n ≤ 12800 → Below n (names_of row) → IsStatement (Simple (plain_tree row)) d n k (row ∷ [])
+plain_is : (row : Stmt) (d n k : ℕ) → IsPlainRow row → IsStmt row → 1 ≤ d → n ≤ 12800 → Below n (named_positions row) → IsStatement (Simple (plain_tree row)) d n k (row ∷ [])
 plain_is row d n k p limits level few below =
     let small : n ≤ 2 ^ 64 = omega (arith, few) in
     let left = level_left d level in
@@ -111,7 +111,7 @@ proc_opens left n count le lt few =
 site_passes : (z : ℤ) → pos 1 ≤ℤ z → site_fault (Some z) ≡ None
 site_passes z le = let no : int_lt z (pos 1) ≡ false = grind arith in ap (λ (b : Bool). where_so b Site) no
 
-thread_opens : (at : Option ℤ) (n : ℕ) → IsPlace at → Opens (thread_opening at) n n (λ c. stmt.Thread at c)
+thread_opens : (at : Option ℤ) (n : ℕ) → IsThreadSite at → Opens (thread_opening at) n n (λ c. stmt.Thread at c)
 thread_opens None n is = record { passes = λ rest behind. refl; scope = refl; row_is = λ c. refl }
 thread_opens (Some z) n is = record { passes = λ rest behind. rw (site_passes z is) refl; scope = refl; row_is = λ c. refl }
 

@@ -2,7 +2,7 @@
 use Rattle.std.proofs.Common.{◌≡◌, ◌∙◌, ℕ, zero, suc, ◌+◌, ◌<◌, ◌≤◌, ◌^◌, List, [], ◌∷◌, ◌++◌, length, map, Bool, true, false, Option, None, refl, sym, ap, subst, arith, append_assoc}
 use Rattle.std.specs.declared.cmp.Ordering.{Ordering}
 use Rattle.std.specs.declared.cmp.Ordering.TheVariants.{Less, Equal, Greater}
-use Rattle.std.specs.Ordering.{int_eq}
+use Rattle.std.specs.Ordering.{int_eq, is_lt}
 use Rattle.std.specs.Str.{bytes_eq}
 use Rattle.std.proofs.lemmas.List.{append-nil, map-append}
 use Rattle.std.proofs.lemmas.Slice.Eq.{bytes_eq-Decides}
@@ -18,12 +18,12 @@ use Rattle.oz_grammar.specs.declared.symbol.Purpose.{Purpose}
 use Rattle.oz_grammar.specs.declared.symbol.Purpose.TheVariants as purpose
 use Rattle.oz_grammar.specs.declared.fault.Fault.{Fault}
 use Rattle.oz_grammar.specs.declared.fault.FaultKind.TheVariants.{Twice, Unbound}
-use Rattle.oz_grammar.specs.Grammar.{Name, Field}
-use Rattle.oz_grammar.specs.Scoping.{Scope, Fields, is_declared, is_less, with_field, has_feature, has_name, names_in, feature_of, fields_behind, fields_of}
+use Rattle.oz_grammar.specs.Grammar.{Identifier, Field}
+use Rattle.oz_grammar.specs.Scoping.{Scope, Fields, is_declared, with_field, has_feature, has_name, names_in, feature_of, fields_behind, fields_of}
 use Rattle.oz_grammar.specs.Table.{features_in}
-use Rattle.oz_grammar.specs.Faults.{where_so, where_not, mark_fault, name_fault}
+use Rattle.oz_grammar.specs.Faults.{where_so, where_not, feature_token_fault, name_fault}
 use Rattle.oz_grammar.specs.Check.{check_fields}
-use Rattle.oz_grammar.specs.Canonical.{name_at, names_from, mark_of, marked, declared_fields}
+use Rattle.oz_grammar.specs.Canonical.{name_at, names_from, feature_token, field_with_feature, declared_fields}
 use Rattle.oz_grammar.proofs.CanonicalNames.{next_is_new, names_append}
 use Rattle.tree_node.proofs.EachLemmas.{each_append}
 
@@ -49,19 +49,19 @@ differs (feature.Atom a) (feature.Atom b) low = go (bytes_eq a b) refl
         absurd (one_way (feature.Atom b) (feature.Atom b) up up)
     go false e = refl
 
-not_less : (f g : Feature) → feature_cmp g f ≡ Less → is_less (feature_cmp f g) ≡ false
+not_less : (f g : Feature) → feature_cmp g f ≡ Less → is_lt (feature_cmp f g) ≡ false
 not_less f g low = go (feature_cmp f g) refl
   where
-    go : (o : Ordering) → feature_cmp f g ≡ o → is_less o ≡ false
+    go : (o : Ordering) → feature_cmp f g ≡ o → is_lt o ≡ false
     go Less e = absurd (one_way f g e low)
     go Equal e = refl
     go Greater e = refl
 
 -- each of these features is below this one
 abbrev AllBelow : Fields → Feature → Type 0
-AllBelow fields f = Each (λ (g : Feature × Name). feature_cmp g.0 f ≡ Less) fields
+AllBelow fields f = Each (λ (g : Feature × Identifier). feature_cmp g.0 f ≡ Less) fields
 
-goes_last : (f : Feature) (x : Name) (fields : Fields) → AllBelow fields f → with_field f x fields ≡ fields ++ (f, x) ∷ []
+goes_last : (f : Feature) (x : Identifier) (fields : Fields) → AllBelow fields f → with_field f x fields ≡ fields ++ (f, x) ∷ []
 goes_last f x [] below = refl
 goes_last f x ((g, y) ∷ fields) below = rw (not_less f g below.0, goes_last f x fields below.1) refl
 
@@ -74,10 +74,10 @@ abbrev Under : Fields → Fields → Type 0
 Under before [] = Unit {0}
 Under before ((f, x) ∷ fs) = AllBelow before f × Under before fs
 
-under_first : (before : Fields) (f : Feature) (x : Name) (fs : Fields) → Under before fs → Each (λ g. feature_cmp f g ≡ Less) (features_in fs) → Under (before ++ (f, x) ∷ []) fs
+under_first : (before : Fields) (f : Feature) (x : Identifier) (fs : Fields) → Under before fs → Each (λ g. feature_cmp f g ≡ Less) (features_in fs) → Under (before ++ (f, x) ∷ []) fs
 under_first before f x [] under low = tt
 under_first before f x ((g, y) ∷ fs) under low =
-    (each_append (λ (h : Feature × Name). feature_cmp h.0 g ≡ Less) before ((f, x) ∷ []) under.0 (low.0, tt), under_first before f x fs under.1 low.1)
+    (each_append (λ (h : Feature × Identifier). feature_cmp h.0 g ≡ Less) before ((f, x) ∷ []) under.0 (low.0, tt), under_first before f x fs under.1 low.1)
 
 under_none : (fs : Fields) → Under [] fs
 under_none [] = tt
@@ -85,11 +85,11 @@ under_none (f ∷ fs) = (tt, under_none fs)
 
 -- ---- fields that pass
 
-mark_feature : (f : Feature) → feature_of (mark_of f) ≡ f
+mark_feature : (f : Feature) → feature_of (feature_token f) ≡ f
 mark_feature (feature.Int z) = refl
 mark_feature (feature.Atom a) = refl
 
-mark_passes : (room : ℕ) (before : Fields) (f : Feature) → AllBelow before f → mark_fault (suc room) before (mark_of f) ≡ None
+mark_passes : (room : ℕ) (before : Fields) (f : Feature) → AllBelow before f → feature_token_fault (suc room) before (feature_token f) ≡ None
 mark_passes room before (feature.Int z) below = ap (λ (b : Bool). where_so b Twice) (has_none (feature.Int z) before below)
 mark_passes room before (feature.Atom a) below = ap (λ (b : Bool). where_so b Twice) (has_none (feature.Atom a) before below)
 
@@ -99,7 +99,7 @@ NamesPass p scope before [] = Unit {0}
 NamesPass p scope before ((f, x) ∷ fs) = (name_fault p scope before x ≡ None) × NamesPass p scope (before ++ (f, x) ∷ []) fs
 
 marked_pass : (gs : Fields) (p : Purpose) (scope : Scope) (room : ℕ) (before : Fields) (rest : List Symbol) (behind : Option Fault) → AreAscending (features_in gs) → Under before gs → length gs ≤ room → NamesPass p scope before gs
-    → check_fields p scope room before 1 (map marked gs) rest behind ≡ behind
+    → check_fields p scope room before 1 (map field_with_feature gs) rest behind ≡ behind
 marked_pass [] p scope room before rest behind up under le names = refl
 marked_pass ((f, x) ∷ gs) p scope zero before rest behind up under le names = absurd (omega (arith, le))
 marked_pass ((f, x) ∷ gs) p scope (suc room) before rest behind up under le names =
@@ -107,23 +107,23 @@ marked_pass ((f, x) ∷ gs) p scope (suc room) before rest behind up under le na
     let more = marked_pass gs p scope room (before ++ (f, x) ∷ []) rest behind up.1 (under_first before f x gs under.1 up.0) (omega (arith, le)) names.1 in
     rw (mark_passes room before f under.0, names.0, mark_feature f, last) more
 
-marked_behind : (gs : Fields) (before : Fields) → AreAscending (features_in gs) → Under before gs → fields_behind before 1 (map marked gs) ≡ before ++ gs
+marked_behind : (gs : Fields) (before : Fields) → AreAscending (features_in gs) → Under before gs → fields_behind before 1 (map field_with_feature gs) ≡ before ++ gs
 marked_behind [] before up under = sym (append-nil before)
 marked_behind ((f, x) ∷ gs) before up under =
     let last = goes_last f x before under.0 in
     let more = marked_behind gs (before ++ (f, x) ∷ []) up.1 (under_first before f x gs under.1 up.0) in
     rw (mark_feature f, last) (more ∙ append_assoc before ((f, x) ∷ []) gs)
 
-pub marked_fields : (gs : Fields) → AreAscending (features_in gs) → fields_of (map marked gs) ≡ gs
+pub marked_fields : (gs : Fields) → AreAscending (features_in gs) → fields_of (map field_with_feature gs) ≡ gs
 marked_fields gs up = marked_behind gs [] up (under_none gs)
 
 pub marked_check : (gs : Fields) (p : Purpose) (scope : Scope) (rest : List Symbol) (behind : Option Fault) → AreAscending (features_in gs) → length gs ≤ 64 → NamesPass p scope [] gs
-    → check_fields p scope 64 [] 1 (map marked gs) rest behind ≡ behind
+    → check_fields p scope 64 [] 1 (map field_with_feature gs) rest behind ≡ behind
 marked_check gs p scope rest behind up few names = marked_pass gs p scope 64 [] rest behind up (under_none gs) few names
 
 -- ---- names that pass
 
-pub used_pass : (gs : Fields) (scope : Scope) (before : Fields) → Each (λ (g : Feature × Name). is_declared scope g.1 ≡ true) gs → NamesPass purpose.Use scope before gs
+pub used_pass : (gs : Fields) (scope : Scope) (before : Fields) → Each (λ (g : Feature × Identifier). is_declared scope g.1 ≡ true) gs → NamesPass purpose.Use scope before gs
 used_pass [] scope before all = tt
 used_pass ((f, x) ∷ gs) scope before all = (ap (λ (b : Bool). where_not b Unbound) all.0, used_pass gs scope (before ++ (f, x) ∷ []) all.1)
 
@@ -138,11 +138,11 @@ with_names_features first (f ∷ fs) = ap (λ (gs : List Feature). f ∷ gs) (wi
 
 pub with_names_names : (first : ℕ) (fs : List Feature) → names_in (with_names first fs) ≡ names_from first (length fs)
 with_names_names first [] = refl
-with_names_names first (f ∷ fs) = ap (λ (xs : List Name). name_at first ∷ xs) (with_names_names (first + 1) fs)
+with_names_names first (f ∷ fs) = ap (λ (xs : List Identifier). name_at first ∷ xs) (with_names_names (first + 1) fs)
 
-pub with_names_marked : (first : ℕ) (fs : List Feature) → declared_fields first fs ≡ map marked (with_names first fs)
+pub with_names_marked : (first : ℕ) (fs : List Feature) → declared_fields first fs ≡ map field_with_feature (with_names first fs)
 with_names_marked first [] = refl
-with_names_marked first (f ∷ fs) = ap (λ (gs : List Field). marked (f, name_at first) ∷ gs) (with_names_marked (first + 1) fs)
+with_names_marked first (f ∷ fs) = ap (λ (gs : List Field). field_with_feature (f, name_at first) ∷ gs) (with_names_marked (first + 1) fs)
 
 pub with_names_length : (first : ℕ) (fs : List Feature) → length (with_names first fs) ≡ length fs
 with_names_length first [] = refl
@@ -154,7 +154,7 @@ declared_from (f ∷ fs) start k before scope names le =
     let fresh : has_name (names_in before) (name_at (start + k)) ≡ false = rw names (next_is_new start k (omega (arith, le))) in
     let e : start + k + 1 ≡ start + (k + 1) = omega arith in
     let longer : names_in (before ++ (f, name_at (start + k)) ∷ []) ≡ names_from start (k + 1) =
-    map-append (λ (g : Feature × Name). g.1) before ((f, name_at (start + k)) ∷ []) ∙ ap (λ (xs : List Name). xs ++ name_at (start + k) ∷ []) names ∙ sym (names_append start k 1) in
+    map-append (λ (g : Feature × Identifier). g.1) before ((f, name_at (start + k)) ∷ []) ∙ ap (λ (xs : List Identifier). xs ++ name_at (start + k) ∷ []) names ∙ sym (names_append start k 1) in
     (ap (λ (b : Bool). where_so b Twice) fresh, rw e (declared_from fs start (k + 1) (before ++ (f, name_at (start + k)) ∷ []) scope longer (omega (arith, le))))
 
 pub declared_pass : (fs : List Feature) (first : ℕ) (scope : Scope) → first + length fs < 2 ^ 64 → NamesPass purpose.Declare scope [] (with_names first fs)

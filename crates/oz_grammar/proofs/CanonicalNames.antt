@@ -6,7 +6,7 @@ use Rattle.std.proofs.lemmas.Fmt.{decimal_injective}
 use Rattle.std.proofs.lemmas.Slice.Eq.{bytes_eq-Decides}
 use Rattle.oz_grammar.specs.declared.symbol.BuiltIn.{BuiltIn}
 use Rattle.oz_grammar.specs.declared.symbol.BuiltIn.TheVariants as built
-use Rattle.oz_grammar.specs.Grammar.{Name}
+use Rattle.oz_grammar.specs.Grammar.{Identifier}
 use Rattle.oz_grammar.specs.Scoping.{position_of, is_declared, declaration_of, built_in_at, has_name}
 use Rattle.oz_grammar.specs.Canonical.{name_at, names_from, built_in_name}
 
@@ -67,7 +67,7 @@ names_append first zero more =
 names_append first (suc count) more =
     let e : first + 1 + count ≡ first + suc count = omega arith in
     let f : suc count + more ≡ suc (count + more) = omega arith in
-    subst (λ (n : ℕ). names_from first n ≡ names_from first (suc count) ++ names_from (first + suc count) more) (sym f) (ap (λ (xs : List Name). name_at first ∷ xs) (names_append (first + 1) count more ∙ rw e refl))
+    subst (λ (n : ℕ). names_from first n ≡ names_from first (suc count) ++ names_from (first + suc count) more) (sym f) (ap (λ (xs : List Identifier). name_at first ∷ xs) (names_append (first + 1) count more ∙ rw e refl))
 
 -- the next one is another than those so far
 pub next_is_new : (first count : ℕ) → first + count < 2 ^ 64 → has_name (names_from first count) (name_at (first + count)) ≡ false

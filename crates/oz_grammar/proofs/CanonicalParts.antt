@@ -13,7 +13,7 @@ use Rattle.oz_grammar.specs.declared.symbol.Symbol.TheVariants as t
 use Rattle.oz_grammar.specs.declared.symbol.Purpose.TheVariants as purpose
 use Rattle.oz_grammar.specs.declared.fault.Fault.{Fault}
 use Rattle.oz_grammar.specs.declared.fault.FaultKind.TheVariants.{Wide}
-use Rattle.oz_grammar.specs.Grammar.{Name, Opening, Locals, ProcValue, ProcNamed, Threads, ThreadsAt, Choice, Ifs, Cases, opening_text, choice_text}
+use Rattle.oz_grammar.specs.Grammar.{Identifier, Opening, Locals, ProcValue, ProcNamed, Threads, ThreadsAt, Choice, Ifs, Cases, opening_text, choice_text}
 use Rattle.oz_grammar.specs.Scoping.{Scope, declaration_of, pattern_names, opening_scope, choice_scope}
 use Rattle.oz_grammar.specs.Table.{value_of, features_in, record_pattern, pattern_of, opening_row, choice_row}
 use Rattle.oz_grammar.specs.Faults.{where_not, use_fault, count_fault, site_fault}
@@ -46,7 +46,7 @@ canonical_choice (Cases x p) scope = Cases (name_at (declaration_of scope x)) (p
 few : (k : ℕ) → k < 64 → count_fault k ≡ None
 few k lt = let yes : nat_lt k 64 ≡ true = grind arith in ap (λ (b : Bool). where_not b Wide) yes
 
-pub locals_pass : (count first : ℕ) (before : List Name) (rest : List Symbol) (behind : Option Fault) → length before + count ≤ 64 → check_locals before (names_from first count) rest behind ≡ behind
+pub locals_pass : (count first : ℕ) (before : List Identifier) (rest : List Symbol) (behind : Option Fault) → length before + count ≤ 64 → check_locals before (names_from first count) rest behind ≡ behind
 locals_pass zero first before rest behind le = refl
 locals_pass (suc count) first before rest behind le =
     let more = locals_pass count (first + 1) (before ++ name_at first ∷ []) rest behind (omega (arith, le, length-append before (name_at first ∷ []))) in
@@ -73,7 +73,7 @@ scope_more scope count =
     let e : 0 + length scope ≡ length scope = omega arith in
     subst (λ (m : ℕ). names_from 0 (length scope) ++ names_from m count ≡ names_from 0 (length scope + count)) e (sym (names_append 0 (length scope) count))
 
-scope_behind : (scope : Scope) (xs : List Name) → names_from 0 (length scope) ++ names_from (length scope) (length xs) ≡ names_from 0 (length (scope ++ xs))
+scope_behind : (scope : Scope) (xs : List Identifier) → names_from 0 (length scope) ++ names_from (length scope) (length xs) ≡ names_from 0 (length (scope ++ xs))
 scope_behind scope xs = scope_more scope (length xs) ∙ ap (names_from 0) (sym (length-append scope xs))
 
 -- ---- patterns
@@ -116,7 +116,7 @@ site_pass : (n : Option ℤ) → site_fault n ≡ None → site_fault (Some (val
 site_pass (Some z) e = e
 site_pass None e = cc
 
-proc_again : (scope : Scope) (x : Name) (xs : List Name) → length scope ≤ 12800 → declaration_of scope x < length scope → length xs ≤ 64 → OpensAgain (ProcValue x xs) scope
+proc_again : (scope : Scope) (x : Identifier) (xs : List Identifier) → length scope ≤ 12800 → declaration_of scope x < length scope → length xs ≤ 64 → OpensAgain (ProcValue x xs) scope
 proc_again scope x xs le within most =
     let small : length scope ≤ 2 ^ 64 = omega (arith, le) in
     let l = length_from (length scope) (length xs) in
@@ -196,5 +196,5 @@ choice_symbols (Ifs x) scope b c body rest = refl
 choice_symbols (Cases x p) scope b c body rest = refl
 
 -- a handler's identifier
-pub handler_again : (scope : Scope) (x : Name) → canonical_scope scope ++ name_at (length scope) ∷ [] ≡ canonical_scope (scope ++ x ∷ [])
+pub handler_again : (scope : Scope) (x : Identifier) → canonical_scope scope ++ name_at (length scope) ∷ [] ≡ canonical_scope (scope ++ x ∷ [])
 handler_again scope x = scope_behind scope (x ∷ [])

@@ -9,7 +9,7 @@ use Rattle.tree_node.specs.Node.{AreAscending}
 use Rattle.kernel_syntax.specs.declared.stmt.Stmt.{Stmt}
 use Rattle.kernel_syntax.specs.declared.stmt.Stmt.TheVariants as stmt
 use Rattle.kernel_syntax.specs.declared.stmt.Selector.TheVariants as selector
-use Rattle.kernel_syntax.specs.Scopes.{names_of}
+use Rattle.kernel_syntax.specs.Scopes.{named_positions}
 use Rattle.kernel_syntax.specs.Program.{IsStmt}
 use Rattle.oz_grammar.specs.declared.symbol.Symbol.{Symbol}
 use Rattle.oz_grammar.specs.declared.symbol.Symbol.TheVariants as t
@@ -18,12 +18,12 @@ use Rattle.oz_grammar.specs.declared.symbol.BuiltIn.TheVariants as built
 use Rattle.oz_grammar.specs.declared.symbol.Purpose.TheVariants as purpose
 use Rattle.oz_grammar.specs.declared.fault.Fault.{Fault}
 use Rattle.oz_grammar.specs.declared.fault.FaultKind.TheVariants.{Unbound, Wide}
-use Rattle.oz_grammar.specs.Grammar.{Name, Field, Value, ToVar, Calculates, Selects, Pairs, ToInt, ToAtom, ToRecord, Plain, Skips, Tells, Calls, Raises, plain_text}
+use Rattle.oz_grammar.specs.Grammar.{Identifier, Field, Value, ToVar, Calculates, Selects, Pairs, ToInt, ToAtom, ToRecord, Plain, Skips, Tells, Calls, Raises, plain_text}
 use Rattle.oz_grammar.specs.Scoping.{Scope, is_declared, declaration_of, built_in_at, fields_of, HasArguments, PlainDerives}
 use Rattle.oz_grammar.specs.Table.{slots_of, features_in, record_row, value_row, built_in_row, call_row, plain_row}
 use Rattle.oz_grammar.specs.Faults.{where_not, use_fault, count_fault}
 use Rattle.oz_grammar.specs.Check.{check_uses, check_arguments, check_plain}
-use Rattle.oz_grammar.specs.Canonical.{name_at, names_from, marked, slot_field, selection_of, tell_statement, calls_built_in, row_symbols}
+use Rattle.oz_grammar.specs.Canonical.{name_at, names_from, field_with_feature, slot_field, selection_of, tell_statement, calls_built_in, row_symbols}
 use Rattle.kernel_syntax.proofs.Below.{Below}
 use Rattle.oz_grammar.proofs.CanonicalNames.{declared_at, place_at, built_in_here, no_built_in}
 use Rattle.oz_grammar.proofs.CanonicalFields.{marked_fields, marked_check, used_pass}
@@ -104,7 +104,7 @@ plain_symbols (stmt.Exchange cell old new) body rest p = refl
 plain_symbols (stmt.Raise x) body rest p = refl
 
 -- a field with the identifier of its position
-abbrev pub named_slot : Feature × ℕ → Feature × Name
+abbrev pub named_slot : Feature × ℕ → Feature × Identifier
 named_slot s = (s.0, name_at s.1)
 
 -- ---- under the identifiers V0 to V(n - 1)
@@ -116,7 +116,7 @@ module _ (n : ℕ) (small : n ≤ 2 ^ 64) where
   pub place : (k : ℕ) → k < n → declaration_of (names_from 0 n) (name_at k) ≡ k
   place k lt = place_at n k lt small
 
-  fields_marked : (slots : List (Feature × ℕ)) → map slot_field slots ≡ map marked (map named_slot slots)
+  fields_marked : (slots : List (Feature × ℕ)) → map slot_field slots ≡ map field_with_feature (map named_slot slots)
   fields_marked [] = refl
   fields_marked (s ∷ slots) = ap (λ (fs : List Field). slot_field s ∷ fs) (fields_marked slots)
 
@@ -135,7 +135,7 @@ module _ (n : ℕ) (small : n ≤ 2 ^ 64) where
       let more = fields_slots slots below.1 in
       rw (at, more) refl
 
-  fields_declared : (slots : List (Feature × ℕ)) → Below n (map (λ (s : Feature × ℕ). s.1) slots) → Each (λ (f : Feature × Name). is_declared (names_from 0 n) f.1 ≡ true) (map named_slot slots)
+  fields_declared : (slots : List (Feature × ℕ)) → Below n (map (λ (s : Feature × ℕ). s.1) slots) → Each (λ (f : Feature × Identifier). is_declared (names_from 0 n) f.1 ≡ true) (map named_slot slots)
   fields_declared [] below = tt
   fields_declared (s ∷ slots) below = (declared_at n s.1 below.0 small, fields_declared slots below.1)
 
@@ -171,7 +171,7 @@ module _ (n : ℕ) (small : n ≤ 2 ^ 64) where
 
   -- ---- they pass
 
-  pub row_passes : (row : Stmt) (rest : List Symbol) (behind : Option Fault) → IsPlainRow row → IsStmt row → Below n (names_of row) → check_plain (plain_tree row) (names_from 0 n) rest behind ≡ behind
+  pub row_passes : (row : Stmt) (rest : List Symbol) (behind : Option Fault) → IsPlainRow row → IsStmt row → Below n (named_positions row) → check_plain (plain_tree row) (names_from 0 n) rest behind ≡ behind
   row_passes (stmt.Seq bodies) rest behind p limits below = absurd p
   row_passes (stmt.Local first count c) rest behind p limits below = absurd p
   row_passes (stmt.TellProc left first count c) rest behind p limits below = absurd p
@@ -207,7 +207,7 @@ module _ (n : ℕ) (small : n ≤ 2 ^ 64) where
   built_in_again : (b : BuiltIn) (ks : List ℕ) → Below n ks → plain_row (calls_built_in b ks) (names_from 0 n) ≡ built_in_row b ks
   built_in_again b ks below = rw (built_in_here b n, places ks below) refl
 
-  pub row_again : (row : Stmt) → IsPlainRow row → IsStmt row → Below n (names_of row) → plain_row (plain_tree row) (names_from 0 n) ≡ row
+  pub row_again : (row : Stmt) → IsPlainRow row → IsStmt row → Below n (named_positions row) → plain_row (plain_tree row) (names_from 0 n) ≡ row
   row_again (stmt.Seq bodies) p limits below = absurd p
   row_again (stmt.Local first count c) p limits below = absurd p
   row_again (stmt.TellProc left first count c) p limits below = absurd p
@@ -237,7 +237,7 @@ module _ (n : ℕ) (small : n ≤ 2 ^ 64) where
 
   -- ---- they derive
 
-  pub row_derives : (row : Stmt) → IsPlainRow row → Below n (names_of row) → PlainDerives (plain_tree row) (names_from 0 n)
+  pub row_derives : (row : Stmt) → IsPlainRow row → Below n (named_positions row) → PlainDerives (plain_tree row) (names_from 0 n)
   row_derives (stmt.Seq bodies) p below = absurd p
   row_derives (stmt.Local first count c) p below = absurd p
   row_derives (stmt.TellProc left first count c) p below = absurd p

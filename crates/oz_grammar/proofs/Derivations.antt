@@ -5,7 +5,7 @@ use Rattle.oz_grammar.specs.declared.symbol.Symbol.TheVariants as t
 use Rattle.oz_grammar.specs.declared.symbol.Sign.TheVariants as sign
 use Rattle.oz_grammar.specs.declared.symbol.Closer.{Closer}
 use Rattle.oz_grammar.specs.declared.symbol.Closer.TheVariants as closer
-use Rattle.oz_grammar.specs.Grammar.{Name, ToInt, Skips, Tells, Calls, Raises, Opening, Locals, ProcValue, ProcNamed, Threads, ThreadsAt, Choice, Ifs, Cases, Statement, Simple, Block, Chooses, Tries, Sequence, One, Then, pattern_text, opening_text, choice_text, stmt_text, seq_text, closer_symbol}
+use Rattle.oz_grammar.specs.Grammar.{Identifier, ToInt, Skips, Tells, Calls, Raises, Opening, Locals, ProcValue, ProcNamed, Threads, ThreadsAt, Choice, Ifs, Cases, Statement, Simple, Block, Chooses, Tries, Sequence, One, Then, pattern_text, opening_text, choice_text, stmt_text, seq_text, closer_symbol}
 use Rattle.oz_grammar.specs.Scoping.{Scope, built_in_at, opening_scope, choice_scope, StmtDerives, SeqDerives}
 use Rattle.oz_grammar.specs.Faults.{fewer}
 use Rattle.oz_grammar.specs.Points.{First, AfterThread, Later, Point, At, Here, LocalName, ValueOf, CallName, ProcName, CatchName, points_behind_first, or_points, is_closer, next_of, start, walk}
@@ -37,10 +37,10 @@ SeqLaw n = (symbols : List Symbol) (c : Closer) (scope : Scope) (d : ℕ) (σ : 
 
 -- ---- statements without bodies
 
-told : (c : Closer) (scope : Scope) (d : ℕ) (σ : List Point) (x : Name) (symbols out : List Symbol) → ValueTaken c scope d σ symbols out → StmtTaken c scope d σ (t.Variable x ∷ t.Equals ∷ symbols) out
+told : (c : Closer) (scope : Scope) (d : ℕ) (σ : List Point) (x : Identifier) (symbols out : List Symbol) → ValueTaken c scope d σ symbols out → StmtTaken c scope d σ (t.Variable x ∷ t.Equals ∷ symbols) out
 told c scope d σ x symbols out v = record { stmt = Simple (Tells x v.part); rest = v.rest; is = ap (λ (a : List Symbol). t.Variable x ∷ t.Equals ∷ a) v.is; derives = tt; on = v.on }
 
-called : (c : Closer) (scope : Scope) (d : ℕ) (σ : List Point) (p : Name) (symbols out : List Symbol) → CallTaken (built_in_at scope p) (At Later c scope d ∷ σ) symbols out → StmtTaken c scope d σ (t.OpenCurly ∷ t.Variable p ∷ symbols) out
+called : (c : Closer) (scope : Scope) (d : ℕ) (σ : List Point) (p : Identifier) (symbols out : List Symbol) → CallTaken (built_in_at scope p) (At Later c scope d ∷ σ) symbols out → StmtTaken c scope d σ (t.OpenCurly ∷ t.Variable p ∷ symbols) out
 called c scope d σ p symbols out k = record { stmt = Simple (Calls p k.names); rest = k.rest; is = ap (λ (a : List Symbol). t.OpenCurly ∷ t.Variable p ∷ a) k.is; derives = k.has; on = k.on }
 
 -- ---- statements with bodies
@@ -52,16 +52,16 @@ block_at : (c : Closer) (scope : Scope) (d : ℕ) (σ : List Point) (o : Opening
 block_at c scope d σ o whole symbols out is k = subst (λ (a : List Symbol). StmtTaken c scope d σ a out) (sym is) (block c scope d σ o symbols out k)
 
 -- a list of names, and then a body
-body_of : (text : List Name → List Symbol → List Symbol) (n : ℕ) (law : SeqLaw n) (scope : Scope) (before : List Name) (d : ℕ) (σ : List Point) (symbols out : List Symbol) → ((xs : List Name) (rest : List Symbol) → length rest ≤ length (text xs rest)) → length symbols < n → (k : BodyTaken text scope before d σ symbols out) → SeqTaken closer.End (scope ++ (before ++ k.part)) σ k.rest out
+body_of : (text : List Identifier → List Symbol → List Symbol) (n : ℕ) (law : SeqLaw n) (scope : Scope) (before : List Identifier) (d : ℕ) (σ : List Point) (symbols out : List Symbol) → ((xs : List Identifier) (rest : List Symbol) → length rest ≤ length (text xs rest)) → length symbols < n → (k : BodyTaken text scope before d σ symbols out) → SeqTaken closer.End (scope ++ (before ++ k.part)) σ k.rest out
 body_of text n law scope before d σ symbols out longer lt k =
     let l = longer k.part k.rest in
     let e : length symbols ≡ length (text k.part k.rest) = ap length k.is in
     law k.rest closer.End (scope ++ (before ++ k.part)) d σ out (omega arith) k.on
 
-in_longer : (xs : List Name) (rest : List Symbol) → length rest ≤ length (in_text xs rest)
+in_longer : (xs : List Identifier) (rest : List Symbol) → length rest ≤ length (in_text xs rest)
 in_longer xs rest = let i = names_longer xs (t.In ∷ rest) in omega arith
 
-curly_longer : (xs : List Name) (rest : List Symbol) → length rest ≤ length (curly_text xs rest)
+curly_longer : (xs : List Identifier) (rest : List Symbol) → length rest ≤ length (curly_text xs rest)
 curly_longer xs rest = let i = names_longer xs (t.CloseCurly ∷ rest) in omega arith
 
 local_taken : (n : ℕ) (law : SeqLaw n) (symbols : List Symbol) (c : Closer) (scope : Scope) (d : ℕ) (σ : List Point) (out : List Symbol) → length symbols < n → leaves symbols (LocalName scope (fewer d) ∷ At Later c scope d ∷ σ) ≡ Some out → StmtTaken c scope d σ (t.Local ∷ symbols) out
@@ -78,7 +78,7 @@ proc_taken n law (t.OpenCurly ∷ t.Variable x ∷ xs) c scope d σ out lt h =
     (body_of curly_text n law scope [] (fewer d) (At Later c scope d ∷ σ) xs out curly_longer (omega arith) k)
 proc_taken n law symbols c scope d σ out lt h = absurd (never out h)
 
-right_taken : (n : ℕ) (law : SeqLaw n) (x : Name) (symbols : List Symbol) (c : Closer) (scope : Scope) (d : ℕ) (σ : List Point) (out : List Symbol) → length symbols < n → leaves symbols (ValueOf c scope d ∷ σ) ≡ Some out → StmtTaken c scope d σ (t.Variable x ∷ t.Equals ∷ symbols) out
+right_taken : (n : ℕ) (law : SeqLaw n) (x : Identifier) (symbols : List Symbol) (c : Closer) (scope : Scope) (d : ℕ) (σ : List Point) (out : List Symbol) → length symbols < n → leaves symbols (ValueOf c scope d ∷ σ) ≡ Some out → StmtTaken c scope d σ (t.Variable x ∷ t.Equals ∷ symbols) out
 right_taken n law x (t.Variable y ∷ xs) c scope d σ out lt h = told c scope d σ x (t.Variable y ∷ xs) out (variable_taken y xs c scope d σ out h)
 right_taken n law x (t.Integer i ∷ xs) c scope d σ out lt h = record { stmt = Simple (Tells x (ToInt i)); rest = xs; is = refl; derives = tt; on = h }
 right_taken n law x (t.Atom a ∷ xs) c scope d σ out lt h = told c scope d σ x (t.Atom a ∷ xs) out (atom_taken a xs c scope d σ out h)
@@ -88,7 +88,7 @@ right_taken n law x (t.Proc ∷ t.OpenCurly ∷ t.Dollar ∷ xs) c scope d σ ou
     (body_of curly_text n law scope [] (fewer d) (At Later c scope d ∷ σ) xs out curly_longer (omega arith) k)
 right_taken n law x symbols c scope d σ out lt h = absurd (never out h)
 
-tell_taken : (n : ℕ) (law : SeqLaw n) (x : Name) (symbols : List Symbol) (c : Closer) (scope : Scope) (d : ℕ) (σ : List Point) (out : List Symbol) → length symbols < n → leaves symbols (Here sign.Equals ∷ ValueOf c scope d ∷ σ) ≡ Some out → StmtTaken c scope d σ (t.Variable x ∷ symbols) out
+tell_taken : (n : ℕ) (law : SeqLaw n) (x : Identifier) (symbols : List Symbol) (c : Closer) (scope : Scope) (d : ℕ) (σ : List Point) (out : List Symbol) → length symbols < n → leaves symbols (Here sign.Equals ∷ ValueOf c scope d ∷ σ) ≡ Some out → StmtTaken c scope d σ (t.Variable x ∷ symbols) out
 tell_taken n law x (t.Equals ∷ xs) c scope d σ out lt h = right_taken n law x xs c scope d σ out (omega arith) h
 tell_taken n law x symbols c scope d σ out lt h = absurd (never out h)
 
@@ -128,7 +128,7 @@ case_taken n law symbols c scope d σ out lt h = absurd (never out h)
 
 -- behind the body of a `try`: the name, and then the handler
 pub record HandlerTaken (scope : Scope) (σ : List Point) (symbols out : List Symbol) : Type 0 where
-  pub name : Name
+  pub name : Identifier
   pub middle : List Symbol
   pub is : symbols ≡ t.Variable name ∷ t.Then ∷ middle
   pub handler : SeqTaken closer.End (scope ++ name ∷ []) σ middle out

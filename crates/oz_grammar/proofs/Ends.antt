@@ -4,7 +4,7 @@ use Rattle.oz_grammar.specs.declared.symbol.Symbol.{Symbol}
 use Rattle.oz_grammar.specs.declared.symbol.Symbol.TheVariants as t
 use Rattle.oz_lexer.specs.declared.token.LexKind.{LexKind}
 use Rattle.oz_grammar.specs.Symbols.{ends_once}
-use Rattle.oz_grammar.specs.Grammar.{Name, Mark, AtomMark, IntMark, Selection, ByVariable, ByMark, Field, Placed, Marked, Value, ToVar, Calculates, Selects, Pairs, ToInt, ToAtom, ToRecord, Pattern, IntPattern, AtomPattern, RecordPattern, PairPattern, Plain, Skips, Tells, Calls, Raises, Opening, Locals, ProcValue, ProcNamed, Threads, ThreadsAt, Choice, Ifs, Cases, Statement, Simple, Block, Chooses, Tries, Sequence, One, Then, mark_symbol, selection_symbol, names_text, fields_text, value_text, pattern_text, plain_text, opening_text, choice_text, stmt_text, seq_text, program_text}
+use Rattle.oz_grammar.specs.Grammar.{Identifier, FeatureToken, AtomFeature, IntFeature, Selection, ByVariable, ByFeature, Field, Placed, WithFeature, Value, ToVar, Calculates, Selects, Pairs, ToInt, ToAtom, ToRecord, Pattern, IntPattern, AtomPattern, RecordPattern, PairPattern, Plain, Skips, Tells, Calls, Raises, Opening, Locals, ProcValue, ProcNamed, Threads, ThreadsAt, Choice, Ifs, Cases, Statement, Simple, Block, Chooses, Tries, Sequence, One, Then, feature_symbol, selection_symbol, names_text, fields_text, value_text, pattern_text, plain_text, opening_text, choice_text, stmt_text, seq_text, program_text}
 
 -- no symbol that ends a text
 abbrev pub is_inner : Symbol → Bool
@@ -16,22 +16,22 @@ is_inner symbol = true
 abbrev pub PassesOver : (List Symbol → Bool) → Type 0
 PassesOver g = (x : Symbol) (rest : List Symbol) → is_inner x ≡ true → g (x ∷ rest) ≡ g rest
 
-mark_inner : (m : Mark) → is_inner (mark_symbol m) ≡ true
-mark_inner (AtomMark a) = refl
-mark_inner (IntMark n) = refl
+mark_inner : (m : FeatureToken) → is_inner (feature_symbol m) ≡ true
+mark_inner (AtomFeature a) = refl
+mark_inner (IntFeature n) = refl
 
 selection_inner : (s : Selection) → is_inner (selection_symbol s) ≡ true
 selection_inner (ByVariable x) = refl
-selection_inner (ByMark m) = mark_inner m
+selection_inner (ByFeature m) = mark_inner m
 
-names_pass : (g : List Symbol → Bool) (over : PassesOver g) (xs : List Name) (rest : List Symbol) → g (names_text xs rest) ≡ g rest
+names_pass : (g : List Symbol → Bool) (over : PassesOver g) (xs : List Identifier) (rest : List Symbol) → g (names_text xs rest) ≡ g rest
 names_pass g over [] rest = refl
 names_pass g over (x ∷ xs) rest = over (t.Variable x) (names_text xs rest) refl ∙ names_pass g over xs rest
 
 fields_pass : (g : List Symbol → Bool) (over : PassesOver g) (fs : List Field) (rest : List Symbol) → g (fields_text fs rest) ≡ g rest
 fields_pass g over [] rest = refl
 fields_pass g over (Placed x ∷ fs) rest = over (t.Variable x) (fields_text fs rest) refl ∙ fields_pass g over fs rest
-fields_pass g over (Marked m x ∷ fs) rest = over (mark_symbol m) _ (mark_inner m) ∙ over t.Colon _ refl ∙ over (t.Variable x) (fields_text fs rest) refl ∙ fields_pass g over fs rest
+fields_pass g over (WithFeature m x ∷ fs) rest = over (feature_symbol m) _ (mark_inner m) ∙ over t.Colon _ refl ∙ over (t.Variable x) (fields_text fs rest) refl ∙ fields_pass g over fs rest
 
 value_passes : (g : List Symbol → Bool) (over : PassesOver g) (v : Value) (rest : List Symbol) → g (value_text v rest) ≡ g rest
 value_passes g over (ToVar y) rest = over (t.Variable y) rest refl

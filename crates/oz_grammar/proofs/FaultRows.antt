@@ -10,9 +10,9 @@ use Rattle.oz_grammar.specs.declared.symbol.Purpose.TheVariants as purpose
 use Rattle.oz_grammar.specs.declared.fault.Fault.{Fault}
 use Rattle.oz_grammar.specs.declared.fault.FaultKind.{FaultKind}
 use Rattle.oz_grammar.specs.declared.fault.FaultKind.TheVariants.{Lex, Expected, Twice}
-use Rattle.oz_grammar.specs.Grammar.{Name, Mark, AtomMark, IntMark, ByVariable, ByMark, Field, Placed, Marked, Value, ToVar, Calculates, Selects, Pairs, ToInt, ToAtom, ToRecord, Pattern, IntPattern, AtomPattern, RecordPattern, PairPattern, Plain, Skips, Tells, Calls, Raises, Opening, Locals, ProcValue, ProcNamed, Threads, ThreadsAt, Choice, Ifs, Cases, Statement, Simple, Block, Chooses, Tries, Sequence, One, Then, seq_text}
+use Rattle.oz_grammar.specs.Grammar.{Identifier, FeatureToken, AtomFeature, IntFeature, ByVariable, ByFeature, Field, Placed, WithFeature, Value, ToVar, Calculates, Selects, Pairs, ToInt, ToAtom, ToRecord, Pattern, IntPattern, AtomPattern, RecordPattern, PairPattern, Plain, Skips, Tells, Calls, Raises, Opening, Locals, ProcValue, ProcNamed, Threads, ThreadsAt, Choice, Ifs, Cases, Statement, Simple, Block, Chooses, Tries, Sequence, One, Then, seq_text}
 use Rattle.oz_grammar.specs.Scoping.{Scope, Fields, is_declared, built_in_at, has_feature, has_name, names_in, with_field, feature_of, place_feature, opening_scope, choice_scope}
-use Rattle.oz_grammar.specs.Faults.{or_else, where_not, where_so, number_fault, site_fault, deep_fault, use_fault, count_fault, called_fault, argument_fault, formal_fault, room_fault, feature_fault, mark_fault, name_fault, placed_fault, selected_fault, fewer}
+use Rattle.oz_grammar.specs.Faults.{or_else, where_not, where_so, number_fault, site_fault, deep_fault, use_fault, count_fault, called_fault, argument_fault, formal_fault, room_fault, feature_fault, feature_token_fault, name_fault, placed_fault, selected_fault, fewer}
 use Rattle.oz_grammar.specs.Check.{first_fault, check_fields, check_value, check_pattern, check_locals, check_formals, check_arguments, check_uses, check_call, check_plain, check_opening, check_choice, check_stmt, check_seq, check}
 use Rattle.oz_grammar.specs.Points.{Point, At, Here, Used, LocalName, LocalMore, ValueOf, BehindVariable, BehindAtom, SelectionOf, FieldOf, FieldName, CallName, Arguments, Wanted, PatternOf, BehindPattern, PatternTail, ProcName, Formals, SiteHere, CatchName, stmt_fault, used_wrong, value_wrong, field_wrong, by_name, by_number, wrong_at}
 
@@ -49,23 +49,23 @@ deep_row : (d : ℕ) → Rows (deep_fault d)
 deep_row zero = tt
 deep_row (suc d) = tt
 
-use_row : (scope : Scope) (x : Name) → Rows (use_fault scope x)
+use_row : (scope : Scope) (x : Identifier) → Rows (use_fault scope x)
 use_row scope x = not_row (is_declared scope x) _ tt
 
 count_row : (n : ℕ) → Rows (count_fault n)
 count_row n = not_row _ _ tt
 
-called_row : (o : Option BuiltIn) (scope : Scope) (p : Name) → Rows (called_fault o scope p)
+called_row : (o : Option BuiltIn) (scope : Scope) (p : Identifier) → Rows (called_fault o scope p)
 called_row (Some b) scope p = tt
 called_row None scope p = use_row scope p
 
-argument_row : (scope : Scope) (n : ℕ) (x : Name) → Rows (argument_fault scope n x)
+argument_row : (scope : Scope) (n : ℕ) (x : Identifier) → Rows (argument_fault scope n x)
 argument_row scope n x = or_row (count_fault n) (use_fault scope x) (count_row n) (use_row scope x)
 
 twice_row : (b : Bool) → Rows (where_so b Twice)
 twice_row b = so_row b Twice tt
 
-formal_row : (before : List Name) (x : Name) → Rows (formal_fault before x)
+formal_row : (before : List Identifier) (x : Identifier) → Rows (formal_fault before x)
 formal_row before x = or_row (count_fault (length before)) (where_so (has_name before x) Twice) (count_row (length before)) (twice_row (has_name before x))
 
 room_row : (room : ℕ) → Rows (room_fault room)
@@ -75,20 +75,20 @@ room_row (suc room) = tt
 feature_row : (room : ℕ) (before : Fields) (f : Feature) → Rows (feature_fault room before f)
 feature_row room before f = or_row (room_fault room) (where_so (has_feature before f) Twice) (room_row room) (twice_row (has_feature before f))
 
-mark_row : (room : ℕ) (before : Fields) (m : Mark) → Rows (mark_fault room before m)
-mark_row room before (AtomMark a) = feature_row room before (feature_of (AtomMark a))
-mark_row room before (IntMark n) = or_row (number_fault n) (feature_fault room before (feature_of (IntMark n))) (number_row n) (feature_row room before (feature_of (IntMark n)))
+mark_row : (room : ℕ) (before : Fields) (m : FeatureToken) → Rows (feature_token_fault room before m)
+mark_row room before (AtomFeature a) = feature_row room before (feature_of (AtomFeature a))
+mark_row room before (IntFeature n) = or_row (number_fault n) (feature_fault room before (feature_of (IntFeature n))) (number_row n) (feature_row room before (feature_of (IntFeature n)))
 
-name_row : (p : Purpose) (scope : Scope) (before : Fields) (x : Name) → Rows (name_fault p scope before x)
+name_row : (p : Purpose) (scope : Scope) (before : Fields) (x : Identifier) → Rows (name_fault p scope before x)
 name_row purpose.Use scope before x = use_row scope x
 name_row purpose.Declare scope before x = twice_row (has_name (names_in before) x)
 
-placed_row : (p : Purpose) (scope : Scope) (room : ℕ) (before : Fields) (next : ℕ) (x : Name) → Rows (placed_fault p scope room before next x)
+placed_row : (p : Purpose) (scope : Scope) (room : ℕ) (before : Fields) (next : ℕ) (x : Identifier) → Rows (placed_fault p scope room before next x)
 placed_row p scope room before next x = or_row (feature_fault room before (place_feature next)) (name_fault p scope before x) (feature_row room before (place_feature next)) (name_row p scope before x)
 
-selected_row : (m : Mark) → Rows (selected_fault m)
-selected_row (AtomMark a) = tt
-selected_row (IntMark n) = number_row n
+selected_row : (m : FeatureToken) → Rows (selected_fault m)
+selected_row (AtomFeature a) = tt
+selected_row (IntFeature n) = number_row n
 
 -- ---- at points
 
@@ -116,11 +116,11 @@ value_wrong_row scope x = tt
 
 field_wrong_row : (p : Purpose) (scope : Scope) (room : ℕ) (before : Fields) (next : ℕ) (x : Symbol) → Rows (field_wrong p scope room before next x)
 field_wrong_row p scope room before next (t.Variable x) = placed_row p scope room before next x
-field_wrong_row p scope room before next (t.Atom a) = mark_row room before (AtomMark a)
-field_wrong_row p scope room before next (t.Integer n) = mark_row room before (IntMark n)
+field_wrong_row p scope room before next (t.Atom a) = mark_row room before (AtomFeature a)
+field_wrong_row p scope room before next (t.Integer n) = mark_row room before (IntFeature n)
 field_wrong_row p scope room before next x = tt
 
-by_name_row : (wrong : Name → Option FaultKind) (x : Symbol) → ((n : Name) → Rows (wrong n)) → Rows (by_name wrong x)
+by_name_row : (wrong : Identifier → Option FaultKind) (x : Symbol) → ((n : Identifier) → Rows (wrong n)) → Rows (by_name wrong x)
 by_name_row wrong (t.Variable x) h = h x
 by_name_row wrong x h = tt
 
@@ -163,14 +163,14 @@ stop_row None symbols behind p q = q
 fields_row : (p : Purpose) (scope : Scope) (room : ℕ) (before : Fields) (next : ℕ) (fs : List Field) (rest : List Symbol) (found : Option Fault) → Found found → Found (check_fields p scope room before next fs rest found)
 fields_row p scope room before next [] rest found h = h
 fields_row p scope room before next (Placed x ∷ fs) rest found h = stop_row (placed_fault p scope room before next x) _ _ (placed_row p scope room before next x) (fields_row p scope (fewer room) (with_field (place_feature next) x before) (next + 1) fs rest found h)
-fields_row p scope room before next (Marked m x ∷ fs) rest found h =
-    stop_row (mark_fault room before m) _ _ (mark_row room before m) (stop_row (name_fault p scope before x) _ _ (name_row p scope before x) (fields_row p scope (fewer room) (with_field (feature_of m) x before) next fs rest found h))
+fields_row p scope room before next (WithFeature m x ∷ fs) rest found h =
+    stop_row (feature_token_fault room before m) _ _ (mark_row room before m) (stop_row (name_fault p scope before x) _ _ (name_row p scope before x) (fields_row p scope (fewer room) (with_field (feature_of m) x before) next fs rest found h))
 
 value_row : (v : Value) (scope : Scope) (rest : List Symbol) (behind : Option Fault) → Found behind → Found (check_value v scope rest behind)
 value_row (ToVar y) scope rest behind h = stop_row (use_fault scope y) _ behind (use_row scope y) h
 value_row (Calculates y o z) scope rest behind h = stop_row (use_fault scope y) _ _ (use_row scope y) (stop_row (use_fault scope z) _ behind (use_row scope z) h)
 value_row (Selects y (ByVariable x)) scope rest behind h = stop_row (use_fault scope y) _ _ (use_row scope y) (stop_row (use_fault scope x) _ behind (use_row scope x) h)
-value_row (Selects y (ByMark m)) scope rest behind h = stop_row (use_fault scope y) _ _ (use_row scope y) (stop_row (selected_fault m) _ behind (selected_row m) h)
+value_row (Selects y (ByFeature m)) scope rest behind h = stop_row (use_fault scope y) _ _ (use_row scope y) (stop_row (selected_fault m) _ behind (selected_row m) h)
 value_row (Pairs u z) scope rest behind h = stop_row (use_fault scope u) _ _ (use_row scope u) (stop_row (use_fault scope z) _ behind (use_row scope z) h)
 value_row (ToInt n) scope rest behind h = stop_row (number_fault n) _ behind (number_row n) h
 value_row (ToAtom a) scope rest behind h = h
@@ -182,23 +182,23 @@ pattern_row (AtomPattern a) scope rest behind h = h
 pattern_row (RecordPattern a fs) scope rest behind h = fields_row purpose.Declare scope 64 [] 1 fs (t.CloseRound ∷ rest) behind h
 pattern_row (PairPattern u z) scope rest behind h = stop_row (where_so (has_name (u ∷ []) z) Twice) _ behind (twice_row (has_name (u ∷ []) z)) h
 
-locals_row : (before xs : List Name) (rest : List Symbol) (behind : Option Fault) → Found behind → Found (check_locals before xs rest behind)
+locals_row : (before xs : List Identifier) (rest : List Symbol) (behind : Option Fault) → Found behind → Found (check_locals before xs rest behind)
 locals_row before [] rest behind h = h
 locals_row before (x ∷ xs) rest behind h = stop_row (count_fault (length before)) _ _ (count_row (length before)) (locals_row (before ++ x ∷ []) xs rest behind h)
 
-formals_row : (before xs : List Name) (rest : List Symbol) (behind : Option Fault) → Found behind → Found (check_formals before xs rest behind)
+formals_row : (before xs : List Identifier) (rest : List Symbol) (behind : Option Fault) → Found behind → Found (check_formals before xs rest behind)
 formals_row before [] rest behind h = h
 formals_row before (x ∷ xs) rest behind h = stop_row (formal_fault before x) _ _ (formal_row before x) (formals_row (before ++ x ∷ []) xs rest behind h)
 
-arguments_row : (scope : Scope) (n : ℕ) (xs : List Name) (rest : List Symbol) (behind : Option Fault) → Found behind → Found (check_arguments scope n xs rest behind)
+arguments_row : (scope : Scope) (n : ℕ) (xs : List Identifier) (rest : List Symbol) (behind : Option Fault) → Found behind → Found (check_arguments scope n xs rest behind)
 arguments_row scope n [] rest behind h = h
 arguments_row scope n (x ∷ xs) rest behind h = stop_row (argument_fault scope n x) _ _ (argument_row scope n x) (arguments_row scope (n + 1) xs rest behind h)
 
-uses_row : (scope : Scope) (xs : List Name) (rest : List Symbol) (behind : Option Fault) → Found behind → Found (check_uses scope xs rest behind)
+uses_row : (scope : Scope) (xs : List Identifier) (rest : List Symbol) (behind : Option Fault) → Found behind → Found (check_uses scope xs rest behind)
 uses_row scope [] rest behind h = h
 uses_row scope (x ∷ xs) rest behind h = stop_row (use_fault scope x) _ _ (use_row scope x) (uses_row scope xs rest behind h)
 
-call_row : (o : Option BuiltIn) (scope : Scope) (xs : List Name) (rest : List Symbol) (behind : Option Fault) → Found behind → Found (check_call o scope xs rest behind)
+call_row : (o : Option BuiltIn) (scope : Scope) (xs : List Identifier) (rest : List Symbol) (behind : Option Fault) → Found behind → Found (check_call o scope xs rest behind)
 call_row (Some b) scope xs rest behind h = uses_row scope xs rest behind h
 call_row None scope xs rest behind h = arguments_row scope 0 xs rest behind h
 

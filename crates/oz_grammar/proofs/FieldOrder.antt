@@ -6,7 +6,7 @@ use Rattle.std.specs.Bool.{Decides}
 use Rattle.std.specs.declared.cmp.Ordering.{Ordering}
 use Rattle.std.specs.declared.cmp.Ordering.TheVariants.{Less, Equal, Greater}
 use Rattle.std.specs.Cmp.{IsTotalOrder}
-use Rattle.std.specs.Ordering.{int_cmp, nat_cmp, ordering_reverse, is_eq}
+use Rattle.std.specs.Ordering.{int_cmp, nat_cmp, ordering_reverse, is_eq, is_lt}
 use Rattle.std.specs.Cmp.Lexicographic.{slice_cmp}
 use Rattle.std.specs.Str.{bytes_eq}
 use Rattle.std.proofs.lemmas.Cmp.{int_cmp_total, nat_list_cmp_total}
@@ -23,10 +23,10 @@ use Rattle.oz_grammar.specs.declared.symbol.Purpose.TheVariants as purpose
 use Rattle.oz_grammar.specs.declared.fault.Fault.{Fault}
 use Rattle.oz_grammar.specs.declared.fault.FaultKind.{FaultKind}
 use Rattle.oz_grammar.specs.declared.fault.FaultKind.TheVariants.{Twice}
-use Rattle.oz_grammar.specs.Grammar.{Name, Mark, AtomMark, IntMark, Field, Placed, Marked}
-use Rattle.oz_grammar.specs.Scoping.{Scope, Fields, is_declared, feature_of, place_feature, has_feature, is_less, with_field, fields_behind, fields_of}
+use Rattle.oz_grammar.specs.Grammar.{Identifier, FeatureToken, AtomFeature, IntFeature, Field, Placed, WithFeature}
+use Rattle.oz_grammar.specs.Scoping.{Scope, Fields, is_declared, feature_of, place_feature, has_feature, with_field, fields_behind, fields_of}
 use Rattle.oz_grammar.specs.Table.{features_in}
-use Rattle.oz_grammar.specs.Faults.{or_else, where_so, where_not, number_fault, room_fault, feature_fault, mark_fault, name_fault, placed_fault, fewer}
+use Rattle.oz_grammar.specs.Faults.{or_else, where_so, where_not, number_fault, room_fault, feature_fault, feature_token_fault, name_fault, placed_fault, fewer}
 use Rattle.oz_grammar.specs.Check.{first_fault, check_fields}
 use Rattle.std.proofs.lemmas.Bool.{or_parts}
 use Rattle.tree_node.proofs.FeatureOrder.{feature_trans}
@@ -34,7 +34,7 @@ use Rattle.tree_node.proofs.FeatureOrder.{feature_trans}
 -- ---- the order of features
 
 -- of two that differ, one is below
-turned : (o r : Ordering) → o ≡ ordering_reverse r → is_less r ≡ false → is_eq o ≡ false → o ≡ Less
+turned : (o r : Ordering) → o ≡ ordering_reverse r → is_lt r ≡ false → is_eq o ≡ false → o ≡ Less
 turned o Less e low other = cc
 turned o Equal e low other = let same : true ≡ false = rw e at other in cc
 turned o Greater e low other = e
@@ -42,7 +42,7 @@ turned o Greater e low other = e
 int_equal : (a b : Rattle.std.specs.Prelude.ℤ) → is_eq (int_cmp a b) ≡ true → a ≡ b
 int_equal a b e = grind arith
 
-above : (f g : Feature) → is_less (feature_cmp f g) ≡ false → equal_feature g f ≡ false → feature_cmp g f ≡ Less
+above : (f g : Feature) → is_lt (feature_cmp f g) ≡ false → equal_feature g f ≡ false → feature_cmp g f ≡ Less
 above (feature.Int a) (feature.Int b) low other =
     let differs : is_eq (int_cmp b a) ≡ false =
     (let go : (t : Bool) → is_eq (int_cmp b a) ≡ t → t ≡ false = elim [
@@ -62,45 +62,45 @@ Each-below f g [] low up = tt
 Each-below f g (h ∷ gs) low up = (feature_trans f g h low up.0, Each-below f g gs low up.1)
 
 -- what holds of all, and of one field more, holds of all then
-pub Each-with_field : (P : Feature × Name → Type 0) (f : Feature) (x : Name) (fields : Fields) → P (f, x) → Each P fields → Each P (with_field f x fields)
+pub Each-with_field : (P : Feature × Identifier → Type 0) (f : Feature) (x : Identifier) (fields : Fields) → P (f, x) → Each P fields → Each P (with_field f x fields)
 Each-with_field P f x [] p ps = (p, tt)
 Each-with_field P f x ((g, y) ∷ fields) p ps =
     let chosen : (b : Bool) → Each P (cond b ((f, x) ∷ (g, y) ∷ fields) ((g, y) ∷ with_field f x fields)) = elim [
       | true ↦ (p, ps)
       | false ↦ (ps.0, Each-with_field P f x fields p ps.1)
-    ] in chosen (is_less (feature_cmp f g))
+    ] in chosen (is_lt (feature_cmp f g))
 
-Each-features : (P : Feature → Type 0) (fields : Fields) → Each (λ (g : Feature × Name). P g.0) fields → Each P (features_in fields)
+Each-features : (P : Feature → Type 0) (fields : Fields) → Each (λ (g : Feature × Identifier). P g.0) fields → Each P (features_in fields)
 Each-features P [] ps = tt
 Each-features P (g ∷ fields) ps = (ps.0, Each-features P fields ps.1)
 
-Each-fields : (P : Feature → Type 0) (fields : Fields) → Each P (features_in fields) → Each (λ (g : Feature × Name). P g.0) fields
+Each-fields : (P : Feature → Type 0) (fields : Fields) → Each P (features_in fields) → Each (λ (g : Feature × Identifier). P g.0) fields
 Each-fields P [] ps = tt
 Each-fields P (g ∷ fields) ps = (ps.0, Each-fields P fields ps.1)
 
-length-with_field : (f : Feature) (x : Name) (fields : Fields) → length (with_field f x fields) ≡ suc (length fields)
+length-with_field : (f : Feature) (x : Identifier) (fields : Fields) → length (with_field f x fields) ≡ suc (length fields)
 length-with_field f x [] = refl
 length-with_field f x ((g, y) ∷ fields) =
     let chosen : (b : Bool) → length (cond b ((f, x) ∷ (g, y) ∷ fields) ((g, y) ∷ with_field f x fields)) ≡ suc (suc (length fields)) = elim [
       | true ↦ refl
       | false ↦ ap suc (length-with_field f x fields)
-    ] in chosen (is_less (feature_cmp f g))
+    ] in chosen (is_lt (feature_cmp f g))
 
-first_less : (o : Ordering) → is_less o ≡ true → o ≡ Less
+first_less : (o : Ordering) → is_lt o ≡ true → o ≡ Less
 first_less Less e = refl
 first_less Equal e = cc
 first_less Greater e = cc
 
-ascending_with_field : (f : Feature) (x : Name) (fields : Fields) → has_feature fields f ≡ false → AreAscending (features_in fields) → AreAscending (features_in (with_field f x fields))
+ascending_with_field : (f : Feature) (x : Identifier) (fields : Fields) → has_feature fields f ≡ false → AreAscending (features_in fields) → AreAscending (features_in (with_field f x fields))
 ascending_with_field f x [] other up = (tt, tt)
 ascending_with_field f x ((g, y) ∷ fields) other up =
     let two = or_parts (equal_feature g f) (has_feature fields f) other in
-    let chosen : (b : Bool) → is_less (feature_cmp f g) ≡ b → AreAscending (features_in (cond b ((f, x) ∷ (g, y) ∷ fields) ((g, y) ∷ with_field f x fields))) = elim [
+    let chosen : (b : Bool) → is_lt (feature_cmp f g) ≡ b → AreAscending (features_in (cond b ((f, x) ∷ (g, y) ∷ fields) ((g, y) ∷ with_field f x fields))) = elim [
       | true ↦ λ e. let low = first_less (feature_cmp f g) e in ((low, Each-below f g (features_in fields) low up.0), up)
       | false ↦ λ e.
           let high = above f g e two.0 in
-          (Each-features (λ h. feature_cmp g h ≡ Less) (with_field f x fields) (Each-with_field (λ (h : Feature × Name). feature_cmp g h.0 ≡ Less) f x fields high (Each-fields (λ h. feature_cmp g h ≡ Less) fields up.0)), ascending_with_field f x fields two.1 up.1)
-    ] in chosen (is_less (feature_cmp f g)) refl
+          (Each-features (λ h. feature_cmp g h ≡ Less) (with_field f x fields) (Each-with_field (λ (h : Feature × Identifier). feature_cmp g h.0 ≡ Less) f x fields high (Each-fields (λ h. feature_cmp g h ≡ Less) fields up.0)), ascending_with_field f x fields two.1 up.1)
+    ] in chosen (is_lt (feature_cmp f g)) refl
 
 -- ---- fields that pass
 
@@ -122,7 +122,7 @@ is_so false kind e = cc
 
 -- a used name of fields is declared
 abbrev pub Declared : Purpose → Scope → Fields → Type 0
-Declared purpose.Use scope fields = Each (λ (f : Feature × Name). is_declared scope f.1 ≡ true) fields
+Declared purpose.Use scope fields = Each (λ (f : Feature × Identifier). is_declared scope f.1 ≡ true) fields
 Declared purpose.Declare scope fields = Unit {0}
 
 -- fields that pass: in order, at most 64, and declared where they are used
@@ -131,15 +131,15 @@ pub record Good (p : Purpose) (scope : Scope) (fields : Fields) : Type 0 where
   pub few : length fields ≤ 64
   pub declared : Declared p scope fields
 
-declared_with : (p : Purpose) (scope : Scope) (f : Feature) (x : Name) (before fields : Fields) → name_fault p scope before x ≡ None → Declared p scope fields → Declared p scope (with_field f x fields)
-declared_with purpose.Use scope f x before fields e all = Each-with_field (λ (g : Feature × Name). is_declared scope g.1 ≡ true) f x fields (is_so (is_declared scope x) _ e) all
+declared_with : (p : Purpose) (scope : Scope) (f : Feature) (x : Identifier) (before fields : Fields) → name_fault p scope before x ≡ None → Declared p scope fields → Declared p scope (with_field f x fields)
+declared_with purpose.Use scope f x before fields e all = Each-with_field (λ (g : Feature × Identifier). is_declared scope g.1 ≡ true) f x fields (is_so (is_declared scope x) _ e) all
 declared_with purpose.Declare scope f x before fields e all = tt
 
 room_left : (room : ℕ) → room_fault room ≡ None → (k : ℕ) × (room ≡ suc k)
 room_left zero e = cc
 room_left (suc k) e = (k, refl)
 
-one_more : (p : Purpose) (scope : Scope) (room : ℕ) (before : Fields) (f : Feature) (x : Name) → Good p scope before → length before + room ≡ 64
+one_more : (p : Purpose) (scope : Scope) (room : ℕ) (before : Fields) (f : Feature) (x : Identifier) → Good p scope before → length before + room ≡ 64
     → feature_fault room before f ≡ None → name_fault p scope before x ≡ None → Good p scope (with_field f x before) × (length (with_field f x before) + fewer room ≡ 64)
 one_more p scope room before f x good sum feature name =
     let two = or_neither (room_fault room) (where_so (has_feature before f) Twice) feature in
@@ -154,9 +154,9 @@ one_more p scope room before f x good sum feature name =
       omega (arith, longer, sum, left.1, here),
     )
 
-mark_passes : (room : ℕ) (before : Fields) (m : Mark) → mark_fault room before m ≡ None → feature_fault room before (feature_of m) ≡ None
-mark_passes room before (AtomMark a) e = e
-mark_passes room before (IntMark n) e = (or_neither (number_fault n) (feature_fault room before (feature_of (IntMark n))) e).1
+mark_passes : (room : ℕ) (before : Fields) (m : FeatureToken) → feature_token_fault room before m ≡ None → feature_fault room before (feature_of m) ≡ None
+mark_passes room before (AtomFeature a) e = e
+mark_passes room before (IntFeature n) e = (or_neither (number_fault n) (feature_fault room before (feature_of (IntFeature n))) e).1
 
 good_behind : (p : Purpose) (scope : Scope) (room : ℕ) (before : Fields) (next : ℕ) (fs : List Field) (rest : List Symbol) (found : Option Fault)
     → check_fields p scope room before next fs rest found ≡ None → Good p scope before → length before + room ≡ 64
@@ -167,8 +167,8 @@ good_behind p scope room before next (Placed x ∷ fs) rest found e good sum =
     let two = or_neither (feature_fault room before (place_feature next)) (name_fault p scope before x) s.0 in
     let more = one_more p scope room before (place_feature next) x good sum two.0 two.1 in
     good_behind p scope (fewer room) (with_field (place_feature next) x before) (next + 1) fs rest found s.1 more.0 more.1
-good_behind p scope room before next (Marked m x ∷ fs) rest found e good sum =
-    let s = stopped (mark_fault room before m) _ _ e in
+good_behind p scope room before next (WithFeature m x ∷ fs) rest found e good sum =
+    let s = stopped (feature_token_fault room before m) _ _ e in
     let t = stopped (name_fault p scope before x) _ _ s.1 in
     let more = one_more p scope room before (feature_of m) x good sum (mark_passes room before m s.0) t.0 in
     good_behind p scope (fewer room) (with_field (feature_of m) x before) next fs rest found t.1 more.0 more.1

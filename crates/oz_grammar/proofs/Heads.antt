@@ -10,9 +10,9 @@ use Rattle.oz_grammar.specs.declared.symbol.Purpose.{Purpose}
 use Rattle.oz_grammar.specs.declared.symbol.Purpose.TheVariants as purpose
 use Rattle.oz_grammar.specs.declared.fault.Fault.{Fault}
 use Rattle.oz_grammar.specs.declared.fault.FaultKind.{FaultKind}
-use Rattle.oz_grammar.specs.Grammar.{Name, AtomMark, IntMark, ByVariable, ByMark, Field, Placed, Marked, Value, ToVar, Calculates, Selects, Pairs, ToInt, ToAtom, ToRecord, Pattern, IntPattern, AtomPattern, RecordPattern, PairPattern, Plain, Skips, Tells, Calls, Raises, Opening, Locals, ProcValue, ProcNamed, Threads, ThreadsAt, Choice, Ifs, Cases, names_text, fields_text, value_text, pattern_text, plain_text, opening_text, choice_text}
+use Rattle.oz_grammar.specs.Grammar.{Identifier, AtomFeature, IntFeature, ByVariable, ByFeature, Field, Placed, WithFeature, Value, ToVar, Calculates, Selects, Pairs, ToInt, ToAtom, ToRecord, Pattern, IntPattern, AtomPattern, RecordPattern, PairPattern, Plain, Skips, Tells, Calls, Raises, Opening, Locals, ProcValue, ProcNamed, Threads, ThreadsAt, Choice, Ifs, Cases, names_text, fields_text, value_text, pattern_text, plain_text, opening_text, choice_text}
 use Rattle.oz_grammar.specs.Scoping.{Scope, Fields, built_in_at, with_field, feature_of, place_feature, fields_behind, opening_scope, choice_scope, HasArguments, PlainDerives}
-use Rattle.oz_grammar.specs.Faults.{or_else, use_fault, deep_fault, count_fault, formal_fault, argument_fault, placed_fault, mark_fault, name_fault, called_fault, fewer}
+use Rattle.oz_grammar.specs.Faults.{or_else, use_fault, deep_fault, count_fault, formal_fault, argument_fault, placed_fault, feature_token_fault, name_fault, called_fault, fewer}
 use Rattle.oz_grammar.specs.Check.{first_fault, check_fields, check_value, check_pattern, check_locals, check_formals, check_arguments, check_uses, check_call, check_plain, check_opening, check_choice}
 use Rattle.oz_grammar.specs.Points.{Stage, First, AfterThread, Later, Point, At, LocalMore, ValueOf, BehindVariable, BehindAtom, FieldOf, Arguments, Wanted, PatternOf, Formals, behind_fields, next_call, run}
 
@@ -43,17 +43,17 @@ atom_ends c scope d (x ∷ rest) σ e = refl
 pub fields_run : (fs : List Field) (p : Purpose) (scope : Scope) (d room : ℕ) (before : Fields) (next : ℕ) (rest : List Symbol) (σ : List Point) → run (fields_text fs (t.CloseRound ∷ rest)) (FieldOf p scope d room before next ∷ σ) ≡ check_fields p scope room before next fs (t.CloseRound ∷ rest) (run rest (behind_fields p scope d (fields_behind before next fs) ++ σ))
 fields_run [] p scope d room before next rest σ = refl
 fields_run (Placed x ∷ fs) p scope d room before next rest σ = ap (first_fault (placed_fault p scope room before next x) (fields_text (Placed x ∷ fs) (t.CloseRound ∷ rest))) (fields_run fs p scope d (fewer room) (with_field (place_feature next) x before) (next + 1) rest σ)
-fields_run (Marked (AtomMark a) x ∷ fs) p scope d room before next rest σ =
-    ap (λ (b : Option Fault). first_fault (mark_fault room before (AtomMark a)) (fields_text (Marked (AtomMark a) x ∷ fs) (t.CloseRound ∷ rest)) (first_fault (name_fault p scope before x) (t.Variable x ∷ fields_text fs (t.CloseRound ∷ rest)) b)) (fields_run fs p scope d (fewer room) (with_field (feature_of (AtomMark a)) x before) next rest σ)
-fields_run (Marked (IntMark n) x ∷ fs) p scope d room before next rest σ =
-    ap (λ (b : Option Fault). first_fault (mark_fault room before (IntMark n)) (fields_text (Marked (IntMark n) x ∷ fs) (t.CloseRound ∷ rest)) (first_fault (name_fault p scope before x) (t.Variable x ∷ fields_text fs (t.CloseRound ∷ rest)) b)) (fields_run fs p scope d (fewer room) (with_field (feature_of (IntMark n)) x before) next rest σ)
+fields_run (WithFeature (AtomFeature a) x ∷ fs) p scope d room before next rest σ =
+    ap (λ (b : Option Fault). first_fault (feature_token_fault room before (AtomFeature a)) (fields_text (WithFeature (AtomFeature a) x ∷ fs) (t.CloseRound ∷ rest)) (first_fault (name_fault p scope before x) (t.Variable x ∷ fields_text fs (t.CloseRound ∷ rest)) b)) (fields_run fs p scope d (fewer room) (with_field (feature_of (AtomFeature a)) x before) next rest σ)
+fields_run (WithFeature (IntFeature n) x ∷ fs) p scope d room before next rest σ =
+    ap (λ (b : Option Fault). first_fault (feature_token_fault room before (IntFeature n)) (fields_text (WithFeature (IntFeature n) x ∷ fs) (t.CloseRound ∷ rest)) (first_fault (name_fault p scope before x) (t.Variable x ∷ fields_text fs (t.CloseRound ∷ rest)) b)) (fields_run fs p scope d (fewer room) (with_field (feature_of (IntFeature n)) x before) next rest σ)
 
 pub value_run : (v : Value) (c : Closer) (scope : Scope) (d : ℕ) (rest : List Symbol) (σ : List Point) → ends_value rest ≡ true → run (value_text v rest) (ValueOf c scope d ∷ σ) ≡ check_value v scope rest (run rest (At Later c scope d ∷ σ))
 value_run (ToVar y) c scope d rest σ e = ap (first_fault (use_fault scope y) (value_text (ToVar y) rest)) (variable_ends c scope d rest σ e)
 value_run (Calculates y o z) c scope d rest σ e = refl
 value_run (Selects y (ByVariable x)) c scope d rest σ e = refl
-value_run (Selects y (ByMark (AtomMark a))) c scope d rest σ e = refl
-value_run (Selects y (ByMark (IntMark n))) c scope d rest σ e = refl
+value_run (Selects y (ByFeature (AtomFeature a))) c scope d rest σ e = refl
+value_run (Selects y (ByFeature (IntFeature n))) c scope d rest σ e = refl
 value_run (Pairs h u) c scope d rest σ e = refl
 value_run (ToInt n) c scope d rest σ e = refl
 value_run (ToAtom a) c scope d rest σ e = atom_ends c scope d rest σ e
@@ -67,27 +67,27 @@ pattern_run (PairPattern h u) scope d rest σ = refl
 
 -- ---- lists of names
 
-pub locals_run : (xs before : List Name) (scope : Scope) (d : ℕ) (rest : List Symbol) (σ : List Point) → run (names_text xs (t.In ∷ rest)) (LocalMore scope before d ∷ σ) ≡ check_locals before xs (t.In ∷ rest) (run rest (At First closer.End (scope ++ (before ++ xs)) d ∷ σ))
-locals_run [] before scope d rest σ = ap (λ (s : List Name). run rest (At First closer.End (scope ++ s) d ∷ σ)) (sym (append-nil before))
+pub locals_run : (xs before : List Identifier) (scope : Scope) (d : ℕ) (rest : List Symbol) (σ : List Point) → run (names_text xs (t.In ∷ rest)) (LocalMore scope before d ∷ σ) ≡ check_locals before xs (t.In ∷ rest) (run rest (At First closer.End (scope ++ (before ++ xs)) d ∷ σ))
+locals_run [] before scope d rest σ = ap (λ (s : List Identifier). run rest (At First closer.End (scope ++ s) d ∷ σ)) (sym (append-nil before))
 locals_run (x ∷ xs) before scope d rest σ =
     ap (first_fault (count_fault (length before)) (names_text (x ∷ xs) (t.In ∷ rest))) (locals_run xs (before ++ x ∷ []) scope d rest σ
-    ∙ ap (λ (s : List Name). check_locals (before ++ x ∷ []) xs (t.In ∷ rest) (run rest (At First closer.End (scope ++ s) d ∷ σ))) (append_assoc before (x ∷ []) xs))
+    ∙ ap (λ (s : List Identifier). check_locals (before ++ x ∷ []) xs (t.In ∷ rest) (run rest (At First closer.End (scope ++ s) d ∷ σ))) (append_assoc before (x ∷ []) xs))
 
-pub formals_run : (xs before : List Name) (scope : Scope) (d : ℕ) (rest : List Symbol) (σ : List Point) → run (names_text xs (t.CloseCurly ∷ rest)) (Formals scope before d ∷ σ) ≡ check_formals before xs (t.CloseCurly ∷ rest) (run rest (At First closer.End (scope ++ (before ++ xs)) d ∷ σ))
-formals_run [] before scope d rest σ = ap (λ (s : List Name). run rest (At First closer.End (scope ++ s) d ∷ σ)) (sym (append-nil before))
+pub formals_run : (xs before : List Identifier) (scope : Scope) (d : ℕ) (rest : List Symbol) (σ : List Point) → run (names_text xs (t.CloseCurly ∷ rest)) (Formals scope before d ∷ σ) ≡ check_formals before xs (t.CloseCurly ∷ rest) (run rest (At First closer.End (scope ++ (before ++ xs)) d ∷ σ))
+formals_run [] before scope d rest σ = ap (λ (s : List Identifier). run rest (At First closer.End (scope ++ s) d ∷ σ)) (sym (append-nil before))
 formals_run (x ∷ xs) before scope d rest σ =
     ap (first_fault (formal_fault before x) (names_text (x ∷ xs) (t.CloseCurly ∷ rest))) (formals_run xs (before ++ x ∷ []) scope d rest σ
-    ∙ ap (λ (s : List Name). check_formals (before ++ x ∷ []) xs (t.CloseCurly ∷ rest) (run rest (At First closer.End (scope ++ s) d ∷ σ))) (append_assoc before (x ∷ []) xs))
+    ∙ ap (λ (s : List Identifier). check_formals (before ++ x ∷ []) xs (t.CloseCurly ∷ rest) (run rest (At First closer.End (scope ++ s) d ∷ σ))) (append_assoc before (x ∷ []) xs))
 
-arguments_run : (xs : List Name) (scope : Scope) (n : ℕ) (rest : List Symbol) (σ : List Point) → run (names_text xs (t.CloseCurly ∷ rest)) (Arguments scope n ∷ σ) ≡ check_arguments scope n xs (t.CloseCurly ∷ rest) (run rest σ)
+arguments_run : (xs : List Identifier) (scope : Scope) (n : ℕ) (rest : List Symbol) (σ : List Point) → run (names_text xs (t.CloseCurly ∷ rest)) (Arguments scope n ∷ σ) ≡ check_arguments scope n xs (t.CloseCurly ∷ rest) (run rest σ)
 arguments_run [] scope n rest σ = refl
 arguments_run (x ∷ xs) scope n rest σ = ap (first_fault (argument_fault scope n x) (names_text (x ∷ xs) (t.CloseCurly ∷ rest))) (arguments_run xs scope (n + 1) rest σ)
 
-uses_run : (xs : List Name) (scope : Scope) (rest : List Symbol) (σ : List Point) → run (names_text xs (t.CloseCurly ∷ rest)) (Wanted scope (length xs) ∷ σ) ≡ check_uses scope xs (t.CloseCurly ∷ rest) (run rest σ)
+uses_run : (xs : List Identifier) (scope : Scope) (rest : List Symbol) (σ : List Point) → run (names_text xs (t.CloseCurly ∷ rest)) (Wanted scope (length xs) ∷ σ) ≡ check_uses scope xs (t.CloseCurly ∷ rest) (run rest σ)
 uses_run [] scope rest σ = refl
 uses_run (x ∷ xs) scope rest σ = ap (first_fault (use_fault scope x) (names_text (x ∷ xs) (t.CloseCurly ∷ rest))) (uses_run xs scope rest σ)
 
-call_run : (o : Option BuiltIn) (xs : List Name) (scope : Scope) (rest : List Symbol) (σ : List Point) → HasArguments o xs → run (names_text xs (t.CloseCurly ∷ rest)) (next_call scope o ++ σ) ≡ check_call o scope xs (t.CloseCurly ∷ rest) (run rest σ)
+call_run : (o : Option BuiltIn) (xs : List Identifier) (scope : Scope) (rest : List Symbol) (σ : List Point) → HasArguments o xs → run (names_text xs (t.CloseCurly ∷ rest)) (next_call scope o ++ σ) ≡ check_call o scope xs (t.CloseCurly ∷ rest) (run rest σ)
 call_run (Some b) xs scope rest σ good = subst (λ (k : ℕ). run (names_text xs (t.CloseCurly ∷ rest)) (Wanted scope k ∷ σ) ≡ check_uses scope xs (t.CloseCurly ∷ rest) (run rest σ)) good (uses_run xs scope rest σ)
 call_run None xs scope rest σ good = arguments_run xs scope 0 rest σ
 

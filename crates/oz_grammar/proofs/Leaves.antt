@@ -12,7 +12,7 @@ use Rattle.oz_grammar.specs.declared.symbol.Purpose.TheVariants as purpose
 use Rattle.oz_grammar.specs.declared.fault.FaultKind.{FaultKind}
 use Rattle.oz_grammar.specs.Grammar.{closer_symbol}
 use Rattle.oz_grammar.specs.Scoping.{Scope, is_declared, built_in_at, built_in_of}
-use Rattle.oz_grammar.specs.Points.{Stage, First, AfterThread, Later, Point, At, Here, Used, LocalName, LocalMore, ValueOf, BehindVariable, BehindAtom, SelectionOf, FieldOf, FieldName, CallName, Arguments, Wanted, PatternOf, BehindPattern, PatternTail, ProcName, Formals, SiteHere, CatchName, next_call, next_of, wrong_at, run_step, run, goes_on, walk}
+use Rattle.oz_grammar.specs.Points.{Stage, First, AfterThread, Later, Point, At, Here, Used, LocalName, LocalMore, ValueOf, BehindVariable, BehindAtom, SelectionOf, FieldOf, FieldName, CallName, Arguments, Wanted, PatternOf, BehindPattern, PatternTail, ProcName, Formals, SiteHere, CatchName, next_call, next_of, wrong_at, run_step, run, walk_on, walk}
 
 abbrev pub leads : Option (List Point) → (List Point → Option (List Symbol)) → List Point → Option (List Symbol)
 leads (Some points) on σ = on (points ++ σ)
@@ -26,7 +26,7 @@ leaves (x ∷ xs) (p ∷ σ) = leads (next_of p x) (leaves xs) σ
 
 -- ---- what is read is taken
 
-leads_walked : (o : Option (List Point)) (w : Option FaultKind) (front a : List Symbol) (σ τ : List Point) → ((ρ : List Point) → walk front ρ ≡ Some τ → leaves (front ++ a) ρ ≡ leaves a τ) → goes_on o w (walk front) σ ≡ Some τ → leads o (leaves (front ++ a)) σ ≡ leaves a τ
+leads_walked : (o : Option (List Point)) (w : Option FaultKind) (front a : List Symbol) (σ τ : List Point) → ((ρ : List Point) → walk front ρ ≡ Some τ → leaves (front ++ a) ρ ≡ leaves a τ) → walk_on o w (walk front) σ ≡ Some τ → leads o (leaves (front ++ a)) σ ≡ leaves a τ
 leads_walked (Some points) None front a σ τ ih e = ih (points ++ σ) e
 leads_walked (Some points) (Some kind) front a σ τ ih e = absurd cc
 leads_walked None w front a σ τ ih e = absurd cc

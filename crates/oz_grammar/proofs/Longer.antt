@@ -2,16 +2,16 @@
 use Rattle.std.proofs.Common.{◌<◌, ◌≤◌, List, [], ◌∷◌, length, arith}
 use Rattle.oz_grammar.specs.declared.symbol.Symbol.{Symbol}
 use Rattle.oz_grammar.specs.declared.symbol.Symbol.TheVariants as t
-use Rattle.oz_grammar.specs.Grammar.{Name, Field, Placed, Marked, Value, ToVar, Calculates, Selects, Pairs, ToInt, ToAtom, ToRecord, Pattern, IntPattern, AtomPattern, RecordPattern, PairPattern, Plain, Skips, Tells, Calls, Raises, Opening, Locals, ProcValue, ProcNamed, Threads, ThreadsAt, Choice, Ifs, Cases, Statement, Simple, Block, Chooses, Tries, Sequence, One, Then, names_text, fields_text, value_text, pattern_text, plain_text, opening_text, choice_text, stmt_text, seq_text}
+use Rattle.oz_grammar.specs.Grammar.{Identifier, Field, Placed, WithFeature, Value, ToVar, Calculates, Selects, Pairs, ToInt, ToAtom, ToRecord, Pattern, IntPattern, AtomPattern, RecordPattern, PairPattern, Plain, Skips, Tells, Calls, Raises, Opening, Locals, ProcValue, ProcNamed, Threads, ThreadsAt, Choice, Ifs, Cases, Statement, Simple, Block, Chooses, Tries, Sequence, One, Then, names_text, fields_text, value_text, pattern_text, plain_text, opening_text, choice_text, stmt_text, seq_text}
 
-pub names_longer : (xs : List Name) (rest : List Symbol) → length rest ≤ length (names_text xs rest)
+pub names_longer : (xs : List Identifier) (rest : List Symbol) → length rest ≤ length (names_text xs rest)
 names_longer [] rest = omega arith
 names_longer (x ∷ xs) rest = let i = names_longer xs rest in omega arith
 
 pub fields_longer : (fs : List Field) (rest : List Symbol) → length rest ≤ length (fields_text fs rest)
 fields_longer [] rest = omega arith
 fields_longer (Placed x ∷ fs) rest = let i = fields_longer fs rest in omega arith
-fields_longer (Marked m x ∷ fs) rest = let i = fields_longer fs rest in omega arith
+fields_longer (WithFeature m x ∷ fs) rest = let i = fields_longer fs rest in omega arith
 
 value_longer : (v : Value) (rest : List Symbol) → length rest < length (value_text v rest)
 value_longer (ToVar y) rest = omega arith

@@ -12,9 +12,9 @@ use Rattle.oz_grammar.specs.declared.symbol.Purpose.TheVariants as purpose
 use Rattle.oz_grammar.specs.declared.fault.What.TheVariants as what
 use Rattle.oz_grammar.specs.declared.fault.Fault.{Fault}
 use Rattle.oz_grammar.specs.declared.fault.FaultKind.{FaultKind}
-use Rattle.oz_grammar.specs.Grammar.{Name, Mark, AtomMark, IntMark}
+use Rattle.oz_grammar.specs.Grammar.{Identifier, FeatureToken, AtomFeature, IntFeature}
 use Rattle.oz_grammar.specs.Scoping.{Scope, Fields, declaration_of, with_field, feature_of, place_feature}
-use Rattle.oz_grammar.specs.Faults.{use_fault, number_fault, count_fault, formal_fault, argument_fault, placed_fault, mark_fault, name_fault, fewer}
+use Rattle.oz_grammar.specs.Faults.{use_fault, number_fault, count_fault, formal_fault, argument_fault, placed_fault, feature_token_fault, name_fault, fewer}
 use Rattle.oz_grammar.specs.Check.{first_fault}
 use Rattle.oz_grammar.specs.Points.{Point, First, Later, At, Here, Used, LocalName, LocalMore, ValueOf, BehindVariable, BehindAtom, SelectionOf, FieldOf, FieldName, Arguments, Wanted, PatternOf, BehindPattern, PatternTail, Formals, SiteHere, expects_sign, is_sign, behind_fields, run_step, run}
 use Rattle.oz_grammar.specs.Table.{value_of}
@@ -64,12 +64,12 @@ behind_read left a c scope d (x ∷ xs) σ = refl
 
 -- ---- fields
 
-field_name_read : (p : Purpose) (scope : Scope) (d room : ℕ) (before : Fields) (next : ℕ) (m : Mark) (symbols : List Symbol) (σ : List Point) → run symbols (FieldName p scope d room before next m ∷ σ) ≡ read_on (field_name_at p scope before next m symbols) (λ o. run o.2 (FieldOf p scope d (fewer room) o.0 o.1 ∷ σ))
+field_name_read : (p : Purpose) (scope : Scope) (d room : ℕ) (before : Fields) (next : ℕ) (m : FeatureToken) (symbols : List Symbol) (σ : List Point) → run symbols (FieldName p scope d room before next m ∷ σ) ≡ read_on (field_name_at p scope before next m symbols) (λ o. run o.2 (FieldOf p scope d (fewer room) o.0 o.1 ∷ σ))
 field_name_read p scope d room before next m (t.Variable x ∷ xs) σ = unless_read (name_fault p scope before x) (t.Variable x ∷ xs) (Ok (with_field (feature_of m) x before, next, xs)) (λ o. run o.2 (FieldOf p scope d (fewer room) o.0 o.1 ∷ σ))
 field_name_read p scope d room before next m [] σ = refl
 field_name_read p scope d room before next m (x ∷ xs) σ = refl
 
-named_read : (p : Purpose) (scope : Scope) (d room : ℕ) (before : Fields) (next : ℕ) (m : Mark) (symbols : List Symbol) (σ : List Point) → run symbols (Here sign.Colon ∷ FieldName p scope d room before next m ∷ σ) ≡ read_on (named_field_at p scope before next m symbols) (λ o. run o.2 (FieldOf p scope d (fewer room) o.0 o.1 ∷ σ))
+named_read : (p : Purpose) (scope : Scope) (d room : ℕ) (before : Fields) (next : ℕ) (m : FeatureToken) (symbols : List Symbol) (σ : List Point) → run symbols (Here sign.Colon ∷ FieldName p scope d room before next m ∷ σ) ≡ read_on (named_field_at p scope before next m symbols) (λ o. run o.2 (FieldOf p scope d (fewer room) o.0 o.1 ∷ σ))
 named_read p scope d room before next m symbols σ =
     sign_read sign.Colon symbols (FieldName p scope d room before next m ∷ σ)
     ∙ chain (sign_at sign.Colon symbols) _ (λ rest. run rest (FieldName p scope d room before next m ∷ σ)) (λ o. run o.2 (FieldOf p scope d (fewer room) o.0 o.1 ∷ σ)) (λ rest. field_name_read p scope d room before next m rest σ)
@@ -78,11 +78,11 @@ field_read : (p : Purpose) (scope : Scope) (d room : ℕ) (before : Fields) (nex
 field_read p scope d room before next (t.CloseRound ∷ xs) σ e = absurd cc
 field_read p scope d room before next (t.Variable x ∷ xs) σ e = unless_read (placed_fault p scope room before next x) (t.Variable x ∷ xs) (Ok (with_field (place_feature next) x before, next + 1, xs)) (λ o. run o.2 (FieldOf p scope d (fewer room) o.0 o.1 ∷ σ))
 field_read p scope d room before next (t.Atom a ∷ xs) σ e =
-    ap (first_fault (mark_fault room before (AtomMark a)) (t.Atom a ∷ xs)) (named_read p scope d room before next (AtomMark a) xs σ)
-    ∙ unless_read (mark_fault room before (AtomMark a)) (t.Atom a ∷ xs) (named_field_at p scope before next (AtomMark a) xs) (λ o. run o.2 (FieldOf p scope d (fewer room) o.0 o.1 ∷ σ))
+    ap (first_fault (feature_token_fault room before (AtomFeature a)) (t.Atom a ∷ xs)) (named_read p scope d room before next (AtomFeature a) xs σ)
+    ∙ unless_read (feature_token_fault room before (AtomFeature a)) (t.Atom a ∷ xs) (named_field_at p scope before next (AtomFeature a) xs) (λ o. run o.2 (FieldOf p scope d (fewer room) o.0 o.1 ∷ σ))
 field_read p scope d room before next (t.Integer n ∷ xs) σ e =
-    ap (first_fault (mark_fault room before (IntMark n)) (t.Integer n ∷ xs)) (named_read p scope d room before next (IntMark n) xs σ)
-    ∙ unless_read (mark_fault room before (IntMark n)) (t.Integer n ∷ xs) (named_field_at p scope before next (IntMark n) xs) (λ o. run o.2 (FieldOf p scope d (fewer room) o.0 o.1 ∷ σ))
+    ap (first_fault (feature_token_fault room before (IntFeature n)) (t.Integer n ∷ xs)) (named_read p scope d room before next (IntFeature n) xs σ)
+    ∙ unless_read (feature_token_fault room before (IntFeature n)) (t.Integer n ∷ xs) (named_field_at p scope before next (IntFeature n) xs) (λ o. run o.2 (FieldOf p scope d (fewer room) o.0 o.1 ∷ σ))
 field_read p scope d room before next [] σ e = refl
 field_read p scope d room before next (x ∷ xs) σ e = refl
 
@@ -142,7 +142,7 @@ value_read left c scope d (x ∷ xs) σ e = refl
 
 -- ---- patterns
 
-pair_read : (scope : Scope) (d : ℕ) (h : Name) (symbols : List Symbol) (σ : List Point) → run symbols (PatternTail scope d h ∷ σ) ≡ read_on (pair_pattern_at h symbols) (λ m. run m.2 (Here sign.Then ∷ At First closer.Else (scope ++ m.1) d ∷ σ))
+pair_read : (scope : Scope) (d : ℕ) (h : Identifier) (symbols : List Symbol) (σ : List Point) → run symbols (PatternTail scope d h ∷ σ) ≡ read_on (pair_pattern_at h symbols) (λ m. run m.2 (Here sign.Then ∷ At First closer.Else (scope ++ m.1) d ∷ σ))
 pair_read scope d h (t.Variable x ∷ xs) σ = unless_read {X = PatternOut} _ (t.Variable x ∷ xs) (Ok (_, h ∷ x ∷ [], xs)) (λ m. run m.2 (Here sign.Then ∷ At First closer.Else (scope ++ m.1) d ∷ σ))
 pair_read scope d h [] σ = refl
 pair_read scope d h (x ∷ xs) σ = refl
@@ -171,7 +171,7 @@ pattern_read scope d (x ∷ xs) σ = refl
 
 -- ---- lists of names
 
-locals_read : (symbols : List Symbol) (before : List Name) (scope : Scope) (d : ℕ) (σ : List Point) → run symbols (LocalMore scope before d ∷ σ) ≡ read_on (locals_at before symbols) (λ m. run m.1 (At First closer.End (scope ++ m.0) d ∷ σ))
+locals_read : (symbols : List Symbol) (before : List Identifier) (scope : Scope) (d : ℕ) (σ : List Point) → run symbols (LocalMore scope before d ∷ σ) ≡ read_on (locals_at before symbols) (λ m. run m.1 (At First closer.End (scope ++ m.0) d ∷ σ))
 locals_read (t.In ∷ xs) before scope d σ = refl
 locals_read (t.Variable x ∷ xs) before scope d σ =
     ap (first_fault (count_fault (length before)) (t.Variable x ∷ xs)) (locals_read xs (before ++ x ∷ []) scope d σ)
@@ -184,7 +184,7 @@ first_local_read (t.Variable x ∷ xs) scope d σ = locals_read xs (x ∷ []) sc
 first_local_read [] scope d σ = refl
 first_local_read (x ∷ xs) scope d σ = refl
 
-pub formals_read : (symbols : List Symbol) (before : List Name) (scope : Scope) (d : ℕ) (σ : List Point) → run symbols (Formals scope before d ∷ σ) ≡ read_on (formals_at before symbols) (λ m. run m.1 (At First closer.End (scope ++ m.0) d ∷ σ))
+pub formals_read : (symbols : List Symbol) (before : List Identifier) (scope : Scope) (d : ℕ) (σ : List Point) → run symbols (Formals scope before d ∷ σ) ≡ read_on (formals_at before symbols) (λ m. run m.1 (At First closer.End (scope ++ m.0) d ∷ σ))
 formals_read (t.CloseCurly ∷ xs) before scope d σ = refl
 formals_read (t.Variable x ∷ xs) before scope d σ =
     ap (first_fault (formal_fault before x) (t.Variable x ∷ xs)) (formals_read xs (before ++ x ∷ []) scope d σ)

@@ -10,7 +10,7 @@ use Rattle.oz_grammar.specs.declared.symbol.Closer.TheVariants as closer
 use Rattle.oz_grammar.specs.declared.symbol.BuiltIn.{BuiltIn}
 use Rattle.oz_grammar.specs.declared.symbol.Purpose.{Purpose}
 use Rattle.oz_grammar.specs.declared.symbol.Purpose.TheVariants as purpose
-use Rattle.oz_grammar.specs.Grammar.{Name, Mark, AtomMark, IntMark, ByVariable, ByMark, Field, Placed, Marked, Value, ToVar, Calculates, Selects, Pairs, ToAtom, ToRecord, Pattern, IntPattern, AtomPattern, RecordPattern, PairPattern, Cases, names_text, fields_text, value_text, pattern_text, mark_symbol}
+use Rattle.oz_grammar.specs.Grammar.{Identifier, FeatureToken, AtomFeature, IntFeature, ByVariable, ByFeature, Field, Placed, WithFeature, Value, ToVar, Calculates, Selects, Pairs, ToAtom, ToRecord, Pattern, IntPattern, AtomPattern, RecordPattern, PairPattern, Cases, names_text, fields_text, value_text, pattern_text, feature_symbol}
 use Rattle.oz_grammar.specs.Scoping.{Scope, Fields, arity_of, with_field, feature_of, place_feature, fields_behind, choice_scope, HasArguments}
 use Rattle.oz_grammar.specs.Faults.{fewer}
 use Rattle.oz_grammar.specs.Points.{First, Later, Point, At, Here, LocalMore, BehindVariable, BehindAtom, FieldOf, Arguments, Wanted, PatternOf, Formals, behind_fields, next_call}
@@ -52,17 +52,17 @@ bracket_text fs rest = fields_text fs (t.CloseRound ∷ rest)
 abbrev pub FieldsTaken : Purpose → Scope → ℕ → Fields → ℕ → List Point → List Symbol → List Symbol → Type 0
 FieldsTaken p scope d before next σ symbols out = Taken (List Field) bracket_text (λ fs. behind_fields p scope d (fields_behind before next fs) ++ σ) symbols out
 
-placed_more : (p : Purpose) (scope : Scope) (d : ℕ) (before : Fields) (next : ℕ) (σ : List Point) (x : Name) (xs out : List Symbol) → FieldsTaken p scope d (with_field (place_feature next) x before) (next + 1) σ xs out → FieldsTaken p scope d before next σ (t.Variable x ∷ xs) out
+placed_more : (p : Purpose) (scope : Scope) (d : ℕ) (before : Fields) (next : ℕ) (σ : List Point) (x : Identifier) (xs out : List Symbol) → FieldsTaken p scope d (with_field (place_feature next) x before) (next + 1) σ xs out → FieldsTaken p scope d before next σ (t.Variable x ∷ xs) out
 placed_more p scope d before next σ x xs out k = record { part = Placed x ∷ k.part; rest = k.rest; is = ap (λ (a : List Symbol). t.Variable x ∷ a) k.is; on = k.on }
 
-marked_more : (p : Purpose) (scope : Scope) (d : ℕ) (before : Fields) (next : ℕ) (σ : List Point) (m : Mark) (x : Name) (xs out : List Symbol) → FieldsTaken p scope d (with_field (feature_of m) x before) next σ xs out → FieldsTaken p scope d before next σ (mark_symbol m ∷ t.Colon ∷ t.Variable x ∷ xs) out
-marked_more p scope d before next σ m x xs out k = record { part = Marked m x ∷ k.part; rest = k.rest; is = ap (λ (a : List Symbol). mark_symbol m ∷ t.Colon ∷ t.Variable x ∷ a) k.is; on = k.on }
+marked_more : (p : Purpose) (scope : Scope) (d : ℕ) (before : Fields) (next : ℕ) (σ : List Point) (m : FeatureToken) (x : Identifier) (xs out : List Symbol) → FieldsTaken p scope d (with_field (feature_of m) x before) next σ xs out → FieldsTaken p scope d before next σ (feature_symbol m ∷ t.Colon ∷ t.Variable x ∷ xs) out
+marked_more p scope d before next σ m x xs out k = record { part = WithFeature m x ∷ k.part; rest = k.rest; is = ap (λ (a : List Symbol). feature_symbol m ∷ t.Colon ∷ t.Variable x ∷ a) k.is; on = k.on }
 
 pub fields_taken : (symbols : List Symbol) (p : Purpose) (scope : Scope) (d room : ℕ) (before : Fields) (next : ℕ) (σ : List Point) (out : List Symbol) → leaves symbols (FieldOf p scope d room before next ∷ σ) ≡ Some out → FieldsTaken p scope d before next σ symbols out
 fields_taken (t.CloseRound ∷ xs) p scope d room before next σ out h = record { part = []; rest = xs; is = refl; on = h }
 fields_taken (t.Variable x ∷ xs) p scope d room before next σ out h = placed_more p scope d before next σ x xs out (fields_taken xs p scope d (fewer room) (with_field (place_feature next) x before) (next + 1) σ out h)
-fields_taken (t.Atom a ∷ t.Colon ∷ t.Variable x ∷ xs) p scope d room before next σ out h = marked_more p scope d before next σ (AtomMark a) x xs out (fields_taken xs p scope d (fewer room) (with_field (feature_of (AtomMark a)) x before) next σ out h)
-fields_taken (t.Integer n ∷ t.Colon ∷ t.Variable x ∷ xs) p scope d room before next σ out h = marked_more p scope d before next σ (IntMark n) x xs out (fields_taken xs p scope d (fewer room) (with_field (feature_of (IntMark n)) x before) next σ out h)
+fields_taken (t.Atom a ∷ t.Colon ∷ t.Variable x ∷ xs) p scope d room before next σ out h = marked_more p scope d before next σ (AtomFeature a) x xs out (fields_taken xs p scope d (fewer room) (with_field (feature_of (AtomFeature a)) x before) next σ out h)
+fields_taken (t.Integer n ∷ t.Colon ∷ t.Variable x ∷ xs) p scope d room before next σ out h = marked_more p scope d before next σ (IntFeature n) x xs out (fields_taken xs p scope d (fewer room) (with_field (feature_of (IntFeature n)) x before) next σ out h)
 fields_taken symbols p scope d room before next σ out h = absurd (never out h)
 
 -- ---- values, where they are no procedures
@@ -70,12 +70,12 @@ fields_taken symbols p scope d room before next σ out h = absurd (never out h)
 abbrev pub ValueTaken : Closer → Scope → ℕ → List Point → List Symbol → List Symbol → Type 0
 ValueTaken c scope d σ symbols out = Taken Value value_text (λ v. At Later c scope d ∷ σ) symbols out
 
-pub variable_taken : (y : Name) (symbols : List Symbol) (c : Closer) (scope : Scope) (d : ℕ) (σ : List Point) (out : List Symbol) → leaves symbols (BehindVariable c scope d ∷ σ) ≡ Some out → ValueTaken c scope d σ (t.Variable y ∷ symbols) out
+pub variable_taken : (y : Identifier) (symbols : List Symbol) (c : Closer) (scope : Scope) (d : ℕ) (σ : List Point) (out : List Symbol) → leaves symbols (BehindVariable c scope d ∷ σ) ≡ Some out → ValueTaken c scope d σ (t.Variable y ∷ symbols) out
 variable_taken y (t.Operator o ∷ t.Variable z ∷ xs) c scope d σ out h = record { part = Calculates y o z; rest = xs; is = refl; on = h }
 variable_taken y (t.Operator o ∷ xs) c scope d σ out h = absurd (never out h)
 variable_taken y (t.Dot ∷ t.Variable x ∷ xs) c scope d σ out h = record { part = Selects y (ByVariable x); rest = xs; is = refl; on = h }
-variable_taken y (t.Dot ∷ t.Atom a ∷ xs) c scope d σ out h = record { part = Selects y (ByMark (AtomMark a)); rest = xs; is = refl; on = h }
-variable_taken y (t.Dot ∷ t.Integer n ∷ xs) c scope d σ out h = record { part = Selects y (ByMark (IntMark n)); rest = xs; is = refl; on = h }
+variable_taken y (t.Dot ∷ t.Atom a ∷ xs) c scope d σ out h = record { part = Selects y (ByFeature (AtomFeature a)); rest = xs; is = refl; on = h }
+variable_taken y (t.Dot ∷ t.Integer n ∷ xs) c scope d σ out h = record { part = Selects y (ByFeature (IntFeature n)); rest = xs; is = refl; on = h }
 variable_taken y (t.Dot ∷ xs) c scope d σ out h = absurd (never out h)
 variable_taken y (t.Bar ∷ t.Variable u ∷ xs) c scope d σ out h = record { part = Pairs y u; rest = xs; is = refl; on = h }
 variable_taken y (t.Bar ∷ xs) c scope d σ out h = absurd (never out h)
@@ -115,36 +115,36 @@ pattern_taken symbols scope d σ out h = absurd (never out h)
 
 -- ---- lists of names
 
-abbrev pub in_text : List Name → List Symbol → List Symbol
+abbrev pub in_text : List Identifier → List Symbol → List Symbol
 in_text xs rest = names_text xs (t.In ∷ rest)
 
-abbrev pub curly_text : List Name → List Symbol → List Symbol
+abbrev pub curly_text : List Identifier → List Symbol → List Symbol
 curly_text xs rest = names_text xs (t.CloseCurly ∷ rest)
 
-abbrev pub BodyTaken : (List Name → List Symbol → List Symbol) → Scope → List Name → ℕ → List Point → List Symbol → List Symbol → Type 0
-BodyTaken text scope before d σ symbols out = Taken (List Name) text (λ xs. At First closer.End (scope ++ (before ++ xs)) d ∷ σ) symbols out
+abbrev pub BodyTaken : (List Identifier → List Symbol → List Symbol) → Scope → List Identifier → ℕ → List Point → List Symbol → List Symbol → Type 0
+BodyTaken text scope before d σ symbols out = Taken (List Identifier) text (λ xs. At First closer.End (scope ++ (before ++ xs)) d ∷ σ) symbols out
 
-first_body : (scope : Scope) (before : List Name) (d : ℕ) (σ : List Point) (xs out : List Symbol) → leaves xs (At First closer.End (scope ++ before) d ∷ σ) ≡ Some out → leaves xs (At First closer.End (scope ++ (before ++ [])) d ∷ σ) ≡ Some out
+first_body : (scope : Scope) (before : List Identifier) (d : ℕ) (σ : List Point) (xs out : List Symbol) → leaves xs (At First closer.End (scope ++ before) d ∷ σ) ≡ Some out → leaves xs (At First closer.End (scope ++ (before ++ [])) d ∷ σ) ≡ Some out
 first_body scope before d σ xs out h = subst (λ (s : Scope). leaves xs (At First closer.End (scope ++ s) d ∷ σ) ≡ Some out) (sym (append-nil before)) h
 
-more_body : (scope : Scope) (before : List Name) (x : Name) (names : List Name) (d : ℕ) (σ : List Point) (xs out : List Symbol) → leaves xs (At First closer.End (scope ++ ((before ++ x ∷ []) ++ names)) d ∷ σ) ≡ Some out → leaves xs (At First closer.End (scope ++ (before ++ x ∷ names)) d ∷ σ) ≡ Some out
+more_body : (scope : Scope) (before : List Identifier) (x : Identifier) (names : List Identifier) (d : ℕ) (σ : List Point) (xs out : List Symbol) → leaves xs (At First closer.End (scope ++ ((before ++ x ∷ []) ++ names)) d ∷ σ) ≡ Some out → leaves xs (At First closer.End (scope ++ (before ++ x ∷ names)) d ∷ σ) ≡ Some out
 more_body scope before x names d σ xs out h = subst (λ (s : Scope). leaves xs (At First closer.End (scope ++ s) d ∷ σ) ≡ Some out) (append_assoc before (x ∷ []) names) h
 
-pub locals_taken : (symbols : List Symbol) (scope : Scope) (before : List Name) (d : ℕ) (σ : List Point) (out : List Symbol) → leaves symbols (LocalMore scope before d ∷ σ) ≡ Some out → BodyTaken in_text scope before d σ symbols out
+pub locals_taken : (symbols : List Symbol) (scope : Scope) (before : List Identifier) (d : ℕ) (σ : List Point) (out : List Symbol) → leaves symbols (LocalMore scope before d ∷ σ) ≡ Some out → BodyTaken in_text scope before d σ symbols out
 locals_taken (t.In ∷ xs) scope before d σ out h = record { part = []; rest = xs; is = refl; on = first_body scope before d σ xs out h }
 locals_taken (t.Variable x ∷ xs) scope before d σ out h =
     let k = locals_taken xs scope (before ++ x ∷ []) d σ out h in
     record { part = x ∷ k.part; rest = k.rest; is = ap (λ (a : List Symbol). t.Variable x ∷ a) k.is; on = more_body scope before x k.part d σ k.rest out k.on }
 locals_taken symbols scope before d σ out h = absurd (never out h)
 
-pub formals_taken : (symbols : List Symbol) (scope : Scope) (before : List Name) (d : ℕ) (σ : List Point) (out : List Symbol) → leaves symbols (Formals scope before d ∷ σ) ≡ Some out → BodyTaken curly_text scope before d σ symbols out
+pub formals_taken : (symbols : List Symbol) (scope : Scope) (before : List Identifier) (d : ℕ) (σ : List Point) (out : List Symbol) → leaves symbols (Formals scope before d ∷ σ) ≡ Some out → BodyTaken curly_text scope before d σ symbols out
 formals_taken (t.CloseCurly ∷ xs) scope before d σ out h = record { part = []; rest = xs; is = refl; on = first_body scope before d σ xs out h }
 formals_taken (t.Variable x ∷ xs) scope before d σ out h =
     let k = formals_taken xs scope (before ++ x ∷ []) d σ out h in
     record { part = x ∷ k.part; rest = k.rest; is = ap (λ (a : List Symbol). t.Variable x ∷ a) k.is; on = more_body scope before x k.part d σ k.rest out k.on }
 formals_taken symbols scope before d σ out h = absurd (never out h)
 
-arguments_taken : (symbols : List Symbol) (scope : Scope) (n : ℕ) (σ : List Point) (out : List Symbol) → leaves symbols (Arguments scope n ∷ σ) ≡ Some out → Taken (List Name) curly_text (λ xs. σ) symbols out
+arguments_taken : (symbols : List Symbol) (scope : Scope) (n : ℕ) (σ : List Point) (out : List Symbol) → leaves symbols (Arguments scope n ∷ σ) ≡ Some out → Taken (List Identifier) curly_text (λ xs. σ) symbols out
 arguments_taken (t.CloseCurly ∷ xs) scope n σ out h = record { part = []; rest = xs; is = refl; on = h }
 arguments_taken (t.Variable x ∷ xs) scope n σ out h =
     let k = arguments_taken xs scope (n + 1) σ out h in record { part = x ∷ k.part; rest = k.rest; is = ap (λ (a : List Symbol). t.Variable x ∷ a) k.is; on = k.on }
@@ -152,14 +152,14 @@ arguments_taken symbols scope n σ out h = absurd (never out h)
 
 -- the arguments of a call
 pub record CallTaken (o : Option BuiltIn) (σ : List Point) (symbols out : List Symbol) : Type 0 where
-  pub names : List Name
+  pub names : List Identifier
   pub rest : List Symbol
   pub is : symbols ≡ curly_text names rest
   pub has : HasArguments o names
   pub on : leaves rest σ ≡ Some out
 
 pub record WantedTaken (k : ℕ) (σ : List Point) (symbols out : List Symbol) : Type 0 where
-  pub names : List Name
+  pub names : List Identifier
   pub rest : List Symbol
   pub is : symbols ≡ curly_text names rest
   pub all : length names ≡ k

@@ -12,10 +12,10 @@ use Rattle.oz_grammar.specs.declared.fault.Fault.{Fault}
 use Rattle.oz_grammar.specs.declared.fault.FaultKind.{FaultKind}
 use Rattle.oz_grammar.specs.declared.fault.What.{What}
 use Rattle.oz_grammar.specs.declared.fault.What.TheVariants as what
-use Rattle.oz_grammar.specs.Grammar.{Name, Mark, AtomMark, IntMark, ByVariable, ByMark, Field, Placed, Marked, Value, ToVar, Calculates, Selects, Pairs, ToInt, ToAtom, ToRecord, Pattern, IntPattern, AtomPattern, RecordPattern, PairPattern, Plain, Skips, Tells, Calls, Raises, names_text, field_text, fields_text, value_text, pattern_text, plain_text}
+use Rattle.oz_grammar.specs.Grammar.{Identifier, FeatureToken, AtomFeature, IntFeature, ByVariable, ByFeature, Field, Placed, WithFeature, Value, ToVar, Calculates, Selects, Pairs, ToInt, ToAtom, ToRecord, Pattern, IntPattern, AtomPattern, RecordPattern, PairPattern, Plain, Skips, Tells, Calls, Raises, names_text, field_text, fields_text, value_text, pattern_text, plain_text}
 use Rattle.oz_grammar.specs.Scoping.{Scope, Fields, declaration_of, built_in_at, arity_of, has_name, with_field, feature_of, place_feature, fields_behind, pattern_names, HasArguments, PlainDerives}
 use Rattle.oz_grammar.specs.Table.{value_row, pattern_of, call_row, plain_row}
-use Rattle.oz_grammar.specs.Faults.{where_so, number_fault, use_fault, count_fault, called_fault, argument_fault, formal_fault, room_fault, mark_fault, name_fault, placed_fault, fewer, feature_fault}
+use Rattle.oz_grammar.specs.Faults.{where_so, number_fault, use_fault, count_fault, called_fault, argument_fault, formal_fault, room_fault, feature_token_fault, name_fault, placed_fault, fewer, feature_fault}
 use Rattle.oz_grammar.specs.Check.{check_fields, check_value, check_pattern, check_locals, check_formals, check_arguments, check_uses, check_call, check_plain}
 use Rattle.oz_grammar.specs.Reading.{◌>>=◌, fault_or, used_at, behind_at, field_at, fields_at, record_at, value_at, locals_at, formals_at, arguments_at, wanted_at, Reader, call_of, value_at, pattern_at, kind_at, right_at}
 use Rattle.oz_grammar.proofs.FieldOrder.{stopped, or_neither}
@@ -45,7 +45,7 @@ atom_ends left a scope [] e = refl
 atom_ends left a scope (t.OpenRound ∷ rest) e = absurd cc
 atom_ends left a scope (x ∷ rest) e = refl
 
-pub used_read : (w : What) (scope : Scope) (x : Name) (rest : List Symbol) → use_fault scope x ≡ None → used_at w scope (t.Variable x ∷ rest) ≡ Ok (declaration_of scope x, rest)
+pub used_read : (w : What) (scope : Scope) (x : Identifier) (rest : List Symbol) → use_fault scope x ≡ None → used_at w scope (t.Variable x ∷ rest) ≡ Ok (declaration_of scope x, rest)
 used_read w scope x rest e = passes (use_fault scope x) (t.Variable x ∷ rest) (Ok (declaration_of scope x, rest)) e
 
 fields_end : (p : Purpose) (scope : Scope) (room : ℕ) (before : Fields) (next : ℕ) (rest : List Symbol) → fields_at p scope room before next (t.CloseRound ∷ rest) ≡ Ok (before, rest)
@@ -58,24 +58,24 @@ fields_more : (p : Purpose) (scope : Scope) (room : ℕ) (before : Fields) (next
     → fields_at p scope (suc room) before next (field_text f rest) ≡ fields_at p scope room fields after rest
 unfolding fields_at
 fields_more p scope room before next (Placed x) rest fields after e = rw e refl
-fields_more p scope room before next (Marked (AtomMark a) x) rest fields after e = rw e refl
-fields_more p scope room before next (Marked (IntMark n) x) rest fields after e = rw e refl
+fields_more p scope room before next (WithFeature (AtomFeature a) x) rest fields after e = rw e refl
+fields_more p scope room before next (WithFeature (IntFeature n) x) rest fields after e = rw e refl
 
 pub room_of : (room : ℕ) → room_fault room ≡ None → room ≡ suc (fewer room)
 room_of zero e = cc
 room_of (suc room) e = refl
 
-placed_room : (p : Purpose) (scope : Scope) (room : ℕ) (before : Fields) (next : ℕ) (x : Name) → placed_fault p scope room before next x ≡ None → room ≡ suc (fewer room)
+placed_room : (p : Purpose) (scope : Scope) (room : ℕ) (before : Fields) (next : ℕ) (x : Identifier) → placed_fault p scope room before next x ≡ None → room ≡ suc (fewer room)
 placed_room p scope room before next x e = room_of room (or_neither (room_fault room) _ (or_neither (feature_fault room before (place_feature next)) (name_fault p scope before x) e).0).0
 
-pub mark_room : (room : ℕ) (before : Fields) (m : Mark) → mark_fault room before m ≡ None → room ≡ suc (fewer room)
-mark_room room before (AtomMark a) e = room_of room (or_neither (room_fault room) _ e).0
-mark_room room before (IntMark n) e = room_of room (or_neither (room_fault room) _ (or_neither (number_fault n) (feature_fault room before (feature_of (IntMark n))) e).1).0
+pub mark_room : (room : ℕ) (before : Fields) (m : FeatureToken) → feature_token_fault room before m ≡ None → room ≡ suc (fewer room)
+mark_room room before (AtomFeature a) e = room_of room (or_neither (room_fault room) _ e).0
+mark_room room before (IntFeature n) e = room_of room (or_neither (room_fault room) _ (or_neither (number_fault n) (feature_fault room before (feature_of (IntFeature n))) e).1).0
 
-marked_read : (p : Purpose) (scope : Scope) (room : ℕ) (before : Fields) (next : ℕ) (m : Mark) (x : Name) (rest : List Symbol) → mark_fault room before m ≡ None → name_fault p scope before x ≡ None
-    → field_at p scope room before next (field_text (Marked m x) rest) ≡ Ok (with_field (feature_of m) x before, next, rest)
-marked_read p scope room before next (AtomMark a) x rest e f = passes (mark_fault room before (AtomMark a)) _ _ e ∙ passes (name_fault p scope before x) (t.Variable x ∷ rest) _ f
-marked_read p scope room before next (IntMark n) x rest e f = passes (mark_fault room before (IntMark n)) _ _ e ∙ passes (name_fault p scope before x) (t.Variable x ∷ rest) _ f
+marked_read : (p : Purpose) (scope : Scope) (room : ℕ) (before : Fields) (next : ℕ) (m : FeatureToken) (x : Identifier) (rest : List Symbol) → feature_token_fault room before m ≡ None → name_fault p scope before x ≡ None
+    → field_at p scope room before next (field_text (WithFeature m x) rest) ≡ Ok (with_field (feature_of m) x before, next, rest)
+marked_read p scope room before next (AtomFeature a) x rest e f = passes (feature_token_fault room before (AtomFeature a)) _ _ e ∙ passes (name_fault p scope before x) (t.Variable x ∷ rest) _ f
+marked_read p scope room before next (IntFeature n) x rest e f = passes (feature_token_fault room before (IntFeature n)) _ _ e ∙ passes (name_fault p scope before x) (t.Variable x ∷ rest) _ f
 
 pub fields_read : (fs : List Field) (p : Purpose) (scope : Scope) (room : ℕ) (before : Fields) (next : ℕ) (rest : List Symbol) (behind : Option Fault) → check_fields p scope room before next fs (t.CloseRound ∷ rest) behind ≡ None
     → fields_at p scope room before next (fields_text fs (t.CloseRound ∷ rest)) ≡ Ok (fields_behind before next fs, rest)
@@ -88,14 +88,14 @@ fields_read (Placed x ∷ fs) p scope room before next rest behind e =
     (fields_more p scope (fewer room) before next (Placed x) (fields_text fs (t.CloseRound ∷ rest)) (with_field (place_feature next) x before) (next + 1)
     (subst (λ (n : ℕ). field_at p scope n before next (t.Variable x ∷ fields_text fs (t.CloseRound ∷ rest)) ≡ Ok (with_field (place_feature next) x before, next + 1, fields_text fs (t.CloseRound ∷ rest))) r one)
     ∙ fields_read fs p scope (fewer room) (with_field (place_feature next) x before) (next + 1) rest behind s.1)
-fields_read (Marked m x ∷ fs) p scope room before next rest behind e =
-    let s = stopped (mark_fault room before m) _ _ e in
+fields_read (WithFeature m x ∷ fs) p scope room before next rest behind e =
+    let s = stopped (feature_token_fault room before m) _ _ e in
     let u = stopped (name_fault p scope before x) _ _ s.1 in
     let r = mark_room room before m s.0 in
     let one = marked_read p scope room before next m x (fields_text fs (t.CloseRound ∷ rest)) s.0 u.0 in
-    subst (λ (n : ℕ). fields_at p scope n before next (fields_text (Marked m x ∷ fs) (t.CloseRound ∷ rest)) ≡ Ok (fields_behind before next (Marked m x ∷ fs), rest)) (sym r)
-    (fields_more p scope (fewer room) before next (Marked m x) (fields_text fs (t.CloseRound ∷ rest)) (with_field (feature_of m) x before) next
-    (subst (λ (n : ℕ). field_at p scope n before next (field_text (Marked m x) (fields_text fs (t.CloseRound ∷ rest))) ≡ Ok (with_field (feature_of m) x before, next, fields_text fs (t.CloseRound ∷ rest))) r one)
+    subst (λ (n : ℕ). fields_at p scope n before next (fields_text (WithFeature m x ∷ fs) (t.CloseRound ∷ rest)) ≡ Ok (fields_behind before next (WithFeature m x ∷ fs), rest)) (sym r)
+    (fields_more p scope (fewer room) before next (WithFeature m x) (fields_text fs (t.CloseRound ∷ rest)) (with_field (feature_of m) x before) next
+    (subst (λ (n : ℕ). field_at p scope n before next (field_text (WithFeature m x) (fields_text fs (t.CloseRound ∷ rest))) ≡ Ok (with_field (feature_of m) x before, next, fields_text fs (t.CloseRound ∷ rest))) r one)
     ∙ fields_read fs p scope (fewer room) (with_field (feature_of m) x before) next rest behind u.1)
 
 value_read : (v : Value) (left : ℕ) (scope : Scope) (rest : List Symbol) (behind : Option Fault) → check_value v scope rest behind ≡ None → ends_value rest ≡ true → value_at left scope (value_text v rest) ≡ Ok (value_row left v scope, rest)
@@ -110,10 +110,10 @@ value_read (Selects y (ByVariable x)) left scope rest behind e over =
     let s = stopped (use_fault scope y) _ _ e in
     let u = stopped (use_fault scope x) _ behind s.1 in
     rw (s.0, u.0) refl
-value_read (Selects y (ByMark (AtomMark a))) left scope rest behind e over =
+value_read (Selects y (ByFeature (AtomFeature a))) left scope rest behind e over =
     let s = stopped (use_fault scope y) _ _ e in
     rw s.0 refl
-value_read (Selects y (ByMark (IntMark n))) left scope rest behind e over =
+value_read (Selects y (ByFeature (IntFeature n))) left scope rest behind e over =
     let s = stopped (use_fault scope y) _ _ e in
     let u = stopped (number_fault n) _ behind s.1 in
     rw (s.0, u.0) refl
@@ -127,19 +127,19 @@ value_read (ToRecord a fs) left scope rest behind e over = rw (fields_read fs pu
 
 -- ---- lists of names
 
-pub locals_read : (xs before : List Name) (rest : List Symbol) (behind : Option Fault) → check_locals before xs (t.In ∷ rest) behind ≡ None → locals_at before (names_text xs (t.In ∷ rest)) ≡ Ok (before ++ xs, rest)
+pub locals_read : (xs before : List Identifier) (rest : List Symbol) (behind : Option Fault) → check_locals before xs (t.In ∷ rest) behind ≡ None → locals_at before (names_text xs (t.In ∷ rest)) ≡ Ok (before ++ xs, rest)
 locals_read [] before rest behind e = rw (append-nil before) refl
 locals_read (x ∷ xs) before rest behind e =
     let s = stopped (count_fault (length before)) _ _ e in
     passes (count_fault (length before)) _ _ s.0 ∙ locals_read xs (before ++ x ∷ []) rest behind s.1 ∙ rw (append_assoc before (x ∷ []) xs) refl
 
-pub formals_read : (xs before : List Name) (rest : List Symbol) (behind : Option Fault) → check_formals before xs (t.CloseCurly ∷ rest) behind ≡ None → formals_at before (names_text xs (t.CloseCurly ∷ rest)) ≡ Ok (before ++ xs, rest)
+pub formals_read : (xs before : List Identifier) (rest : List Symbol) (behind : Option Fault) → check_formals before xs (t.CloseCurly ∷ rest) behind ≡ None → formals_at before (names_text xs (t.CloseCurly ∷ rest)) ≡ Ok (before ++ xs, rest)
 formals_read [] before rest behind e = rw (append-nil before) refl
 formals_read (x ∷ xs) before rest behind e =
     let s = stopped (formal_fault before x) _ _ e in
     passes (formal_fault before x) _ _ s.0 ∙ formals_read xs (before ++ x ∷ []) rest behind s.1 ∙ rw (append_assoc before (x ∷ []) xs) refl
 
-arguments_read : (xs : List Name) (scope : Scope) (n : ℕ) (before : List ℕ) (rest : List Symbol) (behind : Option Fault) → length before ≡ n → check_arguments scope n xs (t.CloseCurly ∷ rest) behind ≡ None
+arguments_read : (xs : List Identifier) (scope : Scope) (n : ℕ) (before : List ℕ) (rest : List Symbol) (behind : Option Fault) → length before ≡ n → check_arguments scope n xs (t.CloseCurly ∷ rest) behind ≡ None
     → arguments_at scope before (names_text xs (t.CloseCurly ∷ rest)) ≡ Ok (before ++ map (declaration_of scope) xs, rest)
 arguments_read [] scope n before rest behind is e = rw (append-nil before) refl
 arguments_read (x ∷ xs) scope n before rest behind is e =
@@ -149,7 +149,7 @@ arguments_read (x ∷ xs) scope n before rest behind is e =
     ∙ arguments_read xs scope (n + 1) (before ++ declaration_of scope x ∷ []) rest behind (length-append before (declaration_of scope x ∷ []) ∙ ap (λ (k : ℕ). k + 1) is) s.1
     ∙ rw (append_assoc before (declaration_of scope x ∷ []) (map (declaration_of scope) xs)) refl
 
-wanted_read : (xs : List Name) (scope : Scope) (k : ℕ) (before : List ℕ) (rest : List Symbol) (behind : Option Fault) → length xs ≡ k → check_uses scope xs (t.CloseCurly ∷ rest) behind ≡ None
+wanted_read : (xs : List Identifier) (scope : Scope) (k : ℕ) (before : List ℕ) (rest : List Symbol) (behind : Option Fault) → length xs ≡ k → check_uses scope xs (t.CloseCurly ∷ rest) behind ≡ None
     → wanted_at scope k before (names_text xs (t.CloseCurly ∷ rest)) ≡ Ok (before ++ map (declaration_of scope) xs, rest)
 wanted_read [] scope zero before rest behind is e = rw (append-nil before) refl
 wanted_read [] scope (suc k) before rest behind is e = absurd cc
@@ -162,7 +162,7 @@ wanted_read (x ∷ xs) scope (suc k) before rest behind is e =
 
 -- ---- statements without bodies
 
-call_read : (b : Option BuiltIn) (callee : ℕ) (xs : List Name) (scope : Scope) (rows : List Stmt) (rest : List Symbol) (behind : Option Fault) → HasArguments b xs → check_call b scope xs (t.CloseCurly ∷ rest) behind ≡ None
+call_read : (b : Option BuiltIn) (callee : ℕ) (xs : List Identifier) (scope : Scope) (rows : List Stmt) (rest : List Symbol) (behind : Option Fault) → HasArguments b xs → check_call b scope xs (t.CloseCurly ∷ rest) behind ≡ None
     → call_of b callee scope rows (names_text xs (t.CloseCurly ∷ rest)) ≡ Ok (rows ++ call_row b callee (map (declaration_of scope) xs) ∷ [], rest)
 call_read (Some b) callee xs scope rows rest behind has e = rw (wanted_read xs scope (arity_of b) [] rest behind has e) refl
 call_read None callee xs scope rows rest behind has e = rw (arguments_read xs scope 0 [] rest behind refl e) refl

@@ -18,10 +18,10 @@ use Rattle.oz_grammar.specs.declared.fault.What.TheVariants as what
 use Rattle.oz_grammar.specs.declared.fault.Fault.{Fault}
 use Rattle.oz_grammar.specs.declared.fault.FaultKind.{FaultKind}
 use Rattle.oz_grammar.specs.declared.fault.FaultKind.TheVariants.{Deep}
-use Rattle.oz_grammar.specs.Grammar.{Name, Mark, AtomMark, IntMark}
+use Rattle.oz_grammar.specs.Grammar.{Identifier, FeatureToken, AtomFeature, IntFeature}
 use Rattle.oz_grammar.specs.Scoping.{Scope, Fields, declaration_of, built_in_at, arity_of}
 use Rattle.oz_grammar.specs.Faults.{fault_here}
-use Rattle.oz_grammar.specs.Points.{after, expects_sign, is_sign}
+use Rattle.oz_grammar.specs.Points.{expected_after, expects_sign, is_sign}
 use Rattle.oz_grammar.specs.Table.{code_at}
 use Rattle.oz_grammar.specs.Reading.{◌>>=◌, fault_expected, fault_or, sign_at, used_at, selection_at, behind_at, field_name_at, named_field_at, field_at, is_round, fields_at, record_at, value_at, locals_at, first_local_at, formals_at, arguments_at, close_at, wanted_at, Out, Reader, call_of, call_at, raise_at, is_end_of, more_at, with_numbers, seq_from, seq_at, local_at, procedure_at, proc_value_at, proc_at, right_at, tell_at, with_second, branches_at, if_at, pair_pattern_at, record_pattern_at, pattern_at, case_at, site_at, thread_at, caught_at, try_at, kind_at, begins_at, stmt_at}
 
@@ -66,17 +66,17 @@ behind_short left a scope (t.Dot ∷ xs) n le = leaves_then second second n n (s
 behind_short left a scope (t.Bar ∷ xs) n le = leaves_then second second n n (used_at what.Variable scope xs) _ (used_short what.Variable scope xs n (omega arith)) (λ z h. h)
 behind_short left a scope xs n le = le
 
-field_name_short : (p : Purpose) (scope : Scope) (before : Fields) (next : ℕ) (m : Mark) (symbols : List Symbol) (n : ℕ) → length symbols ≤ n → Leaves third n (field_name_at p scope before next m symbols)
+field_name_short : (p : Purpose) (scope : Scope) (before : Fields) (next : ℕ) (m : FeatureToken) (symbols : List Symbol) (n : ℕ) → length symbols ≤ n → Leaves third n (field_name_at p scope before next m symbols)
 field_name_short p scope before next m (t.Variable x ∷ xs) n le = leaves_unless third n _ (t.Variable x ∷ xs) (Ok (_, next, xs)) (omega arith)
 field_name_short p scope before next m symbols n le = tt
 
-named_short : (p : Purpose) (scope : Scope) (before : Fields) (next : ℕ) (m : Mark) (symbols : List Symbol) (n : ℕ) → length symbols ≤ n → Leaves third n (named_field_at p scope before next m symbols)
+named_short : (p : Purpose) (scope : Scope) (before : Fields) (next : ℕ) (m : FeatureToken) (symbols : List Symbol) (n : ℕ) → length symbols ≤ n → Leaves third n (named_field_at p scope before next m symbols)
 named_short p scope before next m symbols n le = leaves_then itself third n n (sign_at sign.Colon symbols) _ (sign_short sign.Colon symbols n le) (λ rest h. field_name_short p scope before next m rest n h)
 
 field_short : (p : Purpose) (scope : Scope) (room : ℕ) (before : Fields) (next : ℕ) (symbols : List Symbol) (n : ℕ) → length symbols ≤ n → Leaves third n (field_at p scope room before next symbols)
 field_short p scope room before next (t.Variable x ∷ xs) n le = leaves_unless third n _ (t.Variable x ∷ xs) (Ok (_, next + 1, xs)) (omega arith)
-field_short p scope room before next (t.Atom a ∷ xs) n le = leaves_unless third n _ (t.Atom a ∷ xs) _ (named_short p scope before next (AtomMark a) xs n (omega arith))
-field_short p scope room before next (t.Integer i ∷ xs) n le = leaves_unless third n _ (t.Integer i ∷ xs) _ (named_short p scope before next (IntMark i) xs n (omega arith))
+field_short p scope room before next (t.Atom a ∷ xs) n le = leaves_unless third n _ (t.Atom a ∷ xs) _ (named_short p scope before next (AtomFeature a) xs n (omega arith))
+field_short p scope room before next (t.Integer i ∷ xs) n le = leaves_unless third n _ (t.Integer i ∷ xs) _ (named_short p scope before next (IntFeature i) xs n (omega arith))
 field_short p scope room before next symbols n le = tt
 
 drop_short : (symbols : List Symbol) (n : ℕ) → length symbols ≤ n → length (drop 1 symbols) ≤ n
@@ -106,7 +106,7 @@ value_short left scope (t.Integer i ∷ xs) n le = leaves_unless second n _ (t.I
 value_short left scope (t.Atom a ∷ xs) n le = record_short left a scope xs n (omega arith)
 value_short left scope symbols n le = tt
 
-locals_short : (symbols : List Symbol) (before : List Name) (n : ℕ) → length symbols ≤ n → Leaves second n (locals_at before symbols)
+locals_short : (symbols : List Symbol) (before : List Identifier) (n : ℕ) → length symbols ≤ n → Leaves second n (locals_at before symbols)
 locals_short (t.In ∷ xs) before n le = let h : length xs ≤ n = omega arith in h
 locals_short (t.Variable x ∷ xs) before n le = leaves_unless second n _ (t.Variable x ∷ xs) (locals_at (before ++ x ∷ []) xs) (locals_short xs (before ++ x ∷ []) n (omega arith))
 locals_short symbols before n le = tt
@@ -115,7 +115,7 @@ first_local_short : (symbols : List Symbol) (n : ℕ) → length symbols ≤ n �
 first_local_short (t.Variable x ∷ xs) n le = locals_short xs (x ∷ []) n (omega arith)
 first_local_short symbols n le = tt
 
-formals_short : (symbols : List Symbol) (before : List Name) (n : ℕ) → length symbols ≤ n → Leaves second n (formals_at before symbols)
+formals_short : (symbols : List Symbol) (before : List Identifier) (n : ℕ) → length symbols ≤ n → Leaves second n (formals_at before symbols)
 formals_short (t.CloseCurly ∷ xs) before n le = let h : length xs ≤ n = omega arith in h
 formals_short (t.Variable x ∷ xs) before n le = leaves_unless second n _ (t.Variable x ∷ xs) (formals_at (before ++ x ∷ []) xs) (formals_short xs (before ++ x ∷ []) n (omega arith))
 formals_short symbols before n le = tt
@@ -156,9 +156,9 @@ more_short : (inner : Reader) (short : ReaderShort inner) (c : Closer) (place : 
 unfolding more_at
 more_short inner short c place scope zero ids rows symbols n le = tt
 more_short inner short c place scope (suc fuel) ids rows symbols n le =
-    elim (is_end_of c symbols) as (λ b. Leaves third n (cond b (Ok (ids, rows, drop 1 symbols)) (inner scope rows (after c) symbols >>= λ s. more_at inner c place scope fuel (ids ++ code_at (length rows - place) ∷ []) s.0 s.1))) [
+    elim (is_end_of c symbols) as (λ b. Leaves third n (cond b (Ok (ids, rows, drop 1 symbols)) (inner scope rows (expected_after c) symbols >>= λ s. more_at inner c place scope fuel (ids ++ code_at (length rows - place) ∷ []) s.0 s.1))) [
       | true ↦ drop_short symbols n le
-      | false ↦ leaves_then second third n n (inner scope rows (after c) symbols) _ (short scope rows (after c) symbols n (omega arith)) (λ s h. more_short inner short c place scope fuel (ids ++ code_at (length rows - place) ∷ []) s.0 s.1 n h)
+      | false ↦ leaves_then second third n n (inner scope rows (expected_after c) symbols) _ (short scope rows (expected_after c) symbols n (omega arith)) (λ s h. more_short inner short c place scope fuel (ids ++ code_at (length rows - place) ∷ []) s.0 s.1 n h)
     ]
 
 numbered_short : (place n : ℕ) (r : Result (List CodeId × List Stmt × List Symbol) Fault) → Leaves third n r → Leaves second n (with_numbers place r)
@@ -214,7 +214,7 @@ if_short inner short scope rows symbols n le =
     leaves_then second second n n (used_at what.Variable scope symbols) _ (used_short what.Variable scope symbols n (omega arith)) (λ x h.
     leaves_then itself second n n (sign_at sign.Then x.1) _ (sign_short sign.Then x.1 n h) (λ rest g. branches_short inner short _ scope scope rows rest n g))
 
-pair_short : (x : Name) (symbols : List Symbol) (n : ℕ) → length symbols ≤ n → Leaves third n (pair_pattern_at x symbols)
+pair_short : (x : Identifier) (symbols : List Symbol) (n : ℕ) → length symbols ≤ n → Leaves third n (pair_pattern_at x symbols)
 pair_short h (t.Variable x ∷ xs) n le = leaves_unless third n _ (t.Variable x ∷ xs) (Ok (_, h ∷ x ∷ [], xs)) (omega arith)
 pair_short h symbols n le = tt
 

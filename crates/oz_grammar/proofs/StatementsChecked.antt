@@ -11,12 +11,12 @@ use Rattle.oz_grammar.specs.declared.symbol.Closer.TheVariants as closer
 use Rattle.oz_grammar.specs.declared.fault.Fault.{Fault}
 use Rattle.oz_grammar.specs.declared.fault.What.{What}
 use Rattle.oz_grammar.specs.declared.fault.What.TheVariants as what
-use Rattle.oz_grammar.specs.Grammar.{Name, Plain, Skips, Tells, Calls, Raises, Opening, Locals, ProcValue, ProcNamed, Threads, ThreadsAt, Choice, Ifs, Cases, Statement, Simple, Block, Chooses, Tries, Sequence, One, Then, plain_text, opening_text, choice_text, pattern_text, stmt_text, seq_text, closer_symbol, program_text}
+use Rattle.oz_grammar.specs.Grammar.{Identifier, Plain, Skips, Tells, Calls, Raises, Opening, Locals, ProcValue, ProcNamed, Threads, ThreadsAt, Choice, Ifs, Cases, Statement, Simple, Block, Chooses, Tries, Sequence, One, Then, plain_text, opening_text, choice_text, pattern_text, stmt_text, seq_text, closer_symbol, program_text}
 use Rattle.oz_grammar.specs.Scoping.{Scope, declaration_of, opening_scope, choice_scope, StmtDerives, SeqDerives, Derives}
 use Rattle.oz_grammar.specs.Table.{code_at, opening_row, choice_row, program_table}
 use Rattle.oz_grammar.specs.Faults.{use_fault, site_fault, deep_fault, fewer}
 use Rattle.oz_grammar.specs.Check.{check_opening, check_choice, check_pattern, check_stmt, check_seq, check}
-use Rattle.oz_grammar.specs.Points.{after}
+use Rattle.oz_grammar.specs.Points.{expected_after}
 use Rattle.oz_grammar.specs.Reading.{Out, Reader, is_end_of, begins_at, more_at, with_numbers, seq_from, seq_at, body_at, procedure_at, set_second, with_second, branches_at, kind_at, stmt_at, program_at}
 use Rattle.oz_grammar.proofs.FieldOrder.{stopped}
 use Rattle.oz_grammar.proofs.Heads.{ends_value}
@@ -41,7 +41,7 @@ thread_body inner scope rows w [] e = cc
 thread_body inner scope rows w (t.At ∷ mid) e = absurd cc
 thread_body inner scope rows w (x ∷ mid) e = refl
 
-procedure_read : (inner : Reader) (left : ℕ) (xs : List Name) (scope : Scope) (rows : List Stmt) (mid : List Symbol) (behind : Option Fault) → Rattle.oz_grammar.specs.Check.check_formals [] xs (t.CloseCurly ∷ mid) behind ≡ None
+procedure_read : (inner : Reader) (left : ℕ) (xs : List Identifier) (scope : Scope) (rows : List Stmt) (mid : List Symbol) (behind : Option Fault) → Rattle.oz_grammar.specs.Check.check_formals [] xs (t.CloseCurly ∷ mid) behind ≡ None
     → procedure_at inner left scope rows (Rattle.oz_grammar.specs.Grammar.names_text xs (t.CloseCurly ∷ mid)) ≡ body_at inner (scope ++ xs) (rows ++ stmt.TellProc left (length scope) (length xs) (code_at 1) ∷ []) what.Statement mid
 procedure_read inner left xs scope rows mid behind e = rw (formals_read xs [] mid behind e) refl
 
@@ -144,7 +144,7 @@ unfolding seq_at seq_from
 seq_several one c scope rows r w symbols mid e over = rw (e, over) refl
 
 -- one more statement of a sequence
-more_goes : (one : Reader) (c : Closer) (place : ℕ) (scope : Scope) (n : ℕ) (ids : List CodeId) (rows r : List Stmt) (symbols mid : List Symbol) → is_end_of c symbols ≡ false → one scope rows (after c) symbols ≡ Ok (r, mid)
+more_goes : (one : Reader) (c : Closer) (place : ℕ) (scope : Scope) (n : ℕ) (ids : List CodeId) (rows r : List Stmt) (symbols mid : List Symbol) → is_end_of c symbols ≡ false → one scope rows (expected_after c) symbols ≡ Ok (r, mid)
     → more_at one c place scope (suc n) ids rows symbols ≡ more_at one c place scope n (ids ++ code_at (length rows - place) ∷ []) r mid
 unfolding more_at
 more_goes one c place scope n ids rows r symbols mid over e = rw (over, e) refl
@@ -175,7 +175,7 @@ branches_of one row chosen scope rows first second mid other rest chosen_read ot
     ∙ other_read (rows ++ set_second (code_at (1 + length first)) row ∷ first)
     ∙ ap (λ (r : List Stmt). Ok (r, rest)) (append_assoc rows (set_second (code_at (1 + length first)) row ∷ first) second))
 
-try_of : (one : Reader) (scope : Scope) (x : Name) (rows first second : List Stmt) (w : What) (mid other rest : List Symbol) → ((rows' : List Stmt) → seq_at one closer.Catch scope rows' what.Statement mid ≡ Ok (rows' ++ first, t.Variable x ∷ t.Then ∷ other))
+try_of : (one : Reader) (scope : Scope) (x : Identifier) (rows first second : List Stmt) (w : What) (mid other rest : List Symbol) → ((rows' : List Stmt) → seq_at one closer.Catch scope rows' what.Statement mid ≡ Ok (rows' ++ first, t.Variable x ∷ t.Then ∷ other))
     → ((rows' : List Stmt) → seq_at one closer.End (scope ++ x ∷ []) rows' what.Statement other ≡ Ok (rows' ++ second, rest))
     → kind_at one scope rows w (t.Try ∷ mid) ≡ Ok (rows ++ stmt.Try (code_at 1) (length scope) (code_at (1 + length first)) ∷ (first ++ second), rest)
 try_of one scope x rows first second w mid other rest body handler =
@@ -250,7 +250,7 @@ mutual
       let two : fuel ≡ suc (suc (fuel - 2)) = omega (arith, long, lt) in
       subst (λ (n : ℕ). more_at (stmt_at d) c place scope n ids rows (stmt_text s (closer_symbol c ∷ rest)) ≡ Ok (ids ++ code_at (length rows - place) ∷ [], rows ++ rel_stmt s scope, rest)) (sym two)
       (more_goes (stmt_at d) c place scope (suc (fuel - 2)) ids rows (rows ++ rel_stmt s scope) (stmt_text s (closer_symbol c ∷ rest)) (closer_symbol c ∷ rest) (begun_open c _ (begins_stmt s (closer_symbol c ∷ rest)))
-      (stmt_read s d scope rows (after c) (closer_symbol c ∷ rest) behind derives e le (ends_closer c rest))
+      (stmt_read s d scope rows (expected_after c) (closer_symbol c ∷ rest) behind derives e le (ends_closer c rest))
       ∙ more_ends (stmt_at d) c place scope (fuel - 2) (ids ++ code_at (length rows - place) ∷ []) (rows ++ rel_stmt s scope) rest)
   many_read (Then s q) c d place fuel scope ids rows rest behind derives e le lt under =
       let long = stmt_longer s (seq_text q (closer_symbol c ∷ rest)) in
@@ -260,7 +260,7 @@ mutual
       let many = many_read q c d place (fuel - 1) scope (ids ++ code_at (length rows - place) ∷ []) (rows ++ rel_stmt s scope) rest behind derives.1 first.0 le (omega (arith, long, lt)) (omega (arith, under, length-append rows (rel_stmt s scope))) in
       subst (λ (n : ℕ). more_at (stmt_at d) c place scope n ids rows (stmt_text s (seq_text q (closer_symbol c ∷ rest))) ≡ Ok (ids ++ rel_numbers (Then s q) scope (length rows - place), rows ++ rel_many (Then s q) scope, rest)) (sym some)
       (more_goes (stmt_at d) c place scope (fuel - 1) ids rows (rows ++ rel_stmt s scope) (stmt_text s (seq_text q (closer_symbol c ∷ rest))) (seq_text q (closer_symbol c ∷ rest)) (begun_open c _ (begins_stmt s (seq_text q (closer_symbol c ∷ rest))))
-      (stmt_read s d scope rows (after c) (seq_text q (closer_symbol c ∷ rest)) (check_seq q d scope (closer_symbol c ∷ rest) behind) derives.0 e le (ends_seq q (closer_symbol c ∷ rest)))
+      (stmt_read s d scope rows (expected_after c) (seq_text q (closer_symbol c ∷ rest)) (check_seq q d scope (closer_symbol c ∷ rest) behind) derives.0 e le (ends_seq q (closer_symbol c ∷ rest)))
       ∙ many
       ∙ regrouped ids (code_at (length rows - place)) (rel_numbers q scope (length (rows ++ rel_stmt s scope) - place)) (rel_numbers q scope (length rows - place + length (rel_stmt s scope))) rows (rel_stmt s scope) (rel_many q scope) rest (ap (rel_numbers q scope) k))
 

@@ -14,11 +14,11 @@ use Rattle.oz_grammar.specs.declared.fault.What.{What}
 use Rattle.oz_grammar.specs.declared.fault.What.TheVariants as what
 use Rattle.oz_grammar.specs.declared.fault.Fault.{Fault}
 use Rattle.oz_grammar.specs.declared.fault.FaultKind.TheVariants.{Deep}
-use Rattle.oz_grammar.specs.Grammar.{Name}
+use Rattle.oz_grammar.specs.Grammar.{Identifier}
 use Rattle.oz_grammar.specs.Scoping.{Scope, declaration_of, built_in_at, arity_of}
 use Rattle.oz_grammar.specs.Faults.{use_fault, called_fault, fault_here}
 use Rattle.oz_grammar.specs.Check.{first_fault}
-use Rattle.oz_grammar.specs.Points.{Stage, First, AfterThread, Later, Point, At, Here, Used, LocalName, ValueOf, CallName, PatternOf, ProcName, Formals, CatchName, after, expects_stmt, begins_statement, beside, next_call, refusal, run_step, run, start}
+use Rattle.oz_grammar.specs.Points.{Stage, First, AfterThread, Later, Point, At, Here, Used, LocalName, ValueOf, CallName, PatternOf, ProcName, Formals, CatchName, expected_after, expects_stmt, begins_statement, beside, next_call, refusal, run_step, run, start}
 use Rattle.oz_grammar.specs.Table.{code_at}
 use Rattle.oz_grammar.specs.Reading.{◌>>=◌, fault_expected, sign_at, used_at, value_at, first_local_at, formals_at, arguments_at, wanted_at, pattern_at, site_at, Out, Reader, call_of, call_at, raise_at, is_end_of, more_at, with_numbers, seq_from, seq_at, body_at, local_at, procedure_at, proc_value_at, proc_at, right_at, tell_at, with_second, branches_at, if_at, case_at, thread_at, caught_at, try_at, kind_at, stmt_at, shift_rows, program_at}
 use Rattle.oz_grammar.proofs.TreeRuns.{closer_run}
@@ -73,11 +73,11 @@ more_read : (inner : Reader) (d : ℕ) (law : ReaderLaw inner d) (short : Reader
 unfolding more_at
 more_read inner d law short some c place scope zero ids rows symbols σ lt = absurd (omega arith)
 more_read inner d law short some c place scope (suc fuel) ids rows symbols σ lt =
-    let chosen : (b : Bool) → is_end_of c symbols ≡ b → run symbols (At Later c scope d ∷ σ) ≡ read_on (cond b (Ok (ids, rows, drop 1 symbols)) (inner scope rows (after c) symbols >>= λ s. more_at inner c place scope fuel (ids ++ code_at (length rows - place) ∷ []) s.0 s.1)) (λ m. run m.2 σ) = elim [
+    let chosen : (b : Bool) → is_end_of c symbols ≡ b → run symbols (At Later c scope d ∷ σ) ≡ read_on (cond b (Ok (ids, rows, drop 1 symbols)) (inner scope rows (expected_after c) symbols >>= λ s. more_at inner c place scope fuel (ids ++ code_at (length rows - place) ∷ []) s.0 s.1)) (λ m. run m.2 σ) = elim [
       | true ↦ λ e. closes_run c scope d symbols σ e
       | false ↦ λ e.
-          law Later c scope rows (after c) symbols σ refl (later_beside c scope d symbols e)
-          ∙ chain_if (λ s. length s.1 < fuel) (inner scope rows (after c) symbols) (λ s. more_at inner c place scope fuel (ids ++ code_at (length rows - place) ∷ []) s.0 s.1) (λ s. run s.1 (At Later c scope d ∷ σ)) (λ m. run m.2 σ) (shorter_by inner short some scope rows (after c) symbols fuel (omega arith))
+          law Later c scope rows (expected_after c) symbols σ refl (later_beside c scope d symbols e)
+          ∙ chain_if (λ s. length s.1 < fuel) (inner scope rows (expected_after c) symbols) (λ s. more_at inner c place scope fuel (ids ++ code_at (length rows - place) ∷ []) s.0 s.1) (λ s. run s.1 (At Later c scope d ∷ σ)) (λ m. run m.2 σ) (shorter_by inner short some scope rows (expected_after c) symbols fuel (omega arith))
           (λ s l. more_read inner d law short some c place scope fuel (ids ++ code_at (length rows - place) ∷ []) s.0 s.1 σ l)
     ] in chosen (is_end_of c symbols) refl
 
@@ -140,7 +140,7 @@ right_read inner d body left c scope rows (t.Proc ∷ xs) σ = proc_value_read i
 right_read inner d body left c scope rows [] σ = refl
 right_read inner d body left c scope rows (x ∷ xs) σ = value_read left c scope (suc d) (x ∷ xs) σ refl ∙ told_read inner left c scope rows (suc d) (value_at left scope (x ∷ xs)) σ
 
-tell_read : (inner : Reader) (d : ℕ) (body : BodyLaw inner d) (c : Closer) (scope : Scope) (rows : List Stmt) (x : Name) (xs : List Symbol) (σ : List Point) → first_fault (use_fault scope x) (t.Variable x ∷ xs) (run xs (Here sign.Equals ∷ ValueOf c scope (suc d) ∷ σ)) ≡ read_on (tell_at inner scope rows (t.Variable x ∷ xs)) (λ s. run s.1 (At Later c scope (suc d) ∷ σ))
+tell_read : (inner : Reader) (d : ℕ) (body : BodyLaw inner d) (c : Closer) (scope : Scope) (rows : List Stmt) (x : Identifier) (xs : List Symbol) (σ : List Point) → first_fault (use_fault scope x) (t.Variable x ∷ xs) (run xs (Here sign.Equals ∷ ValueOf c scope (suc d) ∷ σ)) ≡ read_on (tell_at inner scope rows (t.Variable x ∷ xs)) (λ s. run s.1 (At Later c scope (suc d) ∷ σ))
 tell_read inner d body c scope rows x xs σ =
     chain_unless (use_fault scope x) (t.Variable x ∷ xs) (Ok (declaration_of scope x, xs)) (λ v. sign_at sign.Equals v.1 >>= λ rest. right_at inner v.0 scope rows rest) (λ s. run s.1 (At Later c scope (suc d) ∷ σ)) (run xs (Here sign.Equals ∷ ValueOf c scope (suc d) ∷ σ))
     (sign_read sign.Equals xs (ValueOf c scope (suc d) ∷ σ)

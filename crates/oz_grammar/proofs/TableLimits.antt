@@ -7,7 +7,7 @@ use Rattle.tree_node.specs.declared.node.Feature.{Feature}
 use Rattle.tree_node.specs.Each.{Each}
 use Rattle.tree_node.specs.Node.{AreAscending}
 use Rattle.kernel_syntax.specs.Scopes as scopes
-use Rattle.kernel_syntax.specs.Program.{IsStmt, IsPattern, IsPlace, AreFeatures}
+use Rattle.kernel_syntax.specs.Program.{IsStmt, IsPattern, IsThreadSite, AreFeatures}
 use Rattle.oz_grammar.specs.declared.symbol.Symbol.{Symbol}
 use Rattle.oz_grammar.specs.declared.symbol.Symbol.TheVariants as t
 use Rattle.oz_grammar.specs.declared.symbol.BuiltIn.{BuiltIn}
@@ -15,7 +15,7 @@ use Rattle.oz_grammar.specs.declared.symbol.BuiltIn.TheVariants as built
 use Rattle.oz_grammar.specs.declared.symbol.Purpose.TheVariants as purpose
 use Rattle.oz_grammar.specs.declared.fault.Fault.{Fault}
 use Rattle.oz_grammar.specs.declared.fault.FaultKind.TheVariants.{Wide, Twice, Site}
-use Rattle.oz_grammar.specs.Grammar.{Name, ByVariable, ByMark, Value, ToVar, Calculates, Selects, Pairs, ToInt, ToAtom, ToRecord, Pattern, IntPattern, AtomPattern, RecordPattern, PairPattern, Plain, Skips, Tells, Calls, Raises, Opening, Locals, ProcValue, ProcNamed, Threads, ThreadsAt, Choice, Ifs, Cases, Statement, Simple, Block, Chooses, Tries, Sequence, One, Then, seq_text}
+use Rattle.oz_grammar.specs.Grammar.{Identifier, ByVariable, ByFeature, Value, ToVar, Calculates, Selects, Pairs, ToInt, ToAtom, ToRecord, Pattern, IntPattern, AtomPattern, RecordPattern, PairPattern, Plain, Skips, Tells, Calls, Raises, Opening, Locals, ProcValue, ProcNamed, Threads, ThreadsAt, Choice, Ifs, Cases, Statement, Simple, Block, Chooses, Tries, Sequence, One, Then, seq_text}
 use Rattle.oz_grammar.specs.Scoping.{Scope, Fields, declaration_of, built_in_at, has_name, fields_of, pattern_names, opening_scope, choice_scope}
 use Rattle.oz_grammar.specs.Table.{code_at, features_in, slots_of, record_row, record_pattern, value_row, value_of, pattern_of, call_row, plain_row, opening_row, choice_row, stmt_rows, seq_rows, many_rows, program_table}
 use Rattle.oz_grammar.specs.Faults.{where_so, number_fault, selected_fault, use_fault, count_fault, called_fault, argument_fault, formal_fault, site_fault, deep_fault, fewer}
@@ -28,7 +28,7 @@ use Rattle.tree_node.proofs.EachLemmas.{each_append}
 at_most_64 : (n : ℕ) → count_fault n ≡ None → n < 64
 at_most_64 n e = let low : nat_lt n 64 ≡ true = is_so (nat_lt n 64) Wide e in grind arith
 
-pub locals_few : (before xs : List Name) (rest : List Symbol) (behind : Option Fault) → check_locals before xs rest behind ≡ None → length before ≤ 64 → (behind ≡ None) × (length before + length xs ≤ 64)
+pub locals_few : (before xs : List Identifier) (rest : List Symbol) (behind : Option Fault) → check_locals before xs rest behind ≡ None → length before ≤ 64 → (behind ≡ None) × (length before + length xs ≤ 64)
 locals_few before [] rest behind e le = (e, omega (arith, le))
 locals_few before (x ∷ xs) rest behind e le =
     let s = stopped (count_fault (length before)) _ _ e in
@@ -37,7 +37,7 @@ locals_few before (x ∷ xs) rest behind e le =
     let h = locals_few (before ++ x ∷ []) xs rest behind s.1 (omega arith) in
     (h.0, omega (arith, h.1, l))
 
-pub formals_few : (before xs : List Name) (rest : List Symbol) (behind : Option Fault) → check_formals before xs rest behind ≡ None → length before ≤ 64 → (behind ≡ None) × (length before + length xs ≤ 64)
+pub formals_few : (before xs : List Identifier) (rest : List Symbol) (behind : Option Fault) → check_formals before xs rest behind ≡ None → length before ≤ 64 → (behind ≡ None) × (length before + length xs ≤ 64)
 formals_few before [] rest behind e le = (e, omega (arith, le))
 formals_few before (x ∷ xs) rest behind e le =
     let s = stopped (formal_fault before x) _ _ e in
@@ -47,7 +47,7 @@ formals_few before (x ∷ xs) rest behind e le =
     let h = formals_few (before ++ x ∷ []) xs rest behind s.1 (omega arith) in
     (h.0, omega (arith, h.1, l))
 
-pub arguments_few : (scope : Scope) (n : ℕ) (xs : List Name) (rest : List Symbol) (behind : Option Fault) → check_arguments scope n xs rest behind ≡ None → n ≤ 64 → (behind ≡ None) × (n + length xs ≤ 64)
+pub arguments_few : (scope : Scope) (n : ℕ) (xs : List Identifier) (rest : List Symbol) (behind : Option Fault) → check_arguments scope n xs rest behind ≡ None → n ≤ 64 → (behind ≡ None) × (n + length xs ≤ 64)
 arguments_few scope n [] rest behind e le = (e, omega (arith, le))
 arguments_few scope n (x ∷ xs) rest behind e le =
     let s = stopped (argument_fault scope n x) _ _ e in
@@ -56,7 +56,7 @@ arguments_few scope n (x ∷ xs) rest behind e le =
     let h = arguments_few scope (n + 1) xs rest behind s.1 (omega arith) in
     (h.0, omega (arith, h.1))
 
-pub uses_behind : (scope : Scope) (xs : List Name) (rest : List Symbol) (behind : Option Fault) → check_uses scope xs rest behind ≡ None → behind ≡ None
+pub uses_behind : (scope : Scope) (xs : List Identifier) (rest : List Symbol) (behind : Option Fault) → check_uses scope xs rest behind ≡ None → behind ≡ None
 uses_behind scope [] rest behind e = e
 uses_behind scope (x ∷ xs) rest behind e = uses_behind scope xs rest behind (stopped (use_fault scope x) _ _ e).1
 
@@ -66,7 +66,7 @@ record_limits : (left : ℕ) (label : List ℕ) (scope : Scope) (fields : Fields
 record_limits left label scope [] up few = tt
 record_limits left label scope (f ∷ fields) up few =
     let same = slots_features scope (f ∷ fields) in
-    let l = length-map (f ∷ fields) (λ (g : Feature × Name). g.0) in
+    let l = length-map (f ∷ fields) (λ (g : Feature × Identifier). g.0) in
     subst (λ (fs : List Feature). AreFeatures fs) (sym same) (omega (arith, l), omega (arith, l, few), up)
   where
     slots_features : (s : Scope) (gs : Fields) → map (λ (g : Feature × ℕ). g.0) (slots_of s gs) ≡ features_in gs
@@ -77,7 +77,7 @@ pub value_limits : (left : ℕ) (v : Value) (scope : Scope) (rest : List Symbol)
 value_limits left (ToVar y) scope rest behind e = ((stopped (use_fault scope y) _ behind e).1, tt)
 value_limits left (Calculates y o z) scope rest behind e = ((stopped (use_fault scope z) _ behind (stopped (use_fault scope y) _ _ e).1).1, tt)
 value_limits left (Selects y (ByVariable x)) scope rest behind e = ((stopped (use_fault scope x) _ behind (stopped (use_fault scope y) _ _ e).1).1, tt)
-value_limits left (Selects y (ByMark m)) scope rest behind e = ((stopped (selected_fault m) _ behind (stopped (use_fault scope y) _ _ e).1).1, tt)
+value_limits left (Selects y (ByFeature m)) scope rest behind e = ((stopped (selected_fault m) _ behind (stopped (use_fault scope y) _ _ e).1).1, tt)
 value_limits left (Pairs h u) scope rest behind e =
     ((stopped (use_fault scope u) _ behind (stopped (use_fault scope h) _ _ e).1).1, (omega arith, omega arith, ((refl, tt), (tt, tt))))
 value_limits left (ToInt n) scope rest behind e = ((stopped (number_fault n) _ behind e).1, tt)
@@ -86,7 +86,7 @@ value_limits left (ToRecord a fs) scope rest behind e =
     let g = good_fields purpose.Use scope fs (t.CloseRound ∷ rest) behind e in
     (g.0, record_limits left a scope (fields_of fs) g.1.ascending g.1.few)
 
-pub call_limits : (b : Option BuiltIn) (callee : ℕ) (scope : Scope) (xs : List Name) (rest : List Symbol) (behind : Option Fault) → check_call b scope xs rest behind ≡ None
+pub call_limits : (b : Option BuiltIn) (callee : ℕ) (scope : Scope) (xs : List Identifier) (rest : List Symbol) (behind : Option Fault) → check_call b scope xs rest behind ≡ None
     → (behind ≡ None) × IsStmt (call_row b callee (map (declaration_of scope) xs))
 call_limits (Some built.Browse) callee scope xs rest behind e = (uses_behind scope xs rest behind e, tt)
 call_limits (Some built.Wait) callee scope xs rest behind e = (uses_behind scope xs rest behind e, tt)
@@ -106,7 +106,7 @@ plain_limits (Raises x) scope rest behind e = ((stopped (use_fault scope x) _ be
 
 -- ---- rows with bodies
 
-site_limits : (n : Option ℤ) → site_fault n ≡ None → IsPlace (Some (value_of n))
+site_limits : (n : Option ℤ) → site_fault n ≡ None → IsThreadSite (Some (value_of n))
 site_limits (Some z) e = let no : int_lt z (pos 1) ≡ false = not_so (int_lt z (pos 1)) Site e in grind arith
 site_limits None e = cc
 
@@ -145,7 +145,7 @@ record_pattern_limits : (a : List ℕ) (fields : Fields) → AreAscending (featu
     → IsPattern (record_pattern a (features_in fields)) × (length (scopes.features_in (record_pattern a (features_in fields))) ≡ length fields)
 record_pattern_limits a [] up few = (tt, refl)
 record_pattern_limits a (f ∷ fields) up few =
-    let l = length-map (f ∷ fields) (λ (g : Feature × Name). g.0) in ((omega (arith, l), omega (arith, l, few), up), l)
+    let l = length-map (f ∷ fields) (λ (g : Feature × Identifier). g.0) in ((omega (arith, l), omega (arith, l, few), up), l)
 
 pub pattern_limits : (p : Pattern) (scope : Scope) (rest : List Symbol) (behind : Option Fault) → check_pattern p scope rest behind ≡ None → Declares p behind
 pattern_limits (IntPattern n) scope rest behind e = record { reached = (stopped (number_fault n) _ behind e).1; is = tt; few = omega arith; each = refl }
@@ -153,7 +153,7 @@ pattern_limits (AtomPattern a) scope rest behind e = record { reached = e; is = 
 pattern_limits (RecordPattern a fs) scope rest behind e =
     let g = good_fields purpose.Declare scope fs (t.CloseRound ∷ rest) behind e in
     let r = record_pattern_limits a (fields_of fs) g.1.ascending g.1.few in
-    let l = length-map (fields_of fs) (λ (f : Feature × Name). f.1) in
+    let l = length-map (fields_of fs) (λ (f : Feature × Identifier). f.1) in
     record { reached = g.0; is = r.0; few = omega (arith, r.1, g.1.few); each = l ∙ sym r.1 }
 pattern_limits (PairPattern h u) scope rest behind e = record {
   reached = (stopped (where_so (has_name (h ∷ []) u) Twice) _ behind e).1;

@@ -67,7 +67,7 @@ alone (stmt.Raise x) p = record { none = λ b. refl; declares = λ n. tt; sequen
 
 -- a row names what is declared around it, declares behind that, and has these bodies
 record Stands (b : Body) (row : Stmt) (inner : List Body) : Type 0 where
-  names : Below b.around (scopes.names_of row)
+  names : Below b.around (scopes.named_positions row)
   declares : DeclaresBehind b.around row
   sequence : IsWholeSequence b.in_sequence row
   bodies : bodies_in b row ≡ inner

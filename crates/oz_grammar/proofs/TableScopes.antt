@@ -8,7 +8,7 @@ use Rattle.tree_node.specs.declared.node.Feature.{Feature}
 use Rattle.tree_node.specs.Each.{Each}
 use Rattle.kernel_syntax.specs.declared.stmt.Stmt.{Stmt}
 use Rattle.kernel_syntax.specs.declared.stmt.Stmt.TheVariants as stmt
-use Rattle.kernel_syntax.specs.Scopes.{stmt_at, scopes_of, undeclaring, names_of}
+use Rattle.kernel_syntax.specs.Scopes.{stmt_at, scopes_of, bare_scope, named_positions}
 use Rattle.kernel_syntax.specs.Scopes as scopes
 use Rattle.kernel_syntax.specs.Free as positions
 use Rattle.kernel_syntax.specs.Free.{with_position, with_positions, without_declared, free_in_each, free_of, free_within, free}
@@ -20,7 +20,7 @@ use Rattle.oz_grammar.specs.declared.symbol.BuiltIn.TheVariants as built
 use Rattle.oz_grammar.specs.declared.symbol.Purpose.TheVariants as purpose
 use Rattle.oz_grammar.specs.declared.fault.Fault.{Fault}
 use Rattle.oz_grammar.specs.declared.fault.FaultKind.TheVariants.{Unbound}
-use Rattle.oz_grammar.specs.Grammar.{Name, ByVariable, ByMark, Value, ToVar, Calculates, Selects, Pairs, ToInt, ToAtom, ToRecord, Plain, Skips, Tells, Calls, Raises, Opening, Locals, ProcValue, ProcNamed, Threads, ThreadsAt, Choice, Ifs, Cases, Statement, Simple, Block, Chooses, Tries, Sequence, One, Then, seq_text}
+use Rattle.oz_grammar.specs.Grammar.{Identifier, ByVariable, ByFeature, Value, ToVar, Calculates, Selects, Pairs, ToInt, ToAtom, ToRecord, Plain, Skips, Tells, Calls, Raises, Opening, Locals, ProcValue, ProcNamed, Threads, ThreadsAt, Choice, Ifs, Cases, Statement, Simple, Block, Chooses, Tries, Sequence, One, Then, seq_text}
 use Rattle.oz_grammar.specs.Scoping.{Scope, Fields, declared_behind, position_of, is_declared, declaration_of, built_in_at, arity_of, fields_of, pattern_names, opening_scope, choice_scope, HasArguments, PlainDerives, StmtDerives, SeqDerives, Derives}
 use Rattle.oz_grammar.specs.Table.{code_at, slots_of, record_row, value_row, pattern_of, built_in_row, call_row, plain_row, opening_row, choice_row, stmt_rows, seq_rows, many_rows, seq_numbers, program_table}
 use Rattle.oz_grammar.specs.Faults.{use_fault, count_fault, called_fault, argument_fault, deep_fault, fewer}
@@ -31,7 +31,7 @@ use Rattle.kernel_syntax.proofs.PreorderLemmas.{stmt_here}
 
 -- ---- used names
 
-position_within : (scope : Scope) (x : Name) → IfSome (position_of scope x) (λ p. p < length scope)
+position_within : (scope : Scope) (x : Identifier) → IfSome (position_of scope x) (λ p. p < length scope)
 position_within [] x = tt
 position_within (y ∷ ys) x =
     let chosen : (b : Bool) (o : Option ℕ) → IfSome o (λ p. p < length ys) → IfSome (declared_behind b o) (λ p. p < length (y ∷ ys)) = elim [
@@ -43,22 +43,22 @@ placed : (o : Option ℕ) (n : ℕ) → IfSome o (λ p. p < n) → is_some o ≡
 placed None n h e = absurd cc
 placed (Some p) n h e = h
 
-place_within : (scope : Scope) (x : Name) → is_declared scope x ≡ true → declaration_of scope x < length scope
+place_within : (scope : Scope) (x : Identifier) → is_declared scope x ≡ true → declaration_of scope x < length scope
 place_within scope x e = placed (position_of scope x) (length scope) (position_within scope x) e
 
-pub used_within : (scope : Scope) (x : Name) → use_fault scope x ≡ None → declaration_of scope x < length scope
+pub used_within : (scope : Scope) (x : Identifier) → use_fault scope x ≡ None → declaration_of scope x < length scope
 used_within scope x e = place_within scope x (is_so (is_declared scope x) Unbound e)
 
-fields_within : (scope : Scope) (fields : Fields) → Each (λ (f : Feature × Name). is_declared scope f.1 ≡ true) fields → Below (length scope) (map (λ (f : Feature × ℕ). f.1) (slots_of scope fields))
+fields_within : (scope : Scope) (fields : Fields) → Each (λ (f : Feature × Identifier). is_declared scope f.1 ≡ true) fields → Below (length scope) (map (λ (f : Feature × ℕ). f.1) (slots_of scope fields))
 fields_within scope [] all = tt
 fields_within scope (f ∷ fields) all = (place_within scope f.1 all.0, fields_within scope fields all.1)
 
-uses_within : (scope : Scope) (xs : List Name) (rest : List Symbol) (behind : Option Fault) → check_uses scope xs rest behind ≡ None → Below (length scope) (map (declaration_of scope) xs)
+uses_within : (scope : Scope) (xs : List Identifier) (rest : List Symbol) (behind : Option Fault) → check_uses scope xs rest behind ≡ None → Below (length scope) (map (declaration_of scope) xs)
 uses_within scope [] rest behind e = tt
 uses_within scope (x ∷ xs) rest behind e =
     let s = stopped (use_fault scope x) _ _ e in (used_within scope x s.0, uses_within scope xs rest behind s.1)
 
-arguments_within : (scope : Scope) (n : ℕ) (xs : List Name) (rest : List Symbol) (behind : Option Fault) → check_arguments scope n xs rest behind ≡ None → Below (length scope) (map (declaration_of scope) xs)
+arguments_within : (scope : Scope) (n : ℕ) (xs : List Identifier) (rest : List Symbol) (behind : Option Fault) → check_arguments scope n xs rest behind ≡ None → Below (length scope) (map (declaration_of scope) xs)
 arguments_within scope n [] rest behind e = tt
 arguments_within scope n (x ∷ xs) rest behind e =
     let s = stopped (argument_fault scope n x) _ _ e in
@@ -66,12 +66,12 @@ arguments_within scope n (x ∷ xs) rest behind e =
 
 -- ---- the names of rows
 
-record_names : (left : ℕ) (label : List ℕ) (scope : Scope) (fields : Fields) → left < length scope → Each (λ (f : Feature × Name). is_declared scope f.1 ≡ true) fields
-    → Below (length scope) (names_of (record_row left label (slots_of scope fields)))
+record_names : (left : ℕ) (label : List ℕ) (scope : Scope) (fields : Fields) → left < length scope → Each (λ (f : Feature × Identifier). is_declared scope f.1 ≡ true) fields
+    → Below (length scope) (named_positions (record_row left label (slots_of scope fields)))
 record_names left label scope [] lt all = (lt, tt)
 record_names left label scope (f ∷ fields) lt all = (lt, fields_within scope (f ∷ fields) all)
 
-pub value_names : (left : ℕ) (v : Value) (scope : Scope) (rest : List Symbol) (behind : Option Fault) → left < length scope → check_value v scope rest behind ≡ None → Below (length scope) (names_of (value_row left v scope))
+pub value_names : (left : ℕ) (v : Value) (scope : Scope) (rest : List Symbol) (behind : Option Fault) → left < length scope → check_value v scope rest behind ≡ None → Below (length scope) (named_positions (value_row left v scope))
 value_names left (ToVar y) scope rest behind lt e = (lt, (used_within scope y (stopped (use_fault scope y) _ behind e).0, tt))
 value_names left (Calculates y o z) scope rest behind lt e =
     let s = stopped (use_fault scope y) _ _ e in
@@ -79,7 +79,7 @@ value_names left (Calculates y o z) scope rest behind lt e =
 value_names left (Selects y (ByVariable x)) scope rest behind lt e =
     let s = stopped (use_fault scope y) _ _ e in
     (lt, (used_within scope y s.0, (used_within scope x (stopped (use_fault scope x) _ behind s.1).0, tt)))
-value_names left (Selects y (ByMark m)) scope rest behind lt e = (lt, (used_within scope y (stopped (use_fault scope y) _ _ e).0, tt))
+value_names left (Selects y (ByFeature m)) scope rest behind lt e = (lt, (used_within scope y (stopped (use_fault scope y) _ _ e).0, tt))
 value_names left (Pairs h u) scope rest behind lt e =
     let s = stopped (use_fault scope h) _ _ e in
     (lt, (used_within scope h s.0, (used_within scope u (stopped (use_fault scope u) _ behind s.1).0, tt)))
@@ -103,19 +103,19 @@ third_of n (x ∷ []) lt p = absurd (omega (arith, lt))
 third_of n (x ∷ y ∷ []) lt p = absurd (omega (arith, lt))
 third_of n (x ∷ y ∷ z ∷ xs) lt p = p.1.1.0
 
-built_in_names : (b : BuiltIn) (n : ℕ) (xs : List ℕ) → length xs ≡ arity_of b → Below n xs → Below n (names_of (built_in_row b xs))
+built_in_names : (b : BuiltIn) (n : ℕ) (xs : List ℕ) → length xs ≡ arity_of b → Below n xs → Below n (named_positions (built_in_row b xs))
 built_in_names built.Browse n xs has p = (first_of n xs (omega (arith, has)) p, tt)
 built_in_names built.Wait n xs has p = (first_of n xs (omega (arith, has)) p, tt)
 built_in_names built.NewCell n xs has p = (first_of n xs (omega (arith, has)) p, (second_of n xs (omega (arith, has)) p, tt))
 built_in_names built.Exchange n xs has p = (first_of n xs (omega (arith, has)) p, (second_of n xs (omega (arith, has)) p, (third_of n xs (omega (arith, has)) p, tt)))
 
-call_names : (b : Option BuiltIn) (p : Name) (scope : Scope) (xs : List Name) (rest : List Symbol) (behind : Option Fault) → HasArguments b xs → called_fault b scope p ≡ None → check_call b scope xs rest behind ≡ None
-    → Below (length scope) (names_of (call_row b (declaration_of scope p) (map (declaration_of scope) xs)))
+call_names : (b : Option BuiltIn) (p : Identifier) (scope : Scope) (xs : List Identifier) (rest : List Symbol) (behind : Option Fault) → HasArguments b xs → called_fault b scope p ≡ None → check_call b scope xs rest behind ≡ None
+    → Below (length scope) (named_positions (call_row b (declaration_of scope p) (map (declaration_of scope) xs)))
 call_names (Some b) p scope xs rest behind has callee e =
     built_in_names b (length scope) (map (declaration_of scope) xs) (Rattle.std.proofs.lemmas.List.length-map xs (declaration_of scope) ∙ has) (uses_within scope xs rest behind e)
 call_names None p scope xs rest behind has callee e = (used_within scope p callee, arguments_within scope 0 xs rest behind e)
 
-pub plain_names : (s : Plain) (scope : Scope) (rest : List Symbol) (behind : Option Fault) → PlainDerives s scope → check_plain s scope rest behind ≡ None → Below (length scope) (names_of (plain_row s scope))
+pub plain_names : (s : Plain) (scope : Scope) (rest : List Symbol) (behind : Option Fault) → PlainDerives s scope → check_plain s scope rest behind ≡ None → Below (length scope) (named_positions (plain_row s scope))
 plain_names Skips scope rest behind derives e = tt
 plain_names (Tells x v) scope rest behind derives e =
     let s = stopped (use_fault scope x) _ _ e in value_names (declaration_of scope x) v scope rest behind (used_within scope x s.0) s.1

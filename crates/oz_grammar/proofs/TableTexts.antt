@@ -16,12 +16,12 @@ use Rattle.oz_grammar.specs.declared.symbol.BuiltIn.TheVariants as built
 use Rattle.oz_grammar.specs.declared.symbol.Purpose.{Purpose}
 use Rattle.oz_grammar.specs.declared.symbol.Purpose.TheVariants as purpose
 use Rattle.oz_grammar.specs.declared.fault.Fault.{Fault}
-use Rattle.oz_grammar.specs.Grammar.{Name, Mark, AtomMark, IntMark, ByVariable, ByMark, Field, Placed, Marked, Value, ToVar, Calculates, Selects, Pairs, ToInt, ToAtom, ToRecord, IntPattern, AtomPattern, RecordPattern, PairPattern, Plain, Skips, Tells, Calls, Raises, Opening, Locals, ProcValue, ProcNamed, Threads, ThreadsAt, Choice, Ifs, Cases, Statement, Simple, Block, Chooses, Tries, Sequence, One, Then, mark_symbol, names_text, fields_text, value_text, pattern_text, plain_text, opening_text, choice_text, stmt_text, seq_text, program_text}
+use Rattle.oz_grammar.specs.Grammar.{Identifier, FeatureToken, AtomFeature, IntFeature, ByVariable, ByFeature, Field, Placed, WithFeature, Value, ToVar, Calculates, Selects, Pairs, ToInt, ToAtom, ToRecord, IntPattern, AtomPattern, RecordPattern, PairPattern, Plain, Skips, Tells, Calls, Raises, Opening, Locals, ProcValue, ProcNamed, Threads, ThreadsAt, Choice, Ifs, Cases, Statement, Simple, Block, Chooses, Tries, Sequence, One, Then, feature_symbol, names_text, fields_text, value_text, pattern_text, plain_text, opening_text, choice_text, stmt_text, seq_text, program_text}
 use Rattle.oz_grammar.specs.Grammar as tree
 use Rattle.oz_grammar.specs.Symbols.{IsSpelled}
-use Rattle.oz_grammar.specs.Scoping.{Scope, Fields, declaration_of, built_in_at, feature_of, place_feature, is_less, with_field, fields_behind, fields_of, opening_scope, choice_scope}
+use Rattle.oz_grammar.specs.Scoping.{Scope, Fields, declaration_of, built_in_at, feature_of, place_feature, with_field, fields_behind, fields_of, opening_scope, choice_scope}
 use Rattle.oz_grammar.specs.Table.{code_at, value_of, bar_label, slots_of, features_in, record_row, record_pattern, value_row, pattern_of, call_row, plain_row, opening_row, choice_row, stmt_rows, seq_rows, many_rows, program_table}
-use Rattle.oz_grammar.specs.Faults.{number_fault, site_fault, use_fault, deep_fault, room_fault, feature_fault, mark_fault, name_fault, placed_fault, selected_fault, fewer}
+use Rattle.oz_grammar.specs.Faults.{number_fault, site_fault, use_fault, deep_fault, room_fault, feature_fault, feature_token_fault, name_fault, placed_fault, selected_fault, fewer}
 use Rattle.oz_grammar.specs.Check.{check_fields, check_value, check_pattern, check_plain, check_opening, check_choice, check_stmt, check_seq, check}
 use Rattle.oz_grammar.proofs.FieldOrder.{stopped, or_neither, Each-with_field}
 use Rattle.oz_grammar.proofs.TableLimits.{opening_limits, choice_limits, deep_enough, stmt_limits, seq_limits}
@@ -44,28 +44,28 @@ number_good : (n : Option ℤ) → number_fault n ≡ None → FitsIfSome n → 
 number_good (Some z) e g = g
 number_good None e g = cc
 
-mark_good : (m : Mark) (room : ℕ) (before : Fields) → mark_fault room before m ≡ None → IsSpelled (mark_symbol m) → IsFeature (feature_of m)
-mark_good (AtomMark a) room before e g = g
-mark_good (IntMark (Some z)) room before e g = g
-mark_good (IntMark None) room before e g = cc
+mark_good : (m : FeatureToken) (room : ℕ) (before : Fields) → feature_token_fault room before m ≡ None → IsSpelled (feature_symbol m) → IsFeature (feature_of m)
+mark_good (AtomFeature a) room before e g = g
+mark_good (IntFeature (Some z)) room before e g = g
+mark_good (IntFeature None) room before e g = cc
 
-selected_good : (m : Mark) → selected_fault m ≡ None → IsSpelled (mark_symbol m) → IsFeature (feature_of m)
-selected_good (AtomMark a) e g = g
-selected_good (IntMark (Some z)) e g = g
-selected_good (IntMark None) e g = cc
+selected_good : (m : FeatureToken) → selected_fault m ≡ None → IsSpelled (feature_symbol m) → IsFeature (feature_of m)
+selected_good (AtomFeature a) e g = g
+selected_good (IntFeature (Some z)) e g = g
+selected_good (IntFeature None) e g = cc
 
 fields_good : (fs : List Field) (p : Purpose) (scope : Scope) (room : ℕ) (before : Fields) (next : ℕ) (rest rest' : List Symbol) (behind : Option Fault) → check_fields p scope room before next fs rest behind ≡ None
-    → next + length fs < 2 ^ 63 → Each IsSpelled (fields_text fs rest') → Each (λ (f : Feature × Name). IsFeature f.0) before → Each (λ (f : Feature × Name). IsFeature f.0) (fields_behind before next fs) × Each IsSpelled rest'
+    → next + length fs < 2 ^ 63 → Each IsSpelled (fields_text fs rest') → Each (λ (f : Feature × Identifier). IsFeature f.0) before → Each (λ (f : Feature × Identifier). IsFeature f.0) (fields_behind before next fs) × Each IsSpelled rest'
 fields_good [] p scope room before next rest rest' behind e le g good = (good, g)
 fields_good (Placed x ∷ fs) p scope room before next rest rest' behind e le g good =
     let s = stopped (placed_fault p scope room before next x) _ _ e in
     fields_good fs p scope (fewer room) (with_field (place_feature next) x before) (next + 1) rest rest' behind s.1 (omega (arith, le)) g.1
-    (Each-with_field (λ (f : Feature × Name). IsFeature f.0) (place_feature next) x before (is_small next (omega (arith, le))) good)
-fields_good (Marked m x ∷ fs) p scope room before next rest rest' behind e le g good =
-    let s = stopped (mark_fault room before m) _ _ e in
+    (Each-with_field (λ (f : Feature × Identifier). IsFeature f.0) (place_feature next) x before (is_small next (omega (arith, le))) good)
+fields_good (WithFeature m x ∷ fs) p scope room before next rest rest' behind e le g good =
+    let s = stopped (feature_token_fault room before m) _ _ e in
     let u = stopped (name_fault p scope before x) _ _ s.1 in
     fields_good fs p scope (fewer room) (with_field (feature_of m) x before) next rest rest' behind u.1 (omega (arith, le)) g.1.1.1
-    (Each-with_field (λ (f : Feature × Name). IsFeature f.0) (feature_of m) x before (mark_good m room before s.0 g.0) good)
+    (Each-with_field (λ (f : Feature × Identifier). IsFeature f.0) (feature_of m) x before (mark_good m room before s.0 g.0) good)
 
 fields_few : (fs : List Field) (p : Purpose) (scope : Scope) (room : ℕ) (before : Fields) (next : ℕ) (rest : List Symbol) (behind : Option Fault) → check_fields p scope room before next fs rest behind ≡ None → length fs ≤ room
 fields_few [] p scope room before next rest behind e = omega arith
@@ -74,8 +74,8 @@ fields_few (Placed x ∷ fs) p scope room before next rest behind e =
     let r = room_of room (or_neither (room_fault room) _ (or_neither (feature_fault room before (place_feature next)) (name_fault p scope before x) s.0).0).0 in
     let h = fields_few fs p scope (fewer room) (with_field (place_feature next) x before) (next + 1) rest behind s.1 in
     omega (arith, r, h)
-fields_few (Marked m x ∷ fs) p scope room before next rest behind e =
-    let s = stopped (mark_fault room before m) _ _ e in
+fields_few (WithFeature m x ∷ fs) p scope room before next rest behind e =
+    let s = stopped (feature_token_fault room before m) _ _ e in
     let u = stopped (name_fault p scope before x) _ _ s.1 in
     let r = mark_room room before m s.0 in
     let h = fields_few fs p scope (fewer room) (with_field (feature_of m) x before) next rest behind u.1 in
@@ -83,20 +83,20 @@ fields_few (Marked m x ∷ fs) p scope room before next rest behind e =
 
 -- the fields of a record or a pattern that passes
 whole_good : (fs : List Field) (p : Purpose) (scope : Scope) (rest rest' : List Symbol) (behind : Option Fault) → check_fields p scope 64 [] 1 fs rest behind ≡ None → Each IsSpelled (fields_text fs rest')
-    → Each (λ (f : Feature × Name). IsFeature f.0) (fields_of fs) × Each IsSpelled rest'
+    → Each (λ (f : Feature × Identifier). IsFeature f.0) (fields_of fs) × Each IsSpelled rest'
 whole_good fs p scope rest rest' behind e g =
     let few = fields_few fs p scope 64 [] 1 rest behind e in
     fields_good fs p scope 64 [] 1 rest rest' behind e (omega (arith, few)) g tt
 
-record_good : (left : ℕ) (label : List ℕ) (scope : Scope) (fields : Fields) → IsText label → Each (λ (f : Feature × Name). IsFeature f.0) fields → HasTexts (record_row left label (slots_of scope fields))
+record_good : (left : ℕ) (label : List ℕ) (scope : Scope) (fields : Fields) → IsText label → Each (λ (f : Feature × Identifier). IsFeature f.0) fields → HasTexts (record_row left label (slots_of scope fields))
 record_good left label scope [] is good = is
 record_good left label scope (f ∷ fields) is good = (is, slots scope (f ∷ fields) good)
   where
-    slots : (s : Scope) (gs : Fields) → Each (λ (g : Feature × Name). IsFeature g.0) gs → Each IsFeature (map (λ (g : Feature × ℕ). g.0) (slots_of s gs))
+    slots : (s : Scope) (gs : Fields) → Each (λ (g : Feature × Identifier). IsFeature g.0) gs → Each IsFeature (map (λ (g : Feature × ℕ). g.0) (slots_of s gs))
     slots s [] h = tt
     slots s (g ∷ gs) h = (h.0, slots s gs h.1)
 
-names_rest : (xs : List Name) (rest : List Symbol) → Each IsSpelled (names_text xs rest) → Each IsSpelled rest
+names_rest : (xs : List Identifier) (rest : List Symbol) → Each IsSpelled (names_text xs rest) → Each IsSpelled rest
 names_rest [] rest g = g
 names_rest (x ∷ xs) rest g = names_rest xs rest g.1
 
@@ -104,7 +104,7 @@ value_good : (left : ℕ) (v : Value) (scope : Scope) (rest : List Symbol) (behi
 value_good left (ToVar y) scope rest behind e g = (tt, g.1)
 value_good left (Calculates y o z) scope rest behind e g = (tt, g.1.1.1)
 value_good left (Selects y (ByVariable x)) scope rest behind e g = (tt, g.1.1.1)
-value_good left (Selects y (ByMark m)) scope rest behind e g =
+value_good left (Selects y (ByFeature m)) scope rest behind e g =
     let s = stopped (use_fault scope y) _ _ e in
     (selected_good m (stopped (selected_fault m) _ behind s.1).0 g.1.1.0, g.1.1.1)
 value_good left (Pairs h u) scope rest behind e g = ((bar_text, (refl, (refl, tt))), g.1.1.1)
@@ -128,7 +128,7 @@ plain_good (Calls p xs) scope rest behind e g =
     (call_good (built_in_at scope p) (declaration_of scope p) (map (declaration_of scope) xs), (names_rest xs (t.CloseCurly ∷ rest) g.1.1).1)
 plain_good (Raises x) scope rest behind e g = (tt, g.1.1.1)
 
-features_good : (fields : Fields) → Each (λ (f : Feature × Name). IsFeature f.0) fields → Each IsFeature (features_in fields)
+features_good : (fields : Fields) → Each (λ (f : Feature × Identifier). IsFeature f.0) fields → Each IsFeature (features_in fields)
 features_good [] good = tt
 features_good (f ∷ fields) good = (good.0, features_good fields good.1)
 

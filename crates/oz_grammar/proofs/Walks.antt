@@ -8,10 +8,10 @@ use Rattle.oz_grammar.specs.declared.fault.FaultKind.{FaultKind}
 use Rattle.oz_grammar.specs.declared.fault.FaultKind.TheVariants.{Expected}
 use Rattle.oz_grammar.specs.Faults.{fault_here}
 use Rattle.oz_grammar.specs.Check.{first_fault}
-use Rattle.oz_grammar.specs.Points.{Point, expects, next_of, wrong_at, refusal, run_step, run, goes_on, walk}
+use Rattle.oz_grammar.specs.Points.{Point, expects, next_of, wrong_at, refusal, run_step, run, walk_on, walk}
 use Rattle.oz_grammar.specs.Reads.{SameHead}
 
-run_moved : (p : Point) (o : Option (List Point)) (w : Option FaultKind) (x : Symbol) (front a : List Symbol) (σ τ : List Point) → ((ρ : List Point) → walk front ρ ≡ Some τ → run (front ++ a) ρ ≡ run a τ) → goes_on o w (walk front) σ ≡ Some τ → run_step p o w (x ∷ front ++ a) (run (front ++ a)) σ ≡ run a τ
+run_moved : (p : Point) (o : Option (List Point)) (w : Option FaultKind) (x : Symbol) (front a : List Symbol) (σ τ : List Point) → ((ρ : List Point) → walk front ρ ≡ Some τ → run (front ++ a) ρ ≡ run a τ) → walk_on o w (walk front) σ ≡ Some τ → run_step p o w (x ∷ front ++ a) (run (front ++ a)) σ ≡ run a τ
 run_moved p (Some points) None x front a σ τ ih e = ih (points ++ σ) e
 run_moved p (Some points) (Some kind) x front a σ τ ih e = absurd cc
 run_moved p None w x front a σ τ ih e = absurd cc

@@ -15,44 +15,44 @@ use Rattle.oz_grammar.specs.declared.symbol.Symbol.{Symbol}
 use Rattle.oz_grammar.specs.declared.symbol.Symbol.TheVariants as t
 use Rattle.oz_grammar.specs.declared.symbol.BuiltIn.{BuiltIn}
 use Rattle.oz_grammar.specs.declared.symbol.BuiltIn.TheVariants as built
-use Rattle.oz_grammar.specs.Grammar.{Name, Mark, AtomMark, IntMark, Selection, ByVariable, ByMark, Field, Placed, Marked, Value, ToVar, Calculates, Selects, Pairs, ToInt, ToAtom, ToRecord, IntPattern, AtomPattern, RecordPattern, PairPattern, Plain, Skips, Tells, Calls, Raises, Opening, Locals, ProcValue, ProcNamed, Threads, ThreadsAt, Choice, Ifs, Cases, plain_text, opening_text, choice_text}
+use Rattle.oz_grammar.specs.Grammar.{Identifier, FeatureToken, AtomFeature, IntFeature, Selection, ByVariable, ByFeature, Field, Placed, WithFeature, Value, ToVar, Calculates, Selects, Pairs, ToInt, ToAtom, ToRecord, IntPattern, AtomPattern, RecordPattern, PairPattern, Plain, Skips, Tells, Calls, Raises, Opening, Locals, ProcValue, ProcNamed, Threads, ThreadsAt, Choice, Ifs, Cases, plain_text, opening_text, choice_text}
 use Rattle.oz_grammar.specs.Grammar as tree
 use Rattle.oz_grammar.specs.Table.{code_at}
 
 -- the identifier at a position
-abbrev pub name_at : ℕ → Name
+abbrev pub name_at : ℕ → Identifier
 name_at n = 86 ∷ decimal n
 
 -- so many identifiers from a position on
-abbrev pub names_from : ℕ → ℕ → List Name
+abbrev pub names_from : ℕ → ℕ → List Identifier
 names_from first zero = []
 names_from first (suc count) = name_at first ∷ names_from (first + 1) count
 
-abbrev pub built_in_name : BuiltIn → Name
+abbrev pub built_in_name : BuiltIn → Identifier
 built_in_name built.Browse = codes "Browse"
 built_in_name built.Wait = codes "Wait"
 built_in_name built.NewCell = codes "NewCell"
 built_in_name built.Exchange = codes "Exchange"
 
-abbrev pub mark_of : Feature → Mark
-mark_of (feature.Int z) = IntMark (Some z)
-mark_of (feature.Atom a) = AtomMark a
+abbrev pub feature_token : Feature → FeatureToken
+feature_token (feature.Int z) = IntFeature (Some z)
+feature_token (feature.Atom a) = AtomFeature a
 
 -- a field with its feature
-abbrev pub marked : Feature × Name → Field
-marked f = Marked (mark_of f.0) f.1
+abbrev pub field_with_feature : Feature × Identifier → Field
+field_with_feature f = WithFeature (feature_token f.0) f.1
 
 abbrev pub slot_field : Feature × ℕ → Field
-slot_field slot = marked (slot.0, name_at slot.1)
+slot_field slot = field_with_feature (slot.0, name_at slot.1)
 
 abbrev pub selection_of : Selector → Selection
 selection_of (selector.Var x) = ByVariable (name_at x)
-selection_of (selector.Feature f) = ByMark (mark_of f)
+selection_of (selector.Feature f) = ByFeature (feature_token f)
 
 -- features with the identifiers from a position on
 abbrev pub declared_fields : ℕ → List Feature → List Field
 declared_fields first [] = []
-declared_fields first (f ∷ fs) = marked (f, name_at first) ∷ declared_fields (first + 1) fs
+declared_fields first (f ∷ fs) = field_with_feature (f, name_at first) ∷ declared_fields (first + 1) fs
 
 abbrev pub pattern_tree : ℕ → Pattern → tree.Pattern
 pattern_tree first (pattern.Int z) = IntPattern (Some z)

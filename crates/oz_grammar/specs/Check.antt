@@ -8,9 +8,9 @@ use Rattle.oz_grammar.specs.declared.symbol.Purpose.TheVariants as purpose
 use Rattle.oz_grammar.specs.declared.fault.Fault.{Fault}
 use Rattle.oz_grammar.specs.declared.fault.FaultKind.{FaultKind}
 use Rattle.oz_grammar.specs.declared.fault.FaultKind.TheVariants.{Twice}
-use Rattle.oz_grammar.specs.Grammar.{Name, Selection, ByVariable, ByMark, Field, Placed, Marked, Value, ToVar, Calculates, Selects, Pairs, ToInt, ToAtom, ToRecord, Pattern, IntPattern, AtomPattern, RecordPattern, PairPattern, Plain, Skips, Tells, Calls, Raises, Opening, Locals, ProcValue, ProcNamed, Threads, ThreadsAt, Choice, Ifs, Cases, Statement, Simple, Block, Chooses, Tries, Sequence, One, Then, mark_symbol, names_text, fields_text, value_text, pattern_text, plain_text, opening_text, stmt_text, seq_text}
+use Rattle.oz_grammar.specs.Grammar.{Identifier, Selection, ByVariable, ByFeature, Field, Placed, WithFeature, Value, ToVar, Calculates, Selects, Pairs, ToInt, ToAtom, ToRecord, Pattern, IntPattern, AtomPattern, RecordPattern, PairPattern, Plain, Skips, Tells, Calls, Raises, Opening, Locals, ProcValue, ProcNamed, Threads, ThreadsAt, Choice, Ifs, Cases, Statement, Simple, Block, Chooses, Tries, Sequence, One, Then, feature_symbol, names_text, fields_text, value_text, pattern_text, plain_text, opening_text, stmt_text, seq_text}
 use Rattle.oz_grammar.specs.Scoping.{Scope, Fields, built_in_at, has_name, with_field, feature_of, place_feature, opening_scope, choice_scope}
-use Rattle.oz_grammar.specs.Faults.{where_so, number_fault, site_fault, deep_fault, use_fault, count_fault, called_fault, argument_fault, formal_fault, mark_fault, name_fault, placed_fault, selected_fault, fewer, fault_here}
+use Rattle.oz_grammar.specs.Faults.{where_so, number_fault, site_fault, deep_fault, use_fault, count_fault, called_fault, argument_fault, formal_fault, feature_token_fault, name_fault, placed_fault, selected_fault, fewer, fault_here}
 
 -- the fault at the first of these symbols, else the first one behind it
 abbrev pub first_fault : Option FaultKind → List Symbol → Option Fault → Option Fault
@@ -21,7 +21,7 @@ first_fault None symbols behind = behind
 
 abbrev pub check_selection : Selection → Scope → List Symbol → Option Fault → Option Fault
 check_selection (ByVariable x) scope rest behind = first_fault (use_fault scope x) (t.Variable x ∷ rest) behind
-check_selection (ByMark m) scope rest behind = first_fault (selected_fault m) (mark_symbol m ∷ rest) behind
+check_selection (ByFeature m) scope rest behind = first_fault (selected_fault m) (feature_symbol m ∷ rest) behind
 
 -- fields in brackets behind others, with room for so many
 abbrev pub check_fields : Purpose → Scope → ℕ → Fields → ℕ → List Field → List Symbol → Option Fault → Option Fault
@@ -29,8 +29,8 @@ check_fields p scope room before next [] rest found = found
 check_fields p scope room before next (Placed x ∷ fs) rest found =
     first_fault (placed_fault p scope room before next x) (fields_text (Placed x ∷ fs) rest)
     (check_fields p scope (fewer room) (with_field (place_feature next) x before) (next + 1) fs rest found)
-check_fields p scope room before next (Marked m x ∷ fs) rest found =
-    first_fault (mark_fault room before m) (fields_text (Marked m x ∷ fs) rest)
+check_fields p scope room before next (WithFeature m x ∷ fs) rest found =
+    first_fault (feature_token_fault room before m) (fields_text (WithFeature m x ∷ fs) rest)
     (first_fault (name_fault p scope before x) (t.Variable x ∷ fields_text fs rest)
     (check_fields p scope (fewer room) (with_field (feature_of m) x before) next fs rest found))
 
@@ -51,25 +51,25 @@ check_pattern (RecordPattern a fs) scope rest behind = check_fields purpose.Decl
 check_pattern (PairPattern h u) scope rest behind = first_fault (where_so (has_name (h ∷ []) u) Twice) (t.Variable u ∷ rest) behind
 
 -- further names of a `local`, behind others
-abbrev pub check_locals : List Name → List Name → List Symbol → Option Fault → Option Fault
+abbrev pub check_locals : List Identifier → List Identifier → List Symbol → Option Fault → Option Fault
 check_locals before [] rest behind = behind
 check_locals before (x ∷ xs) rest behind = first_fault (count_fault (length before)) (names_text (x ∷ xs) rest) (check_locals (before ++ x ∷ []) xs rest behind)
 
-abbrev pub check_formals : List Name → List Name → List Symbol → Option Fault → Option Fault
+abbrev pub check_formals : List Identifier → List Identifier → List Symbol → Option Fault → Option Fault
 check_formals before [] rest behind = behind
 check_formals before (x ∷ xs) rest behind = first_fault (formal_fault before x) (names_text (x ∷ xs) rest) (check_formals (before ++ x ∷ []) xs rest behind)
 
 -- the arguments of a call, behind n others
-abbrev pub check_arguments : Scope → ℕ → List Name → List Symbol → Option Fault → Option Fault
+abbrev pub check_arguments : Scope → ℕ → List Identifier → List Symbol → Option Fault → Option Fault
 check_arguments scope n [] rest behind = behind
 check_arguments scope n (x ∷ xs) rest behind = first_fault (argument_fault scope n x) (names_text (x ∷ xs) rest) (check_arguments scope (n + 1) xs rest behind)
 
 -- those of what is built in, which has its number of them
-abbrev pub check_uses : Scope → List Name → List Symbol → Option Fault → Option Fault
+abbrev pub check_uses : Scope → List Identifier → List Symbol → Option Fault → Option Fault
 check_uses scope [] rest behind = behind
 check_uses scope (x ∷ xs) rest behind = first_fault (use_fault scope x) (names_text (x ∷ xs) rest) (check_uses scope xs rest behind)
 
-abbrev pub check_call : Option BuiltIn → Scope → List Name → List Symbol → Option Fault → Option Fault
+abbrev pub check_call : Option BuiltIn → Scope → List Identifier → List Symbol → Option Fault → Option Fault
 check_call (Some b) scope xs rest behind = check_uses scope xs rest behind
 check_call None scope xs rest behind = check_arguments scope 0 xs rest behind
 

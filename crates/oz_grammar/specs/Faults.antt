@@ -8,7 +8,7 @@ use Rattle.oz_grammar.specs.declared.fault.Fault.{Fault}
 use Rattle.oz_grammar.specs.declared.fault.FaultKind.{FaultKind}
 use Rattle.oz_grammar.specs.declared.fault.FaultKind.TheVariants.{Number, Site, Deep, Wide, Twice, Unbound}
 use Rattle.tree_node.specs.declared.node.Feature.{Feature}
-use Rattle.oz_grammar.specs.Grammar.{Name, Mark, AtomMark, IntMark}
+use Rattle.oz_grammar.specs.Grammar.{Identifier, FeatureToken, AtomFeature, IntFeature}
 use Rattle.oz_grammar.specs.Scoping.{Scope, Fields, is_declared, feature_of, place_feature, has_feature, has_name, names_in}
 
 -- the first of two
@@ -40,7 +40,7 @@ deep_fault zero = Some Deep
 deep_fault (suc d) = None
 
 -- a used identifier
-abbrev pub use_fault : Scope → Name → Option FaultKind
+abbrev pub use_fault : Scope → Identifier → Option FaultKind
 use_fault scope x = where_not (is_declared scope x) Unbound
 
 -- one more item, where there are so many
@@ -48,16 +48,16 @@ abbrev pub count_fault : ℕ → Option FaultKind
 count_fault n = where_not (nat_lt n 64) Wide
 
 -- the name first in a call
-abbrev pub called_fault : Option BuiltIn → Scope → Name → Option FaultKind
+abbrev pub called_fault : Option BuiltIn → Scope → Identifier → Option FaultKind
 called_fault (Some b) scope p = None
 called_fault None scope p = use_fault scope p
 
 -- an argument behind n others
-abbrev pub argument_fault : Scope → ℕ → Name → Option FaultKind
+abbrev pub argument_fault : Scope → ℕ → Identifier → Option FaultKind
 argument_fault scope n x = or_else (count_fault n) (use_fault scope x)
 
 -- a formal behind others
-abbrev pub formal_fault : List Name → Name → Option FaultKind
+abbrev pub formal_fault : List Identifier → Identifier → Option FaultKind
 formal_fault before x = or_else (count_fault (length before)) (where_so (has_name before x) Twice)
 
 -- one more field, where there is room for so many
@@ -69,23 +69,23 @@ abbrev pub feature_fault : ℕ → Fields → Feature → Option FaultKind
 feature_fault room before f = or_else (room_fault room) (where_so (has_feature before f) Twice)
 
 -- the feature that a field names
-abbrev pub mark_fault : ℕ → Fields → Mark → Option FaultKind
-mark_fault room before (AtomMark a) = feature_fault room before (feature_of (AtomMark a))
-mark_fault room before (IntMark n) = or_else (number_fault n) (feature_fault room before (feature_of (IntMark n)))
+abbrev pub feature_token_fault : ℕ → Fields → FeatureToken → Option FaultKind
+feature_token_fault room before (AtomFeature a) = feature_fault room before (feature_of (AtomFeature a))
+feature_token_fault room before (IntFeature n) = or_else (number_fault n) (feature_fault room before (feature_of (IntFeature n)))
 
 -- the variable of a field: one that is used, or one that a pattern declares
-abbrev pub name_fault : Purpose → Scope → Fields → Name → Option FaultKind
+abbrev pub name_fault : Purpose → Scope → Fields → Identifier → Option FaultKind
 name_fault purpose.Use scope before x = use_fault scope x
 name_fault purpose.Declare scope before x = where_so (has_name (names_in before) x) Twice
 
 -- a field without a feature, the next of which has feature next
-abbrev pub placed_fault : Purpose → Scope → ℕ → Fields → ℕ → Name → Option FaultKind
+abbrev pub placed_fault : Purpose → Scope → ℕ → Fields → ℕ → Identifier → Option FaultKind
 placed_fault p scope room before next x = or_else (feature_fault room before (place_feature next)) (name_fault p scope before x)
 
 -- a feature that selects
-abbrev pub selected_fault : Mark → Option FaultKind
-selected_fault (AtomMark a) = None
-selected_fault (IntMark n) = number_fault n
+abbrev pub selected_fault : FeatureToken → Option FaultKind
+selected_fault (AtomFeature a) = None
+selected_fault (IntFeature n) = number_fault n
 
 -- one less, and 0 from 0
 abbrev pub fewer : ℕ → ℕ

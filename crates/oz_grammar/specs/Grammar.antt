@@ -7,30 +7,30 @@ use Rattle.oz_grammar.specs.declared.symbol.Closer.{Closer}
 use Rattle.oz_grammar.specs.declared.symbol.Closer.TheVariants as closer
 
 -- a name as it is spelled
-abbrev pub Name : Type 0
-Name = List ℕ
+abbrev pub Identifier : Type 0
+Identifier = List ℕ
 
 -- a feature as the text names it: an atom, or an integer, which may be no good number
-pub data Mark : Type 0 where
-  AtomMark : List ℕ → Mark
-  IntMark : Option ℤ → Mark
+pub data FeatureToken : Type 0 where
+  AtomFeature : List ℕ → FeatureToken
+  IntFeature : Option ℤ → FeatureToken
 
 -- what stands behind the dot of a selection
 pub data Selection : Type 0 where
-  ByVariable : Name → Selection
-  ByMark : Mark → Selection
+  ByVariable : Identifier → Selection
+  ByFeature : FeatureToken → Selection
 
 -- a field: a variable, or a feature and a variable
 pub data Field : Type 0 where
-  Placed : Name → Field
-  Marked : Mark → Name → Field
+  Placed : Identifier → Field
+  WithFeature : FeatureToken → Identifier → Field
 
 -- the right side of a tell: Y, Y op Z, Y.F, H|T, an integer, an atom, f(..)
 pub data Value : Type 0 where
-  ToVar : Name → Value
-  Calculates : Name → Op → Name → Value
-  Selects : Name → Selection → Value
-  Pairs : Name → Name → Value
+  ToVar : Identifier → Value
+  Calculates : Identifier → Op → Identifier → Value
+  Selects : Identifier → Selection → Value
+  Pairs : Identifier → Identifier → Value
   ToInt : Option ℤ → Value
   ToAtom : List ℕ → Value
   ToRecord : List ℕ → List Field → Value
@@ -40,28 +40,28 @@ pub data Pattern : Type 0 where
   IntPattern : Option ℤ → Pattern
   AtomPattern : List ℕ → Pattern
   RecordPattern : List ℕ → List Field → Pattern
-  PairPattern : Name → Name → Pattern
+  PairPattern : Identifier → Identifier → Pattern
 
 -- statements without bodies: skip, X = value, {P X..}, raise X end. Calls of what is built in are spelled as other calls
 pub data Plain : Type 0 where
   Skips : Plain
-  Tells : Name → Value → Plain
-  Calls : Name → List Name → Plain
-  Raises : Name → Plain
+  Tells : Identifier → Value → Plain
+  Calls : Identifier → List Identifier → Plain
+  Raises : Identifier → Plain
 
 -- what stands before the one body of a statement, which `end` closes: local X Y.. in, X = proc {$ Y..}, proc {X Y..},
 -- thread, thread at N
 pub data Opening : Type 0 where
-  Locals : Name → List Name → Opening
-  ProcValue : Name → List Name → Opening
-  ProcNamed : Name → List Name → Opening
+  Locals : Identifier → List Identifier → Opening
+  ProcValue : Identifier → List Identifier → Opening
+  ProcNamed : Identifier → List Identifier → Opening
   Threads : Opening
   ThreadsAt : Option ℤ → Opening
 
 -- what stands before the first of two bodies with `else` between them: if X then, case X of P then
 pub data Choice : Type 0 where
-  Ifs : Name → Choice
-  Cases : Name → Pattern → Choice
+  Ifs : Identifier → Choice
+  Cases : Identifier → Pattern → Choice
 
 -- statements, and one statement or more. Tries: try S catch X then T end
 mutual
@@ -69,27 +69,27 @@ mutual
     Simple : Plain → Statement
     Block : Opening → Sequence → Statement
     Chooses : Choice → Sequence → Sequence → Statement
-    Tries : Sequence → Name → Sequence → Statement
+    Tries : Sequence → Identifier → Sequence → Statement
 
   pub data Sequence : Type 0 where
     One : Statement → Sequence
     Then : Statement → Sequence → Sequence
 
-abbrev pub mark_symbol : Mark → Symbol
-mark_symbol (AtomMark a) = t.Atom a
-mark_symbol (IntMark n) = t.Integer n
+abbrev pub feature_symbol : FeatureToken → Symbol
+feature_symbol (AtomFeature a) = t.Atom a
+feature_symbol (IntFeature n) = t.Integer n
 
 abbrev pub selection_symbol : Selection → Symbol
 selection_symbol (ByVariable x) = t.Variable x
-selection_symbol (ByMark m) = mark_symbol m
+selection_symbol (ByFeature m) = feature_symbol m
 
-abbrev pub names_text : List Name → List Symbol → List Symbol
+abbrev pub names_text : List Identifier → List Symbol → List Symbol
 names_text [] rest = rest
 names_text (x ∷ xs) rest = t.Variable x ∷ names_text xs rest
 
 abbrev pub field_text : Field → List Symbol → List Symbol
 field_text (Placed x) rest = t.Variable x ∷ rest
-field_text (Marked m x) rest = mark_symbol m ∷ t.Colon ∷ t.Variable x ∷ rest
+field_text (WithFeature m x) rest = feature_symbol m ∷ t.Colon ∷ t.Variable x ∷ rest
 
 abbrev pub fields_text : List Field → List Symbol → List Symbol
 fields_text [] rest = rest

@@ -15,9 +15,9 @@ use Rattle.oz_grammar.specs.declared.fault.What.TheVariants as what
 use Rattle.oz_grammar.specs.declared.fault.Fault.{Fault}
 use Rattle.oz_grammar.specs.declared.fault.FaultKind.{FaultKind}
 use Rattle.oz_grammar.specs.declared.fault.FaultKind.TheVariants.{Lex, Expected, Twice}
-use Rattle.oz_grammar.specs.Grammar.{Name, Mark, AtomMark, IntMark}
+use Rattle.oz_grammar.specs.Grammar.{Identifier, FeatureToken, AtomFeature, IntFeature}
 use Rattle.oz_grammar.specs.Scoping.{Scope, Fields, built_in_at, arity_of, has_name, with_field, feature_of, place_feature, names_in}
-use Rattle.oz_grammar.specs.Faults.{or_else, where_so, number_fault, site_fault, deep_fault, use_fault, count_fault, called_fault, argument_fault, formal_fault, mark_fault, name_fault, placed_fault, fewer, fault_here}
+use Rattle.oz_grammar.specs.Faults.{or_else, where_so, number_fault, site_fault, deep_fault, use_fault, count_fault, called_fault, argument_fault, formal_fault, feature_token_fault, name_fault, placed_fault, fewer, fault_here}
 use Rattle.oz_grammar.specs.Check.{first_fault}
 
 -- where a statement may begin: at the front of a sequence, at that of a thread's body, or behind a statement
@@ -36,7 +36,7 @@ pub data Point : Type 0 where
   Used : Scope → Point
   -- the first name of a `local`, and others behind some
   LocalName : Scope → ℕ → Point
-  LocalMore : Scope → List Name → ℕ → Point
+  LocalMore : Scope → List Identifier → ℕ → Point
   -- the right side of a tell, what may follow its first variable or its atom, and what follows a dot
   ValueOf : Closer → Scope → ℕ → Point
   BehindVariable : Closer → Scope → ℕ → Point
@@ -44,7 +44,7 @@ pub data Point : Type 0 where
   SelectionOf : Scope → Point
   -- a field behind others, with room for so many, and the variable behind its feature
   FieldOf : Purpose → Scope → ℕ → ℕ → Fields → ℕ → Point
-  FieldName : Purpose → Scope → ℕ → ℕ → Fields → ℕ → Mark → Point
+  FieldName : Purpose → Scope → ℕ → ℕ → Fields → ℕ → FeatureToken → Point
   -- the name of a call, an argument behind n others, and k arguments of what is built in
   CallName : Scope → Point
   Arguments : Scope → ℕ → Point
@@ -52,26 +52,26 @@ pub data Point : Type 0 where
   -- a pattern, what may follow its atom, and the variable behind its bar
   PatternOf : Scope → ℕ → Point
   BehindPattern : Scope → ℕ → Point
-  PatternTail : Scope → ℕ → Name → Point
+  PatternTail : Scope → ℕ → Identifier → Point
   -- the name in a `proc` statement, and formals behind others
   ProcName : Scope → ℕ → Point
-  Formals : Scope → List Name → ℕ → Point
+  Formals : Scope → List Identifier → ℕ → Point
   -- the place of a thread, and the name in `catch`
   SiteHere : Point
   CatchName : Scope → ℕ → Point
 
 -- ---- what is expected
 
-abbrev pub after : Closer → What
-after closer.End = what.StatementOrEnd
-after closer.Else = what.StatementOrElse
-after closer.Catch = what.StatementOrCatch
-after closer.EndOfText = what.StatementOrEndOfText
+abbrev pub expected_after : Closer → What
+expected_after closer.End = what.StatementOrEnd
+expected_after closer.Else = what.StatementOrElse
+expected_after closer.Catch = what.StatementOrCatch
+expected_after closer.EndOfText = what.StatementOrEndOfText
 
 abbrev pub expects_stmt : Stage → Closer → What
 expects_stmt First c = what.Statement
 expects_stmt AfterThread c = what.StatementOrAt
-expects_stmt Later c = after c
+expects_stmt Later c = expected_after c
 
 abbrev pub expects_sign : Sign → What
 expects_sign sign.Equals = what.Equals
@@ -94,8 +94,8 @@ expects (Used scope) = what.Variable
 expects (LocalName scope d) = what.Variable
 expects (LocalMore scope xs d) = what.VariableOrIn
 expects (ValueOf c scope d) = what.Value
-expects (BehindVariable c scope d) = after c
-expects (BehindAtom c scope d) = after c
+expects (BehindVariable c scope d) = expected_after c
+expects (BehindAtom c scope d) = expected_after c
 expects (SelectionOf scope) = what.VariableOrFeature
 expects (FieldOf p scope d room before next) = what.FieldOrBracket
 expects (FieldName p scope d room before next m) = what.Variable
@@ -190,8 +190,8 @@ behind_fields purpose.Declare scope d fields = Here sign.Then ∷ At First close
 abbrev pub next_field : Purpose → Scope → ℕ → ℕ → Fields → ℕ → Symbol → Option (List Point)
 next_field p scope d room before next t.CloseRound = Some (behind_fields p scope d before)
 next_field p scope d room before next (t.Variable x) = Some (FieldOf p scope d (fewer room) (with_field (place_feature next) x before) (next + 1) ∷ [])
-next_field p scope d room before next (t.Atom a) = Some (Here sign.Colon ∷ FieldName p scope d room before next (AtomMark a) ∷ [])
-next_field p scope d room before next (t.Integer n) = Some (Here sign.Colon ∷ FieldName p scope d room before next (IntMark n) ∷ [])
+next_field p scope d room before next (t.Atom a) = Some (Here sign.Colon ∷ FieldName p scope d room before next (AtomFeature a) ∷ [])
+next_field p scope d room before next (t.Integer n) = Some (Here sign.Colon ∷ FieldName p scope d room before next (IntFeature n) ∷ [])
 next_field p scope d room before next symbol = None
 
 abbrev pub next_call : Scope → Option BuiltIn → List Point
@@ -220,18 +220,18 @@ next_behind_pattern scope d t.OpenRound = Some (FieldOf purpose.Declare scope d 
 next_behind_pattern scope d t.Then = Some (At First closer.Else scope d ∷ [])
 next_behind_pattern scope d symbol = None
 
-abbrev pub next_local : Scope → List Name → ℕ → Symbol → Option (List Point)
+abbrev pub next_local : Scope → List Identifier → ℕ → Symbol → Option (List Point)
 next_local scope xs d (t.Variable x) = Some (LocalMore scope (xs ++ x ∷ []) d ∷ [])
 next_local scope xs d t.In = Some (At First closer.End (scope ++ xs) d ∷ [])
 next_local scope xs d symbol = None
 
-abbrev pub next_formal : Scope → List Name → ℕ → Symbol → Option (List Point)
+abbrev pub next_formal : Scope → List Identifier → ℕ → Symbol → Option (List Point)
 next_formal scope xs d (t.Variable x) = Some (Formals scope (xs ++ x ∷ []) d ∷ [])
 next_formal scope xs d t.CloseCurly = Some (At First closer.End (scope ++ xs) d ∷ [])
 next_formal scope xs d symbol = None
 
 -- a variable, and then these points
-abbrev pub on_variable : (Name → List Point) → Symbol → Option (List Point)
+abbrev pub on_variable : (Identifier → List Point) → Symbol → Option (List Point)
 on_variable points (t.Variable x) = Some (points x)
 on_variable points symbol = None
 
@@ -294,12 +294,12 @@ value_wrong scope symbol = None
 
 abbrev pub field_wrong : Purpose → Scope → ℕ → Fields → ℕ → Symbol → Option FaultKind
 field_wrong p scope room before next (t.Variable x) = placed_fault p scope room before next x
-field_wrong p scope room before next (t.Atom a) = mark_fault room before (AtomMark a)
-field_wrong p scope room before next (t.Integer n) = mark_fault room before (IntMark n)
+field_wrong p scope room before next (t.Atom a) = feature_token_fault room before (AtomFeature a)
+field_wrong p scope room before next (t.Integer n) = feature_token_fault room before (IntFeature n)
 field_wrong p scope room before next symbol = None
 
 -- what a variable has wrong, by its name
-abbrev pub by_name : (Name → Option FaultKind) → Symbol → Option FaultKind
+abbrev pub by_name : (Identifier → Option FaultKind) → Symbol → Option FaultKind
 by_name wrong (t.Variable x) = wrong x
 by_name wrong symbol = None
 
@@ -348,16 +348,16 @@ run [] (p ∷ behind) = Some (fault_here (Expected (expects p)) [])
 run (symbol ∷ symbols) [] = None
 run (symbol ∷ symbols) (p ∷ behind) = run_step p (next_of p symbol) (wrong_at p symbol) (symbol ∷ symbols) (run symbols) behind
 
-abbrev pub goes_on : Option (List Point) → Option FaultKind → (List Point → Option (List Point)) → List Point → Option (List Point)
-goes_on (Some points) None on behind = on (points ++ behind)
-goes_on (Some points) (Some kind) on behind = None
-goes_on None wrong on behind = None
+abbrev pub walk_on : Option (List Point) → Option FaultKind → (List Point → Option (List Point)) → List Point → Option (List Point)
+walk_on (Some points) None on behind = on (points ++ behind)
+walk_on (Some points) (Some kind) on behind = None
+walk_on None wrong on behind = None
 
 -- the points behind these symbols, if they have no fault
 abbrev pub walk : List Symbol → List Point → Option (List Point)
 walk [] points = Some points
 walk (symbol ∷ symbols) [] = None
-walk (symbol ∷ symbols) (p ∷ behind) = goes_on (next_of p symbol) (wrong_at p symbol) (walk symbols) behind
+walk (symbol ∷ symbols) (p ∷ behind) = walk_on (next_of p symbol) (wrong_at p symbol) (walk symbols) behind
 
 -- at the front of a program
 abbrev pub start : List Point

@@ -22,10 +22,10 @@ use Rattle.oz_grammar.specs.declared.fault.What.TheVariants as what
 use Rattle.oz_grammar.specs.declared.fault.Fault.{Fault}
 use Rattle.oz_grammar.specs.declared.fault.FaultKind.{FaultKind}
 use Rattle.oz_grammar.specs.declared.fault.FaultKind.TheVariants.{Twice, Deep}
-use Rattle.oz_grammar.specs.Grammar.{Name, Mark, AtomMark, IntMark}
+use Rattle.oz_grammar.specs.Grammar.{Identifier, FeatureToken, AtomFeature, IntFeature}
 use Rattle.oz_grammar.specs.Scoping.{Scope, Fields, declaration_of, built_in_at, arity_of, has_name, with_field, feature_of, place_feature, names_in}
-use Rattle.oz_grammar.specs.Faults.{where_so, number_fault, site_fault, use_fault, count_fault, called_fault, argument_fault, formal_fault, mark_fault, name_fault, placed_fault, fault_here}
-use Rattle.oz_grammar.specs.Points.{after, expects_sign, is_sign, is_closer, begins_statement, refusal}
+use Rattle.oz_grammar.specs.Faults.{where_so, number_fault, site_fault, use_fault, count_fault, called_fault, argument_fault, formal_fault, feature_token_fault, name_fault, placed_fault, fault_here}
+use Rattle.oz_grammar.specs.Points.{expected_after, expects_sign, is_sign, is_closer, begins_statement, refusal}
 use Rattle.oz_grammar.specs.Table.{code_at, value_of, pair_row, slots_of, features_in, record_row, record_pattern, bar_label, two_features, built_in_row}
 
 infixl 10 ◌>>=◌
@@ -56,8 +56,8 @@ used_at w scope symbols = fault_expected w symbols
 
 abbrev pub selection_at : Scope → List Symbol → Result (Selector × List Symbol) Fault
 selection_at scope (t.Variable x ∷ rest) = fault_or (use_fault scope x) (t.Variable x ∷ rest) (Ok (selector.Var (declaration_of scope x), rest))
-selection_at scope (t.Atom a ∷ rest) = Ok (selector.Feature (feature_of (AtomMark a)), rest)
-selection_at scope (t.Integer n ∷ rest) = fault_or (number_fault n) (t.Integer n ∷ rest) (Ok (selector.Feature (feature_of (IntMark n)), rest))
+selection_at scope (t.Atom a ∷ rest) = Ok (selector.Feature (feature_of (AtomFeature a)), rest)
+selection_at scope (t.Integer n ∷ rest) = fault_or (number_fault n) (t.Integer n ∷ rest) (Ok (selector.Feature (feature_of (IntFeature n)), rest))
 selection_at scope symbols = fault_expected what.VariableOrFeature symbols
 
 -- what may follow the first variable of a value
@@ -72,18 +72,18 @@ abbrev pub FieldOut : Type 0
 FieldOut = Fields × ℕ × List Symbol
 
 -- the variable behind the feature of a field
-abbrev pub field_name_at : Purpose → Scope → Fields → ℕ → Mark → List Symbol → Result FieldOut Fault
+abbrev pub field_name_at : Purpose → Scope → Fields → ℕ → FeatureToken → List Symbol → Result FieldOut Fault
 field_name_at p scope before next m (t.Variable x ∷ rest) = fault_or (name_fault p scope before x) (t.Variable x ∷ rest) (Ok (with_field (feature_of m) x before, next, rest))
 field_name_at p scope before next m symbols = fault_expected what.Variable symbols
 
-abbrev pub named_field_at : Purpose → Scope → Fields → ℕ → Mark → List Symbol → Result FieldOut Fault
+abbrev pub named_field_at : Purpose → Scope → Fields → ℕ → FeatureToken → List Symbol → Result FieldOut Fault
 named_field_at p scope before next m symbols = sign_at sign.Colon symbols >>= λ rest. field_name_at p scope before next m rest
 
 -- a field behind others, with room for so many
 abbrev pub field_at : Purpose → Scope → ℕ → Fields → ℕ → List Symbol → Result FieldOut Fault
 field_at p scope room before next (t.Variable x ∷ rest) = fault_or (placed_fault p scope room before next x) (t.Variable x ∷ rest) (Ok (with_field (place_feature next) x before, next + 1, rest))
-field_at p scope room before next (t.Atom a ∷ rest) = fault_or (mark_fault room before (AtomMark a)) (t.Atom a ∷ rest) (named_field_at p scope before next (AtomMark a) rest)
-field_at p scope room before next (t.Integer n ∷ rest) = fault_or (mark_fault room before (IntMark n)) (t.Integer n ∷ rest) (named_field_at p scope before next (IntMark n) rest)
+field_at p scope room before next (t.Atom a ∷ rest) = fault_or (feature_token_fault room before (AtomFeature a)) (t.Atom a ∷ rest) (named_field_at p scope before next (AtomFeature a) rest)
+field_at p scope room before next (t.Integer n ∷ rest) = fault_or (feature_token_fault room before (IntFeature n)) (t.Integer n ∷ rest) (named_field_at p scope before next (IntFeature n) rest)
 field_at p scope room before next symbols = fault_expected what.FieldOrBracket symbols
 
 abbrev pub is_round : List Symbol → Bool
@@ -114,16 +114,16 @@ value_at left scope symbols = fault_expected what.Value symbols
 -- ---- lists of names, behind those before
 
 -- the names of a `local` up to `in`
-abbrev pub locals_at : List Name → List Symbol → Result (List Name × List Symbol) Fault
+abbrev pub locals_at : List Identifier → List Symbol → Result (List Identifier × List Symbol) Fault
 locals_at before (t.In ∷ rest) = Ok (before, rest)
 locals_at before (t.Variable x ∷ rest) = fault_or (count_fault (length before)) (t.Variable x ∷ rest) (locals_at (before ++ x ∷ []) rest)
 locals_at before symbols = fault_expected what.VariableOrIn symbols
 
-abbrev pub first_local_at : List Symbol → Result (List Name × List Symbol) Fault
+abbrev pub first_local_at : List Symbol → Result (List Identifier × List Symbol) Fault
 first_local_at (t.Variable x ∷ rest) = locals_at (x ∷ []) rest
 first_local_at symbols = fault_expected what.Variable symbols
 
-abbrev pub formals_at : List Name → List Symbol → Result (List Name × List Symbol) Fault
+abbrev pub formals_at : List Identifier → List Symbol → Result (List Identifier × List Symbol) Fault
 formals_at before (t.CloseCurly ∷ rest) = Ok (before, rest)
 formals_at before (t.Variable x ∷ rest) = fault_or (formal_fault before x) (t.Variable x ∷ rest) (formals_at (before ++ x ∷ []) rest)
 formals_at before symbols = fault_expected what.VariableOrClose symbols
@@ -172,10 +172,10 @@ is_end_of c (symbol ∷ rest) = is_closer c symbol
 
 -- the statements after the first, at most n of them: their numbers behind the place of the sequence, the rows and the rest
 unfoldable pub more_at : Reader → Closer → ℕ → Scope → ℕ → List CodeId → List Stmt → List Symbol → Result (List CodeId × List Stmt × List Symbol) Fault
-more_at one c place scope zero ids rows symbols = fault_expected (after c) symbols
+more_at one c place scope zero ids rows symbols = fault_expected (expected_after c) symbols
 more_at one c place scope (suc n) ids rows symbols =
     if is_end_of c symbols then Ok (ids, rows, drop 1 symbols)
-    else (one scope rows (after c) symbols >>= λ s. more_at one c place scope n (ids ++ code_at (length rows - place) ∷ []) s.0 s.1)
+    else (one scope rows (expected_after c) symbols >>= λ s. more_at one c place scope n (ids ++ code_at (length rows - place) ∷ []) s.0 s.1)
 
 -- the numbers go into the row at this place
 abbrev pub with_numbers : ℕ → Result (List CodeId × List Stmt × List Symbol) Fault → Result Out Fault
@@ -239,9 +239,9 @@ if_at inner scope rows symbols =
 
 -- a pattern with the names that it declares
 abbrev pub PatternOut : Type 0
-PatternOut = Pattern × List Name × List Symbol
+PatternOut = Pattern × List Identifier × List Symbol
 
-abbrev pub pair_pattern_at : Name → List Symbol → Result PatternOut Fault
+abbrev pub pair_pattern_at : Identifier → List Symbol → Result PatternOut Fault
 pair_pattern_at h (t.Variable x ∷ rest) = fault_or (where_so (has_name (h ∷ []) x) Twice) (t.Variable x ∷ rest) (Ok (pattern.Rec bar_label two_features, h ∷ x ∷ [], rest))
 pair_pattern_at h symbols = fault_expected what.Variable symbols
 
@@ -270,7 +270,7 @@ thread_at inner scope rows (t.At ∷ rest) = site_at rest >>= λ n. body_at inne
 thread_at inner scope rows symbols = body_at inner scope (rows ++ stmt.Thread None (code_at 1) ∷ []) what.StatementOrAt symbols
 
 -- the name that `catch` declares
-abbrev pub caught_at : List Symbol → Result (Name × List Symbol) Fault
+abbrev pub caught_at : List Symbol → Result (Identifier × List Symbol) Fault
 caught_at (t.Variable x ∷ rest) = Ok (x, rest)
 caught_at symbols = fault_expected what.Variable symbols
 

@@ -3,19 +3,18 @@
 use Rattle.std.specs.Prelude.{◌≡◌, ℕ, ◌+◌, List, [], ◌∷◌, ◌++◌, length, map, Bool, true, false, if◌then◌else◌, Option, Some, None, is_some, unwrap_or, codes, pos}
 use Rattle.std.specs.List.{list_any}
 use Rattle.std.specs.Str.{bytes_eq}
-use Rattle.std.specs.declared.cmp.Ordering.{Ordering}
-use Rattle.std.specs.declared.cmp.Ordering.TheVariants.{Less}
+use Rattle.std.specs.Ordering.{is_lt}
 use Rattle.tree_node.specs.declared.node.Feature.{Feature}
 use Rattle.tree_node.specs.declared.node.Feature.TheVariants as feature
 use Rattle.tree_node.specs.Node.{feature_cmp}
 use Rattle.tree_node.specs.Goal.{equal_feature}
 use Rattle.oz_grammar.specs.declared.symbol.BuiltIn.{BuiltIn}
 use Rattle.oz_grammar.specs.declared.symbol.BuiltIn.TheVariants as built
-use Rattle.oz_grammar.specs.Grammar.{Name, Mark, AtomMark, IntMark, Field, Placed, Marked, Pattern, IntPattern, AtomPattern, RecordPattern, PairPattern, Plain, Calls, Opening, Locals, ProcValue, ProcNamed, Threads, ThreadsAt, Choice, Ifs, Cases, Statement, Simple, Block, Chooses, Tries, Sequence, One, Then}
+use Rattle.oz_grammar.specs.Grammar.{Identifier, FeatureToken, AtomFeature, IntFeature, Field, Placed, WithFeature, Pattern, IntPattern, AtomPattern, RecordPattern, PairPattern, Plain, Calls, Opening, Locals, ProcValue, ProcNamed, Threads, ThreadsAt, Choice, Ifs, Cases, Statement, Simple, Block, Chooses, Tries, Sequence, One, Then}
 
 -- the names declared around a place, from the outside inwards, hidden ones too
 abbrev pub Scope : Type 0
-Scope = List Name
+Scope = List Identifier
 
 -- further declarations behind this one: the innermost counts
 abbrev pub declared_behind : Bool → Option ℕ → Option ℕ
@@ -23,20 +22,20 @@ declared_behind here (Some p) = Some (p + 1)
 declared_behind here None = if here then Some 0 else None
 
 -- the number of declarations around the innermost one of a name
-abbrev pub position_of : Scope → Name → Option ℕ
+abbrev pub position_of : Scope → Identifier → Option ℕ
 position_of [] x = None
 position_of (y ∷ ys) x = declared_behind (bytes_eq y x) (position_of ys x)
 
-abbrev pub is_declared : Scope → Name → Bool
+abbrev pub is_declared : Scope → Identifier → Bool
 is_declared scope x = is_some (position_of scope x)
 
 -- the position of a used identifier. One that passes is declared
-abbrev pub declaration_of : Scope → Name → ℕ
+abbrev pub declaration_of : Scope → Identifier → ℕ
 declaration_of scope x = unwrap_or (position_of scope x) 0
 
 -- ---- what is built in
 
-abbrev pub built_in_of : Name → Option BuiltIn
+abbrev pub built_in_of : Identifier → Option BuiltIn
 built_in_of x =
     if bytes_eq x (codes "Browse") then Some built.Browse
     else (if bytes_eq x (codes "Wait") then Some built.Wait
@@ -52,49 +51,45 @@ arity_of built.NewCell = 2
 arity_of built.Exchange = 3
 
 -- what a call of this name calls, where it is built in: where nothing declares the name
-unfoldable pub built_in_at : Scope → Name → Option BuiltIn
+unfoldable pub built_in_at : Scope → Identifier → Option BuiltIn
 built_in_at scope p = if is_declared scope p then None else built_in_of p
 
 -- ---- fields
 
 -- names by features, in the order of features
 abbrev pub Fields : Type 0
-Fields = List (Feature × Name)
+Fields = List (Feature × Identifier)
 
 -- the feature of a mark. One that passes is a good number
-abbrev pub feature_of : Mark → Feature
-feature_of (AtomMark a) = feature.Atom a
-feature_of (IntMark n) = feature.Int (unwrap_or n (pos 0))
+abbrev pub feature_of : FeatureToken → Feature
+feature_of (AtomFeature a) = feature.Atom a
+feature_of (IntFeature n) = feature.Int (unwrap_or n (pos 0))
 
 -- the feature of the k-th field that has none
 abbrev pub place_feature : ℕ → Feature
 place_feature k = feature.Int (pos k)
 
 abbrev pub has_feature : Fields → Feature → Bool
-has_feature fields f = list_any (λ (g : Feature × Name). equal_feature g.0 f) fields
+has_feature fields f = list_any (λ (g : Feature × Identifier). equal_feature g.0 f) fields
 
-abbrev pub has_name : List Name → Name → Bool
-has_name names x = list_any (λ (y : Name). bytes_eq y x) names
-
-abbrev pub is_less : Ordering → Bool
-is_less Less = true
-is_less _ = false
+abbrev pub has_name : List Identifier → Identifier → Bool
+has_name names x = list_any (λ (y : Identifier). bytes_eq y x) names
 
 -- one field more, before the first of a greater feature
-abbrev pub with_field : Feature → Name → Fields → Fields
+abbrev pub with_field : Feature → Identifier → Fields → Fields
 with_field f x [] = (f, x) ∷ []
 with_field f x ((g, y) ∷ fields) =
-    if is_less (feature_cmp f g) then (f, x) ∷ (g, y) ∷ fields else (g, y) ∷ with_field f x fields
+    if is_lt (feature_cmp f g) then (f, x) ∷ (g, y) ∷ fields else (g, y) ∷ with_field f x fields
 
 -- the names of fields, in the order of features
-abbrev pub names_in : Fields → List Name
-names_in fields = map (λ (f : Feature × Name). f.1) fields
+abbrev pub names_in : Fields → List Identifier
+names_in fields = map (λ (f : Feature × Identifier). f.1) fields
 
 -- those in brackets behind others, where so many stood without a feature that the next has feature next
 abbrev pub fields_behind : Fields → ℕ → List Field → Fields
 fields_behind before next [] = before
 fields_behind before next (Placed x ∷ fs) = fields_behind (with_field (place_feature next) x before) (next + 1) fs
-fields_behind before next (Marked m x ∷ fs) = fields_behind (with_field (feature_of m) x before) next fs
+fields_behind before next (WithFeature m x ∷ fs) = fields_behind (with_field (feature_of m) x before) next fs
 
 abbrev pub fields_of : List Field → Fields
 fields_of fs = fields_behind [] 1 fs
@@ -102,7 +97,7 @@ fields_of fs = fields_behind [] 1 fs
 -- ---- what is declared for a body
 
 -- the variables of a pattern, in the order of features
-abbrev pub pattern_names : Pattern → List Name
+abbrev pub pattern_names : Pattern → List Identifier
 pattern_names (IntPattern n) = []
 pattern_names (AtomPattern a) = []
 pattern_names (RecordPattern a fs) = names_in (fields_of fs)
@@ -124,7 +119,7 @@ choice_scope (Cases x p) scope = scope ++ pattern_names p
 -- ---- which trees are derivations
 
 -- a call of what is built in has exactly its arguments
-abbrev pub HasArguments : Option BuiltIn → List Name → Type 0
+abbrev pub HasArguments : Option BuiltIn → List Identifier → Type 0
 HasArguments (Some b) xs = length xs ≡ arity_of b
 HasArguments None xs = Unit {0}
 

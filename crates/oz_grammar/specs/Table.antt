@@ -11,7 +11,7 @@ use Rattle.kernel_syntax.specs.declared.stmt.Selector.{Selector}
 use Rattle.kernel_syntax.specs.declared.stmt.Selector.TheVariants as selector
 use Rattle.oz_grammar.specs.declared.symbol.BuiltIn.{BuiltIn}
 use Rattle.oz_grammar.specs.declared.symbol.BuiltIn.TheVariants as built
-use Rattle.oz_grammar.specs.Grammar.{Name, Mark, AtomMark, IntMark, Selection, ByVariable, ByMark, Field, Placed, Marked, Value, ToVar, Calculates, Selects, Pairs, ToInt, ToAtom, ToRecord, IntPattern, AtomPattern, RecordPattern, PairPattern, Plain, Skips, Tells, Calls, Raises, Opening, Locals, ProcValue, ProcNamed, Threads, ThreadsAt, Choice, Ifs, Cases, Statement, Simple, Block, Chooses, Tries, Sequence, One, Then}
+use Rattle.oz_grammar.specs.Grammar.{Identifier, FeatureToken, AtomFeature, IntFeature, Selection, ByVariable, ByFeature, Field, Placed, WithFeature, Value, ToVar, Calculates, Selects, Pairs, ToInt, ToAtom, ToRecord, IntPattern, AtomPattern, RecordPattern, PairPattern, Plain, Skips, Tells, Calls, Raises, Opening, Locals, ProcValue, ProcNamed, Threads, ThreadsAt, Choice, Ifs, Cases, Statement, Simple, Block, Chooses, Tries, Sequence, One, Then}
 use Rattle.oz_grammar.specs.Grammar as tree
 use Rattle.oz_grammar.specs.Scoping.{Scope, Fields, declaration_of, built_in_at, feature_of, fields_of, opening_scope, choice_scope}
 
@@ -34,10 +34,10 @@ pair_row left head tail = stmt.TellRec left bar_label ((feature.Int (pos 1), hea
 
 -- the positions of the names of fields
 abbrev pub slots_of : Scope → Fields → List (Feature × ℕ)
-slots_of scope fields = map (λ (f : Feature × Name). (f.0, declaration_of scope f.1)) fields
+slots_of scope fields = map (λ (f : Feature × Identifier). (f.0, declaration_of scope f.1)) fields
 
 abbrev pub features_in : Fields → List Feature
-features_in fields = map (λ (f : Feature × Name). f.0) fields
+features_in fields = map (λ (f : Feature × Identifier). f.0) fields
 
 -- without fields it is the atom
 abbrev pub record_row : ℕ → List ℕ → List (Feature × ℕ) → Stmt
@@ -50,7 +50,7 @@ record_pattern label (f ∷ fs) = pattern.Rec label (f ∷ fs)
 
 abbrev pub selector_of : Selection → Scope → Selector
 selector_of (ByVariable x) scope = selector.Var (declaration_of scope x)
-selector_of (ByMark m) scope = selector.Feature (feature_of m)
+selector_of (ByFeature m) scope = selector.Feature (feature_of m)
 
 abbrev pub value_row : ℕ → Value → Scope → Stmt
 value_row left (ToVar y) scope = stmt.TellVar left (declaration_of scope y)

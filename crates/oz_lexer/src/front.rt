@@ -29,7 +29,7 @@ fn quote_length(inside: &[u8]) -> Result<usize, (LexKind, usize)>
 }
 
 /// A token of so many bytes, if it is no name too long.
-fn fitting(kind: TokenKind, length: usize) -> Result<(TokenKind, usize), (LexKind, usize)>
+fn within_name_limit(kind: TokenKind, length: usize) -> Result<(TokenKind, usize), (LexKind, usize)>
     ensures { result ≡ within_name_limit kind length }
 {
     if is_name(kind) && length > 255 {
@@ -39,11 +39,11 @@ fn fitting(kind: TokenKind, length: usize) -> Result<(TokenKind, usize), (LexKin
     }
 }
 
-fn quoted(inside: &[u8]) -> Result<(TokenKind, usize), (LexKind, usize)>
+fn quoted_token(inside: &[u8]) -> Result<(TokenKind, usize), (LexKind, usize)>
     ensures { result ≡ quoted_token (quote_from false inside.now 1) }
 {
     match quote_length(inside) {
-        Ok(length) => fitting(TokenKind::Quoted, length),
+        Ok(length) => within_name_limit(TokenKind::Quoted, length),
         Err(fault) => Err(fault),
     }
 }
@@ -57,13 +57,13 @@ pub fn front(text: &[u8]) -> Result<(TokenKind, usize), (LexKind, usize)>
         [] => Ok((TokenKind::End, 0)),
         [first, rest @ ..] => {
             if *first == b'\'' {
-                return quoted(rest);
+                return quoted_token(rest);
             }
             let length = token_length(*first, rest);
             if length == 0 {
                 Err((LexKind::BadChar, 0))
             } else {
-                fitting(token_kind(*first, text.split_at(length).0), length)
+                within_name_limit(token_kind(*first, text.split_at(length).0), length)
             }
         }
     }

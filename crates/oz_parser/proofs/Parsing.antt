@@ -21,7 +21,7 @@ use Rattle.oz_grammar.proofs.TextLaws.{tokens_end, fault_left, reads_text, fault
 use Rattle.oz_parser.specs.declared.error.ParseError.{ParseError}
 use Rattle.oz_parser.specs.declared.error.ParseError.TheVariants as errors
 use Rattle.oz_parser.specs.Fits.{RowsFit}
-use Rattle.oz_phrases.specs.TextSymbols.{start_of, AreSymbols}
+use Rattle.oz_symbols.specs.TextSymbols.{start_of, AreSymbols}
 use Rattle.oz_parser.specs.Parses.{Parses, GivesProgram, GivesFault}
 use Rattle.oz_parser.proofs.Shifting.{program_fits, same_count}
 

@@ -15,7 +15,7 @@ use Rattle.oz_grammar.specs.declared.fault.What.{What}
 use Rattle.oz_grammar.specs.declared.fault.What.TheVariants as what
 use Rattle.oz_grammar.specs.declared.symbol.BuiltIn.{BuiltIn}
 use Rattle.oz_grammar.specs.Scoping.{Scope, declaration_of, built_in_at, arity_of}
-use Rattle.oz_grammar.specs.Points.{after}
+use Rattle.oz_grammar.specs.Points.{expected_after}
 use Rattle.oz_grammar.specs.Faults.{fault_here, called_fault}
 use Rattle.oz_grammar.specs.declared.fault.FaultKind.{FaultKind}
 use Rattle.oz_grammar.specs.Table.{code_at}
@@ -48,7 +48,7 @@ unfolding stmt_at
 stmt_some zero scope rows w symbols h = absurd (h refl)
 stmt_some (suc d) scope rows w symbols h = let e : suc d - 1 ≡ d = omega arith in rw e refl
 
-pub more_none : (one : Reader) (c : Closer) (place : ℕ) (scope : Scope) (n : ℕ) (ids : List CodeId) (rows : List Stmt) (symbols : List Symbol) → n ≡ 0 → more_at one c place scope n ids rows symbols ≡ fault_expected (after c) symbols
+pub more_none : (one : Reader) (c : Closer) (place : ℕ) (scope : Scope) (n : ℕ) (ids : List CodeId) (rows : List Stmt) (symbols : List Symbol) → n ≡ 0 → more_at one c place scope n ids rows symbols ≡ fault_expected (expected_after c) symbols
 unfolding more_at
 more_none one c place scope zero ids rows symbols e = refl
 more_none one c place scope (suc n) ids rows symbols e = absurd cc
@@ -58,19 +58,19 @@ unfolding more_at
 more_stops one c place scope zero ids rows symbols h e = absurd (h refl)
 more_stops one c place scope (suc n) ids rows symbols h e = rw e refl
 
-more_some : (one : Reader) (c : Closer) (place : ℕ) (scope : Scope) (n m : ℕ) (ids : List CodeId) (rows : List Stmt) (symbols : List Symbol) → n ≡ m + 1 → is_end_of c symbols ≡ false → more_at one c place scope n ids rows symbols ≡ (one scope rows (after c) symbols >>= λ s. more_at one c place scope m (ids ++ code_at (length rows - place) ∷ []) s.0 s.1)
+more_some : (one : Reader) (c : Closer) (place : ℕ) (scope : Scope) (n m : ℕ) (ids : List CodeId) (rows : List Stmt) (symbols : List Symbol) → n ≡ m + 1 → is_end_of c symbols ≡ false → more_at one c place scope n ids rows symbols ≡ (one scope rows (expected_after c) symbols >>= λ s. more_at one c place scope m (ids ++ code_at (length rows - place) ∷ []) s.0 s.1)
 unfolding more_at
 more_some one c place scope zero m ids rows symbols h e = absurd (omega arith)
 more_some one c place scope (suc n) m ids rows symbols h e = let same : n ≡ m = omega arith in rw (e, same) refl
 
 -- the loop over the statements of a sequence
-pub more_goes : (one : Reader) (c : Closer) (place : ℕ) (scope : Scope) (n m : ℕ) (ids : List CodeId) (rows : List Stmt) (symbols : List Symbol) (all : Result Out Fault) (next : List Stmt) (rest : List Symbol) → with_numbers place (more_at one c place scope n ids rows symbols) ≡ all → n ≡ m + 1 → is_end_of c symbols ≡ false → one scope rows (after c) symbols ≡ Ok (next, rest) → with_numbers place (more_at one c place scope m (ids ++ code_at (length rows - place) ∷ []) next rest) ≡ all
+pub more_goes : (one : Reader) (c : Closer) (place : ℕ) (scope : Scope) (n m : ℕ) (ids : List CodeId) (rows : List Stmt) (symbols : List Symbol) (all : Result Out Fault) (next : List Stmt) (rest : List Symbol) → with_numbers place (more_at one c place scope n ids rows symbols) ≡ all → n ≡ m + 1 → is_end_of c symbols ≡ false → one scope rows (expected_after c) symbols ≡ Ok (next, rest) → with_numbers place (more_at one c place scope m (ids ++ code_at (length rows - place) ∷ []) next rest) ≡ all
 more_goes one c place scope n m ids rows symbols all next rest so_far h e read =
     let step = more_some one c place scope n m ids rows symbols h e in
     let same : more_at one c place scope n ids rows symbols ≡ more_at one c place scope m (ids ++ code_at (length rows - place) ∷ []) next rest = step ∙ rw read refl in
     rw (← same) so_far
 
-more_fails : (one : Reader) (c : Closer) (place : ℕ) (scope : Scope) (n : ℕ) (ids : List CodeId) (rows : List Stmt) (symbols : List Symbol) (all : Result Out Fault) (f : Fault) → with_numbers place (more_at one c place scope n ids rows symbols) ≡ all → n ≢ 0 → is_end_of c symbols ≡ false → one scope rows (after c) symbols ≡ Err f → all ≡ Err f
+more_fails : (one : Reader) (c : Closer) (place : ℕ) (scope : Scope) (n : ℕ) (ids : List CodeId) (rows : List Stmt) (symbols : List Symbol) (all : Result Out Fault) (f : Fault) → with_numbers place (more_at one c place scope n ids rows symbols) ≡ all → n ≢ 0 → is_end_of c symbols ≡ false → one scope rows (expected_after c) symbols ≡ Err f → all ≡ Err f
 more_fails one c place scope n ids rows symbols all f so_far h e read =
     let step = more_some one c place scope n (n - 1) ids rows symbols (omega arith) e in
     let same : more_at one c place scope n ids rows symbols ≡ Err f = step ∙ rw read refl in
@@ -79,7 +79,7 @@ more_fails one c place scope n ids rows symbols all f so_far h e read =
 pub more_ends : (one : Reader) (c : Closer) (place : ℕ) (scope : Scope) (n : ℕ) (ids : List CodeId) (rows : List Stmt) (symbols : List Symbol) (all : Result Out Fault) → with_numbers place (more_at one c place scope n ids rows symbols) ≡ all → n ≢ 0 → is_end_of c symbols ≡ true → all ≡ Ok (set rows place (stmt.Seq ids), drop 1 symbols)
 more_ends one c place scope n ids rows symbols all so_far h e = sym so_far ∙ rw (more_stops one c place scope n ids rows symbols h e) refl
 
-pub more_refused : (e : Stop) (one : Reader) (c : Closer) (place : ℕ) (scope : Scope) (n : ℕ) (ids : List CodeId) (rows : List Stmt) (symbols : List Symbol) (all : Result Out Fault) → with_numbers place (more_at one c place scope n ids rows symbols) ≡ all → n ≢ 0 → is_end_of c symbols ≡ false → Fails e (one scope rows (after c) symbols) → Fails e all
+pub more_refused : (e : Stop) (one : Reader) (c : Closer) (place : ℕ) (scope : Scope) (n : ℕ) (ids : List CodeId) (rows : List Stmt) (symbols : List Symbol) (all : Result Out Fault) → with_numbers place (more_at one c place scope n ids rows symbols) ≡ all → n ≢ 0 → is_end_of c symbols ≡ false → Fails e (one scope rows (expected_after c) symbols) → Fails e all
 more_refused stops.Memory one c place scope n ids rows symbols all so_far h e fails = tt
 more_refused (stops.Fault f) one c place scope n ids rows symbols all so_far h e fails = more_fails one c place scope n ids rows symbols all f so_far h e fails
 

@@ -10,7 +10,7 @@ use Rattle.oz_grammar.specs.declared.symbol.BuiltIn.{BuiltIn}
 use Rattle.oz_grammar.specs.declared.fault.What.{What}
 use Rattle.oz_grammar.specs.declared.fault.What.TheVariants as what
 use Rattle.oz_grammar.specs.declared.fault.Fault.{Fault}
-use Rattle.oz_grammar.specs.Grammar.{Name}
+use Rattle.oz_grammar.specs.Grammar.{Identifier}
 use Rattle.oz_grammar.specs.Scoping.{Scope, declaration_of, built_in_at, arity_of}
 use Rattle.oz_grammar.specs.Faults.{called_fault}
 use Rattle.oz_grammar.specs.Table.{code_at, built_in_row}
@@ -20,11 +20,11 @@ use Rattle.oz_grammar.specs.Reading.{◌>>=◌, Out, Reader, fault_expected, fau
 -- body begins, if it has one, and the symbols from there on
 pub record Begun : Type 0 where
   pub row : Stmt
-  pub names : List Name
+  pub names : List Identifier
   pub body : Option What
   pub rest : List Symbol
 
-abbrev pub begun : Stmt → List Name → Option What → List Symbol → Begun
+abbrev pub begun : Stmt → List Identifier → Option What → List Symbol → Begun
 begun row names body rest = record { row = row; names = names; body = body; rest = rest }
 
 -- a statement without a body
@@ -32,7 +32,7 @@ abbrev pub whole : Stmt → List Symbol → Begun
 whole row rest = begun row [] None rest
 
 -- one with a body that begins with a statement
-abbrev pub opening : Stmt → List Name → List Symbol → Begun
+abbrev pub opening : Stmt → List Identifier → List Symbol → Begun
 opening row names rest = begun row names (Some what.Statement) rest
 
 -- ---- calls

@@ -7,7 +7,7 @@ ghost use Rattle.oz_parser.specs.Heads.{begun, built_in_head, procedure_call_hea
 
 use crate::arguments::{arguments, arity_of, wanted};
 use crate::head::{Head, whole};
-use kernel_syntax::{Ids, Stmt};
+use kernel_syntax::{Positions, Stmt};
 use oz_grammar::{BuiltIn, FaultKind, Sign, Symbol, What};
 use oz_phrases::{Scope, Stop, built_in_at, fault, refused, sign, used};
 use std::alloc::Global;
@@ -65,7 +65,7 @@ fn procedure_call<'t>(
     let (ids, rest) = arguments(alloc, scope, symbols)?;
     let row = Stmt::Call {
         callee,
-        args: Ids::from_vec(ids),
+        args: Positions::from_vec(ids),
     };
     Ok(whole(alloc, row, rest))
 }

@@ -6,7 +6,8 @@
 //! exactly where it has one; nothing else but want of memory (its clauses `read`, `refused`, `program` and `fault`, in the
 //! words of `oz_grammar`). It goes once over the tokens: time and memory grow with the text.
 //!
-//! Stands on: `oz_phrases` (symbols, and what statements are made of), `oz_grammar` (what a text is), `kernel_syntax` (programs).
+//! Stands on: `oz_symbols` (the symbols of a text), `oz_phrases` (what statements are made of), `oz_grammar` (what a text is),
+//! `kernel_syntax` (programs).
 //!
 //! Tests alone show: nothing here; texts, programs and refusals stand as tables in `text_tests`.
 //!

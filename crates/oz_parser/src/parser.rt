@@ -10,7 +10,7 @@ ghost use Rattle.oz_grammar.specs.Symbols.{ends_once};
 ghost use Rattle.oz_grammar.specs.Reading.{program_at};
 ghost use Rattle.oz_grammar.specs.Reads.{Reads, FaultOf};
 ghost use Rattle.oz_phrases.specs.Gives.{Gives, Fails};
-ghost use Rattle.oz_phrases.specs.TextSymbols.{AreSymbols};
+ghost use Rattle.oz_symbols.specs.TextSymbols.{AreSymbols};
 ghost use Rattle.oz_parser.specs.Parses.{Answers, Parses, GivesProgram, GivesFault, IfFault};
 
 use crate::error::ParseError;
@@ -19,7 +19,8 @@ use crate::table::shift_rows;
 use kernel_syntax::{Program, Stmt};
 use oz_grammar::{Closer, Fault, Symbol, TextFault, What};
 use oz_lexer::line_and_column;
-use oz_phrases::{Stop, symbols_of};
+use oz_phrases::Stop;
+use oz_symbols::symbols_of;
 use std::alloc::Global;
 
 /// The rows of the program that these symbols are.

@@ -1,5 +1,5 @@
 -- One declaration more and one less, and the positions of all names.
-use Rattle.std.proofs.Common.{◌≡◌, ℕ, zero, suc, ◌+◌, ◌<◌, ◌≤◌, List, [], ◌∷◌, ◌++◌, length, take, Bool, true, false, cond, Option, Some, None, refl, sym, ap, ◌∙◌, arith, append_assoc, eqb, true≢false}
+use Rattle.std.proofs.Common.{◌≡◌, ℕ, suc, ◌+◌, ◌<◌, List, [], ◌∷◌, ◌++◌, length, Bool, true, false, cond, Option, Some, None, refl, sym, ap, ◌∙◌, arith, append_assoc, eqb, true≢false}
 use Rattle.std.specs.Prelude.{IfSome, IsSome}
 use Rattle.std.specs.Global.{Vec}
 use Rattle.std.specs.Cmp.Lexicographic.{pointwise, bytes_decides, nat_list_eq_equiv}
@@ -8,7 +8,7 @@ use Rattle.std.specs.Map.{lookup, set_value}
 use Rattle.std.proofs.lemmas.List.{append-nil, length-map}
 use Rattle.indexmap.specs.IndexMap.{insert_entry}
 use Rattle.oz_grammar.specs.Scoping.{Scope, declared_behind, position_of}
-use Rattle.oz_phrases.specs.Scoped.{Declarations, Places, names_of, held, place_named, HidesBehind, IsIndexed}
+use Rattle.oz_phrases.specs.Scoped.{Declarations, Places, declared_names, option_join, place_named, HidesBehind, IsIndexed}
 
 -- ---- positions
 
@@ -31,19 +31,19 @@ position_within (y ∷ ys) x = behind_within (bytes_eq y x) (position_of ys x) (
 
 -- ---- hidden declarations
 
-pub names_push : (ds : Declarations) (y : List ℕ) (o : Option ℕ) → names_of (ds ++ (y, o) ∷ []) ≡ names_of ds ++ y ∷ []
+pub names_push : (ds : Declarations) (y : List ℕ) (o : Option ℕ) → declared_names (ds ++ (y, o) ∷ []) ≡ declared_names ds ++ y ∷ []
 names_push [] y o = refl
 names_push (d ∷ ds) y o = ap (λ (xs : Scope). d.0 ∷ xs) (names_push ds y o)
 
-hides_push : (before : Scope) (ds : Declarations) (y : List ℕ) (o : Option ℕ) → HidesBehind before ds → o ≡ position_of (before ++ names_of ds) y → HidesBehind before (ds ++ (y, o) ∷ [])
+hides_push : (before : Scope) (ds : Declarations) (y : List ℕ) (o : Option ℕ) → HidesBehind before ds → o ≡ position_of (before ++ declared_names ds) y → HidesBehind before (ds ++ (y, o) ∷ [])
 hides_push before [] y o h e = (e ∙ ap (λ (s : Scope). position_of s y) (append-nil before), tt)
-hides_push before (d ∷ ds) y o h e = (h.0, hides_push (before ++ d.0 ∷ []) ds y o h.1 (e ∙ ap (λ (s : Scope). position_of s y) (sym (append_assoc before (d.0 ∷ []) (names_of ds)))))
+hides_push before (d ∷ ds) y o h e = (h.0, hides_push (before ++ d.0 ∷ []) ds y o h.1 (e ∙ ap (λ (s : Scope). position_of s y) (sym (append_assoc before (d.0 ∷ []) (declared_names ds)))))
 
-hides_less : (before : Scope) (ds : Declarations) (y : List ℕ) (o : Option ℕ) → HidesBehind before (ds ++ (y, o) ∷ []) → HidesBehind before ds × (o ≡ position_of (before ++ names_of ds) y)
+hides_less : (before : Scope) (ds : Declarations) (y : List ℕ) (o : Option ℕ) → HidesBehind before (ds ++ (y, o) ∷ []) → HidesBehind before ds × (o ≡ position_of (before ++ declared_names ds) y)
 hides_less before [] y o h = (tt, h.0 ∙ ap (λ (s : Scope). position_of s y) (sym (append-nil before)))
 hides_less before (d ∷ ds) y o h =
     let less = hides_less (before ++ d.0 ∷ []) ds y o h.1 in
-    ((h.0, less.0), less.1 ∙ ap (λ (s : Scope). position_of s y) (append_assoc before (d.0 ∷ []) (names_of ds)))
+    ((h.0, less.0), less.1 ∙ ap (λ (s : Scope). position_of s y) (append_assoc before (d.0 ∷ []) (declared_names ds)))
 
 -- ---- the index
 
@@ -58,10 +58,10 @@ pub indexed_push : (ds : Declarations) (old new : Places) (y : List ℕ) (o : Op
     ((x : List ℕ) → place_named new x ≡ cond (bytes_eq x y) (Some (length ds)) (place_named old x)) → IsIndexed (ds ++ (y, o) ∷ []) new
 indexed_push ds old new y o i e h = record {
   hides = hides_push [] ds y o i.hides (e ∙ i.places_are y);
-  places_are = λ x. h x ∙ go x (bytes_eq x y) refl ∙ sym (ap (λ (s : Scope). position_of s x) (names_push ds y o) ∙ position_push (names_of ds) y x);
+  places_are = λ x. h x ∙ go x (bytes_eq x y) refl ∙ sym (ap (λ (s : Scope). position_of s x) (names_push ds y o) ∙ position_push (declared_names ds) y x);
 }
   where
-    go : (x : List ℕ) (b : Bool) → bytes_eq x y ≡ b → cond b (Some (length ds)) (place_named old x) ≡ cond (bytes_eq y x) (Some (length (names_of ds))) (position_of (names_of ds) x)
+    go : (x : List ℕ) (b : Bool) → bytes_eq x y ≡ b → cond b (Some (length ds)) (place_named old x) ≡ cond (bytes_eq y x) (Some (length (declared_names ds))) (position_of (declared_names ds) x)
     go x true q = rw (flips y x ∙ q) (ap (λ (p : ℕ). Some p) (sym (length-map ds (λ (d : List ℕ × Option ℕ). d.0))))
     go x false q = rw (flips y x ∙ q) (i.places_are x)
 
@@ -73,18 +73,18 @@ indexed_less ds old new y o i h = record {
   places_are = λ x. h x ∙ go x (bytes_eq x y) refl;
 }
   where
-    was : (x : List ℕ) → place_named old x ≡ cond (bytes_eq y x) (Some (length (names_of ds))) (position_of (names_of ds) x)
-    was x = i.places_are x ∙ ap (λ (s : Scope). position_of s x) (names_push ds y o) ∙ position_push (names_of ds) y x
+    was : (x : List ℕ) → place_named old x ≡ cond (bytes_eq y x) (Some (length (declared_names ds))) (position_of (declared_names ds) x)
+    was x = i.places_are x ∙ ap (λ (s : Scope). position_of s x) (names_push ds y o) ∙ position_push (declared_names ds) y x
 
-    go : (x : List ℕ) (b : Bool) → bytes_eq x y ≡ b → cond b o (place_named old x) ≡ position_of (names_of ds) x
-    go x true q = (hides_less [] ds y o i.hides).1 ∙ ap (position_of (names_of ds)) (sym (same x y q))
-    go x false q = was x ∙ ap (λ (b : Bool). cond b (Some (length (names_of ds))) (position_of (names_of ds) x)) (flips y x ∙ q)
+    go : (x : List ℕ) (b : Bool) → bytes_eq x y ≡ b → cond b o (place_named old x) ≡ position_of (declared_names ds) x
+    go x true q = (hides_less [] ds y o i.hides).1 ∙ ap (position_of (declared_names ds)) (sym (same x y q))
+    go x false q = was x ∙ ap (λ (b : Bool). cond b (Some (length (declared_names ds))) (position_of (declared_names ds) x)) (flips y x ∙ q)
 
 -- the innermost declaration has a place
 pub has_place : (ds : Declarations) (old : Places) (y : List ℕ) (o : Option ℕ) → IsIndexed (ds ++ (y, o) ∷ []) old → IsSome (place_named old y)
 has_place ds old y o i =
-    let at : place_named old y ≡ Some (length (names_of ds)) = i.places_are y ∙ ap (λ (s : Scope). position_of s y) (names_push ds y o) ∙ position_push (names_of ds) y y
-    ∙ ap (λ (b : Bool). cond b (Some (length (names_of ds))) (position_of (names_of ds) y)) (nat_list_eq_equiv.refl y) in
+    let at : place_named old y ≡ Some (length (declared_names ds)) = i.places_are y ∙ ap (λ (s : Scope). position_of s y) (names_push ds y o) ∙ position_push (declared_names ds) y y
+    ∙ ap (λ (b : Bool). cond b (Some (length (declared_names ds))) (position_of (declared_names ds) y)) (nat_list_eq_equiv.refl y) in
     rw at refl
 
 -- ---- entries
@@ -92,14 +92,14 @@ has_place ds old y o i =
 pub put_there : (es : Places) (k : Vec ℕ) (v : Option ℕ) (x : List ℕ) → place_named (insert_entry (λ (a b : Vec ℕ). pointwise eqb a.items b.items) es k v) x ≡ cond (bytes_eq x k.items) v (place_named es x)
 put_there [] k v x = go (bytes_eq x k.items)
   where
-    go : (b : Bool) → held (cond b (Some v) None) ≡ cond b v None
+    go : (b : Bool) → option_join (cond b (Some v) None) ≡ cond b v None
     go true = refl
     go false = refl
 put_there ((z, w) ∷ es) k v x = go (bytes_eq k.items z.items) (bytes_eq x z.items) (bytes_eq x k.items) refl refl refl (put_there es k v x)
   where
     go : (kz xz xk : Bool) → bytes_eq k.items z.items ≡ kz → bytes_eq x z.items ≡ xz → bytes_eq x k.items ≡ xk →
         place_named (insert_entry (λ (a b : Vec ℕ). pointwise eqb a.items b.items) es k v) x ≡ cond xk v (place_named es x) →
-        place_named (cond kz ((z, v) ∷ es) ((z, w) ∷ insert_entry (λ (a b : Vec ℕ). pointwise eqb a.items b.items) es k v)) x ≡ cond xk v (held (cond xz (Some w) (lookup (λ (q : Vec ℕ). bytes_eq x q.items) es)))
+        place_named (cond kz ((z, v) ∷ es) ((z, w) ∷ insert_entry (λ (a b : Vec ℕ). pointwise eqb a.items b.items) es k v)) x ≡ cond xk v (option_join (cond xz (Some w) (lookup (λ (q : Vec ℕ). bytes_eq x q.items) es)))
     go true true true a b c ih = rw b refl
     go true true false a b c ih = absurd (true≢false (sym b ∙ ap (λ (s : List ℕ). bytes_eq x s) (sym (same k.items z.items a)) ∙ c))
     go true false true a b c ih = absurd (true≢false (sym c ∙ ap (λ (s : List ℕ). bytes_eq x s) (same k.items z.items a) ∙ b))
@@ -110,7 +110,7 @@ put_there ((z, w) ∷ es) k v x = go (bytes_eq k.items z.items) (bytes_eq x z.it
     go false false false a b c ih = rw b ih
 
 -- a name that has a place is kept
-pub is_kept : (o : Option (Option ℕ)) → IsSome (held o) → IsSome o
+pub is_kept : (o : Option (Option ℕ)) → IsSome (option_join o) → IsSome o
 is_kept None h = h
 is_kept (Some place) h = refl
 
@@ -120,7 +120,7 @@ set_there ((z, v) ∷ es) y w x h = go (bytes_eq y z.items) (bytes_eq x z.items)
   where
     go : (yz xz xy : Bool) → bytes_eq y z.items ≡ yz → bytes_eq x z.items ≡ xz → bytes_eq x y ≡ xy → IsSome (cond yz (Some v) (lookup (λ (k : Vec ℕ). bytes_eq y k.items) es)) →
         (IsSome (lookup (λ (k : Vec ℕ). bytes_eq y k.items) es) → place_named (set_value (λ (k : Vec ℕ). bytes_eq y k.items) es w) x ≡ cond xy w (place_named es x)) →
-        place_named (cond yz ((z, w) ∷ es) ((z, v) ∷ set_value (λ (k : Vec ℕ). bytes_eq y k.items) es w)) x ≡ cond xy w (held (cond xz (Some v) (lookup (λ (k : Vec ℕ). bytes_eq x k.items) es)))
+        place_named (cond yz ((z, w) ∷ es) ((z, v) ∷ set_value (λ (k : Vec ℕ). bytes_eq y k.items) es w)) x ≡ cond xy w (option_join (cond xz (Some v) (lookup (λ (k : Vec ℕ). bytes_eq x k.items) es)))
     go true true true a b c h ih = rw b refl
     go true true false a b c h ih = absurd (true≢false (sym b ∙ ap (λ (s : List ℕ). bytes_eq x s) (sym (same y z.items a)) ∙ c))
     go true false true a b c h ih = absurd (true≢false (sym c ∙ ap (λ (s : List ℕ). bytes_eq x s) (same y z.items a) ∙ b))
@@ -129,11 +129,3 @@ set_there ((z, v) ∷ es) y w x h = go (bytes_eq y z.items) (bytes_eq x z.items)
     go false true false a b c h ih = rw b refl
     go false false true a b c h ih = rw b (ih h)
     go false false false a b c h ih = rw b (ih h)
-
--- ---- the first declarations
-
-take_twice : {A : Type 0} (n m : ℕ) (xs : List A) → n ≤ m → take n (take m xs) ≡ take n xs
-take_twice zero m xs h = refl
-take_twice (suc n) zero xs h = absurd (omega (arith, h))
-take_twice (suc n) (suc m) [] h = refl
-take_twice (suc n) (suc m) (x ∷ xs) h = ap (λ ys. x ∷ ys) (take_twice n m xs (omega (arith, h)))

@@ -12,16 +12,16 @@ Declarations = List (List ℕ × Option ℕ)
 abbrev pub Places : Type 0
 Places = List (Vec ℕ × Option ℕ)
 
-abbrev pub names_of : Declarations → Scope
-names_of ds = map (λ (d : List ℕ × Option ℕ). d.0) ds
+abbrev pub declared_names : Declarations → Scope
+declared_names ds = map (λ (d : List ℕ × Option ℕ). d.0) ds
 
-abbrev pub held : Option (Option ℕ) → Option ℕ
-held None = None
-held (Some place) = place
+abbrev pub option_join : Option (Option ℕ) → Option ℕ
+option_join None = None
+option_join (Some place) = place
 
 -- the place that is kept for a name
 abbrev pub place_named : Places → List ℕ → Option ℕ
-place_named places x = held (lookup (λ (k : Vec ℕ). bytes_eq x k.items) places)
+place_named places x = option_join (lookup (λ (k : Vec ℕ). bytes_eq x k.items) places)
 
 -- each of these, which stand behind others, has the position of the declaration that it hides
 abbrev pub HidesBehind : Scope → Declarations → Type 0
@@ -31,4 +31,4 @@ HidesBehind before (d ∷ ds) = (d.1 ≡ position_of before d.0) × HidesBehind 
 -- the places are the positions of all names
 pub record IsIndexed (ds : Declarations) (places : Places) : Type 0 where
   pub hides : HidesBehind [] ds
-  pub places_are : (x : List ℕ) → place_named places x ≡ position_of (names_of ds) x
+  pub places_are : (x : List ℕ) → place_named places x ≡ position_of (declared_names ds) x

@@ -1,12 +1,12 @@
 //! The fields of records and patterns.
 
 ghost use Rattle.std.specs.Prelude.{◌≡◌, ◌+◌, ◌<◌, ◌≤◌, ◌^◌, [], map, drop, length, vec_len, IfOk, OnOk, insert};
-ghost use Rattle.oz_grammar.specs.Scoping.{has_feature, has_name, names_in, with_field, is_less, feature_of};
-ghost use Rattle.oz_grammar.specs.Faults.{feature_fault, name_fault, placed_fault, mark_fault};
+ghost use Rattle.oz_grammar.specs.Scoping.{has_feature, has_name, names_in, with_field, feature_of};
+ghost use Rattle.oz_grammar.specs.Faults.{feature_fault, name_fault, placed_fault, feature_token_fault};
 ghost use Rattle.oz_grammar.specs.Table.{slots_of, features_in};
 ghost use Rattle.oz_grammar.specs.Reading.{fields_at, field_at, named_field_at, field_name_at, is_round};
 ghost use Rattle.tree_node.specs.Node.{feature_cmp};
-ghost use Rattle.oz_phrases.specs.Fields.{place_in, field_name_of, marked_field_of, numbered_field_of};
+ghost use Rattle.oz_phrases.specs.Fields.{insertion_point, field_name_of, field_with_feature_of, numbered_field_of};
 ghost use Rattle.oz_phrases.specs.Gives.{Gives};
 
 use crate::scope::{Scope, place_of};
@@ -14,15 +14,14 @@ use crate::signs::sign;
 use crate::stop::{Read, Stop, fault, refused};
 use oz_grammar::{FaultKind, Purpose, Sign, Symbol, What};
 use std::alloc::{AllocError, Global};
-use std::cmp::Ordering;
-use tree_node::{Feature, Text, compare_features, copy_feature, same_feature};
+use tree_node::{Feature, Text, compare_features, copy_feature, equal_feature};
 
 /// Whether some field has a feature.
 fn has_feature(fields: &[(Feature, Text)], feature: &Feature) -> bool
     ensures { result ≡ has_feature fields.now feature.now }
 {
     for field in fields {
-        if same_feature(&field.0, feature) {
+        if equal_feature(&field.0, feature) {
             return true;
         }
     }
@@ -53,22 +52,13 @@ pub fn has_name(names: &[Text], name: &Text) -> bool
     false
 }
 
-fn is_less(left: &Feature, right: &Feature) -> bool
-    ensures { result ≡ is_less (feature_cmp left.now right.now) }
-{
-    match compare_features(left, right) {
-        Ordering::Less => true,
-        _ => false,
-    }
-}
-
 /// How many fields stand before the first of a greater feature.
-fn place_in(feature: &Feature, fields: &[(Feature, Text)]) -> usize
-    ensures value { result ≡ place_in feature.now fields.now }
+fn insertion_point(feature: &Feature, fields: &[(Feature, Text)]) -> usize
+    ensures value { result ≡ insertion_point feature.now fields.now }
     ensures within { result ≤ length fields.now }
 {
     for (at, field) in fields.iter().enumerate() {
-        if is_less(feature, &field.0) {
+        if compare_features(feature, &field.0).is_lt() {
             return at;
         }
     }
@@ -85,7 +75,7 @@ fn add_field(
     ensures fields { OnOk result (fields.new.items ≡ with_field feature name fields.old.items) }
     ensures count { OnOk result (vec_len fields.new ≡ vec_len fields.old + 1) }
 {
-    let at = place_in(&feature, fields.as_slice());
+    let at = insertion_point(&feature, fields.as_slice());
     match fields.insert(at, (feature, name)) {
         Ok(()) => Ok(()),
         Err(_) => Err(AllocError),
@@ -181,7 +171,7 @@ fn field_name<'t>(
 }
 
 /// A field whose feature stands at the front.
-fn marked_field<'t>(
+fn field_with_feature<'t>(
     at: Brackets,
     scope: &Scope,
     fields: &mut Vec<(Feature, Text)>,
@@ -189,7 +179,7 @@ fn marked_field<'t>(
     symbols: &'t [Symbol],
 ) -> Read<'t, u32>
     requires { 0 < length symbols.now }
-    ensures read { Gives (λ x. (fields.new.items, x.0, x.1.now)) result (marked_field_of at.purpose scope.now at.room fields.old.items at.next feature symbols.now (drop 1 symbols.now)) }
+    ensures read { Gives (λ x. (fields.new.items, x.0, x.1.now)) result (field_with_feature_of at.purpose scope.now at.room fields.old.items at.next feature symbols.now (drop 1 symbols.now)) }
     ensures shorter { IfOk result (λ x. length x.1.now < length symbols.now) }
     ensures next { IfOk result (λ x. x.0 ≡ at.next) }
     ensures count { OnOk result (vec_len fields.new ≡ vec_len fields.old + 1) }
@@ -219,7 +209,7 @@ fn numbered_field<'t>(
 {
     match value {
         None => Err(fault(FaultKind::Number, symbols)),
-        Some(value) => marked_field(at, scope, fields, Feature::Int(value), symbols),
+        Some(value) => field_with_feature(at, scope, fields, Feature::Int(value), symbols),
     }
 }
 
@@ -248,7 +238,7 @@ fn field<'t>(
             }
         }
         [Symbol::Atom(text), ..] => {
-            marked_field(at, scope, fields, Feature::Atom(text.copy()?), symbols)
+            field_with_feature(at, scope, fields, Feature::Atom(text.copy()?), symbols)
         }
         [Symbol::Integer(value), ..] => numbered_field(at, scope, fields, *value, symbols),
         _ => Err(refused(What::FieldOrBracket, symbols)),

@@ -27,9 +27,9 @@ impl Model for Scope {
 
     ghost Value = { List (List ℕ) };
 
-    ghost use Rattle.oz_phrases.specs.Scoped.{names_of, IsIndexed};
+    ghost use Rattle.oz_phrases.specs.Scoped.{declared_names, IsIndexed};
 
-    ghost view = { λ s. names_of s.declared.items };
+    ghost view = { λ s. declared_names s.declared.items };
 
     ghost invariant = { λ s. IsIndexed s.declared.items s.places.entries };
 }

@@ -1,7 +1,7 @@
 //! Signs, what ends a sequence, and what begins a statement.
 
 ghost use Rattle.std.specs.Prelude.{◌≡◌, ◌+◌, length, IfOk};
-ghost use Rattle.oz_grammar.specs.Points.{is_sign, expects_sign, is_closer, begins_statement, after};
+ghost use Rattle.oz_grammar.specs.Points.{is_sign, expects_sign, is_closer, begins_statement, expected_after};
 ghost use Rattle.oz_grammar.specs.Reading.{is_end_of, begins_at, sign_at, close_at};
 ghost use Rattle.oz_phrases.specs.Gives.{Gives};
 
@@ -91,7 +91,7 @@ pub fn closes(closer: Closer, symbols: &[Symbol]) -> bool
 
 /// What is expected behind a statement of a sequence.
 pub fn after(closer: Closer) -> What
-    ensures { result ≡ after closer }
+    ensures { result ≡ expected_after closer }
 {
     match closer {
         Closer::End => What::StatementOrEnd,

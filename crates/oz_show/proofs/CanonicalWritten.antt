@@ -12,7 +12,7 @@ use Rattle.kernel_syntax.specs.declared.stmt.Selector.TheVariants as selector
 use Rattle.kernel_syntax.specs.declared.stmt.Pattern.{Pattern}
 use Rattle.kernel_syntax.specs.declared.stmt.Pattern.TheVariants as pattern
 use Rattle.kernel_syntax.specs.Arithmetic.{is_word}
-use Rattle.kernel_syntax.specs.Scopes.{stmt_at, names_of, features_in}
+use Rattle.kernel_syntax.specs.Scopes.{stmt_at, named_positions, features_in}
 use Rattle.kernel_syntax.specs.Texts.{is_text_byte, IsText, IsFeature, IsSpelledPattern, HasTexts}
 use Rattle.kernel_syntax.specs.Preorder.{whole}
 use Rattle.kernel_syntax.specs.Program.{IsStmt, IsProgram}
@@ -22,8 +22,8 @@ use Rattle.oz_grammar.specs.declared.symbol.Symbol.{Symbol}
 use Rattle.oz_grammar.specs.declared.symbol.Symbol.TheVariants as t
 use Rattle.oz_grammar.specs.declared.symbol.BuiltIn.{BuiltIn}
 use Rattle.oz_grammar.specs.declared.symbol.BuiltIn.TheVariants as built
-use Rattle.oz_grammar.specs.Grammar.{ByVariable, ByMark, Value, ToVar, Calculates, Selects, ToInt, ToAtom, ToRecord, Tells, mark_symbol, names_text, field_text, fields_text, value_text, pattern_text, plain_text}
-use Rattle.oz_grammar.specs.Canonical.{name_at, names_from, built_in_name, mark_of, marked, slot_field, declared_fields, pattern_tree, calls_built_in, bodies_symbols, row_symbols, symbols_within, canonical_symbols}
+use Rattle.oz_grammar.specs.Grammar.{ByVariable, ByFeature, Value, ToVar, Calculates, Selects, ToInt, ToAtom, ToRecord, Tells, feature_symbol, names_text, field_text, fields_text, value_text, pattern_text, plain_text}
+use Rattle.oz_grammar.specs.Canonical.{name_at, names_from, built_in_name, feature_token, field_with_feature, slot_field, declared_fields, pattern_tree, calls_built_in, bodies_symbols, row_symbols, symbols_within, canonical_symbols}
 use Rattle.oz_grammar.specs.Table.{code_at}
 use Rattle.oz_grammar.proofs.CanonicalRows.{plain_tree, IsPlainRow}
 use Rattle.oz_grammar.proofs.Atoms.{is_atom_byte}
@@ -61,11 +61,11 @@ from_write : (count first : ℕ) (rest : List Symbol) → first + count < 2 ^ 32
 from_write zero first rest le w = w
 from_write (suc count) first rest le w = more (name_written first (omega (arith, le))) (from_write count (first + 1) rest (omega (arith, le)) w)
 
-mark_written : (f : Feature) → IsFeature f → IsWritten (mark_symbol (mark_of f))
+mark_written : (f : Feature) → IsFeature f → IsWritten (feature_symbol (feature_token f))
 mark_written (feature.Int z) good = fits_word z good
 mark_written (feature.Atom a) good = is_atom a good
 
-field_write : (f : Feature) (k : ℕ) (rest : List Symbol) → IsFeature f → k < 2 ^ 32 → Written rest → Written (field_text (marked (f, name_at k)) rest)
+field_write : (f : Feature) (k : ℕ) (rest : List Symbol) → IsFeature f → k < 2 ^ 32 → Written rest → Written (field_text (field_with_feature (f, name_at k)) rest)
 field_write f k rest good small w =
     more (mark_written f good) (more tt (more (name_written k small) w))
 
@@ -91,7 +91,7 @@ built_in_write b ks rest below w = more tt (more (built_in_written b) (names_wri
 value_write : (left : ℕ) (v : Value) (rest : List Symbol) → left < 2 ^ 32 → Written (value_text v rest) → Written (plain_text (Tells (name_at left) v) rest)
 value_write left v rest small w = more (name_written left small) (more tt w)
 
-row_writes : (row : Stmt) (rest : List Symbol) → IsPlainRow row → Below (2 ^ 32) (names_of row) → HasTexts row → Written rest → Written (plain_text (plain_tree row) rest)
+row_writes : (row : Stmt) (rest : List Symbol) → IsPlainRow row → Below (2 ^ 32) (named_positions row) → HasTexts row → Written rest → Written (plain_text (plain_tree row) rest)
 row_writes (stmt.Seq bodies) rest p below good w = absurd p
 row_writes (stmt.Local first count c) rest p below good w = absurd p
 row_writes (stmt.TellProc left first count c) rest p below good w = absurd p
@@ -110,7 +110,7 @@ row_writes (stmt.Calc left op a b) rest p below good w =
 row_writes (stmt.Select left source (selector.Var x)) rest p below good w =
     value_write left (Selects (name_at source) (ByVariable (name_at x))) rest below.0 (more (name_written source below.1.0) (more tt (more (name_written x below.1.1.0) w)))
 row_writes (stmt.Select left source (selector.Feature f)) rest p below good w =
-    value_write left (Selects (name_at source) (ByMark (mark_of f))) rest below.0 (more (name_written source below.1.0) (more tt (more (mark_written f good) w)))
+    value_write left (Selects (name_at source) (ByFeature (feature_token f))) rest below.0 (more (name_written source below.1.0) (more tt (more (mark_written f good) w)))
 row_writes (stmt.Call callee args) rest p below good w = more tt (more (name_written callee below.0) (names_write args (t.CloseCurly ∷ rest) below.1 (more tt w)))
 row_writes (stmt.Browse x) rest p below good w = built_in_write built.Browse (x ∷ []) rest below w
 row_writes (stmt.Wait x) rest p below good w = built_in_write built.Wait (x ∷ []) rest below w
@@ -129,7 +129,7 @@ pattern_writes (pattern.Rec label features) first rest good le w = more (is_atom
 record IsFit (row : Stmt) : Type 0 where
   limits : IsStmt row
   texts : HasTexts row
-  names : Below (2 ^ 32) (names_of row)
+  names : Below (2 ^ 32) (named_positions row)
 
 site_writes : (at : Option ℤ) (rest : List Symbol) → HasTexts (stmt.Thread at (code_at 0)) → Written rest → Written (Rattle.oz_grammar.specs.Grammar.opening_text (Rattle.oz_grammar.specs.Canonical.thread_opening at) rest)
 site_writes None rest good w = more tt w
@@ -173,7 +173,7 @@ module _ (body : CodeId → List Symbol → List Symbol) (writes : (c : CodeId) 
 fit_each : (p : List Stmt) → Each IsStmt p → Each HasTexts p → Each NamesFew p → Each IsFit p
 fit_each [] limits texts few = tt
 fit_each (st ∷ sts) limits texts few = (
-  record { limits = limits.0; texts = texts.0; names = each_more _ (λ (j : ℕ). j < 2 ^ 32) (names_of st) (λ j low. omega (arith, low)) few.0 },
+  record { limits = limits.0; texts = texts.0; names = each_more _ (λ (j : ℕ). j < 2 ^ 32) (named_positions st) (λ j low. omega (arith, low)) few.0 },
   fit_each sts limits.1 texts.1 few.1,
 )
 

@@ -3,8 +3,8 @@
 ghost use Rattle.std.specs.Prelude.{◌≡◌, [], ◌∷◌, OnOk, IfOk, IfSome, IfNone, codes, map, Some, Option, length, ◌<◌, ◌+◌, ◌^◌};
 ghost use Rattle.tree_node.specs.declared.node.Feature.{Feature};
 ghost use Rattle.oz_grammar.specs.declared.symbol.Symbol.TheVariants as t;
-ghost use Rattle.oz_grammar.specs.Grammar.{names_text, fields_text, mark_symbol, pattern_text};
-ghost use Rattle.oz_grammar.specs.Canonical.{name_at, names_from, mark_of, slot_field, declared_fields, pattern_tree};
+ghost use Rattle.oz_grammar.specs.Grammar.{names_text, fields_text, feature_symbol, pattern_text};
+ghost use Rattle.oz_grammar.specs.Canonical.{name_at, names_from, feature_token, slot_field, declared_fields, pattern_tree};
 ghost use Rattle.kernel_syntax.specs.Scopes.{features_in};
 
 use kernel_syntax::Pattern;
@@ -82,7 +82,7 @@ impl Symbols {
 
     /// Puts a feature.
     pub fn feature(&mut self, feature: &Feature) -> Result<(), AllocError>
-        ensures { OnOk result (self.new ≡ mark_symbol (mark_of feature.now) ∷ self.old) }
+        ensures { OnOk result (self.new ≡ feature_symbol (feature_token feature.now) ∷ self.old) }
     {
         match feature {
             Feature::Int(value) => self.put(Symbol::Integer(Some(*value))),

@@ -8,5 +8,5 @@ returns-clause-value c = search rules
 
 pub returns-clause-order : goal.returns-clause-order
 returns-clause-order c =
-    let value : c.row.result.now ≡ free c.args.self.now c.args.code = returns-clause-value c in
+    let value : c.free_at.result.now ≡ free c.args.self.now c.args.code = returns-clause-value c in
     subst (λ (ks : List ℕ). AreRising ks) (sym value) (free_ascends c.args.self.now c.args.code)

@@ -1,7 +1,7 @@
 use Rattle.std.proofs.Common.{◌≡◌, ◌≢◌, ◌+◌, ◌-◌, ◌++◌, [], ◌∷◌, true, false, Result, Ok, length, subst, sym, ◌∙◌, arith, rules}
 use Rattle.std.proofs.lemmas.Grind.{common_steps}
 use Rattle.std.proofs.lemmas.Result.{err_from_is_err_and}
-use Rattle.oz_grammar.specs.Points.{after}
+use Rattle.oz_grammar.specs.Points.{expected_after}
 use Rattle.oz_grammar.specs.Table.{code_at}
 use Rattle.oz_grammar.specs.declared.fault.Fault.{Fault}
 use Rattle.oz_grammar.specs.Reading.{Out, stmt_at, is_end_of}
@@ -32,7 +32,7 @@ others-loop-preserved t c =
     let count : length c.self.inside.rest.now + 1 - c.loop.counter ≡ (length c.self.inside.rest.now + 1 - (c.loop.counter + 1)) + 1 = omega arith in
     let pushed : c.push.new.self.items ≡ c.loop.numbers.items ++ code_at (length c.loop.self.rows - c.args.owner) ∷ [] = grind (arith, common_steps, c.in_ok-push.ensures.items) in
     let same_scope : c.statement.new.self.scope ≡ c.loop.self.scope = search rules in
-    let read : stmt_at c.args.depth c.loop.self.scope c.loop.self.rows (after c.args.closer) c.loop.self.rest ≡ Ok (c.statement.new.self.rows, c.statement.new.self.rest) = search rules in
+    let read : stmt_at c.args.depth c.loop.self.scope c.loop.self.rows (expected_after c.args.closer) c.loop.self.rest ≡ Ok (c.statement.new.self.rows, c.statement.new.self.rest) = search rules in
     record {
       read = rw (pushed, same_scope) (more_goes (stmt_at c.args.depth) c.args.closer c.args.owner c.loop.self.scope _ _ c.loop.numbers.items c.loop.self.rows c.loop.self.rest _ _ _ c.loop.invariant.read count open_ read);
       scope = search rules;

@@ -1,9 +1,0 @@
-use Rattle.std.proofs.Common.{◌≡◌, ◌≤◌, drop}
-use Rattle.oz_grammar.specs.Symbols.{number_after, number_of}
-use Rattle.oz_phrases.proofs.integer.magnitude.Given as goal
-
-abbrev pub invariant-loop-digit : goal.invariant-loop-digit
-invariant-loop-digit l = record {
-  value : number_after l.value (drop l.digit-index l.digits) ≡ number_of l.digits;
-  small : l.value ≤ 9223372036854776055;
-}

@@ -1,8 +1,0 @@
-use Rattle.std.proofs.Common.{◌∙◌, sym}
-use Rattle.oz_phrases.proofs.Interning.{found_spelled}
-use Rattle.oz_phrases.proofs.texts.Texts.text.Goals as goal
-
-pub returns-in_ok-copy-in-Some : goal.returns-in_ok-copy-in-Some
-returns-in_ok-copy-in-Some c =
-    c.in_ok-copy-in-Some.ensures
-    ∙ found_spelled c.self.inside.made.entries c.args.spelled.now c.in-Some.text.now c.self.invariant (sym c.in-Some.ensures.value)

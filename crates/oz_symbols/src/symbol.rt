@@ -1,0 +1,134 @@
+//! The symbol of each token.
+
+ghost use Rattle.std.specs.Prelude.{◌≡◌, ◌-◌, ◌++◌, IfOk, OnOk, take, drop, length};
+ghost use Rattle.oz_lexer.specs.Spelling.{unescaped};
+ghost use Rattle.oz_lexer.specs.Lexing.{lexeme_of};
+ghost use Rattle.oz_symbols.specs.Escapes.{meaning_of, meant, escapes};
+ghost use Rattle.oz_grammar.specs.Symbols.{word_symbol, sign_symbol, quoted_text, symbol_of};
+
+use crate::integer::integer_of;
+use crate::texts::Texts;
+use kernel_syntax::Op;
+use oz_grammar::Symbol;
+use oz_lexer::{Token, TokenKind};
+use std::alloc::{AllocError, Global};
+use tree_node::Text;
+
+#[tactic(auto, unfolding(oz_grammar::specs::Symbols::word_symbol))]
+fn word_symbol(word: &str) -> Symbol
+    ensures { result ≡ word_symbol word.now }
+{
+    match word {
+        "skip" => Symbol::Skip,
+        "local" => Symbol::Local,
+        "in" => Symbol::In,
+        "end" => Symbol::End,
+        "if" => Symbol::If,
+        "then" => Symbol::Then,
+        "else" => Symbol::Else,
+        "case" => Symbol::Case,
+        "of" => Symbol::Of,
+        "thread" => Symbol::Thread,
+        "at" => Symbol::At,
+        "try" => Symbol::Try,
+        "catch" => Symbol::Catch,
+        "raise" => Symbol::Raise,
+        "proc" => Symbol::Proc,
+        "div" => Symbol::Operator(Op::Div),
+        "mod" => Symbol::Operator(Op::Mod),
+        _ => Symbol::Unused,
+    }
+}
+
+#[tactic(auto, unfolding(oz_grammar::specs::Symbols::sign_symbol))]
+fn sign_symbol(sign: &str) -> Symbol
+    ensures { result ≡ sign_symbol sign.now }
+{
+    match sign {
+        "=" => Symbol::Equals,
+        "(" => Symbol::OpenRound,
+        ")" => Symbol::CloseRound,
+        "{" => Symbol::OpenCurly,
+        "}" => Symbol::CloseCurly,
+        "$" => Symbol::Dollar,
+        ":" => Symbol::Colon,
+        "." => Symbol::Dot,
+        "|" => Symbol::Bar,
+        "+" => Symbol::Operator(Op::Add),
+        "-" => Symbol::Operator(Op::Sub),
+        "*" => Symbol::Operator(Op::Mul),
+        "=<" => Symbol::Operator(Op::Le),
+        "<" => Symbol::Operator(Op::Lt),
+        ">=" => Symbol::Operator(Op::Ge),
+        ">" => Symbol::Operator(Op::Gt),
+        _ => Symbol::Unused,
+    }
+}
+
+fn meaning_of(byte: u8) -> u8
+    ensures { result ≡ meaning_of byte }
+{
+    if byte == b'n' { b'\n' } else { byte }
+}
+
+/// One byte more of what is spelled between quotes, behind a `\` that escapes or not, and whether it is one itself.
+fn unescape(text: &mut Vec<u8>, escaping: bool, byte: u8) -> Result<bool, AllocError>
+    ensures text { OnOk result (text.new.items ≡ text.old.items ++ meant escaping byte) }
+    ensures escapes { IfOk result (λ e. e ≡ escapes escaping byte) }
+{
+    if escaping {
+        text.push(meaning_of(byte))?;
+        Ok(false)
+    } else if byte == b'\\' {
+        Ok(true)
+    } else {
+        text.push(byte)?;
+        Ok(false)
+    }
+}
+
+/// The text that is spelled between quotes.
+fn unescaped(alloc: Global, spelled: &[u8]) -> Result<Vec<u8>, AllocError>
+    ensures { IfOk result (λ v. v.items ≡ unescaped spelled.now) }
+{
+    let mut text = Vec::new(alloc);
+    let mut escaping = false;
+    for byte in spelled {
+        escaping = unescape(&mut text, escaping, *byte)?;
+    }
+    if escaping {
+        text.push(b'\\')?;
+        return Ok(text);
+    }
+    Ok(text)
+}
+
+/// The text of an atom in quotes.
+fn quoted_text(alloc: Global, bytes: &[u8]) -> Result<Text, AllocError>
+    ensures { IfOk result (λ t. t ≡ quoted_text bytes.now) }
+{
+    let inner = if bytes.len() < 2 { 0 } else { bytes.len() - 2 };
+    let behind = bytes.split_at(bytes.len().min(1)).1;
+    let text = unescaped(alloc, behind.split_at(inner).0)?;
+    Ok(Text::from_vec(text)?)
+}
+
+/// The symbol of a token. The texts of names are among those that were made before, or are made.
+pub fn symbol_of<'t>(
+    alloc: Global,
+    texts: &mut Texts<'t>,
+    token: &Token<'t>,
+) -> Result<Symbol, AllocError>
+    ensures { IfOk result (λ s. s ≡ symbol_of (lexeme_of token.now)) }
+{
+    let bytes = token.text.as_bytes();
+    match token.kind {
+        TokenKind::Variable => Ok(Symbol::Variable(texts.text(token.text)?)),
+        TokenKind::Atom => Ok(Symbol::Atom(texts.text(token.text)?)),
+        TokenKind::Quoted => Ok(Symbol::Atom(quoted_text(alloc, bytes)?)),
+        TokenKind::Integer => Ok(Symbol::Integer(integer_of(bytes))),
+        TokenKind::Word => Ok(word_symbol(token.text)),
+        TokenKind::Sign => Ok(sign_symbol(token.text)),
+        TokenKind::End => Ok(Symbol::EndOfText),
+    }
+}
