@@ -8,7 +8,7 @@ use Rattle.tree_node.proofs.ClassLemmas.{Contains-head, Contains-tail, Contains-
 use Rattle.site_message.specs.declared.message.Msg.{Msg}
 use Rattle.site_message.specs.declared.message.Sent.{Sent}
 use Rattle.site_message.specs.declared.turn.Turn.{Turn}
-use Rattle.site_message.specs.declared.outcome.Reason.{Reason}
+use Rattle.site_message.specs.declared.reason.Reason.{Reason}
 use Rattle.site_message.specs.Journal.{Limits, IsTravelling, sent_of, travelling}
 use Rattle.site_message.specs.Story.{hand}
 use Rattle.site_message.proofs.JournalLemmas.{travelling_tells, kept, passed}

@@ -8,7 +8,7 @@ use Rattle.site_message.specs.Journal.{is_idle, is_quiet}
 use Rattle.site_message.specs.Story.{hand}
 use Rattle.site_message.proofs.JournalLemmas.{quiet_tells}
 use Rattle.message_book.specs.Inbox.{InboxState}
-use Rattle.message_book.specs.Book.{without}
+use Rattle.message_book.specs.Book.{without_delivered}
 use Rattle.message_book.specs.Inboxes.{AllHoldTravelling, IsQuietInbox, IsNewInbox, place, messages_at, number_of, hand_of, inbox_at, no_inbox, idle_at}
 use Rattle.wire_form.specs.Format.{spelling}
 use Rattle.message_book.proofs.Posts.{in_messages, to_messages, hand_at}
@@ -21,7 +21,7 @@ past (b ∷ bs) (suc i) above = past bs i (omega arith)
 pub empty_hands : (n : ℕ) (bs : List InboxState) → length bs ≡ n + 1 → ((i : ℕ) → i ≤ n → IsNewInbox i (inbox_at bs i)) → (i : ℕ) → hand i (map hand_of bs) ≡ []
 empty_hands n bs len empty i = hand_at bs i ∙ ⊎_elim (λ (above : n < i). ap hand_of (past bs i (omega arith))) (λ (below : i ≤ n). (empty i below).0) (cases_lt n i)
 
-pub without_none : (ks : List ℕ) → without None ks ≡ ks
+pub without_none : (ks : List ℕ) → without_delivered None ks ≡ ks
 without_none [] = refl
 without_none (k ∷ ks) = ap (λ l. k ∷ l) (without_none ks)
 

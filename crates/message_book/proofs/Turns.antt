@@ -5,15 +5,15 @@ use mathlib.Core.Logic.{dite}
 use native.Mathlib.Decide.{ℕ_discrete}
 use Rattle.site_message.specs.declared.message.Sent.{Sent}
 use Rattle.site_message.specs.declared.turn.Turn.{Turn}
-use Rattle.site_message.specs.declared.outcome.Reason.{Reason}
-use Rattle.site_message.specs.declared.outcome.Reason.TheVariants.{Memory, Messages, Steps, Quiet}
+use Rattle.site_message.specs.declared.reason.Reason.{Reason}
+use Rattle.site_message.specs.declared.reason.Reason.TheVariants.{Memory, Messages, Steps, Quiet}
 use Rattle.std.specs.Prelude.{◌&&◌}
 use Rattle.site_message.specs.Journal.{Limits, Wired, DeliversOnce, sent_of, is_number, is_idle, is_quiet, end_of}
 use Rattle.site_message.specs.Story.{hand}
 use Rattle.tree_node.proofs.ClassLemmas.{Contains-head, Contains-tail}
 use Rattle.std.proofs.lemmas.List.Elements.{Contains-append_left, filter-append}
 use Rattle.message_book.specs.Inbox.{InboxState, HoldsSame}
-use Rattle.message_book.specs.Book.{BookState, IsSiteOf, IsReason, without}
+use Rattle.message_book.specs.Book.{BookState, IsSiteOf, IsReason, without_delivered}
 use Rattle.message_book.specs.Inboxes.{HoldsTravelling, AllHoldTravelling, IsConsistent, IsAfterTurn, place, messages_at, number_of, hand_of, new_messages, letter_of, AllOfFormat, inbox_at, idle_at, reason_by}
 use Rattle.message_book.proofs.Travels.{messages_step, without_message, messages_ascend, LacksNumber, after_low, without_none_there, map_filter, right}
 use Rattle.site_message.specs.Rows.{Ascends}
@@ -115,8 +115,8 @@ module _ (l : Limits) (j : List Turn) (sent : ℕ) (bs : List InboxState) (r : O
   module _ (cs : List InboxState) (s : IsAfterTurn l.sites e.site e.delivered e.idle sent (map letter_of e.sent) bs cs) where
     hand_after : (i : ℕ) (b : HoldsTravelling l.sites j i (inbox_at bs i)) → (inbox_at cs i).hand ≡ map number_of (without_message e.delivered b.in_hand)
     hand_after i b = dite (ℕ_discrete i e.site)
-        (λ same. subst (λ (p : ℕ). (inbox_at cs p).hand ≡ without e.delivered (inbox_at bs p).hand) (sym same) s.here.0
-        ∙ (ap (without e.delivered) b.hand ∙ sym (map_filter number_of (λ (p : ℕ × List ℕ). not (is_number e.delivered p.0)) (λ (k : ℕ). not (is_number e.delivered k)) (λ p. refl) b.in_hand)))
+        (λ same. subst (λ (p : ℕ). (inbox_at cs p).hand ≡ without_delivered e.delivered (inbox_at bs p).hand) (sym same) s.here.0
+        ∙ (ap (without_delivered e.delivered) b.hand ∙ sym (map_filter number_of (λ (p : ℕ × List ℕ). not (is_number e.delivered p.0)) (λ (k : ℕ). not (is_number e.delivered k)) (λ p. refl) b.in_hand)))
         (λ other. (s.others i other).0 ∙ (b.hand ∙ ap (map number_of) (sym (gone_stays i b other e.delivered refl))))
 
     idle_after : (i : ℕ) → (inbox_at bs i).idle ≡ idle_at j i → (inbox_at cs i).idle ≡ idle_at (e ∷ j) i
@@ -161,8 +161,8 @@ module _ (l : Limits) (j : List Turn) (sent : ℕ) (bs : List InboxState) (r : O
     reason_after n t is found = found ∙ ap (λ k. reason_by (nat_lt l.messages k) (nat_le l.steps e.steps && not e.idle) e.site (is_quiet l.sites (e ∷ j)))
         (is ∙ (ap (λ m. m + length e.sent) kept.count ∙ sym (length-append (sent_of j) e.sent)))
 
-    pub hand_here : (v : BookState) → hand e.site (map hand_of bs) ≡ hand e.site v.hands → hand e.site (map hand_of cs) ≡ without e.delivered (hand e.site v.hands)
-    hand_here v is = hand_at cs e.site ∙ (s.here.0 ∙ ap (without e.delivered) (sym (hand_at bs e.site) ∙ is))
+    pub hand_here : (v : BookState) → hand e.site (map hand_of bs) ≡ hand e.site v.hands → hand e.site (map hand_of cs) ≡ without_delivered e.delivered (hand e.site v.hands)
+    hand_here v is = hand_at cs e.site ∙ (s.here.0 ∙ ap (without_delivered e.delivered) (sym (hand_at bs e.site) ∙ is))
 
     pub hand_there : (v : BookState) (i : ℕ) → i ≢ e.site → hand i (map hand_of bs) ≡ hand i v.hands → hand i (map hand_of cs) ≡ hand i v.hands
     hand_there v i other is = hand_at cs i ∙ ((s.others i other).0 ∙ (sym (hand_at bs i) ∙ is))

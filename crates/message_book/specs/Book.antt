@@ -4,8 +4,8 @@ use Rattle.std.specs.List.{filter}
 use Rattle.site_message.specs.declared.message.Msg.{Msg}
 use Rattle.site_message.specs.declared.turn.Turn.{Turn}
 use Rattle.site_message.specs.declared.story.Sight.{Sight}
-use Rattle.site_message.specs.declared.outcome.Reason.{Reason}
-use Rattle.site_message.specs.declared.outcome.Reason.TheVariants.{Memory}
+use Rattle.site_message.specs.declared.reason.Reason.{Reason}
+use Rattle.site_message.specs.declared.reason.Reason.TheVariants.{Memory}
 use Rattle.site_message.specs.Journal.{Limits, IsTravelling, is_number, end_of}
 use Rattle.site_message.specs.Story.{hand}
 use Rattle.wire_form.specs.Format.{Spells}
@@ -36,8 +36,8 @@ AreSites n [] = Unit {0}
 AreSites n (e ∷ j) = IsSiteOf n e.site × AreSites n j
 
 -- without the number that a turn delivered
-abbrev pub without : Option ℕ → List ℕ → List ℕ
-without o ks = filter (λ (k : ℕ). not (is_number o k)) ks
+abbrev pub without_delivered : Option ℕ → List ℕ → List ℕ
+without_delivered o ks = filter (λ (k : ℕ). not (is_number o k)) ks
 
 -- a message for the site i that no site has taken and no turn has delivered
 abbrev pub IsUntaken : BookState → ℕ → ℕ → Msg → Type 0

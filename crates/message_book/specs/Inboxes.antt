@@ -3,14 +3,14 @@ use Rattle.std.specs.Prelude.{◌≡◌, ◌≢◌, ℕ, zero, suc, ◌+◌, ◌
 use Rattle.std.specs.List.{filter, All}
 use Rattle.site_message.specs.declared.message.Sent.{Sent}
 use Rattle.site_message.specs.declared.turn.Turn.{Turn}
-use Rattle.site_message.specs.declared.outcome.Reason.{Reason}
-use Rattle.site_message.specs.declared.outcome.Reason.TheVariants.{Messages, Steps, Quiet}
+use Rattle.site_message.specs.declared.reason.Reason.{Reason}
+use Rattle.site_message.specs.declared.reason.Reason.TheVariants.{Messages, Steps, Quiet}
 use Rattle.site_message.specs.Journal.{Limits, Wired, sent_of, travelling, is_idle}
 use Rattle.tree_node.specs.Each.{Each}
 use Rattle.wire_form.specs.Format.{message, spelling}
 use Rattle.site_message.specs.Progress.{WentOn}
 use Rattle.message_book.specs.Inbox.{InboxState}
-use Rattle.message_book.specs.Book.{IsSiteOf, AreSites, IsReason, without}
+use Rattle.message_book.specs.Book.{IsSiteOf, AreSites, IsReason, without_delivered}
 
 -- where the messages to a site lie. Those to no site of the book lie at the place 0
 abbrev pub place : ℕ → ℕ → ℕ
@@ -92,7 +92,7 @@ IsQuietInbox b = (b.hand ≡ []) × (b.waiting ≡ []) × (b.idle ≡ true)
 -- what the turn of a site of n leaves: what it delivered is in hand no more, its site is idle or not, and what it sent waits
 pub record IsAfterTurn (n site : ℕ) (delivered : Option ℕ) (idle : Bool) (first : ℕ) (cs : List (ℕ × List ℕ)) (old new : List InboxState) : Type 0 where
   pub places : length new ≡ length old
-  pub here : ((inbox_at new site).hand ≡ without delivered (inbox_at old site).hand) × ((inbox_at new site).idle ≡ idle)
+  pub here : ((inbox_at new site).hand ≡ without_delivered delivered (inbox_at old site).hand) × ((inbox_at new site).idle ≡ idle)
   pub others : (i : ℕ) → i ≢ site → ((inbox_at new i).hand ≡ (inbox_at old i).hand) × ((inbox_at new i).idle ≡ (inbox_at old i).idle)
   pub waiting : (i : ℕ) → (inbox_at new i).waiting ≡ (inbox_at old i).waiting ++ new_messages n i first cs
 

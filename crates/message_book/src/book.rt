@@ -4,12 +4,12 @@ ghost use Rattle.std.specs.Prelude.{◌≡◌, ◌≢◌, ◌⊎◌, ℕ, List, 
 ghost use Rattle.site_message.specs.Journal.{Wired, IsTravelling, sent_of, is_quiet, end_of};
 ghost use Rattle.site_message.specs.Progress.{WentOn};
 ghost use Rattle.site_message.specs.Story.{hand};
-ghost use Rattle.message_book.specs.Book.{IsSiteOf, AreSites, IsUntaken, IsUntakenSpelling, IsReason, without, sight_of, first_reason};
+ghost use Rattle.message_book.specs.Book.{IsSiteOf, AreSites, IsUntaken, IsUntakenSpelling, IsReason, without_delivered, sight_of, first_reason};
 ghost use Rattle.message_book.specs.Inboxes.{IsNewInbox, IsQuietInbox, IsAfterTurn, HasRoom, AllHoldTravelling, reason_by, inbox_at};
 ghost use Rattle.message_book.specs.declared.posted.Posted.TheVariants.{Closed};
-ghost use Rattle.site_message.specs.declared.outcome.Reason.TheVariants.{Memory};
+ghost use Rattle.site_message.specs.declared.reason.Reason.TheVariants.{Memory};
 ghost use Rattle.site_message.specs.declared.message.Msg.{Msg};
-ghost use Rattle.site_message.specs.declared.outcome.Reason.{Reason};
+ghost use Rattle.site_message.specs.declared.reason.Reason.{Reason};
 ghost use Rattle.message_book.specs.Inbox.{HoldsSame};
 ghost use Rattle.site_message.specs.declared.turn.Turn.{Turn};
 
@@ -87,7 +87,7 @@ impl Book {
         ensures refused { OnErr result (self.new ≡ self.old) }
         ensures posted { OnOk result (self.new.journal ≡ turn ∷ self.old.journal) }
         ensures reason { OnOk result (self.new.reason ≡ end_of self.new.limits self.new.journal) }
-        ensures hand { OnOk result (hand turn.site self.new.hands ≡ without turn.delivered (hand turn.site self.old.hands)) }
+        ensures hand { OnOk result (hand turn.site self.new.hands ≡ without_delivered turn.delivered (hand turn.site self.old.hands)) }
         ensures other_hands { (i : ℕ) → i ≢ turn.site → hand i self.new.hands ≡ hand i self.old.hands }
         ensures limits { self.new.limits ≡ self.old.limits }
     {

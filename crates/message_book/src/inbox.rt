@@ -3,7 +3,7 @@
 ghost use Rattle.std.specs.Prelude.{◌≡◌, ◌+◌, ◌≤◌, ◌<◌, ◌++◌, ◌∷◌, [], ◌==◌, not, ◌↔◌, IsTrue, true, OnOk, MatchOption, vec_len, vec_capacity};
 ghost use Rattle.std.specs.List.{filter};
 ghost use Rattle.message_book.specs.Inbox.{HoldsSame};
-ghost use Rattle.message_book.specs.Book.{without};
+ghost use Rattle.message_book.specs.Book.{without_delivered};
 
 use std::alloc::{AllocError, Global};
 use std::collections::VecDeque;
@@ -92,7 +92,7 @@ impl Inbox {
 
     // What a turn of the site leaves: the message that it delivered is gone, and it is idle or not.
     pub(crate) fn apply_turn(&mut self, delivered: Option<u64>, idle: bool)
-        ensures hand { self.new.hand ≡ without delivered self.old.hand }
+        ensures hand { self.new.hand ≡ without_delivered delivered self.old.hand }
         ensures others { (self.new.waiting ≡ self.old.waiting) × (self.new.idle ≡ idle) }
         ensures room { self.old.room ≤ self.new.room }
     {

@@ -21,3 +21,5 @@ mod stores;
 mod streams;
 #[cfg(test)]
 mod variables;
+#[cfg(test)]
+mod wire;

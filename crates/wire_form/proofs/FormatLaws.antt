@@ -1,7 +1,7 @@
 -- Each field of the format is read by the function of its name.
 use Rattle.std.proofs.Common.{◌≡◌, ℕ, ◌+◌, Bool, true, false, cond, eqb, ltb, List, [], ◌∷◌, ◌++◌, length, Ok, Err, refl, sym, ap, ◌∙◌, arith, ◌⊎◌, inl, inr}
 use Rattle.std.specs.Int.{w8, w16, w32, w64}
-use Rattle.std.specs.declared.cmp.Ordering.{Ordering}
+use Rattle.std.specs.Ordering.{is_lt}
 use Rattle.std.specs.declared.cmp.Ordering.TheVariants.{Less, Equal, Greater}
 use Rattle.std.proofs.lemmas.Bool.{ltb-true, eqb-true, eq-eqb, ne_eqb, lt-ltb, true≢false, false≢true}
 use Rattle.tree_node.specs.declared.names.VarName.{VarName}
@@ -21,7 +21,7 @@ use Rattle.wire_form.specs.declared.fault.WireFault.{WireFault}
 use Rattle.wire_form.specs.declared.fault.WireFault.TheVariants.{Short, Kind, Range, Order}
 use Rattle.wire_form.specs.Field.{restriction, number, IsAbove, ◌then◌}
 use Rattle.wire_form.specs.Format.{site, name, var_name, cell_name, proc_name, thread_name, code, integer, text, feature, record_field, IsFeatureBelow, field_behind, record_fields, variables, formals, tree, procedure, term, equation, equation_behind, bundle, within}
-use Rattle.wire_form.specs.Reading.{Left, ◌and◌, map_at, filter_at, number_at, byte_within_at, name_at, var_name_at, cell_name_at, proc_name_at, thread_name_at, code_at, integer_at, text_at, key_at, feature_at, is_less, is_above, feature_below, name_below, field_at, fields_at, variables_at, record_at, procedure_at, node_at, term_at, equation_at, bundle_at, is_within}
+use Rattle.wire_form.specs.Reading.{Left, ◌and◌, map_at, filter_at, number_at, byte_within_at, name_at, var_name_at, cell_name_at, proc_name_at, thread_name_at, code_at, integer_at, text_at, key_at, feature_at, is_above, feature_below, name_below, field_at, fields_at, variables_at, record_at, procedure_at, node_at, term_at, equation_at, bundle_at, is_within}
 use Rattle.wire_form.proofs.FieldLaws.{IsBytes, Takes, IsRead, failed, err_is, no_ok, and_read, made_read, tested_read}
 use Rattle.wire_form.proofs.BaseLaws.{IsBytes-rest, number_read, wide16, wide32, wide64, within_read, byte_within_read, integer_read, text_read}
 use Rattle.wire_form.proofs.ListLaws.{listed_read}
@@ -106,13 +106,11 @@ above_no key below Below misses [] a e h = true≢false e
 above_no key below Below misses (x ∷ []) a e h = misses (key x) a e h
 above_no key below Below misses (x ∷ y ∷ xs) a e h = above_no key below Below misses (y ∷ xs) a e h
 
-less_yes : (o : Ordering) → is_less o ≡ true → o ≡ Less
-less_yes Less e = refl
-less_yes Equal e = absurd (false≢true e)
-less_yes Greater e = absurd (false≢true e)
+feature_yes : (a b : Feature) → feature_below a b ≡ true → IsFeatureBelow a b
+feature_yes a b e = elim (feature_cmp a b) as (λ o. is_lt o ≡ true → o ≡ Less) [ Less ↦ λ e. refl | Equal ↦ λ e. cc | Greater ↦ λ e. cc ] e
 
-less_no : (o : Ordering) → is_less o ≡ false → o ≡ Less → ⊥
-less_no o e h = false≢true (sym e ∙ ap is_less h)
+feature_no : (a b : Feature) → feature_below a b ≡ false → IsFeatureBelow a b → ⊥
+feature_no a b e h = false≢true (sym e ∙ ap is_lt h)
 
 name_yes : (a b : VarName) → name_below a b ≡ true → IsBelow a b
 name_yes a b e = elim (choice (eqb a.site b.site) (ltb a.num b.num) (ltb a.site b.site) e) [
@@ -136,8 +134,8 @@ field_read : (front : List (Feature × VarName)) → IsRead (field_behind front)
 unfolding field_at
 field_read front =
     let key : Feature × VarName → Feature = λ x. x.0 in
-    let holds = above_yes key feature_below IsFeatureBelow (λ a b e. less_yes (feature_cmp a b) e) front in
-    let misses = above_no key feature_below IsFeatureBelow (λ a b e. less_no (feature_cmp a b) e) front in
+    let holds = above_yes key feature_below IsFeatureBelow feature_yes front in
+    let misses = above_no key feature_below IsFeatureBelow feature_no front in
     let first = tested_read feature feature_at (IsAbove key IsFeatureBelow front) (is_above key feature_below front) (λ at. Order at) holds misses feature_read in
     and_read (restriction (IsAbove key IsFeatureBelow front) (λ at. Order at) feature) var_name (filter_at (is_above key feature_below front) (λ at. Order at) feature_at) var_name_at first var_name_read
 

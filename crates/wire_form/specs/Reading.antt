@@ -1,10 +1,9 @@
 -- Reading from left to right, as functions on lists: what the decoder's parts give, for the proof that they give what the
 -- format says.
-use Rattle.std.specs.Prelude.{◌≡◌, ℕ, zero, suc, ◌+◌, ◌⊎◌, ◌&&◌, List, [], ◌∷◌, ◌++◌, length, take, drop, ℤ, Bool, true, false, Result, Ok, Err, nat_lt, nat_le, ◌==◌, if◌then◌else◌}
+use Rattle.std.specs.Prelude.{◌≡◌, ℕ, zero, suc, ◌+◌, ◌⊎◌, ◌&&◌, List, [], ◌∷◌, ◌++◌, length, take, drop, ℤ, Bool, true, Result, Ok, Err, nat_lt, nat_le, ◌==◌, if◌then◌else◌}
 use Rattle.std.specs.Int.{Width, w16, w32, w64, byte_len, from_be_bytes, cast_signed}
 use Rattle.std.specs.Str.{is_utf8}
-use Rattle.std.specs.declared.cmp.Ordering.{Ordering}
-use Rattle.std.specs.declared.cmp.Ordering.TheVariants.{Less, Equal, Greater}
+use Rattle.std.specs.Ordering.{is_lt}
 use Rattle.tree_node.specs.declared.names.VarName.{VarName}
 use Rattle.tree_node.specs.declared.names.CellName.{CellName}
 use Rattle.tree_node.specs.declared.names.ProcName.{ProcName}
@@ -131,11 +130,6 @@ list_at count item l = do
   n ← count l
   items_at item n.0 [] n.1
 
-abbrev pub is_less : Ordering → Bool
-is_less Less = true
-is_less Equal = false
-is_less Greater = false
-
 -- a key above that of the last item
 abbrev pub is_above : {X A : Type 0} → (X → A) → (A → A → Bool) → List X → A → Bool
 is_above key below [] a = true
@@ -143,7 +137,7 @@ is_above key below (x ∷ []) a = below (key x) a
 is_above key below (x ∷ y ∷ xs) a = is_above key below (y ∷ xs) a
 
 abbrev pub feature_below : Feature → Feature → Bool
-feature_below a b = is_less (feature_cmp a b)
+feature_below a b = is_lt (feature_cmp a b)
 
 abbrev pub name_below : VarName → VarName → Bool
 name_below a b = if a.site == b.site then nat_lt a.num b.num else nat_lt a.site b.site

@@ -13,9 +13,10 @@
 //!
 //! Stands on: `site_message`, `tree_node`; `thiserror` for the texts of the faults, on which nothing rests.
 //!
-//! By tests alone: that ample memory suffices. The tests try the worked rows on both directions too, each with bytes cut off,
-//! added and exchanged, as another program, written from the format alone, says. Cost is told by no clause: each byte is written
-//! and read once; `encode` takes memory once for the bytes, and `decode` by what stands, whatever the counts promise.
+//! By tests alone: that ample memory suffices. The tests, in `unit_tests`, try the worked rows on both directions too, each with
+//! bytes cut off, added and exchanged, as another program, written from the format alone, says. Cost is told by no clause: each
+//! byte is written and read once; `encode` takes memory once for the bytes, and `decode` by what stands, whatever the counts
+//! promise.
 //!
 //! Sources: the format is this project's own; UTF-8 is that of the Unicode standard. What the messages are for is of the articles
 //! that `site_message` names.
@@ -27,8 +28,6 @@ mod laws;
 mod names;
 mod reading;
 mod size;
-#[cfg(test)]
-mod tests;
 mod writing;
 
 pub use fault::WireFault;

@@ -1,11 +1,11 @@
-// Messages as bytes: worked rows, each with what comes of it when one byte is another. The outcomes were worked out from
-// the format by another program.
+//! Messages as bytes: worked rows, each with what comes of it when one byte is another. The outcomes were worked out from
+//! the format by another program.
 
-use crate::{WireFault, decode, encode};
 use site_message::{Bundle, Msg, wire_fits};
 use std::alloc::{AllocError, Global};
 use std::test::Fail;
 use tree_node::{CodeId, ThreadName, VarName, Vars};
+use wire_form::{WireFault, decode, encode};
 
 fn digit(byte: u8) -> u8 {
     match byte {
@@ -150,6 +150,50 @@ fn others() -> [(usize, usize, usize, u8, WireFault); 19] {
     ]
 }
 
+// Texts that spell no message, with their faults.
+fn other_texts() -> [(&'static str, WireFault); 11] {
+    [
+        ("", WireFault::Short(0)),
+        ("08", WireFault::Kind(0)),
+        // the fields of a record exchanged, and one feature twice
+        (
+            "04 02 0000000000000000 03 01 66 02 01 01 61 01 0000000000000005 00 0000000000000001 01 0000000000000004 0000",
+            WireFault::Order(26),
+        ),
+        (
+            "04 02 0000000000000000 03 01 66 02 01 01 61 01 0000000000000005 01 01 61 01 0000000000000005 0000",
+            WireFault::Order(26),
+        ),
+        // the names of a bundle exchanged, one name twice, and an unknown site before its order
+        (
+            "07 01 0000000000000000 01 0000000000000001 0002 01 0000000000000003 00 01 0000000000000001 01 0000000000000002 00 01 0000000000000001",
+            WireFault::Order(40),
+        ),
+        (
+            "07 01 0000000000000000 01 0000000000000001 0002 01 0000000000000003 00 01 0000000000000001 01 0000000000000003 00 01 0000000000000001",
+            WireFault::Order(40),
+        ),
+        (
+            "07 01 0000000000000000 01 0000000000000001 0002 01 0000000000000003 00 01 0000000000000001 00 0000000000000002 00 01 0000000000000001",
+            WireFault::Range(40),
+        ),
+        // counts that promise more than stands: names, equations and the bytes of a text that is no UTF-8
+        (
+            "01 01 0000000000000000 00000000 ffff 01 0000000000000001",
+            WireFault::Short(25),
+        ),
+        (
+            "07 01 0000000000000000 01 0000000000000001 0100",
+            WireFault::Short(21),
+        ),
+        (
+            "07 01 0000000000000000 01 0000000000000001 0101",
+            WireFault::Range(19),
+        ),
+        ("04 01 0000000000000002 02 02 ff", WireFault::Short(13)),
+    ]
+}
+
 fn other_of(row: usize, place: usize, value: u8) -> Option<WireFault> {
     for (at, first, last, set, fault) in others() {
         if at == row && first <= place && place <= last && set == value {
@@ -216,47 +260,7 @@ fn other_bytes_have_these_faults(rt: HostRuntime) -> Result<(), Fail> {
 
 #[test]
 fn other_texts_have_these_faults(rt: HostRuntime) -> Result<(), Fail> {
-    let rows = [
-        ("", WireFault::Short(0)),
-        ("08", WireFault::Kind(0)),
-        // the fields of a record exchanged, and one feature twice
-        (
-            "04 02 0000000000000000 03 01 66 02 01 01 61 01 0000000000000005 00 0000000000000001 01 0000000000000004 0000",
-            WireFault::Order(26),
-        ),
-        (
-            "04 02 0000000000000000 03 01 66 02 01 01 61 01 0000000000000005 01 01 61 01 0000000000000005 0000",
-            WireFault::Order(26),
-        ),
-        // the names of a bundle exchanged, one name twice, and an unknown site before its order
-        (
-            "07 01 0000000000000000 01 0000000000000001 0002 01 0000000000000003 00 01 0000000000000001 01 0000000000000002 00 01 0000000000000001",
-            WireFault::Order(40),
-        ),
-        (
-            "07 01 0000000000000000 01 0000000000000001 0002 01 0000000000000003 00 01 0000000000000001 01 0000000000000003 00 01 0000000000000001",
-            WireFault::Order(40),
-        ),
-        (
-            "07 01 0000000000000000 01 0000000000000001 0002 01 0000000000000003 00 01 0000000000000001 00 0000000000000002 00 01 0000000000000001",
-            WireFault::Range(40),
-        ),
-        // counts that promise more than stands: names, equations and the bytes of a text that is no UTF-8
-        (
-            "01 01 0000000000000000 00000000 ffff 01 0000000000000001",
-            WireFault::Short(25),
-        ),
-        (
-            "07 01 0000000000000000 01 0000000000000001 0100",
-            WireFault::Short(21),
-        ),
-        (
-            "07 01 0000000000000000 01 0000000000000001 0101",
-            WireFault::Range(19),
-        ),
-        ("04 01 0000000000000002 02 02 ff", WireFault::Short(13)),
-    ];
-    for (text, fault) in rows {
+    for (text, fault) in other_texts() {
         let bytes = bytes_of(rt.alloc(), text)?;
         assert_eq!(rt; fault_of(rt.alloc(), &bytes)?, Some(fault), "{text}");
     }
