@@ -6,7 +6,7 @@ ghost use Rattle.variable_owner.specs.Owners.{IsMade};
 ghost use Rattle.bind_protocol.specs.Records.{IsKnowledge, TakesNews, knowledge};
 ghost use Rattle.bind_protocol.specs.Rows.{after_meet, meet_sends, after_want, want_sends, after_message, message_sends};
 ghost use Rattle.bind_protocol.specs.World.{Holds, Grows, IsFront, IsSiteOf, IsMadeIn, known_at, new_records, new_world, after_make_at, after_meet_at, after_meeting, after_want_at, takes_message, met_first, after_arrival, after_delivery, field_vars, vars_of};
-ghost use Rattle.site_message.specs.declared.outcome.DeliverError.TheVariants.{NotThere};
+ghost use Rattle.site_message.specs.declared.reason.DeliverError.TheVariants.{NotThere};
 ghost use Rattle.bind_protocol.specs.Count.{RowsCount, RowsHear, CountsJoin, CountsGoOn, CountedOnce, MessagesComeReady};
 ghost use Rattle.bind_protocol.specs.Learn.{RowsTeach, KnownStays};
 ghost use Rattle.bind_protocol.specs.Equations.{RowsKeepEquations, EquationsJoin, EquationsGoOn};

@@ -7,7 +7,7 @@ use Rattle.atomic_table.specs.Table.{State, Me, Step}
 pub use Rattle.tree_node.specs.Each.{Each}
 use Rattle.site_message.specs.declared.story.Sight.{Sight}
 use Rattle.site_message.specs.declared.turn.Turn.{Turn}
-use Rattle.site_message.specs.declared.outcome.Reason.{Reason}
+use Rattle.site_message.specs.declared.reason.Reason.{Reason}
 use Rattle.site_message.specs.Story.{own, hand}
 use Rattle.book_lock.specs.declared.view.Part.{Part}
 use Rattle.book_lock.specs.declared.view.View.{View}

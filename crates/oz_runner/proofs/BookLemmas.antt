@@ -1,8 +1,8 @@
 -- What a finished book tells of the run that workers made.
 use Rattle.std.proofs.Common.{◌≡◌, sym, subst, refl, List, Some, inl, inr}
 use Rattle.site_message.specs.declared.turn.Turn.{Turn}
-use Rattle.site_message.specs.declared.outcome.Reason.{Reason}
-use Rattle.site_message.specs.declared.outcome.Reason.TheVariants.{Memory}
+use Rattle.site_message.specs.declared.reason.Reason.{Reason}
+use Rattle.site_message.specs.declared.reason.Reason.TheVariants.{Memory}
 use Rattle.site_message.specs.Journal.{Limits}
 use Rattle.site_message.specs.Progress.{WentOn}
 use Rattle.message_book.specs.Book.{IsReason}

@@ -5,8 +5,8 @@ use Rattle.tree_node.specs.State.{State}
 use Rattle.kernel_syntax.specs.declared.stmt.Stmt.{Stmt}
 use Rattle.oz_model.specs.Laws.{CellsAreChains}
 use Rattle.site_message.specs.Journal.{end_of}
-use Rattle.site_message.specs.declared.outcome.Reason.{Reason}
-use Rattle.site_message.specs.declared.outcome.Reason.TheVariants as reason
+use Rattle.site_message.specs.declared.reason.Reason.{Reason}
+use Rattle.site_message.specs.declared.reason.Reason.TheVariants as reason
 use Rattle.central_machine.specs.Ran.{EndsAt, HasReason}
 use Rattle.central_machine.specs.declared.run.Ran.{Ran}
 use Rattle.central_machine.specs.declared.run.Reason as stop
@@ -24,7 +24,7 @@ alone a OfSites OfMachine is holds = subst (λ (a : Action). OfSitesOrMachine a 
 
 module _ (p : List Stmt) (options : Options) (s : State) (left : Ran) (is : options.action ≡ action.Central) (chain : CellsAreChains) (ends : EndsAt p options.steps s left) where
   abbrev by_machine : Made
-  by_machine = made_of [] left.picks.items left.lines.items
+  by_machine = made_of [] left.picks left.lines.items
 
   machine_run : HasOneEach s.equations → IsRun p options by_machine s
   machine_run once = record {
@@ -32,7 +32,7 @@ module _ (p : List Stmt) (options : Options) (s : State) (left : Ran) (is : opti
     run = ends.run;
     lines = ends.lines;
     once = once;
-    chains = λ c. chain p left.picks.items s c ends.run;
+    chains = λ c. chain p left.picks s c ends.run;
   }
 
   machine_end : (why : Reason) → HasOneEach s.equations → StopsFor p options by_machine s why → HasEnded p options by_machine why s
@@ -57,5 +57,5 @@ module _ (p : List Stmt) (options : Options) (s : State) (left : Ran) (is : opti
 
 -- a run of the machine comes to the status of its reason
 pub machine_came : (p : List Stmt) (options : Options) (s : State) (left : Ran) → options.action ≡ action.Central → CellsAreChains → EndsAt p options.steps s left
-    → CameTo p options (made_of [] left.picks.items left.lines.items) (status_after left.reason left.ended left.waiting)
+    → CameTo p options (made_of [] left.picks left.lines.items) (status_after left.reason left.ended left.waiting)
 machine_came p options s left is chain ends = came_for p options s left is chain ends left.reason ends.reason

@@ -6,8 +6,8 @@ use Rattle.tree_node.specs.declared.pick.Pick.{Pick}
 use Rattle.oz_model.specs.Laws.{AtMostOneEnd, CellsAreChains}
 use Rattle.oz_model.specs.Run.{Run, start}
 use Rattle.kernel_syntax.specs.declared.stmt.Stmt.{Stmt}
-use Rattle.site_message.specs.declared.outcome.Reason.{Reason}
-use Rattle.site_message.specs.declared.outcome.Reason.TheVariants as reason
+use Rattle.site_message.specs.declared.reason.Reason.{Reason}
+use Rattle.site_message.specs.declared.reason.Reason.TheVariants as reason
 use Rattle.site_message.specs.declared.turn.Turn.{Turn}
 use Rattle.site_message.specs.Journal as journal
 use Rattle.site_message.specs.Journal.{are_idle, end_of, is_empty, is_quiet, sent_of, travelling}

@@ -1,7 +1,7 @@
 -- What the work left: the status of a run's end, the journal, the schedule and the lines, and whether they are of sites.
 use Rattle.std.specs.Prelude.{ℕ, List, []}
-use Rattle.site_message.specs.declared.outcome.Reason.{Reason}
-use Rattle.site_message.specs.declared.outcome.Reason.TheVariants as reason
+use Rattle.site_message.specs.declared.reason.Reason.{Reason}
+use Rattle.site_message.specs.declared.reason.Reason.TheVariants as reason
 use Rattle.site_message.specs.declared.turn.Turn.{Turn}
 use Rattle.world_model.specs.Schedule.{lines_in}
 use Rattle.oz_words.specs.declared.options.Action.{Action}

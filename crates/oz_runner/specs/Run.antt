@@ -9,9 +9,9 @@ use Rattle.oz_model.specs.Laws.{IsChainOf}
 use Rattle.oz_model.specs.Run.{Run, AtRest, exchanges, contents_given}
 use Rattle.site_message.specs.Journal.{Limits, end_of, is_idle, sent_of, travelling}
 use Rattle.site_message.specs.Progress.{WentOn}
-use Rattle.site_message.specs.declared.outcome.Reason.{Reason}
+use Rattle.site_message.specs.declared.reason.Reason.{Reason}
 use Rattle.site_message.specs.declared.turn.Turn.{Turn}
-use Rattle.site_message.specs.declared.outcome.Reason.TheVariants.{Quiet, Steps, Messages}
+use Rattle.site_message.specs.declared.reason.Reason.TheVariants.{Quiet, Steps, Messages}
 use Rattle.site_model.specs.Bundle.{bundle_limit}
 use Rattle.site_model.specs.Site.{Site}
 use Rattle.world_model.specs.Schedule.{schedule, lines_in}

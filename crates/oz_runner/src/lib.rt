@@ -26,14 +26,15 @@
 #![tactic(auto)]
 
 mod machine;
+mod oz_call;
 mod program;
 mod report;
 mod run;
 mod system;
-mod top;
 mod work;
 mod write;
 
+pub use oz_call::oz;
 pub use oz_show::Status;
 pub use oz_words::command;
 pub use plain_run::RunOut;
@@ -41,4 +42,3 @@ pub use program::run_program;
 pub use report::Report;
 pub use site_worker::{Bounds, Gate, OpenGate};
 pub use system::start;
-pub use top::oz;

@@ -25,7 +25,7 @@ pub fn run_machine(alloc: Global, options: Options, program: &Program) -> Work
     exchanges_are_a_chain();
     Work {
         status: status_after(ran.reason, ran.ended, ran.waiting),
-        schedule: Schedule::from_vec(alloc, ran.picks),
+        schedule: Schedule::from_picks(alloc, ran.picks),
         printed: Printed::Machine(ran.lines),
     }
 }

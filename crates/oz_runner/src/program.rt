@@ -1,7 +1,7 @@
 //! The run of a program over its sites, whatever drives them.
 
 ghost use Rattle.std.specs.Prelude.{◌≡◌, ◌≤◌, Some};
-ghost use Rattle.site_message.specs.declared.outcome.Reason.{Reason};
+ghost use Rattle.site_message.specs.declared.reason.Reason.{Reason};
 ghost use Rattle.site_message.specs.Progress.{WentOn};
 ghost use Rattle.message_book.specs.Book.{IsReason};
 ghost use Rattle.world_model.specs.Schedule.{schedule, sum_to};

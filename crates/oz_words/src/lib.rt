@@ -15,8 +15,8 @@
 //! that they are taken where there is memory.
 #![tactic(auto)]
 
+mod command_line;
 mod options;
-mod taken;
 
+pub use command_line::command;
 pub use options::{Action, Options, WordsError, read_options};
-pub use taken::command;

@@ -7,7 +7,7 @@ ghost use Rattle.oz_words.specs.Command.{NumberOption, IsWithin, action_names, a
 ghost use Rattle.oz_words.specs.Parsed.{HasValue, HasNumber, MayHaveSize, Parses};
 ghost use Rattle.oz_words.specs.Words.{ReadsWords, InRange, IsActionInRange, Says, NamesAction, ReadsAction};
 
-use crate::taken::command;
+use crate::command_line::command;
 use clap::ArgMatches;
 use clap::error::ErrorKind;
 use std::alloc::Global;

@@ -11,8 +11,8 @@ use Rattle.site_message.specs.declared.message.Msg.{Msg}
 use Rattle.site_message.specs.declared.message.Msg.TheVariants as msg
 use Rattle.site_message.specs.declared.message.Sent.{Sent}
 use Rattle.site_message.specs.declared.turn.Turn.{Turn}
-use Rattle.site_message.specs.declared.outcome.Reason.{Reason}
-use Rattle.site_message.specs.declared.outcome.Reason.TheVariants.{Messages, Steps, Quiet}
+use Rattle.site_message.specs.declared.reason.Reason.{Reason}
+use Rattle.site_message.specs.declared.reason.Reason.TheVariants.{Messages, Steps, Quiet}
 use Rattle.site_message.specs.Journal as journal
 use Rattle.site_message.specs.Journal.{IsTravelling, sent_of, end_of, is_quiet}
 use Rattle.site_message.proofs.JournalLemmas.{quiet_tells}

@@ -28,7 +28,7 @@ use Rattle.bind_protocol.specs.Rows.{sent_message, binding, register, register_a
 use Rattle.token_chain.specs.Rows.{Reply, leave_reply, forward_reply, get_reply, exchange_reply}
 use Rattle.token_chain.specs.Mail.{sent_as}
 use Rattle.token_chain.specs.Mail as token
-use Rattle.site_model.specs.Bundle.{bundled, all_bundled, message_bundle, message_vars}
+use Rattle.site_model.specs.Bundle.{with_own_bundle, with_own_bundles, message_bundle, message_vars}
 use Rattle.site_model.specs.Site.{Site, cell_record}
 use Rattle.site_model.specs.Transition.{Transition, without_output, with_messages}
 use Rattle.site_model.specs.Variables.{with_known_equations, own_bind, own_binds, opening}
@@ -58,11 +58,11 @@ module _ (p : List Stmt) (n limit : ℕ) (some : 1 ≤ n) where
   abbrev All : Transition → Type 0
   All d = Each Q d.sent
 
-  told_each : (s : Store) (x : VarName) (t : Term) (ks : List ℕ) → Each Q (all_bundled limit s (map (λ (k : ℕ). binding x t k) ks))
+  told_each : (s : Store) (x : VarName) (t : Term) (ks : List ℕ) → Each Q (with_own_bundles limit s (map (λ (k : ℕ). binding x t k) ks))
   told_each s x t [] = tt
   told_each s x t (k ∷ ks) = (tt, told_each s x t ks)
 
-  answered : (s : Store) (x : VarName) (k : ℕ) (o : Option Owner) → Each Q (all_bundled limit s (register_answer o x k))
+  answered : (s : Store) (x : VarName) (k : ℕ) (o : Option Owner) → Each Q (with_own_bundles limit s (register_answer o x k))
   answered s x k None = tt
   answered s x k (Some (Open ks)) = tt
   answered s x k (Some (Bound t)) = (tt, tt)
@@ -85,11 +85,11 @@ module _ (p : List Stmt) (n limit : ℕ) (some : 1 ≤ n) where
       let b = own_binds limit es s in
       each_append Q b.sent (own_bind limit e.0 e.1 b.site).sent (binds_all es s) (told_each ((e.0, e.1) ∷ b.site.equations) e.0 e.1 (sites_of (owner_of b.site.records.owners e.0)))
 
-  cell_each : (c : CellName) (s : Store) (ms : List token.Mail) → Each Q (all_bundled limit s (map (sent_as c) ms))
+  cell_each : (c : CellName) (s : Store) (ms : List token.Mail) → Each Q (with_own_bundles limit s (map (sent_as c) ms))
   cell_each c s [] = tt
   cell_each c s (m ∷ ms) = (one m, cell_each c s ms)
     where
-      one : (m : token.Mail) → Q (bundled limit s (sent_as c m))
+      one : (m : token.Mail) → Q (with_own_bundle limit s (sent_as c m))
       one (token.Get k) = tt
       one (token.Forward a b) = tt
       one (token.Put h v) = tt
@@ -112,7 +112,7 @@ module _ (p : List Stmt) (n limit : ℕ) (some : 1 ≤ n) where
   bears_all None s = tt
   bears_all (Some b) s = go (placement n s.records.site b.at == s.records.site) refl
     where
-      go : (c : Bool) → (placement n s.records.site b.at == s.records.site) ≡ c → All (cond c (without_output (with_thread p (Some b) s)) (with_messages s (bundled limit s.equations (sent_message (placement n s.records.site b.at) (msg.Spawn b.name b.code b.vars [])) ∷ [])))
+      go : (c : Bool) → (placement n s.records.site b.at == s.records.site) ≡ c → All (cond c (without_output (with_thread p (Some b) s)) (with_messages s (with_own_bundle limit s.equations (sent_message (placement n s.records.site b.at) (msg.Spawn b.name b.code b.vars [])) ∷ [])))
       go true q = tt
       go false q = (placed b.at s.records.site q, tt)
 

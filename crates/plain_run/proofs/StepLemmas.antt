@@ -25,7 +25,7 @@ use Rattle.thread_roster.specs.declared.mode.Mode.TheVariants as mode
 use Rattle.thread_roster.specs.Threads.{is_waiting, waiting_of}
 use Rattle.token_chain.specs.declared.token.Token.{Token}
 use Rattle.token_chain.specs.declared.token.Token.TheVariants.{Away, Asked, Here}
-use Rattle.site_model.specs.Bundle.{bundled, message_bundle}
+use Rattle.site_model.specs.Bundle.{with_own_bundle, message_bundle}
 use Rattle.site_model.specs.Site.{Site, ThreadState, Threads, cell_record, is_idle, thread_state}
 use Rattle.site_model.specs.Transition.{Transition, without_output, with_messages}
 use Rattle.site_model.specs.Variables.{with_known_equation_as, with_known_equation, with_known_equations, opening, own_binds}
@@ -88,7 +88,7 @@ birth_steps : (p : List Stmt) (n limit : ℕ) (b : Option Birth) (s : Site) → 
 birth_steps p n limit None s = refl
 birth_steps p n limit (Some b) s = by (placement n s.records.site b.at == s.records.site)
   where
-    by : (c : Bool) → (cond c (without_output (with_thread p (Some b) s)) (with_messages s (bundled limit s.equations (sent_message (placement n s.records.site b.at) (msg.Spawn b.name b.code b.vars [])) ∷ []))).site.steps ≡ s.steps
+    by : (c : Bool) → (cond c (without_output (with_thread p (Some b) s)) (with_messages s (with_own_bundle limit s.equations (sent_message (placement n s.records.site b.at) (msg.Spawn b.name b.code b.vars [])) ∷ []))).site.steps ≡ s.steps
     by true = refl
     by false = refl
 

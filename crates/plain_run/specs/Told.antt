@@ -1,6 +1,6 @@
 -- What is told of a run that was driven.
 use Rattle.std.specs.Prelude.{◌≡◌, ◌⊎◌, []}
-use Rattle.site_message.specs.declared.outcome.Reason.TheVariants.{Memory}
+use Rattle.site_message.specs.declared.reason.Reason.TheVariants.{Memory}
 use Rattle.plain_run.specs.declared.out.Driven.{Driven}
 use Rattle.plain_run.specs.declared.out.RunOut.{RunOut}
 

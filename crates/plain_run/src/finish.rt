@@ -3,7 +3,7 @@
 ghost use Rattle.std.specs.Prelude.{◌≡◌, []};
 ghost use Rattle.world_model.specs.Schedule.{schedule, sum_to};
 ghost use Rattle.world_model.specs.Simulated.{last_ended, last_waiting};
-ghost use Rattle.site_message.specs.declared.outcome.Reason.TheVariants.{Memory};
+ghost use Rattle.site_message.specs.declared.reason.Reason.TheVariants.{Memory};
 ghost use Rattle.site_message.specs.Progress.{WentOn};
 ghost use Rattle.world_core.specs.Laws.{HasRun, AreMessagesFew};
 ghost use Rattle.plain_run.specs.Going.{AreLimits, HasReason, limits_of};

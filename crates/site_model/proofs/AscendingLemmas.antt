@@ -10,7 +10,7 @@ use Rattle.tree_node.specs.Store.{Store, Equation, equal_var}
 use Rattle.tree_node.proofs.ClassLemmas.{same_name_decides, same_name_refl}
 use Rattle.site_message.specs.Wire.{NamesAscend}
 use Rattle.site_model.specs.Bundle.{option_list, distinct_vars, known_equations, reachable_vars, reachable_equations, is_below, insert_ascending, ascending}
-use Rattle.site_model.specs.Laws.{names_of, BundlesAreOrdered}
+use Rattle.site_model.specs.Laws.{left_names, BundlesAreOrdered}
 
 -- of two different names one is below the other
 one_below : (a b : VarName) → equal_var a b ≡ false → is_below a b ≡ false → is_below b a ≡ true
@@ -49,11 +49,11 @@ insert_both a b differ (d ∷ ds) = go (is_below d.0 a.0) (is_below d.0 b.0) ref
         last false false k l = let yes : is_below b.0 a.0 ≡ true = one_below a.0 b.0 differ l in cc
 
 -- an equation of another name, put in last or first
-pub ascending_more : (es : List Equation) (e : Equation) → list_any (equal_var e.0) (names_of es) ≡ false → ascending (es ++ e ∷ []) ≡ insert_ascending e (ascending es)
+pub ascending_more : (es : List Equation) (e : Equation) → list_any (equal_var e.0) (left_names es) ≡ false → ascending (es ++ e ∷ []) ≡ insert_ascending e (ascending es)
 ascending_more [] e new = refl
 ascending_more (d ∷ es) e new = go (equal_var e.0 d.0) refl new (λ k. ascending_more es e k)
   where
-    go : (b : Bool) → equal_var e.0 d.0 ≡ b → (b || list_any (equal_var e.0) (names_of es)) ≡ false → (list_any (equal_var e.0) (names_of es) ≡ false → ascending (es ++ e ∷ []) ≡ insert_ascending e (ascending es)) →
+    go : (b : Bool) → equal_var e.0 d.0 ≡ b → (b || list_any (equal_var e.0) (left_names es)) ≡ false → (list_any (equal_var e.0) (left_names es) ≡ false → ascending (es ++ e ∷ []) ≡ insert_ascending e (ascending es)) →
         insert_ascending d (ascending (es ++ e ∷ [])) ≡ insert_ascending e (insert_ascending d (ascending es))
     go true q k ih = cc
     go false q k ih = ap (λ (l : List Equation). insert_ascending d l) (ih k) ∙ sym (insert_both e d q (ascending es))
@@ -65,15 +65,15 @@ or_other true false c = refl
 or_other false true c = refl
 or_other false false c = refl
 
-insert_names : (p : VarName → Bool) (e : Equation) (ds : List Equation) → list_any p (names_of (insert_ascending e ds)) ≡ (p e.0 || list_any p (names_of ds))
+insert_names : (p : VarName → Bool) (e : Equation) (ds : List Equation) → list_any p (left_names (insert_ascending e ds)) ≡ (p e.0 || list_any p (left_names ds))
 insert_names p e [] = refl
 insert_names p e (d ∷ ds) = go (is_below d.0 e.0) (insert_names p e ds)
   where
-    go : (b : Bool) → list_any p (names_of (insert_ascending e ds)) ≡ (p e.0 || list_any p (names_of ds)) → list_any p (names_of (cond b (d ∷ insert_ascending e ds) (e ∷ d ∷ ds))) ≡ (p e.0 || (p d.0 || list_any p (names_of ds)))
-    go true ih = ap (λ (o : Bool). p d.0 || o) ih ∙ or_other (p d.0) (p e.0) (list_any p (names_of ds))
+    go : (b : Bool) → list_any p (left_names (insert_ascending e ds)) ≡ (p e.0 || list_any p (left_names ds)) → list_any p (left_names (cond b (d ∷ insert_ascending e ds) (e ∷ d ∷ ds))) ≡ (p e.0 || (p d.0 || list_any p (left_names ds)))
+    go true ih = ap (λ (o : Bool). p d.0 || o) ih ∙ or_other (p d.0) (p e.0) (list_any p (left_names ds))
     go false ih = refl
 
-pub ascending_names : (p : VarName → Bool) (es : List Equation) → list_any p (names_of (ascending es)) ≡ list_any p (names_of es)
+pub ascending_names : (p : VarName → Bool) (es : List Equation) → list_any p (left_names (ascending es)) ≡ list_any p (left_names es)
 ascending_names p [] = refl
 ascending_names p (e ∷ es) = insert_names p e (ascending es) ∙ ap (λ (o : Bool). p e.0 || o) (ascending_names p es)
 
@@ -94,18 +94,18 @@ ascending_length (e ∷ es) = insert_length e (ascending es) ∙ ap suc (ascendi
 
 abbrev StandOnce : List Equation → Type 0
 StandOnce [] = Unit {0}
-StandOnce (e ∷ es) = (list_any (equal_var e.0) (names_of es) ≡ false) × StandOnce es
+StandOnce (e ∷ es) = (list_any (equal_var e.0) (left_names es) ≡ false) × StandOnce es
 
 -- a name that was seen is not taken again
-not_again : (s : Store) (x : VarName) (xs seen : List VarName) → list_any (equal_var x) seen ≡ true → list_any (equal_var x) (names_of (known_equations s (distinct_vars seen xs))) ≡ false
+not_again : (s : Store) (x : VarName) (xs seen : List VarName) → list_any (equal_var x) seen ≡ true → list_any (equal_var x) (left_names (known_equations s (distinct_vars seen xs))) ≡ false
 not_again s x [] seen h = refl
 not_again s x (y ∷ xs) seen h = go (list_any (equal_var y) seen) refl (not_again s x xs seen h) (λ k. not_again s x xs (y ∷ seen) k)
   where
     rest : List Equation
     rest = known_equations s (distinct_vars (y ∷ seen) xs)
 
-    go : (b : Bool) → list_any (equal_var y) seen ≡ b → list_any (equal_var x) (names_of (known_equations s (distinct_vars seen xs))) ≡ false → ((equal_var x y || list_any (equal_var x) seen) ≡ true → list_any (equal_var x) (names_of rest) ≡ false) →
-        list_any (equal_var x) (names_of (known_equations s (cond b (distinct_vars seen xs) (y ∷ distinct_vars (y ∷ seen) xs)))) ≡ false
+    go : (b : Bool) → list_any (equal_var y) seen ≡ b → list_any (equal_var x) (left_names (known_equations s (distinct_vars seen xs))) ≡ false → ((equal_var x y || list_any (equal_var x) seen) ≡ true → list_any (equal_var x) (left_names rest) ≡ false) →
+        list_any (equal_var x) (left_names (known_equations s (cond b (distinct_vars seen xs) (y ∷ distinct_vars (y ∷ seen) xs)))) ≡ false
     go true e f g = f
     go false e f g = by (value_of equal_var s y)
       where
@@ -113,12 +113,12 @@ not_again s x (y ∷ xs) seen h = go (list_any (equal_var y) seen) refl (not_aga
         apart false q = refl
         apart true q = let clash : list_any (equal_var y) seen ≡ true = subst (λ (z : VarName). list_any (equal_var z) seen ≡ true) ((same_name_decides x y).0 q) h in cc
 
-        later : list_any (equal_var x) (names_of rest) ≡ false
+        later : list_any (equal_var x) (left_names rest) ≡ false
         later = g (ap (λ (b : Bool). b || list_any (equal_var x) seen) (apart (equal_var x y) refl) ∙ h)
 
-        by : (o : Option Term) → list_any (equal_var x) (names_of (map (λ (t : Term). (y, t)) (option_list o) ++ rest)) ≡ false
+        by : (o : Option Term) → list_any (equal_var x) (left_names (map (λ (t : Term). (y, t)) (option_list o) ++ rest)) ≡ false
         by None = later
-        by (Some t) = ap (λ (b : Bool). b || list_any (equal_var x) (names_of rest)) (apart (equal_var x y) refl) ∙ later
+        by (Some t) = ap (λ (b : Bool). b || list_any (equal_var x) (left_names rest)) (apart (equal_var x y) refl) ∙ later
 
 known_once : (s : Store) (xs seen : List VarName) → StandOnce (known_equations s (distinct_vars seen xs))
 known_once s [] seen = tt
@@ -135,12 +135,12 @@ known_once s (y ∷ xs) seen = go (list_any (equal_var y) seen) (known_once s xs
         by None = g
         by (Some t) = (not_again s y xs (y ∷ seen) (ap (λ (b : Bool). b || list_any (equal_var y) seen) (same_name_refl y)), g)
 
-take_none : (p : VarName → Bool) (n : ℕ) (es : List Equation) → list_any p (names_of es) ≡ false → list_any p (names_of (take n es)) ≡ false
+take_none : (p : VarName → Bool) (n : ℕ) (es : List Equation) → list_any p (left_names es) ≡ false → list_any p (left_names (take n es)) ≡ false
 take_none p zero es h = refl
 take_none p (suc n) [] h = refl
 take_none p (suc n) (e ∷ es) h = go (p e.0) refl h (λ k. take_none p n es k)
   where
-    go : (b : Bool) → p e.0 ≡ b → (b || list_any p (names_of es)) ≡ false → (list_any p (names_of es) ≡ false → list_any p (names_of (take n es)) ≡ false) → (b || list_any p (names_of (take n es))) ≡ false
+    go : (b : Bool) → p e.0 ≡ b → (b || list_any p (left_names es)) ≡ false → (list_any p (left_names es) ≡ false → list_any p (left_names (take n es)) ≡ false) → (b || list_any p (left_names (take n es))) ≡ false
     go true q k ih = cc
     go false q k ih = ih k
 
@@ -166,7 +166,7 @@ under_then : (d : Equation) (es : List Equation) → IsUnder d es → NamesAscen
 under_then d [] u h = tt
 under_then d (e ∷ es) u h = (u, h)
 
-insert_ordered : (e : Equation) (ds : List Equation) → NamesAscend ds → list_any (equal_var e.0) (names_of ds) ≡ false → NamesAscend (insert_ascending e ds)
+insert_ordered : (e : Equation) (ds : List Equation) → NamesAscend ds → list_any (equal_var e.0) (left_names ds) ≡ false → NamesAscend (insert_ascending e ds)
 insert_ordered e [] h new = tt
 insert_ordered e (d ∷ ds) h new = go (is_below d.0 e.0) (equal_var e.0 d.0) refl refl new (λ k. insert_ordered e ds (under_first d ds h).1 k)
   where
@@ -178,7 +178,7 @@ insert_ordered e (d ∷ ds) h new = go (is_below d.0 e.0) (equal_var e.0 d.0) re
         by true = u
         by false = low
 
-    go : (b c : Bool) → is_below d.0 e.0 ≡ b → equal_var e.0 d.0 ≡ c → (c || list_any (equal_var e.0) (names_of ds)) ≡ false → (list_any (equal_var e.0) (names_of ds) ≡ false → NamesAscend (insert_ascending e ds)) →
+    go : (b c : Bool) → is_below d.0 e.0 ≡ b → equal_var e.0 d.0 ≡ c → (c || list_any (equal_var e.0) (left_names ds)) ≡ false → (list_any (equal_var e.0) (left_names ds) ≡ false → NamesAscend (insert_ascending e ds)) →
         NamesAscend (cond b (d ∷ insert_ascending e ds) (e ∷ d ∷ ds))
     go b true q r k ih = cc
     go true false q r k ih = under_then d (insert_ascending e ds) (under (below_yes d.0 e.0 q) ds (under_first d ds h).0) (ih k)

@@ -29,14 +29,14 @@ use Rattle.bind_protocol.specs.Records.{Records, knowledge}
 use Rattle.bind_protocol.specs.Rows.{after_make, register_sends, ask_sends, binding}
 use Rattle.bind_protocol.proofs.LookLemmas.{in_here, in_other}
 use Rattle.token_chain.specs.Rows.{Reply}
-use Rattle.site_model.specs.Bundle.{bundle_of, with_bundle, bundled, all_bundled}
+use Rattle.site_model.specs.Bundle.{bundle_of, with_bundle, with_own_bundle, with_own_bundles}
 use Rattle.site_model.specs.Site.{Site, Counters, cell_record}
 use Rattle.site_model.specs.Transition.{Transition, without_output, with_pick, with_lines, sequence, and_then}
 use Rattle.site_model.specs.Variables.{after_makes, with_own_equation, own_bind, own_binds}
 use Rattle.site_model.specs.Cells.{cell_reply, serving, leave_row, put_row, request_row}
 use Rattle.site_model.specs.Messages.{bind_request_as, message_row}
 use Rattle.site_model.specs.Unit.{next_names, counter_after, fresh_names, with_fresh_names, birth_row, placement, after_effect, step_row, step_pick, effect_here, thread_step, IsStepOrRequest, bind_attempt, IsUnitFor}
-use Rattle.site_model.specs.Laws.{filled, RowsFillLast, UnitsFillLast}
+use Rattle.site_model.specs.Laws.{with_bundles, RowsFillLast, UnitsFillLast}
 use Rattle.site_model.proofs.EffectLemmas.{AddsFresh, IsBindEffect, stack_adds, bind_effect}
 
 -- ---- a bundle in the place of another
@@ -50,29 +50,29 @@ message_again limit s es (msg.Get c k) = refl
 message_again limit s es (msg.Forward c k) = refl
 message_again limit s es (msg.Put c v bundle) = refl
 
-bundled_again : (limit k : ℕ) (s t : Store) (ms : List Sent) → all_bundled limit s (all_bundled k t ms) ≡ all_bundled limit s ms
+bundled_again : (limit k : ℕ) (s t : Store) (ms : List Sent) → with_own_bundles limit s (with_own_bundles k t ms) ≡ with_own_bundles limit s ms
 bundled_again limit k s t [] = refl
 bundled_again limit k s t (m ∷ ms) =
-    ap (λ (g : Msg). record m { msg = g } ∷ all_bundled limit s (all_bundled k t ms)) (message_again limit s (bundle_of k t m.msg) m.msg)
-    ∙ ap (λ (l : List Sent). bundled limit s m ∷ l) (bundled_again limit k s t ms)
+    ap (λ (g : Msg). record m { msg = g } ∷ with_own_bundles limit s (with_own_bundles k t ms)) (message_again limit s (bundle_of k t m.msg) m.msg)
+    ∙ ap (λ (l : List Sent). with_own_bundle limit s m ∷ l) (bundled_again limit k s t ms)
 
 -- ---- parts that send nothing come first
 
-quiet_first : (limit : ℕ) (q d : Transition) → q.sent ≡ [] → sequence q (filled limit d) ≡ filled limit (sequence q d)
+quiet_first : (limit : ℕ) (q d : Transition) → q.sent ≡ [] → sequence q (with_bundles limit d) ≡ with_bundles limit (sequence q d)
 quiet_first limit q d none =
     ap (λ (l : List Sent). record (sequence q d) { sent = l })
-    (subst (λ (l : List Sent). l ++ all_bundled limit d.site.equations d.sent ≡ all_bundled limit d.site.equations (l ++ d.sent)) (sym none) refl)
+    (subst (λ (l : List Sent). l ++ with_own_bundles limit d.site.equations d.sent ≡ with_own_bundles limit d.site.equations (l ++ d.sent)) (sym none) refl)
 
 -- ---- cells
 
-reply_filled : (limit : ℕ) (c : CellName) (queue : List ThreadName) (r : Reply) (s : Site) → cell_reply limit c queue r s ≡ filled limit (cell_reply 0 c queue r s)
+reply_filled : (limit : ℕ) (c : CellName) (queue : List ThreadName) (r : Reply) (s : Site) → cell_reply limit c queue r s ≡ with_bundles limit (cell_reply 0 c queue r s)
 reply_filled limit c queue r s = ap (λ (l : List Sent). record (cell_reply limit c queue r s) { sent = l }) (sym (bundled_again limit 0 s.equations s.equations _))
 
 serving_quiet : (p : List Stmt) (c : CellName) (ns : List ThreadName) (v : VarName) (s : Site) → (serving p c ns v s).sent ≡ []
 serving_quiet p c [] v s = refl
 serving_quiet p c (n ∷ ns) v s = serving_quiet p c ns _ _
 
-put_filled : (p : List Stmt) (limit : ℕ) (c : CellName) (v : VarName) (s : Site) → put_row p limit c v s ≡ filled limit (put_row p 0 c v s)
+put_filled : (p : List Stmt) (limit : ℕ) (c : CellName) (v : VarName) (s : Site) → put_row p limit c v s ≡ with_bundles limit (put_row p 0 c v s)
 put_filled p limit c v s =
     ap (λ (d : Transition). sequence served d) (reply_filled limit c _ _ served.site)
     ∙ quiet_first limit served (leave_row 0 c served.site) (serving_quiet p c (cell_record s c).queue v s)
@@ -126,7 +126,7 @@ binds_quiet : (limit : ℕ) (es : List Equation) (s : Site) → Each (λ (q : Eq
 binds_quiet limit [] s h = refl
 binds_quiet limit (e ∷ es) s h =
     ap (λ (d : Transition). and_then d (own_bind limit e.0 e.1)) (binds_quiet limit es s h.1)
-    ∙ ap (λ (ks : List ℕ). record (without_output (with_own_equation before e.0 e.1)) { sent = all_bundled limit ((e.0, e.1) ∷ before.equations) (map (λ k. binding e.0 e.1 k) ks) })
+    ∙ ap (λ (ks : List ℕ). record (without_output (with_own_equation before e.0 e.1)) { sent = with_own_bundles limit ((e.0, e.1) ∷ before.equations) (map (λ k. binding e.0 e.1 k) ks) })
     (binds_unasked es s e.0 h.0)
   where
     before : Site
@@ -134,18 +134,18 @@ binds_quiet limit (e ∷ es) s h =
 
 -- ---- steps
 
-birth_filled : (p : List Stmt) (n limit : ℕ) (b : Option Birth) (s : Site) → birth_row p n limit b s ≡ filled limit (birth_row p n 0 b s)
+birth_filled : (p : List Stmt) (n limit : ℕ) (b : Option Birth) (s : Site) → birth_row p n limit b s ≡ with_bundles limit (birth_row p n 0 b s)
 birth_filled p n limit None s = refl
 birth_filled p n limit (Some b) s = go (placement n s.records.site b.at == s.records.site) refl
   where
-    go : (c : Bool) → (placement n s.records.site b.at == s.records.site) ≡ c → birth_row p n limit (Some b) s ≡ filled limit (birth_row p n 0 (Some b) s)
+    go : (c : Bool) → (placement n s.records.site b.at == s.records.site) ≡ c → birth_row p n limit (Some b) s ≡ with_bundles limit (birth_row p n 0 (Some b) s)
     go true q = rw q refl
     go false q = rw q refl
 
 -- a step whose binds send nothing
 quiet_step : (p : List Stmt) (n limit : ℕ) (k : Pick) (kinds : List NameKind) (e : Effect) (s : Site) → Each (λ (q : Equation). IsUnasked (with_fresh_names kinds s).records.owners q.0) e.adds →
-    step_row p n limit k kinds e s ≡ filled limit (step_row p n 0 k kinds e s)
-quiet_step p n limit k kinds e s h = row limit ∙ (ap (λ (d : Transition). sequence bound d) (birth_filled p n limit e.born bound.site) ∙ (quiet_first limit bound (birth_row p n 0 e.born bound.site) refl ∙ ap (filled limit) (sym (row 0))))
+    step_row p n limit k kinds e s ≡ with_bundles limit (step_row p n 0 k kinds e s)
+quiet_step p n limit k kinds e s h = row limit ∙ (ap (λ (d : Transition). sequence bound d) (birth_filled p n limit e.born bound.site) ∙ (quiet_first limit bound (birth_row p n 0 e.born bound.site) refl ∙ ap (with_bundles limit) (sym (row 0))))
   where
     named : Transition
     named = with_pick (with_fresh_names kinds s) k
@@ -163,8 +163,8 @@ no_more : {X : Type 0} (xs : List X) → (xs ++ []) ++ [] ≡ xs
 no_more xs = append-nil (xs ++ []) ∙ append-nil xs
 
 -- a step that binds
-bind_step : (p : List Stmt) (n limit : ℕ) (k : Pick) (e : Effect) (u : VarName) (t : Term) (st : Stack) (s : Site) → IsBindEffect e (u, t) st → step_row p n limit k [] e s ≡ filled limit (step_row p n 0 k [] e s)
-bind_step p n limit k e u t st s is = subst (λ (f : Effect). step_row p n limit k [] f s ≡ filled limit (step_row p n 0 k [] f s)) (sym is) row
+bind_step : (p : List Stmt) (n limit : ℕ) (k : Pick) (e : Effect) (u : VarName) (t : Term) (st : Stack) (s : Site) → IsBindEffect e (u, t) st → step_row p n limit k [] e s ≡ with_bundles limit (step_row p n 0 k [] e s)
+bind_step p n limit k e u t st s is = subst (λ (f : Effect). step_row p n limit k [] f s ≡ with_bundles limit (step_row p n 0 k [] f s)) (sym is) row
   where
     bind : Effect
     bind = record { adds = (u, t) ∷ []; stack = st; line = None; born = None; cell = Stays }
@@ -175,10 +175,10 @@ bind_step p n limit k e u t st s is = subst (λ (f : Effect). step_row p n limit
     asked : List Sent
     asked = ask_sends (with_fresh_names [] s).records u t
 
-    sent : (all_bundled limit after asked ++ []) ++ [] ≡ all_bundled limit after ((all_bundled 0 after asked ++ []) ++ [])
-    sent = no_more (all_bundled limit after asked) ∙ (sym (bundled_again limit 0 after after asked) ∙ ap (all_bundled limit after) (sym (no_more (all_bundled 0 after asked))))
+    sent : (with_own_bundles limit after asked ++ []) ++ [] ≡ with_own_bundles limit after ((with_own_bundles 0 after asked ++ []) ++ [])
+    sent = no_more (with_own_bundles limit after asked) ∙ (sym (bundled_again limit 0 after after asked) ∙ ap (with_own_bundles limit after) (sym (no_more (with_own_bundles 0 after asked))))
 
-    row : step_row p n limit k [] bind s ≡ filled limit (step_row p n 0 k [] bind s)
+    row : step_row p n limit k [] bind s ≡ with_bundles limit (step_row p n 0 k [] bind s)
     row = ap (λ (l : List Sent). record (step_row p n 0 k [] bind s) { sent = l }) sent
 
 -- ---- units
@@ -192,27 +192,27 @@ next_kinds i c (kind.Thread ∷ ks) = ap (λ (l : List NameKind). kind.Thread �
 
 module _ (p : List Stmt) (n limit : ℕ) (th : ThreadName) (s : Site) (st : Stack) where
   step_filled : (kinds : List NameKind) → stack_need p s.equations st ≡ Takes kinds →
-      thread_step p n limit th st kinds (fresh_names s kinds) None s ≡ filled limit (thread_step p n 0 th st kinds (fresh_names s kinds) None s)
+      thread_step p n limit th st kinds (fresh_names s kinds) None s ≡ with_bundles limit (thread_step p n 0 th st kinds (fresh_names s kinds) None s)
   step_filled kinds need = quiet_step p n limit (step_pick th (fresh_names s kinds) None) kinds (effect_here p s (fresh_names s kinds) None st) s
       (adds_unasked (with_fresh_names kinds s).records.owners (fresh_names s kinds) (effect_here p s (fresh_names s kinds) None st).adds
       (made_unasked s.records (vars_among (fresh_names s kinds))) (stack_adds p s.equations (fresh_names s kinds) st kinds need (next_kinds s.records.site s.counters kinds)))
 
-  request_filled : (c : CellName) (new : VarName) → request_row limit c new th st s ≡ filled limit (request_row 0 c new th st s)
+  request_filled : (c : CellName) (new : VarName) → request_row limit c new th st s ≡ with_bundles limit (request_row 0 c new th st s)
   request_filled c new = reply_filled limit c _ _ _
 
-  named_filled : (few many : Transition) (change : CellChange) (d : Transition) → many ≡ filled limit few → IsStepOrRequest 0 th st s few change d → IsStepOrRequest limit th st s many change (filled limit d)
-  named_filled few many Stays d row h = ap (filled limit) h ∙ sym row
-  named_filled few many (Made c v) d row h = ap (filled limit) h ∙ sym row
-  named_filled few many (Exchanged c new told) d row (inl h) = inl (h.0, ap (filled limit) h.1 ∙ sym row)
-  named_filled few many (Exchanged c new told) d row (inr h) = inr (h.0, ap (filled limit) h.1 ∙ sym (request_filled c new))
+  named_filled : (few many : Transition) (change : CellChange) (d : Transition) → many ≡ with_bundles limit few → IsStepOrRequest 0 th st s few change d → IsStepOrRequest limit th st s many change (with_bundles limit d)
+  named_filled few many Stays d row h = ap (with_bundles limit) h ∙ sym row
+  named_filled few many (Made c v) d row h = ap (with_bundles limit) h ∙ sym row
+  named_filled few many (Exchanged c new told) d row (inl h) = inl (h.0, ap (with_bundles limit) h.1 ∙ sym row)
+  named_filled few many (Exchanged c new told) d row (inr h) = inr (h.0, ap (with_bundles limit) h.1 ∙ sym (request_filled c new))
 
-  attempt_filled : (a b : Term) (u : VarName) (t : Term) (own : Bool) → stack_need p s.equations st ≡ Binds a b → bind_attempt p n limit th st u t own s ≡ filled limit (bind_attempt p n 0 th st u t own s)
+  attempt_filled : (a b : Term) (u : VarName) (t : Term) (own : Bool) → stack_need p s.equations st ≡ Binds a b → bind_attempt p n limit th st u t own s ≡ with_bundles limit (bind_attempt p n 0 th st u t own s)
   attempt_filled a b u t true need = bind_step p n limit (step_pick th [] (Some (u, t))) (effect_here p s [] (Some (u, t)) st) u t st s (bind_effect p s.equations st a b (u, t) need)
   attempt_filled a b u t false need = refl
 
-  unit_filled : (need : Need) (d : Transition) → stack_need p s.equations st ≡ need → IsUnitFor p n 0 s th st need d → IsUnitFor p n limit s th st need (filled limit d)
-  unit_filled (Waits x) d is (z, class, e) = (z, class, ap (filled limit) e)
-  unit_filled (Binds a b) d is (u, t, root, e) = (u, t, root, ap (filled limit) e ∙ sym (attempt_filled a b u t (u.site == s.records.site) is))
+  unit_filled : (need : Need) (d : Transition) → stack_need p s.equations st ≡ need → IsUnitFor p n 0 s th st need d → IsUnitFor p n limit s th st need (with_bundles limit d)
+  unit_filled (Waits x) d is (z, class, e) = (z, class, ap (with_bundles limit) e)
+  unit_filled (Binds a b) d is (u, t, root, e) = (u, t, root, ap (with_bundles limit) e ∙ sym (attempt_filled a b u t (u.site == s.records.site) is))
   unit_filled (Takes kinds) d is h =
       named_filled (thread_step p n 0 th st kinds (fresh_names s kinds) None s) (thread_step p n limit th st kinds (fresh_names s kinds) None s)
       (effect_here p s (fresh_names s kinds) None st).cell d (step_filled kinds is) h
@@ -222,7 +222,7 @@ units_fill_last p n limit th s d (st, runs, h) = (st, runs, unit_filled p n limi
 
 -- ---- rows of messages
 
-request_as_filled : (known : Option (Option Term)) (limit : ℕ) (x : VarName) (t : Term) (n : ThreadName) (s : Site) → bind_request_as known limit x t n s ≡ filled limit (bind_request_as known 0 x t n s)
+request_as_filled : (known : Option (Option Term)) (limit : ℕ) (x : VarName) (t : Term) (n : ThreadName) (s : Site) → bind_request_as known limit x t n s ≡ with_bundles limit (bind_request_as known 0 x t n s)
 request_as_filled None limit x t n s = refl
 request_as_filled (Some (Some r)) limit x t n s = refl
 request_as_filled (Some None) limit x t n s =

@@ -87,11 +87,11 @@ with_bundle es (msg.Put c content bundle) = msg.Put c content es
 with_bundle es m = m
 
 -- the message with its bundle from a site with these equations
-abbrev pub bundled : ℕ → Store → Sent → Sent
-bundled limit s m = record m { msg = with_bundle (bundle_of limit s m.msg) m.msg }
+abbrev pub with_own_bundle : ℕ → Store → Sent → Sent
+with_own_bundle limit s m = record m { msg = with_bundle (bundle_of limit s m.msg) m.msg }
 
-abbrev pub all_bundled : ℕ → Store → List Sent → List Sent
-all_bundled limit s ms = map (bundled limit s) ms
+abbrev pub with_own_bundles : ℕ → Store → List Sent → List Sent
+with_own_bundles limit s ms = map (with_own_bundle limit s) ms
 
 -- the equations that a message carries
 abbrev pub message_bundle : Msg → List Equation

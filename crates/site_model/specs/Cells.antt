@@ -18,7 +18,7 @@ use Rattle.token_chain.specs.declared.token.Token.TheVariants.{Away, Here}
 use Rattle.token_chain.specs.Mail.{sent_as}
 use Rattle.token_chain.specs.Rows.{Reply, leave_reply, forward_reply, get_reply, exchange_reply}
 use Rattle.site_model.specs.Site.{Site, ThreadState, cell_record, with_cell_record, last_asker, thread_state}
-use Rattle.site_model.specs.Bundle.{all_bundled}
+use Rattle.site_model.specs.Bundle.{with_own_bundles}
 use Rattle.site_model.specs.Transition.{Transition, without_output, with_messages, with_pick, and_then}
 
 -- ---- replies
@@ -26,7 +26,7 @@ use Rattle.site_model.specs.Transition.{Transition, without_output, with_message
 -- the site keeps what the reply says, with these threads waiting, and sends its messages
 abbrev pub cell_reply : ℕ → CellName → List ThreadName → Reply → Site → Transition
 cell_reply limit c queue r s =
-    with_messages (with_cell_record s c (record { held = r.held; queue = queue })) (all_bundled limit s.equations (map (sent_as c) r.sent))
+    with_messages (with_cell_record s c (record { held = r.held; queue = queue })) (with_own_bundles limit s.equations (map (sent_as c) r.sent))
 
 -- Forward(c, k): k is the successor, and a token that is here and that nobody waits for goes to it
 abbrev pub forward_row : ℕ → CellName → ℕ → Site → Transition

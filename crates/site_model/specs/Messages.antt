@@ -13,7 +13,7 @@ use Rattle.oz_model.specs.Step.{threads_born}
 use Rattle.bind_protocol.specs.Records.{knowledge}
 use Rattle.bind_protocol.specs.Rows.{after_register, register_sends}
 use Rattle.site_model.specs.Site.{Site, runnable_threads}
-use Rattle.site_model.specs.Bundle.{all_bundled}
+use Rattle.site_model.specs.Bundle.{with_own_bundles}
 use Rattle.site_model.specs.Transition.{Transition, without_output, with_messages, with_pick, and_then}
 use Rattle.site_model.specs.Variables.{with_known_equation, own_bind, opening}
 use Rattle.site_model.specs.Cells.{forward_row, get_row, put_row}
@@ -28,7 +28,7 @@ birth n code vars = record { at = None; name = n; code = code; vars = vars }
 -- Register(x, k): k joins the sites of an unbound x; a bound x is answered by a Binding to k
 abbrev pub register_row : ℕ → VarName → ℕ → Site → Transition
 register_row limit x k s =
-    with_messages (record s { records = after_register s.records x k }) (all_bundled limit s.equations (register_sends s.records x k))
+    with_messages (record s { records = after_register s.records x k }) (with_own_bundles limit s.equations (register_sends s.records x k))
 
 -- the pick of a thread that binds x to t
 abbrev pub bind_pick : ThreadName → VarName → Term → Pick

@@ -28,7 +28,7 @@ use Rattle.token_chain.specs.declared.token.Token.{Token}
 use Rattle.token_chain.specs.declared.token.Token.TheVariants.{Here}
 use Rattle.token_chain.specs.Holding.{here_with}
 use Rattle.site_model.specs.Site.{Site, ThreadState, Counters, thread_state, cell_record, with_cell_record}
-use Rattle.site_model.specs.Bundle.{bundled}
+use Rattle.site_model.specs.Bundle.{with_own_bundle}
 use Rattle.site_model.specs.Transition.{Transition, without_output, with_messages, with_pick, with_lines, and_then}
 use Rattle.site_model.specs.Variables.{after_makes, own_binds}
 use Rattle.site_model.specs.Cells.{exchange_stack, request_row}
@@ -82,7 +82,7 @@ abbrev pub birth_row : List Stmt → ℕ → ℕ → Option Birth → Site → T
 birth_row p n limit None s = without_output s
 birth_row p n limit (Some b) s =
     if placement n s.records.site b.at == s.records.site then without_output (with_thread p (Some b) s)
-    else with_messages s (bundled limit s.equations (sent_message (placement n s.records.site b.at) (msg.Spawn b.name b.code b.vars [])) ∷ [])
+    else with_messages s (with_own_bundle limit s.equations (sent_message (placement n s.records.site b.at) (msg.Spawn b.name b.code b.vars [])) ∷ [])
 
 -- the content of the token that is here
 abbrev pub token_content : Token → VarName
@@ -170,7 +170,7 @@ IsRootBind s a b u t = Allows s a b (u, t) × IsFree s u × IsLower t u × is_ro
 abbrev pub bind_attempt : List Stmt → ℕ → ℕ → ThreadName → Stack → VarName → Term → Bool → Site → Transition
 bind_attempt p n limit th st u t true s = thread_step p n limit th st [] [] (Some (u, t)) s
 bind_attempt p n limit th st u t false s =
-    with_messages (with_waiting th st u s) (bundled limit s.equations (request u t th) ∷ [])
+    with_messages (with_waiting th st u s) (with_own_bundle limit s.equations (request u t th) ∷ [])
 
 abbrev pub IsBindUnit : List Stmt → ℕ → ℕ → Site → ThreadName → Stack → Term → Term → Transition → Type 0
 IsBindUnit p n limit s th st a b d =

@@ -8,7 +8,7 @@ use Rattle.bind_protocol.specs.Records.{Records, is_own, knowledge}
 use Rattle.bind_protocol.specs.Rows.{after_make, after_meets, meets_send, after_ask, ask_sends, after_binding}
 use Rattle.thread_roster.specs.Threads.{wake_all}
 use Rattle.site_model.specs.Site.{Site}
-use Rattle.site_model.specs.Bundle.{all_bundled, message_vars, message_bundle}
+use Rattle.site_model.specs.Bundle.{with_own_bundles, message_vars, message_bundle}
 use Rattle.site_model.specs.Transition.{Transition, without_output, with_messages, and_then}
 
 -- ---- names
@@ -56,7 +56,7 @@ with_own_equation s x t = record s {
 
 -- and a Binding goes to each site that is registered for it
 abbrev pub own_bind : ℕ → VarName → Term → Site → Transition
-own_bind limit x t s = with_messages (with_own_equation s x t) (all_bundled limit ((x, t) ∷ s.equations) (ask_sends s.records x t))
+own_bind limit x t s = with_messages (with_own_equation s x t) (with_own_bundles limit ((x, t) ∷ s.equations) (ask_sends s.records x t))
 
 -- binds of own variables, the newest first, as they stand among the equations
 abbrev pub own_binds : ℕ → List Equation → Site → Transition

@@ -33,7 +33,7 @@ use Rattle.bind_protocol.specs.Rows.{register_sends}
 use Rattle.thread_roster.specs.declared.mode.Mode.TheVariants.{Runs, WaitsFor}
 use Rattle.token_chain.specs.declared.token.Token.TheVariants.{Here}
 use Rattle.site_model.specs.Site.{Site, CellRecord, Counters, thread_state, cell_record, cell_record_in}
-use Rattle.site_model.specs.Bundle.{all_bundled, message_bundle, vars_of_equations, body_vars, message_vars}
+use Rattle.site_model.specs.Bundle.{with_own_bundles, message_bundle, vars_of_equations, body_vars, message_vars}
 use Rattle.site_model.specs.Transition.{Transition}
 use Rattle.site_model.specs.Variables.{with_known_equation, with_known_equations, own_bind, opening}
 use Rattle.site_model.specs.Cells.{content_after_change, exchange_stack, after_exchange, content_after_exchange, serving, leave_row, with_last_asker}
@@ -175,7 +175,7 @@ module _ (p : List Stmt) (is : IsProgram p) (n limit : ℕ) (high : limit ≤ 25
     sent = go (owner_of s.records.owners x) refl;
   }
     where
-      go : (o : Option Owner) → owner_of s.records.owners x ≡ o → CanBeSpelled (all_bundled limit s.equations (register_sends s.records x k))
+      go : (o : Option Owner) → owner_of s.records.owners x ≡ o → CanBeSpelled (with_own_bundles limit s.equations (register_sends s.records x k))
       go None q = rw q tt
       go (Some (Open ks)) q = rw q tt
       go (Some (Bound t)) q = rw q (told_each p is limit high i low s.equations x t (k ∷ []) h.equations fx (h.owners x t q))

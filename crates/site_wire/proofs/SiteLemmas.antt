@@ -28,7 +28,7 @@ use Rattle.bind_protocol.specs.Rows.{binding, register, after_meet, meet_sends, 
 use Rattle.bind_protocol.proofs.LookLemmas.{in_here, in_other}
 use Rattle.token_chain.specs.Rows.{Reply}
 use Rattle.site_model.specs.Site.{Site, Counters}
-use Rattle.site_model.specs.Bundle.{all_bundled}
+use Rattle.site_model.specs.Bundle.{with_own_bundles}
 use Rattle.site_model.specs.Transition.{Transition, without_output, and_then}
 use Rattle.site_model.specs.Variables.{after_makes, meeting, with_new_equation, with_known_equation, with_known_equations, own_bind, own_binds}
 use Rattle.site_model.specs.Cells.{cell_reply}
@@ -157,7 +157,7 @@ module _ (p : List Stmt) (is : IsProgram p) (limit : ℕ) (high : limit ≤ 256)
   told_all_fit [] s f h = h
   told_all_fit (e ∷ es) s f h = told_all_fit es (with_known_equation s e.0 e.1) (record { names = f.names.1; nodes = f.nodes.1 }) (told_fit s e.0 e.1 f.names.0.0 (f.names.0.1, f.nodes.0) h)
 
-  pub told_each : (s : Store) (x : VarName) (t : Term) (ks : List ℕ) → EquationsFit p s → FitsVar x → TermFits p t → CanBeSpelled (all_bundled limit s (map (λ (k : ℕ). binding x t k) ks))
+  pub told_each : (s : Store) (x : VarName) (t : Term) (ks : List ℕ) → EquationsFit p s → FitsVar x → TermFits p t → CanBeSpelled (with_own_bundles limit s (map (λ (k : ℕ). binding x t k) ks))
   told_each s x t [] h fx ft = tt
   told_each s x t (k ∷ ks) h fx ft = (carried p is limit high s (msg.Binding x t []) h (fx, term_spelled p is t ft, (omega arith, tt, tt)), told_each s x t ks h fx ft)
 

@@ -46,7 +46,7 @@ use Rattle.token_chain.specs.declared.token.Token.{Token}
 use Rattle.token_chain.specs.declared.token.Token.TheVariants.{Away, Asked, Here}
 use Rattle.token_chain.specs.Holding.{here_with}
 use Rattle.site_model.specs.Site.{Site, ThreadState, Threads, Counters, thread_state, cell_record, with_cell_record}
-use Rattle.site_model.specs.Bundle.{bundled}
+use Rattle.site_model.specs.Bundle.{with_own_bundle}
 use Rattle.site_model.specs.Transition.{Transition, without_output, with_messages}
 use Rattle.site_model.specs.Variables.{own_binds}
 use Rattle.site_model.specs.Cells.{exchange_stack, with_own_request, with_last_asker, with_exchange_waiting, request_row}
@@ -185,7 +185,7 @@ module _ (p : List Stmt) (is : IsProgram p) (n limit : ℕ) (high : limit ≤ 25
       few : length b.vars ≤ 65535
       few = let short = free_short p is b.code in omega (arith, f.2, short)
 
-      go : (c : Bool) → TransitionFits p i (cond c (without_output (with_thread p (Some b) s)) (with_messages s (bundled limit s.equations (sent_message (placement n s.records.site b.at) (msg.Spawn b.name b.code b.vars [])) ∷ [])))
+      go : (c : Bool) → TransitionFits p i (cond c (without_output (with_thread p (Some b) s)) (with_messages s (with_own_bundle limit s.equations (sent_message (placement n s.records.site b.at) (msg.Spawn b.name b.code b.vars [])) ∷ [])))
       go true = still p is limit high i low (with_thread p (Some b) s) (begins_fits b s f (g b refl).0 (g b refl).1 h)
       go false = record { site = h; sent = (carried p is limit high s.equations (msg.Spawn b.name b.code b.vars []) h.equations (f.0, (few, f.1), (omega arith, tt, tt)), tt) }
 

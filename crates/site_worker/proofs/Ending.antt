@@ -9,7 +9,7 @@ use Rattle.atomic_table.specs.Seated.{TableId}
 use Rattle.kernel_syntax.specs.declared.stmt.Stmt.{Stmt}
 use Rattle.site_message.specs.declared.turn.Turn.{Turn}
 use Rattle.site_message.specs.declared.story.Sight.{Sight}
-use Rattle.site_message.specs.declared.outcome.Reason.{Reason}
+use Rattle.site_message.specs.declared.reason.Reason.{Reason}
 use Rattle.site_message.specs.Journal.{Wired, Limits}
 use Rattle.message_book.specs.Book.{IsSiteOf, AreSites}
 use Rattle.book_lock.specs.declared.lock.SiteSeat.{SiteSeat}

@@ -7,10 +7,10 @@ use Rattle.kernel_syntax.specs.Program.{IsProgram}
 use Rattle.site_message.specs.declared.message.Msg.{Msg}
 use Rattle.site_message.specs.declared.turn.Turn.{Turn}
 use Rattle.site_message.specs.declared.story.Sight.{Sight}
-use Rattle.site_message.specs.declared.outcome.Reason.{Reason}
+use Rattle.site_message.specs.declared.reason.Reason.{Reason}
 use Rattle.site_message.specs.Journal.{sent_of}
 use Rattle.site_message.specs.Story.{own, hand}
-use Rattle.message_book.specs.Book.{IsSiteOf, without}
+use Rattle.message_book.specs.Book.{IsSiteOf, without_delivered}
 use Rattle.book_lock.specs.declared.lock.SiteSeat.{SiteSeat}
 use Rattle.book_lock.specs.Rule.{BeginsWith}
 use Rattle.book_lock.specs.Seats.{last_seen, IsOutsideOf}
@@ -224,7 +224,7 @@ unspelled_host table h e mine = record {
 
 -- ---- the second half
 
-without_this : (o : Option ℕ) → without o (number_list o) ≡ []
+without_this : (o : Option ℕ) → without_delivered o (number_list o) ≡ []
 without_this None = refl
 without_this (Some n) = ap (λ b. cond (not b) (n ∷ []) []) (eq-eqb n n refl)
 
@@ -260,7 +260,7 @@ module _ (table : TableId) (h : Host) (e : Turn) (x : SiteSeat) (mine : HasTurne
       let found = a.2 in
       let k = h.number in
       let mine_new : HasEntry k (sight h) (last_seen x) e = ap (own k) found.0 ∙ (own_first k e now.entries mine.site ∙ ap (λ l. e ∷ l) a.1.own_entries) in
-      let hands : hand k (last_seen x).hands ≡ [] = subst (λ (i : ℕ). hand i (last_seen x).hands ≡ without e.delivered (hand i now.hands)) mine.site found.1 ∙ (ap (without e.delivered) (a.1.own_hands ∙ mine.hands) ∙ without_this e.delivered) in
+      let hands : hand k (last_seen x).hands ≡ [] = subst (λ (i : ℕ). hand i (last_seen x).hands ≡ without_delivered e.delivered (hand i now.hands)) mine.site found.1 ∙ (ap (without_delivered e.delivered) (a.1.own_hands ∙ mine.hands) ∙ without_this e.delivered) in
       let run : IsRunTo h (last_seen x).entries (state_of h) =
       subst (λ (es : List Turn). IsRunTo h es (state_of h)) (sym found.0) (entry_over table h e now.entries mine a.1.begins a.1.own_entries) in (
         record {

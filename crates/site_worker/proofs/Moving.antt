@@ -3,7 +3,7 @@ use Rattle.std.proofs.Common.{◌≡◌, ◌≢◌, ℕ, List, [], ◌∷◌, �
 use Rattle.std.specs.Prelude.{MatchOption}
 use Rattle.site_message.specs.declared.message.Msg.{Msg}
 use Rattle.site_message.specs.declared.turn.Turn.{Turn}
-use Rattle.site_message.specs.declared.outcome.Reason.{Reason}
+use Rattle.site_message.specs.declared.reason.Reason.{Reason}
 use Rattle.site_message.specs.Story.{hand}
 use Rattle.site_message.specs.Journal.{Limits}
 use Rattle.message_book.specs.Book.{BookState, IsUntaken, IsUntakenSpelling, sight_of}

@@ -3,12 +3,12 @@ use Rattle.std.specs.Prelude.{◌≡◌, ℕ, ◌≤◌, List, [], ◌∷◌, �
 use Rattle.site_message.specs.declared.message.Msg.{Msg}
 use Rattle.site_message.specs.declared.turn.Turn.{Turn}
 use Rattle.site_message.specs.declared.story.Sight.{Sight}
-use Rattle.site_message.specs.declared.outcome.Reason.{Reason}
-use Rattle.site_message.specs.declared.outcome.Reason.TheVariants.{Memory}
+use Rattle.site_message.specs.declared.reason.Reason.{Reason}
+use Rattle.site_message.specs.declared.reason.Reason.TheVariants.{Memory}
 use Rattle.site_message.specs.Journal.{IsTravelling, sent_of}
 use Rattle.site_message.specs.Story.{hand}
 use Rattle.wire_form.specs.Format.{Spells}
-use Rattle.message_book.specs.Book.{BookState, without, first_reason}
+use Rattle.message_book.specs.Book.{BookState, without_delivered, first_reason}
 use Rattle.book_lock.specs.Rule.{Agrees}
 use Rattle.site_worker.specs.declared.inside.Fetched.{Fetched}
 use Rattle.site_worker.specs.declared.inside.Fetched.TheVariants.{Over, Open}
@@ -45,7 +45,7 @@ HasFetched k old new (Open o limit) = (old.reason ≡ None) × (new.reason ≡ N
 -- the turn is the newest entry, its message is off the hand, and the book has this reason or none; or the book has this
 -- reason and no entry more
 abbrev pub HasDelivered : Turn → Sight → Sight → Delivered → Type 0
-HasDelivered e old new (Posted o) = (new.entries ≡ e ∷ old.entries) × (hand e.site new.hands ≡ without e.delivered (hand e.site old.hands)) × (new.reason ≡ o)
+HasDelivered e old new (Posted o) = (new.entries ≡ e ∷ old.entries) × (hand e.site new.hands ≡ without_delivered e.delivered (hand e.site old.hands)) × (new.reason ≡ o)
 HasDelivered e old new (Refused r) = (new.entries ≡ old.entries) × (new.reason ≡ Some r)
 
 -- the book has this reason, which is its first one or want of memory, and nothing else changed

@@ -3,7 +3,7 @@
 ghost use Rattle.std.specs.Prelude.{◌≡◌, List, ◌<◌, ◌≤◌, [], Some, length, vec_capacity};
 ghost use Rattle.kernel_syntax.specs.declared.stmt.Stmt.{Stmt};
 ghost use Rattle.book_lock.specs.Seats.{lock_id, lock_seats};
-ghost use Rattle.site_message.specs.declared.outcome.Reason.{Reason};
+ghost use Rattle.site_message.specs.declared.reason.Reason.{Reason};
 ghost use Rattle.site_message.specs.Journal.{Limits};
 ghost use Rattle.site_message.specs.Progress.{WentOn};
 ghost use Rattle.site_worker.specs.Hosts.{AreHosts, AreHostsOf, IsComplete, IsSomeOver, IsWorldRun, fixed_part};

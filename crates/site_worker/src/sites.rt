@@ -1,7 +1,7 @@
 //! A whole run: new sites with their seats, driven to an end.
 
 ghost use Rattle.std.specs.Prelude.{◌≡◌, ℕ, ◌<◌, ◌≤◌, [], Some, length, vec_capacity, IfOk};
-ghost use Rattle.site_message.specs.declared.outcome.Reason.{Reason};
+ghost use Rattle.site_message.specs.declared.reason.Reason.{Reason};
 ghost use Rattle.site_message.specs.declared.story.Sight.{Sight};
 ghost use Rattle.site_message.specs.Progress.{WentOn};
 ghost use Rattle.message_book.specs.Book.{IsSiteOf};

@@ -13,7 +13,7 @@ use Rattle.thread_roster.specs.declared.slot.Held.{Held}
 use Rattle.waiting_keys.specs.Keys as keys
 use Rattle.waiting_keys.specs.Keys.{keys_among}
 use Rattle.thread_roster.specs.Kept.{IsKept}
-use Rattle.thread_roster.specs.Slots.{Slot, Lacks, Holds, IsOnlyAt, IsPlaced, ArePlaced, place_in, changed, StandsAt, AreInside, rouse, rouse_all, total, one, weight, waiting, entry, threads_in, IsLeft, IsRest, IsNext, with_value_in, value_there}
+use Rattle.thread_roster.specs.Slots.{Slot, Lacks, Holds, IsOnlyAt, IsPlaced, ArePlaced, slot_in, with_slot, StandsAt, AreInside, rouse, rouse_all, total, one, weight, waiting, entry, threads_in, IsLeft, IsRest, IsNext, with_value_in, value_there}
 use Rattle.thread_roster.specs.Threads.{Threads, wake, wake_all, set_mode, set_value, AllWait, IsRunnable}
 use Rattle.tree_node.specs.Assoc.{value_of, without_key}
 use Rattle.tree_node.specs.State.{equal_thread}
@@ -139,7 +139,7 @@ stood x (o ∷ slots) (suc j) m h = stood x slots j m h
 pub kept_map : {V : Type 0} (x : VarName) (slots : List (Slot V)) (places : Places) (queue : List ℕ) (waiting_keys left : Waiting) (a b c : ℕ) → IsKept slots places queue waiting_keys a b →
     ((y : VarName) → keys_among left y ≡ keys.without_keys (keys_among waiting_keys) x y) → c ≡ total waiting (map (rouse x) slots) → IsKept (map (rouse x) slots) places (queue ++ keys_among waiting_keys x) left a c
 kept_map {V} x slots places queue waiting_keys left a b c h rest counted = record {
-  placed = placed_map x slots (place_in places) h.placed;
+  placed = placed_map x slots (slot_in places) h.placed;
   queued = λ j s. goes j (stood x slots j mode.Runs s);
   parked = λ j y s. waits j y (stood x slots j (mode.Waits y) s);
   inside = inside_same slots (map (rouse x) slots) (queue ++ keys_among waiting_keys x) (map_length x slots) (each_append _ queue (keys_among waiting_keys x) h.inside (h.keys_inside x));
@@ -214,11 +214,11 @@ inside_set xs i x js h = inside_same xs (slice_set xs i x) js (set_length xs i x
 
 -- a thread stands otherwise: where it can go on it is in the queue, where it waits for a variable it is among the keys
 kept_set : {V : Type 0} (slots : List (Slot V)) (places : Places) (queue more : List ℕ) (waiting_keys left : Waiting) (a b c : ℕ) (n : ThreadName) (i : ℕ) (old new : Held V) → IsKept slots places queue waiting_keys a b →
-    place_in places n ≡ Some i → slice_get slots i ≡ Some (Some old) → new.name ≡ n → ((j : ℕ) → Contains queue j → Contains more j) → ((y : VarName) (j : ℕ) → Contains (keys_among waiting_keys y) j → Contains (keys_among left y) j) →
+    slot_in places n ≡ Some i → slice_get slots i ≡ Some (Some old) → new.name ≡ n → ((j : ℕ) → Contains queue j → Contains more j) → ((y : VarName) (j : ℕ) → Contains (keys_among waiting_keys y) j → Contains (keys_among left y) j) →
     (new.mode ≡ mode.Runs → Contains more i) → ((x : VarName) → new.mode ≡ mode.Waits x → Contains (keys_among left x) i) →
     AreInside slots more → ((y : VarName) → AreInside slots (keys_among left y)) → c + weight old.mode ≡ b + weight new.mode → IsKept (slice_set slots i (Some new)) places more left a c
 kept_set {V} slots places queue more waiting_keys left a b c n i old new h e at is longer further runs waits inside keyed counted = record {
-  placed = placed_set n slots (place_in places) i new h.placed e is;
+  placed = placed_set n slots (slot_in places) i new h.placed e is;
   queued = λ j s. goes j (stands_set slots i j new mode.Runs s);
   parked = λ j x s. rests j x (stands_set slots i j new (mode.Waits x) s);
   inside = inside_set slots i (Some new) more inside;
@@ -237,7 +237,7 @@ kept_set {V} slots places queue more waiting_keys left a b c n i old new h e at 
 
 -- it waits for a variable, and its slot is one more key there
 pub kept_waits : {V : Type 0} (slots now : List (Slot V)) (places : Places) (queue : List ℕ) (waiting_keys left : Waiting) (a b c : ℕ) (n : ThreadName) (i : ℕ) (old : Held V) (x : VarName) → IsKept slots places queue waiting_keys a b →
-    place_in places n ≡ Some i → slice_get slots i ≡ Some (Some old) → old.name ≡ n → now ≡ slice_set slots i (Some (record old { mode = mode.Waits x })) →
+    slot_in places n ≡ Some i → slice_get slots i ≡ Some (Some old) → old.name ≡ n → now ≡ slice_set slots i (Some (record old { mode = mode.Waits x })) →
     ((y : VarName) → keys_among left y ≡ keys.with_key (keys_among waiting_keys) x i y) → c + weight old.mode ≡ b + 1 → IsKept now places queue left a c
 kept_waits {V} slots now places queue waiting_keys left a b c n i old x h e at is f rest counted =
     subst (λ (l : List (Slot V)). IsKept l places queue left a c) (sym f)
@@ -248,7 +248,7 @@ kept_waits {V} slots now places queue waiting_keys left a b c n i old x h e at i
     for_var m = x
 
     below : i < length slots
-    below = only_inside slots n i (only_at slots (place_in places) n i h.placed e)
+    below = only_inside slots n i (only_at slots (slot_in places) n i h.placed e)
 
     more : (y : VarName) (j : ℕ) (r : Bool) → Contains (keys_among waiting_keys y) j → Contains (cond r (keys_among waiting_keys y ++ i ∷ []) (keys_among waiting_keys y)) j
     more y j true k = Contains-append_left (keys_among waiting_keys y) (i ∷ []) j k
@@ -270,7 +270,7 @@ kept_waits {V} slots now places queue waiting_keys left a b c n i old x h e at i
 
 -- it waits for something else
 pub kept_waits_for : {V : Type 0} (slots now : List (Slot V)) (places : Places) (queue : List ℕ) (waiting_keys : Waiting) (a b c : ℕ) (n : ThreadName) (i : ℕ) (old : Held V) (m : Mode) → IsKept slots places queue waiting_keys a b →
-    place_in places n ≡ Some i → slice_get slots i ≡ Some (Some old) → old.name ≡ n → now ≡ slice_set slots i (Some (record old { mode = m })) → m ≢ mode.Runs → ((x : VarName) → m ≢ mode.Waits x) → c + weight old.mode ≡ b + weight m →
+    slot_in places n ≡ Some i → slice_get slots i ≡ Some (Some old) → old.name ≡ n → now ≡ slice_set slots i (Some (record old { mode = m })) → m ≢ mode.Runs → ((x : VarName) → m ≢ mode.Waits x) → c + weight old.mode ≡ b + weight m →
     IsKept now places queue waiting_keys a c
 kept_waits_for {V} slots now places queue waiting_keys a b c n i old m h e at is f still other counted =
     subst (λ (l : List (Slot V)). IsKept l places queue waiting_keys a c) (sym f)
@@ -278,17 +278,17 @@ kept_waits_for {V} slots now places queue waiting_keys a b c n i old m h e at is
 
 -- it goes on, and its slot is in the queue
 pub kept_runs : {V : Type 0} (slots now : List (Slot V)) (places : Places) (queue more : List ℕ) (waiting_keys : Waiting) (a b c : ℕ) (n : ThreadName) (i : ℕ) (old : Held V) → IsKept slots places queue waiting_keys a b →
-    place_in places n ≡ Some i → slice_get slots i ≡ Some (Some old) → old.name ≡ n → now ≡ slice_set slots i (Some (record old { mode = mode.Runs })) → more ≡ queue ++ i ∷ [] → c + weight old.mode ≡ b → IsKept now places more waiting_keys a c
+    slot_in places n ≡ Some i → slice_get slots i ≡ Some (Some old) → old.name ≡ n → now ≡ slice_set slots i (Some (record old { mode = mode.Runs })) → more ≡ queue ++ i ∷ [] → c + weight old.mode ≡ b → IsKept now places more waiting_keys a c
 kept_runs {V} slots now places queue more waiting_keys a b c n i old h e at is f g counted =
     subst (λ (l : List (Slot V)). IsKept l places more waiting_keys a c) (sym f)
     (subst (λ (q : List ℕ). IsKept (slice_set slots i (Some (record old { mode = mode.Runs }))) places q waiting_keys a c) (sym g)
     (kept_set slots places queue (queue ++ i ∷ []) waiting_keys waiting_keys a b c n i old (record old { mode = mode.Runs }) h e at is
     (λ j k. Contains-append_left queue (i ∷ []) j k) (λ y j k. k) (λ r. Contains-push queue i) (λ x w. cc)
-    (each_append (λ (j : ℕ). j < length slots) queue (i ∷ []) h.inside (only_inside slots n i (only_at slots (place_in places) n i h.placed e), tt)) h.keys_inside (omega (arith, counted))))
+    (each_append (λ (j : ℕ). j < length slots) queue (i ∷ []) h.inside (only_inside slots n i (only_at slots (slot_in places) n i h.placed e), tt)) h.keys_inside (omega (arith, counted))))
 
 -- its value is another
 pub kept_value : {V : Type 0} (slots : List (Slot V)) (places : Places) (queue : List ℕ) (waiting_keys : Waiting) (a b : ℕ) (n : ThreadName) (i : ℕ) (old : Held V) (v : V) → IsKept slots places queue waiting_keys a b →
-    place_in places n ≡ Some i → slice_get slots i ≡ Some (Some old) → old.name ≡ n → IsKept (slice_set slots i (Some (record old { value = v }))) places queue waiting_keys a b
+    slot_in places n ≡ Some i → slice_get slots i ≡ Some (Some old) → old.name ≡ n → IsKept (slice_set slots i (Some (record old { value = v }))) places queue waiting_keys a b
 kept_value {V} slots places queue waiting_keys a b n i old v h e at is =
     kept_set slots places queue queue waiting_keys waiting_keys a b b n i old (record old { value = v }) h e at is (λ j k. k) (λ y j k. k) (λ r. h.queued i (old, at, r)) (λ x w. h.parked i x (old, at, w)) h.inside h.keys_inside refl
 
@@ -301,10 +301,10 @@ stands_none (o ∷ slots) zero (suc j) m h = h
 stands_none (o ∷ slots) (suc i) zero m h = h
 stands_none (o ∷ slots) (suc i) (suc j) m h = stands_none slots i j m h
 
-pub kept_end : {V : Type 0} (slots now : List (Slot V)) (places rest : Places) (queue : List ℕ) (waiting_keys : Waiting) (a b c d : ℕ) (n : ThreadName) (i : ℕ) (old : Held V) → IsKept slots places queue waiting_keys a b → place_in places n ≡ Some i →
-    slice_get slots i ≡ Some (Some old) → now ≡ slice_set slots i None → ((k : ThreadName) → place_in rest k ≡ changed (place_in places) n None k) → c + 1 ≡ a → d + weight old.mode ≡ b → IsKept now rest queue waiting_keys c d
+pub kept_end : {V : Type 0} (slots now : List (Slot V)) (places rest : Places) (queue : List ℕ) (waiting_keys : Waiting) (a b c d : ℕ) (n : ThreadName) (i : ℕ) (old : Held V) → IsKept slots places queue waiting_keys a b → slot_in places n ≡ Some i →
+    slice_get slots i ≡ Some (Some old) → now ≡ slice_set slots i None → ((k : ThreadName) → slot_in rest k ≡ with_slot (slot_in places) n None k) → c + 1 ≡ a → d + weight old.mode ≡ b → IsKept now rest queue waiting_keys c d
 kept_end {V} slots now places rest queue waiting_keys a b c d n i old h e at f g lived waited = subst (λ (l : List (Slot V)). IsKept l rest queue waiting_keys c d) (sym f) (record {
-  placed = placed_end n slots (place_in places) (place_in rest) i h.placed e (g n ∙ rw (is_same n n refl) refl) (λ k differs. g k ∙ rw (is_other n k differs) refl);
+  placed = placed_end n slots (slot_in places) (slot_in rest) i h.placed e (g n ∙ rw (is_same n n refl) refl) (λ k differs. g k ∙ rw (is_other n k differs) refl);
   queued = λ j s. h.queued j (stands_none slots i j mode.Runs s);
   parked = λ j x s. h.parked j x (stands_none slots i j (mode.Waits x) s);
   inside = inside_set slots i None queue h.inside;
@@ -331,11 +331,11 @@ inside_more : {X : Type 0} (xs : List X) (x : X) (js : List ℕ) → AreInside x
 inside_more xs x [] h = tt
 inside_more xs x (j ∷ js) h = let more = length_push xs x in let below = h.0 in (omega (arith, more, below), inside_more xs x js h.1)
 
-pub kept_born : {V : Type 0} (slots now : List (Slot V)) (places more : Places) (queue longer : List ℕ) (waiting_keys : Waiting) (a b c : ℕ) (n : ThreadName) (w : Held V) → IsKept slots places queue waiting_keys a b → place_in places n ≡ None →
-    w.name ≡ n → w.mode ≡ mode.Runs → now ≡ slots ++ Some w ∷ [] → ((k : ThreadName) → place_in more k ≡ changed (place_in places) n (Some (length slots)) k) → longer ≡ queue ++ length slots ∷ [] → c ≡ a + 1 → IsKept now more longer waiting_keys c b
+pub kept_born : {V : Type 0} (slots now : List (Slot V)) (places more : Places) (queue longer : List ℕ) (waiting_keys : Waiting) (a b c : ℕ) (n : ThreadName) (w : Held V) → IsKept slots places queue waiting_keys a b → slot_in places n ≡ None →
+    w.name ≡ n → w.mode ≡ mode.Runs → now ≡ slots ++ Some w ∷ [] → ((k : ThreadName) → slot_in more k ≡ with_slot (slot_in places) n (Some (length slots)) k) → longer ≡ queue ++ length slots ∷ [] → c ≡ a + 1 → IsKept now more longer waiting_keys c b
 kept_born {V} slots now places more queue longer waiting_keys a b c n w h none is runs f g q counted =
     rw (f, q) (record {
-      placed = placed_born n slots (place_in places) (place_in more) w h.placed none (g n ∙ rw (is_same n n refl) refl) (λ k differs. g k ∙ rw (is_other n k differs) refl) is;
+      placed = placed_born n slots (slot_in places) (slot_in more) w h.placed none (g n ∙ rw (is_same n n refl) refl) (λ k differs. g k ∙ rw (is_other n k differs) refl) is;
       queued = λ j s. goes j (stands_more slots w j mode.Runs s);
       parked = λ j x s. waits j x (stands_more slots w j (mode.Waits x) s);
       inside = each_append _ queue (length slots ∷ []) (inside_more slots (Some w) queue h.inside) (let more = length_push slots (Some w) in omega (arith, more), tt);
@@ -409,8 +409,8 @@ none_left {V} slots places queue rest waiting_keys a b h left e = none_runs slot
 -- the first is a thread that can go on
 pub next_goes : {V : Type 0} (slots : List (Slot V)) (places : Places) (queue rest : List ℕ) (waiting_keys : Waiting) (a b : ℕ) (n : ThreadName) → IsKept slots places queue waiting_keys a b → IsNext slots rest n → IsRunnable (threads_in slots) n
 next_goes {V} slots places queue rest waiting_keys a b n h (i, more, k, e, at, is, runs) =
-    let placed = placed_there slots (place_in places) i k n h.placed at is in
-    let there = found n slots i k (only_at slots (place_in places) n i h.placed placed) at in
+    let placed = placed_there slots (slot_in places) i k n h.placed at is in
+    let there = found n slots i k (only_at slots (slot_in places) n i h.placed placed) at in
     (k.value, there ∙ ap (λ (m : Mode). Some (k.value, m)) runs)
 
 pub kept_turned : {V : Type 0} (slots : List (Slot V)) (places : Places) (queue now : List ℕ) (waiting_keys : Waiting) (a b : ℕ) → ((i : ℕ) (rest : List ℕ) → queue ≡ i ∷ rest → now ≡ rest ++ i ∷ []) → (queue ≡ [] → now ≡ []) →

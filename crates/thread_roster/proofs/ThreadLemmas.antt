@@ -8,71 +8,71 @@ use Rattle.tree_node.specs.Each.{Each}
 use Rattle.tree_node.specs.State.{equal_thread}
 use Rattle.thread_roster.specs.declared.mode.Mode.{Mode}
 use Rattle.thread_roster.specs.declared.mode.Mode.TheVariants as mode
-use Rattle.thread_roster.specs.Threads.{Entry, is_waiting, waiting_of, seen, set_value, set_mode, wake, wake_all}
+use Rattle.thread_roster.specs.Threads.{Entry, is_waiting, waiting_of, map_entries, set_value, set_mode, wake, wake_all}
 use Rattle.thread_roster.proofs.NameLemmas.{is_same}
 use Rattle.tree_node.proofs.NameLemmas.{same_thread_decides}
 
 -- ---- what is seen of a list that changes
 
-pub seen_found : {V W : Type 0} (g : V × Mode → W) (ts : List (Entry V)) (n : ThreadName) (e : V × Mode) → value_of equal_thread ts n ≡ Some e → value_of equal_thread (seen g ts) n ≡ Some (g e)
+pub seen_found : {V W : Type 0} (g : V × Mode → W) (ts : List (Entry V)) (n : ThreadName) (e : V × Mode) → value_of equal_thread ts n ≡ Some e → value_of equal_thread (map_entries g ts) n ≡ Some (g e)
 seen_found g [] n e h = cc
 seen_found {V} {W} g (t ∷ ts) n e h = go (equal_thread t.0 n) h (λ k. seen_found g ts n e k)
   where
-    go : (b : Bool) → cond b (Some t.1) (value_of equal_thread ts n) ≡ Some e → (value_of equal_thread ts n ≡ Some e → value_of equal_thread (seen g ts) n ≡ Some (g e)) →
-        cond b (Some (g t.1)) (value_of equal_thread (seen g ts) n) ≡ Some (g e)
+    go : (b : Bool) → cond b (Some t.1) (value_of equal_thread ts n) ≡ Some e → (value_of equal_thread ts n ≡ Some e → value_of equal_thread (map_entries g ts) n ≡ Some (g e)) →
+        cond b (Some (g t.1)) (value_of equal_thread (map_entries g ts) n) ≡ Some (g e)
     go true k ih = let same : t.1 ≡ e = cc in ap (λ (u : V × Mode). Some (g u)) same
     go false k ih = ih k
 
-pub seen_none : {V W : Type 0} (g : V × Mode → W) (ts : List (Entry V)) (n : ThreadName) → value_of equal_thread ts n ≡ None → value_of equal_thread (seen g ts) n ≡ None
+pub seen_none : {V W : Type 0} (g : V × Mode → W) (ts : List (Entry V)) (n : ThreadName) → value_of equal_thread ts n ≡ None → value_of equal_thread (map_entries g ts) n ≡ None
 seen_none g [] n h = refl
 seen_none {V} {W} g (t ∷ ts) n h = go (equal_thread t.0 n) h (λ k. seen_none g ts n k)
   where
-    go : (b : Bool) → cond b (Some t.1) (value_of equal_thread ts n) ≡ None → (value_of equal_thread ts n ≡ None → value_of equal_thread (seen g ts) n ≡ None) → cond b (Some (g t.1)) (value_of equal_thread (seen g ts) n) ≡ None
+    go : (b : Bool) → cond b (Some t.1) (value_of equal_thread ts n) ≡ None → (value_of equal_thread ts n ≡ None → value_of equal_thread (map_entries g ts) n ≡ None) → cond b (Some (g t.1)) (value_of equal_thread (map_entries g ts) n) ≡ None
     go true k ih = cc
     go false k ih = ih k
 
-pub seen_length : {V W : Type 0} (g : V × Mode → W) (ts : List (Entry V)) → length (seen g ts) ≡ length ts
+pub seen_length : {V W : Type 0} (g : V × Mode → W) (ts : List (Entry V)) → length (map_entries g ts) ≡ length ts
 seen_length g [] = refl
 seen_length g (t ∷ ts) = ap suc (seen_length g ts)
 
-pub seen_end : {V W : Type 0} (g : V × Mode → W) (ts : List (Entry V)) (n : ThreadName) → seen g (without_key equal_thread ts n) ≡ without_key equal_thread (seen g ts) n
+pub seen_end : {V W : Type 0} (g : V × Mode → W) (ts : List (Entry V)) (n : ThreadName) → map_entries g (without_key equal_thread ts n) ≡ without_key equal_thread (map_entries g ts) n
 seen_end g [] n = refl
 seen_end {V} {W} g (t ∷ ts) n = go (equal_thread t.0 n) (seen_end g ts n)
   where
-    go : (b : Bool) → seen g (without_key equal_thread ts n) ≡ without_key equal_thread (seen g ts) n →
-        seen g (cond b (without_key equal_thread ts n) (t ∷ without_key equal_thread ts n)) ≡ cond b (without_key equal_thread (seen g ts) n) ((t.0, g t.1) ∷ without_key equal_thread (seen g ts) n)
+    go : (b : Bool) → map_entries g (without_key equal_thread ts n) ≡ without_key equal_thread (map_entries g ts) n →
+        map_entries g (cond b (without_key equal_thread ts n) (t ∷ without_key equal_thread ts n)) ≡ cond b (without_key equal_thread (map_entries g ts) n) ((t.0, g t.1) ∷ without_key equal_thread (map_entries g ts) n)
     go true ih = ih
     go false ih = ap (λ (l : List (ThreadName × W)). (t.0, g t.1) ∷ l) ih
 
-pub seen_value : {V W : Type 0} (g : V × Mode → W) (ts : List (Entry V)) (n : ThreadName) (v : V) (m : Mode) (w : V) → value_of equal_thread ts n ≡ Some (v, m) → seen g (set_value ts n w) ≡ with_value equal_thread (seen g ts) n (g (w, m))
+pub seen_value : {V W : Type 0} (g : V × Mode → W) (ts : List (Entry V)) (n : ThreadName) (v : V) (m : Mode) (w : V) → value_of equal_thread ts n ≡ Some (v, m) → map_entries g (set_value ts n w) ≡ with_value equal_thread (map_entries g ts) n (g (w, m))
 seen_value g [] n v m w h = refl
 seen_value {V} {W} g (t ∷ ts) n v m w h = go (equal_thread t.0 n) h (λ k. seen_value g ts n v m w k)
   where
-    go : (b : Bool) → cond b (Some t.1) (value_of equal_thread ts n) ≡ Some (v, m) → (value_of equal_thread ts n ≡ Some (v, m) → seen g (set_value ts n w) ≡ with_value equal_thread (seen g ts) n (g (w, m))) →
-        seen g (cond b ((n, (w, t.1.1)) ∷ ts) (t ∷ set_value ts n w)) ≡ cond b ((n, g (w, m)) ∷ seen g ts) ((t.0, g t.1) ∷ with_value equal_thread (seen g ts) n (g (w, m)))
-    go true k ih = let same : t.1 ≡ (v, m) = cc in ap (λ (u : V × Mode). (n, g (w, u.1)) ∷ seen g ts) same
+    go : (b : Bool) → cond b (Some t.1) (value_of equal_thread ts n) ≡ Some (v, m) → (value_of equal_thread ts n ≡ Some (v, m) → map_entries g (set_value ts n w) ≡ with_value equal_thread (map_entries g ts) n (g (w, m))) →
+        map_entries g (cond b ((n, (w, t.1.1)) ∷ ts) (t ∷ set_value ts n w)) ≡ cond b ((n, g (w, m)) ∷ map_entries g ts) ((t.0, g t.1) ∷ with_value equal_thread (map_entries g ts) n (g (w, m)))
+    go true k ih = let same : t.1 ≡ (v, m) = cc in ap (λ (u : V × Mode). (n, g (w, u.1)) ∷ map_entries g ts) same
     go false k ih = ap (λ (l : List (ThreadName × W)). (t.0, g t.1) ∷ l) (ih k)
 
-pub seen_mode : {V W : Type 0} (g : V × Mode → W) (ts : List (Entry V)) (n : ThreadName) (v : V) (m k : Mode) → value_of equal_thread ts n ≡ Some (v, m) → seen g (set_mode ts n k) ≡ with_value equal_thread (seen g ts) n (g (v, k))
+pub seen_mode : {V W : Type 0} (g : V × Mode → W) (ts : List (Entry V)) (n : ThreadName) (v : V) (m k : Mode) → value_of equal_thread ts n ≡ Some (v, m) → map_entries g (set_mode ts n k) ≡ with_value equal_thread (map_entries g ts) n (g (v, k))
 seen_mode g [] n v m k h = refl
 seen_mode {V} {W} g (t ∷ ts) n v m k h = go (equal_thread t.0 n) h (λ q. seen_mode g ts n v m k q)
   where
-    go : (b : Bool) → cond b (Some t.1) (value_of equal_thread ts n) ≡ Some (v, m) → (value_of equal_thread ts n ≡ Some (v, m) → seen g (set_mode ts n k) ≡ with_value equal_thread (seen g ts) n (g (v, k))) →
-        seen g (cond b ((n, (t.1.0, k)) ∷ ts) (t ∷ set_mode ts n k)) ≡ cond b ((n, g (v, k)) ∷ seen g ts) ((t.0, g t.1) ∷ with_value equal_thread (seen g ts) n (g (v, k)))
-    go true q ih = let same : t.1 ≡ (v, m) = cc in ap (λ (u : V × Mode). (n, g (u.0, k)) ∷ seen g ts) same
+    go : (b : Bool) → cond b (Some t.1) (value_of equal_thread ts n) ≡ Some (v, m) → (value_of equal_thread ts n ≡ Some (v, m) → map_entries g (set_mode ts n k) ≡ with_value equal_thread (map_entries g ts) n (g (v, k))) →
+        map_entries g (cond b ((n, (t.1.0, k)) ∷ ts) (t ∷ set_mode ts n k)) ≡ cond b ((n, g (v, k)) ∷ map_entries g ts) ((t.0, g t.1) ∷ with_value equal_thread (map_entries g ts) n (g (v, k)))
+    go true q ih = let same : t.1 ≡ (v, m) = cc in ap (λ (u : V × Mode). (n, g (u.0, k)) ∷ map_entries g ts) same
     go false q ih = ap (λ (l : List (ThreadName × W)). (t.0, g t.1) ∷ l) (ih q)
 
 -- who sees no modes sees nothing of how a thread stands
-pub values_mode : {V W : Type 0} (f : V → W) (ts : List (Entry V)) (n : ThreadName) (k : Mode) → seen (λ (e : V × Mode). f e.0) (set_mode ts n k) ≡ seen (λ (e : V × Mode). f e.0) ts
+pub values_mode : {V W : Type 0} (f : V → W) (ts : List (Entry V)) (n : ThreadName) (k : Mode) → map_entries (λ (e : V × Mode). f e.0) (set_mode ts n k) ≡ map_entries (λ (e : V × Mode). f e.0) ts
 values_mode f [] n k = refl
 values_mode {V} {W} f (t ∷ ts) n k = go (equal_thread t.0 n) refl (values_mode f ts n k)
   where
-    go : (b : Bool) → equal_thread t.0 n ≡ b → seen (λ (e : V × Mode). f e.0) (set_mode ts n k) ≡ seen (λ (e : V × Mode). f e.0) ts →
-        seen (λ (e : V × Mode). f e.0) (cond b ((n, (t.1.0, k)) ∷ ts) (t ∷ set_mode ts n k)) ≡ (t.0, f t.1.0) ∷ seen (λ (e : V × Mode). f e.0) ts
-    go true q ih = ap (λ (x : ThreadName). (x, f t.1.0) ∷ seen (λ (e : V × Mode). f e.0) ts) (sym ((same_thread_decides t.0 n).0 q))
+    go : (b : Bool) → equal_thread t.0 n ≡ b → map_entries (λ (e : V × Mode). f e.0) (set_mode ts n k) ≡ map_entries (λ (e : V × Mode). f e.0) ts →
+        map_entries (λ (e : V × Mode). f e.0) (cond b ((n, (t.1.0, k)) ∷ ts) (t ∷ set_mode ts n k)) ≡ (t.0, f t.1.0) ∷ map_entries (λ (e : V × Mode). f e.0) ts
+    go true q ih = ap (λ (x : ThreadName). (x, f t.1.0) ∷ map_entries (λ (e : V × Mode). f e.0) ts) (sym ((same_thread_decides t.0 n).0 q))
     go false q ih = ap (λ (l : List (ThreadName × W)). (t.0, f t.1.0) ∷ l) ih
 
-pub values_woken : {V W : Type 0} (f : V → W) (x : VarName) (ts : List (Entry V)) → seen (λ (e : V × Mode). f e.0) (wake_all x ts) ≡ seen (λ (e : V × Mode). f e.0) ts
+pub values_woken : {V W : Type 0} (f : V → W) (x : VarName) (ts : List (Entry V)) → map_entries (λ (e : V × Mode). f e.0) (wake_all x ts) ≡ map_entries (λ (e : V × Mode). f e.0) ts
 values_woken f x [] = refl
 values_woken {V} {W} f x (t ∷ ts) = ap (λ (l : List (ThreadName × W)). (t.0, f t.1.0) ∷ l) (values_woken f x ts)
 

@@ -59,12 +59,12 @@ IsPlaced slots n (Some i) = IsOnlyAt n slots i
 abbrev pub ArePlaced : {V : Type 0} → List (Slot V) → (ThreadName → Option ℕ) → Type 0
 ArePlaced slots place = (n : ThreadName) → IsPlaced slots n (place n)
 
-abbrev pub place_in : List (ThreadName × ℕ) → ThreadName → Option ℕ
-place_in places n = lookup (equal_thread n) places
+abbrev pub slot_in : List (ThreadName × ℕ) → ThreadName → Option ℕ
+slot_in places n = lookup (equal_thread n) places
 
 -- one name has this slot, or none, and the others theirs
-abbrev pub changed : (ThreadName → Option ℕ) → ThreadName → Option ℕ → ThreadName → Option ℕ
-changed place n o k = if equal_thread n k then o else place k
+abbrev pub with_slot : (ThreadName → Option ℕ) → ThreadName → Option ℕ → ThreadName → Option ℕ
+with_slot place n o k = if equal_thread n k then o else place k
 
 -- ---- how threads stand
 

@@ -67,6 +67,6 @@ IsRunnable {V} ts n = (v : V) × (value_of equal_thread ts n ≡ Some (v, Runs))
 -- ---- what others see of threads
 
 -- by name, what g tells of each
-abbrev pub seen : {V W : Type 0} → (V × Mode → W) → List (Entry V) → List (ThreadName × W)
-seen g [] = []
-seen g (t ∷ ts) = (t.0, g t.1) ∷ seen g ts
+abbrev pub map_entries : {V W : Type 0} → (V × Mode → W) → List (Entry V) → List (ThreadName × W)
+map_entries g [] = []
+map_entries g (t ∷ ts) = (t.0, g t.1) ∷ map_entries g ts

@@ -19,10 +19,10 @@
 #![tactic(auto)]
 
 mod mode;
-mod place;
 mod queue;
 mod roster;
 mod slot;
+mod slots_by_name;
 mod threads;
 
 pub use mode::Mode;

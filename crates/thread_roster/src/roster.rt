@@ -10,11 +10,11 @@ ghost use Rattle.thread_roster.specs.Slots.{threads_in as slots_hold};
 ghost use Rattle.thread_roster.specs.Threads.{set_mode, set_value, wake_all, waiting_of, AllWait, IsSuspended, IsRunnable};
 
 use crate::mode::Mode;
-use crate::place::{
-    Places, count_running, count_waiting, find, forget, leave, next_runnable, place_of,
-};
 use crate::queue::Queue;
 use crate::slot::{Held, Slot, clear, rouse_all, set_mode, value_in};
+use crate::slots_by_name::{
+    SlotsByName, count_running, count_waiting, find, forget, leave, next_runnable, slot_of,
+};
 use indexmap::IndexMap;
 use std::alloc::{AllocError, Global};
 use std::marker::Model;
@@ -27,7 +27,7 @@ use waiting_keys::Waiters;
 #[derive(Drop)]
 pub struct Roster<V> {
     slots: Vec<Slot<V>>,
-    places: Places,
+    places: SlotsByName,
     queue: Queue,
     waiters: Waiters,
     living: usize,
@@ -106,7 +106,7 @@ impl<V: Drop> Roster<V> {
     pub fn lives(&self, name: ThreadName) -> bool
         ensures { IsTrue result ↔ IsSome (value_of equal_thread self.now.living name) }
     {
-        place_of(&self.slots, &self.places, &self.queue, name).is_some()
+        slot_of(&self.slots, &self.places, &self.queue, name).is_some()
     }
 
     /// The value of a thread.
@@ -114,7 +114,7 @@ impl<V: Drop> Roster<V> {
         ensures some { IfSome result (λ v. (m : Standing) × (value_of equal_thread self.now.living name ≡ Some (v.now, m))) }
         ensures none { IfNone result (value_of equal_thread self.now.living name ≡ None) }
     {
-        match place_of(&self.slots, &self.places, &self.queue, name) {
+        match slot_of(&self.slots, &self.places, &self.queue, name) {
             None => None,
             Some(place) => match &self.slots[place] {
                 None => unreachable!(),
@@ -128,7 +128,7 @@ impl<V: Drop> Roster<V> {
         ensures some { IfSome result (λ m. (v : V) × (value_of equal_thread self.now.living name ≡ Some (v, m))) }
         ensures none { IfNone result (value_of equal_thread self.now.living name ≡ None) }
     {
-        match place_of(&self.slots, &self.places, &self.queue, name) {
+        match slot_of(&self.slots, &self.places, &self.queue, name) {
             None => None,
             Some(place) => match &self.slots[place] {
                 None => unreachable!(),

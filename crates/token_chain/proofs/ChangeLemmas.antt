@@ -5,7 +5,7 @@ use Rattle.std.specs.Bool.{Decides}
 use Rattle.tree_node.specs.declared.names.VarName.{VarName}
 use Rattle.token_chain.specs.declared.token.Token.TheVariants.{Away, Asked, Here}
 use Rattle.token_chain.specs.Holding.{Holding, here_with}
-use Rattle.token_chain.specs.Mail.{Mail, Get, Forward, Put, same_mail}
+use Rattle.token_chain.specs.Mail.{Mail, Get, Forward, Put, equal_mail}
 use Rattle.token_chain.specs.Chain.{IsOn, IsFirst, IsNext, HasToken, IsTold, IsDue, IsChain}
 use Rattle.token_chain.proofs.ListLemmas.{on_cases}
 use Rattle.std.proofs.lemmas.Bool.Decides.{Decides-eqb}
@@ -33,7 +33,7 @@ pub record IsPut (s : ℕ) (h : Holding) (at to : ℕ → Holding) : Type 0 wher
 
 -- ---- cases
 
-pub same_mail_decides : (a b : Mail) → Decides (same_mail a b) (a ≡ b)
+pub same_mail_decides : (a b : Mail) → Decides (equal_mail a b) (a ≡ b)
 same_mail_decides a b = search rules
 
 decided : {P : Type 0} (b : Bool) → Decides b P → P ⊎ (P → ⊥)
@@ -41,7 +41,7 @@ decided true d = inl (d.0 refl)
 decided {P} false d = inr (λ p. let e : false ≡ true = d.1 p in absurd (cc))
 
 pub mail_or : (a b : Mail) → (a ≡ b) ⊎ (a ≢ b)
-mail_or a b = decided (same_mail a b) (same_mail_decides a b)
+mail_or a b = decided (equal_mail a b) (same_mail_decides a b)
 
 pub number_or : (a b : ℕ) → (a ≡ b) ⊎ (a ≢ b)
 number_or a b = decided (a == b) (Decides-eqb a b)

@@ -6,7 +6,7 @@ use Rattle.tree_node.specs.declared.names.VarName.{VarName}
 use Rattle.token_chain.specs.declared.token.Token.{Token}
 use Rattle.token_chain.specs.declared.token.Token.TheVariants.{Away, Asked, Here}
 use Rattle.token_chain.specs.Holding.{Holding, away, here_with, with_waiter, IsUsed}
-use Rattle.token_chain.specs.Mail.{Mail, Get, Forward, Put, same_mail, mail_count}
+use Rattle.token_chain.specs.Mail.{Mail, Get, Forward, Put, equal_mail, mail_count}
 use Rattle.token_chain.specs.Chain.{IsOn, IsFirst, IsNext, HasToken, IsTold, IsDue, IsChain, ChainOf}
 use Rattle.token_chain.specs.Rows.{Reply, silent, leave_with, leave_reply, forward_reply, put_reply, get_reply, first_request, exchange_reply, last_after, content_then}
 use Rattle.token_chain.specs.Moves.{Replies, MakingStarts, AskingKeeps, WaitingKeeps, OwnAskingKeeps, GetKeeps, ForwardKeeps, PutKeeps, ExchangeKeeps, UnitKeeps, NothingKeeps, CanCome, MessagesCanCome, TokensHaveContents, SuccessorsAsked, AwayKeepsNothing}
@@ -20,14 +20,14 @@ use Rattle.std.proofs.lemmas.Bool.Decides.{Decides-eqb}
 -- ---- numbers of messages
 
 once_same : (a k : Mail) → k ≡ a → mail_count (a ∷ []) k ≡ 1
-once_same a k e = go (same_mail a k) ((same_mail_decides a k).1 (sym e))
+once_same a k e = go (equal_mail a k) ((same_mail_decides a k).1 (sym e))
   where
     go : (b : Bool) → b ≡ true → cond b 1 0 + 0 ≡ 1
     go true q = refl
     go false q = cc
 
 once_other : (a k : Mail) → k ≢ a → mail_count (a ∷ []) k ≡ 0
-once_other a k d = go (same_mail a k) (same_mail_decides a k)
+once_other a k d = go (equal_mail a k) (same_mail_decides a k)
   where
     go : (b : Bool) → Decides b (a ≡ k) → cond b 1 0 + 0 ≡ 0
     go true q = absurd (d (sym (q.0 refl)))

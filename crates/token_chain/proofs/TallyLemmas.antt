@@ -6,7 +6,7 @@ use Rattle.tree_node.specs.declared.names.VarName.{VarName}
 use Rattle.token_chain.specs.declared.token.Token.{Token}
 use Rattle.token_chain.specs.declared.token.Token.TheVariants.{Away, Asked, Here}
 use Rattle.token_chain.specs.Holding.{Holding, after_want, with_waiter, departure, departure_of}
-use Rattle.token_chain.specs.Mail.{Mail, Get, Forward, Put, same_mail, mail_count}
+use Rattle.token_chain.specs.Mail.{Mail, Get, Forward, Put, equal_mail, mail_count}
 use Rattle.token_chain.specs.Rows.{Reply, silent, leave_with, leave_reply, forward_reply, put_reply, get_reply}
 use Rattle.token_chain.specs.Tally.{total, outstanding, held_here, weights, Tally, TalliesBound, KindsBound, Pays, HasWaiter, RowsPay, RepliesPay, MakingTallies}
 use Rattle.token_chain.proofs.ChangeLemmas.{number_or}
@@ -105,12 +105,12 @@ zeros (suc n) = let rest = zeros n in omega arith
 gets_most : (n : ℕ) (ms : List Mail) → total n (λ k. mail_count ms (Get k)) ≤ weights 1 0 0 ms
 gets_most n [] = let z = zeros n in omega arith
 gets_most n (m ∷ ms) =
-    let sum = total_sum n (λ k. mail_count ms (Get k)) (λ k. mail_count (m ∷ ms) (Get k)) (λ k. 0) (λ k. cond (same_mail m (Get k)) 1 0) (λ k. omega arith) in
+    let sum = total_sum n (λ k. mail_count ms (Get k)) (λ k. mail_count (m ∷ ms) (Get k)) (λ k. 0) (λ k. cond (equal_mail m (Get k)) 1 0) (λ k. omega arith) in
     let rest = gets_most n ms in
     let one = heads m in
     let none = zeros n in omega (arith, rest, one)
   where
-    heads : (m : Mail) → total n (λ k. cond (same_mail m (Get k)) 1 0) ≤ weights 1 0 0 (m ∷ [])
+    heads : (m : Mail) → total n (λ k. cond (equal_mail m (Get k)) 1 0) ≤ weights 1 0 0 (m ∷ [])
     heads (Get s) = let o = once n s in omega (arith, o)
     heads (Forward a b) = let z = zeros n in omega arith
     heads (Put a v) = let z = zeros n in omega arith

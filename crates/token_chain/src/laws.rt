@@ -4,7 +4,7 @@
 ghost use Rattle.std.specs.Prelude.{◌≡◌, ℕ, ◌^◌, ◌<◌, ◌≤◌, ◌↔◌, length, Err, Some, OnOk, OnErr, IfOk, slice_get, swap_remove};
 ghost use Rattle.tree_node.specs.declared.names.VarName.{VarName};
 ghost use Rattle.site_message.specs.declared.message.Sent.{Sent};
-ghost use Rattle.site_message.specs.declared.outcome.DeliverError.TheVariants.{NotThere};
+ghost use Rattle.site_message.specs.declared.reason.DeliverError.TheVariants.{NotThere};
 ghost use Rattle.token_chain.specs.Chain.{QuietServesAll};
 ghost use Rattle.token_chain.specs.Holding.{answer_of};
 ghost use Rattle.token_chain.specs.Moves.{MakingStarts, AskingKeeps, WaitingKeeps, OwnAskingKeeps, GetKeeps, ForwardKeeps, PutKeeps, ExchangeKeeps, UnitKeeps, NothingKeeps, MessagesCanCome, TokensHaveContents, SuccessorsAsked, AwayKeepsNothing, LastIsUsed, GetsAreOfOthers};

@@ -16,8 +16,8 @@ use Rattle.tree_node.specs.declared.node.Node.TheVariants as node
 use Rattle.tree_node.specs.Store.{equal_var}
 use Rattle.tree_node.specs.Goal.{equal_feature, equal_fields, equal_text, is_met_pair}
 use Rattle.tree_node.proofs.ClassLemmas.{same_name_decides}
-use Rattle.unify_steps.specs.Marks.{node_mark, pair_mark}
-use Rattle.unify_steps.specs.Met.{has_mark, pairs_of, IsIndexOf}
+use Rattle.unify_steps.specs.Hash.{node_hash, pair_hash}
+use Rattle.unify_steps.specs.Met.{has_hash, pairs_of, IsIndexOf}
 
 -- nodes of equal text have one mark
 feature_same : (f g : Feature) → equal_feature f g ≡ true → f ≡ g
@@ -37,7 +37,7 @@ fields_same ((f, x) ∷ xs) ((g, y) ∷ ys) e =
     let rest : xs ≡ ys = fields_same xs ys (and_parts (equal_var x y) (equal_fields xs ys) others).1 in
     rw (features, vars, rest) refl
 
-same_mark : (m n : Node) → equal_text m n ≡ true → node_mark m ≡ node_mark n
+same_mark : (m n : Node) → equal_text m n ≡ true → node_hash m ≡ node_hash n
 same_mark (node.Int a) (node.Int b) e = refl
 same_mark (node.Int a) (node.Atom b) e = refl
 same_mark (node.Int a) (node.Rec r ys) e = cc
@@ -71,22 +71,22 @@ same_mark (node.Cell c) (node.Cell d) e = refl
 abbrev is_pair : Node → Node → Node × Node → Bool
 is_pair m n p = (equal_text p.0 m && equal_text p.1 n) || (equal_text p.0 n && equal_text p.1 m)
 
-pair_same : (m n : Node) (p : Node × Node) → is_pair m n p ≡ true → pair_mark p.0 p.1 ≡ pair_mark m n
+pair_same : (m n : Node) (p : Node × Node) → is_pair m n p ≡ true → pair_hash p.0 p.1 ≡ pair_hash m n
 pair_same m n p e = go (or_cases (equal_text p.0 m && equal_text p.1 n) (equal_text p.0 n && equal_text p.1 m) e)
   where
-    go : ((equal_text p.0 m && equal_text p.1 n) ≡ true) ⊎ ((equal_text p.0 n && equal_text p.1 m) ≡ true) → pair_mark p.0 p.1 ≡ pair_mark m n
+    go : ((equal_text p.0 m && equal_text p.1 n) ≡ true) ⊎ ((equal_text p.0 n && equal_text p.1 m) ≡ true) → pair_hash p.0 p.1 ≡ pair_hash m n
     go (inl h) =
         let left = same_mark p.0 m (and_parts (equal_text p.0 m) (equal_text p.1 n) h).0 in
         let right = same_mark p.1 n (and_parts (equal_text p.0 m) (equal_text p.1 n) h).1 in
         rw (left, right) refl
     go (inr h) =
-        let sum : node_mark n + node_mark m ≡ node_mark m + node_mark n = omega arith in
+        let sum : node_hash n + node_hash m ≡ node_hash m + node_hash n = omega arith in
         let left = same_mark p.0 n (and_parts (equal_text p.0 n) (equal_text p.1 m) h).0 in
         let right = same_mark p.1 m (and_parts (equal_text p.0 n) (equal_text p.1 m) h).1 in
         rw (left, right, sum) refl
 
-under_mark : (m n : Node) (p : Node × Node) → is_pair m n p ≡ true → has_mark (pair_mark m n) p ≡ true
-under_mark m n p e = (Decides-eqb (pair_mark p.0 p.1) (pair_mark m n)).1 (pair_same m n p e)
+under_mark : (m n : Node) (p : Node × Node) → is_pair m n p ≡ true → has_hash (pair_hash m n) p ≡ true
+under_mark m n p e = (Decides-eqb (pair_hash p.0 p.1) (pair_hash m n)).1 (pair_same m n p e)
 
 -- a test that only marked pairs pass needs to look at these alone
 any_filtered : (f g : Node × Node → Bool) → ((p : Node × Node) → f p ≡ true → g p ≡ true) → (xs : List (Node × Node)) → list_any f (filter g xs) ≡ list_any f xs
@@ -99,6 +99,6 @@ any_filtered f g h (x ∷ xs) = go (g x) (f x) refl refl (any_filtered f g h xs)
     go false false p q ih = ih ∙ sym (rw q refl)
 
 pub found_met : (met : List (Node × Node)) (index : List (ℕ × Vec (Node × Node))) (m n : Node) → IsIndexOf met index →
-    is_met_pair (pairs_of (lookup (nat_eq (pair_mark m n)) index)) m n ≡ is_met_pair met m n
+    is_met_pair (pairs_of (lookup (nat_eq (pair_hash m n)) index)) m n ≡ is_met_pair met m n
 found_met met index m n h =
-    ap (λ (l : List (Node × Node)). list_any (is_pair m n) l) (h (pair_mark m n)) ∙ any_filtered (is_pair m n) (has_mark (pair_mark m n)) (under_mark m n) met
+    ap (λ (l : List (Node × Node)). list_any (is_pair m n) l) (h (pair_hash m n)) ∙ any_filtered (is_pair m n) (has_hash (pair_hash m n)) (under_mark m n) met

@@ -1,5 +1,5 @@
 pub mod Case
-pub mod Marks
+pub mod Hash
 pub mod Met
 pub mod Step
 pub mod Next

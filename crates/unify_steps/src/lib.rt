@@ -24,7 +24,7 @@
 mod answer;
 mod block;
 mod case;
-mod marks;
+mod hash;
 mod met;
 mod met_table;
 mod records;

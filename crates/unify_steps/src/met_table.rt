@@ -1,11 +1,11 @@
-//! A table of pairs of nodes, which are found by their marks.
+//! A table of pairs of nodes, which are found by their hashes.
 
 ghost use Rattle.std.specs.Prelude.{◌≡◌, ℕ, [], ◌∷◌, ◌++◌, if◌then◌else◌, nat_eq, OnOk, OnErr};
 ghost use Rattle.indexmap.specs.IndexMap.{get};
 ghost use Rattle.unify_steps.specs.Met.{pairs_of};
 ghost use Rattle.tree_node.specs.Goal.{is_met_pair};
 
-use crate::marks::pair_mark;
+use crate::hash::pair_hash;
 use crate::records::is_among;
 use indexmap::IndexMap;
 use std::alloc::{AllocError, Global};
@@ -56,7 +56,7 @@ impl MetTable {
     pub fn contains(&self, left: &Node, right: &Node) -> bool
         ensures { result ≡ is_met_pair self.now left.now right.now }
     {
-        match self.index.get(&pair_mark(left, right)) {
+        match self.index.get(&pair_hash(left, right)) {
             Some(pairs) => is_among(pairs.as_slice(), left, right),
             None => false,
         }
@@ -67,31 +67,31 @@ impl MetTable {
         ensures ok { OnOk result (self.new ≡ self.old ++ (left, right) ∷ []) }
         ensures err { OnErr result (self.new ≡ self.old) }
     {
-        let mark = pair_mark(&left, &right);
+        let hash = pair_hash(&left, &right);
         let again = (copy_node(&left)?, copy_node(&right)?);
         self.pairs.reserve(1)?;
-        add_under(&mut self.index, self.alloc, mark, again)?;
+        add_under(&mut self.index, self.alloc, hash, again)?;
         self.pairs.push((left, right))?;
         Ok(())
     }
 }
 
-// Puts a pair behind those of a mark.
+// Puts a pair behind those of a hash.
 fn add_under(
     index: &mut IndexMap<u64, Vec<(Node, Node)>>,
     alloc: Global,
-    mark: u64,
+    hash: u64,
     pair: (Node, Node),
 ) -> Result<(), AllocError>
-    ensures ok { OnOk result ((k : ℕ) → pairs_of (get nat_eq index.new k) ≡ (if nat_eq mark k then pairs_of (get nat_eq index.old k) ++ pair ∷ [] else pairs_of (get nat_eq index.old k))) }
+    ensures ok { OnOk result ((k : ℕ) → pairs_of (get nat_eq index.new k) ≡ (if nat_eq hash k then pairs_of (get nat_eq index.old k) ++ pair ∷ [] else pairs_of (get nat_eq index.old k))) }
     ensures err { OnErr result ((k : ℕ) → pairs_of (get nat_eq index.new k) ≡ pairs_of (get nat_eq index.old k)) }
 {
-    match index.get_mut(&mark) {
+    match index.get_mut(&hash) {
         Some(pairs) => pairs.push(pair)?,
         None => {
             let mut pairs = Vec::with_capacity(alloc, 1)?;
             pairs.push(pair)?;
-            index.insert(mark, pairs)?;
+            index.insert(hash, pairs)?;
         }
     }
     Ok(())

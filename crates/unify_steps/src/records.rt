@@ -4,7 +4,7 @@ ghost use Rattle.std.specs.Prelude.{◌≡◌, length, reverse, IfOk};
 ghost use Rattle.tree_node.specs.Goal.{is_met_pair, equal_features, field_pairs};
 
 use std::alloc::{AllocError, Global};
-use tree_node::{Feature, Node, Term, VarName, same_feature, same_text};
+use tree_node::{Feature, Node, Term, VarName, equal_feature, same_text};
 
 /// Whether the two nodes are among these pairs, in either order.
 pub fn is_among(pairs: &[(Node, Node)], left: &Node, right: &Node) -> bool
@@ -18,14 +18,14 @@ pub fn is_among(pairs: &[(Node, Node)], left: &Node, right: &Node) -> bool
 
 /// Whether two lists of fields have the same features.
 #[tactic(auto, using(crate::proofs::CaseLemmas::features_length))]
-pub fn same_features(left: &[(Feature, VarName)], right: &[(Feature, VarName)]) -> bool
+pub fn equal_features(left: &[(Feature, VarName)], right: &[(Feature, VarName)]) -> bool
     ensures { result ≡ equal_features left.now right.now }
 {
     if left.len() != right.len() {
         return false;
     }
     for (at, field) in left.iter().enumerate() {
-        if !same_feature(&field.0, &right[at].0) {
+        if !equal_feature(&field.0, &right[at].0) {
             return false;
         }
     }

@@ -23,7 +23,7 @@ use Rattle.site_model.specs.Site.{Site, Threads, Counters, CellRecord, cell_reco
 use Rattle.thread_roster.specs.declared.mode.Mode.TheVariants.{Runs, WaitsFor}
 use Rattle.site_model.specs.Transition.{Transition}
 use Rattle.site_model.specs.Cells.{last_before, with_last_asker, forward_row, get_row, with_exchange_waiting, request_row}
-use Rattle.world_model.specs.World.{World, Sites, Mail, Travels, after_transition, after_receipt, put, without_number, numbered, at_put, eqs, records, threads, cell_records, counters}
+use Rattle.world_model.specs.World.{World, Sites, Mail, Travels, after_transition, after_receipt, put, without_number, mail_from, at_put, eqs, records, threads, cell_records, counters}
 use Rattle.world_model.specs.Names.{IsHere, AreContentsHome, ContentsHome, here_at}
 use Rattle.world_model.specs.Matches.{PartsMatch, CellsMatch, IsExchange}
 use Rattle.world_model.proofs.PutLemmas.{at_all, at_own, nat_decides}
@@ -43,11 +43,11 @@ use Rattle.oz_model.proofs.KindLemmas.{cell_cases}
 
 pub only_parts : (p : List Stmt) (w : World) (i : ℕ) (d : Transition) (mail : Mail) (z : State) → PartsMatch p (here_at (records w.sites)) (eqs w.sites) (records w.sites) (threads w.sites) (counters w.sites) mail z → OnlyCells (w.sites i) d →
     MaySend p (eqs w.sites) (records w.sites) (threads w.sites) (counters w.sites) z.equations d.sent → PartsIn p (here_at (records w.sites)) (after_transition (record w { mail = mail }) i d) z
-only_parts p w i d mail z parts only may = to_put p (here_at (records w.sites)) w.sites i d.site (mail ++ numbered w.sent d.sent) z
-    (subst (λ (f : ℕ → Store). PartsMatch p (here_at (records w.sites)) f (at_put (records w.sites) i d.site.records) (at_put (threads w.sites) i d.site.threads) (at_put (counters w.sites) i d.site.counters) (mail ++ numbered w.sent d.sent) z) (sym (ap (at_put (eqs w.sites) i) only.equations ∙ at_own (eqs w.sites) i))
-    (subst (λ (f : ℕ → Records). PartsMatch p (here_at (records w.sites)) (eqs w.sites) f (at_put (threads w.sites) i d.site.threads) (at_put (counters w.sites) i d.site.counters) (mail ++ numbered w.sent d.sent) z) (sym (ap (at_put (records w.sites) i) only.records ∙ at_own (records w.sites) i))
-    (subst (λ (f : ℕ → Threads). PartsMatch p (here_at (records w.sites)) (eqs w.sites) (records w.sites) f (at_put (counters w.sites) i d.site.counters) (mail ++ numbered w.sent d.sent) z) (sym (ap (at_put (threads w.sites) i) only.threads ∙ at_own (threads w.sites) i))
-    (subst (λ (f : ℕ → Counters). PartsMatch p (here_at (records w.sites)) (eqs w.sites) (records w.sites) (threads w.sites) f (mail ++ numbered w.sent d.sent) z) (sym (ap (at_put (counters w.sites) i) only.counters ∙ at_own (counters w.sites) i))
+only_parts p w i d mail z parts only may = to_put p (here_at (records w.sites)) w.sites i d.site (mail ++ mail_from w.sent d.sent) z
+    (subst (λ (f : ℕ → Store). PartsMatch p (here_at (records w.sites)) f (at_put (records w.sites) i d.site.records) (at_put (threads w.sites) i d.site.threads) (at_put (counters w.sites) i d.site.counters) (mail ++ mail_from w.sent d.sent) z) (sym (ap (at_put (eqs w.sites) i) only.equations ∙ at_own (eqs w.sites) i))
+    (subst (λ (f : ℕ → Records). PartsMatch p (here_at (records w.sites)) (eqs w.sites) f (at_put (threads w.sites) i d.site.threads) (at_put (counters w.sites) i d.site.counters) (mail ++ mail_from w.sent d.sent) z) (sym (ap (at_put (records w.sites) i) only.records ∙ at_own (records w.sites) i))
+    (subst (λ (f : ℕ → Threads). PartsMatch p (here_at (records w.sites)) (eqs w.sites) (records w.sites) f (at_put (counters w.sites) i d.site.counters) (mail ++ mail_from w.sent d.sent) z) (sym (ap (at_put (threads w.sites) i) only.threads ∙ at_own (threads w.sites) i))
+    (subst (λ (f : ℕ → Counters). PartsMatch p (here_at (records w.sites)) (eqs w.sites) (records w.sites) (threads w.sites) f (mail ++ mail_from w.sent d.sent) z) (sym (ap (at_put (counters w.sites) i) only.counters ∙ at_own (counters w.sites) i))
     (parts_posts p (here_at (records w.sites)) (eqs w.sites) (records w.sites) (threads w.sites) (counters w.sites) mail z parts w.sent d.sent may)))))
 
 pub contents_put : (f : Sites) (i : ℕ) (s : Site) → ContentsHome (records f) (cell_records f) → s.records ≡ (f i).records → ((b : CellName) (u : VarName) → (cell_record s b).held.token ≡ Here u → (cell_record (f i) b).held.token ≡ Here u) →
@@ -143,11 +143,11 @@ module _ (p : List Stmt) (limit : ℕ) (w : World) (z : State) (parts : PartsIn 
 
     pub asks_kept : PartsIn p (here_at (records w.sites)) (after_transition w i asking) z × CellsMatch (after_transition w i asking) z
     asks_kept = (
-      to_put p (here_at (records w.sites)) w.sites i asking.site (w.mail ++ numbered w.sent asking.sent) z
-          (subst (λ (f : ℕ → Store). PartsMatch p (here_at (records w.sites)) f (at_put (records w.sites) i asking.site.records) (at_put (threads w.sites) i asking.site.threads) (at_put (counters w.sites) i asking.site.counters) (w.mail ++ numbered w.sent asking.sent) z) (sym (ap (at_put (eqs w.sites) i) only.equations ∙ at_own (eqs w.sites) i))
-          (subst (λ (f : ℕ → Records). PartsMatch p (here_at (records w.sites)) (eqs w.sites) f (at_put (threads w.sites) i asking.site.threads) (at_put (counters w.sites) i asking.site.counters) (w.mail ++ numbered w.sent asking.sent) z) (sym (ap (at_put (records w.sites) i) only.records ∙ at_own (records w.sites) i))
-          (subst (λ (us : Threads). PartsMatch p (here_at (records w.sites)) (eqs w.sites) (records w.sites) (at_put (threads w.sites) i us) (at_put (counters w.sites) i asking.site.counters) (w.mail ++ numbered w.sent asking.sent) z) (sym only.threads)
-          (subst (λ (f : ℕ → Counters). PartsMatch p (here_at (records w.sites)) (eqs w.sites) (records w.sites) (at_put (threads w.sites) i waiting_now) f (w.mail ++ numbered w.sent asking.sent) z) (sym (ap (at_put (counters w.sites) i) only.counters ∙ at_own (counters w.sites) i))
+      to_put p (here_at (records w.sites)) w.sites i asking.site (w.mail ++ mail_from w.sent asking.sent) z
+          (subst (λ (f : ℕ → Store). PartsMatch p (here_at (records w.sites)) f (at_put (records w.sites) i asking.site.records) (at_put (threads w.sites) i asking.site.threads) (at_put (counters w.sites) i asking.site.counters) (w.mail ++ mail_from w.sent asking.sent) z) (sym (ap (at_put (eqs w.sites) i) only.equations ∙ at_own (eqs w.sites) i))
+          (subst (λ (f : ℕ → Records). PartsMatch p (here_at (records w.sites)) (eqs w.sites) f (at_put (threads w.sites) i asking.site.threads) (at_put (counters w.sites) i asking.site.counters) (w.mail ++ mail_from w.sent asking.sent) z) (sym (ap (at_put (records w.sites) i) only.records ∙ at_own (records w.sites) i))
+          (subst (λ (us : Threads). PartsMatch p (here_at (records w.sites)) (eqs w.sites) (records w.sites) (at_put (threads w.sites) i us) (at_put (counters w.sites) i asking.site.counters) (w.mail ++ mail_from w.sent asking.sent) z) (sym only.threads)
+          (subst (λ (f : ℕ → Counters). PartsMatch p (here_at (records w.sites)) (eqs w.sites) (records w.sites) (at_put (threads w.sites) i waiting_now) f (w.mail ++ mail_from w.sent asking.sent) z) (sym (ap (at_put (counters w.sites) i) only.counters ∙ at_own (counters w.sites) i))
           (parts_posts p (here_at (records w.sites)) (eqs w.sites) (records w.sites) (at_put (threads w.sites) i waiting_now) (counters w.sites) w.mail z waits w.sent asking.sent
           (subst (λ (s : Store). MaySend p (eqs w.sites) (records w.sites) (at_put (threads w.sites) i waiting_now) (counters w.sites) z.equations (letters limit c s (exchange_reply c.site (last_before (w.sites i) c) (w.sites i).records.site new (cell_record (w.sites i) c).held).sent)) (sym only.equations)
           (request_may p (here_at (records w.sites)) (eqs w.sites) (records w.sites) (at_put (threads w.sites) i waiting_now) (counters w.sites) w.mail z waits limit i c (w.sites i).equations v refl value c.site (last_before (w.sites i) c) (w.sites i).records.site new (cell_record (w.sites i) c).held))))))),

@@ -8,7 +8,7 @@ use Rattle.tree_node.specs.Goal.{equal_cell}
 use Rattle.site_message.specs.declared.message.Msg.{Msg}
 use Rattle.site_message.specs.declared.message.Msg.TheVariants as msg
 use Rattle.site_message.specs.declared.message.Sent.{Sent}
-use Rattle.token_chain.specs.Mail.{Get, Forward, Put, same_cell, mail_count}
+use Rattle.token_chain.specs.Mail.{Get, Forward, Put, mail_count}
 use Rattle.token_chain.specs.Mail as token
 use Rattle.token_chain.specs.Rows.{Reply}
 use Rattle.token_chain.specs.Tally.{total, weights, Tally, Pays}
@@ -43,9 +43,9 @@ weighs_sum c (m ∷ ms) = let rest = weighs_sum c ms in let one = kinds m.msg in
     third false = refl
 
     kinds : (x : Msg) → cell_weight c 1 1 1 x ≡ cell_weight c 1 0 0 x + cell_weight c 0 1 0 x + cell_weight c 0 0 1 x
-    kinds (msg.Get d k) = some (same_cell c d)
-    kinds (msg.Forward d k) = second (same_cell c d)
-    kinds (msg.Put d v bundle) = third (same_cell c d)
+    kinds (msg.Get d k) = some (equal_cell c d)
+    kinds (msg.Forward d k) = second (equal_cell c d)
+    kinds (msg.Put d v bundle) = third (equal_cell c d)
     kinds (msg.Spawn n code vars bundle) = refl
     kinds (msg.Register x k) = refl
     kinds (msg.BindReq x n t bundle) = refl

@@ -15,7 +15,7 @@ use Rattle.site_message.specs.declared.message.Sent.{Sent}
 use Rattle.token_chain.specs.declared.token.Token.{Token}
 use Rattle.token_chain.specs.declared.token.Token.TheVariants.{Away, Asked, Here}
 use Rattle.token_chain.specs.Holding.{Holding}
-use Rattle.token_chain.specs.Mail.{Get, Forward, Put, travels, mail_count}
+use Rattle.token_chain.specs.Mail.{Get, Forward, Put, sent_count, mail_count}
 use Rattle.token_chain.specs.Mail as token
 use Rattle.token_chain.specs.Moves.{Replies}
 use Rattle.token_chain.specs.Rows.{Reply, exchange_reply, last_after, content_then}
@@ -24,7 +24,7 @@ use Rattle.token_chain.proofs.MoveLemmas.{unit_keeps, get_keeps, forward_keeps, 
 use Rattle.site_model.specs.Site.{Site, CellRecord, cell_record, last_asker}
 use Rattle.site_model.specs.Transition.{Transition}
 use Rattle.site_model.specs.Cells.{last_before, forward_row, get_row, request_row}
-use Rattle.world_model.specs.World.{Sites, Mail, World, Travels, cell_records, managers, put, after_transition, after_receipt, without_number, numbered}
+use Rattle.world_model.specs.World.{Sites, Mail, World, Travels, cell_records, managers, put, after_transition, after_receipt, without_number, mail_from}
 use Rattle.world_model.specs.Chain.{held_in, messages, HasChain, IsNowhere, Cells, AreGetsAddressed}
 use Rattle.world_model.proofs.PutLemmas.{nat_decides, at_here, at_other}
 use Rattle.world_model.proofs.MailLemmas.{sent_to, posts, gone}
@@ -36,7 +36,7 @@ abbrev pub held : Sites → CellName → ℕ → Holding
 held f c = held_in (cell_records f) c
 
 abbrev pub tally : CellName → Mail → token.Mail → ℕ
-tally c mail = travels c (messages mail)
+tally c mail = sent_count c (messages mail)
 
 abbrev pub last_of : Sites → CellName → Option ℕ
 last_of f c = lookup (equal_cell c) (managers f c.site)
@@ -137,7 +137,7 @@ lifts w i d c r gone mail a arrives = record {
 }
 
 pub others_stay : (w : World) (i : ℕ) (d : Transition) (b : CellName) (mail : Mail) → cell_record d.site b ≡ cell_record (w.sites i) b → last_asker d.site b ≡ last_asker (w.sites i) b →
-    ((m : token.Mail) → travels b d.sent m ≡ 0) → ((m : token.Mail) → tally b w.mail m ≡ tally b mail m) → Untouched w.sites (after_transition w i d).sites mail (after_transition w i d).mail b
+    ((m : token.Mail) → sent_count b d.sent m ≡ 0) → ((m : token.Mail) → tally b w.mail m ≡ tally b mail m) → Untouched w.sites (after_transition w i d).sites mail (after_transition w i d).mail b
 others_stay w i d b mail p l silent arrives = record {
   last = last_same w.sites i d.site b l;
   holds = held_same w.sites i d.site b (ap (λ (q : CellRecord). q.held) p);
@@ -146,7 +146,7 @@ others_stay w i d b mail p l silent arrives = record {
 
 -- a row that leaves a site's cells as they are, and sends nothing of them
 pub cells_stay : (w : World) (i : ℕ) (d : Transition) (mail : Mail) (cells : List (CellName × VarName)) → ((b : CellName) → cell_record d.site b ≡ cell_record (w.sites i) b) →
-    ((b : CellName) → last_asker d.site b ≡ last_asker (w.sites i) b) → ((b : CellName) (m : token.Mail) → travels b d.sent m ≡ 0) → ((b : CellName) (m : token.Mail) → tally b w.mail m ≡ tally b mail m) →
+    ((b : CellName) → last_asker d.site b ≡ last_asker (w.sites i) b) → ((b : CellName) (m : token.Mail) → sent_count b d.sent m ≡ 0) → ((b : CellName) (m : token.Mail) → tally b w.mail m ≡ tally b mail m) →
     CellsAt w.sites mail cells → CellsAt (after_transition w i d).sites (after_transition w i d).mail cells
 cells_stay w i d mail cells p l silent arrives all = record {
   chains = λ b v e. chain_stays w.sites _ mail _ b v (others_stay w i d b mail (p b) (l b) (silent b) (arrives b)) (all.chains b v e);
@@ -155,7 +155,7 @@ cells_stay w i d mail cells p l silent arrives all = record {
 
 -- ---- requests
 
-pub gets_posts : (mail : Mail) (n : ℕ) (out : List Sent) → AreGetsAddressed mail → ((to : ℕ) (c : CellName) (a : ℕ) → Contains out (sent_to to (msg.Get c a)) → (to ≡ c.site) × (a ≢ c.site)) → AreGetsAddressed (mail ++ numbered n out)
+pub gets_posts : (mail : Mail) (n : ℕ) (out : List Sent) → AreGetsAddressed mail → ((to : ℕ) (c : CellName) (a : ℕ) → Contains out (sent_to to (msg.Get c a)) → (to ≡ c.site) × (a ≢ c.site)) → AreGetsAddressed (mail ++ mail_from n out)
 gets_posts mail n out all new k to c a h = go ((posts mail n out).from k to (msg.Get c a) h)
   where
     go : Travels mail k to (msg.Get c a) ⊎ Contains out (sent_to to (msg.Get c a)) → (to ≡ c.site) × (a ≢ c.site)

@@ -20,10 +20,10 @@ use Rattle.variable_owner.specs.Owners.{owner_of, sites_of}
 use Rattle.proxy_table.specs.Proxies.{entry_of}
 use Rattle.bind_protocol.specs.Records.{Records, is_own, knowledge}
 use Rattle.bind_protocol.specs.Rows.{after_make, after_meet, meet_sends, register, register_answer, binding, meets_send, after_meets}
-use Rattle.token_chain.specs.Mail.{travels}
+use Rattle.token_chain.specs.Mail.{sent_count}
 use Rattle.token_chain.specs.Mail as token
 use Rattle.site_model.specs.Site.{Site}
-use Rattle.site_model.specs.Bundle.{bundled, all_bundled, message_vars, message_bundle}
+use Rattle.site_model.specs.Bundle.{with_own_bundle, with_own_bundles, message_vars, message_bundle}
 use Rattle.site_model.specs.Transition.{Transition, without_output, with_messages, with_pick, sequence, and_then}
 use Rattle.site_model.specs.Variables.{meeting, after_makes, with_new_equation, with_known_equation, with_known_equations, own_bind, own_binds, opening}
 use Rattle.site_model.specs.Messages.{with_thread, register_row, bind_request_row, bind_pick}
@@ -35,7 +35,7 @@ use Rattle.site_model.proofs.StillLemmas.{meets_site, makes_site}
 abbrev pub AreOfNone : List Sent → Type 0
 AreOfNone ms = Each (λ (m : Sent). IsOfNone m.msg) ms
 
-pub silent_list : (c : CellName) (ms : List Sent) → AreOfNone ms → (m : token.Mail) → travels c ms m ≡ 0
+pub silent_list : (c : CellName) (ms : List Sent) → AreOfNone ms → (m : token.Mail) → sent_count c ms m ≡ 0
 silent_list c [] h m = travels_none c m
 silent_list c (x ∷ ms) h m =
     let more = travels_more c x ms m in
@@ -83,10 +83,10 @@ none_then s d e a b = record {
 
 -- ---- bundles change no kind
 
-filled_none : (limit : ℕ) (s : Store) (m : Sent) → IsOfNone m.msg → IsOfNone (bundled limit s m).msg
+filled_none : (limit : ℕ) (s : Store) (m : Sent) → IsOfNone m.msg → IsOfNone (with_own_bundle limit s m).msg
 filled_none limit s m h = go m.msg h
   where
-    go : (x : Msg) → IsOfNone x → IsOfNone (bundled limit s (record { to = m.to; msg = x })).msg
+    go : (x : Msg) → IsOfNone x → IsOfNone (with_own_bundle limit s (record { to = m.to; msg = x })).msg
     go (msg.Spawn n code vars bundle) h = tt
     go (msg.Register x k) h = tt
     go (msg.BindReq x n t bundle) h = tt
@@ -95,7 +95,7 @@ filled_none limit s m h = go m.msg h
     go (msg.Forward c k) h = h
     go (msg.Put c v bundle) h = h
 
-all_filled_none : (limit : ℕ) (s : Store) (ms : List Sent) → AreOfNone ms → AreOfNone (all_bundled limit s ms)
+all_filled_none : (limit : ℕ) (s : Store) (ms : List Sent) → AreOfNone ms → AreOfNone (with_own_bundles limit s ms)
 all_filled_none limit s [] h = tt
 all_filled_none limit s (m ∷ ms) h = (filled_none limit s m h.0, all_filled_none limit s ms h.1)
 
@@ -198,7 +198,7 @@ pub bears_nothing : (p : List Stmt) (n limit : ℕ) (b : Option Birth) (s : Site
 bears_nothing p n limit None s = stays_still s
 bears_nothing p n limit (Some b) s = go (placement n s.records.site b.at == s.records.site)
   where
-    go : (here : Bool) → NoCells s (cond here (without_output (with_thread p (Some b) s)) (with_messages s (bundled limit s.equations (record { to = placement n s.records.site b.at; msg = msg.Spawn b.name b.code b.vars [] }) ∷ [])))
+    go : (here : Bool) → NoCells s (cond here (without_output (with_thread p (Some b) s)) (with_messages s (with_own_bundle limit s.equations (record { to = placement n s.records.site b.at; msg = msg.Spawn b.name b.code b.vars [] }) ∷ [])))
     go true = record { cell_records = refl; managers = refl; site = refl; silent = tt }
     go false = record { cell_records = refl; managers = refl; site = refl; silent = (tt, tt) }
 

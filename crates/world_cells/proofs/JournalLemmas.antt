@@ -22,7 +22,7 @@ use Rattle.world_cells.specs.FitRuns.{IsFitEntry, SiteFitRun}
 use Rattle.world_model.proofs.MailLemmas.{acts_after, same_world}
 use Rattle.world_model.proofs.PutLemmas.{at_all, at_here, at_own, at_twice, nat_decides}
 use Rattle.world_model.specs.Schedule.{schedule, lines_in}
-use Rattle.world_model.specs.World.{World, Sites, Travels, put, after_transition, after_receipt, numbered, world_of}
+use Rattle.world_model.specs.World.{World, Sites, Travels, put, after_transition, after_receipt, mail_from, world_of}
 use Rattle.world_variables.proofs.JournalLemmas.{came_acts, came_is, mail_of, mail_after}
 use Rattle.world_variables.specs.Rows.{IsElsewhere}
 use Rattle.site_message.specs.declared.message.Msg.TheVariants as msg
@@ -77,8 +77,8 @@ module _ (p : List Stmt) (n limit : ℕ) where
           sums : length (sent_of j) + length d.sent ≡ length (sent_of j ++ e.sent)
           sums = let l : length (sent_of j ++ e.sent) ≡ length (sent_of j) + length e.sent = length-append (sent_of j) e.sent in let q : length e.sent ≡ length d.sent = ap length tells.sent in omega arith
 
-          mails : mail_of e.delivered (travelling j ++ numbered (length (sent_of j)) d.sent) ≡ travelling (e ∷ j)
-          mails = ap (λ (ms : List Sent). mail_of e.delivered (travelling j ++ numbered (length (sent_of j)) ms)) (sym tells.sent) ∙ mail_after j e wired.0
+          mails : mail_of e.delivered (travelling j ++ mail_from (length (sent_of j)) d.sent) ≡ travelling (e ∷ j)
+          mails = ap (λ (ms : List Sent). mail_of e.delivered (travelling j ++ mail_from (length (sent_of j)) ms)) (sym tells.sent) ∙ mail_after j e wired.0
 
       finish : (d : Transition) → IsRecordOf e d → f i ≡ d.site → Paid p n (after_receipt e.delivered (after_transition w i d)) (schedule j ++ d.picks) (sent_of j ++ d.sent) → Paid p n (world_of (e ∷ j) f) (schedule j ++ e.picks) (sent_of j ++ e.sent)
       finish d tells is q = subst (λ (v : World). Paid p n v (schedule j ++ e.picks) (sent_of j ++ e.sent)) (whole d tells is) (subst (λ (ks : List Pick). Paid p n (after_receipt e.delivered (after_transition w i d)) (schedule j ++ ks) (sent_of j ++ e.sent)) (sym tells.picks) (subst (λ (ms : List Sent). Paid p n (after_receipt e.delivered (after_transition w i d)) (schedule j ++ d.picks) (sent_of j ++ ms)) (sym tells.sent) q))

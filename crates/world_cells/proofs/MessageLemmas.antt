@@ -30,7 +30,7 @@ use Rattle.site_model.specs.Transition.{Transition}
 use Rattle.site_model.specs.Variables.{with_known_equations, opening}
 use Rattle.site_model.specs.Cells.{get_row, forward_row, serving, put_row}
 use Rattle.site_model.specs.Messages.{reception, message_row, birth, bind_pick, bind_request_as, bind_request_row}
-use Rattle.world_model.specs.World.{World, Travels, after_transition, after_receipt, numbered, records, threads}
+use Rattle.world_model.specs.World.{World, Travels, after_transition, after_receipt, mail_from, records, threads}
 use Rattle.world_variables.specs.Plain.{IsPlain}
 use Rattle.world_model.specs.Names.{IsHere, here_at}
 use Rattle.world_model.specs.Matches.{IsNumbered, CellsMatch, IsAddressed, equations_in}
@@ -147,7 +147,7 @@ module _ (p : List Stmt) (limit : ℕ) (w : World) (ks : List Pick) (r : Reached
   sums_v = sums_row w i d r.centre r.centre (opens_summed m s r.centre) r.sums
 
   pub at_v : Travels v.mail k i m
-  at_v = Contains-append_left w.mail (numbered w.sent d.sent) _ at
+  at_v = Contains-append_left w.mail (mail_from w.sent d.sent) _ at
 
   pub low : k < v.sent
   low = numbers_v.below k i m at_v
@@ -336,8 +336,8 @@ module _ (p : List Stmt) (limit : ℕ) (w : World) (ks : List Pick) (r : Reached
       (λ y h. wider y (subst (λ (t : Site). IsHere t.records y) site_u h))
 
   cells_end : CellsMatch (after_receipt (Some k) (after_transition u i e)) r.centre
-  cells_end = gone_match (after_transition u i e) r.centre k i m (Contains-append_left u.mail (numbered u.sent e.sent) _ arrived)
-      (one_number (after_transition u i e) k i m (Contains-append_left u.mail (numbered u.sent e.sent) _ arrived) (λ a b x o h g. (numbered_acts u i e (numbers_v p limit w ks r k i m real at)).once k a b x o h g)) (plain_none m plain) cells_taken
+  cells_end = gone_match (after_transition u i e) r.centre k i m (Contains-append_left u.mail (mail_from u.sent e.sent) _ arrived)
+      (one_number (after_transition u i e) k i m (Contains-append_left u.mail (mail_from u.sent e.sent) _ arrived) (λ a b x o h g. (numbered_acts u i e (numbers_v p limit w ks r k i m real at)).once k a b x o h g)) (plain_none m plain) cells_taken
 
   pub plain_message : Whole p limit w ks r k i m real at
   plain_message = record {

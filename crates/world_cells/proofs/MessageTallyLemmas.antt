@@ -18,7 +18,7 @@ use Rattle.site_model.specs.Site.{Site}
 use Rattle.site_model.specs.Variables.{opening}
 use Rattle.site_model.specs.Cells.{get_row, forward_row, put_row}
 use Rattle.site_model.specs.Messages.{reception, message_row, bind_pick}
-use Rattle.world_model.specs.World.{World, Travels, after_transition, after_receipt, numbered}
+use Rattle.world_model.specs.World.{World, Travels, after_transition, after_receipt, mail_from}
 use Rattle.world_variables.specs.Plain.{IsPlain}
 use Rattle.world_model.proofs.MailLemmas.{sent_to, acts_after}
 use Rattle.world_variables.proofs.ReceiveLemmas.{numbered_acts}
@@ -119,7 +119,7 @@ module _ (p : List Stmt) (n limit : ℕ) (w : World) (ks : List Pick) (r : Reach
   plain_tallied m at plain far c2 run2 = whole_tally m at c2 r.centre.cells (λ b. length (exchanges p ks b)) cells_same (λ b. counted b a.picks)
       (subst (λ (x : World). CellsTallied n x.sites x.mail r.centre.cells (out_u m at ++ (message_row p limit m (there m at)).sent) (λ b. length (exchanges p ks b))) (came_acts (u m at) i (message_row p limit m (there m at)) k (low p limit w ks r k i m real at))
       (gone_tally n (after_transition (u m at) i (message_row p limit m (there m at))) r.centre.cells _ _ k i m
-      (one_number (after_transition (u m at) i (message_row p limit m (there m at))) k i m (Contains-append_left (u m at).mail (numbered (u m at).sent (message_row p limit m (there m at)).sent) _ (at_v p limit w ks r k i m real at))
+      (one_number (after_transition (u m at) i (message_row p limit m (there m at))) k i m (Contains-append_left (u m at).mail (mail_from (u m at).sent (message_row p limit m (there m at)).sent) _ (at_v p limit w ks r k i m real at))
       (λ a b x o h g. (numbered_acts (u m at) i (message_row p limit m (there m at)) (numbers_v p limit w ks r k i m real at)).once k a b x o h g))
       (plain_none m plain)
       (nothing_tally n (u m at) r.centre (cells_v p limit w ks r k i m real at) (out_u m at) _ (tally_u m at) i (message_row p limit m (there m at)) (subst (λ (y : Site). NoCells y (message_row p limit m (there m at))) (sym (site_v p limit w ks r k i m real at)) a.still))))

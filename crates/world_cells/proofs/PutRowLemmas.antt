@@ -21,14 +21,14 @@ use Rattle.oz_model.specs.Run.{Runs, exchanges_from}
 use Rattle.bind_protocol.specs.Records.{Records}
 use Rattle.token_chain.specs.declared.token.Token.TheVariants.{Here}
 use Rattle.token_chain.specs.Holding.{Holding}
-use Rattle.token_chain.specs.Mail.{Put, travels}
+use Rattle.token_chain.specs.Mail.{Put, sent_count}
 use Rattle.token_chain.specs.Rows.{leave_with, leave_reply, put_reply}
 use Rattle.token_chain.proofs.MoveLemmas.{messages_can_come, put_keeps}
 use Rattle.site_model.specs.Site.{Site, Threads, Counters, CellRecord, cell_record}
 use Rattle.thread_roster.specs.declared.mode.Mode.TheVariants.{WaitsFor}
 use Rattle.site_model.specs.Transition.{Transition}
 use Rattle.site_model.specs.Cells.{leave_row, serving, put_row}
-use Rattle.world_model.specs.World.{World, Travels, after_transition, after_receipt, without_number, numbered, at_put, eqs, records, threads, counters}
+use Rattle.world_model.specs.World.{World, Travels, after_transition, after_receipt, without_number, mail_from, at_put, eqs, records, threads, counters}
 use Rattle.world_model.specs.Names.{IsHere, AreContentsHome, here_at}
 use Rattle.world_model.proofs.CellLemmas.{OnlyCells, leave_only, leave_each, from_each}
 use Rattle.world_cells.specs.CellCounts.{cell_weights}
@@ -194,8 +194,8 @@ module _ (p : List Stmt) (limit : ℕ) (w : World) (z : State) (k i : ℕ) (c : 
       record {
         held = q.held;
         others = q.others;
-        sent = λ m. ap (λ (l : List Sent). travels c (l ++ second.sent) m) served.sent ∙ q.sent m;
-        silent = λ b d m. ap (λ (l : List Sent). travels b (l ++ second.sent) m) served.sent ∙ q.silent b d m;
+        sent = λ m. ap (λ (l : List Sent). sent_count c (l ++ second.sent) m) served.sent ∙ q.sent m;
+        silent = λ b d m. ap (λ (l : List Sent). sent_count b (l ++ second.sent) m) served.sent ∙ q.silent b d m;
         kinds = λ g f u. ap (λ (l : List Sent). cell_weights c g f u (l ++ second.sent)) served.sent ∙ q.kinds g f u;
         no_kinds = λ b d g f u. ap (λ (l : List Sent). cell_weights b g f u (l ++ second.sent)) served.sent ∙ q.no_kinds b d g f u;
       }
@@ -233,8 +233,8 @@ module _ (p : List Stmt) (limit : ℕ) (w : World) (z : State) (k i : ℕ) (c : 
   no_get : Each (λ (o : Sent). (b : CellName) (a : ℕ) → o.msg ≡ msg.Get b a → ⊥) second.sent
   no_get = leave_each (λ (o : Sent). (b : CellName) (a : ℕ) → o.msg ≡ msg.Get b a → ⊥) limit c first.site.equations (cell_record first.site c).held (λ j u e b a q. absurd (cc))
 
-  gets_after : AreGetsAddressed (without_number k w.mail ++ numbered w.sent whole.sent)
-  gets_after = subst (λ (l : List Sent). AreGetsAddressed (without_number k w.mail ++ numbered w.sent (l ++ second.sent))) (sym served.sent)
+  gets_after : AreGetsAddressed (without_number k w.mail ++ mail_from w.sent whole.sent)
+  gets_after = subst (λ (l : List Sent). AreGetsAddressed (without_number k w.mail ++ mail_from w.sent (l ++ second.sent))) (sym served.sent)
       (gets_posts (without_number k w.mail) w.sent second.sent (gets_gone k w.mail x.gets) (λ to b a q. absurd (from_each (λ (to : ℕ) (m : Msg). (b : CellName) (a : ℕ) → m ≡ msg.Get b a → ⊥) _ no_get to (msg.Get b a) q b a refl)))
 
   only : OnlyCells first.site second
@@ -242,11 +242,11 @@ module _ (p : List Stmt) (limit : ℕ) (w : World) (z : State) (k i : ℕ) (c : 
 
   parts_after : PartsIn p (here_at (records w.sites)) (after_transition (after_receipt (Some k) w) i whole) served.state
   parts_after = to_put p (here_at (records w.sites)) w.sites i whole.site _ served.state
-      (subst (λ (l : List Sent). PartsMatch p (here_at (records w.sites)) (at_put (eqs w.sites) i whole.site.equations) (at_put (records w.sites) i whole.site.records) (at_put (threads w.sites) i whole.site.threads) (at_put (counters w.sites) i whole.site.counters) (without_number k w.mail ++ numbered w.sent (l ++ second.sent)) served.state) (sym served.sent)
-      (subst (λ (f : ℕ → Store). PartsMatch p (here_at (records w.sites)) f (at_put (records w.sites) i whole.site.records) (at_put (threads w.sites) i whole.site.threads) (at_put (counters w.sites) i whole.site.counters) (without_number k w.mail ++ numbered w.sent second.sent) served.state) (sym (ap (at_put (eqs w.sites) i) (only.equations ∙ served.equations) ∙ at_own (eqs w.sites) i))
-      (subst (λ (f : ℕ → Records). PartsMatch p (here_at (records w.sites)) (eqs w.sites) f (at_put (threads w.sites) i whole.site.threads) (at_put (counters w.sites) i whole.site.counters) (without_number k w.mail ++ numbered w.sent second.sent) served.state) (sym (ap (at_put (records w.sites) i) (only.records ∙ served.records) ∙ at_own (records w.sites) i))
-      (subst (λ (f : ℕ → Counters). PartsMatch p (here_at (records w.sites)) (eqs w.sites) (records w.sites) (at_put (threads w.sites) i whole.site.threads) f (without_number k w.mail ++ numbered w.sent second.sent) served.state) (sym (ap (at_put (counters w.sites) i) (only.counters ∙ served.counters) ∙ at_own (counters w.sites) i))
-      (subst (λ (ts : Threads). PartsMatch p (here_at (records w.sites)) (eqs w.sites) (records w.sites) (at_put (threads w.sites) i ts) (counters w.sites) (without_number k w.mail ++ numbered w.sent second.sent) served.state) (sym only.threads)
+      (subst (λ (l : List Sent). PartsMatch p (here_at (records w.sites)) (at_put (eqs w.sites) i whole.site.equations) (at_put (records w.sites) i whole.site.records) (at_put (threads w.sites) i whole.site.threads) (at_put (counters w.sites) i whole.site.counters) (without_number k w.mail ++ mail_from w.sent (l ++ second.sent)) served.state) (sym served.sent)
+      (subst (λ (f : ℕ → Store). PartsMatch p (here_at (records w.sites)) f (at_put (records w.sites) i whole.site.records) (at_put (threads w.sites) i whole.site.threads) (at_put (counters w.sites) i whole.site.counters) (without_number k w.mail ++ mail_from w.sent second.sent) served.state) (sym (ap (at_put (eqs w.sites) i) (only.equations ∙ served.equations) ∙ at_own (eqs w.sites) i))
+      (subst (λ (f : ℕ → Records). PartsMatch p (here_at (records w.sites)) (eqs w.sites) f (at_put (threads w.sites) i whole.site.threads) (at_put (counters w.sites) i whole.site.counters) (without_number k w.mail ++ mail_from w.sent second.sent) served.state) (sym (ap (at_put (records w.sites) i) (only.records ∙ served.records) ∙ at_own (records w.sites) i))
+      (subst (λ (f : ℕ → Counters). PartsMatch p (here_at (records w.sites)) (eqs w.sites) (records w.sites) (at_put (threads w.sites) i whole.site.threads) f (without_number k w.mail ++ mail_from w.sent second.sent) served.state) (sym (ap (at_put (counters w.sites) i) (only.counters ∙ served.counters) ∙ at_own (counters w.sites) i))
+      (subst (λ (ts : Threads). PartsMatch p (here_at (records w.sites)) (eqs w.sites) (records w.sites) (at_put (threads w.sites) i ts) (counters w.sites) (without_number k w.mail ++ mail_from w.sent second.sent) served.state) (sym only.threads)
       (parts_posts p (here_at (records w.sites)) (eqs w.sites) (records w.sites) (at_put (threads w.sites) i first.site.threads) (counters w.sites) (without_number k w.mail) served.state served.parts w.sent second.sent
       (leave_may p (here_at (records w.sites)) (eqs w.sites) (records w.sites) (at_put (threads w.sites) i first.site.threads) (counters w.sites) (without_number k w.mail) served.state served.parts limit i c first.site.equations served.content served.equations served.value (cell_record first.site c).held (λ u e. came_content u (sym (ap (λ (y : CellRecord). y.held.token) served.place) ∙ e)))))))))
 

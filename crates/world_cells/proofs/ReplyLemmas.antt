@@ -1,6 +1,8 @@
 -- What each row on cells makes of a site: what it keeps of the cell, and the messages of the cell that it sends.
 use Rattle.std.proofs.Common.{arith, ◌≡◌, ◌∙◌, sym, ap, refl, subst, ℕ, ◌+◌, List, [], ◌∷◌, ◌++◌, Bool, true, false, cond, Some}
 use Rattle.std.specs.Prelude.{Option, ◌≢◌, ◌==◌, unwrap_or}
+use Rattle.std.proofs.lemmas.Bool.{cond-true, cond-false}
+use Rattle.tree_node.specs.Goal.{equal_cell}
 use Rattle.tree_node.specs.declared.names.VarName.{VarName}
 use Rattle.tree_node.specs.declared.names.CellName.{CellName}
 use Rattle.tree_node.specs.declared.names.ThreadName.{ThreadName}
@@ -11,7 +13,7 @@ use Rattle.site_message.specs.declared.message.Sent.{Sent}
 use Rattle.token_chain.specs.declared.token.Token.{Token}
 use Rattle.token_chain.specs.declared.token.Token.TheVariants.{Away, Asked, Here}
 use Rattle.token_chain.specs.Holding.{Holding}
-use Rattle.token_chain.specs.Mail.{Get, Forward, Put, same_cell, travels, mail_count}
+use Rattle.token_chain.specs.Mail.{Get, Forward, Put, sent_count, mail_count}
 use Rattle.token_chain.specs.Tally.{weight, weights}
 use Rattle.token_chain.specs.Mail as token
 use Rattle.token_chain.specs.Rows.{Reply, leave_reply, forward_reply, get_reply, exchange_reply, last_after}
@@ -31,8 +33,8 @@ use Rattle.site_model.proofs.StillLemmas.{request_records}
 pub record Answers (c : CellName) (r : Reply) (s : Site) (d : Transition) : Type 0 where
   pub held : (cell_record d.site c).held ≡ r.held
   pub others : (b : CellName) → b ≢ c → cell_record d.site b ≡ cell_record s b
-  pub sent : (m : token.Mail) → travels c d.sent m ≡ mail_count r.sent m
-  pub silent : (b : CellName) → b ≢ c → (m : token.Mail) → travels b d.sent m ≡ 0
+  pub sent : (m : token.Mail) → sent_count c d.sent m ≡ mail_count r.sent m
+  pub silent : (b : CellName) → b ≢ c → (m : token.Mail) → sent_count b d.sent m ≡ 0
   pub kinds : (g f u : ℕ) → cell_weights c g f u d.sent ≡ weights g f u r.sent
   pub no_kinds : (b : CellName) → b ≢ c → (g f u : ℕ) → cell_weights b g f u d.sent ≡ 0
 
@@ -43,27 +45,19 @@ pub record Manages (c : CellName) (o : Option ℕ) (s : Site) (d : Transition) :
 
 -- ---- one message
 
-one_says : (c : CellName) (a : token.Mail) (x : Sent) → Says c a x.to x.msg → (m : token.Mail) → travels c (x ∷ []) m ≡ mail_count (a ∷ []) m
+one_says : (c : CellName) (a : token.Mail) (x : Sent) → Says c a x.to x.msg → (m : token.Mail) → sent_count c (x ∷ []) m ≡ mail_count (a ∷ []) m
 one_says c a x h m =
     let more = travels_more c x [] m in
     let says = h m in
     let none = travels_none c m in
     omega arith
 
-one_silent : (b : CellName) (x : Sent) → IsSilent b x.to x.msg → (m : token.Mail) → travels b (x ∷ []) m ≡ 0
+one_silent : (b : CellName) (x : Sent) → IsSilent b x.to x.msg → (m : token.Mail) → sent_count b (x ∷ []) m ≡ 0
 one_silent b x h m =
     let more = travels_more b x [] m in
     let none = travels_none b m in
     let silent = silent_counts b x.to x.msg h m in
     omega arith
-
-one_kind : (b : Bool) (g : ℕ) → b ≡ true → cond b g 0 ≡ g
-one_kind true g e = refl
-one_kind false g e = cc
-
-other_kind : (b : Bool) (g : ℕ) → b ≡ false → cond b g 0 ≡ 0
-other_kind false g e = refl
-other_kind true g e = cc
 
 letter_says : (limit : ℕ) (c : CellName) (s : Store) (a : token.Mail) → Says c a (letter limit c s a).to (letter limit c s a).msg
 letter_says limit c s (Get k) = says_get c k
@@ -76,18 +70,18 @@ letter_silent limit b c s (Forward to k) h = silent_forward b c to k h
 letter_silent limit b c s (Put to v) h = silent_put b c to v (bundle_of limit s (msg.Put c v [])) h
 
 letter_kind : (limit : ℕ) (c : CellName) (s : Store) (a : token.Mail) (g f u : ℕ) → cell_weight c g f u (letter limit c s a).msg ≡ weight g f u a
-letter_kind limit c s (Get k) g f u = one_kind (same_cell c c) g (cell_same c)
-letter_kind limit c s (Forward to k) g f u = one_kind (same_cell c c) f (cell_same c)
-letter_kind limit c s (Put to v) g f u = one_kind (same_cell c c) u (cell_same c)
+letter_kind limit c s (Get k) g f u = cond-true (equal_cell c c) g 0 (cell_same c)
+letter_kind limit c s (Forward to k) g f u = cond-true (equal_cell c c) f 0 (cell_same c)
+letter_kind limit c s (Put to v) g f u = cond-true (equal_cell c c) u 0 (cell_same c)
 
 letter_no_kind : (limit : ℕ) (b c : CellName) (s : Store) (a : token.Mail) → b ≢ c → (g f u : ℕ) → cell_weight b g f u (letter limit c s a).msg ≡ 0
-letter_no_kind limit b c s (Get k) h g f u = other_kind (same_cell b c) g (cells_differ b c h)
-letter_no_kind limit b c s (Forward to k) h g f u = other_kind (same_cell b c) f (cells_differ b c h)
-letter_no_kind limit b c s (Put to v) h g f u = other_kind (same_cell b c) u (cells_differ b c h)
+letter_no_kind limit b c s (Get k) h g f u = cond-false (equal_cell b c) g 0 (cells_differ b c h)
+letter_no_kind limit b c s (Forward to k) h g f u = cond-false (equal_cell b c) f 0 (cells_differ b c h)
+letter_no_kind limit b c s (Put to v) h g f u = cond-false (equal_cell b c) u 0 (cells_differ b c h)
 
 -- ---- those of a reply
 
-letters_say : (limit : ℕ) (c : CellName) (s : Store) (ms : List token.Mail) (m : token.Mail) → travels c (letters limit c s ms) m ≡ mail_count ms m
+letters_say : (limit : ℕ) (c : CellName) (s : Store) (ms : List token.Mail) (m : token.Mail) → sent_count c (letters limit c s ms) m ≡ mail_count ms m
 letters_say limit c s [] m = travels_none c m
 letters_say limit c s (a ∷ ms) m =
     let both = travels_append c (letter limit c s a ∷ []) (letters limit c s ms) m in
@@ -95,7 +89,7 @@ letters_say limit c s (a ∷ ms) m =
     let rest = letters_say limit c s ms m in
     omega arith
 
-letters_silent : (limit : ℕ) (b c : CellName) (s : Store) (ms : List token.Mail) → b ≢ c → (m : token.Mail) → travels b (letters limit c s ms) m ≡ 0
+letters_silent : (limit : ℕ) (b c : CellName) (s : Store) (ms : List token.Mail) → b ≢ c → (m : token.Mail) → sent_count b (letters limit c s ms) m ≡ 0
 letters_silent limit b c s [] h m = travels_none b m
 letters_silent limit b c s (a ∷ ms) h m =
     let both = travels_append b (letter limit c s a ∷ []) (letters limit c s ms) m in

@@ -19,7 +19,7 @@ use Rattle.site_model.specs.Run as Run
 use Rattle.world_model.specs.Schedule.{schedule, sum_to}
 use Rattle.world_cells.specs.FitRuns.{IsFitEntry, SiteFitRun}
 use Rattle.world_model.specs.World.{Sites, world_of}
-use Rattle.world_model.specs.Matches.{Totals, ended, living, spawns}
+use Rattle.world_model.specs.Matches.{Totals, ended, living, spawn_count}
 use Rattle.world_model.specs.Simulated.{last_ended, last_waiting, IsSimulated}
 use Rattle.world_cells.specs.FitRuns.{FitRunsAreSimulated}
 use Rattle.world_model.proofs.PutLemmas.{nat_decides}
@@ -94,8 +94,8 @@ module _ (p : List Stmt) (n limit : ℕ) (j : List Turn) (f : Sites) (some : 1 �
 
   all_wait : IsTrue (is_quiet n j) → length r.centre.threads ≡ sum_to n (λ (i : ℕ). waiting_count (f i))
   all_wait q =
-      let none : spawns (travelling j) ≡ 0 = ap spawns (quiet_mail n j q) in
-      let all : length r.centre.threads ≡ sum_to n (living f) + spawns (travelling j) = totals.all_living in
+      let none : spawn_count (travelling j) ≡ 0 = ap spawn_count (quiet_mail n j q) in
+      let all : length r.centre.threads ≡ sum_to n (living f) + spawn_count (travelling j) = totals.all_living in
       let same : sum_to n (λ (i : ℕ). waiting_count (f i)) ≡ sum_to n (living f) = sum_same n (λ (i : ℕ). waiting_count (f i)) (living f) (λ i low high. (nat_decides (waiting_count (f i)) (length (f i).threads)).0 (idle_now p n limit i j (f i) (runs i) (((quiet_tells n j).0 q).1 i low high))) in
       omega (arith, none, all, same)
 

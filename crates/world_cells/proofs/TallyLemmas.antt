@@ -3,6 +3,7 @@ use Rattle.std.proofs.Common.{arith, ◌≡◌, ◌∙◌, sym, ap, refl, subst,
 use Rattle.std.specs.Prelude.{◌≢◌, ◌==◌, not, Contains}
 use Rattle.std.specs.Bool.{Decides}
 use Rattle.std.proofs.lemmas.List.Sums.{sum_by-append, sum_by-cons}
+use Rattle.tree_node.specs.Goal.{equal_cell}
 use Rattle.tree_node.specs.declared.names.VarName.{VarName}
 use Rattle.tree_node.specs.declared.names.CellName.{CellName}
 use Rattle.tree_node.specs.Store.{Equation}
@@ -10,11 +11,11 @@ use Rattle.tree_node.proofs.ClassLemmas.{Contains-cons_cases, Contains-head, Con
 use Rattle.site_message.specs.declared.message.Msg.{Msg}
 use Rattle.site_message.specs.declared.message.Msg.TheVariants as msg
 use Rattle.site_message.specs.declared.message.Sent.{Sent}
-use Rattle.token_chain.specs.Mail.{Get, Forward, Put, sent_as, same_cell, is_mail, travels, same_mail, mail_count}
+use Rattle.token_chain.specs.Mail.{Get, Forward, Put, sent_as, is_mail, sent_count, equal_mail, mail_count}
 use Rattle.token_chain.specs.Mail as token
 use Rattle.token_chain.proofs.ChangeLemmas.{same_mail_decides, mail_or}
 use Rattle.token_chain.proofs.MailLemmas.{tells_decides}
-use Rattle.world_model.specs.World.{Mail, Travels, numbered, without_number}
+use Rattle.world_model.specs.World.{Mail, Travels, mail_from, without_number}
 use Rattle.world_model.specs.Chain.{messages}
 use Rattle.world_model.proofs.PutLemmas.{nat_decides}
 use Rattle.world_model.proofs.MailLemmas.{nothing, sent_to}
@@ -55,17 +56,17 @@ says_put c to v bundle m = any m ∙ tells_once c (Put to v) m
     any (Forward a b) = refl
     any (Put h u) = refl
 
-other_get : (b c : CellName) (to k : ℕ) → same_cell b c ≡ false → IsSilent b to (msg.Get c k)
+other_get : (b c : CellName) (to k : ℕ) → equal_cell b c ≡ false → IsSilent b to (msg.Get c k)
 other_get b c to k e (Get s) = rw e refl
 other_get b c to k e (Forward x y) = refl
 other_get b c to k e (Put h v) = refl
 
-other_forward : (b c : CellName) (to k : ℕ) → same_cell b c ≡ false → IsSilent b to (msg.Forward c k)
+other_forward : (b c : CellName) (to k : ℕ) → equal_cell b c ≡ false → IsSilent b to (msg.Forward c k)
 other_forward b c to k e (Get s) = refl
 other_forward b c to k e (Forward x y) = rw e refl
 other_forward b c to k e (Put h v) = refl
 
-other_put : (b c : CellName) (to : ℕ) (v : VarName) (bundle : List Equation) → same_cell b c ≡ false → IsSilent b to (msg.Put c v bundle)
+other_put : (b c : CellName) (to : ℕ) (v : VarName) (bundle : List Equation) → equal_cell b c ≡ false → IsSilent b to (msg.Put c v bundle)
 other_put b c to v bundle e (Get s) = refl
 other_put b c to v bundle e (Forward x y) = refl
 other_put b c to v bundle e (Put h u) = rw e refl
@@ -109,26 +110,26 @@ silent_counts c to x h m = ap (λ (b : Bool). cond b 1 0) (h m)
 
 -- ---- messages are sent
 
-pub travels_none : (c : CellName) (m : token.Mail) → travels c [] m ≡ 0
+pub travels_none : (c : CellName) (m : token.Mail) → sent_count c [] m ≡ 0
 travels_none c m = refl
 
-pub travels_more : (c : CellName) (s : Sent) (ms : List Sent) (m : token.Mail) → travels c (s ∷ ms) m ≡ counts c m s + travels c ms m
+pub travels_more : (c : CellName) (s : Sent) (ms : List Sent) (m : token.Mail) → sent_count c (s ∷ ms) m ≡ counts c m s + sent_count c ms m
 travels_more c s ms m = sum_by-cons (counts c m) s ms
 
-pub travels_append : (c : CellName) (ms os : List Sent) (m : token.Mail) → travels c (ms ++ os) m ≡ travels c ms m + travels c os m
+pub travels_append : (c : CellName) (ms os : List Sent) (m : token.Mail) → sent_count c (ms ++ os) m ≡ sent_count c ms m + sent_count c os m
 travels_append c ms os m = sum_by-append (counts c m) ms os
 
 messages_append : (ms os : Mail) → messages (ms ++ os) ≡ messages ms ++ messages os
 messages_append [] os = refl
 messages_append (x ∷ ms) os = ap (λ (l : List Sent). x.1 ∷ l) (messages_append ms os)
 
-messages_numbered : (k : ℕ) (os : List Sent) → messages (numbered k os) ≡ os
+messages_numbered : (k : ℕ) (os : List Sent) → messages (mail_from k os) ≡ os
 messages_numbered k [] = refl
 messages_numbered k (s ∷ os) = ap (λ (l : List Sent). s ∷ l) (messages_numbered (k + 1) os)
 
-pub tally_sent : (c : CellName) (mail : Mail) (k : ℕ) (os : List Sent) (m : token.Mail) → travels c (messages (mail ++ numbered k os)) m ≡ travels c (messages mail) m + travels c os m
+pub tally_sent : (c : CellName) (mail : Mail) (k : ℕ) (os : List Sent) (m : token.Mail) → sent_count c (messages (mail ++ mail_from k os)) m ≡ sent_count c (messages mail) m + sent_count c os m
 tally_sent c mail k os m =
-    ap (λ (l : List Sent). travels c l m) (messages_append mail (numbered k os) ∙ ap (λ (l : List Sent). messages mail ++ l) (messages_numbered k os))
+    ap (λ (l : List Sent). sent_count c l m) (messages_append mail (mail_from k os) ∙ ap (λ (l : List Sent). messages mail ++ l) (messages_numbered k os))
     ∙ travels_append c (messages mail) os m
 
 -- ---- a message comes
@@ -138,12 +139,12 @@ abbrev taken : CellName → token.Mail → ℕ → Mail → ℕ
 taken c m k [] = 0
 taken c m k (x ∷ xs) = cond (k == x.0) (counts c m x.1) 0 + taken c m k xs
 
-taken_rest : (c : CellName) (m : token.Mail) (k : ℕ) (mail : Mail) → travels c (messages (without_number k mail)) m + taken c m k mail ≡ travels c (messages mail) m
+taken_rest : (c : CellName) (m : token.Mail) (k : ℕ) (mail : Mail) → sent_count c (messages (without_number k mail)) m + taken c m k mail ≡ sent_count c (messages mail) m
 taken_rest c m k [] = refl
 taken_rest c m k (x ∷ xs) = go (k == x.0) (taken_rest c m k xs) ∙ sym (travels_more c x.1 (messages xs) m)
   where
-    go : (b : Bool) → travels c (messages (without_number k xs)) m + taken c m k xs ≡ travels c (messages xs) m →
-        travels c (messages (cond (not b) (x ∷ without_number k xs) (without_number k xs))) m + (cond b (counts c m x.1) 0 + taken c m k xs) ≡ counts c m x.1 + travels c (messages xs) m
+    go : (b : Bool) → sent_count c (messages (without_number k xs)) m + taken c m k xs ≡ sent_count c (messages xs) m →
+        sent_count c (messages (cond (not b) (x ∷ without_number k xs) (without_number k xs))) m + (cond b (counts c m x.1) 0 + taken c m k xs) ≡ counts c m x.1 + sent_count c (messages xs) m
     go true ih = omega arith
     go false ih = let more = travels_more c x.1 (messages (without_number k xs)) m in omega arith
 
@@ -175,16 +176,16 @@ taken_some c m k s (x ∷ xs) h = go (Contains-cons_cases _ _ xs h) (λ r. taken
 
 -- a message of the cell has come, of which one travelled
 pub tally_came : (c : CellName) (a : token.Mail) (mail : Mail) (k to : ℕ) (x : Msg) → Travels mail k to x → OneOfNumber mail k (sent_to to x) → Says c a to x →
-    travels c (messages mail) a ≡ 1 → (m : token.Mail) → travels c (messages (without_number k mail)) m + mail_count (a ∷ []) m ≡ travels c (messages mail) m
+    sent_count c (messages mail) a ≡ 1 → (m : token.Mail) → sent_count c (messages (without_number k mail)) m + mail_count (a ∷ []) m ≡ sent_count c (messages mail) m
 tally_came c a mail k to x h one says before m = go (mail_or m a)
   where
-    go : (m ≡ a) ⊎ (m ≢ a) → travels c (messages (without_number k mail)) m + mail_count (a ∷ []) m ≡ travels c (messages mail) m
+    go : (m ≡ a) ⊎ (m ≢ a) → sent_count c (messages (without_number k mail)) m + mail_count (a ∷ []) m ≡ sent_count c (messages mail) m
     go (inl e) =
         let rest = taken_rest c m k mail in
         let some = taken_some c m k (sent_to to x) mail h in
         let is = says m in
         let self : mail_count (a ∷ []) m ≡ 1 = once m e in
-        let was : travels c (messages mail) m ≡ 1 = ap (travels c (messages mail)) e ∙ before in
+        let was : sent_count c (messages mail) m ≡ 1 = ap (sent_count c (messages mail)) e ∙ before in
         omega (arith, some)
       where
         once : (m : token.Mail) → m ≡ a → mail_count (a ∷ []) m ≡ 1
@@ -195,21 +196,21 @@ tally_came c a mail k to x h one says before m = go (mail_or m a)
         let z = taken_none c m k (sent_to to x) mail one (says m ∙ none) in omega arith
       where
         never : (m : token.Mail) → m ≢ a → mail_count (a ∷ []) m ≡ 0
-        never m d = no (same_mail a m) refl
+        never m d = no (equal_mail a m) refl
           where
-            no : (b : Bool) → same_mail a m ≡ b → cond b 1 0 + 0 ≡ 0
+            no : (b : Bool) → equal_mail a m ≡ b → cond b 1 0 + 0 ≡ 0
             no true e = absurd (d (sym ((same_mail_decides a m).0 e)))
             no false e = refl
 
 -- a message of another cell, or of none
 pub tally_other : (c : CellName) (mail : Mail) (k to : ℕ) (x : Msg) → OneOfNumber mail k (sent_to to x) → IsSilent c to x →
-    (m : token.Mail) → travels c (messages (without_number k mail)) m ≡ travels c (messages mail) m
+    (m : token.Mail) → sent_count c (messages (without_number k mail)) m ≡ sent_count c (messages mail) m
 tally_other c mail k to x one silent m =
     let rest = taken_rest c m k mail in
     let z = taken_none c m k (sent_to to x) mail one (silent_counts c to x silent m) in omega arith
 
 -- a message that travels is counted
-pub tally_there : (c : CellName) (a : token.Mail) (mail : Mail) (k to : ℕ) (x : Msg) → Travels mail k to x → Says c a to x → travels c (messages mail) a ≢ 0
+pub tally_there : (c : CellName) (a : token.Mail) (mail : Mail) (k to : ℕ) (x : Msg) → Travels mail k to x → Says c a to x → sent_count c (messages mail) a ≢ 0
 tally_there c a mail k to x h says none =
     let rest = taken_rest c a k mail in
     let some = taken_some c a k (sent_to to x) mail h in

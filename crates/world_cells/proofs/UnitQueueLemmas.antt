@@ -19,7 +19,7 @@ use Rattle.proxy_table.specs.Proxies.{entry_of}
 use Rattle.token_chain.specs.Holding.{Holding, away}
 use Rattle.site_model.specs.Site.{Site, Threads, CellRecord, cell_record_in, cell_record, runnable_threads}
 use Rattle.thread_roster.specs.declared.mode.Mode.TheVariants.{Runs, WaitsFor}
-use Rattle.site_model.specs.Bundle.{bundled}
+use Rattle.site_model.specs.Bundle.{with_own_bundle}
 use Rattle.site_model.specs.Transition.{Transition, without_output, with_messages, with_pick, and_then}
 use Rattle.site_model.specs.Cells.{exchange_stack}
 use Rattle.site_model.specs.Variables.{with_known_equation, with_known_equations, own_binds}
@@ -119,7 +119,7 @@ module _ (p : List Stmt) (n limit : ℕ) (k : Pick) (kinds : List NameKind) (e :
               absurd (not_both (value_of equal_thread s.threads m) (r, WaitsFor d) was none)
           one false q = rw q refl
 
-      go : (here : Bool) → SameWaiters s.threads (cond here (without_output (with_thread p (Some b) (after_effect k.thread e begun.site))) (with_messages (after_effect k.thread e begun.site) (bundled limit (after_effect k.thread e begun.site).equations (record { to = placement n (after_effect k.thread e begun.site).records.site b.at; msg = msg.Spawn b.name b.code b.vars [] }) ∷ []))).site.threads d
+      go : (here : Bool) → SameWaiters s.threads (cond here (without_output (with_thread p (Some b) (after_effect k.thread e begun.site))) (with_messages (after_effect k.thread e begun.site) (with_own_bundle limit (after_effect k.thread e begun.site).equations (record { to = placement n (after_effect k.thread e begun.site).records.site b.at; msg = msg.Spawn b.name b.code b.vars [] }) ∷ []))).site.threads d
       go true = waiters_then s.threads (after_effect k.thread e begun.site).threads _ d (went_waiters d) (born_waiters (threads_born p (Some b)) (after_effect k.thread e begun.site).threads d apart)
       go false = went_waiters d
 

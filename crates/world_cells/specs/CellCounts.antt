@@ -1,5 +1,6 @@
 -- How many messages of a cell were sent, by their kinds.
 use Rattle.std.specs.Prelude.{ℕ, ◌+◌, ◌*◌, ◌≤◌, List, [], ◌∷◌, length, if◌then◌else◌}
+use Rattle.tree_node.specs.Goal.{equal_cell}
 use Rattle.tree_node.specs.declared.names.CellName.{CellName}
 use Rattle.kernel_syntax.specs.declared.stmt.Stmt.{Stmt}
 use Rattle.site_message.specs.declared.message.Msg.{Msg}
@@ -7,7 +8,7 @@ use Rattle.site_message.specs.declared.message.Msg.TheVariants as msg
 use Rattle.site_message.specs.declared.message.Sent.{Sent}
 use Rattle.site_message.specs.declared.turn.Turn.{Turn}
 use Rattle.site_message.specs.Journal.{Wired, sent_of}
-use Rattle.token_chain.specs.Mail.{same_cell, travels}
+use Rattle.token_chain.specs.Mail.{sent_count}
 use Rattle.token_chain.specs.Tally.{Tally}
 use Rattle.oz_model.specs.Run.{Run, exchanges}
 use Rattle.tree_node.specs.Each.{Each}
@@ -20,9 +21,9 @@ use Rattle.world_model.specs.Chain.{held_in, messages}
 
 -- g for a Get of the cell, f for a Forward and u for a Put
 abbrev pub cell_weight : CellName → (g f u : ℕ) → Msg → ℕ
-cell_weight c g f u (msg.Get d k) = if same_cell c d then g else 0
-cell_weight c g f u (msg.Forward d k) = if same_cell c d then f else 0
-cell_weight c g f u (msg.Put d v bundle) = if same_cell c d then u else 0
+cell_weight c g f u (msg.Get d k) = if equal_cell c d then g else 0
+cell_weight c g f u (msg.Forward d k) = if equal_cell c d then f else 0
+cell_weight c g f u (msg.Put d v bundle) = if equal_cell c d then u else 0
 cell_weight c g f u _ = 0
 
 abbrev pub cell_weights : CellName → (g f u : ℕ) → List Sent → ℕ
@@ -32,7 +33,7 @@ cell_weights c g f u (m ∷ ms) = cell_weight c g f u m.msg + cell_weights c g f
 -- so many exchanges of the cell pay for the messages of it that were sent
 abbrev pub IsTallied : ℕ → Sites → Mail → List Sent → CellName → ℕ → Type 0
 IsTallied n f mail out c exchanges =
-    Tally n (held_in (cell_records f) c) (travels c (messages mail)) (cell_weights c 1 0 0 out) (cell_weights c 0 1 0 out) (cell_weights c 0 0 1 out) exchanges
+    Tally n (held_in (cell_records f) c) (sent_count c (messages mail)) (cell_weights c 1 0 0 out) (cell_weights c 0 1 0 out) (cell_weights c 0 0 1 out) exchanges
 
 -- in every run whose messages can be taken, those of a cell are at most three for each exchange and each site
 abbrev pub CellMessagesAreFew : Type 0

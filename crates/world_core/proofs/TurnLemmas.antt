@@ -32,7 +32,7 @@ use Rattle.bind_protocol.proofs.ListLemmas.{set_here, set_other}
 
 -- ---- the start
 
-new_states : (p : List Stmt) (n : ℕ) (ss : List (Seated NoSeat)) → ((i : ℕ) (s : Seated NoSeat) → slice_get ss i ≡ Some s → IsNewSite p n i s) → (i : ℕ) → states_by p (map state_in ss) i ≡ initial_site p i
+pub new_states : (p : List Stmt) (n : ℕ) (ss : List (Seated NoSeat)) → ((i : ℕ) (s : Seated NoSeat) → slice_get ss i ≡ Some s → IsNewSite p n i s) → (i : ℕ) → states_by p (map state_in ss) i ≡ initial_site p i
 new_states p n ss new zero = refl
 new_states p n ss new (suc i) = by (slice_get ss i) refl
   where
@@ -59,9 +59,6 @@ starts p n ss mail is low high long new queues empty =
         travels = λ k. ap (λ (ms : List (ℕ × Sent)). message_at ms k) empty;
       };
     }
-
-pub start_states : (p : List Stmt) (n : ℕ) (ss : List (Seated NoSeat)) → ((i : ℕ) (s : Seated NoSeat) → slice_get ss i ≡ Some s → IsNewSite p n i s) → (i : ℕ) → states_by p (map state_in ss) i ≡ initial_site p i
-start_states = new_states
 
 -- ---- a world that is given up
 

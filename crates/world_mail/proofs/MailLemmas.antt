@@ -17,7 +17,7 @@ use Rattle.site_message.specs.declared.message.Msg.{Msg}
 use Rattle.site_message.specs.declared.message.Sent.{Sent}
 use Rattle.std.specs.Bool.{Decides}
 use Rattle.world_mail.specs.declared.travel.Travel.{Travel}
-use Rattle.world_mail.specs.Mail.{IsKept, message_at, has, with_number, without, queue_at, is_for}
+use Rattle.world_mail.specs.Mail.{IsKept, message_at, is_queued, with_bit, without_bit, queue_at, is_for}
 use Rattle.world_mail.specs.Travels.{travel_of, IsNoneFor, IsFirstFor}
 use Rattle.std.proofs.lemmas.Bool.Decides.{Decides-eqb}
 
@@ -46,23 +46,23 @@ not_above a b e = by (nat_lt a b) (a == b) refl refl e
 -- ---- queues
 
 module _ (qs rs : List (List ℕ)) (ms ns : List (ℕ × Sent)) (number : ℕ) (sent : Sent)
-    (old : (i k : ℕ) → i < length qs → has (queue_at qs i) k ≡ is_for i (message_at ms k))
+    (old : (i k : ℕ) → i < length qs → is_queued (queue_at qs i) k ≡ is_for i (message_at ms k))
     (long : length rs ≡ length qs)
     (others : (i : ℕ) → i ≢ sent.to → queue_at rs i ≡ queue_at qs i) where
   either_site : (i : ℕ) → (i ≡ sent.to) ⊎ (i ≢ sent.to)
   either_site i = search rules
 
   -- the message came
-  pub queues_with : (sent.to < length qs → (k : ℕ) → has (queue_at rs sent.to) k ≡ with_number number (has (queue_at qs sent.to)) k) →
+  pub queues_with : (sent.to < length qs → (k : ℕ) → is_queued (queue_at rs sent.to) k ≡ with_bit number (is_queued (queue_at qs sent.to)) k) →
       message_at ms number ≡ None → ((k : ℕ) → message_at ns k ≡ cond (nat_eq number k) (Some sent) (message_at ms k)) →
-      (i k : ℕ) → i < length rs → has (queue_at rs i) k ≡ is_for i (message_at ns k)
+      (i k : ℕ) → i < length rs → is_queued (queue_at rs i) k ≡ is_for i (message_at ns k)
   queues_with here new now i k inside = by (either_site i)
     where
-      at_home : sent.to < length qs → (b : Bool) → cond b true (has (queue_at qs sent.to) k) ≡ is_for sent.to (cond b (Some sent) (message_at ms k))
+      at_home : sent.to < length qs → (b : Bool) → cond b true (is_queued (queue_at qs sent.to) k) ≡ is_for sent.to (cond b (Some sent) (message_at ms k))
       at_home within true = sym ((Decides-eqb sent.to sent.to).1 refl)
       at_home within false = old sent.to k within
 
-      elsewhere : i ≢ sent.to → (b : Bool) → nat_eq number k ≡ b → has (queue_at qs i) k ≡ is_for i (cond b (Some sent) (message_at ms k))
+      elsewhere : i ≢ sent.to → (b : Bool) → nat_eq number k ≡ b → is_queued (queue_at qs i) k ≡ is_for i (cond b (Some sent) (message_at ms k))
       elsewhere other true e =
           let same : number ≡ k = (Decides-eqb number k).0 e in
           old i k (omega arith) ∙ ap (is_for i) (ap (message_at ms) (sym same) ∙ new) ∙ no (sent.to == i) refl
@@ -72,23 +72,23 @@ module _ (qs rs : List (List ℕ)) (ms ns : List (ℕ × Sent)) (number : ℕ) (
           no false q = refl
       elsewhere other false e = old i k (omega arith)
 
-      by : (i ≡ sent.to) ⊎ (i ≢ sent.to) → has (queue_at rs i) k ≡ is_for i (message_at ns k)
+      by : (i ≡ sent.to) ⊎ (i ≢ sent.to) → is_queued (queue_at rs i) k ≡ is_for i (message_at ns k)
       by (inl same) =
           let within : sent.to < length qs = omega arith in
-          subst (λ (x : ℕ). has (queue_at rs x) k ≡ is_for x (message_at ns k)) (sym same) (here within k ∙ at_home within (nat_eq number k) ∙ ap (is_for sent.to) (sym (now k)))
-      by (inr other) = ap (λ (q : List ℕ). has q k) (others i other) ∙ elsewhere other (nat_eq number k) refl ∙ ap (is_for i) (sym (now k))
+          subst (λ (x : ℕ). is_queued (queue_at rs x) k ≡ is_for x (message_at ns k)) (sym same) (here within k ∙ at_home within (nat_eq number k) ∙ ap (is_for sent.to) (sym (now k)))
+      by (inr other) = ap (λ (q : List ℕ). is_queued q k) (others i other) ∙ elsewhere other (nat_eq number k) refl ∙ ap (is_for i) (sym (now k))
 
   -- the message left
-  pub queues_without : (sent.to < length qs → (k : ℕ) → has (queue_at rs sent.to) k ≡ without number (has (queue_at qs sent.to)) k) →
+  pub queues_without : (sent.to < length qs → (k : ℕ) → is_queued (queue_at rs sent.to) k ≡ without_bit number (is_queued (queue_at qs sent.to)) k) →
       message_at ms number ≡ Some sent → ((k : ℕ) → message_at ns k ≡ cond (nat_eq number k) None (message_at ms k)) →
-      (i k : ℕ) → i < length rs → has (queue_at rs i) k ≡ is_for i (message_at ns k)
+      (i k : ℕ) → i < length rs → is_queued (queue_at rs i) k ≡ is_for i (message_at ns k)
   queues_without here there now i k inside = by (either_site i)
     where
-      at_home : sent.to < length qs → (b : Bool) → cond b false (has (queue_at qs sent.to) k) ≡ is_for sent.to (cond b None (message_at ms k))
+      at_home : sent.to < length qs → (b : Bool) → cond b false (is_queued (queue_at qs sent.to) k) ≡ is_for sent.to (cond b None (message_at ms k))
       at_home within true = refl
       at_home within false = old sent.to k within
 
-      elsewhere : i ≢ sent.to → (b : Bool) → nat_eq number k ≡ b → has (queue_at qs i) k ≡ is_for i (cond b None (message_at ms k))
+      elsewhere : i ≢ sent.to → (b : Bool) → nat_eq number k ≡ b → is_queued (queue_at qs i) k ≡ is_for i (cond b None (message_at ms k))
       elsewhere other true e =
           let same : number ≡ k = (Decides-eqb number k).0 e in
           old i k (omega arith) ∙ ap (is_for i) (ap (message_at ms) (sym same) ∙ there) ∙ no (sent.to == i) refl
@@ -98,11 +98,11 @@ module _ (qs rs : List (List ℕ)) (ms ns : List (ℕ × Sent)) (number : ℕ) (
           no false q = refl
       elsewhere other false e = old i k (omega arith)
 
-      by : (i ≡ sent.to) ⊎ (i ≢ sent.to) → has (queue_at rs i) k ≡ is_for i (message_at ns k)
+      by : (i ≡ sent.to) ⊎ (i ≢ sent.to) → is_queued (queue_at rs i) k ≡ is_for i (message_at ns k)
       by (inl same) =
           let within : sent.to < length qs = omega arith in
-          subst (λ (x : ℕ). has (queue_at rs x) k ≡ is_for x (message_at ns k)) (sym same) (here within k ∙ at_home within (nat_eq number k) ∙ ap (is_for sent.to) (sym (now k)))
-      by (inr other) = ap (λ (q : List ℕ). has q k) (others i other) ∙ elsewhere other (nat_eq number k) refl ∙ ap (is_for i) (sym (now k))
+          subst (λ (x : ℕ). is_queued (queue_at rs x) k ≡ is_for x (message_at ns k)) (sym same) (here within k ∙ at_home within (nat_eq number k) ∙ ap (is_for sent.to) (sym (now k)))
+      by (inr other) = ap (λ (q : List ℕ). is_queued q k) (others i other) ∙ elsewhere other (nat_eq number k) refl ∙ ap (is_for i) (sym (now k))
 
 -- ---- places
 
@@ -172,18 +172,18 @@ travels_tell ms once k to = (there, back)
 
 module _ (ms : List (ℕ × Sent)) (ts : List Travel) (qs : List (List ℕ)) (kept : IsKept ms ts qs) (site : ℕ) (inside : site < length qs) where
   -- the numbers of those for the site are in its queue
-  queued : (t : Travel) → Contains (map travel_of ms) t → t.to ≡ site → has (queue_at qs site) t.number ≡ true
+  queued : (t : Travel) → Contains (map travel_of ms) t → t.to ≡ site → is_queued (queue_at qs site) t.number ≡ true
   queued t at to =
       let p = contains_at (map travel_of ms) t at in
       let e = entry_at ms t p.0 p.1 in
       let found = found_at ms p.0 t.number e.0 kept.once e.1 in
       kept.queues site t.number inside ∙ ap (is_for site) found ∙ (Decides-eqb e.0.to site).1 (e.2 ∙ to)
 
-  pub none_queued : ((k : ℕ) → has (queue_at qs site) k ≡ false) → IsNoneFor (map travel_of ms) site
+  pub none_queued : ((k : ℕ) → is_queued (queue_at qs site) k ≡ false) → IsNoneFor (map travel_of ms) site
   none_queued none t at to = let yes = queued t at to in let no = none t.number in cc
 
   -- the message whose number is in the queue
-  held : (number : ℕ) → has (queue_at qs site) number ≡ true → (m : Sent) × (message_at ms number ≡ Some m) × (m.to ≡ site)
+  held : (number : ℕ) → is_queued (queue_at qs site) number ≡ true → (m : Sent) × (message_at ms number ≡ Some m) × (m.to ≡ site)
   held number h = by (message_at ms number) refl
     where
       by : (o : Option Sent) → message_at ms number ≡ o → (m : Sent) × (message_at ms number ≡ Some m) × (m.to ≡ site)
@@ -192,7 +192,7 @@ module _ (ms : List (ℕ × Sent)) (ts : List Travel) (qs : List (List ℕ)) (ke
           let yes : (m.to == site) ≡ true = sym (ap (is_for site) q) ∙ sym (kept.queues site number inside) ∙ h in
           (m, q, (Decides-eqb m.to site).0 yes)
 
-  pub first_queued : (number : ℕ) → has (queue_at qs site) number ≡ true → ((k : ℕ) → has (queue_at qs site) k ≡ true → number ≤ k) →
+  pub first_queued : (number : ℕ) → is_queued (queue_at qs site) number ≡ true → ((k : ℕ) → is_queued (queue_at qs site) k ≡ true → number ≤ k) →
       (r : Option ℕ) → r ≡ position (nat_eq number) (keys_of ms) → is_some r ≡ is_some (message_at ms number) → IfSome r (λ i. slice_get (values_of ms) i ≡ message_at ms number) →
       MatchOption r (IsNoneFor (map travel_of ms) site) (λ place. IsFirstFor (map travel_of ms) site place)
   first_queued number there least None index found value =
@@ -210,7 +210,7 @@ module _ (ms : List (ℕ × Sent)) (ts : List Travel) (qs : List (List ℕ)) (ke
 
 -- a message came
 pub kept_with : (ms ns : List (ℕ × Sent)) (ts us : List Travel) (qs rs : List (List ℕ)) (number : ℕ) (sent : Sent) → IsKept ms ts qs → message_at ms number ≡ None → length rs ≡ length qs →
-    (sent.to < length qs → (k : ℕ) → has (queue_at rs sent.to) k ≡ with_number number (has (queue_at qs sent.to)) k) → ((i : ℕ) → i ≢ sent.to → queue_at rs i ≡ queue_at qs i) →
+    (sent.to < length qs → (k : ℕ) → is_queued (queue_at rs sent.to) k ≡ with_bit number (is_queued (queue_at qs sent.to)) k) → ((i : ℕ) → i ≢ sent.to → queue_at rs i ≡ queue_at qs i) →
     us ≡ ts ++ record { number = number; to = sent.to } ∷ [] → ns ≡ ms ++ (number, sent) ∷ [] → IsDistinct nat_eq (keys_of ns) → ((k : ℕ) → message_at ns k ≡ cond (nat_eq number k) (Some sent) (message_at ms k)) → IsKept ns us rs
 kept_with ms ns ts us qs rs number sent kept new long here others more grown once now = record {
   once = once;
@@ -220,7 +220,7 @@ kept_with ms ns ts us qs rs number sent kept new long here others more grown onc
 
 -- the message of this place left
 pub kept_without : (ms ns : List (ℕ × Sent)) (ts us : List Travel) (qs rs : List (List ℕ)) (place number : ℕ) (sent : Sent) (t : Travel) → IsKept ms ts qs → place < length ms → slice_get ms place ≡ Some (number, sent) → length rs ≡ length qs →
-    (sent.to < length qs → (k : ℕ) → has (queue_at rs sent.to) k ≡ without number (has (queue_at qs sent.to)) k) → ((i : ℕ) → i ≢ sent.to → queue_at rs i ≡ queue_at qs i) →
+    (sent.to < length qs → (k : ℕ) → is_queued (queue_at rs sent.to) k ≡ without_bit number (is_queued (queue_at qs sent.to)) k) → ((i : ℕ) → i ≢ sent.to → queue_at rs i ≡ queue_at qs i) →
     us ≡ swap_remove ts place t → ns ≡ swap_remove ms place (number, sent) → IsDistinct nat_eq (keys_of ns) → ((k : ℕ) → message_at ns k ≡ cond (nat_eq number k) None (message_at ms k)) → IsKept ns us rs
 kept_without ms ns ts us qs rs place number sent t kept inside at long here others less fewer once now = record {
   once = once;

@@ -26,14 +26,14 @@ abbrev pub AreBelow : ℕ → List (ℕ × Sent) → Type 0
 AreBelow first ms = (k : ℕ) → first ≤ k → message_at ms k ≡ None
 
 -- the number is in the queue
-abbrev pub has : List ℕ → ℕ → Bool
-has ks k = list_any (is_at (nat_cmp k)) ks
+abbrev pub is_queued : List ℕ → ℕ → Bool
+is_queued ks k = list_any (is_at (nat_cmp k)) ks
 
-abbrev pub with_number : ℕ → (ℕ → Bool) → ℕ → Bool
-with_number number old k = if number == k then true else old k
+abbrev pub with_bit : ℕ → (ℕ → Bool) → ℕ → Bool
+with_bit number old k = if number == k then true else old k
 
-abbrev pub without : ℕ → (ℕ → Bool) → ℕ → Bool
-without number old k = if number == k then false else old k
+abbrev pub without_bit : ℕ → (ℕ → Bool) → ℕ → Bool
+without_bit number old k = if number == k then false else old k
 
 abbrev pub queue_at : List (List ℕ) → ℕ → List ℕ
 queue_at qs i = slice_index_or qs i []
@@ -47,4 +47,4 @@ is_for i (Some m) = m.to == i
 pub record IsKept (ms : List (ℕ × Sent)) (ts : List Travel) (qs : List (List ℕ)) : Type 0 where
   pub once : IsDistinct nat_eq (keys_of ms)
   pub travels : ts ≡ map travel_of ms
-  pub queues : (i k : ℕ) → i < length qs → has (queue_at qs i) k ≡ is_for i (message_at ms k)
+  pub queues : (i k : ℕ) → i < length qs → is_queued (queue_at qs i) k ≡ is_for i (message_at ms k)

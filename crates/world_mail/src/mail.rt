@@ -3,7 +3,7 @@
 ghost use Rattle.std.specs.Prelude.{◌≡◌, ℕ, ◌+◌, ◌^◌, ◌<◌, ◌≤◌, ◌≢◌, [], ◌∷◌, ◌++◌, length, map, IsTrue, ◌↔◌, Some, None, slice_get, Contains, nat_eq, IfOk, OnOk, OnErr, MatchOption};
 ghost use Rattle.std.specs.List.{enumerate_from, IsDistinct};
 ghost use Rattle.world_mail.specs.Travels.{travel_of, IsNoneFor, IsFirstFor};
-ghost use Rattle.world_mail.specs.Mail.{has, with_number, without, message_at, without_message, queue_at, AreBelow};
+ghost use Rattle.world_mail.specs.Mail.{is_queued, with_bit, without_bit, message_at, without_message, queue_at, AreBelow};
 ghost use Rattle.site_message.specs.declared.message.Msg.{Msg};
 ghost use Rattle.world_mail.specs.declared.travel.Travel.{Travel};
 
@@ -137,7 +137,7 @@ fn empty_queues(alloc: Global, sites: u32) -> Result<Vec<Queue>, AllocError>
 // One more number in the queue of a site, if that has one.
 fn enqueue(queues: &mut Vec<Queue>, site: usize, number: u64) -> Result<(), AllocError>
     ensures length { length queues.new.items ≡ length queues.old.items }
-    ensures here { OnOk result (site < length queues.old.items → (k : ℕ) → has (queue_at queues.new.items site) k ≡ with_number number (has (queue_at queues.old.items site)) k) }
+    ensures here { OnOk result (site < length queues.old.items → (k : ℕ) → is_queued (queue_at queues.new.items site) k ≡ with_bit number (is_queued (queue_at queues.old.items site)) k) }
     ensures others { OnOk result ((i : ℕ) → i ≢ site → queue_at queues.new.items i ≡ queue_at queues.old.items i) }
     ensures err { OnErr result (queues.new.items ≡ queues.old.items) }
 {
@@ -150,7 +150,7 @@ fn enqueue(queues: &mut Vec<Queue>, site: usize, number: u64) -> Result<(), Allo
 // The number leaves the queue of the site, if that has one.
 fn dequeue(queues: &mut Vec<Queue>, site: usize, number: u64)
     ensures length { length queues.new.items ≡ length queues.old.items }
-    ensures here { site < length queues.old.items → (k : ℕ) → has (queue_at queues.new.items site) k ≡ without number (has (queue_at queues.old.items site)) k }
+    ensures here { site < length queues.old.items → (k : ℕ) → is_queued (queue_at queues.new.items site) k ≡ without_bit number (is_queued (queue_at queues.old.items site)) k }
     ensures others { (i : ℕ) → i ≢ site → queue_at queues.new.items i ≡ queue_at queues.old.items i }
 {
     if site < queues.len() {

@@ -1,7 +1,7 @@
 //! The numbers of the messages on their way to one site.
 
 ghost use Rattle.std.specs.Prelude.{◌≡◌, ℕ, ◌≤◌, [], true, false, OnOk, OnErr, MatchOption};
-ghost use Rattle.world_mail.specs.Mail.{has, with_number, without};
+ghost use Rattle.world_mail.specs.Mail.{is_queued, with_bit, without_bit};
 
 use std::alloc::{AllocError, Global};
 use std::collections::BTreeSet;
@@ -33,7 +33,7 @@ impl Queue {
 
     // One more number.
     pub(crate) fn insert(&mut self, number: u64) -> Result<(), AllocError>
-        ensures ok { OnOk result ((k : ℕ) → has self.new k ≡ with_number number (has self.old) k) }
+        ensures ok { OnOk result ((k : ℕ) → is_queued self.new k ≡ with_bit number (is_queued self.old) k) }
         ensures err { OnErr result (self.new ≡ self.old) }
     {
         self.numbers.insert(number)?;
@@ -42,14 +42,14 @@ impl Queue {
 
     // The number is gone.
     pub(crate) fn remove(&mut self, number: u64)
-        ensures { (k : ℕ) → has self.new k ≡ without number (has self.old) k }
+        ensures { (k : ℕ) → is_queued self.new k ≡ without_bit number (is_queued self.old) k }
     {
         self.numbers.remove(&number);
     }
 
     // The least number.
     pub(crate) fn first(&self) -> Option<u64>
-        ensures { MatchOption result ((k : ℕ) → has self.now k ≡ false) (λ first. (has self.now first ≡ true) × ((k : ℕ) → has self.now k ≡ true → first ≤ k)) }
+        ensures { MatchOption result ((k : ℕ) → is_queued self.now k ≡ false) (λ first. (is_queued self.now first ≡ true) × ((k : ℕ) → is_queued self.now k ≡ true → first ≤ k)) }
     {
         self.numbers.first().copied()
     }

@@ -15,7 +15,7 @@ use Rattle.bind_protocol.proofs.ListLemmas.{one, count_cons, count_append, count
 use Rattle.site_model.specs.Site.{Site, Counters, ThreadState, thread_state, Threads}
 use Rattle.thread_roster.specs.declared.mode.Mode.{Mode}
 use Rattle.thread_roster.specs.declared.mode.Mode.TheVariants.{Runs, WaitsFor}
-use Rattle.site_model.specs.Bundle.{bundled}
+use Rattle.site_model.specs.Bundle.{with_own_bundle}
 use Rattle.site_model.specs.Unit.{with_waiting}
 use Rattle.kernel_syntax.specs.Free.{free}
 use Rattle.tree_node.specs.Assoc.{value_of, with_optional_value}
@@ -143,7 +143,7 @@ goes i low cap P start base s t th w r e f g at runs h = changes i low cap P sta
 
 -- a thread that can go on asks to bind a variable that has no equation here, and waits for it
 pub asks_once : (i limit low cap : ℕ) (P : ThreadName → Type 0) (start : List Sent) (base : List Sent) (s : Site) (th : ThreadName) (st : Stack) (u : VarName) (r : Term) → thread_state s th ≡ Some (st, Runs) → IsFree s.equations u → Asks i low cap P start base s →
-    Asks i low cap P start (base ++ bundled limit s.equations (request u r th) ∷ []) (with_waiting th st u s)
+    Asks i low cap P start (base ++ with_own_bundle limit s.equations (request u r th) ∷ []) (with_waiting th st u s)
 asks_once i limit low cap P start base s th st u r at free h = record {
   once = λ n x. once n x (equal_thread n th && equal_var x u) refl;
   stands = λ n v x q asked. by n v x (goes_cases equal_thread same_thread_decides s.threads th n (Some (st, site.Waits u)) (st, Runs) v at q) asked;
@@ -157,13 +157,13 @@ asks_once i limit low cap P start base s th st u r at free h = record {
 }
   where
     new : Sent
-    new = bundled limit s.equations (request u r th)
+    new = with_own_bundle limit s.equations (request u r th)
 
-    total : (n : ThreadName) (x : VarName) → requests n x (base ++ bundled limit s.equations (request u r th) ∷ []) ≡ requests n x base + one (equal_thread n th && equal_var x u)
-    total n x = count_push (is_request n x) base (bundled limit s.equations (request u r th))
+    total : (n : ThreadName) (x : VarName) → requests n x (base ++ with_own_bundle limit s.equations (request u r th) ∷ []) ≡ requests n x base + one (equal_thread n th && equal_var x u)
+    total n x = count_push (is_request n x) base (with_own_bundle limit s.equations (request u r th))
 
-    no_flight : (n : ThreadName) → flights n (base ++ bundled limit s.equations (request u r th) ∷ []) ≡ flights n base
-    no_flight n = let e : flights n (base ++ bundled limit s.equations (request u r th) ∷ []) ≡ flights n base + one false = count_push (is_spawn n) base (bundled limit s.equations (request u r th)) in omega arith
+    no_flight : (n : ThreadName) → flights n (base ++ with_own_bundle limit s.equations (request u r th) ∷ []) ≡ flights n base
+    no_flight n = let e : flights n (base ++ with_own_bundle limit s.equations (request u r th) ∷ []) ≡ flights n base + one false = count_push (is_spawn n) base (with_own_bundle limit s.equations (request u r th)) in omega arith
 
     here : (n : ThreadName) → n ≡ th → thread_state s n ≡ Some (st, Runs)
     here n e = subst (λ (z : ThreadName). thread_state s z ≡ Some (st, Runs)) (sym e) at
@@ -200,11 +200,11 @@ asks_once i limit low cap P start base s th st u r at free h = record {
         let k = both (equal_thread n th) (equal_var x u) q in
         subst (λ (m : ThreadName). requests m x base ≡ 0) (sym ((same_thread_decides n th).0 k.0)) (subst (λ (y : VarName). requests th y base ≡ 0) (sym ((same_name_decides x u).0 k.1)) not_yet)
 
-    once : (n : ThreadName) (x : VarName) (b : Bool) → (equal_thread n th && equal_var x u) ≡ b → requests n x (base ++ bundled limit s.equations (request u r th) ∷ []) ≤ 1
+    once : (n : ThreadName) (x : VarName) (b : Bool) → (equal_thread n th && equal_var x u) ≡ b → requests n x (base ++ with_own_bundle limit s.equations (request u r th) ∷ []) ≤ 1
     once n x true q = let o : one (equal_thread n th && equal_var x u) ≡ 1 = ap one q in omega (arith, total n x, is_this n x q)
     once n x false q = let o : one (equal_thread n th && equal_var x u) ≡ 0 = ap one q in omega (arith, total n x, h.once n x)
 
-    by : (n : ThreadName) (v : ThreadState) (x : VarName) → ((n ≡ th) × (Some (st, site.Waits u) ≡ Some v)) ⊎ ((th ≢ n) × (value_of equal_thread s.threads n ≡ Some v)) → 1 ≤ requests n x (base ++ bundled limit s.equations (request u r th) ∷ []) → IsBound s.equations x ⊎ (v.1 ≡ site.Waits x)
+    by : (n : ThreadName) (v : ThreadState) (x : VarName) → ((n ≡ th) × (Some (st, site.Waits u) ≡ Some v)) ⊎ ((th ≢ n) × (value_of equal_thread s.threads n ≡ Some v)) → 1 ≤ requests n x (base ++ with_own_bundle limit s.equations (request u r th) ∷ []) → IsBound s.equations x ⊎ (v.1 ≡ site.Waits x)
     by n v x (inl k) asked = this (equal_var x u) refl
       where
         mode : v.1 ≡ site.Waits u
@@ -230,11 +230,11 @@ asks_once i limit low cap P start base s th st u r at free h = record {
         differ true q = absurd (k.0 (sym ((same_thread_decides n th).0 q)))
         differ false q = q
 
-    asker : (n : ThreadName) (x : VarName) (b : Bool) → (equal_thread n th && equal_var x u) ≡ b → requests n x start + 1 ≤ requests n x (base ++ bundled limit s.equations (request u r th) ∷ []) → P n
+    asker : (n : ThreadName) (x : VarName) (b : Bool) → (equal_thread n th && equal_var x u) ≡ b → requests n x start + 1 ≤ requests n x (base ++ with_own_bundle limit s.equations (request u r th) ∷ []) → P n
     asker n x true q more = h.who n (st, Runs) (here n ((same_thread_decides n th).0 (both (equal_thread n th) (equal_var x u) q).0))
     asker n x false q more = let o : one (equal_thread n th && equal_var x u) ≡ 0 = ap one q in h.asker n x (omega (arith, more, total n x))
 
-    none_new : (n : ThreadName) (x : VarName) → abbrev_flown n → (b : Bool) → (equal_thread n th && equal_var x u) ≡ b → requests n x (base ++ bundled limit s.equations (request u r th) ∷ []) ≡ 0
+    none_new : (n : ThreadName) (x : VarName) → abbrev_flown n → (b : Bool) → (equal_thread n th && equal_var x u) ≡ b → requests n x (base ++ with_own_bundle limit s.equations (request u r th) ∷ []) ≡ 0
     none_new n x f true q = absurd (f.1 (st, Runs) (here n ((same_thread_decides n th).0 (both (equal_thread n th) (equal_var x u) q).0)))
     none_new n x f false q = let o : one (equal_thread n th && equal_var x u) ≡ 0 = ap one q in omega (arith, total n x, f.0 x)
 
@@ -242,6 +242,6 @@ asks_once i limit low cap P start base s th st u r at free h = record {
     counted n v own (inl k) = h.counted n (st, Runs) (subst (λ (z : ThreadName). thread_state s z ≡ Some (st, Runs)) (sym k.0) at) own
     counted n v own (inr k) = h.counted n v k.1 own
 
-    was : (n : ThreadName) (x : VarName) → n.site ≡ i → (b : Bool) → (equal_thread n th && equal_var x u) ≡ b → 1 ≤ requests n x (base ++ bundled limit s.equations (request u r th) ∷ []) → n.num < cap
+    was : (n : ThreadName) (x : VarName) → n.site ≡ i → (b : Bool) → (equal_thread n th && equal_var x u) ≡ b → 1 ≤ requests n x (base ++ with_own_bundle limit s.equations (request u r th) ∷ []) → n.num < cap
     was n x own true q asked = h.counted n (st, Runs) (subst (λ (z : ThreadName). thread_state s z ≡ Some (st, Runs)) (sym ((same_thread_decides n th).0 (both (equal_thread n th) (equal_var x u) q).0)) at) own
     was n x own false q asked = let o : one (equal_thread n th && equal_var x u) ≡ 0 = ap one q in h.asked n x (omega (arith, asked, total n x)) own

@@ -25,7 +25,7 @@ use Rattle.bind_protocol.specs.Rows.{sent_message, register, binding, register_a
 use Rattle.bind_protocol.proofs.ListLemmas.{one, count_push}
 use Rattle.site_model.specs.Site.{Site, Counters, ThreadState, thread_state, cell_record, Threads, runnable_threads}
 use Rattle.thread_roster.specs.declared.mode.Mode.TheVariants.{Runs, WaitsFor}
-use Rattle.site_model.specs.Bundle.{bundled, all_bundled, message_bundle, message_vars}
+use Rattle.site_model.specs.Bundle.{with_own_bundle, with_own_bundles, message_bundle, message_vars}
 use Rattle.site_model.specs.Transition.{Transition, without_output, with_messages, and_then}
 use Rattle.site_model.specs.Variables.{with_new_equation, with_known_equation, with_known_equations, with_own_equation, own_bind, own_binds, opening}
 use Rattle.token_chain.specs.Mail as token
@@ -150,7 +150,7 @@ module _ (p : List Stmt) (n limit : ℕ) (i low cap : ℕ) (P : ThreadName → T
   still : (base : List Sent) (s : Site) → Asks i low cap P start base s → Quiet i low cap P start base (without_output s)
   still base s h = record { site = h; none = tt }
 
-  told_none : (s : Store) (x : VarName) (t : Term) (ks : List ℕ) → Each IsNone (all_bundled limit s (map (λ (k : ℕ). binding x t k) ks))
+  told_none : (s : Store) (x : VarName) (t : Term) (ks : List ℕ) → Each IsNone (with_own_bundles limit s (map (λ (k : ℕ). binding x t k) ks))
   told_none s x t [] = tt
   told_none s x t (k ∷ ks) = (λ n x. (refl, refl), told_none s x t ks)
 
@@ -271,7 +271,7 @@ module _ (p : List Stmt) (n limit : ℕ) (i low cap : ℕ) (P : ThreadName → T
 
   -- a new thread is sent away
   spawn_asks : (most : ℕ) (base : List Sent) (b : Birth) (s : Site) (q : Store) (to : ℕ) → cap ≤ most → most ≤ s.counters.threads → ((x : VarName) → requests b.name x base ≡ 0) → b.name.site ≡ i → cap ≤ b.name.num → b.name.num < most →
-      Asks i low cap P start base s → Asks i low most P start (base ++ bundled limit q (sent_message to (msg.Spawn b.name b.code b.vars [])) ∷ []) s
+      Asks i low cap P start base s → Asks i low most P start (base ++ with_own_bundle limit q (sent_message to (msg.Spawn b.name b.code b.vars [])) ∷ []) s
   spawn_asks most base b s q to up top new own fresh below h = record {
     once = λ m x. omega (arith, h.once m x, same m x);
     stands = λ m v x at asked. h.stands m v x at (omega (arith, asked, same m x));
@@ -285,16 +285,16 @@ module _ (p : List Stmt) (n limit : ℕ) (i low cap : ℕ) (P : ThreadName → T
   }
     where
       out : Sent
-      out = bundled limit q (sent_message to (msg.Spawn b.name b.code b.vars []))
+      out = with_own_bundle limit q (sent_message to (msg.Spawn b.name b.code b.vars []))
 
-      same : (m : ThreadName) (x : VarName) → requests m x (base ++ bundled limit q (sent_message to (msg.Spawn b.name b.code b.vars [])) ∷ []) ≡ requests m x base
-      same m x = let e : requests m x (base ++ bundled limit q (sent_message to (msg.Spawn b.name b.code b.vars [])) ∷ []) ≡ requests m x base + one false = count_push (is_request m x) base (bundled limit q (sent_message to (msg.Spawn b.name b.code b.vars []))) in omega arith
+      same : (m : ThreadName) (x : VarName) → requests m x (base ++ with_own_bundle limit q (sent_message to (msg.Spawn b.name b.code b.vars [])) ∷ []) ≡ requests m x base
+      same m x = let e : requests m x (base ++ with_own_bundle limit q (sent_message to (msg.Spawn b.name b.code b.vars [])) ∷ []) ≡ requests m x base + one false = count_push (is_request m x) base (with_own_bundle limit q (sent_message to (msg.Spawn b.name b.code b.vars []))) in omega arith
 
-      more_flights : (m : ThreadName) → flights m (base ++ bundled limit q (sent_message to (msg.Spawn b.name b.code b.vars [])) ∷ []) ≡ flights m base + one (equal_thread m b.name)
-      more_flights m = count_push (is_spawn m) base (bundled limit q (sent_message to (msg.Spawn b.name b.code b.vars [])))
+      more_flights : (m : ThreadName) → flights m (base ++ with_own_bundle limit q (sent_message to (msg.Spawn b.name b.code b.vars [])) ∷ []) ≡ flights m base + one (equal_thread m b.name)
+      more_flights m = count_push (is_spawn m) base (with_own_bundle limit q (sent_message to (msg.Spawn b.name b.code b.vars [])))
 
-      flown : (m : ThreadName) (c : Bool) → equal_thread m b.name ≡ c → flights m start + 1 ≤ flights m (base ++ bundled limit q (sent_message to (msg.Spawn b.name b.code b.vars [])) ∷ []) →
-          ((x : VarName) → requests m x (base ++ bundled limit q (sent_message to (msg.Spawn b.name b.code b.vars [])) ∷ []) ≡ 0) × ((v : ThreadState) → thread_state s m ≡ Some v → ⊥) × (m.site ≡ i) × (m.num < most)
+      flown : (m : ThreadName) (c : Bool) → equal_thread m b.name ≡ c → flights m start + 1 ≤ flights m (base ++ with_own_bundle limit q (sent_message to (msg.Spawn b.name b.code b.vars [])) ∷ []) →
+          ((x : VarName) → requests m x (base ++ with_own_bundle limit q (sent_message to (msg.Spawn b.name b.code b.vars [])) ∷ []) ≡ 0) × ((v : ThreadState) → thread_state s m ≡ Some v → ⊥) × (m.site ≡ i) × (m.num < most)
       flown m true e more =
           let is : m ≡ b.name = (same_thread_decides m b.name).0 e in (
             λ x. same m x ∙ subst (λ (z : ThreadName). requests z x base ≡ 0) (sym is) (new x),
@@ -339,7 +339,7 @@ module _ (p : List Stmt) (n limit : ℕ) (i low cap : ℕ) (P : ThreadName → T
       go None e ih = all s (rw e refl) (ih s (λ m r c0 at. w m r (Contains-tail th m ns c0) at) h)
       go (Some u) e ih = all (after u) (rw e refl) (ih (after u) (still_none u e) (goes i low cap P start base s (after u) th u (Some (exchange_stack v (stack_effect p s.equations [] None u.0).cell (stack_effect p s.equations [] None u.0).stack, Runs)) refl refl refl e (w th u (Contains-head th ns) e) h))
 
-  answered_none : (s : Store) (x : VarName) (k : ℕ) (o : Option Owner) → Each IsNone (all_bundled limit s (register_answer o x k))
+  answered_none : (s : Store) (x : VarName) (k : ℕ) (o : Option Owner) → Each IsNone (with_own_bundles limit s (register_answer o x k))
   answered_none s x k None = tt
   answered_none s x k (Some (Open ks)) = tt
   answered_none s x k (Some (Bound t)) = (λ m y. (refl, refl), tt)
@@ -415,7 +415,7 @@ module _ (p : List Stmt) (n limit : ℕ) (i low : ℕ) (P : ThreadName → Type 
       not_flown : flights b.name start + 1 ≤ flights b.name base → ⊥
       not_flown more = let f = h.flown b.name more in absurd (omega (arith, f.3, new.1, e))
 
-      go : (k : Bool) → AsksOn base (cond k (without_output (with_thread p (Some b) s)) (with_messages s (bundled limit s.equations (sent_message (placement n s.records.site b.at) (msg.Spawn b.name b.code b.vars [])) ∷ [])))
+      go : (k : Bool) → AsksOn base (cond k (without_output (with_thread p (Some b) s)) (with_messages s (with_own_bundle limit s.equations (sent_message (placement n s.records.site b.at) (msg.Spawn b.name b.code b.vars [])) ∷ [])))
       go true = of_quiet s.counters.threads base (without_output (with_thread p (Some b) s)) (record {
         site = starts_asks p n limit i low old P start s.counters.threads base b s h.capped (omega arith) none (λ own. new.2) (born_is b.name new.0 (omega (arith, h.since, new.1, e))) not_flown h;
         none = tt;

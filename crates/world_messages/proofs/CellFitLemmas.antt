@@ -20,7 +20,7 @@ use Rattle.site_message.proofs.JournalLemmas.{travelling_tells}
 use Rattle.token_chain.specs.declared.token.Token.{Token}
 use Rattle.token_chain.specs.declared.token.Token.TheVariants.{Away, Asked, Here}
 use Rattle.token_chain.specs.Holding.{Holding, IsUsed, CanFollow}
-use Rattle.token_chain.specs.Mail.{same_cell, is_mail, travels as on_way}
+use Rattle.token_chain.specs.Mail.{is_mail, sent_count as on_way}
 use Rattle.token_chain.specs.Mail as token
 use Rattle.token_chain.specs.Chain.{IsChain, IsDue, IsNext}
 use Rattle.token_chain.proofs.ChangeLemmas.{on_used, due_at}
@@ -73,7 +73,7 @@ module _ (p : List Stmt) (n limit : ℕ) (j : List Turn) (f : Sites) (run : Worl
   counted : (k to : ℕ) (o : Msg) (c : CellName) (m : token.Mail) → IsTravelling j k (record { to = to; msg = o }) → is_mail c m to o ≡ true → 1 ≤ on_way c (messages (travelling j)) m
   counted k to o c m at e = travels_counted (λ (q : Sent). is_mail c m q.to q.msg) (travelling j) (k, record { to = to; msg = o }) ((travelling_tells j k (record { to = to; msg = o })).1 at) e
 
-  same_self : (c : CellName) → same_cell c c ≡ true
+  same_self : (c : CellName) → equal_cell c c ≡ true
   same_self c = rw ((nat_decides c.site c.site).1 refl, (nat_decides c.num c.num).1 refl) refl
 
   ready : (c : CellName) (i : ℕ) → (held_in (cell_records f) c i).token ≢ Away → (held_in (cell_records f) c i).next ≡ None → CanFollow (cell_record (f i) c).held
@@ -88,7 +88,7 @@ module _ (p : List Stmt) (n limit : ℕ) (j : List Turn) (f : Sites) (run : Worl
       own : (f to).records.site ≡ to
       own = own_number p n limit j f run to
 
-      this : (same_cell c c && ((c.site == to) && (i == i))) ≡ true
+      this : (equal_cell c c && ((c.site == to) && (i == i))) ≡ true
       this = rw (same_self c, (nat_decides c.site to).1 (sym home.0), (nat_decides i i).1 refl) refl
 
       go : Chained c (token.Get i) → TakesCells (f to) (msg.Get c i) × SitesCells n (f to) (msg.Get c i)
@@ -112,7 +112,7 @@ module _ (p : List Stmt) (n limit : ℕ) (j : List Turn) (f : Sites) (run : Worl
       own : (f to).records.site ≡ to
       own = own_number p n limit j f run to
 
-      this : (same_cell c c && ((to == to) && (b == b))) ≡ true
+      this : (equal_cell c c && ((to == to) && (b == b))) ≡ true
       this = rw (same_self c, (nat_decides to to).1 refl, (nat_decides b b).1 refl) refl
 
       go : Chained c (token.Forward to b) → TakesCells (f to) (msg.Forward c b) × SitesCells n (f to) (msg.Forward c b)
@@ -127,7 +127,7 @@ module _ (p : List Stmt) (n limit : ℕ) (j : List Turn) (f : Sites) (run : Worl
   put_fits : (k to : ℕ) (c : CellName) (v : VarName) (bundle : List Equation) → IsTravelling j k (record { to = to; msg = msg.Put c v bundle }) → TakesCells (f to) (msg.Put c v bundle)
   put_fits k to c v bundle at = (chained c (token.Put to v) (counted k to (msg.Put c v bundle) c (token.Put to v) at this)).5.1
     where
-      this : (same_cell c c && ((to == to) && equal_var v v)) ≡ true
+      this : (equal_cell c c && ((to == to) && equal_var v v)) ≡ true
       this = rw (same_self c, (nat_decides to to).1 refl, same_name_refl v) refl
 
   -- the part on cells

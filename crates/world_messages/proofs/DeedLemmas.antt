@@ -24,7 +24,7 @@ use Rattle.bind_protocol.specs.Records.{Records, is_own, knowledge}
 use Rattle.bind_protocol.specs.Rows.{sent_message, request, after_make, after_meet, meet_sends, after_ask, ask_sends, after_meets, meets_send}
 use Rattle.bind_protocol.proofs.ListLemmas.{one}
 use Rattle.site_model.specs.Site.{Site, ThreadState, thread_state, cell_record}
-use Rattle.site_model.specs.Bundle.{bundled, message_bundle, message_vars}
+use Rattle.site_model.specs.Bundle.{with_own_bundle, message_bundle, message_vars}
 use Rattle.site_model.specs.Transition.{Transition, without_output, with_messages}
 use Rattle.site_model.specs.Variables.{after_makes, with_new_equation, with_known_equation, with_known_equations, own_bind, own_binds, opening}
 use Rattle.site_model.specs.Cells.{leave_row, forward_row, get_row, serving, put_row, request_row, after_exchange, content_after_exchange}
@@ -118,10 +118,10 @@ binds_each_tally limit (q ∷ es) s i e h =
 
 -- ---- messages of other kinds
 
-pub spawn_neither : (limit : ℕ) (s : Store) (to : ℕ) (n : ThreadName) (code : CodeId) (vars : List VarName) (es : List Equation) → IsNeither (bundled limit s (sent_message to (msg.Spawn n code vars es)))
+pub spawn_neither : (limit : ℕ) (s : Store) (to : ℕ) (n : ThreadName) (code : CodeId) (vars : List VarName) (es : List Equation) → IsNeither (with_own_bundle limit s (sent_message to (msg.Spawn n code vars es)))
 spawn_neither limit s to n code vars es i x = (refl, refl)
 
-pub request_neither : (limit : ℕ) (s : Store) (x : VarName) (t : Term) (n : ThreadName) → IsNeither (bundled limit s (request x t n))
+pub request_neither : (limit : ℕ) (s : Store) (x : VarName) (t : Term) (n : ThreadName) → IsNeither (with_own_bundle limit s (request x t n))
 request_neither limit s x t n i y = (refl, refl)
 
 pub get_neither : (to : ℕ) (c : CellName) (k : ℕ) → IsNeither (sent_message to (msg.Get c k))
@@ -130,7 +130,7 @@ get_neither to c k i x = (refl, refl)
 pub forward_neither : (to : ℕ) (c : CellName) (k : ℕ) → IsNeither (sent_message to (msg.Forward c k))
 forward_neither to c k i x = (refl, refl)
 
-pub put_neither : (limit : ℕ) (s : Store) (to : ℕ) (c : CellName) (v : VarName) (es : List Equation) → IsNeither (bundled limit s (sent_message to (msg.Put c v es)))
+pub put_neither : (limit : ℕ) (s : Store) (to : ℕ) (c : CellName) (v : VarName) (es : List Equation) → IsNeither (with_own_bundle limit s (sent_message to (msg.Put c v es)))
 put_neither limit s to c v es i x = (refl, refl)
 
 -- ---- cells
@@ -177,7 +177,7 @@ bears_tally : (p : List Stmt) (n limit : ℕ) (b : Option Birth) (s : Site) → 
 bears_tally p n limit None s = quiet s.records [] tt
 bears_tally p n limit (Some b) s = go (placement n s.records.site b.at == s.records.site)
   where
-    go : (c : Bool) → Counts s [] (cond c (without_output (with_thread p (Some b) s)) (with_messages s (bundled limit s.equations (sent_message (placement n s.records.site b.at) (msg.Spawn b.name b.code b.vars [])) ∷ [])))
+    go : (c : Bool) → Counts s [] (cond c (without_output (with_thread p (Some b) s)) (with_messages s (with_own_bundle limit s.equations (sent_message (placement n s.records.site b.at) (msg.Spawn b.name b.code b.vars [])) ∷ [])))
     go true = quiet s.records [] tt
     go false = quiet s.records _ (spawn_neither limit s.equations (placement n s.records.site b.at) b.name b.code b.vars [], tt)
 

@@ -36,7 +36,7 @@ use Rattle.token_chain.specs.declared.token.Token.TheVariants.{Here}
 use Rattle.site_model.specs.Site.{Site, ThreadState, Counters, thread_state, cell_record}
 use Rattle.thread_roster.specs.declared.mode.Mode.{Mode}
 use Rattle.thread_roster.specs.declared.mode.Mode.TheVariants.{Runs}
-use Rattle.site_model.specs.Bundle.{all_bundled, message_bundle, message_vars, body_vars, vars_of_equations}
+use Rattle.site_model.specs.Bundle.{with_own_bundles, message_bundle, message_vars, body_vars, vars_of_equations}
 use Rattle.site_model.specs.Transition.{Transition, without_output, with_messages, with_pick, and_then}
 use Rattle.site_model.specs.Variables.{with_new_equation, with_known_equation, with_known_equations, own_bind, opening}
 use Rattle.site_model.specs.Cells.{leave_row, serving, after_exchange, content_after_exchange, put_row}
@@ -253,7 +253,7 @@ module _ (p : List Stmt) (is : IsProgram p) (n limit : ℕ) (i : ℕ) (R : VarNa
         terms = h.terms;
       }
 
-      answer : (o : Option Owner) → owner_of s.records.owners x ≡ o → AllFit p known (all_bundled limit s.equations (register_sends s.records x k))
+      answer : (o : Option Owner) → owner_of s.records.owners x ≡ o → AllFit p known (with_own_bundles limit s.equations (register_sends s.records x k))
       answer None q = rw q tt
       answer (Some (Open ks)) q = rw q tt
       answer (Some (Bound t)) q =

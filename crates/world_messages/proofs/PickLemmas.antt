@@ -22,7 +22,7 @@ use Rattle.proxy_table.specs.Proxies.{entry_of}
 use Rattle.bind_protocol.specs.Rows.{sent_message, request, register, binding, register_answer, after_meet, meet_sends, meets_send}
 use Rattle.bind_protocol.proofs.ListLemmas.{one, count_cons, count_append}
 use Rattle.site_model.specs.Site.{Site, Counters, ThreadState, thread_state, cell_record}
-use Rattle.site_model.specs.Bundle.{bundled, all_bundled, message_bundle, message_vars}
+use Rattle.site_model.specs.Bundle.{with_own_bundle, with_own_bundles, message_bundle, message_vars}
 use Rattle.site_model.specs.Transition.{Transition, without_output, with_messages, and_then, sequence}
 use Rattle.site_model.specs.Variables.{with_known_equation, with_known_equations, own_bind, own_binds, opening}
 use Rattle.site_model.specs.Cells.{last_before, leave_row, forward_row, get_row, serving, request_row, after_exchange, content_after_exchange}
@@ -168,9 +168,9 @@ threads_cases i c (kind.Cell ∷ ks) m own h = threads_cases i (counter_after c 
 threads_cases i c (kind.Proc ∷ ks) m own h = threads_cases i (counter_after c kind.Proc) ks m own h
 
 module _ (p : List Stmt) (n limit : ℕ) where
-  no_spawns : (s : Store) (x : VarName) (t : Term) (ks : List ℕ) → spawned (all_bundled limit s (map (λ (k : ℕ). binding x t k) ks)) ≡ 0
+  no_spawns : (s : Store) (x : VarName) (t : Term) (ks : List ℕ) → spawned (with_own_bundles limit s (map (λ (k : ℕ). binding x t k) ks)) ≡ 0
   no_spawns s x t [] = refl
-  no_spawns s x t (k ∷ ks) = omega (arith, no_spawns s x t ks, count_cons spawns (bundled limit s (binding x t k)) (all_bundled limit s (map (λ (k : ℕ). binding x t k) ks)))
+  no_spawns s x t (k ∷ ks) = omega (arith, no_spawns s x t ks, count_cons spawns (with_own_bundle limit s (binding x t k)) (with_own_bundles limit s (map (λ (k : ℕ). binding x t k) ks)))
 
   meets_still : (xs : List VarName) (b : Records) → spawned (meets_send b xs) ≡ 0
   meets_still [] b = refl
@@ -228,7 +228,7 @@ module _ (p : List Stmt) (n limit : ℕ) where
       go (Some None) q = rw q (record { counters = refl; sent = no_spawns ((x, t) ∷ s.equations) x t (sites_of (owner_of s.records.owners x)) })
       go (Some (Some r)) q = rw q (still_same s)
 
-  answered_still : (s : Store) (x : VarName) (k : ℕ) (o : Option Owner) → spawned (all_bundled limit s (register_answer o x k)) ≡ 0
+  answered_still : (s : Store) (x : VarName) (k : ℕ) (o : Option Owner) → spawned (with_own_bundles limit s (register_answer o x k)) ≡ 0
   answered_still s x k None = refl
   answered_still s x k (Some (Open ks)) = refl
   answered_still s x k (Some (Bound t)) = refl
@@ -257,7 +257,7 @@ module _ (p : List Stmt) (n limit : ℕ) where
   bears_sent None s = (refl, omega arith)
   bears_sent (Some b) s = go (placement n s.records.site b.at == s.records.site)
     where
-      go : (c : Bool) → ((cond c (without_output (with_thread p (Some b) s)) (with_messages s (bundled limit s.equations (sent_message (placement n s.records.site b.at) (msg.Spawn b.name b.code b.vars [])) ∷ []))).site.counters ≡ s.counters) × (spawned (cond c (without_output (with_thread p (Some b) s)) (with_messages s (bundled limit s.equations (sent_message (placement n s.records.site b.at) (msg.Spawn b.name b.code b.vars [])) ∷ []))).sent ≤ 1)
+      go : (c : Bool) → ((cond c (without_output (with_thread p (Some b) s)) (with_messages s (with_own_bundle limit s.equations (sent_message (placement n s.records.site b.at) (msg.Spawn b.name b.code b.vars [])) ∷ []))).site.counters ≡ s.counters) × (spawned (cond c (without_output (with_thread p (Some b) s)) (with_messages s (with_own_bundle limit s.equations (sent_message (placement n s.records.site b.at) (msg.Spawn b.name b.code b.vars [])) ∷ []))).sent ≤ 1)
       go true = (refl, omega arith)
       go false = (refl, omega arith)
 
@@ -296,7 +296,7 @@ module _ (p : List Stmt) (n limit : ℕ) where
           bears_picks None s = refl
           bears_picks (Some b) s = go (placement n s.records.site b.at == s.records.site)
             where
-              go : (c : Bool) → (cond c (without_output (with_thread p (Some b) s)) (with_messages s (bundled limit s.equations (sent_message (placement n s.records.site b.at) (msg.Spawn b.name b.code b.vars [])) ∷ []))).picks ≡ []
+              go : (c : Bool) → (cond c (without_output (with_thread p (Some b) s)) (with_messages s (with_own_bundle limit s.equations (sent_message (placement n s.records.site b.at) (msg.Spawn b.name b.code b.vars [])) ∷ []))).picks ≡ []
               go true = refl
               go false = refl
 
@@ -369,7 +369,7 @@ module _ (p : List Stmt) (n limit : ℕ) where
   bind_picks th st u t a b true s need =
       steps_picks (step_pick th [] (Some (u, t))) [] (effect_here p s [] (Some (u, t)) st) s refl
       (subst (λ (e : Effect). births e.born ≤ 0) (sym (bind_effect p s.equations st a b u t need)) (omega arith))
-  bind_picks th st u t a b false s need = still_picks s.records.site s (with_messages (with_waiting th st u s) (bundled limit s.equations (request u t th) ∷ [])) (record { counters = refl; sent = refl })
+  bind_picks th st u t a b false s need = still_picks s.records.site s (with_messages (with_waiting th st u s) (with_own_bundle limit s.equations (request u t th) ∷ [])) (record { counters = refl; sent = refl })
 
   need_picks : (s : Site) (th : ThreadName) (st : Stack) (need : Need) (d : Transition) → stack_need p s.equations st ≡ need → IsUnitFor p n limit s th st need d → DoesPicks s d
   need_picks s th st (Waits x) d e h = subst (DoesPicks s) (sym h.2) (still_picks s.records.site s (without_output (with_waiting th st h.0 s)) (record { counters = refl; sent = refl }))

@@ -24,7 +24,7 @@ use Rattle.variable_owner.specs.declared.owners.Owner.TheVariants.{Open, Bound}
 use Rattle.variable_owner.specs.Owners.{owner_of, sites_of}
 use Rattle.bind_protocol.specs.Rows.{sent_message, request, register, binding, register_answer, meet_sends, after_meet, meets_send}
 use Rattle.site_model.specs.Site.{Site, cell_record}
-use Rattle.site_model.specs.Bundle.{bundled, all_bundled, message_bundle, message_vars}
+use Rattle.site_model.specs.Bundle.{with_own_bundle, with_own_bundles, message_bundle, message_vars}
 use Rattle.site_model.specs.Transition.{Transition, without_output, with_messages}
 use Rattle.site_model.specs.Variables.{with_known_equations, own_binds, opening}
 use Rattle.site_model.specs.Cells.{leave_row, forward_row, last_before, get_row, serving, request_row, after_exchange, content_after_exchange}
@@ -38,17 +38,17 @@ use Rattle.site_message.specs.Vars.{vars_of}
 use Rattle.site_message.specs.Wire.{NamesAscend}
 
 module _ (p : List Stmt) (n limit : ℕ) (Q : Sent → Type 0)
-    (spawns : (s : Store) (to : ℕ) (th : ThreadName) (code : CodeId) (vars : List VarName) → Q (bundled limit s (sent_message to (msg.Spawn th code vars [])))) (requests : (s : Store) (x : VarName) (t : Term) (th : ThreadName) → Q (bundled limit s (request x t th)))
-    (tells : (s : Store) (x : VarName) (t : Term) (k : ℕ) → Q (bundled limit s (binding x t k))) (puts : (s : Store) (k : ℕ) (c : CellName) (v : VarName) → Q (bundled limit s (sent_message k (msg.Put c v [])))) (asks_once : (x : VarName) (i : ℕ) → Q (register x i))
+    (spawns : (s : Store) (to : ℕ) (th : ThreadName) (code : CodeId) (vars : List VarName) → Q (with_own_bundle limit s (sent_message to (msg.Spawn th code vars [])))) (requests : (s : Store) (x : VarName) (t : Term) (th : ThreadName) → Q (with_own_bundle limit s (request x t th)))
+    (tells : (s : Store) (x : VarName) (t : Term) (k : ℕ) → Q (with_own_bundle limit s (binding x t k))) (puts : (s : Store) (k : ℕ) (c : CellName) (v : VarName) → Q (with_own_bundle limit s (sent_message k (msg.Put c v [])))) (asks_once : (x : VarName) (i : ℕ) → Q (register x i))
     (gets : (c : CellName) (k : ℕ) → c.site ≢ k → Q (sent_message c.site (msg.Get c k))) (forwards : (to : ℕ) (c : CellName) (k : ℕ) → Q (sent_message to (msg.Forward c k))) where
   abbrev All : Transition → Type 0
   All d = Each Q d.sent
 
-  told_each : (s : Store) (x : VarName) (t : Term) (ks : List ℕ) → Each Q (all_bundled limit s (map (λ (k : ℕ). binding x t k) ks))
+  told_each : (s : Store) (x : VarName) (t : Term) (ks : List ℕ) → Each Q (with_own_bundles limit s (map (λ (k : ℕ). binding x t k) ks))
   told_each s x t [] = tt
   told_each s x t (k ∷ ks) = (tells s x t k, told_each s x t ks)
 
-  answered : (s : Store) (x : VarName) (k : ℕ) (o : Option Owner) → Each Q (all_bundled limit s (register_answer o x k))
+  answered : (s : Store) (x : VarName) (k : ℕ) (o : Option Owner) → Each Q (with_own_bundles limit s (register_answer o x k))
   answered s x k None = tt
   answered s x k (Some (Open ks)) = tt
   answered s x k (Some (Bound t)) = (tells s x t k, tt)
@@ -91,7 +91,7 @@ module _ (p : List Stmt) (n limit : ℕ) (Q : Sent → Type 0)
   bears_all None s = tt
   bears_all (Some b) s = go (placement n s.records.site b.at == s.records.site)
     where
-      go : (c : Bool) → All (cond c (without_output (with_thread p (Some b) s)) (with_messages s (bundled limit s.equations (sent_message (placement n s.records.site b.at) (msg.Spawn b.name b.code b.vars [])) ∷ [])))
+      go : (c : Bool) → All (cond c (without_output (with_thread p (Some b) s)) (with_messages s (with_own_bundle limit s.equations (sent_message (placement n s.records.site b.at) (msg.Spawn b.name b.code b.vars [])) ∷ [])))
       go true = tt
       go false = (spawns s.equations (placement n s.records.site b.at) b.name b.code b.vars, tt)
 

@@ -32,7 +32,7 @@ use Rattle.site_message.specs.Vars.{vars_of}
 use Rattle.site_model.specs.Site.{Site, ThreadState, Threads, CellRecord, Counters}
 use Rattle.thread_roster.specs.declared.mode.Mode.{Mode}
 use Rattle.thread_roster.specs.Threads.{wake_all}
-use Rattle.site_model.specs.Bundle.{all_bundled, bundle_of, message_bundle, with_bundle}
+use Rattle.site_model.specs.Bundle.{with_own_bundles, bundle_of, message_bundle, with_bundle}
 use Rattle.site_model.specs.Transition.{Transition, without_output, and_then}
 use Rattle.site_model.specs.Variables.{after_makes, own_bind, own_binds}
 use Rattle.site_model.specs.Unit.{with_fresh_names, fresh_names}
@@ -122,7 +122,7 @@ module _ (p : List Stmt) (is : IsProgram p) (n limit : ℕ) (i : ℕ) (R : VarNa
   carried known s (msg.Put c v es) h g e k = ((k.0.0, k.0.1, bundles _ limit s (v ∷ []) h.names), (tt, (tt, bundles _ limit s (v ∷ []) g)))
 
   -- bindings to each of these sites
-  pub bindings_fit : (known : List VarName) (s : Store) (x : VarName) (t : Term) (ks : List ℕ) → EquationsFit p known s → Each (λ (e : Equation). IsNodeOf (IsNode p) e.1) s → IsFitFor p known x t → AllFit p known (all_bundled limit s (map (λ (k : ℕ). binding x t k) ks))
+  pub bindings_fit : (known : List VarName) (s : Store) (x : VarName) (t : Term) (ks : List ℕ) → EquationsFit p known s → Each (λ (e : Equation). IsNodeOf (IsNode p) e.1) s → IsFitFor p known x t → AllFit p known (with_own_bundles limit s (map (λ (k : ℕ). binding x t k) ks))
   bindings_fit known s x t [] h g f = tt
   bindings_fit known s x t (k ∷ ks) h g f = (carried known s (msg.Binding x t []) h g refl ((f.0, f.1, tt), (tt, (f.3, tt))), bindings_fit known s x t ks h g f)
 

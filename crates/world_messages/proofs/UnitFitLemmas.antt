@@ -45,7 +45,7 @@ use Rattle.site_model.specs.Site.{Site, CellRecord, thread_state, cell_record, c
 use Rattle.thread_roster.specs.declared.mode.Mode.{Mode}
 use Rattle.thread_roster.specs.declared.mode.Mode.TheVariants.{Runs, WaitsFor}
 use Rattle.thread_roster.specs.declared.mode.Mode.TheVariants as site
-use Rattle.site_model.specs.Bundle.{bundled, message_bundle, message_vars, body_vars, vars_of_equations}
+use Rattle.site_model.specs.Bundle.{with_own_bundle, message_bundle, message_vars, body_vars, vars_of_equations}
 use Rattle.site_model.specs.Transition.{Transition, without_output, with_messages}
 use Rattle.site_model.specs.Variables.{own_binds}
 use Rattle.site_model.specs.Cells.{cell_reply, last_before, leave_row, forward_row, get_row, request_row, with_last_asker, with_own_request, with_exchange_waiting, exchange_stack}
@@ -156,7 +156,7 @@ module _ (p : List Stmt) (is : IsProgram p) (n limit : ℕ) (i : ℕ) (R : VarNa
   bears_fits known None s f h = still known s h
   bears_fits known (Some b) s f h = go (placement n s.records.site b.at == s.records.site)
     where
-      go : (c : Bool) → FitsOn p i R known (cond c (without_output (with_thread p (Some b) s)) (with_messages s (bundled limit s.equations (sent_message (placement n s.records.site b.at) (msg.Spawn b.name b.code b.vars [])) ∷ [])))
+      go : (c : Bool) → FitsOn p i R known (cond c (without_output (with_thread p (Some b) s)) (with_messages s (with_own_bundle limit s.equations (sent_message (placement n s.records.site b.at) (msg.Spawn b.name b.code b.vars [])) ∷ [])))
       go true = still known (with_thread p (Some b) s) (record { names = h.names; terms = terms_start p known s.equations s.threads s.cell_records b f.0 f.1 f.2 h.terms })
       go false = sends_fits known s _ h (carried p is n limit i R known s.equations (msg.Spawn b.name b.code b.vars []) h.terms.equations h.terms.nodes refl ((tt, f.2, tt), ((f.0, f.1), (tt, tt))), tt)
 

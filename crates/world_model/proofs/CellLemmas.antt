@@ -17,7 +17,7 @@ use Rattle.token_chain.specs.Mail.{Get, Forward, Put, sent_as}
 use Rattle.token_chain.specs.Mail as token
 use Rattle.token_chain.specs.Rows.{Reply, leave_with, leave_reply, forward_reply, get_reply, exchange_reply}
 use Rattle.site_model.specs.Site.{Site, cell_record}
-use Rattle.site_model.specs.Bundle.{bundled, all_bundled}
+use Rattle.site_model.specs.Bundle.{with_own_bundle, with_own_bundles}
 use Rattle.site_model.specs.Transition.{Transition, without_output}
 use Rattle.site_model.specs.Cells.{cell_reply, leave_row, forward_row, with_last_asker, get_row, with_own_request, with_exchange_waiting, request_row}
 use Rattle.world_model.proofs.MailLemmas.{nothing, sent_to}
@@ -65,10 +65,10 @@ request_only limit c new n st s =
 
 -- as it goes, with its bundle
 abbrev pub letter : ℕ → CellName → Store → token.Mail → Sent
-letter limit c s a = bundled limit s (sent_as c a)
+letter limit c s a = with_own_bundle limit s (sent_as c a)
 
 abbrev pub letters : ℕ → CellName → Store → List token.Mail → List Sent
-letters limit c s ms = all_bundled limit s (map (sent_as c) ms)
+letters limit c s ms = with_own_bundles limit s (map (sent_as c) ms)
 
 -- ---- which messages a reply has
 

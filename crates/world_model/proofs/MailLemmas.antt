@@ -10,7 +10,7 @@ use Rattle.site_message.specs.declared.message.Sent.{Sent}
 pub use Rattle.site_message.proofs.TravelLemmas.{enumerate-append as numbered_append}
 use Rattle.site_model.specs.Transition.{Transition, sequence}
 use Rattle.site_model.specs.Site.{Site}
-use Rattle.world_model.specs.World.{World, Mail, Travels, numbered, without_number, after_transition}
+use Rattle.world_model.specs.World.{World, Mail, Travels, mail_from, without_number, after_transition}
 use Rattle.world_model.proofs.PutLemmas.{nat_decides, at_twice}
 use Rattle.site_message.proofs.JournalLemmas.{kept as filter_kept, passed}
 
@@ -47,14 +47,14 @@ numbers_new {X} n (y ∷ ys) x h = go (Contains-cons_cases _ _ ys h) (λ q. numb
     go (inl e) ih = (n, subst (λ (z : X). Contains (enumerate_from n (y ∷ ys)) (n, z)) e (Contains-head _ (enumerate_from (n + 1) ys)))
     go (inr q) ih = let r = ih q in (r.0, Contains-tail _ _ (enumerate_from (n + 1) ys) r.1)
 
-pub posts : (mail : Mail) (n : ℕ) (out : List Sent) → Posts mail (mail ++ numbered n out) out
+pub posts : (mail : Mail) (n : ℕ) (out : List Sent) → Posts mail (mail ++ mail_from n out) out
 posts mail n out = record {
-  old = λ k to m h. Contains-append_left mail (numbered n out) _ h;
-  from = λ k to m h. from k to m (Contains-append_cases mail (numbered n out) _ h);
-  new = λ to m h. let r = numbers_new n out (sent_to to m) h in (r.0, Contains-append_right mail (numbered n out) _ r.1);
+  old = λ k to m h. Contains-append_left mail (mail_from n out) _ h;
+  from = λ k to m h. from k to m (Contains-append_cases mail (mail_from n out) _ h);
+  new = λ to m h. let r = numbers_new n out (sent_to to m) h in (r.0, Contains-append_right mail (mail_from n out) _ r.1);
 }
   where
-    from : (k to : ℕ) (m : Msg) → Travels mail k to m ⊎ Contains (numbered n out) (k, sent_to to m) → Travels mail k to m ⊎ Contains out (sent_to to m)
+    from : (k to : ℕ) (m : Msg) → Travels mail k to m ⊎ Contains (mail_from n out) (k, sent_to to m) → Travels mail k to m ⊎ Contains out (sent_to to m)
     from k to m (inl h) = inl h
     from k to m (inr h) = inr (number_of n out k (sent_to to m) h).0
 
@@ -70,17 +70,17 @@ number_once {X} n (z ∷ zs) k x y h g = go (Contains-cons_cases _ _ (enumerate_
     go (inl e) (inr r) ih = let place : n ≡ k = ap (λ (p : ℕ × X). p.0) e in let up = (number_of (n + 1) zs k y r).1 in absurd (omega (arith, place, up))
     go (inr q) (inl f) ih = let place : n ≡ k = ap (λ (p : ℕ × X). p.0) f in let up = (number_of (n + 1) zs k x q).1 in absurd (omega (arith, place, up))
 
-pub new_number : (mail : Mail) (n : ℕ) (out : List Sent) (to : ℕ) (m : Msg) → Contains out (sent_to to m) → (k : ℕ) × Travels (mail ++ numbered n out) k to m × (n ≤ k)
+pub new_number : (mail : Mail) (n : ℕ) (out : List Sent) (to : ℕ) (m : Msg) → Contains out (sent_to to m) → (k : ℕ) × Travels (mail ++ mail_from n out) k to m × (n ≤ k)
 new_number mail n out to m h =
     let r = numbers_new n out (sent_to to m) h in
-    (r.0, Contains-append_right mail (numbered n out) _ r.1, (number_of n out r.0 (sent_to to m) r.1).1)
+    (r.0, Contains-append_right mail (mail_from n out) _ r.1, (number_of n out r.0 (sent_to to m) r.1).1)
 
 -- with the numbers of the new ones
-pub from_number : (mail : Mail) (n : ℕ) (out : List Sent) (k to : ℕ) (m : Msg) → Travels (mail ++ numbered n out) k to m →
+pub from_number : (mail : Mail) (n : ℕ) (out : List Sent) (k to : ℕ) (m : Msg) → Travels (mail ++ mail_from n out) k to m →
     Travels mail k to m ⊎ (Contains out (sent_to to m) × (n ≤ k) × (k < n + length out))
-from_number mail n out k to m h = go (Contains-append_cases mail (numbered n out) _ h)
+from_number mail n out k to m h = go (Contains-append_cases mail (mail_from n out) _ h)
   where
-    go : Travels mail k to m ⊎ Contains (numbered n out) (k, sent_to to m) → Travels mail k to m ⊎ (Contains out (sent_to to m) × (n ≤ k) × (k < n + length out))
+    go : Travels mail k to m ⊎ Contains (mail_from n out) (k, sent_to to m) → Travels mail k to m ⊎ (Contains out (sent_to to m) × (n ≤ k) × (k < n + length out))
     go (inl q) = inl q
     go (inr q) = inr (number_of n out k (sent_to to m) q)
 
@@ -112,5 +112,5 @@ acts_after w i d e = same_world _ _ _ _ _ _ _ _ (sym (at_twice w.sites i d.site 
     sums : w.sent + length (d.sent ++ e.sent) ≡ w.sent + length d.sent + length e.sent
     sums = let l : length (d.sent ++ e.sent) ≡ length d.sent + length e.sent = length-append d.sent e.sent in omega arith
 
-    mails : w.mail ++ numbered w.sent (d.sent ++ e.sent) ≡ (w.mail ++ numbered w.sent d.sent) ++ numbered (w.sent + length d.sent) e.sent
-    mails = ap (λ (ms : Mail). w.mail ++ ms) (numbered_append w.sent d.sent e.sent) ∙ sym (append_assoc w.mail (numbered w.sent d.sent) (numbered (w.sent + length d.sent) e.sent))
+    mails : w.mail ++ mail_from w.sent (d.sent ++ e.sent) ≡ (w.mail ++ mail_from w.sent d.sent) ++ mail_from (w.sent + length d.sent) e.sent
+    mails = ap (λ (ms : Mail). w.mail ++ ms) (numbered_append w.sent d.sent e.sent) ∙ sym (append_assoc w.mail (mail_from w.sent d.sent) (mail_from (w.sent + length d.sent) e.sent))

@@ -8,7 +8,7 @@ use Rattle.tree_node.specs.Goal.{equal_cell}
 use Rattle.site_message.specs.declared.message.Msg.TheVariants as msg
 use Rattle.site_message.specs.declared.message.Sent.{Sent}
 use Rattle.token_chain.specs.Holding.{Holding, away}
-use Rattle.token_chain.specs.Mail.{travels}
+use Rattle.token_chain.specs.Mail.{sent_count}
 use Rattle.token_chain.specs.Mail as token
 use Rattle.token_chain.specs.Chain.{ChainOf}
 use Rattle.site_model.specs.Site.{CellRecord, cell_record_in}
@@ -22,13 +22,13 @@ messages mail = map (λ (m : ℕ × Sent). m.1) mail
 
 -- the sites that asked for the cell are one chain, from the token with this content on
 abbrev pub HasChain : (ℕ → List (CellName × ℕ)) → (ℕ → List (CellName × CellRecord)) → Mail → CellName → VarName → Type 0
-HasChain managers places mail c v = (last : ℕ) × (lookup (equal_cell c) (managers c.site) ≡ Some last) × ChainOf last (held_in places c) (travels c (messages mail)) v
+HasChain managers places mail c v = (last : ℕ) × (lookup (equal_cell c) (managers c.site) ≡ Some last) × ChainOf last (held_in places c) (sent_count c (messages mail)) v
 
 -- a cell that was not made is nowhere
 pub record IsNowhere (managers : ℕ → List (CellName × ℕ)) (places : ℕ → List (CellName × CellRecord)) (mail : Mail) (c : CellName) : Type 0 where
   pub manager : lookup (equal_cell c) (managers c.site) ≡ None
   pub away : (i : ℕ) → held_in places c i ≡ away
-  pub quiet : (m : token.Mail) → travels c (messages mail) m ≡ 0
+  pub quiet : (m : token.Mail) → sent_count c (messages mail) m ≡ 0
 
 -- each cell of the centre is one chain with the content that it has there, and others are nowhere
 pub record Cells (managers : ℕ → List (CellName × ℕ)) (places : ℕ → List (CellName × CellRecord)) (mail : Mail) (cells : List (CellName × VarName)) : Type 0 where

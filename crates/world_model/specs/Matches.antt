@@ -152,13 +152,13 @@ abbrev pub is_spawn : Msg → ℕ
 is_spawn (msg.Spawn n code vars bundle) = 1
 is_spawn _ = 0
 
-abbrev pub spawns : Mail → ℕ
-spawns [] = 0
-spawns (m ∷ ms) = is_spawn m.1.msg + spawns ms
+abbrev pub spawn_count : Mail → ℕ
+spawn_count [] = 0
+spawn_count (m ∷ ms) = is_spawn m.1.msg + spawn_count ms
 
 pub record Totals (n : ℕ) (ended living : ℕ → ℕ) (mail : Mail) (s : State) : Type 0 where
   pub all_ended : s.ended ≡ sum_to n ended
-  pub all_living : length s.threads ≡ sum_to n living + spawns mail
+  pub all_living : length s.threads ≡ sum_to n living + spawn_count mail
 
 abbrev pub ended : Sites → ℕ → ℕ
 ended f i = (f i).ended

@@ -55,15 +55,15 @@ abbrev pub counters : Sites → ℕ → Counters
 counters f i = (f i).counters
 
 -- new messages, numbered from this number on
-abbrev pub numbered : ℕ → List Sent → Mail
-numbered k ms = enumerate_from k ms
+abbrev pub mail_from : ℕ → List Sent → Mail
+mail_from k ms = enumerate_from k ms
 
 -- site i did this
 abbrev pub after_transition : World → ℕ → Transition → World
 after_transition w i d = record {
   sites = put w.sites i d.site;
   sent = w.sent + length d.sent;
-  mail = w.mail ++ numbered w.sent d.sent;
+  mail = w.mail ++ mail_from w.sent d.sent;
   lines = w.lines ++ d.lines;
 }
 

@@ -28,7 +28,7 @@ use Rattle.thread_roster.specs.declared.mode.Mode.TheVariants as mode
 use Rattle.token_chain.specs.declared.token.Token.{Token}
 use Rattle.token_chain.specs.declared.token.Token.TheVariants.{Away, Asked, Here}
 use Rattle.site_model.specs.Site.{Site, Counters, CellRecord, Threads, ThreadState, thread_state, cell_record, cell_record_in, runnable_threads}
-use Rattle.site_model.specs.Bundle.{bundled}
+use Rattle.site_model.specs.Bundle.{with_own_bundle}
 use Rattle.site_model.specs.Transition.{Transition, without_output, with_messages}
 use Rattle.site_model.specs.Variables.{own_binds}
 use Rattle.site_model.specs.Cells.{exchange_stack, with_own_request, with_exchange_waiting, with_last_asker, request_row}
@@ -118,8 +118,8 @@ module _ (p : List Stmt) (n limit i : ℕ) (C : ThreadName → Type 0) (Q : Pick
   waits_part : (th : ThreadName) (st : Stack) (x : VarName) (s : Site) → thread_state s th ≡ Some (st, Runs) → Part i C Q s (without_output (with_waiting th st x s))
   waits_part th st x s at = still_part i C Q s (without_output (with_waiting th st x s)) (record { counters = refl; sent = refl }) refl (waits_keep th st x s at) (λ k h. absurd (nothing k h))
 
-  asks_part : (th : ThreadName) (st : Stack) (u : VarName) (t : Term) (s : Site) → thread_state s th ≡ Some (st, Runs) → Part i C Q s (with_messages (with_waiting th st u s) (bundled limit s.equations (request u t th) ∷ []))
-  asks_part th st u t s at = still_part i C Q s (with_messages (with_waiting th st u s) (bundled limit s.equations (request u t th) ∷ [])) (record { counters = refl; sent = refl }) refl (waits_keep th st u s at) (λ k h. absurd (nothing k h))
+  asks_part : (th : ThreadName) (st : Stack) (u : VarName) (t : Term) (s : Site) → thread_state s th ≡ Some (st, Runs) → Part i C Q s (with_messages (with_waiting th st u s) (with_own_bundle limit s.equations (request u t th) ∷ []))
+  asks_part th st u t s at = still_part i C Q s (with_messages (with_waiting th st u s) (with_own_bundle limit s.equations (request u t th) ∷ [])) (record { counters = refl; sent = refl }) refl (waits_keep th st u s at) (λ k h. absurd (nothing k h))
 
   -- ---- a thread is born
 
@@ -132,7 +132,7 @@ module _ (p : List Stmt) (n limit i : ℕ) (C : ThreadName → Type 0) (Q : Pick
 
   -- the message by which a new thread leaves
   abbrev leaves : Birth → Site → Sent
-  leaves b s = bundled limit s.equations (sent_message (placement n s.records.site b.at) (msg.Spawn b.name b.code b.vars []))
+  leaves b s = with_own_bundle limit s.equations (sent_message (placement n s.records.site b.at) (msg.Spawn b.name b.code b.vars []))
 
   abbrev OfBirth : (ThreadName → Type 0) → Option Birth → Type 0
   OfBirth N None = Unit {0}

@@ -1,6 +1,7 @@
 -- As many messages of a cell as exchanges and outstanding requests pay for: the most that could have been sent before a turn.
 use Rattle.std.proofs.Common.{arith, ◌≡◌, ◌∙◌, sym, ap, refl, subst, ℕ, zero, suc, ◌+◌, ◌-◌, ◌≤◌, List, [], ◌∷◌, ◌++◌, ◌⊎◌, inl, inr, Bool, true, false, cond, Some, None, length}
 use Rattle.std.specs.Prelude.{◌≢◌}
+use Rattle.std.proofs.lemmas.Bool.{cond-true, cond-false}
 use Rattle.tree_node.specs.declared.names.VarName.{VarName}
 use Rattle.tree_node.specs.declared.names.CellName.{CellName}
 use Rattle.tree_node.specs.declared.pick.Pick.{Pick}
@@ -10,7 +11,7 @@ use Rattle.kernel_syntax.specs.declared.stmt.Stmt.{Stmt}
 use Rattle.site_message.specs.declared.message.Sent.{Sent}
 use Rattle.oz_model.specs.Run.{exchanges}
 use Rattle.oz_model.proofs.KindLemmas.{cell_same, cells_differ, cell_cases}
-use Rattle.token_chain.specs.Mail.{Get, Forward, Put, sent_as, same_cell}
+use Rattle.token_chain.specs.Mail.{Get, Forward, Put, sent_as}
 use Rattle.token_chain.specs.Mail as token
 use Rattle.token_chain.specs.Tally.{total, outstanding, weight}
 use Rattle.token_chain.specs.Holding.{Holding}
@@ -36,27 +37,19 @@ abbrev pub copies : CellName → token.Mail → ℕ → List Sent
 copies c a zero = []
 copies c a (suc k) = sent_as c a ∷ copies c a k
 
-pub kept : (b : Bool) (g : ℕ) → b ≡ true → cond b g 0 ≡ g
-kept true g e = refl
-kept false g e = cc
-
-pub lost : (b : Bool) (g : ℕ) → b ≡ false → cond b g 0 ≡ 0
-lost true g e = cc
-lost false g e = refl
-
 pub lost_any : (b : Bool) → ◌≡◌ {A = ℕ} (cond b 0 0) 0
 lost_any true = refl
 lost_any false = refl
 
 one_weighs : (c : CellName) (a : token.Mail) (g f u : ℕ) → cell_weight c g f u (sent_as c a).msg ≡ weight g f u a
-one_weighs c (Get s) g f u = kept (same_cell c c) g (cell_same c)
-one_weighs c (Forward s k) g f u = kept (same_cell c c) f (cell_same c)
-one_weighs c (Put s v) g f u = kept (same_cell c c) u (cell_same c)
+one_weighs c (Get s) g f u = cond-true (equal_cell c c) g 0 (cell_same c)
+one_weighs c (Forward s k) g f u = cond-true (equal_cell c c) f 0 (cell_same c)
+one_weighs c (Put s v) g f u = cond-true (equal_cell c c) u 0 (cell_same c)
 
 one_other : (b c : CellName) (a : token.Mail) (g f u : ℕ) → b ≢ c → cell_weight b g f u (sent_as c a).msg ≡ 0
-one_other b c (Get s) g f u d = lost (same_cell b c) g (cells_differ b c d)
-one_other b c (Forward s k) g f u d = lost (same_cell b c) f (cells_differ b c d)
-one_other b c (Put s v) g f u d = lost (same_cell b c) u (cells_differ b c d)
+one_other b c (Get s) g f u d = cond-false (equal_cell b c) g 0 (cells_differ b c d)
+one_other b c (Forward s k) g f u d = cond-false (equal_cell b c) f 0 (cells_differ b c d)
+one_other b c (Put s v) g f u d = cond-false (equal_cell b c) u 0 (cells_differ b c d)
 
 copies_weigh_all : (c : CellName) (a : token.Mail) (g f u k : ℕ) → weight g f u a ≡ 1 → cell_weights c g f u (copies c a k) ≡ k
 copies_weigh_all c a g f u zero e = refl

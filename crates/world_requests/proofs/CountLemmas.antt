@@ -8,7 +8,7 @@ use Rattle.site_message.specs.declared.turn.Turn.{Turn}
 use Rattle.site_message.specs.Journal.{Wired, IsTravelling, sent_of, travelling, was_delivered, is_number}
 use Rattle.site_message.proofs.JournalLemmas.{travelling_tells, sent_more}
 use Rattle.bind_protocol.proofs.ListLemmas.{one, count_append, count_cons}
-use Rattle.world_model.specs.World.{Mail, numbered}
+use Rattle.world_model.specs.World.{Mail, mail_from}
 use Rattle.world_model.specs.Chain.{messages}
 use Rattle.world_model.proofs.PutLemmas.{nat_decides}
 use Rattle.world_variables.proofs.JournalLemmas.{mail_after}
@@ -106,7 +106,7 @@ module _ (P : Sent → Bool) where
   messages_append [] os = refl
   messages_append (x ∷ ms) os = ap (λ (l : List Sent). x.1 ∷ l) (messages_append ms os)
 
-  messages_numbered : (k : ℕ) (os : List Sent) → messages (numbered k os) ≡ os
+  messages_numbered : (k : ℕ) (os : List Sent) → messages (mail_from k os) ≡ os
   messages_numbered k [] = refl
   messages_numbered k (s ∷ os) = ap (λ (l : List Sent). s ∷ l) (messages_numbered (k + 1) os)
 
@@ -115,13 +115,13 @@ module _ (P : Sent → Bool) where
     abbrev whole : Mail
     whole = filter (is_left j) (enumerate_from 0 (sent_of j ++ e.sent))
 
-    whole_is : travelling j ++ numbered (length (sent_of j)) e.sent ≡ whole
+    whole_is : travelling j ++ mail_from (length (sent_of j)) e.sent ≡ whole
     whole_is = mail_after j (record e { delivered = None }) wired
 
     whole_counts : count_by P (messages whole) ≡ under_way P j + count_by P e.sent
     whole_counts =
-        ap (λ (ms : Mail). count_by P (messages ms)) (sym whole_is) ∙ ap (count_by P) (messages_append (travelling j) (numbered (length (sent_of j)) e.sent))
-        ∙ count_append P (messages (travelling j)) (messages (numbered (length (sent_of j)) e.sent)) ∙ ap (λ (ms : List Sent). under_way P j + count_by P ms) (messages_numbered (length (sent_of j)) e.sent)
+        ap (λ (ms : Mail). count_by P (messages ms)) (sym whole_is) ∙ ap (count_by P) (messages_append (travelling j) (mail_from (length (sent_of j)) e.sent))
+        ∙ count_append P (messages (travelling j)) (messages (mail_from (length (sent_of j)) e.sent)) ∙ ap (λ (ms : List Sent). under_way P j + count_by P ms) (messages_numbered (length (sent_of j)) e.sent)
 
     abbrev Balance : Type 0
     Balance = under_way P j + count_by P e.sent ≤ under_way P (e ∷ j) + came_of P j e.delivered

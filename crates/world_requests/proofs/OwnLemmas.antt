@@ -1,6 +1,8 @@
 -- The messages of one site's requests that a turn sends.
 use Rattle.std.proofs.Common.{arith, ◌≡◌, ◌≢◌, ◌∙◌, sym, ap, refl, subst, ℕ, ◌+◌, ◌≤◌, List, ◌++◌, ◌⊎◌, inl, inr, Bool, true, false, cond, Some, None, append_assoc, length}
 use Rattle.std.specs.Prelude.{Option, ◌==◌, ◌&&◌}
+use Rattle.std.proofs.lemmas.Bool.{cond-false}
+use Rattle.tree_node.specs.Goal.{equal_cell}
 use Rattle.tree_node.specs.declared.names.CellName.{CellName}
 use Rattle.tree_node.specs.declared.names.ThreadName.{ThreadName}
 use Rattle.tree_node.specs.declared.pick.Pick.{Pick}
@@ -14,7 +16,7 @@ use Rattle.site_message.specs.Journal.{sent_of}
 use Rattle.oz_model.specs.Run.{exchanges}
 use Rattle.oz_model.proofs.KindLemmas.{cells_differ, cell_cases}
 use Rattle.bind_protocol.proofs.ListLemmas.{count_append}
-use Rattle.token_chain.specs.Mail.{Get, same_cell}
+use Rattle.token_chain.specs.Mail.{Get}
 use Rattle.token_chain.specs.Tally.{outstanding}
 use Rattle.site_model.specs.Site.{Site, cell_record}
 use Rattle.site_model.specs.Transition.{Transition, without_output, sequence}
@@ -31,8 +33,8 @@ use Rattle.world_cells.proofs.MessageTallyLemmas.{message_tallied}
 use Rattle.world_cells.proofs.TallyLemmas.{tally_sent}
 use Rattle.world_cells.proofs.TurnLemmas.{Paid, quiet_paid}
 use Rattle.world_messages.proofs.RunLemmas.{Entry}
-use Rattle.world_requests.specs.Requests.{exchanged, asks_for, gets_for, forwards_for, asked_by, brought, IsTurnPaid}
-use Rattle.world_requests.proofs.CopyLemmas.{lost, lost_any, all_less, all_zero}
+use Rattle.world_requests.specs.Requests.{exchange_count, asks_for, gets_for, forwards_for, asked_by, puts_delivered, IsTurnPaid}
+use Rattle.world_requests.proofs.CopyLemmas.{lost_any, all_less, all_zero}
 use Rattle.world_requests.proofs.PartLemmas.{PartPays, part_pays, going_in}
 use Rattle.world_requests.proofs.TurnLemmas.{Taken, real, paid_before, takes}
 use Rattle.world_requests.proofs.PaidLemmas.{weight_of, all_gets_taken, turn_pays, whole_part}
@@ -75,7 +77,7 @@ module _ (p : List Stmt) (n limit : ℕ) (is : IsProgram p) (few : 1 ≤ n) (man
       of_msg k (msg.Get b a) t = go (cell_cases c b)
         where
           go : (c ≡ b) ⊎ (c ≢ b) → asked_by c c.site (Some (msg.Get b a)) ≡ 0
-          go (inl q) = second (same_cell c b) (a == c.site) (flag a c.site (λ z. (old.reached.cells.gets k e.site b a t.at).1 (z ∙ ap (λ (x : CellName). x.site) q)))
+          go (inl q) = second (equal_cell c b) (a == c.site) (flag a c.site (λ z. (old.reached.cells.gets k e.site b a t.at).1 (z ∙ ap (λ (x : CellName). x.site) q)))
           go (inr q) = ap (λ (x : Bool). cond (x && (a == c.site)) 1 0) (cells_differ c b q)
       of_msg k (msg.Forward b a) t = refl
       of_msg k (msg.Put b v bundle) t = refl
@@ -94,7 +96,7 @@ module _ (p : List Stmt) (n limit : ℕ) (is : IsProgram p) (few : 1 ≤ n) (man
   -- ---- the site that made the cell
 
   abbrev OwnNext : CellName → Type 0
-  OwnNext c = forwards_for c c.site e.sent + outstanding (cell_record (f e.site) c).held.token ≤ exchanged p c j e + outstanding (cell_record d.site c).held.token
+  OwnNext c = forwards_for c c.site e.sent + outstanding (cell_record (f e.site) c).held.token ≤ exchange_count p c j e + outstanding (cell_record d.site c).held.token
 
   -- where no Get of the cell comes
   plain_next : (c : CellName) → all_gets_taken c j e ≡ 0 → OwnNext c
@@ -158,7 +160,7 @@ module _ (p : List Stmt) (n limit : ℕ) (is : IsProgram p) (few : 1 ≤ n) (man
           flag false z = z
 
           not_own : asks_for b b.site m ≡ false
-          not_own = second (same_cell b b) (a == b.site) (flag (a == b.site) refl)
+          not_own = second (equal_cell b b) (a == b.site) (flag (a == b.site) refl)
 
     get_next : OwnNext b
     get_next = go (subst (λ (o : Option Msg). SiteTurn p n limit (f e.site) o d) (ap (delivered_message j) q ∙ t.is) entry.turn)
@@ -183,26 +185,26 @@ module _ (p : List Stmt) (n limit : ℕ) (is : IsProgram p) (few : 1 ≤ n) (man
             where
               of_get : (b : CellName) (a : ℕ) → Taken p n j e (f e.site) k (msg.Get b a) → all_gets_taken c j e ≡ cell_weight c 1 0 0 (msg.Get b a) → (c ≡ b) ⊎ (c ≢ b) → OwnNext c
               of_get b a t w (inl y) = subst OwnNext (sym y) (get_next k b a q t)
-              of_get b a t w (inr y) = plain_next c (w ∙ lost (same_cell c b) 1 (cells_differ c b y))
+              of_get b a t w (inr y) = plain_next c (w ∙ cond-false (equal_cell c b) 1 0 (cells_differ c b y))
 
               kind : (m : Msg) → Taken p n j e (f e.site) k m → all_gets_taken c j e ≡ cell_weight c 1 0 0 m → OwnNext c
               kind (msg.Get b a) t w = of_get b a t w (cell_cases c b)
-              kind (msg.Forward b a) t w = plain_next c (w ∙ lost_any (same_cell c b))
-              kind (msg.Put b v bundle) t w = plain_next c (w ∙ lost_any (same_cell c b))
+              kind (msg.Forward b a) t w = plain_next c (w ∙ lost_any (equal_cell c b))
+              kind (msg.Put b v bundle) t w = plain_next c (w ∙ lost_any (equal_cell c b))
               kind (msg.Spawn o code vars bundle) t w = plain_next c w
               kind (msg.Register x o) t w = plain_next c w
               kind (msg.BindReq x o y bundle) t w = plain_next c w
               kind (msg.Binding x y bundle) t w = plain_next c w
 
   -- a Put is a Put
-  put_is : (c : CellName) (m : Option Msg) → brought c m ≡ weight_of c 0 0 1 m
+  put_is : (c : CellName) (m : Option Msg) → puts_delivered c m ≡ weight_of c 0 0 1 m
   put_is c None = refl
   put_is c (Some m) = by m
     where
-      by : (m : Msg) → brought c (Some m) ≡ weight_of c 0 0 1 (Some m)
+      by : (m : Msg) → puts_delivered c (Some m) ≡ weight_of c 0 0 1 (Some m)
       by (msg.Put b v bundle) = refl
-      by (msg.Get b a) = sym (lost_any (same_cell c b))
-      by (msg.Forward b a) = sym (lost_any (same_cell c b))
+      by (msg.Get b a) = sym (lost_any (equal_cell c b))
+      by (msg.Forward b a) = sym (lost_any (equal_cell c b))
       by (msg.Spawn o code vars bundle) = refl
       by (msg.Register x a) = refl
       by (msg.BindReq x o y bundle) = refl
@@ -214,7 +216,7 @@ module _ (p : List Stmt) (n limit : ℕ) (is : IsProgram p) (few : 1 ≤ n) (man
       record {
         gets = omega (arith, pays.gets, all_gets c e.site e.sent);
         alone = λ s other. own_gets c s other;
-        own = λ at. subst (λ (k : ℕ). forwards_for c k e.sent + outstanding (cell_record (f e.site) c).held.token ≤ exchanged p c j e + outstanding (cell_record d.site c).held.token) at (own_next c);
+        own = λ at. subst (λ (k : ℕ). forwards_for c k e.sent + outstanding (cell_record (f e.site) c).held.token ≤ exchange_count p c j e + outstanding (cell_record d.site c).held.token) at (own_next c);
         answers = λ s other. answers c s (λ z. other z.1);
         puts = (let same = put_is c (delivered_message j e.delivered) in omega (arith, same, pays.puts));
       }

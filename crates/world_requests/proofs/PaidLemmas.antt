@@ -1,6 +1,8 @@
 -- What one turn pays for: Gets, Forwards and Puts of one cell.
 use Rattle.std.proofs.Common.{arith, ◌≡◌, ◌≢◌, ◌∙◌, sym, ap, refl, subst, ℕ, ◌+◌, ◌<◌, ◌≤◌, List, [], ◌∷◌, ◌++◌, ◌⊎◌, inl, inr, true, Some, None, append_assoc, length}
 use Rattle.std.specs.Prelude.{Option}
+use Rattle.std.proofs.lemmas.Bool.{cond-true, cond-false}
+use Rattle.tree_node.specs.Goal.{equal_cell}
 use Rattle.tree_node.specs.declared.names.VarName.{VarName}
 use Rattle.tree_node.specs.declared.names.CellName.{CellName}
 use Rattle.tree_node.specs.declared.pick.Pick.{Pick}
@@ -16,7 +18,7 @@ use Rattle.oz_model.specs.Run.{exchanges, exchanges_from}
 use Rattle.oz_model.proofs.KindLemmas.{cell_same, cells_differ, cell_cases}
 use Rattle.oz_model.proofs.SoundLemmas.{runs_are_sound}
 use Rattle.token_chain.specs.declared.token.Token.{Token}
-use Rattle.token_chain.specs.Mail.{Get, Forward, Put, same_cell, travels, mail_count}
+use Rattle.token_chain.specs.Mail.{Get, Forward, Put, sent_count, mail_count}
 use Rattle.token_chain.specs.Mail as token
 use Rattle.token_chain.specs.Tally.{total, outstanding}
 use Rattle.token_chain.proofs.TallyLemmas.{one_came}
@@ -28,7 +30,7 @@ use Rattle.site_model.specs.Variables.{opening}
 use Rattle.site_model.specs.Cells.{put_row}
 use Rattle.site_model.specs.Run.{delivered_message}
 use Rattle.world_model.specs.Schedule.{schedule}
-use Rattle.world_model.specs.World.{World, Sites, Mail, Travels, put, after_transition, after_receipt, numbered, world_of}
+use Rattle.world_model.specs.World.{World, Sites, Mail, Travels, put, after_transition, after_receipt, mail_from, world_of}
 use Rattle.world_model.proofs.MailLemmas.{sent_to}
 use Rattle.world_variables.proofs.JournalLemmas.{came_acts}
 use Rattle.world_cells.specs.CellCounts.{cell_weight, cell_weights}
@@ -41,9 +43,8 @@ use Rattle.world_cells.proofs.TallyLemmas.{OneOfNumber, IsSilent, tally_sent, ta
 use Rattle.world_cells.proofs.TurnLemmas.{Paid}
 use Rattle.world_cells.proofs.UnitTallyLemmas.{more_picks}
 use Rattle.world_messages.proofs.RunLemmas.{Entry}
-use Rattle.world_requests.specs.Requests.{exchanged}
-use Rattle.world_requests.proofs.CopyLemmas.{kept, most, all_less, all_zero}
-use Rattle.world_requests.proofs.CopyLemmas.{lost as lost_weight, lost_any}
+use Rattle.world_requests.specs.Requests.{exchange_count}
+use Rattle.world_requests.proofs.CopyLemmas.{most, lost_any, all_less, all_zero}
 use Rattle.world_requests.proofs.PartLemmas.{PartPays, part_pays}
 use Rattle.world_requests.proofs.TurnLemmas.{Taken, real, paid_before, whole, takes, turn_paid}
 
@@ -67,9 +68,9 @@ abbrev pub all_puts_taken : CellName → List Turn → Turn → ℕ
 all_puts_taken c j e = weight_of c 0 0 1 (delivered_message j e.delivered)
 
 pub record TurnPays (p : List Stmt) (c : CellName) (j : List Turn) (e : Turn) (old new : Token) : Type 0 where
-  pub gets : gets c e + outstanding old ≤ exchanged p c j e + outstanding new
-  pub forwards : forwards c e + outstanding old ≤ exchanged p c j e + outstanding new + all_gets_taken c j e
-  pub puts : all_puts_taken c j e ≤ exchanged p c j e
+  pub gets : gets c e + outstanding old ≤ exchange_count p c j e + outstanding new
+  pub forwards : forwards c e + outstanding old ≤ exchange_count p c j e + outstanding new + all_gets_taken c j e
+  pub puts : all_puts_taken c j e ≤ exchange_count p c j e
 
 taken_off : (g a m b t u k : ℕ) → g + a + u ≤ m + b + t → t ≤ u + k → g + a ≤ m + b + k
 taken_off g a m b t u k h came = omega (arith, h, came)
@@ -113,7 +114,7 @@ module _ (p : List Stmt) (n limit : ℕ) (is : IsProgram p) (few : 1 ≤ n) (man
   get_lost b k a at low high =
       let arrives = get_arrives first k e.site b a at (one k (msg.Get b a) at) (old.reached.cells.gets k e.site b a at).0 in
       let found = cell_there first.sites first.mail old.reached.centre.cells b (Get a) old.reached.cells.cells (arrives_there first k e.site _ b (Get a) arrives) in
-      (Get a ∷ [], arrives_here first k e.site _ b (Get a) found.0 arrives found.2, (let came = one_came n a low high in let all = kept (same_cell b b) 1 (cell_same b) in omega (arith, came, all)))
+      (Get a ∷ [], arrives_here first k e.site _ b (Get a) found.0 arrives found.2, (let came = one_came n a low high in let all = cond-true {A = ℕ} (equal_cell b b) 1 0 (cell_same b) in omega (arith, came, all)))
 
   lost : (c : CellName) (k : ℕ) (m : Msg) → Taken p n j e (f e.site) k m → Lost c k m
   lost c k (msg.Get b a) t = go (cell_cases c b)
@@ -143,9 +144,9 @@ module _ (p : List Stmt) (n limit : ℕ) (is : IsProgram p) (few : 1 ≤ n) (man
   came : (c : CellName) → going_in c first.mail ≤ going_in c last.mail + all_gets_taken c j e
   came c = subst (λ (v : World). going_in c first.mail ≤ going_in c v.mail + all_gets_taken c j e) (whole p n limit is few many short j e f d entry) (by e.delivered refl)
     where
-      more : (mail : Mail) (k : ℕ) (gone : List token.Mail) (x : ℕ) → Came c gone first.mail mail → total n (λ s. mail_count gone (Get s)) ≤ x → going_in c first.mail ≤ going_in c (mail ++ numbered k d.sent) + x
+      more : (mail : Mail) (k : ℕ) (gone : List token.Mail) (x : ℕ) → Came c gone first.mail mail → total n (λ s. mail_count gone (Get s)) ≤ x → going_in c first.mail ≤ going_in c (mail ++ mail_from k d.sent) + x
       more mail k gone x less most =
-          let all = all_less n (λ s. tally c first.mail (Get s)) (λ s. tally c (mail ++ numbered k d.sent) (Get s)) (λ s. mail_count gone (Get s)) (λ s. (let sum = tally_sent c mail k d.sent (Get s) in let is = less (Get s) in omega (arith, sum, is))) in
+          let all = all_less n (λ s. tally c first.mail (Get s)) (λ s. tally c (mail ++ mail_from k d.sent) (Get s)) (λ s. mail_count gone (Get s)) (λ s. (let sum = tally_sent c mail k d.sent (Get s) in let is = less (Get s) in omega (arith, sum, is))) in
           omega (arith, all, most)
 
       by : (o : Option ℕ) → e.delivered ≡ o → going_in c first.mail ≤ going_in c (after_receipt o (after_transition first e.site d)).mail + weight_of c 1 0 0 (delivered_message j o)
@@ -184,13 +185,13 @@ module _ (p : List Stmt) (n limit : ℕ) (is : IsProgram p) (few : 1 ≤ n) (man
         let there = subst (λ (y : Site). length (exchanges_from p b r.centre (put_row p limit b v y).picks) ≡ length (cell_record y b).queue) (site_v p limit first (schedule j) r k e.site m far t.at) row.exchanged in
         there ∙ ap (λ (qs : List (CellName × CellRecord)). length (cell_record_in qs b).queue) (opens_nothing m (f e.site)).cell_records
 
-    at_once : e.delivered ≡ Some k → 1 ≤ exchanged p b j e
+    at_once : e.delivered ≡ Some k → 1 ≤ exchange_count p b j e
     at_once q = go (subst (λ (o : Option Msg). SiteTurn p n limit (f e.site) o d) (ap (delivered_message j) q ∙ t.is) entry.turn)
       where
-        go : SiteTurn p n limit (f e.site) (Some m) d → 1 ≤ exchanged p b j e
+        go : SiteTurn p n limit (f e.site) (Some m) d → 1 ≤ exchange_count p b j e
         go (ths, most, (heard, rest, said, units, sums)) = by said
           where
-            by : IsReception p n limit (Some m) (f e.site) heard → 1 ≤ exchanged p b j e
+            by : IsReception p n limit (Some m) (f e.site) heard → 1 ≤ exchange_count p b j e
             by (inr (unfit, u)) = absurd (unfit t.fit)
             by (inl (fit, u)) =
                 let r = message_reached p limit first (schedule j) old.reached k e.site m (real p n limit is few many short j e f d entry) t.elsewhere t.at in
@@ -200,30 +201,30 @@ module _ (p : List Stmt) (n limit : ℕ) (is : IsProgram p) (few : 1 ≤ n) (man
                 let all : length (exchanges p (schedule j ++ e.picks) b) ≡ length (exchanges p ((schedule j ++ taken) ++ rest.picks) b) = ap (λ (ks : List Pick). length (exchanges p (schedule j ++ ks) b)) picks ∙ ap (λ (ks : List Pick). length (exchanges p ks b)) (sym (append_assoc (schedule j) taken rest.picks)) in
                 omega (arith, x, y, all, served, waits)
 
-  puts_paid : (c : CellName) → all_puts_taken c j e ≤ exchanged p c j e
+  puts_paid : (c : CellName) → all_puts_taken c j e ≤ exchange_count p c j e
   puts_paid c = by e.delivered refl
     where
-      nothing : weight_of c 0 0 1 (delivered_message j e.delivered) ≡ 0 → all_puts_taken c j e ≤ exchanged p c j e
+      nothing : weight_of c 0 0 1 (delivered_message j e.delivered) ≡ 0 → all_puts_taken c j e ≤ exchange_count p c j e
       nothing z = omega (arith, z)
 
-      by : (o : Option ℕ) → e.delivered ≡ o → all_puts_taken c j e ≤ exchanged p c j e
+      by : (o : Option ℕ) → e.delivered ≡ o → all_puts_taken c j e ≤ exchange_count p c j e
       by None q = nothing (ap (λ (o : Option ℕ). weight_of c 0 0 1 (delivered_message j o)) q)
       by (Some k) q = go (takes p n limit is few many short j e f d entry k q)
         where
-          go : (m : Msg) × Taken p n j e (f e.site) k m → all_puts_taken c j e ≤ exchanged p c j e
+          go : (m : Msg) × Taken p n j e (f e.site) k m → all_puts_taken c j e ≤ exchange_count p c j e
           go (m, t) = kind m t (ap (λ (o : Option ℕ). weight_of c 0 0 1 (delivered_message j o)) q ∙ ap (weight_of c 0 0 1) t.is)
             where
-              put_paid : (b : CellName) (v : VarName) (bundle : List Equation) → Taken p n j e (f e.site) k (msg.Put b v bundle) → all_puts_taken c j e ≡ cell_weight c 0 0 1 (msg.Put b v bundle) → (c ≡ b) ⊎ (c ≢ b) → all_puts_taken c j e ≤ exchanged p c j e
+              put_paid : (b : CellName) (v : VarName) (bundle : List Equation) → Taken p n j e (f e.site) k (msg.Put b v bundle) → all_puts_taken c j e ≡ cell_weight c 0 0 1 (msg.Put b v bundle) → (c ≡ b) ⊎ (c ≢ b) → all_puts_taken c j e ≤ exchange_count p c j e
               put_paid b v bundle t w (inl y) =
-                  let one : 1 ≤ exchanged p c j e = subst (λ (x : CellName). 1 ≤ exchanged p x j e) (sym y) (at_once k b v bundle t q) in
-                  let is : cell_weight c 0 0 1 (msg.Put b v bundle) ≡ 1 = kept (same_cell c b) 1 (subst (λ (x : CellName). same_cell c x ≡ true) y (cell_same c)) in
+                  let one : 1 ≤ exchange_count p c j e = subst (λ (x : CellName). 1 ≤ exchange_count p x j e) (sym y) (at_once k b v bundle t q) in
+                  let is : cell_weight c 0 0 1 (msg.Put b v bundle) ≡ 1 = cond-true (equal_cell c b) 1 0 (subst (λ (x : CellName). equal_cell c x ≡ true) y (cell_same c)) in
                   omega (arith, one, is, w)
-              put_paid b v bundle t w (inr y) = nothing (w ∙ lost_weight (same_cell c b) 1 (cells_differ c b y))
+              put_paid b v bundle t w (inr y) = nothing (w ∙ cond-false (equal_cell c b) 1 0 (cells_differ c b y))
 
-              kind : (m : Msg) → Taken p n j e (f e.site) k m → all_puts_taken c j e ≡ cell_weight c 0 0 1 m → all_puts_taken c j e ≤ exchanged p c j e
+              kind : (m : Msg) → Taken p n j e (f e.site) k m → all_puts_taken c j e ≡ cell_weight c 0 0 1 m → all_puts_taken c j e ≤ exchange_count p c j e
               kind (msg.Put b v bundle) t w = put_paid b v bundle t w (cell_cases c b)
-              kind (msg.Get b a) t w = nothing (w ∙ lost_any (same_cell c b))
-              kind (msg.Forward b a) t w = nothing (w ∙ lost_any (same_cell c b))
+              kind (msg.Get b a) t w = nothing (w ∙ lost_any (equal_cell c b))
+              kind (msg.Forward b a) t w = nothing (w ∙ lost_any (equal_cell c b))
               kind (msg.Spawn o code vars bundle) t w = nothing w
               kind (msg.Register x o) t w = nothing w
               kind (msg.BindReq x o y bundle) t w = nothing w
@@ -250,6 +251,6 @@ module _ (p : List Stmt) (n limit : ℕ) (is : IsProgram p) (few : 1 ≤ n) (man
         let part = whole_part in
         record {
           gets = part.gets;
-          forwards = taken_off (forwards c e) (outstanding old_token) (exchanged p c j e) (outstanding new_token) (going_in c first.mail) (going_in c last.mail) (all_gets_taken c j e) part.forwards (came c);
+          forwards = taken_off (forwards c e) (outstanding old_token) (exchange_count p c j e) (outstanding new_token) (going_in c first.mail) (going_in c last.mail) (all_gets_taken c j e) part.forwards (came c);
           puts = puts_paid c;
         }

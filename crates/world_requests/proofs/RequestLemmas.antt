@@ -22,7 +22,7 @@ use Rattle.world_model.proofs.PutLemmas.{nat_decides, at_here, at_other}
 use Rattle.world_cells.proofs.ChainLemmas.{number_or}
 use Rattle.world_messages.proofs.RunLemmas.{Entry, every_run}
 use Rattle.world_simulation.proofs.SimulationLemmas.{paid}
-use Rattle.world_requests.specs.Requests.{asked_by, brought, puts_taken, exchanged, asks_for, names_next, is_put, gets_for, forwards_for, in_turns_of, exchanges_at, IsTurnPaid, AreRequestsServed, TurnsArePaid, ExchangesAreSplit, RequestsAreServed}
+use Rattle.world_requests.specs.Requests.{asked_by, puts_delivered, puts_taken, exchange_count, asks_for, names_next, is_put, gets_for, forwards_for, in_turns_of, exchanges_at, IsTurnPaid, AreRequestsServed, TurnsArePaid, ExchangesAreSplit, RequestsAreServed}
 use Rattle.world_requests.proofs.PaidLemmas.{whole_part}
 use Rattle.world_requests.proofs.OwnLemmas.{turn_is_paid, own_gets, answers, none_of_owner}
 use Rattle.world_requests.proofs.CountLemmas.{passes, came_of, came, no_more, none_lost}
@@ -84,7 +84,7 @@ module _ (p : List Stmt) (n limit : ℕ) (is : IsProgram p) (few : 1 ≤ n) (man
     both_at true false = omega arith
     both_at false y = omega arith
 
-    puts_weigh : (m : Sent) → one (brings c s m) ≤ brought c (Some m.msg)
+    puts_weigh : (m : Sent) → one (brings c s m) ≤ puts_delivered c (Some m.msg)
     puts_weigh m = both_at (is_put c m.msg) (m.to == s)
 
     elsewhere : (x : Bool) (to : ℕ) → to ≡ e.site → (e.site == s) ≡ false → one (x && (to == s)) ≡ 0
@@ -108,8 +108,8 @@ module _ (p : List Stmt) (n limit : ℕ) (is : IsProgram p) (few : 1 ≤ n) (man
                 this : came_of (brings c s) j e.delivered ≡ one (brings c s m)
                 this = ap (came_of (brings c s) j) q ∙ ap (passes (brings c s)) t.0
 
-                weighs : puts_taken c j e ≡ brought c (Some m.msg)
-                weighs = ap (λ (o : Option ℕ). brought c (delivered_message j o)) q ∙ ap (λ (o : Option Sent). brought c (message_of o)) t.0
+                weighs : puts_taken c j e ≡ puts_delivered c (Some m.msg)
+                weighs = ap (λ (o : Option ℕ). puts_delivered c (delivered_message j o)) q ∙ ap (λ (o : Option Sent). puts_delivered c (message_of o)) t.0
 
                 two : (b : Bool) → (e.site == s) ≡ b → came_of (brings c s) j e.delivered ≤ cond b (puts_taken c j e) 0
                 two true at = omega (arith, this, weighs, puts_weigh m)
@@ -119,12 +119,12 @@ module _ (p : List Stmt) (n limit : ℕ) (is : IsProgram p) (few : 1 ≤ n) (man
     more : e.site ≡ s → ServedAt p c s j (cell_record (f s) c).held.token → ServedAt p c s (e ∷ j) (cell_record d.site c).held.token
     more at r =
         let yes : (e.site == s) ≡ true = (nat_decides e.site s).1 at in
-        let x = counts_here s (exchanged p c) e j yes in
-        let own_paid = subst (λ (k : ℕ). gets_for c k e.sent + outstanding (cell_record (f k) c).held.token ≤ exchanged p c j e + outstanding (cell_record d.site c).held.token) at (turn_is_paid p n limit is few many short j e f d entry c).gets in
+        let x = counts_here s (exchange_count p c) e j yes in
+        let own_paid = subst (λ (k : ℕ). gets_for c k e.sent + outstanding (cell_record (f k) c).held.token ≤ exchange_count p c j e + outstanding (cell_record d.site c).held.token) at (turn_is_paid p n limit is few many short j e f d entry c).gets in
         let put : came_of (brings c s) j e.delivered ≤ puts_taken c j e = subst (λ (b : Bool). came_of (brings c s) j e.delivered ≤ cond b (puts_taken c j e) 0) yes put_came in
         record {
           gets = omega (arith, x, gets_sum, r.gets, own_paid);
-          own = λ q. (let mine = subst (λ (k : ℕ). forwards_for c k e.sent + outstanding (cell_record (f k) c).held.token ≤ exchanged p c j e + outstanding (cell_record d.site c).held.token) at ((turn_is_paid p n limit is few many short j e f d entry c).own (q ∙ sym at)) in omega (arith, x, forwards_sum, r.own q, mine));
+          own = λ q. (let mine = subst (λ (k : ℕ). forwards_for c k e.sent + outstanding (cell_record (f k) c).held.token ≤ exchange_count p c j e + outstanding (cell_record d.site c).held.token) at ((turn_is_paid p n limit is few many short j e f d entry c).own (q ∙ sym at)) in omega (arith, x, forwards_sum, r.own q, mine));
           answered = λ other. omega (arith, forwards_sum, r.answered other, get_came, answers p n limit is few many short j e f d entry c s (λ z. other z.1));
           taken = omega (arith, x, r.taken, (turn_is_paid p n limit is few many short j e f d entry c).puts, put);
         }
@@ -133,7 +133,7 @@ module _ (p : List Stmt) (n limit : ℕ) (is : IsProgram p) (few : 1 ≤ n) (man
     same : e.site ≢ s → ServedAt p c s j (cell_record (f s) c).held.token → ServedAt p c s (e ∷ j) (cell_record (f s) c).held.token
     same other r =
         let no : (e.site == s) ≡ false = flag (e.site == s) refl in
-        let x = counts_there s (exchanged p c) e j no in
+        let x = counts_there s (exchange_count p c) e j no in
         let none = own_gets p n limit is few many short j e f d entry c s other in
         let put : came_of (brings c s) j e.delivered ≤ 0 = subst (λ (b : Bool). came_of (brings c s) j e.delivered ≤ cond b (puts_taken c j e) 0) no put_came in
         record {
@@ -191,8 +191,8 @@ module _ (p : List Stmt) (n limit : ℕ) (is : IsProgram p) (few : 1 ≤ n) (man
 
   split_entry : (j : List Turn) (e : Turn) (f : Sites) (d : Transition) → Entry p n limit j e f d → SplitIn j f → SplitIn (e ∷ j) (put f e.site d.site)
   split_entry j e f d entry h c =
-      let here = counts_here e.site (exchanged p c) e j ((nat_decides e.site e.site).1 refl) in
-      let sum = total_change n e.site (λ s. exchanges_at p c s j) (λ s. exchanges_at p c s (e ∷ j)) 0 (exchanged p c j e) entry.site.0 entry.site.1 (omega (arith, here)) (λ k other. counts_there k (exchanged p c) e j (flag k other (e.site == k) refl)) in
+      let here = counts_here e.site (exchange_count p c) e j ((nat_decides e.site e.site).1 refl) in
+      let sum = total_change n e.site (λ s. exchanges_at p c s j) (λ s. exchanges_at p c s (e ∷ j)) 0 (exchange_count p c j e) entry.site.0 entry.site.1 (omega (arith, here)) (λ k other. counts_there k (exchange_count p c) e j (flag k other (e.site == k) refl)) in
       let grown = (whole_part p n limit is few many short j e f d entry c).grown in
       let before = h c in
       omega (arith, sum, grown, before)

@@ -1,6 +1,8 @@
 -- Which messages of a cell a turn sends: units send a site's own requests, and a Get that comes gives at most one Forward.
 use Rattle.std.proofs.Common.{arith, ◌≡◌, ◌≢◌, ◌∙◌, sym, ap, refl, subst, ℕ, ◌+◌, ◌≤◌, List, [], ◌∷◌, ◌⊎◌, inl, inr, Bool, true, false, cond, Some, None}
 use Rattle.std.specs.Prelude.{Option, ◌==◌, ◌&&◌, count_by}
+use Rattle.std.proofs.lemmas.Bool.{and_parts}
+use Rattle.tree_node.specs.Goal.{equal_cell}
 use Rattle.tree_node.specs.declared.names.VarName.{VarName}
 use Rattle.tree_node.specs.declared.names.CellName.{CellName}
 use Rattle.tree_node.specs.declared.names.ThreadName.{ThreadName}
@@ -9,6 +11,7 @@ use Rattle.tree_node.specs.Each.{Each}
 use Rattle.tree_node.specs.State.{Stack}
 use Rattle.tree_node.specs.Store.{Store}
 use Rattle.tree_node.proofs.EachLemmas.{each_append}
+use Rattle.tree_node.proofs.EnvLemmas.{each_more}
 use Rattle.kernel_syntax.specs.declared.stmt.Stmt.{Stmt}
 use Rattle.site_message.specs.declared.message.Msg.{Msg}
 use Rattle.site_message.specs.declared.message.Msg.TheVariants as msg
@@ -20,7 +23,7 @@ use Rattle.bind_protocol.proofs.ListLemmas.{one, count_append, count_cons}
 use Rattle.token_chain.specs.declared.token.Token.{Token}
 use Rattle.token_chain.specs.declared.token.Token.TheVariants.{Away, Asked, Here}
 use Rattle.token_chain.specs.Holding.{Holding, departure_of}
-use Rattle.token_chain.specs.Mail.{Get, Forward, same_cell}
+use Rattle.token_chain.specs.Mail.{Get, Forward}
 use Rattle.token_chain.specs.Rows.{leave_with, forward_reply, get_reply, exchange_reply}
 use Rattle.site_model.specs.Site.{Site, cell_record}
 use Rattle.site_model.specs.Transition.{Transition}
@@ -157,7 +160,7 @@ module _ (p : List Stmt) (n limit : ℕ) where
     where
       leaving : (h : Holding) (o : Option (ℕ × VarName)) → cell_weights c 0 1 0 (letters limit b s (leave_with h o).sent) ≤ 1
       leaving h None = omega arith
-      leaving h (Some (k, u)) = let none = lost_any (same_cell c b) in omega (arith, none)
+      leaving h (Some (k, u)) = let none = lost_any (equal_cell c b) in omega (arith, none)
 
       most : (b : Bool) → cond b 1 0 ≤ 1
       most true = omega arith
@@ -165,7 +168,7 @@ module _ (p : List Stmt) (n limit : ℕ) where
 
       go : (x : Bool) → cell_weights c 0 1 0 (letters limit b s (cond x (forward_reply h a) (record { held = h; sent = Forward last a ∷ [] })).sent) ≤ 1
       go true = leaving (record h { next = Some a }) (departure_of (record h { next = Some a }))
-      go false = omega (arith, most (same_cell c b))
+      go false = omega (arith, most (equal_cell c b))
 
   pub heard_once : (c b : CellName) (a : ℕ) (s : Site) → cell_weights c 0 1 0 (reception p limit (msg.Get b a) s).sent ≤ 1
   heard_once c b a s =
@@ -176,11 +179,6 @@ module _ (p : List Stmt) (n limit : ℕ) where
 
 -- ---- counts
 
-pub both_true : (a b : Bool) → (a && b) ≡ true → (a ≡ true) × (b ≡ true)
-both_true true true q = (refl, refl)
-both_true true false q = cc
-both_true false b q = cc
-
 none_counted : (P : Sent → Bool) (ms : List Sent) → Each (λ (m : Sent). P m ≡ true → ⊥) ms → count_by P ms ≡ 0
 none_counted P [] h = refl
 none_counted P (m ∷ ms) h = go (P m) refl (none_counted P ms h.1)
@@ -189,16 +187,12 @@ none_counted P (m ∷ ms) h = go (P m) refl (none_counted P ms h.1)
     go true q ih = absurd (h.0 q)
     go false q ih = let sum = count_cons P m ms in let zero : one (P m) ≡ 0 = ap one q in omega arith
 
-weaker : (P Q : Sent → Type 0) (ms : List Sent) → ((m : Sent) → P m → Q m) → Each P ms → Each Q ms
-weaker P Q [] f h = tt
-weaker P Q (m ∷ ms) f h = (f m h.0, weaker P Q ms f h.1)
-
 -- units of site i send no Get for another site
 pub others_get : (c : CellName) (i k : ℕ) (ms : List Sent) → i ≢ k → AreOwnRequests i ms → gets_for c k ms ≡ 0
-others_get c i k ms other h = none_counted _ ms (weaker _ _ ms (λ m own. by m.msg own) h)
+others_get c i k ms other h = none_counted _ ms (each_more _ _ ms (λ m own. by m.msg own) h)
   where
     by : (m : Msg) → IsOwnRequest i m → asks_for c k m ≡ true → ⊥
-    by (msg.Get d a) own q = other (sym own ∙ (nat_decides a k).0 (both_true _ _ q).1)
+    by (msg.Get d a) own q = other (sym own ∙ (nat_decides a k).0 (and_parts _ _ q).1)
     by (msg.Forward d a) own q = cc
     by (msg.Put d v bundle) own q = cc
     by (msg.Spawn n code vars bundle) own q = cc
@@ -208,17 +202,17 @@ others_get c i k ms other h = none_counted _ ms (weaker _ _ ms (λ m own. by m.m
 
 -- and no Forward that names another site, or of another site's cell
 pub others_next : (c : CellName) (i k : ℕ) (ms : List Sent) → ((i ≡ k) × (c.site ≡ k) → ⊥) → AreOwnRequests i ms → forwards_for c k ms ≡ 0
-others_next c i k ms other h = none_counted _ ms (weaker _ _ ms (λ m own. by m.msg own) h)
+others_next c i k ms other h = none_counted _ ms (each_more _ _ ms (λ m own. by m.msg own) h)
   where
     by : (m : Msg) → IsOwnRequest i m → names_next c k m ≡ true → ⊥
     by (msg.Forward d a) own q = go (cell_cases c d)
       where
         site : i ≡ k
-        site = sym own.0 ∙ (nat_decides a k).0 (both_true (same_cell c d) (a == k) q).1
+        site = sym own.0 ∙ (nat_decides a k).0 (and_parts (equal_cell c d) (a == k) q).1
 
         go : (c ≡ d) ⊎ (c ≢ d) → ⊥
         go (inl e) = other (site, ap (λ (x : CellName). x.site) e ∙ own.1 ∙ site)
-        go (inr e) = let no = cells_differ c d e in let yes : same_cell c d ≡ true = (both_true (same_cell c d) (a == k) q).0 in cc
+        go (inr e) = let no = cells_differ c d e in let yes : equal_cell c d ≡ true = (and_parts (equal_cell c d) (a == k) q).0 in cc
     by (msg.Get d a) own q = cc
     by (msg.Put d v bundle) own q = cc
     by (msg.Spawn n code vars bundle) own q = cc
@@ -228,7 +222,7 @@ others_next c i k ms other h = none_counted _ ms (weaker _ _ ms (λ m own. by m.
 
 -- whoever hears a message sends no Get for it
 pub heard_get : (c : CellName) (k : ℕ) (m : Msg) (ms : List Sent) → AreAnswers m ms → gets_for c k ms ≡ 0
-heard_get c k m ms h = none_counted _ ms (weaker _ _ ms (λ x own. by x.msg own) h)
+heard_get c k m ms h = none_counted _ ms (each_more _ _ ms (λ x own. by x.msg own) h)
   where
     by : (x : Msg) → IsAnswer m x → asks_for c k x ≡ true → ⊥
     by (msg.Get d a) own q = own
@@ -241,7 +235,7 @@ heard_get c k m ms h = none_counted _ ms (weaker _ _ ms (λ x own. by x.msg own)
 
 -- and a Forward that names a site only for that site's Get
 pub heard_next : (c : CellName) (k : ℕ) (m : Msg) (ms : List Sent) → asks_for c k m ≡ false → AreAnswers m ms → forwards_for c k ms ≡ 0
-heard_next c k m ms none h = none_counted _ ms (weaker _ _ ms (λ x own. by x.msg own) h)
+heard_next c k m ms none h = none_counted _ ms (each_more _ _ ms (λ x own. by x.msg own) h)
   where
     by : (x : Msg) → IsAnswer m x → names_next c k x ≡ true → ⊥
     by (msg.Forward d a) own q = let yes : asks_for c k m ≡ true = ap (asks_for c k) own ∙ q in cc
@@ -263,7 +257,7 @@ all_gets c k [] = omega arith
 all_gets c k (m ∷ ms) = let sum = count_cons (λ (x : Sent). asks_for c k x.msg) m ms in omega (arith, sum, by m.msg, all_gets c k ms)
   where
     by : (x : Msg) → one (asks_for c k x) ≤ cell_weight c 1 0 0 x
-    by (msg.Get d a) = lesser (same_cell c d) (a == k)
+    by (msg.Get d a) = lesser (equal_cell c d) (a == k)
     by (msg.Forward d a) = omega arith
     by (msg.Put d v bundle) = omega arith
     by (msg.Spawn n code vars bundle) = omega arith
@@ -276,7 +270,7 @@ all_next c k [] = omega arith
 all_next c k (m ∷ ms) = let sum = count_cons (λ (x : Sent). names_next c k x.msg) m ms in omega (arith, sum, by m.msg, all_next c k ms)
   where
     by : (x : Msg) → one (names_next c k x) ≤ cell_weight c 0 1 0 x
-    by (msg.Forward d a) = lesser (same_cell c d) (a == k)
+    by (msg.Forward d a) = lesser (equal_cell c d) (a == k)
     by (msg.Get d a) = omega arith
     by (msg.Put d v bundle) = omega arith
     by (msg.Spawn n code vars bundle) = omega arith

@@ -2,6 +2,7 @@
 use Rattle.std.proofs.Common.{arith, ◌≡◌, ◌≢◌, ◌∙◌, sym, ap, refl, subst, ℕ, zero, suc, ◌≤◌, List, [], ◌∷◌, Bool, true, false, Some}
 use Rattle.std.specs.Prelude.{Option, Contains, ◌==◌, ◌&&◌}
 use Rattle.std.specs.List.{count_by}
+use Rattle.std.proofs.lemmas.Bool.{and_parts, and_from}
 use Rattle.tree_node.specs.declared.names.VarName.{VarName}
 use Rattle.tree_node.specs.declared.names.CellName.{CellName}
 use Rattle.tree_node.specs.declared.pick.Pick.{Pick}
@@ -15,7 +16,7 @@ use Rattle.site_message.specs.declared.message.Msg.TheVariants as msg
 use Rattle.site_message.specs.declared.message.Sent.{Sent}
 use Rattle.bind_protocol.proofs.ListLemmas.{one, count_cons, counted_there, there_counted}
 use Rattle.token_chain.specs.declared.token.Token.TheVariants.{Asked}
-use Rattle.token_chain.specs.Mail.{Put, same_cell, is_mail, travels}
+use Rattle.token_chain.specs.Mail.{Put, is_mail, sent_count}
 use Rattle.token_chain.specs.Tally.{outstanding}
 use Rattle.token_chain.proofs.MoveLemmas.{messages_can_come}
 use Rattle.world_model.specs.World.{World}
@@ -24,7 +25,6 @@ use Rattle.world_model.proofs.PutLemmas.{nat_decides}
 use Rattle.world_cells.proofs.ChainLemmas.{held, cell_there}
 use Rattle.world_cells.proofs.UnitLemmas.{Reached}
 use Rattle.world_requests.specs.Requests.{is_put, puts_to}
-use Rattle.world_requests.proofs.SaidLemmas.{both_true}
 
 -- what passes P among these passes Q too
 fewer : (P Q : Sent → Bool) (ms : List Sent) → ((m : Sent) → Contains ms m → P m ≡ true → Q m ≡ true) → count_by P ms ≤ count_by Q ms
@@ -36,16 +36,12 @@ fewer P Q (m ∷ ms) h = go (P m) refl (Q m) refl (fewer P Q ms (λ x c q. h x (
     go true p false q ih = let yes = h m (Contains-head m ms) p in cc
     go false p b q ih = let x : one (P m) ≡ 0 = ap one p in omega (arith, ih, x, count_cons P m ms, count_cons Q m ms)
 
-both : (a b : Bool) → a ≡ true → b ≡ true → (a && b) ≡ true
-both true b p q = q
-both false b p q = cc
-
 -- such a message is this Put, of some content
 is_it : (c : CellName) (s to : ℕ) (m : Msg) → (is_put c m && (to == s)) ≡ true → (u : VarName) × (is_mail c (Put s u) to m ≡ true)
 is_it c s to (msg.Put d u bundle) q =
-    let parts = both_true (same_cell c d) (to == s) q in
+    let parts = and_parts (equal_cell c d) (to == s) q in
     let here : (s == to) ≡ true = (nat_decides s to).1 (sym ((nat_decides to s).0 parts.1)) in
-    (u, both (same_cell c d) ((s == to) && equal_var u u) parts.0 (both (s == to) (equal_var u u) here ((same_name_decides u u).1 refl)))
+    (u, and_from (equal_cell c d) ((s == to) && equal_var u u) parts.0 (and_from (s == to) (equal_var u u) here ((same_name_decides u u).1 refl)))
 is_it c s to (msg.Get d k) q = cc
 is_it c s to (msg.Forward d k) q = cc
 is_it c s to (msg.Spawn n code vars bundle) q = cc
@@ -59,11 +55,11 @@ module _ (p : List Stmt) (w : World) (ks : List Pick) (r : Reached p w ks) (c : 
 
   -- a Put that travels has the cell's content
   travelling_put : (m : Sent) → Contains sent m → (is_put c m.msg && (m.to == s)) ≡ true →
-      (v : VarName) × (is_mail c (Put s v) m.to m.msg ≡ true) × (value_of equal_cell r.centre.cells c ≡ Some v) × (travels c sent (Put s v) ≡ 1) × ((held w.sites c s).token ≡ Asked)
+      (v : VarName) × (is_mail c (Put s v) m.to m.msg ≡ true) × (value_of equal_cell r.centre.cells c ≡ Some v) × (sent_count c sent (Put s v) ≡ 1) × ((held w.sites c s).token ≡ Asked)
   travelling_put m at q =
       let is = is_it c s m.to m.msg q in
       let least = there_counted (λ (x : Sent). is_mail c (Put s is.0) x.to x.msg) sent m at is.1 in
-      let there : travels c sent (Put s is.0) ≢ 0 = (λ none. absurd (omega (arith, least, none))) in
+      let there : sent_count c sent (Put s is.0) ≢ 0 = (λ none. absurd (omega (arith, least, none))) in
       let found = cell_there w.sites w.mail r.centre.cells c (Put s is.0) r.cells.cells there in
       let can = messages_can_come found.2.0 _ _ found.0 found.2.2 (Put s is.0) there in
       (is.0, is.1, found.1 ∙ ap Some (sym can.1.1), can.0, can.1.0)

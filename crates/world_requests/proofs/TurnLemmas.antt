@@ -16,7 +16,7 @@ use Rattle.site_model.specs.Transition.{Transition, sequence}
 use Rattle.site_model.specs.Turn.{SiteTurn}
 use Rattle.site_model.specs.Run.{delivered_message, message_of}
 use Rattle.world_model.specs.Schedule.{schedule, lines_in}
-use Rattle.world_model.specs.World.{World, Sites, Travels, put, after_transition, after_receipt, numbered, world_of}
+use Rattle.world_model.specs.World.{World, Sites, Travels, put, after_transition, after_receipt, mail_from, world_of}
 use Rattle.world_model.proofs.MailLemmas.{acts_after, same_world}
 use Rattle.world_variables.specs.Rows.{IsElsewhere}
 use Rattle.world_variables.proofs.JournalLemmas.{came_acts, came_is, mail_of, mail_after}
@@ -55,8 +55,8 @@ module _ (p : List Stmt) (n limit : ℕ) (is : IsProgram p) (few : 1 ≤ n) (man
       sums : length (sent_of j) + length d.sent ≡ length (sent_of j ++ e.sent)
       sums = let l : length (sent_of j ++ e.sent) ≡ length (sent_of j) + length e.sent = length-append (sent_of j) e.sent in let q : length e.sent ≡ length d.sent = ap length entry.tells.sent in omega arith
 
-      mails : mail_of e.delivered (travelling j ++ numbered (length (sent_of j)) d.sent) ≡ travelling (e ∷ j)
-      mails = ap (λ (ms : List Sent). mail_of e.delivered (travelling j ++ numbered (length (sent_of j)) ms)) (sym entry.tells.sent) ∙ mail_after j e entry.run.wired
+      mails : mail_of e.delivered (travelling j ++ mail_from (length (sent_of j)) d.sent) ≡ travelling (e ∷ j)
+      mails = ap (λ (ms : List Sent). mail_of e.delivered (travelling j ++ mail_from (length (sent_of j)) ms)) (sym entry.tells.sent) ∙ mail_after j e entry.run.wired
 
   pub takes : (k : ℕ) → e.delivered ≡ Some k → (m : Msg) × Taken p n j e (f e.site) k m
   takes k q = go (entry.wired k q)

@@ -1,5 +1,6 @@
 -- What one site's requests for the token of a cell cost, read from the journal of a run (TOPLAS 19(5), 1997).
 use Rattle.std.specs.Prelude.{◌≡◌, ◌≢◌, ℕ, ◌+◌, ◌-◌, ◌≤◌, List, [], ◌∷◌, length, Bool, false, Option, None, Some, ◌==◌, ◌&&◌, count_by, if◌then◌else◌}
+use Rattle.tree_node.specs.Goal.{equal_cell}
 use Rattle.tree_node.specs.declared.names.CellName.{CellName}
 use Rattle.kernel_syntax.specs.declared.stmt.Stmt.{Stmt}
 use Rattle.kernel_syntax.specs.Program.{IsProgram}
@@ -10,7 +11,6 @@ use Rattle.site_message.specs.declared.turn.Turn.{Turn}
 use Rattle.site_message.specs.Journal.{DeliversOnce, sent_of}
 use Rattle.oz_model.specs.Run.{exchanges}
 use Rattle.token_chain.specs.declared.token.Token.{Token}
-use Rattle.token_chain.specs.Mail.{same_cell}
 use Rattle.token_chain.specs.Tally.{total, outstanding}
 use Rattle.site_model.specs.Site.{Site, cell_record}
 use Rattle.site_model.specs.Run.{WorldRun, IsEntry, IsSiteIn, delivered_message}
@@ -20,16 +20,16 @@ use Rattle.world_model.specs.Schedule.{schedule}
 
 -- a Get of the cell for site s
 abbrev pub asks_for : CellName → ℕ → Msg → Bool
-asks_for c s (msg.Get d k) = same_cell c d && (k == s)
+asks_for c s (msg.Get d k) = equal_cell c d && (k == s)
 asks_for c s _ = false
 
 -- a Forward that names s as the site that gets the token next
 abbrev pub names_next : CellName → ℕ → Msg → Bool
-names_next c s (msg.Forward d k) = same_cell c d && (k == s)
+names_next c s (msg.Forward d k) = equal_cell c d && (k == s)
 names_next c s _ = false
 
 abbrev pub is_put : CellName → Msg → Bool
-is_put c (msg.Put d v bundle) = same_cell c d
+is_put c (msg.Put d v bundle) = equal_cell c d
 is_put c _ = false
 
 -- how many Gets for the site are among these, how many Forwards that name it, and how many Puts to it
@@ -49,20 +49,20 @@ abbrev pub asked_by : CellName → ℕ → Option Msg → ℕ
 asked_by c s None = 0
 asked_by c s (Some m) = if asks_for c s m then 1 else 0
 
-abbrev pub brought : CellName → Option Msg → ℕ
-brought c None = 0
-brought c (Some m) = if is_put c m then 1 else 0
+abbrev pub puts_delivered : CellName → Option Msg → ℕ
+puts_delivered c None = 0
+puts_delivered c (Some m) = if is_put c m then 1 else 0
 
 -- how many of these a turn behind this journal takes
 abbrev pub gets_taken : CellName → ℕ → List Turn → Turn → ℕ
 gets_taken c s j e = asked_by c s (delivered_message j e.delivered)
 
 abbrev pub puts_taken : CellName → List Turn → Turn → ℕ
-puts_taken c j e = brought c (delivered_message j e.delivered)
+puts_taken c j e = puts_delivered c (delivered_message j e.delivered)
 
 -- how many exchanges of the cell a turn behind this journal makes: those of the schedule with it, less those before
-abbrev pub exchanged : List Stmt → CellName → List Turn → Turn → ℕ
-exchanged p c j e = length (exchanges p (schedule (e ∷ j)) c) - length (exchanges p (schedule j) c)
+abbrev pub exchange_count : List Stmt → CellName → List Turn → Turn → ℕ
+exchange_count p c j e = length (exchanges p (schedule (e ∷ j)) c) - length (exchanges p (schedule j) c)
 
 -- Before the turn its site keeps the token as `old`, and after it as `new`; a request is outstanding while the token is asked for.
 -- The turn sends Gets for its own site alone. These, and the request that was outstanding, are paid by its exchanges, but for the
@@ -70,11 +70,11 @@ exchanged p c j e = length (exchanges p (schedule (e ∷ j)) c) - length (exchan
 -- where the cell was made tells of itself: it asks without a Get. A Forward that names another site answers that site's Get,
 -- which the turn takes, and is the only one. Who takes a Put exchanges at once
 pub record IsTurnPaid (p : List Stmt) (c : CellName) (j : List Turn) (e : Turn) (old new : Token) : Type 0 where
-  pub gets : gets_for c e.site e.sent + outstanding old ≤ exchanged p c j e + outstanding new
+  pub gets : gets_for c e.site e.sent + outstanding old ≤ exchange_count p c j e + outstanding new
   pub alone : (s : ℕ) → e.site ≢ s → gets_for c s e.sent ≡ 0
-  pub own : c.site ≡ e.site → forwards_for c e.site e.sent + outstanding old ≤ exchanged p c j e + outstanding new
+  pub own : c.site ≡ e.site → forwards_for c e.site e.sent + outstanding old ≤ exchange_count p c j e + outstanding new
   pub answers : (s : ℕ) → c.site ≢ s → forwards_for c s e.sent ≤ gets_taken c s j e
-  pub puts : puts_taken c j e ≤ exchanged p c j e
+  pub puts : puts_taken c j e ≤ exchange_count p c j e
 
 -- each turn that may follow a run pays so for what it does with each cell
 abbrev pub TurnsArePaid : Type 0
@@ -92,7 +92,7 @@ in_turns_of s f (e ∷ j) = in_turns_of s f j + (if e.site == s then f j e else 
 
 -- the exchanges of the cell at site s
 abbrev pub exchanges_at : List Stmt → CellName → ℕ → List Turn → ℕ
-exchanges_at p c s j = in_turns_of s (exchanged p c) j
+exchanges_at p c s j = in_turns_of s (exchange_count p c) j
 
 -- the exchanges at the n sites are together those of the run
 abbrev pub ExchangesAreSplit : Type 0

@@ -17,7 +17,7 @@ use Rattle.world_model.proofs.PutLemmas.{nat_decides, at_all, at_here, at_other}
 use Rattle.world_cells.specs.FitRuns.{IsFitEntry, SiteFitRun}
 use Rattle.world_messages.specs.Unfit.{MessagesAreFit}
 use Rattle.world_simulation.specs.Simulation.{EveryRunIsSimulated, DeliveredMessagesAreFit}
-use Rattle.world_runs.specs.Distributed.{heard, IsTurn, AreTurns, DistributedRun, RunsTakeRows}
+use Rattle.world_runs.specs.Distributed.{message_transition, IsTurn, AreTurns, DistributedRun, RunsTakeRows}
 
 reached_map : (b : Bool) (P Q : Site → Type 0) (E F : Site → Site → Type 0) (s : Site) → ((t : Site) → P t → Q t) → ((t u : Site) → E t u → F t u) → IsReachedBy b P E s → IsReachedBy b Q F s
 reached_map true P Q E F s f g (old, before, entry) = (old, f old before, g old s entry)
@@ -26,7 +26,7 @@ reached_map false P Q E F s f g h = f s h
 module _ (p : List Stmt) (n : ℕ) where
   -- ---- each message was fit, so it took its row
 
-  heard_is : (limit : ℕ) (o : Option Msg) (s : Site) (d : Transition) → ((m : Msg) → o ≡ Some m → IsFit p n s m) → IsReception p n limit o s d → d ≡ heard p limit o s
+  heard_is : (limit : ℕ) (o : Option Msg) (s : Site) (d : Transition) → ((m : Msg) → o ≡ Some m → IsFit p n s m) → IsReception p n limit o s d → d ≡ message_transition p limit o s
   heard_is limit None s d fit e = e
   heard_is limit (Some m) s d fit (inl h) = h.1
   heard_is limit (Some m) s d fit (inr h) = absurd (h.0 (fit m refl))
@@ -36,7 +36,7 @@ module _ (p : List Stmt) (n : ℕ) where
     where
       go : IsEntry p n limit j e old s → IsTurn p n limit j e old s
       go (d, (ths, few, (first, rest, took, units, same)), tells, is) =
-          let row : first ≡ heard p limit (delivered_message j e.delivered) old = heard_is limit (delivered_message j e.delivered) old first h.fit took in (
+          let row : first ≡ message_transition p limit (delivered_message j e.delivered) old = heard_is limit (delivered_message j e.delivered) old first h.fit took in (
             ths,
             rest,
             few,
@@ -51,14 +51,14 @@ module _ (p : List Stmt) (n : ℕ) where
 
   -- ---- each message takes its row, so it is fit
 
-  to_reception : (limit : ℕ) (o : Option Msg) (s : Site) → ((m : Msg) → o ≡ Some m → IsFit p n s m) → IsReception p n limit o s (heard p limit o s)
+  to_reception : (limit : ℕ) (o : Option Msg) (s : Site) → ((m : Msg) → o ≡ Some m → IsFit p n s m) → IsReception p n limit o s (message_transition p limit o s)
   to_reception limit None s fit = refl
   to_reception limit (Some m) s fit = inl (fit m refl, refl)
 
   to_entry : (limit : ℕ) (j : List Turn) (e : Turn) (old s : Site) → ((m : Msg) → delivered_message j e.delivered ≡ Some m → IsFit p n old m) → IsTurn p n limit j e old s → IsEntry p n limit j e old s
   to_entry limit j e old s fit (ths, rest, few, units, tells, is) = (
-    sequence (heard p limit (delivered_message j e.delivered) old) rest,
-    (ths, few, (heard p limit (delivered_message j e.delivered) old, rest, to_reception limit (delivered_message j e.delivered) old fit, units, refl)),
+    sequence (message_transition p limit (delivered_message j e.delivered) old) rest,
+    (ths, few, (message_transition p limit (delivered_message j e.delivered) old, rest, to_reception limit (delivered_message j e.delivered) old fit, units, refl)),
     tells,
     is,
   )

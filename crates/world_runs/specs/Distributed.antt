@@ -14,16 +14,16 @@ use Rattle.site_model.specs.Turn.{AreUnits}
 use Rattle.site_model.specs.Run.{delivered_message, IsRecordOf, IsReachedBy, IsSiteIn, WorldRun}
 
 -- what comes of the message that a turn delivers: its row
-abbrev pub heard : List Stmt → ℕ → Option Msg → Site → Transition
-heard p limit None s = without_output s
-heard p limit (Some m) s = reception p limit m s
+abbrev pub message_transition : List Stmt → ℕ → Option Msg → Site → Transition
+message_transition p limit None s = without_output s
+message_transition p limit (Some m) s = reception p limit m s
 
 -- the entry is a turn of the site from its state before to this one: what comes of its message, and then at most 64 units
 abbrev pub IsTurn : List Stmt → ℕ → ℕ → List Turn → Turn → Site → Site → Type 0
 IsTurn p n limit j e old s =
     (ths : List ThreadName) × (rest : Transition) × (length ths ≤ 64)
-    × AreUnits p n limit ths (heard p limit (delivered_message j e.delivered) old).site rest
-    × IsRecordOf e (sequence (heard p limit (delivered_message j e.delivered) old) rest) × (s ≡ rest.site)
+    × AreUnits p n limit ths (message_transition p limit (delivered_message j e.delivered) old).site rest
+    × IsRecordOf e (sequence (message_transition p limit (delivered_message j e.delivered) old) rest) × (s ≡ rest.site)
 
 -- the entries of site i are turns in a row from its start to this state
 abbrev pub AreTurns : List Stmt → ℕ → ℕ → ℕ → List Turn → Site → Type 0

@@ -19,7 +19,7 @@ use Rattle.oz_model.specs.Effect.{Birth, CellChange, Stays, Made, Exchanged, Eff
 use Rattle.bind_protocol.specs.Records.{is_own, knowledge}
 use Rattle.bind_protocol.specs.Rows.{sent_message}
 use Rattle.site_model.specs.Site.{Site, ThreadState, thread_state, cell_record}
-use Rattle.site_model.specs.Bundle.{bundled, message_bundle}
+use Rattle.site_model.specs.Bundle.{with_own_bundle, message_bundle}
 use Rattle.site_model.specs.Transition.{Transition, without_output, with_messages}
 use Rattle.site_model.specs.Variables.{with_new_equation, with_known_equation, with_known_equations, own_bind, own_binds, opening}
 use Rattle.site_model.specs.Cells.{serving, after_exchange, content_after_exchange, request_row}
@@ -106,7 +106,7 @@ module _ (p : List Stmt) (n limit : ℕ) where
   birth_same None s = refl
   birth_same (Some b) s = go (placement n s.records.site b.at == s.records.site)
     where
-      go : (c : Bool) → (cond c (without_output (with_thread p (Some b) s)) (with_messages s (bundled limit s.equations (sent_message (placement n s.records.site b.at) (msg.Spawn b.name b.code b.vars [])) ∷ []))).site.equations ≡ s.equations
+      go : (c : Bool) → (cond c (without_output (with_thread p (Some b) s)) (with_messages s (with_own_bundle limit s.equations (sent_message (placement n s.records.site b.at) (msg.Spawn b.name b.code b.vars [])) ∷ []))).site.equations ≡ s.equations
       go true = refl
       go false = refl
 

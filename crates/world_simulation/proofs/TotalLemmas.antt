@@ -13,7 +13,6 @@ use Rattle.site_message.specs.Journal.{sent_of}
 use Rattle.oz_model.specs.Run.{exchanges}
 use Rattle.oz_model.proofs.KindLemmas.{equal_cell_decides}
 use Rattle.bind_protocol.proofs.ListLemmas.{one, count_cons}
-use Rattle.token_chain.specs.Mail.{same_cell}
 use Rattle.world_model.specs.Schedule.{schedule}
 use Rattle.world_model.specs.World.{world_of}
 use Rattle.world_model.proofs.PutLemmas.{nat_decides}
@@ -52,17 +51,17 @@ sum_less : (f g : CellName → ℕ) → ((c : CellName) → f c ≤ g c) → (cs
 sum_less f g h [] = omega arith
 sum_less f g h (c ∷ cs) = omega (arith, h c.0, sum_less f g h cs)
 
-same_self : (c : CellName) → same_cell c c ≡ true
+same_self : (c : CellName) → equal_cell c c ≡ true
 same_self c = rw ((nat_decides c.site c.site).1 refl, (nat_decides c.num c.num).1 refl) refl
 
-weight_one : (d : CellName) → ◌≡◌ {A = ℕ} (cond (same_cell d d) 1 0) 1
+weight_one : (d : CellName) → ◌≡◌ {A = ℕ} (cond (equal_cell d d) 1 0) 1
 weight_one d = rw (same_self d) refl
 
 -- a message about a cell weighs one there
 weight_there : (o : Msg) (d : CellName) → cell_of o ≡ Some d → cell_weight d 1 1 1 o ≡ 1
-weight_there (msg.Get c k) d e = let same : c ≡ d = cc in subst (λ (z : CellName). ◌≡◌ {A = ℕ} (cond (same_cell d z) 1 0) 1) (sym same) (weight_one d)
-weight_there (msg.Forward c k) d e = let same : c ≡ d = cc in subst (λ (z : CellName). ◌≡◌ {A = ℕ} (cond (same_cell d z) 1 0) 1) (sym same) (weight_one d)
-weight_there (msg.Put c v bundle) d e = let same : c ≡ d = cc in subst (λ (z : CellName). ◌≡◌ {A = ℕ} (cond (same_cell d z) 1 0) 1) (sym same) (weight_one d)
+weight_there (msg.Get c k) d e = let same : c ≡ d = cc in subst (λ (z : CellName). ◌≡◌ {A = ℕ} (cond (equal_cell d z) 1 0) 1) (sym same) (weight_one d)
+weight_there (msg.Forward c k) d e = let same : c ≡ d = cc in subst (λ (z : CellName). ◌≡◌ {A = ℕ} (cond (equal_cell d z) 1 0) 1) (sym same) (weight_one d)
+weight_there (msg.Put c v bundle) d e = let same : c ≡ d = cc in subst (λ (z : CellName). ◌≡◌ {A = ℕ} (cond (equal_cell d z) 1 0) 1) (sym same) (weight_one d)
 weight_there (msg.Spawn a b c q) d e = cc
 weight_there (msg.Register a b) d e = cc
 weight_there (msg.BindReq a b c q) d e = cc

@@ -58,7 +58,7 @@ bears_picks : (p : List Stmt) (n limit : ℕ) (o : Option Birth) (s : Site) → 
 bears_picks p n limit None s = refl
 bears_picks p n limit (Some b) s = go (placement n s.records.site b.at == s.records.site)
   where
-    go : (q : Bool) → (cond q (without_output (Receive.with_thread p (Some b) s)) (with_messages s (Bundle.bundled limit s.equations (Rows.sent_message (placement n s.records.site b.at) (msg.Spawn b.name b.code b.vars [])) ∷ []))).picks ≡ []
+    go : (q : Bool) → (cond q (without_output (Receive.with_thread p (Some b) s)) (with_messages s (Bundle.with_own_bundle limit s.equations (Rows.sent_message (placement n s.records.site b.at) (msg.Spawn b.name b.code b.vars [])) ∷ []))).picks ≡ []
     go true = refl
     go false = refl
 

@@ -6,7 +6,7 @@ use Rattle.site_message.specs.declared.message.Sent.{Sent}
 use Rattle.site_message.specs.declared.turn.Turn.{Turn}
 use Rattle.site_message.specs.Journal.{sent_of, was_delivered, is_number, travelling, Wired}
 use Rattle.site_model.specs.Transition.{Transition}
-use Rattle.world_model.specs.World.{World, Mail, put, after_transition, after_receipt, numbered, without_number}
+use Rattle.world_model.specs.World.{World, Mail, put, after_transition, after_receipt, mail_from, without_number}
 use Rattle.world_model.proofs.PutLemmas.{nat_decides}
 use Rattle.world_model.proofs.MailLemmas.{numbered_append}
 use Rattle.std.proofs.lemmas.Option.{slice_get_within}
@@ -58,7 +58,7 @@ undelivered (e ∷ j) k w h = go e.delivered refl (undelivered j k w.0 low)
             let same : n ≡ k = (nat_decides n k).0 at in absurd (omega (arith, place, low, same))
 
 -- the messages that travel after one more turn
-travels_on : (j : List Turn) (out : List Sent) → Wired j → filter (λ (q : ℕ × Sent). not (was_delivered j q.0)) (enumerate_from 0 (sent_of j ++ out)) ≡ travelling j ++ numbered (length (sent_of j)) out
+travels_on : (j : List Turn) (out : List Sent) → Wired j → filter (λ (q : ℕ × Sent). not (was_delivered j q.0)) (enumerate_from 0 (sent_of j ++ out)) ≡ travelling j ++ mail_from (length (sent_of j)) out
 travels_on j out w =
     let zero_left : 0 + length (sent_of j) ≡ length (sent_of j) = omega arith in
     rw (numbered_append 0 (sent_of j) out, zero_left, filter_append (λ (q : ℕ × Sent). not (was_delivered j q.0)) (enumerate_from 0 (sent_of j)) (enumerate_from (length (sent_of j)) out))
@@ -72,17 +72,17 @@ pub came_is : (o : Option ℕ) (w : World) → after_receipt o w ≡ record { si
 came_is None w = refl
 came_is (Some k) w = refl
 
-pub mail_after : (j : List Turn) (e : Turn) → Wired j → mail_of e.delivered (travelling j ++ numbered (length (sent_of j)) e.sent) ≡ travelling (e ∷ j)
+pub mail_after : (j : List Turn) (e : Turn) → Wired j → mail_of e.delivered (travelling j ++ mail_from (length (sent_of j)) e.sent) ≡ travelling (e ∷ j)
 mail_after j e w = go e.delivered
   where
-    go : (o : Option ℕ) → mail_of o (travelling j ++ numbered (length (sent_of j)) e.sent) ≡ filter (λ (q : ℕ × Sent). not (is_number o q.0 || was_delivered j q.0)) (enumerate_from 0 (sent_of j ++ e.sent))
+    go : (o : Option ℕ) → mail_of o (travelling j ++ mail_from (length (sent_of j)) e.sent) ≡ filter (λ (q : ℕ × Sent). not (is_number o q.0 || was_delivered j q.0)) (enumerate_from 0 (sent_of j ++ e.sent))
     go None = sym (travels_on j e.sent w)
     go (Some k) = ap (without_number k) (sym (travels_on j e.sent w)) ∙ filter_twice k (was_delivered j) (enumerate_from 0 (sent_of j ++ e.sent))
 
 -- a message that was sent before a part of a turn may come before or after it
 pub came_acts : (w : World) (i : ℕ) (d : Transition) (k : ℕ) → k < w.sent → after_receipt (Some k) (after_transition w i d) ≡ after_transition (after_receipt (Some k) w) i d
 came_acts w i d k low = ap (λ (ms : Mail). record { sites = put w.sites i d.site; sent = w.sent + length d.sent; mail = ms; lines = w.lines ++ d.lines })
-    (filter_append (λ (q : ℕ × Sent). not (k == q.0)) w.mail (numbered w.sent d.sent) ∙ ap (λ (zs : Mail). without_number k w.mail ++ zs) (filter_numbers (λ (n : ℕ). not (k == n)) w.sent d.sent other))
+    (filter_append (λ (q : ℕ × Sent). not (k == q.0)) w.mail (mail_from w.sent d.sent) ∙ ap (λ (zs : Mail). without_number k w.mail ++ zs) (filter_numbers (λ (n : ℕ). not (k == n)) w.sent d.sent other))
   where
     other : (n : ℕ) → w.sent ≤ n → not (k == n) ≡ true
     other n high = go (k == n) refl

@@ -20,7 +20,7 @@ use Rattle.site_message.specs.Journal.{travelling, sent_of, was_delivered}
 use Rattle.site_model.specs.Site.{ThreadState}
 use Rattle.world_model.specs.World.{Sites, Mail, Travels, threads}
 use Rattle.world_model.specs.Schedule.{sum_to}
-use Rattle.world_model.specs.Matches.{IsThreadAt, IsInSpawn, Placed, is_spawn, spawns, living}
+use Rattle.world_model.specs.Matches.{IsThreadAt, IsInSpawn, Placed, is_spawn, spawn_count, living}
 use Rattle.world_model.proofs.MailLemmas.{nothing}
 use Rattle.world_variables.proofs.SumLemmas.{names}
 use Rattle.tree_node.proofs.NameLemmas.{same_thread_decides}
@@ -162,7 +162,7 @@ by_length (msg.Get c k) = refl
 by_length (msg.Forward c k) = refl
 by_length (msg.Put c v bundle) = refl
 
-spawned_length : (mail : Mail) → length (spawned mail) ≡ spawns mail
+spawned_length : (mail : Mail) → length (spawned mail) ≡ spawn_count mail
 spawned_length [] = refl
 spawned_length (m ∷ ms) =
     let ih = spawned_length ms in
@@ -266,7 +266,7 @@ travelling_once j = filter_once (λ (m : ℕ × Sent). not (was_delivered j m.0)
 -- ---- all
 
 pub all_living : (p : List Stmt) (n : ℕ) (f : Sites) (mail : Mail) (s : State) → Placed p (threads f) mail s.threads → AreDistinct (names s.threads) → ((i : ℕ) → AreDistinct (names (f i).threads)) → AreDistinct (numbers mail) →
-    ((i : ℕ) (z : ThreadName) (v : ThreadState) → value_of equal_thread (f i).threads z ≡ Some v → (1 ≤ i) × (i ≤ n)) → length s.threads ≡ sum_to n (living f) + spawns mail
+    ((i : ℕ) (z : ThreadName) (v : ThreadState) → value_of equal_thread (f i).threads z ≡ Some v → (1 ≤ i) × (i ≤ n)) → length s.threads ≡ sum_to n (living f) + spawn_count mail
 all_living p n f mail s placed central once numbered inside = omega (arith, up, down, size, sites, flying, threads_long)
   where
     all : List ThreadName
@@ -316,7 +316,7 @@ all_living p n f mail s placed central once numbered inside = omega (arith, up, 
     sites : length (names_at n f) ≡ sum_to n (living f)
     sites = at_length n f
 
-    flying : length (spawned mail) ≡ spawns mail
+    flying : length (spawned mail) ≡ spawn_count mail
     flying = spawned_length mail
 
     threads_long : length (names s.threads) ≡ length s.threads

@@ -16,7 +16,7 @@ use Rattle.bind_protocol.specs.Records.{Records, knowledge, IsKnown, sites_in}
 use Rattle.bind_protocol.specs.Rows.{after_meet, meet_sends, register}
 use Rattle.site_model.specs.Site.{Threads, Counters}
 use Rattle.site_model.specs.Fit as Fit
-use Rattle.world_model.specs.World.{Mail, Travels, at_put, numbered}
+use Rattle.world_model.specs.World.{Mail, Travels, at_put, mail_from}
 use Rattle.world_model.specs.Names.{IsHere, IsMade, KnownAreMade}
 use Rattle.world_model.specs.Matches.{IsTold, PartsMatch}
 use Rattle.world_model.proofs.PutLemmas.{at_all, at_own}
@@ -60,10 +60,10 @@ module _ (p : List Stmt) (here : ℕ → Name → Type 0) (eqs : ℕ → Store) 
 
   -- site i meets x, which was made
   pub meet_parts : (i k : ℕ) (x : VarName) → IsMade made (name.Var x) →
-      PartsMatch p here eqs (at_put records i (after_meet (records i) x)) threads made (mail ++ numbered k (meet_sends (records i) x)) s
+      PartsMatch p here eqs (at_put records i (after_meet (records i) x)) threads made (mail ++ mail_from k (meet_sends (records i) x)) s
   meet_parts i k x real = go (meet_case (records i) x)
     where
-      go : MeetCase (records i) x → PartsMatch p here eqs (at_put records i (after_meet (records i) x)) threads made (mail ++ numbered k (meet_sends (records i) x)) s
+      go : MeetCase (records i) x → PartsMatch p here eqs (at_put records i (after_meet (records i) x)) threads made (mail ++ mail_from k (meet_sends (records i) x)) s
       go (inl (same, none, known)) = rw (same, none, at_own records i, append-nil mail) parts
       go (inr (l, none, elsewhere, sends, owners)) = rw sends new
         where
@@ -71,7 +71,7 @@ module _ (p : List Stmt) (here : ℕ → Name → Type 0) (eqs : ℕ → Store) 
           b = after_meet (records i) x
 
           more : Mail
-          more = mail ++ numbered k (register x (records i).site ∷ [])
+          more = mail ++ mail_from k (register x (records i).site ∷ [])
 
           out : List Sent
           out = register x (records i).site ∷ []

@@ -26,7 +26,7 @@ use Rattle.site_model.specs.Transition.{Transition, without_output, with_pick, a
 use Rattle.site_model.specs.Variables.{with_new_equation, with_known_equation, own_bind}
 use Rattle.site_model.specs.Messages.{with_thread, birth, register_row, bind_pick, bind_request_row}
 use Rattle.site_model.specs.Fit as Fit
-use Rattle.world_model.specs.World.{World, Sites, Mail, Travels, put, after_transition, after_receipt, numbered, without_number, eqs, records, threads, counters}
+use Rattle.world_model.specs.World.{World, Sites, Mail, Travels, put, after_transition, after_receipt, mail_from, without_number, eqs, records, threads, counters}
 use Rattle.world_model.specs.Names.{IsHere, IsMade}
 use Rattle.world_model.specs.Matches.{IsBound, IsNumbered, PartsMatch}
 use Rattle.world_model.proofs.PutLemmas.{at_here, at_own, nat_decides}
@@ -104,7 +104,7 @@ module _ (p : List Stmt) (here : ℕ → Name → Type 0) (w : World) (c : State
   register_kept limit x o at = (
     c,
     refl,
-    to_put p here w.sites i (register_row limit x o (w.sites i)).site (without_number k (w.mail ++ numbered w.sent (register_row limit x o (w.sites i)).sent)) c
+    to_put p here w.sites i (register_row limit x o (w.sites i)).site (without_number k (w.mail ++ mail_from w.sent (register_row limit x o (w.sites i)).sent)) c
         (rw (at_own (eqs w.sites) i, at_own (threads w.sites) i, at_own (counters w.sites) i)
         (register_parts p here (eqs w.sites) (records w.sites) (threads w.sites) (counters w.sites) w.mail c h limit w.sent k i x o real at (λ a b m r q s. numbers.once k a b m r q s) (numbers.below k i _ at))),
   )

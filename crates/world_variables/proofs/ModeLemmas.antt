@@ -22,7 +22,7 @@ use Rattle.thread_roster.specs.declared.mode.Mode.TheVariants as site
 use Rattle.site_message.specs.declared.message.Sent.{Sent}
 use Rattle.site_model.specs.Fit as Fit
 use Rattle.tree_node.proofs.ClassLemmas.{Contains-cons_cases, Contains-head}
-use Rattle.world_model.specs.World.{Mail, Travels, at_put, numbered}
+use Rattle.world_model.specs.World.{Mail, Travels, at_put, mail_from}
 use Rattle.world_model.specs.Names.{IsMade, IsHere, IsHome, AreHome}
 use Rattle.world_model.proofs.MailLemmas.{nothing, sent_to, Posts, posts}
 use Rattle.world_variables.proofs.AlikeLemmas.{knowledge_posts, placed_posts, told_posts, addressed_posts, said_posts, asked_posts}
@@ -128,7 +128,7 @@ module _ (p : List Stmt) (here : ℕ → Name → Type 0) (eqs : ℕ → Store) 
 
     -- it asked for a bind, and waits for the answer
     pub ask_parts : (k : ℕ) (x : VarName) (t : Term) (bundle : List Equation) → m ≡ site.Waits x → IsFree (eqs i) x → IsHere (records i) x → IsHere (records x.site) x → Wants p (eqs i) st x t → Each (Contains s.equations) bundle → Fit.EachOfMsg (IsMade made) (msg.BindReq x n t bundle) →
-        PartsMatch p here eqs records (at_put threads i waits) made (mail ++ numbered k (sent_to x.site (msg.BindReq x n t bundle) ∷ [])) s
+        PartsMatch p here eqs records (at_put threads i waits) made (mail ++ mail_from k (sent_to x.site (msg.BindReq x n t bundle) ∷ [])) s
     ask_parts k x t bundle mode free is owner wants carried said = record {
       knowledge = knowledge_posts mail more out sent eqs s.equations (λ a o h. rw (only a o h).1 carried) parts.knowledge;
       kept = parts.kept;
@@ -155,7 +155,7 @@ module _ (p : List Stmt) (here : ℕ → Name → Type 0) (eqs : ℕ → Store) 
         out = sent_to x.site request ∷ []
 
         more : Mail
-        more = mail ++ numbered k out
+        more = mail ++ mail_from k out
 
         sent : Posts mail more out
         sent = posts mail k out

@@ -24,7 +24,7 @@ use Rattle.proxy_table.specs.Proxies as Proxies
 use Rattle.site_model.specs.Bundle.{message_vars, body_vars, message_bundle, vars_of_equations}
 use Rattle.site_model.specs.Variables.{with_known_equation_as, with_known_equation, with_known_equations, meeting, opening}
 use Rattle.site_model.specs.Fit as Fit
-use Rattle.world_model.specs.World.{World, Sites, Travels, put, after_transition, numbered, eqs, records, threads, counters}
+use Rattle.world_model.specs.World.{World, Sites, Travels, put, after_transition, mail_from, eqs, records, threads, counters}
 use Rattle.world_model.specs.Names.{IsHere, IsHereName, IsMade, here_at}
 use Rattle.world_model.specs.Matches.{PartsMatch}
 use Rattle.world_model.proofs.PutLemmas.{at_all, at_here, at_own, at_twice, field_kept, nat_decides}
@@ -250,4 +250,4 @@ opens_row p w c k i m h at has = record { parts = parts; vars = vars }
     parts =
         let met = meets_row p here c i (message_vars m) v told_parts2 (subst (λ (n : ℕ → Counters). Each (λ (x : VarName). IsMade n (name.Var x)) (message_vars m)) (sym same) real) in
         let at2 = subst (λ (t : Site). PartsIn p here (after_transition v i (meeting (message_vars m) t)) c) (at_here w.sites i s2) met in
-        subst (λ (f : Sites). PartsMatch p here (eqs f) (records f) (threads f) (counters f) (w.mail ++ numbered w.sent (meets_send s2.records (message_vars m))) c) (at_twice w.sites i s2 (meeting (message_vars m) s2).site) at2
+        subst (λ (f : Sites). PartsMatch p here (eqs f) (records f) (threads f) (counters f) (w.mail ++ mail_from w.sent (meets_send s2.records (message_vars m))) c) (at_twice w.sites i s2 (meeting (message_vars m) s2).site) at2

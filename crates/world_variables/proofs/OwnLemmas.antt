@@ -28,7 +28,7 @@ use Rattle.site_model.specs.Variables.{own_bind, own_binds}
 use Rattle.site_model.specs.Cells.{exchange_stack}
 use Rattle.site_model.specs.Unit.{step_row, next_names, with_fresh_names, after_cell, after_effect, birth_row, content_here, counters_after, placement}
 use Rattle.site_model.specs.Fit as Fit
-use Rattle.world_model.specs.World.{World, after_transition, numbered, eqs, records, threads, counters, Travels}
+use Rattle.world_model.specs.World.{World, after_transition, mail_from, eqs, records, threads, counters, Travels}
 use Rattle.world_model.specs.Names.{IsMade, IsCentreMade}
 use Rattle.world_model.proofs.PutLemmas.{at_here, at_own, field_kept}
 use Rattle.world_model.proofs.KeyLemmas.{woken_new, goes_there}
@@ -41,7 +41,7 @@ use Rattle.site_message.specs.declared.message.Msg.{Msg}
 use Rattle.site_message.specs.declared.message.Msg.TheVariants as msg
 use Rattle.bind_protocol.specs.Rows.{sent_message}
 use Rattle.site_model.specs.Messages.{with_thread}
-use Rattle.site_model.specs.Bundle.{bundled, bundle_of}
+use Rattle.site_model.specs.Bundle.{with_own_bundle, bundle_of}
 use Rattle.site_model.proofs.BundleLemmas.{bundle_known}
 use Rattle.tree_node.specs.declared.item.Item.TheVariants as item
 use Rattle.tree_node.specs.Env.{env_for}
@@ -169,13 +169,13 @@ bears_row p here w c d i n limit (Some b) nob below names was new eq th centred 
     said : Fit.EachOfMsg (IsMade (counters w.sites)) spawn
     said = (was.0, was.1, each_of (EachOfEquation (IsMade (counters w.sites))) c.equations h.centred.all.0 _ carried)
 
-    go : (q : Bool) → PartsIn p here (after_transition w i (cond q (without_output (with_thread p (Some b) (w.sites i))) (with_messages (w.sites i) (bundled limit (w.sites i).equations (sent_message to (msg.Spawn b.name b.code b.vars [])) ∷ [])))) d
+    go : (q : Bool) → PartsIn p here (after_transition w i (cond q (without_output (with_thread p (Some b) (w.sites i))) (with_messages (w.sites i) (with_own_bundle limit (w.sites i).equations (sent_message to (msg.Spawn b.name b.code b.vars [])) ∷ [])))) d
     go true =
         unsent p here w.sites i (with_thread p (Some b) (w.sites i)) w.mail w.sent d
         (rw (at_own (eqs w.sites) i, at_own (records w.sites) i, at_own (counters w.sites) i)
         (birth_parts p here (eqs w.sites) (records w.sites) (threads w.sites) (counters w.sites) w.mail c h i b.name st d (new b refl) here_now eq th centred))
     go false =
-        to_put p here w.sites i (w.sites i) (w.mail ++ numbered w.sent (sent_to to spawn ∷ [])) d
+        to_put p here w.sites i (w.sites i) (w.mail ++ mail_from w.sent (sent_to to spawn ∷ [])) d
         (rw (at_own (eqs w.sites) i, at_own (records w.sites) i, at_own (threads w.sites) i, at_own (counters w.sites) i)
         (leave_parts p here (eqs w.sites) (records w.sites) (threads w.sites) (counters w.sites) w.mail c h w.sent to b.name b.code b.vars (bundle_of limit (w.sites i).equations (msg.Spawn b.name b.code b.vars [])) st d below refl (new b refl) carried said eq th centred))
 

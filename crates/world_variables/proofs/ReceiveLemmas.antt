@@ -20,7 +20,7 @@ use Rattle.site_model.specs.Transition.{Transition}
 use Rattle.site_model.specs.Variables.{opening}
 use Rattle.site_model.specs.Messages.{message_row, reception}
 use Rattle.site_model.specs.Messages as Receive
-use Rattle.world_model.specs.World.{World, Travels, after_transition, after_receipt, numbered, eqs, records, threads, counters}
+use Rattle.world_model.specs.World.{World, Travels, after_transition, after_receipt, mail_from, eqs, records, threads, counters}
 use Rattle.world_variables.specs.Plain.{IsPlain}
 use Rattle.world_model.specs.Names.{IsHere, IsHereName, here_at}
 use Rattle.world_model.specs.Matches.{IsNumbered, IsAddressed}
@@ -63,10 +63,10 @@ takes_known p limit i (msg.Put c v bundle) s plain own at y h = absurd plain
 pub numbered_acts : (w : World) (i : ℕ) (d : Transition) → IsNumbered w.sent w.mail → IsNumbered (after_transition w i d).sent (after_transition w i d).mail
 numbered_acts w i d h = record {
   below = below_acts w i d h.below;
-  once = λ k a b m o q r. go k a b m o (Contains-append_cases w.mail (numbered w.sent d.sent) _ q) (Contains-append_cases w.mail (numbered w.sent d.sent) _ r);
+  once = λ k a b m o q r. go k a b m o (Contains-append_cases w.mail (mail_from w.sent d.sent) _ q) (Contains-append_cases w.mail (mail_from w.sent d.sent) _ r);
 }
   where
-    go : (k a b : ℕ) (m o : Msg) → Travels w.mail k a m ⊎ Travels (numbered w.sent d.sent) k a m → Travels w.mail k b o ⊎ Travels (numbered w.sent d.sent) k b o → (a ≡ b) × (m ≡ o)
+    go : (k a b : ℕ) (m o : Msg) → Travels w.mail k a m ⊎ Travels (mail_from w.sent d.sent) k a m → Travels w.mail k b o ⊎ Travels (mail_from w.sent d.sent) k b o → (a ≡ b) × (m ≡ o)
     go k a b m o (inl q) (inl r) = h.once k a b m o q r
     go k a b m o (inr q) (inr r) = let e = number_once w.sent d.sent k (sent_to a m) (sent_to b o) q r in (ap (λ (x : Sent). x.to) e, ap (λ (x : Sent). x.msg) e)
     go k a b m o (inl q) (inr r) = absurd (omega (arith, h.below k a m q, (number_of w.sent d.sent k (sent_to b o) r).1))
@@ -121,7 +121,7 @@ receive_row p limit w c k i m h numbers real sound plain far at has = record { c
     here = here_at (records final.sites)
 
     at_v : Travels v.mail k i m
-    at_v = Contains-append_left w.mail (numbered w.sent d.sent) _ at
+    at_v = Contains-append_left w.mail (mail_from w.sent d.sent) _ at
 
     known : (y : VarName) → IsKnown d.site.records y → IsKnown e.site.records y
     known y q = takes_known p limit i m d.site plain (subst (λ (t : Site). t.records.site ≡ i) site_v (o.parts.kept i).site) (is_at m (o.parts.addressed k i m at_v)) y q

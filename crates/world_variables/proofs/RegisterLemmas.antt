@@ -22,10 +22,10 @@ use Rattle.variable_owner.specs.Owners.{owner_of}
 use Rattle.bind_protocol.specs.Records.{Records, knowledge, IsKnown, sites_in}
 use Rattle.bind_protocol.specs.Rows.{after_register, register_sends, register_answer, binding}
 use Rattle.site_model.specs.Site.{Threads, Counters}
-use Rattle.site_model.specs.Bundle.{all_bundled, bundled, bundle_of}
+use Rattle.site_model.specs.Bundle.{with_own_bundles, with_own_bundle, bundle_of}
 use Rattle.site_model.specs.Fit as Fit
 use Rattle.site_model.proofs.BundleLemmas.{bundle_known}
-use Rattle.world_model.specs.World.{Mail, Travels, at_put, numbered, without_number}
+use Rattle.world_model.specs.World.{Mail, Travels, at_put, mail_from, without_number}
 use Rattle.world_model.specs.Names.{IsHere, IsMade}
 use Rattle.world_model.specs.Matches.{equations_in, IsTold, IsAddressed, IsBound, IsAwaited, PartsMatch}
 use Rattle.world_model.proofs.PutLemmas.{at_all, at_here}
@@ -54,21 +54,21 @@ pub record MayGo (records : ℕ → Records) (c : Store) (k : ℕ) (mail less : 
   pub none : (to : ℕ) (n : ThreadName) (code : CodeId) (vars : List VarName) (bundle : List Equation) → Travels mail k to (msg.Spawn n code vars bundle) → ⊥
 
 module _ (p : List Stmt) (here : ℕ → Name → Type 0) (eqs : ℕ → Store) (records : ℕ → Records) (threads : ℕ → Threads) (made : ℕ → Counters) (mail : Mail) (s : State) (parts : PartsMatch p here eqs records threads made mail s) where
-  pub parts_posts : (n : ℕ) (out : List Sent) → MaySend p eqs records threads made s.equations out → PartsMatch p here eqs records threads made (mail ++ numbered n out) s
+  pub parts_posts : (n : ℕ) (out : List Sent) → MaySend p eqs records threads made s.equations out → PartsMatch p here eqs records threads made (mail ++ mail_from n out) s
   parts_posts n out may = record {
-    knowledge = knowledge_posts mail (mail ++ numbered n out) out sent eqs s.equations may.told parts.knowledge;
+    knowledge = knowledge_posts mail (mail ++ mail_from n out) out sent eqs s.equations may.told parts.knowledge;
     kept = parts.kept;
-    placed = placed_posts mail (mail ++ numbered n out) out sent p threads s.threads may.none parts.placed;
-    told = λ i x unbound other. told_posts mail (mail ++ numbered n out) out sent records i x (parts.told i x unbound other);
-    addressed = addressed_posts mail (mail ++ numbered n out) out sent records may.addressed parts.addressed;
-    waiting = waiting_posts mail (mail ++ numbered n out) out sent p eqs records threads s.equations may.awaited parts.waiting;
+    placed = placed_posts mail (mail ++ mail_from n out) out sent p threads s.threads may.none parts.placed;
+    told = λ i x unbound other. told_posts mail (mail ++ mail_from n out) out sent records i x (parts.told i x unbound other);
+    addressed = addressed_posts mail (mail ++ mail_from n out) out sent records may.addressed parts.addressed;
+    waiting = waiting_posts mail (mail ++ mail_from n out) out sent p eqs records threads s.equations may.awaited parts.waiting;
     homes = parts.homes;
     centred = parts.centred;
     makers = parts.makers;
-    said = said_posts mail (mail ++ numbered n out) out sent made may.said parts.said;
+    said = said_posts mail (mail ++ mail_from n out) out sent made may.said parts.said;
   }
     where
-      sent : Posts mail (mail ++ numbered n out) out
+      sent : Posts mail (mail ++ mail_from n out) out
       sent = posts mail n out
 
   pub parts_gone : (k : ℕ) → MayGo records s.equations k mail (without_number k mail) → PartsMatch p here eqs records threads made (without_number k mail) s
@@ -128,7 +128,7 @@ module _ (p : List Stmt) (here : ℕ → Name → Type 0) (eqs : ℕ → Store) 
 
 module _ (p : List Stmt) (here : ℕ → Name → Type 0) (eqs : ℕ → Store) (records : ℕ → Records) (threads : ℕ → Threads) (made : ℕ → Counters) (mail : Mail) (s : State) (parts : PartsMatch p here eqs records threads made mail s) where
   abbrev answered : ℕ → ℕ → VarName → ℕ → List Sent
-  answered limit j x k = all_bundled limit (eqs j) (register_sends (records j) x k)
+  answered limit j x k = with_own_bundles limit (eqs j) (register_sends (records j) x k)
 
   -- what is answered: the binding, to the site that asked
   answer_is : (limit j : ℕ) (x : VarName) (k : ℕ) (to : ℕ) (m : Msg) → x.site ≡ j → Contains (answered limit j x k) (sent_to to m) →
@@ -138,13 +138,13 @@ module _ (p : List Stmt) (here : ℕ → Name → Type 0) (eqs : ℕ → Store) 
       own_at : x.site ≡ (records j).site
       own_at = own ∙ sym (parts.kept j).site
 
-      go : (o : Option Owner) → owner_of (records j).owners x ≡ o → Contains (all_bundled limit (eqs j) (register_answer o x k)) (sent_to to m) →
+      go : (o : Option Owner) → owner_of (records j).owners x ≡ o → Contains (with_own_bundles limit (eqs j) (register_answer o x k)) (sent_to to m) →
           (t : Term) × (knowledge (records j) x ≡ Some (Some t)) × (m ≡ msg.Binding x t (bundle_of limit (eqs j) (msg.Binding x t []))) × (to ≡ k)
       go None e q = absurd (nothing _ q)
       go (Some (Open ks)) e q = absurd (nothing _ q)
       go (Some (Bound t)) e q = one (Contains-cons_cases _ _ [] q)
         where
-          one : (bundled limit (eqs j) (binding x t k) ≡ sent_to to m) ⊎ Contains [] (sent_to to m) →
+          one : (with_own_bundle limit (eqs j) (binding x t k) ≡ sent_to to m) ⊎ Contains [] (sent_to to m) →
               (t : Term) × (knowledge (records j) x ≡ Some (Some t)) × (m ≡ msg.Binding x t (bundle_of limit (eqs j) (msg.Binding x t []))) × (to ≡ k)
           one (inl f) = (t, bound_knows (records j) x t own_at e, sym (ap (λ (o : Sent). o.msg) f), sym (ap (λ (o : Sent). o.to) f))
           one (inr r) = absurd (nothing _ r)
@@ -155,7 +155,7 @@ module _ (p : List Stmt) (here : ℕ → Name → Type 0) (eqs : ℕ → Store) 
   answer_there limit j x k t e = rw e (Contains-head _ [])
 
   pub register_parts : (limit n l j : ℕ) (x : VarName) (k : ℕ) → j ≢ 0 → Travels mail l j (msg.Register x k) → ((a b : ℕ) (m o : Msg) → Travels mail l a m → Travels mail l b o → (a ≡ b) × (m ≡ o)) → l < n →
-      PartsMatch p here eqs (at_put records j (after_register (records j) x k)) threads made (without_number l (mail ++ numbered n (answered limit j x k))) s
+      PartsMatch p here eqs (at_put records j (after_register (records j) x k)) threads made (without_number l (mail ++ mail_from n (answered limit j x k))) s
   register_parts limit n l j x k real at once low =
       module_gone (registered_parts p here eqs records threads made mail s parts j b x k r) (record {
         told = λ to m h i y unbound other why. told (is_it to m h) i y (sym (same_know p here eqs records threads made mail s parts j b x k r i y) ∙ unbound) why;
@@ -176,7 +176,7 @@ module _ (p : List Stmt) (here : ℕ → Name → Type 0) (eqs : ℕ → Store) 
       r = registers_is (records j) x k own_at
 
       more : Mail
-      more = mail ++ numbered n (answered limit j x k)
+      more = mail ++ mail_from n (answered limit j x k)
 
       sent : PartsMatch p here eqs (at_put records j b) threads made mail s → PartsMatch p here eqs (at_put records j b) threads made more s
       sent q = parts_posts p here eqs (at_put records j b) threads made mail s q n (answered limit j x k) (record {

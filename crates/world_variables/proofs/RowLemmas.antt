@@ -21,7 +21,7 @@ use Rattle.site_model.specs.Unit.{with_fresh_names}
 use Rattle.site_model.specs.Unit as Unit
 use Rattle.site_model.specs.Variables as Learn
 use Rattle.oz_model.specs.Effect as Effect
-use Rattle.world_model.specs.World.{World, Sites, Mail, put, at_put, after_transition, numbered, eqs, records, threads, counters}
+use Rattle.world_model.specs.World.{World, Sites, Mail, put, at_put, after_transition, mail_from, eqs, records, threads, counters}
 use Rattle.world_model.specs.Names.{IsMade}
 use Rattle.world_model.specs.Matches.{PartsMatch}
 use Rattle.world_model.proofs.PutLemmas.{at_here, at_own, field_put}
@@ -44,7 +44,7 @@ to_put p here f i s mail c h =
 -- nothing is sent
 pub unsent : (p : List Stmt) (here : ℕ → Name → Type 0) (f : Sites) (i : ℕ) (s : Site) (mail : Mail) (k : ℕ) (c : State) →
     PartsMatch p here (at_put (eqs f) i s.equations) (at_put (records f) i s.records) (at_put (threads f) i s.threads) (at_put (counters f) i s.counters) mail c →
-    PartsMatch p here (eqs (put f i s)) (records (put f i s)) (threads (put f i s)) (counters (put f i s)) (mail ++ numbered k []) c
+    PartsMatch p here (eqs (put f i s)) (records (put f i s)) (threads (put f i s)) (counters (put f i s)) (mail ++ mail_from k []) c
 unsent p here f i s mail k c h = subst (λ (m : Mail). PartsMatch p here (eqs (put f i s)) (records (put f i s)) (threads (put f i s)) (counters (put f i s)) m c) (sym (append-nil mail)) (to_put p here f i s mail c h)
 
 -- one part after another
@@ -64,7 +64,7 @@ module _ (p : List Stmt) (here : ℕ → Name → Type 0) where
   pub bind_row : (w : World) (c : State) (limit i : ℕ) (x : VarName) (t : Term) → x.site ≡ i → x.site ≢ 0 → knowledge (records w.sites i) x ≡ Some None → IsLower t x → EachOfEquation (here i) (x, t) → EachOfEquation (IsMade (counters w.sites)) (x, t) →
       PartsIn p here w c → PartsIn p here (after_transition w i (own_bind limit x t (w.sites i))) (with_equation c x t)
   bind_row w c limit i x t own real unbound low names was h =
-      to_put p here w.sites i (with_own_equation (w.sites i) x t) (w.mail ++ numbered w.sent (own_bind limit x t (w.sites i)).sent) (with_equation c x t)
+      to_put p here w.sites i (with_own_equation (w.sites i) x t) (w.mail ++ mail_from w.sent (own_bind limit x t (w.sites i)).sent) (with_equation c x t)
       (rw (at_own (counters w.sites) i) (bind_parts p here (eqs w.sites) (records w.sites) (threads w.sites) (counters w.sites) w.mail c h limit w.sent i x t own real unbound low names was))
 
   -- one name is met
@@ -73,6 +73,6 @@ module _ (p : List Stmt) (here : ℕ → Name → Type 0) where
 
   pub meet_row : (w : World) (c : State) (i : ℕ) (x : VarName) → IsMade (counters w.sites) (name.Var x) → PartsIn p here w c → PartsIn p here (after_transition w i (meets_one x (w.sites i))) c
   meet_row w c i x real h =
-      to_put p here w.sites i (record (w.sites i) { records = after_meet (w.sites i).records x }) (w.mail ++ numbered w.sent (meet_sends (w.sites i).records x)) c
+      to_put p here w.sites i (record (w.sites i) { records = after_meet (w.sites i).records x }) (w.mail ++ mail_from w.sent (meet_sends (w.sites i).records x)) c
       (rw (at_own (eqs w.sites) i, at_own (threads w.sites) i, at_own (counters w.sites) i)
       (meet_parts p here (eqs w.sites) (records w.sites) (threads w.sites) (counters w.sites) w.mail c h i w.sent x real))

@@ -21,7 +21,7 @@ use Rattle.site_model.specs.Site.{Threads, Counters}
 use Rattle.thread_roster.specs.declared.mode.Mode.TheVariants.{Runs}
 use Rattle.site_model.specs.Messages.{birth}
 use Rattle.site_model.specs.Fit as Fit
-use Rattle.world_model.specs.World.{Mail, Travels, numbered}
+use Rattle.world_model.specs.World.{Mail, Travels, mail_from}
 use Rattle.world_model.specs.World as World
 use Rattle.world_model.specs.Names.{IsMade, IsCentreMade}
 use Rattle.world_model.specs.Matches.{PartsMatch, Placed, IsInSpawn, Waiting, Knowledge}
@@ -85,7 +85,7 @@ module _ (p : List Stmt) (here : ℕ → Name → Type 0) (eqs : ℕ → Store) 
   -- a thread leaves by a Spawn
   pub leave_parts : (k to : ℕ) (n : ThreadName) (code : CodeId) (vars : List VarName) (bundle : List Equation) (st : Stack) (c : State) → ((l a : ℕ) (m : Msg) → Travels mail l a m → l < k) → threads_born p (Some (birth n code vars)) ≡ (n, st) ∷ [] →
       value_of equal_thread s.threads n ≡ None → Each (Contains s.equations) bundle → Fit.EachOfMsg (IsMade made) (msg.Spawn n code vars bundle) → c.equations ≡ s.equations → c.threads ≡ (n, st) ∷ s.threads → IsCentreMade made c →
-      PartsMatch p here eqs records threads made (mail ++ numbered k (sent_to to (msg.Spawn n code vars bundle) ∷ [])) c
+      PartsMatch p here eqs records threads made (mail ++ mail_from k (sent_to to (msg.Spawn n code vars bundle) ∷ [])) c
   leave_parts k to n code vars bundle st c below born none carried said e t centred = record {
     knowledge = subst (λ (q : Store). Knowledge eqs more q) (sym e) (knowledge_posts mail more out sent eqs s.equations (λ a m h. rw (only a m h).1 carried) parts.knowledge);
     kept = parts.kept;
@@ -106,7 +106,7 @@ module _ (p : List Stmt) (here : ℕ → Name → Type 0) (eqs : ℕ → Store) 
       out = sent_to to spawn ∷ []
 
       more : Mail
-      more = mail ++ numbered k out
+      more = mail ++ mail_from k out
 
       sent : Posts mail more out
       sent = posts mail k out

@@ -249,7 +249,7 @@ bears_lines : (p : List Stmt) (n limit : ℕ) (o : Option Birth) (s : Site) → 
 bears_lines p n limit None s = refl
 bears_lines p n limit (Some b) s = go (placement n s.records.site b.at == s.records.site)
   where
-    go : (q : Bool) → (cond q (without_output (with_thread p (Some b) s)) (with_messages s (Bundle.bundled limit s.equations (Rows.sent_message (placement n s.records.site b.at) (msg.Spawn b.name b.code b.vars [])) ∷ []))).lines ≡ []
+    go : (q : Bool) → (cond q (without_output (with_thread p (Some b) s)) (with_messages s (Bundle.with_own_bundle limit s.equations (Rows.sent_message (placement n s.records.site b.at) (msg.Spawn b.name b.code b.vars [])) ∷ []))).lines ≡ []
     go true = refl
     go false = refl
 
@@ -257,7 +257,7 @@ bears_ended : (p : List Stmt) (n limit : ℕ) (o : Option Birth) (s : Site) → 
 bears_ended p n limit None s = refl
 bears_ended p n limit (Some b) s = go (placement n s.records.site b.at == s.records.site)
   where
-    go : (q : Bool) → (cond q (without_output (with_thread p (Some b) s)) (with_messages s (Bundle.bundled limit s.equations (Rows.sent_message (placement n s.records.site b.at) (msg.Spawn b.name b.code b.vars [])) ∷ []))).site.ended ≡ s.ended
+    go : (q : Bool) → (cond q (without_output (with_thread p (Some b) s)) (with_messages s (Bundle.with_own_bundle limit s.equations (Rows.sent_message (placement n s.records.site b.at) (msg.Spawn b.name b.code b.vars [])) ∷ []))).site.ended ≡ s.ended
     go true = refl
     go false = refl
 
@@ -265,7 +265,7 @@ bears_once : (p : List Stmt) (n limit : ℕ) (o : Option Birth) (s : Site) → N
 bears_once p n limit None s new h = h
 bears_once p n limit (Some b) s new h = go (placement n s.records.site b.at == s.records.site)
   where
-    go : (q : Bool) → AreDistinct (names (cond q (without_output (with_thread p (Some b) s)) (with_messages s (Bundle.bundled limit s.equations (Rows.sent_message (placement n s.records.site b.at) (msg.Spawn b.name b.code b.vars [])) ∷ []))).site.threads)
+    go : (q : Bool) → AreDistinct (names (cond q (without_output (with_thread p (Some b) s)) (with_messages s (Bundle.with_own_bundle limit s.equations (Rows.sent_message (placement n s.records.site b.at) (msg.Spawn b.name b.code b.vars [])) ∷ []))).site.threads)
     go true = (new, h)
     go false = h
 

@@ -20,7 +20,7 @@ use Rattle.bind_protocol.specs.Records.{Records, knowledge, IsKnown, sites_in}
 use Rattle.bind_protocol.specs.Rows.{after_ask, ask_sends, after_binding, binding}
 use Rattle.site_model.specs.Site.{Threads, Counters}
 use Rattle.thread_roster.specs.Threads.{wake_all}
-use Rattle.site_model.specs.Bundle.{all_bundled, bundled, bundle_of}
+use Rattle.site_model.specs.Bundle.{with_own_bundles, with_own_bundle, bundle_of}
 use Rattle.site_model.specs.Fit as Fit
 use Rattle.site_model.proofs.BundleLemmas.{bundle_known}
 use Rattle.oz_model.proofs.NameLemmas.{Each-weaker}
@@ -29,7 +29,7 @@ use Rattle.variable_owner.specs.Owners.{owner_of, sites_of}
 use Rattle.variable_owner.specs.Owners as owners
 use Rattle.bind_protocol.proofs.LookLemmas.{in_other}
 use Rattle.world_variables.proofs.AlikeLemmas.{said_posts}
-use Rattle.world_model.specs.World.{Mail, at_put, numbered}
+use Rattle.world_model.specs.World.{Mail, at_put, mail_from}
 use Rattle.world_model.specs.Names.{IsMade, KnownAreMade}
 use Rattle.world_model.specs.Matches.{AreKept, PartsMatch}
 use Rattle.world_model.proofs.PutLemmas.{at_all}
@@ -126,30 +126,30 @@ module _ (p : List Stmt) (here : ℕ → Name → Type 0) (eqs : ℕ → Store) 
   -- ---- an own variable is bound
 
   -- what the owner sends: a Binding to each registered site
-  sent_asks : (limit : ℕ) (store : Store) (x : VarName) (t : Term) (ks : List ℕ) (to : ℕ) (m : Msg) → Contains (all_bundled limit store (map (λ k. binding x t k) ks)) (sent_to to m) →
+  sent_asks : (limit : ℕ) (store : Store) (x : VarName) (t : Term) (ks : List ℕ) (to : ℕ) (m : Msg) → Contains (with_own_bundles limit store (map (λ k. binding x t k) ks)) (sent_to to m) →
       (m ≡ msg.Binding x t (bundle_of limit store (msg.Binding x t []))) × Contains ks to
   sent_asks limit store x t [] to m h = absurd (nothing _ h)
-  sent_asks limit store x t (k ∷ ks) to m h = go (Contains-cons_cases _ _ (all_bundled limit store (map (λ k. binding x t k) ks)) h) (λ g. sent_asks limit store x t ks to m g)
+  sent_asks limit store x t (k ∷ ks) to m h = go (Contains-cons_cases _ _ (with_own_bundles limit store (map (λ k. binding x t k) ks)) h) (λ g. sent_asks limit store x t ks to m g)
     where
-      go : (bundled limit store (binding x t k) ≡ sent_to to m) ⊎ Contains (all_bundled limit store (map (λ k. binding x t k) ks)) (sent_to to m) →
-          (Contains (all_bundled limit store (map (λ k. binding x t k) ks)) (sent_to to m) → (m ≡ msg.Binding x t (bundle_of limit store (msg.Binding x t []))) × Contains ks to) →
+      go : (with_own_bundle limit store (binding x t k) ≡ sent_to to m) ⊎ Contains (with_own_bundles limit store (map (λ k. binding x t k) ks)) (sent_to to m) →
+          (Contains (with_own_bundles limit store (map (λ k. binding x t k) ks)) (sent_to to m) → (m ≡ msg.Binding x t (bundle_of limit store (msg.Binding x t []))) × Contains ks to) →
           (m ≡ msg.Binding x t (bundle_of limit store (msg.Binding x t []))) × Contains (k ∷ ks) to
       go (inl e) ih = (sym (ap (λ (o : Sent). o.msg) e), subst (λ (q : ℕ). Contains (k ∷ ks) q) (ap (λ (o : Sent). o.to) e) (Contains-head k ks))
       go (inr q) ih = let r = ih q in (r.0, Contains-tail _ _ ks r.1)
 
   asks_sent : (limit : ℕ) (store : Store) (x : VarName) (t : Term) (ks : List ℕ) (to : ℕ) → Contains ks to →
-      Contains (all_bundled limit store (map (λ k. binding x t k) ks)) (sent_to to (msg.Binding x t (bundle_of limit store (msg.Binding x t []))))
+      Contains (with_own_bundles limit store (map (λ k. binding x t k) ks)) (sent_to to (msg.Binding x t (bundle_of limit store (msg.Binding x t []))))
   asks_sent limit store x t [] to h = absurd (nothing _ h)
   asks_sent limit store x t (k ∷ ks) to h = go (Contains-cons_cases _ _ ks h) (λ g. asks_sent limit store x t ks to g)
     where
-      go : (k ≡ to) ⊎ Contains ks to → (Contains ks to → Contains (all_bundled limit store (map (λ k. binding x t k) ks)) (sent_to to (msg.Binding x t (bundle_of limit store (msg.Binding x t []))))) →
-          Contains (bundled limit store (binding x t k) ∷ all_bundled limit store (map (λ k. binding x t k) ks)) (sent_to to (msg.Binding x t (bundle_of limit store (msg.Binding x t []))))
-      go (inl e) ih = subst (λ (q : ℕ). Contains (bundled limit store (binding x t k) ∷ all_bundled limit store (map (λ k. binding x t k) ks)) (sent_to q (msg.Binding x t (bundle_of limit store (msg.Binding x t []))))) e (Contains-head _ _)
+      go : (k ≡ to) ⊎ Contains ks to → (Contains ks to → Contains (with_own_bundles limit store (map (λ k. binding x t k) ks)) (sent_to to (msg.Binding x t (bundle_of limit store (msg.Binding x t []))))) →
+          Contains (with_own_bundle limit store (binding x t k) ∷ with_own_bundles limit store (map (λ k. binding x t k) ks)) (sent_to to (msg.Binding x t (bundle_of limit store (msg.Binding x t []))))
+      go (inl e) ih = subst (λ (q : ℕ). Contains (with_own_bundle limit store (binding x t k) ∷ with_own_bundles limit store (map (λ k. binding x t k) ks)) (sent_to q (msg.Binding x t (bundle_of limit store (msg.Binding x t []))))) e (Contains-head _ _)
       go (inr q) ih = Contains-tail _ _ _ (ih q)
 
   pub bind_parts : (limit k i : ℕ) (x : VarName) (t : Term) → x.site ≡ i → x.site ≢ 0 → knowledge (records i) x ≡ Some None → IsLower t x → EachOfEquation (here i) (x, t) → EachOfEquation (IsMade made) (x, t) →
       PartsMatch p here (at_put eqs i ((x, t) ∷ eqs i)) (at_put records i (after_ask (records i) x t)) (at_put threads i (wake_all x (threads i))) made
-      (mail ++ numbered k (all_bundled limit ((x, t) ∷ eqs i) (ask_sends (records i) x t))) (with_equation s x t)
+      (mail ++ mail_from k (with_own_bundles limit ((x, t) ∷ eqs i) (ask_sends (records i) x t))) (with_equation s x t)
   bind_parts limit k i x t own real unbound low names was = record {
     knowledge = learnt_knowledge p eqs records threads mail more out s.equations d i b x t l parts.knowledge;
     kept = kept;
@@ -170,10 +170,10 @@ module _ (p : List Stmt) (here : ℕ → Name → Type 0) (eqs : ℕ → Store) 
       d = (x, t) ∷ s.equations
 
       out : List Sent
-      out = all_bundled limit ((x, t) ∷ eqs i) (ask_sends (records i) x t)
+      out = with_own_bundles limit ((x, t) ∷ eqs i) (ask_sends (records i) x t)
 
       more : Mail
-      more = mail ++ numbered k out
+      more = mail ++ mail_from k out
 
       sent : Posts mail more out
       sent = posts mail k out

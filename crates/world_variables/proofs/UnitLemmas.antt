@@ -76,7 +76,7 @@ bears_records : (p : List Stmt) (n limit : ℕ) (o : Option Birth) (s : Site) �
 bears_records p n limit None s = refl
 bears_records p n limit (Some b) s = go (Unit.placement n s.records.site b.at == s.records.site)
   where
-    go : (q : Bool) → (cond q (without_output (Receive.with_thread p (Some b) s)) (with_messages s (Bundle.bundled limit s.equations (Rows.sent_message (Unit.placement n s.records.site b.at) (msg.Spawn b.name b.code b.vars [])) ∷ []))).site.records ≡ s.records
+    go : (q : Bool) → (cond q (without_output (Receive.with_thread p (Some b) s)) (with_messages s (Bundle.with_own_bundle limit s.equations (Rows.sent_message (Unit.placement n s.records.site b.at) (msg.Spawn b.name b.code b.vars [])) ∷ []))).site.records ≡ s.records
     go true = refl
     go false = refl
 

@@ -8,5 +8,5 @@ use Rattle.oz_runner.proofs.machine.run_machine.Goals as goal
 pub returns : goal.returns
 returns c =
     let ran = c.run_program-ran in
-    λ is. subst (λ (picks : List Pick). CameTo c.args.program.now c.args.options (made_of [] picks ran.result.lines.items) c.status_after.result) (sym c.from_vec.ensures)
+    λ is. subst (λ (picks : List Pick). CameTo c.args.program.now c.args.options (made_of [] picks ran.result.lines.items) c.status_after.result) (sym c.from_picks.ensures)
     (subst (CameTo _ _ _) (sym c.status_after.ensures) (machine_came c.args.program.now c.args.options ran.ensures.0 ran.result is c.exchanges_are_a_chain.ensures.chains ran.ensures.1))

@@ -1,7 +1,7 @@
 use Rattle.std.proofs.Common.{arith, ◌+◌, ◌∙◌, ap}
 use Rattle.tree_node.specs.Assoc.{without_key}
 use Rattle.tree_node.specs.State.{equal_thread}
-use Rattle.thread_roster.specs.Slots.{place_in, one, waiting}
+use Rattle.thread_roster.specs.Slots.{slot_in, one, waiting}
 use Rattle.thread_roster.proofs.SlotLemmas.{total_holds}
 use Rattle.thread_roster.proofs.KeptLemmas.{kept_left, kept_end, still_none, end_view, ended_more}
 use Rattle.thread_roster.proofs.roster.Roster.end.Goals as goal
@@ -32,7 +32,7 @@ invariant_of-self g c =
 
 pub returns-clause-living : goal.returns-clause-living
 returns-clause-living g c =
-    end_view c.self.inside.slots.items c.clear-before.new.slots.items (place_in c.self.inside.places.entries) c.args.name c.find-place.result c.self.invariant.placed c.find-place.ensures.place c.clear-before.ensures.put
+    end_view c.self.inside.slots.items c.clear-before.new.slots.items (slot_in c.self.inside.places.entries) c.args.name c.find-place.result c.self.invariant.placed c.find-place.ensures.place c.clear-before.ensures.put
     ∙ ap (λ s. without_key equal_thread s.living c.args.name) c.self.view_is
 
 pub returns-clause-ended : goal.returns-clause-ended

@@ -1,7 +1,7 @@
 use Rattle.std.proofs.Common.{arith, ◌∙◌, ap}
 use Rattle.thread_roster.specs.declared.mode.Mode.TheVariants as stands
 use Rattle.thread_roster.specs.Threads.{set_mode}
-use Rattle.thread_roster.specs.Slots.{place_in, waiting}
+use Rattle.thread_roster.specs.Slots.{slot_in, waiting}
 use Rattle.thread_roster.proofs.SlotLemmas.{total_holds}
 use Rattle.thread_roster.proofs.KeptLemmas.{kept_runs, mode_view, ended_set}
 use Rattle.thread_roster.proofs.roster.Roster.run.Goals as goal
@@ -21,7 +21,7 @@ invariant_of-self-2 g c =
 pub returns-clause-living : goal.returns-clause-living
 returns-clause-living g c =
     let held = c.find-place.ensures.held in
-    mode_view c.self.inside.slots.items c.set_mode-before.new.slots.items (place_in c.self.inside.places.entries) c.args.name c.find-place.result held.0 stands.Runs c.self.invariant.placed c.find-place.ensures.place held.1 held.2 (c.set_mode-before.ensures.put held.0 held.1)
+    mode_view c.self.inside.slots.items c.set_mode-before.new.slots.items (slot_in c.self.inside.places.entries) c.args.name c.find-place.result held.0 stands.Runs c.self.invariant.placed c.find-place.ensures.place held.1 held.2 (c.set_mode-before.ensures.put held.0 held.1)
     ∙ ap (λ s. set_mode s.living c.args.name stands.Runs) c.self.view_is
 
 pub returns-clause-ended : goal.returns-clause-ended

@@ -1,7 +1,7 @@
 use Rattle.std.proofs.Common.{◌∙◌, sym, ap, refl, Some}
 use Rattle.tree_node.specs.Assoc.{value_of}
 use Rattle.tree_node.specs.State.{equal_thread}
-use Rattle.thread_roster.specs.Slots.{place_in}
+use Rattle.thread_roster.specs.Slots.{slot_in}
 use Rattle.thread_roster.proofs.SlotLemmas.{at_index}
 use Rattle.thread_roster.proofs.KeptLemmas.{kept_value, slot_is, value_is, lent_view, value_found}
 use Rattle.thread_roster.proofs.roster.Roster.value_mut.Goals as goal
@@ -23,11 +23,11 @@ returns g c =
     slot_is c.self.inside.slots.items c.find-place.result _ held.0
     (at_index c.self.inside.slots.items c.find-place.result _ c.find-place.ensures.inside c.index_mut.ensures.value) held.1 in
     let there =
-    value_found c.self.inside.slots.items (place_in c.self.inside.places.entries) c.args.name c.find-place.result held.0
+    value_found c.self.inside.slots.items (slot_in c.self.inside.places.entries) c.args.name c.find-place.result held.0
     c.self.invariant.placed c.find-place.ensures.place held.1 in (
       (
         refl,
-        λ w. lent_view c.args.self.now c.self.inside.slots.items (place_in c.self.inside.places.entries) c.args.name c.find-place.result _ held.0 w
+        λ w. lent_view c.args.self.now c.self.inside.slots.items (slot_in c.self.inside.places.entries) c.args.name c.find-place.result _ held.0 w
             c.self.invariant.placed c.find-place.ensures.place held.1 held.2 slot c.self.view_is,
       ),
       record {

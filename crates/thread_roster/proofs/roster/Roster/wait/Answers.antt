@@ -1,7 +1,7 @@
 use Rattle.std.proofs.Common.{arith, ◌∙◌, ap}
 use Rattle.thread_roster.specs.declared.mode.Mode.TheVariants as stands
 use Rattle.thread_roster.specs.Threads.{set_mode}
-use Rattle.thread_roster.specs.Slots.{place_in}
+use Rattle.thread_roster.specs.Slots.{slot_in}
 use Rattle.thread_roster.proofs.SlotLemmas.{living_le, waiting_le}
 use Rattle.thread_roster.proofs.KeptLemmas.{kept_left, kept_waits, still_set, mode_view, ended_set}
 use Rattle.thread_roster.proofs.roster.Roster.wait.Goals as goal
@@ -25,7 +25,7 @@ invariant_of-self-2 g c =
 pub returns-clause-living : goal.returns-clause-living
 returns-clause-living g c =
     let held = c.find-place.ensures.held in
-    mode_view c.self.inside.slots.items c.set_mode-before.new.slots.items (place_in c.self.inside.places.entries) c.args.name c.find-place.result held.0 (stands.Waits c.args.var) c.self.invariant.placed c.find-place.ensures.place held.1 held.2 (c.set_mode-before.ensures.put held.0 held.1)
+    mode_view c.self.inside.slots.items c.set_mode-before.new.slots.items (slot_in c.self.inside.places.entries) c.args.name c.find-place.result held.0 (stands.Waits c.args.var) c.self.invariant.placed c.find-place.ensures.place held.1 held.2 (c.set_mode-before.ensures.put held.0 held.1)
     ∙ ap (λ s. set_mode s.living c.args.name (stands.Waits c.args.var)) c.self.view_is
 
 pub returns-clause-ended : goal.returns-clause-ended

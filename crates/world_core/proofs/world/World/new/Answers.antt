@@ -1,7 +1,7 @@
 use Rattle.std.proofs.Common.{sym, subst, List, false}
 use Rattle.site_message.specs.declared.turn.Turn.{Turn}
 use Rattle.world_core.specs.World.{IsConsistent}
-use Rattle.world_core.proofs.TurnLemmas.{starts, start_states}
+use Rattle.world_core.proofs.TurnLemmas.{starts, new_states}
 use Rattle.world_core.proofs.world.World.new.Goals as goal
 
 pub invariant_of-result : goal.invariant_of-result
@@ -11,4 +11,4 @@ invariant_of-result c =
     c.in_ok-first_sites.ensures.length c.in_ok-first_sites.ensures.sites c.in_ok-new.ensures.queues c.in_ok-new.ensures.empty)
 
 pub returns-clause-states : goal.returns-clause-states
-returns-clause-states c = start_states c.args.program.now c.args.sites c.in_ok-first_sites.field-0.items c.in_ok-first_sites.ensures.sites
+returns-clause-states c = new_states c.args.program.now c.args.sites c.in_ok-first_sites.field-0.items c.in_ok-first_sites.ensures.sites

@@ -1,7 +1,7 @@
 use Rattle.std.proofs.Common.{◌≡◌, ◌<◌, ◌≤◌, ap, sym, ℕ, List, length, map, subst, false, true}
 use Rattle.std.specs.Prelude.{Option, MatchOption}
 use Rattle.site_message.specs.declared.message.Sent.{Sent}
-use Rattle.world_mail.specs.Mail.{MailState, has, queue_at}
+use Rattle.world_mail.specs.Mail.{MailState, is_queued, queue_at}
 use Rattle.world_mail.specs.Travels.{travel_of, IsNoneFor, IsFirstFor}
 use Rattle.world_mail.proofs.MailLemmas.{none_queued, first_queued, queue_read}
 use Rattle.world_mail.proofs.mail.Mail.next_for.Goals as goal
@@ -13,7 +13,7 @@ returns-in_err-number c =
     let same : ms ≡ c.args.self.now.messages = ap (λ (m : MailState). m.messages) c.self.view_is in
     let inside : c.args.site < length qs = subst (λ (n : ℕ). c.args.site < n) (sym (ap (λ (m : MailState). m.queues) c.self.view_is)) c.requires in
     let read : queue_at qs c.args.site ≡ c.index.result.now = queue_read qs c.args.site c.index.result.now inside c.index.ensures in
-    let none : (k : ℕ) → has (queue_at qs c.args.site) k ≡ false = subst (λ (q : List ℕ). (k : ℕ) → has q k ≡ false) (sym read) c.in_err-number.ensures in
+    let none : (k : ℕ) → is_queued (queue_at qs c.args.site) k ≡ false = subst (λ (q : List ℕ). (k : ℕ) → is_queued q k ≡ false) (sym read) c.in_err-number.ensures in
     subst (λ (r : Option ℕ). MatchOption r (IsNoneFor (map travel_of c.args.self.now.messages) c.args.site) (λ place. IsFirstFor (map travel_of c.args.self.now.messages) c.args.site place)) (sym c.from_residual.ensures)
     (subst (λ (es : List (ℕ × Sent)). IsNoneFor (map travel_of es) c.args.site) same (none_queued ms c.self.inside.travels.items qs c.self.invariant c.args.site inside none))
 
@@ -25,6 +25,6 @@ returns c =
     let inside : c.args.site < length qs = subst (λ (n : ℕ). c.args.site < n) (sym (ap (λ (m : MailState). m.queues) c.self.view_is)) c.requires in
     let read : queue_at qs c.args.site ≡ c.index.result.now = queue_read qs c.args.site c.index.result.now inside c.index.ensures in
     let P : Option ℕ → List (ℕ × Sent) → Type 0 = λ r es. MatchOption r (IsNoneFor (map travel_of es) c.args.site) (λ place. IsFirstFor (map travel_of es) c.args.site place) in
-    let first = subst (λ (q : List ℕ). (has q c.in_ok-number.number ≡ true) × ((k : ℕ) → has q k ≡ true → c.in_ok-number.number ≤ k)) (sym read) c.in_ok-number.ensures in
+    let first = subst (λ (q : List ℕ). (is_queued q c.in_ok-number.number ≡ true) × ((k : ℕ) → is_queued q k ≡ true → c.in_ok-number.number ≤ k)) (sym read) c.in_ok-number.ensures in
     subst (P c.get_index_of.result) same
     (first_queued ms c.self.inside.travels.items qs c.self.invariant c.args.site inside c.in_ok-number.number first.0 first.1 c.get_index_of.result c.get_index_of.ensures.index c.get_index_of.ensures.found c.get_index_of.ensures.value)
