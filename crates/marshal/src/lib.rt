@@ -5,7 +5,7 @@
 //! It promises: `export` and `export_from` give exactly the bundle of the definitions (`bundle_from` of `site_model`): of the
 //! equations of the store the first that are reached from the given variables, breadth first, at most as many as the limit, in
 //! the order of their names; none where the limit is 0. They cost by what is taken and by the variables of that, however much
-//! the store has. `pack` gives a message that bundle (`bundled`). `import` adds each equation of the bundle whose variable has
+//! the store has. `pack` gives a message that bundle (`with_own_bundle`). `import` adds each equation of the bundle whose variable has
 //! none (`with_equations`), and answers the names that were not known before, each once, in the order in which they stand
 //! there. After want of memory the store may know a part of the bundle, and the site is given up.
 //!

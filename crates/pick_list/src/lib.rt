@@ -9,7 +9,7 @@
 //!
 //! **Stands on** `tree_node` alone.
 //!
-//! **Tests alone show**, in `oz_tests`, that memory suffices there.
+//! **Tests alone show**, in `machine_tests` and `oz_tests`, that memory suffices there.
 #![tactic(auto)]
 
 mod columns;

@@ -81,7 +81,7 @@ impl Schedule {
         Ok(())
     }
 
-    /// The vector of these picks. It takes memory for each that came with a turn.
+    /// The vector of these picks. It takes memory for each of them.
     pub fn into_vec(self, alloc: Global) -> Result<Vec<Pick>, AllocError>
         ensures { IfOk result (λ picks. picks.items ≡ self) }
     {

@@ -1,4 +1,4 @@
-//! Marks of pairs of records, by which met pairs are found.
+//! Hashes of pairs of records, by which met pairs are found.
 
 ghost use Rattle.std.specs.Prelude.{◌≡◌};
 ghost use Rattle.unify_steps.specs.Hash.{hash_step, text_hash, fields_hash, hash_mix, node_hash, pair_hash};

@@ -12,7 +12,7 @@
 //! - `peek` tells beforehand whether the next step is a bind, of which two sides, or a failure (`IsPeekOf`).
 //! - `Block::new`, and `fill` of a [`BlockRoom`], which takes no memory, begin with one pair and nothing met.
 //!
-//! `case` finds the case of a pair, `met` and `met_table` keep the pairs that were met, which `marks` makes quick to find,
+//! `case` finds the case of a pair, `met` and `met_table` keep the pairs that were met, which `hash` makes quick to find,
 //! and `records` compares and pairs fields. `threads` shows that a block may go to another thread.
 //!
 //! It stands on `tree_store` and on the definitions of `tree_node` (`specs/Goal.antt`), and on `indexmap`. Tests
