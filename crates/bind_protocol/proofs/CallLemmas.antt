@@ -15,7 +15,7 @@ use Rattle.variable_owner.proofs.OwnerLemmas.{written_back}
 use Rattle.bind_protocol.specs.Records.{Records, is_own, owner_knows}
 use Rattle.bind_protocol.specs.Rows.{register, request, binding, after_meet, after_ask, ask_sends}
 use Rattle.bind_protocol.specs.World.{World, IsSiteOf, IsFront, records_of, knowledge_at, known_at, registered_at, vars_of, with_records, with_sent, after_make_at, after_meet_at, after_meeting, after_want_at}
-use Rattle.bind_protocol.specs.Lawful.{Made, IsGood, IsLawful}
+use Rattle.bind_protocol.specs.Lawful.{IsKnownToOwner, IsGood, IsLawful}
 use Rattle.bind_protocol.specs.Calls.{CanMake, CanWant}
 use Rattle.bind_protocol.proofs.PlaceLemmas.{append_nil, puts_same, known_records, listed_records}
 use Rattle.bind_protocol.proofs.RowLemmas.{Kept, grows_same, grows_on, site_of, own_knows, proxy_knows, own_here, make_row, meet_row, bind_row, request_row}
@@ -53,7 +53,7 @@ makes_kept w i x l c =
     (make_row w x l (subst (IsSiteOf w) (sym c.own) c.site) (subst (λ (j : ℕ). known_at w j x ≡ None) (sym c.own) c.new))
 
 -- what meeting a name comes to
-meets_cases : (w : World) (i : ℕ) (x : VarName) → IsLawful w → IsSiteOf w i → Made (known_at w) x → Kept w (after_meet_at w i x) × IsFront w.travelling (after_meet_at w i x).travelling
+meets_cases : (w : World) (i : ℕ) (x : VarName) → IsLawful w → IsSiteOf w i → IsKnownToOwner (known_at w) x → Kept w (after_meet_at w i x) × IsFront w.travelling (after_meet_at w i x).travelling
 meets_cases w i x l h made = go (is_own (records_of w i) x) refl (is_some (entry_of (records_of w i).proxies x)) refl
   where
     known_now : after_meet_at w i x ≡ w → Kept w (after_meet_at w i x) × IsFront w.travelling (after_meet_at w i x).travelling
@@ -75,10 +75,10 @@ meets_cases w i x l h made = go (is_own (records_of w i) x) refl (is_some (entry
         not_there None e = refl
         not_there (Some y) e = cc
 
-pub meets_kept : (w : World) (i : ℕ) (x : VarName) → IsLawful w → IsSiteOf w i → Made (known_at w) x → Kept w (after_meet_at w i x)
+pub meets_kept : (w : World) (i : ℕ) (x : VarName) → IsLawful w → IsSiteOf w i → IsKnownToOwner (known_at w) x → Kept w (after_meet_at w i x)
 meets_kept w i x l h made = (meets_cases w i x l h made).0
 
-pub meets_front : (w : World) (i : ℕ) (x : VarName) → IsLawful w → IsSiteOf w i → Made (known_at w) x → IsFront w.travelling (after_meet_at w i x).travelling
+pub meets_front : (w : World) (i : ℕ) (x : VarName) → IsLawful w → IsSiteOf w i → IsKnownToOwner (known_at w) x → IsFront w.travelling (after_meet_at w i x).travelling
 meets_front w i x l h made = (meets_cases w i x l h made).1
 
 pub puts_sites : (w : World) (i : ℕ) (b : Records) → length (with_records w i b).binders ≡ length w.binders
@@ -93,7 +93,7 @@ pub record Met (w v : World) : Type 0 where
   pub front : IsFront w.travelling v.travelling
   pub sites : length v.binders ≡ length w.binders
 
-pub meets_all_kept : (w : World) (i : ℕ) (xs : List VarName) → IsLawful w → IsSiteOf w i → Each (Made (known_at w)) xs → Met w (after_meeting w i xs)
+pub meets_all_kept : (w : World) (i : ℕ) (xs : List VarName) → IsLawful w → IsSiteOf w i → Each (IsKnownToOwner (known_at w)) xs → Met w (after_meeting w i xs)
 meets_all_kept w i [] l h made = record { kept = kept_same w l; front = λ place m at. at; sites = refl }
 meets_all_kept w i (x ∷ xs) l h made =
     let k : Kept w (after_meet_at w i x) = meets_kept w i x l h made.0 in
@@ -143,7 +143,7 @@ asked_late w y t r l bound =
 
 pub want_good : (w : World) (i : ℕ) (x : VarName) (t : Term) → IsLawful w → CanWant w i x t → IsGood (known_at w) x t
 want_good w i x t l c =
-    (each_more _ (Made (known_at w)) (vars_of t) (λ y known. let k = is_there (known_at w i y) known in l.truth.made i y k.0 k.1) c.known, c.lower)
+    (each_more _ (IsKnownToOwner (known_at w)) (vars_of t) (λ y known. let k = is_there (known_at w i y) known in l.truth.made i y k.0 k.1) c.known, c.lower)
 
 pub wants_kept : (w : World) (i : ℕ) (x : VarName) (t : Term) (thread : ThreadName) → IsLawful w → CanWant w i x t → Kept w (after_want_at w i x t thread)
 wants_kept w i x t thread l c = go (is_own (records_of w i) x) refl

@@ -12,9 +12,9 @@ use Rattle.site_message.specs.declared.message.Msg.{Msg}
 use Rattle.variable_owner.specs.Owners.{owner_of, IsMade}
 use Rattle.variable_owner.specs.declared.owners.Owner.{Owner}
 use Rattle.variable_owner.specs.declared.owners.Owner.TheVariants.{Open, Bound}
-use Rattle.bind_protocol.specs.Records.{Records, TakesNews, knowledge, owner_knows}
+use Rattle.bind_protocol.specs.Records.{Records, IsReceivableNews, knowledge, owner_knows}
 use Rattle.bind_protocol.specs.Rows.{after_make, after_meet, meet_sends, after_want, want_sends, after_message, message_sends}
-use Rattle.bind_protocol.specs.World.{World, Holds, Grows, IsFront, IsSiteOf, IsMadeIn, records_of, known_at, with_records, with_sent, after_make_at, after_meet_at, after_meeting, after_want_at, takes_message, met_first, after_arrival, after_delivery, field_vars}
+use Rattle.bind_protocol.specs.World.{World, HasInvariant, HasGrown, IsFront, IsSiteOf, IsMadeIn, records_of, known_at, with_records, with_sent, after_make_at, after_meet_at, after_meeting, after_want_at, takes_message, met_first, after_arrival, after_delivery, field_vars}
 use Rattle.bind_protocol.specs.Lawful.{IsLawful}
 use Rattle.bind_protocol.specs.Calls.{CanMake, CanMeet, CanWant}
 use Rattle.bind_protocol.proofs.PlaceLemmas.{puts_same, known_records}
@@ -23,13 +23,13 @@ use Rattle.bind_protocol.proofs.CallLemmas.{makes_kept, meets_kept, meets_front,
 use Rattle.bind_protocol.proofs.DeliverLemmas.{letter_of, get_contains, goes_to_site, met_first_made, message_comes, site_takes}
 use Rattle.bind_protocol.proofs.HoldLemmas.{lawful_holds}
 
-pub grown : (w v : World) → Kept w v → length v.binders ≡ length w.binders → Grows w v
+pub grown : (w v : World) → Kept w v → length v.binders ≡ length w.binders → HasGrown w v
 grown w v k e = record { sites = e; known = k.grows.some; bound = k.grows.bound }
 
-pub grown_same : (w : World) → Grows w w
+pub grown_same : (w : World) → HasGrown w w
 grown_same w = record { sites = refl; known = λ i x h. h; bound = λ i x t h. h }
 
-pub grown_on : (w v u : World) → Grows w v → Grows v u → Grows w u
+pub grown_on : (w v u : World) → HasGrown w v → HasGrown v u → HasGrown w u
 grown_on w v u g h = record {
   sites = h.sites ∙ g.sites;
   known = λ i x k. h.known i x (g.known i x k);
@@ -55,7 +55,7 @@ pub outcome_lawful : {A E : Type 0} (w v u : World) (r : Result A E) → Outcome
 outcome_lawful w v u (Ok a) o l k = rw o.ok k.lawful
 outcome_lawful w v u (Err e) o l k = rw o.err l
 
-pub outcome_grows : {A E : Type 0} (w v u : World) (r : Result A E) → Outcome w v u r → Grows w u → Grows w v
+pub outcome_grows : {A E : Type 0} (w v u : World) (r : Result A E) → Outcome w v u r → HasGrown w u → HasGrown w v
 outcome_grows w v u (Ok a) o g = rw o.ok g
 outcome_grows w v u (Err e) o g = rw o.err (grown_same w)
 
@@ -112,8 +112,8 @@ module _ (w0 w : World) (i : ℕ) (b : Records) (e : w0 ≡ w) (l0 : IsLawful w0
   pub lent_knows : (x : VarName) → knowledge b x ≡ known_at w i x
   lent_knows x = ap (λ (c : Records). knowledge c x) lent_is ∙ sym (known_records w i x h)
 
-  pub lent_takes : (m : Msg) → TakesNews (records_of w i) m → TakesNews b m
-  lent_takes m t = subst (λ (c : Records). TakesNews c m) (sym lent_is) t
+  pub lent_takes : (m : Msg) → IsReceivableNews (records_of w i) m → IsReceivableNews b m
+  lent_takes m t = subst (λ (c : Records). IsReceivableNews c m) (sym lent_is) t
 
   owner_none : (o : Option Owner) → owner_knows o ≡ None → o ≡ None
   owner_none None q = refl
@@ -137,23 +137,23 @@ module _ (w0 w : World) (i : ℕ) (b : Records) (e : w0 ≡ w) (l0 : IsLawful w0
       owner_some (owner_of b.owners x) (subst (λ (o : Option (Option Term)). IsTrue (is_some o)) (sym (lent_knows x) ∙ own_is x mine) there)
 
 -- the calls
-pub grows_makes : (w : World) (i : ℕ) (x : VarName) → IsLawful w → CanMake w i x → Grows w (after_make_at w i x)
+pub grows_makes : (w : World) (i : ℕ) (x : VarName) → IsLawful w → CanMake w i x → HasGrown w (after_make_at w i x)
 grows_makes w i x l c = grown w (after_make_at w i x) (makes_kept w i x l c) (puts_sites w i _)
 
-pub grows_meets : (w : World) (i : ℕ) (x : VarName) → IsLawful w → CanMeet w i x → Grows w (after_meet_at w i x)
+pub grows_meets : (w : World) (i : ℕ) (x : VarName) → IsLawful w → CanMeet w i x → HasGrown w (after_meet_at w i x)
 grows_meets w i x l c = grown w (after_meet_at w i x) (meets_kept w i x l c.site c.made) (puts_sites w i _)
 
-pub grows_wants : (w : World) (i : ℕ) (x : VarName) (t : Term) (thread : ThreadName) → IsLawful w → CanWant w i x t → Grows w (after_want_at w i x t thread)
+pub grows_wants : (w : World) (i : ℕ) (x : VarName) (t : Term) (thread : ThreadName) → IsLawful w → CanWant w i x t → HasGrown w (after_want_at w i x t thread)
 grows_wants w i x t thread l c = grown w (after_want_at w i x t thread) (wants_kept w i x t thread l c) (puts_sites w i _)
 
 -- what a call is shown to do: it comes to u or changes nothing, keeps the world lawful, and nobody forgets
 pub record Done {A E : Type 0} (w v u : World) (r : Result A E) : Type 0 where
   pub outcome : Outcome w v u r
   pub lawful : IsLawful v
-  pub holds : Holds v
-  pub grows : Grows w v
+  pub holds : HasInvariant v
+  pub grows : HasGrown w v
 
-done : {A E : Type 0} (w v u : World) (r : Result A E) → Outcome w v u r → IsLawful w → Kept w u → Grows w u → Done w v u r
+done : {A E : Type 0} (w v u : World) (r : Result A E) → Outcome w v u r → IsLawful w → Kept w u → HasGrown w u → Done w v u r
 done w v u r o l k g =
     let lawful : IsLawful v = outcome_lawful w v u r o l k in
     record { outcome = o; lawful = lawful; holds = lawful_holds v lawful; grows = outcome_grows w v u r o g }
@@ -219,7 +219,7 @@ travels_to w0 w place m e l0 at =
     let l : IsLawful w = lawful_of w0 w e l0 in
     goes_to_site w m.to m.msg l (get_contains w.travelling place m at) (letter_of w place l m at)
 
-pub travels_taken : (w0 w : World) (place : ℕ) (m : Sent) (b : Records) → w0 ≡ w → IsLawful w0 → slice_get w.travelling place ≡ Some m → b ≡ slice_index_or w0.binders (m.to - 1) b → TakesNews b m.msg
+pub travels_taken : (w0 w : World) (place : ℕ) (m : Sent) (b : Records) → w0 ≡ w → IsLawful w0 → slice_get w.travelling place ≡ Some m → b ≡ slice_index_or w0.binders (m.to - 1) b → IsReceivableNews b m.msg
 travels_taken w0 w place m b e l0 at lent =
     let l : IsLawful w = lawful_of w0 w e l0 in
     lent_takes w0 w m.to b e l0 (travels_to w0 w place m e l0 at) lent m.msg (site_takes w m.to m.msg l (get_contains w.travelling place m at) (letter_of w place l m at))
@@ -259,7 +259,7 @@ each_var_of P [] k d h below = absurd (omega arith)
 each_var_of P (x ∷ xs) zero d h below = h.0
 each_var_of P (x ∷ xs) (suc k) d h below = each_var_of P xs k d h.1 (omega arith)
 
-pub can_meet_field : (w0 w : World) (i : ℕ) (xs : List (Feature × VarName)) (k : ℕ) (f : Feature × VarName) (x : VarName) → Grows w0 w → IsSiteOf w0 i → Each (IsMadeIn w0) (field_vars xs) → k < length xs → f ≡ get_or xs k f → x ≡ f.1 → CanMeet w i x
+pub can_meet_field : (w0 w : World) (i : ℕ) (xs : List (Feature × VarName)) (k : ℕ) (f : Feature × VarName) (x : VarName) → HasGrown w0 w → IsSiteOf w0 i → Each (IsMadeIn w0) (field_vars xs) → k < length xs → f ≡ get_or xs k f → x ≡ f.1 → CanMeet w i x
 can_meet_field w0 w i xs k f x g h made below is x_is =
     let var : x ≡ (get_or xs k f).1 = x_is ∙ ap (λ (y : Feature × VarName). y.1) is in
     let there : IsMadeIn w0 x = subst (IsMadeIn w0) (sym var) (each_var_of (IsMadeIn w0) xs k f made below) in
@@ -278,7 +278,7 @@ travels_made w0 w place m e l0 at =
     let l : IsLawful w = lawful_of w0 w e l0 in
     met_first_made w m.to m.msg l (letter_of w place l m at)
 
-pub holds_of : (w0 w : World) → w0 ≡ w → IsLawful w0 → Holds w
+pub holds_of : (w0 w : World) → w0 ≡ w → IsLawful w0 → HasInvariant w
 holds_of w0 w e l0 = lawful_holds w (lawful_of w0 w e l0)
 
 -- the message that was copied travels at its place

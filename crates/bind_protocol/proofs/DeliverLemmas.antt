@@ -15,10 +15,10 @@ use Rattle.variable_owner.specs.declared.owners.Owner.{Owner}
 use Rattle.variable_owner.specs.declared.owners.Owner.TheVariants.{Open, Bound}
 use Rattle.variable_owner.specs.Owners.{owner_of, IsMade, with_owner}
 use Rattle.variable_owner.proofs.OwnerLemmas.{written_back}
-use Rattle.bind_protocol.specs.Records.{Records, Takes, TakesNews, owner_knows}
+use Rattle.bind_protocol.specs.Records.{Records, IsReceivable, IsReceivableNews, owner_knows}
 use Rattle.bind_protocol.specs.Rows.{register, binding, after_register, register_sends, after_binding}
 use Rattle.bind_protocol.specs.World.{World, IsSiteOf, records_of, known_at, registered_at, with_records, with_sent, after_meeting, takes_message, met_first, after_arrival, after_delivery, is_register, is_binding}
-use Rattle.bind_protocol.specs.Lawful.{Made, IsGood, IsLetter, IsLawful, met_count, known_count, register_count, binding_count, site_count}
+use Rattle.bind_protocol.specs.Lawful.{IsKnownToOwner, IsGood, IsLetter, IsLawful, met_count, known_count, register_count, binding_count, site_count}
 use Rattle.bind_protocol.proofs.ListLemmas.{each_at, there_counted}
 use Rattle.bind_protocol.proofs.LookLemmas.{in_here, in_other}
 use Rattle.bind_protocol.proofs.PlaceLemmas.{append_nil, puts_same, known_records, listed_records}
@@ -68,7 +68,7 @@ register_awaited w k y l at =
 
 module _ (w : World) (place : ℕ) (l : IsLawful w) where
   -- a Register
-  pub register_comes : (y : VarName) (k : ℕ) → slice_get w.travelling place ≡ Some (register y k) → Made (known_at w) y → Kept w (after_arrival (takes_message w y.site (msg.Register y k)) place (register y k))
+  pub register_comes : (y : VarName) (k : ℕ) → slice_get w.travelling place ≡ Some (register y k) → IsKnownToOwner (known_at w) y → Kept w (after_arrival (takes_message w y.site (msg.Register y k)) place (register y k))
   register_comes y k at made = go (owner_of (records_of w y.site).owners y) refl
     where
       h : IsSiteOf w y.site
@@ -95,7 +95,7 @@ module _ (w : World) (place : ℕ) (l : IsLawful w) where
           (answer_row w y k t place l (is ∙ ap owner_knows q) at (sent_more w.travelling (binding y t k ∷ []) place (register y k) at))
 
   -- a request
-  pub request_comes : (y : VarName) (thread : ThreadName) (t : Term) (bundle : List Equation) → slice_get w.travelling place ≡ Some (record { to = y.site; msg = msg.BindReq y thread t bundle }) → Made (known_at w) y → IsGood (known_at w) y t →
+  pub request_comes : (y : VarName) (thread : ThreadName) (t : Term) (bundle : List Equation) → slice_get w.travelling place ≡ Some (record { to = y.site; msg = msg.BindReq y thread t bundle }) → IsKnownToOwner (known_at w) y → IsGood (known_at w) y t →
       Kept w (after_arrival (takes_message w y.site (msg.BindReq y thread t bundle)) place (record { to = y.site; msg = msg.BindReq y thread t bundle }))
   request_comes y thread t bundle at made good = go (known_at w y.site y) refl
     where
@@ -138,7 +138,7 @@ module _ (w : World) (place : ℕ) (l : IsLawful w) where
   letter_of m at = each_at (IsLetter (known_at w)) w.travelling place m l.letters at
 
 -- the names that a site meets before it takes a message were made, and the site is there
-pub met_first_made : (w : World) (to : ℕ) (m : Msg) → IsLawful w → IsLetter (known_at w) (record { to = to; msg = m }) → Each (Made (known_at w)) (met_first m)
+pub met_first_made : (w : World) (to : ℕ) (m : Msg) → IsLawful w → IsLetter (known_at w) (record { to = to; msg = m }) → Each (IsKnownToOwner (known_at w)) (met_first m)
 met_first_made w to (msg.Register y k) l fits = tt
 met_first_made w to (msg.BindReq y thread t bundle) l fits = fits.2.0
 met_first_made w to (msg.Binding y t bundle) l fits = (l.truth.good y t fits.1).0
@@ -182,8 +182,8 @@ made_owner (Some (Open ks)) e = refl
 made_owner (Some (Bound t)) e = refl
 
 -- the site of a message that travels can take it
-pub site_takes : (w : World) (to : ℕ) (m : Msg) → IsLawful w → Contains w.travelling (record { to = to; msg = m }) → IsLetter (known_at w) (record { to = to; msg = m }) → TakesNews (records_of w to) m
-site_takes w to (msg.Register y k) l at fits = subst (λ (j : ℕ). Takes (records_of w j) (msg.Register y k)) (sym fits.0) (
+pub site_takes : (w : World) (to : ℕ) (m : Msg) → IsLawful w → Contains w.travelling (record { to = to; msg = m }) → IsLetter (known_at w) (record { to = to; msg = m }) → IsReceivableNews (records_of w to) m
+site_takes w to (msg.Register y k) l at fits = subst (λ (j : ℕ). IsReceivable (records_of w j) (msg.Register y k)) (sym fits.0) (
   sym (site_of w y.site l h),
   made_here,
   λ c. (register_awaited w k y l own).1 (subst (λ (ks : List ℕ). Contains ks k) (sym (listed_records w y.site y h refl)) c),
@@ -197,7 +197,7 @@ site_takes w to (msg.Register y k) l at fits = subst (λ (j : ℕ). Takes (recor
 
     made_here : IsMade (records_of w y.site).owners y
     made_here = made_owner (owner_of (records_of w y.site).owners y) (sym (ap is_some (known_records w y.site y h ∙ own_knows (records_of w y.site) y (own_here w y l h))) ∙ fits.1)
-site_takes w to (msg.BindReq y thread t bundle) l at fits = subst (λ (j : ℕ). Takes (records_of w j) (msg.BindReq y thread t bundle)) (sym fits.0) (
+site_takes w to (msg.BindReq y thread t bundle) l at fits = subst (λ (j : ℕ). IsReceivable (records_of w j) (msg.BindReq y thread t bundle)) (sym fits.0) (
   sym (site_of w y.site l h),
   made_owner (owner_of (records_of w y.site).owners y) (sym (ap is_some (known_records w y.site y h ∙ own_knows (records_of w y.site) y (own_here w y l h))) ∙ fits.1),
 )

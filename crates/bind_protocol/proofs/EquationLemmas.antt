@@ -15,9 +15,9 @@ use Rattle.variable_owner.specs.declared.owners.Owner.TheVariants.{Open, Bound}
 use Rattle.variable_owner.specs.Owners.{owner_of, sites_of}
 use Rattle.bind_protocol.specs.Records.{Records, is_own, knowledge, owner_knows}
 use Rattle.bind_protocol.specs.Rows.{register, request, binding, after_make, after_meet, meet_sends, after_meets, meets_send, after_register, register_answer, register_sends, after_ask, ask_sends, after_binding, after_want, want_sends}
-use Rattle.bind_protocol.specs.World.{GoesDown}
+use Rattle.bind_protocol.specs.World.{IsDownward}
 use Rattle.bind_protocol.specs.Count.{GoesOn}
-use Rattle.bind_protocol.specs.Learn.{Learns, Registers, MeetCase}
+use Rattle.bind_protocol.specs.Learn.{HasLearned, HasRegistered, MeetCase}
 use Rattle.bind_protocol.specs.Equations.{equations_in, IsTold, IsBound, EquationsAreOwned, KeepsEquations, RowsKeepEquations, EquationsJoin, EquationsGoOn}
 use Rattle.bind_protocol.proofs.RowCountLemmas.{name_cases}
 use Rattle.bind_protocol.proofs.LearnLemmas.{own_is, meet_case, binding_learns, make_learns, ask_learns, late_learns, registers_is}
@@ -38,14 +38,14 @@ one_told m x t (o, at, is) = go (Contains-cons_cases m o [] at)
     go (inl e) = subst (λ (s : Sent). Contains (equations_in s.msg) (x, t)) (sym e) is
     go (inr h) = absurd (nothing o h)
 
-one_asked : (m : Sent) → GoesDown m → (o : Sent) → Contains (m ∷ []) o → GoesDown o
+one_asked : (m : Sent) → IsDownward m → (o : Sent) → Contains (m ∷ []) o → IsDownward o
 one_asked m down o at = go (Contains-cons_cases m o [] at)
   where
-    go : (m ≡ o) ⊎ Contains [] o → GoesDown o
-    go (inl e) = subst GoesDown e down
+    go : (m ≡ o) ⊎ Contains [] o → IsDownward o
+    go (inl e) = subst IsDownward e down
     go (inr h) = absurd (nothing o h)
 
-none_asked : (m : Sent) → Contains [] m → GoesDown m
+none_asked : (m : Sent) → Contains [] m → IsDownward m
 none_asked m h = absurd (nothing m h)
 
 -- the Bindings of x to t tell this equation alone
@@ -64,19 +64,19 @@ bindings_tell x t (k ∷ ks) y r (m, at, is) = go (λ h. bindings_tell x t ks y 
     go rest (inl e) = one (subst (λ (s : Sent). Contains (equations_in s.msg) (y, r)) (sym e) is)
     go rest (inr h) = rest h
 
-bindings_ask : (x : VarName) (t : Term) (ks : List ℕ) (m : Sent) → Contains (map (λ (k : ℕ). binding x t k) ks) m → GoesDown m
+bindings_ask : (x : VarName) (t : Term) (ks : List ℕ) (m : Sent) → Contains (map (λ (k : ℕ). binding x t k) ks) m → IsDownward m
 bindings_ask x t [] m at = none_asked m at
 bindings_ask x t (k ∷ ks) m at = go (λ h. bindings_ask x t ks m h) (Contains-cons_cases _ m _ at)
   where
-    go : (Contains (map (λ (j : ℕ). binding x t j) ks) m → GoesDown m) → (binding x t k ≡ m) ⊎ Contains (map (λ (j : ℕ). binding x t j) ks) m → GoesDown m
-    go rest (inl e) = subst GoesDown e tt
+    go : (Contains (map (λ (j : ℕ). binding x t j) ks) m → IsDownward m) → (binding x t k ≡ m) ⊎ Contains (map (λ (j : ℕ). binding x t j) ks) m → IsDownward m
+    go rest (inl e) = subst IsDownward e tt
     go rest (inr h) = rest h
 
 -- ---- the rows
 
 -- the same is known, and what is known may be told
 same_equations : (b c : Records) (hand out : List Sent) → c.site ≡ b.site → ((y : VarName) → knowledge c y ≡ knowledge b y) → ((x : VarName) (t : Term) → IsTold out x t → IsBound b x t) →
-    ((m : Sent) → Contains out m → GoesDown m) → KeepsEquations b c hand out
+    ((m : Sent) → Contains out m → IsDownward m) → KeepsEquations b c hand out
 same_equations b c hand out site same told asked = record {
   site = site;
   stays = λ x t h. same x ∙ h;
@@ -86,9 +86,9 @@ same_equations b c hand out site same told asked = record {
 }
 
 -- one name is learnt
-learns_equations : (b c : Records) (hand out : List Sent) (x : VarName) (o : Option (Option Term)) → Learns b c x o → ((t : Term) → IsBound b x t → o ≡ Some (Some t)) →
+learns_equations : (b c : Records) (hand out : List Sent) (x : VarName) (o : Option (Option Term)) → HasLearned b c x o → ((t : Term) → IsBound b x t → o ≡ Some (Some t)) →
     ((t : Term) → o ≡ Some (Some t) → IsBound b x t ⊎ (((x.site ≡ b.site) × IsLower t x) ⊎ IsTold hand x t)) →
-    ((y : VarName) (t : Term) → IsTold out y t → IsBound c y t) → ((m : Sent) → Contains out m → GoesDown m) → KeepsEquations b c hand out
+    ((y : VarName) (t : Term) → IsTold out y t → IsBound c y t) → ((m : Sent) → Contains out m → IsDownward m) → KeepsEquations b c hand out
 learns_equations b c hand out x o l stay new told asked = record {
   site = l.site;
   stays = λ y t h. stays y t h (name_cases y x);
@@ -130,7 +130,7 @@ meet_equations b x = go (meet_case b x)
 register_equations : (b : Records) (x : VarName) (k : ℕ) → x.site ≡ b.site → KeepsEquations b (after_register b x k) [] (register_sends b x k)
 register_equations b x k own = go (owner_of b.owners x) refl
   where
-    r : Registers b (after_register b x k) x k
+    r : HasRegistered b (after_register b x k) x k
     r = registers_is b x k own
 
     go : (o : Option Owner) → owner_of b.owners x ≡ o → KeepsEquations b (after_register b x k) [] (register_answer (owner_of b.owners x) x k)
@@ -165,7 +165,7 @@ ask_equations b x t own low = go (owner_of b.owners x) refl
         open_now : knowledge b x ≡ Some None
         open_now = known (Some (Open ks)) q
 
-        l : Learns b (after_ask b x t) x (Some (Some t))
+        l : HasLearned b (after_ask b x t) x (Some (Some t))
         l = ask_learns b x t own open_now
 
         tells : (y : VarName) (s : Term) → (y ≡ x) × (s ≡ t) → IsBound (after_ask b x t) y s
@@ -203,10 +203,10 @@ told_left ms ns x t (m, at, is) = (m, Contains-append_left ms ns m at, is)
 told_right : (ms ns : List Sent) (x : VarName) (t : Term) → IsTold ns x t → IsTold (ms ++ ns) x t
 told_right ms ns x t (m, at, is) = (m, Contains-append_right ms ns m at, is)
 
-asked_both : (ms ns : List Sent) → ((m : Sent) → Contains ms m → GoesDown m) → ((m : Sent) → Contains ns m → GoesDown m) → (m : Sent) → Contains (ms ++ ns) m → GoesDown m
+asked_both : (ms ns : List Sent) → ((m : Sent) → Contains ms m → IsDownward m) → ((m : Sent) → Contains ns m → IsDownward m) → (m : Sent) → Contains (ms ++ ns) m → IsDownward m
 asked_both ms ns h k m at = go (Contains-append_cases ms ns m at)
   where
-    go : Contains ms m ⊎ Contains ns m → GoesDown m
+    go : Contains ms m ⊎ Contains ns m → IsDownward m
     go (inl q) = h m q
     go (inr q) = k m q
 

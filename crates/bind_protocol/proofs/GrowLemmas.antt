@@ -10,7 +10,7 @@ use Rattle.site_message.specs.declared.message.Sent.{Sent}
 use Rattle.site_message.specs.declared.message.Msg.{Msg}
 use Rattle.site_message.specs.declared.message.Msg.TheVariants as msg
 use Rattle.bind_protocol.specs.World.{vars_of}
-use Rattle.bind_protocol.specs.Lawful.{Knowing, Made, IsGood, Truth, IsLetter}
+use Rattle.bind_protocol.specs.Lawful.{Knowing, IsKnownToOwner, IsGood, Truth, IsLetter}
 use Rattle.std.proofs.lemmas.Bool.{eqb-true}
 use Rattle.tree_node.proofs.EnvLemmas.{each_more}
 
@@ -69,7 +69,7 @@ change_grows know more k y v ch unbound = record {
     bound_by i x t (inr n) h = ch.others i x n ∙ h
 
 pub good_stays : (know more : Knowing) → Grows know more → (x : VarName) (t : Term) → IsGood know x t → IsGood more x t
-good_stays know more g x t h = (each_more (Made know) (Made more) (vars_of t) (λ z m. g.some z.site z m) h.0, h.1)
+good_stays know more g x t h = (each_more (IsKnownToOwner know) (IsKnownToOwner more) (vars_of t) (λ z m. g.some z.site z m) h.0, h.1)
 
 abbrev Fits : Knowing → ℕ → Msg → Type 0
 Fits know to m = IsLetter know (record { to = to; msg = m })
@@ -93,18 +93,18 @@ letters_stay know more g ms h = each_more (IsLetter know) (IsLetter more) ms (λ
 abbrev pub IsTrueTo : Knowing → ℕ → VarName → Option Term → Type 0
 IsTrueTo know k y v = (t : Term) → v ≡ Some t → ((k ≡ y.site) × IsGood know y t) ⊎ (know y.site y ≡ Some (Some t))
 
-pub truth_stays : (know more : Knowing) (k : ℕ) (y : VarName) (v : Option Term) → Changes know more k y v → Grows know more → (k ≡ y.site) ⊎ Made know y → IsTrueTo know k y v → Truth know → Truth more
+pub truth_stays : (know more : Knowing) (k : ℕ) (y : VarName) (v : Option Term) → Changes know more k y v → Grows know more → (k ≡ y.site) ⊎ IsKnownToOwner know y → IsTrueTo know k y v → Truth know → Truth more
 truth_stays know more k y v ch g made true_to old = record {
   made = λ i x o h. made_by i x o (either k y i x) h;
   owned = λ i x t h. owned_by i x t (either k y i x) h;
   good = λ x t h. good_by x t (either k y x.site x) h;
 }
   where
-    y_made : (k ≡ y.site) ⊎ Made know y → Made more y
+    y_made : (k ≡ y.site) ⊎ IsKnownToOwner know y → IsKnownToOwner more y
     y_made (inl e) = subst (λ (j : ℕ). IsTrue (is_some (more j y))) e (ap is_some ch.here)
     y_made (inr m) = g.some y.site y m
 
-    made_by : (i : ℕ) (x : VarName) (o : Option Term) → Either k y i x → more i x ≡ Some o → Made more x
+    made_by : (i : ℕ) (x : VarName) (o : Option Term) → Either k y i x → more i x ≡ Some o → IsKnownToOwner more x
     made_by i x o (inl (e, f)) h = rw f (y_made made)
     made_by i x o (inr n) h = g.some x.site x (old.made i x o (sym (ch.others i x n) ∙ h))
 

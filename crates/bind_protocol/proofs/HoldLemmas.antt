@@ -14,7 +14,7 @@ use Rattle.site_message.specs.declared.message.Msg.{Msg}
 use Rattle.site_message.specs.declared.message.Msg.TheVariants as msg
 use Rattle.bind_protocol.specs.Records.{Records}
 use Rattle.bind_protocol.specs.Rows.{register, binding}
-use Rattle.bind_protocol.specs.World.{World, Holds, EachIsTold, SentOnce, GoesElsewhere, GoesDown, empty_records, new_records, new_world, records_at, knowledge_at, known_at, registered_sites, registered_at, is_register, is_binding}
+use Rattle.bind_protocol.specs.World.{World, HasInvariant, EachIsTold, SentOnce, IsElsewhere, IsDownward, empty_records, new_records, new_world, records_at, knowledge_at, known_at, registered_sites, registered_at, is_register, is_binding}
 use Rattle.bind_protocol.specs.Lawful.{IsLetter, IsLawful, met_count, known_count, register_count, binding_count, site_count}
 use Rattle.bind_protocol.specs.Calls.{Call, Make, Meet, Want, Deliver, IsAllowed, IsAfter, CallsKeep, after_call}
 use Rattle.bind_protocol.proofs.ListLemmas.{count_append, counted_there}
@@ -94,7 +94,7 @@ told_holds w l i x unbound other = go (three _ _ _ way)
         let is = the_binding w x i f.0.to f.0.msg f.2 fits in
         inr (inr (is.0, subst (λ (s : Sent). Contains w.travelling s) is.1 f.1))
 
-elsewhere : (w : World) (to : ℕ) (m : Msg) → IsLawful w → IsLetter (known_at w) (record { to = to; msg = m }) → Contains w.travelling (record { to = to; msg = m }) → GoesElsewhere (record { to = to; msg = m })
+elsewhere : (w : World) (to : ℕ) (m : Msg) → IsLawful w → IsLetter (known_at w) (record { to = to; msg = m }) → Contains w.travelling (record { to = to; msg = m }) → IsElsewhere (record { to = to; msg = m })
 elsewhere w to (msg.Register y k) l fits at = λ e.
     let own : Contains w.travelling (register y k) = subst (λ (j : ℕ). Contains w.travelling (record { to = j; msg = msg.Register y k })) fits.0 at in
     (register_awaited w k y l own).0 (sym e ∙ fits.0)
@@ -107,7 +107,7 @@ elsewhere w to (msg.Get a b) l fits at = tt
 elsewhere w to (msg.Forward a b) l fits at = tt
 elsewhere w to (msg.Put a b c) l fits at = tt
 
-down : (w : World) (to : ℕ) (m : Msg) → IsLetter (known_at w) (record { to = to; msg = m }) → GoesDown (record { to = to; msg = m })
+down : (w : World) (to : ℕ) (m : Msg) → IsLetter (known_at w) (record { to = to; msg = m }) → IsDownward (record { to = to; msg = m })
 down w to (msg.BindReq y thread t bundle) fits = fits.2.1
 down w to (msg.Register a b) fits = tt
 down w to (msg.Binding a b c) fits = tt
@@ -116,13 +116,13 @@ down w to (msg.Get a b) fits = tt
 down w to (msg.Forward a b) fits = tt
 down w to (msg.Put a b c) fits = tt
 
-pub lawful_holds : (w : World) → IsLawful w → Holds w
+pub lawful_holds : (w : World) → IsLawful w → HasInvariant w
 lawful_holds w l = record {
   owned = l.truth.owned;
   told = told_holds w l;
   once = once_holds w l;
-  elsewhere = each_in GoesElsewhere w.travelling (λ s at. elsewhere w s.to s.msg l (Each-member (IsLetter (known_at w)) w.travelling s l.letters at) at);
-  down = each_in GoesDown w.travelling (λ s at. down w s.to s.msg (Each-member (IsLetter (known_at w)) w.travelling s l.letters at));
+  elsewhere = each_in IsElsewhere w.travelling (λ s at. elsewhere w s.to s.msg l (Each-member (IsLetter (known_at w)) w.travelling s l.letters at) at);
+  down = each_in IsDownward w.travelling (λ s at. down w s.to s.msg (Each-member (IsLetter (known_at w)) w.travelling s l.letters at));
   links = λ x t h. (l.truth.good x t h).1;
 }
 

@@ -15,7 +15,7 @@ use Rattle.bind_protocol.specs.Records.{Records, is_own, knowledge, owner_knows,
 use Rattle.bind_protocol.specs.Rows.{after_make, after_meet, after_register, after_ask, after_binding, after_want}
 use Rattle.bind_protocol.proofs.LookLemmas.{in_here, in_other, last_here, last_other, owner_here, owner_other, proxy_here, proxy_other}
 use Rattle.std.proofs.lemmas.List.Elements.{Contains-append_left, Contains-append_right}
-use Rattle.bind_protocol.specs.Learn.{Learns, Registers, MeetCase, RowsTeach, KnownStays}
+use Rattle.bind_protocol.specs.Learn.{HasLearned, HasRegistered, MeetCase, RowsTeach, KnownStays}
 use Rattle.std.proofs.lemmas.Bool.Decides.{Decides-eqb}
 
 pub own_is : (b : Records) (x : VarName) → x.site ≡ b.site → is_own b x ≡ true
@@ -53,10 +53,10 @@ bound_at b x t own k = go (owner_at b x (Some t) own k)
 -- ---- the rows
 
 -- an own unbound variable is bound
-pub ask_learns : (b : Records) (x : VarName) (t : Term) → x.site ≡ b.site → knowledge b x ≡ Some None → Learns b (after_ask b x t) x (Some (Some t))
+pub ask_learns : (b : Records) (x : VarName) (t : Term) → x.site ≡ b.site → knowledge b x ≡ Some None → HasLearned b (after_ask b x t) x (Some (Some t))
 ask_learns b x t own k = go (open_at b x own k)
   where
-    go : (ks : List ℕ) × (owner_of b.owners x ≡ Some (Open ks)) → Learns b (after_ask b x t) x (Some (Some t))
+    go : (ks : List ℕ) × (owner_of b.owners x ≡ Some (Open ks)) → HasLearned b (after_ask b x t) x (Some (Some t))
     go (ks, e) = rw e (record {
       site = refl;
       here = owner_here b x (Bound t) (own_is b x own);
@@ -64,7 +64,7 @@ ask_learns b x t own k = go (open_at b x own k)
     })
 
 -- a bound one stays so
-pub late_learns : (b : Records) (x : VarName) (t r : Term) → x.site ≡ b.site → knowledge b x ≡ Some (Some r) → Learns b (after_ask b x t) x (Some (Some r))
+pub late_learns : (b : Records) (x : VarName) (t r : Term) → x.site ≡ b.site → knowledge b x ≡ Some (Some r) → HasLearned b (after_ask b x t) x (Some (Some r))
 late_learns b x t r own k = rw (bound_at b x r own k) (record {
   site = refl;
   here = owner_here b x (Bound r) (own_is b x own);
@@ -72,7 +72,7 @@ late_learns b x t r own k = rw (bound_at b x r own k) (record {
 })
 
 -- a name owned elsewhere is known to be bound
-pub binding_learns : (b : Records) (x : VarName) (t : Term) → x.site ≢ b.site → Learns b (after_binding b x t) x (Some (Some t))
+pub binding_learns : (b : Records) (x : VarName) (t : Term) → x.site ≢ b.site → HasLearned b (after_binding b x t) x (Some (Some t))
 binding_learns b x t other = record {
   site = refl;
   here = proxy_here b x _ (Some t) (not_own b x other) (in_here b.proxies x (Some t));
@@ -80,7 +80,7 @@ binding_learns b x t other = record {
 }
 
 -- an own variable is made
-pub make_learns : (b : Records) (x : VarName) → x.site ≡ b.site → Learns b (after_make b x) x (Some None)
+pub make_learns : (b : Records) (x : VarName) → x.site ≡ b.site → HasLearned b (after_make b x) x (Some None)
 make_learns b x own = record {
   site = refl;
   here = owner_here b x (Open []) (own_is b x own);
@@ -112,13 +112,13 @@ meet_case b x = own (is_own b x) refl
 
 -- ---- a site registers
 
-pub registers_is : (b : Records) (x : VarName) (k : ℕ) → x.site ≡ b.site → Registers b (after_register b x k) x k
+pub registers_is : (b : Records) (x : VarName) (k : ℕ) → x.site ≡ b.site → HasRegistered b (after_register b x k) x k
 registers_is b x k own = go (owner_of b.owners x) refl
   where
     own_true : is_own b x ≡ true
     own_true = own_is b x own
 
-    with : (r : Owner) → owner_of b.owners x ≡ Some r → Registers b (record b { owners = with_owner b.owners x (owners.with_registered r k) }) x k
+    with : (r : Owner) → owner_of b.owners x ≡ Some r → HasRegistered b (record b { owners = with_owner b.owners x (owners.with_registered r k) }) x k
     with r e = record {
       site = refl;
       same = λ y. same y (equal_var y x) refl;
@@ -153,7 +153,7 @@ registers_is b x k own = go (owner_of b.owners x) refl
             let known : knowledge b x ≡ Some (Some t) = rw own_true (ap owner_knows e) in
             let both : Some None ≡ Some (Some t) = sym u ∙ known in cc
 
-    go : (o : Option Owner) → owner_of b.owners x ≡ o → Registers b (after_register b x k) x k
+    go : (o : Option Owner) → owner_of b.owners x ≡ o → HasRegistered b (after_register b x k) x k
     go None e = rw e (record {
       site = refl;
       same = λ y. refl;
@@ -221,8 +221,8 @@ meet_known b x y h = go (meet_case b x)
         one false e = rw (l.others y (λ (q : y ≡ x). let yes : equal_var y x ≡ true = (same_name_decides y x).1 q in cc)) h
 
 -- a bind that a thread wants
-want_learns : (b : Records) (x : VarName) (t : Term) → x.site ≡ b.site → knowledge b x ≡ Some None → Learns b (after_want b x t) x (Some (Some t))
-want_learns b x t own k = subst (λ (c : Bool). Learns b (cond c (after_ask b x t) b) x (Some (Some t))) (sym (own_is b x own)) (ask_learns b x t own k)
+want_learns : (b : Records) (x : VarName) (t : Term) → x.site ≡ b.site → knowledge b x ≡ Some None → HasLearned b (after_want b x t) x (Some (Some t))
+want_learns b x t own k = subst (λ (c : Bool). HasLearned b (cond c (after_ask b x t) b) x (Some (Some t))) (sym (own_is b x own)) (ask_learns b x t own k)
 
 request_learns : (b : Records) (x : VarName) (t : Term) → x.site ≢ b.site → after_want b x t ≡ b
 request_learns b x t other = ap (λ (c : Bool). cond c (after_ask b x t) b) (not_own b x other)

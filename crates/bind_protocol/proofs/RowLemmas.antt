@@ -15,7 +15,7 @@ use Rattle.variable_owner.specs.Owners.{owner_of, sites_of, with_owner}
 use Rattle.bind_protocol.specs.Records.{Records, is_own, knowledge, owner_knows}
 use Rattle.bind_protocol.specs.Rows.{register, request, binding}
 use Rattle.bind_protocol.specs.World.{World, IsSiteOf, records_of, known_at, registered_at, with_records, with_sent, after_arrival, is_register, is_binding}
-use Rattle.bind_protocol.specs.Lawful.{Knowing, Made, IsGood, IsLetter, IsLawful, register_count, binding_count, site_count}
+use Rattle.bind_protocol.specs.Lawful.{Knowing, IsKnownToOwner, IsGood, IsLetter, IsLawful, register_count, binding_count, site_count}
 use Rattle.bind_protocol.proofs.ListLemmas.{one, count_append, count_push, count_out, each_out}
 use Rattle.bind_protocol.proofs.LookLemmas.{proxy_here, proxy_other, last_here, last_other}
 use Rattle.bind_protocol.proofs.GrowLemmas.{Changes, Grows, this_place, change_grows, letters_stay, truth_stays}
@@ -91,7 +91,7 @@ make_row w y l h new = record {
         go (inr n) = owns_others w y (Open []) h x n
 
 -- a name owned elsewhere is met for the first time
-pub meet_row : (w : World) (i : ℕ) (y : VarName) → IsLawful w → IsSiteOf w i → i ≢ y.site → known_at w i y ≡ None → Made (known_at w) y →
+pub meet_row : (w : World) (i : ℕ) (y : VarName) → IsLawful w → IsSiteOf w i → i ≢ y.site → known_at w i y ≡ None → IsKnownToOwner (known_at w) y →
     Kept w (with_sent (with_records w i (record (records_of w i) { proxies = (records_of w i).proxies ++ (y, None) ∷ [] })) (register y i ∷ []))
 meet_row w i y l h other new made = record {
   lawful = record {
@@ -163,7 +163,7 @@ bind_row w y t l h unbound good = record {
             omega arith
 
 -- a request is sent
-pub request_row : (w : World) (y : VarName) (t : Term) (thread : ThreadName) → IsLawful w → Made (known_at w) y → IsGood (known_at w) y t → Kept w (with_sent w (request y t thread ∷ []))
+pub request_row : (w : World) (y : VarName) (t : Term) (thread : ThreadName) → IsLawful w → IsKnownToOwner (known_at w) y → IsGood (known_at w) y t → Kept w (with_sent w (request y t thread ∷ []))
 request_row w y t thread l made good = record {
   lawful = record {
     numbered = l.numbered;

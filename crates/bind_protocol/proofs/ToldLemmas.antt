@@ -18,7 +18,7 @@ use Rattle.bind_protocol.specs.Rows.{sent_message, register, request, binding, a
 use Rattle.bind_protocol.specs.World.{is_register, is_binding}
 use Rattle.bind_protocol.specs.Lawful.{known_count, register_count, binding_count, site_count}
 use Rattle.bind_protocol.specs.Count.{IsNeither, GoesOn}
-use Rattle.bind_protocol.specs.Learn.{Learns, MeetCase}
+use Rattle.bind_protocol.specs.Learn.{HasLearned, MeetCase}
 use Rattle.bind_protocol.specs.Told.{open_count, AreTold, KeepsTold, RowsTell, TellingJoins, IsForSite, TellingGoesOn, WaitersAreTold}
 use Rattle.bind_protocol.proofs.ListLemmas.{one, count_append, count_push, count_cons, counted_there}
 use Rattle.bind_protocol.proofs.LookLemmas.{in_here, in_other}
@@ -187,7 +187,7 @@ module _ (b : Records) (x : VarName) (t : Term) (other : x.site ≢ b.site) wher
   abbrev c : Records
   c = after_binding b x t
 
-  l : Learns b (after_binding b x t) x (Some (Some t))
+  l : HasLearned b (after_binding b x t) x (Some (Some t))
   l = binding_learns b x t other
 
   bound_now : known_count (b.site == x.site) (knowledge c x) ≡ 1

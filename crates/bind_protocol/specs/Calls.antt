@@ -5,7 +5,7 @@ use Rattle.tree_node.specs.declared.names.ThreadName.{ThreadName}
 use Rattle.tree_node.specs.declared.node.Term.{Term}
 use Rattle.tree_node.specs.Each.{Each}
 use Rattle.tree_node.specs.Order.{IsLower}
-use Rattle.bind_protocol.specs.World.{World, Holds, IsSiteOf, IsMadeIn, EquationsStay, known_at, vars_of, new_world, after_make_at, after_meet_at, after_want_at, after_delivery}
+use Rattle.bind_protocol.specs.World.{World, HasInvariant, IsSiteOf, IsMadeIn, EquationsStay, known_at, vars_of, new_world, after_make_at, after_meet_at, after_want_at, after_delivery}
 
 -- a site makes a variable of its own that it has not made
 pub record CanMake (w : World) (i : ℕ) (x : VarName) : Type 0 where
@@ -55,4 +55,4 @@ IsAfter w (c ∷ cs) v = IsAllowed w c × IsAfter (after_call w c) cs v
 abbrev pub CallsKeep : Type 0
 CallsKeep =
     (n : ℕ) (before after : List Call) (w v : World) → IsAfter (new_world n) before w → IsAfter w after v →
-    Holds v × EquationsStay w v
+    HasInvariant v × EquationsStay w v

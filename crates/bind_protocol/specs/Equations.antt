@@ -11,7 +11,7 @@ use Rattle.site_message.specs.declared.message.Msg.{Msg}
 use Rattle.site_message.specs.declared.message.Msg.TheVariants as msg
 use Rattle.bind_protocol.specs.Records.{Records, knowledge}
 use Rattle.bind_protocol.specs.Rows.{after_make, after_meet, meet_sends, after_meets, meets_send, after_register, register_sends, after_ask, ask_sends, after_binding, after_want, want_sends}
-use Rattle.bind_protocol.specs.World.{GoesDown, empty_records}
+use Rattle.bind_protocol.specs.World.{IsDownward, empty_records}
 use Rattle.bind_protocol.specs.Count.{GoesOn}
 
 -- the equations that a message tells
@@ -33,7 +33,7 @@ pub record EquationsAreOwned (records : ℕ → Records) (travelling : List Sent
   pub known : (i : ℕ) (x : VarName) (t : Term) → IsBound (records i) x t → IsBound (records x.site) x t
   pub told : (x : VarName) (t : Term) → IsTold travelling x t → IsBound (records x.site) x t
   pub down : (x : VarName) (t : Term) → IsBound (records x.site) x t → IsLower t x
-  pub asked : (m : Sent) → Contains travelling m → GoesDown m
+  pub asked : (m : Sent) → Contains travelling m → IsDownward m
 
 -- what a site does with its records b, which are c then, and the messages that it sends, where it takes those in hand: it
 -- forgets no equation, learns one of an own variable that leads down or one that is told, tells what it knows, and asks
@@ -43,7 +43,7 @@ pub record KeepsEquations (b c : Records) (hand out : List Sent) : Type 0 where
   pub stays : (x : VarName) (t : Term) → IsBound b x t → IsBound c x t
   pub new : (x : VarName) (t : Term) → IsBound c x t → IsBound b x t ⊎ (((x.site ≡ b.site) × IsLower t x) ⊎ IsTold hand x t)
   pub told : (x : VarName) (t : Term) → IsTold out x t → IsBound c x t
-  pub asked : (m : Sent) → Contains out m → GoesDown m
+  pub asked : (m : Sent) → Contains out m → IsDownward m
 
 -- each row of the protocol does so
 pub record RowsKeepEquations : Type 0 where
@@ -56,14 +56,14 @@ pub record RowsKeepEquations : Type 0 where
       ((r : Term) → IsBound b x r → r ≡ t) → KeepsEquations b (after_binding b x t) hand []
   pub want : (b : Records) (x : VarName) (t : Term) (thread : ThreadName) → IsLower t x → KeepsEquations b (after_want b x t) [] (want_sends b x t thread)
   pub others : (b : Records) (hand out : List Sent) → ((x : VarName) (t : Term) → IsTold out x t → IsBound b x t) →
-      ((m : Sent) → Contains out m → GoesDown m) → KeepsEquations b b hand out
+      ((m : Sent) → Contains out m → IsDownward m) → KeepsEquations b b hand out
 
 -- what a site does may be taken together, a message in hand may be left unused, and what is sent may be exchanged for
 -- other messages that tell what is known, with bundles
 pub record EquationsJoin : Type 0 where
   pub together : (b c d : Records) (h g o u : List Sent) → KeepsEquations b c h o → KeepsEquations c d g u → KeepsEquations b d (h ++ g) (o ++ u)
   pub unused : (b c : Records) (h g o : List Sent) → KeepsEquations b c h o → KeepsEquations b c (h ++ g) o
-  pub sent : (b c : Records) (h o u : List Sent) → ((x : VarName) (t : Term) → IsTold u x t → IsBound c x t) → ((m : Sent) → Contains u m → GoesDown m) →
+  pub sent : (b c : Records) (h o u : List Sent) → ((x : VarName) (t : Term) → IsTold u x t → IsBound c x t) → ((m : Sent) → Contains u m → IsDownward m) →
       KeepsEquations b c h o → KeepsEquations b c h u
 
 -- a world of which one site goes on so keeps them, an equation at an owner stays, and messages may be dropped

@@ -16,16 +16,16 @@ use Rattle.bind_protocol.specs.World.{World, records_at, known_at, registered_at
 abbrev pub Knowing : Type 0
 Knowing = ℕ → VarName → Option (Option Term)
 
-abbrev pub Made : Knowing → VarName → Type 0
-Made know x = IsTrue (is_some (know x.site x))
+abbrev pub IsKnownToOwner : Knowing → VarName → Type 0
+IsKnownToOwner know x = IsTrue (is_some (know x.site x))
 
 -- the term's variables were made, and a variable is below x
 abbrev pub IsGood : Knowing → VarName → Term → Type 0
-IsGood know x t = Each (Made know) (vars_of t) × IsLower t x
+IsGood know x t = Each (IsKnownToOwner know) (vars_of t) × IsLower t x
 
 -- names that sites know were made, what they know is their owners' knowledge, and owners hold good terms
 pub record Truth (know : Knowing) : Type 0 where
-  pub made : (i : ℕ) (x : VarName) (o : Option Term) → know i x ≡ Some o → Made know x
+  pub made : (i : ℕ) (x : VarName) (o : Option Term) → know i x ≡ Some o → IsKnownToOwner know x
   pub owned : (i : ℕ) (x : VarName) (t : Term) → know i x ≡ Some (Some t) → know x.site x ≡ Some (Some t)
   pub good : (x : VarName) (t : Term) → know x.site x ≡ Some (Some t) → IsGood know x t
 
@@ -34,8 +34,8 @@ abbrev pub IsLetter : Knowing → Sent → Type 0
 IsLetter know s = fits s.msg
   where
     fits : Msg → Type 0
-    fits (msg.Register x k) = (s.to ≡ x.site) × Made know x
-    fits (msg.BindReq x thread t bundle) = (s.to ≡ x.site) × Made know x × IsGood know x t
+    fits (msg.Register x k) = (s.to ≡ x.site) × IsKnownToOwner know x
+    fits (msg.BindReq x thread t bundle) = (s.to ≡ x.site) × IsKnownToOwner know x × IsGood know x t
     fits (msg.Binding x t bundle) = (bundle ≡ []) × (know x.site x ≡ Some (Some t))
     fits _ = ⊥
 
@@ -62,7 +62,7 @@ site_count i ks = count_by (λ k. i == k) ks
 
 -- a site that met a name owned elsewhere is in exactly one place on its way to the binding: its Register travels, or
 -- it is registered, or a Binding to it travels, or it knows the binding. What came before came once
-pub record Counts (know : Knowing) (list : VarName → List ℕ) (travelling delivered : List Sent) : Type 0 where
+pub record AreCounted (know : Knowing) (list : VarName → List ℕ) (travelling delivered : List Sent) : Type 0 where
   pub one_place : (i : ℕ) (x : VarName) →
       register_count x i travelling + site_count i (list x) + binding_count x i travelling + known_count (i == x.site) (know i x)
       ≡ met_count (i == x.site) (know i x)
@@ -73,4 +73,4 @@ pub record IsLawful (w : World) : Type 0 where
   pub numbered : (i : ℕ) (b : Records) → records_at w.binders i ≡ Some b → b.site ≡ i
   pub truth : Truth (known_at w)
   pub letters : Each (IsLetter (known_at w)) w.travelling
-  pub counts : Counts (known_at w) (registered_at w) w.travelling w.delivered
+  pub counts : AreCounted (known_at w) (registered_at w) w.travelling w.delivered

@@ -6,13 +6,13 @@ use Rattle.bind_protocol.specs.Records.{Records, knowledge, IsKnown, sites_in}
 use Rattle.bind_protocol.specs.Rows.{after_make, after_meet, meet_sends, register, after_register, after_ask, after_binding, after_want}
 
 -- it is the same site; what is known of x becomes this, and of other names nothing changes
-pub record Learns (b c : Records) (x : VarName) (o : Option (Option Term)) : Type 0 where
+pub record HasLearned (b c : Records) (x : VarName) (o : Option (Option Term)) : Type 0 where
   pub site : c.site ≡ b.site
   pub here : knowledge c x ≡ o
   pub others : (y : VarName) → y ≢ x → knowledge c y ≡ knowledge b y
 
 -- nothing else is known afterwards; who was registered is, and the site k of an unbound variable
-pub record Registers (b c : Records) (x : VarName) (k : ℕ) : Type 0 where
+pub record HasRegistered (b c : Records) (x : VarName) (k : ℕ) : Type 0 where
   pub site : c.site ≡ b.site
   pub same : (y : VarName) → knowledge c y ≡ knowledge b y
   pub listed : (y : VarName) (i : ℕ) → Contains (sites_in b y) i → Contains (sites_in c y) i
@@ -23,17 +23,17 @@ pub record Registers (b c : Records) (x : VarName) (k : ℕ) : Type 0 where
 abbrev pub MeetCase : Records → VarName → Type 0
 MeetCase b x =
     ((after_meet b x ≡ b) × (meet_sends b x ≡ []) × ((x.site ≡ b.site) ⊎ IsKnown b x))
-    ⊎ (Learns b (after_meet b x) x (Some None) × (knowledge b x ≡ None) × (x.site ≢ b.site) × (meet_sends b x ≡ register x b.site ∷ []) × ((after_meet b x).owners ≡ b.owners))
+    ⊎ (HasLearned b (after_meet b x) x (Some None) × (knowledge b x ≡ None) × (x.site ≢ b.site) × (meet_sends b x ≡ register x b.site ∷ []) × ((after_meet b x).owners ≡ b.owners))
 
 -- what each row teaches. A bind that a thread wants of another's variable teaches nothing
 pub record RowsTeach : Type 0 where
-  pub make : (b : Records) (x : VarName) → x.site ≡ b.site → Learns b (after_make b x) x (Some None)
+  pub make : (b : Records) (x : VarName) → x.site ≡ b.site → HasLearned b (after_make b x) x (Some None)
   pub meet : (b : Records) (x : VarName) → MeetCase b x
-  pub register : (b : Records) (x : VarName) (k : ℕ) → x.site ≡ b.site → Registers b (after_register b x k) x k
-  pub ask : (b : Records) (x : VarName) (t : Term) → x.site ≡ b.site → knowledge b x ≡ Some None → Learns b (after_ask b x t) x (Some (Some t))
-  pub late : (b : Records) (x : VarName) (t r : Term) → x.site ≡ b.site → knowledge b x ≡ Some (Some r) → Learns b (after_ask b x t) x (Some (Some r))
-  pub binding : (b : Records) (x : VarName) (t : Term) → x.site ≢ b.site → Learns b (after_binding b x t) x (Some (Some t))
-  pub want : (b : Records) (x : VarName) (t : Term) → x.site ≡ b.site → knowledge b x ≡ Some None → Learns b (after_want b x t) x (Some (Some t))
+  pub register : (b : Records) (x : VarName) (k : ℕ) → x.site ≡ b.site → HasRegistered b (after_register b x k) x k
+  pub ask : (b : Records) (x : VarName) (t : Term) → x.site ≡ b.site → knowledge b x ≡ Some None → HasLearned b (after_ask b x t) x (Some (Some t))
+  pub late : (b : Records) (x : VarName) (t r : Term) → x.site ≡ b.site → knowledge b x ≡ Some (Some r) → HasLearned b (after_ask b x t) x (Some (Some r))
+  pub binding : (b : Records) (x : VarName) (t : Term) → x.site ≢ b.site → HasLearned b (after_binding b x t) x (Some (Some t))
+  pub want : (b : Records) (x : VarName) (t : Term) → x.site ≡ b.site → knowledge b x ≡ Some None → HasLearned b (after_want b x t) x (Some (Some t))
   pub request : (b : Records) (x : VarName) (t : Term) → x.site ≢ b.site → after_want b x t ≡ b
 
 -- what is known stays known

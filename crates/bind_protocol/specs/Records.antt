@@ -40,16 +40,16 @@ IsKnown b x = IsTrue (is_some (knowledge b x))
 
 -- the site can take the message: a registration for a variable of its own that it made, of a site that is not
 -- registered; a request for such a variable; a binding of a name that it met
-abbrev pub Takes : Records → Msg → Type 0
-Takes b (msg.Register x k) = (x.site ≡ b.site) × IsMade b.owners x × (Contains (sites_of (owner_of b.owners x)) k → ⊥)
-Takes b (msg.BindReq x thread t bundle) = (x.site ≡ b.site) × IsMade b.owners x
-Takes b (msg.Binding x t bundle) = IsMet b.proxies x
-Takes b _ = Unit {0}
+abbrev pub IsReceivable : Records → Msg → Type 0
+IsReceivable b (msg.Register x k) = (x.site ≡ b.site) × IsMade b.owners x × (Contains (sites_of (owner_of b.owners x)) k → ⊥)
+IsReceivable b (msg.BindReq x thread t bundle) = (x.site ≡ b.site) × IsMade b.owners x
+IsReceivable b (msg.Binding x t bundle) = IsMet b.proxies x
+IsReceivable b _ = Unit {0}
 
 -- and a binding tells what it did not know: so it is where no message has a bundle
-abbrev pub TakesNews : Records → Msg → Type 0
-TakesNews b (msg.Binding x t bundle) = entry_of b.proxies x ≡ Some None
-TakesNews b m = Takes b m
+abbrev pub IsReceivableNews : Records → Msg → Type 0
+IsReceivableNews b (msg.Binding x t bundle) = entry_of b.proxies x ≡ Some None
+IsReceivableNews b m = IsReceivable b m
 
 -- an answer that tells this knowledge
 abbrev pub IsKnowledge : Option (Option Term) → Knows → Type 0

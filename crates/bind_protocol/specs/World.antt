@@ -134,7 +134,7 @@ abbrev pub EquationsStay : World → World → Type 0
 EquationsStay old new = (x : VarName) (t : Term) → IsEquation old x t → IsEquation new x t
 
 -- nobody forgets: sites stay, known names stay known, and known bindings stay
-pub record Grows (old new : World) : Type 0 where
+pub record HasGrown (old new : World) : Type 0 where
   pub sites : length new.binders ≡ length old.binders
   pub known : (i : ℕ) (x : VarName) → IsTrue (is_some (known_at old i x)) → IsTrue (is_some (known_at new i x))
   pub bound : (i : ℕ) (x : VarName) (t : Term) → known_at old i x ≡ Some (Some t) → known_at new i x ≡ Some (Some t)
@@ -163,8 +163,8 @@ SentOnce w =
     × (count_by (is_binding x i) (w.delivered ++ w.travelling) ≤ 1)
 
 -- no message goes to its own sender: a Register is the asking site's, a Binding the owner's
-abbrev pub GoesElsewhere : Sent → Type 0
-GoesElsewhere s = to_other s.msg
+abbrev pub IsElsewhere : Sent → Type 0
+IsElsewhere s = to_other s.msg
   where
     to_other : Msg → Type 0
     to_other (msg.Register x k) = s.to ≢ k
@@ -172,8 +172,8 @@ GoesElsewhere s = to_other s.msg
     to_other _ = Unit {0}
 
 -- a variable that is asked to be bound to a variable is above it
-abbrev pub GoesDown : Sent → Type 0
-GoesDown s = down s.msg
+abbrev pub IsDownward : Sent → Type 0
+IsDownward s = down s.msg
   where
     down : Msg → Type 0
     down (msg.BindReq x thread t bundle) = IsLower t x
@@ -184,10 +184,10 @@ abbrev pub LinksGoDown : World → Type 0
 LinksGoDown w = (x : VarName) (t : Term) → IsEquation w x t → IsLower t x
 
 -- what holds of a world at all times
-pub record Holds (w : World) : Type 0 where
+pub record HasInvariant (w : World) : Type 0 where
   pub owned : KnowledgeIsOwned w
   pub told : EachIsTold w
   pub once : SentOnce w
-  pub elsewhere : Each GoesElsewhere w.travelling
-  pub down : Each GoesDown w.travelling
+  pub elsewhere : Each IsElsewhere w.travelling
+  pub down : Each IsDownward w.travelling
   pub links : LinksGoDown w

@@ -6,7 +6,7 @@ ghost use Rattle.proxy_table.specs.Proxies.{IsMet, entry_of, term_of};
 ghost use Rattle.proxy_table.specs.declared.proxies.Met.TheVariants.{New};
 ghost use Rattle.variable_owner.specs.Owners.{IsMade, owner_of, sites_of, binding_of};
 ghost use Rattle.variable_owner.specs.declared.owners.Asked.TheVariants.{Late};
-ghost use Rattle.bind_protocol.specs.Records.{IsKnown, IsKnowledge, Takes, is_own, knowledge};
+ghost use Rattle.bind_protocol.specs.Records.{IsKnown, IsKnowledge, IsReceivable, is_own, knowledge};
 ghost use Rattle.bind_protocol.specs.Rows.{binding, after_make, after_meet, meet_sends, after_register, register_sends, after_ask, ask_sends, after_binding, after_meet_bound, after_want, want_sends};
 ghost use Rattle.bind_protocol.specs.declared.binder.Want.TheVariants as want;
 
@@ -274,7 +274,7 @@ impl Binder {
 
     /// Whether the site can take a message of the protocol. It can take every other message.
     pub fn takes(&self, msg: &Msg) -> bool
-        ensures { IsTrue result ↔ Takes self.now msg.now }
+        ensures { IsTrue result ↔ IsReceivable self.now msg.now }
     {
         match msg {
             Msg::Register { var, asking } => {

@@ -3,9 +3,9 @@
 ghost use Rattle.std.specs.Prelude.{◌≡◌, ◌↔◌, ◌<◌, ◌≤◌, [], ◌∷◌, ◌++◌, length, remove, slice_get, Some, None, IfOk, OnOk, OnErr, IsErrOf};
 ghost use Rattle.tree_node.specs.Each.{Each};
 ghost use Rattle.variable_owner.specs.Owners.{IsMade};
-ghost use Rattle.bind_protocol.specs.Records.{IsKnowledge, TakesNews, knowledge};
+ghost use Rattle.bind_protocol.specs.Records.{IsKnowledge, IsReceivableNews, knowledge};
 ghost use Rattle.bind_protocol.specs.Rows.{after_meet, meet_sends, after_want, want_sends, after_message, message_sends};
-ghost use Rattle.bind_protocol.specs.World.{Holds, Grows, IsFront, IsSiteOf, IsMadeIn, known_at, new_records, new_world, after_make_at, after_meet_at, after_meeting, after_want_at, takes_message, met_first, after_arrival, after_delivery, field_vars, vars_of};
+ghost use Rattle.bind_protocol.specs.World.{HasInvariant, HasGrown, IsFront, IsSiteOf, IsMadeIn, known_at, new_records, new_world, after_make_at, after_meet_at, after_meeting, after_want_at, takes_message, met_first, after_arrival, after_delivery, field_vars, vars_of};
 ghost use Rattle.site_message.specs.declared.reason.DeliverError.TheVariants.{NotThere};
 ghost use Rattle.bind_protocol.specs.Count.{RowsCount, RowsHear, CountsJoin, CountsGoOn, CountedOnce, MessagesComeReady};
 ghost use Rattle.bind_protocol.specs.Learn.{RowsTeach, KnownStays};
@@ -154,7 +154,7 @@ fn want_at(
 
 // A site takes a message.
 fn take_at(binder: &mut Binder, travelling: &mut Outbox, msg: Msg) -> Result<(), AllocError>
-    requires { TakesNews binder.old msg }
+    requires { IsReceivableNews binder.old msg }
     ensures records { OnOk result (binder.new ≡ after_message binder.old msg) }
     ensures sent { OnOk result (travelling.new ≡ travelling.old ++ message_sends binder.old msg) }
     ensures same { OnErr result (binder.new ≡ binder.old) }
@@ -186,7 +186,7 @@ fn come(
     sent: Sent,
 ) -> Result<(), AllocError>
     requires there { slice_get travelling.old place ≡ Some sent }
-    requires taken { TakesNews binder.old sent.msg }
+    requires taken { IsReceivableNews binder.old sent.msg }
     ensures records { OnOk result (binder.new ≡ after_message binder.old sent.msg) }
     ensures travelling { OnOk result (travelling.new ≡ remove (travelling.old ++ message_sends binder.old sent.msg) place) }
     ensures delivered { OnOk result (delivered.new.items ≡ delivered.old.items ++ sent ∷ []) }
@@ -209,7 +209,7 @@ impl BindWorld {
     pub fn new(alloc: Global, sites: u32) -> Result<BindWorld, AllocError>
         requires { (1 ≤ sites) × (sites ≤ 64) }
         ensures new { IfOk result (λ w. w ≡ new_world sites) }
-        ensures holds { IfOk result Holds }
+        ensures holds { IfOk result HasInvariant }
     {
         let binders = new_binders(alloc, sites)?;
         Ok(BindWorld {
@@ -246,8 +246,8 @@ impl BindWorld {
         requires { CanMake self.old site var }
         ensures ok { OnOk result (self.new ≡ after_make_at self.old site var) }
         ensures err { OnErr result (self.new ≡ self.old) }
-        ensures holds { Holds self.new }
-        ensures grows { Grows self.old self.new }
+        ensures holds { HasInvariant self.new }
+        ensures grows { HasGrown self.old self.new }
     {
         self.binders[site as usize - 1].make(var)
     }
@@ -257,8 +257,8 @@ impl BindWorld {
         requires { CanMeet self.old site var }
         ensures ok { OnOk result (self.new ≡ after_meet_at self.old site var) }
         ensures err { OnErr result (self.new ≡ self.old) }
-        ensures holds { Holds self.new }
-        ensures grows { Grows self.old self.new }
+        ensures holds { HasInvariant self.new }
+        ensures grows { HasGrown self.old self.new }
         ensures front { IsFront self.old.travelling self.new.travelling }
         ensures delivered { self.new.delivered ≡ self.old.delivered }
     {
@@ -280,8 +280,8 @@ impl BindWorld {
         requires { CanWant self.old site var term }
         ensures ok { OnOk result (self.new ≡ after_want_at self.old site var term thread) }
         ensures err { OnErr result (self.new ≡ self.old) }
-        ensures holds { Holds self.new }
-        ensures grows { Grows self.old self.new }
+        ensures holds { HasInvariant self.new }
+        ensures grows { HasGrown self.old self.new }
     {
         want_at(
             &mut self.binders[site as usize - 1],
@@ -297,8 +297,8 @@ impl BindWorld {
         requires site { IsSiteOf self.old site }
         requires made { Each (IsMadeIn self.old) vars.now }
         ensures ok { OnOk result (self.new ≡ after_meeting self.old site vars.now) }
-        ensures holds { OnErr result (Holds self.new) }
-        ensures grows { Grows self.old self.new }
+        ensures holds { OnErr result (HasInvariant self.new) }
+        ensures grows { HasGrown self.old self.new }
         ensures front { IsFront self.old.travelling self.new.travelling }
         ensures delivered { self.new.delivered ≡ self.old.delivered }
     {
@@ -313,8 +313,8 @@ impl BindWorld {
         requires site { IsSiteOf self.old site }
         requires made { Each (IsMadeIn self.old) (field_vars fields.now) }
         ensures ok { OnOk result (self.new ≡ after_meeting self.old site (field_vars fields.now)) }
-        ensures holds { OnErr result (Holds self.new) }
-        ensures grows { Grows self.old self.new }
+        ensures holds { OnErr result (HasInvariant self.new) }
+        ensures grows { HasGrown self.old self.new }
         ensures front { IsFront self.old.travelling self.new.travelling }
         ensures delivered { self.new.delivered ≡ self.old.delivered }
     {
@@ -330,8 +330,8 @@ impl BindWorld {
         requires site { IsSiteOf self.old site }
         requires made { Each (IsMadeIn self.old) (vars_of term.now) }
         ensures ok { OnOk result (self.new ≡ after_meeting self.old site (vars_of term.now)) }
-        ensures holds { OnErr result (Holds self.new) }
-        ensures grows { Grows self.old self.new }
+        ensures holds { OnErr result (HasInvariant self.new) }
+        ensures grows { HasGrown self.old self.new }
         ensures front { IsFront self.old.travelling self.new.travelling }
         ensures delivered { self.new.delivered ≡ self.old.delivered }
     {
@@ -348,8 +348,8 @@ impl BindWorld {
         requires site { IsSiteOf self.old site }
         requires made { Each (IsMadeIn self.old) (met_first msg.now) }
         ensures ok { OnOk result (self.new ≡ after_meeting self.old site (met_first msg.now)) }
-        ensures holds { OnErr result (Holds self.new) }
-        ensures grows { Grows self.old self.new }
+        ensures holds { OnErr result (HasInvariant self.new) }
+        ensures grows { HasGrown self.old self.new }
         ensures front { IsFront self.old.travelling self.new.travelling }
         ensures delivered { self.new.delivered ≡ self.old.delivered }
     {
@@ -364,8 +364,8 @@ impl BindWorld {
         requires { slice_get self.old.travelling place ≡ Some sent }
         ensures ok { OnOk result (self.new ≡ after_arrival (takes_message self.old sent.to sent.msg) place sent) }
         ensures err { OnErr result (self.new ≡ self.old) }
-        ensures holds { Holds self.new }
-        ensures grows { Grows self.old self.new }
+        ensures holds { HasInvariant self.new }
+        ensures grows { HasGrown self.old self.new }
     {
         come(
             &mut self.binders[sent.to as usize - 1],
@@ -385,8 +385,8 @@ impl BindWorld {
         ensures ok { OnOk result (self.new ≡ after_delivery self.old place) }
         ensures still { OnErr result (IsFront self.old.travelling self.new.travelling) }
         ensures undelivered { OnErr result (self.new.delivered ≡ self.old.delivered) }
-        ensures holds { Holds self.new }
-        ensures grows { Grows self.old self.new }
+        ensures holds { HasInvariant self.new }
+        ensures grows { HasGrown self.old self.new }
     {
         if place >= self.travelling.len() {
             return Err(DeliverError::NotThere);

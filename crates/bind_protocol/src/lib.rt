@@ -7,7 +7,7 @@
 //! each name and site, and finds its site ready), `rows_tell` and `telling_goes_on` (a site that waits for a name's binding
 //! is registered, or its Register or a Binding to it travels), `rows_keep_equations` and `equations_go_on` (what sites know
 //! and messages tell are owners' equations, which stay and lead down). Of sites whose messages travel in any order, `laws::BindWorld` makes
-//! every call and delivery, and `Holds` and `calls_keep` say what holds after every list of them.
+//! every call and delivery, and `HasInvariant` and `calls_keep` say what holds after every list of them.
 //!
 //! It stands on `proxy_table`, `variable_owner` and `site_message`. Tests (`unit_tests`) show worked lists of calls, and
 //! that the calls go well with ample memory.

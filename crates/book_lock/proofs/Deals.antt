@@ -8,7 +8,7 @@ use Rattle.site_message.specs.declared.story.Sight.{Sight}
 use Rattle.book_lock.specs.declared.view.Part.{Part}
 use Rattle.book_lock.specs.declared.view.View.{View}
 use Rattle.book_lock.specs.declared.lock.SiteSeat.{SiteSeat}
-use Rattle.book_lock.specs.Rule.{part, outside, Agrees, parts_from, head_of, split_left, split_right, join_both, Each, LockRule}
+use Rattle.book_lock.specs.Rule.{part, outside, AreInAgreement, parts_from, head_of, split_left, split_right, join_both, Each, LockRule}
 use Rattle.book_lock.specs.Seats.{AreNewSeats, IsSeatOutside, IsOutsideOf, seat_part, last_seen, parts_of}
 use Rattle.book_lock.proofs.Parts.{each_part_from}
 use Rattle.book_lock.proofs.Steps.{deals, gathers, ends}
@@ -65,17 +65,17 @@ unfolding first_view
 view_is w s is out = ap first_view (sym is ∙ out)
 
 pub ends_as : {B : Type 0} (sight : B → Sight) (n id : ℕ) (m : Me (Option B) View) (ps : List Part) (ws : List ℕ) (xs : List (Option B)) → m ≡ (outside ps, []) → length ps ≡ n → Final (Seen (LockRule sight n) id m.0) ws xs
-    → (b : B) × (get_elem? xs 0 ≡ some (Some b)) × Each (λ p. Agrees p.site (sight b) p.seen) ps
+    → (b : B) × (get_elem? xs 0 ≡ some (Some b)) × Each (λ p. AreInAgreement p.site (sight b) p.seen) ps
 ends_as sight n id m ps ws xs e all f = ends sight n id ps ws xs all (subst (λ (z : View). Final (Seen (LockRule sight n) id z) ws xs) (ap (λ z. z.0) e) f)
 
-pub each_seat : (x : Sight) (table : TableId) (ss : List SiteSeat) → Each (IsOutsideOf table) ss → Each (λ p. Agrees p.site x p.seen) (map seat_part ss) → Each (λ s. Agrees s.site x (last_seen s)) ss
+pub each_seat : (x : Sight) (table : TableId) (ss : List SiteSeat) → Each (IsOutsideOf table) ss → Each (λ p. AreInAgreement p.site x p.seen) (map seat_part ss) → Each (λ s. AreInAgreement s.site x (last_seen s)) ss
 each_seat x table [] out h = tt
 each_seat x table (s ∷ ss) out h =
     let p : seat_part s ≡ part s.site (last_seen s) = ap (λ vs. head_of (parts_of vs)) out.0.1 in
-    (subst (λ (q : Part). Agrees q.site x q.seen) p h.0, each_seat x table ss out.1 h.1)
+    (subst (λ (q : Part). AreInAgreement q.site x q.seen) p h.0, each_seat x table ss out.1 h.1)
 
 pub finished : {B : Type 0} (sight : B → Sight) (n id : ℕ) (m : Me (Option B) View) (table : TableId) (ss : List SiteSeat) (ws : List ℕ) (xs : List (Option B)) (o : Option B) → m ≡ (outside (map seat_part ss), []) → length ss ≡ n
-    → Each (IsOutsideOf table) ss → Final (Seen (LockRule sight n) id m.0) ws xs → get_elem? xs 0 ≡ some o → (b : B) × (o ≡ Some b) × Each (λ s. Agrees s.site (sight b) (last_seen s)) ss
+    → Each (IsOutsideOf table) ss → Final (Seen (LockRule sight n) id m.0) ws xs → get_elem? xs 0 ≡ some o → (b : B) × (o ≡ Some b) × Each (λ s. AreInAgreement s.site (sight b) (last_seen s)) ss
 finished sight n id m table ss ws xs o e all out f at =
     let t = ends_as sight n id m (map seat_part ss) ws xs e (length-map ss seat_part ∙ all) f in
     (t.0, some-injective _ _ (sym at ∙ t.1), each_seat (sight t.0) table ss out t.2)

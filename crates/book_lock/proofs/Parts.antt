@@ -9,7 +9,7 @@ use Rattle.site_message.specs.declared.turn.Turn.{Turn}
 use Rattle.site_message.specs.Story.{own}
 use Rattle.book_lock.specs.declared.view.Part.{Part}
 use Rattle.book_lock.specs.declared.view.View.{View}
-use Rattle.book_lock.specs.Rule.{Agrees, IsLawfulChange, part, parts_from, total, one_if_some, Each}
+use Rattle.book_lock.specs.Rule.{AreInAgreement, IsLawfulChange, part, parts_from, total, one_if_some, Each}
 
 module _ {A : Type 0} where
   pub same_at : (l : List A) (i j : ℕ) (a b : A) → get_elem? l i ≡ some a → get_elem? l j ≡ some b → i ≡ j → a ≡ b
@@ -84,11 +84,11 @@ pub each_part_from : (P : Part → Type 0) (n k : ℕ) (x : Sight) → ((j : ℕ
 each_part_from P zero k x h = tt
 each_part_from P (suc n) k x h = (h k (le_refl k), each_part_from P n (k + 1) x (λ j l. h j (omega arith)))
 
-pub agrees_refl : (k : ℕ) (x : Sight) → Agrees k x x
+pub agrees_refl : (k : ℕ) (x : Sight) → AreInAgreement k x x
 agrees_refl k x = record { own_entries = refl; own_hands = refl; begins = ([], refl); reason = λ r e. e; fixed = refl }
 
 -- what another seat does inside leaves a seat's knowledge true
-pub moved : (j k : ℕ) (seen old new : Sight) → j ≢ k → IsLawfulChange k old new → Agrees j old seen → Agrees j new seen
+pub moved : (j k : ℕ) (seen old new : Sight) → j ≢ k → IsLawfulChange k old new → AreInAgreement j old seen → AreInAgreement j new seen
 moved j k seen old new other m a = let es = m.appended in record {
   own_entries = ap (own j) es.1 ∙ (filter-append (λ (e : Turn). eqb e.site j) es.0 old.entries ∙ (ap (λ l. l ++ own j old.entries) (es.2 j other) ∙ a.own_entries));
   own_hands = m.other_hands j other ∙ a.own_hands;

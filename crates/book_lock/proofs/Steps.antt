@@ -11,7 +11,7 @@ use Rattle.atomic_table.proofs.Lists.{at_set, set_here, set_else, set_again, at_
 use Rattle.site_message.specs.declared.story.Sight.{Sight}
 use Rattle.book_lock.specs.declared.view.Part.{Part}
 use Rattle.book_lock.specs.declared.view.View.{View}
-use Rattle.book_lock.specs.Rule.{Agrees, IsLawfulChange, part, view, outside, parts_from, total, waits, share, Each, head_of, ticket_of, SeatRule, ValueIsPlaced, LockRule, DrawStep, LookStep, PassStep}
+use Rattle.book_lock.specs.Rule.{AreInAgreement, IsLawfulChange, part, view, outside, parts_from, total, ticket_count, share, Each, head_of, ticket_of, SeatRule, ValueIsPlaced, LockRule, DrawStep, LookStep, PassStep}
 use Rattle.book_lock.specs.Seats.{HasTicket, my_part}
 use Rattle.book_lock.proofs.Parts.{set_word, same_at, at_inside, at_end, each_map, each_append, all_set, total_set, total_push, total_le, total_two, waits_le, length_parts, each_part_from, agrees_refl, moved}
 
@@ -61,7 +61,7 @@ module _ {B : Type 0} (sight : B → Sight) where
           serving_word = get_or-set_other s.words 0 1 new 0 (λ e. omega arith) ∙ r.serving_word;
           few = r.few;
           shared = let h = total_set share s.views id v w at in let k = r.shared in omega arith;
-          queue = let h = total_set waits s.views id v w at in omega arith;
+          queue = let h = total_set ticket_count s.views id v w at in omega arith;
           each_seat = all_set (SeatRule (r.drawn + 1) r.served r.out r.now r.owner holder') s.views id w
               record {
                 each_part = mine.each_part;
@@ -82,10 +82,10 @@ module _ {B : Type 0} (sight : B → Sight) where
   draws_as slots n id m p e = subst (λ (x : Me (Option B) View). Allows (LockRule sight n) slots id x 0 (λ x. (x + 1) % 2 ^ 64) (DrawStep (step slots 0 1 0 none) x)) (sym e) (draws slots n id p)
 
   -- the number of those that wait is small
-  few_wait : (n : ℕ) (s : S) (r : LockRule sight n s) → total waits s.views ≤ n
+  few_wait : (n : ℕ) (s : S) (r : LockRule sight n s) → total ticket_count s.views ≤ n
   few_wait n s r =
       let k = r.shared in
-      let h = total_le waits share s.views (λ i v e. waits_le v.ticket (length v.parts) (λ t is. let q = (r.each_seat i v e).queued t is in q.3)) in
+      let h = total_le ticket_count share s.views (λ i v e. waits_le v.ticket (length v.parts) (λ t is. let q = (r.each_seat i v e).queued t is in q.3)) in
       omega arith
 
   -- at home, where nobody has reached its turn
@@ -120,7 +120,7 @@ module _ {B : Type 0} (sight : B → Sight) where
       let h = home r.out s.homes s.views r.now r.placed nobody in
       let b : B = h.0 in
       let w = view (part k (sight b) ∷ []) (Some t) true in
-      let a : Agrees k r.now x = (mine.each_part).0.1 in (
+      let a : AreInAgreement k r.now x = (mine.each_part).0.1 in (
         w,
         takes 0 (Some b),
         h.1,
@@ -136,10 +136,10 @@ module _ {B : Type 0} (sight : B → Sight) where
           serving_word = get_or-set_same s.words 1 word 0 (omega arith) ∙ r.serving_word;
           few = r.few;
           shared = let i = total_set share s.views id v w at in let j = r.shared in omega arith;
-          queue = let i = total_set waits s.views id v w at in let j = r.queue in omega arith;
+          queue = let i = total_set ticket_count s.views id v w at in let j = r.queue in omega arith;
           each_seat = all_set (SeatRule r.drawn r.served true r.now r.owner r.holder) s.views id w
               record {
-                each_part = (((mine.each_part).0.0, subst (λ (z : Sight). Agrees k r.now z) (sym h.2) (agrees_refl k r.now)), tt);
+                each_part = (((mine.each_part).0.0, subst (λ (z : Sight). AreInAgreement k r.now z) (sym h.2) (agrees_refl k r.now)), tt);
                 queued = mine.queued;
                 turn = λ _. (ap (λ (y : ℕ). Some y) hit, refl, (k, ap (λ (z : Sight). part k z ∷ []) h.2));
               }
@@ -151,7 +151,7 @@ module _ {B : Type 0} (sight : B → Sight) where
           placed = (id, w, set_here s.views id w (at_inside s.views id v at), refl);
         },
         (
-          (λ _. (b, subst (λ (z : Sight). Agrees k z x) (sym h.2) a, refl)),
+          (λ _. (b, subst (λ (z : Sight). AreInAgreement k z x) (sym h.2) a, refl)),
           (λ ne. absurd (ne (r.serving_word ∙ ap (λ y. y % 2 ^ 64) (sym hit)))),
         ),
       ))
@@ -200,7 +200,7 @@ module _ {B : Type 0} (sight : B → Sight) where
           serving_word = get_or-set_same s.words 1 new 0 (omega arith) ∙ one_more r.served _ r.serving_word;
           few = r.few;
           shared = let i = total_set share s.views id v w at in let j = r.shared in omega arith;
-          queue = let i = total_set waits s.views id v w at in let j = r.queue in omega arith;
+          queue = let i = total_set ticket_count s.views id v w at in let j = r.queue in omega arith;
           each_seat = all_set (SeatRule r.drawn (r.served + 1) false (sight b) r.owner r.holder) s.views id w
               record {
                 each_part = ((owns, agrees_refl k (sight b)), tt);
@@ -208,7 +208,7 @@ module _ {B : Type 0} (sight : B → Sight) where
                 turn = λ e. absurd (off e);
               }
               (λ j u other e. let f = r.each_seat j u e in record {
-                each_part = each_map (λ (p : Part). (r.owner p.site ≡ j) × Agrees p.site r.now p.seen) (λ (p : Part). (r.owner p.site ≡ j) × Agrees p.site (sight b) p.seen)
+                each_part = each_map (λ (p : Part). (r.owner p.site ≡ j) × AreInAgreement p.site r.now p.seen) (λ (p : Part). (r.owner p.site ≡ j) × AreInAgreement p.site (sight b) p.seen)
                     (λ (p : Part) a. (a.0, moved p.site k p.seen r.now (sight b) (λ same. other (sym a.0 ∙ (ap r.owner same ∙ owns))) after a.1)) u.parts f.each_part;
                 queued = λ t' is. let z = f.queued t' is in let low = z.0 in let high = z.1 in
                     let ne : t' ≢ r.served = λ same. other (sym z.2 ∙ (ap r.holder same ∙ holds)) in (omega arith, high, z.2, z.3);
@@ -242,7 +242,7 @@ module _ {B : Type 0} (sight : B → Sight) where
         serving_word = r.serving_word;
         few = r.few;
         shared = let i = total_set share s.views id v left at in let j = total_push share vs right in let l = r.shared in omega arith;
-        queue = let i = total_set waits s.views id v left at in let j = total_push waits vs right in let l = r.queue in omega arith;
+        queue = let i = total_set ticket_count s.views id v left at in let j = total_push ticket_count vs right in let l = r.queue in omega arith;
         each_seat = λ j u e. ⊎_elim
             (λ (old : get_elem? vs j ≡ some u). all_set F s.views id left
             record {
@@ -251,7 +251,7 @@ module _ {B : Type 0} (sight : B → Sight) where
               turn = λ is. absurd (off is);
             }
             (λ i w other at'. let f = r.each_seat i w at' in record {
-              each_part = each_map (λ (p : Part). (r.owner p.site ≡ i) × Agrees p.site r.now p.seen) (λ (p : Part). (owner' p.site ≡ i) × Agrees p.site r.now p.seen)
+              each_part = each_map (λ (p : Part). (r.owner p.site ≡ i) × AreInAgreement p.site r.now p.seen) (λ (p : Part). (owner' p.site ≡ i) × AreInAgreement p.site r.now p.seen)
                   (λ (p : Part) a. (ap (λ c. cond c seat (r.owner p.site)) (ne_eqb p.site k (λ same. other (sym a.0 ∙ (ap r.owner same ∙ mine.each_part.0.0)))) ∙ a.0, a.1)) w.parts f.each_part;
               queued = f.queued;
               turn = f.turn;
@@ -265,8 +265,8 @@ module _ {B : Type 0} (sight : B → Sight) where
         placed = placed_push r.out s.homes vs r.now right (placed_set r.out s.homes s.views r.now id v left at refl r.placed);
       }
     where
-      each_both : (qs : List Part) (i : ℕ) → Each (λ p. p.site ≢ k) qs → Each (λ p. (r.owner p.site ≡ i) × Agrees p.site r.now p.seen) qs
-          → Each (λ p. (cond (eqb p.site k) (length (set s.views id (outside ps))) (r.owner p.site) ≡ i) × Agrees p.site r.now p.seen) qs
+      each_both : (qs : List Part) (i : ℕ) → Each (λ p. p.site ≢ k) qs → Each (λ p. (r.owner p.site ≡ i) × AreInAgreement p.site r.now p.seen) qs
+          → Each (λ p. (cond (eqb p.site k) (length (set s.views id (outside ps))) (r.owner p.site) ≡ i) × AreInAgreement p.site r.now p.seen) qs
       each_both [] i a h = tt
       each_both (q ∷ qs) i a h = ((ap (λ c. cond c (length (set s.views id (outside ps))) (r.owner q.site)) (ne_eqb q.site k a.0) ∙ h.0.0, h.0.1), each_both qs i a.1 h.1)
 
@@ -282,8 +282,8 @@ module _ {B : Type 0} (sight : B → Sight) where
       let theirs = r.each_seat other w theirs_at in
       let owner' : ℕ → ℕ = λ j. cond (eqb (r.owner j) other) id (r.owner j) in
       let F : ℕ → View → Type 0 = SeatRule r.drawn r.served r.out r.now owner' r.holder in
-      let G : ℕ → Part → Type 0 = λ i p. (r.owner p.site ≡ i) × Agrees p.site r.now p.seen in
-      let G' : ℕ → Part → Type 0 = λ i p. (owner' p.site ≡ i) × Agrees p.site r.now p.seen in
+      let G : ℕ → Part → Type 0 = λ i p. (r.owner p.site ≡ i) × AreInAgreement p.site r.now p.seen in
+      let G' : ℕ → Part → Type 0 = λ i p. (owner' p.site ≡ i) × AreInAgreement p.site r.now p.seen in
       let keep : (i : ℕ) → i ≢ other → (p : Part) → G i p → G' i p = λ i ne p a. (ap (λ c. cond c id (r.owner p.site)) (ne_eqb (r.owner p.site) other (λ same. ne (sym a.0 ∙ same))) ∙ a.0, a.1) in
       let change : (p : Part) → G other p → G' id p = λ p a. (ap (λ c. cond c id (r.owner p.site)) (eq-eqb (r.owner p.site) other a.0), a.1) in record {
         drawn = r.drawn;
@@ -297,7 +297,7 @@ module _ {B : Type 0} (sight : B → Sight) where
         serving_word = r.serving_word;
         few = r.few;
         shared = let i = total_set share s.views id v both at in let j = total_set share vs other w (outside []) at' in let l = r.shared in let m = length-append qs ps in omega arith;
-        queue = let i = total_set waits s.views id v both at in let j = total_set waits vs other w (outside []) at' in let l = r.queue in omega arith;
+        queue = let i = total_set ticket_count s.views id v both at in let j = total_set ticket_count vs other w (outside []) at' in let l = r.queue in omega arith;
         each_seat = all_set F vs other (outside [])
             record { each_part = tt; queued = λ t' is. absurd (cc); turn = λ is. absurd (off is) }
             (λ j u far e. ⊎_elim
@@ -332,7 +332,7 @@ module _ {B : Type 0} (sight : B → Sight) where
     where
       one : (j : ℕ) (v : View) → get_elem? (outside (parts_from n 1 (sight b)) ∷ []) j ≡ some v → SeatRule 0 0 false (sight b) (λ _. 0) (λ _. 0) j v
       one zero v e = subst (SeatRule 0 0 false (sight b) (λ _. 0) (λ _. 0) 0) (some-injective _ _ e) record {
-        each_part = each_part_from (λ p. (0 ≡ 0) × Agrees p.site (sight b) p.seen) n 1 (sight b) (λ j l. (refl, agrees_refl j (sight b)));
+        each_part = each_part_from (λ p. (0 ≡ 0) × AreInAgreement p.site (sight b) p.seen) n 1 (sight b) (λ j l. (refl, agrees_refl j (sight b)));
         queued = λ t is. absurd (cc);
         turn = λ is. absurd (off is);
       }
@@ -340,7 +340,7 @@ module _ {B : Type 0} (sight : B → Sight) where
 
   -- the seat that has all parts, at the end
   pub ends : (n id : ℕ) (ps : List Part) (ws : List ℕ) (xs : List (Option B)) → length ps ≡ n → Final (Seen (LockRule sight n) id (outside ps)) ws xs
-      → (b : B) × (get_elem? xs 0 ≡ some (Some b)) × Each (λ p. Agrees p.site (sight b) p.seen) ps
+      → (b : B) × (get_elem? xs 0 ≡ some (Some b)) × Each (λ p. AreInAgreement p.site (sight b) p.seen) ps
   ends n id ps ws xs all f =
       let s : S = f.0 in
       let r : LockRule sight n s = f.1.0 in
@@ -357,7 +357,7 @@ module _ {B : Type 0} (sight : B → Sight) where
       let sum = r.shared in
       absurd (omega arith)) in
       let h = home r.out s.homes s.views r.now r.placed nobody in
-      (h.0, f.4 0 (Some h.0) h.1, each_map (λ (p : Part). (r.owner p.site ≡ id) × Agrees p.site r.now p.seen) (λ (p : Part). Agrees p.site (sight h.0) p.seen) (λ (p : Part) a. subst (λ (z : Sight). Agrees p.site z p.seen) (sym h.2) a.1) ps mine.each_part)
+      (h.0, f.4 0 (Some h.0) h.1, each_map (λ (p : Part). (r.owner p.site ≡ id) × AreInAgreement p.site r.now p.seen) (λ (p : Part). AreInAgreement p.site (sight h.0) p.seen) (λ (p : Part) a. subst (λ (z : Sight). AreInAgreement p.site z p.seen) (sym h.2) a.1) ps mine.each_part)
 
   pub passes_as : (slots n id : ℕ) (m : Me (Option B) View) (p : Part) (t : ℕ) (b : B) → slots ≡ 1 → IsLawfulChange p.site p.seen (sight b) → m ≡ (view (p ∷ []) (Some t) true, (0, Some b) ∷ [])
       → Allows (LockRule sight n) slots id m 1 (λ y. (y + 1) % 2 ^ 64) (PassStep sight (step slots 1 1 0 none) m)
@@ -366,7 +366,7 @@ module _ {B : Type 0} (sight : B → Sight) where
 
   -- what a look tells a seat that waits
   pub took : (m m' : Me (Option B) View) (n ticket : ℕ) (w : HasTicket ticket m) → n ≡ ticket → LookStep sight (step 1 1 0 0 none) m n m'
-      → (b : B) × Agrees (my_part m).site (sight b) (my_part m).seen × (m' ≡ (view (part (my_part m).site (sight b) ∷ []) (Some w.0) true, (0, Some b) ∷ []))
+      → (b : B) × AreInAgreement (my_part m).site (sight b) (my_part m).seen × (m' ≡ (view (part (my_part m).site (sight b) ∷ []) (Some w.0) true, (0, Some b) ∷ []))
   took m m' n ticket w same l =
       let has : m.0.ticket ≡ Some w.0 = ap (λ (x : Me (Option B) View). x.0.ticket) w.2 in
       let free : m.1 ≡ [] = ap (λ (x : Me (Option B) View). x.1) w.2 in

@@ -13,14 +13,14 @@ use Rattle.book_lock.specs.declared.view.Part.{Part}
 use Rattle.book_lock.specs.declared.view.View.{View}
 
 -- what is now goes on from what was seen
-abbrev pub BeginsWith : List Turn → List Turn → Type 0
-BeginsWith whole seen = (more : List Turn) × (whole ≡ more ++ seen)
+abbrev pub IsContinuation : List Turn → List Turn → Type 0
+IsContinuation whole seen = (more : List Turn) × (whole ≡ more ++ seen)
 
 -- what is now is what the seat of the site k saw, and what other sites have done since
-pub record Agrees (k : ℕ) (now seen : Sight) : Type 0 where
+pub record AreInAgreement (k : ℕ) (now seen : Sight) : Type 0 where
   pub own_entries : own k now.entries ≡ own k seen.entries
   pub own_hands : hand k now.hands ≡ hand k seen.hands
-  pub begins : BeginsWith now.entries seen.entries
+  pub begins : IsContinuation now.entries seen.entries
   pub reason : (r : Reason) → seen.reason ≡ Some r → now.reason ≡ Some r
   pub fixed : now.fixed ≡ seen.fixed
 
@@ -53,8 +53,8 @@ abbrev pub one_if_some : Option ℕ → ℕ
 one_if_some None = 0
 one_if_some (Some t) = 1
 
-abbrev pub waits : View → ℕ
-waits v = one_if_some v.ticket
+abbrev pub ticket_count : View → ℕ
+ticket_count v = one_if_some v.ticket
 
 abbrev pub share : View → ℕ
 share v = length v.parts
@@ -69,7 +69,7 @@ ticket_of (Some t) = t
 
 -- what the rule says of the view of one seat
 pub record SeatRule (drawn served : ℕ) (out : Bool) (now : Sight) (owner holder : ℕ → ℕ) (seat : ℕ) (v : View) : Type 0 where
-  pub each_part : Each (λ p. (owner p.site ≡ seat) × Agrees p.site now p.seen) v.parts
+  pub each_part : Each (λ p. (owner p.site ≡ seat) × AreInAgreement p.site now p.seen) v.parts
   pub queued : (t : ℕ) → v.ticket ≡ Some t → (served ≤ t) × (t < drawn) × (holder t ≡ seat) × (0 < length v.parts)
   pub turn : v.reached ≡ true → (v.ticket ≡ Some served) × (out ≡ true) × ((k : ℕ) × (v.parts ≡ part k now ∷ []))
 
@@ -118,7 +118,7 @@ module _ {B : Type 0} (sight : B → Sight) where
     pub serving_word : slice_index s.words 1 ≡ served % 2 ^ 64
     pub few : n < 2 ^ 32
     pub shared : total share s.views ≡ n
-    pub queue : served + total waits s.views ≡ drawn
+    pub queue : served + total ticket_count s.views ≡ drawn
     pub each_seat : (seat : ℕ) (v : View) → get_elem? s.views seat ≡ some v → SeatRule drawn served out now owner holder seat v
     pub placed : ValueIsPlaced out s.homes s.views now
 
@@ -134,7 +134,7 @@ module _ {B : Type 0} (sight : B → Sight) where
   -- the turn has come, and the seat has the book; or nothing changed
   abbrev pub LookStep : Step (Option B) → Me (Option B) View → ℕ → Me (Option B) View → Type 0
   LookStep st m n m' =
-      (n ≡ ticket_of m.0.ticket % 2 ^ 64 → (b : B) × Agrees (head_of m.0.parts).site (sight b) (head_of m.0.parts).seen × (m' ≡ (view (part (head_of m.0.parts).site (sight b) ∷ []) m.0.ticket true, (0, Some b) ∷ m.1)))
+      (n ≡ ticket_of m.0.ticket % 2 ^ 64 → (b : B) × AreInAgreement (head_of m.0.parts).site (sight b) (head_of m.0.parts).seen × (m' ≡ (view (part (head_of m.0.parts).site (sight b) ∷ []) m.0.ticket true, (0, Some b) ∷ m.1)))
       × (n ≢ ticket_of m.0.ticket % 2 ^ 64 → m' ≡ m)
 
   abbrev pub PassStep : Step (Option B) → Me (Option B) View → ℕ → Me (Option B) View → Type 0

@@ -10,7 +10,7 @@ use Rattle.kernel_syntax.specs.declared.stmt.Stmt.TheVariants as stmt
 use Rattle.kernel_syntax.specs.Scopes.{BodyScope, stmt_at, bodies_of, scopes_of, bare_scope, named_positions}
 use Rattle.kernel_syntax.specs.Free.{AreRising, with_position, with_positions, is_declared, without_declared, free_in_each, free_of, free_within, free}
 use Rattle.kernel_syntax.specs.Program.{IsProgram}
-use Rattle.kernel_syntax.specs.Uses.{IsDeclared, IsBodyOutside, Uses, itself, within}
+use Rattle.kernel_syntax.specs.Uses.{IsDeclared, IsBodyOutside, IsUsed, itself, within}
 use Rattle.kernel_syntax.specs.Laws.{FreeUnfolds, FreeAscends, FreeIsUsed, ProgramsAreClosed, OwnersHaveFree, NamesAreFree}
 use Rattle.kernel_syntax.proofs.OrderLemmas.{ascends_with_all}
 use Rattle.tree_node.proofs.OrderLemmas.{none}
@@ -257,15 +257,15 @@ of-bodies f st c x (s, at, same, out) h =
     (each-new f [] (scopes_of st) s x at (subst (λ (y : CodeId). Contains (f y) x) (sym same) h) out)
 
 -- they are those that the code uses
-used-within : (d : ℕ) (p : List Stmt) (code : CodeId) (k : ℕ) → Contains (free_within d p code) k → Uses p code k
+used-within : (d : ℕ) (p : List Stmt) (code : CodeId) (k : ℕ) → Contains (free_within d p code) k → IsUsed p code k
 used-within zero p code k h = absurd (none k h)
 used-within (suc d) p code k h = go (λ c g. used-within d p c k g) (from_of (free_within d p) (stmt_at p code) k h)
   where
-    go : ((c : CodeId) → Contains (free_within d p c) k → Uses p c k) → FromStmt (free_within d p) (stmt_at p code) k → Uses p code k
+    go : ((c : CodeId) → Contains (free_within d p c) k → IsUsed p c k) → FromStmt (free_within d p) (stmt_at p code) k → IsUsed p code k
     go ih (inl g) = itself g
     go ih (inr (c, at, g)) = within c at (ih c g)
 
-free-used : (p : List Stmt) (code : CodeId) (k : ℕ) → Contains (free p code) k → Uses p code k
+free-used : (p : List Stmt) (code : CodeId) (k : ℕ) → Contains (free p code) k → IsUsed p code k
 unfolding free
 free-used p code k h = used-within (length p) p code k h
 
@@ -277,7 +277,7 @@ pub names_are_free : NamesAreFree
 names_are_free p code k is h =
     subst (λ (ks : List ℕ). Contains ks k) (sym (free_unfolds p code is)) (of-names (free p) (stmt_at p code) k h)
 
-used-free : (p : List Stmt) {code : CodeId} {k : ℕ} → IsProgram p → Uses p code k → Contains (free p code) k
+used-free : (p : List Stmt) {code : CodeId} {k : ℕ} → IsProgram p → IsUsed p code k → Contains (free p code) k
 used-free p {code} {k} is (itself h) = names_are_free p code k is h
 used-free p {code} {k} is (within c at u) = owners_have_free p code c k is at (used-free p is u)
 

@@ -11,7 +11,7 @@ use Rattle.kernel_syntax.specs.Scopes.{stmt_at, named_positions}
 use Rattle.kernel_syntax.specs.Free.{AreRising, free}
 use Rattle.kernel_syntax.specs.Preorder.{whole}
 use Rattle.kernel_syntax.specs.Program.{IsProgram}
-use Rattle.kernel_syntax.specs.Uses.{Uses, itself, within}
+use Rattle.kernel_syntax.specs.Uses.{IsUsed, itself, within}
 use Rattle.kernel_syntax.specs.Laws.{FreeIsFew}
 use Rattle.kernel_syntax.proofs.Below.{Below}
 use Rattle.kernel_syntax.proofs.FreeLemmas.{free_ascends, free_is_used}
@@ -31,7 +31,7 @@ of_contained n (j ∷ js) below k h = go (λ g. of_contained n js below.1 k g) (
     go more (inl e) = let low = below.0 in omega arith
     go more (inr g) = more g
 
-uses_few : (p : List Stmt) → Each NamesFew p → {code : CodeId} {k : ℕ} → Uses p code k → k < 12800
+uses_few : (p : List Stmt) → Each NamesFew p → {code : CodeId} {k : ℕ} → IsUsed p code k → k < 12800
 uses_few p few (itself {code} {k} h) = of_contained 12800 (named_positions (stmt_at p code)) (few_at p code.0 few) k h
 uses_few p few (within c outside u) = uses_few p few u
 

@@ -6,7 +6,7 @@ use Rattle.kernel_syntax.specs.declared.stmt.Stmt.{Stmt}
 use Rattle.kernel_syntax.specs.Free.{AreRising, free, free_of}
 use Rattle.kernel_syntax.specs.Scopes.{stmt_at, named_positions}
 use Rattle.kernel_syntax.specs.Program.{IsProgram}
-use Rattle.kernel_syntax.specs.Uses.{IsBodyOutside, Uses}
+use Rattle.kernel_syntax.specs.Uses.{IsBodyOutside, IsUsed}
 use Rattle.kernel_syntax.specs.declared.stmt.Op.{Op}
 use Rattle.kernel_syntax.specs.Arithmetic.{Number, result_of, is_word, is_zero}
 
@@ -20,7 +20,7 @@ FreeAscends = (p : List Stmt) (code : CodeId) → AreRising (free p code)
 
 -- they are the positions that the code uses and does not declare
 abbrev pub FreeIsUsed : Type 0
-FreeIsUsed = (p : List Stmt) (code : CodeId) (k : ℕ) → IsProgram p → Contains (free p code) k ↔ Uses p code k
+FreeIsUsed = (p : List Stmt) (code : CodeId) (k : ℕ) → IsProgram p → Contains (free p code) k ↔ IsUsed p code k
 
 -- they are few, and small: 200 levels declare at most 64 identifiers each
 abbrev pub FreeIsFew : Type 0
@@ -28,7 +28,7 @@ FreeIsFew = (p : List Stmt) (code : CodeId) → IsProgram p → (length (free p 
 
 -- a whole program uses what it declares alone
 abbrev pub ProgramsAreClosed : Type 0
-ProgramsAreClosed = (p : List Stmt) (k : ℕ) → IsProgram p → Uses p (record { 0 = 0 }) k → ⊥
+ProgramsAreClosed = (p : List Stmt) (k : ℕ) → IsProgram p → IsUsed p (record { 0 = 0 }) k → ⊥
 
 -- what is free in a body, and not declared for it, is free in its owner
 abbrev pub OwnersHaveFree : Type 0

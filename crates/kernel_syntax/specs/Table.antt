@@ -7,23 +7,23 @@ use Rattle.kernel_syntax.specs.Scopes.{BodyScope, scopes_of}
 use Rattle.kernel_syntax.specs.Free.{free}
 use Rattle.kernel_syntax.specs.Program.{IsProgram}
 
--- the row of a statement, where there are len of them
+-- the list of a statement, where there are len of them
 abbrev pub free_at : ℕ → List (List ℕ) → CodeId → List ℕ
-free_at len rows code = slice_index_or rows (len - suc code.0) []
+free_at len lists code = slice_index_or lists (len - suc code.0) []
 
--- the statement has a row: rows stand for the last ones of len statements
+-- the statement has a list: lists stand for the last ones of len statements
 abbrev pub HasFree : ℕ → List (List ℕ) → CodeId → Type 0
-HasFree len rows code = (code.0 < len) × (len ≤ length rows + code.0)
+HasFree len lists code = (code.0 < len) × (len ≤ length lists + code.0)
 
--- each row has the free positions of its statement
-pub record IsTable (p : List Stmt) (rows : List (List ℕ)) : Type 0 where
-  pub row : (code : CodeId) → HasFree (length p) rows code → free_at (length p) rows code ≡ free p code
+-- each list has the free positions of its statement
+pub record IsTable (p : List Stmt) (lists : List (List ℕ)) : Type 0 where
+  pub list : (code : CodeId) → HasFree (length p) lists code → free_at (length p) lists code ≡ free p code
 
 -- what a program keeps
-pub record IsKept (p : List Stmt) (rows : List (List ℕ)) : Type 0 where
+pub record IsKept (p : List Stmt) (lists : List (List ℕ)) : Type 0 where
   pub program : IsProgram p
-  pub whole : length rows ≡ length p
-  pub table : IsTable p rows
+  pub whole : length lists ≡ length p
+  pub table : IsTable p lists
 
 -- the bodies of a statement that has two, with what it declares for each, and none of another
 abbrev pub branches_of : Stmt → List BodyScope

@@ -28,7 +28,7 @@ abbrev pub IsFeature : Feature → Type 0
 IsFeature (feature.Int value) = IsTrue (is_word value)
 IsFeature (feature.Atom text) = IsText text
 
--- what a selector, a pattern or a thread's place names
+-- what a selector, a pattern or a thread's site names
 abbrev pub IsNamedBy : Selector → Type 0
 IsNamedBy (selector.Var by) = Unit {0}
 IsNamedBy (selector.Feature f) = IsFeature f

@@ -14,6 +14,6 @@ abbrev pub IsBodyOutside : Stmt → CodeId → ℕ → Type 0
 IsBodyOutside st c k = (s : BodyScope) × Contains (scopes_of st) s × (s.body ≡ c) × (IsDeclared s.first s.count k → ⊥)
 
 -- k is used in this code, outside every declaration of k within the code
-pub data Uses (p : List Stmt) : CodeId → ℕ → Type 0 where
-  itself : {code : CodeId} {k : ℕ} → Contains (named_positions (stmt_at p code)) k → Uses p code k
-  within : {code : CodeId} {k : ℕ} (c : CodeId) → IsBodyOutside (stmt_at p code) c k → Uses p c k → Uses p code k
+pub data IsUsed (p : List Stmt) : CodeId → ℕ → Type 0 where
+  itself : {code : CodeId} {k : ℕ} → Contains (named_positions (stmt_at p code)) k → IsUsed p code k
+  within : {code : CodeId} {k : ℕ} (c : CodeId) → IsBodyOutside (stmt_at p code) c k → IsUsed p c k → IsUsed p code k

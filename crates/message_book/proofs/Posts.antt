@@ -16,11 +16,11 @@ use Rattle.std.proofs.lemmas.Bool.{le-leb}
 use Rattle.std.proofs.lemmas.List.Elements.{Contains-append_right}
 use Rattle.message_book.specs.Inbox.{InboxState}
 use Rattle.message_book.specs.Book.{BookState, IsUntaken, IsUntakenSpelling, IsSiteOf}
-use Rattle.wire_form.specs.Format.{message, spelling, Spells}
+use Rattle.wire_form.specs.Format.{message, spelling, IsSpelling}
 use Rattle.tree_node.specs.Each.{Each}
 use Rattle.message_book.specs.Inboxes.{HoldsTravelling, AllHoldTravelling, IsConsistent, place, spelling_of, messages_at, number_of, hand_of, inbox_at}
 use Rattle.message_book.proofs.Travels.{messages_ascend, HasNumber, after_low}
-use Rattle.site_message.specs.Rows.{Ascends}
+use Rattle.site_message.specs.Rows.{IsAscending}
 use Rattle.message_book.proofs.Inboxes.{inbox_set_here, inbox_set_other, inbox_related}
 use Rattle.tree_node.proofs.EachLemmas.{each_at_place}
 use Rattle.std.proofs.lemmas.List.{map-append}
@@ -135,7 +135,7 @@ module _ (l : Limits) (j : List Turn) (sent : ℕ) (bs : List InboxState) (r : O
   b : HoldsTravelling l.sites j p (inbox_at bs p)
   b = k.inboxes p site.1
 
-  pub was_untaken : (x : ℕ × List ℕ) (rest : List (ℕ × List ℕ)) → (inbox_at bs p).waiting ≡ x ∷ rest → (m : Msg) × IsTravelling j x.0 (record { to = p; msg = m }) × (Contains (inbox_at bs p).hand x.0 → ⊥) × Spells x.1 m
+  pub was_untaken : (x : ℕ × List ℕ) (rest : List (ℕ × List ℕ)) → (inbox_at bs p).waiting ≡ x ∷ rest → (m : Msg) × IsTravelling j x.0 (record { to = p; msg = m }) × (Contains (inbox_at bs p).hand x.0 → ⊥) × IsSpelling x.1 m
   was_untaken x rest e =
       let all : b.in_hand ++ x ∷ rest ≡ messages_at l.sites j p = ap (λ w. b.in_hand ++ w) (sym e) ∙ b.messages in
       let t = in_messages l.sites j p x.0 x.1 (subst (λ w. Contains w x) all (Contains-append_right b.in_hand (x ∷ rest) x (Contains-head x rest))) in
@@ -145,7 +145,7 @@ module _ (l : Limits) (j : List Turn) (sent : ℕ) (bs : List InboxState) (r : O
         subst (λ (m : Sent). IsTravelling j x.0 m) is t.1,
         λ held.
             let has = has_number x.0 b.in_hand (subst (λ h. Contains h x.0) b.hand held) in
-            let apart = after_low 0 x.0 b.in_hand (x ∷ rest) (subst (Ascends 0) (sym all) (messages_ascend l.sites j p)) has in
+            let apart = after_low 0 x.0 b.in_hand (x ∷ rest) (subst (IsAscending 0) (sym all) (messages_ascend l.sites j p)) has in
             apart.0 refl,
         (each_at_place (λ (m : Sent). message.Has m.msg) (sent_of j) x.0 s k.spelled t.1.0, sym t.2),
       )

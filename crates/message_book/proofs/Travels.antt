@@ -5,7 +5,7 @@ use Rattle.std.proofs.lemmas.List.Elements.{filter-append}
 use Rattle.site_message.specs.declared.message.Sent.{Sent}
 use Rattle.site_message.specs.declared.turn.Turn.{Turn}
 use Rattle.site_message.specs.Journal.{Wired, sent_of, travelling, is_number}
-use Rattle.site_message.specs.Rows.{Ascends}
+use Rattle.site_message.specs.Rows.{IsAscending}
 use Rattle.site_message.proofs.TravelLemmas.{travelling_grows, travelling_ascends, ascends_filter}
 use Rattle.wire_form.specs.Format.{spelling}
 use Rattle.message_book.specs.Inboxes.{place, spelling_of, messages_at, new_messages, letter_of}
@@ -57,11 +57,11 @@ messages_step n j e i w =
     ∙ (λ t. (ap (map spelling_of) (filters_swap q d (travelling j)) ∙ map_filter spelling_of d (λ (p : ℕ × List ℕ). not (is_number e.delivered p.0)) (λ p. refl) (filter q (travelling j))) t ++ new_are n i len e.sent t)))
 
 -- the numbers of an inbox ascend
-contents_ascend : (b : ℕ) (xs : List (ℕ × Sent)) → Ascends b xs → Ascends b (map spelling_of xs)
+contents_ascend : (b : ℕ) (xs : List (ℕ × Sent)) → IsAscending b xs → IsAscending b (map spelling_of xs)
 contents_ascend b [] h = tt
 contents_ascend b (p ∷ ps) h = (h.0, contents_ascend (p.0 + 1) ps h.1)
 
-pub messages_ascend : (n : ℕ) (j : List Turn) (i : ℕ) → Ascends 0 (messages_at n j i)
+pub messages_ascend : (n : ℕ) (j : List Turn) (i : ℕ) → IsAscending 0 (messages_at n j i)
 messages_ascend n j i =
     let q : ℕ × Sent → Bool = λ p. eqb (place n p.1.to) i in
     contents_ascend 0 (filter q (travelling j)) (ascends_filter q 0 (travelling j) (travelling_ascends j))
@@ -71,7 +71,7 @@ abbrev pub LacksNumber : ℕ → List (ℕ × List ℕ) → Type 0
 LacksNumber k [] = Unit {0}
 LacksNumber k (p ∷ ps) = (k ≢ p.0) × LacksNumber k ps
 
-above : (b k : ℕ) (xs : List (ℕ × List ℕ)) → Ascends b xs → k < b → LacksNumber k xs
+above : (b k : ℕ) (xs : List (ℕ × List ℕ)) → IsAscending b xs → k < b → LacksNumber k xs
 above b k [] h low = tt
 above b k (p ∷ ps) h low = let l = h.0 in ((λ e. absurd (omega arith)), above (p.0 + 1) k ps h.1 (omega arith))
 
@@ -84,7 +84,7 @@ pub right : (k : ℕ) (xs ys : List (ℕ × List ℕ)) → LacksNumber k (xs ++ 
 right k [] ys h = h
 right k (x ∷ xs) ys h = right k xs ys h.1
 
-pub after_low : (b k : ℕ) (xs ys : List (ℕ × List ℕ)) → Ascends b (xs ++ ys) → HasNumber k xs → LacksNumber k ys
+pub after_low : (b k : ℕ) (xs ys : List (ℕ × List ℕ)) → IsAscending b (xs ++ ys) → HasNumber k xs → LacksNumber k ys
 after_low b k [] ys h at = absurd at
 after_low b k (p ∷ ps) ys h at = ⊎_elim
     (λ (e : k ≡ p.0). right k ps ys (above (p.0 + 1) k (ps ++ ys) h.1 (omega arith)))

@@ -16,7 +16,7 @@ use Rattle.message_book.specs.Inbox.{InboxState, HoldsSame}
 use Rattle.message_book.specs.Book.{BookState, IsSiteOf, IsReason, without_delivered}
 use Rattle.message_book.specs.Inboxes.{HoldsTravelling, AllHoldTravelling, IsConsistent, IsAfterTurn, place, messages_at, number_of, hand_of, new_messages, letter_of, AllOfFormat, inbox_at, idle_at, reason_by}
 use Rattle.message_book.proofs.Travels.{messages_step, without_message, messages_ascend, LacksNumber, after_low, without_none_there, map_filter, right}
-use Rattle.site_message.specs.Rows.{Ascends}
+use Rattle.site_message.specs.Rows.{IsAscending}
 use Rattle.tree_node.proofs.EachLemmas.{each_append}
 use Rattle.wire_form.specs.Format.{message}
 use Rattle.message_book.proofs.Posts.{has_number, spelling_at, in_messages, placed, place_is, state_of, hand_at, same_hands}
@@ -104,7 +104,7 @@ module _ (l : Limits) (j : List Turn) (sent : ℕ) (bs : List InboxState) (r : O
   stays i below (Some k) is = without_none_there k (inbox_at bs i).waiting (dite (ℕ_discrete i e.site)
       (λ same.
       let has = has_number k mine.in_hand (subst (λ h. Contains h k) mine.hand (given k is)) in
-      let rise = subst (Ascends 0) (sym mine.messages) (messages_ascend l.sites j e.site) in
+      let rise = subst (IsAscending 0) (sym mine.messages) (messages_ascend l.sites j e.site) in
       subst (λ (p : ℕ). LacksNumber k (inbox_at bs p).waiting) (sym same) (after_low 0 k mine.in_hand (inbox_at bs e.site).waiting rise has))
       (λ other. let b = kept.inboxes i below in right k b.in_hand (inbox_at bs i).waiting (subst (LacksNumber k) (sym b.messages) (elsewhere k i is other))))
 

@@ -8,7 +8,7 @@ use Rattle.site_message.specs.declared.reason.Reason.{Reason}
 use Rattle.site_message.specs.declared.reason.Reason.TheVariants.{Memory}
 use Rattle.site_message.specs.Journal.{Limits, IsTravelling, is_number, end_of}
 use Rattle.site_message.specs.Story.{hand}
-use Rattle.wire_form.specs.Format.{Spells}
+use Rattle.wire_form.specs.Format.{IsSpelling}
 
 -- the limits, the turns posted, the newest first, the numbers in hand of the site k at the place k, and the reason
 pub record BookState : Type 0 where
@@ -45,7 +45,7 @@ IsUntaken b i k m = IsTravelling b.journal k (record { to = i; msg = m }) × (Co
 
 -- bytes that spell such a message
 abbrev pub IsUntakenSpelling : BookState → ℕ → ℕ → List ℕ → Type 0
-IsUntakenSpelling b i k bytes = (m : Msg) × IsUntaken b i k m × Spells bytes m
+IsUntakenSpelling b i k bytes = (m : Msg) × IsUntaken b i k m × IsSpelling bytes m
 
 -- the reason is how the journal ends; or memory ran out where it goes on
 abbrev pub IsReason : Limits → List Turn → Option Reason → Type 0

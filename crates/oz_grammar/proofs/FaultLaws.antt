@@ -8,7 +8,7 @@ use Rattle.oz_grammar.specs.declared.fault.Fault.{Fault}
 use Rattle.oz_grammar.specs.declared.fault.FaultKind.{FaultKind}
 use Rattle.oz_grammar.specs.declared.fault.FaultKind.TheVariants.{Lex, Expected, Number, Site, Deep, Wide, Twice, Unbound}
 use Rattle.oz_grammar.specs.Grammar.{Sequence, program_text}
-use Rattle.oz_grammar.specs.Scoping.{Derives}
+use Rattle.oz_grammar.specs.Scoping.{IsDerivation}
 use Rattle.oz_grammar.specs.Faults.{fault_here}
 use Rattle.oz_grammar.specs.Check.{check}
 use Rattle.oz_grammar.specs.Points.{Point, expects, next_of, wrong_at, refusal, run, walk, start}
@@ -221,6 +221,6 @@ wrong_whole front rest k on (inr (inl a)) e = a.2.1 rest (same_self rest) on
 wrong_whole front rest k on (inr (inr a)) e = let found = a.1 rest (same_self rest) on in let bad : None ≡ Some (fault_here k rest) = sym e ∙ found in absurd cc
 
 -- where a program is derived in which nothing is wrong, there is no fault
-pub passes_no_fault : (q : Sequence) (symbols : List Symbol) (f : Fault) → Derives q → symbols ≡ program_text q → check q ≡ None → FaultOfSymbols symbols f → ⊥
+pub passes_no_fault : (q : Sequence) (symbols : List Symbol) (f : Fault) → IsDerivation q → symbols ≡ program_text q → check q ≡ None → FaultOfSymbols symbols f → ⊥
 passes_no_fault q symbols f good is e F =
     wrong_whole F.front F.rest f.kind (record { program = q; derives = good; derived = sym F.divided ∙ is }) (class_of F.front F.rest f.kind F.applies) e

@@ -9,7 +9,7 @@ use Rattle.oz_grammar.specs.declared.symbol.Symbol.TheVariants as t
 use Rattle.oz_grammar.specs.declared.fault.Fault.{Fault}
 use Rattle.oz_grammar.specs.Symbols.{ends_once, IsSpelled}
 use Rattle.oz_grammar.specs.Grammar.{Sequence, seq_text, program_text}
-use Rattle.oz_grammar.specs.Scoping.{Derives}
+use Rattle.oz_grammar.specs.Scoping.{IsDerivation}
 use Rattle.oz_grammar.specs.Check.{check}
 use Rattle.oz_grammar.specs.Points.{run, start}
 use Rattle.oz_grammar.specs.Table.{program_table}
@@ -35,14 +35,14 @@ Read p = Ok p
 one_value : (p q : List Stmt) → Read p ≡ Read q → p ≡ q
 one_value p q e = cc
 
-read_table : (q : Sequence) (p : List Stmt) → Derives q → check q ≡ None → program_at (program_text q) ≡ Ok p → p ≡ program_table q
+read_table : (q : Sequence) (p : List Stmt) → IsDerivation q → check q ≡ None → program_at (program_text q) ≡ Ok p → p ≡ program_table q
 read_table q p good passes e = let same : Read p ≡ Read (program_table q) = sym e ∙ checked.program_read q good passes in one_value p (program_table q) same
 
 pub is_read : (symbols : List Symbol) (p : List Stmt) → ReadsSymbols symbols p → program_at symbols ≡ Ok p
 is_read symbols p r = ap program_at r.derived ∙ checked.program_read r.program r.derives r.passes ∙ ap (λ (rows : List Stmt). Ok rows) (sym r.table)
 
 -- symbols in which nothing is wrong are a program
-derived : (symbols : List Symbol) → ends_once symbols ≡ true → run symbols start ≡ None → (q : Sequence) × Derives q × (symbols ≡ program_text q) × (check q ≡ None)
+derived : (symbols : List Symbol) → ends_once symbols ≡ true → run symbols start ≡ None → (q : Sequence) × IsDerivation q × (symbols ≡ program_text q) × (check q ≡ None)
 derived symbols ends e =
     let left = leaves_read symbols start e in
     let k = program_taken symbols left.0 left.1 in

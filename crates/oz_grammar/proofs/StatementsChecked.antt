@@ -12,7 +12,7 @@ use Rattle.oz_grammar.specs.declared.fault.Fault.{Fault}
 use Rattle.oz_grammar.specs.declared.fault.What.{What}
 use Rattle.oz_grammar.specs.declared.fault.What.TheVariants as what
 use Rattle.oz_grammar.specs.Grammar.{Identifier, Plain, Skips, Tells, Calls, Raises, Opening, Locals, ProcValue, ProcNamed, Threads, ThreadsAt, Choice, Ifs, Cases, Statement, Simple, Block, Chooses, Tries, Sequence, One, Then, plain_text, opening_text, choice_text, pattern_text, stmt_text, seq_text, closer_symbol, program_text}
-use Rattle.oz_grammar.specs.Scoping.{Scope, declaration_of, opening_scope, choice_scope, StmtDerives, SeqDerives, Derives}
+use Rattle.oz_grammar.specs.Scoping.{Scope, declaration_of, opening_scope, choice_scope, StmtDerives, SeqDerives, IsDerivation}
 use Rattle.oz_grammar.specs.Table.{code_at, opening_row, choice_row, program_table}
 use Rattle.oz_grammar.specs.Faults.{use_fault, site_fault, deep_fault, fewer}
 use Rattle.oz_grammar.specs.Check.{check_opening, check_choice, check_pattern, check_stmt, check_seq, check}
@@ -265,7 +265,7 @@ mutual
       ∙ regrouped ids (code_at (length rows - place)) (rel_numbers q scope (length (rows ++ rel_stmt s scope) - place)) (rel_numbers q scope (length rows - place + length (rel_stmt s scope))) rows (rel_stmt s scope) (rel_many q scope) rest (ap (rel_numbers q scope) k))
 
 -- a derivation that passes is read as its table
-pub program_read : (q : Sequence) → Derives q → check q ≡ None → program_at (program_text q) ≡ Ok (program_table q)
+pub program_read : (q : Sequence) → IsDerivation q → check q ≡ None → program_at (program_text q) ≡ Ok (program_table q)
 unfolding program_at
 program_read q derives e =
     then_read (seq_at (stmt_at 200) closer.EndOfText [] [] what.Statement (program_text q)) _ (rel_seq q [], []) _ (seq_read q closer.EndOfText 200 [] [] what.Statement [] None derives e (omega arith))

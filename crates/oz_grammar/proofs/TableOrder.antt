@@ -12,7 +12,7 @@ use Rattle.oz_grammar.specs.declared.symbol.Symbol.{Symbol}
 use Rattle.oz_grammar.specs.declared.symbol.Symbol.TheVariants as t
 use Rattle.oz_grammar.specs.declared.fault.Fault.{Fault}
 use Rattle.oz_grammar.specs.Grammar.{Opening, Locals, ProcValue, ProcNamed, Threads, ThreadsAt, Choice, Ifs, Cases, Statement, Simple, Block, Chooses, Tries, Sequence, One, Then, seq_text}
-use Rattle.oz_grammar.specs.Scoping.{Scope, declaration_of, pattern_names, opening_scope, choice_scope, StmtDerives, SeqDerives, Derives}
+use Rattle.oz_grammar.specs.Scoping.{Scope, declaration_of, pattern_names, opening_scope, choice_scope, StmtDerives, SeqDerives, IsDerivation}
 use Rattle.oz_grammar.specs.Table.{code_at, pattern_of, plain_row, opening_row, choice_row, stmt_rows, seq_rows, many_rows, seq_numbers, program_table}
 use Rattle.oz_grammar.specs.Faults.{use_fault, deep_fault, fewer}
 use Rattle.oz_grammar.specs.Check.{check_opening, check_choice, check_stmt, check_seq, check}
@@ -230,6 +230,6 @@ mutual
       before_more k (body k d (length scope) true ∷ (map (one_of (body o d (length scope) false)) (seq_numbers q scope (k + length (stmt_rows s scope k))) ++ bs))
       (stmt_rows s scope k) (many_rows q scope (k + length (stmt_rows s scope k))) more first
 
-pub program_order : (q : Sequence) → Derives q → check q ≡ None → IsInPreorder (program_table q)
+pub program_order : (q : Sequence) → IsDerivation q → check q ≡ None → IsInPreorder (program_table q)
 program_order q derives e =
     subst (AreBodies 0 (body 0 200 0 false ∷ [])) (append-nil (seq_rows q [] 0)) (seq_order q 200 [] 0 (t.EndOfText ∷ []) None [] [] derives e (omega arith) tt)

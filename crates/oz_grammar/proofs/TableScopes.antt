@@ -21,7 +21,7 @@ use Rattle.oz_grammar.specs.declared.symbol.Purpose.TheVariants as purpose
 use Rattle.oz_grammar.specs.declared.fault.Fault.{Fault}
 use Rattle.oz_grammar.specs.declared.fault.FaultKind.TheVariants.{Unbound}
 use Rattle.oz_grammar.specs.Grammar.{Identifier, ByVariable, ByFeature, Value, ToVar, Calculates, Selects, Pairs, ToInt, ToAtom, ToRecord, Plain, Skips, Tells, Calls, Raises, Opening, Locals, ProcValue, ProcNamed, Threads, ThreadsAt, Choice, Ifs, Cases, Statement, Simple, Block, Chooses, Tries, Sequence, One, Then, seq_text}
-use Rattle.oz_grammar.specs.Scoping.{Scope, Fields, declared_behind, position_of, is_declared, declaration_of, built_in_at, arity_of, fields_of, pattern_names, opening_scope, choice_scope, HasArguments, PlainDerives, StmtDerives, SeqDerives, Derives}
+use Rattle.oz_grammar.specs.Scoping.{Scope, Fields, declared_behind, position_of, is_declared, declaration_of, built_in_at, arity_of, fields_of, pattern_names, opening_scope, choice_scope, HasArguments, PlainDerives, StmtDerives, SeqDerives, IsDerivation}
 use Rattle.oz_grammar.specs.Table.{code_at, slots_of, record_row, value_row, pattern_of, built_in_row, call_row, plain_row, opening_row, choice_row, stmt_rows, seq_rows, many_rows, seq_numbers, program_table}
 use Rattle.oz_grammar.specs.Faults.{use_fault, count_fault, called_fault, argument_fault, deep_fault, fewer}
 use Rattle.oz_grammar.specs.Check.{check_value, check_arguments, check_uses, check_call, check_plain, check_opening, check_choice, check_stmt, check_seq, check}

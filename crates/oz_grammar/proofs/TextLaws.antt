@@ -9,7 +9,7 @@ use Rattle.kernel_syntax.specs.declared.stmt.Op.TheVariants as op
 use Rattle.oz_lexer.specs.declared.token.TokenKind.{TokenKind}
 use Rattle.oz_lexer.specs.declared.token.TokenKind.TheVariants as kind
 use Rattle.oz_lexer.specs.declared.token.LexKind.{LexKind}
-use Rattle.oz_lexer.specs.Tokens.{Lexeme, Goes, TokensFrom, Tokens}
+use Rattle.oz_lexer.specs.Tokens.{Lexeme, EndOrMore, TokensFrom, Tokens}
 use Rattle.oz_lexer.specs.Place.{place_of}
 use Rattle.oz_lexer.specs.Laws.{TextsDivide, TextsDivideOnce}
 use Rattle.oz_grammar.specs.declared.symbol.Symbol.{Symbol}
@@ -20,7 +20,7 @@ use Rattle.oz_grammar.specs.declared.fault.FaultKind.TheVariants.{Expected}
 use Rattle.oz_grammar.specs.declared.fault.TextFault.{TextFault}
 use Rattle.oz_grammar.specs.Symbols.{word_symbol, sign_symbol, symbol_at, symbol_of, ends_once}
 use Rattle.oz_grammar.specs.Grammar.{Sequence, program_text}
-use Rattle.oz_grammar.specs.Scoping.{Derives}
+use Rattle.oz_grammar.specs.Scoping.{IsDerivation}
 use Rattle.oz_grammar.specs.Faults.{fault_here}
 use Rattle.oz_grammar.specs.Check.{check}
 use Rattle.oz_grammar.specs.Points.{expects, start}
@@ -83,7 +83,7 @@ bad_last : (fault : LexKind) (ls : List Lexeme) → ls ≡ [] → ends_once (t.B
 bad_last fault ls e = ap (λ (k : List Lexeme). ends_once (t.Bad fault ∷ map symbol_of k)) e
 
 -- one token, and then those behind it
-one_ends : (what : Result TokenKind LexKind) (bytes : List ℕ) (ls : List Lexeme) (More : Type 0) → (More → ends_once (map symbol_of ls) ≡ true) → Goes what (ls ≡ []) More → ends_once (symbol_at what bytes ∷ map symbol_of ls) ≡ true
+one_ends : (what : Result TokenKind LexKind) (bytes : List ℕ) (ls : List Lexeme) (More : Type 0) → (More → ends_once (map symbol_of ls) ≡ true) → EndOrMore what (ls ≡ []) More → ends_once (symbol_at what bytes ∷ map symbol_of ls) ≡ true
 one_ends (Ok kind.End) bytes ls More on g = end_last ls g
 one_ends (Ok kind.Variable) bytes ls More on g = ends_over (t.Variable bytes) (map symbol_of ls) refl ∙ on g
 one_ends (Ok kind.Atom) bytes ls More on g = ends_over (symbol_at (Ok kind.Atom) bytes) (map symbol_of ls) refl ∙ on g
@@ -125,7 +125,7 @@ cases_left : (left n : ℕ) → left ≤ suc n → (left ≤ n) ⊎ (left ≡ su
 cases_left left n le = elim (cases_lt n left) as (λ c. (left ≤ n) ⊎ (left ≡ suc n)) [ inl h ↦ let e : left ≡ suc n = omega arith in inr e | inr h ↦ inl h ]
 
 -- what a check finds is at a symbol
-found_somewhere : (q : Sequence) (g : Fault) → Derives q → check q ≡ Some g → 0 < g.left
+found_somewhere : (q : Sequence) (g : Fault) → IsDerivation q → check q ≡ Some g → 0 < g.left
 found_somewhere q g good e = let s = stopped (program_text q) start g (program_run q good ∙ e) in at_symbol g (program_text q) s.rest s refl (check_row q g e)
 
 at_end : (front : List Symbol) (k : FaultKind) (on : GoesOn front []) → Class front [] k → ⊥

@@ -16,7 +16,7 @@ use Rattle.oz_lexer.specs.declared.token.TokenKind.TheVariants as kind
 use Rattle.oz_lexer.specs.declared.token.LexKind.{LexKind}
 use Rattle.oz_lexer.specs.Spelling.{is_character, is_escape, closes_quote, is_quoted, is_variable, is_lower_word, is_sign, are_digits, digits_of, token_kind_of, is_long, unescaped}
 use Rattle.oz_lexer.specs.Faults.{Longest}
-use Rattle.oz_lexer.specs.Tokens.{Lexeme, Begins, Goes, TokensFrom, Tokens}
+use Rattle.oz_lexer.specs.Tokens.{Lexeme, IsLexemeAt, EndOrMore, TokensFrom, Tokens}
 use Rattle.oz_grammar.specs.declared.symbol.Symbol.{Symbol}
 use Rattle.oz_grammar.specs.declared.symbol.Symbol.TheVariants as t
 use Rattle.oz_lexer.proofs.Boundaries.{token_cut}
@@ -30,17 +30,17 @@ use Rattle.std.proofs.lemmas.Bool.{and_parts}
 abbrev IsAtom : List ℕ → Type 0
 IsAtom a = (list_all is_atom_byte a ≡ true) × (length (atom_text a) ≤ 255)
 
-same_byte : (b : ℕ) → is_atom_byte b ≡ true → is_text_byte b ≡ true
-same_byte b e = grind arith
+text_byte : (b : ℕ) → is_atom_byte b ≡ true → is_text_byte b ≡ true
+text_byte b e = grind arith
 
-same_bytes : (a : List ℕ) → list_all is_atom_byte a ≡ true → list_all is_text_byte a ≡ true
-same_bytes [] all = refl
-same_bytes (b ∷ bs) all =
+text_bytes : (a : List ℕ) → list_all is_atom_byte a ≡ true → list_all is_text_byte a ≡ true
+text_bytes [] all = refl
+text_bytes (b ∷ bs) all =
     let two = and_parts (is_atom_byte b) (list_all is_atom_byte bs) all in
-    ap (λ (x : Bool). x && list_all is_text_byte bs) (same_byte b two.0) ∙ same_bytes bs two.1
+    ap (λ (x : Bool). x && list_all is_text_byte bs) (text_byte b two.0) ∙ text_bytes bs two.1
 
 is_text : (a : List ℕ) → IsUtf8 a → IsAtom a → IsText a
-is_text a utf8 is = (utf8, same_bytes a is.0, is.1)
+is_text a utf8 is = (utf8, text_bytes a is.0, is.1)
 
 -- ---- lengths
 
@@ -259,7 +259,7 @@ leaves : (text pre front bytes rest : List ℕ) (k : TokenKind) → IsUtf8 text 
 leaves text pre front bytes rest k utf8 is l short =
     let cut = cut_out text pre bytes rest k utf8 (is ∙ ap (λ (xs : List ℕ). pre ++ xs) l.is) l.spells in (token_good k bytes cut.token l.spells short, cut.behind)
 
-begins_good : (place : ℕ) (text pre front : List ℕ) (what : Result TokenKind LexKind) (start : ℕ) (bytes rest : List ℕ) → IsUtf8 text → text ≡ pre ++ front → Begins place front what start bytes rest → Leaves what bytes rest
+begins_good : (place : ℕ) (text pre front : List ℕ) (what : Result TokenKind LexKind) (start : ℕ) (bytes rest : List ℕ) → IsUtf8 text → text ≡ pre ++ front → IsLexemeAt place front what start bytes rest → Leaves what bytes rest
 begins_good place text pre front (Ok kind.End) start bytes rest utf8 is b = (tt, subst IsUtf8 (sym b.3) IsUtf8-nil)
 begins_good place text pre front (Ok kind.Variable) start bytes rest utf8 is b = leaves text pre front bytes rest kind.Variable utf8 is b.0 b.1
 begins_good place text pre front (Ok kind.Atom) start bytes rest utf8 is b = leaves text pre front bytes rest kind.Atom utf8 is b.0 b.1
@@ -274,7 +274,7 @@ spelled_here (Ok k) bytes rest l = l.0
 spelled_here (Err fault) bytes rest l = tt
 
 -- the tokens behind, if there are some
-others : (what : Result TokenKind LexKind) (on : Type 0) (P : List Lexeme → Type 0) (ls : List Lexeme) (bytes rest : List ℕ) → Goes what (ls ≡ []) on → Leaves what bytes rest → P [] → (IsUtf8 rest → on → P ls) → P ls
+others : (what : Result TokenKind LexKind) (on : Type 0) (P : List Lexeme → Type 0) (ls : List Lexeme) (bytes rest : List ℕ) → EndOrMore what (ls ≡ []) on → Leaves what bytes rest → P [] → (IsUtf8 rest → on → P ls) → P ls
 others (Ok kind.End) on P ls bytes rest h l nothing more = subst P (sym h) nothing
 others (Ok kind.Variable) on P ls bytes rest h l nothing more = more l.1 h
 others (Ok kind.Atom) on P ls bytes rest h l nothing more = more l.1 h

@@ -6,7 +6,7 @@ use Rattle.oz_grammar.specs.declared.symbol.Closer.{Closer}
 use Rattle.oz_grammar.specs.declared.symbol.Closer.TheVariants as closer
 use Rattle.oz_grammar.specs.declared.fault.Fault.{Fault}
 use Rattle.oz_grammar.specs.Grammar.{Plain, Skips, Tells, Calls, Raises, Opening, Locals, ProcValue, ProcNamed, Threads, ThreadsAt, Ifs, Cases, Statement, Simple, Block, Chooses, Tries, Sequence, One, Then, stmt_text, seq_text, closer_symbol, program_text}
-use Rattle.oz_grammar.specs.Scoping.{Scope, StmtDerives, SeqDerives, Derives, opening_scope, choice_scope}
+use Rattle.oz_grammar.specs.Scoping.{Scope, StmtDerives, SeqDerives, IsDerivation, opening_scope, choice_scope}
 use Rattle.oz_grammar.specs.Faults.{deep_fault, fewer}
 use Rattle.oz_grammar.specs.Check.{first_fault, check_opening, check_choice, check_stmt, check_seq, check}
 use Rattle.oz_grammar.specs.Points.{Stage, First, Later, Point, At, run, start}
@@ -73,5 +73,5 @@ mutual
       ∙ ap (λ (b : Option Fault). check_stmt s d scope (seq_text q (closer_symbol c ∷ rest)) b) (seq_run q Later c scope d rest σ good.1)
 
 -- a derivation of a program has the faults that its check finds
-pub program_run : (q : Sequence) → Derives q → run (program_text q) start ≡ check q
+pub program_run : (q : Sequence) → IsDerivation q → run (program_text q) start ≡ check q
 program_run q good = seq_run q First closer.EndOfText [] 200 [] [] good

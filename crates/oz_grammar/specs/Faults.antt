@@ -29,7 +29,7 @@ abbrev pub number_fault : Option ℤ → Option FaultKind
 number_fault (Some n) = None
 number_fault None = Some Number
 
--- the place of a thread
+-- the site of a thread
 abbrev pub site_fault : Option ℤ → Option FaultKind
 site_fault (Some n) = where_so (int_lt n (pos 1)) Site
 site_fault None = Some Number

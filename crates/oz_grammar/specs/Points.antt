@@ -56,7 +56,7 @@ pub data Point : Type 0 where
   -- the name in a `proc` statement, and formals behind others
   ProcName : Scope → ℕ → Point
   Formals : Scope → List Identifier → ℕ → Point
-  -- the place of a thread, and the name in `catch`
+  -- the site of a thread, and the name in `catch`
   SiteHere : Point
   CatchName : Scope → ℕ → Point
 

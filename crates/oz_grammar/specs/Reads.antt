@@ -13,7 +13,7 @@ use Rattle.oz_grammar.specs.declared.fault.FaultKind.{FaultKind}
 use Rattle.oz_grammar.specs.declared.fault.FaultKind.TheVariants.{Lex, Expected}
 use Rattle.oz_grammar.specs.Symbols.{symbol_of}
 use Rattle.oz_grammar.specs.Grammar.{Sequence, program_text}
-use Rattle.oz_grammar.specs.Scoping.{Derives}
+use Rattle.oz_grammar.specs.Scoping.{IsDerivation}
 use Rattle.oz_grammar.specs.Check.{check}
 use Rattle.oz_grammar.specs.Faults.{fault_here}
 use Rattle.oz_grammar.specs.Points.{Point, expects, walk, start}
@@ -24,7 +24,7 @@ use Rattle.oz_grammar.specs.Table.{program_table}
 -- the symbols are a program with this table: they derive it, and nothing is wrong in the derivation
 pub record ReadsSymbols (symbols : List Symbol) (p : List Stmt) : Type 0 where
   pub program : Sequence
-  pub derives : Derives program
+  pub derives : IsDerivation program
   pub derived : symbols ≡ program_text program
   pub passes : check program ≡ None
   pub table : p ≡ program_table program
@@ -45,7 +45,7 @@ SameHead (x ∷ xs) b = (ys : List Symbol) × (b ≡ x ∷ ys)
 -- a program goes on behind these symbols with more
 pub record GoesOn (front more : List Symbol) : Type 0 where
   pub program : Sequence
-  pub derives : Derives program
+  pub derives : IsDerivation program
   pub derived : front ++ more ≡ program_text program
 
 -- some program has front, and the first symbol of rest behind it

@@ -140,5 +140,5 @@ abbrev mutual
   SeqDerives (Then s q) scope = StmtDerives s scope × SeqDerives q scope
 
 -- the tree is a derivation of a program
-abbrev pub Derives : Sequence → Type 0
-Derives q = SeqDerives q []
+abbrev pub IsDerivation : Sequence → Type 0
+IsDerivation q = SeqDerives q []

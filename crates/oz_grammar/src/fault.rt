@@ -39,7 +39,7 @@ pub enum FaultKind {
     Expected(What),
     /// An integer outside -2^63 to 2^63 - 1, or with a first digit 0 before others.
     Number,
-    /// The place of a thread is below 1.
+    /// The site of a thread is below 1.
     Site,
     /// A statement within 200 others.
     Deep,

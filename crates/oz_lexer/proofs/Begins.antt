@@ -8,7 +8,7 @@ use Rattle.oz_lexer.specs.declared.token.LexKind.TheVariants.{BadChar, LongName}
 use Rattle.oz_lexer.specs.Spelling.{is_variable, is_lower_word, is_quoted, are_digits, digits_of, is_sign, is_long, is_name, token_kind_of}
 use Rattle.tree_node.specs.Words.{is_reserved}
 use Rattle.oz_lexer.specs.Faults.{Longest, bad_char, long_name}
-use Rattle.oz_lexer.specs.Tokens.{Begins}
+use Rattle.oz_lexer.specs.Tokens.{IsLexemeAt}
 use Rattle.oz_lexer.specs.Scan.{behind_blank, quote_from, within_name_limit, quoted_token, plain_token, token_length, token_kind, front_of}
 use Rattle.oz_lexer.proofs.QuoteFaults.{quote_fault}
 use Rattle.oz_lexer.proofs.Reaches.{is_longest, no_token}
@@ -32,10 +32,10 @@ no_end bytes e = choose (is_variable bytes) (is_lower_word bytes) (is_reserved b
 
 -- what the scan of a front tells of it
 abbrev pub Found : ℕ → List ℕ → Result (TokenKind × ℕ) (LexKind × ℕ) → Type 0
-Found place text (Ok t) = Begins place text (Ok t.0) place (take t.1 text) (drop t.1 text)
-Found place text (Err e) = Begins place text (Err e.0) (place + e.1) [] text
+Found place text (Ok t) = IsLexemeAt place text (Ok t.0) place (take t.1 text) (drop t.1 text)
+Found place text (Err e) = IsLexemeAt place text (Err e.0) (place + e.1) [] text
 
-token_begins : (place : ℕ) (text bytes rest : List ℕ) (kind : TokenKind) → Longest text kind bytes rest → is_long kind bytes ≡ false → Begins place text (Ok kind) place bytes rest
+token_begins : (place : ℕ) (text bytes rest : List ℕ) (kind : TokenKind) → Longest text kind bytes rest → is_long kind bytes ≡ false → IsLexemeAt place text (Ok kind) place bytes rest
 token_begins place text bytes rest Variable l s = (l, s, refl)
 token_begins place text bytes rest Atom l s = (l, s, refl)
 token_begins place text bytes rest Quoted l s = (l, s, refl)
@@ -86,7 +86,7 @@ front_found place (b ∷ cs) none =
     ] in chosen (eqb b 39) refl
 
 -- the end, or a longest token
-pub end_or_token : (place : ℕ) (text : List ℕ) (kind : TokenKind) (start : ℕ) (bytes rest : List ℕ) → Begins place text (Ok kind) start bytes rest → (text ≡ []) ⊎ Longest text kind bytes rest
+pub end_or_token : (place : ℕ) (text : List ℕ) (kind : TokenKind) (start : ℕ) (bytes rest : List ℕ) → IsLexemeAt place text (Ok kind) start bytes rest → (text ≡ []) ⊎ Longest text kind bytes rest
 end_or_token place text Variable start bytes rest b = inr b.0
 end_or_token place text Atom start bytes rest b = inr b.0
 end_or_token place text Quoted start bytes rest b = inr b.0
@@ -95,10 +95,10 @@ end_or_token place text Word start bytes rest b = inr b.0
 end_or_token place text Sign start bytes rest b = inr b.0
 end_or_token place text End start bytes rest b = inl b.0
 
-pub ok_begins : (place : ℕ) (text : List ℕ) (kind : TokenKind) (n : ℕ) → behind_blank text ≡ Ok None → front_of text ≡ Ok (kind, n) → Begins place text (Ok kind) place (take n text) (drop n text)
+pub ok_begins : (place : ℕ) (text : List ℕ) (kind : TokenKind) (n : ℕ) → behind_blank text ≡ Ok None → front_of text ≡ Ok (kind, n) → IsLexemeAt place text (Ok kind) place (take n text) (drop n text)
 ok_begins place text kind n none e = subst (Found place text) e (front_found place text none)
 
-pub err_begins : (place : ℕ) (text : List ℕ) (kind : LexKind) (n : ℕ) → behind_blank text ≡ Ok None → front_of text ≡ Err (kind, n) → Begins place text (Err kind) (place + n) [] text
+pub err_begins : (place : ℕ) (text : List ℕ) (kind : LexKind) (n : ℕ) → behind_blank text ≡ Ok None → front_of text ≡ Err (kind, n) → IsLexemeAt place text (Err kind) (place + n) [] text
 err_begins place text kind n none e = subst (Found place text) e (front_found place text none)
 
 -- ---- what begins there is found

@@ -1,7 +1,7 @@
 -- Comments in brackets, a byte at a time.
 use Rattle.std.proofs.Common.{◌≡◌, ℕ, zero, suc, ◌+◌, ◌-◌, List, [], ◌∷◌, Bool, true, false, cond, eqb, Option, Some, None, refl, subst, ap, ◌∙◌, arith}
 use Rattle.std.specs.Prelude.{◌||◌, ◌&&◌, slice_index}
-use Rattle.oz_lexer.specs.Blanks.{is_comment_sign, Closes, closed, nested, other}
+use Rattle.oz_lexer.specs.Blanks.{is_comment_sign, IsBehindComment, closed, nested, other}
 use Rattle.oz_lexer.specs.Scan.{behind_comment}
 
 -- what the scan finds behind a comment that stands in so many others
@@ -25,7 +25,7 @@ no_pair depth b (c ∷ cs) e = choose (eqb b 47) (eqb c 42) (eqb b 42) (eqb c 47
     choose false q false s e = refl
 
 -- a comment that closes is found
-pub found : {text rest : List ℕ} → Closes text rest → (depth : ℕ) → behind_comment depth 0 text ≡ after depth rest
+pub found : {text rest : List ℕ} → IsBehindComment text rest → (depth : ℕ) → behind_comment depth 0 text ≡ after depth rest
 found closed zero = refl
 found closed (suc depth) = let z : eqb (suc depth) 0 ≡ false = grind arith in let e : suc depth - 1 ≡ depth = omega arith in rw (z, e) refl
 found {rest = rest} (nested {text} {middle} inner outer) depth =
@@ -35,8 +35,8 @@ found (other {b} {text} e c) depth = no_pair depth b text e ∙ found c depth
 
 -- so many comments close, one behind the other
 abbrev CloseAll : ℕ → List ℕ → List ℕ → Type 0
-CloseAll zero text rest = Closes text rest
-CloseAll (suc depth) text rest = (middle : List ℕ) × Closes text middle × CloseAll depth middle rest
+CloseAll zero text rest = IsBehindComment text rest
+CloseAll (suc depth) text rest = (middle : List ℕ) × IsBehindComment text middle × CloseAll depth middle rest
 
 pass : (depth b : ℕ) (text rest : List ℕ) → is_comment_sign b (slice_index text 0) ≡ false → CloseAll depth text rest → CloseAll depth (b ∷ text) rest
 pass zero b text rest e c = other e c
@@ -47,7 +47,7 @@ open_pair zero text rest c = nested c.1 c.2
 open_pair (suc depth) text rest c = (c.2.0, nested c.1 c.2.1, c.2.2)
 
 close_pair : (depth : ℕ) (text rest : List ℕ) → cond (eqb depth 0) (Some text) (behind_comment (depth - 1) 0 text) ≡ Some rest → ((d : ℕ) → behind_comment d 0 text ≡ Some rest → CloseAll d text rest) → CloseAll depth (42 ∷ 47 ∷ text) rest
-close_pair zero text rest e closes = let is : text ≡ rest = cc in subst (λ (xs : List ℕ). Closes (42 ∷ 47 ∷ text) xs) is closed
+close_pair zero text rest e closes = let is : text ≡ rest = cc in subst (λ (xs : List ℕ). IsBehindComment (42 ∷ 47 ∷ text) xs) is closed
 close_pair (suc depth) text rest e closes = let z : eqb (suc depth) 0 ≡ false = grind arith in let m : suc depth - 1 ≡ depth = omega arith in (text, closed, closes depth (rw (z, m) at e))
 
 -- what the scan finds is where they close: with the byte before, or without one
@@ -83,9 +83,9 @@ mutual
       ] in chosen (eqb last 47) (eqb b 42) (eqb last 42) (eqb b 47) refl refl refl refl e
 
 -- a comment's end that is found closes it
-pub closes_there : (text rest : List ℕ) → behind_comment 0 0 text ≡ Some rest → Closes text rest
+pub closes_there : (text rest : List ℕ) → behind_comment 0 0 text ≡ Some rest → IsBehindComment text rest
 closes_there text rest e = sound 0 text rest e
 
 -- where none is found it stays open
-pub stays_open : (text : List ℕ) → behind_comment 0 0 text ≡ None → (rest : List ℕ) → Closes text rest → ⊥
+pub stays_open : (text : List ℕ) → behind_comment 0 0 text ≡ None → (rest : List ℕ) → IsBehindComment text rest → ⊥
 stays_open text e rest c = let f = found c 0 in cc

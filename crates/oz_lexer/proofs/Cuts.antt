@@ -5,7 +5,7 @@ use Rattle.std.proofs.lemmas.List.{drop-drop}
 use Rattle.std.proofs.lemmas.Str.{IsCharBoundary-end}
 use Rattle.oz_lexer.specs.declared.token.TokenKind.{TokenKind}
 use Rattle.oz_lexer.specs.declared.token.LexKind.{LexKind}
-use Rattle.oz_lexer.specs.Tokens.{Begins}
+use Rattle.oz_lexer.specs.Tokens.{IsLexemeAt}
 use Rattle.oz_lexer.specs.Scan.{behind_blank, front_of}
 use Rattle.oz_lexer.proofs.Fronts.{taken_length}
 use Rattle.oz_lexer.proofs.Begins.{end_or_token, ok_begins, err_begins}
@@ -16,14 +16,14 @@ pub record Cut (text : List ℕ) (start : ℕ) (kind : TokenKind) (n : ℕ) : Ty
   pub within : start + n ≤ length text
   pub first : IsCharBoundary text start
   pub last : IsCharBoundary text (start + n)
-  pub begins : Begins start (drop start text) (Ok kind) start (take (start + n - start) (drop start text)) (drop (start + n) text)
+  pub begins : IsLexemeAt start (drop start text) (Ok kind) start (take (start + n - start) (drop start text)) (drop (start + n) text)
 
-begins_as : (text : List ℕ) (start : ℕ) (kind : TokenKind) (n : ℕ) → Begins start (drop start text) (Ok kind) start (take n (drop start text)) (drop n (drop start text))
-    → Begins start (drop start text) (Ok kind) start (take (start + n - start) (drop start text)) (drop (start + n) text)
+begins_as : (text : List ℕ) (start : ℕ) (kind : TokenKind) (n : ℕ) → IsLexemeAt start (drop start text) (Ok kind) start (take n (drop start text)) (drop n (drop start text))
+    → IsLexemeAt start (drop start text) (Ok kind) start (take (start + n - start) (drop start text)) (drop (start + n) text)
 begins_as text start kind n b =
     let m : n ≡ start + n - start = omega arith in
-    subst (λ (xs : List ℕ). Begins start (drop start text) (Ok kind) start (take (start + n - start) (drop start text)) xs) (drop-drop n start text)
-    (subst (λ (k : ℕ). Begins start (drop start text) (Ok kind) start (take k (drop start text)) (drop n (drop start text))) m b)
+    subst (λ (xs : List ℕ). IsLexemeAt start (drop start text) (Ok kind) start (take (start + n - start) (drop start text)) xs) (drop-drop n start text)
+    (subst (λ (k : ℕ). IsLexemeAt start (drop start text) (Ok kind) start (take k (drop start text)) (drop n (drop start text))) m b)
 
 at_end : (text : List ℕ) (start : ℕ) (kind : TokenKind) (n : ℕ) → start ≤ length text → drop start text ≡ [] → n ≤ length (drop start text)
     → (start + n ≤ length text) × IsCharBoundary text start × IsCharBoundary text (start + n)

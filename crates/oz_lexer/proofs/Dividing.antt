@@ -7,7 +7,7 @@ use Rattle.oz_lexer.specs.declared.token.LexKind.{LexKind}
 use Rattle.oz_lexer.specs.declared.token.LexKind.TheVariants.{OpenComment}
 use Rattle.oz_lexer.specs.Spelling.{token_kind_of}
 use Rattle.oz_lexer.specs.Faults.{Longest}
-use Rattle.oz_lexer.specs.Tokens.{Begins, Lexeme, Next, Goes, TokensFrom}
+use Rattle.oz_lexer.specs.Tokens.{IsLexemeAt, Lexeme, Next, EndOrMore, TokensFrom}
 use Rattle.oz_lexer.specs.Laws.{TextsDivide, TextsDivideOnce}
 use Rattle.oz_lexer.specs.Scan.{behind_blank, front_of}
 use Rattle.oz_lexer.proofs.Skipping.{Open, blank_found, one_end, Ends, they_end}
@@ -43,7 +43,7 @@ one_next place text l m a b p q =
     let g = one_front (place + (length text - length q.front)) q.front m.what m.start m.bytes b q.begins in
     same_next l m a b (same_front place text l m a b p.front q.front (one_end p.blanks f.stuck q.blanks g.stuck) f.same g.same)
 
-goes_same : (what : Result TokenKind LexKind) (ls ms : List Lexeme) (A B : Type 0) → Goes what (ls ≡ []) A → Goes what (ms ≡ []) B → (A → B → ls ≡ ms) → ls ≡ ms
+goes_same : (what : Result TokenKind LexKind) (ls ms : List Lexeme) (A B : Type 0) → EndOrMore what (ls ≡ []) A → EndOrMore what (ms ≡ []) B → (A → B → ls ≡ ms) → ls ≡ ms
 goes_same (Ok Variable) ls ms A B g h k = k g h
 goes_same (Ok Atom) ls ms A B g h k = k g h
 goes_same (Ok Quoted) ls ms A B g h k = k g h
@@ -58,9 +58,9 @@ one_division place text [] ms p q = absurd p
 one_division place text (l ∷ ls) [] p q = absurd q
 one_division place text (l ∷ ls) (m ∷ ms) p q =
     let s = one_next place text l m p.0 q.0 p.1 q.1 in
-    let back : Goes l.what (ms ≡ []) (TokensFrom (l.start + length l.bytes) p.0 ms) =
-    subst (λ (x : Lexeme). Goes x.what (ms ≡ []) (TokensFrom (x.start + length x.bytes) p.0 ms)) (sym s.lexeme)
-    (subst (λ (xs : List ℕ). Goes m.what (ms ≡ []) (TokensFrom (m.start + length m.bytes) xs ms)) (sym s.rest) q.2) in
+    let back : EndOrMore l.what (ms ≡ []) (TokensFrom (l.start + length l.bytes) p.0 ms) =
+    subst (λ (x : Lexeme). EndOrMore x.what (ms ≡ []) (TokensFrom (x.start + length x.bytes) p.0 ms)) (sym s.lexeme)
+    (subst (λ (xs : List ℕ). EndOrMore m.what (ms ≡ []) (TokensFrom (m.start + length m.bytes) xs ms)) (sym s.rest) q.2) in
     let rest : ls ≡ ms = goes_same l.what ls ms (TokensFrom (l.start + length l.bytes) p.0 ls) (TokensFrom (l.start + length l.bytes) p.0 ms) p.2 back (λ a b. one_division (l.start + length l.bytes) p.0 ls ms a b) in
     let first = s.lexeme in
     cc
@@ -94,14 +94,14 @@ behind_shorter text kind n l =
     omega (arith, length-take n text, length-drop n text)
 
 fault_alone : (place : ℕ) (text rest : List ℕ) (l : Lexeme) (kind : LexKind) → l.what ≡ Err kind → Next place text l rest → Divided place text
-fault_alone place text rest l kind e n = (l ∷ [], (rest, n, subst (λ (w : Result TokenKind LexKind). Goes w (◌≡◌ {A = List Lexeme} [] []) (TokensFrom (l.start + length l.bytes) rest [])) (sym e) refl))
+fault_alone place text rest l kind e n = (l ∷ [], (rest, n, subst (λ (w : Result TokenKind LexKind). EndOrMore w (◌≡◌ {A = List Lexeme} [] []) (TokensFrom (l.start + length l.bytes) rest [])) (sym e) refl))
 
 divide_front : (place : ℕ) (text : List ℕ) (e : Ends text) (r : Result (TokenKind × ℕ) (LexKind × ℕ)) → Found (place + (length text - length e.rest)) e.rest r
     → ((p : ℕ) (xs : List ℕ) → length xs < length text → Divided p xs) → Divided place text
 divide_front place text e (Err f) b more = fault_alone place text e.rest (record { what = Err f.0; start = place + (length text - length e.rest) + f.1; bytes = [] }) f.0 refl (record { front = e.rest; blanks = e.skips; begins = b })
 divide_front place text e (Ok t) b more = by_kind t.0 b
   where
-    by_kind : (kind : TokenKind) → Begins (place + (length text - length e.rest)) e.rest (Ok kind) (place + (length text - length e.rest)) (take t.1 e.rest) (drop t.1 e.rest) → Divided place text
+    by_kind : (kind : TokenKind) → IsLexemeAt (place + (length text - length e.rest)) e.rest (Ok kind) (place + (length text - length e.rest)) (take t.1 e.rest) (drop t.1 e.rest) → Divided place text
     by_kind End c = (record { what = Ok End; start = place + (length text - length e.rest); bytes = take t.1 e.rest } ∷ [], (drop t.1 e.rest, record { front = e.rest; blanks = e.skips; begins = c }, refl))
     by_kind Variable c = token_then place (place + (length text - length e.rest)) text e.rest (take t.1 e.rest) (drop t.1 e.rest) Variable (record { front = e.rest; blanks = e.skips; begins = c }) (more _ (drop t.1 e.rest) (let s = behind_shorter e.rest Variable t.1 c.0 in let w = e.within in omega arith))
     by_kind Atom c = token_then place (place + (length text - length e.rest)) text e.rest (take t.1 e.rest) (drop t.1 e.rest) Atom (record { front = e.rest; blanks = e.skips; begins = c }) (more _ (drop t.1 e.rest) (let s = behind_shorter e.rest Atom t.1 c.0 in let w = e.within in omega arith))

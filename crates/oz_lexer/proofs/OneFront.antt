@@ -6,9 +6,9 @@ use Rattle.oz_lexer.specs.declared.token.TokenKind.TheVariants.{Variable, Atom, 
 use Rattle.oz_lexer.specs.declared.token.LexKind.{LexKind}
 use Rattle.oz_lexer.specs.declared.token.LexKind.TheVariants.{BadChar, OpenComment, LongName}
 use Rattle.oz_lexer.specs.Spelling.{is_long, token_kind_of}
-use Rattle.oz_lexer.specs.Blanks.{is_blank, Closes}
+use Rattle.oz_lexer.specs.Blanks.{is_blank, IsBehindComment}
 use Rattle.oz_lexer.specs.Faults.{Longest, NothingBegins, FaultAt, bad_char, control, bad_escape, open_quote, open_escape, open_comment, long_name}
-use Rattle.oz_lexer.specs.Tokens.{Begins}
+use Rattle.oz_lexer.specs.Tokens.{IsLexemeAt}
 use Rattle.oz_lexer.specs.Scan.{behind_comment, closed_or, behind_slash, behind_blank, quote_from, within_name_limit, quoted_token, token_length, token_kind, front_of}
 use Rattle.oz_lexer.proofs.Spelled.{blank_spelled, line_spelled, slash_spelled}
 use Rattle.oz_lexer.proofs.QuoteFaults.{finds_control, finds_escape, finds_open, finds_last}
@@ -86,7 +86,7 @@ nothing_front b text n =
       ]
     ] in chosen (eqb b 39) (eqb (token_length b text) 0) refl refl
 
-comment_found : (text : List ℕ) → ((rest : List ℕ) → Closes text rest → ⊥) → IsFound (47 ∷ 42 ∷ text) (Err (OpenComment, 0))
+comment_found : (text : List ℕ) → ((rest : List ℕ) → IsBehindComment text rest → ⊥) → IsFound (47 ∷ 42 ∷ text) (Err (OpenComment, 0))
 comment_found text h =
     let chosen : (o : Option (List ℕ)) → behind_comment 0 0 text ≡ o → behind_blank (47 ∷ 42 ∷ text) ≡ Err OpenComment = elim [
       | None ↦ λ e. ap closed_or e
@@ -124,7 +124,7 @@ of_token place text kind start bytes rest l e at =
     let back : drop (length bytes) text ≡ rest = rw (l.is) (back_part bytes rest) in
     record { stuck = f.stuck; same = rw (f.found, front, back, at) refl }
 
-pub one_front : (place : ℕ) (text : List ℕ) (what : Result TokenKind LexKind) (start : ℕ) (bytes rest : List ℕ) → Begins place text what start bytes rest
+pub one_front : (place : ℕ) (text : List ℕ) (what : Result TokenKind LexKind) (start : ℕ) (bytes rest : List ℕ) → IsLexemeAt place text what start bytes rest
     → OneFront place text (record { what = what; start = start; bytes = bytes; rest = rest })
 one_front place text (Ok Variable) start bytes rest b = of_token place text Variable start bytes rest b.0 b.1 b.2
 one_front place text (Ok Atom) start bytes rest b = of_token place text Atom start bytes rest b.0 b.1 b.2

@@ -5,12 +5,12 @@ use Rattle.std.specs.Prelude.{slice_index}
 use Rattle.std.specs.List.{prefix_len}
 use Rattle.oz_lexer.specs.declared.token.LexKind.{LexKind}
 use Rattle.oz_lexer.specs.declared.token.LexKind.TheVariants.{OpenComment}
-use Rattle.oz_lexer.specs.Blanks.{is_blank, is_in_line, from_newline, Closes, closed, nested, other, Skips, here, blank, line, comment}
+use Rattle.oz_lexer.specs.Blanks.{is_blank, is_in_line, from_newline, IsBehindComment, closed, nested, other, IsBehindBlanks, here, blank, line, comment}
 use Rattle.oz_lexer.specs.Faults.{FaultAt, open_comment}
 use Rattle.oz_lexer.specs.Scan.{behind_comment, closed_or, behind_slash, behind_blank}
 use Rattle.oz_lexer.proofs.Comments.{found, closes_there, stays_open}
 
-closes_shorter : {text rest : List ℕ} → Closes text rest → length rest < length text
+closes_shorter : {text rest : List ℕ} → IsBehindComment text rest → length rest < length text
 closes_shorter closed = omega arith
 closes_shorter (nested c d) = let m = closes_shorter c in let n = closes_shorter d in omega arith
 closes_shorter (other e c) = let m = closes_shorter c in omega arith
@@ -19,7 +19,7 @@ newline_shorter : (text : List ℕ) → length (from_newline text) ≤ length te
 newline_shorter text = omega (arith, length-drop (prefix_len is_in_line text) text)
 
 -- one behind the other
-pub both_skip : {text middle rest : List ℕ} → Skips text middle → Skips middle rest → Skips text rest
+pub both_skip : {text middle rest : List ℕ} → IsBehindBlanks text middle → IsBehindBlanks middle rest → IsBehindBlanks text rest
 both_skip here t = t
 both_skip (blank e s) t = blank e (both_skip s t)
 both_skip (line s) t = line (both_skip s t)
@@ -36,12 +36,12 @@ more_before b f = record { front = b ∷ f.front; is = ap (λ (xs : List ℕ). b
 all_before : {text middle rest : List ℕ} → Before text middle → Before middle rest → Before text rest
 all_before f g = record { front = f.front ++ g.front; is = f.is ∙ ap (λ (xs : List ℕ). f.front ++ xs) g.is ∙ sym (append_assoc f.front g.front _) }
 
-closes_before : {text rest : List ℕ} → Closes text rest → Before text rest
+closes_before : {text rest : List ℕ} → IsBehindComment text rest → Before text rest
 closes_before closed = record { front = 42 ∷ 47 ∷ []; is = refl }
 closes_before (nested c d) = more_before 47 (more_before 42 (all_before (closes_before c) (closes_before d)))
 closes_before (other {b} e c) = more_before b (closes_before c)
 
-skips_before : {text rest : List ℕ} → Skips text rest → Before text rest
+skips_before : {text rest : List ℕ} → IsBehindBlanks text rest → Before text rest
 skips_before here = record { front = []; is = refl }
 skips_before (blank {b} e s) = more_before b (skips_before s)
 skips_before (line {text} s) = more_before 37 (all_before (record { front = take (prefix_len is_in_line text) text; is = sym (take-append-drop (prefix_len is_in_line text) text) }) (skips_before s))
@@ -59,7 +59,7 @@ pub record Tail (text rest : List ℕ) : Type 0 where
   pub within : length rest ≤ length text
   pub is : drop (length text - length rest) text ≡ rest
 
-pub skips_tail : {text rest : List ℕ} → Skips text rest → Tail text rest
+pub skips_tail : {text rest : List ℕ} → IsBehindBlanks text rest → Tail text rest
 skips_tail {text} {rest} s =
     let f = skips_before s in
     let whole : length text ≡ length (f.front ++ rest) = ap (λ (xs : List ℕ). length xs) f.is in
@@ -72,7 +72,7 @@ skips_tail {text} {rest} s =
 
 -- a blank or comment at the front, before rest
 pub record Blank (text rest : List ℕ) : Type 0 where
-  pub skips : {more : List ℕ} → Skips rest more → Skips text more
+  pub skips : {more : List ℕ} → IsBehindBlanks rest more → IsBehindBlanks text more
   pub shorter : length rest < length text
 
 -- a comment that stays open at the front
@@ -173,7 +173,7 @@ one_more : (n : ℕ) (text rest : List ℕ) → behind_blank text ≡ Ok (Some r
 one_more n text rest e = rw e refl
 
 -- the text behind all of them is found
-ends_at : {text rest : List ℕ} → Skips text rest → Stuck rest → (n : ℕ) → length text ≤ n → skip_all n text ≡ rest
+ends_at : {text rest : List ℕ} → IsBehindBlanks text rest → Stuck rest → (n : ℕ) → length text ≤ n → skip_all n text ≡ rest
 ends_at {text} here stuck n le = stays n text stuck
 ends_at (blank {b} {text} e s) stuck zero le = absurd (omega arith)
 ends_at (blank {b} {text} e s) stuck (suc n) le = one_more n (b ∷ text) text (rw e refl) ∙ ends_at s stuck n (omega arith)
@@ -184,13 +184,13 @@ ends_at (comment {text} {middle} c s) stuck (suc n) le =
     one_more n (47 ∷ 42 ∷ text) middle (ap closed_or (found c 0)) ∙ ends_at s stuck n (let m = closes_shorter c in omega arith)
 
 -- they end at one place
-pub one_end : {text a b : List ℕ} → Skips text a → Stuck a → Skips text b → Stuck b → a ≡ b
+pub one_end : {text a b : List ℕ} → IsBehindBlanks text a → Stuck a → IsBehindBlanks text b → Stuck b → a ≡ b
 one_end {text} s p t q = sym (ends_at s p (length text) (omega arith)) ∙ ends_at t q (length text) (omega arith)
 
 -- they end somewhere
 pub record Ends (text : List ℕ) : Type 0 where
   pub rest : List ℕ
-  pub skips : Skips text rest
+  pub skips : IsBehindBlanks text rest
   pub stuck : Stuck rest
   pub within : length rest ≤ length text
 

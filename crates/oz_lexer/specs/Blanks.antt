@@ -19,14 +19,14 @@ abbrev pub is_comment_sign : ℕ → ℕ → Bool
 is_comment_sign b c = ((b == 47) && (c == 42)) || ((b == 42) && (c == 47))
 
 -- a text behind /* closes this comment with the */ before rest: comments inside close first. Pairs are read from the left
-pub data Closes : List ℕ → List ℕ → Type 0 where
-  closed : {rest : List ℕ} → Closes (42 ∷ 47 ∷ rest) rest
-  nested : {text middle rest : List ℕ} → Closes text middle → Closes middle rest → Closes (47 ∷ 42 ∷ text) rest
-  other : {b : ℕ} {text rest : List ℕ} → is_comment_sign b (slice_index text 0) ≡ false → Closes text rest → Closes (b ∷ text) rest
+pub data IsBehindComment : List ℕ → List ℕ → Type 0 where
+  closed : {rest : List ℕ} → IsBehindComment (42 ∷ 47 ∷ rest) rest
+  nested : {text middle rest : List ℕ} → IsBehindComment text middle → IsBehindComment middle rest → IsBehindComment (47 ∷ 42 ∷ text) rest
+  other : {b : ℕ} {text rest : List ℕ} → is_comment_sign b (slice_index text 0) ≡ false → IsBehindComment text rest → IsBehindComment (b ∷ text) rest
 
 -- a text is blanks, comments to the end of a line, and comments in brackets, before rest
-pub data Skips : List ℕ → List ℕ → Type 0 where
-  here : {text : List ℕ} → Skips text text
-  blank : {b : ℕ} {text rest : List ℕ} → is_blank b ≡ true → Skips text rest → Skips (b ∷ text) rest
-  line : {text rest : List ℕ} → Skips (from_newline text) rest → Skips (37 ∷ text) rest
-  comment : {text middle rest : List ℕ} → Closes text middle → Skips middle rest → Skips (47 ∷ 42 ∷ text) rest
+pub data IsBehindBlanks : List ℕ → List ℕ → Type 0 where
+  here : {text : List ℕ} → IsBehindBlanks text text
+  blank : {b : ℕ} {text rest : List ℕ} → is_blank b ≡ true → IsBehindBlanks text rest → IsBehindBlanks (b ∷ text) rest
+  line : {text rest : List ℕ} → IsBehindBlanks (from_newline text) rest → IsBehindBlanks (37 ∷ text) rest
+  comment : {text middle rest : List ℕ} → IsBehindComment text middle → IsBehindBlanks middle rest → IsBehindBlanks (47 ∷ 42 ∷ text) rest

@@ -4,7 +4,7 @@ use Rattle.oz_lexer.specs.declared.token.TokenKind.{TokenKind}
 use Rattle.oz_lexer.specs.declared.token.LexKind.{LexKind}
 use Rattle.oz_lexer.specs.declared.token.LexKind.TheVariants.{BadChar, OpenQuote, BadEscape, OpenComment, LongName}
 use Rattle.oz_lexer.specs.Spelling.{is_control, is_escape, is_quotable, token_kind_of, is_long}
-use Rattle.oz_lexer.specs.Blanks.{is_blank, Closes}
+use Rattle.oz_lexer.specs.Blanks.{is_blank, IsBehindComment}
 
 -- the longest token at the front of a text, and what stands behind it: no more of the text than its bytes is a token
 pub record Longest (text : List ℕ) (kind : TokenKind) (bytes rest : List ℕ) : Type 0 where
@@ -27,5 +27,5 @@ pub data FaultAt : List ℕ → LexKind → ℕ → Type 0 where
   bad_escape : (b : ℕ) (inside rest : List ℕ) → is_quotable inside ≡ true → is_escape b ≡ false → FaultAt (39 ∷ (inside ++ 92 ∷ b ∷ rest)) BadEscape (length inside + 1)
   open_quote : (inside : List ℕ) → is_quotable inside ≡ true → FaultAt (39 ∷ inside) OpenQuote 0
   open_escape : (inside : List ℕ) → is_quotable inside ≡ true → FaultAt (39 ∷ (inside ++ 92 ∷ [])) OpenQuote 0
-  open_comment : (text : List ℕ) → ((rest : List ℕ) → Closes text rest → ⊥) → FaultAt (47 ∷ 42 ∷ text) OpenComment 0
+  open_comment : (text : List ℕ) → ((rest : List ℕ) → IsBehindComment text rest → ⊥) → FaultAt (47 ∷ 42 ∷ text) OpenComment 0
   long_name : (text : List ℕ) (kind : TokenKind) (bytes rest : List ℕ) → Longest text kind bytes rest → is_long kind bytes ≡ true → FaultAt text LongName 0

@@ -3,7 +3,7 @@ use Rattle.std.specs.Prelude.{◌≡◌, ℕ, ◌-◌, ◌≤◌, List, [], ◌�
 use Rattle.oz_lexer.specs.declared.token.LexKind.{LexKind}
 use Rattle.oz_lexer.specs.declared.token.Token.{Token}
 use Rattle.oz_lexer.specs.declared.token.LexFault.{LexFault}
-use Rattle.oz_lexer.specs.Tokens.{Lexeme, Next, Goes, TokensFrom}
+use Rattle.oz_lexer.specs.Tokens.{Lexeme, Next, EndOrMore, TokensFrom}
 use Rattle.oz_lexer.specs.Place.{place_of}
 
 -- a lexer: its text, and how many bytes of it are read
@@ -27,9 +27,9 @@ FaultNext place text l = (rest : List ℕ) × Next place text l rest
 
 -- a token is the first of those to come, before those to come then; the end is the last of them, and so is a fault, at its
 -- line and column
-abbrev pub Gives : Lexing → Lexing → Result Token LexFault → Type 0
-Gives before now (Ok t) = Goes (Ok t.kind) (Ahead before (lexeme_of t ∷ [])) ((ls : List Lexeme) → Ahead now ls → Ahead before (lexeme_of t ∷ ls))
-Gives before now (Err f) = (place : ℕ) × Ahead before (fault_at f.kind place ∷ []) × ((f.line, f.column) ≡ place_of (take place before.text))
+abbrev pub IsNextToken : Lexing → Lexing → Result Token LexFault → Type 0
+IsNextToken before now (Ok t) = EndOrMore (Ok t.kind) (Ahead before (lexeme_of t ∷ [])) ((ls : List Lexeme) → Ahead now ls → Ahead before (lexeme_of t ∷ ls))
+IsNextToken before now (Err f) = (place : ℕ) × Ahead before (fault_at f.kind place ∷ []) × ((f.line, f.column) ≡ place_of (take place before.text))
 
 -- a token's span in the text, behind what was read before, and its slice
 pub record IsSlice (text : List ℕ) (at : ℕ) (t : Token) : Type 0 where

@@ -3,7 +3,7 @@
 ghost use Rattle.std.specs.Prelude.{◌≡◌, ◌<◌, ◌≤◌, length, not, ◌==◌, drop, Some, None, Ok, Err, option_map, MatchResult, IfOk, IfSome};
 ghost use Rattle.std.specs.List.{prefix_len};
 ghost use Rattle.oz_lexer.specs.declared.token.LexKind.TheVariants.{OpenComment};
-ghost use Rattle.oz_lexer.specs.Blanks.{is_in_line, from_newline, Skips};
+ghost use Rattle.oz_lexer.specs.Blanks.{is_in_line, from_newline, IsBehindBlanks};
 ghost use Rattle.oz_lexer.specs.Scan.{behind_comment, behind_slash, behind_blank, seen_text, seen_blank};
 
 use crate::spelling::is_blank;
@@ -87,7 +87,7 @@ fn behind_blank(text: &[u8]) -> Result<Option<&[u8]>, LexKind>
 
 /// The text behind all blanks and comments at its front, or from the comment on that stays open.
 pub fn behind_blanks(text: &[u8]) -> Result<&[u8], &[u8]>
-    ensures { MatchResult result (λ rest. Skips text.now rest.now × (behind_blank rest.now ≡ Ok None)) (λ rest. Skips text.now rest.now × (behind_blank rest.now ≡ Err OpenComment)) }
+    ensures { MatchResult result (λ rest. IsBehindBlanks text.now rest.now × (behind_blank rest.now ≡ Ok None)) (λ rest. IsBehindBlanks text.now rest.now × (behind_blank rest.now ≡ Err OpenComment)) }
 {
     let mut rest = text;
     loop {

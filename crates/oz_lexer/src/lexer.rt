@@ -2,9 +2,9 @@
 
 ghost use Rattle.std.specs.Prelude.{◌≡◌, ◌+◌, ◌-◌, ◌<◌, ◌≤◌, length, take, drop, Ok, Err, None, [], IfOk, OnOk, OnErr, MatchResult};
 ghost use Rattle.std.specs.Str.{IsCharBoundary};
-ghost use Rattle.oz_lexer.specs.Tokens.{Begins, Next};
+ghost use Rattle.oz_lexer.specs.Tokens.{IsLexemeAt, Next};
 ghost use Rattle.oz_lexer.specs.Scan.{behind_blank};
-ghost use Rattle.oz_lexer.specs.Lexing.{lexeme_of, fault_at, FaultNext, Gives, IsSlice};
+ghost use Rattle.oz_lexer.specs.Lexing.{lexeme_of, fault_at, FaultNext, IsNextToken, IsSlice};
 
 use crate::blank::behind_blanks;
 use crate::front::front;
@@ -26,7 +26,7 @@ fn slice(text: &str, start: usize, end: usize) -> &str
 fn token(text: &str, start: usize) -> Result<Token<'_>, (LexKind, usize)>
     requires start { start ≤ length text.now }
     requires blank { behind_blank (drop start text.now) ≡ Ok None }
-    ensures begins { MatchResult result (λ t. Begins start (drop start text.now) (Ok t.kind) t.start t.text.now (drop t.end text.now)) (λ e. Begins start (drop start text.now) (Err e.0) e.1 [] (drop start text.now)) }
+    ensures begins { MatchResult result (λ t. IsLexemeAt start (drop start text.now) (Ok t.kind) t.start t.text.now (drop t.end text.now)) (λ e. IsLexemeAt start (drop start text.now) (Err e.0) e.1 [] (drop start text.now)) }
     ensures slice { MatchResult result (λ t. IsSlice text.now start t) (λ e. e.1 ≤ length text.now) }
 {
     match front(text.as_bytes().split_at(start).1) {
@@ -84,7 +84,7 @@ impl<'a> Lexer<'a> {
 
     /// The next token. At the end of the text it is the end, again and again, and after a fault the same fault.
     pub fn next(&mut self) -> Result<Token<'a>, LexFault>
-        ensures token { Gives self.old self.new result }
+        ensures token { IsNextToken self.old self.new result }
         ensures slice { IfOk result (λ t. IsSlice self.old.text self.old.at t) }
         ensures passed { IfOk result (λ t. self.new.at ≡ t.end) }
         ensures stays { OnErr result (self.new.at ≡ self.old.at) }

@@ -28,7 +28,7 @@ use Rattle.oz_model.specs.Outcome.{outcome_of, print_outcome}
 use Rattle.oz_model.specs.Need.{outcome_need, stack_need, kinds_of}
 use Rattle.oz_model.specs.Effect.{CellChange, Stays, Made, Exchanged, stack_effect, outcome_effect, goal_effect, pair_effect, exception_effect, vars_among, cell_among}
 use Rattle.oz_model.specs.Step.{kind_of, content_of, cells_after, effect_of, stack_of, next, Step}
-use Rattle.oz_model.specs.Run.{Runs, exchange_in, exchanges_from}
+use Rattle.oz_model.specs.Run.{IsRun, exchange_in, exchanges_from}
 use Rattle.oz_model.specs.Laws.{IsChainFrom, ExchangesChain}
 use Rattle.tree_node.proofs.AssocLemmas.{value_of-with_value, value_of-with_value-other}
 use Rattle.oz_model.proofs.KindLemmas.{kinds_one, only_cell, equal_cell_decides}
@@ -143,5 +143,5 @@ exchanges_chain p s (k ∷ ks) t c content (m, step, run) held =
     change_chain s c content (effect_of p s k).cell (exchanges_from p c (next p s k) ks) held (step_makes p s k m step)
     (λ after at.
     let to : m ≡ next p s k = step.1 in
-    let rest : Runs p (next p s k) ks t = subst (λ (x : State). Runs p x ks t) to run in
+    let rest : IsRun p (next p s k) ks t = subst (λ (x : State). IsRun p x ks t) to run in
     exchanges_chain p (next p s k) ks t c after rest at)

@@ -30,7 +30,7 @@ use Rattle.oz_model.specs.Need.{outcome_need, stack_need, kinds_of}
 use Rattle.oz_model.specs.Effect.{Birth, CellChange, Stays, Made, Exchanged, stack_effect, outcome_effect, goal_effect, pair_effect, exception_effect, vars_among, thread_among}
 use Rattle.oz_model.specs.Step.{kind_of, cells_after, stack_with_content, living_stack, threads_born, effect_of, stack_of, IsAllowed, next}
 use Rattle.tree_node.proofs.AssocLemmas.{keys, Each-goes_on, Each-keys-goes_on, AreDistinct-with_value, AreDistinct-goes_on}
-use Rattle.oz_model.specs.Run.{Runs, start}
+use Rattle.oz_model.specs.Run.{IsRun, start}
 use Rattle.oz_model.specs.Laws.{AreOnce, RunsAreOnce}
 use Rattle.oz_model.proofs.KindLemmas.{equal_cell_decides, kinds_one, only_thread}
 use Rattle.oz_model.proofs.ExchangeLemmas.{step_makes}
@@ -134,7 +134,7 @@ once_step p s k a h =
       cells = cells_distinct s e.cell (step_makes p s k (next p s k) (a, refl)) h.cells;
     }
 
-once_run : (p : List Stmt) (s : State) (ks : List Pick) (t : State) → Runs p s ks t → AreOnce s → AreOnce t
+once_run : (p : List Stmt) (s : State) (ks : List Pick) (t : State) → IsRun p s ks t → AreOnce s → AreOnce t
 once_run p s [] t run h = subst AreOnce (sym run) h
 once_run p s (k ∷ ks) t (m, step, run) h = once_run p m ks t run (subst AreOnce (sym step.1) (once_step p s k step.0 h))
 

@@ -12,7 +12,7 @@ use Rattle.tree_node.specs.declared.node.Node.TheVariants as node
 use Rattle.tree_node.specs.declared.node.Term.TheVariants as term
 use Rattle.tree_node.specs.declared.pick.Pick.{Pick}
 use Rattle.tree_node.specs.Assoc.{value_of}
-use Rattle.tree_node.specs.Goal.{Allows}
+use Rattle.tree_node.specs.Goal.{IsAllowedBind}
 use Rattle.tree_node.specs.Names.{IsNew}
 use Rattle.tree_node.specs.Rows.{v}
 use Rattle.tree_node.specs.Shown.{shown_within}
@@ -23,7 +23,7 @@ use Rattle.kernel_syntax.specs.declared.stmt.Stmt.{Stmt}
 use Rattle.kernel_syntax.specs.Free.{free}
 use Rattle.oz_model.specs.Need.{Need, Waits, Binds, Takes, IsReady, IsWaiting, kinds_of, stack_need}
 use Rattle.oz_model.specs.Step.{IsAllowed, AreFresh, IsBindFor, need_of, next}
-use Rattle.oz_model.specs.Run.{AtRest, Runs, first_thread, start}
+use Rattle.oz_model.specs.Run.{AtRest, IsRun, first_thread, start}
 use Rattle.oz_model.specs.Rows.{IntegerIsPrinted, FailureIsReported, UnboundIsAwaited, AtomIsPrinted, AtomIsPrintedToo, SkipEnds, AreRefused, IsRefused, RunsTo, MarksCatch}
 use Rattle.oz_model.specs.Rows as rows
 use Rattle.std.proofs.lemmas.Bool.{and_parts}
@@ -79,7 +79,7 @@ allowed p s n names bind More lives fit choice =
     go (Binds a b) (x ∷ xs) bind e c = cc
     go (Waits x) names bind e c = cc
 
-runs : (p : List Stmt) (s : State) (ks : List Pick) → all_fit p s ks ≡ true → Choices p s ks → Runs p s ks (end p s ks)
+runs : (p : List Stmt) (s : State) (ks : List Pick) → all_fit p s ks ≡ true → Choices p s ks → IsRun p s ks (end p s ks)
 runs p s [] e c = refl
 runs p s (k ∷ ks) e c =
     let lives = and_parts (is_some (value_of equal_thread s.threads k.thread)) (fits (need_of p s k.thread) k.fresh k.bind && all_fit p (next p s k) ks) e in
@@ -194,7 +194,7 @@ are_refused = record {
 }
   where
     -- 5 allows no bind to 6
-    other_value : Allows [] (term.Var (v 0)) (term.Node (node.Int (pos 5))) (v 0, term.Node (node.Int (pos 6))) → ⊥
+    other_value : IsAllowedBind [] (term.Var (v 0)) (term.Node (node.Int (pos 5))) (v 0, term.Node (node.Int (pos 6))) → ⊥
     other_value (inl h) = let same : ◌≡◌ {A = Option Node} (Some (node.Int (pos 5))) (Some (node.Int (pos 6))) = h.1 in absurd (cc)
     other_value (inr h) = h.0
 

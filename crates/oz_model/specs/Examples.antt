@@ -18,8 +18,8 @@ use Rattle.oz_model.specs.Run.{exchanges, contents_given}
 use Rattle.oz_model.specs.Rows.{code, new, pick, plain, RunsTo}
 
 -- a tell, the bind of its pair, the pair that is then equal, and the end of its goal block
-abbrev pub told : Equation → List Pick
-told e = plain ∷ pick [] (Some e) ∷ plain ∷ plain ∷ []
+abbrev pub tell_picks : Equation → List Pick
+tell_picks e = plain ∷ pick [] (Some e) ∷ plain ∷ plain ∷ []
 
 abbrev pub first_proc : ProcName
 first_proc = record { site = 1; num = 0 }
@@ -41,7 +41,7 @@ abbrev pub call_picks : List Pick
 call_picks =
     pick (new 0 ∷ new 1 ∷ new 2 ∷ []) None ∷ plain
     ∷ pick (name.Proc first_proc ∷ []) None ∷ pick [] (Some (holds 0 (node.Proc first_proc (code 2) 1 (v 2 ∷ [])))) ∷ plain ∷ plain
-    ∷ plain ∷ told (v 1, term.Var (v 2)) ++ told (holds 2 (node.Int (pos 7))) ++ plain ∷ []
+    ∷ plain ∷ tell_picks (v 1, term.Var (v 2)) ++ tell_picks (holds 2 (node.Int (pos 7))) ++ plain ∷ []
 
 abbrev pub ProcedureIsCalled : Type 0
 ProcedureIsCalled = RunsTo calls call_picks (codes "7" ∷ []) 1 0
@@ -54,8 +54,8 @@ matches =
 
 abbrev pub case_picks : List Pick
 case_picks =
-    pick (new 0 ∷ new 1 ∷ []) None ∷ plain ∷ told (holds 0 (node.Rec (codes "f") ((feature.Int (pos 1), v 1) ∷ [])))
-    ++ told (holds 1 (node.Int (pos 3))) ++ plain ∷ plain ∷ []
+    pick (new 0 ∷ new 1 ∷ []) None ∷ plain ∷ tell_picks (holds 0 (node.Rec (codes "f") ((feature.Int (pos 1), v 1) ∷ [])))
+    ++ tell_picks (holds 1 (node.Int (pos 3))) ++ plain ∷ plain ∷ []
 
 abbrev pub FieldIsMatched : Type 0
 FieldIsMatched = RunsTo matches case_picks (codes "3" ∷ []) 1 0
@@ -66,7 +66,7 @@ catches =
     Local 0 1 (code 1) ∷ Seq (code 2 ∷ code 3 ∷ []) ∷ TellInt 0 (pos 5) ∷ Try (code 4) 1 (code 5) ∷ Raise 0 ∷ Browse 1 ∷ []
 
 abbrev pub catch_picks : List Pick
-catch_picks = pick (new 0 ∷ []) None ∷ plain ∷ told (holds 0 (node.Int (pos 5))) ++ plain ∷ plain ∷ plain ∷ []
+catch_picks = pick (new 0 ∷ []) None ∷ plain ∷ tell_picks (holds 0 (node.Int (pos 5))) ++ plain ∷ plain ∷ plain ∷ []
 
 abbrev pub HandlerHasException : Type 0
 HandlerHasException = RunsTo catches catch_picks (codes "5" ∷ []) 1 0
@@ -79,9 +79,9 @@ exchanges_once =
 
 abbrev pub exchange_picks : List Pick
 exchange_picks =
-    pick (new 0 ∷ new 1 ∷ new 2 ∷ new 3 ∷ []) None ∷ plain ∷ told (holds 1 (node.Int (pos 1)))
+    pick (new 0 ∷ new 1 ∷ new 2 ∷ new 3 ∷ []) None ∷ plain ∷ tell_picks (holds 1 (node.Int (pos 1)))
     ++ pick (name.Cell first_cell ∷ []) None ∷ pick [] (Some (holds 0 (node.Cell first_cell))) ∷ plain ∷ plain
-    ∷ told (v 3, term.Var (v 1)) ++ plain ∷ []
+    ∷ tell_picks (v 3, term.Var (v 1)) ++ plain ∷ []
 
 -- the old content is A's variable and goes to X, and the new one is B's
 pub record ContentIsExchanged : Type 0 where
@@ -114,8 +114,8 @@ adds =
 
 abbrev pub overflow_picks : List Pick
 overflow_picks =
-    pick (new 0 ∷ new 1 ∷ new 2 ∷ []) None ∷ plain ∷ told (holds 0 (node.Int (pos 9223372036854775807)))
-    ++ told (holds 1 (node.Int (pos 1))) ++ pick (new 3 ∷ new 4 ∷ []) None ∷ plain ∷ []
+    pick (new 0 ∷ new 1 ∷ new 2 ∷ []) None ∷ plain ∷ tell_picks (holds 0 (node.Int (pos 9223372036854775807)))
+    ++ tell_picks (holds 1 (node.Int (pos 1))) ++ pick (new 3 ∷ new 4 ∷ []) None ∷ plain ∷ []
 
 abbrev pub OverflowIsRaised : Type 0
 OverflowIsRaised = RunsTo adds overflow_picks (codes "uncaught error(overflow)" ∷ []) 1 0
@@ -126,7 +126,7 @@ tests_integer = Local 0 1 (code 1) ∷ Seq (code 2 ∷ code 3 ∷ []) ∷ TellIn
 
 abbrev pub integer_test_picks : List Pick
 integer_test_picks =
-    pick (new 0 ∷ []) None ∷ plain ∷ told (holds 0 (node.Int (pos 1))) ++ pick (new 1 ∷ new 2 ∷ []) None ∷ plain ∷ []
+    pick (new 0 ∷ []) None ∷ plain ∷ tell_picks (holds 0 (node.Int (pos 1))) ++ pick (new 1 ∷ new 2 ∷ []) None ∷ plain ∷ []
 
 abbrev pub IntegerIsNoTruth : Type 0
 IntegerIsNoTruth = RunsTo tests_integer integer_test_picks (codes "uncaught error(type)" ∷ []) 1 0

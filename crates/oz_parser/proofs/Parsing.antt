@@ -22,7 +22,7 @@ use Rattle.oz_parser.specs.declared.error.ParseError.{ParseError}
 use Rattle.oz_parser.specs.declared.error.ParseError.TheVariants as errors
 use Rattle.oz_parser.specs.Fits.{RowsFit}
 use Rattle.oz_symbols.specs.TextSymbols.{start_of, AreSymbols}
-use Rattle.oz_parser.specs.Parses.{Parses, GivesProgram, GivesFault}
+use Rattle.oz_parser.specs.Parses.{IsParse, IsProgramAnswer, IsFaultAnswer}
 use Rattle.oz_parser.proofs.Shifting.{program_fits, same_count}
 
 -- the numbers of what is read fit
@@ -44,7 +44,7 @@ reads text symbols starts rows a e = (reads_text texts_divide_once text a.tokens
 pub is_program : (text : List ℕ) → IsUtf8 text → (symbols : List Symbol) (starts : List ℕ) (rows : List Stmt) → AreSymbols text symbols starts → program_at symbols ≡ Ok rows → IsProgram rows
 is_program text utf8 symbols starts rows a e = texts_are_programs text rows utf8 (reads text symbols starts rows a e)
 
-pub made_parses : (text : List ℕ) (symbols : List Symbol) (starts : List ℕ) (rows : List Stmt) (r : Result (List Stmt) ParseError) → AreSymbols text symbols starts → program_at symbols ≡ Ok rows → GivesProgram r rows → Parses text r
+pub made_parses : (text : List ℕ) (symbols : List Symbol) (starts : List ℕ) (rows : List Stmt) (r : Result (List Stmt) ParseError) → AreSymbols text symbols starts → program_at symbols ≡ Ok rows → IsProgramAnswer r rows → IsParse text r
 made_parses text symbols starts rows (Ok p) a e g = subst (Reads text) (sym g) (reads text symbols starts rows a e)
 made_parses text symbols starts rows (Err errors.Memory) a e g = tt
 made_parses text symbols starts rows (Err (errors.Text f)) a e g = absurd g
@@ -120,12 +120,12 @@ fault_of text symbols starts fault f a e kind place =
 
 -- ---- only these
 
-pub only_program : (text : List ℕ) (r : Result (List Stmt) ParseError) → Parses text r → (p : List Stmt) → Reads text p → GivesProgram r p
+pub only_program : (text : List ℕ) (r : Result (List Stmt) ParseError) → IsParse text r → (p : List Stmt) → Reads text p → IsProgramAnswer r p
 only_program text (Ok q) h p reads = is_one_program texts_divide_once text q p h reads
 only_program text (Err errors.Memory) h p reads = tt
 only_program text (Err (errors.Text f)) h p reads = never_have_both texts_divide_once text p f reads h
 
-pub only_fault : (text : List ℕ) (r : Result (List Stmt) ParseError) → Parses text r → (f : TextFault) → FaultOf text f → GivesFault r f
+pub only_fault : (text : List ℕ) (r : Result (List Stmt) ParseError) → IsParse text r → (f : TextFault) → FaultOf text f → IsFaultAnswer r f
 only_fault text (Ok q) h f fault = never_have_both texts_divide_once text q f h fault
 only_fault text (Err errors.Memory) h f fault = tt
 only_fault text (Err (errors.Text g)) h f fault = has_one_fault texts_divide_once text g f h fault

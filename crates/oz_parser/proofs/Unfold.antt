@@ -22,7 +22,7 @@ use Rattle.oz_grammar.specs.Table.{code_at}
 use Rattle.oz_grammar.specs.Reading.{◌>>=◌, Out, Reader, fault_expected, fault_or, sign_at, close_at, used_at, site_at, begins_at, stmt_at, kind_at, is_end_of, more_at, with_numbers, body_at, first_local_at, formals_at, arguments_at, wanted_at, local_at, procedure_at, proc_value_at, proc_at, value_at, right_at, tell_at, thread_at, call_of, call_at, raise_at, if_at, case_at, pattern_at}
 use Rattle.oz_phrases.specs.declared.stop.Stop.{Stop}
 use Rattle.oz_phrases.specs.declared.stop.Stop.TheVariants as stops
-use Rattle.oz_phrases.specs.Gives.{Fails}
+use Rattle.oz_phrases.specs.Gives.{IsFailure}
 use Rattle.oz_parser.specs.State.{State, state_of}
 use Rattle.oz_parser.specs.Heads.{Begun, local_head, procedure_head, proc_value_head, proc_head, value_head, right_head, tell_head, placed_head, thread_head, called_head, call_head, raise_head, body_of, block_at, if_head, case_head, branches_of, choice_at}
 
@@ -48,45 +48,45 @@ unfolding stmt_at
 stmt_some zero scope rows w symbols h = absurd (h refl)
 stmt_some (suc d) scope rows w symbols h = let e : suc d - 1 ≡ d = omega arith in rw e refl
 
-pub more_none : (one : Reader) (c : Closer) (place : ℕ) (scope : Scope) (n : ℕ) (ids : List CodeId) (rows : List Stmt) (symbols : List Symbol) → n ≡ 0 → more_at one c place scope n ids rows symbols ≡ fault_expected (expected_after c) symbols
+pub more_none : (one : Reader) (c : Closer) (place : ℕ) (scope : Scope) (n : ℕ) (positions : List CodeId) (rows : List Stmt) (symbols : List Symbol) → n ≡ 0 → more_at one c place scope n positions rows symbols ≡ fault_expected (expected_after c) symbols
 unfolding more_at
-more_none one c place scope zero ids rows symbols e = refl
-more_none one c place scope (suc n) ids rows symbols e = absurd cc
+more_none one c place scope zero positions rows symbols e = refl
+more_none one c place scope (suc n) positions rows symbols e = absurd cc
 
-more_stops : (one : Reader) (c : Closer) (place : ℕ) (scope : Scope) (n : ℕ) (ids : List CodeId) (rows : List Stmt) (symbols : List Symbol) → n ≢ 0 → is_end_of c symbols ≡ true → more_at one c place scope n ids rows symbols ≡ Ok (ids, rows, drop 1 symbols)
+more_stops : (one : Reader) (c : Closer) (place : ℕ) (scope : Scope) (n : ℕ) (positions : List CodeId) (rows : List Stmt) (symbols : List Symbol) → n ≢ 0 → is_end_of c symbols ≡ true → more_at one c place scope n positions rows symbols ≡ Ok (positions, rows, drop 1 symbols)
 unfolding more_at
-more_stops one c place scope zero ids rows symbols h e = absurd (h refl)
-more_stops one c place scope (suc n) ids rows symbols h e = rw e refl
+more_stops one c place scope zero positions rows symbols h e = absurd (h refl)
+more_stops one c place scope (suc n) positions rows symbols h e = rw e refl
 
-more_some : (one : Reader) (c : Closer) (place : ℕ) (scope : Scope) (n m : ℕ) (ids : List CodeId) (rows : List Stmt) (symbols : List Symbol) → n ≡ m + 1 → is_end_of c symbols ≡ false → more_at one c place scope n ids rows symbols ≡ (one scope rows (expected_after c) symbols >>= λ s. more_at one c place scope m (ids ++ code_at (length rows - place) ∷ []) s.0 s.1)
+more_some : (one : Reader) (c : Closer) (place : ℕ) (scope : Scope) (n m : ℕ) (positions : List CodeId) (rows : List Stmt) (symbols : List Symbol) → n ≡ m + 1 → is_end_of c symbols ≡ false → more_at one c place scope n positions rows symbols ≡ (one scope rows (expected_after c) symbols >>= λ s. more_at one c place scope m (positions ++ code_at (length rows - place) ∷ []) s.0 s.1)
 unfolding more_at
-more_some one c place scope zero m ids rows symbols h e = absurd (omega arith)
-more_some one c place scope (suc n) m ids rows symbols h e = let same : n ≡ m = omega arith in rw (e, same) refl
+more_some one c place scope zero m positions rows symbols h e = absurd (omega arith)
+more_some one c place scope (suc n) m positions rows symbols h e = let same : n ≡ m = omega arith in rw (e, same) refl
 
 -- the loop over the statements of a sequence
-pub more_goes : (one : Reader) (c : Closer) (place : ℕ) (scope : Scope) (n m : ℕ) (ids : List CodeId) (rows : List Stmt) (symbols : List Symbol) (all : Result Out Fault) (next : List Stmt) (rest : List Symbol) → with_numbers place (more_at one c place scope n ids rows symbols) ≡ all → n ≡ m + 1 → is_end_of c symbols ≡ false → one scope rows (expected_after c) symbols ≡ Ok (next, rest) → with_numbers place (more_at one c place scope m (ids ++ code_at (length rows - place) ∷ []) next rest) ≡ all
-more_goes one c place scope n m ids rows symbols all next rest so_far h e read =
-    let step = more_some one c place scope n m ids rows symbols h e in
-    let same : more_at one c place scope n ids rows symbols ≡ more_at one c place scope m (ids ++ code_at (length rows - place) ∷ []) next rest = step ∙ rw read refl in
+pub more_goes : (one : Reader) (c : Closer) (place : ℕ) (scope : Scope) (n m : ℕ) (positions : List CodeId) (rows : List Stmt) (symbols : List Symbol) (all : Result Out Fault) (next : List Stmt) (rest : List Symbol) → with_numbers place (more_at one c place scope n positions rows symbols) ≡ all → n ≡ m + 1 → is_end_of c symbols ≡ false → one scope rows (expected_after c) symbols ≡ Ok (next, rest) → with_numbers place (more_at one c place scope m (positions ++ code_at (length rows - place) ∷ []) next rest) ≡ all
+more_goes one c place scope n m positions rows symbols all next rest so_far h e read =
+    let step = more_some one c place scope n m positions rows symbols h e in
+    let same : more_at one c place scope n positions rows symbols ≡ more_at one c place scope m (positions ++ code_at (length rows - place) ∷ []) next rest = step ∙ rw read refl in
     rw (← same) so_far
 
-more_fails : (one : Reader) (c : Closer) (place : ℕ) (scope : Scope) (n : ℕ) (ids : List CodeId) (rows : List Stmt) (symbols : List Symbol) (all : Result Out Fault) (f : Fault) → with_numbers place (more_at one c place scope n ids rows symbols) ≡ all → n ≢ 0 → is_end_of c symbols ≡ false → one scope rows (expected_after c) symbols ≡ Err f → all ≡ Err f
-more_fails one c place scope n ids rows symbols all f so_far h e read =
-    let step = more_some one c place scope n (n - 1) ids rows symbols (omega arith) e in
-    let same : more_at one c place scope n ids rows symbols ≡ Err f = step ∙ rw read refl in
+more_fails : (one : Reader) (c : Closer) (place : ℕ) (scope : Scope) (n : ℕ) (positions : List CodeId) (rows : List Stmt) (symbols : List Symbol) (all : Result Out Fault) (f : Fault) → with_numbers place (more_at one c place scope n positions rows symbols) ≡ all → n ≢ 0 → is_end_of c symbols ≡ false → one scope rows (expected_after c) symbols ≡ Err f → all ≡ Err f
+more_fails one c place scope n positions rows symbols all f so_far h e read =
+    let step = more_some one c place scope n (n - 1) positions rows symbols (omega arith) e in
+    let same : more_at one c place scope n positions rows symbols ≡ Err f = step ∙ rw read refl in
     sym so_far ∙ rw same refl
 
-pub more_ends : (one : Reader) (c : Closer) (place : ℕ) (scope : Scope) (n : ℕ) (ids : List CodeId) (rows : List Stmt) (symbols : List Symbol) (all : Result Out Fault) → with_numbers place (more_at one c place scope n ids rows symbols) ≡ all → n ≢ 0 → is_end_of c symbols ≡ true → all ≡ Ok (set rows place (stmt.Seq ids), drop 1 symbols)
-more_ends one c place scope n ids rows symbols all so_far h e = sym so_far ∙ rw (more_stops one c place scope n ids rows symbols h e) refl
+pub more_ends : (one : Reader) (c : Closer) (place : ℕ) (scope : Scope) (n : ℕ) (positions : List CodeId) (rows : List Stmt) (symbols : List Symbol) (all : Result Out Fault) → with_numbers place (more_at one c place scope n positions rows symbols) ≡ all → n ≢ 0 → is_end_of c symbols ≡ true → all ≡ Ok (set rows place (stmt.Seq positions), drop 1 symbols)
+more_ends one c place scope n positions rows symbols all so_far h e = sym so_far ∙ rw (more_stops one c place scope n positions rows symbols h e) refl
 
-pub more_refused : (e : Stop) (one : Reader) (c : Closer) (place : ℕ) (scope : Scope) (n : ℕ) (ids : List CodeId) (rows : List Stmt) (symbols : List Symbol) (all : Result Out Fault) → with_numbers place (more_at one c place scope n ids rows symbols) ≡ all → n ≢ 0 → is_end_of c symbols ≡ false → Fails e (one scope rows (expected_after c) symbols) → Fails e all
-more_refused stops.Memory one c place scope n ids rows symbols all so_far h e fails = tt
-more_refused (stops.Fault f) one c place scope n ids rows symbols all so_far h e fails = more_fails one c place scope n ids rows symbols all f so_far h e fails
+pub more_refused : (e : Stop) (one : Reader) (c : Closer) (place : ℕ) (scope : Scope) (n : ℕ) (positions : List CodeId) (rows : List Stmt) (symbols : List Symbol) (all : Result Out Fault) → with_numbers place (more_at one c place scope n positions rows symbols) ≡ all → n ≢ 0 → is_end_of c symbols ≡ false → IsFailure e (one scope rows (expected_after c) symbols) → IsFailure e all
+more_refused stops.Memory one c place scope n positions rows symbols all so_far h e fails = tt
+more_refused (stops.Fault f) one c place scope n positions rows symbols all so_far h e fails = more_fails one c place scope n positions rows symbols all f so_far h e fails
 
 -- the same of a reader that is taken apart
-pub state_ends : (one : Reader) (c : Closer) (owner n : ℕ) (ids : List CodeId) (s s' : State) (all : Result Out Fault) → s' ≡ s → with_numbers owner (more_at one c owner s.scope n ids s.rows s.rest) ≡ all → n ≢ 0 → is_end_of c s'.rest ≡ true → all ≡ Ok (set s'.rows owner (stmt.Seq ids), drop 1 s'.rest)
-state_ends one c owner n ids s s' all is so_far h e =
-    more_ends one c owner s'.scope n ids s'.rows s'.rest all (subst (λ (x : State). with_numbers owner (more_at one c owner x.scope n ids x.rows x.rest) ≡ all) (sym is) so_far) h e
+pub state_ends : (one : Reader) (c : Closer) (owner n : ℕ) (positions : List CodeId) (s s' : State) (all : Result Out Fault) → s' ≡ s → with_numbers owner (more_at one c owner s.scope n positions s.rows s.rest) ≡ all → n ≢ 0 → is_end_of c s'.rest ≡ true → all ≡ Ok (set s'.rows owner (stmt.Seq positions), drop 1 s'.rest)
+state_ends one c owner n positions s s' all is so_far h e =
+    more_ends one c owner s'.scope n positions s'.rows s'.rest all (subst (λ (x : State). with_numbers owner (more_at one c owner x.scope n positions x.rows x.rest) ≡ all) (sym is) so_far) h e
 
 -- ---- heads
 

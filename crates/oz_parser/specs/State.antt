@@ -19,16 +19,16 @@ abbrev pub out_of : State → Out
 out_of s = (s.rows, s.rest)
 
 -- behind a statement: the same names, more rows, fewer symbols, of which each gave two rows at most
-abbrev pub Moves : State → State → Type 0
-Moves old new =
+abbrev pub IsFurther : State → State → Type 0
+IsFurther old new =
     (new.scope ≡ old.scope)
     × (length new.rows + 2 * length new.rest < length old.rows + 2 * length old.rest)
     × (length new.rest < length old.rest)
     × (length old.rows < length new.rows)
 
 -- behind the other statements of a sequence, which have k rows for it
-abbrev pub Ends : ℕ → State → State → Type 0
-Ends k old new =
+abbrev pub IsAtEnd : ℕ → State → State → Type 0
+IsAtEnd k old new =
     (new.scope ≡ old.scope)
     × (length new.rows + 2 * length new.rest < length old.rows + k + 2 * length old.rest)
     × (length new.rest < length old.rest)

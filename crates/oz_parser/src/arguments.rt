@@ -4,7 +4,7 @@ ghost use Rattle.std.specs.Prelude.{◌≡◌, ◌<◌, ◌≤◌, ◌^◌, [], 
 ghost use Rattle.oz_grammar.specs.Scoping.{arity_of};
 ghost use Rattle.oz_grammar.specs.Faults.{argument_fault};
 ghost use Rattle.oz_grammar.specs.Reading.{arguments_at, wanted_at};
-ghost use Rattle.oz_phrases.specs.Gives.{Gives};
+ghost use Rattle.oz_phrases.specs.Gives.{IsReadAs};
 
 use oz_grammar::{BuiltIn, FaultKind, Symbol, What};
 use oz_phrases::{Read, Scope, close, count_fault, fault, place_of, refused, used};
@@ -27,18 +27,22 @@ fn argument_fault(scope: &Scope, count: usize, name: &Text) -> Option<FaultKind>
 /// The positions of the arguments of a call.
 pub fn arguments<'t>(alloc: Global, scope: &Scope, symbols: &'t [Symbol]) -> Read<'t, Vec<u32>>
     requires { length scope.now < 2 ^ 32 }
-    ensures read { Gives (λ x. (x.0.items, x.1.now)) result (arguments_at scope.now [] symbols.now) }
+    ensures read { IsReadAs (λ x. (x.0.items, x.1.now)) result (arguments_at scope.now [] symbols.now) }
     ensures shorter { IfOk result (λ x. length x.1.now < length symbols.now) }
 {
-    let mut ids = Vec::new(alloc);
+    let mut positions = Vec::new(alloc);
     let mut rest = symbols;
     loop {
         match rest {
-            [Symbol::CloseCurly, behind @ ..] => return Ok((ids, behind)),
-            [Symbol::Variable(name), behind @ ..] => match argument_fault(scope, ids.len(), name) {
+            [Symbol::CloseCurly, behind @ ..] => return Ok((positions, behind)),
+            [Symbol::Variable(name), behind @ ..] => match argument_fault(
+                scope,
+                positions.len(),
+                name,
+            ) {
                 Some(kind) => return Err(fault(kind, rest)),
                 None => {
-                    ids.push(place_of(scope, name.as_slice()))?;
+                    positions.push(place_of(scope, name.as_slice()))?;
                     rest = behind;
                 }
             },
@@ -68,18 +72,18 @@ pub fn wanted<'t>(
     symbols: &'t [Symbol],
 ) -> Read<'t, Vec<u32>>
     requires { length scope.now < 2 ^ 32 }
-    ensures read { Gives (λ x. (x.0.items, x.1.now)) result (wanted_at scope.now count [] symbols.now) }
+    ensures read { IsReadAs (λ x. (x.0.items, x.1.now)) result (wanted_at scope.now count [] symbols.now) }
     ensures shorter { IfOk result (λ x. length x.1.now < length symbols.now) }
 {
-    let mut ids = Vec::new(alloc);
+    let mut positions = Vec::new(alloc);
     let mut rest = symbols;
     let mut missing = count;
     while missing > 0 {
         let (position, behind) = used(What::Variable, scope, rest)?;
-        ids.push(position)?;
+        positions.push(position)?;
         rest = behind;
         missing -= 1;
     }
     let behind = close(rest)?;
-    Ok((ids, behind))
+    Ok((positions, behind))
 }

@@ -2,7 +2,7 @@
 
 ghost use Rattle.std.specs.Prelude.{◌≡◌, ◌+◌, ◌<◌, ◌^◌, length, slice_index, vec_len, IfOk};
 ghost use Rattle.oz_grammar.specs.Table.{built_in_row};
-ghost use Rattle.oz_phrases.specs.Gives.{Gives};
+ghost use Rattle.oz_phrases.specs.Gives.{IsReadAs};
 ghost use Rattle.oz_parser.specs.Heads.{begun, built_in_head, procedure_call_head, call_head, raise_head};
 
 use crate::arguments::{arguments, arity_of, wanted};
@@ -12,26 +12,30 @@ use oz_grammar::{BuiltIn, FaultKind, Sign, Symbol, What};
 use oz_phrases::{Scope, Stop, built_in_at, fault, refused, sign, used};
 use std::alloc::Global;
 
-fn id_at(ids: &[u32], at: usize) -> u32
-    ensures { result ≡ slice_index ids.now at }
+fn position_at(positions: &[u32], at: usize) -> u32
+    ensures { result ≡ slice_index positions.now at }
 {
-    if at < ids.len() { ids[at] } else { 0 }
+    if at < positions.len() {
+        positions[at]
+    } else {
+        0
+    }
 }
 
-fn built_in_row(built_in: BuiltIn, ids: &[u32]) -> Stmt
-    ensures { result ≡ built_in_row built_in ids.now }
+fn built_in_row(built_in: BuiltIn, positions: &[u32]) -> Stmt
+    ensures { result ≡ built_in_row built_in positions.now }
 {
     match built_in {
-        BuiltIn::Browse => Stmt::Browse(id_at(ids, 0)),
-        BuiltIn::Wait => Stmt::Wait(id_at(ids, 0)),
+        BuiltIn::Browse => Stmt::Browse(position_at(positions, 0)),
+        BuiltIn::Wait => Stmt::Wait(position_at(positions, 0)),
         BuiltIn::NewCell => Stmt::NewCell {
-            content: id_at(ids, 0),
-            cell: id_at(ids, 1),
+            content: position_at(positions, 0),
+            cell: position_at(positions, 1),
         },
         BuiltIn::Exchange => Stmt::Exchange {
-            cell: id_at(ids, 0),
-            old: id_at(ids, 1),
-            new: id_at(ids, 2),
+            cell: position_at(positions, 0),
+            old: position_at(positions, 1),
+            new: position_at(positions, 2),
         },
     }
 }
@@ -44,11 +48,11 @@ fn built_in<'t>(
     symbols: &'t [Symbol],
 ) -> Result<Head<'t>, Stop>
     requires { length scope.now < 2 ^ 31 }
-    ensures read { Gives (λ h. begun h.row h.names.items h.body h.rest.now) result (built_in_head built_in scope.now symbols.now) }
+    ensures read { IsReadAs (λ h. begun h.row h.names.items h.body h.rest.now) result (built_in_head built_in scope.now symbols.now) }
     ensures shorter { IfOk result (λ h. vec_len h.names + length h.rest.now < length symbols.now) }
 {
-    let (ids, rest) = wanted(alloc, scope, arity_of(built_in), symbols)?;
-    Ok(whole(alloc, built_in_row(built_in, ids.as_slice()), rest))
+    let (positions, rest) = wanted(alloc, scope, arity_of(built_in), symbols)?;
+    Ok(whole(alloc, built_in_row(built_in, positions.as_slice()), rest))
 }
 
 /// A call of a procedure, behind its name.
@@ -59,13 +63,13 @@ fn procedure_call<'t>(
     symbols: &'t [Symbol],
 ) -> Result<Head<'t>, Stop>
     requires { length scope.now < 2 ^ 31 }
-    ensures read { Gives (λ h. begun h.row h.names.items h.body h.rest.now) result (procedure_call_head callee scope.now symbols.now) }
+    ensures read { IsReadAs (λ h. begun h.row h.names.items h.body h.rest.now) result (procedure_call_head callee scope.now symbols.now) }
     ensures shorter { IfOk result (λ h. vec_len h.names + length h.rest.now < length symbols.now) }
 {
-    let (ids, rest) = arguments(alloc, scope, symbols)?;
+    let (positions, rest) = arguments(alloc, scope, symbols)?;
     let row = Stmt::Call {
         callee,
-        args: Positions::from_vec(ids),
+        args: Positions::from_vec(positions),
     };
     Ok(whole(alloc, row, rest))
 }
@@ -73,7 +77,7 @@ fn procedure_call<'t>(
 /// A call, behind its opening bracket.
 pub fn call<'t>(alloc: Global, scope: &Scope, symbols: &'t [Symbol]) -> Result<Head<'t>, Stop>
     requires { length scope.now < 2 ^ 31 }
-    ensures read { Gives (λ h. begun h.row h.names.items h.body h.rest.now) result (call_head scope.now symbols.now) }
+    ensures read { IsReadAs (λ h. begun h.row h.names.items h.body h.rest.now) result (call_head scope.now symbols.now) }
     ensures shorter { IfOk result (λ h. vec_len h.names + length h.rest.now < length symbols.now) }
 {
     match symbols {
@@ -91,7 +95,7 @@ pub fn call<'t>(alloc: Global, scope: &Scope, symbols: &'t [Symbol]) -> Result<H
 /// What `raise` raises, behind that word.
 pub fn raise<'t>(alloc: Global, scope: &Scope, symbols: &'t [Symbol]) -> Result<Head<'t>, Stop>
     requires { length scope.now < 2 ^ 31 }
-    ensures read { Gives (λ h. begun h.row h.names.items h.body h.rest.now) result (raise_head scope.now symbols.now) }
+    ensures read { IsReadAs (λ h. begun h.row h.names.items h.body h.rest.now) result (raise_head scope.now symbols.now) }
     ensures shorter { IfOk result (λ h. vec_len h.names + length h.rest.now < length symbols.now) }
 {
     let (raised, rest) = used(What::Variable, scope, symbols)?;

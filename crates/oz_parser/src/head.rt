@@ -1,7 +1,7 @@
 //! The heads of statements, up to where a body begins.
 
 ghost use Rattle.std.specs.Prelude.{◌≡◌, ◌+◌, ◌<◌, ◌≤◌, ◌^◌, length, vec_len, IfOk};
-ghost use Rattle.oz_phrases.specs.Gives.{Gives};
+ghost use Rattle.oz_phrases.specs.Gives.{IsReadAs};
 ghost use Rattle.oz_parser.specs.Heads.{begun, whole, opening, local_head, procedure_head, proc_value_head, proc_head, value_head, right_head, tell_head, placed_head, thread_head, head_at, if_head, case_head};
 
 use crate::call::{call, raise};
@@ -50,7 +50,7 @@ fn opening<'t>(row: Stmt, names: Vec<Text>, rest: &'t [Symbol]) -> Head<'t>
 /// A `local`, behind that word.
 fn local<'t>(alloc: Global, scope: &Scope, symbols: &'t [Symbol]) -> Result<Head<'t>, Stop>
     requires { length scope.now < 2 ^ 31 }
-    ensures read { Gives (λ h. begun h.row h.names.items h.body h.rest.now) result (local_head scope.now symbols.now) }
+    ensures read { IsReadAs (λ h. begun h.row h.names.items h.body h.rest.now) result (local_head scope.now symbols.now) }
     ensures shorter { IfOk result (λ h. vec_len h.names + length h.rest.now < length symbols.now) }
 {
     let (names, rest) = first_local(alloc, symbols)?;
@@ -70,7 +70,7 @@ fn procedure<'t>(
     symbols: &'t [Symbol],
 ) -> Result<Head<'t>, Stop>
     requires { length scope.now < 2 ^ 31 }
-    ensures read { Gives (λ h. begun h.row h.names.items h.body h.rest.now) result (procedure_head left scope.now symbols.now) }
+    ensures read { IsReadAs (λ h. begun h.row h.names.items h.body h.rest.now) result (procedure_head left scope.now symbols.now) }
     ensures shorter { IfOk result (λ h. vec_len h.names + length h.rest.now < length symbols.now) }
 {
     let (names, rest) = formals(alloc, symbols)?;
@@ -91,7 +91,7 @@ fn proc_value<'t>(
     symbols: &'t [Symbol],
 ) -> Result<Head<'t>, Stop>
     requires { length scope.now < 2 ^ 31 }
-    ensures read { Gives (λ h. begun h.row h.names.items h.body h.rest.now) result (proc_value_head left scope.now symbols.now) }
+    ensures read { IsReadAs (λ h. begun h.row h.names.items h.body h.rest.now) result (proc_value_head left scope.now symbols.now) }
     ensures shorter { IfOk result (λ h. vec_len h.names + length h.rest.now < length symbols.now) }
 {
     let rest = sign(Sign::OpenCurly, symbols)?;
@@ -102,7 +102,7 @@ fn proc_value<'t>(
 /// A `proc` statement, behind that word.
 fn proc_statement<'t>(alloc: Global, scope: &Scope, symbols: &'t [Symbol]) -> Result<Head<'t>, Stop>
     requires { length scope.now < 2 ^ 31 }
-    ensures read { Gives (λ h. begun h.row h.names.items h.body h.rest.now) result (proc_head scope.now symbols.now) }
+    ensures read { IsReadAs (λ h. begun h.row h.names.items h.body h.rest.now) result (proc_head scope.now symbols.now) }
     ensures shorter { IfOk result (λ h. vec_len h.names + length h.rest.now < length symbols.now) }
 {
     let rest = sign(Sign::OpenCurly, symbols)?;
@@ -118,7 +118,7 @@ fn value_tell<'t>(
     symbols: &'t [Symbol],
 ) -> Result<Head<'t>, Stop>
     requires { length scope.now < 2 ^ 31 }
-    ensures read { Gives (λ h. begun h.row h.names.items h.body h.rest.now) result (value_head left scope.now symbols.now) }
+    ensures read { IsReadAs (λ h. begun h.row h.names.items h.body h.rest.now) result (value_head left scope.now symbols.now) }
     ensures shorter { IfOk result (λ h. vec_len h.names + length h.rest.now < length symbols.now) }
 {
     let (row, rest) = value(alloc, left, scope, symbols)?;
@@ -133,7 +133,7 @@ fn right<'t>(
     symbols: &'t [Symbol],
 ) -> Result<Head<'t>, Stop>
     requires { length scope.now < 2 ^ 31 }
-    ensures read { Gives (λ h. begun h.row h.names.items h.body h.rest.now) result (right_head left scope.now symbols.now) }
+    ensures read { IsReadAs (λ h. begun h.row h.names.items h.body h.rest.now) result (right_head left scope.now symbols.now) }
     ensures shorter { IfOk result (λ h. vec_len h.names + length h.rest.now < length symbols.now) }
 {
     match symbols {
@@ -145,7 +145,7 @@ fn right<'t>(
 /// A tell.
 fn tell<'t>(alloc: Global, scope: &Scope, symbols: &'t [Symbol]) -> Result<Head<'t>, Stop>
     requires { length scope.now < 2 ^ 31 }
-    ensures read { Gives (λ h. begun h.row h.names.items h.body h.rest.now) result (tell_head scope.now symbols.now) }
+    ensures read { IsReadAs (λ h. begun h.row h.names.items h.body h.rest.now) result (tell_head scope.now symbols.now) }
     ensures shorter { IfOk result (λ h. vec_len h.names + length h.rest.now < length symbols.now) }
 {
     let (left, rest) = used(What::Statement, scope, symbols)?;
@@ -155,7 +155,7 @@ fn tell<'t>(alloc: Global, scope: &Scope, symbols: &'t [Symbol]) -> Result<Head<
 
 /// A thread with its place, behind `at`.
 fn placed<'t>(alloc: Global, symbols: &'t [Symbol]) -> Result<Head<'t>, Stop>
-    ensures read { Gives (λ h. begun h.row h.names.items h.body h.rest.now) result (placed_head symbols.now) }
+    ensures read { IsReadAs (λ h. begun h.row h.names.items h.body h.rest.now) result (placed_head symbols.now) }
     ensures shorter { IfOk result (λ h. vec_len h.names + length h.rest.now < length symbols.now) }
 {
     let (at, rest) = site(symbols)?;
@@ -168,7 +168,7 @@ fn placed<'t>(alloc: Global, symbols: &'t [Symbol]) -> Result<Head<'t>, Stop>
 
 /// A thread, behind that word.
 fn thread<'t>(alloc: Global, symbols: &'t [Symbol]) -> Result<Head<'t>, Stop>
-    ensures read { Gives (λ h. begun h.row h.names.items h.body h.rest.now) result (thread_head symbols.now) }
+    ensures read { IsReadAs (λ h. begun h.row h.names.items h.body h.rest.now) result (thread_head symbols.now) }
     ensures shorter { IfOk result (λ h. vec_len h.names + length h.rest.now ≤ length symbols.now) }
 {
     match symbols {
@@ -193,7 +193,7 @@ pub fn block_head<'t>(
     symbols: &'t [Symbol],
 ) -> Result<Head<'t>, Stop>
     requires { length scope.now < 2 ^ 31 }
-    ensures read { Gives (λ h. begun h.row h.names.items h.body h.rest.now) result (head_at scope.now what symbols.now) }
+    ensures read { IsReadAs (λ h. begun h.row h.names.items h.body h.rest.now) result (head_at scope.now what symbols.now) }
     ensures shorter { IfOk result (λ h. vec_len h.names + length h.rest.now < length symbols.now) }
 {
     match symbols {
@@ -213,7 +213,7 @@ pub fn block_head<'t>(
 /// An `if` up to its first branch, behind that word.
 pub fn if_head<'t>(alloc: Global, scope: &Scope, symbols: &'t [Symbol]) -> Result<Head<'t>, Stop>
     requires { length scope.now < 2 ^ 31 }
-    ensures read { Gives (λ h. begun h.row h.names.items h.body h.rest.now) result (if_head scope.now symbols.now) }
+    ensures read { IsReadAs (λ h. begun h.row h.names.items h.body h.rest.now) result (if_head scope.now symbols.now) }
     ensures shorter { IfOk result (λ h. vec_len h.names + length h.rest.now < length symbols.now) }
 {
     let (subject, rest) = used(What::Variable, scope, symbols)?;
@@ -229,7 +229,7 @@ pub fn if_head<'t>(alloc: Global, scope: &Scope, symbols: &'t [Symbol]) -> Resul
 /// A `case` up to its first branch, behind that word: its pattern declares names for the branch.
 pub fn case_head<'t>(alloc: Global, scope: &Scope, symbols: &'t [Symbol]) -> Result<Head<'t>, Stop>
     requires { length scope.now < 2 ^ 31 }
-    ensures read { Gives (λ h. begun h.row h.names.items h.body h.rest.now) result (case_head scope.now symbols.now) }
+    ensures read { IsReadAs (λ h. begun h.row h.names.items h.body h.rest.now) result (case_head scope.now symbols.now) }
     ensures shorter { IfOk result (λ h. vec_len h.names + length h.rest.now < length symbols.now) }
 {
     let (subject, rest) = used(What::Variable, scope, symbols)?;

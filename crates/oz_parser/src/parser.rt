@@ -9,9 +9,9 @@ ghost use Rattle.oz_grammar.specs.declared.fault.TextFault.{TextFault};
 ghost use Rattle.oz_grammar.specs.Symbols.{ends_once};
 ghost use Rattle.oz_grammar.specs.Reading.{program_at};
 ghost use Rattle.oz_grammar.specs.Reads.{Reads, FaultOf};
-ghost use Rattle.oz_phrases.specs.Gives.{Gives, Fails};
+ghost use Rattle.oz_phrases.specs.Gives.{IsReadAs, IsFailure};
 ghost use Rattle.oz_symbols.specs.TextSymbols.{AreSymbols};
-ghost use Rattle.oz_parser.specs.Parses.{Answers, Parses, GivesProgram, GivesFault, IfFault};
+ghost use Rattle.oz_parser.specs.Parses.{IsErrorOf, IsParse, IsProgramAnswer, IsFaultAnswer, IfFault};
 
 use crate::error::ParseError;
 use crate::reader::Reader;
@@ -28,7 +28,7 @@ use std::alloc::Global;
 fn table(alloc: Global, symbols: &[Symbol]) -> Result<Vec<Stmt>, Stop>
     requires few { length symbols.now < 2 ^ 29 }
     requires ends { ends_once symbols.now ≡ true }
-    ensures { Gives (λ v. v.items) result (program_at symbols.now) }
+    ensures { IsReadAs (λ v. v.items) result (program_at symbols.now) }
 {
     let mut reader = Reader::new(alloc, symbols);
     reader.sequence(200, Closer::EndOfText, What::Statement)?;
@@ -55,7 +55,7 @@ fn placed(text: &str, starts: &[usize], fault: Fault) -> TextFault
 
 fn made(alloc: Global, rows: Vec<Stmt>) -> Result<Program, ParseError>
     requires { IsProgram rows.items }
-    ensures { GivesProgram result rows.items }
+    ensures { IsProgramAnswer result rows.items }
 {
     match Program::from_vec(alloc, rows) {
         Ok(program) => Ok(program),
@@ -66,8 +66,8 @@ fn made(alloc: Global, rows: Vec<Stmt>) -> Result<Program, ParseError>
 /// The fault of a text where reading its symbols was refused.
 fn fault_of(text: &str, symbols: &[Symbol], starts: &[usize], stop: Stop) -> ParseError
     requires symbols { AreSymbols text.now symbols.now starts.now }
-    requires fails { Fails stop (program_at symbols.now) }
-    ensures { Answers text.now result }
+    requires fails { IsFailure stop (program_at symbols.now) }
+    ensures { IsErrorOf text.now result }
 {
     match stop {
         Stop::Memory => ParseError::Memory,
@@ -84,7 +84,7 @@ fn program(
 ) -> Result<Program, ParseError>
     requires few { length symbols.now < 2 ^ 29 }
     requires symbols { AreSymbols text.now symbols.now starts.now }
-    ensures { Parses text.now result }
+    ensures { IsParse text.now result }
 {
     match table(alloc, symbols) {
         Ok(rows) => made(alloc, rows),
@@ -94,7 +94,7 @@ fn program(
 
 fn parsed(alloc: Global, text: &str) -> Result<Program, ParseError>
     requires { length text.now < 2 ^ 28 }
-    ensures { Parses text.now result }
+    ensures { IsParse text.now result }
 {
     match symbols_of(alloc, text) {
         Ok((symbols, starts)) => program(alloc, text, symbols.as_slice(), starts.as_slice()),
@@ -108,8 +108,8 @@ pub fn parse(alloc: Global, text: &str) -> Result<Program, ParseError>
     requires { length text.now < 2 ^ 28 }
     ensures read { IfOk result (λ p. Reads text.now p) }
     ensures refused { IfFault result (λ f. FaultOf text.now f) }
-    ensures program { (p : List Stmt) → Reads text.now p → GivesProgram result p }
-    ensures fault { (f : TextFault) → FaultOf text.now f → GivesFault result f }
+    ensures program { (p : List Stmt) → Reads text.now p → IsProgramAnswer result p }
+    ensures fault { (f : TextFault) → FaultOf text.now f → IsFaultAnswer result f }
 {
     parsed(alloc, text)
 }

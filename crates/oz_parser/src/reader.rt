@@ -3,8 +3,8 @@
 ghost use Rattle.std.specs.Prelude.{◌≡◌, ◌+◌, ◌*◌, ◌^◌, ◌<◌, ◌++◌, [], ◌∷◌, length, take, vec_len, OnOk};
 ghost use Rattle.oz_grammar.specs.Table.{code_at};
 ghost use Rattle.oz_grammar.specs.Reading.{stmt_at, kind_at, if_at, case_at, try_at, seq_at, seq_from, more_at, with_numbers};
-ghost use Rattle.oz_phrases.specs.Gives.{Gives};
-ghost use Rattle.oz_parser.specs.State.{state_of, out_of, Moves, Ends};
+ghost use Rattle.oz_phrases.specs.Gives.{IsReadAs};
+ghost use Rattle.oz_parser.specs.State.{state_of, out_of, IsFurther, IsAtEnd};
 ghost use Rattle.oz_parser.specs.Heads.{block_at, branches_of};
 
 use crate::head::{Head, block_head, case_head, if_head};
@@ -74,8 +74,8 @@ impl<'t> Reader<'t> {
     #[cycle(reader)]
     #[tactic(auto, using(crate::proofs::Unfold::stmt_none, crate::proofs::Unfold::stmt_some))]
     fn statement(&mut self, depth: u32, what: What) -> Result<(), Stop>
-        ensures read { Gives (λ _. out_of self.new) result (stmt_at depth self.old.scope self.old.rows what self.old.rest) }
-        ensures moves { OnOk result (Moves self.old self.new) }
+        ensures read { IsReadAs (λ _. out_of self.new) result (stmt_at depth self.old.scope self.old.rows what self.old.rest) }
+        ensures moves { OnOk result (IsFurther self.old self.new) }
     {
         if depth == 0 {
             if begins_at(self.rest) {
@@ -90,8 +90,8 @@ impl<'t> Reader<'t> {
     #[cycle(reader)]
     #[tactic(auto, using(crate::proofs::Unfold::kind_block))]
     fn kind(&mut self, depth: u32, what: What) -> Result<(), Stop>
-        ensures read { Gives (λ _. out_of self.new) result (kind_at (stmt_at depth) self.old.scope self.old.rows what self.old.rest) }
-        ensures moves { OnOk result (Moves self.old self.new) }
+        ensures read { IsReadAs (λ _. out_of self.new) result (kind_at (stmt_at depth) self.old.scope self.old.rows what self.old.rest) }
+        ensures moves { OnOk result (IsFurther self.old self.new) }
     {
         match self.rest {
             [Symbol::If, rest @ ..] => self.if_statement(depth, rest),
@@ -104,8 +104,8 @@ impl<'t> Reader<'t> {
     /// A statement with at most one body.
     #[cycle(reader)]
     fn block(&mut self, depth: u32, what: What) -> Result<(), Stop>
-        ensures read { Gives (λ _. out_of self.new) result (block_at (stmt_at depth) self.old.scope self.old.rows what self.old.rest) }
-        ensures moves { OnOk result (Moves self.old self.new) }
+        ensures read { IsReadAs (λ _. out_of self.new) result (block_at (stmt_at depth) self.old.scope self.old.rows what self.old.rest) }
+        ensures moves { OnOk result (IsFurther self.old self.new) }
     {
         let outer = self.scope.len();
         let Head {
@@ -132,8 +132,8 @@ impl<'t> Reader<'t> {
     #[cycle(reader)]
     fn branches(&mut self, depth: u32, owner: usize, outer: usize) -> Result<(), Stop>
         requires owner { owner < length self.old.rows }
-        ensures read { Gives (λ _. out_of self.new) result (branches_of (stmt_at depth) owner (take outer self.old.scope) self.old.scope self.old.rows self.old.rest) }
-        ensures moves { OnOk result (Moves (state_of (take outer self.old.scope) self.old.rows self.old.rest) self.new) }
+        ensures read { IsReadAs (λ _. out_of self.new) result (branches_of (stmt_at depth) owner (take outer self.old.scope) self.old.scope self.old.rows self.old.rest) }
+        ensures moves { OnOk result (IsFurther (state_of (take outer self.old.scope) self.old.rows self.old.rest) self.new) }
     {
         self.sequence(depth, Closer::Else, What::Statement)?;
         self.scope.truncate(outer);
@@ -146,8 +146,8 @@ impl<'t> Reader<'t> {
     #[tactic(auto, using(crate::proofs::Unfold::if_block))]
     fn if_statement(&mut self, depth: u32, symbols: &'t [Symbol]) -> Result<(), Stop>
         requires { length symbols.now < length self.old.rest }
-        ensures read { Gives (λ _. out_of self.new) result (if_at (stmt_at depth) self.old.scope self.old.rows symbols.now) }
-        ensures moves { OnOk result (Moves self.old self.new) }
+        ensures read { IsReadAs (λ _. out_of self.new) result (if_at (stmt_at depth) self.old.scope self.old.rows symbols.now) }
+        ensures moves { OnOk result (IsFurther self.old self.new) }
     {
         let owner = self.rows.len();
         let outer = self.scope.len();
@@ -166,8 +166,8 @@ impl<'t> Reader<'t> {
     #[tactic(auto, using(crate::proofs::Unfold::case_block))]
     fn case_statement(&mut self, depth: u32, symbols: &'t [Symbol]) -> Result<(), Stop>
         requires { length symbols.now < length self.old.rest }
-        ensures read { Gives (λ _. out_of self.new) result (case_at (stmt_at depth) self.old.scope self.old.rows symbols.now) }
-        ensures moves { OnOk result (Moves self.old self.new) }
+        ensures read { IsReadAs (λ _. out_of self.new) result (case_at (stmt_at depth) self.old.scope self.old.rows symbols.now) }
+        ensures moves { OnOk result (IsFurther self.old self.new) }
     {
         let owner = self.rows.len();
         let outer = self.scope.len();
@@ -185,8 +185,8 @@ impl<'t> Reader<'t> {
     #[cycle(reader)]
     fn try_statement(&mut self, depth: u32, symbols: &'t [Symbol]) -> Result<(), Stop>
         requires { length symbols.now < length self.old.rest }
-        ensures read { Gives (λ _. out_of self.new) result (try_at (stmt_at depth) self.old.scope self.old.rows symbols.now) }
-        ensures moves { OnOk result (Moves self.old self.new) }
+        ensures read { IsReadAs (λ _. out_of self.new) result (try_at (stmt_at depth) self.old.scope self.old.rows symbols.now) }
+        ensures moves { OnOk result (IsFurther self.old self.new) }
     {
         let owner = self.rows.len();
         let outer = self.scope.len();
@@ -210,8 +210,8 @@ impl<'t> Reader<'t> {
     #[cycle(reader)]
     #[tactic(auto, unfolding(oz_grammar::specs::Reading::seq_at))]
     pub fn sequence(&mut self, depth: u32, closer: Closer, what: What) -> Result<(), Stop>
-        ensures read { Gives (λ _. out_of self.new) result (seq_at (stmt_at depth) closer self.old.scope self.old.rows what self.old.rest) }
-        ensures moves { OnOk result (Moves self.old self.new) }
+        ensures read { IsReadAs (λ _. out_of self.new) result (seq_at (stmt_at depth) closer self.old.scope self.old.rows what self.old.rest) }
+        ensures moves { OnOk result (IsFurther self.old self.new) }
     {
         let first = self.rows.len();
         self.statement(depth, what)?;
@@ -224,8 +224,8 @@ impl<'t> Reader<'t> {
     fn behind_first(&mut self, depth: u32, closer: Closer, first: usize) -> Result<(), Stop>
         requires room { length self.old.rows + 1 + 2 * length self.old.rest < 2 ^ 31 }
         requires first { first < length self.old.rows }
-        ensures read { Gives (λ _. out_of self.new) result (seq_from (stmt_at depth) closer first self.old.scope (out_of self.old)) }
-        ensures ends { OnOk result (Ends 1 self.old self.new) }
+        ensures read { IsReadAs (λ _. out_of self.new) result (seq_from (stmt_at depth) closer first self.old.scope (out_of self.old)) }
+        ensures ends { OnOk result (IsAtEnd 1 self.old self.new) }
     {
         if closes(closer, self.rest) {
             self.rest = self.rest.split_at(1).1;
@@ -240,8 +240,8 @@ impl<'t> Reader<'t> {
     #[tactic(auto, using(crate::proofs::Unfold::more_none))]
     fn others(&mut self, depth: u32, closer: Closer, owner: usize) -> Result<(), Stop>
         requires owner { owner < length self.old.rows }
-        ensures read { Gives (λ _. out_of self.new) result (with_numbers owner (more_at (stmt_at depth) closer owner self.old.scope (length self.old.rest + 1) (code_at 1 ∷ []) self.old.rows self.old.rest)) }
-        ensures ends { OnOk result (Ends 0 self.old self.new) }
+        ensures read { IsReadAs (λ _. out_of self.new) result (with_numbers owner (more_at (stmt_at depth) closer owner self.old.scope (length self.old.rest + 1) (code_at 1 ∷ []) self.old.rows self.old.rest)) }
+        ensures ends { OnOk result (IsAtEnd 0 self.old self.new) }
     {
         let mut numbers = vec![in self.alloc; CodeId(1)]?;
         let most = self.rest.len() + 1;

@@ -9,7 +9,7 @@ use Rattle.oz_grammar.specs.Scoping.{Scope, Fields}
 use Rattle.oz_grammar.specs.Reading.{◌>>=◌, is_round, field_at, fields_at}
 use Rattle.oz_phrases.specs.declared.stop.Stop.{Stop}
 use Rattle.oz_phrases.specs.declared.stop.Stop.TheVariants as stops
-use Rattle.oz_phrases.specs.Gives.{Fails}
+use Rattle.oz_phrases.specs.Gives.{IsFailure}
 use Rattle.oz_phrases.specs.Fields.{numbered_field_of}
 
 pub number_read : (p : Purpose) (scope : Scope) (room : ℕ) (before : Fields) (next : ℕ) (n : Option ℤ) (rest : List Symbol) → field_at p scope room before next (t.Integer n ∷ rest) ≡ numbered_field_of p scope room before next n (t.Integer n ∷ rest) rest
@@ -31,7 +31,7 @@ unfolding fields_at
 fields_some p scope zero before next symbols z e = absurd (omega arith)
 fields_some p scope (suc room) before next symbols z e = let m : suc room - 1 ≡ room = omega arith in rw (e, m) refl
 
-pub fields_refused : (e : Stop) (p : Purpose) (scope : Scope) (room : ℕ) (before : Fields) (next : ℕ) (symbols : List Symbol) (all : Result (Fields × List Symbol) Fault) → fields_at p scope room before next symbols ≡ all → is_round symbols ≡ false → Fails e (field_at p scope room before next symbols) → Fails e all
+pub fields_refused : (e : Stop) (p : Purpose) (scope : Scope) (room : ℕ) (before : Fields) (next : ℕ) (symbols : List Symbol) (all : Result (Fields × List Symbol) Fault) → fields_at p scope room before next symbols ≡ all → is_round symbols ≡ false → IsFailure e (field_at p scope room before next symbols) → IsFailure e all
 fields_refused stops.Memory p scope room before next symbols all so_far r fails = tt
 fields_refused (stops.Fault f) p scope zero before next symbols all so_far r fails =
     let same : fields_at p scope 0 before next symbols ≡ Err f = fields_zero p scope 0 before next symbols refl r ∙ rw fails refl in

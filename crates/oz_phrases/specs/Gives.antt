@@ -4,11 +4,11 @@ use Rattle.oz_grammar.specs.declared.fault.Fault.{Fault}
 use Rattle.oz_phrases.specs.declared.stop.Stop.{Stop}
 use Rattle.oz_phrases.specs.declared.stop.Stop.TheVariants as stops
 
-abbrev pub Fails : {Y : Type 0} → Stop → Result Y Fault → Type 0
-Fails stops.Memory read = Unit {0}
-Fails (stops.Fault f) read = read ≡ Err f
+abbrev pub IsFailure : {Y : Type 0} → Stop → Result Y Fault → Type 0
+IsFailure stops.Memory read = Unit {0}
+IsFailure (stops.Fault f) read = read ≡ Err f
 
 -- what a function returned, seen by view, is what reading gives, unless memory ran out
-abbrev pub Gives : {X Y : Type 0} → (X → Y) → Result X Stop → Result Y Fault → Type 0
-Gives view (Ok x) read = read ≡ Ok (view x)
-Gives view (Err e) read = Fails e read
+abbrev pub IsReadAs : {X Y : Type 0} → (X → Y) → Result X Stop → Result Y Fault → Type 0
+IsReadAs view (Ok x) read = read ≡ Ok (view x)
+IsReadAs view (Err e) read = IsFailure e read

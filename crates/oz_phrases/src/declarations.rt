@@ -3,7 +3,7 @@
 ghost use Rattle.std.specs.Prelude.{◌≡◌, ◌+◌, ◌<◌, ◌≤◌, [], length, vec_len, IfOk};
 ghost use Rattle.oz_grammar.specs.Faults.{count_fault, formal_fault};
 ghost use Rattle.oz_grammar.specs.Reading.{locals_at, first_local_at, formals_at};
-ghost use Rattle.oz_phrases.specs.Gives.{Gives};
+ghost use Rattle.oz_phrases.specs.Gives.{IsReadAs};
 
 use crate::fields::has_name;
 use crate::stop::{Read, Stop, fault, refused};
@@ -25,7 +25,7 @@ pub fn count_fault(count: usize) -> Option<FaultKind>
 /// The names of a `local` behind those before, up to `in`.
 fn locals<'t>(mut names: Vec<Text>, symbols: &'t [Symbol]) -> Read<'t, Vec<Text>>
     requires { vec_len names ≤ 64 }
-    ensures read { Gives (λ x. (x.0.items, x.1.now)) result (locals_at names.items symbols.now) }
+    ensures read { IsReadAs (λ x. (x.0.items, x.1.now)) result (locals_at names.items symbols.now) }
     ensures shorter { IfOk result (λ x. vec_len x.0 + length x.1.now < vec_len names + length symbols.now) }
     ensures count { IfOk result (λ x. vec_len x.0 ≤ 64) }
 {
@@ -47,7 +47,7 @@ fn locals<'t>(mut names: Vec<Text>, symbols: &'t [Symbol]) -> Read<'t, Vec<Text>
 
 /// The names of a `local`.
 pub fn first_local<'t>(alloc: Global, symbols: &'t [Symbol]) -> Read<'t, Vec<Text>>
-    ensures read { Gives (λ x. (x.0.items, x.1.now)) result (first_local_at symbols.now) }
+    ensures read { IsReadAs (λ x. (x.0.items, x.1.now)) result (first_local_at symbols.now) }
     ensures shorter { IfOk result (λ x. vec_len x.0 + length x.1.now < length symbols.now) }
     ensures count { IfOk result (λ x. vec_len x.0 ≤ 64) }
 {
@@ -78,7 +78,7 @@ fn formal_fault(names: &[Text], name: &Text) -> Option<FaultKind>
 
 /// The formals of a procedure.
 pub fn formals<'t>(alloc: Global, symbols: &'t [Symbol]) -> Read<'t, Vec<Text>>
-    ensures read { Gives (λ x. (x.0.items, x.1.now)) result (formals_at [] symbols.now) }
+    ensures read { IsReadAs (λ x. (x.0.items, x.1.now)) result (formals_at [] symbols.now) }
     ensures shorter { IfOk result (λ x. vec_len x.0 + length x.1.now < length symbols.now) }
     ensures count { IfOk result (λ x. vec_len x.0 ≤ 64) }
 {

@@ -7,7 +7,7 @@ ghost use Rattle.oz_grammar.specs.Table.{slots_of, features_in};
 ghost use Rattle.oz_grammar.specs.Reading.{fields_at, field_at, named_field_at, field_name_at, is_round};
 ghost use Rattle.tree_node.specs.Node.{feature_cmp};
 ghost use Rattle.oz_phrases.specs.Fields.{insertion_point, field_name_of, field_with_feature_of, numbered_field_of};
-ghost use Rattle.oz_phrases.specs.Gives.{Gives};
+ghost use Rattle.oz_phrases.specs.Gives.{IsReadAs};
 
 use crate::scope::{Scope, place_of};
 use crate::signs::sign;
@@ -151,7 +151,7 @@ fn field_name<'t>(
     feature: Feature,
     symbols: &'t [Symbol],
 ) -> Read<'t, u32>
-    ensures read { Gives (λ x. (fields.new.items, x.0, x.1.now)) result (field_name_of at.purpose scope.now fields.old.items at.next feature symbols.now) }
+    ensures read { IsReadAs (λ x. (fields.new.items, x.0, x.1.now)) result (field_name_of at.purpose scope.now fields.old.items at.next feature symbols.now) }
     ensures shorter { IfOk result (λ x. length x.1.now + 1 ≡ length symbols.now) }
     ensures next { IfOk result (λ x. x.0 ≡ at.next) }
     ensures count { OnOk result (vec_len fields.new ≡ vec_len fields.old + 1) }
@@ -179,7 +179,7 @@ fn field_with_feature<'t>(
     symbols: &'t [Symbol],
 ) -> Read<'t, u32>
     requires { 0 < length symbols.now }
-    ensures read { Gives (λ x. (fields.new.items, x.0, x.1.now)) result (field_with_feature_of at.purpose scope.now at.room fields.old.items at.next feature symbols.now (drop 1 symbols.now)) }
+    ensures read { IsReadAs (λ x. (fields.new.items, x.0, x.1.now)) result (field_with_feature_of at.purpose scope.now at.room fields.old.items at.next feature symbols.now (drop 1 symbols.now)) }
     ensures shorter { IfOk result (λ x. length x.1.now < length symbols.now) }
     ensures next { IfOk result (λ x. x.0 ≡ at.next) }
     ensures count { OnOk result (vec_len fields.new ≡ vec_len fields.old + 1) }
@@ -202,7 +202,7 @@ fn numbered_field<'t>(
     symbols: &'t [Symbol],
 ) -> Read<'t, u32>
     requires { 0 < length symbols.now }
-    ensures read { Gives (λ x. (fields.new.items, x.0, x.1.now)) result (numbered_field_of at.purpose scope.now at.room fields.old.items at.next value symbols.now (drop 1 symbols.now)) }
+    ensures read { IsReadAs (λ x. (fields.new.items, x.0, x.1.now)) result (numbered_field_of at.purpose scope.now at.room fields.old.items at.next value symbols.now (drop 1 symbols.now)) }
     ensures shorter { IfOk result (λ x. length x.1.now < length symbols.now) }
     ensures next { IfOk result (λ x. x.0 ≡ at.next) }
     ensures count { OnOk result (vec_len fields.new ≡ vec_len fields.old + 1) }
@@ -222,7 +222,7 @@ fn field<'t>(
     symbols: &'t [Symbol],
 ) -> Read<'t, u32>
     requires { at.next < 2 ^ 31 }
-    ensures read { Gives (λ x. (fields.new.items, x.0, x.1.now)) result (field_at at.purpose scope.now at.room fields.old.items at.next symbols.now) }
+    ensures read { IsReadAs (λ x. (fields.new.items, x.0, x.1.now)) result (field_at at.purpose scope.now at.room fields.old.items at.next symbols.now) }
     ensures shorter { IfOk result (λ x. length x.1.now < length symbols.now) }
     ensures next { IfOk result (λ x. x.0 ≤ at.next + 1) }
     ensures count { OnOk result (vec_len fields.new ≡ vec_len fields.old + 1) }
@@ -263,7 +263,7 @@ pub fn fields<'t>(
     scope: &Scope,
     symbols: &'t [Symbol],
 ) -> Read<'t, Vec<(Feature, Text)>>
-    ensures read { Gives (λ x. (x.0.items, x.1.now)) result (fields_at purpose scope.now 64 [] 1 symbols.now) }
+    ensures read { IsReadAs (λ x. (x.0.items, x.1.now)) result (fields_at purpose scope.now 64 [] 1 symbols.now) }
     ensures shorter { IfOk result (λ x. vec_len x.0 + length x.1.now < length symbols.now) }
 {
     let mut fields = Vec::new(alloc);

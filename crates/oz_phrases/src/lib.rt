@@ -4,7 +4,7 @@
 //!
 //! Promises: a `Scope` has the names declared around a place, and finds a name's position however many there are. Each of the
 //! others reads one phrase at the front of symbols: an identifier, a list of names, a value, a pattern. It gives what the phrase
-//! reads as and the symbols behind it, or its first fault, or want of memory (`Gives`).
+//! reads as and the symbols behind it, or its first fault, or want of memory (`IsReadAs`).
 //!
 //! Stands on: `oz_grammar` (how a phrase reads), `kernel_syntax` (values and patterns).
 //!

@@ -2,7 +2,7 @@
 
 ghost use Rattle.std.specs.Prelude.{◌≡◌, ◌+◌, ◌<◌, ◌^◌, length, IfOk};
 ghost use Rattle.oz_grammar.specs.Reading.{used_at, selection_at, site_at, caught_at};
-ghost use Rattle.oz_phrases.specs.Gives.{Gives};
+ghost use Rattle.oz_phrases.specs.Gives.{IsReadAs};
 
 use crate::scope::Scope;
 use crate::stop::{Read, Stop, fault, refused};
@@ -13,7 +13,7 @@ use tree_node::{Feature, Text};
 /// The position of the used variable at the front.
 pub fn used<'t>(what: What, scope: &Scope, symbols: &'t [Symbol]) -> Read<'t, u32>
     requires { length scope.now < 2 ^ 32 }
-    ensures read { Gives (λ x. (x.0, x.1.now)) result (used_at what scope.now symbols.now) }
+    ensures read { IsReadAs (λ x. (x.0, x.1.now)) result (used_at what scope.now symbols.now) }
     ensures shorter { IfOk result (λ x. length x.1.now + 1 ≡ length symbols.now) }
 {
     match symbols {
@@ -28,7 +28,7 @@ pub fn used<'t>(what: What, scope: &Scope, symbols: &'t [Symbol]) -> Read<'t, u3
 /// What a selection selects by.
 pub fn selection<'t>(scope: &Scope, symbols: &'t [Symbol]) -> Read<'t, Selector>
     requires { length scope.now < 2 ^ 32 }
-    ensures read { Gives (λ x. (x.0, x.1.now)) result (selection_at scope.now symbols.now) }
+    ensures read { IsReadAs (λ x. (x.0, x.1.now)) result (selection_at scope.now symbols.now) }
     ensures shorter { IfOk result (λ x. length x.1.now + 1 ≡ length symbols.now) }
 {
     match symbols {
@@ -48,9 +48,9 @@ pub fn selection<'t>(scope: &Scope, symbols: &'t [Symbol]) -> Read<'t, Selector>
     }
 }
 
-/// The place of a thread.
+/// The site of a thread.
 pub fn site(symbols: &[Symbol]) -> Result<(i64, &[Symbol]), Stop>
-    ensures read { Gives (λ x. (x.0, x.1.now)) result (site_at symbols.now) }
+    ensures read { IsReadAs (λ x. (x.0, x.1.now)) result (site_at symbols.now) }
     ensures shorter { IfOk result (λ x. length x.1.now + 1 ≡ length symbols.now) }
 {
     match symbols {
@@ -68,7 +68,7 @@ pub fn site(symbols: &[Symbol]) -> Result<(i64, &[Symbol]), Stop>
 
 /// The name that `catch` declares.
 pub fn caught(symbols: &[Symbol]) -> Result<(Text, &[Symbol]), Stop>
-    ensures read { Gives (λ x. (x.0, x.1.now)) result (caught_at symbols.now) }
+    ensures read { IsReadAs (λ x. (x.0, x.1.now)) result (caught_at symbols.now) }
     ensures shorter { IfOk result (λ x. length x.1.now + 1 ≡ length symbols.now) }
 {
     match symbols {

@@ -3,7 +3,7 @@
 ghost use Rattle.std.specs.Prelude.{◌≡◌, ◌+◌, ◌<◌, ◌≤◌, length, vec_len, IfOk};
 ghost use Rattle.oz_grammar.specs.Table.{record_pattern};
 ghost use Rattle.oz_grammar.specs.Reading.{pair_pattern_at, record_pattern_at, pattern_at};
-ghost use Rattle.oz_phrases.specs.Gives.{Gives};
+ghost use Rattle.oz_phrases.specs.Gives.{IsReadAs};
 ghost use Rattle.oz_phrases.specs.Values.{pair_pattern};
 
 use crate::fields::{features, fields, names};
@@ -40,7 +40,7 @@ fn pair_pattern<'t>(
     head: &Text,
     symbols: &'t [Symbol],
 ) -> Result<(Pattern, Vec<Text>, &'t [Symbol]), Stop>
-    ensures read { Gives (λ x. (x.0, x.1.items, x.2.now)) result (pair_pattern_at head.now symbols.now) }
+    ensures read { IsReadAs (λ x. (x.0, x.1.items, x.2.now)) result (pair_pattern_at head.now symbols.now) }
     ensures shorter { IfOk result (λ x. (vec_len x.1 ≤ 2) × (length x.2.now + 1 ≡ length symbols.now)) }
 {
     match symbols {
@@ -63,7 +63,7 @@ fn atom_pattern<'t>(
     scope: &Scope,
     symbols: &'t [Symbol],
 ) -> Result<(Pattern, Vec<Text>, &'t [Symbol]), Stop>
-    ensures read { Gives (λ x. (x.0, x.1.items, x.2.now)) result (record_pattern_at label.now scope.now symbols.now) }
+    ensures read { IsReadAs (λ x. (x.0, x.1.items, x.2.now)) result (record_pattern_at label.now scope.now symbols.now) }
     ensures shorter { IfOk result (λ x. vec_len x.1 + length x.2.now ≤ length symbols.now) }
 {
     match symbols {
@@ -83,7 +83,7 @@ pub fn pattern<'t>(
     scope: &Scope,
     symbols: &'t [Symbol],
 ) -> Result<(Pattern, Vec<Text>, &'t [Symbol]), Stop>
-    ensures read { Gives (λ x. (x.0, x.1.items, x.2.now)) result (pattern_at scope.now symbols.now) }
+    ensures read { IsReadAs (λ x. (x.0, x.1.items, x.2.now)) result (pattern_at scope.now symbols.now) }
     ensures shorter { IfOk result (λ x. vec_len x.1 + length x.2.now < length symbols.now) }
 {
     match symbols {

@@ -3,7 +3,7 @@
 ghost use Rattle.std.specs.Prelude.{◌≡◌, ◌+◌, length, IfOk};
 ghost use Rattle.oz_grammar.specs.Points.{is_sign, expects_sign, is_closer, begins_statement, expected_after};
 ghost use Rattle.oz_grammar.specs.Reading.{is_end_of, begins_at, sign_at, close_at};
-ghost use Rattle.oz_phrases.specs.Gives.{Gives};
+ghost use Rattle.oz_phrases.specs.Gives.{IsReadAs};
 
 use crate::stop::{Stop, refused};
 use oz_grammar::{Closer, Sign, Symbol, What};
@@ -42,7 +42,7 @@ pub fn expects_sign(sign: Sign) -> What
 
 /// A symbol that stands alone at its place.
 pub fn sign(sign: Sign, symbols: &[Symbol]) -> Result<&[Symbol], Stop>
-    ensures read { Gives (λ x. x.now) result (sign_at sign symbols.now) }
+    ensures read { IsReadAs (λ x. x.now) result (sign_at sign symbols.now) }
     ensures shorter { IfOk result (λ x. length x.now + 1 ≡ length symbols.now) }
 {
     match symbols {
@@ -59,7 +59,7 @@ pub fn sign(sign: Sign, symbols: &[Symbol]) -> Result<&[Symbol], Stop>
 
 /// The bracket that closes a built-in call.
 pub fn close(symbols: &[Symbol]) -> Result<&[Symbol], Stop>
-    ensures read { Gives (λ x. x.now) result (close_at symbols.now) }
+    ensures read { IsReadAs (λ x. x.now) result (close_at symbols.now) }
     ensures shorter { IfOk result (λ x. length x.now + 1 ≡ length symbols.now) }
 {
     match symbols {

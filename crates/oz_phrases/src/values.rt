@@ -3,7 +3,7 @@
 ghost use Rattle.std.specs.Prelude.{◌≡◌, ◌+◌, ◌<◌, ◌≤◌, ◌^◌, [], length, IfOk};
 ghost use Rattle.oz_grammar.specs.Table.{record_row, pair_row};
 ghost use Rattle.oz_grammar.specs.Reading.{record_at, behind_at, value_at};
-ghost use Rattle.oz_phrases.specs.Gives.{Gives};
+ghost use Rattle.oz_phrases.specs.Gives.{IsReadAs};
 ghost use Rattle.oz_phrases.specs.Values.{calculation_at, selected_at, pair_at, variable_at};
 
 use crate::fields::{fields, slots};
@@ -39,7 +39,7 @@ fn record<'t>(
     symbols: &'t [Symbol],
 ) -> Read<'t, Stmt>
     requires { length scope.now < 2 ^ 32 }
-    ensures read { Gives (λ x. (x.0, x.1.now)) result (record_at left label.now scope.now symbols.now) }
+    ensures read { IsReadAs (λ x. (x.0, x.1.now)) result (record_at left label.now scope.now symbols.now) }
     ensures shorter { IfOk result (λ x. length x.1.now ≤ length symbols.now) }
 {
     match symbols {
@@ -79,7 +79,7 @@ fn calculation<'t>(
     symbols: &'t [Symbol],
 ) -> Read<'t, Stmt>
     requires { length scope.now < 2 ^ 32 }
-    ensures read { Gives (λ x. (x.0, x.1.now)) result (calculation_at left a op scope.now symbols.now) }
+    ensures read { IsReadAs (λ x. (x.0, x.1.now)) result (calculation_at left a op scope.now symbols.now) }
     ensures shorter { IfOk result (λ x. length x.1.now ≤ length symbols.now) }
 {
     let (b, rest) = used(What::Variable, scope, symbols)?;
@@ -88,7 +88,7 @@ fn calculation<'t>(
 
 fn selected<'t>(left: u32, source: u32, scope: &Scope, symbols: &'t [Symbol]) -> Read<'t, Stmt>
     requires { length scope.now < 2 ^ 32 }
-    ensures read { Gives (λ x. (x.0, x.1.now)) result (selected_at left source scope.now symbols.now) }
+    ensures read { IsReadAs (λ x. (x.0, x.1.now)) result (selected_at left source scope.now symbols.now) }
     ensures shorter { IfOk result (λ x. length x.1.now ≤ length symbols.now) }
 {
     let (by, rest) = selection(scope, symbols)?;
@@ -103,7 +103,7 @@ fn pair<'t>(
     symbols: &'t [Symbol],
 ) -> Read<'t, Stmt>
     requires { length scope.now < 2 ^ 32 }
-    ensures read { Gives (λ x. (x.0, x.1.now)) result (pair_at left head scope.now symbols.now) }
+    ensures read { IsReadAs (λ x. (x.0, x.1.now)) result (pair_at left head scope.now symbols.now) }
     ensures shorter { IfOk result (λ x. length x.1.now ≤ length symbols.now) }
 {
     let (tail, rest) = used(What::Variable, scope, symbols)?;
@@ -119,7 +119,7 @@ fn behind<'t>(
     symbols: &'t [Symbol],
 ) -> Read<'t, Stmt>
     requires { length scope.now < 2 ^ 32 }
-    ensures read { Gives (λ x. (x.0, x.1.now)) result (behind_at left a scope.now symbols.now) }
+    ensures read { IsReadAs (λ x. (x.0, x.1.now)) result (behind_at left a scope.now symbols.now) }
     ensures shorter { IfOk result (λ x. length x.1.now ≤ length symbols.now) }
 {
     match symbols {
@@ -133,7 +133,7 @@ fn behind<'t>(
 /// A value that begins with a variable.
 fn variable<'t>(alloc: Global, left: u32, scope: &Scope, symbols: &'t [Symbol]) -> Read<'t, Stmt>
     requires { length scope.now < 2 ^ 32 }
-    ensures read { Gives (λ x. (x.0, x.1.now)) result (variable_at left scope.now symbols.now) }
+    ensures read { IsReadAs (λ x. (x.0, x.1.now)) result (variable_at left scope.now symbols.now) }
     ensures shorter { IfOk result (λ x. length x.1.now < length symbols.now) }
 {
     let (a, rest) = used(What::Value, scope, symbols)?;
@@ -143,7 +143,7 @@ fn variable<'t>(alloc: Global, left: u32, scope: &Scope, symbols: &'t [Symbol]) 
 /// The right side of a tell, where it is no procedure.
 pub fn value<'t>(alloc: Global, left: u32, scope: &Scope, symbols: &'t [Symbol]) -> Read<'t, Stmt>
     requires { length scope.now < 2 ^ 32 }
-    ensures read { Gives (λ x. (x.0, x.1.now)) result (value_at left scope.now symbols.now) }
+    ensures read { IsReadAs (λ x. (x.0, x.1.now)) result (value_at left scope.now symbols.now) }
     ensures shorter { IfOk result (λ x. length x.1.now < length symbols.now) }
 {
     match symbols {

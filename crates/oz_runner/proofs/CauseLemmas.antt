@@ -12,14 +12,14 @@ use Rattle.oz_words.specs.declared.options.Options.{Options}
 use Rattle.oz_show.specs.Status.{end_line, HasLine, HasNumbers}
 use Rattle.oz_show.specs.declared.status.Status.{Status}
 use Rattle.oz_show.specs.declared.status.Status.TheVariants.{Quiescent, Usage, Refused, NotUtf8, TooLong, StepLimit, MessageLimit, ReadFault, WriteFault, Memory}
-use Rattle.oz_runner.specs.Seen.{Stream, Seen, Made, made_of}
-use Rattle.oz_runner.specs.Cause.{Cause, Failed, Gave, GaveText, Given, IsTextOf, IsUntouched, NeverFailed, NothingRan, ReadsSource, Says, WantsSource, text_limit}
+use Rattle.oz_runner.specs.Seen.{Stream, Seen, RunOutput, made_of}
+use Rattle.oz_runner.specs.Cause.{Cause, Failed, Gave, GaveText, Given, IsTextOf, IsUntouched, NeverFailed, NothingRan, ReadsSource, HasOptions, IsSourceWanted, text_limit}
 use Rattle.oz_runner.specs.Run.{CameTo}
 use Rattle.oz_runner.specs.Headline.{Headline}
 use Rattle.oz_runner.specs.Written.{IsToldAs, Written, after_fault}
 
 -- the end of a run
-pub ran_cause : (seen : Seen) (made : Made) (status : Status) (given : Given seen) → CameTo given.program given.options made status → Cause seen made status
+pub ran_cause : (seen : Seen) (made : RunOutput) (status : Status) (given : Given seen) → CameTo given.program given.options made status → Cause seen made status
 ran_cause seen made (Quiescent ended waiting) given came = (given, came)
 ran_cause seen made (StepLimit site) given came = (given, came)
 ran_cause seen made MessageLimit given came = (given, came)
@@ -32,7 +32,7 @@ ran_cause seen made ReadFault given came = absurd came
 ran_cause seen made WriteFault given came = absurd came
 
 -- bytes that are no text
-pub bytes_cause : (seen : Seen) (made : Made) (options : Options) (bytes : List ℕ) (at : ℕ) → Says seen options → ReadsSource options.action → GaveText seen.source bytes
+pub bytes_cause : (seen : Seen) (made : RunOutput) (options : Options) (bytes : List ℕ) (at : ℕ) → HasOptions seen options → ReadsSource options.action → GaveText seen.source bytes
     → (IsUtf8 bytes → ⊥) × IsValidUpTo bytes at → NothingRan made → Cause seen made (NotUtf8 at)
 bytes_cause seen made options bytes at says reads gave wrong nothing = (((options, says, reads), (bytes, gave, wrong)), nothing)
 
@@ -43,24 +43,24 @@ source_text action.Central source bytes text reads same gave = subst (GaveText s
 source_text (action.Gen size) source bytes text reads same gave = absurd reads
 
 -- a text that is refused
-pub refused_cause : (seen : Seen) (made : Made) (options : Options) (text : List ℕ) (fault : TextFault) → Says seen options → IsTextOf options.action seen.source text
+pub refused_cause : (seen : Seen) (made : RunOutput) (options : Options) (text : List ℕ) (fault : TextFault) → HasOptions seen options → IsTextOf options.action seen.source text
     → IsUtf8 text → FaultOf text fault → NothingRan made → Cause seen made (Refused fault)
 refused_cause seen made options text fault says is_text utf8 applies nothing = ((options, says, (text, is_text, (utf8, applies))), nothing)
 
 -- no more was read than a short text
-read_front : (seen : Seen) (options : Options) (text : List ℕ) (a : Action) → options.action ≡ a → Says seen options → IsTextOf a seen.source text
-    → IsUntouched seen.source ⊎ (WantsSource seen × NeverFailed seen.source × Gave seen.source (λ n. n ≤ text_limit))
+read_front : (seen : Seen) (options : Options) (text : List ℕ) (a : Action) → options.action ≡ a → HasOptions seen options → IsTextOf a seen.source text
+    → IsUntouched seen.source ⊎ (IsSourceWanted seen × NeverFailed seen.source × Gave seen.source (λ n. n ≤ text_limit))
 read_front seen options text action.Run is says gave = inr ((options, says, subst ReadsSource (sym is) tt), gave.3, (text, gave.0, gave.2))
 read_front seen options text action.Central is says gave = inr ((options, says, subst ReadsSource (sym is) tt), gave.3, (text, gave.0, gave.2))
 read_front seen options text (action.Gen size) is says gave = inl gave.1
 
 -- a text for which no memory was left
-pub text_stops : (seen : Seen) (made : Made) (options : Options) (text : List ℕ) → Says seen options → IsTextOf options.action seen.source text
+pub text_stops : (seen : Seen) (made : RunOutput) (options : Options) (text : List ℕ) → HasOptions seen options → IsTextOf options.action seen.source text
     → NothingRan made → Cause seen made Memory
 text_stops seen made options text says is_text nothing = inl (read_front seen options text options.action refl says is_text, nothing)
 
 -- work whose end line finds no memory
-memory_cause : (seen : Seen) (made : Made) (status : Status) → HasNumbers status → Cause seen made status → Cause seen made Memory
+memory_cause : (seen : Seen) (made : RunOutput) (status : Status) → HasNumbers status → Cause seen made status → Cause seen made Memory
 memory_cause seen made (Quiescent ended waiting) has (given, (state, end, quiet)) = inr (given, (state, end.run))
 memory_cause seen made (StepLimit site) has (given, (state, end)) = inr (given, (state, end.run))
 memory_cause seen made MessageLimit has cause = absurd has
@@ -72,7 +72,7 @@ memory_cause seen made ReadFault has cause = absurd has
 memory_cause seen made WriteFault has cause = absurd has
 memory_cause seen made Memory has cause = absurd has
 
-told_cause : (seen : Seen) (made : Made) (status worked : Status) → IsToldAs status worked → Cause seen made status → Cause seen made worked
+told_cause : (seen : Seen) (made : RunOutput) (status worked : Status) → IsToldAs status worked → Cause seen made status → Cause seen made worked
 told_cause seen made status worked (inl same) cause = subst (Cause seen made) (sym same) cause
 told_cause seen made status worked (inr (has, none)) cause = subst (Cause seen made) (sym none) (memory_cause seen made status has cause)
 
@@ -81,17 +81,17 @@ told_line status worked (inl same) has = subst HasLine (sym same) has
 told_line status worked (inr (numbers, none)) has = subst HasLine (sym none) tt
 
 -- where the sink failed
-fault_cause : (seen : Seen) (made : Made) (worked : Status) → Failed seen.sink → Cause seen made worked → Cause seen made (after_fault worked)
+fault_cause : (seen : Seen) (made : RunOutput) (worked : Status) → Failed seen.sink → Cause seen made worked → Cause seen made (after_fault worked)
 fault_cause seen made Memory failed cause = cause
 fault_cause seen made _ failed cause = failed
 
-answered_cause : (seen : Seen) (made : Made) (bytes : List ℕ) (worked status : Status)
+answered_cause : (seen : Seen) (made : RunOutput) (bytes : List ℕ) (worked status : Status)
     → Written seen.sink bytes worked status → Cause seen made worked → Cause seen made status
 answered_cause seen made bytes worked status (inl all) cause = subst (Cause seen made) (sym all.0) cause
 answered_cause seen made bytes worked status (inr front) cause = subst (Cause seen made) (sym front.0) (fault_cause seen made worked front.1 cause)
 
 -- the work, and what was written of it
-pub headline : (seen : Seen) (made : Made) (status worked final : Status) (journal : List Turn) (schedule : List Pick)
+pub headline : (seen : Seen) (made : RunOutput) (status worked final : Status) (journal : List Turn) (schedule : List Pick)
     → journal ≡ made.journal → schedule ≡ made.schedule → Cause seen made status → HasLine status → IsToldAs status worked
     → Written seen.sink (output made.lines (end_line worked)) worked final → Headline seen (made_of journal schedule made.lines) final
 headline seen made status worked final journal schedule same_journal same_schedule cause has told wrote =

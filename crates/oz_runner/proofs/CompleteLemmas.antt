@@ -9,13 +9,13 @@ use Rattle.oz_grammar.specs.Laws.{TextsNeverHaveBoth}
 use Rattle.oz_grammar.specs.Reads.{Reads}
 use Rattle.oz_show.specs.declared.status.Status.{Status}
 use Rattle.oz_show.specs.declared.status.Status.TheVariants.{Quiescent, Usage, Refused, NotUtf8, TooLong, StepLimit, MessageLimit, ReadFault, WriteFault, Memory}
-use Rattle.oz_words.specs.Words.{SaysAction}
+use Rattle.oz_words.specs.Words.{IsActionText}
 use Rattle.oz_words.specs.Words as words
 use Rattle.oz_words.specs.declared.options.Action.{Action}
 use Rattle.oz_words.specs.declared.options.Action.TheVariants as action
 use Rattle.oz_words.specs.declared.options.Options.{Options}
-use Rattle.oz_runner.specs.Seen.{Seen, Stream, Made}
-use Rattle.oz_runner.specs.Cause.{Cause, GaveText, IsTextOf, ReadsSource, Says}
+use Rattle.oz_runner.specs.Seen.{Seen, Stream, RunOutput}
+use Rattle.oz_runner.specs.Cause.{Cause, GaveText, IsTextOf, ReadsSource, HasOptions}
 use Rattle.oz_runner.specs.Complete.{HasText, IsDone, IsGood}
 
 -- a source gives no more than it has
@@ -35,11 +35,11 @@ other a b o differ is also =
     let same : a ≡ b = ap (λ (t : Option (List ℕ)). unwrap_or t []) (sym is ∙ also) in
     true≢false (sym ((bytes_eq-Decides a b).1 same) ∙ differ)
 
-one_number : (o : Option (List ℕ)) (n m : ℕ) → words.Says o n → words.Says o m → n ≡ m
+one_number : (o : Option (List ℕ)) (n m : ℕ) → words.IsNumberText o n → words.IsNumberText o m → n ≡ m
 one_number None n m one two = absurd one
 one_number (Some text) n m one two = one ∙ sym two
 
-one_action : (named number : Option (List ℕ)) (a b : Action) → SaysAction named number a → SaysAction named number b → a ≡ b
+one_action : (named number : Option (List ℕ)) (a b : Action) → IsActionText named number a → IsActionText named number b → a ≡ b
 one_action named number action.Run action.Run one two = refl
 one_action named number action.Run action.Central one two = absurd (other _ _ named refl one two)
 one_action named number action.Run (action.Gen m) one two = absurd (other _ _ named refl one two.0)
@@ -50,7 +50,7 @@ one_action named number (action.Gen n) action.Run one two = absurd (other _ _ na
 one_action named number (action.Gen n) action.Central one two = absurd (other _ _ named refl one.0 two)
 one_action named number (action.Gen n) (action.Gen m) one two = ap action.Gen (one_number number n m one.1 two.1)
 
-same_action : (seen : Seen) (good : IsGood seen) (options : Options) → Says seen options → good.options.action ≡ options.action
+same_action : (seen : Seen) (good : IsGood seen) (options : Options) → HasOptions seen options → good.options.action ≡ options.action
 same_action seen good options says = one_action _ _ good.options.action options.action good.says.1.action says.1.action
 
 -- ---- the text is the one that was told
@@ -71,12 +71,12 @@ run_told action.Central source told text before gave = read_told source told tex
 run_told (action.Gen size) source told text before gave = before ∙ sym gave.0
 
 -- the text that was run is the one that was told
-same_text : (seen : Seen) (good : IsGood seen) (options : Options) (text : List ℕ) → Says seen options → IsTextOf options.action seen.source text → good.text ≡ text
-same_text seen good options text says is_text =
+equal_text : (seen : Seen) (good : IsGood seen) (options : Options) (text : List ℕ) → HasOptions seen options → IsTextOf options.action seen.source text → good.text ≡ text
+equal_text seen good options text says is_text =
     run_told good.options.action seen.source good.text text good.told
     (subst (λ (a : Action). IsTextOf a seen.source text) (sym (same_action seen good options says)) is_text)
 
-pub complete : (seen : Seen) (made : Made) (status : Status) → TextsNeverHaveBoth → Cause seen made status → IsGood seen → IsDone status
+pub complete : (seen : Seen) (made : RunOutput) (status : Status) → TextsNeverHaveBoth → Cause seen made status → IsGood seen → IsDone status
 complete seen made (Quiescent ended waiting) never cause good = tt
 complete seen made (StepLimit site) never cause good = tt
 complete seen made MessageLimit never cause good = tt
@@ -95,4 +95,4 @@ complete seen made (NotUtf8 at) never (((options, says, reads), (text, gave, (ba
     let told = source_told good.options.action options.action seen.source good.text (same_action seen good options says) reads good.told in
     bad (subst IsUtf8 (read_told seen.source good.text text told gave) good.utf8)
 complete seen made (Refused fault) never ((options, says, (text, is_text, (utf8, applies))), nothing) good =
-    never text good.program fault (subst (λ (t : List ℕ). Reads t good.program) (same_text seen good options text says is_text) good.reads) applies
+    never text good.program fault (subst (λ (t : List ℕ). Reads t good.program) (equal_text seen good options text says is_text) good.reads) applies

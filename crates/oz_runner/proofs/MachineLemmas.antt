@@ -14,7 +14,7 @@ use Rattle.central_machine.specs.declared.run.Reason.TheVariants as stops
 use Rattle.oz_words.specs.declared.options.Action.{Action}
 use Rattle.oz_words.specs.declared.options.Action.TheVariants as action
 use Rattle.oz_words.specs.declared.options.Options.{Options}
-use Rattle.oz_runner.specs.Seen.{Made, made_of}
+use Rattle.oz_runner.specs.Seen.{RunOutput, made_of}
 use Rattle.oz_runner.specs.Run.{CameTo, HasEnded, IsMadeByMachine, IsMadeBySites, IsRun, OfSitesOrMachine, SitesAreSilent, StopsFor, limits_of}
 use Rattle.oz_runner.specs.Machine.{status_after}
 
@@ -23,7 +23,7 @@ alone : (a : Action) (OfSites OfMachine : Type 0) → a ≡ action.Central → O
 alone a OfSites OfMachine is holds = subst (λ (a : Action). OfSitesOrMachine a OfSites OfMachine) (sym is) holds
 
 module _ (p : List Stmt) (options : Options) (s : State) (left : Ran) (is : options.action ≡ action.Central) (chain : CellsAreChains) (ends : EndsAt p options.steps s left) where
-  abbrev by_machine : Made
+  abbrev by_machine : RunOutput
   by_machine = made_of [] left.picks left.lines.items
 
   machine_run : HasOneEach s.equations → IsRun p options by_machine s

@@ -31,7 +31,7 @@ use Rattle.oz_words.specs.declared.options.Options.{Options}
 use Rattle.oz_show.specs.Status.{HasLine}
 use Rattle.oz_show.specs.declared.status.Status.{Status}
 use Rattle.oz_show.specs.declared.status.Status.TheVariants.{Quiescent, Usage, Refused, NotUtf8, TooLong, StepLimit, MessageLimit, ReadFault, WriteFault, Memory}
-use Rattle.oz_runner.specs.Seen.{Made, made_of}
+use Rattle.oz_runner.specs.Seen.{RunOutput, made_of}
 use Rattle.oz_runner.specs.Messages.{most_messages}
 use Rattle.oz_runner.specs.Run.{CameTo, HasEnded, IsMadeByMachine, IsMadeBySites, IsQuiet, IsRun, OfSitesOrMachine, SitesAreSilent, StopsFor, limits_of}
 use Rattle.oz_runner.specs.Ends.{IsOverSites, status_of}
@@ -101,7 +101,7 @@ module _ (p : List Stmt) (options : Options) (out : RunOut) (is : IsOverSites op
   abbrev simulated : IsSimulated p options.sites out.journal states s
   simulated = left.run.2.1
 
-  abbrev by_sites : Made
+  abbrev by_sites : RunOutput
   by_sites = made_of out.journal out.schedule (lines_in out.journal)
 
   abbrev knowledge : Knowledge (eqs states) (travelling out.journal) s.equations
@@ -171,7 +171,7 @@ sites_came p options out is tells one chain left = by_reason p options out is te
 -- ---- the status
 
 -- each status that a run comes to has an end line
-pub came_line : (p : List Stmt) (options : Options) (made : Made) (status : Status) → CameTo p options made status → HasLine status
+pub came_line : (p : List Stmt) (options : Options) (made : RunOutput) (status : Status) → CameTo p options made status → HasLine status
 came_line p options made WriteFault came = absurd came
 came_line p options made (Quiescent ended waiting) came = tt
 came_line p options made Usage came = tt

@@ -14,7 +14,7 @@ use Rattle.oz_words.specs.declared.options.Options.{Options}
 use Rattle.oz_words.specs.declared.options.WordsError.TheVariants as words_error
 use Rattle.oz_show.specs.declared.status.Status.{Status}
 use Rattle.oz_show.specs.declared.status.Status.TheVariants.{Quiescent, Usage, Refused, NotUtf8, TooLong, StepLimit, MessageLimit, ReadFault, WriteFault, Memory}
-use Rattle.oz_runner.specs.Seen.{Stream, Seen, Made}
+use Rattle.oz_runner.specs.Seen.{Stream, Seen, RunOutput}
 use Rattle.oz_runner.specs.Run.{CameTo}
 
 -- the most bytes of a text
@@ -55,30 +55,30 @@ ReadsSource action.Central = Unit {0}
 ReadsSource (action.Gen size) = ⊥
 
 -- nothing ran: there is no turn, no step and no line
-abbrev pub NothingRan : Made → Type 0
+abbrev pub NothingRan : RunOutput → Type 0
 NothingRan made = (made.journal ≡ []) × (made.schedule ≡ []) × (made.lines ≡ [])
 
 -- the words are taken, and these are their options
-abbrev pub Says : Seen → Options → Type 0
-Says seen options = ReadsWords seen.words (Ok options)
+abbrev pub HasOptions : Seen → Options → Type 0
+HasOptions seen options = ReadsWords seen.words (Ok options)
 
 -- the words are taken, and by them the text is that of the source
-abbrev pub WantsSource : Seen → Type 0
-WantsSource seen = (options : Options) × Says seen options × ReadsSource options.action
+abbrev pub IsSourceWanted : Seen → Type 0
+IsSourceWanted seen = (options : Options) × HasOptions seen options × ReadsSource options.action
 
 -- and the source gave a text of which this holds
 abbrev pub GotSource : Seen → (List ℕ → Type 0) → Type 0
-GotSource seen Holds = WantsSource seen × ((text : List ℕ) × GaveText seen.source text × Holds text)
+GotSource seen Holds = IsSourceWanted seen × ((text : List ℕ) × GaveText seen.source text × Holds text)
 
 -- the words are taken, and this holds of the text that is run
 abbrev pub GotText : Seen → (List ℕ → Type 0) → Type 0
 GotText seen Holds =
-    (options : Options) × Says seen options × ((text : List ℕ) × IsTextOf options.action seen.source text × Holds text)
+    (options : Options) × HasOptions seen options × ((text : List ℕ) × IsTextOf options.action seen.source text × Holds text)
 
 -- the words are taken, their numbers are in their ranges, and the text that is run reads a program
 pub record Given (seen : Seen) : Type 0 where
   pub options : Options
-  pub says : Says seen options
+  pub says : HasOptions seen options
   pub range : InRange options
   pub text : List ℕ
   pub is_text : IsTextOf options.action seen.source text
@@ -87,22 +87,22 @@ pub record Given (seen : Seen) : Type 0 where
   pub reads : Reads text program
 
 -- and the run of that program, made as the words say, came to this status
-abbrev pub Ran : Seen → Made → Status → Type 0
+abbrev pub Ran : Seen → RunOutput → Status → Type 0
 Ran seen made status = (given : Given seen) × CameTo given.program given.options made status
 
 -- no memory was left before anything ran: the source was not read, or no more of it than a short text
-abbrev pub Stopped : Seen → Made → Type 0
+abbrev pub Stopped : Seen → RunOutput → Type 0
 Stopped seen made =
     (IsUntouched seen.source
-    ⊎ (WantsSource seen × NeverFailed seen.source × Gave seen.source (λ n. n ≤ text_limit)))
+    ⊎ (IsSourceWanted seen × NeverFailed seen.source × Gave seen.source (λ n. n ≤ text_limit)))
     × NothingRan made
 
 -- The cause of each status. Want of memory is the one free answer: it comes before anything ran, or in a run, whose lines are
 -- those of the schedule
-abbrev pub Cause : Seen → Made → Status → Type 0
+abbrev pub Cause : Seen → RunOutput → Status → Type 0
 Cause seen made Usage = ReadsWords seen.words (Err words_error.Usage) × IsUntouched seen.source × NothingRan made
-Cause seen made ReadFault = WantsSource seen × Failed seen.source × Gave seen.source (λ n. n ≤ text_limit) × NothingRan made
-Cause seen made TooLong = WantsSource seen × NeverFailed seen.source × Gave seen.source (λ n. text_limit < n) × NothingRan made
+Cause seen made ReadFault = IsSourceWanted seen × Failed seen.source × Gave seen.source (λ n. n ≤ text_limit) × NothingRan made
+Cause seen made TooLong = IsSourceWanted seen × NeverFailed seen.source × Gave seen.source (λ n. text_limit < n) × NothingRan made
 Cause seen made (NotUtf8 at) = GotSource seen (λ text. (IsUtf8 text → ⊥) × IsValidUpTo text at) × NothingRan made
 Cause seen made (Refused fault) = GotText seen (λ text. IsUtf8 text × FaultOf text fault) × NothingRan made
 Cause seen made (Quiescent ended waiting) = Ran seen made (Quiescent ended waiting)

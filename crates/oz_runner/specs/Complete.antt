@@ -10,7 +10,7 @@ use Rattle.oz_words.specs.declared.options.Options.{Options}
 use Rattle.oz_show.specs.declared.status.Status.{Status}
 use Rattle.oz_show.specs.declared.status.Status.TheVariants.{Quiescent, Usage, Refused, NotUtf8, TooLong, StepLimit, MessageLimit, ReadFault, WriteFault, Memory}
 use Rattle.oz_runner.specs.Seen.{Seen, Stream}
-use Rattle.oz_runner.specs.Cause.{Failed, Says, text_limit}
+use Rattle.oz_runner.specs.Cause.{Failed, HasOptions, text_limit}
 
 -- the text that is to be run: what the source has, where it tells that, or the large text of the size
 abbrev pub HasText : Action → Stream → List ℕ → Type 0
@@ -21,7 +21,7 @@ HasText (action.Gen size) source text = text ≡ large_text size
 -- the words are taken, the text is told, short enough and UTF-8, it reads a program, and there was no fault
 pub record IsGood (seen : Seen) : Type 0 where
   pub options : Options
-  pub says : Says seen options
+  pub says : HasOptions seen options
   pub text : List ℕ
   pub told : HasText options.action seen.source text
   pub fits : length text ≤ text_limit

@@ -11,7 +11,7 @@ use Rattle.oz_show.specs.declared.status.Status.TheVariants.{Quiescent, StepLimi
 use Rattle.oz_runner.specs.declared.work.Printed.{Printed}
 use Rattle.oz_runner.specs.declared.work.Printed.TheVariants as printed
 use Rattle.oz_runner.specs.declared.work.Work.{Work}
-use Rattle.oz_runner.specs.Seen.{Made, made_of}
+use Rattle.oz_runner.specs.Seen.{RunOutput, made_of}
 
 -- the program runs over the sites
 abbrev pub IsOverSites : Action → Type 0
@@ -37,5 +37,5 @@ lines_of (printed.Sites journal) = lines_in journal
 lines_of (printed.Machine lines) = lines.items
 
 -- the journal, the schedule and the lines of the work
-abbrev pub made_by : Work → Made
+abbrev pub made_by : Work → RunOutput
 made_by work = made_of (journal_of work.printed) work.schedule (lines_of work.printed)

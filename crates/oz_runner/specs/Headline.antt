@@ -2,7 +2,7 @@
 use Rattle.oz_model.specs.Output.{output}
 use Rattle.oz_show.specs.Status.{end_line, HasLine}
 use Rattle.oz_show.specs.declared.status.Status.{Status}
-use Rattle.oz_runner.specs.Seen.{Seen, Made}
+use Rattle.oz_runner.specs.Seen.{Seen, RunOutput}
 use Rattle.oz_runner.specs.Cause.{Cause}
 use Rattle.oz_runner.specs.Written.{Written}
 
@@ -10,7 +10,7 @@ use Rattle.oz_runner.specs.Written.{Written}
 -- machine under the schedule, and where it is quiescent that machine has no step left. The lines and the end line of this
 -- status were written, each with its newline, or the sink failed and took a front of them. And the status that is
 -- answered has its cause too
-pub record Headline (seen : Seen) (made : Made) (status : Status) : Type 0 where
+pub record Headline (seen : Seen) (made : RunOutput) (status : Status) : Type 0 where
   pub worked : Status
   pub has_line : HasLine worked
   pub cause : Cause seen made worked

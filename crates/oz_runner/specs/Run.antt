@@ -23,7 +23,7 @@ use Rattle.oz_words.specs.declared.options.Options.{Options}
 use Rattle.oz_show.specs.declared.status.Status.{Status}
 use Rattle.oz_show.specs.declared.status.Status.TheVariants.{Quiescent, StepLimit, MessageLimit, Memory}
 use Rattle.oz_runner.specs.Messages.{most_messages}
-use Rattle.oz_runner.specs.Seen.{Made}
+use Rattle.oz_runner.specs.Seen.{RunOutput}
 
 -- `run` and `gen` run the program over sites, `central` on the machine alone: the first is said of sites, the second of the machine
 abbrev pub OfSitesOrMachine : Action → Type 0 → Type 0 → Type 0
@@ -39,7 +39,7 @@ limits_of options = record { sites = options.sites; steps = options.steps; messa
 -- ended it; the schedule has its picks, and the lines are its; what a site knows is an equation of the machine's, which the owner
 -- of its variable has; each own step of a thread is of the site where the thread was placed; and no more messages were sent than
 -- the schedule's threads, variables and exchanges allow
-pub record IsMadeBySites (p : List Stmt) (options : Options) (made : Made) (s : State) : Type 0 where
+pub record IsMadeBySites (p : List Stmt) (options : Options) (made : RunOutput) (s : State) : Type 0 where
   pub states : ℕ → Site
   pub run : DistributedRun p options.sites bundle_limit made.journal states
   pub went : WentOn (limits_of options) made.journal
@@ -50,13 +50,13 @@ pub record IsMadeBySites (p : List Stmt) (options : Options) (made : Made) (s : 
   pub few : length (sent_of made.journal) ≤ most_messages p options.sites made.schedule s
 
 -- what the machine made alone: there is no journal, and the schedule has at most as many steps as the words say
-abbrev pub IsMadeByMachine : Options → Made → Type 0
+abbrev pub IsMadeByMachine : Options → RunOutput → Type 0
 IsMadeByMachine options made = (made.journal ≡ []) × (length made.schedule ≤ options.steps)
 
 -- The schedule leads the centralised machine from the start of the program to this state, whose lines these are and in which
 -- each variable has at most one equation. Under the schedule the exchanges of each cell are one chain, from the content given to
 -- NewCell on: each old content is the new one of the exchange before
-pub record IsRun (p : List Stmt) (options : Options) (made : Made) (s : State) : Type 0 where
+pub record IsRun (p : List Stmt) (options : Options) (made : RunOutput) (s : State) : Type 0 where
   pub made_by : OfSitesOrMachine options.action (IsMadeBySites p options made s) (IsMadeByMachine options made)
   pub run : Run p made.schedule s
   pub lines : made.lines ≡ s.lines
@@ -64,7 +64,7 @@ pub record IsRun (p : List Stmt) (options : Options) (made : Made) (s : State) :
   pub chains : (c : CellName) → IsChainOf (contents_given p made.schedule c) (exchanges p made.schedule c)
 
 -- the machine alone stops where it rests, or at its limit where it could go on. It is site 1
-abbrev pub StopsFor : List Stmt → Options → Made → State → Reason → Type 0
+abbrev pub StopsFor : List Stmt → Options → RunOutput → State → Reason → Type 0
 StopsFor p options made s Quiet = AtRest p s
 StopsFor p options made s (Steps site) = (site ≡ 1) × (length made.schedule ≡ options.steps) × (AtRest p s → ⊥)
 StopsFor p options made s _ = ⊥
@@ -74,20 +74,20 @@ abbrev pub SitesAreSilent : ℕ → List Turn → Type 0
 SitesAreSilent n j = (travelling j ≡ []) × ((i : ℕ) → 1 ≤ i → i ≤ n → IsTrue (is_idle j i))
 
 -- nothing goes on: the sites are silent, the machine has no step left, and so many of its threads have ended and so many wait
-pub record IsQuiet (p : List Stmt) (options : Options) (made : Made) (s : State) (told_ended told_waiting : ℕ) : Type 0 where
+pub record IsQuiet (p : List Stmt) (options : Options) (made : RunOutput) (s : State) (told_ended told_waiting : ℕ) : Type 0 where
   pub silent : OfSitesOrMachine options.action (SitesAreSilent options.sites made.journal) (Unit {0})
   pub rest : AtRest p s
   pub ended : told_ended ≡ s.ended
   pub waiting : told_waiting ≡ length s.threads
 
 -- the run ended in this state, for this reason: the sites' run for the one that its journal tells
-pub record HasEnded (p : List Stmt) (options : Options) (made : Made) (reason : Reason) (s : State) : Type 0 where
+pub record HasEnded (p : List Stmt) (options : Options) (made : RunOutput) (reason : Reason) (s : State) : Type 0 where
   pub run : IsRun p options made s
   pub ends : OfSitesOrMachine options.action (end_of (limits_of options) made.journal ≡ Some reason) (StopsFor p options made s reason)
 
 -- The run of the program came to this status. Want of memory may come at any point of it; the lines are then those of the
 -- schedule, as ever
-abbrev pub CameTo : List Stmt → Options → Made → Status → Type 0
+abbrev pub CameTo : List Stmt → Options → RunOutput → Status → Type 0
 CameTo p options made (Quiescent ended waiting) = (s : State) × HasEnded p options made Quiet s × IsQuiet p options made s ended waiting
 CameTo p options made (StepLimit site) = (s : State) × HasEnded p options made (Steps site) s
 CameTo p options made MessageLimit = (s : State) × HasEnded p options made Messages s

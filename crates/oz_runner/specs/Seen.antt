@@ -31,10 +31,10 @@ abbrev pub seen_of : List (List ℕ) → Stream → Stream → Seen
 seen_of words source sink = record { words = words; source = source; sink = sink }
 
 -- the journal of the sites, the schedule of the run, and its lines; all are empty where nothing ran
-pub record Made : Type 0 where
+pub record RunOutput : Type 0 where
   pub journal : List Turn
   pub schedule : List Pick
   pub lines : List (List ℕ)
 
-abbrev pub made_of : List Turn → List Pick → List (List ℕ) → Made
+abbrev pub made_of : List Turn → List Pick → List (List ℕ) → RunOutput
 made_of journal schedule lines = record { journal = journal; schedule = schedule; lines = lines }

@@ -5,14 +5,14 @@ use Rattle.std.specs.declared.process.ExitCode.{ExitCode}
 use Rattle.oz_show.specs.Status.{status_number}
 use Rattle.oz_show.specs.declared.status.Status.{Status}
 use Rattle.oz_show.specs.declared.status.Status.TheVariants.{Memory}
-use Rattle.oz_runner.specs.Seen.{Stream, Made, seen_of}
+use Rattle.oz_runner.specs.Seen.{Stream, RunOutput, seen_of}
 use Rattle.oz_runner.specs.Cause.{IsUntouched}
 use Rattle.oz_runner.specs.Headline.{Headline}
 
 -- a call of `oz` was made with some words, and the number is that of its status
 abbrev pub Called : Stream → Stream → ExitCode → Type 0
 Called source sink code =
-    (words : List (List ℕ)) × (made : Made) × (status : Status)
+    (words : List (List ℕ)) × (made : RunOutput) × (status : Status)
     × Headline (seen_of words source sink) made status × (exit_status code ≡ status_number status)
 
 -- no memory was left for the words: nothing was read and nothing written, and the number is that of want of memory

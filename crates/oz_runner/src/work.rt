@@ -5,7 +5,7 @@ ghost use Rattle.oz_words.specs.Words.{ReadsWords, InRange};
 ghost use Rattle.oz_show.specs.Status.{HasLine};
 ghost use Rattle.oz_runner.specs.Seen.{Stream, Seen, stream_of, seen_of};
 ghost use Rattle.oz_words.specs.declared.options.Action.TheVariants.{Gen};
-ghost use Rattle.oz_runner.specs.Cause.{Cause, Says, GaveText, IsTextOf, IsUntouched, ReadsSource, text_limit};
+ghost use Rattle.oz_runner.specs.Cause.{Cause, HasOptions, GaveText, IsTextOf, IsUntouched, ReadsSource, text_limit};
 ghost use Rattle.oz_runner.specs.Ends.{made_by, journal_of, lines_of};
 
 use crate::Status;
@@ -88,7 +88,7 @@ fn work_on_size<G: Gate + Sync, R: Threads + Wait + Sync>(
 ) -> Work
     requires range { InRange options }
     requires size { options.action ≡ Gen size }
-    ensures cause { (seen : Seen) → Says seen options → IsUntouched seen.source → Cause seen (made_by result) result.status }
+    ensures cause { (seen : Seen) → HasOptions seen options → IsUntouched seen.source → Cause seen (made_by result) result.status }
     ensures line { HasLine result.status }
 {
     match large_text(alloc, size) {
@@ -130,7 +130,7 @@ fn work_on_bytes<G: Gate + Sync, R: Threads + Wait + Sync>(
     requires range { InRange options }
     requires source { ReadsSource options.action }
     requires short { length bytes.now ≤ text_limit }
-    ensures cause { (seen : Seen) → Says seen options → GaveText seen.source bytes.now → Cause seen (made_by result) result.status }
+    ensures cause { (seen : Seen) → HasOptions seen options → GaveText seen.source bytes.now → Cause seen (made_by result) result.status }
     ensures line { HasLine result.status }
 {
     match str::from_utf8(bytes) {
@@ -149,7 +149,7 @@ fn work_on_text<G: Gate + Sync, R: Threads + Wait + Sync>(
 ) -> Work
     requires range { InRange options }
     requires short { length text.now ≤ text_limit }
-    ensures cause { (seen : Seen) → Says seen options → IsTextOf options.action seen.source text.now → Cause seen (made_by result) result.status }
+    ensures cause { (seen : Seen) → HasOptions seen options → IsTextOf options.action seen.source text.now → Cause seen (made_by result) result.status }
     ensures line { HasLine result.status }
 {
     match parse(alloc, text) {

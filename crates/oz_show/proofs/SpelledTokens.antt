@@ -3,13 +3,13 @@ use Rattle.std.proofs.Common.{◌≡◌, inl, inr, ℕ, ◌+◌, ◌-◌, List, 
 use Rattle.oz_lexer.specs.declared.token.TokenKind.{TokenKind}
 use Rattle.oz_lexer.specs.declared.token.TokenKind.TheVariants as kind
 use Rattle.oz_lexer.specs.Spelling.{is_long}
-use Rattle.oz_lexer.specs.Blanks.{Skips, here, blank}
+use Rattle.oz_lexer.specs.Blanks.{IsBehindBlanks, here, blank}
 use Rattle.oz_lexer.specs.Faults.{Longest}
-use Rattle.oz_lexer.specs.Tokens.{Lexeme, Begins, Goes, TokensFrom}
+use Rattle.oz_lexer.specs.Tokens.{Lexeme, IsLexemeAt, EndOrMore, TokensFrom}
 use Rattle.oz_grammar.specs.declared.symbol.Symbol.{Symbol}
 use Rattle.oz_grammar.specs.declared.symbol.Symbol.TheVariants as t
 use Rattle.oz_grammar.specs.Symbols.{symbol_of}
-use Rattle.oz_show.specs.CanonicalText.{symbol_text, text_behind, spelled}
+use Rattle.oz_show.specs.CanonicalText.{symbol_text, text_behind, symbols_text}
 use Rattle.oz_show.proofs.Spaced.{IsSpace}
 use Rattle.oz_show.proofs.SymbolSpelling.{IsWritten, token_of}
 
@@ -29,7 +29,7 @@ behind_is t.EndOfText symbols w = absurd w
 behind_is x symbols w = refl
 
 -- a token begins here
-token_begins : (k : TokenKind) (place : ℕ) (text bytes rest : List ℕ) → (k ≡ kind.End → ⊥) → Longest text k bytes rest → is_long k bytes ≡ false → Begins place text (Ok k) place bytes rest
+token_begins : (k : TokenKind) (place : ℕ) (text bytes rest : List ℕ) → (k ≡ kind.End → ⊥) → Longest text k bytes rest → is_long k bytes ≡ false → IsLexemeAt place text (Ok k) place bytes rest
 token_begins kind.End place text bytes rest no_end longest short = absurd (no_end refl)
 token_begins kind.Variable place text bytes rest no_end longest short = (longest, short, refl)
 token_begins kind.Atom place text bytes rest no_end longest short = (longest, short, refl)
@@ -38,7 +38,7 @@ token_begins kind.Integer place text bytes rest no_end longest short = (longest,
 token_begins kind.Word place text bytes rest no_end longest short = (longest, short, refl)
 token_begins kind.Sign place text bytes rest no_end longest short = (longest, short, refl)
 
-goes_on : (k : TokenKind) (last on : Type 0) → (k ≡ kind.End → ⊥) → on → Goes (Ok k) last on
+goes_on : (k : TokenKind) (last on : Type 0) → (k ≡ kind.End → ⊥) → on → EndOrMore (Ok k) last on
 goes_on kind.End last on no_end h = absurd (no_end refl)
 goes_on kind.Variable last on no_end h = h
 goes_on kind.Atom last on no_end h = h
@@ -54,7 +54,7 @@ pub record Divides (place : ℕ) (text : List ℕ) (symbols : List Symbol) : Typ
   pub are : map symbol_of tokens ≡ symbols
 
 -- a symbol behind so many bytes of blanks, and those behind it
-first_of : (x : Symbol) (symbols : List Symbol) (place at_front : ℕ) (text : List ℕ) → IsWritten x → Skips text (symbol_text x ++ text_behind symbols)
+first_of : (x : Symbol) (symbols : List Symbol) (place at_front : ℕ) (text : List ℕ) → IsWritten x → IsBehindBlanks text (symbol_text x ++ text_behind symbols)
     → place + (length text - length (symbol_text x ++ text_behind symbols)) ≡ at_front → Divides (at_front + length (symbol_text x)) (text_behind symbols) symbols → Divides place text (x ∷ symbols)
 first_of x symbols place at_front text w blanks at behind =
     let token = token_of x w in
@@ -68,7 +68,7 @@ first_of x symbols place at_front text w blanks at behind =
         record {
           front = symbol_text x ++ text_behind symbols;
           blanks = blanks;
-          begins = subst (λ (n : ℕ). Begins n (symbol_text x ++ text_behind symbols) (Ok token.what) at_front (symbol_text x) (text_behind symbols)) (sym at)
+          begins = subst (λ (n : ℕ). IsLexemeAt n (symbol_text x ++ text_behind symbols) (Ok token.what) at_front (symbol_text x) (text_behind symbols)) (sym at)
               (token_begins token.what at_front (symbol_text x ++ text_behind symbols) (symbol_text x) (text_behind symbols) token.no_end longest token.short);
         },
         goes_on token.what _ _ token.no_end behind.divided,
@@ -90,12 +90,12 @@ behind_divides (x ∷ symbols) place (more w ws) =
     (first_of x symbols place (place + 1) (32 ∷ (symbol_text x ++ text_behind symbols)) w (blank refl here) at
     (behind_divides symbols (place + 1 + length (symbol_text x)) ws))
 
-spelled_divides : (x : Symbol) (symbols : List Symbol) → IsWritten x → Written symbols → Divides 0 (spelled (x ∷ symbols)) (x ∷ symbols)
+spelled_divides : (x : Symbol) (symbols : List Symbol) → IsWritten x → Written symbols → Divides 0 (symbols_text (x ∷ symbols)) (x ∷ symbols)
 spelled_divides x symbols w ws =
     let at : 0 + (length (symbol_text x ++ text_behind symbols) - length (symbol_text x ++ text_behind symbols)) ≡ 0 = omega arith in
     first_of x symbols 0 0 (symbol_text x ++ text_behind symbols) w here at (behind_divides symbols (0 + length (symbol_text x)) ws)
 
 -- what is written divides into what was written
-pub written_divides : (symbols : List Symbol) → Written symbols → Divides 0 (spelled symbols) symbols
+pub written_divides : (symbols : List Symbol) → Written symbols → Divides 0 (symbols_text symbols) symbols
 written_divides _ ends = behind_divides (t.EndOfText ∷ []) 0 ends
 written_divides _ (more {x} {symbols} w ws) = spelled_divides x symbols w ws

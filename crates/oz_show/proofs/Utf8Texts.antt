@@ -13,7 +13,7 @@ use Rattle.oz_grammar.specs.declared.symbol.Symbol.{Symbol}
 use Rattle.oz_grammar.specs.declared.symbol.Symbol.TheVariants as t
 use Rattle.oz_grammar.proofs.Digits.{word_bytes, FitsWord}
 use Rattle.oz_grammar.proofs.Unescaped.{AreHigh, encode_high, ascii_before}
-use Rattle.oz_show.specs.CanonicalText.{operator_text, symbol_text, text_behind, spelled}
+use Rattle.oz_show.specs.CanonicalText.{operator_text, symbol_text, text_behind, symbols_text}
 use Rattle.oz_show.proofs.SymbolSpelling.{IsAtom, IsWritten}
 use Rattle.oz_show.proofs.SpelledTokens.{Written, ends, more, behind_is}
 use Rattle.oz_lexer.proofs.Boundaries.{word_ascii}
@@ -132,7 +132,7 @@ behind_utf8 (t.EndOfText ∷ []) ends = newline_utf8
 behind_utf8 (x ∷ symbols) (more w ws) =
     subst IsUtf8 (sym (behind_is x symbols w)) (ascii_before 32 (symbol_text x ++ text_behind symbols) (omega arith) (IsUtf8-append (symbol_text x) (text_behind symbols) (symbol_utf8 x w) (behind_utf8 symbols ws)))
 
-pub spelled_utf8 : (symbols : List Symbol) → Written symbols → IsUtf8 (spelled symbols)
+pub spelled_utf8 : (symbols : List Symbol) → Written symbols → IsUtf8 (symbols_text symbols)
 spelled_utf8 [] w = elim w [ ]
 spelled_utf8 (t.EndOfText ∷ []) ends = newline_utf8
 spelled_utf8 (x ∷ symbols) (more w ws) = IsUtf8-append (symbol_text x) (text_behind symbols) (symbol_utf8 x w) (behind_utf8 symbols ws)

@@ -69,10 +69,10 @@ text_behind (t.EndOfText ∷ symbols) = 10 ∷ []
 text_behind (symbol ∷ symbols) = 32 ∷ (symbol_text symbol ++ text_behind symbols)
 
 -- the spelling of symbols up to the end of the text
-abbrev pub spelled : List Symbol → List ℕ
-spelled [] = 10 ∷ []
-spelled (symbol ∷ symbols) = symbol_text symbol ++ text_behind symbols
+abbrev pub symbols_text : List Symbol → List ℕ
+symbols_text [] = 10 ∷ []
+symbols_text (symbol ∷ symbols) = symbol_text symbol ++ text_behind symbols
 
 -- the canonical text of a program
 abbrev pub canonical_text : List Stmt → List ℕ
-canonical_text p = spelled (canonical_symbols p)
+canonical_text p = symbols_text (canonical_symbols p)

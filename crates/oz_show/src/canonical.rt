@@ -3,7 +3,7 @@
 ghost use Rattle.std.specs.Prelude.{◌≡◌, ◌++◌, OnOk, IfOk};
 ghost use Rattle.std.specs.Str.{IsUtf8};
 ghost use Rattle.oz_grammar.specs.Reads.{Reads};
-ghost use Rattle.oz_show.specs.CanonicalText.{operator_text, word_text, symbol_text, text_behind, spelled, canonical_text};
+ghost use Rattle.oz_show.specs.CanonicalText.{operator_text, word_text, symbol_text, text_behind, symbols_text, canonical_text};
 
 use crate::laws::canonical_text_reads_back;
 use crate::program::symbols_of;
@@ -28,7 +28,7 @@ pub fn program_text(alloc: Global, program: &Program) -> Result<Text, AllocError
 }
 
 fn spelled(alloc: Global, mut symbols: Symbols) -> Result<Vec<u8>, AllocError>
-    ensures { IfOk result (λ v. v.items ≡ spelled symbols) }
+    ensures { IfOk result (λ v. v.items ≡ symbols_text symbols) }
 {
     let mut text = Vec::new(alloc);
     spell_first(alloc, &mut text, &mut symbols)?;
@@ -37,7 +37,7 @@ fn spelled(alloc: Global, mut symbols: Symbols) -> Result<Vec<u8>, AllocError>
 }
 
 fn spell_first(alloc: Global, text: &mut Vec<u8>, symbols: &mut Symbols) -> Result<(), AllocError>
-    ensures { OnOk result (text.new.items ++ text_behind symbols.new ≡ text.old.items ++ spelled symbols.old) }
+    ensures { OnOk result (text.new.items ++ text_behind symbols.new ≡ text.old.items ++ symbols_text symbols.old) }
 {
     match symbols.take() {
         Some(first) => spell(alloc, text, &first),

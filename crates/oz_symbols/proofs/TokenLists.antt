@@ -7,20 +7,20 @@ use Rattle.oz_lexer.specs.declared.token.TokenKind.{TokenKind}
 use Rattle.oz_lexer.specs.declared.token.TokenKind.TheVariants.{Variable, Atom, Quoted, Integer, Word, Sign, End}
 use Rattle.oz_lexer.specs.declared.token.LexKind.{LexKind}
 use Rattle.oz_lexer.specs.Faults.{Longest}
-use Rattle.oz_lexer.specs.Tokens.{Begins, Lexeme, Next, Goes, Tokens, TokensFrom}
+use Rattle.oz_lexer.specs.Tokens.{IsLexemeAt, Lexeme, Next, EndOrMore, Tokens, TokensFrom}
 use Rattle.oz_lexer.specs.Lexing.{lexeme_of, fault_at, FaultNext, IsSlice}
 use Rattle.oz_lexer.proofs.NextLemmas.{gives_token}
 use Rattle.oz_lexer.proofs.Boundaries.{token_ends}
 use Rattle.oz_grammar.specs.declared.symbol.Symbol.{Symbol}
 use Rattle.oz_grammar.specs.declared.symbol.Symbol.TheVariants as t
 use Rattle.oz_grammar.specs.Symbols.{symbol_of}
-use Rattle.oz_symbols.specs.TextSymbols.{start_of, is_end, AreSymbols, SoFar, Moves}
+use Rattle.oz_symbols.specs.TextSymbols.{start_of, is_end, AreSymbols, SoFar, IsFurther}
 
 each_more : (n : ℕ) (xs : List ℕ) (x : ℕ) → Each (λ (s : ℕ). s ≤ n) xs → x ≤ n → Each (λ (s : ℕ). s ≤ n) (xs ++ x ∷ [])
 each_more n [] x h le = (le, tt)
 each_more n (y ∷ ys) x h le = (h.0, each_more n ys x h.1 le)
 
-goes_on_of : (k : TokenKind) (A B : Type 0) → is_end k ≡ false → Goes (Ok k) A B → B
+goes_on_of : (k : TokenKind) (A B : Type 0) → is_end k ≡ false → EndOrMore (Ok k) A B → B
 goes_on_of Variable A B e g = g
 goes_on_of Atom A B e g = g
 goes_on_of Quoted A B e g = g
@@ -29,7 +29,7 @@ goes_on_of Word A B e g = g
 goes_on_of Sign A B e g = g
 goes_on_of End A B e g = absurd cc
 
-goes_last : (k : TokenKind) (A B : Type 0) → is_end k ≡ true → Goes (Ok k) A B → A
+goes_last : (k : TokenKind) (A B : Type 0) → is_end k ≡ true → EndOrMore (Ok k) A B → A
 goes_last Variable A B e g = absurd cc
 goes_last Atom A B e g = absurd cc
 goes_last Quoted A B e g = absurd cc
@@ -38,7 +38,7 @@ goes_last Word A B e g = absurd cc
 goes_last Sign A B e g = absurd cc
 goes_last End A B e g = g
 
-longest_of : (place : ℕ) (text : List ℕ) (k : TokenKind) (start : ℕ) (bytes rest : List ℕ) → is_end k ≡ false → Begins place text (Ok k) start bytes rest → Longest text k bytes rest
+longest_of : (place : ℕ) (text : List ℕ) (k : TokenKind) (start : ℕ) (bytes rest : List ℕ) → is_end k ≡ false → IsLexemeAt place text (Ok k) start bytes rest → Longest text k bytes rest
 longest_of place text Variable start bytes rest e b = b.0
 longest_of place text Atom start bytes rest e b = b.0
 longest_of place text Quoted start bytes rest e b = b.0
@@ -63,7 +63,7 @@ placed starts done l e = ap (λ (xs : List ℕ). xs ++ start_of l ∷ []) e ∙ 
 
 pub goes_so : (text : List ℕ) (at : ℕ) (symbols : List Symbol) (starts : List ℕ) (t : Token) (symbol : Symbol) (symbols' : List Symbol) (starts' : List ℕ) → SoFar text at symbols starts
     → Next at (drop at text) (lexeme_of t) (drop t.end text) → IsSlice text at t → is_end t.kind ≡ false → symbol ≡ symbol_of (lexeme_of t)
-    → symbols' ≡ symbols ++ symbol ∷ [] → starts' ≡ starts ++ t.start ∷ [] → Moves text at symbols' starts' t.end
+    → symbols' ≡ symbols ++ symbol ∷ [] → starts' ≡ starts ++ t.start ∷ [] → IsFurther text at symbols' starts' t.end
 goes_so text at symbols starts t symbol symbols' starts' so n s e is more ends =
     let lt = moves text at t n s e in
     let g = goes_on_of t.kind _ _ e (gives_token text at t n s) in

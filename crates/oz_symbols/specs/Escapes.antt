@@ -6,17 +6,17 @@ abbrev pub meaning_of : ℕ → ℕ
 meaning_of b = if b == 110 then 10 else b
 
 -- what a byte between quotes adds, behind a \ that escapes or not
-abbrev pub meant : Bool → ℕ → List ℕ
-meant true b = meaning_of b ∷ []
-meant false b = if b == 92 then [] else b ∷ []
+abbrev pub meaning_in_quotes : Bool → ℕ → List ℕ
+meaning_in_quotes true b = meaning_of b ∷ []
+meaning_in_quotes false b = if b == 92 then [] else b ∷ []
 
 -- the byte is such a \
-abbrev pub escapes : Bool → ℕ → Bool
-escapes true b = false
-escapes false b = b == 92
+abbrev pub is_escape_sign : Bool → ℕ → Bool
+is_escape_sign true b = false
+is_escape_sign false b = b == 92
 
 -- each escape as what it stands for, behind a \ that escapes or not
 abbrev pub unescaped_from : Bool → List ℕ → List ℕ
 unescaped_from true [] = 92 ∷ []
 unescaped_from false [] = []
-unescaped_from escaping (b ∷ bs) = meant escaping b ++ unescaped_from (escapes escaping b) bs
+unescaped_from escaping (b ∷ bs) = meaning_in_quotes escaping b ++ unescaped_from (is_escape_sign escaping b) bs

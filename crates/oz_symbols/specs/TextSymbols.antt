@@ -34,6 +34,6 @@ pub record SoFar (text : List ℕ) (at : ℕ) (symbols : List Symbol) (starts : 
   pub place : at ≤ length text
 
 -- the place behind one token more
-pub record Moves (text : List ℕ) (at : ℕ) (symbols : List Symbol) (starts : List ℕ) (next : ℕ) : Type 0 where
+pub record IsFurther (text : List ℕ) (at : ℕ) (symbols : List Symbol) (starts : List ℕ) (next : ℕ) : Type 0 where
   pub so_far : SoFar text next symbols starts
   pub moves : at < next

@@ -3,7 +3,7 @@
 ghost use Rattle.std.specs.Prelude.{◌≡◌, ◌-◌, ◌++◌, IfOk, OnOk, take, drop, length};
 ghost use Rattle.oz_lexer.specs.Spelling.{unescaped};
 ghost use Rattle.oz_lexer.specs.Lexing.{lexeme_of};
-ghost use Rattle.oz_symbols.specs.Escapes.{meaning_of, meant, escapes};
+ghost use Rattle.oz_symbols.specs.Escapes.{meaning_of, meaning_in_quotes, is_escape_sign};
 ghost use Rattle.oz_grammar.specs.Symbols.{word_symbol, sign_symbol, quoted_text, symbol_of};
 
 use crate::integer::integer_of;
@@ -73,8 +73,8 @@ fn meaning_of(byte: u8) -> u8
 
 /// One byte more of what is spelled between quotes, behind a `\` that escapes or not, and whether it is one itself.
 fn unescape(text: &mut Vec<u8>, escaping: bool, byte: u8) -> Result<bool, AllocError>
-    ensures text { OnOk result (text.new.items ≡ text.old.items ++ meant escaping byte) }
-    ensures escapes { IfOk result (λ e. e ≡ escapes escaping byte) }
+    ensures text { OnOk result (text.new.items ≡ text.old.items ++ meaning_in_quotes escaping byte) }
+    ensures escapes { IfOk result (λ e. e ≡ is_escape_sign escaping byte) }
 {
     if escaping {
         text.push(meaning_of(byte))?;

@@ -1,7 +1,7 @@
 //! The symbols of a text.
 
 ghost use Rattle.std.specs.Prelude.{◌≡◌, ◌++◌, ◌∷◌, [], ◌≤◌, length, IfOk, OnOk, MatchOption};
-ghost use Rattle.oz_symbols.specs.TextSymbols.{is_end, AreSymbols, SoFar, Moves};
+ghost use Rattle.oz_symbols.specs.TextSymbols.{is_end, AreSymbols, SoFar, IsFurther};
 
 use crate::symbol::symbol_of;
 use crate::texts::Texts;
@@ -39,7 +39,7 @@ fn next_symbol<'t>(
     starts: &mut Vec<usize>,
 ) -> Result<Option<usize>, AllocError>
     requires { SoFar text.now at symbols.old.items starts.old.items }
-    ensures { IfOk result (λ o. MatchOption o (AreSymbols text.now symbols.new.items starts.new.items) (Moves text.now at symbols.new.items starts.new.items)) }
+    ensures { IfOk result (λ o. MatchOption o (AreSymbols text.now symbols.new.items starts.new.items) (IsFurther text.now at symbols.new.items starts.new.items)) }
 {
     match lex(text, at) {
         Ok(token) => {

@@ -44,7 +44,7 @@ pub record Parsed (words : List Text) (m : ArgMatches) : Type 0 where
   pub action : HasValue m (codes "action") (action_values (placeless_names action_names))
   pub size : MayHaveSize m
 
-abbrev pub Parses : List Text → Result ArgMatches WordsError → Type 0
-Parses words (Ok m) = Parsed words m
-Parses words (Err Usage) = words_fault words ≢ []
-Parses words (Err Memory) = Unit {0}
+abbrev pub IsParse : List Text → Result ArgMatches WordsError → Type 0
+IsParse words (Ok m) = Parsed words m
+IsParse words (Err Usage) = words_fault words ≢ []
+IsParse words (Err Memory) = Unit {0}

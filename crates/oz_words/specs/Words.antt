@@ -16,9 +16,9 @@ use Rattle.oz_words.specs.declared.options.WordsError.{WordsError}
 use Rattle.oz_words.specs.declared.options.WordsError.TheVariants.{Usage, Memory}
 
 -- the number that a text says
-abbrev pub Says : Option Text → ℕ → Type 0
-Says None n = ⊥
-Says (Some text) n = n ≡ digits_value 10 (without_leading_plus text)
+abbrev pub IsNumberText : Option Text → ℕ → Type 0
+IsNumberText None n = ⊥
+IsNumberText (Some text) n = n ≡ digits_value 10 (without_leading_plus text)
 
 abbrev pub action_name : ActionName → Text
 action_name name.Run = codes "run"
@@ -31,10 +31,10 @@ NamesAction text (Ok action) = text ≡ action_name action
 NamesAction text (Err unknown) = (text ≢ codes "run") × (text ≢ codes "central") × (text ≢ codes "gen")
 
 -- the action, by its name and the number behind it
-abbrev pub SaysAction : Option Text → Option Text → Action → Type 0
-SaysAction named number Run = named ≡ Some (codes "run")
-SaysAction named number Central = named ≡ Some (codes "central")
-SaysAction named number (Gen size) = (named ≡ Some (codes "gen")) × Says number size
+abbrev pub IsActionText : Option Text → Option Text → Action → Type 0
+IsActionText named number Run = named ≡ Some (codes "run")
+IsActionText named number Central = named ≡ Some (codes "central")
+IsActionText named number (Gen size) = (named ≡ Some (codes "gen")) × IsNumberText number size
 
 abbrev pub is_gen : Option Text → Bool
 is_gen named = option_map_or (λ text. bytes_eq text (codes "gen")) named false
@@ -45,7 +45,7 @@ GoTogether named number = is_some number ≡ is_gen named
 
 -- the action, where its name and the number go together
 abbrev pub ReadsAction : Option Text → Option Text → Result Action WordsError → Type 0
-ReadsAction named number (Ok action) = GoTogether named number × SaysAction named number action
+ReadsAction named number (Ok action) = GoTogether named number × IsActionText named number action
 ReadsAction named number (Err Usage) = GoTogether named number → ⊥
 ReadsAction named number (Err Memory) = ⊥
 
@@ -57,11 +57,11 @@ AreTaken words =
 
 -- the options are the matches
 pub record AreMatches (rows : List Row) (options : Options) : Type 0 where
-  pub sites : Says (one_of sites_option.name rows) options.sites
-  pub workers : Says (one_of workers_option.name rows) options.workers
-  pub steps : Says (one_of steps_option.name rows) options.steps
-  pub messages : Says (one_of messages_option.name rows) options.messages
-  pub action : SaysAction (one_of (codes "action") rows) (one_of (codes "number") rows) options.action
+  pub sites : IsNumberText (one_of sites_option.name rows) options.sites
+  pub workers : IsNumberText (one_of workers_option.name rows) options.workers
+  pub steps : IsNumberText (one_of steps_option.name rows) options.steps
+  pub messages : IsNumberText (one_of messages_option.name rows) options.messages
+  pub action : IsActionText (one_of (codes "action") rows) (one_of (codes "number") rows) options.action
 
 abbrev pub IsActionInRange : Action → Type 0
 IsActionInRange (Gen size) = IsSize size

@@ -4,8 +4,8 @@ ghost use Rattle.std.specs.Prelude.{◌≡◌, IfOk, codes, map, string_bytes};
 ghost use Rattle.clap.specs.Words.{found_of, one_text};
 ghost use Rattle.oz_words.specs.Places.{placeless_names};
 ghost use Rattle.oz_words.specs.Command.{NumberOption, IsWithin, action_names, action_values};
-ghost use Rattle.oz_words.specs.Parsed.{HasValue, HasNumber, MayHaveSize, Parses};
-ghost use Rattle.oz_words.specs.Words.{ReadsWords, InRange, IsActionInRange, Says, NamesAction, ReadsAction};
+ghost use Rattle.oz_words.specs.Parsed.{HasValue, HasNumber, MayHaveSize, IsParse};
+ghost use Rattle.oz_words.specs.Words.{ReadsWords, InRange, IsActionInRange, IsNumberText, NamesAction, ReadsAction};
 
 use crate::command_line::command;
 use clap::ArgMatches;
@@ -70,7 +70,7 @@ pub enum WordsError {
 
 // The matches of the words.
 fn parse<'a>(alloc: Global, words: &'a [String]) -> Result<ArgMatches<'a>, WordsError>
-    ensures { Parses (map string_bytes words.now) result }
+    ensures { IsParse (map string_bytes words.now) result }
 {
     let command = match command(alloc) {
         Ok(command) => command,
@@ -88,7 +88,7 @@ fn parse<'a>(alloc: Global, words: &'a [String]) -> Result<ArgMatches<'a>, Words
 // The number of an option.
 fn number_of(matches: &ArgMatches, name: &str) -> u64
     requires { (o : NumberOption) × (o.name ≡ name.now) × HasNumber matches.now o }
-    ensures text { Says (one_text (found_of matches.now) name.now) result }
+    ensures text { IsNumberText (one_text (found_of matches.now) name.now) result }
     ensures range { (o : NumberOption) → o.name ≡ name.now → HasNumber matches.now o → IsWithin o result }
 {
     matches.get_one(name).unwrap()

@@ -7,10 +7,10 @@ use Rattle.tree_node.specs.declared.names.Name.{Name}
 use Rattle.tree_node.specs.declared.names.ThreadName.{ThreadName}
 use Rattle.tree_node.specs.declared.pick.Pick.{Pick}
 use Rattle.tree_node.specs.Store.{Equation}
-use Rattle.pick_list.specs.declared.columns.Run.{Run}
-use Rattle.pick_list.specs.declared.columns.Take.{Take}
+use Rattle.pick_list.specs.declared.columns.Stretch.{Stretch}
+use Rattle.pick_list.specs.declared.columns.Naming.{Naming}
 use Rattle.pick_list.specs.declared.columns.Bind.{Bind}
-use Rattle.pick_list.specs.Columns.{Columns, thread_at, fresh_at, bind_at, pick_at, picks_below, AreRuns, AreTakes, AreBinds, HasThread, IsRunOn, IsTakenOn, IsRunBefore, IsTakeBefore, IsBindBefore}
+use Rattle.pick_list.specs.Columns.{Columns, thread_at, fresh_at, bind_at, pick_at, picks_below, AreStretches, AreNamings, AreBinds, HasThread, IsStretchOn, IsNamingOn, IsStretchBefore, IsNamingBefore, IsBindBefore}
 use Rattle.pick_list.specs.Binds.{binds_of, equation_of}
 
 -- ---- lists the other way round
@@ -22,78 +22,78 @@ pub empty_list : {X : Type 0} (xs : List X) → length xs ≡ 0 → xs ≡ []
 empty_list [] e = refl
 empty_list (x ∷ xs) e = absurd (omega (arith, e))
 
--- ---- runs
+-- ---- stretches
 
-pub run_on_same : (n : ℕ) (t : ThreadName) (rs : List Run) → AreRuns n rs → HasThread rs t → IsRunOn n t rs rs
-run_on_same n t [] h is = absurd is
-run_on_same n t (r ∷ rs) h is = record {
+pub stretch_on_same : (n : ℕ) (t : ThreadName) (rs : List Stretch) → AreStretches n rs → HasThread rs t → IsStretchOn n t rs rs
+stretch_on_same n t [] h is = absurd is
+stretch_on_same n t (r ∷ rs) h is = record {
   last = ap (λ (b : Bool). cond b (thread_at rs n) r.thread) (le-ltb n r.first (let below = h.0 in omega arith)) ∙ is;
   before = λ k below. refl;
-  runs = (let below = h.0 in omega arith, h.1);
+  stretches = (let below = h.0 in omega arith, h.1);
 }
 
-pub run_on_new : (n : ℕ) (t : ThreadName) (rs : List Run) → AreRuns n rs → IsRunOn n t rs (record { first = n; thread = t } ∷ rs)
-run_on_new n t rs h = record {
+pub stretch_on_new : (n : ℕ) (t : ThreadName) (rs : List Stretch) → AreStretches n rs → IsStretchOn n t rs (record { first = n; thread = t } ∷ rs)
+stretch_on_new n t rs h = record {
   last = ap (λ (b : Bool). cond b (thread_at rs n) t) (le-ltb n n (omega arith));
   before = λ k below. ap (λ (b : Bool). cond b (thread_at rs k) t) (lt-ltb k n below);
-  runs = (omega arith, h);
+  stretches = (omega arith, h);
 }
 
-pub run_before_all : (n : ℕ) (rs : List Run) → AreRuns (n + 1) rs → ((r : Run) (more : List Run) → rs ≡ r ∷ more → r.first ≢ n) → IsRunBefore n rs rs
-run_before_all n [] h other = absurd (omega (arith, h))
-run_before_all n (r ∷ rs) h other = record {
+pub stretch_before_all : (n : ℕ) (rs : List Stretch) → AreStretches (n + 1) rs → ((r : Stretch) (more : List Stretch) → rs ≡ r ∷ more → r.first ≢ n) → IsStretchBefore n rs rs
+stretch_before_all n [] h other = absurd (omega (arith, h))
+stretch_before_all n (r ∷ rs) h other = record {
   same = λ k below. refl;
-  runs = (let apart : r.first ≢ n = other r rs refl in let below = h.0 in omega arith, h.1);
+  stretches = (let apart : r.first ≢ n = other r rs refl in let below = h.0 in omega arith, h.1);
 }
 
-pub run_before_rest : (n : ℕ) (r : Run) (rs : List Run) → AreRuns (n + 1) (r ∷ rs) → r.first ≡ n → IsRunBefore n (r ∷ rs) rs
-run_before_rest n r rs h is = record {
+pub stretch_before_rest : (n : ℕ) (r : Stretch) (rs : List Stretch) → AreStretches (n + 1) (r ∷ rs) → r.first ≡ n → IsStretchBefore n (r ∷ rs) rs
+stretch_before_rest n r rs h is = record {
   same = λ k below. sym (ap (λ (b : Bool). cond b (thread_at rs k) r.thread) (lt-ltb k r.first (omega arith)));
-  runs = subst (λ (m : ℕ). AreRuns m rs) is h.1;
+  stretches = subst (λ (m : ℕ). AreStretches m rs) is h.1;
 }
 
-pub last_run : (n : ℕ) (r : Run) (rs : List Run) → AreRuns (n + 1) (r ∷ rs) → thread_at (r ∷ rs) n ≡ r.thread
-last_run n r rs h = ap (λ (b : Bool). cond b (thread_at rs n) r.thread) (le-ltb n r.first (let below = h.0 in omega arith))
+pub last_stretch : (n : ℕ) (r : Stretch) (rs : List Stretch) → AreStretches (n + 1) (r ∷ rs) → thread_at (r ∷ rs) n ≡ r.thread
+last_stretch n r rs h = ap (λ (b : Bool). cond b (thread_at rs n) r.thread) (le-ltb n r.first (let below = h.0 in omega arith))
 
--- ---- takes
+-- ---- namings
 
-pub takes_more : (n m most more : ℕ) (ts : List Take) → n ≤ m → most ≤ more → AreTakes n most ts → AreTakes m more ts
-takes_more n m most more [] p q h = tt
-takes_more n m most more (t ∷ ts) p q h = (let below = h.0 in omega arith, let within = h.1 in omega arith, h.2)
+pub namings_more : (n m most more : ℕ) (ts : List Naming) → n ≤ m → most ≤ more → AreNamings n most ts → AreNamings m more ts
+namings_more n m most more [] p q h = tt
+namings_more n m most more (t ∷ ts) p q h = (let below = h.0 in omega arith, let within = h.1 in omega arith, h.2)
 
-pub no_take : (n most : ℕ) (ts : List Take) (names : List Name) (k : ℕ) → AreTakes n most ts → n ≤ k → fresh_at ts names k ≡ []
-no_take n most [] names k h p = refl
-no_take n most (t ∷ ts) names k h p =
+pub no_naming : (n most : ℕ) (ts : List Naming) (names : List Name) (k : ℕ) → AreNamings n most ts → n ≤ k → fresh_at ts names k ≡ []
+no_naming n most [] names k h p = refl
+no_naming n most (t ∷ ts) names k h p =
     ap (λ (b : Bool). cond b (drop t.first names) (fresh_at ts (take t.first names) k)) (ne_eqb t.pick k (λ is. absurd (let below = h.0 in omega arith)))
-    ∙ no_take t.pick t.first ts (take t.first names) k h.2 (let below = h.0 in omega arith)
+    ∙ no_naming t.pick t.first ts (take t.first names) k h.2 (let below = h.0 in omega arith)
 
-pub taken_none : (n : ℕ) (before : List Name) (ts : List Take) → AreTakes n (length before) ts → IsTakenOn n [] before ts ts
-taken_none n before ts h = record {
-  last = no_take n (length before) ts (before ++ []) n h (omega arith);
+pub naming_none : (n : ℕ) (before : List Name) (ts : List Naming) → AreNamings n (length before) ts → IsNamingOn n [] before ts ts
+naming_none n before ts h = record {
+  last = no_naming n (length before) ts (before ++ []) n h (omega arith);
   others = λ k below. ap (λ (names : List Name). fresh_at ts names k) (append-nil before);
-  takes = takes_more n (n + 1) (length before) (length (before ++ [])) ts (omega arith) (omega (arith, length-append before [])) h;
+  namings = namings_more n (n + 1) (length before) (length (before ++ [])) ts (omega arith) (omega (arith, length-append before [])) h;
 }
 
-pub taken_some : (n first : ℕ) (fresh before : List Name) (ts : List Take) → length before ≡ first → AreTakes n first ts → IsTakenOn n fresh before ts (record { pick = n; first = first } ∷ ts)
-taken_some n first fresh before ts is h = record {
+pub naming_some : (n first : ℕ) (fresh before : List Name) (ts : List Naming) → length before ≡ first → AreNamings n first ts → IsNamingOn n fresh before ts (record { pick = n; first = first } ∷ ts)
+naming_some n first fresh before ts is h = record {
   last = ap (λ (b : Bool). cond b (drop first (before ++ fresh)) (fresh_at ts (take first (before ++ fresh)) n)) (eq-eqb n n refl) ∙ drop_at before fresh first is;
   others = λ k below.
       ap (λ (b : Bool). cond b (drop first (before ++ fresh)) (fresh_at ts (take first (before ++ fresh)) k)) (ne_eqb n k (λ same. absurd (omega arith)))
       ∙ ap (λ (names : List Name). fresh_at ts names k) (take_at before fresh first is);
-  takes = (omega arith, omega (arith, length-append before fresh), h);
+  namings = (omega arith, omega (arith, length-append before fresh), h);
 }
 
-pub take_before_all : (n : ℕ) (names : List Name) (ts : List Take) → AreTakes (n + 1) (length names) ts → ((t : Take) (more : List Take) → ts ≡ t ∷ more → t.pick ≢ n) → IsTakeBefore n names ts names ts
-take_before_all n names [] h other = record { same = λ k below. refl; takes = tt }
-take_before_all n names (t ∷ ts) h other = record {
+pub naming_before_all : (n : ℕ) (names : List Name) (ts : List Naming) → AreNamings (n + 1) (length names) ts → ((t : Naming) (more : List Naming) → ts ≡ t ∷ more → t.pick ≢ n) → IsNamingBefore n names ts names ts
+naming_before_all n names [] h other = record { same = λ k below. refl; namings = tt }
+naming_before_all n names (t ∷ ts) h other = record {
   same = λ k below. refl;
-  takes = (let apart : t.pick ≢ n = other t ts refl in let below = h.0 in omega arith, h.1, h.2);
+  namings = (let apart : t.pick ≢ n = other t ts refl in let below = h.0 in omega arith, h.1, h.2);
 }
 
-pub take_before_rest : (n : ℕ) (names : List Name) (t : Take) (ts : List Take) → AreTakes (n + 1) (length names) (t ∷ ts) → t.pick ≡ n → IsTakeBefore n names (t ∷ ts) (take t.first names) ts
-take_before_rest n names t ts h is = record {
+pub naming_before_rest : (n : ℕ) (names : List Name) (t : Naming) (ts : List Naming) → AreNamings (n + 1) (length names) (t ∷ ts) → t.pick ≡ n → IsNamingBefore n names (t ∷ ts) (take t.first names) ts
+naming_before_rest n names t ts h is = record {
   same = λ k below. sym (ap (λ (b : Bool). cond b (drop t.first names) (fresh_at ts (take t.first names) k)) (ne_eqb t.pick k (λ same. absurd (omega arith))));
-  takes = takes_more t.pick n t.first (length (take t.first names)) ts (omega arith) (let within = h.1 in omega (arith, length-take-le t.first names within)) h.2;
+  namings = namings_more t.pick n t.first (length (take t.first names)) ts (omega arith) (let within = h.1 in omega (arith, length-take-le t.first names within)) h.2;
 }
 
 -- ---- binds
@@ -133,12 +133,12 @@ same_pick : (t u : ThreadName) (f g : List Name) (a b : Option Equation) → t �
 same_pick t u f g a b p q r = cc
 
 pub picks_same : (c d : Columns) (n : ℕ) →
-    ((k : ℕ) → k < n → thread_at c.runs k ≡ thread_at d.runs k) → ((k : ℕ) → k < n → fresh_at c.takes c.names k ≡ fresh_at d.takes d.names k) → ((k : ℕ) → k < n → bind_at c.binds k ≡ bind_at d.binds k) →
+    ((k : ℕ) → k < n → thread_at c.stretches k ≡ thread_at d.stretches k) → ((k : ℕ) → k < n → fresh_at c.namings c.names k ≡ fresh_at d.namings d.names k) → ((k : ℕ) → k < n → bind_at c.binds k ≡ bind_at d.binds k) →
     picks_below c n ≡ picks_below d n
 picks_same c d zero threads names binds = refl
 picks_same c d (suc n) threads names binds =
     ap (λ (ks : List Pick). ks ++ pick_at c n ∷ []) (picks_same c d n (λ k below. threads k (omega arith)) (λ k below. names k (omega arith)) (λ k below. binds k (omega arith)))
-    ∙ ap (λ (p : Pick). picks_below d n ++ p ∷ []) (same_pick (thread_at c.runs n) (thread_at d.runs n) (fresh_at c.takes c.names n) (fresh_at d.takes d.names n) (bind_at c.binds n) (bind_at d.binds n)
+    ∙ ap (λ (p : Pick). picks_below d n ++ p ∷ []) (same_pick (thread_at c.stretches n) (thread_at d.stretches n) (fresh_at c.namings c.names n) (fresh_at d.namings d.names n) (bind_at c.binds n) (bind_at d.binds n)
     (threads n (omega arith)) (names n (omega arith)) (binds n (omega arith)))
 
 pub length_picks : (c : Columns) (n : ℕ) → length (picks_below c n) ≡ n
@@ -146,18 +146,18 @@ length_picks c zero = refl
 length_picks c (suc n) = length-append (picks_below c n) (pick_at c n ∷ []) ∙ (ap (λ (m : ℕ). m + 1) (length_picks c n) ∙ add-one n)
 
 -- one pick more
-pub picks_put : (c d : Columns) (n : ℕ) (k : Pick) → IsRunOn n k.thread c.runs d.runs → IsTakenOn n k.fresh c.names c.takes d.takes → d.names ≡ c.names ++ k.fresh →
+pub picks_put : (c d : Columns) (n : ℕ) (k : Pick) → IsStretchOn n k.thread c.stretches d.stretches → IsNamingOn n k.fresh c.names c.namings d.namings → d.names ≡ c.names ++ k.fresh →
     ((i : ℕ) → i < n → bind_at d.binds i ≡ bind_at c.binds i) → bind_at d.binds n ≡ k.bind → picks_below d (suc n) ≡ picks_below c n ++ k ∷ []
-picks_put c d n k runs takes names before last =
-    ap (λ (ks : List Pick). ks ++ pick_at d n ∷ []) (picks_same d c n runs.before (λ i below. named i ∙ takes.others i below) before)
-    ∙ ap (λ (p : Pick). picks_below c n ++ p ∷ []) (same_pick (thread_at d.runs n) k.thread (fresh_at d.takes d.names n) k.fresh (bind_at d.binds n) k.bind runs.last (named n ∙ takes.last) last)
+picks_put c d n k stretches namings names before last =
+    ap (λ (ks : List Pick). ks ++ pick_at d n ∷ []) (picks_same d c n stretches.before (λ i below. named i ∙ namings.others i below) before)
+    ∙ ap (λ (p : Pick). picks_below c n ++ p ∷ []) (same_pick (thread_at d.stretches n) k.thread (fresh_at d.namings d.names n) k.fresh (bind_at d.binds n) k.bind stretches.last (named n ∙ namings.last) last)
   where
-    named : (i : ℕ) → fresh_at d.takes d.names i ≡ fresh_at d.takes (c.names ++ k.fresh) i
-    named i = ap (λ (l : List Name). fresh_at d.takes l i) names
+    named : (i : ℕ) → fresh_at d.namings d.names i ≡ fresh_at d.namings (c.names ++ k.fresh) i
+    named i = ap (λ (l : List Name). fresh_at d.namings l i) names
 
 -- one pick less
-pub picks_before : (c d : Columns) (n : ℕ) → IsRunBefore n c.runs d.runs → IsTakeBefore n c.names c.takes d.names d.takes → IsBindBefore n c.binds d.binds → picks_below d n ≡ picks_below c n
-picks_before c d n runs takes binds = picks_same d c n runs.same takes.same binds.same
+pub picks_before : (c d : Columns) (n : ℕ) → IsStretchBefore n c.stretches d.stretches → IsNamingBefore n c.names c.namings d.names d.namings → IsBindBefore n c.binds d.binds → picks_below d n ≡ picks_below c n
+picks_before c d n stretches namings binds = picks_same d c n stretches.same namings.same binds.same
 
 -- ---- the equations that picks add
 
@@ -206,7 +206,7 @@ below_all (suc n) (b ∷ bs) h =
 pub picks_bound : (c : Columns) (n : ℕ) → AreBinds n c.binds → map equation_of (reverse c.binds) ≡ binds_of (picks_below c n)
 picks_bound c n h = sym (picks_bind c n ∙ below_all n c.binds h)
 
--- the last pick neither takes nor binds, where the last take or bind is of another one
+-- the last pick neither takes nor binds, where the last naming or bind is of another one
 last_first : {X : Type 0} (xs : List X) (d : X) → 0 < length xs → reverse xs ≡ get_or xs (length xs - 1) d ∷ reverse (take (length xs - 1) xs)
 last_first xs d some =
     ap reverse (sym (take_all (length xs - 1 + 1) xs (omega arith)) ∙ take_more xs (length xs - 1) d (omega arith))
@@ -220,15 +220,15 @@ no_last_bind n xs d h some other =
     let all : AreBinds (n + 1) (last ∷ rest) = subst (λ (bs : List Bind). AreBinds (n + 1) bs) is h in
     ap (λ (bs : List Bind). bind_at bs n) is ∙ (bind_other last rest n other ∙ no_bind last.pick rest n all.1 (let below = all.0 in omega arith))
 
-pub no_last_take : (n most : ℕ) (xs : List Take) (names : List Name) (d : Take) → AreTakes (n + 1) most (reverse xs) → 0 < length xs → (get_or xs (length xs - 1) d).pick ≢ n → fresh_at (reverse xs) names n ≡ []
-no_last_take n most xs names d h some other =
+pub no_last_naming : (n most : ℕ) (xs : List Naming) (names : List Name) (d : Naming) → AreNamings (n + 1) most (reverse xs) → 0 < length xs → (get_or xs (length xs - 1) d).pick ≢ n → fresh_at (reverse xs) names n ≡ []
+no_last_naming n most xs names d h some other =
     let is = last_first xs d some in
-    let last : Take = get_or xs (length xs - 1) d in
-    let rest : List Take = reverse (take (length xs - 1) xs) in
-    let all : AreTakes (n + 1) most (last ∷ rest) = subst (λ (ts : List Take). AreTakes (n + 1) most ts) is h in
-    ap (λ (ts : List Take). fresh_at ts names n) is
+    let last : Naming = get_or xs (length xs - 1) d in
+    let rest : List Naming = reverse (take (length xs - 1) xs) in
+    let all : AreNamings (n + 1) most (last ∷ rest) = subst (λ (ts : List Naming). AreNamings (n + 1) most ts) is h in
+    ap (λ (ts : List Naming). fresh_at ts names n) is
     ∙ (ap (λ (b : Bool). cond b (drop last.first names) (fresh_at rest (take last.first names) n)) (ne_eqb last.pick n other)
-    ∙ no_take last.pick last.first rest (take last.first names) n all.2 (let below = all.0 in omega arith))
+    ∙ no_naming last.pick last.first rest (take last.first names) n all.2 (let below = all.0 in omega arith))
 
 -- the picks before the last one are the others
 pub picks_front : (c : Columns) (n m : ℕ) → n ≡ m + 1 → picks_below c m ≡ take m (picks_below c n)

@@ -2,21 +2,21 @@
 
 ghost use Rattle.std.specs.Prelude.{◌≡◌, ◌+◌, ◌++◌, ◌<◌, ◌≤◌, ◌^◌, List, ℕ, IsTrue, IfOk, OnOk, OnErr, reverse, take, length, vec_len, vec_capacity};
 ghost use Rattle.tree_node.specs.declared.names.Name.{Name as Named};
-ghost use Rattle.pick_list.specs.Columns.{AreColumns, AreRuns, AreTakes, AreBinds, HasThread, IsRunOn, IsTakenOn, IsRunBefore, IsTakeBefore, IsBindBefore, columns_of, pick_at, thread_at, fresh_at, bind_at};
+ghost use Rattle.pick_list.specs.Columns.{AreColumns, AreStretches, AreNamings, AreBinds, HasThread, IsStretchOn, IsNamingOn, IsStretchBefore, IsNamingBefore, IsBindBefore, columns_of, pick_at, thread_at, fresh_at, bind_at};
 
 use std::alloc::{AllocError, Global};
 use tree_node::{Name, NameList, Pick, Term, ThreadName, VarName, copy_term};
 
 /// Picks of one thread, one after the other: the place of the first of them.
 #[derive(Clone, Copy)]
-pub struct Run {
+pub struct Stretch {
     pub first: usize,
     pub thread: ThreadName,
 }
 
 /// A pick that takes fresh names: its place, and that of the first of its names among those of all picks.
 #[derive(Clone, Copy)]
-pub struct Take {
+pub struct Naming {
     pub pick: usize,
     pub first: usize,
 }
@@ -29,24 +29,24 @@ pub struct Bind {
     pub term: Term,
 }
 
-// Whether the last run is of this thread.
-fn goes_on(runs: &[Run], thread: ThreadName) -> bool
-    ensures { IsTrue result → HasThread (reverse runs.now) thread }
+// Whether the last stretch is of this thread.
+fn is_last_thread(stretches: &[Stretch], thread: ThreadName) -> bool
+    ensures { IsTrue result → HasThread (reverse stretches.now) thread }
 {
-    match runs {
+    match stretches {
         [] => false,
         [.., last] => last.thread == thread,
     }
 }
 
 // A pick of this thread behind the others.
-fn add_run(runs: &mut Vec<Run>, pick: usize, thread: ThreadName)
-    requires room { vec_len runs.old < vec_capacity runs.old }
-    requires runs { AreRuns pick (reverse runs.old.items) }
-    ensures { IsRunOn pick thread (reverse runs.old.items) (reverse runs.new.items) }
+fn add_stretch(stretches: &mut Vec<Stretch>, pick: usize, thread: ThreadName)
+    requires room { vec_len stretches.old < vec_capacity stretches.old }
+    requires stretches { AreStretches pick (reverse stretches.old.items) }
+    ensures { IsStretchOn pick thread (reverse stretches.old.items) (reverse stretches.new.items) }
 {
-    if !goes_on(runs.as_slice(), thread) {
-        runs.push_reserved(Run {
+    if !is_last_thread(stretches.as_slice(), thread) {
+        stretches.push_reserved(Stretch {
             first: pick,
             thread,
         });
@@ -54,68 +54,68 @@ fn add_run(runs: &mut Vec<Run>, pick: usize, thread: ThreadName)
 }
 
 // The names of a pick behind the others, where it takes some: those from a place on.
-fn add_take(takes: &mut Vec<Take>, pick: usize, first: usize, fresh: &[Name])
-    requires room { vec_len takes.old < vec_capacity takes.old }
-    requires takes { AreTakes pick first (reverse takes.old.items) }
-    ensures { (before : List Named) → length before ≡ first → IsTakenOn pick fresh.now before (reverse takes.old.items) (reverse takes.new.items) }
+fn add_naming(namings: &mut Vec<Naming>, pick: usize, first: usize, fresh: &[Name])
+    requires room { vec_len namings.old < vec_capacity namings.old }
+    requires namings { AreNamings pick first (reverse namings.old.items) }
+    ensures { (before : List Named) → length before ≡ first → IsNamingOn pick fresh.now before (reverse namings.old.items) (reverse namings.new.items) }
 {
     if !fresh.is_empty() {
-        takes.push_reserved(Take { pick, first });
+        namings.push_reserved(Naming { pick, first });
     }
 }
 
 /// A pick of this thread with these names behind the others. After an error all columns are as before.
 pub fn put(
-    runs: &mut Vec<Run>,
-    takes: &mut Vec<Take>,
+    stretches: &mut Vec<Stretch>,
+    namings: &mut Vec<Naming>,
     names: &mut Vec<Name>,
     pick: usize,
     thread: ThreadName,
     fresh: &[Name],
 ) -> Result<(), AllocError>
-    requires runs { AreRuns pick (reverse runs.old.items) }
-    requires takes { AreTakes pick (length names.old.items) (reverse takes.old.items) }
-    ensures threads { OnOk result (IsRunOn pick thread (reverse runs.old.items) (reverse runs.new.items)) }
-    ensures fresh { OnOk result (IsTakenOn pick fresh.now names.old.items (reverse takes.old.items) (reverse takes.new.items)) }
+    requires stretches { AreStretches pick (reverse stretches.old.items) }
+    requires namings { AreNamings pick (length names.old.items) (reverse namings.old.items) }
+    ensures threads { OnOk result (IsStretchOn pick thread (reverse stretches.old.items) (reverse stretches.new.items)) }
+    ensures fresh { OnOk result (IsNamingOn pick fresh.now names.old.items (reverse namings.old.items) (reverse namings.new.items)) }
     ensures names { OnOk result (names.new.items ≡ names.old.items ++ fresh.now) }
-    ensures same_runs { OnErr result (runs.new.items ≡ runs.old.items) }
-    ensures same_takes { OnErr result (takes.new.items ≡ takes.old.items) }
+    ensures same_stretches { OnErr result (stretches.new.items ≡ stretches.old.items) }
+    ensures same_namings { OnErr result (namings.new.items ≡ namings.old.items) }
     ensures same_names { OnErr result (names.new.items ≡ names.old.items) }
 {
-    if fresh.is_empty() && goes_on(runs.as_slice(), thread) {
+    if fresh.is_empty() && is_last_thread(stretches.as_slice(), thread) {
         return Ok(());
     }
-    runs.reserve(1)?;
-    takes.reserve(1)?;
+    stretches.reserve(1)?;
+    namings.reserve(1)?;
     let first = names.len();
     names.extend_from_slice(fresh)?;
-    add_take(takes, pick, first, fresh);
-    add_run(runs, pick, thread);
+    add_naming(namings, pick, first, fresh);
+    add_stretch(stretches, pick, thread);
     Ok(())
 }
 
-/// How many runs begin before a pick, where it is the last one.
-pub fn runs_before(runs: &[Run], pick: usize) -> usize
-    requires { AreRuns (pick + 1) (reverse runs.now) }
-    ensures within { result ≤ length runs.now }
-    ensures before { IsRunBefore pick (reverse runs.now) (reverse (take result runs.now)) }
+/// How many stretches begin before a pick, where it is the last one.
+pub fn stretches_before(stretches: &[Stretch], pick: usize) -> usize
+    requires { AreStretches (pick + 1) (reverse stretches.now) }
+    ensures within { result ≤ length stretches.now }
+    ensures before { IsStretchBefore pick (reverse stretches.now) (reverse (take result stretches.now)) }
 {
-    match runs {
+    match stretches {
         [rest @ .., last] if last.first == pick => rest.len(),
-        _ => runs.len(),
+        _ => stretches.len(),
     }
 }
 
-/// How many takes, and how many of so many names, are those of the picks before a pick, where it is the last one.
-pub fn takes_before(takes: &[Take], most: usize, pick: usize) -> (usize, usize)
-    requires { AreTakes (pick + 1) most (reverse takes.now) }
-    ensures within { result.0 ≤ length takes.now }
+/// How many namings, and how many of so many names, are those of the picks before a pick, where it is the last one.
+pub fn namings_before(namings: &[Naming], most: usize, pick: usize) -> (usize, usize)
+    requires { AreNamings (pick + 1) most (reverse namings.now) }
+    ensures within { result.0 ≤ length namings.now }
     ensures names { result.1 ≤ most }
-    ensures before { (names : List Named) → length names ≡ most → IsTakeBefore pick names (reverse takes.now) (take result.1 names) (reverse (take result.0 takes.now)) }
+    ensures before { (names : List Named) → length names ≡ most → IsNamingBefore pick names (reverse namings.now) (take result.1 names) (reverse (take result.0 namings.now)) }
 {
-    match takes {
+    match namings {
         [rest @ .., last] if last.pick == pick => (rest.len(), last.first),
-        _ => (takes.len(), most),
+        _ => (namings.len(), most),
     }
 }
 
@@ -132,11 +132,11 @@ pub fn binds_before(binds: &[Bind], pick: usize) -> usize
 }
 
 // The thread of the last pick.
-fn last_thread(runs: &[Run], pick: usize) -> ThreadName
-    requires { AreRuns (pick + 1) (reverse runs.now) }
-    ensures { result ≡ thread_at (reverse runs.now) pick }
+fn last_thread(stretches: &[Stretch], pick: usize) -> ThreadName
+    requires { AreStretches (pick + 1) (reverse stretches.now) }
+    ensures { result ≡ thread_at (reverse stretches.now) pick }
 {
-    match runs {
+    match stretches {
         [.., last] => last.thread,
         [] => unreachable!(),
     }
@@ -145,14 +145,14 @@ fn last_thread(runs: &[Run], pick: usize) -> ThreadName
 // The names of the last pick.
 fn last_fresh(
     alloc: Global,
-    takes: &[Take],
+    namings: &[Naming],
     names: &[Name],
     pick: usize,
 ) -> Result<NameList, AllocError>
-    requires { AreTakes (pick + 1) (length names.now) (reverse takes.now) }
-    ensures { IfOk result (λ fresh. fresh ≡ fresh_at (reverse takes.now) names.now pick) }
+    requires { AreNamings (pick + 1) (length names.now) (reverse namings.now) }
+    ensures { IfOk result (λ fresh. fresh ≡ fresh_at (reverse namings.now) names.now pick) }
 {
-    match takes {
+    match namings {
         [.., last] => {
             if last.pick == pick {
                 let fresh = Vec::from_slice(alloc, &names[last.first..])?;
@@ -185,18 +185,18 @@ fn last_bind(binds: &[Bind], pick: usize) -> Result<Option<(VarName, Term)>, All
 /// The last pick.
 pub fn last_pick(
     alloc: Global,
-    runs: &[Run],
-    takes: &[Take],
+    stretches: &[Stretch],
+    namings: &[Naming],
     names: &[Name],
     binds: &[Bind],
     pick: usize,
 ) -> Result<Pick, AllocError>
-    requires { AreColumns (pick + 1) (columns_of runs.now takes.now names.now binds.now) }
-    ensures { IfOk result (λ k. k ≡ pick_at (columns_of runs.now takes.now names.now binds.now) pick) }
+    requires { AreColumns (pick + 1) (columns_of stretches.now namings.now names.now binds.now) }
+    ensures { IfOk result (λ k. k ≡ pick_at (columns_of stretches.now namings.now names.now binds.now) pick) }
 {
     Ok(Pick {
-        thread: last_thread(runs, pick),
-        fresh: last_fresh(alloc, takes, names, pick)?,
+        thread: last_thread(stretches, pick),
+        fresh: last_fresh(alloc, namings, names, pick)?,
         bind: last_bind(binds, pick)?,
     })
 }

@@ -3,7 +3,9 @@
 ghost use Rattle.std.specs.Prelude.{◌≡◌, ◌<◌, ◌-◌, ◌^◌, ◌++◌, ◌∷◌, [], None, IfOk, OnOk, OnErr, length, map, take};
 ghost use Rattle.pick_list.specs.Binds.{binds_of, equation_of};
 
-use crate::columns::{Bind, Run, Take, binds_before, last_pick, put, runs_before, takes_before};
+use crate::columns::{
+    Bind, Naming, Stretch, binds_before, last_pick, namings_before, put, stretches_before,
+};
 use std::alloc::{AllocError, Global};
 use std::marker::Model;
 use tree_node::{Name, Pick, Term, ThreadName, VarName};
@@ -11,13 +13,13 @@ use tree_node::{Name, Pick, Term, ThreadName, VarName};
 // The most picks of a list.
 const MOST: usize = isize::MAX as usize;
 
-/// The picks of a run in the order of its steps, which contracts see as a list. They stand in columns: the runs of picks of one
-/// thread, the takes, the names of all picks, and the binds. A pick of the thread of the one before it that takes no name and
-/// adds no equation takes no memory.
+/// The picks of a run in the order of its steps, which contracts see as a list. They stand in columns: the stretches of
+/// picks of one thread, the namings, the names of all picks, and the binds. A pick of the thread of the one before it that takes
+/// no name and adds no equation takes no memory.
 #[derive(Drop)]
 pub struct PickList {
-    runs: Vec<Run>,
-    takes: Vec<Take>,
+    stretches: Vec<Stretch>,
+    namings: Vec<Naming>,
     names: Vec<Name>,
     binds: Vec<Bind>,
     count: usize,
@@ -30,9 +32,9 @@ impl Model for PickList {
 
     ghost Value = { List Pick };
 
-    ghost view = { λ s. picks_below (columns_of s.runs.items s.takes.items s.names.items s.binds.items) s.count };
+    ghost view = { λ s. picks_below (columns_of s.stretches.items s.namings.items s.names.items s.binds.items) s.count };
 
-    ghost invariant = { λ s. AreColumns s.count (columns_of s.runs.items s.takes.items s.names.items s.binds.items) × (s.count < 2 ^ 63) };
+    ghost invariant = { λ s. AreColumns s.count (columns_of s.stretches.items s.namings.items s.names.items s.binds.items) × (s.count < 2 ^ 63) };
 }
 
 impl PickList {
@@ -41,8 +43,8 @@ impl PickList {
         ensures { result ≡ [] }
     {
         PickList {
-            runs: Vec::new(alloc),
-            takes: Vec::new(alloc),
+            stretches: Vec::new(alloc),
+            namings: Vec::new(alloc),
             names: Vec::new(alloc),
             binds: Vec::new(alloc),
             count: 0,
@@ -79,8 +81,8 @@ impl PickList {
             return Err(AllocError);
         }
         put(
-            &mut self.runs,
-            &mut self.takes,
+            &mut self.stretches,
+            &mut self.namings,
             &mut self.names,
             self.count,
             thread,
@@ -106,8 +108,8 @@ impl PickList {
         }
         self.binds.reserve(1)?;
         put(
-            &mut self.runs,
-            &mut self.takes,
+            &mut self.stretches,
+            &mut self.namings,
             &mut self.names,
             self.count,
             thread,
@@ -144,11 +146,11 @@ impl PickList {
         ensures { self.new ≡ take (length self.old - 1) self.old }
     {
         let last = self.count - 1;
-        let runs = runs_before(self.runs.as_slice(), last);
-        let (takes, names) = takes_before(self.takes.as_slice(), self.names.len(), last);
+        let stretches = stretches_before(self.stretches.as_slice(), last);
+        let (namings, names) = namings_before(self.namings.as_slice(), self.names.len(), last);
         let binds = binds_before(self.binds.as_slice(), last);
-        self.runs.truncate(runs);
-        self.takes.truncate(takes);
+        self.stretches.truncate(stretches);
+        self.namings.truncate(namings);
         self.names.truncate(names);
         self.binds.truncate(binds);
         self.count = last;
@@ -159,16 +161,16 @@ impl PickList {
         ensures { IfOk result (λ picks. picks.items ≡ self.now) }
     {
         let mut picks = Vec::with_capacity(alloc, self.count)?;
-        let mut runs = self.runs.as_slice();
-        let mut takes = self.takes.as_slice();
+        let mut stretches = self.stretches.as_slice();
+        let mut namings = self.namings.as_slice();
         let mut names = self.names.as_slice();
         let mut binds = self.binds.as_slice();
         'picks: for pick in (0..self.count).rev() {
-            let last = last_pick(alloc, runs, takes, names, binds, pick)?;
+            let last = last_pick(alloc, stretches, namings, names, binds, pick)?;
             picks.push(last)?;
-            let (taken, named) = takes_before(takes, names.len(), pick);
-            runs = &runs[..runs_before(runs, pick)];
-            takes = &takes[..taken];
+            let (taken, named) = namings_before(namings, names.len(), pick);
+            stretches = &stretches[..stretches_before(stretches, pick)];
+            namings = &namings[..taken];
             names = &names[..named];
             binds = &binds[..binds_before(binds, pick)];
         }

@@ -6,7 +6,7 @@ use Rattle.tree_node.proofs.ClassLemmas.{Contains-head, Contains-tail}
 use Rattle.kernel_syntax.specs.declared.stmt.Stmt.{Stmt}
 use Rattle.site_message.specs.declared.message.Sent.{Sent}
 use Rattle.site_message.specs.declared.turn.Turn.{Turn}
-use Rattle.site_message.specs.Journal.{Wired, IsTravelling, sent_of, travelling, deliveries, delivers}
+use Rattle.site_message.specs.Journal.{Wired, IsTravelling, sent_of, travelling, deliveries, delivery_count}
 use Rattle.site_message.specs.Progress.{WentOn}
 use Rattle.site_message.proofs.JournalLemmas.{travelling_tells}
 use Rattle.site_message.proofs.TravelLemmas.{messages_add_up}
@@ -21,7 +21,7 @@ use Rattle.world_core.specs.Travels.{IsNumberAt}
 use Rattle.world_core.specs.World.{WorldState, IsWorldTurn, states_of}
 use Rattle.plain_run.specs.declared.out.Limits.{Limits}
 use Rattle.plain_run.specs.Counts.{runnable_count}
-use Rattle.plain_run.specs.Going.{IsGoing, IsMade, IsAtEase, IsBusy, Progresses, left, limits_of, steps_left}
+use Rattle.plain_run.specs.Going.{IsGoing, IsMade, IsAtEase, IsBusy, IsProgress, turns_left, limits_of, steps_left}
 use Rattle.plain_run.proofs.StepLemmas.{turn_steps, turn_goes_on}
 use Rattle.world_core.proofs.QuietLemmas.{at_contains}
 
@@ -100,7 +100,7 @@ module _ (l : Limits) (p : List Stmt) (old new : WorldState) (site quantum : ℕ
   fewer_left : (i : ℕ) → 1 ≤ i → i ≤ l.sites → steps_left l new i ≤ steps_left l old i
   fewer_left i a b = let more = all_steps i in omega (arith, more)
 
-  grown : deliveries new.journal ≡ delivers t.entry.delivered + deliveries old.journal
+  grown : deliveries new.journal ≡ delivery_count t.entry.delivered + deliveries old.journal
   grown = ap deliveries t.journal
 
   -- each site keeps within its limit of own steps, and is idle where it is there
@@ -128,19 +128,19 @@ module _ (l : Limits) (p : List Stmt) (old new : WorldState) (site quantum : ℕ
       idle i same full = subst (λ (s : Site). is_idle s ≡ true) (sym same) (going.idle i (ap (λ (s : Site). s.steps) (sym same) ∙ full))
 
   -- it took a message
-  pub took : is_some place ≡ true → left l new < left l old
+  pub took : is_some place ≡ true → turns_left l new < turns_left l old
   took some =
       let d = delivered_some old.travels site place t.entry.delivered t.delivered some in
       let wired : Wired (t.entry ∷ old.journal) = subst Wired t.journal run.wired in
       let m = wired.1 d.0 d.1 in
       let fewer = fewer_delivered old.journal d.0 m.0 wired.0 m.1 in
-      let one : deliveries new.journal ≡ 1 + deliveries old.journal = grown ∙ ap (λ (o : Option ℕ). delivers o + deliveries old.journal) d.1 in
+      let one : deliveries new.journal ≡ 1 + deliveries old.journal = grown ∙ ap (λ (o : Option ℕ). delivery_count o + deliveries old.journal) d.1 in
       let steps = sum_fewer l.sites (steps_left l old) (steps_left l new) fewer_left in
       let few = going.few in
       omega (arith, fewer, one, steps, few)
 
   -- it made an own step
-  stepped : deliveries new.journal ≡ deliveries old.journal → (states_of old site).steps < (states_of new site).steps → left l new < left l old
+  stepped : deliveries new.journal ≡ deliveries old.journal → (states_of old site).steps < (states_of new site).steps → turns_left l new < turns_left l old
   stepped same more =
       let within = here_within in
       let here : steps_left l new site < steps_left l old site = omega (arith, within, more) in
@@ -148,7 +148,7 @@ module _ (l : Limits) (p : List Stmt) (old new : WorldState) (site quantum : ℕ
       omega (arith, same, steps)
 
   -- or it let a thread wait
-  waited : deliveries new.journal ≡ deliveries old.journal → (states_of new site).steps ≡ (states_of old site).steps → runnable_count (states_of new site) < runnable_count (states_of old site) → Progresses l old new false
+  waited : deliveries new.journal ≡ deliveries old.journal → (states_of new site).steps ≡ (states_of old site).steps → runnable_count (states_of new site) < runnable_count (states_of old site) → IsProgress l old new false
   waited same steps less = (
     (let all = sum_same l.sites (steps_left l old) (steps_left l new) all_left in omega (arith, same, all)),
     sum_falls l.sites site (λ i. runnable_count (states_of old i)) (λ i. runnable_count (states_of new i)) low high less (λ i a b. fewer i),
@@ -169,14 +169,14 @@ module _ (l : Limits) (p : List Stmt) (old new : WorldState) (site quantum : ℕ
           by (inr other) = let e : runnable_count (states_of new i) ≡ runnable_count (states_of old i) = ap runnable_count (t.others i other) in omega (arith, e)
 
   -- a turn without a message
-  pub went : is_some place ≡ false → is_idle (states_of old site) ≡ false → Progresses l old new (nat_lt (states_of old site).steps (states_of new site).steps)
+  pub went : is_some place ≡ false → is_idle (states_of old site) ≡ false → IsProgress l old new (nat_lt (states_of old site).steps (states_of new site).steps)
   went none busy = by (nat_lt (states_of old site).steps (states_of new site).steps) refl
     where
       nothing : t.entry.delivered ≡ None
       nothing = delivered_none old.travels site place t.entry.delivered t.delivered none
 
       same : deliveries new.journal ≡ deliveries old.journal
-      same = grown ∙ ap (λ (o : Option ℕ). delivers o + deliveries old.journal) nothing ∙ (omega arith)
+      same = grown ∙ ap (λ (o : Option ℕ). delivery_count o + deliveries old.journal) nothing ∙ (omega arith)
 
       full : IsFullTurn old.program old.sites bundle_limit quantum (states_of old site) None t.turn.0
       full = subst (λ (o : Option ℕ). IsFullTurn old.program old.sites bundle_limit quantum (states_of old site) (delivered_message old.journal o) t.turn.0) nothing t.turn.1
@@ -195,7 +195,7 @@ module _ (l : Limits) (p : List Stmt) (old new : WorldState) (site quantum : ℕ
       goes = subst (λ (s : Site). ((states_of old site).steps < s.steps) ⊎ ((s.steps ≡ (states_of old site).steps) × (runnable_count s < runnable_count (states_of old site)))) (sym t.turn.3)
           (turn_goes_on old.program old.sites bundle_limit quantum (states_of old site) t.turn.0 some busy full)
 
-      by : (b : Bool) → nat_lt (states_of old site).steps (states_of new site).steps ≡ b → Progresses l old new b
+      by : (b : Bool) → nat_lt (states_of old site).steps (states_of new site).steps ≡ b → IsProgress l old new b
       by true e = let more : (states_of old site).steps < (states_of new site).steps = search rules in stepped same more
       by false e =
           let no : (states_of new site).steps ≤ (states_of old site).steps = search rules in

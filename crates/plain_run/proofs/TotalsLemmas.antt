@@ -12,7 +12,7 @@ use Rattle.kernel_syntax.specs.declared.stmt.Stmt.{Stmt}
 use Rattle.kernel_syntax.specs.Program.{IsProgram}
 use Rattle.site_message.specs.declared.turn.Turn.{Turn}
 use Rattle.oz_model.specs.Effect.{Birth}
-use Rattle.oz_model.specs.Run.{Runs, start}
+use Rattle.oz_model.specs.Run.{IsRun, start}
 use Rattle.oz_model.specs.Step.{end_count, effect_of, threads_born, stack_with_content, living_stack}
 use Rattle.thread_roster.specs.Threads.{waiting_of}
 use Rattle.site_model.specs.Bundle.{bundle_limit}
@@ -59,7 +59,7 @@ optional_fits es n None = key_fits es n
 optional_fits es n (Some v) = let e = value_fits es n v in omega arith
 
 -- each step ends one thread at most, and one begins at most
-run_fits : (p : List Stmt) (ks : List Pick) (s t : State) → Runs p s ks t → (t.ended ≤ s.ended + length ks) × (length t.threads ≤ length s.threads + length ks)
+run_fits : (p : List Stmt) (ks : List Pick) (s t : State) → IsRun p s ks t → (t.ended ≤ s.ended + length ks) × (length t.threads ≤ length s.threads + length ks)
 run_fits p [] s t is =
     let ended : t.ended ≡ s.ended = ap (λ (x : State). x.ended) is in
     let threads : length t.threads ≡ length s.threads = ap (λ (x : State). length x.threads) is in

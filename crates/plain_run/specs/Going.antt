@@ -62,8 +62,8 @@ pub record IsGoing (l : Limits) (p : List Stmt) (w : WorldState) : Type 0 where
 abbrev pub steps_left : Limits → WorldState → ℕ → ℕ
 steps_left l w i = l.steps - (states_of w i).steps
 
-abbrev pub left : Limits → WorldState → ℕ
-left l w = sum_to l.sites (steps_left l w) + (l.messages - deliveries w.journal)
+abbrev pub turns_left : Limits → WorldState → ℕ
+turns_left l w = sum_to l.sites (steps_left l w) + (l.messages - deliveries w.journal)
 
 -- how many threads can go on at all sites
 abbrev pub all_runnable : Limits → WorldState → ℕ
@@ -87,6 +87,6 @@ pub record IsMade (l : Limits) (p : List Stmt) (old new : WorldState) (site : �
   pub went : WentOn (limits_of l) new.journal
 
 -- a turn that takes a message or makes an own step leaves fewer of them; after another one fewer threads can go on
-abbrev pub Progresses : Limits → WorldState → WorldState → Bool → Type 0
-Progresses l old new true = left l new < left l old
-Progresses l old new false = (left l new ≡ left l old) × (all_runnable l new < all_runnable l old)
+abbrev pub IsProgress : Limits → WorldState → WorldState → Bool → Type 0
+IsProgress l old new true = turns_left l new < turns_left l old
+IsProgress l old new false = (turns_left l new ≡ turns_left l old) × (all_runnable l new < all_runnable l old)

@@ -7,7 +7,7 @@ ghost use Rattle.site_message.specs.declared.turn.Turn.{Turn};
 ghost use Rattle.site_message.specs.Journal.{end_of};
 ghost use Rattle.site_message.specs.Progress.{WentOn};
 ghost use Rattle.world_core.specs.World.{WorldState};
-ghost use Rattle.plain_run.specs.Going.{AreLimits, HasReason, IsBusy, IsGoing, IsMade, Progresses, left, limits_of};
+ghost use Rattle.plain_run.specs.Going.{AreLimits, HasReason, IsBusy, IsGoing, IsMade, IsProgress, turns_left, limits_of};
 
 use crate::busy::next_busy;
 use crate::out::Limits;
@@ -26,7 +26,7 @@ fn take_turn(world: &mut World<'_>, site: u32, limits: Limits) -> Result<bool, A
     ensures err { OnErr result (world.new.journal ≡ world.old.journal) }
     ensures same { (world.new.program ≡ world.old.program) × (world.new.sites ≡ world.old.sites) }
     ensures made { IfOk result (λ _. IsMade limits world.old.program world.old world.new site) }
-    ensures progress { IfOk result (λ progress. Progresses limits world.old world.new progress) }
+    ensures progress { IfOk result (λ progress. IsProgress limits world.old world.new progress) }
 {
     let place = world.next_for(site);
     let steps = world.steps(site);
@@ -68,7 +68,7 @@ fn advance(world: &mut World<'_>, last: u32, limits: Limits) -> Result<u32, Reas
     ensures same { (world.new.program ≡ world.old.program) × (world.new.sites ≡ world.old.sites) }
     ensures ended { IfErr result (λ reason. HasReason limits world.new.journal reason) }
     ensures went { WentOn (limits_of limits) world.new.journal }
-    ensures on { IfOk result (λ site. (site ≤ limits.sites) × IsGoing limits world.old.program world.new × (left limits world.new < left limits world.old)) }
+    ensures on { IfOk result (λ site. (site ≤ limits.sites) × IsGoing limits world.old.program world.new × (turns_left limits world.new < turns_left limits world.old)) }
 {
     let mut last = last;
     loop {

@@ -58,11 +58,11 @@ CanPassOn t c (Some a) = a ≡ t.site → CanFollow (record_of t c).held
 
 -- a Get is of a cell made here, whose last asker can be told; a Forward finds no successor; a Put was asked for. Other
 -- messages are no matter of cells
-abbrev pub Takes : CellTables → Msg → Type 0
-Takes t (msg.Get c k) = (c.site ≡ t.site) × CanPassOn t c (last_asker_in t c)
-Takes t (msg.Forward c k) = CanFollow (record_of t c).held
-Takes t (msg.Put c v bundle) = (record_of t c).held.token ≡ Asked
-Takes t _ = Unit {0}
+abbrev pub IsReceivable : CellTables → Msg → Type 0
+IsReceivable t (msg.Get c k) = (c.site ≡ t.site) × CanPassOn t c (last_asker_in t c)
+IsReceivable t (msg.Forward c k) = CanFollow (record_of t c).held
+IsReceivable t (msg.Put c v bundle) = (record_of t c).held.token ≡ Asked
+IsReceivable t _ = Unit {0}
 
 -- ---- the tables of a site
 
@@ -106,10 +106,10 @@ KeepsQueues old new = (c : CellName) → queue_of new c ≡ queue_of old c
 -- ---- laws
 
 -- what the tables of a site can take is what the site can
-pub record TakesAsSites : Type 0 where
-  pub get : (s : Site) (t : CellTables) (c : CellName) (k : ℕ) → AreTablesOf s t → Takes t (msg.Get c k) ↔ CanTake s (msg.Get c k)
-  pub forward : (s : Site) (t : CellTables) (c : CellName) (k : ℕ) → AreTablesOf s t → Takes t (msg.Forward c k) ↔ CanTake s (msg.Forward c k)
-  pub put : (s : Site) (t : CellTables) (c : CellName) (v : VarName) (es : List Equation) → AreTablesOf s t → Takes t (msg.Put c v es) ↔ CanTake s (msg.Put c v es)
+pub record IsReceivableAsSites : Type 0 where
+  pub get : (s : Site) (t : CellTables) (c : CellName) (k : ℕ) → AreTablesOf s t → IsReceivable t (msg.Get c k) ↔ CanTake s (msg.Get c k)
+  pub forward : (s : Site) (t : CellTables) (c : CellName) (k : ℕ) → AreTablesOf s t → IsReceivable t (msg.Forward c k) ↔ CanTake s (msg.Forward c k)
+  pub put : (s : Site) (t : CellTables) (c : CellName) (v : VarName) (es : List Equation) → AreTablesOf s t → IsReceivable t (msg.Put c v es) ↔ CanTake s (msg.Put c v es)
 
 -- a thread that exchanges v for w where all were served leaves the cell as if the last of them had left w
 abbrev pub ServingGoesOn : Type 0

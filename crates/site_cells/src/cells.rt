@@ -11,7 +11,7 @@ ghost use Rattle.site_model.specs.Site.{Site, unused_cell};
 ghost use Rattle.site_model.specs.Transition.{without_output};
 ghost use Rattle.site_model.specs.Unit.{after_cell};
 ghost use Rattle.site_model.specs.Cells.{forward_row, get_row, leave_row, request_row, serving, with_exchange_waiting};
-ghost use Rattle.site_cells.specs.Tables.{HasToken, Takes, CanPassOn, last_asker_in, AreTablesOf, IsChange, IsRow, ChangesQueue, KeepsQueues, record_of, queue_of, with_tables, same_site};
+ghost use Rattle.site_cells.specs.Tables.{HasToken, IsReceivable, CanPassOn, last_asker_in, AreTablesOf, IsChange, IsRow, ChangesQueue, KeepsQueues, record_of, queue_of, with_tables, same_site};
 
 use crate::place::Place;
 use crate::tables::{self, Managers, Records};
@@ -110,7 +110,7 @@ impl Cells {
         asking: u32,
         outbox: &mut Outbox,
     ) -> Result<(), AllocError>
-        requires takes { Takes self.old (msg.Get cell asking) }
+        requires takes { IsReceivable self.old (msg.Get cell asking) }
         ensures row { OnOk result (IsRow (get_row 0 cell asking) same_site self.old self.new outbox.old outbox.new) }
         ensures queues { OnOk result (KeepsQueues self.old self.new) }
         ensures same { OnErr result (self.new ≡ self.old) }
@@ -130,7 +130,7 @@ impl Cells {
         next: u32,
         outbox: &mut Outbox,
     ) -> Result<(), AllocError>
-        requires takes { Takes self.old (msg.Forward cell next) }
+        requires takes { IsReceivable self.old (msg.Forward cell next) }
         ensures row { OnOk result (IsRow (forward_row 0 cell next) same_site self.old self.new outbox.old outbox.new) }
         ensures queues { OnOk result (KeepsQueues self.old self.new) }
         ensures same { OnErr result (self.new ≡ self.old) }
@@ -208,7 +208,7 @@ impl Cells {
 
     /// Whether the site can take a message of cells. It can take every other message.
     pub fn takes(&self, msg: &Msg) -> bool
-        ensures { IsTrue result ↔ Takes self.now msg.now }
+        ensures { IsTrue result ↔ IsReceivable self.now msg.now }
     {
         match msg {
             Msg::Get { cell, .. } => cell.site == self.site && self.can_pass_on(*cell),

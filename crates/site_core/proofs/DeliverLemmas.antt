@@ -22,13 +22,13 @@ use Rattle.name_supply.specs.declared.fresh.Fresh.{Fresh}
 use Rattle.name_supply.specs.declared.fresh.Fresh.TheVariants as fresh
 use Rattle.thread_machine.specs.Fits.{TermFits}
 use Rattle.thread_machine.specs.Running.{Running}
-use Rattle.thread_machine.specs.Supply.{site_in, IsMade}
+use Rattle.name_supply.specs.Supply.{site_in, IsMade}
 use Rattle.thread_roster.specs.declared.mode.Mode.{Mode}
 use Rattle.thread_roster.proofs.ThreadLemmas.{seen_none}
 use Rattle.site_model.specs.Bundle.{vars_of_equations, message_vars}
 use Rattle.site_model.specs.Fit.{IsFit, IsKnownName, IsBelowCounter}
 use Rattle.site_model.specs.Messages.{message_row}
-use Rattle.site_cells.specs.Tables.{CellTables, AreTablesOf, TakesAsSites, Takes}
+use Rattle.site_cells.specs.Tables.{CellTables, AreTablesOf, IsReceivableAsSites, IsReceivable}
 use Rattle.site_variables.specs.Variables.{IsGrown, stacks_of}
 use Rattle.site_units.specs.declared.data.Core.{Core}
 use Rattle.site_units.specs.declared.data.Output.{Output}
@@ -114,7 +114,7 @@ pub record IsOpened (p : List Stmt) (m : Msg) (c c1 : Core) : Type 0 where
   pub cells : c1.cells ≡ c.cells
   pub counters : c1.fresh ≡ c.fresh
 
-pub deliverable : (p : List Stmt) → IsProgram p → TakesAsSites → (m : Msg) (c c1 : Core) → IsConsistent p c → IsFit p c.sites (site_of c) m → IsOpened p m c c1 → CanDeliver p c1 m
+pub deliverable : (p : List Stmt) → IsProgram p → IsReceivableAsSites → (m : Msg) (c c1 : Core) → IsConsistent p c → IsFit p c.sites (site_of c) m → IsOpened p m c c1 → CanDeliver p c1 m
 deliverable p is law m c c1 h fit o = go m fit o.known
   where
     tables : AreTablesOf (site_of c) c.cells
@@ -126,8 +126,8 @@ deliverable p is law m c c1 h fit o = go m fit o.known
     made : (x : VarName) → IsOwned c.variables.binder.owners x → IsOwned c1.variables.binder.owners x
     made x k = subst (λ (es : List Owned). IsOwned es x) (sym o.owners) k
 
-    taken : (m : Msg) → Takes c.cells m → Takes c1.cells m
-    taken m k = subst (λ (t : CellTables). Takes t m) (sym o.cells) k
+    taken : (m : Msg) → IsReceivable c.cells m → IsReceivable c1.cells m
+    taken m k = subst (λ (t : CellTables). IsReceivable t m) (sym o.cells) k
 
     go : (m : Msg) → IsFit p c.sites (site_of c) m → Each (λ (x : VarName). Contains c1.variables.store.known x) (message_vars m) → CanDeliver p c1 m
     go (msg.Spawn n code vars es) f known = (

@@ -17,7 +17,7 @@ use Rattle.name_supply.specs.declared.fresh.Fresh.{Fresh}
 use Rattle.name_supply.specs.declared.fresh.Fresh.TheVariants as fresh
 use Rattle.thread_machine.specs.Fits.{EquationsFit}
 use Rattle.thread_machine.specs.Running.{Running}
-use Rattle.thread_machine.specs.Supply.{site_in, IsMade, HasMade, AreBelow}
+use Rattle.name_supply.specs.Supply.{site_in, IsMade, HasMade, AreBelow}
 use Rattle.thread_machine.proofs.FitLemmas.{begun_fits}
 use Rattle.thread_roster.specs.declared.mode.Mode.TheVariants.{Runs}
 use Rattle.thread_roster.specs.Threads.{Entry}

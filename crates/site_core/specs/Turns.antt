@@ -13,8 +13,8 @@ use Rattle.site_message.specs.declared.message.Msg.TheVariants as msg
 use Rattle.variable_owner.specs.Owners.{IsMade as IsOwned, owner_of, sites_of}
 use Rattle.bind_protocol.specs.Records.{IsKnown as IsMet}
 use Rattle.thread_machine.specs.Fits.{VarsFit, TermFits, IsKnown}
-use Rattle.thread_machine.specs.Supply.{IsMade}
-use Rattle.site_cells.specs.Tables.{Takes}
+use Rattle.name_supply.specs.Supply.{IsMade}
+use Rattle.site_cells.specs.Tables.{IsReceivable}
 use Rattle.site_model.specs.Bundle.{bundle_limit}
 use Rattle.site_model.specs.Transition.{Transition}
 use Rattle.site_model.specs.Turn.{IsReception, IsFullTurn}
@@ -41,9 +41,9 @@ CanDeliver p c (msg.BindReq x n t bundle) =
 CanDeliver p c (msg.Binding x t bundle) =
     (x.site ≢ c.variables.binder.site) × IsMet c.variables.binder x × IsLower t x
     × EachOfTerm (IsKnown c.variables.store.known) t × TermFits p t
-CanDeliver p c (msg.Get cell k) = Takes c.cells (msg.Get cell k)
-CanDeliver p c (msg.Forward cell k) = Takes c.cells (msg.Forward cell k)
-CanDeliver p c (msg.Put cell v bundle) = Takes c.cells (msg.Put cell v bundle) × Contains c.variables.store.known v
+CanDeliver p c (msg.Get cell k) = IsReceivable c.cells (msg.Get cell k)
+CanDeliver p c (msg.Forward cell k) = IsReceivable c.cells (msg.Forward cell k)
+CanDeliver p c (msg.Put cell v bundle) = IsReceivable c.cells (msg.Put cell v bundle) × Contains c.variables.store.known v
 
 -- the data and the output came by the message: by its row where it is fit, and nothing changed where it is not
 abbrev pub IsReceived : List Stmt → Option Msg → Core → Output → Core → Output → Type 0

@@ -3,7 +3,7 @@
 ghost use Rattle.std.specs.Prelude.{◌≡◌, ◌↔◌, IsTrue, Some};
 ghost use Rattle.tree_node.specs.Each.{Each};
 ghost use Rattle.site_message.specs.Wire.{FitsWire};
-ghost use Rattle.thread_machine.specs.Supply.{site_in as site_among};
+ghost use Rattle.name_supply.specs.Supply.{site_in as site_among};
 ghost use Rattle.site_model.specs.Fit.{IsFit, CanTake, CodesFit};
 ghost use Rattle.site_variables.specs.Fit.{IsBoundOf};
 ghost use Rattle.site_units.specs.Core.{site_of};
@@ -11,11 +11,12 @@ ghost use Rattle.site_units.specs.Facts.{IsConsistent};
 ghost use Rattle.site_core.specs.Fitting.{IsEquationFit, PartsFit};
 
 use kernel_syntax::Program;
+use name_supply::Fresh;
 use site_cells::laws::tables_take_as_sites;
 use site_message::{Msg, wire_fits};
 use site_units::Core;
 use site_variables::{Bounds, bundle_of, names_fit, sites_fit};
-use thread_machine::{Fresh, term_fits, vars_fit};
+use thread_machine::{term_fits, vars_fit};
 use tree_node::{Term, VarName};
 
 // Whether the term of an equation fits the program.

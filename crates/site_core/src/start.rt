@@ -7,11 +7,12 @@ ghost use Rattle.site_units.specs.Facts.{IsConsistent};
 ghost use Rattle.site_core.specs.Start.{IsBare, first_living};
 
 use kernel_syntax::Program;
+use name_supply::Fresh;
 use site_cells::Cells;
 use site_units::Core;
 use site_variables::Variables;
 use std::alloc::{AllocError, Global};
-use thread_machine::{Fresh, Thread};
+use thread_machine::Thread;
 use thread_roster::Roster;
 use tree_node::{CodeId, ThreadName, Vars};
 

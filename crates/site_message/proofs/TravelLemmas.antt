@@ -7,8 +7,8 @@ use Rattle.std.proofs.lemmas.List.FromFn.{length-enumerate_from}
 use Rattle.tree_node.proofs.ClassLemmas.{Contains-cons_cases}
 use Rattle.site_message.specs.declared.message.Sent.{Sent}
 use Rattle.site_message.specs.declared.turn.Turn.{Turn}
-use Rattle.site_message.specs.Journal.{Wired, sent_of, travelling, was_delivered, is_number, without_number, deliveries, delivers}
-use Rattle.site_message.specs.Rows.{Ascends, TravellingGrows, TravellingAscends, MessagesAddUp, FewAreDelivered}
+use Rattle.site_message.specs.Journal.{Wired, sent_of, travelling, was_delivered, is_number, without_number, deliveries, delivery_count}
+use Rattle.site_message.specs.Rows.{IsAscending, TravellingGrows, TravellingAscends, MessagesAddUp, FewAreDelivered}
 use Rattle.site_message.specs.Story.{own}
 use Rattle.site_message.proofs.JournalLemmas.{travelling_tells}
 use Rattle.tree_node.proofs.OrderLemmas.{none}
@@ -78,19 +78,19 @@ travelling_grows j e w =
     ∙ (λ i. old_left i ++ new_left i)))
 
 -- numbers that ascend
-ascends_enumerate : {A : Type 0} (n : ℕ) (xs : List A) → Ascends n (enumerate_from n xs)
+ascends_enumerate : {A : Type 0} (n : ℕ) (xs : List A) → IsAscending n (enumerate_from n xs)
 ascends_enumerate n [] = tt
 ascends_enumerate n (x ∷ xs) = (omega arith, ascends_enumerate (n + 1) xs)
 
-ascends_lower : {A : Type 0} (b c : ℕ) (xs : List (ℕ × A)) → b ≤ c → Ascends c xs → Ascends b xs
+ascends_lower : {A : Type 0} (b c : ℕ) (xs : List (ℕ × A)) → b ≤ c → IsAscending c xs → IsAscending b xs
 ascends_lower b c [] below h = tt
 ascends_lower b c (p ∷ ps) below h = let low = h.0 in (omega arith, h.1)
 
-ascends_step : {A : Type 0} (t : ℕ × A → Bool) (b : ℕ) (p : ℕ × A) (ps : List (ℕ × A)) (s : Bool) → t p ≡ s → b ≤ p.0 → Ascends (p.0 + 1) (filter t ps) → Ascends b (filter t (p ∷ ps))
+ascends_step : {A : Type 0} (t : ℕ × A → Bool) (b : ℕ) (p : ℕ × A) (ps : List (ℕ × A)) (s : Bool) → t p ≡ s → b ≤ p.0 → IsAscending (p.0 + 1) (filter t ps) → IsAscending b (filter t (p ∷ ps))
 ascends_step t b p ps true e low rest = rw e (low, rest)
 ascends_step t b p ps false e low rest = rw e (ascends_lower b (p.0 + 1) (filter t ps) (omega arith) rest)
 
-pub ascends_filter : {A : Type 0} (t : ℕ × A → Bool) (b : ℕ) (xs : List (ℕ × A)) → Ascends b xs → Ascends b (filter t xs)
+pub ascends_filter : {A : Type 0} (t : ℕ × A → Bool) (b : ℕ) (xs : List (ℕ × A)) → IsAscending b xs → IsAscending b (filter t xs)
 ascends_filter t b [] h = tt
 ascends_filter t b (p ∷ ps) h = ascends_step t b p ps (t p) refl h.0 (ascends_filter t (p.0 + 1) ps h.1)
 
@@ -98,7 +98,7 @@ pub travelling_ascends : TravellingAscends
 travelling_ascends j = ascends_filter (undelivered j) 0 (enumerate_from 0 (sent_of j)) (ascends_enumerate 0 (sent_of j))
 
 -- one number, one message
-number_from : (b : ℕ) (xs : List (ℕ × Sent)) → Ascends b xs → (k : ℕ) (m : Sent) → Contains xs (k, m) → b ≤ k
+number_from : (b : ℕ) (xs : List (ℕ × Sent)) → IsAscending b xs → (k : ℕ) (m : Sent) → Contains xs (k, m) → b ≤ k
 number_from b [] h k m at = absurd (none (k, m) at)
 number_from b ((n, s) ∷ ps) h k m at =
     let low : b ≤ n = h.0 in
@@ -107,14 +107,14 @@ number_from b ((n, s) ∷ ps) h k m at =
     (λ (r : Contains ps (k, m)). let above = number_from (n + 1) ps h.1 k m r in omega arith)
     (Contains-cons_cases (n, s) (k, m) ps at)
 
-none_without : (k b : ℕ) (xs : List (ℕ × Sent)) → Ascends b xs → k < b → without_number (Some k) xs ≡ xs
+none_without : (k b : ℕ) (xs : List (ℕ × Sent)) → IsAscending b xs → k < b → without_number (Some k) xs ≡ xs
 none_without k b [] h below = refl
 none_without k b ((n, s) ∷ ps) h below =
     let low : b ≤ n = h.0 in
     let other : eqb k n ≡ false = ne_eqb k n (λ same. absurd (omega arith)) in
     rw other (ap (λ l. (n, s) ∷ l) (none_without k (n + 1) ps h.1 (omega arith)))
 
-one_without : (b : ℕ) (xs : List (ℕ × Sent)) → Ascends b xs → (k : ℕ) (m : Sent) → Contains xs (k, m) → suc (length (without_number (Some k) xs)) ≡ length xs
+one_without : (b : ℕ) (xs : List (ℕ × Sent)) → IsAscending b xs → (k : ℕ) (m : Sent) → Contains xs (k, m) → suc (length (without_number (Some k) xs)) ≡ length xs
 one_without b [] h k m at = absurd (none (k, m) at)
 one_without b ((n, s) ∷ ps) h k m at = ⊎_elim here (λ r. later r (one_without (n + 1) ps h.1 k m r)) (Contains-cons_cases (n, s) (k, m) ps at)
   where
@@ -134,7 +134,7 @@ all_without : (xs : List (ℕ × Sent)) → without_number None xs ≡ xs
 all_without [] = refl
 all_without (x ∷ xs) = ap (λ l. x ∷ l) (all_without xs)
 
-taken_out : (j : List Turn) (e : Turn) → Wired (e ∷ j) → (o : Option ℕ) → e.delivered ≡ o → delivers o + length (without_number o (travelling j)) ≡ length (travelling j)
+taken_out : (j : List Turn) (e : Turn) → Wired (e ∷ j) → (o : Option ℕ) → e.delivered ≡ o → delivery_count o + length (without_number o (travelling j)) ≡ length (travelling j)
 taken_out j e w None is = let same = ap length (all_without (travelling j)) in omega arith
 taken_out j e w (Some k) is =
     let t = w.1 k is in

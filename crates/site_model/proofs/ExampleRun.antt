@@ -19,7 +19,7 @@ use Rattle.site_model.specs.Choice.{can_all_go, reception_of, next_turn}
 use Rattle.site_model.specs.Run.{delivered_message, SiteRun, IsEntry, IsRecordOf, IsSiteIn, WorldRun}
 use Rattle.site_model.specs.Run as run
 use Rattle.site_model.proofs.ChoiceLemmas.{turn_is, CanHear}
-use Rattle.site_model.specs.Example.{BundleTravels, Story, program, times, first_turn, second_turn, begun, sites_of, TokenReturns}
+use Rattle.site_model.specs.Example.{BundleTravels, Story, program, times, first_turn, second_turn, first_story, sites_of, TokenReturns}
 use Rattle.site_model.specs.Example as example
 use Rattle.tree_node.proofs.OrderLemmas.{none as nothing}
 use Rattle.std.proofs.lemmas.Bool.{ne_eqb as off}
@@ -261,12 +261,12 @@ second_goes w k u few mail hear can g = record {
   beyond = λ i. passes _ _ _ _ (off 2 (suc (suc (suc i))) (λ e. absurd (omega arith))) (g.beyond i);
 }
 
-goes_0 : Goes begun
+goes_0 : Goes first_story
 goes_0 = record { wired = tt; inside = tt; one = refl; two = refl; none = refl; beyond = λ i. refl }
 
 goes_1 : Goes example.turn_1
 unfolding free
-goes_1 = first_goes begun None 8 (le _ _ refl) tt tt refl goes_0
+goes_1 = first_goes first_story None 8 (le _ _ refl) tt tt refl goes_0
 
 goes_2 : Goes example.turn_2
 unfolding free

@@ -54,21 +54,21 @@ content = var 1 50
 abbrev pub site_1 : Site
 site_1 = site_with 1 ((cell, 1) ∷ []) ((cell, record { held = here_with content; queue = [] }) ∷ [])
 
-abbrev pub goes : ℕ → ℕ → Site → Transition
-goes i k s = next_unit program 3 0 (thread i k) s
+abbrev pub unit_at : ℕ → ℕ → Site → Transition
+unit_at i k s = next_unit program 3 0 (thread i k) s
 
 -- both threads of site 3 ask: one Get. The manager has the token, and sends it. (Site 2 asks next)
 abbrev pub asks_3 : Transition
-asks_3 = goes 3 0 (site_with 3 [] [])
+asks_3 = unit_at 3 0 (site_with 3 [] [])
 
 abbrev pub asks_3_again : Transition
-asks_3_again = goes 3 1 asks_3.site
+asks_3_again = unit_at 3 1 asks_3.site
 
 abbrev pub manager_3 : Transition
 manager_3 = message_row program 0 (msg.Get cell 3) site_1
 
 abbrev pub asks_2 : Transition
-asks_2 = goes 2 0 (site_with 2 [] [])
+asks_2 = unit_at 2 0 (site_with 2 [] [])
 
 abbrev pub manager_2 : Transition
 manager_2 = message_row program 0 (msg.Get cell 2) manager_3.site
@@ -82,7 +82,7 @@ put_3 = message_row program 0 (msg.Put cell content []) forward_3.site
 
 -- the manager's own site asks: it tells site 2 by a Forward, and no Get is sent
 abbrev pub asks_1 : Transition
-asks_1 = goes 1 0 manager_2.site
+asks_1 = unit_at 1 0 manager_2.site
 
 -- site 2 is served, and then told: the token goes back at once
 abbrev pub put_2 : Transition

@@ -69,12 +69,12 @@ first_turn w k u = first_does w k (next_turn program 2 0 (times u first) (delive
 abbrev pub second_turn : Story → Option ℕ → ℕ → Story
 second_turn w k u = second_does w k (next_turn program 2 0 (times u second) (delivered_message w.journal k) w.second)
 
-abbrev pub begun : Story
-begun = record { journal = []; first = initial_site program 1; second = initial_site program 2 }
+abbrev pub first_story : Story
+first_story = record { journal = []; first = initial_site program 1; second = initial_site program 2 }
 
 -- site 1 makes the variables and the cell, sends the thread, and waits for X
 abbrev pub turn_1 : Story
-turn_1 = first_turn begun None 8
+turn_1 = first_turn first_story None 8
 
 -- site 2 gets the thread (message 0), registers for the three variables (1 to 3), and waits for C
 abbrev pub turn_2 : Story
@@ -138,8 +138,8 @@ abbrev pub TokenReturns : Type 0
 TokenReturns = WorldRun program 2 0 turn_14.journal (sites_of turn_14) × (is_quiet 2 turn_14.journal ≡ true)
 
 -- local X Y in Y = 5 X = f(Y) thread at 2 {Browse X} end end
-abbrev pub shows : List Stmt
-shows =
+abbrev pub show_program : List Stmt
+show_program =
     Local 0 2 (code 1) ∷ Seq (code 2 ∷ code 3 ∷ code 4 ∷ []) ∷ TellInt 1 (pos 5)
     ∷ TellRec 0 (codes "f") ((feature.Int (pos 1), 1) ∷ []) ∷ Thread (Some (pos 2)) (code 5) ∷ Browse 0 ∷ []
 
@@ -152,10 +152,10 @@ spawn = msg.Spawn second (code 5) (v 0 ∷ [])
     ((v 0, term.Node (node.Rec (codes "f") ((feature.Int (pos 1), v 1) ∷ []))) ∷ (v 1, term.Node (node.Int (pos 5))) ∷ [])
 
 abbrev pub shows_first : Transition
-shows_first = next_turn shows 2 256 (times 11 first) None (initial_site shows 1)
+shows_first = next_turn show_program 2 256 (times 11 first) None (initial_site show_program 1)
 
 abbrev pub shows_second : Transition
-shows_second = next_turn shows 2 256 (times 1 second) (Some spawn) (initial_site shows 2)
+shows_second = next_turn show_program 2 256 (times 1 second) (Some spawn) (initial_site show_program 2)
 
 -- one message, and site 2 asks for nothing
 pub record BundleTravels : Type 0 where

@@ -16,7 +16,7 @@ use Rattle.site_message.specs.declared.message.Msg.{Msg}
 use Rattle.site_message.specs.declared.message.Msg.TheVariants as msg
 use Rattle.site_message.specs.Wire.{FitsWire}
 use Rattle.oz_model.specs.WellFormed.{IsNode, IsNodeOf}
-use Rattle.bind_protocol.specs.Records.{Takes, IsKnown}
+use Rattle.bind_protocol.specs.Records.{IsReceivable, IsKnown}
 use Rattle.token_chain.specs.declared.token.Token.TheVariants.{Asked}
 use Rattle.token_chain.specs.Holding.{CanFollow}
 use Rattle.site_model.specs.Site.{Site, Counters, cell_record, last_asker, thread_state}
@@ -86,8 +86,8 @@ CanRequest s c (Some a) = a ≡ s.records.site → CanFollow (cell_record s c).h
 -- Forward finds no successor; a Put was asked for
 abbrev pub CanTake : Site → Msg → Type 0
 CanTake s (msg.Spawn n code vars bundle) = thread_state s n ≡ None
-CanTake s (msg.Register x k) = Takes s.records (msg.Register x k)
-CanTake s (msg.BindReq x n t bundle) = IsLower t x × Takes s.records (msg.BindReq x n t bundle)
+CanTake s (msg.Register x k) = IsReceivable s.records (msg.Register x k)
+CanTake s (msg.BindReq x n t bundle) = IsLower t x × IsReceivable s.records (msg.BindReq x n t bundle)
 CanTake s (msg.Binding x t bundle) = (x.site ≢ s.records.site) × IsLower t x × IsKnown s.records x
 CanTake s (msg.Get c k) = (c.site ≡ s.records.site) × CanRequest s c (last_asker s c)
 CanTake s (msg.Forward c k) = CanFollow (cell_record s c).held

@@ -14,7 +14,7 @@ use Rattle.bind_protocol.specs.Records.{Records}
 use Rattle.thread_roster.specs.declared.mode.Mode.{Mode}
 use Rattle.thread_roster.specs.declared.mode.Mode.TheVariants.{Runs}
 use Rattle.thread_roster.specs.Threads.{waiting_of}
-use Rattle.token_chain.specs.Holding.{Holding, away}
+use Rattle.token_chain.specs.Holding.{Holding, nothing_held}
 
 -- a thread's stack, and whether the thread can go on
 abbrev pub ThreadState : Type 0
@@ -61,7 +61,7 @@ last_asker s c = lookup (equal_cell c) s.managers
 
 -- the record of a cell that the site has nothing to do with
 abbrev pub unused_cell : CellRecord
-unused_cell = record { held = away; queue = [] }
+unused_cell = record { held = nothing_held; queue = [] }
 
 abbrev pub cell_record_in : List (CellName × CellRecord) → CellName → CellRecord
 cell_record_in qs c = unwrap_or (lookup (equal_cell c) qs) unused_cell

@@ -12,7 +12,7 @@ use Rattle.tree_node.specs.declared.node.Term.{Term}
 use Rattle.tree_node.specs.declared.node.Term.TheVariants as term
 use Rattle.tree_node.specs.declared.pick.Pick.{Pick}
 use Rattle.tree_node.specs.Assoc.{with_optional_value, with_value}
-use Rattle.tree_node.specs.Goal.{Allows, equal_cell}
+use Rattle.tree_node.specs.Goal.{IsAllowedBind, equal_cell}
 use Rattle.tree_node.specs.Order.{IsLower}
 use Rattle.tree_node.specs.State.{Stack, equal_thread}
 use Rattle.tree_node.specs.Store.{Store, Equation, IsFree, IsClassName}
@@ -160,7 +160,7 @@ IsNamedStep p n limit s th st kinds d =
 
 -- a bind of a root without an equation of its own, to a lesser root or to the node of the other side
 abbrev pub IsRootBind : Store → Term → Term → VarName → Term → Type 0
-IsRootBind s a b u t = Allows s a b (u, t) × IsFree s u × IsLower t u × is_root t
+IsRootBind s a b u t = IsAllowedBind s a b (u, t) × IsFree s u × IsLower t u × is_root t
   where
     is_root : Term → Type 0
     is_root (term.Var v) = IsFree s v

@@ -16,7 +16,7 @@ use Rattle.name_supply.specs.declared.fresh.Fresh.{Fresh}
 use Rattle.name_supply.specs.declared.fresh.Fresh.TheVariants as fresh
 use Rattle.thread_machine.specs.Running.{Running}
 use Rattle.thread_machine.specs.Step.{IsStep, Fits, OutFits, HasThreadSite, fresh_of}
-use Rattle.thread_machine.specs.Supply.{CanName, IsCounted, site_in, IsMade, HasMade, AreBelow}
+use Rattle.name_supply.specs.Supply.{CanName, IsCounted, site_in, IsMade, HasMade, AreBelow}
 use Rattle.thread_roster.specs.declared.mode.Mode.{Mode}
 use Rattle.thread_roster.specs.declared.mode.Mode.TheVariants as mode
 use Rattle.thread_roster.specs.Threads.{set_value}

@@ -27,7 +27,7 @@ use Rattle.name_supply.specs.declared.fresh.Fresh.{Fresh}
 use Rattle.name_supply.specs.declared.fresh.Fresh.TheVariants as fresh
 use Rattle.thread_machine.specs.Fits.{StackFits}
 use Rattle.thread_machine.specs.Running.{Running}
-use Rattle.thread_machine.specs.Supply.{names_for, IsCounted, site_in, IsMade, HasMade}
+use Rattle.name_supply.specs.Supply.{names_for, IsCounted, site_in, IsMade, HasMade}
 use Rattle.thread_roster.specs.declared.mode.Mode.{Mode}
 use Rattle.thread_roster.specs.declared.mode.Mode.TheVariants as mode
 use Rattle.thread_roster.specs.Threads.{Threads as Roster, Entry, set_value}

@@ -20,8 +20,8 @@ use Rattle.bind_protocol.specs.Rows.{after_make}
 use Rattle.site_model.specs.Variables.{after_makes}
 use Rattle.name_supply.specs.declared.fresh.Fresh.{Fresh}
 use Rattle.name_supply.specs.declared.fresh.Fresh.TheVariants as fresh
-use Rattle.thread_machine.specs.Supply.{next_name, after_name, names_for, after_names, known_after, IsCounted, site_in, HasMade, AreBelow}
-use Rattle.thread_machine.proofs.SupplyLemmas.{kept_after, named_after}
+use Rattle.name_supply.specs.Supply.{next_name, after_name, names_for, after_names, known_after, IsCounted, site_in, HasMade, AreBelow}
+use Rattle.name_supply.proofs.SupplyLemmas.{kept_after, named_after}
 use Rattle.site_model.specs.Site.{Counters}
 use Rattle.site_model.specs.Unit.{counter_after, counters_after, next_names}
 use Rattle.site_model.specs.Unit as unit

@@ -12,7 +12,7 @@ use Rattle.tree_node.specs.State.{Stack}
 use Rattle.tree_node.specs.Store.{Store, IsSound}
 use Rattle.tree_node.proofs.ClassLemmas.{Contains-tail}
 use Rattle.kernel_syntax.specs.declared.stmt.Stmt.{Stmt}
-use Rattle.oz_model.specs.Answers.{Includes}
+use Rattle.oz_model.specs.Answers.{IsPartOf}
 use Rattle.bind_protocol.specs.Records.{Records, IsKnown, is_own, knowledge, owner_knows}
 use Rattle.variable_owner.specs.declared.owners.Owner.{Owner}
 use Rattle.variable_owner.specs.declared.owners.Owner.TheVariants.{Open, Bound}
@@ -24,7 +24,7 @@ use Rattle.name_supply.specs.declared.fresh.Fresh.{Fresh}
 use Rattle.name_supply.specs.declared.fresh.Fresh.TheVariants as fresh
 use Rattle.thread_machine.specs.Fits.{IsKnown as IsAmong, TermFits, EquationsFit}
 use Rattle.thread_machine.specs.Running.{Running}
-use Rattle.thread_machine.specs.Supply.{site_in, IsMade}
+use Rattle.name_supply.specs.Supply.{site_in, IsMade}
 use Rattle.thread_machine.proofs.KeepLemmas.{equations_grow}
 use Rattle.thread_roster.specs.declared.mode.Mode.{Mode}
 use Rattle.thread_roster.specs.Threads.{Threads as Roster, Entry, wake, wake_all}
@@ -93,7 +93,7 @@ pub record Learned (p : List Stmt) (c : Core) (v1 : Variables) (ts1 : Roster Run
   pub grows : IsGrown c.variables.store.known v1.store.known
   pub own_names : (x : VarName) → x.site ≡ c.variables.binder.site → Contains v1.store.known x → Contains c.variables.store.known x
   pub equations : EquationsFit p v1.store.known v1.store.equations
-  pub includes : Includes c.variables.store.equations v1.store.equations
+  pub includes : IsPartOf c.variables.store.equations v1.store.equations
   pub sound : IsSound v1.store.equations
   pub bound : List VarName
   pub woken : ts1.living ≡ woken_each bound c.threads.living

@@ -9,13 +9,13 @@ use Rattle.tree_node.specs.Store.{Store, IsSound}
 use Rattle.kernel_syntax.specs.declared.stmt.Stmt.{Stmt}
 use Rattle.oz_model.specs.Need.{Takes, stack_need}
 use Rattle.oz_model.specs.Effect.{Exchanged, stack_effect}
-use Rattle.oz_model.specs.Answers.{Includes}
+use Rattle.oz_model.specs.Answers.{IsPartOf}
 use Rattle.oz_model.proofs.KeepLemmas.{steps_stay}
 use Rattle.oz_model.proofs.WithinLemmas.{more_is_within}
 use Rattle.oz_model.proofs.NameLemmas.{Each-weaker}
 use Rattle.thread_machine.specs.Fits.{EquationsFit}
 use Rattle.thread_machine.specs.Running.{Running}
-use Rattle.thread_machine.specs.Supply.{site_in, IsMade, HasMade, AreBelow}
+use Rattle.name_supply.specs.Supply.{site_in, IsMade, HasMade, AreBelow}
 use Rattle.thread_machine.proofs.KeepLemmas.{stack_grows}
 use Rattle.thread_roster.specs.Threads.{Entry}
 use Rattle.token_chain.specs.declared.token.Token.{Token}
@@ -48,7 +48,7 @@ exchanges_known p known more s c e grows cell r h = record {
   told_known = grows h.told h.told_known;
 }
 
-pub exchanges_more : (p : List Stmt) (known more : List VarName) (s c : Store) → IsSound c → Includes s c → IsGrown known more → ExchangesStay p known s more c
+pub exchanges_more : (p : List Stmt) (known more : List VarName) (s c : Store) → IsSound c → IsPartOf s c → IsGrown known more → ExchangesStay p known s more c
 exchanges_more p known more s c sound includes grows cell r h =
     let kept = steps_stay p s c r.stack [] sound (more_is_within s c includes) h.need in
     record {

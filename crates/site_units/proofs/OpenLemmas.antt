@@ -17,7 +17,7 @@ use Rattle.tree_node.proofs.ClassLemmas.{Contains-head, Contains-tail, Contains-
 use Rattle.tree_node.proofs.EachLemmas.{each_in}
 use Rattle.tree_node.proofs.OrderLemmas.{Each-member, none}
 use Rattle.kernel_syntax.specs.declared.stmt.Stmt.{Stmt}
-use Rattle.oz_model.specs.Answers.{Includes}
+use Rattle.oz_model.specs.Answers.{IsPartOf}
 use Rattle.oz_model.proofs.NameLemmas.{Each-weaker}
 use Rattle.bind_protocol.specs.Records.{Records, IsKnown, is_own, knowledge, owner_knows}
 use Rattle.variable_owner.specs.declared.owners.Owner.{Owner}
@@ -28,7 +28,7 @@ use Rattle.site_message.specs.Vars.{vars_of, field_vars}
 use Rattle.name_supply.specs.declared.fresh.Fresh.{Fresh}
 use Rattle.thread_machine.specs.Fits.{IsKnown as IsAmong, TermFits, EquationsFit}
 use Rattle.thread_machine.specs.Running.{Running}
-use Rattle.thread_machine.specs.Supply.{site_in, IsMade, HasMade}
+use Rattle.name_supply.specs.Supply.{site_in, IsMade, HasMade}
 use Rattle.thread_machine.proofs.KeepLemmas.{equations_grow}
 use Rattle.thread_roster.specs.Threads.{Threads as Roster, wake, wake_all}
 use Rattle.site_model.specs.Site.{Site, Threads}
@@ -54,7 +54,7 @@ use Rattle.std.proofs.lemmas.Bool.{eq-eqb}
 -- equations and threads afterwards: the new ones are of the bundle, and the threads that waited for some variables go on
 record Brings (es : List Equation) (s t : Site) : Type 0 where
   from : (e : Equation) → Contains t.equations e → Contains s.equations e ⊎ Contains es e
-  includes : Includes s.equations t.equations
+  includes : IsPartOf s.equations t.equations
   bound : List VarName
   woken : t.threads ≡ woken_each bound s.threads
 

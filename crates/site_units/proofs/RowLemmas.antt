@@ -18,7 +18,7 @@ use Rattle.kernel_syntax.specs.Free.{free}
 use Rattle.site_message.specs.declared.message.Sent.{Sent}
 use Rattle.thread_machine.specs.Fits.{StackFits, EquationsFit}
 use Rattle.thread_machine.specs.Running.{Running}
-use Rattle.thread_machine.specs.Supply.{IsMade}
+use Rattle.name_supply.specs.Supply.{IsMade}
 use Rattle.thread_roster.specs.declared.mode.Mode.TheVariants as mode
 use Rattle.thread_roster.specs.Threads.{Threads as Roster}
 use Rattle.token_chain.specs.Holding.{Holding, departure_of}

@@ -17,11 +17,11 @@ use Rattle.oz_model.specs.Step.{end_count, living_stack}
 use Rattle.bind_protocol.specs.Records.{Records}
 use Rattle.thread_machine.specs.declared.answer.StepOut.{StepOut}
 use Rattle.thread_machine.specs.Running.{Running}
-use Rattle.thread_machine.specs.Step.{Goes, effect_of}
+use Rattle.thread_machine.specs.Step.{IsPickStep, effect_of}
 use Rattle.thread_machine.specs.Fits.{EquationsFit}
-use Rattle.thread_machine.specs.Supply.{names_for, known_after, site_in, IsMade, HasMade, AreBelow}
+use Rattle.name_supply.specs.Supply.{names_for, known_after, site_in, IsMade, HasMade, AreBelow}
 use Rattle.name_supply.specs.declared.fresh.Fresh.{Fresh}
-use Rattle.thread_machine.proofs.SupplyLemmas.{kept_after, named_after}
+use Rattle.name_supply.proofs.SupplyLemmas.{kept_after, named_after}
 use Rattle.thread_roster.specs.declared.mode.Mode.TheVariants as mode
 use Rattle.thread_roster.specs.Threads.{Entry, set_value}
 use Rattle.thread_roster.proofs.ThreadLemmas.{each_found, value_there}
@@ -45,7 +45,7 @@ use Rattle.tree_node.proofs.OrderLemmas.{Each-member}
 
 -- the effect of the step
 pub record Taken (p : List Stmt) (c0 c : Core) (r q : Running) (k : Pick) (adds : List Equation) (line : Option (List ℕ)) (born : Option Birth) (cell : CellChange) : Type 0 where
-  pub goes : Goes p r c0.variables.store c0.fresh k q c.variables.store c.fresh
+  pub goes : IsPickStep p r c0.variables.store c0.fresh k q c.variables.store c.fresh
   pub printed : (effect_of p c0.variables.store r k.fresh).line ≡ line
   pub births : (effect_of p c0.variables.store r k.fresh).born ≡ born
   pub change : (effect_of p c0.variables.store r k.fresh).cell ≡ cell

@@ -13,7 +13,7 @@ use Rattle.oz_model.specs.Need.{Takes, stack_need}
 use Rattle.oz_model.specs.Effect.{Exchanged, stack_effect}
 use Rattle.thread_machine.specs.Fits.{StackFits, EquationsFit}
 use Rattle.thread_machine.specs.Running.{Running}
-use Rattle.thread_machine.specs.Supply.{site_in, IsMade, HasMade, AreBelow}
+use Rattle.name_supply.specs.Supply.{site_in, IsMade, HasMade, AreBelow}
 use Rattle.thread_roster.specs.declared.mode.Mode.TheVariants.{WaitsFor}
 use Rattle.thread_roster.specs.Threads.{Entry}
 use Rattle.token_chain.specs.declared.token.Token.{Token}

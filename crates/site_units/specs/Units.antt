@@ -13,7 +13,7 @@ use Rattle.thread_machine.specs.declared.answer.StepOut.{StepOut}
 use Rattle.thread_machine.specs.declared.answer.StepOut.TheVariants as out
 use Rattle.thread_machine.specs.Running.{Running}
 use Rattle.thread_machine.specs.Step.{IsStep, Fits, OutFits, HasThreadSite, fresh_of}
-use Rattle.thread_machine.specs.Supply.{IsMade, HasMade, site_in, AreBelow}
+use Rattle.name_supply.specs.Supply.{IsMade, HasMade, site_in, AreBelow}
 use Rattle.thread_roster.specs.declared.mode.Mode.TheVariants.{Runs}
 use Rattle.thread_roster.specs.Threads.{Entry, set_value}
 use Rattle.site_model.specs.Bundle.{bundle_limit}

@@ -15,7 +15,7 @@ use Rattle.variable_owner.specs.declared.owners.Owner.{Owner}
 use Rattle.variable_owner.specs.declared.owners.Owner.TheVariants.{Open, Bound}
 use Rattle.bind_protocol.specs.Records.{Records, is_own, knowledge, owner_knows, IsKnown}
 use Rattle.bind_protocol.specs.Rows.{after_ask, after_register, after_binding}
-use Rattle.bind_protocol.specs.Learn.{Learns}
+use Rattle.bind_protocol.specs.Learn.{HasLearned}
 use Rattle.bind_protocol.proofs.LearnLemmas.{rows_teach}
 use Rattle.site_variables.specs.declared.variables.Variables.{Variables}
 use Rattle.site_variables.specs.Variables.{IsRecorded, IsLinked, IsGrown}
@@ -68,7 +68,7 @@ none_is es x y r = (λ k. inl k, fro)
 
 -- ---- what the records learn, the store follows
 
-learns_recorded : (es fs : Store) (old new : List VarName) (b c : Records) (x : VarName) (o : Option Term) → IsRecorded es old b → ((r : Term) → knowledge b x ≡ Some (Some r) → ⊥) → Learns b c x (Some o) →
+learns_recorded : (es fs : Store) (old new : List VarName) (b c : Records) (x : VarName) (o : Option Term) → IsRecorded es old b → ((r : Term) → knowledge b x ≡ Some (Some r) → ⊥) → HasLearned b c x (Some o) →
     ((y : VarName) (r : Term) → Contains fs (y, r) ↔ (Contains es (y, r) ⊎ ((y ≡ x) × (o ≡ Some r)))) → ((y : VarName) → Contains new y ↔ (Contains old y ⊎ (y ≡ x))) → IsRecorded fs new c
 learns_recorded es fs old new b c x o h free learns more names = record { bound = λ y r. bound_at y r (name_cases y x); names = λ y. names_at y (name_cases y x) }
   where
@@ -111,12 +111,12 @@ learns_recorded es fs old new b c x o h free learns more names = record { bound 
             go (inr q) = absurd (differs q)
 
 -- one more variable is known to be bound
-pub bound_recorded : (es : Store) (old new : List VarName) (b c : Records) (x : VarName) (t : Term) → IsRecorded es old b → ((r : Term) → knowledge b x ≡ Some (Some r) → ⊥) → Learns b c x (Some (Some t)) →
+pub bound_recorded : (es : Store) (old new : List VarName) (b c : Records) (x : VarName) (t : Term) → IsRecorded es old b → ((r : Term) → knowledge b x ≡ Some (Some r) → ⊥) → HasLearned b c x (Some (Some t)) →
     ((y : VarName) → Contains new y ↔ (Contains old y ⊎ (y ≡ x))) → IsRecorded ((x, t) ∷ es) new c
 bound_recorded es old new b c x t h free learns names = learns_recorded es ((x, t) ∷ es) old new b c x (Some t) h free learns (cons_is es x t) names
 
 -- one more name is known, unbound
-pub named_recorded : (es : Store) (old new : List VarName) (b c : Records) (x : VarName) → IsRecorded es old b → knowledge b x ≡ None → Learns b c x (Some None) →
+pub named_recorded : (es : Store) (old new : List VarName) (b c : Records) (x : VarName) → IsRecorded es old b → knowledge b x ≡ None → HasLearned b c x (Some None) →
     ((y : VarName) → Contains new y ↔ (Contains old y ⊎ (y ≡ x))) → IsRecorded es new c
 named_recorded es old new b c x h unknown learns names = learns_recorded es es old new b c x None h (λ r k. cc) learns (none_is es x) names
 

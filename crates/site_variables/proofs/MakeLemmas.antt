@@ -16,14 +16,14 @@ use Rattle.variable_owner.specs.declared.owners.Owner.TheVariants.{Open, Bound}
 use Rattle.variable_owner.specs.Owners.{owner_of}
 use Rattle.bind_protocol.specs.Records.{Records, is_own, knowledge, owner_knows}
 use Rattle.bind_protocol.specs.Rows.{after_make}
-use Rattle.bind_protocol.specs.Learn.{Learns}
+use Rattle.bind_protocol.specs.Learn.{HasLearned}
 use Rattle.bind_protocol.proofs.LearnLemmas.{rows_teach}
 use Rattle.site_model.specs.Variables.{after_makes}
 use Rattle.site_variables.specs.Variables.{IsRecorded, IsUnion, IsNewOwn}
 use Rattle.site_variables.proofs.LinkLemmas.{same_recorded, named_recorded}
 
 -- those that are left are new
-new_left : (b c : Records) (x : VarName) (o : Option (Option Term)) (xs : List VarName) → Learns b c x o → Each (λ y. x ≢ y) xs → Each (IsNewOwn b) xs → Each (IsNewOwn c) xs
+new_left : (b c : Records) (x : VarName) (o : Option (Option Term)) (xs : List VarName) → HasLearned b c x o → Each (λ y. x ≢ y) xs → Each (IsNewOwn b) xs → Each (IsNewOwn c) xs
 new_left b c x o [] learns differ h = tt
 new_left b c x o (y ∷ ys) learns differ h =
     ((h.0.0 ∙ sym learns.site, learns.others y (λ q. differ.0 (sym q)) ∙ h.0.1), new_left b c x o ys learns differ.1 h.1)
@@ -77,7 +77,7 @@ none_union old new h y = (λ k. go ((h y).0 k), λ k. (h y).1 (inl k))
 makes_recorded : (xs : List VarName) (b : Records) (es : Store) (old new : List VarName) → Each (IsNewOwn b) xs → AreDistinct xs → IsUnion old xs new → IsRecorded es old b → IsRecorded es new (after_makes b xs)
 makes_recorded [] b es old new h distinct union r = same_recorded es old new b b r (λ y. refl) (none_union old new union)
 makes_recorded (x ∷ xs) b es old new h distinct union r =
-    let learns : Learns b (after_make b x) x (Some None) = rows_teach.make b x h.0.0 in
+    let learns : HasLearned b (after_make b x) x (Some None) = rows_teach.make b x h.0.0 in
     makes_recorded xs (after_make b x) es (old ++ x ∷ []) new (new_left b (after_make b x) x (Some None) xs learns distinct.0 h.1) distinct.1 (union_left old xs new x union)
     (named_recorded es old (old ++ x ∷ []) b (after_make b x) x r h.0.1 learns (last_union old x))
 

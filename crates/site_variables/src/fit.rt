@@ -7,7 +7,7 @@ ghost use Rattle.site_model.specs.Site.{Site as TheSite};
 ghost use Rattle.site_model.specs.Fit.{BundleFits};
 ghost use Rattle.site_variables.specs.Fit.{with_variables, CanTakeVariable, EquationFits};
 
-use crate::same::equal_term;
+use crate::equal_terms::equal_term;
 use crate::variables::Variables;
 use site_message::Msg;
 use tree_node::{Term, VarName, is_below};

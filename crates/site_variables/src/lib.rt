@@ -19,10 +19,10 @@
 //! Source: Haridi and others, *Efficient Logic Variables for Distributed Computing* (TOPLAS 21(3), 1999).
 #![tactic(auto)]
 
+mod equal_terms;
 mod fit;
 mod meeting;
 mod names;
-mod same;
 mod threads;
 mod variables;
 

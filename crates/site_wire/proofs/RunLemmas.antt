@@ -9,7 +9,7 @@ use Rattle.kernel_syntax.specs.Program.{IsProgram}
 use Rattle.site_message.specs.declared.turn.Turn.{Turn}
 use Rattle.site_message.specs.Story.{own}
 use Rattle.site_message.specs.Wire.{IsSite}
-use Rattle.oz_model.specs.Covered.{Covers}
+use Rattle.oz_model.specs.Covered.{IsCovering}
 use Rattle.oz_model.specs.Effect.{body_item}
 use Rattle.oz_model.specs.Run.{start, first_thread}
 use Rattle.site_model.specs.Site.{Site, initial_site, runnable_threads}
@@ -27,7 +27,7 @@ module _ (p : List Stmt) (is : IsProgram p) (i : ℕ) where
   first_stack = record {
     names = (subst (λ (ks : List ℕ). EachOfEnv IsOfSites (restriction ks [])) (sym is.closed) tt, tt);
     nodes = (tt, tt);
-    covered = (subst (λ (ks : List ℕ). Covers (restriction ks []) ks) (sym is.closed) tt, tt);
+    covered = (subst (λ (ks : List ℕ). IsCovering (restriction ks []) ks) (sym is.closed) tt, tt);
   }
 
   first_threads : (b : Bool) → ThreadsFit p i (cond b 1 0) (cond b (runnable_threads (start p).threads) []) (queue_in [])

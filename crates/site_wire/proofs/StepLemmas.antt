@@ -14,7 +14,7 @@ use Rattle.tree_node.specs.declared.item.Item.TheVariants.{Run, Goals, Mark, Rep
 use Rattle.tree_node.specs.Assoc.{value_of, with_optional_value}
 use Rattle.tree_node.specs.Each.{Each}
 use Rattle.tree_node.specs.Env.{Env, env_for}
-use Rattle.tree_node.specs.Goal.{Allows, Case, Dropped, Binds, Opened, Failed, case_of}
+use Rattle.tree_node.specs.Goal.{IsAllowedBind, Case, Dropped, Binds, Opened, Failed, case_of}
 use Rattle.tree_node.specs.Shown.{shown}
 use Rattle.tree_node.specs.State.{Stack, equal_thread}
 use Rattle.tree_node.specs.Store.{Store, Equation}
@@ -285,7 +285,7 @@ module _ (p : List Stmt) (is : IsProgram p) (n limit : ℕ) (high : limit ≤ 25
 
   -- ---- binds
 
-  bind_attempts_fit : (s : Site) (th : ThreadName) (st : Stack) (a b : Term) (u : VarName) (t : Term) (c : Bool) → thread_state s th ≡ Some (st, Runs) → stack_need p s.equations st ≡ need.Binds a b → Allows s.equations a b (u, t) → SiteFits p i s
+  bind_attempts_fit : (s : Site) (th : ThreadName) (st : Stack) (a b : Term) (u : VarName) (t : Term) (c : Bool) → thread_state s th ≡ Some (st, Runs) → stack_need p s.equations st ≡ need.Binds a b → IsAllowedBind s.equations a b (u, t) → SiteFits p i s
       → TransitionFits p i (bind_attempt p n limit th st u t c s)
   bind_attempts_fit s th st a b u t c now needs allows h = go c
     where

@@ -13,7 +13,7 @@ use Rattle.site_message.specs.declared.reason.Reason.{Reason}
 use Rattle.site_message.specs.Journal.{Wired, Limits}
 use Rattle.message_book.specs.Book.{IsSiteOf, AreSites}
 use Rattle.book_lock.specs.declared.lock.SiteSeat.{SiteSeat}
-use Rattle.book_lock.specs.Rule.{Agrees, Each}
+use Rattle.book_lock.specs.Rule.{AreInAgreement, Each}
 use Rattle.book_lock.specs.Seats.{last_seen, IsOutsideOf}
 use Rattle.book_lock.proofs.Deals.{each_last}
 use Rattle.site_model.specs.Bundle.{bundle_limit}
@@ -58,7 +58,7 @@ All-cons P x xs p all (suc k) d below = all k d (omega arith)
 
 -- what the value agrees with at the end
 abbrev AgreesWith : Sight → SiteSeat → Type 0
-AgreesWith x s = Agrees s.site x (last_seen s)
+AgreesWith x s = AreInAgreement s.site x (last_seen s)
 
 all_agree : (x : Sight) (hs : List Host) → Each (AgreesWith x) (back_seats hs) → All (λ (h : Host). AgreesWith x h.site.seat) hs
 all_agree x [] each = λ k d below. absurd (omega arith)
@@ -73,7 +73,7 @@ same_sites table p x h is of = sym is.seated.sites ∙ ap (λ (l : List ℕ). sl
 
 one_runs : (table : TableId) (p : List Stmt) (l : Limits) (x : Sight) (h : Host) → IsHost table h → IsHostOf p (fixed_part l) h → AgreesWith x h.site.seat → HasRun p l.sites x.entries h
 one_runs table p l x h is of a =
-    let b : Agrees h.number x (sight h) = subst (λ (k : ℕ). Agrees k x (sight h)) (sym is.seated.seat) a in
+    let b : AreInAgreement h.number x (sight h) = subst (λ (k : ℕ). AreInAgreement k x (sight h)) (sym is.seated.seat) a in
     let sites : sites_of h ≡ l.sites = same_sites table p (fixed_part l) h is of in
     let run : SiteRun p l.sites bundle_limit h.number (sight h).entries is.state =
     subst (λ (z : List Stmt × ℕ). SiteRun z.0 z.1 bundle_limit h.number (sight h).entries is.state) (λ i. (of.0 i, sites i)) is.run in

@@ -12,7 +12,7 @@ use Rattle.site_message.specs.Journal.{sent_of}
 use Rattle.site_message.specs.Story.{own, hand}
 use Rattle.message_book.specs.Book.{IsSiteOf, without_delivered}
 use Rattle.book_lock.specs.declared.lock.SiteSeat.{SiteSeat}
-use Rattle.book_lock.specs.Rule.{BeginsWith}
+use Rattle.book_lock.specs.Rule.{IsContinuation}
 use Rattle.book_lock.specs.Seats.{last_seen, IsOutsideOf}
 use Rattle.site_model.specs.Site.{Site, is_idle}
 use Rattle.site_model.specs.Bundle.{bundle_limit}
@@ -54,7 +54,7 @@ seated_later table h x mine out same fixed = record {
   program = mine.program;
 }
 
-come_later : (h : Host) (x : SiteSeat) (s : Site) → BeginsWith (last_seen x).entries (sight h).entries → HasNoEntry h.number (sight h) (last_seen x) → HasCome h s → HasCome (with_seat h x) s
+come_later : (h : Host) (x : SiteSeat) (s : Site) → IsContinuation (last_seen x).entries (sight h).entries → HasNoEntry h.number (sight h) (last_seen x) → HasCome h s → HasCome (with_seat h x) s
 come_later h x s on same come = record {
   run = run_later (program_of h) (sites_of h) bundle_limit h.number (sight h).entries (last_seen x).entries s on same come.run;
   state = come.state;
@@ -96,7 +96,7 @@ module _ (table : TableId) (h : Host) (x : SiteSeat) (mine : IsHost table h) (ou
   fetched_from (Over r) a =
       let found = a.2 in
       let own_same : HasNoEntry h.number (sight h) (last_seen x) = ap (own h.number) found.1 ∙ a.1.own_entries in
-      let on : BeginsWith (last_seen x).entries (sight h).entries = subst (λ (es : List Turn). BeginsWith es (sight h).entries) (sym found.1) a.1.begins in (
+      let on : IsContinuation (last_seen x).entries (sight h).entries = subst (λ (es : List Turn). IsContinuation es (sight h).entries) (sym found.1) a.1.begins in (
         record {
           seated = seated_later table h x mine.seated out same a.3;
           state = mine.state;
@@ -112,7 +112,7 @@ module _ (table : TableId) (h : Host) (x : SiteSeat) (mine : IsHost table h) (ou
       let now = a.0 in
       let found = a.2 in
       let own_same : HasNoEntry h.number (sight h) (last_seen x) = ap (own h.number) found.2 ∙ a.1.own_entries in
-      let on : BeginsWith (last_seen x).entries (sight h).entries = subst (λ (es : List Turn). BeginsWith es (sight h).entries) (sym found.2) a.1.begins in
+      let on : IsContinuation (last_seen x).entries (sight h).entries = subst (λ (es : List Turn). IsContinuation es (sight h).entries) (sym found.2) a.1.begins in
       let live : h.spent ≡ false = alive h.spent h.spent refl (λ yes. let t = mine.over yes in let e = sym (a.1.reason t.0 t.1) ∙ found.0 in cc) in
       let is = mine.live live in
       let come = come_later h x mine.state on own_same is.0 in
@@ -232,7 +232,7 @@ own_first : (k : ℕ) (e : Turn) (es : List Turn) → e.site ≡ k → own k (e 
 own_first k e es is = ap (λ b. cond b (e ∷ own k es) (own k es)) (eq-eqb e.site k is)
 
 -- a turn that was made is one over any journal that begins with what was seen
-entry_over : (table : TableId) (h : Host) (e : Turn) (es : List Turn) → HasTurned table h e → BeginsWith es (sight h).entries → own h.number es ≡ own h.number (sight h).entries → IsRunTo h (e ∷ es) (state_of h)
+entry_over : (table : TableId) (h : Host) (e : Turn) (es : List Turn) → HasTurned table h e → IsContinuation es (sight h).entries → own h.number es ≡ own h.number (sight h).entries → IsRunTo h (e ∷ es) (state_of h)
 entry_over table h e es mine on same =
     let before = run_later (program_of h) (sites_of h) bundle_limit h.number (sight h).entries es mine.before on same mine.run in
     let message : message_in mine.taken ≡ delivered_message es e.delivered =
@@ -254,7 +254,7 @@ sent_fits law table h e mine =
 
 module _ (table : TableId) (h : Host) (e : Turn) (x : SiteSeat) (mine : HasTurned table h e) (out : IsOutsideOf table x) (same : x.site ≡ h.site.seat.site) where
   posted_host : (o : Option Reason) → Since h.number (sight h) (last_seen x) (λ now. HasDelivered e now (last_seen x) (Posted o))
-      → IsHost table (with_seat h x) × ((last_seen x).reason ≡ o) × HasEntry h.number (sight h) (last_seen x) e × (hand h.number (last_seen x).hands ≡ []) × BeginsWith (last_seen x).entries (sight h).entries
+      → IsHost table (with_seat h x) × ((last_seen x).reason ≡ o) × HasEntry h.number (sight h) (last_seen x) e × (hand h.number (last_seen x).hands ≡ []) × IsContinuation (last_seen x).entries (sight h).entries
   posted_host o a =
       let now = a.0 in
       let found = a.2 in
@@ -278,11 +278,11 @@ module _ (table : TableId) (h : Host) (e : Turn) (x : SiteSeat) (mine : HasTurne
       )
 
   refused_host : (r : Reason) → Since h.number (sight h) (last_seen x) (λ now. HasDelivered e now (last_seen x) (Refused r))
-      → IsHost table (record (with_seat h x) { spent = true }) × ((last_seen x).reason ≡ Some r) × HasNoEntry h.number (sight h) (last_seen x) × BeginsWith (last_seen x).entries (sight h).entries
+      → IsHost table (record (with_seat h x) { spent = true }) × ((last_seen x).reason ≡ Some r) × HasNoEntry h.number (sight h) (last_seen x) × IsContinuation (last_seen x).entries (sight h).entries
   refused_host r a =
       let found = a.2 in
       let own_same : HasNoEntry h.number (sight h) (last_seen x) = ap (own h.number) found.0 ∙ a.1.own_entries in
-      let on : BeginsWith (last_seen x).entries (sight h).entries = subst (λ (es : List Turn). BeginsWith es (sight h).entries) (sym found.0) a.1.begins in
+      let on : IsContinuation (last_seen x).entries (sight h).entries = subst (λ (es : List Turn). IsContinuation es (sight h).entries) (sym found.0) a.1.begins in
       let seated = seated_later table h x mine.seated out same a.3 in (
         record {
           seated = record { outside = seated.outside; seat = seated.seat; site = seated.site; sites = seated.sites; range = seated.range; most = seated.most; program = seated.program };
@@ -302,7 +302,7 @@ failed_host : (table : TableId) (h : Host) (x : SiteSeat) (mine : HasFailed tabl
 failed_host table h x mine out same r a =
     let found = a.2 in
     let own_same : HasNoEntry h.number (sight h) (last_seen x) = ap (own h.number) found.1 ∙ a.1.own_entries in
-    let on : BeginsWith (last_seen x).entries (sight h).entries = subst (λ (es : List Turn). BeginsWith es (sight h).entries) (sym found.1) a.1.begins in (
+    let on : IsContinuation (last_seen x).entries (sight h).entries = subst (λ (es : List Turn). IsContinuation es (sight h).entries) (sym found.1) a.1.begins in (
       record {
         seated = seated_later table h x mine.seated out same a.3;
         state = mine.before;
@@ -321,13 +321,13 @@ lent y z k new P is number a = subst (λ (i : ℕ). Since i (last_seen z) new P)
 
 pub posted_by : (table : TableId) (h : Host) (e : Turn) (y x : SiteSeat) → y ≡ h.site.seat → HasTurned table h e → IsOutsideOf table x × (x.site ≡ y.site) → (o : Option Reason)
     → Since y.site (last_seen y) (last_seen x) (λ now. HasDelivered e now (last_seen x) (Posted o))
-    → IsHost table (with_seat h x) × ((last_seen x).reason ≡ o) × HasEntry h.number (sight h) (last_seen x) e × (hand h.number (last_seen x).hands ≡ []) × BeginsWith (last_seen x).entries (sight h).entries
+    → IsHost table (with_seat h x) × ((last_seen x).reason ≡ o) × HasEntry h.number (sight h) (last_seen x) e × (hand h.number (last_seen x).hands ≡ []) × IsContinuation (last_seen x).entries (sight h).entries
 posted_by table h e y x is mine out o a =
     posted_host table h e x mine out.0 (out.1 ∙ ap (λ (z : SiteSeat). z.site) is) o (lent y h.site.seat h.number (last_seen x) (λ now. HasDelivered e now (last_seen x) (Posted o)) is mine.seated.seat a)
 
 pub refused_by : (table : TableId) (h : Host) (e : Turn) (y x : SiteSeat) → y ≡ h.site.seat → HasTurned table h e → IsOutsideOf table x × (x.site ≡ y.site) → (r : Reason)
     → Since y.site (last_seen y) (last_seen x) (λ now. HasDelivered e now (last_seen x) (Refused r))
-    → IsHost table (record (with_seat h x) { spent = true }) × ((last_seen x).reason ≡ Some r) × HasNoEntry h.number (sight h) (last_seen x) × BeginsWith (last_seen x).entries (sight h).entries
+    → IsHost table (record (with_seat h x) { spent = true }) × ((last_seen x).reason ≡ Some r) × HasNoEntry h.number (sight h) (last_seen x) × IsContinuation (last_seen x).entries (sight h).entries
 refused_by table h e y x is mine out r a =
     refused_host table h e x mine out.0 (out.1 ∙ ap (λ (z : SiteSeat). z.site) is) r (lent y h.site.seat h.number (last_seen x) (λ now. HasDelivered e now (last_seen x) (Refused r)) is mine.seated.seat a)
 
@@ -355,7 +355,7 @@ pub made_turn : (a b c d : Host) (limit : ℕ) (o : Option (ℕ × Msg)) (e : Tu
     → (b.number ≡ a.number) × (program_of b ≡ program_of a) × (sites_of b ≡ sites_of a) × (fixed_of b ≡ fixed_of a) × (state_of b ≡ state_of a)
     → HasNoEntry a.number (sight a) (sight b) → limit ≡ book_steps (sight b) → delivered_message (sight b).entries (number_in o) ≡ message_in o
     → (c.number ≡ b.number) × (c.site.seat ≡ b.site.seat) → IsTurnMade (program_of b) (sites_of b) (state_of b) o (min (limit - (state_of b).steps) 64) e (state_of c)
-    → HasEntry c.number (sight c) (sight d) e → state_of d ≡ state_of c → BeginsWith (sight d).entries (sight c).entries → (o ≡ None → is_idle (state_of a) ≡ false) → HasMadeTurn a d
+    → HasEntry c.number (sight c) (sight d) e → state_of d ≡ state_of c → IsContinuation (sight d).entries (sight c).entries → (o ≡ None → is_idle (state_of a) ≡ false) → HasMadeTurn a d
 made_turn a b c d limit o e same none left content seat turn posted state begins cause =
     let number : c.number ≡ a.number = seat.0 ∙ same.0 in
     let mine : own a.number (sight d).entries ≡ e ∷ own a.number (sight c).entries = subst (λ k. own k (sight d).entries ≡ e ∷ own k (sight c).entries) number posted in

@@ -8,7 +8,7 @@ use Rattle.site_message.specs.declared.turn.Turn.{Turn}
 use Rattle.site_message.specs.Journal.{sent_of}
 use Rattle.site_message.specs.Story.{own}
 use Rattle.message_book.specs.Book.{AreSites, IsSiteOf}
-use Rattle.book_lock.specs.Rule.{BeginsWith, Each}
+use Rattle.book_lock.specs.Rule.{IsContinuation, Each}
 use Rattle.site_model.specs.Site.{Site, initial_site}
 use Rattle.site_model.specs.Run.{SiteRun, IsEntry, IsReachedBy, IsSiteIn, delivered_message, message_of}
 use Rattle.site_core.specs.Seated.{message_in, number_in}
@@ -26,7 +26,7 @@ sent_with None m e = absurd (cc)
 sent_with (Some s) m e = (s, refl, e)
 
 -- a message that was taken keeps its number
-pub message_later : (old new : List Turn) (o : Option (ℕ × Msg)) → BeginsWith new old → delivered_message old (number_in o) ≡ message_in o → delivered_message new (number_in o) ≡ message_in o
+pub message_later : (old new : List Turn) (o : Option (ℕ × Msg)) → IsContinuation new old → delivered_message old (number_in o) ≡ message_in o → delivered_message new (number_in o) ≡ message_in o
 message_later old new None on h = refl
 message_later old new (Some x) on h =
     let t = sent_later on.0 old in
@@ -68,7 +68,7 @@ module _ (p : List Stmt) (n limit k : ℕ) where
   run_more (e ∷ more) j s same run = more_step e more j s (eqb e.site k) refl same (λ others. run_more more j s others run)
 
   -- a longer journal in which the site has no new entry
-  pub run_later : (old new : List Turn) (s : Site) → BeginsWith new old → own k new ≡ own k old → SiteRun p n limit k old s → SiteRun p n limit k new s
+  pub run_later : (old new : List Turn) (s : Site) → IsContinuation new old → own k new ≡ own k old → SiteRun p n limit k old s → SiteRun p n limit k new s
   run_later old new s on same run = subst (λ j. SiteRun p n limit k j s) (sym on.1) (run_more on.0 old s (ap (own k) (sym on.1) ∙ same) run)
 
   -- a site without entries

@@ -8,7 +8,7 @@ use Rattle.site_message.specs.declared.turn.Turn.{Turn}
 use Rattle.site_message.specs.declared.story.Sight.{Sight}
 use Rattle.site_message.specs.declared.reason.Reason.{Reason}
 use Rattle.site_message.specs.Story.{hand}
-use Rattle.wire_form.specs.Format.{Spells}
+use Rattle.wire_form.specs.Format.{IsSpelling}
 use Rattle.message_book.specs.Book.{IsSiteOf}
 use Rattle.book_lock.specs.declared.lock.SiteSeat.{SiteSeat}
 use Rattle.book_lock.specs.Seats.{last_seen, IsOutsideOf}
@@ -96,7 +96,7 @@ abbrev pub IsSpelledBy : Option (ℕ × List ℕ) → Option (ℕ × Msg) → Ty
 IsSpelledBy None None = Unit {0}
 IsSpelledBy None (Some m) = ⊥
 IsSpelledBy (Some x) None = ⊥
-IsSpelledBy (Some x) (Some m) = (m.0 ≡ x.0) × Spells x.1 m.1
+IsSpelledBy (Some x) (Some m) = (m.0 ≡ x.0) × IsSpelling x.1 m.1
 
 -- the same where the bytes of the message were taken
 abbrev pub HasSpelling : TableId → Host → Option (ℕ × List ℕ) → Type 0

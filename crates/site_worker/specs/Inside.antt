@@ -7,9 +7,9 @@ use Rattle.site_message.specs.declared.reason.Reason.{Reason}
 use Rattle.site_message.specs.declared.reason.Reason.TheVariants.{Memory}
 use Rattle.site_message.specs.Journal.{IsTravelling, sent_of}
 use Rattle.site_message.specs.Story.{hand}
-use Rattle.wire_form.specs.Format.{Spells}
+use Rattle.wire_form.specs.Format.{IsSpelling}
 use Rattle.message_book.specs.Book.{BookState, without_delivered, first_reason}
-use Rattle.book_lock.specs.Rule.{Agrees}
+use Rattle.book_lock.specs.Rule.{AreInAgreement}
 use Rattle.site_worker.specs.declared.inside.Fetched.{Fetched}
 use Rattle.site_worker.specs.declared.inside.Fetched.TheVariants.{Over, Open}
 use Rattle.site_worker.specs.declared.inside.Delivered.{Delivered}
@@ -29,7 +29,7 @@ NoneWaits k x = (n : ℕ) (m : Msg) → IsTravelling x.entries n (record { to = 
 
 -- the bytes spell the message that was sent to the site k by this number
 abbrev pub IsSentSpelling : ℕ → Sight → ℕ → List ℕ → Type 0
-IsSentSpelling k x n bytes = (m : Msg) × (slice_get (sent_of x.entries) n ≡ Some (record { to = k; msg = m })) × Spells bytes m
+IsSentSpelling k x n bytes = (m : Msg) × (slice_get (sent_of x.entries) n ≡ Some (record { to = k; msg = m })) × IsSpelling bytes m
 
 -- a message that was sent to the site k is in hand besides, as the bytes that spell it; or none waits, and nothing changed
 abbrev pub HasTaken : ℕ → Sight → Sight → Option (ℕ × List ℕ) → Type 0
@@ -59,4 +59,4 @@ HasClosed old new r = (new.reason ≡ Some r) × (new.entries ≡ old.entries)
 -- when the seat of the site k came in it found what it had left and what others did since; P is of what it found. The fixed
 -- part stays
 abbrev pub Since : ℕ → Sight → Sight → (Sight → Type 0) → Type 0
-Since k old new P = (now : Sight) × Agrees k now old × P now × (new.fixed ≡ old.fixed)
+Since k old new P = (now : Sight) × AreInAgreement k now old × P now × (new.fixed ≡ old.fixed)

@@ -2,7 +2,7 @@
 
 ghost use Rattle.std.specs.Prelude.{◌≡◌, ◌≤◌, ◌-◌, min, ℕ, false, Option, IfOk, IfSome};
 ghost use Rattle.atomic_table.specs.Seated.{TableId};
-ghost use Rattle.book_lock.specs.Rule.{BeginsWith};
+ghost use Rattle.book_lock.specs.Rule.{IsContinuation};
 ghost use Rattle.book_lock.specs.Seats.{lock_id, last_seen};
 ghost use Rattle.kernel_syntax.specs.Program.{IsProgram};
 ghost use Rattle.site_message.specs.declared.message.Msg.{Msg as AMsg};
@@ -153,7 +153,7 @@ impl<'a> Host<'a> {
         ensures host { IsHost (lock_id lock.now) self.new × IsSameHost self.old self.new }
         ensures visited { IsSecondHalf self.old.number turn (sight self.old) (sight self.new) result }
         ensures state { state_of self.new ≡ state_of self.old }
-        ensures begins { BeginsWith (sight self.new).entries (sight self.old).entries }
+        ensures begins { IsContinuation (sight self.new).entries (sight self.old).entries }
     {
         match seats::deliver(rt, lock, self.site.seat(), turn) {
             Delivered::Posted(None) => Visited::Did,

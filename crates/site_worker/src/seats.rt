@@ -3,7 +3,7 @@
 ghost use Rattle.std.specs.Prelude.{◌≡◌, ℕ, Some, Contains};
 ghost use Rattle.site_message.specs.Story.{hand};
 ghost use Rattle.message_book.specs.Book.{IsSiteOf};
-ghost use Rattle.book_lock.specs.Rule.{Agrees};
+ghost use Rattle.book_lock.specs.Rule.{AreInAgreement};
 ghost use Rattle.book_lock.specs.Seats.{lock_id, last_seen, IsOutsideOf};
 ghost use Rattle.site_message.specs.declared.story.Sight.{Sight};
 ghost use Rattle.site_worker.specs.Inside.{HasFetched, HasDelivered, HasClosed, Since, book_sites};

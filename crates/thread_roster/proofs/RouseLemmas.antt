@@ -8,7 +8,7 @@ use Rattle.thread_roster.specs.declared.mode.Mode.{Mode}
 use Rattle.thread_roster.specs.declared.mode.Mode.TheVariants as mode
 use Rattle.thread_roster.specs.declared.slot.Held.{Held}
 use Rattle.thread_roster.specs.Threads.{Entry, wake, wake_all, is_waiting, waiting_of, AllWait}
-use Rattle.thread_roster.specs.Slots.{Slot, entry, threads_in, rouse, rouse_at, rouse_all, StandsAt, total, one, weight, waiting}
+use Rattle.thread_roster.specs.Slots.{Slot, entry, threads_in, rouse, rouse_at, rouse_all, IsModeAt, total, one, weight, waiting}
 
 -- ---- one slot
 
@@ -57,7 +57,7 @@ not_roused : {V : Type 0} (x : VarName) (o : Slot V) → ((h : Held V) → o ≡
 not_roused x None h = refl
 not_roused {V} x (Some k) h = ap (λ (m : Mode). Some (record k { mode = m })) (not_woken x k.mode (λ e. h k refl e))
 
-none_waits : {V : Type 0} (x : VarName) (slots : List (Slot V)) → ((j : ℕ) → StandsAt slots j (mode.Waits x) → ⊥) → map (rouse x) slots ≡ slots
+none_waits : {V : Type 0} (x : VarName) (slots : List (Slot V)) → ((j : ℕ) → IsModeAt slots j (mode.Waits x) → ⊥) → map (rouse x) slots ≡ slots
 none_waits x [] h = refl
 none_waits {V} x (o ∷ slots) h =
     let head : rouse x o ≡ o = not_roused x o (λ e is m. h 0 (e, ap Some is, m)) in
@@ -85,7 +85,7 @@ roused_goes x None h is m = cc
 roused_goes {V} x (Some d) h is m = wake_goes x d.mode (ap (λ (o : Slot V). mode_in o) is ∙ m)
 
 -- a slot that waits after one was roused is another, and waited before
-waits_before : {V : Type 0} (x : VarName) (slots : List (Slot V)) (k j : ℕ) → StandsAt (rouse_at x slots k) j (mode.Waits x) → (j ≢ k) × StandsAt slots j (mode.Waits x)
+waits_before : {V : Type 0} (x : VarName) (slots : List (Slot V)) (k j : ℕ) → IsModeAt (rouse_at x slots k) j (mode.Waits x) → (j ≢ k) × IsModeAt slots j (mode.Waits x)
 waits_before x [] k j w = cc
 waits_before x (o ∷ slots) zero zero w = absurd (roused_goes x o w.0 (cc) w.2)
 waits_before x (o ∷ slots) zero (suc j) w = (omega arith, w)
@@ -94,14 +94,14 @@ waits_before x (o ∷ slots) (suc k) (suc j) w =
     let b = waits_before x slots k j w in (λ (same : suc j ≡ suc k). b.0 (omega (arith, same)), b.1)
 
 -- where each slot that waits is among the keys, all that wait are roused
-pub roused_all : {V : Type 0} (x : VarName) (slots : List (Slot V)) (keys : List ℕ) → ((j : ℕ) → StandsAt slots j (mode.Waits x) → Contains keys j) → rouse_all x slots keys ≡ map (rouse x) slots
+pub roused_all : {V : Type 0} (x : VarName) (slots : List (Slot V)) (keys : List ℕ) → ((j : ℕ) → IsModeAt slots j (mode.Waits x) → Contains keys j) → rouse_all x slots keys ≡ map (rouse x) slots
 roused_all x slots [] h = sym (none_waits x slots (λ j w. nothing j (h j w)))
   where
     nothing : (j : ℕ) → Contains [] j → ⊥
     nothing j (k, below, is) = absurd (omega arith)
 roused_all {V} x slots (k ∷ keys) h = roused_all x (rouse_at x slots k) keys (λ j w. among j (waits_before x slots k j w)) ∙ map_rouse_at x slots k
   where
-    among : (j : ℕ) → (j ≢ k) × StandsAt slots j (mode.Waits x) → Contains keys j
+    among : (j : ℕ) → (j ≢ k) × IsModeAt slots j (mode.Waits x) → Contains keys j
     among j b = go (Contains-cons_cases k j keys (h j b.1))
       where
         go : (k ≡ j) ⊎ Contains keys j → Contains keys j

@@ -9,7 +9,7 @@ use Rattle.tree_node.specs.State.{equal_thread}
 use Rattle.thread_roster.specs.declared.mode.Mode.{Mode}
 use Rattle.thread_roster.specs.declared.slot.Held.{Held}
 use Rattle.thread_roster.specs.Threads.{Entry, set_value, set_mode, is_waiting}
-use Rattle.thread_roster.specs.Slots.{Slot, entry, threads_in, Lacks, Holds, IsOnlyAt, IsPlaced, ArePlaced, total, one, weight, waiting}
+use Rattle.thread_roster.specs.Slots.{Slot, entry, threads_in, IsNotSlotOf, IsSlotOf, IsOnlyAt, IsPlaced, ArePlaced, total, one, weight, waiting}
 use Rattle.thread_roster.proofs.NameLemmas.{is_same, is_other, name_cases, value_right, value_left, one_here, one_other, without_append, without_none, set_both, both_left, both_right, set_value_both, set_mode_both}
 use Rattle.std.proofs.lemmas.List.{append-nil}
 
@@ -17,7 +17,7 @@ use Rattle.std.proofs.lemmas.List.{append-nil}
 pub at_index : {X : Type 0} (xs : List X) (i : ℕ) (x : X) → i < length xs → x ≡ get_or xs i x → slice_get xs i ≡ Some x
 at_index xs i x below e = slice_get-get_or xs i x below ∙ ap Some (sym e)
 
-pub lacking : {V : Type 0} (n : ThreadName) (slots : List (Slot V)) → Each (Lacks n) slots → value_of equal_thread (threads_in slots) n ≡ None
+pub lacking : {V : Type 0} (n : ThreadName) (slots : List (Slot V)) → Each (IsNotSlotOf n) slots → value_of equal_thread (threads_in slots) n ≡ None
 lacking n [] h = refl
 lacking n (None ∷ slots) h = lacking n slots h.1
 lacking n (Some h ∷ slots) l = value_right (threads_in slots) (entry h ∷ []) n (lacking n slots l.1) ∙ one_other (entry h) n l.0
@@ -45,7 +45,7 @@ only_inside (o ∷ slots) n zero l = omega arith
 only_inside (o ∷ slots) n (suc i) l = let below : i < length slots = only_inside slots n i l.1 in omega (arith, below)
 
 -- the slot where a thread of this name is found is the only one
-not_here : {V : Type 0} (slots : List (Slot V)) (i : ℕ) (h : Held V) (n : ThreadName) → slice_get slots i ≡ Some (Some h) → h.name ≡ n → Each (Lacks n) slots → ⊥
+not_here : {V : Type 0} (slots : List (Slot V)) (i : ℕ) (h : Held V) (n : ThreadName) → slice_get slots i ≡ Some (Some h) → h.name ≡ n → Each (IsNotSlotOf n) slots → ⊥
 not_here [] i h n e is l = cc
 not_here (None ∷ slots) zero h n e is l = cc
 not_here (Some k ∷ slots) zero h n e is l = let same : k ≡ h = cc in l.0 (ap (λ (u : Held _). u.name) same ∙ is)
@@ -59,20 +59,20 @@ same_slot (None ∷ slots) zero (suc j) h n e is l = cc
 same_slot (Some k ∷ slots) zero (suc j) h n e is l = let same : k ≡ h = cc in absurd (l.0 (ap (λ (u : Held _). u.name) same ∙ is))
 same_slot (o ∷ slots) (suc i) (suc j) h n e is l = ap suc (same_slot slots i j h n e is l.1)
 
-pub placed_there : {V : Type 0} (slots : List (Slot V)) (place : ThreadName → Option ℕ) (i : ℕ) (h : Held V) (n : ThreadName) → ArePlaced slots place → slice_get slots i ≡ Some (Some h) → h.name ≡ n → place n ≡ Some i
-placed_there {V} slots place i h n all e is = go (place n) refl (all n)
+pub placed_there : {V : Type 0} (slots : List (Slot V)) (slot : ThreadName → Option ℕ) (i : ℕ) (h : Held V) (n : ThreadName) → ArePlaced slots slot → slice_get slots i ≡ Some (Some h) → h.name ≡ n → slot n ≡ Some i
+placed_there {V} slots slot i h n all e is = go (slot n) refl (all n)
   where
-    go : (o : Option ℕ) → place n ≡ o → IsPlaced slots n o → place n ≡ Some i
+    go : (o : Option ℕ) → slot n ≡ o → IsPlaced slots n o → slot n ≡ Some i
     go None p l = absurd (not_here slots i h n e is l)
     go (Some j) p l = p ∙ ap Some (same_slot slots i j h n e is l)
 
-pub only_at : {V : Type 0} (slots : List (Slot V)) (place : ThreadName → Option ℕ) (n : ThreadName) (i : ℕ) → ArePlaced slots place → place n ≡ Some i → IsOnlyAt n slots i
-only_at slots place n i all e = subst (λ (o : Option ℕ). IsPlaced slots n o) e (all n)
+pub only_at : {V : Type 0} (slots : List (Slot V)) (slot : ThreadName → Option ℕ) (n : ThreadName) (i : ℕ) → ArePlaced slots slot → slot n ≡ Some i → IsOnlyAt n slots i
+only_at slots slot n i all e = subst (λ (o : Option ℕ). IsPlaced slots n o) e (all n)
 
 -- a name with a value has a slot
-pub has_place : {V : Type 0} (slots : List (Slot V)) (place : ThreadName → Option ℕ) (n : ThreadName) → ArePlaced slots place → IsSome (value_of equal_thread (threads_in slots) n) → None ≡ place n → ⊥
-has_place {V} slots place n all some none =
-    let lacks : Each (Lacks n) slots = subst (λ (o : Option ℕ). IsPlaced slots n o) (sym none) (all n) in
+pub has_place : {V : Type 0} (slots : List (Slot V)) (slot : ThreadName → Option ℕ) (n : ThreadName) → ArePlaced slots slot → IsSome (value_of equal_thread (threads_in slots) n) → None ≡ slot n → ⊥
+has_place {V} slots slot n all some none =
+    let lacks : Each (IsNotSlotOf n) slots = subst (λ (o : Option ℕ). IsPlaced slots n o) (sym none) (all n) in
     let gone : value_of equal_thread (threads_in slots) n ≡ None = lacking n slots lacks in
     go (value_of equal_thread (threads_in slots) n) some gone
   where
@@ -124,16 +124,16 @@ thread_born {V} (Some g ∷ slots) h = ap (λ (xs : List (Entry V)). xs ++ entry
 
 -- ---- the table of places
 
-other_set : {V : Type 0} (n k : ThreadName) (slots : List (Slot V)) (i : ℕ) (o : Slot V) → IsOnlyAt n slots i → Lacks k o → Each (Lacks k) slots → Each (Lacks k) (slice_set slots i o)
+other_set : {V : Type 0} (n k : ThreadName) (slots : List (Slot V)) (i : ℕ) (o : Slot V) → IsOnlyAt n slots i → IsNotSlotOf k o → Each (IsNotSlotOf k) slots → Each (IsNotSlotOf k) (slice_set slots i o)
 other_set n k [] i o h l each = tt
 other_set n k (x ∷ slots) zero o h l each = (l, each.1)
 other_set n k (x ∷ slots) (suc i) o h l each = (each.0, other_set n k slots i o h.1 l each.1)
 
-holds_lacks : {V : Type 0} (n k : ThreadName) (o : Slot V) → n ≢ k → Holds n o → Holds k o → ⊥
+holds_lacks : {V : Type 0} (n k : ThreadName) (o : Slot V) → n ≢ k → IsSlotOf n o → IsSlotOf k o → ⊥
 holds_lacks n k None differs a b = absurd a
 holds_lacks n k (Some v) differs a b = differs (sym a ∙ b)
 
-only_set : {V : Type 0} (n k : ThreadName) (slots : List (Slot V)) (i j : ℕ) (o : Slot V) → n ≢ k → IsOnlyAt n slots i → Lacks k o → IsOnlyAt k slots j → IsOnlyAt k (slice_set slots i o) j
+only_set : {V : Type 0} (n k : ThreadName) (slots : List (Slot V)) (i j : ℕ) (o : Slot V) → n ≢ k → IsOnlyAt n slots i → IsNotSlotOf k o → IsOnlyAt k slots j → IsOnlyAt k (slice_set slots i o) j
 only_set n k [] i j o differs h l g = absurd g
 only_set n k (x ∷ slots) zero zero o differs h l g = absurd (holds_lacks n k x differs h.0 g.0)
 only_set n k (x ∷ slots) zero (suc j) o differs h l g = (l, g.1)
@@ -146,64 +146,64 @@ same_set n [] i w h e = absurd h
 same_set n (x ∷ slots) zero w h e = (e, h.1)
 same_set n (x ∷ slots) (suc i) w h e = (h.0, same_set n slots i w h.1 e)
 
-ended_set : {V : Type 0} (n : ThreadName) (slots : List (Slot V)) (i : ℕ) → IsOnlyAt n slots i → Each (Lacks n) (slice_set slots i None)
+ended_set : {V : Type 0} (n : ThreadName) (slots : List (Slot V)) (i : ℕ) → IsOnlyAt n slots i → Each (IsNotSlotOf n) (slice_set slots i None)
 ended_set n [] i h = absurd h
 ended_set n (x ∷ slots) zero h = (tt, h.1)
 ended_set n (x ∷ slots) (suc i) h = (h.0, ended_set n slots i h.1)
 
-born_only : {V : Type 0} (n : ThreadName) (slots : List (Slot V)) (w : Held V) → Each (Lacks n) slots → w.name ≡ n → IsOnlyAt n (slots ++ Some w ∷ []) (length slots)
+born_only : {V : Type 0} (n : ThreadName) (slots : List (Slot V)) (w : Held V) → Each (IsNotSlotOf n) slots → w.name ≡ n → IsOnlyAt n (slots ++ Some w ∷ []) (length slots)
 born_only n [] w h e = (e, tt)
 born_only n (x ∷ slots) w h e = (h.0, born_only n slots w h.1 e)
 
-lacks_more : {V : Type 0} (k : ThreadName) (slots : List (Slot V)) (o : Slot V) → Each (Lacks k) slots → Lacks k o → Each (Lacks k) (slots ++ o ∷ [])
+lacks_more : {V : Type 0} (k : ThreadName) (slots : List (Slot V)) (o : Slot V) → Each (IsNotSlotOf k) slots → IsNotSlotOf k o → Each (IsNotSlotOf k) (slots ++ o ∷ [])
 lacks_more k [] o h l = (l, tt)
 lacks_more k (x ∷ slots) o h l = (h.0, lacks_more k slots o h.1 l)
 
-only_more : {V : Type 0} (k : ThreadName) (slots : List (Slot V)) (j : ℕ) (o : Slot V) → Lacks k o → IsOnlyAt k slots j → IsOnlyAt k (slots ++ o ∷ []) j
+only_more : {V : Type 0} (k : ThreadName) (slots : List (Slot V)) (j : ℕ) (o : Slot V) → IsNotSlotOf k o → IsOnlyAt k slots j → IsOnlyAt k (slots ++ o ∷ []) j
 only_more k [] j o l g = absurd g
 only_more k (x ∷ slots) zero o l g = (g.0, lacks_more k slots o g.1 l)
 only_more k (x ∷ slots) (suc j) o l g = (g.0, only_more k slots j o l g.1)
 
-pub placed_set : {V : Type 0} (n : ThreadName) (slots : List (Slot V)) (place : ThreadName → Option ℕ) (i : ℕ) (w : Held V) → ArePlaced slots place → place n ≡ Some i → w.name ≡ n → ArePlaced (slice_set slots i (Some w)) place
-placed_set {V} n slots place i w all at e k = go (name_cases n k) (place k) refl (all k)
+pub placed_set : {V : Type 0} (n : ThreadName) (slots : List (Slot V)) (slot : ThreadName → Option ℕ) (i : ℕ) (w : Held V) → ArePlaced slots slot → slot n ≡ Some i → w.name ≡ n → ArePlaced (slice_set slots i (Some w)) slot
+placed_set {V} n slots slot i w all at e k = go (name_cases n k) (slot k) refl (all k)
   where
     here : IsOnlyAt n slots i
-    here = only_at slots place n i all at
+    here = only_at slots slot n i all at
 
-    go : (n ≡ k) ⊎ (n ≢ k) → (o : Option ℕ) → place k ≡ o → IsPlaced slots k o → IsPlaced (slice_set slots i (Some w)) k o
+    go : (n ≡ k) ⊎ (n ≢ k) → (o : Option ℕ) → slot k ≡ o → IsPlaced slots k o → IsPlaced (slice_set slots i (Some w)) k o
     go (inl same) o is h =
-        let known : Some i ≡ o = sym at ∙ (ap place same ∙ is) in
+        let known : Some i ≡ o = sym at ∙ (ap slot same ∙ is) in
         subst (λ (q : Option ℕ). IsPlaced (slice_set slots i (Some w)) k q) known
         (subst (λ (m : ThreadName). IsOnlyAt m (slice_set slots i (Some w)) i) same (same_set n slots i w here e))
     go (inr differs) None is h = other_set n k slots i (Some w) here (λ q. differs (sym e ∙ q)) h
     go (inr differs) (Some j) is h = only_set n k slots i j (Some w) differs here (λ q. differs (sym e ∙ q)) h
 
 -- the place of a name goes, the others stay
-pub placed_end : {V : Type 0} (n : ThreadName) (slots : List (Slot V)) (place after : ThreadName → Option ℕ) (i : ℕ) → ArePlaced slots place → place n ≡ Some i → after n ≡ None → ((k : ThreadName) → n ≢ k → after k ≡ place k) →
+pub placed_end : {V : Type 0} (n : ThreadName) (slots : List (Slot V)) (slot after : ThreadName → Option ℕ) (i : ℕ) → ArePlaced slots slot → slot n ≡ Some i → after n ≡ None → ((k : ThreadName) → n ≢ k → after k ≡ slot k) →
     ArePlaced (slice_set slots i None) after
-placed_end {V} n slots place after i all at gone others k = go (name_cases n k) (place k) refl (all k)
+placed_end {V} n slots slot after i all at gone others k = go (name_cases n k) (slot k) refl (all k)
   where
     here : IsOnlyAt n slots i
-    here = only_at slots place n i all at
+    here = only_at slots slot n i all at
 
-    go : (n ≡ k) ⊎ (n ≢ k) → (o : Option ℕ) → place k ≡ o → IsPlaced slots k o → IsPlaced (slice_set slots i None) k (after k)
+    go : (n ≡ k) ⊎ (n ≢ k) → (o : Option ℕ) → slot k ≡ o → IsPlaced slots k o → IsPlaced (slice_set slots i None) k (after k)
     go (inl same) o is h =
         let none : None ≡ after k = sym gone ∙ ap after same in
         subst (λ (q : Option ℕ). IsPlaced (slice_set slots i None) k q) none
-        (subst (λ (m : ThreadName). Each (Lacks m) (slice_set slots i None)) same (ended_set n slots i here))
+        (subst (λ (m : ThreadName). Each (IsNotSlotOf m) (slice_set slots i None)) same (ended_set n slots i here))
     go (inr differs) None is h =
         subst (λ (q : Option ℕ). IsPlaced (slice_set slots i None) k q) (sym (others k differs ∙ is)) (other_set n k slots i None here tt h)
     go (inr differs) (Some j) is h =
         subst (λ (q : Option ℕ). IsPlaced (slice_set slots i None) k q) (sym (others k differs ∙ is)) (only_set n k slots i j None differs here tt h)
 
-pub placed_born : {V : Type 0} (n : ThreadName) (slots : List (Slot V)) (place after : ThreadName → Option ℕ) (w : Held V) → ArePlaced slots place → place n ≡ None → after n ≡ Some (length slots) →
-    ((k : ThreadName) → n ≢ k → after k ≡ place k) → w.name ≡ n → ArePlaced (slots ++ Some w ∷ []) after
-placed_born {V} n slots place after w all at put others e k = go (name_cases n k) (place k) refl (all k)
+pub placed_born : {V : Type 0} (n : ThreadName) (slots : List (Slot V)) (slot after : ThreadName → Option ℕ) (w : Held V) → ArePlaced slots slot → slot n ≡ None → after n ≡ Some (length slots) →
+    ((k : ThreadName) → n ≢ k → after k ≡ slot k) → w.name ≡ n → ArePlaced (slots ++ Some w ∷ []) after
+placed_born {V} n slots slot after w all at put others e k = go (name_cases n k) (slot k) refl (all k)
   where
-    none : Each (Lacks n) slots
+    none : Each (IsNotSlotOf n) slots
     none = subst (λ (o : Option ℕ). IsPlaced slots n o) at (all n)
 
-    go : (n ≡ k) ⊎ (n ≢ k) → (o : Option ℕ) → place k ≡ o → IsPlaced slots k o → IsPlaced (slots ++ Some w ∷ []) k (after k)
+    go : (n ≡ k) ⊎ (n ≢ k) → (o : Option ℕ) → slot k ≡ o → IsPlaced slots k o → IsPlaced (slots ++ Some w ∷ []) k (after k)
     go (inl same) o is h =
         let some : Some (length slots) ≡ after k = sym put ∙ ap after same in
         subst (λ (q : Option ℕ). IsPlaced (slots ++ Some w ∷ []) k q) some

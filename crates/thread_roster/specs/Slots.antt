@@ -35,42 +35,42 @@ value_there (Some h) = Some h.value
 -- ---- names
 
 -- the thread of this name is not here
-abbrev pub Lacks : {V : Type 0} → ThreadName → Slot V → Type 0
-Lacks n None = Unit {0}
-Lacks n (Some h) = h.name ≢ n
+abbrev pub IsNotSlotOf : {V : Type 0} → ThreadName → Slot V → Type 0
+IsNotSlotOf n None = Unit {0}
+IsNotSlotOf n (Some h) = h.name ≢ n
 
 -- the thread of this name is here
-abbrev pub Holds : {V : Type 0} → ThreadName → Slot V → Type 0
-Holds n None = ⊥
-Holds n (Some h) = h.name ≡ n
+abbrev pub IsSlotOf : {V : Type 0} → ThreadName → Slot V → Type 0
+IsSlotOf n None = ⊥
+IsSlotOf n (Some h) = h.name ≡ n
 
 -- the thread of this name is here, and in no other slot
 abbrev pub IsOnlyAt : {V : Type 0} → ThreadName → List (Slot V) → ℕ → Type 0
 IsOnlyAt n [] i = ⊥
-IsOnlyAt n (o ∷ slots) zero = Holds n o × Each (Lacks n) slots
-IsOnlyAt n (o ∷ slots) (suc i) = Lacks n o × IsOnlyAt n slots i
+IsOnlyAt n (o ∷ slots) zero = IsSlotOf n o × Each (IsNotSlotOf n) slots
+IsOnlyAt n (o ∷ slots) (suc i) = IsNotSlotOf n o × IsOnlyAt n slots i
 
 -- what a table says of a name
 abbrev pub IsPlaced : {V : Type 0} → List (Slot V) → ThreadName → Option ℕ → Type 0
-IsPlaced slots n None = Each (Lacks n) slots
+IsPlaced slots n None = Each (IsNotSlotOf n) slots
 IsPlaced slots n (Some i) = IsOnlyAt n slots i
 
 -- the table has the slot of each thread
 abbrev pub ArePlaced : {V : Type 0} → List (Slot V) → (ThreadName → Option ℕ) → Type 0
-ArePlaced slots place = (n : ThreadName) → IsPlaced slots n (place n)
+ArePlaced slots slot = (n : ThreadName) → IsPlaced slots n (slot n)
 
 abbrev pub slot_in : List (ThreadName × ℕ) → ThreadName → Option ℕ
-slot_in places n = lookup (equal_thread n) places
+slot_in by_name n = lookup (equal_thread n) by_name
 
 -- one name has this slot, or none, and the others theirs
 abbrev pub with_slot : (ThreadName → Option ℕ) → ThreadName → Option ℕ → ThreadName → Option ℕ
-with_slot place n o k = if equal_thread n k then o else place k
+with_slot slot n o k = if equal_thread n k then o else slot k
 
 -- ---- how threads stand
 
 -- the thread in a slot stands so
-abbrev pub StandsAt : {V : Type 0} → List (Slot V) → ℕ → Mode → Type 0
-StandsAt {V} slots j m = (h : Held V) × (slice_get slots j ≡ Some (Some h)) × (h.mode ≡ m)
+abbrev pub IsModeAt : {V : Type 0} → List (Slot V) → ℕ → Mode → Type 0
+IsModeAt {V} slots j m = (h : Held V) × (slice_get slots j ≡ Some (Some h)) × (h.mode ≡ m)
 
 abbrev pub AreInside : {X : Type 0} → List X → List ℕ → Type 0
 AreInside slots js = Each (λ (j : ℕ). j < length slots) js
@@ -118,7 +118,7 @@ IsLeft i queue rest = (rest ≡ queue) ⊎ (queue ≡ i ∷ rest)
 
 -- slots whose threads do not go on have left the front of the queue
 abbrev pub IsRest : {V : Type 0} → List (Slot V) → List ℕ → List ℕ → Type 0
-IsRest slots queue rest = (front : List ℕ) × (queue ≡ front ++ rest) × Each (λ (j : ℕ). StandsAt slots j Runs → ⊥) front
+IsRest slots queue rest = (front : List ℕ) × (queue ≡ front ++ rest) × Each (λ (j : ℕ). IsModeAt slots j Runs → ⊥) front
 
 -- the first slot of the queue has a thread of this name, which can go on
 abbrev pub IsNext : {V : Type 0} → List (Slot V) → List ℕ → ThreadName → Type 0

@@ -27,7 +27,7 @@ use waiting_keys::Waiters;
 #[derive(Drop)]
 pub struct Roster<V> {
     slots: Vec<Slot<V>>,
-    places: SlotsByName,
+    by_name: SlotsByName,
     queue: Queue,
     waiters: Waiters,
     living: usize,
@@ -48,7 +48,7 @@ impl<V> Model for Roster<V> {
       ended = length r.slots.items - total one r.slots.items;
     } };
 
-    ghost invariant = { λ r. IsKept r.slots.items r.places.entries r.queue r.waiters r.living r.waiting };
+    ghost invariant = { λ r. IsKept r.slots.items r.by_name.entries r.queue r.waiters r.living r.waiting };
 }
 
 impl<V: Drop> Roster<V> {
@@ -62,7 +62,7 @@ impl<V: Drop> Roster<V> {
     {
         Roster {
             slots: Vec::new(alloc),
-            places: IndexMap::new(alloc),
+            by_name: IndexMap::new(alloc),
             queue: Queue::new(alloc),
             waiters: Waiters::new(alloc),
             living: 0,
@@ -106,7 +106,7 @@ impl<V: Drop> Roster<V> {
     pub fn lives(&self, name: ThreadName) -> bool
         ensures { IsTrue result ↔ IsSome (value_of equal_thread self.now.living name) }
     {
-        slot_of(&self.slots, &self.places, &self.queue, name).is_some()
+        slot_of(&self.slots, &self.by_name, &self.queue, name).is_some()
     }
 
     /// The value of a thread.
@@ -114,9 +114,9 @@ impl<V: Drop> Roster<V> {
         ensures some { IfSome result (λ v. (m : Standing) × (value_of equal_thread self.now.living name ≡ Some (v.now, m))) }
         ensures none { IfNone result (value_of equal_thread self.now.living name ≡ None) }
     {
-        match slot_of(&self.slots, &self.places, &self.queue, name) {
+        match slot_of(&self.slots, &self.by_name, &self.queue, name) {
             None => None,
-            Some(place) => match &self.slots[place] {
+            Some(slot) => match &self.slots[slot] {
                 None => unreachable!(),
                 Some(held) => Some(&held.value),
             },
@@ -128,9 +128,9 @@ impl<V: Drop> Roster<V> {
         ensures some { IfSome result (λ m. (v : V) × (value_of equal_thread self.now.living name ≡ Some (v, m))) }
         ensures none { IfNone result (value_of equal_thread self.now.living name ≡ None) }
     {
-        match slot_of(&self.slots, &self.places, &self.queue, name) {
+        match slot_of(&self.slots, &self.by_name, &self.queue, name) {
             None => None,
-            Some(place) => match &self.slots[place] {
+            Some(slot) => match &self.slots[slot] {
                 None => unreachable!(),
                 Some(held) => Some(held.mode),
             },
@@ -150,8 +150,8 @@ impl<V: Drop> Roster<V> {
         ensures* writes_back { sem 𝓛 (lends_value V.row self.entry name result) }
         ensures value { (m : Standing) × (value_of equal_thread self.old.living name ≡ Some (result.now, m)) }
     {
-        let place = find(&self.slots, &self.places, &self.queue, name);
-        value_in(&mut self.slots[place])
+        let slot = find(&self.slots, &self.by_name, &self.queue, name);
+        value_in(&mut self.slots[slot])
     }
 
     /// A thread is born, and goes behind those that can go on.
@@ -161,13 +161,13 @@ impl<V: Drop> Roster<V> {
         ensures ended { OnOk result (self.new.ended ≡ self.old.ended) }
         ensures err { OnErr result (self.new ≡ self.old) }
     {
-        let place = self.slots.len();
+        let slot = self.slots.len();
         self.slots.reserve(1)?;
-        self.places.reserve(1)?;
-        self.queue.push(place)?;
+        self.by_name.reserve(1)?;
+        self.queue.push(slot)?;
         let mode = Mode::Runs;
         self.slots.push_reserved(Some(Held { name, mode, value }));
-        self.places.insert(name, place)?;
+        self.by_name.insert(name, slot)?;
         self.living += 1;
         Ok(())
     }
@@ -179,11 +179,11 @@ impl<V: Drop> Roster<V> {
         ensures ended { OnOk result (self.new.ended ≡ self.old.ended) }
         ensures err { OnErr result (self.new ≡ self.old) }
     {
-        let place = find(&self.slots, &self.places, &self.queue, name);
-        self.waiters.add(var, place)?;
-        let before = set_mode(&mut self.slots, place, Mode::Waits(var));
+        let slot = find(&self.slots, &self.by_name, &self.queue, name);
+        self.waiters.add(var, slot)?;
+        let before = set_mode(&mut self.slots, slot, Mode::Waits(var));
         self.waiting = count_waiting(self.waiting, before);
-        leave(&mut self.queue, place);
+        leave(&mut self.queue, slot);
         Ok(())
     }
 
@@ -193,10 +193,10 @@ impl<V: Drop> Roster<V> {
         ensures living { self.new.living ≡ set_mode self.old.living name (stands.WaitsFor cell) }
         ensures ended { self.new.ended ≡ self.old.ended }
     {
-        let place = find(&self.slots, &self.places, &self.queue, name);
-        let before = set_mode(&mut self.slots, place, Mode::WaitsFor(cell));
+        let slot = find(&self.slots, &self.by_name, &self.queue, name);
+        let before = set_mode(&mut self.slots, slot, Mode::WaitsFor(cell));
         self.waiting = count_waiting(self.waiting, before);
-        leave(&mut self.queue, place);
+        leave(&mut self.queue, slot);
     }
 
     /// A thread that waits goes on, behind those that can go on.
@@ -206,9 +206,9 @@ impl<V: Drop> Roster<V> {
         ensures ended { OnOk result (self.new.ended ≡ self.old.ended) }
         ensures err { OnErr result (self.new ≡ self.old) }
     {
-        let place = find(&self.slots, &self.places, &self.queue, name);
-        self.queue.push(place)?;
-        let before = set_mode(&mut self.slots, place, Mode::Runs);
+        let slot = find(&self.slots, &self.by_name, &self.queue, name);
+        self.queue.push(slot)?;
+        let before = set_mode(&mut self.slots, slot, Mode::Runs);
         self.waiting = count_running(self.waiting, before);
         Ok(())
     }
@@ -236,12 +236,12 @@ impl<V: Drop> Roster<V> {
         ensures living { self.new.living ≡ without_key equal_thread self.old.living name }
         ensures ended { self.new.ended ≡ self.old.ended + 1 }
     {
-        let place = find(&self.slots, &self.places, &self.queue, name);
-        let before = clear(&mut self.slots, place);
+        let slot = find(&self.slots, &self.by_name, &self.queue, name);
+        let before = clear(&mut self.slots, slot);
         self.waiting = count_running(self.waiting, before);
-        forget(&mut self.places, name);
+        forget(&mut self.by_name, name);
         self.living -= 1;
-        leave(&mut self.queue, place);
+        leave(&mut self.queue, slot);
     }
 
     /// The first thread in the order of turns that can go on; none, exactly where no thread can.

@@ -5,7 +5,7 @@ ghost use Rattle.std.specs.Vec.{vec_len};
 ghost use Rattle.std.specs.Borrow.{sem, Lends};
 ghost use Rattle.thread_roster.specs.declared.mode.Mode.TheVariants as stands;
 ghost use Rattle.thread_roster.specs.Threads.{wake};
-ghost use Rattle.thread_roster.specs.Slots.{Slot as TheSlot, Holds, AreInside, rouse, rouse_at, rouse_all, total, waiting};
+ghost use Rattle.thread_roster.specs.Slots.{Slot as TheSlot, IsSlotOf, AreInside, rouse, rouse_at, rouse_all, total, waiting};
 ghost use Rattle.std.specs.contracts.option.Option.{the_row as OptionOf};
 ghost use Rattle.thread_roster.specs.contracts.slot.Held.{the_row as held_row};
 ghost use Rattle.thread_roster.specs.Slots.{with_value_in, value_there};
@@ -26,7 +26,7 @@ pub type Slot<V> = Option<Held<V>>;
 
 /// Whether the thread of this name is in a slot.
 pub fn is_of<V>(slot: &Slot<V>, name: ThreadName) -> bool
-    ensures { IsTrue result ↔ Holds name slot.now }
+    ensures { IsTrue result ↔ IsSlotOf name slot.now }
 {
     match slot {
         None => false,
@@ -62,32 +62,32 @@ pub fn value_in<V>(slot: &mut Slot<V>) -> &mut V
 }
 
 /// The thread in a slot stands so from now on. Answers how it stood before.
-pub fn set_mode<V: Drop>(slots: &mut Vec<Slot<V>>, place: usize, mode: Mode) -> Mode
-    requires inside { place < length slots.old.items }
-    requires held { (h : Held V) × (slice_get slots.old.items place ≡ Some (Some h)) }
-    ensures put { (h : Held V) → slice_get slots.old.items place ≡ Some (Some h) → slots.new.items ≡ slice_set slots.old.items place (Some (record h { mode = mode })) }
-    ensures old { (h : Held V) → slice_get slots.old.items place ≡ Some (Some h) → result ≡ h.mode }
+pub fn set_mode<V: Drop>(slots: &mut Vec<Slot<V>>, slot: usize, mode: Mode) -> Mode
+    requires inside { slot < length slots.old.items }
+    requires held { (h : Held V) × (slice_get slots.old.items slot ≡ Some (Some h)) }
+    ensures put { (h : Held V) → slice_get slots.old.items slot ≡ Some (Some h) → slots.new.items ≡ slice_set slots.old.items slot (Some (record h { mode = mode })) }
+    ensures old { (h : Held V) → slice_get slots.old.items slot ≡ Some (Some h) → result ≡ h.mode }
     ensures len { vec_len slots.new ≡ vec_len slots.old }
 {
-    match &mut slots[place] {
+    match &mut slots[slot] {
         None => unreachable!(),
         Some(held) => std::mem::replace(&mut held.mode, mode),
     }
 }
 
 /// The slot of a thread is empty from now on. Answers how the thread stood.
-pub fn clear<V: Drop>(slots: &mut Vec<Slot<V>>, place: usize) -> Mode
-    requires inside { place < length slots.old.items }
-    requires held { (h : Held V) × (slice_get slots.old.items place ≡ Some (Some h)) }
-    ensures put { slots.new.items ≡ slice_set slots.old.items place None }
-    ensures old { (h : Held V) → slice_get slots.old.items place ≡ Some (Some h) → result ≡ h.mode }
+pub fn clear<V: Drop>(slots: &mut Vec<Slot<V>>, slot: usize) -> Mode
+    requires inside { slot < length slots.old.items }
+    requires held { (h : Held V) × (slice_get slots.old.items slot ≡ Some (Some h)) }
+    ensures put { slots.new.items ≡ slice_set slots.old.items slot None }
+    ensures old { (h : Held V) → slice_get slots.old.items slot ≡ Some (Some h) → result ≡ h.mode }
     ensures len { vec_len slots.new ≡ vec_len slots.old }
 {
-    let mode = match &slots[place] {
+    let mode = match &slots[slot] {
         None => unreachable!(),
         Some(held) => held.mode,
     };
-    slots[place] = None;
+    slots[slot] = None;
     mode
 }
 
@@ -112,13 +112,13 @@ fn rouse<V>(held: &mut Held<V>, var: VarName) -> bool
 
 // The thread in a slot goes on, where it waits for this variable: true, where it does.
 #[tactic(auto, using(crate::proofs::RouseLemmas::roused_none, crate::proofs::RouseLemmas::roused_some, crate::proofs::SlotLemmas::total_set))]
-fn rouse_at<V: Drop>(slots: &mut Vec<Slot<V>>, place: usize, var: VarName) -> bool
-    requires inside { place < length slots.old.items }
-    ensures slots { slots.new.items ≡ rouse_at var slots.old.items place }
+fn rouse_at<V: Drop>(slots: &mut Vec<Slot<V>>, slot: usize, var: VarName) -> bool
+    requires inside { slot < length slots.old.items }
+    ensures slots { slots.new.items ≡ rouse_at var slots.old.items slot }
     ensures count { (if result then 1 else 0) + total waiting slots.new.items ≡ total waiting slots.old.items }
     ensures len { vec_len slots.new ≡ vec_len slots.old }
 {
-    match &mut slots[place] {
+    match &mut slots[slot] {
         None => false,
         Some(held) => rouse(held, var),
     }

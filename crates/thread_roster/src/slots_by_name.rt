@@ -18,58 +18,63 @@ pub type SlotsByName = IndexMap<ThreadName, usize>;
 
 // The slot of a name by the table. Most look-ups find it before, and do without the room of this one.
 #[inline(never)]
-fn by_table(places: &SlotsByName, name: ThreadName) -> Option<usize>
-    ensures { result ≡ slot_in places.now.entries name }
+fn by_table(by_name: &SlotsByName, name: ThreadName) -> Option<usize>
+    ensures { result ≡ slot_in by_name.now.entries name }
 {
-    places.get(&name).copied()
+    by_name.get(&name).copied()
 }
 
 /// The slot of a name, if it has one. The first of the queue is looked at before the table.
 pub fn slot_of<V>(
     slots: &Vec<Slot<V>>,
-    places: &SlotsByName,
+    by_name: &SlotsByName,
     queue: &Queue,
     name: ThreadName,
 ) -> Option<usize>
-    requires placed { ArePlaced slots.now.items (slot_in places.now.entries) }
+    requires placed { ArePlaced slots.now.items (slot_in by_name.now.entries) }
     requires inside { AreInside slots.now.items queue.now }
-    ensures { result ≡ slot_in places.now.entries name }
+    ensures { result ≡ slot_in by_name.now.entries name }
 {
-    if let Some(place) = queue.first() {
-        if is_of(&slots[place], name) {
-            return Some(place);
+    if let Some(slot) = queue.first() {
+        if is_of(&slots[slot], name) {
+            return Some(slot);
         }
     }
-    by_table(places, name)
+    by_table(by_name, name)
 }
 
 /// The slot of a living thread.
-pub fn find<V>(slots: &Vec<Slot<V>>, places: &SlotsByName, queue: &Queue, name: ThreadName) -> usize
-    requires placed { ArePlaced slots.now.items (slot_in places.now.entries) }
+pub fn find<V>(
+    slots: &Vec<Slot<V>>,
+    by_name: &SlotsByName,
+    queue: &Queue,
+    name: ThreadName,
+) -> usize
+    requires placed { ArePlaced slots.now.items (slot_in by_name.now.entries) }
     requires inside { AreInside slots.now.items queue.now }
     requires lives { IsSome (value_of equal_thread (threads_in slots.now.items) name) }
-    ensures place { slot_in places.now.entries name ≡ Some result }
+    ensures slot { slot_in by_name.now.entries name ≡ Some result }
     ensures inside { result < length slots.now.items }
     ensures held { (h : TheHeld V) × (slice_get slots.now.items result ≡ Some (Some h)) × (h.name ≡ name) }
 {
-    match slot_of(slots, places, queue, name) {
+    match slot_of(slots, by_name, queue, name) {
         None => unreachable!(),
-        Some(place) => place,
+        Some(slot) => slot,
     }
 }
 
 /// The name has no slot from now on.
-pub fn forget(places: &mut SlotsByName, name: ThreadName)
-    ensures { (n : Named) → slot_in places.new.entries n ≡ with_slot (slot_in places.old.entries) name None n }
+pub fn forget(by_name: &mut SlotsByName, name: ThreadName)
+    ensures { (n : Named) → slot_in by_name.new.entries n ≡ with_slot (slot_in by_name.old.entries) name None n }
 {
-    places.swap_remove(&name);
+    by_name.swap_remove(&name);
 }
 
 /// A slot that is the first of the queue leaves it.
-pub fn leave(queue: &mut Queue, place: usize)
-    ensures { IsLeft place queue.old queue.new }
+pub fn leave(queue: &mut Queue, slot: usize)
+    ensures { IsLeft slot queue.old queue.new }
 {
-    if queue.first() == Some(place) {
+    if queue.first() == Some(slot) {
         queue.pop();
     }
 }
@@ -81,8 +86,8 @@ pub fn next_runnable<V>(slots: &Vec<Slot<V>>, queue: &mut Queue) -> Option<Threa
     ensures some { IfSome result (λ n. IsNext slots.now.items queue.new n) }
     ensures none { IfNone result (queue.new ≡ []) }
 {
-    'slots: while let Some(place) = queue.first() {
-        if let Some(name) = runnable(&slots[place]) {
+    'slots: while let Some(slot) = queue.first() {
+        if let Some(name) = runnable(&slots[slot]) {
             return Some(name);
         }
         queue.pop();

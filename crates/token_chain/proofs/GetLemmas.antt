@@ -6,8 +6,8 @@ use Rattle.token_chain.specs.declared.token.Token.{Token}
 use Rattle.token_chain.specs.declared.token.Token.TheVariants.{Away, Asked, Here}
 use Rattle.token_chain.specs.Holding.{Holding, with_waiter, departure_of}
 use Rattle.token_chain.specs.Mail.{Mail, Get, Forward, Put, mail_count}
-use Rattle.token_chain.specs.Rows.{Reply, silent, leave_with, forward_reply, put_reply, get_reply, first_request, exchange_reply}
-use Rattle.token_chain.specs.Moves.{Replies, SendsNoGet, GetsAreOfOthers}
+use Rattle.token_chain.specs.Rows.{Reply, reply_without_mail, leave_with, forward_reply, put_reply, get_reply, first_request, exchange_reply}
+use Rattle.token_chain.specs.Moves.{HasReplied, SendsNoGet, GetsAreOfOthers}
 
 leave_sends : (manager : ℕ) (h : Holding) (o : Option (ℕ × VarName)) → SendsNoGet manager (leave_with h o)
 leave_sends manager h None = refl
@@ -38,7 +38,7 @@ unit_sends manager last s w h = go h.token
     go Asked = refl
     go Away = first_sends manager last s (with_waiter (record h { token = Away }))
 
-replies_send : (manager s : ℕ) (r : Reply) (gone : List Mail) (at to : ℕ → Holding) (n m : Mail → ℕ) → SendsNoGet manager r → Replies s r gone at to n m → n (Get manager) ≡ 0 → m (Get manager) ≡ 0
+replies_send : (manager s : ℕ) (r : Reply) (gone : List Mail) (at to : ℕ → Holding) (n m : Mail → ℕ) → SendsNoGet manager r → HasReplied s r gone at to n m → n (Get manager) ≡ 0 → m (Get manager) ≡ 0
 replies_send manager s r gone at to n m none p before = omega (arith, p.mail (Get manager), none, before)
 
 pub gets_are_of_others : GetsAreOfOthers

@@ -5,11 +5,11 @@ use Rattle.std.specs.Bool.{Decides}
 use Rattle.tree_node.specs.declared.names.VarName.{VarName}
 use Rattle.token_chain.specs.declared.token.Token.{Token}
 use Rattle.token_chain.specs.declared.token.Token.TheVariants.{Away, Asked, Here}
-use Rattle.token_chain.specs.Holding.{Holding, away, here_with, with_waiter, IsUsed}
+use Rattle.token_chain.specs.Holding.{Holding, nothing_held, here_with, with_waiter, IsUsed}
 use Rattle.token_chain.specs.Mail.{Mail, Get, Forward, Put, equal_mail, mail_count}
 use Rattle.token_chain.specs.Chain.{IsOn, IsFirst, IsNext, HasToken, IsTold, IsDue, IsChain, ChainOf}
-use Rattle.token_chain.specs.Rows.{Reply, silent, leave_with, leave_reply, forward_reply, put_reply, get_reply, first_request, exchange_reply, last_after, content_then}
-use Rattle.token_chain.specs.Moves.{Replies, MakingStarts, AskingKeeps, WaitingKeeps, OwnAskingKeeps, GetKeeps, ForwardKeeps, PutKeeps, ExchangeKeeps, UnitKeeps, NothingKeeps, CanCome, MessagesCanCome, TokensHaveContents, SuccessorsAsked, AwayKeepsNothing}
+use Rattle.token_chain.specs.Rows.{Reply, reply_without_mail, leave_with, leave_reply, forward_reply, put_reply, get_reply, first_request, exchange_reply, last_after, content_then}
+use Rattle.token_chain.specs.Moves.{HasReplied, MakingStarts, AskingKeeps, WaitingKeeps, OwnAskingKeeps, GetKeeps, ForwardKeeps, PutKeeps, ExchangeKeeps, UnitKeeps, NothingKeeps, CanCome, MessagesCanCome, TokensHaveContents, SuccessorsAsked, AwayKeepsNothing}
 use Rattle.token_chain.proofs.ListLemmas.{first_on, last_on, before_on, last_no_next, next_differs, next_not_first}
 use Rattle.token_chain.proofs.ChangeLemmas.{Moves, Goes, Comes, IsPut, mail_or, number_or, same_mail_decides, token_of, next_of, on_used, not_due, due_at}
 use Rattle.token_chain.proofs.EventLemmas as event
@@ -66,12 +66,12 @@ one_of last at n hs v c k d = go (c.due k)
     go (inl e) = absurd (d e)
     go (inr e) = e.0
 
-put_of : (s : ℕ) (r : Reply) (gone : List Mail) (at to : ℕ → Holding) (n m : Mail → ℕ) → Replies s r gone at to n m → IsPut s r.held at to
+put_of : (s : ℕ) (r : Reply) (gone : List Mail) (at to : ℕ → Holding) (n m : Mail → ℕ) → HasReplied s r gone at to n m → IsPut s r.held at to
 put_of s r gone at to n m q = record { here = q.here; others = q.others }
 
 -- the reply is this one
-as_reply : (s : ℕ) (r q : Reply) (gone : List Mail) (at to : ℕ → Holding) (n m : Mail → ℕ) → r ≡ q → Replies s r gone at to n m → Replies s q gone at to n m
-as_reply s r q gone at to n m e h = subst (λ (x : Reply). Replies s x gone at to n m) e h
+as_reply : (s : ℕ) (r q : Reply) (gone : List Mail) (at to : ℕ → Holding) (n m : Mail → ℕ) → r ≡ q → HasReplied s r gone at to n m → HasReplied s q gone at to n m
+as_reply s r q gone at to n m e h = subst (λ (x : Reply). HasReplied s x gone at to n m) e h
 
 -- ---- nothing
 
@@ -135,28 +135,28 @@ making_starts at to n m o v nobody none p = (
     quiet : (k : Mail) → m k ≡ 0
     quiet k = same_counts n m p.mail k ∙ none k
 
-    which : (s : ℕ) → (s ≡ o) ⊎ (to s ≡ away)
+    which : (s : ℕ) → (s ≡ o) ⊎ (to s ≡ nothing_held)
     which s = go (number s)
       where
         number : (s : ℕ) → (s ≡ o) ⊎ (s ≢ o)
         number s = search rules
 
-        go : (s ≡ o) ⊎ (s ≢ o) → (s ≡ o) ⊎ (to s ≡ away)
+        go : (s ≡ o) ⊎ (s ≢ o) → (s ≡ o) ⊎ (to s ≡ nothing_held)
         go (inl e) = inl e
         go (inr d) = inr (p.others s d ∙ nobody s)
 
     made_token : (s : ℕ) → s ≡ o → (to s).token ≡ Here v
     made_token s e = ap (λ (x : ℕ). (to x).token) e ∙ token_of _ _ p.here
 
-    here : (s : ℕ) (w : VarName) → (to s).token ≡ Here w → (s ≡ o) ⊎ (to s ≡ away) → o ≡ s
+    here : (s : ℕ) (w : VarName) → (to s).token ≡ Here w → (s ≡ o) ⊎ (to s ≡ nothing_held) → o ≡ s
     here s w e (inl f) = sym f
     here s w e (inr f) = let g : (to s).token ≡ Away = token_of _ _ f in absurd (cc)
 
-    asked : (s : ℕ) → (to s).token ≡ Asked → (s ≡ o) ⊎ (to s ≡ away) → ⊥
+    asked : (s : ℕ) → (to s).token ≡ Asked → (s ≡ o) ⊎ (to s ≡ nothing_held) → ⊥
     asked s e (inl f) = let g = made_token s f in cc
     asked s e (inr f) = let g : (to s).token ≡ Away = token_of _ _ f in cc
 
-    idle : (s : ℕ) → (to s).token ≡ Away → (s ≡ o) ⊎ (to s ≡ away) → to s ≡ away
+    idle : (s : ℕ) → (to s).token ≡ Away → (s ≡ o) ⊎ (to s ≡ nothing_held) → to s ≡ nothing_held
     idle s e (inl f) = let g = made_token s f in absurd (cc)
     idle s e (inr f) = f
 
@@ -164,7 +164,7 @@ making_starts at to n m o v nobody none p = (
 
 pub asking_keeps : AskingKeeps
 asking_keeps last at to n m v s (hs, c) was p =
-    let keeps_away : at s ≡ away = c.idle s was in
+    let keeps_away : at s ≡ nothing_held = c.idle s was in
     let none : n (Get s) ≡ 0 = not_due last at n hs v c (Get s) (λ d. let e : (at s).token ≡ Asked = d.0 in cc) in
     let q : with_waiter (at s) ≡ record { token = Asked; next = None; waiting = 1 } = ap with_waiter keeps_away in
     (hs, event.asks last at to n m hs v s (with_waiter (at s)) c was (token_of _ _ q) (next_of _ _ q) (put_of _ _ _ _ _ _ _ p) (comes (Get s) n m none p.mail))
@@ -195,7 +195,7 @@ own_asking_keeps last at to n m v o (hs, c) was = (apart, keeps_chain)
     apart : last ≢ o
     apart e = last_is_used last at n v (hs, c) (ap (λ (x : ℕ). (at x).token) e ∙ was)
 
-    keeps_chain : Replies o (record { held = with_waiter (at o); sent = Forward last o ∷ [] }) [] at to n m → ChainOf o to m v
+    keeps_chain : HasReplied o (record { held = with_waiter (at o); sent = Forward last o ∷ [] }) [] at to n m → ChainOf o to m v
     keeps_chain p =
         let none : n (Get o) ≡ 0 = not_due last at n hs v c (Get o) (λ d. let e : (at o).token ≡ Asked = d.0 in cc) in
         let nof : n (Forward last o) ≡ 0 = not_due last at n hs v c (Forward last o) (λ d. last_no_next hs last o c.distinct c.end d.0) in
@@ -213,7 +213,7 @@ own_asking_keeps last at to n m v o (hs, c) was = (apart, keeps_chain)
 -- ---- messages come
 
 forward_comes : (last : ℕ) (at to : ℕ → Holding) (n m : Mail → ℕ) (hs : List ℕ) (v : VarName) (a b : ℕ) → IsChain last at n hs v → n (Forward a b) ≢ 0 →
-    Replies a (forward_reply (at a) b) (Forward a b ∷ []) at to n m → ChainOf last to m v
+    HasReplied a (forward_reply (at a) b) (Forward a b ∷ []) at to n m → ChainOf last to m v
 forward_comes last at to n m hs v a b c there p = go (party_cases last at n hs v c a (before_on hs a b due.0))
   where
     due : IsDue at hs v (Forward a b)
@@ -224,15 +224,15 @@ forward_comes last at to n m hs v a b c there p = go (party_cases last at n hs v
 
     go : (IsFirst hs a × (at a ≡ here_with v)) ⊎ ((at a).token ≡ Asked) → ChainOf last to m v
     go (inl e) =
-        let q : Replies a (record { held = away; sent = Put b v ∷ [] }) (Forward a b ∷ []) at to n m
+        let q : HasReplied a (record { held = nothing_held; sent = Put b v ∷ [] }) (Forward a b ∷ []) at to n m
         = as_reply a _ _ _ at to n m (ap (λ (h : Holding). forward_reply h b) e.1) p in
         let none : n (Put b v) ≡ 0 = not_due last at n hs v c (Put b v) (λ f. next_not_first hs a b c.distinct due.0 f.0) in
         leaves_any last at to n m hs a b v v (Forward a b) c e.0 due.0 (put_of _ _ _ _ _ _ _ q)
         (both (Forward a b) (Put b v) n m one none (λ f. cc) q.mail) (inl (refl, e.1))
     go (inr e) =
-        let stays : forward_reply (at a) b ≡ silent (record (at a) { next = Some b })
+        let stays : forward_reply (at a) b ≡ reply_without_mail (record (at a) { next = Some b })
         = ap (λ (o : Option (ℕ × VarName)). leave_with (record (at a) { next = Some b }) o) (leaving_asked (record (at a) { next = Some b }) e) in
-        let q : Replies a (silent (record (at a) { next = Some b })) (Forward a b ∷ []) at to n m
+        let q : HasReplied a (reply_without_mail (record (at a) { next = Some b })) (Forward a b ∷ []) at to n m
         = as_reply a _ _ _ at to n m stays p in
         (hs, event.stores last at to n m hs v a b (record (at a) { next = Some b }) c due e e refl (put_of _ _ _ _ _ _ _ q) (goes (Forward a b) n m one q.mail))
 
@@ -271,13 +271,13 @@ get_keeps last at to n m v o k (hs, c) there p = go (last == o) (Decides-eqb las
     sent : middle (Forward last k) ≡ 1
     sent = let z = none in let a = counted (Forward last k) in let b = once_same (Forward last k) (Forward last k) refl in let d = once_other (Get k) (Forward last k) (λ e. cc) in omega arith
 
-    go : (b : Bool) → Decides b (last ≡ o) → Replies o (cond b (forward_reply (at o) k) (record { held = at o; sent = Forward last k ∷ [] })) (Get k ∷ []) at to n m → ChainOf k to m v
+    go : (b : Bool) → Decides b (last ≡ o) → HasReplied o (cond b (forward_reply (at o) k) (record { held = at o; sent = Forward last k ∷ [] })) (Get k ∷ []) at to n m → ChainOf k to m v
     go true d q =
         let same : last ≡ o = d.0 refl in
         let mail : (x : Mail) → m x + mail_count (Forward last k ∷ []) x ≡ middle x + mail_count (forward_reply (at o) k).sent x
         = λ x. let a = q.mail x in let b = counted x in omega arith in
-        let to_last : Replies last (forward_reply (at last) k) (Forward last k ∷ []) at to middle m
-        = subst (λ (x : ℕ). Replies x (forward_reply (at x) k) (Forward last k ∷ []) at to middle m) (sym same) (record { here = q.here; others = q.others; mail = mail }) in
+        let to_last : HasReplied last (forward_reply (at last) k) (Forward last k ∷ []) at to middle m
+        = subst (λ (x : ℕ). HasReplied x (forward_reply (at x) k) (Forward last k ∷ []) at to middle m) (sym same) (record { here = q.here; others = q.others; mail = mail }) in
         forward_comes k at to middle m (hs ++ k ∷ []) v last k joined (λ z. let s = sent in cc) to_last
     go false d q =
         nothing_keeps k at to middle m v (hs ++ k ∷ [], joined) (λ s. stays s (number_or s o) q.here q.others)
@@ -292,7 +292,7 @@ abbrev came_with : VarName → Option ℕ → Holding
 came_with w o = record { token = Here w; next = o; waiting = 0 }
 
 put_comes : (last : ℕ) (at to : ℕ → Holding) (n m : Mail → ℕ) (hs : List ℕ) (v w : VarName) (s : ℕ) → IsChain last at n hs v → n (Put s v) ≢ 0 →
-    Replies s (put_reply (at s) w) (Put s v ∷ []) at to n m → ChainOf last to m w
+    HasReplied s (put_reply (at s) w) (Put s v ∷ []) at to n m → ChainOf last to m w
 put_comes last at to n m hs v w s c there p = go (at s).next refl
   where
     due : IsDue at hs v (Put s v)
@@ -301,12 +301,12 @@ put_comes last at to n m hs v w s c there p = go (at s).next refl
     one : n (Put s v) ≡ 1
     one = one_of last at n hs v c (Put s v) there
 
-    reply : (o : Option ℕ) → (at s).next ≡ o → Replies s (leave_reply (came_with w o)) (Put s v ∷ []) at to n m
+    reply : (o : Option ℕ) → (at s).next ≡ o → HasReplied s (leave_reply (came_with w o)) (Put s v ∷ []) at to n m
     reply o e = as_reply s _ _ _ at to n m (ap (λ (x : Option ℕ). leave_reply (came_with w x)) e) p
 
     go : (o : Option ℕ) → (at s).next ≡ o → ChainOf last to m w
     go None e =
-        let q : Replies s (silent (came_with w None)) (Put s v ∷ []) at to n m
+        let q : HasReplied s (reply_without_mail (came_with w None)) (Put s v ∷ []) at to n m
         = as_reply s _ _ _ at to n m (ap (λ (x : Option (ℕ × VarName)). leave_with (came_with w None) x) (leaving_last (came_with w None) refl)) (reply None e) in
         let g = goes (Put s v) n m one q.mail in
         (hs, token.settles last at to n m hs v w s c due.0 e (put_of _ _ _ _ _ _ _ q) (λ u. others u (mail_or (Put s u) (Put s v)) g) (λ k d. g.others k (d v)))
@@ -316,7 +316,7 @@ put_comes last at to n m hs v w s c there p = go (at s).next refl
         others u (inr d) g = g.others (Put s u) d ∙ not_due last at n hs v c (Put s u) (λ f. d (ap (λ x. Put s x) f.2))
     go (Some b) e =
         let next : IsNext hs s b = stored_next last at n hs v c s b (first_on hs s due.0) e in
-        let q : Replies s (record { held = away; sent = Put b w ∷ [] }) (Put s v ∷ []) at to n m = reply (Some b) e in
+        let q : HasReplied s (record { held = nothing_held; sent = Put b w ∷ [] }) (Put s v ∷ []) at to n m = reply (Some b) e in
         let apart : Put s v ≢ Put b w = λ f. next_differs hs s b c.distinct next (cc) in
         let none : n (Put b w) ≡ 0 = not_due last at n hs v c (Put b w) (λ f. next_not_first hs s b c.distinct next f.0) in
         leaves_any last at to n m hs s b v w (Put s v) c due.0 next (put_of _ _ _ _ _ _ _ q)
@@ -340,7 +340,7 @@ pub exchange_keeps : ExchangeKeeps
 exchange_keeps last at to n m v u w s (hs, c) e p =
     let f = first_made last at n hs v c s u e in
     let is : record (at s) { token = Here w } ≡ here_with w = ap (λ (h : Holding). record h { token = Here w }) f.1 in
-    let q : Replies s (silent (here_with w)) [] at to n m = as_reply s _ _ _ at to n m (ap silent is) p in
+    let q : HasReplied s (reply_without_mail (here_with w)) [] at to n m = as_reply s _ _ _ at to n m (ap reply_without_mail is) p in
     let same = same_counts n m q.mail in (
       hs,
       token.settles last at to n m hs v w s c f.0 (next_of _ _ f.1) (put_of _ _ _ _ _ _ _ q)
@@ -352,29 +352,29 @@ exchange_keeps last at to n m v u w s (hs, c) e p =
 pub unit_keeps : UnitKeeps
 unit_keeps last at to n m v w manager s h p = go (at s).token refl
   where
-    reply : (t : Token) → (at s).token ≡ t → Replies s (exchange_reply manager last s w (record (at s) { token = t })) [] at to n m
-    reply t e = subst (λ (x : Token). Replies s (exchange_reply manager last s w (record (at s) { token = x })) [] at to n m) e p
+    reply : (t : Token) → (at s).token ≡ t → HasReplied s (exchange_reply manager last s w (record (at s) { token = t })) [] at to n m
+    reply t e = subst (λ (x : Token). HasReplied s (exchange_reply manager last s w (record (at s) { token = x })) [] at to n m) e p
 
     waits : (at s).token ≡ Away → with_waiter (record (at s) { token = Away }) ≡ with_waiter (at s)
     waits e = ap (λ (x : Token). with_waiter (record (at s) { token = x })) (sym e)
 
     first : (at s).token ≡ Away → (b : Bool) → Decides b (s ≡ manager) →
-        Replies s (cond b (get_reply manager last s (with_waiter (at s))) (record { held = with_waiter (at s); sent = Get s ∷ [] })) [] at to n m → ChainOf (cond b s last) to m v
+        HasReplied s (cond b (get_reply manager last s (with_waiter (at s))) (record { held = with_waiter (at s); sent = Get s ∷ [] })) [] at to n m → ChainOf (cond b s last) to m v
     first e false d q = asking_keeps last at to n m v s h e q
     first e true d q = (own_asking_keeps last at to n m v s h e).1 (own (last == manager) (Decides-eqb last manager) q)
       where
         apart : last ≢ manager
         apart f = (own_asking_keeps last at to n m v s h e).0 (f ∙ sym (d.0 refl))
 
-        own : (b : Bool) → Decides b (last ≡ manager) → Replies s (cond b (forward_reply (with_waiter (at s)) s) (record { held = with_waiter (at s); sent = Forward last s ∷ [] })) [] at to n m →
-            Replies s (record { held = with_waiter (at s); sent = Forward last s ∷ [] }) [] at to n m
+        own : (b : Bool) → Decides b (last ≡ manager) → HasReplied s (cond b (forward_reply (with_waiter (at s)) s) (record { held = with_waiter (at s); sent = Forward last s ∷ [] })) [] at to n m →
+            HasReplied s (record { held = with_waiter (at s); sent = Forward last s ∷ [] }) [] at to n m
         own true k q = absurd (apart (k.0 refl))
         own false k q = q
 
     go : (t : Token) → (at s).token ≡ t → ChainOf (last_after manager last s (at s).token) to m (content_then v w (at s).token)
     go (Here u) e = rw e (exchange_keeps last at to n m v u w s h e (reply (Here u) e))
-    go Asked e = rw e (waiting_keeps last at to n m v s h e (subst (λ (x : Holding). Replies s (silent x) [] at to n m) (ap (λ (x : Token). with_waiter (record (at s) { token = x })) (sym e)) (reply Asked e)))
-    go Away e = rw e (first e (s == manager) (Decides-eqb s manager) (subst (λ (x : Holding). Replies s (first_request manager last s x) [] at to n m) (waits e) (reply Away e)))
+    go Asked e = rw e (waiting_keeps last at to n m v s h e (subst (λ (x : Holding). HasReplied s (reply_without_mail x) [] at to n m) (ap (λ (x : Token). with_waiter (record (at s) { token = x })) (sym e)) (reply Asked e)))
+    go Away e = rw e (first e (s == manager) (Decides-eqb s manager) (subst (λ (x : Holding). HasReplied s (first_request manager last s x) [] at to n m) (waits e) (reply Away e)))
 
 -- ---- what a chain says
 

@@ -7,8 +7,8 @@ use Rattle.token_chain.specs.declared.token.Token.{Token}
 use Rattle.token_chain.specs.declared.token.Token.TheVariants.{Away, Asked, Here}
 use Rattle.token_chain.specs.Holding.{Holding, after_want, with_waiter, departure, departure_of}
 use Rattle.token_chain.specs.Mail.{Mail, Get, Forward, Put, equal_mail, mail_count}
-use Rattle.token_chain.specs.Rows.{Reply, silent, leave_with, leave_reply, forward_reply, put_reply, get_reply}
-use Rattle.token_chain.specs.Tally.{total, outstanding, held_here, weights, Tally, TalliesBound, KindsBound, Pays, HasWaiter, RowsPay, RepliesPay, MakingTallies}
+use Rattle.token_chain.specs.Rows.{Reply, reply_without_mail, leave_with, leave_reply, forward_reply, put_reply, get_reply}
+use Rattle.token_chain.specs.Tally.{total, outstanding, held_here, weights, Tally, TalliesBound, KindsBound, IsPaid, HasWaiter, RowsPay, RepliesPay, MakingTallies}
 use Rattle.token_chain.proofs.ChangeLemmas.{number_or}
 use Rattle.std.proofs.lemmas.Bool.Decides.{Decides-eqb}
 
@@ -178,7 +178,7 @@ leave_wanted h None w e = w e
 leave_wanted h (Some q) w e = absurd (cc)
 
 -- the token leaves, where it may
-leave_pays : (h : Holding) (came : ℕ) → (h.token ≡ Asked → 1 ≤ h.waiting) → Pays h (leave_reply h) came 0
+leave_pays : (h : Holding) (came : ℕ) → (h.token ≡ Asked → 1 ≤ h.waiting) → IsPaid h (leave_reply h) came 0
 leave_pays h came w =
     let l = none_leaves h (departure_of h) refl in
     let k = leave_kinds h (departure_of h) in
@@ -189,20 +189,20 @@ leave_pays h came w =
       puts = let a = l.0 in omega arith;
     }
 
-pub forward_pays : (h : Holding) (b came : ℕ) → (h.token ≡ Asked → 1 ≤ h.waiting) → Pays h (forward_reply h b) came 0
+pub forward_pays : (h : Holding) (b came : ℕ) → (h.token ≡ Asked → 1 ≤ h.waiting) → IsPaid h (forward_reply h b) came 0
 forward_pays h b came w =
     let q = leave_pays (record h { next = Some b }) came w in
     record { wanted = q.wanted; gets = q.gets; forwards = q.forwards; puts = q.puts }
 
-get_pays : (manager last k : ℕ) (h : Holding) → HasWaiter h → Pays h (get_reply manager last k h) 1 0
+get_pays : (manager last k : ℕ) (h : Holding) → HasWaiter h → IsPaid h (get_reply manager last k h) 1 0
 get_pays manager last k h w = go (last == manager)
   where
-    go : (b : Bool) → Pays h (cond b (forward_reply h k) (record { held = h; sent = Forward last k ∷ [] })) 1 0
+    go : (b : Bool) → IsPaid h (cond b (forward_reply h k) (record { held = h; sent = Forward last k ∷ [] })) 1 0
     go true = forward_pays h k 1 w
     go false = record { wanted = w; gets = omega arith; forwards = omega arith; puts = omega arith }
 
 -- a request is made
-pub asking_pays : (h : Holding) (s : ℕ) → h.token ≡ Away → Pays h (record { held = with_waiter h; sent = Get s ∷ [] }) 0 0
+pub asking_pays : (h : Holding) (s : ℕ) → h.token ≡ Away → IsPaid h (record { held = with_waiter h; sent = Get s ∷ [] }) 0 0
 asking_pays h s e = record {
   wanted = λ q. omega arith;
   gets = let a = ap outstanding e in let b = ap (λ (t : Token). outstanding (after_want t)) e in omega arith;
@@ -210,7 +210,7 @@ asking_pays h s e = record {
   puts = let a = ap held_here e in let b = ap (λ (t : Token). held_here (after_want t)) e in omega arith;
 }
 
-pub own_asking_pays : (h : Holding) (last o : ℕ) → h.token ≡ Away → Pays h (record { held = with_waiter h; sent = Forward last o ∷ [] }) 0 0
+pub own_asking_pays : (h : Holding) (last o : ℕ) → h.token ≡ Away → IsPaid h (record { held = with_waiter h; sent = Forward last o ∷ [] }) 0 0
 own_asking_pays h last o e = record {
   wanted = λ q. omega arith;
   gets = let a = ap outstanding e in let b = ap (λ (t : Token). outstanding (after_want t)) e in omega arith;
@@ -218,7 +218,7 @@ own_asking_pays h last o e = record {
   puts = let a = ap held_here e in let b = ap (λ (t : Token). held_here (after_want t)) e in omega arith;
 }
 
-pub waiting_pays : (h : Holding) → h.token ≡ Asked → Pays h (silent (with_waiter h)) 0 0
+pub waiting_pays : (h : Holding) → h.token ≡ Asked → IsPaid h (reply_without_mail (with_waiter h)) 0 0
 waiting_pays h e = record {
   wanted = λ q. omega arith;
   gets = let a = ap outstanding e in let b = ap (λ (t : Token). outstanding (after_want t)) e in omega arith;
@@ -227,7 +227,7 @@ waiting_pays h e = record {
 }
 
 -- a request ends with an exchange or more
-pub put_pays : (h : Holding) (v : VarName) (served : ℕ) → h.token ≡ Asked → 1 ≤ served → Pays h (put_reply h v) 0 served
+pub put_pays : (h : Holding) (v : VarName) (served : ℕ) → h.token ≡ Asked → 1 ≤ served → IsPaid h (put_reply h v) 0 served
 put_pays h v served e some =
     let l = none_leaves (record h { token = Here v; waiting = 0 }) (departure_of (record h { token = Here v; waiting = 0 })) refl in
     let k = leave_kinds (record h { token = Here v; waiting = 0 }) (departure_of (record h { token = Here v; waiting = 0 })) in
@@ -239,7 +239,7 @@ put_pays h v served e some =
       puts = let x = l.0 in omega (arith, some);
     }
 
-pub exchange_pays : (h : Holding) (u w : VarName) → h.token ≡ Here u → Pays h (silent (record h { token = Here w })) 0 1
+pub exchange_pays : (h : Holding) (u w : VarName) → h.token ≡ Here u → IsPaid h (reply_without_mail (record h { token = Here w })) 0 1
 exchange_pays h u w e = record {
   wanted = λ q. absurd (cc);
   gets = let a = ap outstanding e in omega arith;
@@ -303,7 +303,7 @@ same_tallies n at to before after gets forwards puts exchanges p q t =
     }
 
 -- whatever came
-pub pays_came : (h : Holding) (r : Reply) (came exchanges : ℕ) → Pays h r 0 exchanges → Pays h r came exchanges
+pub pays_came : (h : Holding) (r : Reply) (came exchanges : ℕ) → IsPaid h r 0 exchanges → IsPaid h r came exchanges
 pays_came h r came exchanges p = record {
   wanted = p.wanted;
   gets = p.gets;

@@ -4,7 +4,7 @@ use Rattle.std.specs.Prelude.{ℕ, List, [], ◌∷◌, ◌==◌, Option, Some, 
 use Rattle.tree_node.specs.declared.names.VarName.{VarName}
 use Rattle.token_chain.specs.declared.token.Token.{Token}
 use Rattle.token_chain.specs.declared.token.Token.TheVariants.{Away, Asked, Here}
-use Rattle.token_chain.specs.Holding.{Holding, away, with_waiter, departure_of}
+use Rattle.token_chain.specs.Holding.{Holding, nothing_held, with_waiter, departure_of}
 use Rattle.token_chain.specs.Mail.{Mail, Get, Forward, Put}
 
 -- what a site keeps of the cell after an event, and what it sends
@@ -12,12 +12,12 @@ pub record Reply : Type 0 where
   pub held : Holding
   pub sent : List Mail
 
-abbrev pub silent : Holding → Reply
-silent h = record { held = h; sent = [] }
+abbrev pub reply_without_mail : Holding → Reply
+reply_without_mail h = record { held = h; sent = [] }
 
 abbrev pub leave_with : Holding → Option (ℕ × VarName) → Reply
-leave_with h None = silent h
-leave_with h (Some (k, v)) = record { held = away; sent = Put k v ∷ [] }
+leave_with h None = reply_without_mail h
+leave_with h (Some (k, v)) = record { held = nothing_held; sent = Put k v ∷ [] }
 
 -- the token leaves where it may, to the successor and with the content
 abbrev pub leave_reply : Holding → Reply
@@ -46,8 +46,8 @@ abbrev pub exchange_reply : (manager last s : ℕ) → VarName → Holding → R
 exchange_reply manager last s w h = by_token h.token
   where
     by_token : Token → Reply
-    by_token (Here v) = silent (record h { token = Here w })
-    by_token Asked = silent (with_waiter h)
+    by_token (Here v) = reply_without_mail (record h { token = Here w })
+    by_token Asked = reply_without_mail (with_waiter h)
     by_token Away = first_request manager last s (with_waiter h)
 
 -- the site that asked last after that

@@ -3,10 +3,10 @@ use Rattle.std.specs.Prelude.{◌≡◌, ℕ, zero, suc, ◌+◌, ◌*◌, ◌�
 use Rattle.tree_node.specs.declared.names.VarName.{VarName}
 use Rattle.token_chain.specs.declared.token.Token.{Token}
 use Rattle.token_chain.specs.declared.token.Token.TheVariants.{Away, Asked, Here}
-use Rattle.token_chain.specs.Holding.{Holding, away, here_with, with_waiter}
+use Rattle.token_chain.specs.Holding.{Holding, nothing_held, here_with, with_waiter}
 use Rattle.token_chain.specs.Mail.{Mail, Get, Forward, Put, mail_count}
-use Rattle.token_chain.specs.Moves.{Replies}
-use Rattle.token_chain.specs.Rows.{Reply, silent, forward_reply, put_reply, get_reply}
+use Rattle.token_chain.specs.Moves.{HasReplied}
+use Rattle.token_chain.specs.Rows.{Reply, reply_without_mail, forward_reply, put_reply, get_reply}
 
 -- f 1 + .. + f n
 abbrev pub total : ℕ → (ℕ → ℕ) → ℕ
@@ -54,7 +54,7 @@ KindsBound =
     (gets ≤ exchanges + n) × (forwards ≤ exchanges + n) × (puts ≤ exchanges + 1)
 
 -- a reply with so many exchanges pays for its messages
-pub record Pays (h : Holding) (r : Reply) (came : ℕ) (exchanges : ℕ) : Type 0 where
+pub record IsPaid (h : Holding) (r : Reply) (came : ℕ) (exchanges : ℕ) : Type 0 where
   pub wanted : r.held.token ≡ Asked → 1 ≤ r.held.waiting
   pub gets : weights 1 0 0 r.sent + outstanding h.token ≤ exchanges + outstanding r.held.token
   pub forwards : weights 0 1 0 r.sent + weights 1 0 0 r.sent + outstanding h.token ≤ exchanges + outstanding r.held.token + came
@@ -66,23 +66,23 @@ HasWaiter h = h.token ≡ Asked → 1 ≤ h.waiting
 
 -- each row pays
 pub record RowsPay : Type 0 where
-  pub asking : (h : Holding) (s : ℕ) → h.token ≡ Away → Pays h (record { held = with_waiter h; sent = Get s ∷ [] }) 0 0
-  pub own_asking : (h : Holding) (last o : ℕ) → h.token ≡ Away → Pays h (record { held = with_waiter h; sent = Forward last o ∷ [] }) 0 0
-  pub waiting : (h : Holding) → h.token ≡ Asked → Pays h (silent (with_waiter h)) 0 0
-  pub get : (manager last k : ℕ) (h : Holding) → HasWaiter h → Pays h (get_reply manager last k h) 1 0
-  pub forward : (h : Holding) (k : ℕ) → HasWaiter h → Pays h (forward_reply h k) 0 0
-  pub put : (h : Holding) (w : VarName) (served : ℕ) → h.token ≡ Asked → 1 ≤ served → Pays h (put_reply h w) 0 served
-  pub exchange : (h : Holding) (u w : VarName) → h.token ≡ Here u → Pays h (silent (record h { token = Here w })) 0 1
+  pub asking : (h : Holding) (s : ℕ) → h.token ≡ Away → IsPaid h (record { held = with_waiter h; sent = Get s ∷ [] }) 0 0
+  pub own_asking : (h : Holding) (last o : ℕ) → h.token ≡ Away → IsPaid h (record { held = with_waiter h; sent = Forward last o ∷ [] }) 0 0
+  pub waiting : (h : Holding) → h.token ≡ Asked → IsPaid h (reply_without_mail (with_waiter h)) 0 0
+  pub get : (manager last k : ℕ) (h : Holding) → HasWaiter h → IsPaid h (get_reply manager last k h) 1 0
+  pub forward : (h : Holding) (k : ℕ) → HasWaiter h → IsPaid h (forward_reply h k) 0 0
+  pub put : (h : Holding) (w : VarName) (served : ℕ) → h.token ≡ Asked → 1 ≤ served → IsPaid h (put_reply h w) 0 served
+  pub exchange : (h : Holding) (u w : VarName) → h.token ≡ Here u → IsPaid h (reply_without_mail (record h { token = Here w })) 0 1
 
 -- so the tally is kept by each reply of one of n sites, where the Gets that came were of such sites
 abbrev pub RepliesPay : Type 0
 RepliesPay =
     (n : ℕ) (at to : ℕ → Holding) (before after : Mail → ℕ) (s : ℕ) (r : Reply) (gone : List Mail) (gets forwards puts exchanges more : ℕ) → 1 ≤ s → s ≤ n →
-    Replies s r gone at to before after → Pays (at s) r (total n (λ k. mail_count gone (Get k))) more → Tally n at before gets forwards puts exchanges →
+    HasReplied s r gone at to before after → IsPaid (at s) r (total n (λ k. mail_count gone (Get k))) more → Tally n at before gets forwards puts exchanges →
     Tally n to after (gets + weights 1 0 0 r.sent) (forwards + weights 0 1 0 r.sent) (puts + weights 0 0 1 r.sent) (exchanges + more)
 
 -- a cell begins with its token where it is made
 abbrev pub MakingTallies : Type 0
 MakingTallies =
-    (n : ℕ) (at to : ℕ → Holding) (before after : Mail → ℕ) (o : ℕ) (v : VarName) → 1 ≤ o → o ≤ n → ((s : ℕ) → at s ≡ away) → ((m : Mail) → before m ≡ 0) →
-    Replies o (silent (here_with v)) [] at to before after → Tally n to after 0 0 0 0
+    (n : ℕ) (at to : ℕ → Holding) (before after : Mail → ℕ) (o : ℕ) (v : VarName) → 1 ≤ o → o ≤ n → ((s : ℕ) → at s ≡ nothing_held) → ((m : Mail) → before m ≡ 0) →
+    HasReplied o (reply_without_mail (here_with v)) [] at to before after → Tally n to after 0 0 0 0

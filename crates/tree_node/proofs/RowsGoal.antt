@@ -1,7 +1,7 @@
 -- The worked examples of goals, computed.
 use Rattle.std.proofs.Common.{refl, inl, inr}
 use Rattle.tree_node.specs.declared.node.Term.TheVariants as term
-use Rattle.tree_node.specs.Goal.{Allows}
+use Rattle.tree_node.specs.Goal.{IsAllowedBind}
 use Rattle.tree_node.specs.Rows.{v, three_known, PartsAreTold, EitherIsBound, RingIsMet}
 
 pub parts_are_told : PartsAreTold
@@ -16,7 +16,7 @@ parts_are_told = record {
   stays = refl;
 }
   where
-    not_back : Allows three_known (term.Var (v 0)) (term.Var (v 5)) (v 5, term.Var (v 0)) → ⊥
+    not_back : IsAllowedBind three_known (term.Var (v 0)) (term.Var (v 5)) (v 5, term.Var (v 0)) → ⊥
     not_back (inl h) = cc
     not_back (inr h) = cc
 

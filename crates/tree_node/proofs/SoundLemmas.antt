@@ -15,11 +15,11 @@ use Rattle.tree_node.proofs.ClassLemmas.{same_name_decides, Contains-cons_cases,
 use Rattle.tree_node.proofs.DetLemmas.{found, missing}
 use Rattle.tree_node.proofs.OrderLemmas.{Each-member}
 
-pub same_var : {x y : VarName} → term.Var x ≡ term.Var y → x ≡ y
-same_var e = cc
+pub equal_vars : {x y : VarName} → term.Var x ≡ term.Var y → x ≡ y
+equal_vars e = cc
 
-same_node : {m n : Node} → term.Node m ≡ term.Node n → m ≡ n
-same_node e = cc
+equal_nodes : {m n : Node} → term.Node m ≡ term.Node n → m ≡ n
+equal_nodes e = cc
 
 -- a variable with a node is in no class without one
 no_node : (s : Store) (x y : VarName) (n : Node) → root_of s y ≡ root_of s x → Contains s (y, term.Node n) → node_of s x ≡ None → ⊥
@@ -33,7 +33,7 @@ same_root_node ((u, term.Node o) ∷ s) y z m n is e h k =
   where
     go : (Contains s (y, term.Node m) → Contains s (z, term.Node n) → m ≡ n) →
         (◌≡◌ {A = Equation} (u, term.Node o) (y, term.Node m)) ⊎ Contains s (y, term.Node m) → (◌≡◌ {A = Equation} (u, term.Node o) (z, term.Node n)) ⊎ Contains s (z, term.Node n) → m ≡ n
-    go ih (inl a) (inl b) = same_node (sym (ap (λ (p : Equation). p.1) a) ∙ ap (λ (p : Equation). p.1) b)
+    go ih (inl a) (inl b) = equal_nodes (sym (ap (λ (p : Equation). p.1) a) ∙ ap (λ (p : Equation). p.1) b)
     go ih (inl a) (inr k) =
         let left : u ≡ y = ap (λ (p : Equation). p.0) a in
         absurd (no_node s u z n (sym (ap (root_of s) left ∙ e)) k is.1)
@@ -83,7 +83,7 @@ pub data Down (s : Store) : VarName → VarName → Type 0 where
 pub down_step : {s : Store} {x y u : VarName} → HasOneEach s → IsFree s u → Contains s (y, term.Var x) → Down s y u → Down s x u
 down_step {s} {x} one free h stop = absurd (free (term.Var x) h)
 down_step {s} {x} one free h (link {x = a} {y = b} {z = d} g p) =
-    subst (λ (w : VarName). Down s w d) (same_var (one a (term.Var b) (term.Var x) g h)) p
+    subst (λ (w : VarName). Down s w d) (equal_vars (one a (term.Var b) (term.Var x) g h)) p
 
 pub down_of_same : {s : Store} {x u : VarName} → HasOneEach s → IsFree s u → Same s x u → Down s x u
 down_of_same one free here = stop

@@ -1,5 +1,4 @@
--- The order of names: names of one kind by the site that made them, then by number; variables before cells, cells
--- before procedures, procedures before threads.
+-- The order of names: names of one kind by the site that made them, then by number.
 use Rattle.std.specs.Prelude.{◌≡◌, ℕ, ◌<◌, ◌⊎◌}
 use Rattle.tree_node.specs.declared.names.VarName.{VarName}
 use Rattle.tree_node.specs.declared.names.Name.{Name}
@@ -16,12 +15,6 @@ abbrev pub IsLower : Term → VarName → Type 0
 IsLower (term.Var v) u = IsBelow v u
 IsLower (term.Node n) u = Unit {0}
 
-abbrev pub kind_rank : Name → ℕ
-kind_rank (name.Var x) = 0
-kind_rank (name.Cell x) = 1
-kind_rank (name.Proc x) = 2
-kind_rank (name.Thread x) = 3
-
 abbrev pub site_of : Name → ℕ
 site_of (name.Var x) = x.site
 site_of (name.Cell x) = x.site
@@ -33,9 +26,3 @@ num_of (name.Var x) = x.num
 num_of (name.Cell x) = x.num
 num_of (name.Proc x) = x.num
 num_of (name.Thread x) = x.num
-
--- names of every kind in one order
-abbrev pub IsNameBelow : Name → Name → Type 0
-IsNameBelow a b =
-    (kind_rank a < kind_rank b)
-    ⊎ ((kind_rank a ≡ kind_rank b) × ((site_of a < site_of b) ⊎ ((site_of a ≡ site_of b) × (num_of a < num_of b))))

@@ -6,7 +6,7 @@ use Rattle.tree_node.specs.declared.node.Node.{Node}
 use Rattle.tree_node.specs.declared.node.Node.TheVariants as node
 use Rattle.tree_node.specs.declared.node.Term.TheVariants as term
 use Rattle.tree_node.specs.Store.{Store, Equation, node_of}
-use Rattle.tree_node.specs.Goal.{Dropped, Binds, Opened, Failed, Allows, case_of}
+use Rattle.tree_node.specs.Goal.{Dropped, Binds, Opened, Failed, IsAllowedBind, case_of}
 use Rattle.tree_node.specs.Shown.{Shown, Text, IsNeeded, shown, shown_within}
 
 abbrev pub v : ℕ → VarName
@@ -118,16 +118,16 @@ pub record PartsAreTold : Type 0 where
   pub opens : case_of three_known [] (term.Node (p_of 0 1)) (term.Node (p_of 5 2))
       ≡ Opened (p_of 0 1) (p_of 5 2) ((term.Var (v 0), term.Var (v 5)) ∷ (term.Var (v 1), term.Var (v 2)) ∷ [])
   pub binds : case_of three_known ((p_of 0 1, p_of 5 2) ∷ []) (term.Var (v 0)) (term.Var (v 5)) ≡ Binds
-  pub to_variable : Allows three_known (term.Var (v 0)) (term.Var (v 5)) (v 0, term.Var (v 5))
-  pub to_node : Allows three_known (term.Var (v 0)) (term.Var (v 5)) (v 0, term.Node (node.Int (pos 5)))
-  pub not_back : Allows three_known (term.Var (v 0)) (term.Var (v 5)) (v 5, term.Var (v 0)) → ⊥
+  pub to_variable : IsAllowedBind three_known (term.Var (v 0)) (term.Var (v 5)) (v 0, term.Var (v 5))
+  pub to_node : IsAllowedBind three_known (term.Var (v 0)) (term.Var (v 5)) (v 0, term.Node (node.Int (pos 5)))
+  pub not_back : IsAllowedBind three_known (term.Var (v 0)) (term.Var (v 5)) (v 5, term.Var (v 0)) → ⊥
   pub drops : case_of first_bound ((p_of 0 1, p_of 5 2) ∷ []) (term.Var (v 0)) (term.Var (v 5)) ≡ Dropped
   pub fails : case_of first_bound ((p_of 0 1, p_of 5 2) ∷ []) (term.Var (v 1)) (term.Var (v 2)) ≡ Failed
   pub stays : node_of first_bound (v 0) ≡ Some (node.Int (pos 5))
 
 -- two variables without nodes: either is bound to the other
 abbrev pub EitherIsBound : Type 0
-EitherIsBound = Allows [] (term.Var (v 0)) (term.Var (v 1)) (v 0, term.Var (v 1)) × Allows [] (term.Var (v 0)) (term.Var (v 1)) (v 1, term.Var (v 0))
+EitherIsBound = IsAllowedBind [] (term.Var (v 0)) (term.Var (v 1)) (v 0, term.Var (v 1)) × IsAllowedBind [] (term.Var (v 0)) (term.Var (v 1)) (v 1, term.Var (v 0))
 
 abbrev pub f_of : ℕ → Node
 f_of x = node.Rec (codes "f") ((feature.Int (pos 1), v x) ∷ [])

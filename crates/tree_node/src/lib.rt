@@ -6,7 +6,7 @@
 //! them (`State`, `Names`), environments (`Env`), exceptions (`Unwind`), values by key (`Assoc`).
 //!
 //! Promises: copies equal what they copy (`copy_node`, `copy_term`, `copy_feature`, `copy_pick`); tests and orders are those
-//! of the definitions (`same_text`, `equal_fields`, `equal_feature`, `compare_features`, `is_below`, `is_name_below`); atoms,
+//! of the definitions (`equal_text`, `equal_fields`, `equal_feature`, `compare_features`, `is_below`); atoms,
 //! features and heads are spelled as defined, with quotes where they could not be read back (`atom_text`, `feature_text`,
 //! `node_head`, `is_reserved`); an environment is a finite map (`Env`, `RoomyEnv`); lists are lists (`Seq`, `Shared`, `Line`).
 //! Laws of the definitions, as functions that do nothing: `roots_tell_classes`, `nodes_tell_det`, `sound_stores`,
@@ -44,11 +44,10 @@ pub use laws::{
 pub use line::Line;
 pub use names::{
     CellName, CodeId, Name, NameKind, NameList, ProcName, ThreadName, VarName, is_below,
-    is_name_below,
 };
 pub use node::{
     Feature, Fields, Node, Term, Text, Vars, compare_features, copy_feature, copy_node, copy_term,
-    equal_bytes, equal_feature, equal_fields, node_arity, same_text,
+    equal_bytes, equal_feature, equal_fields, equal_text, node_arity,
 };
 pub use pick::{Pick, copy_pick, plain_pick};
 pub use seq::Seq;

@@ -1,7 +1,7 @@
 //! The names of variables, cells, procedures and threads.
 
 ghost use Rattle.std.specs.Prelude.{◌↔◌, IsTrue};
-ghost use Rattle.tree_node.specs.Order.{IsBelow, IsNameBelow};
+ghost use Rattle.tree_node.specs.Order.{IsBelow};
 
 use crate::seq::Seq;
 
@@ -61,14 +61,6 @@ pub type NameList = Seq<Name>;
 /// Whether a variable's name is below another: by site, then by number.
 pub fn is_below(lesser: VarName, greater: VarName) -> bool
     ensures { IsTrue result ↔ IsBelow lesser greater }
-{
-    lesser < greater
-}
-
-/// Whether a name of any kind is below another: variables, cells, procedures, threads, those of one kind by site, then
-/// by number.
-pub fn is_name_below(lesser: Name, greater: Name) -> bool
-    ensures { IsTrue result ↔ IsNameBelow lesser greater }
 {
     lesser < greater
 }

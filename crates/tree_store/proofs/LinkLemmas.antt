@@ -1,4 +1,4 @@
--- Trees of classes: how a place is written, and what hanging one tree below another does.
+-- Trees of classes: how an entry is written, and what putting one tree below another does.
 use Rattle.std.proofs.Common.{arith, ◌^◌, ◌≡◌, ◌∙◌, sym, ap, refl, subst, ℕ, ◌+◌, ◌*◌, ◌<◌, ◌≤◌, List, [], ◌∷◌, ◌++◌, length, ◌⊎◌, inl, inr, Bool, true, false, cond, Some, None}
 use Rattle.std.specs.Prelude.{Option, Result, Ok, Err, OnErr, IsSome, unwrap_or}
 use Rattle.std.specs.Map.{lookup, set_value}
@@ -24,7 +24,7 @@ apart_false x y h = go (equal_var x y) refl
 both_ways : true ≡ false → ⊥
 both_ways e = cc
 
--- ---- places in lists
+-- ---- entries in lists
 
 pub put_lookup : {V : Type 0} (es : List (VarName × V)) (x y : VarName) (p : V) → IsSome (lookup (equal_var x) es) →
     lookup (equal_var y) (set_value (equal_var x) es p) ≡ cond (equal_var x y) (Some p) (lookup (equal_var y) es)
@@ -43,9 +43,9 @@ put_lookup ((z, q) ∷ es) x y p h = go (equal_var x z) (equal_var y z) refl ref
         rw (f, differ) refl
     go false false e f h ih = rw f (ih h)
 
--- a place that is put where one was
-pub place_put : (es : ClassEntries) (x y : VarName) (p : ClassEntry) → IsSome (lookup (equal_var x) es) → entry_in (set_value (equal_var x) es p) y ≡ cond (equal_var x y) p (entry_in es y)
-place_put es x y p some = ap (λ (o : Option ClassEntry). unwrap_or o (singleton y)) (put_lookup es x y p some) ∙ go (equal_var x y)
+-- an entry that is put where one was
+pub entry_put : (es : ClassEntries) (x y : VarName) (p : ClassEntry) → IsSome (lookup (equal_var x) es) → entry_in (set_value (equal_var x) es p) y ≡ cond (equal_var x y) p (entry_in es y)
+entry_put es x y p some = ap (λ (o : Option ClassEntry). unwrap_or o (singleton y)) (put_lookup es x y p some) ∙ go (equal_var x y)
   where
     go : (b : Bool) → unwrap_or (cond b (Some p) (lookup (equal_var y) es)) (singleton y) ≡ cond b p (entry_in es y)
     go true = refl
@@ -70,7 +70,7 @@ put_length ((z, q) ∷ es) x p = go (equal_var x z) (put_length es x p)
     go true e = refl
     go false e = omega arith
 
--- what a place that is put adds to the sizes
+-- what an entry that is put adds to the sizes
 put_total : (es : ClassEntries) (x : VarName) (p : ClassEntry) → IsSome (lookup (equal_var x) es) → total (set_value (equal_var x) es p) + weight x (entry_in es x) ≡ total es + weight x p
 put_total [] x p h = cc
 put_total ((z, q) ∷ es) x p h = go (equal_var x z) refl h (λ k. put_total es x p k)
@@ -91,8 +91,8 @@ top_total ((z, q) ∷ es) x h = go (equal_var x z) refl h (λ k. top_total es x 
     go true e h ih = let at : x ≡ z = same_back x z e in subst (λ (y : VarName). weight x q ≤ weight y q + total es) at (omega arith)
     go false e h ih = let rest = ih h in omega arith
 
-top_weight : (place : VarName → ClassEntry) (x : VarName) → IsRepresentative place x → weight x (place x) ≡ (place x).size
-top_weight place x t = rw (same_true (place x).parent x t) refl
+top_weight : (entry : VarName → ClassEntry) (x : VarName) → IsRepresentative entry x → weight x (entry x) ≡ (entry x).size
+top_weight entry x t = rw (same_true (entry x).parent x t) refl
 
 -- ---- a variable that is written down
 
@@ -127,7 +127,7 @@ alone_stays ((z, q) ∷ es) x y h = go (equal_var y z) h (λ k. alone_stays es x
     go true h ih = h
     go false h ih = ih h
 
--- trees of the same places
+-- trees of the same entries
 same_rises : (es fs : ClassEntries) → ((y : VarName) → entry_in fs y ≡ entry_in es y) → (x : VarName) → IsRepresentative (entry_in es) x ⊎ (2 * (entry_in es x).size ≤ (entry_in es (entry_in es x).parent).size) →
     IsRepresentative (entry_in fs) x ⊎ (2 * (entry_in fs x).size ≤ (entry_in fs (entry_in fs x).parent).size)
 same_rises es fs h x r = rw (h x, h (entry_in es x).parent) r
@@ -141,8 +141,8 @@ tree_alone es fs x e none t =
       counts = rw e (alone_total es x ∙ ap (λ (n : ℕ). n + 1) t.counts ∙ sym (alone_length es x));
     }
 
-pub tells_same : (root : VarName → VarName) (place other : VarName → ClassEntry) → ((y : VarName) → other y ≡ place y) → AreClasses root place → AreClasses root other
-tells_same root place other h t = record {
+pub tells_same : (root : VarName → VarName) (entry other : VarName → ClassEntry) → ((y : VarName) → other y ≡ entry y) → AreClasses root entry → AreClasses root other
+tells_same root entry other h t = record {
   parent = λ x. rw (h x) (t.parent x);
   end = λ x top. rw (h x) (t.end x (rw (h x) at top));
   one = λ x y p q e. t.one x y (rw (h x) at p) (rw (h y) at q) e;
@@ -150,62 +150,62 @@ tells_same root place other h t = record {
 
 -- ---- one tree below the top of another
 
-abbrev pub below_place : (VarName → ClassEntry) → VarName → VarName → ClassEntry
-below_place place c w = record { parent = w; size = (place c).size; end = (place c).end }
+abbrev pub below_entry : (VarName → ClassEntry) → VarName → VarName → ClassEntry
+below_entry entry c w = record { parent = w; size = (entry c).size; end = (entry c).end }
 
-abbrev pub above_place : (VarName → ClassEntry) → VarName → VarName → VarName → ClassEntry
-above_place place c w e = record { parent = w; size = (place c).size + (place w).size; end = e }
+abbrev pub above_entry : (VarName → ClassEntry) → VarName → VarName → VarName → ClassEntry
+above_entry entry c w e = record { parent = w; size = (entry c).size + (entry w).size; end = e }
 
-abbrev pub places_after : ClassEntries → VarName → VarName → VarName → ClassEntries
-places_after es c w e = set_value (equal_var w) (set_value (equal_var c) es (below_place (entry_in es) c w)) (above_place (entry_in es) c w e)
+abbrev pub forest_after : ClassEntries → VarName → VarName → VarName → ClassEntries
+forest_after es c w e = set_value (equal_var w) (set_value (equal_var c) es (below_entry (entry_in es) c w)) (above_entry (entry_in es) c w e)
 
-pub places_hung : (es : ClassEntries) (c w e y : VarName) → IsSome (lookup (equal_var c) es) → IsSome (lookup (equal_var w) es) → entry_in (places_after es c w e) y ≡ entry_after_union (entry_in es) c w e y
-places_hung es c w e y hc hw =
-    place_put (set_value (equal_var c) es (below_place (entry_in es) c w)) w y (above_place (entry_in es) c w e) (put_stays es c w (below_place (entry_in es) c w) hw)
-    ∙ ap (λ (p : ClassEntry). cond (equal_var w y) (above_place (entry_in es) c w e) p) (place_put es c y (below_place (entry_in es) c w) hc)
+pub entries_after_union : (es : ClassEntries) (c w e y : VarName) → IsSome (lookup (equal_var c) es) → IsSome (lookup (equal_var w) es) → entry_in (forest_after es c w e) y ≡ entry_after_union (entry_in es) c w e y
+entries_after_union es c w e y hc hw =
+    entry_put (set_value (equal_var c) es (below_entry (entry_in es) c w)) w y (above_entry (entry_in es) c w e) (put_stays es c w (below_entry (entry_in es) c w) hw)
+    ∙ ap (λ (p : ClassEntry). cond (equal_var w y) (above_entry (entry_in es) c w e) p) (entry_put es c y (below_entry (entry_in es) c w) hc)
 
-size_hung : (place : VarName → ClassEntry) (c w e x : VarName) → (place x).size ≤ (entry_after_union place c w e x).size
-size_hung place c w e x = go (equal_var w x) (equal_var c x) refl refl
+size_after_union : (entry : VarName → ClassEntry) (c w e x : VarName) → (entry x).size ≤ (entry_after_union entry c w e x).size
+size_after_union entry c w e x = go (equal_var w x) (equal_var c x) refl refl
   where
-    go : (b d : Bool) → equal_var w x ≡ b → equal_var c x ≡ d → (place x).size ≤ (cond b (above_place place c w e) (cond d (below_place place c w) (place x))).size
-    go true d p q = subst (λ (z : VarName). (place z).size ≤ (place c).size + (place w).size) (same_back w x p) (omega arith)
-    go false true p q = subst (λ (z : VarName). (place z).size ≤ (place c).size) (same_back c x q) (omega arith)
+    go : (b d : Bool) → equal_var w x ≡ b → equal_var c x ≡ d → (entry x).size ≤ (cond b (above_entry entry c w e) (cond d (below_entry entry c w) (entry x))).size
+    go true d p q = subst (λ (z : VarName). (entry z).size ≤ (entry c).size + (entry w).size) (same_back w x p) (omega arith)
+    go false true p q = subst (λ (z : VarName). (entry z).size ≤ (entry c).size) (same_back c x q) (omega arith)
     go false false p q = omega arith
 
-above_there : (place : VarName → ClassEntry) (c w e : VarName) → entry_after_union place c w e w ≡ above_place place c w e
-above_there place c w e = rw (same_name_refl w) refl
+above_there : (entry : VarName → ClassEntry) (c w e : VarName) → entry_after_union entry c w e w ≡ above_entry entry c w e
+above_there entry c w e = rw (same_name_refl w) refl
 
-rises_hung : (place : VarName → ClassEntry) (c w e y : VarName) → (place c).size ≤ (place w).size → IsRepresentative place y ⊎ (2 * (place y).size ≤ (place (place y).parent).size) →
-    IsRepresentative (entry_after_union place c w e) y ⊎ (2 * (entry_after_union place c w e y).size ≤ (entry_after_union place c w e (entry_after_union place c w e y).parent).size)
-rises_hung place c w e y smaller rises = go (equal_var w y) (equal_var c y) refl refl
+rises_after_union : (entry : VarName → ClassEntry) (c w e y : VarName) → (entry c).size ≤ (entry w).size → IsRepresentative entry y ⊎ (2 * (entry y).size ≤ (entry (entry y).parent).size) →
+    IsRepresentative (entry_after_union entry c w e) y ⊎ (2 * (entry_after_union entry c w e y).size ≤ (entry_after_union entry c w e (entry_after_union entry c w e y).parent).size)
+rises_after_union entry c w e y smaller rises = go (equal_var w y) (equal_var c y) refl refl
   where
     Rises : ClassEntry → Type 0
-    Rises p = (p.parent ≡ y) ⊎ (2 * p.size ≤ (entry_after_union place c w e p.parent).size)
+    Rises p = (p.parent ≡ y) ⊎ (2 * p.size ≤ (entry_after_union entry c w e p.parent).size)
 
-    old : IsRepresentative place y ⊎ (2 * (place y).size ≤ (place (place y).parent).size) → Rises (place y)
+    old : IsRepresentative entry y ⊎ (2 * (entry y).size ≤ (entry (entry y).parent).size) → Rises (entry y)
     old (inl t) = inl t
-    old (inr r) = let more = size_hung place c w e (place y).parent in inr (omega arith)
+    old (inr r) = let more = size_after_union entry c w e (entry y).parent in inr (omega arith)
 
-    go : (b d : Bool) → equal_var w y ≡ b → equal_var c y ≡ d → Rises (cond b (above_place place c w e) (cond d (below_place place c w) (place y)))
+    go : (b d : Bool) → equal_var w y ≡ b → equal_var c y ≡ d → Rises (cond b (above_entry entry c w e) (cond d (below_entry entry c w) (entry y)))
     go true d p q = inl (same_back w y p)
     go false true p q =
-        let sum : (entry_after_union place c w e w).size ≡ (place c).size + (place w).size = ap (λ (r : ClassEntry). r.size) (above_there place c w e) in
+        let sum : (entry_after_union entry c w e w).size ≡ (entry c).size + (entry w).size = ap (λ (r : ClassEntry). r.size) (above_there entry c w e) in
         inr (omega arith)
     go false false p q = old rises
 
-moved_rises : (place other : VarName → ClassEntry) (y : VarName) → ((x : VarName) → other x ≡ place x) → IsRepresentative place y ⊎ (2 * (place y).size ≤ (place (place y).parent).size) →
+moved_rises : (entry other : VarName → ClassEntry) (y : VarName) → ((x : VarName) → other x ≡ entry x) → IsRepresentative entry y ⊎ (2 * (entry y).size ≤ (entry (entry y).parent).size) →
     IsRepresentative other y ⊎ (2 * (other y).size ≤ (other (other y).parent).size)
-moved_rises place other y h r = rw (h y, h (place y).parent) r
+moved_rises entry other y h r = rw (h y, h (entry y).parent) r
 
-top_there : (es : ClassEntries) (c w : VarName) → (c ≡ w → ⊥) → IsSome (lookup (equal_var c) es) → entry_in (set_value (equal_var c) es (below_place (entry_in es) c w)) w ≡ entry_in es w
-top_there es c w differ hc = place_put es c w (below_place (entry_in es) c w) hc ∙ rw (apart_false c w differ) refl
+top_there : (es : ClassEntries) (c w : VarName) → (c ≡ w → ⊥) → IsSome (lookup (equal_var c) es) → entry_in (set_value (equal_var c) es (below_entry (entry_in es) c w)) w ≡ entry_in es w
+top_there es c w differ hc = entry_put es c w (below_entry (entry_in es) c w) hc ∙ rw (apart_false c w differ) refl
 
 below_total : (es : ClassEntries) (c w : VarName) → (c ≡ w → ⊥) → IsRepresentative (entry_in es) c → IsSome (lookup (equal_var c) es) →
-    total (set_value (equal_var c) es (below_place (entry_in es) c w)) + (entry_in es c).size ≡ total es
+    total (set_value (equal_var c) es (below_entry (entry_in es) c w)) + (entry_in es c).size ≡ total es
 below_total es c w differ tc hc =
-    let put = put_total es c (below_place (entry_in es) c w) hc in
+    let put = put_total es c (below_entry (entry_in es) c w) hc in
     let own : weight c (entry_in es c) ≡ (entry_in es c).size = top_weight (entry_in es) c tc in
-    let none : weight c (below_place (entry_in es) c w) ≡ 0 = rw (apart_false w c (λ e. differ (sym e))) refl in
+    let none : weight c (below_entry (entry_in es) c w) ≡ 0 = rw (apart_false w c (λ e. differ (sym e))) refl in
     omega arith
 
 pub sizes_fit : (es : ClassEntries) (c w : VarName) → IsTree es → (c ≡ w → ⊥) → IsRepresentative (entry_in es) c → IsRepresentative (entry_in es) w → IsSome (lookup (equal_var c) es) → IsSome (lookup (equal_var w) es) →
@@ -213,39 +213,39 @@ pub sizes_fit : (es : ClassEntries) (c w : VarName) → IsTree es → (c ≡ w �
 sizes_fit es c w t differ tc tw hc hw =
     let first = below_total es c w differ tc hc in
     let there = top_there es c w differ hc in
-    let part = top_total (set_value (equal_var c) es (below_place (entry_in es) c w)) w (put_stays es c w (below_place (entry_in es) c w) hw) in
-    let own : weight w (entry_in (set_value (equal_var c) es (below_place (entry_in es) c w)) w) ≡ (entry_in es w).size = ap (weight w) there ∙ top_weight (entry_in es) w tw in
+    let part = top_total (set_value (equal_var c) es (below_entry (entry_in es) c w)) w (put_stays es c w (below_entry (entry_in es) c w) hw) in
+    let own : weight w (entry_in (set_value (equal_var c) es (below_entry (entry_in es) c w)) w) ≡ (entry_in es w).size = ap (weight w) there ∙ top_weight (entry_in es) w tw in
     let all = t.counts in
     omega arith
 
-pub tree_hung : (es : ClassEntries) (c w e : VarName) → IsTree es → (c ≡ w → ⊥) → IsRepresentative (entry_in es) c → IsRepresentative (entry_in es) w → IsSome (lookup (equal_var c) es) → IsSome (lookup (equal_var w) es) →
-    (entry_in es c).size ≤ (entry_in es w).size → IsTree (places_after es c w e)
-tree_hung es c w e t differ tc tw hc hw smaller = record {
-  rises = λ y. moved_rises (entry_after_union (entry_in es) c w e) (entry_in (places_after es c w e)) y at (rises_hung (entry_in es) c w e y smaller (t.rises y));
-  positive = λ y. let some = t.positive y in let more = size_hung (entry_in es) c w e y in rw (at y) (omega arith);
+pub tree_after_union : (es : ClassEntries) (c w e : VarName) → IsTree es → (c ≡ w → ⊥) → IsRepresentative (entry_in es) c → IsRepresentative (entry_in es) w → IsSome (lookup (equal_var c) es) → IsSome (lookup (equal_var w) es) →
+    (entry_in es c).size ≤ (entry_in es w).size → IsTree (forest_after es c w e)
+tree_after_union es c w e t differ tc tw hc hw smaller = record {
+  rises = λ y. moved_rises (entry_after_union (entry_in es) c w e) (entry_in (forest_after es c w e)) y at (rises_after_union (entry_in es) c w e y smaller (t.rises y));
+  positive = λ y. let some = t.positive y in let more = size_after_union (entry_in es) c w e y in rw (at y) (omega arith);
   counts = sums;
 }
   where
-    at : (x : VarName) → entry_in (places_after es c w e) x ≡ entry_after_union (entry_in es) c w e x
-    at x = places_hung es c w e x hc hw
+    at : (x : VarName) → entry_in (forest_after es c w e) x ≡ entry_after_union (entry_in es) c w e x
+    at x = entries_after_union es c w e x hc hw
 
-    sums : total (places_after es c w e) ≡ length (places_after es c w e)
+    sums : total (forest_after es c w e) ≡ length (forest_after es c w e)
     sums =
         let first = below_total es c w differ tc hc in
         let there = top_there es c w differ hc in
-        let fs : ClassEntries = set_value (equal_var c) es (below_place (entry_in es) c w) in
-        let second = put_total fs w (above_place (entry_in es) c w e) (put_stays es c w (below_place (entry_in es) c w) hw) in
+        let fs : ClassEntries = set_value (equal_var c) es (below_entry (entry_in es) c w) in
+        let second = put_total fs w (above_entry (entry_in es) c w e) (put_stays es c w (below_entry (entry_in es) c w) hw) in
         let own : weight w (entry_in fs w) ≡ (entry_in es w).size = ap (weight w) there ∙ top_weight (entry_in es) w tw in
-        let new : weight w (above_place (entry_in es) c w e) ≡ (entry_in es c).size + (entry_in es w).size = rw (same_name_refl w) refl in
-        let long : length (places_after es c w e) ≡ length es = put_length fs w (above_place (entry_in es) c w e) ∙ put_length es c (below_place (entry_in es) c w) in
+        let new : weight w (above_entry (entry_in es) c w e) ≡ (entry_in es c).size + (entry_in es w).size = rw (same_name_refl w) refl in
+        let long : length (forest_after es c w e) ≡ length es = put_length fs w (above_entry (entry_in es) c w e) ∙ put_length es c (below_entry (entry_in es) c w) in
         let all = t.counts in
         omega arith
 
 -- ---- classes that are joined
 
 -- the tops of the two classes, in either order
-abbrev pub AreTopsOf : (VarName → VarName) → VarName → VarName → VarName → VarName → Type 0
-AreTopsOf root x y c w = ((root c ≡ root x) × (root w ≡ root y)) ⊎ ((root c ≡ root y) × (root w ≡ root x))
+abbrev pub AreRepresentatives : (VarName → VarName) → VarName → VarName → VarName → VarName → Type 0
+AreRepresentatives root x y c w = ((root c ≡ root x) × (root w ≡ root y)) ⊎ ((root c ≡ root y) × (root w ≡ root x))
 
 joined_right : (root : VarName → VarName) (x y z : VarName) → root z ≡ root y → joined_root root x y z ≡ root y
 joined_right root x y z e = go (equal_var (root z) (root x))
@@ -257,83 +257,83 @@ joined_right root x y z e = go (equal_var (root z) (root x))
 joined_other : (root : VarName → VarName) (x y z : VarName) → (root z ≡ root x → ⊥) → joined_root root x y z ≡ root z
 joined_other root x y z h = rw (apart_false (root z) (root x) h) refl
 
-child_joined : (root : VarName → VarName) (x y c w : VarName) → AreTopsOf root x y c w → joined_root root x y c ≡ root y
+child_joined : (root : VarName → VarName) (x y c w : VarName) → AreRepresentatives root x y c w → joined_root root x y c ≡ root y
 child_joined root x y c w (inl h) = joined_when root x y c h.0
 child_joined root x y c w (inr h) = joined_right root x y c h.0
 
-top_joined : (root : VarName → VarName) (x y c w : VarName) → AreTopsOf root x y c w → joined_root root x y w ≡ root y
+top_joined : (root : VarName → VarName) (x y c w : VarName) → AreRepresentatives root x y c w → joined_root root x y w ≡ root y
 top_joined root x y c w (inl h) = joined_right root x y w h.1
 top_joined root x y c w (inr h) = joined_when root x y w h.1
 
 -- another top is of neither class
-not_left : (root : VarName → VarName) (place : VarName → ClassEntry) (x y c w z : VarName) → AreClasses root place → IsRepresentative place c → IsRepresentative place w → AreTopsOf root x y c w → IsRepresentative place z →
+not_left : (root : VarName → VarName) (entry : VarName → ClassEntry) (x y c w z : VarName) → AreClasses root entry → IsRepresentative entry c → IsRepresentative entry w → AreRepresentatives root x y c w → IsRepresentative entry z →
     (c ≡ z → ⊥) → (w ≡ z → ⊥) → root z ≡ root x → ⊥
-not_left root place x y c w z t tc tw (inl h) tz nc nw e = nc (t.one c z tc tz (h.0 ∙ sym e))
-not_left root place x y c w z t tc tw (inr h) tz nc nw e = nw (t.one w z tw tz (h.1 ∙ sym e))
+not_left root entry x y c w z t tc tw (inl h) tz nc nw e = nc (t.one c z tc tz (h.0 ∙ sym e))
+not_left root entry x y c w z t tc tw (inr h) tz nc nw e = nw (t.one w z tw tz (h.1 ∙ sym e))
 
-not_right : (root : VarName → VarName) (place : VarName → ClassEntry) (x y c w z : VarName) → AreClasses root place → IsRepresentative place c → IsRepresentative place w → AreTopsOf root x y c w → IsRepresentative place z →
+not_right : (root : VarName → VarName) (entry : VarName → ClassEntry) (x y c w z : VarName) → AreClasses root entry → IsRepresentative entry c → IsRepresentative entry w → AreRepresentatives root x y c w → IsRepresentative entry z →
     (c ≡ z → ⊥) → (w ≡ z → ⊥) → root z ≡ root y → ⊥
-not_right root place x y c w z t tc tw (inl h) tz nc nw e = nw (t.one w z tw tz (h.1 ∙ sym e))
-not_right root place x y c w z t tc tw (inr h) tz nc nw e = nc (t.one c z tc tz (h.0 ∙ sym e))
+not_right root entry x y c w z t tc tw (inl h) tz nc nw e = nw (t.one w z tw tz (h.1 ∙ sym e))
+not_right root entry x y c w z t tc tw (inr h) tz nc nw e = nc (t.one c z tc tz (h.0 ∙ sym e))
 
 -- a top after the joining is the top w, or one of another class
-data IsKept (place : VarName → ClassEntry) (c w z : VarName) : Type 0 where
-  joint : w ≡ z → IsKept place c w z
-  other : IsRepresentative place z → (c ≡ z → ⊥) → (w ≡ z → ⊥) → IsKept place c w z
+data IsKept (entry : VarName → ClassEntry) (c w z : VarName) : Type 0 where
+  joint : w ≡ z → IsKept entry c w z
+  other : IsRepresentative entry z → (c ≡ z → ⊥) → (w ≡ z → ⊥) → IsKept entry c w z
 
-kept : (place : VarName → ClassEntry) (c w e z : VarName) → (c ≡ w → ⊥) → IsRepresentative (entry_after_union place c w e) z → IsKept place c w z
-kept place c w e z differ t = go (equal_var w z) (equal_var c z) refl refl t
+kept : (entry : VarName → ClassEntry) (c w e z : VarName) → (c ≡ w → ⊥) → IsRepresentative (entry_after_union entry c w e) z → IsKept entry c w z
+kept entry c w e z differ t = go (equal_var w z) (equal_var c z) refl refl t
   where
-    go : (b d : Bool) → equal_var w z ≡ b → equal_var c z ≡ d → (cond b (above_place place c w e) (cond d (below_place place c w) (place z))).parent ≡ z → IsKept place c w z
+    go : (b d : Bool) → equal_var w z ≡ b → equal_var c z ≡ d → (cond b (above_entry entry c w e) (cond d (below_entry entry c w) (entry z))).parent ≡ z → IsKept entry c w z
     go true d p q h = joint (same_back w z p)
     go false true p q h = absurd (differ (same_back c z q ∙ sym h))
     go false false p q h = other h (λ k. both_ways (sym (same_true c z k) ∙ q)) (λ k. both_ways (sym (same_true w z k) ∙ p))
 
-pub tells_hung : (root : VarName → VarName) (place : VarName → ClassEntry) (x y c w e : VarName) → AreClasses root place → IsRepresentative place c → IsRepresentative place w → (c ≡ w → ⊥) → (root x ≡ root y → ⊥) →
-    AreTopsOf root x y c w → e ≡ root y → AreClasses (joined_root root x y) (entry_after_union place c w e)
-tells_hung root place x y c w e t tc tw differ apart tops ends = record { parent = parent; end = end; one = one }
+pub classes_after_union : (root : VarName → VarName) (entry : VarName → ClassEntry) (x y c w e : VarName) → AreClasses root entry → IsRepresentative entry c → IsRepresentative entry w → (c ≡ w → ⊥) → (root x ≡ root y → ⊥) →
+    AreRepresentatives root x y c w → e ≡ root y → AreClasses (joined_root root x y) (entry_after_union entry c w e)
+classes_after_union root entry x y c w e t tc tw differ apart representatives ends = record { parent = parent; end = end; one = one }
   where
-    parent : (z : VarName) → joined_root root x y (entry_after_union place c w e z).parent ≡ joined_root root x y z
+    parent : (z : VarName) → joined_root root x y (entry_after_union entry c w e z).parent ≡ joined_root root x y z
     parent z = go (equal_var w z) (equal_var c z) refl refl
       where
-        go : (b d : Bool) → equal_var w z ≡ b → equal_var c z ≡ d → joined_root root x y (cond b (above_place place c w e) (cond d (below_place place c w) (place z))).parent ≡ joined_root root x y z
+        go : (b d : Bool) → equal_var w z ≡ b → equal_var c z ≡ d → joined_root root x y (cond b (above_entry entry c w e) (cond d (below_entry entry c w) (entry z))).parent ≡ joined_root root x y z
         go true d p q = ap (joined_root root x y) (same_back w z p)
-        go false true p q = top_joined root x y c w tops ∙ sym (child_joined root x y c w tops) ∙ ap (joined_root root x y) (same_back c z q)
-        go false false p q = joined_same root x y (place z).parent z (t.parent z)
+        go false true p q = top_joined root x y c w representatives ∙ sym (child_joined root x y c w representatives) ∙ ap (joined_root root x y) (same_back c z q)
+        go false false p q = joined_same root x y (entry z).parent z (t.parent z)
 
     -- the root of another top is its own
-    alone_root : (z : VarName) → IsRepresentative place z → (c ≡ z → ⊥) → (w ≡ z → ⊥) → joined_root root x y z ≡ root z
-    alone_root z tz nc nw = joined_other root x y z (not_left root place x y c w z t tc tw tops tz nc nw)
+    alone_root : (z : VarName) → IsRepresentative entry z → (c ≡ z → ⊥) → (w ≡ z → ⊥) → joined_root root x y z ≡ root z
+    alone_root z tz nc nw = joined_other root x y z (not_left root entry x y c w z t tc tw representatives tz nc nw)
 
-    end : (z : VarName) → IsRepresentative (entry_after_union place c w e) z → joined_root root x y z ≡ (entry_after_union place c w e z).end
-    end z tz = go (kept place c w e z differ tz)
+    end : (z : VarName) → IsRepresentative (entry_after_union entry c w e) z → joined_root root x y z ≡ (entry_after_union entry c w e z).end
+    end z tz = go (kept entry c w e z differ tz)
       where
-        go : IsKept place c w z → joined_root root x y z ≡ (entry_after_union place c w e z).end
-        go (joint p) = subst (λ (v : VarName). joined_root root x y v ≡ (entry_after_union place c w e v).end) p (top_joined root x y c w tops ∙ sym ends ∙ ap (λ (r : ClassEntry). r.end) (sym (above_there place c w e)))
+        go : IsKept entry c w z → joined_root root x y z ≡ (entry_after_union entry c w e z).end
+        go (joint p) = subst (λ (v : VarName). joined_root root x y v ≡ (entry_after_union entry c w e v).end) p (top_joined root x y c w representatives ∙ sym ends ∙ ap (λ (r : ClassEntry). r.end) (sym (above_there entry c w e)))
         go (other p nc nw) = alone_root z p nc nw ∙ t.end z p ∙ sym (rw (apart_false w z nw, apart_false c z nc) refl)
 
-    one : (a b : VarName) → IsRepresentative (entry_after_union place c w e) a → IsRepresentative (entry_after_union place c w e) b → joined_root root x y a ≡ joined_root root x y b → a ≡ b
-    one a b ta tb same = go (kept place c w e a differ ta) (kept place c w e b differ tb)
+    one : (a b : VarName) → IsRepresentative (entry_after_union entry c w e) a → IsRepresentative (entry_after_union entry c w e) b → joined_root root x y a ≡ joined_root root x y b → a ≡ b
+    one a b ta tb same = go (kept entry c w e a differ ta) (kept entry c w e b differ tb)
       where
-        go : IsKept place c w a → IsKept place c w b → a ≡ b
+        go : IsKept entry c w a → IsKept entry c w b → a ≡ b
         go (joint p) (joint q) = sym p ∙ q
         go (joint p) (other q nc nw) =
-            absurd (not_right root place x y c w b t tc tw tops q nc nw (sym (alone_root b q nc nw) ∙ sym same ∙ ap (joined_root root x y) (sym p) ∙ top_joined root x y c w tops))
+            absurd (not_right root entry x y c w b t tc tw representatives q nc nw (sym (alone_root b q nc nw) ∙ sym same ∙ ap (joined_root root x y) (sym p) ∙ top_joined root x y c w representatives))
         go (other p nc nw) (joint q) =
-            absurd (not_right root place x y c w a t tc tw tops p nc nw (sym (alone_root a p nc nw) ∙ same ∙ ap (joined_root root x y) (sym q) ∙ top_joined root x y c w tops))
+            absurd (not_right root entry x y c w a t tc tw representatives p nc nw (sym (alone_root a p nc nw) ∙ same ∙ ap (joined_root root x y) (sym q) ∙ top_joined root x y c w representatives))
         go (other p nc nw) (other q mc mw) = t.one a b p q (sym (alone_root a p nc nw) ∙ same ∙ alone_root b q mc mw)
 
--- the same where the places were written down in between
-pub join_tells : (root : VarName → VarName) (place settled new : VarName → ClassEntry) (x y c w e : VarName) → AreClasses root place → ((z : VarName) → settled z ≡ place z) →
-    IsRepresentative place c → IsRepresentative place w → (c ≡ w → ⊥) → (root x ≡ root y → ⊥) → AreTopsOf root x y c w → e ≡ root y → ((z : VarName) → new z ≡ entry_after_union settled c w e z) →
+-- the same where the entries were written down in between
+pub join_tells : (root : VarName → VarName) (entry settled new : VarName → ClassEntry) (x y c w e : VarName) → AreClasses root entry → ((z : VarName) → settled z ≡ entry z) →
+    IsRepresentative entry c → IsRepresentative entry w → (c ≡ w → ⊥) → (root x ≡ root y → ⊥) → AreRepresentatives root x y c w → e ≡ root y → ((z : VarName) → new z ≡ entry_after_union settled c w e z) →
     AreClasses (joined_root root x y) new
-join_tells root place settled new x y c w e t same tc tw differ apart tops ends at =
+join_tells root entry settled new x y c w e t same tc tw differ apart representatives ends at =
     tells_same (joined_root root x y) (entry_after_union settled c w e) new at
-    (tells_hung root settled x y c w e (tells_same root place settled same t) (rw (same c) tc) (rw (same w) tw) differ apart tops ends)
+    (classes_after_union root settled x y c w e (tells_same root entry settled same t) (rw (same c) tc) (rw (same w) tw) differ apart representatives ends)
 
-pub end_told : (root : VarName → VarName) (place settled : VarName → ClassEntry) (top x : VarName) (p : ClassEntry) → AreClasses root place → ((z : VarName) → settled z ≡ place z) → IsRepresentative place top →
+pub end_told : (root : VarName → VarName) (entry settled : VarName → ClassEntry) (top x : VarName) (p : ClassEntry) → AreClasses root entry → ((z : VarName) → settled z ≡ entry z) → IsRepresentative entry top →
     root top ≡ root x → p ≡ settled top → p.end ≡ root x
-end_told root place settled top x p t same h e at = ap (λ (r : ClassEntry). r.end) (at ∙ same top) ∙ sym (t.end top h) ∙ e
+end_told root entry settled top x p t same h e at = ap (λ (r : ClassEntry). r.end) (at ∙ same top) ∙ sym (t.end top h) ∙ e
 
 pub on_err : {A B : Type 0} {P : Type 0} (r : Result A B) → P → OnErr r P
 on_err (Ok x) p = tt
@@ -342,14 +342,14 @@ on_err (Err e) p = p
 -- ---- the way to the top
 
 -- after so many steps from a variable
-pub record IsOnTheWay (places : ClassEntries) (x : VarName) (steps : ℕ) (at : VarName) (place : ClassEntry) : Type 0 where
-  pub here : place ≡ entry_in places at
-  pub doubled : 2 ^ steps ≤ place.size
-  pub class : (root : VarName → VarName) → AreClasses root (entry_in places) → root at ≡ root x
+pub record IsOnTheWay (forest : ClassEntries) (x : VarName) (steps : ℕ) (at : VarName) (entry : ClassEntry) : Type 0 where
+  pub here : entry ≡ entry_in forest at
+  pub doubled : 2 ^ steps ≤ entry.size
+  pub class : (root : VarName → VarName) → AreClasses root (entry_in forest) → root at ≡ root x
 
 -- 64 steps are too many
-pub way_ends : (places : ClassEntries) (x : VarName) (steps : ℕ) (at : VarName) (place : ClassEntry) → IsOnTheWay places x steps at place → place.size < 2 ^ 64 → 64 ≤ steps → steps ≤ 64 → ⊥
-way_ends places x steps at place way fits least most =
+pub way_ends : (forest : ClassEntries) (x : VarName) (steps : ℕ) (at : VarName) (entry : ClassEntry) → IsOnTheWay forest x steps at entry → entry.size < 2 ^ 64 → 64 ≤ steps → steps ≤ 64 → ⊥
+way_ends forest x steps at entry way fits least most =
     let full : steps ≡ 64 = omega (arith, least, most) in
-    let doubled = subst (λ (n : ℕ). 2 ^ n ≤ place.size) full way.doubled in
+    let doubled = subst (λ (n : ℕ). 2 ^ n ≤ entry.size) full way.doubled in
     omega (arith, doubled, fits)

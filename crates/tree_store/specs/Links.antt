@@ -1,4 +1,4 @@
--- Classes of variables as trees: each variable that was linked has a place with a parent, and a variable that is its own
+-- Classes of variables as trees: each variable that was linked has an entry with a parent, and a variable that is its own
 -- parent stands for its class. There the size of the class is kept, and the variable at which the links of the class end.
 use Rattle.std.specs.Prelude.{◌≡◌, ℕ, ◌+◌, ◌*◌, ◌<◌, ◌≤◌, List, [], ◌∷◌, ◌⊎◌, length, unwrap_or, if◌then◌else◌}
 use Rattle.std.specs.Map.{lookup}
@@ -12,16 +12,16 @@ use Rattle.tree_store.specs.declared.links.ClassEntry.{ClassEntry}
 abbrev pub ClassEntries : Type 0
 ClassEntries = List (VarName × ClassEntry)
 
--- a variable without a place is alone in its class
+-- a variable without an entry is alone in its class
 abbrev pub singleton : VarName → ClassEntry
 singleton x = record { parent = x; size = 1; end = x }
 
 abbrev pub entry_in : ClassEntries → VarName → ClassEntry
-entry_in places x = unwrap_or (lookup (equal_var x) places) (singleton x)
+entry_in forest x = unwrap_or (lookup (equal_var x) forest) (singleton x)
 
 -- the variable stands for its class
 abbrev pub IsRepresentative : (VarName → ClassEntry) → VarName → Type 0
-IsRepresentative place x = (place x).parent ≡ x
+IsRepresentative entry x = (entry x).parent ≡ x
 
 -- the sizes of the classes, added up
 abbrev pub weight : VarName → ClassEntry → ℕ
@@ -29,26 +29,26 @@ weight x p = if equal_var p.parent x then p.size else 0
 
 abbrev pub total : ClassEntries → ℕ
 total [] = 0
-total ((x, p) ∷ places) = weight x p + total places
+total ((x, p) ∷ forest) = weight x p + total forest
 
 -- on each step to the top the size is twice as large or more, so from a variable of a class of n there are at most log2 n
--- steps; and no size is above the number of places
-pub record IsTree (places : ClassEntries) : Type 0 where
-  pub rises : (x : VarName) → IsRepresentative (entry_in places) x ⊎ (2 * (entry_in places x).size ≤ (entry_in places (entry_in places x).parent).size)
-  pub positive : (x : VarName) → 0 < (entry_in places x).size
-  pub counts : total places ≡ length places
+-- steps; and no size is above the number of entries
+pub record IsTree (forest : ClassEntries) : Type 0 where
+  pub rises : (x : VarName) → IsRepresentative (entry_in forest) x ⊎ (2 * (entry_in forest x).size ≤ (entry_in forest (entry_in forest x).parent).size)
+  pub positive : (x : VarName) → 0 < (entry_in forest x).size
+  pub counts : total forest ≡ length forest
 
 -- the trees are the classes of root, which names each class by the variable at which its links end
-pub record AreClasses (root : VarName → VarName) (place : VarName → ClassEntry) : Type 0 where
-  pub parent : (x : VarName) → root (place x).parent ≡ root x
-  pub end : (x : VarName) → IsRepresentative place x → root x ≡ (place x).end
-  pub one : (x y : VarName) → IsRepresentative place x → IsRepresentative place y → root x ≡ root y → x ≡ y
+pub record AreClasses (root : VarName → VarName) (entry : VarName → ClassEntry) : Type 0 where
+  pub parent : (x : VarName) → root (entry x).parent ≡ root x
+  pub end : (x : VarName) → IsRepresentative entry x → root x ≡ (entry x).end
+  pub one : (x y : VarName) → IsRepresentative entry x → IsRepresentative entry y → root x ≡ root y → x ≡ y
 
--- the places once a tree is hung below the top of another, whose class ends at e from now on
+-- the entries once a tree is put below the top of another, whose class ends at e from now on
 abbrev pub entry_after_union : (VarName → ClassEntry) → VarName → VarName → VarName → VarName → ClassEntry
-entry_after_union place child top e x =
-    if equal_var top x then record { parent = top; size = (place child).size + (place top).size; end = e }
-    else (if equal_var child x then record { parent = top; size = (place child).size; end = (place child).end } else place x)
+entry_after_union entry child top e x =
+    if equal_var top x then record { parent = top; size = (entry child).size + (entry top).size; end = e }
+    else (if equal_var child x then record { parent = top; size = (entry child).size; end = (entry child).end } else entry x)
 
 -- the classes after an equation u = t, and that it joins no class to itself
 abbrev pub root_with : (VarName → VarName) → VarName → Term → VarName → VarName
@@ -60,6 +60,6 @@ IsApart root u (term.Var v) = root u ≡ root v → ⊥
 IsApart root u (term.Node n) = Unit {0}
 
 -- the trees are the classes of a store
-pub record IsLinked (s : Store) (places : ClassEntries) : Type 0 where
+pub record IsLinked (s : Store) (forest : ClassEntries) : Type 0 where
   pub grown : IsGrown s
-  pub classes : AreClasses (root_of s) (entry_in places)
+  pub classes : AreClasses (root_of s) (entry_in forest)

@@ -11,7 +11,7 @@ use std::alloc::{AllocError, Global};
 use std::marker::Model;
 use tree_node::{Term, VarName};
 
-/// The place of a variable in the tree of its class: its parent, itself at the top, and there how many variables the
+/// The entry of a variable in the tree of its class: its parent, itself at the top, and there how many variables the
 /// class has, and at which of them its links end.
 #[derive(Clone, Copy)]
 pub struct ClassEntry {
@@ -20,12 +20,12 @@ pub struct ClassEntry {
     pub end: VarName,
 }
 
-/// The classes of variables that links join, which contracts see as the places of the variables. The smaller tree is hung
+/// The classes of variables that links join, which contracts see as the entries of the variables. The smaller tree is put
 /// below the greater, so that from a variable of a class of n to the top there are at most log2 n steps, in whatever
 /// order variables are linked.
 #[derive(Drop)]
 pub struct Links {
-    places: IndexMap<VarName, ClassEntry>,
+    forest: IndexMap<VarName, ClassEntry>,
 }
 
 impl Model for Links {
@@ -37,17 +37,17 @@ impl Model for Links {
 
     ghost use Rattle.tree_store.specs.Links.{IsTree};
 
-    ghost view = { λ l. l.places.entries };
+    ghost view = { λ l. l.forest.entries };
 
-    ghost invariant = { λ l. IsTree l.places.entries };
+    ghost invariant = { λ l. IsTree l.forest.entries };
 }
 
-// The place of a variable.
-fn entry_of(places: &IndexMap<VarName, ClassEntry>, var: VarName) -> ClassEntry
-    ensures { result ≡ entry_in places.now.entries var }
+// The entry of a variable.
+fn entry_of(forest: &IndexMap<VarName, ClassEntry>, var: VarName) -> ClassEntry
+    ensures { result ≡ entry_in forest.now.entries var }
 {
-    match places.get(&var) {
-        Some(place) => *place,
+    match forest.get(&var) {
+        Some(entry) => *entry,
         None => ClassEntry {
             parent: var,
             size: 1,
@@ -56,15 +56,15 @@ fn entry_of(places: &IndexMap<VarName, ClassEntry>, var: VarName) -> ClassEntry
     }
 }
 
-// Adds the place of a variable that has none of its own yet.
-fn make_set(places: &mut IndexMap<VarName, ClassEntry>, var: VarName) -> Result<(), AllocError>
-    requires { IsTree places.old.entries }
-    ensures tree { IsTree places.new.entries }
-    ensures same { (y : VarName) → entry_in places.new.entries y ≡ entry_in places.old.entries y }
-    ensures there { OnOk result (IsSome (lookup (equal_var var) places.new.entries)) }
-    ensures stay { (y : VarName) → IsSome (lookup (equal_var y) places.old.entries) → IsSome (lookup (equal_var y) places.new.entries) }
+// Adds the entry of a variable that has none of its own yet.
+fn make_set(forest: &mut IndexMap<VarName, ClassEntry>, var: VarName) -> Result<(), AllocError>
+    requires { IsTree forest.old.entries }
+    ensures tree { IsTree forest.new.entries }
+    ensures same { (y : VarName) → entry_in forest.new.entries y ≡ entry_in forest.old.entries y }
+    ensures there { OnOk result (IsSome (lookup (equal_var var) forest.new.entries)) }
+    ensures stay { (y : VarName) → IsSome (lookup (equal_var y) forest.old.entries) → IsSome (lookup (equal_var y) forest.new.entries) }
 {
-    match places.get(&var) {
+    match forest.get(&var) {
         Some(_) => Ok(()),
         None => {
             let alone = ClassEntry {
@@ -72,37 +72,37 @@ fn make_set(places: &mut IndexMap<VarName, ClassEntry>, var: VarName) -> Result<
                 size: 1,
                 end: var,
             };
-            places.insert(var, alone)?;
+            forest.insert(var, alone)?;
             Ok(())
         }
     }
 }
 
-// Replaces the place of a variable.
-fn put(places: &mut IndexMap<VarName, ClassEntry>, var: VarName, place: ClassEntry)
-    requires { IsSome (lookup (equal_var var) places.old.entries) }
-    ensures { places.new.entries ≡ set_value (equal_var var) places.old.entries place }
+// Replaces the entry of a variable.
+fn put(forest: &mut IndexMap<VarName, ClassEntry>, var: VarName, entry: ClassEntry)
+    requires { IsSome (lookup (equal_var var) forest.old.entries) }
+    ensures { forest.new.entries ≡ set_value (equal_var var) forest.old.entries entry }
 {
-    if let Some(old) = places.get_mut(&var) {
-        *old = place;
+    if let Some(old) = forest.get_mut(&var) {
+        *old = entry;
     }
 }
 
 // Puts one tree below the top of another one that is no smaller, whose links end at the given variable then.
-fn attach(places: &mut IndexMap<VarName, ClassEntry>, child: VarName, top: VarName, end: VarName)
-    requires tree { IsTree places.old.entries }
+fn attach(forest: &mut IndexMap<VarName, ClassEntry>, child: VarName, top: VarName, end: VarName)
+    requires tree { IsTree forest.old.entries }
     requires apart { child ≡ top → ⊥ }
-    requires child { IsRepresentative (entry_in places.old.entries) child }
-    requires top { IsRepresentative (entry_in places.old.entries) top }
-    requires child_there { IsSome (lookup (equal_var child) places.old.entries) }
-    requires top_there { IsSome (lookup (equal_var top) places.old.entries) }
-    requires smaller { (entry_in places.old.entries child).size ≤ (entry_in places.old.entries top).size }
-    ensures tree { IsTree places.new.entries }
-    ensures places { (y : VarName) → entry_in places.new.entries y ≡ entry_after_union (entry_in places.old.entries) child top end y }
+    requires child { IsRepresentative (entry_in forest.old.entries) child }
+    requires top { IsRepresentative (entry_in forest.old.entries) top }
+    requires child_there { IsSome (lookup (equal_var child) forest.old.entries) }
+    requires top_there { IsSome (lookup (equal_var top) forest.old.entries) }
+    requires smaller { (entry_in forest.old.entries child).size ≤ (entry_in forest.old.entries top).size }
+    ensures tree { IsTree forest.new.entries }
+    ensures forest { (y : VarName) → entry_in forest.new.entries y ≡ entry_after_union (entry_in forest.old.entries) child top end y }
 {
-    let _count = places.len();
-    let small = entry_of(places, child);
-    let great = entry_of(places, top);
+    let _count = forest.len();
+    let small = entry_of(forest, child);
+    let great = entry_of(forest, top);
     let below = ClassEntry {
         parent: top,
         size: small.size,
@@ -113,8 +113,8 @@ fn attach(places: &mut IndexMap<VarName, ClassEntry>, child: VarName, top: VarNa
         size: small.size + great.size,
         end,
     };
-    put(places, child, below);
-    put(places, top, above);
+    put(forest, child, below);
+    put(forest, top, above);
 }
 
 impl Links {
@@ -123,7 +123,7 @@ impl Links {
         ensures { result ≡ [] }
     {
         Links {
-            places: IndexMap::new(alloc),
+            forest: IndexMap::new(alloc),
         }
     }
 
@@ -133,14 +133,14 @@ impl Links {
         ensures class { (root : VarName → VarName) → AreClasses root (entry_in self.now) → root result ≡ root var }
     {
         let mut at = var;
-        let mut place = entry_of(&self.places, at);
+        let mut entry = entry_of(&self.forest, at);
         'parents: for step in 0..64_u32 {
             let _ = step;
-            if place.parent == at {
+            if entry.parent == at {
                 return at;
             }
-            at = place.parent;
-            place = entry_of(&self.places, at);
+            at = entry.parent;
+            entry = entry_of(&self.forest, at);
         }
         unreachable!()
     }
@@ -150,7 +150,7 @@ impl Links {
         ensures { (root : VarName → VarName) → AreClasses root (entry_in self.now) → root var ≡ result }
     {
         let top = self.find(var);
-        entry_of(&self.places, top).end
+        entry_of(&self.forest, top).end
     }
 
     // Joins the class of a variable to another one, which keeps its end.
@@ -163,14 +163,14 @@ impl Links {
         if upper == lower {
             return Ok(());
         }
-        make_set(&mut self.places, upper)?;
-        make_set(&mut self.places, lower)?;
-        let above = entry_of(&self.places, upper);
-        let below = entry_of(&self.places, lower);
+        make_set(&mut self.forest, upper)?;
+        make_set(&mut self.forest, lower)?;
+        let above = entry_of(&self.forest, upper);
+        let below = entry_of(&self.forest, lower);
         if above.size <= below.size {
-            attach(&mut self.places, upper, lower, below.end);
+            attach(&mut self.forest, upper, lower, below.end);
         } else {
-            attach(&mut self.places, lower, upper, below.end);
+            attach(&mut self.forest, lower, upper, below.end);
         }
         Ok(())
     }

@@ -1,4 +1,4 @@
--- Met pairs stand under their marks.
+-- Met pairs stand under their hashes.
 use Rattle.std.proofs.Common.{arith, ◌≡◌, ◌∙◌, sym, ap, refl, ℕ, ◌+◌, List, [], ◌∷◌, ◌⊎◌, inl, inr, Bool, true, false, cond, ◌&&◌, nat_eq}
 use Rattle.std.specs.Prelude.{◌||◌, filter}
 use Rattle.std.specs.List.{list_any}
@@ -19,7 +19,7 @@ use Rattle.tree_node.proofs.ClassLemmas.{same_name_decides}
 use Rattle.unify_steps.specs.Hash.{node_hash, pair_hash}
 use Rattle.unify_steps.specs.Met.{has_hash, pairs_of, IsIndexOf}
 
--- nodes of equal text have one mark
+-- nodes of equal text have one hash
 feature_same : (f g : Feature) → equal_feature f g ≡ true → f ≡ g
 feature_same (feature.Int a) (feature.Int b) e = ap feature.Int ((Decides-int_eq a b).0 e)
 feature_same (feature.Atom a) (feature.Atom b) e = ap feature.Atom ((bytes_eq-Decides a b).0 e)
@@ -37,37 +37,37 @@ fields_same ((f, x) ∷ xs) ((g, y) ∷ ys) e =
     let rest : xs ≡ ys = fields_same xs ys (and_parts (equal_var x y) (equal_fields xs ys) others).1 in
     rw (features, vars, rest) refl
 
-same_mark : (m n : Node) → equal_text m n ≡ true → node_hash m ≡ node_hash n
-same_mark (node.Int a) (node.Int b) e = refl
-same_mark (node.Int a) (node.Atom b) e = refl
-same_mark (node.Int a) (node.Rec r ys) e = cc
-same_mark (node.Int a) (node.Proc q j w vs) e = refl
-same_mark (node.Int a) (node.Cell d) e = refl
-same_mark (node.Atom a) (node.Int b) e = refl
-same_mark (node.Atom a) (node.Atom b) e = refl
-same_mark (node.Atom a) (node.Rec r ys) e = cc
-same_mark (node.Atom a) (node.Proc q j w vs) e = refl
-same_mark (node.Atom a) (node.Cell d) e = refl
-same_mark (node.Rec l xs) (node.Int b) e = cc
-same_mark (node.Rec l xs) (node.Atom b) e = cc
-same_mark (node.Rec l xs) (node.Rec r ys) e =
+equal_hash : (m n : Node) → equal_text m n ≡ true → node_hash m ≡ node_hash n
+equal_hash (node.Int a) (node.Int b) e = refl
+equal_hash (node.Int a) (node.Atom b) e = refl
+equal_hash (node.Int a) (node.Rec r ys) e = cc
+equal_hash (node.Int a) (node.Proc q j w vs) e = refl
+equal_hash (node.Int a) (node.Cell d) e = refl
+equal_hash (node.Atom a) (node.Int b) e = refl
+equal_hash (node.Atom a) (node.Atom b) e = refl
+equal_hash (node.Atom a) (node.Rec r ys) e = cc
+equal_hash (node.Atom a) (node.Proc q j w vs) e = refl
+equal_hash (node.Atom a) (node.Cell d) e = refl
+equal_hash (node.Rec l xs) (node.Int b) e = cc
+equal_hash (node.Rec l xs) (node.Atom b) e = cc
+equal_hash (node.Rec l xs) (node.Rec r ys) e =
     let labels : l ≡ r = (bytes_eq-Decides l r).0 (and_parts (bytes_eq l r) (equal_fields xs ys) e).0 in
     let fields : xs ≡ ys = fields_same xs ys (and_parts (bytes_eq l r) (equal_fields xs ys) e).1 in
     rw (labels, fields) refl
-same_mark (node.Rec l xs) (node.Proc q j w vs) e = cc
-same_mark (node.Rec l xs) (node.Cell d) e = cc
-same_mark (node.Proc p i k us) (node.Int b) e = refl
-same_mark (node.Proc p i k us) (node.Atom b) e = refl
-same_mark (node.Proc p i k us) (node.Rec r ys) e = cc
-same_mark (node.Proc p i k us) (node.Proc q j w vs) e = refl
-same_mark (node.Proc p i k us) (node.Cell d) e = refl
-same_mark (node.Cell c) (node.Int b) e = refl
-same_mark (node.Cell c) (node.Atom b) e = refl
-same_mark (node.Cell c) (node.Rec r ys) e = cc
-same_mark (node.Cell c) (node.Proc q j w vs) e = refl
-same_mark (node.Cell c) (node.Cell d) e = refl
+equal_hash (node.Rec l xs) (node.Proc q j w vs) e = cc
+equal_hash (node.Rec l xs) (node.Cell d) e = cc
+equal_hash (node.Proc p i k us) (node.Int b) e = refl
+equal_hash (node.Proc p i k us) (node.Atom b) e = refl
+equal_hash (node.Proc p i k us) (node.Rec r ys) e = cc
+equal_hash (node.Proc p i k us) (node.Proc q j w vs) e = refl
+equal_hash (node.Proc p i k us) (node.Cell d) e = refl
+equal_hash (node.Cell c) (node.Int b) e = refl
+equal_hash (node.Cell c) (node.Atom b) e = refl
+equal_hash (node.Cell c) (node.Rec r ys) e = cc
+equal_hash (node.Cell c) (node.Proc q j w vs) e = refl
+equal_hash (node.Cell c) (node.Cell d) e = refl
 
--- pairs of equal text, in either order, have one mark
+-- pairs of equal text, in either order, have one hash
 abbrev is_pair : Node → Node → Node × Node → Bool
 is_pair m n p = (equal_text p.0 m && equal_text p.1 n) || (equal_text p.0 n && equal_text p.1 m)
 
@@ -76,13 +76,13 @@ pair_same m n p e = go (or_cases (equal_text p.0 m && equal_text p.1 n) (equal_t
   where
     go : ((equal_text p.0 m && equal_text p.1 n) ≡ true) ⊎ ((equal_text p.0 n && equal_text p.1 m) ≡ true) → pair_hash p.0 p.1 ≡ pair_hash m n
     go (inl h) =
-        let left = same_mark p.0 m (and_parts (equal_text p.0 m) (equal_text p.1 n) h).0 in
-        let right = same_mark p.1 n (and_parts (equal_text p.0 m) (equal_text p.1 n) h).1 in
+        let left = equal_hash p.0 m (and_parts (equal_text p.0 m) (equal_text p.1 n) h).0 in
+        let right = equal_hash p.1 n (and_parts (equal_text p.0 m) (equal_text p.1 n) h).1 in
         rw (left, right) refl
     go (inr h) =
         let sum : node_hash n + node_hash m ≡ node_hash m + node_hash n = omega arith in
-        let left = same_mark p.0 n (and_parts (equal_text p.0 n) (equal_text p.1 m) h).0 in
-        let right = same_mark p.1 m (and_parts (equal_text p.0 n) (equal_text p.1 m) h).1 in
+        let left = equal_hash p.0 n (and_parts (equal_text p.0 n) (equal_text p.1 m) h).0 in
+        let right = equal_hash p.1 m (and_parts (equal_text p.0 n) (equal_text p.1 m) h).1 in
         rw (left, right, sum) refl
 
 under_mark : (m n : Node) (p : Node × Node) → is_pair m n p ≡ true → has_hash (pair_hash m n) p ≡ true

@@ -4,15 +4,15 @@ ghost use Rattle.std.specs.Prelude.{◌≡◌, length, reverse, IfOk};
 ghost use Rattle.tree_node.specs.Goal.{is_met_pair, equal_features, field_pairs};
 
 use std::alloc::{AllocError, Global};
-use tree_node::{Feature, Node, Term, VarName, equal_feature, same_text};
+use tree_node::{Feature, Node, Term, VarName, equal_feature, equal_text};
 
 /// Whether the two nodes are among these pairs, in either order.
 pub fn is_among(pairs: &[(Node, Node)], left: &Node, right: &Node) -> bool
     ensures { result ≡ is_met_pair pairs.now left.now right.now }
 {
     pairs.iter().any(|pair| {
-        (same_text(&pair.0, left) && same_text(&pair.1, right))
-            || (same_text(&pair.0, right) && same_text(&pair.1, left))
+        (equal_text(&pair.0, left) && equal_text(&pair.1, right))
+            || (equal_text(&pair.0, right) && equal_text(&pair.1, left))
     })
 }
 

@@ -4,8 +4,8 @@ use std::alloc::{AllocError, Global};
 use std::test::Fail;
 use tree_node::{
     CellName, CodeId, Env, Feature, Fields, Name, Node, ProcName, Term, Text, ThreadName, VarName,
-    Vars, atom_text, copy_node, copy_pick, copy_term, is_reserved, node_arity, node_head,
-    plain_pick, same_text,
+    Vars, atom_text, copy_node, copy_pick, copy_term, equal_text, is_reserved, node_arity,
+    node_head, plain_pick,
 };
 
 fn text(alloc: Global, bytes: &[u8]) -> Result<Text, AllocError> {
@@ -125,7 +125,7 @@ fn copies_have_equal_text(rt: HostRuntime) -> Result<(), Fail> {
         let copy = copy_node(&sample(alloc, at)?)?;
         for other in 0..9 {
             assert_eq!(rt;
-                same_text(&copy, &sample(alloc, other)?),
+                equal_text(&copy, &sample(alloc, other)?),
                 at == other,
                 "at {at} and {other}"
             );

@@ -5,31 +5,31 @@ use Rattle.site_message.specs.declared.message.Msg.{Msg}
 use Rattle.site_message.specs.Wire.{FitsWire}
 use Rattle.wire_form.specs.declared.fault.WireFault.{WireFault}
 use Rattle.wire_form.specs.declared.fault.WireFault.TheVariants.{Memory}
-use Rattle.wire_form.specs.Format.{Spells, IsFirstFault}
-use Rattle.wire_form.specs.Reading.{GivesWhole}
+use Rattle.wire_form.specs.Format.{IsSpelling, IsFirstFault}
+use Rattle.wire_form.specs.Reading.{IsReadAsWhole}
 use Rattle.wire_form.proofs.FieldLaws.{IsBytes, failed, no_ok, no_err}
 use Rattle.wire_form.proofs.WholeLaws.{whole_spelled, whole_again, whole_fails, whole_failing}
 use Rattle.wire_form.proofs.FitsLaws.{message_fits}
 
-pub spelled : (bytes : List ℕ) (r : Result Msg WireFault) → IsBytes bytes → GivesWhole bytes r → IfOk r (λ m. Spells bytes m)
+pub spelled : (bytes : List ℕ) (r : Result Msg WireFault) → IsBytes bytes → IsReadAsWhole bytes r → IfOk r (λ m. IsSpelling bytes m)
 spelled bytes (Ok m) fits h = whole_spelled bytes m fits h
 spelled bytes (Err f) fits h = tt
 
-pub fitting : (bytes : List ℕ) (r : Result Msg WireFault) → IsBytes bytes → GivesWhole bytes r → IfOk r (λ m. FitsWire m)
+pub fitting : (bytes : List ℕ) (r : Result Msg WireFault) → IsBytes bytes → IsReadAsWhole bytes r → IfOk r (λ m. FitsWire m)
 fitting bytes (Ok m) fits h = message_fits m (whole_spelled bytes m fits h).0
 fitting bytes (Err f) fits h = tt
 
-pub only : (bytes : List ℕ) (r : Result Msg WireFault) → GivesWhole bytes r → (m : Msg) → Spells bytes m → (r ≡ Ok m) ⊎ (r ≡ Err Memory)
+pub only : (bytes : List ℕ) (r : Result Msg WireFault) → IsReadAsWhole bytes r → (m : Msg) → IsSpelling bytes m → (r ≡ Ok m) ⊎ (r ≡ Err Memory)
 only bytes (Ok x) h m s = inl (sym h ∙ whole_again bytes m s)
 only bytes (Err f) (inl h) m s = inr (ap (λ (g : WireFault). failed g) h)
 only bytes (Err f) (inr h) m s = absurd (no_ok m f (sym h ∙ whole_again bytes m s))
 
-pub fault : (bytes : List ℕ) (r : Result Msg WireFault) → IsBytes bytes → GivesWhole bytes r → IfErr r (λ f. (f ≡ Memory) ⊎ IsFirstFault bytes f)
+pub fault : (bytes : List ℕ) (r : Result Msg WireFault) → IsBytes bytes → IsReadAsWhole bytes r → IfErr r (λ f. (f ≡ Memory) ⊎ IsFirstFault bytes f)
 fault bytes (Ok m) fits h = tt
 fault bytes (Err f) fits (inl h) = inl h
 fault bytes (Err f) fits (inr h) = inr (whole_fails bytes f fits h)
 
-pub first : (bytes : List ℕ) (r : Result Msg WireFault) → GivesWhole bytes r → (f : WireFault) → IsFirstFault bytes f → (r ≡ Err f) ⊎ (r ≡ Err Memory)
+pub first : (bytes : List ℕ) (r : Result Msg WireFault) → IsReadAsWhole bytes r → (f : WireFault) → IsFirstFault bytes f → (r ≡ Err f) ⊎ (r ≡ Err Memory)
 first bytes (Ok m) h f s = absurd (no_err m f (sym h ∙ whole_failing bytes f s))
 first bytes (Err g) (inl h) f s = inr (ap (λ (k : WireFault). failed k) h)
 first bytes (Err g) (inr h) f s = inl (sym h ∙ whole_failing bytes f s)

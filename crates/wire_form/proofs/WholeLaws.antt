@@ -5,7 +5,7 @@ use Rattle.std.proofs.lemmas.Bool.{eqb-true, eqb-false, ne_eqb}
 use Rattle.site_message.specs.declared.message.Msg.{Msg}
 use Rattle.wire_form.specs.declared.fault.WireFault.{WireFault}
 use Rattle.wire_form.specs.declared.fault.WireFault.TheVariants.{Rest}
-use Rattle.wire_form.specs.Format.{message, spelling, Spells, IsFirstFault}
+use Rattle.wire_form.specs.Format.{message, spelling, IsSpelling, IsFirstFault}
 use Rattle.wire_form.specs.Reading.{Left, Read, ◌>>=◌, message_at, whole_of}
 use Rattle.wire_form.specs.Laws.{BytesHaveOne, SpellsOne, HasOneFault, NotBoth, NoProperPrefix}
 use Rattle.wire_form.proofs.FieldLaws.{IsBytes, done, failed, ok_is, err_is, no_err, bind_ok, bind_err, passed, not_passed, reads}
@@ -15,17 +15,17 @@ none_of : (xs : List ℕ) → length xs ≡ 0 → xs ≡ []
 none_of [] e = refl
 none_of (x ∷ xs) e = absurd (omega (arith, e))
 
-pub whole_spelled : (bytes : List ℕ) (m : Msg) → IsBytes bytes → whole_of bytes ≡ Ok m → Spells bytes m
+pub whole_spelled : (bytes : List ℕ) (m : Msg) → IsBytes bytes → whole_of bytes ≡ Ok m → IsSpelling bytes m
 unfolding whole_of
 whole_spelled bytes m fits e =
     let a = bind_ok (message_at (0, bytes)) (λ r. cond (eqb (length r.1.1) 0) (Ok r.0) (Err (Rest r.1.0))) m e in
     let t = message_read.takes 0 bytes a.0.0 a.0.1 fits a.1 in
     let g = passed (eqb (length a.0.1.1) 0) (Rest a.0.1.0) a.0.0 m a.2 in
     let none = none_of a.0.1.1 (eqb-true (length a.0.1.1) 0 g.0) in
-    let one : Spells bytes a.0.0 = (t.has, t.parts ∙ ap (λ (z : List ℕ). spelling a.0.0 ++ z) none ∙ append-nil (spelling a.0.0)) in
-    subst (λ (x : Msg). Spells bytes x) g.1 one
+    let one : IsSpelling bytes a.0.0 = (t.has, t.parts ∙ ap (λ (z : List ℕ). spelling a.0.0 ++ z) none ∙ append-nil (spelling a.0.0)) in
+    subst (λ (x : Msg). IsSpelling bytes x) g.1 one
 
-pub whole_again : (bytes : List ℕ) (m : Msg) → Spells bytes m → whole_of bytes ≡ Ok m
+pub whole_again : (bytes : List ℕ) (m : Msg) → IsSpelling bytes m → whole_of bytes ≡ Ok m
 unfolding whole_of
 whole_again bytes m h =
     ap (λ (a : Read Msg). a >>= λ r. cond (eqb (length r.1.1) 0) (Ok r.0) (Err (Rest r.1.0)))
@@ -56,7 +56,7 @@ whole_failing bytes f (inr h) =
 
 -- ---- for all bytes and messages
 
-one_of : (bytes : List ℕ) (r : Result Msg WireFault) → IsBytes bytes → whole_of bytes ≡ r → ((m : Msg) × Spells bytes m) ⊎ ((f : WireFault) × IsFirstFault bytes f)
+one_of : (bytes : List ℕ) (r : Result Msg WireFault) → IsBytes bytes → whole_of bytes ≡ r → ((m : Msg) × IsSpelling bytes m) ⊎ ((f : WireFault) × IsFirstFault bytes f)
 one_of bytes (Ok m) fits e = inl (m, whole_spelled bytes m fits e)
 one_of bytes (Err f) fits e = inr (f, whole_fails bytes f fits e)
 

@@ -12,7 +12,7 @@ use Rattle.tree_node.specs.Store.{Equation}
 use Rattle.site_message.specs.Wire.{FitsFields, FitsVars, FitsBundle}
 use Rattle.site_message.proofs.RiseLemmas.{fields_rise, names_rise}
 use Rattle.wire_form.specs.Field.{Field, EachBehind, ◌then◌}
-use Rattle.wire_form.specs.Writing.{Writes}
+use Rattle.wire_form.specs.Writing.{IsWritten}
 use Rattle.wire_form.specs.Format.{var_name, record_field, field_behind, record_fields, variables, formals, equation, equation_behind, bundle, IsFeatureBelow}
 use Rattle.wire_form.proofs.FitsLaws.{behind_of, fields_ordered, equations_ordered}
 
@@ -73,13 +73,13 @@ bundle_has es fits each = (
 -- ---- one part after another
 
 -- a tag, and what is written behind it
-pub writes_tag : {Y U E : Type 0} (tag : ℕ) (G : Field Y) (y : Y) (old mid new : List ℕ) (r : Result U E) → mid ≡ old ++ tag ∷ [] → Writes G y mid new r
+pub writes_tag : {Y U E : Type 0} (tag : ℕ) (G : Field Y) (y : Y) (old mid new : List ℕ) (r : Result U E) → mid ≡ old ++ tag ∷ [] → IsWritten G y mid new r
     → OnOk r (G.Has y × (new ≡ old ++ tag ∷ G.spelling y))
 writes_tag tag G y old mid new (Ok u) put h = (h.0, h.1 ∙ ap (λ (z : List ℕ). z ++ G.spelling y) put ∙ append_assoc old (tag ∷ []) (G.spelling y))
 writes_tag tag G y old mid new (Err e) put h = tt
 
 pub writes_then : {X Y U E : Type 0} (F : Field X) (G : Field Y) (x : X) (y : Y) (old mid new : List ℕ) (r : Result U E) → F.Has x × (mid ≡ old ++ F.spelling x)
-    → Writes G y mid new r → Writes (F then G) (x, y) old new r
+    → IsWritten G y mid new r → IsWritten (F then G) (x, y) old new r
 writes_then F G x y old mid new (Ok u) one h =
     ((one.0, h.0), h.1 ∙ ap (λ (z : List ℕ). z ++ G.spelling y) one.1 ∙ append_assoc old (F.spelling x) (G.spelling y))
 writes_then F G x y old mid new (Err e) one h = tt

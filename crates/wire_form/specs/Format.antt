@@ -209,8 +209,8 @@ abbrev pub spelling : Msg → List ℕ
 spelling m = message.spelling m
 
 -- the bytes are the spelling of the message, whose numbers, lengths and orders are those of the format
-abbrev pub Spells : List ℕ → Msg → Type 0
-Spells bytes m = message.Has m × (bytes ≡ spelling m)
+abbrev pub IsSpelling : List ℕ → Msg → Type 0
+IsSpelling bytes m = message.Has m × (bytes ≡ spelling m)
 
 -- the first fault of bytes that spell no message: that of a message's fields, or else more bytes than a message's
 abbrev pub IsFirstFault : List ℕ → WireFault → Type 0

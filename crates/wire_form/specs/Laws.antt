@@ -3,7 +3,7 @@ use Rattle.std.specs.Prelude.{◌≡◌, ℕ, ◌<◌, ◌⊎◌, ◌↔◌, Lis
 use Rattle.site_message.specs.declared.message.Msg.{Msg}
 use Rattle.site_message.specs.Wire.{FitsWire}
 use Rattle.wire_form.specs.declared.fault.WireFault.{WireFault}
-use Rattle.wire_form.specs.Format.{message, spelling, Spells, IsFirstFault}
+use Rattle.wire_form.specs.Format.{message, spelling, IsSpelling, IsFirstFault}
 use Rattle.wire_form.specs.Numbers.{HoldsNumbers}
 
 abbrev pub AreBytes : List ℕ → Type 0
@@ -11,11 +11,11 @@ AreBytes bytes = (i : ℕ) → slice_index bytes i < 256
 
 -- bytes spell a message, or have a first fault
 abbrev pub BytesHaveOne : Type 0
-BytesHaveOne = (bytes : List ℕ) → AreBytes bytes → ((m : Msg) × Spells bytes m) ⊎ ((f : WireFault) × IsFirstFault bytes f)
+BytesHaveOne = (bytes : List ℕ) → AreBytes bytes → ((m : Msg) × IsSpelling bytes m) ⊎ ((f : WireFault) × IsFirstFault bytes f)
 
 -- they spell one message at most
 abbrev pub SpellsOne : Type 0
-SpellsOne = (bytes : List ℕ) (m n : Msg) → Spells bytes m → Spells bytes n → m ≡ n
+SpellsOne = (bytes : List ℕ) (m n : Msg) → IsSpelling bytes m → IsSpelling bytes n → m ≡ n
 
 -- they have one first fault at most
 abbrev pub HasOneFault : Type 0
@@ -23,7 +23,7 @@ HasOneFault = (bytes : List ℕ) (f g : WireFault) → IsFirstFault bytes f → 
 
 -- and not both
 abbrev pub NotBoth : Type 0
-NotBoth = (bytes : List ℕ) (m : Msg) (f : WireFault) → Spells bytes m → IsFirstFault bytes f → ⊥
+NotBoth = (bytes : List ℕ) (m : Msg) (f : WireFault) → IsSpelling bytes m → IsFirstFault bytes f → ⊥
 
 -- no spelling is a proper prefix of another
 abbrev pub NoProperPrefix : Type 0

@@ -35,9 +35,9 @@ abbrev pub ◌>>=◌ : {A B : Type 0} → Result A WireFault → (A → Result B
 (Err e) >>= f = Err e
 
 -- a part of the decoder gives what reading gives, unless memory runs out
-abbrev pub Gives : {X : Type 0} → (Left → Read X) → Left → Left → Result X WireFault → Type 0
-Gives read old new (Ok x) = read old ≡ Ok (x, new)
-Gives read old new (Err f) = (f ≡ Memory) ⊎ (read old ≡ Err f)
+abbrev pub IsReadAs : {X : Type 0} → (Left → Read X) → Left → Left → Result X WireFault → Type 0
+IsReadAs read old new (Ok x) = read old ≡ Ok (x, new)
+IsReadAs read old new (Err f) = (f ≡ Memory) ⊎ (read old ≡ Err f)
 
 abbrev pub bytes_at : ℕ → Left → Read (List ℕ)
 bytes_at n l =
@@ -224,6 +224,6 @@ whole_of bytes = do
   if length m.1.1 == 0 then Ok m.0 else Err (Rest m.1.0)
 
 -- the decoder answers what reading all of the bytes gives, unless memory runs out
-abbrev pub GivesWhole : List ℕ → Result Msg WireFault → Type 0
-GivesWhole bytes (Ok m) = whole_of bytes ≡ Ok m
-GivesWhole bytes (Err f) = (f ≡ Memory) ⊎ (whole_of bytes ≡ Err f)
+abbrev pub IsReadAsWhole : List ℕ → Result Msg WireFault → Type 0
+IsReadAsWhole bytes (Ok m) = whole_of bytes ≡ Ok m
+IsReadAsWhole bytes (Err f) = (f ≡ Memory) ⊎ (whole_of bytes ≡ Err f)

@@ -2,5 +2,5 @@
 use Rattle.std.specs.Prelude.{◌≡◌, ℕ, List, ◌++◌, Result, OnOk}
 use Rattle.wire_form.specs.Field.{Field}
 
-abbrev pub Writes : {X E U : Type 0} → Field X → X → List ℕ → List ℕ → Result U E → Type 0
-Writes F x old new result = OnOk result (F.Has x × (new ≡ old ++ F.spelling x))
+abbrev pub IsWritten : {X E U : Type 0} → Field X → X → List ℕ → List ℕ → Result U E → Type 0
+IsWritten F x old new result = OnOk result (F.Has x × (new ≡ old ++ F.spelling x))

@@ -2,7 +2,7 @@
 
 ghost use Rattle.std.specs.Prelude.{◌≡◌, length, MatchResult, Ok, Err};
 ghost use Rattle.std.specs.Int.{w16, w32, w64};
-ghost use Rattle.wire_form.specs.Reading.{Gives, bytes_at, byte_at, number_at, integer_at, byte_within_at};
+ghost use Rattle.wire_form.specs.Reading.{IsReadAs, bytes_at, byte_at, number_at, integer_at, byte_within_at};
 
 use crate::fault::WireFault;
 use std::marker::Model;
@@ -62,7 +62,7 @@ impl<'a> Cursor<'a> {
 
     /// The next byte.
     pub(crate) fn byte(&mut self) -> Result<u8, WireFault>
-        ensures { Gives byte_at self.old self.new result }
+        ensures { IsReadAs byte_at self.old self.new result }
     {
         match self.left {
             [] => Err(WireFault::Short(self.at)),
@@ -77,7 +77,7 @@ impl<'a> Cursor<'a> {
     /// A byte from one number to another.
     #[tactic(auto, unfolding(crate::specs::Reading::byte_within_at))]
     pub(crate) fn byte_within(&mut self, least: u8, most: u8) -> Result<u8, WireFault>
-        ensures { Gives (byte_within_at least most) self.old self.new result }
+        ensures { IsReadAs (byte_within_at least most) self.old self.new result }
     {
         let at = self.at;
         let byte = self.byte()?;
@@ -90,7 +90,7 @@ impl<'a> Cursor<'a> {
     /// A number of two bytes.
     #[tactic(auto, unfolding(crate::specs::Reading::number_at))]
     pub(crate) fn number_16(&mut self) -> Result<u16, WireFault>
-        ensures { Gives (number_at w16) self.old self.new result }
+        ensures { IsReadAs (number_at w16) self.old self.new result }
     {
         let bytes = self.bytes(2)?;
         Ok(u16::from_be_bytes([bytes[0], bytes[1]]))
@@ -99,7 +99,7 @@ impl<'a> Cursor<'a> {
     /// A number of four bytes.
     #[tactic(auto, unfolding(crate::specs::Reading::number_at))]
     pub(crate) fn number_32(&mut self) -> Result<u32, WireFault>
-        ensures { Gives (number_at w32) self.old self.new result }
+        ensures { IsReadAs (number_at w32) self.old self.new result }
     {
         let bytes = self.bytes(4)?;
         Ok(u32::from_be_bytes([bytes[0], bytes[1], bytes[2], bytes[3]]))
@@ -108,7 +108,7 @@ impl<'a> Cursor<'a> {
     /// A number of eight bytes.
     #[tactic(auto, unfolding(crate::specs::Reading::number_at))]
     pub(crate) fn number_64(&mut self) -> Result<u64, WireFault>
-        ensures { Gives (number_at w64) self.old self.new result }
+        ensures { IsReadAs (number_at w64) self.old self.new result }
     {
         let bytes = self.bytes(8)?;
         Ok(u64::from_be_bytes([
@@ -119,7 +119,7 @@ impl<'a> Cursor<'a> {
     /// An integer of eight bytes.
     #[tactic(auto, unfolding(crate::specs::Reading::integer_at))]
     pub(crate) fn integer(&mut self) -> Result<i64, WireFault>
-        ensures { Gives integer_at self.old self.new result }
+        ensures { IsReadAs integer_at self.old self.new result }
     {
         let bytes = self.bytes(8)?;
         Ok(i64::from_be_bytes([

@@ -2,7 +2,7 @@
 
 ghost use Rattle.std.specs.Prelude.{◌≡◌};
 ghost use Rattle.std.specs.Str.{is_utf8};
-ghost use Rattle.wire_form.specs.Reading.{Gives, name_at, var_name_at, cell_name_at, proc_name_at, thread_name_at, code_at, text_at, feature_at};
+ghost use Rattle.wire_form.specs.Reading.{IsReadAs, name_at, var_name_at, cell_name_at, proc_name_at, thread_name_at, code_at, text_at, feature_at};
 
 use crate::cursor::Cursor;
 use crate::fault::WireFault;
@@ -12,7 +12,7 @@ use tree_node::{CellName, CodeId, Feature, ProcName, Shared, Text, ThreadName, V
 // A site and a number.
 #[tactic(auto, unfolding(crate::specs::Reading::name_at))]
 fn name(cursor: &mut Cursor) -> Result<(u32, u64), WireFault>
-    ensures { Gives name_at cursor.old cursor.new result }
+    ensures { IsReadAs name_at cursor.old cursor.new result }
 {
     let site = cursor.byte_within(1, 64)?;
     let num = cursor.number_64()?;
@@ -22,7 +22,7 @@ fn name(cursor: &mut Cursor) -> Result<(u32, u64), WireFault>
 /// A variable's name.
 #[tactic(auto, unfolding(crate::specs::Reading::var_name_at))]
 pub(crate) fn var_name(cursor: &mut Cursor) -> Result<VarName, WireFault>
-    ensures { Gives var_name_at cursor.old cursor.new result }
+    ensures { IsReadAs var_name_at cursor.old cursor.new result }
 {
     let (site, num) = name(cursor)?;
     Ok(VarName { site, num })
@@ -31,7 +31,7 @@ pub(crate) fn var_name(cursor: &mut Cursor) -> Result<VarName, WireFault>
 /// A cell's name.
 #[tactic(auto, unfolding(crate::specs::Reading::cell_name_at))]
 pub(crate) fn cell_name(cursor: &mut Cursor) -> Result<CellName, WireFault>
-    ensures { Gives cell_name_at cursor.old cursor.new result }
+    ensures { IsReadAs cell_name_at cursor.old cursor.new result }
 {
     let (site, num) = name(cursor)?;
     Ok(CellName { site, num })
@@ -40,7 +40,7 @@ pub(crate) fn cell_name(cursor: &mut Cursor) -> Result<CellName, WireFault>
 /// A procedure's name.
 #[tactic(auto, unfolding(crate::specs::Reading::proc_name_at))]
 pub(crate) fn proc_name(cursor: &mut Cursor) -> Result<ProcName, WireFault>
-    ensures { Gives proc_name_at cursor.old cursor.new result }
+    ensures { IsReadAs proc_name_at cursor.old cursor.new result }
 {
     let (site, num) = name(cursor)?;
     Ok(ProcName { site, num })
@@ -49,7 +49,7 @@ pub(crate) fn proc_name(cursor: &mut Cursor) -> Result<ProcName, WireFault>
 /// A thread's name.
 #[tactic(auto, unfolding(crate::specs::Reading::thread_name_at))]
 pub(crate) fn thread_name(cursor: &mut Cursor) -> Result<ThreadName, WireFault>
-    ensures { Gives thread_name_at cursor.old cursor.new result }
+    ensures { IsReadAs thread_name_at cursor.old cursor.new result }
 {
     let (site, num) = name(cursor)?;
     Ok(ThreadName { site, num })
@@ -58,7 +58,7 @@ pub(crate) fn thread_name(cursor: &mut Cursor) -> Result<ThreadName, WireFault>
 /// The number of a statement.
 #[tactic(auto, unfolding(crate::specs::Reading::code_at))]
 pub(crate) fn code(cursor: &mut Cursor) -> Result<CodeId, WireFault>
-    ensures { Gives code_at cursor.old cursor.new result }
+    ensures { IsReadAs code_at cursor.old cursor.new result }
 {
     let number = cursor.number_32()?;
     Ok(CodeId(number))
@@ -75,7 +75,7 @@ fn is_text(bytes: &[u8]) -> bool
 /// A text.
 #[tactic(auto, unfolding(crate::specs::Reading::text_at, crate::specs::Reading::short_bytes_at))]
 pub(crate) fn text(alloc: Global, cursor: &mut Cursor) -> Result<Text, WireFault>
-    ensures { Gives text_at cursor.old cursor.new result }
+    ensures { IsReadAs text_at cursor.old cursor.new result }
 {
     let len = cursor.byte()?;
     let at = cursor.place();
@@ -89,7 +89,7 @@ pub(crate) fn text(alloc: Global, cursor: &mut Cursor) -> Result<Text, WireFault
 /// A feature.
 #[tactic(auto, unfolding(crate::specs::Reading::feature_at, crate::specs::Reading::key_at))]
 pub(crate) fn feature(alloc: Global, cursor: &mut Cursor) -> Result<Feature, WireFault>
-    ensures { Gives feature_at cursor.old cursor.new result }
+    ensures { IsReadAs feature_at cursor.old cursor.new result }
 {
     let at = cursor.place();
     match cursor.byte()? {

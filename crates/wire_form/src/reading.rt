@@ -5,11 +5,11 @@ ghost use Rattle.site_message.specs.Wire.{FitsWire};
 ghost use Rattle.site_message.specs.declared.message.Msg.{Msg as AMessage};
 ghost use Rattle.wire_form.specs.declared.fault.WireFault.TheVariants.{Memory};
 ghost use Rattle.wire_form.specs.declared.fault.WireFault.{WireFault as AFault};
-ghost use Rattle.wire_form.specs.Format.{Spells, IsFirstFault};
+ghost use Rattle.wire_form.specs.Format.{IsSpelling, IsFirstFault};
 ghost use Rattle.tree_node.specs.Store.{Equation};
 ghost use Rattle.tree_node.specs.declared.names.VarName.{VarName as AVarName};
 ghost use Rattle.tree_node.specs.declared.node.Feature.{Feature as AFeature};
-ghost use Rattle.wire_form.specs.Reading.{Gives, is_above, feature_below, name_below, field_at, fields_at, variables_at, record_at, procedure_at, node_at, term_at, equation_at, bundle_at, spawn_at, register_at, bind_request_at, binding_at, get_at, forward_at, put_at, body_at, message_at, whole_of, GivesWhole};
+ghost use Rattle.wire_form.specs.Reading.{IsReadAs, is_above, feature_below, name_below, field_at, fields_at, variables_at, record_at, procedure_at, node_at, term_at, equation_at, bundle_at, spawn_at, register_at, bind_request_at, binding_at, get_at, forward_at, put_at, body_at, message_at, whole_of, IsReadAsWhole};
 
 use crate::cursor::Cursor;
 use crate::fault::WireFault;
@@ -37,7 +37,7 @@ fn field(
     cursor: &mut Cursor,
     front: &[(Feature, VarName)],
 ) -> Result<(Feature, VarName), WireFault>
-    ensures { Gives (field_at front.now) cursor.old cursor.new result }
+    ensures { IsReadAs (field_at front.now) cursor.old cursor.new result }
 {
     let at = cursor.place();
     let feature = feature(alloc, cursor)?;
@@ -51,7 +51,7 @@ fn field(
 // The fields of a record.
 #[tactic(auto, unfolding(crate::specs::Reading::fields_at))]
 fn fields(alloc: Global, cursor: &mut Cursor) -> Result<Fields, WireFault>
-    ensures { Gives fields_at cursor.old cursor.new result }
+    ensures { IsReadAs fields_at cursor.old cursor.new result }
 {
     let count = cursor.byte_within(1, 64)?;
     let mut items = Vec::with_capacity(alloc, cursor.len().min(count as usize))?;
@@ -65,7 +65,7 @@ fn fields(alloc: Global, cursor: &mut Cursor) -> Result<Fields, WireFault>
 // A list of variables.
 #[tactic(auto, unfolding(crate::specs::Reading::variables_at))]
 fn variables(alloc: Global, cursor: &mut Cursor) -> Result<Vars, WireFault>
-    ensures { Gives variables_at cursor.old cursor.new result }
+    ensures { IsReadAs variables_at cursor.old cursor.new result }
 {
     let count = cursor.number_16()?;
     let mut items = Vec::with_capacity(alloc, cursor.len().min(count as usize))?;
@@ -79,7 +79,7 @@ fn variables(alloc: Global, cursor: &mut Cursor) -> Result<Vars, WireFault>
 // A record.
 #[tactic(auto, unfolding(crate::specs::Reading::record_at))]
 fn tree(alloc: Global, cursor: &mut Cursor) -> Result<Term, WireFault>
-    ensures { Gives record_at cursor.old cursor.new result }
+    ensures { IsReadAs record_at cursor.old cursor.new result }
 {
     let label = text(alloc, cursor)?;
     let fields = fields(alloc, cursor)?;
@@ -89,7 +89,7 @@ fn tree(alloc: Global, cursor: &mut Cursor) -> Result<Term, WireFault>
 // A procedure.
 #[tactic(auto, unfolding(crate::specs::Reading::procedure_at))]
 fn procedure(alloc: Global, cursor: &mut Cursor) -> Result<Term, WireFault>
-    ensures { Gives procedure_at cursor.old cursor.new result }
+    ensures { IsReadAs procedure_at cursor.old cursor.new result }
 {
     let name = proc_name(cursor)?;
     let code = code(cursor)?;
@@ -101,7 +101,7 @@ fn procedure(alloc: Global, cursor: &mut Cursor) -> Result<Term, WireFault>
 // What follows the tag of a term, which stands at the place.
 #[tactic(auto, unfolding(crate::specs::Reading::node_at))]
 fn node(alloc: Global, at: usize, tag: u8, cursor: &mut Cursor) -> Result<Term, WireFault>
-    ensures { Gives (node_at at tag) cursor.old cursor.new result }
+    ensures { IsReadAs (node_at at tag) cursor.old cursor.new result }
 {
     match tag {
         0 => Ok(Term::Var(var_name(cursor)?)),
@@ -117,7 +117,7 @@ fn node(alloc: Global, at: usize, tag: u8, cursor: &mut Cursor) -> Result<Term, 
 // A term.
 #[tactic(auto, unfolding(crate::specs::Reading::term_at))]
 fn term(alloc: Global, cursor: &mut Cursor) -> Result<Term, WireFault>
-    ensures { Gives term_at cursor.old cursor.new result }
+    ensures { IsReadAs term_at cursor.old cursor.new result }
 {
     let at = cursor.place();
     let tag = cursor.byte()?;
@@ -142,7 +142,7 @@ fn equation(
     cursor: &mut Cursor,
     front: &[(VarName, Term)],
 ) -> Result<(VarName, Term), WireFault>
-    ensures { Gives (equation_at front.now) cursor.old cursor.new result }
+    ensures { IsReadAs (equation_at front.now) cursor.old cursor.new result }
 {
     let at = cursor.place();
     let var = var_name(cursor)?;
@@ -156,7 +156,7 @@ fn equation(
 // A bundle.
 #[tactic(auto, unfolding(crate::specs::Reading::bundle_at))]
 fn bundle(alloc: Global, cursor: &mut Cursor) -> Result<Bundle, WireFault>
-    ensures { Gives bundle_at cursor.old cursor.new result }
+    ensures { IsReadAs bundle_at cursor.old cursor.new result }
 {
     let at = cursor.place();
     let count = cursor.number_16()?;
@@ -174,7 +174,7 @@ fn bundle(alloc: Global, cursor: &mut Cursor) -> Result<Bundle, WireFault>
 // A start of a thread.
 #[tactic(auto, unfolding(crate::specs::Reading::spawn_at))]
 fn spawn(alloc: Global, cursor: &mut Cursor) -> Result<Msg, WireFault>
-    ensures { Gives spawn_at cursor.old cursor.new result }
+    ensures { IsReadAs spawn_at cursor.old cursor.new result }
 {
     let thread = thread_name(cursor)?;
     let code = code(cursor)?;
@@ -191,7 +191,7 @@ fn spawn(alloc: Global, cursor: &mut Cursor) -> Result<Msg, WireFault>
 // A registration.
 #[tactic(auto, unfolding(crate::specs::Reading::register_at))]
 fn register(cursor: &mut Cursor) -> Result<Msg, WireFault>
-    ensures { Gives register_at cursor.old cursor.new result }
+    ensures { IsReadAs register_at cursor.old cursor.new result }
 {
     let var = var_name(cursor)?;
     let asking = cursor.byte_within(1, 64)? as u32;
@@ -201,7 +201,7 @@ fn register(cursor: &mut Cursor) -> Result<Msg, WireFault>
 // A request of a bind.
 #[tactic(auto, unfolding(crate::specs::Reading::bind_request_at))]
 fn bind_request(alloc: Global, cursor: &mut Cursor) -> Result<Msg, WireFault>
-    ensures { Gives bind_request_at cursor.old cursor.new result }
+    ensures { IsReadAs bind_request_at cursor.old cursor.new result }
 {
     let var = var_name(cursor)?;
     let thread = thread_name(cursor)?;
@@ -218,7 +218,7 @@ fn bind_request(alloc: Global, cursor: &mut Cursor) -> Result<Msg, WireFault>
 // A binding.
 #[tactic(auto, unfolding(crate::specs::Reading::binding_at))]
 fn binding(alloc: Global, cursor: &mut Cursor) -> Result<Msg, WireFault>
-    ensures { Gives binding_at cursor.old cursor.new result }
+    ensures { IsReadAs binding_at cursor.old cursor.new result }
 {
     let var = var_name(cursor)?;
     let term = term(alloc, cursor)?;
@@ -229,7 +229,7 @@ fn binding(alloc: Global, cursor: &mut Cursor) -> Result<Msg, WireFault>
 // A request of a cell's token.
 #[tactic(auto, unfolding(crate::specs::Reading::get_at))]
 fn get(cursor: &mut Cursor) -> Result<Msg, WireFault>
-    ensures { Gives get_at cursor.old cursor.new result }
+    ensures { IsReadAs get_at cursor.old cursor.new result }
 {
     let cell = cell_name(cursor)?;
     let asking = cursor.byte_within(1, 64)? as u32;
@@ -239,7 +239,7 @@ fn get(cursor: &mut Cursor) -> Result<Msg, WireFault>
 // Where a cell's token is to go.
 #[tactic(auto, unfolding(crate::specs::Reading::forward_at))]
 fn forward(cursor: &mut Cursor) -> Result<Msg, WireFault>
-    ensures { Gives forward_at cursor.old cursor.new result }
+    ensures { IsReadAs forward_at cursor.old cursor.new result }
 {
     let cell = cell_name(cursor)?;
     let next = cursor.byte_within(1, 64)? as u32;
@@ -249,7 +249,7 @@ fn forward(cursor: &mut Cursor) -> Result<Msg, WireFault>
 // A cell's token.
 #[tactic(auto, unfolding(crate::specs::Reading::put_at))]
 fn put(alloc: Global, cursor: &mut Cursor) -> Result<Msg, WireFault>
-    ensures { Gives put_at cursor.old cursor.new result }
+    ensures { IsReadAs put_at cursor.old cursor.new result }
 {
     let cell = cell_name(cursor)?;
     let content = var_name(cursor)?;
@@ -264,7 +264,7 @@ fn put(alloc: Global, cursor: &mut Cursor) -> Result<Msg, WireFault>
 // What follows the kind of a message, which stands at the place.
 #[tactic(auto, unfolding(crate::specs::Reading::body_at))]
 fn body(alloc: Global, at: usize, kind: u8, cursor: &mut Cursor) -> Result<Msg, WireFault>
-    ensures { Gives (body_at at kind) cursor.old cursor.new result }
+    ensures { IsReadAs (body_at at kind) cursor.old cursor.new result }
 {
     match kind {
         1 => spawn(alloc, cursor),
@@ -281,7 +281,7 @@ fn body(alloc: Global, at: usize, kind: u8, cursor: &mut Cursor) -> Result<Msg, 
 // A message, behind which bytes may stand.
 #[tactic(auto, unfolding(crate::specs::Reading::message_at))]
 fn message(alloc: Global, cursor: &mut Cursor) -> Result<Msg, WireFault>
-    ensures { Gives message_at cursor.old cursor.new result }
+    ensures { IsReadAs message_at cursor.old cursor.new result }
 {
     let at = cursor.place();
     let kind = cursor.byte()?;
@@ -291,7 +291,7 @@ fn message(alloc: Global, cursor: &mut Cursor) -> Result<Msg, WireFault>
 // The message that all of the bytes spell.
 #[tactic(auto, unfolding(crate::specs::Reading::whole_of))]
 fn whole(alloc: Global, bytes: &[u8]) -> Result<Msg, WireFault>
-    ensures { GivesWhole bytes.now result }
+    ensures { IsReadAsWhole bytes.now result }
 {
     let mut cursor = Cursor::new(bytes);
     let msg = message(alloc, &mut cursor)?;
@@ -305,10 +305,10 @@ fn whole(alloc: Global, bytes: &[u8]) -> Result<Msg, WireFault>
 /// bytes, whatever the counts among them promise.
 pub fn decode(alloc: Global, bytes: &[u8]) -> Result<Msg, WireFault>
     // What is read is spelled so, and fits.
-    ensures spelled { IfOk result (λ m. Spells bytes.now m) }
+    ensures spelled { IfOk result (λ m. IsSpelling bytes.now m) }
     ensures fits { IfOk result (λ m. FitsWire m) }
     // What is spelled so is read, unless memory runs out.
-    ensures only { (m : AMessage) → Spells bytes.now m → (result ≡ Ok m) ⊎ (result ≡ Err Memory) }
+    ensures only { (m : AMessage) → IsSpelling bytes.now m → (result ≡ Ok m) ⊎ (result ≡ Err Memory) }
     // A fault is the first one, unless memory runs out.
     ensures fault { IfErr result (λ f. (f ≡ Memory) ⊎ IsFirstFault bytes.now f) }
     // The first fault is answered, unless memory runs out.

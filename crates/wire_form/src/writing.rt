@@ -3,8 +3,8 @@
 ghost use Rattle.std.specs.Prelude.{IfOk};
 ghost use Rattle.site_message.specs.Wire.{IsSite, FitsText, FitsFeature, FitsField, FitsFields, FitsVar, FitsVars, FitsNode, FitsTerm, FitsEquation, FitsBundle, FitsWire};
 ghost use Rattle.tree_node.specs.declared.node.Term.TheVariants as terms;
-ghost use Rattle.wire_form.specs.Format.{site, name, var_name, cell_name, proc_name, thread_name, code, integer, text, feature, record_field, record_fields, variables, term, equation, bundle, message, Spells};
-ghost use Rattle.wire_form.specs.Writing.{Writes};
+ghost use Rattle.wire_form.specs.Format.{site, name, var_name, cell_name, proc_name, thread_name, code, integer, text, feature, record_field, record_fields, variables, term, equation, bundle, message, IsSpelling};
+ghost use Rattle.wire_form.specs.Writing.{IsWritten};
 
 use crate::size::message_size;
 use site_message::Msg;
@@ -17,7 +17,7 @@ pub type Bytes = Seq<u8>;
 // A site.
 fn put_site(out: &mut Vec<u8>, value: u32) -> Result<(), AllocError>
     requires { IsSite value }
-    ensures { Writes site value out.old.items out.new.items result }
+    ensures { IsWritten site value out.old.items out.new.items result }
 {
     out.push(value as u8)?;
     Ok(())
@@ -26,7 +26,7 @@ fn put_site(out: &mut Vec<u8>, value: u32) -> Result<(), AllocError>
 // A site and a number.
 fn put_name(out: &mut Vec<u8>, site_of: u32, num: u64) -> Result<(), AllocError>
     requires { IsSite site_of }
-    ensures { Writes name (site_of, num) out.old.items out.new.items result }
+    ensures { IsWritten name (site_of, num) out.old.items out.new.items result }
 {
     put_site(out, site_of)?;
     out.extend_from_slice(&num.to_be_bytes())
@@ -35,7 +35,7 @@ fn put_name(out: &mut Vec<u8>, site_of: u32, num: u64) -> Result<(), AllocError>
 // A variable's name.
 fn put_var(out: &mut Vec<u8>, x: VarName) -> Result<(), AllocError>
     requires { FitsVar x }
-    ensures { Writes var_name x out.old.items out.new.items result }
+    ensures { IsWritten var_name x out.old.items out.new.items result }
 {
     put_name(out, x.site, x.num)
 }
@@ -43,7 +43,7 @@ fn put_var(out: &mut Vec<u8>, x: VarName) -> Result<(), AllocError>
 // A cell's name.
 fn put_cell(out: &mut Vec<u8>, x: CellName) -> Result<(), AllocError>
     requires { IsSite x.site }
-    ensures { Writes cell_name x out.old.items out.new.items result }
+    ensures { IsWritten cell_name x out.old.items out.new.items result }
 {
     put_name(out, x.site, x.num)
 }
@@ -51,7 +51,7 @@ fn put_cell(out: &mut Vec<u8>, x: CellName) -> Result<(), AllocError>
 // A procedure's name.
 fn put_proc(out: &mut Vec<u8>, x: ProcName) -> Result<(), AllocError>
     requires { IsSite x.site }
-    ensures { Writes proc_name x out.old.items out.new.items result }
+    ensures { IsWritten proc_name x out.old.items out.new.items result }
 {
     put_name(out, x.site, x.num)
 }
@@ -59,21 +59,21 @@ fn put_proc(out: &mut Vec<u8>, x: ProcName) -> Result<(), AllocError>
 // A thread's name.
 fn put_thread(out: &mut Vec<u8>, x: ThreadName) -> Result<(), AllocError>
     requires { IsSite x.site }
-    ensures { Writes thread_name x out.old.items out.new.items result }
+    ensures { IsWritten thread_name x out.old.items out.new.items result }
 {
     put_name(out, x.site, x.num)
 }
 
 // The number of a statement.
 fn put_code(out: &mut Vec<u8>, c: CodeId) -> Result<(), AllocError>
-    ensures { Writes code c out.old.items out.new.items result }
+    ensures { IsWritten code c out.old.items out.new.items result }
 {
     out.extend_from_slice(&c.0.to_be_bytes())
 }
 
 // An integer.
 fn put_integer(out: &mut Vec<u8>, value: i64) -> Result<(), AllocError>
-    ensures { Writes integer value out.old.items out.new.items result }
+    ensures { IsWritten integer value out.old.items out.new.items result }
 {
     out.extend_from_slice(&value.to_be_bytes())
 }
@@ -81,7 +81,7 @@ fn put_integer(out: &mut Vec<u8>, value: i64) -> Result<(), AllocError>
 // A text.
 fn put_text(out: &mut Vec<u8>, bytes: &[u8]) -> Result<(), AllocError>
     requires { FitsText bytes.now }
-    ensures { Writes text bytes.now out.old.items out.new.items result }
+    ensures { IsWritten text bytes.now out.old.items out.new.items result }
 {
     out.push(bytes.len() as u8)?;
     out.extend_from_slice(bytes)
@@ -90,7 +90,7 @@ fn put_text(out: &mut Vec<u8>, bytes: &[u8]) -> Result<(), AllocError>
 // A feature.
 fn put_feature(out: &mut Vec<u8>, value: &Feature) -> Result<(), AllocError>
     requires { FitsFeature value.now }
-    ensures { Writes feature value.now out.old.items out.new.items result }
+    ensures { IsWritten feature value.now out.old.items out.new.items result }
 {
     match value {
         Feature::Int(number) => {
@@ -107,7 +107,7 @@ fn put_feature(out: &mut Vec<u8>, value: &Feature) -> Result<(), AllocError>
 // A field of a record.
 fn put_field(out: &mut Vec<u8>, field: &(Feature, VarName)) -> Result<(), AllocError>
     requires { FitsField field.now }
-    ensures { Writes record_field field.now out.old.items out.new.items result }
+    ensures { IsWritten record_field field.now out.old.items out.new.items result }
 {
     put_feature(out, &field.0)?;
     put_var(out, field.1)
@@ -116,7 +116,7 @@ fn put_field(out: &mut Vec<u8>, field: &(Feature, VarName)) -> Result<(), AllocE
 // The fields of a record.
 fn put_fields(out: &mut Vec<u8>, fields: &[(Feature, VarName)]) -> Result<(), AllocError>
     requires { FitsFields fields.now }
-    ensures { Writes record_fields fields.now out.old.items out.new.items result }
+    ensures { IsWritten record_fields fields.now out.old.items out.new.items result }
 {
     out.push(fields.len() as u8)?;
     for field in fields {
@@ -128,7 +128,7 @@ fn put_fields(out: &mut Vec<u8>, fields: &[(Feature, VarName)]) -> Result<(), Al
 // A list of variables.
 fn put_variables(out: &mut Vec<u8>, vars: &[VarName]) -> Result<(), AllocError>
     requires { FitsVars vars.now }
-    ensures { Writes variables vars.now out.old.items out.new.items result }
+    ensures { IsWritten variables vars.now out.old.items out.new.items result }
 {
     out.extend_from_slice(&(vars.len() as u16).to_be_bytes())?;
     for var in vars {
@@ -140,7 +140,7 @@ fn put_variables(out: &mut Vec<u8>, vars: &[VarName]) -> Result<(), AllocError>
 // A node, as a term.
 fn put_node(out: &mut Vec<u8>, value: &Node) -> Result<(), AllocError>
     requires { FitsNode value.now }
-    ensures { Writes term (terms.Node value.now) out.old.items out.new.items result }
+    ensures { IsWritten term (terms.Node value.now) out.old.items out.new.items result }
 {
     match value {
         Node::Int(number) => {
@@ -173,7 +173,7 @@ fn put_node(out: &mut Vec<u8>, value: &Node) -> Result<(), AllocError>
 // A term.
 fn put_term(out: &mut Vec<u8>, value: &Term) -> Result<(), AllocError>
     requires { FitsTerm value.now }
-    ensures { Writes term value.now out.old.items out.new.items result }
+    ensures { IsWritten term value.now out.old.items out.new.items result }
 {
     match value {
         Term::Var(x) => {
@@ -187,7 +187,7 @@ fn put_term(out: &mut Vec<u8>, value: &Term) -> Result<(), AllocError>
 // An equation of a bundle.
 fn put_equation(out: &mut Vec<u8>, entry: &(VarName, Term)) -> Result<(), AllocError>
     requires { FitsEquation entry.now }
-    ensures { Writes equation entry.now out.old.items out.new.items result }
+    ensures { IsWritten equation entry.now out.old.items out.new.items result }
 {
     put_var(out, entry.0)?;
     put_term(out, &entry.1)
@@ -196,7 +196,7 @@ fn put_equation(out: &mut Vec<u8>, entry: &(VarName, Term)) -> Result<(), AllocE
 // A bundle.
 fn put_bundle(out: &mut Vec<u8>, equations: &[(VarName, Term)]) -> Result<(), AllocError>
     requires { FitsBundle equations.now }
-    ensures { Writes bundle equations.now out.old.items out.new.items result }
+    ensures { IsWritten bundle equations.now out.old.items out.new.items result }
 {
     out.extend_from_slice(&(equations.len() as u16).to_be_bytes())?;
     for entry in equations {
@@ -208,7 +208,7 @@ fn put_bundle(out: &mut Vec<u8>, equations: &[(VarName, Term)]) -> Result<(), Al
 // A message.
 fn put_message(out: &mut Vec<u8>, msg: &Msg) -> Result<(), AllocError>
     requires { FitsWire msg.now }
-    ensures { Writes message msg.now out.old.items out.new.items result }
+    ensures { IsWritten message msg.now out.old.items out.new.items result }
 {
     match msg {
         Msg::Spawn {
@@ -272,7 +272,7 @@ fn put_message(out: &mut Vec<u8>, msg: &Msg) -> Result<(), AllocError>
 /// The one spelling of a message. It takes memory once for all of the bytes, and a step for each part of the message.
 pub fn encode(alloc: Global, msg: &Msg) -> Result<Bytes, AllocError>
     requires { FitsWire msg.now }
-    ensures { IfOk result (λ bytes. Spells bytes msg.now) }
+    ensures { IfOk result (λ bytes. IsSpelling bytes msg.now) }
 {
     let mut out = Vec::with_capacity(alloc, message_size(msg))?;
     put_message(&mut out, msg)?;

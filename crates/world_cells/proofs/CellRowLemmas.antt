@@ -23,7 +23,7 @@ use Rattle.site_model.specs.Site.{Site, Threads, Counters, CellRecord, cell_reco
 use Rattle.thread_roster.specs.declared.mode.Mode.TheVariants.{Runs, WaitsFor}
 use Rattle.site_model.specs.Transition.{Transition}
 use Rattle.site_model.specs.Cells.{last_before, with_last_asker, forward_row, get_row, with_exchange_waiting, request_row}
-use Rattle.world_model.specs.World.{World, Sites, Mail, Travels, after_transition, after_receipt, put, without_number, mail_from, at_put, eqs, records, threads, cell_records, counters}
+use Rattle.world_model.specs.World.{World, Sites, Mail, IsOnItsWay, after_transition, after_receipt, put, without_number, mail_from, at_put, eqs, records, threads, cell_records, counters}
 use Rattle.world_model.specs.Names.{IsHere, AreContentsHome, ContentsHome, here_at}
 use Rattle.world_model.specs.Matches.{PartsMatch, CellsMatch, IsExchange}
 use Rattle.world_model.proofs.PutLemmas.{at_all, at_own, nat_decides}
@@ -100,7 +100,7 @@ module _ (p : List Stmt) (limit : ℕ) (w : World) (z : State) (parts : PartsIn 
   has_content i c v chain u h = (tokens_have_contents chain.0 _ _ v u i chain.2 h).0
 
   -- a Get comes to the manager
-  pub get_kept : (k i : ℕ) (c : CellName) (asker : ℕ) → Travels w.mail k i (msg.Get c asker) → OneMessage w k → (w.sites i).records.site ≡ i →
+  pub get_kept : (k i : ℕ) (c : CellName) (asker : ℕ) → IsOnItsWay w.mail k i (msg.Get c asker) → OneMessage w k → (w.sites i).records.site ≡ i →
       PartsIn p (here_at (records w.sites)) (after_transition (after_receipt (Some k) w) i (get_row limit c asker (w.sites i))) z × CellsMatch (after_transition (after_receipt (Some k) w) i (get_row limit c asker (w.sites i))) z
   get_kept k i c asker h once number =
       let one = one_number w k i (msg.Get c asker) h once in
@@ -117,7 +117,7 @@ module _ (p : List Stmt) (limit : ℕ) (w : World) (z : State) (parts : PartsIn 
       )
 
   -- a Forward comes
-  pub forward_kept : (k i : ℕ) (c : CellName) (next : ℕ) → Travels w.mail k i (msg.Forward c next) → OneMessage w k →
+  pub forward_kept : (k i : ℕ) (c : CellName) (next : ℕ) → IsOnItsWay w.mail k i (msg.Forward c next) → OneMessage w k →
       PartsIn p (here_at (records w.sites)) (after_transition (after_receipt (Some k) w) i (forward_row limit c next (w.sites i))) z × CellsMatch (after_transition (after_receipt (Some k) w) i (forward_row limit c next (w.sites i))) z
   forward_kept k i c next h once =
       let one = one_number w k i (msg.Forward c next) h once in

@@ -11,7 +11,7 @@ use Rattle.site_message.specs.declared.message.Sent.{Sent}
 use Rattle.token_chain.specs.Mail.{Get, Forward, Put, mail_count}
 use Rattle.token_chain.specs.Mail as token
 use Rattle.token_chain.specs.Rows.{Reply}
-use Rattle.token_chain.specs.Tally.{total, weights, Tally, Pays}
+use Rattle.token_chain.specs.Tally.{total, weights, Tally, IsPaid}
 use Rattle.token_chain.proofs.TallyLemmas.{replies_pay, same_tallies, tallies_bound}
 use Rattle.site_model.specs.Site.{last_asker}
 use Rattle.site_model.specs.Transition.{Transition}
@@ -53,7 +53,7 @@ weighs_sum c (m ∷ ms) = let rest = weighs_sum c ms in let one = kinds m.msg in
 
 -- the cell of a row
 pub tallied_here : (n : ℕ) (w : World) (i : ℕ) (d : Transition) (c : CellName) (r : Reply) (gone : List token.Mail) (mail : Mail) (out : List Sent) (x more : ℕ) → 1 ≤ i → i ≤ n → Answers c r (w.sites i) d → Came c gone mail w.mail →
-    Pays (held w.sites c i) r (total n (λ k. mail_count gone (Get k))) more → IsTallied n w.sites mail out c x → IsTallied n (after_transition w i d).sites (after_transition w i d).mail (out ++ d.sent) c (x + more)
+    IsPaid (held w.sites c i) r (total n (λ k. mail_count gone (Get k))) more → IsTallied n w.sites mail out c x → IsTallied n (after_transition w i d).sites (after_transition w i d).mail (out ++ d.sent) c (x + more)
 tallied_here n w i d c r gone mail out x more low high a arrives pays t =
     subst (λ (g : ℕ). Tally n (held (after_transition w i d).sites c) (tally c (after_transition w i d).mail) g (cell_weights c 0 1 0 (out ++ d.sent)) (cell_weights c 0 0 1 (out ++ d.sent)) (x + more)) (sym (kind 1 0 0))
     (subst (λ (f : ℕ). Tally n (held (after_transition w i d).sites c) (tally c (after_transition w i d).mail) (cell_weights c 1 0 0 out + weights 1 0 0 r.sent) f (cell_weights c 0 0 1 (out ++ d.sent)) (x + more)) (sym (kind 0 1 0))
@@ -126,7 +126,7 @@ tallied_still n f g mail more cells out sent x same silent t = record {
 -- what a site does with a cell, behind messages that have come
 pub row_tally : (n : ℕ) (w : World) (mail : Mail) (i : ℕ) (d : Transition) (c : CellName) (r : Reply) (gone : List token.Mail) (cells to : List (CellName × VarName)) (out : List Sent) (x y : CellName → ℕ) (more : ℕ) → 1 ≤ i → i ≤ n → Answers c r (w.sites i) d →
     ((b : CellName) → b ≢ c → last_asker d.site b ≡ last_asker (w.sites i) b) → Came c gone mail w.mail → ((b : CellName) → b ≢ c → (m : token.Mail) → tally b w.mail m ≡ tally b mail m) →
-    ((b : CellName) → b ≢ c → value_of equal_cell to b ≡ value_of equal_cell cells b) → ((b : CellName) → b ≢ c → y b ≡ x b) → y c ≡ x c + more → Pays (held w.sites c i) r (total n (λ k. mail_count gone (Get k))) more →
+    ((b : CellName) → b ≢ c → value_of equal_cell to b ≡ value_of equal_cell cells b) → ((b : CellName) → b ≢ c → y b ≡ x b) → y c ≡ x c + more → IsPaid (held w.sites c i) r (total n (λ k. mail_count gone (Get k))) more →
     (v : VarName) → value_of equal_cell to c ≡ Some v → IsTallied n w.sites mail out c (x c) → CellsTallied n w.sites mail cells out x → CellsTallied n (after_transition w i d).sites (after_transition w i d).mail to (out ++ d.sent) y
 row_tally n w mail i d c r gone cells to out x y more low high a l arrives other values counts count pays v value here t =
     tallied_row n w.sites (after_transition w i d).sites mail (after_transition w i d).mail cells to out d.sent x y c

@@ -23,8 +23,8 @@ use Rattle.token_chain.specs.declared.token.Token.{Token}
 use Rattle.token_chain.specs.declared.token.Token.TheVariants.{Away, Asked, Here}
 use Rattle.token_chain.specs.Mail.{Get, Forward, Put}
 use Rattle.token_chain.specs.Holding.{with_waiter}
-use Rattle.token_chain.specs.Rows.{Reply, silent, forward_reply, get_reply, put_reply, exchange_reply}
-use Rattle.token_chain.specs.Tally.{Pays}
+use Rattle.token_chain.specs.Rows.{Reply, reply_without_mail, forward_reply, get_reply, put_reply, exchange_reply}
+use Rattle.token_chain.specs.Tally.{IsPaid}
 use Rattle.token_chain.proofs.MoveLemmas.{messages_can_come, last_is_used}
 use Rattle.token_chain.proofs.TallyLemmas.{rows_pay, forward_pays, asking_pays, own_asking_pays, waiting_pays, put_pays, exchange_pays, pays_came, one_came, making_tallies}
 use Rattle.site_model.specs.Site.{CellRecord, cell_record_in, cell_record, last_asker}
@@ -32,7 +32,7 @@ use Rattle.site_model.specs.Transition.{Transition}
 use Rattle.site_model.specs.Cells.{last_before, forward_row, get_row, put_row, request_row}
 use Rattle.world_model.proofs.PutLemmas.{nat_decides}
 use Rattle.site_model.specs.Unit.{step_row}
-use Rattle.world_model.specs.World.{World, Travels, after_transition, after_receipt}
+use Rattle.world_model.specs.World.{World, IsOnItsWay, after_transition, after_receipt}
 use Rattle.world_cells.specs.CellCounts.{cell_weights, IsTallied}
 use Rattle.world_model.specs.Matches.{CellsMatch}
 use Rattle.world_model.proofs.MailLemmas.{sent_to}
@@ -62,7 +62,7 @@ module _ (n : ℕ) (w : World) (z : State) (x : CellsMatch w z) (out : List Sent
   abbrev Then : World → List Sent → List (CellName × VarName) → (CellName → ℕ) → Type 0
   Then v sent cells y = CellsTallied n v.sites v.mail cells (out ++ sent) y
 
-  pub get_tally : (limit k i : ℕ) (c : CellName) (asker : ℕ) → 1 ≤ i → i ≤ n → 1 ≤ asker → asker ≤ n → Travels w.mail k i (msg.Get c asker) → OneOfNumber w.mail k (sent_to i (msg.Get c asker)) → (w.sites i).records.site ≡ i →
+  pub get_tally : (limit k i : ℕ) (c : CellName) (asker : ℕ) → 1 ≤ i → i ≤ n → 1 ≤ asker → asker ≤ n → IsOnItsWay w.mail k i (msg.Get c asker) → OneOfNumber w.mail k (sent_to i (msg.Get c asker)) → (w.sites i).records.site ≡ i →
       Then (after_transition (after_receipt (Some k) w) i (get_row limit c asker (w.sites i))) (get_row limit c asker (w.sites i)).sent z.cells count
   get_tally limit k i c asker low high alow ahigh h one number =
       let at = (x.gets k i c asker h).0 in
@@ -71,10 +71,10 @@ module _ (n : ℕ) (w : World) (z : State) (x : CellsMatch w z) (out : List Sent
       let answers = get_answers limit c asker (w.sites i) f.2.0 i number (subst (λ (y : ℕ). last_asker (w.sites y) c ≡ Some f.2.0) (sym at) f.2.1) in
       row_tally n (after_receipt (Some k) w) w.mail i (get_row limit c asker (w.sites i)) c _ (Get asker ∷ []) z.cells z.cells out count count 0 low high answers (get_manages limit c asker (w.sites i)).others
       (arrives_here w k i _ c (Get asker) f.0 a f.2) (arrives_other w k i _ c (Get asker) a) (λ b d. refl) (λ b d. refl) (same_count count c)
-      (subst (λ (y : ℕ). Pays (held w.sites c i) (get_reply i f.2.0 asker (held w.sites c i)) y 0) (sym (one_came n asker alow ahigh)) (rows_pay.get i f.2.0 asker (held w.sites c i) (wants c f.0 f.1 i)))
+      (subst (λ (y : ℕ). IsPaid (held w.sites c i) (get_reply i f.2.0 asker (held w.sites c i)) y 0) (sym (one_came n asker alow ahigh)) (rows_pay.get i f.2.0 asker (held w.sites c i) (wants c f.0 f.1 i)))
       f.0 f.1 (t.tallied c f.0 f.1) t
 
-  pub forward_tally : (limit k i : ℕ) (c : CellName) (next : ℕ) → 1 ≤ i → i ≤ n → Travels w.mail k i (msg.Forward c next) → OneOfNumber w.mail k (sent_to i (msg.Forward c next)) →
+  pub forward_tally : (limit k i : ℕ) (c : CellName) (next : ℕ) → 1 ≤ i → i ≤ n → IsOnItsWay w.mail k i (msg.Forward c next) → OneOfNumber w.mail k (sent_to i (msg.Forward c next)) →
       Then (after_transition (after_receipt (Some k) w) i (forward_row limit c next (w.sites i))) (forward_row limit c next (w.sites i)).sent z.cells count
   forward_tally limit k i c next low high h one =
       let a = forward_arrives w k i c next h one in
@@ -87,7 +87,7 @@ module _ (n : ℕ) (w : World) (z : State) (x : CellsMatch w z) (out : List Sent
 
   -- a Put comes, and all that wait exchange
   pub put_tally : (p : List Stmt) (limit k i : ℕ) (c : CellName) (v : VarName) (bundle : List Equation) (q : PutRow p limit w z k i c v (after_transition (after_receipt (Some k) w) i (put_row p limit c v (w.sites i)))) → 1 ≤ i → i ≤ n →
-      Travels w.mail k i (msg.Put c v bundle) → OneOfNumber w.mail k (sent_to i (msg.Put c v bundle)) →
+      IsOnItsWay w.mail k i (msg.Put c v bundle) → OneOfNumber w.mail k (sent_to i (msg.Put c v bundle)) →
       Then (after_transition (after_receipt (Some k) w) i (put_row p limit c v (w.sites i))) (put_row p limit c v (w.sites i)).sent q.state.cells (λ b. count b + length (exchanges_from p b z (put_row p limit c v (w.sites i)).picks))
   put_tally p limit k i c v bundle q low high h one =
       let a = put_arrives w k i c v bundle h one in
@@ -123,22 +123,22 @@ module _ (n : ℕ) (w : World) (z : State) (x : CellsMatch w z) (out : List Sent
         last_is_used chain.0 _ _ v chain.2 (ap (λ (y : ℕ). (held w.sites c y).token) (sym is ∙ same ∙ at) ∙ e)
 
     pays_at : (t : Token) (next : Option ℕ) (waiting : ℕ) → (t ≡ Away → c.site ≡ i → last_before (w.sites i) c ≢ c.site) → ((u : VarName) → t ≢ Here u) →
-        Pays (record { token = t; next = next; waiting = waiting }) (exchange_reply c.site (last_before (w.sites i) c) (w.sites i).records.site new (record { token = t; next = next; waiting = waiting })) 0 0
+        IsPaid (record { token = t; next = next; waiting = waiting }) (exchange_reply c.site (last_before (w.sites i) c) (w.sites i).records.site new (record { token = t; next = next; waiting = waiting })) 0 0
     pays_at (Here u) next waiting far elsewhere = absurd (elsewhere u refl)
     pays_at Asked next waiting far elsewhere = waiting_pays (record { token = Asked; next = next; waiting = waiting }) refl
     pays_at Away next waiting far elsewhere = first ((w.sites i).records.site == c.site) refl
       where
         own : (b : Bool) → (last_before (w.sites i) c == c.site) ≡ b → c.site ≡ i →
-            Pays (record { token = Away; next = next; waiting = waiting }) (cond b (forward_reply (with_waiter (record { token = Away; next = next; waiting = waiting })) (w.sites i).records.site) (record { held = with_waiter (record { token = Away; next = next; waiting = waiting }); sent = Forward (last_before (w.sites i) c) (w.sites i).records.site ∷ [] })) 0 0
+            IsPaid (record { token = Away; next = next; waiting = waiting }) (cond b (forward_reply (with_waiter (record { token = Away; next = next; waiting = waiting })) (w.sites i).records.site) (record { held = with_waiter (record { token = Away; next = next; waiting = waiting }); sent = Forward (last_before (w.sites i) c) (w.sites i).records.site ∷ [] })) 0 0
         own true q at = absurd (far refl at ((nat_decides _ _).0 q))
         own false q at = own_asking_pays (record { token = Away; next = next; waiting = waiting }) (last_before (w.sites i) c) (w.sites i).records.site refl
 
         first : (b : Bool) → ((w.sites i).records.site == c.site) ≡ b →
-            Pays (record { token = Away; next = next; waiting = waiting }) (cond b (get_reply c.site (last_before (w.sites i) c) (w.sites i).records.site (with_waiter (record { token = Away; next = next; waiting = waiting }))) (record { held = with_waiter (record { token = Away; next = next; waiting = waiting }); sent = Get (w.sites i).records.site ∷ [] })) 0 0
+            IsPaid (record { token = Away; next = next; waiting = waiting }) (cond b (get_reply c.site (last_before (w.sites i) c) (w.sites i).records.site (with_waiter (record { token = Away; next = next; waiting = waiting }))) (record { held = with_waiter (record { token = Away; next = next; waiting = waiting }); sent = Get (w.sites i).records.site ∷ [] })) 0 0
         first true q = own (last_before (w.sites i) c == c.site) refl (sym ((nat_decides _ _).0 q) ∙ number)
         first false q = asking_pays (record { token = Away; next = next; waiting = waiting }) (w.sites i).records.site refl
 
-    pays : ((u : VarName) → (cell_record (w.sites i) c).held.token ≢ Here u) → Pays (held w.sites c i) reply 0 0
+    pays : ((u : VarName) → (cell_record (w.sites i) c).held.token ≢ Here u) → IsPaid (held w.sites c i) reply 0 0
     pays elsewhere = pays_at (cell_record (w.sites i) c).held.token (cell_record (w.sites i) c).held.next (cell_record (w.sites i) c).held.waiting apart elsewhere
 
     pub asks_tally : ((u : VarName) → (cell_record (w.sites i) c).held.token ≢ Here u) → Then (after_transition w i asking) asking.sent z.cells count
@@ -186,7 +186,7 @@ module _ (n : ℕ) (w : World) (z : State) (x : CellsMatch w z) (out : List Sent
         kind : (c : CellName) → ((g l u : ℕ) → cell_weights c g l u out ≡ 0) → ((g l u : ℕ) → cell_weights c g l u unit_deed.sent ≡ 0) → (g l u : ℕ) → cell_weights c g l u (out ++ unit_deed.sent) ≡ 0
         kind c old new g l u = let sum = weighs_append c g l u out unit_deed.sent in let a = old g l u in let b = new g l u in omega arith
     unit_go (Exchanged c new told) is f r o =
-        row_tally n w w.mail i unit_deed c (silent (record (cell_record (w.sites i) c).held { token = Here new })) [] z.cells (with_value equal_cell z.cells c new) out count (λ b. count b + cond (equal_cell c b) 1 0) 1 low high (exchanged_answers p n limit k kinds e (w.sites i) c new told is)
+        row_tally n w w.mail i unit_deed c (reply_without_mail (record (cell_record (w.sites i) c).held { token = Here new })) [] z.cells (with_value equal_cell z.cells c new) out count (λ b. count b + cond (equal_cell c b) 1 0) 1 low high (exchanged_answers p n limit k kinds e (w.sites i) c new told is)
         (λ b d. ap (lookup (equal_cell b)) (exchanged_managers p n limit k kinds e (w.sites i) c new told is)) (none_came c w.mail) (λ b d m. refl)
         (λ b d. put_there z.cells c b new (cells_differ c b (λ q. d (sym q)))) (λ b d. other_count (count b) (equal_cell c b) (cells_differ c b (λ q. d (sym q)))) (one_count (count c) (equal_cell c c) (cell_same c))
         (pays_came (held w.sites c i) _ _ 1 (exchange_pays (held w.sites c i) r.0 new r.1)) new (put_here z.cells c f.0 new f.1) (t.tallied c f.0 f.1) t

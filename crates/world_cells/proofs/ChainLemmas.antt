@@ -17,14 +17,14 @@ use Rattle.token_chain.specs.declared.token.Token.TheVariants.{Away, Asked, Here
 use Rattle.token_chain.specs.Holding.{Holding}
 use Rattle.token_chain.specs.Mail.{Get, Forward, Put, sent_count, mail_count}
 use Rattle.token_chain.specs.Mail as token
-use Rattle.token_chain.specs.Moves.{Replies}
+use Rattle.token_chain.specs.Moves.{HasReplied}
 use Rattle.token_chain.specs.Rows.{Reply, exchange_reply, last_after, content_then}
 use Rattle.token_chain.specs.Chain.{ChainOf}
 use Rattle.token_chain.proofs.MoveLemmas.{unit_keeps, get_keeps, forward_keeps, nothing_keeps, messages_can_come}
 use Rattle.site_model.specs.Site.{Site, CellRecord, cell_record, last_asker}
 use Rattle.site_model.specs.Transition.{Transition}
 use Rattle.site_model.specs.Cells.{last_before, forward_row, get_row, request_row}
-use Rattle.world_model.specs.World.{Sites, Mail, World, Travels, cell_records, managers, put, after_transition, after_receipt, without_number, mail_from}
+use Rattle.world_model.specs.World.{Sites, Mail, World, IsOnItsWay, cell_records, managers, put, after_transition, after_receipt, without_number, mail_from}
 use Rattle.world_model.specs.Chain.{held_in, messages, HasChain, IsNowhere, Cells, AreGetsAddressed}
 use Rattle.world_model.proofs.PutLemmas.{nat_decides, at_here, at_other}
 use Rattle.world_model.proofs.MailLemmas.{sent_to, posts, gone}
@@ -129,7 +129,7 @@ pub none_came : (c : CellName) (mail : Mail) → Came c [] mail mail
 none_came c mail m = omega arith
 
 pub lifts : (w : World) (i : ℕ) (d : Transition) (c : CellName) (r : Reply) (gone : List token.Mail) (mail : Mail) → Answers c r (w.sites i) d → Came c gone mail w.mail →
-    Replies i r gone (held w.sites c) (held (after_transition w i d).sites c) (tally c mail) (tally c (after_transition w i d).mail)
+    HasReplied i r gone (held w.sites c) (held (after_transition w i d).sites c) (tally c mail) (tally c (after_transition w i d).mail)
 lifts w i d c r gone mail a arrives = record {
   here = held_put w.sites i d.site c ∙ a.held;
   others = λ k h. held_there w.sites i d.site c k h;
@@ -158,7 +158,7 @@ cells_stay w i d mail cells p l silent arrives all = record {
 pub gets_posts : (mail : Mail) (n : ℕ) (out : List Sent) → AreGetsAddressed mail → ((to : ℕ) (c : CellName) (a : ℕ) → Contains out (sent_to to (msg.Get c a)) → (to ≡ c.site) × (a ≢ c.site)) → AreGetsAddressed (mail ++ mail_from n out)
 gets_posts mail n out all new k to c a h = go ((posts mail n out).from k to (msg.Get c a) h)
   where
-    go : Travels mail k to (msg.Get c a) ⊎ Contains out (sent_to to (msg.Get c a)) → (to ≡ c.site) × (a ≢ c.site)
+    go : IsOnItsWay mail k to (msg.Get c a) ⊎ Contains out (sent_to to (msg.Get c a)) → (to ≡ c.site) × (a ≢ c.site)
     go (inl q) = all k to c a q
     go (inr q) = new to c a q
 
@@ -183,7 +183,7 @@ module _ (w : World) (mail : Mail) (i : ℕ) (c : CellName) (gone : List token.M
     (values : (b : CellName) → b ≢ c → value_of equal_cell to b ≡ value_of equal_cell cells b) where
   -- whatever the chain of the cell is then, all are chains
   pub row_cells : (u : VarName) → value_of equal_cell to c ≡ Some u →
-      (Replies i r gone (held w.sites c) (held (after_transition w i d).sites c) (tally c mail) (tally c (after_transition w i d).mail) → ChainAt (after_transition w i d).sites (after_transition w i d).mail c u) →
+      (HasReplied i r gone (held w.sites c) (held (after_transition w i d).sites c) (tally c mail) (tally c (after_transition w i d).mail) → ChainAt (after_transition w i d).sites (after_transition w i d).mail c u) →
       CellsAt (after_transition w i d).sites (after_transition w i d).mail to
   row_cells u e chain = one_cell w.sites (after_transition w i d).sites mail (after_transition w i d).mail cells to c all (record {
     others = λ b q. others_stay w i d b mail (answers.others b q) (lasts b q) (answers.silent b q) (came_other b q);
@@ -194,7 +194,7 @@ module _ (w : World) (mail : Mail) (i : ℕ) (c : CellName) (gone : List token.M
 
 -- message k of the cell comes to site i
 pub record Arrives (w : World) (k i : ℕ) (x : Msg) (c : CellName) (a : token.Mail) : Type 0 where
-  pub travels_now : Travels w.mail k i x
+  pub travels_now : IsOnItsWay w.mail k i x
   pub one : OneOfNumber w.mail k (sent_to i x)
   pub says : Says c a i x
   pub silent : (b : CellName) → b ≢ c → IsSilent b i x
@@ -210,7 +210,7 @@ arrives_here w k i x c a v h chain =
 pub arrives_other : (w : World) (k i : ℕ) (x : Msg) (c : CellName) (a : token.Mail) → Arrives w k i x c a → (b : CellName) → b ≢ c → (m : token.Mail) → tally b (after_receipt (Some k) w).mail m ≡ tally b w.mail m
 arrives_other w k i x c a h b d = tally_other b w.mail k i x h.one (h.silent b d)
 
-pub get_arrives : (w : World) (k i : ℕ) (c : CellName) (asker : ℕ) → Travels w.mail k i (msg.Get c asker) → OneOfNumber w.mail k (sent_to i (msg.Get c asker)) → i ≡ c.site → Arrives w k i (msg.Get c asker) c (Get asker)
+pub get_arrives : (w : World) (k i : ℕ) (c : CellName) (asker : ℕ) → IsOnItsWay w.mail k i (msg.Get c asker) → OneOfNumber w.mail k (sent_to i (msg.Get c asker)) → i ≡ c.site → Arrives w k i (msg.Get c asker) c (Get asker)
 get_arrives w k i c asker h one at = record {
   travels_now = h;
   one = one;
@@ -218,15 +218,15 @@ get_arrives w k i c asker h one at = record {
   silent = λ b d. silent_get b c i asker d;
 }
 
-pub forward_arrives : (w : World) (k i : ℕ) (c : CellName) (next : ℕ) → Travels w.mail k i (msg.Forward c next) → OneOfNumber w.mail k (sent_to i (msg.Forward c next)) → Arrives w k i (msg.Forward c next) c (Forward i next)
+pub forward_arrives : (w : World) (k i : ℕ) (c : CellName) (next : ℕ) → IsOnItsWay w.mail k i (msg.Forward c next) → OneOfNumber w.mail k (sent_to i (msg.Forward c next)) → Arrives w k i (msg.Forward c next) c (Forward i next)
 forward_arrives w k i c next h one = record { travels_now = h; one = one; says = says_forward c i next; silent = λ b d. silent_forward b c i next d }
 
-pub put_arrives : (w : World) (k i : ℕ) (c : CellName) (v : VarName) (bundle : List Equation) → Travels w.mail k i (msg.Put c v bundle) → OneOfNumber w.mail k (sent_to i (msg.Put c v bundle)) → Arrives w k i (msg.Put c v bundle) c (Put i v)
+pub put_arrives : (w : World) (k i : ℕ) (c : CellName) (v : VarName) (bundle : List Equation) → IsOnItsWay w.mail k i (msg.Put c v bundle) → OneOfNumber w.mail k (sent_to i (msg.Put c v bundle)) → Arrives w k i (msg.Put c v bundle) c (Put i v)
 put_arrives w k i c v bundle h one = record { travels_now = h; one = one; says = says_put c i v bundle; silent = λ b d. silent_put b c i v bundle d }
 
 -- a Get comes to the manager
 pub get_cells : (limit : ℕ) (w : World) (i k : ℕ) (c : CellName) (asker : ℕ) (cells : List (CellName × VarName)) → CellsAt w.sites w.mail cells →
-    Travels w.mail k i (msg.Get c asker) → OneOfNumber w.mail k (sent_to i (msg.Get c asker)) → i ≡ c.site → (w.sites i).records.site ≡ i →
+    IsOnItsWay w.mail k i (msg.Get c asker) → OneOfNumber w.mail k (sent_to i (msg.Get c asker)) → i ≡ c.site → (w.sites i).records.site ≡ i →
     CellsAt (after_transition (after_receipt (Some k) w) i (get_row limit c asker (w.sites i))).sites (after_transition (after_receipt (Some k) w) i (get_row limit c asker (w.sites i))).mail cells
 get_cells limit w i k c asker cells all h one at number =
     let x = get_arrives w k i c asker h one at in
@@ -244,7 +244,7 @@ get_cells limit w i k c asker cells all h one at number =
 
 -- a Forward comes
 pub forward_cells : (limit : ℕ) (w : World) (i k : ℕ) (c : CellName) (next : ℕ) (cells : List (CellName × VarName)) → CellsAt w.sites w.mail cells →
-    Travels w.mail k i (msg.Forward c next) → OneOfNumber w.mail k (sent_to i (msg.Forward c next)) →
+    IsOnItsWay w.mail k i (msg.Forward c next) → OneOfNumber w.mail k (sent_to i (msg.Forward c next)) →
     CellsAt (after_transition (after_receipt (Some k) w) i (forward_row limit c next (w.sites i))).sites (after_transition (after_receipt (Some k) w) i (forward_row limit c next (w.sites i))).mail cells
 forward_cells limit w i k c next cells all h one =
     let x = forward_arrives w k i c next h one in

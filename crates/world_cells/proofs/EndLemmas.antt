@@ -20,7 +20,7 @@ use Rattle.site_model.specs.Run as Run
 use Rattle.world_model.specs.Schedule as Schedule
 use Rattle.oz_model.specs.Run.{AtRest}
 use Rattle.world_cells.specs.FitRuns.{IsFitEntry, SiteFitRun}
-use Rattle.world_model.specs.World.{Sites, Mail, Travels, world_of, eqs, records, threads, counters}
+use Rattle.world_model.specs.World.{Sites, Mail, IsOnItsWay, world_of, eqs, records, threads, counters}
 use Rattle.world_model.specs.Names.{here_at}
 use Rattle.world_model.proofs.PutLemmas.{nat_decides}
 use Rattle.world_variables.proofs.QuietLemmas.{waits}
@@ -90,7 +90,7 @@ no_site p n limit i (e ∷ j) s some inside out run m v h = go (e.site == i) ref
     go true q run ih = let same : e.site ≡ i = (nat_decides e.site i).0 q in out (subst (λ (k : ℕ). (1 ≤ k) × (k ≤ n)) same inside.0)
     go false q run ih = ih run
 
-no_mail : (mail : Mail) → ((k to : ℕ) (m : Msg) → Travels mail k to m → ⊥) → mail ≡ []
+no_mail : (mail : Mail) → ((k to : ℕ) (m : Msg) → IsOnItsWay mail k to m → ⊥) → mail ≡ []
 no_mail [] h = refl
 no_mail (x ∷ mail) h = absurd (h x.0 x.1.to x.1.msg (Contains-head x mail))
 
@@ -106,7 +106,7 @@ rests p n limit j f some inside runs r q = quiet_rests p (here_at (records f)) (
   cells = λ i m st d h. nobody_waits (world_of j f) r.centre r.cells (no_mail (world_of j f).mail none) i m st d h;
 }) (runs_are_sound p (Schedule.schedule j) r.centre r.run)
   where
-    none : (k to : ℕ) (m : Msg) → Travels (world_of j f).mail k to m → ⊥
+    none : (k to : ℕ) (m : Msg) → IsOnItsWay (world_of j f).mail k to m → ⊥
     none k to m h = ((quiet_tells n j).0 q).0 k (record { to = to; msg = m }) ((travelling_tells j k (record { to = to; msg = m })).0 h)
 
     stands : (i : ℕ) (m : ThreadName) (st : Stack) → value_of equal_thread (f i).threads m ≡ Some (st, Runs) → ((1 ≤ i) × (i ≤ n)) ⊎ (((1 ≤ i) × (i ≤ n)) → ⊥) → ⊥

@@ -26,7 +26,7 @@ use Rattle.oz_model.specs.declared.outcome.Outcome.TheVariants as outcome
 use Rattle.oz_model.specs.declared.outcome.SystemException.{SystemException}
 use Rattle.oz_model.specs.declared.outcome.SystemException.TheVariants.{FailureTell}
 use Rattle.oz_model.specs.Outcome.{outcome_of, print_outcome}
-use Rattle.oz_model.specs.Answers.{Includes}
+use Rattle.oz_model.specs.Answers.{IsPartOf}
 use Rattle.oz_model.specs.Need.{Need, Takes, stack_need, IsReady, kinds_of}
 use Rattle.oz_model.specs.Effect.{CellChange, Exchanged, Effect, stack_effect, outcome_effect, pair_effect, goal_effect, exception_effect, vars_among, tell_item}
 use Rattle.oz_model.specs.Step.{IsAllowed, IsBindFor, stack_of, need_of, effect_of, content_of, state_after, next, Step}
@@ -104,7 +104,7 @@ pub record Exchanges (p : List Stmt) (z : State) (n : ThreadName) (c : CellName)
   pub effect : (effect_of p z (pick_of n)).cell ≡ Exchanged c new told
 
 -- a thread whose site knows a part of the machine's equations exchanges there
-pub exchange_steps : (p : List Stmt) (s : Store) (z : State) (n : ThreadName) (st : Stack) (c : CellName) (v : VarName) (x : IsExchange p s st c) → IsSound z.equations → Includes s z.equations →
+pub exchange_steps : (p : List Stmt) (s : Store) (z : State) (n : ThreadName) (st : Stack) (c : CellName) (v : VarName) (x : IsExchange p s st c) → IsSound z.equations → IsPartOf s z.equations →
     value_of equal_thread z.threads n ≡ Some st → value_of equal_cell z.cells c ≡ Some v → (t : State) × Exchanges p z n c x.0 (stack_left p s st x.1 v) t
 exchange_steps p s z n st c v (new, told, need, is) sound more lives value = (
   next p z k,
@@ -150,7 +150,7 @@ exchange_steps p s z n st c v (new, told, need, is) sound more lives value = (
     content = ap (λ (o : Option VarName). unwrap_or o (record { site = 0; num = 0 })) value
 
 -- the machine finds the cell
-pub exchange_found : (p : List Stmt) (s : Store) (z : State) (ks : List Pick) (n : ThreadName) (st : Stack) (c : CellName) → IsExchange p s st c → ModelRun p ks z → IsSound z.equations → Includes s z.equations → value_of equal_thread z.threads n ≡ Some st →
+pub exchange_found : (p : List Stmt) (s : Store) (z : State) (ks : List Pick) (n : ThreadName) (st : Stack) (c : CellName) → IsExchange p s st c → ModelRun p ks z → IsSound z.equations → IsPartOf s z.equations → value_of equal_thread z.threads n ≡ Some st →
     (v : VarName) × (value_of equal_cell z.cells c ≡ Some v)
 exchange_found p s z ks n st c (new, told, need, is) run sound more lives = subst (FindsCell z.cells) effect_is (steps_find_cells p ks z (pick_of n) run allowed)
   where

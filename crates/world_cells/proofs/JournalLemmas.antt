@@ -22,7 +22,7 @@ use Rattle.world_cells.specs.FitRuns.{IsFitEntry, SiteFitRun}
 use Rattle.world_model.proofs.MailLemmas.{acts_after, same_world}
 use Rattle.world_model.proofs.PutLemmas.{at_all, at_here, at_own, at_twice, nat_decides}
 use Rattle.world_model.specs.Schedule.{schedule, lines_in}
-use Rattle.world_model.specs.World.{World, Sites, Travels, put, after_transition, after_receipt, mail_from, world_of}
+use Rattle.world_model.specs.World.{World, Sites, IsOnItsWay, put, after_transition, after_receipt, mail_from, world_of}
 use Rattle.world_variables.proofs.JournalLemmas.{came_acts, came_is, mail_of, mail_after}
 use Rattle.world_variables.specs.Rows.{IsElsewhere}
 use Rattle.site_message.specs.declared.message.Msg.TheVariants as msg
@@ -108,7 +108,7 @@ module _ (p : List Stmt) (n limit : ℕ) where
                   elsewhere (msg.Forward x o) c = tt
                   elsewhere (msg.Put x o bundle) c = tt
 
-              at : Travels w.mail k i m.msg
+              at : IsOnItsWay w.mail k i m.msg
               at = subst (λ (o : ℕ). Contains (travelling j) (k, record { to = o; msg = m.msg })) to ((travelling_tells j k m).1 t)
 
               last : (heard : Transition) × (rest : Transition) × (d ≡ sequence heard rest) × Paid p n (after_transition (after_receipt (Some k) (after_transition w i heard)) i rest) ((schedule j ++ heard.picks) ++ rest.picks) ((sent_of j ++ heard.sent) ++ rest.sent) → Paid p n (after_receipt (Some k) (after_transition w i d)) (schedule j ++ d.picks) (sent_of j ++ d.sent)

@@ -19,7 +19,7 @@ use Rattle.site_message.specs.declared.message.Msg.TheVariants as msg
 use Rattle.oz_model.specs.Need as need
 use Rattle.oz_model.specs.Need.{Need, stack_need}
 use Rattle.oz_model.specs.Effect.{Effect, Stays, stack_effect}
-use Rattle.oz_model.specs.Run.{Runs, start}
+use Rattle.oz_model.specs.Run.{IsRun, start}
 use Rattle.oz_model.specs.Step as Step
 use Rattle.oz_model.specs.Step.{Step, IsAllowed, IsBindFor, need_of, stack_of, effect_of, next, threads_born, end_count}
 use Rattle.oz_model.proofs.SoundLemmas.{runs_are_sound}
@@ -30,7 +30,7 @@ use Rattle.site_model.specs.Transition.{Transition}
 use Rattle.site_model.specs.Variables.{with_known_equations, opening}
 use Rattle.site_model.specs.Cells.{get_row, forward_row, serving, put_row}
 use Rattle.site_model.specs.Messages.{reception, message_row, birth, bind_pick, bind_request_as, bind_request_row}
-use Rattle.world_model.specs.World.{World, Travels, after_transition, after_receipt, mail_from, records, threads}
+use Rattle.world_model.specs.World.{World, IsOnItsWay, after_transition, after_receipt, mail_from, records, threads}
 use Rattle.world_variables.specs.Plain.{IsPlain}
 use Rattle.world_model.specs.Names.{IsHere, here_at}
 use Rattle.world_model.specs.Matches.{IsNumbered, CellsMatch, IsAddressed, equations_in}
@@ -71,9 +71,9 @@ bind_stays p c k e allowed none bound = go (need_of p c k.thread) refl (subst (�
 abbrev pub PicksBind : List Pick → Type 0
 PicksBind ks = (ks ≡ []) ⊎ ((n : ThreadName) × (x : VarName) × (t : Term) × (ks ≡ bind_pick n x t ∷ []))
 
-pub same_cells : (p : List Stmt) (c t : State) (ks : List Pick) → PicksBind ks → Runs p c ks t → t.cells ≡ c.cells
-same_cells p c t ks (inl none) run = ap (λ (y : State). y.cells) (subst (λ (l : List Pick). Runs p c l t) none run)
-same_cells p c t ks (inr (n, x, u, is)) run = go (subst (λ (l : List Pick). Runs p c l t) is run)
+pub same_cells : (p : List Stmt) (c t : State) (ks : List Pick) → PicksBind ks → IsRun p c ks t → t.cells ≡ c.cells
+same_cells p c t ks (inl none) run = ap (λ (y : State). y.cells) (subst (λ (l : List Pick). IsRun p c l t) none run)
+same_cells p c t ks (inr (n, x, u, is)) run = go (subst (λ (l : List Pick). IsRun p c l t) is run)
   where
     go : (m : State) × Step p c (bind_pick n x u) m × (t ≡ m) → t.cells ≡ c.cells
     go (m, step, end) =
@@ -99,16 +99,16 @@ bind_told p c k e allowed none bound = go (need_of p c k.thread) refl (subst (λ
             ∙ ap (λ (b : Option Equation). stack_effect p c.equations [] b (stack_of c k.thread)) bound
             ∙ bind_effect p c.equations (stack_of c k.thread) a b e q
 
-pub same_told : (p : List Stmt) (c t : State) (ks : List Pick) → PicksBind ks → Runs p c ks t → (t.lines ≡ c.lines) × (t.ended ≡ c.ended)
-same_told p c t ks (inl none) run = let same : t ≡ c = subst (λ (l : List Pick). Runs p c l t) none run in (ap (λ (y : State). y.lines) same, ap (λ (y : State). y.ended) same)
-same_told p c t ks (inr (n, x, u, is)) run = go (subst (λ (l : List Pick). Runs p c l t) is run)
+pub same_told : (p : List Stmt) (c t : State) (ks : List Pick) → PicksBind ks → IsRun p c ks t → (t.lines ≡ c.lines) × (t.ended ≡ c.ended)
+same_told p c t ks (inl none) run = let same : t ≡ c = subst (λ (l : List Pick). IsRun p c l t) none run in (ap (λ (y : State). y.lines) same, ap (λ (y : State). y.ended) same)
+same_told p c t ks (inr (n, x, u, is)) run = go (subst (λ (l : List Pick). IsRun p c l t) is run)
   where
     go : (m : State) × Step p c (bind_pick n x u) m × (t ≡ m) → (t.lines ≡ c.lines) × (t.ended ≡ c.ended)
     go (m, step, end) =
         let told = bind_told p c (bind_pick n x u) (x, u) step.0 refl refl in
         (ap (λ (y : State). y.lines) (end ∙ step.1) ∙ told.0, ap (λ (y : State). y.ended) (end ∙ step.1) ∙ told.1)
 
-module _ (p : List Stmt) (limit : ℕ) (w : World) (ks : List Pick) (r : Reached p w ks) (k i : ℕ) (m : Msg) (real : i ≢ 0) (at : Travels w.mail k i m) where
+module _ (p : List Stmt) (limit : ℕ) (w : World) (ks : List Pick) (r : Reached p w ks) (k i : ℕ) (m : Msg) (real : i ≢ 0) (at : IsOnItsWay w.mail k i m) where
   abbrev pub s : Site
   s = w.sites i
 
@@ -146,7 +146,7 @@ module _ (p : List Stmt) (limit : ℕ) (w : World) (ks : List Pick) (r : Reached
   pub sums_v : Sums v.sites v.lines r.centre
   sums_v = sums_row w i d r.centre r.centre (opens_summed m s r.centre) r.sums
 
-  pub at_v : Travels v.mail k i m
+  pub at_v : IsOnItsWay v.mail k i m
   at_v = Contains-append_left w.mail (mail_from w.sent d.sent) _ at
 
   pub low : k < v.sent
@@ -162,11 +162,11 @@ module _ (p : List Stmt) (limit : ℕ) (w : World) (ks : List Pick) (r : Reached
   abbrev pub Whole : Type 0
   Whole = Reached p (after_receipt (Some k) (after_transition w i (reception p limit m (w.sites i)))) (ks ++ (reception p limit m (w.sites i)).picks)
 
-  finish : (t : State) → Runs p r.centre (message_row p limit m (v.sites i)).picks t → PartsIn p (here_at (records (after_transition (after_receipt (Some k) v) i (message_row p limit m (v.sites i))).sites)) (after_transition (after_receipt (Some k) v) i (message_row p limit m (v.sites i))) t →
+  finish : (t : State) → IsRun p r.centre (message_row p limit m (v.sites i)).picks t → PartsIn p (here_at (records (after_transition (after_receipt (Some k) v) i (message_row p limit m (v.sites i))).sites)) (after_transition (after_receipt (Some k) v) i (message_row p limit m (v.sites i))) t →
       CellsMatch (after_transition (after_receipt (Some k) v) i (message_row p limit m (v.sites i))) t → Summed (v.sites i) (message_row p limit m (v.sites i)) r.centre t → Whole
   finish t run parts cells summed = subst (λ (u : World). Reached p u (ks ++ (reception p limit m (w.sites i)).picks)) (sym whole) (record {
     centre = t;
-    run = runs_append p ks (reception p limit m (w.sites i)).picks (start p) r.centre t r.run (subst (λ (y : Site). Runs p r.centre (message_row p limit m y).picks t) site_v run);
+    run = runs_append p ks (reception p limit m (w.sites i)).picks (start p) r.centre t r.run (subst (λ (y : Site). IsRun p r.centre (message_row p limit m y).picks t) site_v run);
     parts = subst (λ (y : Site). PartsIn p (here_at (records (after_transition (after_receipt (Some k) v) i (message_row p limit m y)).sites)) (after_transition (after_receipt (Some k) v) i (message_row p limit m y)) t) site_v parts;
     numbers = numbers_end;
     cells = subst (λ (y : Site). CellsMatch (after_transition (after_receipt (Some k) v) i (message_row p limit m y)) t) site_v cells;
@@ -190,10 +190,10 @@ module _ (p : List Stmt) (limit : ℕ) (w : World) (ks : List Pick) (r : Reached
 records_stay : (p : List Stmt) (u : World) (i : ℕ) (d : Transition) (t : State) → d.site.records ≡ (u.sites i).records → PartsIn p (here_at (records u.sites)) (after_transition u i d) t → PartsIn p (here_at (records (after_transition u i d).sites)) (after_transition u i d) t
 records_stay p u i d t same h = subst (λ (r : ℕ → Records). PartsIn p (here_at r) (after_transition u i d) t) (sym (field_kept (λ (y : Site). y.records) u.sites i d.site same)) h
 
-no_picks : (p : List Stmt) (c : State) (ks : List Pick) → ks ≡ [] → Runs p c ks c
-no_picks p c ks e = subst (λ (l : List Pick). Runs p c l c) (sym e) refl
+no_picks : (p : List Stmt) (c : State) (ks : List Pick) → ks ≡ [] → IsRun p c ks c
+no_picks p c ks e = subst (λ (l : List Pick). IsRun p c l c) (sym e) refl
 
-pub get_reached : (p : List Stmt) (limit : ℕ) (w : World) (ks : List Pick) (r : Reached p w ks) (k i : ℕ) (c : CellName) (asker : ℕ) (real : i ≢ 0) (at : Travels w.mail k i (msg.Get c asker)) → Whole p limit w ks r k i (msg.Get c asker) real at
+pub get_reached : (p : List Stmt) (limit : ℕ) (w : World) (ks : List Pick) (r : Reached p w ks) (k i : ℕ) (c : CellName) (asker : ℕ) (real : i ≢ 0) (at : IsOnItsWay w.mail k i (msg.Get c asker)) → Whole p limit w ks r k i (msg.Get c asker) real at
 get_reached p limit w ks r k i c asker real at =
     let u = v p limit w ks r k i (msg.Get c asker) real at in
     let only = get_only limit c asker (u.sites i) in
@@ -202,7 +202,7 @@ get_reached p limit w ks r k i c asker real at =
     finish p limit w ks r k i (msg.Get c asker) real at r.centre (no_picks p r.centre _ only.picks) (records_stay p (after_receipt (Some k) u) i (get_row limit c asker (u.sites i)) r.centre only.records row.0) row.1
     (same_summed (u.sites i) (get_row limit c asker (u.sites i)) r.centre r.centre only.lines (record { ended = only.ended; names = ap (λ (ts : Threads). names ts) only.threads }) refl refl)
 
-pub forward_reached : (p : List Stmt) (limit : ℕ) (w : World) (ks : List Pick) (r : Reached p w ks) (k i : ℕ) (c : CellName) (next : ℕ) (real : i ≢ 0) (at : Travels w.mail k i (msg.Forward c next)) → Whole p limit w ks r k i (msg.Forward c next) real at
+pub forward_reached : (p : List Stmt) (limit : ℕ) (w : World) (ks : List Pick) (r : Reached p w ks) (k i : ℕ) (c : CellName) (next : ℕ) (real : i ≢ 0) (at : IsOnItsWay w.mail k i (msg.Forward c next)) → Whole p limit w ks r k i (msg.Forward c next) real at
 forward_reached p limit w ks r k i c next real at =
     let u = v p limit w ks r k i (msg.Forward c next) real at in
     let only = forward_only limit c next (u.sites i) in
@@ -211,7 +211,7 @@ forward_reached p limit w ks r k i c next real at =
     finish p limit w ks r k i (msg.Forward c next) real at r.centre (no_picks p r.centre _ only.picks) (records_stay p (after_receipt (Some k) u) i (forward_row limit c next (u.sites i)) r.centre only.records row.0) row.1
     (same_summed (u.sites i) (forward_row limit c next (u.sites i)) r.centre r.centre only.lines (record { ended = only.ended; names = ap (λ (ts : Threads). names ts) only.threads }) refl refl)
 
-pub put_reached : (p : List Stmt) (limit : ℕ) (w : World) (ks : List Pick) (r : Reached p w ks) (k i : ℕ) (c : CellName) (x : VarName) (bundle : List Equation) (real : i ≢ 0) (at : Travels w.mail k i (msg.Put c x bundle)) → Whole p limit w ks r k i (msg.Put c x bundle) real at
+pub put_reached : (p : List Stmt) (limit : ℕ) (w : World) (ks : List Pick) (r : Reached p w ks) (k i : ℕ) (c : CellName) (x : VarName) (bundle : List Equation) (real : i ≢ 0) (at : IsOnItsWay w.mail k i (msg.Put c x bundle)) → Whole p limit w ks r k i (msg.Put c x bundle) real at
 put_reached p limit w ks r k i c x bundle real at =
     let u = v p limit w ks r k i (msg.Put c x bundle) real at in
     let o = opened p limit w ks r k i (msg.Put c x bundle) real at in
@@ -293,7 +293,7 @@ plain_none (msg.Get c k) h = h
 plain_none (msg.Forward c k) h = h
 plain_none (msg.Put c v bundle) h = h
 
-module _ (p : List Stmt) (limit : ℕ) (w : World) (ks : List Pick) (r : Reached p w ks) (k i : ℕ) (m : Msg) (real : i ≢ 0) (at : Travels w.mail k i m) (plain : IsPlain m) (far : IsElsewhere i m) where
+module _ (p : List Stmt) (limit : ℕ) (w : World) (ks : List Pick) (r : Reached p w ks) (k i : ℕ) (m : Msg) (real : i ≢ 0) (at : IsOnItsWay w.mail k i m) (plain : IsPlain m) (far : IsElsewhere i m) where
   abbrev u : World
   u = after_transition w i (opening m (w.sites i))
 
@@ -306,7 +306,7 @@ module _ (p : List Stmt) (limit : ℕ) (w : World) (ks : List Pick) (r : Reached
   site_u : u.sites i ≡ there
   site_u = at_here w.sites i there
 
-  arrived : Travels u.mail k i m
+  arrived : IsOnItsWay u.mail k i m
   arrived = at_v p limit w ks r k i m real at
 
   pub got : Received p limit w r.centre k i m
@@ -315,7 +315,7 @@ module _ (p : List Stmt) (limit : ℕ) (w : World) (ks : List Pick) (r : Reached
   pub apart : IsApart there e
   apart = takes_apart p limit m there plain (λ n code vars bundle is. subst (λ (y : Site). value_of equal_thread y.threads n ≡ None) site_u
       (lands_none p (threads u.sites) u.mail r.centre.threads k n _ (opened p limit w ks r k i m real at).parts.placed
-      (i, code, vars, bundle, subst (λ (y : Msg). Travels u.mail k i y) is arrived, refl) i))
+      (i, code, vars, bundle, subst (λ (y : Msg). IsOnItsWay u.mail k i y) is arrived, refl) i))
 
   wider : (y : VarName) → IsHere there.records y → IsHere e.site.records y
   wider y (inl zero) = inl zero
@@ -366,7 +366,7 @@ module _ (p : List Stmt) (limit : ℕ) (w : World) (ks : List Pick) (r : Reached
       up = numbered_acts w i (reception p limit m (w.sites i)) r.numbers
 
 -- every message
-pub message_reached : (p : List Stmt) (limit : ℕ) (w : World) (ks : List Pick) (r : Reached p w ks) (k i : ℕ) (m : Msg) (real : i ≢ 0) → IsElsewhere i m → (at : Travels w.mail k i m) → Whole p limit w ks r k i m real at
+pub message_reached : (p : List Stmt) (limit : ℕ) (w : World) (ks : List Pick) (r : Reached p w ks) (k i : ℕ) (m : Msg) (real : i ≢ 0) → IsElsewhere i m → (at : IsOnItsWay w.mail k i m) → Whole p limit w ks r k i m real at
 message_reached p limit w ks r k i (msg.Get c asker) real far at = get_reached p limit w ks r k i c asker real at
 message_reached p limit w ks r k i (msg.Forward c next) real far at = forward_reached p limit w ks r k i c next real at
 message_reached p limit w ks r k i (msg.Put c v bundle) real far at = put_reached p limit w ks r k i c v bundle real at

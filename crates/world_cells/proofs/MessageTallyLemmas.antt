@@ -11,14 +11,14 @@ use Rattle.site_message.specs.declared.message.Msg.{Msg}
 use Rattle.site_message.specs.declared.message.Msg.TheVariants as msg
 use Rattle.site_message.specs.declared.message.Sent.{Sent}
 use Rattle.oz_model.specs.Effect.{Stays}
-use Rattle.oz_model.specs.Run.{Runs, start, Run as ModelRun, exchanges, exchanges_from}
+use Rattle.oz_model.specs.Run.{IsRun, start, Run as ModelRun, exchanges, exchanges_from}
 use Rattle.oz_model.specs.Step.{Step}
 use Rattle.oz_model.proofs.RunLemmas.{at_most_one_end}
 use Rattle.site_model.specs.Site.{Site}
 use Rattle.site_model.specs.Variables.{opening}
 use Rattle.site_model.specs.Cells.{get_row, forward_row, put_row}
 use Rattle.site_model.specs.Messages.{reception, message_row, bind_pick}
-use Rattle.world_model.specs.World.{World, Travels, after_transition, after_receipt, mail_from}
+use Rattle.world_model.specs.World.{World, IsOnItsWay, after_transition, after_receipt, mail_from}
 use Rattle.world_variables.specs.Plain.{IsPlain}
 use Rattle.world_model.proofs.MailLemmas.{sent_to, acts_after}
 use Rattle.world_variables.proofs.ReceiveLemmas.{numbered_acts}
@@ -48,7 +48,7 @@ gone_tally n u cells out x k i m one none t =
     (tallied_still n u.sites u.sites u.mail (after_receipt (Some k) u).mail cells out [] x (λ b. record { last = refl; holds = λ j. refl; counts = tally_other b u.mail k i m one (none_says b i m none) }) (λ b g f o. refl) t)
 
 module _ (p : List Stmt) (n limit : ℕ) (w : World) (ks : List Pick) (r : Reached p w ks) (k i : ℕ) (real : i ≢ 0) (low_site : 1 ≤ i) (high_site : i ≤ n) (out : List Sent) (t : Tally p n w r.centre ks out) where
-  module _ (m : Msg) (at : Travels w.mail k i m) where
+  module _ (m : Msg) (at : IsOnItsWay w.mail k i m) where
     abbrev there : Site
     there = (opening m (w.sites i)).site
 
@@ -84,7 +84,7 @@ module _ (p : List Stmt) (n limit : ℕ) (w : World) (ks : List Pick) (r : Reach
     at_u : (P : Site → Type 0) → P (u.sites i) → P there
     at_u P h = subst P (site_v p limit w ks r k i m real at) h
 
-  get_tallied : (c : CellName) (asker : ℕ) (at : Travels w.mail k i (msg.Get c asker)) → 1 ≤ asker → asker ≤ n → (c2 : State) → ModelRun p (ks ++ (reception p limit (msg.Get c asker) (w.sites i)).picks) c2 →
+  get_tallied : (c : CellName) (asker : ℕ) (at : IsOnItsWay w.mail k i (msg.Get c asker)) → 1 ≤ asker → asker ≤ n → (c2 : State) → ModelRun p (ks ++ (reception p limit (msg.Get c asker) (w.sites i)).picks) c2 →
       Tally p n (whole_world (msg.Get c asker) at) c2 (ks ++ (reception p limit (msg.Get c asker) (w.sites i)).picks) (out ++ (reception p limit (msg.Get c asker) (w.sites i)).sent)
   get_tallied c asker at alow ahigh c2 run2 =
       let m = msg.Get c asker in
@@ -93,7 +93,7 @@ module _ (p : List Stmt) (n limit : ℕ) (w : World) (ks : List Pick) (r : Reach
       (at_u m at (λ y. CellsTallied n (after_transition (after_receipt (Some k) (u m at)) i (get_row limit c asker y)).sites (after_transition (after_receipt (Some k) (u m at)) i (get_row limit c asker y)).mail r.centre.cells (out_u m at ++ (get_row limit c asker y).sent) (λ b. length (exchanges p ks b)))
       (get_tally n (u m at) r.centre (cells_v p limit w ks r k i m real at) (out_u m at) _ (tally_u m at) limit k i c asker low_site high_site alow ahigh (at_v p limit w ks r k i m real at) (number_u m at) ((opened p limit w ks r k i m real at).parts.kept i).site))
 
-  forward_tallied : (c : CellName) (to : ℕ) (at : Travels w.mail k i (msg.Forward c to)) → (c2 : State) → ModelRun p (ks ++ (reception p limit (msg.Forward c to) (w.sites i)).picks) c2 →
+  forward_tallied : (c : CellName) (to : ℕ) (at : IsOnItsWay w.mail k i (msg.Forward c to)) → (c2 : State) → ModelRun p (ks ++ (reception p limit (msg.Forward c to) (w.sites i)).picks) c2 →
       Tally p n (whole_world (msg.Forward c to) at) c2 (ks ++ (reception p limit (msg.Forward c to) (w.sites i)).picks) (out ++ (reception p limit (msg.Forward c to) (w.sites i)).sent)
   forward_tallied c to at c2 run2 =
       let m = msg.Forward c to in
@@ -102,19 +102,19 @@ module _ (p : List Stmt) (n limit : ℕ) (w : World) (ks : List Pick) (r : Reach
       (at_u m at (λ y. CellsTallied n (after_transition (after_receipt (Some k) (u m at)) i (forward_row limit c to y)).sites (after_transition (after_receipt (Some k) (u m at)) i (forward_row limit c to y)).mail r.centre.cells (out_u m at ++ (forward_row limit c to y).sent) (λ b. length (exchanges p ks b)))
       (forward_tally n (u m at) r.centre (cells_v p limit w ks r k i m real at) (out_u m at) _ (tally_u m at) limit k i c to low_site high_site (at_v p limit w ks r k i m real at) (number_u m at)))
 
-  put_tallied : (c : CellName) (x : VarName) (bundle : List Equation) (at : Travels w.mail k i (msg.Put c x bundle)) → (c2 : State) → ModelRun p (ks ++ (reception p limit (msg.Put c x bundle) (w.sites i)).picks) c2 →
+  put_tallied : (c : CellName) (x : VarName) (bundle : List Equation) (at : IsOnItsWay w.mail k i (msg.Put c x bundle)) → (c2 : State) → ModelRun p (ks ++ (reception p limit (msg.Put c x bundle) (w.sites i)).picks) c2 →
       Tally p n (whole_world (msg.Put c x bundle) at) c2 (ks ++ (reception p limit (msg.Put c x bundle) (w.sites i)).picks) (out ++ (reception p limit (msg.Put c x bundle) (w.sites i)).sent)
   put_tallied c x bundle at c2 run2 =
       let m = msg.Put c x bundle in
       let row = put_kept p limit (u m at) r.centre k i c x bundle (opened p limit w ks r k i m real at).parts (cells_v p limit w ks r k i m real at) (runs_are_sound p ks r.centre r.run) (at_v p limit w ks r k i m real at) (once p limit w ks r k i m real at) (opened p limit w ks r k i m real at).vars.0 in
-      let runs = subst (λ (y : Site). Runs p r.centre (put_row p limit c x y).picks row.state) (site_v p limit w ks r k i m real at) row.runs in
+      let runs = subst (λ (y : Site). IsRun p r.centre (put_row p limit c x y).picks row.state) (site_v p limit w ks r k i m real at) row.runs in
       whole_tally m at c2 row.state.cells (λ b. length (exchanges p ks b) + length (exchanges_from p b r.centre (put_row p limit c x (there m at)).picks))
       (ap (λ (y : State). y.cells) (at_most_one_end p (start p) (ks ++ (put_row p limit c x (there m at)).picks) c2 row.state run2 (runs_append p ks (put_row p limit c x (there m at)).picks (start p) r.centre row.state r.run runs)))
       (λ b. more_picks p b ks (put_row p limit c x (there m at)).picks r.centre r.run)
       (at_u m at (λ y. CellsTallied n (after_transition (after_receipt (Some k) (u m at)) i (put_row p limit c x y)).sites (after_transition (after_receipt (Some k) (u m at)) i (put_row p limit c x y)).mail row.state.cells (out_u m at ++ (put_row p limit c x y).sent) (λ b. length (exchanges p ks b) + length (exchanges_from p b r.centre (put_row p limit c x y).picks)))
       (put_tally n (u m at) r.centre (cells_v p limit w ks r k i m real at) (out_u m at) _ (tally_u m at) p limit k i c x bundle row low_site high_site (at_v p limit w ks r k i m real at) (number_u m at)))
 
-  plain_tallied : (m : Msg) (at : Travels w.mail k i m) → IsPlain m → IsElsewhere i m → (c2 : State) → ModelRun p (ks ++ (reception p limit m (w.sites i)).picks) c2 →
+  plain_tallied : (m : Msg) (at : IsOnItsWay w.mail k i m) → IsPlain m → IsElsewhere i m → (c2 : State) → ModelRun p (ks ++ (reception p limit m (w.sites i)).picks) c2 →
       Tally p n (whole_world m at) c2 (ks ++ (reception p limit m (w.sites i)).picks) (out ++ (reception p limit m (w.sites i)).sent)
   plain_tallied m at plain far c2 run2 = whole_tally m at c2 r.centre.cells (λ b. length (exchanges p ks b)) cells_same (λ b. counted b a.picks)
       (subst (λ (x : World). CellsTallied n x.sites x.mail r.centre.cells (out_u m at ++ (message_row p limit m (there m at)).sent) (λ b. length (exchanges p ks b))) (came_acts (u m at) i (message_row p limit m (there m at)) k (low p limit w ks r k i m real at))
@@ -136,13 +136,13 @@ module _ (p : List Stmt) (n limit : ℕ) (w : World) (ks : List Pick) (r : Reach
 
       counted : (b : CellName) → PicksBind (reception p limit m (w.sites i)).picks → length (exchanges p (ks ++ (reception p limit m (w.sites i)).picks) b) ≡ length (exchanges p ks b)
       counted b (inl none) = no_exchanges p b ks _ r.centre r.run none
-      counted b (inr (o, x, y, is)) = bound (subst (λ (l : List Pick). Runs p r.centre l (got p limit w ks r k i m real at plain far).centre) is (got p limit w ks r k i m real at plain far).run)
+      counted b (inr (o, x, y, is)) = bound (subst (λ (l : List Pick). IsRun p r.centre l (got p limit w ks r k i m real at plain far).centre) is (got p limit w ks r k i m real at plain far).run)
         where
           bound : (z : State) × Step p r.centre (bind_pick o x y) z × ((got p limit w ks r k i m real at plain far).centre ≡ z) → length (exchanges p (ks ++ (reception p limit m (w.sites i)).picks) b) ≡ length (exchanges p ks b)
           bound (z, step, end) = let e = one_pick p b ks (reception p limit m (w.sites i)).picks r.centre (bind_pick o x y) Stays r.run is (bind_stays p r.centre (bind_pick o x y) (x, y) step.0 refl refl) in omega arith
 
   -- every message
-  pub message_tallied : (m : Msg) (at : Travels w.mail k i m) → IsElsewhere i m → AsksFrom n m → (c2 : State) → ModelRun p (ks ++ (reception p limit m (w.sites i)).picks) c2 →
+  pub message_tallied : (m : Msg) (at : IsOnItsWay w.mail k i m) → IsElsewhere i m → AsksFrom n m → (c2 : State) → ModelRun p (ks ++ (reception p limit m (w.sites i)).picks) c2 →
       Tally p n (whole_world m at) c2 (ks ++ (reception p limit m (w.sites i)).picks) (out ++ (reception p limit m (w.sites i)).sent)
   message_tallied (msg.Get c asker) at far asks = get_tallied c asker at asks.0 asks.1
   message_tallied (msg.Forward c to) at far asks = forward_tallied c to at

@@ -17,7 +17,7 @@ use Rattle.kernel_syntax.specs.declared.stmt.Stmt.{Stmt}
 use Rattle.site_message.specs.declared.message.Msg.{Msg}
 use Rattle.site_message.specs.declared.message.Msg.TheVariants as msg
 use Rattle.site_message.specs.declared.message.Sent.{Sent}
-use Rattle.oz_model.specs.Run.{Runs, exchanges_from}
+use Rattle.oz_model.specs.Run.{IsRun, exchanges_from}
 use Rattle.bind_protocol.specs.Records.{Records}
 use Rattle.token_chain.specs.declared.token.Token.TheVariants.{Here}
 use Rattle.token_chain.specs.Holding.{Holding}
@@ -28,7 +28,7 @@ use Rattle.site_model.specs.Site.{Site, Threads, Counters, CellRecord, cell_reco
 use Rattle.thread_roster.specs.declared.mode.Mode.TheVariants.{WaitsFor}
 use Rattle.site_model.specs.Transition.{Transition}
 use Rattle.site_model.specs.Cells.{leave_row, serving, put_row}
-use Rattle.world_model.specs.World.{World, Travels, after_transition, after_receipt, without_number, mail_from, at_put, eqs, records, threads, counters}
+use Rattle.world_model.specs.World.{World, IsOnItsWay, after_transition, after_receipt, without_number, mail_from, at_put, eqs, records, threads, counters}
 use Rattle.world_model.specs.Names.{IsHere, AreContentsHome, here_at}
 use Rattle.world_model.proofs.CellLemmas.{OnlyCells, leave_only, leave_each, from_each}
 use Rattle.world_cells.specs.CellCounts.{cell_weights}
@@ -113,7 +113,7 @@ module _ (p : List Stmt) (a : Around) (i : ℕ) (c : CellName) (v : VarName) (s 
 
 pub record PutRow (p : List Stmt) (limit : ℕ) (w : World) (z : State) (k i : ℕ) (c : CellName) (v : VarName) (t : World) : Type 0 where
   pub state : State
-  pub runs : Runs p z (put_row p limit c v (w.sites i)).picks state
+  pub runs : IsRun p z (put_row p limit c v (w.sites i)).picks state
   pub parts : PartsIn p (here_at (records w.sites)) t state
   pub cells : CellsMatch t state
   pub lines : (state.lines ≡ z.lines) × ((put_row p limit c v (w.sites i)).lines ≡ [])
@@ -136,27 +136,27 @@ IsOfCell (msg.Put c v bundle) = Unit {0}
 IsOfCell m = ⊥
 
 abbrev pub OneMessage : World → ℕ → Type 0
-OneMessage w k = (a b : ℕ) (m o : Msg) → Travels w.mail k a m → Travels w.mail k b o → (a ≡ b) × (m ≡ o)
+OneMessage w k = (a b : ℕ) (m o : Msg) → IsOnItsWay w.mail k a m → IsOnItsWay w.mail k b o → (a ≡ b) × (m ≡ o)
 
-pub one_number : (w : World) (k i : ℕ) (x : Msg) → Travels w.mail k i x → OneMessage w k → OneOfNumber w.mail k (sent_to i x)
+pub one_number : (w : World) (k i : ℕ) (x : Msg) → IsOnItsWay w.mail k i x → OneMessage w k → OneOfNumber w.mail k (sent_to i x)
 one_number w k i x h once o q = let e = once o.to i o.msg x q h in rw (e.0, e.1) refl
 
-pub cell_may_go : (w : World) (z : State) (k i : ℕ) (x : Msg) → IsOfCell x → Travels w.mail k i x → OneMessage w k → MayGo (records w.sites) z.equations k w.mail (without_number k w.mail)
+pub cell_may_go : (w : World) (z : State) (k i : ℕ) (x : Msg) → IsOfCell x → IsOnItsWay w.mail k i x → OneMessage w k → MayGo (records w.sites) z.equations k w.mail (without_number k w.mail)
 cell_may_go w z k i x of h once = record {
   told = λ to m q j y unbound far why. absurd (told to m q j y why);
   bound = λ to y t n b q. absurd (subst IsOfCell (sym (is_it to (msg.BindReq y n t b) q)) of);
   none = λ to n code vars b q. subst IsOfCell (sym (is_it to (msg.Spawn n code vars b) q)) of;
 }
   where
-    is_it : (to : ℕ) (m : Msg) → Travels w.mail k to m → m ≡ x
+    is_it : (to : ℕ) (m : Msg) → IsOnItsWay w.mail k to m → m ≡ x
     is_it to m q = (once to i m x q h).1
 
-    told : (to : ℕ) (m : Msg) → Travels w.mail k to m → (j : ℕ) (y : VarName) → ((m ≡ msg.Register y j) ⊎ ((to ≡ j) × ((t : Term) × (b : List Equation) × (m ≡ msg.Binding y t b)))) → ⊥
+    told : (to : ℕ) (m : Msg) → IsOnItsWay w.mail k to m → (j : ℕ) (y : VarName) → ((m ≡ msg.Register y j) ⊎ ((to ≡ j) × ((t : Term) × (b : List Equation) × (m ≡ msg.Binding y t b)))) → ⊥
     told to m q j y (inl e) = subst IsOfCell e (subst IsOfCell (sym (is_it to m q)) of)
     told to m q j y (inr (f, (t, b, e))) = subst IsOfCell e (subst IsOfCell (sym (is_it to m q)) of)
 
 module _ (p : List Stmt) (limit : ℕ) (w : World) (z : State) (k i : ℕ) (c : CellName) (v : VarName) (bundle : List Equation) (parts : PartsIn p (here_at (records w.sites)) w z) (x : CellsMatch w z) (sound : IsSound z.equations)
-    (h : Travels w.mail k i (msg.Put c v bundle)) (once : OneMessage w k) (home : IsHere (records w.sites i) v) where
+    (h : IsOnItsWay w.mail k i (msg.Put c v bundle)) (once : OneMessage w k) (home : IsHere (records w.sites i) v) where
   one : OneOfNumber w.mail k (sent_to i (msg.Put c v bundle))
   one = one_number w k i (msg.Put c v bundle) h once
 
@@ -256,7 +256,7 @@ module _ (p : List Stmt) (limit : ℕ) (w : World) (z : State) (k i : ℕ) (c : 
   pub put_kept : PutRow p limit w z k i c v (after_transition (after_receipt (Some k) w) i whole)
   put_kept = record {
     state = served.state;
-    runs = subst (λ (l : List Pick). Runs p z (first.picks ++ l) served.state) (sym only.picks) (subst (λ (l : List Pick). Runs p z l served.state) (sym (append-nil first.picks)) served.runs);
+    runs = subst (λ (l : List Pick). IsRun p z (first.picks ++ l) served.state) (sym only.picks) (subst (λ (l : List Pick). IsRun p z l served.state) (sym (append-nil first.picks)) served.runs);
     parts = parts_after;
     cells = record {
       queues = queues_put w.sites i whole.site x.queues lists_after;

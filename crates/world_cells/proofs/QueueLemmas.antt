@@ -21,7 +21,7 @@ use Rattle.thread_roster.specs.Threads.{wake_all, wake}
 use Rattle.site_model.specs.Transition.{Transition}
 use Rattle.site_model.specs.Cells.{leave_row, forward_row, last_before, with_last_asker, get_row, request_row}
 use Rattle.world_model.specs.World.{Sites, cell_records, threads, put}
-use Rattle.world_model.specs.Matches.{IsQueue, Queues}
+use Rattle.world_model.specs.Matches.{IsQueue, AreQueues}
 use Rattle.world_model.proofs.PutLemmas.{nat_decides, at_all}
 use Rattle.world_model.proofs.MailLemmas.{nothing}
 use Rattle.world_model.proofs.KeyLemmas.{with_here, with_there, goes_cases, goes_there, woken_new, woken_old, wake_cell, front_here, front_other, running_old}
@@ -51,7 +51,7 @@ queue_same q r ts us d e f w k = record {
   listed = λ n st h. subst (λ (l : List ThreadName). Contains l n) (sym e) (k.listed n st (w.old n st h));
 }
 
-pub queues_put : (f : Sites) (i : ℕ) (s : Site) → Queues (cell_records f) (threads f) → ((d : CellName) → IsQueue (cell_record s d) s.threads d) → Queues (cell_records (put f i s)) (threads (put f i s))
+pub queues_put : (f : Sites) (i : ℕ) (s : Site) → AreQueues (cell_records f) (threads f) → ((d : CellName) → IsQueue (cell_record s d) s.threads d) → AreQueues (cell_records (put f i s)) (threads (put f i s))
 queues_put f i s all here j = at_all f i s (λ (k : ℕ) (x : Site). (d : CellName) → IsQueue (cell_record x d) x.threads d) here (λ k other. all k) j
 
 -- ---- who waits after a change of the threads

@@ -14,7 +14,7 @@ use Rattle.kernel_syntax.specs.declared.stmt.Stmt.{Stmt}
 use Rattle.oz_model.specs.Effect.{CellChange, Effect, stack_effect}
 use Rattle.oz_model.specs.Step.{effect_of, content_of}
 use Rattle.oz_model.specs.Step as model
-use Rattle.oz_model.specs.Run.{Runs, exchange_in, exchanges_from}
+use Rattle.oz_model.specs.Run.{IsRun, exchange_in, exchanges_from}
 use Rattle.oz_model.proofs.ExchangeLemmas.{put_here, put_there}
 use Rattle.token_chain.specs.declared.token.Token.TheVariants.{Here}
 use Rattle.bind_protocol.specs.Records.{Records}
@@ -67,7 +67,7 @@ PartsOf p a i ts z = PartsMatch p (here_at a.records) a.eqs a.records (at_put a.
 pub record Served (p : List Stmt) (a : Around) (i : ℕ) (c : CellName) (ns : List ThreadName) (v : VarName) (s : Site) (z : State) (d : Transition) : Type 0 where
   pub state : State
   pub content : VarName
-  pub runs : Runs p z d.picks state
+  pub runs : IsRun p z d.picks state
   pub parts : PartsOf p a i d.site.threads state
   pub value : value_of equal_cell state.cells c ≡ Some content
   pub others : (b : CellName) → b ≢ c → value_of equal_cell state.cells b ≡ value_of equal_cell z.cells b

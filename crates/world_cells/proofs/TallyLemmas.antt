@@ -15,7 +15,7 @@ use Rattle.token_chain.specs.Mail.{Get, Forward, Put, sent_as, is_mail, sent_cou
 use Rattle.token_chain.specs.Mail as token
 use Rattle.token_chain.proofs.ChangeLemmas.{same_mail_decides, mail_or}
 use Rattle.token_chain.proofs.MailLemmas.{tells_decides}
-use Rattle.world_model.specs.World.{Mail, Travels, mail_from, without_number}
+use Rattle.world_model.specs.World.{Mail, IsOnItsWay, mail_from, without_number}
 use Rattle.world_model.specs.Chain.{messages}
 use Rattle.world_model.proofs.PutLemmas.{nat_decides}
 use Rattle.world_model.proofs.MailLemmas.{nothing, sent_to}
@@ -175,7 +175,7 @@ taken_some c m k s (x ∷ xs) h = go (Contains-cons_cases _ _ xs h) (λ r. taken
     go (inr r) ih = let more = ih r in omega (arith, more)
 
 -- a message of the cell has come, of which one travelled
-pub tally_came : (c : CellName) (a : token.Mail) (mail : Mail) (k to : ℕ) (x : Msg) → Travels mail k to x → OneOfNumber mail k (sent_to to x) → Says c a to x →
+pub tally_came : (c : CellName) (a : token.Mail) (mail : Mail) (k to : ℕ) (x : Msg) → IsOnItsWay mail k to x → OneOfNumber mail k (sent_to to x) → Says c a to x →
     sent_count c (messages mail) a ≡ 1 → (m : token.Mail) → sent_count c (messages (without_number k mail)) m + mail_count (a ∷ []) m ≡ sent_count c (messages mail) m
 tally_came c a mail k to x h one says before m = go (mail_or m a)
   where
@@ -210,7 +210,7 @@ tally_other c mail k to x one silent m =
     let z = taken_none c m k (sent_to to x) mail one (silent_counts c to x silent m) in omega arith
 
 -- a message that travels is counted
-pub tally_there : (c : CellName) (a : token.Mail) (mail : Mail) (k to : ℕ) (x : Msg) → Travels mail k to x → Says c a to x → sent_count c (messages mail) a ≢ 0
+pub tally_there : (c : CellName) (a : token.Mail) (mail : Mail) (k to : ℕ) (x : Msg) → IsOnItsWay mail k to x → Says c a to x → sent_count c (messages mail) a ≢ 0
 tally_there c a mail k to x h says none =
     let rest = taken_rest c a k mail in
     let some = taken_some c a k (sent_to to x) mail h in

@@ -31,7 +31,7 @@ use Rattle.world_model.proofs.PutLemmas.{at_here, at_own}
 use Rattle.world_model.specs.Matches.{CellsMatch, ended}
 use Rattle.world_model.specs.Names.{here_at}
 use Rattle.world_model.specs.Schedule.{sum_to}
-use Rattle.world_model.specs.World.{World, Sites, Travels, start_world, after_transition, after_receipt, eqs, records, threads, counters}
+use Rattle.world_model.specs.World.{World, Sites, IsOnItsWay, start_world, after_transition, after_receipt, eqs, records, threads, counters}
 use Rattle.world_variables.proofs.ReceiveLemmas.{numbered_acts}
 use Rattle.world_variables.proofs.RowLemmas.{unsent}
 use Rattle.world_variables.proofs.StartLemmas.{start_parts, start_thread}
@@ -110,14 +110,14 @@ module _ (p : List Stmt) (n limit i : ℕ) (real : i ≢ 0) (low : 1 ≤ i) (hig
   asks_from s (msg.Forward c k) f = tt
   asks_from s (msg.Put c v bundle) f = tt
 
-  heard_paid : (w : World) (ks : List Pick) (out : List Sent) (k : ℕ) (m : Msg) → Paid p n w ks out → IsElsewhere i m → Travels w.mail k i m → IsFit p n (w.sites i) m →
+  heard_paid : (w : World) (ks : List Pick) (out : List Sent) (k : ℕ) (m : Msg) → Paid p n w ks out → IsElsewhere i m → IsOnItsWay w.mail k i m → IsFit p n (w.sites i) m →
       Paid p n (after_receipt (Some k) (after_transition w i (reception p limit m (w.sites i)))) (ks ++ (reception p limit m (w.sites i)).picks) (out ++ (reception p limit m (w.sites i)).sent)
   heard_paid w ks out k m r far at fit =
       let q = message_reached p limit w ks r.reached k i m real far at in
       record { reached = q; tally = message_tallied p n limit w ks r.reached k i real low high out r.tally m at far (asks_from (w.sites i) m fit) q.centre q.run }
 
   -- and units follow
-  pub delivering_paid : (w : World) (ks : List Pick) (out : List Sent) (k : ℕ) (m : Msg) (d : Transition) → Paid p n w ks out → IsElsewhere i m → Travels w.mail k i m → IsFit p n (w.sites i) m → SiteTurn p n limit (w.sites i) (Some m) d →
+  pub delivering_paid : (w : World) (ks : List Pick) (out : List Sent) (k : ℕ) (m : Msg) (d : Transition) → Paid p n w ks out → IsElsewhere i m → IsOnItsWay w.mail k i m → IsFit p n (w.sites i) m → SiteTurn p n limit (w.sites i) (Some m) d →
       (heard : Transition) × (rest : Transition) × (d ≡ sequence heard rest) × Paid p n (after_transition (after_receipt (Some k) (after_transition w i heard)) i rest) ((ks ++ heard.picks) ++ rest.picks) ((out ++ heard.sent) ++ rest.sent)
   delivering_paid w ks out k m d r far at fit (ths, few, (heard, rest, said, units, is)) = (heard, rest, is, go said)
     where

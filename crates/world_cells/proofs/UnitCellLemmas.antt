@@ -12,7 +12,7 @@ use Rattle.oz_model.specs.Effect.{CellChange, Stays, Made, Exchanged, Effect}
 use Rattle.oz_model.proofs.ExchangeLemmas.{put_here, put_there}
 use Rattle.token_chain.specs.declared.token.Token.TheVariants.{Here}
 use Rattle.token_chain.specs.Holding.{here_with}
-use Rattle.token_chain.specs.Rows.{silent}
+use Rattle.token_chain.specs.Rows.{reply_without_mail}
 use Rattle.token_chain.proofs.MoveLemmas.{making_starts, exchange_keeps, tokens_have_contents}
 use Rattle.site_model.specs.Site.{Site, CellRecord, cell_record_in, cell_record, last_asker}
 use Rattle.site_model.specs.Transition.{Transition, with_pick, and_then, with_lines}
@@ -66,7 +66,7 @@ module _ (p : List Stmt) (n limit : ℕ) (k : Pick) (kinds : List NameKind) (e :
       same_site (Exchanged c new told) = refl
 
   -- one is exchanged
-  pub exchanged_answers : (c : CellName) (new told : VarName) → e.cell ≡ Exchanged c new told → Answers c (silent (record (cell_record s c).held { token = Here new })) s stepped
+  pub exchanged_answers : (c : CellName) (new told : VarName) → e.cell ≡ Exchanged c new told → Answers c (reply_without_mail (record (cell_record s c).held { token = Here new })) s stepped
   exchanged_answers c new told is = record {
     held = ap (λ (q : CellRecord). q.held) (at c ∙ place_here begun.site.cell_records c _) ∙ ap (λ (q : CellRecord). record q.held { token = Here new }) (was c);
     others = λ b h. at b ∙ place_other begun.site.cell_records c b _ h ∙ was b;
@@ -86,7 +86,7 @@ module _ (p : List Stmt) (n limit : ℕ) (k : Pick) (kinds : List NameKind) (e :
   exchanged_managers c new told is = step_managers ∙ ap (λ (x : CellChange). (after_cell x begun.site).managers) is ∙ begins.managers
 
   -- one is made
-  pub made_answers : (c : CellName) (v : VarName) → e.cell ≡ Made c v → Answers c (silent (here_with v)) s stepped
+  pub made_answers : (c : CellName) (v : VarName) → e.cell ≡ Made c v → Answers c (reply_without_mail (here_with v)) s stepped
   made_answers c v is = record {
     held = ap (λ (q : CellRecord). q.held) (at c ∙ place_here begun.site.cell_records c _);
     others = λ b h. at b ∙ place_other begun.site.cell_records c b _ h ∙ was b;

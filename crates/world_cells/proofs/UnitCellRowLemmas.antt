@@ -19,13 +19,13 @@ use Rattle.tree_node.proofs.ClassLemmas.{Contains-cons_cases}
 use Rattle.bind_protocol.specs.Records.{Records}
 use Rattle.token_chain.specs.declared.token.Token.TheVariants.{Here}
 use Rattle.token_chain.specs.Holding.{Holding, here_with}
-use Rattle.token_chain.specs.Rows.{silent}
+use Rattle.token_chain.specs.Rows.{reply_without_mail}
 use Rattle.std.specs.Map.{lookup}
 use Rattle.site_model.specs.Site.{Site, CellRecord, cell_record_in, cell_record}
 use Rattle.thread_roster.specs.declared.mode.Mode.TheVariants.{Runs}
 use Rattle.site_model.specs.Transition.{Transition}
 use Rattle.site_model.specs.Unit.{step_row}
-use Rattle.world_model.specs.World.{World, Sites, Travels, after_transition, after_receipt, without_number, put, records, cell_records}
+use Rattle.world_model.specs.World.{World, Sites, IsOnItsWay, after_transition, after_receipt, without_number, put, records, cell_records}
 use Rattle.world_model.specs.Names.{IsHere, AreContentsHome, ContentsHome}
 use Rattle.world_model.specs.Matches.{CellsMatch}
 use Rattle.world_model.proofs.PutLemmas.{at_all}
@@ -68,7 +68,7 @@ pub same_match : (w : World) (z t : State) → t.cells ≡ z.cells → CellsMatc
 same_match w z t e x = record { queues = x.queues; cells = subst (λ (cs : List (CellName × VarName)). CellsAt w.sites w.mail cs) (sym e) x.cells; gets = x.gets; contents = x.contents }
 
 -- a message that says nothing of cells comes
-pub gone_match : (w : World) (z : State) (k i : ℕ) (m : Msg) → Travels w.mail k i m → OneOfNumber w.mail k (sent_to i m) → IsOfNone m → CellsMatch w z → CellsMatch (after_receipt (Some k) w) z
+pub gone_match : (w : World) (z : State) (k i : ℕ) (m : Msg) → IsOnItsWay w.mail k i m → OneOfNumber w.mail k (sent_to i m) → IsOfNone m → CellsMatch w z → CellsMatch (after_receipt (Some k) w) z
 gone_match w z k i m h one none x = record {
   queues = x.queues;
   cells = record {
@@ -126,7 +126,7 @@ module _ (p : List Stmt) (n limit : ℕ) (k : Pick) (kinds : List NameKind) (e :
     contents_now Stays is h b u q = wider u (x.contents i b u (sym (ap (λ (qs : List (CellName × CellRecord)). (cell_record_in qs b).held.token) (stays_nothing p n limit k kinds e (w.sites i) is).cell_records) ∙ q))
     contents_now (Made c v) is h b u q = go (cell_cases b c)
       where
-        a : Answers c (silent (here_with v)) (w.sites i) unit_deed
+        a : Answers c (reply_without_mail (here_with v)) (w.sites i) unit_deed
         a = made_answers p n limit k kinds e (w.sites i) c v is
 
         go : (b ≡ c) ⊎ (b ≢ c) → IsHere unit_deed.site.records u
@@ -136,7 +136,7 @@ module _ (p : List Stmt) (n limit : ℕ) (k : Pick) (kinds : List NameKind) (e :
         go (inr other) = wider u (x.contents i b u (sym (ap (λ (y : CellRecord). y.held.token) (a.others b other)) ∙ q))
     contents_now (Exchanged c fresh told) is h b u q = go (cell_cases b c)
       where
-        a : Answers c (silent (record (cell_record (w.sites i) c).held { token = Here fresh })) (w.sites i) unit_deed
+        a : Answers c (reply_without_mail (record (cell_record (w.sites i) c).held { token = Here fresh })) (w.sites i) unit_deed
         a = exchanged_answers p n limit k kinds e (w.sites i) c fresh told is
 
         go : (b ≡ c) ⊎ (b ≢ c) → IsHere unit_deed.site.records u

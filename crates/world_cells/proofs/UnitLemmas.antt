@@ -29,7 +29,7 @@ use Rattle.oz_model.specs.Need as need
 use Rattle.oz_model.specs.Need.{Need, Takes, stack_need, outcome_need, goal_need, pair_need, kinds_of}
 use Rattle.oz_model.specs.Effect.{Effect, Birth, CellChange, Stays, Made, Exchanged, stack_effect, outcome_effect, goal_effect, pair_effect, exception_effect, vars_among}
 use Rattle.oz_model.specs.Laws.{FindsCell}
-use Rattle.oz_model.specs.Run.{Runs, start, Run as ModelRun}
+use Rattle.oz_model.specs.Run.{IsRun, start, Run as ModelRun}
 use Rattle.oz_model.specs.Step as Step
 use Rattle.oz_model.specs.Step.{next}
 use Rattle.oz_model.proofs.CellLemmas.{steps_find_cells}
@@ -229,7 +229,7 @@ module _ (p : List Stmt) (n limit i : ℕ) (real : i ≢ 0) (w : World) (ks : Li
       pub step_reached : Reached p after (ks ++ deed.picks)
       step_reached = record {
         centre = next p c pick;
-        run = runs_append p ks deed.picks (start p) c (next p c pick) run (subst (λ (ls : List Pick). Runs p c ls (next p c pick)) (sym (steps_picks p n limit pick kinds effect (w.sites i))) (next p c pick, (done.allowed, refl), refl));
+        run = runs_append p ks deed.picks (start p) c (next p c pick) run (subst (λ (ls : List Pick). IsRun p c ls (next p c pick)) (sym (steps_picks p n limit pick kinds effect (w.sites i))) (next p c pick, (done.allowed, refl), refl));
         parts = done.parts;
         numbers = numbered_acts w i deed numbers;
         cells = unit_match p n limit pick kinds effect w c i x number st at unused finds reach own done.wider home (next p c pick) (ap (λ (e : Effect). Step.cells_after c.cells e.cell) done.effect);
@@ -264,13 +264,13 @@ module _ (p : List Stmt) (n limit i : ℕ) (real : i ≢ 0) (w : World) (ks : Li
     run = runs_append p ks d.picks (start p) c c2 run runs;
     parts = after_parts;
     numbers = numbered_acts w i d numbers;
-    cells = same_match (after_transition w i d) c c2 (ap (λ (t : State). t.cells) (subst (λ (ls : List Pick). Runs p c ls c2) none runs))
+    cells = same_match (after_transition w i d) c c2 (ap (λ (t : State). t.cells) (subst (λ (ls : List Pick). IsRun p c ls c2) none runs))
         (nothing_match w c i d x still same (λ y h. subst (λ (r : Records). IsHere r y) (sym keeps) h));
     sums = sums_row w i d c c2 (same_summed (w.sites i) d c c2 silent kept (ap (λ (t : State). t.lines) stays) (ap (λ (t : State). t.ended) stays)) y;
   }
     where
       stays : c2 ≡ c
-      stays = subst (λ (ls : List Pick). Runs p c ls c2) none runs
+      stays = subst (λ (ls : List Pick). IsRun p c ls c2) none runs
 
   -- a thread that could go on does not wait for a cell afterwards
   variable_waits : (th : ThreadName) (st : Stack) (z : VarName) → value_of equal_thread (threads w.sites i) th ≡ Some (st, site.Runs) → (b : CellName) → SameWaiters (w.sites i).threads (with_value equal_thread (w.sites i).threads th (st, site.Waits z)) b

@@ -16,7 +16,7 @@ use Rattle.oz_model.specs.Effect.{Birth, CellChange, Stays, Made, Exchanged, Eff
 use Rattle.oz_model.specs.Step.{living_stack, threads_born}
 use Rattle.bind_protocol.specs.Records.{is_own}
 use Rattle.proxy_table.specs.Proxies.{entry_of}
-use Rattle.token_chain.specs.Holding.{Holding, away}
+use Rattle.token_chain.specs.Holding.{Holding, nothing_held}
 use Rattle.site_model.specs.Site.{Site, Threads, CellRecord, cell_record_in, cell_record, runnable_threads}
 use Rattle.thread_roster.specs.declared.mode.Mode.TheVariants.{Runs, WaitsFor}
 use Rattle.site_model.specs.Bundle.{with_own_bundle}
@@ -128,7 +128,7 @@ module _ (p : List Stmt) (n limit : ℕ) (k : Pick) (kinds : List NameKind) (e :
 
   -- a cell that is made is nowhere before
   abbrev pub IsUnmade : CellChange → Type 0
-  IsUnmade (Made c v) = (cell_record s c).held ≡ away
+  IsUnmade (Made c v) = (cell_record s c).held ≡ nothing_held
   IsUnmade _ = Unit {0}
 
   pub step_lists : IsUnused e.born → IsUnmade e.cell → Lists s → Lists (step_row p n limit k kinds e s).site

@@ -14,7 +14,7 @@ use Rattle.tree_node.specs.Store.{Equation, IsSound}
 use Rattle.kernel_syntax.specs.declared.stmt.Stmt.{Stmt}
 use Rattle.site_message.specs.declared.message.Sent.{Sent}
 use Rattle.oz_model.specs.Effect.{Effect, CellChange, Stays, Made, Exchanged, stack_effect}
-use Rattle.oz_model.specs.Run.{Runs, start, Run as ModelRun, exchanges, exchanges_from, exchange_in}
+use Rattle.oz_model.specs.Run.{IsRun, start, Run as ModelRun, exchanges, exchanges_from, exchange_in}
 use Rattle.oz_model.specs.Step as Step
 use Rattle.oz_model.specs.Step.{effect_of, next}
 use Rattle.oz_model.proofs.RunLemmas.{at_most_one_end}
@@ -44,7 +44,7 @@ use Rattle.world_cells.proofs.CellTallyRowLemmas.{exchanges_of, nothing_tally, u
 use Rattle.world_variables.specs.Rows.{PartsIn}
 
 -- exchanges of picks and then of others
-exchanges_then : (p : List Stmt) (b : CellName) (ks ls : List Pick) (s t : State) → Runs p s ks t → exchanges_from p b s (ks ++ ls) ≡ exchanges_from p b s ks ++ exchanges_from p b t ls
+exchanges_then : (p : List Stmt) (b : CellName) (ks ls : List Pick) (s t : State) → IsRun p s ks t → exchanges_from p b s (ks ++ ls) ≡ exchanges_from p b s ks ++ exchanges_from p b t ls
 exchanges_then p b [] ls s t h = ap (λ (x : State). exchanges_from p b x ls) (sym h)
 exchanges_then p b (k ∷ ks) ls s t (m, step, rest) =
     ap (λ (es : List (VarName × VarName)). exchange_in s b (effect_of p s k).cell ++ es)
@@ -134,7 +134,7 @@ module _ (p : List Stmt) (n limit i : ℕ) (real : i ≢ 0) (w : World) (ks : Li
           (unit_tally n w c x out (λ b. length (exchanges p ks b)) t p limit k kinds e i low high (parts.kept i).site (finds p n limit i real w ks c run sound parts numbers x sums th st kinds bind at step reach) reach (own p n limit i real w ks c run sound parts numbers x sums th st kinds bind at step reach)))
         where
           next_run : ModelRun p (ks ++ deed.picks) (next p c k)
-          next_run = runs_append p ks deed.picks (start p) c (next p c k) run (subst (λ (ls : List Pick). Runs p c ls (next p c k)) (sym picks) (next p c k, (u.allowed, refl), refl))
+          next_run = runs_append p ks deed.picks (start p) c (next p c k) run (subst (λ (ls : List Pick). IsRun p c ls (next p c k)) (sym picks) (next p c k, (u.allowed, refl), refl))
 
           cells_are : c2.cells ≡ Step.cells_after c.cells e.cell
           cells_are = ap (λ (y : State). y.cells) (at_most_one_end p (start p) (ks ++ deed.picks) c2 (next p c k) run3 next_run) ∙ ap (λ (y : Effect). Step.cells_after c.cells y.cell) u.effect

@@ -25,7 +25,7 @@ use Rattle.world_core.proofs.PlaceLemmas.{set_all, read_there, read_past, read_s
 use Rattle.world_core.proofs.TravelLemmas.{mail_grows, travels_there, none_either, get_past}
 use Rattle.world_core.proofs.WorldLemmas.{run_grows, run_starts, machine}
 use Rattle.site_model.proofs.StillLemmas.{few_units}
-use Rattle.oz_model.specs.Answers.{Includes}
+use Rattle.oz_model.specs.Answers.{IsPartOf}
 use Rattle.world_model.proofs.PutLemmas.{nat_decides}
 use Rattle.world_simulation.proofs.GrowLemmas.{equations_stay}
 use Rattle.bind_protocol.proofs.ListLemmas.{set_here, set_other}
@@ -251,13 +251,13 @@ after_turn p j ss mail box sent k (suc i) low high place quantum few s t at mess
 pub turn_stays : (old new : WorldState) (site : ℕ) (place : Option ℕ) (quantum : ℕ) → quantum ≤ 64 → IsWorldTurn old new site place quantum → KnowledgeStays old new
 turn_stays old new site place quantum most t i = by (site == i) refl
   where
-    here : Includes (states_of old site).equations (states_of new site).equations
+    here : IsPartOf (states_of old site).equations (states_of new site).equations
     here =
         equations_stay old.program old.sites bundle_limit old.journal t.entry (states_of old site) (states_of new site)
         (t.turn.0, few_units old.program old.sites bundle_limit quantum (states_of old site) (delivered_message old.journal t.entry.delivered) t.turn.0 most t.turn.1, t.turn.2, t.turn.3)
 
-    by : (b : Bool) → (site == i) ≡ b → Includes (states_of old i).equations (states_of new i).equations
-    by true q = subst (λ (x : ℕ). Includes (states_of old x).equations (states_of new x).equations) ((nat_decides site i).0 q) here
+    by : (b : Bool) → (site == i) ≡ b → IsPartOf (states_of old i).equations (states_of new i).equations
+    by true q = subst (λ (x : ℕ). IsPartOf (states_of old x).equations (states_of new x).equations) ((nat_decides site i).0 q) here
     by false q =
         let other : i ≢ site = λ same. (let yes : (site == i) ≡ true = (nat_decides site i).1 (sym same) in cc) in
-        subst (λ (x : Site). Includes (states_of old i).equations x.equations) (sym (t.others i other)) (λ e there. there)
+        subst (λ (x : Site). IsPartOf (states_of old i).equations x.equations) (sym (t.others i other)) (λ e there. there)

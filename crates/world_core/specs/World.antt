@@ -7,7 +7,7 @@ use Rattle.site_message.specs.declared.message.Sent.{Sent}
 use Rattle.site_message.specs.declared.story.NoSeat.{NoSeat}
 use Rattle.site_message.specs.declared.turn.Turn.{Turn}
 use Rattle.site_message.specs.Journal.{sent_of, was_delivered}
-use Rattle.oz_model.specs.Answers.{Includes}
+use Rattle.oz_model.specs.Answers.{IsPartOf}
 use Rattle.site_model.specs.Bundle.{bundle_limit}
 use Rattle.site_model.specs.Site.{Site, initial_site}
 use Rattle.site_model.specs.Run.{WorldRun, IsRecordOf, delivered_message}
@@ -49,7 +49,7 @@ pub record IsWorldTurn (old new : WorldState) (site : ℕ) (place : Option ℕ) 
 
 -- each site knows what it knew: an equation at its owner stays
 abbrev pub KnowledgeStays : WorldState → WorldState → Type 0
-KnowledgeStays old new = (i : ℕ) → Includes (states_of old i).equations (states_of new i).equations
+KnowledgeStays old new = (i : ℕ) → IsPartOf (states_of old i).equations (states_of new i).equations
 
 -- ---- what stays true
 

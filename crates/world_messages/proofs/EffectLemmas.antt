@@ -8,7 +8,7 @@ use Rattle.tree_node.specs.declared.names.NameKind.TheVariants as kind
 use Rattle.tree_node.specs.declared.node.Term.{Term}
 use Rattle.tree_node.specs.Assoc.{value_of}
 use Rattle.tree_node.specs.Each.{Each}
-use Rattle.tree_node.specs.Goal.{Allows}
+use Rattle.tree_node.specs.Goal.{IsAllowedBind}
 use Rattle.tree_node.specs.State.{Stack}
 use Rattle.tree_node.specs.Store.{Store, Equation, equal_var}
 use Rattle.tree_node.proofs.ClassLemmas.{same_name_decides, Contains-head, Contains-tail}
@@ -57,7 +57,7 @@ pub bind_effect : (p : List Stmt) (s : Store) (st : Stack) (a b : Term) (u : Var
 bind_effect p s st a b u t need = effect_of_bind p s st a b (u, t) need
 
 pub bind_is_fit : (p : List Stmt) (known : List VarName) (s : Store) (st : Stack) (a b : Term) (u : VarName) (t : Term) → IsProgram p → ThreadFits p known st → EquationsFit p known s → Each (λ (e : Equation). IsNodeOf (IsNode p) e.1) s →
-    stack_need p s st ≡ Binds a b → Allows s a b (u, t) → IsFitFor p known u t
+    stack_need p s st ≡ Binds a b → IsAllowedBind s a b (u, t) → IsFitFor p known u t
 bind_is_fit p known s st a b u t is h eqs nodes need allows =
     let f = stack_bound p known s st a b u t h.stack eqs need allows in
     (f.0, f.1, f.2, (subst (λ (e : Effect). Each (λ (q : Equation). IsNodeOf (IsNode p) q.1) e.adds) (bind_effect p s st a b u t need) has.adds).0)

@@ -15,7 +15,7 @@ use Rattle.site_message.proofs.JournalLemmas.{travelling_tells}
 use Rattle.oz_model.specs.Step.{threads_born}
 use Rattle.site_model.specs.Site.{ThreadState, thread_state}
 use Rattle.site_model.specs.Messages.{birth}
-use Rattle.world_model.specs.World.{Sites, Travels, eqs, records, threads, counters}
+use Rattle.world_model.specs.World.{Sites, IsOnItsWay, eqs, records, threads, counters}
 use Rattle.world_model.specs.Names.{here_at}
 use Rattle.world_model.specs.Matches.{equations_in, PartsMatch}
 use Rattle.world_messages.specs.Unfit.{AsksDown, BringsNew, TellsFit}
@@ -34,13 +34,13 @@ tells_fit p j f s parts k m at = record {
   own = λ x t c e. (let owned : Contains (eqs f x.site) (x, t) = parts.knowledge.owned x t (Each-member (Contains s.equations) (equations_in m.msg) (x, t) told c) in subst (λ (i : ℕ). Contains (eqs f i) (x, t)) (e ∙ (parts.kept m.to).site) owned);
 }
   where
-    travels : Travels (travelling j) k m.to m.msg
+    travels : IsOnItsWay (travelling j) k m.to m.msg
     travels = (travelling_tells j k m).1 at
 
     told : Each (Contains s.equations) (equations_in m.msg)
     told = parts.knowledge.told k m.to m.msg travels
 
-    asks : (o : Msg) → Travels (travelling j) k m.to o → AsksDown o
+    asks : (o : Msg) → IsOnItsWay (travelling j) k m.to o → AsksDown o
     asks (msg.BindReq x th t bundle) q = (parts.addressed k m.to (msg.BindReq x th t bundle) q).2
     asks (msg.Register x i) q = tt
     asks (msg.Binding x t bundle) q = tt
@@ -49,7 +49,7 @@ tells_fit p j f s parts k m at = record {
     asks (msg.Forward a b) q = tt
     asks (msg.Put a b c) q = tt
 
-    brings : (o : Msg) → Travels (travelling j) k m.to o → BringsNew (f m.to) o
+    brings : (o : Msg) → IsOnItsWay (travelling j) k m.to o → BringsNew (f m.to) o
     brings (msg.Spawn th code vars bundle) q = go (thread_state (f m.to) th) refl
       where
         born : (st : Stack) × (threads_born p (Some (birth th code vars)) ≡ (th, st) ∷ [])

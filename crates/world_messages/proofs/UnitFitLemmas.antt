@@ -16,7 +16,7 @@ use Rattle.tree_node.specs.declared.node.Term.TheVariants as term
 use Rattle.tree_node.specs.declared.pick.Pick.{Pick}
 use Rattle.tree_node.specs.Assoc.{with_optional_value}
 use Rattle.tree_node.specs.Each.{Each}
-use Rattle.tree_node.specs.Goal.{Allows, equal_cell}
+use Rattle.tree_node.specs.Goal.{IsAllowedBind, equal_cell}
 use Rattle.tree_node.specs.Names.{EachOfTerm, EachOfEquation}
 use Rattle.tree_node.specs.State.{Stack, equal_thread}
 use Rattle.tree_node.specs.Store.{Equation}
@@ -237,7 +237,7 @@ module _ (p : List Stmt) (is : IsProgram p) (n limit : ℕ) (i : ℕ) (R : VarNa
   either_fits known th st s step Stays d f h k g = subst (FitsOn p i R known) (sym g) (k tt)
   either_fits known th st s step (Made c v) d f h k g = subst (FitsOn p i R known) (sym g) (k tt)
 
-  bind_unit : (known : List VarName) (s : Site) (th : ThreadName) (st : Stack) (a b : Term) (u : VarName) (t : Term) → ThreadFits p known st → SiteFits p i known s → stack_need p s.equations st ≡ Binds a b → Allows s.equations a b (u, t) →
+  bind_unit : (known : List VarName) (s : Site) (th : ThreadName) (st : Stack) (a b : Term) (u : VarName) (t : Term) → ThreadFits p known st → SiteFits p i known s → stack_need p s.equations st ≡ Binds a b → IsAllowedBind s.equations a b (u, t) →
       (c : Bool) → (u.site == s.records.site) ≡ c → FitsOn p i R known (bind_attempt p n limit th st u t c s)
   bind_unit known s th st a b u t f h need allows c q = go c q (bind_is_fit p known s.equations st a b u t is f h.terms.equations h.terms.nodes need allows)
     where

@@ -16,7 +16,7 @@ use Rattle.site_message.specs.declared.message.Sent.{Sent}
 use Rattle.site_message.specs.declared.turn.Turn.{Turn}
 use Rattle.site_message.specs.Journal.{IsTravelling}
 use Rattle.site_message.specs.Wire.{FitsWire}
-use Rattle.bind_protocol.specs.Records.{Takes, IsKnown}
+use Rattle.bind_protocol.specs.Records.{IsReceivable, IsKnown}
 use Rattle.site_model.specs.Site.{Site, thread_state}
 use Rattle.site_model.specs.Bundle.{message_vars}
 use Rattle.site_model.specs.Fit.{EachOfMsg, IsOtherSite, IsKnownName, CodesFit, CanTake, IsFit}
@@ -24,8 +24,8 @@ use Rattle.site_model.specs.Fit.{EachOfMsg, IsOtherSite, IsKnownName, CodesFit, 
 -- ---- the part on variables, terms and codes
 
 abbrev pub TakesVars : Site → Msg → Type 0
-TakesVars s (msg.Register x k) = Takes s.records (msg.Register x k)
-TakesVars s (msg.BindReq x n t bundle) = Takes s.records (msg.BindReq x n t bundle)
+TakesVars s (msg.Register x k) = IsReceivable s.records (msg.Register x k)
+TakesVars s (msg.BindReq x n t bundle) = IsReceivable s.records (msg.BindReq x n t bundle)
 TakesVars s (msg.Binding x t bundle) = (x.site ≢ s.records.site) × IsKnown s.records x
 TakesVars s m = Unit {0}
 

@@ -10,7 +10,7 @@ use Rattle.site_message.specs.declared.message.Sent.{Sent}
 pub use Rattle.site_message.proofs.TravelLemmas.{enumerate-append as numbered_append}
 use Rattle.site_model.specs.Transition.{Transition, sequence}
 use Rattle.site_model.specs.Site.{Site}
-use Rattle.world_model.specs.World.{World, Mail, Travels, mail_from, without_number, after_transition}
+use Rattle.world_model.specs.World.{World, Mail, IsOnItsWay, mail_from, without_number, after_transition}
 use Rattle.world_model.proofs.PutLemmas.{nat_decides, at_twice}
 use Rattle.site_message.proofs.JournalLemmas.{kept as filter_kept, passed}
 
@@ -19,14 +19,14 @@ sent_to to m = record { to = to; msg = m }
 
 -- these messages were sent
 pub record Posts (mail more : Mail) (out : List Sent) : Type 0 where
-  pub old : (k to : ℕ) (m : Msg) → Travels mail k to m → Travels more k to m
-  pub from : (k to : ℕ) (m : Msg) → Travels more k to m → Travels mail k to m ⊎ Contains out (sent_to to m)
-  pub new : (to : ℕ) (m : Msg) → Contains out (sent_to to m) → (k : ℕ) × Travels more k to m
+  pub old : (k to : ℕ) (m : Msg) → IsOnItsWay mail k to m → IsOnItsWay more k to m
+  pub from : (k to : ℕ) (m : Msg) → IsOnItsWay more k to m → IsOnItsWay mail k to m ⊎ Contains out (sent_to to m)
+  pub new : (to : ℕ) (m : Msg) → Contains out (sent_to to m) → (k : ℕ) × IsOnItsWay more k to m
 
 -- message k is gone
 pub record Gone (k : ℕ) (mail less : Mail) : Type 0 where
-  pub old : (l to : ℕ) (m : Msg) → Travels less l to m → Travels mail l to m × (l ≢ k)
-  pub kept : (l to : ℕ) (m : Msg) → Travels mail l to m → l ≢ k → Travels less l to m
+  pub old : (l to : ℕ) (m : Msg) → IsOnItsWay less l to m → IsOnItsWay mail l to m × (l ≢ k)
+  pub kept : (l to : ℕ) (m : Msg) → IsOnItsWay mail l to m → l ≢ k → IsOnItsWay less l to m
 
 pub number_of : {X : Type 0} (n : ℕ) (xs : List X) (k : ℕ) (x : X) → Contains (enumerate_from n xs) (k, x) → Contains xs x × (n ≤ k) × (k < n + length xs)
 number_of n [] k x h = absurd (nothing _ h)
@@ -54,7 +54,7 @@ posts mail n out = record {
   new = λ to m h. let r = numbers_new n out (sent_to to m) h in (r.0, Contains-append_right mail (mail_from n out) _ r.1);
 }
   where
-    from : (k to : ℕ) (m : Msg) → Travels mail k to m ⊎ Contains (mail_from n out) (k, sent_to to m) → Travels mail k to m ⊎ Contains out (sent_to to m)
+    from : (k to : ℕ) (m : Msg) → IsOnItsWay mail k to m ⊎ Contains (mail_from n out) (k, sent_to to m) → IsOnItsWay mail k to m ⊎ Contains out (sent_to to m)
     from k to m (inl h) = inl h
     from k to m (inr h) = inr (number_of n out k (sent_to to m) h).0
 
@@ -70,17 +70,17 @@ number_once {X} n (z ∷ zs) k x y h g = go (Contains-cons_cases _ _ (enumerate_
     go (inl e) (inr r) ih = let place : n ≡ k = ap (λ (p : ℕ × X). p.0) e in let up = (number_of (n + 1) zs k y r).1 in absurd (omega (arith, place, up))
     go (inr q) (inl f) ih = let place : n ≡ k = ap (λ (p : ℕ × X). p.0) f in let up = (number_of (n + 1) zs k x q).1 in absurd (omega (arith, place, up))
 
-pub new_number : (mail : Mail) (n : ℕ) (out : List Sent) (to : ℕ) (m : Msg) → Contains out (sent_to to m) → (k : ℕ) × Travels (mail ++ mail_from n out) k to m × (n ≤ k)
+pub new_number : (mail : Mail) (n : ℕ) (out : List Sent) (to : ℕ) (m : Msg) → Contains out (sent_to to m) → (k : ℕ) × IsOnItsWay (mail ++ mail_from n out) k to m × (n ≤ k)
 new_number mail n out to m h =
     let r = numbers_new n out (sent_to to m) h in
     (r.0, Contains-append_right mail (mail_from n out) _ r.1, (number_of n out r.0 (sent_to to m) r.1).1)
 
 -- with the numbers of the new ones
-pub from_number : (mail : Mail) (n : ℕ) (out : List Sent) (k to : ℕ) (m : Msg) → Travels (mail ++ mail_from n out) k to m →
-    Travels mail k to m ⊎ (Contains out (sent_to to m) × (n ≤ k) × (k < n + length out))
+pub from_number : (mail : Mail) (n : ℕ) (out : List Sent) (k to : ℕ) (m : Msg) → IsOnItsWay (mail ++ mail_from n out) k to m →
+    IsOnItsWay mail k to m ⊎ (Contains out (sent_to to m) × (n ≤ k) × (k < n + length out))
 from_number mail n out k to m h = go (Contains-append_cases mail (mail_from n out) _ h)
   where
-    go : Travels mail k to m ⊎ Contains (mail_from n out) (k, sent_to to m) → Travels mail k to m ⊎ (Contains out (sent_to to m) × (n ≤ k) × (k < n + length out))
+    go : IsOnItsWay mail k to m ⊎ Contains (mail_from n out) (k, sent_to to m) → IsOnItsWay mail k to m ⊎ (Contains out (sent_to to m) × (n ≤ k) × (k < n + length out))
     go (inl q) = inl q
     go (inr q) = inr (number_of n out k (sent_to to m) q)
 

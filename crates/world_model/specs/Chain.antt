@@ -7,12 +7,12 @@ use Rattle.tree_node.specs.Assoc.{value_of}
 use Rattle.tree_node.specs.Goal.{equal_cell}
 use Rattle.site_message.specs.declared.message.Msg.TheVariants as msg
 use Rattle.site_message.specs.declared.message.Sent.{Sent}
-use Rattle.token_chain.specs.Holding.{Holding, away}
+use Rattle.token_chain.specs.Holding.{Holding, nothing_held}
 use Rattle.token_chain.specs.Mail.{sent_count}
 use Rattle.token_chain.specs.Mail as token
 use Rattle.token_chain.specs.Chain.{ChainOf}
 use Rattle.site_model.specs.Site.{CellRecord, cell_record_in}
-use Rattle.world_model.specs.World.{Mail, Travels}
+use Rattle.world_model.specs.World.{Mail, IsOnItsWay}
 
 abbrev pub held_in : (ℕ → List (CellName × CellRecord)) → CellName → ℕ → Holding
 held_in places c i = (cell_record_in (places i) c).held
@@ -27,7 +27,7 @@ HasChain managers places mail c v = (last : ℕ) × (lookup (equal_cell c) (mana
 -- a cell that was not made is nowhere
 pub record IsNowhere (managers : ℕ → List (CellName × ℕ)) (places : ℕ → List (CellName × CellRecord)) (mail : Mail) (c : CellName) : Type 0 where
   pub manager : lookup (equal_cell c) (managers c.site) ≡ None
-  pub away : (i : ℕ) → held_in places c i ≡ away
+  pub away : (i : ℕ) → held_in places c i ≡ nothing_held
   pub quiet : (m : token.Mail) → sent_count c (messages mail) m ≡ 0
 
 -- each cell of the centre is one chain with the content that it has there, and others are nowhere
@@ -37,4 +37,4 @@ pub record Cells (managers : ℕ → List (CellName × ℕ)) (places : ℕ → L
 
 -- each request goes to the manager, from another site
 abbrev pub AreGetsAddressed : Mail → Type 0
-AreGetsAddressed mail = (k to : ℕ) (c : CellName) (asking : ℕ) → Travels mail k to (msg.Get c asking) → (to ≡ c.site) × (asking ≢ c.site)
+AreGetsAddressed mail = (k to : ℕ) (c : CellName) (asking : ℕ) → IsOnItsWay mail k to (msg.Get c asking) → (to ≡ c.site) × (asking ≢ c.site)

@@ -9,14 +9,14 @@ use Rattle.tree_node.specs.declared.node.Term.{Term}
 use Rattle.tree_node.specs.Assoc.{value_of}
 use Rattle.tree_node.specs.Classes.{HasOneEach}
 use Rattle.tree_node.specs.Each.{Each, AreDistinct}
-use Rattle.tree_node.specs.Goal.{Allows}
+use Rattle.tree_node.specs.Goal.{IsAllowedBind}
 use Rattle.tree_node.specs.Order.{IsLower}
 use Rattle.tree_node.specs.State.{Stack, State, equal_thread}
 use Rattle.tree_node.specs.Store.{Store, Equation, Same, IsFree, IsSound}
 use Rattle.kernel_syntax.specs.declared.stmt.Stmt.{Stmt}
 use Rattle.site_message.specs.declared.message.Msg.{Msg}
 use Rattle.site_message.specs.declared.message.Msg.TheVariants as msg
-use Rattle.oz_model.specs.Answers.{Includes, LinksGoDown}
+use Rattle.oz_model.specs.Answers.{IsPartOf, LinksGoDown}
 use Rattle.oz_model.specs.Need.{Waits, Binds, Takes, stack_need}
 use Rattle.oz_model.specs.Effect.{Exchanged, stack_effect}
 use Rattle.oz_model.specs.Step.{threads_born}
@@ -27,7 +27,7 @@ use Rattle.thread_roster.specs.declared.mode.Mode.TheVariants.{WaitsFor}
 use Rattle.thread_roster.specs.declared.mode.Mode.TheVariants as site
 use Rattle.site_model.specs.Bundle.{message_bundle}
 use Rattle.site_model.specs.Messages.{birth}
-use Rattle.world_model.specs.World.{Sites, Mail, World, Travels, eqs, records, threads, cell_records, managers, counters}
+use Rattle.world_model.specs.World.{Sites, Mail, World, IsOnItsWay, eqs, records, threads, cell_records, managers, counters}
 use Rattle.world_model.specs.Schedule.{sum_to}
 use Rattle.world_model.specs.Placed.{IsPlaced}
 use Rattle.world_model.specs.Names.{IsHere, AreHome, here_at, ContentsHome, IsCentreMade, KnownAreMade, AreMailNamesMade}
@@ -46,8 +46,8 @@ pub record Knowledge (eqs : ℕ → Store) (mail : Mail) (c : Store) : Type 0 wh
   pub one : HasOneEach c
   pub down : LinksGoDown c
   pub owned : (x : VarName) (t : Term) → Contains c (x, t) → Contains (eqs x.site) (x, t)
-  pub known : (i : ℕ) → Includes (eqs i) c
-  pub told : (k to : ℕ) (m : Msg) → Travels mail k to m → Each (Contains c) (equations_in m)
+  pub known : (i : ℕ) → IsPartOf (eqs i) c
+  pub told : (k to : ℕ) (m : Msg) → IsOnItsWay mail k to m → Each (Contains c) (equations_in m)
 
 -- what a site keeps of variables is its equations, and it knows its number
 pub record IsKept (i : ℕ) (b : Records) (s : Store) : Type 0 where
@@ -69,7 +69,7 @@ IsThreadAt threads i n st = (m : Mode) × (value_of equal_thread (threads i) n �
 abbrev pub IsInSpawn : List Stmt → Mail → ℕ → ThreadName → Stack → Type 0
 IsInSpawn p mail k n st =
     (to : ℕ) × (code : CodeId) × (vars : List VarName) × (bundle : List Equation)
-    × Travels mail k to (msg.Spawn n code vars bundle) × (threads_born p (Some (birth n code vars)) ≡ (n, st) ∷ [])
+    × IsOnItsWay mail k to (msg.Spawn n code vars bundle) × (threads_born p (Some (birth n code vars)) ≡ (n, st) ∷ [])
 
 -- each central thread is at one site, or comes by one Spawn, with its stack
 abbrev pub Placed : List Stmt → (ℕ → Threads) → Mail → List (ThreadName × Stack) → Type 0
@@ -81,8 +81,8 @@ Placed p threads mail ts = IsPlaced (IsThreadAt threads) (IsInSpawn p mail) (val
 abbrev pub IsTold : (ℕ → Records) → Mail → ℕ → VarName → Type 0
 IsTold records mail i x =
     Contains (sites_in (records x.site) x) i
-    ⊎ (((k : ℕ) × Travels mail k x.site (msg.Register x i))
-    ⊎ ((k : ℕ) × (t : Term) × (bundle : List Equation) × Travels mail k i (msg.Binding x t bundle)))
+    ⊎ (((k : ℕ) × IsOnItsWay mail k x.site (msg.Register x i))
+    ⊎ ((k : ℕ) × (t : Term) × (bundle : List Equation) × IsOnItsWay mail k i (msg.Binding x t bundle)))
 
 abbrev pub AreTold : (ℕ → Records) → Mail → Type 0
 AreTold records mail = (i : ℕ) (x : VarName) → knowledge (records i) x ≡ Some None → x.site ≢ i → IsTold records mail i x
@@ -94,7 +94,7 @@ IsAddressed records to (msg.BindReq x n t bundle) = (to ≡ x.site) × IsHere (r
 IsAddressed records to m = Unit {0}
 
 abbrev pub Addressed : (ℕ → Records) → Mail → Type 0
-Addressed records mail = (k to : ℕ) (m : Msg) → Travels mail k to m → IsAddressed records to m
+Addressed records mail = (k to : ℕ) (m : Msg) → IsOnItsWay mail k to m → IsAddressed records to m
 
 -- ---- waiting
 
@@ -102,9 +102,9 @@ abbrev pub IsBound : Store → VarName → Type 0
 IsBound c x = (t : Term) × Contains c (x, t)
 
 -- the goal block on top allows this bind, which goes down
-abbrev pub Wants : List Stmt → Store → Stack → VarName → Term → Type 0
-Wants p s st x t =
-    (a : Term) × (b : Term) × (stack_need p s st ≡ Binds a b) × Allows s a b (x, t) × IsLower t x
+abbrev pub IsWanted : List Stmt → Store → Stack → VarName → Term → Type 0
+IsWanted p s st x t =
+    (a : Term) × (b : Term) × (stack_need p s st ≡ Binds a b) × IsAllowedBind s a b (x, t) × IsLower t x
 
 abbrev pub IsWaiting : (ℕ → Threads) → ℕ → ThreadName → Stack → VarName → Type 0
 IsWaiting threads i n st x = value_of equal_thread (threads i) n ≡ Some (st, site.Waits x)
@@ -116,7 +116,7 @@ NeedsFirst p s st x = (z : VarName) × (stack_need p s st ≡ Waits z) × Same s
 -- the thread asked for a bind of x: the request travels, or x is bound
 abbrev pub IsAsked : Mail → Store → ThreadName → VarName → Type 0
 IsAsked mail c n x =
-    ((k : ℕ) × (t : Term) × (bundle : List Equation) × Travels mail k x.site (msg.BindReq x n t bundle)) ⊎ IsBound c x
+    ((k : ℕ) × (t : Term) × (bundle : List Equation) × IsOnItsWay mail k x.site (msg.BindReq x n t bundle)) ⊎ IsBound c x
 
 -- the top item exchanges this cell
 abbrev pub IsExchange : List Stmt → Store → Stack → CellName → Type 0
@@ -126,10 +126,10 @@ IsExchange p s st c =
 -- the request is late, or its thread waits for the answer
 abbrev pub IsAwaited : List Stmt → (ℕ → Store) → (ℕ → Threads) → Store → VarName → Term → ThreadName → Type 0
 IsAwaited p eqs threads c x t n =
-    IsBound c x ⊎ ((i : ℕ) × (st : Stack) × IsWaiting threads i n st x × Wants p (eqs i) st x t)
+    IsBound c x ⊎ ((i : ℕ) × (st : Stack) × IsWaiting threads i n st x × IsWanted p (eqs i) st x t)
 
 pub record Waiting (p : List Stmt) (eqs : ℕ → Store) (records : ℕ → Records) (threads : ℕ → Threads) (mail : Mail) (c : Store) : Type 0 where
-  pub asks : (k to : ℕ) (x : VarName) (t : Term) (n : ThreadName) (bundle : List Equation) → Travels mail k to (msg.BindReq x n t bundle) →
+  pub asks : (k to : ℕ) (x : VarName) (t : Term) (n : ThreadName) (bundle : List Equation) → IsOnItsWay mail k to (msg.BindReq x n t bundle) →
       IsAwaited p eqs threads c x t n
   pub waits : (i : ℕ) (n : ThreadName) (st : Stack) (x : VarName) → IsWaiting threads i n st x →
       IsFree (eqs i) x × IsHere (records i) x × (NeedsFirst p (eqs i) st x ⊎ IsAsked mail c n x)
@@ -143,8 +143,8 @@ pub record IsQueue (q : CellRecord) (ts : Threads) (d : CellName) : Type 0 where
   pub stand : (n : ThreadName) → Contains q.queue n → (st : Stack) × (value_of equal_thread ts n ≡ Some (st, WaitsFor d))
   pub listed : (n : ThreadName) (st : Stack) → value_of equal_thread ts n ≡ Some (st, WaitsFor d) → Contains q.queue n
 
-abbrev pub Queues : (ℕ → List (CellName × CellRecord)) → (ℕ → Threads) → Type 0
-Queues cell_records threads = (i : ℕ) (d : CellName) → IsQueue (cell_record_in (cell_records i) d) (threads i) d
+abbrev pub AreQueues : (ℕ → List (CellName × CellRecord)) → (ℕ → Threads) → Type 0
+AreQueues cell_records threads = (i : ℕ) (d : CellName) → IsQueue (cell_record_in (cell_records i) d) (threads i) d
 
 -- ---- totals
 
@@ -170,8 +170,8 @@ living f i = length (f i).threads
 
 -- a number is one message's, below the number of those sent
 pub record IsNumbered (sent : ℕ) (mail : Mail) : Type 0 where
-  pub below : (k to : ℕ) (m : Msg) → Travels mail k to m → k < sent
-  pub once : (k a b : ℕ) (m o : Msg) → Travels mail k a m → Travels mail k b o → (a ≡ b) × (m ≡ o)
+  pub below : (k to : ℕ) (m : Msg) → IsOnItsWay mail k to m → k < sent
+  pub once : (k a b : ℕ) (m o : Msg) → IsOnItsWay mail k a m → IsOnItsWay mail k b o → (a ≡ b) × (m ≡ o)
 
 -- ---- the whole
 
@@ -196,7 +196,7 @@ pub record Matches (p : List Stmt) (n : ℕ) (w : World) (s : State) : Type 0 wh
 
 -- and the cells
 pub record CellsMatch (w : World) (s : State) : Type 0 where
-  pub queues : Queues (cell_records w.sites) (threads w.sites)
+  pub queues : AreQueues (cell_records w.sites) (threads w.sites)
   pub cells : Cells (managers w.sites) (cell_records w.sites) w.mail s.cells
   pub gets : AreGetsAddressed w.mail
   pub contents : ContentsHome (records w.sites) (cell_records w.sites)

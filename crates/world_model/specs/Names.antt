@@ -16,7 +16,7 @@ use Rattle.bind_protocol.specs.Records.{Records, IsKnown}
 use Rattle.token_chain.specs.declared.token.Token.TheVariants.{Here}
 use Rattle.site_model.specs.Site.{ThreadState, Threads, CellRecord, Counters, cell_record_in}
 use Rattle.site_model.specs.Fit.{EachOfMsg, IsBelowCounter}
-use Rattle.world_model.specs.World.{Mail, Travels}
+use Rattle.world_model.specs.World.{Mail, IsOnItsWay}
 
 -- the variable is nobody's, or known to the site: its own and made, or met
 abbrev pub IsHere : Records → VarName → Type 0
@@ -61,4 +61,4 @@ pub record KnownAreMade (records : ℕ → Records) (made : ℕ → Counters) : 
 
 -- what occurs in messages was made
 abbrev pub AreMailNamesMade : (ℕ → Counters) → Mail → Type 0
-AreMailNamesMade made mail = (k to : ℕ) (m : Msg) → Travels mail k to m → EachOfMsg (IsMade made) m
+AreMailNamesMade made mail = (k to : ℕ) (m : Msg) → IsOnItsWay mail k to m → EachOfMsg (IsMade made) m

@@ -76,8 +76,8 @@ after_receipt None w = w
 after_receipt (Some k) w = record w { mail = without_number k w.mail }
 
 -- message k travels
-abbrev pub Travels : Mail → ℕ → ℕ → Msg → Type 0
-Travels mail k to m = Contains mail (k, record { to = to; msg = m })
+abbrev pub IsOnItsWay : Mail → ℕ → ℕ → Msg → Type 0
+IsOnItsWay mail k to m = Contains mail (k, record { to = to; msg = m })
 
 -- the world of a journal with these sites
 abbrev pub world_of : List Turn → Sites → World

@@ -30,7 +30,7 @@ use Rattle.site_model.specs.Variables.{opening}
 use Rattle.site_model.specs.Cells.{put_row}
 use Rattle.site_model.specs.Run.{delivered_message}
 use Rattle.world_model.specs.Schedule.{schedule}
-use Rattle.world_model.specs.World.{World, Sites, Mail, Travels, put, after_transition, after_receipt, mail_from, world_of}
+use Rattle.world_model.specs.World.{World, Sites, Mail, IsOnItsWay, put, after_transition, after_receipt, mail_from, world_of}
 use Rattle.world_model.proofs.MailLemmas.{sent_to}
 use Rattle.world_variables.proofs.JournalLemmas.{came_acts}
 use Rattle.world_cells.specs.CellCounts.{cell_weight, cell_weights}
@@ -85,7 +85,7 @@ module _ (p : List Stmt) (n limit : ℕ) (is : IsProgram p) (few : 1 ≤ n) (man
   pub old : Paid p n first (schedule j) (sent_of j)
   old = paid_before p n limit is few many short j e f d entry
 
-  one : (k : ℕ) (m : Msg) → Travels first.mail k e.site m → OneOfNumber first.mail k (sent_to e.site m)
+  one : (k : ℕ) (m : Msg) → IsOnItsWay first.mail k e.site m → OneOfNumber first.mail k (sent_to e.site m)
   one k m at = one_number first k e.site m at (λ a b x o h g. old.reached.numbers.once k a b x o h g)
 
   -- ---- Gets that travel
@@ -94,23 +94,23 @@ module _ (p : List Stmt) (n limit : ℕ) (is : IsProgram p) (few : 1 ≤ n) (man
   abbrev Lost : CellName → ℕ → Msg → Type 0
   Lost c k m = (gone : List token.Mail) × Came c gone first.mail (after_receipt (Some k) first).mail × (total n (λ s. mail_count gone (Get s)) ≤ cell_weight c 1 0 0 m)
 
-  silent_lost : (c : CellName) (k : ℕ) (m : Msg) → Travels first.mail k e.site m → IsSilent c e.site m → Lost c k m
+  silent_lost : (c : CellName) (k : ℕ) (m : Msg) → IsOnItsWay first.mail k e.site m → IsSilent c e.site m → Lost c k m
   silent_lost c k m at silent =
       ([], λ x. (let same = tally_other c first.mail k e.site m (one k m at) silent x in omega (arith, same)), (let none : total n (λ s. mail_count [] (Get s)) ≡ 0 = all_zero n _ (λ s. refl) in omega (arith, none)))
 
-  forward_lost : (b : CellName) (k a : ℕ) → Travels first.mail k e.site (msg.Forward b a) → Lost b k (msg.Forward b a)
+  forward_lost : (b : CellName) (k a : ℕ) → IsOnItsWay first.mail k e.site (msg.Forward b a) → Lost b k (msg.Forward b a)
   forward_lost b k a at =
       let arrives = forward_arrives first k e.site b a at (one k (msg.Forward b a) at) in
       let found = cell_there first.sites first.mail old.reached.centre.cells b (Forward e.site a) old.reached.cells.cells (arrives_there first k e.site _ b (Forward e.site a) arrives) in
       (Forward e.site a ∷ [], arrives_here first k e.site _ b (Forward e.site a) found.0 arrives found.2, (let none : total n (λ s. mail_count (Forward e.site a ∷ []) (Get s)) ≡ 0 = all_zero n _ (λ s. refl) in omega (arith, none)))
 
-  put_lost : (b : CellName) (k : ℕ) (v : VarName) (bundle : List Equation) → Travels first.mail k e.site (msg.Put b v bundle) → Lost b k (msg.Put b v bundle)
+  put_lost : (b : CellName) (k : ℕ) (v : VarName) (bundle : List Equation) → IsOnItsWay first.mail k e.site (msg.Put b v bundle) → Lost b k (msg.Put b v bundle)
   put_lost b k v bundle at =
       let arrives = put_arrives first k e.site b v bundle at (one k (msg.Put b v bundle) at) in
       let found = cell_there first.sites first.mail old.reached.centre.cells b (Put e.site v) old.reached.cells.cells (arrives_there first k e.site _ b (Put e.site v) arrives) in
       (Put e.site v ∷ [], arrives_here first k e.site _ b (Put e.site v) found.0 arrives found.2, (let none : total n (λ s. mail_count (Put e.site v ∷ []) (Get s)) ≡ 0 = all_zero n _ (λ s. refl) in omega (arith, none)))
 
-  get_lost : (b : CellName) (k a : ℕ) → Travels first.mail k e.site (msg.Get b a) → 1 ≤ a → a ≤ n → Lost b k (msg.Get b a)
+  get_lost : (b : CellName) (k a : ℕ) → IsOnItsWay first.mail k e.site (msg.Get b a) → 1 ≤ a → a ≤ n → Lost b k (msg.Get b a)
   get_lost b k a at low high =
       let arrives = get_arrives first k e.site b a at (one k (msg.Get b a) at) (old.reached.cells.gets k e.site b a at).0 in
       let found = cell_there first.sites first.mail old.reached.centre.cells b (Get a) old.reached.cells.cells (arrives_there first k e.site _ b (Get a) arrives) in

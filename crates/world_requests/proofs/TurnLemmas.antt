@@ -16,7 +16,7 @@ use Rattle.site_model.specs.Transition.{Transition, sequence}
 use Rattle.site_model.specs.Turn.{SiteTurn}
 use Rattle.site_model.specs.Run.{delivered_message, message_of}
 use Rattle.world_model.specs.Schedule.{schedule, lines_in}
-use Rattle.world_model.specs.World.{World, Sites, Travels, put, after_transition, after_receipt, mail_from, world_of}
+use Rattle.world_model.specs.World.{World, Sites, IsOnItsWay, put, after_transition, after_receipt, mail_from, world_of}
 use Rattle.world_model.proofs.MailLemmas.{acts_after, same_world}
 use Rattle.world_variables.specs.Rows.{IsElsewhere}
 use Rattle.world_variables.proofs.JournalLemmas.{came_acts, came_is, mail_of, mail_after}
@@ -27,7 +27,7 @@ use Rattle.world_simulation.proofs.SimulationLemmas.{every_run_is_simulated, pai
 -- the message that a turn takes travels to its site, and is fit for it
 pub record Taken (p : List Stmt) (n : ℕ) (j : List Turn) (e : Turn) (s : Site) (k : ℕ) (m : Msg) : Type 0 where
   pub is : delivered_message j (Some k) ≡ Some m
-  pub at : Travels (travelling j) k e.site m
+  pub at : IsOnItsWay (travelling j) k e.site m
   pub fit : IsFit p n s m
   pub elsewhere : IsElsewhere e.site m
 

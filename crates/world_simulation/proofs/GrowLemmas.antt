@@ -13,7 +13,7 @@ use Rattle.tree_node.proofs.ClassLemmas.{Contains-tail}
 use Rattle.kernel_syntax.specs.declared.stmt.Stmt.{Stmt}
 use Rattle.site_message.specs.declared.message.Msg.{Msg}
 use Rattle.site_message.specs.declared.message.Msg.TheVariants as msg
-use Rattle.oz_model.specs.Answers.{Includes}
+use Rattle.oz_model.specs.Answers.{IsPartOf}
 use Rattle.oz_model.specs.Need.{Need, Waits, Binds, Takes, stack_need}
 use Rattle.oz_model.specs.Effect.{Birth, CellChange, Stays, Made, Exchanged, Effect}
 use Rattle.bind_protocol.specs.Records.{is_own, knowledge}
@@ -31,7 +31,7 @@ use Rattle.world_model.proofs.CellLemmas.{request_only}
 use Rattle.world_simulation.specs.Stays.{EquationsStay}
 
 abbrev Grows : Site → Site → Type 0
-Grows s t = Includes s.equations t.equations
+Grows s t = IsPartOf s.equations t.equations
 
 same : (s t : Site) → t.equations ≡ s.equations → Grows s t
 same s t e x c = subst (λ (q : Store). Contains q x) (sym e) c
@@ -145,4 +145,4 @@ module _ (p : List Stmt) (n limit : ℕ) where
 
 pub equations_stay : EquationsStay
 equations_stay p n limit j e old new (d, turn, told, is) =
-    subst (λ (t : Site). Includes old.equations t.equations) (sym is) (turn_grows p n limit (delivered_message j e.delivered) old d turn)
+    subst (λ (t : Site). IsPartOf old.equations t.equations) (sym is) (turn_grows p n limit (delivered_message j e.delivered) old d turn)

@@ -16,12 +16,12 @@ use Rattle.oz_model.specs.Step.{threads_born}
 use Rattle.site_model.specs.Site.{ThreadState, thread_state}
 use Rattle.thread_roster.specs.declared.mode.Mode.TheVariants.{WaitsFor}
 use Rattle.site_model.specs.Messages.{birth}
-use Rattle.world_model.specs.World.{Sites, Travels, threads, world_of}
+use Rattle.world_model.specs.World.{Sites, IsOnItsWay, threads, world_of}
 use Rattle.world_model.specs.Matches.{IsThreadAt, IsInSpawn, Matches, CellsMatch}
 use Rattle.world_messages.specs.Asked.{BringsThread, ThreadsPlaced}
 
 module _ (p : List Stmt) (n : ℕ) (j : List Turn) (f : Sites) (s : State) (m : Matches p n (world_of j f) s) (c : CellsMatch (world_of j f) s) where
-  travels : (k to : ℕ) (o : Msg) → IsTravelling j k (record { to = to; msg = o }) → Travels (travelling j) k to o
+  travels : (k to : ℕ) (o : Msg) → IsTravelling j k (record { to = to; msg = o }) → IsOnItsWay (travelling j) k to o
   travels k to o at = (travelling_tells j k (record { to = to; msg = o })).1 at
 
   born_stack : (n : ThreadName) (code : CodeId) (vars : List VarName) → (st : Stack) × (threads_born p (Some (birth n code vars)) ≡ (n, st) ∷ [])

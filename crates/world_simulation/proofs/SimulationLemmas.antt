@@ -17,7 +17,7 @@ use Rattle.site_model.specs.Fit.{IsFit}
 use Rattle.site_model.specs.Run.{WorldRun, IsReachedBy, delivered_message, message_of}
 use Rattle.world_model.specs.Names.{here_at}
 use Rattle.world_variables.specs.Rows.{PartsIn}
-use Rattle.world_model.specs.World.{Sites, World, Travels, records, put, world_of}
+use Rattle.world_model.specs.World.{Sites, World, IsOnItsWay, records, put, world_of}
 use Rattle.world_cells.specs.FitRuns.{IsFitEntry, SiteFitRun}
 use Rattle.world_model.specs.Matches.{CellsMatch, IsExchange}
 use Rattle.tree_node.specs.declared.names.CellName.{CellName}
@@ -69,7 +69,7 @@ module _ (p : List Stmt) (n limit : ℕ) (is : IsProgram p) (low : 1 ≤ n) (hig
       let unused : unused_cell.held.token ≡ Asked = subst (λ (t : Site). (cell_record t c).held.token ≡ Asked) same asked in
       cc
 
-  token_waits : (m : Msg) (k i : ℕ) (j : List Turn) (f : Sites) → WorldRun p n limit j f → Reached p (world_of j f) (schedule j) → IsFit p n (f i) m → Travels (travelling j) k i m → TokenWaits p m (opening m (f i)).site
+  token_waits : (m : Msg) (k i : ℕ) (j : List Turn) (f : Sites) → WorldRun p n limit j f → Reached p (world_of j f) (schedule j) → IsFit p n (f i) m → IsOnItsWay (travelling j) k i m → TokenWaits p m (opening m (f i)).site
   token_waits (msg.Put c u bundle) k i j f run r fit at =
       let w : World = world_of j f in
       let real : i ≢ 0 = comes_real j f run i c fit.takes in
@@ -108,7 +108,7 @@ module _ (p : List Stmt) (n limit : ℕ) (is : IsProgram p) (low : 1 ≤ n) (hig
         by (Some k) r = go (entry.wired k r)
           where
             go : (s : Sent) × IsTravelling j k s × (s.to ≡ e.site) → ComesFit m
-            go (s, at, to) = subst ComesFit same (fits, token_waits s.msg k e.site j f entry.run (reached j f entry.run h) fits (subst (λ (i : ℕ). Travels (travelling j) k i s.msg) to ((travelling_tells j k s).1 at)))
+            go (s, at, to) = subst ComesFit same (fits, token_waits s.msg k e.site j f entry.run (reached j f entry.run h) fits (subst (λ (i : ℕ). IsOnItsWay (travelling j) k i s.msg) to ((travelling_tells j k s).1 at)))
               where
                 fits : IsFit p n (f e.site) s.msg
                 fits = subst (λ (i : ℕ). IsFit p n (f i) s.msg) to (all_fit j f entry.run h k s at)

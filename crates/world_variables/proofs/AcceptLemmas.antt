@@ -13,14 +13,14 @@ use Rattle.oz_model.specs.Need.{Need, Binds, stack_need, IsReady, kinds_of}
 use Rattle.oz_model.specs.Effect.{Effect, Stays}
 use Rattle.oz_model.specs.Step.{IsAllowed, IsBindFor, effect_of, next, Step, living_stack, state_after, need_of}
 use Rattle.oz_model.specs.Step as Step
-use Rattle.oz_model.specs.Answers.{Includes}
+use Rattle.oz_model.specs.Answers.{IsPartOf}
 use Rattle.oz_model.proofs.DownLemmas.{lower_binds}
 use Rattle.oz_model.proofs.WithinLemmas.{more_is_within}
 use Rattle.oz_model.proofs.KeepLemmas.{binds_stay}
 use Rattle.bind_protocol.specs.Records.{Records, knowledge}
 use Rattle.site_model.specs.Site.{Threads, Counters}
 use Rattle.site_model.specs.Messages.{bind_pick}
-use Rattle.world_model.specs.World.{Mail, Travels}
+use Rattle.world_model.specs.World.{Mail, IsOnItsWay}
 use Rattle.world_model.specs.Matches.{IsAwaited, PartsMatch}
 use Rattle.world_variables.proofs.TellLemmas.{with_equation}
 use Rattle.site_model.proofs.EffectLemmas.{bind_effect}
@@ -43,7 +43,7 @@ binds_alive p s [] a b e = cc
 binds_alive p s (x ∷ xs) a b e = refl
 
 -- a bind that is allowed, of a variable that is free at the centre, by a thread that waits somewhere
-pub bind_allowed : (p : List Stmt) (c : State) (s : Store) (n : ThreadName) (st : Stack) (x : VarName) (t : Term) (a b : Term) → IsSound c.equations → Includes s c.equations → value_of equal_thread c.threads n ≡ Some st →
+pub bind_allowed : (p : List Stmt) (c : State) (s : Store) (n : ThreadName) (st : Stack) (x : VarName) (t : Term) (a b : Term) → IsSound c.equations → IsPartOf s c.equations → value_of equal_thread c.threads n ≡ Some st →
     stack_need p c.equations st ≡ Binds a b → IsBindFor c.equations (Binds a b) (Some (x, t)) → IsAllowed p c (bind_pick n x t)
 bind_allowed p c s n st x t a b sound more at need allows = record {
   lives = rw at refl;
@@ -80,7 +80,7 @@ bind_next p c n st x t a b at need = subst (λ (e : Effect). state_after p c n e
 
 module _ (p : List Stmt) (here : ℕ → Name → Type 0) (eqs : ℕ → Store) (records : ℕ → Records) (threads : ℕ → Threads) (made : ℕ → Counters) (mail : Mail) (s : State) (parts : PartsMatch p here eqs records threads made mail s) where
   -- the owner has no equation of the variable
-  pub asked_is_step : (k to : ℕ) (x : VarName) (t : Term) (n : ThreadName) (bundle : List Equation) → IsSound s.equations → Travels mail k to (msg.BindReq x n t bundle) → knowledge (records x.site) x ≡ Some None → Step p s (bind_pick n x t) (with_equation s x t)
+  pub asked_is_step : (k to : ℕ) (x : VarName) (t : Term) (n : ThreadName) (bundle : List Equation) → IsSound s.equations → IsOnItsWay mail k to (msg.BindReq x n t bundle) → knowledge (records x.site) x ≡ Some None → Step p s (bind_pick n x t) (with_equation s x t)
   asked_is_step k to x t n bundle sound at unbound = go (parts.waiting.asks k to x t n bundle at)
     where
       free : IsFree s.equations x

@@ -18,7 +18,7 @@ use Rattle.oz_model.proofs.NameLemmas.{Each-weaker, EachOfEquation-weaker, EachO
 use Rattle.bind_protocol.specs.Records.{Records, knowledge, IsKnown, sites_in}
 use Rattle.site_model.specs.Site.{Threads, Counters}
 use Rattle.site_model.specs.Fit.{EachOfMsg}
-use Rattle.world_model.specs.World.{Mail, Travels}
+use Rattle.world_model.specs.World.{Mail, IsOnItsWay}
 use Rattle.world_model.specs.Names.{IsHere, AreHome, IsMade, AreMailNamesMade}
 use Rattle.world_model.specs.Matches.{equations_in, Knowledge, AreKept, Placed, IsTold, AreTold, IsAddressed, Addressed, IsBound, NeedsFirst, IsAsked, IsAwaited, Waiting, PartsMatch}
 use Rattle.world_model.proofs.MailLemmas.{sent_to, Posts, Gone}
@@ -30,7 +30,7 @@ module _ (mail more : Mail) (out : List Sent) (posts : Posts mail more out) wher
   pub knowledge_posts : (eqs : ℕ → Store) (c : Store) → ((to : ℕ) (m : Msg) → Contains out (sent_to to m) → Each (Contains c) (equations_in m)) → Knowledge eqs mail c → Knowledge eqs more c
   knowledge_posts eqs c new k = record { one = k.one; down = k.down; owned = k.owned; known = k.known; told = λ i to m h. go i to m (posts.from i to m h) }
     where
-      go : (i to : ℕ) (m : Msg) → Travels mail i to m ⊎ Contains out (sent_to to m) → Each (Contains c) (equations_in m)
+      go : (i to : ℕ) (m : Msg) → IsOnItsWay mail i to m ⊎ Contains out (sent_to to m) → Each (Contains c) (equations_in m)
       go i to m (inl h) = k.told i to m h
       go i to m (inr h) = new to m h
 
@@ -42,14 +42,14 @@ module _ (mail more : Mail) (out : List Sent) (posts : Posts mail more out) wher
   pub addressed_posts : (records : ℕ → Records) → ((to : ℕ) (m : Msg) → Contains out (sent_to to m) → IsAddressed records to m) → Addressed records mail → Addressed records more
   addressed_posts records new k i to m h = go (posts.from i to m h)
     where
-      go : Travels mail i to m ⊎ Contains out (sent_to to m) → IsAddressed records to m
+      go : IsOnItsWay mail i to m ⊎ Contains out (sent_to to m) → IsAddressed records to m
       go (inl q) = k i to m q
       go (inr q) = new to m q
 
   pub said_posts : (made : ℕ → Counters) → ((to : ℕ) (m : Msg) → Contains out (sent_to to m) → EachOfMsg (IsMade made) m) → AreMailNamesMade made mail → AreMailNamesMade made more
   said_posts made new k i to m h = go (posts.from i to m h)
     where
-      go : Travels mail i to m ⊎ Contains out (sent_to to m) → EachOfMsg (IsMade made) m
+      go : IsOnItsWay mail i to m ⊎ Contains out (sent_to to m) → EachOfMsg (IsMade made) m
       go (inl q) = k i to m q
       go (inr q) = new to m q
 
@@ -67,7 +67,7 @@ module _ (mail more : Mail) (out : List Sent) (posts : Posts mail more out) wher
     exchanges = k.exchanges;
   }
     where
-      go : (to : ℕ) (x : VarName) (t : Term) (n : ThreadName) (bundle : List Equation) (i : ℕ) → Travels mail i to (msg.BindReq x n t bundle) ⊎ Contains out (sent_to to (msg.BindReq x n t bundle)) → IsAwaited p eqs threads c x t n
+      go : (to : ℕ) (x : VarName) (t : Term) (n : ThreadName) (bundle : List Equation) (i : ℕ) → IsOnItsWay mail i to (msg.BindReq x n t bundle) ⊎ Contains out (sent_to to (msg.BindReq x n t bundle)) → IsAwaited p eqs threads c x t n
       go to x t n bundle i (inl h) = k.asks i to x t n bundle h
       go to x t n bundle i (inr h) = new to x t n bundle h
 
@@ -81,10 +81,10 @@ module _ (mail more : Mail) (out : List Sent) (posts : Posts mail more out) wher
   placed_posts p threads ts none k = placed_alike _ _ _ _ (value_of equal_thread ts) (λ i n st h. h) (λ i n st h. h)
       (λ i n st h. (h.0, h.1, h.2, h.3, posts.old i h.0 _ h.4, h.5)) (λ i n st h. (h.0, h.1, h.2, h.3, back i h.0 n h.1 h.2 h.3 h.4, h.5)) k
     where
-      back : (i to : ℕ) (n : ThreadName) (code : CodeId) (vars : List VarName) (bundle : List Equation) → Travels more i to (msg.Spawn n code vars bundle) → Travels mail i to (msg.Spawn n code vars bundle)
+      back : (i to : ℕ) (n : ThreadName) (code : CodeId) (vars : List VarName) (bundle : List Equation) → IsOnItsWay more i to (msg.Spawn n code vars bundle) → IsOnItsWay mail i to (msg.Spawn n code vars bundle)
       back i to n code vars bundle h = go (posts.from i to _ h)
         where
-          go : Travels mail i to (msg.Spawn n code vars bundle) ⊎ Contains out (sent_to to (msg.Spawn n code vars bundle)) → Travels mail i to (msg.Spawn n code vars bundle)
+          go : IsOnItsWay mail i to (msg.Spawn n code vars bundle) ⊎ Contains out (sent_to to (msg.Spawn n code vars bundle)) → IsOnItsWay mail i to (msg.Spawn n code vars bundle)
           go (inl q) = q
           go (inr q) = absurd (none to n code vars bundle q)
 
@@ -101,7 +101,7 @@ module _ (k : ℕ) (mail less : Mail) (gone : Gone k mail less) where
   said_gone made o i to m h = o i to m (gone.old i to m h).0
 
   -- who was told by it is told otherwise
-  pub told_gone : (records : ℕ → Records) → ((to : ℕ) (m : Msg) → Travels mail k to m → (i : ℕ) (x : VarName) → knowledge (records i) x ≡ Some None → x.site ≢ i →
+  pub told_gone : (records : ℕ → Records) → ((to : ℕ) (m : Msg) → IsOnItsWay mail k to m → (i : ℕ) (x : VarName) → knowledge (records i) x ≡ Some None → x.site ≢ i →
       ((m ≡ msg.Register x i) ⊎ ((to ≡ i) × ((t : Term) × (bundle : List Equation) × (m ≡ msg.Binding x t bundle)))) → IsTold records less i x) →
       AreTold records mail → AreTold records less
   told_gone records other o i x unbound elsewhere = go (o i x unbound elsewhere)
@@ -114,17 +114,17 @@ module _ (k : ℕ) (mail less : Mail) (gone : Gone k mail less) where
       go (inr (inl (l, h))) = reg (number l)
         where
           reg : (l ≡ k) ⊎ (l ≢ k) → IsTold records less i x
-          reg (inl e) = other x.site (msg.Register x i) (subst (λ (q : ℕ). Travels mail q x.site (msg.Register x i)) e h) i x unbound elsewhere (inl refl)
+          reg (inl e) = other x.site (msg.Register x i) (subst (λ (q : ℕ). IsOnItsWay mail q x.site (msg.Register x i)) e h) i x unbound elsewhere (inl refl)
           reg (inr e) = inr (inl (l, gone.kept l _ _ h e))
       go (inr (inr (l, t, bundle, h))) = bnd (number l)
         where
           bnd : (l ≡ k) ⊎ (l ≢ k) → IsTold records less i x
-          bnd (inl e) = other i (msg.Binding x t bundle) (subst (λ (q : ℕ). Travels mail q i (msg.Binding x t bundle)) e h) i x unbound elsewhere (inr (refl, (t, bundle, refl)))
+          bnd (inl e) = other i (msg.Binding x t bundle) (subst (λ (q : ℕ). IsOnItsWay mail q i (msg.Binding x t bundle)) e h) i x unbound elsewhere (inr (refl, (t, bundle, refl)))
           bnd (inr e) = inr (inr (l, t, bundle, gone.kept l _ _ h e))
 
   -- who asked by it sees the variable bound
   pub waiting_gone : (p : List Stmt) (eqs : ℕ → Store) (records : ℕ → Records) (threads : ℕ → Threads) (c : Store) →
-      ((to : ℕ) (x : VarName) (t : Term) (n : ThreadName) (bundle : List Equation) → Travels mail k to (msg.BindReq x n t bundle) → IsBound c x) →
+      ((to : ℕ) (x : VarName) (t : Term) (n : ThreadName) (bundle : List Equation) → IsOnItsWay mail k to (msg.BindReq x n t bundle) → IsBound c x) →
       Waiting p eqs records threads mail c → Waiting p eqs records threads less c
   waiting_gone p eqs records threads c bound o = record {
     asks = λ i to x t n bundle h. o.asks i to x t n bundle (gone.old i to _ h).0;
@@ -141,18 +141,18 @@ module _ (k : ℕ) (mail less : Mail) (gone : Gone k mail less) where
       still n x i st (inr (inl (l, t, bundle, h))) = go (number l)
         where
           go : (l ≡ k) ⊎ (l ≢ k) → NeedsFirst p (eqs i) st x ⊎ IsAsked less c n x
-          go (inl e) = inr (inr (bound x.site x t n bundle (subst (λ (q : ℕ). Travels mail q x.site (msg.BindReq x n t bundle)) e h)))
+          go (inl e) = inr (inr (bound x.site x t n bundle (subst (λ (q : ℕ). IsOnItsWay mail q x.site (msg.BindReq x n t bundle)) e h)))
           go (inr e) = inr (inl (l, t, bundle, gone.kept l _ _ h e))
 
   -- a Spawn apart, threads are where they were
   pub placed_gone : (p : List Stmt) (threads : ℕ → Threads) (ts : List (ThreadName × Stack)) →
-      ((to : ℕ) (n : ThreadName) (code : CodeId) (vars : List VarName) (bundle : List Equation) → Travels mail k to (msg.Spawn n code vars bundle) → ⊥) →
+      ((to : ℕ) (n : ThreadName) (code : CodeId) (vars : List VarName) (bundle : List Equation) → IsOnItsWay mail k to (msg.Spawn n code vars bundle) → ⊥) →
       Placed p threads mail ts → Placed p threads less ts
   placed_gone p threads ts none o = placed_alike _ _ _ _ (value_of equal_thread ts) (λ i n st h. h) (λ i n st h. h)
       (λ i n st h. (h.0, h.1, h.2, h.3, gone.kept i h.0 _ h.4 (not_it i h.0 n h.1 h.2 h.3 h.4), h.5)) (λ i n st h. (h.0, h.1, h.2, h.3, (gone.old i h.0 _ h.4).0, h.5)) o
     where
-      not_it : (i to : ℕ) (n : ThreadName) (code : CodeId) (vars : List VarName) (bundle : List Equation) → Travels mail i to (msg.Spawn n code vars bundle) → i ≢ k
-      not_it i to n code vars bundle h e = none to n code vars bundle (subst (λ (q : ℕ). Travels mail q to (msg.Spawn n code vars bundle)) e h)
+      not_it : (i to : ℕ) (n : ThreadName) (code : CodeId) (vars : List VarName) (bundle : List Equation) → IsOnItsWay mail i to (msg.Spawn n code vars bundle) → i ≢ k
+      not_it i to n code vars bundle h e = none to n code vars bundle (subst (λ (q : ℕ). IsOnItsWay mail q to (msg.Spawn n code vars bundle)) e h)
 
 -- ---- sites know more names, and bind none
 

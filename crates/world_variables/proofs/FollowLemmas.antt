@@ -18,7 +18,7 @@ use Rattle.kernel_syntax.specs.declared.stmt.Stmt.{Stmt}
 use Rattle.site_message.specs.declared.message.Msg.TheVariants as msg
 use Rattle.oz_model.specs.Need.{Need, Waits, Binds, Takes, stack_need, kinds_of}
 use Rattle.oz_model.specs.Effect.{Effect, Birth, CellChange, Stays, Made, Exchanged, stack_effect}
-use Rattle.oz_model.specs.Run.{Runs}
+use Rattle.oz_model.specs.Run.{IsRun}
 use Rattle.oz_model.specs.Step.{IsBindFor, next}
 use Rattle.oz_model.proofs.EffectNames.{stack_effect_names}
 use Rattle.tree_node.proofs.ClassLemmas.{Contains-head, Contains-tail}
@@ -46,7 +46,7 @@ use Rattle.tree_node.proofs.NameLemmas.{same_thread_decides}
 use Rattle.tree_node.proofs.SoundLemmas.{class_names}
 
 abbrev pub Follows : List Stmt → World → State → ℕ → Transition → Type 0
-Follows p w c i d = (c2 : State) × Runs p c d.picks c2 × PartsIn p (here_at (records (after_transition w i d).sites)) (after_transition w i d) c2
+Follows p w c i d = (c2 : State) × IsRun p c d.picks c2 × PartsIn p (here_at (records (after_transition w i d).sites)) (after_transition w i d) c2
 
 -- ---- the picks of a step
 
@@ -89,7 +89,7 @@ module _ (p : List Stmt) (w : World) (c : State) (n limit i : ℕ) (th : ThreadN
       d ≡ step_row p n limit (step_pick th (next_names i s.counters kinds) bind) kinds (stack_effect p s.equations (next_names i s.counters kinds) bind st) s → Follows p w c i d
   step_follows st kinds bind d at step none is = subst (λ (x : Transition). Follows p w c i x) (sym is) (
     next p c (step_pick th (next_names i s.counters kinds) bind),
-    subst (λ (ks : List Pick). Runs p c ks (next p c (step_pick th (next_names i s.counters kinds) bind))) (sym (steps_picks p n limit (step_pick th fresh bind) kinds e s)) (next p c (step_pick th (next_names i s.counters kinds) bind), (done.allowed, refl), refl),
+    subst (λ (ks : List Pick). IsRun p c ks (next p c (step_pick th (next_names i s.counters kinds) bind))) (sym (steps_picks p n limit (step_pick th fresh bind) kinds e s)) (next p c (step_pick th (next_names i s.counters kinds) bind), (done.allowed, refl), refl),
     done.parts,
   )
     where

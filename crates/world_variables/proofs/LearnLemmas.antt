@@ -23,7 +23,7 @@ use Rattle.kernel_syntax.specs.declared.stmt.Stmt.{Stmt}
 use Rattle.site_message.specs.declared.message.Msg.{Msg}
 use Rattle.site_message.specs.declared.message.Msg.TheVariants as msg
 use Rattle.site_message.specs.declared.message.Sent.{Sent}
-use Rattle.oz_model.specs.Answers.{Includes, LinksGoDown}
+use Rattle.oz_model.specs.Answers.{IsPartOf, LinksGoDown}
 use Rattle.oz_model.specs.Effect.{Effect}
 use Rattle.oz_model.proofs.DownLemmas.{lower_binds}
 use Rattle.oz_model.proofs.WithinLemmas.{more_is_within}
@@ -35,21 +35,21 @@ use Rattle.thread_roster.specs.declared.mode.Mode.{Mode}
 use Rattle.thread_roster.specs.declared.mode.Mode.TheVariants.{WaitsFor}
 use Rattle.thread_roster.specs.Threads.{wake, wake_all}
 use Rattle.thread_roster.specs.declared.mode.Mode.TheVariants as site
-use Rattle.world_model.specs.World.{Mail, Travels, at_put}
+use Rattle.world_model.specs.World.{Mail, IsOnItsWay, at_put}
 use Rattle.world_model.specs.Placed.{IsPlaced}
 use Rattle.world_model.specs.Names.{IsHere, IsHome, AreHome}
-use Rattle.world_model.specs.Matches.{equations_in, Knowledge, IsKept, AreKept, Placed, IsTold, AreTold, IsAddressed, Addressed, IsBound, Wants, IsWaiting, NeedsFirst, IsAsked, IsExchange, IsAwaited, Waiting}
+use Rattle.world_model.specs.Matches.{equations_in, Knowledge, IsKept, AreKept, Placed, IsTold, AreTold, IsAddressed, Addressed, IsBound, IsWanted, IsWaiting, NeedsFirst, IsAsked, IsExchange, IsAwaited, Waiting}
 use Rattle.world_model.proofs.PutLemmas.{two_all, at_all, at_here}
 use Rattle.world_model.proofs.MailLemmas.{sent_to, Posts}
 use Rattle.world_model.proofs.KeyLemmas.{woken_new, woken_old, wake_waits, wake_other, wake_cell}
-use Rattle.bind_protocol.specs.Learn.{Learns}
+use Rattle.bind_protocol.specs.Learn.{HasLearned}
 
 -- ---- stores
 
-pub part_one : (s c : Store) → Includes s c → HasOneEach c → HasOneEach s
+pub part_one : (s c : Store) → IsPartOf s c → HasOneEach c → HasOneEach s
 part_one s c more one x t r h k = one x t r (more (x, t) h) (more (x, r) k)
 
-pub part_down : (s c : Store) → Includes s c → LinksGoDown c → LinksGoDown s
+pub part_down : (s c : Store) → IsPartOf s c → LinksGoDown c → LinksGoDown s
 part_down s c more down x t h = down x t (more (x, t) h)
 
 -- one more equation of a variable without one, which leads down
@@ -67,7 +67,7 @@ head_or_tail x y t r s h = go (Contains-cons_cases _ _ s h)
 -- ---- what stays where more is known
 
 -- a request that a site allows, where it is still free
-pub wants_more : (p : List Stmt) (s c : Store) (st : Stack) (x : VarName) (t : Term) → IsSound c → HasOneEach c → LinksGoDown c → Includes s c → IsFree c x → Wants p s st x t → Wants p c st x t
+pub wants_more : (p : List Stmt) (s c : Store) (st : Stack) (x : VarName) (t : Term) → IsSound c → HasOneEach c → LinksGoDown c → IsPartOf s c → IsFree c x → IsWanted p s st x t → IsWanted p c st x t
 wants_more p s c st x t sound one down more free (a, b, need, allows, low) =
     let lower = lower_binds c x t one down free low in
     let kept = binds_stay p s c st a b x t sound (more_is_within s c more) need allows lower.0 lower.1 in
@@ -83,7 +83,7 @@ class_none c z x joined none = go (node_of c z) refl
         absurd (none_is_not_det c x n none (det.0, Same-trans (Same-sym joined) det.1, det.2))
 
 -- a wait for the class of a variable that is still free
-pub needs_more : (p : List Stmt) (s c : Store) (st : Stack) (x : VarName) → IsSound c → HasOneEach c → LinksGoDown c → Includes s c → IsFree c x → NeedsFirst p s st x → NeedsFirst p c st x
+pub needs_more : (p : List Stmt) (s c : Store) (st : Stack) (x : VarName) → IsSound c → HasOneEach c → LinksGoDown c → IsPartOf s c → IsFree c x → NeedsFirst p s st x → NeedsFirst p c st x
 needs_more p s c st x sound one down more free (z, need, same) =
     let within = more_is_within s c more in
     let joined = within.same z x same in
@@ -92,7 +92,7 @@ needs_more p s c st x sound one down more free (z, need, same) =
     no_node : (z : VarName) → Same c z x → node_of c z ≡ None
     no_node z joined = class_none c z x joined (lower_binds c x (term.Node (node.Int (pos 0))) one down free tt).0
 
-exchange_more : (p : List Stmt) (s c : Store) (st : Stack) (d : CellName) → IsSound c → Includes s c → IsExchange p s st d → IsExchange p c st d
+exchange_more : (p : List Stmt) (s c : Store) (st : Stack) (d : CellName) → IsSound c → IsPartOf s c → IsExchange p s st d → IsExchange p c st d
 exchange_more p s c st d sound more (new, told, need, is) =
     let kept = steps_stay p s c st [] sound (more_is_within s c more) need in
     (new, told, kept.0, sym (ap (λ (e : Effect). e.cell) (kept.1 [] None)) ∙ is)
@@ -122,10 +122,10 @@ placed_alike {K} {V} at at2 comes comes2 centre a b c d p = record {
 -- site j learns x = t: its records are b from then on, messages are sent, and the central equations go from c to d
 pub record IsLearnt (eqs : ℕ → Store) (records : ℕ → Records) (mail more : Mail) (out : List Sent) (c d : Store) (j : ℕ) (b : Records) (x : VarName) (t : Term) : Type 0 where
   pub free : IsFree (eqs j) x
-  pub knows : Learns (records j) b x (Some (Some t))
+  pub knows : HasLearned (records j) b x (Some (Some t))
   pub one : HasOneEach d
   pub down : LinksGoDown d
-  pub grows : Includes c d
+  pub grows : IsPartOf c d
   pub has : Contains d (x, t)
   pub new : (y : VarName) (r : Term) → Contains d (y, r) → Contains c (y, r) ⊎ ((j ≡ x.site) × (y ≡ x) × (r ≡ t))
   pub kept : (y : VarName) (k : ℕ) → Contains (sites_in (records j) y) k → Contains (sites_in b y) k ⊎ ((r : Term) × (bundle : List Equation) × Contains out (sent_to k (msg.Binding y r bundle)))
@@ -149,8 +149,8 @@ module _ (p : List Stmt) (eqs : ℕ → Store) (records : ℕ → Records) (thre
   abbrev threads' : ℕ → Threads
   threads' = wakes threads j x
 
-  grow : (i : ℕ) → Includes (eqs i) (eqs' i)
-  grow = at_all eqs j ((x, t) ∷ eqs j) (λ i (s : Store). Includes (eqs i) s) (λ e h. Contains-tail _ _ (eqs j) h) (λ i other e h. h)
+  grow : (i : ℕ) → IsPartOf (eqs i) (eqs' i)
+  grow = at_all eqs j ((x, t) ∷ eqs j) (λ i (s : Store). IsPartOf (eqs i) s) (λ e h. Contains-tail _ _ (eqs j) h) (λ i other e h. h)
 
   eqs_at : (i : ℕ) (y : VarName) (r : Term) → Contains (eqs' i) (y, r) → Contains (eqs i) (y, r) ⊎ ((i ≡ j) × (y ≡ x) × (r ≡ t))
   eqs_at = at_all eqs j ((x, t) ∷ eqs j) (λ i (s : Store). (y : VarName) (r : Term) → Contains s (y, r) → Contains (eqs i) (y, r) ⊎ ((i ≡ j) × (y ≡ x) × (r ≡ t)))
@@ -249,7 +249,7 @@ module _ (p : List Stmt) (eqs : ℕ → Store) (records : ℕ → Records) (thre
       now i y r (inl h) = l.grows (y, r) (k.known i (y, r) h)
       now i y r (inr (at, same, is)) = rw (same, is) l.has
 
-      says : (i to : ℕ) (m : Msg) → Travels mail i to m ⊎ Contains out (sent_to to m) → Each (Contains d) (equations_in m)
+      says : (i to : ℕ) (m : Msg) → IsOnItsWay mail i to m ⊎ Contains out (sent_to to m) → Each (Contains d) (equations_in m)
       says i to m (inl h) = Each-weaker (Contains c) (Contains d) l.grows (equations_in m) (k.told i to m h)
       says i to m (inr h) =
           let r = l.told to m h in
@@ -289,13 +289,13 @@ module _ (p : List Stmt) (eqs : ℕ → Store) (records : ℕ → Records) (thre
         sound = sound_more (eqs j) x t old.sound (part_one (eqs j) d sees l.one) (part_down (eqs j) d sees l.down) l.free (l.down x t l.has);
       }
         where
-          sees : Includes (eqs j) d
+          sees : IsPartOf (eqs j) d
           sees e h = l.grows e (k.known j e h)
 
-  no_spawn : (i to : ℕ) (n : ThreadName) (code : CodeId) (vars : List VarName) (bundle : List Equation) → Travels more i to (msg.Spawn n code vars bundle) → Travels mail i to (msg.Spawn n code vars bundle)
+  no_spawn : (i to : ℕ) (n : ThreadName) (code : CodeId) (vars : List VarName) (bundle : List Equation) → IsOnItsWay more i to (msg.Spawn n code vars bundle) → IsOnItsWay mail i to (msg.Spawn n code vars bundle)
   no_spawn i to n code vars bundle h = go (l.posts.from i to _ h)
     where
-      go : Travels mail i to (msg.Spawn n code vars bundle) ⊎ Contains out (sent_to to (msg.Spawn n code vars bundle)) → Travels mail i to (msg.Spawn n code vars bundle)
+      go : IsOnItsWay mail i to (msg.Spawn n code vars bundle) ⊎ Contains out (sent_to to (msg.Spawn n code vars bundle)) → IsOnItsWay mail i to (msg.Spawn n code vars bundle)
       go (inl q) = q
       go (inr q) = absurd (only_bindings to _ (λ bs e. cc) q)
 
@@ -332,7 +332,7 @@ module _ (p : List Stmt) (eqs : ℕ → Store) (records : ℕ → Records) (thre
       still (msg.Forward e o) q = tt
       still (msg.Put e o bundle) q = tt
 
-      go : Travels mail i to m ⊎ Contains out (sent_to to m) → IsAddressed records' to m
+      go : IsOnItsWay mail i to m ⊎ Contains out (sent_to to m) → IsAddressed records' to m
       go (inl q) = still m (k i to m q)
       go (inr q) = let r = l.told to m q in subst (λ (o : Msg). IsAddressed records' to o) (sym r.1) tt
 
@@ -346,14 +346,14 @@ module _ (p : List Stmt) (eqs : ℕ → Store) (records : ℕ → Records) (thre
       grown : (y : VarName) → IsBound c y → IsBound d y
       grown y (r, h) = (r, l.grows (y, r) h)
 
-      decide : (y : VarName) (r : Term) (n : ThreadName) (q : Bool) → equal_var y x ≡ q → (i : ℕ) × (st : Stack) × IsWaiting threads i n st y × Wants p (eqs i) st y r → IsAwaited p eqs' threads' d y r n
+      decide : (y : VarName) (r : Term) (n : ThreadName) (q : Bool) → equal_var y x ≡ q → (i : ℕ) × (st : Stack) × IsWaiting threads i n st y × IsWanted p (eqs i) st y r → IsAwaited p eqs' threads' d y r n
       decide y r n true q h = inl (subst (λ (z : VarName). IsBound d z) (sym ((same_name_decides y x).0 q)) (t, l.has))
       decide y r n false q (i, st, at, wants) =
           let other : y ≢ x = λ (e : y ≡ x). let yes : equal_var y x ≡ true = (same_name_decides y x).1 e in cc in
           let free : IsFree (eqs' i) y = free_new i y (λ e. other) (w.waits i n st y at).0 in
           inr (i, st, waits_new i n st y other at, wants_more p (eqs i) (eqs' i) st y r (kept i).sound (learnt_part k i).0 (learnt_part k i).1 (grow i) free wants)
 
-      asked : (i to : ℕ) (y : VarName) (r : Term) (n : ThreadName) (bundle : List Equation) → Travels mail i to (msg.BindReq y n r bundle) ⊎ Contains out (sent_to to (msg.BindReq y n r bundle)) → IsAwaited p eqs' threads' d y r n
+      asked : (i to : ℕ) (y : VarName) (r : Term) (n : ThreadName) (bundle : List Equation) → IsOnItsWay mail i to (msg.BindReq y n r bundle) ⊎ Contains out (sent_to to (msg.BindReq y n r bundle)) → IsAwaited p eqs' threads' d y r n
       asked i to y r n bundle (inl h) = old (w.asks i to y r n bundle h)
         where
           old : IsAwaited p eqs threads c y r n → IsAwaited p eqs' threads' d y r n

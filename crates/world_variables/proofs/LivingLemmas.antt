@@ -18,7 +18,7 @@ use Rattle.site_message.specs.declared.message.Sent.{Sent}
 use Rattle.site_message.specs.declared.turn.Turn.{Turn}
 use Rattle.site_message.specs.Journal.{travelling, sent_of, was_delivered}
 use Rattle.site_model.specs.Site.{ThreadState}
-use Rattle.world_model.specs.World.{Sites, Mail, Travels, threads}
+use Rattle.world_model.specs.World.{Sites, Mail, IsOnItsWay, threads}
 use Rattle.world_model.specs.Schedule.{sum_to}
 use Rattle.world_model.specs.Matches.{IsThreadAt, IsInSpawn, Placed, is_spawn, spawn_count, living}
 use Rattle.world_model.proofs.MailLemmas.{nothing}
@@ -172,7 +172,7 @@ spawned_length (m ∷ ms) =
 
 -- message k brings a thread of this name
 abbrev Carries : Mail → ℕ → ThreadName → Type 0
-Carries mail k z = (to : ℕ) × (code : CodeId) × (vars : List VarName) × (bundle : List Equation) × Travels mail k to (msg.Spawn z code vars bundle)
+Carries mail k z = (to : ℕ) × (code : CodeId) × (vars : List VarName) × (bundle : List Equation) × IsOnItsWay mail k to (msg.Spawn z code vars bundle)
 
 carries_more : (m : ℕ × Sent) (ms : Mail) (k : ℕ) (z : ThreadName) → Carries ms k z → Carries (m ∷ ms) k z
 carries_more m ms k z (to, code, vars, bundle, at) = (to, code, vars, bundle, Contains-tail m _ ms at)
@@ -202,7 +202,7 @@ some_spawned : (mail : Mail) (k : ℕ) (z : ThreadName) → Carries mail k z →
 some_spawned [] k z h = absurd (nothing _ h.4)
 some_spawned (m ∷ ms) k z (to, code, vars, bundle, at) = go (Contains-cons_cases m _ ms at) (λ q. some_spawned ms k z (to, code, vars, bundle, q))
   where
-    go : (m ≡ (k, record { to = to; msg = msg.Spawn z code vars bundle })) ⊎ Travels ms k to (msg.Spawn z code vars bundle) → (Travels ms k to (msg.Spawn z code vars bundle) → Contains (spawned ms) z) → Contains (spawned_by m.1.msg ++ spawned ms) z
+    go : (m ≡ (k, record { to = to; msg = msg.Spawn z code vars bundle })) ⊎ IsOnItsWay ms k to (msg.Spawn z code vars bundle) → (IsOnItsWay ms k to (msg.Spawn z code vars bundle) → Contains (spawned ms) z) → Contains (spawned_by m.1.msg ++ spawned ms) z
     go (inl e) ih = subst (λ (x : ℕ × Sent). Contains (spawned_by x.1.msg ++ spawned ms) z) (sym e) (Contains-head z (spawned ms))
     go (inr q) ih = Contains-append_right (spawned_by m.1.msg) (spawned ms) z (ih q)
 

@@ -36,7 +36,7 @@ use Rattle.world_variables.proofs.AlikeLemmas.{Wider, kept_wider, addressed_wide
 use Rattle.world_variables.proofs.MeetLemmas.{learns_wider}
 use Rattle.bind_protocol.proofs.RowCountLemmas.{name_cases}
 use Rattle.bind_protocol.proofs.LearnLemmas.{make_learns}
-use Rattle.bind_protocol.specs.Learn.{Learns}
+use Rattle.bind_protocol.specs.Learn.{HasLearned}
 use Rattle.site_model.proofs.FilledLemmas.{next_kinds}
 
 var_is : (y : VarName) (a b : ℕ) → y.site ≡ a → y.num ≡ b → y ≡ record { site = a; num = b }
@@ -226,7 +226,7 @@ module _ (p : List Stmt) (here : ℕ → Name → Type 0) (eqs : ℕ → Store) 
       b : Records
       b = after_make (records i) x
 
-      l : Learns (records i) b x (Some None)
+      l : HasLearned (records i) b x (Some None)
       l = make_learns (records i) x (sym (parts.kept i).site)
 
       unknown : IsKnown (records i) x → ⊥

@@ -16,7 +16,7 @@ use Rattle.bind_protocol.specs.Records.{Records, knowledge, IsKnown, sites_in}
 use Rattle.bind_protocol.specs.Rows.{after_meet, meet_sends, register}
 use Rattle.site_model.specs.Site.{Threads, Counters}
 use Rattle.site_model.specs.Fit as Fit
-use Rattle.world_model.specs.World.{Mail, Travels, at_put, mail_from}
+use Rattle.world_model.specs.World.{Mail, IsOnItsWay, at_put, mail_from}
 use Rattle.world_model.specs.Names.{IsHere, IsMade, KnownAreMade}
 use Rattle.world_model.specs.Matches.{IsTold, PartsMatch}
 use Rattle.world_model.proofs.PutLemmas.{at_all, at_own}
@@ -24,10 +24,10 @@ use Rattle.world_model.proofs.MailLemmas.{nothing, sent_to, Posts, posts}
 use Rattle.world_variables.proofs.AlikeLemmas.{knowledge_posts, told_posts, addressed_posts, said_posts, waiting_posts, placed_posts, Wider, kept_wider, addressed_wider, told_wider, waiting_wider}
 use Rattle.bind_protocol.proofs.RowCountLemmas.{name_cases}
 use Rattle.bind_protocol.proofs.LearnLemmas.{meet_case}
-use Rattle.bind_protocol.specs.Learn.{Learns, MeetCase}
+use Rattle.bind_protocol.specs.Learn.{HasLearned, MeetCase}
 
 -- a site knows one more name, unbound
-pub learns_wider : (records : ℕ → Records) (i : ℕ) (b : Records) (x : VarName) → Learns (records i) b x (Some None) → knowledge (records i) x ≡ None →
+pub learns_wider : (records : ℕ → Records) (i : ℕ) (b : Records) (x : VarName) → HasLearned (records i) b x (Some None) → knowledge (records i) x ≡ None →
     ((y : VarName) (k : ℕ) → Contains (sites_in (records i) y) k → Contains (sites_in b y) k) → Wider records (at_put records i b)
 learns_wider records i b x l none listed = record {
   site = at_all records i b (λ j (o : Records). o.site ≡ (records j).site) l.site (λ j other. refl);
@@ -101,7 +101,7 @@ module _ (p : List Stmt) (here : ℕ → Name → Type 0) (eqs : ℕ → Store) 
               at_i y unbound far (inl e) =
                   let site : (records i).site ≡ i = (parts.kept i).site in
                   let posted = sent.new x.site (msg.Register x (records i).site) (Contains-head _ []) in
-                  inr (inl (posted.0, subst (λ (z : VarName). Travels more posted.0 z.site (msg.Register z i)) (sym e) (subst (λ (o : ℕ). Travels more posted.0 x.site (msg.Register x o)) site posted.1)))
+                  inr (inl (posted.0, subst (λ (z : VarName). IsOnItsWay more posted.0 z.site (msg.Register z i)) (sym e) (subst (λ (o : ℕ). IsOnItsWay more posted.0 x.site (msg.Register x o)) site posted.1)))
 
           new : PartsMatch p here eqs (at_put records i b) threads made more s
           new = record {

@@ -17,7 +17,7 @@ use Rattle.kernel_syntax.specs.declared.stmt.Stmt.{Stmt}
 use Rattle.kernel_syntax.specs.Free.{free}
 use Rattle.site_message.specs.declared.message.Msg.{Msg}
 use Rattle.site_message.specs.declared.message.Msg.TheVariants as msg
-use Rattle.oz_model.specs.Run.{Runs}
+use Rattle.oz_model.specs.Run.{IsRun}
 use Rattle.oz_model.specs.Laws.{nobody}
 use Rattle.oz_model.proofs.ClosureLemmas.{for_names}
 use Rattle.bind_protocol.specs.Records.{knowledge, IsKnown, is_own}
@@ -26,7 +26,7 @@ use Rattle.site_model.specs.Transition.{Transition, without_output, with_pick, a
 use Rattle.site_model.specs.Variables.{with_new_equation, with_known_equation, own_bind}
 use Rattle.site_model.specs.Messages.{with_thread, birth, register_row, bind_pick, bind_request_row}
 use Rattle.site_model.specs.Fit as Fit
-use Rattle.world_model.specs.World.{World, Sites, Mail, Travels, put, after_transition, after_receipt, mail_from, without_number, eqs, records, threads, counters}
+use Rattle.world_model.specs.World.{World, Sites, Mail, IsOnItsWay, put, after_transition, after_receipt, mail_from, without_number, eqs, records, threads, counters}
 use Rattle.world_model.specs.Names.{IsHere, IsMade}
 use Rattle.world_model.specs.Matches.{IsBound, IsNumbered, PartsMatch}
 use Rattle.world_model.proofs.PutLemmas.{at_here, at_own, nat_decides}
@@ -81,11 +81,11 @@ gone_row p here w c k may h = parts_gone p here (eqs w.sites) (records w.sites) 
 
 -- what a message does, and that it has come
 abbrev pub Taken : List Stmt → (ℕ → Name → Type 0) → World → State → ℕ → ℕ → Transition → Type 0
-Taken p here w c k i d = (c2 : State) × Runs p c d.picks c2 × PartsIn p here (after_receipt (Some k) (after_transition w i d)) c2
+Taken p here w c k i d = (c2 : State) × IsRun p c d.picks c2 × PartsIn p here (after_receipt (Some k) (after_transition w i d)) c2
 
 module _ (p : List Stmt) (here : ℕ → Name → Type 0) (w : World) (c : State) (k i : ℕ) (h : PartsIn p here w c) (numbers : IsNumbered w.sent w.mail) (real : i ≢ 0) where
   -- Spawn
-  pub spawn_row : (n : ThreadName) (code : CodeId) (vars : List VarName) (bundle : List Equation) → Travels w.mail k i (msg.Spawn n code vars bundle) → here i (name.Var nobody) → Each (λ (x : VarName). here i (name.Var x)) vars →
+  pub spawn_row : (n : ThreadName) (code : CodeId) (vars : List VarName) (bundle : List Equation) → IsOnItsWay w.mail k i (msg.Spawn n code vars bundle) → here i (name.Var nobody) → Each (λ (x : VarName). here i (name.Var x)) vars →
       Taken p here w c k i (without_output (with_thread p (Some (birth n code vars)) (w.sites i)))
   spawn_row n code vars bundle at nob names = (
     c,
@@ -100,7 +100,7 @@ module _ (p : List Stmt) (here : ℕ → Name → Type 0) (w : World) (c : State
       g = put w.sites i (with_thread p (Some (birth n code vars)) (w.sites i))
 
   -- Register
-  pub register_kept : (limit : ℕ) (x : VarName) (o : ℕ) → Travels w.mail k i (msg.Register x o) → Taken p here w c k i (register_row limit x o (w.sites i))
+  pub register_kept : (limit : ℕ) (x : VarName) (o : ℕ) → IsOnItsWay w.mail k i (msg.Register x o) → Taken p here w c k i (register_row limit x o (w.sites i))
   register_kept limit x o at = (
     c,
     refl,
@@ -122,7 +122,7 @@ module _ (p : List Stmt) (here : ℕ → Name → Type 0) (w : World) (c : State
       g = put w.sites i (w.sites i)
 
   -- BindReq
-  pub request_kept : (limit : ℕ) (x : VarName) (t : Term) (n : ThreadName) (bundle : List Equation) → IsSound c.equations → Travels w.mail k i (msg.BindReq x n t bundle) → EachOfEquation (here i) (x, t) →
+  pub request_kept : (limit : ℕ) (x : VarName) (t : Term) (n : ThreadName) (bundle : List Equation) → IsSound c.equations → IsOnItsWay w.mail k i (msg.BindReq x n t bundle) → EachOfEquation (here i) (x, t) →
       Taken p here w c k i (bind_request_row limit x t n (w.sites i))
   request_kept limit x t n bundle sound at names = go (knowledge (w.sites i).records x) refl
     where
@@ -132,7 +132,7 @@ module _ (p : List Stmt) (here : ℕ → Name → Type 0) (w : World) (c : State
       said : Fit.EachOfMsg (IsMade (counters w.sites)) (msg.BindReq x n t bundle)
       said = h.said k i _ at
 
-      is_it : (m : Mail) (to : ℕ) (o : Msg) → (Travels m k to o → Travels w.mail k to o) → Travels m k to o → o ≡ msg.BindReq x n t bundle
+      is_it : (m : Mail) (to : ℕ) (o : Msg) → (IsOnItsWay m k to o → IsOnItsWay w.mail k to o) → IsOnItsWay m k to o → o ≡ msg.BindReq x n t bundle
       is_it m to o back q = (numbers.once k to i o _ (back q) at).1
 
       known : IsKnown (records w.sites i) x
@@ -142,7 +142,7 @@ module _ (p : List Stmt) (here : ℕ → Name → Type 0) (w : World) (c : State
           go (inl zero) = absurd (real (sym own ∙ zero))
           go (inr q) = subst (λ (j : ℕ). IsKnown (records w.sites j) x) own q
 
-      may : (g : Sites) (m : Mail) (e : Store) → IsBound e x → ((to : ℕ) (o : Msg) → Travels m k to o → Travels w.mail k to o) → MayGo (records g) e k m (without_number k m)
+      may : (g : Sites) (m : Mail) (e : Store) → IsBound e x → ((to : ℕ) (o : Msg) → IsOnItsWay m k to o → IsOnItsWay w.mail k to o) → MayGo (records g) e k m (without_number k m)
       may g m e bound back = record {
         told = λ to o q j y unbound far why. absurd (other o (is_it m to o (back to o) q) j y why);
         bound = λ to y u o bs q. let is = is_it m to _ (back to _) q in let var : y ≡ x = cc in subst (λ (z : VarName). IsBound e z) (sym var) bound;
@@ -174,10 +174,10 @@ module _ (p : List Stmt) (here : ℕ → Name → Type 0) (w : World) (c : State
           bound : PartsIn p here v (with_equation c x t)
           bound = bind_row p here w c limit i x t own (λ zero. real (sym own ∙ zero)) e low names (said.0, said.2) h
 
-          old : (to : ℕ) (o : Msg) → Travels v.mail k to o → Travels w.mail k to o
+          old : (to : ℕ) (o : Msg) → IsOnItsWay v.mail k to o → IsOnItsWay w.mail k to o
           old to o q = split (from_number w.mail w.sent (own_bind limit x t (w.sites i)).sent k to o q)
             where
-              split : Travels w.mail k to o ⊎ (Contains (own_bind limit x t (w.sites i)).sent (sent_to to o) × (w.sent ≤ k) × (k < w.sent + length (own_bind limit x t (w.sites i)).sent)) → Travels w.mail k to o
+              split : IsOnItsWay w.mail k to o ⊎ (Contains (own_bind limit x t (w.sites i)).sent (sent_to to o) × (w.sent ≤ k) × (k < w.sent + length (own_bind limit x t (w.sites i)).sent)) → IsOnItsWay w.mail k to o
               split (inl r) = r
               split (inr r) = absurd (omega (arith, r.1, numbers.below k i _ at))
 
@@ -189,7 +189,7 @@ module _ (p : List Stmt) (here : ℕ → Name → Type 0) (w : World) (c : State
           )
 
   -- Binding
-  pub binding_row : (x : VarName) (t : Term) (bundle : List Equation) → x.site ≢ i → Travels w.mail k i (msg.Binding x t bundle) → EachOfEquation (here i) (x, t) → Taken p here w c k i (without_output (with_known_equation (w.sites i) x t))
+  pub binding_row : (x : VarName) (t : Term) (bundle : List Equation) → x.site ≢ i → IsOnItsWay w.mail k i (msg.Binding x t bundle) → EachOfEquation (here i) (x, t) → Taken p here w c k i (without_output (with_known_equation (w.sites i) x t))
   binding_row x t bundle far at names = (c, refl, subst (λ (m : Mail). PartsMatch p here (eqs g) (records g) (threads g) (counters g) (without_number k m) c) (sym (append-nil w.mail)) new)
     where
       g : Sites

@@ -22,11 +22,11 @@ use Rattle.thread_roster.specs.declared.mode.Mode.TheVariants as site
 use Rattle.site_message.specs.declared.message.Sent.{Sent}
 use Rattle.site_model.specs.Fit as Fit
 use Rattle.tree_node.proofs.ClassLemmas.{Contains-cons_cases, Contains-head}
-use Rattle.world_model.specs.World.{Mail, Travels, at_put, mail_from}
+use Rattle.world_model.specs.World.{Mail, IsOnItsWay, at_put, mail_from}
 use Rattle.world_model.specs.Names.{IsMade, IsHere, IsHome, AreHome}
 use Rattle.world_model.proofs.MailLemmas.{nothing, sent_to, Posts, posts}
 use Rattle.world_variables.proofs.AlikeLemmas.{knowledge_posts, placed_posts, told_posts, addressed_posts, said_posts, asked_posts}
-use Rattle.world_model.specs.Matches.{IsThreadAt, Placed, Wants, IsWaiting, NeedsFirst, IsAsked, IsExchange, IsAwaited, PartsMatch}
+use Rattle.world_model.specs.Matches.{IsThreadAt, Placed, IsWanted, IsWaiting, NeedsFirst, IsAsked, IsExchange, IsAwaited, PartsMatch}
 use Rattle.world_model.proofs.PutLemmas.{at_all, at_here}
 use Rattle.world_variables.proofs.LearnLemmas.{placed_alike}
 use Rattle.world_model.proofs.KeyLemmas.{with_here, with_there, goes_cases}
@@ -127,7 +127,7 @@ module _ (p : List Stmt) (here : ℕ → Name → Type 0) (eqs : ℕ → Store) 
             rw (ap (λ (v : ThreadState). v.0) e.1) (subst (λ (q : Mode). MayWait p (eqs i) (records i) mail s.equations n st q) (sym modes) may)
 
     -- it asked for a bind, and waits for the answer
-    pub ask_parts : (k : ℕ) (x : VarName) (t : Term) (bundle : List Equation) → m ≡ site.Waits x → IsFree (eqs i) x → IsHere (records i) x → IsHere (records x.site) x → Wants p (eqs i) st x t → Each (Contains s.equations) bundle → Fit.EachOfMsg (IsMade made) (msg.BindReq x n t bundle) →
+    pub ask_parts : (k : ℕ) (x : VarName) (t : Term) (bundle : List Equation) → m ≡ site.Waits x → IsFree (eqs i) x → IsHere (records i) x → IsHere (records x.site) x → IsWanted p (eqs i) st x t → Each (Contains s.equations) bundle → Fit.EachOfMsg (IsMade made) (msg.BindReq x n t bundle) →
         PartsMatch p here eqs records (at_put threads i waits) made (mail ++ mail_from k (sent_to x.site (msg.BindReq x n t bundle) ∷ [])) s
     ask_parts k x t bundle mode free is owner wants carried said = record {
       knowledge = knowledge_posts mail more out sent eqs s.equations (λ a o h. rw (only a o h).1 carried) parts.knowledge;
@@ -175,7 +175,7 @@ module _ (p : List Stmt) (here : ℕ → Name → Type 0) (eqs : ℕ → Store) 
         here_now = subst (λ (ts : Threads). value_of equal_thread ts n ≡ Some (st, site.Waits x)) (sym (at_here threads i waits))
             (subst (λ (q : Mode). value_of equal_thread waits n ≡ Some (st, q)) mode (with_here equal_thread same_thread_decides (threads i) n (st, m) (st, Runs) at))
 
-        asked : (a : ℕ) (y : VarName) (u : Term) (o : ThreadName) (bs : List Equation) {l : ℕ} → Travels mail l a (msg.BindReq y o u bs) ⊎ Contains out (sent_to a (msg.BindReq y o u bs)) → IsAwaited p eqs (at_put threads i waits) s.equations y u o
+        asked : (a : ℕ) (y : VarName) (u : Term) (o : ThreadName) (bs : List Equation) {l : ℕ} → IsOnItsWay mail l a (msg.BindReq y o u bs) ⊎ Contains out (sent_to a (msg.BindReq y o u bs)) → IsAwaited p eqs (at_put threads i waits) s.equations y u o
         asked a y u o bs {l} (inl h) = go (parts.waiting.asks l a y u o bs h)
           where
             go : IsAwaited p eqs threads s.equations y u o → IsAwaited p eqs (at_put threads i waits) s.equations y u o

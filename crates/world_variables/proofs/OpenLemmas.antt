@@ -24,7 +24,7 @@ use Rattle.proxy_table.specs.Proxies as Proxies
 use Rattle.site_model.specs.Bundle.{message_vars, body_vars, message_bundle, vars_of_equations}
 use Rattle.site_model.specs.Variables.{with_known_equation_as, with_known_equation, with_known_equations, meeting, opening}
 use Rattle.site_model.specs.Fit as Fit
-use Rattle.world_model.specs.World.{World, Sites, Travels, put, after_transition, mail_from, eqs, records, threads, counters}
+use Rattle.world_model.specs.World.{World, Sites, IsOnItsWay, put, after_transition, mail_from, eqs, records, threads, counters}
 use Rattle.world_model.specs.Names.{IsHere, IsHereName, IsMade, here_at}
 use Rattle.world_model.specs.Matches.{PartsMatch}
 use Rattle.world_model.proofs.PutLemmas.{at_all, at_here, at_own, at_twice, field_kept, nat_decides}
@@ -185,7 +185,7 @@ pub record Opened (p : List Stmt) (w : World) (c : State) (i : ℕ) (m : Msg) : 
   pub parts : PartsIn p (opened_here w i m) (after_transition w i (opening m (w.sites i))) c
   pub vars : Each (λ (x : VarName). opened_here w i m i (name.Var x)) (message_vars m)
 
-pub opens_row : (p : List Stmt) (w : World) (c : State) (k i : ℕ) (m : Msg) → PartsIn p (here_at (records w.sites)) w c → Travels w.mail k i m → Each (Contains c.equations) (message_bundle m) → Opened p w c i m
+pub opens_row : (p : List Stmt) (w : World) (c : State) (k i : ℕ) (m : Msg) → PartsIn p (here_at (records w.sites)) w c → IsOnItsWay w.mail k i m → Each (Contains c.equations) (message_bundle m) → Opened p w c i m
 opens_row p w c k i m h at has = record { parts = parts; vars = vars }
   where
     s : Site

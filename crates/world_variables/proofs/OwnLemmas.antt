@@ -28,7 +28,7 @@ use Rattle.site_model.specs.Variables.{own_bind, own_binds}
 use Rattle.site_model.specs.Cells.{exchange_stack}
 use Rattle.site_model.specs.Unit.{step_row, next_names, with_fresh_names, after_cell, after_effect, birth_row, content_here, counters_after, placement}
 use Rattle.site_model.specs.Fit as Fit
-use Rattle.world_model.specs.World.{World, after_transition, mail_from, eqs, records, threads, counters, Travels}
+use Rattle.world_model.specs.World.{World, after_transition, mail_from, eqs, records, threads, counters, IsOnItsWay}
 use Rattle.world_model.specs.Names.{IsMade, IsCentreMade}
 use Rattle.world_model.proofs.PutLemmas.{at_here, at_own, field_kept}
 use Rattle.world_model.proofs.KeyLemmas.{woken_new, goes_there}
@@ -145,7 +145,7 @@ abbrev pub born_stack : List Stmt → Birth → Stack
 born_stack p b = item.Run b.code (env_for (free p b.code) b.vars) ∷ []
 
 pub bears_row : (p : List Stmt) (here : ℕ → Name → Type 0) (w : World) (c d : State) (i n limit : ℕ) (o : Option Birth) → here i (name.Var nobody) →
-    ((l a : ℕ) (m : Msg) → Travels w.mail l a m → l < w.sent) → EachOfBirth (here i) o → EachOfBirth (IsMade (counters w.sites)) o → ((b : Birth) → o ≡ Some b → value_of equal_thread c.threads b.name ≡ None) →
+    ((l a : ℕ) (m : Msg) → IsOnItsWay w.mail l a m → l < w.sent) → EachOfBirth (here i) o → EachOfBirth (IsMade (counters w.sites)) o → ((b : Birth) → o ≡ Some b → value_of equal_thread c.threads b.name ≡ None) →
     d.equations ≡ c.equations → d.threads ≡ threads_born p o ++ c.threads → IsCentreMade (counters w.sites) d → PartsIn p here w c → PartsIn p here (after_transition w i (birth_row p n limit o (w.sites i))) d
 bears_row p here w c d i n limit None nob below names was new eq th centred h =
     unsent p here w.sites i (w.sites i) w.mail w.sent d (rw (at_own (eqs w.sites) i, at_own (records w.sites) i, at_own (threads w.sites) i, at_own (counters w.sites) i) (same_parts p here (eqs w.sites) (records w.sites) (threads w.sites) (counters w.sites) w.mail c h d eq th centred))
@@ -182,10 +182,10 @@ bears_row p here w c d i n limit (Some b) nob below names was new eq th centred 
 -- ---- the whole step
 
 -- numbers of messages after a part of a turn
-pub below_acts : (w : World) (i : ℕ) (d : Transition) → ((l a : ℕ) (m : Msg) → Travels w.mail l a m → l < w.sent) → (l a : ℕ) (m : Msg) → Travels (after_transition w i d).mail l a m → l < (after_transition w i d).sent
+pub below_acts : (w : World) (i : ℕ) (d : Transition) → ((l a : ℕ) (m : Msg) → IsOnItsWay w.mail l a m → l < w.sent) → (l a : ℕ) (m : Msg) → IsOnItsWay (after_transition w i d).mail l a m → l < (after_transition w i d).sent
 below_acts w i d below l a m h = go (from_number w.mail w.sent d.sent l a m h)
   where
-    go : Travels w.mail l a m ⊎ (Contains d.sent (sent_to a m) × (w.sent ≤ l) × (l < w.sent + length d.sent)) → l < w.sent + length d.sent
+    go : IsOnItsWay w.mail l a m ⊎ (Contains d.sent (sent_to a m) × (w.sent ≤ l) × (l < w.sent + length d.sent)) → l < w.sent + length d.sent
     go (inl q) = omega (arith, below l a m q)
     go (inr q) = q.2
 
@@ -209,7 +209,7 @@ pub record IsOwnStep (p : List Stmt) (here : ℕ → Name → Type 0) (w : World
   pub unborn : (b : Birth) → (effect_of p c k).born ≡ Some b → value_of equal_thread c.threads b.name ≡ None
   pub central : value_of equal_thread c.threads k.thread ≡ Some st
   pub nobody : here i (name.Var nobody)
-  pub below : (l a : ℕ) (m : Msg) → Travels w.mail l a m → l < w.sent
+  pub below : (l a : ℕ) (m : Msg) → IsOnItsWay w.mail l a m → l < w.sent
 
 pub own_step : (p : List Stmt) (here : ℕ → Name → Type 0) (w : World) (c : State) (n limit i : ℕ) (k : Pick) (kinds : List NameKind) (st : Stack) → IsOwnStep p here w c limit i k kinds st → PartsIn p here w c →
     PartsIn p here (after_transition w i (step_row p n limit k kinds (effect_of p c k) (w.sites i))) (next p c k)
@@ -297,7 +297,7 @@ own_step p here w c n limit i k kinds st q h =
         other : k.thread ≢ b.name
         other same = let both : Some st ≡ None = sym q.central ∙ subst (λ (x : ThreadName). value_of equal_thread c.threads x ≡ None) (sym same) (q.unborn b is) in cc
 
-    below3 : (l a : ℕ) (m : Msg) → Travels w3.mail l a m → l < w3.sent
+    below3 : (l a : ℕ) (m : Msg) → IsOnItsWay w3.mail l a m → l < w3.sent
     below3 = below_acts w2 i d3 (below_acts w1 i d2 (below_acts w i d1 q.below))
 
     h4 : PartsIn p here (after_transition w3 i d4) (next p c k)

@@ -12,7 +12,7 @@ use Rattle.tree_node.specs.Store.{IsSound}
 use Rattle.kernel_syntax.specs.declared.stmt.Stmt.{Stmt}
 use Rattle.site_message.specs.declared.message.Msg.{Msg}
 use Rattle.site_message.specs.declared.message.Msg.TheVariants as msg
-use Rattle.oz_model.specs.Run.{Runs}
+use Rattle.oz_model.specs.Run.{IsRun}
 use Rattle.bind_protocol.specs.Records.{knowledge, IsKnown}
 use Rattle.site_model.specs.Site.{Site}
 use Rattle.site_model.specs.Bundle.{message_vars, message_bundle}
@@ -20,7 +20,7 @@ use Rattle.site_model.specs.Transition.{Transition}
 use Rattle.site_model.specs.Variables.{opening}
 use Rattle.site_model.specs.Messages.{message_row, reception}
 use Rattle.site_model.specs.Messages as Receive
-use Rattle.world_model.specs.World.{World, Travels, after_transition, after_receipt, mail_from, eqs, records, threads, counters}
+use Rattle.world_model.specs.World.{World, IsOnItsWay, after_transition, after_receipt, mail_from, eqs, records, threads, counters}
 use Rattle.world_variables.specs.Plain.{IsPlain}
 use Rattle.world_model.specs.Names.{IsHere, IsHereName, here_at}
 use Rattle.world_model.specs.Matches.{IsNumbered, IsAddressed}
@@ -66,14 +66,14 @@ numbered_acts w i d h = record {
   once = λ k a b m o q r. go k a b m o (Contains-append_cases w.mail (mail_from w.sent d.sent) _ q) (Contains-append_cases w.mail (mail_from w.sent d.sent) _ r);
 }
   where
-    go : (k a b : ℕ) (m o : Msg) → Travels w.mail k a m ⊎ Travels (mail_from w.sent d.sent) k a m → Travels w.mail k b o ⊎ Travels (mail_from w.sent d.sent) k b o → (a ≡ b) × (m ≡ o)
+    go : (k a b : ℕ) (m o : Msg) → IsOnItsWay w.mail k a m ⊎ IsOnItsWay (mail_from w.sent d.sent) k a m → IsOnItsWay w.mail k b o ⊎ IsOnItsWay (mail_from w.sent d.sent) k b o → (a ≡ b) × (m ≡ o)
     go k a b m o (inl q) (inl r) = h.once k a b m o q r
     go k a b m o (inr q) (inr r) = let e = number_once w.sent d.sent k (sent_to a m) (sent_to b o) q r in (ap (λ (x : Sent). x.to) e, ap (λ (x : Sent). x.msg) e)
     go k a b m o (inl q) (inr r) = absurd (omega (arith, h.below k a m q, (number_of w.sent d.sent k (sent_to b o) r).1))
     go k a b m o (inr q) (inl r) = absurd (omega (arith, h.below k b o r, (number_of w.sent d.sent k (sent_to a m) q).1))
 
 -- what the message tells is here once it is opened
-pub takes_row : (p : List Stmt) (here : ℕ → Name → Type 0) (w : World) (c : State) (limit k i : ℕ) (m : Msg) → PartsIn p here w c → IsNumbered w.sent w.mail → i ≢ 0 → IsSound c.equations → IsPlain m → IsElsewhere i m → Travels w.mail k i m →
+pub takes_row : (p : List Stmt) (here : ℕ → Name → Type 0) (w : World) (c : State) (limit k i : ℕ) (m : Msg) → PartsIn p here w c → IsNumbered w.sent w.mail → i ≢ 0 → IsSound c.equations → IsPlain m → IsElsewhere i m → IsOnItsWay w.mail k i m →
     here i (name.Var nobody) → Each (λ (x : VarName). here i (name.Var x)) (message_vars m) → ((x : VarName) (t : Term) → Each (λ (y : VarName). here i (name.Var y)) (x ∷ vars_of t) → EachOfEquation (here i) (x, t)) → Taken p here w c k i (message_row p limit m (w.sites i))
 takes_row p here w c limit k i (msg.Spawn n code vars bundle) h numbers real sound plain far at nob names term = spawn_row p here w c k i h numbers real n code vars bundle at nob (each_left _ vars _ names)
 takes_row p here w c limit k i (msg.Register x o) h numbers real sound plain far at nob names term = register_kept p here w c k i h numbers real limit x o at
@@ -89,10 +89,10 @@ received p limit w k i m = after_receipt (Some k) (after_transition w i (recepti
 
 pub record Received (p : List Stmt) (limit : ℕ) (w : World) (c : State) (k i : ℕ) (m : Msg) : Type 0 where
   pub centre : State
-  pub run : Runs p c (reception p limit m (w.sites i)).picks centre
+  pub run : IsRun p c (reception p limit m (w.sites i)).picks centre
   pub parts : PartsIn p (here_at (records (received p limit w k i m).sites)) (received p limit w k i m) centre
 
-pub receive_row : (p : List Stmt) (limit : ℕ) (w : World) (c : State) (k i : ℕ) (m : Msg) → PartsIn p (here_at (records w.sites)) w c → IsNumbered w.sent w.mail → i ≢ 0 → IsSound c.equations → IsPlain m → IsElsewhere i m → Travels w.mail k i m →
+pub receive_row : (p : List Stmt) (limit : ℕ) (w : World) (c : State) (k i : ℕ) (m : Msg) → PartsIn p (here_at (records w.sites)) w c → IsNumbered w.sent w.mail → i ≢ 0 → IsSound c.equations → IsPlain m → IsElsewhere i m → IsOnItsWay w.mail k i m →
     Each (Contains c.equations) (message_bundle m) → Received p limit w c k i m
 receive_row p limit w c k i m h numbers real sound plain far at has = record { centre = taken.0; run = taken.1; parts = whole }
   where
@@ -120,7 +120,7 @@ receive_row p limit w c k i m h numbers real sound plain far at has = record { c
     here : ℕ → Name → Type 0
     here = here_at (records final.sites)
 
-    at_v : Travels v.mail k i m
+    at_v : IsOnItsWay v.mail k i m
     at_v = Contains-append_left w.mail (mail_from w.sent d.sent) _ at
 
     known : (y : VarName) → IsKnown d.site.records y → IsKnown e.site.records y

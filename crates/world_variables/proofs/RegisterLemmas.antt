@@ -25,7 +25,7 @@ use Rattle.site_model.specs.Site.{Threads, Counters}
 use Rattle.site_model.specs.Bundle.{with_own_bundles, with_own_bundle, bundle_of}
 use Rattle.site_model.specs.Fit as Fit
 use Rattle.site_model.proofs.BundleLemmas.{bundle_known}
-use Rattle.world_model.specs.World.{Mail, Travels, at_put, mail_from, without_number}
+use Rattle.world_model.specs.World.{Mail, IsOnItsWay, at_put, mail_from, without_number}
 use Rattle.world_model.specs.Names.{IsHere, IsMade}
 use Rattle.world_model.specs.Matches.{equations_in, IsTold, IsAddressed, IsBound, IsAwaited, PartsMatch}
 use Rattle.world_model.proofs.PutLemmas.{at_all, at_here}
@@ -35,7 +35,7 @@ use Rattle.world_variables.proofs.AlikeLemmas.{knowledge_posts, told_posts, addr
 use Rattle.world_variables.proofs.TellLemmas.{each_of}
 use Rattle.tree_node.proofs.OrderLemmas.{Each-member}
 use Rattle.bind_protocol.proofs.LearnLemmas.{bound_at, registers_is}
-use Rattle.bind_protocol.specs.Learn.{Registers}
+use Rattle.bind_protocol.specs.Learn.{HasRegistered}
 use Rattle.bind_protocol.proofs.ToldLemmas.{unknown}
 
 -- what is sent may be sent
@@ -48,10 +48,10 @@ pub record MaySend (p : List Stmt) (eqs : ℕ → Store) (records : ℕ → Reco
 
 -- message k may go
 pub record MayGo (records : ℕ → Records) (c : Store) (k : ℕ) (mail less : Mail) : Type 0 where
-  pub told : (to : ℕ) (m : Msg) → Travels mail k to m → (i : ℕ) (x : VarName) → knowledge (records i) x ≡ Some None → x.site ≢ i →
+  pub told : (to : ℕ) (m : Msg) → IsOnItsWay mail k to m → (i : ℕ) (x : VarName) → knowledge (records i) x ≡ Some None → x.site ≢ i →
       ((m ≡ msg.Register x i) ⊎ ((to ≡ i) × ((t : Term) × (bundle : List Equation) × (m ≡ msg.Binding x t bundle)))) → IsTold records less i x
-  pub bound : (to : ℕ) (x : VarName) (t : Term) (n : ThreadName) (bundle : List Equation) → Travels mail k to (msg.BindReq x n t bundle) → IsBound c x
-  pub none : (to : ℕ) (n : ThreadName) (code : CodeId) (vars : List VarName) (bundle : List Equation) → Travels mail k to (msg.Spawn n code vars bundle) → ⊥
+  pub bound : (to : ℕ) (x : VarName) (t : Term) (n : ThreadName) (bundle : List Equation) → IsOnItsWay mail k to (msg.BindReq x n t bundle) → IsBound c x
+  pub none : (to : ℕ) (n : ThreadName) (code : CodeId) (vars : List VarName) (bundle : List Equation) → IsOnItsWay mail k to (msg.Spawn n code vars bundle) → ⊥
 
 module _ (p : List Stmt) (here : ℕ → Name → Type 0) (eqs : ℕ → Store) (records : ℕ → Records) (threads : ℕ → Threads) (made : ℕ → Counters) (mail : Mail) (s : State) (parts : PartsMatch p here eqs records threads made mail s) where
   pub parts_posts : (n : ℕ) (out : List Sent) → MaySend p eqs records threads made s.equations out → PartsMatch p here eqs records threads made (mail ++ mail_from n out) s
@@ -89,7 +89,7 @@ module _ (p : List Stmt) (here : ℕ → Name → Type 0) (eqs : ℕ → Store) 
       went = gone k mail
 
   -- a site registers another one
-  registered_wider : (j : ℕ) (b : Records) (x : VarName) (k : ℕ) → Registers (records j) b x k → Wider records (at_put records j b)
+  registered_wider : (j : ℕ) (b : Records) (x : VarName) (k : ℕ) → HasRegistered (records j) b x k → Wider records (at_put records j b)
   registered_wider j b x k r = record {
     site = at_all records j b (λ i (o : Records). o.site ≡ (records i).site) r.site (λ i other. refl);
     known = at_all records j b (λ i (o : Records). (y : VarName) → IsKnown (records i) y → IsKnown o y) (λ y h. rw (r.same y) h) (λ i other y h. h);
@@ -98,10 +98,10 @@ module _ (p : List Stmt) (here : ℕ → Name → Type 0) (eqs : ℕ → Store) 
     listed = at_all records j b (λ i (o : Records). (y : VarName) (o2 : ℕ) → Contains (sites_in (records i) y) o2 → Contains (sites_in o y) o2) r.listed (λ i other y o2 h. h);
   }
 
-  same_know : (j : ℕ) (b : Records) (x : VarName) (k : ℕ) → Registers (records j) b x k → (i : ℕ) (y : VarName) → knowledge (at_put records j b i) y ≡ knowledge (records i) y
+  same_know : (j : ℕ) (b : Records) (x : VarName) (k : ℕ) → HasRegistered (records j) b x k → (i : ℕ) (y : VarName) → knowledge (at_put records j b i) y ≡ knowledge (records i) y
   same_know j b x k r = at_all records j b (λ i (o : Records). (y : VarName) → knowledge o y ≡ knowledge (records i) y) r.same (λ i other y. refl)
 
-  pub registered_parts : (j : ℕ) (b : Records) (x : VarName) (k : ℕ) → Registers (records j) b x k → PartsMatch p here eqs (at_put records j b) threads made mail s
+  pub registered_parts : (j : ℕ) (b : Records) (x : VarName) (k : ℕ) → HasRegistered (records j) b x k → PartsMatch p here eqs (at_put records j b) threads made mail s
   registered_parts j b x k r = record {
     knowledge = parts.knowledge;
     kept = kept_wider records (at_put records j b) wide eqs parts.kept;
@@ -154,7 +154,7 @@ module _ (p : List Stmt) (here : ℕ → Name → Type 0) (eqs : ℕ → Store) 
       Contains (answered limit j x k) (sent_to k (msg.Binding x t (bundle_of limit (eqs j) (msg.Binding x t []))))
   answer_there limit j x k t e = rw e (Contains-head _ [])
 
-  pub register_parts : (limit n l j : ℕ) (x : VarName) (k : ℕ) → j ≢ 0 → Travels mail l j (msg.Register x k) → ((a b : ℕ) (m o : Msg) → Travels mail l a m → Travels mail l b o → (a ≡ b) × (m ≡ o)) → l < n →
+  pub register_parts : (limit n l j : ℕ) (x : VarName) (k : ℕ) → j ≢ 0 → IsOnItsWay mail l j (msg.Register x k) → ((a b : ℕ) (m o : Msg) → IsOnItsWay mail l a m → IsOnItsWay mail l b o → (a ≡ b) × (m ≡ o)) → l < n →
       PartsMatch p here eqs (at_put records j (after_register (records j) x k)) threads made (without_number l (mail ++ mail_from n (answered limit j x k))) s
   register_parts limit n l j x k real at once low =
       module_gone (registered_parts p here eqs records threads made mail s parts j b x k r) (record {
@@ -172,7 +172,7 @@ module _ (p : List Stmt) (here : ℕ → Name → Type 0) (eqs : ℕ → Store) 
       own_at : x.site ≡ (records j).site
       own_at = own ∙ sym (parts.kept j).site
 
-      r : Registers (records j) b x k
+      r : HasRegistered (records j) b x k
       r = registers_is (records j) x k own_at
 
       more : Mail
@@ -205,10 +205,10 @@ module _ (p : List Stmt) (here : ℕ → Name → Type 0) (eqs : ℕ → Store) 
       module_gone q may = parts_gone p here eqs (at_put records j b) threads made more s (sent q) l may
 
       -- the message of this number is the Register
-      is_it : (to : ℕ) (m : Msg) → Travels more l to m → (to ≡ j) × (m ≡ msg.Register x k)
+      is_it : (to : ℕ) (m : Msg) → IsOnItsWay more l to m → (to ≡ j) × (m ≡ msg.Register x k)
       is_it to m h = go (from_number mail n (answered limit j x k) l to m h)
         where
-          go : Travels mail l to m ⊎ (Contains (answered limit j x k) (sent_to to m) × (n ≤ l) × (l < n + length (answered limit j x k))) → (to ≡ j) × (m ≡ msg.Register x k)
+          go : IsOnItsWay mail l to m ⊎ (Contains (answered limit j x k) (sent_to to m) × (n ≤ l) × (l < n + length (answered limit j x k))) → (to ≡ j) × (m ≡ msg.Register x k)
           go (inl q) = once to j m (msg.Register x k) q at
           go (inr (q, high, top)) = absurd (omega (arith, low, high))
 

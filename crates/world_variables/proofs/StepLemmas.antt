@@ -21,7 +21,7 @@ use Rattle.site_model.specs.Site.{Threads, Counters}
 use Rattle.thread_roster.specs.declared.mode.Mode.TheVariants.{Runs}
 use Rattle.site_model.specs.Messages.{birth}
 use Rattle.site_model.specs.Fit as Fit
-use Rattle.world_model.specs.World.{Mail, Travels, mail_from}
+use Rattle.world_model.specs.World.{Mail, IsOnItsWay, mail_from}
 use Rattle.world_model.specs.World as World
 use Rattle.world_model.specs.Names.{IsMade, IsCentreMade}
 use Rattle.world_model.specs.Matches.{PartsMatch, Placed, IsInSpawn, Waiting, Knowledge}
@@ -83,7 +83,7 @@ module _ (p : List Stmt) (here : ℕ → Name → Type 0) (eqs : ℕ → Store) 
   }
 
   -- a thread leaves by a Spawn
-  pub leave_parts : (k to : ℕ) (n : ThreadName) (code : CodeId) (vars : List VarName) (bundle : List Equation) (st : Stack) (c : State) → ((l a : ℕ) (m : Msg) → Travels mail l a m → l < k) → threads_born p (Some (birth n code vars)) ≡ (n, st) ∷ [] →
+  pub leave_parts : (k to : ℕ) (n : ThreadName) (code : CodeId) (vars : List VarName) (bundle : List Equation) (st : Stack) (c : State) → ((l a : ℕ) (m : Msg) → IsOnItsWay mail l a m → l < k) → threads_born p (Some (birth n code vars)) ≡ (n, st) ∷ [] →
       value_of equal_thread s.threads n ≡ None → Each (Contains s.equations) bundle → Fit.EachOfMsg (IsMade made) (msg.Spawn n code vars bundle) → c.equations ≡ s.equations → c.threads ≡ (n, st) ∷ s.threads → IsCentreMade made c →
       PartsMatch p here eqs records threads made (mail ++ mail_from k (sent_to to (msg.Spawn n code vars bundle) ∷ [])) c
   leave_parts k to n code vars bundle st c below born none carried said e t centred = record {
@@ -118,12 +118,12 @@ module _ (p : List Stmt) (here : ℕ → Name → Type 0) (eqs : ℕ → Store) 
           go (inl q) = (sym (ap (λ (o : Sent). o.to) q), sym (ap (λ (o : Sent). o.msg) q))
           go (inr q) = absurd (nothing _ q)
 
-      here_now : Travels more k to spawn
+      here_now : IsOnItsWay more k to spawn
       here_now =
           let new = new_number mail k out to spawn (Contains-head _ []) in
-          subst (λ (l : ℕ). Travels more l to spawn) (is_k new.0 (from_number mail k out new.0 to spawn new.1) new.2) new.1
+          subst (λ (l : ℕ). IsOnItsWay more l to spawn) (is_k new.0 (from_number mail k out new.0 to spawn new.1) new.2) new.1
         where
-          is_k : (l : ℕ) → Travels mail l to spawn ⊎ (Contains out (sent_to to spawn) × (k ≤ l) × (l < k + 1)) → k ≤ l → l ≡ k
+          is_k : (l : ℕ) → IsOnItsWay mail l to spawn ⊎ (Contains out (sent_to to spawn) × (k ≤ l) × (l < k + 1)) → k ≤ l → l ≡ k
           is_k l (inl h) high = absurd (omega (arith, below l to spawn h, high))
           is_k l (inr h) high = omega (arith, high, h.2)
 
@@ -136,7 +136,7 @@ module _ (p : List Stmt) (here : ℕ → Name → Type 0) (eqs : ℕ → Store) 
       }
         where
           from : (m : ℕ) (o : ThreadName) (su : Stack) (a : ℕ) (code2 : CodeId) (vars2 : List VarName) (bundle2 : List Equation) → threads_born p (Some (birth o code2 vars2)) ≡ (o, su) ∷ [] →
-              Travels mail m a (msg.Spawn o code2 vars2 bundle2) ⊎ (Contains out (sent_to a (msg.Spawn o code2 vars2 bundle2)) × (k ≤ m) × (m < k + 1)) → IsInSpawn p mail m o su ⊎ ((m ≡ k) × (o ≡ n) × (su ≡ st))
+              IsOnItsWay mail m a (msg.Spawn o code2 vars2 bundle2) ⊎ (Contains out (sent_to a (msg.Spawn o code2 vars2 bundle2)) × (k ≤ m) × (m < k + 1)) → IsInSpawn p mail m o su ⊎ ((m ≡ k) × (o ≡ n) × (su ≡ st))
           from m o su a code2 vars2 bundle2 b (inl h) = inl (a, code2, vars2, bundle2, h, b)
           from m o su a code2 vars2 bundle2 b (inr h) =
               let is : msg.Spawn o code2 vars2 bundle2 ≡ msg.Spawn n code vars bundle = (only a _ h.0).1 in
@@ -148,7 +148,7 @@ module _ (p : List Stmt) (here : ℕ → Name → Type 0) (eqs : ℕ → Store) 
               inr (omega (arith, h.1, h.2), named, ap (λ (q : ThreadName × Stack). q.1) pair)
 
   -- a thread lands
-  pub land_parts : (l i : ℕ) (n : ThreadName) (code : CodeId) (vars : List VarName) (bundle : List Equation) (st : Stack) → Travels mail l i (msg.Spawn n code vars bundle) → ((a b : ℕ) (m o : Msg) → Travels mail l a m → Travels mail l b o → (a ≡ b) × (m ≡ o)) →
+  pub land_parts : (l i : ℕ) (n : ThreadName) (code : CodeId) (vars : List VarName) (bundle : List Equation) (st : Stack) → IsOnItsWay mail l i (msg.Spawn n code vars bundle) → ((a b : ℕ) (m o : Msg) → IsOnItsWay mail l a m → IsOnItsWay mail l b o → (a ≡ b) × (m ≡ o)) →
       threads_born p (Some (birth n code vars)) ≡ (n, st) ∷ [] → EachOfStack (here i) st → PartsMatch p here eqs records (fronted threads i n st) made (World.without_number l mail) s
   land_parts l i n code vars bundle st at once born names = record {
     knowledge = knowledge_gone l mail less went eqs s.equations parts.knowledge;
@@ -175,9 +175,9 @@ module _ (p : List Stmt) (here : ℕ → Name → Type 0) (eqs : ℕ → Store) 
       nowhere : (j : ℕ) → value_of equal_thread (threads j) n ≡ None
       nowhere = lands_none p threads mail s.threads l n st parts.placed brings
 
-      is_it : (to : ℕ) (m : Msg) → Travels mail l to m → (to ≡ i) × (m ≡ msg.Spawn n code vars bundle)
+      is_it : (to : ℕ) (m : Msg) → IsOnItsWay mail l to m → (to ≡ i) × (m ≡ msg.Spawn n code vars bundle)
       is_it to m h = once to i m (msg.Spawn n code vars bundle) h at
 
-      other : (to : ℕ) (m : Msg) → Travels mail l to m → (j : ℕ) (x : VarName) → ((m ≡ msg.Register x j) ⊎ ((to ≡ j) × ((t : Term) × (bs : List Equation) × (m ≡ msg.Binding x t bs)))) → ⊥
+      other : (to : ℕ) (m : Msg) → IsOnItsWay mail l to m → (j : ℕ) (x : VarName) → ((m ≡ msg.Register x j) ⊎ ((to ≡ j) × ((t : Term) × (bs : List Equation) × (m ≡ msg.Binding x t bs)))) → ⊥
       other to m h j x (inl e) = let both : msg.Spawn n code vars bundle ≡ msg.Register x j = sym (is_it to m h).1 ∙ e in cc
       other to m h j x (inr (e, (t, bs, q))) = let both : msg.Spawn n code vars bundle ≡ msg.Binding x t bs = sym (is_it to m h).1 ∙ q in cc

@@ -15,7 +15,7 @@ use Rattle.kernel_syntax.specs.declared.stmt.Stmt.{Stmt}
 use Rattle.site_message.specs.declared.message.Msg.{Msg}
 use Rattle.site_message.specs.declared.message.Msg.TheVariants as msg
 use Rattle.site_message.specs.declared.message.Sent.{Sent}
-use Rattle.oz_model.specs.Answers.{Includes}
+use Rattle.oz_model.specs.Answers.{IsPartOf}
 use Rattle.bind_protocol.specs.Records.{Records, knowledge, IsKnown, sites_in}
 use Rattle.bind_protocol.specs.Rows.{after_ask, ask_sends, after_binding, binding}
 use Rattle.site_model.specs.Site.{Threads, Counters}
@@ -38,7 +38,7 @@ use Rattle.world_variables.proofs.LearnLemmas.{IsLearnt, head_or_tail, learnt_kn
 use Rattle.tree_node.proofs.OrderLemmas.{Each-member}
 use Rattle.bind_protocol.proofs.RowCountLemmas.{name_cases}
 use Rattle.bind_protocol.proofs.LearnLemmas.{ask_learns, binding_learns}
-use Rattle.bind_protocol.specs.Learn.{Learns}
+use Rattle.bind_protocol.specs.Learn.{HasLearned}
 
 -- what holds of all of a list holds of some of its elements
 pub each_of : (P : Equation → Type 0) (xs : List Equation) → Each P xs → (ys : List Equation) → Each (Contains xs) ys → Each P ys
@@ -65,7 +65,7 @@ module _ (p : List Stmt) (here : ℕ → Name → Type 0) (eqs : ℕ → Store) 
   free_unless i x unknown r h = unknown r ((parts.kept i).held x r h)
 
   -- who knows names of its own and others
-  learnt_makers : (i : ℕ) (b : Records) (x : VarName) (o : Option Term) → Learns (records i) b x (Some o) → IsMade made (name.Var x) → (x.site ≡ i → IsKnown (records i) x) → KnownAreMade (at_put records i b) made
+  learnt_makers : (i : ℕ) (b : Records) (x : VarName) (o : Option Term) → HasLearned (records i) b x (Some o) → IsMade made (name.Var x) → (x.site ≡ i → IsKnown (records i) x) → KnownAreMade (at_put records i b) made
   learnt_makers i b x o l real known = record {
     own = at_all records i b (λ j (r : Records). (y : VarName) → y.site ≡ j → Fit.IsBelowCounter (made j) (name.Var y) ↔ IsKnown r y) (λ y at. own y at (name_cases y x)) (λ j other y at. parts.makers.own j y at);
     met = at_all records i b (λ j (r : Records). (y : VarName) → IsKnown r y → IsMade made (name.Var y)) (λ y h. met y h (name_cases y x)) (λ j other y h. parts.makers.met j y h);
@@ -103,7 +103,7 @@ module _ (p : List Stmt) (here : ℕ → Name → Type 0) (eqs : ℕ → Store) 
       site : (records i).site ≡ i
       site = (parts.kept i).site
 
-      knows : Learns (records i) b x (Some (Some t))
+      knows : HasLearned (records i) b x (Some (Some t))
       knows = binding_learns (records i) x t (λ e. elsewhere (e ∙ site))
 
       l : IsLearnt eqs records mail mail [] s.equations s.equations i b x t
@@ -181,7 +181,7 @@ module _ (p : List Stmt) (here : ℕ → Name → Type 0) (eqs : ℕ → Store) 
       own_site : x.site ≡ (records i).site
       own_site = own ∙ sym (parts.kept i).site
 
-      knows : Learns (records i) b x (Some (Some t))
+      knows : HasLearned (records i) b x (Some (Some t))
       knows = ask_learns (records i) x t own_site unbound
 
       free : IsFree (eqs i) x
@@ -190,7 +190,7 @@ module _ (p : List Stmt) (here : ℕ → Name → Type 0) (eqs : ℕ → Store) 
       central : IsFree s.equations x
       central r h = free r (subst (λ (j : ℕ). Contains (eqs j) (x, r)) own (parts.knowledge.owned x r h))
 
-      sees : Includes ((x, t) ∷ eqs i) d
+      sees : IsPartOf ((x, t) ∷ eqs i) d
       sees e h = go (Contains-cons_cases _ _ (eqs i) h)
         where
           go : ((x, t) ≡ e) ⊎ Contains (eqs i) e → Contains d e

@@ -11,7 +11,7 @@ use Rattle.tree_node.specs.declared.node.Term.TheVariants as term
 use Rattle.tree_node.specs.declared.pick.Pick.{Pick}
 use Rattle.tree_node.specs.Assoc.{value_of}
 use Rattle.tree_node.specs.Each.{Each, AreDistinct}
-use Rattle.tree_node.specs.Goal.{Allows}
+use Rattle.tree_node.specs.Goal.{IsAllowedBind}
 use Rattle.tree_node.specs.Names.{EachOfEquation, EachOfStack, IsNew}
 use Rattle.tree_node.specs.Order.{IsLower}
 use Rattle.tree_node.specs.State.{Stack, State, equal_thread}
@@ -44,7 +44,7 @@ use Rattle.site_model.specs.Bundle as Bundle
 use Rattle.bind_protocol.specs.Rows as Rows
 use Rattle.oz_model.specs.Step as Step
 use Rattle.site_message.specs.declared.message.Msg.TheVariants as msg
-use Rattle.world_model.specs.World.{World, Travels, after_transition, eqs, records, threads, counters}
+use Rattle.world_model.specs.World.{World, IsOnItsWay, after_transition, eqs, records, threads, counters}
 use Rattle.world_model.specs.Names.{IsHere, IsHereName, IsMade, here_at}
 use Rattle.world_model.proofs.PutLemmas.{at_all, at_here}
 use Rattle.world_variables.proofs.MakeLemmas.{IsNextOf, next_are, next_fresh}
@@ -118,7 +118,7 @@ CellAgrees here c s _ = Unit {0}
 -- what the site knows of the step: it takes names, or it makes a bind of an own variable that goes down
 abbrev pub SiteStep : List Stmt → Store → ℕ → Stack → List NameKind → Option Equation → Type 0
 SiteStep p s i st kinds None = stack_need p s st ≡ Takes kinds
-SiteStep p s i st kinds (Some (u, t)) = (a : Term) × (b : Term) × (stack_need p s st ≡ Binds a b) × Allows s a b (u, t) × IsFree s u × IsLower t u × (u.site ≡ i) × (kinds ≡ [])
+SiteStep p s i st kinds (Some (u, t)) = (a : Term) × (b : Term) × (stack_need p s st ≡ Binds a b) × IsAllowedBind s a b (u, t) × IsFree s u × IsLower t u × (u.site ≡ i) × (kinds ≡ [])
 
 -- the same step at the centre
 record AtCentre (p : List Stmt) (s c : Store) (st : Stack) (kinds : List NameKind) (bind : Option Equation) : Type 0 where
@@ -188,7 +188,7 @@ module _ (p : List Stmt) (w : World) (c : State) (n limit i : ℕ) (th : ThreadN
     pub news : AreFresh c kinds fresh
     pub wider : (x : VarName) → IsHere (w.sites i).records x → IsHere d.site.records x
 
-  pub unit_step : i ≢ 0 → IsSound c.equations → ((l a : ℕ) (m : Msg) → Travels w.mail l a m → l < w.sent) → value_of equal_thread (threads w.sites i) th ≡ Some (st, Runs) → SiteStep p (eqs w.sites i) i st kinds bind →
+  pub unit_step : i ≢ 0 → IsSound c.equations → ((l a : ℕ) (m : Msg) → IsOnItsWay w.mail l a m → l < w.sent) → value_of equal_thread (threads w.sites i) th ≡ Some (st, Runs) → SiteStep p (eqs w.sites i) i st kinds bind →
       CellAgrees (hereF i) c (own_binds limit e.adds (with_fresh_names kinds (w.sites i))).site e.cell → PartsIn p (here_at (records w.sites)) w c → UnitDone
   unit_step real sound below at step agrees h = record { allowed = allowed; parts = subst (λ (x : Effect). PartsIn p hereF (after_transition w i (step_row p n limit k kinds x (w.sites i))) (next p c k)) effect (own_step p hereF w c n limit i k kinds st own h2); effect = effect; names = names; news = news; wider = wider }
     where

@@ -10,14 +10,14 @@ use Rattle.tree_node.specs.Store.{IsSound}
 use Rattle.kernel_syntax.specs.declared.stmt.Stmt.{Stmt}
 use Rattle.site_message.specs.declared.message.Msg.{Msg}
 use Rattle.site_message.specs.declared.message.Msg.TheVariants as msg
-use Rattle.oz_model.specs.Run.{Runs, AtRest, start}
+use Rattle.oz_model.specs.Run.{IsRun, AtRest, start}
 use Rattle.thread_roster.specs.declared.mode.Mode.TheVariants as mode
 use Rattle.site_model.specs.Site.{Threads, thread_state}
 use Rattle.site_model.specs.Bundle.{message_bundle}
 use Rattle.site_model.specs.Transition.{Transition}
 use Rattle.site_model.specs.Messages.{reception}
 use Rattle.site_model.specs.Unit.{IsUnit}
-use Rattle.world_model.specs.World.{World, Mail, Travels, eqs, records, threads, counters, after_transition, after_receipt, start_world}
+use Rattle.world_model.specs.World.{World, Mail, IsOnItsWay, eqs, records, threads, counters, after_transition, after_receipt, start_world}
 use Rattle.world_model.specs.Names.{here_at}
 use Rattle.world_model.specs.Matches.{PartsMatch, IsNumbered}
 use Rattle.world_variables.specs.Plain.{IsPlain, IsCellUnit}
@@ -31,7 +31,7 @@ WorldMatches p w s = PartsIn p (here_at (records w.sites)) w s
 
 -- the machine makes these picks, and is matched by this world then
 abbrev pub IsFollowed : List Stmt → State → Transition → World → Type 0
-IsFollowed p c d w = (z : State) × Runs p c d.picks z × WorldMatches p w z
+IsFollowed p c d w = (z : State) × IsRun p c d.picks z × WorldMatches p w z
 
 -- at the start the sites match the machine
 abbrev pub StartMatches : Type 0
@@ -46,7 +46,7 @@ IsElsewhere i _ = Unit {0}
 abbrev pub MessagesAreFollowed : Type 0
 MessagesAreFollowed =
     (p : List Stmt) (limit : ℕ) (w : World) (c : State) (k i : ℕ) (m : Msg) → WorldMatches p w c → IsNumbered w.sent w.mail → i ≢ 0 → IsSound c.equations →
-    IsPlain m → IsElsewhere i m → Travels w.mail k i m → Each (Contains c.equations) (message_bundle m) →
+    IsPlain m → IsElsewhere i m → IsOnItsWay w.mail k i m → Each (Contains c.equations) (message_bundle m) →
     IsFollowed p c (reception p limit m (w.sites i)) (after_receipt (Some k) (after_transition w i (reception p limit m (w.sites i))))
 
 -- a unit of a thread of site i: it exchanges a cell, or the machine follows
@@ -58,7 +58,7 @@ UnitsAreFollowed =
 
 -- nothing travels, no thread can go on, and none waits for a cell
 pub record IsStill (threads : ℕ → Threads) (mail : Mail) : Type 0 where
-  pub none : (k to : ℕ) (m : Msg) → Travels mail k to m → ⊥
+  pub none : (k to : ℕ) (m : Msg) → IsOnItsWay mail k to m → ⊥
   pub waits : (i : ℕ) (n : ThreadName) (st : Stack) → value_of equal_thread (threads i) n ≡ Some (st, mode.Runs) → ⊥
   pub cells : (i : ℕ) (n : ThreadName) (st : Stack) (d : CellName) → value_of equal_thread (threads i) n ≡ Some (st, mode.WaitsFor d) → ⊥
 

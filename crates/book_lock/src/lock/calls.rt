@@ -1,6 +1,6 @@
 // The calls of the lock.
 ghost use Rattle.std.specs.Prelude.{◌≡◌, ℕ, ◌<◌, ◌≤◌, ◌+◌, ◌%◌, ◌^◌, [], ◌∷◌, ◌++◌, length, false, IfOk, IfErr, MatchResult};
-ghost use Rattle.book_lock.specs.Rule.{Agrees, IsLawfulChange, Each, part, view, outside, parts_from};
+ghost use Rattle.book_lock.specs.Rule.{AreInAgreement, IsLawfulChange, Each, part, view, outside, parts_from};
 ghost use Rattle.book_lock.specs.Seats.{lock_id, lock_seats, last_seen, seat_part, sight_taken, IsOutsideOf, IsSeatOutside, IsSeatInside, IsHeldBy, HasTurn, HasNoTicket, HasTicket, my_part, AreNewSeats};
 
 use super::{CountedLock, Held, SiteSeat};
@@ -41,7 +41,7 @@ impl<B: Story> CountedLock<B> {
         ensures held { IsHeldBy (lock_id self.now) seat.old.site result }
         ensures inside { IsSeatInside seat.new × (seat.new.site ≡ seat.old.site) }
         ensures taken { sight_taken result ≡ B.sight result.value }
-        ensures agrees { Agrees seat.old.site (B.sight result.value) (last_seen seat.old) }
+        ensures agrees { AreInAgreement seat.old.site (B.sight result.value) (last_seen seat.old) }
     {
         let badge = mem::replace(&mut seat.badge, Badge::blank());
         let mut inner = badge.into_seat::<Option<B>>();
@@ -87,7 +87,7 @@ impl<B: Story> CountedLock<B> {
         requires own { inner.old.table_id ≡ self.now.table.shared.table_id }
         requires waits { HasTicket ticket inner.old.me }
         ensures own { inner.new.table_id ≡ inner.old.table_id }
-        ensures value { MatchResult result (λ b. Agrees (my_part inner.old.me).site (B.sight b) (my_part inner.old.me).seen × HasTurn inner.new.me (part (my_part inner.old.me).site (B.sight b))) (λ n. inner.new.me ≡ inner.old.me) }
+        ensures value { MatchResult result (λ b. AreInAgreement (my_part inner.old.me).site (B.sight b) (my_part inner.old.me).seen × HasTurn inner.new.me (part (my_part inner.old.me).site (B.sight b))) (λ n. inner.new.me ≡ inner.old.me) }
     {
         let serving = self.table.shared.load::<Look<B>>(inner, SERVING);
         if serving != ticket {

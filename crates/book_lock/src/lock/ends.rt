@@ -1,6 +1,6 @@
 // How a lock is made, and how it ends.
 ghost use Rattle.std.specs.Prelude.{◌≡◌, ◌≢◌, ℕ, ◌<◌, ◌≤◌, ◌+◌, [], ◌∷◌, ◌++◌, map, length, None, Some, IfOk, IfErr, vec_len, vec_capacity};
-ghost use Rattle.book_lock.specs.Rule.{Agrees, Each, part, outside, parts_from};
+ghost use Rattle.book_lock.specs.Rule.{AreInAgreement, Each, part, outside, parts_from};
 ghost use Rattle.book_lock.specs.Seats.{lock_id, lock_seats, last_seen, seat_part, IsOutsideOf, HasNoTicket, my_part, AreNewSeats};
 
 use super::{CountedLock, SiteSeat};
@@ -73,7 +73,7 @@ impl<B: Story> CountedLock<B> {
     pub fn finish(self, seats: Vec<SiteSeat>) -> B
         requires all { (length seats.items ≡ lock_seats self) × (0 < length seats.items) }
         requires outside { Each (IsOutsideOf (lock_id self)) seats.items }
-        ensures { Each (λ s. Agrees s.site (B.sight result) (last_seen s)) seats.items }
+        ensures { Each (λ s. AreInAgreement s.site (B.sight result) (last_seen s)) seats.items }
     {
         let all = self.gather(seats);
         let CountedLock { table, board: _ } = self;

@@ -1,5 +1,5 @@
 use Rattle.std.proofs.Common.{rules, arith, ◌≡◌, ◌+◌, drop, Ok, Err, sym, subst, List, ℕ}
-use Rattle.oz_lexer.specs.Tokens.{Begins}
+use Rattle.oz_lexer.specs.Tokens.{IsLexemeAt}
 use Rattle.oz_lexer.specs.Scan.{front_of}
 use Rattle.oz_lexer.proofs.Cuts.{token_is_cut, fault_within}
 use Rattle.oz_lexer.proofs.Begins.{err_begins}
@@ -31,7 +31,7 @@ pub returns-in-Ok-clause-begins : goal.returns-in-Ok-clause-begins
 returns-in-Ok-clause-begins c =
     let found : front_of (drop c.args.start c.args.text.now) ≡ Ok (c.in-Ok.kind, c.in-Ok.length) = search rules in
     let cut = token_is_cut c.args.text.now c.args.start c.in-Ok.kind c.in-Ok.length c.utf8.text c.requires.start c.requires.blank found in
-    subst (λ (xs : List ℕ). Begins c.args.start (drop c.args.start c.args.text.now) (Ok c.in-Ok.kind) c.args.start xs (drop (c.args.start + c.in-Ok.length) c.args.text.now)) (sym c.slice.ensures) cut.begins
+    subst (λ (xs : List ℕ). IsLexemeAt c.args.start (drop c.args.start c.args.text.now) (Ok c.in-Ok.kind) c.args.start xs (drop (c.args.start + c.in-Ok.length) c.args.text.now)) (sym c.slice.ensures) cut.begins
 
 pub returns-in-Ok-clause-slice : goal.returns-in-Ok-clause-slice
 returns-in-Ok-clause-slice c =

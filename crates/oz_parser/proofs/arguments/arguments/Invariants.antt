@@ -4,7 +4,7 @@ use Rattle.oz_parser.proofs.arguments.arguments.Given as goal
 
 abbrev pub invariant-loop-rest : goal.invariant-loop-rest
 invariant-loop-rest l = record {
-  read : arguments_at l.scope l.ids.items l.rest ≡ arguments_at l.scope [] l.symbols;
+  read : arguments_at l.scope l.positions.items l.rest ≡ arguments_at l.scope [] l.symbols;
   shorter : length l.rest ≤ length l.symbols;
 }
 

@@ -4,7 +4,7 @@ use Rattle.oz_parser.proofs.arguments.wanted.Given as goal
 
 abbrev pub invariant-loop-missing : goal.invariant-loop-missing
 invariant-loop-missing l = record {
-  read : wanted_at l.scope l.missing l.ids.items l.rest ≡ wanted_at l.scope l.count [] l.symbols;
+  read : wanted_at l.scope l.missing l.positions.items l.rest ≡ wanted_at l.scope l.count [] l.symbols;
   shorter : length l.rest ≤ length l.symbols;
 }
 

@@ -8,7 +8,7 @@ use Rattle.oz_words.specs.declared.options.Options.{Options}
 use Rattle.oz_words.specs.declared.options.WordsError.{WordsError}
 use Rattle.oz_words.specs.declared.options.WordsError.TheVariants.{Usage, Memory}
 use Rattle.oz_words.specs.Parsed.{words_rows}
-use Rattle.oz_words.specs.Words.{ReadsAction, ReadsWords, Says}
+use Rattle.oz_words.specs.Words.{ReadsAction, ReadsWords, IsNumberText}
 use Rattle.oz_words.proofs.options.read_options.Goals as goal
 
 -- what a getter reads, by the rows
@@ -28,10 +28,10 @@ returns-clause-text c =
     let action = action_by_rows f _ (Ok c.in_ok-action.action) p.rows c.in_ok-action.ensures.text in (
       (p.no_fault, action.0),
       record {
-        sites = subst (λ (t : Option Text). Says t c.number_of.result) (by_rows f _ _ p.rows) c.number_of.ensures.text;
-        workers = subst (λ (t : Option Text). Says t c.number_of-2.result) (by_rows f _ _ p.rows) c.number_of-2.ensures.text;
-        steps = subst (λ (t : Option Text). Says t c.number_of-3.result) (by_rows f _ _ p.rows) c.number_of-3.ensures.text;
-        messages = subst (λ (t : Option Text). Says t c.number_of-4.result) (by_rows f _ _ p.rows) c.number_of-4.ensures.text;
+        sites = subst (λ (t : Option Text). IsNumberText t c.number_of.result) (by_rows f _ _ p.rows) c.number_of.ensures.text;
+        workers = subst (λ (t : Option Text). IsNumberText t c.number_of-2.result) (by_rows f _ _ p.rows) c.number_of-2.ensures.text;
+        steps = subst (λ (t : Option Text). IsNumberText t c.number_of-3.result) (by_rows f _ _ p.rows) c.number_of-3.ensures.text;
+        messages = subst (λ (t : Option Text). IsNumberText t c.number_of-4.result) (by_rows f _ _ p.rows) c.number_of-4.ensures.text;
         action = action.1;
       },
     )

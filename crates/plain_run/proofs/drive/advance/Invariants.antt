@@ -1,12 +1,12 @@
 use Rattle.std.proofs.Common.{◌≡◌, ◌≤◌}
-use Rattle.plain_run.specs.Going.{IsGoing, all_runnable, left}
+use Rattle.plain_run.specs.Going.{IsGoing, all_runnable, turns_left}
 use Rattle.plain_run.proofs.drive.advance.Given as goal
 
 abbrev pub invariant-loop-site : goal.invariant-loop-site
 invariant-loop-site l = record {
   program : l.world.program ≡ l.initial.world.program;
   going : IsGoing l.limits l.initial.world.program l.world;
-  left : left l.limits l.world ≡ left l.limits l.initial.world;
+  left : turns_left l.limits l.world ≡ turns_left l.limits l.initial.world;
   last : l.last ≤ l.limits.sites;
 }
 

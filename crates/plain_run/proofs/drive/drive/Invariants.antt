@@ -1,5 +1,5 @@
 use Rattle.std.proofs.Common.{◌≡◌, ◌≤◌}
-use Rattle.plain_run.specs.Going.{IsGoing, left}
+use Rattle.plain_run.specs.Going.{IsGoing, turns_left}
 use Rattle.plain_run.proofs.drive.drive.Given as goal
 
 abbrev pub invariant-loop-site : goal.invariant-loop-site
@@ -11,4 +11,4 @@ invariant-loop-site l = record {
 }
 
 abbrev pub decreases-loop-site : goal.decreases-loop-site
-decreases-loop-site l = left l.limits l.world
+decreases-loop-site l = turns_left l.limits l.world

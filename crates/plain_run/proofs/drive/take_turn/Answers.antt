@@ -1,6 +1,6 @@
 use Rattle.std.proofs.Common.{◌≡◌, ◌∙◌, ◌-◌, ap, sym, subst, ℕ, Bool, true, false}
 use Rattle.std.specs.Prelude.{is_some, nat_lt, min}
-use Rattle.plain_run.specs.Going.{Progresses}
+use Rattle.plain_run.specs.Going.{IsProgress}
 use Rattle.plain_run.proofs.ProgressLemmas.{on_ok, made, took, went, busy_runs}
 use Rattle.plain_run.proofs.drive.take_turn.Goals as goal
 
@@ -10,7 +10,7 @@ returns-then-is_some-clause-progress c =
     let turn = on_ok c.turn.result _ ok c.turn.ensures.turn in
     let run = on_ok c.turn.result _ ok c.turn.ensures.run in
     let some : is_some c.next_for-place.result ≡ true = sym c.is_some.ensures ∙ c.if-is_some.true in
-    subst (λ (b : Bool). Progresses c.args.limits c.args.world.now c.turn.new.self b) (sym c.if-is_some.true)
+    subst (λ (b : Bool). IsProgress c.args.limits c.args.world.now c.turn.new.self b) (sym c.if-is_some.true)
     (took c.args.limits c.args.world.now.program c.args.world.now c.turn.new.self c.args.site c.min-units.result c.next_for-place.result c.requires.going c.requires.some c.requires.among turn run (c.min-units.ensures ∙ ap (λ (k : ℕ). min (c.args.limits.steps - k) 64) c.steps-steps.ensures) some)
 
 pub returns-else-is_some-clause-progress : goal.returns-else-is_some-clause-progress
@@ -21,7 +21,7 @@ returns-else-is_some-clause-progress c =
     let none : is_some c.next_for-place.result ≡ false = sym c.is_some.ensures ∙ c.if-is_some.false in
     let units = c.min-units.ensures ∙ ap (λ (k : ℕ). min (c.args.limits.steps - k) 64) c.steps-steps.ensures in
     let busy = busy_runs c.args.world.now c.args.site c.next_for-place.result c.requires.busy c.next_for-place.ensures.place none in
-    subst (λ (b : Bool). Progresses c.args.limits c.args.world.now c.turn.new.self b) (λ i. nat_lt (sym c.steps-steps.ensures i) (sym c.steps.ensures i))
+    subst (λ (b : Bool). IsProgress c.args.limits c.args.world.now c.turn.new.self b) (λ i. nat_lt (sym c.steps-steps.ensures i) (sym c.steps.ensures i))
     (went c.args.limits c.args.world.now.program c.args.world.now c.turn.new.self c.args.site c.min-units.result c.next_for-place.result c.requires.going c.requires.some c.requires.among turn run units none busy)
 
 pub returns-then-is_some-clause-made : goal.returns-then-is_some-clause-made

@@ -1,6 +1,6 @@
 use Rattle.std.proofs.Common.{◌≡◌, ◌<◌, [], ◌∷◌, ◌++◌, List, length, ap, ◌∙◌, append_assoc, rules, refl, sym, subst, arith}
 use Rattle.book_lock.specs.declared.lock.SiteSeat.{SiteSeat}
-use Rattle.book_lock.specs.Rule.{Agrees, Each}
+use Rattle.book_lock.specs.Rule.{AreInAgreement, Each}
 use Rattle.book_lock.specs.Seats.{last_seen, lock_id, IsOutsideOf}
 use Rattle.message_book.specs.Book.{sight_of}
 use Rattle.site_worker.specs.declared.host.Host.{Host}
@@ -43,7 +43,7 @@ returns-clause-run c p l of complete =
     let all : c.args.hosts.items ≡ gone.0 = gone.1 ∙ ap (λ l. l ++ gone.0) none in
     let table = lock_id c.args.lock in
     let x = sight_of c.finish-book.result in
-    let each : Each (λ (s : SiteSeat). Agrees s.site x (last_seen s)) (back_seats gone.0) = subst (Each (λ (s : SiteSeat). Agrees s.site x (last_seen s))) gone.2 c.finish-book.ensures in
+    let each : Each (λ (s : SiteSeat). AreInAgreement s.site x (last_seen s)) (back_seats gone.0) = subst (Each (λ (s : SiteSeat). AreInAgreement s.site x (last_seen s))) gone.2 c.finish-book.ensures in
     world_run table p l x gone.0 (subst (λ (hs : List Host). 0 < length hs) all c.requires.all.1) (subst (AreHosts table) all c.requires.hosts) (subst (AreHostsOf p (fixed_part l)) all of) (subst (IsComplete l.sites) all complete) each c.journal.ensures.wired c.journal.ensures.sites
 
 pub returns-clause-limits : goal.returns-clause-limits
@@ -52,7 +52,7 @@ returns-clause-limits c p l of =
     let none : c.loop-host.hosts.items ≡ [] = none_popped c.loop-host.hosts.items _ c.pop.result (search rules) c.pop.ensures.variant c.in_default.not-Some in
     let all : c.args.hosts.items ≡ gone.0 = gone.1 ∙ ap (λ l. l ++ gone.0) none in
     let x = sight_of c.finish-book.result in
-    let each : Each (λ (s : SiteSeat). Agrees s.site x (last_seen s)) (back_seats gone.0) = subst (Each (λ (s : SiteSeat). Agrees s.site x (last_seen s))) gone.2 c.finish-book.ensures in
+    let each : Each (λ (s : SiteSeat). AreInAgreement s.site x (last_seen s)) (back_seats gone.0) = subst (Each (λ (s : SiteSeat). AreInAgreement s.site x (last_seen s))) gone.2 c.finish-book.ensures in
     limits_same p c.finish-book.result.limits l x gone.0 refl (subst (λ (hs : List Host). 0 < length hs) all c.requires.all.1) (subst (AreHostsOf p (fixed_part l)) all of) each
 
 pub returns-clause-over : goal.returns-clause-over
@@ -61,5 +61,5 @@ returns-clause-over c some =
     let none : c.loop-host.hosts.items ≡ [] = none_popped c.loop-host.hosts.items _ c.pop.result (search rules) c.pop.ensures.variant c.in_default.not-Some in
     let all : c.args.hosts.items ≡ gone.0 = gone.1 ∙ ap (λ l. l ++ gone.0) none in
     let x = sight_of c.finish-book.result in
-    let each : Each (λ (s : SiteSeat). Agrees s.site x (last_seen s)) (back_seats gone.0) = subst (Each (λ (s : SiteSeat). Agrees s.site x (last_seen s))) gone.2 c.finish-book.ensures in
+    let each : Each (λ (s : SiteSeat). AreInAgreement s.site x (last_seen s)) (back_seats gone.0) = subst (Each (λ (s : SiteSeat). AreInAgreement s.site x (last_seen s))) gone.2 c.finish-book.ensures in
     over_stays x gone.0 each (subst IsSomeOver all some)

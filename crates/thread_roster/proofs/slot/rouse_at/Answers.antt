@@ -6,18 +6,18 @@ use Rattle.thread_roster.proofs.slot.rouse_at.Goals as goal
 
 pub returns-in-None-clause-slots : goal.returns-in-None-clause-slots
 returns-in-None-clause-slots g c =
-    roused_none c.args.slots.now.items _ c.args.place c.args.var
-    (at_index c.args.slots.now.items c.args.place _ c.requires.inside c.index_mut.ensures.value ∙ ap Some c.in-None.is) (ap (slice_set c.args.slots.now.items c.args.place) c.in-None.is)
+    roused_none c.args.slots.now.items _ c.args.slot c.args.var
+    (at_index c.args.slots.now.items c.args.slot _ c.requires.inside c.index_mut.ensures.value ∙ ap Some c.in-None.is) (ap (slice_set c.args.slots.now.items c.args.slot) c.in-None.is)
 
 pub returns-in-Some-clause-slots : goal.returns-in-Some-clause-slots
 returns-in-Some-clause-slots g c =
-    roused_some c.args.slots.now.items _ c.args.place c.args.var c.in-Some.held c.rouse.new.held
-    (at_index c.args.slots.now.items c.args.place _ c.requires.inside c.index_mut.ensures.value ∙ ap Some c.in-Some.is) c.rouse.ensures.held refl
+    roused_some c.args.slots.now.items _ c.args.slot c.args.var c.in-Some.held c.rouse.new.held
+    (at_index c.args.slots.now.items c.args.slot _ c.requires.inside c.index_mut.ensures.value ∙ ap Some c.in-Some.is) c.rouse.ensures.held refl
 
 pub returns-in-Some-clause-count : goal.returns-in-Some-clause-count
 returns-in-Some-clause-count g c =
     let set =
-    total_set waiting c.args.slots.now.items c.args.place c.in-Some.held c.rouse.new.held
-    (at_index c.args.slots.now.items c.args.place _ c.requires.inside c.index_mut.ensures.value ∙ ap Some c.in-Some.is) in
+    total_set waiting c.args.slots.now.items c.args.slot c.in-Some.held c.rouse.new.held
+    (at_index c.args.slots.now.items c.args.slot _ c.requires.inside c.index_mut.ensures.value ∙ ap Some c.in-Some.is) in
     let count = c.rouse.ensures.count in
     omega (arith, set, count)

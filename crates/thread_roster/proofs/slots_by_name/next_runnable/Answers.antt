@@ -8,17 +8,17 @@ pub returns-in-Some-runnable-clause-some : goal.returns-in-Some-runnable-clause-
 returns-in-Some-runnable-clause-some g c =
     let queue = c.in-Some.ensures.some in
     let held = c.in-Some-runnable.ensures.some in
-    let inside : AreInside c.args.slots.now.items (c.in-Some.place ∷ queue.0) = subst (λ (q : List ℕ). AreInside c.args.slots.now.items q) queue.1 c.slots.invariant.inside in
-    (c.in-Some.place, queue.0, held.0, queue.1, at_index c.args.slots.now.items c.in-Some.place _ inside.0 c.index.ensures ∙ ap Some held.1, held.2, held.3)
+    let inside : AreInside c.args.slots.now.items (c.in-Some.slot ∷ queue.0) = subst (λ (q : List ℕ). AreInside c.args.slots.now.items q) queue.1 c.slots.invariant.inside in
+    (c.in-Some.slot, queue.0, held.0, queue.1, at_index c.args.slots.now.items c.in-Some.slot _ inside.0 c.index.ensures ∙ ap Some held.1, held.2, held.3)
 
 pub slots-preserved : goal.slots-preserved
 slots-preserved g c =
     let first = c.in-Some.ensures.some in
-    let queue = popped c.slots.queue c.pop.new.self first.0 c.in-Some.place c.pop.result c.pop.ensures.some c.pop.ensures.none first.1 in
-    let inside : AreInside c.args.slots.now.items (c.in-Some.place ∷ c.pop.new.self) = subst (λ (q : List ℕ). AreInside c.args.slots.now.items q) queue c.slots.invariant.inside in
+    let queue = popped c.slots.queue c.pop.new.self first.0 c.in-Some.slot c.pop.result c.pop.ensures.some c.pop.ensures.none first.1 in
+    let inside : AreInside c.args.slots.now.items (c.in-Some.slot ∷ c.pop.new.self) = subst (λ (q : List ℕ). AreInside c.args.slots.now.items q) queue c.slots.invariant.inside in
     record {
       inside = inside.1;
       rest =
-          rest_more c.args.slots.now.items c.args.queue.now c.slots.queue c.pop.new.self c.in-Some.place c.slots.invariant.rest queue
-          (stands_as c.args.slots.now.items c.in-Some.place _ (at_index c.args.slots.now.items c.in-Some.place _ inside.0 c.index.ensures) c.in_default-runnable.ensures.none);
+          rest_more c.args.slots.now.items c.args.queue.now c.slots.queue c.pop.new.self c.in-Some.slot c.slots.invariant.rest queue
+          (stands_as c.args.slots.now.items c.in-Some.slot _ (at_index c.args.slots.now.items c.in-Some.slot _ inside.0 c.index.ensures) c.in_default-runnable.ensures.none);
     }

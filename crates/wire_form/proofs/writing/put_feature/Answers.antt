@@ -3,7 +3,7 @@ use Rattle.std.specs.Prelude.{FitsSigned}
 use Rattle.std.specs.Int.{w64}
 use Rattle.std.proofs.lemmas.Int.{to_z-of_z}
 use Rattle.wire_form.specs.Format.{integer}
-use Rattle.wire_form.specs.Writing.{Writes}
+use Rattle.wire_form.specs.Writing.{IsWritten}
 use Rattle.wire_form.proofs.WriteLaws.{writes_tag}
 use Rattle.wire_form.proofs.writing.put_feature.Goals as goal
 
@@ -12,5 +12,5 @@ returns-in_ok-push-in-Int c =
     let fits : FitsSigned w64 c.in-Int.number = search rules in
     let mid = c.push.new.self.items in
     let new = c.put_integer.new.out.items in
-    let put = subst (λ (z : ℤ). Writes integer z mid new c.put_integer.result) (to_z-of_z w64 c.in-Int.number fits) c.put_integer.ensures in
+    let put = subst (λ (z : ℤ). IsWritten integer z mid new c.put_integer.result) (to_z-of_z w64 c.in-Int.number fits) c.put_integer.ensures in
     rw c.in-Int.is (writes_tag 0 integer c.in-Int.number c.args.out.now.items mid new c.put_integer.result c.in_ok-push-in-Int.ensures.items put)

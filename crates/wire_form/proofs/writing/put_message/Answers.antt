@@ -3,7 +3,7 @@ use Rattle.tree_node.specs.declared.names.VarName.{VarName}
 use Rattle.tree_node.specs.Store.{Equation}
 use Rattle.wire_form.specs.Field.{◌then◌}
 use Rattle.wire_form.specs.Format as format
-use Rattle.wire_form.specs.Writing.{Writes}
+use Rattle.wire_form.specs.Writing.{IsWritten}
 use Rattle.wire_form.proofs.WriteLaws.{writes_tag, writes_then}
 use Rattle.wire_form.proofs.writing.put_message.Goals as goal
 
@@ -17,7 +17,7 @@ returns-in_ok-put_variables-in-Spawn c =
     let new = c.put_bundle.new.out.items in
     let r = c.put_bundle.result in
     let vars = subst (λ (xs : List VarName). format.variables.Has xs × (four ≡ three ++ format.variables.spelling xs)) c.as_slice.ensures c.in_ok-put_variables-in-Spawn.ensures in
-    let equations = subst (λ (es : List Equation). Writes format.bundle es four new r) c.as_slice-in-Spawn.ensures c.put_bundle.ensures in
+    let equations = subst (λ (es : List Equation). IsWritten format.bundle es four new r) c.as_slice-in-Spawn.ensures c.put_bundle.ensures in
     rw m.is
     (writes_tag 1 format.spawn (m.thread, (m.code, (m.vars, m.bundle))) c.args.out.now.items one new r c.in_ok-push-in-Spawn.ensures.items
     (writes_then format.thread_name (format.code then format.variables then format.bundle) m.thread (m.code, (m.vars, m.bundle)) one two new r c.in_ok-put_thread-in-Spawn.ensures
@@ -44,7 +44,7 @@ returns-in_ok-put_term-in-BindReq c =
     let four = c.put_term.new.out.items in
     let new = c.put_bundle-in-BindReq.new.out.items in
     let r = c.put_bundle-in-BindReq.result in
-    let equations = subst (λ (es : List Equation). Writes format.bundle es four new r) c.as_slice-in-BindReq.ensures c.put_bundle-in-BindReq.ensures in
+    let equations = subst (λ (es : List Equation). IsWritten format.bundle es four new r) c.as_slice-in-BindReq.ensures c.put_bundle-in-BindReq.ensures in
     rw m.is
     (writes_tag 3 format.bind_request (m.var, (m.thread, (m.term, m.bundle))) c.args.out.now.items one new r c.in_ok-push-in-BindReq.ensures.items
     (writes_then format.var_name (format.thread_name then format.term then format.bundle) m.var (m.thread, (m.term, m.bundle)) one two new r c.in_ok-put_var-in-BindReq.ensures
@@ -81,7 +81,7 @@ returns-in_ok-put_var-in-Put c =
     let three = c.put_var-in-Put.new.out.items in
     let new = c.put_bundle-in-Put.new.out.items in
     let r = c.put_bundle-in-Put.result in
-    let equations = subst (λ (es : List Equation). Writes format.bundle es three new r) c.as_slice-in-Put.ensures c.put_bundle-in-Put.ensures in
+    let equations = subst (λ (es : List Equation). IsWritten format.bundle es three new r) c.as_slice-in-Put.ensures c.put_bundle-in-Put.ensures in
     rw m.is
     (writes_tag 7 format.put (m.cell, (m.content, m.bundle)) c.args.out.now.items one new r c.in_ok-push-in-Put.ensures.items
     (writes_then format.cell_name (format.var_name then format.bundle) m.cell (m.content, m.bundle) one two new r c.in_ok-put_cell-in-Put.ensures

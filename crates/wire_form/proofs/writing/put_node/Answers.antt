@@ -6,7 +6,7 @@ use Rattle.tree_node.specs.declared.names.VarName.{VarName}
 use Rattle.wire_form.specs.Field.{◌then◌}
 use Rattle.wire_form.specs.Format as format
 use Rattle.wire_form.specs.Format.{integer}
-use Rattle.wire_form.specs.Writing.{Writes}
+use Rattle.wire_form.specs.Writing.{IsWritten}
 use Rattle.wire_form.proofs.WriteLaws.{writes_tag, writes_then, formals_written}
 use Rattle.wire_form.proofs.writing.put_node.Goals as goal
 
@@ -15,7 +15,7 @@ returns-in_ok-push-in-Int c =
     let fits : FitsSigned w64 c.in-Int.number = search rules in
     let mid = c.push.new.self.items in
     let new = c.put_integer.new.out.items in
-    let put = subst (λ (z : ℤ). Writes integer z mid new c.put_integer.result) (to_z-of_z w64 c.in-Int.number fits) c.put_integer.ensures in
+    let put = subst (λ (z : ℤ). IsWritten integer z mid new c.put_integer.result) (to_z-of_z w64 c.in-Int.number fits) c.put_integer.ensures in
     rw c.in-Int.is (writes_tag 1 integer c.in-Int.number c.args.out.now.items mid new c.put_integer.result c.in_ok-push-in-Int.ensures.items put)
 
 pub returns-in_ok-push-in-Proc-2 : goal.returns-in_ok-push-in-Proc-2
@@ -29,7 +29,7 @@ returns-in_ok-push-in-Proc-2 c =
     let r = c.put_variables.result in
     let fits = rw m.is at c.requires in
     let formals = formals_written m.count three four fits.1 c.in_ok-push-in-Proc-2.ensures.items in
-    let vars = subst (λ (xs : List VarName). Writes format.variables xs four new r) c.as_slice-in-Proc.ensures c.put_variables.ensures in
+    let vars = subst (λ (xs : List VarName). IsWritten format.variables xs four new r) c.as_slice-in-Proc.ensures c.put_variables.ensures in
     rw m.is
     (writes_tag 4 format.procedure (m.name, (m.code, (m.count, m.vars))) c.args.out.now.items one new r c.in_ok-push-in-Proc.ensures.items
     (writes_then format.proc_name (format.code then format.formals then format.variables) m.name (m.code, (m.count, m.vars)) one two new r c.in_ok-put_proc-in-Proc.ensures

@@ -5,7 +5,7 @@ use Rattle.oz_grammar.specs.Points.{expected_after}
 use Rattle.oz_grammar.specs.Table.{code_at}
 use Rattle.oz_grammar.specs.declared.fault.Fault.{Fault}
 use Rattle.oz_grammar.specs.Reading.{Out, stmt_at, is_end_of}
-use Rattle.oz_phrases.specs.Gives.{Gives}
+use Rattle.oz_phrases.specs.Gives.{IsReadAs}
 use Rattle.oz_parser.specs.State.{state_of, out_of}
 use Rattle.oz_parser.specs.Heads.{begun, if_head, case_head}
 use Rattle.oz_parser.proofs.Unfold.{more_goes, more_refused, state_ends, if_block, case_block, branches_behind}
@@ -49,7 +49,7 @@ if_statement-returns-clause-read t c =
     let outer : c.len-outer.result ≡ length c.args.self.now.scope = search rules in
     let both = if_block (stmt_at c.args.depth) c.args.self.now.scope c.args.self.now.rows c.args.symbols.now
     ∙ branches_behind (stmt_at c.args.depth) if_head c.args.self.now c.open.new.self c.args.symbols.now _ c.len-owner.result c.len-outer.result read opened owner outer in
-    subst (λ (r : Result Out Fault). Gives (λ (x : Unit {0}). out_of c.branches.new.self) c.branches.result r) (sym both) c.branches.ensures.read
+    subst (λ (r : Result Out Fault). IsReadAs (λ (x : Unit {0}). out_of c.branches.new.self) c.branches.result r) (sym both) c.branches.ensures.read
 
 pub case_statement-returns-clause-read : goal.case_statement-returns-clause-read
 case_statement-returns-clause-read t c =
@@ -59,4 +59,4 @@ case_statement-returns-clause-read t c =
     let outer : c.len-outer.result ≡ length c.args.self.now.scope = search rules in
     let both = case_block (stmt_at c.args.depth) c.args.self.now.scope c.args.self.now.rows c.args.symbols.now
     ∙ branches_behind (stmt_at c.args.depth) case_head c.args.self.now c.open.new.self c.args.symbols.now _ c.len-owner.result c.len-outer.result read opened owner outer in
-    subst (λ (r : Result Out Fault). Gives (λ (x : Unit {0}). out_of c.branches.new.self) c.branches.result r) (sym both) c.branches.ensures.read
+    subst (λ (r : Result Out Fault). IsReadAs (λ (x : Unit {0}). out_of c.branches.new.self) c.branches.result r) (sym both) c.branches.ensures.read

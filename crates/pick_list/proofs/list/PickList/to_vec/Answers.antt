@@ -9,14 +9,14 @@ pub picks-preserved : goal.picks-preserved
 picks-preserved c =
     let l = c.picks in
     let n = l.pick - 1 in
-    let old = columns_of l.runs.now l.takes.now l.names.now l.binds.now in
-    let new = columns_of (take c.runs_before.result l.runs.now) (take c.takes_before-taken.result.0 l.takes.now) (take c.takes_before-taken.result.1 l.names.now) (take c.binds_before.result l.binds.now) in
-    let runs = c.runs_before.ensures.before in
-    let takes = c.takes_before-taken.ensures.before l.names.now refl in
+    let old = columns_of l.stretches.now l.namings.now l.names.now l.binds.now in
+    let new = columns_of (take c.stretches_before.result l.stretches.now) (take c.namings_before-taken.result.0 l.namings.now) (take c.namings_before-taken.result.1 l.names.now) (take c.binds_before.result l.binds.now) in
+    let stretches = c.stretches_before.ensures.before in
+    let namings = c.namings_before-taken.ensures.before l.names.now refl in
     let binds = c.binds_before.ensures.before in
     record {
-      columns = record { runs = runs.runs; takes = takes.takes; binds = binds.binds };
+      columns = record { stretches = stretches.stretches; namings = namings.namings; binds = binds.binds };
       told =
           ap (λ (ks : List Pick). picks_below new n ++ reverse ks) c.in_ok-push.ensures.items
-          ∙ told_before old new l.pick n l.picks.items c.in_ok-last.last c.args.self.now (let some = c.picks-test.true in omega arith) (picks_before old new n runs takes binds) c.in_ok-last.ensures l.invariant.told;
+          ∙ told_before old new l.pick n l.picks.items c.in_ok-last.last c.args.self.now (let some = c.picks-test.true in omega arith) (picks_before old new n stretches namings binds) c.in_ok-last.ensures l.invariant.told;
     }

@@ -17,12 +17,12 @@ overflow_add-self g c =
 
 pub invariant_of-self-2 : goal.invariant_of-self-2
 invariant_of-self-2 g c =
-    let place = c.len-place.ensures ∙ c.self.inside.slots.ok.0 in
-    kept_born c.self.inside.slots.items c.push_reserved.new.self.items c.self.inside.places.entries c.insert.new.self.entries c.self.inside.queue c.push.new.self c.self.inside.waiters c.self.inside.living c.self.inside.waiting _ c.args.name (record { name = c.args.name; mode = stands.Runs; value = c.args.value }) c.self.invariant
-    (no_place c.self.inside.slots.items (slot_in c.self.inside.places.entries) c.args.name c.self.invariant.placed (ap (λ s. value_of equal_thread s.living c.args.name) c.self.view_is ∙ c.requires.new)) refl refl
+    let slot = c.len-slot.ensures ∙ c.self.inside.slots.ok.0 in
+    kept_born c.self.inside.slots.items c.push_reserved.new.self.items c.self.inside.by_name.entries c.insert.new.self.entries c.self.inside.queue c.push.new.self c.self.inside.waiters c.self.inside.living c.self.inside.waiting _ c.args.name (record { name = c.args.name; mode = stands.Runs; value = c.args.value }) c.self.invariant
+    (no_place c.self.inside.slots.items (slot_in c.self.inside.by_name.entries) c.args.name c.self.invariant.placed (ap (λ s. value_of equal_thread s.living c.args.name) c.self.view_is ∙ c.requires.new)) refl refl
     (c.push_reserved.ensures.items ∙ ap (λ l. l ++ Some (record { name = c.args.name; mode = stands.Runs; value = c.args.value }) ∷ []) c.reserve.ensures.items)
-    (λ k. (rw c.reserve-2.ensures.entries at c.in_ok-insert.ensures.updates.0 k) ∙ ap (λ i. with_slot (slot_in c.self.inside.places.entries) c.args.name (Some i) k) place)
-    (c.in_ok-push.ensures.ok ∙ ap (λ i. c.self.inside.queue ++ i ∷ []) place) refl
+    (λ k. (rw c.reserve-2.ensures.entries at c.in_ok-insert.ensures.updates.0 k) ∙ ap (λ i. with_slot (slot_in c.self.inside.by_name.entries) c.args.name (Some i) k) slot)
+    (c.in_ok-push.ensures.ok ∙ ap (λ i. c.self.inside.queue ++ i ∷ []) slot) refl
 
 pub returns-clause-living : goal.returns-clause-living
 returns-clause-living g c =

@@ -8,27 +8,27 @@ use Rattle.thread_roster.proofs.roster.Roster.value_mut.Goals as goal
 
 pub invariant_of-self-lent : goal.invariant_of-self-lent
 invariant_of-self-lent g c w =
-    let held = c.find-place.ensures.held in
+    let held = c.find-slot.ensures.held in
     let slot =
-    slot_is c.self.inside.slots.items c.find-place.result _ held.0
-    (at_index c.self.inside.slots.items c.find-place.result _ c.find-place.ensures.inside c.index_mut.ensures.value) held.1 in
+    slot_is c.self.inside.slots.items c.find-slot.result _ held.0
+    (at_index c.self.inside.slots.items c.find-slot.result _ c.find-slot.ensures.inside c.index_mut.ensures.value) held.1 in
     rw slot
-    (kept_value c.self.inside.slots.items c.self.inside.places.entries c.self.inside.queue c.self.inside.waiters c.self.inside.living c.self.inside.waiting
-    c.args.name c.find-place.result held.0 w c.self.invariant c.find-place.ensures.place held.1 held.2)
+    (kept_value c.self.inside.slots.items c.self.inside.by_name.entries c.self.inside.queue c.self.inside.waiters c.self.inside.living c.self.inside.waiting
+    c.args.name c.find-slot.result held.0 w c.self.invariant c.find-slot.ensures.slot held.1 held.2)
 
 pub returns : goal.returns
 returns g c =
-    let held = c.find-place.ensures.held in
+    let held = c.find-slot.ensures.held in
     let slot =
-    slot_is c.self.inside.slots.items c.find-place.result _ held.0
-    (at_index c.self.inside.slots.items c.find-place.result _ c.find-place.ensures.inside c.index_mut.ensures.value) held.1 in
+    slot_is c.self.inside.slots.items c.find-slot.result _ held.0
+    (at_index c.self.inside.slots.items c.find-slot.result _ c.find-slot.ensures.inside c.index_mut.ensures.value) held.1 in
     let there =
-    value_found c.self.inside.slots.items (slot_in c.self.inside.places.entries) c.args.name c.find-place.result held.0
-    c.self.invariant.placed c.find-place.ensures.place held.1 in (
+    value_found c.self.inside.slots.items (slot_in c.self.inside.by_name.entries) c.args.name c.find-slot.result held.0
+    c.self.invariant.placed c.find-slot.ensures.slot held.1 in (
       (
         refl,
-        λ w. lent_view c.args.self.now c.self.inside.slots.items (slot_in c.self.inside.places.entries) c.args.name c.find-place.result _ held.0 w
-            c.self.invariant.placed c.find-place.ensures.place held.1 held.2 slot c.self.view_is,
+        λ w. lent_view c.args.self.now c.self.inside.slots.items (slot_in c.self.inside.by_name.entries) c.args.name c.find-slot.result _ held.0 w
+            c.self.invariant.placed c.find-slot.ensures.slot held.1 held.2 slot c.self.view_is,
       ),
       record {
         writes_back = tt;

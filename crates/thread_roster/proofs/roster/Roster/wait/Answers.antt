@@ -17,18 +17,18 @@ count_waiting-self-inside-requires g c =
 
 pub invariant_of-self-2 : goal.invariant_of-self-2
 invariant_of-self-2 g c =
-    let held = c.find-place.ensures.held in
-    kept_left c.set_mode-before.new.slots.items c.self.inside.places.entries c.self.inside.queue c.leave.new.queue c.add.new.self c.self.inside.living c.count_waiting-self-inside.result c.find-place.result c.leave.ensures
-    (still_set c.self.inside.slots.items c.set_mode-before.new.slots.items c.find-place.result (record held.0 { mode = stands.Waits c.args.var }) (c.set_mode-before.ensures.put held.0 held.1) (λ e. cc))
-    (kept_waits c.self.inside.slots.items c.set_mode-before.new.slots.items c.self.inside.places.entries c.self.inside.queue c.self.inside.waiters c.add.new.self c.self.inside.living c.self.inside.waiting c.count_waiting-self-inside.result c.args.name c.find-place.result held.0 c.args.var c.self.invariant c.find-place.ensures.place held.1 held.2 (c.set_mode-before.ensures.put held.0 held.1) c.in_ok-add.ensures.ok (rw (c.set_mode-before.ensures.old held.0 held.1) at c.count_waiting-self-inside.ensures))
+    let held = c.find-slot.ensures.held in
+    kept_left c.set_mode-before.new.slots.items c.self.inside.by_name.entries c.self.inside.queue c.leave.new.queue c.add.new.self c.self.inside.living c.count_waiting-self-inside.result c.find-slot.result c.leave.ensures
+    (still_set c.self.inside.slots.items c.set_mode-before.new.slots.items c.find-slot.result (record held.0 { mode = stands.Waits c.args.var }) (c.set_mode-before.ensures.put held.0 held.1) (λ e. cc))
+    (kept_waits c.self.inside.slots.items c.set_mode-before.new.slots.items c.self.inside.by_name.entries c.self.inside.queue c.self.inside.waiters c.add.new.self c.self.inside.living c.self.inside.waiting c.count_waiting-self-inside.result c.args.name c.find-slot.result held.0 c.args.var c.self.invariant c.find-slot.ensures.slot held.1 held.2 (c.set_mode-before.ensures.put held.0 held.1) c.in_ok-add.ensures.ok (rw (c.set_mode-before.ensures.old held.0 held.1) at c.count_waiting-self-inside.ensures))
 
 pub returns-clause-living : goal.returns-clause-living
 returns-clause-living g c =
-    let held = c.find-place.ensures.held in
-    mode_view c.self.inside.slots.items c.set_mode-before.new.slots.items (slot_in c.self.inside.places.entries) c.args.name c.find-place.result held.0 (stands.Waits c.args.var) c.self.invariant.placed c.find-place.ensures.place held.1 held.2 (c.set_mode-before.ensures.put held.0 held.1)
+    let held = c.find-slot.ensures.held in
+    mode_view c.self.inside.slots.items c.set_mode-before.new.slots.items (slot_in c.self.inside.by_name.entries) c.args.name c.find-slot.result held.0 (stands.Waits c.args.var) c.self.invariant.placed c.find-slot.ensures.slot held.1 held.2 (c.set_mode-before.ensures.put held.0 held.1)
     ∙ ap (λ s. set_mode s.living c.args.name (stands.Waits c.args.var)) c.self.view_is
 
 pub returns-clause-ended : goal.returns-clause-ended
 returns-clause-ended g c =
-    let held = c.find-place.ensures.held in
-    ended_set c.self.inside.slots.items c.set_mode-before.new.slots.items c.find-place.result held.0 (record held.0 { mode = stands.Waits c.args.var }) held.1 (c.set_mode-before.ensures.put held.0 held.1) ∙ ap (λ s. s.ended) c.self.view_is
+    let held = c.find-slot.ensures.held in
+    ended_set c.self.inside.slots.items c.set_mode-before.new.slots.items c.find-slot.result held.0 (record held.0 { mode = stands.Waits c.args.var }) held.1 (c.set_mode-before.ensures.put held.0 held.1) ∙ ap (λ s. s.ended) c.self.view_is

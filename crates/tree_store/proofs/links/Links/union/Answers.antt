@@ -6,34 +6,34 @@ use Rattle.tree_store.proofs.links.Links.union.Goals as goal
 
 pub returns-in_err-make_set-clause-err : goal.returns-in_err-make_set-clause-err
 returns-in_err-make_set-clause-err c =
-    on_err c.from_residual.result (λ root t. tells_same root (entry_in c.args.self.now) (entry_in c.make_set.new.places.entries)
+    on_err c.from_residual.result (λ root t. tells_same root (entry_in c.args.self.now) (entry_in c.make_set.new.forest.entries)
     (λ y. c.make_set.ensures.same y ∙ ap (λ (es : ClassEntries). entry_in es y) c.self.view_is) t)
 
 pub returns-in_err-make_set-2-clause-err : goal.returns-in_err-make_set-2-clause-err
 returns-in_err-make_set-2-clause-err c =
-    on_err c.from_residual-in_err-make_set-2.result (λ root t. tells_same root (entry_in c.args.self.now) (entry_in c.make_set-2.new.places.entries)
+    on_err c.from_residual-in_err-make_set-2.result (λ root t. tells_same root (entry_in c.args.self.now) (entry_in c.make_set-2.new.forest.entries)
     (λ y. c.make_set-2.ensures.same y ∙ c.make_set.ensures.same y ∙ ap (λ (es : ClassEntries). entry_in es y) c.self.view_is) t)
 
 pub returns-then-above-below-clause-ok : goal.returns-then-above-below-clause-ok
 returns-then-above-below-clause-ok c root t apart =
-    let settled : (y : VarName) → entry_in c.make_set-2.new.places.entries y ≡ entry_in c.args.self.now y =
+    let settled : (y : VarName) → entry_in c.make_set-2.new.forest.entries y ≡ entry_in c.args.self.now y =
     λ y. c.make_set-2.ensures.same y ∙ c.make_set.ensures.same y ∙ ap (λ (es : ClassEntries). entry_in es y) c.self.view_is in
     let upper = c.find-upper.ensures.class root t in
     let lower = c.find-lower.ensures.class root t in
-    join_tells root (entry_in c.args.self.now) (entry_in c.make_set-2.new.places.entries) (entry_in c.attach.new.places.entries) c.args.var c.args.other
+    join_tells root (entry_in c.args.self.now) (entry_in c.make_set-2.new.forest.entries) (entry_in c.attach.new.forest.entries) c.args.var c.args.other
     c.find-upper.result c.find-lower.result c.entry_of-below.result.end t settled c.find-upper.ensures.top c.find-lower.ensures.top
     (λ e. apart (sym upper ∙ ap root e ∙ lower)) apart (inl (upper, lower))
-    (end_told root (entry_in c.args.self.now) (entry_in c.make_set-2.new.places.entries) c.find-lower.result c.args.other c.entry_of-below.result t settled c.find-lower.ensures.top lower c.entry_of-below.ensures)
-    c.attach.ensures.places
+    (end_told root (entry_in c.args.self.now) (entry_in c.make_set-2.new.forest.entries) c.find-lower.result c.args.other c.entry_of-below.result t settled c.find-lower.ensures.top lower c.entry_of-below.ensures)
+    c.attach.ensures.forest
 
 pub returns-else-above-below-clause-ok : goal.returns-else-above-below-clause-ok
 returns-else-above-below-clause-ok c root t apart =
-    let settled : (y : VarName) → entry_in c.make_set-2.new.places.entries y ≡ entry_in c.args.self.now y =
+    let settled : (y : VarName) → entry_in c.make_set-2.new.forest.entries y ≡ entry_in c.args.self.now y =
     λ y. c.make_set-2.ensures.same y ∙ c.make_set.ensures.same y ∙ ap (λ (es : ClassEntries). entry_in es y) c.self.view_is in
     let upper = c.find-upper.ensures.class root t in
     let lower = c.find-lower.ensures.class root t in
-    join_tells root (entry_in c.args.self.now) (entry_in c.make_set-2.new.places.entries) (entry_in c.attach-else-above-below.new.places.entries) c.args.var c.args.other
+    join_tells root (entry_in c.args.self.now) (entry_in c.make_set-2.new.forest.entries) (entry_in c.attach-else-above-below.new.forest.entries) c.args.var c.args.other
     c.find-lower.result c.find-upper.result c.entry_of-below.result.end t settled c.find-lower.ensures.top c.find-upper.ensures.top
     (λ e. apart (sym upper ∙ ap root (sym e) ∙ lower)) apart (inr (lower, upper))
-    (end_told root (entry_in c.args.self.now) (entry_in c.make_set-2.new.places.entries) c.find-lower.result c.args.other c.entry_of-below.result t settled c.find-lower.ensures.top lower c.entry_of-below.ensures)
-    c.attach-else-above-below.ensures.places
+    (end_told root (entry_in c.args.self.now) (entry_in c.make_set-2.new.forest.entries) c.find-lower.result c.args.other c.entry_of-below.result t settled c.find-lower.ensures.top lower c.entry_of-below.ensures)
+    c.attach-else-above-below.ensures.forest
