@@ -17,6 +17,7 @@ use Rattle.name_supply.specs.declared.fresh.Fresh.TheVariants as fresh
 use Rattle.thread_machine.specs.Running.{Running}
 use Rattle.thread_machine.specs.Step.{IsStep, Fits, OutFits, HasThreadSite, fresh_of}
 use Rattle.name_supply.specs.Supply.{CanName, IsCounted, site_in, IsMade, HasMade, AreBelow}
+use Rattle.name_supply.proofs.MadeLemmas.{counted_in}
 use Rattle.thread_roster.specs.declared.mode.Mode.{Mode}
 use Rattle.thread_roster.specs.declared.mode.Mode.TheVariants as mode
 use Rattle.thread_roster.specs.Threads.{set_value}
@@ -25,7 +26,6 @@ use Rattle.site_units.specs.declared.data.Core.{Core}
 use Rattle.site_units.specs.Facts.{ThreadFits, IsConsistent}
 use Rattle.site_units.specs.Units.{IsRunning, IsStepping}
 use Rattle.site_units.proofs.ThreadLemmas.{found_same}
-use Rattle.site_units.proofs.FreshLemmas.{counted_in}
 
 pub lent_running : (c : Core) (th : ThreadName) (r v : Running) (m : Mode) → IsRunning c th r → value_of equal_thread c.threads.living th ≡ Some (v, m) → v ≡ r
 lent_running c th r v m runs e = found_same c.threads.living th v r m mode.Runs e runs

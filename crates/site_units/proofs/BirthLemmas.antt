@@ -28,6 +28,7 @@ use Rattle.name_supply.specs.declared.fresh.Fresh.TheVariants as fresh
 use Rattle.thread_machine.specs.Fits.{StackFits}
 use Rattle.thread_machine.specs.Running.{Running}
 use Rattle.name_supply.specs.Supply.{names_for, IsCounted, site_in, IsMade, HasMade}
+use Rattle.name_supply.proofs.MadeLemmas.{counted_in}
 use Rattle.thread_roster.specs.declared.mode.Mode.{Mode}
 use Rattle.thread_roster.specs.declared.mode.Mode.TheVariants as mode
 use Rattle.thread_roster.specs.Threads.{Threads as Roster, Entry, set_value}
@@ -48,7 +49,7 @@ use Rattle.site_units.specs.Core.{site_of, stack_in, counters_of}
 use Rattle.site_units.specs.Facts.{ThreadFits, IsAwaiting, CellFits, CellsFit, IsConsistent}
 use Rattle.site_units.specs.Units.{IsStepping, IsFinished, IsUnitMade, without_ended}
 use Rattle.site_units.proofs.ThreadLemmas.{Living, other_set, other_without}
-use Rattle.site_units.proofs.FreshLemmas.{counted_in, makes_site}
+use Rattle.site_units.proofs.FreshLemmas.{makes_site}
 use Rattle.oz_model.proofs.BirthLemmas.{BornBy, stack_born}
 use Rattle.site_units.proofs.SiteLemmas.{nil_right}
 use Rattle.site_units.proofs.NextLemmas.{next_consistent}

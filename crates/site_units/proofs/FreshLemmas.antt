@@ -1,7 +1,6 @@
 -- Names by a site's counters.
-use Rattle.std.proofs.Common.{arith, ◌≡◌, ◌∙◌, sym, ap, refl, ℕ, List, [], ◌∷◌, ◌++◌, ◌⊎◌, inl, inr, Bool, true, false, cond, Some, None}
+use Rattle.std.proofs.Common.{arith, ◌≡◌, ◌∙◌, sym, ap, refl, ℕ, List, [], ◌∷◌, ◌++◌, ◌⊎◌, inl, inr, Bool, true, false, Some, None}
 use Rattle.std.specs.Prelude.{Option, Contains, ◌<◌, ◌≤◌}
-use Rattle.std.specs.List.{list_any}
 use Rattle.std.proofs.Math.Numerals.{suc-eq-add-one}
 use Rattle.std.proofs.lemmas.Bool.{cases_lt}
 use Rattle.tree_node.specs.declared.names.VarName.{VarName}
@@ -11,9 +10,7 @@ use Rattle.tree_node.specs.declared.names.NameKind.{NameKind}
 use Rattle.tree_node.specs.declared.names.NameKind.TheVariants as kind
 use Rattle.tree_node.specs.declared.node.Term.{Term}
 use Rattle.tree_node.specs.Each.{Each}
-use Rattle.tree_node.specs.Store.{equal_var}
 use Rattle.tree_node.proofs.ClassLemmas.{Contains-head, Contains-tail}
-use Rattle.tree_store.specs.Contents.{with_name}
 use Rattle.oz_model.specs.Effect.{vars_among}
 use Rattle.bind_protocol.specs.Records.{Records, IsKnown, knowledge}
 use Rattle.bind_protocol.specs.Rows.{after_make}
@@ -21,7 +18,8 @@ use Rattle.site_model.specs.Variables.{after_makes}
 use Rattle.name_supply.specs.declared.fresh.Fresh.{Fresh}
 use Rattle.name_supply.specs.declared.fresh.Fresh.TheVariants as fresh
 use Rattle.name_supply.specs.Supply.{next_name, after_name, names_for, after_names, known_after, IsCounted, site_in, HasMade, AreBelow}
-use Rattle.name_supply.proofs.SupplyLemmas.{kept_after, named_after}
+use Rattle.name_supply.proofs.SupplyLemmas.{kept_after, named_after, each_known}
+use Rattle.name_supply.proofs.MadeLemmas.{counted_in, counted_after, site_after}
 use Rattle.site_model.specs.Site.{Counters}
 use Rattle.site_model.specs.Unit.{counter_after, counters_after, next_names}
 use Rattle.site_model.specs.Unit as unit
@@ -29,10 +27,6 @@ use Rattle.site_variables.specs.Variables.{IsUnion}
 use Rattle.site_units.specs.Core.{counters_of}
 use Rattle.tree_node.proofs.OrderLemmas.{Each-member}
 pub use Rattle.site_model.proofs.StillLemmas.{makes_site}
-
-pub counted_in : (f : Fresh) (i : ℕ) → site_in f ≡ Some i → IsCounted f
-counted_in (fresh.Counted site vars cells procs threads) i e = tt
-counted_in (fresh.Given names) i e = cc
 
 -- ---- the names that come next
 
@@ -55,24 +49,9 @@ counter_next (fresh.Counted site vars cells procs threads) kind.Thread h = ap (�
     with_threads v = record { vars = vars; cells = cells; procs = procs; threads = v }
 counter_next (fresh.Given names) k h = absurd h
 
-counted_next : (f : Fresh) (k : NameKind) → IsCounted f → IsCounted (after_name f k)
-counted_next (fresh.Counted site vars cells procs threads) kind.Var h = tt
-counted_next (fresh.Counted site vars cells procs threads) kind.Cell h = tt
-counted_next (fresh.Counted site vars cells procs threads) kind.Proc h = tt
-counted_next (fresh.Counted site vars cells procs threads) kind.Thread h = tt
-counted_next (fresh.Given names) k h = absurd h
-
-site_next : (f : Fresh) (k : NameKind) → site_in (after_name f k) ≡ site_in f
-site_next (fresh.Counted site vars cells procs threads) kind.Var = refl
-site_next (fresh.Counted site vars cells procs threads) kind.Cell = refl
-site_next (fresh.Counted site vars cells procs threads) kind.Proc = refl
-site_next (fresh.Counted site vars cells procs threads) kind.Thread = refl
-site_next (fresh.Given []) k = refl
-site_next (fresh.Given (x ∷ xs)) k = refl
-
 pub counters_next : (f : Fresh) (ks : List NameKind) → IsCounted f → counters_of (after_names f ks) ≡ counters_after (counters_of f) ks
 counters_next f [] h = refl
-counters_next f (k ∷ ks) h = counters_next (after_name f k) ks (counted_next f k h) ∙ ap (λ (c : Counters). counters_after c ks) (counter_next f k h)
+counters_next f (k ∷ ks) h = counters_next (after_name f k) ks (counted_after f k h) ∙ ap (λ (c : Counters). counters_after c ks) (counter_next f k h)
 
 name_next : (f : Fresh) (i : ℕ) (k : NameKind) → site_in f ≡ Some i → next_name f k ≡ unit.next_name i (counters_of f) k
 name_next (fresh.Counted site vars cells procs threads) i k e = go k (cc)
@@ -88,7 +67,7 @@ pub names_next : (f : Fresh) (i : ℕ) (ks : List NameKind) → site_in f ≡ So
 names_next f i [] e = refl
 names_next f i (k ∷ ks) e =
     let one : next_name f k ≡ unit.next_name i (counters_of f) k = name_next f i k e in
-    let rest : names_for (after_name f k) ks ≡ next_names i (counters_of (after_name f k)) ks = names_next (after_name f k) i ks (site_next f k ∙ e) in
+    let rest : names_for (after_name f k) ks ≡ next_names i (counters_of (after_name f k)) ks = names_next (after_name f k) i ks (site_after f k ∙ e) in
     let then : counters_of (after_name f k) ≡ counter_after (counters_of f) k = counter_next f k (counted_in f i e) in
     rw (one, rest, then) refl
 
@@ -122,7 +101,7 @@ made_tail (name.Thread y) ns x h = h
 -- a variable that was made afterwards was made before, or is one of the names
 pub made_split : (f : Fresh) (ks : List NameKind) (x : VarName) → IsCounted f → HasMade (after_names f ks) (name.Var x) → HasMade f (name.Var x) ⊎ Contains (vars_among (names_for f ks)) x
 made_split f [] x h m = inl m
-made_split f (k ∷ ks) x h m = go (made_split (after_name f k) ks x (counted_next f k h) m)
+made_split f (k ∷ ks) x h m = go (made_split (after_name f k) ks x (counted_after f k h) m)
   where
     here : HasMade f (name.Var x) ⊎ ((k ≡ kind.Var) × (next_name f k ≡ name.Var x)) → HasMade f (name.Var x) ⊎ Contains (vars_among (next_name f k ∷ names_for (after_name f k) ks)) x
     here (inl made) = inl made
@@ -149,21 +128,6 @@ unknown_here b x h = go (knowledge b x) refl
     go None e = e
     go (Some t) e = absurd (h (rw e refl))
 
-each_end : (P : VarName → Type 0) (xs : List VarName) (x : VarName) → Each P xs → P x → Each P (xs ++ x ∷ [])
-each_end P [] x h l = (l, tt)
-each_end P (y ∷ xs) x h l = (h.0, each_end P xs x h.1 l)
-
-each_with : (P : VarName → Type 0) (xs : List VarName) (x : VarName) → Each P xs → P x → Each P (with_name xs x)
-each_with P xs x h l = go (list_any (equal_var x) xs)
-  where
-    go : (b : Bool) → Each P (cond b xs (xs ++ x ∷ []))
-    go true = h
-    go false = each_end P xs x h l
-
-pub each_after : (P : VarName → Type 0) (more known : List VarName) → Each P known → Each P more → Each P (known_after known more)
-each_after P [] known h g = h
-each_after P (x ∷ more) known h g = each_after P more (with_name known x) (each_with P known x h g.0) g.1
-
 pub each_of : (P : VarName → Type 0) (xs : List VarName) → ((x : VarName) → Contains xs x → P x) → Each P xs
 each_of P [] h = tt
 each_of P (x ∷ xs) h = (h x (Contains-head x xs), each_of P xs (λ y m. h y (Contains-tail x y xs m)))
@@ -174,12 +138,8 @@ union_after known xs x = (parts, whole)
     parts : Contains (known_after known xs) x → Contains known x ⊎ Contains xs x
     parts h =
         Each-member (λ (y : VarName). Contains known y ⊎ Contains xs y) (known_after known xs) x
-        (each_after (λ (y : VarName). Contains known y ⊎ Contains xs y) xs known (each_of _ known (λ y m. inl m)) (each_of _ xs (λ y m. inr m))) h
+        (each_known (λ (y : VarName). Contains known y ⊎ Contains xs y) xs known (each_of _ known (λ y m. inl m)) (each_of _ xs (λ y m. inr m))) h
 
     whole : Contains known x ⊎ Contains xs x → Contains (known_after known xs) x
     whole (inl h) = kept_after known xs x h
     whole (inr h) = Each-member (λ (y : VarName). Contains (known_after known xs) y) xs x (named_after known xs) h
-
-pub below_more : (n m : ℕ) (f : Fresh) → n ≤ m → AreBelow n f → AreBelow m f
-below_more n m (fresh.Counted site vars cells procs threads) h b = (omega (arith, b.0), omega (arith, b.1), omega (arith, b.2), omega (arith, b.3))
-below_more n m (fresh.Given names) h b = tt

@@ -21,7 +21,8 @@ use Rattle.thread_machine.specs.Step.{IsPickStep, effect_of}
 use Rattle.thread_machine.specs.Fits.{EquationsFit}
 use Rattle.name_supply.specs.Supply.{names_for, known_after, site_in, IsMade, HasMade, AreBelow}
 use Rattle.name_supply.specs.declared.fresh.Fresh.{Fresh}
-use Rattle.name_supply.proofs.SupplyLemmas.{kept_after, named_after}
+use Rattle.name_supply.proofs.SupplyLemmas.{kept_after, named_after, each_known}
+use Rattle.name_supply.proofs.MadeLemmas.{counted_in}
 use Rattle.thread_roster.specs.declared.mode.Mode.TheVariants as mode
 use Rattle.thread_roster.specs.Threads.{Entry, set_value}
 use Rattle.thread_roster.proofs.ThreadLemmas.{each_found, value_there}
@@ -38,7 +39,7 @@ use Rattle.site_units.specs.Core.{site_of, stack_in, counters_of}
 use Rattle.site_units.specs.Facts.{ThreadFits}
 use Rattle.site_units.specs.Units.{IsStepping, IsFinished, without_ended}
 use Rattle.site_units.proofs.ThreadLemmas.{Living, WaitsStay, threads_settled, thread_found, settled_each, waits_trans, waits_set, waits_settled}
-use Rattle.site_units.proofs.FreshLemmas.{counted_in, names_next, counters_next, made_split, each_var, each_after, makes_site}
+use Rattle.site_units.proofs.FreshLemmas.{names_next, counters_next, made_split, each_var, makes_site}
 use Rattle.site_units.proofs.NextLemmas.{Next, thread_grows, exchanges_known}
 use Rattle.site_units.proofs.SiteLemmas.{same_site}
 use Rattle.tree_node.proofs.OrderLemmas.{Each-member}
@@ -154,7 +155,7 @@ module _ (p : List Stmt) (c0 c : Core) (th : ThreadName) (r q : Running) (o : St
   pub known_made : Each (λ (x : VarName). IsMade c.fresh (name.Var x)) c.variables.store.known
   known_made =
       subst (Each (λ (x : VarName). IsMade c.fresh (name.Var x))) (sym known)
-      (each_after (λ (x : VarName). IsMade c.fresh (name.Var x)) (vars_among k.fresh) c0.variables.store.known
+      (each_known (λ (x : VarName). IsMade c.fresh (name.Var x)) (vars_among k.fresh) c0.variables.store.known
       (Each-weaker (λ (x : VarName). IsMade c0.fresh (name.Var x)) (λ (x : VarName). IsMade c.fresh (name.Var x)) (λ x m. h.stays (name.Var x) m) c0.variables.store.known h.consistent.known_made)
       (each_var (λ (x : VarName). IsMade c.fresh (name.Var x)) (HasMade c.fresh) (HasMade c.fresh) k.fresh (λ x a b. a.1) made made))
 
