@@ -13,9 +13,11 @@
 //! list stays in the order of birth; an ended thread leaves an empty one.
 //!
 //! That turns are taken first come first served, and that a thread that is woken or passed by goes behind the others, no
-//! clause says yet. It stands on `tree_node` (names), `waiting_keys`
-//! and `indexmap`. Threads that wait for variables are those
-//! of CTM sections 2.4 and 4.1.
+//! clause says yet; tests alone show that runs without workers print the same each time (`oz_tests`). It stands on `tree_node`
+//! (names), `waiting_keys` and `indexmap`.
+//!
+//! Source: Van Roy and Haridi, *Concepts, Techniques, and Models of Computer Programming*, sections 2.4 and 4.1 (threads that wait
+//! for variables).
 #![tactic(auto)]
 
 mod mode;
