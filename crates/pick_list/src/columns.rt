@@ -64,6 +64,34 @@ fn add_naming(namings: &mut Vec<Naming>, pick: usize, first: usize, fresh: &[Nam
     }
 }
 
+// A pick of this thread with these names behind the others, which may take memory. Most picks do without its code.
+#[inline(never)]
+fn put_apart(
+    stretches: &mut Vec<Stretch>,
+    namings: &mut Vec<Naming>,
+    names: &mut Vec<Name>,
+    pick: usize,
+    thread: ThreadName,
+    fresh: &[Name],
+) -> Result<(), AllocError>
+    requires stretches { AreStretches pick (reverse stretches.old.items) }
+    requires namings { AreNamings pick (length names.old.items) (reverse namings.old.items) }
+    ensures threads { OnOk result (IsStretchOn pick thread (reverse stretches.old.items) (reverse stretches.new.items)) }
+    ensures fresh { OnOk result (IsNamingOn pick fresh.now names.old.items (reverse namings.old.items) (reverse namings.new.items)) }
+    ensures names { OnOk result (names.new.items ≡ names.old.items ++ fresh.now) }
+    ensures same_stretches { OnErr result (stretches.new.items ≡ stretches.old.items) }
+    ensures same_namings { OnErr result (namings.new.items ≡ namings.old.items) }
+    ensures same_names { OnErr result (names.new.items ≡ names.old.items) }
+{
+    stretches.reserve(1)?;
+    namings.reserve(1)?;
+    let first = names.len();
+    names.extend_from_slice(fresh)?;
+    add_naming(namings, pick, first, fresh);
+    add_stretch(stretches, pick, thread);
+    Ok(())
+}
+
 /// A pick of this thread with these names behind the others. After an error all columns are as before.
 pub fn put(
     stretches: &mut Vec<Stretch>,
@@ -85,13 +113,7 @@ pub fn put(
     if fresh.is_empty() && is_last_thread(stretches.as_slice(), thread) {
         return Ok(());
     }
-    stretches.reserve(1)?;
-    namings.reserve(1)?;
-    let first = names.len();
-    names.extend_from_slice(fresh)?;
-    add_naming(namings, pick, first, fresh);
-    add_stretch(stretches, pick, thread);
-    Ok(())
+    put_apart(stretches, namings, names, pick, thread, fresh)
 }
 
 /// How many stretches begin before a pick, where it is the last one.

@@ -1,6 +1,7 @@
 //! The picks of a run, in columns.
 //!
-//! **For**: whoever makes a run and keeps its picks: `machine_state`, `central_machine`, and `site_message`'s schedules.
+//! **For**: whoever makes steps and keeps their picks: `machine_state` and `central_machine` those of a run, `site_units` those of a
+//! turn, and `site_message`, whose turns and schedules are made of them.
 //!
 //! **Promises**: a [`PickList`] is a list of picks (contracts see it so): `push` and `push_plain` put a pick behind the others,
 //! and after want of memory the list is as before; `drop_last` takes the last one away; `len` counts them; `to_vec` copies them.
@@ -9,7 +10,10 @@
 //!
 //! **Stands on** `tree_node` alone.
 //!
-//! **Tests alone show**, in `machine_tests` and `oz_tests`, that memory suffices there.
+//! **Tests alone show**, in `machine_tests` (lists that are filled and copied) and `oz_tests` (whole runs), that memory suffices there.
+//!
+//! **Source**: the columns are of this project. What a pick chooses is in Van Roy and Haridi, *Concepts, Techniques, and Models of
+//! Computer Programming*, sections 2.4 and 4.1 (one step of one thread at a time).
 #![tactic(auto)]
 
 mod columns;

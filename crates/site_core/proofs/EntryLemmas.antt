@@ -21,8 +21,8 @@ pub number_stays : (p : List Stmt) (quantum : ℕ) (m : Option Msg) (c0 c1 : Cor
 number_stays p quantum m c0 c1 o0 o1 (d, full, reached) = ap (λ (s : Site). s.records.site) reached.site ∙ turn_number p c0.sites bundle_limit quantum (site_of c0) m d full
 
 -- an entry that records what a full turn left, from no output, is of a turn
-pub turn_recorded : (p : List Stmt) (quantum : ℕ) (message : Option (ℕ × Msg)) (m : Option Msg) (c0 c1 : Core) (o0 o1 : Output) (e : Turn) → o0.picks.items ≡ [] → o0.sent ≡ [] → o0.lines.items ≡ [] → m ≡ message_in message →
-    IsFullTurnMade p quantum m c0 o0 c1 o1 → e.site ≡ c0.variables.binder.site → e.delivered ≡ number_in message → IsRecordOf e (record { site = site_of c1; picks = o1.picks.items; sent = o1.sent; lines = o1.lines.items }) →
+pub turn_recorded : (p : List Stmt) (quantum : ℕ) (message : Option (ℕ × Msg)) (m : Option Msg) (c0 c1 : Core) (o0 o1 : Output) (e : Turn) → o0.picks ≡ [] → o0.sent ≡ [] → o0.lines.items ≡ [] → m ≡ message_in message →
+    IsFullTurnMade p quantum m c0 o0 c1 o1 → e.site ≡ c0.variables.binder.site → e.delivered ≡ number_in message → IsRecordOf e (record { site = site_of c1; picks = o1.picks; sent = o1.sent; lines = o1.lines.items }) →
     IsTurnMade p c0.sites (site_of c0) message quantum e (site_of c1)
 turn_recorded p quantum message m c0 c1 o0 o1 e picks sent lines is (d, full, reached) site delivered recorded = record {
   turn = (

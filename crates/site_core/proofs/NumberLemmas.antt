@@ -14,15 +14,14 @@ use Rattle.site_message.specs.declared.message.Msg.TheVariants as msg
 use Rattle.site_message.specs.declared.message.Sent.{Sent}
 use Rattle.oz_model.specs.Need.{Need, Waits, Binds, Takes, stack_need}
 use Rattle.oz_model.specs.Effect.{Birth, CellChange, Stays, Made, Exchanged, Effect, vars_among}
-use Rattle.bind_protocol.specs.Records.{Records, is_own, knowledge}
-use Rattle.bind_protocol.specs.Rows.{after_make, after_meet, after_meets, sent_message}
-use Rattle.proxy_table.specs.Proxies as proxies
+use Rattle.bind_protocol.specs.Records.{is_own, knowledge}
+use Rattle.bind_protocol.specs.Rows.{sent_message}
 use Rattle.token_chain.specs.declared.token.Token.{Token}
 use Rattle.token_chain.specs.declared.token.Token.TheVariants.{Away, Asked, Here}
 use Rattle.site_model.specs.Site.{Site, ThreadState, thread_state, cell_record}
 use Rattle.site_model.specs.Bundle.{with_own_bundle, message_vars, message_bundle}
 use Rattle.site_model.specs.Transition.{Transition, without_output, with_messages}
-use Rattle.site_model.specs.Variables.{after_makes, with_known_equation_as, with_known_equation, with_known_equations, own_binds, opening}
+use Rattle.site_model.specs.Variables.{with_known_equation_as, with_known_equation, with_known_equations, own_binds, opening}
 use Rattle.site_model.specs.Cells.{serving, after_exchange, after_exchange_as, content_after_exchange, with_exchange_waiting, with_own_request, with_last_asker}
 use Rattle.site_model.specs.Messages.{with_thread, message_row, bind_request_as, reception}
 use Rattle.site_model.specs.Unit.{next_names, with_fresh_names, placement, birth_row, after_cell, after_effect, step_row, step_pick, effect_here, thread_step, fresh_names, bind_attempt, IsStepOrRequest, IsUnitFor, IsUnit}

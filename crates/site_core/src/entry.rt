@@ -42,7 +42,7 @@ pub fn recorded_turn(
     let (delivered, msg) = split(message);
     let mut output = Output::new(core.alloc);
     turn(core, &mut output, program, msg, quantum)?;
-    let picks = Picks::from_vec(output.picks)?;
+    let picks = Picks::from_list(core.alloc, output.picks)?;
     Ok(Turn {
         site,
         delivered,

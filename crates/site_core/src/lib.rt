@@ -13,7 +13,7 @@
 //! A turn costs by what it does: its message by the message's size, a unit by the statement. The totals of an entry are looked
 //! up. It stands on `site_units` (units and the rows of messages), `site_variables` and `site_cells` (what a site keeps and
 //! which messages are fit), `thread_machine` (which codes fit) and `site_model` (the definitions). That turns are made where
-//! there is memory, tests alone show.
+//! there is memory, tests alone show (`oz_tests`).
 //!
 //! Sources: Haridi and others, *Efficient Logic Variables for Distributed Computing* (TOPLAS 21(3), 1999), and Van Roy and
 //! others, *Mobile Objects in Distributed Oz* (TOPLAS 19(5), 1997).

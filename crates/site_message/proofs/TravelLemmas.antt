@@ -1,6 +1,6 @@
 -- How the travelling messages change with a turn.
-use Rattle.std.proofs.Common.{arith, ◌≡◌, ◌∙◌, ℕ, zero, suc, ◌+◌, ◌<◌, ◌≤◌, List, [], ◌∷◌, ◌++◌, length, Bool, true, false, eqb, eqb-true, eq-eqb, ne_eqb, Option, Some, None, refl, sym, ap, ⊎_elim, length-append}
-use Rattle.std.specs.Prelude.{◌||◌, not, Contains, slice_get}
+use Rattle.std.proofs.Common.{arith, ◌≡◌, ◌∙◌, ℕ, suc, ◌+◌, ◌<◌, ◌≤◌, List, [], ◌∷◌, ◌++◌, length, Bool, true, false, eqb, eqb-true, eq-eqb, ne_eqb, Option, Some, None, refl, sym, ap, ⊎_elim, length-append}
+use Rattle.std.specs.Prelude.{◌||◌, not, Contains}
 use Rattle.std.specs.List.{filter, enumerate_from}
 use Rattle.std.proofs.lemmas.List.Elements.{filter-append}
 use Rattle.std.proofs.lemmas.List.FromFn.{length-enumerate_from}

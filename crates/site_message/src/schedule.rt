@@ -2,11 +2,11 @@
 
 ghost use Rattle.std.specs.Prelude.{◌≡◌, ◌<◌, ◌^◌, [], ◌++◌, length, IfOk, OnOk, OnErr};
 
-use crate::turn::Picks;
+use crate::picks::Picks;
 use pick_list::PickList;
 use std::alloc::{AllocError, Global};
 use std::marker::Model;
-use tree_node::{Pick, copy_pick};
+use tree_node::Pick;
 
 // The most picks of a schedule.
 const MOST: usize = isize::MAX as usize;
@@ -72,7 +72,7 @@ impl Schedule {
         ensures ok { OnOk result (self.new ≡ self.old ++ turn.now) }
         ensures err { OnErr result (self.new ≡ self.old) }
     {
-        let more = turn.as_slice().len();
+        let more = turn.len();
         if more > MOST - self.count {
             return Err(AllocError);
         }
@@ -87,18 +87,8 @@ impl Schedule {
     {
         let mut picks = self.first.to_vec(alloc)?;
         for turn in self.turns.as_slice() {
-            push_copies(alloc, &mut picks, turn.as_slice())?;
+            turn.push_to(alloc, &mut picks)?;
         }
         Ok(picks)
     }
-}
-
-// Copies of more picks.
-fn push_copies(alloc: Global, picks: &mut Vec<Pick>, more: &[Pick]) -> Result<(), AllocError>
-    ensures { OnOk result (picks.new.items ≡ picks.old.items ++ more.now) }
-{
-    for pick in more {
-        picks.push(copy_pick(alloc, pick)?)?;
-    }
-    Ok(())
 }

@@ -2,9 +2,10 @@
 
 use crate::message::{Bundle, Msg, Sent};
 use crate::outbox::Outbox;
+use crate::picks::Picks;
 use crate::reason::Reason;
 use crate::schedule::Schedule;
-use crate::turn::{Journal, Picks, Turn};
+use crate::turn::{Journal, Turn};
 
 fn is_send_and_sync<T: Send + Sync>() {}
 

@@ -1,7 +1,6 @@
 -- Units that make a thread or a cell.
-use Rattle.std.proofs.Common.{arith, ◌≡◌, ◌≢◌, ◌∙◌, sym, ap, refl, subst, ℕ, List, [], ◌∷◌, ◌++◌, Bool, true, false, cond, Some, None}
+use Rattle.std.proofs.Common.{◌≡◌, ◌≢◌, ◌∙◌, sym, ap, refl, subst, ℕ, List, [], ◌∷◌, ◌++◌, Bool, true, false, cond, Some, None}
 use Rattle.std.specs.Prelude.{Option, Contains, ℤ, ◌==◌}
-use Rattle.std.proofs.lemmas.Bool.Decides.{nat_tests}
 use Rattle.tree_node.specs.declared.names.VarName.{VarName}
 use Rattle.tree_node.specs.declared.names.CellName.{CellName}
 use Rattle.tree_node.specs.declared.names.ThreadName.{ThreadName}
@@ -80,7 +79,7 @@ cells_consistent p c t h site fits = record {
 }
 
 pub cell_made : (p : List Stmt) (c0 c c1 : Core) (t2 : CellTables) (o0 o1 : Output) (th : ThreadName) (r q : Running) (k : Pick) (cell : CellName) (v : VarName) → IsStepping p c0 c th r q (out.NewCell k cell v) → IsFinished c th q k c1 →
-    IsChange (after_cell (Made cell v)) c1.cells t2 → o1.picks.items ≡ o0.picks.items ++ k ∷ [] → o1.sent ≡ o0.sent → o1.lines.items ≡ o0.lines.items → IsUnitMade p th c0 o0 (record c1 { cells = t2 }) o1
+    IsChange (after_cell (Made cell v)) c1.cells t2 → o1.picks ≡ o0.picks ++ k ∷ [] → o1.sent ≡ o0.sent → o1.lines.items ≡ o0.lines.items → IsUnitMade p th c0 o0 (record c1 { cells = t2 }) o1
 cell_made p c0 c c1 t2 o0 o1 th r q k cell v h f change picks sent lines = (
   row p c0 c th r q (out.NewCell k cell v) k [] None None (Made cell v) h t h.made,
   is_unit p c0 c th r q (out.NewCell k cell v) k [] None None (Made cell v) h t h.made tt,
@@ -248,13 +247,13 @@ module _ (p : List Stmt) (c0 c c1 : Core) (o0 o1 : Output) (th : ThreadName) (r 
   pub spawned_here : (ts : Roster Running) (w : Running) → (placement c0.sites c0.variables.binder.site at == c0.variables.binder.site) ≡ true → w ≡ record { name = n; stack = item.Run code (env_for (free p code) vars) ∷ []; told = None } →
       ((known : List VarName) → Each (λ (x : VarName). Contains known x) vars → StackFits p known w.stack) →
       ts.living ≡ (n, (w, mode.Runs)) ∷ c1.threads.living → ts.ended ≡ c1.threads.ended →
-      o1.picks.items ≡ o0.picks.items ++ k ∷ [] → o1.sent ≡ o0.sent → o1.lines.items ≡ o0.lines.items → IsUnitMade p th c0 o0 (record c1 { threads = ts }) o1
+      o1.picks ≡ o0.picks ++ k ∷ [] → o1.sent ≡ o0.sent → o1.lines.items ≡ o0.lines.items → IsUnitMade p th c0 o0 (record c1 { threads = ts }) o1
   spawned_here ts w here is fits living ended picks sent lines = (
     whole,
     unit,
     record {
       site = started ∙ (ap (λ (s : Site). with_thread p (Some birth) s) begun_is ∙ sym (ap (λ (d : Transition). d.site) (births true here)));
-      picks = picks ∙ ap (λ l. o0.picks.items ++ k ∷ l) (sym (ap (λ (d : Transition). d.picks) (births true here)));
+      picks = picks ∙ ap (λ l. o0.picks ++ k ∷ l) (sym (ap (λ (d : Transition). d.picks) (births true here)));
       sent = sent ∙ (sym (nil_right o0.sent) ∙ ap (λ l. o0.sent ++ l) (sym (ap (λ (d : Transition). d.sent) (births true here))));
       lines = lines ∙ (sym (nil_right o0.lines.items) ∙ ap (λ l. o0.lines.items ++ l) (sym (ap (λ (d : Transition). d.lines) (births true here))));
       consistent = thread_consistent p c1 ts n w before living born_new born_fits (subst (λ (g : Fresh). IsMade g (name.Thread n)) (sym f.fresh) born_made);
@@ -282,13 +281,13 @@ module _ (p : List Stmt) (c0 c c1 : Core) (o0 o1 : Output) (th : ThreadName) (r 
       }
 
   pub spawned_away : (to : ℕ) → (placement c0.sites c0.variables.binder.site at == c0.variables.binder.site) ≡ false → to ≡ placement c0.sites c0.variables.binder.site at →
-      o1.picks.items ≡ o0.picks.items ++ k ∷ [] → o1.sent ≡ o0.sent ++ record { to = to; msg = msg.Spawn n code vars [] } ∷ [] → o1.lines.items ≡ o0.lines.items → IsUnitMade p th c0 o0 c1 o1
+      o1.picks ≡ o0.picks ++ k ∷ [] → o1.sent ≡ o0.sent ++ record { to = to; msg = msg.Spawn n code vars [] } ∷ [] → o1.lines.items ≡ o0.lines.items → IsUnitMade p th c0 o0 c1 o1
   spawned_away to away placed picks sent lines = (
     whole,
     unit,
     record {
       site = begun_is ∙ sym (ap (λ (d : Transition). d.site) (births false away));
-      picks = picks ∙ ap (λ l. o0.picks.items ++ k ∷ l) (sym (ap (λ (d : Transition). d.picks) (births false away)));
+      picks = picks ∙ ap (λ l. o0.picks ++ k ∷ l) (sym (ap (λ (d : Transition). d.picks) (births false away)));
       sent = sent ∙ ap (λ l. o0.sent ++ l) (ap (λ (i : ℕ). record { to = i; msg = msg.Spawn n code vars [] } ∷ []) (placed ∙ ap (λ (i : ℕ). placement c0.sites i at) (sym own)) ∙ sym (ap (λ (d : Transition). d.sent) (births false away)));
       lines = lines ∙ (sym (nil_right o0.lines.items) ∙ ap (λ l. o0.lines.items ++ l) (sym (ap (λ (d : Transition). d.lines) (births false away))));
       consistent = before;

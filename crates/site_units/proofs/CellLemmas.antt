@@ -14,8 +14,7 @@ use Rattle.token_chain.specs.declared.token.Token.TheVariants.{Away, Asked, Here
 use Rattle.token_chain.specs.Holding.{Holding}
 use Rattle.token_chain.specs.Mail.{Get, Forward}
 use Rattle.token_chain.specs.Rows.{forward_reply, get_reply, exchange_reply}
-use Rattle.site_model.specs.Site.{Site, CellRecord, cell_record_in}
-use Rattle.site_model.specs.Cells.{with_last_asker, with_own_request}
+use Rattle.site_model.specs.Site.{CellRecord, cell_record_in}
 use Rattle.site_cells.proofs.RecordLemmas.{record_here, record_other}
 use Rattle.site_units.specs.declared.data.Core.{Core}
 use Rattle.site_units.specs.Facts.{ContentKnown, CellFits, CellsFit}

@@ -13,8 +13,6 @@ use Rattle.tree_node.specs.Each.{Each}
 use Rattle.tree_node.proofs.ClassLemmas.{Contains-head, Contains-tail}
 use Rattle.oz_model.specs.Effect.{vars_among}
 use Rattle.bind_protocol.specs.Records.{Records, IsKnown, knowledge}
-use Rattle.bind_protocol.specs.Rows.{after_make}
-use Rattle.site_model.specs.Variables.{after_makes}
 use Rattle.name_supply.specs.declared.fresh.Fresh.{Fresh}
 use Rattle.name_supply.specs.declared.fresh.Fresh.TheVariants as fresh
 use Rattle.name_supply.specs.Supply.{next_name, after_name, names_for, after_names, known_after, IsCounted, site_in, HasMade, AreBelow}

@@ -1,7 +1,6 @@
 -- Equations that a site learns by messages.
-use Rattle.std.proofs.Common.{arith, ◌≡◌, ◌≢◌, ◌∙◌, sym, ap, refl, subst, ℕ, List, [], ◌∷◌, ◌++◌, ◌⊎◌, inl, inr, Bool, true, false, cond, Some, None}
-use Rattle.std.specs.Prelude.{Option, Contains, is_some, ◌==◌}
-use Rattle.std.proofs.lemmas.Bool.Decides.{nat_tests}
+use Rattle.std.proofs.Common.{◌≡◌, ◌≢◌, ◌∙◌, sym, ap, refl, subst, ℕ, List, [], ◌∷◌, ◌++◌, ◌⊎◌, inl, inr, Bool, true, false, cond, Some, None}
+use Rattle.std.specs.Prelude.{Option, Contains, is_some}
 use Rattle.tree_node.specs.declared.names.VarName.{VarName}
 use Rattle.tree_node.specs.declared.names.ThreadName.{ThreadName}
 use Rattle.tree_node.specs.declared.names.Name.TheVariants as name
@@ -173,7 +172,7 @@ granted c v1 ts1 o0 o1 x t n a done = go (knowledge c.variables.binder x) (λ g.
 
 pub grant_made : (p : List Stmt) (c : Core) (v1 : Variables) (ts1 : Roster Running) (o0 o1 : Output) (x : VarName) (t : Term) (n : ThreadName) (a : Asked) → Requested c v1 ts1 o0 o1 x t n a → ts1.ended ≡ c.threads.ended → IsLinked v1 →
     v1.store.known ≡ c.variables.store.known → IsSound v1.store.equations → Contains c.variables.store.known x → EachOfTerm (IsAmong c.variables.store.known) t → TermFits p t → IsConsistent p c →
-    o1.picks.items ≡ o0.picks.items ++ request_picks a n x t → o1.lines.items ≡ o0.lines.items → IsRowMade p (bind_request_row 0 x t n) c o0 (record c { variables = v1; threads = ts1 }) o1
+    o1.picks ≡ o0.picks ++ request_picks a n x t → o1.lines.items ≡ o0.lines.items → IsRowMade p (bind_request_row 0 x t n) c o0 (record c { variables = v1; threads = ts1 }) o1
 grant_made p c v1 ts1 o0 o1 x t n a done ended linked same sound known term fits h picks lines =
     let more = granted c v1 ts1 o0 o1 x t n a done in
     row_reached p (bind_request_row 0 x t n) (request_picks a n x t) c v1 ts1 o0 o1 (done stack_in) ended picks lines
@@ -205,7 +204,7 @@ pub learn_made : (p : List Stmt) (c : Core) (v1 : Variables) (ts1 : Roster Runni
     v1.binder.owners ≡ c.variables.binder.owners → v1.binder.site ≡ c.variables.binder.site → IsSound v1.store.equations → x.site ≢ c.variables.binder.site → IsKnown c.variables.binder x → EachOfTerm (IsAmong c.variables.store.known) t → TermFits p t →
     IsConsistent p c → IsRowMade p (λ s. without_output (with_known_equation s x t)) c o (record c { variables = v1; threads = ts1 }) o
 learn_made p c v1 ts1 o x t done ended linked grows owners own sound elsewhere met term fits h =
-    row_reached p (λ s. without_output (with_known_equation s x t)) [] c v1 ts1 o o quiet ended (sym (nil_right o.picks.items)) refl
+    row_reached p (λ s. without_output (with_known_equation s x t)) [] c v1 ts1 o o quiet ended (sym (nil_right o.picks)) refl
     (learned_consistent p c v1 ts1 h (one_learned p c v1 ts1 x t h linked own grows names sound ((h.linked.names x).0 met) term fits (told_one c v1 ts1 x t elsewhere done)))
   where
     names : (y : VarName) → y.site ≡ c.variables.binder.site → Contains v1.store.known y → Contains c.variables.store.known y

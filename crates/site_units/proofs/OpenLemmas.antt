@@ -1,6 +1,6 @@
 -- A message that is opened.
-use Rattle.std.proofs.Common.{rules, ◌≡◌, ◌∙◌, sym, ap, refl, subst, ℕ, List, [], ◌∷◌, ◌++◌, ◌⊎◌, inl, inr, Bool, true, false, cond, Some, None}
-use Rattle.std.specs.Prelude.{Option, Contains, is_some, ◌==◌}
+use Rattle.std.proofs.Common.{◌≡◌, ◌∙◌, sym, ap, refl, subst, ℕ, List, [], ◌∷◌, ◌++◌, ◌⊎◌, inl, inr, Bool, true, false, cond, Some, None}
+use Rattle.std.specs.Prelude.{Option, Contains, is_some}
 use Rattle.tree_node.specs.declared.names.VarName.{VarName}
 use Rattle.tree_node.specs.declared.names.ThreadName.{ThreadName}
 use Rattle.tree_node.specs.declared.names.Name.TheVariants as name
@@ -166,10 +166,10 @@ module _ (p : List Stmt) (c : Core) (v1 : Variables) (ts1 : Roster Running) (o0 
   which_woken = ((brings encode).bound, woken_back (brings encode).bound c.threads.living ts1.living (sym threads_are ∙ (brings encode).woken))
 
   pub open_made : IsConsistent p c → Each (λ (e : Equation). TermFits p e.1) (message_bundle m) → ts1.ended ≡ c.threads.ended → IsLinked v1 → IsGrown c.variables.store.known v1.store.known → Each (Contains v1.store.known) (message_vars m) →
-      v1.binder.owners ≡ c.variables.binder.owners → v1.binder.site ≡ c.variables.binder.site → IsSound v1.store.equations → o1.picks.items ≡ o0.picks.items → o1.lines.items ≡ o0.lines.items →
+      v1.binder.owners ≡ c.variables.binder.owners → v1.binder.site ≡ c.variables.binder.site → IsSound v1.store.equations → o1.picks ≡ o0.picks → o1.lines.items ≡ o0.lines.items →
       IsRowMade p (opening m) c o0 (record c { variables = v1; threads = ts1 }) o1
   open_made h terms ended linked grows known owners own sound picks lines =
-      row_reached p (opening m) [] c v1 ts1 o0 o1 (done stack_in) ended (picks ∙ sym (nil_right o0.picks.items)) lines
+      row_reached p (opening m) [] c v1 ts1 o0 o1 (done stack_in) ended (picks ∙ sym (nil_right o0.picks)) lines
       (learned_consistent p c v1 ts1 h (record {
         linked = linked;
         own = own;

@@ -61,7 +61,7 @@ pub packed_reached : (p : List Stmt) (d : Transition) (c0 c1 : Core) (o0 o1 o2 :
     o2.sent ≡ take from o1.sent ++ with_own_bundles bundle_limit c1.variables.store.equations (drop from o1.sent) → o2.picks ≡ o1.picks → o2.lines ≡ o1.lines → IsReached p (with_bundles bundle_limit d) c0 o0 c1 o2
 packed_reached p d c0 c1 o0 o1 o2 from h at sent picks lines = record {
   site = h.site;
-  picks = (λ i. (picks i).items) ∙ h.picks;
+  picks = picks ∙ h.picks;
   sent = sent ∙ (ap (λ (l : List Sent). l ++ with_own_bundles bundle_limit c1.variables.store.equations (drop from o1.sent)) before ∙ ap (λ (l : List Sent). o0.sent ++ l) same);
   lines = (λ i. (lines i).items) ∙ h.lines;
   consistent = h.consistent;

@@ -46,10 +46,10 @@ use Rattle.site_units.proofs.BirthLemmas.{cells_consistent, thread_consistent}
 
 pub row_reached : (p : List Stmt) (f : Site → Transition) (ks : List Pick) (c : Core) (v1 : Variables) (ts1 : Roster Running) (o0 o1 : Output) →
     IsDone f ks (parts_of c.variables (stacks_of stack_in c.threads.living) o0.sent) (parts_of v1 (stacks_of stack_in ts1.living) o1.sent) → ts1.ended ≡ c.threads.ended →
-    o1.picks.items ≡ o0.picks.items ++ ks → o1.lines.items ≡ o0.lines.items → IsConsistent p (record c { variables = v1; threads = ts1 }) → IsRowMade p f c o0 (record c { variables = v1; threads = ts1 }) o1
+    o1.picks ≡ o0.picks ++ ks → o1.lines.items ≡ o0.lines.items → IsConsistent p (record c { variables = v1; threads = ts1 }) → IsRowMade p f c o0 (record c { variables = v1; threads = ts1 }) o1
 row_reached p f ks c v1 ts1 o0 o1 done ended picks lines consistent = record {
   site = ap (λ (m : ℕ). record (site_of (record c { variables = v1; threads = ts1 })) { ended = m }) ended ∙ sym (ap (λ (d : Transition). d.site) is);
-  picks = picks ∙ ap (λ (l : List Pick). o0.picks.items ++ l) (sym (ap (λ (d : Transition). d.picks) is));
+  picks = picks ∙ ap (λ (l : List Pick). o0.picks ++ l) (sym (ap (λ (d : Transition). d.picks) is));
   sent = done.sent ∙ ap (λ (l : List Sent). o0.sent ++ l) (sym (ap (λ (d : Transition). d.sent) is));
   lines = lines ∙ (sym (nil_right o0.lines.items) ∙ ap (λ (l : List (List ℕ)). o0.lines.items ++ l) (sym (ap (λ (d : Transition). d.lines) is)));
   consistent = consistent;
@@ -83,9 +83,9 @@ registered_consistent p c v1 h linked store own = next_consistent p c (record c 
 
 pub register_made : (p : List Stmt) (c : Core) (v1 : Variables) (o0 o1 : Output) (x : VarName) (k : ℕ) →
     ((ts : List (ThreadName × ThreadState)) → IsDone (register_row 0 x k) [] (parts_of c.variables ts o0.sent) (parts_of v1 ts o1.sent)) → IsLinked v1 → v1.store ≡ c.variables.store →
-    o1.picks.items ≡ o0.picks.items → o1.lines.items ≡ o0.lines.items → IsConsistent p c → IsRowMade p (register_row 0 x k) c o0 (record c { variables = v1 }) o1
+    o1.picks ≡ o0.picks → o1.lines.items ≡ o0.lines.items → IsConsistent p c → IsRowMade p (register_row 0 x k) c o0 (record c { variables = v1 }) o1
 register_made p c v1 o0 o1 x k done linked store picks lines h =
-    row_reached p (register_row 0 x k) [] c v1 c.threads o0 o1 (done (stacks_of stack_in c.threads.living)) refl (picks ∙ sym (nil_right o0.picks.items)) lines
+    row_reached p (register_row 0 x k) [] c v1 c.threads o0 o1 (done (stacks_of stack_in c.threads.living)) refl (picks ∙ sym (nil_right o0.picks)) lines
     (registered_consistent p c v1 h linked store (sym (ap (λ (d : Transition). d.site.records.site) ((done []).done (site_of c)))))
 
 -- ---- rows of cells
@@ -93,11 +93,11 @@ register_made p c v1 o0 o1 x k done linked store picks lines h =
 pub tables_of : (p : List Stmt) (c : Core) → IsConsistent p c → AreTablesOf (site_of c) c.cells
 tables_of p c h = record { site = h.tables; managers = refl; cell_records = refl }
 
-pub cells_reached : (p : List Stmt) (f : Site → Transition) (c : Core) (t2 : CellTables) (o0 o1 : Output) → IsRow f same_site c.cells t2 o0.sent o1.sent → o1.picks.items ≡ o0.picks.items → o1.lines.items ≡ o0.lines.items →
+pub cells_reached : (p : List Stmt) (f : Site → Transition) (c : Core) (t2 : CellTables) (o0 o1 : Output) → IsRow f same_site c.cells t2 o0.sent o1.sent → o1.picks ≡ o0.picks → o1.lines.items ≡ o0.lines.items →
     IsConsistent p c → CellsFit p c t2.cell_records → IsRowMade p f c o0 (record c { cells = t2 }) o1
 cells_reached p f c t2 o0 o1 h picks lines consistent fits = record {
   site = sym (ap (λ (d : Transition). d.site) is);
-  picks = picks ∙ (sym (nil_right o0.picks.items) ∙ ap (λ (l : List Pick). o0.picks.items ++ l) (sym (ap (λ (d : Transition). d.picks) is)));
+  picks = picks ∙ (sym (nil_right o0.picks) ∙ ap (λ (l : List Pick). o0.picks ++ l) (sym (ap (λ (d : Transition). d.picks) is)));
   sent = h.step.1 ∙ ap (λ (l : List Sent). o0.sent ++ l) (sym (ap (λ (d : Transition). d.sent) is));
   lines = lines ∙ (sym (nil_right o0.lines.items) ∙ ap (λ (l : List (List ℕ)). o0.lines.items ++ l) (sym (ap (λ (d : Transition). d.lines) is)));
   consistent = cells_consistent p c t2 consistent h.site fits;
@@ -122,7 +122,7 @@ get_content known manager last k h e = go (last == manager)
     go false = e
 
 pub get_made : (p : List Stmt) (c : Core) (t2 : CellTables) (o0 o1 : Output) (cell : CellName) (k : ℕ) → IsRow (get_row 0 cell k) same_site c.cells t2 o0.sent o1.sent →
-    o1.picks.items ≡ o0.picks.items → o1.lines.items ≡ o0.lines.items → IsConsistent p c → IsRowMade p (get_row 0 cell k) c o0 (record c { cells = t2 }) o1
+    o1.picks ≡ o0.picks → o1.lines.items ≡ o0.lines.items → IsConsistent p c → IsRowMade p (get_row 0 cell k) c o0 (record c { cells = t2 }) o1
 get_made p c t2 o0 o1 cell k h picks lines consistent = cells_reached p (get_row 0 cell k) c t2 o0 o1 h picks lines consistent records
   where
     now : CellFits p c (cell, cell_record_in c.cells.cell_records cell)
@@ -135,7 +135,7 @@ get_made p c t2 o0 o1 cell k h picks lines consistent = cells_reached p (get_row
         (record { content = get_content c.variables.store.known c.variables.binder.site (last_before (site_of c) cell) k (cell_record_in c.cells.cell_records cell).held now.content; queue = now.queue; once = now.once }) consistent.cells)
 
 pub forward_made : (p : List Stmt) (c : Core) (t2 : CellTables) (o0 o1 : Output) (cell : CellName) (k : ℕ) → IsRow (forward_row 0 cell k) same_site c.cells t2 o0.sent o1.sent →
-    o1.picks.items ≡ o0.picks.items → o1.lines.items ≡ o0.lines.items → IsConsistent p c → IsRowMade p (forward_row 0 cell k) c o0 (record c { cells = t2 }) o1
+    o1.picks ≡ o0.picks → o1.lines.items ≡ o0.lines.items → IsConsistent p c → IsRowMade p (forward_row 0 cell k) c o0 (record c { cells = t2 }) o1
 forward_made p c t2 o0 o1 cell k h picks lines consistent = cells_reached p (forward_row 0 cell k) c t2 o0 o1 h picks lines consistent records
   where
     now : CellFits p c (cell, cell_record_in c.cells.cell_records cell)
@@ -158,7 +158,7 @@ begin_made p c ts o n code vars w new made known is fits living ended h = record
       ap (λ (l : List (ThreadName × ThreadState)). record (site_of c) { threads = l; ended = ts.ended })
       (ap (λ (l : Living). stacks_of stack_in l) living ∙ ap (λ (st : Stack). (n, (st, mode.Runs)) ∷ stacks_of stack_in c.threads.living) (ap (λ (x : Running). x.stack) is))
       ∙ ap (λ (m : ℕ). record (with_thread p (Some (birth n code vars)) (site_of c)) { ended = m }) ended;
-  picks = sym (nil_right o.picks.items);
+  picks = sym (nil_right o.picks);
   sent = sym (nil_right o.sent);
   lines = sym (nil_right o.lines.items);
   consistent = thread_consistent p c ts n w h living new (record {

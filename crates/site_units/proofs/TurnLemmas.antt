@@ -1,7 +1,6 @@
 -- Units in a row, and turns.
 use Rattle.std.proofs.Common.{arith, ◌≡◌, ◌∙◌, sym, ap, refl, subst, ℕ, suc, length, filter, List, [], ◌∷◌, ◌++◌, Bool, true, false, cond}
-use Rattle.std.specs.Prelude.{◌+◌, ◌≤◌, ◌<◌, ◌==◌}
-use Rattle.std.proofs.lemmas.Bool.Decides.{nat_tests}
+use Rattle.std.specs.Prelude.{◌+◌, ◌≤◌, ◌<◌}
 use Rattle.tree_node.specs.declared.names.ThreadName.{ThreadName}
 use Rattle.tree_node.specs.declared.pick.Pick.{Pick}
 use Rattle.kernel_syntax.specs.declared.stmt.Stmt.{Stmt}
@@ -45,7 +44,7 @@ units_more p n limit (t ∷ ths) th s d one (first, rest, u0, us, e) u =
 pub reached_more : (p : List Stmt) (d e : Transition) (c0 c1 c2 : Core) (o0 o1 o2 : Output) → IsReached p d c0 o0 c1 o1 → IsReached p e c1 o1 c2 o2 → IsReached p (sequence d e) c0 o0 c2 o2
 reached_more p d e c0 c1 c2 o0 o1 o2 h g = record {
   site = g.site;
-  picks = g.picks ∙ (ap (λ (l : List Pick). l ++ e.picks) h.picks ∙ joined o0.picks.items d.picks e.picks);
+  picks = g.picks ∙ (ap (λ (l : List Pick). l ++ e.picks) h.picks ∙ joined o0.picks d.picks e.picks);
   sent = g.sent ∙ (ap (λ (l : List Sent). l ++ e.sent) h.sent ∙ joined o0.sent d.sent e.sent);
   lines = g.lines ∙ (ap (λ (l : List (List ℕ)). l ++ e.lines) h.lines ∙ joined o0.lines.items d.lines e.lines);
   consistent = g.consistent;
@@ -55,7 +54,7 @@ reached_more p d e c0 c1 c2 o0 o1 o2 h g = record {
 pub reached_nothing : (p : List Stmt) (c : Core) (o : Output) → IsConsistent p c → IsReached p (without_output (site_of c)) c o c o
 reached_nothing p c o h = record {
   site = refl;
-  picks = sym (nil_right o.picks.items);
+  picks = sym (nil_right o.picks);
   sent = sym (nil_right o.sent);
   lines = sym (nil_right o.lines.items);
   consistent = h;

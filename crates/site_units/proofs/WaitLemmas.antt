@@ -131,7 +131,7 @@ wait_made p c0 c c1 o0 th r q x h v f l s n e t =
       unit_of p c0 th r (Waits z) (without_output (with_waiting th r.stack x (site_of c0))) h.running need (x, class, refl),
       record {
         site = site ∙ ap (λ (y : CellTables). with_tables y (with_waiting th r.stack x (site_of c0))) (t ∙ h.cells);
-        picks = sym (nil_right o0.picks.items);
+        picks = sym (nil_right o0.picks);
         sent = sym (nil_right o0.sent);
         lines = sym (nil_right o0.lines.items);
         consistent = next_consistent p c0 c1 h.consistent (waits_next p c0 c c1 th r q (out.Waits x) (mode.Waits x) h stack called unchanged.1 unchanged.2 v f l s n t);

@@ -31,7 +31,7 @@ use Rattle.site_units.specs.Facts.{IsConsistent}
 -- the data and the output came by this transition, and the data is consistent
 pub record IsReached (p : List Stmt) (d : Transition) (c0 : Core) (o0 : Output) (c1 : Core) (o1 : Output) : Type 0 where
   pub site : site_of c1 ≡ d.site
-  pub picks : o1.picks.items ≡ o0.picks.items ++ d.picks
+  pub picks : o1.picks ≡ o0.picks ++ d.picks
   pub sent : o1.sent ≡ o0.sent ++ d.sent
   pub lines : o1.lines.items ≡ o0.lines.items ++ d.lines
   pub consistent : IsConsistent p c1

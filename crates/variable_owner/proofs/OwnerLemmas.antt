@@ -1,16 +1,14 @@
 -- A look-up among the entries of the map, and a value written in place.
-use Rattle.std.proofs.Common.{◌≡◌, ◌∙◌, sym, ap, refl, List, [], ◌∷◌, Bool, true, false, cond, Some, None}
-use Rattle.std.specs.Prelude.{ℕ, Option, Result, Ok, Err, IfOk, OnOk, OnErr, is_some, option_copied}
-use Rattle.std.specs.Borrow.{Bor}
+use Rattle.std.proofs.Common.{◌≡◌, ◌∙◌, sym, ap, refl, List, [], ◌∷◌, Bool, true, false, cond, is_some, Some, None}
+use Rattle.std.specs.Prelude.{ℕ, Result, Ok, Err, IfOk}
 use Rattle.std.specs.Map.{set_value}
 use Rattle.tree_node.specs.declared.names.VarName.{VarName}
 use Rattle.tree_node.specs.Store.{equal_var}
 use Rattle.tree_node.specs.declared.node.Term.{Term}
 use Rattle.variable_owner.specs.declared.owners.Owner.{Owner}
-use Rattle.variable_owner.specs.declared.owners.Owner.TheVariants.{Open, Bound}
 use Rattle.variable_owner.specs.declared.owners.Registered.{Registered}
 use Rattle.variable_owner.specs.declared.owners.Registered.TheVariants.{Kept, Answer}
-use Rattle.variable_owner.specs.Owners.{Owned, OnAnswer, owner_of, binding_of, with_registered, with_owner, after_register, after_ask}
+use Rattle.variable_owner.specs.Owners.{Owned, IsMade, OnAnswer, owner_of, with_registered, with_owner, after_register, after_bind, after_ask}
 
 -- a value written in the place of one that is there
 pub written : (es : List Owned) (x : VarName) (o p : Owner) → owner_of es x ≡ Some o → set_value (equal_var x) es p ≡ with_owner es x p
@@ -33,24 +31,20 @@ written_back ((y, r) ∷ es) x o e = go (equal_var x y) refl e (λ k. written_ba
     go false q k ih = ap (λ (zs : List Owned). (y, r) ∷ zs) (ih k)
 
 -- a registration writes the owner in its place
-pub registered : (s es fs : List Owned) (x : VarName) (k : ℕ) (o p : Owner) → es ≡ s → Some o ≡ owner_of es x → fs ≡ set_value (equal_var x) es p → p ≡ with_registered o k → fs ≡ after_register s x k
-registered s es fs x k o p view found e is =
-    let here : owner_of s x ≡ Some o = ap (λ (zs : List Owned). owner_of zs x) (sym view) ∙ sym found in
-    e ∙ written es x o p (sym found) ∙ ap (λ (zs : List Owned). with_owner zs x p) view ∙ ap (λ (z : Owner). with_owner s x z) is ∙ sym (rw here refl)
+pub registered : (s fs : List Owned) (x : VarName) (k : ℕ) (o p : Owner) → owner_of s x ≡ Some o → fs ≡ with_owner s x p → p ≡ with_registered o k → fs ≡ after_register s x k
+registered s fs x k o p held e is = e ∙ ap (λ (z : Owner). with_owner s x z) is ∙ sym (rw held refl)
+
+-- so does a request to bind
+pub asked : (s fs : List Owned) (x : VarName) (t : Term) (o p : Owner) → owner_of s x ≡ Some o → fs ≡ with_owner s x p → p ≡ after_bind o t → fs ≡ after_ask s x t
+asked s fs x t o p held e is = e ∙ ap (λ (z : Owner). with_owner s x z) is ∙ sym (rw held refl)
 
 -- or leaves what was there
-pub unregistered : (s es fs : List Owned) (x : VarName) (o p : Owner) → es ≡ s → Some o ≡ owner_of es x → fs ≡ set_value (equal_var x) es p → p ≡ o → fs ≡ s
-unregistered s es fs x o p view found e is =
-    e ∙ written es x o p (sym found) ∙ ap (λ (z : Owner). with_owner es x z) is ∙ written_back es x o (sym found) ∙ view
+pub unregistered : (s fs : List Owned) (x : VarName) (o p : Owner) → owner_of s x ≡ Some o → fs ≡ with_owner s x p → p ≡ o → fs ≡ s
+unregistered s fs x o p held e is = e ∙ ap (λ (z : Owner). with_owner s x z) is ∙ written_back s x o held
 
--- a late request changes nothing
-pub late_same : (s : List Owned) (x : VarName) (t : Term) → is_some (binding_of (owner_of s x)) ≡ true → s ≡ after_ask s x t
-late_same s x t e = go (owner_of s x) refl e
-  where
-    go : (o : Option Owner) → owner_of s x ≡ o → is_some (binding_of o) ≡ true → s ≡ after_ask s x t
-    go None q k = rw q refl
-    go (Some (Open sites)) q k = cc
-    go (Some (Bound r)) q k = rw q (sym (written_back s x (Bound r) q))
+-- what was made is there
+pub unmade : (s : List Owned) (x : VarName) → owner_of s x ≡ None → IsMade s x → ⊥
+unmade s x e h = let none : is_some (owner_of s x) ≡ false = ap is_some e in cc
 
 pub on_answer : {E P Q : Type 0} (r : Result Registered E) → (P → Q) → IfOk r (λ a. OnAnswer a P) → IfOk r (λ a. OnAnswer a Q)
 on_answer (Ok Kept) f h = tt

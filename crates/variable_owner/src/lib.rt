@@ -3,7 +3,8 @@
 //!
 //! It promises: `Owners` is the list of the variables made, in order, each with its registered sites while it is unbound,
 //! then with its binding. The first request to bind a variable is taken and every later one is late; a registration for a
-//! bound variable is answered with its binding. Its rows are `after_register` and `after_ask`.
+//! bound variable is answered with its binding. Its rows are `after_register` and `after_ask`. The variables of a site, whose numbers
+//! come without gaps, stand in a row by number, and are found without a look-up by hash.
 //!
 //! It stands on `tree_node` and on `indexmap`. Nothing is left to tests.
 //!

@@ -1,7 +1,8 @@
 //! The variables that a site owns.
 
-ghost use Rattle.std.specs.Prelude.{◌≡◌, ◌↔◌, [], None, IsTrue, IsSome, IfSome, IfOk, OnOk, OnErr, Contains, option_copied};
-ghost use Rattle.variable_owner.specs.Owners.{IsMade, OnAnswer, TellsRegistered, owner_of, sites_of, binding_of, with_registered, with_owner, after_register, after_ask};
+ghost use Rattle.std.specs.Prelude.{◌≡◌, ◌+◌, ◌↔◌, [], None, Some, IsTrue, IsSome, IfSome, IfOk, OnOk, OnErr, Contains, option_copied};
+ghost use Rattle.variable_owner.specs.Owners.{IsMade, OnAnswer, TellsRegistered, owner_of, sites_of, binding_of, with_registered, with_owner, after_register, after_bind, after_ask};
+ghost use Rattle.variable_owner.specs.Row.{is_in_row};
 ghost use Rattle.variable_owner.specs.declared.owners.Owner.TheVariants.{Open};
 ghost use Rattle.variable_owner.specs.declared.owners.Asked.TheVariants.{Late};
 
@@ -31,22 +32,50 @@ pub enum Asked {
     Late,
 }
 
-/// The variables that a site owns, in the order in which they were made. Contracts see them as a list. Each call costs
-/// by a look-up.
+/// The variables that a site owns, in the order in which they were made. Contracts see them as a list. Those of one site stand
+/// in a row by number, as long as their numbers come without gaps; once one does not, it and all later ones stand in a map. Each
+/// call costs by a look-up.
 #[derive(Drop)]
 pub struct Owners {
     alloc: Global,
-    entries: IndexMap<VarName, Owner>,
+    site: u32,
+    first: u64,
+    row: Vec<Owner>,
+    others: IndexMap<VarName, Owner>,
 }
 
 impl Model for Owners {
-    ghost use Rattle.std.specs.Prelude.{List};
+    ghost use Rattle.std.specs.Prelude.{List, ◌++◌};
     ghost use Rattle.tree_node.specs.declared.names.VarName.{VarName};
+    ghost use Rattle.variable_owner.specs.Row.{in_row};
     ghost use Rattle.variable_owner.specs.declared.owners.Owner.{Owner};
 
     ghost Value = { List (VarName × Owner) };
 
-    ghost view = { λ o. o.entries.entries };
+    ghost view = { λ o. in_row o.site o.first o.row.items ++ o.others.entries };
+}
+
+// Whether a variable is one of so many of a site, from a number on.
+fn is_within(site: u32, first: u64, count: usize, var: VarName) -> bool
+    ensures { result ≡ is_in_row site first count var }
+{
+    var.site == site && var.num >= first && var.num - first < count as u64
+}
+
+// Whether a variable is the next one behind so many of a site, from a number on.
+fn is_next(site: u32, first: u64, count: usize, var: VarName) -> bool
+    ensures { IsTrue result → var ≡ record { site = site; num = first + count } }
+{
+    var.site == site && var.num >= first && var.num - first == count as u64
+}
+
+// Puts an owner at a variable of a map.
+fn add(others: &mut IndexMap<VarName, Owner>, var: VarName, owner: Owner) -> Result<(), AllocError>
+    ensures ok { OnOk result (others.new.entries ≡ with_owner others.old.entries var owner) }
+    ensures err { OnErr result (others.new.entries ≡ others.old.entries) }
+{
+    others.insert(var, owner)?;
+    Ok(())
 }
 
 impl Owner {
@@ -65,6 +94,20 @@ impl Owner {
             Owner::Bound(term) => Ok(Registered::Answer(copy_term(term)?)),
         }
     }
+
+    // Somebody asks to bind the variable.
+    fn bind(&mut self, term: Term) -> Asked
+        ensures late { (result ≡ Late) ↔ IsSome (binding_of (Some self.old)) }
+        ensures after { self.new ≡ after_bind self.old term }
+    {
+        match self {
+            Owner::Open(_) => {
+                *self = Owner::Bound(term);
+                Asked::Taken
+            }
+            Owner::Bound(_) => Asked::Late,
+        }
+    }
 }
 
 impl Owners {
@@ -74,15 +117,38 @@ impl Owners {
     {
         Owners {
             alloc,
-            entries: IndexMap::new(alloc),
+            site: 0,
+            first: 0,
+            row: Vec::new(alloc),
+            others: IndexMap::new(alloc),
         }
+    }
+
+    // What is kept of a variable.
+    fn owner(&self, var: VarName) -> Option<&Owner>
+        ensures { option_copied result ≡ owner_of self.now var }
+    {
+        if is_within(self.site, self.first, self.row.len(), var) {
+            return Some(&self.row[(var.num - self.first) as usize]);
+        }
+        self.others.get(&var)
     }
 
     /// Whether the variable was made.
     pub fn made(&self, var: VarName) -> bool
         ensures { IsTrue result ↔ IsMade self.now var }
     {
-        self.entries.get(&var).is_some()
+        self.owner(var).is_some()
+    }
+
+    // Where the row has no variable yet, it begins at this one.
+    fn begin(&mut self, var: VarName)
+        ensures { self.new ≡ self.old }
+    {
+        if self.row.is_empty() {
+            self.site = var.site;
+            self.first = var.num;
+        }
     }
 
     /// A new variable, unbound, with the room for its binding.
@@ -91,9 +157,14 @@ impl Owners {
         ensures ok { OnOk result (self.new ≡ with_owner self.old var (Open [])) }
         ensures err { OnErr result (self.new ≡ self.old) }
     {
-        let sites = Seq::new(self.alloc);
-        self.entries.insert(var, Owner::Open(sites))?;
-        Ok(())
+        self.begin(var);
+        let owner = Owner::Open(Seq::new(self.alloc));
+        if self.others.is_empty() && is_next(self.site, self.first, self.row.len(), var) {
+            self.row.push(owner)?;
+            Ok(())
+        } else {
+            add(&mut self.others, var, owner)
+        }
     }
 
     /// The sites that are registered for an unbound variable, in the order in which they registered. None is for one
@@ -101,7 +172,7 @@ impl Owners {
     pub fn registered(&self, var: VarName) -> &[u32]
         ensures { result.now ≡ sites_of (owner_of self.now var) }
     {
-        match self.entries.get(&var) {
+        match self.owner(var) {
             Some(Owner::Open(sites)) => sites.as_slice(),
             _ => &[],
         }
@@ -111,7 +182,7 @@ impl Owners {
     pub fn binding(&self, var: VarName) -> Option<&Term>
         ensures { option_copied result ≡ binding_of (owner_of self.now var) }
     {
-        match self.entries.get(&var) {
+        match self.owner(var) {
             Some(Owner::Bound(term)) => Some(term),
             _ => None,
         }
@@ -126,7 +197,10 @@ impl Owners {
         ensures bound { IfOk result (λ r. OnAnswer r (self.new ≡ self.old)) }
         ensures err { OnErr result (self.new ≡ self.old) }
     {
-        match self.entries.get_mut(&var) {
+        if is_within(self.site, self.first, self.row.len(), var) {
+            return self.row[(var.num - self.first) as usize].join(site);
+        }
+        match self.others.get_mut(&var) {
             Some(owner) => owner.join(site),
             None => unreachable!(),
         }
@@ -138,12 +212,12 @@ impl Owners {
         ensures late { (result ≡ Late) ↔ IsSome (binding_of (owner_of self.old var)) }
         ensures after { self.new ≡ after_ask self.old var term }
     {
-        if self.binding(var).is_some() {
-            return Asked::Late;
+        if is_within(self.site, self.first, self.row.len(), var) {
+            return self.row[(var.num - self.first) as usize].bind(term);
         }
-        match self.entries.insert(var, Owner::Bound(term)) {
-            Ok(_) => Asked::Taken,
-            Err(_) => unreachable!(),
+        match self.others.get_mut(&var) {
+            Some(owner) => owner.bind(term),
+            None => unreachable!(),
         }
     }
 }

@@ -10,7 +10,7 @@ returns-clause-turn c =
     (c.site_in-site.ensures _ c.requires.consistent.site) c.split-delivered.ensures.number (record {
       picks = c.in_ok-picks.ensures.same;
       sent = c.into_list.ensures;
-      lines = c.from_vec-2.ensures;
+      lines = c.from_vec.ensures;
       idle = idle_is c.turn.new.core c.idle.result c.idle.ensures;
       ended = c.ended.ensures;
       waiting = c.waiting.ensures ∙ waiting_stacks c.turn.new.core.threads.living;

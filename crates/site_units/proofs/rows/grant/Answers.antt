@@ -16,7 +16,7 @@ returns-in-Late-clause-row c p h fits =
     grant_made p c.args.core.now c.on_request.new.self c.on_request.new.threads c.args.output.now _ c.args.var c.args.term c.args.thread Late
     (subst (λ (a : Asked). Requested c.args.core.now c.on_request.new.self c.on_request.new.threads c.args.output.now (record c.args.output.now { sent = c.on_request.new.outbox }) c.args.var c.args.term c.args.thread a) c.in-Late.is (λ g. e.done g c.args.thread))
     e.ended e.linked e.known c.forest.ensures.sound ((h.linked.names c.args.var).0 (owned_known c.args.core.now.variables.binder c.args.var c.requires.own c.requires.made)) c.requires.known fits h
-    (sym (nil_right c.args.output.now.picks.items)) refl
+    (sym (nil_right c.args.output.now.picks)) refl
 
 pub returns-in_ok-push-in-Taken-clause-row : goal.returns-in_ok-push-in-Taken-clause-row
 returns-in_ok-push-in-Taken-clause-row c p h fits =
@@ -24,5 +24,5 @@ returns-in_ok-push-in-Taken-clause-row c p h fits =
     grant_made p c.args.core.now c.on_request.new.self c.on_request.new.threads c.args.output.now _ c.args.var c.args.term c.args.thread Taken
     (subst (λ (a : Asked). Requested c.args.core.now c.on_request.new.self c.on_request.new.threads c.args.output.now (record c.args.output.now { sent = c.on_request.new.outbox }) c.args.var c.args.term c.args.thread a) c.in-Taken.is (λ g. e.done g c.args.thread))
     e.ended e.linked e.known c.forest.ensures.sound ((h.linked.names c.args.var).0 (owned_known c.args.core.now.variables.binder c.args.var c.requires.own c.requires.made)) c.requires.known fits h
-    (c.in_ok-push-in-Taken.ensures.items ∙ ap (λ (k : Pick). c.args.output.now.picks.items ++ k ∷ [])
+    (c.in_ok-push-in-Taken.ensures.ok ∙ ap (λ (k : Pick). c.args.output.now.picks ++ k ∷ [])
     (c.plain_pick-pick.ensures ∙ ap (λ (z : Term). record { thread = c.args.thread; fresh = []; bind = Some (c.args.var, z) }) c.in_ok-copy.ensures)) refl

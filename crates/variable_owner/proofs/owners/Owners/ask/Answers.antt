@@ -1,12 +1,46 @@
-use Rattle.std.proofs.Common.{◌≡◌, ◌∙◌, sym, true}
-use Rattle.std.specs.Prelude.{is_some}
-use Rattle.variable_owner.specs.Owners.{owner_of, binding_of}
-use Rattle.variable_owner.proofs.OwnerLemmas.{late_same}
+use Rattle.std.proofs.Common.{arith, ◌≡◌, ◌↔◌, ◌∙◌, ap, sym, subst, ℕ, List, length, true, false, Some}
+use Rattle.std.specs.Prelude.{Option, IsSome}
+use Rattle.variable_owner.specs.declared.owners.Owner.{Owner}
+use Rattle.variable_owner.specs.declared.owners.Asked.TheVariants.{Late}
+use Rattle.variable_owner.specs.Owners.{Owned, owner_of, binding_of, with_owner}
+use Rattle.variable_owner.specs.Row.{is_in_row}
+use Rattle.variable_owner.proofs.OwnerLemmas.{asked, unmade}
+use Rattle.variable_owner.proofs.RowLemmas.{row_held, row_written, other_held, other_written, past_owner, beside_none}
 use Rattle.variable_owner.proofs.owners.Owners.ask.Goals as goal
-use Rattle.tree_node.proofs.OptionLemmas.{lent_some}
 
-pub returns-then-is_some-clause-after : goal.returns-then-is_some-clause-after
-returns-then-is_some-clause-after c =
-    let held : is_some (binding_of (owner_of c.args.self.now c.args.var)) ≡ true =
-    sym (lent_some c.binding.result _ c.binding.ensures) ∙ sym c.is_some.ensures ∙ c.if-is_some.true in
-    late_same c.args.self.now c.args.var c.args.term held
+pub returns-then-is_within-clause-late : goal.returns-then-is_within-clause-late
+returns-then-is_within-clause-late c =
+    let count : c.len.result ≡ length c.self.inside.row.items = omega (arith, c.len.ensures, c.self.inside.row.ok.0) in
+    let test : is_in_row c.self.inside.site c.self.inside.first (length c.self.inside.row.items) c.args.var ≡ true = ap (λ (n : ℕ). is_in_row c.self.inside.site c.self.inside.first n c.args.var) (sym count) ∙ sym c.is_within.ensures ∙ c.if-is_within.true in
+    let held : owner_of c.args.self.now c.args.var ≡ Some c.index_mut.result.now = ap (λ (l : List Owned). owner_of l c.args.var) (sym c.self.view_is) ∙ row_held c.self.inside.site c.self.inside.first c.self.inside.row.items c.self.inside.others.entries c.args.var c.index_mut.result.now test c.index_mut.ensures.value in
+    subst (λ (o : Option Owner). (c.bind.result ≡ Late) ↔ IsSome (binding_of o)) (sym held) c.bind.ensures.late
+
+pub returns-then-is_within-clause-after : goal.returns-then-is_within-clause-after
+returns-then-is_within-clause-after c =
+    let count : c.len.result ≡ length c.self.inside.row.items = omega (arith, c.len.ensures, c.self.inside.row.ok.0) in
+    let test : is_in_row c.self.inside.site c.self.inside.first (length c.self.inside.row.items) c.args.var ≡ true = ap (λ (n : ℕ). is_in_row c.self.inside.site c.self.inside.first n c.args.var) (sym count) ∙ sym c.is_within.ensures ∙ c.if-is_within.true in
+    let held : owner_of c.args.self.now c.args.var ≡ Some c.index_mut.result.now = ap (λ (l : List Owned). owner_of l c.args.var) (sym c.self.view_is) ∙ row_held c.self.inside.site c.self.inside.first c.self.inside.row.items c.self.inside.others.entries c.args.var c.index_mut.result.now test c.index_mut.ensures.value in
+    asked c.args.self.now _ c.args.var c.args.term c.index_mut.result.now c.bind.new.self held
+    (sym (row_written c.self.inside.site c.self.inside.first c.self.inside.row.items c.self.inside.others.entries c.args.var c.bind.new.self test) ∙ ap (λ (l : List Owned). with_owner l c.args.var c.bind.new.self) c.self.view_is) c.bind.ensures.after
+
+pub unreachable-requires : goal.unreachable-requires
+unreachable-requires c =
+    let count : c.len.result ≡ length c.self.inside.row.items = omega (arith, c.len.ensures, c.self.inside.row.ok.0) in
+    let test : is_in_row c.self.inside.site c.self.inside.first (length c.self.inside.row.items) c.args.var ≡ false = ap (λ (n : ℕ). is_in_row c.self.inside.site c.self.inside.first n c.args.var) (sym count) ∙ sym c.is_within.ensures ∙ c.if-is_within.false in
+    unmade c.args.self.now c.args.var
+    (ap (λ (l : List Owned). owner_of l c.args.var) (sym c.self.view_is) ∙ past_owner _ c.self.inside.others.entries c.args.var (beside_none c.self.inside.site c.self.inside.first c.self.inside.row.items c.args.var test) ∙ sym c.in-None.ensures.value) c.requires.made
+
+pub returns-clause-late : goal.returns-clause-late
+returns-clause-late c =
+    let count : c.len.result ≡ length c.self.inside.row.items = omega (arith, c.len.ensures, c.self.inside.row.ok.0) in
+    let test : is_in_row c.self.inside.site c.self.inside.first (length c.self.inside.row.items) c.args.var ≡ false = ap (λ (n : ℕ). is_in_row c.self.inside.site c.self.inside.first n c.args.var) (sym count) ∙ sym c.is_within.ensures ∙ c.if-is_within.false in
+    let held : owner_of c.args.self.now c.args.var ≡ Some c.in-Some.owner.now = ap (λ (l : List Owned). owner_of l c.args.var) (sym c.self.view_is) ∙ other_held c.self.inside.site c.self.inside.first c.self.inside.row.items c.self.inside.others.entries c.args.var c.in-Some.owner.now test c.in-Some.ensures.value in
+    subst (λ (o : Option Owner). (c.bind-in-Some.result ≡ Late) ↔ IsSome (binding_of o)) (sym held) c.bind-in-Some.ensures.late
+
+pub returns-clause-after : goal.returns-clause-after
+returns-clause-after c =
+    let count : c.len.result ≡ length c.self.inside.row.items = omega (arith, c.len.ensures, c.self.inside.row.ok.0) in
+    let test : is_in_row c.self.inside.site c.self.inside.first (length c.self.inside.row.items) c.args.var ≡ false = ap (λ (n : ℕ). is_in_row c.self.inside.site c.self.inside.first n c.args.var) (sym count) ∙ sym c.is_within.ensures ∙ c.if-is_within.false in
+    let held : owner_of c.args.self.now c.args.var ≡ Some c.in-Some.owner.now = ap (λ (l : List Owned). owner_of l c.args.var) (sym c.self.view_is) ∙ other_held c.self.inside.site c.self.inside.first c.self.inside.row.items c.self.inside.others.entries c.args.var c.in-Some.owner.now test c.in-Some.ensures.value in
+    asked c.args.self.now _ c.args.var c.args.term c.in-Some.owner.now c.bind-in-Some.new.self held
+    (other_written c.self.inside.site c.self.inside.first c.self.inside.row.items c.self.inside.others.entries _ c.args.var c.in-Some.owner.now c.bind-in-Some.new.self test c.in-Some.ensures.value (c.get_mut.follows.holds c.bind-in-Some.new.self).0 ∙ ap (λ (l : List Owned). with_owner l c.args.var c.bind-in-Some.new.self) c.self.view_is) c.bind-in-Some.ensures.after

@@ -1,11 +1,10 @@
-use Rattle.std.proofs.Common.{◌≡◌, ◌∙◌, sym, ap}
+use Rattle.std.proofs.Common.{◌≡◌, ◌∙◌, sym}
 use Rattle.std.specs.Prelude.{is_some}
+use Rattle.tree_node.proofs.OptionLemmas.{lent_some}
 use Rattle.variable_owner.specs.Owners.{owner_of}
 use Rattle.variable_owner.proofs.owners.Owners.made.Goals as goal
-use Rattle.tree_node.proofs.OptionLemmas.{lent_some}
 
 pub returns : goal.returns
 returns c =
-    let found : c.is_some.result ≡ is_some (owner_of c.self.inside.entries.entries c.args.var) = c.is_some.ensures ∙ lent_some c.get.result _ c.get.ensures.value in
-    let e : c.is_some.result ≡ is_some (owner_of c.args.self.now c.args.var) = found ∙ ap (λ es. is_some (owner_of es c.args.var)) c.self.view_is in
+    let e : c.is_some.result ≡ is_some (owner_of c.args.self.now c.args.var) = c.is_some.ensures ∙ lent_some c.owner.result _ c.owner.ensures in
     (λ h. sym e ∙ h, λ h. e ∙ h)
