@@ -80,6 +80,15 @@ size_rule parser = record (new_rule (codes "number")) {
   parser = Some parser;
 }
 
+-- the command without its arguments, which has neither `--help` nor `--version`
+abbrev pub bare_app : App
+bare_app = record (new_app (codes "oz")) {
+  top = record (new_app (codes "oz")).top {
+    disable_help_flag = true;
+    disable_version_flag = true;
+  };
+}
+
 -- the options, and the two words after them
 abbrev pub rules_of_oz : Bor (List (Bor Text)) → App
 rules_of_oz names =

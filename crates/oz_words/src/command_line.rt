@@ -2,7 +2,7 @@
 
 ghost use Rattle.std.specs.Prelude.{◌≡◌, IfOk, false};
 ghost use Rattle.clap.specs.Words.{app_of, rule_of};
-ghost use Rattle.oz_words.specs.Command.{AreActions, oz_app, option_rule, action_rule, size_rule, numbers_from};
+ghost use Rattle.oz_words.specs.Command.{AreActions, bare_app, oz_app, option_rule, action_rule, size_rule, numbers_from};
 ghost use Rattle.oz_words.specs.Parsed.{TakesWordsOfOz};
 
 use clap::builder::ValueParser;
@@ -58,6 +58,15 @@ fn action_names<'a>() -> &'a [&'a str]
     ACTIONS.as_slice()
 }
 
+// The command without its arguments.
+fn bare<'a>(alloc: Global) -> Command<'a>
+    ensures { app_of result ≡ bare_app }
+{
+    Command::new(alloc, "oz")
+        .disable_help_flag(true)
+        .disable_version_flag(true)
+}
+
 /// The command that takes `oz [--sites N] [--workers N] [--steps N] [--messages N] [run|central|gen] [NUMBER]`:
 ///
 /// - `--sites N`, the number of sites of a run, from 1 to 64; 4 where it is left out;
@@ -75,19 +84,12 @@ pub fn command<'a>(alloc: Global) -> Result<Command<'a>, AllocError>
     ensures app { (names : _) × AreActions names.now × IfOk result (λ c. app_of c ≡ oz_app names) }
     ensures words { IfOk result (λ c. TakesWordsOfOz (app_of c)) }
 {
-    let sites = option_of(alloc, "sites", numbers(1, 64), "4");
-    let workers = option_of(alloc, "workers", numbers(0, 64), "4");
-    let steps = option_of(alloc, "steps", numbers(1, 1_000_000_000), "1000000");
-    let messages = option_of(alloc, "messages", numbers(0, 4_000_000_000), "1000000");
-    let action = action_of(alloc, action_names());
-    let size = size_of(alloc, numbers(1, 1_000));
-    Command::new(alloc, "oz")
-        .disable_help_flag(true)
-        .disable_version_flag(true)
-        .arg(sites)?
-        .arg(workers)?
-        .arg(steps)?
-        .arg(messages)?
-        .arg(action)?
-        .arg(size)
+    let names = action_names();
+    bare(alloc)
+        .arg(option_of(alloc, "sites", numbers(1, 64), "4"))?
+        .arg(option_of(alloc, "workers", numbers(0, 64), "4"))?
+        .arg(option_of(alloc, "steps", numbers(1, 1_000_000_000), "1000000"))?
+        .arg(option_of(alloc, "messages", numbers(0, 4_000_000_000), "1000000"))?
+        .arg(action_of(alloc, names))?
+        .arg(size_of(alloc, numbers(1, 1_000)))
 }

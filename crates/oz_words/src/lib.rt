@@ -13,6 +13,8 @@
 //!
 //! **Tests alone show** nothing of this crate by itself: those of `oz_tests` run words through the whole program, and show
 //! that they are taken where there is memory.
+//!
+//! **Source**: the words are of this project.
 #![tactic(auto)]
 
 mod command_line;

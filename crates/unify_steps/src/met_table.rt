@@ -1,6 +1,6 @@
 //! A table of pairs of nodes, which are found by their hashes.
 
-ghost use Rattle.std.specs.Prelude.{◌≡◌, ℕ, [], ◌∷◌, ◌++◌, if◌then◌else◌, nat_eq, OnOk, OnErr};
+ghost use Rattle.std.specs.Prelude.{◌≡◌, ℕ, [], ◌∷◌, ◌++◌, if◌then◌else◌, nat_eq, IfOk, OnOk, OnErr};
 ghost use Rattle.indexmap.specs.IndexMap.{get};
 ghost use Rattle.unify_steps.specs.Met.{pairs_of};
 ghost use Rattle.tree_node.specs.Goal.{is_met_pair};
@@ -67,13 +67,24 @@ impl MetTable {
         ensures ok { OnOk result (self.new ≡ self.old ++ (left, right) ∷ []) }
         ensures err { OnErr result (self.new ≡ self.old) }
     {
-        let hash = pair_hash(&left, &right);
-        let again = (copy_node(&left)?, copy_node(&right)?);
+        let pair = (left, right);
         self.pairs.reserve(1)?;
-        add_under(&mut self.index, self.alloc, hash, again)?;
-        self.pairs.push((left, right))?;
+        let again = copy_pair(&pair)?;
+        add_under(
+            &mut self.index,
+            self.alloc,
+            pair_hash(&pair.0, &pair.1),
+            again,
+        )?;
+        self.pairs.push_reserved(pair);
         Ok(())
     }
+}
+
+fn copy_pair(pair: &(Node, Node)) -> Result<(Node, Node), AllocError>
+    ensures { IfOk result (λ p. p ≡ pair.now) }
+{
+    Ok((copy_node(&pair.0)?, copy_node(&pair.1)?))
 }
 
 // Puts a pair behind those of a hash.

@@ -17,6 +17,10 @@ pub record MailState : Type 0 where
 abbrev pub message_at : List (ℕ × Sent) → ℕ → Option Sent
 message_at ms k = lookup (nat_eq k) ms
 
+-- this one under this number
+abbrev pub with_message : ℕ → Sent → List (ℕ × Sent) → ℕ → Option Sent
+with_message number sent ms k = if number == k then Some sent else message_at ms k
+
 -- and none of this number
 abbrev pub without_message : ℕ → List (ℕ × Sent) → ℕ → Option Sent
 without_message number ms k = if number == k then None else message_at ms k

@@ -13,6 +13,8 @@
 //!
 //! It stands on `site_message` for messages and their copies, on `tree_node`, and on `indexmap` for look-ups by number and by
 //! place. Nothing is left to tests.
+//!
+//! Source: of this project. What the messages are for is of the articles that `site_message` names.
 #![tactic(auto)]
 
 mod mail;

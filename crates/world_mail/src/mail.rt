@@ -2,8 +2,10 @@
 
 ghost use Rattle.std.specs.Prelude.{◌≡◌, ℕ, ◌+◌, ◌^◌, ◌<◌, ◌≤◌, ◌≢◌, [], ◌∷◌, ◌++◌, length, map, IsTrue, ◌↔◌, Some, None, slice_get, Contains, nat_eq, IfOk, OnOk, OnErr, MatchOption};
 ghost use Rattle.std.specs.List.{enumerate_from, IsDistinct};
+ghost use Rattle.std.specs.Map.{keys_of};
+ghost use Rattle.indexmap.specs.IndexMap.{spare};
 ghost use Rattle.world_mail.specs.Travels.{travel_of, IsNoneFor, IsFirstFor};
-ghost use Rattle.world_mail.specs.Mail.{is_queued, with_bit, without_bit, message_at, without_message, queue_at, AreBelow};
+ghost use Rattle.world_mail.specs.Mail.{is_queued, with_bit, without_bit, message_at, with_message, without_message, queue_at, AreBelow};
 ghost use Rattle.site_message.specs.declared.message.Msg.{Msg};
 ghost use Rattle.world_mail.specs.declared.travel.Travel.{Travel};
 
@@ -81,14 +83,14 @@ impl Mail {
         ensures err { OnErr result (self.new.messages ≡ self.old.messages) }
     {
         let to = sent.to;
-        self.messages.reserve(1)?;
-        self.travels.reserve(1)?;
-        enqueue(&mut self.queues, to as usize, number)?;
-        self.travels.push_reserved(Travel { number, to });
-        match self.messages.insert(number, sent) {
-            Ok(_) => Ok(()),
-            Err(_) => unreachable!(),
-        }
+        announce(
+            &mut self.messages,
+            &mut self.travels,
+            &mut self.queues,
+            Travel { number, to },
+        )?;
+        put(&mut self.messages, number, sent);
+        Ok(())
     }
 
     /// Copies of these messages, with numbers from the first one on.
@@ -132,6 +134,43 @@ fn empty_queues(alloc: Global, sites: u32) -> Result<Vec<Queue>, AllocError>
         queues.push(Queue::new(alloc))?;
     }
     Ok(queues)
+}
+
+// Room for one more message, which is queued already.
+fn announce(
+    messages: &mut IndexMap<u64, Sent>,
+    travels: &mut Vec<Travel>,
+    queues: &mut Vec<Queue>,
+    travel: Travel,
+) -> Result<(), AllocError>
+    ensures messages { messages.new.entries ≡ messages.old.entries }
+    ensures room { OnOk result (1 ≤ spare messages.new) }
+    ensures travels { OnOk result (travels.new.items ≡ travels.old.items ++ travel ∷ []) }
+    ensures length { length queues.new.items ≡ length queues.old.items }
+    ensures here { OnOk result (travel.to < length queues.old.items → (k : ℕ) → is_queued (queue_at queues.new.items travel.to) k ≡ with_bit travel.number (is_queued (queue_at queues.old.items travel.to)) k) }
+    ensures others { OnOk result ((i : ℕ) → i ≢ travel.to → queue_at queues.new.items i ≡ queue_at queues.old.items i) }
+    ensures unsent { OnErr result (travels.new.items ≡ travels.old.items) }
+    ensures same { OnErr result (queues.new.items ≡ queues.old.items) }
+{
+    messages.reserve(1)?;
+    travels.reserve(1)?;
+    enqueue(queues, travel.to as usize, travel.number)?;
+    travels.push_reserved(travel);
+    Ok(())
+}
+
+// One more message, of a number that none has, where there is room for it.
+fn put(messages: &mut IndexMap<u64, Sent>, number: u64, sent: Sent)
+    requires room { 1 ≤ spare messages.old }
+    requires new { message_at messages.old.entries number ≡ None }
+    ensures entries { messages.new.entries ≡ messages.old.entries ++ (number, sent) ∷ [] }
+    ensures numbers { (k : ℕ) → message_at messages.new.entries k ≡ with_message number sent messages.old.entries k }
+    ensures once { IsDistinct nat_eq (keys_of messages.new.entries) }
+{
+    match messages.insert(number, sent) {
+        Ok(_) => (),
+        Err(_) => unreachable!(),
+    }
 }
 
 // One more number in the queue of a site, if that has one.
