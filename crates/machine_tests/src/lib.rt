@@ -1,4 +1,10 @@
-//! Tests of the centralised machine, call by call. They are a crate of their own, since a crate with tests is proved twice.
+//! Tests of the machines: the centralised one and a world of sites, call by call, and whole runs of workers. They are a crate of
+//! their own, since a crate with tests is proved twice.
+//!
+//! They show what no clause says: that memory suffices for the programs there, the order in which threads take their turns, how often
+//! each output comes over all orders of a race, and that runs of workers end, at rest or at their limit, so that workers that sleep are
+//! woken. Beside that they drive a machine by given picks, and see which are steps and by which part others are refused. They stand on
+//! `central_machine`, `world_core` and `site_worker`, and on `oz_parser` for programs from texts.
 #![tactic(auto)]
 
 #[cfg(test)]
@@ -13,3 +19,7 @@ mod programs;
 mod stories;
 #[cfg(test)]
 mod turns;
+#[cfg(test)]
+mod workers;
+#[cfg(test)]
+mod worlds;

@@ -1,6 +1,7 @@
 //! The program `oz`: standard input is the text, and standard output takes the lines. What it does is `start` of `oz_runner`;
 //! that the words are the command line's, and that standard input and output are what is read and written, is shown by
-//! the stored runs of this program and of `oz_stopped`, which has words.
+//! the stored run of this program, which has no words, and by `examples/check`, which gives it words. It stands on
+//! `oz_runner` and `oz_base`.
 #![tactic(auto)]
 
 use oz_base::{StdSink, StdSource};

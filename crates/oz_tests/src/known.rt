@@ -1,9 +1,9 @@
 //! What a site knows goes out with its messages.
 
 use crate::rows::KNOWN;
-use crate::texts::{with_workers, words_of};
+use crate::texts::{report_of, with_workers};
 use oz_base::{MemSink, MemSource};
-use oz_runner::{OpenGate, oz};
+use oz_runner::OpenGate;
 use site_message::{Journal, Msg, Sent};
 use std::alloc::{AllocError, Global};
 use std::test::Fail;
@@ -50,23 +50,29 @@ fn sent_in(alloc: Global, journal: &Journal) -> Result<Vec<&Sent>, AllocError> {
     Ok(sent)
 }
 
+// Whether the thread, with both equations, is the one message of a journal.
+fn sends_it(alloc: Global, journal: &Journal) -> Result<bool, AllocError> {
+    let sent = sent_in(alloc, journal)?;
+    match sent.as_slice() {
+        [only] => Ok(only.to == 2 && tells_both(&only.msg)),
+        _ => Ok(false),
+    }
+}
+
 // The thread is the one message of the run, and what it shows goes out with it.
 #[test]
 fn a_thread_takes_along_what_it_shows(rt: HostRuntime) -> Result<(), Fail> {
     let alloc = rt.alloc();
     for workers in ["0", "4"] {
         let words = with_workers(alloc, &["--sites", "2"], workers)?;
-        let list = words_of(alloc, &words)?;
-        assert!(rt; !list.is_empty());
         let mut source = MemSource::new(KNOWN.as_bytes(), &[]);
         let mut sink = MemSink::new(alloc, &[], 2000)?;
-        let report = oz(&rt, alloc, &list, &mut source, &mut sink, &OpenGate);
+        let report = report_of(&rt, alloc, &words, &mut source, &mut sink, &OpenGate)?;
         assert_eq!(rt;
             sink.bytes(),
             b"f(5)\nquiescent ended=2 waiting=0\n".as_slice()
         );
-        let sent = sent_in(alloc, &report.journal)?;
-        assert!(rt; sent.len() == 1 && sent[0].to == 2 && tells_both(&sent[0].msg));
+        assert!(rt; sends_it(alloc, &report.journal)?);
     }
     Ok(())
 }

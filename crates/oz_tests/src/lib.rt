@@ -7,6 +7,8 @@
 //! their lawful outputs, on 1 to 64 sites, refusals and end lines among them; that the examples of the repository print what
 //! stands beside them; that a text as long as may be is read and runs; that two runs without
 //! workers print the same; that turns of two sites are under way at once; that what a site knows goes out with its messages.
+//!
+//! **They stand on** `oz_runner`, and on `oz_base` for sources and sinks in memory.
 #![tactic(auto)]
 
 #[cfg(test)]

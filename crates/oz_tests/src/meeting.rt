@@ -1,8 +1,8 @@
 //! Turns of two sites are under way at once.
 
-use crate::texts::{with_workers, words_of};
+use crate::texts::{report_of, with_workers};
 use oz_base::{MemSink, MemSource};
-use oz_runner::{Gate, Status, oz};
+use oz_runner::{Gate, Status};
 use std::alloc::{AllocError, Global};
 use std::process::Abort;
 use std::sync::Wait;
@@ -55,8 +55,6 @@ fn run_loops<R: Abort + Threads + Wait + Sync>(
     workers: &'static str,
 ) -> Result<(bool, Status), AllocError> {
     let words = with_workers(alloc, &["--sites", "2", "--steps", "1000"], workers)?;
-    let list = words_of(alloc, &words)?;
-    assert!(rt; !list.is_empty());
     let mut source = MemSource::new(TWO_LOOPS.as_bytes(), &[]);
     let mut sink = MemSink::new(alloc, &[], 2000)?;
     let gate = Meeting {
@@ -64,7 +62,7 @@ fn run_loops<R: Abort + Threads + Wait + Sync>(
         second: AtomicU64::new(0),
         gave_up: AtomicU64::new(0),
     };
-    let report = oz(rt, alloc, &list, &mut source, &mut sink, &gate);
+    let report = report_of(rt, alloc, &words, &mut source, &mut sink, &gate)?;
     Ok((gate.gave_up.load(SeqCst) == 1, report.status))
 }
 

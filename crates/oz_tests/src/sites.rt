@@ -3,9 +3,10 @@
 use crate::placed::{CELLS, Placed, RAISED, SENT, SITES, THREADS};
 use crate::rows::COUNTER;
 use crate::sited::{FIRST_LINES, RACE, SITED, THIRD};
-use crate::texts::{answer, with_workers, words_of};
+use crate::texts::{answer, report_of, with_workers};
 use oz_base::{MemSink, MemSource};
-use oz_runner::{OpenGate, oz};
+use oz_runner::OpenGate;
+use site_message::Journal;
 use std::alloc::{AllocError, Global};
 use std::process::Abort;
 use std::sync::Wait;
@@ -112,22 +113,28 @@ fn two_runs_print_the_same(rt: HostRuntime) -> Result<(), Fail> {
     Ok(())
 }
 
+// Whether lines stand in turns of a site, and in no others.
+fn has_lines_of(journal: &Journal, site: u32) -> bool {
+    let mut found = false;
+    for turn in journal.oldest_first() {
+        if !turn.lines.as_slice().is_empty() {
+            if turn.site != site {
+                return false;
+            }
+            found = true;
+        }
+    }
+    found
+}
+
 // The line stands in a turn of the third site, and in no other.
 #[test]
 fn a_line_stands_in_a_turn_of_its_site(rt: HostRuntime) -> Result<(), Fail> {
     let alloc = rt.alloc();
-    let words = words_of(alloc, &["--sites", "3"])?;
-    assert!(rt; !words.is_empty());
     let mut source = MemSource::new(THIRD.as_bytes(), &[]);
     let mut sink = MemSink::new(alloc, &[], 2000)?;
-    let report = oz(&rt, alloc, &words, &mut source, &mut sink, &OpenGate);
-    let mut lines = 0;
-    for turn in report.journal.oldest_first() {
-        if !turn.lines.as_slice().is_empty() {
-            assert_eq!(rt; turn.site, 3);
-            lines = 1;
-        }
-    }
-    assert_eq!(rt; lines, 1);
+    let words: [&str; 2] = ["--sites", "3"];
+    let report = report_of(&rt, alloc, &words, &mut source, &mut sink, &OpenGate)?;
+    assert!(rt; has_lines_of(&report.journal, 3));
     Ok(())
 }

@@ -3,14 +3,14 @@
 use crate::examples::EXAMPLES;
 use crate::rows::{FAILING, LIST, LISTED, Listed, REFUSED, RUNS, USAGE, WORDED};
 use oz_base::{MemSink, MemSource};
-use oz_runner::{OpenGate, oz};
+use oz_runner::{Gate, OpenGate, Report, oz};
 use std::alloc::{AllocError, Global};
 use std::process::Abort;
 use std::sync::Wait;
 use std::test::Fail;
 use std::thread::Threads;
 
-pub fn words_of(alloc: Global, words: &[&str]) -> Result<Vec<String>, AllocError> {
+fn words_of(alloc: Global, words: &[&str]) -> Result<Vec<String>, AllocError> {
     let mut list = Vec::new(alloc);
     list.push(String::from_str(alloc, "oz")?)?;
     for word in words {
@@ -34,7 +34,35 @@ pub fn with_workers(
     Ok(all)
 }
 
-// The bytes taken, the status' number and the length of the schedule, with room for two thousand bytes.
+/// What `oz` tells of these words. It is the one caller: what a call of `oz` promises is long.
+pub fn report_of<R: Abort + Threads + Wait + Sync, G: Gate + Sync>(
+    rt: &R,
+    alloc: Global,
+    words: &[&str],
+    source: &mut MemSource<'_>,
+    sink: &mut MemSink<'_>,
+    gate: &G,
+) -> Result<Report, AllocError> {
+    let list = words_of(alloc, words)?;
+    assert!(rt; !list.is_empty());
+    Ok(oz(rt, alloc, &list, source, sink, gate))
+}
+
+// These bytes, the status' number and the length of the schedule.
+fn told_of<R: Abort>(
+    rt: &R,
+    alloc: Global,
+    bytes: &[u8],
+    report: Report,
+) -> Result<(Vec<u8>, u8, usize), AllocError> {
+    let number = report.status.number();
+    let count = report.schedule.len();
+    let picks = report.schedule.into_vec(alloc)?;
+    assert_eq!(rt; picks.len(), count);
+    Ok((Vec::from_slice(alloc, bytes)?, number, count))
+}
+
+/// The bytes taken, the status' number and the length of the schedule, with room for two thousand bytes.
 pub fn answer<R: Abort + Threads + Wait + Sync>(
     rt: &R,
     alloc: Global,
@@ -43,16 +71,10 @@ pub fn answer<R: Abort + Threads + Wait + Sync>(
     reads: &[u64],
     writes: &[u64],
 ) -> Result<(Vec<u8>, u8, usize), AllocError> {
-    let list = words_of(alloc, words)?;
-    assert!(rt; !list.is_empty());
     let mut source = MemSource::new(text, reads);
     let mut sink = MemSink::new(alloc, writes, 2000)?;
-    let report = oz(rt, alloc, &list, &mut source, &mut sink, &OpenGate);
-    let bytes = Vec::from_slice(alloc, sink.bytes())?;
-    let count = report.schedule.len();
-    let picks = report.schedule.into_vec(alloc)?;
-    assert_eq!(rt; picks.len(), count);
-    Ok((bytes, report.status.number(), count))
+    let report = report_of(rt, alloc, words, &mut source, &mut sink, &OpenGate)?;
+    told_of(rt, alloc, sink.bytes(), report)
 }
 
 // A text is refused with this line.

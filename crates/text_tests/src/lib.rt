@@ -1,6 +1,7 @@
 //! Tests of how texts are read and printed, from the text to the line: what refusals, canonical texts and last lines say, as
 //! tables. They are a crate of their own, since a crate with tests is proved twice. They show what no contract says: that
-//! texts, worked by hand, are refused where and as the grammar means, and print in the canonical form.
+//! texts, worked by hand, are refused where and as the grammar means, and print in the canonical form. They stand on `oz_parser` and
+//! `oz_show`.
 #![tactic(auto)]
 
 #[cfg(test)]

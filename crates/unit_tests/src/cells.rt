@@ -13,36 +13,113 @@ fn var(num: u64) -> VarName {
     VarName { site: 1, num }
 }
 
+// A call of a site or of the manager, and what it answers.
+#[derive(Clone, Copy)]
+enum Call {
+    Asks(usize, Ask),
+    Gets(u32, u32),
+    Forwards(usize, u32),
+    Leaves(usize, Option<(u32, u64)>),
+    Puts(usize, u64),
+    Swaps(usize, u64, u64),
+}
+
+fn asks(site: &mut CellSite, want: Ask) -> bool {
+    site.state().waiting < 1 << 59 && site.ask() == want
+}
+
+fn gets(manager: &mut Manager, from: u32, to: u32) -> bool {
+    manager.on_get(from) == Forward { to, next: from }
+}
+
+fn forwards(site: &mut CellSite, next: u32) -> bool {
+    let state = site.state();
+    if state.next.is_some() || !(state.here || state.asked) {
+        return false;
+    }
+    site.on_forward(next);
+    true
+}
+
+fn leaves(site: &mut CellSite, want: Option<(u32, u64)>) -> bool {
+    match (site.leave(), want) {
+        (Some((to, content)), Some((next, num))) => to == next && content == var(num),
+        (None, None) => true,
+        _ => false,
+    }
+}
+
+fn puts(site: &mut CellSite, num: u64) -> bool {
+    if !site.state().asked {
+        return false;
+    }
+    site.on_put(var(num));
+    true
+}
+
+fn swaps(site: &mut CellSite, new: u64, old: u64) -> bool {
+    let state = site.state();
+    state.here && state.waiting > 0 && site.swap(var(new)) == var(old)
+}
+
+// Whether the call can be made, and is answered so. Sites 1 to 3 stand at places 0 to 2.
+fn goes(manager: &mut Manager, sites: &mut [CellSite], call: Call) -> bool {
+    let place = match call {
+        Call::Gets(from, to) => return gets(manager, from, to),
+        Call::Asks(at, _) | Call::Forwards(at, _) | Call::Leaves(at, _) => at,
+        Call::Puts(at, _) | Call::Swaps(at, _, _) => at,
+    };
+    let Some(site) = sites.get_mut(place) else {
+        return false;
+    };
+    match call {
+        Call::Asks(_, want) => asks(site, want),
+        Call::Gets(_, _) => false,
+        Call::Forwards(_, next) => forwards(site, next),
+        Call::Leaves(_, want) => leaves(site, want),
+        Call::Puts(_, num) => puts(site, num),
+        Call::Swaps(_, new, old) => swaps(site, new, old),
+    }
+}
+
+// The token is with site 1 first. It goes to site 3, to site 2, and to site 3 again, where two threads wait.
+static ALONG: [Call; 22] = [
+    Call::Asks(2, Ask::SendGet),
+    Call::Gets(3, 1),
+    Call::Forwards(0, 3),
+    Call::Leaves(0, Some((3, 0))),
+    Call::Asks(1, Ask::SendGet),
+    Call::Gets(2, 3),
+    Call::Forwards(2, 2),
+    Call::Leaves(2, None),
+    Call::Puts(2, 0),
+    Call::Swaps(2, 1, 0),
+    Call::Leaves(2, Some((2, 1))),
+    Call::Puts(1, 1),
+    Call::Swaps(1, 2, 1),
+    Call::Leaves(1, None),
+    Call::Asks(2, Ask::SendGet),
+    Call::Asks(2, Ask::Already),
+    Call::Gets(3, 2),
+    Call::Forwards(1, 3),
+    Call::Leaves(1, Some((3, 2))),
+    Call::Puts(2, 2),
+    Call::Swaps(2, 3, 2),
+    Call::Swaps(2, 4, 3),
+];
+
 #[test]
 fn the_token_goes_along_the_askers(rt: HostRuntime) {
     let mut manager = Manager::new(1);
-    let mut first = CellSite::new_here(var(0));
-    let mut second = CellSite::away();
-    let mut third = CellSite::away();
-    assert_eq!(rt; third.ask(), Ask::SendGet);
-    assert_eq!(rt; manager.on_get(3), Forward { to: 1, next: 3 });
-    first.on_forward(3);
-    assert_eq!(rt; first.leave(), Some((3, var(0))));
-    assert_eq!(rt; second.ask(), Ask::SendGet);
-    assert_eq!(rt; manager.on_get(2), Forward { to: 3, next: 2 });
-    third.on_forward(2);
-    assert_eq!(rt; third.leave(), None);
-    third.on_put(var(0));
-    assert_eq!(rt; third.swap(var(1)), var(0));
-    assert_eq!(rt; third.leave(), Some((2, var(1))));
-    second.on_put(var(1));
-    assert_eq!(rt; second.swap(var(2)), var(1));
-    assert_eq!(rt; second.leave(), None);
-    assert_eq!(rt; third.ask(), Ask::SendGet);
-    assert_eq!(rt; third.ask(), Ask::Already);
-    assert_eq!(rt; third.state().waiting, 2);
-    assert_eq!(rt; manager.on_get(3), Forward { to: 2, next: 3 });
-    second.on_forward(3);
-    assert_eq!(rt; second.leave(), Some((3, var(2))));
-    third.on_put(var(2));
-    assert_eq!(rt; third.swap(var(3)), var(2));
-    assert_eq!(rt; third.swap(var(4)), var(3));
-    assert!(rt; third.state().here && first.state().next.is_none());
+    let mut sites = [
+        CellSite::new_here(var(0)),
+        CellSite::away(),
+        CellSite::away(),
+    ];
+    for (at, call) in ALONG.iter().enumerate() {
+        assert!(rt; goes(&mut manager, sites.as_mut_slice(), *call), "at {at}");
+    }
+    assert!(rt; sites[2].state().here && sites[0].state().next.is_none());
 }
 
 // An answer of `ask`, where the site is one of the world's.
@@ -60,42 +137,58 @@ enum Event {
     Delivers(usize),
 }
 
-// The worked row in a world. The Forward to site 3 comes at `place` beside its Put.
+// Whether the event can be, and is answered so.
+fn happens(world: &mut CellWorld, event: Event) -> Result<bool, AllocError> {
+    match event {
+        Event::Asks(site, num, want) => Ok(ask(world, site, var(num))? == Some(want)),
+        Event::Delivers(at) => Ok(world.deliver(at).is_ok()),
+    }
+}
+
+// The worked row. The Forward to site 3 comes at `place` beside its Put.
+fn follows<R: Abort>(rt: &R, world: &mut CellWorld, place: usize) -> Result<(), AllocError> {
+    let events = [
+        Event::Asks(3, 1, Ask::SendGet),
+        Event::Delivers(0),
+        Event::Asks(2, 2, Ask::SendGet),
+        Event::Delivers(1),
+        Event::Delivers(place),
+        Event::Delivers(0),
+        Event::Delivers(0),
+        Event::Asks(3, 3, Ask::SendGet),
+        Event::Asks(3, 4, Ask::Already),
+        Event::Delivers(0),
+        Event::Delivers(0),
+        Event::Delivers(0),
+    ];
+    for (at, event) in events.into_iter().enumerate() {
+        assert!(rt; happens(world, event)?, "at {at}");
+    }
+    Ok(())
+}
+
+fn has_exchanged<R: Abort>(rt: &R, world: &CellWorld) {
+    assert_eq!(rt; world.exchanges().len(), 4);
+    for (at, pair) in world.exchanges().iter().enumerate() {
+        let num = at as u64;
+        assert!(rt; *pair == (var(num), var(num + 1)), "at {at}");
+    }
+    assert!(rt; world.served() == [3, 2, 3, 3].as_slice());
+    assert!(rt; world.travelling().is_empty());
+}
+
+fn delivers_none<R: Abort>(rt: &R, world: &mut CellWorld) {
+    assert!(rt; world.deliver(0) == Err(DeliverError::NotThere));
+}
+
 #[test]
 fn a_forward_before_or_after_its_put_makes_the_same_exchanges(rt: HostRuntime) -> Result<(), Fail> {
     for place in [1, 0] {
         let mut world = CellWorld::new(rt.alloc(), 3, 1, var(0))?;
-        assert!(rt; world.deliver(0) == Err(DeliverError::NotThere));
-        let events = [
-            Event::Asks(3, 1, Ask::SendGet),
-            Event::Delivers(0),
-            Event::Asks(2, 2, Ask::SendGet),
-            Event::Delivers(1),
-            Event::Delivers(place),
-            Event::Delivers(0),
-            Event::Delivers(0),
-            Event::Asks(3, 3, Ask::SendGet),
-            Event::Asks(3, 4, Ask::Already),
-            Event::Delivers(0),
-            Event::Delivers(0),
-            Event::Delivers(0),
-        ];
-        for event in events {
-            match event {
-                Event::Asks(site, num, want) => {
-                    assert!(rt; ask(&mut world, site, var(num))? == Some(want), "at {num}");
-                }
-                Event::Delivers(at) => assert!(rt; world.deliver(at).is_ok(), "at {at}"),
-            }
-        }
-        assert_eq!(rt; world.exchanges().len(), 4);
-        for (at, pair) in world.exchanges().iter().enumerate() {
-            let num = at as u64;
-            assert!(rt; *pair == (var(num), var(num + 1)), "at {at}");
-        }
-        assert!(rt; world.served() == [3, 2, 3, 3].as_slice());
-        assert!(rt; world.travelling().is_empty());
-        assert!(rt; world.deliver(0) == Err(DeliverError::NotThere));
+        delivers_none(&rt, &mut world);
+        follows(&rt, &mut world, place)?;
+        has_exchanged(&rt, &world);
+        delivers_none(&rt, &mut world);
     }
     Ok(())
 }

@@ -3,8 +3,8 @@
 use std::alloc::{AllocError, Global};
 use std::test::Fail;
 use tree_node::{
-    CellName, CodeId, Env, Feature, Fields, Name, Node, ProcName, Term, Text, ThreadName, VarName,
-    Vars, atom_text, copy_node, copy_pick, copy_term, equal_text, is_reserved, node_arity,
+    CellName, CodeId, Env, Feature, Fields, Name, Node, Pick, ProcName, Term, Text, ThreadName,
+    VarName, Vars, atom_text, copy_node, copy_pick, copy_term, equal_text, is_reserved, node_arity,
     node_head, plain_pick,
 };
 
@@ -68,35 +68,51 @@ fn head_is(alloc: Global, node: &Node, want: &[u8]) -> Result<bool, AllocError> 
     Ok(line.as_slice() == want)
 }
 
+// Whether a node that is made for it has this head.
+fn has_head(
+    alloc: Global,
+    node: Result<Node, AllocError>,
+    want: &[u8],
+) -> Result<bool, AllocError> {
+    match node {
+        Ok(node) => head_is(alloc, &node, want),
+        Err(error) => Err(error),
+    }
+}
+
 #[test]
 fn heads_of_nodes_are_spelled(rt: HostRuntime) -> Result<(), Fail> {
     let alloc = rt.alloc();
     for (value, want) in [(0, "0"), (-3, "~3"), (i64::MIN, "~9223372036854775808")] {
         assert!(rt;
-            head_is(alloc, &Node::Int(value), want.as_bytes())?,
+            has_head(alloc, Ok(Node::Int(value)), want.as_bytes())?,
             "at {value}"
         );
     }
-    assert!(rt; head_is(alloc, &atom(alloc, b"if")?, b"'if'")?);
-    assert!(rt; head_is(alloc, &record(alloc, b"|", 2)?, b"'|'")?);
-    assert!(rt; head_is(alloc, &procedure(alloc, 0, 64)?, b"<P/64>")?);
-    assert!(rt; head_is(alloc, &Node::Cell(CellName { site: 1, num: 0 }), b"<Cell>")?);
+    assert!(rt; has_head(alloc, atom(alloc, b"if"), b"'if'")?);
+    assert!(rt; has_head(alloc, record(alloc, b"|", 2), b"'|'")?);
+    assert!(rt; has_head(alloc, procedure(alloc, 0, 64), b"<P/64>")?);
+    let cell = Node::Cell(CellName { site: 1, num: 0 });
+    assert!(rt; has_head(alloc, Ok(cell), b"<Cell>")?);
     Ok(())
 }
 
+static WORDS: [&str; 45] = [
+    "skip", "local", "in", "end", "if", "then", "else", "case", "of", "thread", "at", "try",
+    "catch", "raise", "proc", "div", "mod", "andthen", "attr", "choice", "class", "cond",
+    "declare", "define", "dis", "elsecase", "elseif", "export", "fail", "feat", "finally", "from",
+    "fun", "functor", "import", "lock", "meth", "not", "or", "orelse", "prepare", "prop",
+    "require", "self", "unit",
+];
+
+static OTHERS: [&str; 8] = ["", "true", "false", "skipp", "ski", "Local", "nil", "'if'"];
+
 #[test]
 fn reserved_words_are_told(rt: HostRuntime) {
-    let words: [&str; 45] = [
-        "skip", "local", "in", "end", "if", "then", "else", "case", "of", "thread", "at", "try",
-        "catch", "raise", "proc", "div", "mod", "andthen", "attr", "choice", "class", "cond",
-        "declare", "define", "dis", "elsecase", "elseif", "export", "fail", "feat", "finally",
-        "from", "fun", "functor", "import", "lock", "meth", "not", "or", "orelse", "prepare",
-        "prop", "require", "self", "unit",
-    ];
-    for word in words {
+    for word in WORDS.as_slice() {
         assert!(rt; is_reserved(word), "at {word}");
     }
-    for word in ["", "true", "false", "skipp", "ski", "Local", "nil", "'if'"] {
+    for word in OTHERS.as_slice() {
         assert!(rt; !is_reserved(word), "at {word}");
     }
 }
@@ -118,36 +134,66 @@ fn sample(alloc: Global, at: u64) -> Result<Node, AllocError> {
     }
 }
 
+fn copied(alloc: Global, at: u64) -> Result<Node, AllocError> {
+    copy_node(&sample(alloc, at)?)
+}
+
+// Whether two nodes that are made for it have the same text.
+fn are_same(
+    left: Result<Node, AllocError>,
+    right: Result<Node, AllocError>,
+) -> Result<bool, AllocError> {
+    match (left, right) {
+        (Ok(left), Ok(right)) => Ok(equal_text(&left, &right)),
+        _ => Err(AllocError),
+    }
+}
+
 #[test]
 fn copies_have_equal_text(rt: HostRuntime) -> Result<(), Fail> {
     let alloc = rt.alloc();
     for at in 0..9 {
-        let copy = copy_node(&sample(alloc, at)?)?;
         for other in 0..9 {
             assert_eq!(rt;
-                equal_text(&copy, &sample(alloc, other)?),
+                are_same(copied(alloc, at), sample(alloc, other))?,
                 at == other,
                 "at {at} and {other}"
             );
         }
     }
-    assert_eq!(rt; node_arity(&sample(alloc, 2)?), 2);
-    let term = copy_term(&Term::Node(sample(alloc, 2)?))?;
-    assert!(rt; matches!(&term, Term::Node(Node::Rec(..))));
     Ok(())
+}
+
+#[test]
+fn a_record_is_copied_with_its_fields(rt: HostRuntime) -> Result<(), Fail> {
+    let term = Term::Node(sample(rt.alloc(), 2)?);
+    let copy = copy_term(&term)?;
+    assert!(rt; matches!(&copy, Term::Node(node) if node_arity(node) == 2));
+    Ok(())
+}
+
+fn three_positions(alloc: Global) -> Result<Env, AllocError> {
+    let mut env = Env::for_positions(alloc, &[2, 5], &[variable(2), variable(5)])?;
+    env.set(3, variable(3))?;
+    env.set(5, variable(6))?;
+    Ok(env)
+}
+
+fn one_more(alloc: Global, env: &Env) -> Result<Env, AllocError> {
+    Ok(env.copy(alloc)?.bind(0, variable(1)))
+}
+
+fn two_of_them(alloc: Global, env: &Env) -> Result<Env, AllocError> {
+    let limited = env.limited(alloc, &[0, 4])?;
+    Ok(limited.with_room()?.bind(4, variable(4)))
 }
 
 #[test]
 fn environments_map_positions(rt: HostRuntime) -> Result<(), Fail> {
     let alloc = rt.alloc();
-    let mut env = Env::for_positions(alloc, &[2, 5], &[variable(2), variable(5)])?;
-    env.set(3, variable(3))?;
-    env.set(5, variable(6))?;
-    let bound = env.copy(alloc)?.bind(0, variable(1));
-    let rebound = bound
-        .limited(alloc, &[0, 4])?
-        .with_room()?
-        .bind(4, variable(4));
+    let env = three_positions(alloc)?;
+    let bound = one_more(alloc, &env)?;
+    let rebound = two_of_them(alloc, &bound)?;
     let rows = [
         (0, None, Some(variable(1)), Some(variable(1))),
         (2, Some(variable(2)), Some(variable(2)), None),
@@ -163,12 +209,16 @@ fn environments_map_positions(rt: HostRuntime) -> Result<(), Fail> {
     Ok(())
 }
 
-#[test]
-fn a_copied_pick_keeps_its_names(rt: HostRuntime) -> Result<(), Fail> {
-    let alloc = rt.alloc();
+fn pick_of_one(alloc: Global) -> Result<Pick, AllocError> {
     let mut pick = plain_pick(alloc, ThreadName { site: 1, num: 0 });
     pick.fresh.push(Name::Var(variable(1)))?;
-    let copy = copy_pick(alloc, &pick)?;
+    Ok(pick)
+}
+
+#[test]
+fn a_copied_pick_keeps_its_names(rt: HostRuntime) -> Result<(), Fail> {
+    let pick = pick_of_one(rt.alloc())?;
+    let copy = copy_pick(rt.alloc(), &pick)?;
     assert_eq!(rt; copy.fresh.as_slice(), [Name::Var(variable(1))].as_slice());
     assert!(rt; copy.bind.is_none());
     Ok(())

@@ -1,7 +1,8 @@
 // A program and its free positions, its first state, and what a run prints.
 
 use kernel_syntax::{Program, Stmt};
-use oz_model::{is_name_of, output, start};
+use oz_model::{Plain, is_name_of, output, start};
+use std::process::Abort;
 use std::test::Fail;
 use tree_node::{CellName, CodeId, Line, Name, ThreadName, VarName};
 
@@ -20,21 +21,26 @@ fn a_program_tells_its_statements_and_free_positions(rt: HostRuntime) -> Result<
     Ok(())
 }
 
+static NAMES: [(Name, bool); 4] = [
+    (Name::Thread(ThreadName { site: 1, num: 0 }), true),
+    (Name::Thread(ThreadName { site: 1, num: 1 }), false),
+    (Name::Var(VarName { site: 1, num: 0 }), false),
+    (Name::Cell(CellName { site: 1, num: 0 }), false),
+];
+
+fn is_first<R: Abort>(rt: &R, state: &Plain) {
+    for (name, occurs) in NAMES.as_slice() {
+        assert_eq!(rt; is_name_of(state, name), *occurs);
+    }
+    assert_eq!(rt; state.ended, 0);
+    assert!(rt; state.lines.as_slice().is_empty());
+}
+
 #[test]
 fn a_first_state_has_the_name_of_its_thread_alone(rt: HostRuntime) -> Result<(), Fail> {
     let program = Program::checked(rt.alloc(), vec![in rt.alloc(); Stmt::Skip]?)?;
     let state = start(rt.alloc(), &program)?;
-    let rows: [(Name, bool); 4] = [
-        (Name::Thread(ThreadName { site: 1, num: 0 }), true),
-        (Name::Thread(ThreadName { site: 1, num: 1 }), false),
-        (Name::Var(VarName { site: 1, num: 0 }), false),
-        (Name::Cell(CellName { site: 1, num: 0 }), false),
-    ];
-    for (name, occurs) in rows.iter() {
-        assert_eq!(rt; is_name_of(&state, name), *occurs);
-    }
-    assert_eq!(rt; state.ended, 0);
-    assert!(rt; state.lines.as_slice().is_empty());
+    is_first(&rt, &state);
     Ok(())
 }
 

@@ -20,19 +20,21 @@ type Reading = (
     u64,
 );
 
+static READINGS: [Reading; 8] = [
+    (b"", &[], 0, Ok(b""), 1),
+    (b"abc", &[], 3, Ok(b"abc"), 2),
+    (b"abc", &[3], 3, Ok(b"abc"), 2),
+    (b"abc", &[], 2, Err(ReadError::TooLong), 1),
+    (b"abc", &[2], 2, Err(ReadError::TooLong), 1),
+    (b"abc", &[2], 3, Err(ReadError::Fault), 2),
+    (b"abc", &[1], 0, Err(ReadError::Fault), 1),
+    (b"", &[1], 0, Err(ReadError::Fault), 1),
+];
+
 #[test]
 fn a_text_is_read_to_its_end_or_to_its_first_error(rt: HostRuntime) {
-    let rows: [Reading; 8] = [
-        (b"", &[], 0, Ok(b""), 1),
-        (b"abc", &[], 3, Ok(b"abc"), 2),
-        (b"abc", &[3], 3, Ok(b"abc"), 2),
-        (b"abc", &[], 2, Err(ReadError::TooLong), 1),
-        (b"abc", &[2], 2, Err(ReadError::TooLong), 1),
-        (b"abc", &[2], 3, Err(ReadError::Fault), 2),
-        (b"abc", &[1], 0, Err(ReadError::Fault), 1),
-        (b"", &[1], 0, Err(ReadError::Fault), 1),
-    ];
-    for (bytes, failing, limit, expected, calls) in rows {
+    for row in READINGS.as_slice() {
+        let (bytes, failing, limit, expected, calls) = *row;
         let mut source = MemSource::new(bytes, failing);
         let text = read_text(rt.alloc(), &mut source, limit);
         assert_eq!(rt;
@@ -112,18 +114,20 @@ type Writing = (
     &'static [u8],
 );
 
+static WRITINGS: [Writing; 5] = [
+    (&[], 4, Ok(()), Ok(()), b"abcd"),
+    (&[3], 4, Ok(()), Ok(()), b"abcd"),
+    (&[1], 4, Err(Failed), Ok(()), b"cd"),
+    (&[2], 4, Ok(()), Err(Failed), b"ab"),
+    (&[], 3, Ok(()), Err(Failed), b"ab"),
+];
+
 #[test]
 fn a_piece_is_taken_whole_where_its_call_is_not_listed_and_it_fits(
     rt: HostRuntime,
 ) -> Result<(), Fail> {
-    let rows: [Writing; 5] = [
-        (&[], 4, Ok(()), Ok(()), b"abcd"),
-        (&[3], 4, Ok(()), Ok(()), b"abcd"),
-        (&[1], 4, Err(Failed), Ok(()), b"cd"),
-        (&[2], 4, Ok(()), Err(Failed), b"ab"),
-        (&[], 3, Ok(()), Err(Failed), b"ab"),
-    ];
-    for (failing, room, first, second, taken) in rows {
+    for row in WRITINGS.as_slice() {
+        let (failing, room, first, second, taken) = *row;
         let mut sink = MemSink::new(rt.alloc(), failing, room)?;
         assert_eq!(rt; write_piece(&mut sink, b"ab"), first, "{failing:?} {room}");
         assert_eq!(rt; write_piece(&mut sink, b"cd"), second, "{failing:?} {room}");

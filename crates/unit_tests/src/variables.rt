@@ -50,8 +50,7 @@ fn tells_five(sent: &Sent, site: u32) -> bool {
 
 // A request for X comes to its owner.
 fn ask(owner: &mut Binder, value: i64, outbox: &mut Outbox) -> Result<Option<Asked>, AllocError> {
-    let msg = Msg::Register { var: X, asking: 64 };
-    if !owner.takes(&msg) {
+    if !owner.takes(&Msg::Register { var: X, asking: 64 }) {
         return Ok(None);
     }
     let asked = owner.on_ask(X, int(value), outbox)?;
@@ -60,75 +59,117 @@ fn ask(owner: &mut Binder, value: i64, outbox: &mut Outbox) -> Result<Option<Ask
 
 // A registration for X comes to its owner.
 fn register(owner: &mut Binder, asking: u32, outbox: &mut Outbox) -> Result<bool, AllocError> {
-    let msg = Msg::Register { var: X, asking };
-    if !owner.takes(&msg) {
+    if !owner.takes(&Msg::Register { var: X, asking }) {
         return Ok(false);
     }
     owner.on_register(X, asking, outbox)?;
     Ok(true)
 }
 
+// A site meets X, which is another's.
+fn meets(site: &mut Binder, outbox: &mut Outbox) -> Result<Option<Met>, AllocError> {
+    if site.owns(X) {
+        return Ok(None);
+    }
+    let met = site.meet(X, outbox)?;
+    Ok(Some(met))
+}
+
+// Site 2, which knows X unbound, asks for 5.
+fn asks_for_five(asker: &mut Binder, outbox: &mut Outbox) -> Result<bool, AllocError> {
+    match asker.knows(X) {
+        Knows::Unbound => (),
+        _ => return Ok(false),
+    }
+    Ok(asker.want(X, int(5), thread(2), outbox)? == Want::Sent)
+}
+
 #[test]
 fn a_site_registers_once_and_sends_its_request(rt: HostRuntime) -> Result<(), Fail> {
-    let alloc = rt.alloc();
-    let mut asker = Binder::new(alloc, 2);
-    let mut outbox = Outbox::new(alloc);
-    assert!(rt; asker.meet(X, &mut outbox)? == Met::New);
-    assert!(rt; asker.meet(X, &mut outbox)? == Met::Known);
-    let wanted = asker.want(X, int(5), thread(2), &mut outbox)?;
-    assert!(rt; wanted == Want::Sent);
+    let mut asker = Binder::new(rt.alloc(), 2);
+    let mut outbox = Outbox::new(rt.alloc());
+    assert!(rt; meets(&mut asker, &mut outbox)? == Some(Met::New));
+    assert!(rt; meets(&mut asker, &mut outbox)? == Some(Met::Known));
+    assert!(rt; asks_for_five(&mut asker, &mut outbox)?);
     assert_eq!(rt; outbox.len(), 2);
     Ok(())
+}
+
+// A site that knows nothing of X, which is another's, meets it with its term.
+fn meets_bound(site: &mut Binder) -> Result<Option<Met>, AllocError> {
+    match site.knows(X) {
+        Knows::Nothing if !site.owns(X) => (),
+        _ => return Ok(None),
+    }
+    let met = site.meet_bound(X, int(5))?;
+    Ok(Some(met))
+}
+
+// The integer that a site knows X to be bound to.
+fn known_value(site: &Binder) -> Option<i64> {
+    match site.knows(X) {
+        Knows::Bound(term) => int_of(term),
+        _ => None,
+    }
 }
 
 // A bundle told X with its term: nobody is asked for it.
 #[test]
 fn a_name_that_is_met_with_its_term_is_not_registered(rt: HostRuntime) -> Result<(), Fail> {
-    let alloc = rt.alloc();
-    let mut site = Binder::new(alloc, 2);
-    assert!(rt; site.meet_bound(X, int(5))? == Met::New);
-    let mut outbox = Outbox::new(alloc);
-    assert!(rt; site.meet(X, &mut outbox)? == Met::Known);
+    let mut site = Binder::new(rt.alloc(), 2);
+    let mut outbox = Outbox::new(rt.alloc());
+    assert!(rt; meets_bound(&mut site)? == Some(Met::New));
+    assert!(rt; meets(&mut site, &mut outbox)? == Some(Met::Known));
     assert_eq!(rt; outbox.len(), 0);
-    match site.knows(X) {
-        Knows::Bound(term) => assert_eq!(rt; int_of(term), Some(5)),
-        _ => panic!(rt; "X is not known bound"),
-    }
+    assert_eq!(rt; known_value(&site), Some(5));
     Ok(())
 }
 
-// The owner of X, for which 5 was asked, with what the request came to.
-fn asked_for_five(
-    alloc: Global,
-    answers: &mut Outbox,
-) -> Result<(Binder, Option<Asked>), AllocError> {
+// The owner of X.
+fn owner_of_x(alloc: Global) -> Result<Binder, AllocError> {
     let mut owner = Binder::new(alloc, 1);
     owner.make(X)?;
-    let asked = ask(&mut owner, 5, answers)?;
-    Ok((owner, asked))
+    Ok(owner)
+}
+
+// 5 is asked for, and is taken.
+fn takes_five(owner: &mut Binder, answers: &mut Outbox) -> Result<bool, AllocError> {
+    Ok(ask(owner, 5, answers)? == Some(Asked::Taken))
 }
 
 #[test]
 fn a_second_request_is_late(rt: HostRuntime) -> Result<(), Fail> {
-    let alloc = rt.alloc();
-    let mut answers = Outbox::new(alloc);
-    let (mut owner, asked) = asked_for_five(alloc, &mut answers)?;
-    assert!(rt; asked == Some(Asked::Taken));
+    let mut owner = owner_of_x(rt.alloc())?;
+    let mut answers = Outbox::new(rt.alloc());
+    assert!(rt; takes_five(&mut owner, &mut answers)?);
     assert!(rt; ask(&mut owner, 6, &mut answers)? == Some(Asked::Late));
     assert_eq!(rt; answers.len(), 0);
     Ok(())
 }
 
+// A site registers for X, which is bound, and the last of so many answers tells it so.
+fn is_answered(
+    owner: &mut Binder,
+    asking: u32,
+    answers: &mut Outbox,
+    count: usize,
+) -> Result<bool, AllocError> {
+    if !register(owner, asking, answers)? || answers.len() != count {
+        return Ok(false);
+    }
+    match answers.as_slice() {
+        [.., last] => Ok(tells_five(last, asking)),
+        [] => Ok(false),
+    }
+}
+
 #[test]
 fn a_registration_behind_the_binding_is_answered(rt: HostRuntime) -> Result<(), Fail> {
-    let alloc = rt.alloc();
-    let mut answers = Outbox::new(alloc);
-    let (mut owner, asked) = asked_for_five(alloc, &mut answers)?;
-    assert!(rt; asked == Some(Asked::Taken));
-    assert!(rt; register(&mut owner, 2, &mut answers)?);
-    assert!(rt; answers.len() == 1 && tells_five(&answers.as_slice()[0], 2));
-    assert!(rt; register(&mut owner, 3, &mut answers)?);
-    assert!(rt; answers.len() == 2 && tells_five(&answers.as_slice()[1], 3));
+    let mut owner = owner_of_x(rt.alloc())?;
+    let mut answers = Outbox::new(rt.alloc());
+    assert!(rt; takes_five(&mut owner, &mut answers)?);
+    assert!(rt; is_answered(&mut owner, 2, &mut answers, 1)?);
+    assert!(rt; is_answered(&mut owner, 3, &mut answers, 2)?);
     Ok(())
 }
 
@@ -191,37 +232,70 @@ fn value_at(world: &BindWorld, site: u32, var: VarName) -> Option<i64> {
     }
 }
 
+// The message of a place is delivered, and so many travel then.
+fn delivers(world: &mut BindWorld, place: usize, count: usize) -> bool {
+    world.deliver(place).is_ok() && world.travelling().len() == count
+}
+
+fn delivers_none(world: &mut BindWorld, place: usize) -> bool {
+    world.deliver(place) == Err(DeliverError::NotThere)
+}
+
+// The one message on its way tells a site that X is 5.
+fn tells_only(world: &BindWorld, site: u32) -> bool {
+    match world.travelling() {
+        [only] => tells_five(only, site),
+        _ => false,
+    }
+}
+
+// Site 1 makes X, and site 2 meets it and asks for 5: a Register and a request travel.
+fn begins(world: &mut BindWorld) -> Result<bool, AllocError> {
+    Ok(
+        delivers_none(world, 0)
+            && make(world, X)?
+            && !make(world, X)?
+            && !meet(world, 2, Y)?
+            && meet(world, 2, X)?
+            && meet(world, 2, X)?
+            && world.travelling().len() == 1
+            && want_int(world, 2, X, 5)?
+            && world.travelling().len() == 2
+            && delivers_none(world, 2),
+    )
+}
+
+// The request comes before the Register, and nothing is sent.
+fn is_bound_first(world: &mut BindWorld) -> bool {
+    delivers(world, 1, 1)
+        && value_at(world, 1, X) == Some(5)
+        && value_at(world, 2, X) == None
+        && delivers(world, 0, 1)
+        && tells_only(world, 2)
+        && delivers(world, 0, 0)
+        && value_at(world, 2, X) == Some(5)
+}
+
+// Site 3 comes too late with its request, and learns the binding by its registration.
+fn is_late(world: &mut BindWorld) -> Result<bool, AllocError> {
+    Ok(
+        meet(world, 3, X)?
+            && want_int(world, 3, X, 6)?
+            && delivers(world, 1, 1)
+            && value_at(world, 1, X) == Some(5)
+            && delivers(world, 0, 1)
+            && tells_only(world, 3)
+            && delivers(world, 0, 0)
+            && value_at(world, 3, X) == Some(5)
+            && delivers_none(world, 0),
+    )
+}
+
 #[test]
 fn a_world_delivers_requests_and_registrations_in_any_order(rt: HostRuntime) -> Result<(), Fail> {
     let mut world = BindWorld::new(rt.alloc(), 3)?;
-    assert!(rt; world.deliver(0) == Err(DeliverError::NotThere));
-    assert!(rt; make(&mut world, X)? && !make(&mut world, X)?);
-    assert!(rt; !meet(&mut world, 2, Y)?);
-    assert!(rt; meet(&mut world, 2, X)? && meet(&mut world, 2, X)?);
-    assert_eq!(rt; world.travelling().len(), 1);
-    assert!(rt; want_int(&mut world, 2, X, 5)?);
-    assert_eq!(rt; world.travelling().len(), 2);
-    assert!(rt; world.deliver(2) == Err(DeliverError::NotThere));
-
-    // The request comes before the Register, and nothing is sent.
-    assert!(rt; world.deliver(1).is_ok());
-    assert_eq!(rt; world.travelling().len(), 1);
-    assert_eq!(rt; value_at(&world, 1, X), Some(5));
-    assert_eq!(rt; value_at(&world, 2, X), None);
-    assert!(rt; world.deliver(0).is_ok());
-    assert!(rt; world.travelling().len() == 1 && tells_five(&world.travelling()[0], 2));
-    assert!(rt; world.deliver(0).is_ok());
-    assert_eq!(rt; value_at(&world, 2, X), Some(5));
-
-    // Site 3 comes too late with its request, and learns the binding by its registration.
-    assert!(rt; meet(&mut world, 3, X)? && want_int(&mut world, 3, X, 6)?);
-    assert!(rt; world.deliver(1).is_ok());
-    assert_eq!(rt; world.travelling().len(), 1);
-    assert_eq!(rt; value_at(&world, 1, X), Some(5));
-    assert!(rt; world.deliver(0).is_ok());
-    assert!(rt; world.travelling().len() == 1 && tells_five(&world.travelling()[0], 3));
-    assert!(rt; world.deliver(0).is_ok());
-    assert_eq!(rt; value_at(&world, 3, X), Some(5));
-    assert!(rt; world.deliver(0) == Err(DeliverError::NotThere));
+    assert!(rt; begins(&mut world)?);
+    assert!(rt; is_bound_first(&mut world));
+    assert!(rt; is_late(&mut world)?);
     Ok(())
 }

@@ -1,25 +1,12 @@
 //! Equations that go out with a message, and come in.
 
 use marshal::{export, export_from, import};
+use site_message::Bundle;
 use std::alloc::{AllocError, Global};
+use std::process::Abort;
 use std::test::Fail;
 use tree_node::{Feature, Fields, Node, Term, Text, VarName};
 use tree_store::Store;
-
-#[test]
-fn nothing_goes_out_where_the_limit_is_0(rt: HostRuntime) -> Result<(), Fail> {
-    let mut store = Store::new(rt.alloc());
-    let var = store.fresh(1, 0)?;
-    store.bind(var, Term::Node(Node::Int(5)))?;
-    let bundle = export(rt.alloc(), &store, var, 0)?;
-    assert!(rt; bundle.is_empty());
-    assert!(rt;
-        import(rt.alloc(), &mut store, &bundle)?
-            .as_slice()
-            .is_empty()
-    );
-    Ok(())
-}
 
 // A record whose label is a letter, with these variables of site 1 at the features from 1 on.
 fn record(alloc: Global, letter: u8, numbers: &[u64]) -> Result<Node, AllocError> {
@@ -79,10 +66,8 @@ fn fill(alloc: Global, store: &mut Store) -> Result<bool, AllocError> {
     )
 }
 
-// The numbers of the names in a bundle from variable 4 of site 1.
-fn names_out(alloc: Global, store: &Store, limit: usize) -> Result<Vec<u64>, AllocError> {
-    let first = VarName { site: 1, num: 4 };
-    let bundle = export_from(alloc, store, &[first, first], limit)?;
+// The numbers of the names in a bundle.
+fn numbers_of(alloc: Global, bundle: &Bundle) -> Result<Vec<u64>, AllocError> {
     let mut numbers = Vec::new(alloc);
     for (var, _) in bundle.as_slice() {
         numbers.push(var.num)?;
@@ -90,8 +75,23 @@ fn names_out(alloc: Global, store: &Store, limit: usize) -> Result<Vec<u64>, All
     Ok(numbers)
 }
 
+// A bundle from variable 4 of site 1 has the names of these numbers.
+fn goes_out<R: Abort>(
+    rt: &R,
+    alloc: Global,
+    store: &Store,
+    limit: usize,
+    wanted: &[u64],
+) -> Result<(), AllocError> {
+    let first = VarName { site: 1, num: 4 };
+    let bundle = export_from(alloc, store, &[first, first], limit)?;
+    let found = numbers_of(alloc, &bundle)?;
+    assert_eq!(rt; found.as_slice(), wanted, "{limit}");
+    Ok(())
+}
+
 // From 4 on the variables are reached breadth first: 4, 3, 2, 1, 0. What is taken of them stands in the order of names.
-const OUT: [(usize, &[u64]); 7] = [
+static OUT: [(usize, &[u64]); 7] = [
     (0, &[]),
     (1, &[4]),
     (2, &[3, 4]),
@@ -101,14 +101,35 @@ const OUT: [(usize, &[u64]); 7] = [
     (256, &[0, 1, 2, 3, 4]),
 ];
 
+fn all_go_out<R: Abort>(rt: &R, alloc: Global, store: &mut Store) -> Result<(), AllocError> {
+    assert!(rt; fill(alloc, store)?);
+    for (limit, numbers) in OUT.as_slice() {
+        goes_out(rt, alloc, store, *limit, numbers)?;
+    }
+    Ok(())
+}
+
 #[test]
 fn the_first_equations_go_out_by_their_names(rt: HostRuntime) -> Result<(), Fail> {
-    let alloc = rt.alloc();
-    let mut store = Store::new(alloc);
-    assert!(rt; fill(alloc, &mut store)?);
-    for (limit, numbers) in OUT {
-        let found = names_out(alloc, &store, limit)?;
-        assert_eq!(rt; found.as_slice(), numbers, "{limit}");
-    }
+    let mut store = Store::new(rt.alloc());
+    all_go_out(&rt, rt.alloc(), &mut store)?;
+    Ok(())
+}
+
+// Nothing is in a bundle of variable 0 where the limit is 0, and nothing comes in with it.
+fn goes_without<R: Abort>(rt: &R, alloc: Global, store: &mut Store) -> Result<(), AllocError> {
+    let var = VarName { site: 1, num: 0 };
+    assert!(rt; tell(store, 0, Node::Int(5))?);
+    let bundle = export(alloc, store, var, 0)?;
+    assert!(rt; bundle.is_empty());
+    let news = import(alloc, store, &bundle)?;
+    assert!(rt; news.as_slice().is_empty());
+    Ok(())
+}
+
+#[test]
+fn nothing_goes_out_where_the_limit_is_0(rt: HostRuntime) -> Result<(), Fail> {
+    let mut store = Store::new(rt.alloc());
+    goes_without(&rt, rt.alloc(), &mut store)?;
     Ok(())
 }

@@ -1,6 +1,6 @@
 use Rattle.std.proofs.Common.{arith, subst, sym, ◌≤◌, ◌^◌}
 use Rattle.site_model.specs.Site.{Site}
-use Rattle.world_tests.proofs.turns.a_place_without_a_message_is_refused.Goals as goal
+use Rattle.machine_tests.proofs.worlds.a_place_without_a_message_is_refused.Goals as goal
 
 pub turn-requires-clause-room : goal.turn-requires-clause-room
 turn-requires-clause-room g c = subst (λ (s : Site). s.steps ≤ 2 ^ 48) (sym (c.in-Ok.ensures.states 1)) (omega arith)
