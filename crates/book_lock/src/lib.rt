@@ -2,7 +2,7 @@
 //! site.
 //!
 //! It promises (`specs/Seats.antt`, `specs/Rule.antt`): `begin` gives seats that are outside and have seen the value
-//! given. `enter` gives the value, which agrees with what the seat saw last (`Agrees`): the entries of the seat's site
+//! given. `enter` gives the value, which agrees with what the seat saw last (`AreInAgreement`): the entries of the seat's site
 //! are those that it left, so exactly those that this seat posted, each once and in their order; all entries begin with
 //! those that it has seen; its numbers in hand are those that it left, a reason that it has seen is there, and the fixed
 //! part is that of the value given to `begin`. `leave` takes the value back where the seat did what it may

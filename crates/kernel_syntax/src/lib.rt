@@ -14,6 +14,8 @@
 //!
 //! `threads` shows that threads may share a program.
 //!
+//! Tests alone show (`unit_tests`) that a program is made and asked where there is memory.
+//!
 //! Sources: Van Roy and Haridi, *Concepts, Techniques, and Models of Computer Programming*, sections 2.3 (the kernel
 //! language), 2.4.2 (scope), 3.2 (numbers), 4.1, 6.3; its appendix C (how atoms are spelled).
 #![tactic(auto)]

@@ -52,7 +52,7 @@ fn stream_line(alloc: Global, k: u32) -> Result<String, AllocError>
     Ok(line)
 }
 
-/// The text of the run of this size, at most 1,000: what `oz gen SIZE` runs.
+/// The text of the run of this size, at most 1,000: what `oz gen NUMBER` runs.
 pub fn large_text(alloc: Global, size: u32) -> Result<String, AllocError>
     requires { size ≤ 1000 }
     ensures text { IfOk result (λ text. string_bytes text ≡ large_text size) }

@@ -9,7 +9,8 @@
 //! none (`with_equations`), and answers the names that were not known before, each once, in the order in which they stand
 //! there. After want of memory the store may know a part of the bundle, and the site is given up.
 //!
-//! It stands on `tree_store` and `site_message`, and on `site_model` for words.
+//! It stands on `tree_store` and `site_message`, and on `site_model` for words. That memory suffices there, and that
+//! what is known reaches another site in few messages, tests alone show (`oz_tests`).
 //!
 //! Source: Haridi and others, *Efficient Logic Variables for Distributed Computing* (TOPLAS 21(3), 1999).
 #![tactic(auto)]

@@ -17,6 +17,8 @@
 //!
 //! **Tests alone show** (`unit_tests`) that each call succeeds where nothing fails, and how many calls a text takes:
 //! at most one a byte and one more, and over a reader of std one for each 4,096 bytes that it has.
+//!
+//! **Source**: the traits are of this project.
 #![tactic(auto)]
 
 mod counts;

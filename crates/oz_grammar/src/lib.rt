@@ -12,7 +12,7 @@
 //!
 //! Stands on: `oz_lexer` (tokens), `kernel_syntax` (programs), `tree_node` (features).
 //!
-//! Tests alone show: nothing here.
+//! It has types and laws alone, and nothing is left to tests.
 //!
 //! Sources: Van Roy and Haridi, *Concepts, Techniques, and Models of Computer Programming*, sections 2.3 and 2.4.2, and
 //! appendix C.

@@ -9,7 +9,7 @@
 //!
 //! Stands on: `tree_node`, for the reserved words.
 //!
-//! Tests alone show: nothing here; texts that are refused stand as a table in `text_tests`.
+//! Tests alone show no promise of it; a table in `text_tests` tries texts that are refused.
 //!
 //! Sources: Van Roy and Haridi, *Concepts, Techniques, and Models of Computer Programming*, appendix C (lexical syntax).
 #![tactic(auto)]

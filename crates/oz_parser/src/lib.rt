@@ -9,7 +9,7 @@
 //! Stands on: `oz_symbols` (the symbols of a text), `oz_phrases` (what statements are made of), `oz_grammar` (what a text is),
 //! `kernel_syntax` (programs).
 //!
-//! Tests alone show: nothing here; texts, programs and refusals stand as tables in `text_tests`.
+//! Tests alone show no promise of it; tables in `text_tests` try texts, programs and refusals, worked by hand.
 //!
 //! Sources: Van Roy and Haridi, *Concepts, Techniques, and Models of Computer Programming*, section 2.3.
 #![tactic(auto)]

@@ -9,7 +9,7 @@
 //!
 //! Stands on: `oz_grammar` (the canonical form, faults), `kernel_syntax` (programs), `tree_node` (spelling).
 //!
-//! Tests alone show: nothing here; tables of texts and what they print stand in `text_tests`.
+//! Tests alone show no promise of it; tables in `text_tests` try texts and what is printed of them, worked by hand.
 //!
 //! Sources: Van Roy and Haridi, *Concepts, Techniques, and Models of Computer Programming*, section 2.3 and appendix C.
 #![tactic(auto)]

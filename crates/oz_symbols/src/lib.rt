@@ -8,7 +8,7 @@
 //!
 //! Stands on: `oz_lexer` (tokens), `oz_grammar` (which symbol a token stands for).
 //!
-//! Tests alone show: nothing here; texts, programs and refusals stand as tables in `text_tests`.
+//! Tests alone show no promise of it; tables in `text_tests` try texts, programs and refusals, worked by hand.
 //!
 //! Sources: Van Roy and Haridi, *Concepts, Techniques, and Models of Computer Programming*, appendix C.
 #![tactic(auto)]

@@ -12,7 +12,7 @@
 //! the exchanges of a Put follow each other.
 //!
 //! It stands on `token_chain` (a site's part of a cell), `site_message` (messages, outbox), `site_model` (the definitions)
-//! and `indexmap`.
+//! and `indexmap`. That calls go well where there is memory, tests of programs alone show (`oz_tests`).
 //!
 //! Source: Van Roy and others, *Mobile Objects in Distributed Oz* (TOPLAS 19(5), 1997).
 #![tactic(auto)]

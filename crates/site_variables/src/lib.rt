@@ -14,7 +14,7 @@
 //! these rows is 0: each message gets its bundle when the row or the unit that sends it is done.
 //!
 //! It stands on `tree_store` (equations), `bind_protocol` (records), `thread_roster` (who waits), `site_message`, and on
-//! `site_model`, whose rows it follows.
+//! `site_model`, whose rows it follows. That calls go well where there is memory, tests of programs alone show (`oz_tests`).
 //!
 //! Source: Haridi and others, *Efficient Logic Variables for Distributed Computing* (TOPLAS 21(3), 1999).
 #![tactic(auto)]

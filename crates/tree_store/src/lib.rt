@@ -11,8 +11,8 @@
 //!   (`IsForest`, `IsSound`). So every way to a root ends.
 //! - `shown`: the line that a value shows as, to 20 levels and 1,000 nodes, or the first variable that it needs and that
 //!   has no value, by the name of its class (`IsShownAs`).
-//! - `wait`, `wake`: keys wait for a variable in the order in which they came, until all of them are taken (`queued`,
-//!   `woken`).
+//! - `wait`, `wake`: keys wait for a variable in the order in which they came, until all of them are taken (`keys`,
+//!   `rest`).
 //!
 //! No call walks the store. The equations stand in a list, in order, and each name is filed with the place of its own one:
 //! the names of the site of the first `fresh` in a row by number, as long as their numbers come without gaps, and all
@@ -20,7 +20,8 @@
 //! logarithm of the class (`links`). `walk` writes shown values. The waiting keys are those of `waiting_keys`.
 //!
 //! It stands on `tree_node`, whose definitions of stores and shown lines it meets, on `waiting_keys`, and on `indexmap`.
-//! `threads` shows that a store may go to another thread.
+//! `threads` shows that a store may go to another thread. Tests (`unit_tests`) show that names become known and keys are woken where
+//! there is memory.
 //!
 //! Sources: Van Roy and Haridi, *Concepts, Techniques, and Models of Computer Programming*, sections 2.3 and 2.8.2.
 #![tactic(auto)]

@@ -7,8 +7,11 @@
 //! A call costs one look-up. The queues stand by number in a slab; that each variable has a queue of its own is the
 //! invariant (`IsFiled` in `specs/Waiting.antt`).
 //!
-//! It stands on `tree_node` (names, `Seq`), `indexmap` and `slab`. `threads` shows that threads may hold and share it. No
-//! tests of its own.
+//! It stands on `tree_node` (names, `Seq`), `indexmap` and `slab`. `threads` shows that threads may hold and share it. A
+//! test (`unit_tests`) has keys wait and wake through `tree_store`; no promise is left to it.
+//!
+//! Source: Van Roy and Haridi, *Concepts, Techniques, and Models of Computer Programming*, section 2.4 (a statement waits until a
+//! variable is bound).
 #![tactic(auto)]
 
 mod threads;

@@ -10,7 +10,7 @@
 //! totals of a run of two sites.
 //!
 //! It stands on `site_model`, whose runs it speaks of, and on `oz_model`, whose machine it is. That every run of sites is
-//! such a run is proved above.
+//! such a run is proved above. It has no code, and no tests.
 //!
 //! Sources: Haridi and others, *Efficient Logic Variables for Distributed Computing* (TOPLAS 21(3), 1999), and Van Roy and
 //! others, *Mobile Objects in Distributed Oz* (TOPLAS 19(5), 1997).

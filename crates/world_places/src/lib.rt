@@ -7,6 +7,9 @@
 //! placed at two sites. Where a thread was placed is read from the journal alone (`IsPlacedAt`).
 //!
 //! It stands on `site_model`, whose runs it speaks of, and on lemmas of `world_messages`. It has no code, and no tests.
+//!
+//! Source: Van Roy and Haridi, *Concepts, Techniques, and Models of Computer Programming*, section 4.1 (threads); that a thread has a
+//! site is of this project.
 #![tactic(auto)]
 
 mod laws;

@@ -6,6 +6,9 @@
 //! (`DistributedRun`) are the runs in which an unfit message changes nothing (`WorldRun` of `site_model`), since none comes.
 //!
 //! It stands on `world_simulation`, which proves that each delivered message is fit. It has no code, and no tests.
+//!
+//! Sources: Haridi and others, *Efficient Logic Variables for Distributed Computing* (TOPLAS 21(3), 1999), and Van Roy and
+//! others, *Mobile Objects in Distributed Oz* (TOPLAS 19(5), 1997).
 #![tactic(auto)]
 
 mod laws;
