@@ -16,7 +16,7 @@
 //! `book_lock` for the book and its lock, on `wire_form` and `site_wire` for the bytes of messages and that each can be spelled, and on
 //! `crossbeam_utils` for the sleep of workers with nothing to do. Nothing is said of
 //! who comes first, nor that a worker is woken, nor that two turns are under way at once: tests alone show that runs end
-//! and that two sites work at once (`oz_tests`).
+//! (`machine_tests`, `oz_tests`) and that two sites work at once (`oz_tests`).
 //!
 //! Workers are of this project. Sources of what the sites do: Haridi and others, *Efficient Logic Variables for Distributed Computing*
 //! (TOPLAS 21(3), 1999), and Van Roy and others, *Mobile Objects in Distributed Oz* (TOPLAS 19(5), 1997).

@@ -3,13 +3,14 @@
 ghost use Rattle.std.specs.Prelude.{IfOk};
 ghost use Rattle.site_message.specs.Wire.{IsSite, FitsText, FitsFeature, FitsField, FitsFields, FitsVar, FitsVars, FitsNode, FitsTerm, FitsEquation, FitsBundle, FitsWire};
 ghost use Rattle.tree_node.specs.declared.node.Term.TheVariants as terms;
+ghost use Rattle.site_message.specs.declared.message.Msg.TheVariants as messages;
 ghost use Rattle.wire_form.specs.Format.{site, name, var_name, cell_name, proc_name, thread_name, code, integer, text, feature, record_field, record_fields, variables, term, equation, bundle, message, IsSpelling};
 ghost use Rattle.wire_form.specs.Writing.{IsWritten};
 
 use crate::size::message_size;
-use site_message::Msg;
+use site_message::{Bundle, Msg};
 use std::alloc::{AllocError, Global};
-use tree_node::{CellName, CodeId, Feature, Node, ProcName, Seq, Term, ThreadName, VarName};
+use tree_node::{CellName, CodeId, Feature, Node, ProcName, Seq, Term, ThreadName, VarName, Vars};
 
 /// The bytes of a message.
 pub type Bytes = Seq<u8>;
@@ -205,6 +206,104 @@ fn put_bundle(out: &mut Vec<u8>, equations: &[(VarName, Term)]) -> Result<(), Al
     Ok(())
 }
 
+// A message that starts a thread.
+fn put_spawn(
+    out: &mut Vec<u8>,
+    thread: ThreadName,
+    code: CodeId,
+    vars: &Vars,
+    bundle: &Bundle,
+) -> Result<(), AllocError>
+    requires { FitsWire (messages.Spawn thread code vars.now bundle.now) }
+    ensures { IsWritten message (messages.Spawn thread code vars.now bundle.now) out.old.items out.new.items result }
+{
+    out.push(1)?;
+    put_thread(out, thread)?;
+    put_code(out, code)?;
+    put_variables(out, vars.as_slice())?;
+    put_bundle(out, bundle.as_slice())
+}
+
+// The message by which a site asks to be told of a variable's binding.
+fn put_register(out: &mut Vec<u8>, var: VarName, asking: u32) -> Result<(), AllocError>
+    requires { FitsWire (messages.Register var asking) }
+    ensures { IsWritten message (messages.Register var asking) out.old.items out.new.items result }
+{
+    out.push(2)?;
+    put_var(out, var)?;
+    put_site(out, asking)
+}
+
+// A message that asks for a bind.
+fn put_bind_request(
+    out: &mut Vec<u8>,
+    var: VarName,
+    thread: ThreadName,
+    term: &Term,
+    bundle: &Bundle,
+) -> Result<(), AllocError>
+    requires { FitsWire (messages.BindReq var thread term.now bundle.now) }
+    ensures { IsWritten message (messages.BindReq var thread term.now bundle.now) out.old.items out.new.items result }
+{
+    out.push(3)?;
+    put_var(out, var)?;
+    put_thread(out, thread)?;
+    put_term(out, term)?;
+    put_bundle(out, bundle.as_slice())
+}
+
+// A message that tells a binding.
+fn put_binding(
+    out: &mut Vec<u8>,
+    var: VarName,
+    term: &Term,
+    bundle: &Bundle,
+) -> Result<(), AllocError>
+    requires { FitsWire (messages.Binding var term.now bundle.now) }
+    ensures { IsWritten message (messages.Binding var term.now bundle.now) out.old.items out.new.items result }
+{
+    out.push(4)?;
+    put_var(out, var)?;
+    put_term(out, term)?;
+    put_bundle(out, bundle.as_slice())
+}
+
+// A message that asks a cell's manager for the token.
+fn put_get(out: &mut Vec<u8>, cell: CellName, asking: u32) -> Result<(), AllocError>
+    requires { FitsWire (messages.Get cell asking) }
+    ensures { IsWritten message (messages.Get cell asking) out.old.items out.new.items result }
+{
+    out.push(5)?;
+    put_cell(out, cell)?;
+    put_site(out, asking)
+}
+
+// A message that tells a site its successor.
+fn put_forward(out: &mut Vec<u8>, cell: CellName, next: u32) -> Result<(), AllocError>
+    requires { FitsWire (messages.Forward cell next) }
+    ensures { IsWritten message (messages.Forward cell next) out.old.items out.new.items result }
+{
+    out.push(6)?;
+    put_cell(out, cell)?;
+    put_site(out, next)
+}
+
+// A message that is the token of a cell.
+fn put_put(
+    out: &mut Vec<u8>,
+    cell: CellName,
+    content: VarName,
+    bundle: &Bundle,
+) -> Result<(), AllocError>
+    requires { FitsWire (messages.Put cell content bundle.now) }
+    ensures { IsWritten message (messages.Put cell content bundle.now) out.old.items out.new.items result }
+{
+    out.push(7)?;
+    put_cell(out, cell)?;
+    put_var(out, content)?;
+    put_bundle(out, bundle.as_slice())
+}
+
 // A message.
 fn put_message(out: &mut Vec<u8>, msg: &Msg) -> Result<(), AllocError>
     requires { FitsWire msg.now }
@@ -216,56 +315,22 @@ fn put_message(out: &mut Vec<u8>, msg: &Msg) -> Result<(), AllocError>
             code,
             vars,
             bundle,
-        } => {
-            out.push(1)?;
-            put_thread(out, *thread)?;
-            put_code(out, *code)?;
-            put_variables(out, vars.as_slice())?;
-            put_bundle(out, bundle.as_slice())
-        }
-        Msg::Register { var, asking } => {
-            out.push(2)?;
-            put_var(out, *var)?;
-            put_site(out, *asking)
-        }
+        } => put_spawn(out, *thread, *code, vars, bundle),
+        Msg::Register { var, asking } => put_register(out, *var, *asking),
         Msg::BindReq {
             var,
             thread,
             term,
             bundle,
-        } => {
-            out.push(3)?;
-            put_var(out, *var)?;
-            put_thread(out, *thread)?;
-            put_term(out, term)?;
-            put_bundle(out, bundle.as_slice())
-        }
-        Msg::Binding { var, term, bundle } => {
-            out.push(4)?;
-            put_var(out, *var)?;
-            put_term(out, term)?;
-            put_bundle(out, bundle.as_slice())
-        }
-        Msg::Get { cell, asking } => {
-            out.push(5)?;
-            put_cell(out, *cell)?;
-            put_site(out, *asking)
-        }
-        Msg::Forward { cell, next } => {
-            out.push(6)?;
-            put_cell(out, *cell)?;
-            put_site(out, *next)
-        }
+        } => put_bind_request(out, *var, *thread, term, bundle),
+        Msg::Binding { var, term, bundle } => put_binding(out, *var, term, bundle),
+        Msg::Get { cell, asking } => put_get(out, *cell, *asking),
+        Msg::Forward { cell, next } => put_forward(out, *cell, *next),
         Msg::Put {
             cell,
             content,
             bundle,
-        } => {
-            out.push(7)?;
-            put_cell(out, *cell)?;
-            put_var(out, *content)?;
-            put_bundle(out, bundle.as_slice())
-        }
+        } => put_put(out, *cell, *content, bundle),
     }
 }
 
