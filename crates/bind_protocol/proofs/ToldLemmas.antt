@@ -19,7 +19,7 @@ use Rattle.bind_protocol.specs.World.{is_register, is_binding}
 use Rattle.bind_protocol.specs.Lawful.{known_count, register_count, binding_count, site_count}
 use Rattle.bind_protocol.specs.Count.{IsNeither, GoesOn}
 use Rattle.bind_protocol.specs.Learn.{HasLearned, MeetCase}
-use Rattle.bind_protocol.specs.Told.{open_count, AreTold, KeepsTold, RowsTell, TellingJoins, IsForSite, TellingGoesOn, WaitersAreTold}
+use Rattle.bind_protocol.specs.Notices.{open_count, AreTold, KeepsTold, RowsTell, TellingJoins, IsForSite, TellingGoesOn, WaitersAreTold}
 use Rattle.bind_protocol.proofs.ListLemmas.{one, count_append, count_push, count_cons, counted_there}
 use Rattle.bind_protocol.proofs.LookLemmas.{in_here, in_other}
 use Rattle.bind_protocol.proofs.CountLemmas.{bindings_sent}

@@ -6,5 +6,5 @@ pub mod Calls
 pub mod Count
 pub mod Learn
 pub mod Worked
-pub mod Told
+pub mod Notices
 pub mod Equations

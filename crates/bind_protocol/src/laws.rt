@@ -10,7 +10,7 @@ ghost use Rattle.site_message.specs.declared.reason.DeliverError.TheVariants.{No
 ghost use Rattle.bind_protocol.specs.Count.{RowsCount, RowsHear, CountsJoin, CountsGoOn, CountedOnce, MessagesComeReady};
 ghost use Rattle.bind_protocol.specs.Learn.{RowsTeach, KnownStays};
 ghost use Rattle.bind_protocol.specs.Equations.{RowsKeepEquations, EquationsJoin, EquationsGoOn};
-ghost use Rattle.bind_protocol.specs.Told.{RowsTell, TellingJoins, TellingGoesOn, WaitersAreTold};
+ghost use Rattle.bind_protocol.specs.Notices.{RowsTell, TellingJoins, TellingGoesOn, WaitersAreTold};
 ghost use Rattle.bind_protocol.specs.Worked.{WorkedBind};
 ghost use Rattle.bind_protocol.specs.Calls.{CanMake, CanMeet, CanWant, CallsKeep};
 

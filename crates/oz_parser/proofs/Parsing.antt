@@ -22,7 +22,7 @@ use Rattle.oz_parser.specs.declared.error.ParseError.{ParseError}
 use Rattle.oz_parser.specs.declared.error.ParseError.TheVariants as errors
 use Rattle.oz_parser.specs.Fits.{RowsFit}
 use Rattle.oz_symbols.specs.TextSymbols.{start_of, AreSymbols}
-use Rattle.oz_parser.specs.Parses.{IsParse, IsProgramAnswer, IsFaultAnswer}
+use Rattle.oz_parser.specs.ParseAnswers.{IsParse, IsProgramAnswer, IsFaultAnswer}
 use Rattle.oz_parser.proofs.Shifting.{program_fits, same_count}
 
 -- the numbers of what is read fit

@@ -22,7 +22,7 @@ use Rattle.oz_grammar.specs.Table.{code_at}
 use Rattle.oz_grammar.specs.Reading.{◌>>=◌, Out, Reader, fault_expected, fault_or, sign_at, close_at, used_at, site_at, begins_at, stmt_at, kind_at, is_end_of, more_at, with_numbers, body_at, first_local_at, formals_at, arguments_at, wanted_at, local_at, procedure_at, proc_value_at, proc_at, value_at, right_at, tell_at, thread_at, call_of, call_at, raise_at, if_at, case_at, pattern_at}
 use Rattle.oz_phrases.specs.declared.stop.Stop.{Stop}
 use Rattle.oz_phrases.specs.declared.stop.Stop.TheVariants as stops
-use Rattle.oz_phrases.specs.Gives.{IsFailure}
+use Rattle.oz_phrases.specs.ReadAnswers.{IsFailure}
 use Rattle.oz_parser.specs.State.{State, state_of}
 use Rattle.oz_parser.specs.Heads.{Begun, local_head, procedure_head, proc_value_head, proc_head, value_head, right_head, tell_head, placed_head, thread_head, called_head, call_head, raise_head, body_of, block_at, if_head, case_head, branches_of, choice_at}
 

@@ -1,4 +1,4 @@
 pub mod State
 pub mod Heads
 pub mod Fits
-pub mod Parses
+pub mod ParseAnswers

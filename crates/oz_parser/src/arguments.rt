@@ -4,7 +4,7 @@ ghost use Rattle.std.specs.Prelude.{◌≡◌, ◌<◌, ◌≤◌, ◌^◌, [], 
 ghost use Rattle.oz_grammar.specs.Scoping.{arity_of};
 ghost use Rattle.oz_grammar.specs.Faults.{argument_fault};
 ghost use Rattle.oz_grammar.specs.Reading.{arguments_at, wanted_at};
-ghost use Rattle.oz_phrases.specs.Gives.{IsReadAs};
+ghost use Rattle.oz_phrases.specs.ReadAnswers.{IsReadAs};
 
 use oz_grammar::{BuiltIn, FaultKind, Symbol, What};
 use oz_phrases::{Read, Scope, close, count_fault, fault, place_of, refused, used};

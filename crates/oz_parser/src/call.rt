@@ -2,7 +2,7 @@
 
 ghost use Rattle.std.specs.Prelude.{◌≡◌, ◌+◌, ◌<◌, ◌^◌, length, slice_index, vec_len, IfOk};
 ghost use Rattle.oz_grammar.specs.Table.{built_in_row};
-ghost use Rattle.oz_phrases.specs.Gives.{IsReadAs};
+ghost use Rattle.oz_phrases.specs.ReadAnswers.{IsReadAs};
 ghost use Rattle.oz_parser.specs.Heads.{begun, built_in_head, procedure_call_head, call_head, raise_head};
 
 use crate::arguments::{arguments, arity_of, wanted};

@@ -1,7 +1,7 @@
 //! The heads of statements, up to where a body begins.
 
 ghost use Rattle.std.specs.Prelude.{◌≡◌, ◌+◌, ◌<◌, ◌≤◌, ◌^◌, length, vec_len, IfOk};
-ghost use Rattle.oz_phrases.specs.Gives.{IsReadAs};
+ghost use Rattle.oz_phrases.specs.ReadAnswers.{IsReadAs};
 ghost use Rattle.oz_parser.specs.Heads.{begun, whole, opening, local_head, procedure_head, proc_value_head, proc_head, value_head, right_head, tell_head, placed_head, thread_head, head_at, if_head, case_head};
 
 use crate::call::{call, raise};

@@ -9,9 +9,9 @@ ghost use Rattle.oz_grammar.specs.declared.fault.TextFault.{TextFault};
 ghost use Rattle.oz_grammar.specs.Symbols.{ends_once};
 ghost use Rattle.oz_grammar.specs.Reading.{program_at};
 ghost use Rattle.oz_grammar.specs.Reads.{Reads, FaultOf};
-ghost use Rattle.oz_phrases.specs.Gives.{IsReadAs, IsFailure};
+ghost use Rattle.oz_phrases.specs.ReadAnswers.{IsReadAs, IsFailure};
 ghost use Rattle.oz_symbols.specs.TextSymbols.{AreSymbols};
-ghost use Rattle.oz_parser.specs.Parses.{IsErrorOf, IsParse, IsProgramAnswer, IsFaultAnswer, IfFault};
+ghost use Rattle.oz_parser.specs.ParseAnswers.{IsErrorOf, IsParse, IsProgramAnswer, IsFaultAnswer, IfFault};
 
 use crate::error::ParseError;
 use crate::reader::Reader;

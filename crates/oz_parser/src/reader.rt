@@ -3,7 +3,7 @@
 ghost use Rattle.std.specs.Prelude.{◌≡◌, ◌+◌, ◌*◌, ◌^◌, ◌<◌, ◌++◌, [], ◌∷◌, length, take, vec_len, OnOk};
 ghost use Rattle.oz_grammar.specs.Table.{code_at};
 ghost use Rattle.oz_grammar.specs.Reading.{stmt_at, kind_at, if_at, case_at, try_at, seq_at, seq_from, more_at, with_numbers};
-ghost use Rattle.oz_phrases.specs.Gives.{IsReadAs};
+ghost use Rattle.oz_phrases.specs.ReadAnswers.{IsReadAs};
 ghost use Rattle.oz_parser.specs.State.{state_of, out_of, IsFurther, IsAtEnd};
 ghost use Rattle.oz_parser.specs.Heads.{block_at, branches_of};
 

@@ -9,7 +9,7 @@ use Rattle.oz_grammar.specs.Scoping.{Scope, Fields}
 use Rattle.oz_grammar.specs.Reading.{◌>>=◌, is_round, field_at, fields_at}
 use Rattle.oz_phrases.specs.declared.stop.Stop.{Stop}
 use Rattle.oz_phrases.specs.declared.stop.Stop.TheVariants as stops
-use Rattle.oz_phrases.specs.Gives.{IsFailure}
+use Rattle.oz_phrases.specs.ReadAnswers.{IsFailure}
 use Rattle.oz_phrases.specs.Fields.{numbered_field_of}
 
 pub number_read : (p : Purpose) (scope : Scope) (room : ℕ) (before : Fields) (next : ℕ) (n : Option ℤ) (rest : List Symbol) → field_at p scope room before next (t.Integer n ∷ rest) ≡ numbered_field_of p scope room before next n (t.Integer n ∷ rest) rest

@@ -1,4 +1,4 @@
 pub mod Scoped
-pub mod Gives
+pub mod ReadAnswers
 pub mod Fields
 pub mod Values

@@ -3,7 +3,7 @@
 ghost use Rattle.std.specs.Prelude.{◌≡◌, ◌+◌, ◌<◌, ◌≤◌, [], length, vec_len, IfOk};
 ghost use Rattle.oz_grammar.specs.Faults.{count_fault, formal_fault};
 ghost use Rattle.oz_grammar.specs.Reading.{locals_at, first_local_at, formals_at};
-ghost use Rattle.oz_phrases.specs.Gives.{IsReadAs};
+ghost use Rattle.oz_phrases.specs.ReadAnswers.{IsReadAs};
 
 use crate::fields::has_name;
 use crate::stop::{Read, Stop, fault, refused};

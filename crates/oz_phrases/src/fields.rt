@@ -7,7 +7,7 @@ ghost use Rattle.oz_grammar.specs.Table.{slots_of, features_in};
 ghost use Rattle.oz_grammar.specs.Reading.{fields_at, field_at, named_field_at, field_name_at, is_round};
 ghost use Rattle.tree_node.specs.Node.{feature_cmp};
 ghost use Rattle.oz_phrases.specs.Fields.{insertion_point, field_name_of, field_with_feature_of, numbered_field_of};
-ghost use Rattle.oz_phrases.specs.Gives.{IsReadAs};
+ghost use Rattle.oz_phrases.specs.ReadAnswers.{IsReadAs};
 
 use crate::scope::{Scope, place_of};
 use crate::signs::sign;

@@ -3,7 +3,7 @@
 ghost use Rattle.std.specs.Prelude.{◌≡◌, ◌+◌, ◌<◌, ◌≤◌, length, vec_len, IfOk};
 ghost use Rattle.oz_grammar.specs.Table.{record_pattern};
 ghost use Rattle.oz_grammar.specs.Reading.{pair_pattern_at, record_pattern_at, pattern_at};
-ghost use Rattle.oz_phrases.specs.Gives.{IsReadAs};
+ghost use Rattle.oz_phrases.specs.ReadAnswers.{IsReadAs};
 ghost use Rattle.oz_phrases.specs.Values.{pair_pattern};
 
 use crate::fields::{features, fields, names};

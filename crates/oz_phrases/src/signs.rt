@@ -3,7 +3,7 @@
 ghost use Rattle.std.specs.Prelude.{◌≡◌, ◌+◌, length, IfOk};
 ghost use Rattle.oz_grammar.specs.Points.{is_sign, expects_sign, is_closer, begins_statement, expected_after};
 ghost use Rattle.oz_grammar.specs.Reading.{is_end_of, begins_at, sign_at, close_at};
-ghost use Rattle.oz_phrases.specs.Gives.{IsReadAs};
+ghost use Rattle.oz_phrases.specs.ReadAnswers.{IsReadAs};
 
 use crate::stop::{Stop, refused};
 use oz_grammar::{Closer, Sign, Symbol, What};

@@ -3,7 +3,7 @@
 ghost use Rattle.std.specs.Prelude.{◌≡◌, ◌+◌, ◌<◌, ◌≤◌, ◌^◌, [], length, IfOk};
 ghost use Rattle.oz_grammar.specs.Table.{record_row, pair_row};
 ghost use Rattle.oz_grammar.specs.Reading.{record_at, behind_at, value_at};
-ghost use Rattle.oz_phrases.specs.Gives.{IsReadAs};
+ghost use Rattle.oz_phrases.specs.ReadAnswers.{IsReadAs};
 ghost use Rattle.oz_phrases.specs.Values.{calculation_at, selected_at, pair_at, variable_at};
 
 use crate::fields::{fields, slots};

@@ -7,7 +7,7 @@ use Rattle.oz_model.specs.Laws.{CellsAreChains}
 use Rattle.site_message.specs.Journal.{end_of}
 use Rattle.site_message.specs.declared.reason.Reason.{Reason}
 use Rattle.site_message.specs.declared.reason.Reason.TheVariants as reason
-use Rattle.central_machine.specs.Ran.{EndsAt, HasReason}
+use Rattle.central_machine.specs.RunReport.{EndsAt, HasReason}
 use Rattle.central_machine.specs.declared.run.Ran.{Ran}
 use Rattle.central_machine.specs.declared.run.Reason as stop
 use Rattle.central_machine.specs.declared.run.Reason.TheVariants as stops

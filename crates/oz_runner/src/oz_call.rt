@@ -41,11 +41,11 @@ pub fn oz<S: Source, K: Sink, G: Gate + Sync, R: Threads + Wait + Sync>(
 {
     texts_have_one_of_both();
     let work = do_work(rt, alloc, words, source, gate);
-    told(alloc, sink, work)
+    report(alloc, sink, work)
 }
 
 // Writes the lines of the work and its end line.
-fn told<K: Sink>(alloc: Global, sink: &mut K, work: Work) -> Report
+fn report<K: Sink>(alloc: Global, sink: &mut K, work: Work) -> Report
     requires { HasLine work.status }
     ensures written { (worked : Status) × IsToldAs work.status worked
         × Written (stream_of K.taken K.faults sink.old sink.new) (output (lines_of work.printed) (end_line worked)) worked result.status }

@@ -1,4 +1,4 @@
 pub mod Counts
 pub mod Going
 pub mod Simulated
-pub mod Told
+pub mod Output

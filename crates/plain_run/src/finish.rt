@@ -8,7 +8,7 @@ ghost use Rattle.site_message.specs.Progress.{WentOn};
 ghost use Rattle.world_core.specs.Laws.{HasRun, AreMessagesFew};
 ghost use Rattle.plain_run.specs.Going.{AreLimits, HasReason, limits_of};
 ghost use Rattle.plain_run.specs.Simulated.{HasMachineRun};
-ghost use Rattle.plain_run.specs.Told.{IsToldOf};
+ghost use Rattle.plain_run.specs.Output.{IsOutputOf};
 
 use crate::out::{Driven, Limits, RunOut};
 use crate::totals::last_totals;
@@ -24,7 +24,7 @@ pub fn finish_run(alloc: Global, program: &Program, limits: Limits, driven: Driv
     requires run { HasRun program.now limits.sites driven.journal }
     requires reason { HasReason limits driven.journal driven.reason }
     requires went { WentOn (limits_of limits) driven.journal }
-    ensures told { IsToldOf driven result }
+    ensures told { IsOutputOf driven result }
     ensures run { HasRun program.now limits.sites result.journal }
     ensures simulated { HasMachineRun program.now limits.sites result.journal }
     ensures few { AreMessagesFew program.now limits.sites result.journal }

@@ -8,7 +8,7 @@
 //! machine rests there. `schedule` has these picks in order; the reason is how the journal ends (`HasReason`, by `end_of` of
 //! `site_message`), or that memory ran out where it goes on; no turn before the last had ended it (`WentOn`); `ended` and `waiting`
 //! are the sums of what the sites told last; and no more messages were sent than the picks allow (`AreMessagesFew`). `finish_run`
-//! tells all of this of the journal and the reason that it is given, unless memory ran out (`IsToldOf`), whatever drove the run:
+//! tells all of this of the journal and the reason that it is given, unless memory ran out (`IsOutputOf`), whatever drove the run:
 //! workers end by it, too.
 //!
 //! The order: sites 1 to the last in rounds, each taking its message with the lowest number and then its threads, first come

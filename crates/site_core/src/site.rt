@@ -31,11 +31,11 @@ impl<'a, O> Model for Site<'a, O> {
     ghost Value = { Seated O };
 
     ghost use Rattle.site_units.specs.Core.{site_of};
-    ghost use Rattle.site_core.specs.Kept.{IsKept};
+    ghost use Rattle.site_core.specs.Spent.{IsConsistentUnlessSpent};
 
     ghost view = { λ s. record { program = s.program.now; sites = s.core.sites; state = site_of s.core; spent = s.spent; seat = s.seat } };
 
-    ghost invariant = { λ s. IsKept s.program.now s.core s.spent };
+    ghost invariant = { λ s. IsConsistentUnlessSpent s.program.now s.core s.spent };
 }
 
 impl<'a> Site<'a, NoSeat> {

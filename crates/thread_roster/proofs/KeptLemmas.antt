@@ -12,7 +12,7 @@ use Rattle.thread_roster.specs.declared.mode.Mode.TheVariants as mode
 use Rattle.thread_roster.specs.declared.slot.Held.{Held}
 use Rattle.waiting_keys.specs.Keys as keys
 use Rattle.waiting_keys.specs.Keys.{keys_among}
-use Rattle.thread_roster.specs.Kept.{IsKept}
+use Rattle.thread_roster.specs.Invariant.{IsKept}
 use Rattle.thread_roster.specs.Slots.{Slot, IsNotSlotOf, IsSlotOf, IsOnlyAt, IsPlaced, ArePlaced, slot_in, with_slot, IsModeAt, AreInside, rouse, rouse_all, total, one, weight, waiting, entry, threads_in, IsLeft, IsRest, IsNext, with_value_in, value_there}
 use Rattle.thread_roster.specs.Threads.{Threads, wake, wake_all, set_mode, set_value, AllWait, IsRunnable}
 use Rattle.tree_node.specs.Assoc.{value_of, without_key}

@@ -1,4 +1,4 @@
 pub mod Threads
 pub mod Lends
 pub mod Slots
-pub mod Kept
+pub mod Invariant

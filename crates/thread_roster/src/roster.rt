@@ -41,7 +41,7 @@ impl<V> Model for Roster<V> {
     ghost Value = { Threads V };
 
     ghost use Rattle.thread_roster.specs.Slots.{threads_in, total, one};
-    ghost use Rattle.thread_roster.specs.Kept.{IsKept};
+    ghost use Rattle.thread_roster.specs.Invariant.{IsKept};
 
     ghost view = { λ r. record {
       living = threads_in r.slots.items;

@@ -7,8 +7,8 @@ use Rattle.oz_runner.proofs.oz_call.oz.Goals as goal
 pub returns-clause-headline : goal.returns-clause-headline
 returns-clause-headline g c =
     let work = c.do_work-work in
-    let told = c.told.ensures in
-    let sink = stream_of g.K.Sink.taken g.K.Sink.faults c.args.sink.now c.told.new.sink in (
+    let told = c.report.ensures in
+    let sink = stream_of g.K.Sink.taken g.K.Sink.faults c.args.sink.now c.report.new.sink in (
       lines_of work.result.printed,
       headline _ _ _ _ _ _ _ told.journal told.schedule (work.ensures.cause sink) work.ensures.line told.written.1 told.written.2,
     )

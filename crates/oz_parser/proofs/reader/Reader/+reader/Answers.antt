@@ -5,7 +5,7 @@ use Rattle.oz_grammar.specs.Points.{expected_after}
 use Rattle.oz_grammar.specs.Table.{code_at}
 use Rattle.oz_grammar.specs.declared.fault.Fault.{Fault}
 use Rattle.oz_grammar.specs.Reading.{Out, stmt_at, is_end_of}
-use Rattle.oz_phrases.specs.Gives.{IsReadAs}
+use Rattle.oz_phrases.specs.ReadAnswers.{IsReadAs}
 use Rattle.oz_parser.specs.State.{state_of, out_of}
 use Rattle.oz_parser.specs.Heads.{begun, if_head, case_head}
 use Rattle.oz_parser.proofs.Unfold.{more_goes, more_refused, state_ends, if_block, case_block, branches_behind}

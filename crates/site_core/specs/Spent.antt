@@ -5,5 +5,5 @@ use Rattle.site_units.specs.declared.data.Core.{Core}
 use Rattle.site_units.specs.Facts.{IsConsistent}
 
 -- the data of a site that is not spent are consistent
-abbrev pub IsKept : List Stmt → Core → Bool → Type 0
-IsKept p c spent = spent ≡ false → IsConsistent p c
+abbrev pub IsConsistentUnlessSpent : List Stmt → Core → Bool → Type 0
+IsConsistentUnlessSpent p c spent = spent ≡ false → IsConsistent p c

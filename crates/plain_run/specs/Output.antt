@@ -5,6 +5,6 @@ use Rattle.plain_run.specs.declared.out.Driven.{Driven}
 use Rattle.plain_run.specs.declared.out.RunOut.{RunOut}
 
 -- its turns and why no more were made; or memory was wanting, and no turn is told
-abbrev pub IsToldOf : Driven → RunOut → Type 0
-IsToldOf driven out =
+abbrev pub IsOutputOf : Driven → RunOut → Type 0
+IsOutputOf driven out =
     ((out.journal ≡ driven.journal) × (out.reason ≡ driven.reason)) ⊎ ((out.journal ≡ []) × (out.reason ≡ Memory))

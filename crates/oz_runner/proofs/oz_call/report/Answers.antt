@@ -1,7 +1,7 @@
 use Rattle.std.proofs.Common.{ap, rules}
 use Rattle.oz_runner.specs.Ends.{lines_of}
 use Rattle.oz_runner.proofs.CauseLemmas.{told_as, told_memory}
-use Rattle.oz_runner.proofs.oz_call.told.Goals as goal
+use Rattle.oz_runner.proofs.oz_call.report.Goals as goal
 
 pub returns-in-Some-clause-written : goal.returns-in-Some-clause-written
 returns-in-Some-clause-written g c = told_as _ (lines_of c.args.work.printed) _ c.in-Some.end.now _ (search rules) c.finish.ensures.written
