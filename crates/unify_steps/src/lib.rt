@@ -10,7 +10,8 @@
 //!   variable without an equation of its own to the lesser such variable of the other side, where no side has a node, and
 //!   to the node where the other side has one. So links go down, and no class gets a second node.
 //! - `peek` tells beforehand whether the next step is a bind, of which two sides, or a failure (`IsPeekOf`).
-//! - `Block::new`, and `fill` of a [`BlockRoom`], which takes no memory, begin with one pair and nothing met.
+//! - `Block::new`, and `fill` of a [`BlockRoom`], which takes no memory, begin with one pair and nothing met. `into_room` makes
+//!   such room of a block that is done with; that it does is promised by no clause, and shown by `bench/run` alone.
 //!
 //! `case` finds the case of a pair, `met` and `met_table` keep the pairs that were met, which `hash` makes quick to find,
 //! and `records` compares and pairs fields. `threads` shows that a block may go to another thread.
