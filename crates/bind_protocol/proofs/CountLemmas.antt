@@ -7,7 +7,7 @@ use Rattle.tree_node.specs.Store.{equal_var}
 use Rattle.site_message.specs.declared.message.Sent.{Sent}
 use Rattle.bind_protocol.specs.Rows.{binding}
 use Rattle.bind_protocol.specs.World.{is_register, is_binding}
-use Rattle.bind_protocol.specs.Lawful.{Knowing, AreCounted, met_count, known_count, register_count, binding_count, site_count}
+use Rattle.bind_protocol.specs.Lawful.{Knowing, AreCountedExactly, met_count, known_count, register_count, binding_count, site_count}
 use Rattle.bind_protocol.proofs.ListLemmas.{one, count_cons}
 use Rattle.bind_protocol.proofs.GrowLemmas.{Changes, this_place, place_is, place_is_not}
 
@@ -95,11 +95,11 @@ no_register y t (k ∷ ks) i x =
     omega arith
 
 -- how a count goes from before to after
-module _ (know more : Knowing) (list list' : VarName → List ℕ) (ms ms' ds ds' : List Sent) (c : AreCounted know list ms ds) where
+module _ (know more : Knowing) (list list' : VarName → List ℕ) (ms ms' ds ds' : List Sent) (c : AreCountedExactly know list ms ds) where
   -- nothing is counted otherwise
   pub same_counts : ((i : ℕ) (x : VarName) → met_count (i == x.site) (more i x) ≡ met_count (i == x.site) (know i x)) → ((i : ℕ) (x : VarName) → known_count (i == x.site) (more i x) ≡ known_count (i == x.site) (know i x)) →
       ((x : VarName) → list' x ≡ list x) → ((i : ℕ) (x : VarName) → register_count x i ms' ≡ register_count x i ms) → ((i : ℕ) (x : VarName) → binding_count x i ms' ≡ binding_count x i ms) →
-      ((i : ℕ) (x : VarName) → register_count x i ds' ≡ register_count x i ds) → ((i : ℕ) (x : VarName) → binding_count x i ds' ≡ binding_count x i ds) → AreCounted more list' ms' ds'
+      ((i : ℕ) (x : VarName) → register_count x i ds' ≡ register_count x i ds) → ((i : ℕ) (x : VarName) → binding_count x i ds' ≡ binding_count x i ds) → AreCountedExactly more list' ms' ds'
   same_counts m t l r b dr db = record {
     one_place = λ i x. let e : site_count i (list' x) ≡ site_count i (list x) = ap (site_count i) (l x) in omega (arith, m i x, t i x, r i x, b i x, c.one_place i x);
     heard = λ i x. omega (arith, t i x, db i x, c.heard i x);
@@ -108,7 +108,7 @@ module _ (know more : Knowing) (list list' : VarName → List ℕ) (ms ms' ds ds
 
   -- a site meets a name and asks
   pub meet_counts : (e : ℕ → VarName → ℕ) → ((i : ℕ) (x : VarName) → met_count (i == x.site) (more i x) ≡ met_count (i == x.site) (know i x) + e i x) → ((i : ℕ) (x : VarName) → known_count (i == x.site) (more i x) ≡ known_count (i == x.site) (know i x)) →
-      ((x : VarName) → list' x ≡ list x) → ((i : ℕ) (x : VarName) → register_count x i ms' ≡ register_count x i ms + e i x) → ((i : ℕ) (x : VarName) → binding_count x i ms' ≡ binding_count x i ms) → ds' ≡ ds → AreCounted more list' ms' ds'
+      ((x : VarName) → list' x ≡ list x) → ((i : ℕ) (x : VarName) → register_count x i ms' ≡ register_count x i ms + e i x) → ((i : ℕ) (x : VarName) → binding_count x i ms' ≡ binding_count x i ms) → ds' ≡ ds → AreCountedExactly more list' ms' ds'
   meet_counts e m t l r b d = record {
     one_place = λ i x. let f : site_count i (list' x) ≡ site_count i (list x) = ap (site_count i) (l x) in omega (arith, m i x, t i x, r i x, b i x, c.one_place i x);
     heard = λ i x. let f : binding_count x i ds' ≡ binding_count x i ds = ap (binding_count x i) d in omega (arith, t i x, c.heard i x);
@@ -118,7 +118,7 @@ module _ (know more : Knowing) (list list' : VarName → List ℕ) (ms ms' ds ds
   -- a Register comes, and its site is registered or answered
   pub register_counts : (e a : ℕ → VarName → ℕ) → ((i : ℕ) (x : VarName) → met_count (i == x.site) (more i x) ≡ met_count (i == x.site) (know i x)) → ((i : ℕ) (x : VarName) → known_count (i == x.site) (more i x) ≡ known_count (i == x.site) (know i x)) →
       ((i : ℕ) (x : VarName) → site_count i (list' x) + a i x ≡ site_count i (list x) + e i x) → ((i : ℕ) (x : VarName) → register_count x i ms' + e i x ≡ register_count x i ms) → ((i : ℕ) (x : VarName) → binding_count x i ms' ≡ binding_count x i ms + a i x) →
-      ((i : ℕ) (x : VarName) → register_count x i ds' ≡ register_count x i ds + e i x) → ((i : ℕ) (x : VarName) → binding_count x i ds' ≡ binding_count x i ds) → AreCounted more list' ms' ds'
+      ((i : ℕ) (x : VarName) → register_count x i ds' ≡ register_count x i ds + e i x) → ((i : ℕ) (x : VarName) → binding_count x i ds' ≡ binding_count x i ds) → AreCountedExactly more list' ms' ds'
   register_counts e a m t l r b dr db = record {
     one_place = λ i x. omega (arith, m i x, t i x, l i x, r i x, b i x, c.one_place i x);
     heard = λ i x. omega (arith, t i x, db i x, c.heard i x);
@@ -127,7 +127,7 @@ module _ (know more : Knowing) (list list' : VarName → List ℕ) (ms ms' ds ds
 
   -- an owner binds and tells the registered sites
   pub bind_counts : (a : ℕ → VarName → ℕ) → ((i : ℕ) (x : VarName) → met_count (i == x.site) (more i x) ≡ met_count (i == x.site) (know i x)) → ((i : ℕ) (x : VarName) → known_count (i == x.site) (more i x) ≡ known_count (i == x.site) (know i x)) →
-      ((i : ℕ) (x : VarName) → site_count i (list' x) + a i x ≡ site_count i (list x)) → ((i : ℕ) (x : VarName) → register_count x i ms' ≡ register_count x i ms) → ((i : ℕ) (x : VarName) → binding_count x i ms' ≡ binding_count x i ms + a i x) → ds' ≡ ds → AreCounted more list' ms' ds'
+      ((i : ℕ) (x : VarName) → site_count i (list' x) + a i x ≡ site_count i (list x)) → ((i : ℕ) (x : VarName) → register_count x i ms' ≡ register_count x i ms) → ((i : ℕ) (x : VarName) → binding_count x i ms' ≡ binding_count x i ms + a i x) → ds' ≡ ds → AreCountedExactly more list' ms' ds'
   bind_counts a m t l r b d = record {
     one_place = λ i x. omega (arith, m i x, t i x, l i x, r i x, b i x, c.one_place i x);
     heard = λ i x. let f : binding_count x i ds' ≡ binding_count x i ds = ap (binding_count x i) d in omega (arith, t i x, c.heard i x);
@@ -137,7 +137,7 @@ module _ (know more : Knowing) (list list' : VarName → List ℕ) (ms ms' ds ds
   -- a Binding comes
   pub binding_counts : (e : ℕ → VarName → ℕ) → ((i : ℕ) (x : VarName) → met_count (i == x.site) (more i x) ≡ met_count (i == x.site) (know i x)) → ((i : ℕ) (x : VarName) → known_count (i == x.site) (more i x) ≡ known_count (i == x.site) (know i x) + e i x) →
       ((x : VarName) → list' x ≡ list x) → ((i : ℕ) (x : VarName) → register_count x i ms' ≡ register_count x i ms) → ((i : ℕ) (x : VarName) → binding_count x i ms' + e i x ≡ binding_count x i ms) →
-      ((i : ℕ) (x : VarName) → register_count x i ds' ≡ register_count x i ds) → ((i : ℕ) (x : VarName) → binding_count x i ds' ≡ binding_count x i ds + e i x) → AreCounted more list' ms' ds'
+      ((i : ℕ) (x : VarName) → register_count x i ds' ≡ register_count x i ds) → ((i : ℕ) (x : VarName) → binding_count x i ds' ≡ binding_count x i ds + e i x) → AreCountedExactly more list' ms' ds'
   binding_counts e m t l r b dr db = record {
     one_place = λ i x. let f : site_count i (list' x) ≡ site_count i (list x) = ap (site_count i) (l x) in omega (arith, m i x, t i x, r i x, b i x, c.one_place i x);
     heard = λ i x. omega (arith, t i x, db i x, c.heard i x);

@@ -18,7 +18,7 @@ use Rattle.variable_owner.proofs.OwnerLemmas.{written_back}
 use Rattle.bind_protocol.specs.Records.{Records, IsReceivable, IsReceivableNews, owner_knows}
 use Rattle.bind_protocol.specs.Rows.{register, binding, after_register, register_sends, after_binding}
 use Rattle.bind_protocol.specs.World.{World, IsSiteOf, records_of, known_at, registered_at, with_records, with_sent, after_meeting, takes_message, met_first, after_arrival, after_delivery, is_register, is_binding}
-use Rattle.bind_protocol.specs.Lawful.{IsKnownToOwner, IsGood, IsLetter, IsLawful, met_count, known_count, register_count, binding_count, site_count}
+use Rattle.bind_protocol.specs.Lawful.{IsKnownToOwner, IsGood, IsTrueMessage, IsLawful, met_count, known_count, register_count, binding_count, site_count}
 use Rattle.bind_protocol.proofs.ListLemmas.{each_at, there_counted}
 use Rattle.bind_protocol.proofs.LookLemmas.{in_here, in_other}
 use Rattle.bind_protocol.proofs.PlaceLemmas.{append_nil, puts_same, known_records, listed_records}
@@ -119,7 +119,7 @@ module _ (w : World) (place : ℕ) (l : IsLawful w) where
       (λ x n. in_other (records_of w i).proxies y x (Some t) n))
 
   -- any message
-  pub message_comes : (to : ℕ) (m : Msg) → slice_get w.travelling place ≡ Some (record { to = to; msg = m }) → IsLetter (known_at w) (record { to = to; msg = m }) → Kept w (after_arrival (takes_message w to m) place (record { to = to; msg = m }))
+  pub message_comes : (to : ℕ) (m : Msg) → slice_get w.travelling place ≡ Some (record { to = to; msg = m }) → IsTrueMessage (known_at w) (record { to = to; msg = m }) → Kept w (after_arrival (takes_message w to m) place (record { to = to; msg = m }))
   message_comes to (msg.Register y k) at fits =
       subst (λ (j : ℕ). Kept w (after_arrival (takes_message w j (msg.Register y k)) place (record { to = j; msg = msg.Register y k }))) (sym fits.0)
       (register_comes y k (subst (λ (j : ℕ). slice_get w.travelling place ≡ Some (record { to = j; msg = msg.Register y k })) fits.0 at) fits.1)
@@ -134,11 +134,11 @@ module _ (w : World) (place : ℕ) (l : IsLawful w) where
   message_comes to (msg.Forward a b) at fits = absurd fits
   message_comes to (msg.Put a b c) at fits = absurd fits
 
-  pub letter_of : (m : Sent) → slice_get w.travelling place ≡ Some m → IsLetter (known_at w) m
-  letter_of m at = each_at (IsLetter (known_at w)) w.travelling place m l.letters at
+  pub letter_of : (m : Sent) → slice_get w.travelling place ≡ Some m → IsTrueMessage (known_at w) m
+  letter_of m at = each_at (IsTrueMessage (known_at w)) w.travelling place m l.letters at
 
 -- the names that a site meets before it takes a message were made, and the site is there
-pub met_first_made : (w : World) (to : ℕ) (m : Msg) → IsLawful w → IsLetter (known_at w) (record { to = to; msg = m }) → Each (IsKnownToOwner (known_at w)) (met_first m)
+pub met_first_made : (w : World) (to : ℕ) (m : Msg) → IsLawful w → IsTrueMessage (known_at w) (record { to = to; msg = m }) → Each (IsKnownToOwner (known_at w)) (met_first m)
 met_first_made w to (msg.Register y k) l fits = tt
 met_first_made w to (msg.BindReq y thread t bundle) l fits = fits.2.0
 met_first_made w to (msg.Binding y t bundle) l fits = (l.truth.good y t fits.1).0
@@ -147,7 +147,7 @@ met_first_made w to (msg.Get a b) l fits = tt
 met_first_made w to (msg.Forward a b) l fits = tt
 met_first_made w to (msg.Put a b c) l fits = tt
 
-pub goes_to_site : (w : World) (to : ℕ) (m : Msg) → IsLawful w → Contains w.travelling (record { to = to; msg = m }) → IsLetter (known_at w) (record { to = to; msg = m }) → IsSiteOf w to
+pub goes_to_site : (w : World) (to : ℕ) (m : Msg) → IsLawful w → Contains w.travelling (record { to = to; msg = m }) → IsTrueMessage (known_at w) (record { to = to; msg = m }) → IsSiteOf w to
 goes_to_site w to (msg.Register y k) l at fits = subst (IsSiteOf w) (sym fits.0) (in_range w y.site y fits.1)
 goes_to_site w to (msg.BindReq y thread t bundle) l at fits = subst (IsSiteOf w) (sym fits.0) (in_range w y.site y fits.1)
 goes_to_site w to (msg.Binding y t bundle) l at fits =
@@ -161,7 +161,7 @@ goes_to_site w to (msg.Put a b c) l at fits = absurd fits
 -- the world in which the names of a message are met
 pub first_met : (w : World) (place : ℕ) (m : Sent) → IsLawful w → slice_get w.travelling place ≡ Some m → Met w (after_meeting w m.to (met_first m.msg))
 first_met w place m l at =
-    let fits : IsLetter (known_at w) m = letter_of w place l m at in
+    let fits : IsTrueMessage (known_at w) m = letter_of w place l m at in
     meets_all_kept w m.to (met_first m.msg) l (goes_to_site w m.to m.msg l (get_contains w.travelling place m at) fits) (met_first_made w m.to m.msg l fits)
 
 pub delivers_kept : (w : World) (place : ℕ) → IsLawful w → Kept w (after_delivery w place)
@@ -182,7 +182,7 @@ made_owner (Some (Open ks)) e = refl
 made_owner (Some (Bound t)) e = refl
 
 -- the site of a message that travels can take it
-pub site_takes : (w : World) (to : ℕ) (m : Msg) → IsLawful w → Contains w.travelling (record { to = to; msg = m }) → IsLetter (known_at w) (record { to = to; msg = m }) → IsReceivableNews (records_of w to) m
+pub site_takes : (w : World) (to : ℕ) (m : Msg) → IsLawful w → Contains w.travelling (record { to = to; msg = m }) → IsTrueMessage (known_at w) (record { to = to; msg = m }) → IsReceivableNews (records_of w to) m
 site_takes w to (msg.Register y k) l at fits = subst (λ (j : ℕ). IsReceivable (records_of w j) (msg.Register y k)) (sym fits.0) (
   sym (site_of w y.site l h),
   made_here,

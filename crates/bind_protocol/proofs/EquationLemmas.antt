@@ -18,20 +18,20 @@ use Rattle.bind_protocol.specs.Rows.{register, request, binding, after_make, aft
 use Rattle.bind_protocol.specs.World.{IsDownward}
 use Rattle.bind_protocol.specs.Count.{GoesOn}
 use Rattle.bind_protocol.specs.Learn.{HasLearned, HasRegistered, MeetCase}
-use Rattle.bind_protocol.specs.Equations.{equations_in, IsTold, IsBound, EquationsAreOwned, KeepsEquations, RowsKeepEquations, EquationsJoin, EquationsGoOn}
+use Rattle.bind_protocol.specs.Equations.{equations_in, IsMessageEquation, IsBound, EquationsAreOwned, KeepsEquations, RowsKeepEquations, EquationsJoin, EquationsGoOn}
 use Rattle.bind_protocol.proofs.RowCountLemmas.{name_cases}
 use Rattle.bind_protocol.proofs.LearnLemmas.{own_is, meet_case, binding_learns, make_learns, ask_learns, late_learns, registers_is}
 use Rattle.std.proofs.lemmas.Bool.Decides.{Decides-eqb}
 use Rattle.tree_node.proofs.OrderLemmas.{none as nothing}
-use Rattle.bind_protocol.proofs.ToldLemmas.{owner_knowledge}
+use Rattle.bind_protocol.proofs.NoticeLemmas.{owner_knowledge}
 
 -- ---- what messages tell
 
-none_told : (x : VarName) (t : Term) → IsTold [] x t → ⊥
+none_told : (x : VarName) (t : Term) → IsMessageEquation [] x t → ⊥
 none_told x t h = nothing h.0 h.1
 
 -- of one message
-one_told : (m : Sent) (x : VarName) (t : Term) → IsTold (m ∷ []) x t → Contains (equations_in m.msg) (x, t)
+one_told : (m : Sent) (x : VarName) (t : Term) → IsMessageEquation (m ∷ []) x t → Contains (equations_in m.msg) (x, t)
 one_told m x t (o, at, is) = go (Contains-cons_cases m o [] at)
   where
     go : (m ≡ o) ⊎ Contains [] o → Contains (equations_in m.msg) (x, t)
@@ -49,7 +49,7 @@ none_asked : (m : Sent) → Contains [] m → IsDownward m
 none_asked m h = absurd (nothing m h)
 
 -- the Bindings of x to t tell this equation alone
-bindings_tell : (x : VarName) (t : Term) (ks : List ℕ) (y : VarName) (r : Term) → IsTold (map (λ (k : ℕ). binding x t k) ks) y r → (y ≡ x) × (r ≡ t)
+bindings_tell : (x : VarName) (t : Term) (ks : List ℕ) (y : VarName) (r : Term) → IsMessageEquation (map (λ (k : ℕ). binding x t k) ks) y r → (y ≡ x) × (r ≡ t)
 bindings_tell x t [] y r h = absurd (none_told y r h)
 bindings_tell x t (k ∷ ks) y r (m, at, is) = go (λ h. bindings_tell x t ks y r (m, h, is)) (Contains-cons_cases _ m _ at)
   where
@@ -75,7 +75,7 @@ bindings_ask x t (k ∷ ks) m at = go (λ h. bindings_ask x t ks m h) (Contains-
 -- ---- the rows
 
 -- the same is known, and what is known may be told
-same_equations : (b c : Records) (hand out : List Sent) → c.site ≡ b.site → ((y : VarName) → knowledge c y ≡ knowledge b y) → ((x : VarName) (t : Term) → IsTold out x t → IsBound b x t) →
+same_equations : (b c : Records) (hand out : List Sent) → c.site ≡ b.site → ((y : VarName) → knowledge c y ≡ knowledge b y) → ((x : VarName) (t : Term) → IsMessageEquation out x t → IsBound b x t) →
     ((m : Sent) → Contains out m → IsDownward m) → KeepsEquations b c hand out
 same_equations b c hand out site same told asked = record {
   site = site;
@@ -87,8 +87,8 @@ same_equations b c hand out site same told asked = record {
 
 -- one name is learnt
 learns_equations : (b c : Records) (hand out : List Sent) (x : VarName) (o : Option (Option Term)) → HasLearned b c x o → ((t : Term) → IsBound b x t → o ≡ Some (Some t)) →
-    ((t : Term) → o ≡ Some (Some t) → IsBound b x t ⊎ (((x.site ≡ b.site) × IsLower t x) ⊎ IsTold hand x t)) →
-    ((y : VarName) (t : Term) → IsTold out y t → IsBound c y t) → ((m : Sent) → Contains out m → IsDownward m) → KeepsEquations b c hand out
+    ((t : Term) → o ≡ Some (Some t) → IsBound b x t ⊎ (((x.site ≡ b.site) × IsLower t x) ⊎ IsMessageEquation hand x t)) →
+    ((y : VarName) (t : Term) → IsMessageEquation out y t → IsBound c y t) → ((m : Sent) → Contains out m → IsDownward m) → KeepsEquations b c hand out
 learns_equations b c hand out x o l stay new told asked = record {
   site = l.site;
   stays = λ y t h. stays y t h (name_cases y x);
@@ -101,8 +101,8 @@ learns_equations b c hand out x o l stay new told asked = record {
     stays y t h (inl e) = subst (λ (z : VarName). IsBound c z t) (sym e) (l.here ∙ stay t (subst (λ (z : VarName). IsBound b z t) e h))
     stays y t h (inr n) = l.others y n ∙ h
 
-    learnt : (y : VarName) (t : Term) → IsBound c y t → (y ≡ x) ⊎ (y ≢ x) → IsBound b y t ⊎ (((y.site ≡ b.site) × IsLower t y) ⊎ IsTold hand y t)
-    learnt y t h (inl e) = subst (λ (z : VarName). IsBound b z t ⊎ (((z.site ≡ b.site) × IsLower t z) ⊎ IsTold hand z t)) (sym e) (new t (sym l.here ∙ subst (λ (z : VarName). IsBound c z t) e h))
+    learnt : (y : VarName) (t : Term) → IsBound c y t → (y ≡ x) ⊎ (y ≢ x) → IsBound b y t ⊎ (((y.site ≡ b.site) × IsLower t y) ⊎ IsMessageEquation hand y t)
+    learnt y t h (inl e) = subst (λ (z : VarName). IsBound b z t ⊎ (((z.site ≡ b.site) × IsLower t z) ⊎ IsMessageEquation hand z t)) (sym e) (new t (sym l.here ∙ subst (λ (z : VarName). IsBound c z t) e h))
     learnt y t h (inr n) = inl (sym (l.others y n) ∙ h)
 
 not_bound : (t : Term) → ◌≡◌ {A = Option (Option Term)} (Some None) (Some (Some t)) → ⊥
@@ -176,10 +176,10 @@ ask_equations b x t own low = go (owner_of b.owners x) refl
         bound_now : knowledge b x ≡ Some (Some r)
         bound_now = known (Some (Bound r)) q
 
-binding_equations : (b : Records) (x : VarName) (t : Term) (hand : List Sent) → x.site ≢ b.site → IsTold hand x t → ((r : Term) → IsBound b x r → r ≡ t) → KeepsEquations b (after_binding b x t) hand []
+binding_equations : (b : Records) (x : VarName) (t : Term) (hand : List Sent) → x.site ≢ b.site → IsMessageEquation hand x t → ((r : Term) → IsBound b x r → r ≡ t) → KeepsEquations b (after_binding b x t) hand []
 binding_equations b x t hand other told same =
     learns_equations b (after_binding b x t) hand [] x (Some (Some t)) (binding_learns b x t other) (λ r h. ap (λ (u : Term). Some (Some u)) (sym (same r h)))
-    (λ r e. let is : t ≡ r = cc in inr (inr (subst (IsTold hand x) is told))) (λ y s h. absurd (none_told y s h)) none_asked
+    (λ r e. let is : t ≡ r = cc in inr (inr (subst (IsMessageEquation hand x) is told))) (λ y s h. absurd (none_told y s h)) none_asked
 
 want_equations : (b : Records) (x : VarName) (t : Term) (thread : ThreadName) → IsLower t x → KeepsEquations b (after_want b x t) [] (want_sends b x t thread)
 want_equations b x t thread low = go (is_own b x) (Decides-eqb x.site b.site)
@@ -190,17 +190,17 @@ want_equations b x t thread low = go (is_own b x) (Decides-eqb x.site b.site)
 
 -- ---- one after another
 
-told_cases : (ms ns : List Sent) (x : VarName) (t : Term) → IsTold (ms ++ ns) x t → IsTold ms x t ⊎ IsTold ns x t
+told_cases : (ms ns : List Sent) (x : VarName) (t : Term) → IsMessageEquation (ms ++ ns) x t → IsMessageEquation ms x t ⊎ IsMessageEquation ns x t
 told_cases ms ns x t (m, at, is) = go (Contains-append_cases ms ns m at)
   where
-    go : Contains ms m ⊎ Contains ns m → IsTold ms x t ⊎ IsTold ns x t
+    go : Contains ms m ⊎ Contains ns m → IsMessageEquation ms x t ⊎ IsMessageEquation ns x t
     go (inl h) = inl (m, h, is)
     go (inr h) = inr (m, h, is)
 
-told_left : (ms ns : List Sent) (x : VarName) (t : Term) → IsTold ms x t → IsTold (ms ++ ns) x t
+told_left : (ms ns : List Sent) (x : VarName) (t : Term) → IsMessageEquation ms x t → IsMessageEquation (ms ++ ns) x t
 told_left ms ns x t (m, at, is) = (m, Contains-append_left ms ns m at, is)
 
-told_right : (ms ns : List Sent) (x : VarName) (t : Term) → IsTold ns x t → IsTold (ms ++ ns) x t
+told_right : (ms ns : List Sent) (x : VarName) (t : Term) → IsMessageEquation ns x t → IsMessageEquation (ms ++ ns) x t
 told_right ms ns x t (m, at, is) = (m, Contains-append_right ms ns m at, is)
 
 asked_both : (ms ns : List Sent) → ((m : Sent) → Contains ms m → IsDownward m) → ((m : Sent) → Contains ns m → IsDownward m) → (m : Sent) → Contains (ms ++ ns) m → IsDownward m
@@ -219,17 +219,17 @@ equations_on b c d h g o u k l = record {
   asked = asked_both o u k.asked l.asked;
 }
   where
-    first : (x : VarName) (t : Term) → IsBound b x t ⊎ (((x.site ≡ b.site) × IsLower t x) ⊎ IsTold h x t) → IsBound b x t ⊎ (((x.site ≡ b.site) × IsLower t x) ⊎ IsTold (h ++ g) x t)
+    first : (x : VarName) (t : Term) → IsBound b x t ⊎ (((x.site ≡ b.site) × IsLower t x) ⊎ IsMessageEquation h x t) → IsBound b x t ⊎ (((x.site ≡ b.site) × IsLower t x) ⊎ IsMessageEquation (h ++ g) x t)
     first x t (inl q) = inl q
     first x t (inr (inl q)) = inr (inl q)
     first x t (inr (inr q)) = inr (inr (told_left h g x t q))
 
-    later : (x : VarName) (t : Term) → IsBound c x t ⊎ (((x.site ≡ c.site) × IsLower t x) ⊎ IsTold g x t) → IsBound b x t ⊎ (((x.site ≡ b.site) × IsLower t x) ⊎ IsTold (h ++ g) x t)
+    later : (x : VarName) (t : Term) → IsBound c x t ⊎ (((x.site ≡ c.site) × IsLower t x) ⊎ IsMessageEquation g x t) → IsBound b x t ⊎ (((x.site ≡ b.site) × IsLower t x) ⊎ IsMessageEquation (h ++ g) x t)
     later x t (inl q) = first x t (k.new x t q)
     later x t (inr (inl (own, low))) = inr (inl (own ∙ k.site, low))
     later x t (inr (inr q)) = inr (inr (told_right h g x t q))
 
-    told : (x : VarName) (t : Term) → IsTold o x t ⊎ IsTold u x t → IsBound d x t
+    told : (x : VarName) (t : Term) → IsMessageEquation o x t ⊎ IsMessageEquation u x t → IsBound d x t
     told x t (inl q) = l.stays x t (k.told x t q)
     told x t (inr q) = l.told x t q
 
@@ -242,7 +242,7 @@ unused_equations b c h g o k = record {
   asked = k.asked;
 }
   where
-    more : (x : VarName) (t : Term) → IsBound b x t ⊎ (((x.site ≡ b.site) × IsLower t x) ⊎ IsTold h x t) → IsBound b x t ⊎ (((x.site ≡ b.site) × IsLower t x) ⊎ IsTold (h ++ g) x t)
+    more : (x : VarName) (t : Term) → IsBound b x t ⊎ (((x.site ≡ b.site) × IsLower t x) ⊎ IsMessageEquation h x t) → IsBound b x t ⊎ (((x.site ≡ b.site) × IsLower t x) ⊎ IsMessageEquation (h ++ g) x t)
     more x t (inl q) = inl q
     more x t (inr (inl q)) = inr (inl q)
     more x t (inr (inr q)) = inr (inr (told_left h g x t q))
@@ -284,7 +284,7 @@ module _ (a : ℕ) (old new : ℕ → Records) (hand out : List Sent) (g : GoesO
 
   module _ (rest : List Sent) (h : EquationsAreOwned old (hand ++ rest)) where
     abbrev Learnt : VarName → Term → Type 0
-    Learnt x t = IsBound (old a) x t ⊎ (((x.site ≡ (old a).site) × IsLower t x) ⊎ IsTold hand x t)
+    Learnt x t = IsBound (old a) x t ⊎ (((x.site ≡ (old a).site) × IsLower t x) ⊎ IsMessageEquation hand x t)
 
     -- an equation that the site knows now
     here : (x : VarName) (t : Term) → IsBound (new a) x t → Learnt x t → IsBound (new x.site) x t
@@ -315,7 +315,7 @@ module _ (a : ℕ) (old new : ℕ → Records) (hand out : List Sent) (g : GoesO
             let other : x.site ≢ a = λ (q : x.site ≡ a). let yes : false ≡ true = d.1 q in cc in
             h.down x t (subst (λ (r : Records). IsBound r x t) (g.others x.site other) e)
 
-    told : (x : VarName) (t : Term) → IsTold rest x t ⊎ IsTold out x t → IsBound (new x.site) x t
+    told : (x : VarName) (t : Term) → IsMessageEquation rest x t ⊎ IsMessageEquation out x t → IsBound (new x.site) x t
     told x t (inl q) = stay x.site x t (h.told x t (told_right hand rest x t q))
     told x t (inr q) = known a x t (k.told x t q)
 

@@ -10,7 +10,7 @@ use Rattle.site_message.specs.declared.message.Sent.{Sent}
 use Rattle.site_message.specs.declared.message.Msg.{Msg}
 use Rattle.site_message.specs.declared.message.Msg.TheVariants as msg
 use Rattle.bind_protocol.specs.World.{vars_of}
-use Rattle.bind_protocol.specs.Lawful.{Knowing, IsKnownToOwner, IsGood, Truth, IsLetter}
+use Rattle.bind_protocol.specs.Lawful.{Knowing, IsKnownToOwner, IsGood, Truth, IsTrueMessage}
 use Rattle.std.proofs.lemmas.Bool.{eqb-true}
 use Rattle.tree_node.proofs.EnvLemmas.{each_more}
 
@@ -72,9 +72,9 @@ pub good_stays : (know more : Knowing) → Grows know more → (x : VarName) (t 
 good_stays know more g x t h = (each_more (IsKnownToOwner know) (IsKnownToOwner more) (vars_of t) (λ z m. g.some z.site z m) h.0, h.1)
 
 abbrev Fits : Knowing → ℕ → Msg → Type 0
-Fits know to m = IsLetter know (record { to = to; msg = m })
+Fits know to m = IsTrueMessage know (record { to = to; msg = m })
 
-letter_stays : (know more : Knowing) → Grows know more → (s : Sent) → IsLetter know s → IsLetter more s
+letter_stays : (know more : Knowing) → Grows know more → (s : Sent) → IsTrueMessage know s → IsTrueMessage more s
 letter_stays know more g s h = go s.msg h
   where
     go : (m : Msg) → Fits know s.to m → Fits more s.to m
@@ -86,8 +86,8 @@ letter_stays know more g s h = go s.msg h
     go (msg.Forward a b) h = h
     go (msg.Put a b c) h = h
 
-pub letters_stay : (know more : Knowing) → Grows know more → (ms : List Sent) → Each (IsLetter know) ms → Each (IsLetter more) ms
-letters_stay know more g ms h = each_more (IsLetter know) (IsLetter more) ms (λ s l. letter_stays know more g s l) h
+pub letters_stay : (know more : Knowing) → Grows know more → (ms : List Sent) → Each (IsTrueMessage know) ms → Each (IsTrueMessage more) ms
+letters_stay know more g ms h = each_more (IsTrueMessage know) (IsTrueMessage more) ms (λ s l. letter_stays know more g s l) h
 
 -- what is learnt is true: an owner's own bind to a good term, or what the owner holds
 abbrev pub IsTrueTo : Knowing → ℕ → VarName → Option Term → Type 0

@@ -15,7 +15,7 @@ use Rattle.site_message.specs.declared.message.Msg.TheVariants as msg
 use Rattle.bind_protocol.specs.Records.{Records}
 use Rattle.bind_protocol.specs.Rows.{register, binding}
 use Rattle.bind_protocol.specs.World.{World, HasInvariant, EachIsTold, SentOnce, IsElsewhere, IsDownward, empty_records, new_records, new_world, records_at, knowledge_at, known_at, registered_sites, registered_at, is_register, is_binding}
-use Rattle.bind_protocol.specs.Lawful.{IsLetter, IsLawful, met_count, known_count, register_count, binding_count, site_count}
+use Rattle.bind_protocol.specs.Lawful.{IsTrueMessage, IsLawful, met_count, known_count, register_count, binding_count, site_count}
 use Rattle.bind_protocol.specs.Calls.{Call, Make, Meet, Want, Deliver, IsAllowed, IsAfter, CallsKeep, after_call}
 use Rattle.bind_protocol.proofs.ListLemmas.{count_append, counted_there}
 use Rattle.bind_protocol.proofs.GrowLemmas.{place_is}
@@ -26,7 +26,7 @@ use Rattle.std.proofs.lemmas.Bool.{eqb-true}
 use Rattle.bind_protocol.proofs.RowCountLemmas.{at_most_one}
 use Rattle.bind_protocol.proofs.CountLemmas.{not_own}
 use Rattle.tree_node.proofs.EachLemmas.{each_in}
-use Rattle.bind_protocol.proofs.ToldLemmas.{unknown_is_not_bound}
+use Rattle.bind_protocol.proofs.NoticeLemmas.{unknown_is_not_bound}
 
 pub once_holds : (w : World) → IsLawful w → SentOnce w
 once_holds w l i x =
@@ -39,7 +39,7 @@ once_holds w l i x =
     (omega arith, omega arith)
 
 -- a counted Register or Binding that is a letter
-the_register : (w : World) (x : VarName) (i to : ℕ) (m : Msg) → is_register x i (record { to = to; msg = m }) ≡ true → IsLetter (known_at w) (record { to = to; msg = m }) → ◌≡◌ {A = Sent} (record { to = to; msg = m }) (register x i)
+the_register : (w : World) (x : VarName) (i to : ℕ) (m : Msg) → is_register x i (record { to = to; msg = m }) ≡ true → IsTrueMessage (known_at w) (record { to = to; msg = m }) → ◌≡◌ {A = Sent} (record { to = to; msg = m }) (register x i)
 the_register w x i to (msg.Register y k) e fits =
     let p = place_is k y i x e in
     let site : to ≡ x.site = fits.0 ∙ ap (λ (z : VarName). z.site) (sym p.1) in
@@ -54,7 +54,7 @@ the_register w x i to (msg.Put a b c) e fits = cc
 abbrev IsBindingTo : VarName → ℕ → Sent → Type 0
 IsBindingTo x i s = (t : Term) × (s ≡ binding x t i)
 
-the_binding : (w : World) (x : VarName) (i to : ℕ) (m : Msg) → is_binding x i (record { to = to; msg = m }) ≡ true → IsLetter (known_at w) (record { to = to; msg = m }) → IsBindingTo x i (record { to = to; msg = m })
+the_binding : (w : World) (x : VarName) (i to : ℕ) (m : Msg) → is_binding x i (record { to = to; msg = m }) ≡ true → IsTrueMessage (known_at w) (record { to = to; msg = m }) → IsBindingTo x i (record { to = to; msg = m })
 the_binding w x i to (msg.Binding y t bundle) e fits = let p = place_is to y i x e in (t, rw (p.0, p.1, fits.0) refl)
 the_binding w x i to (msg.Register a b) e fits = cc
 the_binding w x i to (msg.BindReq a b c d) e fits = cc
@@ -83,18 +83,18 @@ told_holds w l i x unbound other = go (three _ _ _ way)
         Contains (registered_at w x) i ⊎ (Contains w.travelling (register x i) ⊎ ((t : Term) × Contains w.travelling (binding x t i)))
     go (inl h) =
         let f = counted_there (is_register x i) w.travelling h in
-        let fits : IsLetter (known_at w) f.0 = Each-member (IsLetter (known_at w)) w.travelling f.0 l.letters f.1 in
+        let fits : IsTrueMessage (known_at w) f.0 = Each-member (IsTrueMessage (known_at w)) w.travelling f.0 l.letters f.1 in
         inr (inl (subst (λ (s : Sent). Contains w.travelling s) (the_register w x i f.0.to f.0.msg f.2 fits) f.1))
     go (inr (inl h)) =
         let f = counted_there (λ k. i == k) (registered_at w x) h in
         inl (subst (λ (k : ℕ). Contains (registered_at w x) k) (sym (eqb-true i f.0 f.2)) f.1)
     go (inr (inr h)) =
         let f = counted_there (is_binding x i) w.travelling h in
-        let fits : IsLetter (known_at w) f.0 = Each-member (IsLetter (known_at w)) w.travelling f.0 l.letters f.1 in
+        let fits : IsTrueMessage (known_at w) f.0 = Each-member (IsTrueMessage (known_at w)) w.travelling f.0 l.letters f.1 in
         let is = the_binding w x i f.0.to f.0.msg f.2 fits in
         inr (inr (is.0, subst (λ (s : Sent). Contains w.travelling s) is.1 f.1))
 
-elsewhere : (w : World) (to : ℕ) (m : Msg) → IsLawful w → IsLetter (known_at w) (record { to = to; msg = m }) → Contains w.travelling (record { to = to; msg = m }) → IsElsewhere (record { to = to; msg = m })
+elsewhere : (w : World) (to : ℕ) (m : Msg) → IsLawful w → IsTrueMessage (known_at w) (record { to = to; msg = m }) → Contains w.travelling (record { to = to; msg = m }) → IsElsewhere (record { to = to; msg = m })
 elsewhere w to (msg.Register y k) l fits at = λ e.
     let own : Contains w.travelling (register y k) = subst (λ (j : ℕ). Contains w.travelling (record { to = j; msg = msg.Register y k })) fits.0 at in
     (register_awaited w k y l own).0 (sym e ∙ fits.0)
@@ -107,7 +107,7 @@ elsewhere w to (msg.Get a b) l fits at = tt
 elsewhere w to (msg.Forward a b) l fits at = tt
 elsewhere w to (msg.Put a b c) l fits at = tt
 
-down : (w : World) (to : ℕ) (m : Msg) → IsLetter (known_at w) (record { to = to; msg = m }) → IsDownward (record { to = to; msg = m })
+down : (w : World) (to : ℕ) (m : Msg) → IsTrueMessage (known_at w) (record { to = to; msg = m }) → IsDownward (record { to = to; msg = m })
 down w to (msg.BindReq y thread t bundle) fits = fits.2.1
 down w to (msg.Register a b) fits = tt
 down w to (msg.Binding a b c) fits = tt
@@ -121,8 +121,8 @@ lawful_holds w l = record {
   owned = l.truth.owned;
   told = told_holds w l;
   once = once_holds w l;
-  elsewhere = each_in IsElsewhere w.travelling (λ s at. elsewhere w s.to s.msg l (Each-member (IsLetter (known_at w)) w.travelling s l.letters at) at);
-  down = each_in IsDownward w.travelling (λ s at. down w s.to s.msg (Each-member (IsLetter (known_at w)) w.travelling s l.letters at));
+  elsewhere = each_in IsElsewhere w.travelling (λ s at. elsewhere w s.to s.msg l (Each-member (IsTrueMessage (known_at w)) w.travelling s l.letters at) at);
+  down = each_in IsDownward w.travelling (λ s at. down w s.to s.msg (Each-member (IsTrueMessage (known_at w)) w.travelling s l.letters at));
   links = λ x t h. (l.truth.good x t h).1;
 }
 

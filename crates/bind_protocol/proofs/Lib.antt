@@ -12,5 +12,5 @@ pub mod CodeLemmas
 pub mod RowCountLemmas
 pub mod GoOnLemmas
 pub mod LearnLemmas
-pub mod ToldLemmas
+pub mod NoticeLemmas
 pub mod EquationLemmas

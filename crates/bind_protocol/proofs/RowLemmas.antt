@@ -15,7 +15,7 @@ use Rattle.variable_owner.specs.Owners.{owner_of, sites_of, with_owner}
 use Rattle.bind_protocol.specs.Records.{Records, is_own, knowledge, owner_knows}
 use Rattle.bind_protocol.specs.Rows.{register, request, binding}
 use Rattle.bind_protocol.specs.World.{World, IsSiteOf, records_of, known_at, registered_at, with_records, with_sent, after_arrival, is_register, is_binding}
-use Rattle.bind_protocol.specs.Lawful.{Knowing, IsKnownToOwner, IsGood, IsLetter, IsLawful, register_count, binding_count, site_count}
+use Rattle.bind_protocol.specs.Lawful.{Knowing, IsKnownToOwner, IsGood, IsTrueMessage, IsLawful, register_count, binding_count, site_count}
 use Rattle.bind_protocol.proofs.ListLemmas.{one, count_append, count_push, count_out, each_out}
 use Rattle.bind_protocol.proofs.LookLemmas.{proxy_here, proxy_other, last_here, last_other}
 use Rattle.bind_protocol.proofs.GrowLemmas.{Changes, Grows, this_place, change_grows, letters_stay, truth_stays}
@@ -24,7 +24,7 @@ use Rattle.bind_protocol.proofs.PlaceLemmas.{site_records, known_records, listed
 use Rattle.bind_protocol.proofs.RowCountLemmas.{name_cases}
 use Rattle.tree_node.proofs.EachLemmas.{each_append}
 use Rattle.tree_node.proofs.NameLemmas.{differ}
-use Rattle.bind_protocol.proofs.ToldLemmas.{no_sites}
+use Rattle.bind_protocol.proofs.NoticeLemmas.{no_sites}
 
 -- a lawful world in which sites know no less
 pub record Kept (w v : World) : Type 0 where
@@ -117,7 +117,7 @@ meet_row w i y l h other new made = record {
     g : Grows (known_at w) (known_at (with_records w i (record (records_of w i) { proxies = (records_of w i).proxies ++ (y, None) ∷ [] })))
     g = change_grows _ _ i y None ch (λ t e. let contrary : None ≡ Some (Some t) = sym new ∙ e in cc)
 
-each_told : (know : Knowing) (y : VarName) (t : Term) (ks : List ℕ) → know y.site y ≡ Some (Some t) → Each (IsLetter know) (map (λ k. binding y t k) ks)
+each_told : (know : Knowing) (y : VarName) (t : Term) (ks : List ℕ) → know y.site y ≡ Some (Some t) → Each (IsTrueMessage know) (map (λ k. binding y t k) ks)
 each_told know y t [] h = tt
 each_told know y t (k ∷ ks) h = ((refl, h), each_told know y t ks h)
 

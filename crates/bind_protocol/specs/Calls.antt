@@ -33,12 +33,14 @@ pub data Call : Type 0 where
   Want : (i : ℕ) (x : VarName) (t : Term) (thread : ThreadName) → Call
   Deliver : (place : ℕ) → Call
 
+-- the conditions of the call hold; a delivery is of a place where a message travels
 abbrev pub IsAllowed : World → Call → Type 0
 IsAllowed w (Make i x) = CanMake w i x
 IsAllowed w (Meet i x) = CanMeet w i x
 IsAllowed w (Want i x t thread) = CanWant w i x t
 IsAllowed w (Deliver place) = place < length w.travelling
 
+-- the world after the call
 abbrev pub after_call : World → Call → World
 after_call w (Make i x) = after_make_at w i x
 after_call w (Meet i x) = after_meet_at w i x

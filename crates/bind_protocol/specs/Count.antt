@@ -113,6 +113,7 @@ pub record MessagesFindSites (records : ℕ → Records) (travelling all : List 
   pub met : (i : ℕ) (x : VarName) → 1 ≤ binding_count x i travelling → (i ≢ x.site) × IsTrue (is_some (knowledge (records i) x))
   pub unbound : AreHeard records travelling all → (i : ℕ) (x : VarName) → 1 ≤ binding_count x i travelling → knowledge (records i) x ≡ Some None
 
+-- where the counts hold and each message under way was sent, it finds its site ready
 abbrev pub MessagesComeReady : Type 0
 MessagesComeReady =
     (records : ℕ → Records) (travelling all : List Sent) → AreCounted records travelling all →

@@ -22,16 +22,17 @@ equations_in (msg.Spawn thread code vars bundle) = bundle
 equations_in _ = []
 
 -- one of the messages tells that x is bound to t
-abbrev pub IsTold : List Sent → VarName → Term → Type 0
-IsTold ms x t = (m : Sent) × Contains ms m × Contains (equations_in m.msg) (x, t)
+abbrev pub IsMessageEquation : List Sent → VarName → Term → Type 0
+IsMessageEquation ms x t = (m : Sent) × Contains ms m × Contains (equations_in m.msg) (x, t)
 
+-- the site knows x bound to t
 abbrev pub IsBound : Records → VarName → Term → Type 0
 IsBound b x t = knowledge b x ≡ Some (Some t)
 
 -- what a site knows and what a message tells is the owner's equation, and equations and requests lead down
 pub record EquationsAreOwned (records : ℕ → Records) (travelling : List Sent) : Type 0 where
   pub known : (i : ℕ) (x : VarName) (t : Term) → IsBound (records i) x t → IsBound (records x.site) x t
-  pub told : (x : VarName) (t : Term) → IsTold travelling x t → IsBound (records x.site) x t
+  pub told : (x : VarName) (t : Term) → IsMessageEquation travelling x t → IsBound (records x.site) x t
   pub down : (x : VarName) (t : Term) → IsBound (records x.site) x t → IsLower t x
   pub asked : (m : Sent) → Contains travelling m → IsDownward m
 
@@ -41,8 +42,8 @@ pub record EquationsAreOwned (records : ℕ → Records) (travelling : List Sent
 pub record KeepsEquations (b c : Records) (hand out : List Sent) : Type 0 where
   pub site : c.site ≡ b.site
   pub stays : (x : VarName) (t : Term) → IsBound b x t → IsBound c x t
-  pub new : (x : VarName) (t : Term) → IsBound c x t → IsBound b x t ⊎ (((x.site ≡ b.site) × IsLower t x) ⊎ IsTold hand x t)
-  pub told : (x : VarName) (t : Term) → IsTold out x t → IsBound c x t
+  pub new : (x : VarName) (t : Term) → IsBound c x t → IsBound b x t ⊎ (((x.site ≡ b.site) × IsLower t x) ⊎ IsMessageEquation hand x t)
+  pub told : (x : VarName) (t : Term) → IsMessageEquation out x t → IsBound c x t
   pub asked : (m : Sent) → Contains out m → IsDownward m
 
 -- each row of the protocol does so
@@ -52,10 +53,10 @@ pub record RowsKeepEquations : Type 0 where
   pub meets : (b : Records) (xs : List VarName) → KeepsEquations b (after_meets b xs) [] (meets_send b xs)
   pub register : (b : Records) (x : VarName) (k : ℕ) → x.site ≡ b.site → KeepsEquations b (after_register b x k) [] (register_sends b x k)
   pub ask : (b : Records) (x : VarName) (t : Term) → x.site ≡ b.site → IsLower t x → KeepsEquations b (after_ask b x t) [] (ask_sends b x t)
-  pub binding : (b : Records) (x : VarName) (t : Term) (hand : List Sent) → x.site ≢ b.site → IsTold hand x t →
+  pub binding : (b : Records) (x : VarName) (t : Term) (hand : List Sent) → x.site ≢ b.site → IsMessageEquation hand x t →
       ((r : Term) → IsBound b x r → r ≡ t) → KeepsEquations b (after_binding b x t) hand []
   pub want : (b : Records) (x : VarName) (t : Term) (thread : ThreadName) → IsLower t x → KeepsEquations b (after_want b x t) [] (want_sends b x t thread)
-  pub others : (b : Records) (hand out : List Sent) → ((x : VarName) (t : Term) → IsTold out x t → IsBound b x t) →
+  pub others : (b : Records) (hand out : List Sent) → ((x : VarName) (t : Term) → IsMessageEquation out x t → IsBound b x t) →
       ((m : Sent) → Contains out m → IsDownward m) → KeepsEquations b b hand out
 
 -- what a site does may be taken together, a message in hand may be left unused, and what is sent may be exchanged for
@@ -63,7 +64,7 @@ pub record RowsKeepEquations : Type 0 where
 pub record EquationsJoin : Type 0 where
   pub together : (b c d : Records) (h g o u : List Sent) → KeepsEquations b c h o → KeepsEquations c d g u → KeepsEquations b d (h ++ g) (o ++ u)
   pub unused : (b c : Records) (h g o : List Sent) → KeepsEquations b c h o → KeepsEquations b c (h ++ g) o
-  pub sent : (b c : Records) (h o u : List Sent) → ((x : VarName) (t : Term) → IsTold u x t → IsBound c x t) → ((m : Sent) → Contains u m → IsDownward m) →
+  pub sent : (b c : Records) (h o u : List Sent) → ((x : VarName) (t : Term) → IsMessageEquation u x t → IsBound c x t) → ((m : Sent) → Contains u m → IsDownward m) →
       KeepsEquations b c h o → KeepsEquations b c h u
 
 -- a world of which one site goes on so keeps them, an equation at an owner stays, and messages may be dropped

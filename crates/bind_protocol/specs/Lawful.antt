@@ -16,6 +16,7 @@ use Rattle.bind_protocol.specs.World.{World, records_at, known_at, registered_at
 abbrev pub Knowing : Type 0
 Knowing = ℕ → VarName → Option (Option Term)
 
+-- the owner of x knows the name, so it was made
 abbrev pub IsKnownToOwner : Knowing → VarName → Type 0
 IsKnownToOwner know x = IsTrue (is_some (know x.site x))
 
@@ -30,8 +31,8 @@ pub record Truth (know : Knowing) : Type 0 where
   pub good : (x : VarName) (t : Term) → know x.site x ≡ Some (Some t) → IsGood know x t
 
 -- messages say what is so, and go where they belong
-abbrev pub IsLetter : Knowing → Sent → Type 0
-IsLetter know s = fits s.msg
+abbrev pub IsTrueMessage : Knowing → Sent → Type 0
+IsTrueMessage know s = fits s.msg
   where
     fits : Msg → Type 0
     fits (msg.Register x k) = (s.to ≡ x.site) × IsKnownToOwner know x
@@ -51,26 +52,30 @@ known_count true o = 0
 known_count false (Some (Some t)) = 1
 known_count false _ = 0
 
+-- how many of these messages are a Register of x by site i
 abbrev pub register_count : VarName → ℕ → List Sent → ℕ
 register_count x i ms = count_by (is_register x i) ms
 
+-- how many of these messages are a Binding of x to site i
 abbrev pub binding_count : VarName → ℕ → List Sent → ℕ
 binding_count x i ms = count_by (is_binding x i) ms
 
+-- how often site i is in the list
 abbrev pub site_count : ℕ → List ℕ → ℕ
 site_count i ks = count_by (λ k. i == k) ks
 
 -- a site that met a name owned elsewhere is in exactly one place on its way to the binding: its Register travels, or
 -- it is registered, or a Binding to it travels, or it knows the binding. What came before came once
-pub record AreCounted (know : Knowing) (list : VarName → List ℕ) (travelling delivered : List Sent) : Type 0 where
+pub record AreCountedExactly (know : Knowing) (list : VarName → List ℕ) (travelling delivered : List Sent) : Type 0 where
   pub one_place : (i : ℕ) (x : VarName) →
       register_count x i travelling + site_count i (list x) + binding_count x i travelling + known_count (i == x.site) (know i x)
       ≡ met_count (i == x.site) (know i x)
   pub heard : (i : ℕ) (x : VarName) → binding_count x i delivered ≡ known_count (i == x.site) (know i x)
   pub asked : (i : ℕ) (x : VarName) → register_count x i delivered + register_count x i travelling ≡ met_count (i == x.site) (know i x)
 
+-- a world as the calls leave it: each site has its number, what sites know and messages tell is so, and the counts hold exactly
 pub record IsLawful (w : World) : Type 0 where
   pub numbered : (i : ℕ) (b : Records) → records_at w.binders i ≡ Some b → b.site ≡ i
   pub truth : Truth (known_at w)
-  pub letters : Each (IsLetter (known_at w)) w.travelling
-  pub counts : AreCounted (known_at w) (registered_at w) w.travelling w.delivered
+  pub letters : Each (IsTrueMessage (known_at w)) w.travelling
+  pub counts : AreCountedExactly (known_at w) (registered_at w) w.travelling w.delivered

@@ -4,13 +4,14 @@ use Rattle.tree_node.specs.declared.names.VarName.{VarName}
 use Rattle.tree_node.specs.declared.node.Term.{Term}
 use Rattle.site_message.specs.declared.message.Msg.{Msg}
 use Rattle.site_message.specs.declared.message.Msg.TheVariants as msg
-use Rattle.bind_protocol.specs.declared.binder.Knows.{Knows}
-use Rattle.bind_protocol.specs.declared.binder.Knows.TheVariants.{Nothing, Unbound, Bound as Known}
+use Rattle.bind_protocol.specs.declared.binder.Knowledge.{Knowledge}
+use Rattle.bind_protocol.specs.declared.binder.Knowledge.TheVariants.{Nothing, Unbound, Bound as Known}
 use Rattle.proxy_table.specs.Proxies.{Proxy, IsMet, entry_of}
 use Rattle.variable_owner.specs.declared.owners.Owner.{Owner}
 use Rattle.variable_owner.specs.declared.owners.Owner.TheVariants.{Open, Bound}
 use Rattle.variable_owner.specs.Owners.{Owned, owner_of, sites_of, IsMade}
 
+-- what one site keeps of variables: its number, what it knows of those that it owns, and of those owned elsewhere
 pub record Records : Type 0 where
   pub site : ℕ
   pub owners : List Owned
@@ -52,7 +53,7 @@ IsReceivableNews b (msg.Binding x t bundle) = entry_of b.proxies x ≡ Some None
 IsReceivableNews b m = IsReceivable b m
 
 -- an answer that tells this knowledge
-abbrev pub IsKnowledge : Option (Option Term) → Knows → Type 0
+abbrev pub IsKnowledge : Option (Option Term) → Knowledge → Type 0
 IsKnowledge k Nothing = k ≡ None
 IsKnowledge k Unbound = k ≡ Some None
 IsKnowledge k (Known t) = k ≡ Some (Some t.now)

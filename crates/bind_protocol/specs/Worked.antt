@@ -9,12 +9,15 @@ use Rattle.bind_protocol.specs.Records.{Records, knowledge}
 use Rattle.bind_protocol.specs.Rows.{register, request, binding, after_make, after_meet, meet_sends, after_ask, ask_sends, register_sends, after_register, after_binding, after_want, want_sends}
 use Rattle.bind_protocol.specs.World.{empty_records}
 
+-- the variable, which site 1 owns
 abbrev pub x : VarName
 x = record { site = 1; num = 0 }
 
+-- a thread of site 2, which asks
 abbrev pub thread : ThreadName
 thread = record { site = 2; num = 0 }
 
+-- the terms that x is asked to be: 5 first, and then 6
 abbrev pub five : Term
 five = term.Node (node.Int (pos 5))
 
@@ -31,6 +34,7 @@ asker = after_meet (empty_records 2) x
 abbrev pub bound_owner : Records
 bound_owner = after_ask owner x five
 
+-- site 2 meets x with one Register and asks for 5; the owner takes 5, answers the late Register of site 2 with it, and 6 changes nothing
 pub record WorkedBind : Type 0 where
   pub meets : meet_sends (empty_records 2) x ≡ register x 2 ∷ []
   pub known : meet_sends asker x ≡ []

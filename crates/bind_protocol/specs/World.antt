@@ -21,6 +21,7 @@ pub record World : Type 0 where
   pub travelling : List Sent
   pub delivered : List Sent
 
+-- what site i keeps before it made or met a variable
 abbrev pub empty_records : ℕ → Records
 empty_records i = record { site = i; owners = []; proxies = [] }
 
@@ -29,16 +30,20 @@ abbrev pub new_records : ℕ → List Records
 new_records zero = []
 new_records (suc n) = new_records n ++ empty_records (suc n) ∷ []
 
+-- n new sites, and no message
 abbrev pub new_world : ℕ → World
 new_world n = record { binders = new_records n; travelling = []; delivered = [] }
 
+-- the records of site i, if there is such a site
 abbrev pub records_at : List Records → ℕ → Option Records
 records_at bs zero = None
 records_at bs (suc k) = slice_get bs k
 
+-- the records of site i; those of a site that there is not are empty
 abbrev pub records_of : World → ℕ → Records
 records_of w i = unwrap_or (records_at w.binders i) (empty_records i)
 
+-- the world has a site of this number
 abbrev pub IsSiteOf : World → ℕ → Type 0
 IsSiteOf w i = (1 ≤ i) × (i ≤ length w.binders)
 
@@ -47,6 +52,7 @@ abbrev pub knowledge_at : Option Records → VarName → Option (Option Term)
 knowledge_at None x = None
 knowledge_at (Some b) x = knowledge b x
 
+-- what site i of the world knows of x
 abbrev pub known_at : World → ℕ → VarName → Option (Option Term)
 known_at w i x = knowledge_at (records_at w.binders i) x
 
@@ -55,9 +61,11 @@ abbrev pub registered_sites : Option Records → VarName → List ℕ
 registered_sites None x = []
 registered_sites (Some b) x = sites_of (owner_of b.owners x)
 
+-- the sites that are registered for x at its owner
 abbrev pub registered_at : World → VarName → List ℕ
 registered_at w x = registered_sites (records_at w.binders x.site) x
 
+-- the owner of x made it
 abbrev pub IsMadeIn : World → VarName → Type 0
 IsMadeIn w x = IsTrue (is_some (known_at w x.site x))
 
@@ -65,10 +73,11 @@ IsMadeIn w x = IsTrue (is_some (known_at w x.site x))
 abbrev pub IsEquation : World → VarName → Term → Type 0
 IsEquation w x t = known_at w x.site x ≡ Some (Some t)
 
--- the site has these records from now on, and sends these messages
+-- the site has these records from now on
 abbrev pub with_records : World → ℕ → Records → World
 with_records w i b = record w { binders = slice_set w.binders (i - 1) b }
 
+-- these messages travel too, behind the others
 abbrev pub with_sent : World → List Sent → World
 with_sent w ms = record w { travelling = w.travelling ++ ms }
 
@@ -80,6 +89,7 @@ after_make_at w i x = with_records w i (after_make (records_of w i) x)
 abbrev pub after_meet_at : World → ℕ → VarName → World
 after_meet_at w i x = with_sent (with_records w i (after_meet (records_of w i) x)) (meet_sends (records_of w i) x)
 
+-- site i meets these in order
 abbrev pub after_meeting : World → ℕ → List VarName → World
 after_meeting w i [] = w
 after_meeting w i (x ∷ xs) = after_meeting (after_meet_at w i x) i xs

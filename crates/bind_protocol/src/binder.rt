@@ -26,7 +26,7 @@ pub enum Want {
 
 /// What a site knows of a variable: nothing, that it is unbound as far as the site knows, or its term.
 #[derive(Clone, Copy)]
-pub enum Knows<'a> {
+pub enum Knowledge<'a> {
     Nothing,
     Unbound,
     Bound(&'a Term),
@@ -116,15 +116,15 @@ impl Binder {
 
     /// What the site knows of a variable.
     #[tactic(auto, using(crate::proofs::KnowLemmas::nothing_known, crate::proofs::KnowLemmas::unbound_known, crate::proofs::KnowLemmas::term_known))]
-    pub fn knows(&self, var: VarName) -> Knows<'_>
+    pub fn knows(&self, var: VarName) -> Knowledge<'_>
         ensures { IsKnowledge (knowledge self.now var) result }
     {
         if !self.known(var) {
-            return Knows::Nothing;
+            return Knowledge::Nothing;
         }
         match self.state(var) {
-            None => Knows::Unbound,
-            Some(term) => Knows::Bound(term),
+            None => Knowledge::Unbound,
+            Some(term) => Knowledge::Bound(term),
         }
     }
 

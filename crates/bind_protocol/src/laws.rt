@@ -14,7 +14,7 @@ ghost use Rattle.bind_protocol.specs.Notices.{RowsTell, TellingJoins, TellingGoe
 ghost use Rattle.bind_protocol.specs.Worked.{WorkedBind};
 ghost use Rattle.bind_protocol.specs.Calls.{CanMake, CanMeet, CanWant, CallsKeep};
 
-use crate::binder::{Binder, Knows};
+use crate::binder::{Binder, Knowledge};
 use site_message::{DeliverError, Msg, Outbox, Sent, copy_sent};
 use std::alloc::{AllocError, Global};
 use std::marker::Model;
@@ -178,7 +178,7 @@ fn take_at(binder: &mut Binder, travelling: &mut Outbox, msg: Msg) -> Result<(),
 }
 
 // A message of a place comes to its site.
-fn come(
+fn deliver_at(
     binder: &mut Binder,
     travelling: &mut Outbox,
     delivered: &mut Vec<Sent>,
@@ -234,7 +234,7 @@ impl BindWorld {
     }
 
     /// What a site knows of a variable. At the owner that is whether it was made, and its equation.
-    pub fn knows(&self, site: u32, var: VarName) -> Knows<'_>
+    pub fn knows(&self, site: u32, var: VarName) -> Knowledge<'_>
         requires { IsSiteOf self.now site }
         ensures { IsKnowledge (known_at self.now site var) result }
     {
@@ -367,7 +367,7 @@ impl BindWorld {
         ensures holds { HasInvariant self.new }
         ensures grows { HasGrown self.old self.new }
     {
-        come(
+        deliver_at(
             &mut self.binders[sent.to as usize - 1],
             &mut self.travelling,
             &mut self.delivered,

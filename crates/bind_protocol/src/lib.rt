@@ -19,4 +19,4 @@ mod binder;
 pub mod laws;
 mod threads;
 
-pub use binder::{Binder, Knows, Want};
+pub use binder::{Binder, Knowledge, Want};

@@ -32,15 +32,19 @@ pub record IsLawfulChange (k : ℕ) (old new : Sight) : Type 0 where
   pub reason : (r : Reason) → old.reason ≡ Some r → new.reason ≡ Some r
   pub fixed : new.fixed ≡ old.fixed
 
+-- site k, and what its seat saw
 abbrev pub part : ℕ → Sight → Part
 part k x = record { site = k; seen = x }
 
+-- a seat with these parts: its ticket if one was drawn, and whether its turn has come
 abbrev pub view : List Part → Option ℕ → Bool → View
 view ps t r = record { parts = ps; ticket = t; reached = r }
 
+-- a seat with these parts that drew no ticket
 abbrev pub outside : List Part → View
 outside ps = view ps None false
 
+-- a sight with nothing in it: no entry, no number in hand, no reason, and an empty fixed part
 abbrev pub blank : Sight
 blank = record { entries = []; hands = []; reason = None; fixed = [] }
 
@@ -49,20 +53,25 @@ abbrev pub total : (View → ℕ) → List View → ℕ
 total f [] = 0
 total f (v ∷ vs) = f v + total f vs
 
+-- 1 where there is a ticket
 abbrev pub one_if_some : Option ℕ → ℕ
 one_if_some None = 0
 one_if_some (Some t) = 1
 
+-- how many tickets a view has: at most one
 abbrev pub ticket_count : View → ℕ
 ticket_count v = one_if_some v.ticket
 
+-- how many parts a view has
 abbrev pub share : View → ℕ
 share v = length v.parts
 
+-- the first part; a view without parts is of no site
 abbrev pub head_of : List Part → Part
 head_of [] = part 0 blank
 head_of (p ∷ ps) = p
 
+-- the ticket; 0 where there is none
 abbrev pub ticket_of : Option ℕ → ℕ
 ticket_of None = 0
 ticket_of (Some t) = t
@@ -78,20 +87,25 @@ abbrev pub parts_from : ℕ → ℕ → Sight → List Part
 parts_from zero k x = []
 parts_from (suc n) k x = part k x ∷ parts_from n (k + 1) x
 
+-- the first part alone
 abbrev pub first_part : List Part → List Part
 first_part [] = []
 first_part (p ∷ ps) = p ∷ []
 
+-- the parts but for the first
 abbrev pub other_parts : List Part → List Part
 other_parts [] = []
 other_parts (p ∷ ps) = ps
 
+-- what is left of a seat that is split: all parts but the first
 abbrev pub split_left : View → View
 split_left v = outside (other_parts v.parts)
 
+-- what the new seat gets: the first part
 abbrev pub split_right : View → View
 split_right v = outside (first_part v.parts)
 
+-- what a seat has after another one was joined to it: the parts of both
 abbrev pub join_both : View → View → View
 join_both v w = outside (w.parts ++ v.parts)
 

@@ -14,6 +14,7 @@ use Rattle.book_lock.specs.Rule.{part, view, outside, head_of}
 abbrev pub lock_id : {B : Type 0} → CountedLock B → TableId
 lock_id l = l.table.shared.table_id
 
+-- how many sites the lock was made for, each with a seat
 abbrev pub lock_seats : {B : Type 0} → CountedLock B → ℕ
 lock_seats l = l.table.shared.key.seats
 
@@ -22,6 +23,7 @@ abbrev pub parts_of : List View → List Part
 parts_of [] = []
 parts_of (v ∷ vs) = v.parts
 
+-- the part of the one site of a seat
 abbrev pub seat_part : SiteSeat → Part
 seat_part s = head_of (parts_of s.badge.views)
 
@@ -33,6 +35,7 @@ last_seen s = (seat_part s).seen
 abbrev pub IsOutsideOf : TableId → SiteSeat → Type 0
 IsOutsideOf table s = (s.badge.table_id ≡ table) × (s.badge.views ≡ outside (part s.site (last_seen s) ∷ []) ∷ [])
 
+-- the seat is outside, of whatever table
 abbrev pub IsSeatOutside : SiteSeat → Type 0
 IsSeatOutside s = s.badge.views ≡ outside (part s.site (last_seen s) ∷ []) ∷ []
 
@@ -40,9 +43,11 @@ IsSeatOutside s = s.badge.views ≡ outside (part s.site (last_seen s) ∷ []) �
 abbrev pub IsSeatInside : SiteSeat → Type 0
 IsSeatInside s = s.badge.views ≡ []
 
+-- the seat is inside, with this part: its ticket is served, and the value is out of the table
 abbrev pub HasTurn : {B : Type 0} → Me (Option B) View → Part → Type 0
 HasTurn m p = (t : ℕ) × (m ≡ (view (p ∷ []) (Some t) true, (0, None) ∷ []))
 
+-- the part of the seat's site
 abbrev pub my_part : {B : Type 0} → Me (Option B) View → Part
 my_part m = head_of m.0.parts
 

@@ -1,4 +1,5 @@
-// The lock, its seats and what is inside.
+//! The lock, its seats and what is inside.
+
 ghost use Rattle.std.specs.Prelude.{◌≡◌};
 
 use crate::board::Board;

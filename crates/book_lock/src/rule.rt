@@ -1,4 +1,5 @@
-// The rule of the lock's table, and the names of its steps.
+//! The rule of the lock's table, and the names of its steps.
+
 ghost use Rattle.book_lock.specs.Rule.{LockRule, DrawStep, LookStep, PassStep, outside, parts_from, split_left, split_right, join_both};
 
 use crate::view::View;
@@ -19,6 +20,7 @@ impl<B> Drop for Opening<B> {
     }
 }
 
+/// The rule of the lock's table (`LockRule`).
 pub struct Counted<B> {
     value: PhantomData<B>,
 }
@@ -29,12 +31,14 @@ impl<B: Story> TableRule<Option<B>, View, Opening<B>> for Counted<B> {
     ghost first = { λ o. outside (parts_from o.seats 1 (B.sight o.value.value)) };
 }
 
+/// A ticket is drawn.
 pub struct Draw;
 
 impl<B> Play<Option<B>, View> for Draw {
     ghost then = { DrawStep };
 }
 
+/// The ticket that is served is read; its holder may then take the value.
 pub struct Look<B> {
     value: PhantomData<B>,
 }
@@ -43,6 +47,7 @@ impl<B: Story> Play<Option<B>, View> for Look<B> {
     ghost then = { LookStep B.sight };
 }
 
+/// The turn goes to the next ticket.
 pub struct Pass<B> {
     value: PhantomData<B>,
 }

@@ -1,3 +1,5 @@
+//! Two threads enter one lock many times each.
+
 ghost use Rattle.std.specs.Prelude.{◌≡◌, ◌∷◌, [], length, MatchResult};
 ghost use Rattle.book_lock.specs.Rule.{IsLawfulChange};
 ghost use Rattle.book_lock.specs.Seats.{lock_id, IsOutsideOf};

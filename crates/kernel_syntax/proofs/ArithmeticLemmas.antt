@@ -3,7 +3,7 @@ use Rattle.std.proofs.Common.{arith, ◌≡◌, refl, ap, subst, ℕ, zero, suc,
 use Rattle.std.proofs.lemmas.Int.{quot-rem, rem_below}
 use Rattle.std.proofs.Math.Nat.{mod-le}
 use Rattle.kernel_syntax.specs.declared.stmt.Op.TheVariants.{Add, Sub, Mul, Div, Mod, Le, Lt, Ge, Gt}
-use Rattle.kernel_syntax.specs.Arithmetic.{Calculated, Number, Overflow, Zero, fit_or_overflow, is_word, is_zero}
+use Rattle.kernel_syntax.specs.Arithmetic.{OperatorResult, Number, Overflow, Zero, fit_or_overflow, is_word, is_zero}
 use Rattle.kernel_syntax.specs.Laws.{DivisionIsExact, RestHasSign, NumbersFit}
 
 some : (b : ℤ) → is_zero b ≡ false → 0 < unsigned_abs b
@@ -37,12 +37,12 @@ rest_fits : (a b : ℤ) → IsTrue (is_word a) → IsTrue (is_word (int_rem a b)
 rest_fits (pos a) b h = let less : a % unsigned_abs b ≤ a = mod-le a (unsigned_abs b) in grind (arith, less, h)
 rest_fits (negsuc a) b h = negated (suc a % unsigned_abs b) a (mod-le (suc a) (unsigned_abs b)) h
 
-abbrev number_of : Calculated → ℤ
+abbrev number_of : OperatorResult → ℤ
 number_of (Number z) = z
 number_of _ = pos 0
 
 -- what is given as an integer fits
-abbrev GivesWords : Calculated → Type 0
+abbrev GivesWords : OperatorResult → Type 0
 GivesWords c = (z : ℤ) → c ≡ Number z → IsTrue (is_word z)
 
 number_fits : (y : ℤ) → IsTrue (is_word y) → GivesWords (Number y)
@@ -55,7 +55,7 @@ fitted_fits y = go (is_word y) refl
     go true h = number_fits y h
     go false h = λ z e. absurd (grind (arith, e))
 
-unless_zero : (c : Calculated) (b : Bool) → GivesWords c → GivesWords (cond b Zero c)
+unless_zero : (c : OperatorResult) (b : Bool) → GivesWords c → GivesWords (cond b Zero c)
 unless_zero c true h = λ z e. absurd (grind (arith, e))
 unless_zero c false h = h
 

@@ -11,7 +11,7 @@ use Rattle.kernel_syntax.specs.declared.stmt.Stmt.TheVariants as stmt
 use Rattle.kernel_syntax.specs.Scopes.{stmt_at, bodies_of, scopes_of, bare_scope, named_positions, features_in}
 use Rattle.kernel_syntax.specs.Free.{with_positions, without_declared, free_in_each, free_of, free}
 use Rattle.kernel_syntax.specs.Texts.{HasTexts}
-use Rattle.kernel_syntax.specs.Preorder.{one_of, bodies_in, DeclaresBehind, IsBody, AreBodies, HasRoom, whole, IsInPreorder}
+use Rattle.kernel_syntax.specs.Preorder.{sequence_body, bodies_in, DeclaresBehind, IsBody, AreBodies, HasRoom, whole_program, IsInPreorder}
 use Rattle.kernel_syntax.specs.Program.{IsPattern, IsStmt, IsProgram}
 use Rattle.kernel_syntax.proofs.Below.{Below, all_below, without_below, still_below, none_below}
 use Rattle.kernel_syntax.proofs.FreeLemmas.{GoesOn, StandBehind, go_on, unfolds}
@@ -28,7 +28,7 @@ each_right P (x ∷ xs) ys h = each_right P xs ys h.1
 
 -- ---- bodies stand behind their owners
 
-in_sequence : (P : CodeId → Type 0) (b : Body) (cs : List CodeId) → Each (λ (c : Body). P c.code) (map (one_of b) cs) → Each P cs
+in_sequence : (P : CodeId → Type 0) (b : Body) (cs : List CodeId) → Each (λ (c : Body). P c.code) (map (sequence_body b) cs) → Each P cs
 in_sequence P b [] h = tt
 in_sequence P b (c ∷ cs) h = (h.0, in_sequence P b cs h.1)
 
@@ -86,7 +86,7 @@ stand_behind k hi (b ∷ bs) (row ∷ sts) e h (suc i) st at =
 pub behind : (p : List Stmt) → IsInPreorder p → StandBehind p
 behind p order i st at =
     let z : 0 + i ≡ i = omega arith in
-    subst (λ (n : ℕ). Each (λ (c : CodeId). (n < c.0) × (c.0 < length p)) (bodies_of st)) z (stand_behind 0 (length p) (whole ∷ []) p (omega arith) order i st at)
+    subst (λ (n : ℕ). Each (λ (c : CodeId). (n < c.0) × (c.0 < length p)) (bodies_of st)) z (stand_behind 0 (length p) (whole_program ∷ []) p (omega arith) order i st at)
 
 -- ---- what is free is declared around
 
@@ -102,7 +102,7 @@ declared inner n first count c e q =
     let at : Below n (without_declared n count (inner c)) = without_below n count (inner c) q in
     all_below n [] (without_declared first count (inner c)) tt (subst (λ (m : ℕ). Below n (without_declared m count (inner c))) (sym e) at)
 
-sequence_closed : (inner : CodeId → List ℕ) (b : Body) (js : List ℕ) (cs : List CodeId) → Below b.around js → Each (IsClosed inner) (map (one_of b) cs) → Below b.around (free_in_each inner js (map bare_scope cs))
+sequence_closed : (inner : CodeId → List ℕ) (b : Body) (js : List ℕ) (cs : List CodeId) → Below b.around js → Each (IsClosed inner) (map (sequence_body b) cs) → Below b.around (free_in_each inner js (map bare_scope cs))
 sequence_closed inner b js [] p h = p
 sequence_closed inner b js (c ∷ cs) p h =
     sequence_closed inner b (with_positions js (without_declared 0 0 (inner c))) cs (undeclared inner b.around js c p h.0) h.1
@@ -151,7 +151,7 @@ are_closed p on pre k (b ∷ bs) (st ∷ sts) e at h =
     (subst (Below b.around) (sym is) (all_below b.around (free_in_each (free p) [] (scopes_of st)) (named_positions st) inner h.1.names), each_right _ (bodies_in b st) bs more)
 
 nothing_free : (p : List Stmt) → IsInPreorder p → free p (record { 0 = 0 }) ≡ []
-nothing_free p order = none_below _ (are_closed p (go_on p (behind p order)) [] 0 (whole ∷ []) p refl refl order).0
+nothing_free p order = none_below _ (are_closed p (go_on p (behind p order)) [] 0 (whole_program ∷ []) p refl refl order).0
 
 -- ---- positions are small
 
@@ -163,7 +163,7 @@ pattern_few (pattern.Rec label features) is = is.1
 pub bodies_room : (b : Body) (st : Stmt) → HasRoom b → IsStmt st → 1 ≤ b.levels → Each HasRoom (bodies_in b st)
 bodies_room b (stmt.Seq bodies) room limits level = sequence bodies
   where
-    sequence : (cs : List CodeId) → Each HasRoom (map (one_of b) cs)
+    sequence : (cs : List CodeId) → Each HasRoom (map (sequence_body b) cs)
     sequence [] = tt
     sequence (c ∷ cs) = (room, sequence cs)
 bodies_room b stmt.Skip room limits level = tt

@@ -9,7 +9,7 @@ use Rattle.kernel_syntax.specs.declared.stmt.Stmt.{Stmt}
 use Rattle.kernel_syntax.specs.declared.stmt.Stmt.TheVariants.{Skip}
 use Rattle.kernel_syntax.specs.Scopes.{stmt_at, named_positions}
 use Rattle.kernel_syntax.specs.Free.{AreRising, free}
-use Rattle.kernel_syntax.specs.Preorder.{whole}
+use Rattle.kernel_syntax.specs.Preorder.{whole_program}
 use Rattle.kernel_syntax.specs.Program.{IsProgram}
 use Rattle.kernel_syntax.specs.Uses.{IsUsed, itself, within}
 use Rattle.kernel_syntax.specs.Laws.{FreeIsFew}
@@ -53,7 +53,7 @@ all_above (j ∷ js) = (omega arith, all_above js)
 
 pub free_is_few : FreeIsFew
 free_is_few p code is =
-    let few = names_few 0 (whole ∷ []) p is.stmts (omega arith, tt) is.order in
+    let few = names_few 0 (whole_program ∷ []) p is.stmts (omega arith, tt) is.order in
     let below = each_contained 12800 (free p code) (λ k h. uses_few p few ((free_is_used p code k is).0 h)) in
     let short = rising_short (free p code) 0 12800 (free_ascends p code) (all_above (free p code)) below in
     (short, below)

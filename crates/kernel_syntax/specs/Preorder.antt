@@ -8,23 +8,23 @@ use Rattle.kernel_syntax.specs.declared.stmt.Stmt.TheVariants as stmt
 use Rattle.kernel_syntax.specs.Scopes.{named_positions, features_in}
 
 -- a body of a statement that is no sequence: a level further in, under so many declarations
-abbrev pub within : Body → ℕ → CodeId → Body
-within owner around code = record { code = code; levels = owner.levels - 1; around = around; in_sequence = false }
+abbrev pub inner_body : Body → ℕ → CodeId → Body
+inner_body owner around code = record { code = code; levels = owner.levels - 1; around = around; in_sequence = false }
 
 -- a statement of a sequence
-abbrev pub one_of : Body → CodeId → Body
-one_of owner code = record { code = code; levels = owner.levels; around = owner.around; in_sequence = true }
+abbrev pub sequence_body : Body → CodeId → Body
+sequence_body owner code = record { code = code; levels = owner.levels; around = owner.around; in_sequence = true }
 
 -- the bodies of a statement, in their order
 abbrev pub bodies_in : Body → Stmt → List Body
-bodies_in b (stmt.Seq bodies) = map (one_of b) bodies
-bodies_in b (stmt.Local first count body) = within b (b.around + count) body ∷ []
-bodies_in b (stmt.TellProc left first count body) = within b (b.around + count) body ∷ []
-bodies_in b (stmt.If subject chosen other) = within b b.around chosen ∷ within b b.around other ∷ []
+bodies_in b (stmt.Seq bodies) = map (sequence_body b) bodies
+bodies_in b (stmt.Local first count body) = inner_body b (b.around + count) body ∷ []
+bodies_in b (stmt.TellProc left first count body) = inner_body b (b.around + count) body ∷ []
+bodies_in b (stmt.If subject chosen other) = inner_body b b.around chosen ∷ inner_body b b.around other ∷ []
 bodies_in b (stmt.Case subject pattern first chosen other) =
-    within b (b.around + length (features_in pattern)) chosen ∷ within b b.around other ∷ []
-bodies_in b (stmt.Thread at body) = within b b.around body ∷ []
-bodies_in b (stmt.Try body first handler) = within b b.around body ∷ within b (b.around + 1) handler ∷ []
+    inner_body b (b.around + length (features_in pattern)) chosen ∷ inner_body b b.around other ∷ []
+bodies_in b (stmt.Thread at body) = inner_body b b.around body ∷ []
+bodies_in b (stmt.Try body first handler) = inner_body b b.around body ∷ inner_body b (b.around + 1) handler ∷ []
 bodies_in b _ = []
 
 -- what a statement declares stands behind the declarations around it
@@ -58,8 +58,9 @@ abbrev pub HasRoom : Body → Type 0
 HasRoom b = b.around + 64 * b.levels ≤ 12800
 
 -- the whole program: 200 levels, and nothing is declared around it
-abbrev pub whole : Body
-whole = record { code = record { 0 = 0 }; levels = 200; around = 0; in_sequence = false }
+abbrev pub whole_program : Body
+whole_program = record { code = record { 0 = 0 }; levels = 200; around = 0; in_sequence = false }
 
+-- the rows of a table are its whole program in preorder, and each may stand where it does
 abbrev pub IsInPreorder : List Stmt → Type 0
-IsInPreorder p = AreBodies 0 (whole ∷ []) p
+IsInPreorder p = AreBodies 0 (whole_program ∷ []) p

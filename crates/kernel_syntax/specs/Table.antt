@@ -16,14 +16,14 @@ abbrev pub HasFree : ℕ → List (List ℕ) → CodeId → Type 0
 HasFree len lists code = (code.0 < len) × (len ≤ length lists + code.0)
 
 -- each list has the free positions of its statement
-pub record IsTable (p : List Stmt) (lists : List (List ℕ)) : Type 0 where
+pub record IsFreeTable (p : List Stmt) (lists : List (List ℕ)) : Type 0 where
   pub list : (code : CodeId) → HasFree (length p) lists code → free_at (length p) lists code ≡ free p code
 
 -- what a program keeps
-pub record IsKept (p : List Stmt) (lists : List (List ℕ)) : Type 0 where
+pub record HasFreeTable (p : List Stmt) (lists : List (List ℕ)) : Type 0 where
   pub program : IsProgram p
   pub whole : length lists ≡ length p
-  pub table : IsTable p lists
+  pub table : IsFreeTable p lists
 
 -- the bodies of a statement that has two, with what it declares for each, and none of another
 abbrev pub branches_of : Stmt → List BodyScope

@@ -28,27 +28,28 @@ abbrev pub IsFeature : Feature → Type 0
 IsFeature (feature.Int value) = IsTrue (is_word value)
 IsFeature (feature.Atom text) = IsText text
 
--- what a selector, a pattern or a thread's site names
-abbrev pub IsNamedBy : Selector → Type 0
-IsNamedBy (selector.Var by) = Unit {0}
-IsNamedBy (selector.Feature f) = IsFeature f
+-- a text can spell the feature of a selector
+abbrev pub IsSpelledSelector : Selector → Type 0
+IsSpelledSelector (selector.Var by) = Unit {0}
+IsSpelledSelector (selector.Feature f) = IsFeature f
 
+-- a text can spell the integer, the atom, or the label and the features of a pattern
 abbrev pub IsSpelledPattern : Pattern → Type 0
 IsSpelledPattern (pattern.Int value) = IsTrue (is_word value)
 IsSpelledPattern (pattern.Atom text) = IsText text
 IsSpelledPattern (pattern.Rec label features) = IsText label × Each IsFeature features
 
 -- an integer of 64 bits, where there is one
-abbrev pub FitsIfSome : Option ℤ → Type 0
-FitsIfSome (Some value) = IsTrue (is_word value)
-FitsIfSome None = Unit {0}
+abbrev pub IsWordIfSome : Option ℤ → Type 0
+IsWordIfSome (Some value) = IsTrue (is_word value)
+IsWordIfSome None = Unit {0}
 
 -- each atom, label and feature of the statement is an atom's text, and each integer one of 64 bits
 abbrev pub HasTexts : Stmt → Type 0
 HasTexts (stmt.TellInt left value) = IsTrue (is_word value)
 HasTexts (stmt.TellAtom left text) = IsText text
 HasTexts (stmt.TellRec left label fields) = IsText label × Each IsFeature (map (λ (f : Feature × ℕ). f.0) fields)
-HasTexts (stmt.Select left source by) = IsNamedBy by
+HasTexts (stmt.Select left source by) = IsSpelledSelector by
 HasTexts (stmt.Case subject pattern first chosen other) = IsSpelledPattern pattern
-HasTexts (stmt.Thread at body) = FitsIfSome at
+HasTexts (stmt.Thread at body) = IsWordIfSome at
 HasTexts _ = Unit {0}

@@ -3,7 +3,7 @@
 //! For: what a program is, apart from its text. The reader of texts makes programs, and every machine walks them: a body is
 //! the number of its statement, an identifier the number of declarations around its own.
 //!
-//! Promises: `Program::checked` gives a program exactly where the statements are one (`IsProgram`: each within the limits,
+//! Promises: `Program::try_from_vec` gives a program exactly where the statements are one (`IsProgram`: each within the limits,
 //! naming what a text can spell, in preorder, at most 200 levels deep, each body with one owner, under the declarations that
 //! it counts). `Program::code` and `Program::free` give its statements and their free positions, which are those that are
 //! used and not declared (`free_is_used`, `free_goes_out`, `free_unfolds`), at most 12,800 of them (`free_is_few`). What the
@@ -17,7 +17,7 @@
 //! Tests alone show (`unit_tests`) that a program is made and asked where there is memory.
 //!
 //! Sources: Van Roy and Haridi, *Concepts, Techniques, and Models of Computer Programming*, sections 2.3 (the kernel
-//! language), 2.4.2 (scope), 3.2 (numbers), 4.1, 6.3; its appendix C (how atoms are spelled).
+//! language), 2.4.2 (scope), 2.7 (exceptions), 3.2 (numbers), 4.1 (threads), 6.3 (cells); its appendix C (how atoms are spelled).
 #![tactic(auto)]
 
 mod laws;

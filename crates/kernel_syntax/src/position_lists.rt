@@ -27,7 +27,7 @@ impl Model for PositionLists {
 }
 
 impl PositionLists {
-    /// None.
+    /// No lists yet.
     pub fn new(alloc: Global) -> PositionLists
         ensures { result ≡ [] }
     {

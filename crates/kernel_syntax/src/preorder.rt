@@ -6,7 +6,7 @@ ghost use Rattle.tree_node.specs.declared.node.Feature.{Feature};
 ghost use Rattle.tree_node.specs.Each.{Each};
 ghost use Rattle.kernel_syntax.specs.Scopes.{named_positions, selector_positions};
 ghost use Rattle.kernel_syntax.specs.Program.{IsStmt};
-ghost use Rattle.kernel_syntax.specs.Preorder.{within, one_of, bodies_in, DeclaresBehind, IsWholeSequence, IsBody, HasRoom, IsInPreorder};
+ghost use Rattle.kernel_syntax.specs.Preorder.{inner_body, sequence_body, bodies_in, DeclaresBehind, IsWholeSequence, IsBody, HasRoom, IsInPreorder};
 
 use crate::stmt::{Selector, Stmt, features};
 use std::alloc::{AllocError, Global};
@@ -25,11 +25,11 @@ pub struct Body {
 
 // Bodies that are still to come, the next one first.
 #[derive(Drop)]
-struct Coming {
+struct BodyStack {
     last_first: Vec<Body>,
 }
 
-impl Model for Coming {
+impl Model for BodyStack {
     ghost use Rattle.std.specs.Prelude.{List, reverse};
     ghost use Rattle.kernel_syntax.specs.declared.preorder.Body.{Body};
 
@@ -38,12 +38,12 @@ impl Model for Coming {
     ghost view = { λ s. reverse s.last_first.items };
 }
 
-impl Coming {
-    // None.
-    fn new(alloc: Global) -> Coming
+impl BodyStack {
+    // No bodies yet.
+    fn new(alloc: Global) -> BodyStack
         ensures { result ≡ [] }
     {
-        Coming {
+        BodyStack {
             last_first: Vec::new(alloc),
         }
     }
@@ -75,11 +75,11 @@ impl Coming {
     {
         match stmt {
             Stmt::Seq(bodies) => self.put_sequence(owner, bodies.as_slice()),
-            Stmt::Local { count, body, .. } => self.put(within(owner, *count, *body)),
-            Stmt::TellProc { count, body, .. } => self.put(within(owner, *count as u32, *body)),
+            Stmt::Local { count, body, .. } => self.put(inner_body(owner, *count, *body)),
+            Stmt::TellProc { count, body, .. } => self.put(inner_body(owner, *count as u32, *body)),
             Stmt::If { yes, no, .. } => {
-                self.put(within(owner, 0, *no))?;
-                self.put(within(owner, 0, *yes))
+                self.put(inner_body(owner, 0, *no))?;
+                self.put(inner_body(owner, 0, *yes))
             }
             Stmt::Case {
                 pattern,
@@ -87,13 +87,13 @@ impl Coming {
                 no,
                 ..
             } => {
-                self.put(within(owner, 0, *no))?;
-                self.put(within(owner, features(pattern).len() as u32, *yes))
+                self.put(inner_body(owner, 0, *no))?;
+                self.put(inner_body(owner, features(pattern).len() as u32, *yes))
             }
-            Stmt::Thread { body, .. } => self.put(within(owner, 0, *body)),
+            Stmt::Thread { body, .. } => self.put(inner_body(owner, 0, *body)),
             Stmt::Try { body, handler, .. } => {
-                self.put(within(owner, 1, *handler))?;
-                self.put(within(owner, 0, *body))
+                self.put(inner_body(owner, 1, *handler))?;
+                self.put(inner_body(owner, 0, *body))
             }
             _ => Ok(()),
         }
@@ -101,7 +101,7 @@ impl Coming {
 
     // Puts the statements of a sequence before the others.
     fn put_sequence(&mut self, owner: Body, bodies: &[CodeId]) -> Result<(), AllocError>
-        ensures { OnOk result (self.new ≡ map (one_of owner) bodies.now ++ self.old) }
+        ensures { OnOk result (self.new ≡ map (sequence_body owner) bodies.now ++ self.old) }
     {
         let mut left = bodies.len();
         while left > 0 {
@@ -117,10 +117,10 @@ impl Coming {
 }
 
 // A body of a statement that declares so many identifiers for it.
-fn within(owner: Body, count: u32, code: CodeId) -> Body
+fn inner_body(owner: Body, count: u32, code: CodeId) -> Body
     requires level { 1 ≤ owner.levels }
     requires room { owner.around + count < 2 ^ 32 }
-    ensures { result ≡ within owner (owner.around + count) code }
+    ensures { result ≡ inner_body owner (owner.around + count) code }
 {
     Body {
         code,
@@ -135,7 +135,7 @@ pub fn is_in_preorder(alloc: Global, stmts: &[Stmt]) -> Result<bool, AllocError>
     requires { Each IsStmt stmts.now }
     ensures { IfOk result (λ b. IsTrue b ↔ IsInPreorder stmts.now) }
 {
-    let mut coming = Coming::new(alloc);
+    let mut coming = BodyStack::new(alloc);
     coming.put(WHOLE)?;
     for (number, stmt) in stmts.iter().enumerate() {
         match coming.take() {

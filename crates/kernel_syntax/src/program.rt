@@ -29,13 +29,13 @@ pub struct Program {
 impl Model for Program {
     ghost use Rattle.std.specs.Prelude.{List};
     ghost use Rattle.kernel_syntax.specs.declared.stmt.Stmt.{Stmt};
-    ghost use Rattle.kernel_syntax.specs.Table.{IsKept};
+    ghost use Rattle.kernel_syntax.specs.Table.{HasFreeTable};
 
     ghost Value = { List Stmt };
 
     ghost view = { λ p. p.stmts.items };
 
-    ghost invariant = { λ p. IsKept p.stmts.items p.free };
+    ghost invariant = { λ p. HasFreeTable p.stmts.items p.free };
 }
 
 /// Why statements make no program.
@@ -49,7 +49,7 @@ pub enum ProgramError {
 
 // Whether statements are the table of a program.
 #[tactic(auto, using(crate::proofs::PreorderLemmas::program_of))]
-fn is_table(alloc: Global, stmts: &[Stmt]) -> Result<bool, AllocError>
+fn is_program_table(alloc: Global, stmts: &[Stmt]) -> Result<bool, AllocError>
     ensures { IfOk result (λ b. IsTrue b ↔ IsProgram stmts.now) }
 {
     Ok(are_stmts(stmts) && have_texts(alloc, stmts)? && is_in_preorder(alloc, stmts)?)
@@ -79,11 +79,11 @@ fn have_texts(alloc: Global, stmts: &[Stmt]) -> Result<bool, AllocError>
 
 impl Program {
     /// The program with these statements, if they are one: who makes a program by hand calls it.
-    pub fn checked(alloc: Global, stmts: Vec<Stmt>) -> Result<Program, ProgramError>
+    pub fn try_from_vec(alloc: Global, stmts: Vec<Stmt>) -> Result<Program, ProgramError>
         ensures program { IfOk result (λ p. (p ≡ stmts.items) × IsProgram stmts.items) }
         ensures no_program { result ≡ Err ProgramError.NoProgram → IsProgram stmts.items → ⊥ }
     {
-        match is_table(alloc, stmts.as_slice()) {
+        match is_program_table(alloc, stmts.as_slice()) {
             Ok(true) => match Program::from_vec(alloc, stmts) {
                 Ok(program) => Ok(program),
                 Err(_) => Err(ProgramError::Memory),

@@ -6,7 +6,7 @@ ghost use Rattle.std.specs.Str.{IsUtf8};
 ghost use Rattle.tree_node.specs.declared.node.Feature.{Feature};
 ghost use Rattle.tree_node.specs.Each.{Each};
 ghost use Rattle.kernel_syntax.specs.Arithmetic.{is_word};
-ghost use Rattle.kernel_syntax.specs.Texts.{is_text_byte, IsText, IsFeature, IsNamedBy, IsSpelledPattern, FitsIfSome, HasTexts};
+ghost use Rattle.kernel_syntax.specs.Texts.{is_text_byte, IsText, IsFeature, IsSpelledSelector, IsSpelledPattern, IsWordIfSome, HasTexts};
 
 use crate::stmt::{Pattern, Selector, Stmt};
 use std::alloc::{AllocError, Global};
@@ -22,9 +22,9 @@ pub fn has_texts(alloc: Global, stmt: &Stmt) -> Result<bool, AllocError>
         Stmt::TellRec { label, fields, .. } => {
             Ok(is_text(alloc, label)? && are_fields(alloc, fields.as_slice())?)
         }
-        Stmt::Select { by, .. } => is_selector(alloc, by),
-        Stmt::Case { pattern, .. } => is_pattern(alloc, pattern),
-        Stmt::Thread { at, .. } => Ok(is_place(*at)),
+        Stmt::Select { by, .. } => is_spelled_selector(alloc, by),
+        Stmt::Case { pattern, .. } => is_spelled_pattern(alloc, pattern),
+        Stmt::Thread { at, .. } => Ok(is_word_if_some(*at)),
         _ => Ok(true),
     }
 }
@@ -37,8 +37,8 @@ fn is_word(value: i64) -> bool
     true
 }
 
-fn is_place(at: Option<i64>) -> bool
-    ensures { IsTrue result ↔ FitsIfSome at }
+fn is_word_if_some(at: Option<i64>) -> bool
+    ensures { IsTrue result ↔ IsWordIfSome at }
 {
     match at {
         Some(site) => is_word(site),
@@ -86,8 +86,8 @@ fn is_feature(alloc: Global, feature: &Feature) -> Result<bool, AllocError>
     }
 }
 
-fn is_selector(alloc: Global, by: &Selector) -> Result<bool, AllocError>
-    ensures { IfOk result (λ b. IsTrue b ↔ IsNamedBy by.now) }
+fn is_spelled_selector(alloc: Global, by: &Selector) -> Result<bool, AllocError>
+    ensures { IfOk result (λ b. IsTrue b ↔ IsSpelledSelector by.now) }
 {
     match by {
         Selector::Var(_) => Ok(true),
@@ -95,7 +95,7 @@ fn is_selector(alloc: Global, by: &Selector) -> Result<bool, AllocError>
     }
 }
 
-fn is_pattern(alloc: Global, pattern: &Pattern) -> Result<bool, AllocError>
+fn is_spelled_pattern(alloc: Global, pattern: &Pattern) -> Result<bool, AllocError>
     ensures { IfOk result (λ b. IsTrue b ↔ IsSpelledPattern pattern.now) }
 {
     match pattern {

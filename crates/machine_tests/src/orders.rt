@@ -1,6 +1,6 @@
 //! All orders of the threads of a racy program.
 
-use crate::choices::{Answer, Choice, X, Y, Z, answered};
+use crate::choices::{Answer, Choice, X, Y, Z, answer_to_pick};
 use crate::programs::program_of;
 use central_machine::Central;
 use kernel_syntax::Program;
@@ -26,14 +26,14 @@ static MOVES: [Choice; 6] = [
 ];
 
 // Makes the step of a thread: false, where it has none.
-fn goes<R: Abort>(
+fn make_step<R: Abort>(
     rt: &R,
     alloc: Global,
     machine: &mut Central<'_>,
     name: ThreadName,
 ) -> Result<bool, AllocError> {
     for choice in MOVES.as_slice() {
-        match answered(rt, alloc, machine, name, *choice)? {
+        match answer_to_pick(rt, alloc, machine, name, *choice)? {
             Answer::Goes => return Ok(true),
             Answer::Memory => return Err(AllocError),
             _ => {}
@@ -43,14 +43,14 @@ fn goes<R: Abort>(
 }
 
 // The threads of these numbers go one after the other: false, where one of them cannot.
-fn follows<R: Abort>(
+fn walk_path<R: Abort>(
     rt: &R,
     alloc: Global,
     machine: &mut Central<'_>,
     path: &[u64],
 ) -> Result<bool, AllocError> {
     for number in path {
-        if !goes(rt, alloc, machine, thread(*number))? {
+        if !make_step(rt, alloc, machine, thread(*number))? {
             return Ok(false);
         }
     }
@@ -95,7 +95,7 @@ fn end_after<R: Abort>(
     machine: &mut Central<'_>,
     path: &[u64],
 ) -> Result<End, AllocError> {
-    if !follows(rt, alloc, machine, path)? {
+    if !walk_path(rt, alloc, machine, path)? {
         return Ok(End::Refused);
     }
     if !machine.at_rest() {
@@ -138,7 +138,7 @@ impl Tally {
 }
 
 // The next path that does not begin with this one, in the order of the numbers 0 and 1: false, where there is none.
-fn turns_off(path: &mut Vec<u64>) -> Result<bool, AllocError> {
+fn take_next_branch(path: &mut Vec<u64>) -> Result<bool, AllocError> {
     for _ in 0..path.len() {
         if path.pop() == Some(0) {
             path.push(1)?;
@@ -149,7 +149,7 @@ fn turns_off(path: &mut Vec<u64>) -> Result<bool, AllocError> {
 }
 
 // Looks at a path, and goes to the next one: false, where there is none.
-fn looks<R: Abort>(
+fn visit_path<R: Abort>(
     rt: &R,
     alloc: Global,
     program: &Program,
@@ -161,10 +161,10 @@ fn looks<R: Abort>(
             path.push(0)?;
             Ok(true)
         }
-        End::Refused => turns_off(path),
+        End::Refused => take_next_branch(path),
         End::Rests(output) => {
             *tally = tally.with(output);
-            turns_off(path)
+            take_next_branch(path)
         }
     }
 }
@@ -179,14 +179,14 @@ fn tally_of<R: Abort>(rt: &R, alloc: Global, program: &Program) -> Result<Tally,
     };
     let mut path = Vec::new(alloc);
     for _ in 0..10_000 {
-        if !looks(rt, alloc, program, &mut path, &mut tally)? {
+        if !visit_path(rt, alloc, program, &mut path, &mut tally)? {
             return Ok(tally);
         }
     }
     panic!(rt; "paths are left")
 }
 
-fn has_outputs<R: Abort>(rt: &R, alloc: Global, want: Tally) -> Result<(), AllocError> {
+fn expect_outputs<R: Abort>(rt: &R, alloc: Global, want: Tally) -> Result<(), AllocError> {
     let program = program_of(rt, alloc, RACE)?;
     let tally = tally_of(rt, alloc, &program)?;
     assert_eq!(rt; tally, want);
@@ -207,6 +207,6 @@ fn a_race_has_these_outputs_over_all_orders(rt: HostRuntime) -> Result<(), Fail>
         failure: 22,
         other: 0,
     };
-    has_outputs(&rt, rt.alloc(), want)?;
+    expect_outputs(&rt, rt.alloc(), want)?;
     Ok(())
 }

@@ -1,7 +1,7 @@
 //! A machine that is driven by picks: which are steps, and by which part others are refused.
 
 use crate::choices::{Answer, Choice, FIRST, X, Y, Z};
-use crate::stories::{Row, Story, goes_as_told};
+use crate::stories::{Row, Story, play_story};
 use std::test::Fail;
 use tree_node::{CellName, Name, ThreadName};
 
@@ -120,10 +120,10 @@ static LINKS: Story = Story {
 #[test]
 fn picks_are_steps_or_refused_by_their_first_part(rt: HostRuntime) -> Result<(), Fail> {
     let alloc = rt.alloc();
-    goes_as_told(&rt, alloc, &SKIP)?;
-    goes_as_told(&rt, alloc, &WAITING)?;
-    goes_as_told(&rt, alloc, &USED)?;
-    goes_as_told(&rt, alloc, &GONE)?;
-    goes_as_told(&rt, alloc, &LINKS)?;
+    play_story(&rt, alloc, &SKIP)?;
+    play_story(&rt, alloc, &WAITING)?;
+    play_story(&rt, alloc, &USED)?;
+    play_story(&rt, alloc, &GONE)?;
+    play_story(&rt, alloc, &LINKS)?;
     Ok(())
 }

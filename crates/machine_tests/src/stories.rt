@@ -6,7 +6,7 @@ ghost use Rattle.tree_node.specs.Each.{Each};
 ghost use Rattle.tree_node.specs.Order.{num_of};
 ghost use Rattle.central_machine.specs.Numbers.{NumbersBelow};
 
-use crate::choices::{Answer, Choice, answered};
+use crate::choices::{Answer, Choice, answer_to_pick};
 use crate::programs::program_of;
 use central_machine::{Central, number_of};
 use kernel_syntax::Program;
@@ -47,7 +47,7 @@ pub struct Story {
     pub counts: (u64, u64),
 }
 
-fn seen(machine: &Central<'_>) -> Sight {
+fn look_at(machine: &Central<'_>) -> Sight {
     let (ended, living) = machine.counts();
     Sight {
         picks: machine.picks().len() as u64,
@@ -59,7 +59,7 @@ fn seen(machine: &Central<'_>) -> Sight {
 }
 
 // A pick is answered so. A step is one pick more; a refused pick changes nothing.
-fn picks<R: Abort>(
+fn make_pick<R: Abort>(
     rt: &R,
     alloc: Global,
     machine: &mut Central<'_>,
@@ -67,10 +67,10 @@ fn picks<R: Abort>(
     choice: Choice,
     want: Answer,
 ) -> Result<(), AllocError> {
-    let before = seen(machine);
-    let told = answered(rt, alloc, machine, thread, choice)?;
+    let before = look_at(machine);
+    let told = answer_to_pick(rt, alloc, machine, thread, choice)?;
     assert_eq!(rt; told, want);
-    let after = seen(machine);
+    let after = look_at(machine);
     if want == Answer::Goes {
         assert_eq!(rt; after.picks, before.picks.wrapping_add(1));
     } else {
@@ -80,7 +80,7 @@ fn picks<R: Abort>(
 }
 
 // A pick's names have numbers far below 2^60.
-fn is_low<R: Abort>(rt: &R, names: &[Name])
+fn expect_low<R: Abort>(rt: &R, names: &[Name])
     ensures { Each (λ (x : Named). num_of x < 2 ^ 59) names.now }
 {
     'names: for name in names {
@@ -90,73 +90,73 @@ fn is_low<R: Abort>(rt: &R, names: &[Name])
 }
 
 // The names of picks have numbers far below 2^60.
-fn are_low<R: Abort>(rt: &R, picks: &[Pick])
+fn expect_all_low<R: Abort>(rt: &R, picks: &[Pick])
     ensures { NumbersBelow (2 ^ 59) picks.now }
 {
     'picks: for pick in picks {
-        is_low(rt, pick.fresh.as_slice());
+        expect_low(rt, pick.fresh.as_slice());
     }
 }
 
 // At most so many steps: their number, which is that of the new picks.
-fn turns<R: Abort>(
+fn make_turns<R: Abort>(
     rt: &R,
     alloc: Global,
     machine: &mut Central<'_>,
     limit: u64,
 ) -> Result<u64, AllocError> {
-    let before = seen(machine);
+    let before = look_at(machine);
     let told = machine.picks().to_vec(alloc)?;
-    are_low(rt, told.as_slice());
+    expect_all_low(rt, told.as_slice());
     assert!(rt; limit <= 1_000_000);
     let made = machine.run_turns(limit)?;
-    assert_eq!(rt; seen(machine).picks, before.picks.wrapping_add(made));
+    assert_eq!(rt; look_at(machine).picks, before.picks.wrapping_add(made));
     assert!(rt; made == limit || machine.at_rest());
     Ok(made)
 }
 
-fn tries<R: Abort>(
+fn play_row<R: Abort>(
     rt: &R,
     alloc: Global,
     machine: &mut Central<'_>,
     row: Row,
 ) -> Result<(), AllocError> {
     match row {
-        Row::Pick(thread, choice, want) => picks(rt, alloc, machine, thread, choice, want),
+        Row::Pick(thread, choice, want) => make_pick(rt, alloc, machine, thread, choice, want),
         Row::Turns(limit, want) => {
-            let made = turns(rt, alloc, machine, limit)?;
+            let made = make_turns(rt, alloc, machine, limit)?;
             assert_eq!(rt; made, want);
             Ok(())
         }
         Row::Rests(limit) => {
-            let made = turns(rt, alloc, machine, limit)?;
+            let made = make_turns(rt, alloc, machine, limit)?;
             assert!(rt; made < limit);
             Ok(())
         }
     }
 }
 
-fn tries_all<R: Abort>(
+fn play_rows<R: Abort>(
     rt: &R,
     alloc: Global,
     machine: &mut Central<'_>,
     rows: &[Row],
 ) -> Result<(), AllocError> {
     for row in rows {
-        tries(rt, alloc, machine, *row)?;
+        play_row(rt, alloc, machine, *row)?;
     }
     Ok(())
 }
 
-fn has_lines<R: Abort>(rt: &R, lines: &[Line], want: &[&str]) {
+fn expect_lines<R: Abort>(rt: &R, lines: &[Line], want: &[&str]) {
     assert_eq!(rt; lines.len(), want.len());
     for (line, text) in lines.iter().zip(want) {
         assert_eq!(rt; line.as_slice(), text.as_bytes());
     }
 }
 
-fn ends<R: Abort>(rt: &R, machine: &Central<'_>, story: &Story) {
-    has_lines(rt, machine.lines(), story.lines);
+fn expect_end<R: Abort>(rt: &R, machine: &Central<'_>, story: &Story) {
+    expect_lines(rt, machine.lines(), story.lines);
     assert_eq!(rt; machine.at_rest(), story.rests);
     assert_eq!(rt; machine.counts(), story.counts);
 }
@@ -170,38 +170,38 @@ const START: Sight = Sight {
 };
 
 // The calls of a story on a machine at its start.
-fn follows<R: Abort>(
+fn play_from_start<R: Abort>(
     rt: &R,
     alloc: Global,
     machine: &mut Central<'_>,
     story: &Story,
 ) -> Result<(), AllocError> {
-    assert_eq!(rt; seen(machine), START);
-    tries_all(rt, alloc, machine, story.rows)?;
-    ends(rt, machine, story);
+    assert_eq!(rt; look_at(machine), START);
+    play_rows(rt, alloc, machine, story.rows)?;
+    expect_end(rt, machine, story);
     Ok(())
 }
 
-fn gives_picks<R: Abort>(rt: &R, machine: Central<'_>) {
+fn expect_picks<R: Abort>(rt: &R, machine: Central<'_>) {
     let count = machine.picks().len();
     let picks = machine.into_picks();
     assert_eq!(rt; picks.len(), count);
 }
 
-fn goes<R: Abort>(
+fn play_program<R: Abort>(
     rt: &R,
     alloc: Global,
     program: &Program,
     story: &Story,
 ) -> Result<(), AllocError> {
     let mut machine = Central::new(alloc, program)?;
-    follows(rt, alloc, &mut machine, story)?;
-    gives_picks(rt, machine);
+    play_from_start(rt, alloc, &mut machine, story)?;
+    expect_picks(rt, machine);
     Ok(())
 }
 
 /// A machine of the story's program does what the story tells.
-pub fn goes_as_told<R: Abort>(rt: &R, alloc: Global, story: &Story) -> Result<(), AllocError> {
+pub fn play_story<R: Abort>(rt: &R, alloc: Global, story: &Story) -> Result<(), AllocError> {
     let program = program_of(rt, alloc, story.text)?;
-    goes(rt, alloc, &program, story)
+    play_program(rt, alloc, &program, story)
 }

@@ -1,7 +1,7 @@
 //! A machine that goes on by picks of its own, in rounds.
 
 use crate::choices::{Answer, Choice, FIRST, X};
-use crate::stories::{Row, Story, goes_as_told};
+use crate::stories::{Row, Story, play_story};
 use std::test::Fail;
 use tree_node::{Name, ThreadName, VarName};
 
@@ -133,12 +133,12 @@ static IN_ITS_TURN: Story = Story {
 #[test]
 fn turns_go_on_to_the_end_or_the_limit(rt: HostRuntime) -> Result<(), Fail> {
     let alloc = rt.alloc();
-    goes_as_told(&rt, alloc, &AT_ONCE)?;
-    goes_as_told(&rt, alloc, &BY_HAND)?;
-    goes_as_told(&rt, alloc, &WOKEN)?;
-    goes_as_told(&rt, alloc, &WAITING)?;
-    goes_as_told(&rt, alloc, &LOOP)?;
-    goes_as_told(&rt, alloc, &BEFORE_ITS_TURN)?;
-    goes_as_told(&rt, alloc, &IN_ITS_TURN)?;
+    play_story(&rt, alloc, &AT_ONCE)?;
+    play_story(&rt, alloc, &BY_HAND)?;
+    play_story(&rt, alloc, &WOKEN)?;
+    play_story(&rt, alloc, &WAITING)?;
+    play_story(&rt, alloc, &LOOP)?;
+    play_story(&rt, alloc, &BEFORE_ITS_TURN)?;
+    play_story(&rt, alloc, &IN_ITS_TURN)?;
     Ok(())
 }

@@ -5,7 +5,7 @@ ghost use Rattle.std.specs.Prelude.{◌≤◌};
 use crate::programs::program_of;
 use message_book::Book;
 use site_message::Reason;
-use site_worker::{Bounds, OpenGate, run_sites};
+use site_worker::{OpenGate, RunLimits, run_sites};
 use std::alloc::{AllocError, Global};
 use std::process::Abort;
 use std::sync::Wait;
@@ -65,7 +65,7 @@ fn reason_of<R: Abort + Threads + Wait + Sync>(
     requires { (1 ≤ row.1) × (row.1 ≤ 64) × (1 ≤ row.2) × (row.2 ≤ 64) }
 {
     let program = program_of(rt, alloc, row.0)?;
-    let bounds = Bounds {
+    let bounds = RunLimits {
         sites: row.1,
         workers: row.2,
         steps: 10_000,

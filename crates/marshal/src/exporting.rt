@@ -89,7 +89,7 @@ fn next<'a>(
     ensures some { IfSome result (λ r. IsNext store.now.equations queue.now from taken.now r.0 r.1.now) }
 {
     for place in from..queue.len() {
-        match untaken(store, taken, queue[place]) {
+        match new_equation(store, taken, queue[place]) {
             Some(term) => return Some((place, term)),
             None => (),
         }
@@ -98,7 +98,7 @@ fn next<'a>(
 }
 
 // The equation of a variable, where there is one that was not taken.
-fn untaken<'a>(store: &'a Store, taken: &[(VarName, Term)], var: VarName) -> Option<&'a Term>
+fn new_equation<'a>(store: &'a Store, taken: &[(VarName, Term)], var: VarName) -> Option<&'a Term>
     requires { NamesAscend taken.now }
     ensures known { IfSome result (λ t. Contains store.now.equations (var, t.now)) }
     ensures new { IfSome result (λ _. list_any (equal_var var) (left_names taken.now) ≡ false) }

@@ -20,7 +20,7 @@ use Rattle.wire_form.specs.Format.{message, spelling, IsSpelling}
 use Rattle.tree_node.specs.Each.{Each}
 use Rattle.message_book.specs.Inboxes.{HoldsTravelling, AllHoldTravelling, IsConsistent, place, spelling_of, messages_at, number_of, hand_of, inbox_at}
 use Rattle.message_book.proofs.Travels.{messages_ascend, HasNumber, after_low}
-use Rattle.site_message.specs.Rows.{IsAscending}
+use Rattle.site_message.specs.Laws.{IsAscending}
 use Rattle.message_book.proofs.Inboxes.{inbox_set_here, inbox_set_other, inbox_related}
 use Rattle.tree_node.proofs.EachLemmas.{each_at_place}
 use Rattle.std.proofs.lemmas.List.{map-append}

@@ -5,7 +5,7 @@ use Rattle.std.proofs.lemmas.List.Elements.{filter-append}
 use Rattle.site_message.specs.declared.message.Sent.{Sent}
 use Rattle.site_message.specs.declared.turn.Turn.{Turn}
 use Rattle.site_message.specs.Journal.{Wired, sent_of, travelling, is_number}
-use Rattle.site_message.specs.Rows.{IsAscending}
+use Rattle.site_message.specs.Laws.{IsAscending}
 use Rattle.site_message.proofs.TravelLemmas.{travelling_grows, travelling_ascends, ascends_filter}
 use Rattle.wire_form.specs.Format.{spelling}
 use Rattle.message_book.specs.Inboxes.{place, spelling_of, messages_at, new_messages, letter_of}

@@ -16,7 +16,7 @@ use Rattle.message_book.specs.Inbox.{InboxState, HoldsSame}
 use Rattle.message_book.specs.Book.{BookState, IsSiteOf, IsReason, without_delivered}
 use Rattle.message_book.specs.Inboxes.{HoldsTravelling, AllHoldTravelling, IsConsistent, IsAfterTurn, place, messages_at, number_of, hand_of, new_messages, letter_of, AllOfFormat, inbox_at, idle_at, reason_by}
 use Rattle.message_book.proofs.Travels.{messages_step, without_message, messages_ascend, LacksNumber, after_low, without_none_there, map_filter, right}
-use Rattle.site_message.specs.Rows.{IsAscending}
+use Rattle.site_message.specs.Laws.{IsAscending}
 use Rattle.tree_node.proofs.EachLemmas.{each_append}
 use Rattle.wire_form.specs.Format.{message}
 use Rattle.message_book.proofs.Posts.{has_number, spelling_at, in_messages, placed, place_is, state_of, hand_at, same_hands}

@@ -8,7 +8,7 @@ use Rattle.site_message.specs.declared.reason.Reason.TheVariants.{Messages, Step
 use Rattle.site_message.specs.Journal.{Limits, Wired, sent_of, travelling, is_idle}
 use Rattle.tree_node.specs.Each.{Each}
 use Rattle.wire_form.specs.Format.{message, spelling}
-use Rattle.site_message.specs.Progress.{WentOn}
+use Rattle.site_message.specs.EarlierEnd.{HasNoEarlierEnd}
 use Rattle.message_book.specs.Inbox.{InboxState}
 use Rattle.message_book.specs.Book.{IsSiteOf, AreSites, IsReason, without_delivered}
 
@@ -16,6 +16,7 @@ use Rattle.message_book.specs.Book.{IsSiteOf, AreSites, IsReason, without_delive
 abbrev pub place : ℕ → ℕ → ℕ
 place n to = if nat_le to n then to else 0
 
+-- a message's number, and the message in the wire form
 abbrev pub spelling_of : ℕ × Sent → ℕ × List ℕ
 spelling_of p = (p.0, spelling p.1.msg)
 
@@ -23,9 +24,11 @@ spelling_of p = (p.0, spelling p.1.msg)
 abbrev pub messages_at : ℕ → List Turn → ℕ → List (ℕ × List ℕ)
 messages_at n j i = map spelling_of (filter (λ (p : ℕ × Sent). place n p.1.to == i) (travelling j))
 
+-- what stands for the inbox of a place that there is not
 abbrev pub no_inbox : InboxState
 no_inbox = record { hand = []; waiting = []; idle = true; room = 0 }
 
+-- the inbox of the place i
 abbrev pub inbox_at : List InboxState → ℕ → InboxState
 inbox_at bs i = slice_index_or bs i no_inbox
 
@@ -34,6 +37,7 @@ abbrev pub idle_at : List Turn → ℕ → Bool
 idle_at j zero = true
 idle_at j (suc i) = is_idle j (suc i)
 
+-- the number of a spelled message
 abbrev pub number_of : ℕ × List ℕ → ℕ
 number_of p = p.0
 
@@ -44,9 +48,11 @@ pub record HoldsTravelling (n : ℕ) (j : List Turn) (i : ℕ) (b : InboxState) 
   pub messages : in_hand ++ b.waiting ≡ messages_at n j i
   pub idle : b.idle ≡ idle_at j i
 
+-- so do the inboxes of all places up to n
 abbrev pub AllHoldTravelling : ℕ → List Turn → List InboxState → Type 0
 AllHoldTravelling n j bs = (i : ℕ) → i ≤ n → HoldsTravelling n j i (inbox_at bs i)
 
+-- the numbers of the messages in hand
 abbrev pub hand_of : InboxState → List ℕ
 hand_of b = b.hand
 
@@ -66,7 +72,7 @@ pub record IsConsistent (l : Limits) (j : List Turn) (sent : ℕ) (bs : List Inb
   pub inboxes : AllHoldTravelling l.sites j bs
   pub spelled : AllOfFormat (sent_of j)
   pub reason : IsReason l j r
-  pub went : WentOn l j
+  pub went : HasNoEarlierEnd l j
 
 -- the spelling of a message, behind the site that it goes to
 abbrev pub letter_of : Sent → ℕ × List ℕ
@@ -98,8 +104,8 @@ pub record IsAfterTurn (n site : ℕ) (delivered : Option ℕ) (idle : Bool) (fi
 
 -- how a run ends where more messages were sent than the limit, where the site came to its limit, where it is quiet
 abbrev pub reason_by : Bool → Bool → ℕ → Bool → Option Reason
-reason_by all_sent all_made site quiet =
-    if all_sent then Some Messages
-    else if all_made then Some (Steps site)
+reason_by over_limit at_limit site quiet =
+    if over_limit then Some Messages
+    else if at_limit then Some (Steps site)
     else if quiet then Some Quiet
     else None

@@ -2,7 +2,7 @@
 
 ghost use Rattle.std.specs.Prelude.{◌≡◌, ◌≢◌, ◌⊎◌, ℕ, List, ◌+◌, ◌&&◌, not, nat_le, ◌↔◌, [], ◌∷◌, ◌++◌, ◌≤◌, ◌<◌, ◌^◌, Some, None, Err, IsTrue, Contains, IfOk, OnOk, OnErr, MatchOption, map, length, slice_set};
 ghost use Rattle.site_message.specs.Journal.{Wired, IsTravelling, sent_of, is_quiet, end_of};
-ghost use Rattle.site_message.specs.Progress.{WentOn};
+ghost use Rattle.site_message.specs.EarlierEnd.{HasNoEarlierEnd};
 ghost use Rattle.site_message.specs.Story.{hand};
 ghost use Rattle.message_book.specs.Book.{IsSiteOf, AreSites, IsUntaken, IsUntakenSpelling, IsReason, without_delivered, sight_of, first_reason};
 ghost use Rattle.message_book.specs.Inboxes.{IsNewInbox, IsQuietInbox, IsAfterTurn, HasRoom, AllHoldTravelling, reason_by, inbox_at};
@@ -16,7 +16,7 @@ ghost use Rattle.site_message.specs.declared.turn.Turn.{Turn};
 use crate::inbox::Inbox;
 use crate::outgoing::{enqueue_all, make_room};
 use crate::posted::Posted;
-use crate::spelled::Spelled;
+use crate::spelled_turn::SpelledTurn;
 use site_message::{Journal, Reason, Story};
 use std::alloc::{AllocError, Global};
 use std::collections::VecDeque;
@@ -80,7 +80,7 @@ impl Book {
 
     /// Appends a turn, and finds out whether the run has come to an end. A book with a reason takes no turn. Its messages were
     /// spelled before, so memory is taken for their places and the journal alone.
-    pub fn post(&mut self, turn: Spelled) -> Result<(), Posted>
+    pub fn post(&mut self, turn: SpelledTurn) -> Result<(), Posted>
         requires site { IsSiteOf self.old.limits.sites turn.site }
         requires delivered { (k : ℕ) → turn.delivered ≡ Some k → Contains (hand turn.site self.old.hands) k }
         ensures closed { (r : Reason) → (result ≡ Err (Closed r)) ↔ (self.old.reason ≡ Some r) }
@@ -169,17 +169,17 @@ impl Book {
         ensures value { result.now ≡ self.now.journal }
         ensures wired { Wired self.now.journal }
         ensures sites { AreSites self.now.limits.sites self.now.journal }
-        ensures went { WentOn self.now.limits self.now.journal }
+        ensures went { HasNoEarlierEnd self.now.limits self.now.journal }
     {
         &self.journal
     }
 
-    /// The turns posted.
+    /// The turns posted, of a book that is done with. It takes no memory.
     pub fn into_journal(self) -> Journal
         ensures value { result ≡ self.journal }
         ensures wired { Wired self.journal }
         ensures sites { AreSites self.limits.sites self.journal }
-        ensures went { WentOn self.limits self.journal }
+        ensures went { HasNoEarlierEnd self.limits self.journal }
     {
         self.journal
     }
@@ -259,13 +259,13 @@ fn is_at_limit(steps: u64, limit: u64, idle: bool) -> bool
 
 // How the run ends after a turn of the site, where more messages were sent than the limit, or the site came to its limit
 // of steps.
-fn find_reason(all_sent: bool, spent: bool, site: u32, inboxes: &[Inbox]) -> Option<Reason>
-    ensures { (n : ℕ) (j : List Turn) → length inboxes.now ≡ n + 1 → AllHoldTravelling n j inboxes.now → result ≡ reason_by all_sent spent site (is_quiet n j) }
+fn find_reason(over_limit: bool, at_limit: bool, site: u32, inboxes: &[Inbox]) -> Option<Reason>
+    ensures { (n : ℕ) (j : List Turn) → length inboxes.now ≡ n + 1 → AllHoldTravelling n j inboxes.now → result ≡ reason_by over_limit at_limit site (is_quiet n j) }
 {
-    if all_sent {
+    if over_limit {
         return Some(Reason::Messages);
     }
-    if spent {
+    if at_limit {
         return Some(Reason::Steps(site));
     }
     if are_quiet(inboxes) {

@@ -1,15 +1,15 @@
 //! The book of a run over several sites: the journal of the turns that were posted, the messages that were sent and not
 //! delivered, the numbers of those that a site has in hand, and the reason why the run ends.
 //!
-//! It promises: `Spelled` is a turn with the spellings of its messages, made before the turn is posted, which wants that each
+//! It promises: `SpelledTurn` is a turn with the spellings of its messages, made before the turn is posted, which wants that each
 //! can be spelled (`FitsWire`). `post` appends the turn given and sets the reason by which the journal ends then (`end_of`), or changes
 //! nothing; `Closed` comes exactly where there was a reason. `take` hands out the number and the bytes of a message
 //! that travels to the site and that no site has taken (`IsUntakenSpelling`: `decode` reads it back), and nothing exactly where
-//! there is none; it takes no memory, nor do `quiet` and
-//! `close`. `quiet` holds exactly where no message travels and every site is idle (`is_quiet`), so a message in hand
-//! keeps the run going. `close` keeps the first reason. `journal` and `into_journal` give the turns posted: each message
-//! was delivered once at most, after it was sent, to the site that it was sent to (`Wired`), every turn is of a site
-//! of the book, and none but the last had ended the run (`WentOn`). `Book` is a `Story` for a lock: its fixed part is the number of sites and both limits.
+//! there is none; it takes no memory, nor do `quiet` and `close`. `quiet` holds exactly where no message travels and every site is
+//! idle (`is_quiet`), so a message in hand keeps the run going. `close` keeps the first reason. `journal` and `into_journal` give
+//! the turns posted: each message was delivered once at most, after it was sent, to the site that it was sent to (`Wired`), every
+//! turn is of a site of the book, and none but the last had ended the run (`HasNoEarlierEnd`). `Book` is a `Story` for a lock: its
+//! fixed part is the number of sites and both limits.
 //!
 //! No call walks over the journal: `take` takes one step, `post` as many as the turn sent messages and there are sites, on
 //! average, since a list that is full is moved to a greater room.
@@ -27,10 +27,10 @@ mod book;
 mod inbox;
 mod outgoing;
 mod posted;
-mod spelled;
+mod spelled_turn;
 mod threads;
 
 pub use book::Book;
 pub use posted::Posted;
 pub use site_message::Reason;
-pub use spelled::Spelled;
+pub use spelled_turn::SpelledTurn;

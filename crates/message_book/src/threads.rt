@@ -2,7 +2,7 @@
 
 use crate::book::Book;
 use crate::posted::Posted;
-use crate::spelled::Spelled;
+use crate::spelled_turn::SpelledTurn;
 
 fn is_send_and_sync<T: Send + Sync>() {}
 
@@ -10,5 +10,5 @@ fn is_send_and_sync<T: Send + Sync>() {}
 fn cross_threads() {
     is_send_and_sync::<Book>();
     is_send_and_sync::<Posted>();
-    is_send_and_sync::<Spelled>();
+    is_send_and_sync::<SpelledTurn>();
 }

@@ -4,21 +4,21 @@ use Rattle.std.specs.Io.KnownBytes.{Appends}
 use Rattle.std.specs.declared.option.Option.{Option}
 
 -- the count of faults rose, or stands at the last value of a u64
-abbrev pub Rose : ℕ → ℕ → Type 0
-Rose before now = (before < now) ⊎ ((before ≡ 2 ^ 64 - 1) × (now ≡ 2 ^ 64 - 1))
+abbrev pub HasRisen : ℕ → ℕ → Type 0
+HasRisen before now = (before < now) ⊎ ((before ≡ 2 ^ 64 - 1) × (now ≡ 2 ^ 64 - 1))
 
 -- the count of faults never falls: it stands still at `Ok`, and rises at `Err`
 pub record HasCause {T E : Type 0} (before now : ℕ) (result : Result T E) : Type 0 where
   pub later : before ≤ now
   pub steady : OnOk result (now ≡ before)
-  pub failed : OnErr result (Rose before now)
+  pub failed : OnErr result (HasRisen before now)
 
 -- a front of the piece was taken, and not all of it
-abbrev pub TookFront : Option (List ℕ) → Option (List ℕ) → List ℕ → Type 0
-TookFront old new piece = (n : ℕ) × (n < length piece) × Appends old new (take n piece)
+abbrev pub TakesFront : Option (List ℕ) → Option (List ℕ) → List ℕ → Type 0
+TakesFront old new piece = (n : ℕ) × (n < length piece) × Appends old new (take n piece)
 
 -- at `Ok` the sink took the whole piece, at `Err` a front of it
 abbrev pub TakesPiece : {T E : Type 0} → Option (List ℕ) → Option (List ℕ) → Result T E → List ℕ
     → Type 0
 TakesPiece old new result piece =
-    MatchResult result (λ _. Appends old new piece) (λ _. TookFront old new piece)
+    MatchResult result (λ _. Appends old new piece) (λ _. TakesFront old new piece)

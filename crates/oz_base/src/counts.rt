@@ -1,6 +1,6 @@
 // The counts that a source and a sink keep: of their calls, and of their faults.
 ghost use Rattle.std.specs.Prelude.{◌≡◌, ◌↔◌, IsTrue};
-ghost use Rattle.oz_base.specs.Streams.{Rose};
+ghost use Rattle.oz_base.specs.Streams.{HasRisen};
 ghost use Rattle.oz_base.specs.Counts.{NextIsListed, one_more};
 
 use crate::Failed;
@@ -19,7 +19,7 @@ pub(crate) fn count_call(calls: &mut u64, failing: &[u64]) -> bool
 
 // Counts a fault, up to the last value of the count, and gives the error to answer.
 pub(crate) fn count_fault(faults: &mut u64) -> Failed
-    ensures rose { Rose faults.old faults.new }
+    ensures rose { HasRisen faults.old faults.new }
     ensures faults { faults.new ≡ one_more faults.old }
 {
     *faults = faults.saturating_add(1);

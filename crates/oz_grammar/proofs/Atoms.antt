@@ -6,7 +6,7 @@ use Rattle.std.specs.List.{list_all}
 use Rattle.tree_node.specs.Spelling.{is_word_byte, is_bare, escaped_text}
 use Rattle.tree_node.specs.Words.{is_reserved}
 use Rattle.oz_lexer.specs.declared.token.TokenKind.TheVariants as kind
-use Rattle.oz_lexer.specs.Spelling.{is_character, is_escape, closes_quote, is_variable, is_lower_word, token_kind_of, unescaped}
+use Rattle.oz_lexer.specs.Spelling.{is_character, is_escape, closes_quote, is_variable, is_lower_word, token_kind_of, text_in_quotes}
 use Rattle.oz_grammar.specs.Symbols.{quoted_text}
 use Rattle.oz_lexer.proofs.Fronts.{front_part}
 use Rattle.std.proofs.lemmas.Bool.{and_parts}
@@ -23,7 +23,7 @@ plain_closes c (t ∷ ts) some plain character closed =
       | false ↦ λ e. rw (character, closed) refl
     ] in chosen (eqb c 92) plain
 
-pub plain_unescaped : (c : ℕ) (ts : List ℕ) → eqb c 92 ≡ false → unescaped (c ∷ ts) ≡ c ∷ unescaped ts
+pub plain_unescaped : (c : ℕ) (ts : List ℕ) → eqb c 92 ≡ false → text_in_quotes (c ∷ ts) ≡ c ∷ text_in_quotes ts
 plain_unescaped c [] plain = refl
 plain_unescaped c (t ∷ ts) plain = rw plain refl
 
@@ -72,7 +72,7 @@ closes (c ∷ cs) all =
       | inr (inr h) ↦ rw h.0 (plain_closes c (escaped_text cs ++ 39 ∷ []) (some_behind (escaped_text cs)) h.1 h.2 more)
     ]
 
-again : (a : List ℕ) → list_all is_atom_byte a ≡ true → unescaped (escaped_text a) ≡ a
+again : (a : List ℕ) → list_all is_atom_byte a ≡ true → text_in_quotes (escaped_text a) ≡ a
 again [] all = refl
 again (c ∷ cs) all =
     let two = and_parts (is_atom_byte c) (list_all is_atom_byte cs) all in
@@ -99,7 +99,7 @@ unfolding token_kind_of
 quoted a all = record {
   closed = closes a all;
   kind = rw (closes a all) refl;
-  text = ap unescaped (inside (escaped_text a)) ∙ again a all;
+  text = ap text_in_quotes (inside (escaped_text a)) ∙ again a all;
 }
 
 -- an atom without quotes

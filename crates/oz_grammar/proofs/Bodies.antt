@@ -10,7 +10,7 @@ use Rattle.kernel_syntax.specs.declared.stmt.Stmt.{Stmt}
 use Rattle.kernel_syntax.specs.declared.stmt.Stmt.TheVariants as stmt
 use Rattle.kernel_syntax.specs.Scopes.{named_positions, features_in}
 use Rattle.kernel_syntax.specs.Program.{IsStmt, IsPattern, IsThreadSite, IsProgram}
-use Rattle.kernel_syntax.specs.Preorder.{within, one_of, bodies_in, IsBody, AreBodies, HasRoom, whole}
+use Rattle.kernel_syntax.specs.Preorder.{inner_body, sequence_body, bodies_in, IsBody, AreBodies, HasRoom, whole_program}
 use Rattle.kernel_syntax.proofs.Below.{Below}
 use Rattle.kernel_syntax.proofs.PreorderLemmas.{bodies_room}
 use Rattle.oz_grammar.specs.declared.symbol.Symbol.{Symbol}
@@ -258,7 +258,7 @@ record Many (b : Body) (k : ℕ) (cs : List CodeId) (bs : List Body) (sts : List
   numbers : seq_numbers sequence (names_from 0 b.around) k ≡ cs
   more : Bodies (k + length own) bs others
 
-many : (b : Body) (k : ℕ) (c : CodeId) (cs : List CodeId) (bs : List Body) (sts : List Stmt) → Bodies k (map (one_of b) (c ∷ cs) ++ bs) sts → Many b k (c ∷ cs) bs sts
+many : (b : Body) (k : ℕ) (c : CodeId) (cs : List CodeId) (bs : List Body) (sts : List Stmt) → Bodies k (map (sequence_body b) (c ∷ cs) ++ bs) sts → Many b k (c ∷ cs) bs sts
 many b k c [] bs sts f = record {
   sequence = One f.derived.0;
   own = f.own;
@@ -288,7 +288,7 @@ many b k c (c' ∷ cs) bs sts f =
       more = ends_at (k + length f.own + length m.own) (k + length (f.own ++ m.own)) bs m.others (omega (arith, Rattle.std.proofs.Common.length-append f.own m.own)) m.more;
     }
 
-sequence_stands : (b : Body) (cs : List CodeId) (k : ℕ) (sts : List Stmt) (bs : List Body) → b.code.0 ≡ k → b.in_sequence ≡ false → 2 ≤ length cs → Bodies (k + 1) (map (one_of b) cs ++ bs) sts → Bodies k (b ∷ bs) (stmt.Seq cs ∷ sts)
+sequence_stands : (b : Body) (cs : List CodeId) (k : ℕ) (sts : List Stmt) (bs : List Body) → b.code.0 ≡ k → b.in_sequence ≡ false → 2 ≤ length cs → Bodies (k + 1) (map (sequence_body b) cs ++ bs) sts → Bodies k (b ∷ bs) (stmt.Seq cs ∷ sts)
 sequence_stands b [] k sts bs at whole_one two f = absurd (omega arith)
 sequence_stands b (c ∷ []) k sts bs at whole_one two f = absurd (omega arith)
 sequence_stands b (c ∷ c' ∷ cs) k sts bs at whole_one two f =
@@ -379,7 +379,7 @@ all_stand k (b ∷ bs) (st ∷ sts) limits room h =
 -- some symbols are the program
 some_read : (p : List Stmt) → IsProgram p → (symbols : List Symbol) × ReadsSymbols symbols p
 some_read p is =
-    let f = all_stand 0 (whole ∷ []) p is.stmts (omega arith, tt) is.order in
+    let f = all_stand 0 (whole_program ∷ []) p is.stmts (omega arith, tt) is.order in
     let own : p ≡ f.own = f.is ∙ ap (λ (xs : List Stmt). f.own ++ xs) f.more ∙ append-nil f.own in (
       program_text f.derived.0,
       record {

@@ -11,8 +11,8 @@ use Rattle.oz_grammar.specs.Grammar.{Sequence, program_text}
 use Rattle.oz_grammar.specs.Scoping.{IsDerivation}
 use Rattle.oz_grammar.specs.Faults.{fault_here}
 use Rattle.oz_grammar.specs.Check.{check}
-use Rattle.oz_grammar.specs.Points.{Point, expects, next_of, wrong_at, refusal, run, walk, start}
-use Rattle.oz_grammar.specs.Reads.{SameHead, GoesOn, GoesThrough, NoneGoesThrough, StandsAt, BeginsBad, IsExpected, IsWrong, AppliesAt, FaultOfSymbols}
+use Rattle.oz_grammar.specs.Points.{Point, expected_at, next_of, wrong_at, mismatch, run, walk, start}
+use Rattle.oz_grammar.specs.Reads.{SameHead, IsCompletedBy, IsViableThrough, IsNotViableThrough, IsAtPoint, HasLexFault, IsExpected, IsWrong, AppliesAt, FaultOfSymbols}
 use Rattle.oz_grammar.proofs.TreeRuns.{program_run}
 use Rattle.oz_grammar.proofs.Walks.{run_behind, kind_at, kind_of, stopped, stops_here, left_within}
 use Rattle.oz_grammar.proofs.Leaves.{completion}
@@ -23,10 +23,10 @@ use Rattle.oz_grammar.proofs.FaultRows.{IsRow, Rows, wrong_row, check_row}
 one_kind : (o : Option FaultKind) (k l : FaultKind) → o ≡ Some k → o ≡ Some l → k ≡ l
 one_kind o k l e f = let same : Some k ≡ Some l = sym e ∙ f in cc
 
-pub nil_bad : (kind : LexKind) → BeginsBad [] kind → ⊥
+pub nil_bad : (kind : LexKind) → HasLexFault [] kind → ⊥
 nil_bad kind bad = let e : [] ≡ t.Bad kind ∷ bad.0 = bad.1 in absurd cc
 
-no_bad : (a : List Symbol) (x : Symbol) (more rest : List Symbol) (kind : LexKind) → GoesOn a (x ∷ more) → BeginsBad (x ∷ rest) kind → ⊥
+no_bad : (a : List Symbol) (x : Symbol) (more rest : List Symbol) (kind : LexKind) → IsCompletedBy a (x ∷ more) → HasLexFault (x ∷ rest) kind → ⊥
 no_bad a x more rest kind on bad =
     let e : x ∷ rest ≡ t.Bad kind ∷ bad.0 = bad.1 in
     let head : x ≡ t.Bad kind = cc in
@@ -35,18 +35,18 @@ no_bad a x more rest kind on bad =
 -- ---- what reading says is the first fault
 
 -- a program that goes on is checked where the points stand
-checked_on : (front more : List Symbol) (σ : List Point) (on : GoesOn front more) → walk front start ≡ Some σ → check on.program ≡ run more σ
+checked_on : (front more : List Symbol) (σ : List Point) (on : IsCompletedBy front more) → walk front start ≡ Some σ → check on.program ≡ run more σ
 checked_on front more σ on e = sym (program_run on.program on.derives) ∙ ap (λ (a : List Symbol). run a start) (sym on.derived) ∙ run_behind front more start σ e
 
-none_through : (front rest : List Symbol) (p : Point) (σ : List Point) (w : What) → walk front start ≡ Some (p ∷ σ) → kind_of p rest ≡ Some (Expected w) → NoneGoesThrough front rest
+none_through : (front rest : List Symbol) (p : Point) (σ : List Point) (w : What) → walk front start ≡ Some (p ∷ σ) → kind_of p rest ≡ Some (Expected w) → IsNotViableThrough front rest
 none_through front rest p σ w e k more same on =
     let found : check on.program ≡ Some (fault_here (Expected w) more) = checked_on front more (p ∷ σ) on e ∙ stops_here p σ rest more (Expected w) k same in
     check_row on.program (fault_here (Expected w) more) found
 
 -- at a symbol that no program has there
-refused_applies : (front : List Symbol) (x : Symbol) (xs : List Symbol) (p : Point) (σ : List Point) → walk front start ≡ Some (p ∷ σ) → kind_of p (x ∷ xs) ≡ Some (refusal (expects p) (x ∷ xs)) → AppliesAt front (x ∷ xs) (refusal (expects p) (x ∷ xs))
+refused_applies : (front : List Symbol) (x : Symbol) (xs : List Symbol) (p : Point) (σ : List Point) → walk front start ≡ Some (p ∷ σ) → kind_of p (x ∷ xs) ≡ Some (mismatch (expected_at p) (x ∷ xs)) → AppliesAt front (x ∷ xs) (mismatch (expected_at p) (x ∷ xs))
 refused_applies front (t.Bad kind) xs p σ e k = (xs, refl)
-refused_applies front x xs p σ e k = (λ kind bad. absurd cc, none_through front (x ∷ xs) p σ (expects p) e k, (p, record { behind = σ; walked = e }, refl))
+refused_applies front x xs p σ e k = (λ kind bad. absurd cc, none_through front (x ∷ xs) p σ (expected_at p) e k, (p, record { behind = σ; walked = e }, refl))
 
 wrong_is : (front rest : List Symbol) (kind : FaultKind) → IsRow kind → IsWrong front rest kind → AppliesAt front rest kind
 wrong_is front rest (Lex kind) r w = absurd r
@@ -66,8 +66,8 @@ wrong_applies front x xs p σ points kind e n w k =
 
 applies_by : (front : List Symbol) (x : Symbol) (xs : List Symbol) (p : Point) (σ : List Point) (kind : FaultKind) (o : Option (List Point)) → next_of p x ≡ o → walk front start ≡ Some (p ∷ σ) → kind_of p (x ∷ xs) ≡ Some kind → AppliesAt front (x ∷ xs) kind
 applies_by front x xs p σ kind None n e k =
-    let here : kind_of p (x ∷ xs) ≡ Some (refusal (expects p) (x ∷ xs)) = ap (λ (o : Option (List Point)). kind_at p o (wrong_at p x) (x ∷ xs)) n in
-    let same : refusal (expects p) (x ∷ xs) ≡ kind = one_kind (kind_of p (x ∷ xs)) (refusal (expects p) (x ∷ xs)) kind here k in
+    let here : kind_of p (x ∷ xs) ≡ Some (mismatch (expected_at p) (x ∷ xs)) = ap (λ (o : Option (List Point)). kind_at p o (wrong_at p x) (x ∷ xs)) n in
+    let same : mismatch (expected_at p) (x ∷ xs) ≡ kind = one_kind (kind_of p (x ∷ xs)) (mismatch (expected_at p) (x ∷ xs)) kind here k in
     subst (AppliesAt front (x ∷ xs)) same (refused_applies front x xs p σ e here)
 applies_by front x xs p σ kind (Some points) n e k =
     let here : kind_of p (x ∷ xs) ≡ wrong_at p x = ap (λ (o : Option (List Point)). kind_at p o (wrong_at p x) (x ∷ xs)) n in
@@ -75,8 +75,8 @@ applies_by front x xs p σ kind (Some points) n e k =
 
 applies : (front rest : List Symbol) (p : Point) (σ : List Point) (kind : FaultKind) → walk front start ≡ Some (p ∷ σ) → kind_of p rest ≡ Some kind → AppliesAt front rest kind
 applies front [] p σ kind e k =
-    let same : Expected (expects p) ≡ kind = cc in
-    subst (AppliesAt front []) same (λ lex bad. nil_bad lex bad, none_through front [] p σ (expects p) e refl, (p, record { behind = σ; walked = e }, refl))
+    let same : Expected (expected_at p) ≡ kind = cc in
+    subst (AppliesAt front []) same (λ lex bad. nil_bad lex bad, none_through front [] p σ (expected_at p) e refl, (p, record { behind = σ; walked = e }, refl))
 applies front (x ∷ xs) p σ kind e k = applies_by front x xs p σ kind (next_of p x) refl e k
 
 pub first_fault : (symbols : List Symbol) (f : Fault) → run symbols start ≡ Some f → FaultOfSymbols symbols f
@@ -132,7 +132,7 @@ same_front (y ∷ a) b (z ∷ c) d e l =
     (ap (λ (u : Symbol). u ∷ a) heads ∙ ap (λ (u : List Symbol). z ∷ u) k.0, k.1)
 
 -- a row that applies at a symbol of a front through which some program goes is found before the front's end
-before_applies : (a : List Symbol) (x : Symbol) (middle more : List Symbol) (rest : List Symbol) (kind : FaultKind) (on : GoesOn a (x ∷ middle ++ more)) → AppliesAt a (x ∷ rest) kind → check on.program ≡ Some (fault_here kind (x ∷ middle ++ more))
+before_applies : (a : List Symbol) (x : Symbol) (middle more : List Symbol) (rest : List Symbol) (kind : FaultKind) (on : IsCompletedBy a (x ∷ middle ++ more)) → AppliesAt a (x ∷ rest) kind → check on.program ≡ Some (fault_here kind (x ∷ middle ++ more))
 before_applies a x middle more rest (Lex kind) on bad = absurd (no_bad a x (middle ++ more) rest kind on bad)
 before_applies a x middle more rest (Expected w) on h = absurd (h.1 (x ∷ middle ++ more) (middle ++ more, refl) on)
 before_applies a x middle more rest Number on h = h.1 (x ∷ middle ++ more) (middle ++ more, refl) on
@@ -143,7 +143,7 @@ before_applies a x middle more rest Twice on h = h.1 (x ∷ middle ++ more) (mid
 before_applies a x middle more rest Unbound on h = h.1 (x ∷ middle ++ more) (middle ++ more, refl) on
 
 -- the program that goes on behind a longer front
-shorter_front : (a : List Symbol) (x : Symbol) (middle c more : List Symbol) → c ≡ a ++ x ∷ middle → (on : GoesOn c more) → (off : GoesOn a (x ∷ middle ++ more)) × (off.program ≡ on.program)
+shorter_front : (a : List Symbol) (x : Symbol) (middle c more : List Symbol) → c ≡ a ++ x ∷ middle → (on : IsCompletedBy c more) → (off : IsCompletedBy a (x ∷ middle ++ more)) × (off.program ≡ on.program)
 shorter_front a x middle c more e on =
     (record { program = on.program; derives = on.derives; derived = sym (append_assoc a (x ∷ middle) more) ∙ ap (λ (u : List Symbol). u ++ more) (sym e) ∙ on.derived }, refl)
 
@@ -163,7 +163,7 @@ same_self (x ∷ xs) = (xs, refl)
 
 -- how a kind applies
 abbrev pub Class : List Symbol → List Symbol → FaultKind → Type 0
-Class front rest k = ((kind : LexKind) × (k ≡ Lex kind) × BeginsBad rest kind) ⊎ (((w : What) × (k ≡ Expected w) × IsExpected front rest w) ⊎ IsWrong front rest k)
+Class front rest k = ((kind : LexKind) × (k ≡ Lex kind) × HasLexFault rest kind) ⊎ (((w : What) × (k ≡ Expected w) × IsExpected front rest w) ⊎ IsWrong front rest k)
 
 pub class_of : (front rest : List Symbol) (k : FaultKind) → AppliesAt front rest k → Class front rest k
 class_of front rest (Lex kind) h = inl (kind, refl, h)
@@ -175,15 +175,15 @@ class_of front rest Wide h = inr (inr h)
 class_of front rest Twice h = inr (inr h)
 class_of front rest Unbound h = inr (inr h)
 
-through_bad : (front rest : List Symbol) (kind : LexKind) → BeginsBad rest kind → GoesThrough front rest → ⊥
+through_bad : (front rest : List Symbol) (kind : LexKind) → HasLexFault rest kind → IsViableThrough front rest → ⊥
 through_bad front rest kind bad g =
     let same : SameHead (t.Bad kind ∷ bad.0) g.more = subst (λ (r : List Symbol). SameHead r g.more) bad.1 g.same in
     none_bad g.goes_on.program front kind same.0 (ap (λ (a : List Symbol). front ++ a) (sym same.1) ∙ g.goes_on.derived)
 
-same_lex : (rest : List Symbol) (k l : LexKind) → BeginsBad rest k → BeginsBad rest l → k ≡ l
+same_lex : (rest : List Symbol) (k l : LexKind) → HasLexFault rest k → HasLexFault rest l → k ≡ l
 same_lex rest k l a b = let e : t.Bad k ∷ a.0 ≡ t.Bad l ∷ b.0 = sym a.1 ∙ b.1 in cc
 
-same_point : (front : List Symbol) (p q : Point) → StandsAt front p → StandsAt front q → p ≡ q
+same_point : (front : List Symbol) (p q : Point) → IsAtPoint front p → IsAtPoint front q → p ≡ q
 same_point front p q a b = let e : Some (p ∷ a.behind) ≡ Some (q ∷ b.behind) = sym a.walked ∙ b.walked in cc
 
 same_wrong : (front rest : List Symbol) (k l : FaultKind) → IsWrong front rest k → IsWrong front rest l → k ≡ l
@@ -198,7 +198,7 @@ same_kind front rest k l (inl a) (inr (inl b)) = absurd (b.2.0 a.0 a.2)
 same_kind front rest k l (inl a) (inr (inr b)) = absurd (through_bad front rest a.0 a.2 b.0)
 same_kind front rest k l (inr (inl a)) (inl b) = absurd (a.2.0 b.0 b.2)
 same_kind front rest k l (inr (inl a)) (inr (inl b)) =
-    a.1 ∙ ap Expected (a.2.2.2 ∙ ap expects (same_point front a.2.2.0 b.2.2.0 a.2.2.1 b.2.2.1) ∙ sym b.2.2.2) ∙ sym b.1
+    a.1 ∙ ap Expected (a.2.2.2 ∙ ap expected_at (same_point front a.2.2.0 b.2.2.0 a.2.2.1 b.2.2.1) ∙ sym b.2.2.2) ∙ sym b.1
 same_kind front rest k l (inr (inl a)) (inr (inr b)) = absurd (a.2.1 b.0.more b.0.same b.0.goes_on)
 same_kind front rest k l (inr (inr a)) (inl b) = absurd (through_bad front rest b.0 b.2 a.0)
 same_kind front rest k l (inr (inr a)) (inr (inl b)) = absurd (b.2.1 a.0.more a.0.same a.0.goes_on)
@@ -215,7 +215,7 @@ one_fault symbols f g F G =
     let kinds : f.kind ≡ g.kind = same_kind F.front F.rest f.kind g.kind (class_of F.front F.rest f.kind F.applies) (class_of F.front F.rest g.kind moved) in
     ap (λ (k : FaultKind). record { kind = k; left = f.left }) kinds ∙ ap (λ (l : ℕ). record { kind = g.kind; left = l }) lefts
 
-wrong_whole : (front rest : List Symbol) (k : FaultKind) (on : GoesOn front rest) → Class front rest k → check on.program ≡ None → ⊥
+wrong_whole : (front rest : List Symbol) (k : FaultKind) (on : IsCompletedBy front rest) → Class front rest k → check on.program ≡ None → ⊥
 wrong_whole front rest k on (inl a) e = through_bad front rest a.0 a.2 (record { more = rest; same = same_self rest; goes_on = on })
 wrong_whole front rest k on (inr (inl a)) e = a.2.1 rest (same_self rest) on
 wrong_whole front rest k on (inr (inr a)) e = let found = a.1 rest (same_self rest) on in let bad : None ≡ Some (fault_here k rest) = sym e ∙ found in absurd cc

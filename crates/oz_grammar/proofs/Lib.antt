@@ -19,7 +19,7 @@ pub mod TableTexts
 pub mod Tables
 pub mod Digits
 pub mod Atoms
-pub mod Unescaped
+pub mod TextInQuotes
 pub mod TextSymbols
 pub mod StmtReads
 pub mod Ends

@@ -16,9 +16,9 @@ use Rattle.oz_grammar.specs.Grammar.{Identifier, FeatureToken, AtomFeature, IntF
 use Rattle.oz_grammar.specs.Scoping.{Scope, Fields, declaration_of, with_field, feature_of, place_feature}
 use Rattle.oz_grammar.specs.Faults.{use_fault, number_fault, count_fault, formal_fault, argument_fault, placed_fault, feature_token_fault, name_fault, fewer}
 use Rattle.oz_grammar.specs.Check.{first_fault}
-use Rattle.oz_grammar.specs.Points.{Point, First, Later, At, Here, Used, LocalName, LocalMore, ValueOf, BehindVariable, BehindAtom, SelectionOf, FieldOf, FieldName, Arguments, Wanted, PatternOf, BehindPattern, PatternTail, Formals, SiteHere, expects_sign, is_sign, behind_fields, run_step, run}
+use Rattle.oz_grammar.specs.Points.{Point, First, Later, At, Here, Used, LocalName, LocalMore, ValueOf, BehindVariable, BehindAtom, SelectionOf, FieldOf, FieldName, Arguments, Wanted, PatternOf, BehindPattern, PatternTail, Formals, SiteHere, expected_sign, is_sign, behind_fields, run_step, run}
 use Rattle.oz_grammar.specs.Table.{value_of}
-use Rattle.oz_grammar.specs.Reading.{◌>>=◌, fault_expected, fault_or, sign_at, used_at, selection_at, behind_at, FieldOut, field_name_at, named_field_at, field_at, is_round, fields_at, record_at, value_at, locals_at, first_local_at, formals_at, arguments_at, close_at, wanted_at, PatternOut, pair_pattern_at, record_pattern_at, pattern_at, site_at}
+use Rattle.oz_grammar.specs.Reading.{◌>>=◌, fault_expected, fault_or, sign_at, used_variable_at, selection_at, behind_at, FieldOut, field_name_at, named_field_at, field_at, is_close_round, fields_at, record_at, value_at, locals_at, first_local_at, formals_at, arguments_at, close_at, built_in_arguments_at, PatternOut, pair_pattern_at, record_pattern_at, pattern_at, site_at}
 
 -- the fault of what is read, else what is found behind it
 abbrev pub read_on : {X : Type 0} → Result X Fault → (X → Option Fault) → Option Fault
@@ -41,9 +41,9 @@ chain_unless (Some kind) symbols r f k m h = refl
 
 pub sign_read : (s : Sign) (symbols : List Symbol) (σ : List Point) → run symbols (Here s ∷ σ) ≡ read_on (sign_at s symbols) (λ rest. run rest σ)
 sign_read s [] σ = refl
-sign_read s (x ∷ xs) σ = elim (is_sign s x) as (λ b. run_step (Here s) (cond b (Some []) None) None (x ∷ xs) (run xs) σ ≡ read_on (cond b (Ok xs) (fault_expected (expects_sign s) (x ∷ xs))) (λ rest. run rest σ)) [ true ↦ refl | false ↦ refl ]
+sign_read s (x ∷ xs) σ = elim (is_sign s x) as (λ b. run_step (Here s) (cond b (Some []) None) None (x ∷ xs) (run xs) σ ≡ read_on (cond b (Ok xs) (fault_expected (expected_sign s) (x ∷ xs))) (λ rest. run rest σ)) [ true ↦ refl | false ↦ refl ]
 
-pub used_read : (scope : Scope) (symbols : List Symbol) (σ : List Point) → run symbols (Used scope ∷ σ) ≡ read_on (used_at what.Variable scope symbols) (λ v. run v.1 σ)
+pub used_read : (scope : Scope) (symbols : List Symbol) (σ : List Point) → run symbols (Used scope ∷ σ) ≡ read_on (used_variable_at what.Variable scope symbols) (λ v. run v.1 σ)
 used_read scope (t.Variable x ∷ xs) σ = unless_read (use_fault scope x) (t.Variable x ∷ xs) (Ok (declaration_of scope x, xs)) (λ v. run v.1 σ)
 used_read scope [] σ = refl
 used_read scope (x ∷ xs) σ = refl
@@ -56,9 +56,9 @@ selection_read scope [] σ = refl
 selection_read scope (x ∷ xs) σ = refl
 
 behind_read : (left a : ℕ) (c : Closer) (scope : Scope) (d : ℕ) (symbols : List Symbol) (σ : List Point) → run symbols (BehindVariable c scope d ∷ σ) ≡ read_on (behind_at left a scope symbols) (λ v. run v.1 (At Later c scope d ∷ σ))
-behind_read left a c scope d (t.Operator o ∷ xs) σ = used_read scope xs (At Later c scope d ∷ σ) ∙ chain (used_at what.Variable scope xs) _ (λ z. run z.1 (At Later c scope d ∷ σ)) (λ v. run v.1 (At Later c scope d ∷ σ)) (λ z. refl)
+behind_read left a c scope d (t.Operator o ∷ xs) σ = used_read scope xs (At Later c scope d ∷ σ) ∙ chain (used_variable_at what.Variable scope xs) _ (λ z. run z.1 (At Later c scope d ∷ σ)) (λ v. run v.1 (At Later c scope d ∷ σ)) (λ z. refl)
 behind_read left a c scope d (t.Dot ∷ xs) σ = selection_read scope xs (At Later c scope d ∷ σ) ∙ chain (selection_at scope xs) _ (λ z. run z.1 (At Later c scope d ∷ σ)) (λ v. run v.1 (At Later c scope d ∷ σ)) (λ z. refl)
-behind_read left a c scope d (t.Bar ∷ xs) σ = used_read scope xs (At Later c scope d ∷ σ) ∙ chain (used_at what.Variable scope xs) _ (λ z. run z.1 (At Later c scope d ∷ σ)) (λ v. run v.1 (At Later c scope d ∷ σ)) (λ z. refl)
+behind_read left a c scope d (t.Bar ∷ xs) σ = used_read scope xs (At Later c scope d ∷ σ) ∙ chain (used_variable_at what.Variable scope xs) _ (λ z. run z.1 (At Later c scope d ∷ σ)) (λ v. run v.1 (At Later c scope d ∷ σ)) (λ z. refl)
 behind_read left a c scope d [] σ = refl
 behind_read left a c scope d (x ∷ xs) σ = refl
 
@@ -74,7 +74,7 @@ named_read p scope d room before next m symbols σ =
     sign_read sign.Colon symbols (FieldName p scope d room before next m ∷ σ)
     ∙ chain (sign_at sign.Colon symbols) _ (λ rest. run rest (FieldName p scope d room before next m ∷ σ)) (λ o. run o.2 (FieldOf p scope d (fewer room) o.0 o.1 ∷ σ)) (λ rest. field_name_read p scope d room before next m rest σ)
 
-field_read : (p : Purpose) (scope : Scope) (d room : ℕ) (before : Fields) (next : ℕ) (symbols : List Symbol) (σ : List Point) → is_round symbols ≡ false → run symbols (FieldOf p scope d room before next ∷ σ) ≡ read_on (field_at p scope room before next symbols) (λ o. run o.2 (FieldOf p scope d (fewer room) o.0 o.1 ∷ σ))
+field_read : (p : Purpose) (scope : Scope) (d room : ℕ) (before : Fields) (next : ℕ) (symbols : List Symbol) (σ : List Point) → is_close_round symbols ≡ false → run symbols (FieldOf p scope d room before next ∷ σ) ≡ read_on (field_at p scope room before next symbols) (λ o. run o.2 (FieldOf p scope d (fewer room) o.0 o.1 ∷ σ))
 field_read p scope d room before next (t.CloseRound ∷ xs) σ e = absurd cc
 field_read p scope d room before next (t.Variable x ∷ xs) σ e = unless_read (placed_fault p scope room before next x) (t.Variable x ∷ xs) (Ok (with_field (place_feature next) x before, next + 1, xs)) (λ o. run o.2 (FieldOf p scope d (fewer room) o.0 o.1 ∷ σ))
 field_read p scope d room before next (t.Atom a ∷ xs) σ e =
@@ -87,7 +87,7 @@ field_read p scope d room before next [] σ e = refl
 field_read p scope d room before next (x ∷ xs) σ e = refl
 
 -- where there is no room, a field is a fault
-full : (p : Purpose) (scope : Scope) (before : Fields) (next : ℕ) (symbols : List Symbol) → is_round symbols ≡ false → (f : Fault) × (field_at p scope zero before next symbols ≡ Err f)
+full : (p : Purpose) (scope : Scope) (before : Fields) (next : ℕ) (symbols : List Symbol) → is_close_round symbols ≡ false → (f : Fault) × (field_at p scope zero before next symbols ≡ Err f)
 full p scope before next (t.CloseRound ∷ xs) e = absurd cc
 full p scope before next (t.Variable x ∷ xs) e = (_, refl)
 full p scope before next (t.Atom a ∷ xs) e = (_, refl)
@@ -96,7 +96,7 @@ full p scope before next (t.Integer (Some n) ∷ xs) e = (_, refl)
 full p scope before next [] e = (_, refl)
 full p scope before next (x ∷ xs) e = (_, refl)
 
-round_read : (p : Purpose) (scope : Scope) (d room : ℕ) (before : Fields) (next : ℕ) (symbols : List Symbol) (σ : List Point) → is_round symbols ≡ true → run symbols (FieldOf p scope d room before next ∷ σ) ≡ run (drop 1 symbols) (behind_fields p scope d before ++ σ)
+round_read : (p : Purpose) (scope : Scope) (d room : ℕ) (before : Fields) (next : ℕ) (symbols : List Symbol) (σ : List Point) → is_close_round symbols ≡ true → run symbols (FieldOf p scope d room before next ∷ σ) ≡ run (drop 1 symbols) (behind_fields p scope d before ++ σ)
 round_read p scope d room before next (t.CloseRound ∷ xs) σ e = refl
 round_read p scope d room before next symbols σ e = absurd cc
 
@@ -109,17 +109,17 @@ kept m = Ok (m.0, m.2)
 pub fields_read : (room : ℕ) (p : Purpose) (scope : Scope) (d : ℕ) (before : Fields) (next : ℕ) (symbols : List Symbol) (σ : List Point) → run symbols (FieldOf p scope d room before next ∷ σ) ≡ read_on (fields_at p scope room before next symbols) (λ m. run m.1 (behind_fields p scope d m.0 ++ σ))
 unfolding fields_at
 fields_read zero p scope d before next symbols σ =
-    let chosen : (b : Bool) → is_round symbols ≡ b → run symbols (FieldOf p scope d zero before next ∷ σ) ≡ read_on (cond b (Ok (before, drop 1 symbols)) (field_at p scope zero before next symbols >>= kept)) (λ m. run m.1 (behind_fields p scope d m.0 ++ σ)) = elim [
+    let chosen : (b : Bool) → is_close_round symbols ≡ b → run symbols (FieldOf p scope d zero before next ∷ σ) ≡ read_on (cond b (Ok (before, drop 1 symbols)) (field_at p scope zero before next symbols >>= kept)) (λ m. run m.1 (behind_fields p scope d m.0 ++ σ)) = elim [
       | true ↦ λ e. round_read p scope d zero before next symbols σ e
       | false ↦ λ e. let f = full p scope before next symbols e in field_read p scope d zero before next symbols σ e ∙ err_both (field_at p scope zero before next symbols) _ _ _ f.0 f.1
-    ] in chosen (is_round symbols) refl
+    ] in chosen (is_close_round symbols) refl
 fields_read (suc room) p scope d before next symbols σ =
-    let chosen : (b : Bool) → is_round symbols ≡ b → run symbols (FieldOf p scope d (suc room) before next ∷ σ) ≡ read_on (cond b (Ok (before, drop 1 symbols)) (field_at p scope (suc room) before next symbols >>= λ m. fields_at p scope room m.0 m.1 m.2)) (λ m. run m.1 (behind_fields p scope d m.0 ++ σ)) = elim [
+    let chosen : (b : Bool) → is_close_round symbols ≡ b → run symbols (FieldOf p scope d (suc room) before next ∷ σ) ≡ read_on (cond b (Ok (before, drop 1 symbols)) (field_at p scope (suc room) before next symbols >>= λ m. fields_at p scope room m.0 m.1 m.2)) (λ m. run m.1 (behind_fields p scope d m.0 ++ σ)) = elim [
       | true ↦ λ e. round_read p scope d (suc room) before next symbols σ e
       | false ↦ λ e.
           field_read p scope d (suc room) before next symbols σ e
           ∙ chain (field_at p scope (suc room) before next symbols) (λ m. fields_at p scope room m.0 m.1 m.2) (λ o. run o.2 (FieldOf p scope d room o.0 o.1 ∷ σ)) (λ m. run m.1 (behind_fields p scope d m.0 ++ σ)) (λ o. fields_read room p scope d o.0 o.1 o.2 σ)
-    ] in chosen (is_round symbols) refl
+    ] in chosen (is_close_round symbols) refl
 
 record_read : (left : ℕ) (a : List ℕ) (c : Closer) (scope : Scope) (d : ℕ) (symbols : List Symbol) (σ : List Point) → run symbols (BehindAtom c scope d ∷ σ) ≡ read_on (record_at left a scope symbols) (λ v. run v.1 (At Later c scope d ∷ σ))
 record_read left a c scope d (t.OpenRound ∷ xs) σ =
@@ -209,16 +209,16 @@ close_read (t.CloseCurly ∷ xs) scope σ = refl
 close_read [] scope σ = refl
 close_read (x ∷ xs) scope σ = refl
 
-wanted_name_read : (symbols : List Symbol) (scope : Scope) (k : ℕ) (σ : List Point) → run symbols (Wanted scope (suc k) ∷ σ) ≡ read_on (used_at what.Variable scope symbols) (λ v. run v.1 (Wanted scope k ∷ σ))
+wanted_name_read : (symbols : List Symbol) (scope : Scope) (k : ℕ) (σ : List Point) → run symbols (Wanted scope (suc k) ∷ σ) ≡ read_on (used_variable_at what.Variable scope symbols) (λ v. run v.1 (Wanted scope k ∷ σ))
 wanted_name_read (t.Variable x ∷ xs) scope k σ = unless_read (use_fault scope x) (t.Variable x ∷ xs) (Ok (declaration_of scope x, xs)) (λ v. run v.1 (Wanted scope k ∷ σ))
 wanted_name_read [] scope k σ = refl
 wanted_name_read (x ∷ xs) scope k σ = refl
 
-pub wanted_read : (k : ℕ) (scope : Scope) (before : List ℕ) (symbols : List Symbol) (σ : List Point) → run symbols (Wanted scope k ∷ σ) ≡ read_on (wanted_at scope k before symbols) (λ m. run m.1 σ)
+pub wanted_read : (k : ℕ) (scope : Scope) (before : List ℕ) (symbols : List Symbol) (σ : List Point) → run symbols (Wanted scope k ∷ σ) ≡ read_on (built_in_arguments_at scope k before symbols) (λ m. run m.1 σ)
 wanted_read zero scope before symbols σ = close_read symbols scope σ ∙ chain (close_at symbols) _ (λ rest. run rest σ) (λ m. run m.1 σ) (λ rest. refl)
 wanted_read (suc k) scope before symbols σ =
     wanted_name_read symbols scope k σ
-    ∙ chain (used_at what.Variable scope symbols) (λ v. wanted_at scope k (before ++ v.0 ∷ []) v.1) (λ v. run v.1 (Wanted scope k ∷ σ)) (λ m. run m.1 σ) (λ v. wanted_read k scope (before ++ v.0 ∷ []) v.1 σ)
+    ∙ chain (used_variable_at what.Variable scope symbols) (λ v. built_in_arguments_at scope k (before ++ v.0 ∷ []) v.1) (λ v. run v.1 (Wanted scope k ∷ σ)) (λ m. run m.1 σ) (λ v. wanted_read k scope (before ++ v.0 ∷ []) v.1 σ)
 
 pub site_read : (symbols : List Symbol) (σ : List Point) → run symbols (SiteHere ∷ σ) ≡ read_on (site_at symbols) (λ n. run n.1 σ)
 site_read (t.Integer n ∷ xs) σ = unless_read {X = ℤ × List Symbol} _ (t.Integer n ∷ xs) (Ok (value_of n, xs)) (λ v. run v.1 σ)

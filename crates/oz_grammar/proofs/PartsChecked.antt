@@ -17,7 +17,7 @@ use Rattle.oz_grammar.specs.Scoping.{Scope, Fields, declaration_of, built_in_at,
 use Rattle.oz_grammar.specs.Table.{value_row, pattern_of, call_row, plain_row}
 use Rattle.oz_grammar.specs.Faults.{where_so, number_fault, use_fault, count_fault, called_fault, argument_fault, formal_fault, room_fault, feature_token_fault, name_fault, placed_fault, fewer, feature_fault}
 use Rattle.oz_grammar.specs.Check.{check_fields, check_value, check_pattern, check_locals, check_formals, check_arguments, check_uses, check_call, check_plain}
-use Rattle.oz_grammar.specs.Reading.{◌>>=◌, fault_or, used_at, behind_at, field_at, fields_at, record_at, value_at, locals_at, formals_at, arguments_at, wanted_at, Reader, call_of, value_at, pattern_at, kind_at, right_at}
+use Rattle.oz_grammar.specs.Reading.{◌>>=◌, fault_or, used_variable_at, behind_at, field_at, fields_at, record_at, value_at, locals_at, formals_at, arguments_at, built_in_arguments_at, Reader, call_of, value_at, pattern_at, kind_at, right_at}
 use Rattle.oz_grammar.proofs.FieldOrder.{stopped, or_neither}
 use Rattle.oz_grammar.proofs.Heads.{ends_value}
 
@@ -45,7 +45,7 @@ atom_ends left a scope [] e = refl
 atom_ends left a scope (t.OpenRound ∷ rest) e = absurd cc
 atom_ends left a scope (x ∷ rest) e = refl
 
-pub used_read : (w : What) (scope : Scope) (x : Identifier) (rest : List Symbol) → use_fault scope x ≡ None → used_at w scope (t.Variable x ∷ rest) ≡ Ok (declaration_of scope x, rest)
+pub used_read : (w : What) (scope : Scope) (x : Identifier) (rest : List Symbol) → use_fault scope x ≡ None → used_variable_at w scope (t.Variable x ∷ rest) ≡ Ok (declaration_of scope x, rest)
 used_read w scope x rest e = passes (use_fault scope x) (t.Variable x ∷ rest) (Ok (declaration_of scope x, rest)) e
 
 fields_end : (p : Purpose) (scope : Scope) (room : ℕ) (before : Fields) (next : ℕ) (rest : List Symbol) → fields_at p scope room before next (t.CloseRound ∷ rest) ≡ Ok (before, rest)
@@ -101,7 +101,7 @@ fields_read (WithFeature m x ∷ fs) p scope room before next rest behind e =
 value_read : (v : Value) (left : ℕ) (scope : Scope) (rest : List Symbol) (behind : Option Fault) → check_value v scope rest behind ≡ None → ends_value rest ≡ true → value_at left scope (value_text v rest) ≡ Ok (value_row left v scope, rest)
 value_read (ToVar y) left scope rest behind e over =
     let s = stopped (use_fault scope y) _ behind e in
-    then_read (used_at what.Value scope (t.Variable y ∷ rest)) _ (declaration_of scope y, rest) _ (used_read what.Value scope y rest s.0) (variable_ends left (declaration_of scope y) scope rest over)
+    then_read (used_variable_at what.Value scope (t.Variable y ∷ rest)) _ (declaration_of scope y, rest) _ (used_read what.Value scope y rest s.0) (variable_ends left (declaration_of scope y) scope rest over)
 value_read (Calculates y o z) left scope rest behind e over =
     let s = stopped (use_fault scope y) _ _ e in
     let u = stopped (use_fault scope z) _ behind s.1 in
@@ -150,14 +150,14 @@ arguments_read (x ∷ xs) scope n before rest behind is e =
     ∙ rw (append_assoc before (declaration_of scope x ∷ []) (map (declaration_of scope) xs)) refl
 
 wanted_read : (xs : List Identifier) (scope : Scope) (k : ℕ) (before : List ℕ) (rest : List Symbol) (behind : Option Fault) → length xs ≡ k → check_uses scope xs (t.CloseCurly ∷ rest) behind ≡ None
-    → wanted_at scope k before (names_text xs (t.CloseCurly ∷ rest)) ≡ Ok (before ++ map (declaration_of scope) xs, rest)
+    → built_in_arguments_at scope k before (names_text xs (t.CloseCurly ∷ rest)) ≡ Ok (before ++ map (declaration_of scope) xs, rest)
 wanted_read [] scope zero before rest behind is e = rw (append-nil before) refl
 wanted_read [] scope (suc k) before rest behind is e = absurd cc
 wanted_read (x ∷ xs) scope zero before rest behind is e = absurd cc
 wanted_read (x ∷ xs) scope (suc k) before rest behind is e =
     let s = stopped (use_fault scope x) _ _ e in
     let fewer_left : length xs ≡ k = omega (arith, is) in
-    then_read (used_at what.Variable scope (t.Variable x ∷ names_text xs (t.CloseCurly ∷ rest))) _ (declaration_of scope x, names_text xs (t.CloseCurly ∷ rest)) _ (used_read what.Variable scope x (names_text xs (t.CloseCurly ∷ rest)) s.0)
+    then_read (used_variable_at what.Variable scope (t.Variable x ∷ names_text xs (t.CloseCurly ∷ rest))) _ (declaration_of scope x, names_text xs (t.CloseCurly ∷ rest)) _ (used_read what.Variable scope x (names_text xs (t.CloseCurly ∷ rest)) s.0)
     (wanted_read xs scope k (before ++ declaration_of scope x ∷ []) rest behind fewer_left s.1 ∙ rw (append_assoc before (declaration_of scope x ∷ []) (map (declaration_of scope) xs)) refl)
 
 -- ---- statements without bodies
@@ -183,7 +183,7 @@ pub plain_read : (inner : Reader) (s : Plain) (scope : Scope) (rows : List Stmt)
 plain_read inner Skips scope rows w rest behind derives e over = refl
 plain_read inner (Tells x v) scope rows w rest behind derives e over =
     let s = stopped (use_fault scope x) _ _ e in
-    then_read (used_at what.Statement scope (t.Variable x ∷ t.Equals ∷ value_text v rest)) _ (declaration_of scope x, t.Equals ∷ value_text v rest) _ (used_read what.Statement scope x (t.Equals ∷ value_text v rest) s.0)
+    then_read (used_variable_at what.Statement scope (t.Variable x ∷ t.Equals ∷ value_text v rest)) _ (declaration_of scope x, t.Equals ∷ value_text v rest) _ (used_read what.Statement scope x (t.Equals ∷ value_text v rest) s.0)
     (right_read inner v (declaration_of scope x) scope rows rest behind s.1 over)
 plain_read inner (Calls p xs) scope rows w rest behind derives e over =
     let s = stopped (called_fault (built_in_at scope p) scope p) _ _ e in

@@ -21,9 +21,9 @@ use Rattle.oz_grammar.specs.declared.fault.FaultKind.TheVariants.{Deep}
 use Rattle.oz_grammar.specs.Grammar.{Identifier, FeatureToken, AtomFeature, IntFeature}
 use Rattle.oz_grammar.specs.Scoping.{Scope, Fields, declaration_of, built_in_at, arity_of}
 use Rattle.oz_grammar.specs.Faults.{fault_here}
-use Rattle.oz_grammar.specs.Points.{expected_after, expects_sign, is_sign}
+use Rattle.oz_grammar.specs.Points.{expected_after, expected_sign, is_sign}
 use Rattle.oz_grammar.specs.Table.{code_at}
-use Rattle.oz_grammar.specs.Reading.{◌>>=◌, fault_expected, fault_or, sign_at, used_at, selection_at, behind_at, field_name_at, named_field_at, field_at, is_round, fields_at, record_at, value_at, locals_at, first_local_at, formals_at, arguments_at, close_at, wanted_at, Out, Reader, call_of, call_at, raise_at, is_end_of, more_at, with_numbers, seq_from, seq_at, local_at, procedure_at, proc_value_at, proc_at, right_at, tell_at, with_second, branches_at, if_at, pair_pattern_at, record_pattern_at, pattern_at, case_at, site_at, thread_at, caught_at, try_at, kind_at, begins_at, stmt_at}
+use Rattle.oz_grammar.specs.Reading.{◌>>=◌, fault_expected, fault_or, sign_at, used_variable_at, selection_at, behind_at, field_name_at, named_field_at, field_at, is_close_round, fields_at, record_at, value_at, locals_at, first_local_at, formals_at, arguments_at, close_at, built_in_arguments_at, Out, Reader, call_of, call_at, raise_at, is_end_of, more_at, with_numbers, seq_from, seq_at, local_at, procedure_at, proc_value_at, proc_at, right_at, tell_at, with_second, branches_at, if_at, pair_pattern_at, record_pattern_at, pattern_at, case_at, site_at, thread_at, catch_name_at, try_at, kind_at, is_at_statement, stmt_at}
 
 -- what is read leaves at most n symbols
 abbrev pub Leaves : {X : Type 0} → (X → List Symbol) → ℕ → Result X Fault → Type 0
@@ -48,9 +48,9 @@ itself xs = xs
 
 sign_short : (s : Sign) (symbols : List Symbol) (n : ℕ) → length symbols ≤ n → Leaves itself n (sign_at s symbols)
 sign_short s [] n le = tt
-sign_short s (x ∷ xs) n le = elim (is_sign s x) as (λ b. Leaves itself n (cond b (Ok xs) (fault_expected (expects_sign s) (x ∷ xs)))) [ true ↦ let h : length xs ≤ n = omega arith in h | false ↦ tt ]
+sign_short s (x ∷ xs) n le = elim (is_sign s x) as (λ b. Leaves itself n (cond b (Ok xs) (fault_expected (expected_sign s) (x ∷ xs)))) [ true ↦ let h : length xs ≤ n = omega arith in h | false ↦ tt ]
 
-used_short : (w : What) (scope : Scope) (symbols : List Symbol) (n : ℕ) → length symbols ≤ suc n → Leaves second n (used_at w scope symbols)
+used_short : (w : What) (scope : Scope) (symbols : List Symbol) (n : ℕ) → length symbols ≤ suc n → Leaves second n (used_variable_at w scope symbols)
 used_short w scope (t.Variable x ∷ xs) n le = leaves_unless second n _ (t.Variable x ∷ xs) (Ok (declaration_of scope x, xs)) (omega arith)
 used_short w scope symbols n le = tt
 
@@ -61,9 +61,9 @@ selection_short scope (t.Integer i ∷ xs) n le = leaves_unless second n _ (t.In
 selection_short scope symbols n le = tt
 
 behind_short : (left a : ℕ) (scope : Scope) (symbols : List Symbol) (n : ℕ) → length symbols ≤ n → Leaves second n (behind_at left a scope symbols)
-behind_short left a scope (t.Operator o ∷ xs) n le = leaves_then second second n n (used_at what.Variable scope xs) _ (used_short what.Variable scope xs n (omega arith)) (λ z h. h)
+behind_short left a scope (t.Operator o ∷ xs) n le = leaves_then second second n n (used_variable_at what.Variable scope xs) _ (used_short what.Variable scope xs n (omega arith)) (λ z h. h)
 behind_short left a scope (t.Dot ∷ xs) n le = leaves_then second second n n (selection_at scope xs) _ (selection_short scope xs n (omega arith)) (λ z h. h)
-behind_short left a scope (t.Bar ∷ xs) n le = leaves_then second second n n (used_at what.Variable scope xs) _ (used_short what.Variable scope xs n (omega arith)) (λ z h. h)
+behind_short left a scope (t.Bar ∷ xs) n le = leaves_then second second n n (used_variable_at what.Variable scope xs) _ (used_short what.Variable scope xs n (omega arith)) (λ z h. h)
 behind_short left a scope xs n le = le
 
 field_name_short : (p : Purpose) (scope : Scope) (before : Fields) (next : ℕ) (m : FeatureToken) (symbols : List Symbol) (n : ℕ) → length symbols ≤ n → Leaves third n (field_name_at p scope before next m symbols)
@@ -86,12 +86,12 @@ drop_short (x ∷ xs) n le = omega arith
 fields_short : (room : ℕ) (p : Purpose) (scope : Scope) (before : Fields) (next : ℕ) (symbols : List Symbol) (n : ℕ) → length symbols ≤ n → Leaves second n (fields_at p scope room before next symbols)
 unfolding fields_at
 fields_short zero p scope before next symbols n le =
-    elim (is_round symbols) as (λ b. Leaves second n (cond b (Ok (before, drop 1 symbols)) (field_at p scope zero before next symbols >>= λ m. Ok (m.0, m.2)))) [
+    elim (is_close_round symbols) as (λ b. Leaves second n (cond b (Ok (before, drop 1 symbols)) (field_at p scope zero before next symbols >>= λ m. Ok (m.0, m.2)))) [
       | true ↦ drop_short symbols n le
       | false ↦ leaves_then third second n n (field_at p scope zero before next symbols) _ (field_short p scope zero before next symbols n le) (λ m h. h)
     ]
 fields_short (suc room) p scope before next symbols n le =
-    elim (is_round symbols) as (λ b. Leaves second n (cond b (Ok (before, drop 1 symbols)) (field_at p scope (suc room) before next symbols >>= λ m. fields_at p scope room m.0 m.1 m.2))) [
+    elim (is_close_round symbols) as (λ b. Leaves second n (cond b (Ok (before, drop 1 symbols)) (field_at p scope (suc room) before next symbols >>= λ m. fields_at p scope room m.0 m.1 m.2))) [
       | true ↦ drop_short symbols n le
       | false ↦ leaves_then third second n n (field_at p scope (suc room) before next symbols) _ (field_short p scope (suc room) before next symbols n le) (λ m h. fields_short room p scope m.0 m.1 m.2 n h)
     ]
@@ -101,7 +101,7 @@ record_short left a scope (t.OpenRound ∷ xs) n le = leaves_then second second 
 record_short left a scope xs n le = le
 
 value_short : (left : ℕ) (scope : Scope) (symbols : List Symbol) (n : ℕ) → length symbols ≤ suc n → Leaves second n (value_at left scope symbols)
-value_short left scope (t.Variable y ∷ xs) n le = leaves_then second second n n (used_at what.Value scope (t.Variable y ∷ xs)) _ (used_short what.Value scope (t.Variable y ∷ xs) n le) (λ v h. behind_short left v.0 scope v.1 n h)
+value_short left scope (t.Variable y ∷ xs) n le = leaves_then second second n n (used_variable_at what.Value scope (t.Variable y ∷ xs)) _ (used_short what.Value scope (t.Variable y ∷ xs) n le) (λ v h. behind_short left v.0 scope v.1 n h)
 value_short left scope (t.Integer i ∷ xs) n le = leaves_unless second n _ (t.Integer i ∷ xs) (Ok (_, xs)) (omega arith)
 value_short left scope (t.Atom a ∷ xs) n le = record_short left a scope xs n (omega arith)
 value_short left scope symbols n le = tt
@@ -129,9 +129,9 @@ close_short : (symbols : List Symbol) (n : ℕ) → length symbols ≤ n → Lea
 close_short (t.CloseCurly ∷ xs) n le = let h : length xs ≤ n = omega arith in h
 close_short symbols n le = tt
 
-wanted_short : (k : ℕ) (scope : Scope) (before : List ℕ) (symbols : List Symbol) (n : ℕ) → length symbols ≤ n → Leaves second n (wanted_at scope k before symbols)
+wanted_short : (k : ℕ) (scope : Scope) (before : List ℕ) (symbols : List Symbol) (n : ℕ) → length symbols ≤ n → Leaves second n (built_in_arguments_at scope k before symbols)
 wanted_short zero scope before symbols n le = leaves_then itself second n n (close_at symbols) _ (close_short symbols n le) (λ rest h. h)
-wanted_short (suc k) scope before symbols n le = leaves_then second second n n (used_at what.Variable scope symbols) _ (used_short what.Variable scope symbols n (omega arith)) (λ v h. wanted_short k scope (before ++ v.0 ∷ []) v.1 n h)
+wanted_short (suc k) scope before symbols n le = leaves_then second second n n (used_variable_at what.Variable scope symbols) _ (used_short what.Variable scope symbols n (omega arith)) (λ v h. wanted_short k scope (before ++ v.0 ∷ []) v.1 n h)
 
 -- ---- statements
 
@@ -140,7 +140,7 @@ abbrev pub ReaderShort : Reader → Type 0
 ReaderShort inner = (scope : Scope) (rows : List Stmt) (w : What) (symbols : List Symbol) (n : ℕ) → length symbols ≤ suc n → Leaves second n (inner scope rows w symbols)
 
 call_short : (o : Option BuiltIn) (callee : ℕ) (scope : Scope) (rows : List Stmt) (symbols : List Symbol) (n : ℕ) → length symbols ≤ n → Leaves second n (call_of o callee scope rows symbols)
-call_short (Some b) callee scope rows symbols n le = leaves_then second second n n (wanted_at scope (arity_of b) [] symbols) _ (wanted_short (arity_of b) scope [] symbols n le) (λ m h. h)
+call_short (Some b) callee scope rows symbols n le = leaves_then second second n n (built_in_arguments_at scope (arity_of b) [] symbols) _ (wanted_short (arity_of b) scope [] symbols n le) (λ m h. h)
 call_short None callee scope rows symbols n le = leaves_then second second n n (arguments_at scope [] symbols) _ (arguments_short symbols scope [] n le) (λ m h. h)
 
 curly_short : (scope : Scope) (rows : List Stmt) (symbols : List Symbol) (n : ℕ) → length symbols ≤ n → Leaves second n (call_at scope rows symbols)
@@ -149,7 +149,7 @@ curly_short scope rows symbols n le = tt
 
 raise_short : (scope : Scope) (rows : List Stmt) (symbols : List Symbol) (n : ℕ) → length symbols ≤ n → Leaves second n (raise_at scope rows symbols)
 raise_short scope rows symbols n le =
-    leaves_then second second n n (used_at what.Variable scope symbols) _ (used_short what.Variable scope symbols n (omega arith)) (λ x h.
+    leaves_then second second n n (used_variable_at what.Variable scope symbols) _ (used_short what.Variable scope symbols n (omega arith)) (λ x h.
     leaves_then itself second n n (sign_at sign.End x.1) _ (sign_short sign.End x.1 n h) (λ rest g. g))
 
 more_short : (inner : Reader) (short : ReaderShort inner) (c : Closer) (place : ℕ) (scope : Scope) (fuel : ℕ) (ids : List CodeId) (rows : List Stmt) (symbols : List Symbol) (n : ℕ) → length symbols ≤ n → Leaves third n (more_at inner c place scope fuel ids rows symbols)
@@ -186,7 +186,7 @@ local_short inner short scope rows symbols n le = leaves_then second second n n 
 proc_short : (inner : Reader) (short : ReaderShort inner) (scope : Scope) (rows : List Stmt) (symbols : List Symbol) (n : ℕ) → length symbols ≤ n → Leaves second n (proc_at inner scope rows symbols)
 proc_short inner short scope rows symbols n le =
     leaves_then itself second n n (sign_at sign.OpenCurly symbols) _ (sign_short sign.OpenCurly symbols n le) (λ a h.
-    leaves_then second second n n (used_at what.Variable scope a) _ (used_short what.Variable scope a n (omega arith)) (λ x g. procedure_short inner short x.0 scope rows x.1 n g))
+    leaves_then second second n n (used_variable_at what.Variable scope a) _ (used_short what.Variable scope a n (omega arith)) (λ x g. procedure_short inner short x.0 scope rows x.1 n g))
 
 proc_value_short : (inner : Reader) (short : ReaderShort inner) (left : ℕ) (scope : Scope) (rows : List Stmt) (symbols : List Symbol) (n : ℕ) → length symbols ≤ n → Leaves second n (proc_value_at inner left scope rows symbols)
 proc_value_short inner short left scope rows symbols n le =
@@ -202,7 +202,7 @@ right_short inner short left scope rows symbols n le = leaves_then second (secon
 
 tell_short : (inner : Reader) (short : ReaderShort inner) (scope : Scope) (rows : List Stmt) (symbols : List Symbol) (n : ℕ) → length symbols ≤ suc n → Leaves second n (tell_at inner scope rows symbols)
 tell_short inner short scope rows symbols n le =
-    leaves_then second second n n (used_at what.Statement scope symbols) _ (used_short what.Statement scope symbols n le) (λ x h.
+    leaves_then second second n n (used_variable_at what.Statement scope symbols) _ (used_short what.Statement scope symbols n le) (λ x h.
     leaves_then itself second n n (sign_at sign.Equals x.1) _ (sign_short sign.Equals x.1 n h) (λ rest g. right_short inner short x.0 scope rows rest n g))
 
 branches_short : (inner : Reader) (short : ReaderShort inner) (row : Stmt) (chosen scope : Scope) (rows : List Stmt) (symbols : List Symbol) (n : ℕ) → length symbols ≤ n → Leaves second n (branches_at inner row chosen scope rows symbols)
@@ -211,7 +211,7 @@ branches_short inner short row chosen scope rows symbols n le =
 
 if_short : (inner : Reader) (short : ReaderShort inner) (scope : Scope) (rows : List Stmt) (symbols : List Symbol) (n : ℕ) → length symbols ≤ n → Leaves second n (if_at inner scope rows symbols)
 if_short inner short scope rows symbols n le =
-    leaves_then second second n n (used_at what.Variable scope symbols) _ (used_short what.Variable scope symbols n (omega arith)) (λ x h.
+    leaves_then second second n n (used_variable_at what.Variable scope symbols) _ (used_short what.Variable scope symbols n (omega arith)) (λ x h.
     leaves_then itself second n n (sign_at sign.Then x.1) _ (sign_short sign.Then x.1 n h) (λ rest g. branches_short inner short _ scope scope rows rest n g))
 
 pair_short : (x : Identifier) (symbols : List Symbol) (n : ℕ) → length symbols ≤ n → Leaves third n (pair_pattern_at x symbols)
@@ -230,7 +230,7 @@ pattern_short scope symbols n le = tt
 
 case_short : (inner : Reader) (short : ReaderShort inner) (scope : Scope) (rows : List Stmt) (symbols : List Symbol) (n : ℕ) → length symbols ≤ n → Leaves second n (case_at inner scope rows symbols)
 case_short inner short scope rows symbols n le =
-    leaves_then second second n n (used_at what.Variable scope symbols) _ (used_short what.Variable scope symbols n (omega arith)) (λ x h.
+    leaves_then second second n n (used_variable_at what.Variable scope symbols) _ (used_short what.Variable scope symbols n (omega arith)) (λ x h.
     leaves_then itself second n n (sign_at sign.Of x.1) _ (sign_short sign.Of x.1 n h) (λ a g.
     leaves_then third second n n (pattern_at scope a) _ (pattern_short scope a n g) (λ m f.
     leaves_then itself second n n (sign_at sign.Then m.2) _ (sign_short sign.Then m.2 n f) (λ rest e. branches_short inner short _ (scope ++ m.1) scope rows rest n e))))
@@ -243,14 +243,14 @@ thread_short : (inner : Reader) (short : ReaderShort inner) (scope : Scope) (row
 thread_short inner short scope rows (t.At ∷ xs) n le = leaves_then second second n n (site_at xs) _ (site_short xs n (omega arith)) (λ i h. seq_short inner short closer.End scope _ what.Statement i.1 n h)
 thread_short inner short scope rows symbols n le = seq_short inner short closer.End scope _ what.StatementOrAt symbols n le
 
-caught_short : (symbols : List Symbol) (n : ℕ) → length symbols ≤ n → Leaves second n (caught_at symbols)
+caught_short : (symbols : List Symbol) (n : ℕ) → length symbols ≤ n → Leaves second n (catch_name_at symbols)
 caught_short (t.Variable x ∷ xs) n le = let h : length xs ≤ n = omega arith in h
 caught_short symbols n le = tt
 
 try_short : (inner : Reader) (short : ReaderShort inner) (scope : Scope) (rows : List Stmt) (symbols : List Symbol) (n : ℕ) → length symbols ≤ n → Leaves second n (try_at inner scope rows symbols)
 try_short inner short scope rows symbols n le =
     leaves_then second second n n (seq_at inner closer.Catch scope _ what.Statement symbols) _ (seq_short inner short closer.Catch scope _ what.Statement symbols n le) (λ b h.
-    leaves_then second second n n (caught_at b.1) _ (caught_short b.1 n h) (λ x g.
+    leaves_then second second n n (catch_name_at b.1) _ (caught_short b.1 n h) (λ x g.
     leaves_then itself second n n (sign_at sign.Then x.1) _ (sign_short sign.Then x.1 n g) (λ rest e. seq_short inner short closer.End (scope ++ x.0 ∷ []) (with_second (length rows) b.0) what.Statement rest n e)))
 
 kind_short : (inner : Reader) (short : ReaderShort inner) → ReaderShort (kind_at inner)
@@ -268,5 +268,5 @@ kind_short inner short scope rows w symbols n le = tt
 
 pub stmt_short : (d : ℕ) → ReaderShort (stmt_at d)
 unfolding stmt_at
-stmt_short zero scope rows w symbols n le = elim (begins_at symbols) as (λ b. Leaves {X = Out} second n (cond b (Err (fault_here Deep symbols)) (fault_expected w symbols))) [ true ↦ tt | false ↦ tt ]
+stmt_short zero scope rows w symbols n le = elim (is_at_statement symbols) as (λ b. Leaves {X = Out} second n (cond b (Err (fault_here Deep symbols)) (fault_expected w symbols))) [ true ↦ tt | false ↦ tt ]
 stmt_short (suc d) scope rows w symbols n le = kind_short (stmt_at d) (stmt_short d) scope rows w symbols n le

@@ -17,7 +17,7 @@ use Rattle.oz_grammar.specs.Table.{code_at, opening_row, choice_row, program_tab
 use Rattle.oz_grammar.specs.Faults.{use_fault, site_fault, deep_fault, fewer}
 use Rattle.oz_grammar.specs.Check.{check_opening, check_choice, check_pattern, check_stmt, check_seq, check}
 use Rattle.oz_grammar.specs.Points.{expected_after}
-use Rattle.oz_grammar.specs.Reading.{Out, Reader, is_end_of, begins_at, more_at, with_numbers, seq_from, seq_at, body_at, procedure_at, set_second, with_second, branches_at, kind_at, stmt_at, program_at}
+use Rattle.oz_grammar.specs.Reading.{Out, Reader, is_end_of, is_at_statement, more_at, with_numbers, seq_from, seq_at, body_at, procedure_at, set_second, with_second, branches_at, kind_at, stmt_at, program_at}
 use Rattle.oz_grammar.proofs.FieldOrder.{stopped}
 use Rattle.oz_grammar.proofs.Heads.{ends_value}
 use Rattle.oz_grammar.proofs.TreeRuns.{ends_closer, ends_seq}
@@ -35,7 +35,7 @@ expected_in Threads = what.StatementOrAt
 expected_in o = what.Statement
 
 -- a body begins with a statement, and so with no `at`
-thread_body : (inner : Reader) (scope : Scope) (rows : List Stmt) (w : What) (mid : List Symbol) → begins_at mid ≡ true
+thread_body : (inner : Reader) (scope : Scope) (rows : List Stmt) (w : What) (mid : List Symbol) → is_at_statement mid ≡ true
     → kind_at inner scope rows w (t.Thread ∷ mid) ≡ body_at inner scope (rows ++ stmt.Thread None (code_at 1) ∷ []) what.StatementOrAt mid
 thread_body inner scope rows w [] e = cc
 thread_body inner scope rows w (t.At ∷ mid) e = absurd cc
@@ -45,7 +45,7 @@ procedure_read : (inner : Reader) (left : ℕ) (xs : List Identifier) (scope : S
     → procedure_at inner left scope rows (Rattle.oz_grammar.specs.Grammar.names_text xs (t.CloseCurly ∷ mid)) ≡ body_at inner (scope ++ xs) (rows ++ stmt.TellProc left (length scope) (length xs) (code_at 1) ∷ []) what.Statement mid
 procedure_read inner left xs scope rows mid behind e = rw (formals_read xs [] mid behind e) refl
 
-opening_read : (inner : Reader) (o : Opening) (scope : Scope) (rows : List Stmt) (w : What) (mid : List Symbol) (behind : Option Fault) → begins_at mid ≡ true → check_opening o scope mid behind ≡ None
+opening_read : (inner : Reader) (o : Opening) (scope : Scope) (rows : List Stmt) (w : What) (mid : List Symbol) (behind : Option Fault) → is_at_statement mid ≡ true → check_opening o scope mid behind ≡ None
     → kind_at inner scope rows w (opening_text o mid) ≡ body_at inner (opening_scope o scope) (rows ++ opening_row o scope (code_at 1) ∷ []) (expected_in o) mid
 unfolding expected_in
 opening_read inner (Locals x xs) scope rows w mid behind begins e = rw (locals_read xs (x ∷ []) mid behind e) refl
@@ -67,7 +67,7 @@ choice_read inner (Cases x p) scope rows w mid behind e =
 
 -- ---- first symbols
 
-begins_stmt : (s : Statement) (rest : List Symbol) → begins_at (stmt_text s rest) ≡ true
+begins_stmt : (s : Statement) (rest : List Symbol) → is_at_statement (stmt_text s rest) ≡ true
 begins_stmt (Simple Skips) rest = refl
 begins_stmt (Simple (Tells x v)) rest = refl
 begins_stmt (Simple (Calls p xs)) rest = refl
@@ -81,12 +81,12 @@ begins_stmt (Chooses (Ifs x) q r) rest = refl
 begins_stmt (Chooses (Cases x p) q r) rest = refl
 begins_stmt (Tries q x r) rest = refl
 
-begins_seq : (q : Sequence) (rest : List Symbol) → begins_at (seq_text q rest) ≡ true
+begins_seq : (q : Sequence) (rest : List Symbol) → is_at_statement (seq_text q rest) ≡ true
 begins_seq (One s) rest = begins_stmt s rest
 begins_seq (Then s q) rest = begins_stmt s (seq_text q rest)
 
 -- what begins a statement closes nothing
-begun_open : (c : Closer) (symbols : List Symbol) → begins_at symbols ≡ true → is_end_of c symbols ≡ false
+begun_open : (c : Closer) (symbols : List Symbol) → is_at_statement symbols ≡ true → is_end_of c symbols ≡ false
 begun_open c [] e = cc
 begun_open closer.End (t.End ∷ rest) e = absurd cc
 begun_open closer.End (x ∷ rest) e = refl

@@ -18,9 +18,9 @@ use Rattle.oz_grammar.specs.Grammar.{Identifier}
 use Rattle.oz_grammar.specs.Scoping.{Scope, declaration_of, built_in_at, arity_of}
 use Rattle.oz_grammar.specs.Faults.{use_fault, called_fault, fault_here}
 use Rattle.oz_grammar.specs.Check.{first_fault}
-use Rattle.oz_grammar.specs.Points.{Stage, First, AfterThread, Later, Point, At, Here, Used, LocalName, ValueOf, CallName, PatternOf, ProcName, Formals, CatchName, expected_after, expects_stmt, begins_statement, beside, next_call, refusal, run_step, run, start}
+use Rattle.oz_grammar.specs.Points.{Stage, First, AfterThread, Later, Point, At, Here, Used, LocalName, ValueOf, CallName, PatternOf, ProcName, Formals, CatchName, expected_after, expected_statement, is_statement_start, beside, next_call, mismatch, run_step, run, start}
 use Rattle.oz_grammar.specs.Table.{code_at}
-use Rattle.oz_grammar.specs.Reading.{◌>>=◌, fault_expected, sign_at, used_at, value_at, first_local_at, formals_at, arguments_at, wanted_at, pattern_at, site_at, Out, Reader, call_of, call_at, raise_at, is_end_of, more_at, with_numbers, seq_from, seq_at, body_at, local_at, procedure_at, proc_value_at, proc_at, right_at, tell_at, with_second, branches_at, if_at, case_at, thread_at, caught_at, try_at, kind_at, stmt_at, shift_rows, program_at}
+use Rattle.oz_grammar.specs.Reading.{◌>>=◌, fault_expected, sign_at, used_variable_at, value_at, first_local_at, formals_at, arguments_at, built_in_arguments_at, pattern_at, site_at, Out, Reader, call_of, call_at, raise_at, is_end_of, more_at, with_numbers, seq_from, seq_at, body_at, local_at, procedure_at, proc_value_at, proc_at, right_at, tell_at, with_second, branches_at, if_at, case_at, thread_at, catch_name_at, try_at, kind_at, stmt_at, shift_rows, program_at}
 use Rattle.oz_grammar.proofs.TreeRuns.{closer_run}
 use Rattle.oz_grammar.proofs.Derivations.{closer_is, no_truth}
 use Rattle.oz_grammar.proofs.Shorter.{ReaderShort, told_at, stmt_short}
@@ -45,11 +45,11 @@ closes_run c scope d (x ∷ xs) σ e = ap (λ (y : Symbol). run (y ∷ xs) (At L
 
 -- a reader of statements reads as the point does
 abbrev pub ReaderLaw : Reader → ℕ → Type 0
-ReaderLaw inner d = (stage : Stage) (c : Closer) (scope : Scope) (rows : List Stmt) (w : What) (symbols : List Symbol) (σ : List Point) → w ≡ expects_stmt stage c → NothingBeside stage c scope d symbols → run symbols (At stage c scope d ∷ σ) ≡ read_on (inner scope rows w symbols) (λ s. run s.1 (At Later c scope d ∷ σ))
+ReaderLaw inner d = (stage : Stage) (c : Closer) (scope : Scope) (rows : List Stmt) (w : What) (symbols : List Symbol) (σ : List Point) → w ≡ expected_statement stage c → NothingBeside stage c scope d symbols → run symbols (At stage c scope d ∷ σ) ≡ read_on (inner scope rows w symbols) (λ s. run s.1 (At Later c scope d ∷ σ))
 
 -- .. and so does one of sequences
 abbrev pub BodyLaw : Reader → ℕ → Type 0
-BodyLaw inner d = (stage : Stage) (c : Closer) (scope : Scope) (rows : List Stmt) (w : What) (symbols : List Symbol) (σ : List Point) → w ≡ expects_stmt stage c → NothingBeside stage c scope d symbols → run symbols (At stage c scope d ∷ σ) ≡ read_on (seq_at inner c scope rows w symbols) (λ s. run s.1 σ)
+BodyLaw inner d = (stage : Stage) (c : Closer) (scope : Scope) (rows : List Stmt) (w : What) (symbols : List Symbol) (σ : List Point) → w ≡ expected_statement stage c → NothingBeside stage c scope d symbols → run symbols (At stage c scope d ∷ σ) ≡ read_on (seq_at inner c scope rows w symbols) (λ s. run s.1 σ)
 
 -- ---- sequences
 
@@ -113,7 +113,7 @@ local_read inner d body scope rows symbols τ =
     first_local_read symbols scope d τ
     ∙ chain (first_local_at symbols) _ (λ m. run m.1 (At First closer.End (scope ++ m.0) d ∷ τ)) (λ s. run s.1 τ) (λ m. body First closer.End (scope ++ m.0) _ what.Statement m.1 τ refl (first_beside closer.End (scope ++ m.0) d m.1))
 
-proc_name_read : (scope : Scope) (d : ℕ) (symbols : List Symbol) (τ : List Point) → run symbols (ProcName scope d ∷ τ) ≡ read_on (used_at what.Variable scope symbols) (λ v. run v.1 (Formals scope [] d ∷ τ))
+proc_name_read : (scope : Scope) (d : ℕ) (symbols : List Symbol) (τ : List Point) → run symbols (ProcName scope d ∷ τ) ≡ read_on (used_variable_at what.Variable scope symbols) (λ v. run v.1 (Formals scope [] d ∷ τ))
 proc_name_read scope d (t.Variable x ∷ xs) τ = unless_read (use_fault scope x) (t.Variable x ∷ xs) (Ok (declaration_of scope x, xs)) (λ v. run v.1 (Formals scope [] d ∷ τ))
 proc_name_read scope d [] τ = refl
 proc_name_read scope d (x ∷ xs) τ = refl
@@ -123,7 +123,7 @@ proc_read inner d body scope rows symbols τ =
     sign_read sign.OpenCurly symbols (ProcName scope d ∷ τ)
     ∙ chain (sign_at sign.OpenCurly symbols) _ (λ rest. run rest (ProcName scope d ∷ τ)) (λ s. run s.1 τ) (λ a.
     proc_name_read scope d a τ
-    ∙ chain (used_at what.Variable scope a) (λ x. procedure_at inner x.0 scope rows x.1) (λ v. run v.1 (Formals scope [] d ∷ τ)) (λ s. run s.1 τ) (λ x. procedure_read inner d body x.0 scope rows x.1 τ))
+    ∙ chain (used_variable_at what.Variable scope a) (λ x. procedure_at inner x.0 scope rows x.1) (λ v. run v.1 (Formals scope [] d ∷ τ)) (λ s. run s.1 τ) (λ x. procedure_read inner d body x.0 scope rows x.1 τ))
 
 proc_value_read : (inner : Reader) (d : ℕ) (body : BodyLaw inner d) (left : ℕ) (scope : Scope) (rows : List Stmt) (symbols : List Symbol) (τ : List Point) → run symbols (Here sign.OpenCurly ∷ Here sign.Dollar ∷ Formals scope [] d ∷ τ) ≡ read_on (proc_value_at inner left scope rows symbols) (λ s. run s.1 τ)
 proc_value_read inner d body left scope rows symbols τ =
@@ -147,7 +147,7 @@ tell_read inner d body c scope rows x xs σ =
     ∙ chain (sign_at sign.Equals xs) _ (λ rest. run rest (ValueOf c scope (suc d) ∷ σ)) (λ s. run s.1 (At Later c scope (suc d) ∷ σ)) (λ rest. right_read inner d body (declaration_of scope x) c scope rows rest σ))
 
 call_read : (o : Option BuiltIn) (callee : ℕ) (scope : Scope) (rows : List Stmt) (symbols : List Symbol) (τ : List Point) → run symbols (next_call scope o ++ τ) ≡ read_on (call_of o callee scope rows symbols) (λ s. run s.1 τ)
-call_read (Some b) callee scope rows symbols τ = wanted_read (arity_of b) scope [] symbols τ ∙ chain (wanted_at scope (arity_of b) [] symbols) _ (λ m. run m.1 τ) (λ s. run s.1 τ) (λ m. refl)
+call_read (Some b) callee scope rows symbols τ = wanted_read (arity_of b) scope [] symbols τ ∙ chain (built_in_arguments_at scope (arity_of b) [] symbols) _ (λ m. run m.1 τ) (λ s. run s.1 τ) (λ m. refl)
 call_read None callee scope rows symbols τ = arguments_read symbols [] 0 scope τ refl ∙ chain (arguments_at scope [] symbols) _ (λ m. run m.1 τ) (λ s. run s.1 τ) (λ m. refl)
 
 curly_read : (scope : Scope) (rows : List Stmt) (symbols : List Symbol) (τ : List Point) → run symbols (CallName scope ∷ τ) ≡ read_on (call_at scope rows symbols) (λ s. run s.1 τ)
@@ -160,7 +160,7 @@ curly_read scope rows (x ∷ xs) τ = refl
 raise_read : (scope : Scope) (rows : List Stmt) (symbols : List Symbol) (τ : List Point) → run symbols (Used scope ∷ Here sign.End ∷ τ) ≡ read_on (raise_at scope rows symbols) (λ s. run s.1 τ)
 raise_read scope rows symbols τ =
     used_read scope symbols (Here sign.End ∷ τ)
-    ∙ chain (used_at what.Variable scope symbols) _ (λ v. run v.1 (Here sign.End ∷ τ)) (λ s. run s.1 τ) (λ x.
+    ∙ chain (used_variable_at what.Variable scope symbols) _ (λ v. run v.1 (Here sign.End ∷ τ)) (λ s. run s.1 τ) (λ x.
     sign_read sign.End x.1 τ ∙ chain (sign_at sign.End x.1) _ (λ rest. run rest τ) (λ s. run s.1 τ) (λ rest. refl))
 
 branches_read : (inner : Reader) (d : ℕ) (body : BodyLaw inner d) (row : Stmt) (chosen scope : Scope) (rows : List Stmt) (symbols : List Symbol) (τ : List Point) → run symbols (At First closer.Else chosen d ∷ At First closer.End scope d ∷ τ) ≡ read_on (branches_at inner row chosen scope rows symbols) (λ s. run s.1 τ)
@@ -172,14 +172,14 @@ branches_read inner d body row chosen scope rows symbols τ =
 if_read : (inner : Reader) (d : ℕ) (body : BodyLaw inner d) (scope : Scope) (rows : List Stmt) (symbols : List Symbol) (τ : List Point) → run symbols (Used scope ∷ Here sign.Then ∷ At First closer.Else scope d ∷ At First closer.End scope d ∷ τ) ≡ read_on (if_at inner scope rows symbols) (λ s. run s.1 τ)
 if_read inner d body scope rows symbols τ =
     used_read scope symbols (Here sign.Then ∷ At First closer.Else scope d ∷ At First closer.End scope d ∷ τ)
-    ∙ chain (used_at what.Variable scope symbols) _ (λ v. run v.1 (Here sign.Then ∷ At First closer.Else scope d ∷ At First closer.End scope d ∷ τ)) (λ s. run s.1 τ) (λ x.
+    ∙ chain (used_variable_at what.Variable scope symbols) _ (λ v. run v.1 (Here sign.Then ∷ At First closer.Else scope d ∷ At First closer.End scope d ∷ τ)) (λ s. run s.1 τ) (λ x.
     sign_read sign.Then x.1 (At First closer.Else scope d ∷ At First closer.End scope d ∷ τ)
     ∙ chain (sign_at sign.Then x.1) _ (λ rest. run rest (At First closer.Else scope d ∷ At First closer.End scope d ∷ τ)) (λ s. run s.1 τ) (λ rest. branches_read inner d body _ scope scope rows rest τ))
 
 case_read : (inner : Reader) (d : ℕ) (body : BodyLaw inner d) (scope : Scope) (rows : List Stmt) (symbols : List Symbol) (τ : List Point) → run symbols (Used scope ∷ Here sign.Of ∷ PatternOf scope d ∷ At First closer.End scope d ∷ τ) ≡ read_on (case_at inner scope rows symbols) (λ s. run s.1 τ)
 case_read inner d body scope rows symbols τ =
     used_read scope symbols (Here sign.Of ∷ PatternOf scope d ∷ At First closer.End scope d ∷ τ)
-    ∙ chain (used_at what.Variable scope symbols) _ (λ v. run v.1 (Here sign.Of ∷ PatternOf scope d ∷ At First closer.End scope d ∷ τ)) (λ s. run s.1 τ) (λ x.
+    ∙ chain (used_variable_at what.Variable scope symbols) _ (λ v. run v.1 (Here sign.Of ∷ PatternOf scope d ∷ At First closer.End scope d ∷ τ)) (λ s. run s.1 τ) (λ x.
     sign_read sign.Of x.1 (PatternOf scope d ∷ At First closer.End scope d ∷ τ)
     ∙ chain (sign_at sign.Of x.1) _ (λ rest. run rest (PatternOf scope d ∷ At First closer.End scope d ∷ τ)) (λ s. run s.1 τ) (λ a.
     pattern_read scope d a (At First closer.End scope d ∷ τ)
@@ -194,7 +194,7 @@ thread_read inner d body scope rows (t.At ∷ xs) τ =
 thread_read inner d body scope rows [] τ = body AfterThread closer.End scope _ what.StatementOrAt [] τ refl tt
 thread_read inner d body scope rows (x ∷ xs) τ = body AfterThread closer.End scope _ what.StatementOrAt (x ∷ xs) τ refl refl
 
-caught_read : (scope : Scope) (d : ℕ) (symbols : List Symbol) (τ : List Point) → run symbols (CatchName scope d ∷ τ) ≡ read_on (caught_at symbols) (λ x. run x.1 (Here sign.Then ∷ At First closer.End (scope ++ x.0 ∷ []) d ∷ τ))
+caught_read : (scope : Scope) (d : ℕ) (symbols : List Symbol) (τ : List Point) → run symbols (CatchName scope d ∷ τ) ≡ read_on (catch_name_at symbols) (λ x. run x.1 (Here sign.Then ∷ At First closer.End (scope ++ x.0 ∷ []) d ∷ τ))
 caught_read scope d (t.Variable x ∷ xs) τ = refl
 caught_read scope d [] τ = refl
 caught_read scope d (x ∷ xs) τ = refl
@@ -204,12 +204,12 @@ try_read inner d body scope rows symbols τ =
     body First closer.Catch scope (rows ++ stmt.Try (code_at 1) (length scope) (code_at 0) ∷ []) what.Statement symbols (CatchName scope d ∷ τ) refl (first_beside closer.Catch scope d symbols)
     ∙ chain (seq_at inner closer.Catch scope (rows ++ stmt.Try (code_at 1) (length scope) (code_at 0) ∷ []) what.Statement symbols) _ (λ b. run b.1 (CatchName scope d ∷ τ)) (λ s. run s.1 τ) (λ b.
     caught_read scope d b.1 τ
-    ∙ chain (caught_at b.1) _ (λ x. run x.1 (Here sign.Then ∷ At First closer.End (scope ++ x.0 ∷ []) d ∷ τ)) (λ s. run s.1 τ) (λ x.
+    ∙ chain (catch_name_at b.1) _ (λ x. run x.1 (Here sign.Then ∷ At First closer.End (scope ++ x.0 ∷ []) d ∷ τ)) (λ s. run s.1 τ) (λ x.
     sign_read sign.Then x.1 (At First closer.End (scope ++ x.0 ∷ []) d ∷ τ)
     ∙ chain (sign_at sign.Then x.1) _ (λ rest. run rest (At First closer.End (scope ++ x.0 ∷ []) d ∷ τ)) (λ s. run s.1 τ) (λ rest. body First closer.End (scope ++ x.0 ∷ []) (with_second (length rows) b.0) what.Statement rest τ refl (first_beside closer.End (scope ++ x.0 ∷ []) d rest))))
 
 -- no statement begins here
-no_stmt : (stage : Stage) (c : Closer) (scope : Scope) (d : ℕ) (w : What) (x : Symbol) (xs : List Symbol) (σ : List Point) → begins_statement x ≡ false → w ≡ expects_stmt stage c → beside stage c scope d x ≡ None → run (x ∷ xs) (At stage c scope d ∷ σ) ≡ Some (fault_here (refusal w (x ∷ xs)) (x ∷ xs))
+no_stmt : (stage : Stage) (c : Closer) (scope : Scope) (d : ℕ) (w : What) (x : Symbol) (xs : List Symbol) (σ : List Point) → is_statement_start x ≡ false → w ≡ expected_statement stage c → beside stage c scope d x ≡ None → run (x ∷ xs) (At stage c scope d ∷ σ) ≡ Some (fault_here (mismatch w (x ∷ xs)) (x ∷ xs))
 no_stmt stage c scope d w t.Skip xs σ b e none = absurd (no_truth (sym b))
 no_stmt stage c scope d w (t.Variable x) xs σ b e none = absurd (no_truth (sym b))
 no_stmt stage c scope d w t.OpenCurly xs σ b e none = absurd (no_truth (sym b))
@@ -221,7 +221,7 @@ no_stmt stage c scope d w t.If xs σ b e none = absurd (no_truth (sym b))
 no_stmt stage c scope d w t.Case xs σ b e none = absurd (no_truth (sym b))
 no_stmt stage c scope d w t.Try xs σ b e none = absurd (no_truth (sym b))
 no_stmt stage c scope d w x xs σ b e none =
-    ap (λ (o : Option (List Point)). run_step (At stage c scope d) o None (x ∷ xs) (run xs) σ) none ∙ ap (λ (v : What). Some (fault_here (refusal v (x ∷ xs)) (x ∷ xs))) (sym e)
+    ap (λ (o : Option (List Point)). run_step (At stage c scope d) o None (x ∷ xs) (run xs) σ) none ∙ ap (λ (v : What). Some (fault_here (mismatch v (x ∷ xs)) (x ∷ xs))) (sym e)
 
 kind_read : (inner : Reader) (d : ℕ) (body : BodyLaw inner d) → ReaderLaw (kind_at inner) (suc d)
 kind_read inner d body stage c scope rows w (t.Skip ∷ xs) σ e none = refl
@@ -234,11 +234,11 @@ kind_read inner d body stage c scope rows w (t.Thread ∷ xs) σ e none = thread
 kind_read inner d body stage c scope rows w (t.If ∷ xs) σ e none = if_read inner d body scope rows xs (At Later c scope (suc d) ∷ σ)
 kind_read inner d body stage c scope rows w (t.Case ∷ xs) σ e none = case_read inner d body scope rows xs (At Later c scope (suc d) ∷ σ)
 kind_read inner d body stage c scope rows w (t.Try ∷ xs) σ e none = try_read inner d body scope rows xs (At Later c scope (suc d) ∷ σ)
-kind_read inner d body stage c scope rows w [] σ e none = ap (λ (v : What). Some (fault_here (refusal v []) [])) (sym e)
+kind_read inner d body stage c scope rows w [] σ e none = ap (λ (v : What). Some (fault_here (mismatch v []) [])) (sym e)
 kind_read inner d body stage c scope rows w (x ∷ xs) σ e none = no_stmt stage c scope (suc d) w x xs σ refl e none
 
 -- a statement with no level left
-deep_read : (stage : Stage) (c : Closer) (scope : Scope) (x : Symbol) (xs : List Symbol) (σ : List Point) → begins_statement x ≡ true → run (x ∷ xs) (At stage c scope zero ∷ σ) ≡ Some (fault_here Deep (x ∷ xs))
+deep_read : (stage : Stage) (c : Closer) (scope : Scope) (x : Symbol) (xs : List Symbol) (σ : List Point) → is_statement_start x ≡ true → run (x ∷ xs) (At stage c scope zero ∷ σ) ≡ Some (fault_here Deep (x ∷ xs))
 deep_read stage c scope t.Skip xs σ b = refl
 deep_read stage c scope (t.Variable x) xs σ b = refl
 deep_read stage c scope t.OpenCurly xs σ b = refl
@@ -253,12 +253,12 @@ deep_read stage c scope x xs σ b = absurd (no_truth b)
 
 zero_read : ReaderLaw (stmt_at zero) zero
 unfolding stmt_at
-zero_read stage c scope rows w [] σ e none = ap (λ (v : What). Some (fault_here (refusal v []) [])) (sym e)
+zero_read stage c scope rows w [] σ e none = ap (λ (v : What). Some (fault_here (mismatch v []) [])) (sym e)
 zero_read stage c scope rows w (x ∷ xs) σ e none =
-    let chosen : (b : Bool) → begins_statement x ≡ b → run (x ∷ xs) (At stage c scope zero ∷ σ) ≡ read_on {X = Out} (cond b (Err (fault_here Deep (x ∷ xs))) (fault_expected w (x ∷ xs))) (λ s. run s.1 (At Later c scope zero ∷ σ)) = elim [
+    let chosen : (b : Bool) → is_statement_start x ≡ b → run (x ∷ xs) (At stage c scope zero ∷ σ) ≡ read_on {X = Out} (cond b (Err (fault_here Deep (x ∷ xs))) (fault_expected w (x ∷ xs))) (λ s. run s.1 (At Later c scope zero ∷ σ)) = elim [
       | true ↦ λ b. deep_read stage c scope x xs σ b
       | false ↦ λ b. no_stmt stage c scope zero w x xs σ b e none
-    ] in chosen (begins_statement x) refl
+    ] in chosen (is_statement_start x) refl
 
 next_read : (d : ℕ) (body : BodyLaw (stmt_at d) d) → ReaderLaw (stmt_at (suc d)) (suc d)
 unfolding stmt_at

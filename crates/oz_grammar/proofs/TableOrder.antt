@@ -6,7 +6,7 @@ use Rattle.kernel_syntax.specs.declared.preorder.Body.{Body}
 use Rattle.kernel_syntax.specs.declared.stmt.Stmt.{Stmt}
 use Rattle.kernel_syntax.specs.declared.stmt.Stmt.TheVariants as stmt
 use Rattle.kernel_syntax.specs.Scopes as scopes
-use Rattle.kernel_syntax.specs.Preorder.{one_of, bodies_in, DeclaresBehind, IsWholeSequence, AreBodies, IsInPreorder}
+use Rattle.kernel_syntax.specs.Preorder.{sequence_body, bodies_in, DeclaresBehind, IsWholeSequence, AreBodies, IsInPreorder}
 use Rattle.kernel_syntax.proofs.Below.{Below}
 use Rattle.oz_grammar.specs.declared.symbol.Symbol.{Symbol}
 use Rattle.oz_grammar.specs.declared.symbol.Symbol.TheVariants as t
@@ -206,18 +206,18 @@ mutual
       let others = many_order q d scope (k + 1 + length (stmt_rows s scope (k + 1))) k rest behind bs more derives.1 after.0 le
       (ends_at (k + suc (length (stmt_rows s scope (k + 1) ++ many_rows q scope (k + 1 + length (stmt_rows s scope (k + 1))))))
       (k + 1 + length (stmt_rows s scope (k + 1)) + length (many_rows q scope (k + 1 + length (stmt_rows s scope (k + 1))))) bs more (omega (arith, l)) h) in
-      let first = stmt_order s d scope (k + 1) true (seq_text q rest) (check_seq q d scope rest behind) (map (one_of (body k d (length scope) false)) (seq_numbers q scope (k + 1 + length (stmt_rows s scope (k + 1)))) ++ bs)
+      let first = stmt_order s d scope (k + 1) true (seq_text q rest) (check_seq q d scope rest behind) (map (sequence_body (body k d (length scope) false)) (seq_numbers q scope (k + 1 + length (stmt_rows s scope (k + 1)))) ++ bs)
       (many_rows q scope (k + 1 + length (stmt_rows s scope (k + 1))) ++ more) derives.0 e le others in
       row_before (body k d (length scope) false) (stmt.Seq (code_at (k + 1) ∷ seq_numbers q scope (k + 1 + length (stmt_rows s scope (k + 1)))))
-      (map (one_of (body k d (length scope) false)) (code_at (k + 1) ∷ seq_numbers q scope (k + 1 + length (stmt_rows s scope (k + 1))))) bs
+      (map (sequence_body (body k d (length scope) false)) (code_at (k + 1) ∷ seq_numbers q scope (k + 1 + length (stmt_rows s scope (k + 1))))) bs
       ((stmt_rows s scope (k + 1) ++ many_rows q scope (k + 1 + length (stmt_rows s scope (k + 1)))) ++ more) k refl (stmt_level s d scope (seq_text q rest) (check_seq q d scope rest behind) e)
       (record { names = tt; declares = tt; sequence = (refl, two_numbers q scope (k + 1 + length (stmt_rows s scope (k + 1))) (code_at (k + 1))); bodies = refl })
-      (before_more (k + 1) (body (k + 1) d (length scope) true ∷ (map (one_of (body k d (length scope) false)) (seq_numbers q scope (k + 1 + length (stmt_rows s scope (k + 1)))) ++ bs))
+      (before_more (k + 1) (body (k + 1) d (length scope) true ∷ (map (sequence_body (body k d (length scope) false)) (seq_numbers q scope (k + 1 + length (stmt_rows s scope (k + 1)))) ++ bs))
       (stmt_rows s scope (k + 1)) (many_rows q scope (k + 1 + length (stmt_rows s scope (k + 1)))) more first)
 
   -- the statements of the sequence with number o
   many_order : (q : Sequence) (d : ℕ) (scope : Scope) (k o : ℕ) (rest : List Symbol) (behind : Option Fault) (bs : List Body) (more : List Stmt) → SeqDerives q scope → check_seq q d scope rest behind ≡ None
-      → length scope + 64 * d ≤ 12800 → AreBodies (k + length (many_rows q scope k)) bs more → AreBodies k (map (one_of (body o d (length scope) false)) (seq_numbers q scope k) ++ bs) (many_rows q scope k ++ more)
+      → length scope + 64 * d ≤ 12800 → AreBodies (k + length (many_rows q scope k)) bs more → AreBodies k (map (sequence_body (body o d (length scope) false)) (seq_numbers q scope k) ++ bs) (many_rows q scope k ++ more)
   many_order (One s) d scope k o rest behind bs more derives e le h = stmt_order s d scope k true rest behind bs more derives e le h
   many_order (Then s q) d scope k o rest behind bs more derives e le h =
       let after = stmt_limits s d scope k (seq_text q rest) (check_seq q d scope rest behind) e le in
@@ -225,9 +225,9 @@ mutual
       let others = many_order q d scope (k + length (stmt_rows s scope k)) o rest behind bs more derives.1 after.0 le
       (ends_at (k + length (stmt_rows s scope k ++ many_rows q scope (k + length (stmt_rows s scope k))))
       (k + length (stmt_rows s scope k) + length (many_rows q scope (k + length (stmt_rows s scope k)))) bs more (omega (arith, l)) h) in
-      let first = stmt_order s d scope k true (seq_text q rest) (check_seq q d scope rest behind) (map (one_of (body o d (length scope) false)) (seq_numbers q scope (k + length (stmt_rows s scope k))) ++ bs)
+      let first = stmt_order s d scope k true (seq_text q rest) (check_seq q d scope rest behind) (map (sequence_body (body o d (length scope) false)) (seq_numbers q scope (k + length (stmt_rows s scope k))) ++ bs)
       (many_rows q scope (k + length (stmt_rows s scope k)) ++ more) derives.0 e le others in
-      before_more k (body k d (length scope) true ∷ (map (one_of (body o d (length scope) false)) (seq_numbers q scope (k + length (stmt_rows s scope k))) ++ bs))
+      before_more k (body k d (length scope) true ∷ (map (sequence_body (body o d (length scope) false)) (seq_numbers q scope (k + length (stmt_rows s scope k))) ++ bs))
       (stmt_rows s scope k) (many_rows q scope (k + length (stmt_rows s scope k))) more first
 
 pub program_order : (q : Sequence) → IsDerivation q → check q ≡ None → IsInPreorder (program_table q)

@@ -8,7 +8,7 @@ use Rattle.tree_node.specs.Node.{feature_cmp}
 use Rattle.kernel_syntax.specs.declared.stmt.Stmt.{Stmt}
 use Rattle.kernel_syntax.specs.declared.stmt.Stmt.TheVariants as stmt
 use Rattle.kernel_syntax.specs.Arithmetic.{is_word}
-use Rattle.kernel_syntax.specs.Texts.{IsText, IsFeature, IsSpelledPattern, FitsIfSome, HasTexts}
+use Rattle.kernel_syntax.specs.Texts.{IsText, IsFeature, IsSpelledPattern, IsWordIfSome, HasTexts}
 use Rattle.oz_grammar.specs.declared.symbol.Symbol.{Symbol}
 use Rattle.oz_grammar.specs.declared.symbol.Symbol.TheVariants as t
 use Rattle.oz_grammar.specs.declared.symbol.BuiltIn.{BuiltIn}
@@ -40,7 +40,7 @@ bar_text = (bar_utf8, refl, omega arith)
 
 -- ---- rows without bodies
 
-number_good : (n : Option ℤ) → number_fault n ≡ None → FitsIfSome n → IsTrue (is_word (value_of n))
+number_good : (n : Option ℤ) → number_fault n ≡ None → IsWordIfSome n → IsTrue (is_word (value_of n))
 number_good (Some z) e g = g
 number_good None e g = cc
 
@@ -146,7 +146,7 @@ pattern_good (PairPattern h u) scope rest rest' behind e g = ((bar_text, (refl, 
 
 -- ---- rows with bodies
 
-site_good : (n : Option ℤ) → site_fault n ≡ None → FitsIfSome n → FitsIfSome (Some (value_of n))
+site_good : (n : Option ℤ) → site_fault n ≡ None → IsWordIfSome n → IsWordIfSome (Some (value_of n))
 site_good (Some z) e g = g
 site_good None e g = cc
 

@@ -23,8 +23,8 @@ use Rattle.oz_grammar.specs.Grammar.{Sequence, program_text}
 use Rattle.oz_grammar.specs.Scoping.{IsDerivation}
 use Rattle.oz_grammar.specs.Faults.{fault_here}
 use Rattle.oz_grammar.specs.Check.{check}
-use Rattle.oz_grammar.specs.Points.{expects, start}
-use Rattle.oz_grammar.specs.Reads.{GoesOn, ReadsSymbols, Reads, FaultOfSymbols, IsPlace, FaultOf}
+use Rattle.oz_grammar.specs.Points.{expected_at, start}
+use Rattle.oz_grammar.specs.Reads.{IsCompletedBy, ReadsSymbols, Reads, FaultOfSymbols, IsPlace, FaultOf}
 use Rattle.oz_grammar.specs.Laws.{FaultRead, ReadsTexts, FaultsTexts, TextsHaveOne, TextsNeverHaveBoth, TextIsOneProgram, TextHasOneFault, TextsArePrograms}
 use Rattle.oz_grammar.proofs.TreeRuns.{program_run}
 use Rattle.oz_grammar.proofs.Walks.{Stopped, stopped, kind_of}
@@ -115,7 +115,7 @@ nothing_more (x ∷ front) more e f = nothing_more front more e f
 at_symbol : (g : Fault) (symbols rest : List Symbol) (s : Stopped symbols start g) → s.rest ≡ rest → IsRow g.kind → 0 < g.left
 at_symbol g symbols [] s e row =
     let there : kind_of s.point [] ≡ Some s.kind = subst (λ (r : List Symbol). kind_of s.point r ≡ Some s.kind) e s.is_kind in
-    let kinds : Expected (expects s.point) ≡ s.kind = cc in
+    let kinds : Expected (expected_at s.point) ≡ s.kind = cc in
     absurd (subst IsRow (sym kinds) (subst (λ (h : Fault). IsRow h.kind) s.is row))
 at_symbol g symbols (x ∷ rest) s e row =
     let l : g.left ≡ length s.rest = ap (λ (h : Fault). h.left) s.is in
@@ -128,18 +128,18 @@ cases_left left n le = elim (cases_lt n left) as (λ c. (left ≤ n) ⊎ (left �
 found_somewhere : (q : Sequence) (g : Fault) → IsDerivation q → check q ≡ Some g → 0 < g.left
 found_somewhere q g good e = let s = stopped (program_text q) start g (program_run q good ∙ e) in at_symbol g (program_text q) s.rest s refl (check_row q g e)
 
-at_end : (front : List Symbol) (k : FaultKind) (on : GoesOn front []) → Class front [] k → ⊥
+at_end : (front : List Symbol) (k : FaultKind) (on : IsCompletedBy front []) → Class front [] k → ⊥
 at_end front k on (inl a) = nil_bad a.0 a.2
 at_end front k on (inr (inl a)) = a.2.1 [] refl on
 at_end front k on (inr (inr a)) = let h = found_somewhere on.program (fault_here k []) on.derives (a.1 [] refl on) in absurd (omega arith)
 
-some_left : (symbols front rest : List Symbol) (f : Fault) → ends_once symbols ≡ true → symbols ≡ front ++ rest → f.left ≡ length rest → (more : List Symbol) → GoesOn front more → Class front rest f.kind → 0 < f.left
+some_left : (symbols front rest : List Symbol) (f : Fault) → ends_once symbols ≡ true → symbols ≡ front ++ rest → f.left ≡ length rest → (more : List Symbol) → IsCompletedBy front more → Class front rest f.kind → 0 < f.left
 some_left symbols front [] f ends is l more on c =
     let whole : symbols ≡ front = is ∙ append-nil front in
     let e : ends_once front ≡ true = ap ends_once (sym whole) ∙ ends in
     let g : ends_once (front ++ more) ≡ true = ap ends_once on.derived ∙ program_ends on.program in
     let none = nothing_more front more e g in
-    absurd (at_end front f.kind (subst (GoesOn front) none on) c)
+    absurd (at_end front f.kind (subst (IsCompletedBy front) none on) c)
 some_left symbols front (x ∷ rest) f ends is l more on c = omega arith
 
 pub fault_left : (symbols : List Symbol) (f : Fault) → ends_once symbols ≡ true → FaultOfSymbols symbols f → (0 < f.left) × (f.left ≤ length symbols)

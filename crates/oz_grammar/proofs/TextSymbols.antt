@@ -10,19 +10,19 @@ use Rattle.tree_node.specs.Spelling.{is_word_byte, is_bare, escaped_text, atom_t
 use Rattle.tree_node.specs.Words.{is_reserved}
 use Rattle.kernel_syntax.specs.declared.stmt.Op.TheVariants as op
 use Rattle.kernel_syntax.specs.Arithmetic.{is_word as is_number}
-use Rattle.kernel_syntax.specs.Texts.{is_text_byte, IsText, FitsIfSome}
+use Rattle.kernel_syntax.specs.Texts.{is_text_byte, IsText, IsWordIfSome}
 use Rattle.oz_lexer.specs.declared.token.TokenKind.{TokenKind}
 use Rattle.oz_lexer.specs.declared.token.TokenKind.TheVariants as kind
 use Rattle.oz_lexer.specs.declared.token.LexKind.{LexKind}
-use Rattle.oz_lexer.specs.Spelling.{is_character, is_escape, closes_quote, is_quoted, is_variable, is_lower_word, is_sign, are_digits, digits_of, token_kind_of, is_long, unescaped}
-use Rattle.oz_lexer.specs.Faults.{Longest}
+use Rattle.oz_lexer.specs.Spelling.{is_character, is_escape, closes_quote, is_quoted, is_variable, is_lower_word, is_sign, are_digits, digits_of, token_kind_of, is_long, text_in_quotes}
+use Rattle.oz_lexer.specs.Faults.{IsLongestToken}
 use Rattle.oz_lexer.specs.Tokens.{Lexeme, IsLexemeAt, EndOrMore, TokensFrom, Tokens}
 use Rattle.oz_grammar.specs.declared.symbol.Symbol.{Symbol}
 use Rattle.oz_grammar.specs.declared.symbol.Symbol.TheVariants as t
 use Rattle.oz_lexer.proofs.Boundaries.{token_cut}
 use Rattle.oz_lexer.proofs.Skipping.{skips_tail}
-use Rattle.oz_grammar.specs.Symbols.{IsSpelled, is_plain, number_of, negative, signed, integer_of, quoted_text, word_symbol, sign_symbol, symbol_at, symbol_of}
-use Rattle.oz_grammar.proofs.Unescaped.{unescaped_utf8, quoted_inside}
+use Rattle.oz_grammar.specs.Symbols.{IsSpelled, is_plain, number_of, negation, signed_integer, integer_of, quoted_text, word_symbol, sign_symbol, symbol_at, symbol_of}
+use Rattle.oz_grammar.proofs.TextInQuotes.{unescaped_utf8, quoted_inside}
 use Rattle.oz_grammar.proofs.Atoms.{is_atom_byte, spelt, front, plain_unescaped, inside}
 use Rattle.std.proofs.lemmas.Bool.{and_parts}
 
@@ -112,8 +112,8 @@ atom_good bytes e short =
 record Inside (cs : List ℕ) : Type 0 where
   text : List ℕ
   is : cs ≡ text ++ 39 ∷ []
-  good : list_all is_atom_byte (unescaped text) ≡ true
-  short : length (escaped_text (unescaped text)) ≤ length text
+  good : list_all is_atom_byte (text_in_quotes text) ≡ true
+  short : length (escaped_text (text_in_quotes text)) ≤ length text
 
 -- a byte that an escape stands for, and one that is a character
 escape_byte : (c : ℕ) → is_escape c ≡ true → is_atom_byte (cond (eqb c 110) 10 c) ≡ true
@@ -139,26 +139,26 @@ inside_of (b ∷ c ∷ bs) e = go (eqb b 92) refl (λ h. inside_of bs h) (λ h. 
     go true k short_one long_one h =
         let both_of = and_parts (is_escape c) (closes_quote bs) h in
         let i = short_one both_of.1 in
-        let unit : unescaped (b ∷ c ∷ i.text) ≡ cond (eqb c 110) 10 c ∷ unescaped i.text = rw k refl in
+        let unit : text_in_quotes (b ∷ c ∷ i.text) ≡ cond (eqb c 110) 10 c ∷ text_in_quotes i.text = rw k refl in
         let byte = escape_byte c both_of.0 in
         record {
           text = b ∷ c ∷ i.text;
           is = ap (λ (xs : List ℕ). b ∷ c ∷ xs) i.is;
-          good = ap (list_all is_atom_byte) unit ∙ (ap (λ (x : Bool). x && list_all is_atom_byte (unescaped i.text)) byte ∙ i.good);
+          good = ap (list_all is_atom_byte) unit ∙ (ap (λ (x : Bool). x && list_all is_atom_byte (text_in_quotes i.text)) byte ∙ i.good);
           short =
-              let l : length (escaped_text (unescaped (b ∷ c ∷ i.text))) ≡ length (escaped_text (cond (eqb c 110) 10 c ∷ unescaped i.text)) = ap (λ (xs : List ℕ). length (escaped_text xs)) unit in
-              elim (escaped_once (cond (eqb c 110) 10 c) (unescaped i.text) byte) [ inl n ↦ omega (arith, l, n, i.short) | inr n ↦ omega (arith, l, n, i.short) ];
+              let l : length (escaped_text (text_in_quotes (b ∷ c ∷ i.text))) ≡ length (escaped_text (cond (eqb c 110) 10 c ∷ text_in_quotes i.text)) = ap (λ (xs : List ℕ). length (escaped_text xs)) unit in
+              elim (escaped_once (cond (eqb c 110) 10 c) (text_in_quotes i.text) byte) [ inl n ↦ omega (arith, l, n, i.short) | inr n ↦ omega (arith, l, n, i.short) ];
         }
     go false k short_one long_one h =
         let both_of = and_parts (is_character b) (closes_quote (c ∷ bs)) h in
         let i = long_one both_of.1 in
         let unit = plain_unescaped b i.text k in
-        let once = character_once b (unescaped i.text) both_of.0 k in
+        let once = character_once b (text_in_quotes i.text) both_of.0 k in
         record {
           text = b ∷ i.text;
           is = ap (λ (xs : List ℕ). b ∷ xs) i.is;
-          good = ap (list_all is_atom_byte) unit ∙ (ap (λ (x : Bool). x && list_all is_atom_byte (unescaped i.text)) (character_byte b both_of.0) ∙ i.good);
-          short = let l : length (escaped_text (unescaped (b ∷ i.text))) ≡ suc (length (escaped_text (unescaped i.text))) = ap (λ (xs : List ℕ). length (escaped_text xs)) unit ∙ ap length once in omega (arith, l, i.short);
+          good = ap (list_all is_atom_byte) unit ∙ (ap (λ (x : Bool). x && list_all is_atom_byte (text_in_quotes i.text)) (character_byte b both_of.0) ∙ i.good);
+          short = let l : length (escaped_text (text_in_quotes (b ∷ i.text))) ≡ suc (length (escaped_text (text_in_quotes i.text))) = ap (λ (xs : List ℕ). length (escaped_text xs)) unit ∙ ap length once in omega (arith, l, i.short);
         }
 
 quoted_good : (bytes : List ℕ) → IsUtf8 bytes → token_kind_of bytes ≡ Some kind.Quoted → is_long kind.Quoted bytes ≡ false → IsText (quoted_text bytes)
@@ -168,37 +168,37 @@ quoted_good (b ∷ cs) utf8 e short =
     let is = quoted_case (is_variable (b ∷ cs)) (is_lower_word (b ∷ cs)) (is_reserved (b ∷ cs)) (is_quoted (b ∷ cs)) (are_digits (digits_of (b ∷ cs))) (is_sign (b ∷ cs)) e in
     let two = and_parts (eqb b 39) (closes_quote cs) is in
     let i = inside_of cs two.1 in
-    let text : quoted_text (b ∷ cs) ≡ unescaped i.text = ap (λ (xs : List ℕ). unescaped (take (length (b ∷ xs) - 2) xs)) i.is ∙ ap unescaped (inside i.text) in
+    let text : quoted_text (b ∷ cs) ≡ text_in_quotes i.text = ap (λ (xs : List ℕ). text_in_quotes (take (length (b ∷ xs) - 2) xs)) i.is ∙ ap text_in_quotes (inside i.text) in
     let long = at_most kind.Quoted (length (b ∷ cs)) short in
     let l : length cs ≡ length i.text + 1 = ap length i.is ∙ length-append i.text (39 ∷ []) in
     let quote : b ≡ 39 = grind (arith, two.0) in
     let spelled : IsUtf8 (39 ∷ (i.text ++ 39 ∷ [])) = subst (λ (xs : List ℕ). IsUtf8 (39 ∷ xs)) i.is (subst (λ (x : ℕ). IsUtf8 (x ∷ cs)) quote utf8) in
     let inner = unescaped_utf8 i.text (quoted_inside i.text spelled) in
-    subst IsText (sym text) (is_text (unescaped i.text) inner (i.good, omega (arith, text_length (unescaped i.text) i.good, i.short, l, long)))
+    subst IsText (sym text) (is_text (text_in_quotes i.text) inner (i.good, omega (arith, text_length (text_in_quotes i.text) i.good, i.short, l, long)))
 
 -- ---- integers
 
-signed_fits : (minus : Bool) (n : ℕ) → FitsIfSome (signed minus n)
+signed_fits : (minus : Bool) (n : ℕ) → IsWordIfSome (signed_integer minus n)
 signed_fits true n = go (nat_le n 9223372036854775808) refl
   where
-    negative_fits : (m : ℕ) → m ≤ 9223372036854775808 → IsTrue (is_number (negative m))
+    negative_fits : (m : ℕ) → m ≤ 9223372036854775808 → IsTrue (is_number (negation m))
     negative_fits zero le = refl
     negative_fits (suc m) le = grind arith
 
-    go : (b : Bool) → nat_le n 9223372036854775808 ≡ b → FitsIfSome (cond b (Some (negative n)) None)
+    go : (b : Bool) → nat_le n 9223372036854775808 ≡ b → IsWordIfSome (cond b (Some (negation n)) None)
     go true e = negative_fits n (grind arith)
     go false e = tt
 signed_fits false n = go (nat_lt n 9223372036854775808) refl
   where
-    go : (b : Bool) → nat_lt n 9223372036854775808 ≡ b → FitsIfSome (cond b (Some (pos n)) None)
+    go : (b : Bool) → nat_lt n 9223372036854775808 ≡ b → IsWordIfSome (cond b (Some (pos n)) None)
     go true e = grind arith
     go false e = tt
 
-integer_good : (bytes : List ℕ) → FitsIfSome (integer_of bytes)
+integer_good : (bytes : List ℕ) → IsWordIfSome (integer_of bytes)
 unfolding integer_of
 integer_good bytes = go (is_plain (digits_of bytes))
   where
-    go : (b : Bool) → FitsIfSome (cond b (signed (eqb (slice_index bytes 0) 126) (number_of (digits_of bytes))) None)
+    go : (b : Bool) → IsWordIfSome (cond b (signed_integer (eqb (slice_index bytes 0) 126) (number_of (digits_of bytes))) None)
     go true = signed_fits (eqb (slice_index bytes 0) 126) (number_of (digits_of bytes))
     go false = tt
 
@@ -255,7 +255,7 @@ abbrev Leaves : Result TokenKind LexKind → List ℕ → List ℕ → Type 0
 Leaves (Ok k) bytes rest = IsSpelled (symbol_at (Ok k) bytes) × IsUtf8 rest
 Leaves (Err fault) bytes rest = Unit {0}
 
-leaves : (text pre front bytes rest : List ℕ) (k : TokenKind) → IsUtf8 text → text ≡ pre ++ front → Longest front k bytes rest → is_long k bytes ≡ false → Leaves (Ok k) bytes rest
+leaves : (text pre front bytes rest : List ℕ) (k : TokenKind) → IsUtf8 text → text ≡ pre ++ front → IsLongestToken front k bytes rest → is_long k bytes ≡ false → Leaves (Ok k) bytes rest
 leaves text pre front bytes rest k utf8 is l short =
     let cut = cut_out text pre bytes rest k utf8 (is ∙ ap (λ (xs : List ℕ). pre ++ xs) l.is) l.spells in (token_good k bytes cut.token l.spells short, cut.behind)
 

@@ -8,7 +8,7 @@ use Rattle.oz_grammar.specs.declared.fault.FaultKind.{FaultKind}
 use Rattle.oz_grammar.specs.declared.fault.FaultKind.TheVariants.{Expected}
 use Rattle.oz_grammar.specs.Faults.{fault_here}
 use Rattle.oz_grammar.specs.Check.{first_fault}
-use Rattle.oz_grammar.specs.Points.{Point, expects, next_of, wrong_at, refusal, run_step, run, walk_on, walk}
+use Rattle.oz_grammar.specs.Points.{Point, expected_at, next_of, wrong_at, mismatch, run_step, run, walk_on, walk}
 use Rattle.oz_grammar.specs.Reads.{SameHead}
 
 run_moved : (p : Point) (o : Option (List Point)) (w : Option FaultKind) (x : Symbol) (front a : List Symbol) (σ τ : List Point) → ((ρ : List Point) → walk front ρ ≡ Some τ → run (front ++ a) ρ ≡ run a τ) → walk_on o w (walk front) σ ≡ Some τ → run_step p o w (x ∷ front ++ a) (run (front ++ a)) σ ≡ run a τ
@@ -24,12 +24,12 @@ run_behind (x ∷ front) a (p ∷ σ) τ e = run_moved p (next_of p x) (wrong_at
 -- ---- where reading stops
 
 abbrev pub kind_at : Point → Option (List Point) → Option FaultKind → List Symbol → Option FaultKind
-kind_at p None wrong rest = Some (refusal (expects p) rest)
+kind_at p None wrong rest = Some (mismatch (expected_at p) rest)
 kind_at p (Some points) wrong rest = wrong
 
 -- what is wrong at the first of these symbols, at this point
 abbrev pub kind_of : Point → List Symbol → Option FaultKind
-kind_of p [] = Some (Expected (expects p))
+kind_of p [] = Some (Expected (expected_at p))
 kind_of p (x ∷ rest) = kind_at p (next_of p x) (wrong_at p x) (x ∷ rest)
 
 pub record Stopped (symbols : List Symbol) (σ : List Point) (f : Fault) : Type 0 where
@@ -52,11 +52,11 @@ stopped_moved p σ x xs f None w n e ih h = record {
   rest = x ∷ xs;
   point = p;
   behind = σ;
-  kind = refusal (expects p) (x ∷ xs);
+  kind = mismatch (expected_at p) (x ∷ xs);
   divided = refl;
   walked = refl;
   is_kind = ap (λ (o : Option (List Point)). kind_at p o (wrong_at p x) (x ∷ xs)) n;
-  is = let same : fault_here (refusal (expects p) (x ∷ xs)) (x ∷ xs) ≡ f = cc in sym same;
+  is = let same : fault_here (mismatch (expected_at p) (x ∷ xs)) (x ∷ xs) ≡ f = cc in sym same;
 }
 stopped_moved p σ x xs f (Some points) (Some kind) n e ih h = record {
   front = [];
@@ -89,34 +89,34 @@ stopped [] (p ∷ σ) f e = record {
   rest = [];
   point = p;
   behind = σ;
-  kind = Expected (expects p);
+  kind = Expected (expected_at p);
   divided = refl;
   walked = refl;
   is_kind = refl;
-  is = let same : fault_here (Expected (expects p)) [] ≡ f = cc in sym same;
+  is = let same : fault_here (Expected (expected_at p)) [] ≡ f = cc in sym same;
 }
 stopped (x ∷ xs) [] f e = absurd cc
 stopped (x ∷ xs) (p ∷ σ) f e = stopped_moved p σ x xs f (next_of p x) (wrong_at p x) refl refl (λ ρ. stopped xs ρ f) e
 
-refusal_head : (w : What) (x : Symbol) (xs ys : List Symbol) → refusal w (x ∷ xs) ≡ refusal w (x ∷ ys)
+refusal_head : (w : What) (x : Symbol) (xs ys : List Symbol) → mismatch w (x ∷ xs) ≡ mismatch w (x ∷ ys)
 refusal_head w (t.Bad kind) xs ys = refl
 refusal_head w x xs ys = refl
 
 kind_stops : (p : Point) (o : Option (List Point)) (w : Option FaultKind) (x : Symbol) (xs ys : List Symbol) (σ : List Point) (kind : FaultKind) → kind_at p o w (x ∷ xs) ≡ Some kind → run_step p o w (x ∷ ys) (run ys) σ ≡ Some (fault_here kind (x ∷ ys))
 kind_stops p None w x xs ys σ kind e =
-    let same : refusal (expects p) (x ∷ xs) ≡ kind = cc in ap (λ (k : FaultKind). Some (fault_here k (x ∷ ys))) (refusal_head (expects p) x ys xs ∙ same)
+    let same : mismatch (expected_at p) (x ∷ xs) ≡ kind = cc in ap (λ (k : FaultKind). Some (fault_here k (x ∷ ys))) (refusal_head (expected_at p) x ys xs ∙ same)
 kind_stops p (Some points) w x xs ys σ kind e = ap (λ (v : Option FaultKind). first_fault v (x ∷ ys) (run ys (points ++ σ))) e
 
 -- the first symbol alone decides what is wrong at it
 pub stops_here : (p : Point) (σ : List Point) (rest a : List Symbol) (kind : FaultKind) → kind_of p rest ≡ Some kind → SameHead rest a → run a (p ∷ σ) ≡ Some (fault_here kind a)
-stops_here p σ [] a kind e same = let k : Expected (expects p) ≡ kind = cc in rw same (ap (λ (j : FaultKind). Some (fault_here j [])) k)
+stops_here p σ [] a kind e same = let k : Expected (expected_at p) ≡ kind = cc in rw same (ap (λ (j : FaultKind). Some (fault_here j [])) k)
 stops_here p σ (x ∷ xs) a kind e same = rw same.1 (kind_stops p (next_of p x) (wrong_at p x) x xs same.0 σ kind e)
 
 -- ---- a fault stands at one of the symbols
 
 within_moved : (p : Point) (o : Option (List Point)) (w : Option FaultKind) (x : Symbol) (xs : List Symbol) (σ : List Point) (g : Fault) → ((ρ : List Point) → run xs ρ ≡ Some g → g.left ≤ length xs) → run_step p o w (x ∷ xs) (run xs) σ ≡ Some g → g.left ≤ length (x ∷ xs)
 within_moved p None w x xs σ g ih e =
-    let same : fault_here (refusal (expects p) (x ∷ xs)) (x ∷ xs) ≡ g = cc in
+    let same : fault_here (mismatch (expected_at p) (x ∷ xs)) (x ∷ xs) ≡ g = cc in
     let l : length (x ∷ xs) ≡ g.left = ap (λ (f : Fault). f.left) same in omega arith
 within_moved p (Some points) (Some kind) x xs σ g ih e =
     let same : fault_here kind (x ∷ xs) ≡ g = cc in
@@ -126,7 +126,7 @@ within_moved p (Some points) None x xs σ g ih e = let h = ih (points ++ σ) e i
 pub left_within : (symbols : List Symbol) (σ : List Point) (g : Fault) → run symbols σ ≡ Some g → g.left ≤ length symbols
 left_within [] [] g e = absurd cc
 left_within [] (p ∷ σ) g e =
-    let same : fault_here (Expected (expects p)) [] ≡ g = cc in
+    let same : fault_here (Expected (expected_at p)) [] ≡ g = cc in
     let l : 0 ≡ g.left = ap (λ (f : Fault). f.left) same in omega arith
 left_within (x ∷ xs) [] g e = absurd cc
 left_within (x ∷ xs) (p ∷ σ) g e = within_moved p (next_of p x) (wrong_at p x) x xs σ g (λ ρ. left_within xs ρ g) e

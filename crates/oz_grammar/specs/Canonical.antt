@@ -28,12 +28,14 @@ abbrev pub names_from : ℕ → ℕ → List Identifier
 names_from first zero = []
 names_from first (suc count) = name_at first ∷ names_from (first + 1) count
 
+-- the name by which a program calls what is built in
 abbrev pub built_in_name : BuiltIn → Identifier
 built_in_name built.Browse = codes "Browse"
 built_in_name built.Wait = codes "Wait"
 built_in_name built.NewCell = codes "NewCell"
 built_in_name built.Exchange = codes "Exchange"
 
+-- a feature of a row as a text names it
 abbrev pub feature_token : Feature → FeatureToken
 feature_token (feature.Int z) = IntFeature (Some z)
 feature_token (feature.Atom a) = AtomFeature a
@@ -42,9 +44,11 @@ feature_token (feature.Atom a) = AtomFeature a
 abbrev pub field_with_feature : Feature × Identifier → Field
 field_with_feature f = WithFeature (feature_token f.0) f.1
 
+-- a field of a record: its feature, and the identifier at its position
 abbrev pub slot_field : Feature × ℕ → Field
 slot_field slot = field_with_feature (slot.0, name_at slot.1)
 
+-- what stands behind the dot: the identifier at the selector's position, or its feature
 abbrev pub selection_of : Selector → Selection
 selection_of (selector.Var x) = ByVariable (name_at x)
 selection_of (selector.Feature f) = ByFeature (feature_token f)
@@ -54,17 +58,21 @@ abbrev pub declared_fields : ℕ → List Feature → List Field
 declared_fields first [] = []
 declared_fields first (f ∷ fs) = field_with_feature (f, name_at first) ∷ declared_fields (first + 1) fs
 
+-- a pattern of a row as a tree: it declares the identifiers from a position on
 abbrev pub pattern_tree : ℕ → Pattern → tree.Pattern
 pattern_tree first (pattern.Int z) = IntPattern (Some z)
 pattern_tree first (pattern.Atom a) = AtomPattern a
 pattern_tree first (pattern.Rec label features) = RecordPattern label (declared_fields first features)
 
+-- a tell of the identifier at a position
 abbrev pub tell_statement : ℕ → Value → Plain
 tell_statement left v = Tells (name_at left) v
 
+-- a call of what is built in, with the identifiers at these positions
 abbrev pub calls_built_in : BuiltIn → List ℕ → Plain
 calls_built_in b xs = Calls (built_in_name b) (map name_at xs)
 
+-- `thread`, or `thread at` and the site
 abbrev pub thread_opening : Option ℤ → Opening
 thread_opening None = Threads
 thread_opening (Some at) = ThreadsAt (Some at)

@@ -19,6 +19,7 @@ first_fault None symbols behind = behind
 
 -- Each of the following takes what stands behind, rest, and the first fault that is found there, behind.
 
+-- what stands behind a dot: a variable that is used, or a feature
 abbrev pub check_selection : Selection → Scope → List Symbol → Option Fault → Option Fault
 check_selection (ByVariable x) scope rest behind = first_fault (use_fault scope x) (t.Variable x ∷ rest) behind
 check_selection (ByFeature m) scope rest behind = first_fault (selected_fault m) (feature_symbol m ∷ rest) behind
@@ -34,6 +35,7 @@ check_fields p scope room before next (WithFeature m x ∷ fs) rest found =
     (first_fault (name_fault p scope before x) (t.Variable x ∷ fields_text fs rest)
     (check_fields p scope (fewer room) (with_field (feature_of m) x before) next fs rest found))
 
+-- the right side of a tell: the variables that it uses, its integer, or its fields
 abbrev pub check_value : Value → Scope → List Symbol → Option Fault → Option Fault
 check_value (ToVar y) scope rest behind = first_fault (use_fault scope y) (value_text (ToVar y) rest) behind
 check_value (Calculates y o z) scope rest behind = first_fault (use_fault scope y) (value_text (Calculates y o z) rest) (first_fault (use_fault scope z) (t.Variable z ∷ rest) behind)
@@ -55,6 +57,7 @@ abbrev pub check_locals : List Identifier → List Identifier → List Symbol �
 check_locals before [] rest behind = behind
 check_locals before (x ∷ xs) rest behind = first_fault (count_fault (length before)) (names_text (x ∷ xs) rest) (check_locals (before ++ x ∷ []) xs rest behind)
 
+-- formals behind others: at most 64, and no name twice
 abbrev pub check_formals : List Identifier → List Identifier → List Symbol → Option Fault → Option Fault
 check_formals before [] rest behind = behind
 check_formals before (x ∷ xs) rest behind = first_fault (formal_fault before x) (names_text (x ∷ xs) rest) (check_formals (before ++ x ∷ []) xs rest behind)
@@ -69,10 +72,12 @@ abbrev pub check_uses : Scope → List Identifier → List Symbol → Option Fau
 check_uses scope [] rest behind = behind
 check_uses scope (x ∷ xs) rest behind = first_fault (use_fault scope x) (names_text (x ∷ xs) rest) (check_uses scope xs rest behind)
 
+-- the arguments of a call, of what is built in or of a procedure
 abbrev pub check_call : Option BuiltIn → Scope → List Identifier → List Symbol → Option Fault → Option Fault
 check_call (Some b) scope xs rest behind = check_uses scope xs rest behind
 check_call None scope xs rest behind = check_arguments scope 0 xs rest behind
 
+-- a statement without bodies: the variable at its front, and what it uses besides
 abbrev pub check_plain : Plain → Scope → List Symbol → Option Fault → Option Fault
 check_plain Skips scope rest behind = behind
 check_plain (Tells x v) scope rest behind = first_fault (use_fault scope x) (plain_text (Tells x v) rest) (check_value v scope rest behind)
@@ -81,6 +86,7 @@ check_plain (Calls p xs) scope rest behind =
     (check_call (built_in_at scope p) scope xs (t.CloseCurly ∷ rest) behind)
 check_plain (Raises x) scope rest behind = first_fault (use_fault scope x) (t.Variable x ∷ t.End ∷ rest) behind
 
+-- what stands before the one body of a statement: the variable that it tells, its names, or its site
 abbrev pub check_opening : Opening → Scope → List Symbol → Option Fault → Option Fault
 check_opening (Locals x xs) scope rest behind = check_locals (x ∷ []) xs (t.In ∷ rest) behind
 check_opening (ProcValue x xs) scope rest behind = first_fault (use_fault scope x) (opening_text (ProcValue x xs) rest) (check_formals [] xs (t.CloseCurly ∷ rest) behind)
@@ -88,6 +94,7 @@ check_opening (ProcNamed x xs) scope rest behind = first_fault (use_fault scope 
 check_opening Threads scope rest behind = behind
 check_opening (ThreadsAt n) scope rest behind = first_fault (site_fault n) (t.Integer n ∷ rest) behind
 
+-- what stands before the first of two bodies: the variable that it tests, and its pattern
 abbrev pub check_choice : Choice → Scope → List Symbol → Option Fault → Option Fault
 check_choice (Ifs x) scope rest behind = first_fault (use_fault scope x) (t.Variable x ∷ t.Then ∷ rest) behind
 check_choice (Cases x p) scope rest behind =

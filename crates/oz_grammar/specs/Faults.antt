@@ -16,10 +16,12 @@ abbrev pub or_else : Option FaultKind → Option FaultKind → Option FaultKind
 or_else (Some kind) other = Some kind
 or_else None other = other
 
+-- this kind of fault, unless the test holds
 abbrev pub where_not : Bool → FaultKind → Option FaultKind
 where_not true kind = None
 where_not false kind = Some kind
 
+-- this kind of fault, if the test holds
 abbrev pub where_so : Bool → FaultKind → Option FaultKind
 where_so true kind = Some kind
 where_so false kind = None
@@ -65,6 +67,7 @@ abbrev pub room_fault : ℕ → Option FaultKind
 room_fault zero = Some Wide
 room_fault (suc room) = None
 
+-- a field of this feature behind others, with room for so many: one too many, or a feature that one of them has
 abbrev pub feature_fault : ℕ → Fields → Feature → Option FaultKind
 feature_fault room before f = or_else (room_fault room) (where_so (has_feature before f) Twice)
 

@@ -75,26 +75,32 @@ mutual
     One : Statement → Sequence
     Then : Statement → Sequence → Sequence
 
+-- a feature is one symbol: an atom or an integer
 abbrev pub feature_symbol : FeatureToken → Symbol
 feature_symbol (AtomFeature a) = t.Atom a
 feature_symbol (IntFeature n) = t.Integer n
 
+-- so is what stands behind the dot of a selection
 abbrev pub selection_symbol : Selection → Symbol
 selection_symbol (ByVariable x) = t.Variable x
 selection_symbol (ByFeature m) = feature_symbol m
 
+-- the symbols of names before those that follow them, rest; so each of the others below
 abbrev pub names_text : List Identifier → List Symbol → List Symbol
 names_text [] rest = rest
 names_text (x ∷ xs) rest = t.Variable x ∷ names_text xs rest
 
+-- a field: its variable, or its feature, a colon and its variable
 abbrev pub field_text : Field → List Symbol → List Symbol
 field_text (Placed x) rest = t.Variable x ∷ rest
 field_text (WithFeature m x) rest = feature_symbol m ∷ t.Colon ∷ t.Variable x ∷ rest
 
+-- fields, up to the closing bracket
 abbrev pub fields_text : List Field → List Symbol → List Symbol
 fields_text [] rest = rest
 fields_text (f ∷ fs) rest = field_text f (fields_text fs rest)
 
+-- the right side of a tell
 abbrev pub value_text : Value → List Symbol → List Symbol
 value_text (ToVar y) rest = t.Variable y ∷ rest
 value_text (Calculates y o z) rest = t.Variable y ∷ t.Operator o ∷ t.Variable z ∷ rest
@@ -104,18 +110,21 @@ value_text (ToInt n) rest = t.Integer n ∷ rest
 value_text (ToAtom a) rest = t.Atom a ∷ rest
 value_text (ToRecord a fs) rest = t.Atom a ∷ t.OpenRound ∷ fields_text fs (t.CloseRound ∷ rest)
 
+-- a pattern, up to `then`
 abbrev pub pattern_text : Pattern → List Symbol → List Symbol
 pattern_text (IntPattern n) rest = t.Integer n ∷ rest
 pattern_text (AtomPattern a) rest = t.Atom a ∷ rest
 pattern_text (RecordPattern a fs) rest = t.Atom a ∷ t.OpenRound ∷ fields_text fs (t.CloseRound ∷ rest)
 pattern_text (PairPattern h u) rest = t.Variable h ∷ t.Bar ∷ t.Variable u ∷ rest
 
+-- a statement without bodies
 abbrev pub plain_text : Plain → List Symbol → List Symbol
 plain_text Skips rest = t.Skip ∷ rest
 plain_text (Tells x v) rest = t.Variable x ∷ t.Equals ∷ value_text v rest
 plain_text (Calls p xs) rest = t.OpenCurly ∷ t.Variable p ∷ names_text xs (t.CloseCurly ∷ rest)
 plain_text (Raises x) rest = t.Raise ∷ t.Variable x ∷ t.End ∷ rest
 
+-- a statement with one body, up to that body
 abbrev pub opening_text : Opening → List Symbol → List Symbol
 opening_text (Locals x xs) rest = t.Local ∷ t.Variable x ∷ names_text xs (t.In ∷ rest)
 opening_text (ProcValue x xs) rest = t.Variable x ∷ t.Equals ∷ t.Proc ∷ t.OpenCurly ∷ t.Dollar ∷ names_text xs (t.CloseCurly ∷ rest)
@@ -123,10 +132,12 @@ opening_text (ProcNamed x xs) rest = t.Proc ∷ t.OpenCurly ∷ t.Variable x ∷
 opening_text Threads rest = t.Thread ∷ rest
 opening_text (ThreadsAt n) rest = t.Thread ∷ t.At ∷ t.Integer n ∷ rest
 
+-- a statement with two bodies, up to the first
 abbrev pub choice_text : Choice → List Symbol → List Symbol
 choice_text (Ifs x) rest = t.If ∷ t.Variable x ∷ t.Then ∷ rest
 choice_text (Cases x p) rest = t.Case ∷ t.Variable x ∷ t.Of ∷ pattern_text p (t.Then ∷ rest)
 
+-- a statement, with the symbols of its bodies, and a sequence, whose statements follow one another
 abbrev mutual
   pub stmt_text : Statement → List Symbol → List Symbol
   stmt_text (Simple s) rest = plain_text s rest
@@ -138,6 +149,7 @@ abbrev mutual
   seq_text (One s) rest = stmt_text s rest
   seq_text (Then s q) rest = stmt_text s (seq_text q rest)
 
+-- the symbol that closes a sequence
 abbrev pub closer_symbol : Closer → Symbol
 closer_symbol closer.End = t.End
 closer_symbol closer.Else = t.Else

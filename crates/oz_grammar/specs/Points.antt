@@ -62,56 +62,62 @@ pub data Point : Type 0 where
 
 -- ---- what is expected
 
+-- behind a statement of a sequence: a statement, or what closes the sequence
 abbrev pub expected_after : Closer → What
 expected_after closer.End = what.StatementOrEnd
 expected_after closer.Else = what.StatementOrElse
 expected_after closer.Catch = what.StatementOrCatch
 expected_after closer.EndOfText = what.StatementOrEndOfText
 
-abbrev pub expects_stmt : Stage → Closer → What
-expects_stmt First c = what.Statement
-expects_stmt AfterThread c = what.StatementOrAt
-expects_stmt Later c = expected_after c
+-- at the front of a statement, by where that is
+abbrev pub expected_statement : Stage → Closer → What
+expected_statement First c = what.Statement
+expected_statement AfterThread c = what.StatementOrAt
+expected_statement Later c = expected_after c
 
-abbrev pub expects_sign : Sign → What
-expects_sign sign.Equals = what.Equals
-expects_sign sign.Then = what.Then
-expects_sign sign.Of = what.Of
-expects_sign sign.End = what.End
-expects_sign sign.OpenCurly = what.OpenBrace
-expects_sign sign.Dollar = what.Dollar
-expects_sign sign.Colon = what.Colon
-expects_sign sign.Bar = what.Bar
+-- where one symbol alone may stand
+abbrev pub expected_sign : Sign → What
+expected_sign sign.Equals = what.Equals
+expected_sign sign.Then = what.Then
+expected_sign sign.Of = what.Of
+expected_sign sign.End = what.End
+expected_sign sign.OpenCurly = what.OpenBrace
+expected_sign sign.Dollar = what.Dollar
+expected_sign sign.Colon = what.Colon
+expected_sign sign.Bar = what.Bar
 
+-- behind a name that is built in: an argument while some are wanted, then the closing bracket
 abbrev pub expects_wanted : ℕ → What
 expects_wanted zero = what.Close
 expects_wanted (suc k) = what.Variable
 
-abbrev pub expects : Point → What
-expects (At stage c scope d) = expects_stmt stage c
-expects (Here s) = expects_sign s
-expects (Used scope) = what.Variable
-expects (LocalName scope d) = what.Variable
-expects (LocalMore scope xs d) = what.VariableOrIn
-expects (ValueOf c scope d) = what.Value
-expects (BehindVariable c scope d) = expected_after c
-expects (BehindAtom c scope d) = expected_after c
-expects (SelectionOf scope) = what.VariableOrFeature
-expects (FieldOf p scope d room before next) = what.FieldOrBracket
-expects (FieldName p scope d room before next m) = what.Variable
-expects (CallName scope) = what.Variable
-expects (Arguments scope n) = what.VariableOrClose
-expects (Wanted scope k) = expects_wanted k
-expects (PatternOf scope d) = what.Pattern
-expects (BehindPattern scope d) = what.Then
-expects (PatternTail scope d h) = what.Variable
-expects (ProcName scope d) = what.Variable
-expects (Formals scope xs d) = what.VariableOrClose
-expects SiteHere = what.Integer
-expects (CatchName scope d) = what.Variable
+-- at a point: what a refusal there names behind `expected`
+abbrev pub expected_at : Point → What
+expected_at (At stage c scope d) = expected_statement stage c
+expected_at (Here s) = expected_sign s
+expected_at (Used scope) = what.Variable
+expected_at (LocalName scope d) = what.Variable
+expected_at (LocalMore scope xs d) = what.VariableOrIn
+expected_at (ValueOf c scope d) = what.Value
+expected_at (BehindVariable c scope d) = expected_after c
+expected_at (BehindAtom c scope d) = expected_after c
+expected_at (SelectionOf scope) = what.VariableOrFeature
+expected_at (FieldOf p scope d room before next) = what.FieldOrBracket
+expected_at (FieldName p scope d room before next m) = what.Variable
+expected_at (CallName scope) = what.Variable
+expected_at (Arguments scope n) = what.VariableOrClose
+expected_at (Wanted scope k) = expects_wanted k
+expected_at (PatternOf scope d) = what.Pattern
+expected_at (BehindPattern scope d) = what.Then
+expected_at (PatternTail scope d h) = what.Variable
+expected_at (ProcName scope d) = what.Variable
+expected_at (Formals scope xs d) = what.VariableOrClose
+expected_at SiteHere = what.Integer
+expected_at (CatchName scope d) = what.Variable
 
 -- ---- which symbols go on, and to which points
 
+-- the symbol is this sign
 abbrev pub is_sign : Sign → Symbol → Bool
 is_sign sign.Equals t.Equals = true
 is_sign sign.Then t.Then = true
@@ -152,13 +158,16 @@ beside AfterThread c scope d t.At = Some (SiteHere ∷ At First c scope d ∷ []
 beside AfterThread c scope d symbol = None
 beside Later c scope d symbol = if is_closer c symbol then Some [] else None
 
+-- the points of the first, if it has some, and else those of the second
 abbrev pub or_points : Option (List Point) → Option (List Point) → Option (List Point)
 or_points (Some points) others = Some points
 or_points None others = others
 
+-- at a statement: behind the symbol that begins it, or behind what may stand there besides
 abbrev pub next_stmt : Stage → Closer → Scope → ℕ → Symbol → Option (List Point)
 next_stmt stage c scope d symbol = or_points (points_behind_first c scope d symbol) (beside stage c scope d symbol)
 
+-- at the right side of a tell
 abbrev pub next_value : Closer → Scope → ℕ → Symbol → Option (List Point)
 next_value c scope d (t.Variable y) = Some (BehindVariable c scope d ∷ [])
 next_value c scope d (t.Integer n) = Some (At Later c scope d ∷ [])
@@ -166,16 +175,19 @@ next_value c scope d (t.Atom a) = Some (BehindAtom c scope d ∷ [])
 next_value c scope d t.Proc = Some (Here sign.OpenCurly ∷ Here sign.Dollar ∷ Formals scope [] (fewer d) ∷ At Later c scope d ∷ [])
 next_value c scope d symbol = None
 
+-- behind the first variable of a right side: at an operator, a dot or a bar, or at what follows the tell
 abbrev pub next_variable : Closer → Scope → ℕ → Symbol → Option (List Point)
 next_variable c scope d (t.Operator o) = Some (Used scope ∷ At Later c scope d ∷ [])
 next_variable c scope d t.Dot = Some (SelectionOf scope ∷ At Later c scope d ∷ [])
 next_variable c scope d t.Bar = Some (Used scope ∷ At Later c scope d ∷ [])
 next_variable c scope d symbol = next_stmt Later c scope d symbol
 
+-- behind the atom of a right side: at an opening bracket, or at what follows the tell
 abbrev pub next_atom : Closer → Scope → ℕ → Symbol → Option (List Point)
 next_atom c scope d t.OpenRound = Some (FieldOf purpose.Use scope d 64 [] 1 ∷ At Later c scope d ∷ [])
 next_atom c scope d symbol = next_stmt Later c scope d symbol
 
+-- behind a dot
 abbrev pub next_selection : Symbol → Option (List Point)
 next_selection (t.Variable x) = Some []
 next_selection (t.Atom a) = Some []
@@ -187,6 +199,7 @@ abbrev pub behind_fields : Purpose → Scope → ℕ → Fields → List Point
 behind_fields purpose.Use scope d fields = []
 behind_fields purpose.Declare scope d fields = Here sign.Then ∷ At First closer.Else (scope ++ names_in fields) d ∷ []
 
+-- at a field behind others, with room for so many, or at the closing bracket
 abbrev pub next_field : Purpose → Scope → ℕ → ℕ → Fields → ℕ → Symbol → Option (List Point)
 next_field p scope d room before next t.CloseRound = Some (behind_fields p scope d before)
 next_field p scope d room before next (t.Variable x) = Some (FieldOf p scope d (fewer room) (with_field (place_feature next) x before) (next + 1) ∷ [])
@@ -194,37 +207,44 @@ next_field p scope d room before next (t.Atom a) = Some (Here sign.Colon ∷ Fie
 next_field p scope d room before next (t.Integer n) = Some (Here sign.Colon ∷ FieldName p scope d room before next (IntFeature n) ∷ [])
 next_field p scope d room before next symbol = None
 
+-- behind the name of a call, of what is built in or of a procedure
 abbrev pub next_call : Scope → Option BuiltIn → List Point
 next_call scope (Some b) = Wanted scope (arity_of b) ∷ []
 next_call scope None = Arguments scope 0 ∷ []
 
+-- at an argument of what is built in, where so many are wanted, then at the closing bracket
 abbrev pub next_wanted : Scope → ℕ → Symbol → Option (List Point)
 next_wanted scope zero t.CloseCurly = Some []
 next_wanted scope zero symbol = None
 next_wanted scope (suc k) (t.Variable x) = Some (Wanted scope k ∷ [])
 next_wanted scope (suc k) symbol = None
 
+-- at an argument of a procedure behind n others, or at the closing bracket
 abbrev pub next_argument : Scope → ℕ → Symbol → Option (List Point)
 next_argument scope n (t.Variable x) = Some (Arguments scope (n + 1) ∷ [])
 next_argument scope n t.CloseCurly = Some []
 next_argument scope n symbol = None
 
+-- at a pattern: an integer, an atom, or the first variable of H|T
 abbrev pub next_pattern : Scope → ℕ → Symbol → Option (List Point)
 next_pattern scope d (t.Integer n) = Some (Here sign.Then ∷ At First closer.Else scope d ∷ [])
 next_pattern scope d (t.Atom a) = Some (BehindPattern scope d ∷ [])
 next_pattern scope d (t.Variable h) = Some (Here sign.Bar ∷ PatternTail scope d h ∷ [])
 next_pattern scope d symbol = None
 
+-- behind the atom of a pattern: at an opening bracket, or at `then`
 abbrev pub next_behind_pattern : Scope → ℕ → Symbol → Option (List Point)
 next_behind_pattern scope d t.OpenRound = Some (FieldOf purpose.Declare scope d 64 [] 1 ∷ [])
 next_behind_pattern scope d t.Then = Some (At First closer.Else scope d ∷ [])
 next_behind_pattern scope d symbol = None
 
+-- at a further name of a `local`, or at `in`
 abbrev pub next_local : Scope → List Identifier → ℕ → Symbol → Option (List Point)
 next_local scope xs d (t.Variable x) = Some (LocalMore scope (xs ++ x ∷ []) d ∷ [])
 next_local scope xs d t.In = Some (At First closer.End (scope ++ xs) d ∷ [])
 next_local scope xs d symbol = None
 
+-- at a formal behind others, or at the closing bracket
 abbrev pub next_formal : Scope → List Identifier → ℕ → Symbol → Option (List Point)
 next_formal scope xs d (t.Variable x) = Some (Formals scope (xs ++ x ∷ []) d ∷ [])
 next_formal scope xs d t.CloseCurly = Some (At First closer.End (scope ++ xs) d ∷ [])
@@ -235,6 +255,7 @@ abbrev pub on_variable : (Identifier → List Point) → Symbol → Option (List
 on_variable points (t.Variable x) = Some (points x)
 on_variable points symbol = None
 
+-- an integer, and then these points
 abbrev pub on_integer : List Point → Symbol → Option (List Point)
 on_integer points (t.Integer n) = Some points
 on_integer points symbol = None
@@ -265,33 +286,37 @@ next_of (CatchName scope d) symbol = on_variable (λ x. Here sign.Then ∷ At Fi
 
 -- ---- what is wrong at a symbol that goes on
 
-abbrev pub begins_statement : Symbol → Bool
-begins_statement t.Skip = true
-begins_statement (t.Variable x) = true
-begins_statement t.OpenCurly = true
-begins_statement t.Raise = true
-begins_statement t.Local = true
-begins_statement t.Proc = true
-begins_statement t.Thread = true
-begins_statement t.If = true
-begins_statement t.Case = true
-begins_statement t.Try = true
-begins_statement symbol = false
+-- the symbol begins a statement
+abbrev pub is_statement_start : Symbol → Bool
+is_statement_start t.Skip = true
+is_statement_start (t.Variable x) = true
+is_statement_start t.OpenCurly = true
+is_statement_start t.Raise = true
+is_statement_start t.Local = true
+is_statement_start t.Proc = true
+is_statement_start t.Thread = true
+is_statement_start t.If = true
+is_statement_start t.Case = true
+is_statement_start t.Try = true
+is_statement_start symbol = false
 
 -- a statement's own fault: its depth, and the name that begins a tell
 abbrev pub stmt_fault : Scope → ℕ → Symbol → Option FaultKind
 stmt_fault scope d (t.Variable x) = or_else (deep_fault d) (use_fault scope x)
-stmt_fault scope d symbol = if begins_statement symbol then deep_fault d else None
+stmt_fault scope d symbol = if is_statement_start symbol then deep_fault d else None
 
+-- a variable that is used
 abbrev pub used_wrong : Scope → Symbol → Option FaultKind
 used_wrong scope (t.Variable x) = use_fault scope x
 used_wrong scope symbol = None
 
+-- a variable that is used, or an integer
 abbrev pub value_wrong : Scope → Symbol → Option FaultKind
 value_wrong scope (t.Variable x) = use_fault scope x
 value_wrong scope (t.Integer n) = number_fault n
 value_wrong scope symbol = None
 
+-- the variable or the feature of a field behind others, with room for so many
 abbrev pub field_wrong : Purpose → Scope → ℕ → Fields → ℕ → Symbol → Option FaultKind
 field_wrong p scope room before next (t.Variable x) = placed_fault p scope room before next x
 field_wrong p scope room before next (t.Atom a) = feature_token_fault room before (AtomFeature a)
@@ -303,10 +328,12 @@ abbrev pub by_name : (Identifier → Option FaultKind) → Symbol → Option Fau
 by_name wrong (t.Variable x) = wrong x
 by_name wrong symbol = None
 
+-- what an integer has wrong, by its number
 abbrev pub by_number : (Option ℤ → Option FaultKind) → Symbol → Option FaultKind
 by_number wrong (t.Integer n) = wrong n
 by_number wrong symbol = None
 
+-- what is wrong, besides the grammar, at a symbol that goes on from a point
 abbrev pub wrong_at : Point → Symbol → Option FaultKind
 wrong_at (At stage c scope d) symbol = stmt_fault scope d symbol
 wrong_at (Here s) symbol = None
@@ -333,21 +360,23 @@ wrong_at (CatchName scope d) symbol = None
 -- ---- reading by points
 
 -- a lexical fault stands before what is expected
-abbrev pub refusal : What → List Symbol → FaultKind
-refusal w (t.Bad kind ∷ rest) = Lex kind
-refusal w symbols = Expected w
+abbrev pub mismatch : What → List Symbol → FaultKind
+mismatch w (t.Bad kind ∷ rest) = Lex kind
+mismatch w symbols = Expected w
 
+-- at point p: where the symbol goes on, its own fault or the first one behind it; else its lexical fault, or that another was expected
 abbrev pub run_step : Point → Option (List Point) → Option FaultKind → List Symbol → (List Point → Option Fault) → List Point → Option Fault
 run_step p (Some points) wrong symbols on behind = first_fault wrong symbols (on (points ++ behind))
-run_step p None wrong symbols on behind = Some (fault_here (refusal (expects p) symbols) symbols)
+run_step p None wrong symbols on behind = Some (fault_here (mismatch (expected_at p) symbols) symbols)
 
 -- the first fault of these symbols, read from these points
 abbrev pub run : List Symbol → List Point → Option Fault
 run [] [] = None
-run [] (p ∷ behind) = Some (fault_here (Expected (expects p)) [])
+run [] (p ∷ behind) = Some (fault_here (Expected (expected_at p)) [])
 run (symbol ∷ symbols) [] = None
 run (symbol ∷ symbols) (p ∷ behind) = run_step p (next_of p symbol) (wrong_at p symbol) (symbol ∷ symbols) (run symbols) behind
 
+-- the points behind a symbol, if it goes on and has no fault
 abbrev pub walk_on : Option (List Point) → Option FaultKind → (List Point → Option (List Point)) → List Point → Option (List Point)
 walk_on (Some points) None on behind = on (points ++ behind)
 walk_on (Some points) (Some kind) on behind = None

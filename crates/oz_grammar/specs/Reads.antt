@@ -16,7 +16,7 @@ use Rattle.oz_grammar.specs.Grammar.{Sequence, program_text}
 use Rattle.oz_grammar.specs.Scoping.{IsDerivation}
 use Rattle.oz_grammar.specs.Check.{check}
 use Rattle.oz_grammar.specs.Faults.{fault_here}
-use Rattle.oz_grammar.specs.Points.{Point, expects, walk, start}
+use Rattle.oz_grammar.specs.Points.{Point, expected_at, walk, start}
 use Rattle.oz_grammar.specs.Table.{program_table}
 
 -- ---- programs
@@ -43,44 +43,44 @@ SameHead [] b = b ≡ []
 SameHead (x ∷ xs) b = (ys : List Symbol) × (b ≡ x ∷ ys)
 
 -- a program goes on behind these symbols with more
-pub record GoesOn (front more : List Symbol) : Type 0 where
+pub record IsCompletedBy (front more : List Symbol) : Type 0 where
   pub program : Sequence
   pub derives : IsDerivation program
   pub derived : front ++ more ≡ program_text program
 
 -- some program has front, and the first symbol of rest behind it
-pub record GoesThrough (front rest : List Symbol) : Type 0 where
+pub record IsViableThrough (front rest : List Symbol) : Type 0 where
   pub more : List Symbol
   pub same : SameHead rest more
-  pub goes_on : GoesOn front more
+  pub goes_on : IsCompletedBy front more
 
 -- no program has them so
-abbrev pub NoneGoesThrough : List Symbol → List Symbol → Type 0
-NoneGoesThrough front rest = (more : List Symbol) → SameHead rest more → GoesOn front more → ⊥
+abbrev pub IsNotViableThrough : List Symbol → List Symbol → Type 0
+IsNotViableThrough front rest = (more : List Symbol) → SameHead rest more → IsCompletedBy front more → ⊥
 
 -- the point of the grammar behind these symbols
-pub record StandsAt (front : List Symbol) (p : Point) : Type 0 where
+pub record IsAtPoint (front : List Symbol) (p : Point) : Type 0 where
   pub behind : List Point
   pub walked : walk front start ≡ Some (p ∷ behind)
 
 -- a lexical fault stands at the front
-abbrev pub BeginsBad : List Symbol → LexKind → Type 0
-BeginsBad rest kind = (more : List Symbol) × (rest ≡ t.Bad kind ∷ more)
+abbrev pub HasLexFault : List Symbol → LexKind → Type 0
+HasLexFault rest kind = (more : List Symbol) × (rest ≡ t.Bad kind ∷ more)
 
 -- a token of the text is expected there which is another
 abbrev pub IsExpected : List Symbol → List Symbol → What → Type 0
 IsExpected front rest w =
-    ((kind : LexKind) → BeginsBad rest kind → ⊥) × NoneGoesThrough front rest × ((p : Point) × StandsAt front p × (w ≡ expects p))
+    ((kind : LexKind) → HasLexFault rest kind → ⊥) × IsNotViableThrough front rest × ((p : Point) × IsAtPoint front p × (w ≡ expected_at p))
 
 -- some program goes on through the first symbol of rest, and the first thing wrong in each is this, at that symbol
 abbrev pub IsWrong : List Symbol → List Symbol → FaultKind → Type 0
 IsWrong front rest kind =
-    GoesThrough front rest
-    × ((more : List Symbol) → SameHead rest more → (on : GoesOn front more) → check on.program ≡ Some (fault_here kind more))
+    IsViableThrough front rest
+    × ((more : List Symbol) → SameHead rest more → (on : IsCompletedBy front more) → check on.program ≡ Some (fault_here kind more))
 
 -- this kind of fault is the first that applies at the first symbol of rest, behind front
 abbrev pub AppliesAt : List Symbol → List Symbol → FaultKind → Type 0
-AppliesAt front rest (Lex kind) = BeginsBad rest kind
+AppliesAt front rest (Lex kind) = HasLexFault rest kind
 AppliesAt front rest (Expected w) = IsExpected front rest w
 AppliesAt front rest kind = IsWrong front rest kind
 
@@ -90,8 +90,8 @@ pub record FaultOfSymbols (symbols : List Symbol) (f : Fault) : Type 0 where
   pub rest : List Symbol
   pub divided : symbols ≡ front ++ rest
   pub place : f.left ≡ length rest
-  pub before : (more : List Symbol) × GoesOn front more
-  pub clean : (more : List Symbol) → (on : GoesOn front more) → (g : Fault) → check on.program ≡ Some g → g.left ≤ length more
+  pub before : (more : List Symbol) × IsCompletedBy front more
+  pub clean : (more : List Symbol) → (on : IsCompletedBy front more) → (g : Fault) → check on.program ≡ Some g → g.left ≤ length more
   pub applies : AppliesAt front rest f.kind
 
 -- the line and the column of the token at which so many are left

@@ -14,6 +14,7 @@ use Rattle.oz_grammar.specs.Table.{code_at}
 use Rattle.oz_grammar.specs.Canonical.{canonical_symbols}
 use Rattle.oz_grammar.specs.Reading.{program_at}
 
+-- the variables X, Y and Browse, the last `end` of a program, an integer, and the atom f
 abbrev X : Symbol
 X = t.Variable (codes "X")
 
@@ -68,13 +69,15 @@ TwiceBeforeColon = Refused (t.Local ∷ X ∷ t.In ∷ X ∷ t.Equals ∷ atom_f
 abbrev pub TwiceInPattern : Type 0
 TwiceInPattern = Refused (t.Local ∷ X ∷ t.In ∷ t.Case ∷ X ∷ t.Of ∷ Y ∷ t.Bar ∷ Y ∷ t.Then ∷ t.Skip ∷ t.Else ∷ t.Skip ∷ t.End ∷ end) Twice 8
 
--- thread at 0 skip end, thread at 00 skip end, thread }
+-- thread at 0 skip end
 abbrev pub SiteBelow : Type 0
 SiteBelow = Refused (t.Thread ∷ t.At ∷ int 0 ∷ t.Skip ∷ end) Site 4
 
+-- thread at 00 skip end
 abbrev pub NumberFirst : Type 0
 NumberFirst = Refused (t.Thread ∷ t.At ∷ t.Integer None ∷ t.Skip ∷ end) Number 4
 
+-- thread }
 abbrev pub BehindThread : Type 0
 BehindThread = Refused (t.Thread ∷ t.CloseCurly ∷ t.EndOfText ∷ []) (Expected what.StatementOrAt) 2
 
@@ -99,26 +102,30 @@ BodiesInPreorder =
     program_at (t.Local ∷ X ∷ t.In ∷ t.If ∷ X ∷ t.Then ∷ t.Skip ∷ t.Skip ∷ t.Else ∷ t.Skip ∷ t.End ∷ end)
     ≡ Ok (stmt.Local 0 1 (code_at 1) ∷ stmt.If 0 (code_at 2) (code_at 5) ∷ stmt.Seq (code_at 3 ∷ code_at 4 ∷ []) ∷ stmt.Skip ∷ stmt.Skip ∷ stmt.Skip ∷ [])
 
--- local P in proc {P X} X = f(b:P P) end end, and the same in its canonical form:
+-- the table of local P in proc {P X} X = f(b:P P) end end, and of the same in its canonical form:
 -- local V0 in V0 = proc { $ V1 } V1 = f ( 1 : V0 b : V0 ) end end
 abbrev example : List Stmt
 example = stmt.Local 0 1 (code_at 1) ∷ stmt.TellProc 0 1 1 (code_at 2) ∷ stmt.TellRec 1 (codes "f") ((feature.Int (pos 1), 0) ∷ (feature.Atom (codes "b"), 0) ∷ []) ∷ []
 
+-- its variable P
 abbrev P : Symbol
 P = t.Variable (codes "P")
 
+-- the first text reads as the table
 abbrev pub ExampleReads : Type 0
 ExampleReads =
     program_at
     (t.Local ∷ P ∷ t.In ∷ t.Proc ∷ t.OpenCurly ∷ P ∷ X ∷ t.CloseCurly ∷ X ∷ t.Equals ∷ atom_f ∷ t.OpenRound ∷ t.Atom (codes "b") ∷ t.Colon ∷ P ∷ P ∷ t.CloseRound ∷ t.End ∷ end)
     ≡ Ok example
 
+-- the identifiers of the canonical form
 abbrev V0 : Symbol
 V0 = t.Variable (codes "V0")
 
 abbrev V1 : Symbol
 V1 = t.Variable (codes "V1")
 
+-- the second text is canonical
 abbrev pub ExampleIsCanonical : Type 0
 ExampleIsCanonical =
     canonical_symbols example

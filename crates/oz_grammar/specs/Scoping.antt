@@ -26,6 +26,7 @@ abbrev pub position_of : Scope → Identifier → Option ℕ
 position_of [] x = None
 position_of (y ∷ ys) x = declared_behind (bytes_eq y x) (position_of ys x)
 
+-- a declaration around the place has this name
 abbrev pub is_declared : Scope → Identifier → Bool
 is_declared scope x = is_some (position_of scope x)
 
@@ -35,6 +36,7 @@ declaration_of scope x = unwrap_or (position_of scope x) 0
 
 -- ---- what is built in
 
+-- what is built in under this name
 abbrev pub built_in_of : Identifier → Option BuiltIn
 built_in_of x =
     if bytes_eq x (codes "Browse") then Some built.Browse
@@ -60,7 +62,7 @@ built_in_at scope p = if is_declared scope p then None else built_in_of p
 abbrev pub Fields : Type 0
 Fields = List (Feature × Identifier)
 
--- the feature of a mark. One that passes is a good number
+-- the feature that a text names. An integer that passes is a good number
 abbrev pub feature_of : FeatureToken → Feature
 feature_of (AtomFeature a) = feature.Atom a
 feature_of (IntFeature n) = feature.Int (unwrap_or n (pos 0))
@@ -69,9 +71,11 @@ feature_of (IntFeature n) = feature.Int (unwrap_or n (pos 0))
 abbrev pub place_feature : ℕ → Feature
 place_feature k = feature.Int (pos k)
 
+-- one of the fields has this feature
 abbrev pub has_feature : Fields → Feature → Bool
 has_feature fields f = list_any (λ (g : Feature × Identifier). equal_feature g.0 f) fields
 
+-- one of the names is this one
 abbrev pub has_name : List Identifier → Identifier → Bool
 has_name names x = list_any (λ (y : Identifier). bytes_eq y x) names
 
@@ -91,6 +95,7 @@ fields_behind before next [] = before
 fields_behind before next (Placed x ∷ fs) = fields_behind (with_field (place_feature next) x before) (next + 1) fs
 fields_behind before next (WithFeature m x ∷ fs) = fields_behind (with_field (feature_of m) x before) next fs
 
+-- the fields in the brackets of a record
 abbrev pub fields_of : List Field → Fields
 fields_of fs = fields_behind [] 1 fs
 
@@ -123,6 +128,7 @@ abbrev pub HasArguments : Option BuiltIn → List Identifier → Type 0
 HasArguments (Some b) xs = length xs ≡ arity_of b
 HasArguments None xs = Unit {0}
 
+-- where a statement without bodies is a call, it has its arguments
 abbrev pub PlainDerives : Plain → Scope → Type 0
 PlainDerives (Calls p xs) scope = HasArguments (built_in_at scope p) xs
 PlainDerives _ scope = Unit {0}

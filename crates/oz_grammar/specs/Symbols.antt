@@ -4,10 +4,10 @@ use Rattle.std.specs.Str.{bytes_eq}
 use Rattle.oz_lexer.specs.declared.token.TokenKind.{TokenKind}
 use Rattle.oz_lexer.specs.declared.token.TokenKind.TheVariants as kind
 use Rattle.oz_lexer.specs.declared.token.LexKind.{LexKind}
-use Rattle.oz_lexer.specs.Spelling.{digits_of, unescaped}
+use Rattle.oz_lexer.specs.Spelling.{digits_of, text_in_quotes}
 use Rattle.oz_lexer.specs.Tokens.{Lexeme}
 use Rattle.kernel_syntax.specs.declared.stmt.Op.TheVariants as op
-use Rattle.kernel_syntax.specs.Texts.{IsText, FitsIfSome}
+use Rattle.kernel_syntax.specs.Texts.{IsText, IsWordIfSome}
 use Rattle.oz_grammar.specs.declared.symbol.Symbol.{Symbol}
 use Rattle.oz_grammar.specs.declared.symbol.Symbol.TheVariants as t
 
@@ -16,6 +16,7 @@ abbrev pub number_after : ℕ → List ℕ → ℕ
 number_after n [] = n
 number_after n (c ∷ cs) = number_after (10 * n + (c - 48)) cs
 
+-- the number that digits name in decimal
 abbrev pub number_of : List ℕ → ℕ
 number_of digits = number_after 0 digits
 
@@ -23,23 +24,24 @@ number_of digits = number_after 0 digits
 abbrev pub is_plain : List ℕ → Bool
 is_plain digits = not (slice_index digits 0 == 48) || nat_le (length digits) 1
 
-abbrev pub negative : ℕ → ℤ
-negative zero = pos zero
-negative (suc n) = negsuc n
+-- minus this number
+abbrev pub negation : ℕ → ℤ
+negation zero = pos zero
+negation (suc n) = negsuc n
 
 -- the integer of this sign and size: from -2^63 to 2^63 - 1
-abbrev pub signed : Bool → ℕ → Option ℤ
-signed true n = if nat_le n 9223372036854775808 then Some (negative n) else None
-signed _ n = if nat_lt n 9223372036854775808 then Some (pos n) else None
+abbrev pub signed_integer : Bool → ℕ → Option ℤ
+signed_integer true n = if nat_le n 9223372036854775808 then Some (negation n) else None
+signed_integer _ n = if nat_lt n 9223372036854775808 then Some (pos n) else None
 
 -- the integer that is spelled so, if it is a good one
 unfoldable pub integer_of : List ℕ → Option ℤ
 integer_of bytes =
-    if is_plain (digits_of bytes) then signed (slice_index bytes 0 == 126) (number_of (digits_of bytes)) else None
+    if is_plain (digits_of bytes) then signed_integer (slice_index bytes 0 == 126) (number_of (digits_of bytes)) else None
 
 -- the text of an atom in quotes
 abbrev pub quoted_text : List ℕ → List ℕ
-quoted_text bytes = unescaped (take (length bytes - 2) (drop 1 bytes))
+quoted_text bytes = text_in_quotes (take (length bytes - 2) (drop 1 bytes))
 
 -- a reserved word
 unfoldable pub word_symbol : List ℕ → Symbol
@@ -95,6 +97,7 @@ symbol_at (Ok kind.Sign) bytes = sign_symbol bytes
 symbol_at (Ok kind.End) bytes = t.EndOfText
 symbol_at (Err fault) bytes = t.Bad fault
 
+-- the symbol of a token, of the end of the text, or of a fault
 abbrev pub symbol_of : Lexeme → Symbol
 symbol_of l = symbol_at l.what l.bytes
 
@@ -110,5 +113,5 @@ ends_once (symbol ∷ rest) = ends_once rest
 -- an atom's text, and an integer of 64 bits where it is a good one
 abbrev pub IsSpelled : Symbol → Type 0
 IsSpelled (t.Atom text) = IsText text
-IsSpelled (t.Integer n) = FitsIfSome n
+IsSpelled (t.Integer n) = IsWordIfSome n
 IsSpelled symbol = Unit {0}

@@ -15,6 +15,7 @@ use Rattle.oz_grammar.specs.Grammar.{Identifier, FeatureToken, AtomFeature, IntF
 use Rattle.oz_grammar.specs.Grammar as tree
 use Rattle.oz_grammar.specs.Scoping.{Scope, Fields, declaration_of, built_in_at, feature_of, fields_of, opening_scope, choice_scope}
 
+-- the number of a row
 abbrev pub code_at : ℕ → CodeId
 code_at k = record { 0 = k }
 
@@ -22,13 +23,15 @@ code_at k = record { 0 = k }
 abbrev pub value_of : Option ℤ → ℤ
 value_of n = unwrap_or n (pos 0)
 
--- the label and the features of H|T
+-- the label of H|T
 abbrev pub bar_label : List ℕ
 bar_label = codes "|"
 
+-- its features
 abbrev pub two_features : List Feature
 two_features = feature.Int (pos 1) ∷ feature.Int (pos 2) ∷ []
 
+-- the tell of H|T
 abbrev pub pair_row : ℕ → ℕ → ℕ → Stmt
 pair_row left head tail = stmt.TellRec left bar_label ((feature.Int (pos 1), head) ∷ (feature.Int (pos 2), tail) ∷ [])
 
@@ -36,6 +39,7 @@ pair_row left head tail = stmt.TellRec left bar_label ((feature.Int (pos 1), hea
 abbrev pub slots_of : Scope → Fields → List (Feature × ℕ)
 slots_of scope fields = map (λ (f : Feature × Identifier). (f.0, declaration_of scope f.1)) fields
 
+-- the features of fields
 abbrev pub features_in : Fields → List Feature
 features_in fields = map (λ (f : Feature × Identifier). f.0) fields
 
@@ -44,14 +48,17 @@ abbrev pub record_row : ℕ → List ℕ → List (Feature × ℕ) → Stmt
 record_row left label [] = stmt.TellAtom left label
 record_row left label (slot ∷ slots) = stmt.TellRec left label (slot ∷ slots)
 
+-- without features it is the atom
 abbrev pub record_pattern : List ℕ → List Feature → Pattern
 record_pattern label [] = pattern.Atom label
 record_pattern label (f ∷ fs) = pattern.Rec label (f ∷ fs)
 
+-- what stands behind a dot, with its position where it is a variable
 abbrev pub selector_of : Selection → Scope → Selector
 selector_of (ByVariable x) scope = selector.Var (declaration_of scope x)
 selector_of (ByFeature m) scope = selector.Feature (feature_of m)
 
+-- the row of a tell, by its right side
 abbrev pub value_row : ℕ → Value → Scope → Stmt
 value_row left (ToVar y) scope = stmt.TellVar left (declaration_of scope y)
 value_row left (Calculates y o z) scope = stmt.Calc left o (declaration_of scope y) (declaration_of scope z)
@@ -61,6 +68,7 @@ value_row left (ToInt n) scope = stmt.TellInt left (value_of n)
 value_row left (ToAtom a) scope = stmt.TellAtom left a
 value_row left (ToRecord a fs) scope = record_row left a (slots_of scope (fields_of fs))
 
+-- a pattern as a row has it, without the names that it declares
 abbrev pub pattern_of : tree.Pattern → Pattern
 pattern_of (IntPattern n) = pattern.Int (value_of n)
 pattern_of (AtomPattern a) = pattern.Atom a
@@ -74,10 +82,12 @@ built_in_row built.Wait xs = stmt.Wait (slice_index xs 0)
 built_in_row built.NewCell xs = stmt.NewCell (slice_index xs 0) (slice_index xs 1)
 built_in_row built.Exchange xs = stmt.Exchange (slice_index xs 0) (slice_index xs 1) (slice_index xs 2)
 
+-- a call of what is built in, or of a procedure
 abbrev pub call_row : Option BuiltIn → ℕ → List ℕ → Stmt
 call_row (Some b) callee xs = built_in_row b xs
 call_row None callee xs = stmt.Call callee xs
 
+-- the row of a statement without bodies
 abbrev pub plain_row : Plain → Scope → Stmt
 plain_row Skips scope = stmt.Skip
 plain_row (Tells x v) scope = value_row (declaration_of scope x) v scope
@@ -92,6 +102,7 @@ opening_row (ProcNamed x xs) scope body = stmt.TellProc (declaration_of scope x)
 opening_row Threads scope body = stmt.Thread None body
 opening_row (ThreadsAt n) scope body = stmt.Thread (Some (value_of n)) body
 
+-- the row of a statement with two bodies, of these numbers
 abbrev pub choice_row : Choice → Scope → CodeId → CodeId → Stmt
 choice_row (Ifs x) scope chosen other = stmt.If (declaration_of scope x) chosen other
 choice_row (Cases x p) scope chosen other = stmt.Case (declaration_of scope x) (pattern_of p) (length scope) chosen other
@@ -125,5 +136,6 @@ abbrev mutual
   seq_numbers (One s) scope k = code_at k ∷ []
   seq_numbers (Then s q) scope k = code_at k ∷ seq_numbers q scope (k + length (stmt_rows s scope k))
 
+-- the rows of a whole program
 abbrev pub program_table : Sequence → List Stmt
 program_table q = seq_rows q [] 0

@@ -13,9 +13,9 @@ use Rattle.oz_lexer.specs.declared.token.LexKind.{LexKind}
 use Rattle.oz_lexer.specs.declared.token.LexKind.TheVariants.{BadChar, LongName}
 use Rattle.oz_lexer.specs.Spelling.{are_digits, is_control, is_escape, is_name, token_kind_of}
 use Rattle.oz_lexer.specs.Faults.{FaultAt, bad_char, control, bad_escape, open_quote, open_escape, open_comment, long_name}
-use Rattle.oz_lexer.specs.Scan.{is_one, is_two, quote_from, within_name_limit, quoted_token, plain_token, token_length, token_kind, front_of}
+use Rattle.oz_lexer.specs.Scan.{is_one_byte_sign, is_two_byte_sign, quote_from, within_name_limit, quoted_token, plain_token, token_length, token_kind, front_of}
 use Rattle.oz_lexer.proofs.Signs.{behind_sign}
-use Rattle.oz_lexer.proofs.Spelled.{behind_first, spelled}
+use Rattle.oz_lexer.proofs.TokenBytes.{behind_first, spelled}
 use Rattle.oz_lexer.proofs.Quotes.{ends, is_nil, quote_kind}
 use Rattle.oz_lexer.proofs.Fronts.{within, quote_within, nothing_spelled}
 use Rattle.std.proofs.lemmas.Bool.{and_parts}
@@ -37,7 +37,7 @@ word_ascii b e = grind arith
 eq_ascii : (b k : ℕ) → k < 128 → eqb b k ≡ true → b < 128
 eq_ascii b k lt e = grind arith
 
-one_ascii : (b : ℕ) → is_one b ≡ true → b < 128
+one_ascii : (b : ℕ) → is_one_byte_sign b ≡ true → b < 128
 one_ascii b e =
     either (eq_ascii b 61 (omega arith)) (either (eq_ascii b 40 (omega arith)) (either (eq_ascii b 41 (omega arith)) (either (eq_ascii b 123 (omega arith)) (either (eq_ascii b 125 (omega arith))
     (either (eq_ascii b 36 (omega arith)) (either (eq_ascii b 58 (omega arith)) (either (eq_ascii b 46 (omega arith)) (either (eq_ascii b 124 (omega arith)) (either (eq_ascii b 43 (omega arith))
@@ -47,7 +47,7 @@ one_ascii b e =
     either {x = true} f g e = f refl
     either {x = false} f g e = g e
 
-two_ascii : (b c : ℕ) → is_two b c ≡ true → (b < 128) × (c < 128)
+two_ascii : (b c : ℕ) → is_two_byte_sign b c ≡ true → (b < 128) × (c < 128)
 two_ascii b c e = grind arith
 
 all_ascii : (p : ℕ → Bool) → ((b : ℕ) → p b ≡ true → b < 128) → (cs : List ℕ) → list_all p cs ≡ true → (i : ℕ) → get_or cs i 0 < 128

@@ -8,7 +8,7 @@ use Rattle.oz_lexer.specs.declared.token.LexKind.{LexKind}
 use Rattle.oz_lexer.specs.Tokens.{IsLexemeAt}
 use Rattle.oz_lexer.specs.Scan.{behind_blank, front_of}
 use Rattle.oz_lexer.proofs.Fronts.{taken_length}
-use Rattle.oz_lexer.proofs.Begins.{end_or_token, ok_begins, err_begins}
+use Rattle.oz_lexer.proofs.FrontLemmas.{end_or_token, ok_begins, err_begins}
 use Rattle.oz_lexer.proofs.Boundaries.{ok_within, err_within, token_cut}
 
 -- a token of n bytes at start

@@ -6,13 +6,13 @@ use Rattle.oz_lexer.specs.declared.token.TokenKind.TheVariants.{Variable, Atom, 
 use Rattle.oz_lexer.specs.declared.token.LexKind.{LexKind}
 use Rattle.oz_lexer.specs.declared.token.LexKind.TheVariants.{OpenComment}
 use Rattle.oz_lexer.specs.Spelling.{token_kind_of}
-use Rattle.oz_lexer.specs.Faults.{Longest}
-use Rattle.oz_lexer.specs.Tokens.{IsLexemeAt, Lexeme, Next, EndOrMore, TokensFrom}
+use Rattle.oz_lexer.specs.Faults.{IsLongestToken}
+use Rattle.oz_lexer.specs.Tokens.{IsLexemeAt, Lexeme, IsNextLexeme, EndOrMore, TokensFrom}
 use Rattle.oz_lexer.specs.Laws.{TextsDivide, TextsDivideOnce}
 use Rattle.oz_lexer.specs.Scan.{behind_blank, front_of}
 use Rattle.oz_lexer.proofs.Skipping.{Open, blank_found, one_end, Ends, they_end}
 use Rattle.oz_lexer.proofs.Fronts.{nothing_spelled}
-use Rattle.oz_lexer.proofs.Begins.{Found, front_found, front_at, Seen, seen}
+use Rattle.oz_lexer.proofs.FrontLemmas.{Found, front_found, front_at, Seen, seen}
 use Rattle.oz_lexer.proofs.OneFront.{one_front}
 
 -- ---- only one
@@ -36,7 +36,7 @@ same_front : (place : ℕ) (text : List ℕ) (l m : Lexeme) (a b front other : L
     → seen_as l a ≡ seen_as m b
 same_front place text l m a b front other is p q = p ∙ ap (λ (xs : List ℕ). seen (place + (length text - length xs)) xs (front_at xs)) is ∙ sym q
 
-pub one_next : (place : ℕ) (text : List ℕ) (l m : Lexeme) (a b : List ℕ) → Next place text l a → Next place text m b → SameNext l m a b
+pub one_next : (place : ℕ) (text : List ℕ) (l m : Lexeme) (a b : List ℕ) → IsNextLexeme place text l a → IsNextLexeme place text m b → SameNext l m a b
 unfolding seen_as
 one_next place text l m a b p q =
     let f = one_front (place + (length text - length p.front)) p.front l.what l.start l.bytes a p.begins in
@@ -74,7 +74,7 @@ abbrev Divided : ℕ → List ℕ → Type 0
 Divided place text = (ls : List Lexeme) × TokensFrom place text ls
 
 -- behind a token
-token_then : (place start : ℕ) (text front bytes rest : List ℕ) (kind : TokenKind) → Next place text (record { what = Ok kind; start = start; bytes = bytes }) rest → (Divided (start + length bytes) rest) → Divided place text
+token_then : (place start : ℕ) (text front bytes rest : List ℕ) (kind : TokenKind) → IsNextLexeme place text (record { what = Ok kind; start = start; bytes = bytes }) rest → (Divided (start + length bytes) rest) → Divided place text
 token_then place start text front bytes rest Variable n d = (record { what = Ok Variable; start = start; bytes = bytes } ∷ d.0, (rest, n, d.1))
 token_then place start text front bytes rest Atom n d = (record { what = Ok Atom; start = start; bytes = bytes } ∷ d.0, (rest, n, d.1))
 token_then place start text front bytes rest Quoted n d = (record { what = Ok Quoted; start = start; bytes = bytes } ∷ d.0, (rest, n, d.1))
@@ -88,12 +88,12 @@ some_bytes : (bytes : List ℕ) (kind : TokenKind) → token_kind_of bytes ≡ S
 some_bytes [] kind e = let no = nothing_spelled in absurd cc
 some_bytes (b ∷ bs) kind e = omega arith
 
-behind_shorter : (text : List ℕ) (kind : TokenKind) (n : ℕ) → Longest text kind (take n text) (drop n text) → length (drop n text) < length text
+behind_shorter : (text : List ℕ) (kind : TokenKind) (n : ℕ) → IsLongestToken text kind (take n text) (drop n text) → length (drop n text) < length text
 behind_shorter text kind n l =
     let s = some_bytes (take n text) kind l.spells in
     omega (arith, length-take n text, length-drop n text)
 
-fault_alone : (place : ℕ) (text rest : List ℕ) (l : Lexeme) (kind : LexKind) → l.what ≡ Err kind → Next place text l rest → Divided place text
+fault_alone : (place : ℕ) (text rest : List ℕ) (l : Lexeme) (kind : LexKind) → l.what ≡ Err kind → IsNextLexeme place text l rest → Divided place text
 fault_alone place text rest l kind e n = (l ∷ [], (rest, n, subst (λ (w : Result TokenKind LexKind). EndOrMore w (◌≡◌ {A = List Lexeme} [] []) (TokensFrom (l.start + length l.bytes) rest [])) (sym e) refl))
 
 divide_front : (place : ℕ) (text : List ℕ) (e : Ends text) (r : Result (TokenKind × ℕ) (LexKind × ℕ)) → Found (place + (length text - length e.rest)) e.rest r

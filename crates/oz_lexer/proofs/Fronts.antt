@@ -10,10 +10,10 @@ use Rattle.oz_lexer.specs.declared.token.TokenKind.{TokenKind}
 use Rattle.oz_lexer.specs.declared.token.TokenKind.TheVariants.{Quoted}
 use Rattle.oz_lexer.specs.declared.token.LexKind.TheVariants.{BadChar}
 use Rattle.oz_lexer.specs.Spelling.{token_kind_of}
-use Rattle.oz_lexer.specs.Faults.{Longest}
-use Rattle.oz_lexer.specs.Scan.{is_one, is_two, sign_length, minus_length, quote_from, within_name_limit, quoted_token, plain_token, token_length, token_kind, front_of}
+use Rattle.oz_lexer.specs.Faults.{IsLongestToken}
+use Rattle.oz_lexer.specs.Scan.{is_one_byte_sign, is_two_byte_sign, sign_length, minus_length, quote_from, within_name_limit, quoted_token, plain_token, token_length, token_kind, front_of}
 use Rattle.oz_lexer.proofs.Quotes.{ends, quote_kind, closes, closed, no_longer}
-use Rattle.oz_lexer.proofs.Reaches.{is_longest, no_token}
+use Rattle.oz_lexer.proofs.TokenLength.{is_longest, no_token}
 
 -- ---- at most one longest token
 
@@ -43,14 +43,14 @@ none_more : (bytes more rest behind : List ℕ) (l : TokenKind) → ((m b : List
 none_more bytes [] rest behind l longest e spells = refl
 none_more bytes (m ∷ ms) rest behind l longest e spells = let no = longest (m ∷ ms) behind e (omega arith) in absurd cc
 
-longer_same : (text : List ℕ) (k l : TokenKind) (xs ys a b : List ℕ) → GoesOn xs ys a b → Longest text k xs a → Longest text l ys b → SameToken k l xs ys a b
+longer_same : (text : List ℕ) (k l : TokenKind) (xs ys a b : List ℕ) → GoesOn xs ys a b → IsLongestToken text k xs a → IsLongestToken text l ys b → SameToken k l xs ys a b
 longer_same text k l xs ys a b g p q =
     let none = none_more xs g.more a b l p.longest g.behind (subst (λ (zs : List ℕ). token_kind_of zs ≡ Some l) g.is q.spells) in
     let again : ys ≡ xs = g.is ∙ ap (λ (zs : List ℕ). xs ++ zs) none ∙ append-nil xs in
     let kinds : Some k ≡ Some l = sym p.spells ∙ ap token_kind_of (sym again) ∙ q.spells in
     record { kind = cc; bytes = sym again; rest = g.behind ∙ ap (λ (zs : List ℕ). zs ++ b) none }
 
-pub one_longest : (text : List ℕ) (k l : TokenKind) (xs ys a b : List ℕ) → Longest text k xs a → Longest text l ys b → SameToken k l xs ys a b
+pub one_longest : (text : List ℕ) (k l : TokenKind) (xs ys a b : List ℕ) → IsLongestToken text k xs a → IsLongestToken text l ys b → SameToken k l xs ys a b
 one_longest text k l xs ys a b p q =
     elim (fronts xs ys a b (sym p.is ∙ q.is)) [
       | inl g ↦ longer_same text k l xs ys a b g p q
@@ -71,7 +71,7 @@ pub back_part : (xs ys : List ℕ) → drop (length xs) (xs ++ ys) ≡ ys
 back_part [] ys = refl
 back_part (x ∷ xs) ys = back_part xs ys
 
-longest_quote : (bytes rest cs : List ℕ) (n : ℕ) → ends false bytes ≡ true → cs ≡ bytes ++ rest → n ≡ suc (length bytes) → Longest (39 ∷ cs) Quoted (take n (39 ∷ cs)) (drop n (39 ∷ cs))
+longest_quote : (bytes rest cs : List ℕ) (n : ℕ) → ends false bytes ≡ true → cs ≡ bytes ++ rest → n ≡ suc (length bytes) → IsLongestToken (39 ∷ cs) Quoted (take n (39 ∷ cs)) (drop n (39 ∷ cs))
 longest_quote bytes rest cs n e is long =
     rw (is, long, front_part bytes rest, back_part bytes rest) (record {
       is = refl;
@@ -79,7 +79,7 @@ longest_quote bytes rest cs n e is long =
       longest = λ more behind is some. quote_kind (bytes ++ more) ∙ rw (no_longer false bytes more e some) refl;
     })
 
-pub quote_longest : (cs : List ℕ) (n : ℕ) → quote_from false cs 1 ≡ Ok n → Longest (39 ∷ cs) Quoted (take n (39 ∷ cs)) (drop n (39 ∷ cs))
+pub quote_longest : (cs : List ℕ) (n : ℕ) → quote_from false cs 1 ≡ Ok n → IsLongestToken (39 ∷ cs) Quoted (take n (39 ∷ cs)) (drop n (39 ∷ cs))
 quote_longest cs n e = let c = closed false cs 1 n e in longest_quote c.bytes c.rest cs n c.ends c.is (omega (arith, c.long))
 
 pub quote_within : (cs : List ℕ) (n : ℕ) → quote_from false cs 1 ≡ Ok n → n ≤ length (39 ∷ cs)
@@ -125,12 +125,12 @@ within b cs = choose (is_ascii_uppercase b || is_ascii_lowercase b) (is_ascii_di
         below false = omega arith
 
     sign : (xs : List ℕ) → sign_length b xs ≤ length (b ∷ xs)
-    sign [] = below (is_one b)
+    sign [] = below (is_one_byte_sign b)
       where
         below : (t : Bool) → cond t 1 0 ≤ 1
         below true = omega arith
         below false = omega arith
-    sign (x ∷ xs) = below (is_two b x) (is_one b)
+    sign (x ∷ xs) = below (is_two_byte_sign b x) (is_one_byte_sign b)
       where
         below : (t u : Bool) → cond t 2 (cond u 1 0) ≤ length (b ∷ x ∷ xs)
         below true u = omega arith
@@ -144,7 +144,7 @@ within b cs = choose (is_ascii_uppercase b || is_ascii_lowercase b) (is_ascii_di
     choose false false true p q = minus (prefix_len is_ascii_digit cs) q
     choose false false false p q = sign cs
 
-plain_front : (b : ℕ) (cs bytes rest : List ℕ) (kind : TokenKind) → eqb b 39 ≡ false → Longest (b ∷ cs) kind bytes rest → plain_token b cs (token_length b cs) ≡ within_name_limit kind (length bytes)
+plain_front : (b : ℕ) (cs bytes rest : List ℕ) (kind : TokenKind) → eqb b 39 ≡ false → IsLongestToken (b ∷ cs) kind bytes rest → plain_token b cs (token_length b cs) ≡ within_name_limit kind (length bytes)
 plain_front b cs bytes rest kind quote l =
     let chosen : (t : Bool) → eqb (token_length b cs) 0 ≡ t → cond t (Err (BadChar, 0)) (within_name_limit (token_kind b (take (token_length b cs) (b ∷ cs))) (token_length b cs)) ≡ within_name_limit kind (length bytes) = elim [
       | true ↦ λ e. let z = is_zero (token_length b cs) e in let none = no_token b cs bytes rest quote z l.is in let s = l.spells in absurd cc
@@ -155,7 +155,7 @@ plain_front b cs bytes rest kind quote l =
           ap (λ (k : TokenKind). within_name_limit k (token_length b cs)) s.kind ∙ ap (within_name_limit kind) n
     ] in chosen (eqb (token_length b cs) 0) refl
 
-pub token_front : (text : List ℕ) (kind : TokenKind) (bytes rest : List ℕ) → Longest text kind bytes rest → front_of text ≡ within_name_limit kind (length bytes)
+pub token_front : (text : List ℕ) (kind : TokenKind) (bytes rest : List ℕ) → IsLongestToken text kind bytes rest → front_of text ≡ within_name_limit kind (length bytes)
 token_front [] kind [] rest l = let s = l.spells in let no = nothing_spelled in absurd cc
 token_front [] kind (b ∷ bs) rest l = let i = l.is in absurd cc
 token_front (b ∷ cs) kind bytes rest l =

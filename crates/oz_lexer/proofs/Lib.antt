@@ -1,13 +1,13 @@
 pub mod ReservedWords
 pub mod Signs
-pub mod Spelled
-pub mod Reaches
+pub mod TokenBytes
+pub mod TokenLength
 pub mod Quotes
 pub mod QuoteFaults
 pub mod Comments
 pub mod Skipping
 pub mod Fronts
-pub mod Begins
+pub mod FrontLemmas
 pub mod OneFront
 pub mod Boundaries
 pub mod Cuts

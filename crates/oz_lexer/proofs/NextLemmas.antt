@@ -8,8 +8,8 @@ use Rattle.oz_lexer.specs.declared.token.TokenKind.TheVariants.{Variable, Atom, 
 use Rattle.oz_lexer.specs.declared.token.LexKind.{LexKind}
 use Rattle.oz_lexer.specs.declared.token.LexKind.TheVariants.{OpenComment}
 use Rattle.oz_lexer.specs.Blanks.{IsBehindBlanks}
-use Rattle.oz_lexer.specs.Tokens.{IsLexemeAt, Lexeme, Next, EndOrMore, TokensFrom}
-use Rattle.oz_lexer.specs.Lexing.{lexeme_of, fault_at, FaultNext, IsNextToken, IsSlice}
+use Rattle.oz_lexer.specs.Tokens.{IsLexemeAt, Lexeme, IsNextLexeme, EndOrMore, TokensFrom}
+use Rattle.oz_lexer.specs.Lexer.{lexeme_of, fault_at, IsFaultNext, IsNextToken, IsSlice}
 use Rattle.oz_lexer.specs.Scan.{behind_blank}
 use Rattle.oz_lexer.proofs.Skipping.{skips_tail, blank_found}
 
@@ -34,7 +34,7 @@ blanks_end text at rest le s =
 
 pub begins_next : (text : List ℕ) (at : ℕ) (rest : List ℕ) (what : Result TokenKind LexKind) (start : ℕ) (bytes behind : List ℕ) → at ≤ length text → IsBehindBlanks (drop at text) rest
     → IsLexemeAt (length text - length rest) (drop (length text - length rest) text) what start bytes behind
-    → Next at (drop at text) (record { what = what; start = start; bytes = bytes }) behind
+    → IsNextLexeme at (drop at text) (record { what = what; start = start; bytes = bytes }) behind
 begins_next text at rest what start bytes behind le s b =
     let h = blanks_end text at rest le s in
     record {
@@ -45,7 +45,7 @@ begins_next text at rest what start bytes behind le s b =
 
 pub lex_next : (text : List ℕ) (at : ℕ) (rest : List ℕ) (r : Result Token (LexKind × ℕ)) → at ≤ length text → IsBehindBlanks (drop at text) rest
     → MatchResult r (λ t. IsLexemeAt (length text - length rest) (drop (length text - length rest) text) (Ok t.kind) t.start t.text.now (drop t.end text)) (λ e. IsLexemeAt (length text - length rest) (drop (length text - length rest) text) (Err e.0) e.1 [] (drop (length text - length rest) text))
-    → MatchResult r (λ t. Next at (drop at text) (lexeme_of t) (drop t.end text)) (λ e. FaultNext at (drop at text) (fault_at e.0 e.1))
+    → MatchResult r (λ t. IsNextLexeme at (drop at text) (lexeme_of t) (drop t.end text)) (λ e. IsFaultNext at (drop at text) (fault_at e.0 e.1))
 lex_next text at rest (Ok t) le s b = begins_next text at rest (Ok t.kind) t.start t.text.now (drop t.end text) le s b
 lex_next text at rest (Err e) le s b = (drop (length text - length rest) text, begins_next text at rest (Err e.0) e.1 [] (drop (length text - length rest) text) le s b)
 
@@ -53,7 +53,7 @@ pub lex_slice : (text : List ℕ) (at start : ℕ) (r : Result Token (LexKind ×
 lex_slice text at start (Ok t) le s = let o = s.order in record { order = omega arith; span = s.span; within = s.within; slice = s.slice }
 lex_slice text at start (Err e) le s = s
 
-pub open_next : (text : List ℕ) (at : ℕ) (rest : List ℕ) → at ≤ length text → IsBehindBlanks (drop at text) rest → behind_blank rest ≡ Err OpenComment → FaultNext at (drop at text) (fault_at OpenComment (length text - length rest))
+pub open_next : (text : List ℕ) (at : ℕ) (rest : List ℕ) → at ≤ length text → IsBehindBlanks (drop at text) rest → behind_blank rest ≡ Err OpenComment → IsFaultNext at (drop at text) (fault_at OpenComment (length text - length rest))
 open_next text at rest le s e =
     let h = blanks_end text at rest le s in
     let place : length text - length rest ≡ at + (length (drop at text) - length rest) + 0 = omega (arith, h.place) in
@@ -67,7 +67,7 @@ token_end text at t s =
     let w = s.within in let o = s.span in
     omega (arith, length-take (t.end - t.start) (drop t.start text), length-drop t.start text)
 
-gives_at : (text : List ℕ) (at : ℕ) (kind : TokenKind) (start : ℕ) (bytes : List ℕ) (end_ : ℕ) → end_ ≡ start + length bytes → Next at (drop at text) (record { what = Ok kind; start = start; bytes = bytes }) (drop end_ text)
+gives_at : (text : List ℕ) (at : ℕ) (kind : TokenKind) (start : ℕ) (bytes : List ℕ) (end_ : ℕ) → end_ ≡ start + length bytes → IsNextLexeme at (drop at text) (record { what = Ok kind; start = start; bytes = bytes }) (drop end_ text)
     → EndOrMore (Ok kind) (TokensFrom at (drop at text) (record { what = Ok kind; start = start; bytes = bytes } ∷ [])) ((ls : List Lexeme) → TokensFrom end_ (drop end_ text) ls → TokensFrom at (drop at text) (record { what = Ok kind; start = start; bytes = bytes } ∷ ls))
 gives_at text at Variable start bytes end_ e n = λ ls a. (drop end_ text, n, subst (λ (k : ℕ). TokensFrom k (drop end_ text) ls) e a)
 gives_at text at Atom start bytes end_ e n = λ ls a. (drop end_ text, n, subst (λ (k : ℕ). TokensFrom k (drop end_ text) ls) e a)
@@ -77,5 +77,5 @@ gives_at text at Word start bytes end_ e n = λ ls a. (drop end_ text, n, subst 
 gives_at text at Sign start bytes end_ e n = λ ls a. (drop end_ text, n, subst (λ (k : ℕ). TokensFrom k (drop end_ text) ls) e a)
 gives_at text at End start bytes end_ e n = (drop end_ text, n, refl)
 
-pub gives_token : (text : List ℕ) (at : ℕ) (t : Token) → Next at (drop at text) (lexeme_of t) (drop t.end text) → IsSlice text at t → IsNextToken (record { text = text; at = at }) (record { text = text; at = t.end }) (Ok t)
+pub gives_token : (text : List ℕ) (at : ℕ) (t : Token) → IsNextLexeme at (drop at text) (lexeme_of t) (drop t.end text) → IsSlice text at t → IsNextToken (record { text = text; at = at }) (record { text = text; at = t.end }) (Ok t)
 gives_token text at t n s = gives_at text at t.kind t.start t.text.now t.end (token_end text at t s) n

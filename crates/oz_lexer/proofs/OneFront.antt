@@ -7,16 +7,16 @@ use Rattle.oz_lexer.specs.declared.token.LexKind.{LexKind}
 use Rattle.oz_lexer.specs.declared.token.LexKind.TheVariants.{BadChar, OpenComment, LongName}
 use Rattle.oz_lexer.specs.Spelling.{is_long, token_kind_of}
 use Rattle.oz_lexer.specs.Blanks.{is_blank, IsBehindComment}
-use Rattle.oz_lexer.specs.Faults.{Longest, NothingBegins, FaultAt, bad_char, control, bad_escape, open_quote, open_escape, open_comment, long_name}
+use Rattle.oz_lexer.specs.Faults.{IsLongestToken, NothingBegins, FaultAt, bad_char, control, bad_escape, open_quote, open_escape, open_comment, long_name}
 use Rattle.oz_lexer.specs.Tokens.{IsLexemeAt}
 use Rattle.oz_lexer.specs.Scan.{behind_comment, closed_or, behind_slash, behind_blank, quote_from, within_name_limit, quoted_token, token_length, token_kind, front_of}
-use Rattle.oz_lexer.proofs.Spelled.{blank_spelled, line_spelled, slash_spelled}
+use Rattle.oz_lexer.proofs.TokenBytes.{blank_spelled, line_spelled, slash_spelled}
 use Rattle.oz_lexer.proofs.QuoteFaults.{finds_control, finds_escape, finds_open, finds_last}
-use Rattle.oz_lexer.proofs.Reaches.{is_longest}
+use Rattle.oz_lexer.proofs.TokenLength.{is_longest}
 use Rattle.oz_lexer.proofs.Comments.{closes_there}
 use Rattle.oz_lexer.proofs.Skipping.{Stuck}
 use Rattle.oz_lexer.proofs.Fronts.{is_some_more, nothing_spelled, front_part, back_part, token_front}
-use Rattle.oz_lexer.proofs.Begins.{front_at, after_blank, Seen, seen}
+use Rattle.oz_lexer.proofs.FrontLemmas.{front_at, after_blank, Seen, seen}
 
 none_stuck : (text : List ℕ) → behind_blank text ≡ Ok None → Stuck text
 none_stuck text e rest f = cc
@@ -98,7 +98,7 @@ comment_found text h =
 fitting_is : (kind : TokenKind) (bytes : List ℕ) (t : Bool) → is_long kind bytes ≡ t → within_name_limit kind (length bytes) ≡ cond t (Err (LongName, 0)) (Ok (kind, length bytes))
 fitting_is kind bytes t e = rw e refl
 
-token_found : (text : List ℕ) (kind : TokenKind) (bytes rest : List ℕ) (t : Bool) → Longest text kind bytes rest → is_long kind bytes ≡ t → IsFound text (cond t (Err (LongName, 0)) (Ok (kind, length bytes)))
+token_found : (text : List ℕ) (kind : TokenKind) (bytes rest : List ℕ) (t : Bool) → IsLongestToken text kind bytes rest → is_long kind bytes ≡ t → IsFound text (cond t (Err (LongName, 0)) (Ok (kind, length bytes)))
 token_found text kind bytes rest t l e = found_none text _ (longest_none text bytes rest kind l.is l.spells) (token_front text kind bytes rest l ∙ fitting_is kind bytes t e)
 
 fault_found : {text : List ℕ} {kind : LexKind} {n : ℕ} → FaultAt text kind n → IsFound text (Err (kind, n))
@@ -116,7 +116,7 @@ pub record OneFront (place : ℕ) (text : List ℕ) (s : Seen) : Type 0 where
   pub stuck : Stuck text
   pub same : s ≡ seen place text (front_at text)
 
-of_token : (place : ℕ) (text : List ℕ) (kind : TokenKind) (start : ℕ) (bytes rest : List ℕ) → Longest text kind bytes rest → is_long kind bytes ≡ false → start ≡ place
+of_token : (place : ℕ) (text : List ℕ) (kind : TokenKind) (start : ℕ) (bytes rest : List ℕ) → IsLongestToken text kind bytes rest → is_long kind bytes ≡ false → start ≡ place
     → OneFront place text (record { what = Ok kind; start = start; bytes = bytes; rest = rest })
 of_token place text kind start bytes rest l e at =
     let f = token_found text kind bytes rest false l e in

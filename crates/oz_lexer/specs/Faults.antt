@@ -7,7 +7,7 @@ use Rattle.oz_lexer.specs.Spelling.{is_control, is_escape, is_quotable, token_ki
 use Rattle.oz_lexer.specs.Blanks.{is_blank, IsBehindComment}
 
 -- the longest token at the front of a text, and what stands behind it: no more of the text than its bytes is a token
-pub record Longest (text : List ℕ) (kind : TokenKind) (bytes rest : List ℕ) : Type 0 where
+pub record IsLongestToken (text : List ℕ) (kind : TokenKind) (bytes rest : List ℕ) : Type 0 where
   pub is : text ≡ bytes ++ rest
   pub spells : token_kind_of bytes ≡ Some kind
   pub longest : (more behind : List ℕ) → rest ≡ more ++ behind → 0 < length more → token_kind_of (bytes ++ more) ≡ None
@@ -28,4 +28,4 @@ pub data FaultAt : List ℕ → LexKind → ℕ → Type 0 where
   open_quote : (inside : List ℕ) → is_quotable inside ≡ true → FaultAt (39 ∷ inside) OpenQuote 0
   open_escape : (inside : List ℕ) → is_quotable inside ≡ true → FaultAt (39 ∷ (inside ++ 92 ∷ [])) OpenQuote 0
   open_comment : (text : List ℕ) → ((rest : List ℕ) → IsBehindComment text rest → ⊥) → FaultAt (47 ∷ 42 ∷ text) OpenComment 0
-  long_name : (text : List ℕ) (kind : TokenKind) (bytes rest : List ℕ) → Longest text kind bytes rest → is_long kind bytes ≡ true → FaultAt text LongName 0
+  long_name : (text : List ℕ) (kind : TokenKind) (bytes rest : List ℕ) → IsLongestToken text kind bytes rest → is_long kind bytes ≡ true → FaultAt text LongName 0

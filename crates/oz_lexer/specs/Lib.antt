@@ -4,5 +4,5 @@ pub mod Faults
 pub mod Tokens
 pub mod Place
 pub mod Scan
-pub mod Lexing
+pub mod Lexer
 pub mod Laws

@@ -29,6 +29,7 @@ abbrev pub closed_or : Option (List ℕ) → Result (Option (List ℕ)) LexKind
 closed_or (Some rest) = Ok (Some rest)
 closed_or None = Err OpenComment
 
+-- the same behind a /: none where that begins no comment
 abbrev pub behind_slash : List ℕ → Result (Option (List ℕ)) LexKind
 behind_slash [] = Ok None
 behind_slash (c ∷ cs) = if c == 42 then closed_or (behind_comment 0 0 cs) else Ok None
@@ -42,10 +43,12 @@ behind_blank (b ∷ bs) =
     else (if b == 47 then behind_slash bs
     else Ok None))
 
+-- a text that a function lends, as its bytes are now
 abbrev pub seen_text : Option (Bor (List ℕ)) → Option (List ℕ)
 seen_text None = None
 seen_text (Some b) = Some b.now
 
+-- the same of the text behind a blank or comment, or of its fault
 abbrev pub seen_blank : Result (Option (Bor (List ℕ))) LexKind → Result (Option (List ℕ)) LexKind
 seen_blank (Ok o) = Ok (seen_text o)
 seen_blank (Err kind) = Err kind
@@ -53,20 +56,20 @@ seen_blank (Err kind) = Err kind
 -- ---- tokens
 
 -- the signs of one byte
-abbrev pub is_one : ℕ → Bool
-is_one b =
+abbrev pub is_one_byte_sign : ℕ → Bool
+is_one_byte_sign b =
     (b == 61) || ((b == 40) || ((b == 41) || ((b == 123) || ((b == 125) || ((b == 36) || ((b == 58) || ((b == 46) || ((b == 124)
     || ((b == 43) || ((b == 45) || ((b == 42) || ((b == 60) || (b == 62)))))))))))))
 
 -- the signs of two bytes
-abbrev pub is_two : ℕ → ℕ → Bool
-is_two b c =
+abbrev pub is_two_byte_sign : ℕ → ℕ → Bool
+is_two_byte_sign b c =
     ((b == 61) && (c == 60)) || (((b == 62) && (c == 61)) || (((b == 61) && (c == 61)) || (((b == 92) && (c == 61)) || ((b == 91) && (c == 93)))))
 
 -- how many bytes the longest sign has that this byte begins before others, 0 where it begins none
 abbrev pub sign_length : ℕ → List ℕ → ℕ
-sign_length b [] = if is_one b then 1 else 0
-sign_length b (c ∷ cs) = if is_two b c then 2 else (if is_one b then 1 else 0)
+sign_length b [] = if is_one_byte_sign b then 1 else 0
+sign_length b (c ∷ cs) = if is_two_byte_sign b c then 2 else (if is_one_byte_sign b then 1 else 0)
 
 -- how many bytes the integer that ~ begins has
 abbrev pub minus_length : ℕ → ℕ
@@ -103,10 +106,12 @@ quote_from false (b ∷ bs) n =
 abbrev pub within_name_limit : TokenKind → ℕ → Result (TokenKind × ℕ) (LexKind × ℕ)
 within_name_limit kind n = if is_name kind && not (nat_le n 255) then Err (LongName, 0) else Ok (kind, n)
 
+-- a quoted atom of so many bytes, if it is no name too long, or the fault in it
 abbrev pub quoted_token : Result ℕ (LexKind × ℕ) → Result (TokenKind × ℕ) (LexKind × ℕ)
 quoted_token (Ok n) = within_name_limit Quoted n
 quoted_token (Err e) = Err e
 
+-- a token without quotes of so many bytes, if it is no name too long; of none where this byte begins no token, which is a fault
 abbrev pub plain_token : ℕ → List ℕ → ℕ → Result (TokenKind × ℕ) (LexKind × ℕ)
 plain_token b bs n = if n == 0 then Err (BadChar, 0) else within_name_limit (token_kind b (take n (b ∷ bs))) n
 

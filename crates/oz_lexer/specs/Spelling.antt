@@ -53,12 +53,14 @@ closes_quote (b ∷ c ∷ bs) = if b == 92 then is_escape c && closes_quote bs e
 abbrev pub is_quoted : List ℕ → Bool
 is_quoted bytes = (slice_index bytes 0 == 39) && closes_quote (drop 1 bytes)
 
+-- all signs
 abbrev pub signs : List (List ℕ)
 signs =
     codes "=" ∷ codes "(" ∷ codes ")" ∷ codes "{" ∷ codes "}" ∷ codes "$" ∷ codes ":" ∷ codes "." ∷ codes "|"
     ∷ codes "+" ∷ codes "-" ∷ codes "*" ∷ codes "<" ∷ codes ">" ∷ codes "=<" ∷ codes ">=" ∷ codes "==" ∷ codes "\\="
     ∷ codes "[]" ∷ []
 
+-- the bytes are those of one of the signs
 abbrev pub is_sign : List ℕ → Bool
 is_sign bytes = list_any (λ sign. bytes_eq bytes sign) signs
 
@@ -84,7 +86,7 @@ abbrev pub is_long : TokenKind → List ℕ → Bool
 is_long kind bytes = is_name kind && not (nat_le (length bytes) 255)
 
 -- the text of an atom, spelled between its quotes: each escape as what it stands for
-abbrev pub unescaped : List ℕ → List ℕ
-unescaped [] = []
-unescaped (b ∷ []) = b ∷ []
-unescaped (b ∷ c ∷ bs) = if b == 92 then (if c == 110 then 10 else c) ∷ unescaped bs else b ∷ unescaped (c ∷ bs)
+abbrev pub text_in_quotes : List ℕ → List ℕ
+text_in_quotes [] = []
+text_in_quotes (b ∷ []) = b ∷ []
+text_in_quotes (b ∷ c ∷ bs) = if b == 92 then (if c == 110 then 10 else c) ∷ text_in_quotes bs else b ∷ text_in_quotes (c ∷ bs)

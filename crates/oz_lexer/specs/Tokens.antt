@@ -5,7 +5,7 @@ use Rattle.oz_lexer.specs.declared.token.TokenKind.TheVariants.{End}
 use Rattle.oz_lexer.specs.declared.token.LexKind.{LexKind}
 use Rattle.oz_lexer.specs.Spelling.{is_long}
 use Rattle.oz_lexer.specs.Blanks.{IsBehindBlanks}
-use Rattle.oz_lexer.specs.Faults.{Longest, FaultAt}
+use Rattle.oz_lexer.specs.Faults.{IsLongestToken, FaultAt}
 
 -- a token, the end of the text, or the fault that stands in its place: where it is, and its bytes, none at the end and at a fault
 pub record Lexeme : Type 0 where
@@ -16,11 +16,11 @@ pub record Lexeme : Type 0 where
 -- what begins at this place, before rest
 abbrev pub IsLexemeAt : ℕ → List ℕ → Result TokenKind LexKind → ℕ → List ℕ → List ℕ → Type 0
 IsLexemeAt place text (Ok End) start bytes rest = (text ≡ []) × (start ≡ place) × (bytes ≡ []) × (rest ≡ [])
-IsLexemeAt place text (Ok kind) start bytes rest = Longest text kind bytes rest × (is_long kind bytes ≡ false) × (start ≡ place)
+IsLexemeAt place text (Ok kind) start bytes rest = IsLongestToken text kind bytes rest × (is_long kind bytes ≡ false) × (start ≡ place)
 IsLexemeAt place text (Err fault) start bytes rest = (before : ℕ) × FaultAt text fault before × (start ≡ place + before) × (bytes ≡ []) × (rest ≡ text)
 
 -- the next of a text that goes on from a place, behind blanks and comments, and what stands behind it
-pub record Next (place : ℕ) (text : List ℕ) (l : Lexeme) (rest : List ℕ) : Type 0 where
+pub record IsNextLexeme (place : ℕ) (text : List ℕ) (l : Lexeme) (rest : List ℕ) : Type 0 where
   pub front : List ℕ
   pub blanks : IsBehindBlanks text front
   pub begins : IsLexemeAt (place + (length text - length front)) front l.what l.start l.bytes rest
@@ -34,7 +34,7 @@ EndOrMore (Err fault) last on = last
 -- the tokens of a text that goes on from a place
 abbrev pub TokensFrom : ℕ → List ℕ → List Lexeme → Type 0
 TokensFrom place text [] = ⊥
-TokensFrom place text (l ∷ ls) = (rest : List ℕ) × Next place text l rest × EndOrMore l.what (ls ≡ []) (TokensFrom (l.start + length l.bytes) rest ls)
+TokensFrom place text (l ∷ ls) = (rest : List ℕ) × IsNextLexeme place text l rest × EndOrMore l.what (ls ≡ []) (TokensFrom (l.start + length l.bytes) rest ls)
 
 -- the tokens of a text: the last, and no other, is its end or its first lexical fault
 abbrev pub Tokens : List ℕ → List Lexeme → Type 0

@@ -2,9 +2,9 @@
 
 ghost use Rattle.std.specs.Prelude.{◌≡◌, ◌+◌, ◌-◌, ◌<◌, ◌≤◌, length, take, drop, Ok, Err, None, [], IfOk, OnOk, OnErr, MatchResult};
 ghost use Rattle.std.specs.Str.{IsCharBoundary};
-ghost use Rattle.oz_lexer.specs.Tokens.{IsLexemeAt, Next};
+ghost use Rattle.oz_lexer.specs.Tokens.{IsLexemeAt, IsNextLexeme};
 ghost use Rattle.oz_lexer.specs.Scan.{behind_blank};
-ghost use Rattle.oz_lexer.specs.Lexing.{lexeme_of, fault_at, FaultNext, IsNextToken, IsSlice};
+ghost use Rattle.oz_lexer.specs.Lexer.{lexeme_of, fault_at, IsFaultNext, IsNextToken, IsSlice};
 
 use crate::blank::behind_blanks;
 use crate::front::front;
@@ -47,7 +47,7 @@ fn token(text: &str, start: usize) -> Result<Token<'_>, (LexKind, usize)>
 /// from token to token by it; who keeps the places of all tokens calls it.
 pub fn lex(text: &str, at: usize) -> Result<Token<'_>, (LexKind, usize)>
     requires { at ≤ length text.now }
-    ensures next { MatchResult result (λ t. Next at (drop at text.now) (lexeme_of t) (drop t.end text.now)) (λ e. FaultNext at (drop at text.now) (fault_at e.0 e.1)) }
+    ensures next { MatchResult result (λ t. IsNextLexeme at (drop at text.now) (lexeme_of t) (drop t.end text.now)) (λ e. IsFaultNext at (drop at text.now) (fault_at e.0 e.1)) }
     ensures slice { MatchResult result (λ t. IsSlice text.now at t) (λ e. e.1 ≤ length text.now) }
 {
     match behind_blanks(text.as_bytes().split_at(at).1) {
@@ -64,9 +64,9 @@ pub struct Lexer<'a> {
 
 impl<'a> Model for Lexer<'a> {
     ghost use Rattle.std.specs.Prelude.{◌≤◌, length};
-    ghost use Rattle.oz_lexer.specs.Lexing.{Lexing};
+    ghost use Rattle.oz_lexer.specs.Lexer.{LexerState};
 
-    ghost Value = { Lexing };
+    ghost Value = { LexerState };
 
     ghost view = { λ s. record { text = s.text.now; at = s.at } };
 

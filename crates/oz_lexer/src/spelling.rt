@@ -7,7 +7,7 @@ ghost use Rattle.tree_node.specs.Spelling.{is_word_byte};
 ghost use Rattle.tree_node.specs.Words.{is_reserved};
 ghost use Rattle.oz_lexer.specs.Spelling.{is_control, is_escape, is_name};
 ghost use Rattle.oz_lexer.specs.Blanks.{is_blank};
-ghost use Rattle.oz_lexer.specs.Scan.{is_one, is_two, sign_length, minus_length, token_length, token_kind};
+ghost use Rattle.oz_lexer.specs.Scan.{is_one_byte_sign, is_two_byte_sign, sign_length, minus_length, token_length, token_kind};
 
 use crate::token::TokenKind;
 use tree_node::is_reserved;
@@ -72,8 +72,8 @@ fn minus_length(rest: &[u8]) -> usize
     if digits == 0 { 0 } else { digits + 1 }
 }
 
-fn is_one(first: u8) -> bool
-    ensures { result ≡ is_one first }
+fn is_one_byte_sign(first: u8) -> bool
+    ensures { result ≡ is_one_byte_sign first }
 {
     matches!(
         first,
@@ -93,8 +93,8 @@ fn is_one(first: u8) -> bool
     )
 }
 
-fn is_two(first: u8, second: u8) -> bool
-    ensures { result ≡ is_two first second }
+fn is_two_byte_sign(first: u8, second: u8) -> bool
+    ensures { result ≡ is_two_byte_sign first second }
 {
     matches!(
         (first, second),
@@ -107,9 +107,9 @@ fn sign_length(first: u8, rest: &[u8]) -> usize
     ensures value { result ≡ sign_length first rest.now }
     ensures within { result ≤ length rest.now + 1 }
 {
-    if !rest.is_empty() && is_two(first, rest[0]) {
+    if !rest.is_empty() && is_two_byte_sign(first, rest[0]) {
         2
-    } else if is_one(first) {
+    } else if is_one_byte_sign(first) {
         1
     } else {
         0

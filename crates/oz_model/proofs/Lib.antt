@@ -21,6 +21,6 @@ pub mod DownLemmas
 pub mod OnceLemmas
 pub mod NodesWell
 pub mod ShownNames
-pub mod AloneLemmas
+pub mod ThreadLemmas
 pub mod TakenLemmas
 pub mod BirthLemmas

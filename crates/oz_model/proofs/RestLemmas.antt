@@ -18,7 +18,7 @@ use Rattle.kernel_syntax.specs.Free.{stmt_at}
 use Rattle.oz_model.specs.declared.outcome.Outcome.{Outcome}
 use Rattle.oz_model.specs.declared.outcome.Outcome.TheVariants as outcome
 use Rattle.oz_model.specs.Outcome.{outcome_of, print_outcome}
-use Rattle.oz_model.specs.Need.{Need, Takes, variables, outcome_need, pair_need, goal_need, stack_need, IsWaiting, IsReady, kinds_of}
+use Rattle.oz_model.specs.Need.{Need, Takes, variable_kinds, outcome_need, pair_need, goal_need, stack_need, IsWaiting, IsReady, kinds_of}
 use Rattle.oz_model.specs.Step.{AreFresh, IsBindFor, Step, next, stack_of}
 use Rattle.oz_model.specs.Run.{AtRest}
 use Rattle.oz_model.specs.Laws.{RestOrStep}
@@ -38,20 +38,20 @@ outcome_goes : (s : Store) (o : Outcome) → Goes s (outcome_need o)
 outcome_goes s (outcome.Waits x) = inl tt
 outcome_goes s (outcome.Runs codes) = takes_goes s []
 outcome_goes s (outcome.Tells x t) = takes_goes s []
-outcome_goes s (outcome.Declares first count body) = takes_goes s (variables count)
+outcome_goes s (outcome.Declares first count body) = takes_goes s (variable_kinds count)
 outcome_goes s (outcome.MakesProc left code formals vars) = takes_goes s (kind.Proc ∷ [])
 outcome_goes s (outcome.MakesCell content told) = takes_goes s (kind.Cell ∷ [])
 outcome_goes s (outcome.Exchanges cell new told) = takes_goes s []
 outcome_goes s (outcome.Spawns at body vars) = takes_goes s (kind.Thread ∷ [])
 outcome_goes s (outcome.Tries body env handler first handler_env) = takes_goes s []
 outcome_goes s (outcome.Raises x) = takes_goes s []
-outcome_goes s (outcome.Fails exception) = takes_goes s (variables 2)
+outcome_goes s (outcome.Fails exception) = takes_goes s (variable_kinds 2)
 outcome_goes s (outcome.Prints line) = takes_goes s []
 
 pair_goes : (s : Store) (met : List (Node × Node)) (a b : Term) (c : Case) → case_of s met a b ≡ c → Goes s (pair_need a b c)
 pair_goes s met a b Dropped e = takes_goes s []
 pair_goes s met a b (Opened m n pairs) e = takes_goes s []
-pair_goes s met a b Failed e = takes_goes s (variables 2)
+pair_goes s met a b Failed e = takes_goes s (variable_kinds 2)
 pair_goes s met a b Binds e = let found = some_bind s met a b e in inr (tt, (Some found.0, found.1))
 
 stack_goes : (p : List Stmt) (s : Store) (stack : Stack) → Goes s (stack_need p s stack)

@@ -7,10 +7,12 @@ use Rattle.tree_node.specs.Each.{Each}
 use Rattle.tree_node.specs.Names.{EachOfEquation, EachOfStack}
 use Rattle.oz_model.specs.Effect.{Birth, CellChange, Stays, Made, Exchanged, Effect}
 
+-- P holds of each name of a new thread: its own, and its variables
 abbrev pub EachOfBirth : (Name → Type 0) → Option Birth → Type 0
 EachOfBirth P None = Unit {0}
 EachOfBirth P (Some b) = P (name.Thread b.name) × Each (λ (x : VarName). P (name.Var x)) b.vars
 
+-- P holds of each name of what becomes of a cell
 abbrev pub EachOfChange : (Name → Type 0) → CellChange → Type 0
 EachOfChange P Stays = Unit {0}
 EachOfChange P (Made cell content) = P (name.Cell cell) × P (name.Var content)

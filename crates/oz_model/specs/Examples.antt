@@ -21,12 +21,15 @@ use Rattle.oz_model.specs.Rows.{code, new, pick, plain, RunsTo}
 abbrev pub tell_picks : Equation → List Pick
 tell_picks e = plain ∷ pick [] (Some e) ∷ plain ∷ plain ∷ []
 
+-- the first procedure of site 1
 abbrev pub first_proc : ProcName
 first_proc = record { site = 1; num = 0 }
 
+-- its first cell
 abbrev pub first_cell : CellName
 first_cell = record { site = 1; num = 0 }
 
+-- its second thread; the first is the one that runs the program
 abbrev pub second_thread : ThreadName
 second_thread = record { site = 1; num = 1 }
 
@@ -43,6 +46,7 @@ call_picks =
     ∷ pick (name.Proc first_proc ∷ []) None ∷ pick [] (Some (holds 0 (node.Proc first_proc (code 2) 1 (v 2 ∷ [])))) ∷ plain ∷ plain
     ∷ plain ∷ tell_picks (v 1, term.Var (v 2)) ++ tell_picks (holds 2 (node.Int (pos 7))) ++ plain ∷ []
 
+-- it prints 7, and its thread ends
 abbrev pub ProcedureIsCalled : Type 0
 ProcedureIsCalled = RunsTo calls call_picks (codes "7" ∷ []) 1 0
 
@@ -52,11 +56,13 @@ matches =
     Local 0 2 (code 1) ∷ Seq (code 2 ∷ code 3 ∷ code 4 ∷ []) ∷ TellRec 0 (codes "f") ((feature.Int (pos 1), 1) ∷ [])
     ∷ TellInt 1 (pos 3) ∷ Case 0 (pattern.Rec (codes "f") (feature.Int (pos 1) ∷ [])) 2 (code 5) (code 6) ∷ Browse 2 ∷ Skip ∷ []
 
+-- X is told the record and H the 3; then the case takes its branch, where Y is H's variable, and that prints
 abbrev pub case_picks : List Pick
 case_picks =
     pick (new 0 ∷ new 1 ∷ []) None ∷ plain ∷ tell_picks (holds 0 (node.Rec (codes "f") ((feature.Int (pos 1), v 1) ∷ [])))
     ++ tell_picks (holds 1 (node.Int (pos 3))) ++ plain ∷ plain ∷ []
 
+-- it prints 3, and its thread ends
 abbrev pub FieldIsMatched : Type 0
 FieldIsMatched = RunsTo matches case_picks (codes "3" ∷ []) 1 0
 
@@ -65,9 +71,11 @@ abbrev pub catches : List Stmt
 catches =
     Local 0 1 (code 1) ∷ Seq (code 2 ∷ code 3 ∷ []) ∷ TellInt 0 (pos 5) ∷ Try (code 4) 1 (code 5) ∷ Raise 0 ∷ Browse 1 ∷ []
 
+-- X is told the 5; then the mark is set, the exception goes to its handler, and that prints
 abbrev pub catch_picks : List Pick
 catch_picks = pick (new 0 ∷ []) None ∷ plain ∷ tell_picks (holds 0 (node.Int (pos 5))) ++ plain ∷ plain ∷ plain ∷ []
 
+-- it prints 5, and its thread ends
 abbrev pub HandlerHasException : Type 0
 HandlerHasException = RunsTo catches catch_picks (codes "5" ∷ []) 1 0
 
@@ -77,6 +85,7 @@ exchanges_once =
     Local 0 4 (code 1) ∷ Seq (code 2 ∷ code 3 ∷ code 4 ∷ code 5 ∷ []) ∷ TellInt 1 (pos 1) ∷ NewCell 1 0 ∷ Exchange 0 3 2
     ∷ Browse 3 ∷ []
 
+-- A is told the 1, the cell is made and told to C, its old content is told to X, and X is printed
 abbrev pub exchange_picks : List Pick
 exchange_picks =
     pick (new 0 ∷ new 1 ∷ new 2 ∷ new 3 ∷ []) None ∷ plain ∷ tell_picks (holds 1 (node.Int (pos 1)))
@@ -103,6 +112,7 @@ thread_picks =
     pick (new 0 ∷ []) None ∷ plain ∷ pick (name.Thread second_thread ∷ []) None ∷ other None
     ∷ other (Some (holds 0 (node.Int (pos 1)))) ∷ other None ∷ other None ∷ plain ∷ []
 
+-- it prints 1, and both threads end
 abbrev pub ThreadIsMade : Type 0
 ThreadIsMade = RunsTo spawns thread_picks (codes "1" ∷ []) 2 0
 
@@ -112,11 +122,13 @@ adds =
     Local 0 3 (code 1) ∷ Seq (code 2 ∷ code 3 ∷ code 4 ∷ []) ∷ TellInt 0 (pos 9223372036854775807) ∷ TellInt 1 (pos 1)
     ∷ Calc 2 Add 0 1 ∷ []
 
+-- X and Y are told, then the sum raises an exception, which is reported
 abbrev pub overflow_picks : List Pick
 overflow_picks =
     pick (new 0 ∷ new 1 ∷ new 2 ∷ []) None ∷ plain ∷ tell_picks (holds 0 (node.Int (pos 9223372036854775807)))
     ++ tell_picks (holds 1 (node.Int (pos 1))) ++ pick (new 3 ∷ new 4 ∷ []) None ∷ plain ∷ []
 
+-- it prints the exception that nobody caught, and its thread ends
 abbrev pub OverflowIsRaised : Type 0
 OverflowIsRaised = RunsTo adds overflow_picks (codes "uncaught error(overflow)" ∷ []) 1 0
 
@@ -124,9 +136,11 @@ OverflowIsRaised = RunsTo adds overflow_picks (codes "uncaught error(overflow)" 
 abbrev pub tests_integer : List Stmt
 tests_integer = Local 0 1 (code 1) ∷ Seq (code 2 ∷ code 3 ∷ []) ∷ TellInt 0 (pos 1) ∷ If 0 (code 4) (code 5) ∷ Skip ∷ Skip ∷ []
 
+-- X is told, then the test raises an exception, which is reported
 abbrev pub integer_test_picks : List Pick
 integer_test_picks =
     pick (new 0 ∷ []) None ∷ plain ∷ tell_picks (holds 0 (node.Int (pos 1))) ++ pick (new 1 ∷ new 2 ∷ []) None ∷ plain ∷ []
 
+-- it prints the exception that nobody caught, and its thread ends
 abbrev pub IntegerIsNoTruth : Type 0
 IntegerIsNoTruth = RunsTo tests_integer integer_test_picks (codes "uncaught error(type)" ∷ []) 1 0

@@ -3,7 +3,7 @@ pub mod Shapes
 pub mod Need
 pub mod Effect
 pub mod EffectNames
-pub mod Covered
+pub mod Coverage
 pub mod Step
 pub mod Run
 pub mod Occurs
@@ -11,6 +11,6 @@ pub mod Output
 pub mod WellFormed
 pub mod Answers
 pub mod Laws
-pub mod Alone
+pub mod ThreadLaws
 pub mod Rows
 pub mod Examples

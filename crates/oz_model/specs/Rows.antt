@@ -18,6 +18,7 @@ use Rattle.oz_model.specs.Need.{Waits, stack_need}
 use Rattle.oz_model.specs.Step.{IsAllowed}
 use Rattle.oz_model.specs.Run.{Run, AtRest, first_thread}
 
+-- the statement of this number
 abbrev pub code : ℕ → CodeId
 code n = record { 0 = n }
 
@@ -42,10 +43,12 @@ RunsTo p ks lines ended living =
 abbrev pub prints_integer : List Stmt
 prints_integer = Local 0 1 (code 1) ∷ Seq (code 2 ∷ code 3 ∷ []) ∷ TellInt 0 (pos 5) ∷ Browse 0 ∷ []
 
+-- the declaration, the sequence, the tell with its bind up to the end of its goal block, and the print
 abbrev pub integer_picks : List Pick
 integer_picks =
     pick (new 0 ∷ []) None ∷ plain ∷ plain ∷ pick [] (Some (holds 0 (node.Int (pos 5)))) ∷ plain ∷ plain ∷ plain ∷ []
 
+-- it prints 5, and its thread ends
 abbrev pub IntegerIsPrinted : Type 0
 IntegerIsPrinted = RunsTo prints_integer integer_picks (codes "5" ∷ []) 1 0
 
@@ -53,11 +56,13 @@ IntegerIsPrinted = RunsTo prints_integer integer_picks (codes "5" ∷ []) 1 0
 abbrev pub tells_twice : List Stmt
 tells_twice = Local 0 1 (code 1) ∷ Seq (code 2 ∷ code 3 ∷ []) ∷ TellInt 0 (pos 1) ∷ TellInt 0 (pos 2) ∷ []
 
+-- the first tell binds X, the second fails and raises an exception, which is reported
 abbrev pub failure_picks : List Pick
 failure_picks =
     pick (new 0 ∷ []) None ∷ plain ∷ plain ∷ pick [] (Some (holds 0 (node.Int (pos 1)))) ∷ plain ∷ plain ∷ plain
     ∷ pick (new 1 ∷ new 2 ∷ []) None ∷ plain ∷ []
 
+-- it prints the exception that nobody caught, and its thread ends
 abbrev pub FailureIsReported : Type 0
 FailureIsReported = RunsTo tells_twice failure_picks (codes "uncaught failure(tell)" ∷ []) 1 0
 
@@ -65,9 +70,11 @@ FailureIsReported = RunsTo tells_twice failure_picks (codes "uncaught failure(te
 abbrev pub prints_unbound : List Stmt
 prints_unbound = Local 0 1 (code 1) ∷ Browse 0 ∷ []
 
+-- the declaration alone
 abbrev pub unbound_picks : List Pick
 unbound_picks = pick (new 0 ∷ []) None ∷ []
 
+-- the thread waits for X: nothing is printed, and it lives
 abbrev pub UnboundIsAwaited : Type 0
 UnboundIsAwaited = RunsTo prints_unbound unbound_picks [] 0 1
 
@@ -86,6 +93,7 @@ joins join atom =
 abbrev pub atom_picks : List Pick
 atom_picks = joins (v 1, term.Var (v 0)) (holds 0 (node.Atom (codes "a")))
 
+-- it prints a, and its thread ends
 abbrev pub AtomIsPrinted : Type 0
 AtomIsPrinted = RunsTo prints_atom atom_picks (codes "a" ∷ []) 1 0
 
@@ -93,6 +101,7 @@ AtomIsPrinted = RunsTo prints_atom atom_picks (codes "a" ∷ []) 1 0
 abbrev pub upward_picks : List Pick
 upward_picks = joins (v 0, term.Var (v 1)) (holds 0 (node.Atom (codes "a")))
 
+-- it prints a, and its thread ends, also where the bind goes the other way
 abbrev pub AtomIsPrintedToo : Type 0
 AtomIsPrintedToo = RunsTo prints_atom upward_picks (codes "a" ∷ []) 1 0
 
@@ -100,9 +109,11 @@ AtomIsPrintedToo = RunsTo prints_atom upward_picks (codes "a" ∷ []) 1 0
 abbrev pub IsRefused : List Stmt → List Pick → Pick → Type 0
 IsRefused p ks k = (s : State) × Run p ks s × (IsAllowed p s k → ⊥)
 
+-- skip
 abbrev pub skips : List Stmt
 skips = Skip ∷ []
 
+-- its only step ends the thread
 abbrev pub SkipEnds : Type 0
 SkipEnds = RunsTo skips (plain ∷ []) [] 1 0
 

@@ -1,7 +1,7 @@
 //! Laws of steps and runs.
 
-ghost use Rattle.oz_model.specs.Laws.{AtMostOne, AtMostOneEnd, RestIsRest, RestOrStep, WaitsForUnbound, RunsAreSound, RunsGoOn, ExchangesChain, ExchangesEnd, CellsAreChains, CellsHaveContents, StepsFindCells, NamesAreKnown, RunsAreOnce, OutcomesHaveShapes};
-ghost use Rattle.oz_model.specs.Alone.{EffectsAreNamed, NeedsAreNamed, EffectsAreCovered, EffectsHaveNodes, EffectsKeepOneEach, RunsAreCovered, NamesAreTaken};
+ghost use Rattle.oz_model.specs.Laws.{StepsAreDetermined, RunsAreDetermined, NoStepAtRest, RestOrStep, WaitsForUnbound, RunsAreSound, RunsGoOn, ExchangesChain, ExchangesEnd, CellsAreChains, CellsHaveContents, StepsFindCells, NamesAreKnown, RunsAreOnce, OutcomesHaveShapes};
+ghost use Rattle.oz_model.specs.ThreadLaws.{EffectsAreNamed, NeedsAreNamed, EffectsAreCovered, EffectsHaveNodes, EffectsKeepOneEach, RunsAreCovered, NamesAreTaken};
 ghost use Rattle.oz_model.specs.Answers.{MoreIsWithin, NodesAgree, CasesAgree, ShownAgree, NeedsAgree, BindsAgree, EffectsAgree, StepsStay, WaitsStay, BindsStay, LowerBinds};
 ghost use Rattle.oz_model.specs.Occurs.{TestTellsNew, TestTellsOccurs};
 ghost use Rattle.oz_model.specs.Examples.{ProcedureIsCalled, FieldIsMatched, HandlerHasException, ContentIsExchanged, ThreadIsMade, OverflowIsRaised, IntegerIsNoTruth};
@@ -15,8 +15,8 @@ pub fn outcomes_have_shapes()
 
 /// A pick leads to at most one state, and so do picks in a row.
 pub fn runs_are_determined()
-    ensures one { AtMostOne }
-    ensures end { AtMostOneEnd }
+    ensures one { StepsAreDetermined }
+    ensures end { RunsAreDetermined }
 {}
 
 /// A run and one more step are a run.
@@ -42,7 +42,7 @@ pub fn names_are_known()
 
 /// A state is at rest exactly where no pick has a step, and a thread waits only for a variable that is not bound.
 pub fn rest_is_the_end()
-    ensures rest { RestIsRest }
+    ensures rest { NoStepAtRest }
     ensures step { RestOrStep }
     ensures unbound { WaitsForUnbound }
 {}

@@ -44,11 +44,6 @@ reads text symbols starts rows a e = (reads_text texts_divide_once text a.tokens
 pub is_program : (text : List ℕ) → IsUtf8 text → (symbols : List Symbol) (starts : List ℕ) (rows : List Stmt) → AreSymbols text symbols starts → program_at symbols ≡ Ok rows → IsProgram rows
 is_program text utf8 symbols starts rows a e = texts_are_programs text rows utf8 (reads text symbols starts rows a e)
 
-pub made_parses : (text : List ℕ) (symbols : List Symbol) (starts : List ℕ) (rows : List Stmt) (r : Result (List Stmt) ParseError) → AreSymbols text symbols starts → program_at symbols ≡ Ok rows → IsProgramAnswer r rows → IsParse text r
-made_parses text symbols starts rows (Ok p) a e g = subst (Reads text) (sym g) (reads text symbols starts rows a e)
-made_parses text symbols starts rows (Err errors.Memory) a e g = tt
-made_parses text symbols starts rows (Err (errors.Text f)) a e g = absurd g
-
 -- ---- faults
 
 pub fault_stands : (text : List ℕ) (symbols : List Symbol) (starts : List ℕ) (fault : Fault) → AreSymbols text symbols starts → program_at symbols ≡ Err fault → (0 < fault.left) × (fault.left ≤ length symbols)

@@ -19,26 +19,26 @@ use Rattle.oz_grammar.specs.Points.{expected_after}
 use Rattle.oz_grammar.specs.Faults.{fault_here, called_fault}
 use Rattle.oz_grammar.specs.declared.fault.FaultKind.{FaultKind}
 use Rattle.oz_grammar.specs.Table.{code_at}
-use Rattle.oz_grammar.specs.Reading.{◌>>=◌, Out, Reader, fault_expected, fault_or, sign_at, close_at, used_at, site_at, begins_at, stmt_at, kind_at, is_end_of, more_at, with_numbers, body_at, first_local_at, formals_at, arguments_at, wanted_at, local_at, procedure_at, proc_value_at, proc_at, value_at, right_at, tell_at, thread_at, call_of, call_at, raise_at, if_at, case_at, pattern_at}
+use Rattle.oz_grammar.specs.Reading.{◌>>=◌, Out, Reader, fault_expected, fault_or, sign_at, close_at, used_variable_at, site_at, is_at_statement, stmt_at, kind_at, is_end_of, more_at, with_numbers, body_at, first_local_at, formals_at, arguments_at, built_in_arguments_at, local_at, procedure_at, proc_value_at, proc_at, value_at, right_at, tell_at, thread_at, call_of, call_at, raise_at, if_at, case_at, pattern_at}
 use Rattle.oz_phrases.specs.declared.stop.Stop.{Stop}
 use Rattle.oz_phrases.specs.declared.stop.Stop.TheVariants as stops
 use Rattle.oz_phrases.specs.ReadAnswers.{IsFailure}
 use Rattle.oz_parser.specs.State.{State, state_of}
-use Rattle.oz_parser.specs.Heads.{Begun, local_head, procedure_head, proc_value_head, proc_head, value_head, right_head, tell_head, placed_head, thread_head, called_head, call_head, raise_head, body_of, block_at, if_head, case_head, branches_of, choice_at}
+use Rattle.oz_parser.specs.Heads.{HeadParts, local_head, procedure_head, proc_value_head, proc_head, value_head, right_head, tell_head, placed_thread_head, thread_head, called_head, call_head, raise_head, body_of, block_at, if_head, case_head, branches_of, choice_at}
 
 -- ---- arguments
 
-pub wanted_none : (scope : Scope) (k : ℕ) (before : List ℕ) (symbols : List Symbol) → k ≡ 0 → wanted_at scope k before symbols ≡ (close_at symbols >>= λ rest. Ok (before, rest))
+pub wanted_none : (scope : Scope) (k : ℕ) (before : List ℕ) (symbols : List Symbol) → k ≡ 0 → built_in_arguments_at scope k before symbols ≡ (close_at symbols >>= λ rest. Ok (before, rest))
 wanted_none scope zero before symbols e = refl
 wanted_none scope (suc k) before symbols e = absurd cc
 
-pub wanted_some : (scope : Scope) (k : ℕ) (before : List ℕ) (symbols : List Symbol) → 0 < k → wanted_at scope k before symbols ≡ (used_at what.Variable scope symbols >>= λ v. wanted_at scope (k - 1) (before ++ v.0 ∷ []) v.1)
+pub wanted_some : (scope : Scope) (k : ℕ) (before : List ℕ) (symbols : List Symbol) → 0 < k → built_in_arguments_at scope k before symbols ≡ (used_variable_at what.Variable scope symbols >>= λ v. built_in_arguments_at scope (k - 1) (before ++ v.0 ∷ []) v.1)
 wanted_some scope zero before symbols h = absurd (omega arith)
 wanted_some scope (suc k) before symbols h = let e : suc k - 1 ≡ k = omega arith in rw e refl
 
 -- ---- statements
 
-pub stmt_none : (d : ℕ) (scope : Scope) (rows : List Stmt) (w : What) (symbols : List Symbol) → d ≡ 0 → stmt_at d scope rows w symbols ≡ (if begins_at symbols then Err (fault_here Deep symbols) else fault_expected w symbols)
+pub stmt_none : (d : ℕ) (scope : Scope) (rows : List Stmt) (w : What) (symbols : List Symbol) → d ≡ 0 → stmt_at d scope rows w symbols ≡ (if is_at_statement symbols then Err (fault_here Deep symbols) else fault_expected w symbols)
 unfolding stmt_at
 stmt_none zero scope rows w symbols e = refl
 stmt_none (suc d) scope rows w symbols e = absurd cc
@@ -91,16 +91,16 @@ state_ends one c owner n positions s s' all is so_far h e =
 -- ---- heads
 
 -- what is read behind the head of a statement with at most one body
-abbrev behind_head : Reader → Scope → List Stmt → Begun → Result Out Fault
+abbrev behind_head : Reader → Scope → List Stmt → HeadParts → Result Out Fault
 behind_head inner scope rows h = body_of inner h.body (scope ++ h.names) (rows ++ h.row ∷ []) h.rest
 
 -- one step more on both sides
-chain : {A : Type 0} (r : Result A Fault) (f : A → Result Out Fault) (g : A → Result Begun Fault) (k : Begun → Result Out Fault) → ((x : A) → f x ≡ (g x >>= k)) → (r >>= f) ≡ ((r >>= g) >>= k)
+chain : {A : Type 0} (r : Result A Fault) (f : A → Result Out Fault) (g : A → Result HeadParts Fault) (k : HeadParts → Result Out Fault) → ((x : A) → f x ≡ (g x >>= k)) → (r >>= f) ≡ ((r >>= g) >>= k)
 chain (Ok x) f g k h = h x
 chain (Err e) f g k h = refl
 
 -- the same where a fault may stand at the front
-chain_or : (o : Option FaultKind) (symbols : List Symbol) (r : Result Out Fault) (g : Result Begun Fault) (k : Begun → Result Out Fault) → r ≡ (g >>= k) → fault_or o symbols r ≡ (fault_or o symbols g >>= k)
+chain_or : (o : Option FaultKind) (symbols : List Symbol) (r : Result Out Fault) (g : Result HeadParts Fault) (k : HeadParts → Result Out Fault) → r ≡ (g >>= k) → fault_or o symbols r ≡ (fault_or o symbols g >>= k)
 chain_or (Some kind) symbols r g k h = refl
 chain_or None symbols r g k h = h
 
@@ -116,7 +116,7 @@ proc_value_block inner left scope rows symbols =
 
 proc_block : (inner : Reader) (scope : Scope) (rows : List Stmt) (symbols : List Symbol) → proc_at inner scope rows symbols ≡ (proc_head scope symbols >>= behind_head inner scope rows)
 proc_block inner scope rows symbols =
-    chain (sign_at sign.OpenCurly symbols) _ _ (behind_head inner scope rows) (λ a. chain (used_at what.Variable scope a) _ _ (behind_head inner scope rows) (λ x. procedure_block inner x.0 scope rows x.1))
+    chain (sign_at sign.OpenCurly symbols) _ _ (behind_head inner scope rows) (λ a. chain (used_variable_at what.Variable scope a) _ _ (behind_head inner scope rows) (λ x. procedure_block inner x.0 scope rows x.1))
 
 value_block : (inner : Reader) (left : ℕ) (scope : Scope) (rows : List Stmt) (symbols : List Symbol) → (value_at left scope symbols >>= λ v. Ok (rows ++ v.0 ∷ [], v.1)) ≡ (value_head left scope symbols >>= behind_head inner scope rows)
 value_block inner left scope rows symbols = chain (value_at left scope symbols) _ _ (behind_head inner scope rows) (λ v. refl)
@@ -128,13 +128,13 @@ right_block inner left scope rows (symbol ∷ rest) = value_block inner left sco
 
 tell_block : (inner : Reader) (scope : Scope) (rows : List Stmt) (symbols : List Symbol) → tell_at inner scope rows symbols ≡ (tell_head scope symbols >>= behind_head inner scope rows)
 tell_block inner scope rows symbols =
-    chain (used_at what.Statement scope symbols) _ _ (behind_head inner scope rows) (λ x. chain (sign_at sign.Equals x.1) _ _ (behind_head inner scope rows) (λ rest. right_block inner x.0 scope rows rest))
+    chain (used_variable_at what.Statement scope symbols) _ _ (behind_head inner scope rows) (λ x. chain (sign_at sign.Equals x.1) _ _ (behind_head inner scope rows) (λ rest. right_block inner x.0 scope rows rest))
 
 -- a body under the same names
 same_names : (inner : Reader) (scope : Scope) (rows : List Stmt) (w : What) (symbols : List Symbol) → body_at inner scope rows w symbols ≡ body_at inner (scope ++ []) rows w symbols
 same_names inner scope rows w symbols = ap (λ (s : Scope). body_at inner s rows w symbols) (sym (append-nil scope))
 
-placed_block : (inner : Reader) (scope : Scope) (rows : List Stmt) (symbols : List Symbol) → (site_at symbols >>= λ n. body_at inner scope (rows ++ stmt.Thread (Some n.0) (code_at 1) ∷ []) what.Statement n.1) ≡ (placed_head symbols >>= behind_head inner scope rows)
+placed_block : (inner : Reader) (scope : Scope) (rows : List Stmt) (symbols : List Symbol) → (site_at symbols >>= λ n. body_at inner scope (rows ++ stmt.Thread (Some n.0) (code_at 1) ∷ []) what.Statement n.1) ≡ (placed_thread_head symbols >>= behind_head inner scope rows)
 placed_block inner scope rows symbols =
     chain (site_at symbols) _ _ (behind_head inner scope rows) (λ n. same_names inner scope (rows ++ stmt.Thread (Some n.0) (code_at 1) ∷ []) what.Statement n.1)
 
@@ -144,7 +144,7 @@ thread_block inner scope rows (t.At ∷ rest) = placed_block inner scope rows re
 thread_block inner scope rows (symbol ∷ rest) = same_names inner scope (rows ++ stmt.Thread None (code_at 1) ∷ []) what.StatementOrAt (symbol ∷ rest)
 
 called_block : (inner : Reader) (b : Option BuiltIn) (callee : ℕ) (scope : Scope) (rows : List Stmt) (symbols : List Symbol) → call_of b callee scope rows symbols ≡ (called_head b callee scope symbols >>= behind_head inner scope rows)
-called_block inner (Some b) callee scope rows symbols = chain (wanted_at scope (arity_of b) [] symbols) _ _ (behind_head inner scope rows) (λ m. refl)
+called_block inner (Some b) callee scope rows symbols = chain (built_in_arguments_at scope (arity_of b) [] symbols) _ _ (behind_head inner scope rows) (λ m. refl)
 called_block inner None callee scope rows symbols = chain (arguments_at scope [] symbols) _ _ (behind_head inner scope rows) (λ m. refl)
 
 call_block : (inner : Reader) (scope : Scope) (rows : List Stmt) (symbols : List Symbol) → call_at scope rows symbols ≡ (call_head scope symbols >>= behind_head inner scope rows)
@@ -155,7 +155,7 @@ call_block inner scope rows (symbol ∷ rest) = refl
 
 raise_block : (inner : Reader) (scope : Scope) (rows : List Stmt) (symbols : List Symbol) → raise_at scope rows symbols ≡ (raise_head scope symbols >>= behind_head inner scope rows)
 raise_block inner scope rows symbols =
-    chain (used_at what.Variable scope symbols) _ _ (behind_head inner scope rows) (λ x. chain (sign_at sign.End x.1) _ _ (behind_head inner scope rows) (λ rest. refl))
+    chain (used_variable_at what.Variable scope symbols) _ _ (behind_head inner scope rows) (λ x. chain (sign_at sign.End x.1) _ _ (behind_head inner scope rows) (λ rest. refl))
 
 -- a statement has two bodies
 abbrev pub is_choice : List Symbol → Bool
@@ -179,21 +179,21 @@ kind_block inner scope rows w (t.Try ∷ rest) e = absurd cc
 kind_block inner scope rows w (symbol ∷ rest) e = refl
 
 -- what is read behind the head of a choice
-abbrev behind_choice : Reader → Scope → List Stmt → Begun → Result Out Fault
+abbrev behind_choice : Reader → Scope → List Stmt → HeadParts → Result Out Fault
 behind_choice inner scope rows h = branches_of inner (length rows) scope (scope ++ h.names) (rows ++ h.row ∷ []) h.rest
 
 pub if_block : (inner : Reader) (scope : Scope) (rows : List Stmt) (symbols : List Symbol) → if_at inner scope rows symbols ≡ choice_at inner if_head scope rows symbols
 if_block inner scope rows symbols =
-    chain (used_at what.Variable scope symbols) _ _ (behind_choice inner scope rows) (λ x. chain (sign_at sign.Then x.1) _ _ (behind_choice inner scope rows) (λ rest.
+    chain (used_variable_at what.Variable scope symbols) _ _ (behind_choice inner scope rows) (λ x. chain (sign_at sign.Then x.1) _ _ (behind_choice inner scope rows) (λ rest.
     ap (λ (s : Scope). branches_of inner (length rows) scope s (rows ++ stmt.If x.0 (code_at 1) (code_at 0) ∷ []) rest) (sym (append-nil scope))))
 
 pub case_block : (inner : Reader) (scope : Scope) (rows : List Stmt) (symbols : List Symbol) → case_at inner scope rows symbols ≡ choice_at inner case_head scope rows symbols
 case_block inner scope rows symbols =
-    chain (used_at what.Variable scope symbols) _ _ (behind_choice inner scope rows) (λ x. chain (sign_at sign.Of x.1) _ _ (behind_choice inner scope rows) (λ a.
+    chain (used_variable_at what.Variable scope symbols) _ _ (behind_choice inner scope rows) (λ x. chain (sign_at sign.Of x.1) _ _ (behind_choice inner scope rows) (λ a.
     chain (pattern_at scope a) _ _ (behind_choice inner scope rows) (λ m. chain (sign_at sign.Then m.2) _ _ (behind_choice inner scope rows) (λ rest. refl))))
 
 -- the branches of a choice, whose row is put behind the others and whose names are declared
-pub branches_behind : (inner : Reader) (head : Scope → List Symbol → Result Begun Fault) (s s' : State) (symbols : List Symbol) (h : Begun) (owner outer : ℕ) → head s.scope symbols ≡ Ok h
+pub branches_behind : (inner : Reader) (head : Scope → List Symbol → Result HeadParts Fault) (s s' : State) (symbols : List Symbol) (h : HeadParts) (owner outer : ℕ) → head s.scope symbols ≡ Ok h
     → s' ≡ state_of (s.scope ++ h.names) (s.rows ++ h.row ∷ []) h.rest → owner ≡ length s.rows → outer ≡ length s.scope
     → choice_at inner head s.scope s.rows symbols ≡ branches_of inner owner (take outer s'.scope) s'.scope s'.rows s'.rest
 branches_behind inner head s s' symbols h owner outer e is o u = rw (e, is, o, u, take_front s.scope h.names) refl

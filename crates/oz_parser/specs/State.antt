@@ -1,5 +1,5 @@
 -- What a reader of statements has read, and what is left.
-use Rattle.std.specs.Prelude.{◌≡◌, ℕ, ◌+◌, ◌*◌, ◌<◌, ◌≤◌, List, ◌∷◌, [], ◌++◌, length}
+use Rattle.std.specs.Prelude.{◌≡◌, ℕ, ◌+◌, ◌*◌, ◌<◌, ◌≤◌, List, length}
 use Rattle.kernel_syntax.specs.declared.stmt.Stmt.{Stmt}
 use Rattle.oz_grammar.specs.declared.symbol.Symbol.{Symbol}
 use Rattle.oz_grammar.specs.Scoping.{Scope}
@@ -11,6 +11,7 @@ pub record State : Type 0 where
   pub rows : List Stmt
   pub rest : List Symbol
 
+-- the state of these parts
 abbrev pub state_of : Scope → List Stmt → List Symbol → State
 state_of scope rows rest = record { scope = scope; rows = rows; rest = rest }
 

@@ -3,11 +3,13 @@
 ghost use Rattle.std.specs.Prelude.{◌≡◌, ◌<◌, ◌≤◌, ◌^◌, [], length, IfOk};
 ghost use Rattle.oz_grammar.specs.Scoping.{arity_of};
 ghost use Rattle.oz_grammar.specs.Faults.{argument_fault};
-ghost use Rattle.oz_grammar.specs.Reading.{arguments_at, wanted_at};
+ghost use Rattle.oz_grammar.specs.Reading.{arguments_at, built_in_arguments_at};
 ghost use Rattle.oz_phrases.specs.ReadAnswers.{IsReadAs};
 
 use oz_grammar::{BuiltIn, FaultKind, Symbol, What};
-use oz_phrases::{Read, Scope, close, count_fault, fault, place_of, refused, used};
+use oz_phrases::{
+    Read, Scope, close, count_fault, fault, mismatch, position_or_zero, used_variable,
+};
 use std::alloc::Global;
 use tree_node::Text;
 
@@ -42,11 +44,11 @@ pub fn arguments<'t>(alloc: Global, scope: &Scope, symbols: &'t [Symbol]) -> Rea
             ) {
                 Some(kind) => return Err(fault(kind, rest)),
                 None => {
-                    positions.push(place_of(scope, name.as_slice()))?;
+                    positions.push(position_or_zero(scope, name.as_slice()))?;
                     rest = behind;
                 }
             },
-            _ => return Err(refused(What::VariableOrClose, rest)),
+            _ => return Err(mismatch(What::VariableOrClose, rest)),
         }
     }
 }
@@ -65,21 +67,21 @@ pub fn arity_of(built_in: BuiltIn) -> u32
 
 /// The positions of so many arguments, and the bracket behind them.
 #[tactic(auto, using(crate::proofs::Unfold::wanted_none, crate::proofs::Unfold::wanted_some))]
-pub fn wanted<'t>(
+pub fn built_in_arguments<'t>(
     alloc: Global,
     scope: &Scope,
     count: u32,
     symbols: &'t [Symbol],
 ) -> Read<'t, Vec<u32>>
     requires { length scope.now < 2 ^ 32 }
-    ensures read { IsReadAs (λ x. (x.0.items, x.1.now)) result (wanted_at scope.now count [] symbols.now) }
+    ensures read { IsReadAs (λ x. (x.0.items, x.1.now)) result (built_in_arguments_at scope.now count [] symbols.now) }
     ensures shorter { IfOk result (λ x. length x.1.now < length symbols.now) }
 {
     let mut positions = Vec::new(alloc);
     let mut rest = symbols;
     let mut missing = count;
     while missing > 0 {
-        let (position, behind) = used(What::Variable, scope, rest)?;
+        let (position, behind) = used_variable(What::Variable, scope, rest)?;
         positions.push(position)?;
         rest = behind;
         missing -= 1;

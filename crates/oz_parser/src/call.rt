@@ -3,13 +3,13 @@
 ghost use Rattle.std.specs.Prelude.{◌≡◌, ◌+◌, ◌<◌, ◌^◌, length, slice_index, vec_len, IfOk};
 ghost use Rattle.oz_grammar.specs.Table.{built_in_row};
 ghost use Rattle.oz_phrases.specs.ReadAnswers.{IsReadAs};
-ghost use Rattle.oz_parser.specs.Heads.{begun, built_in_head, procedure_call_head, call_head, raise_head};
+ghost use Rattle.oz_parser.specs.Heads.{head_parts, built_in_head, procedure_call_head, call_head, raise_head};
 
-use crate::arguments::{arguments, arity_of, wanted};
-use crate::head::{Head, whole};
+use crate::arguments::{arguments, arity_of, built_in_arguments};
+use crate::head::{Head, head_without_body};
 use kernel_syntax::{Positions, Stmt};
 use oz_grammar::{BuiltIn, FaultKind, Sign, Symbol, What};
-use oz_phrases::{Scope, Stop, built_in_at, fault, refused, sign, used};
+use oz_phrases::{Scope, Stop, built_in_at, fault, mismatch, sign, used_variable};
 use std::alloc::Global;
 
 fn position_at(positions: &[u32], at: usize) -> u32
@@ -48,11 +48,11 @@ fn built_in<'t>(
     symbols: &'t [Symbol],
 ) -> Result<Head<'t>, Stop>
     requires { length scope.now < 2 ^ 31 }
-    ensures read { IsReadAs (λ h. begun h.row h.names.items h.body h.rest.now) result (built_in_head built_in scope.now symbols.now) }
+    ensures read { IsReadAs (λ h. head_parts h.row h.names.items h.body h.rest.now) result (built_in_head built_in scope.now symbols.now) }
     ensures shorter { IfOk result (λ h. vec_len h.names + length h.rest.now < length symbols.now) }
 {
-    let (positions, rest) = wanted(alloc, scope, arity_of(built_in), symbols)?;
-    Ok(whole(alloc, built_in_row(built_in, positions.as_slice()), rest))
+    let (positions, rest) = built_in_arguments(alloc, scope, arity_of(built_in), symbols)?;
+    Ok(head_without_body(alloc, built_in_row(built_in, positions.as_slice()), rest))
 }
 
 /// A call of a procedure, behind its name.
@@ -63,7 +63,7 @@ fn procedure_call<'t>(
     symbols: &'t [Symbol],
 ) -> Result<Head<'t>, Stop>
     requires { length scope.now < 2 ^ 31 }
-    ensures read { IsReadAs (λ h. begun h.row h.names.items h.body h.rest.now) result (procedure_call_head callee scope.now symbols.now) }
+    ensures read { IsReadAs (λ h. head_parts h.row h.names.items h.body h.rest.now) result (procedure_call_head callee scope.now symbols.now) }
     ensures shorter { IfOk result (λ h. vec_len h.names + length h.rest.now < length symbols.now) }
 {
     let (positions, rest) = arguments(alloc, scope, symbols)?;
@@ -71,13 +71,13 @@ fn procedure_call<'t>(
         callee,
         args: Positions::from_vec(positions),
     };
-    Ok(whole(alloc, row, rest))
+    Ok(head_without_body(alloc, row, rest))
 }
 
 /// A call, behind its opening bracket.
 pub fn call<'t>(alloc: Global, scope: &Scope, symbols: &'t [Symbol]) -> Result<Head<'t>, Stop>
     requires { length scope.now < 2 ^ 31 }
-    ensures read { IsReadAs (λ h. begun h.row h.names.items h.body h.rest.now) result (call_head scope.now symbols.now) }
+    ensures read { IsReadAs (λ h. head_parts h.row h.names.items h.body h.rest.now) result (call_head scope.now symbols.now) }
     ensures shorter { IfOk result (λ h. vec_len h.names + length h.rest.now < length symbols.now) }
 {
     match symbols {
@@ -88,17 +88,17 @@ pub fn call<'t>(alloc: Global, scope: &Scope, symbols: &'t [Symbol]) -> Result<H
                 None => Err(fault(FaultKind::Unbound, symbols)),
             },
         },
-        _ => Err(refused(What::Variable, symbols)),
+        _ => Err(mismatch(What::Variable, symbols)),
     }
 }
 
 /// What `raise` raises, behind that word.
 pub fn raise<'t>(alloc: Global, scope: &Scope, symbols: &'t [Symbol]) -> Result<Head<'t>, Stop>
     requires { length scope.now < 2 ^ 31 }
-    ensures read { IsReadAs (λ h. begun h.row h.names.items h.body h.rest.now) result (raise_head scope.now symbols.now) }
+    ensures read { IsReadAs (λ h. head_parts h.row h.names.items h.body h.rest.now) result (raise_head scope.now symbols.now) }
     ensures shorter { IfOk result (λ h. vec_len h.names + length h.rest.now < length symbols.now) }
 {
-    let (raised, rest) = used(What::Variable, scope, symbols)?;
+    let (raised, rest) = used_variable(What::Variable, scope, symbols)?;
     let rest = sign(Sign::End, rest)?;
-    Ok(whole(alloc, Stmt::Raise(raised), rest))
+    Ok(head_without_body(alloc, Stmt::Raise(raised), rest))
 }

@@ -2,12 +2,14 @@
 
 ghost use Rattle.std.specs.Prelude.{◌≡◌, ◌+◌, ◌<◌, ◌≤◌, ◌^◌, length, vec_len, IfOk};
 ghost use Rattle.oz_phrases.specs.ReadAnswers.{IsReadAs};
-ghost use Rattle.oz_parser.specs.Heads.{begun, whole, opening, local_head, procedure_head, proc_value_head, proc_head, value_head, right_head, tell_head, placed_head, thread_head, head_at, if_head, case_head};
+ghost use Rattle.oz_parser.specs.Heads.{head_parts, head_without_body, head_with_body, local_head, procedure_head, proc_value_head, proc_head, value_head, right_head, tell_head, placed_thread_head, thread_head, head_at, if_head, case_head};
 
 use crate::call::{call, raise};
 use kernel_syntax::Stmt;
 use oz_grammar::{Sign, Symbol, What};
-use oz_phrases::{Scope, Stop, first_local, formals, pattern, refused, sign, site, used, value};
+use oz_phrases::{
+    Scope, Stop, first_local, formals, mismatch, pattern, sign, site, used_variable, value,
+};
 use std::alloc::Global;
 use tree_node::{CodeId, Text};
 
@@ -22,8 +24,8 @@ pub struct Head<'t> {
 }
 
 /// A statement without a body.
-pub fn whole<'t>(alloc: Global, row: Stmt, rest: &'t [Symbol]) -> Head<'t>
-    ensures head { begun result.row result.names.items result.body result.rest.now ≡ whole row rest.now }
+pub fn head_without_body<'t>(alloc: Global, row: Stmt, rest: &'t [Symbol]) -> Head<'t>
+    ensures head { head_parts result.row result.names.items result.body result.rest.now ≡ head_without_body row rest.now }
     ensures names { vec_len result.names ≡ 0 }
 {
     Head {
@@ -35,8 +37,8 @@ pub fn whole<'t>(alloc: Global, row: Stmt, rest: &'t [Symbol]) -> Head<'t>
 }
 
 /// One with a body that begins with a statement.
-fn opening<'t>(row: Stmt, names: Vec<Text>, rest: &'t [Symbol]) -> Head<'t>
-    ensures head { begun result.row result.names.items result.body result.rest.now ≡ opening row names.items rest.now }
+fn head_with_body<'t>(row: Stmt, names: Vec<Text>, rest: &'t [Symbol]) -> Head<'t>
+    ensures head { head_parts result.row result.names.items result.body result.rest.now ≡ head_with_body row names.items rest.now }
     ensures names { vec_len result.names ≡ vec_len names }
 {
     Head {
@@ -50,7 +52,7 @@ fn opening<'t>(row: Stmt, names: Vec<Text>, rest: &'t [Symbol]) -> Head<'t>
 /// A `local`, behind that word.
 fn local<'t>(alloc: Global, scope: &Scope, symbols: &'t [Symbol]) -> Result<Head<'t>, Stop>
     requires { length scope.now < 2 ^ 31 }
-    ensures read { IsReadAs (λ h. begun h.row h.names.items h.body h.rest.now) result (local_head scope.now symbols.now) }
+    ensures read { IsReadAs (λ h. head_parts h.row h.names.items h.body h.rest.now) result (local_head scope.now symbols.now) }
     ensures shorter { IfOk result (λ h. vec_len h.names + length h.rest.now < length symbols.now) }
 {
     let (names, rest) = first_local(alloc, symbols)?;
@@ -59,7 +61,7 @@ fn local<'t>(alloc: Global, scope: &Scope, symbols: &'t [Symbol]) -> Result<Head
         count: names.len() as u32,
         body: CodeId(1),
     };
-    Ok(opening(row, names, rest))
+    Ok(head_with_body(row, names, rest))
 }
 
 /// Formals, before the body of a procedure.
@@ -70,7 +72,7 @@ fn procedure<'t>(
     symbols: &'t [Symbol],
 ) -> Result<Head<'t>, Stop>
     requires { length scope.now < 2 ^ 31 }
-    ensures read { IsReadAs (λ h. begun h.row h.names.items h.body h.rest.now) result (procedure_head left scope.now symbols.now) }
+    ensures read { IsReadAs (λ h. head_parts h.row h.names.items h.body h.rest.now) result (procedure_head left scope.now symbols.now) }
     ensures shorter { IfOk result (λ h. vec_len h.names + length h.rest.now < length symbols.now) }
 {
     let (names, rest) = formals(alloc, symbols)?;
@@ -80,7 +82,7 @@ fn procedure<'t>(
         count: names.len() as u8,
         body: CodeId(1),
     };
-    Ok(opening(row, names, rest))
+    Ok(head_with_body(row, names, rest))
 }
 
 /// A procedure as a value, behind `proc`.
@@ -91,7 +93,7 @@ fn proc_value<'t>(
     symbols: &'t [Symbol],
 ) -> Result<Head<'t>, Stop>
     requires { length scope.now < 2 ^ 31 }
-    ensures read { IsReadAs (λ h. begun h.row h.names.items h.body h.rest.now) result (proc_value_head left scope.now symbols.now) }
+    ensures read { IsReadAs (λ h. head_parts h.row h.names.items h.body h.rest.now) result (proc_value_head left scope.now symbols.now) }
     ensures shorter { IfOk result (λ h. vec_len h.names + length h.rest.now < length symbols.now) }
 {
     let rest = sign(Sign::OpenCurly, symbols)?;
@@ -102,11 +104,11 @@ fn proc_value<'t>(
 /// A `proc` statement, behind that word.
 fn proc_statement<'t>(alloc: Global, scope: &Scope, symbols: &'t [Symbol]) -> Result<Head<'t>, Stop>
     requires { length scope.now < 2 ^ 31 }
-    ensures read { IsReadAs (λ h. begun h.row h.names.items h.body h.rest.now) result (proc_head scope.now symbols.now) }
+    ensures read { IsReadAs (λ h. head_parts h.row h.names.items h.body h.rest.now) result (proc_head scope.now symbols.now) }
     ensures shorter { IfOk result (λ h. vec_len h.names + length h.rest.now < length symbols.now) }
 {
     let rest = sign(Sign::OpenCurly, symbols)?;
-    let (left, rest) = used(What::Variable, scope, rest)?;
+    let (left, rest) = used_variable(What::Variable, scope, rest)?;
     procedure(alloc, left, scope, rest)
 }
 
@@ -118,11 +120,11 @@ fn value_tell<'t>(
     symbols: &'t [Symbol],
 ) -> Result<Head<'t>, Stop>
     requires { length scope.now < 2 ^ 31 }
-    ensures read { IsReadAs (λ h. begun h.row h.names.items h.body h.rest.now) result (value_head left scope.now symbols.now) }
+    ensures read { IsReadAs (λ h. head_parts h.row h.names.items h.body h.rest.now) result (value_head left scope.now symbols.now) }
     ensures shorter { IfOk result (λ h. vec_len h.names + length h.rest.now < length symbols.now) }
 {
     let (row, rest) = value(alloc, left, scope, symbols)?;
-    Ok(whole(alloc, row, rest))
+    Ok(head_without_body(alloc, row, rest))
 }
 
 /// The right side of a tell.
@@ -133,7 +135,7 @@ fn right<'t>(
     symbols: &'t [Symbol],
 ) -> Result<Head<'t>, Stop>
     requires { length scope.now < 2 ^ 31 }
-    ensures read { IsReadAs (λ h. begun h.row h.names.items h.body h.rest.now) result (right_head left scope.now symbols.now) }
+    ensures read { IsReadAs (λ h. head_parts h.row h.names.items h.body h.rest.now) result (right_head left scope.now symbols.now) }
     ensures shorter { IfOk result (λ h. vec_len h.names + length h.rest.now < length symbols.now) }
 {
     match symbols {
@@ -145,17 +147,17 @@ fn right<'t>(
 /// A tell.
 fn tell<'t>(alloc: Global, scope: &Scope, symbols: &'t [Symbol]) -> Result<Head<'t>, Stop>
     requires { length scope.now < 2 ^ 31 }
-    ensures read { IsReadAs (λ h. begun h.row h.names.items h.body h.rest.now) result (tell_head scope.now symbols.now) }
+    ensures read { IsReadAs (λ h. head_parts h.row h.names.items h.body h.rest.now) result (tell_head scope.now symbols.now) }
     ensures shorter { IfOk result (λ h. vec_len h.names + length h.rest.now < length symbols.now) }
 {
-    let (left, rest) = used(What::Statement, scope, symbols)?;
+    let (left, rest) = used_variable(What::Statement, scope, symbols)?;
     let rest = sign(Sign::Equals, rest)?;
     right(alloc, left, scope, rest)
 }
 
-/// A thread with its place, behind `at`.
-fn placed<'t>(alloc: Global, symbols: &'t [Symbol]) -> Result<Head<'t>, Stop>
-    ensures read { IsReadAs (λ h. begun h.row h.names.items h.body h.rest.now) result (placed_head symbols.now) }
+/// A thread with its site, behind `at`.
+fn placed_thread<'t>(alloc: Global, symbols: &'t [Symbol]) -> Result<Head<'t>, Stop>
+    ensures read { IsReadAs (λ h. head_parts h.row h.names.items h.body h.rest.now) result (placed_thread_head symbols.now) }
     ensures shorter { IfOk result (λ h. vec_len h.names + length h.rest.now < length symbols.now) }
 {
     let (at, rest) = site(symbols)?;
@@ -163,16 +165,16 @@ fn placed<'t>(alloc: Global, symbols: &'t [Symbol]) -> Result<Head<'t>, Stop>
         at: Some(at),
         body: CodeId(1),
     };
-    Ok(opening(row, Vec::new(alloc), rest))
+    Ok(head_with_body(row, Vec::new(alloc), rest))
 }
 
 /// A thread, behind that word.
 fn thread<'t>(alloc: Global, symbols: &'t [Symbol]) -> Result<Head<'t>, Stop>
-    ensures read { IsReadAs (λ h. begun h.row h.names.items h.body h.rest.now) result (thread_head symbols.now) }
+    ensures read { IsReadAs (λ h. head_parts h.row h.names.items h.body h.rest.now) result (thread_head symbols.now) }
     ensures shorter { IfOk result (λ h. vec_len h.names + length h.rest.now ≤ length symbols.now) }
 {
     match symbols {
-        [Symbol::At, rest @ ..] => placed(alloc, rest),
+        [Symbol::At, rest @ ..] => placed_thread(alloc, rest),
         _ => Ok(Head {
             row: Stmt::Thread {
                 at: None,
@@ -193,18 +195,18 @@ pub fn block_head<'t>(
     symbols: &'t [Symbol],
 ) -> Result<Head<'t>, Stop>
     requires { length scope.now < 2 ^ 31 }
-    ensures read { IsReadAs (λ h. begun h.row h.names.items h.body h.rest.now) result (head_at scope.now what symbols.now) }
+    ensures read { IsReadAs (λ h. head_parts h.row h.names.items h.body h.rest.now) result (head_at scope.now what symbols.now) }
     ensures shorter { IfOk result (λ h. vec_len h.names + length h.rest.now < length symbols.now) }
 {
     match symbols {
-        [Symbol::Skip, rest @ ..] => Ok(whole(alloc, Stmt::Skip, rest)),
+        [Symbol::Skip, rest @ ..] => Ok(head_without_body(alloc, Stmt::Skip, rest)),
         [Symbol::Variable(_), ..] => tell(alloc, scope, symbols),
         [Symbol::OpenCurly, rest @ ..] => call(alloc, scope, rest),
         [Symbol::Raise, rest @ ..] => raise(alloc, scope, rest),
         [Symbol::Local, rest @ ..] => local(alloc, scope, rest),
         [Symbol::Proc, rest @ ..] => proc_statement(alloc, scope, rest),
         [Symbol::Thread, rest @ ..] => thread(alloc, rest),
-        _ => Err(refused(what, symbols)),
+        _ => Err(mismatch(what, symbols)),
     }
 }
 
@@ -213,26 +215,26 @@ pub fn block_head<'t>(
 /// An `if` up to its first branch, behind that word.
 pub fn if_head<'t>(alloc: Global, scope: &Scope, symbols: &'t [Symbol]) -> Result<Head<'t>, Stop>
     requires { length scope.now < 2 ^ 31 }
-    ensures read { IsReadAs (λ h. begun h.row h.names.items h.body h.rest.now) result (if_head scope.now symbols.now) }
+    ensures read { IsReadAs (λ h. head_parts h.row h.names.items h.body h.rest.now) result (if_head scope.now symbols.now) }
     ensures shorter { IfOk result (λ h. vec_len h.names + length h.rest.now < length symbols.now) }
 {
-    let (subject, rest) = used(What::Variable, scope, symbols)?;
+    let (subject, rest) = used_variable(What::Variable, scope, symbols)?;
     let rest = sign(Sign::Then, rest)?;
     let row = Stmt::If {
         subject,
         yes: CodeId(1),
         no: CodeId(0),
     };
-    Ok(opening(row, Vec::new(alloc), rest))
+    Ok(head_with_body(row, Vec::new(alloc), rest))
 }
 
 /// A `case` up to its first branch, behind that word: its pattern declares names for the branch.
 pub fn case_head<'t>(alloc: Global, scope: &Scope, symbols: &'t [Symbol]) -> Result<Head<'t>, Stop>
     requires { length scope.now < 2 ^ 31 }
-    ensures read { IsReadAs (λ h. begun h.row h.names.items h.body h.rest.now) result (case_head scope.now symbols.now) }
+    ensures read { IsReadAs (λ h. head_parts h.row h.names.items h.body h.rest.now) result (case_head scope.now symbols.now) }
     ensures shorter { IfOk result (λ h. vec_len h.names + length h.rest.now < length symbols.now) }
 {
-    let (subject, rest) = used(What::Variable, scope, symbols)?;
+    let (subject, rest) = used_variable(What::Variable, scope, symbols)?;
     let rest = sign(Sign::Of, rest)?;
     let (pattern, names, rest) = pattern(alloc, scope, rest)?;
     let rest = sign(Sign::Then, rest)?;
@@ -243,5 +245,5 @@ pub fn case_head<'t>(alloc: Global, scope: &Scope, symbols: &'t [Symbol]) -> Res
         yes: CodeId(1),
         no: CodeId(0),
     };
-    Ok(opening(row, names, rest))
+    Ok(head_with_body(row, names, rest))
 }

@@ -3,7 +3,6 @@
 ghost use Rattle.std.specs.Prelude.{◌≡◌, ◌+◌, ◌-◌, ◌<◌, ◌≤◌, ◌^◌, List, true, length, take, slice_index, IfOk};
 ghost use Rattle.tree_node.specs.Each.{Each};
 ghost use Rattle.kernel_syntax.specs.declared.stmt.Stmt.{Stmt};
-ghost use Rattle.kernel_syntax.specs.Program.{IsProgram};
 ghost use Rattle.oz_lexer.specs.Place.{place_of};
 ghost use Rattle.oz_grammar.specs.declared.fault.TextFault.{TextFault};
 ghost use Rattle.oz_grammar.specs.Symbols.{ends_once};
@@ -37,7 +36,7 @@ fn table(alloc: Global, symbols: &[Symbol]) -> Result<Vec<Stmt>, Stop>
 
 /// A fault with its line and column, where so many symbols are left.
 #[tactic(auto, using(crate::proofs::Parsing::each_within))]
-fn placed(text: &str, starts: &[usize], fault: Fault) -> TextFault
+fn text_fault(text: &str, starts: &[usize], fault: Fault) -> TextFault
     requires some { 0 < fault.left }
     requires left { fault.left ≤ length starts.now }
     requires within { Each (λ s. s ≤ length text.now) starts.now }
@@ -53,16 +52,6 @@ fn placed(text: &str, starts: &[usize], fault: Fault) -> TextFault
     }
 }
 
-fn made(alloc: Global, rows: Vec<Stmt>) -> Result<Program, ParseError>
-    requires { IsProgram rows.items }
-    ensures { IsProgramAnswer result rows.items }
-{
-    match Program::from_vec(alloc, rows) {
-        Ok(program) => Ok(program),
-        Err(_) => Err(ParseError::Memory),
-    }
-}
-
 /// The fault of a text where reading its symbols was refused.
 fn fault_of(text: &str, symbols: &[Symbol], starts: &[usize], stop: Stop) -> ParseError
     requires symbols { AreSymbols text.now symbols.now starts.now }
@@ -71,7 +60,7 @@ fn fault_of(text: &str, symbols: &[Symbol], starts: &[usize], stop: Stop) -> Par
 {
     match stop {
         Stop::Memory => ParseError::Memory,
-        Stop::Fault(fault) => ParseError::Text(placed(text, starts, fault)),
+        Stop::Fault(fault) => ParseError::Text(text_fault(text, starts, fault)),
     }
 }
 
@@ -87,18 +76,8 @@ fn program(
     ensures { IsParse text.now result }
 {
     match table(alloc, symbols) {
-        Ok(rows) => made(alloc, rows),
+        Ok(rows) => Ok(Program::from_vec(alloc, rows)?),
         Err(stop) => Err(fault_of(text, symbols, starts, stop)),
-    }
-}
-
-fn parsed(alloc: Global, text: &str) -> Result<Program, ParseError>
-    requires { length text.now < 2 ^ 28 }
-    ensures { IsParse text.now result }
-{
-    match symbols_of(alloc, text) {
-        Ok((symbols, starts)) => program(alloc, text, symbols.as_slice(), starts.as_slice()),
-        Err(_) => Err(ParseError::Memory),
     }
 }
 
@@ -111,5 +90,6 @@ pub fn parse(alloc: Global, text: &str) -> Result<Program, ParseError>
     ensures program { (p : List Stmt) → Reads text.now p → IsProgramAnswer result p }
     ensures fault { (f : TextFault) → FaultOf text.now f → IsFaultAnswer result f }
 {
-    parsed(alloc, text)
+    let (symbols, starts) = symbols_of(alloc, text)?;
+    program(alloc, text, symbols.as_slice(), starts.as_slice())
 }

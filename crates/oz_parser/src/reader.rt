@@ -11,7 +11,9 @@ use crate::head::{Head, block_head, case_head, if_head};
 use crate::table::set_second;
 use kernel_syntax::{Bodies, Stmt};
 use oz_grammar::{Closer, FaultKind, Sign, Symbol, What};
-use oz_phrases::{Scope, Stop, after, begins_at, caught, closes, fault, refused, sign};
+use oz_phrases::{
+    Scope, Stop, catch_name, expected_after, fault, is_at_statement, is_end_of, mismatch, sign,
+};
 use std::alloc::{AllocError, Global};
 use std::marker::Model;
 use tree_node::{CodeId, Text};
@@ -38,7 +40,7 @@ impl<'t> Model for Reader<'t> {
 }
 
 impl<'t> Reader<'t> {
-    /// Before all symbols.
+    /// A reader before all symbols, with nothing declared and no rows.
     pub fn new(alloc: Global, symbols: &'t [Symbol]) -> Reader<'t>
         requires { length symbols.now < 2 ^ 29 }
         ensures { result ≡ state_of [] [] symbols.now }
@@ -78,10 +80,10 @@ impl<'t> Reader<'t> {
         ensures moves { OnOk result (IsFurther self.old self.new) }
     {
         if depth == 0 {
-            if begins_at(self.rest) {
+            if is_at_statement(self.rest) {
                 return Err(fault(FaultKind::Deep, self.rest));
             }
-            return Err(refused(what, self.rest));
+            return Err(mismatch(what, self.rest));
         }
         self.kind(depth - 1, what)
     }
@@ -197,7 +199,7 @@ impl<'t> Reader<'t> {
             handler: CodeId(0),
         })?;
         self.sequence(depth, Closer::Catch, What::Statement)?;
-        let (name, rest) = caught(self.rest)?;
+        let (name, rest) = catch_name(self.rest)?;
         self.rest = sign(Sign::Then, rest)?;
         set_second(&mut self.rows, owner);
         self.scope.declare_all(&[name])?;
@@ -227,7 +229,7 @@ impl<'t> Reader<'t> {
         ensures read { IsReadAs (λ _. out_of self.new) result (seq_from (stmt_at depth) closer first self.old.scope (out_of self.old)) }
         ensures ends { OnOk result (IsAtEnd 1 self.old self.new) }
     {
-        if closes(closer, self.rest) {
+        if is_end_of(closer, self.rest) {
             self.rest = self.rest.split_at(1).1;
             return Ok(());
         }
@@ -246,14 +248,14 @@ impl<'t> Reader<'t> {
         let mut numbers = vec![in self.alloc; CodeId(1)]?;
         let most = self.rest.len() + 1;
         for _ in 0..most {
-            if closes(closer, self.rest) {
+            if is_end_of(closer, self.rest) {
                 self.rows[owner] = Stmt::Seq(Bodies::from_vec(numbers));
                 self.rest = self.rest.split_at(1).1;
                 return Ok(());
             }
             numbers.push(CodeId((self.rows.len() - owner) as u32))?;
-            self.statement(depth, after(closer))?;
+            self.statement(depth, expected_after(closer))?;
         }
-        Err(refused(after(closer), self.rest))
+        Err(mismatch(expected_after(closer), self.rest))
     }
 }

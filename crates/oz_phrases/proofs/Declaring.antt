@@ -8,7 +8,7 @@ use Rattle.std.specs.Map.{lookup, set_value}
 use Rattle.std.proofs.lemmas.List.{append-nil, length-map}
 use Rattle.indexmap.specs.IndexMap.{insert_entry}
 use Rattle.oz_grammar.specs.Scoping.{Scope, declared_behind, position_of}
-use Rattle.oz_phrases.specs.Scoped.{Declarations, Places, declared_names, option_join, place_named, HidesBehind, IsIndexed}
+use Rattle.oz_phrases.specs.ScopeIndex.{Declarations, Positions, declared_names, option_join, position_named, HidesBehind, IsIndexed}
 
 -- ---- positions
 
@@ -54,42 +54,42 @@ flips : (x y : List ℕ) → bytes_eq x y ≡ bytes_eq y x
 flips x y = nat_list_eq_equiv.symm x y
 
 -- the index after one declaration more
-pub indexed_push : (ds : Declarations) (old new : Places) (y : List ℕ) (o : Option ℕ) → IsIndexed ds old → o ≡ place_named old y →
-    ((x : List ℕ) → place_named new x ≡ cond (bytes_eq x y) (Some (length ds)) (place_named old x)) → IsIndexed (ds ++ (y, o) ∷ []) new
+pub indexed_push : (ds : Declarations) (old new : Positions) (y : List ℕ) (o : Option ℕ) → IsIndexed ds old → o ≡ position_named old y →
+    ((x : List ℕ) → position_named new x ≡ cond (bytes_eq x y) (Some (length ds)) (position_named old x)) → IsIndexed (ds ++ (y, o) ∷ []) new
 indexed_push ds old new y o i e h = record {
-  hides = hides_push [] ds y o i.hides (e ∙ i.places_are y);
-  places_are = λ x. h x ∙ go x (bytes_eq x y) refl ∙ sym (ap (λ (s : Scope). position_of s x) (names_push ds y o) ∙ position_push (declared_names ds) y x);
+  hides = hides_push [] ds y o i.hides (e ∙ i.positions_are y);
+  positions_are = λ x. h x ∙ go x (bytes_eq x y) refl ∙ sym (ap (λ (s : Scope). position_of s x) (names_push ds y o) ∙ position_push (declared_names ds) y x);
 }
   where
-    go : (x : List ℕ) (b : Bool) → bytes_eq x y ≡ b → cond b (Some (length ds)) (place_named old x) ≡ cond (bytes_eq y x) (Some (length (declared_names ds))) (position_of (declared_names ds) x)
+    go : (x : List ℕ) (b : Bool) → bytes_eq x y ≡ b → cond b (Some (length ds)) (position_named old x) ≡ cond (bytes_eq y x) (Some (length (declared_names ds))) (position_of (declared_names ds) x)
     go x true q = rw (flips y x ∙ q) (ap (λ (p : ℕ). Some p) (sym (length-map ds (λ (d : List ℕ × Option ℕ). d.0))))
-    go x false q = rw (flips y x ∙ q) (i.places_are x)
+    go x false q = rw (flips y x ∙ q) (i.positions_are x)
 
 -- and after one less
-pub indexed_less : (ds : Declarations) (old new : Places) (y : List ℕ) (o : Option ℕ) → IsIndexed (ds ++ (y, o) ∷ []) old →
-    ((x : List ℕ) → place_named new x ≡ cond (bytes_eq x y) o (place_named old x)) → IsIndexed ds new
+pub indexed_less : (ds : Declarations) (old new : Positions) (y : List ℕ) (o : Option ℕ) → IsIndexed (ds ++ (y, o) ∷ []) old →
+    ((x : List ℕ) → position_named new x ≡ cond (bytes_eq x y) o (position_named old x)) → IsIndexed ds new
 indexed_less ds old new y o i h = record {
   hides = (hides_less [] ds y o i.hides).0;
-  places_are = λ x. h x ∙ go x (bytes_eq x y) refl;
+  positions_are = λ x. h x ∙ go x (bytes_eq x y) refl;
 }
   where
-    was : (x : List ℕ) → place_named old x ≡ cond (bytes_eq y x) (Some (length (declared_names ds))) (position_of (declared_names ds) x)
-    was x = i.places_are x ∙ ap (λ (s : Scope). position_of s x) (names_push ds y o) ∙ position_push (declared_names ds) y x
+    was : (x : List ℕ) → position_named old x ≡ cond (bytes_eq y x) (Some (length (declared_names ds))) (position_of (declared_names ds) x)
+    was x = i.positions_are x ∙ ap (λ (s : Scope). position_of s x) (names_push ds y o) ∙ position_push (declared_names ds) y x
 
-    go : (x : List ℕ) (b : Bool) → bytes_eq x y ≡ b → cond b o (place_named old x) ≡ position_of (declared_names ds) x
+    go : (x : List ℕ) (b : Bool) → bytes_eq x y ≡ b → cond b o (position_named old x) ≡ position_of (declared_names ds) x
     go x true q = (hides_less [] ds y o i.hides).1 ∙ ap (position_of (declared_names ds)) (sym (same x y q))
     go x false q = was x ∙ ap (λ (b : Bool). cond b (Some (length (declared_names ds))) (position_of (declared_names ds) x)) (flips y x ∙ q)
 
--- the innermost declaration has a place
-pub has_place : (ds : Declarations) (old : Places) (y : List ℕ) (o : Option ℕ) → IsIndexed (ds ++ (y, o) ∷ []) old → IsSome (place_named old y)
-has_place ds old y o i =
-    let at : place_named old y ≡ Some (length (declared_names ds)) = i.places_are y ∙ ap (λ (s : Scope). position_of s y) (names_push ds y o) ∙ position_push (declared_names ds) y y
+-- the innermost declaration has a position
+pub has_position : (ds : Declarations) (old : Positions) (y : List ℕ) (o : Option ℕ) → IsIndexed (ds ++ (y, o) ∷ []) old → IsSome (position_named old y)
+has_position ds old y o i =
+    let at : position_named old y ≡ Some (length (declared_names ds)) = i.positions_are y ∙ ap (λ (s : Scope). position_of s y) (names_push ds y o) ∙ position_push (declared_names ds) y y
     ∙ ap (λ (b : Bool). cond b (Some (length (declared_names ds))) (position_of (declared_names ds) y)) (nat_list_eq_equiv.refl y) in
     rw at refl
 
 -- ---- entries
 
-pub put_there : (es : Places) (k : Vec ℕ) (v : Option ℕ) (x : List ℕ) → place_named (insert_entry (λ (a b : Vec ℕ). pointwise eqb a.items b.items) es k v) x ≡ cond (bytes_eq x k.items) v (place_named es x)
+pub put_there : (es : Positions) (k : Vec ℕ) (v : Option ℕ) (x : List ℕ) → position_named (insert_entry (λ (a b : Vec ℕ). pointwise eqb a.items b.items) es k v) x ≡ cond (bytes_eq x k.items) v (position_named es x)
 put_there [] k v x = go (bytes_eq x k.items)
   where
     go : (b : Bool) → option_join (cond b (Some v) None) ≡ cond b v None
@@ -98,8 +98,8 @@ put_there [] k v x = go (bytes_eq x k.items)
 put_there ((z, w) ∷ es) k v x = go (bytes_eq k.items z.items) (bytes_eq x z.items) (bytes_eq x k.items) refl refl refl (put_there es k v x)
   where
     go : (kz xz xk : Bool) → bytes_eq k.items z.items ≡ kz → bytes_eq x z.items ≡ xz → bytes_eq x k.items ≡ xk →
-        place_named (insert_entry (λ (a b : Vec ℕ). pointwise eqb a.items b.items) es k v) x ≡ cond xk v (place_named es x) →
-        place_named (cond kz ((z, v) ∷ es) ((z, w) ∷ insert_entry (λ (a b : Vec ℕ). pointwise eqb a.items b.items) es k v)) x ≡ cond xk v (option_join (cond xz (Some w) (lookup (λ (q : Vec ℕ). bytes_eq x q.items) es)))
+        position_named (insert_entry (λ (a b : Vec ℕ). pointwise eqb a.items b.items) es k v) x ≡ cond xk v (position_named es x) →
+        position_named (cond kz ((z, v) ∷ es) ((z, w) ∷ insert_entry (λ (a b : Vec ℕ). pointwise eqb a.items b.items) es k v)) x ≡ cond xk v (option_join (cond xz (Some w) (lookup (λ (q : Vec ℕ). bytes_eq x q.items) es)))
     go true true true a b c ih = rw b refl
     go true true false a b c ih = absurd (true≢false (sym b ∙ ap (λ (s : List ℕ). bytes_eq x s) (sym (same k.items z.items a)) ∙ c))
     go true false true a b c ih = absurd (true≢false (sym c ∙ ap (λ (s : List ℕ). bytes_eq x s) (same k.items z.items a) ∙ b))
@@ -109,18 +109,18 @@ put_there ((z, w) ∷ es) k v x = go (bytes_eq k.items z.items) (bytes_eq x z.it
     go false false true a b c ih = rw b ih
     go false false false a b c ih = rw b ih
 
--- a name that has a place is kept
+-- a name that has a position is kept
 pub is_kept : (o : Option (Option ℕ)) → IsSome (option_join o) → IsSome o
 is_kept None h = h
-is_kept (Some place) h = refl
+is_kept (Some position) h = refl
 
-pub set_there : (es : Places) (y : List ℕ) (w : Option ℕ) (x : List ℕ) → IsSome (lookup (λ (k : Vec ℕ). bytes_eq y k.items) es) → place_named (set_value (λ (k : Vec ℕ). bytes_eq y k.items) es w) x ≡ cond (bytes_eq x y) w (place_named es x)
+pub set_there : (es : Positions) (y : List ℕ) (w : Option ℕ) (x : List ℕ) → IsSome (lookup (λ (k : Vec ℕ). bytes_eq y k.items) es) → position_named (set_value (λ (k : Vec ℕ). bytes_eq y k.items) es w) x ≡ cond (bytes_eq x y) w (position_named es x)
 set_there [] y w x h = cc
 set_there ((z, v) ∷ es) y w x h = go (bytes_eq y z.items) (bytes_eq x z.items) (bytes_eq x y) refl refl refl h (set_there es y w x)
   where
     go : (yz xz xy : Bool) → bytes_eq y z.items ≡ yz → bytes_eq x z.items ≡ xz → bytes_eq x y ≡ xy → IsSome (cond yz (Some v) (lookup (λ (k : Vec ℕ). bytes_eq y k.items) es)) →
-        (IsSome (lookup (λ (k : Vec ℕ). bytes_eq y k.items) es) → place_named (set_value (λ (k : Vec ℕ). bytes_eq y k.items) es w) x ≡ cond xy w (place_named es x)) →
-        place_named (cond yz ((z, w) ∷ es) ((z, v) ∷ set_value (λ (k : Vec ℕ). bytes_eq y k.items) es w)) x ≡ cond xy w (option_join (cond xz (Some v) (lookup (λ (k : Vec ℕ). bytes_eq x k.items) es)))
+        (IsSome (lookup (λ (k : Vec ℕ). bytes_eq y k.items) es) → position_named (set_value (λ (k : Vec ℕ). bytes_eq y k.items) es w) x ≡ cond xy w (position_named es x)) →
+        position_named (cond yz ((z, w) ∷ es) ((z, v) ∷ set_value (λ (k : Vec ℕ). bytes_eq y k.items) es w)) x ≡ cond xy w (option_join (cond xz (Some v) (lookup (λ (k : Vec ℕ). bytes_eq x k.items) es)))
     go true true true a b c h ih = rw b refl
     go true true false a b c h ih = absurd (true≢false (sym b ∙ ap (λ (s : List ℕ). bytes_eq x s) (sym (same y z.items a)) ∙ c))
     go true false true a b c h ih = absurd (true≢false (sym c ∙ ap (λ (s : List ℕ). bytes_eq x s) (same y z.items a) ∙ b))

@@ -4,6 +4,7 @@ use Rattle.oz_grammar.specs.declared.fault.Fault.{Fault}
 use Rattle.oz_phrases.specs.declared.stop.Stop.{Stop}
 use Rattle.oz_phrases.specs.declared.stop.Stop.TheVariants as stops
 
+-- the fault is the one that reading gives; want of memory says nothing of it
 abbrev pub IsFailure : {Y : Type 0} → Stop → Result Y Fault → Type 0
 IsFailure stops.Memory read = Unit {0}
 IsFailure (stops.Fault f) read = read ≡ Err f

@@ -6,7 +6,7 @@ ghost use Rattle.oz_grammar.specs.Reading.{locals_at, first_local_at, formals_at
 ghost use Rattle.oz_phrases.specs.ReadAnswers.{IsReadAs};
 
 use crate::fields::has_name;
-use crate::stop::{Read, Stop, fault, refused};
+use crate::stop::{Read, Stop, fault, mismatch};
 use oz_grammar::{FaultKind, Symbol, What};
 use std::alloc::Global;
 use tree_node::Text;
@@ -40,7 +40,7 @@ fn locals<'t>(mut names: Vec<Text>, symbols: &'t [Symbol]) -> Read<'t, Vec<Text>
                     rest = behind;
                 }
             },
-            _ => return Err(refused(What::VariableOrIn, rest)),
+            _ => return Err(mismatch(What::VariableOrIn, rest)),
         }
     }
 }
@@ -56,7 +56,7 @@ pub fn first_local<'t>(alloc: Global, symbols: &'t [Symbol]) -> Read<'t, Vec<Tex
             let names = vec![in alloc; name.copy()?]?;
             locals(names, rest)
         }
-        _ => Err(refused(What::Variable, symbols)),
+        _ => Err(mismatch(What::Variable, symbols)),
     }
 }
 
@@ -94,7 +94,7 @@ pub fn formals<'t>(alloc: Global, symbols: &'t [Symbol]) -> Read<'t, Vec<Text>>
                     rest = behind;
                 }
             },
-            _ => return Err(refused(What::VariableOrClose, rest)),
+            _ => return Err(mismatch(What::VariableOrClose, rest)),
         }
     }
 }

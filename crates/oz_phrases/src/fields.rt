@@ -4,14 +4,14 @@ ghost use Rattle.std.specs.Prelude.{◌≡◌, ◌+◌, ◌<◌, ◌≤◌, ◌^
 ghost use Rattle.oz_grammar.specs.Scoping.{has_feature, has_name, names_in, with_field, feature_of};
 ghost use Rattle.oz_grammar.specs.Faults.{feature_fault, name_fault, placed_fault, feature_token_fault};
 ghost use Rattle.oz_grammar.specs.Table.{slots_of, features_in};
-ghost use Rattle.oz_grammar.specs.Reading.{fields_at, field_at, named_field_at, field_name_at, is_round};
+ghost use Rattle.oz_grammar.specs.Reading.{fields_at, field_at, named_field_at, field_name_at, is_close_round};
 ghost use Rattle.tree_node.specs.Node.{feature_cmp};
 ghost use Rattle.oz_phrases.specs.Fields.{insertion_point, field_name_of, field_with_feature_of, numbered_field_of};
 ghost use Rattle.oz_phrases.specs.ReadAnswers.{IsReadAs};
 
-use crate::scope::{Scope, place_of};
+use crate::scope::{Scope, position_or_zero};
 use crate::signs::sign;
-use crate::stop::{Read, Stop, fault, refused};
+use crate::stop::{Read, Stop, fault, mismatch};
 use oz_grammar::{FaultKind, Purpose, Sign, Symbol, What};
 use std::alloc::{AllocError, Global};
 use tree_node::{Feature, Text, compare_features, copy_feature, equal_feature};
@@ -20,12 +20,7 @@ use tree_node::{Feature, Text, compare_features, copy_feature, equal_feature};
 fn has_feature(fields: &[(Feature, Text)], feature: &Feature) -> bool
     ensures { result ≡ has_feature fields.now feature.now }
 {
-    for field in fields {
-        if equal_feature(&field.0, feature) {
-            return true;
-        }
-    }
-    false
+    fields.iter().any(|field| equal_feature(&field.0, feature))
 }
 
 /// Whether some field has a name.
@@ -44,12 +39,9 @@ fn has_field_name(fields: &[(Feature, Text)], name: &Text) -> bool
 pub fn has_name(names: &[Text], name: &Text) -> bool
     ensures { result ≡ has_name names.now name.now }
 {
-    for other in names {
-        if other.as_slice() == name.as_slice() {
-            return true;
-        }
-    }
-    false
+    names
+        .iter()
+        .any(|other| other.as_slice() == name.as_slice())
 }
 
 /// How many fields stand before the first of a greater feature.
@@ -166,7 +158,7 @@ fn field_name<'t>(
                 }
             }
         }
-        _ => Err(refused(What::Variable, symbols)),
+        _ => Err(mismatch(What::Variable, symbols)),
     }
 }
 
@@ -241,13 +233,13 @@ fn field<'t>(
             field_with_feature(at, scope, fields, Feature::Atom(text.copy()?), symbols)
         }
         [Symbol::Integer(value), ..] => numbered_field(at, scope, fields, *value, symbols),
-        _ => Err(refused(What::FieldOrBracket, symbols)),
+        _ => Err(mismatch(What::FieldOrBracket, symbols)),
     }
 }
 
 /// Whether the closing bracket stands here.
-fn is_round(symbols: &[Symbol]) -> bool
-    ensures { result ≡ is_round symbols.now }
+fn is_close_round(symbols: &[Symbol]) -> bool
+    ensures { result ≡ is_close_round symbols.now }
 {
     match symbols {
         [Symbol::CloseRound, ..] => true,
@@ -271,7 +263,7 @@ pub fn fields<'t>(
     let mut next: u32 = 1;
     let mut rest = symbols;
     loop {
-        if is_round(rest) {
+        if is_close_round(rest) {
             return Ok((fields, rest.split_at(1).1));
         }
         let at = Brackets {
@@ -300,7 +292,10 @@ pub fn slots(
 {
     let mut slots = Vec::new(alloc);
     for field in fields {
-        slots.push((copy_feature(&field.0)?, place_of(scope, field.1.as_slice())))?;
+        slots.push((
+            copy_feature(&field.0)?,
+            position_or_zero(scope, field.1.as_slice()),
+        ))?;
     }
     Ok(slots)
 }

@@ -1,19 +1,19 @@
 //! Identifiers that are used, what a selection selects by, the places of threads, and the name in `catch`.
 
 ghost use Rattle.std.specs.Prelude.{◌≡◌, ◌+◌, ◌<◌, ◌^◌, length, IfOk};
-ghost use Rattle.oz_grammar.specs.Reading.{used_at, selection_at, site_at, caught_at};
+ghost use Rattle.oz_grammar.specs.Reading.{used_variable_at, selection_at, site_at, catch_name_at};
 ghost use Rattle.oz_phrases.specs.ReadAnswers.{IsReadAs};
 
 use crate::scope::Scope;
-use crate::stop::{Read, Stop, fault, refused};
+use crate::stop::{Read, Stop, fault, mismatch};
 use kernel_syntax::Selector;
 use oz_grammar::{FaultKind, Symbol, What};
 use tree_node::{Feature, Text};
 
 /// The position of the used variable at the front.
-pub fn used<'t>(what: What, scope: &Scope, symbols: &'t [Symbol]) -> Read<'t, u32>
+pub fn used_variable<'t>(what: What, scope: &Scope, symbols: &'t [Symbol]) -> Read<'t, u32>
     requires { length scope.now < 2 ^ 32 }
-    ensures read { IsReadAs (λ x. (x.0, x.1.now)) result (used_at what scope.now symbols.now) }
+    ensures read { IsReadAs (λ x. (x.0, x.1.now)) result (used_variable_at what scope.now symbols.now) }
     ensures shorter { IfOk result (λ x. length x.1.now + 1 ≡ length symbols.now) }
 {
     match symbols {
@@ -21,7 +21,7 @@ pub fn used<'t>(what: What, scope: &Scope, symbols: &'t [Symbol]) -> Read<'t, u3
             Some(position) => Ok((position as u32, rest)),
             None => Err(fault(FaultKind::Unbound, symbols)),
         },
-        _ => Err(refused(what, symbols)),
+        _ => Err(mismatch(what, symbols)),
     }
 }
 
@@ -44,7 +44,7 @@ pub fn selection<'t>(scope: &Scope, symbols: &'t [Symbol]) -> Read<'t, Selector>
             Ok((Selector::Feature(Feature::Int(*value)), rest))
         }
         [Symbol::Integer(None), ..] => Err(fault(FaultKind::Number, symbols)),
-        _ => Err(refused(What::VariableOrFeature, symbols)),
+        _ => Err(mismatch(What::VariableOrFeature, symbols)),
     }
 }
 
@@ -62,17 +62,17 @@ pub fn site(symbols: &[Symbol]) -> Result<(i64, &[Symbol]), Stop>
             }
         }
         [Symbol::Integer(None), ..] => Err(fault(FaultKind::Number, symbols)),
-        _ => Err(refused(What::Integer, symbols)),
+        _ => Err(mismatch(What::Integer, symbols)),
     }
 }
 
 /// The name that `catch` declares.
-pub fn caught(symbols: &[Symbol]) -> Result<(Text, &[Symbol]), Stop>
-    ensures read { IsReadAs (λ x. (x.0, x.1.now)) result (caught_at symbols.now) }
+pub fn catch_name(symbols: &[Symbol]) -> Result<(Text, &[Symbol]), Stop>
+    ensures read { IsReadAs (λ x. (x.0, x.1.now)) result (catch_name_at symbols.now) }
     ensures shorter { IfOk result (λ x. length x.1.now + 1 ≡ length symbols.now) }
 {
     match symbols {
         [Symbol::Variable(name), rest @ ..] => Ok((name.copy()?, rest)),
-        _ => Err(refused(What::Variable, symbols)),
+        _ => Err(mismatch(What::Variable, symbols)),
     }
 }

@@ -9,7 +9,7 @@ ghost use Rattle.oz_phrases.specs.Values.{pair_pattern};
 use crate::fields::{features, fields, names};
 use crate::scope::Scope;
 use crate::signs::sign;
-use crate::stop::{Stop, fault, refused};
+use crate::stop::{Stop, fault, mismatch};
 use kernel_syntax::{Features, Pattern};
 use oz_grammar::{FaultKind, Purpose, Sign, Symbol, What};
 use std::alloc::{AllocError, Global};
@@ -52,7 +52,7 @@ fn pair_pattern<'t>(
             let names = vec![in alloc; head.copy()?, tail.copy()?]?;
             Ok((pattern, names, rest))
         }
-        _ => Err(refused(What::Variable, symbols)),
+        _ => Err(mismatch(What::Variable, symbols)),
     }
 }
 
@@ -98,6 +98,6 @@ pub fn pattern<'t>(
             let behind = sign(Sign::Bar, rest)?;
             pair_pattern(alloc, head, behind)
         }
-        _ => Err(refused(What::Pattern, symbols)),
+        _ => Err(mismatch(What::Pattern, symbols)),
     }
 }

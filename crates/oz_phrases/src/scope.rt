@@ -3,7 +3,7 @@
 ghost use Rattle.std.specs.Prelude.{◌≡◌, ◌<◌, ◌≤◌, ◌^◌, ◌+◌, ◌-◌, ◌++◌, ◌∷◌, ℕ, List, [], take, length, if◌then◌else◌, Some, IsSome, IfSome, OnOk, OnErr};
 ghost use Rattle.std.specs.Str.{bytes_eq};
 ghost use Rattle.oz_grammar.specs.Scoping.{position_of, declaration_of, built_in_of, built_in_at};
-ghost use Rattle.oz_phrases.specs.Scoped.{place_named};
+ghost use Rattle.oz_phrases.specs.ScopeIndex.{position_named};
 
 use indexmap::IndexMap;
 use oz_grammar::BuiltIn;
@@ -19,7 +19,7 @@ pub struct Scope {
     /// Each name, with the position of the declaration that it hides.
     declared: Vec<(Text, Option<usize>)>,
     /// The position of each name, none of one that is declared no more.
-    places: IndexMap<Vec<u8>, Option<usize>>,
+    positions: IndexMap<Vec<u8>, Option<usize>>,
 }
 
 impl Model for Scope {
@@ -27,61 +27,61 @@ impl Model for Scope {
 
     ghost Value = { List (List ℕ) };
 
-    ghost use Rattle.oz_phrases.specs.Scoped.{declared_names, IsIndexed};
+    ghost use Rattle.oz_phrases.specs.ScopeIndex.{declared_names, IsIndexed};
 
     ghost view = { λ s. declared_names s.declared.items };
 
-    ghost invariant = { λ s. IsIndexed s.declared.items s.places.entries };
+    ghost invariant = { λ s. IsIndexed s.declared.items s.positions.entries };
 }
 
-fn place_named(places: &IndexMap<Vec<u8>, Option<usize>>, name: &[u8]) -> Option<usize>
-    ensures { result ≡ place_named places.now.entries name.now }
+fn position_named(positions: &IndexMap<Vec<u8>, Option<usize>>, name: &[u8]) -> Option<usize>
+    ensures { result ≡ position_named positions.now.entries name.now }
 {
-    match places.get(name) {
-        Some(place) => *place,
+    match positions.get(name) {
+        Some(position) => *position,
         None => None,
     }
 }
 
-/// Keeps a name with a place.
+/// Keeps a name with a position.
 fn insert(
     alloc: Global,
-    places: &mut IndexMap<Vec<u8>, Option<usize>>,
+    positions: &mut IndexMap<Vec<u8>, Option<usize>>,
     name: &[u8],
-    place: usize,
+    position: usize,
 ) -> Result<(), AllocError>
-    ensures ok { OnOk result ((x : List ℕ) → place_named places.new.entries x ≡ (if bytes_eq x name.now then Some place else place_named places.old.entries x)) }
-    ensures err { OnErr result (places.new.entries ≡ places.old.entries) }
+    ensures ok { OnOk result ((x : List ℕ) → position_named positions.new.entries x ≡ (if bytes_eq x name.now then Some position else position_named positions.old.entries x)) }
+    ensures err { OnErr result (positions.new.entries ≡ positions.old.entries) }
 {
     let key = Vec::from_slice(alloc, name)?;
-    places.insert(key, Some(place))?;
+    positions.insert(key, Some(position))?;
     Ok(())
 }
 
-/// Gives a name a place. A name that was declared before is kept already, and takes no memory.
+/// Gives a name a position. A name that was declared before is kept already, and takes no memory.
 fn put(
     alloc: Global,
-    places: &mut IndexMap<Vec<u8>, Option<usize>>,
+    positions: &mut IndexMap<Vec<u8>, Option<usize>>,
     name: &[u8],
-    place: usize,
+    position: usize,
 ) -> Result<(), AllocError>
-    ensures ok { OnOk result ((x : List ℕ) → place_named places.new.entries x ≡ (if bytes_eq x name.now then Some place else place_named places.old.entries x)) }
-    ensures err { OnErr result (places.new.entries ≡ places.old.entries) }
+    ensures ok { OnOk result ((x : List ℕ) → position_named positions.new.entries x ≡ (if bytes_eq x name.now then Some position else position_named positions.old.entries x)) }
+    ensures err { OnErr result (positions.new.entries ≡ positions.old.entries) }
 {
-    if let Some(held) = places.get_mut(name) {
-        *held = Some(place);
+    if let Some(held) = positions.get_mut(name) {
+        *held = Some(position);
         return Ok(());
     }
-    insert(alloc, places, name, place)
+    insert(alloc, positions, name, position)
 }
 
-/// Gives a name that has a place the one that it had before.
-fn put_back(places: &mut IndexMap<Vec<u8>, Option<usize>>, name: &[u8], place: Option<usize>)
-    requires { IsSome (place_named places.old.entries name.now) }
-    ensures { (x : List ℕ) → place_named places.new.entries x ≡ (if bytes_eq x name.now then place else place_named places.old.entries x) }
+/// Gives a name that has a position the one that it had before, or none, where it had none.
+fn put_back(positions: &mut IndexMap<Vec<u8>, Option<usize>>, name: &[u8], position: Option<usize>)
+    requires { IsSome (position_named positions.old.entries name.now) }
+    ensures { (x : List ℕ) → position_named positions.new.entries x ≡ (if bytes_eq x name.now then position else position_named positions.old.entries x) }
 {
-    if let Some(held) = places.get_mut(name) {
-        *held = place;
+    if let Some(held) = positions.get_mut(name) {
+        *held = position;
     }
 }
 
@@ -93,7 +93,7 @@ impl Scope {
         Scope {
             alloc,
             declared: Vec::new(alloc),
-            places: IndexMap::new(alloc),
+            positions: IndexMap::new(alloc),
         }
     }
 
@@ -109,7 +109,7 @@ impl Scope {
         ensures value { result ≡ position_of self.now name.now }
         ensures within { IfSome result (λ p. p < length self.now) }
     {
-        place_named(&self.places, name)
+        position_named(&self.positions, name)
     }
 
     /// One declaration more, within those before.
@@ -117,10 +117,10 @@ impl Scope {
         ensures ok { OnOk result (self.new ≡ self.old ++ name.now ∷ []) }
         ensures err { OnErr result (self.new ≡ self.old) }
     {
-        let hidden = place_named(&self.places, name.as_slice());
-        let place = self.declared.len();
+        let hidden = position_named(&self.positions, name.as_slice());
+        let position = self.declared.len();
         self.declared.push((name.copy()?, hidden))?;
-        match put(self.alloc, &mut self.places, name.as_slice(), place) {
+        match put(self.alloc, &mut self.positions, name.as_slice(), position) {
             Ok(()) => Ok(()),
             Err(_) => {
                 self.declared.pop();
@@ -145,7 +145,7 @@ impl Scope {
         ensures { self.new ≡ take (length self.old - 1) self.old }
     {
         if let Some((name, hidden)) = self.declared.pop() {
-            put_back(&mut self.places, name.as_slice(), hidden);
+            put_back(&mut self.positions, name.as_slice(), hidden);
         }
     }
 
@@ -188,7 +188,7 @@ pub fn built_in_at(scope: &Scope, name: &[u8]) -> Option<BuiltIn>
 }
 
 /// The position of an identifier, 0 of one that nothing declares.
-pub fn place_of(scope: &Scope, name: &[u8]) -> u32
+pub fn position_or_zero(scope: &Scope, name: &[u8]) -> u32
     requires { length scope.now < 2 ^ 32 }
     ensures { result ≡ declaration_of scope.now name.now }
 {

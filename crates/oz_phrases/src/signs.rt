@@ -1,11 +1,11 @@
 //! Signs, what ends a sequence, and what begins a statement.
 
 ghost use Rattle.std.specs.Prelude.{◌≡◌, ◌+◌, length, IfOk};
-ghost use Rattle.oz_grammar.specs.Points.{is_sign, expects_sign, is_closer, begins_statement, expected_after};
-ghost use Rattle.oz_grammar.specs.Reading.{is_end_of, begins_at, sign_at, close_at};
+ghost use Rattle.oz_grammar.specs.Points.{is_sign, expected_sign, is_closer, is_statement_start, expected_after};
+ghost use Rattle.oz_grammar.specs.Reading.{is_end_of, is_at_statement, sign_at, close_at};
 ghost use Rattle.oz_phrases.specs.ReadAnswers.{IsReadAs};
 
-use crate::stop::{Stop, refused};
+use crate::stop::{Stop, mismatch};
 use oz_grammar::{Closer, Sign, Symbol, What};
 
 /// Whether the symbol is this sign.
@@ -25,8 +25,8 @@ pub fn is_sign(sign: Sign, symbol: &Symbol) -> bool
 }
 
 /// What is expected where a sign has to stand.
-pub fn expects_sign(sign: Sign) -> What
-    ensures { result ≡ expects_sign sign }
+pub fn expected_sign(sign: Sign) -> What
+    ensures { result ≡ expected_sign sign }
 {
     match sign {
         Sign::Equals => What::Equals,
@@ -46,12 +46,12 @@ pub fn sign(sign: Sign, symbols: &[Symbol]) -> Result<&[Symbol], Stop>
     ensures shorter { IfOk result (λ x. length x.now + 1 ≡ length symbols.now) }
 {
     match symbols {
-        [] => Err(refused(expects_sign(sign), symbols)),
+        [] => Err(mismatch(expected_sign(sign), symbols)),
         [symbol, rest @ ..] => {
             if is_sign(sign, symbol) {
                 Ok(rest)
             } else {
-                Err(refused(expects_sign(sign), symbols))
+                Err(mismatch(expected_sign(sign), symbols))
             }
         }
     }
@@ -64,7 +64,7 @@ pub fn close(symbols: &[Symbol]) -> Result<&[Symbol], Stop>
 {
     match symbols {
         [Symbol::CloseCurly, rest @ ..] => Ok(rest),
-        _ => Err(refused(What::Close, symbols)),
+        _ => Err(mismatch(What::Close, symbols)),
     }
 }
 
@@ -80,7 +80,7 @@ fn is_closer(closer: Closer, symbol: &Symbol) -> bool
 }
 
 /// Whether a sequence ends here.
-pub fn closes(closer: Closer, symbols: &[Symbol]) -> bool
+pub fn is_end_of(closer: Closer, symbols: &[Symbol]) -> bool
     ensures { result ≡ is_end_of closer symbols.now }
 {
     match symbols {
@@ -90,7 +90,7 @@ pub fn closes(closer: Closer, symbols: &[Symbol]) -> bool
 }
 
 /// What is expected behind a statement of a sequence.
-pub fn after(closer: Closer) -> What
+pub fn expected_after(closer: Closer) -> What
     ensures { result ≡ expected_after closer }
 {
     match closer {
@@ -101,8 +101,8 @@ pub fn after(closer: Closer) -> What
     }
 }
 
-fn begins(symbol: &Symbol) -> bool
-    ensures { result ≡ begins_statement symbol.now }
+fn is_statement_start(symbol: &Symbol) -> bool
+    ensures { result ≡ is_statement_start symbol.now }
 {
     match symbol {
         Symbol::Skip
@@ -120,11 +120,11 @@ fn begins(symbol: &Symbol) -> bool
 }
 
 /// Whether a statement begins here.
-pub fn begins_at(symbols: &[Symbol]) -> bool
-    ensures { result ≡ begins_at symbols.now }
+pub fn is_at_statement(symbols: &[Symbol]) -> bool
+    ensures { result ≡ is_at_statement symbols.now }
 {
     match symbols {
         [] => false,
-        [symbol, ..] => begins(symbol),
+        [symbol, ..] => is_statement_start(symbol),
     }
 }

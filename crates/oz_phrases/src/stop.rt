@@ -2,7 +2,7 @@
 
 ghost use Rattle.std.specs.Prelude.{◌≡◌};
 ghost use Rattle.oz_grammar.specs.Faults.{fault_here};
-ghost use Rattle.oz_grammar.specs.Points.{refusal};
+ghost use Rattle.oz_grammar.specs.Points.{mismatch};
 ghost use Rattle.oz_phrases.specs.declared.stop.Stop.TheVariants as stops;
 
 use oz_grammar::{Fault, FaultKind, Symbol, What};
@@ -11,6 +11,7 @@ use std::alloc::{AllocError, AllocFailed};
 /// Why a reader gave nothing.
 #[derive(Drop)]
 pub enum Stop {
+    /// Memory ran out.
     Memory,
     /// The first fault of the symbols.
     Fault(Fault),
@@ -46,8 +47,8 @@ pub fn fault(kind: FaultKind, symbols: &[Symbol]) -> Stop
 }
 
 /// The symbol at the front is another than is expected, or a lexical fault.
-pub fn refused(what: What, symbols: &[Symbol]) -> Stop
-    ensures { result ≡ stops.Fault (fault_here (refusal what symbols.now) symbols.now) }
+pub fn mismatch(what: What, symbols: &[Symbol]) -> Stop
+    ensures { result ≡ stops.Fault (fault_here (mismatch what symbols.now) symbols.now) }
 {
     match symbols {
         [Symbol::Bad(kind), ..] => fault(FaultKind::Lex(*kind), symbols),

@@ -4,12 +4,12 @@ ghost use Rattle.std.specs.Prelude.{◌≡◌, ◌+◌, ◌<◌, ◌≤◌, ◌^
 ghost use Rattle.oz_grammar.specs.Table.{record_row, pair_row};
 ghost use Rattle.oz_grammar.specs.Reading.{record_at, behind_at, value_at};
 ghost use Rattle.oz_phrases.specs.ReadAnswers.{IsReadAs};
-ghost use Rattle.oz_phrases.specs.Values.{calculation_at, selected_at, pair_at, variable_at};
+ghost use Rattle.oz_phrases.specs.Values.{calculation_at, field_selection_at, pair_at, variable_at};
 
 use crate::fields::{fields, slots};
-use crate::operands::{selection, used};
+use crate::operands::{selection, used_variable};
 use crate::scope::Scope;
-use crate::stop::{Read, Stop, fault, refused};
+use crate::stop::{Read, Stop, fault, mismatch};
 use kernel_syntax::{Op, Slots, Stmt};
 use oz_grammar::{FaultKind, Purpose, Symbol, What};
 use std::alloc::{AllocError, Global};
@@ -82,13 +82,18 @@ fn calculation<'t>(
     ensures read { IsReadAs (λ x. (x.0, x.1.now)) result (calculation_at left a op scope.now symbols.now) }
     ensures shorter { IfOk result (λ x. length x.1.now ≤ length symbols.now) }
 {
-    let (b, rest) = used(What::Variable, scope, symbols)?;
+    let (b, rest) = used_variable(What::Variable, scope, symbols)?;
     Ok((Stmt::Calc { left, op, a, b }, rest))
 }
 
-fn selected<'t>(left: u32, source: u32, scope: &Scope, symbols: &'t [Symbol]) -> Read<'t, Stmt>
+fn field_selection<'t>(
+    left: u32,
+    source: u32,
+    scope: &Scope,
+    symbols: &'t [Symbol],
+) -> Read<'t, Stmt>
     requires { length scope.now < 2 ^ 32 }
-    ensures read { IsReadAs (λ x. (x.0, x.1.now)) result (selected_at left source scope.now symbols.now) }
+    ensures read { IsReadAs (λ x. (x.0, x.1.now)) result (field_selection_at left source scope.now symbols.now) }
     ensures shorter { IfOk result (λ x. length x.1.now ≤ length symbols.now) }
 {
     let (by, rest) = selection(scope, symbols)?;
@@ -106,7 +111,7 @@ fn pair<'t>(
     ensures read { IsReadAs (λ x. (x.0, x.1.now)) result (pair_at left head scope.now symbols.now) }
     ensures shorter { IfOk result (λ x. length x.1.now ≤ length symbols.now) }
 {
-    let (tail, rest) = used(What::Variable, scope, symbols)?;
+    let (tail, rest) = used_variable(What::Variable, scope, symbols)?;
     Ok((pair_row(alloc, left, head, tail)?, rest))
 }
 
@@ -124,7 +129,7 @@ fn behind<'t>(
 {
     match symbols {
         [Symbol::Operator(op), rest @ ..] => calculation(left, a, *op, scope, rest),
-        [Symbol::Dot, rest @ ..] => selected(left, a, scope, rest),
+        [Symbol::Dot, rest @ ..] => field_selection(left, a, scope, rest),
         [Symbol::Bar, rest @ ..] => pair(alloc, left, a, scope, rest),
         _ => Ok((Stmt::TellVar { left, right: a }, symbols)),
     }
@@ -136,7 +141,7 @@ fn variable<'t>(alloc: Global, left: u32, scope: &Scope, symbols: &'t [Symbol]) 
     ensures read { IsReadAs (λ x. (x.0, x.1.now)) result (variable_at left scope.now symbols.now) }
     ensures shorter { IfOk result (λ x. length x.1.now < length symbols.now) }
 {
-    let (a, rest) = used(What::Value, scope, symbols)?;
+    let (a, rest) = used_variable(What::Value, scope, symbols)?;
     behind(alloc, left, a, scope, rest)
 }
 
@@ -157,6 +162,6 @@ pub fn value<'t>(alloc: Global, left: u32, scope: &Scope, symbols: &'t [Symbol])
         )),
         [Symbol::Integer(None), ..] => Err(fault(FaultKind::Number, symbols)),
         [Symbol::Atom(label), rest @ ..] => record(alloc, left, label, scope, rest),
-        _ => Err(refused(What::Value, symbols)),
+        _ => Err(mismatch(What::Value, symbols)),
     }
 }

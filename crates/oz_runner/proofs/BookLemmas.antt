@@ -4,9 +4,9 @@ use Rattle.site_message.specs.declared.turn.Turn.{Turn}
 use Rattle.site_message.specs.declared.reason.Reason.{Reason}
 use Rattle.site_message.specs.declared.reason.Reason.TheVariants.{Memory}
 use Rattle.site_message.specs.Journal.{Limits}
-use Rattle.site_message.specs.Progress.{WentOn}
+use Rattle.site_message.specs.EarlierEnd.{HasNoEarlierEnd}
 use Rattle.message_book.specs.Book.{IsReason}
-use Rattle.plain_run.specs.Going.{HasReason, limits_of}
+use Rattle.plain_run.specs.Progress.{HasReason, limits_of}
 use Rattle.plain_run.specs.declared.out.Limits as plain
 
 the_same : (l : Limits) (b : plain.Limits) → l.sites ≡ b.sites → l.steps ≡ b.steps → l.messages ≡ b.messages → l ≡ limits_of b
@@ -17,8 +17,8 @@ its_reason b j r (inl ends) = inl (sym ends)
 its_reason b j r (inr (memory, goes_on)) = inr ((let same : r ≡ Memory = cc in same), goes_on)
 
 -- a book with these limits has a journal that went on within them
-pub went_of_book : (l : Limits) (b : plain.Limits) (j : List Turn) → l.sites ≡ b.sites → l.steps ≡ b.steps → l.messages ≡ b.messages → WentOn l j → WentOn (limits_of b) j
-went_of_book l b j sites steps messages went = subst (λ (k : Limits). WentOn k j) (the_same l b sites steps messages) went
+pub went_of_book : (l : Limits) (b : plain.Limits) (j : List Turn) → l.sites ≡ b.sites → l.steps ≡ b.steps → l.messages ≡ b.messages → HasNoEarlierEnd l j → HasNoEarlierEnd (limits_of b) j
+went_of_book l b j sites steps messages went = subst (λ (k : Limits). HasNoEarlierEnd k j) (the_same l b sites steps messages) went
 
 -- the reason of a book with these limits is how a run within them ended
 pub reason_of_book : (l : Limits) (b : plain.Limits) (j : List Turn) (r : Reason)

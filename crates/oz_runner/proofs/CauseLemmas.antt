@@ -12,14 +12,14 @@ use Rattle.oz_words.specs.declared.options.Options.{Options}
 use Rattle.oz_show.specs.Status.{end_line, HasLine, HasNumbers}
 use Rattle.oz_show.specs.declared.status.Status.{Status}
 use Rattle.oz_show.specs.declared.status.Status.TheVariants.{Quiescent, Usage, Refused, NotUtf8, TooLong, StepLimit, MessageLimit, ReadFault, WriteFault, Memory}
-use Rattle.oz_runner.specs.Seen.{Stream, Seen, RunOutput, made_of}
-use Rattle.oz_runner.specs.Cause.{Cause, Failed, Gave, GaveText, Given, IsTextOf, IsUntouched, NeverFailed, NothingRan, ReadsSource, HasOptions, IsSourceWanted, text_limit}
-use Rattle.oz_runner.specs.Run.{CameTo}
+use Rattle.oz_runner.specs.OzCall.{Stream, OzCall, RunOutput, run_output_of}
+use Rattle.oz_runner.specs.Cause.{Cause, HasFault, SourceGivesFront, IsTextOfSource, HasProgram, IsTextOf, IsUntouched, HasNoFault, NothingRan, ReadsSource, HasOptions, IsSourceWanted, text_limit}
+use Rattle.oz_runner.specs.Run.{IsStatusOfRun}
 use Rattle.oz_runner.specs.Headline.{Headline}
-use Rattle.oz_runner.specs.Written.{IsToldAs, Written, after_fault}
+use Rattle.oz_runner.specs.Writing.{IsReportedAs, IsOutputTaken, after_fault}
 
 -- the end of a run
-pub ran_cause : (seen : Seen) (made : RunOutput) (status : Status) (given : Given seen) → CameTo given.program given.options made status → Cause seen made status
+pub ran_cause : (seen : OzCall) (made : RunOutput) (status : Status) (given : HasProgram seen) → IsStatusOfRun given.program given.options made status → Cause seen made status
 ran_cause seen made (Quiescent ended waiting) given came = (given, came)
 ran_cause seen made (StepLimit site) given came = (given, came)
 ran_cause seen made MessageLimit given came = (given, came)
@@ -32,35 +32,35 @@ ran_cause seen made ReadFault given came = absurd came
 ran_cause seen made WriteFault given came = absurd came
 
 -- bytes that are no text
-pub bytes_cause : (seen : Seen) (made : RunOutput) (options : Options) (bytes : List ℕ) (at : ℕ) → HasOptions seen options → ReadsSource options.action → GaveText seen.source bytes
+pub bytes_cause : (seen : OzCall) (made : RunOutput) (options : Options) (bytes : List ℕ) (at : ℕ) → HasOptions seen options → ReadsSource options.action → IsTextOfSource seen.source bytes
     → (IsUtf8 bytes → ⊥) × IsValidUpTo bytes at → NothingRan made → Cause seen made (NotUtf8 at)
 bytes_cause seen made options bytes at says reads gave wrong nothing = (((options, says, reads), (bytes, gave, wrong)), nothing)
 
 -- a text that the source gave is the one that is run
-pub source_text : (a : Action) (source : Stream) (bytes text : List ℕ) → ReadsSource a → text ≡ bytes → GaveText source bytes → IsTextOf a source text
-source_text action.Run source bytes text reads same gave = subst (GaveText source) (sym same) gave
-source_text action.Central source bytes text reads same gave = subst (GaveText source) (sym same) gave
+pub source_text : (a : Action) (source : Stream) (bytes text : List ℕ) → ReadsSource a → text ≡ bytes → IsTextOfSource source bytes → IsTextOf a source text
+source_text action.Run source bytes text reads same gave = subst (IsTextOfSource source) (sym same) gave
+source_text action.Central source bytes text reads same gave = subst (IsTextOfSource source) (sym same) gave
 source_text (action.Gen size) source bytes text reads same gave = absurd reads
 
 -- a text that is refused
-pub refused_cause : (seen : Seen) (made : RunOutput) (options : Options) (text : List ℕ) (fault : TextFault) → HasOptions seen options → IsTextOf options.action seen.source text
+pub refused_cause : (seen : OzCall) (made : RunOutput) (options : Options) (text : List ℕ) (fault : TextFault) → HasOptions seen options → IsTextOf options.action seen.source text
     → IsUtf8 text → FaultOf text fault → NothingRan made → Cause seen made (Refused fault)
 refused_cause seen made options text fault says is_text utf8 applies nothing = ((options, says, (text, is_text, (utf8, applies))), nothing)
 
 -- no more was read than a short text
-read_front : (seen : Seen) (options : Options) (text : List ℕ) (a : Action) → options.action ≡ a → HasOptions seen options → IsTextOf a seen.source text
-    → IsUntouched seen.source ⊎ (IsSourceWanted seen × NeverFailed seen.source × Gave seen.source (λ n. n ≤ text_limit))
+read_front : (seen : OzCall) (options : Options) (text : List ℕ) (a : Action) → options.action ≡ a → HasOptions seen options → IsTextOf a seen.source text
+    → IsUntouched seen.source ⊎ (IsSourceWanted seen × HasNoFault seen.source × SourceGivesFront seen.source (λ n. n ≤ text_limit))
 read_front seen options text action.Run is says gave = inr ((options, says, subst ReadsSource (sym is) tt), gave.3, (text, gave.0, gave.2))
 read_front seen options text action.Central is says gave = inr ((options, says, subst ReadsSource (sym is) tt), gave.3, (text, gave.0, gave.2))
 read_front seen options text (action.Gen size) is says gave = inl gave.1
 
 -- a text for which no memory was left
-pub text_stops : (seen : Seen) (made : RunOutput) (options : Options) (text : List ℕ) → HasOptions seen options → IsTextOf options.action seen.source text
+pub text_stops : (seen : OzCall) (made : RunOutput) (options : Options) (text : List ℕ) → HasOptions seen options → IsTextOf options.action seen.source text
     → NothingRan made → Cause seen made Memory
 text_stops seen made options text says is_text nothing = inl (read_front seen options text options.action refl says is_text, nothing)
 
 -- work whose end line finds no memory
-memory_cause : (seen : Seen) (made : RunOutput) (status : Status) → HasNumbers status → Cause seen made status → Cause seen made Memory
+memory_cause : (seen : OzCall) (made : RunOutput) (status : Status) → HasNumbers status → Cause seen made status → Cause seen made Memory
 memory_cause seen made (Quiescent ended waiting) has (given, (state, end, quiet)) = inr (given, (state, end.run))
 memory_cause seen made (StepLimit site) has (given, (state, end)) = inr (given, (state, end.run))
 memory_cause seen made MessageLimit has cause = absurd has
@@ -72,28 +72,28 @@ memory_cause seen made ReadFault has cause = absurd has
 memory_cause seen made WriteFault has cause = absurd has
 memory_cause seen made Memory has cause = absurd has
 
-told_cause : (seen : Seen) (made : RunOutput) (status worked : Status) → IsToldAs status worked → Cause seen made status → Cause seen made worked
+told_cause : (seen : OzCall) (made : RunOutput) (status worked : Status) → IsReportedAs status worked → Cause seen made status → Cause seen made worked
 told_cause seen made status worked (inl same) cause = subst (Cause seen made) (sym same) cause
 told_cause seen made status worked (inr (has, none)) cause = subst (Cause seen made) (sym none) (memory_cause seen made status has cause)
 
-told_line : (status worked : Status) → IsToldAs status worked → HasLine status → HasLine worked
+told_line : (status worked : Status) → IsReportedAs status worked → HasLine status → HasLine worked
 told_line status worked (inl same) has = subst HasLine (sym same) has
 told_line status worked (inr (numbers, none)) has = subst HasLine (sym none) tt
 
 -- where the sink failed
-fault_cause : (seen : Seen) (made : RunOutput) (worked : Status) → Failed seen.sink → Cause seen made worked → Cause seen made (after_fault worked)
+fault_cause : (seen : OzCall) (made : RunOutput) (worked : Status) → HasFault seen.sink → Cause seen made worked → Cause seen made (after_fault worked)
 fault_cause seen made Memory failed cause = cause
 fault_cause seen made _ failed cause = failed
 
-answered_cause : (seen : Seen) (made : RunOutput) (bytes : List ℕ) (worked status : Status)
-    → Written seen.sink bytes worked status → Cause seen made worked → Cause seen made status
+answered_cause : (seen : OzCall) (made : RunOutput) (bytes : List ℕ) (worked status : Status)
+    → IsOutputTaken seen.sink bytes worked status → Cause seen made worked → Cause seen made status
 answered_cause seen made bytes worked status (inl all) cause = subst (Cause seen made) (sym all.0) cause
 answered_cause seen made bytes worked status (inr front) cause = subst (Cause seen made) (sym front.0) (fault_cause seen made worked front.1 cause)
 
 -- the work, and what was written of it
-pub headline : (seen : Seen) (made : RunOutput) (status worked final : Status) (journal : List Turn) (schedule : List Pick)
-    → journal ≡ made.journal → schedule ≡ made.schedule → Cause seen made status → HasLine status → IsToldAs status worked
-    → Written seen.sink (output made.lines (end_line worked)) worked final → Headline seen (made_of journal schedule made.lines) final
+pub headline : (seen : OzCall) (made : RunOutput) (status worked final : Status) (journal : List Turn) (schedule : List Pick)
+    → journal ≡ made.journal → schedule ≡ made.schedule → Cause seen made status → HasLine status → IsReportedAs status worked
+    → IsOutputTaken seen.sink (output made.lines (end_line worked)) worked final → Headline seen (run_output_of journal schedule made.lines) final
 headline seen made status worked final journal schedule same_journal same_schedule cause has told wrote =
     let before = told_cause seen made status worked told cause in
     let whole : Headline seen made final = record {
@@ -103,25 +103,25 @@ headline seen made status worked final journal schedule same_journal same_schedu
       written = wrote;
       answered = answered_cause seen made _ worked final wrote before;
     } in
-    subst (λ (j : List Turn). Headline seen (made_of j schedule made.lines) final) (sym same_journal)
-    (subst (λ (picks : List Pick). Headline seen (made_of made.journal picks made.lines) final) (sym same_schedule) whole)
+    subst (λ (j : List Turn). Headline seen (run_output_of j schedule made.lines) final) (sym same_journal)
+    (subst (λ (picks : List Pick). Headline seen (run_output_of made.journal picks made.lines) final) (sym same_schedule) whole)
 
 abbrev Told : (sink : Stream) (lines : List (List ℕ)) (status final : Status) → Type 0
-Told sink lines status final = (worked : Status) × IsToldAs status worked × Written sink (output lines (end_line worked)) worked final
+Told sink lines status final = (worked : Status) × IsReportedAs status worked × IsOutputTaken sink (output lines (end_line worked)) worked final
 
 -- the end line was written
 pub told_as : (sink : Stream) (lines : List (List ℕ)) (status : Status) (end : List ℕ) (final : Status)
-    → end ≡ end_line status ++ 10 ∷ [] → Written sink (pieces_of lines ++ end) status final → Told sink lines status final
+    → end ≡ end_line status ++ 10 ∷ [] → IsOutputTaken sink (pieces_of lines ++ end) status final → Told sink lines status final
 told_as sink lines status end final is wrote =
-    (status, inl refl, subst (λ (b : List ℕ). Written sink (pieces_of lines ++ b) status final) is wrote)
+    (status, inl refl, subst (λ (b : List ℕ). IsOutputTaken sink (pieces_of lines ++ b) status final) is wrote)
 
 -- the end line found no memory: the lines stay, and the status is Memory
 pub told_memory : (sink : Stream) (lines kept : List (List ℕ)) (status stopped final : Status)
-    → HasNumbers status → kept ≡ lines → stopped ≡ Memory → Written sink (pieces_of kept ++ (end_line Memory ++ 10 ∷ [])) stopped final
+    → HasNumbers status → kept ≡ lines → stopped ≡ Memory → IsOutputTaken sink (pieces_of kept ++ (end_line Memory ++ 10 ∷ [])) stopped final
     → Told sink lines status final
 told_memory sink lines kept status stopped final has same is wrote = (
   Memory,
   inr (has, refl),
-  subst (λ (ls : List (List ℕ)). Written sink (output ls (end_line Memory)) Memory final) same
-      (subst (λ (st : Status). Written sink (output kept (end_line Memory)) st final) is wrote),
+  subst (λ (ls : List (List ℕ)). IsOutputTaken sink (output ls (end_line Memory)) Memory final) same
+      (subst (λ (st : Status). IsOutputTaken sink (output kept (end_line Memory)) st final) is wrote),
 )

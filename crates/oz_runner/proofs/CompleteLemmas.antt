@@ -14,8 +14,8 @@ use Rattle.oz_words.specs.Words as words
 use Rattle.oz_words.specs.declared.options.Action.{Action}
 use Rattle.oz_words.specs.declared.options.Action.TheVariants as action
 use Rattle.oz_words.specs.declared.options.Options.{Options}
-use Rattle.oz_runner.specs.Seen.{Seen, Stream, RunOutput}
-use Rattle.oz_runner.specs.Cause.{Cause, GaveText, IsTextOf, ReadsSource, HasOptions}
+use Rattle.oz_runner.specs.OzCall.{OzCall, Stream, RunOutput}
+use Rattle.oz_runner.specs.Cause.{Cause, IsTextOfSource, IsTextOf, ReadsSource, HasOptions}
 use Rattle.oz_runner.specs.Complete.{HasText, IsDone, IsGood}
 
 -- a source gives no more than it has
@@ -50,7 +50,7 @@ one_action named number (action.Gen n) action.Run one two = absurd (other _ _ na
 one_action named number (action.Gen n) action.Central one two = absurd (other _ _ named refl one.0 two)
 one_action named number (action.Gen n) (action.Gen m) one two = ap action.Gen (one_number number n m one.1 two.1)
 
-same_action : (seen : Seen) (good : IsGood seen) (options : Options) → HasOptions seen options → good.options.action ≡ options.action
+same_action : (seen : OzCall) (good : IsGood seen) (options : Options) → HasOptions seen options → good.options.action ≡ options.action
 same_action seen good options says = one_action _ _ good.options.action options.action good.says.1.action says.1.action
 
 -- ---- the text is the one that was told
@@ -61,7 +61,7 @@ source_told action.Central b source text same reads told = told
 source_told (action.Gen size) b source text same reads told = absurd (subst ReadsSource (sym same) reads)
 
 -- the text that was read is the one that the source had
-read_told : (source : Stream) (told text : List ℕ) → source.bytes_before ≡ Some told → GaveText source text → told ≡ text
+read_told : (source : Stream) (told text : List ℕ) → source.bytes_before ≡ Some told → IsTextOfSource source text → told ≡ text
 read_told source told text before gave =
     all_of_it told text source.bytes_after (subst (λ (o : Option (List ℕ)). Consumes o source.bytes_after text) before gave.0) gave.1
 
@@ -71,12 +71,12 @@ run_told action.Central source told text before gave = read_told source told tex
 run_told (action.Gen size) source told text before gave = before ∙ sym gave.0
 
 -- the text that was run is the one that was told
-equal_text : (seen : Seen) (good : IsGood seen) (options : Options) (text : List ℕ) → HasOptions seen options → IsTextOf options.action seen.source text → good.text ≡ text
+equal_text : (seen : OzCall) (good : IsGood seen) (options : Options) (text : List ℕ) → HasOptions seen options → IsTextOf options.action seen.source text → good.text ≡ text
 equal_text seen good options text says is_text =
     run_told good.options.action seen.source good.text text good.told
     (subst (λ (a : Action). IsTextOf a seen.source text) (sym (same_action seen good options says)) is_text)
 
-pub complete : (seen : Seen) (made : RunOutput) (status : Status) → TextsNeverHaveBoth → Cause seen made status → IsGood seen → IsDone status
+pub complete : (seen : OzCall) (made : RunOutput) (status : Status) → TextsNeverHaveBoth → Cause seen made status → IsGood seen → IsDone status
 complete seen made (Quiescent ended waiting) never cause good = tt
 complete seen made (StepLimit site) never cause good = tt
 complete seen made MessageLimit never cause good = tt

@@ -7,24 +7,24 @@ use Rattle.oz_model.specs.Laws.{CellsAreChains}
 use Rattle.site_message.specs.Journal.{end_of}
 use Rattle.site_message.specs.declared.reason.Reason.{Reason}
 use Rattle.site_message.specs.declared.reason.Reason.TheVariants as reason
-use Rattle.central_machine.specs.RunReport.{EndsAt, HasReason}
-use Rattle.central_machine.specs.declared.run.Ran.{Ran}
+use Rattle.central_machine.specs.CentralOut.{EndsAt, HasReason}
+use Rattle.central_machine.specs.declared.run.CentralOut.{CentralOut}
 use Rattle.central_machine.specs.declared.run.Reason as stop
 use Rattle.central_machine.specs.declared.run.Reason.TheVariants as stops
 use Rattle.oz_words.specs.declared.options.Action.{Action}
 use Rattle.oz_words.specs.declared.options.Action.TheVariants as action
 use Rattle.oz_words.specs.declared.options.Options.{Options}
-use Rattle.oz_runner.specs.Seen.{RunOutput, made_of}
-use Rattle.oz_runner.specs.Run.{CameTo, HasEnded, IsMadeByMachine, IsMadeBySites, IsRun, OfSitesOrMachine, SitesAreSilent, StopsFor, limits_of}
-use Rattle.oz_runner.specs.Machine.{status_after}
+use Rattle.oz_runner.specs.OzCall.{RunOutput, run_output_of}
+use Rattle.oz_runner.specs.Run.{IsStatusOfRun, HasEnded, IsMadeByMachine, IsMadeBySites, IsRun, OfSitesOrMachine, SitesAreSilent, StopsFor, limits_of}
+use Rattle.oz_runner.specs.Machine.{machine_status}
 
 -- what is said of `central`
 alone : (a : Action) (OfSites OfMachine : Type 0) → a ≡ action.Central → OfMachine → OfSitesOrMachine a OfSites OfMachine
 alone a OfSites OfMachine is holds = subst (λ (a : Action). OfSitesOrMachine a OfSites OfMachine) (sym is) holds
 
-module _ (p : List Stmt) (options : Options) (s : State) (left : Ran) (is : options.action ≡ action.Central) (chain : CellsAreChains) (ends : EndsAt p options.steps s left) where
+module _ (p : List Stmt) (options : Options) (s : State) (left : CentralOut) (is : options.action ≡ action.Central) (chain : CellsAreChains) (ends : EndsAt p options.steps s left) where
   abbrev by_machine : RunOutput
-  by_machine = made_of [] left.picks left.lines.items
+  by_machine = run_output_of [] left.picks left.lines.items
 
   machine_run : HasOneEach s.equations → IsRun p options by_machine s
   machine_run once = record {
@@ -41,7 +41,7 @@ module _ (p : List Stmt) (options : Options) (s : State) (left : Ran) (is : opti
     ends = alone options.action (end_of (limits_of options) [] ≡ Some why) (StopsFor p options by_machine s why) is how;
   }
 
-  came_for : (why : stop.Reason) → HasReason p options.steps s left why → CameTo p options by_machine (status_after why left.ended left.waiting)
+  came_for : (why : stop.Reason) → HasReason p options.steps s left why → IsStatusOfRun p options by_machine (machine_status why left.ended left.waiting)
   came_for stops.Quiet (tells, rest) = (
     s,
     machine_end reason.Quiet tells.once rest,
@@ -56,6 +56,6 @@ module _ (p : List Stmt) (options : Options) (s : State) (left : Ran) (is : opti
   came_for stops.Memory once = (s, machine_run once)
 
 -- a run of the machine comes to the status of its reason
-pub machine_came : (p : List Stmt) (options : Options) (s : State) (left : Ran) → options.action ≡ action.Central → CellsAreChains → EndsAt p options.steps s left
-    → CameTo p options (made_of [] left.picks left.lines.items) (status_after left.reason left.ended left.waiting)
+pub machine_came : (p : List Stmt) (options : Options) (s : State) (left : CentralOut) → options.action ≡ action.Central → CellsAreChains → EndsAt p options.steps s left
+    → IsStatusOfRun p options (run_output_of [] left.picks left.lines.items) (machine_status left.reason left.ended left.waiting)
 machine_came p options s left is chain ends = came_for p options s left is chain ends left.reason ends.reason

@@ -5,7 +5,7 @@ use Rattle.std.specs.Io.KnownBytes.{Appends}
 use Rattle.std.proofs.KnownBytes.{Appends-trans}
 use Rattle.std.proofs.Math.Seq.{take-append-add}
 use Rattle.std.proofs.lemmas.List.{take-append-le, take_all, append-nil, reverse-append}
-use Rattle.oz_base.specs.Streams.{TakesPiece, TookFront}
+use Rattle.oz_base.specs.Streams.{TakesPiece, TakesFront}
 use Rattle.oz_model.specs.Output.{pieces_of}
 use Rattle.site_message.specs.declared.turn.Turn.{Turn}
 use Rattle.world_model.specs.Schedule.{lines_in}
@@ -34,7 +34,7 @@ module _ {X : Type 0} (f : X → List ℕ) where
 
   -- a front of one part was written, and no more
   pub part_stopped : (a b c : Option (List ℕ)) (xs : List X) (i : ℕ) (x : X) → i < length xs → x ≡ get_or xs i x
-      → (part : List ℕ) → part ≡ f x → Appends a b (flat_map f (take i xs)) → TookFront b c part → TookFront a c (flat_map f xs)
+      → (part : List ℕ) → part ≡ f x → Appends a b (flat_map f (take i xs)) → TakesFront b c part → TakesFront a c (flat_map f xs)
   part_stopped a b c xs i x lt is part e p (n, less, q) =
       let done = flat_map f (take i xs) in
       let rest = flat_map f (drop (suc i) xs) in

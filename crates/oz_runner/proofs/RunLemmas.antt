@@ -3,7 +3,7 @@ use Rattle.std.proofs.Common.{◌≡◌, ◌∙◌, ◌≤◌, sym, subst, refl,
 use Rattle.std.specs.Prelude.{◌&&◌, nat_lt, nat_le, if◌then◌else◌}
 use Rattle.tree_node.specs.State.{State}
 use Rattle.tree_node.specs.declared.pick.Pick.{Pick}
-use Rattle.oz_model.specs.Laws.{AtMostOneEnd, CellsAreChains}
+use Rattle.oz_model.specs.Laws.{RunsAreDetermined, CellsAreChains}
 use Rattle.oz_model.specs.Run.{Run, start}
 use Rattle.kernel_syntax.specs.declared.stmt.Stmt.{Stmt}
 use Rattle.site_message.specs.declared.reason.Reason.{Reason}
@@ -11,17 +11,17 @@ use Rattle.site_message.specs.declared.reason.Reason.TheVariants as reason
 use Rattle.site_message.specs.declared.turn.Turn.{Turn}
 use Rattle.site_message.specs.Journal as journal
 use Rattle.site_message.specs.Journal.{are_idle, end_of, is_empty, is_quiet, sent_of, travelling}
-use Rattle.site_message.specs.Progress.{WentOn}
-use Rattle.site_message.specs.Rows.{QuietTells}
+use Rattle.site_message.specs.EarlierEnd.{HasNoEarlierEnd}
+use Rattle.site_message.specs.Laws.{QuietTells}
 use Rattle.site_model.specs.Bundle.{bundle_limit}
 use Rattle.site_model.specs.Site.{Site}
-use Rattle.world_model.specs.Matches.{Knowledge}
+use Rattle.world_model.specs.Matches.{EquationsMatch}
 use Rattle.world_model.specs.Simulated.{IsSimulated, last_ended, last_waiting}
 use Rattle.world_model.specs.World.{eqs}
 use Rattle.world_core.specs.Laws.{AreMessagesFew}
 use Rattle.world_places.specs.Places.{ThreadsStayHome}
 use Rattle.world_runs.specs.Distributed.{DistributedRun}
-use Rattle.plain_run.specs.Going.{HasReason}
+use Rattle.plain_run.specs.Progress.{HasReason}
 use Rattle.plain_run.specs.Simulated.{HasMachineRun}
 use Rattle.plain_run.specs.declared.out.Limits.{Limits}
 use Rattle.plain_run.specs.declared.out.RunOut.{RunOut}
@@ -31,9 +31,9 @@ use Rattle.oz_words.specs.declared.options.Options.{Options}
 use Rattle.oz_show.specs.Status.{HasLine}
 use Rattle.oz_show.specs.declared.status.Status.{Status}
 use Rattle.oz_show.specs.declared.status.Status.TheVariants.{Quiescent, Usage, Refused, NotUtf8, TooLong, StepLimit, MessageLimit, ReadFault, WriteFault, Memory}
-use Rattle.oz_runner.specs.Seen.{RunOutput, made_of}
+use Rattle.oz_runner.specs.OzCall.{RunOutput, run_output_of}
 use Rattle.oz_runner.specs.Messages.{most_messages}
-use Rattle.oz_runner.specs.Run.{CameTo, HasEnded, IsMadeByMachine, IsMadeBySites, IsQuiet, IsRun, OfSitesOrMachine, SitesAreSilent, StopsFor, limits_of}
+use Rattle.oz_runner.specs.Run.{IsStatusOfRun, HasEnded, IsMadeByMachine, IsMadeBySites, IsQuiet, IsRun, OfSitesOrMachine, SitesAreSilent, StopsFor, limits_of}
 use Rattle.oz_runner.specs.Ends.{IsOverSites, status_of}
 use Rattle.world_model.specs.Schedule.{lines_in, schedule, sum_to}
 
@@ -71,7 +71,7 @@ pub record Leaves (p : List Stmt) (options : Options) (out : RunOut) : Type 0 wh
   pub picks : out.schedule ≡ schedule out.journal
   pub few : AreMessagesFew p options.sites out.journal
   pub reason : HasReason (plain_limits options) out.journal out.reason
-  pub went : WentOn (limits_of options) out.journal
+  pub went : HasNoEarlierEnd (limits_of options) out.journal
   pub ended : out.ended ≡ sum_to options.sites (last_ended out.journal)
   pub waiting : out.waiting ≡ sum_to options.sites (last_waiting out.journal)
 
@@ -83,7 +83,7 @@ over_sites (action.Gen size) OfSites OfMachine over holds = holds
 over_sites action.Central OfSites OfMachine over holds = absurd over
 
 -- the bound on messages, in the state that the picks lead to
-few_in : (p : List Stmt) (n : ℕ) (j : List Turn) (picks : List Pick) (s : State) → AtMostOneEnd → picks ≡ schedule j → Run p (schedule j) s
+few_in : (p : List Stmt) (n : ℕ) (j : List Turn) (picks : List Pick) (s : State) → RunsAreDetermined → picks ≡ schedule j → Run p (schedule j) s
     → AreMessagesFew p n j → length (sent_of j) ≤ most_messages p n picks s
 few_in p n j picks s one is run few =
     let all = few.all in
@@ -91,7 +91,7 @@ few_in p n j picks s one is run few =
     let within : length (sent_of j) ≤ most_messages p n (schedule j) s = subst (λ (t : State). length (sent_of j) ≤ most_messages p n (schedule j) t) same all.2 in
     subst (λ (ks : List Pick). length (sent_of j) ≤ most_messages p n ks s) (sym is) within
 
-module _ (p : List Stmt) (options : Options) (out : RunOut) (is : IsOverSites options.action) (tells : QuietTells) (one : AtMostOneEnd) (chain : CellsAreChains) (left : Leaves p options out) where
+module _ (p : List Stmt) (options : Options) (out : RunOut) (is : IsOverSites options.action) (tells : QuietTells) (one : RunsAreDetermined) (chain : CellsAreChains) (left : Leaves p options out) where
   abbrev states : ℕ → Site
   states = left.run.0
 
@@ -102,9 +102,9 @@ module _ (p : List Stmt) (options : Options) (out : RunOut) (is : IsOverSites op
   simulated = left.run.2.1
 
   abbrev by_sites : RunOutput
-  by_sites = made_of out.journal out.schedule (lines_in out.journal)
+  by_sites = run_output_of out.journal out.schedule (lines_in out.journal)
 
-  abbrev knowledge : Knowledge (eqs states) (travelling out.journal) s.equations
+  abbrev knowledge : EquationsMatch (eqs states) (travelling out.journal) s.equations
   knowledge = simulated.matches.parts.knowledge
 
   made_by_sites : IsMadeBySites p options by_sites s
@@ -154,7 +154,7 @@ module _ (p : List Stmt) (options : Options) (out : RunOut) (is : IsOverSites op
         waiting = left.waiting ∙ sym told.living;
       }
 
-  by_reason : (why : Reason) → HasReason (plain_limits options) out.journal why → CameTo p options by_sites (status_of why out.ended out.waiting)
+  by_reason : (why : Reason) → HasReason (plain_limits options) out.journal why → IsStatusOfRun p options by_sites (status_of why out.ended out.waiting)
   by_reason reason.Quiet (inl ends) = (s, sites_end reason.Quiet ends, sites_quiet ends)
   by_reason reason.Quiet (inr memory) = cc memory.0
   by_reason (reason.Steps site) (inl ends) = (s, sites_end (reason.Steps site) ends)
@@ -164,14 +164,14 @@ module _ (p : List Stmt) (options : Options) (out : RunOut) (is : IsOverSites op
   by_reason reason.Memory how = (s, sites_run)
 
 -- a run over sites comes to the status of its reason
-pub sites_came : (p : List Stmt) (options : Options) (out : RunOut) → IsOverSites options.action → QuietTells → AtMostOneEnd → CellsAreChains → Leaves p options out
-    → CameTo p options (made_of out.journal out.schedule (lines_in out.journal)) (status_of out.reason out.ended out.waiting)
+pub sites_came : (p : List Stmt) (options : Options) (out : RunOut) → IsOverSites options.action → QuietTells → RunsAreDetermined → CellsAreChains → Leaves p options out
+    → IsStatusOfRun p options (run_output_of out.journal out.schedule (lines_in out.journal)) (status_of out.reason out.ended out.waiting)
 sites_came p options out is tells one chain left = by_reason p options out is tells one chain left out.reason left.reason
 
 -- ---- the status
 
 -- each status that a run comes to has an end line
-pub came_line : (p : List Stmt) (options : Options) (made : RunOutput) (status : Status) → CameTo p options made status → HasLine status
+pub came_line : (p : List Stmt) (options : Options) (made : RunOutput) (status : Status) → IsStatusOfRun p options made status → HasLine status
 came_line p options made WriteFault came = absurd came
 came_line p options made (Quiescent ended waiting) came = tt
 came_line p options made Usage came = tt

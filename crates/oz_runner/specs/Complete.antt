@@ -9,8 +9,8 @@ use Rattle.oz_words.specs.declared.options.Action.TheVariants as action
 use Rattle.oz_words.specs.declared.options.Options.{Options}
 use Rattle.oz_show.specs.declared.status.Status.{Status}
 use Rattle.oz_show.specs.declared.status.Status.TheVariants.{Quiescent, Usage, Refused, NotUtf8, TooLong, StepLimit, MessageLimit, ReadFault, WriteFault, Memory}
-use Rattle.oz_runner.specs.Seen.{Seen, Stream}
-use Rattle.oz_runner.specs.Cause.{Failed, HasOptions, text_limit}
+use Rattle.oz_runner.specs.OzCall.{OzCall, Stream}
+use Rattle.oz_runner.specs.Cause.{HasFault, HasOptions, text_limit}
 
 -- the text that is to be run: what the source has, where it tells that, or the large text of the size
 abbrev pub HasText : Action → Stream → List ℕ → Type 0
@@ -19,7 +19,7 @@ HasText action.Central source text = source.bytes_before ≡ Some text
 HasText (action.Gen size) source text = text ≡ large_text size
 
 -- the words are taken, the text is told, short enough and UTF-8, it reads a program, and there was no fault
-pub record IsGood (seen : Seen) : Type 0 where
+pub record IsGood (seen : OzCall) : Type 0 where
   pub options : Options
   pub says : HasOptions seen options
   pub text : List ℕ
@@ -28,8 +28,8 @@ pub record IsGood (seen : Seen) : Type 0 where
   pub utf8 : IsUtf8 text
   pub program : List Stmt
   pub reads : Reads text program
-  pub read : Failed seen.source → ⊥
-  pub wrote : Failed seen.sink → ⊥
+  pub read : HasFault seen.source → ⊥
+  pub wrote : HasFault seen.sink → ⊥
 
 -- quiescent, or stopped by a limit, or out of memory
 abbrev pub IsDone : Status → Type 0

@@ -8,10 +8,10 @@ use Rattle.oz_words.specs.declared.options.Action.{Action}
 use Rattle.oz_words.specs.declared.options.Action.TheVariants as action
 use Rattle.oz_show.specs.declared.status.Status.{Status}
 use Rattle.oz_show.specs.declared.status.Status.TheVariants.{Quiescent, StepLimit, MessageLimit, Memory}
-use Rattle.oz_runner.specs.declared.work.Printed.{Printed}
-use Rattle.oz_runner.specs.declared.work.Printed.TheVariants as printed
+use Rattle.oz_runner.specs.declared.work.RunLines.{RunLines}
+use Rattle.oz_runner.specs.declared.work.RunLines.TheVariants as printed
 use Rattle.oz_runner.specs.declared.work.Work.{Work}
-use Rattle.oz_runner.specs.Seen.{RunOutput, made_of}
+use Rattle.oz_runner.specs.OzCall.{RunOutput, run_output_of}
 
 -- the program runs over the sites
 abbrev pub IsOverSites : Action → Type 0
@@ -27,15 +27,15 @@ status_of reason.Messages ended waiting = MessageLimit
 status_of reason.Memory ended waiting = Memory
 
 -- the journal of the sites; the machine has none
-abbrev pub journal_of : Printed → List Turn
+abbrev pub journal_of : RunLines → List Turn
 journal_of (printed.Sites journal) = journal
 journal_of (printed.Machine lines) = []
 
 -- the lines of the turns, or those of the machine
-abbrev pub lines_of : Printed → List (List ℕ)
+abbrev pub lines_of : RunLines → List (List ℕ)
 lines_of (printed.Sites journal) = lines_in journal
 lines_of (printed.Machine lines) = lines.items
 
 -- the journal, the schedule and the lines of the work
-abbrev pub made_by : Work → RunOutput
-made_by work = made_of (journal_of work.printed) work.schedule (lines_of work.printed)
+abbrev pub output_of_work : Work → RunOutput
+output_of_work work = run_output_of (journal_of work.printed) work.schedule (lines_of work.printed)

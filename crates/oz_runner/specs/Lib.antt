@@ -1,11 +1,11 @@
-pub mod Seen
+pub mod OzCall
 pub mod Messages
 pub mod Run
 pub mod Cause
-pub mod Written
+pub mod Writing
 pub mod Headline
 pub mod Complete
 pub mod Ends
 pub mod Bounds
 pub mod Machine
-pub mod Started
+pub mod Exit

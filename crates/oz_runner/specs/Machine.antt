@@ -6,7 +6,7 @@ use Rattle.oz_show.specs.declared.status.Status.{Status}
 use Rattle.oz_show.specs.declared.status.Status.TheVariants as status
 
 -- the status of a run that stopped for this reason. The machine is site 1
-abbrev pub status_after : Reason → ℕ → ℕ → Status
-status_after Quiet ended waiting = status.Quiescent ended waiting
-status_after Steps ended waiting = status.StepLimit 1
-status_after Memory ended waiting = status.Memory
+abbrev pub machine_status : Reason → ℕ → ℕ → Status
+machine_status Quiet ended waiting = status.Quiescent ended waiting
+machine_status Steps ended waiting = status.StepLimit 1
+machine_status Memory ended waiting = status.Memory

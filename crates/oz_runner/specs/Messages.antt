@@ -1,25 +1,17 @@
 -- How many messages the sites of a run send at most, counted from its schedule.
-use Rattle.std.specs.Prelude.{ℕ, ◌+◌, ◌*◌, ◌-◌, List, length}
+use Rattle.std.specs.Prelude.{ℕ, ◌+◌, ◌*◌, List, length}
 use Rattle.tree_node.specs.declared.names.CellName.{CellName}
 use Rattle.tree_node.specs.declared.pick.Pick.{Pick}
 use Rattle.tree_node.specs.State.{State}
 use Rattle.kernel_syntax.specs.declared.stmt.Stmt.{Stmt}
 use Rattle.oz_model.specs.Run.{exchanges}
-use Rattle.world_messages.specs.Messages.{threads_made, vars_made}
+use Rattle.world_messages.specs.Messages.{variable_messages}
 use Rattle.world_simulation.specs.Messages.{sum_over}
-
--- on n sites, for T threads, the first among them, and V variables: one for each thread, two for each variable and each site
--- that is not its owner, and one for each thread and variable
-abbrev pub variable_messages : ℕ → List Pick → ℕ
-variable_messages n picks =
-    let threads = length (threads_made picks) in
-    let variables = length (vars_made picks) in
-    threads + 2 * (variables * (n - 1)) + threads * variables
 
 -- for a cell: three for each of its exchanges and each site
 abbrev pub cell_messages : List Stmt → ℕ → List Pick → CellName → ℕ
 cell_messages p n picks cell = 3 * (length (exchanges p picks cell) + n)
 
--- and for the cells of this state together
+-- for variables and threads, and for the cells of this state together
 abbrev pub most_messages : List Stmt → ℕ → List Pick → State → ℕ
 most_messages p n picks s = variable_messages n picks + sum_over (cell_messages p n picks) s.cells

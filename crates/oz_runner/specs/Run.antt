@@ -8,7 +8,7 @@ use Rattle.kernel_syntax.specs.declared.stmt.Stmt.{Stmt}
 use Rattle.oz_model.specs.Laws.{IsChainOf}
 use Rattle.oz_model.specs.Run.{Run, AtRest, exchanges, contents_given}
 use Rattle.site_message.specs.Journal.{Limits, end_of, is_idle, sent_of, travelling}
-use Rattle.site_message.specs.Progress.{WentOn}
+use Rattle.site_message.specs.EarlierEnd.{HasNoEarlierEnd}
 use Rattle.site_message.specs.declared.reason.Reason.{Reason}
 use Rattle.site_message.specs.declared.turn.Turn.{Turn}
 use Rattle.site_message.specs.declared.reason.Reason.TheVariants.{Quiet, Steps, Messages}
@@ -23,7 +23,7 @@ use Rattle.oz_words.specs.declared.options.Options.{Options}
 use Rattle.oz_show.specs.declared.status.Status.{Status}
 use Rattle.oz_show.specs.declared.status.Status.TheVariants.{Quiescent, StepLimit, MessageLimit, Memory}
 use Rattle.oz_runner.specs.Messages.{most_messages}
-use Rattle.oz_runner.specs.Seen.{RunOutput}
+use Rattle.oz_runner.specs.OzCall.{RunOutput}
 
 -- `run` and `gen` run the program over sites, `central` on the machine alone: the first is said of sites, the second of the machine
 abbrev pub OfSitesOrMachine : Action → Type 0 → Type 0 → Type 0
@@ -42,7 +42,7 @@ limits_of options = record { sites = options.sites; steps = options.steps; messa
 pub record IsMadeBySites (p : List Stmt) (options : Options) (made : RunOutput) (s : State) : Type 0 where
   pub states : ℕ → Site
   pub run : DistributedRun p options.sites bundle_limit made.journal states
-  pub went : WentOn (limits_of options) made.journal
+  pub went : HasNoEarlierEnd (limits_of options) made.journal
   pub picks : made.schedule ≡ schedule made.journal
   pub lines : made.lines ≡ lines_in made.journal
   pub known : (i : ℕ) (e : Equation) → Contains (states i).equations e → Contains s.equations e × Contains (states e.0.site).equations e
@@ -87,9 +87,9 @@ pub record HasEnded (p : List Stmt) (options : Options) (made : RunOutput) (reas
 
 -- The run of the program came to this status. Want of memory may come at any point of it; the lines are then those of the
 -- schedule, as ever
-abbrev pub CameTo : List Stmt → Options → RunOutput → Status → Type 0
-CameTo p options made (Quiescent ended waiting) = (s : State) × HasEnded p options made Quiet s × IsQuiet p options made s ended waiting
-CameTo p options made (StepLimit site) = (s : State) × HasEnded p options made (Steps site) s
-CameTo p options made MessageLimit = (s : State) × HasEnded p options made Messages s
-CameTo p options made Memory = (s : State) × IsRun p options made s
-CameTo p options made _ = ⊥
+abbrev pub IsStatusOfRun : List Stmt → Options → RunOutput → Status → Type 0
+IsStatusOfRun p options made (Quiescent ended waiting) = (s : State) × HasEnded p options made Quiet s × IsQuiet p options made s ended waiting
+IsStatusOfRun p options made (StepLimit site) = (s : State) × HasEnded p options made (Steps site) s
+IsStatusOfRun p options made MessageLimit = (s : State) × HasEnded p options made Messages s
+IsStatusOfRun p options made Memory = (s : State) × IsRun p options made s
+IsStatusOfRun p options made _ = ⊥

@@ -5,12 +5,13 @@
 //!
 //! **Promises**: `oz` (`headline`: `Headline` in `specs/Headline.antt`): the lines that were written, uncaught exceptions among
 //! them, are those of the centralised machine under the schedule of the report, for every program and number of sites, whatever
-//! the order of turns and deliveries in the journal of the report, and whatever drove the sites; where it is quiescent no message travels, that machine has
-//! no step left, and the threads that ended and wait are that machine's (`CameTo` in `specs/Run.antt`); each status has its
-//! cause (`Cause` in `specs/Cause.antt`, one line a status), and what a failed write left is a front of what was due. `oz`
-//! (`complete`): with words that are taken, a text that reads a program, and no fault, the run goes to its end or to a limit.
-//! `run_program`: the journal that workers, or the plain rounds, leave is a run of the program on so many sites, with its schedule and
-//! totals, and ends by the reason that is told. `start`: the program ends with the number of the status that a call of `oz` answers.
+//! the order of turns and deliveries in the journal of the report, and whatever drove the sites; where it is quiescent no message
+//! travels, that machine has no step left, and the threads that ended and wait are that machine's (`IsStatusOfRun` in
+//! `specs/Run.antt`); each status has its cause (`Cause` in `specs/Cause.antt`, one line a status), and what a failed write left is
+//! a front of what was due. `oz` (`complete`): with words that are taken, a text that reads a program, and no fault, the run goes
+//! to its end or to a limit. `run_program`: the journal that workers, or the plain rounds, leave is a run of the program on so many
+//! sites, with its schedule and totals, and ends by the reason that is told. `start`: the program ends with the number of the
+//! status that a call of `oz` answers.
 //!
 //! **Stands on** `oz_words` for the words, `oz_base` for the text and the bytes written, `oz_parser` and `oz_grammar` for what a
 //! text reads, `large_run` for the text of `gen`, `site_worker`, `message_book` and `plain_run` for a run over sites, `world_runs`
@@ -40,5 +41,5 @@ pub use oz_words::command;
 pub use plain_run::RunOut;
 pub use program::run_program;
 pub use report::Report;
-pub use site_worker::{Bounds, Gate, OpenGate};
+pub use site_worker::{Gate, OpenGate, RunLimits};
 pub use system::start;

@@ -3,12 +3,12 @@
 ghost use Rattle.std.specs.Prelude.{◌≡◌};
 ghost use Rattle.oz_words.specs.Words.{InRange};
 ghost use Rattle.oz_words.specs.declared.options.Action.TheVariants.{Central};
-ghost use Rattle.oz_runner.specs.Run.{CameTo};
-ghost use Rattle.oz_runner.specs.Ends.{made_by};
-ghost use Rattle.oz_runner.specs.Machine.{status_after};
+ghost use Rattle.oz_runner.specs.Run.{IsStatusOfRun};
+ghost use Rattle.oz_runner.specs.Ends.{output_of_work};
+ghost use Rattle.oz_runner.specs.Machine.{machine_status};
 
 use crate::Status;
-use crate::work::{Printed, Work};
+use crate::work::{RunLines, Work};
 use central_machine::{Reason, run_program};
 use kernel_syntax::Program;
 use oz_model::exchanges_are_a_chain;
@@ -19,20 +19,20 @@ use std::alloc::Global;
 /// Runs a program on the centralised machine.
 pub fn run_machine(alloc: Global, options: Options, program: &Program) -> Work
     requires { InRange options }
-    ensures { options.action ≡ Central → CameTo program.now options (made_by result) result.status }
+    ensures { options.action ≡ Central → IsStatusOfRun program.now options (output_of_work result) result.status }
 {
     let ran = run_program(alloc, program, options.steps);
     exchanges_are_a_chain();
     Work {
-        status: status_after(ran.reason, ran.ended, ran.waiting),
+        status: machine_status(ran.reason, ran.ended, ran.waiting),
         schedule: Schedule::from_picks(alloc, ran.picks),
-        printed: Printed::Machine(ran.lines),
+        printed: RunLines::Machine(ran.lines),
     }
 }
 
 // The status of a run that stopped for this reason. The machine is site 1.
-fn status_after(reason: Reason, ended: u64, waiting: u64) -> Status
-    ensures { result ≡ status_after reason ended waiting }
+fn machine_status(reason: Reason, ended: u64, waiting: u64) -> Status
+    ensures { result ≡ machine_status reason ended waiting }
 {
     match reason {
         Reason::Quiet => Status::Quiescent { ended, waiting },

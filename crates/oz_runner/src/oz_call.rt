@@ -3,13 +3,13 @@
 ghost use Rattle.std.specs.Prelude.{◌≡◌, ◌<◌, ◌++◌, List, ℕ, length, map, string_bytes};
 ghost use Rattle.oz_model.specs.Output.{output, pieces_of};
 ghost use Rattle.oz_show.specs.Status.{end_line, HasLine};
-ghost use Rattle.oz_runner.specs.Seen.{stream_of, seen_of, made_of};
+ghost use Rattle.oz_runner.specs.OzCall.{stream_of, oz_call_of, run_output_of};
 ghost use Rattle.oz_runner.specs.Complete.{IsGood, IsDone};
 ghost use Rattle.oz_runner.specs.Ends.{journal_of, lines_of};
 ghost use Rattle.oz_runner.specs.Headline.{Headline};
-ghost use Rattle.oz_runner.specs.Written.{Written, IsToldAs, after_fault};
+ghost use Rattle.oz_runner.specs.Writing.{IsOutputTaken, IsReportedAs, after_fault};
 
-use crate::work::{Printed, Work, do_work};
+use crate::work::{RunLines, Work, do_work};
 use crate::write::write_all;
 use crate::{Report, Status};
 use oz_base::{Sink, Source};
@@ -33,10 +33,10 @@ pub fn oz<S: Source, K: Sink, G: Gate + Sync, R: Threads + Wait + Sync>(
 ) -> Report
     requires { 0 < length words.now }
     ensures headline { (lines : List (List ℕ)) × Headline
-        (seen_of (map string_bytes words.now) (stream_of S.left S.faults source.old source.new) (stream_of K.taken K.faults sink.old sink.new))
-        (made_of result.journal result.schedule lines) result.status }
+        (oz_call_of (map string_bytes words.now) (stream_of S.left S.faults source.old source.new) (stream_of K.taken K.faults sink.old sink.new))
+        (run_output_of result.journal result.schedule lines) result.status }
     ensures complete { IsGood
-        (seen_of (map string_bytes words.now) (stream_of S.left S.faults source.old source.new) (stream_of K.taken K.faults sink.old sink.new))
+        (oz_call_of (map string_bytes words.now) (stream_of S.left S.faults source.old source.new) (stream_of K.taken K.faults sink.old sink.new))
         → IsDone result.status }
 {
     texts_have_one_of_both();
@@ -47,8 +47,8 @@ pub fn oz<S: Source, K: Sink, G: Gate + Sync, R: Threads + Wait + Sync>(
 // Writes the lines of the work and its end line.
 fn report<K: Sink>(alloc: Global, sink: &mut K, work: Work) -> Report
     requires { HasLine work.status }
-    ensures written { (worked : Status) × IsToldAs work.status worked
-        × Written (stream_of K.taken K.faults sink.old sink.new) (output (lines_of work.printed) (end_line worked)) worked result.status }
+    ensures written { (worked : Status) × IsReportedAs work.status worked
+        × IsOutputTaken (stream_of K.taken K.faults sink.old sink.new) (output (lines_of work.printed) (end_line worked)) worked result.status }
     ensures journal { result.journal ≡ journal_of work.printed }
     ensures schedule { result.schedule ≡ work.schedule }
 {
@@ -76,7 +76,7 @@ fn out_of_memory(work: Work) -> Work
 
 // Writes lines and the piece of an end line.
 fn finish<K: Sink>(alloc: Global, sink: &mut K, work: Work, end: &[u8]) -> Report
-    ensures written { Written (stream_of K.taken K.faults sink.old sink.new)
+    ensures written { IsOutputTaken (stream_of K.taken K.faults sink.old sink.new)
         (pieces_of (lines_of work.printed) ++ end.now) work.status result.status }
     ensures journal { result.journal ≡ journal_of work.printed }
     ensures schedule { result.schedule ≡ work.schedule }
@@ -93,12 +93,12 @@ fn finish<K: Sink>(alloc: Global, sink: &mut K, work: Work, end: &[u8]) -> Repor
 }
 
 // The journal of the sites; the centralised machine has none.
-fn into_journal(alloc: Global, printed: Printed) -> Journal
+fn into_journal(alloc: Global, printed: RunLines) -> Journal
     ensures { result ≡ journal_of printed }
 {
     match printed {
-        Printed::Sites(journal) => journal,
-        Printed::Machine(_) => Journal::new(alloc),
+        RunLines::Sites(journal) => journal,
+        RunLines::Machine(_) => Journal::new(alloc),
     }
 }
 

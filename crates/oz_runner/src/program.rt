@@ -2,21 +2,21 @@
 
 ghost use Rattle.std.specs.Prelude.{◌≡◌, ◌≤◌, Some};
 ghost use Rattle.site_message.specs.declared.reason.Reason.{Reason};
-ghost use Rattle.site_message.specs.Progress.{WentOn};
+ghost use Rattle.site_message.specs.EarlierEnd.{HasNoEarlierEnd};
 ghost use Rattle.message_book.specs.Book.{IsReason};
 ghost use Rattle.world_model.specs.Schedule.{schedule, sum_to};
 ghost use Rattle.world_model.specs.Simulated.{last_ended, last_waiting};
 ghost use Rattle.world_core.specs.Laws.{HasRun, AreMessagesFew};
 ghost use Rattle.world_places.specs.Places.{ThreadsStayHome};
-ghost use Rattle.plain_run.specs.Going.{HasReason, limits_of};
+ghost use Rattle.plain_run.specs.Progress.{HasReason, limits_of};
 ghost use Rattle.plain_run.specs.Simulated.{HasMachineRun};
 ghost use Rattle.oz_runner.specs.Bounds.{AreBounds, limits_in};
 
 use kernel_syntax::Program;
 use message_book::Book;
-use plain_run::{Driven, Limits, RunOut, finish_run, run_plain};
+use plain_run::{DrivenRun, Limits, RunOut, finish_run, run_plain};
 use site_message::{Journal, Reason};
-use site_worker::{Bounds, Gate, run_sites};
+use site_worker::{Gate, RunLimits, run_sites};
 use std::alloc::Global;
 use std::sync::Wait;
 use std::thread::Threads;
@@ -28,7 +28,7 @@ pub fn run_program<G: Gate + Sync, R: Threads + Wait + Sync>(
     rt: &R,
     alloc: Global,
     program: &Program,
-    bounds: Bounds,
+    bounds: RunLimits,
     gate: &G,
 ) -> RunOut
     requires { AreBounds bounds }
@@ -38,7 +38,7 @@ pub fn run_program<G: Gate + Sync, R: Threads + Wait + Sync>(
     ensures homes { ThreadsStayHome result.journal }
     ensures schedule { result.schedule ≡ schedule result.journal }
     ensures reason { HasReason (limits_in bounds) result.journal result.reason }
-    ensures went { WentOn (limits_of (limits_in bounds)) result.journal }
+    ensures went { HasNoEarlierEnd (limits_of (limits_in bounds)) result.journal }
     ensures ended { result.ended ≡ sum_to bounds.sites (last_ended result.journal) }
     ensures waiting { result.waiting ≡ sum_to bounds.sites (last_waiting result.journal) }
 {
@@ -60,19 +60,19 @@ fn drive_sites<G: Gate + Sync, R: Threads + Wait + Sync>(
     rt: &R,
     alloc: Global,
     program: &Program,
-    bounds: Bounds,
+    bounds: RunLimits,
     gate: &G,
-) -> Driven
+) -> DrivenRun
     requires bounds { AreBounds bounds }
     requires some { 1 ≤ bounds.workers }
     ensures run { HasRun program.now bounds.sites result.journal }
     ensures reason { HasReason (limits_in bounds) result.journal result.reason }
-    ensures went { WentOn (limits_of (limits_in bounds)) result.journal }
+    ensures went { HasNoEarlierEnd (limits_of (limits_in bounds)) result.journal }
 {
     let workers = bounds.workers.min(bounds.sites);
-    match run_sites(rt, alloc, program, Bounds { workers, ..bounds }, gate) {
-        Ok(book) => left_in(book),
-        Err(_) => Driven {
+    match run_sites(rt, alloc, program, RunLimits { workers, ..bounds }, gate) {
+        Ok(book) => run_in_book(book),
+        Err(_) => DrivenRun {
             journal: Journal::new(alloc),
             reason: Reason::Memory,
         },
@@ -80,14 +80,14 @@ fn drive_sites<G: Gate + Sync, R: Threads + Wait + Sync>(
 }
 
 // What a book leaves that has a reason.
-fn left_in(book: Book) -> Driven
+fn run_in_book(book: Book) -> DrivenRun
     requires { (r : Reason) × (book.reason ≡ Some r) }
     ensures journal { result.journal ≡ book.journal }
     ensures reason { IsReason book.limits book.journal (Some result.reason) }
-    ensures went { WentOn book.limits book.journal }
+    ensures went { HasNoEarlierEnd book.limits book.journal }
 {
     let reason = book.reason().unwrap();
-    Driven {
+    DrivenRun {
         journal: book.into_journal(),
         reason,
     }

@@ -2,18 +2,18 @@
 
 ghost use Rattle.std.specs.Prelude.{◌≡◌};
 ghost use Rattle.oz_words.specs.Words.{InRange};
-ghost use Rattle.oz_runner.specs.Run.{CameTo};
-ghost use Rattle.oz_runner.specs.Ends.{IsOverSites, status_of, made_by};
+ghost use Rattle.oz_runner.specs.Run.{IsStatusOfRun};
+ghost use Rattle.oz_runner.specs.Ends.{IsOverSites, status_of, output_of_work};
 
 use crate::Status;
 use crate::machine::run_machine;
 use crate::program::run_program;
-use crate::work::{Printed, Work};
+use crate::work::{RunLines, Work};
 use kernel_syntax::Program;
 use oz_model::{exchanges_are_a_chain, runs_are_determined};
 use oz_words::{Action, Options};
 use site_message::{Reason, quiet_tells};
-use site_worker::{Bounds, Gate};
+use site_worker::{Gate, RunLimits};
 use std::alloc::Global;
 use std::sync::Wait;
 use std::thread::Threads;
@@ -28,7 +28,7 @@ pub fn run<G: Gate + Sync, R: Threads + Wait + Sync>(
     gate: &G,
 ) -> Work
     requires { InRange options }
-    ensures { CameTo program.now options (made_by result) result.status }
+    ensures { IsStatusOfRun program.now options (output_of_work result) result.status }
 {
     match options.action {
         Action::Run | Action::Gen(_) => run_over_sites(rt, alloc, options, program, gate),
@@ -45,9 +45,9 @@ fn run_over_sites<G: Gate + Sync, R: Threads + Wait + Sync>(
     gate: &G,
 ) -> Work
     requires { InRange options }
-    ensures { IsOverSites options.action → CameTo program.now options (made_by result) result.status }
+    ensures { IsOverSites options.action → IsStatusOfRun program.now options (output_of_work result) result.status }
 {
-    let bounds = Bounds {
+    let bounds = RunLimits {
         sites: options.sites,
         workers: options.workers,
         steps: options.steps,
@@ -62,7 +62,7 @@ fn run_over_sites<G: Gate + Sync, R: Threads + Wait + Sync>(
     Work {
         status: status_of(out.reason, out.ended, out.waiting),
         schedule: out.schedule,
-        printed: Printed::Sites(out.journal),
+        printed: RunLines::Sites(out.journal),
     }
 }
 

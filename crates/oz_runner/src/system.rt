@@ -1,8 +1,8 @@
 //! What the program does with the system: its words, and the number that it ends with.
 
 ghost use Rattle.std.specs.Prelude.{◌<◌, length, IfOk};
-ghost use Rattle.oz_runner.specs.Seen.{stream_of};
-ghost use Rattle.oz_runner.specs.Started.{Started};
+ghost use Rattle.oz_runner.specs.OzCall.{stream_of};
+ghost use Rattle.oz_runner.specs.Exit.{IsExit};
 
 use crate::oz;
 use oz_base::{Sink, Source};
@@ -83,7 +83,7 @@ pub fn start<R: Env + AllocGlobal + Threads + Wait + Sync, S: Source, K: Sink>(
     source: &mut S,
     sink: &mut K,
 ) -> ExitCode
-    ensures { Started (stream_of S.left S.faults source.old source.new) (stream_of K.taken K.faults sink.old sink.new) result }
+    ensures { IsExit (stream_of S.left S.faults source.old source.new) (stream_of K.taken K.faults sink.old sink.new) result }
 {
     match words(rt) {
         Ok(words) => {

@@ -3,10 +3,10 @@
 ghost use Rattle.std.specs.Prelude.{◌≡◌, ◌≤◌, [], length, List, ℕ, map, string_bytes, Ok};
 ghost use Rattle.oz_words.specs.Words.{ReadsWords, InRange};
 ghost use Rattle.oz_show.specs.Status.{HasLine};
-ghost use Rattle.oz_runner.specs.Seen.{Stream, Seen, stream_of, seen_of};
+ghost use Rattle.oz_runner.specs.OzCall.{Stream, OzCall, stream_of, oz_call_of};
 ghost use Rattle.oz_words.specs.declared.options.Action.TheVariants.{Gen};
-ghost use Rattle.oz_runner.specs.Cause.{Cause, HasOptions, GaveText, IsTextOf, IsUntouched, ReadsSource, text_limit};
-ghost use Rattle.oz_runner.specs.Ends.{made_by, journal_of, lines_of};
+ghost use Rattle.oz_runner.specs.Cause.{Cause, HasOptions, IsTextOfSource, IsTextOf, IsUntouched, ReadsSource, text_limit};
+ghost use Rattle.oz_runner.specs.Ends.{output_of_work, journal_of, lines_of};
 
 use crate::Status;
 use crate::run::run;
@@ -27,7 +27,7 @@ const TEXT_LIMIT: u64 = 1_048_576;
 
 /// Where the lines of a run stand: in the turns of its sites, or by themselves where the centralised machine ran.
 #[derive(Drop)]
-pub enum Printed {
+pub enum RunLines {
     Sites(Journal),
     Machine(Vec<Line>),
 }
@@ -37,7 +37,7 @@ pub enum Printed {
 pub struct Work {
     pub status: Status,
     pub schedule: Schedule,
-    pub printed: Printed,
+    pub printed: RunLines,
 }
 
 /// Reads the words, which are the program's name and those after it, then the text, if it is the source's, and runs it.
@@ -49,13 +49,13 @@ pub fn do_work<S: Source, G: Gate + Sync, R: Threads + Wait + Sync>(
     gate: &G,
 ) -> Work
     ensures cause { (sink : Stream) → Cause
-        (seen_of (map string_bytes words.now) (stream_of S.left S.faults source.old source.new) sink) (made_by result) result.status }
+        (oz_call_of (map string_bytes words.now) (stream_of S.left S.faults source.old source.new) sink) (output_of_work result) result.status }
     ensures line { HasLine result.status }
 {
     match read_options(alloc, words) {
         Ok(options) => work_as_said(rt, alloc, options, source, gate),
-        Err(WordsError::Usage) => stopped(alloc, Status::Usage),
-        Err(WordsError::Memory) => stopped(alloc, Status::Memory),
+        Err(WordsError::Usage) => work_without_run(alloc, Status::Usage),
+        Err(WordsError::Memory) => work_without_run(alloc, Status::Memory),
     }
 }
 
@@ -69,7 +69,7 @@ fn work_as_said<S: Source, G: Gate + Sync, R: Threads + Wait + Sync>(
 ) -> Work
     requires { InRange options }
     ensures cause { (words : List (List ℕ)) (sink : Stream) → ReadsWords words (Ok options) → Cause
-        (seen_of words (stream_of S.left S.faults source.old source.new) sink) (made_by result) result.status }
+        (oz_call_of words (stream_of S.left S.faults source.old source.new) sink) (output_of_work result) result.status }
     ensures line { HasLine result.status }
 {
     match options.action {
@@ -88,12 +88,12 @@ fn work_on_size<G: Gate + Sync, R: Threads + Wait + Sync>(
 ) -> Work
     requires range { InRange options }
     requires size { options.action ≡ Gen size }
-    ensures cause { (seen : Seen) → HasOptions seen options → IsUntouched seen.source → Cause seen (made_by result) result.status }
+    ensures cause { (seen : OzCall) → HasOptions seen options → IsUntouched seen.source → Cause seen (output_of_work result) result.status }
     ensures line { HasLine result.status }
 {
     match large_text(alloc, size) {
         Ok(text) => work_on_text(rt, alloc, options, &text, gate),
-        Err(_) => stopped(alloc, Status::Memory),
+        Err(_) => work_without_run(alloc, Status::Memory),
     }
 }
 
@@ -108,14 +108,14 @@ fn work_on_source<S: Source, G: Gate + Sync, R: Threads + Wait + Sync>(
     requires range { InRange options }
     requires source { ReadsSource options.action }
     ensures cause { (words : List (List ℕ)) (sink : Stream) → ReadsWords words (Ok options) → Cause
-        (seen_of words (stream_of S.left S.faults source.old source.new) sink) (made_by result) result.status }
+        (oz_call_of words (stream_of S.left S.faults source.old source.new) sink) (output_of_work result) result.status }
     ensures line { HasLine result.status }
 {
     match read_text(alloc, source, TEXT_LIMIT) {
         Ok(text) => work_on_bytes(rt, alloc, options, &text, gate),
-        Err(ReadError::Fault) => stopped(alloc, Status::ReadFault),
-        Err(ReadError::TooLong) => stopped(alloc, Status::TooLong),
-        Err(ReadError::Memory) => stopped(alloc, Status::Memory),
+        Err(ReadError::Fault) => work_without_run(alloc, Status::ReadFault),
+        Err(ReadError::TooLong) => work_without_run(alloc, Status::TooLong),
+        Err(ReadError::Memory) => work_without_run(alloc, Status::Memory),
     }
 }
 
@@ -130,12 +130,12 @@ fn work_on_bytes<G: Gate + Sync, R: Threads + Wait + Sync>(
     requires range { InRange options }
     requires source { ReadsSource options.action }
     requires short { length bytes.now ≤ text_limit }
-    ensures cause { (seen : Seen) → HasOptions seen options → GaveText seen.source bytes.now → Cause seen (made_by result) result.status }
+    ensures cause { (seen : OzCall) → HasOptions seen options → IsTextOfSource seen.source bytes.now → Cause seen (output_of_work result) result.status }
     ensures line { HasLine result.status }
 {
     match str::from_utf8(bytes) {
         Ok(text) => work_on_text(rt, alloc, options, text, gate),
-        Err(error) => stopped(alloc, Status::NotUtf8(error.valid_up_to() as u64)),
+        Err(error) => work_without_run(alloc, Status::NotUtf8(error.valid_up_to() as u64)),
     }
 }
 
@@ -149,18 +149,18 @@ fn work_on_text<G: Gate + Sync, R: Threads + Wait + Sync>(
 ) -> Work
     requires range { InRange options }
     requires short { length text.now ≤ text_limit }
-    ensures cause { (seen : Seen) → HasOptions seen options → IsTextOf options.action seen.source text.now → Cause seen (made_by result) result.status }
+    ensures cause { (seen : OzCall) → HasOptions seen options → IsTextOf options.action seen.source text.now → Cause seen (output_of_work result) result.status }
     ensures line { HasLine result.status }
 {
     match parse(alloc, text) {
         Ok(program) => run(rt, alloc, options, &program, gate),
-        Err(ParseError::Text(fault)) => stopped(alloc, Status::Refused(fault)),
-        Err(ParseError::Memory) => stopped(alloc, Status::Memory),
+        Err(ParseError::Text(fault)) => work_without_run(alloc, Status::Refused(fault)),
+        Err(ParseError::Memory) => work_without_run(alloc, Status::Memory),
     }
 }
 
 // The end before anything ran.
-fn stopped(alloc: Global, status: Status) -> Work
+fn work_without_run(alloc: Global, status: Status) -> Work
     ensures status { result.status ≡ status }
     ensures journal { journal_of result.printed ≡ [] }
     ensures schedule { result.schedule ≡ [] }
@@ -169,6 +169,6 @@ fn stopped(alloc: Global, status: Status) -> Work
     Work {
         status,
         schedule: Schedule::new(alloc),
-        printed: Printed::Sites(Journal::new(alloc)),
+        printed: RunLines::Sites(Journal::new(alloc)),
     }
 }

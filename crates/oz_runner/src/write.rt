@@ -6,7 +6,7 @@ ghost use Rattle.oz_model.specs.Output.{pieces_of};
 ghost use Rattle.world_model.specs.Schedule.{lines_in};
 ghost use Rattle.oz_runner.specs.Ends.{lines_of};
 
-use crate::work::Printed;
+use crate::work::RunLines;
 use oz_base::{Failed, Sink, write_piece};
 use site_message::Turn;
 use tree_node::Line;
@@ -38,22 +38,22 @@ pub fn write_turns<K: Sink>(sink: &mut K, turns: &[Turn]) -> Result<(), Failed>
 }
 
 /// Writes the lines of a run.
-pub fn write_printed<K: Sink>(sink: &mut K, printed: &Printed) -> Result<(), Failed>
+pub fn write_run_lines<K: Sink>(sink: &mut K, printed: &RunLines) -> Result<(), Failed>
     ensures bytes { TakesPiece (K.taken sink.old) (K.taken sink.new) result (pieces_of (lines_of printed.now)) }
     ensures cause { HasCause (K.faults sink.old) (K.faults sink.new) result }
 {
     match printed {
-        Printed::Sites(journal) => write_turns(sink, journal.oldest_first()),
-        Printed::Machine(lines) => write_lines(sink, lines),
+        RunLines::Sites(journal) => write_turns(sink, journal.oldest_first()),
+        RunLines::Machine(lines) => write_lines(sink, lines),
     }
 }
 
 /// Writes the lines of a run and then the piece of the end line.
-pub fn write_all<K: Sink>(sink: &mut K, printed: &Printed, end: &[u8]) -> Result<(), Failed>
+pub fn write_all<K: Sink>(sink: &mut K, printed: &RunLines, end: &[u8]) -> Result<(), Failed>
     ensures bytes { TakesPiece (K.taken sink.old) (K.taken sink.new) result (pieces_of (lines_of printed.now) ++ end.now) }
     ensures cause { HasCause (K.faults sink.old) (K.faults sink.new) result }
 {
-    if let Err(failed) = write_printed(sink, printed) {
+    if let Err(failed) = write_run_lines(sink, printed) {
         return Err(failed);
     }
     write_piece(sink, end)

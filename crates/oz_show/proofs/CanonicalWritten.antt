@@ -14,7 +14,7 @@ use Rattle.kernel_syntax.specs.declared.stmt.Pattern.TheVariants as pattern
 use Rattle.kernel_syntax.specs.Arithmetic.{is_word}
 use Rattle.kernel_syntax.specs.Scopes.{stmt_at, named_positions, features_in}
 use Rattle.kernel_syntax.specs.Texts.{is_text_byte, IsText, IsFeature, IsSpelledPattern, HasTexts}
-use Rattle.kernel_syntax.specs.Preorder.{whole}
+use Rattle.kernel_syntax.specs.Preorder.{whole_program}
 use Rattle.kernel_syntax.specs.Program.{IsStmt, IsProgram}
 use Rattle.kernel_syntax.proofs.Below.{Below}
 use Rattle.kernel_syntax.proofs.PreorderLemmas.{NamesFew, names_few}
@@ -189,4 +189,4 @@ within_writes p fit (suc d) c rest w = fit_writes (symbols_within d p) (within_w
 pub program_writes : (p : List Stmt) → IsProgram p → Written (canonical_symbols p)
 unfolding canonical_symbols
 program_writes p is =
-    within_writes p (fit_each p is.stmts is.texts (names_few 0 (whole ∷ []) p is.stmts (omega arith, tt) is.order)) (length p) (code_at 0) (t.EndOfText ∷ []) ends
+    within_writes p (fit_each p is.stmts is.texts (names_few 0 (whole_program ∷ []) p is.stmts (omega arith, tt) is.order)) (length p) (code_at 0) (t.EndOfText ∷ []) ends

@@ -10,7 +10,7 @@ use Rattle.tree_node.specs.Spelling.{is_word_byte}
 use Rattle.oz_lexer.specs.declared.token.TokenKind.{TokenKind}
 use Rattle.oz_lexer.specs.declared.token.TokenKind.TheVariants as kind
 use Rattle.oz_lexer.specs.Spelling.{is_variable, is_lower_word, are_digits, digits_of, is_character, is_escape, closes_quote, is_quoted, signs, is_sign, token_kind_of}
-use Rattle.oz_lexer.specs.Faults.{Longest}
+use Rattle.oz_lexer.specs.Faults.{IsLongestToken}
 use Rattle.std.proofs.Math.Bool.{and-false}
 
 -- a blank or a newline
@@ -96,7 +96,7 @@ closes_more (b ∷ c ∷ bs) more e some =
       | false ↦ λ h. rw (closes_more (c ∷ bs) more (second (is_character b) (closes_quote (c ∷ bs)) h) some) (and-false (is_character b))
     ] in chosen (eqb b 92) e
 
-pub longest_spaced : (bytes : List ℕ) (k : TokenKind) (b : ℕ) (tail : List ℕ) → token_kind_of bytes ≡ Some k → eqb (slice_index bytes 0) 39 ≡ false → 0 < length bytes → IsSpace b → Longest (bytes ++ b ∷ tail) k bytes (b ∷ tail)
+pub longest_spaced : (bytes : List ℕ) (k : TokenKind) (b : ℕ) (tail : List ℕ) → token_kind_of bytes ≡ Some k → eqb (slice_index bytes 0) 39 ≡ false → 0 < length bytes → IsSpace b → IsLongestToken (bytes ++ b ∷ tail) k bytes (b ∷ tail)
 longest_spaced [] k b tail is quote some s = absurd (omega (arith, some))
 longest_spaced (x ∷ xs) k b tail is quote some s = record {
   is = refl;
@@ -110,7 +110,7 @@ longest_spaced (x ∷ xs) k b tail is quote some s = record {
         let same : b ≡ m = cc in
         subst (λ (c : ℕ). token_kind_of ((x ∷ xs) ++ c ∷ more) ≡ None) same (none_spaced (x ∷ xs) more b s (rw quote refl))
 
-pub longest_quoted : (cs : List ℕ) (b : ℕ) (tail : List ℕ) → token_kind_of (39 ∷ cs) ≡ Some kind.Quoted → closes_quote cs ≡ true → IsSpace b → Longest ((39 ∷ cs) ++ b ∷ tail) kind.Quoted (39 ∷ cs) (b ∷ tail)
+pub longest_quoted : (cs : List ℕ) (b : ℕ) (tail : List ℕ) → token_kind_of (39 ∷ cs) ≡ Some kind.Quoted → closes_quote cs ≡ true → IsSpace b → IsLongestToken ((39 ∷ cs) ++ b ∷ tail) kind.Quoted (39 ∷ cs) (b ∷ tail)
 longest_quoted cs b tail is closed s = record {
   is = refl;
   spells = is;

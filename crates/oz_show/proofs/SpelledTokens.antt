@@ -4,7 +4,7 @@ use Rattle.oz_lexer.specs.declared.token.TokenKind.{TokenKind}
 use Rattle.oz_lexer.specs.declared.token.TokenKind.TheVariants as kind
 use Rattle.oz_lexer.specs.Spelling.{is_long}
 use Rattle.oz_lexer.specs.Blanks.{IsBehindBlanks, here, blank}
-use Rattle.oz_lexer.specs.Faults.{Longest}
+use Rattle.oz_lexer.specs.Faults.{IsLongestToken}
 use Rattle.oz_lexer.specs.Tokens.{Lexeme, IsLexemeAt, EndOrMore, TokensFrom}
 use Rattle.oz_grammar.specs.declared.symbol.Symbol.{Symbol}
 use Rattle.oz_grammar.specs.declared.symbol.Symbol.TheVariants as t
@@ -29,7 +29,7 @@ behind_is t.EndOfText symbols w = absurd w
 behind_is x symbols w = refl
 
 -- a token begins here
-token_begins : (k : TokenKind) (place : ℕ) (text bytes rest : List ℕ) → (k ≡ kind.End → ⊥) → Longest text k bytes rest → is_long k bytes ≡ false → IsLexemeAt place text (Ok k) place bytes rest
+token_begins : (k : TokenKind) (place : ℕ) (text bytes rest : List ℕ) → (k ≡ kind.End → ⊥) → IsLongestToken text k bytes rest → is_long k bytes ≡ false → IsLexemeAt place text (Ok k) place bytes rest
 token_begins kind.End place text bytes rest no_end longest short = absurd (no_end refl)
 token_begins kind.Variable place text bytes rest no_end longest short = (longest, short, refl)
 token_begins kind.Atom place text bytes rest no_end longest short = (longest, short, refl)
@@ -59,8 +59,8 @@ first_of : (x : Symbol) (symbols : List Symbol) (place at_front : ℕ) (text : L
 first_of x symbols place at_front text w blanks at behind =
     let token = token_of x w in
     let space = behind_space symbols in
-    let longest : Longest (symbol_text x ++ text_behind symbols) token.what (symbol_text x) (text_behind symbols) =
-    subst (λ (r : List ℕ). Longest (symbol_text x ++ r) token.what (symbol_text x) r) (sym space.3) (token.longest space.0 space.1 space.2) in
+    let longest : IsLongestToken (symbol_text x ++ text_behind symbols) token.what (symbol_text x) (text_behind symbols) =
+    subst (λ (r : List ℕ). IsLongestToken (symbol_text x ++ r) token.what (symbol_text x) r) (sym space.3) (token.longest space.0 space.1 space.2) in
     record {
       tokens = record { what = Ok token.what; start = at_front; bytes = symbol_text x } ∷ behind.tokens;
       divided = (

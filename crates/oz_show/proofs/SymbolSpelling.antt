@@ -11,7 +11,7 @@ use Rattle.kernel_syntax.specs.declared.stmt.Op.TheVariants as op
 use Rattle.oz_lexer.specs.declared.token.TokenKind.{TokenKind}
 use Rattle.oz_lexer.specs.declared.token.TokenKind.TheVariants as kind
 use Rattle.oz_lexer.specs.Spelling.{token_kind_of, is_long, is_variable, is_lower_word, is_quoted}
-use Rattle.oz_lexer.specs.Faults.{Longest}
+use Rattle.oz_lexer.specs.Faults.{IsLongestToken}
 use Rattle.oz_grammar.specs.declared.symbol.Symbol.{Symbol}
 use Rattle.oz_grammar.specs.declared.symbol.Symbol.TheVariants as t
 use Rattle.oz_grammar.specs.Symbols.{symbol_at, word_symbol, sign_symbol}
@@ -47,7 +47,7 @@ pub record Token (symbol : Symbol) : Type 0 where
   pub spells : token_kind_of (symbol_text symbol) ≡ Some what
   pub short : is_long what (symbol_text symbol) ≡ false
   pub back : symbol_at (Ok what) (symbol_text symbol) ≡ symbol
-  pub longest : (b : ℕ) (tail : List ℕ) → IsSpace b → Longest (symbol_text symbol ++ b ∷ tail) what (symbol_text symbol) (b ∷ tail)
+  pub longest : (b : ℕ) (tail : List ℕ) → IsSpace b → IsLongestToken (symbol_text symbol ++ b ∷ tail) what (symbol_text symbol) (b ∷ tail)
 
 -- a symbol that is spelled without quotes
 unquoted : (symbol : Symbol) (k : TokenKind) → (k ≡ kind.End → ⊥) → token_kind_of (symbol_text symbol) ≡ Some k → is_long k (symbol_text symbol) ≡ false → symbol_at (Ok k) (symbol_text symbol) ≡ symbol

@@ -12,7 +12,7 @@ use Rattle.kernel_syntax.specs.declared.stmt.Op.TheVariants as op
 use Rattle.oz_grammar.specs.declared.symbol.Symbol.{Symbol}
 use Rattle.oz_grammar.specs.declared.symbol.Symbol.TheVariants as t
 use Rattle.oz_grammar.proofs.Digits.{word_bytes, FitsWord}
-use Rattle.oz_grammar.proofs.Unescaped.{AreHigh, encode_high, ascii_before}
+use Rattle.oz_grammar.proofs.TextInQuotes.{AreHigh, encode_high, ascii_before}
 use Rattle.oz_show.specs.CanonicalText.{operator_text, symbol_text, text_behind, symbols_text}
 use Rattle.oz_show.proofs.SymbolSpelling.{IsAtom, IsWritten}
 use Rattle.oz_show.proofs.SpelledTokens.{Written, ends, more, behind_is}

@@ -4,6 +4,7 @@ use Rattle.oz_show.specs.declared.status.Status.{Status}
 use Rattle.oz_show.specs.declared.status.Status.TheVariants.{Quiescent, Usage, Refused, NotUtf8, TooLong, StepLimit, MessageLimit, ReadFault, WriteFault, Memory}
 use Rattle.oz_show.specs.Refusal.{fault_line}
 
+-- the end line of a status, without its newline; empty where writing failed, which has none
 abbrev pub end_line : Status → List ℕ
 end_line (Quiescent ended waiting) = codes "quiescent ended=" ++ decimal ended ++ codes " waiting=" ++ decimal waiting
 end_line Usage = codes "usage"
@@ -16,6 +17,7 @@ end_line ReadFault = codes "read fault"
 end_line WriteFault = []
 end_line Memory = codes "out of memory"
 
+-- the exit code of a status
 abbrev pub status_number : Status → ℕ
 status_number (Quiescent ended zero) = 0
 status_number (Quiescent ended (suc waiting)) = 1

@@ -23,11 +23,11 @@ pub fn program_text(alloc: Global, program: &Program) -> Result<Text, AllocError
     program.is_program();
     canonical_text_reads_back();
     let symbols = symbols_of(alloc, program)?;
-    let text = spelled(alloc, symbols)?;
+    let text = symbols_text(alloc, symbols)?;
     Ok(Text::from_vec(text)?)
 }
 
-fn spelled(alloc: Global, mut symbols: Symbols) -> Result<Vec<u8>, AllocError>
+fn symbols_text(alloc: Global, mut symbols: Symbols) -> Result<Vec<u8>, AllocError>
     ensures { IfOk result (λ v. v.items ≡ symbols_text symbols) }
 {
     let mut text = Vec::new(alloc);
@@ -70,12 +70,12 @@ fn spell(alloc: Global, text: &mut Vec<u8>, symbol: &Symbol) -> Result<(), Alloc
             text.extend_from_slice(feature_text(alloc, &Feature::Int(*value))?.as_slice())?;
         }
         Symbol::Integer(None) => {}
-        word => text.extend_from_slice(spelling(word))?,
+        word => text.extend_from_slice(word_text(word))?,
     }
     Ok(())
 }
 
-fn spelling(word: &Symbol) -> &'static [u8]
+fn word_text(word: &Symbol) -> &'static [u8]
     ensures { result.now ≡ word_text word.now }
 {
     match word {
@@ -103,12 +103,12 @@ fn spelling(word: &Symbol) -> &'static [u8]
         Symbol::Colon => b":",
         Symbol::Dot => b".",
         Symbol::Bar => b"|",
-        Symbol::Operator(operator) => operator_spelling(*operator),
+        Symbol::Operator(operator) => operator_text(*operator),
         _ => b"",
     }
 }
 
-fn operator_spelling(operator: Op) -> &'static [u8]
+fn operator_text(operator: Op) -> &'static [u8]
     ensures { result.now ≡ operator_text operator }
 {
     match operator {

@@ -22,7 +22,7 @@ pub fn symbols_of(alloc: Global, program: &Program) -> Result<Symbols, AllocErro
     program.is_program();
     let mut symbols = Symbols::new(alloc);
     symbols.put(Symbol::EndOfText)?;
-    within(alloc, &mut symbols, program, program.len(), CodeId(0))?;
+    put_statement_of(alloc, &mut symbols, program, program.len(), CodeId(0))?;
     Ok(symbols)
 }
 
@@ -30,7 +30,7 @@ pub fn symbols_of(alloc: Global, program: &Program) -> Result<Symbols, AllocErro
 
 // The statement of a number, through at most so many statements, each within the one before.
 #[cycle(printing)]
-fn within(
+fn put_statement_of(
     alloc: Global,
     symbols: &mut Symbols,
     program: &Program,
@@ -43,11 +43,11 @@ fn within(
     if depth == 0 {
         return Ok(());
     }
-    statement(alloc, symbols, program, depth - 1, program.code(code))
+    put_statement(alloc, symbols, program, depth - 1, program.code(code))
 }
 
 #[cycle(printing)]
-fn statement(
+fn put_statement(
     alloc: Global,
     symbols: &mut Symbols,
     program: &Program,
@@ -59,34 +59,34 @@ fn statement(
     ensures { OnOk result (symbols.new ≡ row_symbols (symbols_within depth program.now) stmt.now symbols.old) }
 {
     match stmt {
-        Stmt::Seq(bodies) => sequence(alloc, symbols, program, depth, bodies.as_slice()),
+        Stmt::Seq(bodies) => put_sequence(alloc, symbols, program, depth, bodies.as_slice()),
         Stmt::Local { body, .. } | Stmt::TellProc { body, .. } | Stmt::Thread { body, .. } => {
-            body_before(alloc, symbols, program, depth, *body, Symbol::End)?;
-            front(alloc, symbols, stmt)
+            put_body_before(alloc, symbols, program, depth, *body, Symbol::End)?;
+            put_front(alloc, symbols, stmt)
         }
         Stmt::If { yes, no, .. } | Stmt::Case { yes, no, .. } => {
-            body_before(alloc, symbols, program, depth, *no, Symbol::End)?;
-            body_before(alloc, symbols, program, depth, *yes, Symbol::Else)?;
-            front(alloc, symbols, stmt)
+            put_body_before(alloc, symbols, program, depth, *no, Symbol::End)?;
+            put_body_before(alloc, symbols, program, depth, *yes, Symbol::Else)?;
+            put_front(alloc, symbols, stmt)
         }
         Stmt::Try {
             body,
             first,
             handler,
         } => {
-            body_before(alloc, symbols, program, depth, *handler, Symbol::End)?;
+            put_body_before(alloc, symbols, program, depth, *handler, Symbol::End)?;
             symbols.put(Symbol::Then)?;
-            symbols.name(alloc, *first)?;
-            body_before(alloc, symbols, program, depth, *body, Symbol::Catch)?;
-            front(alloc, symbols, stmt)
+            symbols.put_name(alloc, *first)?;
+            put_body_before(alloc, symbols, program, depth, *body, Symbol::Catch)?;
+            put_front(alloc, symbols, stmt)
         }
-        _ => front(alloc, symbols, stmt),
+        _ => put_front(alloc, symbols, stmt),
     }
 }
 
 // A body and the word behind it.
 #[cycle(printing)]
-fn body_before(
+fn put_body_before(
     alloc: Global,
     symbols: &mut Symbols,
     program: &Program,
@@ -98,12 +98,12 @@ fn body_before(
     ensures { OnOk result (symbols.new ≡ symbols_within depth program.now body (word ∷ symbols.old)) }
 {
     symbols.put(word)?;
-    within(alloc, symbols, program, depth, body)
+    put_statement_of(alloc, symbols, program, depth, body)
 }
 
 // Statements one after the other, put down from the last on.
 #[cycle(printing)]
-fn sequence(
+fn put_sequence(
     alloc: Global,
     symbols: &mut Symbols,
     program: &Program,
@@ -116,7 +116,7 @@ fn sequence(
     let mut left = bodies.len();
     while left > 0 {
         left -= 1;
-        within(alloc, symbols, program, depth, bodies[left])?;
+        put_statement_of(alloc, symbols, program, depth, bodies[left])?;
     }
     Ok(())
 }
@@ -124,22 +124,22 @@ fn sequence(
 // ---- what stands before the first body
 
 // A statement whose first body, if it has one, is put down already.
-fn front(alloc: Global, symbols: &mut Symbols, stmt: &Stmt) -> Result<(), AllocError>
+fn put_front(alloc: Global, symbols: &mut Symbols, stmt: &Stmt) -> Result<(), AllocError>
     requires { IsStmt stmt.now }
     ensures { OnOk result (symbols.new ≡ row_symbols (λ c rest. symbols.old) stmt.now symbols.old) }
 {
     match stmt {
         Stmt::Seq(_) => Ok(()),
-        Stmt::Local { first, count, .. } => local(alloc, symbols, *first, *count),
+        Stmt::Local { first, count, .. } => put_local(alloc, symbols, *first, *count),
         Stmt::TellProc {
             left,
             first,
             count,
             ..
-        } => procedure(alloc, symbols, *left, *first, *count as u32),
+        } => put_procedure(alloc, symbols, *left, *first, *count as u32),
         Stmt::If { subject, .. } => {
             symbols.put(Symbol::Then)?;
-            symbols.name(alloc, *subject)?;
+            symbols.put_name(alloc, *subject)?;
             symbols.put(Symbol::If)
         }
         Stmt::Case {
@@ -147,25 +147,25 @@ fn front(alloc: Global, symbols: &mut Symbols, stmt: &Stmt) -> Result<(), AllocE
             pattern,
             first,
             ..
-        } => case(alloc, symbols, *subject, pattern, *first),
-        Stmt::Thread { at, .. } => thread(symbols, *at),
+        } => put_case(alloc, symbols, *subject, pattern, *first),
+        Stmt::Thread { at, .. } => put_thread(symbols, *at),
         Stmt::Try { .. } => symbols.put(Symbol::Try),
-        _ => plain(alloc, symbols, stmt),
+        _ => put_plain(alloc, symbols, stmt),
     }
 }
 
-fn local(alloc: Global, symbols: &mut Symbols, first: u32, count: u32) -> Result<(), AllocError>
+fn put_local(alloc: Global, symbols: &mut Symbols, first: u32, count: u32) -> Result<(), AllocError>
     requires some { 1 ≤ count }
     requires fits { first + count < 2 ^ 32 }
     ensures { OnOk result (symbols.new ≡ opening_text (local_opening first count) symbols.old) }
 {
     symbols.put(Symbol::In)?;
-    symbols.names_from(alloc, first + 1, count - 1)?;
-    symbols.name(alloc, first)?;
+    symbols.put_names_from(alloc, first + 1, count - 1)?;
+    symbols.put_name(alloc, first)?;
     symbols.put(Symbol::Local)
 }
 
-fn procedure(
+fn put_procedure(
     alloc: Global,
     symbols: &mut Symbols,
     left: u32,
@@ -176,14 +176,14 @@ fn procedure(
     ensures { OnOk result (symbols.new ≡ opening_text (ProcValue (name_at left) (names_from first count)) symbols.old) }
 {
     symbols.put(Symbol::CloseCurly)?;
-    symbols.names_from(alloc, first, count)?;
+    symbols.put_names_from(alloc, first, count)?;
     symbols.put(Symbol::Dollar)?;
     symbols.put(Symbol::OpenCurly)?;
     symbols.put(Symbol::Proc)?;
-    tell(alloc, symbols, left)
+    put_tell(alloc, symbols, left)
 }
 
-fn case(
+fn put_case(
     alloc: Global,
     symbols: &mut Symbols,
     subject: u32,
@@ -194,13 +194,13 @@ fn case(
     ensures { OnOk result (symbols.new ≡ choice_text (Cases (name_at subject) (pattern_tree first pattern.now)) symbols.old) }
 {
     symbols.put(Symbol::Then)?;
-    symbols.pattern(alloc, first, pattern)?;
+    symbols.put_pattern(alloc, first, pattern)?;
     symbols.put(Symbol::Of)?;
-    symbols.name(alloc, subject)?;
+    symbols.put_name(alloc, subject)?;
     symbols.put(Symbol::Case)
 }
 
-fn thread(symbols: &mut Symbols, at: Option<i64>) -> Result<(), AllocError>
+fn put_thread(symbols: &mut Symbols, at: Option<i64>) -> Result<(), AllocError>
     ensures { OnOk result (symbols.new ≡ opening_text (thread_opening at) symbols.old) }
 {
     if let Some(site) = at {
@@ -212,43 +212,48 @@ fn thread(symbols: &mut Symbols, at: Option<i64>) -> Result<(), AllocError>
 
 // ---- statements without bodies
 
-fn plain(alloc: Global, symbols: &mut Symbols, stmt: &Stmt) -> Result<(), AllocError>
+fn put_plain(alloc: Global, symbols: &mut Symbols, stmt: &Stmt) -> Result<(), AllocError>
     requires { bodies_of stmt.now ≡ [] }
     ensures { OnOk result (symbols.new ≡ row_symbols (λ c rest. symbols.old) stmt.now symbols.old) }
 {
     match stmt {
         Stmt::Skip => symbols.put(Symbol::Skip),
-        Stmt::TellVar { left, right } => tell_variable(alloc, symbols, *left, *right),
-        Stmt::TellInt { left, value } => tell_integer(alloc, symbols, *left, *value),
-        Stmt::TellAtom { left, text } => tell_atom(alloc, symbols, *left, text),
+        Stmt::TellVar { left, right } => put_tell_variable(alloc, symbols, *left, *right),
+        Stmt::TellInt { left, value } => put_tell_integer(alloc, symbols, *left, *value),
+        Stmt::TellAtom { left, text } => put_tell_atom(alloc, symbols, *left, text),
         Stmt::TellRec {
             left,
             label,
             fields,
-        } => tell_record(alloc, symbols, *left, label, fields.as_slice()),
-        Stmt::Calc { left, op, a, b } => tell_result(alloc, symbols, *left, *op, *a, *b),
-        Stmt::Select { left, source, by } => tell_field(alloc, symbols, *left, *source, by),
-        Stmt::Call { callee, args } => call(alloc, symbols, *callee, args.as_slice()),
-        Stmt::Browse(shown) => built_in(alloc, symbols, b"Browse", &[*shown]),
-        Stmt::Wait(subject) => built_in(alloc, symbols, b"Wait", &[*subject]),
-        Stmt::NewCell { content, cell } => built_in(alloc, symbols, b"NewCell", &[*content, *cell]),
+        } => put_tell_record(alloc, symbols, *left, label, fields.as_slice()),
+        Stmt::Calc { left, op, a, b } => put_tell_result(alloc, symbols, *left, *op, *a, *b),
+        Stmt::Select { left, source, by } => put_tell_field(alloc, symbols, *left, *source, by),
+        Stmt::Call { callee, args } => put_call(alloc, symbols, *callee, args.as_slice()),
+        Stmt::Browse(shown) => put_built_in(alloc, symbols, b"Browse", &[*shown]),
+        Stmt::Wait(subject) => put_built_in(alloc, symbols, b"Wait", &[*subject]),
+        Stmt::NewCell { content, cell } => put_built_in(
+            alloc,
+            symbols,
+            b"NewCell",
+            &[*content, *cell],
+        ),
         Stmt::Exchange { cell, old, new } => {
-            built_in(alloc, symbols, b"Exchange", &[*cell, *old, *new])
+            put_built_in(alloc, symbols, b"Exchange", &[*cell, *old, *new])
         }
-        Stmt::Raise(subject) => raise(alloc, symbols, *subject),
+        Stmt::Raise(subject) => put_raise(alloc, symbols, *subject),
         _ => Ok(()),
     }
 }
 
 // X =
-fn tell(alloc: Global, symbols: &mut Symbols, left: u32) -> Result<(), AllocError>
+fn put_tell(alloc: Global, symbols: &mut Symbols, left: u32) -> Result<(), AllocError>
     ensures { OnOk result (symbols.new ≡ t.Variable (name_at left) ∷ t.Equals ∷ symbols.old) }
 {
     symbols.put(Symbol::Equals)?;
-    symbols.name(alloc, left)
+    symbols.put_name(alloc, left)
 }
 
-fn tell_variable(
+fn put_tell_variable(
     alloc: Global,
     symbols: &mut Symbols,
     left: u32,
@@ -256,11 +261,11 @@ fn tell_variable(
 ) -> Result<(), AllocError>
     ensures { OnOk result (symbols.new ≡ plain_text (tell_statement left (ToVar (name_at right))) symbols.old) }
 {
-    symbols.name(alloc, right)?;
-    tell(alloc, symbols, left)
+    symbols.put_name(alloc, right)?;
+    put_tell(alloc, symbols, left)
 }
 
-fn tell_integer(
+fn put_tell_integer(
     alloc: Global,
     symbols: &mut Symbols,
     left: u32,
@@ -269,17 +274,22 @@ fn tell_integer(
     ensures { OnOk result (symbols.new ≡ plain_text (tell_statement left (ToInt (Some value))) symbols.old) }
 {
     symbols.put(Symbol::Integer(Some(value)))?;
-    tell(alloc, symbols, left)
+    put_tell(alloc, symbols, left)
 }
 
-fn tell_atom(alloc: Global, symbols: &mut Symbols, left: u32, atom: &Text) -> Result<(), AllocError>
+fn put_tell_atom(
+    alloc: Global,
+    symbols: &mut Symbols,
+    left: u32,
+    atom: &Text,
+) -> Result<(), AllocError>
     ensures { OnOk result (symbols.new ≡ plain_text (tell_statement left (ToAtom atom.now)) symbols.old) }
 {
-    symbols.atom(atom)?;
-    tell(alloc, symbols, left)
+    symbols.put_atom(atom)?;
+    put_tell(alloc, symbols, left)
 }
 
-fn tell_record(
+fn put_tell_record(
     alloc: Global,
     symbols: &mut Symbols,
     left: u32,
@@ -289,13 +299,13 @@ fn tell_record(
     ensures { OnOk result (symbols.new ≡ plain_text (tell_statement left (ToRecord label.now (map slot_field fields.now))) symbols.old) }
 {
     symbols.put(Symbol::CloseRound)?;
-    symbols.fields(alloc, fields)?;
+    symbols.put_fields(alloc, fields)?;
     symbols.put(Symbol::OpenRound)?;
-    symbols.atom(label)?;
-    tell(alloc, symbols, left)
+    symbols.put_atom(label)?;
+    put_tell(alloc, symbols, left)
 }
 
-fn tell_result(
+fn put_tell_result(
     alloc: Global,
     symbols: &mut Symbols,
     left: u32,
@@ -305,13 +315,13 @@ fn tell_result(
 ) -> Result<(), AllocError>
     ensures { OnOk result (symbols.new ≡ plain_text (tell_statement left (Calculates (name_at a) operator (name_at b))) symbols.old) }
 {
-    symbols.name(alloc, b)?;
+    symbols.put_name(alloc, b)?;
     symbols.put(Symbol::Operator(operator))?;
-    symbols.name(alloc, a)?;
-    tell(alloc, symbols, left)
+    symbols.put_name(alloc, a)?;
+    put_tell(alloc, symbols, left)
 }
 
-fn tell_field(
+fn put_tell_field(
     alloc: Global,
     symbols: &mut Symbols,
     left: u32,
@@ -321,23 +331,23 @@ fn tell_field(
     ensures { OnOk result (symbols.new ≡ plain_text (tell_statement left (Selects (name_at source) (selection_of by.now))) symbols.old) }
 {
     match by {
-        Selector::Var(position) => symbols.name(alloc, *position)?,
-        Selector::Feature(feature) => symbols.feature(feature)?,
+        Selector::Var(position) => symbols.put_name(alloc, *position)?,
+        Selector::Feature(feature) => symbols.put_feature(feature)?,
     }
     symbols.put(Symbol::Dot)?;
-    symbols.name(alloc, source)?;
-    tell(alloc, symbols, left)
+    symbols.put_name(alloc, source)?;
+    put_tell(alloc, symbols, left)
 }
 
-fn raise(alloc: Global, symbols: &mut Symbols, subject: u32) -> Result<(), AllocError>
+fn put_raise(alloc: Global, symbols: &mut Symbols, subject: u32) -> Result<(), AllocError>
     ensures { OnOk result (symbols.new ≡ plain_text (Raises (name_at subject)) symbols.old) }
 {
     symbols.put(Symbol::End)?;
-    symbols.name(alloc, subject)?;
+    symbols.put_name(alloc, subject)?;
     symbols.put(Symbol::Raise)
 }
 
-fn call(
+fn put_call(
     alloc: Global,
     symbols: &mut Symbols,
     callee: u32,
@@ -346,13 +356,13 @@ fn call(
     ensures { OnOk result (symbols.new ≡ t.OpenCurly ∷ t.Variable (name_at callee) ∷ names_text (map name_at positions.now) (t.CloseCurly ∷ symbols.old)) }
 {
     symbols.put(Symbol::CloseCurly)?;
-    symbols.names(alloc, positions)?;
-    symbols.name(alloc, callee)?;
+    symbols.put_names(alloc, positions)?;
+    symbols.put_name(alloc, callee)?;
     symbols.put(Symbol::OpenCurly)
 }
 
 // A call of a built-in procedure.
-fn built_in(
+fn put_built_in(
     alloc: Global,
     symbols: &mut Symbols,
     name: &[u8],
@@ -361,7 +371,7 @@ fn built_in(
     ensures { OnOk result (symbols.new ≡ t.OpenCurly ∷ t.Variable name.now ∷ names_text (map name_at positions.now) (t.CloseCurly ∷ symbols.old)) }
 {
     symbols.put(Symbol::CloseCurly)?;
-    symbols.names(alloc, positions)?;
-    symbols.built_in(alloc, name)?;
+    symbols.put_names(alloc, positions)?;
+    symbols.put_built_in(alloc, name)?;
     symbols.put(Symbol::OpenCurly)
 }

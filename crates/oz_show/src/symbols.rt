@@ -29,7 +29,7 @@ impl Model for Symbols {
 }
 
 impl Symbols {
-    /// None.
+    /// No symbols yet.
     pub fn new(alloc: Global) -> Symbols
         ensures { result ≡ [] }
     {
@@ -57,7 +57,7 @@ impl Symbols {
     }
 
     /// Puts the identifier at a position.
-    pub fn name(&mut self, alloc: Global, position: u32) -> Result<(), AllocError>
+    pub fn put_name(&mut self, alloc: Global, position: u32) -> Result<(), AllocError>
         ensures { OnOk result (self.new ≡ t.Variable (name_at position) ∷ self.old) }
     {
         let digits = format!(in alloc; "{position}")?;
@@ -67,71 +67,76 @@ impl Symbols {
     }
 
     /// Puts the name of a built-in procedure.
-    pub fn built_in(&mut self, alloc: Global, name: &[u8]) -> Result<(), AllocError>
+    pub fn put_built_in(&mut self, alloc: Global, name: &[u8]) -> Result<(), AllocError>
         ensures { OnOk result (self.new ≡ t.Variable name.now ∷ self.old) }
     {
         self.put(Symbol::Variable(Text::from_vec(Vec::from_slice(alloc, name)?)?))
     }
 
     /// Puts an atom.
-    pub fn atom(&mut self, text: &Text) -> Result<(), AllocError>
+    pub fn put_atom(&mut self, text: &Text) -> Result<(), AllocError>
         ensures { OnOk result (self.new ≡ t.Atom text.now ∷ self.old) }
     {
         self.put(Symbol::Atom(text.copy()?))
     }
 
     /// Puts a feature.
-    pub fn feature(&mut self, feature: &Feature) -> Result<(), AllocError>
+    pub fn put_feature(&mut self, feature: &Feature) -> Result<(), AllocError>
         ensures { OnOk result (self.new ≡ feature_symbol (feature_token feature.now) ∷ self.old) }
     {
         match feature {
             Feature::Int(value) => self.put(Symbol::Integer(Some(*value))),
-            Feature::Atom(text) => self.atom(text),
+            Feature::Atom(text) => self.put_atom(text),
         }
     }
 
     /// Puts so many identifiers from a position on.
-    pub fn names_from(&mut self, alloc: Global, first: u32, count: u32) -> Result<(), AllocError>
+    pub fn put_names_from(
+        &mut self,
+        alloc: Global,
+        first: u32,
+        count: u32,
+    ) -> Result<(), AllocError>
         requires { first + count < 2 ^ 32 }
         ensures { OnOk result (self.new ≡ names_text (names_from first count) self.old) }
     {
         if count == 0 {
             return Ok(());
         }
-        self.names_from(alloc, first + 1, count - 1)?;
-        self.name(alloc, first)
+        self.put_names_from(alloc, first + 1, count - 1)?;
+        self.put_name(alloc, first)
     }
 
     /// Puts the identifiers at these positions.
-    pub fn names(&mut self, alloc: Global, positions: &[u32]) -> Result<(), AllocError>
+    pub fn put_names(&mut self, alloc: Global, positions: &[u32]) -> Result<(), AllocError>
         ensures { OnOk result (self.new ≡ names_text (map name_at positions.now) self.old) }
     {
         match positions {
             [] => Ok(()),
             [first, rest @ ..] => {
-                self.names(alloc, rest)?;
-                self.name(alloc, *first)
+                self.put_names(alloc, rest)?;
+                self.put_name(alloc, *first)
             }
         }
     }
 
     /// Puts fields, each with its feature.
-    pub fn fields(&mut self, alloc: Global, fields: &[(Feature, u32)]) -> Result<(), AllocError>
+    pub fn put_fields(&mut self, alloc: Global, fields: &[(Feature, u32)]) -> Result<(), AllocError>
         ensures { OnOk result (self.new ≡ fields_text (map slot_field fields.now) self.old) }
     {
         match fields {
             [] => Ok(()),
             [first, rest @ ..] => {
-                self.fields(alloc, rest)?;
-                self.name(alloc, first.1)?;
+                self.put_fields(alloc, rest)?;
+                self.put_name(alloc, first.1)?;
                 self.put(Symbol::Colon)?;
-                self.feature(&first.0)
+                self.put_feature(&first.0)
             }
         }
     }
 
     /// Puts features with the identifiers from a position on.
-    pub fn declared(
+    pub fn put_declared_fields(
         &mut self,
         alloc: Global,
         first: u32,
@@ -143,16 +148,16 @@ impl Symbols {
         match features {
             [] => Ok(()),
             [feature, rest @ ..] => {
-                self.declared(alloc, first + 1, rest)?;
-                self.name(alloc, first)?;
+                self.put_declared_fields(alloc, first + 1, rest)?;
+                self.put_name(alloc, first)?;
                 self.put(Symbol::Colon)?;
-                self.feature(feature)
+                self.put_feature(feature)
             }
         }
     }
 
     /// Puts a pattern whose identifiers are those from a position on.
-    pub fn pattern(
+    pub fn put_pattern(
         &mut self,
         alloc: Global,
         first: u32,
@@ -163,12 +168,12 @@ impl Symbols {
     {
         match pattern {
             Pattern::Int(value) => self.put(Symbol::Integer(Some(*value))),
-            Pattern::Atom(text) => self.atom(text),
+            Pattern::Atom(text) => self.put_atom(text),
             Pattern::Rec(label, features) => {
                 self.put(Symbol::CloseRound)?;
-                self.declared(alloc, first, features.as_slice())?;
+                self.put_declared_fields(alloc, first, features.as_slice())?;
                 self.put(Symbol::OpenRound)?;
-                self.atom(label)
+                self.put_atom(label)
             }
         }
     }

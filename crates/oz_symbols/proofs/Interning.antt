@@ -5,7 +5,7 @@ use Rattle.std.specs.Cmp.Lexicographic.{pointwise, bytes_decides}
 use Rattle.std.specs.Str.{bytes_eq}
 use Rattle.std.specs.Map.{lookup}
 use Rattle.indexmap.specs.IndexMap.{insert_entry}
-use Rattle.oz_symbols.specs.Interned.{Entries, AreSpelled}
+use Rattle.oz_symbols.specs.Texts.{Entries, AreSpelled}
 
 some_is : {v t : List ℕ} → Some v ≡ Some t → v ≡ t
 some_is e = cc

@@ -6,9 +6,9 @@ use Rattle.oz_lexer.specs.declared.token.Token.{Token}
 use Rattle.oz_lexer.specs.declared.token.TokenKind.{TokenKind}
 use Rattle.oz_lexer.specs.declared.token.TokenKind.TheVariants.{Variable, Atom, Quoted, Integer, Word, Sign, End}
 use Rattle.oz_lexer.specs.declared.token.LexKind.{LexKind}
-use Rattle.oz_lexer.specs.Faults.{Longest}
-use Rattle.oz_lexer.specs.Tokens.{IsLexemeAt, Lexeme, Next, EndOrMore, Tokens, TokensFrom}
-use Rattle.oz_lexer.specs.Lexing.{lexeme_of, fault_at, FaultNext, IsSlice}
+use Rattle.oz_lexer.specs.Faults.{IsLongestToken}
+use Rattle.oz_lexer.specs.Tokens.{IsLexemeAt, Lexeme, IsNextLexeme, EndOrMore, Tokens, TokensFrom}
+use Rattle.oz_lexer.specs.Lexer.{lexeme_of, fault_at, IsFaultNext, IsSlice}
 use Rattle.oz_lexer.proofs.NextLemmas.{gives_token}
 use Rattle.oz_lexer.proofs.Boundaries.{token_ends}
 use Rattle.oz_grammar.specs.declared.symbol.Symbol.{Symbol}
@@ -38,7 +38,7 @@ goes_last Word A B e g = absurd cc
 goes_last Sign A B e g = absurd cc
 goes_last End A B e g = g
 
-longest_of : (place : ℕ) (text : List ℕ) (k : TokenKind) (start : ℕ) (bytes rest : List ℕ) → is_end k ≡ false → IsLexemeAt place text (Ok k) start bytes rest → Longest text k bytes rest
+longest_of : (place : ℕ) (text : List ℕ) (k : TokenKind) (start : ℕ) (bytes rest : List ℕ) → is_end k ≡ false → IsLexemeAt place text (Ok k) start bytes rest → IsLongestToken text k bytes rest
 longest_of place text Variable start bytes rest e b = b.0
 longest_of place text Atom start bytes rest e b = b.0
 longest_of place text Quoted start bytes rest e b = b.0
@@ -47,7 +47,7 @@ longest_of place text Word start bytes rest e b = b.0
 longest_of place text Sign start bytes rest e b = b.0
 longest_of place text End start bytes rest e b = absurd cc
 
-moves : (text : List ℕ) (at : ℕ) (t : Token) → Next at (drop at text) (lexeme_of t) (drop t.end text) → IsSlice text at t → is_end t.kind ≡ false → at < t.end
+moves : (text : List ℕ) (at : ℕ) (t : Token) → IsNextLexeme at (drop at text) (lexeme_of t) (drop t.end text) → IsSlice text at t → is_end t.kind ≡ false → at < t.end
 moves text at t n s e =
     let l = longest_of (at + (length (drop at text) - length n.front)) n.front t.kind t.start t.text.now (drop t.end text) e n.begins in
     let some = (token_ends t.text.now t.kind l.spells).some in
@@ -62,7 +62,7 @@ placed : (starts : List ℕ) (done : List Lexeme) (l : Lexeme) → starts ≡ ma
 placed starts done l e = ap (λ (xs : List ℕ). xs ++ start_of l ∷ []) e ∙ sym (map-append start_of done (l ∷ []))
 
 pub goes_so : (text : List ℕ) (at : ℕ) (symbols : List Symbol) (starts : List ℕ) (t : Token) (symbol : Symbol) (symbols' : List Symbol) (starts' : List ℕ) → SoFar text at symbols starts
-    → Next at (drop at text) (lexeme_of t) (drop t.end text) → IsSlice text at t → is_end t.kind ≡ false → symbol ≡ symbol_of (lexeme_of t)
+    → IsNextLexeme at (drop at text) (lexeme_of t) (drop t.end text) → IsSlice text at t → is_end t.kind ≡ false → symbol ≡ symbol_of (lexeme_of t)
     → symbols' ≡ symbols ++ symbol ∷ [] → starts' ≡ starts ++ t.start ∷ [] → IsFurther text at symbols' starts' t.end
 goes_so text at symbols starts t symbol symbols' starts' so n s e is more ends =
     let lt = moves text at t n s e in
@@ -98,7 +98,7 @@ last_so text at symbols starts l symbols' starts' so h le more ends =
     })
 
 pub ends_so : (text : List ℕ) (at : ℕ) (symbols : List Symbol) (starts : List ℕ) (t : Token) (symbol : Symbol) (symbols' : List Symbol) (starts' : List ℕ) → SoFar text at symbols starts
-    → Next at (drop at text) (lexeme_of t) (drop t.end text) → IsSlice text at t → is_end t.kind ≡ true → symbol ≡ symbol_of (lexeme_of t)
+    → IsNextLexeme at (drop at text) (lexeme_of t) (drop t.end text) → IsSlice text at t → is_end t.kind ≡ true → symbol ≡ symbol_of (lexeme_of t)
     → symbols' ≡ symbols ++ symbol ∷ [] → starts' ≡ starts ++ t.start ∷ [] → AreSymbols text symbols' starts'
 ends_so text at symbols starts t symbol symbols' starts' so n s e is more ends =
     let g = goes_last t.kind _ _ e (gives_token text at t n s) in
@@ -107,7 +107,7 @@ ends_so text at symbols starts t symbol symbols' starts' so n s e is more ends =
     last_so text at symbols starts (lexeme_of t) symbols' starts' so g (omega arith) (more ∙ ap (λ (x : Symbol). symbols ++ x ∷ []) is) ends
 
 pub fault_so : (text : List ℕ) (at : ℕ) (symbols : List Symbol) (starts : List ℕ) (kind : LexKind) (place : ℕ) (symbols' : List Symbol) (starts' : List ℕ) → SoFar text at symbols starts
-    → FaultNext at (drop at text) (fault_at kind place) → place ≤ length text
+    → IsFaultNext at (drop at text) (fault_at kind place) → place ≤ length text
     → symbols' ≡ symbols ++ t.Bad kind ∷ [] → starts' ≡ starts ++ place ∷ [] → AreSymbols text symbols' starts'
 fault_so text at symbols starts kind place symbols' starts' so n le more ends =
     last_so text at symbols starts (fault_at kind place) symbols' starts' so (n.0, n.1, refl) le more ends

@@ -16,7 +16,7 @@ is_escape_sign true b = false
 is_escape_sign false b = b == 92
 
 -- each escape as what it stands for, behind a \ that escapes or not
-abbrev pub unescaped_from : Bool → List ℕ → List ℕ
-unescaped_from true [] = 92 ∷ []
-unescaped_from false [] = []
-unescaped_from escaping (b ∷ bs) = meaning_in_quotes escaping b ++ unescaped_from (is_escape_sign escaping b) bs
+abbrev pub text_in_quotes_from : Bool → List ℕ → List ℕ
+text_in_quotes_from true [] = 92 ∷ []
+text_in_quotes_from false [] = []
+text_in_quotes_from escaping (b ∷ bs) = meaning_in_quotes escaping b ++ text_in_quotes_from (is_escape_sign escaping b) bs

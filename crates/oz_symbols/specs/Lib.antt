@@ -1,3 +1,3 @@
 pub mod Escapes
 pub mod TextSymbols
-pub mod Interned
+pub mod Texts

@@ -7,9 +7,11 @@ use Rattle.oz_lexer.specs.Tokens.{Lexeme, Tokens, TokensFrom}
 use Rattle.oz_grammar.specs.declared.symbol.Symbol.{Symbol}
 use Rattle.oz_grammar.specs.Symbols.{symbol_of}
 
+-- the place where a token begins
 abbrev pub start_of : Lexeme → ℕ
 start_of l = l.start
 
+-- no token follows this one
 abbrev pub is_end : TokenKind → Bool
 is_end End = true
 is_end kind = false

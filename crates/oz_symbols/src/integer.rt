@@ -2,7 +2,7 @@
 
 ghost use Rattle.std.specs.Prelude.{◌≡◌, ◌≤◌, nat_le, if◌then◌else◌, Some, None};
 ghost use Rattle.oz_lexer.specs.Spelling.{digits_of};
-ghost use Rattle.oz_grammar.specs.Symbols.{number_of, is_plain, negative, signed, integer_of};
+ghost use Rattle.oz_grammar.specs.Symbols.{number_of, is_plain, negation, signed_integer, integer_of};
 
 /// The number that digits name, at most 2^63.
 #[tactic(auto, using(crate::proofs::Numbers::too_large))]
@@ -32,9 +32,9 @@ fn is_plain(digits: &[u8]) -> bool
     }
 }
 
-fn negative(value: u64) -> i64
+fn negation(value: u64) -> i64
     requires { value ≤ 9223372036854775808 }
-    ensures { result ≡ negative value }
+    ensures { result ≡ negation value }
 {
     if value == 0 {
         0
@@ -43,12 +43,12 @@ fn negative(value: u64) -> i64
     }
 }
 
-fn signed(is_negative: bool, digits: &[u8]) -> Option<i64>
-    ensures { result ≡ signed is_negative (number_of digits.now) }
+fn signed_integer(is_negative: bool, digits: &[u8]) -> Option<i64>
+    ensures { result ≡ signed_integer is_negative (number_of digits.now) }
 {
     let value = magnitude(digits)?;
     if is_negative {
-        Some(negative(value))
+        Some(negation(value))
     } else if value < 9223372036854775808 {
         Some(value as i64)
     } else {
@@ -63,7 +63,7 @@ pub fn integer_of(text: &[u8]) -> Option<i64>
 {
     let digits = digits_of(text);
     if is_plain(digits) {
-        signed(digits.len() < text.len(), digits)
+        signed_integer(digits.len() < text.len(), digits)
     } else {
         None
     }

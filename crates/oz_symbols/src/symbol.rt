@@ -1,8 +1,8 @@
 //! The symbol of each token.
 
 ghost use Rattle.std.specs.Prelude.{◌≡◌, ◌-◌, ◌++◌, IfOk, OnOk, take, drop, length};
-ghost use Rattle.oz_lexer.specs.Spelling.{unescaped};
-ghost use Rattle.oz_lexer.specs.Lexing.{lexeme_of};
+ghost use Rattle.oz_lexer.specs.Spelling.{text_in_quotes};
+ghost use Rattle.oz_lexer.specs.Lexer.{lexeme_of};
 ghost use Rattle.oz_symbols.specs.Escapes.{meaning_of, meaning_in_quotes, is_escape_sign};
 ghost use Rattle.oz_grammar.specs.Symbols.{word_symbol, sign_symbol, quoted_text, symbol_of};
 
@@ -88,8 +88,8 @@ fn unescape(text: &mut Vec<u8>, escaping: bool, byte: u8) -> Result<bool, AllocE
 }
 
 /// The text that is spelled between quotes.
-fn unescaped(alloc: Global, spelled: &[u8]) -> Result<Vec<u8>, AllocError>
-    ensures { IfOk result (λ v. v.items ≡ unescaped spelled.now) }
+fn text_in_quotes(alloc: Global, spelled: &[u8]) -> Result<Vec<u8>, AllocError>
+    ensures { IfOk result (λ v. v.items ≡ text_in_quotes spelled.now) }
 {
     let mut text = Vec::new(alloc);
     let mut escaping = false;
@@ -109,7 +109,7 @@ fn quoted_text(alloc: Global, bytes: &[u8]) -> Result<Text, AllocError>
 {
     let inner = if bytes.len() < 2 { 0 } else { bytes.len() - 2 };
     let behind = bytes.split_at(bytes.len().min(1)).1;
-    let text = unescaped(alloc, behind.split_at(inner).0)?;
+    let text = text_in_quotes(alloc, behind.split_at(inner).0)?;
     Ok(Text::from_vec(text)?)
 }
 

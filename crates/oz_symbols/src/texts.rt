@@ -16,7 +16,7 @@ pub struct Texts<'t> {
 
 impl<'t> Model for Texts<'t> {
     ghost use Rattle.std.specs.Prelude.{⊤};
-    ghost use Rattle.oz_symbols.specs.Interned.{AreSpelled};
+    ghost use Rattle.oz_symbols.specs.Texts.{AreSpelled};
 
     ghost Value = { ⊤ };
 
@@ -26,7 +26,7 @@ impl<'t> Model for Texts<'t> {
 }
 
 impl<'t> Texts<'t> {
-    /// None so far.
+    /// No texts yet.
     pub fn new(alloc: Global) -> Texts<'t> {
         Texts {
             alloc,

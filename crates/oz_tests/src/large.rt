@@ -25,7 +25,7 @@ local T V in {Exchange E T T} {Browse T} {Exchange C V V} {Browse V} end end
 ";
 
 // What is printed of a size on so many sites, by none and by four workers. The source, whose first call would fail, is not read.
-fn prints<R: Abort + Threads + Wait + Sync>(
+fn expect_output<R: Abort + Threads + Wait + Sync>(
     rt: &R,
     alloc: Global,
     sites: &'static str,
@@ -45,14 +45,14 @@ fn prints<R: Abort + Threads + Wait + Sync>(
 fn a_large_run_prints_the_same_on_all_sites(rt: HostRuntime) -> Result<(), Fail> {
     let alloc = rt.alloc();
     for sites in ["1", "3", "64"] {
-        prints(&rt, alloc, sites, "4", FOUR)?;
+        expect_output(&rt, alloc, sites, "4", FOUR)?;
     }
     Ok(())
 }
 
 #[test]
 fn the_largest_run_prints_its_sums(rt: HostRuntime) -> Result<(), Fail> {
-    prints(&rt, rt.alloc(), "4", "1000", THOUSAND)?;
+    expect_output(&rt, rt.alloc(), "4", "1000", THOUSAND)?;
     Ok(())
 }
 

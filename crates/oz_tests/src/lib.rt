@@ -12,19 +12,19 @@
 #![tactic(auto)]
 
 #[cfg(test)]
-mod examples;
+mod bundles;
 #[cfg(test)]
-mod known;
+mod examples;
 #[cfg(test)]
 mod large;
 #[cfg(test)]
 mod meeting;
 #[cfg(test)]
-mod placed;
-#[cfg(test)]
 mod rows;
 #[cfg(test)]
-mod sited;
+mod site_programs;
+#[cfg(test)]
+mod site_texts;
 #[cfg(test)]
 mod sites;
 #[cfg(test)]

@@ -1,8 +1,8 @@
 //! Texts that run on several sites, and what may be printed of them.
 
-use crate::placed::{CELLS, Placed, RAISED, SENT, SITES, THREADS};
 use crate::rows::COUNTER;
-use crate::sited::{FIRST_LINES, RACE, SITED, THIRD};
+use crate::site_programs::{CELLS, RAISED, SENT, SITES, SiteProgram, THREADS};
+use crate::site_texts::{FIRST_LINES, RACE, SITED, THIRD};
 use crate::texts::{answer, report_of, with_workers};
 use oz_base::{MemSink, MemSource};
 use oz_runner::OpenGate;
@@ -38,7 +38,7 @@ fn print_on_all_sites<R: Abort + Threads + Wait + Sync>(
     rt: &R,
     alloc: Global,
     workers: &'static str,
-    rows: &[Placed],
+    rows: &[SiteProgram],
 ) -> Result<(), AllocError> {
     for row in rows {
         for sites in SITES.as_slice() {

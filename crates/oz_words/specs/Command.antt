@@ -55,6 +55,7 @@ option_rule name parser default = record (new_rule name) {
 abbrev pub number_rule : NumberOption → Rule
 number_rule o = option_rule o.name (numbers_of o) o.default
 
+-- one of these names
 abbrev pub action_values : Bor (List (Bor Text)) → ValueParser
 action_values names = vp.Names names
 
@@ -70,6 +71,7 @@ action_rule names = record (new_rule (codes "action")) {
 abbrev pub IsSize : ℕ → Type 0
 IsSize n = (1 ≤ n) × (n ≤ 1000)
 
+-- the numbers that are sizes
 abbrev pub sizes : ValueParser
 sizes = numbers_from 1 1000
 

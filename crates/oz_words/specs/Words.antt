@@ -5,7 +5,7 @@ use Rattle.std.specs.Str.{bytes_eq}
 use Rattle.std.specs.Str.Parse.{digits_value, without_leading_plus}
 use Rattle.clap.specs.Words.{Row, Text, one_of}
 use Rattle.oz_words.specs.Command.{IsSize, IsWithin, sites_option, workers_option, steps_option, messages_option}
-use Rattle.oz_words.specs.Parsed.{words_fault, words_rows}
+use Rattle.oz_words.specs.Matches.{words_fault, words_rows}
 use Rattle.oz_words.specs.declared.options.Action.{Action}
 use Rattle.oz_words.specs.declared.options.Action.TheVariants.{Run, Central, Gen}
 use Rattle.oz_words.specs.declared.options.ActionName.{ActionName}
@@ -20,6 +20,7 @@ abbrev pub IsNumberText : Option Text → ℕ → Type 0
 IsNumberText None n = ⊥
 IsNumberText (Some text) n = n ≡ digits_value 10 (without_leading_plus text)
 
+-- the word that names an action
 abbrev pub action_name : ActionName → Text
 action_name name.Run = codes "run"
 action_name name.Central = codes "central"
@@ -36,6 +37,7 @@ IsActionText named number Run = named ≡ Some (codes "run")
 IsActionText named number Central = named ≡ Some (codes "central")
 IsActionText named number (Gen size) = (named ≡ Some (codes "gen")) × IsNumberText number size
 
+-- the action's word is `gen`
 abbrev pub is_gen : Option Text → Bool
 is_gen named = option_map_or (λ text. bytes_eq text (codes "gen")) named false
 
@@ -56,13 +58,14 @@ AreTaken words =
     × GoTogether (one_of (codes "action") (words_rows words)) (one_of (codes "number") (words_rows words))
 
 -- the options are the matches
-pub record AreMatches (rows : List Row) (options : Options) : Type 0 where
+pub record AreOptionsOf (rows : List Row) (options : Options) : Type 0 where
   pub sites : IsNumberText (one_of sites_option.name rows) options.sites
   pub workers : IsNumberText (one_of workers_option.name rows) options.workers
   pub steps : IsNumberText (one_of steps_option.name rows) options.steps
   pub messages : IsNumberText (one_of messages_option.name rows) options.messages
   pub action : IsActionText (one_of (codes "action") rows) (one_of (codes "number") rows) options.action
 
+-- a large text is of a size that there is
 abbrev pub IsActionInRange : Action → Type 0
 IsActionInRange (Gen size) = IsSize size
 IsActionInRange action = Unit {0}
@@ -78,6 +81,6 @@ pub record InRange (options : Options) : Type 0 where
 -- `Usage` comes exactly where the words are not taken, and else the options are the command's matches of them.
 -- Want of memory says nothing.
 abbrev pub ReadsWords : List Text → Result Options WordsError → Type 0
-ReadsWords words (Ok options) = AreTaken words × AreMatches (words_rows words) options
+ReadsWords words (Ok options) = AreTaken words × AreOptionsOf (words_rows words) options
 ReadsWords words (Err Usage) = AreTaken words → ⊥
 ReadsWords words (Err Memory) = Unit {0}

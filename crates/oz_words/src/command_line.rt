@@ -3,7 +3,7 @@
 ghost use Rattle.std.specs.Prelude.{◌≡◌, IfOk, false};
 ghost use Rattle.clap.specs.Words.{app_of, rule_of};
 ghost use Rattle.oz_words.specs.Command.{AreActions, bare_app, oz_app, option_rule, action_rule, size_rule, numbers_from};
-ghost use Rattle.oz_words.specs.Parsed.{TakesWordsOfOz};
+ghost use Rattle.oz_words.specs.Matches.{TakesWordsOfOz};
 
 use clap::builder::ValueParser;
 use clap::{Arg, ArgAction, Command, value_parser};
@@ -59,7 +59,7 @@ fn action_names<'a>() -> &'a [&'a str]
 }
 
 // The command without its arguments.
-fn bare<'a>(alloc: Global) -> Command<'a>
+fn bare_command<'a>(alloc: Global) -> Command<'a>
     ensures { app_of result ≡ bare_app }
 {
     Command::new(alloc, "oz")
@@ -85,7 +85,7 @@ pub fn command<'a>(alloc: Global) -> Result<Command<'a>, AllocError>
     ensures words { IfOk result (λ c. TakesWordsOfOz (app_of c)) }
 {
     let names = action_names();
-    bare(alloc)
+    bare_command(alloc)
         .arg(option_of(alloc, "sites", numbers(1, 64), "4"))?
         .arg(option_of(alloc, "workers", numbers(0, 64), "4"))?
         .arg(option_of(alloc, "steps", numbers(1, 1_000_000_000), "1000000"))?

@@ -4,7 +4,7 @@ ghost use Rattle.std.specs.Prelude.{◌≡◌, IfOk, codes, map, string_bytes};
 ghost use Rattle.clap.specs.Words.{found_of, one_text};
 ghost use Rattle.oz_words.specs.Places.{placeless_names};
 ghost use Rattle.oz_words.specs.Command.{NumberOption, IsWithin, action_names, action_values};
-ghost use Rattle.oz_words.specs.Parsed.{HasValue, HasNumber, MayHaveSize, IsParse};
+ghost use Rattle.oz_words.specs.Matches.{HasValue, HasNumber, MayHaveSize, IsParse};
 ghost use Rattle.oz_words.specs.Words.{ReadsWords, InRange, IsActionInRange, IsNumberText, NamesAction, ReadsAction};
 
 use crate::command_line::command;

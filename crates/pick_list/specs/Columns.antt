@@ -31,10 +31,12 @@ abbrev pub fresh_at : List Naming → List Name → ℕ → List Name
 fresh_at [] names k = []
 fresh_at (t ∷ ts) names k = if t.pick == k then drop t.first names else fresh_at ts (take t.first names) k
 
+-- its equation is that of the bind that is of this pick
 abbrev pub bind_at : List Bind → ℕ → Option Equation
 bind_at [] k = None
 bind_at (b ∷ bs) k = if b.pick == k then Some (b.var, b.term) else bind_at bs k
 
+-- the pick itself
 abbrev pub pick_at : Columns → ℕ → Pick
 pick_at c k = record { thread = thread_at c.stretches k; fresh = fresh_at c.namings c.names k; bind = bind_at c.binds k }
 
@@ -60,6 +62,7 @@ abbrev pub AreBinds : ℕ → List Bind → Type 0
 AreBinds n [] = Unit {0}
 AreBinds n (b ∷ bs) = (b.pick < n) × AreBinds b.pick bs
 
+-- the columns of n picks
 pub record AreColumns (n : ℕ) (c : Columns) : Type 0 where
   pub stretches : AreStretches n c.stretches
   pub namings : AreNamings n (length c.names) c.namings
@@ -72,11 +75,13 @@ abbrev pub HasThread : List Stretch → ThreadName → Type 0
 HasThread [] t = ⊥
 HasThread (r ∷ rs) t = r.thread ≡ t
 
+-- the stretches where pick n is of thread t, and the picks before it are of their threads
 pub record IsStretchOn (n : ℕ) (t : ThreadName) (old new : List Stretch) : Type 0 where
   pub last : thread_at new n ≡ t
   pub before : (k : ℕ) → k < n → thread_at new k ≡ thread_at old k
   pub stretches : AreStretches (n + 1) new
 
+-- the namings where pick n takes these names, which stand behind those before, and the picks before it have theirs
 pub record IsNamingOn (n : ℕ) (fresh before : List Name) (old new : List Naming) : Type 0 where
   pub last : fresh_at new (before ++ fresh) n ≡ fresh
   pub others : (k : ℕ) → k < n → fresh_at new (before ++ fresh) k ≡ fresh_at old before k
@@ -84,14 +89,17 @@ pub record IsNamingOn (n : ℕ) (fresh before : List Name) (old new : List Namin
 
 -- ---- all picks but the last one
 
+-- the stretches of the first n picks, by which these are of their threads
 pub record IsStretchBefore (n : ℕ) (old new : List Stretch) : Type 0 where
   pub same : (k : ℕ) → k < n → thread_at new k ≡ thread_at old k
   pub stretches : AreStretches n new
 
+-- the namings of the first n picks, by which these have their names among the fewer ones
 pub record IsNamingBefore (n : ℕ) (names : List Name) (old : List Naming) (fewer : List Name) (new : List Naming) : Type 0 where
   pub same : (k : ℕ) → k < n → fresh_at new fewer k ≡ fresh_at old names k
   pub namings : AreNamings n (length fewer) new
 
+-- the binds of the first n picks, by which these have their equations
 pub record IsBindBefore (n : ℕ) (old new : List Bind) : Type 0 where
   pub same : (k : ℕ) → k < n → bind_at new k ≡ bind_at old k
   pub binds : AreBinds n new

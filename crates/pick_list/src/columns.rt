@@ -64,7 +64,8 @@ fn add_naming(namings: &mut Vec<Naming>, pick: usize, first: usize, fresh: &[Nam
     }
 }
 
-// A pick of this thread with these names behind the others, which may take memory. Most picks do without its code.
+// A pick of this thread with these names behind the others, which may take memory. It is not inlined, so that most picks do
+// without the stack memory that it needs.
 #[inline(never)]
 fn put_apart(
     stretches: &mut Vec<Stretch>,

@@ -7,7 +7,7 @@ use Rattle.kernel_syntax.specs.declared.stmt.Stmt.{Stmt}
 use Rattle.site_message.specs.declared.message.Sent.{Sent}
 use Rattle.site_message.specs.declared.turn.Turn.{Turn}
 use Rattle.site_message.specs.Journal.{Wired, IsTravelling, sent_of, travelling, deliveries, delivery_count}
-use Rattle.site_message.specs.Progress.{WentOn}
+use Rattle.site_message.specs.EarlierEnd.{HasNoEarlierEnd}
 use Rattle.site_message.proofs.JournalLemmas.{travelling_tells}
 use Rattle.site_message.proofs.TravelLemmas.{messages_add_up}
 use Rattle.site_model.specs.Bundle.{bundle_limit}
@@ -21,7 +21,7 @@ use Rattle.world_core.specs.Travels.{IsNumberAt}
 use Rattle.world_core.specs.World.{WorldState, IsWorldTurn, states_of}
 use Rattle.plain_run.specs.declared.out.Limits.{Limits}
 use Rattle.plain_run.specs.Counts.{runnable_count}
-use Rattle.plain_run.specs.Going.{IsGoing, IsMade, IsAtEase, IsBusy, IsProgress, turns_left, limits_of, steps_left}
+use Rattle.plain_run.specs.Progress.{IsGoing, IsLimitedTurn, IsAtEase, IsBusy, IsProgress, turns_left, limits_of, steps_left}
 use Rattle.plain_run.proofs.StepLemmas.{turn_steps, turn_goes_on}
 use Rattle.world_core.proofs.QuietLemmas.{at_contains}
 
@@ -104,7 +104,7 @@ module _ (l : Limits) (p : List Stmt) (old new : WorldState) (site quantum : ℕ
   grown = ap deliveries t.journal
 
   -- each site keeps within its limit of own steps, and is idle where it is there
-  pub made : new.program ≡ old.program → new.sites ≡ old.sites → new.spent ≡ false → IsMade l p old new site
+  pub made : new.program ≡ old.program → new.sites ≡ old.sites → new.spent ≡ false → IsLimitedTurn l p old new site
   made program sites live = record {
     entry = t.entry;
     journal = t.journal;
@@ -117,7 +117,7 @@ module _ (l : Limits) (p : List Stmt) (old new : WorldState) (site quantum : ℕ
     run = run;
     within = λ i. by i (either_site i);
     idle = λ i other full. idle i (t.others i (λ (e : i ≡ site). other (t.site_is ∙ sym e))) full;
-    went = subst (WentOn (limits_of l)) (sym t.journal) (going.went, going.goes_on);
+    went = subst (HasNoEarlierEnd (limits_of l)) (sym t.journal) (going.went, going.goes_on);
   }
     where
       by : (i : ℕ) → (i ≡ site) ⊎ (i ≢ site) → (states_of new i).steps ≤ l.steps

@@ -32,7 +32,7 @@ use Rattle.world_simulation.proofs.SimulationLemmas.{every_run_is_simulated}
 use Rattle.world_core.specs.Travels.{IsNothingFor}
 use Rattle.world_core.proofs.QuietLemmas.{idle_as_told}
 use Rattle.plain_run.specs.declared.out.Limits.{Limits}
-use Rattle.plain_run.specs.Going.{limits_of}
+use Rattle.plain_run.specs.Progress.{limits_of}
 use Rattle.plain_run.proofs.SpawnLemmas.{SpawnsWithin, spawns_within}
 
 -- a site that is none of n stays as it began

@@ -1,4 +1,4 @@
 pub mod Counts
-pub mod Going
+pub mod Progress
 pub mod Simulated
 pub mod Output

@@ -1,7 +1,7 @@
 //! Which site goes next.
 
 ghost use Rattle.std.specs.Prelude.{◌≡◌, ◌+◌, ◌<◌, ◌≤◌, ℕ, false, MatchOption};
-ghost use Rattle.plain_run.specs.Going.{IsAtEase, IsBusy};
+ghost use Rattle.plain_run.specs.Progress.{IsAtEase, IsBusy};
 
 use world_core::World;
 

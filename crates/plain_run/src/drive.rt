@@ -5,9 +5,9 @@ ghost use Rattle.kernel_syntax.specs.declared.stmt.Stmt.{Stmt};
 ghost use Rattle.kernel_syntax.specs.Program.{IsProgram};
 ghost use Rattle.site_message.specs.declared.turn.Turn.{Turn};
 ghost use Rattle.site_message.specs.Journal.{end_of};
-ghost use Rattle.site_message.specs.Progress.{WentOn};
+ghost use Rattle.site_message.specs.EarlierEnd.{HasNoEarlierEnd};
 ghost use Rattle.world_core.specs.World.{WorldState};
-ghost use Rattle.plain_run.specs.Going.{AreLimits, HasReason, IsBusy, IsGoing, IsMade, IsProgress, turns_left, limits_of};
+ghost use Rattle.plain_run.specs.Progress.{AreLimits, HasReason, IsBusy, IsGoing, IsLimitedTurn, IsProgress, turns_left, limits_of};
 
 use crate::busy::next_busy;
 use crate::out::Limits;
@@ -25,7 +25,7 @@ fn take_turn(world: &mut World<'_>, site: u32, limits: Limits) -> Result<bool, A
     requires busy { IsBusy world.old site }
     ensures err { OnErr result (world.new.journal ≡ world.old.journal) }
     ensures same { (world.new.program ≡ world.old.program) × (world.new.sites ≡ world.old.sites) }
-    ensures made { IfOk result (λ _. IsMade limits world.old.program world.old world.new site) }
+    ensures made { IfOk result (λ _. IsLimitedTurn limits world.old.program world.old world.new site) }
     ensures progress { IfOk result (λ progress. IsProgress limits world.old world.new progress) }
 {
     let place = world.next_for(site);
@@ -43,7 +43,7 @@ fn end_after(world: &World<'_>, site: u32, limits: Limits) -> Option<Reason>
     requires live { world.now.spent ≡ false }
     requires some { 1 ≤ site }
     requires among { site ≤ limits.sites }
-    ensures { (old : WorldState) (p : List Stmt) → IsMade limits p old world.now site → result ≡ end_of (limits_of limits) world.now.journal }
+    ensures { (old : WorldState) (p : List Stmt) → IsLimitedTurn limits p old world.now site → result ≡ end_of (limits_of limits) world.now.journal }
 {
     if world.sent() > limits.messages {
         return Some(Reason::Messages);
@@ -67,7 +67,7 @@ fn advance(world: &mut World<'_>, last: u32, limits: Limits) -> Result<u32, Reas
     requires last { last ≤ limits.sites }
     ensures same { (world.new.program ≡ world.old.program) × (world.new.sites ≡ world.old.sites) }
     ensures ended { IfErr result (λ reason. HasReason limits world.new.journal reason) }
-    ensures went { WentOn (limits_of limits) world.new.journal }
+    ensures went { HasNoEarlierEnd (limits_of limits) world.new.journal }
     ensures on { IfOk result (λ site. (site ≤ limits.sites) × IsGoing limits world.old.program world.new × (turns_left limits world.new < turns_left limits world.old)) }
 {
     let mut last = last;
@@ -96,7 +96,7 @@ pub(crate) fn drive(world: &mut World<'_>, limits: Limits) -> Reason
     requires going { IsGoing limits world.old.program world.old }
     ensures same { (world.new.program ≡ world.old.program) × (world.new.sites ≡ world.old.sites) }
     ensures reason { HasReason limits world.new.journal result }
-    ensures went { WentOn (limits_of limits) world.new.journal }
+    ensures went { HasNoEarlierEnd (limits_of limits) world.new.journal }
 {
     let mut last = limits.sites;
     loop {

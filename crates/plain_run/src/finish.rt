@@ -4,13 +4,13 @@ ghost use Rattle.std.specs.Prelude.{◌≡◌, []};
 ghost use Rattle.world_model.specs.Schedule.{schedule, sum_to};
 ghost use Rattle.world_model.specs.Simulated.{last_ended, last_waiting};
 ghost use Rattle.site_message.specs.declared.reason.Reason.TheVariants.{Memory};
-ghost use Rattle.site_message.specs.Progress.{WentOn};
+ghost use Rattle.site_message.specs.EarlierEnd.{HasNoEarlierEnd};
 ghost use Rattle.world_core.specs.Laws.{HasRun, AreMessagesFew};
-ghost use Rattle.plain_run.specs.Going.{AreLimits, HasReason, limits_of};
+ghost use Rattle.plain_run.specs.Progress.{AreLimits, HasReason, limits_of};
 ghost use Rattle.plain_run.specs.Simulated.{HasMachineRun};
 ghost use Rattle.plain_run.specs.Output.{IsOutputOf};
 
-use crate::out::{Driven, Limits, RunOut};
+use crate::out::{DrivenRun, Limits, RunOut};
 use crate::totals::last_totals;
 use kernel_syntax::Program;
 use site_message::{Journal, Reason, Schedule};
@@ -19,18 +19,18 @@ use world_core::schedule;
 
 /// Tells a run of the program on the sites, whatever drove it: the schedule and the totals are made of its journal, once. Where
 /// memory runs out while the schedule is made, schedule and journal are empty.
-pub fn finish_run(alloc: Global, program: &Program, limits: Limits, driven: Driven) -> RunOut
+pub fn finish_run(alloc: Global, program: &Program, limits: Limits, driven: DrivenRun) -> RunOut
     requires limits { AreLimits limits }
     requires run { HasRun program.now limits.sites driven.journal }
     requires reason { HasReason limits driven.journal driven.reason }
-    requires went { WentOn (limits_of limits) driven.journal }
+    requires went { HasNoEarlierEnd (limits_of limits) driven.journal }
     ensures told { IsOutputOf driven result }
     ensures run { HasRun program.now limits.sites result.journal }
     ensures simulated { HasMachineRun program.now limits.sites result.journal }
     ensures few { AreMessagesFew program.now limits.sites result.journal }
     ensures schedule { result.schedule ≡ schedule result.journal }
     ensures reason { HasReason limits result.journal result.reason }
-    ensures went { WentOn (limits_of limits) result.journal }
+    ensures went { HasNoEarlierEnd (limits_of limits) result.journal }
     ensures ended { result.ended ≡ sum_to limits.sites (last_ended result.journal) }
     ensures waiting { result.waiting ≡ sum_to limits.sites (last_waiting result.journal) }
 {

@@ -6,10 +6,10 @@
 //! lets a thread wait. Its journal is one of a run of the program on the sites (`HasRun`), the picks of which lead the
 //! centralised machine to a state that the sites match (`HasMachineRun`); where nothing travels and every site is idle the
 //! machine rests there. `schedule` has these picks in order; the reason is how the journal ends (`HasReason`, by `end_of` of
-//! `site_message`), or that memory ran out where it goes on; no turn before the last had ended it (`WentOn`); `ended` and `waiting`
-//! are the sums of what the sites told last; and no more messages were sent than the picks allow (`AreMessagesFew`). `finish_run`
-//! tells all of this of the journal and the reason that it is given, unless memory ran out (`IsOutputOf`), whatever drove the run:
-//! workers end by it, too.
+//! `site_message`), or that memory ran out where it goes on; no turn before the last had ended it (`HasNoEarlierEnd`); `ended` and
+//! `waiting` are the sums of what the sites told last; and no more messages were sent than the picks allow (`AreMessagesFew`).
+//! `finish_run` tells all of this of the journal and the reason that it is given, unless memory ran out (`IsOutputOf`), whatever
+//! drove the run: workers end by it, too.
 //!
 //! The order: sites 1 to the last in rounds, each taking its message with the lowest number and then its threads, first come
 //! first served, for at most 64 units and never past its limit of own steps. A site that has no message and is idle is left out.
@@ -33,5 +33,5 @@ mod run;
 mod totals;
 
 pub use finish::finish_run;
-pub use out::{Driven, Limits, RunOut};
+pub use out::{DrivenRun, Limits, RunOut};
 pub use run::run_plain;

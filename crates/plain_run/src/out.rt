@@ -13,7 +13,7 @@ pub struct Limits {
 
 /// What the driver of a run leaves: the turns that were made, and why no more were.
 #[derive(Drop)]
-pub struct Driven {
+pub struct DrivenRun {
     pub journal: Journal,
     pub reason: Reason,
 }

@@ -3,14 +3,14 @@
 ghost use Rattle.std.specs.Prelude.{◌≡◌};
 ghost use Rattle.world_model.specs.Schedule.{schedule, sum_to};
 ghost use Rattle.world_model.specs.Simulated.{last_ended, last_waiting};
-ghost use Rattle.site_message.specs.Progress.{WentOn};
+ghost use Rattle.site_message.specs.EarlierEnd.{HasNoEarlierEnd};
 ghost use Rattle.world_core.specs.Laws.{HasRun, AreMessagesFew};
-ghost use Rattle.plain_run.specs.Going.{AreLimits, HasReason, limits_of};
+ghost use Rattle.plain_run.specs.Progress.{AreLimits, HasReason, limits_of};
 ghost use Rattle.plain_run.specs.Simulated.{HasMachineRun};
 
 use crate::drive::drive;
 use crate::finish::finish_run;
-use crate::out::{Driven, Limits, RunOut};
+use crate::out::{DrivenRun, Limits, RunOut};
 use kernel_syntax::Program;
 use site_message::{Journal, Reason};
 use std::alloc::Global;
@@ -28,7 +28,7 @@ pub fn run_plain(alloc: Global, program: &Program, limits: Limits) -> RunOut
     ensures few { AreMessagesFew program.now limits.sites result.journal }
     ensures schedule { result.schedule ≡ schedule result.journal }
     ensures reason { HasReason limits result.journal result.reason }
-    ensures went { WentOn (limits_of limits) result.journal }
+    ensures went { HasNoEarlierEnd (limits_of limits) result.journal }
     ensures ended { result.ended ≡ sum_to limits.sites (last_ended result.journal) }
     ensures waiting { result.waiting ≡ sum_to limits.sites (last_waiting result.journal) }
 {
@@ -36,22 +36,22 @@ pub fn run_plain(alloc: Global, program: &Program, limits: Limits) -> RunOut
 }
 
 // The turns of the run, and how it ended.
-fn run_world(alloc: Global, program: &Program, limits: Limits) -> Driven
+fn run_world(alloc: Global, program: &Program, limits: Limits) -> DrivenRun
     requires { AreLimits limits }
     ensures run { HasRun program.now limits.sites result.journal }
     ensures reason { HasReason limits result.journal result.reason }
-    ensures went { WentOn (limits_of limits) result.journal }
+    ensures went { HasNoEarlierEnd (limits_of limits) result.journal }
 {
     program.is_program();
     match World::new(alloc, program, limits.sites) {
         Ok(mut world) => {
             let reason = drive(&mut world, limits);
-            Driven {
+            DrivenRun {
                 journal: world.into_journal(),
                 reason,
             }
         }
-        Err(_) => Driven {
+        Err(_) => DrivenRun {
             journal: Journal::new(alloc),
             reason: Reason::Memory,
         },

@@ -7,6 +7,7 @@ use Rattle.tree_node.specs.declared.names.VarName.{VarName}
 use Rattle.tree_node.specs.declared.node.Term.{Term}
 use Rattle.tree_node.specs.Store.{equal_var}
 
+-- a name owned elsewhere, with the term that it is known to be bound to, if any
 abbrev pub Proxy : Type 0
 Proxy = VarName × Option Term
 
@@ -14,6 +15,7 @@ Proxy = VarName × Option Term
 abbrev pub entry_of : List Proxy → VarName → Option (Option Term)
 entry_of es x = lookup (equal_var x) es
 
+-- the site met the name
 abbrev pub IsMet : List Proxy → VarName → Type 0
 IsMet es x = IsTrue (is_some (entry_of es x))
 

@@ -61,7 +61,8 @@ impl Cells {
         self.managers.reserve(1)?;
         self.records.reserve(1)?;
         self.managers.insert(cell, self.site)?;
-        self.records.insert(cell, Place::made(self.alloc, content))?;
+        self.records
+            .insert(cell, Place::new_here(self.alloc, content))?;
         Ok(())
     }
 

@@ -8,8 +8,8 @@
 //! `get_row`, `forward` is `forward_row`; a Put is `arrive`, an `exchange` for each thread that it hands out, and `leave`,
 //! together `put_row`. `takes` tells which messages can be taken, `is_here` where the token is. After want of memory a
 //! call has changed nothing. What is sent here carries no equations, so the limit in these rows is 0: each message gets its
-//! bundle when the row or the unit that sends it is done. The functions of `laws` say that the tests are those of the definitions of a site, and how
-//! the exchanges of a Put follow each other.
+//! bundle when the row or the unit that sends it is done. The functions of `laws` say that the tests are those of the definitions
+//! of a site, and how the exchanges of a Put follow each other.
 //!
 //! It stands on `token_chain` (a site's part of a cell), `site_message` (messages, outbox), `site_model` (the definitions)
 //! and `indexmap`. That calls go well where there is memory, tests of programs alone show (`oz_tests`).

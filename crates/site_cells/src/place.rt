@@ -14,13 +14,13 @@ use std::mem;
 use token_chain::CellSite;
 use tree_node::{CellName, Seq, ThreadName, VarName};
 
-// Threads in the order in which they asked.
+/// Threads in the order in which they asked.
 pub type Queue = Seq<ThreadName>;
 
 // So many threads never wait, as each takes 16 bytes. Then memory has run out.
 const MOST_WAITING: u64 = 1 << 59;
 
-// A site's part of a cell, and its threads that wait for the token.
+/// A site's part of a cell, and its threads that wait for the token.
 #[derive(Drop)]
 pub struct Place {
     held: CellSite,
@@ -63,7 +63,7 @@ fn serve_all(held: &mut CellSite, content: VarName, threads: usize)
 }
 
 impl Place {
-    // The site has nothing to do with the cell.
+    /// The site has nothing to do with the cell.
     pub fn unused(alloc: Global) -> Place
         ensures { result ≡ unused_cell }
     {
@@ -73,8 +73,8 @@ impl Place {
         }
     }
 
-    // The site made the cell, with this content.
-    pub fn made(alloc: Global, content: VarName) -> Place
+    /// The site made the cell, with this content.
+    pub fn new_here(alloc: Global, content: VarName) -> Place
         ensures { result ≡ record { held = here_with content; queue = [] } }
     {
         Place {
@@ -83,14 +83,14 @@ impl Place {
         }
     }
 
-    // Whether the token is here.
+    /// Whether the token is here.
     pub fn is_here(&self) -> bool
         ensures { IsTrue result ↔ IsHere self.now.held.token }
     {
         self.held.state().here
     }
 
-    // Whether the token was asked for.
+    /// Whether the token was asked for.
     pub fn is_asked(&self) -> bool
         ensures asked { IsTrue result ↔ (self.now.held.token ≡ Asked) }
         ensures unused { self.now.held.token ≡ Away → self.now ≡ unused_cell }
@@ -98,7 +98,7 @@ impl Place {
         self.held.state().asked
     }
 
-    // Whether the site can be told its successor.
+    /// Whether the site can be told its successor.
     pub fn can_follow(&self) -> bool
         ensures { IsTrue result ↔ CanFollow self.now.held }
     {
@@ -106,7 +106,7 @@ impl Place {
         state.next.is_none() && (state.here || state.asked)
     }
 
-    // A thread exchanges the content of the token.
+    /// A thread exchanges the content of the token.
     pub fn exchange(&mut self, new: VarName) -> VarName
         requires { IsHere self.old.held.token }
         ensures old { self.old.held.token ≡ Here result }
@@ -116,7 +116,7 @@ impl Place {
         self.held.swap(new)
     }
 
-    // A thread waits behind the others.
+    /// A thread waits behind the others.
     pub fn wait(&mut self, thread: ThreadName) -> Result<(), AllocError>
         ensures ok { OnOk result (self.new ≡ record { held = with_waiter self.old.held; queue = self.old.queue ++ thread ∷ [] }) }
         ensures err { OnErr result (self.new ≡ self.old) }
@@ -129,7 +129,7 @@ impl Place {
         Ok(())
     }
 
-    // The token comes, and all that waited for it are handed out.
+    /// The token comes, and all that waited for it are handed out.
     pub fn arrive(&mut self, alloc: Global, content: VarName) -> Queue
         requires { self.old.held.token ≡ Asked }
         ensures queue { result ≡ self.old.queue }
@@ -140,7 +140,7 @@ impl Place {
         mem::replace(&mut self.queue, Seq::new(alloc))
     }
 
-    // The site is told its successor, and the token goes there where it may.
+    /// The site is told its successor, and the token goes there where it may.
     pub fn follow(
         &mut self,
         cell: CellName,
@@ -163,7 +163,7 @@ impl Place {
         Ok(())
     }
 
-    // The site that asked last is told its successor, by a message unless it is this one.
+    /// The site that asked last is told its successor, by a message unless it is this one.
     pub fn hand_on(
         &mut self,
         cell: CellName,
@@ -186,7 +186,7 @@ impl Place {
         Ok(())
     }
 
-    // The token goes to the successor where it may.
+    /// The token goes to the successor where it may.
     pub fn leave(&mut self, cell: CellName, outbox: &mut Outbox) -> Result<(), AllocError>
         ensures held { OnOk result (self.new ≡ record self.old { held = (leave_reply self.old.held).held }) }
         ensures sent { OnOk result (outbox.new ≡ outbox.old ++ map (sent_as cell) (leave_reply self.old.held).sent) }

@@ -16,15 +16,15 @@ use site_message::Outbox;
 use std::alloc::{AllocError, Global};
 use tree_node::{CellName, ThreadName, VarName};
 
-// The last asker of each cell made here.
+/// The last asker of each cell made here.
 pub type Managers = IndexMap<CellName, u32>;
 
-// What is kept of each cell used here.
+/// What is kept of each cell used here.
 pub type Records = IndexMap<CellName, Place>;
 
 // ---- look-ups
 
-// The site that asked last for a cell. Of one that nobody asked for it is the cell's own.
+/// The site that asked last for a cell. Of one that nobody asked for it is the cell's own.
 pub fn last_asker(managers: &Managers, cell: CellName) -> u32
     ensures { result ≡ unwrap_or (lookup (equal_cell cell) managers.now.entries) cell.site }
 {
@@ -34,7 +34,7 @@ pub fn last_asker(managers: &Managers, cell: CellName) -> u32
     }
 }
 
-// Whether the token is here.
+/// Whether the token is here.
 pub fn is_here(records: &Records, cell: CellName) -> bool
     ensures { IsTrue result ↔ IsHere (cell_record_in records.now.entries cell).held.token }
 {
@@ -44,7 +44,7 @@ pub fn is_here(records: &Records, cell: CellName) -> bool
     }
 }
 
-// Whether the token was asked for.
+/// Whether the token was asked for.
 pub fn is_asked(records: &Records, cell: CellName) -> bool
     ensures asked { IsTrue result ↔ ((cell_record_in records.now.entries cell).held.token ≡ Asked) }
     ensures unused { (cell_record_in records.now.entries cell).held.token ≡ Away → cell_record_in records.now.entries cell ≡ unused_cell }
@@ -55,7 +55,7 @@ pub fn is_asked(records: &Records, cell: CellName) -> bool
     }
 }
 
-// Whether the site can be told its successor.
+/// Whether the site can be told its successor.
 pub fn can_follow(records: &Records, cell: CellName) -> bool
     ensures { IsTrue result ↔ CanFollow (cell_record_in records.now.entries cell).held }
 {
@@ -67,7 +67,7 @@ pub fn can_follow(records: &Records, cell: CellName) -> bool
 
 // ---- changes
 
-// A thread exchanges the content of the token.
+/// A thread exchanges the content of the token.
 pub fn exchange(records: &mut Records, cell: CellName, new: VarName) -> VarName
     requires { IsHere (cell_record_in records.old.entries cell).held.token }
     ensures old { (cell_record_in records.old.entries cell).held.token ≡ Here result }
@@ -79,7 +79,7 @@ pub fn exchange(records: &mut Records, cell: CellName, new: VarName) -> VarName
     }
 }
 
-// A thread waits behind the others for a token that was asked for.
+/// A thread waits behind the others for a token that was asked for.
 pub fn wait(records: &mut Records, cell: CellName, thread: ThreadName) -> Result<(), AllocError>
     requires { (cell_record_in records.old.entries cell).held.token ≡ Asked }
     ensures ok { OnOk result (records.new.entries ≡ with_record cell (record { held = with_waiter (cell_record_in records.old.entries cell).held; queue = (cell_record_in records.old.entries cell).queue ++ thread ∷ [] }) records.old.entries) }
@@ -91,7 +91,7 @@ pub fn wait(records: &mut Records, cell: CellName, thread: ThreadName) -> Result
     }
 }
 
-// The token comes, and all that waited for it are handed out.
+/// The token comes, and all that waited for it are handed out.
 pub fn arrive(records: &mut Records, alloc: Global, cell: CellName, content: VarName) -> Queue
     requires { (cell_record_in records.old.entries cell).held.token ≡ Asked }
     ensures queue { result ≡ (cell_record_in records.old.entries cell).queue }
@@ -103,7 +103,7 @@ pub fn arrive(records: &mut Records, alloc: Global, cell: CellName, content: Var
     }
 }
 
-// The site is told its successor, and the token goes there where it may.
+/// The site is told its successor, and the token goes there where it may.
 pub fn follow(
     records: &mut Records,
     cell: CellName,
@@ -122,7 +122,7 @@ pub fn follow(
     }
 }
 
-// The token goes to the successor where it may.
+/// The token goes to the successor where it may.
 pub fn leave(records: &mut Records, cell: CellName, outbox: &mut Outbox) -> Result<(), AllocError>
     requires { IsHere (cell_record_in records.old.entries cell).held.token }
     ensures records { OnOk result (records.new.entries ≡ with_record cell (record_after (cell_record_in records.old.entries cell).queue (leave_reply (cell_record_in records.old.entries cell).held)) records.old.entries) }
@@ -136,7 +136,7 @@ pub fn leave(records: &mut Records, cell: CellName, outbox: &mut Outbox) -> Resu
     }
 }
 
-// The site that asked last is told its successor, by a message unless it is this one.
+/// The site that asked last is told its successor, by a message unless it is this one.
 pub fn hand_on(
     records: &mut Records,
     site: u32,

@@ -33,7 +33,7 @@ use Rattle.site_variables.specs.Variables.{IsGrown, stacks_of}
 use Rattle.site_units.specs.declared.data.Core.{Core}
 use Rattle.site_units.specs.declared.data.Output.{Output}
 use Rattle.site_units.specs.Core.{site_of, stack_in, counters_of}
-use Rattle.site_units.specs.Facts.{IsConsistent}
+use Rattle.site_units.specs.Invariant.{IsConsistent}
 use Rattle.site_units.specs.Turns.{IsRowMade}
 use Rattle.site_units.proofs.ThreadLemmas.{Living}
 use Rattle.site_core.specs.Turns.{CanDeliver}

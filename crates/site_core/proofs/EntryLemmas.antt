@@ -13,7 +13,7 @@ use Rattle.site_model.specs.Turn.{IsFullTurn}
 use Rattle.site_units.specs.declared.data.Core.{Core}
 use Rattle.site_units.specs.declared.data.Output.{Output}
 use Rattle.site_units.specs.Core.{site_of}
-use Rattle.site_core.specs.Seated.{IsTurnMade, message_in, number_in}
+use Rattle.site_core.specs.Site.{IsTurnMade, message_in, number_in}
 use Rattle.site_core.specs.Turns.{IsFullTurnMade}
 use Rattle.site_core.proofs.NumberLemmas.{turn_number}
 

@@ -4,7 +4,7 @@ use Rattle.std.specs.Prelude.{◌↔◌, IsTrue, ◌==◌}
 use Rattle.std.proofs.lemmas.Bool.Decides.{nat_tests}
 use Rattle.thread_machine.specs.Running.{Running}
 use Rattle.thread_roster.specs.Threads.{Entry, AllWait, waiting_of, is_waiting}
-use Rattle.thread_roster.proofs.RouseLemmas.{all_wait}
+use Rattle.thread_roster.proofs.WakeLemmas.{all_wait}
 use Rattle.site_model.specs.Site.{is_idle}
 use Rattle.site_variables.specs.Variables.{stacks_of}
 use Rattle.site_units.specs.declared.data.Core.{Core}

@@ -26,7 +26,7 @@ use Rattle.site_model.specs.Cells.{serving, after_exchange, after_exchange_as, c
 use Rattle.site_model.specs.Messages.{with_thread, message_row, bind_request_as, reception}
 use Rattle.site_model.specs.Unit.{next_names, with_fresh_names, placement, birth_row, after_cell, after_effect, step_row, step_pick, effect_here, thread_step, fresh_names, bind_attempt, IsStepOrRequest, IsUnitFor, IsUnit}
 use Rattle.site_model.specs.Turn.{IsReception, AreUnits, IsFullTurn}
-use Rattle.site_model.proofs.StillLemmas.{meets_site, makes_site}
+use Rattle.site_model.proofs.FrameLemmas.{meets_site, makes_site}
 
 abbrev number_of : Site → ℕ
 number_of s = s.records.site

@@ -26,7 +26,7 @@ use Rattle.site_cells.specs.Tables.{CellTables}
 use Rattle.site_variables.specs.Variables.{stacks_of}
 use Rattle.site_units.specs.declared.data.Core.{Core}
 use Rattle.site_units.specs.Core.{site_of, stack_in, counters_of}
-use Rattle.site_units.specs.Facts.{ThreadFits, CellsFit, IsConsistent}
+use Rattle.site_units.specs.Invariant.{ThreadFits, CellsFit, IsConsistent}
 use Rattle.site_units.proofs.SiteLemmas.{same_site}
 use Rattle.site_core.specs.Start.{IsBare, first_code, first_running, first_living}
 

@@ -13,8 +13,8 @@ use Rattle.site_model.specs.Turn.{AreUnits}
 use Rattle.site_units.specs.declared.data.Core.{Core}
 use Rattle.site_units.specs.declared.data.Output.{Output}
 use Rattle.site_units.specs.Core.{site_of}
-use Rattle.site_units.specs.Facts.{IsConsistent}
-use Rattle.site_units.specs.Units.{IsReached}
+use Rattle.site_units.specs.Invariant.{IsConsistent}
+use Rattle.site_units.specs.Units.{IsTransitionMade}
 use Rattle.site_units.specs.Turns.{IsRowMade, AreUnitsMade}
 use Rattle.site_units.proofs.TurnLemmas.{reached_more, reached_nothing}
 use Rattle.site_core.specs.Turns.{IsReceived, IsFullTurnMade}
@@ -27,7 +27,7 @@ fit_received p m c0 c1 c2 o0 o1 o2 fit opened row = (
   reception p bundle_limit m (site_of c0),
   inl (fit, refl),
   reached_more p (opening m (site_of c0)) (message_row p bundle_limit m (opening m (site_of c0)).site) c0 c1 c2 o0 o1 o2 opened
-      (subst (λ (s : Site). IsReached p (message_row p bundle_limit m s) c1 o1 c2 o2) opened.site row),
+      (subst (λ (s : Site). IsTransitionMade p (message_row p bundle_limit m s) c1 o1 c2 o2) opened.site row),
 )
 
 -- one that is not changes nothing

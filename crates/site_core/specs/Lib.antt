@@ -1,6 +1,6 @@
 pub mod Fitting
 pub mod Turns
 pub mod Start
-pub mod Spent
-pub mod Seated
-pub mod Lent
+pub mod Invariant
+pub mod Site
+pub mod Seat

@@ -21,7 +21,7 @@ use Rattle.site_model.specs.Turn.{IsReception, IsFullTurn}
 use Rattle.site_units.specs.declared.data.Core.{Core}
 use Rattle.site_units.specs.declared.data.Output.{Output}
 use Rattle.site_units.specs.Core.{site_of}
-use Rattle.site_units.specs.Units.{IsReached}
+use Rattle.site_units.specs.Units.{IsTransitionMade}
 
 -- ---- messages
 
@@ -48,11 +48,11 @@ CanDeliver p c (msg.Put cell v bundle) = IsReceivable c.cells (msg.Put cell v bu
 -- the data and the output came by the message: by its row where it is fit, and nothing changed where it is not
 abbrev pub IsReceived : List Stmt → Option Msg → Core → Output → Core → Output → Type 0
 IsReceived p m c0 o0 c1 o1 =
-    (d : Transition) × IsReception p c0.sites bundle_limit m (site_of c0) d × IsReached p d c0 o0 c1 o1
+    (d : Transition) × IsReception p c0.sites bundle_limit m (site_of c0) d × IsTransitionMade p d c0 o0 c1 o1
 
 -- ---- turns
 
 -- the data and the output came by a full turn
 abbrev pub IsFullTurnMade : List Stmt → ℕ → Option Msg → Core → Output → Core → Output → Type 0
 IsFullTurnMade p quantum m c0 o0 c1 o1 =
-    (d : Transition) × IsFullTurn p c0.sites bundle_limit quantum (site_of c0) m d × IsReached p d c0 o0 c1 o1
+    (d : Transition) × IsFullTurn p c0.sites bundle_limit quantum (site_of c0) m d × IsTransitionMade p d c0 o0 c1 o1

@@ -2,7 +2,7 @@
 
 ghost use Rattle.std.specs.Prelude.{◌≡◌, ◌<◌, ◌^◌, OnOk};
 ghost use Rattle.site_model.specs.Messages.{message_row};
-ghost use Rattle.site_units.specs.Facts.{IsConsistent};
+ghost use Rattle.site_units.specs.Invariant.{IsConsistent};
 ghost use Rattle.site_units.specs.Turns.{IsRowMade};
 ghost use Rattle.site_core.specs.Turns.{CanDeliver};
 

@@ -2,8 +2,8 @@
 
 ghost use Rattle.std.specs.Prelude.{◌≡◌, ◌+◌, ◌≤◌, ◌^◌, IfOk, OnOk};
 ghost use Rattle.site_units.specs.Core.{site_of};
-ghost use Rattle.site_units.specs.Facts.{IsConsistent};
-ghost use Rattle.site_core.specs.Seated.{IsTurnMade, message_in, number_in};
+ghost use Rattle.site_units.specs.Invariant.{IsConsistent};
+ghost use Rattle.site_core.specs.Site.{IsTurnMade, message_in, number_in};
 
 use crate::turn::turn;
 use kernel_syntax::Program;
@@ -49,7 +49,7 @@ pub fn recorded_turn(
         picks,
         sent: output.sent.into_list(),
         lines: Lines::from_vec(output.lines),
-        idle: core.threads.idle(),
+        idle: core.threads.is_idle(),
         ended: core.threads.ended() as u64,
         waiting: core.threads.waiting() as u64,
         steps: core.steps,

@@ -7,7 +7,7 @@ ghost use Rattle.name_supply.specs.Supply.{site_in as site_among};
 ghost use Rattle.site_model.specs.Fit.{IsFit, CanTake, CodesFit};
 ghost use Rattle.site_variables.specs.Fit.{IsBoundOf};
 ghost use Rattle.site_units.specs.Core.{site_of};
-ghost use Rattle.site_units.specs.Facts.{IsConsistent};
+ghost use Rattle.site_units.specs.Invariant.{IsConsistent};
 ghost use Rattle.site_core.specs.Fitting.{IsEquationFit, PartsFit};
 
 use kernel_syntax::Program;
@@ -74,7 +74,7 @@ fn can_take(core: &Core, msg: &Msg) -> bool
 {
     tables_take_as_sites();
     match msg {
-        Msg::Spawn { thread, .. } => !core.threads.lives(*thread),
+        Msg::Spawn { thread, .. } => !core.threads.contains(*thread),
         Msg::Get { .. } | Msg::Forward { .. } | Msg::Put { .. } => core.cells.takes(msg),
         Msg::Register { .. } | Msg::BindReq { .. } | Msg::Binding { .. } => {
             core.variables.can_take(msg)

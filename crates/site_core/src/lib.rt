@@ -2,7 +2,7 @@
 //!
 //! For: whoever drives the sites of a program, in one process or in many. A `Site` carries a seat of its driver's.
 //!
-//! It promises, of a site that contracts see as its plain state (`Seated`): `Site::new` begins as the definitions say
+//! It promises, of a site that contracts see as its plain state (`SiteState`): `Site::new` begins as the definitions say
 //! (`initial_site`); `turn` is a full turn of the definitions, and its entry records it (`IsTurnMade`): the message, which
 //! changes nothing where it is not fit, and then as many units as the quantum, fewer only where no thread can go on; each
 //! message that it sends has the first 256 equations known there that are reached from its variables (`bundle_limit`). `idle`

@@ -1,7 +1,7 @@
 //! Messages that come.
 
 ghost use Rattle.std.specs.Prelude.{◌≡◌, ◌<◌, ◌^◌, OnOk, Some};
-ghost use Rattle.site_units.specs.Facts.{IsConsistent};
+ghost use Rattle.site_units.specs.Invariant.{IsConsistent};
 ghost use Rattle.site_core.specs.Turns.{IsReceived};
 
 use crate::deliver::deliver;

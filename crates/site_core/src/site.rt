@@ -4,8 +4,8 @@ ghost use Rattle.std.specs.Prelude.{◌≡◌, ◌≤◌, ◌+◌, ◌^◌, IfOk
 ghost use Rattle.std.specs.Borrow.{sem};
 ghost use Rattle.site_model.specs.Site.{initial_site, is_idle};
 ghost use Rattle.site_units.specs.Core.{site_of};
-ghost use Rattle.site_core.specs.Lent.{LendsSeat};
-ghost use Rattle.site_core.specs.Seated.{IsTurnMade};
+ghost use Rattle.site_core.specs.Seat.{LendsSeat};
+ghost use Rattle.site_core.specs.Site.{IsTurnMade};
 
 use crate::entry::recorded_turn;
 use crate::start::{bare_core, first_core};
@@ -26,12 +26,12 @@ pub struct Site<'a, O> {
 }
 
 impl<'a, O> Model for Site<'a, O> {
-    ghost use Rattle.site_core.specs.Seated.{Seated};
+    ghost use Rattle.site_core.specs.Site.{SiteState};
 
-    ghost Value = { Seated O };
+    ghost Value = { SiteState O };
 
     ghost use Rattle.site_units.specs.Core.{site_of};
-    ghost use Rattle.site_core.specs.Spent.{IsConsistentUnlessSpent};
+    ghost use Rattle.site_core.specs.Invariant.{IsConsistentUnlessSpent};
 
     ghost view = { λ s. record { program = s.program.now; sites = s.core.sites; state = site_of s.core; spent = s.spent; seat = s.seat } };
 
@@ -108,7 +108,7 @@ impl<'a, O: Outside> Site<'a, O> {
     pub fn idle(&self) -> bool
         ensures { result ≡ is_idle self.now.state }
     {
-        self.core.threads.idle()
+        self.core.threads.is_idle()
     }
 
     /// How many own steps the site has made.

@@ -3,7 +3,7 @@
 ghost use Rattle.std.specs.Prelude.{◌≡◌, ◌≤◌, IfOk};
 ghost use Rattle.site_model.specs.Site.{initial_site};
 ghost use Rattle.site_units.specs.Core.{site_of};
-ghost use Rattle.site_units.specs.Facts.{IsConsistent};
+ghost use Rattle.site_units.specs.Invariant.{IsConsistent};
 ghost use Rattle.site_core.specs.Start.{IsBare, first_living};
 
 use kernel_syntax::Program;

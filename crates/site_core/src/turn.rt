@@ -1,7 +1,7 @@
 //! Turns.
 
 ghost use Rattle.std.specs.Prelude.{◌+◌, ◌≤◌, ◌^◌, OnOk};
-ghost use Rattle.site_units.specs.Facts.{IsConsistent};
+ghost use Rattle.site_units.specs.Invariant.{IsConsistent};
 ghost use Rattle.site_core.specs.Turns.{IsFullTurnMade};
 
 use crate::receive::receive;

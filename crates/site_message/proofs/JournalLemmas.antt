@@ -8,7 +8,7 @@ use Rattle.tree_node.proofs.ClassLemmas.{Contains-head, Contains-tail, Contains-
 use Rattle.site_message.specs.declared.message.Sent.{Sent}
 use Rattle.site_message.specs.declared.turn.Turn.{Turn}
 use Rattle.site_message.specs.Journal.{Wired, IsTravelling, sent_of, travelling, was_delivered, is_number, is_idle, are_idle, is_empty}
-use Rattle.site_message.specs.Rows.{TravellingTells, WiredTells, IsAlone, QuietTells}
+use Rattle.site_message.specs.Laws.{TravellingTells, WiredTells, IsAlone, QuietTells}
 use Rattle.tree_node.proofs.OrderLemmas.{none}
 
 -- a filter keeps what passes

@@ -8,7 +8,7 @@ use Rattle.tree_node.proofs.ClassLemmas.{Contains-cons_cases}
 use Rattle.site_message.specs.declared.message.Sent.{Sent}
 use Rattle.site_message.specs.declared.turn.Turn.{Turn}
 use Rattle.site_message.specs.Journal.{Wired, sent_of, travelling, was_delivered, is_number, without_number, deliveries, delivery_count}
-use Rattle.site_message.specs.Rows.{IsAscending, TravellingGrows, TravellingAscends, MessagesAddUp, FewAreDelivered}
+use Rattle.site_message.specs.Laws.{IsAscending, TravellingGrows, TravellingAscends, MessagesAddUp, FewAreDelivered}
 use Rattle.site_message.specs.Story.{own}
 use Rattle.site_message.proofs.JournalLemmas.{travelling_tells}
 use Rattle.tree_node.proofs.OrderLemmas.{none}

@@ -1,8 +1,8 @@
 pub mod SharedSeq
 pub mod Schedule
 pub mod Journal
-pub mod Progress
+pub mod EarlierEnd
 pub mod Wire
 pub mod Story
-pub mod Rows
+pub mod Laws
 pub mod Vars

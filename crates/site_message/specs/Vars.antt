@@ -7,6 +7,7 @@ use Rattle.tree_node.specs.declared.node.Node.TheVariants as node
 use Rattle.tree_node.specs.declared.node.Term.{Term}
 use Rattle.tree_node.specs.declared.node.Term.TheVariants as term
 
+-- the variables in the fields of a record
 abbrev pub field_vars : List (Feature × VarName) → List VarName
 field_vars fields = map (λ (f : Feature × VarName). f.1) fields
 

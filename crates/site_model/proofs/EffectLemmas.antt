@@ -22,7 +22,7 @@ use Rattle.oz_model.specs.declared.outcome.SystemException.TheVariants.{FailureT
 use Rattle.oz_model.specs.declared.outcome.Outcome.{Outcome}
 use Rattle.oz_model.specs.declared.outcome.Outcome.TheVariants as outcome
 use Rattle.oz_model.specs.Outcome.{outcome_of, print_outcome}
-use Rattle.oz_model.specs.Need.{Waits, Takes, outcome_need, pair_need, goal_need, stack_need, variables}
+use Rattle.oz_model.specs.Need.{Waits, Takes, outcome_need, pair_need, goal_need, stack_need, variable_kinds}
 use Rattle.oz_model.specs.Need as need
 use Rattle.oz_model.specs.Effect.{Effect, Stays, stack_effect, outcome_effect, goal_effect, pair_effect, exception_effect, vars_among}
 use Rattle.oz_model.specs.Step.{kind_of}
@@ -41,7 +41,7 @@ only_var (name.Thread c) e = cc
 pair_is : (a x : Name) (v u : VarName) → a ≡ name.Var v → x ≡ name.Var u → a ∷ x ∷ [] ≡ name.Var v ∷ name.Var u ∷ []
 pair_is a x v u p q = rw (p, q) refl
 
-two_vars : (fresh : List Name) → map kind_of fresh ≡ variables 2 → (a : VarName) × (x : VarName) × (fresh ≡ name.Var a ∷ name.Var x ∷ [])
+two_vars : (fresh : List Name) → map kind_of fresh ≡ variable_kinds 2 → (a : VarName) × (x : VarName) × (fresh ≡ name.Var a ∷ name.Var x ∷ [])
 two_vars [] e = cc
 two_vars (a ∷ []) e = cc
 two_vars (a ∷ x ∷ y ∷ ys) e = cc
@@ -52,13 +52,13 @@ two_vars (a ∷ x ∷ []) e =
     let q = only_var x two in
     (p.0, q.0, pair_is a x p.0 q.0 p.1 q.1)
 
-fails_adds : (exception : SystemException) (rest : Stack) (fresh : List Name) → map kind_of fresh ≡ variables 2 → AddsFresh fresh (exception_effect exception rest (vars_among fresh)).adds
+fails_adds : (exception : SystemException) (rest : Stack) (fresh : List Name) → map kind_of fresh ≡ variable_kinds 2 → AddsFresh fresh (exception_effect exception rest (vars_among fresh)).adds
 fails_adds exception rest fresh e =
     let v = two_vars fresh e in
     subst (λ (f : List Name). AddsFresh f (exception_effect exception rest (vars_among f)).adds) (sym v.2) (inr (v.0, v.1, _, _, refl, refl))
 
 outcome_adds : (p : List Stmt) (env : Env) (rest : Stack) (fresh : List Name) (o : Outcome) (ks : List NameKind) → outcome_need o ≡ Takes ks → map kind_of fresh ≡ ks → AddsFresh fresh (outcome_effect p env rest fresh o).adds
-outcome_adds p env rest fresh (outcome.Fails exception) ks d e = let same : variables 2 ≡ ks = cc in fails_adds exception rest fresh (e ∙ sym same)
+outcome_adds p env rest fresh (outcome.Fails exception) ks d e = let same : variable_kinds 2 ≡ ks = cc in fails_adds exception rest fresh (e ∙ sym same)
 outcome_adds p env rest fresh (outcome.Waits x) ks d e = inl refl
 outcome_adds p env rest fresh (outcome.Runs codes) ks d e = inl refl
 outcome_adds p env rest fresh (outcome.Tells x t) ks d e = inl refl
@@ -75,7 +75,7 @@ pair_adds : (a b : Term) (pairs : List (Term × Term)) (met : List (Node × Node
 pair_adds a b pairs met rest fresh Dropped ks d e = inl refl
 pair_adds a b pairs met rest fresh Binds ks d e = inl refl
 pair_adds a b pairs met rest fresh (Opened m n fields) ks d e = inl refl
-pair_adds a b pairs met rest fresh Failed ks d e = let same : variables 2 ≡ ks = cc in fails_adds FailureTell rest fresh (e ∙ sym same)
+pair_adds a b pairs met rest fresh Failed ks d e = let same : variable_kinds 2 ≡ ks = cc in fails_adds FailureTell rest fresh (e ∙ sym same)
 
 pub stack_adds : (p : List Stmt) (s : Store) (fresh : List Name) (st : Stack) (ks : List NameKind) → stack_need p s st ≡ Takes ks → map kind_of fresh ≡ ks → AddsFresh fresh (stack_effect p s fresh None st).adds
 stack_adds p s fresh [] ks d e = inl refl

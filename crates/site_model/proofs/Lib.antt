@@ -6,4 +6,4 @@ pub mod EffectLemmas
 pub mod ExampleRun
 pub mod FilledLemmas
 pub mod CellKeyLemmas
-pub mod StillLemmas
+pub mod FrameLemmas

@@ -16,10 +16,12 @@ bundle_limit = 256
 
 -- ---- which equations
 
+-- the variables that occur in these terms
 abbrev pub vars_of_terms : List Term → List VarName
 vars_of_terms [] = []
 vars_of_terms (t ∷ ts) = vars_of t ++ vars_of_terms ts
 
+-- the term, if there is one, as a list
 abbrev pub option_list : Option Term → List Term
 option_list None = []
 option_list (Some t) = t ∷ []
@@ -49,6 +51,7 @@ known_equations s (x ∷ xs) = map (λ (t : Term). (x, t)) (option_list (value_o
 abbrev pub reachable_equations : Store → List VarName → List Equation
 reachable_equations s xs = known_equations s (distinct_vars [] (reachable_vars (length s) s xs))
 
+-- the order of names: by their sites, then by their numbers
 abbrev pub is_below : VarName → VarName → Bool
 is_below a b = nat_lt a.site b.site || ((a.site == b.site) && nat_lt a.num b.num)
 
@@ -57,6 +60,7 @@ abbrev pub insert_ascending : Equation → List Equation → List Equation
 insert_ascending e [] = e ∷ []
 insert_ascending e (d ∷ ds) = if is_below d.0 e.0 then d ∷ insert_ascending e ds else e ∷ d ∷ ds
 
+-- the equations in the order of their variables
 abbrev pub ascending : List Equation → List Equation
 ascending [] = []
 ascending (e ∷ es) = insert_ascending e (ascending es)
@@ -79,6 +83,7 @@ bundle_roots _ = []
 abbrev pub bundle_of : ℕ → Store → Msg → List Equation
 bundle_of limit s m = bundle_from limit s (bundle_roots m)
 
+-- the message with these equations as its bundle; a Register, a Get and a Forward have none
 abbrev pub with_bundle : List Equation → Msg → Msg
 with_bundle es (msg.Spawn thread code vars bundle) = msg.Spawn thread code vars es
 with_bundle es (msg.BindReq x thread t bundle) = msg.BindReq x thread t es
@@ -90,6 +95,7 @@ with_bundle es m = m
 abbrev pub with_own_bundle : ℕ → Store → Sent → Sent
 with_own_bundle limit s m = record m { msg = with_bundle (bundle_of limit s m.msg) m.msg }
 
+-- these messages, each with its bundle from the site's equations
 abbrev pub with_own_bundles : ℕ → Store → List Sent → List Sent
 with_own_bundles limit s ms = map (with_own_bundle limit s) ms
 

@@ -22,12 +22,15 @@ use Rattle.site_model.specs.Choice.{next_unit}
 abbrev pub program : List Stmt
 program = Exchange 0 1 2 ∷ []
 
+-- the cell, which site 1 made
 abbrev pub cell : CellName
 cell = record { site = 1; num = 0 }
 
+-- variable k of site i
 abbrev pub var : ℕ → ℕ → VarName
 var i k = record { site = i; num = k }
 
+-- thread k of site i
 abbrev pub thread : ℕ → ℕ → ThreadName
 thread i k = record { site = i; num = k }
 
@@ -35,6 +38,7 @@ thread i k = record { site = i; num = k }
 abbrev pub exchanging : ℕ → ℕ → ThreadName × ThreadState
 exchanging i k = (thread i k, (Run (record { 0 = 0 }) ((0, var 1 99) ∷ (1, var i (10 + k)) ∷ (2, var i k) ∷ []) ∷ [], Runs))
 
+-- site i with its two threads, these last askers of the cells it made, and these records of cells
 abbrev pub site_with : ℕ → List (CellName × ℕ) → List (CellName × CellRecord) → Site
 site_with i managers kept = record {
   equations = (var 1 99, term.Node (node.Cell cell)) ∷ [];
@@ -51,9 +55,11 @@ site_with i managers kept = record {
 abbrev pub content : VarName
 content = var 1 50
 
+-- the site that made the cell and has its token
 abbrev pub site_1 : Site
 site_1 = site_with 1 ((cell, 1) ∷ []) ((cell, record { held = here_with content; queue = [] }) ∷ [])
 
+-- the next unit of thread k of site i
 abbrev pub unit_at : ℕ → ℕ → Site → Transition
 unit_at i k s = next_unit program 3 0 (thread i k) s
 
@@ -91,6 +97,7 @@ put_2 = message_row program 0 (msg.Put cell (var 3 1) []) asks_2.site
 abbrev pub forward_2 : Transition
 forward_2 = message_row program 0 (msg.Forward cell 1) put_2.site
 
+-- what these units and rows send, pick and leave: the token goes from site 1 to 3, to 2 and back to 1
 abbrev pub TokenGoesRound : Type 0
 TokenGoesRound =
     (asks_3.sent ≡ record { to = 1; msg = msg.Get cell 3 } ∷ [])

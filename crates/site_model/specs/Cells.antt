@@ -36,6 +36,7 @@ forward_row limit c k s = cell_reply limit c (cell_record s c).queue (forward_re
 abbrev pub last_before : Site → CellName → ℕ
 last_before s c = unwrap_or (last_asker s c) c.site
 
+-- site k is the one that asked last for the cell
 abbrev pub with_last_asker : CellName → ℕ → Site → Site
 with_last_asker c k s = record s { managers = insert_entry equal_cell s.managers c k }
 
@@ -60,6 +61,7 @@ abbrev pub content_after_change : VarName → CellChange → VarName
 content_after_change v (Exchanged cell new told) = new
 content_after_change v _ = v
 
+-- a waiting thread in this state is given the content v; without a thread nothing changes
 abbrev pub after_exchange_as : List Stmt → ThreadName → VarName → Site → Option ThreadState → Site
 after_exchange_as p n v s None = s
 after_exchange_as p n v s (Some st) = record s {
@@ -70,6 +72,7 @@ after_exchange_as p n v s (Some st) = record s {
 abbrev pub after_exchange : List Stmt → ThreadName → VarName → Site → Site
 after_exchange p n v s = after_exchange_as p n v s (thread_state s n)
 
+-- the content that a thread in this state leaves when it is given v; without a thread it is v
 abbrev pub content_after_exchange_as : List Stmt → VarName → Site → Option ThreadState → VarName
 content_after_exchange_as p v s None = v
 content_after_exchange_as p v s (Some st) = content_after_change v (exchange_effect p s st.0).cell
@@ -78,6 +81,7 @@ content_after_exchange_as p v s (Some st) = content_after_change v (exchange_eff
 abbrev pub content_after_exchange : List Stmt → ThreadName → VarName → Site → VarName
 content_after_exchange p n v s = content_after_exchange_as p v s (thread_state s n)
 
+-- the pick of an exchange: no fresh name and no bind
 abbrev pub exchange_pick : ThreadName → Pick
 exchange_pick n = record { thread = n; fresh = []; bind = None }
 
@@ -103,6 +107,7 @@ abbrev pub with_own_request : CellName → Token → Site → Site
 with_own_request c Away s = if c.site == s.records.site then with_last_asker c s.records.site s else s
 with_own_request c _ s = s
 
+-- the thread has this stack and waits for the token of the cell
 abbrev pub with_exchange_waiting : CellName → ThreadName → Stack → Site → Site
 with_exchange_waiting c n st s = record s { threads = with_value equal_thread s.threads n (st, WaitsFor c) }
 

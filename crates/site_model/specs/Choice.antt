@@ -24,12 +24,15 @@ use Rattle.site_model.specs.Cells.{request_row}
 use Rattle.site_model.specs.Messages.{reception}
 use Rattle.site_model.specs.Unit.{bind_attempt, effect_here, thread_step, fresh_names, with_waiting}
 
+-- a name that no site makes: what `root_bind` gives where there is nothing to bind
 abbrev pub nobody : VarName
 nobody = record { site = 0; num = 0 }
 
+-- the equation between two variables: the greater one is bound to the lesser
 abbrev pub to_lesser : VarName → VarName → Equation
 to_lesser a b = if is_below b a then (a, term.Var b) else (b, term.Var a)
 
+-- of two sides with their nodes: two variables without one are bound by their roots, one without takes the node of the other
 abbrev pub bind_between : Store → Term → Term → Option Node → Option Node → Equation
 bind_between s (term.Var x) (term.Var y) None None = to_lesser (root_of s x) (root_of s y)
 bind_between s (term.Var x) b None (Some n) = (root_of s x, term.Node n)
@@ -40,10 +43,12 @@ bind_between s _ _ _ _ = (nobody, term.Var nobody)
 abbrev pub root_bind : Store → Term → Term → Equation
 root_bind s a b = bind_between s a b (side_node s a) (side_node s b)
 
+-- there is no term
 abbrev pub is_missing : Option Term → Bool
 is_missing None = true
 is_missing (Some t) = false
 
+-- the site has no equation for x
 abbrev pub is_free : Store → VarName → Bool
 is_free s x = is_missing (value_of equal_var s x)
 
@@ -52,14 +57,17 @@ abbrev pub leads_down : Store → Equation → Bool
 leads_down s (u, term.Var v) = is_free s u && (is_free s v && is_below v u)
 leads_down s (u, term.Node n) = is_free s u
 
+-- the site has the token
 abbrev pub is_here : Token → Bool
 is_here (Here v) = true
 is_here _ = false
 
+-- an exchange of a cell whose token is not here waits for it; all else is the step
 abbrev pub step_or_request : ℕ → ThreadName → Stack → Site → Transition → CellChange → Transition
 step_or_request limit th st s step (Exchanged c new told) = if is_here (cell_record s c).held.token then step else request_row limit c new th st s
 step_or_request limit th st s step _ = step
 
+-- the unit of a thread by what it needs: it waits, binds one of two sides, or takes names and steps
 abbrev pub unit_for : List Stmt → ℕ → ℕ → ThreadName → Stack → Site → Need → Transition
 unit_for p n limit th st s (Waits x) = without_output (with_waiting th st (root_of s.equations x) s)
 unit_for p n limit th st s (Binds a b) =
@@ -69,6 +77,7 @@ unit_for p n limit th st s (Takes kinds) =
     step_or_request limit th st s (thread_step p n limit th st kinds (fresh_names s kinds) None s)
     (effect_here p s (fresh_names s kinds) None st).cell
 
+-- the unit of a thread in this state; of no thread it is nothing
 abbrev pub unit_from : List Stmt → ℕ → ℕ → ThreadName → Site → Option ThreadState → Transition
 unit_from p n limit th s None = without_output s
 unit_from p n limit th s (Some v) = unit_for p n limit th v.0 s (stack_need p s.equations v.0)
@@ -77,33 +86,40 @@ unit_from p n limit th s (Some v) = unit_for p n limit th v.0 s (stack_need p s.
 abbrev pub next_unit : List Stmt → ℕ → ℕ → ThreadName → Site → Transition
 next_unit p n limit th s = unit_from p n limit th s (thread_state s th)
 
+-- the next unit of each of these threads, one after another
 abbrev pub next_units : List Stmt → ℕ → ℕ → List ThreadName → Site → Transition
 next_units p n limit [] s = without_output s
 next_units p n limit (th ∷ ths) s = and_then (next_unit p n limit th s) (next_units p n limit ths)
 
 -- ---- whether it is a unit
 
+-- the variable to wait for is unbound; the bind leads down; names can be taken always
 abbrev pub is_possible : Store → Need → Bool
 is_possible s (Waits x) = is_free s (root_of s x)
 is_possible s (Binds a b) = leads_down s (root_bind s a b)
 is_possible s (Takes kinds) = true
 
+-- a thread in this state does not wait, and what it needs is possible
 abbrev pub can_go_from : List Stmt → Site → Option ThreadState → Bool
 can_go_from p s None = false
 can_go_from p s (Some v) = not (is_waiting v.1) && is_possible s.equations (stack_need p s.equations v.0)
 
+-- the thread lives and can make a unit
 abbrev pub can_go : List Stmt → Site → ThreadName → Bool
 can_go p s th = can_go_from p s (thread_state s th)
 
+-- each of these units can be made, after those before it
 abbrev pub can_all_go : List Stmt → ℕ → ℕ → List ThreadName → Site → Bool
 can_all_go p n limit [] s = true
 can_all_go p n limit (th ∷ ths) s = can_go p s th && can_all_go p n limit ths (next_unit p n limit th s).site
 
 -- ---- turns
 
+-- what the message of a turn does, if there is one
 abbrev pub reception_of : List Stmt → ℕ → Option Msg → Site → Transition
 reception_of p limit None s = without_output s
 reception_of p limit (Some m) s = reception p limit m s
 
+-- the turn that takes this message, and then makes the units of these threads
 abbrev pub next_turn : List Stmt → ℕ → ℕ → List ThreadName → Option Msg → Site → Transition
 next_turn p n limit ths m s = and_then (reception_of p limit m s) (next_units p n limit ths)

@@ -18,6 +18,7 @@ use Rattle.site_model.specs.Transition.{Transition}
 use Rattle.site_model.specs.Run.{WorldRun, delivered_message}
 use Rattle.site_model.specs.Choice.{next_turn}
 
+-- the code of this number
 abbrev pub code : ℕ → CodeId
 code n = record { 0 = n }
 
@@ -27,12 +28,15 @@ program =
     Local 0 3 (code 1) ∷ Seq (code 2 ∷ code 3 ∷ code 7 ∷ code 8 ∷ []) ∷ NewCell 0 1 ∷ Thread (Some (pos 2)) (code 4)
     ∷ Seq (code 5 ∷ code 6 ∷ []) ∷ Exchange 1 2 0 ∷ TellInt 0 (pos 5) ∷ Wait 0 ∷ Exchange 1 0 0 ∷ []
 
+-- the thread that begins at site 1
 abbrev pub first : ThreadName
 first = record { site = 1; num = 0 }
 
+-- the thread that it starts, for site 2
 abbrev pub second : ThreadName
 second = record { site = 1; num = 1 }
 
+-- k units of the thread
 abbrev pub times : ℕ → ThreadName → List ThreadName
 times zero th = []
 times (suc k) th = th ∷ times k th
@@ -43,6 +47,7 @@ pub record Story : Type 0 where
   pub first : Site
   pub second : Site
 
+-- the entry of a turn of site i that delivered message k, if any
 abbrev pub entry : ℕ → Option ℕ → Transition → Turn
 entry i k d = record {
   site = i;
@@ -56,9 +61,11 @@ entry i k d = record {
   steps = d.site.steps;
 }
 
+-- site 1 makes this turn
 abbrev pub first_does : Story → Option ℕ → Transition → Story
 first_does w k d = record { journal = entry 1 k d ∷ w.journal; first = d.site; second = w.second }
 
+-- site 2 makes this turn
 abbrev pub second_does : Story → Option ℕ → Transition → Story
 second_does w k d = record { journal = entry 2 k d ∷ w.journal; first = w.first; second = d.site }
 
@@ -66,9 +73,11 @@ second_does w k d = record { journal = entry 2 k d ∷ w.journal; first = w.firs
 abbrev pub first_turn : Story → Option ℕ → ℕ → Story
 first_turn w k u = first_does w k (next_turn program 2 0 (times u first) (delivered_message w.journal k) w.first)
 
+-- the same at site 2
 abbrev pub second_turn : Story → Option ℕ → ℕ → Story
 second_turn w k u = second_does w k (next_turn program 2 0 (times u second) (delivered_message w.journal k) w.second)
 
+-- the two sites at the start
 abbrev pub first_story : Story
 first_story = record { journal = []; first = initial_site program 1; second = initial_site program 2 }
 
@@ -128,12 +137,14 @@ turn_13 = second_turn turn_12 (Some 11) 0
 abbrev pub turn_14 : Story
 turn_14 = first_turn turn_13 (Some 12) 2
 
+-- the states of the two sites; those of others are as they began
 abbrev pub sites_of : Story → ℕ → Site
 sites_of w zero = initial_site program 0
 sites_of w (suc zero) = w.first
 sites_of w (suc (suc zero)) = w.second
 sites_of w (suc (suc (suc i))) = initial_site program (suc (suc (suc i)))
 
+-- the fourteen turns are a run of the sites, and it ends quiet
 abbrev pub TokenReturns : Type 0
 TokenReturns = WorldRun program 2 0 turn_14.journal (sites_of turn_14) × (is_quiet 2 turn_14.journal ≡ true)
 
@@ -143,6 +154,7 @@ show_program =
     Local 0 2 (code 1) ∷ Seq (code 2 ∷ code 3 ∷ code 4 ∷ []) ∷ TellInt 1 (pos 5)
     ∷ TellRec 0 (codes "f") ((feature.Int (pos 1), 1) ∷ []) ∷ Thread (Some (pos 2)) (code 5) ∷ Browse 0 ∷ []
 
+-- variable k of site 1
 abbrev pub v : ℕ → VarName
 v k = record { site = 1; num = k }
 
@@ -151,9 +163,11 @@ abbrev pub spawn : Msg
 spawn = msg.Spawn second (code 5) (v 0 ∷ [])
     ((v 0, term.Node (node.Rec (codes "f") ((feature.Int (pos 1), v 1) ∷ []))) ∷ (v 1, term.Node (node.Int (pos 5))) ∷ [])
 
+-- the turn of site 1: eleven units of its thread
 abbrev pub shows_first : Transition
 shows_first = next_turn show_program 2 256 (times 11 first) None (initial_site show_program 1)
 
+-- the turn of site 2: it takes the thread, and makes one unit of it
 abbrev pub shows_second : Transition
 shows_second = next_turn show_program 2 256 (times 1 second) (Some spawn) (initial_site show_program 2)
 

@@ -22,6 +22,7 @@ use Rattle.site_model.specs.Cells.{forward_row, get_row, put_row}
 abbrev pub with_thread : List Stmt → Option Birth → Site → Site
 with_thread p b s = record s { threads = runnable_threads (threads_born p b) ++ s.threads }
 
+-- a new thread of this code and these variables, at the site itself
 abbrev pub birth : ThreadName → CodeId → List VarName → Birth
 birth n code vars = record { at = None; name = n; code = code; vars = vars }
 
@@ -34,6 +35,7 @@ register_row limit x k s =
 abbrev pub bind_pick : ThreadName → VarName → Term → Pick
 bind_pick n x t = record { thread = n; fresh = []; bind = Some (x, t) }
 
+-- a request by what its owner knows of x: an unbound x is bound to t by a pick of the thread that asked; else nothing happens
 abbrev pub bind_request_as : Option (Option Term) → ℕ → VarName → Term → ThreadName → Site → Transition
 bind_request_as (Some None) limit x t n s = and_then (with_pick s (bind_pick n x t)) (own_bind limit x t)
 bind_request_as _ limit x t n s = without_output s

@@ -10,6 +10,7 @@ use Rattle.site_model.specs.Site.{Site, initial_site, is_idle, waiting_count}
 use Rattle.site_model.specs.Transition.{Transition}
 use Rattle.site_model.specs.Turn.{SiteTurn}
 
+-- what was sent, without its receiver
 abbrev pub message_of : Option Sent → Option Msg
 message_of None = None
 message_of (Some m) = Some m.msg

@@ -63,6 +63,7 @@ last_asker s c = lookup (equal_cell c) s.managers
 abbrev pub unused_cell : CellRecord
 unused_cell = record { held = nothing_held; queue = [] }
 
+-- what these records say of a cell
 abbrev pub cell_record_in : List (CellName × CellRecord) → CellName → CellRecord
 cell_record_in qs c = unwrap_or (lookup (equal_cell c) qs) unused_cell
 
@@ -70,6 +71,7 @@ cell_record_in qs c = unwrap_or (lookup (equal_cell c) qs) unused_cell
 abbrev pub cell_record : Site → CellName → CellRecord
 cell_record s c = cell_record_in s.cell_records c
 
+-- the site keeps this of the cell
 abbrev pub with_cell_record : Site → CellName → CellRecord → Site
 with_cell_record s c q = record s { cell_records = insert_entry equal_cell s.cell_records c q }
 
@@ -85,6 +87,7 @@ is_idle s = waiting_count s == length s.threads
 
 -- ---- the start
 
+-- the counters of a site that made no name
 abbrev pub zero_counters : Counters
 zero_counters = record { vars = 0; cells = 0; procs = 0; threads = 0 }
 

@@ -5,6 +5,7 @@ use Rattle.tree_node.specs.declared.pick.Pick.{Pick}
 use Rattle.site_message.specs.declared.message.Sent.{Sent}
 use Rattle.site_model.specs.Site.{Site}
 
+-- what a site does: its state afterwards, the picks that it made, the messages that it sent and the lines that it printed, in order
 pub record Transition : Type 0 where
   pub site : Site
   pub picks : List Pick

@@ -43,6 +43,7 @@ next_name i c kind.Cell = name.Cell (record { site = i; num = c.cells })
 next_name i c kind.Proc = name.Proc (record { site = i; num = c.procs })
 next_name i c kind.Thread = name.Thread (record { site = i; num = c.threads })
 
+-- the counters after one name of this kind
 abbrev pub counter_after : Counters → NameKind → Counters
 counter_after c kind.Var = record c { vars = c.vars + 1 }
 counter_after c kind.Cell = record c { cells = c.cells + 1 }
@@ -104,6 +105,7 @@ after_cell (Made c v) s = record s {
 after_cell (Exchanged c new told) s =
     with_cell_record s c (record (cell_record s c) { held = record (cell_record s c).held { token = Here new } })
 
+-- a thread with this stack, which can go on; none where there is no stack
 abbrev pub runnable_state : Option Stack → Option ThreadState
 runnable_state None = None
 runnable_state (Some st) = Some (st, Runs)
@@ -131,6 +133,7 @@ step_row p n limit k kinds e s =
 abbrev pub with_waiting : ThreadName → Stack → VarName → Site → Site
 with_waiting n st x s = record s { threads = with_value equal_thread s.threads n (st, mode.Waits x) }
 
+-- the pick of a step of thread n with these fresh names and this chosen bind
 abbrev pub step_pick : ThreadName → List Name → Option Equation → Pick
 step_pick n fresh bind = record { thread = n; fresh = fresh; bind = bind }
 
@@ -153,6 +156,7 @@ IsStepOrRequest limit th st s step (Exchanged c new told) d =
     (IsTokenHere s c × (d ≡ step)) ⊎ ((IsTokenHere s c → ⊥) × (d ≡ request_row limit c new th st s))
 IsStepOrRequest limit th st s step _ d = d ≡ step
 
+-- the step that takes fresh names of these kinds, or the wait for a token
 abbrev pub IsNamedStep : List Stmt → ℕ → ℕ → Site → ThreadName → Stack → List NameKind → Transition → Type 0
 IsNamedStep p n limit s th st kinds d =
     IsStepOrRequest limit th st s (thread_step p n limit th st kinds (fresh_names s kinds) None s)
@@ -172,6 +176,7 @@ bind_attempt p n limit th st u t true s = thread_step p n limit th st [] [] (Som
 bind_attempt p n limit th st u t false s =
     with_messages (with_waiting th st u s) (with_own_bundle limit s.equations (request u t th) ∷ [])
 
+-- the unit that binds a root of one of the two sides: at once where the site owns it, else by a request
 abbrev pub IsBindUnit : List Stmt → ℕ → ℕ → Site → ThreadName → Stack → Term → Term → Transition → Type 0
 IsBindUnit p n limit s th st a b d =
     (u : VarName) × (t : Term) × IsRootBind s.equations a b u t

@@ -42,6 +42,7 @@ with_known_equation_as false _ s x t = with_new_equation s x t
 abbrev pub with_known_equation : Site → VarName → Term → Site
 with_known_equation s x t = with_known_equation_as (is_own s.records x) (knowledge s.records x) s x t
 
+-- the site knows these equations, one after another
 abbrev pub with_known_equations : Site → List Equation → Site
 with_known_equations s [] = s
 with_known_equations s (e ∷ es) = with_known_equations (with_known_equation s e.0 e.1) es

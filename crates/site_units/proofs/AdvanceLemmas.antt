@@ -23,7 +23,7 @@ use Rattle.thread_roster.specs.declared.mode.Mode.TheVariants as mode
 use Rattle.thread_roster.specs.Threads.{set_value}
 use Rattle.thread_roster.proofs.ThreadLemmas.{each_found}
 use Rattle.site_units.specs.declared.data.Core.{Core}
-use Rattle.site_units.specs.Facts.{ThreadFits, IsConsistent}
+use Rattle.site_units.specs.Invariant.{ThreadFits, IsConsistent}
 use Rattle.site_units.specs.Units.{IsRunning, IsStepping}
 use Rattle.site_units.proofs.ThreadLemmas.{found_same}
 

@@ -45,7 +45,7 @@ use Rattle.site_variables.specs.Variables.{stacks_of}
 use Rattle.site_units.specs.declared.data.Core.{Core}
 use Rattle.site_units.specs.declared.data.Output.{Output}
 use Rattle.site_units.specs.Core.{site_of, stack_in, counters_of}
-use Rattle.site_units.specs.Facts.{ThreadFits, IsAwaiting, CellFits, CellsFit, IsConsistent}
+use Rattle.site_units.specs.Invariant.{ThreadFits, IsAwaiting, CellFits, CellsFit, IsConsistent}
 use Rattle.site_units.specs.Units.{IsStepping, IsFinished, IsUnitMade, without_ended}
 use Rattle.site_units.proofs.ThreadLemmas.{Living, other_set, other_without}
 use Rattle.site_units.proofs.FreshLemmas.{makes_site}

@@ -17,8 +17,8 @@ use Rattle.token_chain.specs.Rows.{forward_reply, get_reply, exchange_reply}
 use Rattle.site_model.specs.Site.{CellRecord, cell_record_in}
 use Rattle.site_cells.proofs.RecordLemmas.{record_here, record_other}
 use Rattle.site_units.specs.declared.data.Core.{Core}
-use Rattle.site_units.specs.Facts.{ContentKnown, CellFits, CellsFit}
-pub use Rattle.site_model.proofs.StillLemmas.{request_records}
+use Rattle.site_units.specs.Invariant.{ContentKnown, CellFits, CellsFit}
+pub use Rattle.site_model.proofs.FrameLemmas.{request_records}
 
 -- a record in the place of the cell's own
 pub replaced : (p : List Stmt) (c : Core) (es : List (CellName × CellRecord)) (cell : CellName) (v : CellRecord) → CellFits p c (cell, v) → CellsFit p c es → CellsFit p c (insert_entry equal_cell es cell v)

@@ -24,7 +24,7 @@ use Rattle.site_model.specs.Unit as unit
 use Rattle.site_variables.specs.Variables.{IsUnion}
 use Rattle.site_units.specs.Core.{counters_of}
 use Rattle.tree_node.proofs.OrderLemmas.{Each-member}
-pub use Rattle.site_model.proofs.StillLemmas.{makes_site}
+pub use Rattle.site_model.proofs.FrameLemmas.{makes_site}
 
 -- ---- the names that come next
 

@@ -34,11 +34,11 @@ use Rattle.site_model.specs.Transition.{Transition, without_output}
 use Rattle.site_model.specs.Variables.{with_known_equation, with_known_equation_as}
 use Rattle.site_model.specs.Messages.{bind_request_row, bind_request_as}
 use Rattle.site_variables.specs.declared.variables.Variables.{Variables}
-use Rattle.site_variables.specs.Variables.{IsLinked, IsGrown, IsDone, parts_of, with_parts, stacks_of, request_picks}
+use Rattle.site_variables.specs.Variables.{IsLinked, IsGrown, IsVariableRow, parts_of, with_parts, stacks_of, request_picks}
 use Rattle.site_units.specs.declared.data.Core.{Core}
 use Rattle.site_units.specs.declared.data.Output.{Output}
 use Rattle.site_units.specs.Core.{site_of, stack_in}
-use Rattle.site_units.specs.Facts.{ThreadFits, IsConsistent}
+use Rattle.site_units.specs.Invariant.{ThreadFits, IsConsistent}
 use Rattle.site_units.specs.Turns.{IsRowMade}
 use Rattle.site_units.proofs.ThreadLemmas.{Living, WaitsStay, waits_woken}
 use Rattle.site_units.proofs.WakeLemmas.{encode, woken_each, woken_living, recovered_all}
@@ -158,7 +158,7 @@ one_learned p c v1 ts1 x t h linked own grows names sound known term fits (inr s
 
 abbrev pub Requested : Core → Variables → Roster Running → Output → Output → VarName → Term → ThreadName → Asked → Type 0
 Requested c v1 ts1 o0 o1 x t n a =
-    (g : Running → Stack) → IsDone (bind_request_row 0 x t n) (request_picks a n x t) (parts_of c.variables (stacks_of g c.threads.living) o0.sent) (parts_of v1 (stacks_of g ts1.living) o1.sent)
+    (g : Running → Stack) → IsVariableRow (bind_request_row 0 x t n) (request_picks a n x t) (parts_of c.variables (stacks_of g c.threads.living) o0.sent) (parts_of v1 (stacks_of g ts1.living) o1.sent)
 
 granted : (c : Core) (v1 : Variables) (ts1 : Roster Running) (o0 o1 : Output) (x : VarName) (t : Term) (n : ThreadName) (a : Asked) → Requested c v1 ts1 o0 o1 x t n a → IsOneMore x t c v1 ts1 × (v1.binder.site ≡ c.variables.binder.site)
 granted c v1 ts1 o0 o1 x t n a done = go (knowledge c.variables.binder x) (λ g. (done g).done (site_of c))
@@ -183,7 +183,7 @@ grant_made p c v1 ts1 o0 o1 x t n a done ended linked same sound known term fits
 
 abbrev pub Told : Core → Variables → Roster Running → VarName → Term → Type 0
 Told c v1 ts1 x t =
-    (g : Running → Stack) → IsDone (λ s. without_output (with_known_equation s x t)) [] (parts_of c.variables (stacks_of g c.threads.living) []) (parts_of v1 (stacks_of g ts1.living) [])
+    (g : Running → Stack) → IsVariableRow (λ s. without_output (with_known_equation s x t)) [] (parts_of c.variables (stacks_of g c.threads.living) []) (parts_of v1 (stacks_of g ts1.living) [])
 
 told_one : (c : Core) (v1 : Variables) (ts1 : Roster Running) (x : VarName) (t : Term) → x.site ≢ c.variables.binder.site → Told c v1 ts1 x t → IsOneMore x t c v1 ts1
 told_one c v1 ts1 x t elsewhere done =
@@ -210,7 +210,7 @@ learn_made p c v1 ts1 o x t done ended linked grows owners own sound elsewhere m
     names : (y : VarName) → y.site ≡ c.variables.binder.site → Contains v1.store.known y → Contains c.variables.store.known y
     names y same m = (h.linked.names y).0 (own_known c.variables.binder v1.binder y own owners same ((linked.names y).1 m))
 
-    quiet : IsDone (λ s. without_output (with_known_equation s x t)) [] (parts_of c.variables (stacks_of stack_in c.threads.living) o.sent) (parts_of v1 (stacks_of stack_in ts1.living) o.sent)
+    quiet : IsVariableRow (λ s. without_output (with_known_equation s x t)) [] (parts_of c.variables (stacks_of stack_in c.threads.living) o.sent) (parts_of v1 (stacks_of stack_in ts1.living) o.sent)
     quiet = record { more = []; sent = sym (nil_right o.sent); done = λ s. same s }
       where
         same : (s : Site) → without_output (with_known_equation (with_parts s (parts_of c.variables (stacks_of stack_in c.threads.living) o.sent)) x t) ≡ record { site = with_parts s (parts_of v1 (stacks_of stack_in ts1.living) o.sent); picks = []; sent = []; lines = [] }

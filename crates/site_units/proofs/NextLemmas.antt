@@ -24,7 +24,7 @@ use Rattle.site_model.specs.Site.{CellRecord, cell_record_in}
 use Rattle.site_cells.specs.Tables.{CellTables}
 use Rattle.site_variables.specs.Variables.{IsLinked, IsGrown}
 use Rattle.site_units.specs.declared.data.Core.{Core}
-use Rattle.site_units.specs.Facts.{ThreadFits, IsExchanging, IsAwaiting, ContentKnown, CellFits, CellsFit, IsConsistent}
+use Rattle.site_units.specs.Invariant.{ThreadFits, IsExchanging, IsAwaiting, ContentKnown, CellFits, CellsFit, IsConsistent}
 use Rattle.site_units.proofs.ThreadLemmas.{WaitsStay}
 
 pub thread_grows : (p : List Stmt) (known more : List VarName) (t : Entry Running) → IsGrown known more → ThreadFits p known t → ThreadFits p more t

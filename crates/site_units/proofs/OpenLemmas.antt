@@ -36,11 +36,11 @@ use Rattle.site_model.specs.Bundle.{body_vars, message_bundle, message_vars, var
 use Rattle.site_model.specs.Transition.{Transition}
 use Rattle.site_model.specs.Variables.{with_known_equation, with_known_equation_as, with_known_equations, opening}
 use Rattle.site_variables.specs.declared.variables.Variables.{Variables}
-use Rattle.site_variables.specs.Variables.{IsLinked, IsGrown, IsMadeIfOwn, IsDone, parts_of, with_parts, stacks_of}
+use Rattle.site_variables.specs.Variables.{IsLinked, IsGrown, IsMadeIfOwn, IsVariableRow, parts_of, with_parts, stacks_of}
 use Rattle.site_units.specs.declared.data.Core.{Core}
 use Rattle.site_units.specs.declared.data.Output.{Output}
 use Rattle.site_units.specs.Core.{site_of, stack_in}
-use Rattle.site_units.specs.Facts.{IsConsistent}
+use Rattle.site_units.specs.Invariant.{IsConsistent}
 use Rattle.site_units.specs.Turns.{IsRowMade}
 use Rattle.site_units.proofs.ThreadLemmas.{Living}
 use Rattle.site_units.proofs.WakeLemmas.{encode, woken_each, woken_back}
@@ -147,7 +147,7 @@ made_if_own p c xs h made = Each-weaker (λ (x : VarName). IsMade c.fresh (name.
 -- ---- the row
 
 abbrev pub Opened : Core → Variables → Roster Running → Output → Output → Msg → Type 0
-Opened c v1 ts1 o0 o1 m = (g : Running → Stack) → IsDone (opening m) [] (parts_of c.variables (stacks_of g c.threads.living) o0.sent) (parts_of v1 (stacks_of g ts1.living) o1.sent)
+Opened c v1 ts1 o0 o1 m = (g : Running → Stack) → IsVariableRow (opening m) [] (parts_of c.variables (stacks_of g c.threads.living) o0.sent) (parts_of v1 (stacks_of g ts1.living) o1.sent)
 
 module _ (p : List Stmt) (c : Core) (v1 : Variables) (ts1 : Roster Running) (o0 o1 : Output) (m : Msg) (done : Opened c v1 ts1 o0 o1 m) where
   abbrev begun : (Running → Stack) → Site

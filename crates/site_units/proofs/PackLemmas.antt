@@ -16,7 +16,7 @@ use Rattle.site_units.specs.declared.data.Core.{Core}
 use Rattle.site_units.specs.declared.data.Output.{Output}
 use Rattle.site_units.specs.Core.{site_of}
 use Rattle.site_units.specs.Turns.{IsRowMade}
-use Rattle.site_units.specs.Units.{IsReached, IsUnitMade, IsUnitPacked}
+use Rattle.site_units.specs.Units.{IsTransitionMade, IsUnitMade, IsUnitPacked}
 
 -- ---- the last messages are taken out, the last one first
 
@@ -57,8 +57,8 @@ nothing_packed s old from past = sym (ap (λ (l : List Sent). l ++ with_own_bund
 -- ---- a unit, a row
 
 -- the messages that came by the transition got their bundles
-pub packed_reached : (p : List Stmt) (d : Transition) (c0 c1 : Core) (o0 o1 o2 : Output) (from : ℕ) → IsReached p d c0 o0 c1 o1 → length o0.sent ≡ from →
-    o2.sent ≡ take from o1.sent ++ with_own_bundles bundle_limit c1.variables.store.equations (drop from o1.sent) → o2.picks ≡ o1.picks → o2.lines ≡ o1.lines → IsReached p (with_bundles bundle_limit d) c0 o0 c1 o2
+pub packed_reached : (p : List Stmt) (d : Transition) (c0 c1 : Core) (o0 o1 o2 : Output) (from : ℕ) → IsTransitionMade p d c0 o0 c1 o1 → length o0.sent ≡ from →
+    o2.sent ≡ take from o1.sent ++ with_own_bundles bundle_limit c1.variables.store.equations (drop from o1.sent) → o2.picks ≡ o1.picks → o2.lines ≡ o1.lines → IsTransitionMade p (with_bundles bundle_limit d) c0 o0 c1 o2
 packed_reached p d c0 c1 o0 o1 o2 from h at sent picks lines = record {
   site = h.site;
   picks = picks ∙ h.picks;
@@ -85,4 +85,4 @@ unit_packed law p th c0 c1 o0 o1 o2 from (d, unit, reached) at sent picks lines 
 pub row_packed : RowsFillLast → (p : List Stmt) (m : Msg) (c0 c1 : Core) (o0 o1 o2 : Output) (from : ℕ) → IsRowMade p (message_row p 0 m) c0 o0 c1 o1 → length o0.sent ≡ from →
     o2.sent ≡ take from o1.sent ++ with_own_bundles bundle_limit c1.variables.store.equations (drop from o1.sent) → o2.picks ≡ o1.picks → o2.lines ≡ o1.lines → IsRowMade p (message_row p bundle_limit m) c0 o0 c1 o2
 row_packed law p m c0 c1 o0 o1 o2 from row at sent picks lines =
-    subst (λ (d : Transition). IsReached p d c0 o0 c1 o2) (sym (law p bundle_limit m (site_of c0))) (packed_reached p (message_row p 0 m (site_of c0)) c0 c1 o0 o1 o2 from row at sent picks lines)
+    subst (λ (d : Transition). IsTransitionMade p d c0 o0 c1 o2) (sym (law p bundle_limit m (site_of c0))) (packed_reached p (message_row p 0 m (site_of c0)) c0 c1 o0 o1 o2 from row at sent picks lines)

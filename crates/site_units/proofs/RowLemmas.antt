@@ -30,11 +30,11 @@ use Rattle.site_model.specs.Messages.{with_thread, birth, register_row}
 use Rattle.site_model.specs.Cells.{get_row, forward_row, last_before}
 use Rattle.site_cells.specs.Tables.{CellTables, AreTablesOf, IsRow, same_site, with_tables}
 use Rattle.site_variables.specs.declared.variables.Variables.{Variables}
-use Rattle.site_variables.specs.Variables.{IsLinked, IsDone, parts_of, stacks_of}
+use Rattle.site_variables.specs.Variables.{IsLinked, IsVariableRow, parts_of, stacks_of}
 use Rattle.site_units.specs.declared.data.Core.{Core}
 use Rattle.site_units.specs.declared.data.Output.{Output}
 use Rattle.site_units.specs.Core.{site_of, stack_in}
-use Rattle.site_units.specs.Facts.{ThreadFits, ContentKnown, CellFits, CellsFit, IsConsistent}
+use Rattle.site_units.specs.Invariant.{ThreadFits, ContentKnown, CellFits, CellsFit, IsConsistent}
 use Rattle.site_units.specs.Turns.{IsRowMade}
 use Rattle.site_units.proofs.ThreadLemmas.{Living}
 use Rattle.site_units.proofs.SiteLemmas.{nil_right}
@@ -45,7 +45,7 @@ use Rattle.site_units.proofs.BirthLemmas.{cells_consistent, thread_consistent}
 -- ---- rows of variables
 
 pub row_reached : (p : List Stmt) (f : Site → Transition) (ks : List Pick) (c : Core) (v1 : Variables) (ts1 : Roster Running) (o0 o1 : Output) →
-    IsDone f ks (parts_of c.variables (stacks_of stack_in c.threads.living) o0.sent) (parts_of v1 (stacks_of stack_in ts1.living) o1.sent) → ts1.ended ≡ c.threads.ended →
+    IsVariableRow f ks (parts_of c.variables (stacks_of stack_in c.threads.living) o0.sent) (parts_of v1 (stacks_of stack_in ts1.living) o1.sent) → ts1.ended ≡ c.threads.ended →
     o1.picks ≡ o0.picks ++ ks → o1.lines.items ≡ o0.lines.items → IsConsistent p (record c { variables = v1; threads = ts1 }) → IsRowMade p f c o0 (record c { variables = v1; threads = ts1 }) o1
 row_reached p f ks c v1 ts1 o0 o1 done ended picks lines consistent = record {
   site = ap (λ (m : ℕ). record (site_of (record c { variables = v1; threads = ts1 })) { ended = m }) ended ∙ sym (ap (λ (d : Transition). d.site) is);
@@ -82,7 +82,7 @@ registered_consistent p c v1 h linked store own = next_consistent p c (record c 
     grows x m = subst (λ (s : Contents). Contains s.known x) (sym store) m
 
 pub register_made : (p : List Stmt) (c : Core) (v1 : Variables) (o0 o1 : Output) (x : VarName) (k : ℕ) →
-    ((ts : List (ThreadName × ThreadState)) → IsDone (register_row 0 x k) [] (parts_of c.variables ts o0.sent) (parts_of v1 ts o1.sent)) → IsLinked v1 → v1.store ≡ c.variables.store →
+    ((ts : List (ThreadName × ThreadState)) → IsVariableRow (register_row 0 x k) [] (parts_of c.variables ts o0.sent) (parts_of v1 ts o1.sent)) → IsLinked v1 → v1.store ≡ c.variables.store →
     o1.picks ≡ o0.picks → o1.lines.items ≡ o0.lines.items → IsConsistent p c → IsRowMade p (register_row 0 x k) c o0 (record c { variables = v1 }) o1
 register_made p c v1 o0 o1 x k done linked store picks lines h =
     row_reached p (register_row 0 x k) [] c v1 c.threads o0 o1 (done (stacks_of stack_in c.threads.living)) refl (picks ∙ sym (nil_right o0.picks)) lines

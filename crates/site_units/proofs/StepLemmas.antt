@@ -36,7 +36,7 @@ use Rattle.site_model.specs.Variables.{after_makes}
 use Rattle.site_model.specs.Unit.{IsUnit, IsUnitFor, IsStepOrRequest, step_row, step_pick, thread_step, effect_here, fresh_names, with_fresh_names, with_stack, runnable_state, next_names, counters_after}
 use Rattle.site_units.specs.declared.data.Core.{Core}
 use Rattle.site_units.specs.Core.{site_of, stack_in, counters_of}
-use Rattle.site_units.specs.Facts.{ThreadFits}
+use Rattle.site_units.specs.Invariant.{ThreadFits}
 use Rattle.site_units.specs.Units.{IsStepping, IsFinished, without_ended}
 use Rattle.site_units.proofs.ThreadLemmas.{Living, WaitsStay, threads_settled, thread_found, settled_each, waits_trans, waits_set, waits_settled}
 use Rattle.site_units.proofs.FreshLemmas.{names_next, counters_next, made_split, each_var, makes_site}

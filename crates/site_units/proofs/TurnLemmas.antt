@@ -8,7 +8,7 @@ use Rattle.site_message.specs.declared.message.Sent.{Sent}
 use Rattle.thread_machine.specs.Running.{Running}
 use Rattle.thread_roster.specs.declared.mode.Mode.{Mode}
 use Rattle.thread_roster.specs.Threads.{Entry, AllWait, waiting_of, is_waiting}
-use Rattle.thread_roster.proofs.RouseLemmas.{as_many_wait}
+use Rattle.thread_roster.proofs.WakeLemmas.{as_many_wait}
 use Rattle.thread_roster.proofs.ThreadLemmas.{seen_length}
 use Rattle.site_model.specs.Site.{Site, is_idle}
 use Rattle.site_model.specs.Bundle.{bundle_limit}
@@ -19,8 +19,8 @@ use Rattle.site_variables.specs.Variables.{stacks_of}
 use Rattle.site_units.specs.declared.data.Core.{Core}
 use Rattle.site_units.specs.declared.data.Output.{Output}
 use Rattle.site_units.specs.Core.{site_of, stack_in}
-use Rattle.site_units.specs.Facts.{IsConsistent}
-use Rattle.site_units.specs.Units.{IsReached, IsUnitPacked}
+use Rattle.site_units.specs.Invariant.{IsConsistent}
+use Rattle.site_units.specs.Units.{IsTransitionMade, IsUnitPacked}
 use Rattle.site_units.specs.Turns.{AreUnitsMade}
 use Rattle.site_units.proofs.SiteLemmas.{nil_right, joined}
 use Rattle.std.proofs.lemmas.Bool.{eq-eqb}
@@ -41,7 +41,7 @@ units_more p n limit (t ∷ ths) th s d one (first, rest, u0, us, e) u =
     let tail : IsUnit p n limit th rest.site one = subst (λ (z : Transition). IsUnit p n limit th z.site one) e u in
     (first, sequence rest one, u0, units_more p n limit ths th first.site rest one us tail, ap (λ (z : Transition). sequence z one) e ∙ sequence_joined first rest one)
 
-pub reached_more : (p : List Stmt) (d e : Transition) (c0 c1 c2 : Core) (o0 o1 o2 : Output) → IsReached p d c0 o0 c1 o1 → IsReached p e c1 o1 c2 o2 → IsReached p (sequence d e) c0 o0 c2 o2
+pub reached_more : (p : List Stmt) (d e : Transition) (c0 c1 c2 : Core) (o0 o1 o2 : Output) → IsTransitionMade p d c0 o0 c1 o1 → IsTransitionMade p e c1 o1 c2 o2 → IsTransitionMade p (sequence d e) c0 o0 c2 o2
 reached_more p d e c0 c1 c2 o0 o1 o2 h g = record {
   site = g.site;
   picks = g.picks ∙ (ap (λ (l : List Pick). l ++ e.picks) h.picks ∙ joined o0.picks d.picks e.picks);
@@ -51,7 +51,7 @@ reached_more p d e c0 c1 c2 o0 o1 o2 h g = record {
   sites = g.sites ∙ h.sites;
 }
 
-pub reached_nothing : (p : List Stmt) (c : Core) (o : Output) → IsConsistent p c → IsReached p (without_output (site_of c)) c o c o
+pub reached_nothing : (p : List Stmt) (c : Core) (o : Output) → IsConsistent p c → IsTransitionMade p (without_output (site_of c)) c o c o
 reached_nothing p c o h = record {
   site = refl;
   picks = sym (nil_right o.picks);
@@ -68,7 +68,7 @@ pub record UnitsSoFar (p : List Stmt) (count : ℕ) (c0 : Core) (o0 : Output) (c
   pub ths : List ThreadName
   pub d : Transition
   pub units : AreUnits p c0.sites bundle_limit ths (site_of c0) d
-  pub reached : IsReached p d c0 o0 c1 o1
+  pub reached : IsTransitionMade p d c0 o0 c1 o1
   pub as_many : length ths ≡ count
   pub steps : c1.steps ≤ c0.steps + count
 

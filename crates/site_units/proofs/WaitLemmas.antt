@@ -30,7 +30,7 @@ use Rattle.site_variables.specs.Variables.{IsLinked, IsRecorded, stacks_of}
 use Rattle.site_units.specs.declared.data.Core.{Core}
 use Rattle.site_units.specs.declared.data.Output.{Output}
 use Rattle.site_units.specs.Core.{site_of, stack_in, counters_of}
-use Rattle.site_units.specs.Facts.{ThreadFits}
+use Rattle.site_units.specs.Invariant.{ThreadFits}
 use Rattle.site_units.specs.Units.{IsStepping, IsUnitMade}
 use Rattle.site_units.proofs.ThreadLemmas.{Living, WaitsStay, found_same, threads_wait, thread_found, waits_trans, waits_set, waits_mode}
 use Rattle.site_units.proofs.SiteLemmas.{same_site, nil_right}

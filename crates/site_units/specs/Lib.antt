@@ -1,5 +1,5 @@
 pub mod Core
-pub mod Facts
+pub mod Invariant
 pub mod Units
 pub mod Turns
 pub mod Serving

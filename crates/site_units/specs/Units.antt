@@ -24,12 +24,12 @@ use Rattle.site_variables.specs.Variables.{IsLinked}
 use Rattle.site_units.specs.declared.data.Core.{Core}
 use Rattle.site_units.specs.declared.data.Output.{Output}
 use Rattle.site_units.specs.Core.{site_of}
-use Rattle.site_units.specs.Facts.{IsConsistent}
+use Rattle.site_units.specs.Invariant.{IsConsistent}
 
 -- ---- parts of a turn
 
 -- the data and the output came by this transition, and the data is consistent
-pub record IsReached (p : List Stmt) (d : Transition) (c0 : Core) (o0 : Output) (c1 : Core) (o1 : Output) : Type 0 where
+pub record IsTransitionMade (p : List Stmt) (d : Transition) (c0 : Core) (o0 : Output) (c1 : Core) (o1 : Output) : Type 0 where
   pub site : site_of c1 ≡ d.site
   pub picks : o1.picks ≡ o0.picks ++ d.picks
   pub sent : o1.sent ≡ o0.sent ++ d.sent
@@ -45,11 +45,11 @@ pub record IsReached (p : List Stmt) (d : Transition) (c0 : Core) (o0 : Output) 
 
 -- the thread made a unit, whose messages are bare
 abbrev pub IsUnitMade : List Stmt → ThreadName → Core → Output → Core → Output → Type 0
-IsUnitMade p th c0 o0 c1 o1 = (d : Transition) × IsUnit p c0.sites 0 th (site_of c0) d × IsReached p d c0 o0 c1 o1
+IsUnitMade p th c0 o0 c1 o1 = (d : Transition) × IsUnit p c0.sites 0 th (site_of c0) d × IsTransitionMade p d c0 o0 c1 o1
 
 -- and they got those of the run
 abbrev pub IsUnitPacked : List Stmt → ThreadName → Core → Output → Core → Output → Type 0
-IsUnitPacked p th c0 o0 c1 o1 = (d : Transition) × IsUnit p c0.sites bundle_limit th (site_of c0) d × IsReached p d c0 o0 c1 o1
+IsUnitPacked p th c0 o0 c1 o1 = (d : Transition) × IsUnit p c0.sites bundle_limit th (site_of c0) d × IsTransitionMade p d c0 o0 c1 o1
 
 -- the thread of this name is r, and can go on
 abbrev pub IsRunning : Core → ThreadName → Running → Type 0

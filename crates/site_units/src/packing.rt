@@ -24,7 +24,8 @@ pub fn pack_sent(core: &Core, output: &mut Output, from: usize) -> Result<(), Al
     pack_behind(core, output, from)
 }
 
-// The same, where there are some. Most units do without its room.
+// The messages behind the first `from`, of which there are some, get their bundles. It is not inlined, so that most units do
+// without the stack memory that it needs.
 #[inline(never)]
 fn pack_behind(core: &Core, output: &mut Output, from: usize) -> Result<(), AllocError>
     requires some { from ≤ length output.old.sent }
@@ -50,6 +51,7 @@ fn pack_last(
     let count = sent.len() - from;
     let mut packed = Vec::new(alloc);
     for taken in 0..count {
+        // The loop's invariant counts by it.
         let _ = taken;
         match sent.pop() {
             None => unreachable!(),

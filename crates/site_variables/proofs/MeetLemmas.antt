@@ -24,7 +24,7 @@ use Rattle.site_variables.specs.Variables.{IsRecorded, IsLinked, IsGrown, IsMade
 use Rattle.site_variables.specs.Meeting.{AreMet}
 use Rattle.site_variables.proofs.LinkLemmas.{with_name_is, grown_name, same_recorded, named_recorded, own_made}
 use Rattle.tree_node.proofs.EachLemmas.{each_append}
-use Rattle.site_model.proofs.StillLemmas.{meet_site}
+use Rattle.site_model.proofs.FrameLemmas.{meet_site}
 use Rattle.bind_protocol.proofs.CodeLemmas.{each_var_of}
 use Rattle.site_model.proofs.BundleLemmas.{equations_append}
 

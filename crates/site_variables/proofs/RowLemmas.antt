@@ -25,7 +25,7 @@ use Rattle.site_model.specs.Transition.{Transition, without_output, with_pick, a
 use Rattle.site_model.specs.Variables.{with_known_equation_as, with_known_equation, with_known_equations, with_new_equation, own_bind, meeting, opening}
 use Rattle.site_model.specs.Messages.{register_row, bind_request_as, bind_request_row, bind_pick}
 use Rattle.site_variables.specs.declared.variables.Variables.{Variables}
-use Rattle.site_variables.specs.Variables.{Parts, IsDone, parts_of, stacks_of, with_parts}
+use Rattle.site_variables.specs.Variables.{Parts, IsVariableRow, parts_of, stacks_of, with_parts}
 use Rattle.site_variables.specs.Meeting.{AreMet}
 
 -- ---- threads
@@ -50,7 +50,7 @@ new_as false (Some None) s x t e h = refl
 new_as false (Some (Some r)) s x t e h = absurd (h r refl)
 
 -- nothing changes
-pub done_kept : (p : Parts) (x : VarName) (t : Term) → p.sent ≡ [] → (is_own p.records x ≡ true) ⊎ ((r : Term) × (knowledge p.records x ≡ Some (Some r))) → IsDone (λ s. without_output (with_known_equation s x t)) [] p p
+pub done_kept : (p : Parts) (x : VarName) (t : Term) → p.sent ≡ [] → (is_own p.records x ≡ true) ⊎ ((r : Term) × (knowledge p.records x ≡ Some (Some r))) → IsVariableRow (λ s. without_output (with_known_equation s x t)) [] p p
 done_kept p x t none h = record {
   more = [];
   sent = sym (append-nil p.sent);
@@ -59,7 +59,7 @@ done_kept p x t none h = record {
 
 -- it is known from now on
 pub done_learnt : (p q : Parts) (x : VarName) (t : Term) → is_own p.records x ≡ false → ((r : Term) → knowledge p.records x ≡ Some (Some r) → ⊥) →
-    q.equations ≡ (x, t) ∷ p.equations → q.records ≡ after_binding p.records x t → q.threads ≡ wake_all x p.threads → q.sent ≡ p.sent → IsDone (λ s. without_output (with_known_equation s x t)) [] p q
+    q.equations ≡ (x, t) ∷ p.equations → q.records ≡ after_binding p.records x t → q.threads ≡ wake_all x p.threads → q.sent ≡ p.sent → IsVariableRow (λ s. without_output (with_known_equation s x t)) [] p q
 done_learnt p q x t own free a b c d = record {
   more = [];
   sent = d ∙ sym (append-nil p.sent);
@@ -79,14 +79,14 @@ answer_unbundled s (Some (Bound t)) x k = refl
 
 -- ---- an own bind, a registration, a request
 
-pub done_bound : (p q : Parts) (x : VarName) (t : Term) → q.equations ≡ (x, t) ∷ p.equations → q.records ≡ after_ask p.records x t → q.threads ≡ wake_all x p.threads → q.sent ≡ p.sent ++ ask_sends p.records x t → IsDone (own_bind 0 x t) [] p q
+pub done_bound : (p q : Parts) (x : VarName) (t : Term) → q.equations ≡ (x, t) ∷ p.equations → q.records ≡ after_ask p.records x t → q.threads ≡ wake_all x p.threads → q.sent ≡ p.sent ++ ask_sends p.records x t → IsVariableRow (own_bind 0 x t) [] p q
 done_bound p q x t a b c d = record {
   more = ask_sends p.records x t;
   sent = d;
   done = λ s. rw (a, b, c, unbundled ((x, t) ∷ p.equations) x t (sites_of (owner_of p.records.owners x))) refl;
 }
 
-pub done_registered : (p q : Parts) (x : VarName) (k : ℕ) → q.equations ≡ p.equations → q.records ≡ after_register p.records x k → q.threads ≡ p.threads → q.sent ≡ p.sent ++ register_sends p.records x k → IsDone (register_row 0 x k) [] p q
+pub done_registered : (p q : Parts) (x : VarName) (k : ℕ) → q.equations ≡ p.equations → q.records ≡ after_register p.records x k → q.threads ≡ p.threads → q.sent ≡ p.sent ++ register_sends p.records x k → IsVariableRow (register_row 0 x k) [] p q
 done_registered p q x k a b c d = record {
   more = register_sends p.records x k;
   sent = d;
@@ -98,7 +98,7 @@ late_as None x t n s h = refl
 late_as (Some None) x t n s h = absurd (h refl)
 late_as (Some (Some r)) x t n s h = refl
 
-pub done_late : (p : Parts) (x : VarName) (t : Term) (n : ThreadName) → knowledge p.records x ≢ Some None → IsDone (bind_request_row 0 x t n) [] p p
+pub done_late : (p : Parts) (x : VarName) (t : Term) (n : ThreadName) → knowledge p.records x ≢ Some None → IsVariableRow (bind_request_row 0 x t n) [] p p
 done_late p x t n h = record {
   more = [];
   sent = sym (append-nil p.sent);
@@ -110,7 +110,7 @@ taken_as None x t n s e = cc
 taken_as (Some None) x t n s e = refl
 taken_as (Some (Some r)) x t n s e = cc
 
-pub done_taken : (p q : Parts) (x : VarName) (t : Term) (n : ThreadName) → knowledge p.records x ≡ Some None → IsDone (own_bind 0 x t) [] p q → IsDone (bind_request_row 0 x t n) (bind_pick n x t ∷ []) p q
+pub done_taken : (p q : Parts) (x : VarName) (t : Term) (n : ThreadName) → knowledge p.records x ≡ Some None → IsVariableRow (own_bind 0 x t) [] p q → IsVariableRow (bind_request_row 0 x t n) (bind_pick n x t ∷ []) p q
 done_taken p q x t n e done = record {
   more = done.more;
   sent = done.sent;
@@ -124,11 +124,11 @@ pub told_append : (s : Site) (es fs : List Equation) → with_known_equations s 
 told_append s [] fs = refl
 told_append s (e ∷ es) fs = told_append (with_known_equation s e.0 e.1) es fs
 
-pub told_none : (p : Parts) → IsDone (λ s. without_output (with_known_equations s [])) [] p p
+pub told_none : (p : Parts) → IsVariableRow (λ s. without_output (with_known_equations s [])) [] p p
 told_none p = record { more = []; sent = sym (append-nil p.sent); done = λ s. refl }
 
-pub told_more : (es : List Equation) (k : ℕ) (d : Equation) (p q r : Parts) → k < length es → d ≡ get_or es k d → IsDone (λ s. without_output (with_known_equations s (take k es))) [] p q → IsDone (λ s. without_output (with_known_equation s d.0 d.1)) [] q r →
-    IsDone (λ s. without_output (with_known_equations s (take (k + 1) es))) [] p r
+pub told_more : (es : List Equation) (k : ℕ) (d : Equation) (p q r : Parts) → k < length es → d ≡ get_or es k d → IsVariableRow (λ s. without_output (with_known_equations s (take k es))) [] p q → IsVariableRow (λ s. without_output (with_known_equation s d.0 d.1)) [] q r →
+    IsVariableRow (λ s. without_output (with_known_equations s (take (k + 1) es))) [] p r
 told_more es k d p q r below at h g = record {
   more = h.more ++ g.more;
   sent = g.sent ∙ (ap (λ (ms : List Sent). ms ++ g.more) h.sent ∙ append_assoc p.sent h.more g.more);
@@ -147,7 +147,7 @@ told_more es k d p q r below at h g = record {
         rw (taken (with_parts s p), first, second, ← before, ← after) refl
 
 -- names that were met
-pub done_met : (xs : List VarName) (v w : Variables) (ts : Threads) (o p : List Sent) → AreMet xs v o w p → IsDone (meeting xs) [] (parts_of v ts o) (parts_of w ts p)
+pub done_met : (xs : List VarName) (v w : Variables) (ts : Threads) (o p : List Sent) → AreMet xs v o w p → IsVariableRow (meeting xs) [] (parts_of v ts o) (parts_of w ts p)
 done_met xs v w ts o p h = record {
   more = meets_send v.binder xs;
   sent = h.sent;
@@ -155,8 +155,8 @@ done_met xs v w ts o p h = record {
 }
 
 -- a message that was opened
-pub done_opened : (m : Msg) (es : List Equation) (u v w : Variables) (ts rs : Threads) (o p : List Sent) → es ≡ message_bundle m → IsDone (λ s. without_output (with_known_equations s es)) [] (parts_of u ts []) (parts_of v rs []) → AreMet (message_vars m) v o w p →
-    IsDone (opening m) [] (parts_of u ts o) (parts_of w rs p)
+pub done_opened : (m : Msg) (es : List Equation) (u v w : Variables) (ts rs : Threads) (o p : List Sent) → es ≡ message_bundle m → IsVariableRow (λ s. without_output (with_known_equations s es)) [] (parts_of u ts []) (parts_of v rs []) → AreMet (message_vars m) v o w p →
+    IsVariableRow (opening m) [] (parts_of u ts o) (parts_of w rs p)
 done_opened m es u v w ts rs o p is h met = record {
   more = meets_send v.binder (message_vars m);
   sent = met.sent;

@@ -69,7 +69,7 @@ with_parts s p = record s { equations = p.equations; records = p.records; thread
 
 -- The row leads from the one parts to the others, with these picks and the messages that were sent between, whatever the
 -- other parts of the site are
-pub record IsDone (row : Site → Transition) (picks : List Pick) (p q : Parts) : Type 0 where
+pub record IsVariableRow (row : Site → Transition) (picks : List Pick) (p q : Parts) : Type 0 where
   pub more : List Sent
   pub sent : q.sent ≡ p.sent ++ more
   pub done : (s : Site) → row (with_parts s p) ≡ record { site = with_parts s q; picks = picks; sent = more; lines = [] }

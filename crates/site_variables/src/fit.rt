@@ -21,8 +21,9 @@ impl Variables {
         self.equations_fit(bundle)
     }
 
+    // Whether each of these equations leads down and agrees with what is known here: `bundle_fits` without the site about it, for
+    // the loop.
     #[tactic(auto, using(site_message::proofs::EachLemmas::each_step, site_message::proofs::EachLemmas::each_stop, site_message::proofs::EachLemmas::each_end))]
-    // Whether each of these equations leads down and agrees with what is known here.
     fn equations_fit(&self, equations: &[(VarName, Term)]) -> bool
         ensures { IsTrue result ↔ Each (EquationFits self.now) equations.now }
     {

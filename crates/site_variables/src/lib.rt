@@ -3,7 +3,7 @@
 //!
 //! For: the machine of a site, which calls this for the variables of its threads' steps and of the messages that come.
 //!
-//! It promises: each call does what the row of the site's definition says (`IsDone`), whatever the site keeps besides:
+//! It promises: each call does what the row of the site's definition says (`IsVariableRow`), whatever the site keeps besides:
 //! `meet`, `open`, `learn`, `bind`, `follow_bind`, `register`, `on_request`; `make` and `ask_owner` do the parts of a step that make
 //! names and send a request. After each of them the store's
 //! equations and names are those of the records (`IsLinked`), and no name is forgotten. Of a message, `can_take`,

@@ -28,11 +28,11 @@ use Rattle.oz_model.specs.Outcome.{outcome_of, print_outcome}
 use Rattle.oz_model.specs.Need.{outcome_need, stack_need, kinds_of}
 use Rattle.oz_model.specs.Effect.{Birth, CellChange, Exchanged, Effect, outcome_effect, pair_effect, goal_effect, stack_effect, exception_effect, vars_among}
 use Rattle.oz_model.specs.EffectNames.{EachOfEffect, EachOfBirth, EachOfChange}
-use Rattle.oz_model.specs.Covered.{BirthIsCovered, EffectIsCovered}
+use Rattle.oz_model.specs.Coverage.{BirthIsCovered, EffectIsCovered}
 use Rattle.oz_model.specs.Step.{IsBindFor, kind_of}
 use Rattle.oz_model.specs.Shapes.{ComesTo, waiting, needing, running, matching, calling, telling_var, telling_field, telling_node, declaring, making_proc, making_cell, exchanging, spawning, trying, raising, failing, printing}
 use Rattle.oz_model.specs.WellFormed.{IsNode, IsNodeOf, EquationsHave, EffectHas}
-use Rattle.oz_model.proofs.AloneLemmas.{effects_are_covered}
+use Rattle.oz_model.proofs.ThreadLemmas.{effects_are_covered}
 use Rattle.oz_model.proofs.EffectNames.{stack_effect_has}
 use Rattle.oz_model.proofs.NodesWell.{stack_nodes}
 use Rattle.oz_model.proofs.ShapeLemmas.{comes_to}

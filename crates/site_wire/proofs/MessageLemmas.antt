@@ -48,7 +48,7 @@ use Rattle.site_wire.proofs.CellLemmas.{leave_fits, get_fits, contents_put}
 use Rattle.site_wire.proofs.SiteLemmas.{registered_fit, still, fits_then, meets_fit, told_fit, told_all_fit, told_each, bind_fits, reply_fits}
 use Rattle.site_wire.proofs.StepLemmas.{dead_woken, begins_fits, settled_fits, units_fit}
 use Rattle.site_model.proofs.CellKeyLemmas.{place_here, place_other}
-use Rattle.site_model.proofs.StillLemmas.{told_all_counters}
+use Rattle.site_model.proofs.FrameLemmas.{told_all_counters}
 use Rattle.site_model.proofs.BundleLemmas.{bundle_wire}
 
 -- ---- the variables of a message

@@ -9,7 +9,7 @@ use Rattle.kernel_syntax.specs.Program.{IsProgram}
 use Rattle.site_message.specs.declared.turn.Turn.{Turn}
 use Rattle.site_message.specs.Story.{own}
 use Rattle.site_message.specs.Wire.{IsSite}
-use Rattle.oz_model.specs.Covered.{IsCovering}
+use Rattle.oz_model.specs.Coverage.{IsCovering}
 use Rattle.oz_model.specs.Effect.{body_item}
 use Rattle.oz_model.specs.Run.{start, first_thread}
 use Rattle.site_model.specs.Site.{Site, initial_site, runnable_threads}

@@ -38,7 +38,7 @@ use Rattle.site_wire.proofs.TermLemmas.{term_spelled, more_fits}
 use Rattle.site_wire.proofs.BundleLemmas.{carried}
 use Rattle.site_wire.proofs.ThreadLemmas.{woken_fit, made_more}
 use Rattle.site_wire.proofs.CellLemmas.{ReplyFits, mails_spelled, contents_put, queues_put}
-use Rattle.site_model.proofs.StillLemmas.{makes_site}
+use Rattle.site_model.proofs.FrameLemmas.{makes_site}
 
 -- ---- own variables
 

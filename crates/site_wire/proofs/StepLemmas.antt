@@ -63,7 +63,7 @@ use Rattle.site_wire.proofs.EffectLemmas.{BirthFits, EffectFits, effect_fits, ex
 use Rattle.site_wire.proofs.ThreadLemmas.{running_fits, goes_fit, starts_fit, lines_up}
 use Rattle.site_wire.proofs.CellLemmas.{request_fits, contents_put, queues_put}
 use Rattle.site_wire.proofs.SiteLemmas.{still, binds_fit, fresh_fits, reply_fits}
-use Rattle.site_model.proofs.StillLemmas.{binds_counters}
+use Rattle.site_model.proofs.FrameLemmas.{binds_counters}
 use Rattle.site_model.proofs.FilledLemmas.{next_kinds}
 
 -- ---- the name of a thread that is born is the fresh one

@@ -20,7 +20,7 @@ use Rattle.kernel_syntax.specs.declared.stmt.Stmt.TheVariants as stmt
 use Rattle.kernel_syntax.specs.Free.{stmt_at}
 use Rattle.site_message.specs.declared.message.Sent.{Sent}
 use Rattle.site_message.specs.Wire.{IsSite, FitsText, FitsFeature, FitsVar, FitsWire}
-use Rattle.oz_model.specs.Covered.{StackIsCovered}
+use Rattle.oz_model.specs.Coverage.{StackIsCovered}
 use Rattle.oz_model.specs.WellFormed.{IsNode, IsNodeOf, EquationsHave, StackHas}
 use Rattle.variable_owner.specs.declared.owners.Owner.TheVariants.{Bound}
 use Rattle.variable_owner.specs.Owners.{Owned, owner_of}
@@ -47,12 +47,15 @@ IsShort (node.Rec label fields) = FitsText label × Each (λ (f : Feature × Var
 IsShort (node.Proc name code formals vars) = length vars ≤ 65535
 IsShort _ = Unit {0}
 
+-- a node of the program whose texts and lists are short enough for a message
 abbrev pub NodeFits : List Stmt → Node → Type 0
 NodeFits p n = IsNode p n × IsShort n
 
+-- its names are of sites, and its node fits
 abbrev pub TermFits : List Stmt → Term → Type 0
 TermFits p t = EachOfTerm IsOfSites t × IsNodeOf (NodeFits p) t
 
+-- the names in these equations are of sites, and their nodes fit
 pub record EquationsFit (p : List Stmt) (s : Store) : Type 0 where
   pub names : Each (EachOfEquation IsOfSites) s
   pub nodes : EquationsHave (NodeFits p) s
@@ -63,6 +66,7 @@ OwnersFit p os = (x : VarName) (t : Term) → owner_of os x ≡ Some (Bound t) �
 
 -- ---- threads
 
+-- the names on this stack are of sites, its nodes fit, and its statements have their variables
 pub record StackFits (p : List Stmt) (st : Stack) : Type 0 where
   pub names : EachOfStack IsOfSites st
   pub nodes : StackHas (NodeFits p) st
@@ -104,10 +108,12 @@ pub record ThreadsFit (p : List Stmt) (i made : ℕ) (ts : Threads) (queue : Cel
 
 -- ---- all
 
+-- the content of a token that is here is a variable of some site
 abbrev pub ContentFits : Token → Type 0
 ContentFits (Here v) = FitsVar v
 ContentFits _ = Unit {0}
 
+-- those that wait for the token of the cell
 abbrev pub queue_in : List (CellName × CellRecord) → CellName → List ThreadName
 queue_in qs c = (cell_record_in qs c).queue
 

@@ -9,7 +9,7 @@ use Rattle.message_book.specs.Book.{IsSiteOf}
 use Rattle.book_lock.specs.declared.lock.SiteSeat.{SiteSeat}
 use Rattle.book_lock.specs.Seats.{last_seen, IsOutsideOf}
 use Rattle.site_model.specs.Site.{Site, initial_site}
-use Rattle.site_core.specs.Seated.{Seated}
+use Rattle.site_core.specs.Site.{SiteState}
 use Rattle.site_worker.specs.declared.host.Host.{Host}
 use Rattle.site_worker.specs.Inside.{book_sites}
 use Rattle.site_worker.specs.Host.{IsHost, IsNewSeat, IsRunTo, state_of, sight, sites_of, program_of}
@@ -21,15 +21,15 @@ no_entries : (h : Host) (es : List Turn) → es ≡ [] → IsRunTo h es (initial
 no_entries h es none = subst (λ (es : List Turn). IsRunTo h es (initial_site (program_of h) h.number)) (sym none) refl
 
 -- a new site with its new seat
-pub new_host : (t : TableId) (h : Host) (v : Seated NoSeat) (x : SiteSeat) → h.site ≡ record { program = v.program; sites = v.sites; state = v.state; spent = v.spent; seat = x }
+pub new_host : (t : TableId) (h : Host) (v : SiteState NoSeat) (x : SiteSeat) → h.site ≡ record { program = v.program; sites = v.sites; state = v.state; spent = v.spent; seat = x }
     → v.state ≡ initial_site v.program x.site → v.spent ≡ false → h.number ≡ x.site → h.spent ≡ false → IsProgram v.program → v.sites ≤ 64 → IsNewSeat t v.sites x → IsHost t h
 new_host t h v x is start fresh mine live real few new =
-    let seat : h.site.seat ≡ x = ap (λ (w : Seated SiteSeat). w.seat) is in
-    let program : program_of h ≡ v.program = ap (λ (w : Seated SiteSeat). w.program) is in
-    let sites : sites_of h ≡ v.sites = ap (λ (w : Seated SiteSeat). w.sites) is in
+    let seat : h.site.seat ≡ x = ap (λ (w : SiteState SiteSeat). w.seat) is in
+    let program : program_of h ≡ v.program = ap (λ (w : SiteState SiteSeat). w.program) is in
+    let sites : sites_of h ≡ v.sites = ap (λ (w : SiteState SiteSeat). w.sites) is in
     let none : (sight h).entries ≡ [] = ap (λ (z : SiteSeat). (last_seen z).entries) seat ∙ new.3 in
     let state : state_of h ≡ initial_site (program_of h) h.number =
-    ap (λ (w : Seated SiteSeat). w.state) is ∙ (start ∙ (λ i. initial_site (sym program i) (sym mine i))) in
+    ap (λ (w : SiteState SiteSeat). w.state) is ∙ (start ∙ (λ i. initial_site (sym program i) (sym mine i))) in
     let run = no_entries h (sight h).entries none in
     record {
       seated = record {
@@ -44,7 +44,7 @@ new_host t h v x is start fresh mine live real few new =
       state = initial_site (program_of h) h.number;
       run = run;
       live = λ _. (
-        record { run = run; state = state; live = ap (λ (w : Seated SiteSeat). w.spent) is ∙ fresh },
+        record { run = run; state = state; live = ap (λ (w : SiteState SiteSeat). w.spent) is ∙ fresh },
         subst (λ (k : ℕ). hand k (sight h).hands ≡ []) (sym mine) (ap (λ (z : SiteSeat). hand x.site (last_seen z).hands) seat ∙ new.4),
       );
       over = λ yes. absurd (off (sym live ∙ yes));

@@ -22,19 +22,19 @@ use Rattle.site_model.specs.Run.{SiteRun, IsEntry, message_of, delivered_message
 use Rattle.tree_node.specs.Each.{Each}
 use Rattle.site_wire.specs.Laws.{SitesSendWhatFits}
 use Rattle.site_wire.specs.Sending.{CanBeSpelled}
-use Rattle.site_core.specs.Seated.{Seated, IsTurnMade, message_in, number_in}
+use Rattle.site_core.specs.Site.{SiteState, IsTurnMade, message_in, number_in}
 use Rattle.site_worker.specs.declared.host.Host.{Host}
 use Rattle.site_worker.specs.declared.inside.Fetched.{Fetched}
 use Rattle.site_worker.specs.declared.inside.Fetched.TheVariants.{Over, Open}
-use Rattle.site_worker.specs.declared.inside.Delivered.TheVariants.{Posted, Refused}
-use Rattle.site_worker.specs.Inside.{book_sites, book_steps, NoneWaits, HasTaken, HasFetched, HasDelivered, HasClosed, Since}
+use Rattle.site_worker.specs.declared.inside.PostOutcome.TheVariants.{Posted, Refused}
+use Rattle.site_worker.specs.Inside.{book_sites, book_steps, NoneWaits, HasTaken, HasFetched, HasPosted, HasClosed, Since}
 use Rattle.site_worker.specs.Host.{state_of, sight, program_of, sites_of, fixed_of, IsRunTo, IsSeated, HasCome, IsHost, IsSpelledBy, HasMessage, HasTurned, HasFailed, number_list}
-use Rattle.site_worker.specs.declared.outcome.Visited.{Visited}
-use Rattle.site_worker.specs.declared.outcome.Visited.TheVariants.{Did, Nothing}
-use Rattle.site_worker.specs.declared.outcome.Visited.TheVariants as visited
+use Rattle.site_worker.specs.declared.visited.Visited.{Visited}
+use Rattle.site_worker.specs.declared.visited.Visited.TheVariants.{Did, Nothing}
+use Rattle.site_worker.specs.declared.visited.Visited.TheVariants as visited
 use Rattle.site_worker.specs.Visit.{IsVisit, IsFirstHalf, IsSecondHalf, HasNoEntry, HasEntry, HasMadeTurn}
 use Rattle.site_worker.proofs.RunLemmas.{message_later, run_later, run_entry}
-use Rattle.site_model.proofs.StillLemmas.{few_units}
+use Rattle.site_model.proofs.FrameLemmas.{few_units}
 
 -- the host with another value of its seat
 abbrev pub with_seat : Host → SiteSeat → Host
@@ -143,7 +143,7 @@ fetched_host table h y x r is mine out a =
 
 -- ---- the turn
 
-seated_turn : (table : TableId) (h : Host) (v : Seated SiteSeat) → v.seat ≡ h.site.seat → (v.program ≡ program_of h) × (v.sites ≡ sites_of h) × (v.state.records.site ≡ (state_of h).records.site)
+seated_turn : (table : TableId) (h : Host) (v : SiteState SiteSeat) → v.seat ≡ h.site.seat → (v.program ≡ program_of h) × (v.sites ≡ sites_of h) × (v.state.records.site ≡ (state_of h).records.site)
     → IsSeated table h → IsSeated table (record h { site = v })
 seated_turn table h v seat same mine = record {
   outside = subst (IsOutsideOf table) (sym seat) mine.outside;
@@ -156,7 +156,7 @@ seated_turn table h v seat same mine = record {
 }
 
 -- a host whose site made a turn with what was taken
-pub turned_host : (table : TableId) (h : Host) (v : Seated SiteSeat) (recipients quantum : ℕ) (o : Option (ℕ × Msg)) (e : Turn) → HasMessage table h o → v.seat ≡ h.site.seat
+pub turned_host : (table : TableId) (h : Host) (v : SiteState SiteSeat) (recipients quantum : ℕ) (o : Option (ℕ × Msg)) (e : Turn) → HasMessage table h o → v.seat ≡ h.site.seat
     → (v.program ≡ program_of h) × (v.sites ≡ sites_of h) × (v.state.records.site ≡ (state_of h).records.site) → v.spent ≡ false → quantum ≤ 64
     → IsTurnMade (program_of h) (sites_of h) (state_of h) o quantum e v.state → v.state.steps ≤ 1000000000 → HasTurned table (record h { site = v; recipients = recipients }) e
 turned_host table h v recipients quantum o e mine seat same live few turn steps =
@@ -177,7 +177,7 @@ turned_host table h v recipients quantum o e mine seat same live few turn steps 
     }
 
 -- a host whose site had no memory for its turn
-pub spent_host : (table : TableId) (h : Host) (v : Seated SiteSeat) (o : Option (ℕ × Msg)) → HasMessage table h o → v.seat ≡ h.site.seat
+pub spent_host : (table : TableId) (h : Host) (v : SiteState SiteSeat) (o : Option (ℕ × Msg)) → HasMessage table h o → v.seat ≡ h.site.seat
     → (v.program ≡ program_of h) × (v.sites ≡ sites_of h) × (v.state.records.site ≡ (state_of h).records.site) → HasFailed table (record h { site = v; spent = true })
 spent_host table h v o mine seat same =
     let seated = seated_turn table h v seat same mine.seated in
@@ -253,7 +253,7 @@ sent_fits law table h e mine =
     (subst (Each (λ (d : Turn). CanBeSpelled d.sent)) (own_first k e es mine.site) all).0
 
 module _ (table : TableId) (h : Host) (e : Turn) (x : SiteSeat) (mine : HasTurned table h e) (out : IsOutsideOf table x) (same : x.site ≡ h.site.seat.site) where
-  posted_host : (o : Option Reason) → Since h.number (sight h) (last_seen x) (λ now. HasDelivered e now (last_seen x) (Posted o))
+  posted_host : (o : Option Reason) → Since h.number (sight h) (last_seen x) (λ now. HasPosted e now (last_seen x) (Posted o))
       → IsHost table (with_seat h x) × ((last_seen x).reason ≡ o) × HasEntry h.number (sight h) (last_seen x) e × (hand h.number (last_seen x).hands ≡ []) × IsContinuation (last_seen x).entries (sight h).entries
   posted_host o a =
       let now = a.0 in
@@ -277,7 +277,7 @@ module _ (table : TableId) (h : Host) (e : Turn) (x : SiteSeat) (mine : HasTurne
         (e ∷ a.1.begins.0, found.0 ∙ ap (λ l. e ∷ l) a.1.begins.1),
       )
 
-  refused_host : (r : Reason) → Since h.number (sight h) (last_seen x) (λ now. HasDelivered e now (last_seen x) (Refused r))
+  refused_host : (r : Reason) → Since h.number (sight h) (last_seen x) (λ now. HasPosted e now (last_seen x) (Refused r))
       → IsHost table (record (with_seat h x) { spent = true }) × ((last_seen x).reason ≡ Some r) × HasNoEntry h.number (sight h) (last_seen x) × IsContinuation (last_seen x).entries (sight h).entries
   refused_host r a =
       let found = a.2 in
@@ -320,16 +320,16 @@ lent : (y z : SiteSeat) (k : ℕ) (new : Sight) (P : Sight → Type 0) → y ≡
 lent y z k new P is number a = subst (λ (i : ℕ). Since i (last_seen z) new P) (sym number) (subst (λ (w : SiteSeat). Since w.site (last_seen w) new P) is a)
 
 pub posted_by : (table : TableId) (h : Host) (e : Turn) (y x : SiteSeat) → y ≡ h.site.seat → HasTurned table h e → IsOutsideOf table x × (x.site ≡ y.site) → (o : Option Reason)
-    → Since y.site (last_seen y) (last_seen x) (λ now. HasDelivered e now (last_seen x) (Posted o))
+    → Since y.site (last_seen y) (last_seen x) (λ now. HasPosted e now (last_seen x) (Posted o))
     → IsHost table (with_seat h x) × ((last_seen x).reason ≡ o) × HasEntry h.number (sight h) (last_seen x) e × (hand h.number (last_seen x).hands ≡ []) × IsContinuation (last_seen x).entries (sight h).entries
 posted_by table h e y x is mine out o a =
-    posted_host table h e x mine out.0 (out.1 ∙ ap (λ (z : SiteSeat). z.site) is) o (lent y h.site.seat h.number (last_seen x) (λ now. HasDelivered e now (last_seen x) (Posted o)) is mine.seated.seat a)
+    posted_host table h e x mine out.0 (out.1 ∙ ap (λ (z : SiteSeat). z.site) is) o (lent y h.site.seat h.number (last_seen x) (λ now. HasPosted e now (last_seen x) (Posted o)) is mine.seated.seat a)
 
 pub refused_by : (table : TableId) (h : Host) (e : Turn) (y x : SiteSeat) → y ≡ h.site.seat → HasTurned table h e → IsOutsideOf table x × (x.site ≡ y.site) → (r : Reason)
-    → Since y.site (last_seen y) (last_seen x) (λ now. HasDelivered e now (last_seen x) (Refused r))
+    → Since y.site (last_seen y) (last_seen x) (λ now. HasPosted e now (last_seen x) (Refused r))
     → IsHost table (record (with_seat h x) { spent = true }) × ((last_seen x).reason ≡ Some r) × HasNoEntry h.number (sight h) (last_seen x) × IsContinuation (last_seen x).entries (sight h).entries
 refused_by table h e y x is mine out r a =
-    refused_host table h e x mine out.0 (out.1 ∙ ap (λ (z : SiteSeat). z.site) is) r (lent y h.site.seat h.number (last_seen x) (λ now. HasDelivered e now (last_seen x) (Refused r)) is mine.seated.seat a)
+    refused_host table h e x mine out.0 (out.1 ∙ ap (λ (z : SiteSeat). z.site) is) r (lent y h.site.seat h.number (last_seen x) (λ now. HasPosted e now (last_seen x) (Refused r)) is mine.seated.seat a)
 
 pub failed_by : (table : TableId) (h : Host) (y x : SiteSeat) → y ≡ h.site.seat → HasFailed table h → IsOutsideOf table x × (x.site ≡ y.site) → (r : Reason)
     → Since y.site (last_seen y) (last_seen x) (λ now. HasClosed now (last_seen x) r)

@@ -11,7 +11,7 @@ use Rattle.book_lock.specs.declared.lock.SiteSeat.{SiteSeat}
 use Rattle.book_lock.specs.declared.view.View.{View}
 use Rattle.book_lock.specs.Rule.{part, outside, head_of}
 use Rattle.book_lock.specs.Seats.{last_seen, parts_of, AreNewSeats}
-use Rattle.site_core.specs.Seated.{Seated}
+use Rattle.site_core.specs.Site.{SiteState}
 use Rattle.site_worker.specs.declared.host.Host.{Host}
 use Rattle.site_worker.specs.Inside.{book_sites}
 use Rattle.site_worker.specs.Host.{IsNewSeat}
@@ -23,7 +23,7 @@ pub last_seat : (t : TableId) (k : ℕ) (x : Sight) (ss : List SiteSeat) (s : Si
 last_seat t k x [] s new = (tt, let a = new.0.0 in omega arith, new.0.1, new.0.2 ∙ ap (λ j. outside (part j x ∷ []) ∷ []) (sym new.0.0))
 last_seat t k x (y ∷ ss) s new = let r = last_seat t (k + 1) x ss s new.1 in ((new.0, r.0), let a = r.1 in omega arith, r.2, r.3)
 
-pub last_site : (p : List Stmt) (n k : ℕ) (ss : List (Seated NoSeat)) (s : Seated NoSeat) → AreNewSites p n k (ss ++ s ∷ []) → AreNewSites p n k ss × IsNewSite p n (k + length ss) s
+pub last_site : (p : List Stmt) (n k : ℕ) (ss : List (SiteState NoSeat)) (s : SiteState NoSeat) → AreNewSites p n k (ss ++ s ∷ []) → AreNewSites p n k ss × IsNewSite p n (k + length ss) s
 last_site p n k [] s new = (tt, subst (λ i. IsNewSite p n i s) (plus_zero k) new.0)
   where
     plus_zero : (n : ℕ) → n ≡ n + 0
@@ -34,7 +34,7 @@ last_site p n k (y ∷ ss) s new =
     plus_one : (k m : ℕ) → k + 1 + m ≡ k + suc m
     plus_one k m = omega arith
 
-pub more_sites : (p : List Stmt) (n k : ℕ) (ss : List (Seated NoSeat)) (s : Seated NoSeat) → AreNewSites p n k ss → IsNewSite p n (k + length ss) s → AreNewSites p n k (ss ++ s ∷ [])
+pub more_sites : (p : List Stmt) (n k : ℕ) (ss : List (SiteState NoSeat)) (s : SiteState NoSeat) → AreNewSites p n k ss → IsNewSite p n (k + length ss) s → AreNewSites p n k (ss ++ s ∷ [])
 more_sites p n k [] s new last = (subst (λ i. IsNewSite p n i s) (plus_zero k) last, tt)
   where
     plus_zero : (n : ℕ) → n + 0 ≡ n
@@ -59,7 +59,7 @@ new_seat t n x s fresh site table views =
     )
 
 -- the last site and the last seat are of one number, and the others are new
-pub next_host : (t : TableId) (p : List Stmt) (n : ℕ) (x : Sight) (sites : List (Seated NoSeat)) (seats : List SiteSeat) (site : Seated NoSeat) (seat : SiteSeat) → IsFresh n x → length sites ≡ length seats → 1 + length seats ≤ n
+pub next_host : (t : TableId) (p : List Stmt) (n : ℕ) (x : Sight) (sites : List (SiteState NoSeat)) (seats : List SiteSeat) (site : SiteState NoSeat) (seat : SiteSeat) → IsFresh n x → length sites ≡ length seats → 1 + length seats ≤ n
     → AreNewSites p n 1 (sites ++ site ∷ []) → AreNewSeats t 1 x (seats ++ seat ∷ [])
     → IsNewSite p n seat.site site × IsNewSeat t n seat × AreNewSites p n 1 sites × (seat.site ≡ 1 + length seats)
 next_host t p n x sites seats site seat fresh many few new new_seats =

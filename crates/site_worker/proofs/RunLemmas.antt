@@ -11,7 +11,7 @@ use Rattle.message_book.specs.Book.{AreSites, IsSiteOf}
 use Rattle.book_lock.specs.Rule.{IsContinuation, Each}
 use Rattle.site_model.specs.Site.{Site, initial_site}
 use Rattle.site_model.specs.Run.{SiteRun, IsEntry, IsReachedBy, IsSiteIn, delivered_message, message_of}
-use Rattle.site_core.specs.Seated.{message_in, number_in}
+use Rattle.site_core.specs.Site.{message_in, number_in}
 use Rattle.site_message.proofs.JournalLemmas.{sent_more}
 
 -- ---- messages

@@ -15,7 +15,7 @@ use Rattle.book_lock.specs.Seats.{last_seen, IsOutsideOf}
 use Rattle.site_model.specs.Site.{Site}
 use Rattle.site_model.specs.Bundle.{bundle_limit}
 use Rattle.site_model.specs.Run.{SiteRun, delivered_message}
-use Rattle.site_core.specs.Seated.{IsTurnMade, message_in, number_in}
+use Rattle.site_core.specs.Site.{IsTurnMade, message_in, number_in}
 use Rattle.site_worker.specs.Inside.{book_sites, NoneWaits}
 use Rattle.site_worker.specs.declared.host.Host.{Host}
 
@@ -27,6 +27,7 @@ state_of h = h.site.state
 abbrev pub sight : Host → Sight
 sight h = last_seen h.site.seat
 
+-- the program of the host's site
 abbrev pub program_of : Host → List Stmt
 program_of h = h.site.program
 

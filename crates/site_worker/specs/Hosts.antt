@@ -15,6 +15,7 @@ use Rattle.site_worker.specs.declared.host.Host.{Host}
 use Rattle.site_worker.specs.declared.load.Group.{Group}
 use Rattle.site_worker.specs.Host.{IsHost, IsHostOf, sight}
 
+-- the number of the host's site
 abbrev pub number_of : Host → ℕ
 number_of h = h.number
 

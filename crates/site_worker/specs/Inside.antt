@@ -12,8 +12,8 @@ use Rattle.message_book.specs.Book.{BookState, without_delivered, first_reason}
 use Rattle.book_lock.specs.Rule.{AreInAgreement}
 use Rattle.site_worker.specs.declared.inside.Fetched.{Fetched}
 use Rattle.site_worker.specs.declared.inside.Fetched.TheVariants.{Over, Open}
-use Rattle.site_worker.specs.declared.inside.Delivered.{Delivered}
-use Rattle.site_worker.specs.declared.inside.Delivered.TheVariants.{Posted, Refused}
+use Rattle.site_worker.specs.declared.inside.PostOutcome.{PostOutcome}
+use Rattle.site_worker.specs.declared.inside.PostOutcome.TheVariants.{Posted, Refused}
 
 -- the number of sites of the book that shows this
 abbrev pub book_sites : Sight → ℕ
@@ -44,9 +44,9 @@ HasFetched k old new (Open o limit) = (old.reason ≡ None) × (new.reason ≡ N
 
 -- the turn is the newest entry, its message is off the hand, and the book has this reason or none; or the book has this
 -- reason and no entry more
-abbrev pub HasDelivered : Turn → Sight → Sight → Delivered → Type 0
-HasDelivered e old new (Posted o) = (new.entries ≡ e ∷ old.entries) × (hand e.site new.hands ≡ without_delivered e.delivered (hand e.site old.hands)) × (new.reason ≡ o)
-HasDelivered e old new (Refused r) = (new.entries ≡ old.entries) × (new.reason ≡ Some r)
+abbrev pub HasPosted : Turn → Sight → Sight → PostOutcome → Type 0
+HasPosted e old new (Posted o) = (new.entries ≡ e ∷ old.entries) × (hand e.site new.hands ≡ without_delivered e.delivered (hand e.site old.hands)) × (new.reason ≡ o)
+HasPosted e old new (Refused r) = (new.entries ≡ old.entries) × (new.reason ≡ Some r)
 
 -- the book has this reason, which is its first one or want of memory, and nothing else changed
 abbrev pub IsClosedBy : BookState → BookState → Reason → Type 0

@@ -5,18 +5,18 @@ use Rattle.site_message.specs.declared.story.NoSeat.{NoSeat}
 use Rattle.site_message.specs.declared.story.Sight.{Sight}
 use Rattle.site_message.specs.Story.{hand}
 use Rattle.site_model.specs.Site.{initial_site}
-use Rattle.site_core.specs.Seated.{Seated}
+use Rattle.site_core.specs.Site.{SiteState}
 use Rattle.site_worker.specs.Inside.{book_sites}
 
 -- the site k of the program p, of n, at its start
-pub record IsNewSite (p : List Stmt) (n k : ℕ) (s : Seated NoSeat) : Type 0 where
+pub record IsNewSite (p : List Stmt) (n k : ℕ) (s : SiteState NoSeat) : Type 0 where
   pub program : s.program ≡ p
   pub sites : s.sites ≡ n
   pub state : s.state ≡ initial_site p k
   pub live : s.spent ≡ false
 
 -- the sites from k on
-abbrev pub AreNewSites : List Stmt → ℕ → ℕ → List (Seated NoSeat) → Type 0
+abbrev pub AreNewSites : List Stmt → ℕ → ℕ → List (SiteState NoSeat) → Type 0
 AreNewSites p n k [] = Unit {0}
 AreNewSites p n k (s ∷ ss) = IsNewSite p n k s × AreNewSites p n (k + 1) ss
 

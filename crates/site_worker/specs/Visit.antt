@@ -7,14 +7,14 @@ use Rattle.site_message.specs.declared.story.Sight.{Sight}
 use Rattle.site_message.specs.Story.{own, hand}
 use Rattle.site_model.specs.Run.{delivered_message}
 use Rattle.site_model.specs.Site.{is_idle}
-use Rattle.site_core.specs.Seated.{IsTurnMade, message_in, number_in}
+use Rattle.site_core.specs.Site.{IsTurnMade, message_in, number_in}
 use Rattle.site_worker.specs.Inside.{book_steps, NoneWaits}
 use Rattle.site_worker.specs.Host.{IsHost, HasSpelling, program_of, sites_of, state_of, fixed_of, sight}
 use Rattle.site_worker.specs.declared.host.Host.{Host}
 use Rattle.site_worker.specs.declared.inside.Fetched.{Fetched}
 use Rattle.site_worker.specs.declared.inside.Fetched.TheVariants as fetched
-use Rattle.site_worker.specs.declared.outcome.Visited.{Visited}
-use Rattle.site_worker.specs.declared.outcome.Visited.TheVariants.{Did, Nothing, Over}
+use Rattle.site_worker.specs.declared.visited.Visited.{Visited}
+use Rattle.site_worker.specs.declared.visited.Visited.TheVariants.{Did, Nothing, Over}
 
 -- the site k has no entry more
 abbrev pub HasNoEntry : ℕ → Sight → Sight → Type 0

@@ -7,16 +7,16 @@ ghost use Rattle.book_lock.specs.Seats.{lock_id, last_seen};
 ghost use Rattle.kernel_syntax.specs.Program.{IsProgram};
 ghost use Rattle.site_message.specs.declared.message.Msg.{Msg as AMsg};
 ghost use Rattle.site_model.specs.Site.{initial_site};
-ghost use Rattle.site_core.specs.Seated.{IsTurnMade};
+ghost use Rattle.site_core.specs.Site.{IsTurnMade};
 ghost use Rattle.site_worker.specs.Host.{IsHost, IsHostOf, IsNewSeat, IsSpelledBy, HasMessage, HasSpelling, HasTurned, HasFailed, HasTriedTurn, program_of, sites_of, state_of, sight};
 ghost use Rattle.site_worker.specs.Visit.{IsVisit, IsSameHost, IsFirstHalf, IsSecondHalf, IsGivenUp};
 
 use crate::gate::Gate;
-use crate::inside::{Delivered, Fetched};
-use crate::outcome::Visited;
+use crate::inside::{Fetched, PostOutcome};
 use crate::seats;
+use crate::visited::Visited;
 use book_lock::{CountedLock, SiteSeat};
-use message_book::{Book, Spelled};
+use message_book::{Book, SpelledTurn};
 use site_core::Site;
 use site_message::{Msg, NoSeat, Quantum, Sent, Turn};
 use site_wire::sites_send_what_fits;
@@ -58,7 +58,7 @@ pub fn visit<'a, G: Gate, R: Wait>(
             host.turns = host.turns.saturating_add(1);
             gate.before_turn(rt, host.number, host.turns);
             match host.turn(taken, limit) {
-                Some(turn) => host.deliver(rt, lock, turn),
+                Some(turn) => host.post(rt, lock, turn),
                 None => host.fail(rt, lock),
             }
         }
@@ -106,7 +106,7 @@ impl<'a> Host<'a> {
 
     // The turn, outside the lock, from the bytes of its message to those of the messages that it sends. Without memory the site
     // is given up.
-    fn turn(&mut self, taken: Option<(u64, Bytes)>, limit: u64) -> Option<Spelled>
+    fn turn(&mut self, taken: Option<(u64, Bytes)>, limit: u64) -> Option<SpelledTurn>
         requires taken { (t : TableId) × HasSpelling t self.old taken }
         requires limit { limit ≤ 1000000000 }
         ensures same { IsSameHost self.old self.new × (self.new.site.seat ≡ self.old.site.seat) }
@@ -119,7 +119,7 @@ impl<'a> Host<'a> {
         };
         let turn = self.make_turn(message, limit)?;
         sites_send_what_fits();
-        let Ok(spelled) = Spelled::new(self.alloc, turn) else {
+        let Ok(spelled) = SpelledTurn::new(self.alloc, turn) else {
             self.spent = true;
             return None;
         };
@@ -148,17 +148,17 @@ impl<'a> Host<'a> {
     }
 
     // The second half of a visit. A site whose turn is refused is given up.
-    fn deliver<R: Wait>(&mut self, rt: &R, lock: &CountedLock<Book>, turn: Spelled) -> Visited
+    fn post<R: Wait>(&mut self, rt: &R, lock: &CountedLock<Book>, turn: SpelledTurn) -> Visited
         requires { HasTurned (lock_id lock.now) self.old turn }
         ensures host { IsHost (lock_id lock.now) self.new × IsSameHost self.old self.new }
         ensures visited { IsSecondHalf self.old.number turn (sight self.old) (sight self.new) result }
         ensures state { state_of self.new ≡ state_of self.old }
         ensures begins { IsContinuation (sight self.new).entries (sight self.old).entries }
     {
-        match seats::deliver(rt, lock, self.site.seat(), turn) {
-            Delivered::Posted(None) => Visited::Did,
-            Delivered::Posted(Some(reason)) => Visited::Over(reason),
-            Delivered::Refused(reason) => {
+        match seats::post(rt, lock, self.site.seat(), turn) {
+            PostOutcome::Posted(None) => Visited::Did,
+            PostOutcome::Posted(Some(reason)) => Visited::Over(reason),
+            PostOutcome::Refused(reason) => {
                 self.spent = true;
                 Visited::Over(reason)
             }

@@ -4,9 +4,9 @@ ghost use Rattle.std.specs.Prelude.{◌≡◌, ℕ, Some, Contains};
 ghost use Rattle.site_message.specs.Story.{hand};
 ghost use Rattle.message_book.specs.Book.{IsSiteOf, sight_of};
 ghost use Rattle.book_lock.specs.Rule.{IsLawfulChange};
-ghost use Rattle.site_worker.specs.Inside.{HasFetched, HasDelivered, IsClosedBy};
+ghost use Rattle.site_worker.specs.Inside.{HasFetched, HasPosted, IsClosedBy};
 
-use message_book::{Book, Posted, Spelled};
+use message_book::{Book, Posted, SpelledTurn};
 use site_message::Reason;
 use wire_form::Bytes;
 
@@ -20,7 +20,7 @@ pub(crate) enum Fetched {
 
 /// What the second half leaves: the turn was posted, and the book has a reason now or none; or it was refused.
 #[derive(Drop)]
-pub(crate) enum Delivered {
+pub(crate) enum PostOutcome {
     Posted(Option<Reason>),
     Refused(Reason),
 }
@@ -39,16 +39,16 @@ pub(crate) fn fetch(book: &mut Book, site: u32) -> Fetched
 }
 
 // Posts the turn. Where memory is wanting the book is closed.
-pub(crate) fn deliver(book: &mut Book, turn: Spelled) -> Delivered
+pub(crate) fn post(book: &mut Book, turn: SpelledTurn) -> PostOutcome
     requires site { IsSiteOf book.old.limits.sites turn.site }
     requires delivered { (k : ℕ) → turn.delivered ≡ Some k → Contains (hand turn.site book.old.hands) k }
     ensures lawful { IsLawfulChange turn.site (sight_of book.old) (sight_of book.new) }
-    ensures delivered { HasDelivered turn (sight_of book.old) (sight_of book.new) result }
+    ensures delivered { HasPosted turn (sight_of book.old) (sight_of book.new) result }
 {
     match book.post(turn) {
-        Ok(()) => Delivered::Posted(book.reason()),
-        Err(Posted::Closed(reason)) => Delivered::Refused(reason),
-        Err(Posted::Memory) => Delivered::Refused(fail(book)),
+        Ok(()) => PostOutcome::Posted(book.reason()),
+        Err(Posted::Closed(reason)) => PostOutcome::Refused(reason),
+        Err(Posted::Memory) => PostOutcome::Refused(fail(book)),
     }
 }
 

@@ -9,7 +9,7 @@
 //! turn is made while the seat is outside the lock alone (the condition of the site's `turn`). `drive` gives back the hosts
 //! that it was given, each once with its seat, and when it ends in `Ok` some seat saw a reason to end; without memory nothing
 //! was done. `finish` takes the book out: its journal is a run of the world of sites (`IsWorldRun`, which is `WorldRun` of
-//! `site_model` with some states), nothing had ended it before its last turn (`WentOn`), and its limits are those that the seats
+//! `site_model` with some states), nothing had ended it before its last turn (`HasNoEarlierEnd`), and its limits are those that the seats
 //! saw. `run_sites` does all of it from a program to the finished book, which has a reason.
 //!
 //! It stands on `site_core` for a site and its turns, on `site_model` for what turns and runs are, on `message_book` and
@@ -22,21 +22,21 @@
 //! (TOPLAS 21(3), 1999), and Van Roy and others, *Mobile Objects in Distributed Oz* (TOPLAS 19(5), 1997).
 #![tactic(auto)]
 
-mod drives;
+mod driving;
 mod gate;
 mod host;
 mod inside;
 mod load;
-mod outcome;
 mod run;
 mod seats;
 mod shared;
 mod sites;
+mod visited;
 mod work;
 
-pub use drives::drive;
+pub use driving::drive;
 pub use gate::{Gate, OpenGate};
 pub use host::{Host, visit};
-pub use outcome::Visited;
 pub use run::finish;
-pub use sites::{Bounds, run_sites};
+pub use sites::{RunLimits, run_sites};
+pub use visited::Visited;

@@ -50,6 +50,7 @@ pub(crate) fn prepare<'a>(
     let mut left_to_caller = Vec::new(alloc);
     let mut groups = Vec::new(alloc);
     for made in 0..workers {
+        // The loop's invariant counts by it.
         let _ = made;
         let parker = Parker::new(alloc)?;
         unparkers.push(parker.unparker().clone()?)?;
@@ -69,7 +70,7 @@ pub(crate) fn prepare<'a>(
     })
 }
 
-// Gives each worker its hosts.
+// Gives each worker its hosts. The lock is there for the contract.
 pub(crate) fn deal<'a>(
     mut groups: Vec<Group<'a>>,
     mut hosts: Vec<Host<'a>>,
@@ -90,7 +91,7 @@ pub(crate) fn deal<'a>(
     groups
 }
 
-// Puts the hosts behind the others.
+// Puts the hosts behind the others. The lock is there for the contract.
 pub(crate) fn append<'a>(all: &mut Vec<Host<'a>>, mut more: Vec<Host<'a>>, lock: &CountedLock<Book>)
     requires room { length all.old.items + length more.items ≤ vec_capacity all.old }
     requires hosts { AreHosts (lock_id lock.now) all.old.items × AreHosts (lock_id lock.now) more.items }

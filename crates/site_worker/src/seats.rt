@@ -6,12 +6,12 @@ ghost use Rattle.message_book.specs.Book.{IsSiteOf};
 ghost use Rattle.book_lock.specs.Rule.{AreInAgreement};
 ghost use Rattle.book_lock.specs.Seats.{lock_id, last_seen, IsOutsideOf};
 ghost use Rattle.site_message.specs.declared.story.Sight.{Sight};
-ghost use Rattle.site_worker.specs.Inside.{HasFetched, HasDelivered, HasClosed, Since, book_sites};
+ghost use Rattle.site_worker.specs.Inside.{HasFetched, HasPosted, HasClosed, Since, book_sites};
 
 use crate::inside;
-use crate::inside::{Delivered, Fetched};
+use crate::inside::{Fetched, PostOutcome};
 use book_lock::{CountedLock, SiteSeat};
-use message_book::{Book, Spelled};
+use message_book::{Book, SpelledTurn};
 use site_message::Reason;
 use std::sync::Wait;
 
@@ -30,20 +30,20 @@ pub(crate) fn fetch<R: Wait>(rt: &R, lock: &CountedLock<Book>, seat: &mut SiteSe
 }
 
 // The second half of a visit.
-pub(crate) fn deliver<R: Wait>(
+pub(crate) fn post<R: Wait>(
     rt: &R,
     lock: &CountedLock<Book>,
     seat: &mut SiteSeat,
-    turn: Spelled,
-) -> Delivered
+    turn: SpelledTurn,
+) -> PostOutcome
     requires out { IsOutsideOf (lock_id lock.now) seat.old }
     requires site { IsSiteOf (book_sites (last_seen seat.old)) seat.old.site × (turn.site ≡ seat.old.site) }
     requires delivered { (k : ℕ) → turn.delivered ≡ Some k → Contains (hand seat.old.site (last_seen seat.old).hands) k }
     ensures seat { IsOutsideOf (lock_id lock.now) seat.new × (seat.new.site ≡ seat.old.site) }
-    ensures delivered { Since seat.old.site (last_seen seat.old) (last_seen seat.new) (λ now. HasDelivered turn now (last_seen seat.new) result) }
+    ensures delivered { Since seat.old.site (last_seen seat.old) (last_seen seat.new) (λ now. HasPosted turn now (last_seen seat.new) result) }
 {
     let mut held = lock.enter(rt, seat);
-    let delivered = inside::deliver(&mut held.value, turn);
+    let delivered = inside::post(&mut held.value, turn);
     lock.leave(seat, held);
     delivered
 }

@@ -3,13 +3,13 @@
 ghost use Rattle.std.specs.Prelude.{◌≡◌, ℕ, ◌<◌, ◌≤◌, [], Some, length, vec_capacity, IfOk};
 ghost use Rattle.site_message.specs.declared.reason.Reason.{Reason};
 ghost use Rattle.site_message.specs.declared.story.Sight.{Sight};
-ghost use Rattle.site_message.specs.Progress.{WentOn};
+ghost use Rattle.site_message.specs.EarlierEnd.{HasNoEarlierEnd};
 ghost use Rattle.message_book.specs.Book.{IsSiteOf};
 ghost use Rattle.book_lock.specs.Seats.{lock_id, AreNewSeats};
 ghost use Rattle.site_worker.specs.Hosts.{AreHosts, AreHostsOf, IsComplete, IsWorldRun};
 ghost use Rattle.site_worker.specs.Sites.{AreNewSites, IsFresh};
 
-use crate::drives::drive;
+use crate::driving::drive;
 use crate::gate::Gate;
 use crate::host::Host;
 use crate::run::finish;
@@ -24,7 +24,7 @@ use std::thread::Threads;
 
 /// How large a run may be: its sites, the own steps of each, and the messages; and how many workers drive it.
 #[derive(Clone, Copy, Debug, PartialEq, Eq)]
-pub struct Bounds {
+pub struct RunLimits {
     pub sites: u32,
     pub workers: u32,
     pub steps: u64,
@@ -48,7 +48,7 @@ fn new_sites<'a>(
     Ok(sites)
 }
 
-// Gives each site its seat. The empty list has room for the hosts.
+// Gives each site its seat. The empty list has room for the hosts. The lock is there for the contract.
 fn seat_all<'a>(
     mut sites: Vec<Site<'a, NoSeat>>,
     mut seats: Vec<SiteSeat>,
@@ -82,7 +82,7 @@ pub fn run_sites<G: Gate + Sync, R: Threads + Wait + Sync>(
     rt: &R,
     alloc: Global,
     program: &Program,
-    bounds: Bounds,
+    bounds: RunLimits,
     gate: &G,
 ) -> Result<Book, AllocError>
     requires sites { IsSiteOf 64 bounds.sites }
@@ -91,7 +91,7 @@ pub fn run_sites<G: Gate + Sync, R: Threads + Wait + Sync>(
     requires messages { bounds.messages ≤ 4000000000 }
     ensures run { IfOk result (λ b. IsWorldRun program.now bounds.sites b.journal) }
     ensures limits { IfOk result (λ b. (b.limits.sites ≡ bounds.sites) × (b.limits.steps ≡ bounds.steps) × (b.limits.messages ≡ bounds.messages)) }
-    ensures went { IfOk result (λ b. WentOn b.limits b.journal) }
+    ensures went { IfOk result (λ b. HasNoEarlierEnd b.limits b.journal) }
     ensures over { IfOk result (λ b. (r : Reason) × (b.reason ≡ Some r)) }
 {
     let size = bounds.sites as usize;

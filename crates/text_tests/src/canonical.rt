@@ -1,6 +1,6 @@
 // Programs in their canonical form, worked by hand.
 
-use crate::printed::unlike;
+use crate::printed::first_difference;
 use std::test::Fail;
 
 // A text, and its canonical text.
@@ -49,14 +49,17 @@ static CANONICAL: [(&str, &str); 10] = [
 
 #[test]
 fn texts_print_in_canonical_form(rt: HostRuntime) -> Result<(), Fail> {
-    assert_eq!(rt; unlike(rt.alloc(), CANONICAL.as_slice())?, None);
+    assert_eq!(rt; first_difference(rt.alloc(), CANONICAL.as_slice())?, None);
     Ok(())
 }
 
 #[test]
 fn canonical_texts_print_as_themselves(rt: HostRuntime) -> Result<(), Fail> {
     for (_, canonical) in CANONICAL {
-        assert_eq!(rt; unlike(rt.alloc(), &[(canonical, canonical)])?, None);
+        assert_eq!(rt;
+            first_difference(rt.alloc(), &[(canonical, canonical)])?,
+            None
+        );
     }
     Ok(())
 }

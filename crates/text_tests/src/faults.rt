@@ -1,6 +1,6 @@
 // Texts that are refused: the first fault of each, worked by hand.
 
-use crate::printed::{is_printed, unlike};
+use crate::printed::{first_difference, is_printed};
 use std::alloc::{AllocError, Global};
 use std::test::Fail;
 
@@ -218,7 +218,7 @@ static LONG: [Long; 12] = [
 
 #[test]
 fn faults_stand_at_their_places(rt: HostRuntime) -> Result<(), Fail> {
-    assert_eq!(rt; unlike(rt.alloc(), REFUSED.as_slice())?, None);
+    assert_eq!(rt; first_difference(rt.alloc(), REFUSED.as_slice())?, None);
     Ok(())
 }
 
@@ -247,7 +247,12 @@ fn limits_are_exact(rt: HostRuntime) -> Result<(), Fail> {
 }
 
 // A text with so many names of its own, from `V1` on, between two others.
-fn named(alloc: Global, before: &str, count: u64, behind: &str) -> Result<String, AllocError> {
+fn text_with_names(
+    alloc: Global,
+    before: &str,
+    count: u64,
+    behind: &str,
+) -> Result<String, AllocError> {
     let mut text = String::from_str(alloc, before)?;
     for number in 0..count {
         let name = format!(in alloc; " V{}", number.saturating_add(1))?;
@@ -277,7 +282,7 @@ fn names_are_counted(rt: HostRuntime) -> Result<(), Fail> {
         ("local P in P = proc {$", 64, "} skip end end", None),
     ];
     for (before, count, behind, want) in rows {
-        let text = named(alloc, before, count, behind)?;
+        let text = text_with_names(alloc, before, count, behind)?;
         assert!(rt;
             is_printed(alloc, text.as_str(), want)?,
             "at {before} {count}"

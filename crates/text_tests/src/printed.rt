@@ -4,7 +4,7 @@ use oz_parser::{ParseError, parse};
 use oz_show::{fault_line, program_text};
 use std::alloc::{AllocError, Global};
 
-fn printed(alloc: Global, text: &str) -> Result<(bool, Vec<u8>), AllocError> {
+fn printed_text(alloc: Global, text: &str) -> Result<(bool, Vec<u8>), AllocError> {
     if text.len() >= 1 << 28 {
         return Err(AllocError);
     }
@@ -22,13 +22,13 @@ fn printed(alloc: Global, text: &str) -> Result<(bool, Vec<u8>), AllocError> {
 }
 
 /// The first of the texts that does not print what stands beside it.
-pub fn unlike(
+pub fn first_difference(
     alloc: Global,
     rows: &[(&'static str, &'static str)],
 ) -> Result<Option<&'static str>, AllocError> {
     for row in rows {
         let (text, want) = *row;
-        let (_, bytes) = printed(alloc, text)?;
+        let (_, bytes) = printed_text(alloc, text)?;
         if bytes.as_slice() != want.as_bytes() {
             return Ok(Some(text));
         }
@@ -38,7 +38,7 @@ pub fn unlike(
 
 /// Whether a text is refused with this line, or is a program where there is none.
 pub fn is_printed(alloc: Global, text: &str, want: Option<&str>) -> Result<bool, AllocError> {
-    let (is_program, bytes) = printed(alloc, text)?;
+    let (is_program, bytes) = printed_text(alloc, text)?;
     match want {
         Some(line) => Ok(!is_program && bytes.as_slice() == line.as_bytes()),
         None => Ok(is_program),

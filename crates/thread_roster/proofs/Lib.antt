@@ -1,5 +1,5 @@
 pub mod NameLemmas
 pub mod SlotLemmas
-pub mod RouseLemmas
-pub mod KeptLemmas
+pub mod WakeLemmas
+pub mod ConsistencyLemmas
 pub mod ThreadLemmas

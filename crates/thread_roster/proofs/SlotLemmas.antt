@@ -7,7 +7,7 @@ use Rattle.tree_node.specs.Assoc.{value_of, without_key}
 use Rattle.tree_node.specs.Each.{Each}
 use Rattle.tree_node.specs.State.{equal_thread}
 use Rattle.thread_roster.specs.declared.mode.Mode.{Mode}
-use Rattle.thread_roster.specs.declared.slot.Held.{Held}
+use Rattle.thread_roster.specs.declared.slot.Occupant.{Occupant}
 use Rattle.thread_roster.specs.Threads.{Entry, set_value, set_mode, is_waiting}
 use Rattle.thread_roster.specs.Slots.{Slot, entry, threads_in, IsNotSlotOf, IsSlotOf, IsOnlyAt, IsPlaced, ArePlaced, total, one, weight, waiting}
 use Rattle.thread_roster.proofs.NameLemmas.{is_same, is_other, name_cases, value_right, value_left, one_here, one_other, without_append, without_none, set_both, both_left, both_right, set_value_both, set_mode_both}
@@ -22,17 +22,17 @@ lacking n [] h = refl
 lacking n (None ∷ slots) h = lacking n slots h.1
 lacking n (Some h ∷ slots) l = value_right (threads_in slots) (entry h ∷ []) n (lacking n slots l.1) ∙ one_other (entry h) n l.0
 
-pub found : {V : Type 0} (n : ThreadName) (slots : List (Slot V)) (i : ℕ) (h : Held V) → IsOnlyAt n slots i → slice_get slots i ≡ Some (Some h) → value_of equal_thread (threads_in slots) n ≡ Some (h.value, h.mode)
+pub found : {V : Type 0} (n : ThreadName) (slots : List (Slot V)) (i : ℕ) (h : Occupant V) → IsOnlyAt n slots i → slice_get slots i ≡ Some (Some h) → value_of equal_thread (threads_in slots) n ≡ Some (h.value, h.mode)
 found n [] i h l e = absurd l
 found n (None ∷ slots) zero h l e = absurd l.0
 found {V} n (Some k ∷ slots) zero h l e =
     let same : k ≡ h = cc in
-    value_right (threads_in slots) (entry k ∷ []) n (lacking n slots l.1) ∙ (one_here (entry k) n l.0 ∙ ap (λ (u : Held V). Some (u.value, u.mode)) same)
+    value_right (threads_in slots) (entry k ∷ []) n (lacking n slots l.1) ∙ (one_here (entry k) n l.0 ∙ ap (λ (u : Occupant V). Some (u.value, u.mode)) same)
 found n (None ∷ slots) (suc i) h l e = found n slots i h l.1 e
 found n (Some k ∷ slots) (suc i) h l e = value_left (threads_in slots) (entry k ∷ []) n (h.value, h.mode) (found n slots i h l.1 e)
 
 -- what a slot holds, where it is the only one of its name
-pub held_at : {V : Type 0} (slots : List (Slot V)) (n : ThreadName) (i : ℕ) → IsOnlyAt n slots i → (h : Held V) × (slice_get slots i ≡ Some (Some h)) × (h.name ≡ n)
+pub held_at : {V : Type 0} (slots : List (Slot V)) (n : ThreadName) (i : ℕ) → IsOnlyAt n slots i → (h : Occupant V) × (slice_get slots i ≡ Some (Some h)) × (h.name ≡ n)
 held_at [] n i l = absurd l
 held_at (None ∷ slots) n zero l = absurd l.0
 held_at (Some h ∷ slots) n zero l = (h, refl, l.0)
@@ -45,21 +45,21 @@ only_inside (o ∷ slots) n zero l = omega arith
 only_inside (o ∷ slots) n (suc i) l = let below : i < length slots = only_inside slots n i l.1 in omega (arith, below)
 
 -- the slot where a thread of this name is found is the only one
-not_here : {V : Type 0} (slots : List (Slot V)) (i : ℕ) (h : Held V) (n : ThreadName) → slice_get slots i ≡ Some (Some h) → h.name ≡ n → Each (IsNotSlotOf n) slots → ⊥
+not_here : {V : Type 0} (slots : List (Slot V)) (i : ℕ) (h : Occupant V) (n : ThreadName) → slice_get slots i ≡ Some (Some h) → h.name ≡ n → Each (IsNotSlotOf n) slots → ⊥
 not_here [] i h n e is l = cc
 not_here (None ∷ slots) zero h n e is l = cc
-not_here (Some k ∷ slots) zero h n e is l = let same : k ≡ h = cc in l.0 (ap (λ (u : Held _). u.name) same ∙ is)
+not_here (Some k ∷ slots) zero h n e is l = let same : k ≡ h = cc in l.0 (ap (λ (u : Occupant _). u.name) same ∙ is)
 not_here (o ∷ slots) (suc i) h n e is l = not_here slots i h n e is l.1
 
-same_slot : {V : Type 0} (slots : List (Slot V)) (i j : ℕ) (h : Held V) (n : ThreadName) → slice_get slots i ≡ Some (Some h) → h.name ≡ n → IsOnlyAt n slots j → j ≡ i
+same_slot : {V : Type 0} (slots : List (Slot V)) (i j : ℕ) (h : Occupant V) (n : ThreadName) → slice_get slots i ≡ Some (Some h) → h.name ≡ n → IsOnlyAt n slots j → j ≡ i
 same_slot [] i j h n e is l = absurd l
 same_slot (o ∷ slots) zero zero h n e is l = refl
 same_slot (o ∷ slots) (suc i) zero h n e is l = absurd (not_here slots i h n e is l.1)
 same_slot (None ∷ slots) zero (suc j) h n e is l = cc
-same_slot (Some k ∷ slots) zero (suc j) h n e is l = let same : k ≡ h = cc in absurd (l.0 (ap (λ (u : Held _). u.name) same ∙ is))
+same_slot (Some k ∷ slots) zero (suc j) h n e is l = let same : k ≡ h = cc in absurd (l.0 (ap (λ (u : Occupant _). u.name) same ∙ is))
 same_slot (o ∷ slots) (suc i) (suc j) h n e is l = ap suc (same_slot slots i j h n e is l.1)
 
-pub placed_there : {V : Type 0} (slots : List (Slot V)) (slot : ThreadName → Option ℕ) (i : ℕ) (h : Held V) (n : ThreadName) → ArePlaced slots slot → slice_get slots i ≡ Some (Some h) → h.name ≡ n → slot n ≡ Some i
+pub placed_there : {V : Type 0} (slots : List (Slot V)) (slot : ThreadName → Option ℕ) (i : ℕ) (h : Occupant V) (n : ThreadName) → ArePlaced slots slot → slice_get slots i ≡ Some (Some h) → h.name ≡ n → slot n ≡ Some i
 placed_there {V} slots slot i h n all e is = go (slot n) refl (all n)
   where
     go : (o : Option ℕ) → slot n ≡ o → IsPlaced slots n o → slot n ≡ Some i
@@ -82,13 +82,13 @@ has_place {V} slots slot n all some none =
 
 -- ---- a slot changes, and the threads with it
 
-pub both_set : {V : Type 0} (f : V × Mode → V × Mode) (n : ThreadName) (slots : List (Slot V)) (i : ℕ) (h k : Held V) → IsOnlyAt n slots i → slice_get slots i ≡ Some (Some h) → k.name ≡ n → (k.value, k.mode) ≡ f (h.value, h.mode) →
+pub both_set : {V : Type 0} (f : V × Mode → V × Mode) (n : ThreadName) (slots : List (Slot V)) (i : ℕ) (h k : Occupant V) → IsOnlyAt n slots i → slice_get slots i ≡ Some (Some h) → k.name ≡ n → (k.value, k.mode) ≡ f (h.value, h.mode) →
     threads_in (slice_set slots i (Some k)) ≡ set_both f (threads_in slots) n
 both_set f n [] i h k l e is makes = absurd l
 both_set f n (None ∷ slots) zero h k l e is makes = absurd l.0
 both_set {V} f n (Some g ∷ slots) zero h k l e is makes =
     let same : g ≡ h = cc in
-    let now : (k.value, k.mode) ≡ f (g.value, g.mode) = makes ∙ ap (λ (u : Held V). f (u.value, u.mode)) (sym same) in
+    let now : (k.value, k.mode) ≡ f (g.value, g.mode) = makes ∙ ap (λ (u : Occupant V). f (u.value, u.mode)) (sym same) in
     let whole : entry k ≡ (n, f (g.value, g.mode)) = rw (is, now) refl in
     let last : set_both f (entry g ∷ []) n ≡ (n, f (g.value, g.mode)) ∷ [] = rw (is_same g.name n l.0) refl in
     ap (λ (x : Entry V). threads_in slots ++ x ∷ []) whole
@@ -97,11 +97,11 @@ both_set f n (None ∷ slots) (suc i) h k l e is makes = both_set f n slots i h 
 both_set {V} f n (Some g ∷ slots) (suc i) h k l e is makes =
     ap (λ (xs : List (Entry V)). xs ++ entry g ∷ []) (both_set f n slots i h k l.1 e is makes) ∙ sym (both_left f (threads_in slots) (entry g ∷ []) n (h.value, h.mode) (found n slots i h l.1 e))
 
-pub mode_put : {V : Type 0} (n : ThreadName) (slots : List (Slot V)) (i : ℕ) (h : Held V) (m : Mode) → IsOnlyAt n slots i → slice_get slots i ≡ Some (Some h) → h.name ≡ n →
+pub mode_put : {V : Type 0} (n : ThreadName) (slots : List (Slot V)) (i : ℕ) (h : Occupant V) (m : Mode) → IsOnlyAt n slots i → slice_get slots i ≡ Some (Some h) → h.name ≡ n →
     threads_in (slice_set slots i (Some (record h { mode = m }))) ≡ set_mode (threads_in slots) n m
 mode_put {V} n slots i h m l e is = both_set (λ (w : V × Mode). (w.0, m)) n slots i h (record h { mode = m }) l e is refl ∙ set_mode_both (threads_in slots) n m
 
-pub value_put : {V : Type 0} (n : ThreadName) (slots : List (Slot V)) (i : ℕ) (h : Held V) (v : V) → IsOnlyAt n slots i → slice_get slots i ≡ Some (Some h) → h.name ≡ n →
+pub value_put : {V : Type 0} (n : ThreadName) (slots : List (Slot V)) (i : ℕ) (h : Occupant V) (v : V) → IsOnlyAt n slots i → slice_get slots i ≡ Some (Some h) → h.name ≡ n →
     threads_in (slice_set slots i (Some (record h { value = v }))) ≡ set_value (threads_in slots) n v
 value_put {V} n slots i h v l e is = both_set (λ (w : V × Mode). (v, w.1)) n slots i h (record h { value = v }) l e is refl ∙ set_value_both (threads_in slots) n v
 
@@ -117,7 +117,7 @@ thread_ended {V} n (Some h ∷ slots) (suc i) l =
     ap (λ (xs : List (Entry V)). xs ++ entry h ∷ []) (thread_ended n slots i l.1)
     ∙ sym (without_append (threads_in slots) (entry h ∷ []) n ∙ ap (λ (xs : List (Entry V)). without_key equal_thread (threads_in slots) n ++ xs) stays)
 
-pub thread_born : {V : Type 0} (slots : List (Slot V)) (h : Held V) → threads_in (slots ++ Some h ∷ []) ≡ entry h ∷ threads_in slots
+pub thread_born : {V : Type 0} (slots : List (Slot V)) (h : Occupant V) → threads_in (slots ++ Some h ∷ []) ≡ entry h ∷ threads_in slots
 thread_born [] h = refl
 thread_born (None ∷ slots) h = thread_born slots h
 thread_born {V} (Some g ∷ slots) h = ap (λ (xs : List (Entry V)). xs ++ entry g ∷ []) (thread_born slots h)
@@ -141,7 +141,7 @@ only_set n k (x ∷ slots) (suc i) zero o differs h l g = (g.0, other_set n k sl
 only_set n k (x ∷ slots) (suc i) (suc j) o differs h l g = (g.0, only_set n k slots i j o differs h.1 l g.1)
 
 -- the slot itself
-same_set : {V : Type 0} (n : ThreadName) (slots : List (Slot V)) (i : ℕ) (w : Held V) → IsOnlyAt n slots i → w.name ≡ n → IsOnlyAt n (slice_set slots i (Some w)) i
+same_set : {V : Type 0} (n : ThreadName) (slots : List (Slot V)) (i : ℕ) (w : Occupant V) → IsOnlyAt n slots i → w.name ≡ n → IsOnlyAt n (slice_set slots i (Some w)) i
 same_set n [] i w h e = absurd h
 same_set n (x ∷ slots) zero w h e = (e, h.1)
 same_set n (x ∷ slots) (suc i) w h e = (h.0, same_set n slots i w h.1 e)
@@ -151,7 +151,7 @@ ended_set n [] i h = absurd h
 ended_set n (x ∷ slots) zero h = (tt, h.1)
 ended_set n (x ∷ slots) (suc i) h = (h.0, ended_set n slots i h.1)
 
-born_only : {V : Type 0} (n : ThreadName) (slots : List (Slot V)) (w : Held V) → Each (IsNotSlotOf n) slots → w.name ≡ n → IsOnlyAt n (slots ++ Some w ∷ []) (length slots)
+born_only : {V : Type 0} (n : ThreadName) (slots : List (Slot V)) (w : Occupant V) → Each (IsNotSlotOf n) slots → w.name ≡ n → IsOnlyAt n (slots ++ Some w ∷ []) (length slots)
 born_only n [] w h e = (e, tt)
 born_only n (x ∷ slots) w h e = (h.0, born_only n slots w h.1 e)
 
@@ -164,7 +164,7 @@ only_more k [] j o l g = absurd g
 only_more k (x ∷ slots) zero o l g = (g.0, lacks_more k slots o g.1 l)
 only_more k (x ∷ slots) (suc j) o l g = (g.0, only_more k slots j o l g.1)
 
-pub placed_set : {V : Type 0} (n : ThreadName) (slots : List (Slot V)) (slot : ThreadName → Option ℕ) (i : ℕ) (w : Held V) → ArePlaced slots slot → slot n ≡ Some i → w.name ≡ n → ArePlaced (slice_set slots i (Some w)) slot
+pub placed_set : {V : Type 0} (n : ThreadName) (slots : List (Slot V)) (slot : ThreadName → Option ℕ) (i : ℕ) (w : Occupant V) → ArePlaced slots slot → slot n ≡ Some i → w.name ≡ n → ArePlaced (slice_set slots i (Some w)) slot
 placed_set {V} n slots slot i w all at e k = go (name_cases n k) (slot k) refl (all k)
   where
     here : IsOnlyAt n slots i
@@ -196,7 +196,7 @@ placed_end {V} n slots slot after i all at gone others k = go (name_cases n k) (
     go (inr differs) (Some j) is h =
         subst (λ (q : Option ℕ). IsPlaced (slice_set slots i None) k q) (sym (others k differs ∙ is)) (only_set n k slots i j None differs here tt h)
 
-pub placed_born : {V : Type 0} (n : ThreadName) (slots : List (Slot V)) (slot after : ThreadName → Option ℕ) (w : Held V) → ArePlaced slots slot → slot n ≡ None → after n ≡ Some (length slots) →
+pub placed_born : {V : Type 0} (n : ThreadName) (slots : List (Slot V)) (slot after : ThreadName → Option ℕ) (w : Occupant V) → ArePlaced slots slot → slot n ≡ None → after n ≡ Some (length slots) →
     ((k : ThreadName) → n ≢ k → after k ≡ slot k) → w.name ≡ n → ArePlaced (slots ++ Some w ∷ []) after
 placed_born {V} n slots slot after w all at put others e k = go (name_cases n k) (slot k) refl (all k)
   where
@@ -215,21 +215,21 @@ placed_born {V} n slots slot after w all at put others e k = go (name_cases n k)
 
 -- ---- sums over slots
 
-pub total_set : {V : Type 0} (f : Held V → ℕ) (slots : List (Slot V)) (i : ℕ) (h k : Held V) → slice_get slots i ≡ Some (Some h) → total f (slice_set slots i (Some k)) + f h ≡ total f slots + f k
+pub total_set : {V : Type 0} (f : Occupant V → ℕ) (slots : List (Slot V)) (i : ℕ) (h k : Occupant V) → slice_get slots i ≡ Some (Some h) → total f (slice_set slots i (Some k)) + f h ≡ total f slots + f k
 total_set f [] i h k e = cc
 total_set f (None ∷ slots) zero h k e = cc
 total_set {V} f (Some g ∷ slots) zero h k e = let same : f g ≡ f h = cc in omega (arith, same)
 total_set f (None ∷ slots) (suc i) h k e = total_set f slots i h k e
 total_set f (Some g ∷ slots) (suc i) h k e = let rest = total_set f slots i h k e in omega (arith, rest)
 
-pub total_end : {V : Type 0} (f : Held V → ℕ) (slots : List (Slot V)) (i : ℕ) (h : Held V) → slice_get slots i ≡ Some (Some h) → total f (slice_set slots i None) + f h ≡ total f slots
+pub total_end : {V : Type 0} (f : Occupant V → ℕ) (slots : List (Slot V)) (i : ℕ) (h : Occupant V) → slice_get slots i ≡ Some (Some h) → total f (slice_set slots i None) + f h ≡ total f slots
 total_end f [] i h e = cc
 total_end f (None ∷ slots) zero h e = cc
 total_end {V} f (Some g ∷ slots) zero h e = let same : f g ≡ f h = cc in omega (arith, same)
 total_end f (None ∷ slots) (suc i) h e = total_end f slots i h e
 total_end f (Some g ∷ slots) (suc i) h e = let rest = total_end f slots i h e in omega (arith, rest)
 
-pub total_born : {V : Type 0} (f : Held V → ℕ) (slots : List (Slot V)) (h : Held V) → total f (slots ++ Some h ∷ []) ≡ total f slots + f h
+pub total_born : {V : Type 0} (f : Occupant V → ℕ) (slots : List (Slot V)) (h : Occupant V) → total f (slots ++ Some h ∷ []) ≡ total f slots + f h
 total_born f [] h = omega arith
 total_born f (None ∷ slots) h = total_born f slots h
 total_born f (Some g ∷ slots) h = let rest = total_born f slots h in omega (arith, rest)
@@ -252,5 +252,5 @@ living_le (None ∷ slots) = let rest = living_le slots in omega (arith, rest)
 living_le (Some h ∷ slots) = let rest = living_le slots in omega (arith, rest)
 
 -- a sum is at least what one slot has
-pub total_holds : {V : Type 0} (f : Held V → ℕ) (slots : List (Slot V)) (i : ℕ) (h : Held V) → slice_get slots i ≡ Some (Some h) → f h ≤ total f slots
+pub total_holds : {V : Type 0} (f : Occupant V → ℕ) (slots : List (Slot V)) (i : ℕ) (h : Occupant V) → slice_get slots i ≡ Some (Some h) → f h ≤ total f slots
 total_holds f slots i h at = let less = total_end f slots i h at in omega (arith, less)

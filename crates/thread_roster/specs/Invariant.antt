@@ -9,7 +9,7 @@ use Rattle.thread_roster.specs.Slots.{Slot, ArePlaced, slot_in, IsModeAt, AreIns
 -- each name has one slot, which the table has; each thread that can go on has its slot in the queue, and each that waits
 -- for a variable among the keys there; the numbers of those that live and of those that wait are known. A slot in the
 -- queue or among the keys whose thread stands otherwise is passed over
-pub record IsKept {V : Type 0} (slots : List (Slot V)) (by_name : List (ThreadName × ℕ)) (queue : List ℕ) (keys : List (VarName × List ℕ)) (living_count waiting_count : ℕ) : Type 0 where
+pub record IsConsistent {V : Type 0} (slots : List (Slot V)) (by_name : List (ThreadName × ℕ)) (queue : List ℕ) (keys : List (VarName × List ℕ)) (living_count waiting_count : ℕ) : Type 0 where
   pub placed : ArePlaced slots (slot_in by_name)
   pub queued : (j : ℕ) → IsModeAt slots j Runs → Contains queue j
   pub parked : (j : ℕ) (x : VarName) → IsModeAt slots j (Waits x) → Contains (keys_among keys x) j

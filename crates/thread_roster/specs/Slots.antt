@@ -8,13 +8,15 @@ use Rattle.tree_node.specs.Each.{Each}
 use Rattle.tree_node.specs.State.{equal_thread}
 use Rattle.thread_roster.specs.declared.mode.Mode.{Mode}
 use Rattle.thread_roster.specs.declared.mode.Mode.TheVariants.{Runs}
-use Rattle.thread_roster.specs.declared.slot.Held.{Held}
+use Rattle.thread_roster.specs.declared.slot.Occupant.{Occupant}
 use Rattle.thread_roster.specs.Threads.{Entry, wake, is_waiting}
 
+-- a thread with its value and how it stands; None once it has ended
 abbrev pub Slot : Type 0 → Type 0
-Slot V = Option (Held V)
+Slot V = Option (Occupant V)
 
-abbrev pub entry : {V : Type 0} → Held V → Entry V
+-- the thread in a slot, as the list of threads has it
+abbrev pub entry : {V : Type 0} → Occupant V → Entry V
 entry h = (h.name, (h.value, h.mode))
 
 -- those that live, the newest first
@@ -28,6 +30,7 @@ abbrev pub with_value_in : {V : Type 0} → Slot V → V → Slot V
 with_value_in None v = None
 with_value_in (Some h) v = Some (record h { value = v })
 
+-- the value of the thread in a slot
 abbrev pub value_there : {V : Type 0} → Slot V → Option V
 value_there None = None
 value_there (Some h) = Some h.value
@@ -59,6 +62,7 @@ IsPlaced slots n (Some i) = IsOnlyAt n slots i
 abbrev pub ArePlaced : {V : Type 0} → List (Slot V) → (ThreadName → Option ℕ) → Type 0
 ArePlaced slots slot = (n : ThreadName) → IsPlaced slots n (slot n)
 
+-- the slot that a table has for a name
 abbrev pub slot_in : List (ThreadName × ℕ) → ThreadName → Option ℕ
 slot_in by_name n = lookup (equal_thread n) by_name
 
@@ -70,51 +74,55 @@ with_slot slot n o k = if equal_thread n k then o else slot k
 
 -- the thread in a slot stands so
 abbrev pub IsModeAt : {V : Type 0} → List (Slot V) → ℕ → Mode → Type 0
-IsModeAt {V} slots j m = (h : Held V) × (slice_get slots j ≡ Some (Some h)) × (h.mode ≡ m)
+IsModeAt {V} slots j m = (h : Occupant V) × (slice_get slots j ≡ Some (Some h)) × (h.mode ≡ m)
 
+-- each of these numbers is a place of the list
 abbrev pub AreInside : {X : Type 0} → List X → List ℕ → Type 0
 AreInside slots js = Each (λ (j : ℕ). j < length slots) js
 
 -- ---- waking
 
-abbrev pub rouse : {V : Type 0} → VarName → Slot V → Slot V
-rouse x None = None
-rouse x (Some h) = Some (record h { mode = wake x h.mode })
+-- the thread in a slot goes on, if it waits for x
+abbrev pub wake_slot : {V : Type 0} → VarName → Slot V → Slot V
+wake_slot x None = None
+wake_slot x (Some h) = Some (record h { mode = wake x h.mode })
 
 -- the thread in one slot
-abbrev pub rouse_at : {V : Type 0} → VarName → List (Slot V) → ℕ → List (Slot V)
-rouse_at x [] k = []
-rouse_at x (o ∷ slots) zero = rouse x o ∷ slots
-rouse_at x (o ∷ slots) (suc k) = o ∷ rouse_at x slots k
+abbrev pub wake_slot_at : {V : Type 0} → VarName → List (Slot V) → ℕ → List (Slot V)
+wake_slot_at x [] k = []
+wake_slot_at x (o ∷ slots) zero = wake_slot x o ∷ slots
+wake_slot_at x (o ∷ slots) (suc k) = o ∷ wake_slot_at x slots k
 
 -- those in the slots of these keys
-abbrev pub rouse_all : {V : Type 0} → VarName → List (Slot V) → List ℕ → List (Slot V)
-rouse_all x slots [] = slots
-rouse_all x slots (k ∷ keys) = rouse_all x (rouse_at x slots k) keys
+abbrev pub wake_slots : {V : Type 0} → VarName → List (Slot V) → List ℕ → List (Slot V)
+wake_slots x slots [] = slots
+wake_slots x slots (k ∷ keys) = wake_slots x (wake_slot_at x slots k) keys
 
 -- ---- numbers
 
 -- the sum over the threads in slots
-abbrev pub total : {V : Type 0} → (Held V → ℕ) → List (Slot V) → ℕ
+abbrev pub total : {V : Type 0} → (Occupant V → ℕ) → List (Slot V) → ℕ
 total f [] = 0
 total f (None ∷ slots) = total f slots
 total f (Some h ∷ slots) = f h + total f slots
 
-abbrev pub one : {V : Type 0} → Held V → ℕ
+-- a thread counts 1, so that the sum is the number of threads
+abbrev pub one : {V : Type 0} → Occupant V → ℕ
 one h = 1
 
 -- 1, where it waits
 abbrev pub weight : Mode → ℕ
 weight m = if is_waiting m then 1 else 0
 
-abbrev pub waiting : {V : Type 0} → Held V → ℕ
+-- a thread counts 1 where it waits, so that the sum is the number of those that wait
+abbrev pub waiting : {V : Type 0} → Occupant V → ℕ
 waiting h = weight h.mode
 
 -- ---- the queue
 
 -- the slot stays in the queue, or was the first there and has left it
-abbrev pub IsLeft : ℕ → List ℕ → List ℕ → Type 0
-IsLeft i queue rest = (rest ≡ queue) ⊎ (queue ≡ i ∷ rest)
+abbrev pub HasLeft : ℕ → List ℕ → List ℕ → Type 0
+HasLeft i queue rest = (rest ≡ queue) ⊎ (queue ≡ i ∷ rest)
 
 -- slots whose threads do not go on have left the front of the queue
 abbrev pub IsRest : {V : Type 0} → List (Slot V) → List ℕ → List ℕ → Type 0
@@ -123,4 +131,4 @@ IsRest slots queue rest = (front : List ℕ) × (queue ≡ front ++ rest) × Eac
 -- the first slot of the queue has a thread of this name, which can go on
 abbrev pub IsNext : {V : Type 0} → List (Slot V) → List ℕ → ThreadName → Type 0
 IsNext {V} slots queue n =
-    (i : ℕ) × (rest : List ℕ) × (h : Held V) × (queue ≡ i ∷ rest) × (slice_get slots i ≡ Some (Some h)) × (h.name ≡ n) × (h.mode ≡ Runs)
+    (i : ℕ) × (rest : List ℕ) × (h : Occupant V) × (queue ≡ i ∷ rest) × (slice_get slots i ≡ Some (Some h)) × (h.name ≡ n) × (h.mode ≡ Runs)

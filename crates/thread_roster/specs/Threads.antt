@@ -37,12 +37,14 @@ abbrev pub wake : VarName → Mode → Mode
 wake x (Waits y) = if equal_var y x then Runs else Waits y
 wake x m = m
 
+-- all those that wait for x go on
 abbrev pub wake_all : {V : Type 0} → VarName → List (Entry V) → List (Entry V)
 wake_all x [] = []
 wake_all x (t ∷ ts) = (t.0, (t.1.0, wake x t.1.1)) ∷ wake_all x ts
 
 -- ---- waiting
 
+-- the thread waits for a variable or for a cell
 abbrev pub is_waiting : Mode → Bool
 is_waiting Runs = false
 is_waiting (Waits x) = true

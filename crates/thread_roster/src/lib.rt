@@ -2,11 +2,11 @@
 //! the token of a cell. The machines of one site and of all keep their threads here, in place.
 //!
 //! Contracts see a `Roster` as `Threads`: the list of those that live, the newest first, each with its value and its
-//! `Mode`, and the number of those that have ended. `start`, `end`, `wait`, `wait_for`, `run` and `wake` say which list
+//! `Mode`, and the number of those that have ended. `start`, `end`, `wait`, `wait_for`, `resume` and `wake` say which list
 //! they leave (after want of memory the roster is unchanged); `value_mut` lends a thread's value where it stands; `get`,
-//! `mode` and `lives` find a thread by its name; `slots` shows all of them; `len`, `waiting` and `ended` tell numbers that are kept and not counted;
-//! `first` gives a thread that can go on, and gives none exactly where none can, as `idle` tells without looking for one.
-//! Slots, names, the run queue and the waiting keys are hidden; what they keep together is `IsKept`.
+//! `mode` and `contains` find a thread by its name; `slots` shows all of them; `len`, `waiting` and `ended` tell numbers that are kept;
+//! `first` gives a thread that can go on, and gives none exactly where none can, as `is_idle` tells without looking for one.
+//! Slots, names, the run queue and the waiting keys are hidden; what they keep together is `IsConsistent`.
 //!
 //! A call costs by what it does: the first of the queue is found without a look-up, another thread by one, `wake` looks at
 //! those that wait for its variable, and `first` at the slots that leave the queue. A slot is not used again, so that the
@@ -29,4 +29,4 @@ mod threads;
 
 pub use mode::Mode;
 pub use roster::Roster;
-pub use slot::{Held, Slot};
+pub use slot::{Occupant, Slot};

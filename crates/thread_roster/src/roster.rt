@@ -11,7 +11,7 @@ ghost use Rattle.thread_roster.specs.Threads.{set_mode, set_value, wake_all, wai
 
 use crate::mode::Mode;
 use crate::queue::Queue;
-use crate::slot::{Held, Slot, clear, rouse_all, set_mode, value_in};
+use crate::slot::{Occupant, Slot, clear, set_mode, value_in, wake_slots};
 use crate::slots_by_name::{
     SlotsByName, count_running, count_waiting, find, forget, leave, next_runnable, slot_of,
 };
@@ -41,21 +41,21 @@ impl<V> Model for Roster<V> {
     ghost Value = { Threads V };
 
     ghost use Rattle.thread_roster.specs.Slots.{threads_in, total, one};
-    ghost use Rattle.thread_roster.specs.Invariant.{IsKept};
+    ghost use Rattle.thread_roster.specs.Invariant.{IsConsistent};
 
     ghost view = { λ r. record {
       living = threads_in r.slots.items;
       ended = length r.slots.items - total one r.slots.items;
     } };
 
-    ghost invariant = { λ r. IsKept r.slots.items r.by_name.entries r.queue r.waiters r.living r.waiting };
+    ghost invariant = { λ r. IsConsistent r.slots.items r.by_name.entries r.queue r.waiters r.living r.waiting };
 }
 
 impl<V: Drop> Roster<V> {
     ghost use Rattle.thread_roster.specs.Lends.{lends_value};
 
     /// No threads.
-    #[tactic(auto, using(crate::proofs::KeptLemmas::kept_none))]
+    #[tactic(auto, using(crate::proofs::ConsistencyLemmas::kept_none))]
     pub fn new(alloc: Global) -> Roster<V>
         ensures living { result.living ≡ [] }
         ensures ended { result.ended ≡ 0 }
@@ -71,7 +71,7 @@ impl<V: Drop> Roster<V> {
     }
 
     /// How many threads live.
-    #[tactic(auto, using(crate::proofs::RouseLemmas::living_is))]
+    #[tactic(auto, using(crate::proofs::WakeLemmas::living_is))]
     pub fn len(&self) -> usize
         ensures { result ≡ length self.now.living }
     {
@@ -79,7 +79,7 @@ impl<V: Drop> Roster<V> {
     }
 
     /// How many of them wait.
-    #[tactic(auto, using(crate::proofs::RouseLemmas::waiting_is))]
+    #[tactic(auto, using(crate::proofs::WakeLemmas::waiting_is))]
     pub fn waiting(&self) -> usize
         ensures { result ≡ waiting_of self.now.living }
     {
@@ -95,15 +95,15 @@ impl<V: Drop> Roster<V> {
     }
 
     /// Whether none can go on.
-    #[tactic(auto, using(crate::proofs::RouseLemmas::all_wait, crate::proofs::RouseLemmas::as_many_wait))]
-    pub fn idle(&self) -> bool
+    #[tactic(auto, using(crate::proofs::WakeLemmas::all_wait, crate::proofs::WakeLemmas::as_many_wait))]
+    pub fn is_idle(&self) -> bool
         ensures { IsTrue result ↔ AllWait self.now.living }
     {
         self.waiting() == self.len()
     }
 
     /// Whether a thread of this name lives.
-    pub fn lives(&self, name: ThreadName) -> bool
+    pub fn contains(&self, name: ThreadName) -> bool
         ensures { IsTrue result ↔ IsSome (value_of equal_thread self.now.living name) }
     {
         slot_of(&self.slots, &self.by_name, &self.queue, name).is_some()
@@ -166,7 +166,8 @@ impl<V: Drop> Roster<V> {
         self.by_name.reserve(1)?;
         self.queue.push(slot)?;
         let mode = Mode::Runs;
-        self.slots.push_reserved(Some(Held { name, mode, value }));
+        self.slots
+            .push_reserved(Some(Occupant { name, mode, value }));
         self.by_name.insert(name, slot)?;
         self.living += 1;
         Ok(())
@@ -187,7 +188,7 @@ impl<V: Drop> Roster<V> {
         Ok(())
     }
 
-    /// A thread waits for a cell's token, until `run` lets it go on.
+    /// A thread waits for a cell's token, until `resume` lets it go on.
     pub fn wait_for(&mut self, name: ThreadName, cell: CellName)
         requires lives { IsSome (value_of equal_thread self.old.living name) }
         ensures living { self.new.living ≡ set_mode self.old.living name (stands.WaitsFor cell) }
@@ -200,7 +201,7 @@ impl<V: Drop> Roster<V> {
     }
 
     /// A thread that waits goes on, behind those that can go on.
-    pub fn run(&mut self, name: ThreadName) -> Result<(), AllocError>
+    pub fn resume(&mut self, name: ThreadName) -> Result<(), AllocError>
         requires waits { IsSuspended self.old.living name }
         ensures living { OnOk result (self.new.living ≡ set_mode self.old.living name stands.Runs) }
         ensures ended { OnOk result (self.new.ended ≡ self.old.ended) }
@@ -222,9 +223,9 @@ impl<V: Drop> Roster<V> {
         if self.waiting == 0 {
             return Ok(());
         }
-        let keys = self.waiters.look(var);
+        let keys = self.waiters.keys_at(var);
         self.queue.push_all(keys)?;
-        let roused = rouse_all(&mut self.slots, keys, var);
+        let roused = wake_slots(&mut self.slots, keys, var);
         self.waiting -= roused;
         self.waiters.take(var);
         Ok(())
@@ -254,7 +255,7 @@ impl<V: Drop> Roster<V> {
     }
 
     /// The first thread in the order of turns goes behind the others.
-    pub fn pass(&mut self)
+    pub fn rotate(&mut self)
         ensures { self.new ≡ self.old }
     {
         self.queue.rotate();

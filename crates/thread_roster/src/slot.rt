@@ -5,9 +5,9 @@ ghost use Rattle.std.specs.Vec.{vec_len};
 ghost use Rattle.std.specs.Borrow.{sem, Lends};
 ghost use Rattle.thread_roster.specs.declared.mode.Mode.TheVariants as stands;
 ghost use Rattle.thread_roster.specs.Threads.{wake};
-ghost use Rattle.thread_roster.specs.Slots.{Slot as TheSlot, IsSlotOf, AreInside, rouse, rouse_at, rouse_all, total, waiting};
+ghost use Rattle.thread_roster.specs.Slots.{Slot as TheSlot, IsSlotOf, AreInside, wake_slot, wake_slot_at, wake_slots, total, waiting};
 ghost use Rattle.std.specs.contracts.option.Option.{the_row as OptionOf};
-ghost use Rattle.thread_roster.specs.contracts.slot.Held.{the_row as held_row};
+ghost use Rattle.thread_roster.specs.contracts.slot.Occupant.{the_row as held_row};
 ghost use Rattle.thread_roster.specs.Slots.{with_value_in, value_there};
 
 use crate::mode::Mode;
@@ -15,14 +15,14 @@ use tree_node::{ThreadName, VarName};
 
 /// A thread: its name, how it stands, and its value.
 #[derive(Drop)]
-pub struct Held<V> {
+pub struct Occupant<V> {
     pub name: ThreadName,
     pub mode: Mode,
     pub value: V,
 }
 
 /// A slot of a thread, which is empty once the thread has ended.
-pub type Slot<V> = Option<Held<V>>;
+pub type Slot<V> = Option<Occupant<V>>;
 
 /// Whether the thread of this name is in a slot.
 pub fn is_of<V>(slot: &Slot<V>, name: ThreadName) -> bool
@@ -35,9 +35,9 @@ pub fn is_of<V>(slot: &Slot<V>, name: ThreadName) -> bool
 }
 
 /// The name of the thread in a slot, where it can go on.
-pub fn runnable<V>(slot: &Slot<V>) -> Option<ThreadName>
-    ensures some { IfSome result (λ n. (h : Held V) × (slot.now ≡ Some h) × (h.name ≡ n) × (h.mode ≡ stands.Runs)) }
-    ensures none { IfNone result ((h : Held V) → slot.now ≡ Some h → h.mode ≢ stands.Runs) }
+pub fn runnable_name<V>(slot: &Slot<V>) -> Option<ThreadName>
+    ensures some { IfSome result (λ n. (h : Occupant V) × (slot.now ≡ Some h) × (h.name ≡ n) × (h.mode ≡ stands.Runs)) }
+    ensures none { IfNone result ((h : Occupant V) → slot.now ≡ Some h → h.mode ≢ stands.Runs) }
 {
     match slot {
         None => None,
@@ -64,9 +64,9 @@ pub fn value_in<V>(slot: &mut Slot<V>) -> &mut V
 /// The thread in a slot stands so from now on. Answers how it stood before.
 pub fn set_mode<V: Drop>(slots: &mut Vec<Slot<V>>, slot: usize, mode: Mode) -> Mode
     requires inside { slot < length slots.old.items }
-    requires held { (h : Held V) × (slice_get slots.old.items slot ≡ Some (Some h)) }
-    ensures put { (h : Held V) → slice_get slots.old.items slot ≡ Some (Some h) → slots.new.items ≡ slice_set slots.old.items slot (Some (record h { mode = mode })) }
-    ensures old { (h : Held V) → slice_get slots.old.items slot ≡ Some (Some h) → result ≡ h.mode }
+    requires held { (h : Occupant V) × (slice_get slots.old.items slot ≡ Some (Some h)) }
+    ensures put { (h : Occupant V) → slice_get slots.old.items slot ≡ Some (Some h) → slots.new.items ≡ slice_set slots.old.items slot (Some (record h { mode = mode })) }
+    ensures old { (h : Occupant V) → slice_get slots.old.items slot ≡ Some (Some h) → result ≡ h.mode }
     ensures len { vec_len slots.new ≡ vec_len slots.old }
 {
     match &mut slots[slot] {
@@ -78,9 +78,9 @@ pub fn set_mode<V: Drop>(slots: &mut Vec<Slot<V>>, slot: usize, mode: Mode) -> M
 /// The slot of a thread is empty from now on. Answers how the thread stood.
 pub fn clear<V: Drop>(slots: &mut Vec<Slot<V>>, slot: usize) -> Mode
     requires inside { slot < length slots.old.items }
-    requires held { (h : Held V) × (slice_get slots.old.items slot ≡ Some (Some h)) }
+    requires held { (h : Occupant V) × (slice_get slots.old.items slot ≡ Some (Some h)) }
     ensures put { slots.new.items ≡ slice_set slots.old.items slot None }
-    ensures old { (h : Held V) → slice_get slots.old.items slot ≡ Some (Some h) → result ≡ h.mode }
+    ensures old { (h : Occupant V) → slice_get slots.old.items slot ≡ Some (Some h) → result ≡ h.mode }
     ensures len { vec_len slots.new ≡ vec_len slots.old }
 {
     let mode = match &slots[slot] {
@@ -92,7 +92,7 @@ pub fn clear<V: Drop>(slots: &mut Vec<Slot<V>>, slot: usize) -> Mode
 }
 
 // A thread that waits for this variable goes on: true, where it does.
-fn rouse<V>(held: &mut Held<V>, var: VarName) -> bool
+fn wake_slot<V>(held: &mut Occupant<V>, var: VarName) -> bool
     ensures held { held.new ≡ record held.old { mode = wake var held.old.mode } }
     ensures count { (if result then 1 else 0) + waiting held.new ≡ waiting held.old }
 {
@@ -111,29 +111,29 @@ fn rouse<V>(held: &mut Held<V>, var: VarName) -> bool
 }
 
 // The thread in a slot goes on, where it waits for this variable: true, where it does.
-#[tactic(auto, using(crate::proofs::RouseLemmas::roused_none, crate::proofs::RouseLemmas::roused_some, crate::proofs::SlotLemmas::total_set))]
-fn rouse_at<V: Drop>(slots: &mut Vec<Slot<V>>, slot: usize, var: VarName) -> bool
+#[tactic(auto, using(crate::proofs::WakeLemmas::roused_none, crate::proofs::WakeLemmas::roused_some, crate::proofs::SlotLemmas::total_set))]
+fn wake_slot_at<V: Drop>(slots: &mut Vec<Slot<V>>, slot: usize, var: VarName) -> bool
     requires inside { slot < length slots.old.items }
-    ensures slots { slots.new.items ≡ rouse_at var slots.old.items slot }
+    ensures slots { slots.new.items ≡ wake_slot_at var slots.old.items slot }
     ensures count { (if result then 1 else 0) + total waiting slots.new.items ≡ total waiting slots.old.items }
     ensures len { vec_len slots.new ≡ vec_len slots.old }
 {
     match &mut slots[slot] {
         None => false,
-        Some(held) => rouse(held, var),
+        Some(held) => wake_slot(held, var),
     }
 }
 
 /// Those in the slots of these keys go on, where they wait for this variable. Answers how many do.
-pub fn rouse_all<V: Drop>(slots: &mut Vec<Slot<V>>, keys: &[usize], var: VarName) -> usize
+pub fn wake_slots<V: Drop>(slots: &mut Vec<Slot<V>>, keys: &[usize], var: VarName) -> usize
     requires inside { AreInside slots.old.items keys.now }
-    ensures slots { slots.new.items ≡ rouse_all var slots.old.items keys.now }
+    ensures slots { slots.new.items ≡ wake_slots var slots.old.items keys.now }
     ensures count { result + total waiting slots.new.items ≡ total waiting slots.old.items }
     ensures len { vec_len slots.new ≡ vec_len slots.old }
 {
     let mut roused = 0;
     'keys: for key in keys {
-        if rouse_at(slots, *key, var) {
+        if wake_slot_at(slots, *key, var) {
             roused += 1;
         }
     }

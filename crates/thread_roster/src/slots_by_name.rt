@@ -4,19 +4,20 @@ ghost use Rattle.std.specs.Prelude.{◌≡◌, ◌≢◌, ◌+◌, ◌<◌, ◌�
 ghost use Rattle.tree_node.specs.Assoc.{value_of};
 ghost use Rattle.tree_node.specs.State.{equal_thread};
 ghost use Rattle.tree_node.specs.declared.names.ThreadName.{ThreadName as Named};
-ghost use Rattle.thread_roster.specs.declared.slot.Held.{Held as TheHeld};
-ghost use Rattle.thread_roster.specs.Slots.{threads_in, ArePlaced, AreInside, slot_in, with_slot, weight, IsLeft, IsRest, IsNext};
+ghost use Rattle.thread_roster.specs.declared.slot.Occupant.{Occupant as TheOccupant};
+ghost use Rattle.thread_roster.specs.Slots.{threads_in, ArePlaced, AreInside, slot_in, with_slot, weight, HasLeft, IsRest, IsNext};
 
 use crate::mode::Mode;
 use crate::queue::Queue;
-use crate::slot::{Slot, is_of, runnable};
+use crate::slot::{Slot, is_of, runnable_name};
 use indexmap::IndexMap;
 use tree_node::ThreadName;
 
 /// The slots of threads by their names.
 pub type SlotsByName = IndexMap<ThreadName, usize>;
 
-// The slot of a name by the table. Most look-ups find it before, and do without the room of this one.
+// The slot of a name by the table. It is not inlined, so that most look-ups, which find it before, do without the stack memory
+// that it needs.
 #[inline(never)]
 fn by_table(by_name: &SlotsByName, name: ThreadName) -> Option<usize>
     ensures { result ≡ slot_in by_name.now.entries name }
@@ -55,7 +56,7 @@ pub fn find<V>(
     requires lives { IsSome (value_of equal_thread (threads_in slots.now.items) name) }
     ensures slot { slot_in by_name.now.entries name ≡ Some result }
     ensures inside { result < length slots.now.items }
-    ensures held { (h : TheHeld V) × (slice_get slots.now.items result ≡ Some (Some h)) × (h.name ≡ name) }
+    ensures held { (h : TheOccupant V) × (slice_get slots.now.items result ≡ Some (Some h)) × (h.name ≡ name) }
 {
     match slot_of(slots, by_name, queue, name) {
         None => unreachable!(),
@@ -72,7 +73,7 @@ pub fn forget(by_name: &mut SlotsByName, name: ThreadName)
 
 /// A slot that is the first of the queue leaves it.
 pub fn leave(queue: &mut Queue, slot: usize)
-    ensures { IsLeft slot queue.old queue.new }
+    ensures { HasLeft slot queue.old queue.new }
 {
     if queue.first() == Some(slot) {
         queue.pop();
@@ -87,7 +88,7 @@ pub fn next_runnable<V>(slots: &Vec<Slot<V>>, queue: &mut Queue) -> Option<Threa
     ensures none { IfNone result (queue.new ≡ []) }
 {
     'slots: while let Some(slot) = queue.first() {
-        if let Some(name) = runnable(&slots[slot]) {
+        if let Some(name) = runnable_name(&slots[slot]) {
             return Some(name);
         }
         queue.pop();

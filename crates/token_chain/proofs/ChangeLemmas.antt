@@ -6,7 +6,7 @@ use Rattle.tree_node.specs.declared.names.VarName.{VarName}
 use Rattle.token_chain.specs.declared.token.Token.TheVariants.{Away, Asked, Here}
 use Rattle.token_chain.specs.Holding.{Holding, here_with}
 use Rattle.token_chain.specs.Mail.{Mail, Get, Forward, Put, equal_mail}
-use Rattle.token_chain.specs.Chain.{IsOn, IsFirst, IsNext, HasToken, IsTold, IsDue, IsChain}
+use Rattle.token_chain.specs.Chain.{IsOn, IsFirst, IsNext, HasToken, HasSuccessor, IsDue, IsChain}
 use Rattle.token_chain.proofs.ListLemmas.{on_cases}
 use Rattle.std.proofs.lemmas.Bool.Decides.{Decides-eqb}
 
@@ -66,7 +66,7 @@ pub token_kept : (at to : ℕ → Holding) (v : VarName) (n m : Mail → ℕ) (h
 token_kept at to v n m h e p (inl k) = inl (e ∙ k)
 token_kept at to v n m h e p (inr k) = inr (token_of _ _ e ∙ k.0, p ∙ k.1)
 
-pub told_kept : (at to : ℕ → Holding) (n m : Mail → ℕ) (a b : ℕ) → to a ≡ at a → m (Forward a b) ≡ n (Forward a b) → IsTold at n a b → IsTold to m a b
+pub told_kept : (at to : ℕ → Holding) (n m : Mail → ℕ) (a b : ℕ) → to a ≡ at a → m (Forward a b) ≡ n (Forward a b) → HasSuccessor at n a b → HasSuccessor to m a b
 told_kept at to n m a b e p (inl k) = inl (next_of _ _ e ∙ k)
 told_kept at to n m a b e p (inr k) = inr (next_of _ _ e ∙ k.0, p ∙ k.1)
 

@@ -7,7 +7,7 @@ use Rattle.token_chain.specs.declared.token.Token.{Token}
 use Rattle.token_chain.specs.declared.token.Token.TheVariants.{Away, Asked, Here}
 use Rattle.token_chain.specs.Holding.{Holding, nothing_held, here_with, with_waiter, IsUsed}
 use Rattle.token_chain.specs.Mail.{Mail, Get, Forward, Put, equal_mail, mail_count}
-use Rattle.token_chain.specs.Chain.{IsOn, IsFirst, IsNext, HasToken, IsTold, IsDue, IsChain, ChainOf}
+use Rattle.token_chain.specs.Chain.{IsOn, IsFirst, IsNext, HasToken, HasSuccessor, IsDue, IsChain, ChainOf}
 use Rattle.token_chain.specs.Rows.{Reply, reply_without_mail, leave_with, leave_reply, forward_reply, put_reply, get_reply, first_request, exchange_reply, last_after, content_then}
 use Rattle.token_chain.specs.Moves.{HasReplied, MakingStarts, AskingKeeps, WaitingKeeps, OwnAskingKeeps, GetKeeps, ForwardKeeps, PutKeeps, ExchangeKeeps, UnitKeeps, NothingKeeps, CanCome, MessagesCanCome, TokensHaveContents, SuccessorsAsked, AwayKeepsNothing}
 use Rattle.token_chain.proofs.ListLemmas.{first_on, last_on, before_on, last_no_next, next_differs, next_not_first}
@@ -96,7 +96,7 @@ nothing_keeps last at to n m v (hs, c) p q = (
     first h (inl e) = inl (p h ∙ e)
     first h (inr e) = inr (token_of _ _ (p h) ∙ e.0, q (Put h v) ∙ e.1)
 
-    told : (a b : ℕ) → IsTold at n a b → IsTold to m a b
+    told : (a b : ℕ) → HasSuccessor at n a b → HasSuccessor to m a b
     told a b (inl e) = inl (next_of _ _ (p a) ∙ e)
     told a b (inr e) = inr (next_of _ _ (p a) ∙ e.0, q (Forward a b) ∙ e.1)
 

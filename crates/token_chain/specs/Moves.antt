@@ -85,9 +85,11 @@ CanCome last at v (Get k) = ((at k).token ≡ Asked) × (k ≢ last) × CanFollo
 CanCome last at v (Forward a b) = CanFollow (at a) × ((at b).token ≡ Asked) × (a ≢ b)
 CanCome last at v (Put s u) = ((at s).token ≡ Asked) × (u ≡ v)
 
+-- each message under way is there once, and can be taken
 abbrev pub MessagesCanCome : Type 0
 MessagesCanCome = (last : ℕ) (at : ℕ → Holding) (n : Mail → ℕ) (v : VarName) → ChainOf last at n v → (m : Mail) → n m ≢ 0 → (n m ≡ 1) × CanCome last at v m
 
+-- a token that is here has the chain's content; its site has no successor, and nobody waits there
 abbrev pub TokensHaveContents : Type 0
 TokensHaveContents =
     (last : ℕ) (at : ℕ → Holding) (n : Mail → ℕ) (v u : VarName) (s : ℕ) → ChainOf last at n v → (at s).token ≡ Here u →

@@ -12,9 +12,11 @@ pub record Reply : Type 0 where
   pub held : Holding
   pub sent : List Mail
 
+-- the site keeps this and sends nothing
 abbrev pub reply_without_mail : Holding → Reply
 reply_without_mail h = record { held = h; sent = [] }
 
+-- with a receiver the token goes there by a Put and nothing is kept, without one it stays
 abbrev pub leave_with : Holding → Option (ℕ × VarName) → Reply
 leave_with h None = reply_without_mail h
 leave_with h (Some (k, v)) = record { held = nothing_held; sent = Put k v ∷ [] }

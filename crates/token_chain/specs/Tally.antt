@@ -13,11 +13,12 @@ abbrev pub total : ℕ → (ℕ → ℕ) → ℕ
 total zero f = 0
 total (suc n) f = total n f + f (suc n)
 
--- 1 where a request is outstanding, and where the token is
+-- 1 where a request is outstanding
 abbrev pub outstanding : Token → ℕ
 outstanding Asked = 1
 outstanding _ = 0
 
+-- 1 where the token is here
 abbrev pub held_here : Token → ℕ
 held_here (Here v) = 1
 held_here _ = 0
@@ -28,6 +29,7 @@ weight g f u (Get s) = g
 weight g f u (Forward a b) = f
 weight g f u (Put s v) = u
 
+-- their sum over a list of messages
 abbrev pub weights : (g f u : ℕ) → List Mail → ℕ
 weights g f u [] = 0
 weights g f u (m ∷ ms) = weight g f u m + weights g f u ms

@@ -6,6 +6,7 @@ use Rattle.token_chain.specs.Holding.{Holding, nothing_held, here_with}
 use Rattle.token_chain.specs.Mail.{Get, Forward, Put}
 use Rattle.token_chain.specs.Rows.{reply_without_mail, forward_reply, put_reply, get_reply, exchange_reply}
 
+-- variable k of site 1
 abbrev pub variable : ℕ → VarName
 variable k = record { site = 1; num = k }
 

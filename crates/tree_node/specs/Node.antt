@@ -22,10 +22,12 @@ SameText (Proc a i m us) (Proc b j n vs) = a ≡ b
 SameText (Cell a) (Cell b) = a ≡ b
 SameText _ _ = ⊥
 
+-- the number of a record's fields, and 0 for every other node
 abbrev pub arity_of : Node → ℕ
 arity_of (Rec label fields) = length fields
 arity_of _ = 0
 
+-- the features of fields, in their order
 abbrev pub features_of : List (Feature × VarName) → List Feature
 features_of fields = map (λ (f : Feature × VarName). f.0) fields
 

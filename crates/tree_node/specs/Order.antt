@@ -15,12 +15,14 @@ abbrev pub IsLower : Term → VarName → Type 0
 IsLower (term.Var v) u = IsBelow v u
 IsLower (term.Node n) u = Unit {0}
 
+-- the site that made the name
 abbrev pub site_of : Name → ℕ
 site_of (name.Var x) = x.site
 site_of (name.Cell x) = x.site
 site_of (name.Proc x) = x.site
 site_of (name.Thread x) = x.site
 
+-- the name's number, among those of its kind and site
 abbrev pub num_of : Name → ℕ
 num_of (name.Var x) = x.num
 num_of (name.Cell x) = x.num

@@ -9,24 +9,29 @@ use Rattle.tree_node.specs.Store.{Store, Equation, node_of}
 use Rattle.tree_node.specs.Goal.{Dropped, Binds, Opened, Failed, IsAllowedBind, case_of}
 use Rattle.tree_node.specs.Shown.{Shown, Text, IsNeeded, shown, shown_within}
 
+-- variable number n of site 1
 abbrev pub v : ℕ → VarName
 v n = record { site = 1; num = n }
 
+-- variable number n equals this node
 abbrev pub holds : ℕ → Node → Equation
 holds n m = (v n, term.Node m)
 
+-- the list with head x and tail y
 abbrev pub list_pair : ℕ → ℕ → Node
 list_pair x y = node.Rec (codes "|") ((feature.Int (pos 1), v x) ∷ (feature.Int (pos 2), v y) ∷ [])
 
+-- v0 = f(v1) and v1 = f(v0)
 abbrev pub ring : Store
 ring =
     holds 0 (node.Rec (codes "f") ((feature.Int (pos 1), v 1) ∷ []))
     ∷ holds 1 (node.Rec (codes "f") ((feature.Int (pos 1), v 0) ∷ [])) ∷ []
 
--- X = f(Y) and Y = f(X), to level 20
+-- a ring is shown to level 20
 abbrev pub RingIsCut : Type 0
 RingIsCut = Shown ring (v 0) (codes "f(f(f(f(f(f(f(f(f(f(f(f(f(f(f(f(f(f(f(f(,,,))))))))))))))))))))")
 
+-- v0 = f(v1 a:v2 b:v1), v1 = ~3 and v2 = 'two words'
 abbrev pub quoted : Store
 quoted =
     holds 0 (node.Rec (codes "f") ((feature.Int (pos 1), v 1) ∷ (feature.Atom (codes "a"), v 2) ∷ (feature.Atom (codes "b"), v 1) ∷ []))
@@ -36,6 +41,7 @@ quoted =
 abbrev pub FieldsByName : Type 0
 FieldsByName = Shown quoted (v 0) (codes "f(~3 a:'two words' b:~3)")
 
+-- v0 = f(~1:v1 0:v1 1:v1 3:v1 b:v1) and v1 = x
 abbrev pub places : Store
 places =
     holds 0 (node.Rec (codes "f")
@@ -46,6 +52,7 @@ places =
 abbrev pub FieldsByPlace : Type 0
 FieldsByPlace = Shown places (v 0) (codes "f(~1:x 0:x x 3:x b:x)")
 
+-- v0 = '|'(1:v1 3:v1) and v1 = x
 abbrev pub bar : Store
 bar =
     holds 0 (node.Rec (codes "|") ((feature.Int (pos 1), v 1) ∷ (feature.Int (pos 3), v 1) ∷ []))
@@ -55,6 +62,7 @@ bar =
 abbrev pub OtherBar : Type 0
 OtherBar = Shown bar (v 0) (codes "'|'(x 3:x)")
 
+-- v0 = v1|v2, v1 = v3|v2, v2 = nil and v3 = a
 abbrev pub nested : Store
 nested =
     holds 0 (list_pair 1 2) ∷ holds 1 (list_pair 3 2) ∷ holds 2 (node.Atom (codes "nil")) ∷ holds 3 (node.Atom (codes "a")) ∷ []
@@ -63,23 +71,27 @@ nested =
 abbrev pub ListInList : Type 0
 ListInList = Shown nested (v 0) (codes "(a|nil)|nil")
 
+-- v0 = v1|v2, v1 = v2|v2 and v2 = x
 abbrev pub deep : Store
 deep = holds 0 (list_pair 1 2) ∷ holds 1 (list_pair 2 2) ∷ holds 2 (node.Atom (codes "x")) ∷ []
 
--- with three nodes, and with one, where the head is cut and stands without brackets
+-- with at most three nodes
 abbrev pub ThreeNodes : Type 0
 ThreeNodes = shown_within 3 deep (v 0) ≡ Text (codes "(x|,,,)|,,,") 0
 
+-- with at most one, where the head is cut and stands without brackets
 abbrev pub OneNode : Type 0
 OneNode = shown_within 1 deep (v 0) ≡ Text (codes ",,,|,,,") 0
 
--- a variable without a node is needed where it is shown, and not where it is cut
+-- v0 = f(v1), where v1 has no node
 abbrev pub open_field : Store
 open_field = holds 0 (node.Rec (codes "f") ((feature.Int (pos 1), v 1) ∷ [])) ∷ []
 
+-- a variable without a node is needed where it is shown
 abbrev pub FieldIsNeeded : Type 0
 FieldIsNeeded = IsNeeded (shown open_field (v 0)) (v 1)
 
+-- and it is not needed where it is cut
 abbrev pub CutIsNotNeeded : Type 0
 CutIsNotNeeded = shown_within 1 open_field (v 0) ≡ Text (codes "f(,,,)") 0
 
@@ -87,9 +99,11 @@ CutIsNotNeeded = shown_within 1 open_field (v 0) ≡ Text (codes "f(,,,)") 0
 abbrev pub ShowsAs : Node → List ℕ → Type 0
 ShowsAs n line = Shown (holds 0 n ∷ []) (v 0) line
 
+-- a procedure shows the number of its formals
 abbrev pub ProcShows : Type 0
 ProcShows = ShowsAs (node.Proc (record { site = 1; num = 0 }) (record { 0 = 3 }) 1 (v 5 ∷ [])) (codes "<P/1>")
 
+-- a cell shows nothing of its name or content
 abbrev pub CellShows : Type 0
 CellShows = ShowsAs (node.Cell (record { site = 2; num = 7 })) (codes "<Cell>")
 
@@ -97,18 +111,23 @@ CellShows = ShowsAs (node.Cell (record { site = 2; num = 7 })) (codes "<Cell>")
 abbrev pub LeastShows : Type 0
 LeastShows = ShowsAs (node.Int (negsuc 9223372036854775807)) (codes "~9223372036854775808")
 
+-- an atom that is a reserved word stands in quotes
 abbrev pub ReservedShows : Type 0
 ReservedShows = ShowsAs (node.Atom (codes "if")) (codes "'if'")
 
+-- the empty atom stands in quotes
 abbrev pub EmptyShows : Type 0
 EmptyShows = ShowsAs (node.Atom []) (codes "''")
 
+-- p(x y)
 abbrev pub p_of : ℕ → ℕ → Node
 p_of x y = node.Rec (codes "p") ((feature.Int (pos 1), v x) ∷ (feature.Int (pos 2), v y) ∷ [])
 
+-- v1 = 1, v2 = 2 and v5 = 5
 abbrev pub three_known : Store
 three_known = holds 1 (node.Int (pos 1)) ∷ holds 2 (node.Int (pos 2)) ∷ holds 5 (node.Int (pos 5)) ∷ []
 
+-- v0 = v5, v1 = 1, v2 = 2 and v5 = 5
 abbrev pub first_bound : Store
 first_bound = (v 0, term.Var (v 5)) ∷ three_known
 
@@ -129,6 +148,7 @@ pub record PartsAreTold : Type 0 where
 abbrev pub EitherIsBound : Type 0
 EitherIsBound = IsAllowedBind [] (term.Var (v 0)) (term.Var (v 1)) (v 0, term.Var (v 1)) × IsAllowedBind [] (term.Var (v 0)) (term.Var (v 1)) (v 1, term.Var (v 0))
 
+-- f(x)
 abbrev pub f_of : ℕ → Node
 f_of x = node.Rec (codes "f") ((feature.Int (pos 1), v x) ∷ [])
 

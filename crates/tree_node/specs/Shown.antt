@@ -16,6 +16,7 @@ pub data Show : Type 0 where
   Text : (text : List ℕ) (left : ℕ) → Show
   Needs : (x : VarName) → Show
 
+-- what comes next, from the text and the nodes that are left; where a variable is needed nothing comes next
 abbrev pub and_then : Show → (List ℕ → ℕ → Show) → Show
 and_then (Text text left) next = next text left
 and_then (Needs x) next = Needs x
@@ -24,6 +25,7 @@ and_then (Needs x) next = Needs x
 abbrev pub Walk : Type 0
 Walk = ℕ → ℕ → VarName → Show
 
+-- the feature is this number
 abbrev pub is_feature : ℕ → Feature → Bool
 is_feature k (feature.Int z) = int_eq z (pos k)
 is_feature k (feature.Atom t) = false
@@ -34,16 +36,20 @@ head_and_tail (node.Rec label ((f, x) ∷ (g, y) ∷ [])) =
     if bytes_eq label (124 ∷ []) && (is_feature 1 f && is_feature 2 g) then Some (x, y) else None
 head_and_tail _ = None
 
+-- there is a node, and it is a list's
 abbrev pub is_pair : Option Node → Bool
 is_pair (Some n) = is_some (head_and_tail n)
 is_pair None = false
 
+-- the text, in brackets where that is wanted
 abbrev pub in_brackets : Bool → List ℕ → List ℕ
 in_brackets b text = if b then 40 ∷ (text ++ 41 ∷ []) else text
 
+-- here the text is cut: beyond level 20, or where no nodes are left
 abbrev pub is_cut : ℕ → ℕ → Bool
 is_cut level left = nat_lt 20 level || (left == 0)
 
+-- a list: its head, a level deeper, in brackets where it is a list that is shown; then | and its tail, on the same level
 abbrev pub show_pair : Store → Walk → ℕ → ℕ → VarName → VarName → Show
 show_pair s walk level left x y =
     and_then (walk (level + 1) left x) (λ head rest. and_then (walk level rest y) (λ tail end.
@@ -53,10 +59,12 @@ show_pair s walk level left x y =
 abbrev pub field_text : ℕ → Feature → List ℕ → List ℕ
 field_text next f value = if is_feature next f then value else feature_text f ++ 58 ∷ value
 
+-- a field's text and that of the others, with a space between where there are others
 abbrev pub after_field : List ℕ → List (Feature × VarName) → List ℕ → List ℕ
 after_field one [] others = one
 after_field one (f ∷ fs) others = one ++ 32 ∷ others
 
+-- the fields, each a level deeper; next is the feature that goes without its name
 abbrev pub show_fields : Walk → ℕ → ℕ → ℕ → List (Feature × VarName) → Show
 show_fields walk level left next [] = Text [] left
 show_fields walk level left next ((f, x) ∷ fields) =
@@ -64,19 +72,23 @@ show_fields walk level left next ((f, x) ∷ fields) =
     and_then (show_fields walk level rest (if is_feature next f then next + 1 else next) fields) (λ others end.
     Text (after_field (field_text next f value) fields others) end))
 
+-- a record: its label, and its fields in brackets
 abbrev pub show_record : Walk → ℕ → ℕ → List ℕ → List (Feature × VarName) → Show
 show_record walk level left label fields =
     and_then (show_fields walk level left 1 fields) (λ text rest. Text (atom_text label ++ 40 ∷ (text ++ 41 ∷ [])) rest)
 
+-- a record as a list, where it is one, and else as a record
 abbrev pub show_rec : Store → Walk → ℕ → ℕ → List ℕ → List (Feature × VarName) → Option (VarName × VarName) → Show
 show_rec s walk level left label fields (Some (x, y)) = show_pair s walk level left x y
 show_rec s walk level left label fields None = show_record walk level left label fields
 
+-- a node: a record with its fields, any other by its head alone
 abbrev pub show_node : Store → Walk → ℕ → ℕ → Node → Show
 show_node s walk level left (node.Rec label fields) =
     show_rec s walk level left label fields (head_and_tail (node.Rec label fields))
 show_node s walk level left n = Text (head_text n) left
 
+-- the node of a variable; where it has none, the variable is needed
 abbrev pub show_option : Store → Walk → ℕ → ℕ → VarName → Option Node → Show
 show_option s walk level left x (Some n) = show_node s walk level left n
 show_option s walk level left x None = Needs x
@@ -92,6 +104,7 @@ show_var (suc depth) s level left x =
 unfoldable pub shown_within : ℕ → Store → VarName → Show
 shown_within n s x = show_var n s 1 n x
 
+-- what a variable shows as, of at most 1,000 nodes
 abbrev pub shown : Store → VarName → Show
 shown s x = shown_within 1000 s x
 

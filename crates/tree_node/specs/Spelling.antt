@@ -32,6 +32,7 @@ escaped_text (c ∷ cs) =
 abbrev pub atom_text : List ℕ → List ℕ
 atom_text t = if is_bare t then t else 39 ∷ (escaped_text t ++ 39 ∷ [])
 
+-- an integer or an atom
 abbrev pub feature_text : Feature → List ℕ
 feature_text (feature.Int z) = int_text z
 feature_text (feature.Atom t) = atom_text t

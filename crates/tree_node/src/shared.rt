@@ -6,7 +6,7 @@ use std::alloc::{AllocError, Global};
 use std::marker::Model;
 use std::sync::ArcSlice;
 
-/// Items that never change, in order, which contracts see as a list. A copy takes one step however long the list
+/// Items that never change, in order, which contracts see as a list. A copy costs the same however long the list
 /// is, and threads may hold copies of one list.
 #[derive(Drop)]
 pub struct Shared<T> {

@@ -12,7 +12,7 @@ use Rattle.tree_node.specs.declared.names.VarName.{VarName}
 use Rattle.tree_node.specs.Store.{equal_var}
 use Rattle.tree_node.proofs.ClassLemmas.{same_name_decides, Contains-cons_cases, Contains-head, Contains-tail}
 use Rattle.tree_store.specs.declared.names.Entry.{Entry}
-use Rattle.tree_store.specs.Names.{Filed, successive_names, interleaving, IsRising, IsPut, names_in, is_own, entry_ordinal, ordinal_of}
+use Rattle.tree_store.specs.Names.{NameTable, successive_names, interleaving, IsRising, IsPut, names_in, is_own, entry_ordinal, ordinal_of}
 use Rattle.tree_store.proofs.LinkLemmas.{apart_false, put_lookup}
 
 -- ---- a row
@@ -166,44 +166,44 @@ woven_none site first other start from ((y, e) ∷ es) r =
 
 -- ---- which names are known
 
-abbrev IsOwn : Filed → VarName → Type 0
+abbrev IsOwn : NameTable → VarName → Type 0
 IsOwn f x = (x.site ≡ f.site) × (f.first ≤ x.num) × (x.num - f.first < length f.own)
 
-own_true : (f : Filed) (x : VarName) → is_own f x ≡ true → IsOwn f x
+own_true : (f : NameTable) (x : VarName) → is_own f x ≡ true → IsOwn f x
 own_true f x h = (grind (arith, nat_tests), grind (arith, nat_tests), grind (arith, nat_tests))
 
-true_own : (f : Filed) (x : VarName) → IsOwn f x → is_own f x ≡ true
+true_own : (f : NameTable) (x : VarName) → IsOwn f x → is_own f x ≡ true
 true_own f x (p, q, r) = grind (arith, nat_tests)
 
-not_own : (f : Filed) (x : VarName) → is_own f x ≡ false → IsOwn f x → ⊥
+not_own : (f : NameTable) (x : VarName) → is_own f x ≡ false → IsOwn f x → ⊥
 not_own f x h k = let yes : is_own f x ≡ true = true_own f x k in cc
 
-own_false : (f : Filed) (x : VarName) → (IsOwn f x → ⊥) → is_own f x ≡ false
+own_false : (f : NameTable) (x : VarName) → (IsOwn f x → ⊥) → is_own f x ≡ false
 own_false f x h = go (is_own f x) refl
   where
     go : (b : Bool) → is_own f x ≡ b → is_own f x ≡ false
     go true e = absurd (h (own_true f x e))
     go false e = e
 
-abbrev AreFiled : Filed → Type 0
+abbrev AreFiled : NameTable → Type 0
 AreFiled f = IsRising 0 (length f.own) f.others
 
 same_equivalence : IsEquivalence equal_var
 same_equivalence = decided equal_var same_name_decides
 
-pub own_known : (f : Filed) (x : VarName) → is_own f x ≡ true → Contains (names_in f) x
+pub own_known : (f : NameTable) (x : VarName) → is_own f x ≡ true → Contains (names_in f) x
 unfolding names_in
 own_known f x h =
     let own = own_true f x h in
     woven_contains_row f.site f.first 0 (length f.own) f.others x (own.0, omega (arith, own.1), omega (arith, own.1, own.2))
 
-pub other_known : (f : Filed) (x : VarName) → IsSome (lookup (equal_var x) f.others) → Contains (names_in f) x
+pub other_known : (f : NameTable) (x : VarName) → IsSome (lookup (equal_var x) f.others) → Contains (names_in f) x
 unfolding names_in
 other_known f x h =
     woven_contains_other f.site f.first 0 (length f.own) f.others x
     (Contains-keys_from_lookup (λ a b e. (same_name_decides a b).0 e) x f.others h)
 
-known_cases : (f : Filed) (x : VarName) → AreFiled f → Contains (names_in f) x → IsOwn f x ⊎ IsSome (lookup (equal_var x) f.others)
+known_cases : (f : NameTable) (x : VarName) → AreFiled f → Contains (names_in f) x → IsOwn f x ⊎ IsSome (lookup (equal_var x) f.others)
 unfolding names_in
 known_cases f x r h = go (woven_among f.site f.first 0 (length f.own) f.others x r h)
   where
@@ -211,17 +211,17 @@ known_cases f x r h = go (woven_among f.site f.first 0 (length f.own) f.others x
     go (inl k) = inl (k.0, omega (arith, k.1), omega (arith, k.1, k.2))
     go (inr k) = inr (IsSome-lookup_from_Contains same_equivalence x f.others k)
 
-pub other_some : (f : Filed) (x : VarName) → AreFiled f → is_own f x ≡ false → Contains (names_in f) x → IsSome (lookup (equal_var x) f.others)
+pub other_some : (f : NameTable) (x : VarName) → AreFiled f → is_own f x ≡ false → Contains (names_in f) x → IsSome (lookup (equal_var x) f.others)
 other_some f x r h k = go (known_cases f x r k)
   where
     go : IsOwn f x ⊎ IsSome (lookup (equal_var x) f.others) → IsSome (lookup (equal_var x) f.others)
     go (inl own) = absurd (not_own f x h own)
     go (inr some) = some
 
-pub other_tells : (f : Filed) (x : VarName) (b : Bool) → AreFiled f → is_own f x ≡ false → b ≡ is_some (lookup (equal_var x) f.others) → IsTrue b ↔ Contains (names_in f) x
+pub other_tells : (f : NameTable) (x : VarName) (b : Bool) → AreFiled f → is_own f x ≡ false → b ≡ is_some (lookup (equal_var x) f.others) → IsTrue b ↔ Contains (names_in f) x
 other_tells f x b r h e = (λ yes. other_known f x (sym e ∙ yes), λ k. e ∙ other_some f x r h k)
 
-pub unknown_none : (f : Filed) (x : VarName) → (Contains (names_in f) x → ⊥) → lookup (equal_var x) f.others ≡ None
+pub unknown_none : (f : NameTable) (x : VarName) → (Contains (names_in f) x → ⊥) → lookup (equal_var x) f.others ≡ None
 unknown_none f x h = go (lookup (equal_var x) f.others) refl
   where
     go : (o : Option Entry) → lookup (equal_var x) f.others ≡ o → lookup (equal_var x) f.others ≡ None
@@ -230,19 +230,19 @@ unknown_none f x h = go (lookup (equal_var x) f.others) refl
 
 -- ---- ordinals
 
-ordinal_own : (f : Filed) (x : VarName) → is_own f x ≡ true → ordinal_of f x ≡ slice_index f.own (x.num - f.first)
+ordinal_own : (f : NameTable) (x : VarName) → is_own f x ≡ true → ordinal_of f x ≡ slice_index f.own (x.num - f.first)
 unfolding ordinal_of
 ordinal_own f x h = rw h refl
 
-pub ordinal_other : (f : Filed) (x : VarName) → is_own f x ≡ false → ordinal_of f x ≡ entry_ordinal (lookup (equal_var x) f.others)
+pub ordinal_other : (f : NameTable) (x : VarName) → is_own f x ≡ false → ordinal_of f x ≡ entry_ordinal (lookup (equal_var x) f.others)
 unfolding ordinal_of
 ordinal_other f x h = rw h refl
 
 -- what is read in the row
-pub own_read : (f : Filed) (x : VarName) (v : ℕ) → is_own f x ≡ true → v ≡ get_or f.own (x.num - f.first) v → v ≡ ordinal_of f x
+pub own_read : (f : NameTable) (x : VarName) (v : ℕ) → is_own f x ≡ true → v ≡ get_or f.own (x.num - f.first) v → v ≡ ordinal_of f x
 own_read f x v h e = e ∙ get_or_default f.own (x.num - f.first) v 0 (own_true f x h).2 ∙ sym (ordinal_own f x h)
 
-by_own : (f : Filed) (x : VarName) {P : Type 0} → (is_own f x ≡ true → P) → (is_own f x ≡ false → P) → P
+by_own : (f : NameTable) (x : VarName) {P : Type 0} → (is_own f x ≡ true → P) → (is_own f x ≡ false → P) → P
 by_own f x {P} within beside = go (is_own f x) refl
   where
     go : (b : Bool) → is_own f x ≡ b → P
@@ -252,27 +252,27 @@ by_own f x {P} within beside = go (is_own f x) refl
 -- ---- one more name
 
 -- the row with other ordinals, or other names beside it
-abbrev with_own : Filed → List ℕ → Filed
+abbrev with_own : NameTable → List ℕ → NameTable
 with_own f own = record { site = f.site; first = f.first; own = own; others = f.others }
 
-abbrev with_others : Filed → Entries → Filed
+abbrev with_others : NameTable → Entries → NameTable
 with_others f others = record { site = f.site; first = f.first; own = f.own; others = others }
 
-abbrev pub next_name : Filed → VarName
+abbrev pub next_name : NameTable → VarName
 next_name f = record { site = f.site; num = f.first + length f.own }
 
-pub pushed_rising : (f : Filed) (own : List ℕ) → AreFiled f → own ≡ f.own ++ 0 ∷ [] → IsRising 0 (length own) f.others
+pub pushed_rising : (f : NameTable) (own : List ℕ) → AreFiled f → own ≡ f.own ++ 0 ∷ [] → IsRising 0 (length own) f.others
 pushed_rising f own r e =
     let longer : length own ≡ suc (length f.own) = omega (arith, ap length e, length-append f.own (0 ∷ [])) in
     rw longer (rising_grows 0 (length f.own) f.others r)
 
-pub pushed_names : (f : Filed) (x : VarName) (own : List ℕ) → AreFiled f → x ≡ next_name f → own ≡ f.own ++ 0 ∷ [] → names_in (with_own f own) ≡ names_in f ++ x ∷ []
+pub pushed_names : (f : NameTable) (x : VarName) (own : List ℕ) → AreFiled f → x ≡ next_name f → own ≡ f.own ++ 0 ∷ [] → names_in (with_own f own) ≡ names_in f ++ x ∷ []
 unfolding names_in
 pushed_names f x own r next e =
     let longer : length own ≡ suc (length f.own) = omega (arith, ap length e, length-append f.own (0 ∷ [])) in
     rw (longer, next) (woven_grows f.site f.first 0 (length f.own) f.others r)
 
-pub pushed_ordinals : (f : Filed) (x y : VarName) (own : List ℕ) → x ≡ next_name f → (Contains (names_in f) x → ⊥) → own ≡ f.own ++ 0 ∷ [] → ordinal_of (with_own f own) y ≡ ordinal_of f y
+pub pushed_ordinals : (f : NameTable) (x y : VarName) (own : List ℕ) → x ≡ next_name f → (Contains (names_in f) x → ⊥) → own ≡ f.own ++ 0 ∷ [] → ordinal_of (with_own f own) y ≡ ordinal_of f y
 pushed_ordinals f x y own next new e = by_own f y within beside
   where
     longer : length own ≡ suc (length f.own)
@@ -302,14 +302,14 @@ pushed_ordinals f x y own next new e = by_own f y within beside
         other : is_own (with_own f own) y ≡ false → ordinal_of (with_own f own) y ≡ ordinal_of f y
         other k = ordinal_other (with_own f own) y k ∙ sym (ordinal_other f y h)
 
-pub added_rising : (f : Filed) (x : VarName) (e : Entry) (others : Entries) → AreFiled f → e.before ≡ length f.own → others ≡ f.others ++ (x, e) ∷ [] → IsRising 0 (length f.own) others
+pub added_rising : (f : NameTable) (x : VarName) (e : Entry) (others : Entries) → AreFiled f → e.before ≡ length f.own → others ≡ f.others ++ (x, e) ∷ [] → IsRising 0 (length f.own) others
 added_rising f x e others r at more = rw more (rising_more 0 (length f.own) f.others x e at r)
 
-pub added_names : (f : Filed) (x : VarName) (e : Entry) (others : Entries) → e.before ≡ length f.own → others ≡ f.others ++ (x, e) ∷ [] → names_in (with_others f others) ≡ names_in f ++ x ∷ []
+pub added_names : (f : NameTable) (x : VarName) (e : Entry) (others : Entries) → e.before ≡ length f.own → others ≡ f.others ++ (x, e) ∷ [] → names_in (with_others f others) ≡ names_in f ++ x ∷ []
 unfolding names_in
 added_names f x e others at more = rw more (woven_more f.site f.first 0 (length f.own) f.others x e at)
 
-pub added_ordinals : (f : Filed) (x y : VarName) (e : Entry) (others : Entries) → (Contains (names_in f) x → ⊥) → e.ordinal ≡ 0 →
+pub added_ordinals : (f : NameTable) (x y : VarName) (e : Entry) (others : Entries) → (Contains (names_in f) x → ⊥) → e.ordinal ≡ 0 →
     lookup (equal_var y) others ≡ cond (equal_var x y) (Some e) (lookup (equal_var y) f.others) → ordinal_of (with_others f others) y ≡ ordinal_of f y
 added_ordinals f x y e others new zero_at found = by_own f y within beside
   where
@@ -328,27 +328,27 @@ added_ordinals f x y e others new zero_at found = by_own f y within beside
 
 -- ---- the row begins
 
-pub begun_names : (f : Filed) (site first : ℕ) → AreFiled f → f.own ≡ [] → names_in (record { site = site; first = first; own = f.own; others = f.others }) ≡ names_in f
+pub begun_names : (f : NameTable) (site first : ℕ) → AreFiled f → f.own ≡ [] → names_in (record { site = site; first = first; own = f.own; others = f.others }) ≡ names_in f
 unfolding names_in
 begun_names f site first r e =
     let none : length f.own ≡ 0 = ap length e in
     let rising : IsRising 0 0 f.others = subst (λ (n : ℕ). IsRising 0 n f.others) none r in
     rw none (woven_none site first f.site f.first 0 f.others rising)
 
-pub begun_ordinals : (f : Filed) (site first : ℕ) (y : VarName) → f.own ≡ [] → ordinal_of (record { site = site; first = first; own = f.own; others = f.others }) y ≡ ordinal_of f y
+pub begun_ordinals : (f : NameTable) (site first : ℕ) (y : VarName) → f.own ≡ [] → ordinal_of (record { site = site; first = first; own = f.own; others = f.others }) y ≡ ordinal_of f y
 begun_ordinals f site first y e =
     let none : length f.own ≡ 0 = ap length e in
-    let begun : Filed = record { site = site; first = first; own = f.own; others = f.others } in
+    let begun : NameTable = record { site = site; first = first; own = f.own; others = f.others } in
     ordinal_other begun y (own_false begun y (λ o. omega (arith, none, o.2)))
     ∙ sym (ordinal_other f y (own_false f y (λ o. omega (arith, none, o.2))))
 
 -- ---- an ordinal is filed
 
-pub set_own_names : (f : Filed) (own : List ℕ) → length own ≡ length f.own → names_in (with_own f own) ≡ names_in f
+pub set_own_names : (f : NameTable) (own : List ℕ) → length own ≡ length f.own → names_in (with_own f own) ≡ names_in f
 unfolding names_in
 set_own_names f own e = rw e refl
 
-pub set_own_ordinals : (f : Filed) (x y : VarName) (n : ℕ) (own : List ℕ) → is_own f x ≡ true → own ≡ set f.own (x.num - f.first) n →
+pub set_own_ordinals : (f : NameTable) (x y : VarName) (n : ℕ) (own : List ℕ) → is_own f x ≡ true → own ≡ set f.own (x.num - f.first) n →
     ordinal_of (with_own f own) y ≡ cond (equal_var x y) n (ordinal_of f y)
 set_own_ordinals f x y n own here e = by_own f y within beside
   where
@@ -386,14 +386,14 @@ set_own_ordinals f x y n own here e = by_own f y within beside
         let differ : equal_var x y ≡ false = apart_false x y (λ e. not_own f y h (subst (λ (z : VarName). IsOwn f z) e o)) in
         rw differ (ordinal_other (with_own f own) y out ∙ sym (ordinal_other f y h))
 
-pub set_other_rising : (f : Filed) (x : VarName) (n : ℕ) (others : Entries) → AreFiled f → IsPut f.others x n others → IsRising 0 (length f.own) others
+pub set_other_rising : (f : NameTable) (x : VarName) (n : ℕ) (others : Entries) → AreFiled f → IsPut f.others x n others → IsRising 0 (length f.own) others
 set_other_rising f x n others r (e, found, is) = rw is (rising_put 0 (length f.own) f.others x e (record { before = e.before; ordinal = n }) found refl r)
 
-pub set_other_names : (f : Filed) (x : VarName) (n : ℕ) (others : Entries) → IsPut f.others x n others → names_in (with_others f others) ≡ names_in f
+pub set_other_names : (f : NameTable) (x : VarName) (n : ℕ) (others : Entries) → IsPut f.others x n others → names_in (with_others f others) ≡ names_in f
 unfolding names_in
 set_other_names f x n others (e, found, is) = rw is (woven_put f.site f.first 0 (length f.own) f.others x e (record { before = e.before; ordinal = n }) found refl)
 
-pub set_other_ordinals : (f : Filed) (x y : VarName) (n : ℕ) (others : Entries) → is_own f x ≡ false → IsPut f.others x n others →
+pub set_other_ordinals : (f : NameTable) (x y : VarName) (n : ℕ) (others : Entries) → is_own f x ≡ false → IsPut f.others x n others →
     ordinal_of (with_others f others) y ≡ cond (equal_var x y) n (ordinal_of f y)
 set_other_ordinals f x y n others out (e, found, is) = by_own f y within beside
   where
@@ -413,9 +413,9 @@ set_other_ordinals f x y n others out (e, found, is) = by_own f y within beside
 
 -- ---- no names
 
-pub none_names : (f : Filed) → f.own ≡ [] → f.others ≡ [] → names_in f ≡ []
+pub none_names : (f : NameTable) → f.own ≡ [] → f.others ≡ [] → names_in f ≡ []
 unfolding names_in
 none_names f p q = rw (p, q) refl
 
-pub none_ordinals : (f : Filed) (y : VarName) → f.own ≡ [] → f.others ≡ [] → ordinal_of f y ≡ 0
+pub none_ordinals : (f : NameTable) (y : VarName) → f.own ≡ [] → f.others ≡ [] → ordinal_of f y ≡ 0
 none_ordinals f y p q = ordinal_other f y (own_false f y (λ o. omega (arith, ap length p, o.2))) ∙ ap (λ (es : Entries). entry_ordinal (lookup (equal_var y) es)) q

@@ -9,6 +9,7 @@ use Rattle.tree_node.specs.Store.{Store, equal_var, joined_root, root_of}
 use Rattle.tree_store.specs.Forest.{IsGrown}
 use Rattle.tree_store.specs.declared.links.ClassEntry.{ClassEntry}
 
+-- the variables that were linked, each with its entry
 abbrev pub ClassEntries : Type 0
 ClassEntries = List (VarName × ClassEntry)
 
@@ -16,6 +17,7 @@ ClassEntries = List (VarName × ClassEntry)
 abbrev pub singleton : VarName → ClassEntry
 singleton x = record { parent = x; size = 1; end = x }
 
+-- the entry of a variable; one that has none is alone in its class
 abbrev pub entry_in : ClassEntries → VarName → ClassEntry
 entry_in forest x = unwrap_or (lookup (equal_var x) forest) (singleton x)
 
@@ -23,10 +25,11 @@ entry_in forest x = unwrap_or (lookup (equal_var x) forest) (singleton x)
 abbrev pub IsRepresentative : (VarName → ClassEntry) → VarName → Type 0
 IsRepresentative entry x = (entry x).parent ≡ x
 
--- the sizes of the classes, added up
+-- the size of the class of x, where x stands for it, and else 0
 abbrev pub weight : VarName → ClassEntry → ℕ
 weight x p = if equal_var p.parent x then p.size else 0
 
+-- the sizes of the classes, added up
 abbrev pub total : ClassEntries → ℕ
 total [] = 0
 total ((x, p) ∷ forest) = weight x p + total forest
@@ -50,11 +53,12 @@ entry_after_union entry child top e x =
     if equal_var top x then record { parent = top; size = (entry child).size + (entry top).size; end = e }
     else (if equal_var child x then record { parent = top; size = (entry child).size; end = (entry child).end } else entry x)
 
--- the classes after an equation u = t, and that it joins no class to itself
+-- the roots after an equation u = t
 abbrev pub root_with : (VarName → VarName) → VarName → Term → VarName → VarName
 root_with root u (term.Var v) x = joined_root root u v x
 root_with root u (term.Node n) x = root x
 
+-- the equation u = t joins no class to itself
 abbrev pub IsApart : (VarName → VarName) → VarName → Term → Type 0
 IsApart root u (term.Var v) = root u ≡ root v → ⊥
 IsApart root u (term.Node n) = Unit {0}

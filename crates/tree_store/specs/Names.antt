@@ -6,7 +6,7 @@ use Rattle.tree_node.specs.Store.{equal_var}
 use Rattle.tree_store.specs.declared.names.Entry.{Entry}
 
 -- the names of one site from a number on, each with the ordinal of its equation, and the others
-pub record Filed : Type 0 where
+pub record NameTable : Type 0 where
   pub site : ℕ
   pub first : ℕ
   pub own : List ℕ
@@ -29,19 +29,20 @@ IsRising from last [] = from ≤ last
 IsRising from last ((x, e) ∷ others) = (from ≤ e.before) × IsRising e.before last others
 
 -- the names, in the order in which they became known
-unfoldable pub names_in : Filed → List VarName
+unfoldable pub names_in : NameTable → List VarName
 names_in f = interleaving f.site f.first 0 (length f.own) f.others
 
 -- the name stands in the row
-abbrev pub is_own : Filed → VarName → Bool
+abbrev pub is_own : NameTable → VarName → Bool
 is_own f x = (x.site == f.site) && (nat_lt f.first (suc x.num) && nat_lt (x.num - f.first) (length f.own))
 
+-- the ordinal of an entry; 0, where there is none
 abbrev pub entry_ordinal : Option Entry → ℕ
 entry_ordinal None = 0
 entry_ordinal (Some e) = e.ordinal
 
 -- the ordinal of a name's equation; 0, where it has none
-unfoldable pub ordinal_of : Filed → VarName → ℕ
+unfoldable pub ordinal_of : NameTable → VarName → ℕ
 ordinal_of f x =
     if is_own f x then slice_index f.own (x.num - f.first) else entry_ordinal (lookup (equal_var x) f.others)
 

@@ -26,9 +26,11 @@ between front back w = and_then w (λ text left. Text (front ++ (text ++ back)) 
 abbrev pub has_brackets : Store → ℕ → ℕ → VarName → Bool
 has_brackets s level left x = is_pair (node_of s x) && (if is_cut (level + 1) left then false else true)
 
+-- what stands before a list's head
 abbrev pub head_front : Bool → List ℕ
 head_front brackets = if brackets then 40 ∷ [] else []
 
+-- what stands behind it, the bar before the tail included
 abbrev pub head_back : Bool → List ℕ
 head_back brackets = if brackets then 41 ∷ 124 ∷ [] else 124 ∷ []
 

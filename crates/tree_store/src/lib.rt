@@ -12,7 +12,7 @@
 //! - `shown`: the line that a value shows as, to 20 levels and 1,000 nodes, or the first variable that it needs and that
 //!   has no value, by the name of its class (`IsShownAs`).
 //! - `wait`, `wake`: keys wait for a variable in the order in which they came, until all of them are taken (`keys`,
-//!   `rest`).
+//!   `rest`). The programs here let threads wait in rosters; no crate of code calls these two.
 //!
 //! No call walks the store. The equations stand in a list, in order, and each name is filed with the place of its own one:
 //! the names of the site of the first `fresh` in a row by number, as long as their numbers come without gaps, and all

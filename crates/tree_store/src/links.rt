@@ -100,6 +100,7 @@ fn attach(forest: &mut IndexMap<VarName, ClassEntry>, child: VarName, top: VarNa
     ensures tree { IsTree forest.new.entries }
     ensures forest { (y : VarName) → entry_in forest.new.entries y ≡ entry_after_union (entry_in forest.old.entries) child top end y }
 {
+    // Called for its clause: the number of entries is below 2^63, and no size is above it, so that the sum below is in range.
     let _count = forest.len();
     let small = entry_of(forest, child);
     let great = entry_of(forest, top);
@@ -135,6 +136,7 @@ impl Links {
         let mut at = var;
         let mut entry = entry_of(&self.forest, at);
         'parents: for step in 0..64_u32 {
+            // The invariant speaks of the number of the step.
             let _ = step;
             if entry.parent == at {
                 return at;

@@ -31,9 +31,9 @@ pub struct Names {
 }
 
 impl Model for Names {
-    ghost use Rattle.tree_store.specs.Names.{Filed};
+    ghost use Rattle.tree_store.specs.Names.{NameTable};
 
-    ghost Value = { Filed };
+    ghost Value = { NameTable };
 
     ghost use Rattle.std.specs.Prelude.{length};
     ghost use Rattle.tree_store.specs.Names.{IsRising};

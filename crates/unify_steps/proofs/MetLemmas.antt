@@ -17,7 +17,7 @@ use Rattle.tree_node.specs.Store.{equal_var}
 use Rattle.tree_node.specs.Goal.{equal_feature, equal_fields, equal_text, is_met_pair}
 use Rattle.tree_node.proofs.ClassLemmas.{same_name_decides}
 use Rattle.unify_steps.specs.Hash.{node_hash, pair_hash}
-use Rattle.unify_steps.specs.Met.{has_hash, pairs_of, IsIndexOf}
+use Rattle.unify_steps.specs.MetPairs.{has_hash, pairs_of, IsIndexOf}
 
 -- nodes of equal text have one hash
 feature_same : (f g : Feature) → equal_feature f g ≡ true → f ≡ g

@@ -1,4 +1,4 @@
--- Marks of pairs of records: numbers by which met pairs are found. Pairs of equal text, in either order, have one hash.
+-- Hashes of pairs of records, by which met pairs are found. Pairs of equal text, in either order, have one hash.
 use Rattle.std.specs.Prelude.{ℕ, ◌+◌, ◌*◌, ◌%◌, ◌^◌, List, [], ◌∷◌}
 use Rattle.tree_node.specs.declared.names.VarName.{VarName}
 use Rattle.tree_node.specs.declared.node.Feature.{Feature}
@@ -23,9 +23,11 @@ fields_hash hash ((f, x) ∷ fields) = fields_hash (hash_step (hash_step hash x.
 abbrev pub hash_mix : ℕ → ℕ
 hash_mix hash = hash * ((hash * 2 % 2 ^ 64 + 1) % 2 ^ 64) % 2 ^ 64
 
+-- a record's label and the variables of its fields; 0 for every other node
 abbrev pub node_hash : Node → ℕ
 node_hash (node.Rec label fields) = hash_mix (fields_hash (text_hash 1 label) fields)
 node_hash _ = 0
 
+-- the same for the two nodes in either order
 abbrev pub pair_hash : Node → Node → ℕ
 pair_hash m n = (node_hash m + node_hash n) % 2 ^ 64

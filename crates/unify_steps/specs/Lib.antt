@@ -1,5 +1,5 @@
 pub mod Case
 pub mod Hash
-pub mod Met
+pub mod MetPairs
 pub mod Step
 pub mod Next

@@ -13,7 +13,7 @@
 //! - `Block::new`, and `fill` of a [`BlockRoom`], which takes no memory, begin with one pair and nothing met. `into_room` makes
 //!   such room of a block that is done with; that it does is promised by no clause, and shown by `bench/run` alone.
 //!
-//! `case` finds the case of a pair, `met` and `met_table` keep the pairs that were met, which `hash` makes quick to find,
+//! `case` finds the case of a pair, `met_pairs` and `met_table` keep the pairs that were met, which `hash` makes quick to find,
 //! and `records` compares and pairs fields. `threads` shows that a block may go to another thread.
 //!
 //! It stands on `tree_store` and on the definitions of `tree_node` (`specs/Goal.antt`), and on `indexmap`. Tests
@@ -26,7 +26,7 @@ mod answer;
 mod block;
 mod case;
 mod hash;
-mod met;
+mod met_pairs;
 mod met_table;
 mod records;
 mod threads;

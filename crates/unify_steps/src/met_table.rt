@@ -2,7 +2,7 @@
 
 ghost use Rattle.std.specs.Prelude.{◌≡◌, ℕ, [], ◌∷◌, ◌++◌, if◌then◌else◌, nat_eq, IfOk, OnOk, OnErr};
 ghost use Rattle.indexmap.specs.IndexMap.{get};
-ghost use Rattle.unify_steps.specs.Met.{pairs_of};
+ghost use Rattle.unify_steps.specs.MetPairs.{pairs_of};
 ghost use Rattle.tree_node.specs.Goal.{is_met_pair};
 
 use crate::hash::pair_hash;
@@ -26,7 +26,7 @@ impl Model for MetTable {
 
     ghost Value = { List (Node × Node) };
 
-    ghost use Rattle.unify_steps.specs.Met.{IsIndexOf};
+    ghost use Rattle.unify_steps.specs.MetPairs.{IsIndexOf};
 
     ghost view = { λ m. m.pairs.items };
 

@@ -7,7 +7,7 @@ ghost use Rattle.site_message.specs.Wire.{FitsWire};
 ghost use Rattle.message_book.specs.Book.{IsSiteOf};
 ghost use Rattle.site_message.specs.Story.{hand};
 
-use message_book::{Book, Posted, Spelled};
+use message_book::{Book, Posted, SpelledTurn};
 use site_message::{Bundle, Lines, Msg, Picks, Reason, Sent, SentList, Turn, wire_fits};
 use std::alloc::{AllocError, Global};
 use std::test::Fail;
@@ -72,11 +72,11 @@ fn all_fit(sent: &[Sent]) -> bool
 }
 
 // The turn with the spellings of its messages, where each can be spelled.
-fn spelled(alloc: Global, turn: Turn) -> Option<Spelled>
+fn spell_turn(alloc: Global, turn: Turn) -> Option<SpelledTurn>
     ensures { IfSome result (λ s. s ≡ turn) }
 {
     if all_fit(turn.sent.as_slice()) {
-        Spelled::new(alloc, turn).ok()
+        SpelledTurn::new(alloc, turn).ok()
     } else {
         None
     }
@@ -89,18 +89,18 @@ fn is_spelling(bytes: &Bytes) -> bool {
 }
 
 // A book of two sites, to which site 1 has posted that it sent a thread to site 2.
-fn first_posted(alloc: Global) -> Option<Book>
+fn post_first(alloc: Global) -> Option<Book>
     ensures { IfSome result (λ b. b.limits.sites ≡ 2) }
 {
     let mut book = Book::new(alloc, 2, 10, 1).ok()?;
     let sent = one_spawn(alloc).ok()?;
-    let first = spelled(alloc, turn(alloc, 1, None, sent))?;
+    let first = spell_turn(alloc, turn(alloc, 1, None, sent))?;
     book.post(first).ok()?;
     Some(book)
 }
 
 // Site 2 takes a message.
-fn taken(book: &mut Book) -> Option<(u64, Bytes)>
+fn take_message(book: &mut Book) -> Option<(u64, Bytes)>
     requires { book.old.limits.sites ≡ 2 }
     ensures sites { book.new.limits.sites ≡ 2 }
     ensures hand { IfSome result (λ x. Contains (hand 2 book.new.hands) x.0) }
@@ -120,32 +120,32 @@ fn has_none(book: &mut Book, site: u32) -> bool
 }
 
 // Site 2 posts that it delivered the message.
-fn second_posted(alloc: Global, book: &mut Book, number: u64) -> bool
+fn post_second(alloc: Global, book: &mut Book, number: u64) -> bool
     requires sites { book.old.limits.sites ≡ 2 }
     requires hand { Contains (hand 2 book.old.hands) number }
     ensures { book.new.limits.sites ≡ 2 }
 {
     let none = SentList::new(alloc);
-    match spelled(alloc, turn(alloc, 2, Some(number), none)) {
+    match spell_turn(alloc, turn(alloc, 2, Some(number), none)) {
         Some(second) => book.post(second).is_ok(),
         None => false,
     }
 }
 
 // Site 1 posts a turn that delivers nothing.
-fn third_posted(alloc: Global, book: &mut Book) -> Result<(), Posted>
+fn post_third(alloc: Global, book: &mut Book) -> Result<(), Posted>
     requires { book.old.limits.sites ≡ 2 }
     ensures { book.new.limits.sites ≡ 2 }
 {
     let none = SentList::new(alloc);
-    match spelled(alloc, turn(alloc, 1, None, none)) {
+    match spell_turn(alloc, turn(alloc, 1, None, none)) {
         Some(third) => book.post(third),
         None => Err(Posted::Memory),
     }
 }
 
 // Closes a book that has a reason, and tells the reason that it has then.
-fn closed(book: &mut Book) -> Option<Reason> {
+fn close_book(book: &mut Book) -> Option<Reason> {
     if book.reason().is_some() {
         book.close(Reason::Steps(1));
     }
@@ -153,22 +153,22 @@ fn closed(book: &mut Book) -> Option<Reason> {
 }
 
 fn run_two_turns(alloc: Global) -> Option<Observed> {
-    let mut book = first_posted(alloc)?;
+    let mut book = post_first(alloc)?;
     let after_first = book.reason();
     if !has_none(&mut book, 1) {
         return None;
     }
-    let (number, bytes) = taken(&mut book)?;
+    let (number, bytes) = take_message(&mut book)?;
     if !has_none(&mut book, 2) {
         return None;
     }
     let quiet_in_between = book.quiet();
-    if !second_posted(alloc, &mut book, number) {
+    if !post_second(alloc, &mut book, number) {
         return None;
     }
     let after_second = book.reason();
-    let third = third_posted(alloc, &mut book);
-    let after_close = closed(&mut book);
+    let third = post_third(alloc, &mut book);
+    let after_close = close_book(&mut book);
     Some(Observed {
         after_first,
         number,

@@ -76,7 +76,7 @@ fn numbers_of(alloc: Global, bundle: &Bundle) -> Result<Vec<u64>, AllocError> {
 }
 
 // A bundle from variable 4 of site 1 has the names of these numbers.
-fn goes_out<R: Abort>(
+fn expect_bundle<R: Abort>(
     rt: &R,
     alloc: Global,
     store: &Store,
@@ -101,10 +101,10 @@ static OUT: [(usize, &[u64]); 7] = [
     (256, &[0, 1, 2, 3, 4]),
 ];
 
-fn all_go_out<R: Abort>(rt: &R, alloc: Global, store: &mut Store) -> Result<(), AllocError> {
+fn expect_bundles<R: Abort>(rt: &R, alloc: Global, store: &mut Store) -> Result<(), AllocError> {
     assert!(rt; fill(alloc, store)?);
     for (limit, numbers) in OUT.as_slice() {
-        goes_out(rt, alloc, store, *limit, numbers)?;
+        expect_bundle(rt, alloc, store, *limit, numbers)?;
     }
     Ok(())
 }
@@ -112,12 +112,16 @@ fn all_go_out<R: Abort>(rt: &R, alloc: Global, store: &mut Store) -> Result<(), 
 #[test]
 fn the_first_equations_go_out_by_their_names(rt: HostRuntime) -> Result<(), Fail> {
     let mut store = Store::new(rt.alloc());
-    all_go_out(&rt, rt.alloc(), &mut store)?;
+    expect_bundles(&rt, rt.alloc(), &mut store)?;
     Ok(())
 }
 
 // Nothing is in a bundle of variable 0 where the limit is 0, and nothing comes in with it.
-fn goes_without<R: Abort>(rt: &R, alloc: Global, store: &mut Store) -> Result<(), AllocError> {
+fn expect_empty_bundle<R: Abort>(
+    rt: &R,
+    alloc: Global,
+    store: &mut Store,
+) -> Result<(), AllocError> {
     let var = VarName { site: 1, num: 0 };
     assert!(rt; tell(store, 0, Node::Int(5))?);
     let bundle = export(alloc, store, var, 0)?;
@@ -130,6 +134,6 @@ fn goes_without<R: Abort>(rt: &R, alloc: Global, store: &mut Store) -> Result<()
 #[test]
 fn nothing_goes_out_where_the_limit_is_0(rt: HostRuntime) -> Result<(), Fail> {
     let mut store = Store::new(rt.alloc());
-    goes_without(&rt, rt.alloc(), &mut store)?;
+    expect_empty_bundle(&rt, rt.alloc(), &mut store)?;
     Ok(())
 }

@@ -24,15 +24,15 @@ enum Call {
     Swaps(usize, u64, u64),
 }
 
-fn asks(site: &mut CellSite, want: Ask) -> bool {
+fn ask_site(site: &mut CellSite, want: Ask) -> bool {
     site.state().waiting < 1 << 59 && site.ask() == want
 }
 
-fn gets(manager: &mut Manager, from: u32, to: u32) -> bool {
+fn get(manager: &mut Manager, from: u32, to: u32) -> bool {
     manager.on_get(from) == Forward { to, next: from }
 }
 
-fn forwards(site: &mut CellSite, next: u32) -> bool {
+fn forward(site: &mut CellSite, next: u32) -> bool {
     let state = site.state();
     if state.next.is_some() || !(state.here || state.asked) {
         return false;
@@ -41,7 +41,7 @@ fn forwards(site: &mut CellSite, next: u32) -> bool {
     true
 }
 
-fn leaves(site: &mut CellSite, want: Option<(u32, u64)>) -> bool {
+fn leave(site: &mut CellSite, want: Option<(u32, u64)>) -> bool {
     match (site.leave(), want) {
         (Some((to, content)), Some((next, num))) => to == next && content == var(num),
         (None, None) => true,
@@ -49,7 +49,7 @@ fn leaves(site: &mut CellSite, want: Option<(u32, u64)>) -> bool {
     }
 }
 
-fn puts(site: &mut CellSite, num: u64) -> bool {
+fn put(site: &mut CellSite, num: u64) -> bool {
     if !site.state().asked {
         return false;
     }
@@ -57,15 +57,15 @@ fn puts(site: &mut CellSite, num: u64) -> bool {
     true
 }
 
-fn swaps(site: &mut CellSite, new: u64, old: u64) -> bool {
+fn swap(site: &mut CellSite, new: u64, old: u64) -> bool {
     let state = site.state();
     state.here && state.waiting > 0 && site.swap(var(new)) == var(old)
 }
 
 // Whether the call can be made, and is answered so. Sites 1 to 3 stand at places 0 to 2.
-fn goes(manager: &mut Manager, sites: &mut [CellSite], call: Call) -> bool {
+fn make_call(manager: &mut Manager, sites: &mut [CellSite], call: Call) -> bool {
     let place = match call {
-        Call::Gets(from, to) => return gets(manager, from, to),
+        Call::Gets(from, to) => return get(manager, from, to),
         Call::Asks(at, _) | Call::Forwards(at, _) | Call::Leaves(at, _) => at,
         Call::Puts(at, _) | Call::Swaps(at, _, _) => at,
     };
@@ -73,12 +73,12 @@ fn goes(manager: &mut Manager, sites: &mut [CellSite], call: Call) -> bool {
         return false;
     };
     match call {
-        Call::Asks(_, want) => asks(site, want),
+        Call::Asks(_, want) => ask_site(site, want),
         Call::Gets(_, _) => false,
-        Call::Forwards(_, next) => forwards(site, next),
-        Call::Leaves(_, want) => leaves(site, want),
-        Call::Puts(_, num) => puts(site, num),
-        Call::Swaps(_, new, old) => swaps(site, new, old),
+        Call::Forwards(_, next) => forward(site, next),
+        Call::Leaves(_, want) => leave(site, want),
+        Call::Puts(_, num) => put(site, num),
+        Call::Swaps(_, new, old) => swap(site, new, old),
     }
 }
 
@@ -117,13 +117,16 @@ fn the_token_goes_along_the_askers(rt: HostRuntime) {
         CellSite::away(),
     ];
     for (at, call) in ALONG.iter().enumerate() {
-        assert!(rt; goes(&mut manager, sites.as_mut_slice(), *call), "at {at}");
+        assert!(rt;
+            make_call(&mut manager, sites.as_mut_slice(), *call),
+            "at {at}"
+        );
     }
     assert!(rt; sites[2].state().here && sites[0].state().next.is_none());
 }
 
-// An answer of `ask`, where the site is one of the world's.
-fn ask(world: &mut CellWorld, site: u32, new: VarName) -> Result<Option<Ask>, AllocError> {
+// What `CellWorld::ask` answers; none where the site is not one of the world's, or too many threads wait there.
+fn ask_world(world: &mut CellWorld, site: u32, new: VarName) -> Result<Option<Ask>, AllocError> {
     if site == 0 || site as usize > world.sites() || world.waiting(site) >= 1 << 60 {
         return Ok(None);
     }
@@ -138,15 +141,15 @@ enum Event {
 }
 
 // Whether the event can be, and is answered so.
-fn happens(world: &mut CellWorld, event: Event) -> Result<bool, AllocError> {
+fn make_event(world: &mut CellWorld, event: Event) -> Result<bool, AllocError> {
     match event {
-        Event::Asks(site, num, want) => Ok(ask(world, site, var(num))? == Some(want)),
+        Event::Asks(site, num, want) => Ok(ask_world(world, site, var(num))? == Some(want)),
         Event::Delivers(at) => Ok(world.deliver(at).is_ok()),
     }
 }
 
 // The worked row. The Forward to site 3 comes at `place` beside its Put.
-fn follows<R: Abort>(rt: &R, world: &mut CellWorld, place: usize) -> Result<(), AllocError> {
+fn run_events<R: Abort>(rt: &R, world: &mut CellWorld, place: usize) -> Result<(), AllocError> {
     let events = [
         Event::Asks(3, 1, Ask::SendGet),
         Event::Delivers(0),
@@ -162,12 +165,12 @@ fn follows<R: Abort>(rt: &R, world: &mut CellWorld, place: usize) -> Result<(), 
         Event::Delivers(0),
     ];
     for (at, event) in events.into_iter().enumerate() {
-        assert!(rt; happens(world, event)?, "at {at}");
+        assert!(rt; make_event(world, event)?, "at {at}");
     }
     Ok(())
 }
 
-fn has_exchanged<R: Abort>(rt: &R, world: &CellWorld) {
+fn expect_exchanges<R: Abort>(rt: &R, world: &CellWorld) {
     assert_eq!(rt; world.exchanges().len(), 4);
     for (at, pair) in world.exchanges().iter().enumerate() {
         let num = at as u64;
@@ -186,8 +189,8 @@ fn a_forward_before_or_after_its_put_makes_the_same_exchanges(rt: HostRuntime) -
     for place in [1, 0] {
         let mut world = CellWorld::new(rt.alloc(), 3, 1, var(0))?;
         delivers_none(&rt, &mut world);
-        follows(&rt, &mut world, place)?;
-        has_exchanged(&rt, &world);
+        run_events(&rt, &mut world, place)?;
+        expect_exchanges(&rt, &world);
         delivers_none(&rt, &mut world);
     }
     Ok(())

@@ -184,7 +184,7 @@ fn one_more(alloc: Global, env: &Env) -> Result<Env, AllocError> {
 }
 
 fn two_of_them(alloc: Global, env: &Env) -> Result<Env, AllocError> {
-    let limited = env.limited(alloc, &[0, 4])?;
+    let limited = env.restriction(alloc, &[0, 4])?;
     Ok(limited.with_room()?.bind(4, variable(4)))
 }
 
@@ -210,7 +210,7 @@ fn environments_map_positions(rt: HostRuntime) -> Result<(), Fail> {
 }
 
 fn pick_of_one(alloc: Global) -> Result<Pick, AllocError> {
-    let mut pick = plain_pick(alloc, ThreadName { site: 1, num: 0 });
+    let mut pick = plain_pick(alloc, ThreadName { site: 1, num: 0 }, None);
     pick.fresh.push(Name::Var(variable(1)))?;
     Ok(pick)
 }

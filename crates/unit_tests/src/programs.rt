@@ -13,7 +13,7 @@ fn a_program_tells_its_statements_and_free_positions(rt: HostRuntime) -> Result<
         count: 1,
         body: CodeId(1),
     };
-    let program = Program::checked(rt.alloc(), vec![in rt.alloc(); local, Stmt::Browse(0)]?)?;
+    let program = Program::try_from_vec(rt.alloc(), vec![in rt.alloc(); local, Stmt::Browse(0)]?)?;
     assert_eq!(rt; program.len(), 2);
     assert!(rt; program.free(CodeId(0)).is_empty());
     assert_eq!(rt; program.free(CodeId(1)), [0].as_slice());
@@ -38,7 +38,7 @@ fn is_first<R: Abort>(rt: &R, state: &Plain) {
 
 #[test]
 fn a_first_state_has_the_name_of_its_thread_alone(rt: HostRuntime) -> Result<(), Fail> {
-    let program = Program::checked(rt.alloc(), vec![in rt.alloc(); Stmt::Skip]?)?;
+    let program = Program::try_from_vec(rt.alloc(), vec![in rt.alloc(); Stmt::Skip]?)?;
     let state = start(rt.alloc(), &program)?;
     is_first(&rt, &state);
     Ok(())

@@ -6,7 +6,7 @@ ghost use Rattle.tree_node.specs.declared.node.Term.TheVariants as term;
 ghost use Rattle.bind_protocol.specs.World.{IsSiteOf};
 
 use bind_protocol::laws::BindWorld;
-use bind_protocol::{Binder, Knows, Want};
+use bind_protocol::{Binder, Knowledge, Want};
 use proxy_table::Met;
 use site_message::{DeliverError, Msg, Outbox, Sent};
 use std::alloc::{AllocError, Global};
@@ -78,7 +78,7 @@ fn meets(site: &mut Binder, outbox: &mut Outbox) -> Result<Option<Met>, AllocErr
 // Site 2, which knows X unbound, asks for 5.
 fn asks_for_five(asker: &mut Binder, outbox: &mut Outbox) -> Result<bool, AllocError> {
     match asker.knows(X) {
-        Knows::Unbound => (),
+        Knowledge::Unbound => (),
         _ => return Ok(false),
     }
     Ok(asker.want(X, int(5), thread(2), outbox)? == Want::Sent)
@@ -98,7 +98,7 @@ fn a_site_registers_once_and_sends_its_request(rt: HostRuntime) -> Result<(), Fa
 // A site that knows nothing of X, which is another's, meets it with its term.
 fn meets_bound(site: &mut Binder) -> Result<Option<Met>, AllocError> {
     match site.knows(X) {
-        Knows::Nothing if !site.owns(X) => (),
+        Knowledge::Nothing if !site.owns(X) => (),
         _ => return Ok(None),
     }
     let met = site.meet_bound(X, int(5))?;
@@ -108,7 +108,7 @@ fn meets_bound(site: &mut Binder) -> Result<Option<Met>, AllocError> {
 // The integer that a site knows X to be bound to.
 fn known_value(site: &Binder) -> Option<i64> {
     match site.knows(X) {
-        Knows::Bound(term) => int_of(term),
+        Knowledge::Bound(term) => int_of(term),
         _ => None,
     }
 }
@@ -185,7 +185,7 @@ fn make(world: &mut BindWorld, var: VarName) -> Result<bool, AllocError> {
         return Ok(false);
     }
     match world.knows(var.site, var) {
-        Knows::Nothing => (),
+        Knowledge::Nothing => (),
         _ => return Ok(false),
     }
     world.make(var.site, var)?;
@@ -197,7 +197,7 @@ fn meet(world: &mut BindWorld, site: u32, var: VarName) -> Result<bool, AllocErr
         return Ok(false);
     }
     match world.knows(var.site, var) {
-        Knows::Nothing => return Ok(false),
+        Knowledge::Nothing => return Ok(false),
         _ => (),
     }
     world.meet(site, var)?;
@@ -214,7 +214,7 @@ fn want_int(
         return Ok(false);
     }
     match world.knows(site, var) {
-        Knows::Unbound => (),
+        Knowledge::Unbound => (),
         _ => return Ok(false),
     }
     world.want(site, var, int(value), thread(site))?;
@@ -227,7 +227,7 @@ fn value_at(world: &BindWorld, site: u32, var: VarName) -> Option<i64> {
         return None;
     }
     match world.knows(site, var) {
-        Knows::Bound(term) => int_of(term),
+        Knowledge::Bound(term) => int_of(term),
         _ => None,
     }
 }

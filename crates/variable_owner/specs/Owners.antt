@@ -11,6 +11,7 @@ use Rattle.variable_owner.specs.declared.owners.Owner.TheVariants.{Open, Bound}
 use Rattle.variable_owner.specs.declared.owners.Registered.{Registered}
 use Rattle.variable_owner.specs.declared.owners.Registered.TheVariants.{Kept, Answer}
 
+-- an own variable with its registered sites, or its term
 abbrev pub Owned : Type 0
 Owned = VarName × Owner
 
@@ -18,10 +19,11 @@ Owned = VarName × Owner
 abbrev pub owner_of : List Owned → VarName → Option Owner
 owner_of es x = lookup (equal_var x) es
 
+-- the owner made the variable
 abbrev pub IsMade : List Owned → VarName → Type 0
 IsMade es x = IsTrue (is_some (owner_of es x))
 
--- a site is registered for the variable, which is unbound
+-- the sites that are registered for the variable; none where it is bound or was not made
 abbrev pub sites_of : Option Owner → List ℕ
 sites_of (Some (Open sites)) = sites
 sites_of _ = []
@@ -31,6 +33,7 @@ abbrev pub binding_of : Option Owner → Option Term
 binding_of (Some (Bound t)) = Some t
 binding_of _ = None
 
+-- this is kept of the variable
 abbrev pub with_owner : List Owned → VarName → Owner → List Owned
 with_owner es x o = insert_entry equal_var es x o
 
@@ -39,6 +42,7 @@ abbrev pub with_registered : Owner → ℕ → Owner
 with_registered (Open sites) k = Open (sites ++ k ∷ [])
 with_registered (Bound t) k = Bound t
 
+-- the same in the table; a Register of a variable that was not made changes nothing
 abbrev pub after_register : List Owned → VarName → ℕ → List Owned
 after_register es x k = registered (owner_of es x)
   where
@@ -62,6 +66,7 @@ abbrev pub after_bind : Owner → Term → Owner
 after_bind (Open sites) t = Bound t
 after_bind (Bound r) t = Bound r
 
+-- the same in the table; a request for a variable that was not made changes nothing
 abbrev pub after_ask : List Owned → VarName → Term → List Owned
 after_ask es x t = asked (owner_of es x)
   where

@@ -1,7 +1,7 @@
-//! Keys that wait for variables: the store of a site parks keys here, and a roster of threads the places of its threads.
+//! Keys that wait for variables: a roster of threads parks the places of its threads here. `tree_store`, too, lets keys wait.
 //!
 //! Contracts see `Waiters` as variables with the keys that wait for them (`specs/Keys.antt`). `add` puts a key behind the
-//! others of its variable (after want of memory nothing has changed), `look` lends a variable's keys, the first to come
+//! others of its variable (after want of memory nothing has changed), `keys_at` lends a variable's keys, the first to come
 //! first, and `take` takes them all. Nothing is said of the order of the variables.
 //!
 //! A call costs one look-up. The queues stand by number in a slab; that each variable has a queue of its own is the

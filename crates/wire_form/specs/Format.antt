@@ -21,6 +21,7 @@ use Rattle.wire_form.specs.declared.fault.WireFault.{WireFault}
 use Rattle.wire_form.specs.declared.fault.WireFault.TheVariants.{Short, Kind, Range, Order, Utf8, Rest}
 use Rattle.wire_form.specs.Field.{Faults, Field, number, signed_number, short_bytes, restriction, ◌then◌, part_field, list_behind, IsAbove}
 
+-- the number is from the least to the most
 abbrev pub IsWithin : ℕ → ℕ → ℕ → Type 0
 IsWithin least most n = (least ≤ n) × (n ≤ most)
 
@@ -36,6 +37,7 @@ site = within 1 64 (number w8)
 abbrev pub name : Field (ℕ × ℕ)
 name = site then number w64
 
+-- the name of a variable, a cell, a procedure or a thread is spelled as its site and number
 abbrev pub var_name : Field VarName
 var_name = part_field (λ (x : VarName). (x.site, x.num)) name
 
@@ -83,9 +85,11 @@ feature = record { Has = feature_has; spelling = feature_spell; Fault = feature_
 abbrev pub record_field : Field (Feature × VarName)
 record_field = feature then var_name
 
+-- the one feature is before the other in the order of features
 abbrev pub IsFeatureBelow : Feature → Feature → Type 0
 IsFeatureBelow a b = feature_cmp a b ≡ Less
 
+-- a field behind these others: its feature is above that of the last one, if there is one
 abbrev pub field_behind : List (Feature × VarName) → Field (Feature × VarName)
 field_behind front = restriction (IsAbove (λ (x : Feature × VarName). x.0) IsFeatureBelow front) Order feature then var_name
 
@@ -144,6 +148,7 @@ term = record { Has = term_has; spelling = term_spell; Fault = term_fault }
 abbrev pub equation : Field Equation
 equation = var_name then term
 
+-- an equation behind these others: its variable is above that of the last one, if there is one
 abbrev pub equation_behind : List Equation → Field Equation
 equation_behind front = restriction (IsAbove (λ (e : Equation). e.0) IsBelow front) Order var_name then term
 

@@ -6,6 +6,7 @@ use Rattle.wire_form.specs.declared.fault.WireFault.{WireFault}
 use Rattle.wire_form.specs.Format.{message, spelling, IsSpelling, IsFirstFault}
 use Rattle.wire_form.specs.Numbers.{HoldsNumbers}
 
+-- each of the numbers is below 256
 abbrev pub AreBytes : List ℕ → Type 0
 AreBytes bytes = (i : ℕ) → slice_index bytes i < 256
 

@@ -12,19 +12,24 @@ use Rattle.tree_node.specs.Store.{Equation}
 use Rattle.site_message.specs.declared.message.Msg.{Msg}
 use Rattle.site_message.specs.declared.message.Msg.TheVariants as messages
 
+-- a number that a word of 64 bits holds
 abbrev pub HoldsName : ℕ → Type 0
 HoldsName num = num < 2 ^ 64
 
+-- the variable's number is such a number
 abbrev pub HoldsVar : VarName → Type 0
 HoldsVar x = HoldsName x.num
 
+-- an integer has 64 bits
 abbrev pub HoldsFeature : Feature → Type 0
 HoldsFeature (features.Int z) = FitsSigned w64 z
 HoldsFeature (features.Atom t) = Unit {0}
 
+-- feature and variable are held so
 abbrev pub HoldsField : Feature × VarName → Type 0
 HoldsField field = HoldsFeature field.0 × HoldsVar field.1
 
+-- names and integers in the term have 64 bits, and the number of a code has 32
 abbrev pub HoldsTerm : Term → Type 0
 HoldsTerm (terms.Var x) = HoldsVar x
 HoldsTerm (terms.Node (nodes.Int z)) = FitsSigned w64 z
@@ -33,9 +38,11 @@ HoldsTerm (terms.Node (nodes.Rec label fields)) = Each HoldsField fields
 HoldsTerm (terms.Node (nodes.Proc p c n vars)) = HoldsName p.num × (c.0 < 2 ^ 32) × Each HoldsVar vars
 HoldsTerm (terms.Node (nodes.Cell c)) = HoldsName c.num
 
+-- both sides of an equation are held so
 abbrev pub HoldsEquation : Equation → Type 0
 HoldsEquation e = HoldsVar e.0 × HoldsTerm e.1
 
+-- each equation is held so
 abbrev pub HoldsBundle : List Equation → Type 0
 HoldsBundle es = Each HoldsEquation es
 

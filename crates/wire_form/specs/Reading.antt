@@ -29,6 +29,7 @@ Left = ℕ × List ℕ
 abbrev pub Read : Type 0 → Type 0
 Read X = Result (X × Left) WireFault
 
+-- goes on with the value, or stops at the fault
 infixl 10 ◌>>=◌
 abbrev pub ◌>>=◌ : {A B : Type 0} → Result A WireFault → (A → Result B WireFault) → Result B WireFault
 (Ok x) >>= f = f x
@@ -39,10 +40,12 @@ abbrev pub IsReadAs : {X : Type 0} → (Left → Read X) → Left → Left → R
 IsReadAs read old new (Ok x) = read old ≡ Ok (x, new)
 IsReadAs read old new (Err f) = (f ≡ Memory) ⊎ (read old ≡ Err f)
 
+-- the next n bytes, or a fault at the end where there are fewer
 abbrev pub bytes_at : ℕ → Left → Read (List ℕ)
 bytes_at n l =
     if nat_lt (length l.1) n then Err (Short (l.0 + length l.1)) else Ok (take n l.1, (l.0 + n, drop n l.1))
 
+-- the next byte
 abbrev pub byte_at : Left → Read ℕ
 byte_at (at, []) = Err (Short at)
 byte_at (at, b ∷ bytes) = Ok (b, (at + 1, bytes))
@@ -67,6 +70,7 @@ filter_at test fault R l = do
   r ← R l
   if test r.0 then Ok r else Err (fault l.0)
 
+-- a number of this width, its highest byte first; and an integer of eight bytes, in two's complement
 unfoldable pub number_at : Width → Left → Read ℕ
 number_at w = map_at (from_be_bytes w) (bytes_at (byte_len w))
 
@@ -79,15 +83,19 @@ short_bytes_at l = do
   n ← byte_at l
   bytes_at n.0 n.1
 
+-- the number is from the least to the most
 abbrev pub is_within : ℕ → ℕ → ℕ → Bool
 is_within least most n = nat_le least n && nat_le n most
 
+-- a byte from the least to the most; any other is out of range
 unfoldable pub byte_within_at : ℕ → ℕ → Left → Read ℕ
 byte_within_at least most = filter_at (is_within least most) Range byte_at
 
+-- a text: a byte of length, and that many bytes of UTF-8
 unfoldable pub text_at : Left → Read (List ℕ)
 text_at = filter_at is_utf8 (λ at. Utf8 (at + 1)) short_bytes_at
 
+-- a name: a byte of site, 1 to 64, and a number of eight bytes; then the names of the four kinds
 unfoldable pub name_at : Left → Read (ℕ × ℕ)
 name_at = byte_within_at 1 64 and number_at w64
 
@@ -103,6 +111,7 @@ proc_name_at = map_at (λ p. record { site = p.0; num = p.1 }) name_at
 unfoldable pub thread_name_at : Left → Read ThreadName
 thread_name_at = map_at (λ p. record { site = p.0; num = p.1 }) name_at
 
+-- a code: four bytes
 unfoldable pub code_at : Left → Read CodeId
 code_at = map_at (λ n. record { 0 = n }) (number_at w32)
 
@@ -113,6 +122,7 @@ key_at start tag l =
     else if tag == 1 then map_at features.Atom text_at l
     else Err (Kind start)
 
+-- a feature: its tag, and what follows that
 unfoldable pub feature_at : Left → Read Feature
 feature_at l = do
   tag ← byte_at l
@@ -125,6 +135,7 @@ items_at item (suc n) front l = do
   r ← item front l
   items_at item n (front ++ r.0 ∷ []) r.1
 
+-- a count, and that many items
 abbrev pub list_at : {X : Type 0} → (Left → Read ℕ) → (List X → Left → Read X) → Left → Read (List X)
 list_at count item l = do
   n ← count l
@@ -136,21 +147,26 @@ is_above key below [] a = true
 is_above key below (x ∷ []) a = below (key x) a
 is_above key below (x ∷ y ∷ xs) a = is_above key below (y ∷ xs) a
 
+-- the order of features as a test
 abbrev pub feature_below : Feature → Feature → Bool
 feature_below a b = is_lt (feature_cmp a b)
 
+-- the order of names as a test: by their sites, then by their numbers
 abbrev pub name_below : VarName → VarName → Bool
 name_below a b = if a.site == b.site then nat_lt a.num b.num else nat_lt a.site b.site
 
+-- a field of a record behind these others; then all fields with their count
 unfoldable pub field_at : List (Feature × VarName) → Left → Read (Feature × VarName)
 field_at front = filter_at (is_above (λ (x : Feature × VarName). x.0) feature_below front) Order feature_at and var_name_at
 
 unfoldable pub fields_at : Left → Read (List (Feature × VarName))
 fields_at = list_at (byte_within_at 1 64) field_at
 
+-- a count of two bytes, and that many variables
 unfoldable pub variables_at : Left → Read (List VarName)
 variables_at = list_at (number_at w16) (λ front. var_name_at)
 
+-- what follows the tag of a record; then that of a procedure
 unfoldable pub record_at : Left → Read Term
 record_at = map_at (λ p. terms.Node (nodes.Rec p.0 p.1)) (text_at and fields_at)
 
@@ -168,17 +184,20 @@ node_at start tag l =
     else if tag == 5 then map_at (λ c. terms.Node (nodes.Cell c)) cell_name_at l
     else Err (Kind start)
 
+-- a term: its tag, and what follows that
 unfoldable pub term_at : Left → Read Term
 term_at l = do
   tag ← byte_at l
   node_at l.0 tag.0 tag.1
 
+-- an equation of a bundle behind these others; then a bundle with its count
 unfoldable pub equation_at : List Equation → Left → Read Equation
 equation_at front = filter_at (is_above (λ (e : Equation). e.0) name_below front) Order var_name_at and term_at
 
 unfoldable pub bundle_at : Left → Read (List Equation)
 bundle_at = list_at (filter_at (is_within 0 256) Range (number_at w16)) equation_at
 
+-- what follows the byte of kind, for each of the seven messages
 unfoldable pub spawn_at : Left → Read Msg
 spawn_at = map_at (λ p. messages.Spawn p.0 p.1.0 p.1.1.0 p.1.1.1) (thread_name_at and code_at and variables_at and bundle_at)
 
@@ -212,6 +231,7 @@ body_at start kind l =
     else if kind == 7 then put_at l
     else Err (Kind start)
 
+-- a message: its byte of kind, and what follows that
 unfoldable pub message_at : Left → Read Msg
 message_at l = do
   kind ← byte_at l

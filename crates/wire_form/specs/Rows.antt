@@ -11,6 +11,7 @@ use Rattle.site_message.specs.declared.message.Msg.TheVariants as messages
 use Rattle.wire_form.specs.declared.fault.WireFault.TheVariants.{Short, Kind, Range, Order, Utf8, Rest}
 use Rattle.wire_form.specs.Format.{spelling, IsFirstFault}
 
+-- name n of site s: of a variable, a cell, a procedure and a thread
 abbrev pub var : ℕ → ℕ → VarName
 var s n = record { site = s; num = n }
 
@@ -31,6 +32,7 @@ name_bytes s n = s ∷ 0 ∷ 0 ∷ 0 ∷ 0 ∷ 0 ∷ 0 ∷ 0 ∷ n ∷ []
 abbrev pub register_bytes : List ℕ
 register_bytes = 2 ∷ name_bytes 1 2 ++ 3 ∷ []
 
+-- the Register is spelled so
 abbrev pub RegisterIsSpelled : Type 0
 RegisterIsSpelled = spelling (messages.Register (var 1 2) 3) ≡ register_bytes
 
@@ -50,19 +52,23 @@ NegativeIsSpelled =
 abbrev pub atom_bytes : ℕ → List ℕ
 atom_bytes byte = 3 ∷ name_bytes 1 2 ++ name_bytes 3 1 ++ 2 ∷ 1 ∷ byte ∷ 0 ∷ 0 ∷ []
 
+-- the request for the atom a is spelled so
 abbrev pub AtomIsSpelled : Type 0
 AtomIsSpelled = spelling (messages.BindReq (var 1 2) (thread 3 1) (terms.Node (nodes.Atom (codes "a"))) []) ≡ atom_bytes 97
 
--- variable 0 of site 2 is the record f with the fields 1 and a
+-- variable 0 of site 2 is to be the record f with the fields 1 and a: the field 1, with variable 4 of site 1
 abbrev pub first_field : List ℕ
 first_field = 0 ∷ 0 ∷ 0 ∷ 0 ∷ 0 ∷ 0 ∷ 0 ∷ 0 ∷ 1 ∷ name_bytes 1 4
 
+-- the field a, with variable 5 of site 1
 abbrev pub second_field : List ℕ
 second_field = 1 ∷ 1 ∷ 97 ∷ name_bytes 1 5
 
+-- the Binding of that record, with its fields in this order
 abbrev pub record_bytes : List ℕ → List ℕ → List ℕ
 record_bytes one other = 4 ∷ name_bytes 2 0 ++ 3 ∷ 1 ∷ 102 ∷ 2 ∷ one ++ other ++ 0 ∷ 0 ∷ []
 
+-- it is spelled with the field 1 first
 abbrev pub RecordIsSpelled : Type 0
 RecordIsSpelled =
     spelling (messages.Binding (var 2 0) (terms.Node (nodes.Rec (codes "f") ((features.Int (pos 1), var 1 4) ∷ (features.Atom (codes "a"), var 1 5) ∷ []))) [])
@@ -80,6 +86,7 @@ ProcedureIsSpelled =
     spelling (messages.Binding (var 1 2) (terms.Node (nodes.Proc (proc 1 6) (record { 0 = 9 }) 1 (var 1 7 ∷ []))) [])
     ≡ 4 ∷ name_bytes 1 2 ++ 4 ∷ name_bytes 1 6 ++ 0 ∷ 0 ∷ 0 ∷ 9 ∷ 1 ∷ 0 ∷ 1 ∷ name_bytes 1 7 ++ 0 ∷ 0 ∷ []
 
+-- a Get, a Forward and a Put of cell 1 of site 64
 abbrev pub CellsAreSpelled : Type 0
 CellsAreSpelled =
     (spelling (messages.Get (cell 64 1) 2) ≡ 5 ∷ name_bytes 64 1 ++ 2 ∷ [])

@@ -2,5 +2,6 @@
 use Rattle.std.specs.Prelude.{◌≡◌, ℕ, List, ◌++◌, Result, OnOk}
 use Rattle.wire_form.specs.Field.{Field}
 
+-- where the writer succeeds, the value is one of the field and the buffer has its spelling behind what it had
 abbrev pub IsWritten : {X E U : Type 0} → Field X → X → List ℕ → List ℕ → Result U E → Type 0
 IsWritten F x old new result = OnOk result (F.Has x × (new ≡ old ++ F.spelling x))

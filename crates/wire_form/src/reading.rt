@@ -21,7 +21,7 @@ use tree_node::{Feature, Fields, Node, Shared, Term, VarName, Vars, compare_feat
 
 // Whether a feature is above that of the last field.
 #[tactic(auto, using(crate::proofs::OrderLaws::above_some, crate::proofs::OrderLaws::above_none))]
-fn rises(front: &[(Feature, VarName)], feature: &Feature) -> bool
+fn is_feature_above(front: &[(Feature, VarName)], feature: &Feature) -> bool
     ensures { result ≡ is_above (λ (x : AFeature × AVarName). x.0) feature_below front.now feature.now }
 {
     match front.last() {
@@ -41,7 +41,7 @@ fn field(
 {
     let at = cursor.place();
     let feature = feature(alloc, cursor)?;
-    if !rises(front, &feature) {
+    if !is_feature_above(front, &feature) {
         return Err(WireFault::Order(at));
     }
     let var = var_name(cursor)?;
@@ -126,7 +126,7 @@ fn term(alloc: Global, cursor: &mut Cursor) -> Result<Term, WireFault>
 
 // Whether a name is above that of the last equation.
 #[tactic(auto, using(crate::proofs::OrderLaws::above_some, crate::proofs::OrderLaws::above_none))]
-fn ascends(front: &[(VarName, Term)], var: VarName) -> bool
+fn is_name_above(front: &[(VarName, Term)], var: VarName) -> bool
     ensures { result ≡ is_above (λ (e : Equation). e.0) name_below front.now var }
 {
     match front.last() {
@@ -146,7 +146,7 @@ fn equation(
 {
     let at = cursor.place();
     let var = var_name(cursor)?;
-    if !ascends(front, var) {
+    if !is_name_above(front, var) {
         return Err(WireFault::Order(at));
     }
     let term = term(alloc, cursor)?;

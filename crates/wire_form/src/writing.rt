@@ -269,7 +269,7 @@ fn put_binding(
 }
 
 // A message that asks a cell's manager for the token.
-fn put_get(out: &mut Vec<u8>, cell: CellName, asking: u32) -> Result<(), AllocError>
+fn put_token_request(out: &mut Vec<u8>, cell: CellName, asking: u32) -> Result<(), AllocError>
     requires { FitsWire (messages.Get cell asking) }
     ensures { IsWritten message (messages.Get cell asking) out.old.items out.new.items result }
 {
@@ -289,7 +289,7 @@ fn put_forward(out: &mut Vec<u8>, cell: CellName, next: u32) -> Result<(), Alloc
 }
 
 // A message that is the token of a cell.
-fn put_put(
+fn put_token(
     out: &mut Vec<u8>,
     cell: CellName,
     content: VarName,
@@ -324,13 +324,13 @@ fn put_message(out: &mut Vec<u8>, msg: &Msg) -> Result<(), AllocError>
             bundle,
         } => put_bind_request(out, *var, *thread, term, bundle),
         Msg::Binding { var, term, bundle } => put_binding(out, *var, term, bundle),
-        Msg::Get { cell, asking } => put_get(out, *cell, *asking),
+        Msg::Get { cell, asking } => put_token_request(out, *cell, *asking),
         Msg::Forward { cell, next } => put_forward(out, *cell, *next),
         Msg::Put {
             cell,
             content,
             bundle,
-        } => put_put(out, *cell, *content, bundle),
+        } => put_token(out, *cell, *content, bundle),
     }
 }
 

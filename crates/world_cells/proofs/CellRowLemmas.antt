@@ -36,7 +36,7 @@ use Rattle.world_cells.proofs.SendLemmas.{leave_may, reply_may, request_may}
 use Rattle.world_cells.proofs.ChainLemmas.{gets_posts, gets_gone, ChainAt, cell_there, get_arrives, forward_arrives, arrives_there, get_cells, forward_cells, request_cells}
 use Rattle.world_cells.proofs.QueueLemmas.{queues_put, forward_lists, get_lists, request_lists}
 use Rattle.world_cells.proofs.PutRowLemmas.{OneMessage, one_number, cell_may_go}
-use Rattle.world_variables.specs.Rows.{PartsIn}
+use Rattle.world_variables.specs.Laws.{PartsIn}
 use Rattle.oz_model.proofs.KindLemmas.{cell_cases}
 
 -- ---- a deed that changes what is kept of cells alone

@@ -30,7 +30,7 @@ use Rattle.site_model.specs.Messages.{with_thread, register_row, bind_request_ro
 use Rattle.site_model.specs.Unit.{next_names, with_fresh_names, placement, birth_row}
 use Rattle.world_cells.specs.CellCounts.{cell_weight, cell_weights}
 use Rattle.world_cells.proofs.TallyLemmas.{IsOfNone, none_says, silent_counts, travels_more, travels_none}
-use Rattle.site_model.proofs.StillLemmas.{meets_site, makes_site}
+use Rattle.site_model.proofs.FrameLemmas.{meets_site, makes_site}
 
 abbrev pub AreOfNone : List Sent → Type 0
 AreOfNone ms = Each (λ (m : Sent). IsOfNone m.msg) ms

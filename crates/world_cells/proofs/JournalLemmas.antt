@@ -17,14 +17,14 @@ use Rattle.tree_node.specs.Each.{Each}
 use Rattle.tree_node.specs.declared.pick.Pick.{Pick}
 use Rattle.world_cells.proofs.CellTallyLemmas.{few_messages}
 use Rattle.world_cells.proofs.TurnLemmas.{Paid, quiet_paid, delivering_paid, start_paid}
-use Rattle.world_cells.specs.CellCounts.{CellMessagesAreFew}
+use Rattle.world_cells.specs.CellCounts.{FewInFitRuns}
 use Rattle.world_cells.specs.FitRuns.{IsFitEntry, SiteFitRun}
 use Rattle.world_model.proofs.MailLemmas.{acts_after, same_world}
 use Rattle.world_model.proofs.PutLemmas.{at_all, at_here, at_own, at_twice, nat_decides}
 use Rattle.world_model.specs.Schedule.{schedule, lines_in}
 use Rattle.world_model.specs.World.{World, Sites, IsOnItsWay, put, after_transition, after_receipt, mail_from, world_of}
 use Rattle.world_variables.proofs.JournalLemmas.{came_acts, came_is, mail_of, mail_after}
-use Rattle.world_variables.specs.Rows.{IsElsewhere}
+use Rattle.world_variables.specs.Laws.{IsForeignBinding}
 use Rattle.site_message.specs.declared.message.Msg.TheVariants as msg
 
 starts_at : (p : List Stmt) (n limit : ℕ) (f : Sites) → ((i : ℕ) → SiteFitRun p n limit i [] (f i)) → f ≡ initial_site p
@@ -93,13 +93,13 @@ module _ (p : List Stmt) (n limit : ℕ) where
               is_msg : delivered_message j (Some k) ≡ Some m.msg
               is_msg = rw t.0 refl
 
-              plain : IsFit p n old m.msg × IsElsewhere e.site m.msg
+              plain : IsFit p n old m.msg × IsForeignBinding e.site m.msg
               plain = let x = entry.fit m.msg (ap (delivered_message j) q ∙ is_msg) in (x, elsewhere m.msg x.takes)
                 where
                   number : old.records.site ≡ i
                   number = subst (λ (s : Site). s.records.site ≡ i) site_w (r.reached.parts.kept i).site
 
-                  elsewhere : (m : Msg) → CanTake old m → IsElsewhere i m
+                  elsewhere : (m : Msg) → CanTake old m → IsForeignBinding i m
                   elsewhere (msg.Binding x t bundle) c = λ own. c.0 (own ∙ sym number)
                   elsewhere (msg.Spawn o code vars bundle) c = tt
                   elsewhere (msg.Register x o) c = tt
@@ -132,7 +132,7 @@ module _ (p : List Stmt) (n limit : ℕ) where
       go (old, entry, rest) ih = entry_paid j e f old wired inside.0 entry (ih (put f e.site old) rest)
 
 -- at most three messages of a cell for each exchange and each site
-pub few_cell_messages : CellMessagesAreFew
+pub few_cell_messages : FewInFitRuns
 few_cell_messages p n limit j f c some wired inside runs = (r.reached.centre, r.reached.run, few_messages n f (world_of j f).mail r.reached.centre.cells (sent_of j) (λ b. length (exchanges p (schedule j) b)) some r.tally c)
   where
     r : Paid p n (world_of j f) (schedule j) (sent_of j)

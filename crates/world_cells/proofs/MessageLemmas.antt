@@ -52,7 +52,7 @@ use Rattle.world_cells.proofs.PutRowLemmas.{OneMessage, one_number, put_kept}
 use Rattle.world_cells.proofs.CellRowLemmas.{get_kept, forward_kept}
 use Rattle.world_cells.proofs.UnitCellRowLemmas.{nothing_match, same_match, gone_match}
 use Rattle.world_cells.proofs.UnitLemmas.{Reached}
-use Rattle.world_variables.specs.Rows.{IsElsewhere, PartsIn}
+use Rattle.world_variables.specs.Laws.{IsForeignBinding, PartsIn}
 use Rattle.tree_node.proofs.NameLemmas.{same_thread_decides}
 
 -- a bind changes no cell
@@ -293,7 +293,7 @@ plain_none (msg.Get c k) h = h
 plain_none (msg.Forward c k) h = h
 plain_none (msg.Put c v bundle) h = h
 
-module _ (p : List Stmt) (limit : ℕ) (w : World) (ks : List Pick) (r : Reached p w ks) (k i : ℕ) (m : Msg) (real : i ≢ 0) (at : IsOnItsWay w.mail k i m) (plain : IsPlain m) (far : IsElsewhere i m) where
+module _ (p : List Stmt) (limit : ℕ) (w : World) (ks : List Pick) (r : Reached p w ks) (k i : ℕ) (m : Msg) (real : i ≢ 0) (at : IsOnItsWay w.mail k i m) (plain : IsPlain m) (far : IsForeignBinding i m) where
   abbrev u : World
   u = after_transition w i (opening m (w.sites i))
 
@@ -366,7 +366,7 @@ module _ (p : List Stmt) (limit : ℕ) (w : World) (ks : List Pick) (r : Reached
       up = numbered_acts w i (reception p limit m (w.sites i)) r.numbers
 
 -- every message
-pub message_reached : (p : List Stmt) (limit : ℕ) (w : World) (ks : List Pick) (r : Reached p w ks) (k i : ℕ) (m : Msg) (real : i ≢ 0) → IsElsewhere i m → (at : IsOnItsWay w.mail k i m) → Whole p limit w ks r k i m real at
+pub message_reached : (p : List Stmt) (limit : ℕ) (w : World) (ks : List Pick) (r : Reached p w ks) (k i : ℕ) (m : Msg) (real : i ≢ 0) → IsForeignBinding i m → (at : IsOnItsWay w.mail k i m) → Whole p limit w ks r k i m real at
 message_reached p limit w ks r k i (msg.Get c asker) real far at = get_reached p limit w ks r k i c asker real at
 message_reached p limit w ks r k i (msg.Forward c next) real far at = forward_reached p limit w ks r k i c next real at
 message_reached p limit w ks r k i (msg.Put c v bundle) real far at = put_reached p limit w ks r k i c v bundle real at

@@ -35,7 +35,7 @@ use Rattle.world_cells.proofs.CellTallyRowLemmas.{nothing_tally, get_tally, forw
 use Rattle.world_cells.proofs.UnitLemmas.{Reached}
 use Rattle.world_cells.proofs.MessageLemmas.{bind_stays, PicksBind, same_cells, plain_none, IsApart, opened, numbers_v, cells_v, at_v, low, once, site_v, got, apart}
 use Rattle.world_cells.proofs.UnitTallyLemmas.{Tally, same_centre, recount, more_picks, no_exchanges, one_pick}
-use Rattle.world_variables.specs.Rows.{IsElsewhere}
+use Rattle.world_variables.specs.Laws.{IsForeignBinding}
 
 -- the asking site in a Get is one of n
 abbrev pub AsksFrom : ℕ → Msg → Type 0
@@ -114,7 +114,7 @@ module _ (p : List Stmt) (n limit : ℕ) (w : World) (ks : List Pick) (r : Reach
       (at_u m at (λ y. CellsTallied n (after_transition (after_receipt (Some k) (u m at)) i (put_row p limit c x y)).sites (after_transition (after_receipt (Some k) (u m at)) i (put_row p limit c x y)).mail row.state.cells (out_u m at ++ (put_row p limit c x y).sent) (λ b. length (exchanges p ks b) + length (exchanges_from p b r.centre (put_row p limit c x y).picks)))
       (put_tally n (u m at) r.centre (cells_v p limit w ks r k i m real at) (out_u m at) _ (tally_u m at) p limit k i c x bundle row low_site high_site (at_v p limit w ks r k i m real at) (number_u m at)))
 
-  plain_tallied : (m : Msg) (at : IsOnItsWay w.mail k i m) → IsPlain m → IsElsewhere i m → (c2 : State) → ModelRun p (ks ++ (reception p limit m (w.sites i)).picks) c2 →
+  plain_tallied : (m : Msg) (at : IsOnItsWay w.mail k i m) → IsPlain m → IsForeignBinding i m → (c2 : State) → ModelRun p (ks ++ (reception p limit m (w.sites i)).picks) c2 →
       Tally p n (whole_world m at) c2 (ks ++ (reception p limit m (w.sites i)).picks) (out ++ (reception p limit m (w.sites i)).sent)
   plain_tallied m at plain far c2 run2 = whole_tally m at c2 r.centre.cells (λ b. length (exchanges p ks b)) cells_same (λ b. counted b a.picks)
       (subst (λ (x : World). CellsTallied n x.sites x.mail r.centre.cells (out_u m at ++ (message_row p limit m (there m at)).sent) (λ b. length (exchanges p ks b))) (came_acts (u m at) i (message_row p limit m (there m at)) k (low p limit w ks r k i m real at))
@@ -142,7 +142,7 @@ module _ (p : List Stmt) (n limit : ℕ) (w : World) (ks : List Pick) (r : Reach
           bound (z, step, end) = let e = one_pick p b ks (reception p limit m (w.sites i)).picks r.centre (bind_pick o x y) Stays r.run is (bind_stays p r.centre (bind_pick o x y) (x, y) step.0 refl refl) in omega arith
 
   -- every message
-  pub message_tallied : (m : Msg) (at : IsOnItsWay w.mail k i m) → IsElsewhere i m → AsksFrom n m → (c2 : State) → ModelRun p (ks ++ (reception p limit m (w.sites i)).picks) c2 →
+  pub message_tallied : (m : Msg) (at : IsOnItsWay w.mail k i m) → IsForeignBinding i m → AsksFrom n m → (c2 : State) → ModelRun p (ks ++ (reception p limit m (w.sites i)).picks) c2 →
       Tally p n (whole_world m at) c2 (ks ++ (reception p limit m (w.sites i)).picks) (out ++ (reception p limit m (w.sites i)).sent)
   message_tallied (msg.Get c asker) at far asks = get_tallied c asker at asks.0 asks.1
   message_tallied (msg.Forward c to) at far asks = forward_tallied c to at

@@ -45,7 +45,7 @@ use Rattle.world_cells.proofs.ChainLemmas.{gets_posts, gets_gone, tally, CellsAt
 use Rattle.world_cells.proofs.QueueLemmas.{SameWaiters, queue_same, queues_put, one_list_stays, waiters_equal, leave_queue, running_not, waits_same}
 use Rattle.world_cells.proofs.UnitQueueLemmas.{Lists}
 use Rattle.world_cells.proofs.ServeAllLemmas.{Around, PartsOf, Served, serve_all}
-use Rattle.world_variables.specs.Rows.{PartsIn}
+use Rattle.world_variables.specs.Laws.{PartsIn}
 use Rattle.thread_roster.proofs.NameLemmas.{name_cases as thread_or}
 use Rattle.oz_model.proofs.KindLemmas.{cell_cases}
 

@@ -27,7 +27,7 @@ use Rattle.world_cells.specs.CellCounts.{cell_weight, cell_weights}
 use Rattle.site_model.proofs.CellKeyLemmas.{entry_here, entry_other, place_here, place_other}
 use Rattle.world_cells.proofs.TallyLemmas.{Says, IsSilent, says_get, says_forward, says_put, silent_get, silent_forward, silent_put, silent_counts, travels_more, travels_none, travels_append}
 use Rattle.oz_model.proofs.KindLemmas.{cell_same, cells_differ}
-use Rattle.site_model.proofs.StillLemmas.{request_records}
+use Rattle.site_model.proofs.FrameLemmas.{request_records}
 
 -- the site keeps this of the cell and sends these of its messages, and does nothing with other cells
 pub record Answers (c : CellName) (r : Reply) (s : Site) (d : Transition) : Type 0 where

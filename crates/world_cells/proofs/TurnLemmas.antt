@@ -36,7 +36,7 @@ use Rattle.world_variables.proofs.ReceiveLemmas.{numbered_acts}
 use Rattle.world_variables.proofs.RowLemmas.{unsent}
 use Rattle.world_variables.proofs.StartLemmas.{start_parts, start_thread}
 use Rattle.world_variables.proofs.SumLemmas.{names, Sums, sums_row, same_summed}
-use Rattle.world_variables.specs.Rows.{IsElsewhere, PartsIn}
+use Rattle.world_variables.specs.Laws.{IsForeignBinding, PartsIn}
 use Rattle.site_message.specs.declared.message.Msg.TheVariants as msg
 use Rattle.site_model.specs.Unit as Unit
 use Rattle.thread_roster.specs.declared.mode.Mode.TheVariants as site
@@ -110,14 +110,14 @@ module _ (p : List Stmt) (n limit i : ℕ) (real : i ≢ 0) (low : 1 ≤ i) (hig
   asks_from s (msg.Forward c k) f = tt
   asks_from s (msg.Put c v bundle) f = tt
 
-  heard_paid : (w : World) (ks : List Pick) (out : List Sent) (k : ℕ) (m : Msg) → Paid p n w ks out → IsElsewhere i m → IsOnItsWay w.mail k i m → IsFit p n (w.sites i) m →
+  heard_paid : (w : World) (ks : List Pick) (out : List Sent) (k : ℕ) (m : Msg) → Paid p n w ks out → IsForeignBinding i m → IsOnItsWay w.mail k i m → IsFit p n (w.sites i) m →
       Paid p n (after_receipt (Some k) (after_transition w i (reception p limit m (w.sites i)))) (ks ++ (reception p limit m (w.sites i)).picks) (out ++ (reception p limit m (w.sites i)).sent)
   heard_paid w ks out k m r far at fit =
       let q = message_reached p limit w ks r.reached k i m real far at in
       record { reached = q; tally = message_tallied p n limit w ks r.reached k i real low high out r.tally m at far (asks_from (w.sites i) m fit) q.centre q.run }
 
   -- and units follow
-  pub delivering_paid : (w : World) (ks : List Pick) (out : List Sent) (k : ℕ) (m : Msg) (d : Transition) → Paid p n w ks out → IsElsewhere i m → IsOnItsWay w.mail k i m → IsFit p n (w.sites i) m → SiteTurn p n limit (w.sites i) (Some m) d →
+  pub delivering_paid : (w : World) (ks : List Pick) (out : List Sent) (k : ℕ) (m : Msg) (d : Transition) → Paid p n w ks out → IsForeignBinding i m → IsOnItsWay w.mail k i m → IsFit p n (w.sites i) m → SiteTurn p n limit (w.sites i) (Some m) d →
       (heard : Transition) × (rest : Transition) × (d ≡ sequence heard rest) × Paid p n (after_transition (after_receipt (Some k) (after_transition w i heard)) i rest) ((ks ++ heard.picks) ++ rest.picks) ((out ++ heard.sent) ++ rest.sent)
   delivering_paid w ks out k m d r far at fit (ths, few, (heard, rest, said, units, is)) = (heard, rest, is, go said)
     where

@@ -68,7 +68,7 @@ use Rattle.world_cells.proofs.UnitCellLemmas.{begun}
 use Rattle.world_cells.proofs.UnitQueueLemmas.{IsUnused}
 use Rattle.world_variables.proofs.SumLemmas.{names, with_names, SameSums, Sums, sums_row, quiet_summed, same_summed, IsUnborn, steps_summed}
 use Rattle.world_cells.proofs.UnitCellRowLemmas.{nothing_match, same_match, IsReachable, IsOwnCell, IsContentHere, begun_place, unit_match}
-use Rattle.world_variables.specs.Rows.{PartsIn}
+use Rattle.world_variables.specs.Laws.{PartsIn}
 
 -- ---- an exchange takes no names
 

@@ -41,7 +41,7 @@ use Rattle.world_cells.specs.CellCounts.{IsTallied}
 use Rattle.world_model.specs.Matches.{IsNumbered, IsExchange, CellsMatch}
 use Rattle.world_cells.proofs.CellTallyLemmas.{CellsTallied}
 use Rattle.world_cells.proofs.CellTallyRowLemmas.{exchanges_of, nothing_tally, unit_tally, asks_tally}
-use Rattle.world_variables.specs.Rows.{PartsIn}
+use Rattle.world_variables.specs.Laws.{PartsIn}
 
 -- exchanges of picks and then of others
 exchanges_then : (p : List Stmt) (b : CellName) (ks ls : List Pick) (s t : State) → IsRun p s ks t → exchanges_from p b s (ks ++ ls) ≡ exchanges_from p b s ks ++ exchanges_from p b t ls

@@ -26,6 +26,7 @@ cell_weight c g f u (msg.Forward d k) = if equal_cell c d then f else 0
 cell_weight c g f u (msg.Put d v bundle) = if equal_cell c d then u else 0
 cell_weight c g f u _ = 0
 
+-- their sum over messages
 abbrev pub cell_weights : CellName → (g f u : ℕ) → List Sent → ℕ
 cell_weights c g f u [] = 0
 cell_weights c g f u (m ∷ ms) = cell_weight c g f u m.msg + cell_weights c g f u ms
@@ -36,7 +37,7 @@ IsTallied n f mail out c exchanges =
     Tally n (held_in (cell_records f) c) (sent_count c (messages mail)) (cell_weights c 1 0 0 out) (cell_weights c 0 1 0 out) (cell_weights c 0 0 1 out) exchanges
 
 -- in every run whose messages can be taken, those of a cell are at most three for each exchange and each site
-abbrev pub CellMessagesAreFew : Type 0
-CellMessagesAreFew =
+abbrev pub FewInFitRuns : Type 0
+FewInFitRuns =
     (p : List Stmt) (n limit : ℕ) (j : List Turn) (f : Sites) (c : CellName) → 1 ≤ n → Wired j → Each (IsSiteIn n) j → ((i : ℕ) → SiteFitRun p n limit i j (f i)) →
     (s : State) × Run p (schedule j) s × (cell_weights c 1 1 1 (sent_of j) ≤ 3 * (length (exchanges p (schedule j) c) + n))

@@ -17,6 +17,7 @@ pub record IsFitEntry (p : List Stmt) (n limit : ℕ) (j : List Turn) (e : Turn)
   pub turn : IsEntry p n limit j e old s
   pub fit : (m : Msg) → delivered_message j e.delivered ≡ Some m → IsFit p n old m
 
+-- the turns of site i in the journal lead it from its start to s, and each message that they deliver is one that it can take
 abbrev pub SiteFitRun : List Stmt → ℕ → ℕ → ℕ → List Turn → Site → Type 0
 SiteFitRun p n limit i [] s = s ≡ initial_site p i
 SiteFitRun p n limit i (e ∷ j) s = IsReachedBy (e.site == i) (λ old. SiteFitRun p n limit i j old) (λ old new. IsFitEntry p n limit j e old new) s

@@ -16,7 +16,7 @@ use Rattle.site_message.proofs.JournalLemmas.{quiet_tells}
 use Rattle.site_model.specs.Bundle.{bundle_limit}
 use Rattle.site_model.specs.Site.{Site, initial_site, is_idle}
 use Rattle.site_model.specs.Run.{SiteRun, IsReachedBy, IsEntry}
-use Rattle.site_core.specs.Seated.{Seated}
+use Rattle.site_core.specs.Site.{SiteState}
 use Rattle.world_mail.specs.declared.travel.Travel.{Travel}
 use Rattle.world_mail.specs.Mail.{MailState, message_at}
 use Rattle.world_mail.specs.Travels.{travel_of, IsNoneFor}
@@ -54,19 +54,19 @@ same_bool true b there back = sym (there refl)
 same_bool false true there back = back refl
 same_bool false false there back = refl
 
-module _ (p : List Stmt) (j : List Turn) (ss : List (Seated NoSeat)) (mail : MailState) (sent : ℕ) (k : IsConsistent p j ss mail sent false) where
+module _ (p : List Stmt) (j : List Turn) (ss : List (SiteState NoSeat)) (mail : MailState) (sent : ℕ) (k : IsConsistent p j ss mail sent false) where
   live : IsLive p (length ss) j ss mail sent
   live = k.live refl
 
   abbrev w : ℕ → Site
   w = states_by p (map state_in ss)
 
-  idle_here : (i : ℕ) (s : Seated NoSeat) → slice_get ss i ≡ Some s → journal.is_idle j (suc i) ≡ is_idle s.state
+  idle_here : (i : ℕ) (s : SiteState NoSeat) → slice_get ss i ≡ Some s → journal.is_idle j (suc i) ≡ is_idle s.state
   idle_here i s at = idle_as_told p (length ss) bundle_limit (suc i) j (w (suc i)) (live.run.runs (suc i)) ∙ ap is_idle (read_there state_in ss i s (initial_site p (suc i)) at)
 
   -- by what is seen of the messages and of the sites
   abbrev IsSeenQuiet : Type 0
-  IsSeenQuiet = (mail.messages ≡ []) × ((i : ℕ) (s : Seated NoSeat) → slice_get ss i ≡ Some s → is_idle s.state ≡ true)
+  IsSeenQuiet = (mail.messages ≡ []) × ((i : ℕ) (s : SiteState NoSeat) → slice_get ss i ≡ Some s → is_idle s.state ≡ true)
 
   pub seen_quiet : IsSeenQuiet → is_quiet (length ss) j ≡ true
   seen_quiet (none, idle) = (quiet_tells (length ss) j).1 (nothing, all)
@@ -99,10 +99,10 @@ module _ (p : List Stmt) (j : List Turn) (ss : List (Seated NoSeat)) (mail : Mai
           first true h = refl
           first false h = cc
 
-      idle : (i : ℕ) (s : Seated NoSeat) → slice_get ss i ≡ Some s → is_idle s.state ≡ true
+      idle : (i : ℕ) (s : SiteState NoSeat) → slice_get ss i ≡ Some s → is_idle s.state ≡ true
       idle i s at = let low : i < length ss = slice_get_within ss i s at in sym (idle_here i s at) ∙ two.1 (suc i) (omega arith) (omega arith)
 
-  pub both_seen : (a b : Bool) → a ≡ true → (IsTrue a ↔ (mail.messages ≡ [])) → (IsTrue b ↔ ((i : ℕ) (s : Seated NoSeat) → slice_get ss i ≡ Some s → is_idle s.state ≡ true)) → b ≡ is_quiet (length ss) j
+  pub both_seen : (a b : Bool) → a ≡ true → (IsTrue a ↔ (mail.messages ≡ [])) → (IsTrue b ↔ ((i : ℕ) (s : SiteState NoSeat) → slice_get ss i ≡ Some s → is_idle s.state ≡ true)) → b ≡ is_quiet (length ss) j
   both_seen a b is empty idle = same_bool b (is_quiet (length ss) j) (λ e. seen_quiet (empty.0 is, idle.0 e)) (λ e. idle.1 (quiet_seen e).1)
 
   pub unseen : (a : Bool) → a ≡ false → (IsTrue a ↔ (mail.messages ≡ [])) → a ≡ is_quiet (length ss) j

@@ -14,7 +14,7 @@ use Rattle.site_model.specs.Bundle.{bundle_limit}
 use Rattle.site_model.specs.Site.{Site, initial_site}
 use Rattle.site_model.specs.Run.{WorldRun, delivered_message, message_of}
 use Rattle.site_model.specs.Turn.{IsFullTurn}
-use Rattle.site_core.specs.Seated.{Seated, IsTurnMade, message_in, number_in}
+use Rattle.site_core.specs.Site.{SiteState, IsTurnMade, message_in, number_in}
 use Rattle.world_mail.specs.declared.travel.Travel.{Travel}
 use Rattle.world_mail.specs.Mail.{MailState, message_at, AreBelow}
 use Rattle.world_mail.specs.Travels.{travel_of}
@@ -24,7 +24,7 @@ use Rattle.world_core.specs.World.{WorldState, IsWorldTurn, KnowledgeStays, IsLi
 use Rattle.world_core.proofs.PlaceLemmas.{set_all, read_there, read_past, read_same}
 use Rattle.world_core.proofs.TravelLemmas.{mail_grows, travels_there, none_either, get_past}
 use Rattle.world_core.proofs.WorldLemmas.{run_grows, run_starts, machine}
-use Rattle.site_model.proofs.StillLemmas.{few_units}
+use Rattle.site_model.proofs.FrameLemmas.{few_units}
 use Rattle.oz_model.specs.Answers.{IsPartOf}
 use Rattle.world_model.proofs.PutLemmas.{nat_decides}
 use Rattle.world_simulation.proofs.GrowLemmas.{equations_stay}
@@ -32,17 +32,17 @@ use Rattle.bind_protocol.proofs.ListLemmas.{set_here, set_other}
 
 -- ---- the start
 
-pub new_states : (p : List Stmt) (n : ℕ) (ss : List (Seated NoSeat)) → ((i : ℕ) (s : Seated NoSeat) → slice_get ss i ≡ Some s → IsNewSite p n i s) → (i : ℕ) → states_by p (map state_in ss) i ≡ initial_site p i
+pub new_states : (p : List Stmt) (n : ℕ) (ss : List (SiteState NoSeat)) → ((i : ℕ) (s : SiteState NoSeat) → slice_get ss i ≡ Some s → IsNewSite p n i s) → (i : ℕ) → states_by p (map state_in ss) i ≡ initial_site p i
 new_states p n ss new zero = refl
 new_states p n ss new (suc i) = by (slice_get ss i) refl
   where
-    by : (o : Option (Seated NoSeat)) → slice_get ss i ≡ o → get_or (map state_in ss) i (initial_site p (suc i)) ≡ initial_site p (suc i)
+    by : (o : Option (SiteState NoSeat)) → slice_get ss i ≡ o → get_or (map state_in ss) i (initial_site p (suc i)) ≡ initial_site p (suc i)
     by None e = read_past state_in ss i (initial_site p (suc i)) e
     by (Some s) e =
         let one : i + 1 ≡ suc i = omega arith in
         read_there state_in ss i s (initial_site p (suc i)) e ∙ (new i s e).1 ∙ ap (initial_site p) one
 
-pub starts : (p : List Stmt) (n : ℕ) (ss : List (Seated NoSeat)) (mail : MailState) → IsProgram p → 1 ≤ n → n ≤ 64 → length ss ≡ n → ((i : ℕ) (s : Seated NoSeat) → slice_get ss i ≡ Some s → IsNewSite p n i s) →
+pub starts : (p : List Stmt) (n : ℕ) (ss : List (SiteState NoSeat)) (mail : MailState) → IsProgram p → 1 ≤ n → n ≤ 64 → length ss ≡ n → ((i : ℕ) (s : SiteState NoSeat) → slice_get ss i ≡ Some s → IsNewSite p n i s) →
     mail.queues ≡ n + 1 → mail.messages ≡ [] → IsConsistent p [] ss mail 0 false
 starts p n ss mail is low high long new queues empty =
     let states = new_states p n ss new in
@@ -62,7 +62,7 @@ starts p n ss mail is low high long new queues empty =
 
 -- ---- a world that is given up
 
-pub given_up : (p : List Stmt) (j : List Turn) (ss rs : List (Seated NoSeat)) (mail box : MailState) (sent next : ℕ) (spent : Bool) → length rs ≡ length ss → IsConsistent p j ss mail sent spent → IsConsistent p j rs box next true
+pub given_up : (p : List Stmt) (j : List Turn) (ss rs : List (SiteState NoSeat)) (mail box : MailState) (sent next : ℕ) (spent : Bool) → length rs ≡ length ss → IsConsistent p j ss mail sent spent → IsConsistent p j rs box next true
 given_up p j ss rs mail box sent next spent long k = record {
   program = k.program;
   range = (let r = k.range.0 in omega arith, let r = k.range.1 in omega arith);
@@ -103,9 +103,9 @@ module _ (j : List Turn) (ms ns : List (ℕ × Sent)) (mail : (k : ℕ) → mess
 -- ---- a turn
 
 -- of the site behind the place i, which was s and is t now, with the message that was taken out
-module _ (p : List Stmt) (j : List Turn) (ss : List (Seated NoSeat)) (mail : MailState) (sent : ℕ) (k : IsConsistent p j ss mail sent false)
+module _ (p : List Stmt) (j : List Turn) (ss : List (SiteState NoSeat)) (mail : MailState) (sent : ℕ) (k : IsConsistent p j ss mail sent false)
     (i : ℕ) (inside : i < length ss) (place : Option ℕ) (quantum : ℕ) (few : quantum ≤ 64)
-    (s t : Seated NoSeat) (at : slice_get ss i ≡ Some s) (message : Option (ℕ × Msg)) (box : MailState)
+    (s t : SiteState NoSeat) (at : slice_get ss i ≡ Some s) (message : Option (ℕ × Msg)) (box : MailState)
     (taken : IsTaken mail.messages box.messages (suc i) place message)
     (e : Turn) (made : IsTurnMade s.program s.sites s.state message quantum e t.state) where
   live : IsLive p (length ss) j ss mail sent
@@ -214,7 +214,7 @@ module _ (p : List Stmt) (j : List Turn) (ss : List (Seated NoSeat)) (mail : Mai
 
 -- ---- one site of a world
 
-pub state_read : (p : List Stmt) (ss : List (Seated NoSeat)) (site : ℕ) (s : Seated NoSeat) → 1 ≤ site → site ≤ length ss → s ≡ get_or ss (site - 1) s → states_by p (map state_in ss) site ≡ s.state
+pub state_read : (p : List Stmt) (ss : List (SiteState NoSeat)) (site : ℕ) (s : SiteState NoSeat) → 1 ≤ site → site ≤ length ss → s ≡ get_or ss (site - 1) s → states_by p (map state_in ss) site ≡ s.state
 state_read p ss zero s low high is = absurd (omega arith)
 state_read p ss (suc i) s low high is =
     let before : suc i - 1 ≡ i = omega arith in
@@ -224,15 +224,15 @@ state_read p ss (suc i) s low high is =
 -- ---- all of a turn
 
 -- what a turn of the site leaves, where its state stands at the place x
-pub record After (p : List Stmt) (j : List Turn) (ss : List (Seated NoSeat)) (mail box : MailState) (sent site x : ℕ) (place : Option ℕ) (quantum : ℕ) (s t : Seated NoSeat) (e : Turn) : Type 0 where
+pub record After (p : List Stmt) (j : List Turn) (ss : List (SiteState NoSeat)) (mail box : MailState) (sent site x : ℕ) (place : Option ℕ) (quantum : ℕ) (s t : SiteState NoSeat) (e : Turn) : Type 0 where
   pub run : WorldRun p (length ss) bundle_limit (e ∷ j) (states_by p (map state_in (slice_set ss x t)))
   pub consistent : (end : MailState) (next : ℕ) → box.queues ≡ mail.queues → end.queues ≡ box.queues → end.messages ≡ box.messages ++ enumerate_from sent e.sent → next ≡ sent + length e.sent →
       t.program ≡ s.program → t.sites ≡ s.sites → t.spent ≡ false → IsConsistent p (e ∷ j) (slice_set ss x t) end next false
   pub turn : (old new : WorldState) → old.program ≡ p → old.sites ≡ length ss → old.journal ≡ j → old.states ≡ map state_in ss → old.travels ≡ map travel_of mail.messages →
       new.program ≡ p → new.journal ≡ e ∷ j → new.states ≡ map state_in (slice_set ss x t) → t.state.steps ≤ s.state.steps + quantum → IsWorldTurn old new site place quantum
 
-pub after_turn : (p : List Stmt) (j : List Turn) (ss : List (Seated NoSeat)) (mail box : MailState) (sent : ℕ) (k : IsConsistent p j ss mail sent false) (site : ℕ) (low : 1 ≤ site) (high : site ≤ length ss)
-    (place : Option ℕ) (quantum : ℕ) (few : quantum ≤ 64) (s t : Seated NoSeat) (at : s ≡ get_or ss (site - 1) s) (message : Option (ℕ × Msg)) (taken : IsTaken mail.messages box.messages site place message)
+pub after_turn : (p : List Stmt) (j : List Turn) (ss : List (SiteState NoSeat)) (mail box : MailState) (sent : ℕ) (k : IsConsistent p j ss mail sent false) (site : ℕ) (low : 1 ≤ site) (high : site ≤ length ss)
+    (place : Option ℕ) (quantum : ℕ) (few : quantum ≤ 64) (s t : SiteState NoSeat) (at : s ≡ get_or ss (site - 1) s) (message : Option (ℕ × Msg)) (taken : IsTaken mail.messages box.messages site place message)
     (e : Turn) (made : IsTurnMade s.program s.sites s.state message quantum e t.state) → After p j ss mail box sent site (site - 1) place quantum s t e
 after_turn p j ss mail box sent k zero low high place quantum few s t at message taken e made = absurd (omega arith)
 after_turn p j ss mail box sent k (suc i) low high place quantum few s t at message taken e made =

@@ -12,7 +12,7 @@ use Rattle.site_model.specs.Run.{WorldRun, SiteRun, IsEntry, IsReachedBy, IsReco
 use Rattle.site_model.specs.Transition.{Transition}
 use Rattle.site_model.specs.Turn.{SiteTurn, IsFullTurn}
 use Rattle.world_model.proofs.PutLemmas.{nat_decides}
-use Rattle.world_messages.proofs.CountedLemmas.{once_each, none_own}
+use Rattle.world_messages.proofs.CountLemmas.{once_each, none_own}
 use Rattle.world_simulation.specs.Protocols.{ProtocolsHold}
 use Rattle.world_simulation.proofs.SimulationLemmas.{every_run_is_simulated, delivered_messages_are_fit, cell_messages_are_few, messages_are_few, requests_are_single}
 use Rattle.world_simulation.proofs.ProtocolLemmas.{protocols_always_hold}

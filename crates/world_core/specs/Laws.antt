@@ -1,5 +1,5 @@
 -- What holds of every run of a program on 1 to 64 sites, said of one run.
-use Rattle.std.specs.Prelude.{◌≡◌, ℕ, ◌+◌, ◌*◌, ◌-◌, ◌≤◌, List, length}
+use Rattle.std.specs.Prelude.{◌≡◌, ℕ, ◌+◌, ◌*◌, ◌≤◌, List, length}
 use Rattle.std.specs.List.{count_by}
 use Rattle.tree_node.specs.declared.names.CellName.{CellName}
 use Rattle.tree_node.specs.declared.names.ThreadName.{ThreadName}
@@ -15,8 +15,8 @@ use Rattle.site_model.specs.Site.{Site}
 use Rattle.site_model.specs.Run.{WorldRun}
 use Rattle.world_model.specs.Schedule.{schedule}
 use Rattle.world_model.specs.Simulated.{IsSimulated, IsAtRest}
-use Rattle.world_messages.specs.Asked.{requests}
-use Rattle.world_messages.specs.Messages.{vars_made, threads_made, spawns, asks_to_know, tells_binding, asks_to_bind}
+use Rattle.world_messages.specs.BindRequests.{requests}
+use Rattle.world_messages.specs.Messages.{variable_messages, spawns, asks_to_know, tells_binding, asks_to_bind}
 use Rattle.world_cells.specs.CellCounts.{cell_weights}
 use Rattle.world_cells.specs.FitRuns.{SiteFitRun}
 use Rattle.world_simulation.specs.Messages.{sum_over}
@@ -37,20 +37,13 @@ HasMachineAtRest p n j w = (s : State) × IsSimulated p n j w s × IsAtRest p n 
 abbrev pub WereFit : List Stmt → ℕ → List Turn → (ℕ → Site) → Type 0
 WereFit p n j w = (i : ℕ) → SiteFitRun p n bundle_limit i j (w i)
 
--- with T threads, the first among them, and V variables made by the schedule
-abbrev pub variable_messages : ℕ → List Turn → ℕ
-variable_messages n j =
-    let threads = length (threads_made (schedule j)) in
-    let vars = length (vars_made (schedule j)) in
-    threads + 2 * (vars * (n - 1)) + threads * vars
-
 -- each site sends at most one Register for a variable and is sent at most one Binding, and none for its own; no thread asks
--- twice to bind a variable. The messages on variables and threads are at most T + 2 * V * (n - 1) + T * V, those of a cell three
--- for each of its exchanges and each site, and all messages together at most both
+-- twice to bind a variable. The messages on variables and threads are at most `variable_messages` of the schedule, those of a
+-- cell three for each of its exchanges and each site, and all messages together at most both
 pub record AreMessagesFew (p : List Stmt) (n : ℕ) (j : List Turn) : Type 0 where
   pub once : (i : ℕ) (x : VarName) → (register_count x i (sent_of j) ≤ 1) × (binding_count x i (sent_of j) ≤ 1)
   pub own : (i : ℕ) (x : VarName) → i ≡ x.site → (register_count x i (sent_of j) ≡ 0) × (binding_count x i (sent_of j) ≡ 0)
   pub single : (th : ThreadName) (x : VarName) → requests th x (sent_of j) ≤ 1
-  pub variables : count_by spawns (sent_of j) + count_by asks_to_know (sent_of j) + count_by tells_binding (sent_of j) + count_by asks_to_bind (sent_of j) ≤ variable_messages n j
+  pub variables : count_by spawns (sent_of j) + count_by asks_to_know (sent_of j) + count_by tells_binding (sent_of j) + count_by asks_to_bind (sent_of j) ≤ variable_messages n (schedule j)
   pub cells : (c : CellName) → cell_weights c 1 1 1 (sent_of j) ≤ 3 * (length (exchanges p (schedule j) c) + n)
-  pub all : (s : State) × Run p (schedule j) s × (length (sent_of j) ≤ variable_messages n j + sum_over (λ c. 3 * (length (exchanges p (schedule j) c) + n)) s.cells)
+  pub all : (s : State) × Run p (schedule j) s × (length (sent_of j) ≤ variable_messages n (schedule j) + sum_over (λ c. 3 * (length (exchanges p (schedule j) c) + n)) s.cells)

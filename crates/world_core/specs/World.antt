@@ -13,7 +13,7 @@ use Rattle.site_model.specs.Site.{Site, initial_site}
 use Rattle.site_model.specs.Run.{WorldRun, IsRecordOf, delivered_message}
 use Rattle.site_model.specs.Transition.{Transition}
 use Rattle.site_model.specs.Turn.{IsFullTurn}
-use Rattle.site_core.specs.Seated.{Seated}
+use Rattle.site_core.specs.Site.{SiteState}
 use Rattle.world_mail.specs.declared.travel.Travel.{Travel}
 use Rattle.world_mail.specs.Mail.{MailState, message_at, without_message}
 use Rattle.world_core.specs.Travels.{IsNumberAt}
@@ -33,6 +33,7 @@ abbrev pub states_by : List Stmt → List Site → ℕ → Site
 states_by p ss zero = initial_site p zero
 states_by p ss (suc i) = slice_index_or ss i (initial_site p (suc i))
 
+-- the state of site i
 abbrev pub states_of : WorldState → ℕ → Site
 states_of w i = states_by w.program w.states i
 
@@ -57,23 +58,24 @@ KnowledgeStays old new = (i : ℕ) → IsPartOf (states_of old i).equations (sta
 abbrev pub travelling_at : List Turn → ℕ → Option Sent
 travelling_at j k = if was_delivered j k then None else slice_get (sent_of j) k
 
-abbrev pub state_in : Seated NoSeat → Site
+-- the state of a site
+abbrev pub state_in : SiteState NoSeat → Site
 state_in s = s.state
 
 -- a site of the program on so many sites, that can make turns
-abbrev pub IsSiteOf : List Stmt → ℕ → Seated NoSeat → Type 0
+abbrev pub IsSiteOf : List Stmt → ℕ → SiteState NoSeat → Type 0
 IsSiteOf p n s = (s.program ≡ p) × (s.sites ≡ n) × (s.spent ≡ false)
 
 -- the sites are where the journal leads them, and the messages on their way are those that travel by it
-pub record IsLive (p : List Stmt) (n : ℕ) (j : List Turn) (sites : List (Seated NoSeat)) (mail : MailState) (sent : ℕ) : Type 0 where
+pub record IsLive (p : List Stmt) (n : ℕ) (j : List Turn) (sites : List (SiteState NoSeat)) (mail : MailState) (sent : ℕ) : Type 0 where
   pub run : WorldRun p n bundle_limit j (states_by p (map state_in sites))
-  pub each : (i : ℕ) (s : Seated NoSeat) → slice_get sites i ≡ Some s → IsSiteOf p n s
+  pub each : (i : ℕ) (s : SiteState NoSeat) → slice_get sites i ≡ Some s → IsSiteOf p n s
   pub count : sent ≡ length (sent_of j)
   pub queues : mail.queues ≡ n + 1
   pub travels : (k : ℕ) → message_at mail.messages k ≡ travelling_at j k
 
 -- what stays true of a world. After want of memory no more is known than that its journal is one of a run
-pub record IsConsistent (p : List Stmt) (j : List Turn) (sites : List (Seated NoSeat)) (mail : MailState) (sent : ℕ) (spent : Bool) : Type 0 where
+pub record IsConsistent (p : List Stmt) (j : List Turn) (sites : List (SiteState NoSeat)) (mail : MailState) (sent : ℕ) (spent : Bool) : Type 0 where
   pub program : IsProgram p
   pub range : (1 ≤ length sites) × (length sites ≤ 64)
   pub run : (w : ℕ → Site) × WorldRun p (length sites) bundle_limit j w
@@ -82,7 +84,7 @@ pub record IsConsistent (p : List Stmt) (j : List Turn) (sites : List (Seated No
 -- ---- parts of turns
 
 -- the site of this place at the start
-abbrev pub IsNewSite : List Stmt → ℕ → ℕ → Seated NoSeat → Type 0
+abbrev pub IsNewSite : List Stmt → ℕ → ℕ → SiteState NoSeat → Type 0
 IsNewSite p n i s = IsSiteOf p n s × (s.state ≡ initial_site p (i + 1))
 
 -- the message at the place that was given is taken out

@@ -13,8 +13,8 @@
 //! wait at the sites. After want of memory the world is given up: it has the journal of the turns made before, which stays one
 //! of a run.
 //!
-//! No call walks over messages, threads or the journal, but for `schedule`, which copies it: a turn costs by what it does,
-//! `quiet` by the number of sites.
+//! No call walks over messages, threads or the journal, but for `schedule`, which takes a step for each turn and shares its
+//! picks: a turn costs by what it does, `quiet` by the number of sites.
 //!
 //! It stands on `site_core` for the turns of sites, on `world_mail` for the messages between them, and on `world_simulation`
 //! for the laws. Tests of programs (`oz_tests`) run it; no promise is left to them alone.

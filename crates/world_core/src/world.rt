@@ -14,7 +14,7 @@ ghost use Rattle.world_mail.specs.Mail.{message_at, without_message};
 ghost use Rattle.world_mail.specs.Travels.{travel_of, IsNoneFor, IsFirstFor};
 ghost use Rattle.world_core.specs.Travels.{AreTravels, IsNothingFor, IsNotThere};
 ghost use Rattle.world_core.specs.World.{states_of, IsWorldTurn, KnowledgeStays, IsNewSite, IsTaken};
-ghost use Rattle.site_core.specs.Seated.{Seated};
+ghost use Rattle.site_core.specs.Site.{SiteState};
 ghost use Rattle.site_message.specs.declared.story.NoSeat.{NoSeat};
 
 use crate::refusal::WorldRefusal;
@@ -173,7 +173,7 @@ impl<'a> World<'a> {
         &self.journal
     }
 
-    /// The turns made.
+    /// The turns made, of a world that is done with. It takes no memory.
     pub fn into_journal(self) -> Journal
         ensures value { result ≡ self.entry.journal }
         ensures run { HasRun self.entry.program self.entry.sites self.entry.journal }
@@ -192,7 +192,7 @@ fn first_sites<'a>(
     requires some { 1 ≤ sites }
     requires most { sites ≤ 64 }
     ensures length { IfOk result (λ ss. length ss.items ≡ sites) }
-    ensures sites { IfOk result (λ ss. (i : ℕ) (s : Seated NoSeat) → slice_get ss.items i ≡ Some s → IsNewSite program.now sites i s) }
+    ensures sites { IfOk result (λ ss. (i : ℕ) (s : SiteState NoSeat) → slice_get ss.items i ≡ Some s → IsNewSite program.now sites i s) }
 {
     let mut first = Vec::new(alloc);
     for number in 1..sites + 1 {
@@ -203,7 +203,7 @@ fn first_sites<'a>(
 
 // Whether no thread of any site can go on.
 fn are_idle(sites: &[Site<'_, NoSeat>]) -> bool
-    ensures { IsTrue result ↔ ((i : ℕ) (s : Seated NoSeat) → slice_get sites.now i ≡ Some s → is_idle s.state ≡ true) }
+    ensures { IsTrue result ↔ ((i : ℕ) (s : SiteState NoSeat) → slice_get sites.now i ≡ Some s → is_idle s.state ≡ true) }
 {
     sites.iter().all(|site| site.idle())
 }

@@ -17,7 +17,7 @@ use Rattle.site_message.specs.declared.message.Msg.{Msg}
 use Rattle.site_message.specs.declared.message.Sent.{Sent}
 use Rattle.std.specs.Bool.{Decides}
 use Rattle.world_mail.specs.declared.travel.Travel.{Travel}
-use Rattle.world_mail.specs.Mail.{IsKept, message_at, is_queued, with_bit, without_bit, queue_at, is_for}
+use Rattle.world_mail.specs.Mail.{IsConsistent, message_at, is_queued, with_bit, without_bit, queue_at, is_for}
 use Rattle.world_mail.specs.Travels.{travel_of, IsNoneFor, IsFirstFor}
 use Rattle.std.proofs.lemmas.Bool.Decides.{Decides-eqb}
 
@@ -170,7 +170,7 @@ travels_tell ms once k to = (there, back)
 
 -- ---- the next message for a site
 
-module _ (ms : List (ℕ × Sent)) (ts : List Travel) (qs : List (List ℕ)) (kept : IsKept ms ts qs) (site : ℕ) (inside : site < length qs) where
+module _ (ms : List (ℕ × Sent)) (ts : List Travel) (qs : List (List ℕ)) (kept : IsConsistent ms ts qs) (site : ℕ) (inside : site < length qs) where
   -- the numbers of those for the site are in its queue
   queued : (t : Travel) → Contains (map travel_of ms) t → t.to ≡ site → is_queued (queue_at qs site) t.number ≡ true
   queued t at to =
@@ -209,9 +209,9 @@ module _ (ms : List (ℕ × Sent)) (ts : List Travel) (qs : List (List ℕ)) (ke
 -- ---- calls
 
 -- a message came
-pub kept_with : (ms ns : List (ℕ × Sent)) (ts us : List Travel) (qs rs : List (List ℕ)) (number : ℕ) (sent : Sent) → IsKept ms ts qs → message_at ms number ≡ None → length rs ≡ length qs →
+pub kept_with : (ms ns : List (ℕ × Sent)) (ts us : List Travel) (qs rs : List (List ℕ)) (number : ℕ) (sent : Sent) → IsConsistent ms ts qs → message_at ms number ≡ None → length rs ≡ length qs →
     (sent.to < length qs → (k : ℕ) → is_queued (queue_at rs sent.to) k ≡ with_bit number (is_queued (queue_at qs sent.to)) k) → ((i : ℕ) → i ≢ sent.to → queue_at rs i ≡ queue_at qs i) →
-    us ≡ ts ++ record { number = number; to = sent.to } ∷ [] → ns ≡ ms ++ (number, sent) ∷ [] → IsDistinct nat_eq (keys_of ns) → ((k : ℕ) → message_at ns k ≡ cond (nat_eq number k) (Some sent) (message_at ms k)) → IsKept ns us rs
+    us ≡ ts ++ record { number = number; to = sent.to } ∷ [] → ns ≡ ms ++ (number, sent) ∷ [] → IsDistinct nat_eq (keys_of ns) → ((k : ℕ) → message_at ns k ≡ cond (nat_eq number k) (Some sent) (message_at ms k)) → IsConsistent ns us rs
 kept_with ms ns ts us qs rs number sent kept new long here others more grown once now = record {
   once = once;
   travels = more ∙ ap (λ (l : List Travel). l ++ record { number = number; to = sent.to } ∷ []) kept.travels ∙ sym (map-append travel_of ms ((number, sent) ∷ [])) ∙ ap (map travel_of) (sym grown);
@@ -219,9 +219,9 @@ kept_with ms ns ts us qs rs number sent kept new long here others more grown onc
 }
 
 -- the message of this place left
-pub kept_without : (ms ns : List (ℕ × Sent)) (ts us : List Travel) (qs rs : List (List ℕ)) (place number : ℕ) (sent : Sent) (t : Travel) → IsKept ms ts qs → place < length ms → slice_get ms place ≡ Some (number, sent) → length rs ≡ length qs →
+pub kept_without : (ms ns : List (ℕ × Sent)) (ts us : List Travel) (qs rs : List (List ℕ)) (place number : ℕ) (sent : Sent) (t : Travel) → IsConsistent ms ts qs → place < length ms → slice_get ms place ≡ Some (number, sent) → length rs ≡ length qs →
     (sent.to < length qs → (k : ℕ) → is_queued (queue_at rs sent.to) k ≡ without_bit number (is_queued (queue_at qs sent.to)) k) → ((i : ℕ) → i ≢ sent.to → queue_at rs i ≡ queue_at qs i) →
-    us ≡ swap_remove ts place t → ns ≡ swap_remove ms place (number, sent) → IsDistinct nat_eq (keys_of ns) → ((k : ℕ) → message_at ns k ≡ cond (nat_eq number k) None (message_at ms k)) → IsKept ns us rs
+    us ≡ swap_remove ts place t → ns ≡ swap_remove ms place (number, sent) → IsDistinct nat_eq (keys_of ns) → ((k : ℕ) → message_at ns k ≡ cond (nat_eq number k) None (message_at ms k)) → IsConsistent ns us rs
 kept_without ms ns ts us qs rs place number sent t kept inside at long here others less fewer once now = record {
   once = once;
   travels = less ∙ ap (λ (l : List Travel). swap_remove l place t) kept.travels ∙ sym (map_swap_remove travel_of ms place (number, sent) t inside) ∙ ap (map travel_of) (sym fewer);

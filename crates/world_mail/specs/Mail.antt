@@ -33,12 +33,14 @@ AreBelow first ms = (k : ℕ) → first ≤ k → message_at ms k ≡ None
 abbrev pub is_queued : List ℕ → ℕ → Bool
 is_queued ks k = list_any (is_at (nat_cmp k)) ks
 
+-- a set of numbers with this one, and without it
 abbrev pub with_bit : ℕ → (ℕ → Bool) → ℕ → Bool
 with_bit number old k = if number == k then true else old k
 
 abbrev pub without_bit : ℕ → (ℕ → Bool) → ℕ → Bool
 without_bit number old k = if number == k then false else old k
 
+-- the numbers in the queue of site i; none where there is no queue
 abbrev pub queue_at : List (List ℕ) → ℕ → List ℕ
 queue_at qs i = slice_index_or qs i []
 
@@ -48,7 +50,7 @@ is_for i None = false
 is_for i (Some m) = m.to == i
 
 -- no two messages have one number; the travels are those of the messages, and each queue has the numbers of those to its site
-pub record IsKept (ms : List (ℕ × Sent)) (ts : List Travel) (qs : List (List ℕ)) : Type 0 where
+pub record IsConsistent (ms : List (ℕ × Sent)) (ts : List Travel) (qs : List (List ℕ)) : Type 0 where
   pub once : IsDistinct nat_eq (keys_of ms)
   pub travels : ts ≡ map travel_of ms
   pub queues : (i k : ℕ) → i < length qs → is_queued (queue_at qs i) k ≡ is_for i (message_at ms k)

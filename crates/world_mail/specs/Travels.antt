@@ -3,6 +3,7 @@ use Rattle.std.specs.Prelude.{◌≡◌, ℕ, ◌≤◌, List, Some, slice_get, 
 use Rattle.site_message.specs.declared.message.Sent.{Sent}
 use Rattle.world_mail.specs.declared.travel.Travel.{Travel}
 
+-- a message under way without what it says: its number and receiver
 abbrev pub travel_of : ℕ × Sent → Travel
 travel_of m = record { number = m.0; to = m.1.to }
 

@@ -27,13 +27,13 @@ pub struct Mail {
 
 impl Model for Mail {
     ghost use Rattle.std.specs.Prelude.{length};
-    ghost use Rattle.world_mail.specs.Mail.{MailState, IsKept};
+    ghost use Rattle.world_mail.specs.Mail.{MailState, IsConsistent};
 
     ghost Value = { MailState };
 
     ghost view = { λ m. record { queues = length m.queues.items; messages = m.messages.entries } };
 
-    ghost invariant = { λ m. IsKept m.messages.entries m.travels.items m.queues.items };
+    ghost invariant = { λ m. IsConsistent m.messages.entries m.travels.items m.queues.items };
 }
 
 impl Mail {

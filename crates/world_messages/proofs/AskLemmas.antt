@@ -24,7 +24,7 @@ use Rattle.thread_roster.specs.declared.mode.Mode.TheVariants as site
 use Rattle.world_model.specs.Matches.{IsBound}
 use Rattle.world_model.proofs.KeyLemmas.{goes_cases, woken_old}
 use Rattle.world_messages.specs.Messages.{is_request}
-use Rattle.world_messages.specs.Asked.{requests, is_spawn, flights, Asks}
+use Rattle.world_messages.specs.BindRequests.{requests, is_spawn, flights, Asks}
 use Rattle.tree_node.proofs.NameLemmas.{same_thread_decides}
 
 -- ---- messages that are no requests

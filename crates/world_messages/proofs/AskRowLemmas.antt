@@ -59,11 +59,11 @@ use Rattle.world_model.proofs.KeyLemmas.{goes_cases, woken_new}
 use Rattle.world_messages.proofs.DeedLemmas.{unit_tally}
 use Rattle.world_messages.proofs.PickLemmas.{heard_site}
 use Rattle.world_messages.specs.Messages.{is_request}
-use Rattle.world_messages.specs.Asked.{requests, is_spawn, flights, Asks, ComesNew}
+use Rattle.world_messages.specs.BindRequests.{requests, is_spawn, flights, Asks, ComesNew}
 use Rattle.world_messages.proofs.AskLemmas.{IsNone, runs_not, waits_not, asks_more, same_threads, wakes, goes, asks_once}
 use Rattle.tree_node.proofs.EachLemmas.{each_append}
 use Rattle.tree_node.proofs.NameLemmas.{same_thread_decides}
-use Rattle.site_model.proofs.StillLemmas.{told_all_counters}
+use Rattle.site_model.proofs.FrameLemmas.{told_all_counters}
 
 -- ---- transitions without requests
 

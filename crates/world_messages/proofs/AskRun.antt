@@ -31,13 +31,13 @@ use Rattle.world_model.specs.World.{Sites, put}
 use Rattle.world_model.specs.Matches.{IsBound}
 use Rattle.world_model.proofs.PutLemmas.{nat_decides, at_all, at_here, at_other}
 use Rattle.world_model.proofs.KeyLemmas.{woken_old, running_old}
-use Rattle.world_messages.specs.Asked.{requests, is_spawn, flights, ComesNew, BringsThread, ThreadsPlaced, ThreadsArePlaced, AsksAreFew}
+use Rattle.world_messages.specs.BindRequests.{requests, is_spawn, flights, ComesNew, BringsThread, ThreadsPlaced, ThreadsArePlaced, AsksAreFew}
 use Rattle.world_messages.proofs.AskRowLemmas.{turn_asks, Full, HearsNew}
-use Rattle.world_messages.proofs.CountedLemmas.{counted_in}
+use Rattle.world_messages.proofs.CountLemmas.{counted_in}
 use Rattle.world_messages.proofs.RunLemmas.{Entry, every_run}
 use Rattle.tree_node.proofs.NameLemmas.{same_thread_decides}
 use Rattle.std.proofs.lemmas.Bool.{or_parts}
-use Rattle.site_model.proofs.StillLemmas.{told_all_counters}
+use Rattle.site_model.proofs.FrameLemmas.{told_all_counters}
 
 -- the thread was made by its site
 abbrev pub IsReal : Sites → ThreadName → Type 0

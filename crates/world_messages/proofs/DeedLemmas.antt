@@ -40,7 +40,7 @@ use Rattle.bind_protocol.proofs.RowCountLemmas.{others_count, unused_counts, mak
 use Rattle.bind_protocol.proofs.GoOnLemmas.{counts_join}
 use Rattle.world_messages.proofs.BundleCounts.{counts_filled}
 use Rattle.world_messages.proofs.AddsLemmas.{effect_lefts, fresh_own}
-use Rattle.site_model.proofs.StillLemmas.{cell_keeps_records}
+use Rattle.site_model.proofs.FrameLemmas.{cell_keeps_records}
 
 -- the counts go on
 pub record Tallies (b c : Records) (hand out : List Sent) : Type 0 where

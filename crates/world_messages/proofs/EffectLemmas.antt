@@ -18,7 +18,7 @@ use Rattle.oz_model.specs.Need.{Need, Binds, Takes, stack_need, kinds_of}
 use Rattle.oz_model.specs.Effect.{Effect, with_equations, stack_effect, vars_among}
 use Rattle.oz_model.specs.Step.{IsBindFor, kind_of}
 use Rattle.oz_model.specs.WellFormed.{IsNode, IsNodeOf, AreNodesOf, EffectHas}
-use Rattle.oz_model.proofs.AloneLemmas.{effects_have_nodes}
+use Rattle.oz_model.proofs.ThreadLemmas.{effects_have_nodes}
 use Rattle.thread_machine.specs.Fits.{EquationsFit}
 use Rattle.thread_machine.specs.Effects.{EffectFits}
 use Rattle.thread_machine.proofs.KeepLemmas.{stack_effect_fits, stack_bound}

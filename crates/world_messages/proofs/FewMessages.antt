@@ -18,11 +18,11 @@ use Rattle.site_message.specs.declared.message.Sent.{Sent}
 use Rattle.site_message.specs.declared.turn.Turn.{Turn}
 use Rattle.site_message.specs.Journal.{sent_of, travelling}
 use Rattle.oz_model.specs.Effect.{vars_among}
-use Rattle.world_messages.specs.Asked.{requests, ThreadsArePlaced}
+use Rattle.world_messages.specs.BindRequests.{requests, ThreadsArePlaced}
 use Rattle.world_messages.proofs.AskRun.{asked_in, asks_are_few}
 use Rattle.world_messages.specs.Fitting.{IsFittingMsg, WorldFits, IsMadeVar, TokensServe}
 use Rattle.world_messages.specs.Messages.{is_request, asks_to_bind, fresh_in, threads_among, vars_made, threads_made, spawns, asks_to_know, tells_binding, SpawnsAreFew, RegistersAreFew}
-use Rattle.world_messages.specs.Few.{RequestsAreFew, MessagesAreFew}
+use Rattle.world_messages.specs.MessageCounts.{RequestsAreFew, FewWhereTokensServe}
 use Rattle.bind_protocol.specs.Records.{knowledge}
 use Rattle.bind_protocol.specs.World.{is_register, is_binding}
 use Rattle.bind_protocol.specs.Lawful.{met_count, register_count, binding_count}
@@ -35,7 +35,7 @@ use Rattle.world_model.specs.Schedule.{schedule}
 use Rattle.world_model.specs.Chain.{messages}
 use Rattle.world_model.proofs.PutLemmas.{nat_decides, at_all}
 use Rattle.bind_protocol.specs.Count.{AreCounted}
-use Rattle.world_messages.proofs.CountedLemmas.{counted_in, once_each}
+use Rattle.world_messages.proofs.CountLemmas.{counted_in, once_each}
 use Rattle.world_messages.proofs.FewLemmas.{few, pairs, many_pairs, pair_in, sites_but, others_few, site_in}
 use Rattle.world_messages.proofs.PickLemmas.{PicksOn, vars_in_both, threads_in_both, turn_picks}
 use Rattle.world_messages.proofs.RunLemmas.{Entry, every_run}
@@ -262,7 +262,7 @@ module _ (p : List Stmt) (n limit : ℕ) (j : List Turn) (f : Sites) (is : IsPro
 pub requests_are_few : RequestsAreFew
 requests_are_few p n limit j f is tokens placed run = requests_few p n limit j f is tokens placed run
 
-pub messages_are_few : MessagesAreFew
+pub messages_are_few : FewWhereTokensServe
 messages_are_few p n limit j f is tokens placed run =
     let a = spawns_are_few p n limit j f run in
     let b = registers_are_few p n limit j f is tokens run in

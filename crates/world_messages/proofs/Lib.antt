@@ -4,12 +4,12 @@ pub mod AskRowLemmas
 pub mod AskRun
 pub mod BundleCounts
 pub mod CellFitLemmas
-pub mod CountedLemmas
+pub mod CountLemmas
 pub mod DeedLemmas
 pub mod EffectLemmas
 pub mod FewLemmas
 pub mod FewMessages
-pub mod HeardFitLemmas
+pub mod MessageFitLemmas
 pub mod KnownLemmas
 pub mod OthersLemmas
 pub mod PartLemmas

@@ -55,7 +55,7 @@ use Rattle.world_messages.specs.Messages.{fresh_in, threads_among, spawns}
 use Rattle.world_messages.proofs.KnownLemmas.{counted_cases}
 use Rattle.world_messages.proofs.DeedLemmas.{turn_tally, unit_tally}
 use Rattle.world_messages.proofs.EffectLemmas.{bind_effect}
-use Rattle.site_model.proofs.StillLemmas.{told_all_counters, told_counters}
+use Rattle.site_model.proofs.FrameLemmas.{told_all_counters, told_counters}
 
 abbrev pub spawned : List Sent → ℕ
 spawned ms = count_by spawns ms

@@ -33,7 +33,7 @@ use Rattle.world_model.proofs.MailLemmas.{nothing}
 use Rattle.bind_protocol.specs.Count.{AreCounted}
 use Rattle.world_messages.specs.Fitting.{IsMadeVar, IsFitting, IsFittingMsg, WorldFits}
 use Rattle.world_messages.specs.Unfit.{TakesVars, SitesVars, VarsFit}
-use Rattle.world_messages.proofs.CountedLemmas.{counted_in}
+use Rattle.world_messages.proofs.CountLemmas.{counted_in}
 use Rattle.world_messages.proofs.SentLemmas.{GoesHome, turn_home}
 use Rattle.world_messages.proofs.RunLemmas.{every_run}
 use Rattle.world_messages.proofs.WireLemmas.{is_left, kept_fewer}

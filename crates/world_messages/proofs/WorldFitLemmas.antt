@@ -33,7 +33,7 @@ use Rattle.world_model.proofs.KeyLemmas.{running_old}
 use Rattle.world_messages.specs.Fitting.{ThreadFits, SiteFits, MsgFits, IsMadeVar, IsFitting, IsFittingMsg, WorldFits, HeardWaits, TokensServe}
 use Rattle.world_messages.proofs.SiteFitLemmas.{FitsOn}
 use Rattle.world_messages.proofs.UnitFitLemmas.{msg_vars}
-use Rattle.world_messages.proofs.HeardFitLemmas.{turn_fits, MeetsAs}
+use Rattle.world_messages.proofs.MessageFitLemmas.{turn_fits, MeetsAs}
 use Rattle.world_messages.proofs.RunLemmas.{Entry, every_run}
 use Rattle.tree_node.proofs.EachLemmas.{each_append}
 

@@ -50,6 +50,7 @@ pub record NamesKnown (i : ℕ) (known more : List VarName) (b : Records) (made 
   pub counted : (x : VarName) → x.site ≡ i → Contains known x → x.num < made.vars
   pub bound : (x : VarName) (t : Term) → knowledge b x ≡ Some (Some t) → Contains s (x, t)
 
+-- site i knows these variables, and what it has is of them
 pub record SiteFits (p : List Stmt) (i : ℕ) (known : List VarName) (s : Site) : Type 0 where
   pub names : NamesKnown i known known s.records s.counters s.equations
   pub terms : TermsFit p known s.equations s.threads s.cell_records
@@ -58,6 +59,7 @@ pub record SiteFits (p : List Stmt) (i : ℕ) (known : List VarName) (s : Site) 
 abbrev pub MsgFits : List Stmt → List VarName → Msg → Type 0
 MsgFits p known m = EachOfMsg (fits.IsKnown known) m × CodesFit p m
 
+-- each of these messages fits
 abbrev pub AllFit : List Stmt → List VarName → List Sent → Type 0
 AllFit p known ms = Each (λ (m : Sent). MsgFits p known m.msg) ms
 
@@ -85,6 +87,7 @@ IsFitting p n f i s = (known : List VarName) × SiteFits p i known s × ((x : Va
 abbrev pub IsFittingMsg : List Stmt → ℕ → (ℕ → Site) → Sent → Type 0
 IsFittingMsg p n f m = CodesFit p m.msg × ((x : VarName) → Contains (message_vars m.msg) x → IsMadeVar n f x)
 
+-- each site fits, and each message that was sent
 pub record WorldFits (p : List Stmt) (n : ℕ) (j : List Turn) (f : ℕ → Site) : Type 0 where
   pub sites : (i : ℕ) → IsFitting p n f i (f i)
   pub messages : Each (IsFittingMsg p n f) (sent_of j)
@@ -95,6 +98,7 @@ abbrev pub TokensServe : List Stmt → ℕ → ℕ → Type 0
 TokensServe p n limit =
     (j : List Turn) (f : ℕ → Site) → WorldRun p n limit j f → (k : ℕ) (m : Sent) → IsTravelling j k m → TokenWaits p m.msg (opening m.msg (f m.to)).site
 
+-- where the message of the turn, if any, is a token, those that wait for it can be served
 abbrev pub HeardWaits : List Stmt → Option Msg → Site → Type 0
 HeardWaits p None s = Unit {0}
 HeardWaits p (Some m) s = TokenWaits p m (opening m s).site

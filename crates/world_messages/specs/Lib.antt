@@ -1,6 +1,6 @@
-pub mod Asked
-pub mod Counted
-pub mod Few
+pub mod BindRequests
+pub mod RegisterCounts
+pub mod MessageCounts
 pub mod Fitting
 pub mod Messages
 pub mod Unfit

@@ -27,20 +27,23 @@ abbrev pub fresh_in : List Pick → List Name
 fresh_in [] = []
 fresh_in (k ∷ ks) = k.fresh ++ fresh_in ks
 
+-- the threads among these names
 abbrev pub threads_among : List Name → List ThreadName
 threads_among [] = []
 threads_among (name.Thread n ∷ names) = n ∷ threads_among names
 threads_among (_ ∷ names) = threads_among names
 
--- the variables that a schedule makes, and its threads, the first among them
+-- the variables that a schedule makes
 abbrev pub vars_made : List Pick → List VarName
 vars_made ks = vars_among (fresh_in ks)
 
+-- the threads that a schedule makes, the first one among them
 abbrev pub threads_made : List Pick → List ThreadName
 threads_made ks = first_thread ∷ threads_among (fresh_in ks)
 
 -- ---- kinds of messages
 
+-- the message is a Spawn; and so, one after another, of a Register, a BindReq and a Binding
 abbrev pub spawns : Sent → Bool
 spawns m = is m.msg
   where
@@ -78,6 +81,13 @@ is_request n x m = asks m.msg
     asks _ = false
 
 -- ---- bounds
+
+-- on n sites: one for each thread made, two for each variable made and site that is not its owner, one for each thread and variable
+abbrev pub variable_messages : ℕ → List Pick → ℕ
+variable_messages n picks =
+    let threads = length (threads_made picks) in
+    let variables = length (vars_made picks) in
+    threads + 2 * (variables * (n - 1)) + threads * variables
 
 -- at most one Spawn for each thread made
 abbrev pub SpawnsAreFew : Type 0

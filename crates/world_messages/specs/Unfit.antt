@@ -23,16 +23,19 @@ use Rattle.site_model.specs.Fit.{EachOfMsg, IsOtherSite, IsKnownName, CodesFit, 
 
 -- ---- the part on variables, terms and codes
 
+-- the site can take a message on a variable: a Register of a site not registered yet or a BindReq for one it made, a Binding of one it met
 abbrev pub TakesVars : Site → Msg → Type 0
 TakesVars s (msg.Register x k) = IsReceivable s.records (msg.Register x k)
 TakesVars s (msg.BindReq x n t bundle) = IsReceivable s.records (msg.BindReq x n t bundle)
 TakesVars s (msg.Binding x t bundle) = (x.site ≢ s.records.site) × IsKnown s.records x
 TakesVars s m = Unit {0}
 
+-- a Register is of another site
 abbrev pub SitesVars : ℕ → Site → Msg → Type 0
 SitesVars n s (msg.Register x k) = IsOtherSite n s k
 SitesVars n s m = Unit {0}
 
+-- these two; a variable of this site was made, the others are of one of n sites, and the codes are of the program
 pub record VarsFit (p : List Stmt) (n : ℕ) (s : Site) (m : Msg) : Type 0 where
   pub takes : TakesVars s m
   pub sites : SitesVars n s m
@@ -41,21 +44,25 @@ pub record VarsFit (p : List Stmt) (n : ℕ) (s : Site) (m : Msg) : Type 0 where
 
 -- ---- the part on cells and their tokens, on names that are no variables, and on lengths and texts
 
+-- the site can take a message on a cell
 abbrev pub TakesCells : Site → Msg → Type 0
 TakesCells s (msg.Get c k) = CanTake s (msg.Get c k)
 TakesCells s (msg.Forward c k) = CanTake s (msg.Forward c k)
 TakesCells s (msg.Put c v bundle) = CanTake s (msg.Put c v bundle)
 TakesCells s m = Unit {0}
 
+-- a Get or a Forward names another site
 abbrev pub SitesCells : ℕ → Site → Msg → Type 0
 SitesCells n s (msg.Get c k) = IsOtherSite n s k
 SitesCells n s (msg.Forward c k) = IsOtherSite n s k
 SitesCells n s m = Unit {0}
 
+-- the property of names that are no variables
 abbrev pub OnOthers : (Name → Type 0) → Name → Type 0
 OnOthers P (name.Var x) = Unit {0}
 OnOthers P x = P x
 
+-- these two; the message can be spelled, and its names that are no variables are of n sites, own ones made
 pub record OthersFit (n : ℕ) (s : Site) (m : Msg) : Type 0 where
   pub wire : FitsWire m
   pub takes : TakesCells s m

@@ -1,7 +1,7 @@
 //! What is sent in any run of sites.
 
-ghost use Rattle.world_messages.specs.Counted.{OncePerSite, NoneOfOwn};
-ghost use Rattle.world_messages.specs.Few.{RequestsAreFew, MessagesAreFew};
+ghost use Rattle.world_messages.specs.RegisterCounts.{OncePerSite, NoneOfOwn};
+ghost use Rattle.world_messages.specs.MessageCounts.{RequestsAreFew, FewWhereTokensServe};
 ghost use Rattle.world_messages.specs.Messages.{SpawnsAreFew, RegistersAreFew};
 ghost use Rattle.world_messages.specs.Unfit.{PartsAreFit};
 
@@ -18,7 +18,7 @@ pub fn registers_are_few()
 pub fn messages_are_few()
     ensures registers { RegistersAreFew }
     ensures requests { RequestsAreFew }
-    ensures messages { MessagesAreFew }
+    ensures messages { FewWhereTokensServe }
 {}
 
 /// A message is fit where its part on variables, its part on cells and other names, and what it tells are.

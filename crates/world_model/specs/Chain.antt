@@ -14,9 +14,11 @@ use Rattle.token_chain.specs.Chain.{ChainOf}
 use Rattle.site_model.specs.Site.{CellRecord, cell_record_in}
 use Rattle.world_model.specs.World.{Mail, IsOnItsWay}
 
+-- what site i keeps of cell c
 abbrev pub held_in : (ℕ → List (CellName × CellRecord)) → CellName → ℕ → Holding
 held_in places c i = (cell_record_in (places i) c).held
 
+-- the messages without their numbers
 abbrev pub messages : Mail → List Sent
 messages mail = map (λ (m : ℕ × Sent). m.1) mail
 

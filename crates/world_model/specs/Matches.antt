@@ -42,7 +42,7 @@ equations_in m = message_bundle m
 
 -- the central equations are those held by owners, one a variable, and lead down; what a site knows or a message tells
 -- is among them
-pub record Knowledge (eqs : ℕ → Store) (mail : Mail) (c : Store) : Type 0 where
+pub record EquationsMatch (eqs : ℕ → Store) (mail : Mail) (c : Store) : Type 0 where
   pub one : HasOneEach c
   pub down : LinksGoDown c
   pub owned : (x : VarName) (t : Term) → Contains c (x, t) → Contains (eqs x.site) (x, t)
@@ -50,14 +50,15 @@ pub record Knowledge (eqs : ℕ → Store) (mail : Mail) (c : Store) : Type 0 wh
   pub told : (k to : ℕ) (m : Msg) → IsOnItsWay mail k to m → Each (Contains c) (equations_in m)
 
 -- what a site keeps of variables is its equations, and it knows its number
-pub record IsKept (i : ℕ) (b : Records) (s : Store) : Type 0 where
+pub record RecordsMatch (i : ℕ) (b : Records) (s : Store) : Type 0 where
   pub site : b.site ≡ i
   pub bound : (x : VarName) (t : Term) → knowledge b x ≡ Some (Some t) → Contains s (x, t)
   pub held : (x : VarName) (t : Term) → Contains s (x, t) → knowledge b x ≡ Some (Some t)
   pub sound : IsSound s
 
-abbrev pub AreKept : (ℕ → Records) → (ℕ → Store) → Type 0
-AreKept records eqs = (i : ℕ) → IsKept i (records i) (eqs i)
+-- each site's records say what its equations say
+abbrev pub AllRecordsMatch : (ℕ → Records) → (ℕ → Store) → Type 0
+AllRecordsMatch records eqs = (i : ℕ) → RecordsMatch i (records i) (eqs i)
 
 -- ---- threads
 
@@ -72,8 +73,8 @@ IsInSpawn p mail k n st =
     × IsOnItsWay mail k to (msg.Spawn n code vars bundle) × (threads_born p (Some (birth n code vars)) ≡ (n, st) ∷ [])
 
 -- each central thread is at one site, or comes by one Spawn, with its stack
-abbrev pub Placed : List Stmt → (ℕ → Threads) → Mail → List (ThreadName × Stack) → Type 0
-Placed p threads mail ts = IsPlaced (IsThreadAt threads) (IsInSpawn p mail) (value_of equal_thread ts)
+abbrev pub ThreadsMatch : List Stmt → (ℕ → Threads) → Mail → List (ThreadName × Stack) → Type 0
+ThreadsMatch p threads mail ts = IsPlaced (IsThreadAt threads) (IsInSpawn p mail) (value_of equal_thread ts)
 
 -- ---- registrations
 
@@ -84,6 +85,7 @@ IsTold records mail i x =
     ⊎ (((k : ℕ) × IsOnItsWay mail k x.site (msg.Register x i))
     ⊎ ((k : ℕ) × (t : Term) × (bundle : List Equation) × IsOnItsWay mail k i (msg.Binding x t bundle)))
 
+-- each site that met another's variable, and does not know it bound, will be told
 abbrev pub AreTold : (ℕ → Records) → Mail → Type 0
 AreTold records mail = (i : ℕ) (x : VarName) → knowledge (records i) x ≡ Some None → x.site ≢ i → IsTold records mail i x
 
@@ -93,19 +95,22 @@ IsAddressed records to (msg.Register x k) = (to ≡ x.site) × IsHere (records x
 IsAddressed records to (msg.BindReq x n t bundle) = (to ≡ x.site) × IsHere (records x.site) x × IsLower t x
 IsAddressed records to m = Unit {0}
 
-abbrev pub Addressed : (ℕ → Records) → Mail → Type 0
-Addressed records mail = (k to : ℕ) (m : Msg) → IsOnItsWay mail k to m → IsAddressed records to m
+-- each Register and each BindReq on its way goes to the owner of its variable; of other messages nothing is asked
+abbrev pub AreAddressed : (ℕ → Records) → Mail → Type 0
+AreAddressed records mail = (k to : ℕ) (m : Msg) → IsOnItsWay mail k to m → IsAddressed records to m
 
 -- ---- waiting
 
+-- there is an equation for x
 abbrev pub IsBound : Store → VarName → Type 0
 IsBound c x = (t : Term) × Contains c (x, t)
 
 -- the goal block on top allows this bind, which goes down
-abbrev pub IsWanted : List Stmt → Store → Stack → VarName → Term → Type 0
-IsWanted p s st x t =
+abbrev pub HasAllowedBind : List Stmt → Store → Stack → VarName → Term → Type 0
+HasAllowedBind p s st x t =
     (a : Term) × (b : Term) × (stack_need p s st ≡ Binds a b) × IsAllowedBind s a b (x, t) × IsLower t x
 
+-- thread n, of whatever site's name, is at site i with this stack and waits for x
 abbrev pub IsWaiting : (ℕ → Threads) → ℕ → ThreadName → Stack → VarName → Type 0
 IsWaiting threads i n st x = value_of equal_thread (threads i) n ≡ Some (st, site.Waits x)
 
@@ -126,9 +131,11 @@ IsExchange p s st c =
 -- the request is late, or its thread waits for the answer
 abbrev pub IsAwaited : List Stmt → (ℕ → Store) → (ℕ → Threads) → Store → VarName → Term → ThreadName → Type 0
 IsAwaited p eqs threads c x t n =
-    IsBound c x ⊎ ((i : ℕ) × (st : Stack) × IsWaiting threads i n st x × IsWanted p (eqs i) st x t)
+    IsBound c x ⊎ ((i : ℕ) × (st : Stack) × IsWaiting threads i n st x × HasAllowedBind p (eqs i) st x t)
 
-pub record Waiting (p : List Stmt) (eqs : ℕ → Store) (records : ℕ → Records) (threads : ℕ → Threads) (mail : Mail) (c : Store) : Type 0 where
+-- what each waiting thread waits for: a request to bind is late or its thread waits for x; who waits for a variable has it
+-- unbound at its site and needs it, or asked to bind it; who waits for a token has an exchange of that cell next
+pub record WaitersMatch (p : List Stmt) (eqs : ℕ → Store) (records : ℕ → Records) (threads : ℕ → Threads) (mail : Mail) (c : Store) : Type 0 where
   pub asks : (k to : ℕ) (x : VarName) (t : Term) (n : ThreadName) (bundle : List Equation) → IsOnItsWay mail k to (msg.BindReq x n t bundle) →
       IsAwaited p eqs threads c x t n
   pub waits : (i : ℕ) (n : ThreadName) (st : Stack) (x : VarName) → IsWaiting threads i n st x →
@@ -143,26 +150,32 @@ pub record IsQueue (q : CellRecord) (ts : Threads) (d : CellName) : Type 0 where
   pub stand : (n : ThreadName) → Contains q.queue n → (st : Stack) × (value_of equal_thread ts n ≡ Some (st, WaitsFor d))
   pub listed : (n : ThreadName) (st : Stack) → value_of equal_thread ts n ≡ Some (st, WaitsFor d) → Contains q.queue n
 
+-- at each site the queue of each cell is the list of those that wait for its token
 abbrev pub AreQueues : (ℕ → List (CellName × CellRecord)) → (ℕ → Threads) → Type 0
 AreQueues cell_records threads = (i : ℕ) (d : CellName) → IsQueue (cell_record_in (cell_records i) d) (threads i) d
 
 -- ---- totals
 
-abbrev pub is_spawn : Msg → ℕ
-is_spawn (msg.Spawn n code vars bundle) = 1
-is_spawn _ = 0
+-- 1 where the message brings a thread
+abbrev pub one_if_spawn : Msg → ℕ
+one_if_spawn (msg.Spawn n code vars bundle) = 1
+one_if_spawn _ = 0
 
+-- how many threads travel
 abbrev pub spawn_count : Mail → ℕ
 spawn_count [] = 0
-spawn_count (m ∷ ms) = is_spawn m.1.msg + spawn_count ms
+spawn_count (m ∷ ms) = one_if_spawn m.1.msg + spawn_count ms
 
+-- ended threads are those of the sites, living ones those of the sites and of the Spawns that travel
 pub record Totals (n : ℕ) (ended living : ℕ → ℕ) (mail : Mail) (s : State) : Type 0 where
   pub all_ended : s.ended ≡ sum_to n ended
   pub all_living : length s.threads ≡ sum_to n living + spawn_count mail
 
+-- how many threads ended at site i
 abbrev pub ended : Sites → ℕ → ℕ
 ended f i = (f i).ended
 
+-- how many threads live at site i
 abbrev pub living : Sites → ℕ → ℕ
 living f i = length (f i).threads
 
@@ -177,17 +190,18 @@ pub record IsNumbered (sent : ℕ) (mail : Mail) : Type 0 where
 
 -- which names are here, equations, records, threads and counters of the sites, the messages, and the centre
 pub record PartsMatch (p : List Stmt) (here : ℕ → Name → Type 0) (eqs : ℕ → Store) (records : ℕ → Records) (threads : ℕ → Threads) (counters : ℕ → Counters) (mail : Mail) (s : State) : Type 0 where
-  pub knowledge : Knowledge eqs mail s.equations
-  pub kept : AreKept records eqs
-  pub placed : Placed p threads mail s.threads
+  pub knowledge : EquationsMatch eqs mail s.equations
+  pub kept : AllRecordsMatch records eqs
+  pub placed : ThreadsMatch p threads mail s.threads
   pub told : AreTold records mail
-  pub addressed : Addressed records mail
-  pub waiting : Waiting p eqs records threads mail s.equations
+  pub addressed : AreAddressed records mail
+  pub waiting : WaitersMatch p eqs records threads mail s.equations
   pub homes : AreHome here eqs threads
   pub centred : IsCentreMade counters s
   pub makers : KnownAreMade records counters
   pub said : AreMailNamesMade counters mail
 
+-- the world and the machine's state match: their parts, the numbers of messages, the totals and the lines
 pub record Matches (p : List Stmt) (n : ℕ) (w : World) (s : State) : Type 0 where
   pub parts : PartsMatch p (here_at (records w.sites)) (eqs w.sites) (records w.sites) (threads w.sites) (counters w.sites) w.mail s
   pub numbered : IsNumbered w.sent w.mail

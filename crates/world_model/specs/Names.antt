@@ -22,6 +22,7 @@ use Rattle.world_model.specs.World.{Mail, IsOnItsWay}
 abbrev pub IsHere : Records → VarName → Type 0
 IsHere b x = (x.site ≡ 0) ⊎ IsKnown b x
 
+-- a variable is nobody's or known to the site; of names of other kinds nothing is asked
 abbrev pub IsHereName : Records → Name → Type 0
 IsHereName b (name.Var x) = IsHere b x
 IsHereName b _ = Unit {0}
@@ -43,9 +44,11 @@ AreContentsHome b qs = (c : CellName) (v : VarName) → (cell_record_in qs c).he
 abbrev pub AreHome : (ℕ → Name → Type 0) → (ℕ → Store) → (ℕ → Threads) → Type 0
 AreHome here eqs threads = (i : ℕ) → IsHome (here i) (eqs i) (threads i)
 
+-- what is here at site i, by its records
 abbrev pub here_at : (ℕ → Records) → ℕ → Name → Type 0
 here_at records i x = IsHereName (records i) x
 
+-- at each site the contents of its tokens are here: nobody's, or known to the site
 abbrev pub ContentsHome : (ℕ → Records) → (ℕ → List (CellName × CellRecord)) → Type 0
 ContentsHome records cell_records = (i : ℕ) → AreContentsHome (records i) (cell_records i)
 

@@ -25,6 +25,7 @@ abbrev pub last_ended : List Turn → ℕ → ℕ
 last_ended [] i = 0
 last_ended (e ∷ j) i = if e.site == i then e.ended else last_ended j i
 
+-- how many of its threads wait, by its last turn
 abbrev pub last_waiting : List Turn → ℕ → ℕ
 last_waiting [] i = 0
 last_waiting (e ∷ j) i = if e.site == i then e.waiting else last_waiting j i
@@ -34,6 +35,8 @@ pub record AreLastTotals (n : ℕ) (j : List Turn) (s : State) : Type 0 where
   pub ended : s.ended ≡ sum_to n (last_ended j)
   pub living : length s.threads ≡ sum_to n (last_waiting j)
 
+-- the schedule of the journal is a run of the machine to s, which matches the sites and their cells; its equations are sound, one a
+-- variable, the exchanges of each cell are one chain, and a quiet journal means that s is at rest, with the totals told last
 pub record IsSimulated (p : List Stmt) (n : ℕ) (j : List Turn) (f : Sites) (s : State) : Type 0 where
   pub run : Run p (schedule j) s
   pub matches : Matches p n (world_of j f) s

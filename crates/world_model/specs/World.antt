@@ -14,12 +14,15 @@ use Rattle.site_model.specs.Site.{Site, Threads, CellRecord, Counters, initial_s
 use Rattle.site_model.specs.Transition.{Transition}
 use Rattle.world_model.specs.Schedule.{lines_in}
 
+-- the state of each site, by its number
 abbrev pub Sites : Type 0
 Sites = ℕ → Site
 
+-- the messages that travel, with their numbers
 abbrev pub Mail : Type 0
 Mail = List (ℕ × Sent)
 
+-- the sites, how many messages were sent, those that travel, and the lines printed so far
 pub record World : Type 0 where
   pub sites : Sites
   pub sent : ℕ
@@ -36,6 +39,7 @@ put f i s = at_put f i s
 
 -- ---- what each site has of a kind
 
+-- their equations, what they keep of variables, their threads, their records of cells, who asked last for a cell, and their counters
 abbrev pub eqs : Sites → ℕ → Store
 eqs f i = (f i).equations
 
@@ -67,6 +71,7 @@ after_transition w i d = record {
   lines = w.lines ++ d.lines;
 }
 
+-- the messages without the one of this number
 abbrev pub without_number : ℕ → Mail → Mail
 without_number k ms = filter (λ (m : ℕ × Sent). not (k == m.0)) ms
 
@@ -83,5 +88,6 @@ IsOnItsWay mail k to m = Contains mail (k, record { to = to; msg = m })
 abbrev pub world_of : List Turn → Sites → World
 world_of j f = record { sites = f; sent = length (sent_of j); mail = travelling j; lines = lines_in j }
 
+-- the sites of a program at the start, without messages
 abbrev pub start_world : List Stmt → World
 start_world p = record { sites = initial_site p; sent = 0; mail = []; lines = [] }

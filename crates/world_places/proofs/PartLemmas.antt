@@ -13,7 +13,7 @@ use Rattle.bind_protocol.proofs.ListLemmas.{there_counted}
 use Rattle.site_model.specs.Site.{Site, Counters, ThreadState, thread_state, cell_record}
 use Rattle.site_model.specs.Transition.{Transition, sequence}
 use Rattle.world_model.proofs.MailLemmas.{nothing}
-use Rattle.world_messages.specs.Asked.{is_spawn}
+use Rattle.world_messages.specs.BindRequests.{is_spawn}
 use Rattle.world_messages.specs.Messages.{spawns, fresh_in, threads_among}
 use Rattle.world_messages.proofs.PickLemmas.{spawned, Still, threads_in_both}
 use Rattle.world_places.specs.Places.{home_of}

@@ -24,9 +24,9 @@ use Rattle.world_model.specs.World.{Sites, put}
 use Rattle.world_model.proofs.KeyLemmas.{running_old}
 use Rattle.world_model.proofs.MailLemmas.{nothing}
 use Rattle.world_model.proofs.PutLemmas.{nat_decides, at_all, at_here, at_other}
-use Rattle.world_messages.specs.Asked.{is_spawn}
+use Rattle.world_messages.specs.BindRequests.{is_spawn}
 use Rattle.world_messages.specs.Messages.{fresh_in, threads_among}
-use Rattle.world_messages.proofs.CountedLemmas.{counted_in}
+use Rattle.world_messages.proofs.CountLemmas.{counted_in}
 use Rattle.world_messages.proofs.PickLemmas.{PicksOn, turn_picks}
 use Rattle.world_messages.proofs.RunLemmas.{Entry, every_run}
 use Rattle.world_places.specs.Places.{home_of, IsPlacedAt, IsRequested, ThreadsStayHome, ThreadsAlwaysStayHome}

@@ -37,7 +37,7 @@ use Rattle.site_model.specs.Unit.{next_names, counter_after, counters_after, fre
 use Rattle.site_model.specs.Turn.{AreUnits, SiteTurn}
 use Rattle.world_model.proofs.CellLemmas.{OnlyCells, request_only}
 use Rattle.world_model.proofs.MailLemmas.{nothing}
-use Rattle.world_messages.specs.Asked.{is_spawn}
+use Rattle.world_messages.specs.BindRequests.{is_spawn}
 use Rattle.world_messages.specs.Messages.{fresh_in, threads_among}
 use Rattle.world_messages.proofs.AskRowLemmas.{NewBirth, stack_new, more_threads, runs_stay, made_stay, cell_threads}
 use Rattle.world_messages.proofs.DeedLemmas.{unit_tally}

@@ -12,7 +12,7 @@ use Rattle.oz_model.specs.Run.{first_thread}
 use Rattle.site_model.specs.Messages.{bind_pick}
 use Rattle.site_model.specs.Run.{WorldRun, delivered_message}
 use Rattle.site_model.specs.Site.{Site}
-use Rattle.world_messages.specs.Asked.{is_spawn}
+use Rattle.world_messages.specs.BindRequests.{is_spawn}
 use Rattle.world_messages.specs.Messages.{fresh_in, threads_among}
 
 -- the site to which a turn of site i sends the thread among these messages; without a Spawn of it the thread stays there

@@ -1,8 +1,8 @@
 pub mod CopyLemmas
 pub mod TurnLemmas
 pub mod PartLemmas
-pub mod PaidLemmas
-pub mod SaidLemmas
+pub mod PaymentLemmas
+pub mod MessageLemmas
 pub mod OwnLemmas
 pub mod CountLemmas
 pub mod TravelLemmas

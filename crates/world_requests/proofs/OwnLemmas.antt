@@ -37,8 +37,8 @@ use Rattle.world_requests.specs.Requests.{exchange_count, asks_for, gets_for, fo
 use Rattle.world_requests.proofs.CopyLemmas.{lost_any, all_less, all_zero}
 use Rattle.world_requests.proofs.PartLemmas.{PartPays, part_pays, going_in}
 use Rattle.world_requests.proofs.TurnLemmas.{Taken, real, paid_before, takes}
-use Rattle.world_requests.proofs.PaidLemmas.{weight_of, all_gets_taken, turn_pays, whole_part}
-use Rattle.world_requests.proofs.SaidLemmas.{turn_gets, turn_next, all_gets, all_next, heard_answers, heard_next}
+use Rattle.world_requests.proofs.PaymentLemmas.{weight_of, all_gets_taken, turn_pays, whole_part}
+use Rattle.world_requests.proofs.MessageLemmas.{turn_gets, turn_next, all_gets, all_next, heard_answers, heard_next}
 
 module _ (p : List Stmt) (n limit : ℕ) (is : IsProgram p) (few : 1 ≤ n) (many : n ≤ 64) (short : limit ≤ 256) (j : List Turn) (e : Turn) (f : Sites) (d : Transition) (entry : Entry p n limit j e f d) where
   abbrev first : World

@@ -23,7 +23,7 @@ use Rattle.world_cells.proofs.ChainLemmas.{number_or}
 use Rattle.world_messages.proofs.RunLemmas.{Entry, every_run}
 use Rattle.world_simulation.proofs.SimulationLemmas.{paid}
 use Rattle.world_requests.specs.Requests.{asked_by, puts_delivered, puts_taken, exchange_count, asks_for, names_next, is_put, gets_for, forwards_for, in_turns_of, exchanges_at, IsTurnPaid, AreRequestsServed, TurnsArePaid, ExchangesAreSplit, RequestsAreServed}
-use Rattle.world_requests.proofs.PaidLemmas.{whole_part}
+use Rattle.world_requests.proofs.PaymentLemmas.{whole_part}
 use Rattle.world_requests.proofs.OwnLemmas.{turn_is_paid, own_gets, answers, none_of_owner}
 use Rattle.world_requests.proofs.CountLemmas.{passes, came_of, came, no_more, none_lost}
 use Rattle.world_requests.proofs.TravelLemmas.{few_puts}

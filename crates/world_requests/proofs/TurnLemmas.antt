@@ -18,7 +18,7 @@ use Rattle.site_model.specs.Run.{delivered_message, message_of}
 use Rattle.world_model.specs.Schedule.{schedule, lines_in}
 use Rattle.world_model.specs.World.{World, Sites, IsOnItsWay, put, after_transition, after_receipt, mail_from, world_of}
 use Rattle.world_model.proofs.MailLemmas.{acts_after, same_world}
-use Rattle.world_variables.specs.Rows.{IsElsewhere}
+use Rattle.world_variables.specs.Laws.{IsForeignBinding}
 use Rattle.world_variables.proofs.JournalLemmas.{came_acts, came_is, mail_of, mail_after}
 use Rattle.world_cells.proofs.TurnLemmas.{Paid, quiet_paid, delivering_paid}
 use Rattle.world_messages.proofs.RunLemmas.{Entry}
@@ -29,7 +29,7 @@ pub record Taken (p : List Stmt) (n : ℕ) (j : List Turn) (e : Turn) (s : Site)
   pub is : delivered_message j (Some k) ≡ Some m
   pub at : IsOnItsWay (travelling j) k e.site m
   pub fit : IsFit p n s m
-  pub elsewhere : IsElsewhere e.site m
+  pub elsewhere : IsForeignBinding e.site m
 
 module _ (p : List Stmt) (n limit : ℕ) (is : IsProgram p) (few : 1 ≤ n) (many : n ≤ 64) (short : limit ≤ 256) (j : List Turn) (e : Turn) (f : Sites) (d : Transition) (entry : Entry p n limit j e f d) where
   abbrev pub before : World
@@ -61,7 +61,7 @@ module _ (p : List Stmt) (n limit : ℕ) (is : IsProgram p) (few : 1 ≤ n) (man
   pub takes : (k : ℕ) → e.delivered ≡ Some k → (m : Msg) × Taken p n j e (f e.site) k m
   takes k q = go (entry.wired k q)
     where
-      elsewhere : (m : Msg) → CanTake (f e.site) m → IsElsewhere e.site m
+      elsewhere : (m : Msg) → CanTake (f e.site) m → IsForeignBinding e.site m
       elsewhere (msg.Binding x t bundle) c = λ own. c.0 (own ∙ sym number)
       elsewhere (msg.Spawn o code vars bundle) c = tt
       elsewhere (msg.Register x o) c = tt

@@ -28,6 +28,7 @@ abbrev pub names_next : CellName → ℕ → Msg → Bool
 names_next c s (msg.Forward d k) = equal_cell c d && (k == s)
 names_next c s _ = false
 
+-- a Put of the cell
 abbrev pub is_put : CellName → Msg → Bool
 is_put c (msg.Put d v bundle) = equal_cell c d
 is_put c _ = false

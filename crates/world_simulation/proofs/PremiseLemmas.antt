@@ -18,7 +18,7 @@ use Rattle.thread_roster.specs.declared.mode.Mode.TheVariants.{WaitsFor}
 use Rattle.site_model.specs.Messages.{birth}
 use Rattle.world_model.specs.World.{Sites, IsOnItsWay, threads, world_of}
 use Rattle.world_model.specs.Matches.{IsThreadAt, IsInSpawn, Matches, CellsMatch}
-use Rattle.world_messages.specs.Asked.{BringsThread, ThreadsPlaced}
+use Rattle.world_messages.specs.BindRequests.{BringsThread, ThreadsPlaced}
 
 module _ (p : List Stmt) (n : ℕ) (j : List Turn) (f : Sites) (s : State) (m : Matches p n (world_of j f) s) (c : CellsMatch (world_of j f) s) where
   travels : (k to : ℕ) (o : Msg) → IsTravelling j k (record { to = to; msg = o }) → IsOnItsWay (travelling j) k to o

@@ -16,7 +16,7 @@ use Rattle.site_model.specs.Transition.{Transition}
 use Rattle.site_model.specs.Fit.{IsFit}
 use Rattle.site_model.specs.Run.{WorldRun, IsReachedBy, delivered_message, message_of}
 use Rattle.world_model.specs.Names.{here_at}
-use Rattle.world_variables.specs.Rows.{PartsIn}
+use Rattle.world_variables.specs.Laws.{PartsIn}
 use Rattle.world_model.specs.World.{Sites, World, IsOnItsWay, records, put, world_of}
 use Rattle.world_cells.specs.FitRuns.{IsFitEntry, SiteFitRun}
 use Rattle.world_model.specs.Matches.{CellsMatch, IsExchange}
@@ -30,7 +30,7 @@ use Rattle.world_cells.proofs.SimulatedLemmas.{fit_runs_are_simulated}
 use Rattle.world_model.proofs.PutLemmas.{nat_decides, at_all}
 use Rattle.world_messages.specs.Fitting.{TokensServe, WorldFits, HeardWaits, TokenWaits, AreServed}
 use Rattle.world_model.specs.Simulated.{IsSimulated}
-use Rattle.world_messages.specs.Asked.{ThreadsArePlaced}
+use Rattle.world_messages.specs.BindRequests.{ThreadsArePlaced}
 use Rattle.world_messages.proofs.FewMessages as few
 use Rattle.world_simulation.proofs.PremiseLemmas.{threads_placed}
 use Rattle.world_simulation.specs.Messages.{MessagesAreFew, RequestsAreSingle, CellRequestsArePaid}

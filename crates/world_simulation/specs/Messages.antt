@@ -1,5 +1,5 @@
 -- How many messages a run sends at most.
-use Rattle.std.specs.Prelude.{◌≡◌, ℕ, ◌+◌, ◌*◌, ◌-◌, ◌≤◌, List, [], ◌∷◌, length, Option, Some, None}
+use Rattle.std.specs.Prelude.{◌≡◌, ℕ, ◌+◌, ◌*◌, ◌≤◌, List, [], ◌∷◌, length, Option, Some, None}
 use Rattle.tree_node.specs.declared.names.VarName.{VarName}
 use Rattle.tree_node.specs.declared.names.CellName.{CellName}
 use Rattle.tree_node.specs.State.{State}
@@ -14,20 +14,19 @@ use Rattle.site_message.specs.Journal.{sent_of, travelling}
 use Rattle.site_model.specs.Site.{Site}
 use Rattle.site_model.specs.Run.{WorldRun}
 use Rattle.world_model.specs.Schedule.{schedule}
-use Rattle.world_messages.specs.Asked.{requests}
+use Rattle.world_messages.specs.BindRequests.{requests}
 use Rattle.world_cells.specs.CellCounts.{IsTallied}
 use Rattle.tree_node.specs.declared.names.ThreadName.{ThreadName}
 use Rattle.tree_node.specs.Assoc.{value_of}
 use Rattle.tree_node.specs.Goal.{equal_cell}
-use Rattle.world_messages.specs.Messages.{vars_made, threads_made, spawns, asks_to_know, tells_binding, asks_to_bind}
+use Rattle.world_messages.specs.Messages.{variable_messages, spawns, asks_to_know, tells_binding, asks_to_bind}
 
--- with T threads, the first among them, and V variables made by the schedule, the messages that are not a cell's are at
--- most T + 2 * V * (n - 1) + T * V
+-- the messages that are not a cell's are at most `variable_messages` of the schedule
 abbrev pub MessagesAreFew : Type 0
 MessagesAreFew =
     (p : List Stmt) (n limit : ℕ) (j : List Turn) (w : ℕ → Site) → IsProgram p → 1 ≤ n → n ≤ 64 → limit ≤ 256 → WorldRun p n limit j w →
     count_by spawns (sent_of j) + count_by asks_to_know (sent_of j) + count_by tells_binding (sent_of j) + count_by asks_to_bind (sent_of j)
-    ≤ length (threads_made (schedule j)) + 2 * (length (vars_made (schedule j)) * (n - 1)) + length (threads_made (schedule j)) * length (vars_made (schedule j))
+    ≤ variable_messages n (schedule j)
 
 -- no thread sends two requests to bind one variable
 abbrev pub RequestsAreSingle : Type 0
@@ -61,6 +60,4 @@ abbrev pub AllMessagesAreFew : Type 0
 AllMessagesAreFew =
     (p : List Stmt) (n limit : ℕ) (j : List Turn) (w : ℕ → Site) → IsProgram p → 1 ≤ n → n ≤ 64 → limit ≤ 256 → WorldRun p n limit j w →
     (s : State) × Run p (schedule j) s
-    × (length (sent_of j)
-    ≤ length (threads_made (schedule j)) + 2 * (length (vars_made (schedule j)) * (n - 1)) + length (threads_made (schedule j)) * length (vars_made (schedule j))
-    + sum_over (λ c. 3 * (length (exchanges p (schedule j) c) + n)) s.cells)
+    × (length (sent_of j) ≤ variable_messages n (schedule j) + sum_over (λ c. 3 * (length (exchanges p (schedule j) c) + n)) s.cells)

@@ -37,8 +37,9 @@ IsOfSite = OnOthers (λ (x : Name). 1 ≤ site_of x)
 
 -- each equation that a site knows or a message tells is its variable's owner's; a variable has one at most, and links lead
 -- down, also those that are asked for. Each variable at a site is its own or met there; a met one that is not known bound is
--- registered at its owner, or will be, or a Binding comes. Each name is of a site from 1 on, which made it. The sites that asked for a cell are
--- one chain from its token on, and a cell that was not made is nowhere. Each message that travels is fit for its site
+-- registered at its owner, or will be, or a Binding comes. Each name is of a site from 1 on, which made it. The sites that asked
+-- for a cell are one chain from its token on, and a cell that was not made is nowhere. Each message that travels is fit for its
+-- site
 pub record ProtocolsHold (p : List Stmt) (n : ℕ) (j : List Turn) (w : ℕ → Site) : Type 0 where
   pub known : (i : ℕ) (e : Equation) → Contains (w i).equations e → Contains (w e.0.site).equations e
   pub told : (k : ℕ) (m : Sent) → IsTravelling j k m → Each (λ (e : Equation). Contains (w e.0.site).equations e) (equations_in m.msg)

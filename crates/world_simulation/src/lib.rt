@@ -6,9 +6,9 @@
 //! a state of the centralised machine to which the picks of the journal lead; the sites, their cells and the travelling
 //! messages match it, its lines are the journal's, each variable has at most one equation, the exchanges of each cell are one
 //! chain; where the run is quiet the machine rests, and its ended and waiting threads are those that the sites told last
-//! (`IsSimulated`); and no delivered message was unfit. By `protocols_hold`: what the two protocols keep between the entries of every run (`ProtocolsHold`), among it
-//! that each message that travels is fit for its site; and what a site knows stays known. By `messages_are_few`: how many
-//! messages a run sends at most.
+//! (`IsSimulated`); and no delivered message was unfit. By `protocols_hold`: what the two protocols keep between the entries of
+//! every run (`ProtocolsHold`), among it that each message that travels is fit for its site; and what a site knows stays known. By
+//! `messages_are_few`: how many messages a run sends at most.
 //!
 //! It stands on `world_cells`, which proves the simulation where each delivered message is fit, and on `world_messages`, which
 //! proves that it is fit where the simulation holds: one induction over the journal joins them. It has no code, and no

@@ -20,14 +20,14 @@ use Rattle.site_model.specs.Site.{Threads, Counters}
 use Rattle.site_model.specs.Fit.{EachOfMsg}
 use Rattle.world_model.specs.World.{Mail, IsOnItsWay}
 use Rattle.world_model.specs.Names.{IsHere, AreHome, IsMade, AreMailNamesMade}
-use Rattle.world_model.specs.Matches.{equations_in, Knowledge, AreKept, Placed, IsTold, AreTold, IsAddressed, Addressed, IsBound, NeedsFirst, IsAsked, IsAwaited, Waiting, PartsMatch}
+use Rattle.world_model.specs.Matches.{equations_in, EquationsMatch, AllRecordsMatch, ThreadsMatch, IsTold, AreTold, IsAddressed, AreAddressed, IsBound, NeedsFirst, IsAsked, IsAwaited, WaitersMatch, PartsMatch}
 use Rattle.world_model.proofs.MailLemmas.{sent_to, Posts, Gone}
 use Rattle.world_variables.proofs.LearnLemmas.{placed_alike}
 
 -- ---- messages are sent
 
 module _ (mail more : Mail) (out : List Sent) (posts : Posts mail more out) where
-  pub knowledge_posts : (eqs : ℕ → Store) (c : Store) → ((to : ℕ) (m : Msg) → Contains out (sent_to to m) → Each (Contains c) (equations_in m)) → Knowledge eqs mail c → Knowledge eqs more c
+  pub knowledge_posts : (eqs : ℕ → Store) (c : Store) → ((to : ℕ) (m : Msg) → Contains out (sent_to to m) → Each (Contains c) (equations_in m)) → EquationsMatch eqs mail c → EquationsMatch eqs more c
   knowledge_posts eqs c new k = record { one = k.one; down = k.down; owned = k.owned; known = k.known; told = λ i to m h. go i to m (posts.from i to m h) }
     where
       go : (i to : ℕ) (m : Msg) → IsOnItsWay mail i to m ⊎ Contains out (sent_to to m) → Each (Contains c) (equations_in m)
@@ -39,7 +39,7 @@ module _ (mail more : Mail) (out : List Sent) (posts : Posts mail more out) wher
   told_posts records i x (inr (inl h)) = inr (inl (h.0, posts.old h.0 _ _ h.1))
   told_posts records i x (inr (inr h)) = inr (inr (h.0, h.1, h.2, posts.old h.0 _ _ h.3))
 
-  pub addressed_posts : (records : ℕ → Records) → ((to : ℕ) (m : Msg) → Contains out (sent_to to m) → IsAddressed records to m) → Addressed records mail → Addressed records more
+  pub addressed_posts : (records : ℕ → Records) → ((to : ℕ) (m : Msg) → Contains out (sent_to to m) → IsAddressed records to m) → AreAddressed records mail → AreAddressed records more
   addressed_posts records new k i to m h = go (posts.from i to m h)
     where
       go : IsOnItsWay mail i to m ⊎ Contains out (sent_to to m) → IsAddressed records to m
@@ -60,7 +60,7 @@ module _ (mail more : Mail) (out : List Sent) (posts : Posts mail more out) wher
   -- where each request among them is awaited
   pub waiting_posts : (p : List Stmt) (eqs : ℕ → Store) (records : ℕ → Records) (threads : ℕ → Threads) (c : Store) →
       ((to : ℕ) (x : VarName) (t : Term) (n : ThreadName) (bundle : List Equation) → Contains out (sent_to to (msg.BindReq x n t bundle)) → IsAwaited p eqs threads c x t n) →
-      Waiting p eqs records threads mail c → Waiting p eqs records threads more c
+      WaitersMatch p eqs records threads mail c → WaitersMatch p eqs records threads more c
   waiting_posts p eqs records threads c new k = record {
     asks = λ i to x t n bundle h. go to x t n bundle i (posts.from i to _ h);
     waits = λ i n st x h. let o = k.waits i n st x h in (o.0, o.1, still n x i st o.2);
@@ -77,7 +77,7 @@ module _ (mail more : Mail) (out : List Sent) (posts : Posts mail more out) wher
 
   pub placed_posts : (p : List Stmt) (threads : ℕ → Threads) (ts : List (ThreadName × Stack)) →
       ((to : ℕ) (n : ThreadName) (code : CodeId) (vars : List VarName) (bundle : List Equation) → Contains out (sent_to to (msg.Spawn n code vars bundle)) → ⊥) →
-      Placed p threads mail ts → Placed p threads more ts
+      ThreadsMatch p threads mail ts → ThreadsMatch p threads more ts
   placed_posts p threads ts none k = placed_alike _ _ _ _ (value_of equal_thread ts) (λ i n st h. h) (λ i n st h. h)
       (λ i n st h. (h.0, h.1, h.2, h.3, posts.old i h.0 _ h.4, h.5)) (λ i n st h. (h.0, h.1, h.2, h.3, back i h.0 n h.1 h.2 h.3 h.4, h.5)) k
     where
@@ -91,10 +91,10 @@ module _ (mail more : Mail) (out : List Sent) (posts : Posts mail more out) wher
 -- ---- a message is gone
 
 module _ (k : ℕ) (mail less : Mail) (gone : Gone k mail less) where
-  pub knowledge_gone : (eqs : ℕ → Store) (c : Store) → Knowledge eqs mail c → Knowledge eqs less c
+  pub knowledge_gone : (eqs : ℕ → Store) (c : Store) → EquationsMatch eqs mail c → EquationsMatch eqs less c
   knowledge_gone eqs c o = record { one = o.one; down = o.down; owned = o.owned; known = o.known; told = λ i to m h. o.told i to m (gone.old i to m h).0 }
 
-  pub addressed_gone : (records : ℕ → Records) → Addressed records mail → Addressed records less
+  pub addressed_gone : (records : ℕ → Records) → AreAddressed records mail → AreAddressed records less
   addressed_gone records o i to m h = o i to m (gone.old i to m h).0
 
   pub said_gone : (made : ℕ → Counters) → AreMailNamesMade made mail → AreMailNamesMade made less
@@ -125,7 +125,7 @@ module _ (k : ℕ) (mail less : Mail) (gone : Gone k mail less) where
   -- who asked by it sees the variable bound
   pub waiting_gone : (p : List Stmt) (eqs : ℕ → Store) (records : ℕ → Records) (threads : ℕ → Threads) (c : Store) →
       ((to : ℕ) (x : VarName) (t : Term) (n : ThreadName) (bundle : List Equation) → IsOnItsWay mail k to (msg.BindReq x n t bundle) → IsBound c x) →
-      Waiting p eqs records threads mail c → Waiting p eqs records threads less c
+      WaitersMatch p eqs records threads mail c → WaitersMatch p eqs records threads less c
   waiting_gone p eqs records threads c bound o = record {
     asks = λ i to x t n bundle h. o.asks i to x t n bundle (gone.old i to _ h).0;
     waits = λ i n st x h. let q = o.waits i n st x h in (q.0, q.1, still n x i st q.2);
@@ -147,7 +147,7 @@ module _ (k : ℕ) (mail less : Mail) (gone : Gone k mail less) where
   -- a Spawn apart, threads are where they were
   pub placed_gone : (p : List Stmt) (threads : ℕ → Threads) (ts : List (ThreadName × Stack)) →
       ((to : ℕ) (n : ThreadName) (code : CodeId) (vars : List VarName) (bundle : List Equation) → IsOnItsWay mail k to (msg.Spawn n code vars bundle) → ⊥) →
-      Placed p threads mail ts → Placed p threads less ts
+      ThreadsMatch p threads mail ts → ThreadsMatch p threads less ts
   placed_gone p threads ts none o = placed_alike _ _ _ _ (value_of equal_thread ts) (λ i n st h. h) (λ i n st h. h)
       (λ i n st h. (h.0, h.1, h.2, h.3, gone.kept i h.0 _ h.4 (not_it i h.0 n h.1 h.2 h.3 h.4), h.5)) (λ i n st h. (h.0, h.1, h.2, h.3, (gone.old i h.0 _ h.4).0, h.5)) o
     where
@@ -164,7 +164,7 @@ pub record Wider (old new : ℕ → Records) : Type 0 where
   pub listed : (i : ℕ) (x : VarName) (k : ℕ) → Contains (sites_in (old i) x) k → Contains (sites_in (new i) x) k
 
 module _ (records more : ℕ → Records) (wide : Wider records more) where
-  pub kept_wider : (eqs : ℕ → Store) → AreKept records eqs → AreKept more eqs
+  pub kept_wider : (eqs : ℕ → Store) → AllRecordsMatch records eqs → AllRecordsMatch more eqs
   kept_wider eqs k i = record {
     site = wide.site i ∙ (k i).site;
     bound = λ x t h. (k i).bound x t (wide.bound i x t h);
@@ -176,7 +176,7 @@ module _ (records more : ℕ → Records) (wide : Wider records more) where
   here_wider i x (inl h) = inl h
   here_wider i x (inr h) = inr (wide.known i x h)
 
-  pub addressed_wider : (mail : Mail) → Addressed records mail → Addressed more mail
+  pub addressed_wider : (mail : Mail) → AreAddressed records mail → AreAddressed more mail
   addressed_wider mail k i to m h = still m (k i to m h)
     where
       still : (m : Msg) → IsAddressed records to m → IsAddressed more to m
@@ -192,7 +192,7 @@ module _ (records more : ℕ → Records) (wide : Wider records more) where
   told_wider mail i x (inl h) = inl (wide.listed x.site x i h)
   told_wider mail i x (inr h) = inr h
 
-  pub waiting_wider : (p : List Stmt) (eqs : ℕ → Store) (threads : ℕ → Threads) (mail : Mail) (c : Store) → Waiting p eqs records threads mail c → Waiting p eqs more threads mail c
+  pub waiting_wider : (p : List Stmt) (eqs : ℕ → Store) (threads : ℕ → Threads) (mail : Mail) (c : Store) → WaitersMatch p eqs records threads mail c → WaitersMatch p eqs more threads mail c
   waiting_wider p eqs threads mail c k = record {
     asks = k.asks;
     waits = λ i n st x h. let o = k.waits i n st x h in (o.0, here_wider i x o.1, o.2);

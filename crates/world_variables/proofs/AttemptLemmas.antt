@@ -25,13 +25,13 @@ use Rattle.site_model.specs.Unit.{with_waiting}
 use Rattle.site_model.proofs.BundleLemmas.{bundle_known}
 use Rattle.world_model.specs.World.{World, after_transition, mail_from, eqs, records, threads, counters}
 use Rattle.world_model.specs.Names.{IsHere, IsMade}
-use Rattle.world_model.specs.Matches.{IsWanted}
+use Rattle.world_model.specs.Matches.{HasAllowedBind}
 use Rattle.world_model.proofs.PutLemmas.{at_own}
 use Rattle.world_model.proofs.MailLemmas.{sent_to}
 use Rattle.world_variables.proofs.TellLemmas.{each_of}
 use Rattle.world_variables.proofs.ModeLemmas.{mode_parts, ask_parts}
 use Rattle.world_variables.proofs.RowLemmas.{to_put, unsent}
-use Rattle.world_variables.specs.Rows.{PartsIn}
+use Rattle.world_variables.specs.Laws.{PartsIn}
 use Rattle.tree_node.proofs.OrderLemmas.{Each-member}
 
 module _ (p : List Stmt) (hereF : ℕ → Name → Type 0) (w : World) (c : State) (i : ℕ) (n : ThreadName) (st : Stack) (h : PartsIn p hereF w c) (at : value_of equal_thread (threads w.sites i) n ≡ Some (st, Runs)) where
@@ -41,7 +41,7 @@ module _ (p : List Stmt) (hereF : ℕ → Name → Type 0) (w : World) (c : Stat
       (rw (at_own (eqs w.sites) i, at_own (records w.sites) i, at_own (counters w.sites) i)
       (mode_parts p hereF (eqs w.sites) (records w.sites) (threads w.sites) (counters w.sites) w.mail c h i n st (site.Waits z) at (free, is, inl (x, need, joined))))
 
-  pub ask_row : (limit : ℕ) (u : VarName) (t : Term) → IsFree (eqs w.sites i) u → IsHere (records w.sites i) u → IsHere (records w.sites u.site) u → IsWanted p (eqs w.sites i) st u t → EachOfEquation (IsMade (counters w.sites)) (u, t) → IsMade (counters w.sites) (name.Thread n) →
+  pub ask_row : (limit : ℕ) (u : VarName) (t : Term) → IsFree (eqs w.sites i) u → IsHere (records w.sites i) u → IsHere (records w.sites u.site) u → HasAllowedBind p (eqs w.sites i) st u t → EachOfEquation (IsMade (counters w.sites)) (u, t) → IsMade (counters w.sites) (name.Thread n) →
       PartsIn p hereF (after_transition w i (with_messages (with_waiting n st u (w.sites i)) (with_own_bundle limit (w.sites i).equations (request u t n) ∷ []))) c
   ask_row limit u t free is owner wants was named =
       to_put p hereF w.sites i (with_waiting n st u (w.sites i)) (w.mail ++ mail_from w.sent (sent_to u.site (msg.BindReq u n t bundle) ∷ [])) c

@@ -40,7 +40,7 @@ use Rattle.world_model.specs.Matches.{IsNumbered}
 use Rattle.world_model.proofs.PutLemmas.{field_kept, nat_decides}
 use Rattle.world_variables.proofs.UnitLemmas.{SiteStep, CellAgrees, UnitDone, unit_step}
 use Rattle.world_variables.proofs.AttemptLemmas.{wait_row, ask_row}
-use Rattle.world_variables.specs.Rows.{PartsIn}
+use Rattle.world_variables.specs.Laws.{PartsIn}
 use Rattle.oz_model.proofs.EffectNames.{stack_need_has}
 use Rattle.tree_node.proofs.NameLemmas.{same_thread_decides}
 use Rattle.tree_node.proofs.SoundLemmas.{class_names}

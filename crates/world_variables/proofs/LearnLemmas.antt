@@ -38,7 +38,7 @@ use Rattle.thread_roster.specs.declared.mode.Mode.TheVariants as site
 use Rattle.world_model.specs.World.{Mail, IsOnItsWay, at_put}
 use Rattle.world_model.specs.Placed.{IsPlaced}
 use Rattle.world_model.specs.Names.{IsHere, IsHome, AreHome}
-use Rattle.world_model.specs.Matches.{equations_in, Knowledge, IsKept, AreKept, Placed, IsTold, AreTold, IsAddressed, Addressed, IsBound, IsWanted, IsWaiting, NeedsFirst, IsAsked, IsExchange, IsAwaited, Waiting}
+use Rattle.world_model.specs.Matches.{equations_in, EquationsMatch, RecordsMatch, AllRecordsMatch, ThreadsMatch, IsTold, AreTold, IsAddressed, AreAddressed, IsBound, HasAllowedBind, IsWaiting, NeedsFirst, IsAsked, IsExchange, IsAwaited, WaitersMatch}
 use Rattle.world_model.proofs.PutLemmas.{two_all, at_all, at_here}
 use Rattle.world_model.proofs.MailLemmas.{sent_to, Posts}
 use Rattle.world_model.proofs.KeyLemmas.{woken_new, woken_old, wake_waits, wake_other, wake_cell}
@@ -67,7 +67,7 @@ head_or_tail x y t r s h = go (Contains-cons_cases _ _ s h)
 -- ---- what stays where more is known
 
 -- a request that a site allows, where it is still free
-pub wants_more : (p : List Stmt) (s c : Store) (st : Stack) (x : VarName) (t : Term) → IsSound c → HasOneEach c → LinksGoDown c → IsPartOf s c → IsFree c x → IsWanted p s st x t → IsWanted p c st x t
+pub wants_more : (p : List Stmt) (s c : Store) (st : Stack) (x : VarName) (t : Term) → IsSound c → HasOneEach c → LinksGoDown c → IsPartOf s c → IsFree c x → HasAllowedBind p s st x t → HasAllowedBind p c st x t
 wants_more p s c st x t sound one down more free (a, b, need, allows, low) =
     let lower = lower_binds c x t one down free low in
     let kept = binds_stay p s c st a b x t sound (more_is_within s c more) need allows lower.0 lower.1 in
@@ -230,7 +230,7 @@ module _ (p : List Stmt) (eqs : ℕ → Store) (records : ℕ → Records) (thre
 
   -- ---- the parts
 
-  pub learnt_knowledge : Knowledge eqs mail c → Knowledge eqs' more d
+  pub learnt_knowledge : EquationsMatch eqs mail c → EquationsMatch eqs' more d
   learnt_knowledge k = record {
     one = l.one;
     down = l.down;
@@ -255,13 +255,13 @@ module _ (p : List Stmt) (eqs : ℕ → Store) (records : ℕ → Records) (thre
           let r = l.told to m h in
           subst (λ (o : Msg). Each (Contains d) (equations_in o)) (sym r.1) (l.has, r.2)
 
-  learnt_part : Knowledge eqs mail c → (i : ℕ) → HasOneEach (eqs' i) × LinksGoDown (eqs' i)
+  learnt_part : EquationsMatch eqs mail c → (i : ℕ) → HasOneEach (eqs' i) × LinksGoDown (eqs' i)
   learnt_part k i = let more = (learnt_knowledge k).known i in (part_one (eqs' i) d more l.one, part_down (eqs' i) d more l.down)
 
-  pub learnt_kept : Knowledge eqs mail c → AreKept records eqs → AreKept records' eqs'
-  learnt_kept k kept = two_all records eqs j b ((x, t) ∷ eqs j) IsKept here (λ i other. kept i)
+  pub learnt_kept : EquationsMatch eqs mail c → AllRecordsMatch records eqs → AllRecordsMatch records' eqs'
+  learnt_kept k kept = two_all records eqs j b ((x, t) ∷ eqs j) RecordsMatch here (λ i other. kept i)
     where
-      old : IsKept j (records j) (eqs j)
+      old : RecordsMatch j (records j) (eqs j)
       old = kept j
 
       bound : (y : VarName) (r : Term) → (q : Bool) → equal_var y x ≡ q → knowledge b y ≡ Some (Some r) → Contains ((x, t) ∷ eqs j) (y, r)
@@ -281,7 +281,7 @@ module _ (p : List Stmt) (eqs : ℕ → Store) (records : ℕ → Records) (thre
           let other : y ≢ x = λ (e : y ≡ x). l.free r (subst (λ (z : VarName). Contains (eqs j) (z, r)) e h) in
           l.knows.others y other ∙ old.held y r h
 
-      here : IsKept j b ((x, t) ∷ eqs j)
+      here : RecordsMatch j b ((x, t) ∷ eqs j)
       here = record {
         site = l.knows.site ∙ old.site;
         bound = λ y r h. bound y r (equal_var y x) refl h;
@@ -299,7 +299,7 @@ module _ (p : List Stmt) (eqs : ℕ → Store) (records : ℕ → Records) (thre
       go (inl q) = q
       go (inr q) = absurd (only_bindings to _ (λ bs e. cc) q)
 
-  pub learnt_placed : (ts : List (ThreadName × Stack)) → Placed p threads mail ts → Placed p threads' more ts
+  pub learnt_placed : (ts : List (ThreadName × Stack)) → ThreadsMatch p threads mail ts → ThreadsMatch p threads' more ts
   learnt_placed ts k = placed_alike _ _ _ _ (value_of equal_thread ts)
       (λ i n st h. let r = threads_new i n st h.0 h.1 in (r.0, r.1)) (λ i n st h. let r = threads_old i n st h.0 h.1 in (r.0, r.1))
       (λ i n st h. (h.0, h.1, h.2, h.3, l.posts.old i h.0 _ h.4, h.5)) (λ i n st h. (h.0, h.1, h.2, h.3, no_spawn i h.0 n h.1 h.2 h.3 h.4, h.5)) k
@@ -320,7 +320,7 @@ module _ (p : List Stmt) (eqs : ℕ → Store) (records : ℕ → Records) (thre
       go (inr (inl h)) = inr (inl (h.0, l.posts.old h.0 _ _ h.1))
       go (inr (inr h)) = inr (inr (h.0, h.1, h.2, l.posts.old h.0 _ _ h.3))
 
-  pub learnt_addressed : Addressed records mail → Addressed records' more
+  pub learnt_addressed : AreAddressed records mail → AreAddressed records' more
   learnt_addressed k i to m h = go (l.posts.from i to m h)
     where
       still : (m : Msg) → IsAddressed records to m → IsAddressed records' to m
@@ -336,7 +336,7 @@ module _ (p : List Stmt) (eqs : ℕ → Store) (records : ℕ → Records) (thre
       go (inl q) = still m (k i to m q)
       go (inr q) = let r = l.told to m q in subst (λ (o : Msg). IsAddressed records' to o) (sym r.1) tt
 
-  pub learnt_waiting : Knowledge eqs mail c → AreKept records' eqs' → Waiting p eqs records threads mail c → Waiting p eqs' records' threads' more d
+  pub learnt_waiting : EquationsMatch eqs mail c → AllRecordsMatch records' eqs' → WaitersMatch p eqs records threads mail c → WaitersMatch p eqs' records' threads' more d
   learnt_waiting k kept w = record {
     asks = λ i to y r n bundle h. asked i to y r n bundle (l.posts.from i to _ h);
     waits = λ i n st y h. let old = waits_old i n st y h in waiting i n st y old.1 (w.waits i n st y old.0);
@@ -346,7 +346,7 @@ module _ (p : List Stmt) (eqs : ℕ → Store) (records : ℕ → Records) (thre
       grown : (y : VarName) → IsBound c y → IsBound d y
       grown y (r, h) = (r, l.grows (y, r) h)
 
-      decide : (y : VarName) (r : Term) (n : ThreadName) (q : Bool) → equal_var y x ≡ q → (i : ℕ) × (st : Stack) × IsWaiting threads i n st y × IsWanted p (eqs i) st y r → IsAwaited p eqs' threads' d y r n
+      decide : (y : VarName) (r : Term) (n : ThreadName) (q : Bool) → equal_var y x ≡ q → (i : ℕ) × (st : Stack) × IsWaiting threads i n st y × HasAllowedBind p (eqs i) st y r → IsAwaited p eqs' threads' d y r n
       decide y r n true q h = inl (subst (λ (z : VarName). IsBound d z) (sym ((same_name_decides y x).0 q)) (t, l.has))
       decide y r n false q (i, st, at, wants) =
           let other : y ≢ x = λ (e : y ≡ x). let yes : equal_var y x ≡ true = (same_name_decides y x).1 e in cc in

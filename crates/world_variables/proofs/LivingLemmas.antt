@@ -20,7 +20,7 @@ use Rattle.site_message.specs.Journal.{travelling, sent_of, was_delivered}
 use Rattle.site_model.specs.Site.{ThreadState}
 use Rattle.world_model.specs.World.{Sites, Mail, IsOnItsWay, threads}
 use Rattle.world_model.specs.Schedule.{sum_to}
-use Rattle.world_model.specs.Matches.{IsThreadAt, IsInSpawn, Placed, is_spawn, spawn_count, living}
+use Rattle.world_model.specs.Matches.{IsThreadAt, IsInSpawn, ThreadsMatch, one_if_spawn, spawn_count, living}
 use Rattle.world_model.proofs.MailLemmas.{nothing}
 use Rattle.world_variables.proofs.SumLemmas.{names}
 use Rattle.tree_node.proofs.NameLemmas.{same_thread_decides}
@@ -153,7 +153,7 @@ abbrev spawned : Mail → List ThreadName
 spawned [] = []
 spawned (m ∷ ms) = spawned_by m.1.msg ++ spawned ms
 
-by_length : (m : Msg) → length (spawned_by m) ≡ is_spawn m
+by_length : (m : Msg) → length (spawned_by m) ≡ one_if_spawn m
 by_length (msg.Spawn n code vars bundle) = refl
 by_length (msg.Register x k) = refl
 by_length (msg.BindReq x n t bundle) = refl
@@ -265,7 +265,7 @@ travelling_once j = filter_once (λ (m : ℕ × Sent). not (was_delivered j m.0)
 
 -- ---- all
 
-pub all_living : (p : List Stmt) (n : ℕ) (f : Sites) (mail : Mail) (s : State) → Placed p (threads f) mail s.threads → AreDistinct (names s.threads) → ((i : ℕ) → AreDistinct (names (f i).threads)) → AreDistinct (numbers mail) →
+pub all_living : (p : List Stmt) (n : ℕ) (f : Sites) (mail : Mail) (s : State) → ThreadsMatch p (threads f) mail s.threads → AreDistinct (names s.threads) → ((i : ℕ) → AreDistinct (names (f i).threads)) → AreDistinct (numbers mail) →
     ((i : ℕ) (z : ThreadName) (v : ThreadState) → value_of equal_thread (f i).threads z ≡ Some v → (1 ≤ i) × (i ≤ n)) → length s.threads ≡ sum_to n (living f) + spawn_count mail
 all_living p n f mail s placed central once numbered inside = omega (arith, up, down, size, sites, flying, threads_long)
   where

@@ -36,7 +36,7 @@ use Rattle.world_variables.proofs.RegisterLemmas.{MayGo, parts_gone, register_pa
 use Rattle.world_variables.proofs.StepLemmas.{land_parts}
 use Rattle.world_variables.proofs.RowLemmas.{to_put, bind_row}
 use Rattle.world_variables.proofs.AcceptLemmas.{asked_is_step}
-use Rattle.world_variables.specs.Rows.{PartsIn}
+use Rattle.world_variables.specs.Laws.{PartsIn}
 use Rattle.bind_protocol.proofs.LearnLemmas.{binding_learns}
 
 -- a site is told an equation of another site's variable

@@ -26,7 +26,7 @@ use Rattle.world_model.specs.World.{Mail, IsOnItsWay, at_put, mail_from}
 use Rattle.world_model.specs.Names.{IsMade, IsHere, IsHome, AreHome}
 use Rattle.world_model.proofs.MailLemmas.{nothing, sent_to, Posts, posts}
 use Rattle.world_variables.proofs.AlikeLemmas.{knowledge_posts, placed_posts, told_posts, addressed_posts, said_posts, asked_posts}
-use Rattle.world_model.specs.Matches.{IsThreadAt, Placed, IsWanted, IsWaiting, NeedsFirst, IsAsked, IsExchange, IsAwaited, PartsMatch}
+use Rattle.world_model.specs.Matches.{IsThreadAt, ThreadsMatch, HasAllowedBind, IsWaiting, NeedsFirst, IsAsked, IsExchange, IsAwaited, PartsMatch}
 use Rattle.world_model.proofs.PutLemmas.{at_all, at_here}
 use Rattle.world_variables.proofs.LearnLemmas.{placed_alike}
 use Rattle.world_model.proofs.KeyLemmas.{with_here, with_there, goes_cases}
@@ -81,7 +81,7 @@ module _ (p : List Stmt) (here : ℕ → Name → Type 0) (eqs : ℕ → Store) 
     home o v (inl e) = subst (λ (u : ThreadState). EachOfStack (here i) u.0) (sym e.1) ((parts.homes i).stacks n (st, Runs) at)
     home o v (inr h) = (parts.homes i).stacks o v h.1
 
-    mode_placed : Placed p (at_put threads i waits) mail s.threads
+    mode_placed : ThreadsMatch p (at_put threads i waits) mail s.threads
     mode_placed = placed_alike _ _ _ _ (value_of equal_thread s.threads)
         (at_all threads i waits (λ j (ts : Threads). (o : ThreadName) (su : Stack) → IsThreadAt threads j o su → (q : Mode) × (value_of equal_thread ts o ≡ Some (su, q))) (λ o su h. mode_new o su h.0 h.1) (λ j other o su h. h))
         (at_all threads i waits (λ j (ts : Threads). (o : ThreadName) (su : Stack) → (q : Mode) × (value_of equal_thread ts o ≡ Some (su, q)) → IsThreadAt threads j o su) (λ o su h. back o su h.0 (mode_old o (su, h.0) h.1)) (λ j other o su h. h))
@@ -127,7 +127,7 @@ module _ (p : List Stmt) (here : ℕ → Name → Type 0) (eqs : ℕ → Store) 
             rw (ap (λ (v : ThreadState). v.0) e.1) (subst (λ (q : Mode). MayWait p (eqs i) (records i) mail s.equations n st q) (sym modes) may)
 
     -- it asked for a bind, and waits for the answer
-    pub ask_parts : (k : ℕ) (x : VarName) (t : Term) (bundle : List Equation) → m ≡ site.Waits x → IsFree (eqs i) x → IsHere (records i) x → IsHere (records x.site) x → IsWanted p (eqs i) st x t → Each (Contains s.equations) bundle → Fit.EachOfMsg (IsMade made) (msg.BindReq x n t bundle) →
+    pub ask_parts : (k : ℕ) (x : VarName) (t : Term) (bundle : List Equation) → m ≡ site.Waits x → IsFree (eqs i) x → IsHere (records i) x → IsHere (records x.site) x → HasAllowedBind p (eqs i) st x t → Each (Contains s.equations) bundle → Fit.EachOfMsg (IsMade made) (msg.BindReq x n t bundle) →
         PartsMatch p here eqs records (at_put threads i waits) made (mail ++ mail_from k (sent_to x.site (msg.BindReq x n t bundle) ∷ [])) s
     ask_parts k x t bundle mode free is owner wants carried said = record {
       knowledge = knowledge_posts mail more out sent eqs s.equations (λ a o h. rw (only a o h).1 carried) parts.knowledge;

@@ -33,11 +33,11 @@ use Rattle.world_variables.proofs.RecordLemmas.{met_known}
 use Rattle.world_variables.proofs.AlikeLemmas.{parts_weaker}
 use Rattle.world_variables.proofs.RowLemmas.{to_put, unsent, meets_one, meet_row}
 use Rattle.world_variables.proofs.MessageLemmas.{told_parts}
-use Rattle.world_variables.specs.Rows.{PartsIn}
+use Rattle.world_variables.specs.Laws.{PartsIn}
 use Rattle.tree_node.proofs.EachLemmas.{each_append}
 use Rattle.kernel_syntax.proofs.PreorderLemmas.{each_left, each_right}
 use Rattle.bind_protocol.proofs.LearnLemmas.{binding_known, meet_known}
-use Rattle.site_model.proofs.StillLemmas.{told_all_counters, told_counters, meet_site}
+use Rattle.site_model.proofs.FrameLemmas.{told_all_counters, told_counters, meet_site}
 
 -- ---- variables of a term
 

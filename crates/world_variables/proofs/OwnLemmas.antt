@@ -48,10 +48,10 @@ use Rattle.tree_node.specs.Env.{env_for}
 use Rattle.kernel_syntax.specs.Free.{free}
 use Rattle.oz_model.specs.Laws.{nobody}
 use Rattle.oz_model.proofs.ClosureLemmas.{for_names}
-use Rattle.world_variables.specs.Rows.{PartsIn}
+use Rattle.world_variables.specs.Laws.{PartsIn}
 use Rattle.tree_node.proofs.NameLemmas.{same_thread_decides}
 use Rattle.kernel_syntax.proofs.PreorderLemmas.{each_right}
-use Rattle.site_model.proofs.StillLemmas.{binds_counters}
+use Rattle.site_model.proofs.FrameLemmas.{binds_counters}
 
 -- ---- equations are added
 

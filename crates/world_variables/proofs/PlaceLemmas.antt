@@ -19,7 +19,7 @@ use Rattle.thread_roster.specs.declared.mode.Mode.TheVariants as site
 use Rattle.site_model.specs.Unit.{runnable_state}
 use Rattle.world_model.specs.World.{Mail, at_put}
 use Rattle.world_model.specs.Names.{IsHere, AreHome}
-use Rattle.world_model.specs.Matches.{IsThreadAt, IsInSpawn, Placed, IsWaiting, NeedsFirst, IsAsked, IsExchange, IsAwaited, Waiting}
+use Rattle.world_model.specs.Matches.{IsThreadAt, IsInSpawn, ThreadsMatch, IsWaiting, NeedsFirst, IsAsked, IsExchange, IsAwaited, WaitersMatch}
 use Rattle.world_model.proofs.PutLemmas.{at_all, at_here}
 use Rattle.world_model.proofs.MailLemmas.{Gone}
 use Rattle.world_model.proofs.KeyLemmas.{goes_cases, goes_here, goes_there}
@@ -72,7 +72,7 @@ module _ (threads : ℕ → Threads) (i : ℕ) (n : ThreadName) (st : Stack) (no
   pub fronted_here : value_of equal_thread (fronted threads i n st i) n ≡ Some (st, Runs)
   fronted_here = subst (λ (ts : Threads). value_of equal_thread ts n ≡ Some (st, Runs)) (sym (at_here threads i ((n, (st, Runs)) ∷ threads i))) (front_own (threads i) n (st, Runs))
 
-  pub waiting_fronted : (p : List Stmt) (eqs : ℕ → Store) (records : ℕ → Records) (mail : Mail) (c : Store) → Waiting p eqs records threads mail c → Waiting p eqs records (fronted threads i n st) mail c
+  pub waiting_fronted : (p : List Stmt) (eqs : ℕ → Store) (records : ℕ → Records) (mail : Mail) (c : Store) → WaitersMatch p eqs records threads mail c → WaitersMatch p eqs records (fronted threads i n st) mail c
   waiting_fronted p eqs records mail c w = record {
     asks = λ k to x t o bundle h. asked x t o (w.asks k to x t o bundle h);
     waits = λ j o su x h. wait j o su x (fronted_old j o (su, site.Waits x) h);
@@ -100,19 +100,19 @@ module _ (threads : ℕ → Threads) (i : ℕ) (n : ThreadName) (st : Stack) (no
       go o v (inr q) = (h j).stacks o v q.1
 
 -- what is nowhere at the centre is at no site, and in no message
-pub none_at : (p : List Stmt) (threads : ℕ → Threads) (mail : Mail) (ts : List (ThreadName × Stack)) (n : ThreadName) → Placed p threads mail ts → value_of equal_thread ts n ≡ None → (j : ℕ) → value_of equal_thread (threads j) n ≡ None
+pub none_at : (p : List Stmt) (threads : ℕ → Threads) (mail : Mail) (ts : List (ThreadName × Stack)) (n : ThreadName) → ThreadsMatch p threads mail ts → value_of equal_thread ts n ≡ None → (j : ℕ) → value_of equal_thread (threads j) n ≡ None
 none_at p threads mail ts n k none j = go (value_of equal_thread (threads j) n) refl
   where
     go : (o : Option ThreadState) → value_of equal_thread (threads j) n ≡ o → value_of equal_thread (threads j) n ≡ None
     go None e = e
     go (Some v) e = let both : None ≡ Some v.0 = sym none ∙ k.up j n v.0 (v.1, e) in cc
 
-pub none_comes : (p : List Stmt) (threads : ℕ → Threads) (mail : Mail) (ts : List (ThreadName × Stack)) (n : ThreadName) → Placed p threads mail ts → value_of equal_thread ts n ≡ None → (l : ℕ) (st : Stack) → IsInSpawn p mail l n st → ⊥
+pub none_comes : (p : List Stmt) (threads : ℕ → Threads) (mail : Mail) (ts : List (ThreadName × Stack)) (n : ThreadName) → ThreadsMatch p threads mail ts → value_of equal_thread ts n ≡ None → (l : ℕ) (st : Stack) → IsInSpawn p mail l n st → ⊥
 none_comes p threads mail ts n k none l st h = let both : None ≡ Some st = sym none ∙ k.flies l n st h in cc
 
 -- a new thread at a site
-pub placed_birth : (p : List Stmt) (threads : ℕ → Threads) (mail : Mail) (ts : List (ThreadName × Stack)) (i : ℕ) (n : ThreadName) (st : Stack) → value_of equal_thread ts n ≡ None → Placed p threads mail ts →
-    Placed p (fronted threads i n st) mail ((n, st) ∷ ts)
+pub placed_birth : (p : List Stmt) (threads : ℕ → Threads) (mail : Mail) (ts : List (ThreadName × Stack)) (i : ℕ) (n : ThreadName) (st : Stack) → value_of equal_thread ts n ≡ None → ThreadsMatch p threads mail ts →
+    ThreadsMatch p (fronted threads i n st) mail ((n, st) ∷ ts)
 placed_birth p threads mail ts i n st none k = record {
   up = λ j o su h. up j o su (old j o (su, h.0) h.1);
   flies = λ l o su h. front_stays ts n o st su none (k.flies l o su h);
@@ -153,15 +153,15 @@ placed_birth p threads mail ts i n st none k = record {
     apart j l o v u {a} (inr h) g = k.apart j l o v u (a, h.1) g
 
 -- a thread lands: its message is gone, and it is at a site
-pub lands_none : (p : List Stmt) (threads : ℕ → Threads) (mail : Mail) (ts : List (ThreadName × Stack)) (l : ℕ) (n : ThreadName) (st : Stack) → Placed p threads mail ts → IsInSpawn p mail l n st → (j : ℕ) → value_of equal_thread (threads j) n ≡ None
+pub lands_none : (p : List Stmt) (threads : ℕ → Threads) (mail : Mail) (ts : List (ThreadName × Stack)) (l : ℕ) (n : ThreadName) (st : Stack) → ThreadsMatch p threads mail ts → IsInSpawn p mail l n st → (j : ℕ) → value_of equal_thread (threads j) n ≡ None
 lands_none p threads mail ts l n st k brings j = go (value_of equal_thread (threads j) n) refl
   where
     go : (o : Option ThreadState) → value_of equal_thread (threads j) n ≡ o → value_of equal_thread (threads j) n ≡ None
     go None e = e
     go (Some v) e = absurd (k.apart j l n v.0 st (v.1, e) brings)
 
-pub placed_lands : (p : List Stmt) (threads : ℕ → Threads) (mail less : Mail) (ts : List (ThreadName × Stack)) (i l : ℕ) (n : ThreadName) (st : Stack) → Gone l mail less → IsInSpawn p mail l n st → Placed p threads mail ts →
-    Placed p (fronted threads i n st) less ts
+pub placed_lands : (p : List Stmt) (threads : ℕ → Threads) (mail less : Mail) (ts : List (ThreadName × Stack)) (i l : ℕ) (n : ThreadName) (st : Stack) → Gone l mail less → IsInSpawn p mail l n st → ThreadsMatch p threads mail ts →
+    ThreadsMatch p (fronted threads i n st) less ts
 placed_lands p threads mail less ts i l n st gone brings k = record {
   up = λ j o su h. up j o su (old j o (su, h.0) h.1);
   flies = λ m o su h. k.flies m o su (before m o su h);
@@ -222,8 +222,8 @@ pub record IsSent (p : List Stmt) (mail more : Mail) (l : ℕ) (n : ThreadName) 
   pub kept : (m : ℕ) (o : ThreadName) (su : Stack) → IsInSpawn p mail m o su → IsInSpawn p more m o su
   pub from : (m : ℕ) (o : ThreadName) (su : Stack) → IsInSpawn p more m o su → IsInSpawn p mail m o su ⊎ ((m ≡ l) × (o ≡ n) × (su ≡ st))
 
-pub placed_leaves : (p : List Stmt) (threads : ℕ → Threads) (mail more : Mail) (ts : List (ThreadName × Stack)) (l : ℕ) (n : ThreadName) (st : Stack) → IsSent p mail more l n st → value_of equal_thread ts n ≡ None → Placed p threads mail ts →
-    Placed p threads more ((n, st) ∷ ts)
+pub placed_leaves : (p : List Stmt) (threads : ℕ → Threads) (mail more : Mail) (ts : List (ThreadName × Stack)) (l : ℕ) (n : ThreadName) (st : Stack) → IsSent p mail more l n st → value_of equal_thread ts n ≡ None → ThreadsMatch p threads mail ts →
+    ThreadsMatch p threads more ((n, st) ∷ ts)
 placed_leaves p threads mail more ts l n st sent none k = record {
   up = λ j o su h. front_stays ts n o st su none (k.up j o su h);
   flies = λ m o su h. flies o su (sent.from m o su h);
@@ -299,7 +299,7 @@ module _ (threads : ℕ → Threads) (i : ℕ) (n : ThreadName) (st : Stack) (r 
       let pair : ◌≡◌ {A = ThreadState} (st, Runs) (su, site.Waits x) = cc in
       let modes : Runs ≡ site.Waits x = ap (λ (v : ThreadState). v.1) pair in cc
 
-  pub waiting_goes : (p : List Stmt) (eqs : ℕ → Store) (records : ℕ → Records) (mail : Mail) (c : Store) → Waiting p eqs records threads mail c → Waiting p eqs records (gone_on threads i n r) mail c
+  pub waiting_goes : (p : List Stmt) (eqs : ℕ → Store) (records : ℕ → Records) (mail : Mail) (c : Store) → WaitersMatch p eqs records threads mail c → WaitersMatch p eqs records (gone_on threads i n r) mail c
   waiting_goes p eqs records mail c w = record {
     asks = λ k to x t o bundle h. asked x t o (w.asks k to x t o bundle h);
     waits = λ j o su x h. wait j o su x (goes_old j o (su, site.Waits x) h);
@@ -326,7 +326,7 @@ module _ (threads : ℕ → Threads) (i : ℕ) (n : ThreadName) (st : Stack) (r 
       go o v (inl e) = subst (λ (k : ℕ). EachOfStack (here k) v.0) (sym e.0) (is v.0 e.2)
       go o v (inr q) = (h j).stacks o v q.1
 
-  pub placed_goes : (p : List Stmt) (mail : Mail) (ts : List (ThreadName × Stack)) → Placed p threads mail ts → Placed p (gone_on threads i n r) mail (with_optional_value equal_thread ts n r)
+  pub placed_goes : (p : List Stmt) (mail : Mail) (ts : List (ThreadName × Stack)) → ThreadsMatch p threads mail ts → ThreadsMatch p (gone_on threads i n r) mail (with_optional_value equal_thread ts n r)
   placed_goes p mail ts k = record {
     up = λ j o su h. up j o su h.0 (goes_old j o (su, h.0) h.1);
     flies = λ l o su h. goes_there equal_thread same_thread_decides ts n o r (apart_name l o su h) ∙ k.flies l o su h;

@@ -22,7 +22,7 @@ use Rattle.world_model.specs.Matches.{IsThreadAt, IsInSpawn, NeedsFirst, IsAsked
 use Rattle.world_variables.proofs.LearnLemmas.{needs_more}
 use Rattle.world_variables.proofs.RecordLemmas.{registered_open}
 use Rattle.thread_roster.specs.Threads.{is_waiting}
-use Rattle.world_variables.specs.Rows.{IsStill}
+use Rattle.world_variables.specs.Laws.{IsStill}
 
 abbrev pub waits : ThreadName × ThreadState → Bool
 waits t = is_waiting t.1.1

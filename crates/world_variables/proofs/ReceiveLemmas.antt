@@ -35,7 +35,7 @@ use Rattle.world_variables.proofs.AlikeLemmas.{parts_weaker}
 use Rattle.world_variables.proofs.MessageLemmas.{Taken, spawn_row, register_kept, request_kept, binding_row}
 use Rattle.world_variables.proofs.OpenLemmas.{told_known, opened_here, Opened, opens_row, term_here}
 use Rattle.world_variables.proofs.OwnLemmas.{below_acts}
-use Rattle.world_variables.specs.Rows.{IsElsewhere, PartsIn}
+use Rattle.world_variables.specs.Laws.{IsForeignBinding, PartsIn}
 use Rattle.kernel_syntax.proofs.PreorderLemmas.{each_left}
 use Rattle.bind_protocol.proofs.LearnLemmas.{registers_is, ask_known}
 
@@ -73,7 +73,7 @@ numbered_acts w i d h = record {
     go k a b m o (inr q) (inl r) = absurd (omega (arith, h.below k b o r, (number_of w.sent d.sent k (sent_to a m) q).1))
 
 -- what the message tells is here once it is opened
-pub takes_row : (p : List Stmt) (here : ℕ → Name → Type 0) (w : World) (c : State) (limit k i : ℕ) (m : Msg) → PartsIn p here w c → IsNumbered w.sent w.mail → i ≢ 0 → IsSound c.equations → IsPlain m → IsElsewhere i m → IsOnItsWay w.mail k i m →
+pub takes_row : (p : List Stmt) (here : ℕ → Name → Type 0) (w : World) (c : State) (limit k i : ℕ) (m : Msg) → PartsIn p here w c → IsNumbered w.sent w.mail → i ≢ 0 → IsSound c.equations → IsPlain m → IsForeignBinding i m → IsOnItsWay w.mail k i m →
     here i (name.Var nobody) → Each (λ (x : VarName). here i (name.Var x)) (message_vars m) → ((x : VarName) (t : Term) → Each (λ (y : VarName). here i (name.Var y)) (x ∷ vars_of t) → EachOfEquation (here i) (x, t)) → Taken p here w c k i (message_row p limit m (w.sites i))
 takes_row p here w c limit k i (msg.Spawn n code vars bundle) h numbers real sound plain far at nob names term = spawn_row p here w c k i h numbers real n code vars bundle at nob (each_left _ vars _ names)
 takes_row p here w c limit k i (msg.Register x o) h numbers real sound plain far at nob names term = register_kept p here w c k i h numbers real limit x o at
@@ -92,7 +92,7 @@ pub record Received (p : List Stmt) (limit : ℕ) (w : World) (c : State) (k i :
   pub run : IsRun p c (reception p limit m (w.sites i)).picks centre
   pub parts : PartsIn p (here_at (records (received p limit w k i m).sites)) (received p limit w k i m) centre
 
-pub receive_row : (p : List Stmt) (limit : ℕ) (w : World) (c : State) (k i : ℕ) (m : Msg) → PartsIn p (here_at (records w.sites)) w c → IsNumbered w.sent w.mail → i ≢ 0 → IsSound c.equations → IsPlain m → IsElsewhere i m → IsOnItsWay w.mail k i m →
+pub receive_row : (p : List Stmt) (limit : ℕ) (w : World) (c : State) (k i : ℕ) (m : Msg) → PartsIn p (here_at (records w.sites)) w c → IsNumbered w.sent w.mail → i ≢ 0 → IsSound c.equations → IsPlain m → IsForeignBinding i m → IsOnItsWay w.mail k i m →
     Each (Contains c.equations) (message_bundle m) → Received p limit w c k i m
 receive_row p limit w c k i m h numbers real sound plain far at has = record { centre = taken.0; run = taken.1; parts = whole }
   where

@@ -36,7 +36,7 @@ use Rattle.world_variables.proofs.TellLemmas.{each_of}
 use Rattle.tree_node.proofs.OrderLemmas.{Each-member}
 use Rattle.bind_protocol.proofs.LearnLemmas.{bound_at, registers_is}
 use Rattle.bind_protocol.specs.Learn.{HasRegistered}
-use Rattle.bind_protocol.proofs.ToldLemmas.{unknown}
+use Rattle.bind_protocol.proofs.NoticeLemmas.{unknown}
 
 -- what is sent may be sent
 pub record MaySend (p : List Stmt) (eqs : ℕ → Store) (records : ℕ → Records) (threads : ℕ → Threads) (made : ℕ → Counters) (c : Store) (out : List Sent) : Type 0 where

@@ -29,7 +29,7 @@ use Rattle.world_model.proofs.MailLemmas.{acts_after}
 use Rattle.world_variables.proofs.MeetLemmas.{meet_parts}
 use Rattle.world_variables.proofs.TellLemmas.{with_equation, bind_parts}
 use Rattle.world_variables.proofs.MakeLemmas.{makes_parts}
-use Rattle.world_variables.specs.Rows.{PartsIn}
+use Rattle.world_variables.specs.Laws.{PartsIn}
 
 -- from the parts by function to those of the sites
 pub to_put : (p : List Stmt) (here : ℕ → Name → Type 0) (f : Sites) (i : ℕ) (s : Site) (mail : Mail) (c : State) →

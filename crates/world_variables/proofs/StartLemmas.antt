@@ -24,7 +24,7 @@ use Rattle.world_model.specs.Names.{IsMade, here_at}
 use Rattle.world_model.proofs.PutLemmas.{nat_decides}
 use Rattle.world_model.proofs.MailLemmas.{nothing}
 use Rattle.world_model.proofs.KeyLemmas.{running_new, running_old}
-use Rattle.world_variables.specs.Rows.{PartsIn}
+use Rattle.world_variables.specs.Laws.{PartsIn}
 
 unknown : (i : ℕ) (x : VarName) → knowledge (record { site = i; owners = []; proxies = [] }) x ≡ None
 unknown i x = go (x.site == i)

@@ -24,7 +24,7 @@ use Rattle.site_model.specs.Fit as Fit
 use Rattle.world_model.specs.World.{Mail, IsOnItsWay, mail_from}
 use Rattle.world_model.specs.World as World
 use Rattle.world_model.specs.Names.{IsMade, IsCentreMade}
-use Rattle.world_model.specs.Matches.{PartsMatch, Placed, IsInSpawn, Waiting, Knowledge}
+use Rattle.world_model.specs.Matches.{PartsMatch, ThreadsMatch, IsInSpawn, WaitersMatch, EquationsMatch}
 use Rattle.world_model.proofs.MailLemmas.{nothing, sent_to, Posts, posts, from_number, new_number, Gone, gone}
 use Rattle.world_variables.proofs.AlikeLemmas.{knowledge_posts, told_posts, addressed_posts, said_posts, waiting_posts, knowledge_gone, addressed_gone, said_gone, told_gone, waiting_gone}
 use Rattle.world_variables.proofs.PlaceLemmas.{fronted, gone_on, waiting_fronted, homes_fronted, none_at, placed_birth, lands_none, placed_lands, IsSent, placed_leaves, waiting_goes, homes_goes, placed_goes}
@@ -32,8 +32,8 @@ use Rattle.tree_node.proofs.ClassLemmas.{Contains-cons_cases, Contains-head}
 
 module _ (p : List Stmt) (here : ℕ → Name → Type 0) (eqs : ℕ → Store) (records : ℕ → Records) (threads : ℕ → Threads) (made : ℕ → Counters) (mail : Mail) (s : State) (parts : PartsMatch p here eqs records threads made mail s) where
   -- the centre has other threads
-  knows : (c : State) → c.equations ≡ s.equations → Knowledge eqs mail c.equations
-  knows c e = subst (λ (q : Store). Knowledge eqs mail q) (sym e) parts.knowledge
+  knows : (c : State) → c.equations ≡ s.equations → EquationsMatch eqs mail c.equations
+  knows c e = subst (λ (q : Store). EquationsMatch eqs mail q) (sym e) parts.knowledge
 
   -- a thread goes on, or ends
   pub goes_parts : (i : ℕ) (n : ThreadName) (st : Stack) (r : Option Stack) (c : State) → value_of equal_thread (threads i) n ≡ Some (st, Runs) → ((su : Stack) → r ≡ Some su → EachOfStack (here i) su) →
@@ -41,10 +41,10 @@ module _ (p : List Stmt) (here : ℕ → Name → Type 0) (eqs : ℕ → Store) 
   goes_parts i n st r c at names e t centred = record {
     knowledge = knows c e;
     kept = parts.kept;
-    placed = subst (λ (ts : List (ThreadName × Stack)). Placed p (gone_on threads i n r) mail ts) (sym t) (placed_goes threads i n st r at p mail s.threads parts.placed);
+    placed = subst (λ (ts : List (ThreadName × Stack)). ThreadsMatch p (gone_on threads i n r) mail ts) (sym t) (placed_goes threads i n st r at p mail s.threads parts.placed);
     told = parts.told;
     addressed = parts.addressed;
-    waiting = subst (λ (q : Store). Waiting p eqs records (gone_on threads i n r) mail q) (sym e) (waiting_goes threads i n st r at p eqs records mail s.equations parts.waiting);
+    waiting = subst (λ (q : Store). WaitersMatch p eqs records (gone_on threads i n r) mail q) (sym e) (waiting_goes threads i n st r at p eqs records mail s.equations parts.waiting);
     homes = homes_goes threads i n st r at here eqs names parts.homes;
     centred = centred;
     makers = parts.makers;
@@ -56,10 +56,10 @@ module _ (p : List Stmt) (here : ℕ → Name → Type 0) (eqs : ℕ → Store) 
   same_parts c e t centred = record {
     knowledge = knows c e;
     kept = parts.kept;
-    placed = subst (λ (ts : List (ThreadName × Stack)). Placed p threads mail ts) (sym t) parts.placed;
+    placed = subst (λ (ts : List (ThreadName × Stack)). ThreadsMatch p threads mail ts) (sym t) parts.placed;
     told = parts.told;
     addressed = parts.addressed;
-    waiting = subst (λ (q : Store). Waiting p eqs records threads mail q) (sym e) parts.waiting;
+    waiting = subst (λ (q : Store). WaitersMatch p eqs records threads mail q) (sym e) parts.waiting;
     homes = parts.homes;
     centred = centred;
     makers = parts.makers;
@@ -72,10 +72,10 @@ module _ (p : List Stmt) (here : ℕ → Name → Type 0) (eqs : ℕ → Store) 
   birth_parts i n st c none names e t centred = record {
     knowledge = knows c e;
     kept = parts.kept;
-    placed = subst (λ (ts : List (ThreadName × Stack)). Placed p (fronted threads i n st) mail ts) (sym t) (placed_birth p threads mail s.threads i n st none parts.placed);
+    placed = subst (λ (ts : List (ThreadName × Stack)). ThreadsMatch p (fronted threads i n st) mail ts) (sym t) (placed_birth p threads mail s.threads i n st none parts.placed);
     told = parts.told;
     addressed = parts.addressed;
-    waiting = subst (λ (q : Store). Waiting p eqs records (fronted threads i n st) mail q) (sym e) (waiting_fronted threads i n st (none_at p threads mail s.threads n parts.placed none) p eqs records mail s.equations parts.waiting);
+    waiting = subst (λ (q : Store). WaitersMatch p eqs records (fronted threads i n st) mail q) (sym e) (waiting_fronted threads i n st (none_at p threads mail s.threads n parts.placed none) p eqs records mail s.equations parts.waiting);
     homes = homes_fronted threads i n st (none_at p threads mail s.threads n parts.placed none) here eqs names parts.homes;
     centred = centred;
     makers = parts.makers;
@@ -87,12 +87,12 @@ module _ (p : List Stmt) (here : ℕ → Name → Type 0) (eqs : ℕ → Store) 
       value_of equal_thread s.threads n ≡ None → Each (Contains s.equations) bundle → Fit.EachOfMsg (IsMade made) (msg.Spawn n code vars bundle) → c.equations ≡ s.equations → c.threads ≡ (n, st) ∷ s.threads → IsCentreMade made c →
       PartsMatch p here eqs records threads made (mail ++ mail_from k (sent_to to (msg.Spawn n code vars bundle) ∷ [])) c
   leave_parts k to n code vars bundle st c below born none carried said e t centred = record {
-    knowledge = subst (λ (q : Store). Knowledge eqs more q) (sym e) (knowledge_posts mail more out sent eqs s.equations (λ a m h. rw (only a m h).1 carried) parts.knowledge);
+    knowledge = subst (λ (q : Store). EquationsMatch eqs more q) (sym e) (knowledge_posts mail more out sent eqs s.equations (λ a m h. rw (only a m h).1 carried) parts.knowledge);
     kept = parts.kept;
-    placed = subst (λ (ts : List (ThreadName × Stack)). Placed p threads more ts) (sym t) (placed_leaves p threads mail more s.threads k n st is_sent none parts.placed);
+    placed = subst (λ (ts : List (ThreadName × Stack)). ThreadsMatch p threads more ts) (sym t) (placed_leaves p threads mail more s.threads k n st is_sent none parts.placed);
     told = λ i x unbound far. told_posts mail more out sent records i x (parts.told i x unbound far);
     addressed = addressed_posts mail more out sent records (λ a m h. rw (only a m h).1 tt) parts.addressed;
-    waiting = subst (λ (q : Store). Waiting p eqs records threads more q) (sym e) (waiting_posts mail more out sent p eqs records threads s.equations (λ a x u o bs h. let no = (only a _ h).1 in cc) parts.waiting);
+    waiting = subst (λ (q : Store). WaitersMatch p eqs records threads more q) (sym e) (waiting_posts mail more out sent p eqs records threads s.equations (λ a x u o bs h. let no = (only a _ h).1 in cc) parts.waiting);
     homes = parts.homes;
     centred = centred;
     makers = parts.makers;

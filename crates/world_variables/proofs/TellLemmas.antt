@@ -31,7 +31,7 @@ use Rattle.bind_protocol.proofs.LookLemmas.{in_other}
 use Rattle.world_variables.proofs.AlikeLemmas.{said_posts}
 use Rattle.world_model.specs.World.{Mail, at_put, mail_from}
 use Rattle.world_model.specs.Names.{IsMade, KnownAreMade}
-use Rattle.world_model.specs.Matches.{AreKept, PartsMatch}
+use Rattle.world_model.specs.Matches.{AllRecordsMatch, PartsMatch}
 use Rattle.world_model.proofs.PutLemmas.{at_all}
 use Rattle.world_model.proofs.MailLemmas.{nothing, sent_to, Posts, posts}
 use Rattle.world_variables.proofs.LearnLemmas.{IsLearnt, head_or_tail, learnt_knowledge, learnt_kept, learnt_placed, learnt_told, learnt_addressed, learnt_waiting, learnt_homes}
@@ -120,7 +120,7 @@ module _ (p : List Stmt) (here : ℕ → Name → Type 0) (eqs : ℕ → Store) 
         told = λ to m h. absurd (nothing _ h);
       }
 
-      kept : AreKept (at_put records i b) (at_put eqs i ((x, t) ∷ eqs i))
+      kept : AllRecordsMatch (at_put records i b) (at_put eqs i ((x, t) ∷ eqs i))
       kept = learnt_kept p eqs records threads mail mail [] s.equations s.equations i b x t l parts.knowledge parts.kept
 
   -- ---- an own variable is bound
@@ -235,7 +235,7 @@ module _ (p : List Stmt) (here : ℕ → Name → Type 0) (eqs : ℕ → Store) 
           new y r (inl h) = inl h
           new y r (inr h) = inr (sym own, h.0, h.1)
 
-      kept : AreKept (at_put records i b) (at_put eqs i ((x, t) ∷ eqs i))
+      kept : AllRecordsMatch (at_put records i b) (at_put eqs i ((x, t) ∷ eqs i))
       kept = learnt_kept p eqs records threads mail more out s.equations d i b x t l parts.knowledge parts.kept
 
       nobody : (y : VarName) → y.site ≡ 0 → (r : Term) → Contains s.equations (y, r) ⊎ ((y ≡ x) × (r ≡ t)) → ⊥

@@ -53,10 +53,10 @@ use Rattle.world_variables.proofs.AlikeLemmas.{parts_weaker}
 use Rattle.world_variables.proofs.RowLemmas.{makes_row}
 use Rattle.world_variables.proofs.LearnLemmas.{head_or_tail}
 use Rattle.world_variables.proofs.OwnLemmas.{CanAdd, CanAddEach, IsOwnStep, own_step, new_none}
-use Rattle.world_variables.specs.Rows.{PartsIn}
+use Rattle.world_variables.specs.Laws.{PartsIn}
 use Rattle.tree_node.proofs.OrderLemmas.{Each-member}
 use Rattle.bind_protocol.proofs.LearnLemmas.{make_learns, make_known, ask_known}
-use Rattle.site_model.proofs.StillLemmas.{cell_keeps_records}
+use Rattle.site_model.proofs.FrameLemmas.{cell_keeps_records}
 
 -- ---- what is known after a step
 

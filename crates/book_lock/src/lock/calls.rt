@@ -1,4 +1,5 @@
-// The calls of the lock.
+//! The calls of the lock.
+
 ghost use Rattle.std.specs.Prelude.{◌≡◌, ℕ, ◌<◌, ◌≤◌, ◌+◌, ◌%◌, ◌^◌, [], ◌∷◌, ◌++◌, length, false, IfOk, IfErr, MatchResult};
 ghost use Rattle.book_lock.specs.Rule.{AreInAgreement, IsLawfulChange, Each, part, view, outside, parts_from};
 ghost use Rattle.book_lock.specs.Seats.{lock_id, lock_seats, last_seen, seat_part, sight_taken, IsOutsideOf, IsSeatOutside, IsSeatInside, IsHeldBy, HasTurn, HasNoTicket, HasTicket, my_part, AreNewSeats};
@@ -27,6 +28,7 @@ impl Outside for SiteSeat {
 }
 
 impl SiteSeat {
+    /// The site whose seat it is.
     pub fn site(&self) -> u32
         ensures { result ≡ self.now.site }
     {

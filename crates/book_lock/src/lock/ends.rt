@@ -1,4 +1,5 @@
-// How a lock is made, and how it ends.
+//! How a lock is made, and how it ends.
+
 ghost use Rattle.std.specs.Prelude.{◌≡◌, ◌≢◌, ℕ, ◌<◌, ◌≤◌, ◌+◌, [], ◌∷◌, ◌++◌, map, length, None, Some, IfOk, IfErr, vec_len, vec_capacity};
 ghost use Rattle.book_lock.specs.Rule.{AreInAgreement, Each, part, outside, parts_from};
 ghost use Rattle.book_lock.specs.Seats.{lock_id, lock_seats, last_seen, seat_part, IsOutsideOf, HasNoTicket, my_part, AreNewSeats};

@@ -1,4 +1,4 @@
-use Rattle.bind_protocol.proofs.ToldLemmas.{rows_tell, telling_joins}
+use Rattle.bind_protocol.proofs.NoticeLemmas.{rows_tell, telling_joins}
 use Rattle.bind_protocol.proofs.laws.rows_tell.Goals as goal
 
 pub returns : goal.returns

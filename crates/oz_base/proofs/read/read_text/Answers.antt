@@ -2,13 +2,13 @@ use Rattle.std.proofs.Common.{◌≡◌, ◌<◌, ◌≤◌, ◌+◌, ℕ, List,
 use Rattle.std.proofs.KnownBytes.{Consumes-trans}
 use Rattle.std.proofs.lemmas.Result.{err_from_is_err_and}
 use Rattle.std.specs.Io.KnownBytes.{Consumes}
-use Rattle.oz_base.specs.Reading.{GaveFront}
+use Rattle.oz_base.specs.Reading.{GivesFront}
 use Rattle.oz_base.proofs.read.read_text.Goals as goal
 
 -- the text that was read, and then a chunk of so many bytes
 gave_chunk : (IsLength : ℕ → Type 0) (a b c : Option (List ℕ)) (text chunk : List ℕ) (count : ℕ)
     → Consumes a b text → Consumes b c chunk → count ≡ length chunk
-    → IsLength (length text + count) → GaveFront a c IsLength
+    → IsLength (length text + count) → GivesFront a c IsLength
 gave_chunk IsLength a b c text chunk count first second e h =
     (text ++ chunk, Consumes-trans a b c text chunk first second, rw (length-append, ← e) h)
 

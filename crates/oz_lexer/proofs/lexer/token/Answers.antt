@@ -2,7 +2,7 @@ use Rattle.std.proofs.Common.{rules, arith, ◌≡◌, ◌+◌, drop, Ok, Err, s
 use Rattle.oz_lexer.specs.Tokens.{IsLexemeAt}
 use Rattle.oz_lexer.specs.Scan.{front_of}
 use Rattle.oz_lexer.proofs.Cuts.{token_is_cut, fault_within}
-use Rattle.oz_lexer.proofs.Begins.{err_begins}
+use Rattle.oz_lexer.proofs.FrontLemmas.{err_begins}
 use Rattle.oz_lexer.proofs.lexer.token.Goals as goal
 
 pub overflow_add-end : goal.overflow_add-end

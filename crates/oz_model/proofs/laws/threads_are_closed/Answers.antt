@@ -1,4 +1,4 @@
-use Rattle.oz_model.proofs.AloneLemmas.{effects_are_named, needs_are_named, effects_are_covered, effects_have_nodes}
+use Rattle.oz_model.proofs.ThreadLemmas.{effects_are_named, needs_are_named, effects_are_covered, effects_have_nodes}
 use Rattle.oz_model.proofs.laws.threads_are_closed.Goals as goal
 
 pub returns : goal.returns

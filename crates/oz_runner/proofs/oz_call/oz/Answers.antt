@@ -1,5 +1,5 @@
 use Rattle.oz_runner.specs.Ends.{lines_of}
-use Rattle.oz_runner.specs.Seen.{stream_of}
+use Rattle.oz_runner.specs.OzCall.{stream_of}
 use Rattle.oz_runner.proofs.CauseLemmas.{headline}
 use Rattle.oz_runner.proofs.CompleteLemmas.{complete}
 use Rattle.oz_runner.proofs.oz_call.oz.Goals as goal

@@ -1,13 +1,13 @@
 use Rattle.std.proofs.Common.{arith, subst, sym}
 use Rattle.site_model.specs.Bundle.{bundle_limit}
-use Rattle.oz_runner.specs.Run.{CameTo}
+use Rattle.oz_runner.specs.Run.{IsStatusOfRun}
 use Rattle.oz_runner.proofs.RunLemmas.{sites_came}
 use Rattle.oz_runner.proofs.run.run_over_sites.Goals as goal
 
 pub returns : goal.returns
 returns g c =
     let out = c.run_program-out in
-    λ is. subst (CameTo _ _ _) (sym c.status_of.ensures)
+    λ is. subst (IsStatusOfRun _ _ _) (sym c.status_of.ensures)
     (sites_came c.args.program.now c.args.options out.result is c.quiet_tells.ensures c.runs_are_determined.ensures.end c.exchanges_are_a_chain.ensures.chains (record {
       run = out.ensures.simulated;
       rows = (c.runs_take_rows.ensures.rows c.args.program.now c.args.options.sites bundle_limit out.result.journal out.ensures.simulated.0 c.is_program.ensures c.requires.sites.0 c.requires.sites.1 (omega arith)).0 out.ensures.simulated.1;

@@ -5,7 +5,7 @@ use Rattle.oz_runner.proofs.work.work_on_bytes.Goals as goal
 
 pub returns-in-Err-clause-cause : goal.returns-in-Err-clause-cause
 returns-in-Err-clause-cause g c =
-    let nothing = c.stopped.ensures in
+    let nothing = c.work_without_run.ensures in
     λ seen says gave. subst (Cause seen _) (sym nothing.status)
     (bytes_cause seen _ c.args.options c.args.bytes.now c.valid_up_to.result says c.requires.source gave (search rules) (nothing.journal, nothing.schedule, nothing.lines))
 

@@ -1,6 +1,6 @@
 use Rattle.std.proofs.Common.{subst, arith, ◌∙◌}
 use Rattle.std.specs.Io.KnownBytes.{Appends}
-use Rattle.oz_base.specs.Streams.{TookFront}
+use Rattle.oz_base.specs.Streams.{TakesFront}
 use Rattle.oz_runner.proofs.Pieces.{line_piece, lines_are, part_written, part_stopped, all_written}
 use Rattle.oz_runner.proofs.write.write_lines.Goals as goal
 
@@ -13,7 +13,7 @@ loop-line-preserved g c = record {
 
 pub returns-in-Err-clause-bytes : goal.returns-in-Err-clause-bytes
 returns-in-Err-clause-bytes g c =
-    subst (TookFront _ _) (lines_are c.args.lines.now)
+    subst (TakesFront _ _) (lines_are c.args.lines.now)
     (part_stopped line_piece _ _ _ c.args.lines.now c.loop-line.line-index c.line-item.result (grind arith) c.line-item.is
     _ c.as_piece.ensures c.loop-line.invariant.bytes c.in-Err.ensures.bytes)
 

@@ -1,6 +1,6 @@
 use Rattle.std.proofs.Common.{ap, subst, arith, ◌∙◌}
 use Rattle.std.specs.Io.KnownBytes.{Appends}
-use Rattle.oz_base.specs.Streams.{TookFront}
+use Rattle.oz_base.specs.Streams.{TakesFront}
 use Rattle.oz_model.specs.Output.{pieces_of}
 use Rattle.oz_runner.proofs.Pieces.{turn_pieces, part_written, part_stopped, all_written, turns_are}
 use Rattle.oz_runner.proofs.write.write_turns.Goals as goal
@@ -14,7 +14,7 @@ loop-turn-preserved g c = record {
 
 pub returns-in-Err-clause-bytes : goal.returns-in-Err-clause-bytes
 returns-in-Err-clause-bytes g c =
-    subst (TookFront _ _) (turns_are c.args.turns.now)
+    subst (TakesFront _ _) (turns_are c.args.turns.now)
     (part_stopped turn_pieces _ _ _ c.args.turns.now c.loop-turn.turn-index c.turn-item.result (grind arith) c.turn-item.is
     _ (ap pieces_of c.as_slice.ensures) c.loop-turn.invariant.bytes c.in-Err.ensures.bytes)
 

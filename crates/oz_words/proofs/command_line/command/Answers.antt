@@ -6,7 +6,7 @@ use Rattle.clap.specs.declared.builder.Arg.{Arg}
 use Rattle.clap.specs.declared.builder.Command.{Command}
 use Rattle.clap.specs.declared.builder.ValueParser.{ValueParser}
 use Rattle.oz_words.specs.Command.{AreActions, bare_app, NumberOption, number_rule, numbers_of, option_rule, oz_app, size_rule, sizes, sites_option, workers_option, steps_option, messages_option}
-use Rattle.oz_words.specs.Parsed.{TakesWordsOfOz}
+use Rattle.oz_words.specs.Matches.{TakesWordsOfOz}
 use Rattle.oz_words.proofs.PlaceLemmas.{takes_words_of_oz}
 use Rattle.oz_words.proofs.command_line.command.Goals as goal
 
@@ -41,7 +41,7 @@ is_command c =
     let workers = with_numbers c.option_of-2.result workers_option c.numbers-2.result c.option_of-2.ensures.rule c.numbers-2.ensures in
     let steps = with_numbers c.option_of-3.result steps_option c.numbers-3.result c.option_of-3.ensures.rule c.numbers-3.ensures in
     let messages = with_numbers c.option_of-4.result messages_option c.numbers-4.result c.option_of-4.ensures.rule c.numbers-4.ensures in
-    let first = added _ c.in_ok-arg.field-0 _ bare_app _ c.in_ok-arg.ensures c.option_of.ensures.local sites c.bare.ensures in
+    let first = added _ c.in_ok-arg.field-0 _ bare_app _ c.in_ok-arg.ensures c.option_of.ensures.local sites c.bare_command.ensures in
     let second = added _ c.in_ok-arg-2.field-0 _ _ _ c.in_ok-arg-2.ensures c.option_of-2.ensures.local workers first in
     let third = added _ c.in_ok-arg-3.field-0 _ _ _ c.in_ok-arg-3.ensures c.option_of-3.ensures.local steps second in
     let fourth = added _ c.in_ok-arg-4.field-0 _ _ _ c.in_ok-arg-4.ensures c.option_of-4.ensures.local messages third in

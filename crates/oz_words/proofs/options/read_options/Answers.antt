@@ -7,7 +7,7 @@ use Rattle.oz_words.specs.declared.options.Action.{Action}
 use Rattle.oz_words.specs.declared.options.Options.{Options}
 use Rattle.oz_words.specs.declared.options.WordsError.{WordsError}
 use Rattle.oz_words.specs.declared.options.WordsError.TheVariants.{Usage, Memory}
-use Rattle.oz_words.specs.Parsed.{words_rows}
+use Rattle.oz_words.specs.Matches.{words_rows}
 use Rattle.oz_words.specs.Words.{ReadsAction, ReadsWords, IsNumberText}
 use Rattle.oz_words.proofs.options.read_options.Goals as goal
 

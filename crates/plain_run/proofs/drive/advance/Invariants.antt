@@ -1,5 +1,5 @@
 use Rattle.std.proofs.Common.{◌≡◌, ◌≤◌}
-use Rattle.plain_run.specs.Going.{IsGoing, all_runnable, turns_left}
+use Rattle.plain_run.specs.Progress.{IsGoing, all_runnable, turns_left}
 use Rattle.plain_run.proofs.drive.advance.Given as goal
 
 abbrev pub invariant-loop-site : goal.invariant-loop-site

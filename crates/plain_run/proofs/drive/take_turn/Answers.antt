@@ -1,6 +1,6 @@
 use Rattle.std.proofs.Common.{◌≡◌, ◌∙◌, ◌-◌, ap, sym, subst, ℕ, Bool, true, false}
 use Rattle.std.specs.Prelude.{is_some, nat_lt, min}
-use Rattle.plain_run.specs.Going.{IsProgress}
+use Rattle.plain_run.specs.Progress.{IsProgress}
 use Rattle.plain_run.proofs.ProgressLemmas.{on_ok, made, took, went, busy_runs}
 use Rattle.plain_run.proofs.drive.take_turn.Goals as goal
 

@@ -1,10 +1,10 @@
 use Rattle.std.proofs.Common.{arith, ◌≡◌, ◌∙◌, ap, sym, refl, subst, List, [], length, inl, inr}
 use Rattle.site_message.specs.declared.turn.Turn.{Turn}
-use Rattle.site_message.specs.Progress.{WentOn}
+use Rattle.site_message.specs.EarlierEnd.{HasNoEarlierEnd}
 use Rattle.world_model.specs.Schedule.{schedule, sum_to}
 use Rattle.world_model.specs.Simulated.{last_ended, last_waiting}
 use Rattle.world_core.specs.Laws.{HasRun, AreMessagesFew}
-use Rattle.plain_run.specs.Going.{limits_of}
+use Rattle.plain_run.specs.Progress.{limits_of}
 use Rattle.plain_run.specs.Simulated.{HasMachineRun}
 use Rattle.plain_run.proofs.TotalsLemmas.{totals_fit, no_totals, empty_run, machine_run, few_of}
 use Rattle.plain_run.proofs.finish.finish_run.Goals as goal
@@ -55,4 +55,4 @@ pub returns-in-Err-clause-waiting : goal.returns-in-Err-clause-waiting
 returns-in-Err-clause-waiting c = c.no_run.ensures.totals.1 ∙ sym (ap (λ (j : List Turn). sum_to c.args.limits.sites (last_waiting j)) c.no_run.ensures.empty.0 ∙ no_totals c.args.limits.sites)
 
 pub returns-in-Err-clause-went : goal.returns-in-Err-clause-went
-returns-in-Err-clause-went c = subst (WentOn (limits_of c.args.limits)) (sym c.no_run.ensures.empty.0) tt
+returns-in-Err-clause-went c = subst (HasNoEarlierEnd (limits_of c.args.limits)) (sym c.no_run.ensures.empty.0) tt

@@ -6,7 +6,7 @@ use Rattle.site_core.proofs.DeliverLemmas.{new_thread}
 use Rattle.site_core.proofs.fit.can_take.Goals as goal
 
 pub returns-in-Spawn : goal.returns-in-Spawn
-returns-in-Spawn c = rw c.in-Spawn.is (new_thread c.args.core.now.threads.living c.in-Spawn.thread c.lives.result c.lives.ensures)
+returns-in-Spawn c = rw c.in-Spawn.is (new_thread c.args.core.now.threads.living c.in-Spawn.thread c.contains.result c.contains.ensures)
 
 pub returns-in-Register : goal.returns-in-Register
 returns-in-Register c =

@@ -12,7 +12,7 @@ returns-in-Some-clause-visited g c =
     let a = c.args.host.now in
     let b = c.fetch.new.self in
     let m = c.turn.new.self in
-    let d = c.deliver.new.self in
+    let d = c.post.new.self in
     let e = c.in-Some.turn in
     let found = c.in-Open.ensures.fetched in
     let o = found.0.0 in
@@ -26,14 +26,14 @@ returns-in-Some-clause-visited g c =
     m
     d
     e
-    c.deliver.result
+    c.post.result
     number
-    (λ posted. made_turn a b m d c.in-Open.limit o e (same.0.number, same.0.program, same.0.sites, same.0.fixed, same.1) found.1 found.2.0 found.0.2.message (kept.0.number, kept.1) (c.in-Some.ensures.turn o found.0.1) posted c.deliver.ensures.state c.deliver.ensures.begins cause)
+    (λ posted. made_turn a b m d c.in-Open.limit o e (same.0.number, same.0.program, same.0.sites, same.0.fixed, same.1) found.1 found.2.0 found.0.2.message (kept.0.number, kept.1) (c.in-Some.ensures.turn o found.0.1) posted c.post.ensures.state c.post.ensures.begins cause)
     (none_by a b m d number kept.1 found.1)
-    c.deliver.ensures.visited
+    c.post.ensures.visited
 
-pub deliver-requires : goal.deliver-requires
-deliver-requires g c =
+pub post-requires : goal.post-requires
+post-requires g c =
     let had = c.in-Open.ensures.fetched.0 in
     c.in-Some.ensures.turned (lock_id c.args.lock.now) (had.0, had.1, counted_host (lock_id c.args.lock.now) c.fetch.new.self _ had.0 had.2)
 

@@ -1,7 +1,7 @@
 use Rattle.std.proofs.Common.{sym}
 use Rattle.thread_roster.specs.Slots.{slot_in}
 use Rattle.thread_roster.proofs.SlotLemmas.{has_place}
-use Rattle.thread_roster.proofs.KeptLemmas.{inside_there, thread_there}
+use Rattle.thread_roster.proofs.ConsistencyLemmas.{inside_there, thread_there}
 use Rattle.thread_roster.proofs.slots_by_name.find.Goals as goal
 
 pub unreachable-requires : goal.unreachable-requires

@@ -1,7 +1,7 @@
 use Rattle.std.proofs.Common.{refl, subst, ℕ, List, ◌∷◌}
 use Rattle.thread_roster.specs.Slots.{slot_in, AreInside}
 use Rattle.thread_roster.proofs.SlotLemmas.{at_index}
-use Rattle.thread_roster.proofs.KeptLemmas.{place_is}
+use Rattle.thread_roster.proofs.ConsistencyLemmas.{place_is}
 use Rattle.thread_roster.proofs.slots_by_name.slot_of.Goals as goal
 
 pub returns-then-is_of : goal.returns-then-is_of

@@ -1,7 +1,7 @@
 use Rattle.std.proofs.Common.{arith, ◌≡◌, sym, subst, List, ℕ, length, ◌+◌}
 use Rattle.std.specs.Prelude.{Some, slice_get}
 use Rattle.site_model.specs.Site.{Site, initial_site}
-use Rattle.site_core.specs.Seated.{Seated}
+use Rattle.site_core.specs.Site.{SiteState}
 use Rattle.site_message.specs.declared.story.NoSeat.{NoSeat}
 use Rattle.world_core.specs.World.{IsNewSite}
 use Rattle.world_core.proofs.PlaceLemmas.{push_all}
@@ -11,7 +11,7 @@ pub loop-number-preserved : goal.loop-number-preserved
 loop-number-preserved c = record {
   length = omega (arith, c.in_ok-push.ensures.len, c.loop-number.invariant.length);
   sites = λ i s h. push_all (IsNewSite c.args.program.now c.args.sites) c.loop-number.first.items c.in_ok-new.field-0 c.loop-number.invariant.sites here i s
-      (subst (λ (xs : List (Seated NoSeat)). slice_get xs i ≡ Some s) c.in_ok-push.ensures.items h);
+      (subst (λ (xs : List (SiteState NoSeat)). slice_get xs i ≡ Some s) c.in_ok-push.ensures.items h);
 }
   where
     here : IsNewSite c.args.program.now c.args.sites (length c.loop-number.first.items) c.in_ok-new.field-0

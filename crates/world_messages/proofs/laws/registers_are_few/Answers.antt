@@ -1,4 +1,4 @@
-use Rattle.world_messages.proofs.CountedLemmas.{once_each, none_own}
+use Rattle.world_messages.proofs.CountLemmas.{once_each, none_own}
 use Rattle.world_messages.proofs.FewMessages.{spawns_are_few}
 use Rattle.world_messages.proofs.laws.registers_are_few.Goals as goal
 

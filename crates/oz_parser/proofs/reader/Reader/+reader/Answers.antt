@@ -7,12 +7,12 @@ use Rattle.oz_grammar.specs.declared.fault.Fault.{Fault}
 use Rattle.oz_grammar.specs.Reading.{Out, stmt_at, is_end_of}
 use Rattle.oz_phrases.specs.ReadAnswers.{IsReadAs}
 use Rattle.oz_parser.specs.State.{state_of, out_of}
-use Rattle.oz_parser.specs.Heads.{begun, if_head, case_head}
+use Rattle.oz_parser.specs.Heads.{head_parts, if_head, case_head}
 use Rattle.oz_parser.proofs.Unfold.{more_goes, more_refused, state_ends, if_block, case_block, branches_behind}
 use Rattle.oz_parser.proofs.reader.Reader.+reader.Goals as goal
 
-pub others-returns-then-closes-clause-read : goal.others-returns-then-closes-clause-read
-others-returns-then-closes-clause-read t c =
+pub others-returns-then-is_end_of-clause-read : goal.others-returns-then-is_end_of-clause-read
+others-returns-then-is_end_of-clause-read t c =
     let closed : is_end_of c.args.closer c.self-in-loop.inside.rest.now ≡ true = search rules in
     let some : length c.self.inside.rest.now + 1 - c.loop.counter ≢ 0 = omega arith in
     rw (c.from_vec.ensures, c.split_at.ensures.back)
@@ -43,7 +43,7 @@ others-loop-preserved t c =
 
 pub if_statement-returns-clause-read : goal.if_statement-returns-clause-read
 if_statement-returns-clause-read t c =
-    let read : if_head c.args.self.now.scope c.args.symbols.now ≡ Ok (begun c.in_ok-row.row c.in_ok-row.names.items c.in_ok-row.field-0.body c.in_ok-row.rest.now) = search rules in
+    let read : if_head c.args.self.now.scope c.args.symbols.now ≡ Ok (head_parts c.in_ok-row.row c.in_ok-row.names.items c.in_ok-row.field-0.body c.in_ok-row.rest.now) = search rules in
     let opened : c.open.new.self ≡ state_of (c.args.self.now.scope ++ c.in_ok-row.names.items) (c.args.self.now.rows ++ c.in_ok-row.row ∷ []) c.in_ok-row.rest.now = search rules in
     let owner : c.len-owner.result ≡ length c.args.self.now.rows = search rules in
     let outer : c.len-outer.result ≡ length c.args.self.now.scope = search rules in
@@ -53,7 +53,7 @@ if_statement-returns-clause-read t c =
 
 pub case_statement-returns-clause-read : goal.case_statement-returns-clause-read
 case_statement-returns-clause-read t c =
-    let read : case_head c.args.self.now.scope c.args.symbols.now ≡ Ok (begun c.in_ok-row.row c.in_ok-row.names.items c.in_ok-row.field-0.body c.in_ok-row.rest.now) = search rules in
+    let read : case_head c.args.self.now.scope c.args.symbols.now ≡ Ok (head_parts c.in_ok-row.row c.in_ok-row.names.items c.in_ok-row.field-0.body c.in_ok-row.rest.now) = search rules in
     let opened : c.open.new.self ≡ state_of (c.args.self.now.scope ++ c.in_ok-row.names.items) (c.args.self.now.rows ++ c.in_ok-row.row ∷ []) c.in_ok-row.rest.now = search rules in
     let owner : c.len-owner.result ≡ length c.args.self.now.rows = search rules in
     let outer : c.len-outer.result ≡ length c.args.self.now.scope = search rules in

@@ -1,5 +1,5 @@
 use Rattle.std.proofs.Common.{◌≡◌, ◌∙◌, sym, subst}
-use Rattle.oz_symbols.specs.Interned.{AreSpelled}
+use Rattle.oz_symbols.specs.Texts.{AreSpelled}
 use Rattle.oz_symbols.proofs.Interning.{spelled_more}
 use Rattle.oz_symbols.proofs.texts.Texts.make.Goals as goal
 

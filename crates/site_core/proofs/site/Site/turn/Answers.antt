@@ -1,7 +1,7 @@
 use Rattle.std.proofs.Common.{◌∙◌, ap, subst}
 use Rattle.bind_protocol.specs.Records.{Records}
 use Rattle.site_units.specs.Core.{site_of}
-use Rattle.site_core.specs.Seated.{IsTurnMade}
+use Rattle.site_core.specs.Site.{IsTurnMade}
 use Rattle.site_core.proofs.site.Site.turn.Goals as goal
 
 pub returns-in-Err-clause-sites : goal.returns-in-Err-clause-sites

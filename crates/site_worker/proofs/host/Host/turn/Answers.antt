@@ -1,7 +1,7 @@
 use Rattle.std.proofs.Common.{◌-◌, min, ℕ, Option, sym, subst}
 use Rattle.site_message.specs.declared.message.Msg.{Msg}
 use Rattle.site_message.specs.declared.turn.Turn.{Turn}
-use Rattle.site_core.specs.Seated.{IsTurnMade}
+use Rattle.site_core.specs.Site.{IsTurnMade}
 use Rattle.site_worker.specs.Host.{HasMessage, program_of, sites_of, state_of}
 use Rattle.site_worker.proofs.HostLemmas.{sent_fits}
 use Rattle.site_worker.proofs.host.Host.turn.Goals as goal

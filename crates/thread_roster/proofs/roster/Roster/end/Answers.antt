@@ -3,7 +3,7 @@ use Rattle.tree_node.specs.Assoc.{without_key}
 use Rattle.tree_node.specs.State.{equal_thread}
 use Rattle.thread_roster.specs.Slots.{slot_in, one, waiting}
 use Rattle.thread_roster.proofs.SlotLemmas.{total_holds}
-use Rattle.thread_roster.proofs.KeptLemmas.{kept_left, kept_end, still_none, end_view, ended_more}
+use Rattle.thread_roster.proofs.ConsistencyLemmas.{kept_left, kept_end, still_none, end_view, ended_more}
 use Rattle.thread_roster.proofs.roster.Roster.end.Goals as goal
 
 pub count_running-self-inside-requires : goal.count_running-self-inside-requires

@@ -3,7 +3,7 @@ use Rattle.tree_node.specs.Assoc.{value_of}
 use Rattle.tree_node.specs.State.{equal_thread}
 use Rattle.thread_roster.specs.Slots.{slot_in}
 use Rattle.thread_roster.proofs.SlotLemmas.{at_index}
-use Rattle.thread_roster.proofs.KeptLemmas.{inside_there, thread_there, no_thread, value_found}
+use Rattle.thread_roster.proofs.ConsistencyLemmas.{inside_there, thread_there, no_thread, value_found}
 use Rattle.thread_roster.proofs.roster.Roster.mode.Goals as goal
 
 pub index-requires : goal.index-requires

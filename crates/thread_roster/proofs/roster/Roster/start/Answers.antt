@@ -4,7 +4,7 @@ use Rattle.tree_node.specs.State.{equal_thread}
 use Rattle.thread_roster.specs.declared.mode.Mode.TheVariants as stands
 use Rattle.thread_roster.specs.Slots.{slot_in, with_slot}
 use Rattle.thread_roster.proofs.SlotLemmas.{living_le}
-use Rattle.thread_roster.proofs.KeptLemmas.{kept_born, no_place, born_view, ended_born}
+use Rattle.thread_roster.proofs.ConsistencyLemmas.{kept_born, no_place, born_view, ended_born}
 use Rattle.thread_roster.proofs.roster.Roster.start.Goals as goal
 
 pub overflow_add-self : goal.overflow_add-self

@@ -3,7 +3,7 @@ use Rattle.tree_node.specs.Assoc.{value_of}
 use Rattle.tree_node.specs.State.{equal_thread}
 use Rattle.thread_roster.specs.Slots.{slot_in}
 use Rattle.thread_roster.proofs.SlotLemmas.{at_index}
-use Rattle.thread_roster.proofs.KeptLemmas.{kept_value, slot_is, value_is, lent_view, value_found}
+use Rattle.thread_roster.proofs.ConsistencyLemmas.{kept_value, slot_is, value_is, lent_view, value_found}
 use Rattle.thread_roster.proofs.roster.Roster.value_mut.Goals as goal
 
 pub invariant_of-self-lent : goal.invariant_of-self-lent

@@ -3,7 +3,7 @@ use Rattle.thread_roster.specs.declared.mode.Mode.TheVariants as stands
 use Rattle.thread_roster.specs.Threads.{set_mode}
 use Rattle.thread_roster.specs.Slots.{slot_in}
 use Rattle.thread_roster.proofs.SlotLemmas.{living_le, waiting_le}
-use Rattle.thread_roster.proofs.KeptLemmas.{kept_left, kept_waits, still_set, mode_view, ended_set}
+use Rattle.thread_roster.proofs.ConsistencyLemmas.{kept_left, kept_waits, still_set, mode_view, ended_set}
 use Rattle.thread_roster.proofs.roster.Roster.wait.Goals as goal
 
 pub count_waiting-self-inside-requires : goal.count_waiting-self-inside-requires

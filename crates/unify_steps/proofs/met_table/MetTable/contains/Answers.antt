@@ -1,7 +1,7 @@
 use Rattle.std.proofs.Common.{◌∙◌, ap, List}
 use Rattle.tree_node.specs.declared.node.Node.{Node}
 use Rattle.tree_node.specs.Goal.{is_met_pair}
-use Rattle.unify_steps.specs.Met.{pairs_of}
+use Rattle.unify_steps.specs.MetPairs.{pairs_of}
 use Rattle.unify_steps.proofs.MetLemmas.{found_met}
 use Rattle.unify_steps.proofs.met_table.MetTable.contains.Goals as goal
 

@@ -1,9 +1,0 @@
--- Runs that nothing ended before.
-use Rattle.std.specs.Prelude.{◌≡◌, List, [], ◌∷◌, None}
-use Rattle.site_message.specs.declared.turn.Turn.{Turn}
-use Rattle.site_message.specs.Journal.{Limits, end_of}
-
--- the run went on after each of its turns but the last one
-abbrev pub WentOn : Limits → List Turn → Type 0
-WentOn l [] = Unit {0}
-WentOn l (e ∷ j) = WentOn l j × (end_of l j ≡ None)

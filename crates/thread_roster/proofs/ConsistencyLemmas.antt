@@ -1,0 +1,557 @@
+-- What slots, names, queue, keys and numbers keep together.
+use Rattle.std.proofs.Common.{arith, ◌≡◌, ◌≢◌, ◌∙◌, sym, ap, refl, subst, ℕ, ◌+◌, zero, suc, length, map, take, ◌⊎◌, inl, inr, List, [], ◌∷◌, ◌++◌, Bool, true, false, cond, Some, None}
+use Rattle.std.specs.Prelude.{Option, slice_set, slice_get, Contains, ◌<◌, ◌-◌, IfSome, IfNone, IsSome}
+use Rattle.std.proofs.lemmas.List.Elements.{Contains-push, Contains-append_left, Contains-append_right}
+use Rattle.tree_node.specs.declared.names.VarName.{VarName}
+use Rattle.tree_node.specs.declared.names.ThreadName.{ThreadName}
+use Rattle.tree_node.specs.Each.{Each}
+use Rattle.tree_node.specs.Store.{equal_var}
+use Rattle.tree_node.proofs.ClassLemmas.{same_name_decides, same_name_refl, Contains-cons_cases}
+use Rattle.thread_roster.specs.declared.mode.Mode.{Mode}
+use Rattle.thread_roster.specs.declared.mode.Mode.TheVariants as mode
+use Rattle.thread_roster.specs.declared.slot.Occupant.{Occupant}
+use Rattle.waiting_keys.specs.Keys as keys
+use Rattle.waiting_keys.specs.Keys.{keys_among}
+use Rattle.thread_roster.specs.Invariant.{IsConsistent}
+use Rattle.thread_roster.specs.Slots.{Slot, IsNotSlotOf, IsSlotOf, IsOnlyAt, IsPlaced, ArePlaced, slot_in, with_slot, IsModeAt, AreInside, wake_slot, wake_slots, total, one, weight, waiting, entry, threads_in, HasLeft, IsRest, IsNext, with_value_in, value_there}
+use Rattle.thread_roster.specs.Threads.{Threads, wake, wake_all, set_mode, set_value, AllWait, IsRunnable}
+use Rattle.tree_node.specs.Assoc.{value_of, without_key}
+use Rattle.tree_node.specs.State.{equal_thread}
+use Rattle.thread_roster.proofs.NameLemmas.{is_same, is_other}
+use Rattle.thread_roster.proofs.SlotLemmas.{placed_set, placed_end, placed_born, total_set, total_end, total_born, only_inside, only_at, held_at, lacking, found, placed_there, has_place, mode_put, value_put, thread_ended, thread_born, living_le}
+use Rattle.thread_roster.proofs.WakeLemmas.{mode_in, roused_all, living_roused, threads_woken}
+use Rattle.tree_node.proofs.EachLemmas.{each_append, each_take}
+use Rattle.std.proofs.lemmas.List.{length_push}
+
+abbrev pub Waiting : Type 0
+Waiting = List (VarName × List ℕ)
+
+abbrev pub Places : Type 0
+Places = List (ThreadName × ℕ)
+
+pub kept_none : {V : Type 0} (slots : List (Slot V)) (by_name : Places) (queue : List ℕ) (waiting_keys : Waiting) → slots ≡ [] → by_name ≡ [] → queue ≡ [] → waiting_keys ≡ [] → IsConsistent slots by_name queue waiting_keys 0 0
+kept_none {V} slots by_name queue waiting_keys a b c d = rw (a, b, c, d) (empty)
+  where
+    empty : IsConsistent {V = V} [] [] [] [] 0 0
+    empty = record {
+      placed = λ n. tt;
+      queued = λ j h. cc;
+      parked = λ j x h. cc;
+      inside = tt;
+      keys_inside = λ x. tt;
+      alive = refl;
+      waiters = refl;
+    }
+
+-- slots in the queue besides change nothing
+pub kept_more : {V : Type 0} (slots : List (Slot V)) (by_name : Places) (queue more : List ℕ) (waiting_keys : Waiting) (a b : ℕ) → IsConsistent slots by_name queue waiting_keys a b → AreInside slots more → IsConsistent slots by_name (queue ++ more) waiting_keys a b
+kept_more slots by_name queue more waiting_keys a b h inside = record {
+  placed = h.placed;
+  parked = h.parked;
+  keys_inside = h.keys_inside;
+  queued = λ j s. Contains-append_left queue more j (h.queued j s);
+  inside = each_append _ queue more h.inside inside;
+  alive = h.alive;
+  waiters = h.waiters;
+}
+
+-- ---- the queue alone
+
+-- the first slot leaves the queue, whose thread does not go on
+pub kept_pop : {V : Type 0} (slots : List (Slot V)) (by_name : Places) (queue rest : List ℕ) (waiting_keys : Waiting) (a b i : ℕ) → IsConsistent slots by_name queue waiting_keys a b → queue ≡ i ∷ rest → (IsModeAt slots i mode.Runs → ⊥) → IsConsistent slots by_name rest waiting_keys a b
+kept_pop {V} slots by_name queue rest waiting_keys a b i h e still = record {
+  placed = h.placed;
+  parked = h.parked;
+  keys_inside = h.keys_inside;
+  queued = λ j s. go j s (Contains-cons_cases i j rest (subst (λ (q : List ℕ). Contains q j) e (h.queued j s)));
+  inside = (subst (λ (q : List ℕ). AreInside slots q) e h.inside).1;
+  alive = h.alive;
+  waiters = h.waiters;
+}
+  where
+    go : (j : ℕ) → IsModeAt slots j mode.Runs → (i ≡ j) ⊎ Contains rest j → Contains rest j
+    go j s (inl same) = absurd (still (subst (λ (k : ℕ). IsModeAt slots k mode.Runs) (sym same) s))
+    go j s (inr c) = c
+
+-- the first slot goes behind the others
+pub kept_rotated : {V : Type 0} (slots : List (Slot V)) (by_name : Places) (queue rest now : List ℕ) (waiting_keys : Waiting) (a b i : ℕ) → IsConsistent slots by_name queue waiting_keys a b → queue ≡ i ∷ rest → now ≡ rest ++ i ∷ [] → IsConsistent slots by_name now waiting_keys a b
+kept_rotated {V} slots by_name queue rest now waiting_keys a b i h e f = subst (λ (q : List ℕ). IsConsistent slots by_name q waiting_keys a b) (sym f) (record {
+  placed = h.placed;
+  parked = h.parked;
+  keys_inside = h.keys_inside;
+  queued = λ j s. go j (Contains-cons_cases i j rest (subst (λ (q : List ℕ). Contains q j) e (h.queued j s)));
+  inside = let all : AreInside slots (i ∷ rest) = subst (λ (q : List ℕ). AreInside slots q) e h.inside in each_append _ rest (i ∷ []) all.1 (all.0, tt);
+  alive = h.alive;
+  waiters = h.waiters;
+})
+  where
+    go : (j : ℕ) → (i ≡ j) ⊎ Contains rest j → Contains (rest ++ i ∷ []) j
+    go j (inl same) = subst (λ (k : ℕ). Contains (rest ++ i ∷ []) k) same (Contains-push rest i)
+    go j (inr c) = Contains-append_left rest (i ∷ []) j c
+
+-- ---- waking
+
+map_length : {V : Type 0} (x : VarName) (slots : List (Slot V)) → length (map (wake_slot x) slots) ≡ length slots
+map_length x [] = refl
+map_length x (o ∷ slots) = ap suc (map_length x slots)
+
+inside_same : {X Y : Type 0} (slots : List X) (now : List Y) (js : List ℕ) → length now ≡ length slots → AreInside slots js → AreInside now js
+inside_same slots now js e h = subst (λ (n : ℕ). Each (λ (j : ℕ). j < n) js) (sym e) h
+
+lacks_map : {V : Type 0} (x : VarName) (n : ThreadName) (slots : List (Slot V)) → Each (IsNotSlotOf n) slots → Each (IsNotSlotOf n) (map (wake_slot x) slots)
+lacks_map x n [] h = tt
+lacks_map x n (None ∷ slots) h = (tt, lacks_map x n slots h.1)
+lacks_map x n (Some e ∷ slots) h = (h.0, lacks_map x n slots h.1)
+
+only_map : {V : Type 0} (x : VarName) (n : ThreadName) (slots : List (Slot V)) (i : ℕ) → IsOnlyAt n slots i → IsOnlyAt n (map (wake_slot x) slots) i
+only_map x n [] i h = h
+only_map x n (None ∷ slots) zero h = absurd h.0
+only_map x n (Some e ∷ slots) zero h = (h.0, lacks_map x n slots h.1)
+only_map x n (None ∷ slots) (suc i) h = (tt, only_map x n slots i h.1)
+only_map x n (Some e ∷ slots) (suc i) h = (h.0, only_map x n slots i h.1)
+
+placed_map : {V : Type 0} (x : VarName) (slots : List (Slot V)) (slot : ThreadName → Option ℕ) → ArePlaced slots slot → ArePlaced (map (wake_slot x) slots) slot
+placed_map {V} x slots slot h n = go (slot n) (h n)
+  where
+    go : (o : Option ℕ) → IsPlaced slots n o → IsPlaced (map (wake_slot x) slots) n o
+    go None k = lacks_map x n slots k
+    go (Some i) k = only_map x n slots i k
+
+-- a roused thread: it can go on now and waited, or stands as before
+wake_cases : (x : VarName) (m : Mode) → ((m ≡ mode.Waits x) × (wake x m ≡ mode.Runs)) ⊎ ((wake x m ≡ m) × (m ≢ mode.Waits x))
+wake_cases x mode.Runs = inr (refl, λ e. cc)
+wake_cases x (mode.WaitsFor c) = inr (refl, λ e. cc)
+wake_cases x (mode.Waits y) = go (equal_var y x) refl
+  where
+    go : (b : Bool) → equal_var y x ≡ b → ((mode.Waits y ≡ mode.Waits x) × (cond b mode.Runs (mode.Waits y) ≡ mode.Runs)) ⊎ ((cond b mode.Runs (mode.Waits y) ≡ mode.Waits y) × (mode.Waits y ≢ mode.Waits x))
+    go true e = inl (ap mode.Waits ((same_name_decides y x).0 e), refl)
+    go false e = inr (refl, λ k. let same : y ≡ x = cc in let yes : equal_var y x ≡ true = subst (λ (z : VarName). equal_var y z ≡ true) same (same_name_refl y) in cc)
+
+-- how a roused slot stood
+stood : {V : Type 0} (x : VarName) (slots : List (Slot V)) (j : ℕ) (m : Mode) → IsModeAt (map (wake_slot x) slots) j m → (old : Mode) × IsModeAt slots j old × (wake x old ≡ m)
+stood x [] j m h = cc
+stood x (None ∷ slots) zero m h = cc
+stood {V} x (Some e ∷ slots) zero m h =
+    let same : (Some (record e { mode = wake x e.mode })) ≡ Some h.0 = cc in
+    (e.mode, (e, refl, refl), ap (λ (o : Slot V). mode_in o) same ∙ h.2)
+stood x (o ∷ slots) (suc j) m h = stood x slots j m h
+
+pub kept_map : {V : Type 0} (x : VarName) (slots : List (Slot V)) (by_name : Places) (queue : List ℕ) (waiting_keys left : Waiting) (a b c : ℕ) → IsConsistent slots by_name queue waiting_keys a b →
+    ((y : VarName) → keys_among left y ≡ keys.without_keys (keys_among waiting_keys) x y) → c ≡ total waiting (map (wake_slot x) slots) → IsConsistent (map (wake_slot x) slots) by_name (queue ++ keys_among waiting_keys x) left a c
+kept_map {V} x slots by_name queue waiting_keys left a b c h rest counted = record {
+  placed = placed_map x slots (slot_in by_name) h.placed;
+  queued = λ j s. goes j (stood x slots j mode.Runs s);
+  parked = λ j y s. waits j y (stood x slots j (mode.Waits y) s);
+  inside = inside_same slots (map (wake_slot x) slots) (queue ++ keys_among waiting_keys x) (map_length x slots) (each_append _ queue (keys_among waiting_keys x) h.inside (h.keys_inside x));
+  keys_inside = λ y. subst (λ (js : List ℕ). AreInside (map (wake_slot x) slots) js) (sym (rest y)) (some y (equal_var x y));
+  alive = h.alive ∙ sym (living_roused x slots);
+  waiters = counted;
+}
+  where
+    goes : (j : ℕ) → (old : Mode) × IsModeAt slots j old × (wake x old ≡ mode.Runs) → Contains (queue ++ keys_among waiting_keys x) j
+    goes j (old, at, is) = go (wake_cases x old)
+      where
+        go : ((old ≡ mode.Waits x) × (wake x old ≡ mode.Runs)) ⊎ ((wake x old ≡ old) × (old ≢ mode.Waits x)) → Contains (queue ++ keys_among waiting_keys x) j
+        go (inl w) = Contains-append_right queue (keys_among waiting_keys x) j (h.parked j x (at.0, at.1, at.2 ∙ w.0))
+        go (inr s) = Contains-append_left queue (keys_among waiting_keys x) j (h.queued j (at.0, at.1, at.2 ∙ (sym s.0 ∙ is)))
+
+    waits : (j : ℕ) (y : VarName) → (old : Mode) × IsModeAt slots j old × (wake x old ≡ mode.Waits y) → Contains (keys_among left y) j
+    waits j y (old, at, is) = go (wake_cases x old)
+      where
+        there : (r : Bool) → equal_var x y ≡ r → old ≡ mode.Waits y → old ≢ mode.Waits x → Contains (cond r [] (keys_among waiting_keys y)) j
+        there true e k l = absurd (l (k ∙ ap mode.Waits (sym ((same_name_decides x y).0 e))))
+        there false e k l = h.parked j y (at.0, at.1, at.2 ∙ k)
+
+        go : ((old ≡ mode.Waits x) × (wake x old ≡ mode.Runs)) ⊎ ((wake x old ≡ old) × (old ≢ mode.Waits x)) → Contains (keys_among left y) j
+        go (inl w) = let both : mode.Runs ≡ mode.Waits y = sym w.1 ∙ is in cc
+        go (inr s) = subst (λ (js : List ℕ). Contains js j) (sym (rest y)) (there (equal_var x y) refl (sym s.0 ∙ is) s.1)
+
+    some : (y : VarName) (r : Bool) → AreInside (map (wake_slot x) slots) (cond r [] (keys_among waiting_keys y))
+    some y true = tt
+    some y false = inside_same slots (map (wake_slot x) slots) (keys_among waiting_keys y) (map_length x slots) (h.keys_inside y)
+
+-- all that waited for a variable are roused
+pub slots_roused : {V : Type 0} (x : VarName) (slots now : List (Slot V)) (by_name : Places) (queue js : List ℕ) (waiting_keys : Waiting) (a b : ℕ) → IsConsistent slots by_name queue waiting_keys a b → js ≡ keys_among waiting_keys x → now ≡ wake_slots x slots js →
+    now ≡ map (wake_slot x) slots
+slots_roused x slots now by_name queue js waiting_keys a b h e f =
+    f ∙ (ap (λ (k : List ℕ). wake_slots x slots k) e ∙ roused_all x slots (keys_among waiting_keys x) (λ j s. h.parked j x s))
+
+pub kept_spare : {V : Type 0} (x : VarName) (slots : List (Slot V)) (by_name : Places) (queue now js : List ℕ) (waiting_keys : Waiting) (a b : ℕ) → IsConsistent slots by_name queue waiting_keys a b → js ≡ keys_among waiting_keys x → (n : ℕ) × (now ≡ queue ++ take n js) →
+    IsConsistent slots by_name now waiting_keys a b
+kept_spare x slots by_name queue now js waiting_keys a b h e k =
+    subst (λ (q : List ℕ). IsConsistent slots by_name q waiting_keys a b) (sym k.1)
+    (kept_more slots by_name queue (take k.0 js) waiting_keys a b h (each_take _ k.0 js (subst (λ (l : List ℕ). AreInside slots l) (sym e) (h.keys_inside x))))
+
+pub kept_roused : {V : Type 0} (x : VarName) (slots now : List (Slot V)) (by_name : Places) (queue more js : List ℕ) (waiting_keys left : Waiting) (a b c : ℕ) → IsConsistent slots by_name queue waiting_keys a b → js ≡ keys_among waiting_keys x → more ≡ queue ++ js →
+    now ≡ wake_slots x slots js → ((y : VarName) → keys_among left y ≡ keys.without_keys (keys_among waiting_keys) x y) → c ≡ total waiting now → IsConsistent now by_name more left a c
+kept_roused {V} x slots now by_name queue more js waiting_keys left a b c h e m f rest counted =
+    let all : now ≡ map (wake_slot x) slots = slots_roused x slots now by_name queue js waiting_keys a b h e f in
+    let longer : more ≡ queue ++ keys_among waiting_keys x = m ∙ ap (λ (l : List ℕ). queue ++ l) e in
+    rw (all, longer) (kept_map x slots by_name queue waiting_keys left a b c h rest (counted ∙ ap (λ (l : List (Slot V)). total waiting l) all))
+
+-- ---- one slot changes
+
+stands_set : {V : Type 0} (slots : List (Slot V)) (i j : ℕ) (e : Occupant V) (m : Mode) → IsModeAt (slice_set slots i (Some e)) j m → ((j ≡ i) × (e.mode ≡ m)) ⊎ IsModeAt slots j m
+stands_set [] i j e m h = inr h
+stands_set {V} (o ∷ slots) zero zero e m h =
+    let same : Some e ≡ Some h.0 = cc in
+    inl (refl, ap (λ (p : Slot V). mode_in p) same ∙ h.2)
+stands_set (o ∷ slots) zero (suc j) e m h = inr h
+stands_set (o ∷ slots) (suc i) zero e m h = inr h
+stands_set {V} (o ∷ slots) (suc i) (suc j) e m h = go (stands_set slots i j e m h)
+  where
+    go : ((j ≡ i) × (e.mode ≡ m)) ⊎ IsModeAt slots j m → ((suc j ≡ suc i) × (e.mode ≡ m)) ⊎ IsModeAt (o ∷ slots) (suc j) m
+    go (inl s) = inl (ap suc s.0, s.1)
+    go (inr s) = inr s
+
+set_length : {X : Type 0} (xs : List X) (i : ℕ) (x : X) → length (slice_set xs i x) ≡ length xs
+set_length [] i x = refl
+set_length (y ∷ xs) zero x = refl
+set_length (y ∷ xs) (suc i) x = ap suc (set_length xs i x)
+
+inside_set : {X : Type 0} (xs : List X) (i : ℕ) (x : X) (js : List ℕ) → AreInside xs js → AreInside (slice_set xs i x) js
+inside_set xs i x js h = inside_same xs (slice_set xs i x) js (set_length xs i x) h
+
+-- a thread stands otherwise: where it can go on it is in the queue, where it waits for a variable it is among the keys
+kept_set : {V : Type 0} (slots : List (Slot V)) (by_name : Places) (queue more : List ℕ) (waiting_keys left : Waiting) (a b c : ℕ) (n : ThreadName) (i : ℕ) (old new : Occupant V) → IsConsistent slots by_name queue waiting_keys a b →
+    slot_in by_name n ≡ Some i → slice_get slots i ≡ Some (Some old) → new.name ≡ n → ((j : ℕ) → Contains queue j → Contains more j) → ((y : VarName) (j : ℕ) → Contains (keys_among waiting_keys y) j → Contains (keys_among left y) j) →
+    (new.mode ≡ mode.Runs → Contains more i) → ((x : VarName) → new.mode ≡ mode.Waits x → Contains (keys_among left x) i) →
+    AreInside slots more → ((y : VarName) → AreInside slots (keys_among left y)) → c + weight old.mode ≡ b + weight new.mode → IsConsistent (slice_set slots i (Some new)) by_name more left a c
+kept_set {V} slots by_name queue more waiting_keys left a b c n i old new h e at is longer further runs waits inside keyed counted = record {
+  placed = placed_set n slots (slot_in by_name) i new h.placed e is;
+  queued = λ j s. goes j (stands_set slots i j new mode.Runs s);
+  parked = λ j x s. rests j x (stands_set slots i j new (mode.Waits x) s);
+  inside = inside_set slots i (Some new) more inside;
+  keys_inside = λ y. inside_set slots i (Some new) (keys_among left y) (keyed y);
+  alive = let all = h.alive in let same = total_set one slots i old new at in omega (arith, all, same);
+  waiters = let all = h.waiters in let same = total_set waiting slots i old new at in omega (arith, all, same, counted);
+}
+  where
+    goes : (j : ℕ) → ((j ≡ i) × (new.mode ≡ mode.Runs)) ⊎ IsModeAt slots j mode.Runs → Contains more j
+    goes j (inl s) = subst (λ (k : ℕ). Contains more k) (sym s.0) (runs s.1)
+    goes j (inr s) = longer j (h.queued j s)
+
+    rests : (j : ℕ) (x : VarName) → ((j ≡ i) × (new.mode ≡ mode.Waits x)) ⊎ IsModeAt slots j (mode.Waits x) → Contains (keys_among left x) j
+    rests j x (inl s) = subst (λ (k : ℕ). Contains (keys_among left x) k) (sym s.0) (waits x s.1)
+    rests j x (inr s) = further x j (h.parked j x s)
+
+-- it waits for a variable, and its slot is one more key there
+pub kept_waits : {V : Type 0} (slots now : List (Slot V)) (by_name : Places) (queue : List ℕ) (waiting_keys left : Waiting) (a b c : ℕ) (n : ThreadName) (i : ℕ) (old : Occupant V) (x : VarName) → IsConsistent slots by_name queue waiting_keys a b →
+    slot_in by_name n ≡ Some i → slice_get slots i ≡ Some (Some old) → old.name ≡ n → now ≡ slice_set slots i (Some (record old { mode = mode.Waits x })) →
+    ((y : VarName) → keys_among left y ≡ keys.with_key (keys_among waiting_keys) x i y) → c + weight old.mode ≡ b + 1 → IsConsistent now by_name queue left a c
+kept_waits {V} slots now by_name queue waiting_keys left a b c n i old x h e at is f rest counted =
+    subst (λ (l : List (Slot V)). IsConsistent l by_name queue left a c) (sym f)
+    (kept_set slots by_name queue queue waiting_keys left a b c n i old (record old { mode = mode.Waits x }) h e at is (λ j k. k) (λ y j k. keeps y j k) (λ r. cc) (λ y w. there y (ap for_var w)) h.inside (λ y. inside y) counted)
+  where
+    for_var : Mode → VarName
+    for_var (mode.Waits y) = y
+    for_var m = x
+
+    below : i < length slots
+    below = only_inside slots n i (only_at slots (slot_in by_name) n i h.placed e)
+
+    more : (y : VarName) (j : ℕ) (r : Bool) → Contains (keys_among waiting_keys y) j → Contains (cond r (keys_among waiting_keys y ++ i ∷ []) (keys_among waiting_keys y)) j
+    more y j true k = Contains-append_left (keys_among waiting_keys y) (i ∷ []) j k
+    more y j false k = k
+
+    keeps : (y : VarName) (j : ℕ) → Contains (keys_among waiting_keys y) j → Contains (keys_among left y) j
+    keeps y j k = subst (λ (js : List ℕ). Contains js j) (sym (rest y)) (more y j (equal_var x y) k)
+
+    there : (y : VarName) → x ≡ y → Contains (keys_among left y) i
+    there y same = subst (λ (js : List ℕ). Contains js i) (sym (rest y))
+        (rw ((same_name_decides x y).1 same) (Contains-push (keys_among waiting_keys y) i))
+
+    each_more : (r : Bool) (js : List ℕ) → AreInside slots js → AreInside slots (cond r (js ++ i ∷ []) js)
+    each_more true js g = each_append (λ (j : ℕ). j < length slots) js (i ∷ []) g (below, tt)
+    each_more false js g = g
+
+    inside : (y : VarName) → AreInside slots (keys_among left y)
+    inside y = subst (λ (js : List ℕ). AreInside slots js) (sym (rest y)) (each_more (equal_var x y) (keys_among waiting_keys y) (h.keys_inside y))
+
+-- it waits for something else
+pub kept_waits_for : {V : Type 0} (slots now : List (Slot V)) (by_name : Places) (queue : List ℕ) (waiting_keys : Waiting) (a b c : ℕ) (n : ThreadName) (i : ℕ) (old : Occupant V) (m : Mode) → IsConsistent slots by_name queue waiting_keys a b →
+    slot_in by_name n ≡ Some i → slice_get slots i ≡ Some (Some old) → old.name ≡ n → now ≡ slice_set slots i (Some (record old { mode = m })) → m ≢ mode.Runs → ((x : VarName) → m ≢ mode.Waits x) → c + weight old.mode ≡ b + weight m →
+    IsConsistent now by_name queue waiting_keys a c
+kept_waits_for {V} slots now by_name queue waiting_keys a b c n i old m h e at is f still other counted =
+    subst (λ (l : List (Slot V)). IsConsistent l by_name queue waiting_keys a c) (sym f)
+    (kept_set slots by_name queue queue waiting_keys waiting_keys a b c n i old (record old { mode = m }) h e at is (λ j k. k) (λ y j k. k) (λ r. absurd (still r)) (λ x w. absurd (other x w)) h.inside h.keys_inside counted)
+
+-- it goes on, and its slot is in the queue
+pub kept_runs : {V : Type 0} (slots now : List (Slot V)) (by_name : Places) (queue more : List ℕ) (waiting_keys : Waiting) (a b c : ℕ) (n : ThreadName) (i : ℕ) (old : Occupant V) → IsConsistent slots by_name queue waiting_keys a b →
+    slot_in by_name n ≡ Some i → slice_get slots i ≡ Some (Some old) → old.name ≡ n → now ≡ slice_set slots i (Some (record old { mode = mode.Runs })) → more ≡ queue ++ i ∷ [] → c + weight old.mode ≡ b → IsConsistent now by_name more waiting_keys a c
+kept_runs {V} slots now by_name queue more waiting_keys a b c n i old h e at is f g counted =
+    subst (λ (l : List (Slot V)). IsConsistent l by_name more waiting_keys a c) (sym f)
+    (subst (λ (q : List ℕ). IsConsistent (slice_set slots i (Some (record old { mode = mode.Runs }))) by_name q waiting_keys a c) (sym g)
+    (kept_set slots by_name queue (queue ++ i ∷ []) waiting_keys waiting_keys a b c n i old (record old { mode = mode.Runs }) h e at is
+    (λ j k. Contains-append_left queue (i ∷ []) j k) (λ y j k. k) (λ r. Contains-push queue i) (λ x w. cc)
+    (each_append (λ (j : ℕ). j < length slots) queue (i ∷ []) h.inside (only_inside slots n i (only_at slots (slot_in by_name) n i h.placed e), tt)) h.keys_inside (omega (arith, counted))))
+
+-- its value is another
+pub kept_value : {V : Type 0} (slots : List (Slot V)) (by_name : Places) (queue : List ℕ) (waiting_keys : Waiting) (a b : ℕ) (n : ThreadName) (i : ℕ) (old : Occupant V) (v : V) → IsConsistent slots by_name queue waiting_keys a b →
+    slot_in by_name n ≡ Some i → slice_get slots i ≡ Some (Some old) → old.name ≡ n → IsConsistent (slice_set slots i (Some (record old { value = v }))) by_name queue waiting_keys a b
+kept_value {V} slots by_name queue waiting_keys a b n i old v h e at is =
+    kept_set slots by_name queue queue waiting_keys waiting_keys a b b n i old (record old { value = v }) h e at is (λ j k. k) (λ y j k. k) (λ r. h.queued i (old, at, r)) (λ x w. h.parked i x (old, at, w)) h.inside h.keys_inside refl
+
+-- ---- a thread ends
+
+stands_none : {V : Type 0} (slots : List (Slot V)) (i j : ℕ) (m : Mode) → IsModeAt (slice_set slots i None) j m → IsModeAt slots j m
+stands_none [] i j m h = h
+stands_none (o ∷ slots) zero zero m h = cc
+stands_none (o ∷ slots) zero (suc j) m h = h
+stands_none (o ∷ slots) (suc i) zero m h = h
+stands_none (o ∷ slots) (suc i) (suc j) m h = stands_none slots i j m h
+
+pub kept_end : {V : Type 0} (slots now : List (Slot V)) (by_name rest : Places) (queue : List ℕ) (waiting_keys : Waiting) (a b c d : ℕ) (n : ThreadName) (i : ℕ) (old : Occupant V) → IsConsistent slots by_name queue waiting_keys a b → slot_in by_name n ≡ Some i →
+    slice_get slots i ≡ Some (Some old) → now ≡ slice_set slots i None → ((k : ThreadName) → slot_in rest k ≡ with_slot (slot_in by_name) n None k) → c + 1 ≡ a → d + weight old.mode ≡ b → IsConsistent now rest queue waiting_keys c d
+kept_end {V} slots now by_name rest queue waiting_keys a b c d n i old h e at f g lived waited = subst (λ (l : List (Slot V)). IsConsistent l rest queue waiting_keys c d) (sym f) (record {
+  placed = placed_end n slots (slot_in by_name) (slot_in rest) i h.placed e (g n ∙ rw (is_same n n refl) refl) (λ k differs. g k ∙ rw (is_other n k differs) refl);
+  queued = λ j s. h.queued j (stands_none slots i j mode.Runs s);
+  parked = λ j x s. h.parked j x (stands_none slots i j (mode.Waits x) s);
+  inside = inside_set slots i None queue h.inside;
+  keys_inside = λ x. inside_set slots i None (keys_among waiting_keys x) (h.keys_inside x);
+  alive = let all = h.alive in let less = total_end one slots i old at in omega (arith, all, less, lived);
+  waiters = let all = h.waiters in let less = total_end waiting slots i old at in omega (arith, all, less, waited);
+})
+
+-- ---- a thread is born
+
+stands_more : {V : Type 0} (slots : List (Slot V)) (w : Occupant V) (j : ℕ) (m : Mode) → IsModeAt (slots ++ Some w ∷ []) j m → ((j ≡ length slots) × (w.mode ≡ m)) ⊎ IsModeAt slots j m
+stands_more {V} [] w zero m h =
+    let same : Some w ≡ Some h.0 = cc in
+    inl (refl, ap (λ (p : Slot V). mode_in p) same ∙ h.2)
+stands_more [] w (suc j) m h = cc
+stands_more (o ∷ slots) w zero m h = inr h
+stands_more {V} (o ∷ slots) w (suc j) m h = go (stands_more slots w j m h)
+  where
+    go : ((j ≡ length slots) × (w.mode ≡ m)) ⊎ IsModeAt slots j m → ((suc j ≡ suc (length slots)) × (w.mode ≡ m)) ⊎ IsModeAt (o ∷ slots) (suc j) m
+    go (inl s) = inl (ap suc s.0, s.1)
+    go (inr s) = inr s
+
+inside_more : {X : Type 0} (xs : List X) (x : X) (js : List ℕ) → AreInside xs js → AreInside (xs ++ x ∷ []) js
+inside_more xs x [] h = tt
+inside_more xs x (j ∷ js) h = let more = length_push xs x in let below = h.0 in (omega (arith, more, below), inside_more xs x js h.1)
+
+pub kept_born : {V : Type 0} (slots now : List (Slot V)) (by_name more : Places) (queue longer : List ℕ) (waiting_keys : Waiting) (a b c : ℕ) (n : ThreadName) (w : Occupant V) → IsConsistent slots by_name queue waiting_keys a b → slot_in by_name n ≡ None →
+    w.name ≡ n → w.mode ≡ mode.Runs → now ≡ slots ++ Some w ∷ [] → ((k : ThreadName) → slot_in more k ≡ with_slot (slot_in by_name) n (Some (length slots)) k) → longer ≡ queue ++ length slots ∷ [] → c ≡ a + 1 → IsConsistent now more longer waiting_keys c b
+kept_born {V} slots now by_name more queue longer waiting_keys a b c n w h none is runs f g q counted =
+    rw (f, q) (record {
+      placed = placed_born n slots (slot_in by_name) (slot_in more) w h.placed none (g n ∙ rw (is_same n n refl) refl) (λ k differs. g k ∙ rw (is_other n k differs) refl) is;
+      queued = λ j s. goes j (stands_more slots w j mode.Runs s);
+      parked = λ j x s. waits j x (stands_more slots w j (mode.Waits x) s);
+      inside = each_append _ queue (length slots ∷ []) (inside_more slots (Some w) queue h.inside) (let more = length_push slots (Some w) in omega (arith, more), tt);
+      keys_inside = λ x. inside_more slots (Some w) (keys_among waiting_keys x) (h.keys_inside x);
+      alive = let all = h.alive in let further = total_born one slots w in omega (arith, all, further, counted);
+      waiters = let all = h.waiters in let further = total_born waiting slots w in let zero_weight : weight w.mode ≡ 0 = rw runs refl in omega (arith, all, further, zero_weight);
+    })
+  where
+    goes : (j : ℕ) → ((j ≡ length slots) × (w.mode ≡ mode.Runs)) ⊎ IsModeAt slots j mode.Runs → Contains (queue ++ length slots ∷ []) j
+    goes j (inl s) = subst (λ (k : ℕ). Contains (queue ++ length slots ∷ []) k) (sym s.0) (Contains-push queue (length slots))
+    goes j (inr s) = Contains-append_left queue (length slots ∷ []) j (h.queued j s)
+
+    waits : (j : ℕ) (x : VarName) → ((j ≡ length slots) × (w.mode ≡ mode.Waits x)) ⊎ IsModeAt slots j (mode.Waits x) → Contains (keys_among waiting_keys x) j
+    waits j x (inl s) = let both : mode.Runs ≡ mode.Waits x = sym runs ∙ s.1 in cc
+    waits j x (inr s) = h.parked j x s
+
+-- ---- the slot that leaves the queue
+
+put_there : {X : Type 0} (xs : List X) (i : ℕ) (x y : X) → slice_get (slice_set xs i x) i ≡ Some y → x ≡ y
+put_there [] i x y e = cc
+put_there (z ∷ xs) zero x y e = cc
+put_there (z ∷ xs) (suc i) x y e = put_there xs i x y e
+
+pub still_set : {V : Type 0} (slots now : List (Slot V)) (i : ℕ) (h : Occupant V) → now ≡ slice_set slots i (Some h) → h.mode ≢ mode.Runs → IsModeAt now i mode.Runs → ⊥
+still_set {V} slots now i h f differs s =
+    let same : Some h ≡ Some s.0 = put_there slots i (Some h) (Some s.0) (sym (ap (λ (l : List (Slot V)). slice_get l i) f) ∙ s.1) in
+    differs (ap (λ (o : Slot V). mode_in o) same ∙ s.2)
+
+pub still_none : {V : Type 0} (slots now : List (Slot V)) (i : ℕ) → now ≡ slice_set slots i None → IsModeAt now i mode.Runs → ⊥
+still_none {V} slots now i f s = let same : None ≡ Some s.0 = put_there slots i None (Some s.0) (sym (ap (λ (l : List (Slot V)). slice_get l i) f) ∙ s.1) in cc
+
+pub kept_left : {V : Type 0} (slots : List (Slot V)) (by_name : Places) (queue rest : List ℕ) (waiting_keys : Waiting) (a b i : ℕ) → HasLeft i queue rest → (IsModeAt slots i mode.Runs → ⊥) → IsConsistent slots by_name queue waiting_keys a b →
+    IsConsistent slots by_name rest waiting_keys a b
+kept_left slots by_name queue rest waiting_keys a b i (inl same) still h = subst (λ (q : List ℕ). IsConsistent slots by_name q waiting_keys a b) (sym same) h
+kept_left slots by_name queue rest waiting_keys a b i (inr first) still h = kept_pop slots by_name queue rest waiting_keys a b i h first still
+
+-- slots whose threads do not go on have left the front of the queue
+pub kept_rest : {V : Type 0} (slots : List (Slot V)) (by_name : Places) (queue rest : List ℕ) (waiting_keys : Waiting) (a b : ℕ) → IsRest slots queue rest → IsConsistent slots by_name queue waiting_keys a b → IsConsistent slots by_name rest waiting_keys a b
+kept_rest {V} slots by_name queue rest waiting_keys a b (front, e, still) h = go front still (subst (λ (q : List ℕ). IsConsistent slots by_name q waiting_keys a b) e h)
+  where
+    go : (js : List ℕ) → Each (λ (j : ℕ). IsModeAt slots j mode.Runs → ⊥) js → IsConsistent slots by_name (js ++ rest) waiting_keys a b → IsConsistent slots by_name rest waiting_keys a b
+    go [] s k = k
+    go (j ∷ js) s k = go js s.1 (kept_pop slots by_name (j ∷ (js ++ rest)) (js ++ rest) waiting_keys a b j k refl s.0)
+
+pub rest_same : {V : Type 0} (slots : List (Slot V)) (queue : List ℕ) → IsRest slots queue queue
+rest_same slots queue = ([], refl, tt)
+
+append_one : (js rest : List ℕ) (j : ℕ) → js ++ j ∷ rest ≡ (js ++ j ∷ []) ++ rest
+append_one [] rest j = refl
+append_one (i ∷ js) rest j = ap (λ (l : List ℕ). i ∷ l) (append_one js rest j)
+
+pub rest_more : {V : Type 0} (slots : List (Slot V)) (queue now rest : List ℕ) (j : ℕ) → IsRest slots queue now → now ≡ j ∷ rest → (IsModeAt slots j mode.Runs → ⊥) → IsRest slots queue rest
+rest_more slots queue now rest j (front, e, still) f s =
+    (front ++ j ∷ [], e ∙ (ap (λ (l : List ℕ). front ++ l) f ∙ append_one front rest j), each_append _ front (j ∷ []) still (s, tt))
+
+-- where the queue is empty, none can go on
+pub none_runs : {V : Type 0} (slots : List (Slot V)) → ((j : ℕ) → IsModeAt slots j mode.Runs → ⊥) → AllWait (threads_in slots)
+none_runs [] h = tt
+none_runs (None ∷ slots) h = none_runs slots (λ j s. h (suc j) s)
+none_runs {V} (Some k ∷ slots) h = each_append _ (threads_in slots) (entry k ∷ []) (none_runs slots (λ j s. h (suc j) s)) ((λ e. h 0 (k, refl, e)), tt)
+
+pub none_left : {V : Type 0} (slots : List (Slot V)) (by_name : Places) (queue rest : List ℕ) (waiting_keys : Waiting) (a b : ℕ) → IsConsistent slots by_name queue waiting_keys a b → IsRest slots queue rest → rest ≡ [] → AllWait (threads_in slots)
+none_left {V} slots by_name queue rest waiting_keys a b h left e = none_runs slots (λ j s. nothing j (subst (λ (q : List ℕ). Contains q j) e (now.queued j s)))
+  where
+    now : IsConsistent slots by_name rest waiting_keys a b
+    now = kept_rest slots by_name queue rest waiting_keys a b left h
+
+    nothing : (j : ℕ) → Contains [] j → ⊥
+    nothing j (k, below, is) = absurd (omega arith)
+
+-- the first is a thread that can go on
+pub next_goes : {V : Type 0} (slots : List (Slot V)) (by_name : Places) (queue rest : List ℕ) (waiting_keys : Waiting) (a b : ℕ) (n : ThreadName) → IsConsistent slots by_name queue waiting_keys a b → IsNext slots rest n → IsRunnable (threads_in slots) n
+next_goes {V} slots by_name queue rest waiting_keys a b n h (i, more, k, e, at, is, runs) =
+    let placed = placed_there slots (slot_in by_name) i k n h.placed at is in
+    let there = found n slots i k (only_at slots (slot_in by_name) n i h.placed placed) at in
+    (k.value, there ∙ ap (λ (m : Mode). Some (k.value, m)) runs)
+
+pub kept_turned : {V : Type 0} (slots : List (Slot V)) (by_name : Places) (queue now : List ℕ) (waiting_keys : Waiting) (a b : ℕ) → ((i : ℕ) (rest : List ℕ) → queue ≡ i ∷ rest → now ≡ rest ++ i ∷ []) → (queue ≡ [] → now ≡ []) →
+    IsConsistent slots by_name queue waiting_keys a b → IsConsistent slots by_name now waiting_keys a b
+kept_turned {V} slots by_name [] now waiting_keys a b some none h = subst (λ (q : List ℕ). IsConsistent slots by_name q waiting_keys a b) (sym (none refl)) h
+kept_turned slots by_name (i ∷ rest) now waiting_keys a b some none h = kept_rotated slots by_name (i ∷ rest) rest now waiting_keys a b i h refl (some i rest refl)
+
+-- ---- what contracts see
+
+pub mode_view : {V : Type 0} (slots now : List (Slot V)) (slot : ThreadName → Option ℕ) (n : ThreadName) (i : ℕ) (h : Occupant V) (m : Mode) → ArePlaced slots slot → slot n ≡ Some i → slice_get slots i ≡ Some (Some h) → h.name ≡ n →
+    now ≡ slice_set slots i (Some (record h { mode = m })) → threads_in now ≡ set_mode (threads_in slots) n m
+mode_view {V} slots now slot n i h m placed e at is f = ap (λ (l : List (Slot V)). threads_in l) f ∙ mode_put n slots i h m (only_at slots slot n i placed e) at is
+
+pub value_view : {V : Type 0} (slots : List (Slot V)) (slot : ThreadName → Option ℕ) (n : ThreadName) (i : ℕ) (h : Occupant V) (v : V) → ArePlaced slots slot → slot n ≡ Some i → slice_get slots i ≡ Some (Some h) → h.name ≡ n →
+    threads_in (slice_set slots i (Some (record h { value = v }))) ≡ set_value (threads_in slots) n v
+value_view slots slot n i h v placed e at is = value_put n slots i h v (only_at slots slot n i placed e) at is
+
+pub end_view : {V : Type 0} (slots now : List (Slot V)) (slot : ThreadName → Option ℕ) (n : ThreadName) (i : ℕ) → ArePlaced slots slot → slot n ≡ Some i → now ≡ slice_set slots i None → threads_in now ≡ without_key equal_thread (threads_in slots) n
+end_view {V} slots now slot n i placed e f = ap (λ (l : List (Slot V)). threads_in l) f ∙ thread_ended n slots i (only_at slots slot n i placed e)
+
+-- the number of those that have ended
+abbrev pub ended_in : {V : Type 0} → List (Slot V) → ℕ
+ended_in slots = length slots - total one slots
+
+pub ended_set : {V : Type 0} (slots now : List (Slot V)) (i : ℕ) (h k : Occupant V) → slice_get slots i ≡ Some (Some h) → now ≡ slice_set slots i (Some k) → ended_in now ≡ ended_in slots
+ended_set {V} slots now i h k at f = ap (λ (l : List (Slot V)). ended_in l) f ∙ same
+  where
+    same : ended_in (slice_set slots i (Some k)) ≡ ended_in slots
+    same = let long = set_length slots i (Some k) in let sum = total_set one slots i h k at in omega (arith, long, sum)
+
+pub ended_roused : {V : Type 0} (x : VarName) (slots now : List (Slot V)) → now ≡ map (wake_slot x) slots → ended_in now ≡ ended_in slots
+ended_roused {V} x slots now f = ap (λ (l : List (Slot V)). ended_in l) f ∙ same
+  where
+    same : ended_in (map (wake_slot x) slots) ≡ ended_in slots
+    same = let long = map_length x slots in let sum = living_roused x slots in omega (arith, long, sum)
+
+pub ended_more : {V : Type 0} (slots now : List (Slot V)) (i : ℕ) (h : Occupant V) → slice_get slots i ≡ Some (Some h) → now ≡ slice_set slots i None → ended_in now ≡ ended_in slots + 1
+ended_more {V} slots now i h at f = ap (λ (l : List (Slot V)). ended_in l) f ∙ same
+  where
+    same : ended_in (slice_set slots i None) ≡ ended_in slots + 1
+    same = let long = set_length slots i None in let sum = total_end one slots i h at in let most = living_le slots in omega (arith, long, sum, most)
+
+pub ended_born : {V : Type 0} (slots now : List (Slot V)) (h : Occupant V) → now ≡ slots ++ Some h ∷ [] → ended_in now ≡ ended_in slots
+ended_born {V} slots now h f = ap (λ (l : List (Slot V)). ended_in l) f ∙ same
+  where
+    same : ended_in (slots ++ Some h ∷ []) ≡ ended_in slots
+    same = let long = length_push slots (Some h) in let sum = total_born one slots h in let most = living_le slots in omega (arith, long, sum, most)
+
+pub born_view : {V : Type 0} (slots now : List (Slot V)) (h : Occupant V) → now ≡ slots ++ Some h ∷ [] → threads_in now ≡ entry h ∷ threads_in slots
+born_view {V} slots now h f = ap (λ (l : List (Slot V)). threads_in l) f ∙ thread_born slots h
+
+pub wake_view : {V : Type 0} (x : VarName) (slots now : List (Slot V)) → now ≡ map (wake_slot x) slots → threads_in now ≡ wake_all x (threads_in slots)
+wake_view {V} x slots now f = ap (λ (l : List (Slot V)). threads_in l) f ∙ threads_woken x slots
+
+-- ---- a name without a thread, and one with one
+
+pub no_place : {V : Type 0} (slots : List (Slot V)) (slot : ThreadName → Option ℕ) (n : ThreadName) → ArePlaced slots slot → value_of equal_thread (threads_in slots) n ≡ None → slot n ≡ None
+no_place {V} slots slot n placed none = go (slot n) refl
+  where
+    go : (o : Option ℕ) → slot n ≡ o → slot n ≡ None
+    go None e = e
+    go (Some i) e =
+        let only = only_at slots slot n i placed e in
+        let held = held_at slots n i only in
+        let there = found n slots i held.0 only held.1 in
+        let both : ◌≡◌ {A = Option (V × Mode)} None (Some (held.0.value, held.0.mode)) = sym none ∙ there in cc
+
+pub no_thread : {V : Type 0} (slots : List (Slot V)) (slot : ThreadName → Option ℕ) (n : ThreadName) → ArePlaced slots slot → slot n ≡ None → value_of equal_thread (threads_in slots) n ≡ None
+no_thread {V} slots slot n placed e = lacking n slots (subst (λ (o : Option ℕ). IsPlaced slots n o) e (placed n))
+
+pub thread_there : {V : Type 0} (slots : List (Slot V)) (slot : ThreadName → Option ℕ) (n : ThreadName) (i : ℕ) → ArePlaced slots slot → slot n ≡ Some i → (h : Occupant V) × (slice_get slots i ≡ Some (Some h)) × (h.name ≡ n)
+thread_there slots slot n i placed e = held_at slots n i (only_at slots slot n i placed e)
+
+pub inside_there : {V : Type 0} (slots : List (Slot V)) (slot : ThreadName → Option ℕ) (n : ThreadName) (i : ℕ) → ArePlaced slots slot → slot n ≡ Some i → i < length slots
+inside_there slots slot n i placed e = only_inside slots n i (only_at slots slot n i placed e)
+
+pub value_found : {V : Type 0} (slots : List (Slot V)) (slot : ThreadName → Option ℕ) (n : ThreadName) (i : ℕ) (h : Occupant V) → ArePlaced slots slot → slot n ≡ Some i → slice_get slots i ≡ Some (Some h) →
+    value_of equal_thread (threads_in slots) n ≡ Some (h.value, h.mode)
+value_found slots slot n i h placed e at = found n slots i h (only_at slots slot n i placed e) at
+
+-- what was popped was the first
+pub popped : (queue now rest : List ℕ) (i : ℕ) (o : Option ℕ) → IfSome o (λ j. queue ≡ j ∷ now) → IfNone o (queue ≡ []) → queue ≡ i ∷ rest → queue ≡ i ∷ now
+popped queue now rest i None some none e = let both : i ∷ rest ≡ [] = sym e ∙ none in cc
+popped queue now rest i (Some j) some none e =
+    let both : j ∷ now ≡ i ∷ rest = sym some ∙ e in
+    let same : j ≡ i = cc in
+    some ∙ ap (λ (k : ℕ). k ∷ now) same
+
+pub stands_as : {V : Type 0} (slots : List (Slot V)) (i : ℕ) (o : Slot V) → slice_get slots i ≡ Some o → ((h : Occupant V) → o ≡ Some h → h.mode ≢ mode.Runs) → IsModeAt slots i mode.Runs → ⊥
+stands_as slots i o at still s = let both : Some o ≡ Some (Some s.0) = sym at ∙ s.1 in let same : o ≡ Some s.0 = cc in still s.0 same s.2
+
+-- what is found first
+pub first_goes : {V : Type 0} (slots : List (Slot V)) (by_name : Places) (queue rest : List ℕ) (waiting_keys : Waiting) (a b : ℕ) (o : Option ThreadName) → IsConsistent slots by_name queue waiting_keys a b → IfSome o (λ n. IsNext slots rest n) →
+    IfSome o (λ n. IsRunnable (threads_in slots) n)
+first_goes slots by_name queue rest waiting_keys a b None h next = tt
+first_goes slots by_name queue rest waiting_keys a b (Some n) h next = next_goes slots by_name queue rest waiting_keys a b n h next
+
+pub none_goes : {V : Type 0} (slots : List (Slot V)) (by_name : Places) (queue rest : List ℕ) (waiting_keys : Waiting) (a b : ℕ) (o : Option ThreadName) → IsConsistent slots by_name queue waiting_keys a b → IsRest slots queue rest → IfNone o (rest ≡ []) →
+    IfNone o (AllWait (threads_in slots))
+none_goes slots by_name queue rest waiting_keys a b None h left none = none_left slots by_name queue rest waiting_keys a b h left none
+none_goes slots by_name queue rest waiting_keys a b (Some n) h left none = tt
+
+-- a slot that is of a name is that of the name
+pub place_is : {V : Type 0} (slots : List (Slot V)) (slot : ThreadName → Option ℕ) (i : ℕ) (o : Slot V) (n : ThreadName) → ArePlaced slots slot → slice_get slots i ≡ Some o → IsSlotOf n o → Some i ≡ slot n
+place_is slots slot i None n placed at h = absurd h
+place_is slots slot i (Some k) n placed at h = sym (placed_there slots slot i k n placed at h)
+
+pub lives_there : {V : Type 0} (slots : List (Slot V)) (slot : ThreadName → Option ℕ) (n : ThreadName) (o : Option ℕ) → ArePlaced slots slot → o ≡ slot n → IsSome o → IsSome (value_of equal_thread (threads_in slots) n)
+lives_there slots slot n None placed e some = cc
+lives_there slots slot n (Some i) placed e some =
+    let only = only_at slots slot n i placed (sym e) in
+    let held = held_at slots n i only in
+    rw (found n slots i held.0 only held.1) refl
+
+pub there_lives : {V : Type 0} (slots : List (Slot V)) (slot : ThreadName → Option ℕ) (n : ThreadName) (o : Option ℕ) → ArePlaced slots slot → o ≡ slot n → IsSome (value_of equal_thread (threads_in slots) n) → IsSome o
+there_lives slots slot n None placed e some = absurd (has_place slots slot n placed some e)
+there_lives slots slot n (Some i) placed e some = refl
+
+-- ---- a loan of a value
+
+pub slot_is : {V : Type 0} (slots : List (Slot V)) (i : ℕ) (o : Slot V) (h : Occupant V) → slice_get slots i ≡ Some o → slice_get slots i ≡ Some (Some h) → o ≡ Some h
+slot_is slots i o h at is = let both : Some o ≡ Some (Some h) = sym at ∙ is in cc
+
+pub value_is : {V : Type 0} (o : Slot V) (h : Occupant V) (v : V) → o ≡ Some h → value_there o ≡ Some v → h.value ≡ v
+value_is o h v is there = let both : Some h.value ≡ Some v = ap value_there (sym is) ∙ there in cc
+
+pub lent_view : {V : Type 0} (s : Threads V) (slots : List (Slot V)) (slot : ThreadName → Option ℕ) (n : ThreadName) (i : ℕ) (o : Slot V) (h : Occupant V) (v : V) → ArePlaced slots slot → slot n ≡ Some i → slice_get slots i ≡ Some (Some h) → h.name ≡ n → o ≡ Some h →
+    record { living = threads_in slots; ended = ended_in slots } ≡ s →
+    ◌≡◌ {A = Threads V} (record { living = threads_in (slice_set slots i (with_value_in o v)); ended = ended_in (slice_set slots i (with_value_in o v)) }) (record s { living = set_value s.living n v })
+lent_view {V} s slots slot n i o h v placed e at is there view =
+    subst (λ (t : Threads V). ◌≡◌ {A = Threads V} (record { living = threads_in now; ended = ended_in now }) (record t { living = set_value t.living n v })) view
+    (rw (living, ended) refl)
+  where
+    now : List (Slot V)
+    now = slice_set slots i (with_value_in o v)
+
+    put : now ≡ slice_set slots i (Some (record h { value = v }))
+    put = ap (λ (p : Slot V). slice_set slots i (with_value_in p v)) there
+
+    living : threads_in now ≡ set_value (threads_in slots) n v
+    living = ap (λ (l : List (Slot V)). threads_in l) put ∙ value_view slots slot n i h v placed e at is
+
+    ended : ended_in now ≡ ended_in slots
+    ended = ended_set slots now i h (record h { value = v }) at put

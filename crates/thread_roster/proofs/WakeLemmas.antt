@@ -1,0 +1,177 @@
+-- Threads in slots that go on.
+use Rattle.std.proofs.Common.{arith, length-append, ◌≡◌, ◌≢◌, ◌∙◌, sym, ap, refl, subst, ℕ, ◌+◌, ◌≤◌, zero, suc, length, map, filter, ◌⊎◌, inl, inr, List, [], ◌∷◌, ◌++◌, Bool, true, false, cond, Some, None}
+use Rattle.std.specs.Prelude.{slice_set, slice_get, Contains}
+use Rattle.tree_node.specs.declared.names.VarName.{VarName}
+use Rattle.tree_node.specs.Store.{equal_var}
+use Rattle.tree_node.proofs.ClassLemmas.{same_name_decides, same_name_refl, Contains-cons_cases}
+use Rattle.thread_roster.specs.declared.mode.Mode.{Mode}
+use Rattle.thread_roster.specs.declared.mode.Mode.TheVariants as mode
+use Rattle.thread_roster.specs.declared.slot.Occupant.{Occupant}
+use Rattle.thread_roster.specs.Threads.{Entry, wake, wake_all, is_waiting, waiting_of, AllWait}
+use Rattle.thread_roster.specs.Slots.{Slot, entry, threads_in, wake_slot, wake_slot_at, wake_slots, IsModeAt, total, one, weight, waiting}
+
+-- ---- one slot
+
+set_same : {V : Type 0} (slots : List (Slot V)) (k : ℕ) (o : Slot V) (x : VarName) → slice_get slots k ≡ Some o → slice_set slots k (wake_slot x o) ≡ wake_slot_at x slots k
+set_same [] k o x e = cc
+set_same (p ∷ slots) zero o x e = let same : p ≡ o = cc in rw same refl
+set_same {V} (p ∷ slots) (suc k) o x e = ap (λ (l : List (Slot V)). p ∷ l) (set_same slots k o x e)
+
+pub roused_none : {V : Type 0} (slots now : List (Slot V)) (k : ℕ) (x : VarName) → slice_get slots k ≡ Some None → now ≡ slice_set slots k None → now ≡ wake_slot_at x slots k
+roused_none slots now k x at e = e ∙ set_same slots k None x at
+
+pub roused_some : {V : Type 0} (slots now : List (Slot V)) (k : ℕ) (x : VarName) (h g : Occupant V) → slice_get slots k ≡ Some (Some h) → g ≡ record h { mode = wake x h.mode } → now ≡ slice_set slots k (Some g) → now ≡ wake_slot_at x slots k
+roused_some slots now k x h g at made e = e ∙ rw made (set_same slots k (Some h) x at)
+
+-- ---- all slots of the keys
+
+wake_twice : (x : VarName) (m : Mode) → wake x (wake x m) ≡ wake x m
+wake_twice x mode.Runs = refl
+wake_twice x (mode.WaitsFor c) = refl
+wake_twice x (mode.Waits y) = go (equal_var y x) refl
+  where
+    go : (b : Bool) → equal_var y x ≡ b → wake x (cond b mode.Runs (mode.Waits y)) ≡ cond b mode.Runs (mode.Waits y)
+    go true e = refl
+    go false e = rw e refl
+
+rouse_twice : {V : Type 0} (x : VarName) (o : Slot V) → wake_slot x (wake_slot x o) ≡ wake_slot x o
+rouse_twice x None = refl
+rouse_twice x (Some h) = rw (wake_twice x h.mode) refl
+
+map_rouse_at : {V : Type 0} (x : VarName) (slots : List (Slot V)) (k : ℕ) → map (wake_slot x) (wake_slot_at x slots k) ≡ map (wake_slot x) slots
+map_rouse_at x [] k = refl
+map_rouse_at {V} x (o ∷ slots) zero = ap (λ (p : Slot V). p ∷ map (wake_slot x) slots) (rouse_twice x o)
+map_rouse_at {V} x (o ∷ slots) (suc k) = ap (λ (l : List (Slot V)). wake_slot x o ∷ l) (map_rouse_at x slots k)
+
+-- a mode that does not wait for the variable stays
+not_woken : (x : VarName) (m : Mode) → m ≢ mode.Waits x → wake x m ≡ m
+not_woken x mode.Runs h = refl
+not_woken x (mode.WaitsFor c) h = refl
+not_woken x (mode.Waits y) h = go (equal_var y x) refl
+  where
+    go : (b : Bool) → equal_var y x ≡ b → cond b mode.Runs (mode.Waits y) ≡ mode.Waits y
+    go false e = refl
+    go true e = absurd (h (ap mode.Waits ((same_name_decides y x).0 e)))
+
+not_roused : {V : Type 0} (x : VarName) (o : Slot V) → ((h : Occupant V) → o ≡ Some h → h.mode ≡ mode.Waits x → ⊥) → wake_slot x o ≡ o
+not_roused x None h = refl
+not_roused {V} x (Some k) h = ap (λ (m : Mode). Some (record k { mode = m })) (not_woken x k.mode (λ e. h k refl e))
+
+none_waits : {V : Type 0} (x : VarName) (slots : List (Slot V)) → ((j : ℕ) → IsModeAt slots j (mode.Waits x) → ⊥) → map (wake_slot x) slots ≡ slots
+none_waits x [] h = refl
+none_waits {V} x (o ∷ slots) h =
+    let head : wake_slot x o ≡ o = not_roused x o (λ e is m. h 0 (e, ap Some is, m)) in
+    let rest : map (wake_slot x) slots ≡ slots = none_waits x slots (λ j w. h (suc j) w) in
+    rw (head, rest) refl
+
+-- a roused thread does not wait for the variable
+abbrev pub mode_in : {V : Type 0} → Slot V → Mode
+mode_in None = mode.Runs
+mode_in (Some h) = h.mode
+
+wake_goes : (x : VarName) (m : Mode) → wake x m ≡ mode.Waits x → ⊥
+wake_goes x mode.Runs e = cc
+wake_goes x (mode.WaitsFor c) e = cc
+wake_goes x (mode.Waits y) e = go (equal_var y x) refl e
+  where
+    go : (b : Bool) → equal_var y x ≡ b → cond b mode.Runs (mode.Waits y) ≡ mode.Waits x → ⊥
+    go true q k = cc
+    go false q k =
+        let same : y ≡ x = cc in
+        let yes : equal_var y x ≡ true = subst (λ (z : VarName). equal_var y z ≡ true) same (same_name_refl y) in cc
+
+roused_goes : {V : Type 0} (x : VarName) (o : Slot V) (h : Occupant V) → wake_slot x o ≡ Some h → h.mode ≡ mode.Waits x → ⊥
+roused_goes x None h is m = cc
+roused_goes {V} x (Some d) h is m = wake_goes x d.mode (ap (λ (o : Slot V). mode_in o) is ∙ m)
+
+-- a slot that waits after one was roused is another, and waited before
+waits_before : {V : Type 0} (x : VarName) (slots : List (Slot V)) (k j : ℕ) → IsModeAt (wake_slot_at x slots k) j (mode.Waits x) → (j ≢ k) × IsModeAt slots j (mode.Waits x)
+waits_before x [] k j w = cc
+waits_before x (o ∷ slots) zero zero w = absurd (roused_goes x o w.0 (cc) w.2)
+waits_before x (o ∷ slots) zero (suc j) w = (omega arith, w)
+waits_before x (o ∷ slots) (suc k) zero w = (omega arith, w)
+waits_before x (o ∷ slots) (suc k) (suc j) w =
+    let b = waits_before x slots k j w in (λ (same : suc j ≡ suc k). b.0 (omega (arith, same)), b.1)
+
+-- where each slot that waits is among the keys, all that wait are roused
+pub roused_all : {V : Type 0} (x : VarName) (slots : List (Slot V)) (keys : List ℕ) → ((j : ℕ) → IsModeAt slots j (mode.Waits x) → Contains keys j) → wake_slots x slots keys ≡ map (wake_slot x) slots
+roused_all x slots [] h = sym (none_waits x slots (λ j w. nothing j (h j w)))
+  where
+    nothing : (j : ℕ) → Contains [] j → ⊥
+    nothing j (k, below, is) = absurd (omega arith)
+roused_all {V} x slots (k ∷ keys) h = roused_all x (wake_slot_at x slots k) keys (λ j w. among j (waits_before x slots k j w)) ∙ map_rouse_at x slots k
+  where
+    among : (j : ℕ) → (j ≢ k) × IsModeAt slots j (mode.Waits x) → Contains keys j
+    among j b = go (Contains-cons_cases k j keys (h j b.1))
+      where
+        go : (k ≡ j) ⊎ Contains keys j → Contains keys j
+        go (inl e) = absurd (b.0 (sym e))
+        go (inr c) = c
+
+-- ---- the threads by name
+
+wake_append : {V : Type 0} (x : VarName) (es fs : List (Entry V)) → wake_all x (es ++ fs) ≡ wake_all x es ++ wake_all x fs
+wake_append x [] fs = refl
+wake_append {V} x (a ∷ es) fs = ap (λ (l : List (Entry V)). (a.0, (a.1.0, wake x a.1.1)) ∷ l) (wake_append x es fs)
+
+pub threads_woken : {V : Type 0} (x : VarName) (slots : List (Slot V)) → threads_in (map (wake_slot x) slots) ≡ wake_all x (threads_in slots)
+threads_woken x [] = refl
+threads_woken x (None ∷ slots) = threads_woken x slots
+threads_woken {V} x (Some h ∷ slots) =
+    ap (λ (l : List (Entry V)). l ++ (h.name, (h.value, wake x h.mode)) ∷ []) (threads_woken x slots) ∙ sym (wake_append x (threads_in slots) (entry h ∷ []))
+
+pub living_roused : {V : Type 0} (x : VarName) (slots : List (Slot V)) → total one (map (wake_slot x) slots) ≡ total one slots
+living_roused x [] = refl
+living_roused x (None ∷ slots) = living_roused x slots
+living_roused x (Some h ∷ slots) = let rest = living_roused x slots in omega (arith, rest)
+
+-- ---- numbers
+
+pub living_is : {V : Type 0} (slots : List (Slot V)) → total one slots ≡ length (threads_in slots)
+living_is [] = refl
+living_is (None ∷ slots) = living_is slots
+living_is {V} (Some h ∷ slots) = let rest = living_is slots in let more = length-append (threads_in slots) (entry h ∷ []) in omega (arith, rest, more)
+
+waiting_append : {V : Type 0} (es : List (Entry V)) (h : Occupant V) → waiting_of (es ++ entry h ∷ []) ≡ waiting_of es + weight h.mode
+waiting_append {V} [] h = go (is_waiting h.mode)
+  where
+    go : (b : Bool) → length (cond b (entry h ∷ []) []) ≡ 0 + cond b 1 0
+    go true = refl
+    go false = refl
+waiting_append {V} (e ∷ es) h = go (is_waiting e.1.1) (waiting_append es h)
+  where
+    go : (b : Bool) → waiting_of (es ++ entry h ∷ []) ≡ waiting_of es + weight h.mode → length (cond b (e ∷ filter (λ (t : Entry V). is_waiting t.1.1) (es ++ entry h ∷ [])) (filter (λ (t : Entry V). is_waiting t.1.1) (es ++ entry h ∷ []))) ≡
+        length (cond b (e ∷ filter (λ (t : Entry V). is_waiting t.1.1) es) (filter (λ (t : Entry V). is_waiting t.1.1) es)) + weight h.mode
+    go true rest = omega (arith, rest)
+    go false rest = rest
+
+pub waiting_is : {V : Type 0} (slots : List (Slot V)) → total waiting slots ≡ waiting_of (threads_in slots)
+waiting_is [] = refl
+waiting_is (None ∷ slots) = waiting_is slots
+waiting_is {V} (Some h ∷ slots) = let rest = waiting_is slots in let more = waiting_append (threads_in slots) h in omega (arith, rest, more)
+
+-- where none waits, nothing is woken
+pub none_woken : {V : Type 0} (x : VarName) (ts : List (Entry V)) → waiting_of ts ≡ 0 → wake_all x ts ≡ ts
+none_woken x [] e = refl
+none_woken {V} x ((n, (v, mode.Runs)) ∷ ts) e = ap (λ (l : List (Entry V)). (n, (v, mode.Runs)) ∷ l) (none_woken x ts e)
+none_woken x ((n, (v, mode.Waits y)) ∷ ts) e = cc
+none_woken x ((n, (v, mode.WaitsFor c)) ∷ ts) e = cc
+
+pub waiting_at_most : {V : Type 0} (ts : List (Entry V)) → waiting_of ts ≤ length ts
+waiting_at_most [] = omega arith
+waiting_at_most {V} ((n, (v, mode.Runs)) ∷ ts) = let rest = waiting_at_most ts in omega (arith, rest)
+waiting_at_most {V} ((n, (v, mode.Waits y)) ∷ ts) = let rest = waiting_at_most ts in omega (arith, rest)
+waiting_at_most {V} ((n, (v, mode.WaitsFor c)) ∷ ts) = let rest = waiting_at_most ts in omega (arith, rest)
+
+-- all wait, exactly where as many wait as there are
+pub all_wait : {V : Type 0} (ts : List (Entry V)) → waiting_of ts ≡ length ts → AllWait ts
+all_wait [] e = tt
+all_wait {V} ((n, (v, mode.Runs)) ∷ ts) e = let most : waiting_of ts ≤ length ts = waiting_at_most ts in absurd (omega (arith, most, e))
+all_wait {V} ((n, (v, mode.Waits y)) ∷ ts) e = (λ k. cc, all_wait ts (omega (arith, e)))
+all_wait {V} ((n, (v, mode.WaitsFor c)) ∷ ts) e = (λ k. cc, all_wait ts (omega (arith, e)))
+
+pub as_many_wait : {V : Type 0} (ts : List (Entry V)) → AllWait ts → waiting_of ts ≡ length ts
+as_many_wait [] h = refl
+as_many_wait {V} ((n, (v, mode.Runs)) ∷ ts) h = absurd (h.0 refl)
+as_many_wait {V} ((n, (v, mode.Waits y)) ∷ ts) h = ap suc (as_many_wait ts h.1)
+as_many_wait {V} ((n, (v, mode.WaitsFor c)) ∷ ts) h = ap suc (as_many_wait ts h.1)
