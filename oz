@@ -27,12 +27,13 @@ takes() {
   --sites N      the number of sites, 1 to 64; 4 where it is left out
   --workers N    the number of workers that drive the sites, 0 to 64; 4 where it is left out. With 0 the sites take
                  turns in a fixed order, and each run of a text prints the same
-  --steps N      stops the run where a site made N steps, 1 to 1,000,000,000; 1,000,000 where it is left out
-  --messages N   stops the run after N messages, 0 to 4,000,000,000; 1,000,000 where it is left out
+  --steps N      stops the run where a site made N steps and could go on, 1 to 1,000,000,000; 1,000,000 where it is left out
+  --messages N   stops the run where the sites send more than N messages, 0 to 4,000,000,000; 1,000,000 where it is left out
 
 It prints what the text shows, a line each, and a last line that tells how the run ended. The exit status is 0 where
 every thread ended, 1 where some wait for ever, 2 for words that are not taken, 3 for a text that is refused, 4 and 5 where
-the steps or the messages are used up, 6 and 7 where reading or writing failed, and 8 where memory was wanting.
+the steps or the messages are used up, 6 and 7 where reading or writing failed, and 8 where memory was wanting. It is 70
+where the program is not there yet and could not be built.
 docs/language.md is the reference, and examples/ has texts to begin with.
 END
 }
@@ -62,8 +63,8 @@ place_of() {
 show_refusal() {
     given=$1
     shift
-    told=$("$program" "$@" <"$given" | tail -n 1)
-    place_of "$given" "$told" || return 0
+    answer=$("$program" "$@" <"$given" | tail -n 1)
+    place_of "$given" "$answer" || return 0
     LC_ALL=C awk -v line="$line" -v column="$column" '
         NR == line { row = $0; exit }
         END {
@@ -91,8 +92,23 @@ while [ "$count" -gt 0 ]; do
     set -- "$@" "$word"
 done
 
+# What the program takes is told before it is built.
+is_told=
 if is_due; then
-    "$top/.ci/build" || exit 1
+    for word in "$@"; do
+        case $word in
+        help | -h | --help)
+            takes
+            echo usage
+            exit 2
+            ;;
+        esac
+    done
+    if [ $# -eq 0 ] && [ -z "$file" ] && [ -t 0 ]; then
+        takes
+        is_told=yes
+    fi
+    "$top/.ci/build" || exit 70
 fi
 
 # `gen` reads no text. A file beside it is a word too many.
@@ -124,7 +140,7 @@ if [ -n "$file" ]; then
 fi
 
 if [ $# -eq 0 ] && [ -t 0 ]; then
-    takes
+    [ -n "$is_told" ] || takes
     echo 'The text is read from here: end it with a line that has Ctrl-D alone.' >&2
 fi
 text=$(mktemp) || exec "$program" "$@"
