@@ -4,6 +4,12 @@ const FIVE: &str = "local X in X = 5 {Browse X} end";
 
 const LOOP: &str = "local P in P = proc {$} {P} end {P} end";
 
+// One thread goes on for ever, and two others have something to do at the same site.
+const BESIDE_LOOP: &str = "local P X in
+  proc {P} {P} end
+  thread {P} end thread X = 5 end {Browse X}
+end";
+
 // A cell counts to a hundred over four threads.
 pub const COUNTER: &str = "local C Z One L N D1 D2 D3 D4 U in
   Z = 0 One = 1 N = 25 U = done
@@ -211,7 +217,7 @@ pub static RUNS: [Run; 26] = [
 // The words after the name, a text, the bytes that are taken, and the status' number.
 type Worded = (&'static [&'static str], &'static str, &'static str, u8);
 
-pub static WORDED: [Worded; 14] = [
+pub static WORDED: [Worded; 16] = [
     (&["run"], FIVE, "5\nquiescent ended=1 waiting=0\n", 0),
     (&["central"], FIVE, "5\nquiescent ended=1 waiting=0\n", 0),
     (
@@ -221,6 +227,18 @@ pub static WORDED: [Worded; 14] = [
         0,
     ),
     (&["--steps", "100"], LOOP, "stopped steps site=1\n", 4),
+    (
+        &["--steps", "1000", "--workers", "0"],
+        BESIDE_LOOP,
+        "5\nstopped steps site=1\n",
+        4,
+    ),
+    (
+        &["--steps", "1000", "--workers", "2"],
+        BESIDE_LOOP,
+        "5\nstopped steps site=1\n",
+        4,
+    ),
     (
         &["central", "--steps", "100"],
         LOOP,
