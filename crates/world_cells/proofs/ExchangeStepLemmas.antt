@@ -6,6 +6,7 @@ use Rattle.tree_node.specs.declared.names.VarName.{VarName}
 use Rattle.tree_node.specs.declared.names.CellName.{CellName}
 use Rattle.tree_node.specs.declared.names.ThreadName.{ThreadName}
 use Rattle.tree_node.specs.declared.names.Name.{Name}
+use Rattle.tree_node.specs.declared.names.Name.TheVariants as name
 use Rattle.tree_node.specs.declared.node.Node.{Node}
 use Rattle.tree_node.specs.declared.node.Term.{Term}
 use Rattle.tree_node.specs.declared.node.Term.TheVariants as term
@@ -181,9 +182,9 @@ abbrev alone : Store → Stack → State
 alone s st = record { equations = s; cells = []; threads = (record { site = 0; num = 0 }, st) ∷ []; ended = 0; lines = [] }
 
 -- what was here stays here
-pub exchange_home : (p : List Stmt) (b : Records) (s : Store) (st : Stack) (c : CellName) (v : VarName) (x : IsExchange p s st c) → Each (EachOfEquation (IsHereName b)) s → EachOfStack (IsHereName b) st → IsHere b v →
-    EachOfStack (IsHereName b) (stack_left p s st x.1 v) × IsHere b x.0
-exchange_home p b s st c v (new, told, need, is) eqs home here = (((((change.2, here), tt), tt), names.stack), change.1)
+pub exchange_home : (p : List Stmt) (P : Name → Type 0) → P (name.Var (record { site = 0; num = 0 })) → P (name.Thread (record { site = 0; num = 0 })) → (s : Store) (st : Stack) (c : CellName) (v : VarName) (x : IsExchange p s st c) → Each (EachOfEquation P) s → EachOfStack P st → P (name.Var v) →
+    EachOfStack P (stack_left p s st x.1 v) × P (name.Var x.0)
+exchange_home p P nobody thread s st c v (new, told, need, is) eqs home here = (((((change.2, here), tt), tt), names.stack), change.1)
   where
     n : ThreadName
     n = record { site = 0; num = 0 }
@@ -196,8 +197,8 @@ exchange_home p b s st c v (new, told, need, is) eqs home here = (((((change.2, 
       bind = subst (λ (d : Need). IsBindFor s d None) (sym need) tt;
     }
 
-    names : EachOfEffect (IsHereName b) (stack_effect p s [] None st)
-    names = effect_names (IsHereName b) (inl refl) p (alone s st) (pick_of (record { site = 0; num = 0 })) (eqs, tt, ((tt, home), tt)) tt allowed
+    names : EachOfEffect P (stack_effect p s [] None st)
+    names = effect_names P nobody p (alone s st) (pick_of (record { site = 0; num = 0 })) (eqs, tt, ((thread, home), tt)) tt allowed
 
-    change : EachOfChange (IsHereName b) (Exchanged c new told)
-    change = subst (λ (y : CellChange). EachOfChange (IsHereName b) y) is names.cell
+    change : EachOfChange P (Exchanged c new told)
+    change = subst (λ (y : CellChange). EachOfChange P y) is names.cell

@@ -48,7 +48,7 @@ use Rattle.world_variables.proofs.SumLemmas.{names, woken_names, told_sums, told
 use Rattle.world_cells.proofs.FrameLemmas.{NoCells, opens_nothing, registers_nothing, asked_for_nothing, told_nothing}
 use Rattle.world_cells.proofs.QueueLemmas.{SameWaiters, waiters_same, woken_waiters, born_waiters}
 use Rattle.world_cells.proofs.UnitQueueLemmas.{told_waiters, told_all_waiters, not_both}
-use Rattle.world_cells.proofs.PutRowLemmas.{OneMessage, one_number, put_kept}
+use Rattle.world_cells.proofs.PutRowLemmas.{OneMessage, one_number, at_real_site, put_kept}
 use Rattle.world_cells.proofs.CellRowLemmas.{get_kept, forward_kept}
 use Rattle.world_cells.proofs.UnitCellRowLemmas.{nothing_match, same_match, gone_match}
 use Rattle.world_cells.proofs.UnitLemmas.{Reached}
@@ -216,7 +216,7 @@ put_reached p limit w ks r k i c x bundle real at =
     let u = v p limit w ks r k i (msg.Put c x bundle) real at in
     let o = opened p limit w ks r k i (msg.Put c x bundle) real at in
     let row = put_kept p limit u r.centre k i c x bundle o.parts (cells_v p limit w ks r k i (msg.Put c x bundle) real at) (runs_are_sound p ks r.centre r.run) (at_v p limit w ks r k i (msg.Put c x bundle) real at)
-    (once p limit w ks r k i (msg.Put c x bundle) real at) o.vars.0 in
+    (once p limit w ks r k i (msg.Put c x bundle) real at) (at_real_site (records u.sites) i x real o.vars.0) real in
     finish p limit w ks r k i (msg.Put c x bundle) real at row.state row.runs (records_stay p (after_receipt (Some k) u) i (put_row p limit c x (u.sites i)) row.state row.keeps row.parts) row.cells
     (same_summed (u.sites i) (put_row p limit c x (u.sites i)) r.centre row.state row.lines.1 (record {
       ended = row.site.0;

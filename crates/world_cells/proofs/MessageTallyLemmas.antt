@@ -18,7 +18,7 @@ use Rattle.site_model.specs.Site.{Site}
 use Rattle.site_model.specs.Variables.{opening}
 use Rattle.site_model.specs.Cells.{get_row, forward_row, put_row}
 use Rattle.site_model.specs.Messages.{reception, message_row, bind_pick}
-use Rattle.world_model.specs.World.{World, IsOnItsWay, after_transition, after_receipt, mail_from}
+use Rattle.world_model.specs.World.{World, IsOnItsWay, after_transition, after_receipt, mail_from, records}
 use Rattle.world_variables.specs.Plain.{IsPlain}
 use Rattle.world_model.proofs.MailLemmas.{sent_to, acts_after}
 use Rattle.world_variables.proofs.ReceiveLemmas.{numbered_acts}
@@ -27,7 +27,7 @@ use Rattle.world_variables.proofs.JournalLemmas.{came_acts}
 use Rattle.world_model.proofs.CellLemmas.{get_only, forward_only}
 use Rattle.world_cells.proofs.TallyLemmas.{OneOfNumber, IsOfNone, tally_other, none_says}
 use Rattle.world_cells.proofs.FrameLemmas.{NoCells, opens_nothing}
-use Rattle.world_cells.proofs.PutRowLemmas.{one_number, put_kept}
+use Rattle.world_cells.proofs.PutRowLemmas.{one_number, at_real_site, put_kept}
 use Rattle.oz_model.proofs.SoundLemmas.{runs_are_sound}
 use Rattle.std.proofs.lemmas.List.Elements.{Contains-append_left}
 use Rattle.world_cells.proofs.CellTallyLemmas.{CellsTallied, tallied_still}
@@ -106,7 +106,7 @@ module _ (p : List Stmt) (n limit : ℕ) (w : World) (ks : List Pick) (r : Reach
       Tally p n (whole_world (msg.Put c x bundle) at) c2 (ks ++ (reception p limit (msg.Put c x bundle) (w.sites i)).picks) (out ++ (reception p limit (msg.Put c x bundle) (w.sites i)).sent)
   put_tallied c x bundle at c2 run2 =
       let m = msg.Put c x bundle in
-      let row = put_kept p limit (u m at) r.centre k i c x bundle (opened p limit w ks r k i m real at).parts (cells_v p limit w ks r k i m real at) (runs_are_sound p ks r.centre r.run) (at_v p limit w ks r k i m real at) (once p limit w ks r k i m real at) (opened p limit w ks r k i m real at).vars.0 in
+      let row = put_kept p limit (u m at) r.centre k i c x bundle (opened p limit w ks r k i m real at).parts (cells_v p limit w ks r k i m real at) (runs_are_sound p ks r.centre r.run) (at_v p limit w ks r k i m real at) (once p limit w ks r k i m real at) (at_real_site (records (u m at).sites) i x real (opened p limit w ks r k i m real at).vars.0) real in
       let runs = subst (λ (y : Site). IsRun p r.centre (put_row p limit c x y).picks row.state) (site_v p limit w ks r k i m real at) row.runs in
       whole_tally m at c2 row.state.cells (λ b. length (exchanges p ks b) + length (exchanges_from p b r.centre (put_row p limit c x (there m at)).picks))
       (ap (λ (y : State). y.cells) (at_most_one_end p (start p) (ks ++ (put_row p limit c x (there m at)).picks) c2 row.state run2 (runs_append p ks (put_row p limit c x (there m at)).picks (start p) r.centre row.state r.run runs)))

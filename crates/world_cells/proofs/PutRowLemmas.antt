@@ -5,6 +5,7 @@ use Rattle.std.specs.Map.{lookup}
 use Rattle.tree_node.specs.declared.names.VarName.{VarName}
 use Rattle.tree_node.specs.declared.names.CellName.{CellName}
 use Rattle.tree_node.specs.declared.names.ThreadName.{ThreadName}
+use Rattle.tree_node.specs.declared.names.Name.TheVariants as name
 use Rattle.tree_node.specs.declared.node.Term.{Term}
 use Rattle.tree_node.specs.declared.pick.Pick.{Pick}
 use Rattle.tree_node.specs.Assoc.{value_of}
@@ -155,8 +156,13 @@ cell_may_go w z k i x of h once = record {
     told to m q j y (inl e) = subst IsOfCell e (subst IsOfCell (sym (is_it to m q)) of)
     told to m q j y (inr (f, (t, b, e))) = subst IsOfCell e (subst IsOfCell (sym (is_it to m q)) of)
 
+-- at a real site what is here is known
+pub at_real_site : (records : ℕ → Records) (i : ℕ) (x : VarName) → i ≢ 0 → here_at records i (name.Var x) → IsHere (records i) x
+at_real_site records i x real (inl h) = h
+at_real_site records i x real (inr zero) = absurd (real zero)
+
 module _ (p : List Stmt) (limit : ℕ) (w : World) (z : State) (k i : ℕ) (c : CellName) (v : VarName) (bundle : List Equation) (parts : PartsIn p (here_at (records w.sites)) w z) (x : CellsMatch w z) (sound : IsSound z.equations)
-    (h : IsOnItsWay w.mail k i (msg.Put c v bundle)) (once : OneMessage w k) (home : IsHere (records w.sites i) v) where
+    (h : IsOnItsWay w.mail k i (msg.Put c v bundle)) (once : OneMessage w k) (home : IsHere (records w.sites i) v) (real : i ≢ 0) where
   one : OneOfNumber w.mail k (sent_to i (msg.Put c v bundle))
   one = one_number w k i (msg.Put c v bundle) h once
 
@@ -177,7 +183,7 @@ module _ (p : List Stmt) (limit : ℕ) (w : World) (z : State) (k i : ℕ) (c : 
   value = cell.1 ∙ ap Some (sym (messages_can_come cell.2.0 _ _ cell.0 cell.2.2 (Put i v) there).1.1)
 
   served : Served p around i c (cell_record (w.sites i) c).queue v (w.sites i) z (serving p c (cell_record (w.sites i) c).queue v (w.sites i))
-  served = serve_all p around i c (cell_record (w.sites i) c).queue v (w.sites i) z parts_before sound refl value home (x.queues i c).once (λ n q. (x.queues i c).stand n q)
+  served = serve_all p around i c (cell_record (w.sites i) c).queue v (w.sites i) z parts_before sound refl value home real (x.queues i c).once (λ n q. (x.queues i c).stand n q)
 
   abbrev first : Transition
   first = serving p c (cell_record (w.sites i) c).queue v (w.sites i)

@@ -100,7 +100,7 @@ each_differs (x ∷ ns) n m h k = go (Contains-cons_cases _ _ ns k) (λ q. each_
     go (inr q) ih d = ih q d
 
 module _ (p : List Stmt) (a : Around) (i : ℕ) (c : CellName) (n : ThreadName) (ns : List ThreadName) (v : VarName) (s : Site) (z : State) (parts : PartsOf p a i s.threads z) (sound : IsSound z.equations) (eqs : a.eqs i ≡ s.equations)
-    (value : value_of equal_cell z.cells c ≡ Some v) (home : IsHere (a.records i) v) (off : Each (λ x. n ≢ x) ns) (st : Stack) (standing : value_of equal_thread s.threads n ≡ Some (st, WaitsFor c)) where
+    (value : value_of equal_cell z.cells c ≡ Some v) (home : IsHere (a.records i) v) (real : i ≢ 0) (off : Each (λ x. n ≢ x) ns) (st : Stack) (standing : value_of equal_thread s.threads n ≡ Some (st, WaitsFor c)) where
   at_site : value_of equal_thread (at_put a.threads i s.threads i) n ≡ Some (st, WaitsFor c)
   at_site = subst (λ (ts : Threads). value_of equal_thread ts n ≡ Some (st, WaitsFor c)) (sym (at_here a.threads i s.threads)) standing
 
@@ -114,17 +114,17 @@ module _ (p : List Stmt) (a : Around) (i : ℕ) (c : CellName) (n : ThreadName) 
   next = record s { threads = with_value equal_thread s.threads n (stack, site.Runs) }
 
   after : (t : State) × Exchanges p z n c exchange.0 stack t
-  after = serve_step p a.eqs a.records (at_put a.threads i s.threads) a.counters a.mail z parts i n st c v sound at_site value home
+  after = serve_step p a.eqs a.records (at_put a.threads i s.threads) a.counters a.mail z parts i n st c v sound at_site value home real
 
   parts_after : PartsOf p a i next.threads after.0
   parts_after = subst (λ (f : ℕ → Threads). PartsMatch p (here_at a.records) a.eqs a.records f a.counters a.mail after.0) (at_twice a.threads i s.threads _ ∙ ap (λ (ts : Threads). at_put a.threads i (with_value equal_thread ts n (stack, site.Runs))) (at_here a.threads i s.threads))
-      (serve_parts p a.eqs a.records (at_put a.threads i s.threads) a.counters a.mail z parts i n st c v sound at_site value home after.0 after.1)
+      (serve_parts p a.eqs a.records (at_put a.threads i s.threads) a.counters a.mail z parts i n st c v sound at_site value home real after.0 after.1)
 
   value_after : value_of equal_cell after.0.cells c ≡ Some exchange.0
   value_after = ap (λ (cells : List (CellName × VarName)). value_of equal_cell cells c) after.1.cells ∙ put_here z.cells c v exchange.0 value
 
   home_after : IsHere (a.records i) exchange.0
-  home_after = new_home p a.eqs a.records (at_put a.threads i s.threads) a.counters a.mail z parts i n st c v sound at_site value home
+  home_after = new_home p a.eqs a.records (at_put a.threads i s.threads) a.counters a.mail z parts i n st c v sound at_site value home real
 
   sound_after : IsSound after.0.equations
   sound_after = subst IsSound (sym after.1.equations) sound
@@ -195,9 +195,9 @@ module _ (p : List Stmt) (a : Around) (i : ℕ) (c : CellName) (n : ThreadName) 
       (subst (λ (x : VarName). Served p a i c (n ∷ ns) v s z (and_then (with_pick next (record { thread = n; fresh = []; bind = None })) (serving p c ns x))) (sym (served_content p n v s st c (a.eqs i) eqs exchange standing))
       (first_then r))
 
-pub serve_all : (p : List Stmt) (a : Around) (i : ℕ) (c : CellName) (ns : List ThreadName) (v : VarName) (s : Site) (z : State) → PartsOf p a i s.threads z → IsSound z.equations → a.eqs i ≡ s.equations → value_of equal_cell z.cells c ≡ Some v → IsHere (a.records i) v →
+pub serve_all : (p : List Stmt) (a : Around) (i : ℕ) (c : CellName) (ns : List ThreadName) (v : VarName) (s : Site) (z : State) → PartsOf p a i s.threads z → IsSound z.equations → a.eqs i ≡ s.equations → value_of equal_cell z.cells c ≡ Some v → IsHere (a.records i) v → i ≢ 0 →
     AreDistinct ns → ((n : ThreadName) → Contains ns n → (st : Stack) × (value_of equal_thread s.threads n ≡ Some (st, WaitsFor c))) → Served p a i c ns v s z (serving p c ns v s)
-serve_all p a i c [] v s z parts sound eqs value home distinct waits = record {
+serve_all p a i c [] v s z parts sound eqs value home real distinct waits = record {
   state = z;
   content = v;
   runs = refl;
@@ -223,10 +223,10 @@ serve_all p a i c [] v s z parts sound eqs value home distinct waits = record {
   sent = refl;
   printed = refl;
 }
-serve_all p a i c (n ∷ ns) v s z parts sound eqs value home distinct waits =
+serve_all p a i c (n ∷ ns) v s z parts sound eqs value home real distinct waits =
     let k = waits n (Contains-head n ns) in
-    first_served p a i c n ns v s z parts sound eqs value home distinct.0 k.0 k.1
-    (serve_all p a i c ns (exchange p a i c n ns v s z parts sound eqs value home distinct.0 k.0 k.1).0 (next p a i c n ns v s z parts sound eqs value home distinct.0 k.0 k.1) (after p a i c n ns v s z parts sound eqs value home distinct.0 k.0 k.1).0
-    (parts_after p a i c n ns v s z parts sound eqs value home distinct.0 k.0 k.1) (sound_after p a i c n ns v s z parts sound eqs value home distinct.0 k.0 k.1) eqs (value_after p a i c n ns v s z parts sound eqs value home distinct.0 k.0 k.1)
-    (home_after p a i c n ns v s z parts sound eqs value home distinct.0 k.0 k.1) distinct.1
-    (λ m h. let w = waits m (Contains-tail _ _ ns h) in (w.0, there p a i c n ns v s z parts sound eqs value home distinct.0 k.0 k.1 m (each_differs ns n m distinct.0 h) ∙ w.1)))
+    first_served p a i c n ns v s z parts sound eqs value home real distinct.0 k.0 k.1
+    (serve_all p a i c ns (exchange p a i c n ns v s z parts sound eqs value home real distinct.0 k.0 k.1).0 (next p a i c n ns v s z parts sound eqs value home real distinct.0 k.0 k.1) (after p a i c n ns v s z parts sound eqs value home real distinct.0 k.0 k.1).0
+    (parts_after p a i c n ns v s z parts sound eqs value home real distinct.0 k.0 k.1) (sound_after p a i c n ns v s z parts sound eqs value home real distinct.0 k.0 k.1) eqs (value_after p a i c n ns v s z parts sound eqs value home real distinct.0 k.0 k.1)
+    (home_after p a i c n ns v s z parts sound eqs value home real distinct.0 k.0 k.1) real distinct.1
+    (λ m h. let w = waits m (Contains-tail _ _ ns h) in (w.0, there p a i c n ns v s z parts sound eqs value home real distinct.0 k.0 k.1 m (each_differs ns n m distinct.0 h) ∙ w.1)))

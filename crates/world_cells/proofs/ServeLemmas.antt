@@ -5,6 +5,7 @@ use Rattle.tree_node.specs.declared.names.VarName.{VarName}
 use Rattle.tree_node.specs.declared.names.CellName.{CellName}
 use Rattle.tree_node.specs.declared.names.ThreadName.{ThreadName}
 use Rattle.tree_node.specs.declared.names.Name.{Name}
+use Rattle.tree_node.specs.declared.names.Name.TheVariants as name
 use Rattle.tree_node.specs.declared.node.Term.{Term}
 use Rattle.tree_node.specs.Assoc.{value_of, with_value, with_optional_value}
 use Rattle.tree_node.specs.Goal.{equal_cell}
@@ -120,18 +121,22 @@ with_twice ((m, u) ∷ ts) n a b = go (equal_thread m n) refl (with_twice ts n a
 
 -- it exchanges: the machine steps, and all that the parts say holds again
 module _ (p : List Stmt) (eqs : ℕ → Store) (records : ℕ → Records) (threads : ℕ → Threads) (made : ℕ → Counters) (mail : Mail) (z : State) (parts : PartsMatch p (here_at records) eqs records threads made mail z)
-    (i : ℕ) (n : ThreadName) (st : Stack) (c : CellName) (v : VarName) (sound : IsSound z.equations) (at : value_of equal_thread (threads i) n ≡ Some (st, WaitsFor c)) (value : value_of equal_cell z.cells c ≡ Some v) (home : IsHere (records i) v) where
+    (i : ℕ) (n : ThreadName) (st : Stack) (c : CellName) (v : VarName) (sound : IsSound z.equations) (at : value_of equal_thread (threads i) n ≡ Some (st, WaitsFor c)) (value : value_of equal_cell z.cells c ≡ Some v) (home : IsHere (records i) v) (real : i ≢ 0) where
   abbrev new_stack : Stack
   new_stack = stack_left p (eqs i) st (parts.waiting.exchanges i n st c at).1 v
 
   pub serve_step : (t : State) × Exchanges p z n c (parts.waiting.exchanges i n st c at).0 new_stack t
   serve_step = exchange_steps p (eqs i) z n st c v (parts.waiting.exchanges i n st c at) sound (parts.knowledge.known i) (parts.placed.up i n st (WaitsFor c, at)) value
 
-  names : EachOfStack (IsHereName (records i)) new_stack × IsHere (records i) (parts.waiting.exchanges i n st c at).0
-  names = exchange_home p (records i) (eqs i) st c v (parts.waiting.exchanges i n st c at) (parts.homes i).equations ((parts.homes i).stacks n (st, WaitsFor c) at) home
+  names : EachOfStack (here_at records i) new_stack × here_at records i (name.Var (parts.waiting.exchanges i n st c at).0)
+  names = exchange_home p (here_at records i) (inl (inl refl)) (inl tt) (eqs i) st c v (parts.waiting.exchanges i n st c at) (parts.homes i).equations ((parts.homes i).stacks n (st, WaitsFor c) at) (inl home)
 
   pub new_home : IsHere (records i) (parts.waiting.exchanges i n st c at).0
-  new_home = names.1
+  new_home = at_site names.1
+    where
+      at_site : here_at records i (name.Var (parts.waiting.exchanges i n st c at).0) → IsHere (records i) (parts.waiting.exchanges i n st c at).0
+      at_site (inl h) = h
+      at_site (inr zero) = absurd (real zero)
 
   pub serve_parts : (t : State) → Exchanges p z n c (parts.waiting.exchanges i n st c at).0 new_stack t → PartsMatch p (here_at records) eqs records (at_put threads i (with_value equal_thread (threads i) n (new_stack, site.Runs))) made mail t
   serve_parts t e = subst (λ (f : ℕ → Threads). PartsMatch p (here_at records) eqs records f made mail t) (at_twice threads i ready _ ∙ ap (λ (ts : Threads). at_put threads i ts) twice) gone
@@ -153,7 +158,7 @@ module _ (p : List Stmt) (eqs : ℕ → Store) (records : ℕ → Records) (thre
       })
 
       gone : PartsMatch p (here_at records) eqs records (at_put (at_put threads i (with_value equal_thread (threads i) n (st, site.Runs))) i (with_optional_value equal_thread (at_put threads i (with_value equal_thread (threads i) n (st, site.Runs)) i) n (Some (new_stack, site.Runs)))) made mail t
-      gone = goes_parts p (here_at records) eqs records _ made mail z resumed_now i n st (Some new_stack) t at_ready (λ su q. subst (λ (x : Stack). EachOfStack (IsHereName (records i)) x) (same su q) names.0) e.equations e.threads centred
+      gone = goes_parts p (here_at records) eqs records _ made mail z resumed_now i n st (Some new_stack) t at_ready (λ su q. subst (λ (x : Stack). EachOfStack (here_at records i) x) (same su q) names.0) e.equations e.threads centred
         where
           same : (su : Stack) → ◌≡◌ {A = Option Stack} (Some new_stack) (Some su) → new_stack ≡ su
           same su q = cc

@@ -5,6 +5,7 @@ use Rattle.tree_node.specs.declared.names.VarName.{VarName}
 use Rattle.tree_node.specs.declared.names.CellName.{CellName}
 use Rattle.tree_node.specs.declared.names.ThreadName.{ThreadName}
 use Rattle.tree_node.specs.declared.names.Name.{Name}
+use Rattle.tree_node.specs.declared.names.Name.TheVariants as name
 use Rattle.tree_node.specs.declared.names.NameKind.{NameKind}
 use Rattle.tree_node.specs.declared.node.Node.{Node}
 use Rattle.tree_node.specs.declared.node.Term.{Term}
@@ -159,7 +160,7 @@ module _ (p : List Stmt) (n limit i : ℕ) (real : i ≢ 0) (w : World) (ks : Li
     agrees (Exchanged d new told) (u, reach) = found (value_of equal_cell c.cells d) refl
       where
         found : (o : Option VarName) → value_of equal_cell c.cells d ≡ o →
-            (content_here (begun p n limit pick kinds effect (w.sites i)).site (Exchanged d new told) ≡ Step.content_of c.cells d) × IsHere (records after.sites i) (Step.content_of c.cells d)
+            (content_here (begun p n limit pick kinds effect (w.sites i)).site (Exchanged d new told) ≡ Step.content_of c.cells d) × here_at (records after.sites) i (name.Var (Step.content_of c.cells d))
         found None e =
             let none : (cell_record (w.sites i) d).held.token ≡ Away = ap (λ (h : Holding). h.token) ((x.cells.others d e).away i) in absurd (cc)
         found (Some v) e =
@@ -167,7 +168,7 @@ module _ (p : List Stmt) (n limit i : ℕ) (real : i ≢ 0) (w : World) (ks : Li
             let same : u ≡ v = (tokens_have_contents chain.0 _ _ v u i chain.2 reach).0 in
             let here : token_content (cell_record (begun p n limit pick kinds effect (w.sites i)).site d).held.token ≡ u = ap (λ (q : CellRecord). token_content q.held.token) (begun_place p n limit pick kinds effect w c i x number d) ∙ ap token_content reach in
             let there : Step.content_of c.cells d ≡ v = ap (λ (o : Option VarName). unwrap_or o (record { site = 0; num = 0 })) e in
-            (here ∙ same ∙ sym there, subst (λ (y : VarName). IsHere (records after.sites i) y) (same ∙ sym there) (known u (x.contents i d u reach)))
+            (here ∙ same ∙ sym there, inl (subst (λ (y : VarName). IsHere (records after.sites i) y) (same ∙ sym there) (known u (x.contents i d u reach))))
           where
             known : (y : VarName) → IsHere (records w.sites i) y → IsHere (records after.sites i) y
             known y h = subst (λ (s : Site). IsHere s.records y) (sym (at_here w.sites i deed.site)) (step_here p n limit pick kinds effect (w.sites i) y h)
@@ -221,10 +222,14 @@ module _ (p : List Stmt) (n limit i : ℕ) (real : i ≢ 0) (w : World) (ks : Li
       home : IsContentHere deed.site.records effect.cell
       home = go effect.cell done.names.cell
         where
+          at_site : (y : VarName) → here_at (records after.sites) i (name.Var y) → IsHere (records after.sites i) y
+          at_site y (inl h) = h
+          at_site y (inr zero) = absurd (real zero)
+
           go : (ch : CellChange) → EachOfChange (here_at (records after.sites) i) ch → IsContentHere deed.site.records ch
           go Stays h = tt
-          go (Made d v) h = site_here v h.1
-          go (Exchanged d new told) h = site_here new h.1
+          go (Made d v) h = site_here v (at_site v h.1)
+          go (Exchanged d new told) h = site_here new (at_site new h.1)
 
       pub step_reached : Reached p after (ks ++ deed.picks)
       step_reached = record {

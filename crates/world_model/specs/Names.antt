@@ -44,9 +44,9 @@ AreContentsHome b qs = (c : CellName) (v : VarName) → (cell_record_in qs c).he
 abbrev pub AreHome : (ℕ → Name → Type 0) → (ℕ → Store) → (ℕ → Threads) → Type 0
 AreHome here eqs threads = (i : ℕ) → IsHome (here i) (eqs i) (threads i)
 
--- what is here at site i, by its records
+-- what is here at site i, by its records. Site 0 is no site: threads that wait for an answer count as there, and everything is
 abbrev pub here_at : (ℕ → Records) → ℕ → Name → Type 0
-here_at records i x = IsHereName (records i) x
+here_at records i x = IsHereName (records i) x ⊎ (i ≡ 0)
 
 -- at each site the contents of its tokens are here: nobody's, or known to the site
 abbrev pub ContentsHome : (ℕ → Records) → (ℕ → List (CellName × CellRecord)) → Type 0

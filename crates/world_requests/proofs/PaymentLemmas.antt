@@ -30,7 +30,7 @@ use Rattle.site_model.specs.Variables.{opening}
 use Rattle.site_model.specs.Cells.{put_row}
 use Rattle.site_model.specs.Run.{delivered_message}
 use Rattle.world_model.specs.Schedule.{schedule}
-use Rattle.world_model.specs.World.{World, Sites, Mail, IsOnItsWay, put, after_transition, after_receipt, mail_from, world_of}
+use Rattle.world_model.specs.World.{World, Sites, Mail, IsOnItsWay, put, after_transition, after_receipt, mail_from, records, world_of}
 use Rattle.world_model.proofs.MailLemmas.{sent_to}
 use Rattle.world_variables.proofs.JournalLemmas.{came_acts}
 use Rattle.world_cells.specs.CellCounts.{cell_weight, cell_weights}
@@ -38,7 +38,7 @@ use Rattle.world_cells.proofs.ChainLemmas.{tally, Came, cell_there, get_arrives,
 use Rattle.world_cells.proofs.FrameLemmas.{opens_nothing}
 use Rattle.world_cells.proofs.MessageLemmas.{message_reached, opened, cells_v, at_v, site_v}
 use Rattle.world_cells.proofs.MessageLemmas as heard
-use Rattle.world_cells.proofs.PutRowLemmas.{one_number, put_kept}
+use Rattle.world_cells.proofs.PutRowLemmas.{one_number, at_real_site, put_kept}
 use Rattle.world_cells.proofs.TallyLemmas.{OneOfNumber, IsSilent, tally_sent, tally_other, none_says, silent_get, silent_forward, silent_put}
 use Rattle.world_cells.proofs.TurnLemmas.{Paid}
 use Rattle.world_cells.proofs.UnitTallyLemmas.{more_picks}
@@ -181,7 +181,7 @@ module _ (p : List Stmt) (n limit : ℕ) (is : IsProgram p) (few : 1 ≤ n) (man
     served =
         let r = old.reached in
         let far = real p n limit is few many short j e f d entry in
-        let row = put_kept p limit (after_transition first e.site (opening m (f e.site))) r.centre k e.site b v bundle (opened p limit first (schedule j) r k e.site m far t.at).parts (cells_v p limit first (schedule j) r k e.site m far t.at) (runs_are_sound p (schedule j) r.centre r.run) (at_v p limit first (schedule j) r k e.site m far t.at) (heard.once p limit first (schedule j) r k e.site m far t.at) (opened p limit first (schedule j) r k e.site m far t.at).vars.0 in
+        let row = put_kept p limit (after_transition first e.site (opening m (f e.site))) r.centre k e.site b v bundle (opened p limit first (schedule j) r k e.site m far t.at).parts (cells_v p limit first (schedule j) r k e.site m far t.at) (runs_are_sound p (schedule j) r.centre r.run) (at_v p limit first (schedule j) r k e.site m far t.at) (heard.once p limit first (schedule j) r k e.site m far t.at) (at_real_site (records (after_transition first e.site (opening m (f e.site))).sites) e.site v far (opened p limit first (schedule j) r k e.site m far t.at).vars.0) far in
         let there = subst (λ (y : Site). length (exchanges_from p b r.centre (put_row p limit b v y).picks) ≡ length (cell_record y b).queue) (site_v p limit first (schedule j) r k e.site m far t.at) row.exchanged in
         there ∙ ap (λ (qs : List (CellName × CellRecord)). length (cell_record_in qs b).queue) (opens_nothing m (f e.site)).cell_records
 

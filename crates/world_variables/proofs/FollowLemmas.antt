@@ -113,7 +113,12 @@ module _ (p : List Stmt) (w : World) (c : State) (n limit i : ℕ) (th : ThreadN
   stands t d same e q = subst (λ (r : ℕ → Records). PartsIn p (here_at r) (after_transition w i (record d { site = t })) c) (sym (field_kept (λ (u : Site). u.records) w.sites i t same)) q
 
   nob : here_at (records w.sites) i (name.Var (record { site = 0; num = 0 }))
-  nob = inl refl
+  nob = inl (inl refl)
+
+  -- at a real site it is the records' word
+  at_site : (x : VarName) → here_at (records w.sites) i (name.Var x) → IsHere (records w.sites i) x
+  at_site x (inl h) = h
+  at_site x (inr zero) = absurd (real zero)
 
   pub unit_follows : (d : Transition) → IsUnit p n limit th s d → ((st : Stack) × (thread_state s th ≡ Some (st, site.Runs)) × IsCellUnit p s.equations st) ⊎ Follows p w c i d
   unit_follows d (st, at, unit) = go (stack_need p s.equations st) refl unit
@@ -126,9 +131,9 @@ module _ (p : List Stmt) (w : World) (c : State) (n limit i : ℕ) (th : ThreadN
         c,
         refl,
         stands (with_waiting th st z s) (without_output s) refl refl
-            (wait_row p (here_at (records w.sites)) w c i th st h at x z need class
+            (wait_row p (here_at (records w.sites)) w c i th st h at x z need class (at_site z
             (class_names (here_at (records w.sites) i) s.equations x z (h.homes i).equations class.0
-            (stack_need_has (here_at (records w.sites) i) p s.equations st x (inl nob) (h.homes i).equations ((h.homes i).stacks th (st, site.Runs) at) need))),
+            (stack_need_has (here_at (records w.sites) i) p s.equations st x (inl nob) (h.homes i).equations ((h.homes i).stacks th (st, site.Runs) at) need)))),
       )
 
       binds : (a b : Term) → stack_need p s.equations st ≡ Binds a b → (u : VarName) (t : Term) → IsRootBind s.equations a b u t → d ≡ bind_attempt p n limit th st u t (u.site == s.records.site) s → Follows p w c i d
@@ -163,7 +168,7 @@ module _ (p : List Stmt) (w : World) (c : State) (n limit i : ℕ) (th : ThreadN
             c,
             refl,
             stands (with_waiting th st u s) (bind_attempt p n limit th st u t false s) refl refl
-                (ask_row p (here_at (records w.sites)) w c i th st h at limit u t free is_here.0 owner (a, b, need, allows, low) was central.0),
+                (ask_row p (here_at (records w.sites)) w c i th st h at limit u t free (at_site u is_here.0) owner (a, b, need, allows, low) was central.0),
           )
 
       takes : (kinds : List NameKind) → stack_need p s.equations st ≡ Takes kinds → IsNamedStep p n limit s th st kinds d → Goal

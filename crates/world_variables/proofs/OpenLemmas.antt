@@ -1,5 +1,5 @@
 -- A message is opened: its equations are known, and then its names are met.
-use Rattle.std.proofs.Common.{◌≡◌, ◌∙◌, sym, ap, refl, subst, ℕ, List, [], ◌∷◌, ◌++◌, map, ◌⊎◌, inl, inr, Bool, true, false, cond, Some, None}
+use Rattle.std.proofs.Common.{◌≡◌, ◌∙◌, sym, ap, refl, subst, ℕ, List, [], ◌∷◌, ◌++◌, map, ◌⊎◌, inl, inr, Bool, true, false, Some, None}
 use Rattle.std.specs.Prelude.{Option, Contains}
 use Rattle.tree_node.specs.declared.names.VarName.{VarName}
 use Rattle.tree_node.specs.declared.names.Name.{Name}
@@ -15,12 +15,11 @@ use Rattle.tree_node.specs.Store.{Equation}
 use Rattle.kernel_syntax.specs.declared.stmt.Stmt.{Stmt}
 use Rattle.site_message.specs.declared.message.Msg.{Msg}
 use Rattle.site_message.specs.declared.message.Msg.TheVariants as msg
-use Rattle.oz_model.proofs.NameLemmas.{Each-weaker}
+use Rattle.oz_model.proofs.NameLemmas.{Each-weaker, EachOfEquation-weaker}
 use Rattle.bind_protocol.specs.Records.{Records, knowledge, IsKnown, is_own}
 use Rattle.bind_protocol.specs.Rows.{after_meet, after_meets, meets_send}
 use Rattle.site_message.specs.Vars.{vars_of}
 use Rattle.site_model.specs.Site.{Site, Counters}
-use Rattle.proxy_table.specs.Proxies as Proxies
 use Rattle.site_model.specs.Bundle.{message_vars, body_vars, message_bundle, vars_of_equations}
 use Rattle.site_model.specs.Variables.{with_known_equation_as, with_known_equation, with_known_equations, meeting, opening}
 use Rattle.site_model.specs.Fit as Fit
@@ -204,7 +203,7 @@ opens_row p w c k i m h at has = record { parts = parts; vars = vars }
     heads es q = Each-weaker _ _ (λ e r. r.0) es q
 
     up : (j : ℕ) (x : Name) → here_at (records w.sites) j x → here j x
-    up = at_all w.sites i (opening m s).site (λ j (t : Site). (x : Name) → here_at (records w.sites) j x → IsHereName t.records x) own (λ j other x q. q)
+    up = at_all w.sites i (opening m s).site (λ j (t : Site). (x : Name) → here_at (records w.sites) j x → IsHereName t.records x ⊎ (j ≡ 0)) (λ x q. either x q) (λ j other x q. q)
       where
         own : (x : Name) → IsHereName s.records x → IsHereName (after_meets s2.records (message_vars m)) x
         own (name.Var x) (inl zero) = inl zero
@@ -212,6 +211,10 @@ opens_row p w c k i m h at has = record { parts = parts; vars = vars }
         own (name.Cell x) q = tt
         own (name.Proc x) q = tt
         own (name.Thread x) q = tt
+
+        either : (x : Name) → IsHereName s.records x ⊎ (i ≡ 0) → IsHereName (after_meets s2.records (message_vars m)) x ⊎ (i ≡ 0)
+        either x (inl q) = inl (own x q)
+        either x (inr q) = inr q
 
     -- each name of the message is here at the end
     known : Each (IsHere (after_meets s2.records (message_vars m))) (message_vars m)
@@ -230,11 +233,11 @@ opens_row p w c k i m h at has = record { parts = parts; vars = vars }
         each_two (x ∷ xs) a b = (one x a.0 b.0, each_two xs a.1 b.1)
 
     vars : Each (λ (x : VarName). here i (name.Var x)) (message_vars m)
-    vars = subst (λ (b : Records). Each (IsHere b) (message_vars m)) (sym (opened_records w i m)) known
+    vars = Each-weaker (IsHere (records (after_transition w i (opening m (w.sites i))).sites i)) (λ (x : VarName). here i (name.Var x)) (λ x q. inl q) (message_vars m) (subst (λ (b : Records). Each (IsHere b) (message_vars m)) (sym (opened_records w i m)) known)
 
     bundle_here : Each (EachOfEquation (here i)) (message_bundle m)
-    bundle_here = subst (λ (b : Records). Each (EachOfEquation (IsHereName b)) (message_bundle m)) (sym (opened_records w i m))
-        (equations_here (after_meets s2.records (message_vars m)) (message_bundle m) (each_right (IsHere (after_meets s2.records (message_vars m))) (body_vars m) (vars_of_equations (message_bundle m)) known))
+    bundle_here = Each-weaker _ _ (λ e q. EachOfEquation-weaker (IsHereName (records (after_transition w i (opening m (w.sites i))).sites i)) (here i) (λ x r. inl r) e q) (message_bundle m) (subst (λ (b : Records). Each (EachOfEquation (IsHereName b)) (message_bundle m)) (sym (opened_records w i m))
+        (equations_here (after_meets s2.records (message_vars m)) (message_bundle m) (each_right (IsHere (after_meets s2.records (message_vars m))) (body_vars m) (vars_of_equations (message_bundle m)) known)))
 
     v : World
     v = record w { sites = put w.sites i s2 }

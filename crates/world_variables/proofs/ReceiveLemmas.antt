@@ -28,7 +28,7 @@ use Rattle.world_model.proofs.PutLemmas.{at_all, at_here}
 use Rattle.world_model.proofs.MailLemmas.{acts_after, sent_to, number_once, number_of}
 use Rattle.std.proofs.lemmas.List.Elements.{Contains-append_left, Contains-append_cases}
 use Rattle.oz_model.specs.Laws.{nobody}
-use Rattle.oz_model.proofs.NameLemmas.{Each-weaker}
+use Rattle.oz_model.proofs.NameLemmas.{Each-weaker, EachOfTerm-weaker}
 use Rattle.site_message.specs.Vars.{vars_of}
 use Rattle.site_message.specs.declared.message.Sent.{Sent}
 use Rattle.world_variables.proofs.AlikeLemmas.{parts_weaker}
@@ -136,9 +136,9 @@ receive_row p limit w c k i m h numbers real sound plain far at has = record { c
         is_at (msg.Put f r bundle) q = tt
 
     up : (j : ℕ) (x : Name) → opened_here w i m j x → here j x
-    up = at_all v.sites i e.site (λ j (t : Site). (x : Name) → opened_here w i m j x → IsHereName t.records x) one (λ j other x q. q)
+    up = at_all v.sites i e.site (λ j (t : Site). (x : Name) → opened_here w i m j x → IsHereName t.records x ⊎ (j ≡ 0)) (λ x q. either x q) (λ j other x q. q)
       where
-        one : (x : Name) → opened_here w i m i x → IsHereName e.site.records x
+        one : (x : Name) → IsHereName (records v.sites i) x → IsHereName e.site.records x
         one (name.Var x) q = two (subst (λ (t : Site). IsHere t.records x) site_v q)
           where
             two : IsHere d.site.records x → IsHere e.site.records x
@@ -148,13 +148,21 @@ receive_row p limit w c k i m h numbers real sound plain far at has = record { c
         one (name.Proc x) q = tt
         one (name.Thread x) q = tt
 
+        either : (x : Name) → opened_here w i m i x → IsHereName e.site.records x ⊎ (i ≡ 0)
+        either x (inl q) = inl (one x q)
+        either x (inr q) = inr q
+
     parts_v : PartsIn p here v c
     parts_v = parts_weaker p (opened_here w i m) here (eqs v.sites) (records v.sites) (threads v.sites) (counters v.sites) v.mail c up o.parts
 
+    at_site : (y : VarName) → here i (name.Var y) → IsHere (records final.sites i) y
+    at_site y (inl q) = q
+    at_site y (inr zero) = absurd (real zero)
+
     taken : Taken p here v c k i e
     taken = subst (λ (t : Site). Taken p here v c k i (message_row p limit m t)) site_v
-        (takes_row p here v c limit k i m parts_v (numbered_acts w i d numbers) real sound plain far at_v (inl refl)
-        (Each-weaker _ _ (λ x q. up i (name.Var x) q) (message_vars m) o.vars) (λ x t q. (q.0, term_here (records final.sites i) t q.1)))
+        (takes_row p here v c limit k i m parts_v (numbered_acts w i d numbers) real sound plain far at_v (inl (inl refl))
+        (Each-weaker _ _ (λ x q. up i (name.Var x) q) (message_vars m) o.vars) (λ x t q. (q.0, EachOfTerm-weaker (IsHereName (records final.sites i)) (here i) (λ y r. inl r) t (term_here (records final.sites i) t (Each-weaker _ _ (λ y r. at_site y r) (vars_of t) q.1)))))
 
     whole : PartsIn p (here_at (records (received p limit w k i m).sites)) (received p limit w k i m) taken.0
     whole = subst (λ (u : World). PartsIn p (here_at (records u.sites)) (after_receipt (Some k) u) taken.0) (sym (acts_after w i d e)) taken.2

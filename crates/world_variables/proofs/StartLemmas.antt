@@ -75,7 +75,7 @@ start_parts p = record {
     waits = λ i n st x h. let m = (start_thread p i n (st, site.Waits x) h).2 in cc;
     exchanges = λ i n st d h. let m = (start_thread p i n (st, WaitsFor d) h).2 in cc;
   };
-  homes = λ i. record { equations = tt; stacks = λ n v h. start_stack p (here_at (records (initial_site p)) i) (inl refl) n v.0 (start_thread p i n v h).1 };
+  homes = λ i. record { equations = tt; stacks = λ n v h. start_stack p (here_at (records (initial_site p)) i) (inl (inl refl)) n v.0 (start_thread p i n v h).1 };
   centred = record { all = (tt, tt, ((inr (omega arith), start_stack p (IsMade (counters (initial_site p))) (inl refl) first_thread _ refl), tt)); nobody = λ x zero t h. absurd (nothing _ h) };
   makers = record {
     own = λ i x own. ((λ h. absurd (omega (arith, h))), (λ h. absurd (not_known i x h)));

@@ -222,7 +222,7 @@ module _ (p : List Stmt) (w : World) (c : State) (n limit i : ℕ) (th : ThreadN
       final_known y q = subst (λ (t : Site). IsKnown t.records y) (sym (at_here w.sites i d.site)) (steps_known p n limit k kinds e s y q)
 
       up : (j : ℕ) (x : Name) → here_at (records w.sites) j x → hereF j x
-      up = at_all w.sites i d.site (λ j (t : Site). (x : Name) → here_at (records w.sites) j x → IsHereName t.records x) one (λ j other x q. q)
+      up = at_all w.sites i d.site (λ j (t : Site). (x : Name) → here_at (records w.sites) j x → IsHereName t.records x ⊎ (j ≡ 0)) (λ x q. either x q) (λ j other x q. q)
         where
           one : (x : Name) → IsHereName s.records x → IsHereName d.site.records x
           one (name.Var x) (inl zero) = inl zero
@@ -230,6 +230,10 @@ module _ (p : List Stmt) (w : World) (c : State) (n limit i : ℕ) (th : ThreadN
           one (name.Cell x) q = tt
           one (name.Proc x) q = tt
           one (name.Thread x) q = tt
+
+          either : (x : Name) → IsHereName s.records x ⊎ (i ≡ 0) → IsHereName d.site.records x ⊎ (i ≡ 0)
+          either x (inl q) = inl (one x q)
+          either x (inr q) = inr q
 
       wider : (x : VarName) → IsHere s.records x → IsHere d.site.records x
       wider x (inl zero) = inl zero
@@ -242,7 +246,7 @@ module _ (p : List Stmt) (w : World) (c : State) (n limit i : ℕ) (th : ThreadN
       h1 = makes_row p hereF w c i k kinds h2
 
       nob : hereF i (name.Var nobody)
-      nob = inl refl
+      nob = inl (inl refl)
 
       fresh_known : Each (IsKnown (with_fresh_names kinds s).records) (vars_among fresh)
       fresh_known = subst (λ (o : ℕ). Each (IsKnown (with_fresh_names kinds s).records) (vars_among (next_names o s.counters kinds))) (h.kept i).site
@@ -250,7 +254,7 @@ module _ (p : List Stmt) (w : World) (c : State) (n limit i : ℕ) (th : ThreadN
           (vars_each (λ (x : VarName). x.site ≡ s.records.site) (IsNextOf s.records.site s.counters (counters_after s.counters kinds)) (λ x r. r.0) (next_names s.records.site s.counters kinds) (next_are s.records.site s.counters kinds)))
 
       fresh_here : Each (hereF i) fresh
-      fresh_here = names_here (records (after_transition w i d).sites i) fresh (Each-weaker _ _ final_known (vars_among fresh) fresh_known)
+      fresh_here = Each-weaker (IsHereName (records (after_transition w i d).sites i)) (hereF i) (λ x q. inl q) fresh (names_here (records (after_transition w i d).sites i) fresh (Each-weaker _ _ final_known (vars_among fresh) fresh_known))
 
       names : EachOfEffect (hereF i) e
       names = stack_effect_names (hereF i) nob p (eqs w.sites i) fresh bind st (h2.homes i).equations ((h2.homes i).stacks th (st, Runs) at) fresh_here (news.of_kinds ∙ sym there.kinds_here) there.bind_here
