@@ -21,7 +21,7 @@ const TICKET: usize = 0;
 const SERVING: usize = 1;
 
 // How often the next in line looks before it parks.
-const LOOKS: u32 = 100;
+const LOOKS: u32 = 3000;
 
 impl Outside for SiteSeat {
     ghost is_outside = { IsSeatOutside };
@@ -59,7 +59,7 @@ impl<B: Story> CountedLock<B> {
                     return Held { value, seat: inner };
                 }
                 // The next in line looks again for a while, since the others are soon out.
-                Err(serving) if looks < LOOKS && serving.wrapping_add(1) == ticket => {
+                Err(serving) if looks < LOOKS && ticket.wrapping_sub(serving) <= 3 => {
                     looks += 1;
                     spin_loop();
                 }
