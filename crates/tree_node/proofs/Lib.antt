@@ -12,3 +12,7 @@ pub mod CaseLemmas
 pub mod NameLemmas
 pub mod FeatureOrder
 pub mod OptionLemmas
+pub mod BreadthLemmas
+pub mod CompareLemmas
+pub mod CompareLaws
+pub mod FieldLemmas

@@ -2,7 +2,7 @@
 use Rattle.std.proofs.Common.{refl, inl, inr}
 use Rattle.tree_node.specs.declared.node.Term.TheVariants as term
 use Rattle.tree_node.specs.Goal.{IsAllowedBind}
-use Rattle.tree_node.specs.Rows.{v, three_known, PartsAreTold, EitherIsBound, RingIsMet}
+use Rattle.tree_node.specs.Rows.{v, three_known, PartsAreTold, EitherIsBound, RingIsMet, PairsAreCompared}
 
 pub parts_are_told : PartsAreTold
 parts_are_told = record {
@@ -25,3 +25,6 @@ either_is_bound = (inl ((refl, refl), refl), inr ((refl, refl), refl))
 
 pub ring_is_met : RingIsMet
 ring_is_met = (refl, refl)
+
+pub pairs_are_compared : PairsAreCompared
+pairs_are_compared = record { apart = refl; together = refl; crossed = refl; by_three = refl; ring = refl; nothing = refl; itself = refl }

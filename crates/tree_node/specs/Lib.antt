@@ -5,6 +5,8 @@ pub mod Node
 pub mod Store
 pub mod Classes
 pub mod Goal
+pub mod Compare
+pub mod ClassPairs
 pub mod Fields
 pub mod Words
 pub mod Spelling

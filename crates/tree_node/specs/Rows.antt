@@ -7,6 +7,7 @@ use Rattle.tree_node.specs.declared.node.Node.TheVariants as node
 use Rattle.tree_node.specs.declared.node.Term.TheVariants as term
 use Rattle.tree_node.specs.Store.{Store, Equation, node_of}
 use Rattle.tree_node.specs.Goal.{Dropped, Binds, Opened, Failed, IsAllowedBind, case_of}
+use Rattle.tree_node.specs.Compare.{compared, Equal, Different, Open}
 use Rattle.tree_node.specs.Shown.{Shown, Text, IsNeeded, shown, shown_within}
 
 -- variable number n of site 1
@@ -157,3 +158,35 @@ abbrev pub RingIsMet : Type 0
 RingIsMet =
     (case_of ring [] (term.Var (v 0)) (term.Var (v 1)) ≡ Opened (f_of 1) (f_of 0) ((term.Var (v 1), term.Var (v 0)) ∷ []))
     × (case_of ring ((f_of 1, f_of 0) ∷ []) (term.Var (v 1)) (term.Var (v 0)) ≡ Dropped)
+
+-- v0 = p(v1 v2) and v3 = p(v4 v5), where v2 is 1 and v5 is 2: different, though v1 and v4 have no node
+abbrev pub parts_apart : Store
+parts_apart = holds 0 (p_of 1 2) ∷ holds 3 (p_of 4 5) ∷ holds 2 (node.Int (pos 1)) ∷ holds 5 (node.Int (pos 2)) ∷ []
+
+-- v0 = p(v1 v1) and v3 = p(v4 v5), where v4 is 1 and v5 is 2: v1 cannot be both, but no pair tells that by itself
+abbrev pub parts_together : Store
+parts_together = holds 0 (p_of 1 1) ∷ holds 3 (p_of 4 5) ∷ holds 4 (node.Int (pos 1)) ∷ holds 5 (node.Int (pos 2)) ∷ []
+
+-- v0 = p(v1 v2) and v3 = p(v2 v1): each is asked for once
+abbrev pub parts_crossed : Store
+parts_crossed = holds 0 (p_of 1 2) ∷ holds 3 (p_of 2 1) ∷ []
+
+-- q(x y z)
+abbrev pub q_of : ℕ → ℕ → ℕ → Node
+q_of x y z = node.Rec (codes "q") ((feature.Int (pos 1), v x) ∷ (feature.Int (pos 2), v y) ∷ (feature.Int (pos 3), v z) ∷ [])
+
+-- v0 = q(v1 v2 v1) and v3 = q(v2 v4 v4), with v1 = f(f(v6)), v2 = f(v7) and v4 = f(f(v9)): v1 and v4 are a pair of their own, which
+-- asks for v6 and v9, though both are compared with v2 already
+abbrev pub parts_by_three : Store
+parts_by_three =
+    holds 0 (q_of 1 2 1) ∷ holds 3 (q_of 2 4 4) ∷ holds 1 (f_of 5) ∷ holds 5 (f_of 6) ∷ holds 2 (f_of 7) ∷ holds 4 (f_of 8)
+    ∷ holds 8 (f_of 9) ∷ []
+
+pub record PairsAreCompared : Type 0 where
+  pub apart : compared parts_apart (v 0, v 3) ≡ Different
+  pub together : compared parts_together (v 0, v 3) ≡ Open (v 1 ∷ [])
+  pub crossed : compared parts_crossed (v 0, v 3) ≡ Open (v 1 ∷ v 2 ∷ [])
+  pub by_three : compared parts_by_three (v 0, v 3) ≡ Open (v 7 ∷ v 6 ∷ v 9 ∷ [])
+  pub ring : compared ring (v 0, v 1) ≡ Equal
+  pub nothing : compared [] (v 0, v 1) ≡ Open (v 0 ∷ v 1 ∷ [])
+  pub itself : compared [] (v 0, v 0) ≡ Equal

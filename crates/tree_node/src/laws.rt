@@ -2,7 +2,8 @@
 
 ghost use Rattle.tree_node.specs.Classes.{RootsTellClasses, NodesAreDet, NoneHasNone, SoundHasOne, OneNamesClass, RootNamesClass};
 ghost use Rattle.tree_node.specs.Fields.{FeaturesAreDistinct, PlacesTellFeatures, OrderTellsFields};
-ghost use Rattle.tree_node.specs.Rows.{RingIsCut, FieldsByName, FieldsByPlace, OtherBar, ListInList, ThreeNodes, OneNode, FieldIsNeeded, CutIsNotNeeded, ProcShows, CellShows, LeastShows, ReservedShows, EmptyShows, PartsAreTold, EitherIsBound, RingIsMet};
+ghost use Rattle.tree_node.specs.Compare.{EqualIsTold, EqualIsFound, DifferentIsTold, DifferentIsFound, OpenIsTold, OpenIsAll, NeverBoth, EqualStays, DifferentStays, DifferentIsNeverSame, OpenStays, OpenListStays, MoreIsWithin, AgreeingAnswer};
+ghost use Rattle.tree_node.specs.Rows.{RingIsCut, FieldsByName, FieldsByPlace, OtherBar, ListInList, ThreeNodes, OneNode, FieldIsNeeded, CutIsNotNeeded, ProcShows, CellShows, LeastShows, ReservedShows, EmptyShows, PartsAreTold, EitherIsBound, RingIsMet, PairsAreCompared};
 
 /// Two variables have one root exactly where a path of equations joins them.
 pub fn roots_tell_classes()
@@ -31,6 +32,31 @@ pub fn fields_in_order()
     ensures distinct { FeaturesAreDistinct }
     ensures places { PlacesTellFeatures }
     ensures same { OrderTellsFields }
+{}
+
+/// A comparison answers that two variables are equal, or different, exactly where they are, and never both. Else it answers
+/// the open variables of all pairs that it comes to, which do not depend on how deep one looks beyond the depth of the store.
+pub fn comparisons_are_exact()
+    ensures equal { EqualIsTold }
+    ensures equal_found { EqualIsFound }
+    ensures different { DifferentIsTold }
+    ensures different_found { DifferentIsFound }
+    ensures hangs { OpenIsTold }
+    ensures all { OpenIsAll }
+    ensures one { NeverBoth }
+{}
+
+/// What is equal or different stays so in every sound store that says more, as one with more equations does, and what is
+/// different is never of one class.
+/// What is open stays open, and its list stays, as long as none of its variables is bound. Stores that say the same answer alike.
+pub fn comparisons_stay()
+    ensures equal { EqualStays }
+    ensures different { DifferentStays }
+    ensures apart { DifferentIsNeverSame }
+    ensures hangs { OpenStays }
+    ensures list { OpenListStays }
+    ensures more { MoreIsWithin }
+    ensures agreeing { AgreeingAnswer }
 {}
 
 /// Records and lists as they are shown.
@@ -64,4 +90,9 @@ pub fn worked_goals()
     ensures parts { PartsAreTold }
     ensures either { EitherIsBound }
     ensures ring { RingIsMet }
+{}
+
+/// Comparisons: of records that differ in one field, of records whose fields tell nothing alone, of a ring, and of variables.
+pub fn worked_comparisons()
+    ensures { PairsAreCompared }
 {}

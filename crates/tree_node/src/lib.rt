@@ -2,7 +2,7 @@
 //! are.
 //!
 //! For: every other crate speaks of these values, and its contracts are written in the definitions that stand here:
-//! stores and their classes (`Store`, `Classes`), pairs of a tell (`Goal`), shown values (`Shown`), states and the names in
+//! stores and their classes (`Store`, `Classes`), pairs of a tell (`Goal`), comparisons of two variables (`Compare`), shown values (`Shown`), states and the names in
 //! them (`State`, `Names`), environments (`Env`), exceptions (`Unwind`), values by key (`Assoc`).
 //!
 //! Promises: copies equal what they copy (`copy_node`, `copy_term`, `copy_feature`, `copy_pick`); tests and orders are those
@@ -10,7 +10,7 @@
 //! features and heads are spelled as defined, with quotes where they could not be read back (`atom_text`, `feature_text`,
 //! `node_head`, `is_reserved`); an environment is a finite map (`Env`, `RoomyEnv`); lists are lists (`Seq`, `Shared`, `Line`).
 //! Laws of the definitions, as functions that do nothing: `roots_tell_classes`, `nodes_tell_det`, `sound_stores`,
-//! `one_names_class`, `fields_in_order`, and worked examples (`worked_goals`, `shown_records`, `shown_cuts`, `shown_nodes`).
+//! `one_names_class`, `fields_in_order`, `comparisons_are_exact`, `comparisons_stay`, and worked examples (`worked_goals`, `worked_comparisons`, `shown_records`, `shown_cuts`, `shown_nodes`).
 //! The laws of look-ups in association lists hold for keys and values of every type, so they are lemmas (`AssocLemmas`).
 //!
 //! Stands on: the standard library alone.
@@ -38,8 +38,9 @@ mod words;
 pub use env::{Env, RoomyEnv};
 pub use item::Item;
 pub use laws::{
-    fields_in_order, nodes_tell_det, one_names_class, roots_tell_classes, shown_cuts, shown_nodes,
-    shown_records, sound_stores, worked_goals,
+    comparisons_are_exact, comparisons_stay, fields_in_order, nodes_tell_det, one_names_class,
+    roots_tell_classes, shown_cuts, shown_nodes, shown_records, sound_stores, worked_comparisons,
+    worked_goals,
 };
 pub use line::Line;
 pub use names::{
@@ -47,7 +48,7 @@ pub use names::{
 };
 pub use node::{
     Feature, Fields, Node, Term, Text, Vars, compare_features, copy_feature, copy_node, copy_term,
-    equal_bytes, equal_feature, equal_fields, equal_text, node_arity,
+    equal_bytes, equal_feature, equal_features, equal_fields, equal_text, node_arity,
 };
 pub use pick::{Pick, copy_pick, plain_pick};
 pub use seq::Seq;

@@ -7,3 +7,4 @@ pub mod NameLemmas
 pub mod NeedLemmas
 pub mod LinkLemmas
 pub mod RootLemmas
+pub mod SearchLemmas

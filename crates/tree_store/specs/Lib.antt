@@ -5,3 +5,4 @@ pub mod Links
 pub mod Consistent
 pub mod Answers
 pub mod Walk
+pub mod Compared

@@ -11,6 +11,9 @@
 //!   (`IsForest`, `IsSound`). So every way to a root ends.
 //! - `shown`: the line that a value shows as, to 20 levels and 1,000 nodes, or the first variable that it needs and that
 //!   has no value, by the name of its class (`IsShownAs`).
+//! - `compare`: whether two variables are equal or different for all that the equations tell, or on which variables that hangs,
+//!   in the order in which they are come to, breadth first (`compared`). It costs by the pairs of classes that it comes to, each
+//!   of which it looks at once, so cyclic values end too.
 //! - `wait`, `wake`: keys wait for a variable in the order in which they came, until all of them are taken (`keys`,
 //!   `rest`). The programs here let threads wait in rosters; no crate of code calls these two.
 //!
@@ -26,11 +29,13 @@
 //! Sources: Van Roy and Haridi, *Concepts, Techniques, and Models of Computer Programming*, sections 2.3 and 2.8.2.
 #![tactic(auto)]
 
+mod compare;
 mod links;
 mod names;
 mod store;
 mod threads;
 mod walk;
 
+pub use compare::Compared;
 pub use store::{Root, Shown, Store};
 pub use waiting_keys::Keys;

@@ -1,10 +1,10 @@
 //! The fields of two records.
 
 ghost use Rattle.std.specs.Prelude.{◌≡◌, length, reverse, IfOk};
-ghost use Rattle.tree_node.specs.Goal.{is_met_pair, equal_features, field_pairs};
+ghost use Rattle.tree_node.specs.Goal.{is_met_pair, field_pairs};
 
 use std::alloc::{AllocError, Global};
-use tree_node::{Feature, Node, Term, VarName, equal_feature, equal_text};
+use tree_node::{Feature, Node, Term, VarName, equal_text};
 
 /// Whether the two nodes are among these pairs, in either order.
 pub fn is_among(pairs: &[(Node, Node)], left: &Node, right: &Node) -> bool
@@ -14,22 +14,6 @@ pub fn is_among(pairs: &[(Node, Node)], left: &Node, right: &Node) -> bool
         (equal_text(&pair.0, left) && equal_text(&pair.1, right))
             || (equal_text(&pair.0, right) && equal_text(&pair.1, left))
     })
-}
-
-/// Whether two lists of fields have the same features.
-#[tactic(auto, using(crate::proofs::CaseLemmas::features_length))]
-pub fn equal_features(left: &[(Feature, VarName)], right: &[(Feature, VarName)]) -> bool
-    ensures { result ≡ equal_features left.now right.now }
-{
-    if left.len() != right.len() {
-        return false;
-    }
-    for (at, field) in left.iter().enumerate() {
-        if !equal_feature(&field.0, &right[at].0) {
-            return false;
-        }
-    }
-    true
 }
 
 /// The pairs of the variables at each feature, the last first.

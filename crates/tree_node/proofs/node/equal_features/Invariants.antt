@@ -1,6 +1,6 @@
 use Rattle.std.proofs.Common.{◌≡◌, drop, length}
 use Rattle.tree_node.specs.Goal.{equal_features}
-use Rattle.unify_steps.proofs.records.equal_features.Given as goal
+use Rattle.tree_node.proofs.node.equal_features.Given as goal
 
 abbrev pub invariant-loop-at : goal.invariant-loop-at
 invariant-loop-at l = record {

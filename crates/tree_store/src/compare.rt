@@ -1,0 +1,189 @@
+//! Two variables are compared, with their parts, breadth first.
+
+ghost use Rattle.std.specs.Prelude.{◌≡◌, map, length, false, Some, IfOk, OnOk};
+ghost use Rattle.tree_node.specs.Store.{equal_var, root_of};
+ghost use Rattle.tree_node.specs.Compare.{relation, relation_of_nodes, relation_of_others, is_apart, is_one_class, open_root, open_roots, paired, compared, unless_open as open_or_equal};
+ghost use Rattle.tree_node.specs.ClassPairs.{equal_pair, roots, leads_to, all_new};
+ghost use Rattle.tree_store.specs.Compared.{comparison_of, IsFinding};
+
+use crate::store::{Root, Store};
+use indexmap::IndexSet;
+use std::alloc::{AllocError, Global};
+use tree_node::{Feature, Node, VarName, Vars, equal_bytes, equal_features, equal_text};
+
+/// What a store tells of two variables: they are equal, or different, or that hangs on these variables, which have no node.
+#[derive(Drop)]
+pub enum Compared {
+    Equal,
+    Different,
+    Open(Vars),
+}
+
+/// What a pair tells by itself: its sides are equal, or different, or as the fields of these two records are, or it is not
+/// known yet.
+#[derive(Clone, Copy)]
+pub enum Finding<'a> {
+    Alike,
+    Apart,
+    Parts(&'a [(Feature, VarName)], &'a [(Feature, VarName)]),
+    Unknown,
+}
+
+// What two nodes tell that are not of equal text.
+#[tactic(auto, using(tree_node::proofs::FieldLemmas::features_same_length))]
+fn find_by_others<'a>(left: &'a Node, right: &'a Node) -> Finding<'a>
+    ensures { IsFinding (relation_of_others left.now right.now) result }
+{
+    match (left, right) {
+        (Node::Rec(label, fields), Node::Rec(other, others)) => {
+            let fields = fields.as_slice();
+            let others = others.as_slice();
+            if !equal_bytes(label, other) || !equal_features(fields, others) {
+                return Finding::Apart;
+            }
+            Finding::Parts(fields, others)
+        }
+        _ => Finding::Apart,
+    }
+}
+
+// What two nodes tell.
+fn find_by_nodes<'a>(left: &'a Node, right: &'a Node) -> Finding<'a>
+    ensures { IsFinding (relation_of_nodes (Some left.now) (Some right.now)) result }
+{
+    if equal_text(left, right) {
+        return Finding::Alike;
+    }
+    find_by_others(left, right)
+}
+
+// What two variables tell that stand for their classes.
+fn find(store: &Store, left: VarName, right: VarName) -> Finding<'_>
+    requires left { root_of store.now.equations left ≡ left }
+    requires right { root_of store.now.equations right ≡ right }
+    ensures { IsFinding (relation store.now.equations (left, right)) result }
+{
+    if left == right {
+        return Finding::Alike;
+    }
+    match store.root_of(left) {
+        Root::Unbound(_) => Finding::Unknown,
+        Root::Node(node) => match store.root_of(right) {
+            Root::Unbound(_) => Finding::Unknown,
+            Root::Node(other) => find_by_nodes(node, other),
+        },
+    }
+}
+
+// The classes of the fields of two records go behind the pairs, those that are not there yet.
+fn add_parts(
+    store: &Store,
+    pairs: &mut IndexSet<(VarName, VarName)>,
+    fields: &[(Feature, VarName)],
+    others: &[(Feature, VarName)],
+) -> Result<(), AllocError>
+    requires { length fields.now ≡ length others.now }
+    ensures { OnOk result (pairs.new.keys ≡ all_new equal_pair pairs.old.keys (map (roots store.now.equations) (paired fields.now others.now))) }
+{
+    for (at, field) in fields.iter().enumerate() {
+        let left = store.class_of(field.1);
+        let right = store.class_of(others[at].1);
+        pairs.insert((left, right))?;
+    }
+    Ok(())
+}
+
+// A variable that stands for its class goes behind the open ones, if the class has no node.
+fn add_open(store: &Store, hanging: &mut IndexSet<VarName>, var: VarName) -> Result<(), AllocError>
+    requires { root_of store.now.equations var ≡ var }
+    ensures { OnOk result (hanging.new.keys ≡ all_new equal_var hanging.old.keys (open_root store.now.equations var)) }
+{
+    match store.root_of(var) {
+        Root::Unbound(_) => {
+            hanging.insert(var)?;
+            Ok(())
+        }
+        Root::Node(_) => Ok(()),
+    }
+}
+
+// The open variables of a pair of two classes go behind the others, the left one first.
+fn add_both(
+    store: &Store,
+    hanging: &mut IndexSet<VarName>,
+    left: VarName,
+    right: VarName,
+) -> Result<(), AllocError>
+    requires left { root_of store.now.equations left ≡ left }
+    requires right { root_of store.now.equations right ≡ right }
+    requires apart { is_one_class store.now.equations (left, right) ≡ false }
+    ensures { OnOk result (hanging.new.keys ≡ all_new equal_var hanging.old.keys (open_roots store.now.equations (left, right))) }
+{
+    add_open(store, hanging, left)?;
+    add_open(store, hanging, right)?;
+    Ok(())
+}
+
+// A pair is looked at: what it leads to, or what is open, goes behind the others. The answer is whether it is apart.
+fn visit(
+    store: &Store,
+    pairs: &mut IndexSet<(VarName, VarName)>,
+    hanging: &mut IndexSet<VarName>,
+    left: VarName,
+    right: VarName,
+) -> Result<bool, AllocError>
+    requires left { root_of store.now.equations left ≡ left }
+    requires right { root_of store.now.equations right ≡ right }
+    ensures apart { IfOk result (λ b. b ≡ is_apart (relation store.now.equations (left, right))) }
+    ensures pairs { OnOk result (pairs.new.keys ≡ all_new equal_pair pairs.old.keys (leads_to store.now.equations (left, right))) }
+    ensures open_ones { OnOk result (hanging.new.keys ≡ all_new equal_var hanging.old.keys (open_roots store.now.equations (left, right))) }
+{
+    match find(store, left, right) {
+        Finding::Alike => Ok(false),
+        Finding::Apart => Ok(true),
+        Finding::Parts(fields, others) => {
+            add_parts(store, pairs, fields, others)?;
+            Ok(false)
+        }
+        Finding::Unknown => {
+            add_both(store, hanging, left, right)?;
+            Ok(false)
+        }
+    }
+}
+
+// The answer where nothing differs.
+fn unless_open(alloc: Global, hanging: &IndexSet<VarName>) -> Result<Compared, AllocError>
+    ensures { IfOk result (λ c. comparison_of c ≡ open_or_equal hanging.now.keys) }
+{
+    if hanging.is_empty() {
+        return Ok(Compared::Equal);
+    }
+    let vars = Vec::from_slice(alloc, hanging.as_slice())?;
+    Ok(Compared::Open(Vars::from_vec(vars)?))
+}
+
+/// Whether two variables are equal or different for all that a store tells, or on which variables that hangs. Each pair of
+/// classes is looked at once, so it ends on cyclic values too.
+pub fn compare(
+    alloc: Global,
+    store: &Store,
+    left: VarName,
+    right: VarName,
+) -> Result<Compared, AllocError>
+    ensures { IfOk result (λ c. comparison_of c ≡ compared store.now.equations (left, right)) }
+{
+    let mut pairs = IndexSet::new(alloc);
+    let mut hanging = IndexSet::new(alloc);
+    pairs.insert((store.class_of(left), store.class_of(right)))?;
+    let mut at = 0;
+    'pairs: while at < pairs.len() {
+        let (left, right) = pairs.as_slice()[at];
+        let is_apart = visit(store, &mut pairs, &mut hanging, left, right)?;
+        if is_apart {
+            return Ok(Compared::Different);
+        }
+        at += 1;
+    }
+    unless_open(alloc, &hanging)
+}
