@@ -1,9 +1,9 @@
--- Quotients, rests, and what fits 64 bits.
+-- Quotients, rests, and what fits 128 bits.
 use Rattle.std.proofs.Common.{arith, ◌≡◌, refl, ap, subst, ℕ, zero, suc, ◌<◌, ◌≤◌, ◌%◌, Bool, true, false, cond, ℤ, pos, negsuc, neg_ℤ, ◌+ℤ◌, ◌-ℤ◌, ◌*ℤ◌, ◌≤ℤ◌, int_div, int_rem, unsigned_abs, IsTrue}
 use Rattle.std.proofs.lemmas.Int.{quot-rem, rem_below}
 use Rattle.std.proofs.Math.Nat.{mod-le}
 use Rattle.kernel_syntax.specs.declared.stmt.Op.TheVariants.{Add, Sub, Mul, Div, Mod, Le, Lt, Ge, Gt}
-use Rattle.kernel_syntax.specs.Arithmetic.{OperatorResult, Number, Overflow, Zero, fit_or_overflow, is_word, is_zero}
+use Rattle.kernel_syntax.specs.Arithmetic.{OperatorResult, Number, Overflow, Zero, fit_or_overflow, is_integer, is_zero}
 use Rattle.kernel_syntax.specs.Laws.{DivisionIsExact, RestHasSign, NumbersFit}
 
 some : (b : ℤ) → is_zero b ≡ false → 0 < unsigned_abs b
@@ -28,12 +28,12 @@ pub rest_has_sign : RestHasSign
 rest_has_sign (pos a) b = (λ h. least (a % unsigned_abs b), λ h. rest_of_none a (unsigned_abs b) h)
 rest_has_sign (negsuc a) b = (λ h. absurd h.le, λ h. not_above (suc a % unsigned_abs b))
 
--- the rest of an integer of 64 bits is one
-negated : (r a : ℕ) → r ≤ suc a → IsTrue (is_word (negsuc a)) → IsTrue (is_word (neg_ℤ (pos r)))
+-- the rest of an integer of 128 bits is one
+negated : (r a : ℕ) → r ≤ suc a → IsTrue (is_integer (negsuc a)) → IsTrue (is_integer (neg_ℤ (pos r)))
 negated zero a l h = grind arith
 negated (suc r) a l h = grind (arith, l, h)
 
-rest_fits : (a b : ℤ) → IsTrue (is_word a) → IsTrue (is_word (int_rem a b))
+rest_fits : (a b : ℤ) → IsTrue (is_integer a) → IsTrue (is_integer (int_rem a b))
 rest_fits (pos a) b h = let less : a % unsigned_abs b ≤ a = mod-le a (unsigned_abs b) in grind (arith, less, h)
 rest_fits (negsuc a) b h = negated (suc a % unsigned_abs b) a (mod-le (suc a) (unsigned_abs b)) h
 
@@ -42,20 +42,20 @@ number_of (Number z) = z
 number_of _ = pos 0
 
 -- what is given as an integer fits
-abbrev GivesWords : OperatorResult → Type 0
-GivesWords c = (z : ℤ) → c ≡ Number z → IsTrue (is_word z)
+abbrev GivesIntegers : OperatorResult → Type 0
+GivesIntegers c = (z : ℤ) → c ≡ Number z → IsTrue (is_integer z)
 
-number_fits : (y : ℤ) → IsTrue (is_word y) → GivesWords (Number y)
-number_fits y h z e = subst (λ (x : ℤ). IsTrue (is_word x)) (ap number_of e) h
+number_fits : (y : ℤ) → IsTrue (is_integer y) → GivesIntegers (Number y)
+number_fits y h z e = subst (λ (x : ℤ). IsTrue (is_integer x)) (ap number_of e) h
 
-fitted_fits : (y : ℤ) → GivesWords (fit_or_overflow y)
-fitted_fits y = go (is_word y) refl
+fitted_fits : (y : ℤ) → GivesIntegers (fit_or_overflow y)
+fitted_fits y = go (is_integer y) refl
   where
-    go : (b : Bool) → is_word y ≡ b → GivesWords (cond b (Number y) Overflow)
+    go : (b : Bool) → is_integer y ≡ b → GivesIntegers (cond b (Number y) Overflow)
     go true h = number_fits y h
     go false h = λ z e. absurd (grind (arith, e))
 
-unless_zero : (c : OperatorResult) (b : Bool) → GivesWords c → GivesWords (cond b Zero c)
+unless_zero : (c : OperatorResult) (b : Bool) → GivesIntegers c → GivesIntegers (cond b Zero c)
 unless_zero c true h = λ z e. absurd (grind (arith, e))
 unless_zero c false h = h
 

@@ -8,7 +8,7 @@ use Rattle.kernel_syntax.specs.Scopes.{stmt_at, named_positions}
 use Rattle.kernel_syntax.specs.Program.{IsProgram}
 use Rattle.kernel_syntax.specs.Uses.{IsBodyOutside, IsUsed}
 use Rattle.kernel_syntax.specs.declared.stmt.Op.{Op}
-use Rattle.kernel_syntax.specs.Arithmetic.{Number, result_of, is_word, is_zero}
+use Rattle.kernel_syntax.specs.Arithmetic.{Number, result_of, is_integer, is_zero}
 
 -- those of a statement come from those of its bodies
 abbrev pub FreeUnfolds : Type 0
@@ -46,6 +46,6 @@ DivisionIsExact = (a b : ℤ) → is_zero b ≡ false → (int_div a b *ℤ b +�
 abbrev pub RestHasSign : Type 0
 RestHasSign = (a b : ℤ) → (pos 0 ≤ℤ a → pos 0 ≤ℤ int_rem a b) × (a ≤ℤ pos 0 → int_rem a b ≤ℤ pos 0)
 
--- every integer that an operator gives fits 64 bits
+-- every integer that an operator gives fits 128 bits
 abbrev pub NumbersFit : Type 0
-NumbersFit = (op : Op) (a b z : ℤ) → IsTrue (is_word a) → result_of op a b ≡ Number z → IsTrue (is_word z)
+NumbersFit = (op : Op) (a b z : ℤ) → IsTrue (is_integer a) → result_of op a b ≡ Number z → IsTrue (is_integer z)

@@ -13,7 +13,7 @@ use Rattle.kernel_syntax.specs.declared.stmt.Selector.{Selector}
 use Rattle.kernel_syntax.specs.declared.stmt.Selector.TheVariants as selector
 use Rattle.kernel_syntax.specs.declared.stmt.Stmt.{Stmt}
 use Rattle.kernel_syntax.specs.declared.stmt.Stmt.TheVariants as stmt
-use Rattle.kernel_syntax.specs.Arithmetic.{is_word}
+use Rattle.kernel_syntax.specs.Arithmetic.{is_integer}
 
 -- what may stand in an atom: a newline, and all but the control characters of ASCII
 abbrev pub is_text_byte : ℕ → Bool
@@ -23,9 +23,9 @@ is_text_byte b = (b == 10) || not (nat_le b 31 || (b == 127))
 abbrev pub IsText : List ℕ → Type 0
 IsText text = IsUtf8 text × IsTrue (list_all is_text_byte text) × (length (atom_text text) ≤ 255)
 
--- an atom, or an integer of 64 bits
+-- an atom, or an integer of 128 bits
 abbrev pub IsFeature : Feature → Type 0
-IsFeature (feature.Int value) = IsTrue (is_word value)
+IsFeature (feature.Int value) = IsTrue (is_integer value)
 IsFeature (feature.Atom text) = IsText text
 
 -- a text can spell the feature of a selector
@@ -35,21 +35,21 @@ IsSpelledSelector (selector.Feature f) = IsFeature f
 
 -- a text can spell the integer, the atom, or the label and the features of a pattern
 abbrev pub IsSpelledPattern : Pattern → Type 0
-IsSpelledPattern (pattern.Int value) = IsTrue (is_word value)
+IsSpelledPattern (pattern.Int value) = IsTrue (is_integer value)
 IsSpelledPattern (pattern.Atom text) = IsText text
 IsSpelledPattern (pattern.Rec label features) = IsText label × Each IsFeature features
 
--- an integer of 64 bits, where there is one
-abbrev pub IsWordIfSome : Option ℤ → Type 0
-IsWordIfSome (Some value) = IsTrue (is_word value)
-IsWordIfSome None = Unit {0}
+-- an integer of 128 bits, where there is one
+abbrev pub IsIntegerIfSome : Option ℤ → Type 0
+IsIntegerIfSome (Some value) = IsTrue (is_integer value)
+IsIntegerIfSome None = Unit {0}
 
--- each atom, label and feature of the statement is an atom's text, and each integer one of 64 bits
+-- each atom, label and feature of the statement is an atom's text, and each integer one of 128 bits
 abbrev pub HasTexts : Stmt → Type 0
-HasTexts (stmt.TellInt left value) = IsTrue (is_word value)
+HasTexts (stmt.TellInt left value) = IsTrue (is_integer value)
 HasTexts (stmt.TellAtom left text) = IsText text
 HasTexts (stmt.TellRec left label fields) = IsText label × Each IsFeature (map (λ (f : Feature × ℕ). f.0) fields)
 HasTexts (stmt.Select left source by) = IsSpelledSelector by
 HasTexts (stmt.Case subject pattern first chosen other) = IsSpelledPattern pattern
-HasTexts (stmt.Thread at body) = IsWordIfSome at
+HasTexts (stmt.Thread at body) = IsIntegerIfSome at
 HasTexts _ = Unit {0}

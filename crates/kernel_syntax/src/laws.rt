@@ -21,7 +21,7 @@ pub fn free_goes_out()
 {}
 
 /// The quotient of `div` and the rest of `mod` make up the dividend; the rest is smaller than the divisor and has the
-/// dividend's sign. Every integer that an operator gives fits 64 bits.
+/// dividend's sign. Every integer that an operator gives fits 128 bits.
 pub fn operators_divide()
     ensures exact { DivisionIsExact }
     ensures sign { RestHasSign }

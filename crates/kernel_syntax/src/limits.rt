@@ -36,7 +36,7 @@ pub fn is_stmt(stmt: &Stmt) -> bool
 // Above all positions.
 const LIMIT: u64 = 1 << 32;
 
-fn is_thread_site(at: Option<i64>) -> bool
+fn is_thread_site(at: Option<i128>) -> bool
     ensures { IsTrue result ↔ IsThreadSite at }
 {
     match at {

@@ -41,7 +41,7 @@ pub enum Selector {
 /// The pattern of a `case`: an integer, an atom, or a record of a label and 1 to 64 features.
 #[derive(Drop)]
 pub enum Pattern {
-    Int(i64),
+    Int(i128),
     Atom(Text),
     Rec(Text, Features),
 }
@@ -67,7 +67,7 @@ pub enum Stmt {
     },
     TellInt {
         left: u32,
-        value: i64,
+        value: i128,
     },
     TellAtom {
         left: u32,
@@ -123,7 +123,7 @@ pub enum Stmt {
         new: u32,
     },
     Thread {
-        at: Option<i64>,
+        at: Option<i128>,
         body: CodeId,
     },
     Try {

@@ -5,8 +5,8 @@ ghost use Rattle.std.specs.List.{list_all};
 ghost use Rattle.std.specs.Str.{IsUtf8};
 ghost use Rattle.tree_node.specs.declared.node.Feature.{Feature};
 ghost use Rattle.tree_node.specs.Each.{Each};
-ghost use Rattle.kernel_syntax.specs.Arithmetic.{is_word};
-ghost use Rattle.kernel_syntax.specs.Texts.{is_text_byte, IsText, IsFeature, IsSpelledSelector, IsSpelledPattern, IsWordIfSome, HasTexts};
+ghost use Rattle.kernel_syntax.specs.Arithmetic.{is_integer};
+ghost use Rattle.kernel_syntax.specs.Texts.{is_text_byte, IsText, IsFeature, IsSpelledSelector, IsSpelledPattern, IsIntegerIfSome, HasTexts};
 
 use crate::stmt::{Pattern, Selector, Stmt};
 use std::alloc::{AllocError, Global};
@@ -17,31 +17,31 @@ pub fn has_texts(alloc: Global, stmt: &Stmt) -> Result<bool, AllocError>
     ensures { IfOk result (λ b. IsTrue b ↔ HasTexts stmt.now) }
 {
     match stmt {
-        Stmt::TellInt { value, .. } => Ok(is_word(*value)),
+        Stmt::TellInt { value, .. } => Ok(is_integer(*value)),
         Stmt::TellAtom { text, .. } => is_text(alloc, text),
         Stmt::TellRec { label, fields, .. } => {
             Ok(is_text(alloc, label)? && are_fields(alloc, fields.as_slice())?)
         }
         Stmt::Select { by, .. } => is_spelled_selector(alloc, by),
         Stmt::Case { pattern, .. } => is_spelled_pattern(alloc, pattern),
-        Stmt::Thread { at, .. } => Ok(is_word_if_some(*at)),
+        Stmt::Thread { at, .. } => Ok(is_integer_if_some(*at)),
         _ => Ok(true),
     }
 }
 
 // Every value of the type is one.
-fn is_word(value: i64) -> bool
-    ensures { IsTrue result ↔ IsTrue (is_word value) }
+fn is_integer(value: i128) -> bool
+    ensures { IsTrue result ↔ IsTrue (is_integer value) }
 {
     let _ = value;
     true
 }
 
-fn is_word_if_some(at: Option<i64>) -> bool
-    ensures { IsTrue result ↔ IsWordIfSome at }
+fn is_integer_if_some(at: Option<i128>) -> bool
+    ensures { IsTrue result ↔ IsIntegerIfSome at }
 {
     match at {
-        Some(site) => is_word(site),
+        Some(site) => is_integer(site),
         None => true,
     }
 }
@@ -81,7 +81,7 @@ fn is_feature(alloc: Global, feature: &Feature) -> Result<bool, AllocError>
     ensures { IfOk result (λ b. IsTrue b ↔ IsFeature feature.now) }
 {
     match feature {
-        Feature::Int(value) => Ok(is_word(*value)),
+        Feature::Int(value) => Ok(is_integer(value.get())),
         Feature::Atom(text) => is_text(alloc, text),
     }
 }
@@ -99,7 +99,7 @@ fn is_spelled_pattern(alloc: Global, pattern: &Pattern) -> Result<bool, AllocErr
     ensures { IfOk result (λ b. IsTrue b ↔ IsSpelledPattern pattern.now) }
 {
     match pattern {
-        Pattern::Int(value) => Ok(is_word(*value)),
+        Pattern::Int(value) => Ok(is_integer(*value)),
         Pattern::Atom(text) => is_text(alloc, text),
         Pattern::Rec(label, features) => {
             Ok(is_text(alloc, label)? && are_features(alloc, features.as_slice())?)

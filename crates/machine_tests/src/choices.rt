@@ -3,7 +3,7 @@
 use central_machine::{Central, Refusal, are_small};
 use std::alloc::{AllocError, Global};
 use std::process::Abort;
-use tree_node::{Name, NameList, Node, Pick, Term, Text, ThreadName, VarName};
+use tree_node::{Integer, Name, NameList, Node, Pick, Term, Text, ThreadName, VarName};
 
 /// What a pick takes or binds.
 #[derive(Clone, Copy)]
@@ -11,7 +11,7 @@ pub enum Choice {
     Nothing,
     Takes(&'static [Name]),
     Joins(VarName, VarName),
-    Int(VarName, i64),
+    Int(VarName, i128),
     Atom(VarName, &'static str),
 }
 
@@ -51,7 +51,7 @@ fn atom(alloc: Global, text: &str) -> Result<Term, AllocError> {
 fn bind_of(alloc: Global, choice: Choice) -> Result<Option<(VarName, Term)>, AllocError> {
     match choice {
         Choice::Joins(left, right) => Ok(Some((left, Term::Var(right)))),
-        Choice::Int(left, value) => Ok(Some((left, Term::Node(Node::Int(value))))),
+        Choice::Int(left, value) => Ok(Some((left, Term::Node(Node::Int(Integer::new(value)))))),
         Choice::Atom(left, text) => {
             let term = atom(alloc, text)?;
             Ok(Some((left, term)))

@@ -7,8 +7,8 @@ use Rattle.tree_node.specs.Each.{Each}
 use Rattle.tree_node.specs.Node.{feature_cmp}
 use Rattle.kernel_syntax.specs.declared.stmt.Stmt.{Stmt}
 use Rattle.kernel_syntax.specs.declared.stmt.Stmt.TheVariants as stmt
-use Rattle.kernel_syntax.specs.Arithmetic.{is_word}
-use Rattle.kernel_syntax.specs.Texts.{IsText, IsFeature, IsSpelledPattern, IsWordIfSome, HasTexts}
+use Rattle.kernel_syntax.specs.Arithmetic.{is_integer}
+use Rattle.kernel_syntax.specs.Texts.{IsText, IsFeature, IsSpelledPattern, IsIntegerIfSome, HasTexts}
 use Rattle.oz_grammar.specs.declared.symbol.Symbol.{Symbol}
 use Rattle.oz_grammar.specs.declared.symbol.Symbol.TheVariants as t
 use Rattle.oz_grammar.specs.declared.symbol.BuiltIn.{BuiltIn}
@@ -28,7 +28,7 @@ use Rattle.oz_grammar.proofs.TableLimits.{opening_limits, choice_limits, deep_en
 use Rattle.oz_grammar.proofs.PartsChecked.{room_of, mark_room}
 use Rattle.tree_node.proofs.EachLemmas.{each_append}
 
-is_small : (n : ℕ) → n < 2 ^ 63 → IsTrue (is_word (pos n))
+is_small : (n : ℕ) → n < 2 ^ 63 → IsTrue (is_integer (pos n))
 is_small n lt = grind arith
 
 bar_utf8 : IsUtf8 bar_label
@@ -40,7 +40,7 @@ bar_text = (bar_utf8, refl, omega arith)
 
 -- ---- rows without bodies
 
-number_good : (n : Option ℤ) → number_fault n ≡ None → IsWordIfSome n → IsTrue (is_word (value_of n))
+number_good : (n : Option ℤ) → number_fault n ≡ None → IsIntegerIfSome n → IsTrue (is_integer (value_of n))
 number_good (Some z) e g = g
 number_good None e g = cc
 
@@ -146,7 +146,7 @@ pattern_good (PairPattern h u) scope rest rest' behind e g = ((bar_text, (refl, 
 
 -- ---- rows with bodies
 
-site_good : (n : Option ℤ) → site_fault n ≡ None → IsWordIfSome n → IsWordIfSome (Some (value_of n))
+site_good : (n : Option ℤ) → site_fault n ≡ None → IsIntegerIfSome n → IsIntegerIfSome (Some (value_of n))
 site_good (Some z) e g = g
 site_good None e g = cc
 

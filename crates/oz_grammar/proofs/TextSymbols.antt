@@ -9,8 +9,8 @@ use Rattle.tree_node.specs.Each.{Each}
 use Rattle.tree_node.specs.Spelling.{is_word_byte, is_bare, escaped_text, atom_text}
 use Rattle.tree_node.specs.Words.{is_reserved}
 use Rattle.kernel_syntax.specs.declared.stmt.Op.TheVariants as op
-use Rattle.kernel_syntax.specs.Arithmetic.{is_word as is_number}
-use Rattle.kernel_syntax.specs.Texts.{is_text_byte, IsText, IsWordIfSome}
+use Rattle.kernel_syntax.specs.Arithmetic.{is_integer as is_number}
+use Rattle.kernel_syntax.specs.Texts.{is_text_byte, IsText, IsIntegerIfSome}
 use Rattle.oz_lexer.specs.declared.token.TokenKind.{TokenKind}
 use Rattle.oz_lexer.specs.declared.token.TokenKind.TheVariants as kind
 use Rattle.oz_lexer.specs.declared.token.LexKind.{LexKind}
@@ -178,27 +178,27 @@ quoted_good (b ∷ cs) utf8 e short =
 
 -- ---- integers
 
-signed_fits : (minus : Bool) (n : ℕ) → IsWordIfSome (signed_integer minus n)
-signed_fits true n = go (nat_le n 9223372036854775808) refl
+signed_fits : (minus : Bool) (n : ℕ) → IsIntegerIfSome (signed_integer minus n)
+signed_fits true n = go (nat_le n 170141183460469231731687303715884105728) refl
   where
-    negative_fits : (m : ℕ) → m ≤ 9223372036854775808 → IsTrue (is_number (negation m))
+    negative_fits : (m : ℕ) → m ≤ 170141183460469231731687303715884105728 → IsTrue (is_number (negation m))
     negative_fits zero le = refl
     negative_fits (suc m) le = grind arith
 
-    go : (b : Bool) → nat_le n 9223372036854775808 ≡ b → IsWordIfSome (cond b (Some (negation n)) None)
+    go : (b : Bool) → nat_le n 170141183460469231731687303715884105728 ≡ b → IsIntegerIfSome (cond b (Some (negation n)) None)
     go true e = negative_fits n (grind arith)
     go false e = tt
-signed_fits false n = go (nat_lt n 9223372036854775808) refl
+signed_fits false n = go (nat_lt n 170141183460469231731687303715884105728) refl
   where
-    go : (b : Bool) → nat_lt n 9223372036854775808 ≡ b → IsWordIfSome (cond b (Some (pos n)) None)
+    go : (b : Bool) → nat_lt n 170141183460469231731687303715884105728 ≡ b → IsIntegerIfSome (cond b (Some (pos n)) None)
     go true e = grind arith
     go false e = tt
 
-integer_good : (bytes : List ℕ) → IsWordIfSome (integer_of bytes)
+integer_good : (bytes : List ℕ) → IsIntegerIfSome (integer_of bytes)
 unfolding integer_of
 integer_good bytes = go (is_plain (digits_of bytes))
   where
-    go : (b : Bool) → IsWordIfSome (cond b (signed_integer (eqb (slice_index bytes 0) 126) (number_of (digits_of bytes))) None)
+    go : (b : Bool) → IsIntegerIfSome (cond b (signed_integer (eqb (slice_index bytes 0) 126) (number_of (digits_of bytes))) None)
     go true = signed_fits (eqb (slice_index bytes 0) 126) (number_of (digits_of bytes))
     go false = tt
 

@@ -7,7 +7,7 @@ use Rattle.oz_lexer.specs.declared.token.LexKind.{LexKind}
 use Rattle.oz_lexer.specs.Spelling.{digits_of, text_in_quotes}
 use Rattle.oz_lexer.specs.Tokens.{Lexeme}
 use Rattle.kernel_syntax.specs.declared.stmt.Op.TheVariants as op
-use Rattle.kernel_syntax.specs.Texts.{IsText, IsWordIfSome}
+use Rattle.kernel_syntax.specs.Texts.{IsText, IsIntegerIfSome}
 use Rattle.oz_grammar.specs.declared.symbol.Symbol.{Symbol}
 use Rattle.oz_grammar.specs.declared.symbol.Symbol.TheVariants as t
 
@@ -29,10 +29,10 @@ abbrev pub negation : ℕ → ℤ
 negation zero = pos zero
 negation (suc n) = negsuc n
 
--- the integer of this sign and size: from -2^63 to 2^63 - 1
+-- the integer of this sign and size: from -2^127 to 2^127 - 1
 abbrev pub signed_integer : Bool → ℕ → Option ℤ
-signed_integer true n = if nat_le n 9223372036854775808 then Some (negation n) else None
-signed_integer _ n = if nat_lt n 9223372036854775808 then Some (pos n) else None
+signed_integer true n = if nat_le n 170141183460469231731687303715884105728 then Some (negation n) else None
+signed_integer _ n = if nat_lt n 170141183460469231731687303715884105728 then Some (pos n) else None
 
 -- the integer that is spelled so, if it is a good one
 unfoldable pub integer_of : List ℕ → Option ℤ
@@ -110,8 +110,8 @@ ends_once (t.Bad fault ∷ []) = true
 ends_once (t.Bad fault ∷ rest) = false
 ends_once (symbol ∷ rest) = ends_once rest
 
--- an atom's text, and an integer of 64 bits where it is a good one
+-- an atom's text, and an integer of 128 bits where it is a good one
 abbrev pub IsSpelled : Symbol → Type 0
 IsSpelled (t.Atom text) = IsText text
-IsSpelled (t.Integer n) = IsWordIfSome n
+IsSpelled (t.Integer n) = IsIntegerIfSome n
 IsSpelled symbol = Unit {0}

@@ -37,7 +37,7 @@ pub enum FaultKind {
     Lex(LexKind),
     /// No program goes on with this token.
     Expected(What),
-    /// An integer outside -2^63 to 2^63 - 1, or with a first digit 0 before others.
+    /// An integer outside -2^127 to 2^127 - 1, or with a first digit 0 before others.
     Number,
     /// The site of a thread is below 1.
     Site,

@@ -13,7 +13,7 @@ pub enum Symbol {
     /// The text of an atom, without quotes and escapes.
     Atom(Text),
     /// The value of an integer, and none where the token is no good number.
-    Integer(Option<i64>),
+    Integer(Option<i128>),
     Skip,
     Local,
     In,

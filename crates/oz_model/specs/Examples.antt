@@ -116,16 +116,16 @@ thread_picks =
 abbrev pub ThreadIsMade : Type 0
 ThreadIsMade = RunsTo spawns thread_picks (codes "1" ∷ []) 2 0
 
--- local X Y Z in X = 9223372036854775807 Y = 1 Z = X + Y end
+-- local X Y Z in X = 170141183460469231731687303715884105727 Y = 1 Z = X + Y end
 abbrev pub adds : List Stmt
 adds =
-    Local 0 3 (code 1) ∷ Seq (code 2 ∷ code 3 ∷ code 4 ∷ []) ∷ TellInt 0 (pos 9223372036854775807) ∷ TellInt 1 (pos 1)
+    Local 0 3 (code 1) ∷ Seq (code 2 ∷ code 3 ∷ code 4 ∷ []) ∷ TellInt 0 (pos 170141183460469231731687303715884105727) ∷ TellInt 1 (pos 1)
     ∷ Calc 2 Add 0 1 ∷ []
 
 -- X and Y are told, then the sum raises an exception, which is reported
 abbrev pub overflow_picks : List Pick
 overflow_picks =
-    pick (new 0 ∷ new 1 ∷ new 2 ∷ []) None ∷ plain ∷ tell_picks (holds 0 (node.Int (pos 9223372036854775807)))
+    pick (new 0 ∷ new 1 ∷ new 2 ∷ []) None ∷ plain ∷ tell_picks (holds 0 (node.Int (pos 170141183460469231731687303715884105727)))
     ++ tell_picks (holds 1 (node.Int (pos 1))) ++ pick (new 3 ∷ new 4 ∷ []) None ∷ plain ∷ []
 
 -- it prints the exception that nobody caught, and its thread ends

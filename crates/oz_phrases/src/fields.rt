@@ -14,7 +14,7 @@ use crate::signs::sign;
 use crate::stop::{Read, Stop, fault, mismatch};
 use oz_grammar::{FaultKind, Purpose, Sign, Symbol, What};
 use std::alloc::{AllocError, Global};
-use tree_node::{Feature, Text, compare_features, copy_feature, equal_feature};
+use tree_node::{Feature, Integer, Text, compare_features, copy_feature, equal_feature};
 
 /// Whether some field has a feature.
 fn has_feature(fields: &[(Feature, Text)], feature: &Feature) -> bool
@@ -129,7 +129,11 @@ fn placed_fault(
 ) -> Option<FaultKind>
     ensures { result ≡ placed_fault at.purpose scope.now at.room fields.now at.next name.now }
 {
-    match feature_fault(at.room, fields, &Feature::Int(i64::from(at.next))) {
+    match feature_fault(
+        at.room,
+        fields,
+        &Feature::Int(Integer::new(i128::from(at.next))),
+    ) {
         Some(kind) => Some(kind),
         None => name_fault(at.purpose, scope, fields, name),
     }
@@ -190,7 +194,7 @@ fn numbered_field<'t>(
     at: Brackets,
     scope: &Scope,
     fields: &mut Vec<(Feature, Text)>,
-    value: Option<i64>,
+    value: Option<i128>,
     symbols: &'t [Symbol],
 ) -> Read<'t, u32>
     requires { 0 < length symbols.now }
@@ -201,7 +205,13 @@ fn numbered_field<'t>(
 {
     match value {
         None => Err(fault(FaultKind::Number, symbols)),
-        Some(value) => field_with_feature(at, scope, fields, Feature::Int(value), symbols),
+        Some(value) => field_with_feature(
+            at,
+            scope,
+            fields,
+            Feature::Int(Integer::new(value)),
+            symbols,
+        ),
     }
 }
 
@@ -224,7 +234,11 @@ fn field<'t>(
             match placed_fault(at, scope, fields.as_slice(), name) {
                 Some(kind) => Err(fault(kind, symbols)),
                 None => {
-                    add_field(fields, Feature::Int(i64::from(at.next)), name.copy()?)?;
+                    add_field(
+                        fields,
+                        Feature::Int(Integer::new(i128::from(at.next))),
+                        name.copy()?,
+                    )?;
                     Ok((at.next + 1, rest))
                 }
             }

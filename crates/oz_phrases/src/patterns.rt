@@ -13,7 +13,7 @@ use crate::stop::{Stop, fault, mismatch};
 use kernel_syntax::{Features, Pattern};
 use oz_grammar::{FaultKind, Purpose, Sign, Symbol, What};
 use std::alloc::{AllocError, Global};
-use tree_node::{Feature, Text};
+use tree_node::{Feature, Integer, Text};
 
 fn record_pattern(label: Text, features: Vec<Feature>) -> Pattern
     ensures { result ≡ record_pattern label features.items }
@@ -30,7 +30,10 @@ fn pair_features(alloc: Global) -> Result<Pattern, AllocError>
     ensures { IfOk result (λ p. p ≡ pair_pattern) }
 {
     let label = Text::from_vec(Vec::from_slice(alloc, b"|")?)?;
-    let features = vec![in alloc; Feature::Int(1), Feature::Int(2)]?;
+    let features = vec![in alloc;
+        Feature::Int(Integer::new(1)),
+        Feature::Int(Integer::new(2)),
+    ]?;
     Ok(Pattern::Rec(label, Features::from_vec(features)))
 }
 

@@ -13,7 +13,7 @@ use crate::stop::{Read, Stop, fault, mismatch};
 use kernel_syntax::{Op, Slots, Stmt};
 use oz_grammar::{FaultKind, Purpose, Symbol, What};
 use std::alloc::{AllocError, Global};
-use tree_node::{Feature, Text};
+use tree_node::{Feature, Integer, Text};
 
 /// The tell of a record, or of an atom where it has no fields.
 fn record_row(left: u32, label: Text, slots: Vec<(Feature, u32)>) -> Stmt
@@ -63,7 +63,10 @@ fn pair_row(alloc: Global, left: u32, head: u32, tail: u32) -> Result<Stmt, Allo
     ensures { IfOk result (λ s. s ≡ pair_row left head tail) }
 {
     let label = Text::from_vec(Vec::from_slice(alloc, b"|")?)?;
-    let slots = vec![in alloc; (Feature::Int(1), head), (Feature::Int(2), tail)]?;
+    let slots = vec![in alloc;
+        (Feature::Int(Integer::new(1)), head),
+        (Feature::Int(Integer::new(2)), tail),
+    ]?;
     Ok(Stmt::TellRec {
         left,
         label,

@@ -11,7 +11,7 @@ use Rattle.kernel_syntax.specs.declared.stmt.Stmt.TheVariants as stmt
 use Rattle.kernel_syntax.specs.declared.stmt.Selector.TheVariants as selector
 use Rattle.kernel_syntax.specs.declared.stmt.Pattern.{Pattern}
 use Rattle.kernel_syntax.specs.declared.stmt.Pattern.TheVariants as pattern
-use Rattle.kernel_syntax.specs.Arithmetic.{is_word}
+use Rattle.kernel_syntax.specs.Arithmetic.{is_integer}
 use Rattle.kernel_syntax.specs.Scopes.{stmt_at, named_positions, features_in}
 use Rattle.kernel_syntax.specs.Texts.{is_text_byte, IsText, IsFeature, IsSpelledPattern, HasTexts}
 use Rattle.kernel_syntax.specs.Preorder.{whole_program}
@@ -27,7 +27,7 @@ use Rattle.oz_grammar.specs.Canonical.{name_at, names_from, built_in_name, featu
 use Rattle.oz_grammar.specs.Table.{code_at}
 use Rattle.oz_grammar.proofs.CanonicalRows.{plain_tree, IsPlainRow}
 use Rattle.oz_grammar.proofs.Atoms.{is_atom_byte}
-use Rattle.oz_grammar.proofs.Digits.{FitsWord}
+use Rattle.oz_grammar.proofs.Digits.{FitsInteger}
 use Rattle.oz_show.proofs.SymbolSpelling.{IsAtom, IsWritten, name_written}
 use Rattle.oz_show.proofs.SpelledTokens.{Written, ends, more}
 use Rattle.std.proofs.lemmas.Bool.{and_parts}
@@ -47,9 +47,9 @@ atom_bytes (b ∷ bs) all =
 is_atom : (a : List ℕ) → IsText a → IsAtom a
 is_atom a is = (atom_bytes a is.1, is.2, is.0)
 
-fits_word : (z : ℤ) → IsTrue (is_word z) → FitsWord z
-fits_word (pos n) e = grind arith
-fits_word (negsuc n) e = grind arith
+fits_integer : (z : ℤ) → IsTrue (is_integer z) → FitsInteger z
+fits_integer (pos n) e = grind arith
+fits_integer (negsuc n) e = grind arith
 
 -- ---- identifiers
 
@@ -62,7 +62,7 @@ from_write zero first rest le w = w
 from_write (suc count) first rest le w = more (name_written first (omega (arith, le))) (from_write count (first + 1) rest (omega (arith, le)) w)
 
 mark_written : (f : Feature) → IsFeature f → IsWritten (feature_symbol (feature_token f))
-mark_written (feature.Int z) good = fits_word z good
+mark_written (feature.Int z) good = fits_integer z good
 mark_written (feature.Atom a) good = is_atom a good
 
 field_write : (f : Feature) (k : ℕ) (rest : List Symbol) → IsFeature f → k < 2 ^ 32 → Written rest → Written (field_text (field_with_feature (f, name_at k)) rest)
@@ -101,7 +101,7 @@ row_writes (stmt.Thread at c) rest p below good w = absurd p
 row_writes (stmt.Try c first handler) rest p below good w = absurd p
 row_writes stmt.Skip rest p below good w = more tt w
 row_writes (stmt.TellVar left right) rest p below good w = value_write left (ToVar (name_at right)) rest below.0 (more (name_written right below.1.0) w)
-row_writes (stmt.TellInt left z) rest p below good w = value_write left (ToInt (Some z)) rest below.0 (more (fits_word z good) w)
+row_writes (stmt.TellInt left z) rest p below good w = value_write left (ToInt (Some z)) rest below.0 (more (fits_integer z good) w)
 row_writes (stmt.TellAtom left a) rest p below good w = value_write left (ToAtom a) rest below.0 (more (is_atom a good) w)
 row_writes (stmt.TellRec left label slots) rest p below good w =
     value_write left (ToRecord label (map slot_field slots)) rest below.0 (more (is_atom label good.0) (more tt (slots_write slots (t.CloseRound ∷ rest) good.1 below.1 (more tt w))))
@@ -121,7 +121,7 @@ row_writes (stmt.Raise x) rest p below good w = more tt (more (name_written x be
 -- ---- rows with bodies
 
 pattern_writes : (p : Pattern) (first : ℕ) (rest : List Symbol) → IsSpelledPattern p → first + length (features_in p) < 2 ^ 32 → Written rest → Written (pattern_text (pattern_tree first p) rest)
-pattern_writes (pattern.Int z) first rest good le w = more (fits_word z good) w
+pattern_writes (pattern.Int z) first rest good le w = more (fits_integer z good) w
 pattern_writes (pattern.Atom a) first rest good le w = more (is_atom a good) w
 pattern_writes (pattern.Rec label features) first rest good le w = more (is_atom label good.0) (more tt (declared_write features first (t.CloseRound ∷ rest) good.1 le (more tt w)))
 
@@ -133,7 +133,7 @@ record IsFit (row : Stmt) : Type 0 where
 
 site_writes : (at : Option ℤ) (rest : List Symbol) → HasTexts (stmt.Thread at (code_at 0)) → Written rest → Written (Rattle.oz_grammar.specs.Grammar.opening_text (Rattle.oz_grammar.specs.Canonical.thread_opening at) rest)
 site_writes None rest good w = more tt w
-site_writes (Some z) rest good w = more tt (more tt (more (fits_word z good) w))
+site_writes (Some z) rest good w = more tt (more tt (more (fits_integer z good) w))
 
 -- where bodies can be written before what can be written
 module _ (body : CodeId → List Symbol → List Symbol) (writes : (c : CodeId) (rest : List Symbol) → Written rest → Written (body c rest)) where

@@ -18,7 +18,7 @@ use Rattle.oz_grammar.specs.Symbols.{symbol_at, word_symbol, sign_symbol}
 use Rattle.oz_grammar.specs.Canonical.{name_at}
 use Rattle.oz_show.specs.CanonicalText.{symbol_text}
 use Rattle.oz_show.proofs.Spaced.{IsSpace, longest_spaced, longest_quoted}
-use Rattle.oz_grammar.proofs.Digits.{decimal_of, word_bytes, FitsWord, integer}
+use Rattle.oz_grammar.proofs.Digits.{decimal_of, short_decimal, word_bytes, FitsInteger, integer}
 use Rattle.oz_grammar.proofs.Atoms.{is_atom_byte, quoted, bare}
 use Rattle.std.proofs.lemmas.Bool.{and_parts}
 
@@ -27,7 +27,7 @@ abbrev pub IsAtom : List ℕ → Type 0
 IsAtom a = (list_all is_atom_byte a ≡ true) × (length (atom_text a) ≤ 255) × IsUtf8 a
 
 abbrev pub IsInteger : Option ℤ → Type 0
-IsInteger (Some z) = FitsWord z
+IsInteger (Some z) = FitsInteger z
 IsInteger None = ⊥
 
 -- a symbol that can be written
@@ -80,10 +80,10 @@ variable_token (c ∷ cs) is le =
 pub name_written : (k : ℕ) → k < 2 ^ 32 → IsWritten (t.Variable (name_at k))
 name_written k small =
     let fits : k < 2 ^ 64 = omega (arith, small) in
-    let short = (decimal_of k fits).short in
-    (rw (word_bytes k fits) refl, omega (arith, short))
+    let short = short_decimal k fits in
+    (rw (word_bytes k (omega (arith, fits))) refl, omega (arith, short))
 
-integer_token : (z : ℤ) → FitsWord z → Token (t.Integer (Some z))
+integer_token : (z : ℤ) → FitsInteger z → Token (t.Integer (Some z))
 unfolding token_kind_of
 integer_token z fits =
     let i = integer z fits in

@@ -11,7 +11,7 @@ use Rattle.kernel_syntax.specs.declared.stmt.Op.{Op}
 use Rattle.kernel_syntax.specs.declared.stmt.Op.TheVariants as op
 use Rattle.oz_grammar.specs.declared.symbol.Symbol.{Symbol}
 use Rattle.oz_grammar.specs.declared.symbol.Symbol.TheVariants as t
-use Rattle.oz_grammar.proofs.Digits.{word_bytes, FitsWord}
+use Rattle.oz_grammar.proofs.Digits.{word_bytes, FitsInteger}
 use Rattle.oz_grammar.proofs.TextInQuotes.{AreHigh, encode_high, ascii_before}
 use Rattle.oz_show.specs.CanonicalText.{operator_text, symbol_text, text_behind, symbols_text}
 use Rattle.oz_show.proofs.SymbolSpelling.{IsAtom, IsWritten}
@@ -69,7 +69,7 @@ words_utf8 [] all = IsUtf8-nil
 words_utf8 (b ∷ bs) all =
     let two = and_parts (is_word_byte b) (list_all is_word_byte bs) all in ascii_before b bs (word_ascii b two.0) (words_utf8 bs two.1)
 
-integer_utf8 : (z : ℤ) → FitsWord z → IsUtf8 (symbol_text (t.Integer (Some z)))
+integer_utf8 : (z : ℤ) → FitsInteger z → IsUtf8 (symbol_text (t.Integer (Some z)))
 integer_utf8 (pos n) fits = words_utf8 (decimal n) (word_bytes n (omega (arith, fits)))
 integer_utf8 (negsuc n) fits = ascii_before 126 (decimal (suc n)) (omega arith) (words_utf8 (decimal (suc n)) (word_bytes (suc n) (omega (arith, fits))))
 

@@ -200,7 +200,7 @@ fn put_case(
     symbols.put(Symbol::Case)
 }
 
-fn put_thread(symbols: &mut Symbols, at: Option<i64>) -> Result<(), AllocError>
+fn put_thread(symbols: &mut Symbols, at: Option<i128>) -> Result<(), AllocError>
     ensures { OnOk result (symbols.new ≡ opening_text (thread_opening at) symbols.old) }
 {
     if let Some(site) = at {
@@ -269,7 +269,7 @@ fn put_tell_integer(
     alloc: Global,
     symbols: &mut Symbols,
     left: u32,
-    value: i64,
+    value: i128,
 ) -> Result<(), AllocError>
     ensures { OnOk result (symbols.new ≡ plain_text (tell_statement left (ToInt (Some value))) symbols.old) }
 {

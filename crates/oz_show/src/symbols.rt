@@ -85,7 +85,7 @@ impl Symbols {
         ensures { OnOk result (self.new ≡ feature_symbol (feature_token feature.now) ∷ self.old) }
     {
         match feature {
-            Feature::Int(value) => self.put(Symbol::Integer(Some(*value))),
+            Feature::Int(value) => self.put(Symbol::Integer(Some(value.get()))),
             Feature::Atom(text) => self.put_atom(text),
         }
     }

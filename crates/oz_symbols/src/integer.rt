@@ -4,19 +4,19 @@ ghost use Rattle.std.specs.Prelude.{◌≡◌, ◌≤◌, nat_le, if◌then◌el
 ghost use Rattle.oz_lexer.specs.Spelling.{digits_of};
 ghost use Rattle.oz_grammar.specs.Symbols.{number_of, is_plain, negation, signed_integer, integer_of};
 
-/// The number that digits name, at most 2^63.
+/// The number that digits name, at most 2^127.
 #[tactic(auto, using(crate::proofs::Numbers::too_large))]
-fn magnitude(digits: &[u8]) -> Option<u64>
-    ensures { result ≡ (if nat_le (number_of digits.now) 9223372036854775808 then Some (number_of digits.now) else None) }
+fn magnitude(digits: &[u8]) -> Option<u128>
+    ensures { result ≡ (if nat_le (number_of digits.now) 170141183460469231731687303715884105728 then Some (number_of digits.now) else None) }
 {
-    let mut value: u64 = 0;
+    let mut value: u128 = 0;
     for digit in digits {
-        if value > 922337203685477580 {
+        if value > 17014118346046923173168730371588410572 {
             return None;
         }
-        value = value * 10 + u64::from(digit.saturating_sub(b'0'));
+        value = value * 10 + u128::from(digit.saturating_sub(b'0'));
     }
-    if value <= 9223372036854775808 {
+    if value <= 170141183460469231731687303715884105728 {
         Some(value)
     } else {
         None
@@ -32,25 +32,25 @@ fn is_plain(digits: &[u8]) -> bool
     }
 }
 
-fn negation(value: u64) -> i64
-    requires { value ≤ 9223372036854775808 }
+fn negation(value: u128) -> i128
+    requires { value ≤ 170141183460469231731687303715884105728 }
     ensures { result ≡ negation value }
 {
     if value == 0 {
         0
     } else {
-        -1 - ((value - 1) as i64)
+        -1 - ((value - 1) as i128)
     }
 }
 
-fn signed_integer(is_negative: bool, digits: &[u8]) -> Option<i64>
+fn signed_integer(is_negative: bool, digits: &[u8]) -> Option<i128>
     ensures { result ≡ signed_integer is_negative (number_of digits.now) }
 {
     let value = magnitude(digits)?;
     if is_negative {
         Some(negation(value))
-    } else if value < 9223372036854775808 {
-        Some(value as i64)
+    } else if value < 170141183460469231731687303715884105728 {
+        Some(value as i128)
     } else {
         None
     }
@@ -58,7 +58,7 @@ fn signed_integer(is_negative: bool, digits: &[u8]) -> Option<i64>
 
 /// The integer that is spelled so.
 #[tactic(auto, unfolding(oz_grammar::specs::Symbols::integer_of))]
-pub fn integer_of(text: &[u8]) -> Option<i64>
+pub fn integer_of(text: &[u8]) -> Option<i128>
     ensures { result ≡ integer_of text.now }
 {
     let digits = digits_of(text);

@@ -14,6 +14,20 @@ const X: VarName = VarName { site: 1, num: 0 };
 
 const Y: VarName = VarName { site: 1, num: 1 };
 
+fn is_one(feature: &Feature) -> bool {
+    match feature {
+        Feature::Int(value) => value.get() == 1,
+        Feature::Atom(_) => false,
+    }
+}
+
+fn is_five(term: &Term) -> bool {
+    match term {
+        Term::Node(Node::Int(value)) => value.get() == 5,
+        _ => false,
+    }
+}
+
 // Whether a term is the record f(Y).
 fn is_f_of_y(term: &Term) -> bool {
     let Term::Node(Node::Rec(label, fields)) = term else {
@@ -22,7 +36,7 @@ fn is_f_of_y(term: &Term) -> bool {
     let fields = fields.as_slice();
     label.as_slice() == b"f".as_slice()
         && fields.len() == 1
-        && matches!(fields[0].0, Feature::Int(1))
+        && is_one(&fields[0].0)
         && fields[0].1 == Y
 }
 
@@ -36,7 +50,7 @@ fn tells_both(msg: &Msg) -> bool {
         && equations[0].0 == X
         && is_f_of_y(&equations[0].1)
         && equations[1].0 == Y
-        && matches!(&equations[1].1, Term::Node(Node::Int(5)))
+        && is_five(&equations[1].1)
 }
 
 // The messages of a journal, in the order in which they were sent.

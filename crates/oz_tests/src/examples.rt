@@ -167,9 +167,9 @@ end
         0,
     ),
     (
-        "% Integers have 64 bits: twenty is the last number whose factorial fits, and one more raises an exception.
-local Factorial Zero One Twenty More F in
-  Zero = 0  One = 1  Twenty = 20
+        "% Integers have 128 bits: thirty-three is the last number whose factorial fits, and one more raises an exception.
+local Factorial Zero One Most F G in
+  Zero = 0  One = 1  Most = 33
   proc {Factorial N ?F}
     local Ends in
       Ends = N =< Zero
@@ -183,17 +183,22 @@ local Factorial Zero One Twenty More F in
       end
     end
   end
-  {Factorial Twenty F}
+  local N in
+    N = 25
+    {Factorial N F}
+  end
   {Browse F}
+  {Factorial Most G}
+  {Browse G}
   try
-    local N G in
-      N = Twenty + One
-      {Factorial N G}
+    local N H in
+      N = Most + One
+      {Factorial N H}
     end
   catch E then {Browse E} end
 end
 ",
-        "2432902008176640000\nerror(overflow)\nquiescent ended=1 waiting=0\n",
+        "15511210043330985984000000\n8683317618811886495518194401280000000\nerror(overflow)\nquiescent ended=1 waiting=0\n",
         0,
     ),
     (

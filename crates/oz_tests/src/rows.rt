@@ -93,7 +93,7 @@ pub static LISTED: [Listed; 4] = [
 // A text, the bytes that are taken, and the status' number.
 type Run = (&'static str, &'static str, u8);
 
-pub static RUNS: [Run; 26] = [
+pub static RUNS: [Run; 31] = [
     (FIVE, "5\nquiescent ended=1 waiting=0\n", 0),
     ("skip", "quiescent ended=1 waiting=0\n", 0),
     (
@@ -138,23 +138,48 @@ pub static RUNS: [Run; 26] = [
         0,
     ),
     (
-        "local X Y Z in X = 9223372036854775807 Y = 1 try Z = X + Y catch E then {Browse E} end end",
+        "local X Y Z in X = 9223372036854775807 Y = 1 Z = X + Y {Browse Z} end",
+        "9223372036854775808\nquiescent ended=1 waiting=0\n",
+        0,
+    ),
+    (
+        "local X Y Z in X = 170141183460469231731687303715884105727 Y = 1 Z = X + Y {Browse Z} end",
+        "uncaught error(overflow)\nquiescent ended=1 waiting=0\n",
+        0,
+    ),
+    (
+        "local X in X = ~170141183460469231731687303715884105728 {Browse X} end",
+        "~170141183460469231731687303715884105728\nquiescent ended=1 waiting=0\n",
+        0,
+    ),
+    (
+        "local X Y Z in X = ~170141183460469231731687303715884105728 Y = 1 try Z = X - Y catch E then {Browse E} end end",
         "error(overflow)\nquiescent ended=1 waiting=0\n",
         0,
     ),
     (
-        "local X in X = ~9223372036854775808 {Browse X} end",
-        "~9223372036854775808\nquiescent ended=1 waiting=0\n",
-        0,
-    ),
-    (
-        "local X Y Z in X = ~9223372036854775808 Y = ~1 try Z = X div Y catch E then {Browse E} end end",
+        "local X Y Z in X = ~170141183460469231731687303715884105728 Y = ~1 try Z = X div Y catch E then {Browse E} end end",
         "error(overflow)\nquiescent ended=1 waiting=0\n",
         0,
     ),
     (
-        "local X Y Z in X = ~9223372036854775808 Y = ~1 Z = X mod Y {Browse Z} end",
+        "local X Y Z in X = ~170141183460469231731687303715884105728 Y = ~1 Z = X mod Y {Browse Z} end",
         "0\nquiescent ended=1 waiting=0\n",
+        0,
+    ),
+    (
+        "local X Y A in A = 1 X = f(~170141183460469231731687303715884105728:A 170141183460469231731687303715884105727:Y) thread at 2 Y = ~170141183460469231731687303715884105728 end {Browse X} end",
+        "f(~170141183460469231731687303715884105728:1 170141183460469231731687303715884105727:~170141183460469231731687303715884105728)\nquiescent ended=2 waiting=0\n",
+        0,
+    ),
+    (
+        "local X Y Z A in A = 170141183460469231731687303715884105727 X = f(170141183460469231731687303715884105727:A) Y = X.170141183460469231731687303715884105727 case Y of 170141183460469231731687303715884105727 then Z = X.Y else Z = 0 end {Browse Z} end",
+        "170141183460469231731687303715884105727\nquiescent ended=1 waiting=0\n",
+        0,
+    ),
+    (
+        "local X in thread at 170141183460469231731687303715884105727 X = 1 end {Browse X} end",
+        "1\nquiescent ended=2 waiting=0\n",
         0,
     ),
     (
@@ -332,7 +357,7 @@ pub static REFUSED: [(&str, &str); 13] = [
     ("", "refused 1:1 expected a statement"),
     ("local X in", "refused 1:11 expected a statement"),
     (
-        "local X in X = 9223372036854775808 end",
+        "local X in X = 170141183460469231731687303715884105728 end",
         "refused 1:16 bad number",
     ),
     ("local X in X = 007 end", "refused 1:16 bad number"),

@@ -5,11 +5,35 @@ use std::alloc::{AllocError, Global};
 use std::test::Fail;
 
 // A text, and the line of its refusal.
-static REFUSED: [(&str, &str); 58] = [
+static REFUSED: [(&str, &str); 64] = [
     ("", "refused 1:1 expected a statement"),
     (
-        "local X in X = 9223372036854775808 end",
+        "local X in X = 170141183460469231731687303715884105728 end",
         "refused 1:16 bad number",
+    ),
+    (
+        "local X in X = ~170141183460469231731687303715884105729 end",
+        "refused 1:16 bad number",
+    ),
+    (
+        "local X in X = f(170141183460469231731687303715884105728:X) end",
+        "refused 1:18 bad number",
+    ),
+    (
+        "local X Y in Y = f(X) X = Y.170141183460469231731687303715884105728 end",
+        "refused 1:29 bad number",
+    ),
+    (
+        "local X in case X of ~170141183460469231731687303715884105729 then skip else skip end end",
+        "refused 1:22 bad number",
+    ),
+    (
+        "local X in case X of f(170141183460469231731687303715884105728:Y) then skip else skip end end",
+        "refused 1:24 bad number",
+    ),
+    (
+        "thread at 170141183460469231731687303715884105728 skip end",
+        "refused 1:11 bad number",
     ),
     ("local X in", "refused 1:11 expected a statement"),
     (
@@ -152,7 +176,7 @@ type Long = (
     Option<&'static str>,
 );
 
-static LONG: [Long; 12] = [
+static LONG: [Long; 13] = [
     (
         "",
         "local X in ",
@@ -206,6 +230,14 @@ static LONG: [Long; 12] = [
     ("", "A", 256, " = 1", "", Some("refused 1:1 name too long")),
     ("", "A", 255, " = 1", "", Some("refused 1:1 undeclared")),
     ("local X in X = '", "a", 253, "' end", "", None),
+    (
+        "local X in X = ",
+        "9",
+        100_000,
+        " end",
+        "",
+        Some("refused 1:16 bad number"),
+    ),
     (
         "",
         " ",

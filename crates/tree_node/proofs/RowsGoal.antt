@@ -27,4 +27,4 @@ pub ring_is_met : RingIsMet
 ring_is_met = (refl, refl)
 
 pub pairs_are_compared : PairsAreCompared
-pairs_are_compared = record { apart = refl; together = refl; crossed = refl; by_three = refl; ring = refl; nothing = refl; itself = refl }
+pairs_are_compared = record { apart = refl; together = refl; crossed = refl; by_three = refl; ring = refl; nothing = refl; itself = refl; one_class = refl; one_text = refl; other_kind = refl; record_and_atom = refl; other_label = refl; one_known = refl }

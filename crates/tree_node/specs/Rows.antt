@@ -108,9 +108,9 @@ ProcShows = ShowsAs (node.Proc (record { site = 1; num = 0 }) (record { 0 = 3 })
 abbrev pub CellShows : Type 0
 CellShows = ShowsAs (node.Cell (record { site = 2; num = 7 })) (codes "<Cell>")
 
--- the least integer of 64 bits
+-- the least integer of 128 bits
 abbrev pub LeastShows : Type 0
-LeastShows = ShowsAs (node.Int (negsuc 9223372036854775807)) (codes "~9223372036854775808")
+LeastShows = ShowsAs (node.Int (negsuc 170141183460469231731687303715884105727)) (codes "~170141183460469231731687303715884105728")
 
 -- an atom that is a reserved word stands in quotes
 abbrev pub ReservedShows : Type 0
@@ -182,6 +182,13 @@ parts_by_three =
     holds 0 (q_of 1 2 1) ∷ holds 3 (q_of 2 4 4) ∷ holds 1 (f_of 5) ∷ holds 5 (f_of 6) ∷ holds 2 (f_of 7) ∷ holds 4 (f_of 8)
     ∷ holds 8 (f_of 9) ∷ []
 
+-- v1 = v0 and v3 = v2, with v0 = f(v4), v2 = f(v4), v4 = 1 and v5 = a
+abbrev pub named_twice : Store
+named_twice =
+    (v 1, term.Var (v 0)) ∷ (v 3, term.Var (v 2)) ∷ holds 0 (f_of 4) ∷ holds 2 (f_of 4) ∷ holds 4 (node.Int (pos 1))
+    ∷ holds 5 (node.Atom (codes "a")) ∷ []
+
+-- what comparisons in these stores answer
 pub record PairsAreCompared : Type 0 where
   pub apart : compared parts_apart (v 0, v 3) ≡ Different
   pub together : compared parts_together (v 0, v 3) ≡ Open (v 1 ∷ [])
@@ -190,3 +197,9 @@ pub record PairsAreCompared : Type 0 where
   pub ring : compared ring (v 0, v 1) ≡ Equal
   pub nothing : compared [] (v 0, v 1) ≡ Open (v 0 ∷ v 1 ∷ [])
   pub itself : compared [] (v 0, v 0) ≡ Equal
+  pub one_class : compared ((v 1, term.Var (v 0)) ∷ []) (v 0, v 1) ≡ Equal
+  pub one_text : compared named_twice (v 1, v 3) ≡ Equal
+  pub other_kind : compared named_twice (v 4, v 5) ≡ Different
+  pub record_and_atom : compared named_twice (v 3, v 5) ≡ Different
+  pub other_label : compared parts_by_three (v 0, v 1) ≡ Different
+  pub one_known : compared named_twice (v 6, v 3) ≡ Open (v 6 ∷ [])

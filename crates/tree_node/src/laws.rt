@@ -92,7 +92,8 @@ pub fn worked_goals()
     ensures ring { RingIsMet }
 {}
 
-/// Comparisons: of records that differ in one field, of records whose fields tell nothing alone, of a ring, and of variables.
+/// Comparisons: of records that differ in one field, of records whose fields tell nothing alone, of a ring, of other kinds of nodes,
+/// and of variables.
 pub fn worked_comparisons()
     ensures { PairsAreCompared }
 {}

@@ -23,6 +23,7 @@
 #![tactic(auto)]
 
 mod env;
+mod integer;
 mod item;
 mod laws;
 mod line;
@@ -36,6 +37,7 @@ mod threads;
 mod words;
 
 pub use env::{Env, RoomyEnv};
+pub use integer::Integer;
 pub use item::Item;
 pub use laws::{
     comparisons_are_exact, comparisons_stay, fields_in_order, nodes_tell_det, one_names_class,

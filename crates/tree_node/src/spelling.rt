@@ -39,7 +39,7 @@ pub fn head_bytes(alloc: Global, node: &Node) -> Result<Vec<u8>, AllocError>
     ensures { IfOk result (λ v. v.items ≡ head_text node.now) }
 {
     match node {
-        Node::Int(value) => Ok(int_bytes(alloc, *value)?),
+        Node::Int(value) => Ok(int_bytes(alloc, value.get())?),
         Node::Atom(text) => Ok(atom_bytes(alloc, text.as_slice())?),
         Node::Rec(label, _) => Ok(atom_bytes(alloc, label.as_slice())?),
         Node::Proc(_, _, formals, _) => Ok(proc_bytes(alloc, *formals)?),
@@ -52,12 +52,12 @@ pub fn feature_bytes(alloc: Global, feature: &Feature) -> Result<Vec<u8>, AllocE
     ensures { IfOk result (λ v. v.items ≡ feature_text feature.now) }
 {
     match feature {
-        Feature::Int(value) => Ok(int_bytes(alloc, *value)?),
+        Feature::Int(value) => Ok(int_bytes(alloc, value.get())?),
         Feature::Atom(text) => Ok(atom_bytes(alloc, text.as_slice())?),
     }
 }
 
-fn int_bytes(alloc: Global, value: i64) -> Result<Vec<u8>, AllocError>
+fn int_bytes(alloc: Global, value: i128) -> Result<Vec<u8>, AllocError>
     ensures { IfOk result (λ v. v.items ≡ int_text value) }
 {
     let digits = format!(in alloc; "{}", value.unsigned_abs())?;

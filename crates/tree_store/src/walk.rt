@@ -33,7 +33,7 @@ fn is_number(next: u64, feature: &Feature) -> bool
     ensures { result ≡ is_feature next feature.now }
 {
     match feature {
-        Feature::Int(value) => *value == next as i64,
+        Feature::Int(value) => value.get() == i128::from(next),
         Feature::Atom(_) => false,
     }
 }

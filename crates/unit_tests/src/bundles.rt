@@ -5,15 +5,18 @@ use site_message::Bundle;
 use std::alloc::{AllocError, Global};
 use std::process::Abort;
 use std::test::Fail;
-use tree_node::{Feature, Fields, Node, Term, Text, VarName};
+use tree_node::{Feature, Fields, Integer, Node, Term, Text, VarName};
 use tree_store::Store;
 
 // A record whose label is a letter, with these variables of site 1 at the features from 1 on.
 fn record(alloc: Global, letter: u8, numbers: &[u64]) -> Result<Node, AllocError> {
     let mut fields = Vec::new(alloc);
-    let mut feature: i64 = 1;
+    let mut feature: i128 = 1;
     for num in numbers {
-        fields.push((Feature::Int(feature), VarName { site: 1, num: *num }))?;
+        fields.push((
+            Feature::Int(Integer::new(feature)),
+            VarName { site: 1, num: *num },
+        ))?;
         feature = feature.saturating_add(1);
     }
     let label = Text::from_vec(Vec::from_slice(alloc, &[letter])?)?;
@@ -58,8 +61,8 @@ fn fill(alloc: Global, store: &mut Store) -> Result<bool, AllocError> {
     let inner = record(alloc, b'g', &[0])?;
     let outer = record(alloc, b'f', &[2, 1])?;
     Ok(
-        tell(store, 0, Node::Int(2))?
-            && tell(store, 1, Node::Int(1))?
+        tell(store, 0, Node::Int(Integer::new(2)))?
+            && tell(store, 1, Node::Int(Integer::new(1)))?
             && tell(store, 2, inner)?
             && tell(store, 3, outer)?
             && link(store, 4, 3)?,
@@ -123,7 +126,7 @@ fn expect_empty_bundle<R: Abort>(
     store: &mut Store,
 ) -> Result<(), AllocError> {
     let var = VarName { site: 1, num: 0 };
-    assert!(rt; tell(store, 0, Node::Int(5))?);
+    assert!(rt; tell(store, 0, Node::Int(Integer::new(5)))?);
     let bundle = export(alloc, store, var, 0)?;
     assert!(rt; bundle.is_empty());
     let news = import(alloc, store, &bundle)?;

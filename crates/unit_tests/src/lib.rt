@@ -11,6 +11,8 @@ mod bundles;
 #[cfg(test)]
 mod cells;
 #[cfg(test)]
+mod comparisons;
+#[cfg(test)]
 mod handlers;
 #[cfg(test)]
 mod nodes;

@@ -3,9 +3,9 @@
 use std::alloc::{AllocError, Global};
 use std::test::Fail;
 use tree_node::{
-    CellName, CodeId, Env, Feature, Fields, Name, Node, Pick, ProcName, Term, Text, ThreadName,
-    VarName, Vars, atom_text, copy_node, copy_pick, copy_term, equal_text, is_reserved, node_arity,
-    node_head, plain_pick,
+    CellName, CodeId, Env, Feature, Fields, Integer, Name, Node, Pick, ProcName, Term, Text,
+    ThreadName, VarName, Vars, atom_text, copy_node, copy_pick, copy_term, equal_text, is_reserved,
+    node_arity, node_head, plain_pick,
 };
 
 fn text(alloc: Global, bytes: &[u8]) -> Result<Text, AllocError> {
@@ -22,7 +22,7 @@ fn atom(alloc: Global, bytes: &[u8]) -> Result<Node, AllocError> {
 
 fn record(alloc: Global, label: &[u8], last: u64) -> Result<Node, AllocError> {
     let fields = vec![in alloc;
-        (Feature::Int(1), variable(1)),
+        (Feature::Int(Integer::new(1)), variable(1)),
         (Feature::Atom(text(alloc, b"a")?), variable(last)),
     ]?;
     Ok(Node::Rec(text(alloc, label)?, Fields::from_vec(fields)?))
@@ -83,9 +83,15 @@ fn has_head(
 #[test]
 fn heads_of_nodes_are_spelled(rt: HostRuntime) -> Result<(), Fail> {
     let alloc = rt.alloc();
-    for (value, want) in [(0, "0"), (-3, "~3"), (i64::MIN, "~9223372036854775808")] {
+    let rows = [
+        (0, "0"),
+        (-3, "~3"),
+        (i128::MAX, "170141183460469231731687303715884105727"),
+        (i128::MIN, "~170141183460469231731687303715884105728"),
+    ];
+    for (value, want) in rows {
         assert!(rt;
-            has_head(alloc, Ok(Node::Int(value)), want.as_bytes())?,
+            has_head(alloc, Ok(Node::Int(Integer::new(value))), want.as_bytes())?,
             "at {value}"
         );
     }
@@ -120,7 +126,7 @@ fn reserved_words_are_told(rt: HostRuntime) {
 // Nodes of different texts, by number.
 fn sample(alloc: Global, at: u64) -> Result<Node, AllocError> {
     match at {
-        0 => Ok(Node::Int(5)),
+        0 => Ok(Node::Int(Integer::new(5))),
         1 => Ok(atom(alloc, b"f")?),
         2 => Ok(record(alloc, b"f", 2)?),
         3 => Ok(record(alloc, b"g", 2)?),

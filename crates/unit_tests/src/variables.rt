@@ -12,7 +12,7 @@ use site_message::{DeliverError, Msg, Outbox, Sent};
 use std::alloc::{AllocError, Global};
 use std::process::Abort;
 use std::test::Fail;
-use tree_node::{Node, Term, ThreadName, VarName};
+use tree_node::{Integer, Node, Term, ThreadName, VarName};
 use variable_owner::Asked;
 
 // The first variable of site 1, and the first of site 2.
@@ -20,10 +20,10 @@ const X: VarName = VarName { site: 1, num: 0 };
 
 const Y: VarName = VarName { site: 2, num: 0 };
 
-fn int(value: i64) -> Term
+fn int(value: i128) -> Term
     ensures { result ≡ term.Node (node.Int value) }
 {
-    Term::Node(Node::Int(value))
+    Term::Node(Node::Int(Integer::new(value)))
 }
 
 fn thread(site: u32) -> ThreadName {
@@ -31,9 +31,9 @@ fn thread(site: u32) -> ThreadName {
 }
 
 // The integer that a term is.
-fn int_of(term: &Term) -> Option<i64> {
+fn int_of(term: &Term) -> Option<i128> {
     match term {
-        Term::Node(Node::Int(value)) => Some(*value),
+        Term::Node(Node::Int(value)) => Some(value.get()),
         _ => None,
     }
 }
@@ -49,7 +49,7 @@ fn tells_five(sent: &Sent, site: u32) -> bool {
 }
 
 // A request for X comes to its owner.
-fn ask(owner: &mut Binder, value: i64, outbox: &mut Outbox) -> Result<Option<Asked>, AllocError> {
+fn ask(owner: &mut Binder, value: i128, outbox: &mut Outbox) -> Result<Option<Asked>, AllocError> {
     if !owner.takes(&Msg::Register { var: X, asking: 64 }) {
         return Ok(None);
     }
@@ -106,7 +106,7 @@ fn meets_bound(site: &mut Binder) -> Result<Option<Met>, AllocError> {
 }
 
 // The integer that a site knows X to be bound to.
-fn known_value(site: &Binder) -> Option<i64> {
+fn known_value(site: &Binder) -> Option<i128> {
     match site.knows(X) {
         Knowledge::Bound(term) => int_of(term),
         _ => None,
@@ -208,7 +208,7 @@ fn want_int(
     world: &mut BindWorld,
     site: u32,
     var: VarName,
-    value: i64,
+    value: i128,
 ) -> Result<bool, AllocError> {
     if !is_site(world, site) {
         return Ok(false);
@@ -222,7 +222,7 @@ fn want_int(
 }
 
 // The integer that a site knows a variable to be bound to.
-fn value_at(world: &BindWorld, site: u32, var: VarName) -> Option<i64> {
+fn value_at(world: &BindWorld, site: u32, var: VarName) -> Option<i128> {
     if !is_site(world, site) {
         return None;
     }
