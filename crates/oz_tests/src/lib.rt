@@ -5,8 +5,9 @@
 //!
 //! **They show** what no clause says: that the texts of the tables have their one lawful output with ample memory, or one of
 //! their lawful outputs, on 1 to 64 sites, refusals and end lines among them; that the examples of the repository print what
-//! stands beside them; that a text as long as may be is read and runs; that two runs without
-//! workers print the same; that turns of two sites are under way at once; that what a site knows goes out with its messages.
+//! stands beside them; that a text as long as may be is read and runs; that a text without an end is stopped behind its
+//! lines, and keeps no other thread of its site from a turn; that two runs without workers print the same, and go by rounds of sites; that
+//! the gate is called with the turns of each site; that turns of two sites are under way at once; that what a site knows goes out with its messages.
 //!
 //! **They stand on** `oz_runner`, and on `oz_base` for sources and sinks in memory.
 #![tactic(auto)]
@@ -14,7 +15,11 @@
 #[cfg(test)]
 mod bundles;
 #[cfg(test)]
+mod endless;
+#[cfg(test)]
 mod examples;
+#[cfg(test)]
+mod gate_numbers;
 #[cfg(test)]
 mod large;
 #[cfg(test)]

@@ -4,12 +4,6 @@ const FIVE: &str = "local X in X = 5 {Browse X} end";
 
 const LOOP: &str = "local P in P = proc {$} {P} end {P} end";
 
-// One thread goes on for ever, and two others have something to do at the same site.
-const BESIDE_LOOP: &str = "local P X in
-  proc {P} {P} end
-  thread {P} end thread X = 5 end {Browse X}
-end";
-
 // A cell counts to a hundred over four threads.
 pub const COUNTER: &str = "local C Z One L N D1 D2 D3 D4 U in
   Z = 0 One = 1 N = 25 U = done
@@ -55,7 +49,7 @@ pub type Listed = (
 );
 
 // A list that is shown at another site goes there with what is known of it: 256 equations a message.
-pub static LISTED: [Listed; 4] = [
+pub static LISTED: [Listed; 5] = [
     (
         &[],
         500,
@@ -87,6 +81,15 @@ pub static LISTED: [Listed; 4] = [
         "",
         "stopped messages",
         5,
+    ),
+    // The machine alone makes more than 8,000 steps, which take more than 1,500 names.
+    (
+        &["central"],
+        500,
+        "{Browse L} end",
+        ",,,",
+        "quiescent ended=1 waiting=0",
+        0,
     ),
 ];
 
@@ -240,9 +243,9 @@ pub static RUNS: [Run; 31] = [
 ];
 
 // The words after the name, a text, the bytes that are taken, and the status' number.
-type Worded = (&'static [&'static str], &'static str, &'static str, u8);
+pub type Worded = (&'static [&'static str], &'static str, &'static str, u8);
 
-pub static WORDED: [Worded; 16] = [
+pub static WORDED: [Worded; 14] = [
     (&["run"], FIVE, "5\nquiescent ended=1 waiting=0\n", 0),
     (&["central"], FIVE, "5\nquiescent ended=1 waiting=0\n", 0),
     (
@@ -252,18 +255,6 @@ pub static WORDED: [Worded; 16] = [
         0,
     ),
     (&["--steps", "100"], LOOP, "stopped steps site=1\n", 4),
-    (
-        &["--steps", "1000", "--workers", "0"],
-        BESIDE_LOOP,
-        "5\nstopped steps site=1\n",
-        4,
-    ),
-    (
-        &["--steps", "1000", "--workers", "2"],
-        BESIDE_LOOP,
-        "5\nstopped steps site=1\n",
-        4,
-    ),
     (
         &["central", "--steps", "100"],
         LOOP,
@@ -320,6 +311,36 @@ pub static WORDED: [Worded; 16] = [
     ),
 ];
 
+// A thread that begins at the last site long after its worker has found nothing to do.
+const LATE: &str = "local Go X Y D Z One N in
+  Z = 0 One = 1 N = 20000
+  proc {Go K E}
+    local B in
+      B = K =< Z
+      if B then E = Z else local J in J = K - One {Go J E} end end
+    end
+  end
+  {Go N D} {Wait D}
+  thread at 64 X = f(Y) end
+  case X of f(W) then W = 5 {Browse X} else skip end
+end";
+
+// As many workers as there may be.
+pub static WIDE: [Worded; 2] = [
+    (
+        &["--sites", "64", "--workers", "64", "--steps", "100"],
+        LOOP,
+        "stopped steps site=1\n",
+        4,
+    ),
+    (
+        &["--sites", "64", "--workers", "64"],
+        LATE,
+        "f(5)\nquiescent ended=2 waiting=0\n",
+        0,
+    ),
+];
+
 // Words that are refused.
 pub static USAGE: [&[&str]; 28] = [
     &["gen"],
@@ -353,8 +374,25 @@ pub static USAGE: [&[&str]; 28] = [
 ];
 
 // A text that is refused, and the end line.
-pub static REFUSED: [(&str, &str); 13] = [
+pub static REFUSED: [(&str, &str); 21] = [
     ("", "refused 1:1 expected a statement"),
+    ("loc", "refused 1:1 expected a statement"),
+    ("local", "refused 1:6 expected a variable"),
+    ("local X in X", "refused 1:13 expected ="),
+    ("local X in X = 5 {Brows", "refused 1:19 undeclared"),
+    (
+        "local X in X = 5 {Browse",
+        "refused 1:25 expected a variable",
+    ),
+    ("local X in X = 5 {Browse X", "refused 1:27 expected }"),
+    (
+        "local X in X = 5 {Browse X}",
+        "refused 1:28 expected a statement or end",
+    ),
+    (
+        "local X in X = 5 {Browse X} e",
+        "refused 1:29 expected a statement or end",
+    ),
     ("local X in", "refused 1:11 expected a statement"),
     (
         "local X in X = 170141183460469231731687303715884105728 end",
@@ -389,9 +427,11 @@ type Failing = (
     u8,
 );
 
-pub static FAILING: [Failing; 5] = [
+pub static FAILING: [Failing; 7] = [
     (&[], "skip", &[1], &[], "read fault\n", 6),
     (&[], FIVE, &[1], &[], "read fault\n", 6),
+    (&[], COUNTER, &[1], &[], "read fault\n", 6),
+    (&[], COUNTER, &[2], &[], "read fault\n", 6),
     (&[], FIVE, &[], &[2], "5\n", 7),
     (&[], FIVE, &[], &[1], "", 7),
     (&["walk"], "skip", &[], &[1], "", 7),

@@ -3,7 +3,7 @@
 use crate::rows::COUNTER;
 
 // The words after the name, a text, all outputs that the language allows, and the status' number.
-type SiteText = (
+pub type SiteText = (
     &'static [&'static str],
     &'static str,
     &'static [&'static str],
@@ -14,7 +14,22 @@ type SiteText = (
 pub const RACE: &str = "local X in thread at 2 X = 1 end thread at 3 X = 2 end {Browse X} end";
 
 // The first line of each output of the race.
-pub static FIRST_LINES: [&str; 3] = ["1\n", "2\n", "uncaught failure(tell)\n"];
+const FIRST_LINES: [&str; 3] = ["1\n", "2\n", "uncaught failure(tell)\n"];
+
+// Both lines of each.
+const BOTH_LINES: [&str; 4] = [
+    "1\nuncaught failure(tell)\n",
+    "2\nuncaught failure(tell)\n",
+    "uncaught failure(tell)\n1\n",
+    "uncaught failure(tell)\n2\n",
+];
+
+// The call of the sink that fails, and what may be taken of the race then.
+pub static FRONTS: [(&[u64], &[&str]); 3] = [
+    (&[1], &[""]),
+    (&[2], &FIRST_LINES),
+    (&[3], &BOTH_LINES),
+];
 
 // A line is printed at site 3.
 pub const THIRD: &str = "local X in X = 7 thread at 9 {Browse X} end end";

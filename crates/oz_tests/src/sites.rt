@@ -1,8 +1,9 @@
 //! Texts that run on several sites, and what may be printed of them.
 
+use crate::endless::{ENDLESS, FAR_STREAM};
 use crate::rows::COUNTER;
 use crate::site_programs::{CELLS, RAISED, SENT, SITES, SiteProgram, THREADS};
-use crate::site_texts::{FIRST_LINES, RACE, SITED, THIRD};
+use crate::site_texts::{FRONTS, RACE, SITED, SiteText, THIRD};
 use crate::texts::{answer, report_of, with_workers};
 use oz_base::{MemSink, MemSource};
 use oz_runner::OpenGate;
@@ -49,6 +50,20 @@ fn print_on_all_sites<R: Abort + Threads + Wait + Sync>(
     Ok(())
 }
 
+// So do these texts, each by its words.
+fn print_as_said<R: Abort + Threads + Wait + Sync>(
+    rt: &R,
+    alloc: Global,
+    workers: &'static str,
+    rows: &[SiteText],
+) -> Result<(), AllocError> {
+    for row in rows {
+        let words = with_workers(alloc, row.0, workers)?;
+        prints_one_of(rt, alloc, &words, row.1, row.2, row.3)?;
+    }
+    Ok(())
+}
+
 // Two runs of a text without workers print the same, and have schedules of the same length.
 fn prints_twice<R: Abort + Threads + Wait + Sync>(
     rt: &R,
@@ -66,12 +81,51 @@ fn prints_twice<R: Abort + Threads + Wait + Sync>(
 
 #[test]
 fn worked_texts_have_a_lawful_output(rt: HostRuntime) -> Result<(), Fail> {
-    let alloc = rt.alloc();
     for workers in ["0", "1", "2", "4"] {
-        for row in SITED.as_slice() {
-            let words = with_workers(alloc, row.0, workers)?;
-            prints_one_of(&rt, alloc, &words, row.1, row.2, row.3)?;
+        print_as_said(&rt, rt.alloc(), workers, SITED.as_slice())?;
+    }
+    Ok(())
+}
+
+#[test]
+fn texts_without_an_end_are_stopped_behind_their_lines(rt: HostRuntime) -> Result<(), Fail> {
+    for workers in ["0", "1", "4"] {
+        print_as_said(&rt, rt.alloc(), workers, ENDLESS.as_slice())?;
+    }
+    Ok(())
+}
+
+// Whether the bytes are the first of these lines, each whole, and then the line of a run that was stopped at the first site or the
+// second.
+fn is_front(bytes: &[u8], lines: &[u8]) -> bool {
+    for end in ["stopped steps site=1\n", "stopped steps site=2\n"] {
+        if let Some(front) = bytes.strip_suffix(end.as_bytes()) {
+            return lines.starts_with(front) && (front.is_empty() || front.ends_with(b"\n"));
         }
+    }
+    false
+}
+
+// The numbers from 0 on, a line for each.
+fn number_lines(alloc: Global, count: u64) -> Result<Vec<u8>, AllocError> {
+    let mut lines = Vec::new(alloc);
+    for number in 0..count {
+        let line = format!(in alloc; "{number}\n")?;
+        lines.extend_from_slice(line.as_bytes())?;
+    }
+    Ok(lines)
+}
+
+// A number takes eleven steps where the list is made, and nineteen come before.
+#[test]
+fn an_endless_list_is_shown_in_order_at_another_site(rt: HostRuntime) -> Result<(), Fail> {
+    let alloc = rt.alloc();
+    let lines = number_lines(alloc, 181)?;
+    for workers in ["0", "1", "2"] {
+        let words = with_workers(alloc, &["--sites", "2", "--steps", "2000"], workers)?;
+        let told = answer(&rt, alloc, &words, FAR_STREAM.as_bytes(), &[], &[])?;
+        assert!(rt; is_front(&told.0, &lines));
+        assert_eq!(rt; told.1, 4);
     }
     Ok(())
 }
@@ -89,17 +143,14 @@ fn any_number_of_sites_prints_what_is_lawful(rt: HostRuntime) -> Result<(), Fail
 }
 
 #[test]
-fn a_failed_write_leaves_a_first_line(rt: HostRuntime) -> Result<(), Fail> {
-    let told = answer(
-        &rt,
-        rt.alloc(),
-        &["--sites", "3"],
-        RACE.as_bytes(),
-        &[],
-        &[2],
-    )?;
-    assert!(rt; is_among(&told.0, FIRST_LINES.as_slice()));
-    assert_eq!(rt; told.1, 7);
+fn a_failed_write_leaves_the_lines_before(rt: HostRuntime) -> Result<(), Fail> {
+    let alloc = rt.alloc();
+    for row in FRONTS.as_slice() {
+        let words: [&str; 2] = ["--sites", "3"];
+        let told = answer(&rt, alloc, &words, RACE.as_bytes(), &[], row.0)?;
+        assert!(rt; is_among(&told.0, row.1));
+        assert_eq!(rt; told.1, 7);
+    }
     Ok(())
 }
 

@@ -1,7 +1,8 @@
 //! Texts, and what the whole call makes of them.
 
+use crate::endless::ROUNDS;
 use crate::examples::EXAMPLES;
-use crate::rows::{FAILING, LIST, LISTED, Listed, REFUSED, RUNS, USAGE, WORDED};
+use crate::rows::{FAILING, LIST, LISTED, Listed, REFUSED, RUNS, USAGE, WIDE, WORDED};
 use oz_base::{MemSink, MemSource};
 use oz_runner::{Gate, OpenGate, Report, oz};
 use std::alloc::{AllocError, Global};
@@ -122,6 +123,43 @@ fn texts_have_their_output(rt: HostRuntime) -> Result<(), Fail> {
     for example in EXAMPLES.as_slice() {
         expect_output(&rt, alloc, &[], example.0, example.1, example.2)?;
     }
+    Ok(())
+}
+
+#[test]
+fn as_many_workers_as_may_be_come_to_the_end(rt: HostRuntime) -> Result<(), Fail> {
+    for row in WIDE.as_slice() {
+        expect_output(&rt, rt.alloc(), row.0, row.1, row.2, row.3)?;
+    }
+    Ok(())
+}
+
+#[test]
+fn sites_without_workers_take_turns_in_rounds(rt: HostRuntime) -> Result<(), Fail> {
+    for row in ROUNDS.as_slice() {
+        expect_output(&rt, rt.alloc(), row.0, row.1, row.2, row.3)?;
+    }
+    Ok(())
+}
+
+// A text that is as deep as may be.
+#[test]
+fn a_deep_program_runs(rt: HostRuntime) -> Result<(), Fail> {
+    let alloc = rt.alloc();
+    let mut text = Vec::new(alloc);
+    for _ in 0..199 {
+        text.extend_from_slice(b"local X in ")?;
+    }
+    text.extend_from_slice(b"skip")?;
+    for _ in 0..199 {
+        text.extend_from_slice(b" end")?;
+    }
+    let told = answer(&rt, alloc, &[], &text, &[], &[])?;
+    assert_eq!(rt;
+        told.0.as_slice(),
+        b"quiescent ended=1 waiting=0\n".as_slice()
+    );
+    assert_eq!(rt; told.1, 0);
     Ok(())
 }
 
