@@ -1,8 +1,12 @@
-"""Counts what a run of a text makes: threads, variables, cells and exchanges. It runs on the plain machine of orders.py, whose
+"""Counts what a run of a text makes: threads, variables, cells and exchanges. It runs on the plain machine of oracle/, whose
 threads take turns, each until it waits or ends."""
+import pathlib
+import sys
 from typing import NamedTuple
 
-from orders import State, Unbound, advance, take
+sys.path.append(str(pathlib.Path(__file__).resolve().parent.parent / "oracle"))
+
+from machine import State, Unbound, advance, take
 from reading import read
 
 
