@@ -66,9 +66,9 @@ LATE_AMOUNT = (
     + "{Wait D} {Browse D} K = One end"
 )
 KEPT_CONTENT = (
-    "local C Zero One in Zero = 0 One = 1 {NewCell Zero C} "
+    "local C Zero One Ten in Zero = 0 One = 1 Ten = 10 {NewCell Zero C} "
     + "thread local Old New in {Exchange C Old New} New = Old + One {Browse Old} end end "
-    + "local Old New in {Exchange C Old New} New = Old + One {Browse Old} end end"
+    + "local Old New in {Exchange C Old New} New = Old + Ten end end"
 )
 MAILBOX = """local Mail Xs A B in
   A = a B = b {NewCell Xs Mail}
@@ -102,7 +102,7 @@ ROWS = [
     (READ_BESIDE_COUNTS, ["0\n" + ENDED.format(3), "1\n" + ENDED.format(3), "2\n" + ENDED.format(3)]),
     (COUNT_AT_THE_EDGE, ["done\n" + ENDED.format(3), "uncaught error(overflow)\nquiescent ended=1 waiting=2\n"]),
     (LATE_AMOUNT, ["done\n" + ENDED.format(3), "quiescent ended=0 waiting=3\n"]),
-    (KEPT_CONTENT, ["0\n1\n" + ENDED.format(2), "1\n0\n" + ENDED.format(2)]),
+    (KEPT_CONTENT, ["0\n" + ENDED.format(2), "10\n" + ENDED.format(2)]),
     (MAILBOX, ["a\nb\n" + ENDED.format(3), "b\na\n" + ENDED.format(3)]),
     (STREAM, ["a|a|nil\n" + ENDED.format(2)]),
 ]
