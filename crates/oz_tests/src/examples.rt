@@ -1,7 +1,7 @@
 //! The examples of the repository, as `examples/check --table` prints them.
 
 // A text, what it prints and its status' number.
-pub static EXAMPLES: [(&str, &str, u8); 24] = [
+pub static EXAMPLES: [(&str, &str, u8); 34] = [
     (
         "% Lists are records with a head and a tail; nil is an atom. Append goes through the first list and shares the second.
 local Append A B C Nil L1 L2 L3 M in
@@ -23,6 +23,41 @@ local Append A B C Nil L1 L2 L3 M in
 end
 ",
         "a|b|c|nil\n(a|b|nil)|c|nil\nquiescent ended=1 waiting=0\n",
+        0,
+    ),
+    (
+        "% CTM 4.4.3, concurrent composition: a barrier runs procedures at once, each in a thread of its own, and goes on when all have
+% ended. Each thread binds a variable to that of the thread before it, so that the last one is known when all are.
+local Barrier Count Tally Zero One Nil A B C L1 L2 L3 in
+  Zero = 0  One = 1  Nil = nil
+  {NewCell Zero Tally}
+  proc {Count}
+    local Old New in {Exchange Tally Old New} New = Old + One end
+  end
+  proc {Barrier Ps}
+    local Start Go Last in
+      proc {Start Ps Before ?Last}
+        case Ps of P|Pr then
+          local After in
+            thread {P} After = Before end
+            {Start Pr After Last}
+          end
+        else Last = Before end
+      end
+      Go = go
+      {Start Ps Go Last}
+      {Wait Last}
+    end
+  end
+  A = proc {$} {Count} end
+  B = proc {$} {Count} {Count} end
+  C = proc {$} {Count} {Count} {Count} end
+  L3 = C|Nil  L2 = B|L3  L1 = A|L2
+  {Barrier L1}
+  local Sum in {Exchange Tally Sum Sum} {Browse Sum} end
+end
+",
+        "6\nquiescent ended=4 waiting=0\n",
         0,
     ),
     (
@@ -116,6 +151,32 @@ end
         0,
     ),
     (
+        "% CTM 4.2.3, dataflow threads: a map with a thread for each element. The list is there before its elements are, and each is
+% known when its thread has made it.
+local Map Wait3 Double F A B C Nil L1 L2 L3 Ys in
+  proc {Map Xs F ?Ys}
+    case Xs of X|Xr then
+      local Y Yr in
+        Ys = Y|Yr
+        thread {F X Y} end
+        {Map Xr F Yr}
+      end
+    else Ys = nil end
+  end
+  proc {Double X ?Y} Y = X + X end
+  % elements that are not known yet can be mapped, too
+  Nil = nil  L3 = C|Nil  L2 = B|L3  L1 = A|L2
+  {Map L1 Double Ys}
+  proc {Wait3 ?R} C = 3  B = C + C  A = B + C  R = done end
+  thread at 2 {Wait3 F} end
+  {Browse Ys}
+  {Browse F}
+end
+",
+        "18|12|6|nil\ndone\nquiescent ended=5 waiting=0\n",
+        0,
+    ),
+    (
         "% State that only its procedures can reach: a counter is a record of two procedures round one cell.
 local MakeCounter Zero One A B in
   Zero = 0  One = 1
@@ -167,6 +228,39 @@ end
         0,
     ),
     (
+        "% CTM 4.3.3, demand-driven streams: the consumer makes the list, and the producer binds each element that is asked for. It makes
+% none that nobody wants.
+local Produce Sum Zero One Four Xs S in
+  Zero = 0  One = 1  Four = 4
+  proc {Produce N Xs}
+    case Xs of X|Xr then
+      local Next in
+        X = N
+        Next = N + One
+        {Produce Next Xr}
+      end
+    else {Browse N} end
+  end
+  proc {Sum N Xs Before ?S}
+    case N of 0 then Xs = nil  S = Before
+    else
+      local X Xr Less After in
+        Xs = X|Xr
+        Less = N - One
+        After = Before + X
+        {Sum Less Xr After S}
+      end
+    end
+  end
+  thread {Sum Four Xs Zero S} end
+  {Produce One Xs}
+  {Browse S}
+end
+",
+        "5\n10\nquiescent ended=2 waiting=0\n",
+        0,
+    ),
+    (
         "% Integers have 128 bits: thirty-three is the last number whose factorial fits, and one more raises an exception.
 local Factorial Zero One Most F G in
   Zero = 0  One = 1  Most = 33
@@ -211,6 +305,31 @@ local X in
 end
 ",
         "1\nuncaught failure(tell)\nquiescent ended=1 waiting=0\n",
+        0,
+    ),
+    (
+        "% CTM 4.2.3, threads are cheap: each call starts a thread for one of its two calls, and waits for nothing but their sum.
+local Fibonacci One Two Ten F in
+  One = 1  Two = 2  Ten = 10
+  proc {Fibonacci N ?F}
+    local Small in
+      Small = N =< Two
+      if Small then F = One
+      else
+        local M K G H in
+          M = N - One  K = N - Two
+          thread {Fibonacci M G} end
+          {Fibonacci K H}
+          F = G + H
+        end
+      end
+    end
+  end
+  {Fibonacci Ten F}
+  {Browse F}
+end
+",
+        "55\nquiescent ended=55 waiting=0\n",
         0,
     ),
     (
@@ -287,6 +406,143 @@ local Gate And Xor Two Zero One Nil A B Sum Carry in
 end
 ",
         "0|1|1|0|nil\n0|0|0|1|nil\nquiescent ended=3 waiting=0\n",
+        0,
+    ),
+    (
+        "% CTM 4.5.6, a network of streams that feeds itself: Hamming's numbers are 1, and twice, three times and five times each of them, in
+% order. Each of the five threads stops by itself at numbers above the last one.
+local Times Merge One Two Three Five Last H H2 H3 H5 H23 Rest in
+  One = 1  Two = 2  Three = 3  Five = 5  Last = 30
+  proc {Times N Xs ?Ys}
+    case Xs of X|Xr then
+      local Y Fits in
+        Y = N * X
+        Fits = Y =< Last
+        if Fits then
+          local Yr in Ys = Y|Yr {Times N Xr Yr} end
+        else Ys = nil end
+      end
+    else Ys = nil end
+  end
+  % merges two lists in order; what stands in both stands once in the result
+  proc {Merge Xs Ys ?Zs}
+    case Xs of X|Xr then
+      case Ys of Y|Yr then
+        local Less More in
+          Less = X < Y
+          More = X > Y
+          if Less then
+            local Zr in Zs = X|Zr {Merge Xr Ys Zr} end
+          else
+            if More then
+              local Zr in Zs = Y|Zr {Merge Xs Yr Zr} end
+            else
+              local Zr in Zs = X|Zr {Merge Xr Yr Zr} end
+            end
+          end
+        end
+      else Zs = Xs end
+    else Zs = Ys end
+  end
+  H = One|Rest
+  thread {Times Two H H2} end
+  thread at 2 {Times Three H H3} end
+  thread at 3 {Times Five H H5} end
+  thread {Merge H2 H3 H23} end
+  thread {Merge H23 H5 Rest} end
+  {Browse H}
+end
+",
+        "1|2|3|4|5|6|8|9|10|12|15|16|18|20|24|25|27|30|nil\nquiescent ended=6 waiting=0\n",
+        0,
+    ),
+    (
+        "% CTM 7.8.3, active objects: Flavius Josephus. Forty stand in a ring, and every third one goes. Each is a thread that reads a
+% stream and writes the next; the message that goes round has the count and the number of those who are left.
+local Pipe Stand All Step One Zero Xs Last in
+  One = 1  Zero = 0  All = 40  Step = 3
+  proc {Stand I Xs ?Ys}
+    case Xs of M|Xr then
+      case M of count(K Left) then
+        case Left of 1 then Last = I  Ys = nil
+        else
+          local Rest Next in
+            Rest = K mod Step  Next = K + One
+            case Rest of 0 then
+              local Fewer N in Fewer = Left - One  N = count(Next Fewer)  Ys = N|Xr end
+            else
+              local N Yr in N = count(Next Left)  Ys = N|Yr  {Stand I Xr Yr} end
+            end
+          end
+        end
+      else skip end
+    else Ys = nil end
+  end
+  proc {Pipe I Xs ?Ys}
+    local More in
+      More = I =< All
+      if More then
+        local Next Zs in
+          Next = I + One
+          thread {Stand I Xs Zs} end
+          {Pipe Next Zs Ys}
+        end
+      else Ys = Xs end
+    end
+  end
+  local M Round in
+    M = count(One All)  Xs = M|Round
+    thread {Pipe One Xs Round} end
+  end
+  {Browse Last}
+end
+",
+        "28\nquiescent ended=42 waiting=0\n",
+        0,
+    ),
+    (
+        "% CTM 5.4.4, agents: a lift at another site takes calls from a stream, and tells each floor that it passes. Who called waits until
+% it is there.
+local Call Lift Move Mail Calls Zero One Three A B in
+  Zero = 0  One = 1  Three = 3
+  {NewCell Calls Mail}
+  proc {Call Floor ?There}
+    local Old New M in
+      M = call(Floor There)
+      {Exchange Mail Old New}
+      Old = M|New
+    end
+  end
+  proc {Move From To ?At}
+    local Up Down in
+      Up = From < To  Down = From > To
+      if Up then
+        local F in F = From + One  {Browse F}  {Move F To At} end
+      else
+        if Down then
+          local F in F = From - One  {Browse F}  {Move F To At} end
+        else At = To end
+      end
+    end
+  end
+  proc {Lift Calls Pos}
+    case Calls of M|Rest then
+      case M of call(Floor There) then
+        local At in
+          {Move Pos Floor At}
+          There = At
+          {Lift Rest At}
+        end
+      else skip end
+    else skip end
+  end
+  thread at 2 {Lift Calls One} end
+  {Call Three A}  {Wait A}
+  {Call Zero B}  {Wait B}
+  local Last in {Exchange Mail Last Last} Last = nil end
+end
+",
+        "2\n3\n2\n1\n0\nquiescent ended=2 waiting=0\n",
         0,
     ),
     (
@@ -417,6 +673,65 @@ local Sum Zero One Ten Eleven Twenty TwentyOne Thirty A B C Both All in
 end
 ",
         "465\nquiescent ended=4 waiting=0\n",
+        0,
+    ),
+    (
+        "% CTM 9.2.3, a puzzle by search: five queens, none of which attacks another. Rows are tried from the first one on, and an exception
+% leads back from a square on which nothing can be built.
+local Attacked Place Try Zero One Nil Five Answer in
+  Zero = 0  One = 1  Five = 5  Nil = nil
+  % whether a queen at the row attacks one of these, of which the first stands so many columns away
+  proc {Attacked Row Queens Away ?B}
+    case Queens of Q|Qr then
+      local Up Down in
+        Up = Row - Q  Down = Q - Row
+        case Up of 0 then B = true
+        else
+          local Far Same in
+            Far = Up >= Zero
+            if Far then Same = Up else Same = Down end
+            local Least Most in
+              Least = Same >= Away  Most = Same =< Away
+              if Least then
+                if Most then B = true
+                else local Next in Next = Away + One {Attacked Row Qr Next B} end end
+              else local Next in Next = Away + One {Attacked Row Qr Next B} end end
+            end
+          end
+        end
+      end
+    else B = false end
+  end
+  % places so many queens more
+  proc {Place N Queens ?Answer}
+    case N of 0 then Answer = Queens
+    else {Try One N Queens Answer} end
+  end
+  proc {Try Row N Queens ?Answer}
+    local Fits in
+      Fits = Row =< Five
+      if Fits then
+        local B Next in
+          {Attacked Row Queens One B}
+          Next = Row + One
+          if B then {Try Next N Queens Answer}
+          else
+            local More Less Found in
+              More = Row|Queens
+              Less = N - One
+              try {Place Less More Found} Answer = Found
+              catch E then {Try Next N Queens Answer} end
+            end
+          end
+        end
+      else local E in E = none raise E end end end
+    end
+  end
+  {Place Five Nil Answer}
+  {Browse Answer}
+end
+",
+        "4|2|5|3|1|nil\nquiescent ended=1 waiting=0\n",
         0,
     ),
     (
@@ -567,6 +882,96 @@ local Produce Consume One Zero Ten Xs Sum in
 end
 ",
         "55\nquiescent ended=3 waiting=0\n",
+        0,
+    ),
+    (
+        "% CTM 11.4, what state over sites costs: as in visits.oz, threads at four sites count to five each, but no cell goes round. Each
+% counts by itself, and hands over a stream of what it counted; who wants the sum reads the streams. That takes fewer messages.
+local Count Sum Zero One Five Xs1 Xs2 Xs3 Xs4 S1 S2 S3 S4 in
+  Zero = 0  One = 1  Five = 5
+  proc {Count N ?Xs}
+    case N of 0 then Xs = nil
+    else
+      local Xr Less in
+        Less = N - One
+        {Count Less Xr}
+        Xs = One|Xr
+      end
+    end
+  end
+  proc {Sum Xs Before ?S}
+    case Xs of X|Xr then
+      local After in After = Before + X {Sum Xr After S} end
+    else S = Before end
+  end
+  thread at 1 {Count Five Xs1} end
+  thread at 2 {Count Five Xs2} end
+  thread at 3 {Count Five Xs3} end
+  thread at 4 {Count Five Xs4} end
+  {Sum Xs1 Zero S1}
+  {Sum Xs2 S1 S2}
+  {Sum Xs3 S2 S3}
+  {Sum Xs4 S3 S4}
+  {Browse S4}
+end
+",
+        "20\nquiescent ended=5 waiting=0\n",
+        0,
+    ),
+    (
+        "% CTM 8.3.3, locks: a token in a cell. Who comes gets what stood there, waits for it, and binds what the next one gets. Two threads
+% at two sites move money between two accounts, to and fro; none is lost.
+local NewLock Lock A B Move Often Times Zero One Hundred D1 D2 in
+  Zero = 0  One = 1  Hundred = 100  Times = 20
+  proc {NewLock ?Lock}
+    local Free C in
+      Free = free
+      {NewCell Free C}
+      proc {Lock P}
+        local Old New in
+          {Exchange C Old New}
+          {Wait Old}
+          try {P} New = Free catch E then New = Free raise E end end
+        end
+      end
+    end
+  end
+  {NewLock Lock}
+  {NewCell Hundred A}
+  {NewCell Zero B}
+  proc {Move From To}
+    local P in
+      P = proc {$}
+        local X Y X1 Y1 in
+          {Exchange From X X1}  X1 = X - One
+          {Exchange To Y Y1}  Y1 = Y + One
+        end
+      end
+      {Lock P}
+    end
+  end
+  proc {Often K From To}
+    case K of 0 then skip
+    else
+      local K1 in
+        {Move From To}
+        K1 = K - One
+        {Often K1 From To}
+      end
+    end
+  end
+  thread at 2 {Often Times A B} D1 = done end
+  thread at 3 {Often Times B A} D2 = done end
+  {Wait D1}  {Wait D2}
+  local X Y Sum in
+    {Exchange A X X}  {Exchange B Y Y}
+    {Browse X}
+    Sum = X + Y
+    {Browse Sum}
+  end
+end
+",
+        "100\n100\nquiescent ended=3 waiting=0\n",
         0,
     ),
     (
