@@ -16,6 +16,7 @@ use Rattle.std.proofs.lemmas.Bool.{le-leb}
 use Rattle.std.proofs.lemmas.List.Elements.{Contains-append_right}
 use Rattle.message_book.specs.Inbox.{InboxState}
 use Rattle.message_book.specs.Book.{BookState, IsUntaken, IsUntakenSpelling, IsSiteOf}
+use Rattle.wire_form.specs.declared.form.Form.TheVariants as forms
 use Rattle.wire_form.specs.Format.{message, spelling, IsSpelling}
 use Rattle.tree_node.specs.Each.{Each}
 use Rattle.message_book.specs.Inboxes.{HoldsTravelling, AllHoldTravelling, IsConsistent, place, spelling_of, messages_at, number_of, hand_of, inbox_at}
@@ -52,7 +53,7 @@ map_contains f (y ∷ xs) x at = ⊎_elim
     (Contains-cons_cases y x xs at)
 
 -- a message of a place travels
-pub in_messages : (n : ℕ) (j : List Turn) (i k : ℕ) (m : List ℕ) → Contains (messages_at n j i) (k, m) → (s : Sent) × IsTravelling j k s × (spelling s.msg ≡ m) × (place n s.to ≡ i)
+pub in_messages : (n : ℕ) (j : List Turn) (i k : ℕ) (m : List ℕ) → Contains (messages_at n j i) (k, m) → (s : Sent) × IsTravelling j k s × (spelling forms.Two s.msg ≡ m) × (place n s.to ≡ i)
 in_messages n j i k m at =
     let q : ℕ × Sent → Bool = λ p. eqb (place n p.1.to) i in
     let t = contains_map spelling_of (filter q (travelling j)) (k, m) at in
@@ -63,7 +64,7 @@ in_messages n j i k m at =
     (p.1, subst (λ (i : ℕ). IsTravelling j i p.1) number travels, ap (λ (x : ℕ × List ℕ). x.1) t.2, eqb-true (place n p.1.to) i f.1)
 
 -- and what travels to a place is there
-pub to_messages : (n : ℕ) (j : List Turn) (i k : ℕ) (s : Sent) → IsTravelling j k s → place n s.to ≡ i → Contains (messages_at n j i) (k, spelling s.msg)
+pub to_messages : (n : ℕ) (j : List Turn) (i k : ℕ) (s : Sent) → IsTravelling j k s → place n s.to ≡ i → Contains (messages_at n j i) (k, spelling forms.Two s.msg)
 to_messages n j i k s travels at =
     let q : ℕ × Sent → Bool = λ p. eqb (place n p.1.to) i in
     map_contains spelling_of (filter q (travelling j)) (k, s) (kept q (travelling j) (k, s) ((travelling_tells j k s).1 travels) (eq-eqb (place n s.to) i at))
@@ -135,7 +136,7 @@ module _ (l : Limits) (j : List Turn) (sent : ℕ) (bs : List InboxState) (r : O
   b : HoldsTravelling l.sites j p (inbox_at bs p)
   b = k.inboxes p site.1
 
-  pub was_untaken : (x : ℕ × List ℕ) (rest : List (ℕ × List ℕ)) → (inbox_at bs p).waiting ≡ x ∷ rest → (m : Msg) × IsTravelling j x.0 (record { to = p; msg = m }) × (Contains (inbox_at bs p).hand x.0 → ⊥) × IsSpelling x.1 m
+  pub was_untaken : (x : ℕ × List ℕ) (rest : List (ℕ × List ℕ)) → (inbox_at bs p).waiting ≡ x ∷ rest → (m : Msg) × IsTravelling j x.0 (record { to = p; msg = m }) × (Contains (inbox_at bs p).hand x.0 → ⊥) × IsSpelling forms.Two x.1 m
   was_untaken x rest e =
       let all : b.in_hand ++ x ∷ rest ≡ messages_at l.sites j p = ap (λ w. b.in_hand ++ w) (sym e) ∙ b.messages in
       let t = in_messages l.sites j p x.0 x.1 (subst (λ w. Contains w x) all (Contains-append_right b.in_hand (x ∷ rest) x (Contains-head x rest))) in
@@ -147,14 +148,14 @@ module _ (l : Limits) (j : List Turn) (sent : ℕ) (bs : List InboxState) (r : O
             let has = has_number x.0 b.in_hand (subst (λ h. Contains h x.0) b.hand held) in
             let apart = after_low 0 x.0 b.in_hand (x ∷ rest) (subst (IsAscending 0) (sym all) (messages_ascend l.sites j p)) has in
             apart.0 refl,
-        (each_at_place (λ (m : Sent). message.Has m.msg) (sent_of j) x.0 s k.spelled t.1.0, sym t.2),
+        (each_at_place (λ (m : Sent). (message forms.Two).Has m.msg) (sent_of j) x.0 s k.spelled t.1.0, sym t.2),
       )
 
   pub none_untaken : (inbox_at bs p).waiting ≡ [] → (n : ℕ) (m : Msg) → IsTravelling j n (record { to = p; msg = m }) → Contains (inbox_at bs p).hand n
   none_untaken e n m travels =
       let all : b.in_hand ≡ messages_at l.sites j p = sym (append-nil b.in_hand) ∙ (ap (λ w. b.in_hand ++ w) (sym e) ∙ b.messages) in
       let at = to_messages l.sites j p n (record { to = p; msg = m }) travels (place_is l.sites p site.1) in
-      subst (λ h. Contains h n) (sym b.hand) (map_contains number_of b.in_hand (n, spelling m) (subst (λ w. Contains w (n, spelling m)) (sym all) at))
+      subst (λ h. Contains h n) (sym b.hand) (map_contains number_of b.in_hand (n, spelling forms.Two m) (subst (λ w. Contains w (n, spelling forms.Two m)) (sym all) at))
 
 abbrev pub state_of : Limits → List Turn → List InboxState → Option Reason → BookState
 state_of l j bs r = record { limits = l; journal = j; hands = map hand_of bs; reason = r }

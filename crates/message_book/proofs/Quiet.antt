@@ -10,6 +10,7 @@ use Rattle.site_message.proofs.JournalLemmas.{quiet_tells}
 use Rattle.message_book.specs.Inbox.{InboxState}
 use Rattle.message_book.specs.Book.{without_delivered}
 use Rattle.message_book.specs.Inboxes.{AllHoldTravelling, IsQuietInbox, IsNewInbox, place, messages_at, number_of, hand_of, inbox_at, no_inbox, idle_at}
+use Rattle.wire_form.specs.declared.form.Form.TheVariants as forms
 use Rattle.wire_form.specs.Format.{spelling}
 use Rattle.message_book.proofs.Posts.{in_messages, to_messages, hand_at}
 
@@ -72,7 +73,7 @@ module _ (n : ℕ) (j : List Turn) (bs : List InboxState) (places : length bs �
     (λ m s travels.
         let p = place n s.to in
         let at = to_messages n j p m s travels refl in
-        none_in (m, spelling s.msg) (subst (λ w. Contains w (m, spelling s.msg)) (no_messages p (place_below n s.to) done) at)),
+        none_in (m, spelling forms.Two s.msg) (subst (λ w. Contains w (m, spelling forms.Two s.msg)) (no_messages p (place_below n s.to) done) at)),
     (λ i low high. idle i low high),
   )
     where

@@ -7,6 +7,7 @@ use Rattle.site_message.specs.declared.turn.Turn.{Turn}
 use Rattle.site_message.specs.Journal.{Wired, sent_of, travelling, is_number}
 use Rattle.site_message.specs.Laws.{IsAscending}
 use Rattle.site_message.proofs.TravelLemmas.{travelling_grows, travelling_ascends, ascends_filter}
+use Rattle.wire_form.specs.declared.form.Form.TheVariants as forms
 use Rattle.wire_form.specs.Format.{spelling}
 use Rattle.message_book.specs.Inboxes.{place, spelling_of, messages_at, new_messages, letter_of}
 use Rattle.std.proofs.lemmas.List.{map-append}
@@ -35,7 +36,7 @@ map_filter f a b same (x ∷ xs) = map_step f a b x xs (a x) refl (sym (same x))
 new_step : (n i k : ℕ) (s : Sent) (ss : List Sent) (t : Bool) → eqb (place n s.to) i ≡ t
     → map spelling_of (filter (λ (p : ℕ × Sent). eqb (place n p.1.to) i) (enumerate_from (k + 1) ss)) ≡ new_messages n i (k + 1) (map letter_of ss)
     → map spelling_of (filter (λ (p : ℕ × Sent). eqb (place n p.1.to) i) (enumerate_from k (s ∷ ss))) ≡ new_messages n i k (map letter_of (s ∷ ss))
-new_step n i k s ss true e rest = rw e (ap (λ l. (k, spelling s.msg) ∷ l) rest)
+new_step n i k s ss true e rest = rw e (ap (λ l. (k, spelling forms.Two s.msg) ∷ l) rest)
 new_step n i k s ss false e rest = rw e rest
 
 new_are : (n i k : ℕ) (ss : List Sent) → map spelling_of (filter (λ (p : ℕ × Sent). eqb (place n p.1.to) i) (enumerate_from k ss)) ≡ new_messages n i k (map letter_of ss)

@@ -18,6 +18,7 @@ use Rattle.message_book.specs.Inboxes.{HoldsTravelling, AllHoldTravelling, IsCon
 use Rattle.message_book.proofs.Travels.{messages_step, without_message, messages_ascend, LacksNumber, after_low, without_none_there, map_filter, right}
 use Rattle.site_message.specs.Laws.{IsAscending}
 use Rattle.tree_node.proofs.EachLemmas.{each_append}
+use Rattle.wire_form.specs.declared.form.Form.TheVariants as forms
 use Rattle.wire_form.specs.Format.{message}
 use Rattle.message_book.proofs.Posts.{has_number, spelling_at, in_messages, placed, place_is, state_of, hand_at, same_hands}
 
@@ -151,7 +152,7 @@ module _ (l : Limits) (j : List Turn) (sent : ℕ) (bs : List InboxState) (r : O
       wired = wired;
       are_sites = (site, kept.are_sites);
       inboxes = inboxes_after;
-      spelled = each_append (λ (s : Sent). message.Has s.msg) (sent_of j) e.sent kept.spelled spelled;
+      spelled = each_append (λ (s : Sent). (message forms.Two).Has s.msg) (sent_of j) e.sent kept.spelled spelled;
       reason = inl refl;
       went = (kept.went, goes_on l j r kept.reason none);
     }

@@ -8,6 +8,7 @@ use Rattle.site_message.specs.declared.reason.Reason.{Reason}
 use Rattle.site_message.specs.declared.reason.Reason.TheVariants.{Memory}
 use Rattle.site_message.specs.Journal.{Limits, IsTravelling, is_number, end_of}
 use Rattle.site_message.specs.Story.{hand}
+use Rattle.wire_form.specs.declared.form.Form.TheVariants as forms
 use Rattle.wire_form.specs.Format.{IsSpelling}
 
 -- the limits, the turns posted, the newest first, the numbers in hand of the site k at the place k, and the reason
@@ -43,9 +44,9 @@ without_delivered o ks = filter (λ (k : ℕ). not (is_number o k)) ks
 abbrev pub IsUntaken : BookState → ℕ → ℕ → Msg → Type 0
 IsUntaken b i k m = IsTravelling b.journal k (record { to = i; msg = m }) × (Contains (hand i b.hands) k → ⊥)
 
--- bytes that spell such a message
+-- bytes that spell such a message in form 2
 abbrev pub IsUntakenSpelling : BookState → ℕ → ℕ → List ℕ → Type 0
-IsUntakenSpelling b i k bytes = (m : Msg) × IsUntaken b i k m × IsSpelling bytes m
+IsUntakenSpelling b i k bytes = (m : Msg) × IsUntaken b i k m × IsSpelling forms.Two bytes m
 
 -- the reason is how the journal ends; or memory ran out where it goes on
 abbrev pub IsReason : Limits → List Turn → Option Reason → Type 0

@@ -7,6 +7,7 @@ use Rattle.site_message.specs.declared.reason.Reason.{Reason}
 use Rattle.site_message.specs.declared.reason.Reason.TheVariants.{Messages, Steps, Quiet}
 use Rattle.site_message.specs.Journal.{Limits, Wired, sent_of, travelling, is_idle}
 use Rattle.tree_node.specs.Each.{Each}
+use Rattle.wire_form.specs.declared.form.Form.TheVariants as forms
 use Rattle.wire_form.specs.Format.{message, spelling}
 use Rattle.site_message.specs.EarlierEnd.{HasNoEarlierEnd}
 use Rattle.message_book.specs.Inbox.{InboxState}
@@ -16,9 +17,9 @@ use Rattle.message_book.specs.Book.{IsSiteOf, AreSites, IsReason, without_delive
 abbrev pub place : ℕ → ℕ → ℕ
 place n to = if nat_le to n then to else 0
 
--- a message's number, and the message in the wire form
+-- a message's number, and its spelling in form 2
 abbrev pub spelling_of : ℕ × Sent → ℕ × List ℕ
-spelling_of p = (p.0, spelling p.1.msg)
+spelling_of p = (p.0, spelling forms.Two p.1.msg)
 
 -- the spellings of the travelling messages of a place, in the order in which they were sent
 abbrev pub messages_at : ℕ → List Turn → ℕ → List (ℕ × List ℕ)
@@ -58,7 +59,7 @@ hand_of b = b.hand
 
 -- each message is one of the format
 abbrev pub AllOfFormat : List Sent → Type 0
-AllOfFormat ms = Each (λ (s : Sent). message.Has s.msg) ms
+AllOfFormat ms = Each (λ (s : Sent). (message forms.Two).Has s.msg) ms
 
 -- what stays true of a book
 pub record IsConsistent (l : Limits) (j : List Turn) (sent : ℕ) (bs : List InboxState) (r : Option Reason) : Type 0 where
@@ -74,9 +75,9 @@ pub record IsConsistent (l : Limits) (j : List Turn) (sent : ℕ) (bs : List Inb
   pub reason : IsReason l j r
   pub went : HasNoEarlierEnd l j
 
--- the spelling of a message, behind the site that it goes to
+-- the spelling of a message in form 2, behind the site that it goes to
 abbrev pub letter_of : Sent → ℕ × List ℕ
-letter_of s = (s.to, spelling s.msg)
+letter_of s = (s.to, spelling forms.Two s.msg)
 
 -- those of these letters that go to a place, with their numbers from k on
 abbrev pub new_messages : ℕ → ℕ → ℕ → List (ℕ × List ℕ) → List (ℕ × List ℕ)

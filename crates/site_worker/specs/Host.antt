@@ -8,6 +8,7 @@ use Rattle.site_message.specs.declared.turn.Turn.{Turn}
 use Rattle.site_message.specs.declared.story.Sight.{Sight}
 use Rattle.site_message.specs.declared.reason.Reason.{Reason}
 use Rattle.site_message.specs.Story.{hand}
+use Rattle.wire_form.specs.declared.form.Form.TheVariants as forms
 use Rattle.wire_form.specs.Format.{IsSpelling}
 use Rattle.message_book.specs.Book.{IsSiteOf}
 use Rattle.book_lock.specs.declared.lock.SiteSeat.{SiteSeat}
@@ -92,12 +93,12 @@ pub record HasMessage (table : TableId) (h : Host) (o : Option (ℕ × Msg)) : T
   pub reason : (sight h).reason ≡ None
   pub waits : o ≡ None → NoneWaits h.number (sight h)
 
--- the bytes spell the message, and both have one number; or there is neither
+-- the bytes spell the message in form 2, and both have one number; or there is neither
 abbrev pub IsSpelledBy : Option (ℕ × List ℕ) → Option (ℕ × Msg) → Type 0
 IsSpelledBy None None = Unit {0}
 IsSpelledBy None (Some m) = ⊥
 IsSpelledBy (Some x) None = ⊥
-IsSpelledBy (Some x) (Some m) = (m.0 ≡ x.0) × IsSpelling x.1 m.1
+IsSpelledBy (Some x) (Some m) = (m.0 ≡ x.0) × IsSpelling forms.Two x.1 m.1
 
 -- the same where the bytes of the message were taken
 abbrev pub HasSpelling : TableId → Host → Option (ℕ × List ℕ) → Type 0

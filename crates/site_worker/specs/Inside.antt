@@ -7,6 +7,7 @@ use Rattle.site_message.specs.declared.reason.Reason.{Reason}
 use Rattle.site_message.specs.declared.reason.Reason.TheVariants.{Memory}
 use Rattle.site_message.specs.Journal.{IsTravelling, sent_of}
 use Rattle.site_message.specs.Story.{hand}
+use Rattle.wire_form.specs.declared.form.Form.TheVariants as forms
 use Rattle.wire_form.specs.Format.{IsSpelling}
 use Rattle.message_book.specs.Book.{BookState, without_delivered, first_reason}
 use Rattle.book_lock.specs.Rule.{AreInAgreement}
@@ -27,9 +28,9 @@ book_steps x = slice_index_or x.fixed 1 0
 abbrev pub NoneWaits : ℕ → Sight → Type 0
 NoneWaits k x = (n : ℕ) (m : Msg) → IsTravelling x.entries n (record { to = k; msg = m }) × (Contains (hand k x.hands) n → ⊥) → ⊥
 
--- the bytes spell the message that was sent to the site k by this number
+-- the bytes spell in form 2 the message that was sent to the site k by this number
 abbrev pub IsSentSpelling : ℕ → Sight → ℕ → List ℕ → Type 0
-IsSentSpelling k x n bytes = (m : Msg) × (slice_get (sent_of x.entries) n ≡ Some (record { to = k; msg = m })) × IsSpelling bytes m
+IsSentSpelling k x n bytes = (m : Msg) × (slice_get (sent_of x.entries) n ≡ Some (record { to = k; msg = m })) × IsSpelling forms.Two bytes m
 
 -- a message that was sent to the site k is in hand besides, as the bytes that spell it; or none waits, and nothing changed
 abbrev pub HasTaken : ℕ → Sight → Sight → Option (ℕ × List ℕ) → Type 0

@@ -2,18 +2,21 @@
 use Rattle.std.proofs.Common.{◌≡◌, ℕ, suc, ◌+◌, ◌^◌, ◌<◌, ◌≤◌, ◌%◌, Bool, true, false, cond, ltb, leb, List, [], ◌∷◌, ◌++◌, length, take, drop, ℤ, Ok, Err, IsUtf8, refl, sym, ap, subst, ◌∙◌, arith, inl, inr}
 use Rattle.std.specs.Prelude.{FitsSigned, negsuc, pos}
 use Rattle.std.proofs.Math.Facts.{sfits_to_z, Fits-of_lt}
-use Rattle.std.specs.Int.{Width, w8, w16, w32, w64, byte_len, from_be_bytes, to_be_bytes, cast_signed, cast_unsigned}
+use Rattle.std.specs.Int.{Width, w8, w16, w32, w64, w128, byte_len, from_be_bytes, to_be_bytes, cast_signed, cast_unsigned}
 use Rattle.std.specs.Str.{is_utf8}
 use Rattle.std.proofs.lemmas.Bool.{lt-ltb, le-ltb, leb-true, le-leb, cases_lt, and_parts, and_from, false≢true}
 use Rattle.std.proofs.lemmas.List.{take_at, drop_at, take-append-drop, length-append, length-take, get_or-drop, get_or-take, get_or_past}
 use Rattle.std.proofs.lemmas.Nat.{be_bytes_2, be_bytes_4, be_bytes_8, from_be_bytes-to_be_bytes_2, from_be_bytes-to_be_bytes_4, from_be_bytes-to_be_bytes_8}
 use Rattle.std.proofs.lemmas.Int.{to_z-of_z, of_z-to_z}
 use Rattle.std.proofs.lemmas.Str.{is_utf8-from_IsUtf8, IsUtf8-from_is_utf8}
+use Rattle.wire_form.specs.declared.form.Form.{Form}
+use Rattle.wire_form.specs.declared.form.Form.TheVariants as forms
 use Rattle.wire_form.specs.declared.fault.WireFault.{WireFault}
 use Rattle.wire_form.specs.declared.fault.WireFault.TheVariants.{Short, Range, Utf8}
-use Rattle.wire_form.specs.Field.{Field, IsCut, number, short_bytes}
+use Rattle.wire_form.specs.Field.{Field, IsCut, number, signed_number, short_bytes}
 use Rattle.wire_form.specs.Format.{IsWithin, within, text, integer}
-use Rattle.wire_form.specs.Reading.{Left, Read, ◌>>=◌, byte_at, bytes_at, map_at, filter_at, number_at, integer_at, short_bytes_at, is_within, byte_within_at, text_at}
+use Rattle.wire_form.specs.Reading.{Left, Read, ◌>>=◌, byte_at, bytes_at, map_at, filter_at, number_at, signed_at, integer_at, short_bytes_at, is_within, byte_within_at, text_at}
+use Rattle.wire_form.proofs.WideBytes.{be_bytes_16, from_be_bytes-to_be_bytes_16, from_below_16}
 use Rattle.wire_form.proofs.FieldLaws.{IsBytes, Takes, IsRead, done, failed, ok_is, err_is, no_err, no_ok, bind_ok, bind_err, tested_read}
 
 pub IsBytes-drop : (n : ℕ) (bytes : List ℕ) → IsBytes bytes → IsBytes (drop n bytes)
@@ -118,6 +121,14 @@ wide64 = record {
   below = λ bytes fits. omega (arith, fits 0, fits 1, fits 2, fits 3, fits 4, fits 5, fits 6, fits 7);
 }
 
+pub wide128 : IsWide w128
+wide128 = record {
+  len = λ n. refl;
+  back = λ bytes len fits. be_bytes_16 bytes _ len fits refl;
+  again = λ n lt. from_be_bytes-to_be_bytes_16 n lt;
+  below = λ bytes fits. from_below_16 bytes fits;
+}
+
 -- a number and its bytes, whatever is made of the number: what is spelled is the number of a value
 pub wide_read : {X : Type 0} (w : Width) → IsWide w → (F : Field X) (con : ℕ → X) (num : X → ℕ)
     → ((x : X) → F.spelling x ≡ to_be_bytes w (num x)) → ((x : X) → F.Has x → (num x < 256 ^ byte_len w) × (con (num x) ≡ x))
@@ -174,19 +185,26 @@ number_read w wide = wide_read w wide (number w) (λ n. n) (λ n. n) (λ x. refl
 
 -- ---- integers
 
-unsigned_below : (z : ℤ) → FitsSigned w64 z → cast_unsigned w64 z < 256 ^ 8
-unsigned_below (pos n) fits = omega (arith, fits.sfits)
-unsigned_below (negsuc n) fits = omega arith
+below_64 : (z : ℤ) → FitsSigned w64 z → cast_unsigned w64 z < 256 ^ 8
+below_64 (pos n) fits = omega (arith, fits.sfits)
+below_64 (negsuc n) fits = omega arith
 
-signed_has : (z : ℤ) → FitsSigned w64 z → (cast_unsigned w64 z < 256 ^ 8) × (cast_signed w64 (cast_unsigned w64 z) ≡ z)
-signed_has z fits = (unsigned_below z fits, to_z-of_z w64 z fits)
+below_128 : (z : ℤ) → FitsSigned w128 z → cast_unsigned w128 z < 256 ^ 16
+below_128 (pos n) fits = omega (arith, fits.sfits)
+below_128 (negsuc n) fits = omega arith
 
-signed_made : (n : ℕ) → n < 256 ^ 8 → FitsSigned w64 (cast_signed w64 n) × (cast_unsigned w64 (cast_signed w64 n) ≡ n)
-signed_made n lt = (sfits_to_z {w = w64} {n = n} (Fits-of_lt {w = w64} {n = n} lt), of_z-to_z w64 n lt)
+made_64 : (n : ℕ) → n < 256 ^ 8 → FitsSigned w64 (cast_signed w64 n) × (cast_unsigned w64 (cast_signed w64 n) ≡ n)
+made_64 n lt = (sfits_to_z {w = w64} {n = n} (Fits-of_lt {w = w64} {n = n} lt), of_z-to_z w64 n lt)
 
-pub integer_read : IsRead integer integer_at
-unfolding integer_at
-integer_read = wide_read w64 wide64 integer (cast_signed w64) (cast_unsigned w64) (λ x. refl) signed_has signed_made (λ at bytes f. ((λ h. h), (λ h. h)))
+made_128 : (n : ℕ) → n < 256 ^ 16 → FitsSigned w128 (cast_signed w128 n) × (cast_unsigned w128 (cast_signed w128 n) ≡ n)
+made_128 n lt = (sfits_to_z {w = w128} {n = n} (Fits-of_lt {w = w128} {n = n} lt), of_z-to_z w128 n lt)
+
+pub integer_read : (form : Form) → IsRead (integer form) (integer_at form)
+unfolding signed_at
+integer_read forms.One =
+    wide_read w64 wide64 (signed_number w64) (cast_signed w64) (cast_unsigned w64) (λ x. refl) (λ z fits. (below_64 z fits, to_z-of_z w64 z fits)) made_64 (λ at bytes f. ((λ h. h), (λ h. h)))
+integer_read forms.Two =
+    wide_read w128 wide128 (signed_number w128) (cast_signed w128) (cast_unsigned w128) (λ x. refl) (λ z fits. (below_128 z fits, to_z-of_z w128 z fits)) made_128 (λ at bytes f. ((λ h. h), (λ h. h)))
 
 -- ---- numbers within a range
 

@@ -51,20 +51,29 @@ chosen true x y z e = inl (refl, e)
 chosen false x y z e = inr (refl, e)
 
 -- a value comes from behind this tag, or from behind another
-pub takes_step : {X : Type 0} (F : Field X) (tag k : ℕ) (R : Left → Read X) (Fault : Faults) → IsBehind F k R Fault → (other : Read X) (at : ℕ) (bytes : List ℕ) (x : X) (m : Left) → IsBytes bytes
-    → (other ≡ Ok (x, m) → Takes F at (tag ∷ bytes) x m) → cond (eqb tag k) (R (at + 1, bytes)) other ≡ Ok (x, m) → Takes F at (tag ∷ bytes) x m
-takes_step F tag k R Fault here other at bytes x m fits go e = elim (chosen (eqb tag k) (R (at + 1, bytes)) other (Ok (x, m)) e) [
-  | inl h ↦ subst (λ (t : ℕ). Takes F at (t ∷ bytes) x m) (sym (eqb-true tag k h.0)) (here.takes at bytes x m fits h.1)
+pub takes_if : {X : Type 0} (F : Field X) (tag k : ℕ) (b : Bool) (R : Left → Read X) (Fault : Faults) → IsBehind F k R Fault → (b ≡ true → tag ≡ k) → (other : Read X) (at : ℕ) (bytes : List ℕ) (x : X) (m : Left) → IsBytes bytes
+    → (other ≡ Ok (x, m) → Takes F at (tag ∷ bytes) x m) → cond b (R (at + 1, bytes)) other ≡ Ok (x, m) → Takes F at (tag ∷ bytes) x m
+takes_if F tag k b R Fault here same other at bytes x m fits go e = elim (chosen b (R (at + 1, bytes)) other (Ok (x, m)) e) [
+  | inl h ↦ subst (λ (t : ℕ). Takes F at (t ∷ bytes) x m) (sym (same h.0)) (here.takes at bytes x m fits h.1)
   | inr h ↦ go h.1
 ]
 
+pub takes_step : {X : Type 0} (F : Field X) (tag k : ℕ) (R : Left → Read X) (Fault : Faults) → IsBehind F k R Fault → (other : Read X) (at : ℕ) (bytes : List ℕ) (x : X) (m : Left) → IsBytes bytes
+    → (other ≡ Ok (x, m) → Takes F at (tag ∷ bytes) x m) → cond (eqb tag k) (R (at + 1, bytes)) other ≡ Ok (x, m) → Takes F at (tag ∷ bytes) x m
+takes_step F tag k R Fault here other at bytes x m fits go e = takes_if F tag k (eqb tag k) R Fault here (eqb-true tag k) other at bytes x m fits go e
+
 -- a fault comes from behind this tag, or from behind another
+pub fails_if : {X : Type 0} (F : Field X) (tag k : ℕ) (b : Bool) (R : Left → Read X) (Fault : Faults) → IsBehind F k R Fault → (b ≡ true → tag ≡ k) → (b ≡ false → tag ≡ k → ⊥) → (other : Read X) (Others : Type 0) (at : ℕ) (bytes : List ℕ) (f : WireFault) → IsBytes bytes
+    → ((tag ≡ k → ⊥) → other ≡ Err f → Others) → cond b (R (at + 1, bytes)) other ≡ Err f → ((tag ≡ k) × Fault (at + 1) bytes f) ⊎ Others
+fails_if F tag k b R Fault here same other_tag other Others at bytes f fits go e = elim (chosen b (R (at + 1, bytes)) other (Err f) e) [
+  | inl h ↦ inl (same h.0, here.fails at bytes f fits h.1)
+  | inr h ↦ inr (go (other_tag h.0) h.1)
+]
+
 pub fails_step : {X : Type 0} (F : Field X) (tag k : ℕ) (R : Left → Read X) (Fault : Faults) → IsBehind F k R Fault → (other : Read X) (Others : Type 0) (at : ℕ) (bytes : List ℕ) (f : WireFault) → IsBytes bytes
     → ((tag ≡ k → ⊥) → other ≡ Err f → Others) → cond (eqb tag k) (R (at + 1, bytes)) other ≡ Err f → ((tag ≡ k) × Fault (at + 1) bytes f) ⊎ Others
-fails_step F tag k R Fault here other Others at bytes f fits go e = elim (chosen (eqb tag k) (R (at + 1, bytes)) other (Err f) e) [
-  | inl h ↦ inl (eqb-true tag k h.0, here.fails at bytes f fits h.1)
-  | inr h ↦ inr (go (eqb-false tag k h.0) h.1)
-]
+fails_step F tag k R Fault here other Others at bytes f fits go e =
+    fails_if F tag k (eqb tag k) R Fault here (eqb-true tag k) (eqb-false tag k) other Others at bytes f fits go e
 
 -- another tag is passed over
 pub passes : {A : Type 0} (tag k : ℕ) (x y z : A) → (tag ≡ k → ⊥) → y ≡ z → cond (eqb tag k) x y ≡ z

@@ -13,6 +13,7 @@ use Rattle.site_message.specs.declared.message.Msg.{Msg}
 use Rattle.site_message.specs.declared.message.Msg.TheVariants as messages
 use Rattle.site_message.specs.Wire.{FitsText, FitsFeature, FitsField, FitsFields, FitsVar, FitsVars, FitsTerm, FitsEquation, FitsBundle, FitsWire}
 use Rattle.site_message.proofs.RiseLemmas.{RisesTo, fields_rise, names_rise}
+use Rattle.wire_form.specs.declared.form.Form.{Form}
 use Rattle.wire_form.specs.Field.{Field, EachBehind, IsAbove}
 use Rattle.wire_form.specs.Format.{var_name, text, feature, record_field, field_behind, record_fields, variables, term, equation, equation_behind, bundle, message, IsFeatureBelow}
 use Rattle.tree_node.proofs.EnvLemmas.{each_more}
@@ -69,29 +70,29 @@ behind_of Item key Below behind o [] each rises = tt
 behind_of Item key Below behind o (x ∷ xs) each rises =
     (o.has [] x each.0 tt, behind_rises Item key Below behind o x [] xs each.1 (λ k d lt. rises k d (omega (arith, lt)) lt))
 
-pub fields_ordered : IsOrdered (λ x. record_field.Has x) (λ (x : Feature × VarName). x.0) IsFeatureBelow field_behind
-fields_ordered = record { item = λ front x h. (h.0.0, h.1); above = λ front x h. h.0.1; has = λ front x h above. ((h.0, above), h.1) }
+pub fields_ordered : (form : Form) → IsOrdered (λ x. (record_field form).Has x) (λ (x : Feature × VarName). x.0) IsFeatureBelow (field_behind form)
+fields_ordered form = record { item = λ front x h. (h.0.0, h.1); above = λ front x h. h.0.1; has = λ front x h above. ((h.0, above), h.1) }
 
-pub equations_ordered : IsOrdered (λ e. equation.Has e) (λ (e : Equation). e.0) IsBelow equation_behind
-equations_ordered = record { item = λ front x h. (h.0.0, h.1); above = λ front x h. h.0.1; has = λ front x h above. ((h.0, above), h.1) }
+pub equations_ordered : (form : Form) → IsOrdered (λ e. (equation form).Has e) (λ (e : Equation). e.0) IsBelow (equation_behind form)
+equations_ordered form = record { item = λ front x h. (h.0.0, h.1); above = λ front x h. h.0.1; has = λ front x h above. ((h.0, above), h.1) }
 
 -- ---- what the format has can be spelled
 
 text_fits : (t : List ℕ) → text.Has t → FitsText t
 text_fits t h = (omega (arith, h.0), h.1)
 
-feature_fits : (f : Feature) → feature.Has f → FitsFeature f
-feature_fits (features.Int z) h = tt
-feature_fits (features.Atom t) h = text_fits t h
+feature_fits : (form : Form) (f : Feature) → (feature form).Has f → FitsFeature f
+feature_fits form (features.Int z) h = tt
+feature_fits form (features.Atom t) h = text_fits t h
 
 var_fits : (x : VarName) → var_name.Has x → FitsVar x
 var_fits x h = h.0.1
 
-fields_fit : (fs : List (Feature × VarName)) → record_fields.Has fs → FitsFields fs
-fields_fit fs h =
-    let items = each_item (λ x. record_field.Has x) (λ (x : Feature × VarName). x.0) IsFeatureBelow field_behind fields_ordered [] fs h.1 in
-    let rises = rises_of (λ x. record_field.Has x) (λ (x : Feature × VarName). x.0) IsFeatureBelow field_behind fields_ordered fs h.1 in
-    (h.0.1.0, h.0.1.1, each_more (λ x. record_field.Has x) FitsField fs (λ x k. (feature_fits x.0 k.0, var_fits x.1 k.1)) items, (fields_rise fs).1 rises)
+fields_fit : (form : Form) (fs : List (Feature × VarName)) → (record_fields form).Has fs → FitsFields fs
+fields_fit form fs h =
+    let items = each_item (λ x. (record_field form).Has x) (λ (x : Feature × VarName). x.0) IsFeatureBelow (field_behind form) (fields_ordered form) [] fs h.1 in
+    let rises = rises_of (λ x. (record_field form).Has x) (λ (x : Feature × VarName). x.0) IsFeatureBelow (field_behind form) (fields_ordered form) fs h.1 in
+    (h.0.1.0, h.0.1.1, each_more (λ x. (record_field form).Has x) FitsField fs (λ x k. (feature_fits form x.0 k.0, var_fits x.1 k.1)) items, (fields_rise fs).1 rises)
 
 each_var : (front xs : List VarName) → EachBehind (λ f. var_name) front xs → Each FitsVar xs
 each_var front [] h = tt
@@ -100,25 +101,25 @@ each_var front (x ∷ xs) h = (var_fits x h.0, each_var (front ++ x ∷ []) xs h
 vars_fit : (xs : List VarName) → variables.Has xs → FitsVars xs
 vars_fit xs h = (omega (arith, h.0), each_var [] xs h.1)
 
-term_fits : (t : Term) → term.Has t → FitsTerm t
-term_fits (terms.Var x) h = var_fits x h
-term_fits (terms.Node (nodes.Int z)) h = tt
-term_fits (terms.Node (nodes.Atom t)) h = text_fits t h
-term_fits (terms.Node (nodes.Rec label fields)) h = (text_fits label h.0, fields_fit fields h.1)
-term_fits (terms.Node (nodes.Proc p c n vars)) h = (h.0.0.1, h.1.1.0.1.1, vars_fit vars h.1.1.1)
-term_fits (terms.Node (nodes.Cell c)) h = h.0.1
+term_fits : (form : Form) (t : Term) → (term form).Has t → FitsTerm t
+term_fits form (terms.Var x) h = var_fits x h
+term_fits form (terms.Node (nodes.Int z)) h = tt
+term_fits form (terms.Node (nodes.Atom t)) h = text_fits t h
+term_fits form (terms.Node (nodes.Rec label fields)) h = (text_fits label h.0, fields_fit form fields h.1)
+term_fits form (terms.Node (nodes.Proc p c n vars)) h = (h.0.0.1, h.1.1.0.1.1, vars_fit vars h.1.1.1)
+term_fits form (terms.Node (nodes.Cell c)) h = h.0.1
 
-bundle_fits : (es : List Equation) → bundle.Has es → FitsBundle es
-bundle_fits es h =
-    let items = each_item (λ e. equation.Has e) (λ (e : Equation). e.0) IsBelow equation_behind equations_ordered [] es h.1 in
-    let rises = rises_of (λ e. equation.Has e) (λ (e : Equation). e.0) IsBelow equation_behind equations_ordered es h.1 in
-    (h.0.1.1, each_more (λ e. equation.Has e) FitsEquation es (λ e k. (var_fits e.0 k.0, term_fits e.1 k.1)) items, (names_rise es).1 rises)
+bundle_fits : (form : Form) (es : List Equation) → (bundle form).Has es → FitsBundle es
+bundle_fits form es h =
+    let items = each_item (λ e. (equation form).Has e) (λ (e : Equation). e.0) IsBelow (equation_behind form) (equations_ordered form) [] es h.1 in
+    let rises = rises_of (λ e. (equation form).Has e) (λ (e : Equation). e.0) IsBelow (equation_behind form) (equations_ordered form) es h.1 in
+    (h.0.1.1, each_more (λ e. (equation form).Has e) FitsEquation es (λ e k. (var_fits e.0 k.0, term_fits form e.1 k.1)) items, (names_rise es).1 rises)
 
-pub message_fits : (m : Msg) → message.Has m → FitsWire m
-message_fits (messages.Spawn t c vars es) h = (h.0.0.1, vars_fit vars h.1.1.0, bundle_fits es h.1.1.1)
-message_fits (messages.Register x asking) h = (var_fits x h.0, h.1.1)
-message_fits (messages.BindReq x t u es) h = (var_fits x h.0, h.1.0.0.1, term_fits u h.1.1.0, bundle_fits es h.1.1.1)
-message_fits (messages.Binding x u es) h = (var_fits x h.0, term_fits u h.1.0, bundle_fits es h.1.1)
-message_fits (messages.Get c asking) h = (h.0.0.1, h.1.1)
-message_fits (messages.Forward c next) h = (h.0.0.1, h.1.1)
-message_fits (messages.Put c x es) h = (h.0.0.1, var_fits x h.1.0, bundle_fits es h.1.1)
+pub message_fits : (form : Form) (m : Msg) → (message form).Has m → FitsWire m
+message_fits form (messages.Spawn t c vars es) h = (h.0.0.1, vars_fit vars h.1.1.0, bundle_fits form es h.1.1.1)
+message_fits form (messages.Register x asking) h = (var_fits x h.0, h.1.1)
+message_fits form (messages.BindReq x t u es) h = (var_fits x h.0, h.1.0.0.1, term_fits form u h.1.1.0, bundle_fits form es h.1.1.1)
+message_fits form (messages.Binding x u es) h = (var_fits x h.0, term_fits form u h.1.0, bundle_fits form es h.1.1)
+message_fits form (messages.Get c asking) h = (h.0.0.1, h.1.1)
+message_fits form (messages.Forward c next) h = (h.0.0.1, h.1.1)
+message_fits form (messages.Put c x es) h = (h.0.0.1, var_fits x h.1.0, bundle_fits form es h.1.1)

@@ -17,6 +17,7 @@ use Rattle.tree_node.specs.declared.node.Term.TheVariants as terms
 use Rattle.tree_node.specs.Node.{feature_cmp}
 use Rattle.tree_node.specs.Order.{IsBelow}
 use Rattle.tree_node.specs.Store.{Equation}
+use Rattle.wire_form.specs.declared.form.Form.{Form}
 use Rattle.wire_form.specs.declared.fault.WireFault.{WireFault}
 use Rattle.wire_form.specs.declared.fault.WireFault.TheVariants.{Short, Kind, Range, Order}
 use Rattle.wire_form.specs.Field.{restriction, number, IsAbove, ◌then◌}
@@ -55,40 +56,40 @@ code_read = made_read {X = CodeId} {Y = ℕ} (number w32) (number_at w32) (λ n.
 
 -- ---- features
 
-int_behind : IsBehind feature 0 (map_at features.Int integer_at) integer.Fault
-int_behind = is_behind feature 0 integer integer_at features.Int (λ y h. h) (λ y. refl) integer_read
+int_behind : (form : Form) → IsBehind (feature form) 0 (map_at features.Int (integer_at form)) (integer form).Fault
+int_behind form = is_behind (feature form) 0 (integer form) (integer_at form) features.Int (λ y h. h) (λ y. refl) (integer_read form)
 
-atom_behind : IsBehind feature 1 (map_at features.Atom text_at) text.Fault
-atom_behind = is_behind feature 1 text text_at features.Atom (λ y h. h) (λ y. refl) text_read
+atom_behind : (form : Form) → IsBehind (feature form) 1 (map_at features.Atom text_at) text.Fault
+atom_behind form = is_behind (feature form) 1 text text_at features.Atom (λ y h. h) (λ y. refl) text_read
 
-pub feature_read : IsRead feature feature_at
+pub feature_read : (form : Form) → IsRead (feature form) (feature_at form)
 unfolding feature_at key_at
-feature_read = record { takes = takes; again = again; fails = fails; failing = failing }
+feature_read form = record { takes = takes; again = again; fails = fails; failing = failing }
   where
-    takes : (at : ℕ) (bytes : List ℕ) (x : Feature) (m : Left) → IsBytes bytes → feature_at (at, bytes) ≡ Ok (x, m) → Takes feature at bytes x m
+    takes : (at : ℕ) (bytes : List ℕ) (x : Feature) (m : Left) → IsBytes bytes → feature_at form (at, bytes) ≡ Ok (x, m) → Takes (feature form) at bytes x m
     takes at [] x m fits e = absurd (no_ok (x, m) (Short at) e)
     takes at (tag ∷ bytes) x m fits e =
         let small = IsBytes-rest tag bytes fits in
-        takes_step feature tag 0 _ _ int_behind _ at bytes x m small
-        (takes_step feature tag 1 _ _ atom_behind _ at bytes x m small (λ d. absurd (no_ok (x, m) (Kind at) d)))
+        takes_step (feature form) tag 0 _ _ (int_behind form) _ at bytes x m small
+        (takes_step (feature form) tag 1 _ _ (atom_behind form) _ at bytes x m small (λ d. absurd (no_ok (x, m) (Kind at) d)))
         e
 
-    again : (at : ℕ) (x : Feature) (rest : List ℕ) → feature.Has x → feature_at (at, feature.spelling x ++ rest) ≡ Ok (x, (at + length (feature.spelling x), rest))
-    again at (features.Int z) rest has = again_behind integer integer_at features.Int 0 at z rest integer_read has
+    again : (at : ℕ) (x : Feature) (rest : List ℕ) → (feature form).Has x → feature_at form (at, (feature form).spelling x ++ rest) ≡ Ok (x, (at + length ((feature form).spelling x), rest))
+    again at (features.Int z) rest has = again_behind (integer form) (integer_at form) features.Int 0 at z rest (integer_read form) has
     again at (features.Atom t) rest has = again_behind text text_at features.Atom 1 at t rest text_read has
 
-    fails : (at : ℕ) (bytes : List ℕ) (f : WireFault) → IsBytes bytes → feature_at (at, bytes) ≡ Err f → feature.Fault at bytes f
+    fails : (at : ℕ) (bytes : List ℕ) (f : WireFault) → IsBytes bytes → feature_at form (at, bytes) ≡ Err f → (feature form).Fault at bytes f
     fails at [] f fits e = sym (err_is {A = Feature × Left} (Short at) f e)
     fails at (tag ∷ bytes) f fits e =
         let small = IsBytes-rest tag bytes fits in
-        fails_step feature tag 0 _ _ int_behind _ _ at bytes f small
-        (λ n0. fails_step feature tag 1 _ _ atom_behind _ _ at bytes f small (λ n1 d. (omega (arith, n0, n1), sym (err_is {A = Feature × Left} (Kind at) f d))))
+        fails_step (feature form) tag 0 _ _ (int_behind form) _ _ at bytes f small
+        (λ n0. fails_step (feature form) tag 1 _ _ (atom_behind form) _ _ at bytes f small (λ n1 d. (omega (arith, n0, n1), sym (err_is {A = Feature × Left} (Kind at) f d))))
         e
 
-    failing : (at : ℕ) (bytes : List ℕ) (f : WireFault) → feature.Fault at bytes f → feature_at (at, bytes) ≡ Err f
+    failing : (at : ℕ) (bytes : List ℕ) (f : WireFault) → (feature form).Fault at bytes f → feature_at form (at, bytes) ≡ Err f
     failing at [] f h = ap (λ (g : WireFault). failed g) (sym h)
-    failing at (tag ∷ bytes) f (inl h) = ap (λ (t : ℕ). key_at at t (at + 1, bytes)) h.0 ∙ int_behind.failing at bytes f h.1
-    failing at (tag ∷ bytes) f (inr (inl h)) = ap (λ (t : ℕ). key_at at t (at + 1, bytes)) h.0 ∙ atom_behind.failing at bytes f h.1
+    failing at (tag ∷ bytes) f (inl h) = ap (λ (t : ℕ). key_at form at t (at + 1, bytes)) h.0 ∙ (int_behind form).failing at bytes f h.1
+    failing at (tag ∷ bytes) f (inr (inl h)) = ap (λ (t : ℕ). key_at form at t (at + 1, bytes)) h.0 ∙ (atom_behind form).failing at bytes f h.1
     failing at (tag ∷ bytes) f (inr (inr h)) =
         passes tag 0 _ _ _ (λ e. omega (arith, e, h.0)) (passes tag 1 _ _ _ (λ e. omega (arith, e, h.0)) (ap (λ (g : WireFault). failed g) (sym h.1)))
 
@@ -130,19 +131,19 @@ name_no a b e (inr h) =
 
 -- ---- the fields of a record
 
-field_read : (front : List (Feature × VarName)) → IsRead (field_behind front) (field_at front)
+field_read : (form : Form) → (front : List (Feature × VarName)) → IsRead (field_behind form front) (field_at form front)
 unfolding field_at
-field_read front =
+field_read form front =
     let key : Feature × VarName → Feature = λ x. x.0 in
     let holds = above_yes key feature_below IsFeatureBelow feature_yes front in
     let misses = above_no key feature_below IsFeatureBelow feature_no front in
-    let first = tested_read feature feature_at (IsAbove key IsFeatureBelow front) (is_above key feature_below front) (λ at. Order at) holds misses feature_read in
-    and_read (restriction (IsAbove key IsFeatureBelow front) (λ at. Order at) feature) var_name (filter_at (is_above key feature_below front) (λ at. Order at) feature_at) var_name_at first var_name_read
+    let first = tested_read (feature form) (feature_at form) (IsAbove key IsFeatureBelow front) (is_above key feature_below front) (λ at. Order at) holds misses (feature_read form) in
+    and_read (restriction (IsAbove key IsFeatureBelow front) (λ at. Order at) (feature form)) var_name (filter_at (is_above key feature_below front) (λ at. Order at) (feature_at form)) var_name_at first var_name_read
 
-pub fields_read : IsRead record_fields fields_at
+pub fields_read : (form : Form) → IsRead (record_fields form) (fields_at form)
 unfolding fields_at
-fields_read =
-    listed_read (within 1 64 (number w8)) (byte_within_at 1 64) record_field field_behind field_at (byte_within_read 1 64) (record { read = field_read; spelling = λ front x. refl })
+fields_read form =
+    listed_read (within 1 64 (number w8)) (byte_within_at 1 64) (record_field form) (field_behind form) (field_at form) (byte_within_read 1 64) (record { read = field_read form; spelling = λ front x. refl })
 
 pub variables_read : IsRead variables variables_at
 unfolding variables_at
@@ -151,8 +152,8 @@ variables_read =
 
 -- ---- terms
 
-tree_read : IsRead tree (text_at and fields_at)
-tree_read = and_read text record_fields text_at fields_at text_read fields_read
+tree_read : (form : Form) → IsRead (tree form) (text_at and fields_at form)
+tree_read form = and_read text (record_fields form) text_at (fields_at form) text_read (fields_read form)
 
 procedure_read : IsRead procedure (proc_name_at and code_at and byte_within_at 0 64 and variables_at)
 procedure_read =
@@ -160,74 +161,74 @@ procedure_read =
     (and_read code (formals then variables) code_at (byte_within_at 0 64 and variables_at) code_read
     (and_read formals variables (byte_within_at 0 64) variables_at (byte_within_read 0 64) variables_read))
 
-var_behind : IsBehind term 0 (map_at terms.Var var_name_at) var_name.Fault
-var_behind = is_behind term 0 var_name var_name_at terms.Var (λ y h. h) (λ y. refl) var_name_read
+var_behind : (form : Form) → IsBehind (term form) 0 (map_at terms.Var var_name_at) var_name.Fault
+var_behind form = is_behind (term form) 0 var_name var_name_at terms.Var (λ y h. h) (λ y. refl) var_name_read
 
-number_behind : IsBehind term 1 (map_at (λ z. terms.Node (nodes.Int z)) integer_at) integer.Fault
-number_behind = is_behind term 1 integer integer_at (λ z. terms.Node (nodes.Int z)) (λ y h. h) (λ y. refl) integer_read
+number_behind : (form : Form) → IsBehind (term form) 1 (map_at (λ z. terms.Node (nodes.Int z)) (integer_at form)) (integer form).Fault
+number_behind form = is_behind (term form) 1 (integer form) (integer_at form) (λ z. terms.Node (nodes.Int z)) (λ y h. h) (λ y. refl) (integer_read form)
 
-text_behind : IsBehind term 2 (map_at (λ t. terms.Node (nodes.Atom t)) text_at) text.Fault
-text_behind = is_behind term 2 text text_at (λ t. terms.Node (nodes.Atom t)) (λ y h. h) (λ y. refl) text_read
+text_behind : (form : Form) → IsBehind (term form) 2 (map_at (λ t. terms.Node (nodes.Atom t)) text_at) text.Fault
+text_behind form = is_behind (term form) 2 text text_at (λ t. terms.Node (nodes.Atom t)) (λ y h. h) (λ y. refl) text_read
 
-record_behind : IsBehind term 3 record_at tree.Fault
+record_behind : (form : Form) → IsBehind (term form) 3 (record_at form) (tree form).Fault
 unfolding record_at
-record_behind = is_behind term 3 tree (text_at and fields_at) (λ p. terms.Node (nodes.Rec p.0 p.1)) (λ y h. h) (λ y. refl) tree_read
+record_behind form = is_behind (term form) 3 (tree form) (text_at and fields_at form) (λ p. terms.Node (nodes.Rec p.0 p.1)) (λ y h. h) (λ y. refl) (tree_read form)
 
-procedure_behind : IsBehind term 4 procedure_at procedure.Fault
+procedure_behind : (form : Form) → IsBehind (term form) 4 procedure_at procedure.Fault
 unfolding procedure_at
-procedure_behind =
-    is_behind term 4 procedure (proc_name_at and code_at and byte_within_at 0 64 and variables_at) (λ p. terms.Node (nodes.Proc p.0 p.1.0 p.1.1.0 p.1.1.1)) (λ y h. h) (λ y. refl) procedure_read
+procedure_behind form =
+    is_behind (term form) 4 procedure (proc_name_at and code_at and byte_within_at 0 64 and variables_at) (λ p. terms.Node (nodes.Proc p.0 p.1.0 p.1.1.0 p.1.1.1)) (λ y h. h) (λ y. refl) procedure_read
 
-cell_behind : IsBehind term 5 (map_at (λ c. terms.Node (nodes.Cell c)) cell_name_at) cell_name.Fault
-cell_behind = is_behind term 5 cell_name cell_name_at (λ c. terms.Node (nodes.Cell c)) (λ y h. h) (λ y. refl) cell_name_read
+cell_behind : (form : Form) → IsBehind (term form) 5 (map_at (λ c. terms.Node (nodes.Cell c)) cell_name_at) cell_name.Fault
+cell_behind form = is_behind (term form) 5 cell_name cell_name_at (λ c. terms.Node (nodes.Cell c)) (λ y h. h) (λ y. refl) cell_name_read
 
-pub term_read : IsRead term term_at
+pub term_read : (form : Form) → IsRead (term form) (term_at form)
 unfolding term_at node_at record_at procedure_at
-term_read = record { takes = takes; again = again; fails = fails; failing = failing }
+term_read form = record { takes = takes; again = again; fails = fails; failing = failing }
   where
-    takes : (at : ℕ) (bytes : List ℕ) (x : Term) (m : Left) → IsBytes bytes → term_at (at, bytes) ≡ Ok (x, m) → Takes term at bytes x m
+    takes : (at : ℕ) (bytes : List ℕ) (x : Term) (m : Left) → IsBytes bytes → term_at form (at, bytes) ≡ Ok (x, m) → Takes (term form) at bytes x m
     takes at [] x m fits e = absurd (no_ok (x, m) (Short at) e)
     takes at (tag ∷ bytes) x m fits e =
         let small = IsBytes-rest tag bytes fits in
-        takes_step term tag 0 _ _ var_behind _ at bytes x m small
-        (takes_step term tag 1 _ _ number_behind _ at bytes x m small
-        (takes_step term tag 2 _ _ text_behind _ at bytes x m small
-        (takes_step term tag 3 _ _ record_behind _ at bytes x m small
-        (takes_step term tag 4 _ _ procedure_behind _ at bytes x m small
-        (takes_step term tag 5 _ _ cell_behind _ at bytes x m small (λ d. absurd (no_ok (x, m) (Kind at) d)))))))
+        takes_step (term form) tag 0 _ _ (var_behind form) _ at bytes x m small
+        (takes_step (term form) tag 1 _ _ (number_behind form) _ at bytes x m small
+        (takes_step (term form) tag 2 _ _ (text_behind form) _ at bytes x m small
+        (takes_step (term form) tag 3 _ _ (record_behind form) _ at bytes x m small
+        (takes_step (term form) tag 4 _ _ (procedure_behind form) _ at bytes x m small
+        (takes_step (term form) tag 5 _ _ (cell_behind form) _ at bytes x m small (λ d. absurd (no_ok (x, m) (Kind at) d)))))))
         e
 
-    again : (at : ℕ) (x : Term) (rest : List ℕ) → term.Has x → term_at (at, term.spelling x ++ rest) ≡ Ok (x, (at + length (term.spelling x), rest))
+    again : (at : ℕ) (x : Term) (rest : List ℕ) → (term form).Has x → term_at form (at, (term form).spelling x ++ rest) ≡ Ok (x, (at + length ((term form).spelling x), rest))
     again at (terms.Var x) rest has = again_behind var_name var_name_at terms.Var 0 at x rest var_name_read has
-    again at (terms.Node (nodes.Int z)) rest has = again_behind integer integer_at (λ z. terms.Node (nodes.Int z)) 1 at z rest integer_read has
+    again at (terms.Node (nodes.Int z)) rest has = again_behind (integer form) (integer_at form) (λ z. terms.Node (nodes.Int z)) 1 at z rest (integer_read form) has
     again at (terms.Node (nodes.Atom t)) rest has = again_behind text text_at (λ t. terms.Node (nodes.Atom t)) 2 at t rest text_read has
     again at (terms.Node (nodes.Rec label fields)) rest has =
-        again_behind tree (text_at and fields_at) (λ p. terms.Node (nodes.Rec p.0 p.1)) 3 at (label, fields) rest tree_read has
+        again_behind (tree form) (text_at and fields_at form) (λ p. terms.Node (nodes.Rec p.0 p.1)) 3 at (label, fields) rest (tree_read form) has
     again at (terms.Node (nodes.Proc p c n vars)) rest has =
         again_behind procedure (proc_name_at and code_at and byte_within_at 0 64 and variables_at) (λ p. terms.Node (nodes.Proc p.0 p.1.0 p.1.1.0 p.1.1.1)) 4 at (p, (c, (n, vars))) rest procedure_read has
     again at (terms.Node (nodes.Cell c)) rest has = again_behind cell_name cell_name_at (λ c. terms.Node (nodes.Cell c)) 5 at c rest cell_name_read has
 
-    fails : (at : ℕ) (bytes : List ℕ) (f : WireFault) → IsBytes bytes → term_at (at, bytes) ≡ Err f → term.Fault at bytes f
+    fails : (at : ℕ) (bytes : List ℕ) (f : WireFault) → IsBytes bytes → term_at form (at, bytes) ≡ Err f → (term form).Fault at bytes f
     fails at [] f fits e = sym (err_is {A = Term × Left} (Short at) f e)
     fails at (tag ∷ bytes) f fits e =
         let small = IsBytes-rest tag bytes fits in
-        fails_step term tag 0 _ _ var_behind _ _ at bytes f small
-        (λ n0. fails_step term tag 1 _ _ number_behind _ _ at bytes f small
-        (λ n1. fails_step term tag 2 _ _ text_behind _ _ at bytes f small
-        (λ n2. fails_step term tag 3 _ _ record_behind _ _ at bytes f small
-        (λ n3. fails_step term tag 4 _ _ procedure_behind _ _ at bytes f small
-        (λ n4. fails_step term tag 5 _ _ cell_behind _ _ at bytes f small
+        fails_step (term form) tag 0 _ _ (var_behind form) _ _ at bytes f small
+        (λ n0. fails_step (term form) tag 1 _ _ (number_behind form) _ _ at bytes f small
+        (λ n1. fails_step (term form) tag 2 _ _ (text_behind form) _ _ at bytes f small
+        (λ n2. fails_step (term form) tag 3 _ _ (record_behind form) _ _ at bytes f small
+        (λ n3. fails_step (term form) tag 4 _ _ (procedure_behind form) _ _ at bytes f small
+        (λ n4. fails_step (term form) tag 5 _ _ (cell_behind form) _ _ at bytes f small
         (λ n5 d. (omega (arith, n0, n1, n2, n3, n4, n5), sym (err_is {A = Term × Left} (Kind at) f d))))))))
         e
 
-    failing : (at : ℕ) (bytes : List ℕ) (f : WireFault) → term.Fault at bytes f → term_at (at, bytes) ≡ Err f
+    failing : (at : ℕ) (bytes : List ℕ) (f : WireFault) → (term form).Fault at bytes f → term_at form (at, bytes) ≡ Err f
     failing at [] f h = ap (λ (g : WireFault). failed g) (sym h)
-    failing at (tag ∷ bytes) f (inl h) = ap (λ (t : ℕ). node_at at t (at + 1, bytes)) h.0 ∙ var_behind.failing at bytes f h.1
-    failing at (tag ∷ bytes) f (inr (inl h)) = ap (λ (t : ℕ). node_at at t (at + 1, bytes)) h.0 ∙ number_behind.failing at bytes f h.1
-    failing at (tag ∷ bytes) f (inr (inr (inl h))) = ap (λ (t : ℕ). node_at at t (at + 1, bytes)) h.0 ∙ text_behind.failing at bytes f h.1
-    failing at (tag ∷ bytes) f (inr (inr (inr (inl h)))) = ap (λ (t : ℕ). node_at at t (at + 1, bytes)) h.0 ∙ record_behind.failing at bytes f h.1
-    failing at (tag ∷ bytes) f (inr (inr (inr (inr (inl h))))) = ap (λ (t : ℕ). node_at at t (at + 1, bytes)) h.0 ∙ procedure_behind.failing at bytes f h.1
-    failing at (tag ∷ bytes) f (inr (inr (inr (inr (inr (inl h)))))) = ap (λ (t : ℕ). node_at at t (at + 1, bytes)) h.0 ∙ cell_behind.failing at bytes f h.1
+    failing at (tag ∷ bytes) f (inl h) = ap (λ (t : ℕ). node_at form at t (at + 1, bytes)) h.0 ∙ (var_behind form).failing at bytes f h.1
+    failing at (tag ∷ bytes) f (inr (inl h)) = ap (λ (t : ℕ). node_at form at t (at + 1, bytes)) h.0 ∙ (number_behind form).failing at bytes f h.1
+    failing at (tag ∷ bytes) f (inr (inr (inl h))) = ap (λ (t : ℕ). node_at form at t (at + 1, bytes)) h.0 ∙ (text_behind form).failing at bytes f h.1
+    failing at (tag ∷ bytes) f (inr (inr (inr (inl h)))) = ap (λ (t : ℕ). node_at form at t (at + 1, bytes)) h.0 ∙ (record_behind form).failing at bytes f h.1
+    failing at (tag ∷ bytes) f (inr (inr (inr (inr (inl h))))) = ap (λ (t : ℕ). node_at form at t (at + 1, bytes)) h.0 ∙ (procedure_behind form).failing at bytes f h.1
+    failing at (tag ∷ bytes) f (inr (inr (inr (inr (inr (inl h)))))) = ap (λ (t : ℕ). node_at form at t (at + 1, bytes)) h.0 ∙ (cell_behind form).failing at bytes f h.1
     failing at (tag ∷ bytes) f (inr (inr (inr (inr (inr (inr h)))))) =
         passes tag 0 _ _ _ (λ e. omega (arith, e, h.0))
         (passes tag 1 _ _ _ (λ e. omega (arith, e, h.0))
@@ -238,18 +239,18 @@ term_read = record { takes = takes; again = again; fails = fails; failing = fail
 
 -- ---- bundles
 
-equation_read : (front : List Equation) → IsRead (equation_behind front) (equation_at front)
+equation_read : (form : Form) → (front : List Equation) → IsRead (equation_behind form front) (equation_at form front)
 unfolding equation_at
-equation_read front =
+equation_read form front =
     let key : Equation → VarName = λ e. e.0 in
     let holds = above_yes key name_below IsBelow name_yes front in
     let misses = above_no key name_below IsBelow name_no front in
     let first = tested_read var_name var_name_at (IsAbove key IsBelow front) (is_above key name_below front) (λ at. Order at) holds misses var_name_read in
-    and_read (restriction (IsAbove key IsBelow front) (λ at. Order at) var_name) term (filter_at (is_above key name_below front) (λ at. Order at) var_name_at) term_at first term_read
+    and_read (restriction (IsAbove key IsBelow front) (λ at. Order at) var_name) (term form) (filter_at (is_above key name_below front) (λ at. Order at) var_name_at) (term_at form) first (term_read form)
 
-pub bundle_read : IsRead bundle bundle_at
+pub bundle_read : (form : Form) → IsRead (bundle form) (bundle_at form)
 unfolding bundle_at
-bundle_read =
-    listed_read (within 0 256 (number w16)) (filter_at (is_within 0 256) (λ at. Range at) (number_at w16)) equation equation_behind equation_at
+bundle_read form =
+    listed_read (within 0 256 (number w16)) (filter_at (is_within 0 256) (λ at. Range at) (number_at w16)) (equation form) (equation_behind form) (equation_at form)
     (within_read 0 256 (number w16) (number_at w16) (number_read w16 wide16))
-    (record { read = equation_read; spelling = λ front x. refl })
+    (record { read = equation_read form; spelling = λ front x. refl })

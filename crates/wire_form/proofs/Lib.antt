@@ -13,3 +13,5 @@ pub mod LoopLaws
 pub mod WriteLaws
 pub mod NumberLaws
 pub mod OrderLaws
+pub mod WideBytes
+pub mod IntegerLaws

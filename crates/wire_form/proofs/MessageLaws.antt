@@ -1,147 +1,282 @@
--- Messages are read, and bytes are read whole: they spell a message, or have a first fault.
-use Rattle.std.proofs.Common.{◌≡◌, ℕ, ◌+◌, ◌<◌, List, [], ◌∷◌, ◌++◌, length, Ok, Err, refl, sym, ap, ◌∙◌, arith, ◌⊎◌, inl, inr}
-use Rattle.std.proofs.lemmas.Bool.{cases_eq}
+-- Messages are read in each form, and in the form that the first byte tells.
+use Rattle.std.proofs.Common.{◌≡◌, ℕ, ◌+◌, ◌-◌, ◌<◌, ◌≤◌, Bool, true, false, cond, eqb, List, [], ◌∷◌, ◌++◌, length, Ok, Err, refl, sym, ap, subst, ◌∙◌, arith, ◌⊎◌, inl, inr, lit<}
+use Rattle.std.proofs.lemmas.Bool.{cases_lt, eqb-true, eqb-false, lt-ltb, le-ltb}
 use Rattle.site_message.specs.declared.message.Msg.{Msg}
 use Rattle.site_message.specs.declared.message.Msg.TheVariants as messages
+use Rattle.wire_form.specs.declared.form.Form.{Form}
+use Rattle.wire_form.specs.declared.form.Form.TheVariants as forms
 use Rattle.wire_form.specs.declared.fault.WireFault.{WireFault}
 use Rattle.wire_form.specs.declared.fault.WireFault.TheVariants.{Short, Kind}
-use Rattle.wire_form.specs.Field.{◌then◌}
-use Rattle.wire_form.specs.Format.{site, var_name, cell_name, thread_name, code, variables, term, bundle, spawn, register, bind_request, binding, get_or_forward, put, message}
-use Rattle.wire_form.specs.Reading.{Left, ◌and◌, byte_within_at, var_name_at, cell_name_at, thread_name_at, code_at, variables_at, term_at, bundle_at, spawn_at, register_at, bind_request_at, binding_at, get_at, forward_at, put_at, body_at, message_at}
+use Rattle.wire_form.specs.Field.{Faults, ◌then◌}
+use Rattle.wire_form.specs.Format.{lead, IsWithin, IsKind, site, var_name, cell_name, thread_name, code, variables, term, bundle, spawn, register, bind_request, binding, get_or_forward, put, message, spelling, wire}
+use Rattle.wire_form.specs.Reading.{Left, Read, ◌>>=◌, ◌and◌, byte_at, byte_within_at, var_name_at, cell_name_at, thread_name_at, code_at, variables_at, term_at, bundle_at, spawn_at, register_at, bind_request_at, binding_at, get_at, forward_at, put_at, body_at, form_of, message_at}
 use Rattle.wire_form.proofs.FieldLaws.{IsBytes, Takes, IsRead, failed, err_is, no_ok, and_read}
 use Rattle.wire_form.proofs.BaseLaws.{IsBytes-rest, byte_within_read}
-use Rattle.wire_form.proofs.ChoiceLaws.{IsBehind, is_behind, again_behind, takes_step, fails_step, passes}
+use Rattle.wire_form.proofs.ChoiceLaws.{IsBehind, is_behind, again_behind, takes_if, fails_if, passes}
 use Rattle.wire_form.proofs.FormatLaws.{var_name_read, cell_name_read, thread_name_read, code_read, variables_read, term_read, bundle_read}
 
-spawn_read : IsRead spawn (thread_name_at and code_at and variables_at and bundle_at)
-spawn_read =
-    and_read thread_name (code then variables then bundle) thread_name_at (code_at and variables_at and bundle_at) thread_name_read
-    (and_read code (variables then bundle) code_at (variables_at and bundle_at) code_read
-    (and_read variables bundle variables_at bundle_at variables_read bundle_read))
+spawn_read : (form : Form) → IsRead (spawn form) (thread_name_at and code_at and variables_at and bundle_at form)
+spawn_read form =
+    and_read thread_name (code then variables then bundle form) thread_name_at (code_at and variables_at and bundle_at form) thread_name_read
+    (and_read code (variables then bundle form) code_at (variables_at and bundle_at form) code_read
+    (and_read variables (bundle form) variables_at (bundle_at form) variables_read (bundle_read form)))
 
 register_read : IsRead register (var_name_at and byte_within_at 1 64)
 register_read = and_read var_name site var_name_at (byte_within_at 1 64) var_name_read (byte_within_read 1 64)
 
-term_and_bundle_read : IsRead (term then bundle) (term_at and bundle_at)
-term_and_bundle_read = and_read term bundle term_at bundle_at term_read bundle_read
+term_and_bundle_read : (form : Form) → IsRead (term form then bundle form) (term_at form and bundle_at form)
+term_and_bundle_read form = and_read (term form) (bundle form) (term_at form) (bundle_at form) (term_read form) (bundle_read form)
 
-bind_request_read : IsRead bind_request (var_name_at and thread_name_at and term_at and bundle_at)
-bind_request_read =
-    and_read var_name (thread_name then term then bundle) var_name_at (thread_name_at and term_at and bundle_at) var_name_read
-    (and_read thread_name (term then bundle) thread_name_at (term_at and bundle_at) thread_name_read term_and_bundle_read)
+bind_request_read : (form : Form) → IsRead (bind_request form) (var_name_at and thread_name_at and term_at form and bundle_at form)
+bind_request_read form =
+    and_read var_name (thread_name then term form then bundle form) var_name_at (thread_name_at and term_at form and bundle_at form) var_name_read
+    (and_read thread_name (term form then bundle form) thread_name_at (term_at form and bundle_at form) thread_name_read (term_and_bundle_read form))
 
-binding_read : IsRead binding (var_name_at and term_at and bundle_at)
-binding_read = and_read var_name (term then bundle) var_name_at (term_at and bundle_at) var_name_read term_and_bundle_read
+binding_read : (form : Form) → IsRead (binding form) (var_name_at and term_at form and bundle_at form)
+binding_read form = and_read var_name (term form then bundle form) var_name_at (term_at form and bundle_at form) var_name_read (term_and_bundle_read form)
 
 get_read : IsRead get_or_forward (cell_name_at and byte_within_at 1 64)
 get_read = and_read cell_name site cell_name_at (byte_within_at 1 64) cell_name_read (byte_within_read 1 64)
 
-put_read : IsRead put (cell_name_at and var_name_at and bundle_at)
-put_read =
-    and_read cell_name (var_name then bundle) cell_name_at (var_name_at and bundle_at) cell_name_read
-    (and_read var_name bundle var_name_at bundle_at var_name_read bundle_read)
+put_read : (form : Form) → IsRead (put form) (cell_name_at and var_name_at and bundle_at form)
+put_read form =
+    and_read cell_name (var_name then bundle form) cell_name_at (var_name_at and bundle_at form) cell_name_read
+    (and_read var_name (bundle form) var_name_at (bundle_at form) var_name_read (bundle_read form))
 
-spawn_behind : IsBehind message 1 spawn_at spawn.Fault
+spawn_behind : (form : Form) → IsBehind (message form) (lead form + 1) (spawn_at form) (spawn form).Fault
 unfolding spawn_at
-spawn_behind =
-    is_behind message 1 spawn (thread_name_at and code_at and variables_at and bundle_at) (λ p. messages.Spawn p.0 p.1.0 p.1.1.0 p.1.1.1) (λ y h. h) (λ y. refl) spawn_read
+spawn_behind form =
+    is_behind (message form) (lead form + 1) (spawn form) (thread_name_at and code_at and variables_at and bundle_at form) (λ p. messages.Spawn p.0 p.1.0 p.1.1.0 p.1.1.1) (λ y h. h) (λ y. refl) (spawn_read form)
 
-register_behind : IsBehind message 2 register_at register.Fault
+register_behind : (form : Form) → IsBehind (message form) (lead form + 2) register_at register.Fault
 unfolding register_at
-register_behind = is_behind message 2 register (var_name_at and byte_within_at 1 64) (λ p. messages.Register p.0 p.1) (λ y h. h) (λ y. refl) register_read
+register_behind form = is_behind (message form) (lead form + 2) register (var_name_at and byte_within_at 1 64) (λ p. messages.Register p.0 p.1) (λ y h. h) (λ y. refl) register_read
 
-bind_request_behind : IsBehind message 3 bind_request_at bind_request.Fault
+bind_request_behind : (form : Form) → IsBehind (message form) (lead form + 3) (bind_request_at form) (bind_request form).Fault
 unfolding bind_request_at
-bind_request_behind =
-    is_behind message 3 bind_request (var_name_at and thread_name_at and term_at and bundle_at) (λ p. messages.BindReq p.0 p.1.0 p.1.1.0 p.1.1.1) (λ y h. h) (λ y. refl) bind_request_read
+bind_request_behind form =
+    is_behind (message form) (lead form + 3) (bind_request form) (var_name_at and thread_name_at and term_at form and bundle_at form) (λ p. messages.BindReq p.0 p.1.0 p.1.1.0 p.1.1.1) (λ y h. h) (λ y. refl) (bind_request_read form)
 
-binding_behind : IsBehind message 4 binding_at binding.Fault
+binding_behind : (form : Form) → IsBehind (message form) (lead form + 4) (binding_at form) (binding form).Fault
 unfolding binding_at
-binding_behind =
-    is_behind message 4 binding (var_name_at and term_at and bundle_at) (λ p. messages.Binding p.0 p.1.0 p.1.1) (λ y h. h) (λ y. refl) binding_read
+binding_behind form =
+    is_behind (message form) (lead form + 4) (binding form) (var_name_at and term_at form and bundle_at form) (λ p. messages.Binding p.0 p.1.0 p.1.1) (λ y h. h) (λ y. refl) (binding_read form)
 
-get_behind : IsBehind message 5 get_at get_or_forward.Fault
+get_behind : (form : Form) → IsBehind (message form) (lead form + 5) get_at get_or_forward.Fault
 unfolding get_at
-get_behind = is_behind message 5 get_or_forward (cell_name_at and byte_within_at 1 64) (λ p. messages.Get p.0 p.1) (λ y h. h) (λ y. refl) get_read
+get_behind form = is_behind (message form) (lead form + 5) get_or_forward (cell_name_at and byte_within_at 1 64) (λ p. messages.Get p.0 p.1) (λ y h. h) (λ y. refl) get_read
 
-forward_behind : IsBehind message 6 forward_at get_or_forward.Fault
+forward_behind : (form : Form) → IsBehind (message form) (lead form + 6) forward_at get_or_forward.Fault
 unfolding forward_at
-forward_behind =
-    is_behind message 6 get_or_forward (cell_name_at and byte_within_at 1 64) (λ p. messages.Forward p.0 p.1) (λ y h. h) (λ y. refl) get_read
+forward_behind form =
+    is_behind (message form) (lead form + 6) get_or_forward (cell_name_at and byte_within_at 1 64) (λ p. messages.Forward p.0 p.1) (λ y h. h) (λ y. refl) get_read
 
-put_behind : IsBehind message 7 put_at put.Fault
+put_behind : (form : Form) → IsBehind (message form) (lead form + 7) (put_at form) (put form).Fault
 unfolding put_at
-put_behind = is_behind message 7 put (cell_name_at and var_name_at and bundle_at) (λ p. messages.Put p.0 p.1.0 p.1.1) (λ y h. h) (λ y. refl) put_read
+put_behind form = is_behind (message form) (lead form + 7) (put form) (cell_name_at and var_name_at and bundle_at form) (λ p. messages.Put p.0 p.1.0 p.1.1) (λ y h. h) (λ y. refl) (put_read form)
 
-pub message_read : IsRead message message_at
-unfolding message_at body_at spawn_at register_at bind_request_at binding_at get_at forward_at put_at
-message_read = record { takes = takes; again = again; fails = fails; failing = failing }
+-- ---- messages of one form
+
+-- a message of this form
+pub message_in : Form → Left → Read Msg
+message_in form l = do
+  first ← byte_at l
+  body_at form l.0 (first.0 - lead form) first.1
+
+-- the number of a kind, from the byte
+number_of_kind : (form : Form) (k : ℕ) → (lead form + k) - lead form ≡ k
+number_of_kind form k = omega arith
+
+is_kind : (form : Form) (first k : ℕ) → 0 < k → eqb (first - lead form) k ≡ true → first ≡ lead form + k
+is_kind form first k some e = let h = eqb-true (first - lead form) k e in omega (arith, h, some)
+
+no_kind : (form : Form) (first k : ℕ) → eqb (first - lead form) k ≡ false → first ≡ lead form + k → ⊥
+no_kind form first k e h = let n = eqb-false (first - lead form) k e in n (omega (arith, h))
+
+takes_kind : (form : Form) (first k : ℕ) (R : Left → Read Msg) (Fault : Faults) → 0 < k → IsBehind (message form) (lead form + k) R Fault → (other : Read Msg) (at : ℕ) (bytes : List ℕ) (x : Msg) (m : Left) → IsBytes bytes
+    → (other ≡ Ok (x, m) → Takes (message form) at (first ∷ bytes) x m) → cond (eqb (first - lead form) k) (R (at + 1, bytes)) other ≡ Ok (x, m) → Takes (message form) at (first ∷ bytes) x m
+takes_kind form first k R Fault some here other at bytes x m fits go e =
+    takes_if (message form) first (lead form + k) (eqb (first - lead form) k) R Fault here (is_kind form first k some) other at bytes x m fits go e
+
+fails_kind : (form : Form) (first k : ℕ) (R : Left → Read Msg) (Fault : Faults) → 0 < k → IsBehind (message form) (lead form + k) R Fault → (other : Read Msg) (Others : Type 0) (at : ℕ) (bytes : List ℕ) (f : WireFault) → IsBytes bytes
+    → ((first ≡ lead form + k → ⊥) → other ≡ Err f → Others) → cond (eqb (first - lead form) k) (R (at + 1, bytes)) other ≡ Err f → ((first ≡ lead form + k) × Fault (at + 1) bytes f) ⊎ Others
+fails_kind form first k R Fault some here other Others at bytes f fits go e =
+    fails_if (message form) first (lead form + k) (eqb (first - lead form) k) R Fault here (is_kind form first k some) (no_kind form first k) other Others at bytes f fits go e
+
+-- what is read behind a kind
+kind_at : (form : Form) (at first k : ℕ) (bytes : List ℕ) → first ≡ lead form + k → body_at form at (first - lead form) (at + 1, bytes) ≡ body_at form at k (at + 1, bytes)
+kind_at form at first k bytes h = ap (λ (n : ℕ). body_at form at n (at + 1, bytes)) (omega (arith, h))
+
+pub message_read : (form : Form) → IsRead (message form) (message_in form)
+unfolding message_in body_at spawn_at register_at bind_request_at binding_at get_at forward_at put_at
+message_read form = record { takes = takes; again = again; fails = fails; failing = failing }
   where
-    takes : (at : ℕ) (bytes : List ℕ) (x : Msg) (m : Left) → IsBytes bytes → message_at (at, bytes) ≡ Ok (x, m) → Takes message at bytes x m
+    takes : (at : ℕ) (bytes : List ℕ) (x : Msg) (m : Left) → IsBytes bytes → message_in form (at, bytes) ≡ Ok (x, m) → Takes (message form) at bytes x m
     takes at [] x m fits e = absurd (no_ok (x, m) (Short at) e)
-    takes at (kind ∷ bytes) x m fits e =
-        let small = IsBytes-rest kind bytes fits in
-        takes_step message kind 1 _ _ spawn_behind _ at bytes x m small
-        (takes_step message kind 2 _ _ register_behind _ at bytes x m small
-        (takes_step message kind 3 _ _ bind_request_behind _ at bytes x m small
-        (takes_step message kind 4 _ _ binding_behind _ at bytes x m small
-        (takes_step message kind 5 _ _ get_behind _ at bytes x m small
-        (takes_step message kind 6 _ _ forward_behind _ at bytes x m small
-        (takes_step message kind 7 _ _ put_behind _ at bytes x m small (λ d. absurd (no_ok (x, m) (Kind at) d))))))))
+    takes at (first ∷ bytes) x m fits e =
+        let small = IsBytes-rest first bytes fits in
+        takes_kind form first 1 _ _ (lit< tt) (spawn_behind form) _ at bytes x m small
+        (takes_kind form first 2 _ _ (lit< tt) (register_behind form) _ at bytes x m small
+        (takes_kind form first 3 _ _ (lit< tt) (bind_request_behind form) _ at bytes x m small
+        (takes_kind form first 4 _ _ (lit< tt) (binding_behind form) _ at bytes x m small
+        (takes_kind form first 5 _ _ (lit< tt) (get_behind form) _ at bytes x m small
+        (takes_kind form first 6 _ _ (lit< tt) (forward_behind form) _ at bytes x m small
+        (takes_kind form first 7 _ _ (lit< tt) (put_behind form) _ at bytes x m small (λ d. absurd (no_ok (x, m) (Kind at) d))))))))
         e
 
-    again : (at : ℕ) (x : Msg) (rest : List ℕ) → message.Has x → message_at (at, message.spelling x ++ rest) ≡ Ok (x, (at + length (message.spelling x), rest))
+    again : (at : ℕ) (x : Msg) (rest : List ℕ) → (message form).Has x → message_in form (at, (message form).spelling x ++ rest) ≡ Ok (x, (at + length ((message form).spelling x), rest))
     again at (messages.Spawn t c vars es) rest has =
-        again_behind spawn (thread_name_at and code_at and variables_at and bundle_at) (λ p. messages.Spawn p.0 p.1.0 p.1.1.0 p.1.1.1) 1 at (t, (c, (vars, es))) rest spawn_read has
+        kind_at form at (lead form + 1) 1 ((spawn form).spelling (t, (c, (vars, es))) ++ rest) refl ∙ again_behind (spawn form) (thread_name_at and code_at and variables_at and bundle_at form) (λ p. messages.Spawn p.0 p.1.0 p.1.1.0 p.1.1.1) (lead form + 1) at (t, (c, (vars, es))) rest (spawn_read form) has
     again at (messages.Register x asking) rest has =
-        again_behind register (var_name_at and byte_within_at 1 64) (λ p. messages.Register p.0 p.1) 2 at (x, asking) rest register_read has
+        kind_at form at (lead form + 2) 2 (register.spelling (x, asking) ++ rest) refl ∙ again_behind register (var_name_at and byte_within_at 1 64) (λ p. messages.Register p.0 p.1) (lead form + 2) at (x, asking) rest register_read has
     again at (messages.BindReq x t u es) rest has =
-        again_behind bind_request (var_name_at and thread_name_at and term_at and bundle_at) (λ p. messages.BindReq p.0 p.1.0 p.1.1.0 p.1.1.1) 3 at (x, (t, (u, es))) rest bind_request_read has
+        kind_at form at (lead form + 3) 3 ((bind_request form).spelling (x, (t, (u, es))) ++ rest) refl ∙ again_behind (bind_request form) (var_name_at and thread_name_at and term_at form and bundle_at form) (λ p. messages.BindReq p.0 p.1.0 p.1.1.0 p.1.1.1) (lead form + 3) at (x, (t, (u, es))) rest (bind_request_read form) has
     again at (messages.Binding x u es) rest has =
-        again_behind binding (var_name_at and term_at and bundle_at) (λ p. messages.Binding p.0 p.1.0 p.1.1) 4 at (x, (u, es)) rest binding_read has
+        kind_at form at (lead form + 4) 4 ((binding form).spelling (x, (u, es)) ++ rest) refl ∙ again_behind (binding form) (var_name_at and term_at form and bundle_at form) (λ p. messages.Binding p.0 p.1.0 p.1.1) (lead form + 4) at (x, (u, es)) rest (binding_read form) has
     again at (messages.Get c asking) rest has =
-        again_behind get_or_forward (cell_name_at and byte_within_at 1 64) (λ p. messages.Get p.0 p.1) 5 at (c, asking) rest get_read has
+        kind_at form at (lead form + 5) 5 (get_or_forward.spelling (c, asking) ++ rest) refl ∙ again_behind get_or_forward (cell_name_at and byte_within_at 1 64) (λ p. messages.Get p.0 p.1) (lead form + 5) at (c, asking) rest get_read has
     again at (messages.Forward c next) rest has =
-        again_behind get_or_forward (cell_name_at and byte_within_at 1 64) (λ p. messages.Forward p.0 p.1) 6 at (c, next) rest get_read has
+        kind_at form at (lead form + 6) 6 (get_or_forward.spelling (c, next) ++ rest) refl ∙ again_behind get_or_forward (cell_name_at and byte_within_at 1 64) (λ p. messages.Forward p.0 p.1) (lead form + 6) at (c, next) rest get_read has
     again at (messages.Put c x es) rest has =
-        again_behind put (cell_name_at and var_name_at and bundle_at) (λ p. messages.Put p.0 p.1.0 p.1.1) 7 at (c, (x, es)) rest put_read has
+        kind_at form at (lead form + 7) 7 ((put form).spelling (c, (x, es)) ++ rest) refl ∙ again_behind (put form) (cell_name_at and var_name_at and bundle_at form) (λ p. messages.Put p.0 p.1.0 p.1.1) (lead form + 7) at (c, (x, es)) rest (put_read form) has
 
-    fails : (at : ℕ) (bytes : List ℕ) (f : WireFault) → IsBytes bytes → message_at (at, bytes) ≡ Err f → message.Fault at bytes f
+    fails : (at : ℕ) (bytes : List ℕ) (f : WireFault) → IsBytes bytes → message_in form (at, bytes) ≡ Err f → (message form).Fault at bytes f
     fails at [] f fits e = sym (err_is {A = Msg × Left} (Short at) f e)
-    fails at (kind ∷ bytes) f fits e =
-        let small = IsBytes-rest kind bytes fits in
-        fails_step message kind 1 _ _ spawn_behind _ _ at bytes f small
-        (λ n1. fails_step message kind 2 _ _ register_behind _ _ at bytes f small
-        (λ n2. fails_step message kind 3 _ _ bind_request_behind _ _ at bytes f small
-        (λ n3. fails_step message kind 4 _ _ binding_behind _ _ at bytes f small
-        (λ n4. fails_step message kind 5 _ _ get_behind _ _ at bytes f small
-        (λ n5. fails_step message kind 6 _ _ forward_behind _ _ at bytes f small
-        (λ n6. fails_step message kind 7 _ _ put_behind _ _ at bytes f small
-        (λ n7 d. (other_kind kind n1 n2 n3 n4 n5 n6 n7, sym (err_is {A = Msg × Left} (Kind at) f d)))))))))
+    fails at (first ∷ bytes) f fits e =
+        let small = IsBytes-rest first bytes fits in
+        fails_kind form first 1 _ _ (lit< tt) (spawn_behind form) _ _ at bytes f small
+        (λ n1. fails_kind form first 2 _ _ (lit< tt) (register_behind form) _ _ at bytes f small
+        (λ n2. fails_kind form first 3 _ _ (lit< tt) (bind_request_behind form) _ _ at bytes f small
+        (λ n3. fails_kind form first 4 _ _ (lit< tt) (binding_behind form) _ _ at bytes f small
+        (λ n4. fails_kind form first 5 _ _ (lit< tt) (get_behind form) _ _ at bytes f small
+        (λ n5. fails_kind form first 6 _ _ (lit< tt) (forward_behind form) _ _ at bytes f small
+        (λ n6. fails_kind form first 7 _ _ (lit< tt) (put_behind form) _ _ at bytes f small
+        (λ n7 d. (λ k. omega (arith, n1, n2, n3, n4, n5, n6, n7, k.0, k.1), sym (err_is {A = Msg × Left} (Kind at) f d)))))))))
         e
-      where
-        other_kind : (k : ℕ) → (k ≡ 1 → ⊥) → (k ≡ 2 → ⊥) → (k ≡ 3 → ⊥) → (k ≡ 4 → ⊥) → (k ≡ 5 → ⊥) → (k ≡ 6 → ⊥) → (k ≡ 7 → ⊥) → (k ≡ 0) ⊎ (7 < k)
-        other_kind k n1 n2 n3 n4 n5 n6 n7 = elim (cases_eq k 0) [
-          | inl z ↦ inl z
-          | inr n0 ↦ inr (omega (arith, n0, n1, n2, n3, n4, n5, n6, n7))
-        ]
 
-    failing : (at : ℕ) (bytes : List ℕ) (f : WireFault) → message.Fault at bytes f → message_at (at, bytes) ≡ Err f
+    failing : (at : ℕ) (bytes : List ℕ) (f : WireFault) → (message form).Fault at bytes f → message_in form (at, bytes) ≡ Err f
     failing at [] f h = ap (λ (g : WireFault). failed g) (sym h)
-    failing at (kind ∷ bytes) f (inl h) = ap (λ (t : ℕ). body_at at t (at + 1, bytes)) h.0 ∙ spawn_behind.failing at bytes f h.1
-    failing at (kind ∷ bytes) f (inr (inl h)) = ap (λ (t : ℕ). body_at at t (at + 1, bytes)) h.0 ∙ register_behind.failing at bytes f h.1
-    failing at (kind ∷ bytes) f (inr (inr (inl h))) = ap (λ (t : ℕ). body_at at t (at + 1, bytes)) h.0 ∙ bind_request_behind.failing at bytes f h.1
-    failing at (kind ∷ bytes) f (inr (inr (inr (inl h)))) = ap (λ (t : ℕ). body_at at t (at + 1, bytes)) h.0 ∙ binding_behind.failing at bytes f h.1
-    failing at (kind ∷ bytes) f (inr (inr (inr (inr (inl h))))) = ap (λ (t : ℕ). body_at at t (at + 1, bytes)) h.0 ∙ get_behind.failing at bytes f h.1
-    failing at (kind ∷ bytes) f (inr (inr (inr (inr (inr (inl h)))))) = ap (λ (t : ℕ). body_at at t (at + 1, bytes)) h.0 ∙ forward_behind.failing at bytes f h.1
-    failing at (kind ∷ bytes) f (inr (inr (inr (inr (inr (inr (inl h))))))) = ap (λ (t : ℕ). body_at at t (at + 1, bytes)) h.0 ∙ put_behind.failing at bytes f h.1
-    failing at (kind ∷ bytes) f (inr (inr (inr (inr (inr (inr (inr (inl z, h)))))))) =
-        ap (λ (t : ℕ). body_at at t (at + 1, bytes)) z ∙ ap (λ (g : WireFault). failed g) (sym h)
-    failing at (kind ∷ bytes) f (inr (inr (inr (inr (inr (inr (inr (inr big, h)))))))) =
-        passes kind 1 _ _ _ (λ e. omega (arith, e, big))
-        (passes kind 2 _ _ _ (λ e. omega (arith, e, big))
-        (passes kind 3 _ _ _ (λ e. omega (arith, e, big))
-        (passes kind 4 _ _ _ (λ e. omega (arith, e, big))
-        (passes kind 5 _ _ _ (λ e. omega (arith, e, big))
-        (passes kind 6 _ _ _ (λ e. omega (arith, e, big))
-        (passes kind 7 _ _ _ (λ e. omega (arith, e, big)) (ap (λ (g : WireFault). failed g) (sym h))))))))
+    failing at (first ∷ bytes) f (inl h) = kind_at form at first 1 bytes h.0 ∙ (spawn_behind form).failing at bytes f h.1
+    failing at (first ∷ bytes) f (inr (inl h)) = kind_at form at first 2 bytes h.0 ∙ (register_behind form).failing at bytes f h.1
+    failing at (first ∷ bytes) f (inr (inr (inl h))) = kind_at form at first 3 bytes h.0 ∙ (bind_request_behind form).failing at bytes f h.1
+    failing at (first ∷ bytes) f (inr (inr (inr (inl h)))) = kind_at form at first 4 bytes h.0 ∙ (binding_behind form).failing at bytes f h.1
+    failing at (first ∷ bytes) f (inr (inr (inr (inr (inl h))))) = kind_at form at first 5 bytes h.0 ∙ (get_behind form).failing at bytes f h.1
+    failing at (first ∷ bytes) f (inr (inr (inr (inr (inr (inl h)))))) = kind_at form at first 6 bytes h.0 ∙ (forward_behind form).failing at bytes f h.1
+    failing at (first ∷ bytes) f (inr (inr (inr (inr (inr (inr (inl h))))))) = kind_at form at first 7 bytes h.0 ∙ (put_behind form).failing at bytes f h.1
+    failing at (first ∷ bytes) f (inr (inr (inr (inr (inr (inr (inr h))))))) =
+        passes (first - lead form) 1 _ _ _ (λ e. h.0 (omega (arith, e), omega (arith, e)))
+        (passes (first - lead form) 2 _ _ _ (λ e. h.0 (omega (arith, e), omega (arith, e)))
+        (passes (first - lead form) 3 _ _ _ (λ e. h.0 (omega (arith, e), omega (arith, e)))
+        (passes (first - lead form) 4 _ _ _ (λ e. h.0 (omega (arith, e), omega (arith, e)))
+        (passes (first - lead form) 5 _ _ _ (λ e. h.0 (omega (arith, e), omega (arith, e)))
+        (passes (first - lead form) 6 _ _ _ (λ e. h.0 (omega (arith, e), omega (arith, e)))
+        (passes (first - lead form) 7 _ _ _ (λ e. h.0 (omega (arith, e), omega (arith, e))) (ap (λ (g : WireFault). failed g) (sym h.1))))))))
+
+-- ---- messages of either form
+
+-- the first byte of a spelling is a kind
+pub begins : (form : Form) (m : Msg) → (byte : ℕ) × (rest : List ℕ) × (spelling form m ≡ byte ∷ rest) × IsKind form byte
+begins form (messages.Spawn t c vars es) = (lead form + 1, (spawn form).spelling (t, (c, (vars, es))), refl, (omega arith, omega arith))
+begins form (messages.Register x asking) = (lead form + 2, register.spelling (x, asking), refl, (omega arith, omega arith))
+begins form (messages.BindReq x t u es) = (lead form + 3, (bind_request form).spelling (x, (t, (u, es))), refl, (omega arith, omega arith))
+begins form (messages.Binding x u es) = (lead form + 4, (binding form).spelling (x, (u, es)), refl, (omega arith, omega arith))
+begins form (messages.Get c asking) = (lead form + 5, get_or_forward.spelling (c, asking), refl, (omega arith, omega arith))
+begins form (messages.Forward c next) = (lead form + 6, get_or_forward.spelling (c, next), refl, (omega arith, omega arith))
+begins form (messages.Put c x es) = (lead form + 7, (put form).spelling (c, (x, es)), refl, (omega arith, omega arith))
+
+pub no_kind_of_both : (byte : ℕ) → IsKind forms.One byte → IsKind forms.Two byte → ⊥
+no_kind_of_both byte one two = omega (arith, one.1, two.0)
+
+-- a kind tells its form
+form_is : (form : Form) (byte : ℕ) → IsKind form byte → form_of byte ≡ form
+unfolding form_of
+form_is forms.One byte h = ap (λ (b : Bool). cond b forms.One forms.Two) (lt-ltb byte 16 (omega (arith, h.1)))
+form_is forms.Two byte h = ap (λ (b : Bool). cond b forms.One forms.Two) (le-ltb byte 16 (omega (arith, h.0)))
+
+-- bytes are read in the form that the first of them tells
+in_form : (at first : ℕ) (bytes : List ℕ) → message_at (at, first ∷ bytes) ≡ message_in (form_of first) (at, first ∷ bytes)
+unfolding message_at message_in
+in_form at first bytes = refl
+
+-- bytes that begin with a kind of the form are read in it
+in_kind : (form : Form) (at first : ℕ) (bytes : List ℕ) → IsKind form first → message_at (at, first ∷ bytes) ≡ message_in form (at, first ∷ bytes)
+in_kind form at first bytes h = in_form at first bytes ∙ ap (λ (g : Form). message_in g (at, first ∷ bytes)) (form_is form first h)
+
+pub message_takes : (at : ℕ) (bytes : List ℕ) (x : Msg) (m : Left) → IsBytes bytes → message_at (at, bytes) ≡ Ok (x, m) → (form : Form) × Takes (message form) at bytes x m
+unfolding message_at
+message_takes at [] x m fits e = absurd (no_ok (x, m) (Short at) e)
+message_takes at (first ∷ bytes) x m fits e = (form_of first, (message_read (form_of first)).takes at (first ∷ bytes) x m fits (sym (in_form at first bytes) ∙ e))
+
+pub message_again : (form : Form) (at : ℕ) (x : Msg) (rest : List ℕ) → (message form).Has x → message_at (at, spelling form x ++ rest) ≡ Ok (x, (at + length (spelling form x), rest))
+message_again form at x rest has =
+    let b = begins form x in
+    let bytes = b.1 ++ rest in
+    let parts : spelling form x ++ rest ≡ b.0 ∷ bytes = ap (λ (z : List ℕ). z ++ rest) b.2 in
+    ap (λ (z : List ℕ). message_at (at, z)) parts
+    ∙ in_kind form at b.0 bytes b.3
+    ∙ ap (λ (z : List ℕ). message_in form (at, z)) (sym parts)
+    ∙ (message_read form).again at x rest has
+
+neither : (form : Form) (byte : ℕ) → (IsKind forms.One byte → ⊥) → (IsKind forms.Two byte → ⊥) → IsKind form byte → ⊥
+neither forms.One byte one two = one
+neither forms.Two byte one two = two
+
+within_cases : (least most n : ℕ) → IsWithin least most n ⊎ (IsWithin least most n → ⊥)
+within_cases least most n = elim (cases_lt n least) [
+  | inl low ↦ inr (λ h. omega (arith, h.0, low))
+  | inr high ↦ elim (cases_lt most n) [
+    | inl above ↦ inr (λ h. omega (arith, h.1, above))
+    | inr below ↦ inl (high, below)
+  ]
+]
+
+kind_cases : (byte : ℕ) → IsKind forms.One byte ⊎ IsKind forms.Two byte ⊎ ((IsKind forms.One byte → ⊥) × (IsKind forms.Two byte → ⊥))
+kind_cases byte = elim (cases_lt byte 16) [ inl low ↦ one low | inr high ↦ two high ]
+  where
+    one : byte < 16 → IsKind forms.One byte ⊎ IsKind forms.Two byte ⊎ ((IsKind forms.One byte → ⊥) × (IsKind forms.Two byte → ⊥))
+    one low = elim (within_cases 1 7 byte) [
+      | inl h ↦ inl h
+      | inr h ↦ inr (inr (h, λ k. omega (arith, k.0, low)))
+    ]
+
+    two : 16 ≤ byte → IsKind forms.One byte ⊎ IsKind forms.Two byte ⊎ ((IsKind forms.One byte → ⊥) × (IsKind forms.Two byte → ⊥))
+    two high = elim (within_cases 17 23 byte) [
+      | inl h ↦ inr (inl h)
+      | inr h ↦ inr (inr (λ k. omega (arith, k.1, high), h))
+    ]
+
+-- the first fault in the form of the first byte is that in either form
+wire_fault : (at first : ℕ) (bytes : List ℕ) (f : WireFault) → (message (form_of first)).Fault at (first ∷ bytes) f → wire.Fault at (first ∷ bytes) f
+wire_fault at first bytes f h = elim (kind_cases first) [
+  | inl k ↦ inl (k, subst (λ (g : Form). (message g).Fault at (first ∷ bytes) f) (form_is forms.One first k) h)
+  | inr (inl k) ↦ inr (inl (k, subst (λ (g : Form). (message g).Fault at (first ∷ bytes) f) (form_is forms.Two first k) h))
+  | inr (inr k) ↦ inr (inr (k.0, k.1, only_kind (form_of first) at first bytes f (neither (form_of first) first k.0 k.1) h))
+]
+  where
+    only_kind : (form : Form) (at first : ℕ) (bytes : List ℕ) (f : WireFault) → (IsKind form first → ⊥) → (message form).Fault at (first ∷ bytes) f → f ≡ Kind at
+    only_kind form at first bytes f none (inl h) = absurd (none (omega (arith, h.0), omega (arith, h.0)))
+    only_kind form at first bytes f none (inr (inl h)) = absurd (none (omega (arith, h.0), omega (arith, h.0)))
+    only_kind form at first bytes f none (inr (inr (inl h))) = absurd (none (omega (arith, h.0), omega (arith, h.0)))
+    only_kind form at first bytes f none (inr (inr (inr (inl h)))) = absurd (none (omega (arith, h.0), omega (arith, h.0)))
+    only_kind form at first bytes f none (inr (inr (inr (inr (inl h))))) = absurd (none (omega (arith, h.0), omega (arith, h.0)))
+    only_kind form at first bytes f none (inr (inr (inr (inr (inr (inl h)))))) = absurd (none (omega (arith, h.0), omega (arith, h.0)))
+    only_kind form at first bytes f none (inr (inr (inr (inr (inr (inr (inl h))))))) = absurd (none (omega (arith, h.0), omega (arith, h.0)))
+    only_kind form at first bytes f none (inr (inr (inr (inr (inr (inr (inr h))))))) = h.1
+
+pub message_fails : (at : ℕ) (bytes : List ℕ) (f : WireFault) → IsBytes bytes → message_at (at, bytes) ≡ Err f → wire.Fault at bytes f
+unfolding message_at
+message_fails at [] f fits e = sym (err_is {A = Msg × Left} (Short at) f e)
+message_fails at (first ∷ bytes) f fits e = wire_fault at first bytes f ((message_read (form_of first)).fails at (first ∷ bytes) f fits (sym (in_form at first bytes) ∙ e))
+
+-- bytes that begin with no kind have this fault
+no_kind_fault : (form : Form) (at first : ℕ) (bytes : List ℕ) (f : WireFault) → (IsKind form first → ⊥) → f ≡ Kind at → (message form).Fault at (first ∷ bytes) f
+no_kind_fault form at first bytes f none same = inr (inr (inr (inr (inr (inr (inr (none, same)))))))
+
+pub message_failing : (at : ℕ) (bytes : List ℕ) (f : WireFault) → wire.Fault at bytes f → message_at (at, bytes) ≡ Err f
+unfolding message_at
+message_failing at [] f h = ap (λ (g : WireFault). failed g) (sym h)
+message_failing at (first ∷ bytes) f (inl h) = in_kind forms.One at first bytes h.0 ∙ (message_read forms.One).failing at (first ∷ bytes) f h.1
+message_failing at (first ∷ bytes) f (inr (inl h)) = in_kind forms.Two at first bytes h.0 ∙ (message_read forms.Two).failing at (first ∷ bytes) f h.1
+message_failing at (first ∷ bytes) f (inr (inr h)) =
+    in_form at first bytes
+    ∙ (message_read (form_of first)).failing at (first ∷ bytes) f (no_kind_fault (form_of first) at first bytes f (neither (form_of first) first h.0 h.1) h.2)

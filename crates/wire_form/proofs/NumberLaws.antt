@@ -1,5 +1,5 @@
--- What can be spelled, with numbers in the ranges of their types, is what the format has.
-use Rattle.std.proofs.Common.{ℕ, ◌^◌, ◌<◌, List, [], ◌∷◌, ◌++◌, arith}
+-- What can be spelled, with numbers in the ranges of their types and integers of the form's width, is what the format has.
+use Rattle.std.proofs.Common.{ℤ, ℕ, ◌^◌, ◌<◌, List, [], ◌∷◌, ◌++◌, arith}
 use Rattle.tree_node.specs.declared.names.VarName.{VarName}
 use Rattle.tree_node.specs.declared.node.Feature.{Feature}
 use Rattle.tree_node.specs.declared.node.Feature.TheVariants as features
@@ -12,10 +12,14 @@ use Rattle.tree_node.specs.Store.{Equation}
 use Rattle.site_message.specs.declared.message.Msg.{Msg}
 use Rattle.site_message.specs.declared.message.Msg.TheVariants as messages
 use Rattle.site_message.specs.Wire.{IsSite, FitsText, FitsFeature, FitsField, FitsVar, FitsVars, FitsTerm, FitsEquation, FitsBundle, FitsWire}
+use Rattle.std.specs.Prelude.{FitsSigned}
+use Rattle.wire_form.specs.declared.form.Form.{Form}
+use Rattle.wire_form.specs.declared.form.Form.TheVariants as forms
 use Rattle.wire_form.specs.Field.{EachBehind}
-use Rattle.wire_form.specs.Format.{site, name, var_name, text, feature, record_field, field_behind, variables, term, equation, equation_behind, bundle, message, IsFeatureBelow}
-use Rattle.wire_form.specs.Numbers.{HoldsVar, HoldsFeature, HoldsField, HoldsTerm, HoldsEquation, HoldsBundle, HoldsNumbers}
-use Rattle.wire_form.specs.Laws.{FormatIsWhatFits}
+use Rattle.wire_form.specs.Format.{width, site, name, var_name, text, feature, record_field, field_behind, variables, term, equation, equation_behind, bundle, message, IsFeatureBelow}
+use Rattle.wire_form.specs.Numbers.{HoldsVar, HoldsField, HoldsTerm, HoldsEquation, HoldsBundle, HoldsNumbers, EachInFeature, EachInField, EachInTerm, EachInEquation, EachInBundle, EachInMessage}
+use Rattle.wire_form.specs.Laws.{FormatIsWhatFits, TwoSpellsAll}
+use Rattle.wire_form.proofs.IntegerLaws.{message_more, wider}
 use Rattle.wire_form.proofs.FitsLaws.{each_item, fields_ordered, equations_ordered, message_fits}
 use Rattle.wire_form.proofs.WriteLaws.{fields_have, variables_have, bundle_has}
 use Rattle.tree_node.proofs.EnvLemmas.{each_more}
@@ -24,39 +28,71 @@ each_both : {X : Type 0} (P Q R : X → Type 0) → ((x : X) → P x → Q x →
 each_both P Q R go [] h k = tt
 each_both P Q R go (x ∷ xs) h k = (go x h.0 k.0, each_both P Q R go xs h.1 k.1)
 
--- ---- what the format has
+-- an integer of the form's width
+abbrev IsOfWidth : Form → ℤ → Type 0
+IsOfWidth form z = FitsSigned (width form) z
 
-feature_holds : (f : Feature) → feature.Has f → HoldsFeature f
-feature_holds (features.Int z) h = h
-feature_holds (features.Atom t) h = tt
+-- ---- what the format has
 
 each_var_holds : (front xs : List VarName) → EachBehind (λ f. var_name) front xs → Each HoldsVar xs
 each_var_holds front [] h = tt
 each_var_holds front (x ∷ xs) h = (h.0.1, each_var_holds (front ++ x ∷ []) xs h.1)
 
-term_holds : (t : Term) → term.Has t → HoldsTerm t
-term_holds (terms.Var x) h = h.1
-term_holds (terms.Node (nodes.Int z)) h = h
-term_holds (terms.Node (nodes.Atom t)) h = tt
-term_holds (terms.Node (nodes.Rec label fields)) h =
-    let items = each_item (λ x. record_field.Has x) (λ (x : Feature × VarName). x.0) IsFeatureBelow field_behind fields_ordered [] fields h.1.1 in
-    each_more (λ x. record_field.Has x) HoldsField fields (λ x k. (feature_holds x.0 k.0, k.1.1)) items
-term_holds (terms.Node (nodes.Proc p c n vars)) h = (h.0.1, h.1.0, each_var_holds [] vars h.1.1.1.1)
-term_holds (terms.Node (nodes.Cell c)) h = h.1
+each_field : (form : Form) (fields : List (Feature × VarName)) → EachBehind (field_behind form) [] fields → Each (λ x. (record_field form).Has x) fields
+each_field form fields h =
+    each_item (λ x. (record_field form).Has x) (λ (x : Feature × VarName). x.0) IsFeatureBelow (field_behind form) (fields_ordered form) [] fields h
 
-bundle_holds : (es : List Equation) → bundle.Has es → HoldsBundle es
-bundle_holds es h =
-    let items = each_item (λ e. equation.Has e) (λ (e : Equation). e.0) IsBelow equation_behind equations_ordered [] es h.1 in
-    each_more (λ e. equation.Has e) HoldsEquation es (λ e k. (k.0.1, term_holds e.1 k.1)) items
+each_equation : (form : Form) (es : List Equation) → EachBehind (equation_behind form) [] es → Each (λ e. (equation form).Has e) es
+each_equation form es h = each_item (λ e. (equation form).Has e) (λ (e : Equation). e.0) IsBelow (equation_behind form) (equations_ordered form) [] es h
 
-message_holds : (m : Msg) → message.Has m → HoldsNumbers m
-message_holds (messages.Spawn t c vars es) h = (h.0.1, h.1.0, each_var_holds [] vars h.1.1.0.1, bundle_holds es h.1.1.1)
-message_holds (messages.Register x asking) h = h.0.1
-message_holds (messages.BindReq x t u es) h = (h.0.1, h.1.0.1, term_holds u h.1.1.0, bundle_holds es h.1.1.1)
-message_holds (messages.Binding x u es) h = (h.0.1, term_holds u h.1.0, bundle_holds es h.1.1)
-message_holds (messages.Get c asking) h = h.0.1
-message_holds (messages.Forward c next) h = h.0.1
-message_holds (messages.Put c x es) h = (h.0.1, h.1.0.1, bundle_holds es h.1.1)
+term_holds : (form : Form) (t : Term) → (term form).Has t → HoldsTerm t
+term_holds form (terms.Var x) h = h.1
+term_holds form (terms.Node (nodes.Int z)) h = tt
+term_holds form (terms.Node (nodes.Atom t)) h = tt
+term_holds form (terms.Node (nodes.Rec label fields)) h =
+    each_more (λ x. (record_field form).Has x) HoldsField fields (λ x k. k.1.1) (each_field form fields h.1.1)
+term_holds form (terms.Node (nodes.Proc p c n vars)) h = (h.0.1, h.1.0, each_var_holds [] vars h.1.1.1.1)
+term_holds form (terms.Node (nodes.Cell c)) h = h.1
+
+bundle_holds : (form : Form) (es : List Equation) → (bundle form).Has es → HoldsBundle es
+bundle_holds form es h =
+    each_more (λ e. (equation form).Has e) HoldsEquation es (λ e k. (k.0.1, term_holds form e.1 k.1)) (each_equation form es h.1)
+
+message_holds : (form : Form) (m : Msg) → (message form).Has m → HoldsNumbers m
+message_holds form (messages.Spawn t c vars es) h = (h.0.1, h.1.0, each_var_holds [] vars h.1.1.0.1, bundle_holds form es h.1.1.1)
+message_holds form (messages.Register x asking) h = h.0.1
+message_holds form (messages.BindReq x t u es) h = (h.0.1, h.1.0.1, term_holds form u h.1.1.0, bundle_holds form es h.1.1.1)
+message_holds form (messages.Binding x u es) h = (h.0.1, term_holds form u h.1.0, bundle_holds form es h.1.1)
+message_holds form (messages.Get c asking) h = h.0.1
+message_holds form (messages.Forward c next) h = h.0.1
+message_holds form (messages.Put c x es) h = (h.0.1, h.1.0.1, bundle_holds form es h.1.1)
+
+-- its integers have the width of the form
+feature_wide : (form : Form) (f : Feature) → (feature form).Has f → EachInFeature (IsOfWidth form) f
+feature_wide form (features.Int z) h = h
+feature_wide form (features.Atom t) h = tt
+
+term_wide : (form : Form) (t : Term) → (term form).Has t → EachInTerm (IsOfWidth form) t
+term_wide form (terms.Var x) h = tt
+term_wide form (terms.Node (nodes.Int z)) h = h
+term_wide form (terms.Node (nodes.Atom t)) h = tt
+term_wide form (terms.Node (nodes.Rec label fields)) h =
+    each_more (λ x. (record_field form).Has x) (EachInField (IsOfWidth form)) fields (λ x k. feature_wide form x.0 k.0) (each_field form fields h.1.1)
+term_wide form (terms.Node (nodes.Proc p c n vars)) h = tt
+term_wide form (terms.Node (nodes.Cell c)) h = tt
+
+bundle_wide : (form : Form) (es : List Equation) → (bundle form).Has es → EachInBundle (IsOfWidth form) es
+bundle_wide form es h =
+    each_more (λ e. (equation form).Has e) (EachInEquation (IsOfWidth form)) es (λ e k. term_wide form e.1 k.1) (each_equation form es h.1)
+
+message_wide : (form : Form) (m : Msg) → (message form).Has m → EachInMessage (IsOfWidth form) m
+message_wide form (messages.Spawn t c vars es) h = bundle_wide form es h.1.1.1
+message_wide form (messages.Register x asking) h = tt
+message_wide form (messages.BindReq x t u es) h = (term_wide form u h.1.1.0, bundle_wide form es h.1.1.1)
+message_wide form (messages.Binding x u es) h = (term_wide form u h.1.0, bundle_wide form es h.1.1)
+message_wide form (messages.Get c asking) h = tt
+message_wide form (messages.Forward c next) h = tt
+message_wide form (messages.Put c x es) h = bundle_wide form es h.1.1
 
 -- ---- what can be spelled
 
@@ -72,37 +108,49 @@ var_has x h k = name_has x.site x.num h k
 text_has : (t : List ℕ) → FitsText t → text.Has t
 text_has t h = (omega (arith, h.0), h.1)
 
-feature_has : (f : Feature) → FitsFeature f → HoldsFeature f → feature.Has f
-feature_has (features.Int z) h k = k
-feature_has (features.Atom t) h k = text_has t h
+feature_has : (form : Form) (f : Feature) → FitsFeature f → EachInFeature (IsOfWidth form) f → (feature form).Has f
+feature_has form (features.Int z) h k = k
+feature_has form (features.Atom t) h k = text_has t h
 
 vars_have : (xs : List VarName) → FitsVars xs → Each HoldsVar xs → variables.Has xs
 vars_have xs h k = variables_have xs h (each_both FitsVar HoldsVar (λ x. var_name.Has x) var_has xs h.1 k)
 
-term_has : (t : Term) → FitsTerm t → HoldsTerm t → term.Has t
-term_has (terms.Var x) h k = var_has x h k
-term_has (terms.Node (nodes.Int z)) h k = k
-term_has (terms.Node (nodes.Atom t)) h k = text_has t h
-term_has (terms.Node (nodes.Rec label fields)) h k = (
+-- held, and of the form's width
+fields_both : (form : Form) (fields : List (Feature × VarName)) → Each HoldsField fields → Each (EachInField (IsOfWidth form)) fields → Each (λ x. HoldsField x × EachInField (IsOfWidth form) x) fields
+fields_both form fields k w = each_both HoldsField (EachInField (IsOfWidth form)) (λ x. HoldsField x × EachInField (IsOfWidth form) x) (λ x p q. (p, q)) fields k w
+
+term_has : (form : Form) (t : Term) → FitsTerm t → HoldsTerm t → EachInTerm (IsOfWidth form) t → (term form).Has t
+term_has form (terms.Var x) h k w = var_has x h k
+term_has form (terms.Node (nodes.Int z)) h k w = w
+term_has form (terms.Node (nodes.Atom t)) h k w = text_has t h
+term_has form (terms.Node (nodes.Rec label fields)) h k w = (
   text_has label h.0,
-  fields_have fields h.1 (each_both FitsField HoldsField (λ x. record_field.Has x) (λ x p q. (feature_has x.0 p.0 q.0, var_has x.1 p.1 q.1)) fields h.1.2 k),
+  fields_have form fields h.1 (each_both FitsField (λ x. HoldsField x × EachInField (IsOfWidth form) x) (λ x. (record_field form).Has x) (λ x p q. (feature_has form x.0 p.0 q.1, var_has x.1 p.1 q.0)) fields h.1.2 (fields_both form fields k w)),
 )
-term_has (terms.Node (nodes.Proc p c n vars)) h k =
+term_has form (terms.Node (nodes.Proc p c n vars)) h k w =
     (name_has p.site p.num h.0 k.0, (k.1, ((omega (arith, h.1), (omega arith, h.1)), vars_have vars h.2 k.2)))
-term_has (terms.Node (nodes.Cell c)) h k = name_has c.site c.num h k
+term_has form (terms.Node (nodes.Cell c)) h k w = name_has c.site c.num h k
 
-es_have : (es : List Equation) → FitsBundle es → HoldsBundle es → bundle.Has es
-es_have es h k =
-    bundle_has es h (each_both FitsEquation HoldsEquation (λ e. equation.Has e) (λ e p q. (var_has e.0 p.0 q.0, term_has e.1 p.1 q.1)) es h.1 k)
+equations_both : (form : Form) (es : List Equation) → HoldsBundle es → EachInBundle (IsOfWidth form) es → Each (λ e. HoldsEquation e × EachInEquation (IsOfWidth form) e) es
+equations_both form es k w = each_both HoldsEquation (EachInEquation (IsOfWidth form)) (λ e. HoldsEquation e × EachInEquation (IsOfWidth form) e) (λ e p q. (p, q)) es k w
 
-message_has : (m : Msg) → FitsWire m → HoldsNumbers m → message.Has m
-message_has (messages.Spawn t c vars es) h k = (name_has t.site t.num h.0 k.0, (k.1, (vars_have vars h.1 k.2, es_have es h.2 k.3)))
-message_has (messages.Register x asking) h k = (var_has x h.0 k, site_has asking h.1)
-message_has (messages.BindReq x t u es) h k = (var_has x h.0 k.0, (name_has t.site t.num h.1 k.1, (term_has u h.2 k.2, es_have es h.3 k.3)))
-message_has (messages.Binding x u es) h k = (var_has x h.0 k.0, (term_has u h.1 k.1, es_have es h.2 k.2))
-message_has (messages.Get c asking) h k = (name_has c.site c.num h.0 k, site_has asking h.1)
-message_has (messages.Forward c next) h k = (name_has c.site c.num h.0 k, site_has next h.1)
-message_has (messages.Put c x es) h k = (name_has c.site c.num h.0 k.0, (var_has x h.1 k.1, es_have es h.2 k.2))
+es_have : (form : Form) (es : List Equation) → FitsBundle es → HoldsBundle es → EachInBundle (IsOfWidth form) es → (bundle form).Has es
+es_have form es h k w =
+    bundle_has form es h (each_both FitsEquation (λ e. HoldsEquation e × EachInEquation (IsOfWidth form) e) (λ e. (equation form).Has e) (λ e p q. (var_has e.0 p.0 q.0.0, term_has form e.1 p.1 q.0.1 q.1)) es h.1 (equations_both form es k w))
+
+message_has : (form : Form) (m : Msg) → FitsWire m → HoldsNumbers m → EachInMessage (IsOfWidth form) m → (message form).Has m
+message_has form (messages.Spawn t c vars es) h k w = (name_has t.site t.num h.0 k.0, (k.1, (vars_have vars h.1 k.2, es_have form es h.2 k.3 w)))
+message_has form (messages.Register x asking) h k w = (var_has x h.0 k, site_has asking h.1)
+message_has form (messages.BindReq x t u es) h k w =
+    (var_has x h.0 k.0, (name_has t.site t.num h.1 k.1, (term_has form u h.2 k.2 w.0, es_have form es h.3 k.3 w.1)))
+message_has form (messages.Binding x u es) h k w = (var_has x h.0 k.0, (term_has form u h.1 k.1 w.0, es_have form es h.2 k.2 w.1))
+message_has form (messages.Get c asking) h k w = (name_has c.site c.num h.0 k, site_has asking h.1)
+message_has form (messages.Forward c next) h k w = (name_has c.site c.num h.0 k, site_has next h.1)
+message_has form (messages.Put c x es) h k w = (name_has c.site c.num h.0 k.0, (var_has x h.1 k.1, es_have form es h.2 k.2 w))
 
 pub format_is_what_fits : FormatIsWhatFits
-format_is_what_fits m = (λ h. (message_fits m h, message_holds m h), λ h. message_has m h.0 h.1)
+format_is_what_fits form m = (λ h. (message_fits form m h, message_holds form m h, message_wide form m h), λ h. message_has form m h.0 h.1 h.2)
+
+pub two_spells_all : TwoSpellsAll
+two_spells_all m h =
+    message_has forms.Two m (message_fits forms.One m h) (message_holds forms.One m h) (message_more (IsOfWidth forms.One) (IsOfWidth forms.Two) wider m (message_wide forms.One m h))

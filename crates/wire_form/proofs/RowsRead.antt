@@ -1,12 +1,17 @@
--- The worked faults, each by the values of the fields before it.
-use Rattle.std.proofs.Common.{ℕ, zero, suc, ◌<◌, get_or, [], ◌∷◌, ◌++◌, pos, refl, inl, inr, arith, IsUtf8, lit<, lit≤}
+-- The worked faults, each by the values of the fields before it, in both forms.
+use Rattle.std.specs.Prelude.{FitsSigned}
+use Rattle.std.proofs.Common.{ℕ, zero, suc, ◌≡◌, ◌+◌, ◌<◌, List, get_or, [], ◌∷◌, ◌++◌, pos, refl, inl, inr, arith, IsUtf8, lit<, lit≤}
 use Rattle.std.proofs.lemmas.Bool.{false≢true}
 use Rattle.std.proofs.lemmas.Str.{is_utf8-from_IsUtf8, IsUtf8-from_ascii}
 use Rattle.std.specs.Str.{is_utf8, chars}
 use Rattle.tree_node.specs.declared.node.Feature.TheVariants as features
 use Rattle.site_message.specs.declared.message.Msg.TheVariants as messages
-use Rattle.wire_form.specs.Format.{var_name, thread_name, text, IsWithin}
-use Rattle.wire_form.specs.Rows.{var, thread, name_bytes, first_field, second_field, NothingIsShort, OtherKindIsNone, CutIsShort, OtherSiteIsOut, MoreIsRest, OtherTextIsNone, ExchangedIsOutOfOrder}
+use Rattle.wire_form.specs.declared.form.Form.{Form}
+use Rattle.wire_form.specs.declared.form.Form.TheVariants as forms
+use Rattle.wire_form.specs.declared.fault.WireFault.{WireFault}
+use Rattle.wire_form.specs.declared.fault.WireFault.TheVariants.{Short, Kind, Range, Order, Utf8}
+use Rattle.wire_form.specs.Format.{lead, width, var_name, thread_name, text, feature, message, IsWithin, IsKind, IsFirstFault}
+use Rattle.wire_form.specs.Rows.{var, thread, name_bytes, eight_bytes, sixteen_bytes, atom_bytes, integer_message, record_bytes, first_field, second_field, NothingIsShort, OtherKindIsNone, CutIsShort, OtherSiteIsOut, MoreIsRest, OtherTextIsNone, ExchangedIsOutOfOrder, OtherWidthIsNone}
 
 has_one : var_name.Has (var 1 2)
 has_one = ((lit< tt, (lit≤ tt, lit≤ tt)), lit< tt)
@@ -41,56 +46,99 @@ no_text : IsUtf8 (255 ∷ []) → ⊥
 unfolding is_utf8 chars
 no_text u = false≢true (is_utf8-from_IsUtf8 (255 ∷ []) u)
 
+-- ---- in the form of the first byte
+
+in_one : {first : ℕ} {bytes : List ℕ} {f : WireFault} → IsKind forms.One first → (message forms.One).Fault 0 (first ∷ bytes) f → IsFirstFault (first ∷ bytes) f
+in_one k h = inl (inl (k, h))
+
+in_two : {first : ℕ} {bytes : List ℕ} {f : WireFault} → IsKind forms.Two first → (message forms.Two).Fault 0 (first ∷ bytes) f → IsFirstFault (first ∷ bytes) f
+in_two k h = inl (inr (inl (k, h)))
+
+in_none : (first : ℕ) → (IsKind forms.One first → ⊥) → (IsKind forms.Two first → ⊥) → IsFirstFault (first ∷ []) (Kind 0)
+in_none first one two = inl (inr (inr (one, two, refl)))
+
 pub nothing : NothingIsShort
 nothing = inl refl
 
 pub kind : OtherKindIsNone
-kind = inl (inr (inr (inr (inr (inr (inr (inr (inr (lit< tt), refl))))))))
+kind = (
+  in_none 0 (λ h. omega (arith, h.0)) (λ h. omega (arith, h.0)),
+  in_none 8 (λ h. omega (arith, h.1)) (λ h. omega (arith, h.0)),
+  in_none 16 (λ h. omega (arith, h.1)) (λ h. omega (arith, h.0)),
+  in_none 24 (λ h. omega (arith, h.1)) (λ h. omega (arith, h.1)),
+)
+
+cut_in : (form : Form) → (message form).Fault 0 ((lead form + 2) ∷ name_bytes 1 2) (Short 10)
+cut_in form = inr (inl (refl, inr (var 1 2, [], has_one, refl, inl (lit< tt, refl))))
 
 pub cut : CutIsShort
-cut = inl (inr (inl (refl, inr (var 1 2, [], has_one, refl, inl (lit< tt, refl)))))
+cut = (in_one (lit≤ tt, lit≤ tt) (cut_in forms.One), in_two (lit≤ tt, lit≤ tt) (cut_in forms.Two))
+
+site_in : (form : Form) → (message form).Fault 0 ((lead form + 2) ∷ name_bytes 1 2 ++ 65 ∷ []) (Range 10)
+site_in form = inr (inl (refl, inr (var 1 2, 65 ∷ [], has_one, refl, inr (65, [], lit< tt, refl, (no_site, refl)))))
 
 pub other_site : OtherSiteIsOut
-other_site = inl (inr (inl (refl, inr (var 1 2, 65 ∷ [], has_one, refl, inr (65, [], lit< tt, refl, (no_site, refl))))))
+other_site = (in_one (lit≤ tt, lit≤ tt) (site_in forms.One), in_two (lit≤ tt, lit≤ tt) (site_in forms.Two))
 
 pub more : MoreIsRest
-more = inr (messages.Register (var 1 2) 3, 0 ∷ [], (has_one, (lit< tt, (lit≤ tt, lit≤ tt))), refl, (λ e. omega (arith, e)), refl)
+more = (
+  inr (forms.One, messages.Register (var 1 2) 3, 0 ∷ [], (has_one, (lit< tt, (lit≤ tt, lit≤ tt))), refl, (λ e. omega (arith, e)), refl),
+  inr (forms.Two, messages.Register (var 1 2) 3, 0 ∷ [], (has_one, (lit< tt, (lit≤ tt, lit≤ tt))), refl, (λ e. omega (arith, e)), refl),
+)
+
+text_in : (form : Form) → (message form).Fault 0 (atom_bytes (lead form + 3) 255) (Utf8 21)
+text_in form =
+    inr (inr (inl (refl, inr (var 1 2, name_bytes 3 1 ++ 2 ∷ 1 ∷ 255 ∷ 0 ∷ 0 ∷ [], has_one, refl, inr (thread 3 1, 2 ∷ 1 ∷ 255 ∷ 0 ∷ 0 ∷ [], has_thread, refl, inl (inr (inr (inl (refl, inr (255 ∷ [], 0 ∷ 0 ∷ [], lit< tt, refl, (no_text, refl)))))))))))
 
 pub other_text : OtherTextIsNone
-other_text =
-    inl (inr (inr (inl (refl, inr (var 1 2, name_bytes 3 1 ++ 2 ∷ 1 ∷ 255 ∷ 0 ∷ 0 ∷ [], has_one, refl, inr (thread 3 1, 2 ∷ 1 ∷ 255 ∷ 0 ∷ 0 ∷ [], has_thread, refl, inl (inr (inr (inl (refl, inr (255 ∷ [], 0 ∷ 0 ∷ [], lit< tt, refl, (no_text, refl))))))))))))
+other_text = (in_one (lit≤ tt, lit≤ tt) (text_in forms.One), in_two (lit≤ tt, lit≤ tt) (text_in forms.Two))
 
-pub exchanged : ExchangedIsOutOfOrder
-exchanged =
-    inl (inr (inr (inr (inl (
+-- the field 1 behind the field a, whatever the width of its integer
+order_in : (form : Form) (field : List ℕ) → FitsSigned (width form) (pos 1)
+    → field ++ 0 ∷ 0 ∷ [] ≡ (feature form).spelling (features.Int (pos 1)) ++ (name_bytes 1 4 ++ 0 ∷ 0 ∷ [])
+    → (message form).Fault 0 (record_bytes (lead form + 4) second_field field) (Order 26)
+order_in form field fits spelled =
+    inr (inr (inr (inl (
       refl,
       inr (
         var 2 0,
-        3 ∷ 1 ∷ 102 ∷ 2 ∷ second_field ++ first_field ++ 0 ∷ 0 ∷ [],
+        3 ∷ 1 ∷ 102 ∷ 2 ∷ second_field ++ field ++ 0 ∷ 0 ∷ [],
         has_two,
         refl,
         inl (inr (inr (inr (inl (
           refl,
           inr (
             102 ∷ [],
-            2 ∷ second_field ++ first_field ++ 0 ∷ 0 ∷ [],
+            2 ∷ second_field ++ field ++ 0 ∷ 0 ∷ [],
             has_label,
             refl,
             inr (
               2,
-              second_field ++ first_field ++ 0 ∷ 0 ∷ [],
+              second_field ++ field ++ 0 ∷ 0 ∷ [],
               (lit< tt, (lit≤ tt, lit≤ tt)),
               refl,
               (
                 (features.Atom (97 ∷ []), var 1 5) ∷ [],
-                first_field ++ 0 ∷ 0 ∷ [],
+                field ++ 0 ∷ 0 ∷ [],
                 lit< tt,
                 (((has_feature, tt), has_field), tt),
                 refl,
-                inl (inr (features.Int (pos 1), name_bytes 1 4 ++ 0 ∷ 0 ∷ [], record { sfits = lit< tt }, refl, ((λ e. cc), refl))),
+                inl (inr (features.Int (pos 1), name_bytes 1 4 ++ 0 ∷ 0 ∷ [], fits, spelled, ((λ e. cc), refl))),
               ),
             ),
           ),
         ))))),
       ),
-    )))))
+    ))))
+
+pub exchanged : ExchangedIsOutOfOrder
+exchanged = (
+  in_one (lit≤ tt, lit≤ tt) (order_in forms.One (first_field (eight_bytes 0 1)) (record { sfits = lit< tt }) refl),
+  in_two (lit≤ tt, lit≤ tt) (order_in forms.Two (first_field (sixteen_bytes 0 1)) (record { sfits = lit< tt }) refl),
+)
+
+pub other_width : OtherWidthIsNone
+other_width = (
+  in_two (lit≤ tt, lit≤ tt) (inr (inr (inr (inl (refl, inr (var 1 2, 1 ∷ eight_bytes 0 5 ++ 0 ∷ 0 ∷ [], has_one, refl, inl (inr (inl (refl, (lit< tt, refl)))))))))),
+  inr (forms.One, integer_message (pos 0), 0 ∷ 0 ∷ 0 ∷ 0 ∷ 0 ∷ 5 ∷ 0 ∷ 0 ∷ [], (has_one, (record { sfits = lit< tt }, ((lit< tt, (lit≤ tt, lit≤ tt)), tt))), refl, (λ e. omega (arith, e)), refl),
+)

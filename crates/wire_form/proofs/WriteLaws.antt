@@ -1,6 +1,7 @@
 -- Items that a loop writes one after another, and lists of them that were written.
-use Rattle.std.proofs.Common.{◌≡◌, ℕ, zero, suc, ◌+◌, ◌<◌, ◌≤◌, List, [], ◌∷◌, ◌++◌, length, get_or, take, sym, ap, subst, ◌∙◌, append_assoc, arith, ◌%◌, Result, Ok, Err}
+use Rattle.std.proofs.Common.{◌≡◌, ℕ, zero, suc, ◌+◌, ◌<◌, ◌≤◌, List, [], ◌∷◌, ◌++◌, length, get_or, take, sym, ap, subst, ◌∙◌, append_assoc, arith, ◌%◌, Result, Ok, Err, cond}
 use Rattle.std.specs.Prelude.{OnOk}
+use Rattle.std.specs.Result.{is_ok}
 use Rattle.std.specs.Int.{w8, to_be_bytes}
 use Rattle.std.specs.List.{flat_map}
 use Rattle.std.proofs.lemmas.List.{append-nil, take_more, take_all, flat_map_more}
@@ -11,6 +12,7 @@ use Rattle.tree_node.specs.Order.{IsBelow}
 use Rattle.tree_node.specs.Store.{Equation}
 use Rattle.site_message.specs.Wire.{FitsFields, FitsVars, FitsBundle}
 use Rattle.site_message.proofs.RiseLemmas.{fields_rise, names_rise}
+use Rattle.wire_form.specs.declared.form.Form.{Form}
 use Rattle.wire_form.specs.Field.{Field, EachBehind, ◌then◌}
 use Rattle.wire_form.specs.Writing.{IsWritten}
 use Rattle.wire_form.specs.Format.{var_name, record_field, field_behind, record_fields, variables, formals, equation, equation_behind, bundle, IsFeatureBelow}
@@ -51,10 +53,10 @@ writing_all F start xs i out le w =
 
 -- ---- lists behind a count
 
-pub fields_have : (fs : List (Feature × VarName)) → FitsFields fs → Each (λ x. record_field.Has x) fs → record_fields.Has fs
-fields_have fs fits each = (
+pub fields_have : (form : Form) (fs : List (Feature × VarName)) → FitsFields fs → Each (λ x. (record_field form).Has x) fs → (record_fields form).Has fs
+fields_have form fs fits each = (
   (omega (arith, fits.1), (fits.0, fits.1)),
-  behind_of (λ x. record_field.Has x) (λ (x : Feature × VarName). x.0) IsFeatureBelow field_behind fields_ordered fs each ((fields_rise fs).0 fits.3),
+  behind_of (λ x. (record_field form).Has x) (λ (x : Feature × VarName). x.0) IsFeatureBelow (field_behind form) (fields_ordered form) fs each ((fields_rise fs).0 fits.3),
 )
 
 each_var : (front xs : List VarName) → Each (λ x. var_name.Has x) xs → EachBehind (λ f. var_name) front xs
@@ -64,10 +66,10 @@ each_var front (x ∷ xs) h = (h.0, each_var (front ++ x ∷ []) xs h.1)
 pub variables_have : (xs : List VarName) → FitsVars xs → Each (λ x. var_name.Has x) xs → variables.Has xs
 variables_have xs fits each = (omega (arith, fits.0), each_var [] xs each)
 
-pub bundle_has : (es : List Equation) → FitsBundle es → Each (λ e. equation.Has e) es → bundle.Has es
-bundle_has es fits each = (
+pub bundle_has : (form : Form) (es : List Equation) → FitsBundle es → Each (λ e. (equation form).Has e) es → (bundle form).Has es
+bundle_has form es fits each = (
   (omega (arith, fits.0), (omega arith, fits.0)),
-  behind_of (λ e. equation.Has e) (λ (e : Equation). e.0) IsBelow equation_behind equations_ordered es each ((names_rise es).0 fits.2),
+  behind_of (λ e. (equation form).Has e) (λ (e : Equation). e.0) IsBelow (equation_behind form) (equations_ordered form) es each ((names_rise es).0 fits.2),
 )
 
 -- ---- one part after another
@@ -83,6 +85,12 @@ pub writes_then : {X Y U E : Type 0} (F : Field X) (G : Field Y) (x : X) (y : Y)
 writes_then F G x y old mid new (Ok u) one h =
     ((one.0, h.0), h.1 ∙ ap (λ (z : List ℕ). z ++ G.spelling y) one.1 ∙ append_assoc old (F.spelling x) (G.spelling y))
 writes_then F G x y old mid new (Err e) one h = tt
+
+-- all bytes at once
+pub writes_bytes : {X A E : Type 0} (F : Field X) (x : X) (old new bytes : List ℕ) (r : Result A E) → F.Has x → new ≡ cond (is_ok r) (old ++ bytes) old → bytes ≡ F.spelling x
+    → IsWritten F x old new r
+writes_bytes F x old new bytes (Ok a) has put spelled = (has, put ∙ ap (λ (z : List ℕ). old ++ z) spelled)
+writes_bytes F x old new bytes (Err d) has put spelled = tt
 
 -- ---- numbers of one and two bytes
 

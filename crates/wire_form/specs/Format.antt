@@ -1,6 +1,7 @@
--- Wire form 1: the one spelling of each message between sites, as a grammar of fields.
+-- The wire forms: the one spelling of each message between sites in form 1, and the one in form 2, as a grammar of fields
+-- that has the form as a parameter.
 use Rattle.std.specs.Prelude.{◌≡◌, ℕ, ◌+◌, ◌≤◌, List, [], ◌∷◌, ◌++◌, ◌⊎◌, length, ℤ, IsUtf8, ◌<◌}
-use Rattle.std.specs.Int.{w8, w16, w32, w64}
+use Rattle.std.specs.Int.{Width, w8, w16, w32, w64, w128}
 use Rattle.std.specs.declared.cmp.Ordering.TheVariants.{Less}
 use Rattle.tree_node.specs.declared.names.VarName.{VarName}
 use Rattle.tree_node.specs.declared.names.CellName.{CellName}
@@ -17,9 +18,21 @@ use Rattle.tree_node.specs.Order.{IsBelow}
 use Rattle.tree_node.specs.Store.{Equation}
 use Rattle.site_message.specs.declared.message.Msg.{Msg}
 use Rattle.site_message.specs.declared.message.Msg.TheVariants as messages
+use Rattle.wire_form.specs.declared.form.Form.{Form}
+use Rattle.wire_form.specs.declared.form.Form.TheVariants as forms
 use Rattle.wire_form.specs.declared.fault.WireFault.{WireFault}
 use Rattle.wire_form.specs.declared.fault.WireFault.TheVariants.{Short, Kind, Range, Order, Utf8, Rest}
 use Rattle.wire_form.specs.Field.{Faults, Field, number, signed_number, short_bytes, restriction, ◌then◌, part_field, list_behind, IsAbove}
+
+-- the width of an integer: 64 bits in form 1, and 128 in form 2
+abbrev pub width : Form → Width
+width forms.One = w64
+width forms.Two = w128
+
+-- what is added to the number of a kind of message: nothing in form 1, and 16 in form 2
+abbrev pub lead : Form → ℕ
+lead forms.One = 0
+lead forms.Two = 16
 
 -- the number is from the least to the most
 abbrev pub IsWithin : ℕ → ℕ → ℕ → Type 0
@@ -54,48 +67,48 @@ thread_name = part_field (λ (x : ThreadName). (x.site, x.num)) name
 abbrev pub code : Field CodeId
 code = part_field (λ (c : CodeId). c.0) (number w32)
 
--- an integer is eight bytes
-abbrev pub integer : Field ℤ
-integer = signed_number w64
+-- an integer is eight bytes in form 1, and sixteen in form 2
+abbrev pub integer : Form → Field ℤ
+integer form = signed_number (width form)
 
 -- a text is a byte of length and that many bytes of UTF-8. The place of what is none is that of its first byte
 abbrev pub text : Field (List ℕ)
 text = restriction IsUtf8 (λ at. Utf8 (at + 1)) short_bytes
 
 -- a byte 00 and an integer, or 01 and a text
-abbrev pub feature : Field Feature
-feature = record { Has = feature_has; spelling = feature_spell; Fault = feature_fault }
+abbrev pub feature : Form → Field Feature
+feature form = record { Has = feature_has; spelling = feature_spell; Fault = feature_fault }
   where
     feature_has : Feature → Type 0
-    feature_has (features.Int z) = integer.Has z
+    feature_has (features.Int z) = (integer form).Has z
     feature_has (features.Atom t) = text.Has t
 
     feature_spell : Feature → List ℕ
-    feature_spell (features.Int z) = 0 ∷ integer.spelling z
+    feature_spell (features.Int z) = 0 ∷ (integer form).spelling z
     feature_spell (features.Atom t) = 1 ∷ text.spelling t
 
     feature_fault : Faults
     feature_fault at [] f = f ≡ Short at
     feature_fault at (tag ∷ bytes) f =
-        ((tag ≡ 0) × integer.Fault (at + 1) bytes f)
+        ((tag ≡ 0) × (integer form).Fault (at + 1) bytes f)
         ⊎ ((tag ≡ 1) × text.Fault (at + 1) bytes f)
         ⊎ ((1 < tag) × (f ≡ Kind at))
 
 -- a field of a record: a feature, above the one of the field before, and a variable
-abbrev pub record_field : Field (Feature × VarName)
-record_field = feature then var_name
+abbrev pub record_field : Form → Field (Feature × VarName)
+record_field form = feature form then var_name
 
 -- the one feature is before the other in the order of features
 abbrev pub IsFeatureBelow : Feature → Feature → Type 0
 IsFeatureBelow a b = feature_cmp a b ≡ Less
 
 -- a field behind these others: its feature is above that of the last one, if there is one
-abbrev pub field_behind : List (Feature × VarName) → Field (Feature × VarName)
-field_behind front = restriction (IsAbove (λ (x : Feature × VarName). x.0) IsFeatureBelow front) Order feature then var_name
+abbrev pub field_behind : Form → List (Feature × VarName) → Field (Feature × VarName)
+field_behind form front = restriction (IsAbove (λ (x : Feature × VarName). x.0) IsFeatureBelow front) Order (feature form) then var_name
 
 -- a byte of count, 1 to 64, and the fields, whose features ascend
-abbrev pub record_fields : Field (List (Feature × VarName))
-record_fields = list_behind (within 1 64 (number w8)) record_field field_behind
+abbrev pub record_fields : Form → Field (List (Feature × VarName))
+record_fields form = list_behind (within 1 64 (number w8)) (record_field form) (field_behind form)
 
 -- a count of two bytes and that many names
 abbrev pub variables : Field (List VarName)
@@ -106,30 +119,30 @@ abbrev pub formals : Field ℕ
 formals = within 0 64 (number w8)
 
 -- a label and fields
-abbrev pub tree : Field (List ℕ × List (Feature × VarName))
-tree = text then record_fields
+abbrev pub tree : Form → Field (List ℕ × List (Feature × VarName))
+tree form = text then record_fields form
 
 -- a name, a code, the number of formals, and the variables at the free positions
 abbrev pub procedure : Field (ProcName × (CodeId × (ℕ × List VarName)))
 procedure = proc_name then code then formals then variables
 
 -- a byte 00 and a name, 01 and an integer, 02 and a text, 03 and a record, 04 and a procedure, or 05 and a cell
-abbrev pub term : Field Term
-term = record { Has = term_has; spelling = term_spell; Fault = term_fault }
+abbrev pub term : Form → Field Term
+term form = record { Has = term_has; spelling = term_spell; Fault = term_fault }
   where
     term_has : Term → Type 0
     term_has (terms.Var x) = var_name.Has x
-    term_has (terms.Node (nodes.Int z)) = integer.Has z
+    term_has (terms.Node (nodes.Int z)) = (integer form).Has z
     term_has (terms.Node (nodes.Atom t)) = text.Has t
-    term_has (terms.Node (nodes.Rec label fields)) = tree.Has (label, fields)
+    term_has (terms.Node (nodes.Rec label fields)) = (tree form).Has (label, fields)
     term_has (terms.Node (nodes.Proc p c n vars)) = procedure.Has (p, (c, (n, vars)))
     term_has (terms.Node (nodes.Cell c)) = cell_name.Has c
 
     term_spell : Term → List ℕ
     term_spell (terms.Var x) = 0 ∷ var_name.spelling x
-    term_spell (terms.Node (nodes.Int z)) = 1 ∷ integer.spelling z
+    term_spell (terms.Node (nodes.Int z)) = 1 ∷ (integer form).spelling z
     term_spell (terms.Node (nodes.Atom t)) = 2 ∷ text.spelling t
-    term_spell (terms.Node (nodes.Rec label fields)) = 3 ∷ tree.spelling (label, fields)
+    term_spell (terms.Node (nodes.Rec label fields)) = 3 ∷ (tree form).spelling (label, fields)
     term_spell (terms.Node (nodes.Proc p c n vars)) = 4 ∷ procedure.spelling (p, (c, (n, vars)))
     term_spell (terms.Node (nodes.Cell c)) = 5 ∷ cell_name.spelling c
 
@@ -137,88 +150,103 @@ term = record { Has = term_has; spelling = term_spell; Fault = term_fault }
     term_fault at [] f = f ≡ Short at
     term_fault at (tag ∷ bytes) f =
         ((tag ≡ 0) × var_name.Fault (at + 1) bytes f)
-        ⊎ ((tag ≡ 1) × integer.Fault (at + 1) bytes f)
+        ⊎ ((tag ≡ 1) × (integer form).Fault (at + 1) bytes f)
         ⊎ ((tag ≡ 2) × text.Fault (at + 1) bytes f)
-        ⊎ ((tag ≡ 3) × tree.Fault (at + 1) bytes f)
+        ⊎ ((tag ≡ 3) × (tree form).Fault (at + 1) bytes f)
         ⊎ ((tag ≡ 4) × procedure.Fault (at + 1) bytes f)
         ⊎ ((tag ≡ 5) × cell_name.Fault (at + 1) bytes f)
         ⊎ ((5 < tag) × (f ≡ Kind at))
 
 -- an equation of a bundle: a name, above the one of the equation before, and a term
-abbrev pub equation : Field Equation
-equation = var_name then term
+abbrev pub equation : Form → Field Equation
+equation form = var_name then term form
 
 -- an equation behind these others: its variable is above that of the last one, if there is one
-abbrev pub equation_behind : List Equation → Field Equation
-equation_behind front = restriction (IsAbove (λ (e : Equation). e.0) IsBelow front) Order var_name then term
+abbrev pub equation_behind : Form → List Equation → Field Equation
+equation_behind form front = restriction (IsAbove (λ (e : Equation). e.0) IsBelow front) Order var_name then term form
 
 -- a count of two bytes, at most 256, and the equations, whose names ascend
-abbrev pub bundle : Field (List Equation)
-bundle = list_behind (within 0 256 (number w16)) equation equation_behind
+abbrev pub bundle : Form → Field (List Equation)
+bundle form = list_behind (within 0 256 (number w16)) (equation form) (equation_behind form)
 
 -- what follows the byte of kind, for each kind of message
-abbrev pub spawn : Field (ThreadName × (CodeId × (List VarName × List Equation)))
-spawn = thread_name then code then variables then bundle
+abbrev pub spawn : Form → Field (ThreadName × (CodeId × (List VarName × List Equation)))
+spawn form = thread_name then code then variables then bundle form
 
 abbrev pub register : Field (VarName × ℕ)
 register = var_name then site
 
-abbrev pub bind_request : Field (VarName × (ThreadName × (Term × List Equation)))
-bind_request = var_name then thread_name then term then bundle
+abbrev pub bind_request : Form → Field (VarName × (ThreadName × (Term × List Equation)))
+bind_request form = var_name then thread_name then term form then bundle form
 
-abbrev pub binding : Field (VarName × (Term × List Equation))
-binding = var_name then term then bundle
+abbrev pub binding : Form → Field (VarName × (Term × List Equation))
+binding form = var_name then term form then bundle form
 
 abbrev pub get_or_forward : Field (CellName × ℕ)
 get_or_forward = cell_name then site
 
-abbrev pub put : Field (CellName × (VarName × List Equation))
-put = cell_name then var_name then bundle
+abbrev pub put : Form → Field (CellName × (VarName × List Equation))
+put form = cell_name then var_name then bundle form
 
--- a byte of kind, 01 to 07, and what follows it
-abbrev pub message : Field Msg
-message = record { Has = message_has; spelling = message_spell; Fault = message_fault }
+-- the byte is the kind of a message in the form: 01 to 07 in form 1, and 11 to 17, hexadecimal, in form 2
+abbrev pub IsKind : Form → ℕ → Type 0
+IsKind form byte = IsWithin (lead form + 1) (lead form + 7) byte
+
+-- a byte of kind, and what follows it
+abbrev pub message : Form → Field Msg
+message form = record { Has = message_has; spelling = message_spell; Fault = message_fault }
   where
     message_has : Msg → Type 0
-    message_has (messages.Spawn t c vars es) = spawn.Has (t, (c, (vars, es)))
+    message_has (messages.Spawn t c vars es) = (spawn form).Has (t, (c, (vars, es)))
     message_has (messages.Register x asking) = register.Has (x, asking)
-    message_has (messages.BindReq x t u es) = bind_request.Has (x, (t, (u, es)))
-    message_has (messages.Binding x u es) = binding.Has (x, (u, es))
+    message_has (messages.BindReq x t u es) = (bind_request form).Has (x, (t, (u, es)))
+    message_has (messages.Binding x u es) = (binding form).Has (x, (u, es))
     message_has (messages.Get c asking) = get_or_forward.Has (c, asking)
     message_has (messages.Forward c next) = get_or_forward.Has (c, next)
-    message_has (messages.Put c x es) = put.Has (c, (x, es))
+    message_has (messages.Put c x es) = (put form).Has (c, (x, es))
 
     message_spell : Msg → List ℕ
-    message_spell (messages.Spawn t c vars es) = 1 ∷ spawn.spelling (t, (c, (vars, es)))
-    message_spell (messages.Register x asking) = 2 ∷ register.spelling (x, asking)
-    message_spell (messages.BindReq x t u es) = 3 ∷ bind_request.spelling (x, (t, (u, es)))
-    message_spell (messages.Binding x u es) = 4 ∷ binding.spelling (x, (u, es))
-    message_spell (messages.Get c asking) = 5 ∷ get_or_forward.spelling (c, asking)
-    message_spell (messages.Forward c next) = 6 ∷ get_or_forward.spelling (c, next)
-    message_spell (messages.Put c x es) = 7 ∷ put.spelling (c, (x, es))
+    message_spell (messages.Spawn t c vars es) = (lead form + 1) ∷ (spawn form).spelling (t, (c, (vars, es)))
+    message_spell (messages.Register x asking) = (lead form + 2) ∷ register.spelling (x, asking)
+    message_spell (messages.BindReq x t u es) = (lead form + 3) ∷ (bind_request form).spelling (x, (t, (u, es)))
+    message_spell (messages.Binding x u es) = (lead form + 4) ∷ (binding form).spelling (x, (u, es))
+    message_spell (messages.Get c asking) = (lead form + 5) ∷ get_or_forward.spelling (c, asking)
+    message_spell (messages.Forward c next) = (lead form + 6) ∷ get_or_forward.spelling (c, next)
+    message_spell (messages.Put c x es) = (lead form + 7) ∷ (put form).spelling (c, (x, es))
 
     message_fault : Faults
     message_fault at [] f = f ≡ Short at
     message_fault at (kind ∷ bytes) f =
-        ((kind ≡ 1) × spawn.Fault (at + 1) bytes f)
-        ⊎ ((kind ≡ 2) × register.Fault (at + 1) bytes f)
-        ⊎ ((kind ≡ 3) × bind_request.Fault (at + 1) bytes f)
-        ⊎ ((kind ≡ 4) × binding.Fault (at + 1) bytes f)
-        ⊎ ((kind ≡ 5) × get_or_forward.Fault (at + 1) bytes f)
-        ⊎ ((kind ≡ 6) × get_or_forward.Fault (at + 1) bytes f)
-        ⊎ ((kind ≡ 7) × put.Fault (at + 1) bytes f)
-        ⊎ (((kind ≡ 0) ⊎ (7 < kind)) × (f ≡ Kind at))
+        ((kind ≡ lead form + 1) × (spawn form).Fault (at + 1) bytes f)
+        ⊎ ((kind ≡ lead form + 2) × register.Fault (at + 1) bytes f)
+        ⊎ ((kind ≡ lead form + 3) × (bind_request form).Fault (at + 1) bytes f)
+        ⊎ ((kind ≡ lead form + 4) × (binding form).Fault (at + 1) bytes f)
+        ⊎ ((kind ≡ lead form + 5) × get_or_forward.Fault (at + 1) bytes f)
+        ⊎ ((kind ≡ lead form + 6) × get_or_forward.Fault (at + 1) bytes f)
+        ⊎ ((kind ≡ lead form + 7) × (put form).Fault (at + 1) bytes f)
+        ⊎ ((IsKind form kind → ⊥) × (f ≡ Kind at))
 
--- the one spelling of a message
-abbrev pub spelling : Msg → List ℕ
-spelling m = message.spelling m
+-- a message in one of the forms, which its first byte tells. A byte that is a kind of neither is no kind
+abbrev pub wire : Field (Form × Msg)
+wire = record { Has = λ x. (message x.0).Has x.1; spelling = λ x. (message x.0).spelling x.1; Fault = wire_fault }
+  where
+    wire_fault : Faults
+    wire_fault at [] f = f ≡ Short at
+    wire_fault at (kind ∷ bytes) f =
+        (IsKind forms.One kind × (message forms.One).Fault at (kind ∷ bytes) f)
+        ⊎ (IsKind forms.Two kind × (message forms.Two).Fault at (kind ∷ bytes) f)
+        ⊎ ((IsKind forms.One kind → ⊥) × (IsKind forms.Two kind → ⊥) × (f ≡ Kind at))
 
--- the bytes are the spelling of the message, whose numbers, lengths and orders are those of the format
-abbrev pub IsSpelling : List ℕ → Msg → Type 0
-IsSpelling bytes m = message.Has m × (bytes ≡ spelling m)
+-- the one spelling of a message in a form
+abbrev pub spelling : Form → Msg → List ℕ
+spelling form m = (message form).spelling m
 
--- the first fault of bytes that spell no message: that of a message's fields, or else more bytes than a message's
+-- the bytes are the spelling of the message in the form, and its numbers, lengths and orders are those of the format
+abbrev pub IsSpelling : Form → List ℕ → Msg → Type 0
+IsSpelling form bytes m = (message form).Has m × (bytes ≡ spelling form m)
+
+-- the first fault of bytes that spell no message in either form: that of a message's fields, or else more bytes than a message's
 abbrev pub IsFirstFault : List ℕ → WireFault → Type 0
 IsFirstFault bytes f =
-    message.Fault 0 bytes f
-    ⊎ ((m : Msg) × (rest : List ℕ) × message.Has m × (bytes ≡ spelling m ++ rest) × (length rest ≡ 0 → ⊥) × (f ≡ Rest (length (spelling m))))
+    wire.Fault 0 bytes f
+    ⊎ ((form : Form) × (m : Msg) × (rest : List ℕ) × (message form).Has m × (bytes ≡ spelling form m ++ rest) × (length rest ≡ 0 → ⊥) × (f ≡ Rest (length (spelling form m))))

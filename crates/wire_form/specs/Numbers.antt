@@ -1,5 +1,5 @@
--- The numbers of a message stand in the types that hold them.
-use Rattle.std.specs.Prelude.{ℕ, ◌<◌, ◌^◌, List, FitsSigned}
+-- What the types of the numbers in a message hold by themselves, and its integers.
+use Rattle.std.specs.Prelude.{ℕ, ◌<◌, ◌^◌, List, ℤ, FitsSigned}
 use Rattle.std.specs.Int.{w64}
 use Rattle.tree_node.specs.declared.names.VarName.{VarName}
 use Rattle.tree_node.specs.declared.node.Feature.{Feature}
@@ -11,6 +11,8 @@ use Rattle.tree_node.specs.Each.{Each}
 use Rattle.tree_node.specs.Store.{Equation}
 use Rattle.site_message.specs.declared.message.Msg.{Msg}
 use Rattle.site_message.specs.declared.message.Msg.TheVariants as messages
+use Rattle.wire_form.specs.declared.form.Form.{Form}
+use Rattle.wire_form.specs.declared.form.Form.TheVariants as forms
 
 -- a number that a word of 64 bits holds
 abbrev pub HoldsName : ℕ → Type 0
@@ -20,19 +22,14 @@ HoldsName num = num < 2 ^ 64
 abbrev pub HoldsVar : VarName → Type 0
 HoldsVar x = HoldsName x.num
 
--- an integer has 64 bits
-abbrev pub HoldsFeature : Feature → Type 0
-HoldsFeature (features.Int z) = FitsSigned w64 z
-HoldsFeature (features.Atom t) = Unit {0}
-
--- feature and variable are held so
+-- the variable of the field is held so
 abbrev pub HoldsField : Feature × VarName → Type 0
-HoldsField field = HoldsFeature field.0 × HoldsVar field.1
+HoldsField field = HoldsVar field.1
 
--- names and integers in the term have 64 bits, and the number of a code has 32
+-- names in the term have 64 bits, and the number of a code has 32
 abbrev pub HoldsTerm : Term → Type 0
 HoldsTerm (terms.Var x) = HoldsVar x
-HoldsTerm (terms.Node (nodes.Int z)) = FitsSigned w64 z
+HoldsTerm (terms.Node (nodes.Int z)) = Unit {0}
 HoldsTerm (terms.Node (nodes.Atom t)) = Unit {0}
 HoldsTerm (terms.Node (nodes.Rec label fields)) = Each HoldsField fields
 HoldsTerm (terms.Node (nodes.Proc p c n vars)) = HoldsName p.num × (c.0 < 2 ^ 32) × Each HoldsVar vars
@@ -46,7 +43,7 @@ HoldsEquation e = HoldsVar e.0 × HoldsTerm e.1
 abbrev pub HoldsBundle : List Equation → Type 0
 HoldsBundle es = Each HoldsEquation es
 
--- the numbers of names are below 2 ^ 64, those of codes below 2 ^ 32, and integers have 64 bits
+-- the numbers of names are below 2 ^ 64, and those of codes below 2 ^ 32
 abbrev pub HoldsNumbers : Msg → Type 0
 HoldsNumbers (messages.Spawn t c vars es) = HoldsName t.num × (c.0 < 2 ^ 32) × Each HoldsVar vars × HoldsBundle es
 HoldsNumbers (messages.Register x asking) = HoldsVar x
@@ -55,3 +52,52 @@ HoldsNumbers (messages.Binding x u es) = HoldsVar x × HoldsTerm u × HoldsBundl
 HoldsNumbers (messages.Get c asking) = HoldsName c.num
 HoldsNumbers (messages.Forward c next) = HoldsName c.num
 HoldsNumbers (messages.Put c x es) = HoldsName c.num × HoldsVar x × HoldsBundle es
+
+-- the feature, if it is an integer, has the property
+abbrev pub EachInFeature : (ℤ → Type 0) → Feature → Type 0
+EachInFeature P (features.Int z) = P z
+EachInFeature P (features.Atom t) = Unit {0}
+
+-- so has that of the field
+abbrev pub EachInField : (ℤ → Type 0) → Feature × VarName → Type 0
+EachInField P field = EachInFeature P field.0
+
+-- each integer of the term, features included, has the property
+abbrev pub EachInTerm : (ℤ → Type 0) → Term → Type 0
+EachInTerm P (terms.Var x) = Unit {0}
+EachInTerm P (terms.Node (nodes.Int z)) = P z
+EachInTerm P (terms.Node (nodes.Atom t)) = Unit {0}
+EachInTerm P (terms.Node (nodes.Rec label fields)) = Each (EachInField P) fields
+EachInTerm P (terms.Node (nodes.Proc p c n vars)) = Unit {0}
+EachInTerm P (terms.Node (nodes.Cell c)) = Unit {0}
+
+-- each integer of the equation's term has it
+abbrev pub EachInEquation : (ℤ → Type 0) → Equation → Type 0
+EachInEquation P e = EachInTerm P e.1
+
+-- each integer of the bundle has it
+abbrev pub EachInBundle : (ℤ → Type 0) → List Equation → Type 0
+EachInBundle P es = Each (EachInEquation P) es
+
+-- each integer of the message, features included, has it
+abbrev pub EachInMessage : (ℤ → Type 0) → Msg → Type 0
+EachInMessage P (messages.Spawn t c vars es) = EachInBundle P es
+EachInMessage P (messages.Register x asking) = Unit {0}
+EachInMessage P (messages.BindReq x t u es) = EachInTerm P u × EachInBundle P es
+EachInMessage P (messages.Binding x u es) = EachInTerm P u × EachInBundle P es
+EachInMessage P (messages.Get c asking) = Unit {0}
+EachInMessage P (messages.Forward c next) = Unit {0}
+EachInMessage P (messages.Put c x es) = EachInBundle P es
+
+-- an integer of 64 bits
+abbrev pub IsWord : ℤ → Type 0
+IsWord z = FitsSigned w64 z
+
+-- each integer of the message, features included, has 64 bits
+abbrev pub FitsWords : Msg → Type 0
+FitsWords m = EachInMessage IsWord m
+
+-- the form has room for an integer of 128 bits: form 1 where it has 64, form 2 always
+abbrev pub HasRoom : Form → ℤ → Type 0
+HasRoom forms.One z = IsWord z
+HasRoom forms.Two z = Unit {0}

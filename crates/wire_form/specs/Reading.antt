@@ -1,6 +1,6 @@
 -- Reading from left to right, as functions on lists: what the decoder's parts give, for the proof that they give what the
 -- format says.
-use Rattle.std.specs.Prelude.{◌≡◌, ℕ, zero, suc, ◌+◌, ◌⊎◌, ◌&&◌, List, [], ◌∷◌, ◌++◌, length, take, drop, ℤ, Bool, true, Result, Ok, Err, nat_lt, nat_le, ◌==◌, if◌then◌else◌}
+use Rattle.std.specs.Prelude.{◌≡◌, ℕ, zero, suc, ◌+◌, ◌⊎◌, ◌&&◌, List, [], ◌∷◌, ◌++◌, length, take, drop, ℤ, Bool, true, Result, Ok, Err, nat_lt, nat_le, ◌-◌, ◌==◌, if◌then◌else◌}
 use Rattle.std.specs.Int.{Width, w16, w32, w64, byte_len, from_be_bytes, cast_signed}
 use Rattle.std.specs.Str.{is_utf8}
 use Rattle.std.specs.Ordering.{is_lt}
@@ -18,8 +18,11 @@ use Rattle.tree_node.specs.Node.{feature_cmp}
 use Rattle.tree_node.specs.Store.{Equation}
 use Rattle.site_message.specs.declared.message.Msg.{Msg}
 use Rattle.site_message.specs.declared.message.Msg.TheVariants as messages
+use Rattle.wire_form.specs.declared.form.Form.{Form}
+use Rattle.wire_form.specs.declared.form.Form.TheVariants as forms
 use Rattle.wire_form.specs.declared.fault.WireFault.{WireFault}
 use Rattle.wire_form.specs.declared.fault.WireFault.TheVariants.{Short, Kind, Range, Order, Utf8, Rest, Memory}
+use Rattle.wire_form.specs.Format.{width, lead}
 
 -- a place, and the bytes from it to the end
 abbrev pub Left : Type 0
@@ -70,12 +73,15 @@ filter_at test fault R l = do
   r ← R l
   if test r.0 then Ok r else Err (fault l.0)
 
--- a number of this width, its highest byte first; and an integer of eight bytes, in two's complement
+-- a number of this width, its highest byte first; and an integer of the form's width, in two's complement
 unfoldable pub number_at : Width → Left → Read ℕ
 number_at w = map_at (from_be_bytes w) (bytes_at (byte_len w))
 
-unfoldable pub integer_at : Left → Read ℤ
-integer_at = map_at (λ bs. cast_signed w64 (from_be_bytes w64 bs)) (bytes_at (byte_len w64))
+unfoldable pub signed_at : Width → Left → Read ℤ
+signed_at w = map_at (λ bs. cast_signed w (from_be_bytes w bs)) (bytes_at (byte_len w))
+
+abbrev pub integer_at : Form → Left → Read ℤ
+integer_at form = signed_at (width form)
 
 -- a byte of length and that many bytes
 unfoldable pub short_bytes_at : Left → Read (List ℕ)
@@ -116,17 +122,17 @@ unfoldable pub code_at : Left → Read CodeId
 code_at = map_at (λ n. record { 0 = n }) (number_at w32)
 
 -- what follows the tag of a feature
-unfoldable pub key_at : ℕ → ℕ → Left → Read Feature
-key_at start tag l =
-    if tag == 0 then map_at features.Int integer_at l
+unfoldable pub key_at : Form → ℕ → ℕ → Left → Read Feature
+key_at form start tag l =
+    if tag == 0 then map_at features.Int (integer_at form) l
     else if tag == 1 then map_at features.Atom text_at l
     else Err (Kind start)
 
 -- a feature: its tag, and what follows that
-unfoldable pub feature_at : Left → Read Feature
-feature_at l = do
+unfoldable pub feature_at : Form → Left → Read Feature
+feature_at form l = do
   tag ← byte_at l
-  key_at l.0 tag.0 tag.1
+  key_at form l.0 tag.0 tag.1
 
 -- a count of items that are read one after another, each behind those before it
 unfoldable pub items_at : {X : Type 0} → (List X → Left → Read X) → ℕ → List X → Left → Read (List X)
@@ -156,59 +162,59 @@ abbrev pub name_below : VarName → VarName → Bool
 name_below a b = if a.site == b.site then nat_lt a.num b.num else nat_lt a.site b.site
 
 -- a field of a record behind these others; then all fields with their count
-unfoldable pub field_at : List (Feature × VarName) → Left → Read (Feature × VarName)
-field_at front = filter_at (is_above (λ (x : Feature × VarName). x.0) feature_below front) Order feature_at and var_name_at
+unfoldable pub field_at : Form → List (Feature × VarName) → Left → Read (Feature × VarName)
+field_at form front = filter_at (is_above (λ (x : Feature × VarName). x.0) feature_below front) Order (feature_at form) and var_name_at
 
-unfoldable pub fields_at : Left → Read (List (Feature × VarName))
-fields_at = list_at (byte_within_at 1 64) field_at
+unfoldable pub fields_at : Form → Left → Read (List (Feature × VarName))
+fields_at form = list_at (byte_within_at 1 64) (field_at form)
 
 -- a count of two bytes, and that many variables
 unfoldable pub variables_at : Left → Read (List VarName)
 variables_at = list_at (number_at w16) (λ front. var_name_at)
 
 -- what follows the tag of a record; then that of a procedure
-unfoldable pub record_at : Left → Read Term
-record_at = map_at (λ p. terms.Node (nodes.Rec p.0 p.1)) (text_at and fields_at)
+unfoldable pub record_at : Form → Left → Read Term
+record_at form = map_at (λ p. terms.Node (nodes.Rec p.0 p.1)) (text_at and fields_at form)
 
 unfoldable pub procedure_at : Left → Read Term
 procedure_at = map_at (λ p. terms.Node (nodes.Proc p.0 p.1.0 p.1.1.0 p.1.1.1)) (proc_name_at and code_at and byte_within_at 0 64 and variables_at)
 
 -- what follows the tag of a term
-unfoldable pub node_at : ℕ → ℕ → Left → Read Term
-node_at start tag l =
+unfoldable pub node_at : Form → ℕ → ℕ → Left → Read Term
+node_at form start tag l =
     if tag == 0 then map_at terms.Var var_name_at l
-    else if tag == 1 then map_at (λ z. terms.Node (nodes.Int z)) integer_at l
+    else if tag == 1 then map_at (λ z. terms.Node (nodes.Int z)) (integer_at form) l
     else if tag == 2 then map_at (λ t. terms.Node (nodes.Atom t)) text_at l
-    else if tag == 3 then record_at l
+    else if tag == 3 then record_at form l
     else if tag == 4 then procedure_at l
     else if tag == 5 then map_at (λ c. terms.Node (nodes.Cell c)) cell_name_at l
     else Err (Kind start)
 
 -- a term: its tag, and what follows that
-unfoldable pub term_at : Left → Read Term
-term_at l = do
+unfoldable pub term_at : Form → Left → Read Term
+term_at form l = do
   tag ← byte_at l
-  node_at l.0 tag.0 tag.1
+  node_at form l.0 tag.0 tag.1
 
 -- an equation of a bundle behind these others; then a bundle with its count
-unfoldable pub equation_at : List Equation → Left → Read Equation
-equation_at front = filter_at (is_above (λ (e : Equation). e.0) name_below front) Order var_name_at and term_at
+unfoldable pub equation_at : Form → List Equation → Left → Read Equation
+equation_at form front = filter_at (is_above (λ (e : Equation). e.0) name_below front) Order var_name_at and term_at form
 
-unfoldable pub bundle_at : Left → Read (List Equation)
-bundle_at = list_at (filter_at (is_within 0 256) Range (number_at w16)) equation_at
+unfoldable pub bundle_at : Form → Left → Read (List Equation)
+bundle_at form = list_at (filter_at (is_within 0 256) Range (number_at w16)) (equation_at form)
 
 -- what follows the byte of kind, for each of the seven messages
-unfoldable pub spawn_at : Left → Read Msg
-spawn_at = map_at (λ p. messages.Spawn p.0 p.1.0 p.1.1.0 p.1.1.1) (thread_name_at and code_at and variables_at and bundle_at)
+unfoldable pub spawn_at : Form → Left → Read Msg
+spawn_at form = map_at (λ p. messages.Spawn p.0 p.1.0 p.1.1.0 p.1.1.1) (thread_name_at and code_at and variables_at and bundle_at form)
 
 unfoldable pub register_at : Left → Read Msg
 register_at = map_at (λ p. messages.Register p.0 p.1) (var_name_at and byte_within_at 1 64)
 
-unfoldable pub bind_request_at : Left → Read Msg
-bind_request_at = map_at (λ p. messages.BindReq p.0 p.1.0 p.1.1.0 p.1.1.1) (var_name_at and thread_name_at and term_at and bundle_at)
+unfoldable pub bind_request_at : Form → Left → Read Msg
+bind_request_at form = map_at (λ p. messages.BindReq p.0 p.1.0 p.1.1.0 p.1.1.1) (var_name_at and thread_name_at and term_at form and bundle_at form)
 
-unfoldable pub binding_at : Left → Read Msg
-binding_at = map_at (λ p. messages.Binding p.0 p.1.0 p.1.1) (var_name_at and term_at and bundle_at)
+unfoldable pub binding_at : Form → Left → Read Msg
+binding_at form = map_at (λ p. messages.Binding p.0 p.1.0 p.1.1) (var_name_at and term_at form and bundle_at form)
 
 unfoldable pub get_at : Left → Read Msg
 get_at = map_at (λ p. messages.Get p.0 p.1) (cell_name_at and byte_within_at 1 64)
@@ -216,26 +222,30 @@ get_at = map_at (λ p. messages.Get p.0 p.1) (cell_name_at and byte_within_at 1 
 unfoldable pub forward_at : Left → Read Msg
 forward_at = map_at (λ p. messages.Forward p.0 p.1) (cell_name_at and byte_within_at 1 64)
 
-unfoldable pub put_at : Left → Read Msg
-put_at = map_at (λ p. messages.Put p.0 p.1.0 p.1.1) (cell_name_at and var_name_at and bundle_at)
+unfoldable pub put_at : Form → Left → Read Msg
+put_at form = map_at (λ p. messages.Put p.0 p.1.0 p.1.1) (cell_name_at and var_name_at and bundle_at form)
 
--- what follows the kind of a message
-unfoldable pub body_at : ℕ → ℕ → Left → Read Msg
-body_at start kind l =
-    if kind == 1 then spawn_at l
+-- what follows the byte of kind, for a kind of this number
+unfoldable pub body_at : Form → ℕ → ℕ → Left → Read Msg
+body_at form start kind l =
+    if kind == 1 then spawn_at form l
     else if kind == 2 then register_at l
-    else if kind == 3 then bind_request_at l
-    else if kind == 4 then binding_at l
+    else if kind == 3 then bind_request_at form l
+    else if kind == 4 then binding_at form l
     else if kind == 5 then get_at l
     else if kind == 6 then forward_at l
-    else if kind == 7 then put_at l
+    else if kind == 7 then put_at form l
     else Err (Kind start)
 
--- a message: its byte of kind, and what follows that
+-- the form that a byte of kind tells, if it is one
+unfoldable pub form_of : ℕ → Form
+form_of byte = if nat_lt byte 16 then forms.One else forms.Two
+
+-- a message in either form: its first byte, and what follows that
 unfoldable pub message_at : Left → Read Msg
 message_at l = do
-  kind ← byte_at l
-  body_at l.0 kind.0 kind.1
+  first ← byte_at l
+  body_at (form_of first.0) l.0 (first.0 - lead (form_of first.0)) first.1
 
 -- all of the bytes
 unfoldable pub whole_of : List ℕ → Result Msg WireFault

@@ -1,10 +1,11 @@
 //! Where a decoder stands in its bytes, and the numbers that it reads there.
 
 ghost use Rattle.std.specs.Prelude.{◌≡◌, length, MatchResult, Ok, Err};
-ghost use Rattle.std.specs.Int.{w16, w32, w64};
-ghost use Rattle.wire_form.specs.Reading.{IsReadAs, bytes_at, byte_at, number_at, integer_at, byte_within_at};
+ghost use Rattle.std.specs.Int.{w16, w32, w64, w128};
+ghost use Rattle.wire_form.specs.Reading.{IsReadAs, bytes_at, byte_at, number_at, signed_at, integer_at, byte_within_at};
 
 use crate::fault::WireFault;
+use crate::form::Form;
 use std::marker::Model;
 
 /// A place in bytes, counted from 0, and the bytes from it to the end, which contracts see as a pair. What is read is
@@ -116,14 +117,36 @@ impl<'a> Cursor<'a> {
         ]))
     }
 
-    /// An integer of eight bytes.
-    #[tactic(auto, unfolding(crate::specs::Reading::integer_at))]
-    pub(crate) fn integer(&mut self) -> Result<i64, WireFault>
-        ensures { IsReadAs integer_at self.old self.new result }
+    // An integer of eight bytes.
+    #[tactic(auto, unfolding(crate::specs::Reading::signed_at))]
+    fn integer_64(&mut self) -> Result<i64, WireFault>
+        ensures { IsReadAs (signed_at w64) self.old self.new result }
     {
         let bytes = self.bytes(8)?;
         Ok(i64::from_be_bytes([
             bytes[0], bytes[1], bytes[2], bytes[3], bytes[4], bytes[5], bytes[6], bytes[7],
         ]))
+    }
+
+    // An integer of sixteen bytes.
+    #[tactic(auto, unfolding(crate::specs::Reading::signed_at))]
+    fn integer_128(&mut self) -> Result<i128, WireFault>
+        ensures { IsReadAs (signed_at w128) self.old self.new result }
+    {
+        let bytes = self.bytes(16)?;
+        Ok(i128::from_be_bytes([
+            bytes[0], bytes[1], bytes[2], bytes[3], bytes[4], bytes[5], bytes[6], bytes[7],
+            bytes[8], bytes[9], bytes[10], bytes[11], bytes[12], bytes[13], bytes[14], bytes[15],
+        ]))
+    }
+
+    /// An integer of the form.
+    pub(crate) fn integer(&mut self, form: Form) -> Result<i128, WireFault>
+        ensures { IsReadAs (integer_at form) self.old self.new result }
+    {
+        match form {
+            Form::One => Ok(i128::from(self.integer_64()?)),
+            Form::Two => self.integer_128(),
+        }
     }
 }

@@ -1,9 +1,9 @@
 //! Laws of the format, and worked messages and faults. Each function does nothing: its clauses are what it shows.
 
-ghost use Rattle.wire_form.specs.Laws.{BytesHaveOne, SpellsOne, HasOneFault, NotBoth, NoProperPrefix, FormatIsWhatFits};
-ghost use Rattle.wire_form.specs.Rows.{RegisterIsSpelled, IntegerIsSpelled, NegativeIsSpelled, AtomIsSpelled, RecordIsSpelled, SpawnIsSpelled, ProcedureIsSpelled, CellsAreSpelled, NothingIsShort, OtherKindIsNone, CutIsShort, OtherSiteIsOut, MoreIsRest, OtherTextIsNone, ExchangedIsOutOfOrder};
+ghost use Rattle.wire_form.specs.Laws.{BytesHaveOne, SpellsOne, HasOneFault, NotBoth, NoProperPrefix, BeginsWithKind, NoKindOfBoth, TwoSpellsAll, FormatIsWhatFits};
+ghost use Rattle.wire_form.specs.Rows.{RegisterIsSpelled, IntegerIsSpelled, NegativeIsSpelled, WideIsSpelled, AtomIsSpelled, RecordIsSpelled, SpawnIsSpelled, ProcedureIsSpelled, CellsAreSpelled, NothingIsShort, OtherKindIsNone, CutIsShort, OtherSiteIsOut, MoreIsRest, OtherTextIsNone, ExchangedIsOutOfOrder, OtherWidthIsNone};
 
-/// Every list of bytes is the spelling of one message, or has one first fault.
+/// Every list of bytes is the spelling of one message in one form, or has one first fault.
 pub fn bytes_spell_or_fail()
     ensures one { BytesHaveOne }
     ensures message { SpellsOne }
@@ -11,21 +11,34 @@ pub fn bytes_spell_or_fail()
     ensures apart { NotBoth }
 {}
 
-/// No spelling is a proper prefix of another.
+/// No spelling in either form is a proper prefix of another.
 pub fn no_proper_prefix()
     ensures { NoProperPrefix }
 {}
 
-/// What `wire_fits` tells is the condition of the format, as far as the types of the numbers do not hold it themselves.
+/// The first byte of a spelling tells its form.
+pub fn first_byte_tells_form()
+    ensures begins { BeginsWithKind }
+    ensures apart { NoKindOfBoth }
+{}
+
+/// What can be spelled in form 1 can be spelled in form 2.
+pub fn form_2_spells_all()
+    ensures { TwoSpellsAll }
+{}
+
+/// What `wire_fits` tells, and for form 1 `fits_words`, is the condition of the format, as far as the types of the numbers do
+/// not hold it themselves.
 pub fn format_is_what_fits()
     ensures { FormatIsWhatFits }
 {}
 
-/// Messages of each kind, with terms of each kind, and their bytes.
+/// Messages of each kind, with terms of each kind, and their bytes in both forms.
 pub fn worked_messages()
     ensures register { RegisterIsSpelled }
     ensures integer { IntegerIsSpelled }
     ensures negative { NegativeIsSpelled }
+    ensures wide { WideIsSpelled }
     ensures atom { AtomIsSpelled }
     ensures tree { RecordIsSpelled }
     ensures spawn { SpawnIsSpelled }
@@ -33,7 +46,7 @@ pub fn worked_messages()
     ensures cells { CellsAreSpelled }
 {}
 
-/// Bytes that spell no message, and their first faults: one of each kind.
+/// Bytes that spell no message, and their first faults, one of each kind, in both forms.
 pub fn worked_faults()
     ensures nothing { NothingIsShort }
     ensures kind { OtherKindIsNone }
@@ -42,4 +55,5 @@ pub fn worked_faults()
     ensures more { MoreIsRest }
     ensures text { OtherTextIsNone }
     ensures order { ExchangedIsOutOfOrder }
+    ensures width { OtherWidthIsNone }
 {}

@@ -24,15 +24,20 @@
 
 mod cursor;
 mod fault;
+mod form;
 mod laws;
 mod names;
 mod reading;
 mod size;
+mod words;
 mod writing;
 
 pub use fault::WireFault;
+pub use form::Form;
 pub use laws::{
-    bytes_spell_or_fail, format_is_what_fits, no_proper_prefix, worked_faults, worked_messages,
+    bytes_spell_or_fail, first_byte_tells_form, form_2_spells_all, format_is_what_fits,
+    no_proper_prefix, worked_faults, worked_messages,
 };
 pub use reading::decode;
-pub use writing::{Bytes, encode};
+pub use words::fits_words;
+pub use writing::{Bytes, encode, encode_1};

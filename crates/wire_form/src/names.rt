@@ -6,8 +6,9 @@ ghost use Rattle.wire_form.specs.Reading.{IsReadAs, name_at, var_name_at, cell_n
 
 use crate::cursor::Cursor;
 use crate::fault::WireFault;
+use crate::form::Form;
 use std::alloc::Global;
-use tree_node::{CellName, CodeId, Feature, ProcName, Shared, Text, ThreadName, VarName};
+use tree_node::{CellName, CodeId, Feature, Integer, ProcName, Shared, Text, ThreadName, VarName};
 
 // A site and a number.
 #[tactic(auto, unfolding(crate::specs::Reading::name_at))]
@@ -88,12 +89,12 @@ pub(crate) fn text(alloc: Global, cursor: &mut Cursor) -> Result<Text, WireFault
 
 /// A feature.
 #[tactic(auto, unfolding(crate::specs::Reading::feature_at, crate::specs::Reading::key_at))]
-pub(crate) fn feature(alloc: Global, cursor: &mut Cursor) -> Result<Feature, WireFault>
-    ensures { IsReadAs feature_at cursor.old cursor.new result }
+pub(crate) fn feature(alloc: Global, form: Form, cursor: &mut Cursor) -> Result<Feature, WireFault>
+    ensures { IsReadAs (feature_at form) cursor.old cursor.new result }
 {
     let at = cursor.place();
     match cursor.byte()? {
-        0 => Ok(Feature::Int(cursor.integer()?)),
+        0 => Ok(Feature::Int(Integer::new(cursor.integer(form)?))),
         1 => Ok(Feature::Atom(text(alloc, cursor)?)),
         _ => Err(WireFault::Kind(at)),
     }

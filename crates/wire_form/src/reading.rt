@@ -5,6 +5,7 @@ ghost use Rattle.site_message.specs.Wire.{FitsWire};
 ghost use Rattle.site_message.specs.declared.message.Msg.{Msg as AMessage};
 ghost use Rattle.wire_form.specs.declared.fault.WireFault.TheVariants.{Memory};
 ghost use Rattle.wire_form.specs.declared.fault.WireFault.{WireFault as AFault};
+ghost use Rattle.wire_form.specs.declared.form.Form.{Form as AForm};
 ghost use Rattle.wire_form.specs.Format.{IsSpelling, IsFirstFault};
 ghost use Rattle.tree_node.specs.Store.{Equation};
 ghost use Rattle.tree_node.specs.declared.names.VarName.{VarName as AVarName};
@@ -13,11 +14,14 @@ ghost use Rattle.wire_form.specs.Reading.{IsReadAs, is_above, feature_below, nam
 
 use crate::cursor::Cursor;
 use crate::fault::WireFault;
+use crate::form::Form;
 use crate::names::{cell_name, code, feature, proc_name, text, thread_name, var_name};
 use site_message::{Bundle, Msg};
 use std::alloc::Global;
 use std::cmp::Ordering;
-use tree_node::{Feature, Fields, Node, Shared, Term, VarName, Vars, compare_features, is_below};
+use tree_node::{
+    Feature, Fields, Integer, Node, Shared, Term, VarName, Vars, compare_features, is_below,
+};
 
 // Whether a feature is above that of the last field.
 #[tactic(auto, using(crate::proofs::OrderLaws::above_some, crate::proofs::OrderLaws::above_none))]
@@ -34,13 +38,14 @@ fn is_feature_above(front: &[(Feature, VarName)], feature: &Feature) -> bool
 #[tactic(auto, unfolding(crate::specs::Reading::field_at))]
 fn field(
     alloc: Global,
+    form: Form,
     cursor: &mut Cursor,
     front: &[(Feature, VarName)],
 ) -> Result<(Feature, VarName), WireFault>
-    ensures { IsReadAs (field_at front.now) cursor.old cursor.new result }
+    ensures { IsReadAs (field_at form front.now) cursor.old cursor.new result }
 {
     let at = cursor.place();
-    let feature = feature(alloc, cursor)?;
+    let feature = feature(alloc, form, cursor)?;
     if !is_feature_above(front, &feature) {
         return Err(WireFault::Order(at));
     }
@@ -50,13 +55,13 @@ fn field(
 
 // The fields of a record.
 #[tactic(auto, unfolding(crate::specs::Reading::fields_at))]
-fn fields(alloc: Global, cursor: &mut Cursor) -> Result<Fields, WireFault>
-    ensures { IsReadAs fields_at cursor.old cursor.new result }
+fn fields(alloc: Global, form: Form, cursor: &mut Cursor) -> Result<Fields, WireFault>
+    ensures { IsReadAs (fields_at form) cursor.old cursor.new result }
 {
     let count = cursor.byte_within(1, 64)?;
     let mut items = Vec::with_capacity(alloc, cursor.len().min(count as usize))?;
     for _ in 0..count {
-        let next = field(alloc, cursor, &items)?;
+        let next = field(alloc, form, cursor, &items)?;
         items.push(next)?;
     }
     Ok(Shared::from_vec(items)?)
@@ -78,11 +83,11 @@ fn variables(alloc: Global, cursor: &mut Cursor) -> Result<Vars, WireFault>
 
 // A record.
 #[tactic(auto, unfolding(crate::specs::Reading::record_at))]
-fn tree(alloc: Global, cursor: &mut Cursor) -> Result<Term, WireFault>
-    ensures { IsReadAs record_at cursor.old cursor.new result }
+fn tree(alloc: Global, form: Form, cursor: &mut Cursor) -> Result<Term, WireFault>
+    ensures { IsReadAs (record_at form) cursor.old cursor.new result }
 {
     let label = text(alloc, cursor)?;
-    let fields = fields(alloc, cursor)?;
+    let fields = fields(alloc, form, cursor)?;
     Ok(Term::Node(Node::Rec(label, fields)))
 }
 
@@ -100,14 +105,20 @@ fn procedure(alloc: Global, cursor: &mut Cursor) -> Result<Term, WireFault>
 
 // What follows the tag of a term, which stands at the place.
 #[tactic(auto, unfolding(crate::specs::Reading::node_at))]
-fn node(alloc: Global, at: usize, tag: u8, cursor: &mut Cursor) -> Result<Term, WireFault>
-    ensures { IsReadAs (node_at at tag) cursor.old cursor.new result }
+fn node(
+    alloc: Global,
+    form: Form,
+    at: usize,
+    tag: u8,
+    cursor: &mut Cursor,
+) -> Result<Term, WireFault>
+    ensures { IsReadAs (node_at form at tag) cursor.old cursor.new result }
 {
     match tag {
         0 => Ok(Term::Var(var_name(cursor)?)),
-        1 => Ok(Term::Node(Node::Int(cursor.integer()?))),
+        1 => Ok(Term::Node(Node::Int(Integer::new(cursor.integer(form)?)))),
         2 => Ok(Term::Node(Node::Atom(text(alloc, cursor)?))),
-        3 => tree(alloc, cursor),
+        3 => tree(alloc, form, cursor),
         4 => procedure(alloc, cursor),
         5 => Ok(Term::Node(Node::Cell(cell_name(cursor)?))),
         _ => Err(WireFault::Kind(at)),
@@ -116,12 +127,12 @@ fn node(alloc: Global, at: usize, tag: u8, cursor: &mut Cursor) -> Result<Term, 
 
 // A term.
 #[tactic(auto, unfolding(crate::specs::Reading::term_at))]
-fn term(alloc: Global, cursor: &mut Cursor) -> Result<Term, WireFault>
-    ensures { IsReadAs term_at cursor.old cursor.new result }
+fn term(alloc: Global, form: Form, cursor: &mut Cursor) -> Result<Term, WireFault>
+    ensures { IsReadAs (term_at form) cursor.old cursor.new result }
 {
     let at = cursor.place();
     let tag = cursor.byte()?;
-    node(alloc, at, tag, cursor)
+    node(alloc, form, at, tag, cursor)
 }
 
 // Whether a name is above that of the last equation.
@@ -139,24 +150,25 @@ fn is_name_above(front: &[(VarName, Term)], var: VarName) -> bool
 #[tactic(auto, unfolding(crate::specs::Reading::equation_at))]
 fn equation(
     alloc: Global,
+    form: Form,
     cursor: &mut Cursor,
     front: &[(VarName, Term)],
 ) -> Result<(VarName, Term), WireFault>
-    ensures { IsReadAs (equation_at front.now) cursor.old cursor.new result }
+    ensures { IsReadAs (equation_at form front.now) cursor.old cursor.new result }
 {
     let at = cursor.place();
     let var = var_name(cursor)?;
     if !is_name_above(front, var) {
         return Err(WireFault::Order(at));
     }
-    let term = term(alloc, cursor)?;
+    let term = term(alloc, form, cursor)?;
     Ok((var, term))
 }
 
 // A bundle.
 #[tactic(auto, unfolding(crate::specs::Reading::bundle_at))]
-fn bundle(alloc: Global, cursor: &mut Cursor) -> Result<Bundle, WireFault>
-    ensures { IsReadAs bundle_at cursor.old cursor.new result }
+fn bundle(alloc: Global, form: Form, cursor: &mut Cursor) -> Result<Bundle, WireFault>
+    ensures { IsReadAs (bundle_at form) cursor.old cursor.new result }
 {
     let at = cursor.place();
     let count = cursor.number_16()?;
@@ -165,7 +177,7 @@ fn bundle(alloc: Global, cursor: &mut Cursor) -> Result<Bundle, WireFault>
     }
     let mut items = Vec::new(alloc);
     for _ in 0..count {
-        let next = equation(alloc, cursor, &items)?;
+        let next = equation(alloc, form, cursor, &items)?;
         items.push(next)?;
     }
     Ok(Bundle::from_vec(items)?)
@@ -173,13 +185,13 @@ fn bundle(alloc: Global, cursor: &mut Cursor) -> Result<Bundle, WireFault>
 
 // A start of a thread.
 #[tactic(auto, unfolding(crate::specs::Reading::spawn_at))]
-fn spawn(alloc: Global, cursor: &mut Cursor) -> Result<Msg, WireFault>
-    ensures { IsReadAs spawn_at cursor.old cursor.new result }
+fn spawn(alloc: Global, form: Form, cursor: &mut Cursor) -> Result<Msg, WireFault>
+    ensures { IsReadAs (spawn_at form) cursor.old cursor.new result }
 {
     let thread = thread_name(cursor)?;
     let code = code(cursor)?;
     let vars = variables(alloc, cursor)?;
-    let bundle = bundle(alloc, cursor)?;
+    let bundle = bundle(alloc, form, cursor)?;
     Ok(Msg::Spawn {
         thread,
         code,
@@ -200,13 +212,13 @@ fn register(cursor: &mut Cursor) -> Result<Msg, WireFault>
 
 // A request of a bind.
 #[tactic(auto, unfolding(crate::specs::Reading::bind_request_at))]
-fn bind_request(alloc: Global, cursor: &mut Cursor) -> Result<Msg, WireFault>
-    ensures { IsReadAs bind_request_at cursor.old cursor.new result }
+fn bind_request(alloc: Global, form: Form, cursor: &mut Cursor) -> Result<Msg, WireFault>
+    ensures { IsReadAs (bind_request_at form) cursor.old cursor.new result }
 {
     let var = var_name(cursor)?;
     let thread = thread_name(cursor)?;
-    let term = term(alloc, cursor)?;
-    let bundle = bundle(alloc, cursor)?;
+    let term = term(alloc, form, cursor)?;
+    let bundle = bundle(alloc, form, cursor)?;
     Ok(Msg::BindReq {
         var,
         thread,
@@ -217,12 +229,12 @@ fn bind_request(alloc: Global, cursor: &mut Cursor) -> Result<Msg, WireFault>
 
 // A binding.
 #[tactic(auto, unfolding(crate::specs::Reading::binding_at))]
-fn binding(alloc: Global, cursor: &mut Cursor) -> Result<Msg, WireFault>
-    ensures { IsReadAs binding_at cursor.old cursor.new result }
+fn binding(alloc: Global, form: Form, cursor: &mut Cursor) -> Result<Msg, WireFault>
+    ensures { IsReadAs (binding_at form) cursor.old cursor.new result }
 {
     let var = var_name(cursor)?;
-    let term = term(alloc, cursor)?;
-    let bundle = bundle(alloc, cursor)?;
+    let term = term(alloc, form, cursor)?;
+    let bundle = bundle(alloc, form, cursor)?;
     Ok(Msg::Binding { var, term, bundle })
 }
 
@@ -248,12 +260,12 @@ fn forward(cursor: &mut Cursor) -> Result<Msg, WireFault>
 
 // A cell's token.
 #[tactic(auto, unfolding(crate::specs::Reading::put_at))]
-fn put(alloc: Global, cursor: &mut Cursor) -> Result<Msg, WireFault>
-    ensures { IsReadAs put_at cursor.old cursor.new result }
+fn put(alloc: Global, form: Form, cursor: &mut Cursor) -> Result<Msg, WireFault>
+    ensures { IsReadAs (put_at form) cursor.old cursor.new result }
 {
     let cell = cell_name(cursor)?;
     let content = var_name(cursor)?;
-    let bundle = bundle(alloc, cursor)?;
+    let bundle = bundle(alloc, form, cursor)?;
     Ok(Msg::Put {
         cell,
         content,
@@ -261,31 +273,39 @@ fn put(alloc: Global, cursor: &mut Cursor) -> Result<Msg, WireFault>
     })
 }
 
-// What follows the kind of a message, which stands at the place.
+// What follows the byte of kind, which stands at the place and told this kind.
 #[tactic(auto, unfolding(crate::specs::Reading::body_at))]
-fn body(alloc: Global, at: usize, kind: u8, cursor: &mut Cursor) -> Result<Msg, WireFault>
-    ensures { IsReadAs (body_at at kind) cursor.old cursor.new result }
+fn body(
+    alloc: Global,
+    form: Form,
+    at: usize,
+    kind: u8,
+    cursor: &mut Cursor,
+) -> Result<Msg, WireFault>
+    ensures { IsReadAs (body_at form at kind) cursor.old cursor.new result }
 {
     match kind {
-        1 => spawn(alloc, cursor),
+        1 => spawn(alloc, form, cursor),
         2 => register(cursor),
-        3 => bind_request(alloc, cursor),
-        4 => binding(alloc, cursor),
+        3 => bind_request(alloc, form, cursor),
+        4 => binding(alloc, form, cursor),
         5 => get(cursor),
         6 => forward(cursor),
-        7 => put(alloc, cursor),
+        7 => put(alloc, form, cursor),
         _ => Err(WireFault::Kind(at)),
     }
 }
 
-// A message, behind which bytes may stand.
+// A message in either form, behind which bytes may stand.
 #[tactic(auto, unfolding(crate::specs::Reading::message_at))]
 fn message(alloc: Global, cursor: &mut Cursor) -> Result<Msg, WireFault>
     ensures { IsReadAs message_at cursor.old cursor.new result }
 {
     let at = cursor.place();
-    let kind = cursor.byte()?;
-    body(alloc, at, kind, cursor)
+    let first = cursor.byte()?;
+    let form = Form::of(first);
+    let kind = first.saturating_sub(form.lead());
+    body(alloc, form, at, kind, cursor)
 }
 
 // The message that all of the bytes spell.
@@ -301,14 +321,14 @@ fn whole(alloc: Global, bytes: &[u8]) -> Result<Msg, WireFault>
     Ok(msg)
 }
 
-/// The message that the bytes spell, or their first fault. It reads each byte once, and takes memory by the number of
-/// bytes, whatever the counts among them promise.
+/// The message that the bytes spell in form 1 or in form 2, or their first fault. It reads each byte once, and takes memory
+/// by the number of bytes, whatever the counts among them promise.
 pub fn decode(alloc: Global, bytes: &[u8]) -> Result<Msg, WireFault>
-    // What is read is spelled so, and fits.
-    ensures spelled { IfOk result (λ m. IsSpelling bytes.now m) }
+    // What is read is spelled so in one of the forms, and fits.
+    ensures spelled { IfOk result (λ m. (form : AForm) × IsSpelling form bytes.now m) }
     ensures fits { IfOk result (λ m. FitsWire m) }
-    // What is spelled so is read, unless memory runs out.
-    ensures only { (m : AMessage) → IsSpelling bytes.now m → (result ≡ Ok m) ⊎ (result ≡ Err Memory) }
+    // What is spelled so in one of them is read, unless memory runs out.
+    ensures only { (form : AForm) (m : AMessage) → IsSpelling form bytes.now m → (result ≡ Ok m) ⊎ (result ≡ Err Memory) }
     // A fault is the first one, unless memory runs out.
     ensures fault { IfErr result (λ f. (f ≡ Memory) ⊎ IsFirstFault bytes.now f) }
     // The first fault is answered, unless memory runs out.

@@ -1,12 +1,19 @@
 //! Messages as bytes.
 
-ghost use Rattle.std.specs.Prelude.{IfOk};
+ghost use Rattle.std.specs.Prelude.{◌≡◌, ◌+◌, ◌≤◌, ◌∷◌, ◌++◌, [], IfOk, OnOk};
+ghost use Rattle.tree_node.specs.Each.{Each};
+ghost use Rattle.tree_node.specs.declared.node.Term.{Term as ATerm};
 ghost use Rattle.site_message.specs.Wire.{IsSite, FitsText, FitsFeature, FitsField, FitsFields, FitsVar, FitsVars, FitsNode, FitsTerm, FitsEquation, FitsBundle, FitsWire};
 ghost use Rattle.tree_node.specs.declared.node.Term.TheVariants as terms;
 ghost use Rattle.site_message.specs.declared.message.Msg.TheVariants as messages;
-ghost use Rattle.wire_form.specs.Format.{site, name, var_name, cell_name, proc_name, thread_name, code, integer, text, feature, record_field, record_fields, variables, term, equation, bundle, message, IsSpelling};
+ghost use Rattle.wire_form.specs.declared.form.Form.TheVariants as forms;
+ghost use Rattle.std.specs.Int.{w64, w128};
+ghost use Rattle.wire_form.specs.Field.{signed_number};
+ghost use Rattle.wire_form.specs.Format.{lead, site, name, var_name, cell_name, proc_name, thread_name, code, integer, text, feature, record_field, record_fields, variables, term, equation, bundle, message, IsSpelling};
+ghost use Rattle.wire_form.specs.Numbers.{EachInFeature, EachInField, EachInTerm, EachInEquation, EachInBundle, EachInMessage, IsWord, FitsWords, HasRoom};
 ghost use Rattle.wire_form.specs.Writing.{IsWritten};
 
+use crate::form::Form;
 use crate::size::message_size;
 use site_message::{Bundle, Msg};
 use std::alloc::{AllocError, Global};
@@ -72,11 +79,29 @@ fn put_code(out: &mut Vec<u8>, c: CodeId) -> Result<(), AllocError>
     out.extend_from_slice(&c.0.to_be_bytes())
 }
 
-// An integer.
-fn put_integer(out: &mut Vec<u8>, value: i64) -> Result<(), AllocError>
-    ensures { IsWritten integer value out.old.items out.new.items result }
+// An integer of eight bytes.
+fn put_integer_64(out: &mut Vec<u8>, value: i64) -> Result<(), AllocError>
+    ensures { IsWritten (signed_number w64) value out.old.items out.new.items result }
 {
     out.extend_from_slice(&value.to_be_bytes())
+}
+
+// An integer of sixteen bytes.
+fn put_integer_128(out: &mut Vec<u8>, value: i128) -> Result<(), AllocError>
+    ensures { IsWritten (signed_number w128) value out.old.items out.new.items result }
+{
+    out.extend_from_slice(&value.to_be_bytes())
+}
+
+// An integer of the form.
+fn put_integer(out: &mut Vec<u8>, form: Form, value: i128) -> Result<(), AllocError>
+    requires { HasRoom form value }
+    ensures { IsWritten (integer form) value out.old.items out.new.items result }
+{
+    match form {
+        Form::One => put_integer_64(out, value as i64),
+        Form::Two => put_integer_128(out, value),
+    }
 }
 
 // A text.
@@ -89,14 +114,15 @@ fn put_text(out: &mut Vec<u8>, bytes: &[u8]) -> Result<(), AllocError>
 }
 
 // A feature.
-fn put_feature(out: &mut Vec<u8>, value: &Feature) -> Result<(), AllocError>
-    requires { FitsFeature value.now }
-    ensures { IsWritten feature value.now out.old.items out.new.items result }
+fn put_feature(out: &mut Vec<u8>, form: Form, value: &Feature) -> Result<(), AllocError>
+    requires fits { FitsFeature value.now }
+    requires room { EachInFeature (HasRoom form) value.now }
+    ensures { IsWritten (feature form) value.now out.old.items out.new.items result }
 {
     match value {
         Feature::Int(number) => {
             out.push(0)?;
-            put_integer(out, *number)
+            put_integer(out, form, number.get())
         }
         Feature::Atom(bytes) => {
             out.push(1)?;
@@ -106,22 +132,28 @@ fn put_feature(out: &mut Vec<u8>, value: &Feature) -> Result<(), AllocError>
 }
 
 // A field of a record.
-fn put_field(out: &mut Vec<u8>, field: &(Feature, VarName)) -> Result<(), AllocError>
-    requires { FitsField field.now }
-    ensures { IsWritten record_field field.now out.old.items out.new.items result }
+fn put_field(out: &mut Vec<u8>, form: Form, field: &(Feature, VarName)) -> Result<(), AllocError>
+    requires fits { FitsField field.now }
+    requires room { EachInField (HasRoom form) field.now }
+    ensures { IsWritten (record_field form) field.now out.old.items out.new.items result }
 {
-    put_feature(out, &field.0)?;
+    put_feature(out, form, &field.0)?;
     put_var(out, field.1)
 }
 
 // The fields of a record.
-fn put_fields(out: &mut Vec<u8>, fields: &[(Feature, VarName)]) -> Result<(), AllocError>
-    requires { FitsFields fields.now }
-    ensures { IsWritten record_fields fields.now out.old.items out.new.items result }
+fn put_fields(
+    out: &mut Vec<u8>,
+    form: Form,
+    fields: &[(Feature, VarName)],
+) -> Result<(), AllocError>
+    requires fits { FitsFields fields.now }
+    requires room { Each (EachInField (HasRoom form)) fields.now }
+    ensures { IsWritten (record_fields form) fields.now out.old.items out.new.items result }
 {
     out.push(fields.len() as u8)?;
     for field in fields {
-        put_field(out, field)?;
+        put_field(out, form, field)?;
     }
     Ok(())
 }
@@ -139,14 +171,15 @@ fn put_variables(out: &mut Vec<u8>, vars: &[VarName]) -> Result<(), AllocError>
 }
 
 // A node, as a term.
-fn put_node(out: &mut Vec<u8>, value: &Node) -> Result<(), AllocError>
-    requires { FitsNode value.now }
-    ensures { IsWritten term (terms.Node value.now) out.old.items out.new.items result }
+fn put_node(out: &mut Vec<u8>, form: Form, value: &Node) -> Result<(), AllocError>
+    requires fits { FitsNode value.now }
+    requires room { EachInTerm (HasRoom form) (terms.Node value.now) }
+    ensures { IsWritten (term form) (terms.Node value.now) out.old.items out.new.items result }
 {
     match value {
         Node::Int(number) => {
             out.push(1)?;
-            put_integer(out, *number)
+            put_integer(out, form, number.get())
         }
         Node::Atom(bytes) => {
             out.push(2)?;
@@ -155,7 +188,7 @@ fn put_node(out: &mut Vec<u8>, value: &Node) -> Result<(), AllocError>
         Node::Rec(label, fields) => {
             out.push(3)?;
             put_text(out, label.as_slice())?;
-            put_fields(out, fields.as_slice())
+            put_fields(out, form, fields.as_slice())
         }
         Node::Proc(name, code, count, vars) => {
             out.push(4)?;
@@ -172,64 +205,82 @@ fn put_node(out: &mut Vec<u8>, value: &Node) -> Result<(), AllocError>
 }
 
 // A term.
-fn put_term(out: &mut Vec<u8>, value: &Term) -> Result<(), AllocError>
-    requires { FitsTerm value.now }
-    ensures { IsWritten term value.now out.old.items out.new.items result }
+fn put_term(out: &mut Vec<u8>, form: Form, value: &Term) -> Result<(), AllocError>
+    requires fits { FitsTerm value.now }
+    requires room { EachInTerm (HasRoom form) value.now }
+    ensures { IsWritten (term form) value.now out.old.items out.new.items result }
 {
     match value {
         Term::Var(x) => {
             out.push(0)?;
             put_var(out, *x)
         }
-        Term::Node(node) => put_node(out, node),
+        Term::Node(node) => put_node(out, form, node),
     }
 }
 
 // An equation of a bundle.
-fn put_equation(out: &mut Vec<u8>, entry: &(VarName, Term)) -> Result<(), AllocError>
-    requires { FitsEquation entry.now }
-    ensures { IsWritten equation entry.now out.old.items out.new.items result }
+fn put_equation(out: &mut Vec<u8>, form: Form, entry: &(VarName, Term)) -> Result<(), AllocError>
+    requires fits { FitsEquation entry.now }
+    requires room { EachInEquation (HasRoom form) entry.now }
+    ensures { IsWritten (equation form) entry.now out.old.items out.new.items result }
 {
     put_var(out, entry.0)?;
-    put_term(out, &entry.1)
+    put_term(out, form, &entry.1)
 }
 
 // A bundle.
-fn put_bundle(out: &mut Vec<u8>, equations: &[(VarName, Term)]) -> Result<(), AllocError>
-    requires { FitsBundle equations.now }
-    ensures { IsWritten bundle equations.now out.old.items out.new.items result }
+fn put_bundle(
+    out: &mut Vec<u8>,
+    form: Form,
+    equations: &[(VarName, Term)],
+) -> Result<(), AllocError>
+    requires fits { FitsBundle equations.now }
+    requires room { EachInBundle (HasRoom form) equations.now }
+    ensures { IsWritten (bundle form) equations.now out.old.items out.new.items result }
 {
     out.extend_from_slice(&(equations.len() as u16).to_be_bytes())?;
     for entry in equations {
-        put_equation(out, entry)?;
+        put_equation(out, form, entry)?;
     }
+    Ok(())
+}
+
+// The byte of kind of a message, for a kind of this number.
+fn put_kind(out: &mut Vec<u8>, form: Form, kind: u8) -> Result<(), AllocError>
+    requires { kind ≤ 7 }
+    ensures { OnOk result (out.new.items ≡ out.old.items ++ (lead form + kind) ∷ []) }
+{
+    out.push(form.lead() + kind)?;
     Ok(())
 }
 
 // A message that starts a thread.
 fn put_spawn(
     out: &mut Vec<u8>,
+    form: Form,
     thread: ThreadName,
     code: CodeId,
     vars: &Vars,
     bundle: &Bundle,
 ) -> Result<(), AllocError>
-    requires { FitsWire (messages.Spawn thread code vars.now bundle.now) }
-    ensures { IsWritten message (messages.Spawn thread code vars.now bundle.now) out.old.items out.new.items result }
+    requires fits { FitsWire (messages.Spawn thread code vars.now bundle.now) }
+    requires room { EachInMessage (HasRoom form) (messages.Spawn thread code vars.now bundle.now) }
+    ensures { IsWritten (message form) (messages.Spawn thread code vars.now bundle.now) out.old.items out.new.items result }
 {
-    out.push(1)?;
+    put_kind(out, form, 1)?;
     put_thread(out, thread)?;
     put_code(out, code)?;
     put_variables(out, vars.as_slice())?;
-    put_bundle(out, bundle.as_slice())
+    put_bundle(out, form, bundle.as_slice())
 }
 
 // The message by which a site asks to be told of a variable's binding.
-fn put_register(out: &mut Vec<u8>, var: VarName, asking: u32) -> Result<(), AllocError>
+fn put_register(out: &mut Vec<u8>, form: Form, var: VarName, asking: u32) -> Result<(), AllocError>
     requires { FitsWire (messages.Register var asking) }
-    ensures { IsWritten message (messages.Register var asking) out.old.items out.new.items result }
+    ensures { IsWritten (message form) (messages.Register var asking) out.old.items out.new.items result }
 {
-    out.push(2)?;
+    put_kind(out, form, 2)?;
     put_var(out, var)?;
     put_site(out, asking)
 }
@@ -237,53 +288,62 @@ fn put_register(out: &mut Vec<u8>, var: VarName, asking: u32) -> Result<(), Allo
 // A message that asks for a bind.
 fn put_bind_request(
     out: &mut Vec<u8>,
+    form: Form,
     var: VarName,
     thread: ThreadName,
     term: &Term,
     bundle: &Bundle,
 ) -> Result<(), AllocError>
-    requires { FitsWire (messages.BindReq var thread term.now bundle.now) }
-    ensures { IsWritten message (messages.BindReq var thread term.now bundle.now) out.old.items out.new.items result }
+    requires fits { FitsWire (messages.BindReq var thread term.now bundle.now) }
+    requires room { EachInMessage (HasRoom form) (messages.BindReq var thread term.now bundle.now) }
+    ensures { IsWritten (message form) (messages.BindReq var thread term.now bundle.now) out.old.items out.new.items result }
 {
-    out.push(3)?;
+    put_kind(out, form, 3)?;
     put_var(out, var)?;
     put_thread(out, thread)?;
-    put_term(out, term)?;
-    put_bundle(out, bundle.as_slice())
+    put_term(out, form, term)?;
+    put_bundle(out, form, bundle.as_slice())
 }
 
 // A message that tells a binding.
 fn put_binding(
     out: &mut Vec<u8>,
+    form: Form,
     var: VarName,
     term: &Term,
     bundle: &Bundle,
 ) -> Result<(), AllocError>
-    requires { FitsWire (messages.Binding var term.now bundle.now) }
-    ensures { IsWritten message (messages.Binding var term.now bundle.now) out.old.items out.new.items result }
+    requires fits { FitsWire (messages.Binding var term.now bundle.now) }
+    requires room { EachInMessage (HasRoom form) (messages.Binding var term.now bundle.now) }
+    ensures { IsWritten (message form) (messages.Binding var term.now bundle.now) out.old.items out.new.items result }
 {
-    out.push(4)?;
+    put_kind(out, form, 4)?;
     put_var(out, var)?;
-    put_term(out, term)?;
-    put_bundle(out, bundle.as_slice())
+    put_term(out, form, term)?;
+    put_bundle(out, form, bundle.as_slice())
 }
 
 // A message that asks a cell's manager for the token.
-fn put_token_request(out: &mut Vec<u8>, cell: CellName, asking: u32) -> Result<(), AllocError>
+fn put_token_request(
+    out: &mut Vec<u8>,
+    form: Form,
+    cell: CellName,
+    asking: u32,
+) -> Result<(), AllocError>
     requires { FitsWire (messages.Get cell asking) }
-    ensures { IsWritten message (messages.Get cell asking) out.old.items out.new.items result }
+    ensures { IsWritten (message form) (messages.Get cell asking) out.old.items out.new.items result }
 {
-    out.push(5)?;
+    put_kind(out, form, 5)?;
     put_cell(out, cell)?;
     put_site(out, asking)
 }
 
 // A message that tells a site its successor.
-fn put_forward(out: &mut Vec<u8>, cell: CellName, next: u32) -> Result<(), AllocError>
+fn put_forward(out: &mut Vec<u8>, form: Form, cell: CellName, next: u32) -> Result<(), AllocError>
     requires { FitsWire (messages.Forward cell next) }
-    ensures { IsWritten message (messages.Forward cell next) out.old.items out.new.items result }
+    ensures { IsWritten (message form) (messages.Forward cell next) out.old.items out.new.items result }
 {
-    out.push(6)?;
+    put_kind(out, form, 6)?;
     put_cell(out, cell)?;
     put_site(out, next)
 }
@@ -291,23 +351,26 @@ fn put_forward(out: &mut Vec<u8>, cell: CellName, next: u32) -> Result<(), Alloc
 // A message that is the token of a cell.
 fn put_token(
     out: &mut Vec<u8>,
+    form: Form,
     cell: CellName,
     content: VarName,
     bundle: &Bundle,
 ) -> Result<(), AllocError>
-    requires { FitsWire (messages.Put cell content bundle.now) }
-    ensures { IsWritten message (messages.Put cell content bundle.now) out.old.items out.new.items result }
+    requires fits { FitsWire (messages.Put cell content bundle.now) }
+    requires room { EachInMessage (HasRoom form) (messages.Put cell content bundle.now) }
+    ensures { IsWritten (message form) (messages.Put cell content bundle.now) out.old.items out.new.items result }
 {
-    out.push(7)?;
+    put_kind(out, form, 7)?;
     put_cell(out, cell)?;
     put_var(out, content)?;
-    put_bundle(out, bundle.as_slice())
+    put_bundle(out, form, bundle.as_slice())
 }
 
 // A message.
-fn put_message(out: &mut Vec<u8>, msg: &Msg) -> Result<(), AllocError>
-    requires { FitsWire msg.now }
-    ensures { IsWritten message msg.now out.old.items out.new.items result }
+fn put_message(out: &mut Vec<u8>, form: Form, msg: &Msg) -> Result<(), AllocError>
+    requires fits { FitsWire msg.now }
+    requires room { EachInMessage (HasRoom form) msg.now }
+    ensures { IsWritten (message form) msg.now out.old.items out.new.items result }
 {
     match msg {
         Msg::Spawn {
@@ -315,31 +378,51 @@ fn put_message(out: &mut Vec<u8>, msg: &Msg) -> Result<(), AllocError>
             code,
             vars,
             bundle,
-        } => put_spawn(out, *thread, *code, vars, bundle),
-        Msg::Register { var, asking } => put_register(out, *var, *asking),
+        } => put_spawn(out, form, *thread, *code, vars, bundle),
+        Msg::Register { var, asking } => put_register(out, form, *var, *asking),
         Msg::BindReq {
             var,
             thread,
             term,
             bundle,
-        } => put_bind_request(out, *var, *thread, term, bundle),
-        Msg::Binding { var, term, bundle } => put_binding(out, *var, term, bundle),
-        Msg::Get { cell, asking } => put_token_request(out, *cell, *asking),
-        Msg::Forward { cell, next } => put_forward(out, *cell, *next),
+        } => put_bind_request(out, form, *var, *thread, term, bundle),
+        Msg::Binding { var, term, bundle } => put_binding(out, form, *var, term, bundle),
+        Msg::Get { cell, asking } => put_token_request(out, form, *cell, *asking),
+        Msg::Forward { cell, next } => put_forward(out, form, *cell, *next),
         Msg::Put {
             cell,
             content,
             bundle,
-        } => put_token(out, *cell, *content, bundle),
+        } => put_token(out, form, *cell, *content, bundle),
     }
 }
 
-/// The one spelling of a message. It takes memory once for all of the bytes, and a step for each part of the message.
+// The spelling of a message in the form. It takes memory once for all of the bytes, and a step for each part of the message.
+fn spelling(alloc: Global, form: Form, msg: &Msg) -> Result<Bytes, AllocError>
+    requires fits { FitsWire msg.now }
+    requires room { EachInMessage (HasRoom form) msg.now }
+    ensures { IfOk result (λ bytes. IsSpelling form bytes msg.now) }
+{
+    let mut out = Vec::with_capacity(alloc, message_size(form, msg))?;
+    put_message(&mut out, form, msg)?;
+    Ok(Seq::from_vec(out))
+}
+
+/// The one spelling of a message in form 2. It takes memory once for all of the bytes, and a step for each part of the message.
+#[tactic(auto, using(crate::proofs::IntegerLaws::always_room))]
 pub fn encode(alloc: Global, msg: &Msg) -> Result<Bytes, AllocError>
     requires { FitsWire msg.now }
-    ensures { IfOk result (λ bytes. IsSpelling bytes msg.now) }
+    ensures { IfOk result (λ bytes. IsSpelling forms.Two bytes msg.now) }
 {
-    let mut out = Vec::with_capacity(alloc, message_size(msg))?;
-    put_message(&mut out, msg)?;
-    Ok(Seq::from_vec(out))
+    spelling(alloc, Form::Two, msg)
+}
+
+/// The one spelling of a message in form 1, for readers that know no other: each integer has to have 64 bits, which
+/// `fits_words` tests. It costs what `encode` does.
+pub fn encode_1(alloc: Global, msg: &Msg) -> Result<Bytes, AllocError>
+    requires fits { FitsWire msg.now }
+    requires words { FitsWords msg.now }
+    ensures { IfOk result (λ bytes. IsSpelling forms.One bytes msg.now) }
+{
+    spelling(alloc, Form::One, msg)
 }

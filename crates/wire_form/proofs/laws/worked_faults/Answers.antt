@@ -1,4 +1,4 @@
-use Rattle.wire_form.proofs.RowsRead.{cut, other_site, more, other_text, exchanged}
+use Rattle.wire_form.proofs.RowsRead.{kind, cut, other_site, more, other_text, exchanged, other_width}
 use Rattle.wire_form.proofs.laws.worked_faults.Goals as goal
 
 pub returns-clause-cut : goal.returns-clause-cut
@@ -15,3 +15,9 @@ returns-clause-text c = other_text
 
 pub returns-clause-order : goal.returns-clause-order
 returns-clause-order c = exchanged
+
+pub returns-clause-width : goal.returns-clause-width
+returns-clause-width c = other_width
+
+pub returns-clause-kind : goal.returns-clause-kind
+returns-clause-kind c = kind

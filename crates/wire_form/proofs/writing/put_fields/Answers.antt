@@ -7,6 +7,6 @@ use Rattle.wire_form.proofs.writing.put_fields.Goals as goal
 pub returns : goal.returns
 returns c =
     let fields = c.args.fields.now in
-    let w = writing_all record_field c.push.new.self.items fields c.loop-field.field-index c.loop-field.out.items c.loop-field-test.false c.loop-field.invariant in
-    let put = c.in_ok-push.ensures.items ∙ ap (λ (z : List ℕ). c.args.out.now.items ++ z) (byte_is (length fields) (omega (arith, c.requires.1))) in
-    (fields_have fields c.requires w.0, put_list record_field c.args.out.now.items c.push.new.self.items c.loop-field.out.items (to_be_bytes w8 (length fields)) fields put w.1)
+    let w = writing_all (record_field c.args.form) c.push.new.self.items fields c.loop-field.field-index c.loop-field.out.items c.loop-field-test.false c.loop-field.invariant in
+    let put = c.in_ok-push.ensures.items ∙ ap (λ (z : List ℕ). c.args.out.now.items ++ z) (byte_is (length fields) (omega (arith, c.requires.fits.1))) in
+    (fields_have c.args.form fields c.requires.fits w.0, put_list (record_field c.args.form) c.args.out.now.items c.push.new.self.items c.loop-field.out.items (to_be_bytes w8 (length fields)) fields put w.1)
