@@ -1,11 +1,13 @@
-//! Messages as bytes: worked rows, each with what comes of it when one byte is another. The outcomes were worked out from
-//! the format by another program.
+//! Messages as bytes in both forms: worked rows, each with what comes of it when one byte is another. The outcomes were worked
+//! out from the format by another program.
+
+ghost use Rattle.site_message.specs.Wire.{FitsWire};
 
 use site_message::{Bundle, Msg, wire_fits};
 use std::alloc::{AllocError, Global};
 use std::test::Fail;
 use tree_node::{CodeId, ThreadName, VarName, Vars};
-use wire_form::{WireFault, decode, encode};
+use wire_form::{Bytes, WireFault, decode, encode, encode_1, fits_words};
 
 fn digit(byte: u8) -> u8 {
     match byte {
@@ -34,12 +36,36 @@ fn bytes_of(alloc: Global, text: &str) -> Result<Vec<u8>, AllocError> {
     Ok(bytes)
 }
 
+// The spelling of a message in form 1, none where an integer has more than 64 bits.
+fn spelling_1(alloc: Global, msg: &Msg) -> Result<Option<Bytes>, AllocError>
+    requires { FitsWire msg.now }
+{
+    if fits_words(msg) {
+        Ok(Some(encode_1(alloc, msg)?))
+    } else {
+        Ok(None)
+    }
+}
+
+// Whether the bytes are the spelling of the message in form 2, or in form 1.
+fn is_spelling(alloc: Global, msg: &Msg, bytes: &[u8]) -> Result<bool, AllocError>
+    requires { FitsWire msg.now }
+{
+    let two = encode(alloc, msg)?;
+    if two.as_slice() == bytes {
+        return Ok(true);
+    }
+    match spelling_1(alloc, msg)? {
+        Some(one) => Ok(one.as_slice() == bytes),
+        None => Ok(false),
+    }
+}
+
 // The fault of bytes, none where they spell a message whose spelling they are.
 fn fault_of(alloc: Global, bytes: &[u8]) -> Result<Option<WireFault>, AllocError> {
     match decode(alloc, bytes) {
         Ok(msg) => {
-            let again = encode(alloc, &msg)?;
-            if again.as_slice() == bytes {
+            if is_spelling(alloc, &msg, bytes)? {
                 Ok(None)
             } else {
                 Ok(Some(WireFault::Memory))
@@ -49,9 +75,9 @@ fn fault_of(alloc: Global, bytes: &[u8]) -> Result<Option<WireFault>, AllocError
     }
 }
 
-// Messages of each kind, and what comes of each byte set to 00, to 41 and to ff: '=' a message, 'K', 'R' and 'U' a fault
+// Messages of each kind in form 1, the same in form 2, and two that form 2 alone spells; and what comes of each byte set to 00, to 41 and to ff: '=' a message, 'K', 'R' and 'U' a fault
 // Kind, Range and Utf8 at this byte, 'S' Short at the end, 'x' what the other table says.
-static ROWS: [(&str, [&str; 3]); 9] = [
+static ROWS: [(&str, [&str; 3]); 20] = [
     // a registration
     (
         "02 01 0000000000000002 03",
@@ -121,10 +147,97 @@ static ROWS: [(&str, [&str; 3]); 9] = [
             "KR========R========RSR========KR========",
         ],
     ),
+    // a registration in form 2
+    (
+        "12 01 0000000000000002 03",
+        ["KR========R", "KR========R", "KR========R"],
+    ),
+    // an integer in form 2
+    (
+        "14 01 0000000000000002 01 00000000000000000000000000000005 0000",
+        [
+            "KR========x==================",
+            "KR========K================RS",
+            "KR========K================RS",
+        ],
+    ),
+    // an atom in form 2
+    (
+        "13 01 0000000000000002 03 0000000000000001 02 01 61 0000",
+        [
+            "KR========R========Sx===",
+            "KR========R========KS=RS",
+            "KR========R========KSURS",
+        ],
+    ),
+    // a record in form 2
+    (
+        "14 02 0000000000000000 03 01 66 02 00 00000000000000000000000000000001 01 0000000000000004 01 01 61 01 0000000000000005 0000",
+        [
+            "KR========xx=R=================R========Sx=R==========",
+            "KR========KS=RK================R========KS=R========RS",
+            "KR========KSURK================R========KSUR========RS",
+        ],
+    ),
+    // a spawn with a bundle in form 2
+    (
+        "11 01 0000000000000000 00000102 0002 01 0000000000000007 02 0000000000000008 0002 01 0000000000000003 00 01 0000000000000001 01 0000000000000004 01 fffffffffffffffffffffffffffffffe",
+        [
+            "KR=============xR========R=========xR=========R========R=======xx================",
+            "KR============xxR========R========RSRxxxxxxxxKR========R========K================",
+            "KR============xxR========R========RSRxxxxxxxxKR========R========K================",
+        ],
+    ),
+    // a procedure in form 2
+    (
+        "14 01 0000000000000002 04 01 0000000000000006 00000009 01 0001 01 0000000000000007 0000",
+        [
+            "KR========xR==============xR==========",
+            "KR========KR============RxxR========RS",
+            "KR========KR============RxxR========RS",
+        ],
+    ),
+    // a get in form 2
+    (
+        "15 40 0000000000000001 02",
+        ["KR========R", "KR========R", "KR========R"],
+    ),
+    // a forward in form 2
+    (
+        "16 40 0000000000000001 02",
+        ["KR========R", "KR========R", "KR========R"],
+    ),
+    // a put with a cell in form 2
+    (
+        "17 40 0000000000000001 01 0000000000000002 0001 01 0000000000000003 05 40 0000000000000009",
+        [
+            "KR========R=========xR=========R========",
+            "KR========R========RSR========KR========",
+            "KR========R========RSR========KR========",
+        ],
+    ),
+    // an integer of more than 64 bits
+    (
+        "14 01 0000000000000002 01 00000000000000010000000000000005 0000",
+        [
+            "KR========x==================",
+            "KR========K================RS",
+            "KR========K================RS",
+        ],
+    ),
+    // the least and the greatest integer as features
+    (
+        "14 02 0000000000000000 03 01 66 02 00 80000000000000000000000000000000 01 0000000000000004 00 7fffffffffffffffffffffffffffffff 01 0000000000000005 0000",
+        [
+            "KR========xx=R=================R=========================R==========",
+            "KR========KS=RK================R========K================R========RS",
+            "KR========KSURK================R========K================R========RS",
+        ],
+    ),
 ];
 
 // The row, the first and the last byte, the value, and the fault.
-static OTHERS: [(usize, usize, usize, u8, WireFault); 19] = [
+static OTHERS: [(usize, usize, usize, u8, WireFault); 40] = [
     (1, 10, 10, 0x00, WireFault::Range(11)),
     (2, 20, 20, 0x00, WireFault::Range(21)),
     (3, 10, 10, 0x00, WireFault::Rest(22)),
@@ -144,10 +257,31 @@ static OTHERS: [(usize, usize, usize, u8, WireFault); 19] = [
     (5, 25, 26, 0x41, WireFault::Range(36)),
     (5, 25, 26, 0xff, WireFault::Range(36)),
     (8, 20, 20, 0x00, WireFault::Rest(21)),
+    (10, 10, 10, 0x00, WireFault::Range(11)),
+    (11, 20, 20, 0x00, WireFault::Range(21)),
+    (12, 10, 10, 0x00, WireFault::Rest(22)),
+    (12, 11, 11, 0x00, WireFault::Range(12)),
+    (12, 41, 41, 0x00, WireFault::Range(42)),
+    (13, 15, 15, 0x00, WireFault::Range(18)),
+    (13, 35, 35, 0x00, WireFault::Rest(36)),
+    (13, 63, 63, 0x00, WireFault::Order(55)),
+    (13, 64, 64, 0x00, WireFault::Range(65)),
+    (13, 14, 15, 0x41, WireFault::Range(34)),
+    (13, 37, 44, 0x41, WireFault::Order(55)),
+    (13, 14, 15, 0xff, WireFault::Range(34)),
+    (13, 37, 44, 0xff, WireFault::Order(55)),
+    (14, 10, 10, 0x00, WireFault::Rest(22)),
+    (14, 26, 26, 0x00, WireFault::Range(29)),
+    (14, 25, 26, 0x41, WireFault::Range(36)),
+    (14, 25, 26, 0xff, WireFault::Range(36)),
+    (17, 20, 20, 0x00, WireFault::Rest(21)),
+    (18, 10, 10, 0x00, WireFault::Range(11)),
+    (19, 10, 10, 0x00, WireFault::Rest(22)),
+    (19, 11, 11, 0x00, WireFault::Range(12)),
 ];
 
 // Texts that spell no message, with their faults.
-static OTHER_TEXTS: [(&str, WireFault); 11] = [
+static OTHER_TEXTS: [(&str, WireFault); 17] = [
     ("", WireFault::Short(0)),
     ("08", WireFault::Kind(0)),
     // the fields of a record exchanged, and one feature twice
@@ -186,6 +320,32 @@ static OTHER_TEXTS: [(&str, WireFault); 11] = [
         WireFault::Range(19),
     ),
     ("04 01 0000000000000002 02 02 ff", WireFault::Short(13)),
+    // an integer of form 1 in form 2, one of form 2 in form 1, and so for features
+    (
+        "14 01 0000000000000002 01 0000000000000005 0000",
+        WireFault::Short(21),
+    ),
+    (
+        "04 01 0000000000000002 01 00000000000000000000000000000005 0000",
+        WireFault::Rest(21),
+    ),
+    (
+        "14 02 0000000000000000 03 01 66 01 00 0000000000000001 01 0000000000000004 0000",
+        WireFault::Short(34),
+    ),
+    (
+        "04 02 0000000000000000 03 01 66 01 00 00000000000000000000000000000001 01 0000000000000004 0000",
+        WireFault::Range(23),
+    ),
+    // the fields of a record exchanged, and the names of a bundle, in form 2
+    (
+        "14 02 0000000000000000 03 01 66 02 01 01 61 01 0000000000000005 00 00000000000000000000000000000001 01 0000000000000004 0000",
+        WireFault::Order(26),
+    ),
+    (
+        "17 01 0000000000000000 01 0000000000000001 0002 01 0000000000000003 00 01 0000000000000001 01 0000000000000002 00 01 0000000000000001",
+        WireFault::Order(40),
+    ),
 ];
 
 fn other_of(row: usize, place: usize, value: u8) -> Option<WireFault> {
@@ -257,6 +417,80 @@ fn other_texts_have_these_faults(rt: HostRuntime) -> Result<(), Fail> {
     for (text, fault) in OTHER_TEXTS.as_slice() {
         let bytes = bytes_of(rt.alloc(), text)?;
         assert_eq!(rt; fault_of(rt.alloc(), &bytes)?, Some(*fault), "{text}");
+    }
+    Ok(())
+}
+
+// The messages of the first nine rows are those of the next nine, in form 2.
+#[test]
+fn what_form_1_spells_form_2_spells(rt: HostRuntime) -> Result<(), Fail> {
+    for (one, two) in ROWS
+        .as_slice()
+        .iter()
+        .zip(ROWS.as_slice().iter().skip(9))
+        .take(9)
+    {
+        let read = bytes_of(rt.alloc(), one.0)?;
+        let want = bytes_of(rt.alloc(), two.0)?;
+        let Ok(msg) = decode(rt.alloc(), &read) else {
+            return Err(Fail::new("a message"));
+        };
+        let written = encode(rt.alloc(), &msg)?;
+        assert!(rt; written.as_slice() == want.as_slice(), "{}", two.0);
+    }
+    Ok(())
+}
+
+// Bytes that are kinds of neither form, before the fields of a registration.
+static NO_KINDS: [u8; 18] = [
+    0x00, 0x08, 0x09, 0x0a, 0x0b, 0x0c, 0x0d, 0x0e, 0x0f, 0x10, 0x18, 0x19, 0x1a, 0x1b, 0x1c, 0x1d,
+    0x1e, 0x1f,
+];
+
+#[test]
+fn other_first_bytes_are_no_kinds(rt: HostRuntime) -> Result<(), Fail> {
+    for kind in NO_KINDS.as_slice() {
+        let mut bytes = bytes_of(rt.alloc(), "02 01 0000000000000002 03")?;
+        if !bytes.is_empty() {
+            bytes[0] = *kind;
+        }
+        assert_eq!(rt;
+            fault_of(rt.alloc(), &bytes)?,
+            Some(WireFault::Kind(0)),
+            "{kind}"
+        );
+    }
+    Ok(())
+}
+
+// An integer of 64 bits at either end, and those beside them.
+static WORDS: [(&str, bool); 4] = [
+    (
+        "14 01 0000000000000002 01 00000000000000007fffffffffffffff 0000",
+        true,
+    ),
+    (
+        "14 01 0000000000000002 01 00000000000000008000000000000000 0000",
+        false,
+    ),
+    (
+        "14 01 0000000000000002 01 ffffffffffffffff8000000000000000 0000",
+        true,
+    ),
+    (
+        "14 01 0000000000000002 01 ffffffffffffffff7fffffffffffffff 0000",
+        false,
+    ),
+];
+
+#[test]
+fn integers_of_64_bits_fit_form_1(rt: HostRuntime) -> Result<(), Fail> {
+    for (text, fits) in WORDS.as_slice() {
+        let bytes = bytes_of(rt.alloc(), text)?;
+        let Ok(msg) = decode(rt.alloc(), &bytes) else {
+            return Err(Fail::new("a message"));
+        };
+        assert_eq!(rt; fits_words(&msg), *fits, "{text}");
     }
     Ok(())
 }
