@@ -1,0 +1,12 @@
+% a comment if
+/* nested /* local */ still */
+local Twice X in
+  proc {Twice A ?B}
+    B = A + A
+  end
+  X = ~5
+  case X of 'an\'atom\q'(a:Y) then {Browse Y} else fun {Wait X} end
+  X == 007
+  Browse = X div Y
+  if_x = thread_1
+end
