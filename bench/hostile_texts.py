@@ -116,7 +116,7 @@ SHAPES = {
     "patterns of 64": lambda n: filled(
         b"case X of f(" + names(b"A", 0, 64) + b") then skip else skip end ", n, b"local X in X = f(" + FIELDS + b") ", b" end"),
     "lines": lambda n: filled(b"{Browse X} ", n, b"local X in X = 5 ", b" end"),
-    "lines of a wide cycle": lambda n: filled(b"{Browse X} ", n // 64, b"local X in X = f(" + FIELDS + b") ", b" end"),
+    "lines of a wide cycle": lambda n: filled(b"{Browse X} ", n // 512, b"local X in X = f(" + FIELDS + b") ", b" end"),
     "operators": lambda n: filled(b"try X = Y + Z" + HANDLED, n, b"local X Y Z in Y = 1 Z = 2 ", b" end"),
     "exceptions": lambda n: filled(b"try raise X end" + HANDLED, n, b"local X in X = 1 ", b" end"),
     "threads": lambda n: filled(b"thread skip end ", n),
