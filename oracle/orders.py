@@ -221,6 +221,7 @@ class Orders:
         if len(self.after) >= self.limits.states:
             raise TooMany(f"more than {self.limits.states:,} states")
         self.after[met] = None
+        state.drop_unreached()
         self.branches.append(Branch(met, state, threads.next, lines))
         return None
 
