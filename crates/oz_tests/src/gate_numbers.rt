@@ -35,9 +35,9 @@ impl DueTurns {
 
     // Whether the gate was called for each turn of the journal, and at each site for one more at most, which was not posted.
     fn counts(&self, journal: &Journal) -> bool {
-        let mut site = 0;
+        let mut site = 0u32;
         for due in self.due.as_slice() {
-            site += 1;
+            site = site.wrapping_add(1);
             let posted = turns_of(journal, site);
             let called = due.load(SeqCst).wrapping_sub(1);
             if posted == 0 || (called != posted && called != posted.wrapping_add(1)) {
@@ -63,10 +63,10 @@ impl Gate for DueTurns {
 
 // How many turns of a site stand in the journal.
 fn turns_of(journal: &Journal, site: u32) -> u64 {
-    let mut count = 0;
+    let mut count = 0u64;
     for turn in journal.oldest_first() {
         if turn.site == site {
-            count += 1;
+            count = count.wrapping_add(1);
         }
     }
     count
