@@ -14,7 +14,7 @@ takes() {
     cat >&2 <<'END'
 ./oz [--sites N] [--workers N] [--steps N] [--messages N] [--hints] [run|central] [FILE.oz]
 ./oz [--sites N] [--workers N] [--steps N] [--messages N] gen NUMBER
-./oz prove | version | races FILE.oz
+./oz prove | version | program | races FILE.oz
 
   FILE.oz        the text to run; where it is left out, the text is standard input
   run            runs the text over its sites; this is what is done where neither word stands
@@ -28,6 +28,7 @@ takes() {
   --hints        tells after the run, on standard error, what its end may mean; on a terminal this is told anyway
   prove          checks all proofs and builds the program of what is proved: minutes to more than an hour
   version        tells which program runs, of which commit, and by which toolchain
+  program        prints the place of the program that runs, which is built first where it is not there
   races FILE.oz  lists all that a text may print, whatever the order of its threads
 
 It prints what the text shows, a line each, and a last line that tells how the run ended. The exit status is 0 where
@@ -113,6 +114,16 @@ build() {
     fi
     exec 3</dev/null
     waits_for python3 "$top/.ci/build" || exit 70
+}
+
+# Finds the program, or builds it.
+need_program() {
+    find_program && return
+    build
+    find_program || {
+        echo 'oz: the program was built, and is not there: a source was changed meanwhile' >&2
+        exit 70
+    }
 }
 
 # The line and the column of a refusal, where it names a byte or a place.
@@ -222,6 +233,12 @@ version)
     version
     exit
     ;;
+program)
+    [ $# -eq 1 ] || refuse 'program takes no more words'
+    need_program
+    echo "$program"
+    exit
+    ;;
 esac
 
 file=
@@ -267,11 +284,7 @@ if ! find_program; then
         takes
         is_told=yes
     fi
-    build
-    find_program || {
-        echo 'oz: the program was built, and is not there: a source was changed meanwhile' >&2
-        exit 70
-    }
+    need_program
 fi
 
 # `gen` reads no text. A file beside it is a word too many.
