@@ -13,9 +13,7 @@ MOST_SECONDS = 60
 
 def built_program():
     """The program that ./oz runs, built where it is not."""
-    if subprocess.run([str(top / "oz")], input=b"skip", stdout=subprocess.DEVNULL).returncode != 0:
-        raise SystemExit("the program could not be built")
-    return str(top / "crates" / "oz_main" / "out" / "oz_main")
+    return subprocess.run([str(top / "oz"), "program"], check=True, stdout=subprocess.PIPE, text=True).stdout.strip()
 
 
 class Outcome:

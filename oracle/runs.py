@@ -9,12 +9,8 @@ MOST_SECONDS = 60
 
 
 def program_of(path):
-    """The program at this path; the proved one where none is given, built if it is not there yet."""
-    if path:
-        return path
-    if subprocess.run([str(TOP / "oz")], input=b"skip", stdout=subprocess.DEVNULL).returncode != 0:
-        raise SystemExit("the program could not be built")
-    return str(TOP / "crates" / "oz_main" / "out" / "oz_main")
+    """The program at this path; the one that ./oz runs where none is given."""
+    return path or subprocess.run([str(TOP / "oz"), "program"], check=True, stdout=subprocess.PIPE, text=True).stdout.strip()
 
 
 def ways():
