@@ -25,6 +25,8 @@ mod large;
 #[cfg(test)]
 mod meeting;
 #[cfg(test)]
+mod more_examples;
+#[cfg(test)]
 mod rows;
 #[cfg(test)]
 mod site_programs;

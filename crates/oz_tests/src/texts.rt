@@ -2,6 +2,7 @@
 
 use crate::endless::ROUNDS;
 use crate::examples::EXAMPLES;
+use crate::more_examples::MORE_EXAMPLES;
 use crate::rows::{FAILING, LIST, LISTED, Listed, REFUSED, RUNS, USAGE, WIDE, WORDED};
 use oz_base::{MemSink, MemSource};
 use oz_runner::{Gate, OpenGate, Report, oz};
@@ -115,13 +116,34 @@ fn texts_have_their_output(rt: HostRuntime) -> Result<(), Fail> {
             let words = with_workers(alloc, &[], workers)?;
             expect_output(&rt, alloc, &words, row.0, row.1, row.2)?;
         }
+    }
+    Ok(())
+}
+
+#[test]
+fn texts_have_their_output_by_words(rt: HostRuntime) -> Result<(), Fail> {
+    let alloc = rt.alloc();
+    for workers in ["0", "4"] {
         for row in WORDED.as_slice() {
             let words = with_workers(alloc, row.0, workers)?;
             expect_output(&rt, alloc, &words, row.1, row.2, row.3)?;
         }
     }
+    Ok(())
+}
+
+#[test]
+fn examples_have_their_output(rt: HostRuntime) -> Result<(), Fail> {
     for example in EXAMPLES.as_slice() {
-        expect_output(&rt, alloc, &[], example.0, example.1, example.2)?;
+        expect_output(&rt, rt.alloc(), &[], example.0, example.1, example.2)?;
+    }
+    Ok(())
+}
+
+#[test]
+fn more_examples_have_their_output(rt: HostRuntime) -> Result<(), Fail> {
+    for example in MORE_EXAMPLES.as_slice() {
+        expect_output(&rt, rt.alloc(), &[], example.0, example.1, example.2)?;
     }
     Ok(())
 }
