@@ -85,7 +85,7 @@ fn spell_turn(alloc: Global, turn: Turn) -> Option<SpelledTurn>
 // Whether the bytes are those of the message that `one_spawn` sends: its kind, the thread 1 of site 1, code 3, no variables
 // and no equations.
 fn is_spelling(bytes: &Bytes) -> bool {
-    bytes.as_slice() == [1, 1, 0, 0, 0, 0, 0, 0, 0, 1, 0, 0, 0, 3, 0, 0, 0, 0].as_slice()
+    bytes.as_slice() == [17, 1, 0, 0, 0, 0, 0, 0, 0, 1, 0, 0, 0, 3, 0, 0, 0, 0].as_slice()
 }
 
 // A book of two sites, to which site 1 has posted that it sent a thread to site 2.
