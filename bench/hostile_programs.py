@@ -196,4 +196,4 @@ ENDLESS = {
 }
 
 # of these nearly all memory is the journal of turns. Their lines are lost, where the schedule finds no memory beside it
-JOURNALS = {"lines", "a loop"}
+JOURNALS = {"lines", "a loop", "a cell between three sites"}
