@@ -4,7 +4,7 @@
 
 is such a count where nothing else uses `Old` and `New`. Two counts in one cell that holds an integer may change places, and nobody
 can tell: the cell has the same content then, and no thread has kept the one between. That is so as long as all amounts are integers
-that are known, and no sum is too large for 64 bits.
+that are known, and no sum is too large for 128 bits.
 """
 MOST_AMOUNT = 2**31
 MOST_CONTENT = 2**61

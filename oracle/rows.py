@@ -55,7 +55,7 @@ READ_BESIDE_COUNTS = (
     + "local V in {Exchange C V V} {Browse V} end end"
 )
 COUNT_AT_THE_EDGE = (
-    "local C Most One D1 D2 in Most = 9223372036854775807 One = 1 {NewCell Most C} "
+    "local C Most One D1 D2 in Most = 170141183460469231731687303715884105727 One = 1 {NewCell Most C} "
     + f"thread {COUNT.format('+')} D1 = done end thread {COUNT.format('-')} D2 = done end "
     + "{Wait D1} {Wait D2} {Browse D1} end"
 )
