@@ -272,7 +272,7 @@ ROWS = [
         "refused 1:13 expected =",
         "left of = stands a variable; a field is read by Y = X.a, and told by",
     ),
-    ("local X in X = 99999999999999999999 end", "refused 1:16 bad number", ""),
+    ("local X in X = 999999999999999999999999999999999999999999 end", "refused 1:16 bad number", ""),
     ("local X in f(X) = X end", "refused 1:12 expected a statement", "left of = stands a variable: X = f(Y)"),
     ("\ufeffskip", "refused 1:1 bad character", "the text begins with a byte order mark: save it without one"),
     (
