@@ -1,4 +1,4 @@
-"""What the scripts that build programs have in common: where programs stand, and the note beside each.
+"""What the scripts that build programs have in common: how they run commands, where programs stand, and the note beside each.
 
 A program stands in out/KIND/NUMBER/, KIND being `unproved` or `proved` and NUMBER what .ci/fingerprint tells of the sources, so a
 program is never run for other sources than its own. The file `note` beside it has a line for each of: the commit, whether sources
@@ -17,6 +17,47 @@ PROGRAM = "oz_main"
 CODE_OF = {"unproved": ["code"], "proved": []}
 ENDING = (signal.SIGINT, signal.SIGTERM, signal.SIGHUP)
 KEPT = 8  # so many programs of each kind stay, the newest
+
+
+def end_on_signals():
+    """Has a signal end this script with what it has begun. A second signal changes nothing."""
+    def end(number, _):
+        for it in ENDING:
+            signal.signal(it, signal.SIG_IGN)
+        sys.exit(128 + number)
+    for it in ENDING:
+        signal.signal(it, end)
+
+
+@contextlib.contextmanager
+def started(words, **how):
+    """A command that runs, in a session of its own, all of which is ended where this ends before it.
+
+    A signal that comes while the command begins waits until this can end it."""
+    how = {"stdin": subprocess.DEVNULL, "stdout": subprocess.PIPE, "stderr": subprocess.STDOUT, **how}
+    signal.pthread_sigmask(signal.SIG_BLOCK, ENDING)
+    try:
+        with subprocess.Popen(list(map(str, words)), text=True, errors="replace", start_new_session=True, preexec_fn=let_signals, **how) as command:
+            try:
+                let_signals()
+                yield command
+            finally:
+                end_session(command)
+    finally:
+        let_signals()
+
+
+def let_signals():
+    signal.pthread_sigmask(signal.SIG_UNBLOCK, ENDING)
+
+
+def end_session(command):
+    """Ends a command and what it has begun, at last with force."""
+    for number in (signal.SIGTERM, signal.SIGKILL):
+        with contextlib.suppress(ProcessLookupError):
+            os.killpg(command.pid, number)
+        with contextlib.suppress(subprocess.TimeoutExpired):
+            command.wait(timeout=5)
 
 
 def said(*words):
