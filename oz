@@ -69,15 +69,16 @@ version() {
     echo "oz: $what; $(sed -n 's/^commit/commit/p' "$note"), $(sed -n 's/^kit //p' "$note")"
 }
 
-# Runs a command beside this script and waits for it, so that a signal ends both. The command's standard input is 3.
+# Runs a command beside this script and waits for it, so that a signal ends both, from before it begins. The command's standard
+# input is 3.
 waits_for() {
-    "$@" <&3 3<&- &
-    child=$!
+    before=${!-}
     trap 'ended_by 1 HUP' HUP
     trap 'ended_by 2 INT' INT
     trap 'ended_by 3 QUIT' QUIT
     trap 'ended_by 15 TERM' TERM
-    wait "$child"
+    "$@" <&3 3<&- &
+    wait "$!"
     status=$?
     trap - HUP INT QUIT TERM
     exec 3<&-
@@ -87,8 +88,10 @@ waits_for() {
 # A child of a script ignores INT, so it is ended by TERM.
 ended_by() {
     trap '' HUP INT QUIT TERM
-    kill -TERM "$child" 2>/dev/null
-    wait "$child" 2>/dev/null
+    if [ "${!-}" != "$before" ]; then
+        kill -TERM "$!" 2>/dev/null
+        wait "$!" 2>/dev/null
+    fi
     trap - HUP INT QUIT TERM
     kill "-$2" "$$"
     exit $((128 + $1))
