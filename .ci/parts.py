@@ -73,8 +73,7 @@ def shown(text, linkage):
 
 def declared(text):
     """That a function stands in another part."""
-    first = re.sub("^define( internal)?", "declare hidden", text[0])
-    return [first.removesuffix(" {\n") + "\n"]
+    return [re.sub(r"^define( internal)?(.*) \{$", r"declare hidden\2", text[0])]
 
 
 def cut(lines, count):
