@@ -65,17 +65,17 @@ in_front : {X : Type 0} (eq : X → X → Bool) (xs ys : List X) (x : X) → IsF
 in_front eq xs ys x (zs, e) h =
     ap (λ (l : List _). list_any (eq x) l) e ∙ (list_any-append (eq x) xs zs ∙ ap (λ (b : Bool). b || list_any (eq x) zs) h)
 
-each_in_front : {X : Type 0} (eq : X → X → Bool) (xs ys zs : List X) → IsFront xs ys → Each (IsIn eq xs) zs → Each (IsIn eq ys) zs
+pub each_in_front : {X : Type 0} (eq : X → X → Bool) (xs ys zs : List X) → IsFront xs ys → Each (IsIn eq xs) zs → Each (IsIn eq ys) zs
 each_in_front eq xs ys [] f h = tt
 each_in_front eq xs ys (z ∷ zs) f h = (in_front eq xs ys z f h.0, each_in_front eq xs ys zs f h.1)
 
 -- those that are there add nothing
-all_there : {X : Type 0} (eq : X → X → Bool) (xs ys : List X) → Each (IsIn eq xs) ys → all_new eq xs ys ≡ xs
+pub all_there : {X : Type 0} (eq : X → X → Bool) (xs ys : List X) → Each (IsIn eq xs) ys → all_new eq xs ys ≡ xs
 all_there eq xs [] h = refl
 all_there eq xs (y ∷ ys) h =
     ap (λ (l : List _). all_new eq l ys) (ap (λ (b : Bool). cond b xs (xs ++ y ∷ [])) h.0) ∙ all_there eq xs ys h.1
 
-abbrev Same : {X : Type 0} → (X → X → Bool) → Type 0
+abbrev pub Same : {X : Type 0} → (X → X → Bool) → Type 0
 Same {X} eq = (a b : X) → Decides (eq a b) (a ≡ b)
 
 with_new_has : {X : Type 0} (eq : X → X → Bool) → Same eq → (xs : List X) (x : X) → IsIn eq (with_new eq xs x) x
@@ -85,7 +85,7 @@ with_new_has eq same xs x = go (list_any (eq x) xs) refl
     go true e = e
     go false e = list_any-append (eq x) xs (x ∷ []) ∙ rw (e, (same x x).1 refl) refl
 
-all_new_has : {X : Type 0} (eq : X → X → Bool) → Same eq → (xs ys : List X) → Each (IsIn eq (all_new eq xs ys)) ys
+pub all_new_has : {X : Type 0} (eq : X → X → Bool) → Same eq → (xs ys : List X) → Each (IsIn eq (all_new eq xs ys)) ys
 all_new_has eq same xs [] = tt
 all_new_has eq same xs (y ∷ ys) =
     (in_front eq (with_new eq xs y) _ y (all_new_front eq (with_new eq xs y) ys) (with_new_has eq same xs y), all_new_has eq same (with_new eq xs y) ys)

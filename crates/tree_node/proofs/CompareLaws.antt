@@ -50,7 +50,7 @@ unknown_open s q e = go (is_one_class s q) (node_of s q.0) (node_of s q.1) e
     go false (Some m) (Some n) k = absurd (nodes_known m n k)
 
 -- and one that has is not known
-open_unknown : (s : Store) (q : Pair) (x : VarName) → Contains (open_roots s q) x → relation s q ≡ Unknown
+pub open_unknown : (s : Store) (q : Pair) (x : VarName) → Contains (open_roots s q) x → relation s q ≡ Unknown
 open_unknown s q x h = go (is_one_class s q) (node_of s q.0) (node_of s q.1) h
   where
     go : (b : Bool) (o r : Option Node) → Contains (cond b [] (open_name (root_of s q.0) o ++ open_name (root_of s q.1) r)) x → cond b Alike (relation_of_nodes o r) ≡ Unknown
@@ -216,7 +216,7 @@ one_node t sound x y m n e f g =
     sound_has_one t x m n sound (node_is_det t x m f) (at.0, Same-trans ((roots_tell_classes t x y).1 e) at.1, at.2)
 
 -- what a pair tells stays, unless it was not known
-relation_stays : (s t : Store) → IsSound t → IsWithin s t → (q : Pair) → (relation s q ≡ Unknown → ⊥) → relation t q ≡ relation s q
+pub relation_stays : (s t : Store) → IsSound t → IsWithin s t → (q : Pair) → (relation s q ≡ Unknown → ⊥) → relation t q ≡ relation s q
 relation_stays s t sound more q known = go (is_one_class s q) refl (node_of s q.0) refl (node_of s q.1) refl known
   where
     there : (m n : Node) → node_of t q.0 ≡ Some m → node_of t q.1 ≡ Some n → (b : Bool) → is_one_class t q ≡ b → relation t q ≡ relation_of_nodes (Some m) (Some n)
@@ -235,7 +235,7 @@ relation_stays s t sound more q known = go (is_one_class s q) refl (node_of s q.
     go false k (Some m) f None g h = absurd (h refl)
     go false k (Some m) f (Some n) g h = there m n (node_stays s t sound more q.0 m f) (node_stays s t sound more q.1 n g) (is_one_class t q) refl
 
-matched_known : (r : Relation) → IsMatched r → r ≡ Unknown → ⊥
+pub matched_known : (r : Relation) → IsMatched r → r ≡ Unknown → ⊥
 matched_known r h e = unmatched r h (inl e)
 
 parts_known : (r : Relation) (q : Pair) → Contains (parts_of r) q → r ≡ Unknown → ⊥

@@ -312,23 +312,6 @@ pub search_among : (s : Store) (p : Pair) (queue : List Pair) (open_vars : List 
 search_among s p queue open_vars at h =
     queue_among equal_pair (leads_to s) (roots s p) (leads s) same_pair_decides (tells_leads s) (depth_of s) (few_lead s p) queue at h.queued
 
-queue_named : (s : Store) (p : Pair) (queue : List Pair) (open_vars : List VarName) (at : ℕ) (c : Pair) → IsSearch s p queue open_vars at → Contains queue c → roots s c ≡ c
-queue_named s p queue open_vars at c h k = go (search_among s p queue open_vars at h)
-  where
-    named : (q : Pair) × Contains (pairs_within s p (depth_of s)) q × (roots s q ≡ c) → roots s c ≡ c
-    named (q, i, e) = ap (roots s) (sym e) ∙ (rw (root_root s q.0, root_root s q.1) refl ∙ e)
-
-    go : IsFront queue (classes_within s p (depth_of s)) → roots s c ≡ c
-    go (zs, e) = named (classes_from s p c (depth_of s) (subst (λ (l : List Pair). Contains l c) (sym e) (Contains-append_left queue zs c k)))
-
--- the next pair stands for its classes
-pub search_named : (s : Store) (p : Pair) (queue : List Pair) (open_vars : List VarName) (at : ℕ) (c : Pair) → IsSearch s p queue open_vars at → at < length queue → c ≡ get_or queue at c →
-    (root_of s c.0 ≡ c.0) × (root_of s c.1 ≡ c.1)
-search_named s p queue open_vars at c h within e =
-    let there : Contains queue c = subst (λ (r : Pair). Contains queue r) (sym e) (Contains-get_or queue at c within) in
-    let same : roots s c ≡ c = queue_named s p queue open_vars at c h there in
-    (ap (λ (r : Pair). r.0) same, ap (λ (r : Pair). r.1) same)
-
 -- one more pair is looked at
 pub search_goes_on : (s : Store) (p : Pair) (queue : List Pair) (open_vars : List VarName) (at : ℕ) (c : Pair) → IsSearch s p queue open_vars at → at < length queue → c ≡ get_or queue at c → is_apart (relation s c) ≡ false →
     IsSearch s p (all_new equal_pair queue (leads_to s c)) (all_new equal_var open_vars (open_roots s c)) (suc at)
@@ -373,13 +356,9 @@ search_goes_on s p queue open_vars at c h within e together = record { queued = 
     no_one = ap (λ (l : List Pair). list_any (tells_apart s) l) taken ∙ (list_any-append (tells_apart s) front (c ∷ []) ∙ rw (h.together, together) refl)
 
 -- a pair that is apart
-pub search_apart : (s : Store) (p : Pair) (queue : List Pair) (open_vars : List VarName) (at : ℕ) (c : Pair) → IsSearch s p queue open_vars at → at < length queue → c ≡ get_or queue at c → is_apart (relation s c) ≡ true →
-    compared s p ≡ Different
-search_apart s p queue open_vars at c h within e apart = go (search_among s p queue open_vars at h)
+pub search_classes_apart : (s : Store) (p : Pair) (queue : List Pair) (open_vars : List VarName) (at : ℕ) (c : Pair) → IsSearch s p queue open_vars at → Contains queue c → is_apart (relation s c) ≡ true → compared s p ≡ Different
+search_classes_apart s p queue open_vars at c h there apart = go (search_among s p queue open_vars at h)
   where
-    there : Contains queue c
-    there = subst (λ (r : Pair). Contains queue r) (sym e) (Contains-get_or queue at c within)
-
     go : IsFront queue (classes_within s p (depth_of s)) → compared s p ≡ Different
     go (zs, f) =
         let among : Contains (classes_within s p (depth_of s)) c = subst (λ (l : List Pair). Contains l c) (sym f) (Contains-append_left queue zs c there) in
@@ -397,11 +376,3 @@ search_ends s p queue open_vars at h past =
     let none : list_any (tells_apart s) (pairs_within s p (depth_of s)) ≡ false = apart_by_classes s p (depth_of s) ∙ (ap (λ (l : List Pair). list_any (tells_apart s) l) (sym seen) ∙ h.together) in
     let open_now : open_within s p (depth_of s) ≡ open_vars = open_by_classes s p (depth_of s) ∙ (ap (λ (l : List Pair). each_once equal_var (flat_map (open_roots s) l)) (sym seen) ∙ sym h.open_ones) in
     rw (none, open_now) refl
-
--- how many are still to be looked at, at most
-abbrev pub search_left : Store → Pair → ℕ → ℕ
-search_left s p at = length (classes_within s p (depth_of s)) - at
-
-pub search_shrinks : (s : Store) (p : Pair) (queue : List Pair) (open_vars : List VarName) (at : ℕ) → IsSearch s p queue open_vars at → at < length queue → search_left s p (suc at) < search_left s p at
-search_shrinks s p queue open_vars at h within =
-    let few = front_length queue (classes_within s p (depth_of s)) (search_among s p queue open_vars at h) in omega (arith, few, within)

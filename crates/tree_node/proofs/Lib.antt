@@ -15,4 +15,6 @@ pub mod OptionLemmas
 pub mod BreadthLemmas
 pub mod CompareLemmas
 pub mod CompareLaws
+pub mod FrontLemmas
+pub mod LookedLemmas
 pub mod FieldLemmas

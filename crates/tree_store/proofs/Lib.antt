@@ -8,3 +8,4 @@ pub mod NeedLemmas
 pub mod LinkLemmas
 pub mod RootLemmas
 pub mod SearchLemmas
+pub mod FrontLemmas

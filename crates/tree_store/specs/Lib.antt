@@ -6,3 +6,4 @@ pub mod Consistent
 pub mod Answers
 pub mod Walk
 pub mod Compared
+pub mod Front

@@ -1,10 +1,11 @@
 //! Two variables are compared, with their parts, breadth first.
 
-ghost use Rattle.std.specs.Prelude.{◌≡◌, map, length, false, Some, IfOk, OnOk};
+ghost use Rattle.std.specs.Prelude.{◌≡◌, map, length, take, false, Some, IfOk, OnOk};
 ghost use Rattle.tree_node.specs.Store.{equal_var, root_of};
-ghost use Rattle.tree_node.specs.Compare.{relation, relation_of_nodes, relation_of_others, is_apart, is_one_class, open_root, open_roots, paired, compared, unless_open as open_or_equal};
+ghost use Rattle.tree_node.specs.Compare.{Pair, relation, relation_of_nodes, relation_of_others, is_apart, is_one_class, open_root, open_roots, paired, compared, unless_open as open_or_equal};
 ghost use Rattle.tree_node.specs.ClassPairs.{equal_pair, roots, leads_to, all_new};
 ghost use Rattle.tree_store.specs.Compared.{comparison_of, IsFinding};
+ghost use Rattle.tree_store.specs.Front.{IsMatchedFront};
 
 use crate::store::{Root, Store};
 use indexmap::IndexSet;
@@ -57,8 +58,8 @@ fn find_by_nodes<'a>(left: &'a Node, right: &'a Node) -> Finding<'a>
     find_by_others(left, right)
 }
 
-// What two variables tell that stand for their classes.
-fn find(store: &Store, left: VarName, right: VarName) -> Finding<'_>
+/// What two variables tell that stand for their classes.
+pub fn find(store: &Store, left: VarName, right: VarName) -> Finding<'_>
     requires left { root_of store.now.equations left ≡ left }
     requires right { root_of store.now.equations right ≡ right }
     ensures { IsFinding (relation store.now.equations (left, right)) result }
@@ -75,8 +76,8 @@ fn find(store: &Store, left: VarName, right: VarName) -> Finding<'_>
     }
 }
 
-// The classes of the fields of two records go behind the pairs, those that are not there yet.
-fn add_parts(
+/// The classes of the fields of two records go behind the pairs, those that are not there yet.
+pub fn add_parts(
     store: &Store,
     pairs: &mut IndexSet<(VarName, VarName)>,
     fields: &[(Feature, VarName)],
@@ -163,23 +164,28 @@ fn unless_open(alloc: Global, hanging: &IndexSet<VarName>) -> Result<Compared, A
     Ok(Compared::Open(Vars::from_vec(vars)?))
 }
 
-/// Whether two variables are equal or different for all that a store tells, or on which variables that hangs. Each pair of
-/// classes is looked at once, so it ends on cyclic values too.
-pub fn compare(
+/// Whether two variables are equal or different for all that a store tells, or on which variables that hangs, where the search
+/// goes on behind these pairs, of which so many match. Each pair is looked at once by its names, and none of classes that are there
+/// already is added, so it ends on cyclic values too.
+#[tactic(auto, using(crate::proofs::FrontLemmas::class_named))]
+pub fn search_on(
     alloc: Global,
     store: &Store,
-    left: VarName,
-    right: VarName,
+    pairs: &mut IndexSet<(VarName, VarName)>,
+    mut at: usize,
 ) -> Result<Compared, AllocError>
-    ensures { IfOk result (λ c. comparison_of c ≡ compared store.now.equations (left, right)) }
+    ghost sides: { Pair }
+    requires { IsMatchedFront sides store.now.equations pairs.old.keys at }
+    ensures answer { IfOk result (λ c. comparison_of c ≡ compared store.now.equations sides) }
+    ensures front { OnOk result (take (length pairs.old.keys) pairs.new.keys ≡ pairs.old.keys) }
 {
-    let mut pairs = IndexSet::new(alloc);
+    store.forest();
     let mut hanging = IndexSet::new(alloc);
-    pairs.insert((store.class_of(left), store.class_of(right)))?;
-    let mut at = 0;
     'pairs: while at < pairs.len() {
-        let (left, right) = pairs.as_slice()[at];
-        let is_apart = visit(store, &mut pairs, &mut hanging, left, right)?;
+        let pair = pairs.as_slice()[at];
+        let left = store.class_of(pair.0);
+        let right = store.class_of(pair.1);
+        let is_apart = visit(store, pairs, &mut hanging, left, right)?;
         if is_apart {
             return Ok(Compared::Different);
         }

@@ -1,0 +1,12 @@
+use Rattle.std.proofs.Common.{◌≡◌, ◌∙◌, ap, sym, subst, List, [], ◌∷◌}
+use Rattle.tree_node.specs.Store.{root_of}
+use Rattle.tree_node.specs.Compare.{Pair, with_new}
+use Rattle.tree_node.specs.ClassPairs.{equal_pair, roots}
+use Rattle.tree_store.specs.Front.{IsMatchedFront, begins}
+use Rattle.tree_store.proofs.FrontLemmas.{front_begins}
+use Rattle.tree_store.proofs.front.begin.Goals as goal
+
+pub returns : goal.returns
+returns c =
+    front_begins c.args.store.now.equations (c.args.left, c.args.right) c.new-pairs.result.keys c.insert.new.self.keys c.class_of.result c.class_of-2.result c.new-pairs.ensures.empty
+    c.class_of.ensures c.class_of-2.ensures c.in_ok-insert.ensures.keys

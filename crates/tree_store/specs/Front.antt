@@ -1,0 +1,18 @@
+-- How far a comparison has come that hangs on variables, and what a store keeps of it.
+use Rattle.std.specs.Prelude.{◌≡◌, ℕ, suc, List, [], ◌∷◌, Some, slice_get}
+use Rattle.std.specs.Map.{lookup}
+use Rattle.tree_node.specs.Store.{Store}
+use Rattle.tree_node.specs.Compare.{Pair, relation, IsMatched, IsWithin}
+use Rattle.tree_node.specs.ClassPairs.{equal_pair, roots, leads_to, all_new}
+use Rattle.tree_store.specs.declared.front.Front.{Front}
+
+-- the pairs that a comparison of p has come to, of which so many were looked at and match: each by what the store tells, or
+-- by what one told of which the store says all
+pub data IsMatchedFront (p : Pair) : Store → List Pair → ℕ → Type 0 where
+  begins : {s : Store} → IsMatchedFront p s (roots s p ∷ []) 0
+  goes_on : {s : Store} {queue : List Pair} {at : ℕ} (c : Pair) → IsMatchedFront p s queue at → slice_get queue at ≡ Some c → IsMatched (relation s c) → IsMatchedFront p s (all_new equal_pair queue (leads_to s c)) (suc at)
+  stays : {s t : Store} {queue : List Pair} {at : ℕ} → IsMatchedFront p s queue at → IsWithin s t → IsMatchedFront p t queue at
+
+-- each front is one of the pair under which it is kept
+abbrev pub AreFronts : Store → List (Pair × Front) → Type 0
+AreFronts s fronts = (p : Pair) (f : Front) → lookup (equal_pair p) fronts ≡ Some f → IsMatchedFront p s f.pairs.keys f.at

@@ -1,0 +1,129 @@
+//! How far comparisons have come that hang on variables. Each goes on from there, so that a pair that matches is looked at once,
+//! however often more becomes known.
+
+ghost use Rattle.std.specs.Prelude.{◌≡◌, Some, None, true, false, IfOk, IfSome, OnOk, OnErr, if◌then◌else◌};
+ghost use Rattle.std.specs.Map.{lookup};
+ghost use Rattle.tree_node.specs.Store.{root_of};
+ghost use Rattle.tree_node.specs.Compare.{Pair, relation, IsMatched, compared};
+ghost use Rattle.tree_node.specs.ClassPairs.{equal_pair, leads_to, all_new};
+ghost use Rattle.tree_store.specs.Compared.{comparison_of};
+ghost use Rattle.tree_store.specs.Front.{IsMatchedFront};
+
+use crate::compare::{Compared, Finding, add_parts, find, search_on};
+use crate::store::Store;
+use indexmap::{IndexMap, IndexSet};
+use std::alloc::{AllocError, Global};
+use tree_node::VarName;
+
+/// The pairs that a comparison has come to, by the names that their classes had then. Those before the place match,
+/// whatever more becomes known.
+#[derive(Drop)]
+pub struct Front {
+    pub pairs: IndexSet<(VarName, VarName)>,
+    pub at: usize,
+}
+
+/// The fronts of comparisons that hang on variables, each under the pair that is compared.
+pub type Fronts = IndexMap<(VarName, VarName), Front>;
+
+/// Takes the front of a pair, if it has one.
+pub fn take(fronts: &mut Fronts, left: VarName, right: VarName) -> Option<Front>
+    ensures front { result ≡ lookup (equal_pair (left, right)) fronts.old.entries }
+    ensures rest { (p : Pair) → lookup (equal_pair p) fronts.new.entries ≡ (if equal_pair (left, right) p then None else lookup (equal_pair p) fronts.old.entries) }
+{
+    fronts.swap_remove(&(left, right))
+}
+
+/// Keeps the front of a pair.
+pub fn put(
+    fronts: &mut Fronts,
+    left: VarName,
+    right: VarName,
+    front: Front,
+) -> Result<(), AllocError>
+    ensures ok { OnOk result ((p : Pair) → lookup (equal_pair p) fronts.new.entries ≡ (if equal_pair (left, right) p then Some front else lookup (equal_pair p) fronts.old.entries)) }
+    ensures err { OnErr result ((p : Pair) → lookup (equal_pair p) fronts.new.entries ≡ lookup (equal_pair p) fronts.old.entries) }
+{
+    fronts.insert((left, right), front)?;
+    Ok(())
+}
+
+// The front with which a comparison begins.
+fn begin(alloc: Global, store: &Store, left: VarName, right: VarName) -> Result<Front, AllocError>
+    ensures { IfOk result (λ f. IsMatchedFront (left, right) store.now.equations f.pairs.keys f.at) }
+{
+    let mut pairs = IndexSet::new(alloc);
+    pairs.insert((store.class_of(left), store.class_of(right)))?;
+    Ok(Front { pairs, at: 0 })
+}
+
+// What a pair leads to that matches goes behind the others. The answer is whether it matches.
+fn pass(
+    store: &Store,
+    pairs: &mut IndexSet<(VarName, VarName)>,
+    left: VarName,
+    right: VarName,
+) -> Result<bool, AllocError>
+    requires left { root_of store.now.equations left ≡ left }
+    requires right { root_of store.now.equations right ≡ right }
+    ensures matches { IfOk result (λ b. b ≡ true → IsMatched (relation store.now.equations (left, right))) }
+    ensures pairs { OnOk result (pairs.new.keys ≡ all_new equal_pair pairs.old.keys (leads_to store.now.equations (left, right))) }
+    ensures same { IfOk result (λ b. b ≡ false → pairs.new.keys ≡ pairs.old.keys) }
+{
+    match find(store, left, right) {
+        Finding::Alike => Ok(true),
+        Finding::Parts(fields, others) => {
+            add_parts(store, pairs, fields, others)?;
+            Ok(true)
+        }
+        Finding::Apart => Ok(false),
+        Finding::Unknown => Ok(false),
+    }
+}
+
+// The front goes on over the pairs that match, to the first that does not.
+#[tactic(auto, using(crate::proofs::FrontLemmas::class_named))]
+fn pass_matched(store: &Store, front: &mut Front) -> Result<(), AllocError>
+    ghost sides: { Pair }
+    requires { IsMatchedFront sides store.now.equations front.old.pairs.keys front.old.at }
+    ensures { OnOk result (IsMatchedFront sides store.now.equations front.new.pairs.keys front.new.at) }
+{
+    store.forest();
+    'pairs: while front.at < front.pairs.len() {
+        let pair = front.pairs.as_slice()[front.at];
+        let left = store.class_of(pair.0);
+        let right = store.class_of(pair.1);
+        let matches = pass(store, &mut front.pairs, left, right)?;
+        if !matches {
+            return Ok(());
+        }
+        front.at += 1;
+    }
+    Ok(())
+}
+
+/// A comparison goes on from what is kept of it, or begins. Beside what it answers it hands back the front, which has gone on over
+/// the pairs that match. Pairs behind the first one that does not are not kept, since parts that become known stand before them.
+pub fn resume(
+    alloc: Global,
+    store: &Store,
+    left: VarName,
+    right: VarName,
+    kept: Option<Front>,
+) -> Result<(Compared, Front), AllocError>
+    ghost sides: { Pair }
+    requires sides { sides ≡ (left, right) }
+    requires kept { IfSome kept (λ f. IsMatchedFront sides store.now.equations f.pairs.keys f.at) }
+    ensures answer { IfOk result (λ r. comparison_of r.0 ≡ compared store.now.equations sides) }
+    ensures front { IfOk result (λ r. IsMatchedFront sides store.now.equations r.1.pairs.keys r.1.at) }
+{
+    let mut front = match kept {
+        Some(front) => front,
+        None => begin(alloc, store, left, right)?,
+    };
+    pass_matched(store, &mut front)?;
+    let count = front.pairs.len();
+    let compared = search_on(alloc, store, &mut front.pairs, front.at)?;
+    front.pairs.truncate(count);
+    Ok((compared, front))
+}
