@@ -1,26 +1,30 @@
 -- What slots, names, queue, keys and numbers keep together.
-use Rattle.std.proofs.Common.{arith, ◌≡◌, ◌≢◌, ◌∙◌, sym, ap, refl, subst, ℕ, ◌+◌, zero, suc, length, map, take, ◌⊎◌, inl, inr, List, [], ◌∷◌, ◌++◌, Bool, true, false, cond, Some, None}
+use Rattle.std.proofs.Common.{arith, ◌≡◌, ◌≢◌, ◌∙◌, sym, ap, refl, subst, ℕ, ◌+◌, zero, suc, length, map, ◌⊎◌, inl, inr, List, [], ◌∷◌, ◌++◌, ◌||◌, Bool, true, false, cond, Some, None}
 use Rattle.std.specs.Prelude.{Option, slice_set, slice_get, Contains, ◌<◌, ◌-◌, IfSome, IfNone, IsSome}
 use Rattle.std.proofs.lemmas.List.Elements.{Contains-push, Contains-append_left, Contains-append_right}
 use Rattle.tree_node.specs.declared.names.VarName.{VarName}
 use Rattle.tree_node.specs.declared.names.ThreadName.{ThreadName}
 use Rattle.tree_node.specs.Each.{Each}
 use Rattle.tree_node.specs.Store.{equal_var}
-use Rattle.tree_node.proofs.ClassLemmas.{same_name_decides, same_name_refl, Contains-cons_cases}
+use Rattle.std.specs.List.{list_any}
+use Rattle.tree_node.proofs.ClassLemmas.{same_name_decides, Contains-cons_cases, Contains-head, Contains-tail}
+use Rattle.tree_node.proofs.OrderLemmas.{Each-member}
+use Rattle.thread_roster.specs.Parking.{HasMoreKeys}
 use Rattle.thread_roster.specs.declared.mode.Mode.{Mode}
 use Rattle.thread_roster.specs.declared.mode.Mode.TheVariants as mode
 use Rattle.thread_roster.specs.declared.slot.Occupant.{Occupant}
 use Rattle.waiting_keys.specs.Keys as keys
 use Rattle.waiting_keys.specs.Keys.{keys_among}
 use Rattle.thread_roster.specs.Invariant.{IsConsistent}
-use Rattle.thread_roster.specs.Slots.{Slot, IsNotSlotOf, IsSlotOf, IsOnlyAt, IsPlaced, ArePlaced, slot_in, with_slot, IsModeAt, AreInside, wake_slot, wake_slots, total, one, weight, waiting, entry, threads_in, HasLeft, IsRest, IsNext, with_value_in, value_there}
-use Rattle.thread_roster.specs.Threads.{Threads, wake, wake_all, set_mode, set_value, AllWait, IsRunnable}
+use Rattle.thread_roster.specs.Slots.{Slot, IsNotSlotOf, IsSlotOf, IsOnlyAt, IsPlaced, ArePlaced, slot_in, with_slot, IsModeAt, AreInside, wake_slot, wake_slots, total, one, weight, waiting, entry, threads_in, HasLeft, IsRest, IsNext, with_value_in, value_there, woken}
+use Rattle.thread_roster.specs.Threads.{Threads, awaits, wake, wake_all, set_mode, set_value, AllWait, IsRunnable}
 use Rattle.tree_node.specs.Assoc.{value_of, without_key}
 use Rattle.tree_node.specs.State.{equal_thread}
 use Rattle.thread_roster.proofs.NameLemmas.{is_same, is_other}
 use Rattle.thread_roster.proofs.SlotLemmas.{placed_set, placed_end, placed_born, total_set, total_end, total_born, only_inside, only_at, held_at, lacking, found, placed_there, has_place, mode_put, value_put, thread_ended, thread_born, living_le}
-use Rattle.thread_roster.proofs.WakeLemmas.{mode_in, roused_all, living_roused, threads_woken}
-use Rattle.tree_node.proofs.EachLemmas.{each_append, each_take}
+use Rattle.thread_roster.proofs.WakeLemmas.{IsAwaitingAt, mode_in, roused_all, living_roused, threads_woken}
+use Rattle.thread_roster.proofs.WokenLemmas.{woken_all, woken_inside}
+use Rattle.tree_node.proofs.EachLemmas.{each_append}
 use Rattle.std.proofs.lemmas.List.{length_push}
 
 abbrev pub Waiting : Type 0
@@ -36,24 +40,12 @@ kept_none {V} slots by_name queue waiting_keys a b c d = rw (a, b, c, d) (empty)
     empty = record {
       placed = λ n. tt;
       queued = λ j h. cc;
-      parked = λ j x h. cc;
+      parked = λ j x m h w. cc;
       inside = tt;
       keys_inside = λ x. tt;
       alive = refl;
       waiters = refl;
     }
-
--- slots in the queue besides change nothing
-pub kept_more : {V : Type 0} (slots : List (Slot V)) (by_name : Places) (queue more : List ℕ) (waiting_keys : Waiting) (a b : ℕ) → IsConsistent slots by_name queue waiting_keys a b → AreInside slots more → IsConsistent slots by_name (queue ++ more) waiting_keys a b
-kept_more slots by_name queue more waiting_keys a b h inside = record {
-  placed = h.placed;
-  parked = h.parked;
-  keys_inside = h.keys_inside;
-  queued = λ j s. Contains-append_left queue more j (h.queued j s);
-  inside = each_append _ queue more h.inside inside;
-  alive = h.alive;
-  waiters = h.waiters;
-}
 
 -- ---- the queue alone
 
@@ -118,14 +110,12 @@ placed_map {V} x slots slot h n = go (slot n) (h n)
     go (Some i) k = only_map x n slots i k
 
 -- a roused thread: it can go on now and waited, or stands as before
-wake_cases : (x : VarName) (m : Mode) → ((m ≡ mode.Waits x) × (wake x m ≡ mode.Runs)) ⊎ ((wake x m ≡ m) × (m ≢ mode.Waits x))
-wake_cases x mode.Runs = inr (refl, λ e. cc)
-wake_cases x (mode.WaitsFor c) = inr (refl, λ e. cc)
-wake_cases x (mode.Waits y) = go (equal_var y x) refl
+wake_cases : (x : VarName) (m : Mode) → ((awaits x m ≡ true) × (wake x m ≡ mode.Runs)) ⊎ ((wake x m ≡ m) × (awaits x m ≡ false))
+wake_cases x m = go (awaits x m) refl
   where
-    go : (b : Bool) → equal_var y x ≡ b → ((mode.Waits y ≡ mode.Waits x) × (cond b mode.Runs (mode.Waits y) ≡ mode.Runs)) ⊎ ((cond b mode.Runs (mode.Waits y) ≡ mode.Waits y) × (mode.Waits y ≢ mode.Waits x))
-    go true e = inl (ap mode.Waits ((same_name_decides y x).0 e), refl)
-    go false e = inr (refl, λ k. let same : y ≡ x = cc in let yes : equal_var y x ≡ true = subst (λ (z : VarName). equal_var y z ≡ true) same (same_name_refl y) in cc)
+    go : (b : Bool) → awaits x m ≡ b → ((awaits x m ≡ true) × (cond b mode.Runs m ≡ mode.Runs)) ⊎ ((cond b mode.Runs m ≡ m) × (awaits x m ≡ false))
+    go true e = inl (e, refl)
+    go false e = inr (refl, e)
 
 -- how a roused slot stood
 stood : {V : Type 0} (x : VarName) (slots : List (Slot V)) (j : ℕ) (m : Mode) → IsModeAt (map (wake_slot x) slots) j m → (old : Mode) × IsModeAt slots j old × (wake x old ≡ m)
@@ -136,35 +126,35 @@ stood {V} x (Some e ∷ slots) zero m h =
     (e.mode, (e, refl, refl), ap (λ (o : Slot V). mode_in o) same ∙ h.2)
 stood x (o ∷ slots) (suc j) m h = stood x slots j m h
 
-pub kept_map : {V : Type 0} (x : VarName) (slots : List (Slot V)) (by_name : Places) (queue : List ℕ) (waiting_keys left : Waiting) (a b c : ℕ) → IsConsistent slots by_name queue waiting_keys a b →
-    ((y : VarName) → keys_among left y ≡ keys.without_keys (keys_among waiting_keys) x y) → c ≡ total waiting (map (wake_slot x) slots) → IsConsistent (map (wake_slot x) slots) by_name (queue ++ keys_among waiting_keys x) left a c
-kept_map {V} x slots by_name queue waiting_keys left a b c h rest counted = record {
+kept_map : {V : Type 0} (x : VarName) (slots : List (Slot V)) (by_name : Places) (queue behind : List ℕ) (waiting_keys left : Waiting) (a b c : ℕ) → IsConsistent slots by_name queue waiting_keys a b → ((j : ℕ) → IsAwaitingAt slots j x → Contains behind j) → AreInside slots behind →
+    ((y : VarName) → keys_among left y ≡ keys.without_keys (keys_among waiting_keys) x y) → c ≡ total waiting (map (wake_slot x) slots) → IsConsistent (map (wake_slot x) slots) by_name (queue ++ behind) left a c
+kept_map {V} x slots by_name queue behind waiting_keys left a b c h among inner rest counted = record {
   placed = placed_map x slots (slot_in by_name) h.placed;
   queued = λ j s. goes j (stood x slots j mode.Runs s);
-  parked = λ j y s. waits j y (stood x slots j (mode.Waits y) s);
-  inside = inside_same slots (map (wake_slot x) slots) (queue ++ keys_among waiting_keys x) (map_length x slots) (each_append _ queue (keys_among waiting_keys x) h.inside (h.keys_inside x));
+  parked = λ j y m s w. waits j y m (stood x slots j m s) w;
+  inside = inside_same slots (map (wake_slot x) slots) (queue ++ behind) (map_length x slots) (each_append _ queue behind h.inside inner);
   keys_inside = λ y. subst (λ (js : List ℕ). AreInside (map (wake_slot x) slots) js) (sym (rest y)) (some y (equal_var x y));
   alive = h.alive ∙ sym (living_roused x slots);
   waiters = counted;
 }
   where
-    goes : (j : ℕ) → (old : Mode) × IsModeAt slots j old × (wake x old ≡ mode.Runs) → Contains (queue ++ keys_among waiting_keys x) j
+    goes : (j : ℕ) → (old : Mode) × IsModeAt slots j old × (wake x old ≡ mode.Runs) → Contains (queue ++ behind) j
     goes j (old, at, is) = go (wake_cases x old)
       where
-        go : ((old ≡ mode.Waits x) × (wake x old ≡ mode.Runs)) ⊎ ((wake x old ≡ old) × (old ≢ mode.Waits x)) → Contains (queue ++ keys_among waiting_keys x) j
-        go (inl w) = Contains-append_right queue (keys_among waiting_keys x) j (h.parked j x (at.0, at.1, at.2 ∙ w.0))
-        go (inr s) = Contains-append_left queue (keys_among waiting_keys x) j (h.queued j (at.0, at.1, at.2 ∙ (sym s.0 ∙ is)))
+        go : ((awaits x old ≡ true) × (wake x old ≡ mode.Runs)) ⊎ ((wake x old ≡ old) × (awaits x old ≡ false)) → Contains (queue ++ behind) j
+        go (inl w) = Contains-append_right queue behind j (among j (at.0, at.1, ap (λ (k : Mode). awaits x k) at.2 ∙ w.0))
+        go (inr s) = Contains-append_left queue behind j (h.queued j (at.0, at.1, at.2 ∙ (sym s.0 ∙ is)))
 
-    waits : (j : ℕ) (y : VarName) → (old : Mode) × IsModeAt slots j old × (wake x old ≡ mode.Waits y) → Contains (keys_among left y) j
-    waits j y (old, at, is) = go (wake_cases x old)
+    waits : (j : ℕ) (y : VarName) (m : Mode) → (old : Mode) × IsModeAt slots j old × (wake x old ≡ m) → awaits y m ≡ true → Contains (keys_among left y) j
+    waits j y m (old, at, is) w = go (wake_cases x old)
       where
-        there : (r : Bool) → equal_var x y ≡ r → old ≡ mode.Waits y → old ≢ mode.Waits x → Contains (cond r [] (keys_among waiting_keys y)) j
-        there true e k l = absurd (l (k ∙ ap mode.Waits (sym ((same_name_decides x y).0 e))))
-        there false e k l = h.parked j y (at.0, at.1, at.2 ∙ k)
+        there : (r : Bool) → equal_var x y ≡ r → awaits y old ≡ true → awaits x old ≡ false → Contains (cond r [] (keys_among waiting_keys y)) j
+        there true e k l = let besides : awaits x old ≡ true = subst (λ (z : VarName). awaits z old ≡ true) (sym ((same_name_decides x y).0 e)) k in absurd (cc)
+        there false e k l = h.parked j y old at k
 
-        go : ((old ≡ mode.Waits x) × (wake x old ≡ mode.Runs)) ⊎ ((wake x old ≡ old) × (old ≢ mode.Waits x)) → Contains (keys_among left y) j
-        go (inl w) = let both : mode.Runs ≡ mode.Waits y = sym w.1 ∙ is in cc
-        go (inr s) = subst (λ (js : List ℕ). Contains js j) (sym (rest y)) (there (equal_var x y) refl (sym s.0 ∙ is) s.1)
+        go : ((awaits x old ≡ true) × (wake x old ≡ mode.Runs)) ⊎ ((wake x old ≡ old) × (awaits x old ≡ false)) → Contains (keys_among left y) j
+        go (inl s) = let runs : awaits y mode.Runs ≡ true = subst (λ (k : Mode). awaits y k ≡ true) (sym is ∙ s.1) w in absurd (cc)
+        go (inr s) = subst (λ (js : List ℕ). Contains js j) (sym (rest y)) (there (equal_var x y) refl (subst (λ (k : Mode). awaits y k ≡ true) (sym is ∙ s.0) w) s.1)
 
     some : (y : VarName) (r : Bool) → AreInside (map (wake_slot x) slots) (cond r [] (keys_among waiting_keys y))
     some y true = tt
@@ -174,20 +164,18 @@ kept_map {V} x slots by_name queue waiting_keys left a b c h rest counted = reco
 pub slots_roused : {V : Type 0} (x : VarName) (slots now : List (Slot V)) (by_name : Places) (queue js : List ℕ) (waiting_keys : Waiting) (a b : ℕ) → IsConsistent slots by_name queue waiting_keys a b → js ≡ keys_among waiting_keys x → now ≡ wake_slots x slots js →
     now ≡ map (wake_slot x) slots
 slots_roused x slots now by_name queue js waiting_keys a b h e f =
-    f ∙ (ap (λ (k : List ℕ). wake_slots x slots k) e ∙ roused_all x slots (keys_among waiting_keys x) (λ j s. h.parked j x s))
+    f ∙ (ap (λ (k : List ℕ). wake_slots x slots k) e ∙ roused_all x slots (keys_among waiting_keys x) (λ j s. h.parked j x s.0.mode (s.0, s.1, refl) s.2))
 
-pub kept_spare : {V : Type 0} (x : VarName) (slots : List (Slot V)) (by_name : Places) (queue now js : List ℕ) (waiting_keys : Waiting) (a b : ℕ) → IsConsistent slots by_name queue waiting_keys a b → js ≡ keys_among waiting_keys x → (n : ℕ) × (now ≡ queue ++ take n js) →
-    IsConsistent slots by_name now waiting_keys a b
-kept_spare x slots by_name queue now js waiting_keys a b h e k =
-    subst (λ (q : List ℕ). IsConsistent slots by_name q waiting_keys a b) (sym k.1)
-    (kept_more slots by_name queue (take k.0 js) waiting_keys a b h (each_take _ k.0 js (subst (λ (l : List ℕ). AreInside slots l) (sym e) (h.keys_inside x))))
-
-pub kept_roused : {V : Type 0} (x : VarName) (slots now : List (Slot V)) (by_name : Places) (queue more js : List ℕ) (waiting_keys left : Waiting) (a b c : ℕ) → IsConsistent slots by_name queue waiting_keys a b → js ≡ keys_among waiting_keys x → more ≡ queue ++ js →
+pub kept_roused : {V : Type 0} (x : VarName) (slots now : List (Slot V)) (by_name : Places) (queue more js : List ℕ) (waiting_keys left : Waiting) (a b c : ℕ) → IsConsistent slots by_name queue waiting_keys a b → js ≡ keys_among waiting_keys x → more ≡ queue ++ woken x slots js →
     now ≡ wake_slots x slots js → ((y : VarName) → keys_among left y ≡ keys.without_keys (keys_among waiting_keys) x y) → c ≡ total waiting now → IsConsistent now by_name more left a c
 kept_roused {V} x slots now by_name queue more js waiting_keys left a b c h e m f rest counted =
     let all : now ≡ map (wake_slot x) slots = slots_roused x slots now by_name queue js waiting_keys a b h e f in
-    let longer : more ≡ queue ++ keys_among waiting_keys x = m ∙ ap (λ (l : List ℕ). queue ++ l) e in
-    rw (all, longer) (kept_map x slots by_name queue waiting_keys left a b c h rest (counted ∙ ap (λ (l : List (Slot V)). total waiting l) all))
+    rw (all, m)
+    (kept_map x slots by_name queue (woken x slots js) waiting_keys left a b c h among (woken_inside x slots js (length slots) (subst (λ (l : List ℕ). AreInside slots l) (sym e) (h.keys_inside x))) rest
+    (counted ∙ ap (λ (l : List (Slot V)). total waiting l) all))
+  where
+    among : (j : ℕ) → IsAwaitingAt slots j x → Contains (woken x slots js) j
+    among j s = woken_all x slots js j s (subst (λ (l : List ℕ). Contains l j) (sym e) (h.parked j x s.0.mode (s.0, s.1, refl) s.2))
 
 -- ---- one slot changes
 
@@ -215,12 +203,12 @@ inside_set xs i x js h = inside_same xs (slice_set xs i x) js (set_length xs i x
 -- a thread stands otherwise: where it can go on it is in the queue, where it waits for a variable it is among the keys
 kept_set : {V : Type 0} (slots : List (Slot V)) (by_name : Places) (queue more : List ℕ) (waiting_keys left : Waiting) (a b c : ℕ) (n : ThreadName) (i : ℕ) (old new : Occupant V) → IsConsistent slots by_name queue waiting_keys a b →
     slot_in by_name n ≡ Some i → slice_get slots i ≡ Some (Some old) → new.name ≡ n → ((j : ℕ) → Contains queue j → Contains more j) → ((y : VarName) (j : ℕ) → Contains (keys_among waiting_keys y) j → Contains (keys_among left y) j) →
-    (new.mode ≡ mode.Runs → Contains more i) → ((x : VarName) → new.mode ≡ mode.Waits x → Contains (keys_among left x) i) →
+    (new.mode ≡ mode.Runs → Contains more i) → ((x : VarName) → awaits x new.mode ≡ true → Contains (keys_among left x) i) →
     AreInside slots more → ((y : VarName) → AreInside slots (keys_among left y)) → c + weight old.mode ≡ b + weight new.mode → IsConsistent (slice_set slots i (Some new)) by_name more left a c
 kept_set {V} slots by_name queue more waiting_keys left a b c n i old new h e at is longer further runs waits inside keyed counted = record {
   placed = placed_set n slots (slot_in by_name) i new h.placed e is;
   queued = λ j s. goes j (stands_set slots i j new mode.Runs s);
-  parked = λ j x s. rests j x (stands_set slots i j new (mode.Waits x) s);
+  parked = λ j x m s w. rests j x m (stands_set slots i j new m s) w;
   inside = inside_set slots i (Some new) more inside;
   keys_inside = λ y. inside_set slots i (Some new) (keys_among left y) (keyed y);
   alive = let all = h.alive in let same = total_set one slots i old new at in omega (arith, all, same);
@@ -231,9 +219,38 @@ kept_set {V} slots by_name queue more waiting_keys left a b c n i old new h e at
     goes j (inl s) = subst (λ (k : ℕ). Contains more k) (sym s.0) (runs s.1)
     goes j (inr s) = longer j (h.queued j s)
 
-    rests : (j : ℕ) (x : VarName) → ((j ≡ i) × (new.mode ≡ mode.Waits x)) ⊎ IsModeAt slots j (mode.Waits x) → Contains (keys_among left x) j
-    rests j x (inl s) = subst (λ (k : ℕ). Contains (keys_among left x) k) (sym s.0) (waits x s.1)
-    rests j x (inr s) = further x j (h.parked j x s)
+    rests : (j : ℕ) (x : VarName) (m : Mode) → ((j ≡ i) × (new.mode ≡ m)) ⊎ IsModeAt slots j m → awaits x m ≡ true → Contains (keys_among left x) j
+    rests j x m (inl s) w = subst (λ (k : ℕ). Contains (keys_among left x) k) (sym s.0) (waits x (subst (λ (k : Mode). awaits x k ≡ true) (sym s.1) w))
+    rests j x m (inr s) w = further x j (h.parked j x m s w)
+
+-- one more key at some variables, of a slot that is there
+keyed_more : {V : Type 0} (slots : List (Slot V)) (by_name : Places) (queue : List ℕ) (waiting_keys left : Waiting) (a b : ℕ) (n : ThreadName) (i : ℕ) → IsConsistent slots by_name queue waiting_keys a b → slot_in by_name n ≡ Some i →
+    HasMoreKeys waiting_keys i left → (y : VarName) → AreInside slots (keys_among left y)
+keyed_more {V} slots by_name queue waiting_keys left a b n i h e more y = from_all (keys_among left y) (λ j k. inside j (more.only y j k))
+  where
+    below : i < length slots
+    below = only_inside slots n i (only_at slots (slot_in by_name) n i h.placed e)
+
+    inside : (j : ℕ) → Contains (keys_among waiting_keys y) j ⊎ (j ≡ i) → j < length slots
+    inside j (inl k) = Each-member (λ (l : ℕ). l < length slots) (keys_among waiting_keys y) j (h.keys_inside y) k
+    inside j (inr q) = subst (λ (l : ℕ). l < length slots) (sym q) below
+
+    from_all : (js : List ℕ) → ((j : ℕ) → Contains js j → j < length slots) → AreInside slots js
+    from_all [] f = tt
+    from_all (j ∷ js) f = (f j (Contains-head j js), from_all js (λ l k. f l (Contains-tail j l js k)))
+
+-- keys that are there besides change nothing
+pub kept_keys : {V : Type 0} (slots : List (Slot V)) (by_name : Places) (queue : List ℕ) (waiting_keys left : Waiting) (a b : ℕ) (n : ThreadName) (i : ℕ) → IsConsistent slots by_name queue waiting_keys a b → slot_in by_name n ≡ Some i →
+    HasMoreKeys waiting_keys i left → IsConsistent slots by_name queue left a b
+kept_keys slots by_name queue waiting_keys left a b n i h e more = record {
+  placed = h.placed;
+  queued = h.queued;
+  parked = λ j x m s w. more.kept x j (h.parked j x m s w);
+  inside = h.inside;
+  keys_inside = keyed_more slots by_name queue waiting_keys left a b n i h e more;
+  alive = h.alive;
+  waiters = h.waiters;
+}
 
 -- it waits for a variable, and its slot is one more key there
 pub kept_waits : {V : Type 0} (slots now : List (Slot V)) (by_name : Places) (queue : List ℕ) (waiting_keys left : Waiting) (a b c : ℕ) (n : ThreadName) (i : ℕ) (old : Occupant V) (x : VarName) → IsConsistent slots by_name queue waiting_keys a b →
@@ -241,12 +258,8 @@ pub kept_waits : {V : Type 0} (slots now : List (Slot V)) (by_name : Places) (qu
     ((y : VarName) → keys_among left y ≡ keys.with_key (keys_among waiting_keys) x i y) → c + weight old.mode ≡ b + 1 → IsConsistent now by_name queue left a c
 kept_waits {V} slots now by_name queue waiting_keys left a b c n i old x h e at is f rest counted =
     subst (λ (l : List (Slot V)). IsConsistent l by_name queue left a c) (sym f)
-    (kept_set slots by_name queue queue waiting_keys left a b c n i old (record old { mode = mode.Waits x }) h e at is (λ j k. k) (λ y j k. keeps y j k) (λ r. cc) (λ y w. there y (ap for_var w)) h.inside (λ y. inside y) counted)
+    (kept_set slots by_name queue queue waiting_keys left a b c n i old (record old { mode = mode.Waits x }) h e at is (λ j k. k) (λ y j k. keeps y j k) (λ r. cc) (λ y w. there y ((same_name_decides x y).0 w)) h.inside (λ y. inside y) counted)
   where
-    for_var : Mode → VarName
-    for_var (mode.Waits y) = y
-    for_var m = x
-
     below : i < length slots
     below = only_inside slots n i (only_at slots (slot_in by_name) n i h.placed e)
 
@@ -268,9 +281,25 @@ kept_waits {V} slots now by_name queue waiting_keys left a b c n i old x h e at 
     inside : (y : VarName) → AreInside slots (keys_among left y)
     inside y = subst (λ (js : List ℕ). AreInside slots js) (sym (rest y)) (each_more (equal_var x y) (keys_among waiting_keys y) (h.keys_inside y))
 
+-- it waits for any of several variables, and its slot is among the keys of each
+pub kept_waits_any : {V : Type 0} (slots now : List (Slot V)) (by_name : Places) (queue : List ℕ) (waiting_keys left : Waiting) (a b c : ℕ) (n : ThreadName) (i : ℕ) (old : Occupant V) (xs : List VarName) → IsConsistent slots by_name queue waiting_keys a b →
+    slot_in by_name n ≡ Some i → slice_get slots i ≡ Some (Some old) → old.name ≡ n → now ≡ slice_set slots i (Some (record old { mode = mode.WaitsAny xs })) →
+    HasMoreKeys waiting_keys i left → Each (λ (y : VarName). Contains (keys_among left y) i) xs → c + weight old.mode ≡ b + 1 → IsConsistent now by_name queue left a c
+kept_waits_any {V} slots now by_name queue waiting_keys left a b c n i old xs h e at is f more there counted =
+    subst (λ (l : List (Slot V)). IsConsistent l by_name queue left a c) (sym f)
+    (kept_set slots by_name queue queue waiting_keys left a b c n i old (record old { mode = mode.WaitsAny xs }) h e at is (λ j k. k) (λ y j k. more.kept y j k) (λ r. cc) (λ y w. among xs there y w) h.inside (keyed_more slots by_name queue waiting_keys left a b n i h e more) counted)
+  where
+    among : (ys : List VarName) → Each (λ (y : VarName). Contains (keys_among left y) i) ys → (y : VarName) → list_any (λ (z : VarName). equal_var z y) ys ≡ true → Contains (keys_among left y) i
+    among [] all y w = cc
+    among (z ∷ ys) all y w = go (equal_var z y) refl w (λ k. among ys all.1 y k)
+      where
+        go : (r : Bool) → equal_var z y ≡ r → (r || list_any (λ (u : VarName). equal_var u y) ys) ≡ true → (list_any (λ (u : VarName). equal_var u y) ys ≡ true → Contains (keys_among left y) i) → Contains (keys_among left y) i
+        go true q k ih = subst (λ (u : VarName). Contains (keys_among left u) i) ((same_name_decides z y).0 q) all.0
+        go false q k ih = ih k
+
 -- it waits for something else
 pub kept_waits_for : {V : Type 0} (slots now : List (Slot V)) (by_name : Places) (queue : List ℕ) (waiting_keys : Waiting) (a b c : ℕ) (n : ThreadName) (i : ℕ) (old : Occupant V) (m : Mode) → IsConsistent slots by_name queue waiting_keys a b →
-    slot_in by_name n ≡ Some i → slice_get slots i ≡ Some (Some old) → old.name ≡ n → now ≡ slice_set slots i (Some (record old { mode = m })) → m ≢ mode.Runs → ((x : VarName) → m ≢ mode.Waits x) → c + weight old.mode ≡ b + weight m →
+    slot_in by_name n ≡ Some i → slice_get slots i ≡ Some (Some old) → old.name ≡ n → now ≡ slice_set slots i (Some (record old { mode = m })) → m ≢ mode.Runs → ((x : VarName) → awaits x m ≡ true → ⊥) → c + weight old.mode ≡ b + weight m →
     IsConsistent now by_name queue waiting_keys a c
 kept_waits_for {V} slots now by_name queue waiting_keys a b c n i old m h e at is f still other counted =
     subst (λ (l : List (Slot V)). IsConsistent l by_name queue waiting_keys a c) (sym f)
@@ -290,7 +319,7 @@ kept_runs {V} slots now by_name queue more waiting_keys a b c n i old h e at is 
 pub kept_value : {V : Type 0} (slots : List (Slot V)) (by_name : Places) (queue : List ℕ) (waiting_keys : Waiting) (a b : ℕ) (n : ThreadName) (i : ℕ) (old : Occupant V) (v : V) → IsConsistent slots by_name queue waiting_keys a b →
     slot_in by_name n ≡ Some i → slice_get slots i ≡ Some (Some old) → old.name ≡ n → IsConsistent (slice_set slots i (Some (record old { value = v }))) by_name queue waiting_keys a b
 kept_value {V} slots by_name queue waiting_keys a b n i old v h e at is =
-    kept_set slots by_name queue queue waiting_keys waiting_keys a b b n i old (record old { value = v }) h e at is (λ j k. k) (λ y j k. k) (λ r. h.queued i (old, at, r)) (λ x w. h.parked i x (old, at, w)) h.inside h.keys_inside refl
+    kept_set slots by_name queue queue waiting_keys waiting_keys a b b n i old (record old { value = v }) h e at is (λ j k. k) (λ y j k. k) (λ r. h.queued i (old, at, r)) (λ x w. h.parked i x old.mode (old, at, refl) w) h.inside h.keys_inside refl
 
 -- ---- a thread ends
 
@@ -306,7 +335,7 @@ pub kept_end : {V : Type 0} (slots now : List (Slot V)) (by_name rest : Places) 
 kept_end {V} slots now by_name rest queue waiting_keys a b c d n i old h e at f g lived waited = subst (λ (l : List (Slot V)). IsConsistent l rest queue waiting_keys c d) (sym f) (record {
   placed = placed_end n slots (slot_in by_name) (slot_in rest) i h.placed e (g n ∙ rw (is_same n n refl) refl) (λ k differs. g k ∙ rw (is_other n k differs) refl);
   queued = λ j s. h.queued j (stands_none slots i j mode.Runs s);
-  parked = λ j x s. h.parked j x (stands_none slots i j (mode.Waits x) s);
+  parked = λ j x m s w. h.parked j x m (stands_none slots i j m s) w;
   inside = inside_set slots i None queue h.inside;
   keys_inside = λ x. inside_set slots i None (keys_among waiting_keys x) (h.keys_inside x);
   alive = let all = h.alive in let less = total_end one slots i old at in omega (arith, all, less, lived);
@@ -337,7 +366,7 @@ kept_born {V} slots now by_name more queue longer waiting_keys a b c n w h none 
     rw (f, q) (record {
       placed = placed_born n slots (slot_in by_name) (slot_in more) w h.placed none (g n ∙ rw (is_same n n refl) refl) (λ k differs. g k ∙ rw (is_other n k differs) refl) is;
       queued = λ j s. goes j (stands_more slots w j mode.Runs s);
-      parked = λ j x s. waits j x (stands_more slots w j (mode.Waits x) s);
+      parked = λ j x m s k. waits j x m (stands_more slots w j m s) k;
       inside = each_append _ queue (length slots ∷ []) (inside_more slots (Some w) queue h.inside) (let more = length_push slots (Some w) in omega (arith, more), tt);
       keys_inside = λ x. inside_more slots (Some w) (keys_among waiting_keys x) (h.keys_inside x);
       alive = let all = h.alive in let further = total_born one slots w in omega (arith, all, further, counted);
@@ -348,9 +377,9 @@ kept_born {V} slots now by_name more queue longer waiting_keys a b c n w h none 
     goes j (inl s) = subst (λ (k : ℕ). Contains (queue ++ length slots ∷ []) k) (sym s.0) (Contains-push queue (length slots))
     goes j (inr s) = Contains-append_left queue (length slots ∷ []) j (h.queued j s)
 
-    waits : (j : ℕ) (x : VarName) → ((j ≡ length slots) × (w.mode ≡ mode.Waits x)) ⊎ IsModeAt slots j (mode.Waits x) → Contains (keys_among waiting_keys x) j
-    waits j x (inl s) = let both : mode.Runs ≡ mode.Waits x = sym runs ∙ s.1 in cc
-    waits j x (inr s) = h.parked j x s
+    waits : (j : ℕ) (x : VarName) (m : Mode) → ((j ≡ length slots) × (w.mode ≡ m)) ⊎ IsModeAt slots j m → awaits x m ≡ true → Contains (keys_among waiting_keys x) j
+    waits j x m (inl s) k = let none : awaits x mode.Runs ≡ true = subst (λ (l : Mode). awaits x l ≡ true) (sym s.1 ∙ runs) k in absurd (cc)
+    waits j x m (inr s) k = h.parked j x m s k
 
 -- ---- the slot that leaves the queue
 

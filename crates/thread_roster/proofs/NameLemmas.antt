@@ -1,6 +1,5 @@
 -- Threads by name in lists.
-use Rattle.std.proofs.Common.{rules, ◌≡◌, ◌≢◌, ap, refl, ◌⊎◌, inl, inr, List, [], ◌∷◌, ◌++◌, Bool, true, false, cond, Some, None}
-use Rattle.std.specs.Bool.{Decides}
+use Rattle.std.proofs.Common.{◌≡◌, ◌≢◌, ap, refl, ◌⊎◌, inl, inr, List, [], ◌∷◌, ◌++◌, Bool, true, false, cond, Some, None}
 use Rattle.tree_node.specs.declared.names.ThreadName.{ThreadName}
 use Rattle.tree_node.specs.Assoc.{value_of, without_key}
 use Rattle.tree_node.specs.State.{equal_thread}

@@ -1,6 +1,5 @@
 -- Laws of lists of threads, for those who keep their threads in a roster.
-use Rattle.std.proofs.Common.{rules, arith, ◌≡◌, ◌∙◌, sym, ap, refl, subst, ℕ, suc, length, filter, List, [], ◌∷◌, Bool, true, false, cond, Some, None}
-use Rattle.std.specs.Prelude.{Option}
+use Rattle.std.proofs.Common.{◌≡◌, ◌∙◌, sym, ap, refl, subst, suc, length, filter, List, [], ◌∷◌, Bool, true, false, cond, Some, None}
 use Rattle.tree_node.specs.declared.names.VarName.{VarName}
 use Rattle.tree_node.specs.declared.names.ThreadName.{ThreadName}
 use Rattle.tree_node.specs.Assoc.{value_of, with_value, without_key}

@@ -1,14 +1,15 @@
 -- Threads in slots that go on.
-use Rattle.std.proofs.Common.{arith, length-append, ◌≡◌, ◌≢◌, ◌∙◌, sym, ap, refl, subst, ℕ, ◌+◌, ◌≤◌, zero, suc, length, map, filter, ◌⊎◌, inl, inr, List, [], ◌∷◌, ◌++◌, Bool, true, false, cond, Some, None}
+use Rattle.std.proofs.Common.{arith, length-append, ◌≡◌, ◌≢◌, ◌∙◌, sym, ap, refl, ℕ, ◌+◌, ◌<◌, ◌≤◌, zero, suc, length, drop, get_or, add-one, drop-cons, map, filter, ◌⊎◌, inl, inr, List, [], ◌∷◌, ◌++◌, Bool, true, false, cond, Some, None}
 use Rattle.std.specs.Prelude.{slice_set, slice_get, Contains}
+use Rattle.std.specs.List.{list_any}
 use Rattle.tree_node.specs.declared.names.VarName.{VarName}
 use Rattle.tree_node.specs.Store.{equal_var}
-use Rattle.tree_node.proofs.ClassLemmas.{same_name_decides, same_name_refl, Contains-cons_cases}
+use Rattle.tree_node.proofs.ClassLemmas.{Contains-cons_cases}
 use Rattle.thread_roster.specs.declared.mode.Mode.{Mode}
 use Rattle.thread_roster.specs.declared.mode.Mode.TheVariants as mode
 use Rattle.thread_roster.specs.declared.slot.Occupant.{Occupant}
-use Rattle.thread_roster.specs.Threads.{Entry, wake, wake_all, is_waiting, waiting_of, AllWait}
-use Rattle.thread_roster.specs.Slots.{Slot, entry, threads_in, wake_slot, wake_slot_at, wake_slots, IsModeAt, total, one, weight, waiting}
+use Rattle.thread_roster.specs.Threads.{Entry, awaits, wake, wake_all, is_waiting, waiting_of, AllWait}
+use Rattle.thread_roster.specs.Slots.{Slot, entry, threads_in, wake_slot, wake_slot_at, wake_slots, awaits_in, awaits_at, total, one, weight, waiting}
 
 -- ---- one slot
 
@@ -23,14 +24,33 @@ roused_none slots now k x at e = e ∙ set_same slots k None x at
 pub roused_some : {V : Type 0} (slots now : List (Slot V)) (k : ℕ) (x : VarName) (h g : Occupant V) → slice_get slots k ≡ Some (Some h) → g ≡ record h { mode = wake x h.mode } → now ≡ slice_set slots k (Some g) → now ≡ wake_slot_at x slots k
 roused_some slots now k x h g at made e = e ∙ rw made (set_same slots k (Some h) x at)
 
+-- whether the thread in a slot waits
+pub awaits_as : {V : Type 0} (slots : List (Slot V)) (k : ℕ) (o : Slot V) (x : VarName) → slice_get slots k ≡ Some o → awaits_at x slots k ≡ awaits_in x o
+awaits_as [] k o x e = cc
+awaits_as {V} (p ∷ slots) zero o x e = let same : p ≡ o = cc in ap (λ (q : Slot V). awaits_in x q) same
+awaits_as (p ∷ slots) (suc k) o x e = awaits_as slots k o x e
+
 -- ---- all slots of the keys
 
-wake_twice : (x : VarName) (m : Mode) → wake x (wake x m) ≡ wake x m
-wake_twice x mode.Runs = refl
-wake_twice x (mode.WaitsFor c) = refl
-wake_twice x (mode.Waits y) = go (equal_var y x) refl
+-- what waits for a variable waits
+pub wake_weight : (x : VarName) (m : Mode) → cond (awaits x m) 1 0 + weight (wake x m) ≡ weight m
+wake_weight x mode.Runs = refl
+wake_weight x (mode.WaitsFor c) = refl
+wake_weight x (mode.Waits y) = go (equal_var y x)
   where
-    go : (b : Bool) → equal_var y x ≡ b → wake x (cond b mode.Runs (mode.Waits y)) ≡ cond b mode.Runs (mode.Waits y)
+    go : (b : Bool) → cond b 1 0 + weight (cond b mode.Runs (mode.Waits y)) ≡ 1
+    go true = refl
+    go false = refl
+wake_weight x (mode.WaitsAny ys) = go (list_any (λ y. equal_var y x) ys)
+  where
+    go : (b : Bool) → cond b 1 0 + weight (cond b mode.Runs (mode.WaitsAny ys)) ≡ 1
+    go true = refl
+    go false = refl
+
+wake_twice : (x : VarName) (m : Mode) → wake x (wake x m) ≡ wake x m
+wake_twice x m = go (awaits x m) refl
+  where
+    go : (b : Bool) → awaits x m ≡ b → wake x (cond b mode.Runs m) ≡ cond b mode.Runs m
     go true e = refl
     go false e = rw e refl
 
@@ -44,20 +64,22 @@ map_rouse_at {V} x (o ∷ slots) zero = ap (λ (p : Slot V). p ∷ map (wake_slo
 map_rouse_at {V} x (o ∷ slots) (suc k) = ap (λ (l : List (Slot V)). wake_slot x o ∷ l) (map_rouse_at x slots k)
 
 -- a mode that does not wait for the variable stays
-not_woken : (x : VarName) (m : Mode) → m ≢ mode.Waits x → wake x m ≡ m
-not_woken x mode.Runs h = refl
-not_woken x (mode.WaitsFor c) h = refl
-not_woken x (mode.Waits y) h = go (equal_var y x) refl
+not_woken : (x : VarName) (m : Mode) → (awaits x m ≡ true → ⊥) → wake x m ≡ m
+not_woken x m h = go (awaits x m) refl
   where
-    go : (b : Bool) → equal_var y x ≡ b → cond b mode.Runs (mode.Waits y) ≡ mode.Waits y
+    go : (b : Bool) → awaits x m ≡ b → cond b mode.Runs m ≡ m
     go false e = refl
-    go true e = absurd (h (ap mode.Waits ((same_name_decides y x).0 e)))
+    go true e = absurd (h e)
 
-not_roused : {V : Type 0} (x : VarName) (o : Slot V) → ((h : Occupant V) → o ≡ Some h → h.mode ≡ mode.Waits x → ⊥) → wake_slot x o ≡ o
+not_roused : {V : Type 0} (x : VarName) (o : Slot V) → ((h : Occupant V) → o ≡ Some h → awaits x h.mode ≡ true → ⊥) → wake_slot x o ≡ o
 not_roused x None h = refl
 not_roused {V} x (Some k) h = ap (λ (m : Mode). Some (record k { mode = m })) (not_woken x k.mode (λ e. h k refl e))
 
-none_waits : {V : Type 0} (x : VarName) (slots : List (Slot V)) → ((j : ℕ) → IsModeAt slots j (mode.Waits x) → ⊥) → map (wake_slot x) slots ≡ slots
+-- the thread in a slot waits for this variable
+abbrev pub IsAwaitingAt : {V : Type 0} → List (Slot V) → ℕ → VarName → Type 0
+IsAwaitingAt {V} slots j x = (h : Occupant V) × (slice_get slots j ≡ Some (Some h)) × (awaits x h.mode ≡ true)
+
+none_waits : {V : Type 0} (x : VarName) (slots : List (Slot V)) → ((j : ℕ) → IsAwaitingAt slots j x → ⊥) → map (wake_slot x) slots ≡ slots
 none_waits x [] h = refl
 none_waits {V} x (o ∷ slots) h =
     let head : wake_slot x o ≡ o = not_roused x o (λ e is m. h 0 (e, ap Some is, m)) in
@@ -69,23 +91,19 @@ abbrev pub mode_in : {V : Type 0} → Slot V → Mode
 mode_in None = mode.Runs
 mode_in (Some h) = h.mode
 
-wake_goes : (x : VarName) (m : Mode) → wake x m ≡ mode.Waits x → ⊥
-wake_goes x mode.Runs e = cc
-wake_goes x (mode.WaitsFor c) e = cc
-wake_goes x (mode.Waits y) e = go (equal_var y x) refl e
+wake_goes : (x : VarName) (m : Mode) → awaits x (wake x m) ≡ true → ⊥
+wake_goes x m e = go (awaits x m) refl e
   where
-    go : (b : Bool) → equal_var y x ≡ b → cond b mode.Runs (mode.Waits y) ≡ mode.Waits x → ⊥
+    go : (b : Bool) → awaits x m ≡ b → awaits x (cond b mode.Runs m) ≡ true → ⊥
     go true q k = cc
-    go false q k =
-        let same : y ≡ x = cc in
-        let yes : equal_var y x ≡ true = subst (λ (z : VarName). equal_var y z ≡ true) same (same_name_refl y) in cc
+    go false q k = cc
 
-roused_goes : {V : Type 0} (x : VarName) (o : Slot V) (h : Occupant V) → wake_slot x o ≡ Some h → h.mode ≡ mode.Waits x → ⊥
+roused_goes : {V : Type 0} (x : VarName) (o : Slot V) (h : Occupant V) → wake_slot x o ≡ Some h → awaits x h.mode ≡ true → ⊥
 roused_goes x None h is m = cc
-roused_goes {V} x (Some d) h is m = wake_goes x d.mode (ap (λ (o : Slot V). mode_in o) is ∙ m)
+roused_goes {V} x (Some d) h is m = wake_goes x d.mode (ap (λ (o : Slot V). awaits x (mode_in o)) is ∙ m)
 
 -- a slot that waits after one was roused is another, and waited before
-waits_before : {V : Type 0} (x : VarName) (slots : List (Slot V)) (k j : ℕ) → IsModeAt (wake_slot_at x slots k) j (mode.Waits x) → (j ≢ k) × IsModeAt slots j (mode.Waits x)
+pub waits_before : {V : Type 0} (x : VarName) (slots : List (Slot V)) (k j : ℕ) → IsAwaitingAt (wake_slot_at x slots k) j x → (j ≢ k) × IsAwaitingAt slots j x
 waits_before x [] k j w = cc
 waits_before x (o ∷ slots) zero zero w = absurd (roused_goes x o w.0 (cc) w.2)
 waits_before x (o ∷ slots) zero (suc j) w = (omega arith, w)
@@ -94,19 +112,23 @@ waits_before x (o ∷ slots) (suc k) (suc j) w =
     let b = waits_before x slots k j w in (λ (same : suc j ≡ suc k). b.0 (omega (arith, same)), b.1)
 
 -- where each slot that waits is among the keys, all that wait are roused
-pub roused_all : {V : Type 0} (x : VarName) (slots : List (Slot V)) (keys : List ℕ) → ((j : ℕ) → IsModeAt slots j (mode.Waits x) → Contains keys j) → wake_slots x slots keys ≡ map (wake_slot x) slots
+pub roused_all : {V : Type 0} (x : VarName) (slots : List (Slot V)) (keys : List ℕ) → ((j : ℕ) → IsAwaitingAt slots j x → Contains keys j) → wake_slots x slots keys ≡ map (wake_slot x) slots
 roused_all x slots [] h = sym (none_waits x slots (λ j w. nothing j (h j w)))
   where
     nothing : (j : ℕ) → Contains [] j → ⊥
     nothing j (k, below, is) = absurd (omega arith)
 roused_all {V} x slots (k ∷ keys) h = roused_all x (wake_slot_at x slots k) keys (λ j w. among j (waits_before x slots k j w)) ∙ map_rouse_at x slots k
   where
-    among : (j : ℕ) → (j ≢ k) × IsModeAt slots j (mode.Waits x) → Contains keys j
+    among : (j : ℕ) → (j ≢ k) × IsAwaitingAt slots j x → Contains keys j
     among j b = go (Contains-cons_cases k j keys (h j b.1))
       where
         go : (k ≡ j) ⊎ Contains keys j → Contains keys j
         go (inl e) = absurd (b.0 (sym e))
         go (inr c) = c
+
+-- the next key
+pub rouse_next : {V : Type 0} (x : VarName) (slots now : List (Slot V)) (keys : List ℕ) (i d : ℕ) → i < length keys → now ≡ wake_slot_at x slots (get_or keys i d) → wake_slots x now (drop (i + 1) keys) ≡ wake_slots x slots (drop i keys)
+rouse_next x slots now keys i d below e = rw (e, add-one) (sym (ap (λ (l : List ℕ). wake_slots x slots l) (drop-cons keys i d below)))
 
 -- ---- the threads by name
 
@@ -155,12 +177,14 @@ pub none_woken : {V : Type 0} (x : VarName) (ts : List (Entry V)) → waiting_of
 none_woken x [] e = refl
 none_woken {V} x ((n, (v, mode.Runs)) ∷ ts) e = ap (λ (l : List (Entry V)). (n, (v, mode.Runs)) ∷ l) (none_woken x ts e)
 none_woken x ((n, (v, mode.Waits y)) ∷ ts) e = cc
+none_woken x ((n, (v, mode.WaitsAny ys)) ∷ ts) e = cc
 none_woken x ((n, (v, mode.WaitsFor c)) ∷ ts) e = cc
 
 pub waiting_at_most : {V : Type 0} (ts : List (Entry V)) → waiting_of ts ≤ length ts
 waiting_at_most [] = omega arith
 waiting_at_most {V} ((n, (v, mode.Runs)) ∷ ts) = let rest = waiting_at_most ts in omega (arith, rest)
 waiting_at_most {V} ((n, (v, mode.Waits y)) ∷ ts) = let rest = waiting_at_most ts in omega (arith, rest)
+waiting_at_most {V} ((n, (v, mode.WaitsAny ys)) ∷ ts) = let rest = waiting_at_most ts in omega (arith, rest)
 waiting_at_most {V} ((n, (v, mode.WaitsFor c)) ∷ ts) = let rest = waiting_at_most ts in omega (arith, rest)
 
 -- all wait, exactly where as many wait as there are
@@ -168,10 +192,12 @@ pub all_wait : {V : Type 0} (ts : List (Entry V)) → waiting_of ts ≡ length t
 all_wait [] e = tt
 all_wait {V} ((n, (v, mode.Runs)) ∷ ts) e = let most : waiting_of ts ≤ length ts = waiting_at_most ts in absurd (omega (arith, most, e))
 all_wait {V} ((n, (v, mode.Waits y)) ∷ ts) e = (λ k. cc, all_wait ts (omega (arith, e)))
+all_wait {V} ((n, (v, mode.WaitsAny ys)) ∷ ts) e = (λ k. cc, all_wait ts (omega (arith, e)))
 all_wait {V} ((n, (v, mode.WaitsFor c)) ∷ ts) e = (λ k. cc, all_wait ts (omega (arith, e)))
 
 pub as_many_wait : {V : Type 0} (ts : List (Entry V)) → AllWait ts → waiting_of ts ≡ length ts
 as_many_wait [] h = refl
 as_many_wait {V} ((n, (v, mode.Runs)) ∷ ts) h = absurd (h.0 refl)
 as_many_wait {V} ((n, (v, mode.Waits y)) ∷ ts) h = ap suc (as_many_wait ts h.1)
+as_many_wait {V} ((n, (v, mode.WaitsAny ys)) ∷ ts) h = ap suc (as_many_wait ts h.1)
 as_many_wait {V} ((n, (v, mode.WaitsFor c)) ∷ ts) h = ap suc (as_many_wait ts h.1)

@@ -2,3 +2,4 @@ pub mod Threads
 pub mod Lends
 pub mod Slots
 pub mod Invariant
+pub mod Parking

@@ -1,6 +1,6 @@
 -- Threads in slots: each keeps its slot until it has ended, and no slot is used again, so that the order of the slots is
 -- that in which threads were born.
-use Rattle.std.specs.Prelude.{◌≡◌, ◌≢◌, ℕ, ◌+◌, ◌<◌, zero, suc, List, [], ◌∷◌, ◌++◌, length, Option, Some, None, slice_get, ◌⊎◌, if◌then◌else◌}
+use Rattle.std.specs.Prelude.{◌≡◌, ◌≢◌, ℕ, ◌+◌, ◌<◌, zero, suc, List, [], ◌∷◌, ◌++◌, length, Option, Some, None, Bool, false, slice_get, ◌⊎◌, if◌then◌else◌}
 use Rattle.std.specs.Map.{lookup}
 use Rattle.tree_node.specs.declared.names.VarName.{VarName}
 use Rattle.tree_node.specs.declared.names.ThreadName.{ThreadName}
@@ -9,7 +9,7 @@ use Rattle.tree_node.specs.State.{equal_thread}
 use Rattle.thread_roster.specs.declared.mode.Mode.{Mode}
 use Rattle.thread_roster.specs.declared.mode.Mode.TheVariants.{Runs}
 use Rattle.thread_roster.specs.declared.slot.Occupant.{Occupant}
-use Rattle.thread_roster.specs.Threads.{Entry, wake, is_waiting}
+use Rattle.thread_roster.specs.Threads.{Entry, awaits, wake, is_waiting}
 
 -- a thread with its value and how it stands; None once it has ended
 abbrev pub Slot : Type 0 → Type 0
@@ -97,6 +97,26 @@ wake_slot_at x (o ∷ slots) (suc k) = o ∷ wake_slot_at x slots k
 abbrev pub wake_slots : {V : Type 0} → VarName → List (Slot V) → List ℕ → List (Slot V)
 wake_slots x slots [] = slots
 wake_slots x slots (k ∷ keys) = wake_slots x (wake_slot_at x slots k) keys
+
+-- whether the thread in a slot waits for x
+abbrev pub awaits_in : {V : Type 0} → VarName → Slot V → Bool
+awaits_in x None = false
+awaits_in x (Some h) = awaits x h.mode
+
+-- whether the thread in one of the slots does
+abbrev pub awaits_at : {V : Type 0} → VarName → List (Slot V) → ℕ → Bool
+awaits_at x [] k = false
+awaits_at x (o ∷ slots) zero = awaits_in x o
+awaits_at x (o ∷ slots) (suc k) = awaits_at x slots k
+
+-- the key, where the thread in its slot waits for x
+abbrev pub woken_at : {V : Type 0} → VarName → List (Slot V) → ℕ → List ℕ
+woken_at x slots k = if awaits_at x slots k then k ∷ [] else []
+
+-- the keys of the slots whose threads go on, as one after the other does, each once
+abbrev pub woken : {V : Type 0} → VarName → List (Slot V) → List ℕ → List ℕ
+woken x slots [] = []
+woken x slots (k ∷ keys) = woken_at x slots k ++ woken x (wake_slot_at x slots k) keys
 
 -- ---- numbers
 

@@ -1,5 +1,6 @@
 -- Threads by name, each with a value and how it stands.
 use Rattle.std.specs.Prelude.{◌≡◌, ◌≢◌, ℕ, List, [], ◌∷◌, filter, length, Bool, true, false, Some, if◌then◌else◌}
+use Rattle.std.specs.List.{list_any}
 use Rattle.tree_node.specs.declared.names.VarName.{VarName}
 use Rattle.tree_node.specs.declared.names.ThreadName.{ThreadName}
 use Rattle.tree_node.specs.Assoc.{value_of}
@@ -7,7 +8,7 @@ use Rattle.tree_node.specs.Each.{Each}
 use Rattle.tree_node.specs.State.{equal_thread}
 use Rattle.tree_node.specs.Store.{equal_var}
 use Rattle.thread_roster.specs.declared.mode.Mode.{Mode}
-use Rattle.thread_roster.specs.declared.mode.Mode.TheVariants.{Runs, Waits, WaitsFor}
+use Rattle.thread_roster.specs.declared.mode.Mode.TheVariants.{Runs, Waits, WaitsAny, WaitsFor}
 
 -- a thread's name, its value, and how it stands
 abbrev pub Entry : Type 0 → Type 0
@@ -32,10 +33,16 @@ set_mode (t ∷ ts) n m = if equal_thread t.0 n then (n, (t.1.0, m)) ∷ ts else
 
 -- ---- waking
 
+-- the thread waits for x, alone or among others
+abbrev pub awaits : VarName → Mode → Bool
+awaits x Runs = false
+awaits x (Waits y) = equal_var y x
+awaits x (WaitsAny ys) = list_any (λ y. equal_var y x) ys
+awaits x (WaitsFor c) = false
+
 -- a thread that waits for x goes on
 abbrev pub wake : VarName → Mode → Mode
-wake x (Waits y) = if equal_var y x then Runs else Waits y
-wake x m = m
+wake x m = if awaits x m then Runs else m
 
 -- all those that wait for x go on
 abbrev pub wake_all : {V : Type 0} → VarName → List (Entry V) → List (Entry V)
@@ -44,10 +51,11 @@ wake_all x (t ∷ ts) = (t.0, (t.1.0, wake x t.1.1)) ∷ wake_all x ts
 
 -- ---- waiting
 
--- the thread waits for a variable or for a cell
+-- the thread waits for a variable, for one of several, or for a cell
 abbrev pub is_waiting : Mode → Bool
 is_waiting Runs = false
 is_waiting (Waits x) = true
+is_waiting (WaitsAny xs) = true
 is_waiting (WaitsFor c) = true
 
 -- how many of them wait

@@ -1,24 +1,27 @@
 //! Threads by name.
 
-ghost use Rattle.std.specs.Prelude.{◌≡◌, ◌↔◌, ◌+◌, ◌∷◌, [], None, Some, OnOk, OnErr, IfSome, IfNone, IsTrue, IsSome, length};
+ghost use Rattle.std.specs.Prelude.{Contains, ◌≡◌, ◌↔◌, ◌+◌, ◌∷◌, [], None, Some, OnOk, OnErr, IfSome, IfNone, IsTrue, IsSome, length};
 ghost use Rattle.std.specs.Borrow.{sem};
 ghost use Rattle.tree_node.specs.Assoc.{value_of, without_key};
 ghost use Rattle.tree_node.specs.State.{equal_thread};
 ghost use Rattle.thread_roster.specs.declared.mode.Mode.{Mode as Standing};
 ghost use Rattle.thread_roster.specs.declared.mode.Mode.TheVariants as stands;
+ghost use Rattle.waiting_keys.specs.Keys.{keys_among};
+ghost use Rattle.tree_node.specs.Each.{Each};
+ghost use Rattle.thread_roster.specs.Parking.{HasMoreKeys};
 ghost use Rattle.thread_roster.specs.Slots.{threads_in as slots_hold};
 ghost use Rattle.thread_roster.specs.Threads.{set_mode, set_value, wake_all, waiting_of, AllWait, IsSuspended, IsRunnable};
 
 use crate::mode::Mode;
 use crate::queue::Queue;
-use crate::slot::{Occupant, Slot, clear, set_mode, value_in, wake_slots};
+use crate::slot::{Occupant, Slot, clear, set_mode, value_in};
 use crate::slots_by_name::{
     SlotsByName, count_running, count_waiting, find, forget, leave, next_runnable, slot_of,
 };
 use indexmap::IndexMap;
 use std::alloc::{AllocError, Global};
 use std::marker::Model;
-use tree_node::{CellName, ThreadName, VarName};
+use tree_node::{CellName, ThreadName, VarName, Vars};
 use waiting_keys::Waiters;
 
 /// Threads by name, each with a value and how it stands, which contracts see as a list, the newest first, and the number of
@@ -49,6 +52,28 @@ impl<V> Model for Roster<V> {
     } };
 
     ghost invariant = { λ r. IsConsistent r.slots.items r.by_name.entries r.queue r.waiters r.living r.waiting };
+}
+
+// A slot is among the keys of each of these variables. Where it is the last there already, it is not put there once more.
+fn park(waiters: &mut Waiters, vars: &[VarName], slot: usize) -> Result<(), AllocError>
+    ensures stay { HasMoreKeys waiters.old slot waiters.new }
+    ensures there { OnOk result (Each (λ y. Contains (keys_among waiters.new y) slot) vars.now) }
+{
+    'vars: for var in vars {
+        park_at(waiters, *var, slot)?;
+    }
+    Ok(())
+}
+
+// A slot is among the keys of a variable.
+fn park_at(waiters: &mut Waiters, var: VarName, slot: usize) -> Result<(), AllocError>
+    ensures stay { HasMoreKeys waiters.old slot waiters.new }
+    ensures there { OnOk result (Contains (keys_among waiters.new var) slot) }
+{
+    if waiters.keys_at(var).last() == Some(&slot) {
+        return Ok(());
+    }
+    waiters.add(var, slot)
 }
 
 impl<V: Drop> Roster<V> {
@@ -124,15 +149,15 @@ impl<V: Drop> Roster<V> {
     }
 
     /// How a thread stands.
-    pub fn mode(&self, name: ThreadName) -> Option<Mode>
-        ensures some { IfSome result (λ m. (v : V) × (value_of equal_thread self.now.living name ≡ Some (v, m))) }
+    pub fn mode(&self, name: ThreadName) -> Option<&Mode>
+        ensures some { IfSome result (λ m. (v : V) × (value_of equal_thread self.now.living name ≡ Some (v, m.now))) }
         ensures none { IfNone result (value_of equal_thread self.now.living name ≡ None) }
     {
         match slot_of(&self.slots, &self.by_name, &self.queue, name) {
             None => None,
             Some(slot) => match &self.slots[slot] {
                 None => unreachable!(),
-                Some(held) => Some(held.mode),
+                Some(held) => Some(&held.mode),
             },
         }
     }
@@ -188,6 +213,22 @@ impl<V: Drop> Roster<V> {
         Ok(())
     }
 
+    /// A thread waits until one of several variables is bound. It may be among the keys of the others still when it goes on, and
+    /// is passed over there.
+    pub fn wait_any(&mut self, name: ThreadName, vars: Vars) -> Result<(), AllocError>
+        requires lives { IsSome (value_of equal_thread self.old.living name) }
+        ensures living { OnOk result (self.new.living ≡ set_mode self.old.living name (stands.WaitsAny vars)) }
+        ensures ended { OnOk result (self.new.ended ≡ self.old.ended) }
+        ensures err { OnErr result (self.new ≡ self.old) }
+    {
+        let slot = find(&self.slots, &self.by_name, &self.queue, name);
+        park(&mut self.waiters, vars.as_slice(), slot)?;
+        let before = set_mode(&mut self.slots, slot, Mode::WaitsAny(vars));
+        self.waiting = count_waiting(self.waiting, before);
+        leave(&mut self.queue, slot);
+        Ok(())
+    }
+
     /// A thread waits for a cell's token, until `resume` lets it go on.
     pub fn wait_for(&mut self, name: ThreadName, cell: CellName)
         requires lives { IsSome (value_of equal_thread self.old.living name) }
@@ -214,7 +255,8 @@ impl<V: Drop> Roster<V> {
         Ok(())
     }
 
-    /// The threads that wait for a variable go on, behind those that can go on, in the order in which they came to wait.
+    /// The threads that wait for a variable go on, behind those that can go on, in the order in which they first came to wait for
+    /// it. One that is among the keys there still, and goes on already, keeps its place.
     pub fn wake(&mut self, var: VarName) -> Result<(), AllocError>
         ensures living { OnOk result (self.new.living ≡ wake_all var self.old.living) }
         ensures ended { OnOk result (self.new.ended ≡ self.old.ended) }
@@ -224,8 +266,7 @@ impl<V: Drop> Roster<V> {
             return Ok(());
         }
         let keys = self.waiters.keys_at(var);
-        self.queue.push_all(keys)?;
-        let roused = wake_slots(&mut self.slots, keys, var);
+        let roused = self.queue.wake(&mut self.slots, keys, var)?;
         self.waiting -= roused;
         self.waiters.take(var);
         Ok(())

@@ -1,16 +1,18 @@
 //! Threads in slots.
 
-ghost use Rattle.std.specs.Prelude.{◌≡◌, ◌≢◌, ◌+◌, ◌<◌, ◌↔◌, Some, None, IsTrue, IsSome, IfSome, IfNone, slice_get, slice_set, length, if◌then◌else◌};
+ghost use Rattle.std.specs.Prelude.{◌≡◌, ◌≢◌, ◌+◌, ◌<◌, ◌≤◌, ◌++◌, ◌↔◌, Some, None, IsTrue, IsSome, IfSome, IfNone, slice_get, slice_set, length, if◌then◌else◌};
 ghost use Rattle.std.specs.Vec.{vec_len};
+ghost use Rattle.std.specs.VecDeque.{deque_len, deque_capacity};
 ghost use Rattle.std.specs.Borrow.{sem, Lends};
 ghost use Rattle.thread_roster.specs.declared.mode.Mode.TheVariants as stands;
-ghost use Rattle.thread_roster.specs.Threads.{wake};
-ghost use Rattle.thread_roster.specs.Slots.{Slot as TheSlot, IsSlotOf, AreInside, wake_slot, wake_slot_at, wake_slots, total, waiting};
+ghost use Rattle.thread_roster.specs.Threads.{awaits, wake, is_waiting};
+ghost use Rattle.thread_roster.specs.Slots.{Slot as TheSlot, IsSlotOf, AreInside, wake_slot_at, wake_slots, awaits_at, woken_at, woken, total, waiting};
 ghost use Rattle.std.specs.contracts.option.Option.{the_row as OptionOf};
 ghost use Rattle.thread_roster.specs.contracts.slot.Occupant.{the_row as held_row};
 ghost use Rattle.thread_roster.specs.Slots.{with_value_in, value_there};
 
 use crate::mode::Mode;
+use std::collections::VecDeque;
 use tree_node::{ThreadName, VarName};
 
 /// A thread: its name, how it stands, and its value.
@@ -41,9 +43,10 @@ pub fn runnable_name<V>(slot: &Slot<V>) -> Option<ThreadName>
 {
     match slot {
         None => None,
-        Some(held) => match held.mode {
+        Some(held) => match &held.mode {
             Mode::Runs => Some(held.name),
             Mode::Waits(_) => None,
+            Mode::WaitsAny(_) => None,
             Mode::WaitsFor(_) => None,
         },
     }
@@ -61,53 +64,52 @@ pub fn value_in<V>(slot: &mut Slot<V>) -> &mut V
     }
 }
 
-/// The thread in a slot stands so from now on. Answers how it stood before.
-pub fn set_mode<V: Drop>(slots: &mut Vec<Slot<V>>, slot: usize, mode: Mode) -> Mode
+/// The thread in a slot stands so from now on. Answers whether it waited before.
+pub fn set_mode<V: Drop>(slots: &mut Vec<Slot<V>>, slot: usize, mode: Mode) -> bool
     requires inside { slot < length slots.old.items }
     requires held { (h : Occupant V) × (slice_get slots.old.items slot ≡ Some (Some h)) }
     ensures put { (h : Occupant V) → slice_get slots.old.items slot ≡ Some (Some h) → slots.new.items ≡ slice_set slots.old.items slot (Some (record h { mode = mode })) }
-    ensures old { (h : Occupant V) → slice_get slots.old.items slot ≡ Some (Some h) → result ≡ h.mode }
+    ensures old { (h : Occupant V) → slice_get slots.old.items slot ≡ Some (Some h) → result ≡ is_waiting h.mode }
     ensures len { vec_len slots.new ≡ vec_len slots.old }
 {
     match &mut slots[slot] {
         None => unreachable!(),
-        Some(held) => std::mem::replace(&mut held.mode, mode),
+        Some(held) => {
+            let waited = held.mode.is_waiting();
+            held.mode = mode;
+            waited
+        }
     }
 }
 
-/// The slot of a thread is empty from now on. Answers how the thread stood.
-pub fn clear<V: Drop>(slots: &mut Vec<Slot<V>>, slot: usize) -> Mode
+/// The slot of a thread is empty from now on. Answers whether the thread waited.
+pub fn clear<V: Drop>(slots: &mut Vec<Slot<V>>, slot: usize) -> bool
     requires inside { slot < length slots.old.items }
     requires held { (h : Occupant V) × (slice_get slots.old.items slot ≡ Some (Some h)) }
     ensures put { slots.new.items ≡ slice_set slots.old.items slot None }
-    ensures old { (h : Occupant V) → slice_get slots.old.items slot ≡ Some (Some h) → result ≡ h.mode }
+    ensures old { (h : Occupant V) → slice_get slots.old.items slot ≡ Some (Some h) → result ≡ is_waiting h.mode }
     ensures len { vec_len slots.new ≡ vec_len slots.old }
 {
-    let mode = match &slots[slot] {
+    let waited = match &slots[slot] {
         None => unreachable!(),
-        Some(held) => held.mode,
+        Some(held) => held.mode.is_waiting(),
     };
     slots[slot] = None;
-    mode
+    waited
 }
 
 // A thread that waits for this variable goes on: true, where it does.
+#[tactic(auto, using(crate::proofs::WakeLemmas::wake_weight))]
 fn wake_slot<V>(held: &mut Occupant<V>, var: VarName) -> bool
     ensures held { held.new ≡ record held.old { mode = wake var held.old.mode } }
+    ensures goes { result ≡ awaits var held.old.mode }
     ensures count { (if result then 1 else 0) + waiting held.new ≡ waiting held.old }
 {
-    match held.mode {
-        Mode::Waits(needed) => {
-            if needed == var {
-                held.mode = Mode::Runs;
-                true
-            } else {
-                false
-            }
-        }
-        Mode::Runs => false,
-        Mode::WaitsFor(_) => false,
+    let goes = held.mode.awaits(var);
+    if goes {
+        held.mode = Mode::Runs;
     }
+    goes
 }
 
 // The thread in a slot goes on, where it waits for this variable: true, where it does.
@@ -115,6 +117,7 @@ fn wake_slot<V>(held: &mut Occupant<V>, var: VarName) -> bool
 fn wake_slot_at<V: Drop>(slots: &mut Vec<Slot<V>>, slot: usize, var: VarName) -> bool
     requires inside { slot < length slots.old.items }
     ensures slots { slots.new.items ≡ wake_slot_at var slots.old.items slot }
+    ensures goes { result ≡ awaits_at var slots.old.items slot }
     ensures count { (if result then 1 else 0) + total waiting slots.new.items ≡ total waiting slots.old.items }
     ensures len { vec_len slots.new ≡ vec_len slots.old }
 {
@@ -124,18 +127,49 @@ fn wake_slot_at<V: Drop>(slots: &mut Vec<Slot<V>>, slot: usize, var: VarName) ->
     }
 }
 
-/// Those in the slots of these keys go on, where they wait for this variable. Answers how many do.
-pub fn wake_slots<V: Drop>(slots: &mut Vec<Slot<V>>, keys: &[usize], var: VarName) -> usize
+// The same, and then its slot comes behind the others in a queue, which has room. Answers how many went on.
+fn wake_next<V: Drop>(
+    slots: &mut Vec<Slot<V>>,
+    queue: &mut VecDeque<usize>,
+    slot: usize,
+    var: VarName,
+) -> usize
+    requires inside { slot < length slots.old.items }
+    requires room { deque_len queue.old < deque_capacity queue.old }
+    ensures slots { slots.new.items ≡ wake_slot_at var slots.old.items slot }
+    ensures queue { queue.new.items ≡ queue.old.items ++ woken_at var slots.old.items slot }
+    ensures count { result + total waiting slots.new.items ≡ total waiting slots.old.items }
+    ensures len { vec_len slots.new ≡ vec_len slots.old }
+    ensures few { deque_len queue.new ≤ deque_len queue.old + 1 }
+    ensures capacity { deque_capacity queue.new ≡ deque_capacity queue.old }
+{
+    if wake_slot_at(slots, slot, var) {
+        queue.push_back_reserved(slot);
+        1
+    } else {
+        0
+    }
+}
+
+/// Those in the slots of these keys go on, where they wait for this variable, and their slots come behind the others in a queue,
+/// which has room, each once. Answers how many do.
+pub fn wake_slots<V: Drop>(
+    slots: &mut Vec<Slot<V>>,
+    queue: &mut VecDeque<usize>,
+    keys: &[usize],
+    var: VarName,
+) -> usize
     requires inside { AreInside slots.old.items keys.now }
+    requires room { deque_len queue.old + length keys.now ≤ deque_capacity queue.old }
     ensures slots { slots.new.items ≡ wake_slots var slots.old.items keys.now }
+    ensures queue { queue.new.items ≡ queue.old.items ++ woken var slots.old.items keys.now }
     ensures count { result + total waiting slots.new.items ≡ total waiting slots.old.items }
     ensures len { vec_len slots.new ≡ vec_len slots.old }
 {
     let mut roused = 0;
     'keys: for key in keys {
-        if wake_slot_at(slots, *key, var) {
-            roused += 1;
-        }
+        let more = wake_next(slots, queue, *key, var);
+        roused += more;
     }
     roused
 }

@@ -1,13 +1,12 @@
 //! Slots of names, and the first slot of the queue.
 
-ghost use Rattle.std.specs.Prelude.{◌≡◌, ◌≢◌, ◌+◌, ◌<◌, ◌≤◌, ◌^◌, ◌++◌, ◌∷◌, [], Some, None, IsSome, IfSome, IfNone, slice_get, length};
+ghost use Rattle.std.specs.Prelude.{◌≡◌, ◌≢◌, ◌+◌, ◌<◌, ◌≤◌, ◌^◌, ◌++◌, ◌∷◌, [], Some, None, IsSome, IfSome, IfNone, slice_get, length, if◌then◌else◌};
 ghost use Rattle.tree_node.specs.Assoc.{value_of};
 ghost use Rattle.tree_node.specs.State.{equal_thread};
 ghost use Rattle.tree_node.specs.declared.names.ThreadName.{ThreadName as Named};
 ghost use Rattle.thread_roster.specs.declared.slot.Occupant.{Occupant as TheOccupant};
-ghost use Rattle.thread_roster.specs.Slots.{threads_in, ArePlaced, AreInside, slot_in, with_slot, weight, HasLeft, IsRest, IsNext};
+ghost use Rattle.thread_roster.specs.Slots.{threads_in, ArePlaced, AreInside, slot_in, with_slot, HasLeft, IsRest, IsNext};
 
-use crate::mode::Mode;
 use crate::queue::Queue;
 use crate::slot::{Slot, is_of, runnable_name};
 use indexmap::IndexMap;
@@ -96,26 +95,18 @@ pub fn next_runnable<V>(slots: &Vec<Slot<V>>, queue: &mut Queue) -> Option<Threa
     None
 }
 
-/// How many wait, once a thread does that stood so before.
-pub fn count_waiting(waiting: usize, before: Mode) -> usize
+/// How many wait, once a thread does that waited before, or did not.
+pub fn count_waiting(waiting: usize, before: bool) -> usize
     requires few { waiting < 2 ^ 63 }
-    ensures { result + weight before ≡ waiting + 1 }
+    ensures { result + (if before then 1 else 0) ≡ waiting + 1 }
 {
-    if before.is_waiting() {
-        waiting
-    } else {
-        waiting + 1
-    }
+    if before { waiting } else { waiting + 1 }
 }
 
-/// How many wait, once a thread does not any more that stood so before.
-pub fn count_running(waiting: usize, before: Mode) -> usize
-    requires among { weight before ≤ waiting }
-    ensures { result + weight before ≡ waiting }
+/// How many wait, once a thread does not any more that waited before, or did not.
+pub fn count_running(waiting: usize, before: bool) -> usize
+    requires among { (if before then 1 else 0) ≤ waiting }
+    ensures { result + (if before then 1 else 0) ≡ waiting }
 {
-    if before.is_waiting() {
-        waiting - 1
-    } else {
-        waiting
-    }
+    if before { waiting - 1 } else { waiting }
 }

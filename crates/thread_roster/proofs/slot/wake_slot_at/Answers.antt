@@ -1,6 +1,6 @@
-use Rattle.std.proofs.Common.{arith, ◌∙◌, ap, refl, Some, slice_set}
+use Rattle.std.proofs.Common.{arith, ◌∙◌, sym, ap, refl, Some, None, slice_set}
 use Rattle.thread_roster.specs.Slots.{waiting}
-use Rattle.thread_roster.proofs.WakeLemmas.{roused_none, roused_some}
+use Rattle.thread_roster.proofs.WakeLemmas.{roused_none, roused_some, awaits_as}
 use Rattle.thread_roster.proofs.SlotLemmas.{at_index, total_set}
 use Rattle.thread_roster.proofs.slot.wake_slot_at.Goals as goal
 
@@ -21,3 +21,11 @@ returns-in-Some-clause-count g c =
     (at_index c.args.slots.now.items c.args.slot _ c.requires.inside c.index_mut.ensures.value ∙ ap Some c.in-Some.is) in
     let count = c.wake_slot.ensures.count in
     omega (arith, set, count)
+
+pub returns-in-None-clause-goes : goal.returns-in-None-clause-goes
+returns-in-None-clause-goes g c =
+    sym (awaits_as c.args.slots.now.items c.args.slot None c.args.var (at_index c.args.slots.now.items c.args.slot _ c.requires.inside c.index_mut.ensures.value ∙ ap Some c.in-None.is))
+
+pub returns-in-Some-clause-goes : goal.returns-in-Some-clause-goes
+returns-in-Some-clause-goes g c =
+    c.wake_slot.ensures.goes ∙ sym (awaits_as c.args.slots.now.items c.args.slot (Some c.in-Some.held) c.args.var (at_index c.args.slots.now.items c.args.slot _ c.requires.inside c.index_mut.ensures.value ∙ ap Some c.in-Some.is))
