@@ -36,6 +36,7 @@ scopes_have P (stmt.TellAtom left text) h = tt
 scopes_have P (stmt.TellRec left label fields) h = tt
 scopes_have P (stmt.TellProc left first count body) h = h
 scopes_have P (stmt.Calc left op a b) h = tt
+scopes_have P (stmt.Test left op a b) h = tt
 scopes_have P (stmt.Select left source by) h = tt
 scopes_have P (stmt.If subject chosen other) h = h
 scopes_have P (stmt.Case subject pattern first chosen other) h = h

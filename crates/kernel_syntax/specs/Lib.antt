@@ -8,3 +8,7 @@ pub mod Laws
 pub mod PositionLists
 pub mod Table
 pub mod Arithmetic
+pub mod BuiltIns
+pub mod Sugar
+pub mod SugarView
+pub mod SugarLimits

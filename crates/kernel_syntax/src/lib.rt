@@ -20,16 +20,19 @@
 //! language), 2.4.2 (scope), 2.7 (exceptions), 3.2 (numbers), 4.1 (threads), 6.3 (cells); its appendix C (how atoms are spelled).
 #![tactic(auto)]
 
+mod built_in;
 mod laws;
 mod limits;
 mod position_lists;
 mod preorder;
 mod program;
 mod stmt;
+pub mod sugar;
 mod table;
 mod texts;
 mod threads;
 
+pub use built_in::BuiltIn;
 pub use laws::{free_goes_out, free_is_few, free_is_used, free_unfolds, operators_divide};
 pub use program::{Program, ProgramError};
-pub use stmt::{Bodies, Features, Op, Pattern, Positions, Selector, Slots, Stmt, features};
+pub use stmt::{Bodies, Features, Op, Pattern, Positions, Selector, Slots, Stmt, TestOp, features};

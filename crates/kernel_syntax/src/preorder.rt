@@ -201,6 +201,7 @@ fn names_are_within(around: u32, stmt: &Stmt) -> bool
         }
         Stmt::TellProc { left, .. } => *left < around,
         Stmt::Calc { left, a, b, .. } => *left < around && *a < around && *b < around,
+        Stmt::Test { left, a, b, .. } => *left < around && *a < around && *b < around,
         Stmt::Select { left, source, by } => {
             *left < around && *source < around && selector_is_within(around, by)
         }

@@ -31,6 +31,13 @@ pub enum Op {
     Gt,
 }
 
+/// A test of two variables: whether they are equal, or whether they are different (entailment: CTM section 2.8.2).
+#[derive(Clone, Copy, Debug, PartialEq, Eq)]
+pub enum TestOp {
+    Equal,
+    NotEqual,
+}
+
 /// What a selection selects by: the value at a position, or a feature that the text names.
 #[derive(Drop)]
 pub enum Selector {
@@ -87,6 +94,12 @@ pub enum Stmt {
     Calc {
         left: u32,
         op: Op,
+        a: u32,
+        b: u32,
+    },
+    Test {
+        left: u32,
+        op: TestOp,
         a: u32,
         b: u32,
     },

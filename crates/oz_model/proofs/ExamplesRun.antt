@@ -13,11 +13,11 @@ use Rattle.tree_node.specs.Words.{reserved_words}
 use Rattle.kernel_syntax.specs.Free.{free}
 use Rattle.oz_model.specs.Occurs.{equal_name, occurs}
 use Rattle.oz_model.specs.Step.{AreFresh, kind_of}
-use Rattle.oz_model.specs.Examples.{ProcedureIsCalled, FieldIsMatched, HandlerHasException, ContentIsExchanged, ThreadIsMade, OverflowIsRaised, IntegerIsNoTruth}
+use Rattle.oz_model.specs.Examples.{ProcedureIsCalled, FieldIsMatched, HandlerHasException, ContentIsExchanged, ThreadIsMade, OverflowIsRaised, IntegerIsNoTruth, SameIsEqual, ComparisonIsAwaited}
 use Rattle.oz_model.specs.Examples as examples
 use Rattle.oz_model.specs.Rows.{RunsTo}
 use Rattle.oz_model.proofs.OccursLemmas.{test_tells_new, name_decides}
-use Rattle.oz_model.proofs.RowsRun.{ends}
+use Rattle.oz_model.proofs.RowsRun.{ends, waits}
 use Rattle.std.proofs.lemmas.Bool.{or_parts}
 
 -- ---- fresh names by tests
@@ -92,3 +92,13 @@ unfolding free shown_within reserved_words
 integer_is_no_truth =
     ends examples.tests_integer examples.integer_test_picks _ 1 refl
     (fresh _ _ _ refl refl refl, (inl ((refl, refl), refl), (fresh _ _ _ refl refl refl, tt))) refl refl refl
+
+pub same_is_equal : SameIsEqual
+unfolding free shown_within reserved_words
+same_is_equal =
+    ends examples.compares examples.equal_picks _ 1 refl
+    (fresh _ _ _ refl refl refl, (inl ((refl, refl), refl), tt)) refl refl refl
+
+pub comparison_is_awaited : ComparisonIsAwaited
+unfolding free shown_within
+comparison_is_awaited = waits examples.compares_unbound examples.open_picks _ 0 _ refl (fresh _ _ _ refl refl refl, tt) refl tt refl refl

@@ -12,6 +12,8 @@ pub mod ExchangeLemmas
 pub mod WithinLemmas
 pub mod ShownLemmas
 pub mod KeepLemmas
+pub mod TestLemmas
+pub mod OpenLemmas
 pub mod OccursLemmas
 pub mod ClosureLemmas
 pub mod EffectNames

@@ -60,6 +60,7 @@ outcome_born p env rest fresh (outcome.Spawns at body vars) e = spawn_born fresh
 outcome_born p env rest fresh (outcome.Fails exception) e = fails_born fresh exception rest (vars_among fresh)
 outcome_born p env rest fresh (outcome.MakesCell content told) e = tt
 outcome_born p env rest fresh (outcome.Waits x) e = tt
+outcome_born p env rest fresh (outcome.Compares left right) e = tt
 outcome_born p env rest fresh (outcome.Runs codes) e = tt
 outcome_born p env rest fresh (outcome.Tells x t) e = tt
 outcome_born p env rest fresh (outcome.Declares first count body) e = tt

@@ -21,7 +21,7 @@ use Rattle.tree_node.specs.Store.{Equation}
 use Rattle.tree_node.specs.Words.{reserved_words}
 use Rattle.kernel_syntax.specs.declared.stmt.Stmt.{Stmt}
 use Rattle.kernel_syntax.specs.Free.{free}
-use Rattle.oz_model.specs.Need.{Need, Waits, Binds, Takes, IsReady, IsWaiting, kinds_of, stack_need}
+use Rattle.oz_model.specs.Need.{Need, Waits, WaitsAny, Binds, Takes, IsReady, IsWaiting, kinds_of, stack_need}
 use Rattle.oz_model.specs.Step.{IsAllowed, AreFresh, IsBindFor, need_of, next}
 use Rattle.oz_model.specs.Run.{AtRest, IsRun, first_thread, start}
 use Rattle.oz_model.specs.Rows.{IntegerIsPrinted, FailureIsReported, UnboundIsAwaited, AtomIsPrinted, AtomIsPrintedToo, SkipEnds, AreRefused, IsRefused, RunsTo, MarksCatch}
@@ -78,6 +78,7 @@ allowed p s n names bind More lives fit choice =
     go (Binds a b) [] None e c = cc
     go (Binds a b) (x ∷ xs) bind e c = cc
     go (Waits x) names bind e c = cc
+    go (WaitsAny q) names bind e c = cc
 
 runs : (p : List Stmt) (s : State) (ks : List Pick) → all_fit p s ks ≡ true → Choices p s ks → IsRun p s ks (end p s ks)
 runs p s [] e c = refl
@@ -119,6 +120,11 @@ first_fresh p e = record { of_kinds = refl; distinct = (tt, tt); unused = ((tt, 
 pub ends : (p : List Stmt) (ks : List Pick) (lines : List (List ℕ)) (ended : ℕ) → all_fit p (start p) ks ≡ true → Choices p (start p) ks →
     (end p (start p) ks).threads ≡ [] → (end p (start p) ks).lines ≡ lines → (end p (start p) ks).ended ≡ ended → RunsTo p ks lines ended 0
 ends p ks lines ended fit c none l n = (end p (start p) ks, runs p (start p) ks fit c, none_rests p (end p (start p) ks) none, l, n, ap length none)
+
+-- a state whose only thread waits, in which a run has ended
+pub waits : (p : List Stmt) (ks : List Pick) (lines : List (List ℕ)) (ended : ℕ) (st : Stack) → all_fit p (start p) ks ≡ true → Choices p (start p) ks →
+    (end p (start p) ks).threads ≡ (first_thread, st) ∷ [] → IsWaiting (stack_need p (end p (start p) ks).equations st) → (end p (start p) ks).lines ≡ lines → (end p (start p) ks).ended ≡ ended → RunsTo p ks lines ended 1
+waits p ks lines ended st fit c one waiting l n = (end p (start p) ks, runs p (start p) ks fit c, one_rests p (end p (start p) ks) st one waiting, l, n, ap length one)
 
 pub integer_is_printed : IntegerIsPrinted
 unfolding free shown_within digits

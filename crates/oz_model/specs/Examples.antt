@@ -1,4 +1,4 @@
--- Worked examples of the other statements: a procedure, a case, a handler, a cell, a thread, and exceptions of the system.
+-- Worked examples of the other statements: a procedure, a case, a handler, a cell, a thread, exceptions of the system, and tests.
 use Rattle.std.specs.Prelude.{◌≡◌, pos, List, [], ◌∷◌, ◌++◌, Option, Some, None, codes}
 use Rattle.tree_node.specs.declared.names.CellName.{CellName}
 use Rattle.tree_node.specs.declared.names.ProcName.{ProcName}
@@ -11,9 +11,10 @@ use Rattle.tree_node.specs.declared.pick.Pick.{Pick}
 use Rattle.tree_node.specs.Store.{Equation}
 use Rattle.tree_node.specs.Rows.{v, holds}
 use Rattle.kernel_syntax.specs.declared.stmt.Op.TheVariants.{Add}
+use Rattle.kernel_syntax.specs.declared.stmt.TestOp.TheVariants.{Equal, NotEqual}
 use Rattle.kernel_syntax.specs.declared.stmt.Pattern.TheVariants as pattern
 use Rattle.kernel_syntax.specs.declared.stmt.Stmt.{Stmt}
-use Rattle.kernel_syntax.specs.declared.stmt.Stmt.TheVariants.{Seq, Skip, Local, TellVar, TellInt, TellRec, TellProc, Calc, If, Case, Call, Browse, NewCell, Exchange, Thread, Try, Raise}
+use Rattle.kernel_syntax.specs.declared.stmt.Stmt.TheVariants.{Seq, Skip, Local, TellVar, TellInt, TellRec, TellProc, Calc, Test, If, Case, Call, Browse, NewCell, Exchange, Thread, Try, Raise}
 use Rattle.oz_model.specs.Run.{exchanges, contents_given}
 use Rattle.oz_model.specs.Rows.{code, new, pick, plain, RunsTo}
 
@@ -144,3 +145,27 @@ integer_test_picks =
 -- it prints the exception that nobody caught, and its thread ends
 abbrev pub IntegerIsNoTruth : Type 0
 IntegerIsNoTruth = RunsTo tests_integer integer_test_picks (codes "uncaught error(type)" ∷ []) 1 0
+
+-- local X Y in Y = X == X {Browse Y} end
+abbrev pub compares : List Stmt
+compares = Local 0 2 (code 1) ∷ Seq (code 2 ∷ code 3 ∷ []) ∷ Test 1 Equal 0 0 ∷ Browse 1 ∷ []
+
+-- the truth is told to Y, and Y is printed
+abbrev pub equal_picks : List Pick
+equal_picks = pick (new 0 ∷ new 1 ∷ []) None ∷ plain ∷ tell_picks (holds 1 (node.Atom (codes "true"))) ++ plain ∷ []
+
+-- a variable is equal to itself, bound or not: it prints true, and its thread ends
+abbrev pub SameIsEqual : Type 0
+SameIsEqual = RunsTo compares equal_picks (codes "true" ∷ []) 1 0
+
+-- local X Y Z in Z = X \= Y end
+abbrev pub compares_unbound : List Stmt
+compares_unbound = Local 0 3 (code 1) ∷ Test 2 NotEqual 0 1 ∷ []
+
+-- the declaration alone
+abbrev pub open_picks : List Pick
+open_picks = pick (new 0 ∷ new 1 ∷ new 2 ∷ []) None ∷ []
+
+-- the thread waits for X or Y: nothing is printed, and it lives
+abbrev pub ComparisonIsAwaited : Type 0
+ComparisonIsAwaited = RunsTo compares_unbound open_picks [] 0 1

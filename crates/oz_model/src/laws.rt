@@ -1,10 +1,11 @@
 //! Laws of steps and runs.
 
-ghost use Rattle.oz_model.specs.Laws.{StepsAreDetermined, RunsAreDetermined, NoStepAtRest, RestOrStep, WaitsForUnbound, RunsAreSound, RunsGoOn, ExchangesChain, ExchangesEnd, CellsAreChains, CellsHaveContents, StepsFindCells, NamesAreKnown, RunsAreOnce, OutcomesHaveShapes};
-ghost use Rattle.oz_model.specs.ThreadLaws.{EffectsAreNamed, NeedsAreNamed, EffectsAreCovered, EffectsHaveNodes, EffectsKeepOneEach, RunsAreCovered, NamesAreTaken};
-ghost use Rattle.oz_model.specs.Answers.{MoreIsWithin, NodesAgree, CasesAgree, ShownAgree, NeedsAgree, BindsAgree, EffectsAgree, StepsStay, WaitsStay, BindsStay, LowerBinds};
+ghost use Rattle.oz_model.specs.Laws.{StepsAreDetermined, RunsAreDetermined, NoStepAtRest, RestOrStep, WaitsForUnbound, WaitsWhereOpen, TestsTellTruth, RunsAreSound, RunsGoOn, ExchangesChain, ExchangesEnd, CellsAreChains, CellsHaveContents, StepsFindCells, NamesAreKnown, RunsAreOnce, OutcomesHaveShapes};
+ghost use Rattle.oz_model.specs.ThreadLaws.{EffectsAreNamed, NeedsAreNamed, OpensAreNamed, EffectsAreCovered, EffectsHaveNodes, EffectsKeepOneEach, RunsAreCovered, NamesAreTaken};
+ghost use Rattle.tree_node.specs.Compare.{MoreIsWithin};
+ghost use Rattle.oz_model.specs.Answers.{NodesAgree, CasesAgree, ShownAgree, FirstsAgree, NeedsAgree, BindsAgree, EffectsAgree, StepsStay, WaitsStay, OpenWaitsStay, BindsStay, LowerBinds};
 ghost use Rattle.oz_model.specs.Occurs.{TestTellsNew, TestTellsOccurs};
-ghost use Rattle.oz_model.specs.Examples.{ProcedureIsCalled, FieldIsMatched, HandlerHasException, ContentIsExchanged, ThreadIsMade, OverflowIsRaised, IntegerIsNoTruth};
+ghost use Rattle.oz_model.specs.Examples.{ProcedureIsCalled, FieldIsMatched, HandlerHasException, ContentIsExchanged, ThreadIsMade, OverflowIsRaised, IntegerIsNoTruth, SameIsEqual, ComparisonIsAwaited};
 ghost use Rattle.oz_model.specs.WellFormed.{NodesAreWell};
 ghost use Rattle.oz_model.specs.Rows.{IntegerIsPrinted, FailureIsReported, UnboundIsAwaited, AtomIsPrinted, AtomIsPrintedToo, SkipEnds, AreRefused, MarksCatch};
 
@@ -40,11 +41,18 @@ pub fn names_are_known()
     ensures { NamesAreKnown }
 {}
 
-/// A state is at rest exactly where no pick has a step, and a thread waits only for a variable that is not bound.
+/// A state is at rest exactly where no pick has a step, and a thread waits only for a variable that is not bound, or at a test of
+/// two variables that are neither equal nor different.
 pub fn rest_is_the_end()
     ensures rest { NoStepAtRest }
     ensures step { RestOrStep }
     ensures unbound { WaitsForUnbound }
+    ensures undecided { WaitsWhereOpen }
+{}
+
+/// A test of two variables that are equal, or different, tells that: `==` tells `true` and `false`, `\=` the other way round.
+pub fn tests_tell_truth()
+    ensures { TestsTellTruth }
 {}
 
 /// The equations of a run's state are sound, its threads and cells are named once, and no living thread is empty. Its
@@ -56,13 +64,14 @@ pub fn runs_are_sound()
 {}
 
 /// A store that says more keeps what does not wait: what takes names or nothing goes as it does with fewer equations,
-/// what waits for a variable without a node waits for it, and a bind of a variable without a node to a term of another
-/// class stays one. Sites know fewer equations than there are. Where links go down, binds of what has no equation to what
-/// is lower are of this kind.
+/// what waits for a variable without a node waits for it, a comparison that hangs on variables without nodes hangs on the same,
+/// and a bind of a variable without a node to a term of another class stays one. Sites know fewer equations than there are.
+/// Where links go down, binds of what has no equation to what is lower are of this kind.
 pub fn more_equations_keep()
     ensures more { MoreIsWithin }
     ensures steps { StepsStay }
     ensures waits { WaitsStay }
+    ensures several { OpenWaitsStay }
     ensures binds { BindsStay }
     ensures lower { LowerBinds }
 {}
@@ -73,19 +82,21 @@ pub fn agreeing_stores_answer_alike()
     ensures nodes { NodesAgree }
     ensures cases { CasesAgree }
     ensures lines { ShownAgree }
+    ensures firsts { FirstsAgree }
     ensures needs { NeedsAgree }
     ensures binds { BindsAgree }
     ensures effects { EffectsAgree }
 {}
 
 /// One thread alone, with the equations of a site: each name of its effect is one of its stack or of the equations, or
-/// fresh; what it waits for is a variable of these; environments go on to have a variable at each free position; and nodes
-/// are those of the program. What holds of all nodes that the program tells holds of those of an effect, whatever it is: that
+/// fresh; what it waits for, or what its comparison hangs on, is a variable of these; environments go on to have a variable
+/// at each free position; and nodes are those of the program. What holds of all nodes that the program tells holds of those of an effect, whatever it is: that
 /// is a lemma (`stack_nodes`), since it speaks of every property of nodes, and so are its forms for every property of names
 /// (`stack_effect_has`, `stack_need_has`).
 pub fn threads_are_closed()
     ensures names { EffectsAreNamed }
     ensures waits { NeedsAreNamed }
+    ensures opens { OpensAreNamed }
     ensures covered { EffectsAreCovered }
     ensures nodes { EffectsHaveNodes }
 {}
@@ -125,8 +136,8 @@ pub fn worked_picks()
     ensures raising { MarksCatch }
 {}
 
-/// Worked examples of the other statements: a procedure, a case, a handler, a cell, a thread, and exceptions of the
-/// system.
+/// Worked examples of the other statements: a procedure, a case, a handler, a cell, a thread, exceptions of the system, and
+/// tests.
 pub fn worked_statements()
     ensures procedure { ProcedureIsCalled }
     ensures matched { FieldIsMatched }
@@ -135,4 +146,6 @@ pub fn worked_statements()
     ensures thread { ThreadIsMade }
     ensures overflow { OverflowIsRaised }
     ensures truth { IntegerIsNoTruth }
+    ensures equal { SameIsEqual }
+    ensures awaited { ComparisonIsAwaited }
 {}
