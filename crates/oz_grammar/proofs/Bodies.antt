@@ -10,15 +10,14 @@ use Rattle.kernel_syntax.specs.declared.stmt.Stmt.{Stmt}
 use Rattle.kernel_syntax.specs.declared.stmt.Stmt.TheVariants as stmt
 use Rattle.kernel_syntax.specs.Scopes.{named_positions, features_in}
 use Rattle.kernel_syntax.specs.Program.{IsStmt, IsPattern, IsThreadSite, IsProgram}
-use Rattle.kernel_syntax.specs.Preorder.{inner_body, sequence_body, bodies_in, IsBody, AreBodies, HasRoom, whole_program}
+use Rattle.kernel_syntax.specs.Preorder.{sequence_body, bodies_in, IsBody, AreBodies, HasRoom, whole_program}
 use Rattle.kernel_syntax.proofs.Below.{Below}
 use Rattle.kernel_syntax.proofs.PreorderLemmas.{bodies_room}
 use Rattle.oz_grammar.specs.declared.symbol.Symbol.{Symbol}
 use Rattle.oz_grammar.specs.declared.symbol.Symbol.TheVariants as t
 use Rattle.oz_grammar.specs.declared.fault.Fault.{Fault}
-use Rattle.oz_grammar.specs.declared.fault.FaultKind.{FaultKind}
 use Rattle.oz_grammar.specs.declared.fault.FaultKind.TheVariants.{Site}
-use Rattle.oz_grammar.specs.Grammar.{Opening, Locals, ProcValue, Threads, ThreadsAt, Choice, Ifs, Cases, Statement, Simple, Block, Chooses, Tries, Sequence, One, Then, seq_text, program_text}
+use Rattle.oz_grammar.specs.Grammar.{Opening, ProcValue, Choice, Ifs, Cases, Statement, Simple, Block, Chooses, Tries, Sequence, One, Then, seq_text, program_text}
 use Rattle.oz_grammar.specs.Scoping.{opening_scope, choice_scope, StmtDerives, SeqDerives}
 use Rattle.oz_grammar.specs.Table.{code_at, opening_row, choice_row, stmt_rows, seq_rows, many_rows, seq_numbers}
 use Rattle.oz_grammar.specs.Faults.{where_so, site_fault, deep_fault, fewer}
@@ -337,6 +336,7 @@ grow b (stmt.TellProc left first count c) k bs sts limits room at is f =
     stands b (stmt.TellProc left first count c) k f.own f.others sts bs (Block (ProcValue (name_at left) (names_from first count)) f.derived.0) at f.is
     (block_is (ProcValue (name_at left) (names_from first count)) f.derived.0 b.levels b.around (b.around + count) k (λ j. stmt.TellProc left first count j) c f.own is.level f.number opens f.derived.1) f.more
 grow b (stmt.Calc left op x y) k bs sts limits room at is f = plain_stands b (stmt.Calc left op x y) k bs sts tt limits room at is f
+grow b (stmt.Test left op x y) k bs sts limits room at is f = plain_stands b (stmt.Test left op x y) k bs sts tt limits room at is f
 grow b (stmt.Select left source by) k bs sts limits room at is f = plain_stands b (stmt.Select left source by) k bs sts tt limits room at is f
 grow b (stmt.If subject chosen other) k bs sts limits room at is f =
     let g = f.more in

@@ -13,12 +13,12 @@ use Rattle.kernel_syntax.specs.Scopes.{named_positions}
 use Rattle.kernel_syntax.specs.Program.{IsStmt}
 use Rattle.oz_grammar.specs.declared.symbol.Symbol.{Symbol}
 use Rattle.oz_grammar.specs.declared.symbol.Symbol.TheVariants as t
-use Rattle.oz_grammar.specs.declared.symbol.BuiltIn.{BuiltIn}
-use Rattle.oz_grammar.specs.declared.symbol.BuiltIn.TheVariants as built
+use Rattle.kernel_syntax.specs.declared.built_in.BuiltIn.{BuiltIn}
+use Rattle.kernel_syntax.specs.declared.built_in.BuiltIn.TheVariants as built
 use Rattle.oz_grammar.specs.declared.symbol.Purpose.TheVariants as purpose
 use Rattle.oz_grammar.specs.declared.fault.Fault.{Fault}
 use Rattle.oz_grammar.specs.declared.fault.FaultKind.TheVariants.{Unbound, Wide}
-use Rattle.oz_grammar.specs.Grammar.{Identifier, Field, Value, ToVar, Calculates, Selects, Pairs, ToInt, ToAtom, ToRecord, Plain, Skips, Tells, Calls, Raises, plain_text}
+use Rattle.oz_grammar.specs.Grammar.{Identifier, Field, Value, ToVar, Calculates, Tests, Selects, Pairs, ToInt, ToAtom, ToRecord, Plain, Skips, Tells, Calls, Raises, plain_text}
 use Rattle.oz_grammar.specs.Scoping.{Scope, is_declared, declaration_of, built_in_at, fields_of, HasArguments, PlainDerives}
 use Rattle.oz_grammar.specs.Table.{slots_of, features_in, record_row, value_row, built_in_row, call_row, plain_row}
 use Rattle.oz_grammar.specs.Faults.{where_not, use_fault, count_fault}
@@ -35,6 +35,7 @@ plain_tree (stmt.TellInt left value) = tell_statement left (ToInt (Some value))
 plain_tree (stmt.TellAtom left a) = tell_statement left (ToAtom a)
 plain_tree (stmt.TellRec left label slots) = tell_statement left (ToRecord label (map slot_field slots))
 plain_tree (stmt.Calc left op a b) = tell_statement left (Calculates (name_at a) op (name_at b))
+plain_tree (stmt.Test left op a b) = tell_statement left (Tests (name_at a) op (name_at b))
 plain_tree (stmt.Select left source by) = tell_statement left (Selects (name_at source) (selection_of by))
 plain_tree (stmt.Call callee args) = Calls (name_at callee) (map name_at args)
 plain_tree (stmt.Browse x) = calls_built_in built.Browse (x ∷ [])
@@ -62,6 +63,7 @@ record_plain left label (slot ∷ slots) = tt
 value_plain : (left : ℕ) (v : Value) (scope : Scope) → IsPlainRow (value_row left v scope)
 value_plain left (ToVar y) scope = tt
 value_plain left (Calculates y o z) scope = tt
+value_plain left (Tests y o z) scope = tt
 value_plain left (Selects y s) scope = tt
 value_plain left (Pairs h u) scope = tt
 value_plain left (ToInt n) scope = tt
@@ -95,6 +97,7 @@ plain_symbols (stmt.TellInt left value) body rest p = refl
 plain_symbols (stmt.TellAtom left a) body rest p = refl
 plain_symbols (stmt.TellRec left label slots) body rest p = refl
 plain_symbols (stmt.Calc left op a b) body rest p = refl
+plain_symbols (stmt.Test left op a b) body rest p = refl
 plain_symbols (stmt.Select left source by) body rest p = refl
 plain_symbols (stmt.Call callee args) body rest p = refl
 plain_symbols (stmt.Browse x) body rest p = refl
@@ -190,6 +193,7 @@ module _ (n : ℕ) (small : n ≤ 2 ^ 64) where
       (used_pass (map named_slot slots) (names_from 0 n) [] (fields_declared slots below.1)) in
       rw (used left below.0, same) pass
   row_passes (stmt.Calc left op a b) rest behind p limits below = rw (used left below.0, used a below.1.0, used b below.1.1.0) refl
+  row_passes (stmt.Test left op a b) rest behind p limits below = rw (used left below.0, used a below.1.0, used b below.1.1.0) refl
   row_passes (stmt.Select left source (selector.Var x)) rest behind p limits below = rw (used left below.0, used source below.1.0, used x below.1.1.0) refl
   row_passes (stmt.Select left source (selector.Feature (feature.Int z))) rest behind p limits below = rw (used left below.0, used source below.1.0) refl
   row_passes (stmt.Select left source (selector.Feature (feature.Atom a))) rest behind p limits below = rw (used left below.0, used source below.1.0) refl
@@ -225,6 +229,7 @@ module _ (n : ℕ) (small : n ≤ 2 ^ 64) where
       let again = marked_fields (map named_slot slots) up in
       rw (place left below.0, same, again, fields_slots slots below.1) (record_again left label slots limits.0)
   row_again (stmt.Calc left op a b) p limits below = rw (place left below.0, place a below.1.0, place b below.1.1.0) refl
+  row_again (stmt.Test left op a b) p limits below = rw (place left below.0, place a below.1.0, place b below.1.1.0) refl
   row_again (stmt.Select left source (selector.Var x)) p limits below = rw (place left below.0, place source below.1.0, place x below.1.1.0) refl
   row_again (stmt.Select left source (selector.Feature (feature.Int z))) p limits below = rw (place left below.0, place source below.1.0) refl
   row_again (stmt.Select left source (selector.Feature (feature.Atom a))) p limits below = rw (place left below.0, place source below.1.0) refl
@@ -251,6 +256,7 @@ module _ (n : ℕ) (small : n ≤ 2 ^ 64) where
   row_derives (stmt.TellAtom left a) p below = tt
   row_derives (stmt.TellRec left label slots) p below = tt
   row_derives (stmt.Calc left op a b) p below = tt
+  row_derives (stmt.Test left op a b) p below = tt
   row_derives (stmt.Select left source by) p below = tt
   row_derives (stmt.Call callee args) p below = subst (λ (b : Option BuiltIn). HasArguments b (map name_at args)) (sym (no_built_in n callee below.0 small)) tt
   row_derives (stmt.Browse x) p below = subst (λ (b : Option BuiltIn). HasArguments b (name_at x ∷ [])) (sym (built_in_here built.Browse n)) refl

@@ -8,8 +8,9 @@ use Rattle.oz_grammar.specs.declared.symbol.Closer.TheVariants as closer
 use Rattle.oz_grammar.specs.Grammar.{Identifier, ToInt, Skips, Tells, Calls, Raises, Opening, Locals, ProcValue, ProcNamed, Threads, ThreadsAt, Choice, Ifs, Cases, Statement, Simple, Block, Chooses, Tries, Sequence, One, Then, pattern_text, opening_text, choice_text, stmt_text, seq_text, closer_symbol}
 use Rattle.oz_grammar.specs.Scoping.{Scope, built_in_at, opening_scope, choice_scope, StmtDerives, SeqDerives}
 use Rattle.oz_grammar.specs.Faults.{fewer}
-use Rattle.oz_grammar.specs.Points.{First, AfterThread, Later, Point, At, Here, LocalName, ValueOf, CallName, ProcName, CatchName, points_behind_first, or_points, is_closer, next_of, start, walk}
-use Rattle.oz_grammar.specs.Reads.{IsCompletedBy, IsViableThrough}
+use Rattle.oz_grammar.specs.Points.{First, AfterThread, Later, Point, At, Here, LocalName, ValueOf, CallName, ProcName, CatchName, points_behind_first, is_closer, next_of, next, points_automaton, start}
+use Rattle.oz_grammar.specs.Automata.{then_points, state_behind, Alone, IsCompletedBy, IsViable, or_points}
+use Rattle.oz_grammar.specs.Reads.{kernel}
 use Rattle.oz_grammar.proofs.Longer.{names_longer, pattern_longer, stmt_longer, seq_longer}
 use Rattle.oz_grammar.proofs.Leaves.{leads, leaves, leaves_behind, completion, all_completes}
 use Rattle.oz_grammar.proofs.Parts.{never, ValueTaken, variable_taken, atom_taken, pattern_taken, BodyTaken, in_text, curly_text, locals_taken, formals_taken, CallTaken, call_taken}
@@ -234,19 +235,22 @@ both_laws (suc n) =
 pub program_taken : (symbols out : List Symbol) → leaves symbols start ≡ Some out → SeqTaken closer.EndOfText [] [] symbols out
 program_taken symbols out h = (both_laws (suc (length symbols))).0 symbols closer.EndOfText [] 200 [] out (omega arith) h
 
-goes_on_with : (front more : List Symbol) → leaves (front ++ more) start ≡ Some [] → IsCompletedBy front more
+pub goes_on_with : (front more : List Symbol) → leaves (front ++ more) start ≡ Some [] → IsCompletedBy kernel front more
 goes_on_with front more h =
     let k = program_taken (front ++ more) [] h in
     let none : k.rest ≡ [] = let e : Some k.rest ≡ Some [] = k.on in cc in
     record { program = k.seq; derives = k.derives; derived = k.is ∙ ap (λ (rest : List Symbol). seq_text k.seq (t.EndOfText ∷ rest)) none }
 
--- behind what is read without a fault, some program goes on
-pub walked_goes_on : (front : List Symbol) (σ : List Point) → walk front start ≡ Some σ → IsCompletedBy front (completion σ)
-walked_goes_on front σ e = goes_on_with front (completion σ) (leaves_behind front (completion σ) start σ e ∙ all_completes σ)
+-- points that are led to are completed behind the symbol
+led : (o : Option (List Point)) (σ τ : List Point) → then_points o σ ≡ Some τ → leads o (leaves (completion τ)) σ ≡ Some []
+led None σ τ e = absurd cc
+led (Some points) σ τ e = let same : points ++ σ ≡ τ = cc in ap (leaves (completion τ)) same ∙ all_completes τ
 
--- .. and one through each symbol that is taken there
-pub walked_goes_through : (front : List Symbol) (p : Point) (σ points : List Point) (x : Symbol) (xs : List Symbol) → walk front start ≡ Some (p ∷ σ) → next_of p x ≡ Some points → IsViableThrough front (x ∷ xs)
-walked_goes_through front p σ points x xs e n =
-    let more : List Symbol = x ∷ completion (points ++ σ) in
-    let led : leaves more (p ∷ σ) ≡ Some [] = rw n (all_completes (points ++ σ)) in
-    record { more = more; same = (completion (points ++ σ), refl); goes_on = goes_on_with front more (leaves_behind front more start (p ∷ σ) e ∙ led) }
+-- some program goes on through each symbol that is taken
+pub through : (front : List Symbol) (σ τ : List Point) (x : Symbol) (xs : List Symbol) → state_behind points_automaton front start ≡ Some σ → next σ x ≡ Some τ → IsViable kernel Alone front (x ∷ xs)
+through front [] τ x xs e n = absurd cc
+through front (p ∷ σ) τ x xs e n = record {
+  more = x ∷ completion τ;
+  same = (completion τ, refl);
+  goes_on = goes_on_with front (x ∷ completion τ) (leaves_behind front (x ∷ completion τ) start (p ∷ σ) e ∙ led (next_of p x) σ τ n);
+}

@@ -4,7 +4,7 @@ use Rattle.oz_grammar.specs.declared.symbol.Symbol.{Symbol}
 use Rattle.oz_grammar.specs.declared.symbol.Symbol.TheVariants as t
 use Rattle.oz_lexer.specs.declared.token.LexKind.{LexKind}
 use Rattle.oz_grammar.specs.Symbols.{ends_once}
-use Rattle.oz_grammar.specs.Grammar.{Identifier, FeatureToken, AtomFeature, IntFeature, Selection, ByVariable, ByFeature, Field, Placed, WithFeature, Value, ToVar, Calculates, Selects, Pairs, ToInt, ToAtom, ToRecord, Pattern, IntPattern, AtomPattern, RecordPattern, PairPattern, Plain, Skips, Tells, Calls, Raises, Opening, Locals, ProcValue, ProcNamed, Threads, ThreadsAt, Choice, Ifs, Cases, Statement, Simple, Block, Chooses, Tries, Sequence, One, Then, feature_symbol, selection_symbol, names_text, fields_text, value_text, pattern_text, plain_text, opening_text, choice_text, stmt_text, seq_text, program_text}
+use Rattle.oz_grammar.specs.Grammar.{Identifier, FeatureToken, AtomFeature, IntFeature, Selection, ByVariable, ByFeature, Field, Placed, WithFeature, Value, ToVar, Calculates, Tests, Selects, Pairs, ToInt, ToAtom, ToRecord, Pattern, IntPattern, AtomPattern, RecordPattern, PairPattern, Plain, Skips, Tells, Calls, Raises, Opening, Locals, ProcValue, ProcNamed, Threads, ThreadsAt, Choice, Ifs, Cases, Statement, Simple, Block, Chooses, Tries, Sequence, One, Then, feature_symbol, selection_symbol, names_text, fields_text, value_text, pattern_text, plain_text, opening_text, choice_text, stmt_text, seq_text, program_text}
 
 -- no symbol that ends a text
 abbrev pub is_inner : Symbol → Bool
@@ -16,15 +16,15 @@ is_inner symbol = true
 abbrev pub PassesOver : (List Symbol → Bool) → Type 0
 PassesOver g = (x : Symbol) (rest : List Symbol) → is_inner x ≡ true → g (x ∷ rest) ≡ g rest
 
-mark_inner : (m : FeatureToken) → is_inner (feature_symbol m) ≡ true
+pub mark_inner : (m : FeatureToken) → is_inner (feature_symbol m) ≡ true
 mark_inner (AtomFeature a) = refl
 mark_inner (IntFeature n) = refl
 
-selection_inner : (s : Selection) → is_inner (selection_symbol s) ≡ true
+pub selection_inner : (s : Selection) → is_inner (selection_symbol s) ≡ true
 selection_inner (ByVariable x) = refl
 selection_inner (ByFeature m) = mark_inner m
 
-names_pass : (g : List Symbol → Bool) (over : PassesOver g) (xs : List Identifier) (rest : List Symbol) → g (names_text xs rest) ≡ g rest
+pub names_pass : (g : List Symbol → Bool) (over : PassesOver g) (xs : List Identifier) (rest : List Symbol) → g (names_text xs rest) ≡ g rest
 names_pass g over [] rest = refl
 names_pass g over (x ∷ xs) rest = over (t.Variable x) (names_text xs rest) refl ∙ names_pass g over xs rest
 
@@ -36,13 +36,14 @@ fields_pass g over (WithFeature m x ∷ fs) rest = over (feature_symbol m) _ (ma
 value_passes : (g : List Symbol → Bool) (over : PassesOver g) (v : Value) (rest : List Symbol) → g (value_text v rest) ≡ g rest
 value_passes g over (ToVar y) rest = over (t.Variable y) rest refl
 value_passes g over (Calculates y o z) rest = over (t.Variable y) _ refl ∙ over (t.Operator o) _ refl ∙ over (t.Variable z) rest refl
+value_passes g over (Tests y o z) rest = over (t.Variable y) _ refl ∙ over (t.Test o) _ refl ∙ over (t.Variable z) rest refl
 value_passes g over (Selects y s) rest = over (t.Variable y) _ refl ∙ over t.Dot _ refl ∙ over (selection_symbol s) rest (selection_inner s)
 value_passes g over (Pairs h u) rest = over (t.Variable h) _ refl ∙ over t.Bar _ refl ∙ over (t.Variable u) rest refl
 value_passes g over (ToInt n) rest = over (t.Integer n) rest refl
 value_passes g over (ToAtom a) rest = over (t.Atom a) rest refl
 value_passes g over (ToRecord a fs) rest = over (t.Atom a) _ refl ∙ over t.OpenRound _ refl ∙ fields_pass g over fs (t.CloseRound ∷ rest) ∙ over t.CloseRound rest refl
 
-pattern_passes : (g : List Symbol → Bool) (over : PassesOver g) (p : Pattern) (rest : List Symbol) → g (pattern_text p rest) ≡ g rest
+pub pattern_passes : (g : List Symbol → Bool) (over : PassesOver g) (p : Pattern) (rest : List Symbol) → g (pattern_text p rest) ≡ g rest
 pattern_passes g over (IntPattern n) rest = over (t.Integer n) rest refl
 pattern_passes g over (AtomPattern a) rest = over (t.Atom a) rest refl
 pattern_passes g over (RecordPattern a fs) rest = over (t.Atom a) _ refl ∙ over t.OpenRound _ refl ∙ fields_pass g over fs (t.CloseRound ∷ rest) ∙ over t.CloseRound rest refl
@@ -83,7 +84,7 @@ ends_over t.EndOfText rest e = absurd cc
 ends_over (t.Bad fault) rest e = absurd cc
 ends_over x rest e = refl
 
-nothing_behind : (rest : List Symbol) → ends_once (t.EndOfText ∷ rest) ≡ true → rest ≡ []
+pub nothing_behind : (rest : List Symbol) → ends_once (t.EndOfText ∷ rest) ≡ true → rest ≡ []
 nothing_behind [] e = refl
 nothing_behind (x ∷ rest) e = absurd cc
 
@@ -102,12 +103,12 @@ has_bad [] = false
 has_bad (t.Bad fault ∷ rest) = true
 has_bad (symbol ∷ rest) = has_bad rest
 
-bad_over : PassesOver has_bad
+pub bad_over : PassesOver has_bad
 bad_over t.EndOfText rest e = absurd cc
 bad_over (t.Bad fault) rest e = absurd cc
 bad_over x rest e = refl
 
-bad_behind : (front : List Symbol) (kind : LexKind) (more : List Symbol) → has_bad (front ++ t.Bad kind ∷ more) ≡ true
+pub bad_behind : (front : List Symbol) (kind : LexKind) (more : List Symbol) → has_bad (front ++ t.Bad kind ∷ more) ≡ true
 bad_behind [] kind more = refl
 bad_behind (t.Bad fault ∷ front) kind more = refl
 bad_behind (x ∷ front) kind more = bad_behind front kind more

@@ -4,17 +4,16 @@ use Rattle.std.specs.Prelude.{IfSome}
 use Rattle.tree_node.specs.declared.node.Feature.{Feature}
 use Rattle.oz_grammar.specs.declared.symbol.Symbol.{Symbol}
 use Rattle.oz_grammar.specs.declared.symbol.Symbol.TheVariants as t
-use Rattle.oz_grammar.specs.declared.symbol.BuiltIn.{BuiltIn}
+use Rattle.kernel_syntax.specs.declared.built_in.BuiltIn.{BuiltIn}
 use Rattle.oz_grammar.specs.declared.symbol.Purpose.{Purpose}
 use Rattle.oz_grammar.specs.declared.symbol.Purpose.TheVariants as purpose
 use Rattle.oz_grammar.specs.declared.fault.Fault.{Fault}
 use Rattle.oz_grammar.specs.declared.fault.FaultKind.{FaultKind}
 use Rattle.oz_grammar.specs.declared.fault.FaultKind.TheVariants.{Lex, Expected, Twice}
-use Rattle.oz_grammar.specs.Grammar.{Identifier, FeatureToken, AtomFeature, IntFeature, ByVariable, ByFeature, Field, Placed, WithFeature, Value, ToVar, Calculates, Selects, Pairs, ToInt, ToAtom, ToRecord, Pattern, IntPattern, AtomPattern, RecordPattern, PairPattern, Plain, Skips, Tells, Calls, Raises, Opening, Locals, ProcValue, ProcNamed, Threads, ThreadsAt, Choice, Ifs, Cases, Statement, Simple, Block, Chooses, Tries, Sequence, One, Then, seq_text}
+use Rattle.oz_grammar.specs.Grammar.{Identifier, FeatureToken, AtomFeature, IntFeature, ByVariable, ByFeature, Field, Placed, WithFeature, Value, ToVar, Calculates, Tests, Selects, Pairs, ToInt, ToAtom, ToRecord, Pattern, IntPattern, AtomPattern, RecordPattern, PairPattern, Plain, Skips, Tells, Calls, Raises, Opening, Locals, ProcValue, ProcNamed, Threads, ThreadsAt, Choice, Ifs, Cases, Statement, Simple, Block, Chooses, Tries, Sequence, One, Then, seq_text}
 use Rattle.oz_grammar.specs.Scoping.{Scope, Fields, is_declared, built_in_at, has_feature, has_name, names_in, with_field, feature_of, place_feature, opening_scope, choice_scope}
 use Rattle.oz_grammar.specs.Faults.{or_else, where_not, where_so, number_fault, site_fault, deep_fault, use_fault, count_fault, called_fault, argument_fault, formal_fault, room_fault, feature_fault, feature_token_fault, name_fault, placed_fault, selected_fault, fewer}
 use Rattle.oz_grammar.specs.Check.{first_fault, check_fields, check_value, check_pattern, check_locals, check_formals, check_arguments, check_uses, check_call, check_plain, check_opening, check_choice, check_stmt, check_seq, check}
-use Rattle.oz_grammar.specs.Points.{Point, At, Here, Used, LocalName, LocalMore, ValueOf, BehindVariable, BehindAtom, SelectionOf, FieldOf, FieldName, CallName, Arguments, Wanted, PatternOf, BehindPattern, PatternTail, ProcName, Formals, SiteHere, CatchName, stmt_fault, used_wrong, value_wrong, field_wrong, by_name, by_number, wrong_at}
 
 -- a kind that is found besides the grammar
 abbrev pub IsRow : FaultKind → Type 0
@@ -25,50 +24,50 @@ IsRow kind = Unit {0}
 abbrev pub Rows : Option FaultKind → Type 0
 Rows o = IfSome o IsRow
 
-not_row : (b : Bool) (kind : FaultKind) → IsRow kind → Rows (where_not b kind)
+pub not_row : (b : Bool) (kind : FaultKind) → IsRow kind → Rows (where_not b kind)
 not_row true kind r = tt
 not_row false kind r = r
 
-so_row : (b : Bool) (kind : FaultKind) → IsRow kind → Rows (where_so b kind)
+pub so_row : (b : Bool) (kind : FaultKind) → IsRow kind → Rows (where_so b kind)
 so_row true kind r = r
 so_row false kind r = tt
 
-or_row : (a b : Option FaultKind) → Rows a → Rows b → Rows (or_else a b)
+pub or_row : (a b : Option FaultKind) → Rows a → Rows b → Rows (or_else a b)
 or_row (Some kind) b p q = p
 or_row None b p q = q
 
-number_row : (n : Option ℤ) → Rows (number_fault n)
+pub number_row : (n : Option ℤ) → Rows (number_fault n)
 number_row (Some n) = tt
 number_row None = tt
 
-site_row : (n : Option ℤ) → Rows (site_fault n)
+pub site_row : (n : Option ℤ) → Rows (site_fault n)
 site_row (Some n) = so_row _ _ tt
 site_row None = tt
 
-deep_row : (d : ℕ) → Rows (deep_fault d)
+pub deep_row : (d : ℕ) → Rows (deep_fault d)
 deep_row zero = tt
 deep_row (suc d) = tt
 
-use_row : (scope : Scope) (x : Identifier) → Rows (use_fault scope x)
+pub use_row : (scope : Scope) (x : Identifier) → Rows (use_fault scope x)
 use_row scope x = not_row (is_declared scope x) _ tt
 
-count_row : (n : ℕ) → Rows (count_fault n)
+pub count_row : (n : ℕ) → Rows (count_fault n)
 count_row n = not_row _ _ tt
 
-called_row : (o : Option BuiltIn) (scope : Scope) (p : Identifier) → Rows (called_fault o scope p)
+pub called_row : (o : Option BuiltIn) (scope : Scope) (p : Identifier) → Rows (called_fault o scope p)
 called_row (Some b) scope p = tt
 called_row None scope p = use_row scope p
 
 argument_row : (scope : Scope) (n : ℕ) (x : Identifier) → Rows (argument_fault scope n x)
 argument_row scope n x = or_row (count_fault n) (use_fault scope x) (count_row n) (use_row scope x)
 
-twice_row : (b : Bool) → Rows (where_so b Twice)
+pub twice_row : (b : Bool) → Rows (where_so b Twice)
 twice_row b = so_row b Twice tt
 
 formal_row : (before : List Identifier) (x : Identifier) → Rows (formal_fault before x)
 formal_row before x = or_row (count_fault (length before)) (where_so (has_name before x) Twice) (count_row (length before)) (twice_row (has_name before x))
 
-room_row : (room : ℕ) → Rows (room_fault room)
+pub room_row : (room : ℕ) → Rows (room_fault room)
 room_row zero = tt
 room_row (suc room) = tt
 
@@ -86,77 +85,16 @@ name_row purpose.Declare scope before x = twice_row (has_name (names_in before) 
 placed_row : (p : Purpose) (scope : Scope) (room : ℕ) (before : Fields) (next : ℕ) (x : Identifier) → Rows (placed_fault p scope room before next x)
 placed_row p scope room before next x = or_row (feature_fault room before (place_feature next)) (name_fault p scope before x) (feature_row room before (place_feature next)) (name_row p scope before x)
 
-selected_row : (m : FeatureToken) → Rows (selected_fault m)
+pub selected_row : (m : FeatureToken) → Rows (selected_fault m)
 selected_row (AtomFeature a) = tt
 selected_row (IntFeature n) = number_row n
-
--- ---- at points
-
-stmt_row : (scope : Scope) (d : ℕ) (x : Symbol) → Rows (stmt_fault scope d x)
-stmt_row scope d (t.Variable x) = or_row (deep_fault d) (use_fault scope x) (deep_row d) (use_row scope x)
-stmt_row scope d t.Skip = deep_row d
-stmt_row scope d t.OpenCurly = deep_row d
-stmt_row scope d t.Raise = deep_row d
-stmt_row scope d t.Local = deep_row d
-stmt_row scope d t.Proc = deep_row d
-stmt_row scope d t.Thread = deep_row d
-stmt_row scope d t.If = deep_row d
-stmt_row scope d t.Case = deep_row d
-stmt_row scope d t.Try = deep_row d
-stmt_row scope d x = tt
-
-used_wrong_row : (scope : Scope) (x : Symbol) → Rows (used_wrong scope x)
-used_wrong_row scope (t.Variable x) = use_row scope x
-used_wrong_row scope x = tt
-
-value_wrong_row : (scope : Scope) (x : Symbol) → Rows (value_wrong scope x)
-value_wrong_row scope (t.Variable x) = use_row scope x
-value_wrong_row scope (t.Integer n) = number_row n
-value_wrong_row scope x = tt
-
-field_wrong_row : (p : Purpose) (scope : Scope) (room : ℕ) (before : Fields) (next : ℕ) (x : Symbol) → Rows (field_wrong p scope room before next x)
-field_wrong_row p scope room before next (t.Variable x) = placed_row p scope room before next x
-field_wrong_row p scope room before next (t.Atom a) = mark_row room before (AtomFeature a)
-field_wrong_row p scope room before next (t.Integer n) = mark_row room before (IntFeature n)
-field_wrong_row p scope room before next x = tt
-
-by_name_row : (wrong : Identifier → Option FaultKind) (x : Symbol) → ((n : Identifier) → Rows (wrong n)) → Rows (by_name wrong x)
-by_name_row wrong (t.Variable x) h = h x
-by_name_row wrong x h = tt
-
-by_number_row : (wrong : Option ℤ → Option FaultKind) (x : Symbol) → ((n : Option ℤ) → Rows (wrong n)) → Rows (by_number wrong x)
-by_number_row wrong (t.Integer n) h = h n
-by_number_row wrong x h = tt
-
-pub wrong_row : (p : Point) (x : Symbol) → Rows (wrong_at p x)
-wrong_row (At stage c scope d) x = stmt_row scope d x
-wrong_row (Here s) x = tt
-wrong_row (Used scope) x = used_wrong_row scope x
-wrong_row (LocalName scope d) x = tt
-wrong_row (LocalMore scope xs d) x = by_name_row (λ y. count_fault (length xs)) x (λ y. count_row (length xs))
-wrong_row (ValueOf c scope d) x = value_wrong_row scope x
-wrong_row (BehindVariable c scope d) x = stmt_row scope d x
-wrong_row (BehindAtom c scope d) x = stmt_row scope d x
-wrong_row (SelectionOf scope) x = value_wrong_row scope x
-wrong_row (FieldOf p scope d room before next) x = field_wrong_row p scope room before next x
-wrong_row (FieldName p scope d room before next m) x = by_name_row (λ y. name_fault p scope before y) x (λ y. name_row p scope before y)
-wrong_row (CallName scope) x = by_name_row (λ p. called_fault (built_in_at scope p) scope p) x (λ p. called_row (built_in_at scope p) scope p)
-wrong_row (Arguments scope n) x = by_name_row (λ y. argument_fault scope n y) x (λ y. argument_row scope n y)
-wrong_row (Wanted scope k) x = used_wrong_row scope x
-wrong_row (PatternOf scope d) x = by_number_row number_fault x number_row
-wrong_row (BehindPattern scope d) x = tt
-wrong_row (PatternTail scope d h) x = by_name_row (λ y. where_so (has_name (h ∷ []) y) Twice) x (λ y. twice_row (has_name (h ∷ []) y))
-wrong_row (ProcName scope d) x = used_wrong_row scope x
-wrong_row (Formals scope xs d) x = by_name_row (λ y. formal_fault xs y) x (λ y. formal_row xs y)
-wrong_row SiteHere x = by_number_row site_fault x site_row
-wrong_row (CatchName scope d) x = tt
 
 -- ---- in derivations
 
 abbrev pub Found : Option Fault → Type 0
 Found o = IfSome o (λ g. IsRow g.kind)
 
-stop_row : (o : Option FaultKind) (symbols : List Symbol) (behind : Option Fault) → Rows o → Found behind → Found (first_fault o symbols behind)
+pub stop_row : (o : Option FaultKind) (symbols : List Symbol) (behind : Option Fault) → Rows o → Found behind → Found (first_fault o symbols behind)
 stop_row (Some kind) symbols behind p q = p
 stop_row None symbols behind p q = q
 
@@ -169,6 +107,7 @@ fields_row p scope room before next (WithFeature m x ∷ fs) rest found h =
 value_row : (v : Value) (scope : Scope) (rest : List Symbol) (behind : Option Fault) → Found behind → Found (check_value v scope rest behind)
 value_row (ToVar y) scope rest behind h = stop_row (use_fault scope y) _ behind (use_row scope y) h
 value_row (Calculates y o z) scope rest behind h = stop_row (use_fault scope y) _ _ (use_row scope y) (stop_row (use_fault scope z) _ behind (use_row scope z) h)
+value_row (Tests y o z) scope rest behind h = stop_row (use_fault scope y) _ _ (use_row scope y) (stop_row (use_fault scope z) _ behind (use_row scope z) h)
 value_row (Selects y (ByVariable x)) scope rest behind h = stop_row (use_fault scope y) _ _ (use_row scope y) (stop_row (use_fault scope x) _ behind (use_row scope x) h)
 value_row (Selects y (ByFeature m)) scope rest behind h = stop_row (use_fault scope y) _ _ (use_row scope y) (stop_row (selected_fault m) _ behind (selected_row m) h)
 value_row (Pairs u z) scope rest behind h = stop_row (use_fault scope u) _ _ (use_row scope u) (stop_row (use_fault scope z) _ behind (use_row scope z) h)
@@ -176,13 +115,13 @@ value_row (ToInt n) scope rest behind h = stop_row (number_fault n) _ behind (nu
 value_row (ToAtom a) scope rest behind h = h
 value_row (ToRecord a fs) scope rest behind h = fields_row purpose.Use scope 64 [] 1 fs (t.CloseRound ∷ rest) behind h
 
-pattern_row : (p : Pattern) (scope : Scope) (rest : List Symbol) (behind : Option Fault) → Found behind → Found (check_pattern p scope rest behind)
+pub pattern_row : (p : Pattern) (scope : Scope) (rest : List Symbol) (behind : Option Fault) → Found behind → Found (check_pattern p scope rest behind)
 pattern_row (IntPattern n) scope rest behind h = stop_row (number_fault n) _ behind (number_row n) h
 pattern_row (AtomPattern a) scope rest behind h = h
 pattern_row (RecordPattern a fs) scope rest behind h = fields_row purpose.Declare scope 64 [] 1 fs (t.CloseRound ∷ rest) behind h
 pattern_row (PairPattern u z) scope rest behind h = stop_row (where_so (has_name (u ∷ []) z) Twice) _ behind (twice_row (has_name (u ∷ []) z)) h
 
-locals_row : (before xs : List Identifier) (rest : List Symbol) (behind : Option Fault) → Found behind → Found (check_locals before xs rest behind)
+pub locals_row : (before xs : List Identifier) (rest : List Symbol) (behind : Option Fault) → Found behind → Found (check_locals before xs rest behind)
 locals_row before [] rest behind h = h
 locals_row before (x ∷ xs) rest behind h = stop_row (count_fault (length before)) _ _ (count_row (length before)) (locals_row (before ++ x ∷ []) xs rest behind h)
 

@@ -62,7 +62,7 @@ Each-below f g [] low up = tt
 Each-below f g (h ∷ gs) low up = (feature_trans f g h low up.0, Each-below f g gs low up.1)
 
 -- what holds of all, and of one field more, holds of all then
-pub Each-with_field : (P : Feature × Identifier → Type 0) (f : Feature) (x : Identifier) (fields : Fields) → P (f, x) → Each P fields → Each P (with_field f x fields)
+pub Each-with_field : {A : Type 0} (P : Feature × A → Type 0) (f : Feature) (x : A) (fields : List (Feature × A)) → P (f, x) → Each P fields → Each P (with_field f x fields)
 Each-with_field P f x [] p ps = (p, tt)
 Each-with_field P f x ((g, y) ∷ fields) p ps =
     let chosen : (b : Bool) → Each P (cond b ((f, x) ∷ (g, y) ∷ fields) ((g, y) ∷ with_field f x fields)) = elim [
@@ -70,15 +70,15 @@ Each-with_field P f x ((g, y) ∷ fields) p ps =
       | false ↦ (ps.0, Each-with_field P f x fields p ps.1)
     ] in chosen (is_lt (feature_cmp f g))
 
-Each-features : (P : Feature → Type 0) (fields : Fields) → Each (λ (g : Feature × Identifier). P g.0) fields → Each P (features_in fields)
+pub Each-features : {A : Type 0} (P : Feature → Type 0) (fields : List (Feature × A)) → Each (λ (g : Feature × A). P g.0) fields → Each P (features_in fields)
 Each-features P [] ps = tt
 Each-features P (g ∷ fields) ps = (ps.0, Each-features P fields ps.1)
 
-Each-fields : (P : Feature → Type 0) (fields : Fields) → Each P (features_in fields) → Each (λ (g : Feature × Identifier). P g.0) fields
+pub Each-fields : {A : Type 0} (P : Feature → Type 0) (fields : List (Feature × A)) → Each P (features_in fields) → Each (λ (g : Feature × A). P g.0) fields
 Each-fields P [] ps = tt
 Each-fields P (g ∷ fields) ps = (ps.0, Each-fields P fields ps.1)
 
-length-with_field : (f : Feature) (x : Identifier) (fields : Fields) → length (with_field f x fields) ≡ suc (length fields)
+pub length-with_field : {A : Type 0} (f : Feature) (x : A) (fields : List (Feature × A)) → length (with_field f x fields) ≡ suc (length fields)
 length-with_field f x [] = refl
 length-with_field f x ((g, y) ∷ fields) =
     let chosen : (b : Bool) → length (cond b ((f, x) ∷ (g, y) ∷ fields) ((g, y) ∷ with_field f x fields)) ≡ suc (suc (length fields)) = elim [
@@ -86,20 +86,34 @@ length-with_field f x ((g, y) ∷ fields) =
       | false ↦ ap suc (length-with_field f x fields)
     ] in chosen (is_lt (feature_cmp f g))
 
+exchange : (a b c : Bool) → (a || (b || c)) ≡ (b || (a || c))
+exchange true true c = refl
+exchange true false c = refl
+exchange false b c = refl
+
+-- the features of fields and one more are its own and theirs
+pub has_with_field : {A : Type 0} (f : Feature) (x : A) (fields : List (Feature × A)) (g : Feature) → has_feature (with_field f x fields) g ≡ (equal_feature f g || has_feature fields g)
+has_with_field f x [] g = refl
+has_with_field f x ((h, y) ∷ fields) g =
+    let chosen : (b : Bool) → has_feature (cond b ((f, x) ∷ (h, y) ∷ fields) ((h, y) ∷ with_field f x fields)) g ≡ (equal_feature f g || (equal_feature h g || has_feature fields g)) = elim [
+      | true ↦ refl
+      | false ↦ ap (λ (c : Bool). equal_feature h g || c) (has_with_field f x fields g) ∙ exchange (equal_feature h g) (equal_feature f g) (has_feature fields g)
+    ] in chosen (is_lt (feature_cmp f h))
+
 first_less : (o : Ordering) → is_lt o ≡ true → o ≡ Less
 first_less Less e = refl
 first_less Equal e = cc
 first_less Greater e = cc
 
-ascending_with_field : (f : Feature) (x : Identifier) (fields : Fields) → has_feature fields f ≡ false → AreAscending (features_in fields) → AreAscending (features_in (with_field f x fields))
+pub ascending_with_field : {A : Type 0} (f : Feature) (x : A) (fields : List (Feature × A)) → has_feature fields f ≡ false → AreAscending (features_in fields) → AreAscending (features_in (with_field f x fields))
 ascending_with_field f x [] other up = (tt, tt)
-ascending_with_field f x ((g, y) ∷ fields) other up =
+ascending_with_field {A = A} f x ((g, y) ∷ fields) other up =
     let two = or_parts (equal_feature g f) (has_feature fields f) other in
     let chosen : (b : Bool) → is_lt (feature_cmp f g) ≡ b → AreAscending (features_in (cond b ((f, x) ∷ (g, y) ∷ fields) ((g, y) ∷ with_field f x fields))) = elim [
       | true ↦ λ e. let low = first_less (feature_cmp f g) e in ((low, Each-below f g (features_in fields) low up.0), up)
       | false ↦ λ e.
           let high = above f g e two.0 in
-          (Each-features (λ h. feature_cmp g h ≡ Less) (with_field f x fields) (Each-with_field (λ (h : Feature × Identifier). feature_cmp g h.0 ≡ Less) f x fields high (Each-fields (λ h. feature_cmp g h ≡ Less) fields up.0)), ascending_with_field f x fields two.1 up.1)
+          (Each-features (λ h. feature_cmp g h ≡ Less) (with_field f x fields) (Each-with_field (λ (h : Feature × A). feature_cmp g h.0 ≡ Less) f x fields high (Each-fields (λ h. feature_cmp g h ≡ Less) fields up.0)), ascending_with_field f x fields two.1 up.1)
     ] in chosen (is_lt (feature_cmp f g)) refl
 
 -- ---- fields that pass

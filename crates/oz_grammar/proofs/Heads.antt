@@ -5,12 +5,12 @@ use Rattle.oz_grammar.specs.declared.symbol.Symbol.{Symbol}
 use Rattle.oz_grammar.specs.declared.symbol.Symbol.TheVariants as t
 use Rattle.oz_grammar.specs.declared.symbol.Closer.{Closer}
 use Rattle.oz_grammar.specs.declared.symbol.Closer.TheVariants as closer
-use Rattle.oz_grammar.specs.declared.symbol.BuiltIn.{BuiltIn}
+use Rattle.kernel_syntax.specs.declared.built_in.BuiltIn.{BuiltIn}
 use Rattle.oz_grammar.specs.declared.symbol.Purpose.{Purpose}
 use Rattle.oz_grammar.specs.declared.symbol.Purpose.TheVariants as purpose
 use Rattle.oz_grammar.specs.declared.fault.Fault.{Fault}
 use Rattle.oz_grammar.specs.declared.fault.FaultKind.{FaultKind}
-use Rattle.oz_grammar.specs.Grammar.{Identifier, AtomFeature, IntFeature, ByVariable, ByFeature, Field, Placed, WithFeature, Value, ToVar, Calculates, Selects, Pairs, ToInt, ToAtom, ToRecord, Pattern, IntPattern, AtomPattern, RecordPattern, PairPattern, Plain, Skips, Tells, Calls, Raises, Opening, Locals, ProcValue, ProcNamed, Threads, ThreadsAt, Choice, Ifs, Cases, names_text, fields_text, value_text, pattern_text, plain_text, opening_text, choice_text}
+use Rattle.oz_grammar.specs.Grammar.{Identifier, AtomFeature, IntFeature, ByVariable, ByFeature, Field, Placed, WithFeature, Value, ToVar, Calculates, Tests, Selects, Pairs, ToInt, ToAtom, ToRecord, Pattern, IntPattern, AtomPattern, RecordPattern, PairPattern, Plain, Skips, Tells, Calls, Raises, Opening, Locals, ProcValue, ProcNamed, Threads, ThreadsAt, Choice, Ifs, Cases, names_text, fields_text, value_text, pattern_text, plain_text, opening_text, choice_text}
 use Rattle.oz_grammar.specs.Scoping.{Scope, Fields, built_in_at, with_field, feature_of, place_feature, fields_behind, opening_scope, choice_scope, HasArguments, PlainDerives}
 use Rattle.oz_grammar.specs.Faults.{or_else, use_fault, deep_fault, count_fault, formal_fault, argument_fault, placed_fault, feature_token_fault, name_fault, called_fault, fewer}
 use Rattle.oz_grammar.specs.Check.{first_fault, check_fields, check_value, check_pattern, check_locals, check_formals, check_arguments, check_uses, check_call, check_plain, check_opening, check_choice}
@@ -19,6 +19,7 @@ use Rattle.oz_grammar.specs.Points.{Stage, First, AfterThread, Later, Point, At,
 -- no symbol of these goes on with a value
 abbrev pub ends_value : List Symbol → Bool
 ends_value (t.Operator o ∷ rest) = false
+ends_value (t.Test o ∷ rest) = false
 ends_value (t.Dot ∷ rest) = false
 ends_value (t.Bar ∷ rest) = false
 ends_value (t.OpenRound ∷ rest) = false
@@ -31,6 +32,7 @@ stop_both None b symbols behind = refl
 pub variable_ends : (c : Closer) (scope : Scope) (d : ℕ) (rest : List Symbol) (σ : List Point) → ends_value rest ≡ true → run rest (BehindVariable c scope d ∷ σ) ≡ run rest (At Later c scope d ∷ σ)
 variable_ends c scope d [] σ e = refl
 variable_ends c scope d (t.Operator o ∷ rest) σ e = absurd cc
+variable_ends c scope d (t.Test o ∷ rest) σ e = absurd cc
 variable_ends c scope d (t.Dot ∷ rest) σ e = absurd cc
 variable_ends c scope d (t.Bar ∷ rest) σ e = absurd cc
 variable_ends c scope d (x ∷ rest) σ e = refl
@@ -51,6 +53,7 @@ fields_run (WithFeature (IntFeature n) x ∷ fs) p scope d room before next rest
 pub value_run : (v : Value) (c : Closer) (scope : Scope) (d : ℕ) (rest : List Symbol) (σ : List Point) → ends_value rest ≡ true → run (value_text v rest) (ValueOf c scope d ∷ σ) ≡ check_value v scope rest (run rest (At Later c scope d ∷ σ))
 value_run (ToVar y) c scope d rest σ e = ap (first_fault (use_fault scope y) (value_text (ToVar y) rest)) (variable_ends c scope d rest σ e)
 value_run (Calculates y o z) c scope d rest σ e = refl
+value_run (Tests y o z) c scope d rest σ e = refl
 value_run (Selects y (ByVariable x)) c scope d rest σ e = refl
 value_run (Selects y (ByFeature (AtomFeature a))) c scope d rest σ e = refl
 value_run (Selects y (ByFeature (IntFeature n))) c scope d rest σ e = refl

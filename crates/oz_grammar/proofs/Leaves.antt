@@ -6,13 +6,14 @@ use Rattle.oz_grammar.specs.declared.symbol.Sign.{Sign}
 use Rattle.oz_grammar.specs.declared.symbol.Sign.TheVariants as sign
 use Rattle.oz_grammar.specs.declared.symbol.Closer.{Closer}
 use Rattle.oz_grammar.specs.declared.symbol.Closer.TheVariants as closer
-use Rattle.oz_grammar.specs.declared.symbol.BuiltIn.{BuiltIn}
+use Rattle.kernel_syntax.specs.declared.built_in.BuiltIn.{BuiltIn}
 use Rattle.oz_grammar.specs.declared.symbol.Purpose.{Purpose}
 use Rattle.oz_grammar.specs.declared.symbol.Purpose.TheVariants as purpose
 use Rattle.oz_grammar.specs.declared.fault.FaultKind.{FaultKind}
 use Rattle.oz_grammar.specs.Grammar.{closer_symbol}
 use Rattle.oz_grammar.specs.Scoping.{Scope, is_declared, built_in_at, built_in_of}
-use Rattle.oz_grammar.specs.Points.{Stage, First, AfterThread, Later, Point, At, Here, Used, LocalName, LocalMore, ValueOf, BehindVariable, BehindAtom, SelectionOf, FieldOf, FieldName, CallName, Arguments, Wanted, PatternOf, BehindPattern, PatternTail, ProcName, Formals, SiteHere, CatchName, next_call, next_of, wrong_at, run_step, run, walk_on, walk}
+use Rattle.oz_grammar.specs.Points.{Stage, First, AfterThread, Later, Point, At, Here, Used, LocalName, LocalMore, ValueOf, BehindVariable, BehindAtom, SelectionOf, FieldOf, FieldName, CallName, Arguments, Wanted, PatternOf, BehindPattern, PatternTail, ProcName, Formals, SiteHere, CatchName, next_call, expected_at, next_of, wrong_at, points_automaton, run}
+use Rattle.oz_grammar.specs.Automata.{read_step, onward, state_behind, then_points}
 
 abbrev pub leads : Option (List Point) → (List Point → Option (List Symbol)) → List Point → Option (List Symbol)
 leads (Some points) on σ = on (points ++ σ)
@@ -26,17 +27,18 @@ leaves (x ∷ xs) (p ∷ σ) = leads (next_of p x) (leaves xs) σ
 
 -- ---- what is read is taken
 
-leads_walked : (o : Option (List Point)) (w : Option FaultKind) (front a : List Symbol) (σ τ : List Point) → ((ρ : List Point) → walk front ρ ≡ Some τ → leaves (front ++ a) ρ ≡ leaves a τ) → walk_on o w (walk front) σ ≡ Some τ → leads o (leaves (front ++ a)) σ ≡ leaves a τ
-leads_walked (Some points) None front a σ τ ih e = ih (points ++ σ) e
-leads_walked (Some points) (Some kind) front a σ τ ih e = absurd cc
-leads_walked None w front a σ τ ih e = absurd cc
+leads_on : (o : Option (List Point)) (front a : List Symbol) (σ τ : List Point) → ((ρ : List Point) → state_behind points_automaton front ρ ≡ Some τ → leaves (front ++ a) ρ ≡ leaves a τ) → onward (state_behind points_automaton front) (then_points o σ) ≡ Some τ
+    → leads o (leaves (front ++ a)) σ ≡ leaves a τ
+leads_on None front a σ τ ih e = absurd cc
+leads_on (Some points) front a σ τ ih e = ih (points ++ σ) e
 
-pub leaves_behind : (front a : List Symbol) (σ τ : List Point) → walk front σ ≡ Some τ → leaves (front ++ a) σ ≡ leaves a τ
+pub leaves_behind : (front a : List Symbol) (σ τ : List Point) → state_behind points_automaton front σ ≡ Some τ → leaves (front ++ a) σ ≡ leaves a τ
 leaves_behind [] a σ τ e = let same : σ ≡ τ = cc in ap (leaves a) same
 leaves_behind (x ∷ front) a [] τ e = absurd cc
-leaves_behind (x ∷ front) a (p ∷ σ) τ e = leads_walked (next_of p x) (wrong_at p x) front a σ τ (λ ρ. leaves_behind front a ρ τ) e
+leaves_behind (x ∷ front) a (p ∷ σ) τ e = leads_on (next_of p x) front a σ τ (λ ρ. leaves_behind front a ρ τ) e
 
-leads_moved : (p : Point) (o : Option (List Point)) (w : Option FaultKind) (x : Symbol) (xs : List Symbol) (σ : List Point) → ((ρ : List Point) → run xs ρ ≡ None → (rest : List Symbol) × (leaves xs ρ ≡ Some rest)) → run_step p o w (x ∷ xs) (run xs) σ ≡ None → (rest : List Symbol) × (leads o (leaves xs) σ ≡ Some rest)
+leads_moved : (p : Point) (o : Option (List Point)) (w : Option FaultKind) (x : Symbol) (xs : List Symbol) (σ : List Point) → ((ρ : List Point) → run xs ρ ≡ None → (rest : List Symbol) × (leaves xs ρ ≡ Some rest))
+    → read_step (expected_at p) w (x ∷ xs) (run xs) (then_points o σ) ≡ None → (rest : List Symbol) × (leads o (leaves xs) σ ≡ Some rest)
 leads_moved p None w x xs σ ih e = absurd cc
 leads_moved p (Some points) (Some kind) x xs σ ih e = absurd cc
 leads_moved p (Some points) None x xs σ ih e = ih (points ++ σ) e
@@ -58,6 +60,8 @@ sign_symbol sign.OpenCurly = t.OpenCurly
 sign_symbol sign.Dollar = t.Dollar
 sign_symbol sign.Colon = t.Colon
 sign_symbol sign.Bar = t.Bar
+sign_symbol sign.Else = t.Else
+sign_symbol sign.CloseRound = t.CloseRound
 
 abbrev wanted_text : ℕ → List Symbol → List Symbol
 wanted_text zero rest = t.CloseCurly ∷ rest
@@ -94,7 +98,7 @@ point_text (Formals scope xs d) rest = t.CloseCurly ∷ t.Skip ∷ t.End ∷ res
 point_text SiteHere rest = t.Integer None ∷ rest
 point_text (CatchName scope d) rest = t.Variable [] ∷ t.Then ∷ t.Skip ∷ t.End ∷ rest
 
-no_name : (scope : Scope) → built_in_at scope [] ≡ None
+pub no_name : (scope : Scope) → built_in_at scope [] ≡ None
 unfolding built_in_at
 no_name scope = elim (is_declared scope []) as (λ b. cond b None (built_in_of []) ≡ None) [ true ↦ refl | false ↦ refl ]
 
@@ -132,6 +136,8 @@ completes (Here sign.OpenCurly) rest σ = refl
 completes (Here sign.Dollar) rest σ = refl
 completes (Here sign.Colon) rest σ = refl
 completes (Here sign.Bar) rest σ = refl
+completes (Here sign.Else) rest σ = refl
+completes (Here sign.CloseRound) rest σ = refl
 completes (Used scope) rest σ = refl
 completes (LocalName scope d) rest σ = refl
 completes (LocalMore scope xs d) rest σ = refl

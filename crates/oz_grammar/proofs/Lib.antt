@@ -1,6 +1,5 @@
 pub mod Heads
 pub mod TreeRuns
-pub mod Walks
 pub mod Leaves
 pub mod Longer
 pub mod Parts
@@ -24,7 +23,7 @@ pub mod TextSymbols
 pub mod StmtReads
 pub mod Ends
 pub mod FaultRows
-pub mod FaultLaws
+pub mod FirstFaults
 pub mod PartsChecked
 pub mod StatementsChecked
 pub mod ReadLaws

@@ -2,7 +2,7 @@
 use Rattle.std.proofs.Common.{◌<◌, ◌≤◌, List, [], ◌∷◌, length, arith}
 use Rattle.oz_grammar.specs.declared.symbol.Symbol.{Symbol}
 use Rattle.oz_grammar.specs.declared.symbol.Symbol.TheVariants as t
-use Rattle.oz_grammar.specs.Grammar.{Identifier, Field, Placed, WithFeature, Value, ToVar, Calculates, Selects, Pairs, ToInt, ToAtom, ToRecord, Pattern, IntPattern, AtomPattern, RecordPattern, PairPattern, Plain, Skips, Tells, Calls, Raises, Opening, Locals, ProcValue, ProcNamed, Threads, ThreadsAt, Choice, Ifs, Cases, Statement, Simple, Block, Chooses, Tries, Sequence, One, Then, names_text, fields_text, value_text, pattern_text, plain_text, opening_text, choice_text, stmt_text, seq_text}
+use Rattle.oz_grammar.specs.Grammar.{Identifier, Field, Placed, WithFeature, Value, ToVar, Calculates, Tests, Selects, Pairs, ToInt, ToAtom, ToRecord, Pattern, IntPattern, AtomPattern, RecordPattern, PairPattern, Plain, Skips, Tells, Calls, Raises, Opening, Locals, ProcValue, ProcNamed, Threads, ThreadsAt, Choice, Ifs, Cases, Statement, Simple, Block, Chooses, Tries, Sequence, One, Then, names_text, fields_text, value_text, pattern_text, plain_text, opening_text, choice_text, stmt_text, seq_text}
 
 pub names_longer : (xs : List Identifier) (rest : List Symbol) → length rest ≤ length (names_text xs rest)
 names_longer [] rest = omega arith
@@ -16,6 +16,7 @@ fields_longer (WithFeature m x ∷ fs) rest = let i = fields_longer fs rest in o
 value_longer : (v : Value) (rest : List Symbol) → length rest < length (value_text v rest)
 value_longer (ToVar y) rest = omega arith
 value_longer (Calculates y o z) rest = omega arith
+value_longer (Tests y o z) rest = omega arith
 value_longer (Selects y s) rest = omega arith
 value_longer (Pairs h u) rest = omega arith
 value_longer (ToInt n) rest = omega arith

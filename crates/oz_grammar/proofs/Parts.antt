@@ -7,11 +7,12 @@ use Rattle.oz_grammar.specs.declared.symbol.Sign.{Sign}
 use Rattle.oz_grammar.specs.declared.symbol.Sign.TheVariants as sign
 use Rattle.oz_grammar.specs.declared.symbol.Closer.{Closer}
 use Rattle.oz_grammar.specs.declared.symbol.Closer.TheVariants as closer
-use Rattle.oz_grammar.specs.declared.symbol.BuiltIn.{BuiltIn}
+use Rattle.kernel_syntax.specs.declared.built_in.BuiltIn.{BuiltIn}
 use Rattle.oz_grammar.specs.declared.symbol.Purpose.{Purpose}
 use Rattle.oz_grammar.specs.declared.symbol.Purpose.TheVariants as purpose
-use Rattle.oz_grammar.specs.Grammar.{Identifier, FeatureToken, AtomFeature, IntFeature, ByVariable, ByFeature, Field, Placed, WithFeature, Value, ToVar, Calculates, Selects, Pairs, ToAtom, ToRecord, Pattern, IntPattern, AtomPattern, RecordPattern, PairPattern, Cases, names_text, fields_text, value_text, pattern_text, feature_symbol}
-use Rattle.oz_grammar.specs.Scoping.{Scope, Fields, arity_of, with_field, feature_of, place_feature, fields_behind, choice_scope, HasArguments}
+use Rattle.oz_grammar.specs.Grammar.{Identifier, FeatureToken, AtomFeature, IntFeature, ByVariable, ByFeature, Field, Placed, WithFeature, Value, ToVar, Calculates, Tests, Selects, Pairs, ToAtom, ToRecord, Pattern, IntPattern, AtomPattern, RecordPattern, PairPattern, Cases, names_text, fields_text, value_text, pattern_text, feature_symbol}
+use Rattle.kernel_syntax.specs.BuiltIns.{arity_of}
+use Rattle.oz_grammar.specs.Scoping.{Scope, Fields, with_field, feature_of, place_feature, fields_behind, choice_scope, HasArguments}
 use Rattle.oz_grammar.specs.Faults.{fewer}
 use Rattle.oz_grammar.specs.Points.{First, Later, Point, At, Here, LocalMore, BehindVariable, BehindAtom, FieldOf, Arguments, Wanted, PatternOf, Formals, behind_fields, next_call}
 use Rattle.oz_grammar.proofs.Leaves.{sign_symbol, leaves}
@@ -42,6 +43,8 @@ sign_taken sign.OpenCurly (t.OpenCurly ∷ xs) σ out h = (xs, refl, h)
 sign_taken sign.Dollar (t.Dollar ∷ xs) σ out h = (xs, refl, h)
 sign_taken sign.Colon (t.Colon ∷ xs) σ out h = (xs, refl, h)
 sign_taken sign.Bar (t.Bar ∷ xs) σ out h = (xs, refl, h)
+sign_taken sign.Else (t.Else ∷ xs) σ out h = (xs, refl, h)
+sign_taken sign.CloseRound (t.CloseRound ∷ xs) σ out h = (xs, refl, h)
 sign_taken s symbols σ out h = absurd (never out h)
 
 -- ---- fields
@@ -72,7 +75,9 @@ ValueTaken c scope d σ symbols out = Taken Value value_text (λ v. At Later c s
 
 pub variable_taken : (y : Identifier) (symbols : List Symbol) (c : Closer) (scope : Scope) (d : ℕ) (σ : List Point) (out : List Symbol) → leaves symbols (BehindVariable c scope d ∷ σ) ≡ Some out → ValueTaken c scope d σ (t.Variable y ∷ symbols) out
 variable_taken y (t.Operator o ∷ t.Variable z ∷ xs) c scope d σ out h = record { part = Calculates y o z; rest = xs; is = refl; on = h }
+variable_taken y (t.Test o ∷ t.Variable z ∷ xs) c scope d σ out h = record { part = Tests y o z; rest = xs; is = refl; on = h }
 variable_taken y (t.Operator o ∷ xs) c scope d σ out h = absurd (never out h)
+variable_taken y (t.Test o ∷ xs) c scope d σ out h = absurd (never out h)
 variable_taken y (t.Dot ∷ t.Variable x ∷ xs) c scope d σ out h = record { part = Selects y (ByVariable x); rest = xs; is = refl; on = h }
 variable_taken y (t.Dot ∷ t.Atom a ∷ xs) c scope d σ out h = record { part = Selects y (ByFeature (AtomFeature a)); rest = xs; is = refl; on = h }
 variable_taken y (t.Dot ∷ t.Integer n ∷ xs) c scope d σ out h = record { part = Selects y (ByFeature (IntFeature n)); rest = xs; is = refl; on = h }
@@ -92,7 +97,8 @@ atom_taken a (x ∷ xs) c scope d σ out h = record { part = ToAtom a; rest = x 
 
 -- ---- patterns
 
-abbrev then_text : Pattern → List Symbol → List Symbol
+-- a pattern and `then`
+abbrev pub then_text : Pattern → List Symbol → List Symbol
 then_text p rest = pattern_text p (t.Then ∷ rest)
 
 abbrev pub PatternTaken : Scope → ℕ → List Point → List Symbol → List Symbol → Type 0

@@ -5,15 +5,16 @@ use Rattle.kernel_syntax.specs.declared.stmt.Stmt.{Stmt}
 use Rattle.kernel_syntax.specs.declared.stmt.Stmt.TheVariants as stmt
 use Rattle.oz_grammar.specs.declared.symbol.Symbol.{Symbol}
 use Rattle.oz_grammar.specs.declared.symbol.Symbol.TheVariants as t
-use Rattle.oz_grammar.specs.declared.symbol.BuiltIn.{BuiltIn}
+use Rattle.kernel_syntax.specs.declared.built_in.BuiltIn.{BuiltIn}
 use Rattle.oz_grammar.specs.declared.symbol.Purpose.{Purpose}
 use Rattle.oz_grammar.specs.declared.symbol.Purpose.TheVariants as purpose
 use Rattle.oz_grammar.specs.declared.fault.Fault.{Fault}
 use Rattle.oz_grammar.specs.declared.fault.FaultKind.{FaultKind}
 use Rattle.oz_grammar.specs.declared.fault.What.{What}
 use Rattle.oz_grammar.specs.declared.fault.What.TheVariants as what
-use Rattle.oz_grammar.specs.Grammar.{Identifier, FeatureToken, AtomFeature, IntFeature, ByVariable, ByFeature, Field, Placed, WithFeature, Value, ToVar, Calculates, Selects, Pairs, ToInt, ToAtom, ToRecord, Pattern, IntPattern, AtomPattern, RecordPattern, PairPattern, Plain, Skips, Tells, Calls, Raises, names_text, field_text, fields_text, value_text, pattern_text, plain_text}
-use Rattle.oz_grammar.specs.Scoping.{Scope, Fields, declaration_of, built_in_at, arity_of, has_name, with_field, feature_of, place_feature, fields_behind, pattern_names, HasArguments, PlainDerives}
+use Rattle.oz_grammar.specs.Grammar.{Identifier, FeatureToken, AtomFeature, IntFeature, ByVariable, ByFeature, Field, Placed, WithFeature, Value, ToVar, Calculates, Tests, Selects, Pairs, ToInt, ToAtom, ToRecord, Pattern, IntPattern, AtomPattern, RecordPattern, PairPattern, Plain, Skips, Tells, Calls, Raises, names_text, field_text, fields_text, value_text, pattern_text, plain_text}
+use Rattle.kernel_syntax.specs.BuiltIns.{arity_of}
+use Rattle.oz_grammar.specs.Scoping.{Scope, Fields, declaration_of, built_in_at, has_name, with_field, feature_of, place_feature, fields_behind, pattern_names, HasArguments, PlainDerives}
 use Rattle.oz_grammar.specs.Table.{value_row, pattern_of, call_row, plain_row}
 use Rattle.oz_grammar.specs.Faults.{where_so, number_fault, use_fault, count_fault, called_fault, argument_fault, formal_fault, room_fault, feature_token_fault, name_fault, placed_fault, fewer, feature_fault}
 use Rattle.oz_grammar.specs.Check.{check_fields, check_value, check_pattern, check_locals, check_formals, check_arguments, check_uses, check_call, check_plain}
@@ -36,6 +37,7 @@ then_read (Err fault) f x y e next = cc
 variable_ends : (left a : ℕ) (scope : Scope) (rest : List Symbol) → ends_value rest ≡ true → behind_at left a scope rest ≡ Ok (stmt.TellVar left a, rest)
 variable_ends left a scope [] e = refl
 variable_ends left a scope (t.Operator o ∷ rest) e = absurd cc
+variable_ends left a scope (t.Test o ∷ rest) e = absurd cc
 variable_ends left a scope (t.Dot ∷ rest) e = absurd cc
 variable_ends left a scope (t.Bar ∷ rest) e = absurd cc
 variable_ends left a scope (x ∷ rest) e = refl
@@ -106,6 +108,10 @@ value_read (Calculates y o z) left scope rest behind e over =
     let s = stopped (use_fault scope y) _ _ e in
     let u = stopped (use_fault scope z) _ behind s.1 in
     rw (s.0, u.0) refl
+value_read (Tests y o z) left scope rest behind e over =
+    let s = stopped (use_fault scope y) _ _ e in
+    let u = stopped (use_fault scope z) _ behind s.1 in
+    rw (s.0, u.0) refl
 value_read (Selects y (ByVariable x)) left scope rest behind e over =
     let s = stopped (use_fault scope y) _ _ e in
     let u = stopped (use_fault scope x) _ behind s.1 in
@@ -172,6 +178,7 @@ right_read : (inner : Reader) (v : Value) (left : ℕ) (scope : Scope) (rows : L
     → right_at inner left scope rows (value_text v rest) ≡ Ok (rows ++ value_row left v scope ∷ [], rest)
 right_read inner (ToVar y) left scope rows rest behind e over = rw (value_read (ToVar y) left scope rest behind e over) refl
 right_read inner (Calculates y o z) left scope rows rest behind e over = rw (value_read (Calculates y o z) left scope rest behind e over) refl
+right_read inner (Tests y o z) left scope rows rest behind e over = rw (value_read (Tests y o z) left scope rest behind e over) refl
 right_read inner (Selects y s) left scope rows rest behind e over = rw (value_read (Selects y s) left scope rest behind e over) refl
 right_read inner (Pairs h u) left scope rows rest behind e over = rw (value_read (Pairs h u) left scope rest behind e over) refl
 right_read inner (ToInt n) left scope rows rest behind e over = rw (value_read (ToInt n) left scope rest behind e over) refl

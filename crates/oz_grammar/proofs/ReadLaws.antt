@@ -1,5 +1,5 @@
 -- Reading gives the program or the first fault of symbols, and they have one of both.
-use Rattle.std.proofs.Common.{◌≡◌, List, [], ◌∷◌, ◌⊎◌, inl, inr, true, None, Result, Ok, Err, refl, sym, ap, subst, ◌∙◌}
+use Rattle.std.proofs.Common.{◌≡◌, List, [], ◌∷◌, ◌⊎◌, inl, inr, true, Some, None, Result, Ok, Err, refl, sym, ap, subst, ◌∙◌}
 use Rattle.kernel_syntax.specs.declared.stmt.Stmt.{Stmt}
 use Rattle.tree_node.specs.Each.{Each}
 use Rattle.kernel_syntax.specs.Preorder.{IsInPreorder}
@@ -11,21 +11,23 @@ use Rattle.oz_grammar.specs.Symbols.{ends_once, IsSpelled}
 use Rattle.oz_grammar.specs.Grammar.{Sequence, seq_text, program_text}
 use Rattle.oz_grammar.specs.Scoping.{IsDerivation}
 use Rattle.oz_grammar.specs.Check.{check}
-use Rattle.oz_grammar.specs.Points.{run, start}
+use Rattle.oz_grammar.specs.Points.{Point, wrong, run, start}
+use Rattle.oz_grammar.specs.Automata.{Look, Alone}
 use Rattle.oz_grammar.specs.Table.{program_table}
 use Rattle.oz_grammar.specs.Reading.{program_at}
-use Rattle.oz_grammar.specs.Reads.{ReadsSymbols, FaultOfSymbols}
-use Rattle.oz_grammar.specs.Laws.{ReadsPrograms, ReadsFaults, SymbolsHaveOne, NeverBoth, OneProgram, ReadsArePrograms}
+use Rattle.oz_grammar.specs.Reads.{ReadsSymbols, kernel, FaultOfSymbols}
+use Rattle.oz_grammar.specs.Laws.{ReadsPrograms, ReadsFaults, SymbolsHaveOne, NeverBoth, OneProgram, OneFault, ReadsArePrograms}
 use Rattle.oz_grammar.proofs.TreeRuns.{program_run}
 use Rattle.oz_grammar.proofs.Leaves.{leaves_read}
-use Rattle.oz_grammar.proofs.Derivations.{program_taken}
-use Rattle.oz_grammar.proofs.Ends.{ends_there}
+use Rattle.oz_grammar.proofs.Derivations.{program_taken, through}
+use Rattle.oz_grammar.proofs.Ends.{none_bad, ends_there}
+use Rattle.oz_grammar.proofs.FaultRows.{check_row}
+use Rattle.oz_grammar.proofs.FirstFaults.{IsRead, read_is_first, one_first_fault, passes_without}
 use Rattle.oz_grammar.proofs.StmtReads.{fault_in}
 use Rattle.oz_grammar.proofs.StmtReads as reads
 use Rattle.oz_grammar.proofs.StatementsChecked as checked
 use Rattle.oz_grammar.proofs.TableOrder.{program_order}
 use Rattle.oz_grammar.proofs.Tables.{table_is_program}
-use Rattle.oz_grammar.proofs.FaultLaws.{first_fault, one_fault, passes_no_fault}
 
 -- ---- programs
 
@@ -60,15 +62,33 @@ reads_programs symbols p ends = (read_is symbols p ends, is_read symbols p)
 
 -- ---- faults
 
+-- the symbol alone tells its role
+abbrev look : List Point → Symbol → Look
+look σ x = Alone
+
+roles : (σ : List Point) (x : Symbol) (a b : List Symbol) → wrong σ (x ∷ a) ≡ wrong σ (x ∷ b)
+roles [] x a b = refl
+roles (p ∷ σ) x a b = refl
+
+kernel_is_read : IsRead kernel look
+kernel_is_read = record { reads = program_run; rows = check_row; roles = λ σ x a b same. roles σ x a b; through = through; none_bad = none_bad }
+
 pub fault_is : (symbols : List Symbol) (f : Fault) → program_at symbols ≡ Err f → FaultOfSymbols symbols f
-fault_is symbols f e = first_fault symbols f (reads.program_read symbols ∙ ap fault_in e)
+fault_is symbols f e = read_is_first kernel look kernel_is_read symbols f (reads.program_read symbols ∙ ap fault_in e)
 
 pub never_both : NeverBoth
-never_both symbols p f r F = passes_no_fault r.program symbols f r.derives r.derived r.passes F
+never_both symbols p f r F = passes_without kernel look kernel_is_read r.program symbols f r.derives r.derived r.passes F
+
+pub one_fault : OneFault
+one_fault symbols f g F G = one_first_fault kernel look kernel_is_read symbols f g F G
 
 fault_of : (symbols : List Symbol) (f : Fault) (r : Result (List Stmt) Fault) → ends_once symbols ≡ true → program_at symbols ≡ r → FaultOfSymbols symbols f → r ≡ Err f
 fault_of symbols f (Ok p) ends e F = absurd (never_both symbols p f (read_is symbols p ends e) F)
 fault_of symbols f (Err g) ends e F = ap (λ (h : Fault). Err h) (one_fault symbols g f (fault_is symbols g e) F)
+
+-- reading by the points comes to the fault, too
+pub fault_found : (symbols : List Symbol) (f : Fault) → ends_once symbols ≡ true → FaultOfSymbols symbols f → run symbols start ≡ Some f
+fault_found symbols f ends F = reads.program_read symbols ∙ ap fault_in (fault_of symbols f (program_at symbols) ends refl F)
 
 pub reads_faults : ReadsFaults
 reads_faults symbols f ends = (fault_is symbols f, λ F. fault_of symbols f (program_at symbols) ends refl F)

@@ -4,9 +4,9 @@ use Rattle.tree_node.specs.declared.names.CodeId.{CodeId}
 use Rattle.tree_node.specs.declared.node.Feature.{Feature}
 use Rattle.kernel_syntax.specs.declared.stmt.Stmt.{Stmt}
 use Rattle.kernel_syntax.specs.declared.stmt.Stmt.TheVariants as stmt
-use Rattle.oz_grammar.specs.declared.symbol.BuiltIn.{BuiltIn}
-use Rattle.oz_grammar.specs.declared.symbol.BuiltIn.TheVariants as built
-use Rattle.oz_grammar.specs.Grammar.{Value, ToVar, Calculates, Selects, Pairs, ToInt, ToAtom, ToRecord, Plain, Skips, Tells, Calls, Raises, Opening, Locals, ProcValue, ProcNamed, Threads, ThreadsAt, Choice, Ifs, Cases, Statement, Simple, Block, Chooses, Tries, Sequence, One, Then}
+use Rattle.kernel_syntax.specs.declared.built_in.BuiltIn.{BuiltIn}
+use Rattle.kernel_syntax.specs.declared.built_in.BuiltIn.TheVariants as built
+use Rattle.oz_grammar.specs.Grammar.{Value, ToVar, Calculates, Tests, Selects, Pairs, ToInt, ToAtom, ToRecord, Plain, Skips, Tells, Calls, Raises, Opening, Locals, ProcValue, ProcNamed, Threads, ThreadsAt, Choice, Ifs, Cases, Statement, Simple, Block, Chooses, Tries, Sequence, One, Then}
 use Rattle.oz_grammar.specs.Scoping.{Scope, declaration_of, built_in_at, fields_of, opening_scope, choice_scope}
 use Rattle.oz_grammar.specs.Table.{code_at, slots_of, record_row, value_row, call_row, plain_row, opening_row, choice_row, stmt_rows, seq_rows, many_rows, seq_numbers}
 use Rattle.oz_grammar.specs.Reading.{shift, shift_row, shift_rows}
@@ -53,6 +53,7 @@ record_shift left label (slot ∷ slots) k = refl
 value_shift : (left : ℕ) (v : Value) (scope : Scope) (k : ℕ) → shift_row k (value_row left v scope) ≡ value_row left v scope
 value_shift left (ToVar y) scope k = refl
 value_shift left (Calculates y o z) scope k = refl
+value_shift left (Tests y o z) scope k = refl
 value_shift left (Selects y s) scope k = refl
 value_shift left (Pairs h u) scope k = refl
 value_shift left (ToInt n) scope k = refl

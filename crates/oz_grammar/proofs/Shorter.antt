@@ -10,7 +10,7 @@ use Rattle.oz_grammar.specs.declared.symbol.Sign.{Sign}
 use Rattle.oz_grammar.specs.declared.symbol.Sign.TheVariants as sign
 use Rattle.oz_grammar.specs.declared.symbol.Closer.{Closer}
 use Rattle.oz_grammar.specs.declared.symbol.Closer.TheVariants as closer
-use Rattle.oz_grammar.specs.declared.symbol.BuiltIn.{BuiltIn}
+use Rattle.kernel_syntax.specs.declared.built_in.BuiltIn.{BuiltIn}
 use Rattle.oz_grammar.specs.declared.symbol.Purpose.{Purpose}
 use Rattle.oz_grammar.specs.declared.symbol.Purpose.TheVariants as purpose
 use Rattle.oz_grammar.specs.declared.fault.What.{What}
@@ -19,7 +19,8 @@ use Rattle.oz_grammar.specs.declared.fault.Fault.{Fault}
 use Rattle.oz_grammar.specs.declared.fault.FaultKind.{FaultKind}
 use Rattle.oz_grammar.specs.declared.fault.FaultKind.TheVariants.{Deep}
 use Rattle.oz_grammar.specs.Grammar.{Identifier, FeatureToken, AtomFeature, IntFeature}
-use Rattle.oz_grammar.specs.Scoping.{Scope, Fields, declaration_of, built_in_at, arity_of}
+use Rattle.kernel_syntax.specs.BuiltIns.{arity_of}
+use Rattle.oz_grammar.specs.Scoping.{Scope, Fields, declaration_of, built_in_at}
 use Rattle.oz_grammar.specs.Faults.{fault_here}
 use Rattle.oz_grammar.specs.Points.{expected_after, expected_sign, is_sign}
 use Rattle.oz_grammar.specs.Table.{code_at}
@@ -62,6 +63,7 @@ selection_short scope symbols n le = tt
 
 behind_short : (left a : ℕ) (scope : Scope) (symbols : List Symbol) (n : ℕ) → length symbols ≤ n → Leaves second n (behind_at left a scope symbols)
 behind_short left a scope (t.Operator o ∷ xs) n le = leaves_then second second n n (used_variable_at what.Variable scope xs) _ (used_short what.Variable scope xs n (omega arith)) (λ z h. h)
+behind_short left a scope (t.Test o ∷ xs) n le = leaves_then second second n n (used_variable_at what.Variable scope xs) _ (used_short what.Variable scope xs n (omega arith)) (λ z h. h)
 behind_short left a scope (t.Dot ∷ xs) n le = leaves_then second second n n (selection_at scope xs) _ (selection_short scope xs n (omega arith)) (λ z h. h)
 behind_short left a scope (t.Bar ∷ xs) n le = leaves_then second second n n (used_variable_at what.Variable scope xs) _ (used_short what.Variable scope xs n (omega arith)) (λ z h. h)
 behind_short left a scope xs n le = le

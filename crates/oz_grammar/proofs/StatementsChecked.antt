@@ -1,6 +1,6 @@
 -- What is derived and passes is read as it stands in the table: statements with bodies, sequences and programs.
-use Rattle.std.proofs.Common.{◌≡◌, ◌∙◌, ℕ, zero, suc, ◌+◌, ◌-◌, ◌<◌, ◌≤◌, List, [], ◌∷◌, ◌++◌, length, true, false, Option, Some, None, Result, Ok, refl, sym, ap, subst, arith, append_assoc, ◌*◌, length-append}
-use Rattle.std.specs.Prelude.{insert, slice_set, slice_get}
+use Rattle.std.proofs.Common.{◌≡◌, ◌∙◌, ℕ, zero, suc, ◌+◌, ◌-◌, ◌<◌, ◌≤◌, List, [], ◌∷◌, ◌++◌, length, true, false, Option, None, Result, Ok, refl, sym, ap, subst, arith, append_assoc, ◌*◌, length-append}
+use Rattle.std.specs.Prelude.{insert, slice_set}
 use Rattle.tree_node.specs.declared.names.CodeId.{CodeId}
 use Rattle.kernel_syntax.specs.declared.stmt.Stmt.{Stmt}
 use Rattle.kernel_syntax.specs.declared.stmt.Stmt.TheVariants as stmt

@@ -10,12 +10,12 @@ use Rattle.kernel_syntax.specs.Scopes as scopes
 use Rattle.kernel_syntax.specs.Program.{IsStmt, IsPattern, IsThreadSite, AreFeatures}
 use Rattle.oz_grammar.specs.declared.symbol.Symbol.{Symbol}
 use Rattle.oz_grammar.specs.declared.symbol.Symbol.TheVariants as t
-use Rattle.oz_grammar.specs.declared.symbol.BuiltIn.{BuiltIn}
-use Rattle.oz_grammar.specs.declared.symbol.BuiltIn.TheVariants as built
+use Rattle.kernel_syntax.specs.declared.built_in.BuiltIn.{BuiltIn}
+use Rattle.kernel_syntax.specs.declared.built_in.BuiltIn.TheVariants as built
 use Rattle.oz_grammar.specs.declared.symbol.Purpose.TheVariants as purpose
 use Rattle.oz_grammar.specs.declared.fault.Fault.{Fault}
 use Rattle.oz_grammar.specs.declared.fault.FaultKind.TheVariants.{Wide, Twice, Site}
-use Rattle.oz_grammar.specs.Grammar.{Identifier, ByVariable, ByFeature, Value, ToVar, Calculates, Selects, Pairs, ToInt, ToAtom, ToRecord, Pattern, IntPattern, AtomPattern, RecordPattern, PairPattern, Plain, Skips, Tells, Calls, Raises, Opening, Locals, ProcValue, ProcNamed, Threads, ThreadsAt, Choice, Ifs, Cases, Statement, Simple, Block, Chooses, Tries, Sequence, One, Then, seq_text}
+use Rattle.oz_grammar.specs.Grammar.{Identifier, ByVariable, ByFeature, Value, ToVar, Calculates, Tests, Selects, Pairs, ToInt, ToAtom, ToRecord, Pattern, IntPattern, AtomPattern, RecordPattern, PairPattern, Plain, Skips, Tells, Calls, Raises, Opening, Locals, ProcValue, ProcNamed, Threads, ThreadsAt, Choice, Ifs, Cases, Statement, Simple, Block, Chooses, Tries, Sequence, One, Then, seq_text}
 use Rattle.oz_grammar.specs.Scoping.{Scope, Fields, declaration_of, built_in_at, has_name, fields_of, pattern_names, opening_scope, choice_scope}
 use Rattle.oz_grammar.specs.Table.{code_at, features_in, slots_of, record_row, record_pattern, value_row, value_of, pattern_of, call_row, plain_row, opening_row, choice_row, stmt_rows, seq_rows, many_rows, program_table}
 use Rattle.oz_grammar.specs.Faults.{where_so, number_fault, selected_fault, use_fault, count_fault, called_fault, argument_fault, formal_fault, site_fault, deep_fault, fewer}
@@ -76,6 +76,7 @@ record_limits left label scope (f ∷ fields) up few =
 pub value_limits : (left : ℕ) (v : Value) (scope : Scope) (rest : List Symbol) (behind : Option Fault) → check_value v scope rest behind ≡ None → (behind ≡ None) × IsStmt (value_row left v scope)
 value_limits left (ToVar y) scope rest behind e = ((stopped (use_fault scope y) _ behind e).1, tt)
 value_limits left (Calculates y o z) scope rest behind e = ((stopped (use_fault scope z) _ behind (stopped (use_fault scope y) _ _ e).1).1, tt)
+value_limits left (Tests y o z) scope rest behind e = ((stopped (use_fault scope z) _ behind (stopped (use_fault scope y) _ _ e).1).1, tt)
 value_limits left (Selects y (ByVariable x)) scope rest behind e = ((stopped (use_fault scope x) _ behind (stopped (use_fault scope y) _ _ e).1).1, tt)
 value_limits left (Selects y (ByFeature m)) scope rest behind e = ((stopped (selected_fault m) _ behind (stopped (use_fault scope y) _ _ e).1).1, tt)
 value_limits left (Pairs h u) scope rest behind e =
@@ -106,7 +107,7 @@ plain_limits (Raises x) scope rest behind e = ((stopped (use_fault scope x) _ be
 
 -- ---- rows with bodies
 
-site_limits : (n : Option ℤ) → site_fault n ≡ None → IsThreadSite (Some (value_of n))
+pub site_limits : (n : Option ℤ) → site_fault n ≡ None → IsThreadSite (Some (value_of n))
 site_limits (Some z) e = let no : int_lt z (pos 1) ≡ false = not_so (int_lt z (pos 1)) Site e in grind arith
 site_limits None e = cc
 

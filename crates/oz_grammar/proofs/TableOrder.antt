@@ -1,5 +1,5 @@
 -- The table of a derivation that passes is in preorder.
-use Rattle.std.proofs.Common.{◌≡◌, ◌∙◌, ℕ, zero, suc, ◌+◌, ◌-◌, ◌*◌, ◌≤◌, List, [], ◌∷◌, ◌++◌, length, map, Bool, true, false, Option, Some, None, refl, sym, ap, subst, arith, length-append, append_assoc}
+use Rattle.std.proofs.Common.{◌≡◌, ◌∙◌, ℕ, zero, suc, ◌+◌, ◌-◌, ◌*◌, ◌≤◌, List, [], ◌∷◌, ◌++◌, length, map, Bool, true, false, Option, None, refl, sym, ap, subst, arith, length-append, append_assoc}
 use Rattle.std.proofs.lemmas.List.{append-nil}
 use Rattle.tree_node.specs.declared.names.CodeId.{CodeId}
 use Rattle.kernel_syntax.specs.declared.preorder.Body.{Body}
@@ -12,8 +12,8 @@ use Rattle.oz_grammar.specs.declared.symbol.Symbol.{Symbol}
 use Rattle.oz_grammar.specs.declared.symbol.Symbol.TheVariants as t
 use Rattle.oz_grammar.specs.declared.fault.Fault.{Fault}
 use Rattle.oz_grammar.specs.Grammar.{Opening, Locals, ProcValue, ProcNamed, Threads, ThreadsAt, Choice, Ifs, Cases, Statement, Simple, Block, Chooses, Tries, Sequence, One, Then, seq_text}
-use Rattle.oz_grammar.specs.Scoping.{Scope, declaration_of, pattern_names, opening_scope, choice_scope, StmtDerives, SeqDerives, IsDerivation}
-use Rattle.oz_grammar.specs.Table.{code_at, pattern_of, plain_row, opening_row, choice_row, stmt_rows, seq_rows, many_rows, seq_numbers, program_table}
+use Rattle.oz_grammar.specs.Scoping.{Scope, pattern_names, opening_scope, choice_scope, StmtDerives, SeqDerives, IsDerivation}
+use Rattle.oz_grammar.specs.Table.{code_at, plain_row, opening_row, choice_row, stmt_rows, seq_rows, many_rows, seq_numbers, program_table}
 use Rattle.oz_grammar.specs.Faults.{use_fault, deep_fault, fewer}
 use Rattle.oz_grammar.specs.Check.{check_opening, check_choice, check_stmt, check_seq, check}
 use Rattle.oz_grammar.proofs.FieldOrder.{stopped}
@@ -51,6 +51,7 @@ alone (stmt.TellAtom left a) p = record { none = λ b. refl; declares = λ n. tt
 alone (stmt.TellRec left label slots) p = record { none = λ b. refl; declares = λ n. tt; sequence = λ one. tt }
 alone (stmt.TellProc left first count c) p = absurd p
 alone (stmt.Calc left op x y) p = record { none = λ b. refl; declares = λ n. tt; sequence = λ one. tt }
+alone (stmt.Test left op x y) p = record { none = λ b. refl; declares = λ n. tt; sequence = λ one. tt }
 alone (stmt.Select left source by) p = record { none = λ b. refl; declares = λ n. tt; sequence = λ one. tt }
 alone (stmt.If subject chosen other) p = absurd p
 alone (stmt.Case subject pattern first chosen other) p = absurd p

@@ -1,32 +1,27 @@
 -- In the table of a derivation that passes, each identifier that a statement names is declared around it.
-use Rattle.std.proofs.Common.{◌≡◌, ◌∙◌, ℕ, zero, suc, ◌+◌, ◌*◌, ◌<◌, ◌≤◌, List, [], ◌∷◌, ◌++◌, length, map, ltb, eqb, Bool, true, false, cond, Option, Some, None, refl, sym, ap, subst, arith, append_assoc, length-append}
-use Rattle.std.specs.Prelude.{is_some, unwrap_or, slice_get, slice_index, IfSome}
+use Rattle.std.proofs.Common.{◌≡◌, ◌∙◌, ℕ, ◌+◌, ◌<◌, List, [], ◌∷◌, ◌++◌, length, map, Bool, true, false, Option, Some, None, refl, sym, ap, arith, append_assoc, length-append}
+use Rattle.std.specs.Prelude.{is_some, unwrap_or, slice_index, IfSome}
 use Rattle.std.specs.Str.{bytes_eq}
 use Rattle.std.proofs.lemmas.List.{append-nil}
-use Rattle.tree_node.specs.declared.names.CodeId.{CodeId}
 use Rattle.tree_node.specs.declared.node.Feature.{Feature}
 use Rattle.tree_node.specs.Each.{Each}
 use Rattle.kernel_syntax.specs.declared.stmt.Stmt.{Stmt}
-use Rattle.kernel_syntax.specs.declared.stmt.Stmt.TheVariants as stmt
-use Rattle.kernel_syntax.specs.Scopes.{stmt_at, scopes_of, bare_scope, named_positions}
-use Rattle.kernel_syntax.specs.Scopes as scopes
-use Rattle.kernel_syntax.specs.Free as positions
-use Rattle.kernel_syntax.specs.Free.{with_position, with_positions, without_declared, free_in_each, free_of, free_within, free}
+use Rattle.kernel_syntax.specs.Scopes.{stmt_at, named_positions}
 use Rattle.kernel_syntax.proofs.Below.{Below}
 use Rattle.oz_grammar.specs.declared.symbol.Symbol.{Symbol}
 use Rattle.oz_grammar.specs.declared.symbol.Symbol.TheVariants as t
-use Rattle.oz_grammar.specs.declared.symbol.BuiltIn.{BuiltIn}
-use Rattle.oz_grammar.specs.declared.symbol.BuiltIn.TheVariants as built
+use Rattle.kernel_syntax.specs.declared.built_in.BuiltIn.{BuiltIn}
+use Rattle.kernel_syntax.specs.declared.built_in.BuiltIn.TheVariants as built
 use Rattle.oz_grammar.specs.declared.symbol.Purpose.TheVariants as purpose
 use Rattle.oz_grammar.specs.declared.fault.Fault.{Fault}
 use Rattle.oz_grammar.specs.declared.fault.FaultKind.TheVariants.{Unbound}
-use Rattle.oz_grammar.specs.Grammar.{Identifier, ByVariable, ByFeature, Value, ToVar, Calculates, Selects, Pairs, ToInt, ToAtom, ToRecord, Plain, Skips, Tells, Calls, Raises, Opening, Locals, ProcValue, ProcNamed, Threads, ThreadsAt, Choice, Ifs, Cases, Statement, Simple, Block, Chooses, Tries, Sequence, One, Then, seq_text}
-use Rattle.oz_grammar.specs.Scoping.{Scope, Fields, declared_behind, position_of, is_declared, declaration_of, built_in_at, arity_of, fields_of, pattern_names, opening_scope, choice_scope, HasArguments, PlainDerives, StmtDerives, SeqDerives, IsDerivation}
-use Rattle.oz_grammar.specs.Table.{code_at, slots_of, record_row, value_row, pattern_of, built_in_row, call_row, plain_row, opening_row, choice_row, stmt_rows, seq_rows, many_rows, seq_numbers, program_table}
-use Rattle.oz_grammar.specs.Faults.{use_fault, count_fault, called_fault, argument_fault, deep_fault, fewer}
-use Rattle.oz_grammar.specs.Check.{check_value, check_arguments, check_uses, check_call, check_plain, check_opening, check_choice, check_stmt, check_seq, check}
+use Rattle.oz_grammar.specs.Grammar.{Identifier, ByVariable, ByFeature, Value, ToVar, Calculates, Tests, Selects, Pairs, ToInt, ToAtom, ToRecord, Plain, Skips, Tells, Calls, Raises}
+use Rattle.kernel_syntax.specs.BuiltIns.{arity_of}
+use Rattle.oz_grammar.specs.Scoping.{Scope, Fields, declared_behind, position_of, is_declared, declaration_of, built_in_at, fields_of, HasArguments, PlainDerives}
+use Rattle.oz_grammar.specs.Table.{code_at, slots_of, record_row, value_row, built_in_row, call_row, plain_row}
+use Rattle.oz_grammar.specs.Faults.{use_fault, count_fault, called_fault, argument_fault}
+use Rattle.oz_grammar.specs.Check.{check_value, check_arguments, check_uses, check_call, check_plain}
 use Rattle.oz_grammar.proofs.FieldOrder.{stopped, or_neither, is_so, good_fields}
-use Rattle.oz_grammar.proofs.TableLimits.{opening_limits, choice_limits, pattern_limits, deep_enough, stmt_limits, seq_limits}
 use Rattle.kernel_syntax.proofs.PreorderLemmas.{stmt_here}
 
 -- ---- used names
@@ -74,6 +69,9 @@ record_names left label scope (f ∷ fields) lt all = (lt, fields_within scope (
 pub value_names : (left : ℕ) (v : Value) (scope : Scope) (rest : List Symbol) (behind : Option Fault) → left < length scope → check_value v scope rest behind ≡ None → Below (length scope) (named_positions (value_row left v scope))
 value_names left (ToVar y) scope rest behind lt e = (lt, (used_within scope y (stopped (use_fault scope y) _ behind e).0, tt))
 value_names left (Calculates y o z) scope rest behind lt e =
+    let s = stopped (use_fault scope y) _ _ e in
+    (lt, (used_within scope y s.0, (used_within scope z (stopped (use_fault scope z) _ behind s.1).0, tt)))
+value_names left (Tests y o z) scope rest behind lt e =
     let s = stopped (use_fault scope y) _ _ e in
     (lt, (used_within scope y s.0, (used_within scope z (stopped (use_fault scope z) _ behind s.1).0, tt)))
 value_names left (Selects y (ByVariable x)) scope rest behind lt e =

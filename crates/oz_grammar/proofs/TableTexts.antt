@@ -4,19 +4,16 @@ use Rattle.std.specs.Prelude.{ℤ, pos}
 use Rattle.std.specs.Str.{IsUtf8}
 use Rattle.tree_node.specs.declared.node.Feature.{Feature}
 use Rattle.tree_node.specs.Each.{Each}
-use Rattle.tree_node.specs.Node.{feature_cmp}
-use Rattle.kernel_syntax.specs.declared.stmt.Stmt.{Stmt}
-use Rattle.kernel_syntax.specs.declared.stmt.Stmt.TheVariants as stmt
 use Rattle.kernel_syntax.specs.Arithmetic.{is_integer}
 use Rattle.kernel_syntax.specs.Texts.{IsText, IsFeature, IsSpelledPattern, IsIntegerIfSome, HasTexts}
 use Rattle.oz_grammar.specs.declared.symbol.Symbol.{Symbol}
 use Rattle.oz_grammar.specs.declared.symbol.Symbol.TheVariants as t
-use Rattle.oz_grammar.specs.declared.symbol.BuiltIn.{BuiltIn}
-use Rattle.oz_grammar.specs.declared.symbol.BuiltIn.TheVariants as built
+use Rattle.kernel_syntax.specs.declared.built_in.BuiltIn.{BuiltIn}
+use Rattle.kernel_syntax.specs.declared.built_in.BuiltIn.TheVariants as built
 use Rattle.oz_grammar.specs.declared.symbol.Purpose.{Purpose}
 use Rattle.oz_grammar.specs.declared.symbol.Purpose.TheVariants as purpose
 use Rattle.oz_grammar.specs.declared.fault.Fault.{Fault}
-use Rattle.oz_grammar.specs.Grammar.{Identifier, FeatureToken, AtomFeature, IntFeature, ByVariable, ByFeature, Field, Placed, WithFeature, Value, ToVar, Calculates, Selects, Pairs, ToInt, ToAtom, ToRecord, IntPattern, AtomPattern, RecordPattern, PairPattern, Plain, Skips, Tells, Calls, Raises, Opening, Locals, ProcValue, ProcNamed, Threads, ThreadsAt, Choice, Ifs, Cases, Statement, Simple, Block, Chooses, Tries, Sequence, One, Then, feature_symbol, names_text, fields_text, value_text, pattern_text, plain_text, opening_text, choice_text, stmt_text, seq_text, program_text}
+use Rattle.oz_grammar.specs.Grammar.{Identifier, FeatureToken, AtomFeature, IntFeature, ByVariable, ByFeature, Field, Placed, WithFeature, Value, ToVar, Calculates, Tests, Selects, Pairs, ToInt, ToAtom, ToRecord, IntPattern, AtomPattern, RecordPattern, PairPattern, Plain, Skips, Tells, Calls, Raises, Opening, Locals, ProcValue, ProcNamed, Threads, ThreadsAt, Choice, Ifs, Cases, Statement, Simple, Block, Chooses, Tries, Sequence, One, Then, feature_symbol, names_text, fields_text, value_text, pattern_text, plain_text, opening_text, choice_text, stmt_text, seq_text, program_text}
 use Rattle.oz_grammar.specs.Grammar as tree
 use Rattle.oz_grammar.specs.Symbols.{IsSpelled}
 use Rattle.oz_grammar.specs.Scoping.{Scope, Fields, declaration_of, built_in_at, feature_of, place_feature, with_field, fields_behind, fields_of, opening_scope, choice_scope}
@@ -28,19 +25,19 @@ use Rattle.oz_grammar.proofs.TableLimits.{opening_limits, choice_limits, deep_en
 use Rattle.oz_grammar.proofs.PartsChecked.{room_of, mark_room}
 use Rattle.tree_node.proofs.EachLemmas.{each_append}
 
-is_small : (n : ℕ) → n < 2 ^ 63 → IsTrue (is_integer (pos n))
+pub is_small : (n : ℕ) → n < 2 ^ 63 → IsTrue (is_integer (pos n))
 is_small n lt = grind arith
 
 bar_utf8 : IsUtf8 bar_label
 unfolding lib.Utf8.encode
 bar_utf8 = (124 ∷ [], (refl, refl))
 
-bar_text : IsText bar_label
+pub bar_text : IsText bar_label
 bar_text = (bar_utf8, refl, omega arith)
 
 -- ---- rows without bodies
 
-number_good : (n : Option ℤ) → number_fault n ≡ None → IsIntegerIfSome n → IsTrue (is_integer (value_of n))
+pub number_good : (n : Option ℤ) → number_fault n ≡ None → IsIntegerIfSome n → IsTrue (is_integer (value_of n))
 number_good (Some z) e g = g
 number_good None e g = cc
 
@@ -49,7 +46,7 @@ mark_good (AtomFeature a) room before e g = g
 mark_good (IntFeature (Some z)) room before e g = g
 mark_good (IntFeature None) room before e g = cc
 
-selected_good : (m : FeatureToken) → selected_fault m ≡ None → IsSpelled (feature_symbol m) → IsFeature (feature_of m)
+pub selected_good : (m : FeatureToken) → selected_fault m ≡ None → IsSpelled (feature_symbol m) → IsFeature (feature_of m)
 selected_good (AtomFeature a) e g = g
 selected_good (IntFeature (Some z)) e g = g
 selected_good (IntFeature None) e g = cc
@@ -96,13 +93,14 @@ record_good left label scope (f ∷ fields) is good = (is, slots scope (f ∷ fi
     slots s [] h = tt
     slots s (g ∷ gs) h = (h.0, slots s gs h.1)
 
-names_rest : (xs : List Identifier) (rest : List Symbol) → Each IsSpelled (names_text xs rest) → Each IsSpelled rest
+pub names_rest : (xs : List Identifier) (rest : List Symbol) → Each IsSpelled (names_text xs rest) → Each IsSpelled rest
 names_rest [] rest g = g
 names_rest (x ∷ xs) rest g = names_rest xs rest g.1
 
 value_good : (left : ℕ) (v : Value) (scope : Scope) (rest : List Symbol) (behind : Option Fault) → check_value v scope rest behind ≡ None → Each IsSpelled (value_text v rest) → HasTexts (value_row left v scope) × Each IsSpelled rest
 value_good left (ToVar y) scope rest behind e g = (tt, g.1)
 value_good left (Calculates y o z) scope rest behind e g = (tt, g.1.1.1)
+value_good left (Tests y o z) scope rest behind e g = (tt, g.1.1.1)
 value_good left (Selects y (ByVariable x)) scope rest behind e g = (tt, g.1.1.1)
 value_good left (Selects y (ByFeature m)) scope rest behind e g =
     let s = stopped (use_fault scope y) _ _ e in
@@ -146,7 +144,7 @@ pattern_good (PairPattern h u) scope rest rest' behind e g = ((bar_text, (refl, 
 
 -- ---- rows with bodies
 
-site_good : (n : Option ℤ) → site_fault n ≡ None → IsIntegerIfSome n → IsIntegerIfSome (Some (value_of n))
+pub site_good : (n : Option ℤ) → site_fault n ≡ None → IsIntegerIfSome n → IsIntegerIfSome (Some (value_of n))
 site_good (Some z) e g = g
 site_good None e g = cc
 

@@ -1,8 +1,7 @@
 -- A text in UTF-8 is one without its escapes, too.
-use Rattle.std.proofs.Common.{◌≡◌, ◌∙◌, ◌⊎◌, inl, inr, ℕ, zero, suc, ◌+◌, ◌/◌, ◌<◌, ◌≤◌, List, [], ◌∷◌, ◌++◌, length, take, get_or, eqb, ltb, Bool, true, false, cond, IsUtf8, refl, sym, ap, subst, arith}
-use Rattle.std.specs.Prelude.{◌&&◌}
+use Rattle.std.proofs.Common.{◌≡◌, ◌∙◌, ◌⊎◌, inl, inr, ℕ, suc, ◌+◌, ◌/◌, ◌<◌, ◌≤◌, List, [], ◌∷◌, ◌++◌, length, take, get_or, eqb, ltb, Bool, true, false, cond, IsUtf8, refl, sym, ap, subst, arith}
 use Rattle.std.proofs.lemmas.Bool.{cases_lt, and_parts}
-use Rattle.std.proofs.lemmas.Str.{IsUtf8-append, IsUtf8-nil, IsUtf8-encode, IsUtf8-from_ascii, IsUtf8-past_char, IsUtf8-take, IsCharBoundary-at_seam, encode_ascii, inside_one}
+use Rattle.std.proofs.lemmas.Str.{IsUtf8-append, IsUtf8-nil, IsUtf8-encode, IsUtf8-past_char, IsUtf8-take, IsCharBoundary-at_seam, encode_ascii, inside_one}
 use lib.Utf8.{scalar, scalars, next, encodes, encode, low_scalar}
 use Rattle.oz_lexer.specs.Spelling.{text_in_quotes}
 use Rattle.oz_grammar.proofs.Atoms.{plain_unescaped}

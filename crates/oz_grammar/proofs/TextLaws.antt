@@ -6,6 +6,7 @@ use Rattle.std.proofs.lemmas.List.{append-nil, length-map}
 use Rattle.std.proofs.lemmas.Bool.{cases_lt, and_parts}
 use Rattle.kernel_syntax.specs.declared.stmt.Stmt.{Stmt}
 use Rattle.kernel_syntax.specs.declared.stmt.Op.TheVariants as op
+use Rattle.kernel_syntax.specs.declared.stmt.TestOp.TheVariants as test
 use Rattle.oz_lexer.specs.declared.token.TokenKind.{TokenKind}
 use Rattle.oz_lexer.specs.declared.token.TokenKind.TheVariants as kind
 use Rattle.oz_lexer.specs.declared.token.LexKind.{LexKind}
@@ -16,23 +17,18 @@ use Rattle.oz_grammar.specs.declared.symbol.Symbol.{Symbol}
 use Rattle.oz_grammar.specs.declared.symbol.Symbol.TheVariants as t
 use Rattle.oz_grammar.specs.declared.fault.Fault.{Fault}
 use Rattle.oz_grammar.specs.declared.fault.FaultKind.{FaultKind}
-use Rattle.oz_grammar.specs.declared.fault.FaultKind.TheVariants.{Expected}
 use Rattle.oz_grammar.specs.declared.fault.TextFault.{TextFault}
 use Rattle.oz_grammar.specs.Symbols.{word_symbol, sign_symbol, symbol_at, symbol_of, ends_once}
-use Rattle.oz_grammar.specs.Grammar.{Sequence, program_text}
-use Rattle.oz_grammar.specs.Scoping.{IsDerivation}
-use Rattle.oz_grammar.specs.Faults.{fault_here}
-use Rattle.oz_grammar.specs.Check.{check}
-use Rattle.oz_grammar.specs.Points.{expected_at, start}
-use Rattle.oz_grammar.specs.Reads.{IsCompletedBy, ReadsSymbols, Reads, FaultOfSymbols, IsPlace, FaultOf}
+use Rattle.oz_grammar.specs.Automata.{is_done, state_behind}
+use Rattle.oz_grammar.specs.Points.{Point, points_automaton, start, run}
+use Rattle.oz_grammar.specs.Reads.{ReadsSymbols, Reads, FaultOfSymbols, IsPlace, FaultOf}
 use Rattle.oz_grammar.specs.Laws.{FaultRead, ReadsTexts, FaultsTexts, TextsHaveOne, TextsNeverHaveBoth, TextIsOneProgram, TextHasOneFault, TextsArePrograms}
-use Rattle.oz_grammar.proofs.TreeRuns.{program_run}
-use Rattle.oz_grammar.proofs.Walks.{Stopped, stopped, kind_of}
+use Rattle.oz_grammar.proofs.Leaves.{leaves, leaves_behind, completion, all_completes}
+use Rattle.oz_grammar.proofs.Derivations.{goes_on_with}
 use Rattle.oz_grammar.proofs.Ends.{is_inner, ends_over, program_ends}
-use Rattle.oz_grammar.proofs.FaultRows.{IsRow, check_row}
-use Rattle.oz_grammar.proofs.FaultLaws.{Class, class_of, nil_bad, one_fault}
+use Rattle.oz_grammar.proofs.FirstFaults.{behind_clean, stopped, left_within}
 use Rattle.oz_grammar.proofs.TextSymbols.{text_spelled}
-use Rattle.oz_grammar.proofs.ReadLaws.{is_read, read_is, fault_is, reads_faults, symbols_have_one, never_both, one_program, reads_are_programs}
+use Rattle.oz_grammar.proofs.ReadLaws.{is_read, read_is, fault_is, fault_found, reads_faults, symbols_have_one, never_both, one_program, one_fault, reads_are_programs}
 
 -- ---- the symbols of a text end once
 
@@ -59,14 +55,15 @@ words bytes =
     ∷ (bytes_eq bytes (codes "if"), t.If) ∷ (bytes_eq bytes (codes "then"), t.Then) ∷ (bytes_eq bytes (codes "else"), t.Else) ∷ (bytes_eq bytes (codes "case"), t.Case)
     ∷ (bytes_eq bytes (codes "of"), t.Of) ∷ (bytes_eq bytes (codes "thread"), t.Thread) ∷ (bytes_eq bytes (codes "at"), t.At) ∷ (bytes_eq bytes (codes "try"), t.Try)
     ∷ (bytes_eq bytes (codes "catch"), t.Catch) ∷ (bytes_eq bytes (codes "raise"), t.Raise) ∷ (bytes_eq bytes (codes "proc"), t.Proc) ∷ (bytes_eq bytes (codes "div"), t.Operator op.Div)
-    ∷ (bytes_eq bytes (codes "mod"), t.Operator op.Mod) ∷ []
+    ∷ (bytes_eq bytes (codes "mod"), t.Operator op.Mod) ∷ (bytes_eq bytes (codes "fun"), t.Fun) ∷ (bytes_eq bytes (codes "finally"), t.Finally) ∷ []
 
 abbrev signs : List ℕ → List (Bool × Symbol)
 signs bytes =
     (bytes_eq bytes (codes "="), t.Equals) ∷ (bytes_eq bytes (codes "("), t.OpenRound) ∷ (bytes_eq bytes (codes ")"), t.CloseRound) ∷ (bytes_eq bytes (codes "{"), t.OpenCurly)
     ∷ (bytes_eq bytes (codes "}"), t.CloseCurly) ∷ (bytes_eq bytes (codes "$"), t.Dollar) ∷ (bytes_eq bytes (codes ":"), t.Colon) ∷ (bytes_eq bytes (codes "."), t.Dot)
     ∷ (bytes_eq bytes (codes "|"), t.Bar) ∷ (bytes_eq bytes (codes "+"), t.Operator op.Add) ∷ (bytes_eq bytes (codes "-"), t.Operator op.Sub) ∷ (bytes_eq bytes (codes "*"), t.Operator op.Mul)
-    ∷ (bytes_eq bytes (codes "=<"), t.Operator op.Le) ∷ (bytes_eq bytes (codes "<"), t.Operator op.Lt) ∷ (bytes_eq bytes (codes ">="), t.Operator op.Ge) ∷ (bytes_eq bytes (codes ">"), t.Operator op.Gt) ∷ []
+    ∷ (bytes_eq bytes (codes "=<"), t.Operator op.Le) ∷ (bytes_eq bytes (codes "<"), t.Operator op.Lt) ∷ (bytes_eq bytes (codes ">="), t.Operator op.Ge) ∷ (bytes_eq bytes (codes ">"), t.Operator op.Gt)
+    ∷ (bytes_eq bytes (codes "=="), t.Test test.Equal) ∷ (bytes_eq bytes (codes "\\="), t.Test test.NotEqual) ∷ (bytes_eq bytes (codes "[]"), t.Clause) ∷ []
 
 word_inner : (bytes : List ℕ) → is_inner (word_symbol bytes) ≡ true
 unfolding word_symbol
@@ -112,40 +109,29 @@ nothing_more (t.Bad fault ∷ []) (x ∷ more) e f = absurd cc
 nothing_more (t.Bad fault ∷ y ∷ front) more e f = absurd cc
 nothing_more (x ∷ front) more e f = nothing_more front more e f
 
-at_symbol : (g : Fault) (symbols rest : List Symbol) (s : Stopped symbols start g) → s.rest ≡ rest → IsRow g.kind → 0 < g.left
-at_symbol g symbols [] s e row =
-    let there : kind_of s.point [] ≡ Some s.kind = subst (λ (r : List Symbol). kind_of s.point r ≡ Some s.kind) e s.is_kind in
-    let kinds : Expected (expected_at s.point) ≡ s.kind = cc in
-    absurd (subst IsRow (sym kinds) (subst (λ (h : Fault). IsRow h.kind) s.is row))
-at_symbol g symbols (x ∷ rest) s e row =
-    let l : g.left ≡ length s.rest = ap (λ (h : Fault). h.left) s.is in
-    let m : length s.rest ≡ length (x ∷ rest) = ap length e in omega arith
-
 cases_left : (left n : ℕ) → left ≤ suc n → (left ≤ n) ⊎ (left ≡ suc n)
 cases_left left n le = elim (cases_lt n left) as (λ c. (left ≤ n) ⊎ (left ≡ suc n)) [ inl h ↦ let e : left ≡ suc n = omega arith in inr e | inr h ↦ inl h ]
 
--- what a check finds is at a symbol
-found_somewhere : (q : Sequence) (g : Fault) → IsDerivation q → check q ≡ Some g → 0 < g.left
-found_somewhere q g good e = let s = stopped (program_text q) start g (program_run q good ∙ e) in at_symbol g (program_text q) s.rest s refl (check_row q g e)
+unfinished : (σ : List Point) → is_done σ ≡ false → leaves [] σ ≡ Some [] → ⊥
+unfinished [] goes e = absurd cc
+unfinished (p ∷ σ) goes e = absurd cc
 
-at_end : (front : List Symbol) (k : FaultKind) (on : IsCompletedBy front []) → Class front [] k → ⊥
-at_end front k on (inl a) = nil_bad a.0 a.2
-at_end front k on (inr (inl a)) = a.2.1 [] refl on
-at_end front k on (inr (inr a)) = let h = found_somewhere on.program (fault_here k []) on.derives (a.1 [] refl on) in absurd (omega arith)
-
-some_left : (symbols front rest : List Symbol) (f : Fault) → ends_once symbols ≡ true → symbols ≡ front ++ rest → f.left ≡ length rest → (more : List Symbol) → IsCompletedBy front more → Class front rest f.kind → 0 < f.left
-some_left symbols front [] f ends is l more on c =
+-- where more is to come, the symbols have not ended
+some_left : (symbols front rest : List Symbol) (σ : List Point) → ends_once symbols ≡ true → symbols ≡ front ++ rest → state_behind points_automaton front start ≡ Some σ → is_done σ ≡ false → 0 < length rest
+some_left symbols front [] σ ends is e goes =
     let whole : symbols ≡ front = is ∙ append-nil front in
-    let e : ends_once front ≡ true = ap ends_once (sym whole) ∙ ends in
-    let g : ends_once (front ++ more) ≡ true = ap ends_once on.derived ∙ program_ends on.program in
-    let none = nothing_more front more e g in
-    absurd (at_end front f.kind (subst (IsCompletedBy front) none on) c)
-some_left symbols front (x ∷ rest) f ends is l more on c = omega arith
+    let on = goes_on_with front (completion σ) (leaves_behind front (completion σ) start σ e ∙ all_completes σ) in
+    let none : completion σ ≡ [] = nothing_more front (completion σ) (ap ends_once (sym whole) ∙ ends) (ap ends_once on.derived ∙ program_ends on.program) in
+    absurd (unfinished σ goes (ap (λ (more : List Symbol). leaves more σ) (sym none) ∙ all_completes σ))
+some_left symbols front (x ∷ rest) σ ends is e goes = omega arith
 
 pub fault_left : (symbols : List Symbol) (f : Fault) → ends_once symbols ≡ true → FaultOfSymbols symbols f → (0 < f.left) × (f.left ≤ length symbols)
 fault_left symbols f ends F =
-    let whole : length symbols ≡ length (F.front ++ F.rest) = ap length F.divided in
-    (some_left symbols F.front F.rest f ends F.divided F.place F.before.0 F.before.1 (class_of F.front F.rest f.kind F.applies), omega (arith, whole, F.place, length-append F.front F.rest))
+    let found : run symbols start ≡ Some f = fault_found symbols f ends F in
+    let s = stopped points_automaton symbols start f found in
+    let some = some_left symbols s.front s.rest s.state ends s.divided (behind_clean points_automaton s.front s.rest start s.state s.clean) s.goes in
+    let place : f.left ≡ length s.rest = ap (λ (g : Fault). g.left) s.is in
+    (omega (arith, some, place), left_within points_automaton symbols start f found)
 
 -- the token at which so many are left
 pub record TokenAt (tokens : List Lexeme) (left : ℕ) : Type 0 where

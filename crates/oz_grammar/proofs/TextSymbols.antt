@@ -1,6 +1,6 @@
 -- The atoms and integers of a text in UTF-8 are spelled.
-use Rattle.std.proofs.Common.{◌≡◌, ◌∙◌, ◌⊎◌, inl, inr, ℕ, zero, suc, ◌+◌, ◌-◌, ◌≤◌, List, [], ◌∷◌, ◌++◌, length, take, drop, map, append_assoc, codes, IsTrue, IsUtf8, eqb, Bool, true, false, cond, Option, Some, None, Result, Ok, Err, refl, sym, ap, subst, arith, length-append}
-use Rattle.std.specs.Prelude.{◌&&◌, ◌||◌, not, nat_le, nat_lt, slice_index, ℤ, pos}
+use Rattle.std.proofs.Common.{◌≡◌, ◌∙◌, ◌⊎◌, inl, inr, ℕ, zero, suc, ◌+◌, ◌-◌, ◌≤◌, List, [], ◌∷◌, ◌++◌, length, take, drop, map, append_assoc, codes, IsTrue, IsUtf8, eqb, Bool, true, false, cond, Some, None, Result, Ok, Err, refl, sym, ap, subst, arith, length-append}
+use Rattle.std.specs.Prelude.{◌&&◌, ◌||◌, not, nat_le, nat_lt, slice_index, pos}
 use Rattle.std.specs.List.{list_all}
 use Rattle.std.specs.Str.{bytes_eq}
 use Rattle.std.proofs.lemmas.List.{take-append-drop}
@@ -9,6 +9,7 @@ use Rattle.tree_node.specs.Each.{Each}
 use Rattle.tree_node.specs.Spelling.{is_word_byte, is_bare, escaped_text, atom_text}
 use Rattle.tree_node.specs.Words.{is_reserved}
 use Rattle.kernel_syntax.specs.declared.stmt.Op.TheVariants as op
+use Rattle.kernel_syntax.specs.declared.stmt.TestOp.TheVariants as test
 use Rattle.kernel_syntax.specs.Arithmetic.{is_integer as is_number}
 use Rattle.kernel_syntax.specs.Texts.{is_text_byte, IsText, IsIntegerIfSome}
 use Rattle.oz_lexer.specs.declared.token.TokenKind.{TokenKind}
@@ -210,11 +211,11 @@ either false x y p q = q
 
 word_good : (text : List ℕ) → IsSpelled (word_symbol text)
 unfolding word_symbol
-word_good text = (either (bytes_eq text (codes "skip")) t.Skip _ tt (either (bytes_eq text (codes "local")) t.Local _ tt (either (bytes_eq text (codes "in")) t.In _ tt (either (bytes_eq text (codes "end")) t.End _ tt (either (bytes_eq text (codes "if")) t.If _ tt (either (bytes_eq text (codes "then")) t.Then _ tt (either (bytes_eq text (codes "else")) t.Else _ tt (either (bytes_eq text (codes "case")) t.Case _ tt (either (bytes_eq text (codes "of")) t.Of _ tt (either (bytes_eq text (codes "thread")) t.Thread _ tt (either (bytes_eq text (codes "at")) t.At _ tt (either (bytes_eq text (codes "try")) t.Try _ tt (either (bytes_eq text (codes "catch")) t.Catch _ tt (either (bytes_eq text (codes "raise")) t.Raise _ tt (either (bytes_eq text (codes "proc")) t.Proc _ tt (either (bytes_eq text (codes "div")) (t.Operator op.Div) _ tt (either (bytes_eq text (codes "mod")) (t.Operator op.Mod) _ tt tt)))))))))))))))))
+word_good text = (either (bytes_eq text (codes "skip")) t.Skip _ tt (either (bytes_eq text (codes "local")) t.Local _ tt (either (bytes_eq text (codes "in")) t.In _ tt (either (bytes_eq text (codes "end")) t.End _ tt (either (bytes_eq text (codes "if")) t.If _ tt (either (bytes_eq text (codes "then")) t.Then _ tt (either (bytes_eq text (codes "else")) t.Else _ tt (either (bytes_eq text (codes "case")) t.Case _ tt (either (bytes_eq text (codes "of")) t.Of _ tt (either (bytes_eq text (codes "thread")) t.Thread _ tt (either (bytes_eq text (codes "at")) t.At _ tt (either (bytes_eq text (codes "try")) t.Try _ tt (either (bytes_eq text (codes "catch")) t.Catch _ tt (either (bytes_eq text (codes "raise")) t.Raise _ tt (either (bytes_eq text (codes "proc")) t.Proc _ tt (either (bytes_eq text (codes "div")) (t.Operator op.Div) _ tt (either (bytes_eq text (codes "mod")) (t.Operator op.Mod) _ tt (either (bytes_eq text (codes "fun")) t.Fun _ tt (either (bytes_eq text (codes "finally")) t.Finally _ tt tt)))))))))))))))))))
 
 sign_good : (text : List ℕ) → IsSpelled (sign_symbol text)
 unfolding sign_symbol
-sign_good text = (either (bytes_eq text (codes "=")) t.Equals _ tt (either (bytes_eq text (codes "(")) t.OpenRound _ tt (either (bytes_eq text (codes ")")) t.CloseRound _ tt (either (bytes_eq text (codes "{")) t.OpenCurly _ tt (either (bytes_eq text (codes "}")) t.CloseCurly _ tt (either (bytes_eq text (codes "$")) t.Dollar _ tt (either (bytes_eq text (codes ":")) t.Colon _ tt (either (bytes_eq text (codes ".")) t.Dot _ tt (either (bytes_eq text (codes "|")) t.Bar _ tt (either (bytes_eq text (codes "+")) (t.Operator op.Add) _ tt (either (bytes_eq text (codes "-")) (t.Operator op.Sub) _ tt (either (bytes_eq text (codes "*")) (t.Operator op.Mul) _ tt (either (bytes_eq text (codes "=<")) (t.Operator op.Le) _ tt (either (bytes_eq text (codes "<")) (t.Operator op.Lt) _ tt (either (bytes_eq text (codes ">=")) (t.Operator op.Ge) _ tt (either (bytes_eq text (codes ">")) (t.Operator op.Gt) _ tt tt))))))))))))))))
+sign_good text = (either (bytes_eq text (codes "=")) t.Equals _ tt (either (bytes_eq text (codes "(")) t.OpenRound _ tt (either (bytes_eq text (codes ")")) t.CloseRound _ tt (either (bytes_eq text (codes "{")) t.OpenCurly _ tt (either (bytes_eq text (codes "}")) t.CloseCurly _ tt (either (bytes_eq text (codes "$")) t.Dollar _ tt (either (bytes_eq text (codes ":")) t.Colon _ tt (either (bytes_eq text (codes ".")) t.Dot _ tt (either (bytes_eq text (codes "|")) t.Bar _ tt (either (bytes_eq text (codes "+")) (t.Operator op.Add) _ tt (either (bytes_eq text (codes "-")) (t.Operator op.Sub) _ tt (either (bytes_eq text (codes "*")) (t.Operator op.Mul) _ tt (either (bytes_eq text (codes "=<")) (t.Operator op.Le) _ tt (either (bytes_eq text (codes "<")) (t.Operator op.Lt) _ tt (either (bytes_eq text (codes ">=")) (t.Operator op.Ge) _ tt (either (bytes_eq text (codes ">")) (t.Operator op.Gt) _ tt (either (bytes_eq text (codes "==")) (t.Test test.Equal) _ tt (either (bytes_eq text (codes "\\=")) (t.Test test.NotEqual) _ tt (either (bytes_eq text (codes "[]")) t.Clause _ tt tt)))))))))))))))))))
 
 token_good : (k : TokenKind) (bytes : List ℕ) → IsUtf8 bytes → token_kind_of bytes ≡ Some k → is_long k bytes ≡ false → IsSpelled (symbol_at (Ok k) bytes)
 token_good kind.Variable bytes utf8 e short = tt

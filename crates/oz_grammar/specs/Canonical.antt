@@ -13,9 +13,9 @@ use Rattle.kernel_syntax.specs.declared.stmt.Selector.TheVariants as selector
 use Rattle.kernel_syntax.specs.Scopes.{stmt_at}
 use Rattle.oz_grammar.specs.declared.symbol.Symbol.{Symbol}
 use Rattle.oz_grammar.specs.declared.symbol.Symbol.TheVariants as t
-use Rattle.oz_grammar.specs.declared.symbol.BuiltIn.{BuiltIn}
-use Rattle.oz_grammar.specs.declared.symbol.BuiltIn.TheVariants as built
-use Rattle.oz_grammar.specs.Grammar.{Identifier, FeatureToken, AtomFeature, IntFeature, Selection, ByVariable, ByFeature, Field, Placed, WithFeature, Value, ToVar, Calculates, Selects, Pairs, ToInt, ToAtom, ToRecord, IntPattern, AtomPattern, RecordPattern, PairPattern, Plain, Skips, Tells, Calls, Raises, Opening, Locals, ProcValue, ProcNamed, Threads, ThreadsAt, Choice, Ifs, Cases, plain_text, opening_text, choice_text}
+use Rattle.kernel_syntax.specs.declared.built_in.BuiltIn.{BuiltIn}
+use Rattle.kernel_syntax.specs.declared.built_in.BuiltIn.TheVariants as built
+use Rattle.oz_grammar.specs.Grammar.{Identifier, FeatureToken, AtomFeature, IntFeature, Selection, ByVariable, ByFeature, Field, Placed, WithFeature, Value, ToVar, Calculates, Tests, Selects, Pairs, ToInt, ToAtom, ToRecord, IntPattern, AtomPattern, RecordPattern, PairPattern, Plain, Skips, Tells, Calls, Raises, Opening, Locals, ProcValue, ProcNamed, Threads, ThreadsAt, Choice, Ifs, Cases, plain_text, opening_text, choice_text}
 use Rattle.oz_grammar.specs.Grammar as tree
 use Rattle.oz_grammar.specs.Table.{code_at}
 
@@ -97,6 +97,7 @@ row_symbols body (stmt.TellAtom left a) rest = plain_text (tell_statement left (
 row_symbols body (stmt.TellRec left label slots) rest = plain_text (tell_statement left (ToRecord label (map slot_field slots))) rest
 row_symbols body (stmt.TellProc left first count c) rest = opening_text (ProcValue (name_at left) (names_from first count)) (body c (t.End ∷ rest))
 row_symbols body (stmt.Calc left op a b) rest = plain_text (tell_statement left (Calculates (name_at a) op (name_at b))) rest
+row_symbols body (stmt.Test left op a b) rest = plain_text (tell_statement left (Tests (name_at a) op (name_at b))) rest
 row_symbols body (stmt.Select left source by) rest = plain_text (tell_statement left (Selects (name_at source) (selection_of by))) rest
 row_symbols body (stmt.If subject chosen other) rest = choice_text (Ifs (name_at subject)) (body chosen (t.Else ∷ body other (t.End ∷ rest)))
 row_symbols body (stmt.Case subject pattern first chosen other) rest =

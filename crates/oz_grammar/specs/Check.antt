@@ -2,13 +2,13 @@
 use Rattle.std.specs.Prelude.{ℕ, ◌+◌, List, [], ◌∷◌, ◌++◌, length, Option, Some, None}
 use Rattle.oz_grammar.specs.declared.symbol.Symbol.{Symbol}
 use Rattle.oz_grammar.specs.declared.symbol.Symbol.TheVariants as t
-use Rattle.oz_grammar.specs.declared.symbol.BuiltIn.{BuiltIn}
+use Rattle.kernel_syntax.specs.declared.built_in.BuiltIn.{BuiltIn}
 use Rattle.oz_grammar.specs.declared.symbol.Purpose.{Purpose}
 use Rattle.oz_grammar.specs.declared.symbol.Purpose.TheVariants as purpose
 use Rattle.oz_grammar.specs.declared.fault.Fault.{Fault}
 use Rattle.oz_grammar.specs.declared.fault.FaultKind.{FaultKind}
 use Rattle.oz_grammar.specs.declared.fault.FaultKind.TheVariants.{Twice}
-use Rattle.oz_grammar.specs.Grammar.{Identifier, Selection, ByVariable, ByFeature, Field, Placed, WithFeature, Value, ToVar, Calculates, Selects, Pairs, ToInt, ToAtom, ToRecord, Pattern, IntPattern, AtomPattern, RecordPattern, PairPattern, Plain, Skips, Tells, Calls, Raises, Opening, Locals, ProcValue, ProcNamed, Threads, ThreadsAt, Choice, Ifs, Cases, Statement, Simple, Block, Chooses, Tries, Sequence, One, Then, feature_symbol, names_text, fields_text, value_text, pattern_text, plain_text, opening_text, stmt_text, seq_text}
+use Rattle.oz_grammar.specs.Grammar.{Identifier, Selection, ByVariable, ByFeature, Field, Placed, WithFeature, Value, ToVar, Calculates, Tests, Selects, Pairs, ToInt, ToAtom, ToRecord, Pattern, IntPattern, AtomPattern, RecordPattern, PairPattern, Plain, Skips, Tells, Calls, Raises, Opening, Locals, ProcValue, ProcNamed, Threads, ThreadsAt, Choice, Ifs, Cases, Statement, Simple, Block, Chooses, Tries, Sequence, One, Then, feature_symbol, names_text, fields_text, value_text, pattern_text, plain_text, opening_text, stmt_text, seq_text}
 use Rattle.oz_grammar.specs.Scoping.{Scope, Fields, built_in_at, has_name, with_field, feature_of, place_feature, opening_scope, choice_scope}
 use Rattle.oz_grammar.specs.Faults.{where_so, number_fault, site_fault, deep_fault, use_fault, count_fault, called_fault, argument_fault, formal_fault, feature_token_fault, name_fault, placed_fault, selected_fault, fewer, fault_here}
 
@@ -39,6 +39,7 @@ check_fields p scope room before next (WithFeature m x ∷ fs) rest found =
 abbrev pub check_value : Value → Scope → List Symbol → Option Fault → Option Fault
 check_value (ToVar y) scope rest behind = first_fault (use_fault scope y) (value_text (ToVar y) rest) behind
 check_value (Calculates y o z) scope rest behind = first_fault (use_fault scope y) (value_text (Calculates y o z) rest) (first_fault (use_fault scope z) (t.Variable z ∷ rest) behind)
+check_value (Tests y o z) scope rest behind = first_fault (use_fault scope y) (value_text (Tests y o z) rest) (first_fault (use_fault scope z) (t.Variable z ∷ rest) behind)
 check_value (Selects y s) scope rest behind = first_fault (use_fault scope y) (value_text (Selects y s) rest) (check_selection s scope rest behind)
 check_value (Pairs h u) scope rest behind = first_fault (use_fault scope h) (value_text (Pairs h u) rest) (first_fault (use_fault scope u) (t.Variable u ∷ rest) behind)
 check_value (ToInt n) scope rest behind = first_fault (number_fault n) (t.Integer n ∷ rest) behind

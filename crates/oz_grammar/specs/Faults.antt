@@ -1,12 +1,14 @@
 -- What is wrong at a token besides the grammar, in the order in which it is answered: Number, Site, Deep, Wide, Twice, Unbound.
-use Rattle.std.specs.Prelude.{ℕ, zero, suc, List, length, Bool, true, false, nat_lt, Option, Some, None, ℤ, pos, int_lt}
+use Rattle.std.specs.Prelude.{ℕ, zero, suc, List, ◌∷◌, length, Bool, true, false, nat_lt, Option, Some, None, ℤ, pos, int_lt}
 use Rattle.oz_grammar.specs.declared.symbol.Symbol.{Symbol}
+use Rattle.oz_grammar.specs.declared.symbol.Symbol.TheVariants as t
 use Rattle.oz_grammar.specs.declared.symbol.Purpose.{Purpose}
 use Rattle.oz_grammar.specs.declared.symbol.Purpose.TheVariants as purpose
-use Rattle.oz_grammar.specs.declared.symbol.BuiltIn.{BuiltIn}
+use Rattle.kernel_syntax.specs.declared.built_in.BuiltIn.{BuiltIn}
+use Rattle.oz_grammar.specs.declared.fault.What.{What}
 use Rattle.oz_grammar.specs.declared.fault.Fault.{Fault}
 use Rattle.oz_grammar.specs.declared.fault.FaultKind.{FaultKind}
-use Rattle.oz_grammar.specs.declared.fault.FaultKind.TheVariants.{Number, Site, Deep, Wide, Twice, Unbound}
+use Rattle.oz_grammar.specs.declared.fault.FaultKind.TheVariants.{Lex, Expected, Number, Site, Deep, Wide, Twice, Unbound}
 use Rattle.tree_node.specs.declared.node.Feature.{Feature}
 use Rattle.oz_grammar.specs.Grammar.{Identifier, FeatureToken, AtomFeature, IntFeature}
 use Rattle.oz_grammar.specs.Scoping.{Scope, Fields, is_declared, feature_of, place_feature, has_feature, has_name, names_in}
@@ -98,3 +100,8 @@ fewer (suc n) = n
 -- a fault at the first of these symbols
 abbrev pub fault_here : FaultKind → List Symbol → Fault
 fault_here kind symbols = record { kind = kind; left = length symbols }
+
+-- a lexical fault stands before what is expected
+abbrev pub mismatch : What → List Symbol → FaultKind
+mismatch w (t.Bad kind ∷ rest) = Lex kind
+mismatch w symbols = Expected w

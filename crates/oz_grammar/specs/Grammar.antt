@@ -1,6 +1,7 @@
 -- The grammar (CTM section 2.3): derivations as trees, and the symbols of each before those that follow it.
 use Rattle.std.specs.Prelude.{ℕ, List, [], ◌∷◌, Option, ℤ}
 use Rattle.kernel_syntax.specs.declared.stmt.Op.{Op}
+use Rattle.kernel_syntax.specs.declared.stmt.TestOp.{TestOp}
 use Rattle.oz_grammar.specs.declared.symbol.Symbol.{Symbol}
 use Rattle.oz_grammar.specs.declared.symbol.Symbol.TheVariants as t
 use Rattle.oz_grammar.specs.declared.symbol.Closer.{Closer}
@@ -25,10 +26,11 @@ pub data Field : Type 0 where
   Placed : Identifier → Field
   WithFeature : FeatureToken → Identifier → Field
 
--- the right side of a tell: Y, Y op Z, Y.F, H|T, an integer, an atom, f(..)
+-- the right side of a tell: Y, Y op Z, Y == Z, Y \= Z, Y.F, H|T, an integer, an atom, f(..)
 pub data Value : Type 0 where
   ToVar : Identifier → Value
   Calculates : Identifier → Op → Identifier → Value
+  Tests : Identifier → TestOp → Identifier → Value
   Selects : Identifier → Selection → Value
   Pairs : Identifier → Identifier → Value
   ToInt : Option ℤ → Value
@@ -104,6 +106,7 @@ fields_text (f ∷ fs) rest = field_text f (fields_text fs rest)
 abbrev pub value_text : Value → List Symbol → List Symbol
 value_text (ToVar y) rest = t.Variable y ∷ rest
 value_text (Calculates y o z) rest = t.Variable y ∷ t.Operator o ∷ t.Variable z ∷ rest
+value_text (Tests y o z) rest = t.Variable y ∷ t.Test o ∷ t.Variable z ∷ rest
 value_text (Selects y s) rest = t.Variable y ∷ t.Dot ∷ selection_symbol s ∷ rest
 value_text (Pairs h u) rest = t.Variable h ∷ t.Bar ∷ t.Variable u ∷ rest
 value_text (ToInt n) rest = t.Integer n ∷ rest

@@ -3,6 +3,7 @@ pub mod Grammar
 pub mod Scoping
 pub mod Faults
 pub mod Check
+pub mod Automata
 pub mod Points
 pub mod Table
 pub mod Reading

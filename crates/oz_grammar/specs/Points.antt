@@ -7,18 +7,19 @@ use Rattle.oz_grammar.specs.declared.symbol.Sign.{Sign}
 use Rattle.oz_grammar.specs.declared.symbol.Sign.TheVariants as sign
 use Rattle.oz_grammar.specs.declared.symbol.Closer.{Closer}
 use Rattle.oz_grammar.specs.declared.symbol.Closer.TheVariants as closer
-use Rattle.oz_grammar.specs.declared.symbol.BuiltIn.{BuiltIn}
+use Rattle.kernel_syntax.specs.declared.built_in.BuiltIn.{BuiltIn}
 use Rattle.oz_grammar.specs.declared.symbol.Purpose.{Purpose}
 use Rattle.oz_grammar.specs.declared.symbol.Purpose.TheVariants as purpose
 use Rattle.oz_grammar.specs.declared.fault.What.{What}
 use Rattle.oz_grammar.specs.declared.fault.What.TheVariants as what
 use Rattle.oz_grammar.specs.declared.fault.Fault.{Fault}
 use Rattle.oz_grammar.specs.declared.fault.FaultKind.{FaultKind}
-use Rattle.oz_grammar.specs.declared.fault.FaultKind.TheVariants.{Lex, Expected, Twice}
+use Rattle.oz_grammar.specs.declared.fault.FaultKind.TheVariants.{Twice}
 use Rattle.oz_grammar.specs.Grammar.{Identifier, FeatureToken, AtomFeature, IntFeature}
-use Rattle.oz_grammar.specs.Scoping.{Scope, Fields, built_in_at, arity_of, has_name, with_field, feature_of, place_feature, names_in}
-use Rattle.oz_grammar.specs.Faults.{or_else, where_so, number_fault, site_fault, deep_fault, use_fault, count_fault, called_fault, argument_fault, formal_fault, feature_token_fault, name_fault, placed_fault, fewer, fault_here}
-use Rattle.oz_grammar.specs.Check.{first_fault}
+use Rattle.kernel_syntax.specs.BuiltIns.{arity_of}
+use Rattle.oz_grammar.specs.Scoping.{Scope, Fields, built_in_at, has_name, with_field, feature_of, place_feature, names_in}
+use Rattle.oz_grammar.specs.Faults.{or_else, where_so, number_fault, site_fault, deep_fault, use_fault, count_fault, called_fault, argument_fault, formal_fault, feature_token_fault, name_fault, placed_fault, fewer}
+use Rattle.oz_grammar.specs.Automata.{Automaton, read, then_points, or_points, is_done}
 
 -- where a statement may begin: at the front of a sequence, at that of a thread's body, or behind a statement
 pub data Stage : Type 0 where
@@ -85,6 +86,8 @@ expected_sign sign.OpenCurly = what.OpenBrace
 expected_sign sign.Dollar = what.Dollar
 expected_sign sign.Colon = what.Colon
 expected_sign sign.Bar = what.Bar
+expected_sign sign.Else = what.Else
+expected_sign sign.CloseRound = what.CloseRound
 
 -- behind a name that is built in: an argument while some are wanted, then the closing bracket
 abbrev pub expects_wanted : ℕ → What
@@ -127,6 +130,8 @@ is_sign sign.OpenCurly t.OpenCurly = true
 is_sign sign.Dollar t.Dollar = true
 is_sign sign.Colon t.Colon = true
 is_sign sign.Bar t.Bar = true
+is_sign sign.Else t.Else = true
+is_sign sign.CloseRound t.CloseRound = true
 is_sign s symbol = false
 
 -- the sequence ends here
@@ -158,11 +163,6 @@ beside AfterThread c scope d t.At = Some (SiteHere ∷ At First c scope d ∷ []
 beside AfterThread c scope d symbol = None
 beside Later c scope d symbol = if is_closer c symbol then Some [] else None
 
--- the points of the first, if it has some, and else those of the second
-abbrev pub or_points : Option (List Point) → Option (List Point) → Option (List Point)
-or_points (Some points) others = Some points
-or_points None others = others
-
 -- at a statement: behind the symbol that begins it, or behind what may stand there besides
 abbrev pub next_stmt : Stage → Closer → Scope → ℕ → Symbol → Option (List Point)
 next_stmt stage c scope d symbol = or_points (points_behind_first c scope d symbol) (beside stage c scope d symbol)
@@ -175,9 +175,10 @@ next_value c scope d (t.Atom a) = Some (BehindAtom c scope d ∷ [])
 next_value c scope d t.Proc = Some (Here sign.OpenCurly ∷ Here sign.Dollar ∷ Formals scope [] (fewer d) ∷ At Later c scope d ∷ [])
 next_value c scope d symbol = None
 
--- behind the first variable of a right side: at an operator, a dot or a bar, or at what follows the tell
+-- behind the first variable of a right side: at an operator, a test, a dot or a bar, or at what follows the tell
 abbrev pub next_variable : Closer → Scope → ℕ → Symbol → Option (List Point)
 next_variable c scope d (t.Operator o) = Some (Used scope ∷ At Later c scope d ∷ [])
+next_variable c scope d (t.Test o) = Some (Used scope ∷ At Later c scope d ∷ [])
 next_variable c scope d t.Dot = Some (SelectionOf scope ∷ At Later c scope d ∷ [])
 next_variable c scope d t.Bar = Some (Used scope ∷ At Later c scope d ∷ [])
 next_variable c scope d symbol = next_stmt Later c scope d symbol
@@ -188,7 +189,7 @@ next_atom c scope d t.OpenRound = Some (FieldOf purpose.Use scope d 64 [] 1 ∷ 
 next_atom c scope d symbol = next_stmt Later c scope d symbol
 
 -- behind a dot
-abbrev pub next_selection : Symbol → Option (List Point)
+abbrev pub next_selection : {Point : Type 0} → Symbol → Option (List Point)
 next_selection (t.Variable x) = Some []
 next_selection (t.Atom a) = Some []
 next_selection (t.Integer n) = Some []
@@ -251,12 +252,12 @@ next_formal scope xs d t.CloseCurly = Some (At First closer.End (scope ++ xs) d 
 next_formal scope xs d symbol = None
 
 -- a variable, and then these points
-abbrev pub on_variable : (Identifier → List Point) → Symbol → Option (List Point)
+abbrev pub on_variable : {Point : Type 0} → (Identifier → List Point) → Symbol → Option (List Point)
 on_variable points (t.Variable x) = Some (points x)
 on_variable points symbol = None
 
 -- an integer, and then these points
-abbrev pub on_integer : List Point → Symbol → Option (List Point)
+abbrev pub on_integer : {Point : Type 0} → List Point → Symbol → Option (List Point)
 on_integer points (t.Integer n) = Some points
 on_integer points symbol = None
 
@@ -357,37 +358,31 @@ wrong_at (Formals scope xs d) symbol = by_name (λ x. formal_fault xs x) symbol
 wrong_at SiteHere symbol = by_number site_fault symbol
 wrong_at (CatchName scope d) symbol = None
 
--- ---- reading by points
+-- where the symbol leads from these points
+abbrev pub next : List Point → Symbol → Option (List Point)
+next [] symbol = None
+next (p ∷ points) symbol = then_points (next_of p symbol) points
 
--- a lexical fault stands before what is expected
-abbrev pub mismatch : What → List Symbol → FaultKind
-mismatch w (t.Bad kind ∷ rest) = Lex kind
-mismatch w symbols = Expected w
+-- what is wrong, besides the grammar, at the first of these symbols
+abbrev pub wrong : List Point → List Symbol → Option FaultKind
+wrong (p ∷ points) (symbol ∷ symbols) = wrong_at p symbol
+wrong points symbols = None
 
--- at point p: where the symbol goes on, its own fault or the first one behind it; else its lexical fault, or that another was expected
-abbrev pub run_step : Point → Option (List Point) → Option FaultKind → List Symbol → (List Point → Option Fault) → List Point → Option Fault
-run_step p (Some points) wrong symbols on behind = first_fault wrong symbols (on (points ++ behind))
-run_step p None wrong symbols on behind = Some (fault_here (mismatch (expected_at p) symbols) symbols)
+-- what a refusal names behind `expected`
+abbrev pub expected : List Point → What
+expected [] = what.StatementOrEndOfText
+expected (p ∷ points) = expected_at p
 
--- the first fault of these symbols, read from these points
-abbrev pub run : List Symbol → List Point → Option Fault
-run [] [] = None
-run [] (p ∷ behind) = Some (fault_here (Expected (expected_at p)) [])
-run (symbol ∷ symbols) [] = None
-run (symbol ∷ symbols) (p ∷ behind) = run_step p (next_of p symbol) (wrong_at p symbol) (symbol ∷ symbols) (run symbols) behind
+-- ---- reading
 
--- the points behind a symbol, if it goes on and has no fault
-abbrev pub walk_on : Option (List Point) → Option FaultKind → (List Point → Option (List Point)) → List Point → Option (List Point)
-walk_on (Some points) None on behind = on (points ++ behind)
-walk_on (Some points) (Some kind) on behind = None
-walk_on None wrong on behind = None
-
--- the points behind these symbols, if they have no fault
-abbrev pub walk : List Symbol → List Point → Option (List Point)
-walk [] points = Some points
-walk (symbol ∷ symbols) [] = None
-walk (symbol ∷ symbols) (p ∷ behind) = walk_on (next_of p symbol) (wrong_at p symbol) (walk symbols) behind
+-- the automaton of points
+abbrev pub points_automaton : Automaton (List Point)
+points_automaton = record { next = next; wrong = wrong; expected = expected; is_done = is_done }
 
 -- at the front of a program
 abbrev pub start : List Point
 start = At First closer.EndOfText [] 200 ∷ []
+
+-- the first fault of these symbols, read from these points
+abbrev pub run : List Symbol → List Point → Option Fault
+run symbols points = read points_automaton symbols points

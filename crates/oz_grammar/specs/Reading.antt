@@ -14,7 +14,7 @@ use Rattle.oz_grammar.specs.declared.symbol.Sign.{Sign}
 use Rattle.oz_grammar.specs.declared.symbol.Sign.TheVariants as sign
 use Rattle.oz_grammar.specs.declared.symbol.Closer.{Closer}
 use Rattle.oz_grammar.specs.declared.symbol.Closer.TheVariants as closer
-use Rattle.oz_grammar.specs.declared.symbol.BuiltIn.{BuiltIn}
+use Rattle.kernel_syntax.specs.declared.built_in.BuiltIn.{BuiltIn}
 use Rattle.oz_grammar.specs.declared.symbol.Purpose.{Purpose}
 use Rattle.oz_grammar.specs.declared.symbol.Purpose.TheVariants as purpose
 use Rattle.oz_grammar.specs.declared.fault.What.{What}
@@ -23,9 +23,10 @@ use Rattle.oz_grammar.specs.declared.fault.Fault.{Fault}
 use Rattle.oz_grammar.specs.declared.fault.FaultKind.{FaultKind}
 use Rattle.oz_grammar.specs.declared.fault.FaultKind.TheVariants.{Twice, Deep}
 use Rattle.oz_grammar.specs.Grammar.{Identifier, FeatureToken, AtomFeature, IntFeature}
-use Rattle.oz_grammar.specs.Scoping.{Scope, Fields, declaration_of, built_in_at, arity_of, has_name, with_field, feature_of, place_feature, names_in}
-use Rattle.oz_grammar.specs.Faults.{where_so, number_fault, site_fault, use_fault, count_fault, called_fault, argument_fault, formal_fault, feature_token_fault, name_fault, placed_fault, fault_here}
-use Rattle.oz_grammar.specs.Points.{expected_after, expected_sign, is_sign, is_closer, is_statement_start, mismatch}
+use Rattle.kernel_syntax.specs.BuiltIns.{arity_of}
+use Rattle.oz_grammar.specs.Scoping.{Scope, Fields, declaration_of, built_in_at, has_name, with_field, feature_of, place_feature, names_in}
+use Rattle.oz_grammar.specs.Faults.{where_so, number_fault, site_fault, use_fault, count_fault, called_fault, argument_fault, formal_fault, feature_token_fault, name_fault, placed_fault, fault_here, mismatch}
+use Rattle.oz_grammar.specs.Points.{expected_after, expected_sign, is_sign, is_closer, is_statement_start}
 use Rattle.oz_grammar.specs.Table.{code_at, value_of, pair_row, slots_of, features_in, record_row, record_pattern, bar_label, two_features, built_in_row}
 
 -- what f reads behind the first, unless that has a fault
@@ -65,6 +66,7 @@ selection_at scope symbols = fault_expected what.VariableOrFeature symbols
 -- what may follow the first variable of a value
 abbrev pub behind_at : ℕ → ℕ → Scope → List Symbol → Result (Stmt × List Symbol) Fault
 behind_at left a scope (t.Operator o ∷ rest) = used_variable_at what.Variable scope rest >>= λ z. Ok (stmt.Calc left o a z.0, z.1)
+behind_at left a scope (t.Test o ∷ rest) = used_variable_at what.Variable scope rest >>= λ z. Ok (stmt.Test left o a z.0, z.1)
 behind_at left a scope (t.Dot ∷ rest) = selection_at scope rest >>= λ s. Ok (stmt.Select left a s.0, s.1)
 behind_at left a scope (t.Bar ∷ rest) = used_variable_at what.Variable scope rest >>= λ z. Ok (pair_row left a z.0, z.1)
 behind_at left a scope rest = Ok (stmt.TellVar left a, rest)

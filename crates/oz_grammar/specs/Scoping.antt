@@ -1,6 +1,6 @@
 -- Declarations: which identifiers are declared where, their positions, and the names of what is built in (CTM section
 -- 2.4.2: static scoping).
-use Rattle.std.specs.Prelude.{◌≡◌, ℕ, ◌+◌, List, [], ◌∷◌, ◌++◌, length, map, Bool, true, false, if◌then◌else◌, Option, Some, None, is_some, unwrap_or, codes, pos}
+use Rattle.std.specs.Prelude.{◌≡◌, ℕ, ◌+◌, List, [], ◌∷◌, ◌++◌, length, map, Bool, if◌then◌else◌, Option, Some, None, is_some, unwrap_or, codes, pos}
 use Rattle.std.specs.List.{list_any}
 use Rattle.std.specs.Str.{bytes_eq}
 use Rattle.std.specs.Ordering.{is_lt}
@@ -8,8 +8,9 @@ use Rattle.tree_node.specs.declared.node.Feature.{Feature}
 use Rattle.tree_node.specs.declared.node.Feature.TheVariants as feature
 use Rattle.tree_node.specs.Node.{feature_cmp}
 use Rattle.tree_node.specs.Goal.{equal_feature}
-use Rattle.oz_grammar.specs.declared.symbol.BuiltIn.{BuiltIn}
-use Rattle.oz_grammar.specs.declared.symbol.BuiltIn.TheVariants as built
+use Rattle.kernel_syntax.specs.BuiltIns.{arity_of}
+use Rattle.kernel_syntax.specs.declared.built_in.BuiltIn.{BuiltIn}
+use Rattle.kernel_syntax.specs.declared.built_in.BuiltIn.TheVariants as built
 use Rattle.oz_grammar.specs.Grammar.{Identifier, FeatureToken, AtomFeature, IntFeature, Field, Placed, WithFeature, Pattern, IntPattern, AtomPattern, RecordPattern, PairPattern, Plain, Calls, Opening, Locals, ProcValue, ProcNamed, Threads, ThreadsAt, Choice, Ifs, Cases, Statement, Simple, Block, Chooses, Tries, Sequence, One, Then}
 
 -- the names declared around a place, from the outside inwards, hidden ones too
@@ -45,13 +46,6 @@ built_in_of x =
     else (if bytes_eq x (codes "Exchange") then Some built.Exchange
     else None)))
 
--- the number of its arguments
-abbrev pub arity_of : BuiltIn → ℕ
-arity_of built.Browse = 1
-arity_of built.Wait = 1
-arity_of built.NewCell = 2
-arity_of built.Exchange = 3
-
 -- what a call of this name calls, where it is built in: where nothing declares the name
 unfoldable pub built_in_at : Scope → Identifier → Option BuiltIn
 built_in_at scope p = if is_declared scope p then None else built_in_of p
@@ -72,15 +66,15 @@ abbrev pub place_feature : ℕ → Feature
 place_feature k = feature.Int (pos k)
 
 -- one of the fields has this feature
-abbrev pub has_feature : Fields → Feature → Bool
-has_feature fields f = list_any (λ (g : Feature × Identifier). equal_feature g.0 f) fields
+abbrev pub has_feature : {A : Type 0} → List (Feature × A) → Feature → Bool
+has_feature {A = A} fields f = list_any (λ (g : Feature × A). equal_feature g.0 f) fields
 
 -- one of the names is this one
 abbrev pub has_name : List Identifier → Identifier → Bool
 has_name names x = list_any (λ (y : Identifier). bytes_eq y x) names
 
 -- one field more, before the first of a greater feature
-abbrev pub with_field : Feature → Identifier → Fields → Fields
+abbrev pub with_field : {A : Type 0} → Feature → A → List (Feature × A) → List (Feature × A)
 with_field f x [] = (f, x) ∷ []
 with_field f x ((g, y) ∷ fields) =
     if is_lt (feature_cmp f g) then (f, x) ∷ (g, y) ∷ fields else (g, y) ∷ with_field f x fields

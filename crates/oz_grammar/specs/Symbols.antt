@@ -7,6 +7,7 @@ use Rattle.oz_lexer.specs.declared.token.LexKind.{LexKind}
 use Rattle.oz_lexer.specs.Spelling.{digits_of, text_in_quotes}
 use Rattle.oz_lexer.specs.Tokens.{Lexeme}
 use Rattle.kernel_syntax.specs.declared.stmt.Op.TheVariants as op
+use Rattle.kernel_syntax.specs.declared.stmt.TestOp.TheVariants as test
 use Rattle.kernel_syntax.specs.Texts.{IsText, IsIntegerIfSome}
 use Rattle.oz_grammar.specs.declared.symbol.Symbol.{Symbol}
 use Rattle.oz_grammar.specs.declared.symbol.Symbol.TheVariants as t
@@ -63,7 +64,9 @@ word_symbol bytes =
     else (if bytes_eq bytes (codes "proc") then t.Proc
     else (if bytes_eq bytes (codes "div") then t.Operator op.Div
     else (if bytes_eq bytes (codes "mod") then t.Operator op.Mod
-    else t.Unused))))))))))))))))
+    else (if bytes_eq bytes (codes "fun") then t.Fun
+    else (if bytes_eq bytes (codes "finally") then t.Finally
+    else t.Unused))))))))))))))))))
 
 -- a sign
 unfoldable pub sign_symbol : List ℕ → Symbol
@@ -84,7 +87,10 @@ sign_symbol bytes =
     else (if bytes_eq bytes (codes "<") then t.Operator op.Lt
     else (if bytes_eq bytes (codes ">=") then t.Operator op.Ge
     else (if bytes_eq bytes (codes ">") then t.Operator op.Gt
-    else t.Unused)))))))))))))))
+    else (if bytes_eq bytes (codes "==") then t.Test test.Equal
+    else (if bytes_eq bytes (codes "\\=") then t.Test test.NotEqual
+    else (if bytes_eq bytes (codes "[]") then t.Clause
+    else t.Unused))))))))))))))))))
 
 -- the symbol of a token of this kind, spelled so
 abbrev pub symbol_at : Result TokenKind LexKind → List ℕ → Symbol

@@ -9,9 +9,9 @@ use Rattle.kernel_syntax.specs.declared.stmt.Pattern.{Pattern}
 use Rattle.kernel_syntax.specs.declared.stmt.Pattern.TheVariants as pattern
 use Rattle.kernel_syntax.specs.declared.stmt.Selector.{Selector}
 use Rattle.kernel_syntax.specs.declared.stmt.Selector.TheVariants as selector
-use Rattle.oz_grammar.specs.declared.symbol.BuiltIn.{BuiltIn}
-use Rattle.oz_grammar.specs.declared.symbol.BuiltIn.TheVariants as built
-use Rattle.oz_grammar.specs.Grammar.{Identifier, FeatureToken, AtomFeature, IntFeature, Selection, ByVariable, ByFeature, Field, Placed, WithFeature, Value, ToVar, Calculates, Selects, Pairs, ToInt, ToAtom, ToRecord, IntPattern, AtomPattern, RecordPattern, PairPattern, Plain, Skips, Tells, Calls, Raises, Opening, Locals, ProcValue, ProcNamed, Threads, ThreadsAt, Choice, Ifs, Cases, Statement, Simple, Block, Chooses, Tries, Sequence, One, Then}
+use Rattle.kernel_syntax.specs.declared.built_in.BuiltIn.{BuiltIn}
+use Rattle.kernel_syntax.specs.declared.built_in.BuiltIn.TheVariants as built
+use Rattle.oz_grammar.specs.Grammar.{Identifier, FeatureToken, AtomFeature, IntFeature, Selection, ByVariable, ByFeature, Field, Placed, WithFeature, Value, ToVar, Calculates, Tests, Selects, Pairs, ToInt, ToAtom, ToRecord, IntPattern, AtomPattern, RecordPattern, PairPattern, Plain, Skips, Tells, Calls, Raises, Opening, Locals, ProcValue, ProcNamed, Threads, ThreadsAt, Choice, Ifs, Cases, Statement, Simple, Block, Chooses, Tries, Sequence, One, Then}
 use Rattle.oz_grammar.specs.Grammar as tree
 use Rattle.oz_grammar.specs.Scoping.{Scope, Fields, declaration_of, built_in_at, feature_of, fields_of, opening_scope, choice_scope}
 
@@ -40,8 +40,8 @@ abbrev pub slots_of : Scope → Fields → List (Feature × ℕ)
 slots_of scope fields = map (λ (f : Feature × Identifier). (f.0, declaration_of scope f.1)) fields
 
 -- the features of fields
-abbrev pub features_in : Fields → List Feature
-features_in fields = map (λ (f : Feature × Identifier). f.0) fields
+abbrev pub features_in : {A : Type 0} → List (Feature × A) → List Feature
+features_in {A = A} fields = map (λ (f : Feature × A). f.0) fields
 
 -- without fields it is the atom
 abbrev pub record_row : ℕ → List ℕ → List (Feature × ℕ) → Stmt
@@ -62,6 +62,7 @@ selector_of (ByFeature m) scope = selector.Feature (feature_of m)
 abbrev pub value_row : ℕ → Value → Scope → Stmt
 value_row left (ToVar y) scope = stmt.TellVar left (declaration_of scope y)
 value_row left (Calculates y o z) scope = stmt.Calc left o (declaration_of scope y) (declaration_of scope z)
+value_row left (Tests y o z) scope = stmt.Test left o (declaration_of scope y) (declaration_of scope z)
 value_row left (Selects y s) scope = stmt.Select left (declaration_of scope y) (selector_of s scope)
 value_row left (Pairs h u) scope = pair_row left (declaration_of scope h) (declaration_of scope u)
 value_row left (ToInt n) scope = stmt.TellInt left (value_of n)

@@ -28,6 +28,13 @@ pub enum What {
     Dollar,
     FieldOrBracket,
     Colon,
+    ValueOrClose,
+    Else,
+    CloseRound,
+    ClauseOrElse,
+    StatementOrClause,
+    StatementOrHandler,
+    StatementOrFinally,
 }
 
 /// What is wrong at a token. Where several apply to one token, the first of this list is answered.

@@ -3,7 +3,8 @@
 //! For: saying what a text is read as, and where it is refused, apart from any reader. The reader's contract and the
 //! printer's speak in these words: `Reads` and `FaultOf` (specs/Reads.antt), derivations as trees (Grammar), declarations
 //! (Scoping), the table of a derivation (Table), what is wrong at a token (Faults, Check), what is expected at a point
-//! (Points), the canonical form (Canonical). Reading.antt says how symbols are read from the left; a reader follows it.
+//! (Points), the first fault of symbols, for any grammar that an automaton reads (Automata), the canonical form (Canonical).
+//! Reading.antt says how symbols are read from the left; a reader follows it.
 //!
 //! Promises: reading gives the program, or the first fault at its place (`reading_is_exact`, `reading_texts_is_exact`); each
 //! text is one program or has one first fault, never both (`texts_have_one_of_both`). What a text in UTF-8 is read as is a
@@ -27,4 +28,4 @@ pub use laws::{
     canonical_symbols_read, one_of_both, read_examples, reading_is_exact, reading_texts_is_exact,
     reads_are_programs, refused_examples, texts_have_one_of_both,
 };
-pub use symbol::{BuiltIn, Closer, Purpose, Sign, Symbol};
+pub use symbol::{Closer, Purpose, Sign, Symbol};

@@ -1,8 +1,8 @@
 //! The symbols of the grammar.
 
-use kernel_syntax::Op;
+use kernel_syntax::{Op, TestOp};
 use oz_lexer::LexKind;
-use tree_node::Text;
+use tree_node::{Integer, Text};
 
 /// A symbol of the grammar: a token as the grammar reads it. The symbols of a text end with `EndOfText`, or with `Bad`
 /// where its first lexical fault stands, and neither stands anywhere else.
@@ -13,7 +13,7 @@ pub enum Symbol {
     /// The text of an atom, without quotes and escapes.
     Atom(Text),
     /// The value of an integer, and none where the token is no good number.
-    Integer(Option<i128>),
+    Integer(Option<Integer>),
     Skip,
     Local,
     In,
@@ -29,6 +29,8 @@ pub enum Symbol {
     Catch,
     Raise,
     Proc,
+    Fun,
+    Finally,
     Equals,
     OpenRound,
     CloseRound,
@@ -38,7 +40,10 @@ pub enum Symbol {
     Colon,
     Dot,
     Bar,
+    /// The sign between clauses.
+    Clause,
     Operator(Op),
+    Test(TestOp),
     /// A reserved word or a sign that no rule uses.
     Unused,
     EndOfText,
@@ -57,6 +62,8 @@ pub enum Sign {
     Dollar,
     Colon,
     Bar,
+    Else,
+    CloseRound,
 }
 
 /// What ends a sequence of statements.
@@ -73,13 +80,4 @@ pub enum Closer {
 pub enum Purpose {
     Use,
     Declare,
-}
-
-/// The calls that are built in, where nothing declares their names.
-#[derive(Clone, Copy, Debug, PartialEq, Eq)]
-pub enum BuiltIn {
-    Browse,
-    Wait,
-    NewCell,
-    Exchange,
 }

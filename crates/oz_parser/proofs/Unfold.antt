@@ -13,8 +13,9 @@ use Rattle.oz_grammar.specs.declared.fault.Fault.{Fault}
 use Rattle.oz_grammar.specs.declared.fault.FaultKind.TheVariants.{Deep}
 use Rattle.oz_grammar.specs.declared.fault.What.{What}
 use Rattle.oz_grammar.specs.declared.fault.What.TheVariants as what
-use Rattle.oz_grammar.specs.declared.symbol.BuiltIn.{BuiltIn}
-use Rattle.oz_grammar.specs.Scoping.{Scope, declaration_of, built_in_at, arity_of}
+use Rattle.kernel_syntax.specs.declared.built_in.BuiltIn.{BuiltIn}
+use Rattle.kernel_syntax.specs.BuiltIns.{arity_of}
+use Rattle.oz_grammar.specs.Scoping.{Scope, declaration_of, built_in_at}
 use Rattle.oz_grammar.specs.Points.{expected_after}
 use Rattle.oz_grammar.specs.Faults.{fault_here, called_fault}
 use Rattle.oz_grammar.specs.declared.fault.FaultKind.{FaultKind}

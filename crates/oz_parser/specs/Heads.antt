@@ -6,12 +6,13 @@ use Rattle.oz_grammar.specs.declared.symbol.Symbol.{Symbol}
 use Rattle.oz_grammar.specs.declared.symbol.Symbol.TheVariants as t
 use Rattle.oz_grammar.specs.declared.symbol.Sign.TheVariants as sign
 use Rattle.oz_grammar.specs.declared.symbol.Closer.TheVariants as closer
-use Rattle.oz_grammar.specs.declared.symbol.BuiltIn.{BuiltIn}
+use Rattle.kernel_syntax.specs.declared.built_in.BuiltIn.{BuiltIn}
 use Rattle.oz_grammar.specs.declared.fault.What.{What}
 use Rattle.oz_grammar.specs.declared.fault.What.TheVariants as what
 use Rattle.oz_grammar.specs.declared.fault.Fault.{Fault}
 use Rattle.oz_grammar.specs.Grammar.{Identifier}
-use Rattle.oz_grammar.specs.Scoping.{Scope, declaration_of, built_in_at, arity_of}
+use Rattle.kernel_syntax.specs.BuiltIns.{arity_of}
+use Rattle.oz_grammar.specs.Scoping.{Scope, declaration_of, built_in_at}
 use Rattle.oz_grammar.specs.Faults.{called_fault}
 use Rattle.oz_grammar.specs.Table.{code_at, built_in_row}
 use Rattle.oz_grammar.specs.Reading.{◌>>=◌, Out, Reader, fault_expected, fault_or, sign_at, used_variable_at, value_at, first_local_at, formals_at, arguments_at, built_in_arguments_at, site_at, pattern_at, seq_at, body_at, with_second}

@@ -1,12 +1,13 @@
 //! The arguments of calls.
 
 ghost use Rattle.std.specs.Prelude.{◌≡◌, ◌<◌, ◌≤◌, ◌^◌, [], length, IfOk};
-ghost use Rattle.oz_grammar.specs.Scoping.{arity_of};
+ghost use Rattle.kernel_syntax.specs.BuiltIns.{arity_of};
 ghost use Rattle.oz_grammar.specs.Faults.{argument_fault};
 ghost use Rattle.oz_grammar.specs.Reading.{arguments_at, built_in_arguments_at};
 ghost use Rattle.oz_phrases.specs.ReadAnswers.{IsReadAs};
 
-use oz_grammar::{BuiltIn, FaultKind, Symbol, What};
+use kernel_syntax::BuiltIn;
+use oz_grammar::{FaultKind, Symbol, What};
 use oz_phrases::{
     Read, Scope, close, count_fault, fault, mismatch, position_or_zero, used_variable,
 };

@@ -7,8 +7,8 @@ ghost use Rattle.oz_parser.specs.Heads.{head_parts, built_in_head, procedure_cal
 
 use crate::arguments::{arguments, arity_of, built_in_arguments};
 use crate::head::{Head, head_without_body};
-use kernel_syntax::{Positions, Stmt};
-use oz_grammar::{BuiltIn, FaultKind, Sign, Symbol, What};
+use kernel_syntax::{BuiltIn, Positions, Stmt};
+use oz_grammar::{FaultKind, Sign, Symbol, What};
 use oz_phrases::{Scope, Stop, built_in_at, fault, mismatch, sign, used_variable};
 use std::alloc::Global;
 

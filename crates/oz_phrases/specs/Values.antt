@@ -3,6 +3,7 @@ use Rattle.std.specs.Prelude.{ℕ, List, Result, Ok}
 use Rattle.kernel_syntax.specs.declared.stmt.Stmt.{Stmt}
 use Rattle.kernel_syntax.specs.declared.stmt.Stmt.TheVariants as stmt
 use Rattle.kernel_syntax.specs.declared.stmt.Op.{Op}
+use Rattle.kernel_syntax.specs.declared.stmt.TestOp.{TestOp}
 use Rattle.kernel_syntax.specs.declared.stmt.Pattern.{Pattern}
 use Rattle.kernel_syntax.specs.declared.stmt.Pattern.TheVariants as pattern
 use Rattle.oz_grammar.specs.declared.symbol.Symbol.{Symbol}
@@ -15,6 +16,10 @@ use Rattle.oz_grammar.specs.Reading.{◌>>=◌, used_variable_at, selection_at, 
 -- the second variable of Y op Z
 abbrev pub calculation_at : ℕ → ℕ → Op → Scope → List Symbol → Result (Stmt × List Symbol) Fault
 calculation_at left a o scope symbols = used_variable_at what.Variable scope symbols >>= λ z. Ok (stmt.Calc left o a z.0, z.1)
+
+-- the second variable of Y == Z and of Y \= Z
+abbrev pub test_at : ℕ → ℕ → TestOp → Scope → List Symbol → Result (Stmt × List Symbol) Fault
+test_at left a o scope symbols = used_variable_at what.Variable scope symbols >>= λ z. Ok (stmt.Test left o a z.0, z.1)
 
 -- what stands behind the dot of Y.F
 abbrev pub field_selection_at : ℕ → ℕ → Scope → List Symbol → Result (Stmt × List Symbol) Fault

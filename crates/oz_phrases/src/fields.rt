@@ -194,24 +194,18 @@ fn numbered_field<'t>(
     at: Brackets,
     scope: &Scope,
     fields: &mut Vec<(Feature, Text)>,
-    value: Option<i128>,
+    value: &Option<Integer>,
     symbols: &'t [Symbol],
 ) -> Read<'t, u32>
     requires { 0 < length symbols.now }
-    ensures read { IsReadAs (λ x. (fields.new.items, x.0, x.1.now)) result (numbered_field_of at.purpose scope.now at.room fields.old.items at.next value symbols.now (drop 1 symbols.now)) }
+    ensures read { IsReadAs (λ x. (fields.new.items, x.0, x.1.now)) result (numbered_field_of at.purpose scope.now at.room fields.old.items at.next value.now symbols.now (drop 1 symbols.now)) }
     ensures shorter { IfOk result (λ x. length x.1.now < length symbols.now) }
     ensures next { IfOk result (λ x. x.0 ≡ at.next) }
     ensures count { OnOk result (vec_len fields.new ≡ vec_len fields.old + 1) }
 {
     match value {
         None => Err(fault(FaultKind::Number, symbols)),
-        Some(value) => field_with_feature(
-            at,
-            scope,
-            fields,
-            Feature::Int(Integer::new(value)),
-            symbols,
-        ),
+        Some(value) => field_with_feature(at, scope, fields, Feature::Int(value.copy()), symbols),
     }
 }
 
@@ -246,7 +240,7 @@ fn field<'t>(
         [Symbol::Atom(text), ..] => {
             field_with_feature(at, scope, fields, Feature::Atom(text.copy()?), symbols)
         }
-        [Symbol::Integer(value), ..] => numbered_field(at, scope, fields, *value, symbols),
+        [Symbol::Integer(value), ..] => numbered_field(at, scope, fields, value, symbols),
         _ => Err(mismatch(What::FieldOrBracket, symbols)),
     }
 }

@@ -91,7 +91,7 @@ pub fn pattern<'t>(
 {
     match symbols {
         [Symbol::Integer(Some(value)), rest @ ..] => Ok((
-            Pattern::Int(*value),
+            Pattern::Int(value.get()),
             Vec::new(alloc),
             rest,
         )),

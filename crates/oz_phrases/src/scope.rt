@@ -6,7 +6,7 @@ ghost use Rattle.oz_grammar.specs.Scoping.{position_of, declaration_of, built_in
 ghost use Rattle.oz_phrases.specs.ScopeIndex.{position_named};
 
 use indexmap::IndexMap;
-use oz_grammar::BuiltIn;
+use kernel_syntax::BuiltIn;
 use std::alloc::{AllocError, Global};
 use std::marker::Model;
 use tree_node::Text;

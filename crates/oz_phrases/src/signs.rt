@@ -21,6 +21,8 @@ pub fn is_sign(sign: Sign, symbol: &Symbol) -> bool
         Sign::Dollar => matches!(symbol, Symbol::Dollar),
         Sign::Colon => matches!(symbol, Symbol::Colon),
         Sign::Bar => matches!(symbol, Symbol::Bar),
+        Sign::Else => matches!(symbol, Symbol::Else),
+        Sign::CloseRound => matches!(symbol, Symbol::CloseRound),
     }
 }
 
@@ -37,6 +39,8 @@ pub fn expected_sign(sign: Sign) -> What
         Sign::Dollar => What::Dollar,
         Sign::Colon => What::Colon,
         Sign::Bar => What::Bar,
+        Sign::Else => What::Else,
+        Sign::CloseRound => What::CloseRound,
     }
 }
 

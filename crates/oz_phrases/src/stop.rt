@@ -1,8 +1,7 @@
 //! Why nothing is read.
 
 ghost use Rattle.std.specs.Prelude.{◌≡◌};
-ghost use Rattle.oz_grammar.specs.Faults.{fault_here};
-ghost use Rattle.oz_grammar.specs.Points.{mismatch};
+ghost use Rattle.oz_grammar.specs.Faults.{fault_here, mismatch};
 ghost use Rattle.oz_phrases.specs.declared.stop.Stop.TheVariants as stops;
 
 use oz_grammar::{Fault, FaultKind, Symbol, What};

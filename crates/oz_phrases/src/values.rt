@@ -4,13 +4,13 @@ ghost use Rattle.std.specs.Prelude.{◌≡◌, ◌+◌, ◌<◌, ◌≤◌, ◌^
 ghost use Rattle.oz_grammar.specs.Table.{record_row, pair_row};
 ghost use Rattle.oz_grammar.specs.Reading.{record_at, behind_at, value_at};
 ghost use Rattle.oz_phrases.specs.ReadAnswers.{IsReadAs};
-ghost use Rattle.oz_phrases.specs.Values.{calculation_at, field_selection_at, pair_at, variable_at};
+ghost use Rattle.oz_phrases.specs.Values.{calculation_at, test_at, field_selection_at, pair_at, variable_at};
 
 use crate::fields::{fields, slots};
 use crate::operands::{selection, used_variable};
 use crate::scope::Scope;
 use crate::stop::{Read, Stop, fault, mismatch};
-use kernel_syntax::{Op, Slots, Stmt};
+use kernel_syntax::{Op, Slots, Stmt, TestOp};
 use oz_grammar::{FaultKind, Purpose, Symbol, What};
 use std::alloc::{AllocError, Global};
 use tree_node::{Feature, Integer, Text};
@@ -89,6 +89,15 @@ fn calculation<'t>(
     Ok((Stmt::Calc { left, op, a, b }, rest))
 }
 
+fn test<'t>(left: u32, a: u32, op: TestOp, scope: &Scope, symbols: &'t [Symbol]) -> Read<'t, Stmt>
+    requires { length scope.now < 2 ^ 32 }
+    ensures read { IsReadAs (λ x. (x.0, x.1.now)) result (test_at left a op scope.now symbols.now) }
+    ensures shorter { IfOk result (λ x. length x.1.now ≤ length symbols.now) }
+{
+    let (b, rest) = used_variable(What::Variable, scope, symbols)?;
+    Ok((Stmt::Test { left, op, a, b }, rest))
+}
+
 fn field_selection<'t>(
     left: u32,
     source: u32,
@@ -132,6 +141,7 @@ fn behind<'t>(
 {
     match symbols {
         [Symbol::Operator(op), rest @ ..] => calculation(left, a, *op, scope, rest),
+        [Symbol::Test(op), rest @ ..] => test(left, a, *op, scope, rest),
         [Symbol::Dot, rest @ ..] => field_selection(left, a, scope, rest),
         [Symbol::Bar, rest @ ..] => pair(alloc, left, a, scope, rest),
         _ => Ok((Stmt::TellVar { left, right: a }, symbols)),
@@ -159,7 +169,7 @@ pub fn value<'t>(alloc: Global, left: u32, scope: &Scope, symbols: &'t [Symbol])
         [Symbol::Integer(Some(value)), rest @ ..] => Ok((
             Stmt::TellInt {
                 left,
-                value: *value,
+                value: value.get(),
             },
             rest,
         )),

@@ -20,9 +20,9 @@ use Rattle.kernel_syntax.proofs.Below.{Below}
 use Rattle.kernel_syntax.proofs.PreorderLemmas.{NamesFew, names_few}
 use Rattle.oz_grammar.specs.declared.symbol.Symbol.{Symbol}
 use Rattle.oz_grammar.specs.declared.symbol.Symbol.TheVariants as t
-use Rattle.oz_grammar.specs.declared.symbol.BuiltIn.{BuiltIn}
-use Rattle.oz_grammar.specs.declared.symbol.BuiltIn.TheVariants as built
-use Rattle.oz_grammar.specs.Grammar.{ByVariable, ByFeature, Value, ToVar, Calculates, Selects, ToInt, ToAtom, ToRecord, Tells, feature_symbol, names_text, field_text, fields_text, value_text, pattern_text, plain_text}
+use Rattle.kernel_syntax.specs.declared.built_in.BuiltIn.{BuiltIn}
+use Rattle.kernel_syntax.specs.declared.built_in.BuiltIn.TheVariants as built
+use Rattle.oz_grammar.specs.Grammar.{ByVariable, ByFeature, Value, ToVar, Calculates, Tests, Selects, ToInt, ToAtom, ToRecord, Tells, feature_symbol, names_text, field_text, fields_text, value_text, pattern_text, plain_text}
 use Rattle.oz_grammar.specs.Canonical.{name_at, names_from, built_in_name, feature_token, field_with_feature, slot_field, declared_fields, pattern_tree, calls_built_in, bodies_symbols, row_symbols, symbols_within, canonical_symbols}
 use Rattle.oz_grammar.specs.Table.{code_at}
 use Rattle.oz_grammar.proofs.CanonicalRows.{plain_tree, IsPlainRow}
@@ -107,6 +107,8 @@ row_writes (stmt.TellRec left label slots) rest p below good w =
     value_write left (ToRecord label (map slot_field slots)) rest below.0 (more (is_atom label good.0) (more tt (slots_write slots (t.CloseRound ∷ rest) good.1 below.1 (more tt w))))
 row_writes (stmt.Calc left op a b) rest p below good w =
     value_write left (Calculates (name_at a) op (name_at b)) rest below.0 (more (name_written a below.1.0) (more tt (more (name_written b below.1.1.0) w)))
+row_writes (stmt.Test left op a b) rest p below good w =
+    value_write left (Tests (name_at a) op (name_at b)) rest below.0 (more (name_written a below.1.0) (more tt (more (name_written b below.1.1.0) w)))
 row_writes (stmt.Select left source (selector.Var x)) rest p below good w =
     value_write left (Selects (name_at source) (ByVariable (name_at x))) rest below.0 (more (name_written source below.1.0) (more tt (more (name_written x below.1.1.0) w)))
 row_writes (stmt.Select left source (selector.Feature f)) rest p below good w =
@@ -153,6 +155,7 @@ module _ (body : CodeId → List Symbol → List Symbol) (writes : (c : CodeId) 
   fit_writes (stmt.TellProc left first count c) rest fit w =
       more (name_written left fit.names.0) (more tt (more tt (more tt (more tt (from_write count first (t.CloseCurly ∷ body c (t.End ∷ rest)) fit.limits.1 (more tt (writes c (t.End ∷ rest) (more tt w))))))))
   fit_writes (stmt.Calc left op a b) rest fit w = row_writes (stmt.Calc left op a b) rest tt fit.names fit.texts w
+  fit_writes (stmt.Test left op a b) rest fit w = row_writes (stmt.Test left op a b) rest tt fit.names fit.texts w
   fit_writes (stmt.Select left source by) rest fit w = row_writes (stmt.Select left source by) rest tt fit.names fit.texts w
   fit_writes (stmt.If subject chosen other) rest fit w =
       more tt (more (name_written subject fit.names.0) (more tt (writes chosen _ (more tt (writes other _ (more tt w))))))

@@ -8,6 +8,8 @@ use Rattle.tree_node.specs.Spelling.{is_bare, escaped_text, atom_text, int_text,
 use Rattle.tree_node.specs.Words.{reserved_words}
 use Rattle.kernel_syntax.specs.declared.stmt.Op.{Op}
 use Rattle.kernel_syntax.specs.declared.stmt.Op.TheVariants as op
+use Rattle.kernel_syntax.specs.declared.stmt.TestOp.{TestOp}
+use Rattle.kernel_syntax.specs.declared.stmt.TestOp.TheVariants as test
 use Rattle.oz_lexer.specs.declared.token.TokenKind.{TokenKind}
 use Rattle.oz_lexer.specs.declared.token.TokenKind.TheVariants as kind
 use Rattle.oz_lexer.specs.Spelling.{token_kind_of, is_long, is_variable, is_lower_word, is_quoted}
@@ -35,6 +37,9 @@ abbrev pub IsWritten : Symbol → Type 0
 IsWritten (t.Variable x) = (is_variable x ≡ true) × (length x ≤ 255)
 IsWritten (t.Atom a) = IsAtom a
 IsWritten (t.Integer n) = IsInteger n
+IsWritten t.Fun = ⊥
+IsWritten t.Finally = ⊥
+IsWritten t.Clause = ⊥
 IsWritten t.Unused = ⊥
 IsWritten t.EndOfText = ⊥
 IsWritten (t.Bad k) = ⊥
@@ -133,6 +138,11 @@ operator_token op.Lt = sign (t.Operator op.Lt) refl refl refl (omega arith)
 operator_token op.Ge = sign (t.Operator op.Ge) refl refl refl (omega arith)
 operator_token op.Gt = sign (t.Operator op.Gt) refl refl refl (omega arith)
 
+test_token : (o : TestOp) → Token (t.Test o)
+unfolding token_kind_of word_symbol sign_symbol reserved_words
+test_token test.Equal = sign (t.Test test.Equal) refl refl refl (omega arith)
+test_token test.NotEqual = sign (t.Test test.NotEqual) refl refl refl (omega arith)
+
 integer_or_none : (n : Option ℤ) → IsInteger n → Token (t.Integer n)
 integer_or_none (Some z) fits = integer_token z fits
 integer_or_none None fits = absurd fits
@@ -167,6 +177,10 @@ token_of t.Colon w = sign t.Colon refl refl refl (omega arith)
 token_of t.Dot w = sign t.Dot refl refl refl (omega arith)
 token_of t.Bar w = sign t.Bar refl refl refl (omega arith)
 token_of (t.Operator o) w = operator_token o
+token_of (t.Test o) w = test_token o
+token_of t.Fun w = absurd w
+token_of t.Finally w = absurd w
+token_of t.Clause w = absurd w
 token_of t.Unused w = absurd w
 token_of t.EndOfText w = absurd w
 token_of (t.Bad k) w = absurd w

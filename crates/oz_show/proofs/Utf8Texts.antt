@@ -9,11 +9,13 @@ use lib.Utf8.{scalar, scalars, encodes, encode}
 use Rattle.tree_node.specs.Spelling.{is_word_byte, is_bare, escaped_text, atom_text}
 use Rattle.kernel_syntax.specs.declared.stmt.Op.{Op}
 use Rattle.kernel_syntax.specs.declared.stmt.Op.TheVariants as op
+use Rattle.kernel_syntax.specs.declared.stmt.TestOp.{TestOp}
+use Rattle.kernel_syntax.specs.declared.stmt.TestOp.TheVariants as test
 use Rattle.oz_grammar.specs.declared.symbol.Symbol.{Symbol}
 use Rattle.oz_grammar.specs.declared.symbol.Symbol.TheVariants as t
 use Rattle.oz_grammar.proofs.Digits.{word_bytes, FitsInteger}
 use Rattle.oz_grammar.proofs.TextInQuotes.{AreHigh, encode_high, ascii_before}
-use Rattle.oz_show.specs.CanonicalText.{operator_text, symbol_text, text_behind, symbols_text}
+use Rattle.oz_show.specs.CanonicalText.{operator_text, test_text, symbol_text, text_behind, symbols_text}
 use Rattle.oz_show.proofs.SymbolSpelling.{IsAtom, IsWritten}
 use Rattle.oz_show.proofs.SpelledTokens.{Written, ends, more, behind_is}
 use Rattle.oz_lexer.proofs.Boundaries.{word_ascii}
@@ -84,6 +86,10 @@ operator_utf8 op.Lt = all_ascii _ refl
 operator_utf8 op.Ge = all_ascii _ refl
 operator_utf8 op.Gt = all_ascii _ refl
 
+test_utf8 : (o : TestOp) → IsUtf8 (test_text o)
+test_utf8 test.Equal = all_ascii _ refl
+test_utf8 test.NotEqual = all_ascii _ refl
+
 symbol_utf8 : (x : Symbol) → IsWritten x → IsUtf8 (symbol_text x)
 symbol_utf8 (t.Variable x) w = words_utf8 x (name_bytes x w.0)
   where
@@ -117,6 +123,10 @@ symbol_utf8 t.Colon w = all_ascii _ refl
 symbol_utf8 t.Dot w = all_ascii _ refl
 symbol_utf8 t.Bar w = all_ascii _ refl
 symbol_utf8 (t.Operator o) w = operator_utf8 o
+symbol_utf8 (t.Test o) w = test_utf8 o
+symbol_utf8 t.Fun w = absurd w
+symbol_utf8 t.Finally w = absurd w
+symbol_utf8 t.Clause w = absurd w
 symbol_utf8 t.Unused w = absurd w
 symbol_utf8 t.EndOfText w = absurd w
 symbol_utf8 (t.Bad k) w = absurd w

@@ -5,6 +5,8 @@ use Rattle.tree_node.specs.Spelling.{atom_text, int_text}
 use Rattle.kernel_syntax.specs.declared.stmt.Stmt.{Stmt}
 use Rattle.kernel_syntax.specs.declared.stmt.Op.{Op}
 use Rattle.kernel_syntax.specs.declared.stmt.Op.TheVariants as op
+use Rattle.kernel_syntax.specs.declared.stmt.TestOp.{TestOp}
+use Rattle.kernel_syntax.specs.declared.stmt.TestOp.TheVariants as test
 use Rattle.oz_grammar.specs.declared.symbol.Symbol.{Symbol}
 use Rattle.oz_grammar.specs.declared.symbol.Symbol.TheVariants as t
 use Rattle.oz_grammar.specs.Canonical.{canonical_symbols}
@@ -20,6 +22,11 @@ operator_text op.Le = codes "=<"
 operator_text op.Lt = codes "<"
 operator_text op.Ge = codes ">="
 operator_text op.Gt = codes ">"
+
+-- how a test is spelled
+abbrev pub test_text : TestOp → List ℕ
+test_text test.Equal = codes "=="
+test_text test.NotEqual = codes "\\="
 
 -- an integer, where the symbol has one
 abbrev pub integer_text : Option ℤ → List ℕ
@@ -53,6 +60,7 @@ word_text t.Colon = codes ":"
 word_text t.Dot = codes "."
 word_text t.Bar = codes "|"
 word_text (t.Operator o) = operator_text o
+word_text (t.Test o) = test_text o
 word_text symbol = []
 
 -- how a symbol is spelled; those without a spelling are in no canonical text

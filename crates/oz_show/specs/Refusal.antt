@@ -41,6 +41,13 @@ what_text what.OpenBrace = codes "{"
 what_text what.Dollar = codes "$"
 what_text what.FieldOrBracket = codes "a field or )"
 what_text what.Colon = codes ":"
+what_text what.ValueOrClose = codes "a value or }"
+what_text what.Else = codes "else"
+what_text what.CloseRound = codes ")"
+what_text what.ClauseOrElse = codes "[] or else"
+what_text what.StatementOrClause = codes "a statement, [] or else"
+what_text what.StatementOrHandler = codes "a statement, catch or finally"
+what_text what.StatementOrFinally = codes "a statement, finally or end"
 
 -- what is wrong
 abbrev pub fault_text : FaultKind → List ℕ

@@ -3,15 +3,15 @@
 ghost use Rattle.std.specs.Prelude.{◌≡◌, ◌++◌, OnOk, IfOk};
 ghost use Rattle.std.specs.Str.{IsUtf8};
 ghost use Rattle.oz_grammar.specs.Reads.{Reads};
-ghost use Rattle.oz_show.specs.CanonicalText.{operator_text, word_text, symbol_text, text_behind, symbols_text, canonical_text};
+ghost use Rattle.oz_show.specs.CanonicalText.{operator_text, test_text, word_text, symbol_text, text_behind, symbols_text, canonical_text};
 
 use crate::laws::canonical_text_reads_back;
 use crate::program::symbols_of;
 use crate::symbols::Symbols;
-use kernel_syntax::{Op, Program};
+use kernel_syntax::{Op, Program, TestOp};
 use oz_grammar::Symbol;
 use std::alloc::{AllocError, Global};
-use tree_node::{Feature, Integer, Text, atom_text, feature_text};
+use tree_node::{Feature, Text, atom_text, feature_text};
 
 /// The canonical text of a program: one blank between any two tokens and a newline after the last, where the identifier
 /// at position n is `V` and n, every field has its feature, and pairs and `proc` statements are written out.
@@ -67,10 +67,7 @@ fn spell(alloc: Global, text: &mut Vec<u8>, symbol: &Symbol) -> Result<(), Alloc
         Symbol::Variable(name) => text.extend_from_slice(name.as_slice())?,
         Symbol::Atom(atom) => text.extend_from_slice(atom_text(alloc, atom)?.as_slice())?,
         Symbol::Integer(Some(value)) => {
-            text.extend_from_slice(feature_text(
-                alloc,
-                &Feature::Int(Integer::new(*value)),
-            )?.as_slice())?;
+            text.extend_from_slice(feature_text(alloc, &Feature::Int(value.copy()))?.as_slice())?;
         }
         Symbol::Integer(None) => {}
         word => text.extend_from_slice(word_text(word))?,
@@ -107,6 +104,7 @@ fn word_text(word: &Symbol) -> &'static [u8]
         Symbol::Dot => b".",
         Symbol::Bar => b"|",
         Symbol::Operator(operator) => operator_text(*operator),
+        Symbol::Test(test) => test_text(*test),
         _ => b"",
     }
 }
@@ -124,5 +122,14 @@ fn operator_text(operator: Op) -> &'static [u8]
         Op::Lt => b"<",
         Op::Ge => b">=",
         Op::Gt => b">",
+    }
+}
+
+fn test_text(test: TestOp) -> &'static [u8]
+    ensures { result.now ≡ test_text test }
+{
+    match test {
+        TestOp::Equal => b"==",
+        TestOp::NotEqual => b"\\=",
     }
 }

@@ -6,14 +6,14 @@ ghost use Rattle.tree_node.specs.Each.{Each};
 ghost use Rattle.kernel_syntax.specs.Scopes.{bodies_of, features_in};
 ghost use Rattle.kernel_syntax.specs.Program.{IsStmt};
 ghost use Rattle.oz_grammar.specs.declared.symbol.Symbol.TheVariants as t;
-ghost use Rattle.oz_grammar.specs.Grammar.{ToVar, ToInt, ToAtom, ToRecord, Calculates, Selects, Raises, ProcValue, Cases, plain_text, opening_text, choice_text, names_text};
+ghost use Rattle.oz_grammar.specs.Grammar.{ToVar, ToInt, ToAtom, ToRecord, Calculates, Tests, Selects, Raises, ProcValue, Cases, plain_text, opening_text, choice_text, names_text};
 ghost use Rattle.oz_grammar.specs.Canonical.{name_at, names_from, slot_field, selection_of, pattern_tree, tell_statement, local_opening, thread_opening, bodies_symbols, row_symbols, symbols_within, canonical_symbols};
 
 use crate::symbols::Symbols;
-use kernel_syntax::{Op, Pattern, Program, Selector, Stmt};
+use kernel_syntax::{Op, Pattern, Program, Selector, Stmt, TestOp};
 use oz_grammar::Symbol;
 use std::alloc::{AllocError, Global};
-use tree_node::{CodeId, Feature, Text};
+use tree_node::{CodeId, Feature, Integer, Text};
 
 /// The symbols of a program.
 pub fn symbols_of(alloc: Global, program: &Program) -> Result<Symbols, AllocError>
@@ -204,7 +204,7 @@ fn put_thread(symbols: &mut Symbols, at: Option<i128>) -> Result<(), AllocError>
     ensures { OnOk result (symbols.new ≡ opening_text (thread_opening at) symbols.old) }
 {
     if let Some(site) = at {
-        symbols.put(Symbol::Integer(Some(site)))?;
+        symbols.put(Symbol::Integer(Some(Integer::new(site))))?;
         symbols.put(Symbol::At)?;
     }
     symbols.put(Symbol::Thread)
@@ -227,6 +227,7 @@ fn put_plain(alloc: Global, symbols: &mut Symbols, stmt: &Stmt) -> Result<(), Al
             fields,
         } => put_tell_record(alloc, symbols, *left, label, fields.as_slice()),
         Stmt::Calc { left, op, a, b } => put_tell_result(alloc, symbols, *left, *op, *a, *b),
+        Stmt::Test { left, op, a, b } => put_tell_test(alloc, symbols, *left, *op, *a, *b),
         Stmt::Select { left, source, by } => put_tell_field(alloc, symbols, *left, *source, by),
         Stmt::Call { callee, args } => put_call(alloc, symbols, *callee, args.as_slice()),
         Stmt::Browse(shown) => put_built_in(alloc, symbols, b"Browse", &[*shown]),
@@ -273,7 +274,7 @@ fn put_tell_integer(
 ) -> Result<(), AllocError>
     ensures { OnOk result (symbols.new ≡ plain_text (tell_statement left (ToInt (Some value))) symbols.old) }
 {
-    symbols.put(Symbol::Integer(Some(value)))?;
+    symbols.put(Symbol::Integer(Some(Integer::new(value))))?;
     put_tell(alloc, symbols, left)
 }
 
@@ -317,6 +318,22 @@ fn put_tell_result(
 {
     symbols.put_name(alloc, b)?;
     symbols.put(Symbol::Operator(operator))?;
+    symbols.put_name(alloc, a)?;
+    put_tell(alloc, symbols, left)
+}
+
+fn put_tell_test(
+    alloc: Global,
+    symbols: &mut Symbols,
+    left: u32,
+    test: TestOp,
+    a: u32,
+    b: u32,
+) -> Result<(), AllocError>
+    ensures { OnOk result (symbols.new ≡ plain_text (tell_statement left (Tests (name_at a) test (name_at b))) symbols.old) }
+{
+    symbols.put_name(alloc, b)?;
+    symbols.put(Symbol::Test(test))?;
     symbols.put_name(alloc, a)?;
     put_tell(alloc, symbols, left)
 }

@@ -49,6 +49,13 @@ fn what_text(what: What) -> &'static str
         What::Dollar => "$",
         What::FieldOrBracket => "a field or )",
         What::Colon => ":",
+        What::ValueOrClose => "a value or }",
+        What::Else => "else",
+        What::CloseRound => ")",
+        What::ClauseOrElse => "[] or else",
+        What::StatementOrClause => "a statement, [] or else",
+        What::StatementOrHandler => "a statement, catch or finally",
+        What::StatementOrFinally => "a statement, finally or end",
     }
 }
 

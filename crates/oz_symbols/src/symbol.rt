@@ -8,7 +8,7 @@ ghost use Rattle.oz_grammar.specs.Symbols.{word_symbol, sign_symbol, quoted_text
 
 use crate::integer::integer_of;
 use crate::texts::Texts;
-use kernel_syntax::Op;
+use kernel_syntax::{Op, TestOp};
 use oz_grammar::Symbol;
 use oz_lexer::{Token, TokenKind};
 use std::alloc::{AllocError, Global};
@@ -36,6 +36,8 @@ fn word_symbol(word: &str) -> Symbol
         "proc" => Symbol::Proc,
         "div" => Symbol::Operator(Op::Div),
         "mod" => Symbol::Operator(Op::Mod),
+        "fun" => Symbol::Fun,
+        "finally" => Symbol::Finally,
         _ => Symbol::Unused,
     }
 }
@@ -61,6 +63,9 @@ fn sign_symbol(sign: &str) -> Symbol
         "<" => Symbol::Operator(Op::Lt),
         ">=" => Symbol::Operator(Op::Ge),
         ">" => Symbol::Operator(Op::Gt),
+        "==" => Symbol::Test(TestOp::Equal),
+        "\\=" => Symbol::Test(TestOp::NotEqual),
+        "[]" => Symbol::Clause,
         _ => Symbol::Unused,
     }
 }

@@ -4,7 +4,7 @@ use crate::printed::first_difference;
 use std::test::Fail;
 
 // A text, and its canonical text.
-static CANONICAL: [(&str, &str); 10] = [
+static CANONICAL: [(&str, &str); 11] = [
     (
         "local P in proc {P X} X=f(b:P P) end end",
         "local V0 in V0 = proc { $ V1 } V1 = f ( 1 : V0 b : V0 ) end end\n",
@@ -28,6 +28,10 @@ static CANONICAL: [(&str, &str); 10] = [
     (
         "local A B C in A=B+C A=B-C A=B*C A=B div C A=B mod C A=B=<C A=B<C A=B>=C A=B>C end",
         "local V0 V1 V2 in V0 = V1 + V2 V0 = V1 - V2 V0 = V1 * V2 V0 = V1 div V2 V0 = V1 mod V2 V0 = V1 =< V2 V0 = V1 < V2 V0 = V1 >= V2 V0 = V1 > V2 end\n",
+    ),
+    (
+        "local A B C in A=B==C A=B\\=C end",
+        "local V0 V1 V2 in V0 = V1 == V2 V0 = V1 \\= V2 end\n",
     ),
     (
         "local A B in if A then skip else raise B end end case A of H|T then H = T else skip end case A of ~1 then {Browse A} else {Wait B} end case A of a() then {NewCell A B} else {Exchange A B A} end end",

@@ -44,8 +44,8 @@ static REFUSED: [(&str, &str); 64] = [
     ("local X in X = f(1:X X) end", "refused 1:22 given twice"),
     ("local X in X = fun", "refused 1:16 expected a value"),
     (
-        "local X in X = X == X end",
-        "refused 1:18 expected a statement or end",
+        "local X in X = X == end",
+        "refused 1:21 expected a variable",
     ),
     ("thread at 0 skip end", "refused 1:11 site below 1"),
     ("local A in A = 'x", "refused 1:16 open quote"),

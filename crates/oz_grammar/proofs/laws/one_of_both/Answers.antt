@@ -1,5 +1,4 @@
-use Rattle.oz_grammar.proofs.ReadLaws.{symbols_have_one, never_both, one_program}
-use Rattle.oz_grammar.proofs.FaultLaws.{one_fault}
+use Rattle.oz_grammar.proofs.ReadLaws.{symbols_have_one, never_both, one_program, one_fault}
 use Rattle.oz_grammar.proofs.laws.one_of_both.Goals as goal
 
 pub returns : goal.returns
