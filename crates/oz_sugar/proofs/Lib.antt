@@ -1,0 +1,10 @@
+pub mod Rows
+pub mod Programs
+pub mod PutFits
+pub mod WritingLaws
+pub mod Counts
+pub mod Declaring
+pub mod Expansions
+pub mod WorkedRows
+pub mod KernelCodes
+pub mod KernelExpansions

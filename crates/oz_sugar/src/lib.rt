@@ -1,0 +1,29 @@
+//! What programs with sugar stand for (CTM section 2.6): programs of the kernel.
+//!
+//! For: running a program as the book writes it. The reader of texts with sugar makes a tree (`kernel_syntax::sugar`), and
+//! `expand` the program that it stands for, which every machine runs.
+//!
+//! Promises: `expand` gives the program that the tree stands for (`Expand`, specs/Put.antt), or tells where that would be more than
+//! 200 levels deep (specs/Deep.antt), or that memory ran out. The definition speaks of positions, not of names, so no new
+//! identifier hides one of the text; that a tree within its limits stands for a program where it is not too deep is proved of all
+//! trees (proofs/PutFits.antt, Programs.antt), and so is that the rows which are written are those of the definition
+//! (proofs/WritingLaws.antt). A program of the kernel stands for itself (`kernel_expands`). Worked examples hold of the
+//! definitions (`expanded_examples`, `deep_examples`).
+//!
+//! Stands on: `kernel_syntax` (trees, programs) and definitions of `oz_grammar` (the row of a built-in call, the numbers of rows)
+//! and `surface_grammar` (what is read with sugar).
+//!
+//! Tests alone show that a program is made where there is memory.
+//!
+//! Sources: Van Roy and Haridi, *Concepts, Techniques, and Models of Computer Programming*, sections 2.6 (functions, nested values)
+//! and 2.7.2 (`finally`).
+#![tactic(auto)]
+
+mod depth;
+mod expansion;
+mod laws;
+mod leaves;
+mod writer;
+
+pub use expansion::{ExpandError, expand};
+pub use laws::{deep_examples, expanded_examples, kernel_expands};

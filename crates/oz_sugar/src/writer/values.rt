@@ -1,0 +1,289 @@
+//! What stands for values.
+
+ghost use Rattle.std.specs.Prelude.{◌≡◌, ◌+◌, ◌<◌, ◌≤◌, [], length, IfOk, OnOk};
+ghost use Rattle.kernel_syntax.specs.declared.stmt.Stmt.TheVariants as stmt;
+ghost use Rattle.kernel_syntax.specs.Sugar.{Apply, Record, ValueClauses, new_of, new_in};
+ghost use Rattle.kernel_syntax.specs.SugarView.{value_of, values_in, value_clause_and, value_clauses_in, statements_in};
+ghost use Rattle.oz_sugar.specs.Put.{place, declare, slot_places, operation_row};
+ghost use Rattle.oz_sugar.specs.Writing.{add, behind, held_place, new_rows, hold_rows, write, write_all, write_fields, write_clauses, write_statements, state_of, written};
+
+use super::Writer;
+use crate::depth::new_in;
+use crate::leaves::{operation_row, slot_places};
+use kernel_syntax::sugar::{Field, Operation, Statement, Value, ValueClause};
+use kernel_syntax::{Slots, Stmt};
+use std::alloc::AllocError;
+use tree_node::{CodeId, Feature, Text};
+
+impl Writer {
+    /// The position of a part, behind the rows before those of what goes on with it.
+    #[cycle(writer)]
+    pub(super) fn hold(&mut self, part: &Value) -> Result<u32, AllocError>
+        ensures place { IfOk result (λ y. y ≡ held_place (value_of part.now) self.old.places self.old.around) }
+        ensures rows { OnOk result (self.new ≡ state_of (hold_rows (value_of part.now) (write (value_of part.now) self.old.places (self.old.around + 1) self.old.around) self.old.around self.old.rows) self.old.places (self.old.around + new_of (value_of part.now))) }
+        ensures grows { OnOk result (length self.old.rows ≤ length self.new.rows) }
+    {
+        match part {
+            Value::Variable(_, identifier) => Ok(self.place(*identifier)),
+            _ => self.hold_new(part),
+        }
+    }
+
+    /// A new position, behind the rows before those of what goes on with it.
+    #[cycle(writer)]
+    fn hold_new(&mut self, part: &Value) -> Result<u32, AllocError>
+        ensures place { IfOk result (λ y. y ≡ self.old.around) }
+        ensures rows { OnOk result (self.new ≡ state_of (new_rows (write (value_of part.now) self.old.places (self.old.around + 1) self.old.around) self.old.around self.old.rows) self.old.places (self.old.around + 1)) }
+        ensures grows { OnOk result (length self.old.rows ≤ length self.new.rows) }
+    {
+        let position = self.around;
+        let owner = self.rows.len() + 1;
+        self.open_local()?;
+        self.put(part, position)?;
+        self.room()?;
+        let next = CodeId(self.rows.len() as u32);
+        let numbers = vec![in self.alloc; CodeId(owner as u32 + 1), next]?;
+        self.set_numbers(owner, numbers);
+        Ok(position)
+    }
+
+    /// The positions of parts, behind the rows before those of what goes on with them.
+    #[cycle(writer)]
+    pub(super) fn hold_all(&mut self, parts: &[Value]) -> Result<Vec<u32>, AllocError>
+        ensures places { IfOk result (λ ys. ys.items ≡ (write_all (values_in parts.now) self.old.places self.old.around [] self.old.rows).0) }
+        ensures rows { OnOk result (self.new ≡ state_of (write_all (values_in parts.now) self.old.places self.old.around [] self.old.rows).1 self.old.places (self.old.around + new_in (values_in parts.now))) }
+        ensures grows { OnOk result (length self.old.rows ≤ length self.new.rows) }
+    {
+        let mut positions = Vec::new(self.alloc);
+        for part in parts {
+            positions.push(self.hold(part)?)?;
+        }
+        Ok(positions)
+    }
+
+    /// What stands for a value that is told to a position.
+    #[cycle(writer)]
+    pub(super) fn put(&mut self, value: &Value, told: u32) -> Result<(), AllocError>
+        ensures rows { OnOk result (self.new ≡ written (write (value_of value.now) self.old.places self.old.around told self.old.rows) self.old) }
+        ensures grows { OnOk result (length self.old.rows ≤ length self.new.rows) }
+    {
+        self.room()?;
+        match value {
+            Value::Variable(_, identifier) => {
+                let right = self.place(*identifier);
+                self.add(Stmt::TellVar { left: told, right })
+            }
+            Value::Integer(_, number) => self.add(Stmt::TellInt {
+                left: told,
+                value: *number,
+            }),
+            Value::Atom(_, text) => {
+                let text = text.copy()?;
+                self.add(Stmt::TellAtom { left: told, text })
+            }
+            Value::Record(_, label, slots, values) => {
+                self.put_record(label, slots.as_slice(), values.as_slice(), told)
+            }
+            Value::Apply(_, operation, parts) => self.put_operation(
+                operation,
+                parts.as_slice(),
+                told,
+            ),
+            Value::Proc(_, count, body) => self.put_procedure(*count, body.as_slice(), told),
+            Value::Fun(_, count, body) => self.put_function(*count, body, told),
+            Value::If(_, subject, yes, no) => {
+                let outer = self.around;
+                let tested = self.hold(subject)?;
+                let owner = self.rows.len();
+                self.open_if(tested)?;
+                self.put(yes, told)?;
+                self.set_second(owner)?;
+                self.put(no, told)?;
+                self.around = outer;
+                Ok(())
+            }
+            Value::Brackets(_, inner) => self.put(inner, told),
+            Value::Case(_, subject, clauses, no) => {
+                let outer = self.around;
+                let tested = self.hold(subject)?;
+                self.put_clauses(clauses.as_slice(), tested, told)?;
+                self.put(no, told)?;
+                self.around = outer;
+                Ok(())
+            }
+        }
+    }
+
+    /// What stands for a record.
+    #[cycle(writer)]
+    fn put_record(
+        &mut self,
+        label: &Text,
+        slots: &[(Feature, Field)],
+        values: &[Value],
+        told: u32,
+    ) -> Result<(), AllocError>
+        ensures rows { OnOk result (self.new ≡ written (write (Record 0 label.now slots.now (values_in values.now)) self.old.places self.old.around told self.old.rows) self.old) }
+        ensures grows { OnOk result (length self.old.rows ≤ length self.new.rows) }
+    {
+        let first = self.around;
+        let placed = slot_places(self.alloc, slots, self.places.as_slice(), first)?;
+        let tell = Stmt::TellRec {
+            left: told,
+            label: label.copy()?,
+            fields: Slots::from_vec(placed),
+        };
+        let count = new_in(values);
+        if count == 0 {
+            return self.add(tell);
+        }
+        self.open_locals(count)?;
+        self.room()?;
+        let owner = self.rows.len();
+        let number = self.behind();
+        self.add(Stmt::Skip)?;
+        self.add(tell)?;
+        let numbers = vec![in self.alloc; number]?;
+        let numbers = self.put_fields(values, first, numbers)?;
+        self.set_numbers(owner, numbers);
+        self.around = first;
+        Ok(())
+    }
+
+    /// What stands for the fields of a record that are no variables, behind its tell, with their numbers behind others.
+    #[cycle(writer)]
+    fn put_fields(
+        &mut self,
+        values: &[Value],
+        first: u32,
+        before: Vec<CodeId>,
+    ) -> Result<Vec<CodeId>, AllocError>
+        ensures numbers { IfOk result (λ v. v.items ≡ (write_fields (values_in values.now) self.old.places self.old.around first before.items self.old.rows).0) }
+        ensures rows { OnOk result (self.new ≡ written (write_fields (values_in values.now) self.old.places self.old.around first before.items self.old.rows).1 self.old) }
+        ensures grows { OnOk result (length self.old.rows ≤ length self.new.rows) }
+    {
+        let mut numbers = before;
+        let mut told = first;
+        for value in values {
+            match value {
+                Value::Variable(..) => {}
+                _ => {
+                    self.room()?;
+                    if told >= 1 << 31 {
+                        return Err(AllocError);
+                    }
+                    numbers.push(CodeId(self.rows.len() as u32))?;
+                    self.put(value, told)?;
+                    told += 1;
+                }
+            }
+        }
+        Ok(numbers)
+    }
+
+    /// What stands for a value that is made of parts.
+    #[cycle(writer)]
+    fn put_operation(
+        &mut self,
+        operation: &Operation,
+        parts: &[Value],
+        told: u32,
+    ) -> Result<(), AllocError>
+        ensures rows { OnOk result (self.new ≡ written (write (Apply 0 operation.now (values_in parts.now)) self.old.places self.old.around told self.old.rows) self.old) }
+        ensures grows { OnOk result (length self.old.rows ≤ length self.new.rows) }
+    {
+        let outer = self.around;
+        let positions = self.hold_all(parts)?;
+        let row = operation_row(operation, self.places.as_slice(), positions, told)?;
+        self.add(row)?;
+        self.around = outer;
+        Ok(())
+    }
+
+    /// What stands for a procedure.
+    #[cycle(writer)]
+    fn put_procedure(&mut self, count: u8, body: &[Statement], told: u32) -> Result<(), AllocError>
+        ensures rows { OnOk result (self.new ≡ written (write_statements (statements_in body.now) (declare self.old.places self.old.around count) (self.old.around + count) (add (stmt.TellProc told self.old.around count (behind self.old.rows)) self.old.rows)) self.old) }
+        ensures grows { OnOk result (length self.old.rows ≤ length self.new.rows) }
+    {
+        self.room()?;
+        let outer = self.around;
+        let declared = self.places.len();
+        let inside = self.behind();
+        self.add(Stmt::TellProc {
+            left: told,
+            first: outer,
+            count,
+            body: inside,
+        })?;
+        self.declare(count as u32)?;
+        self.statements(body)?;
+        self.leave(declared, outer);
+        Ok(())
+    }
+
+    /// What stands for a function.
+    #[cycle(writer)]
+    fn put_function(&mut self, count: u8, body: &Value, told: u32) -> Result<(), AllocError>
+        ensures rows { OnOk result (self.new ≡ written (write (value_of body.now) (declare self.old.places self.old.around count) (self.old.around + count + 1) (self.old.around + count) (add (stmt.TellProc told self.old.around (count + 1) (behind self.old.rows)) self.old.rows)) self.old) }
+        ensures grows { OnOk result (length self.old.rows ≤ length self.new.rows) }
+    {
+        self.room()?;
+        let outer = self.around;
+        let declared = self.places.len();
+        let inside = self.behind();
+        let Some(all) = count.checked_add(1) else {
+            return Err(AllocError);
+        };
+        self.add(Stmt::TellProc {
+            left: told,
+            first: outer,
+            count: all,
+            body: inside,
+        })?;
+        self.declare(count as u32)?;
+        self.room()?;
+        let answer = self.around;
+        self.around += 1;
+        self.put(body, answer)?;
+        self.leave(declared, outer);
+        Ok(())
+    }
+
+    /// What stands for clauses of values, up to the value behind `else`.
+    #[cycle(writer)]
+    fn put_clauses(
+        &mut self,
+        clauses: &[ValueClause],
+        tested: u32,
+        told: u32,
+    ) -> Result<(), AllocError>
+        ensures rows { OnOk result (self.new ≡ written (write_clauses (value_clauses_in clauses.now) self.old.places self.old.around tested told self.old.rows) self.old) }
+        ensures grows { OnOk result (length self.old.rows ≤ length self.new.rows) }
+    {
+        for clause in clauses {
+            self.put_clause(clause, tested, told)?;
+        }
+        Ok(())
+    }
+
+    /// What stands for a clause, before others.
+    #[cycle(writer)]
+    fn put_clause(&mut self, clause: &ValueClause, tested: u32, told: u32) -> Result<(), AllocError>
+        ensures rows { OnOk result ((cs : ValueClauses) → write_clauses (value_clause_and clause.now cs) self.old.places self.old.around tested told self.old.rows ≡ write_clauses cs self.old.places self.old.around tested told self.new.rows) }
+        ensures same { OnOk result (self.new ≡ written self.new.rows self.old) }
+        ensures grows { OnOk result (length self.old.rows ≤ length self.new.rows) }
+    {
+        match clause {
+            ValueClause::Then(pattern, value) => {
+                let outer = self.around;
+                let declared = self.places.len();
+                let owner = self.rows.len();
+                self.open_case(pattern, tested)?;
+                self.put(value, told)?;
+                self.leave(declared, outer);
+                self.set_second(owner)
+            }
+        }
+    }
+}

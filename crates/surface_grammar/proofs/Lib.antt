@@ -1,0 +1,16 @@
+pub mod WorkedRows
+pub mod Starts
+pub mod PartRuns
+pub mod Runs
+pub mod FaultRows
+pub mod Ends
+pub mod Leaves
+pub mod Roles
+pub mod Taken
+pub mod ValuesTaken
+pub mod HeldTaken
+pub mod StatementsTaken
+pub mod FieldLimits
+pub mod Limits
+pub mod Lifting
+pub mod Derived
