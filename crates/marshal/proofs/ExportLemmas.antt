@@ -1,13 +1,12 @@
 -- The equations of a bundle are reached.
 use Rattle.std.proofs.Common.{◌≡◌, refl, ℕ, zero, suc, List, [], ◌∷◌, ◌++◌, length, map, take, Bool, true, false, cond, None, Some}
-use Rattle.std.specs.Prelude.{Option, Contains}
+use Rattle.std.specs.Prelude.{Option}
 use Rattle.std.specs.List.{list_any}
 use Rattle.tree_node.specs.declared.names.VarName.{VarName}
 use Rattle.tree_node.specs.declared.node.Term.{Term}
 use Rattle.tree_node.specs.Assoc.{value_of}
 use Rattle.tree_node.specs.Each.{Each}
 use Rattle.tree_node.specs.Store.{Store, Equation, equal_var}
-use Rattle.tree_node.proofs.ClassLemmas.{same_name_decides, Contains-head, Contains-tail}
 use Rattle.tree_node.proofs.EachLemmas.{each_append, each_in}
 use Rattle.site_message.specs.Vars.{vars_of}
 use Rattle.site_model.specs.Bundle.{vars_of_terms, option_list, known_terms, reachable_vars, distinct_vars, known_equations, reachable_equations, is_below, insert_ascending, ascending, bundle_from}

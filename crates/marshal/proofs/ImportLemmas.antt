@@ -8,13 +8,10 @@ use Rattle.std.specs.List.{list_any}
 use Rattle.tree_node.specs.declared.names.VarName.{VarName}
 use Rattle.tree_node.specs.declared.node.Term.{Term}
 use Rattle.tree_node.specs.Assoc.{value_of}
-use Rattle.tree_node.specs.Each.{Each}
-use Rattle.tree_node.specs.Order.{IsLower}
 use Rattle.tree_node.specs.Store.{Store, Equation, IsFree, equal_var}
 use Rattle.tree_node.proofs.ClassLemmas.{same_name_decides, Contains-cons_cases, Contains-head, Contains-tail}
 use Rattle.tree_store.specs.Contents.{Contents as Held, with_name}
 use Rattle.tree_store.proofs.NameLemmas.{known_tells}
-use Rattle.kernel_syntax.proofs.OrderLemmas.{Each-at}
 use Rattle.site_message.specs.Vars.{vars_of}
 use Rattle.site_model.specs.Bundle.{distinct_vars, vars_of_equations}
 use Rattle.marshal.specs.Marshal.{with_equation, with_equations, AreKnown}

@@ -1,7 +1,6 @@
 -- A table by the names of cells after a write.
-use Rattle.std.proofs.Common.{rules, ◌≡◌, ◌∙◌, ◌≢◌, sym, ap, subst, refl, List, [], ◌∷◌, Bool, true, false, cond, Option, Some}
-use Rattle.std.specs.Prelude.{unwrap_or, Result, Ok, Err, OnOk, OnErr}
-use Rattle.std.specs.Bool.{Decides}
+use Rattle.std.proofs.Common.{◌≡◌, ◌∙◌, ◌≢◌, sym, ap, subst, refl, List, [], ◌∷◌, Bool, true, false, cond, Option, Some}
+use Rattle.std.specs.Prelude.{unwrap_or}
 use Rattle.std.specs.Map.{lookup, set_value}
 use Rattle.indexmap.specs.IndexMap.{insert_entry}
 use Rattle.tree_node.specs.declared.names.CellName.{CellName}
@@ -9,7 +8,7 @@ use Rattle.tree_node.specs.declared.names.ThreadName.{ThreadName}
 use Rattle.tree_node.specs.Goal.{equal_cell}
 use Rattle.site_model.specs.Site.{CellRecord, cell_record_in, unused_cell}
 use Rattle.site_cells.specs.Tables.{CellTables, queue_of, with_record}
-use Rattle.oz_model.proofs.KindLemmas.{equal_cell_decides, cell_same, cells_differ}
+use Rattle.oz_model.proofs.KindLemmas.{equal_cell_decides, cell_same}
 use Rattle.site_model.proofs.CellKeyLemmas.{entry_here, entry_other}
 
 -- ---- one table

@@ -12,7 +12,7 @@ use Rattle.kernel_syntax.specs.declared.stmt.Stmt.{Stmt}
 use Rattle.site_message.specs.declared.message.Msg.{Msg}
 use Rattle.site_message.specs.declared.message.Msg.TheVariants as msg
 use Rattle.site_message.specs.declared.message.Sent.{Sent}
-use Rattle.oz_model.specs.Need.{Need, Waits, Binds, Takes, stack_need}
+use Rattle.oz_model.specs.Need.{Need, Waits, WaitsAny, Binds, Takes, stack_need}
 use Rattle.oz_model.specs.Effect.{Birth, CellChange, Stays, Made, Exchanged, Effect, vars_among}
 use Rattle.bind_protocol.specs.Records.{is_own, knowledge}
 use Rattle.bind_protocol.specs.Rows.{sent_message}
@@ -137,6 +137,7 @@ unit_number p n limit th s d (st, running, unit) = go (stack_need p s.equations 
 
     go : (need : Need) → IsUnitFor p n limit s th st need d → number_after d ≡ number_of s
     go (Waits x) h = ap number_after h.2
+    go (WaitsAny q) h = ap number_after h.2
     go (Binds a b) h = ap number_after h.3 ∙ attempted h.0 h.1 (h.0.site == s.records.site)
     go (Takes kinds) h = stepped kinds (effect_here p s (fresh_names s kinds) None st).cell h
 

@@ -1,5 +1,5 @@
 -- A bundle has known equations alone.
-use Rattle.std.proofs.Common.{◌≡◌, ◌∙◌, sym, ap, refl, subst, ℕ, zero, suc, ◌<◌, List, [], ◌∷◌, ◌++◌, map, take, length, get_or, append_assoc, Bool, true, false, cond, Some, None}
+use Rattle.std.proofs.Common.{◌≡◌, ◌∙◌, sym, ap, refl, subst, ℕ, ◌<◌, List, [], ◌∷◌, ◌++◌, map, length, get_or, append_assoc, Bool, true, false, cond, Some, None}
 use Rattle.std.specs.Prelude.{Option, Contains}
 use Rattle.tree_node.specs.declared.names.VarName.{VarName}
 use Rattle.tree_node.specs.declared.node.Term.{Term}

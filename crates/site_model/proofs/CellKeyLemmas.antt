@@ -1,7 +1,6 @@
 -- What a site keeps of cells, as one of them changes.
-use Rattle.std.proofs.Common.{◌≡◌, ◌∙◌, sym, ap, refl, List, [], ◌∷◌, ◌⊎◌, inl, inr, Bool, true, false, cond, Some}
+use Rattle.std.proofs.Common.{◌≡◌, ◌∙◌, sym, ap, refl, List, [], ◌∷◌, Bool, true, false, cond, Some}
 use Rattle.std.specs.Prelude.{Option, ◌≢◌, unwrap_or}
-use Rattle.std.specs.Bool.{Decides}
 use Rattle.std.specs.Map.{lookup}
 use Rattle.indexmap.specs.IndexMap.{insert_entry}
 use Rattle.tree_node.specs.declared.names.CellName.{CellName}

@@ -1,6 +1,6 @@
 -- What the plain program does is a unit.
-use Rattle.std.proofs.Common.{rules, arith, ◌≡◌, ◌∙◌, sym, ap, refl, subst, ℕ, List, [], ◌∷◌, ◌⊎◌, inl, inr, Bool, true, false, cond, Some, None}
-use Rattle.std.specs.Prelude.{Option, Contains, ◌&&◌, ◌≤◌, length}
+use Rattle.std.proofs.Common.{arith, ◌≡◌, ◌∙◌, sym, ap, refl, subst, ℕ, List, [], ◌∷◌, ◌⊎◌, inl, inr, Bool, true, false, cond, Some, None}
+use Rattle.std.specs.Prelude.{Option, Contains, ◌≤◌, length}
 use Rattle.tree_node.specs.declared.names.VarName.{VarName}
 use Rattle.tree_node.specs.declared.names.ThreadName.{ThreadName}
 use Rattle.tree_node.specs.declared.node.Node.{Node}
@@ -10,10 +10,12 @@ use Rattle.tree_node.specs.Assoc.{value_of}
 use Rattle.tree_node.specs.Goal.{side_node}
 use Rattle.tree_node.specs.Order.{IsBelow}
 use Rattle.tree_node.specs.State.{Stack}
+use Rattle.tree_node.specs.Compare.{Pair, Comparison, Open, compared}
+use Rattle.oz_model.proofs.TestLemmas.{at_test}
 use Rattle.tree_node.specs.Store.{Store, Equation, IsFree, root_of, node_of, equal_var}
-use Rattle.tree_node.proofs.ClassLemmas.{same_name_refl, Contains-cons_cases, Same-root, to_root}
+use Rattle.tree_node.proofs.ClassLemmas.{same_name_refl, Contains-cons_cases, to_root}
 use Rattle.kernel_syntax.specs.declared.stmt.Stmt.{Stmt}
-use Rattle.oz_model.specs.Need.{Need, Waits, Binds, Takes, stack_need}
+use Rattle.oz_model.specs.Need.{Need, Waits, WaitsAny, Binds, Takes, stack_need}
 use Rattle.oz_model.specs.Effect.{CellChange, Stays, Made, Exchanged}
 use Rattle.token_chain.specs.declared.token.Token.{Token}
 use Rattle.token_chain.specs.declared.token.Token.TheVariants.{Away, Asked, Here}
@@ -21,13 +23,13 @@ use Rattle.site_model.specs.Site.{Site, ThreadState, thread_state, cell_record}
 use Rattle.thread_roster.specs.declared.mode.Mode.TheVariants.{Runs}
 use Rattle.thread_roster.specs.declared.mode.Mode.TheVariants as site
 use Rattle.site_model.specs.Bundle.{is_below}
-use Rattle.site_model.specs.Transition.{Transition}
+use Rattle.site_model.specs.Transition.{Transition, without_output}
 use Rattle.site_model.specs.Cells.{request_row}
-use Rattle.site_model.specs.Unit.{IsTokenHere, IsStepOrRequest, IsRootBind, IsBindUnit, IsUnitFor, IsUnit}
+use Rattle.site_model.specs.Unit.{with_waiting_any, IsTokenHere, IsStepOrRequest, IsRootBind, IsBindUnit, IsUnitFor, IsUnit}
 use Rattle.site_message.specs.declared.message.Msg.{Msg}
 use Rattle.site_model.specs.Fit.{IsFit}
 use Rattle.site_model.specs.Turn.{AreUnits, IsReception, SiteTurn}
-use Rattle.site_model.specs.Choice.{reception_of, next_turn, nobody, is_missing, to_lesser, bind_between, root_bind, is_free, leads_down, is_here, step_or_request, unit_for, unit_from, next_unit, next_units, is_possible, can_go_from, can_go, can_all_go}
+use Rattle.site_model.specs.Choice.{reception_of, next_turn, open_list, nobody, is_missing, to_lesser, bind_between, root_bind, is_free, leads_down, is_here, step_or_request, unit_for, unit_from, next_unit, next_units, is_possible, can_go_from, can_go, can_all_go}
 use Rattle.tree_node.proofs.SoundLemmas.{root_root}
 use Rattle.std.proofs.lemmas.Bool.{and_parts}
 use Rattle.site_model.proofs.AscendingLemmas.{below_yes}
@@ -105,18 +107,24 @@ bind_is : (p : List Stmt) (n limit : ℕ) (s : Site) (th : ThreadName) (st : Sta
 bind_is p n limit s th st a b e =
     ((root_bind s.equations a b).0, (root_bind s.equations a b).1, root_bind_is s.equations a b e, refl)
 
-need_is : (p : List Stmt) (n limit : ℕ) (s : Site) (th : ThreadName) (st : Stack) (d : Need) → is_possible s.equations d ≡ true → IsUnitFor p n limit s th st d (unit_for p n limit th st s d)
-need_is p n limit s th st (Waits x) e = (root_of s.equations x, (to_root s.equations x, free_tells s.equations (root_of s.equations x) e), refl)
-need_is p n limit s th st (Binds a b) e = bind_is p n limit s th st a b e
-need_is p n limit s th st (Takes kinds) e = token_here limit th st s _ _
+-- a comparison that is waited for hangs on something
+abbrev Hangs : Site → Need → Type 0
+Hangs s d = (q : Pair) → d ≡ WaitsAny q → (xs : List VarName) × (compared s.equations q ≡ Open xs)
+
+need_is : (p : List Stmt) (n limit : ℕ) (s : Site) (th : ThreadName) (st : Stack) (d : Need) → is_possible s.equations d ≡ true → Hangs s d → IsUnitFor p n limit s th st d (unit_for p n limit th st s d)
+need_is p n limit s th st (Waits x) e hangs = (root_of s.equations x, (to_root s.equations x, free_tells s.equations (root_of s.equations x) e), refl)
+need_is p n limit s th st (WaitsAny q) e hangs = let xs = hangs q refl in (xs.0, xs.1, ap (λ (c : Comparison). without_output (with_waiting_any th st (open_list c) s)) xs.1)
+need_is p n limit s th st (Binds a b) e hangs = bind_is p n limit s th st a b e
+need_is p n limit s th st (Takes kinds) e hangs = token_here limit th st s _ _
 
 pub unit_is : (p : List Stmt) (n limit : ℕ) (s : Site) (th : ThreadName) → can_go p s th ≡ true → IsUnit p n limit th s (next_unit p n limit th s)
 unit_is p n limit s th e = go (thread_state s th) refl e
   where
     go : (o : Option ThreadState) → thread_state s th ≡ o → can_go_from p s o ≡ true → IsUnit p n limit th s (unit_from p n limit th s o)
     go None q k = cc
-    go (Some (st, site.Runs)) q k = (st, q, need_is p n limit s th st (stack_need p s.equations st) k)
+    go (Some (st, site.Runs)) q k = (st, q, need_is p n limit s th st (stack_need p s.equations st) k (λ r d. (at_test p s.equations st r d).1))
     go (Some (st, site.Waits x)) q k = cc
+    go (Some (st, site.WaitsAny xs)) q k = cc
     go (Some (st, site.WaitsFor c)) q k = cc
 
 pub units_are : (p : List Stmt) (n limit : ℕ) (ths : List ThreadName) (s : Site) → can_all_go p n limit ths s ≡ true → AreUnits p n limit ths s (next_units p n limit ths s)

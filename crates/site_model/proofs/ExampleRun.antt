@@ -1,6 +1,6 @@
 -- The worked run.
 use Rattle.std.proofs.Common.{rules, arith, ◌≡◌, ◌≢◌, ◌∙◌, sym, subst, refl, ℕ, ◌≤◌, ◌<◌, zero, suc, [], inr, Bool, true, false, Some, None}
-use Rattle.std.specs.Prelude.{Option, pos, length, Contains, nat_le, nat_lt, ◌==◌}
+use Rattle.std.specs.Prelude.{Option, pos, length, nat_le, nat_lt, ◌==◌}
 use Rattle.tree_node.specs.Each.{Each}
 use Rattle.kernel_syntax.specs.Free.{free}
 use Rattle.tree_node.specs.Shown.{shown_within}

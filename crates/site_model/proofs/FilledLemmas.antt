@@ -18,7 +18,7 @@ use Rattle.kernel_syntax.specs.declared.stmt.Stmt.{Stmt}
 use Rattle.site_message.specs.declared.message.Msg.{Msg}
 use Rattle.site_message.specs.declared.message.Msg.TheVariants as msg
 use Rattle.site_message.specs.declared.message.Sent.{Sent}
-use Rattle.oz_model.specs.Need.{Need, Waits, Binds, Takes, stack_need}
+use Rattle.oz_model.specs.Need.{Need, Waits, WaitsAny, Binds, Takes, stack_need}
 use Rattle.oz_model.specs.Effect.{Birth, CellChange, Stays, Made, Exchanged, Effect, vars_among}
 use Rattle.oz_model.specs.Step.{kind_of, lines_of}
 use Rattle.variable_owner.specs.declared.owners.Owner.{Owner}
@@ -212,6 +212,7 @@ module _ (p : List Stmt) (n limit : ℕ) (th : ThreadName) (s : Site) (st : Stac
 
   unit_filled : (need : Need) (d : Transition) → stack_need p s.equations st ≡ need → IsUnitFor p n 0 s th st need d → IsUnitFor p n limit s th st need (with_bundles limit d)
   unit_filled (Waits x) d is (z, class, e) = (z, class, ap (with_bundles limit) e)
+  unit_filled (WaitsAny q) d is (xs, hangs, e) = (xs, hangs, ap (with_bundles limit) e)
   unit_filled (Binds a b) d is (u, t, root, e) = (u, t, root, ap (with_bundles limit) e ∙ sym (attempt_filled a b u t (u.site == s.records.site) is))
   unit_filled (Takes kinds) d is h =
       named_filled (thread_step p n 0 th st kinds (fresh_names s kinds) None s) (thread_step p n limit th st kinds (fresh_names s kinds) None s)

@@ -7,12 +7,13 @@ use Rattle.tree_node.specs.declared.node.Node.{Node}
 use Rattle.tree_node.specs.declared.node.Term.{Term}
 use Rattle.tree_node.specs.declared.node.Term.TheVariants as term
 use Rattle.tree_node.specs.Assoc.{value_of}
+use Rattle.tree_node.specs.Compare.{Comparison, Open, compared}
 use Rattle.tree_node.specs.Goal.{side_node}
 use Rattle.tree_node.specs.State.{Stack}
 use Rattle.tree_node.specs.Store.{Store, Equation, root_of, equal_var}
 use Rattle.kernel_syntax.specs.declared.stmt.Stmt.{Stmt}
 use Rattle.site_message.specs.declared.message.Msg.{Msg}
-use Rattle.oz_model.specs.Need.{Need, Waits, Binds, Takes, stack_need}
+use Rattle.oz_model.specs.Need.{Need, Waits, WaitsAny, Binds, Takes, stack_need}
 use Rattle.oz_model.specs.Effect.{CellChange, Exchanged}
 use Rattle.token_chain.specs.declared.token.Token.{Token}
 use Rattle.token_chain.specs.declared.token.Token.TheVariants.{Here}
@@ -22,7 +23,7 @@ use Rattle.site_model.specs.Bundle.{is_below}
 use Rattle.site_model.specs.Transition.{Transition, without_output, and_then}
 use Rattle.site_model.specs.Cells.{request_row}
 use Rattle.site_model.specs.Messages.{reception}
-use Rattle.site_model.specs.Unit.{bind_attempt, effect_here, thread_step, fresh_names, with_waiting}
+use Rattle.site_model.specs.Unit.{bind_attempt, effect_here, thread_step, fresh_names, with_waiting, with_waiting_any}
 
 -- a name that no site makes: what `root_bind` gives where there is nothing to bind
 abbrev pub nobody : VarName
@@ -67,9 +68,15 @@ abbrev pub step_or_request : ℕ → ThreadName → Stack → Site → Transitio
 step_or_request limit th st s step (Exchanged c new told) = if is_here (cell_record s c).held.token then step else request_row limit c new th st s
 step_or_request limit th st s step _ = step
 
+-- the variables on which a comparison hangs, none where it is decided
+abbrev pub open_list : Comparison → List VarName
+open_list (Open xs) = xs
+open_list _ = []
+
 -- the unit of a thread by what it needs: it waits, binds one of two sides, or takes names and steps
 abbrev pub unit_for : List Stmt → ℕ → ℕ → ThreadName → Stack → Site → Need → Transition
 unit_for p n limit th st s (Waits x) = without_output (with_waiting th st (root_of s.equations x) s)
+unit_for p n limit th st s (WaitsAny q) = without_output (with_waiting_any th st (open_list (compared s.equations q)) s)
 unit_for p n limit th st s (Binds a b) =
     bind_attempt p n limit th st (root_bind s.equations a b).0 (root_bind s.equations a b).1
     ((root_bind s.equations a b).0.site == s.records.site) s
@@ -93,9 +100,10 @@ next_units p n limit (th ∷ ths) s = and_then (next_unit p n limit th s) (next_
 
 -- ---- whether it is a unit
 
--- the variable to wait for is unbound; the bind leads down; names can be taken always
+-- the variable to wait for is unbound; the bind leads down; waiting where a comparison hangs, and taking names, is possible always
 abbrev pub is_possible : Store → Need → Bool
 is_possible s (Waits x) = is_free s (root_of s x)
+is_possible s (WaitsAny q) = true
 is_possible s (Binds a b) = leads_down s (root_bind s a b)
 is_possible s (Takes kinds) = true
 

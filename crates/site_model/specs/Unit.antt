@@ -15,10 +15,11 @@ use Rattle.tree_node.specs.Assoc.{with_optional_value, with_value}
 use Rattle.tree_node.specs.Goal.{IsAllowedBind, equal_cell}
 use Rattle.tree_node.specs.Order.{IsLower}
 use Rattle.tree_node.specs.State.{Stack, equal_thread}
+use Rattle.tree_node.specs.Compare.{Open, compared}
 use Rattle.tree_node.specs.Store.{Store, Equation, IsFree, IsClassName}
 use Rattle.kernel_syntax.specs.declared.stmt.Stmt.{Stmt}
 use Rattle.site_message.specs.declared.message.Msg.TheVariants as msg
-use Rattle.oz_model.specs.Need.{Need, Waits, Binds, Takes, stack_need}
+use Rattle.oz_model.specs.Need.{Need, Waits, WaitsAny, Binds, Takes, stack_need}
 use Rattle.oz_model.specs.Effect.{Birth, CellChange, Stays, Made, Exchanged, Effect, stack_effect, vars_among}
 use Rattle.oz_model.specs.Step.{living_stack, end_count, lines_of}
 use Rattle.bind_protocol.specs.Rows.{sent_message, request}
@@ -133,6 +134,10 @@ step_row p n limit k kinds e s =
 abbrev pub with_waiting : ThreadName → Stack → VarName → Site → Site
 with_waiting n st x s = record s { threads = with_value equal_thread s.threads n (st, mode.Waits x) }
 
+-- the thread waits for some of these
+abbrev pub with_waiting_any : ThreadName → Stack → List VarName → Site → Site
+with_waiting_any n st xs s = record s { threads = with_value equal_thread s.threads n (st, mode.WaitsAny xs) }
+
 -- the pick of a step of thread n with these fresh names and this chosen bind
 abbrev pub step_pick : ThreadName → List Name → Option Equation → Pick
 step_pick n fresh bind = record { thread = n; fresh = fresh; bind = bind }
@@ -182,9 +187,12 @@ IsBindUnit p n limit s th st a b d =
     (u : VarName) × (t : Term) × IsRootBind s.equations a b u t
     × (d ≡ bind_attempt p n limit th st u t (u.site == s.records.site) s)
 
--- by what the thread needs: it waits for the root of x's class, binds one of two sides, or takes names and steps
+-- by what the thread needs: it waits for the root of x's class, or for all on which its comparison hangs by what the site knows,
+-- binds one of two sides, or takes names and steps
 abbrev pub IsUnitFor : List Stmt → ℕ → ℕ → Site → ThreadName → Stack → Need → Transition → Type 0
 IsUnitFor p n limit s th st (Waits x) d = (z : VarName) × IsClassName s.equations x z × (d ≡ without_output (with_waiting th st z s))
+IsUnitFor p n limit s th st (WaitsAny q) d =
+    (xs : List VarName) × (compared s.equations q ≡ Open xs) × (d ≡ without_output (with_waiting_any th st xs s))
 IsUnitFor p n limit s th st (Binds a b) d = IsBindUnit p n limit s th st a b d
 IsUnitFor p n limit s th st (Takes kinds) d = IsNamedStep p n limit s th st kinds d
 

@@ -1,5 +1,5 @@
 -- Names by a site's counters.
-use Rattle.std.proofs.Common.{arith, ◌≡◌, ◌∙◌, sym, ap, refl, ℕ, List, [], ◌∷◌, ◌++◌, ◌⊎◌, inl, inr, Bool, true, false, Some, None}
+use Rattle.std.proofs.Common.{arith, ◌≡◌, ◌∙◌, sym, ap, refl, ℕ, List, [], ◌∷◌, ◌⊎◌, inl, inr, Some, None}
 use Rattle.std.specs.Prelude.{Option, Contains, ◌<◌, ◌≤◌}
 use Rattle.std.proofs.Math.Numerals.{suc-eq-add-one}
 use Rattle.std.proofs.lemmas.Bool.{cases_lt}
@@ -15,7 +15,7 @@ use Rattle.oz_model.specs.Effect.{vars_among}
 use Rattle.bind_protocol.specs.Records.{Records, IsKnown, knowledge}
 use Rattle.name_supply.specs.declared.fresh.Fresh.{Fresh}
 use Rattle.name_supply.specs.declared.fresh.Fresh.TheVariants as fresh
-use Rattle.name_supply.specs.Supply.{next_name, after_name, names_for, after_names, known_after, IsCounted, site_in, HasMade, AreBelow}
+use Rattle.name_supply.specs.Supply.{next_name, after_name, names_for, after_names, known_after, IsCounted, site_in, HasMade}
 use Rattle.name_supply.proofs.SupplyLemmas.{kept_after, named_after, each_known}
 use Rattle.name_supply.proofs.MadeLemmas.{counted_in, counted_after, site_after}
 use Rattle.site_model.specs.Site.{Counters}

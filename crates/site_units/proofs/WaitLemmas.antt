@@ -7,10 +7,11 @@ use Rattle.tree_node.specs.declared.names.Name.TheVariants as name
 use Rattle.tree_node.specs.Assoc.{value_of, with_value}
 use Rattle.tree_node.specs.Each.{Each}
 use Rattle.tree_node.specs.State.{Stack, equal_thread}
+use Rattle.tree_node.specs.Compare.{Pair, Open, compared}
 use Rattle.tree_node.specs.Store.{IsClassName}
 use Rattle.tree_store.specs.Contents.{Contents}
 use Rattle.kernel_syntax.specs.declared.stmt.Stmt.{Stmt}
-use Rattle.oz_model.specs.Need.{Need, Waits, stack_need}
+use Rattle.oz_model.specs.Need.{Need, Waits, WaitsAny, stack_need}
 use Rattle.bind_protocol.specs.Records.{Records}
 use Rattle.thread_machine.specs.declared.answer.StepOut.{StepOut}
 use Rattle.thread_machine.specs.declared.answer.StepOut.TheVariants as out
@@ -23,7 +24,7 @@ use Rattle.thread_roster.specs.declared.mode.Mode.TheVariants as mode
 use Rattle.thread_roster.specs.Threads.{Entry, set_value, set_mode}
 use Rattle.thread_roster.proofs.ThreadLemmas.{each_found, each_value, each_mode, value_there}
 use Rattle.site_model.specs.Transition.{Transition, without_output}
-use Rattle.site_model.specs.Unit.{IsUnit, IsUnitFor, with_waiting}
+use Rattle.site_model.specs.Unit.{IsUnit, IsUnitFor, with_waiting, with_waiting_any}
 use Rattle.site_cells.specs.Tables.{CellTables, with_tables}
 use Rattle.site_variables.specs.declared.variables.Variables.{Variables}
 use Rattle.site_variables.specs.Variables.{IsLinked, IsRecorded, stacks_of}
@@ -135,6 +136,31 @@ wait_made p c0 c c1 o0 th r q x h v f l s n e t =
         sent = sym (nil_right o0.sent);
         lines = sym (nil_right o0.lines.items);
         consistent = next_consistent p c0 c1 h.consistent (waits_next p c0 c c1 th r q (out.Waits x) (mode.Waits x) h stack called unchanged.1 unchanged.2 v f l s n t);
+        sites = n ∙ h.sites;
+      },
+    )
+
+-- ---- several variables
+
+pub wait_any_made : (p : List Stmt) (c0 c c1 : Core) (o0 : Output) (th : ThreadName) (r q : Running) (xs : List VarName) → IsStepping p c0 c th r q (out.WaitsAny xs) →
+    c1.variables ≡ c.variables → c1.fresh ≡ c.fresh → c1.threads.living ≡ set_mode c.threads.living th (mode.WaitsAny xs) → c1.steps ≡ c.steps → c1.sites ≡ c.sites → c1.threads.ended ≡ c.threads.ended → c1.cells ≡ c.cells →
+    IsUnitMade p th c0 o0 c1 o0
+wait_any_made p c0 c c1 o0 th r q xs h v f l s n e t =
+    let unchanged = h.step.0 in
+    let pair : Pair = h.step.1.0 in
+    let need : stack_need p c0.variables.store.equations r.stack ≡ WaitsAny pair = h.step.1.1 in
+    let hangs : compared c0.variables.store.equations pair ≡ Open xs = h.step.1.2 in
+    let stack : q.stack ≡ r.stack = ap (λ (y : Running). y.stack) unchanged.0 in
+    let called : q.name ≡ r.name = ap (λ (y : Running). y.name) unchanged.0 in
+    let site : site_of c1 ≡ with_tables c1.cells (with_waiting_any th r.stack xs (site_of c0)) = waits_site p c0 c c1 th r q (out.WaitsAny xs) (mode.WaitsAny xs) h stack called unchanged.1 unchanged.2 v f l s n e in (
+      without_output (with_waiting_any th r.stack xs (site_of c0)),
+      unit_of p c0 th r (WaitsAny pair) (without_output (with_waiting_any th r.stack xs (site_of c0))) h.running need (xs, hangs, refl),
+      record {
+        site = site ∙ ap (λ (y : CellTables). with_tables y (with_waiting_any th r.stack xs (site_of c0))) (t ∙ h.cells);
+        picks = sym (nil_right o0.picks);
+        sent = sym (nil_right o0.sent);
+        lines = sym (nil_right o0.lines.items);
+        consistent = next_consistent p c0 c1 h.consistent (waits_next p c0 c c1 th r q (out.WaitsAny xs) (mode.WaitsAny xs) h stack called unchanged.1 unchanged.2 v f l s n t);
         sites = n ∙ h.sites;
       },
     )

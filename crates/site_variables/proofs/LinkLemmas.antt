@@ -6,7 +6,7 @@ use Rattle.std.proofs.lemmas.List.Elements.{Contains-append_left, Contains-appen
 use Rattle.tree_node.specs.declared.names.VarName.{VarName}
 use Rattle.tree_node.specs.declared.node.Term.{Term}
 use Rattle.tree_node.specs.Store.{Store, Equation, IsFree, equal_var}
-use Rattle.tree_node.proofs.ClassLemmas.{same_name_decides, Contains-cons_cases, Contains-head, Contains-tail}
+use Rattle.tree_node.proofs.ClassLemmas.{Contains-cons_cases, Contains-head, Contains-tail}
 use Rattle.tree_store.specs.Contents.{with_name}
 use Rattle.tree_store.proofs.NameLemmas.{known_tells}
 use Rattle.proxy_table.specs.Proxies.{entry_of}

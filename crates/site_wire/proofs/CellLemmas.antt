@@ -1,7 +1,6 @@
 -- What a site keeps of a cell, and what it sends of it.
-use Rattle.std.proofs.Common.{arith, ◌≡◌, ◌≢◌, ◌∙◌, sym, refl, subst, ℕ, ◌+◌, ◌≤◌, List, [], ◌∷◌, ◌⊎◌, inl, inr, Bool, true, false, cond, Some, None}
-use Rattle.std.specs.Prelude.{Option, ◌==◌, unwrap_or}
-use Rattle.std.specs.Map.{lookup}
+use Rattle.std.proofs.Common.{arith, ◌≡◌, ◌≢◌, sym, refl, subst, ℕ, ◌+◌, ◌≤◌, List, [], ◌∷◌, ◌⊎◌, inl, inr, Bool, true, false, cond, Some, None}
+use Rattle.std.specs.Prelude.{Option, ◌==◌}
 use Rattle.indexmap.specs.IndexMap.{insert_entry}
 use Rattle.tree_node.specs.declared.names.VarName.{VarName}
 use Rattle.tree_node.specs.declared.names.CellName.{CellName}
@@ -10,7 +9,7 @@ use Rattle.tree_node.specs.Goal.{equal_cell}
 use Rattle.tree_node.specs.Store.{Store}
 use Rattle.kernel_syntax.specs.declared.stmt.Stmt.{Stmt}
 use Rattle.kernel_syntax.specs.Program.{IsProgram}
-use Rattle.oz_model.proofs.KindLemmas.{equal_cell_decides, cell_cases}
+use Rattle.oz_model.proofs.KindLemmas.{cell_cases}
 use Rattle.site_message.specs.declared.message.Msg.TheVariants as msg
 use Rattle.site_message.specs.Wire.{IsSite, FitsVar}
 use Rattle.token_chain.specs.declared.token.Token.{Token}
@@ -18,7 +17,7 @@ use Rattle.token_chain.specs.declared.token.Token.TheVariants.{Away, Asked, Here
 use Rattle.token_chain.specs.Holding.{Holding, departure_of}
 use Rattle.token_chain.specs.Mail.{Mail, Get, Forward, Put}
 use Rattle.token_chain.specs.Rows.{Reply, leave_with, leave_reply, forward_reply, get_reply, exchange_reply}
-use Rattle.site_model.specs.Site.{CellRecord, Threads, cell_record_in, unused_cell}
+use Rattle.site_model.specs.Site.{CellRecord, Threads, cell_record_in}
 use Rattle.world_model.proofs.CellLemmas.{leaves_here, letters}
 use Rattle.site_wire.specs.Sending.{CanBeSpelled, EquationsFit, ContentFits, QueueFits, ThreadsFit, queue_in}
 use Rattle.site_wire.proofs.BundleLemmas.{carried}

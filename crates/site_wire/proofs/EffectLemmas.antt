@@ -30,7 +30,7 @@ use Rattle.oz_model.specs.Effect.{Birth, CellChange, Exchanged, Effect, outcome_
 use Rattle.oz_model.specs.EffectNames.{EachOfEffect, EachOfBirth, EachOfChange}
 use Rattle.oz_model.specs.Coverage.{BirthIsCovered, EffectIsCovered}
 use Rattle.oz_model.specs.Step.{IsBindFor, kind_of}
-use Rattle.oz_model.specs.Shapes.{ComesTo, waiting, needing, running, matching, calling, telling_var, telling_field, telling_node, declaring, making_proc, making_cell, exchanging, spawning, trying, raising, failing, printing}
+use Rattle.oz_model.specs.Shapes.{ComesTo, waiting, needing, comparing, running, matching, calling, telling_var, telling_field, telling_node, declaring, making_proc, making_cell, exchanging, spawning, trying, raising, failing, printing}
 use Rattle.oz_model.specs.WellFormed.{IsNode, IsNodeOf, EquationsHave, EffectHas}
 use Rattle.oz_model.proofs.ThreadLemmas.{effects_are_covered}
 use Rattle.oz_model.proofs.EffectNames.{stack_effect_has}
@@ -81,6 +81,7 @@ effect_fits p is s fresh bind st h g f k w =
 takes_none : {p : List Stmt} {s : Store} {code : CodeId} {env : Env} {st : Stmt} {o : Outcome} → ComesTo p s code env st o → IsNameless st → (kinds_of (outcome_need o) ≡ []) ⊎ ((x : SystemException) × (o ≡ outcome.Fails x))
 takes_none (waiting st x at none) n = inl refl
 takes_none (needing st x y at shows) n = inl refl
+takes_none (comparing left op a b xs hangs) n = inl refl
 takes_none (running st bodies at) n = inl refl
 takes_none (matching st sc x m at named is many) n = inl refl
 takes_none (calling st args x q at formals vars left first count body named from is tell many) n = inl refl
@@ -99,6 +100,7 @@ takes_none (printing st x text left at shows) n = inl refl
 
 no_bind : (s : Store) (o : Outcome) → IsBindFor s (outcome_need o) None
 no_bind s (outcome.Waits x) = tt
+no_bind s (outcome.Compares left right) = tt
 no_bind s (outcome.Runs items) = tt
 no_bind s (outcome.Tells x t) = tt
 no_bind s (outcome.Declares first count body) = tt
@@ -168,6 +170,7 @@ statement_none p s code env rest fresh (stmt.TellInt left value) e = tt
 statement_none p s code env rest fresh (stmt.TellAtom left text) e = tt
 statement_none p s code env rest fresh (stmt.TellRec left label fields) e = tt
 statement_none p s code env rest fresh (stmt.Calc left op a b) e = tt
+statement_none p s code env rest fresh (stmt.Test left op a b) e = tt
 statement_none p s code env rest fresh (stmt.Select left source by) e = tt
 statement_none p s code env rest fresh (stmt.If subject one other) e = tt
 statement_none p s code env rest fresh (stmt.Case subject pattern first one other) e = tt

@@ -1,5 +1,5 @@
 -- Units of a site that fits.
-use Rattle.std.proofs.Common.{arith, ◌≡◌, ◌≢◌, ◌∙◌, sym, ap, refl, subst, ℕ, ◌<◌, ◌≤◌, List, [], ◌∷◌, ◌++◌, map, length, inl, inr, Bool, true, false, cond, Some, None}
+use Rattle.std.proofs.Common.{arith, ◌≡◌, ◌≢◌, ◌∙◌, sym, ap, refl, subst, ℕ, ◌<◌, ◌≤◌, List, [], ◌∷◌, ◌++◌, length, inl, inr, Bool, true, false, cond, Some, None}
 use Rattle.std.specs.Prelude.{Option, ◌==◌, codes}
 use Rattle.tree_node.specs.declared.names.VarName.{VarName}
 use Rattle.tree_node.specs.declared.names.CellName.{CellName}
@@ -35,7 +35,7 @@ use Rattle.oz_model.specs.Need.{Need, Takes, outcome_need, stack_need, pair_need
 use Rattle.oz_model.specs.Need as need
 use Rattle.oz_model.specs.Effect.{Birth, CellChange, Stays, Made, Exchanged, Effect, outcome_effect, pair_effect, goal_effect, stack_effect, exception_effect, vars_among, thread_among}
 use Rattle.oz_model.specs.EffectNames.{EachOfChange}
-use Rattle.oz_model.specs.Step.{IsBindFor, kind_of, living_stack}
+use Rattle.oz_model.specs.Step.{IsBindFor, living_stack}
 use Rattle.oz_model.proofs.ClosureLemmas.{for_names}
 use Rattle.oz_model.proofs.CoverLemmas.{covers_for}
 use Rattle.bind_protocol.specs.Rows.{sent_message}
@@ -52,7 +52,7 @@ use Rattle.site_model.specs.Variables.{own_binds}
 use Rattle.site_model.specs.Cells.{exchange_stack, with_own_request, with_last_asker, with_exchange_waiting, request_row}
 use Rattle.site_model.specs.Messages.{with_thread}
 use Rattle.site_model.specs.Turn.{AreUnits}
-use Rattle.site_model.specs.Unit.{next_names, counter_after, with_fresh_names, fresh_names, placement, birth_row, content_here, after_cell, runnable_state, after_effect, step_row, with_waiting, step_pick, effect_here, IsTokenHere, IsStepOrRequest, bind_attempt, IsUnitFor}
+use Rattle.site_model.specs.Unit.{next_names, counter_after, with_fresh_names, fresh_names, placement, birth_row, content_here, after_cell, runnable_state, after_effect, step_row, with_waiting, with_waiting_any, step_pick, effect_here, IsTokenHere, IsStepOrRequest, bind_attempt, IsUnitFor}
 use Rattle.site_model.proofs.EffectLemmas.{bind_effect}
 use Rattle.world_model.proofs.KeyLemmas.{goes_there, woken_new, woken_old}
 use Rattle.site_wire.specs.Sending.{IsOfSites, EquationsFit, StackFits, IsAtNameless, ThreadFits, QueueFits, ContentFits, SiteFits, TransitionFits}
@@ -83,6 +83,7 @@ outcome_born p env rest fresh (outcome.Spawns at body vars) b e =
     (sym (ap (λ (c : Birth). c.name) same), refl)
 outcome_born p env rest fresh (outcome.Fails x) b e = fails_born fresh (outcome_need (outcome.Fails x)) x rest (vars_among fresh) b e
 outcome_born p env rest fresh (outcome.Waits x) b e = cc
+outcome_born p env rest fresh (outcome.Compares left right) b e = cc
 outcome_born p env rest fresh (outcome.Runs items) b e = cc
 outcome_born p env rest fresh (outcome.Tells x t) b e = cc
 outcome_born p env rest fresh (outcome.Declares first count body) b e = cc
@@ -167,6 +168,9 @@ module _ (p : List Stmt) (is : IsProgram p) (n limit : ℕ) (high : limit ≤ 25
 
   waits_fits : (th : ThreadName) (st : Stack) (x : VarName) (s : Site) → thread_state s th ≡ Some (st, Runs) → SiteFits p i s → SiteFits p i (with_waiting th st x s)
   waits_fits th st x s now h = thread_fits th st (Some (st, mode.Waits x)) s now (λ v e. running_fits p th st (mode.Waits x) (λ (c : CellName) (q : mode.Waits x ≡ mode.WaitsFor c). cc) (st, Runs) (h.threads.each th (st, Runs) now) (h.threads.each th (st, Runs) now).stack v e) h
+
+  several_fits : (th : ThreadName) (st : Stack) (xs : List VarName) (s : Site) → thread_state s th ≡ Some (st, Runs) → SiteFits p i s → SiteFits p i (with_waiting_any th st xs s)
+  several_fits th st xs s now h = thread_fits th st (Some (st, mode.WaitsAny xs)) s now (λ v e. running_fits p th st (mode.WaitsAny xs) (λ (c : CellName) (q : mode.WaitsAny xs ≡ mode.WaitsFor c). cc) (st, Runs) (h.threads.each th (st, Runs) now) (h.threads.each th (st, Runs) now).stack v e) h
 
   pub begins_fits : (b : Birth) (s : Site) → BirthFits p (Some b) → thread_state s b.name ≡ None → (b.name.site ≡ i → b.name.num < s.counters.threads) → SiteFits p i s → SiteFits p i (with_thread p (Some b) s)
   begins_fits b s f none below h = record {
@@ -362,6 +366,7 @@ module _ (p : List Stmt) (is : IsProgram p) (n limit : ℕ) (high : limit ≤ 25
 
   needs_fit : (s : Site) (th : ThreadName) (st : Stack) (d : Need) (e : Transition) → thread_state s th ≡ Some (st, Runs) → SiteFits p i s → stack_need p s.equations st ≡ d → IsUnitFor p n limit s th st d e → TransitionFits p i e
   needs_fit s th st (need.Waits x) e now h q (z, names, g) = subst (TransitionFits p i) (sym g) (still p is limit high i low (with_waiting th st z s) (waits_fits th st z s now h))
+  needs_fit s th st (need.WaitsAny r) e now h q (xs, hangs, g) = subst (TransitionFits p i) (sym g) (still p is limit high i low (with_waiting_any th st xs s) (several_fits th st xs s now h))
   needs_fit s th st (need.Binds a b) e now h q (u, t, root, g) = subst (TransitionFits p i) (sym g) (bind_attempts_fit s th st a b u t (u.site == s.records.site) now q root.0 h)
   needs_fit s th st (Takes kinds) e now h q g = either_fits th st kinds s (effect_here p s (fresh_names s kinds) None st) e now f (λ c new told r. exchanges_nameless p s.equations (fresh_names s kinds) None st c new told r)
       (λ token. steps_fit (step_pick th (fresh_names s kinds) None) kinds (effect_here p s (fresh_names s kinds) None st) s st now f (record { none = λ b r. none b r; number = λ b r mine. number b r mine; token = token }) h) h g

@@ -1,6 +1,5 @@
 -- Terms that fit can be spelled, and terms of a message that can be spelled fit.
-use Rattle.std.proofs.Common.{subst, ℕ, zero, suc, ◌≤◌, List, [], ◌∷◌}
-use Rattle.std.specs.Prelude.{slice_get, unwrap_or}
+use Rattle.std.proofs.Common.{subst, ℕ, ◌≤◌, List, [], ◌∷◌}
 use Rattle.tree_node.specs.declared.names.VarName.{VarName}
 use Rattle.tree_node.specs.declared.names.Name.TheVariants as name
 use Rattle.tree_node.specs.declared.node.Feature.{Feature}

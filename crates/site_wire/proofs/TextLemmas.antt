@@ -122,10 +122,13 @@ told_short p is code (stmt.TellAtom left text) n h told = subst IsShort (sym tol
 told_short p is code (stmt.TellRec left label fields) (node.Rec l fs) h told = (subst FitsText (sym told.0) (short_text label h.0), short_features fs fields told.1 h.1)
 told_short p is code (stmt.TellProc left first count body) (node.Proc q c formals vars) h told = let few = captured_short p is first count body in omega (arith, told.2, few)
 told_short p is code (stmt.Calc left op a b) (node.Atom text) h told = subst FitsText (sym told.1) (truth_fits told.0)
+told_short p is code (stmt.Test left op a b) (node.Atom text) h told = subst FitsText (sym told.1) (truth_fits told.0)
 told_short p is code _ (node.Int z) h told = tt
 told_short p is code _ (node.Cell c) h told = tt
 told_short p is code (stmt.Calc left op a b) (node.Rec l fs) h told = absurd told
+told_short p is code (stmt.Test left op a b) (node.Rec l fs) h told = absurd told
 told_short p is code (stmt.Calc left op a b) (node.Proc q c formals vars) h told = absurd told
+told_short p is code (stmt.Test left op a b) (node.Proc q c formals vars) h told = absurd told
 told_short p is code _ _ h told = absurd told
 
 pub told_fits : (p : List Stmt) → IsProgram p → HoldsOfTold p (NodeFits p)

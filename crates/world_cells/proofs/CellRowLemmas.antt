@@ -1,5 +1,5 @@
 -- The rows Get and Forward, and a thread that asks for the token: all that is kept is kept.
-use Rattle.std.proofs.Common.{◌≡◌, ◌∙◌, sym, ap, refl, subst, ℕ, List, ◌∷◌, ◌++◌, ◌⊎◌, inl, inr, true, false, Some}
+use Rattle.std.proofs.Common.{◌≡◌, ◌∙◌, sym, ap, refl, subst, ℕ, List, ◌++◌, ◌⊎◌, inl, inr, true, false, Some}
 use Rattle.std.specs.Prelude.{◌≢◌, ◌==◌}
 use Rattle.tree_node.specs.declared.names.VarName.{VarName}
 use Rattle.tree_node.specs.declared.names.CellName.{CellName}

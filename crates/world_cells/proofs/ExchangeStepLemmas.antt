@@ -1,5 +1,5 @@
 -- An exchange at a site is a step of the centralised machine, whose cell has the token's content.
-use Rattle.std.proofs.Common.{arith, ◌≡◌, ◌∙◌, sym, ap, refl, subst, List, [], ◌∷◌, inl, Some, None}
+use Rattle.std.proofs.Common.{arith, ◌≡◌, ◌∙◌, sym, ap, refl, subst, List, [], ◌∷◌, Some, None}
 use Rattle.std.proofs.lemmas.List.{append-nil}
 use Rattle.std.specs.Prelude.{Option, unwrap_or, IsSome, codes}
 use Rattle.tree_node.specs.declared.names.VarName.{VarName}
@@ -38,8 +38,6 @@ use Rattle.oz_model.proofs.WithinLemmas.{more_is_within}
 use Rattle.oz_model.proofs.KeepLemmas.{steps_stay}
 use Rattle.oz_model.specs.EffectNames.{EachOfChange, EachOfEffect}
 use Rattle.oz_model.proofs.EffectNames.{effect_names}
-use Rattle.bind_protocol.specs.Records.{Records}
-use Rattle.world_model.specs.Names.{IsHere, IsHereName}
 use Rattle.world_model.specs.Matches.{IsExchange}
 
 -- ---- an effect that exchanges a cell does nothing else
@@ -58,6 +56,7 @@ outcome_alone p env rest fresh (outcome.Exchanges cell n t) c new told e = ap (�
 outcome_alone p env rest fresh (outcome.Fails exception) c new told e = fails_alone exception rest (vars_among fresh) c new told e
 outcome_alone p env rest fresh (outcome.MakesCell content t) c new told e = cc
 outcome_alone p env rest fresh (outcome.Waits x) c new told e = cc
+outcome_alone p env rest fresh (outcome.Compares left right) c new told e = cc
 outcome_alone p env rest fresh (outcome.Runs codes) c new told e = cc
 outcome_alone p env rest fresh (outcome.Tells x t) c new told e = cc
 outcome_alone p env rest fresh (outcome.Declares first count body) c new told e = cc

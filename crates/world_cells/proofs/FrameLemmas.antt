@@ -19,13 +19,13 @@ use Rattle.variable_owner.specs.declared.owners.Owner.TheVariants.{Open, Bound}
 use Rattle.variable_owner.specs.Owners.{owner_of, sites_of}
 use Rattle.proxy_table.specs.Proxies.{entry_of}
 use Rattle.bind_protocol.specs.Records.{Records, is_own, knowledge}
-use Rattle.bind_protocol.specs.Rows.{after_make, after_meet, meet_sends, register, register_answer, binding, meets_send, after_meets}
+use Rattle.bind_protocol.specs.Rows.{after_meet, meet_sends, register, register_answer, binding, meets_send}
 use Rattle.token_chain.specs.Mail.{sent_count}
 use Rattle.token_chain.specs.Mail as token
 use Rattle.site_model.specs.Site.{Site}
 use Rattle.site_model.specs.Bundle.{with_own_bundle, with_own_bundles, message_vars, message_bundle}
 use Rattle.site_model.specs.Transition.{Transition, without_output, with_messages, with_pick, sequence, and_then}
-use Rattle.site_model.specs.Variables.{meeting, after_makes, with_new_equation, with_known_equation, with_known_equations, own_bind, own_binds, opening}
+use Rattle.site_model.specs.Variables.{meeting, with_new_equation, with_known_equation, with_known_equations, own_bind, own_binds, opening}
 use Rattle.site_model.specs.Messages.{with_thread, register_row, bind_request_row, bind_pick}
 use Rattle.site_model.specs.Unit.{next_names, with_fresh_names, placement, birth_row}
 use Rattle.world_cells.specs.CellCounts.{cell_weight, cell_weights}

@@ -61,6 +61,7 @@ bind_stays p c k e allowed none bound = go (need_of p c k.thread) refl (subst (�
   where
     go : (d : Need) → need_of p c k.thread ≡ d → IsBindFor c.equations d (Some e) → (effect_of p c k).cell ≡ Stays
     go (need.Waits x) q h = absurd h
+    go (need.WaitsAny r) q h = absurd h
     go (need.Takes kinds) q h = absurd h
     go (need.Binds a b) q h =
         ap (λ (l : List Name). (stack_effect p c.equations l k.bind (stack_of c k.thread)).cell) none
@@ -90,6 +91,7 @@ bind_told p c k e allowed none bound = go (need_of p c k.thread) refl (subst (λ
   where
     go : (d : Need) → need_of p c k.thread ≡ d → IsBindFor c.equations d (Some e) → ((next p c k).lines ≡ c.lines) × ((next p c k).ended ≡ c.ended)
     go (need.Waits x) q h = absurd h
+    go (need.WaitsAny r) q h = absurd h
     go (need.Takes kinds) q h = absurd h
     go (need.Binds a b) q h = (ap (λ (y : Effect). c.lines ++ Step.lines_of y.line) effect ∙ append-nil c.lines, ap (λ (y : Effect). c.ended + end_count (Step.stack_with_content c.cells y.cell y.stack)) effect ∙ ap (λ (x : ℕ). c.ended + x) (needs_item p c.equations (stack_of c k.thread) a b q) ∙ omega arith)
       where

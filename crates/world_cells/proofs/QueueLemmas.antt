@@ -1,6 +1,6 @@
 -- Those that wait for a cell stay its list, each once, whatever the site's other threads do.
 use Rattle.std.proofs.Common.{arith, ◌≡◌, ◌∙◌, sym, ap, refl, subst, ℕ, ◌+◌, List, [], ◌∷◌, ◌++◌, length, length-append, ◌⊎◌, inl, inr, Bool, true, false, cond, Some, None}
-use Rattle.std.specs.Prelude.{Option, Contains, ◌≢◌, ◌==◌, if◌then◌else◌}
+use Rattle.std.specs.Prelude.{Option, Contains, ◌≢◌, ◌==◌}
 use Rattle.std.proofs.lemmas.List.Elements.{Contains-append_left, Contains-append_right, Contains-append_cases}
 use Rattle.tree_node.specs.declared.names.VarName.{VarName}
 use Rattle.tree_node.specs.declared.names.CellName.{CellName}
@@ -11,7 +11,7 @@ use Rattle.tree_node.specs.State.{Stack, equal_thread}
 use Rattle.tree_node.proofs.ClassLemmas.{Contains-cons_cases, Contains-head, Contains-tail}
 use Rattle.token_chain.specs.declared.token.Token.{Token}
 use Rattle.token_chain.specs.declared.token.Token.TheVariants.{Away, Asked, Here}
-use Rattle.token_chain.specs.Holding.{Holding, departure, departure_of}
+use Rattle.token_chain.specs.Holding.{Holding, departure_of}
 use Rattle.token_chain.specs.Mail.{Get, Forward}
 use Rattle.token_chain.specs.Rows.{leave_with, leave_reply, forward_reply, get_reply, exchange_reply}
 use Rattle.site_model.specs.Site.{Site, ThreadState, Threads, CellRecord, cell_record, runnable_threads}
@@ -22,7 +22,7 @@ use Rattle.site_model.specs.Transition.{Transition}
 use Rattle.site_model.specs.Cells.{leave_row, forward_row, last_before, with_last_asker, get_row, request_row}
 use Rattle.world_model.specs.World.{Sites, cell_records, threads, put}
 use Rattle.world_model.specs.Matches.{IsQueue, AreQueues}
-use Rattle.world_model.proofs.PutLemmas.{nat_decides, at_all}
+use Rattle.world_model.proofs.PutLemmas.{at_all}
 use Rattle.world_model.proofs.MailLemmas.{nothing}
 use Rattle.world_model.proofs.KeyLemmas.{with_here, with_there, goes_cases, goes_there, woken_new, woken_old, wake_cell, front_here, front_other, running_old}
 use Rattle.world_model.proofs.CellLemmas.{request_only}

@@ -1,5 +1,5 @@
 -- What each row on cells makes of a site: what it keeps of the cell, and the messages of the cell that it sends.
-use Rattle.std.proofs.Common.{arith, ◌≡◌, ◌∙◌, sym, ap, refl, subst, ℕ, ◌+◌, List, [], ◌∷◌, ◌++◌, Bool, true, false, cond, Some}
+use Rattle.std.proofs.Common.{arith, ◌≡◌, ◌∙◌, sym, ap, refl, subst, ℕ, List, [], ◌∷◌, ◌++◌, Bool, true, false, cond, Some}
 use Rattle.std.specs.Prelude.{Option, ◌≢◌, ◌==◌, unwrap_or}
 use Rattle.std.proofs.lemmas.Bool.{cond-true, cond-false}
 use Rattle.tree_node.specs.Goal.{equal_cell}

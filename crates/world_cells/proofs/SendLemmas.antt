@@ -20,7 +20,7 @@ use Rattle.oz_model.proofs.KindLemmas.{equal_cell_decides}
 use Rattle.bind_protocol.specs.Records.{Records}
 use Rattle.token_chain.specs.declared.token.Token.TheVariants.{Here}
 use Rattle.token_chain.specs.Holding.{Holding}
-use Rattle.token_chain.specs.Mail.{Get, Forward, Put}
+use Rattle.token_chain.specs.Mail.{Put}
 use Rattle.token_chain.specs.Rows.{leave_reply, get_reply, exchange_reply}
 use Rattle.site_model.specs.Site.{Threads, Counters}
 use Rattle.site_model.specs.Bundle.{bundle_of}

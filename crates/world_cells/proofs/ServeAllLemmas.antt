@@ -18,7 +18,7 @@ use Rattle.oz_model.specs.Run.{IsRun, exchange_in, exchanges_from}
 use Rattle.oz_model.proofs.ExchangeLemmas.{put_here, put_there}
 use Rattle.token_chain.specs.declared.token.Token.TheVariants.{Here}
 use Rattle.bind_protocol.specs.Records.{Records}
-use Rattle.site_model.specs.Site.{Site, ThreadState, Threads, Counters, cell_record, thread_state}
+use Rattle.site_model.specs.Site.{Site, Threads, Counters, cell_record, thread_state}
 use Rattle.thread_roster.specs.declared.mode.Mode.TheVariants.{WaitsFor}
 use Rattle.thread_roster.specs.declared.mode.Mode.TheVariants as site
 use Rattle.site_model.specs.Transition.{Transition, with_pick, and_then}

@@ -1,6 +1,6 @@
 -- A thread that waited for a cell exchanges, as a step of the centralised machine.
 use Rattle.std.proofs.Common.{◌≡◌, ◌∙◌, sym, ap, refl, subst, ℕ, List, [], ◌∷◌, ◌⊎◌, inl, inr, Bool, true, false, cond, Some}
-use Rattle.std.specs.Prelude.{Option, ◌≢◌}
+use Rattle.std.specs.Prelude.{Option, Contains, ◌≢◌}
 use Rattle.tree_node.specs.declared.names.VarName.{VarName}
 use Rattle.tree_node.specs.declared.names.CellName.{CellName}
 use Rattle.tree_node.specs.declared.names.ThreadName.{ThreadName}
@@ -20,8 +20,8 @@ use Rattle.thread_roster.specs.declared.mode.Mode.{Mode}
 use Rattle.thread_roster.specs.declared.mode.Mode.TheVariants.{WaitsFor}
 use Rattle.thread_roster.specs.declared.mode.Mode.TheVariants as site
 use Rattle.world_model.specs.World.{Mail, at_put}
-use Rattle.world_model.specs.Names.{IsHere, IsHereName, IsHome, IsMade, IsCentreMade, here_at}
-use Rattle.world_model.specs.Matches.{PartsMatch, IsThreadAt, IsWaiting, IsAwaited, NeedsFirst, IsAsked, IsExchange}
+use Rattle.world_model.specs.Names.{IsHere, IsHome, IsMade, IsCentreMade, here_at}
+use Rattle.world_model.specs.Matches.{PartsMatch, IsThreadAt, IsWaiting, IsWaitingAny, IsAwaited, HangsOn, NeedsFirst, IsAsked, IsExchange}
 use Rattle.world_model.proofs.PutLemmas.{at_all, at_here, at_twice}
 use Rattle.world_variables.proofs.LearnLemmas.{placed_alike}
 use Rattle.world_model.proofs.KeyLemmas.{with_here, with_there, goes_cases}
@@ -78,6 +78,8 @@ module _ (p : List Stmt) (here : ℕ → Name → Type 0) (eqs : ℕ → Store) 
         asks = λ k to x t o bundle h. asked x t o (parts.waiting.asks k to x t o bundle h);
         waits = at_all threads i resumed (λ j (ts : Threads). (o : ThreadName) (su : Stack) (x : VarName) → value_of equal_thread ts o ≡ Some (su, site.Waits x) → IsFree (eqs j) x × IsHere (records j) x × (NeedsFirst p (eqs j) su x ⊎ IsAsked mail s.equations o x))
             (λ o su x h. wait o su x (resumed_old o (su, site.Waits x) h)) (λ j other o su x h. parts.waiting.waits j o su x h);
+        compares = at_all threads i resumed (λ j (ts : Threads). (o : ThreadName) (su : Stack) (xs : List VarName) → value_of equal_thread ts o ≡ Some (su, site.WaitsAny xs) → HangsOn p (eqs j) su xs × ((x : VarName) → Contains xs x → IsFree (eqs j) x × IsHere (records j) x))
+            (λ o su xs h. compare o su xs (resumed_old o (su, site.WaitsAny xs) h)) (λ j other o su xs h. parts.waiting.compares j o su xs h);
         exchanges = at_all threads i resumed (λ j (ts : Threads). (o : ThreadName) (su : Stack) (d : CellName) → value_of equal_thread ts o ≡ Some (su, WaitsFor d) → IsExchange p (eqs j) su d)
             (λ o su d h. exchange o su d (resumed_old o (su, WaitsFor d) h)) (λ j other o su d h. parts.waiting.exchanges j o su d h);
       };
@@ -98,6 +100,10 @@ module _ (p : List Stmt) (here : ℕ → Name → Type 0) (eqs : ℕ → Store) 
         wait : (o : ThreadName) (su : Stack) (x : VarName) → ((o ≡ n) × (◌≡◌ {A = ThreadState} (su, site.Waits x) (st, site.Runs))) ⊎ ((n ≢ o) × IsWaiting threads i o su x) → IsFree (eqs i) x × IsHere (records i) x × (NeedsFirst p (eqs i) su x ⊎ IsAsked mail s.equations o x)
         wait o su x (inr h) = parts.waiting.waits i o su x h.1
         wait o su x (inl e) = let modes : site.Waits x ≡ site.Runs = ap (λ (v : ThreadState). v.1) e.1 in absurd (cc)
+
+        compare : (o : ThreadName) (su : Stack) (xs : List VarName) → ((o ≡ n) × (◌≡◌ {A = ThreadState} (su, site.WaitsAny xs) (st, site.Runs))) ⊎ ((n ≢ o) × IsWaitingAny threads i o su xs) → HangsOn p (eqs i) su xs × ((x : VarName) → Contains xs x → IsFree (eqs i) x × IsHere (records i) x)
+        compare o su xs (inr h) = parts.waiting.compares i o su xs h.1
+        compare o su xs (inl e) = let modes : site.WaitsAny xs ≡ site.Runs = ap (λ (v : ThreadState). v.1) e.1 in absurd (cc)
 
         exchange : (o : ThreadName) (su : Stack) (d : CellName) → ((o ≡ n) × (◌≡◌ {A = ThreadState} (su, WaitsFor d) (st, site.Runs))) ⊎ ((n ≢ o) × (value_of equal_thread (threads i) o ≡ Some (su, WaitsFor d))) → IsExchange p (eqs i) su d
         exchange o su d (inr h) = parts.waiting.exchanges i o su d h.1

@@ -12,6 +12,7 @@ use Rattle.tree_node.specs.declared.node.Term.{Term}
 use Rattle.tree_node.specs.declared.item.Item.TheVariants.{Run, Goals, Mark, Report}
 use Rattle.tree_node.specs.declared.pick.Pick.{Pick}
 use Rattle.tree_node.specs.Assoc.{value_of, with_value}
+use Rattle.tree_node.specs.Compare.{Pair}
 use Rattle.tree_node.specs.Each.{Each, AreDistinct}
 use Rattle.tree_node.specs.Env.{Env}
 use Rattle.tree_node.specs.Goal.{Case, Dropped, Binds, Opened, Failed, case_of, equal_cell}
@@ -45,7 +46,7 @@ use Rattle.site_model.specs.Site.{Site, ThreadState, Threads, CellRecord, cell_r
 use Rattle.thread_roster.specs.declared.mode.Mode.TheVariants as site
 use Rattle.site_model.specs.Transition.{Transition, without_output}
 use Rattle.site_model.specs.Cells.{request_row, with_exchange_waiting}
-use Rattle.site_model.specs.Unit.{IsUnit, IsUnitFor, IsStepOrRequest, IsRootBind, bind_attempt, with_waiting, counters_after, token_content, content_here, next_names, step_row, step_pick, IsTokenHere}
+use Rattle.site_model.specs.Unit.{IsUnit, IsUnitFor, IsStepOrRequest, IsRootBind, bind_attempt, with_waiting, with_waiting_any, counters_after, token_content, content_here, next_names, step_row, step_pick, IsTokenHere}
 use Rattle.world_model.specs.World.{World, after_transition, records, threads, counters, eqs}
 use Rattle.world_model.specs.Names.{IsHere, here_at}
 use Rattle.world_model.specs.Matches.{IsNumbered, CellsMatch, IsExchange}
@@ -87,6 +88,7 @@ outcome_lone p env rest fresh (outcome.Exchanges cell n t) c new told e = (refl,
 outcome_lone p env rest fresh (outcome.Fails exception) c new told e = fails_lone _ exception rest (vars_among fresh) _ c new told e
 outcome_lone p env rest fresh (outcome.MakesCell content t) c new told e = cc
 outcome_lone p env rest fresh (outcome.Waits x) c new told e = cc
+outcome_lone p env rest fresh (outcome.Compares left right) c new told e = cc
 outcome_lone p env rest fresh (outcome.Runs codes) c new told e = cc
 outcome_lone p env rest fresh (outcome.Tells x t) c new told e = cc
 outcome_lone p env rest fresh (outcome.Declares first count body) c new told e = cc
@@ -284,6 +286,12 @@ module _ (p : List Stmt) (n limit i : ℕ) (real : i ≢ 0) (w : World) (ks : Li
       other : (r : Stack) → ◌≡◌ {A = Option ThreadState} (Some (st, site.Waits z)) (Some (r, site.WaitsFor b)) → ⊥
       other r q = let f : site.Waits z ≡ site.WaitsFor b = ap mode_in q in cc
 
+  several_wait : (th : ThreadName) (st : Stack) (zs : List VarName) → value_of equal_thread (threads w.sites i) th ≡ Some (st, site.Runs) → (b : CellName) → SameWaiters (w.sites i).threads (with_value equal_thread (w.sites i).threads th (st, site.WaitsAny zs)) b
+  several_wait th st zs at b = goes_waiters (w.sites i).threads th (Some (st, site.WaitsAny zs)) (st, site.Runs) b at (λ r q. running_not st r b q) (λ r q. other r q)
+    where
+      other : (r : Stack) → ◌≡◌ {A = Option ThreadState} (Some (st, site.WaitsAny zs)) (Some (r, site.WaitsFor b)) → ⊥
+      other r q = let f : site.WaitsAny zs ≡ site.WaitsFor b = ap mode_in q in cc
+
   pub unit_reached : (th : ThreadName) (d : Transition) → IsUnit p n limit th (w.sites i) d → Reached p (after_transition w i d) (ks ++ d.picks)
   unit_reached th d (st, at, unit) = go (stack_need p (eqs w.sites i) st) refl unit
     where
@@ -313,6 +321,17 @@ module _ (p : List Stmt) (n limit i : ℕ) (real : i ≢ 0) (w : World) (ks : Li
         where
           not_takes : (y : VarName) (kinds : List NameKind) → need.Waits y ≡ Takes kinds → ⊥
           not_takes y kinds q = cc
+
+      waits_any : (q : Pair) (zs : List VarName) → stack_need p (eqs w.sites i) st ≡ need.WaitsAny q → d ≡ without_output (with_waiting_any th st zs (w.sites i)) → Goal
+      waits_any q zs e is = plain_reached d (follows (λ kinds r. not_takes kinds (sym e ∙ r))) (ap (λ (t : Transition). t.picks) is)
+          (subst (NoCells (w.sites i)) (sym is) (record { cell_records = refl; managers = refl; site = refl; silent = tt }))
+          (λ b. subst (λ (t : Transition). SameWaiters (w.sites i).threads t.site.threads b) (sym is) (several_wait th st zs at b))
+          (ap (λ (t : Transition). t.site.records) is)
+          (ap (λ (t : Transition). t.lines) is)
+          (subst (λ (t : Transition). SameSums (w.sites i) t.site) (sym is) (record { ended = refl; names = with_names (w.sites i).threads th (st, site.WaitsAny zs) }))
+        where
+          not_takes : (kinds : List NameKind) → need.WaitsAny q ≡ Takes kinds → ⊥
+          not_takes kinds r = cc
 
       binds : (a b : Term) → stack_need p (eqs w.sites i) st ≡ need.Binds a b → (u : VarName) (t : Term) → IsRootBind (eqs w.sites i) a b u t → d ≡ bind_attempt p n limit th st u t (u.site == (w.sites i).records.site) (w.sites i) → Goal
       binds a b e u t (allows, free, low, root) is = one (u.site == (w.sites i).records.site) refl is
@@ -353,5 +372,6 @@ module _ (p : List Stmt) (n limit i : ℕ) (real : i ≢ 0) (w : World) (ks : Li
 
       go : (d0 : Need) → stack_need p (eqs w.sites i) st ≡ d0 → IsUnitFor p n limit (w.sites i) th st d0 d → Goal
       go (need.Waits y) e (z, class, is) = waits y z e is
+      go (need.WaitsAny q) e (zs, hangs, is) = waits_any q zs e is
       go (need.Binds a b) e (u, t, root, is) = binds a b e u t root is
       go (Takes kinds) e s = takes kinds e (w.sites i).records.site number (stack_effect p (eqs w.sites i) (next_names (w.sites i).records.site (counters w.sites i) kinds) None st).cell refl s

@@ -26,7 +26,6 @@ use Rattle.site_model.specs.Variables.{with_known_equation, with_known_equations
 use Rattle.site_model.specs.Messages.{with_thread}
 use Rattle.site_model.specs.Unit.{with_fresh_names, placement, birth_row, after_cell, content_here, runnable_state, after_effect, step_row}
 use Rattle.world_model.specs.Matches.{IsQueue}
-use Rattle.world_model.proofs.KeyLemmas.{woken_new}
 use Rattle.site_model.proofs.CellKeyLemmas.{place_here, place_other}
 use Rattle.world_cells.proofs.QueueLemmas.{SameWaiters, waiters_same, waiters_then, queue_same, woken_waiters, goes_waiters, born_waiters, running_not, IsOtherMode}
 use Rattle.world_cells.proofs.UnitCellLemmas.{step_places, begins}

@@ -17,7 +17,7 @@ use Rattle.kernel_syntax.specs.declared.stmt.Stmt.{Stmt}
 use Rattle.site_message.specs.declared.message.Msg.{Msg}
 use Rattle.site_message.specs.declared.message.Msg.TheVariants as msg
 use Rattle.site_message.specs.declared.message.Sent.{Sent}
-use Rattle.oz_model.specs.Need.{Need, Waits, Binds, Takes, stack_need, outcome_need}
+use Rattle.oz_model.specs.Need.{Need, Waits, WaitsAny, Binds, Takes, stack_need, outcome_need}
 use Rattle.oz_model.specs.Effect.{Birth, CellChange, Stays, Made, Exchanged, Effect, vars_among, stack_effect, outcome_effect, goal_effect, pair_effect, exception_effect}
 use Rattle.bind_protocol.specs.Records.{Records, is_own, knowledge}
 use Rattle.proxy_table.specs.Proxies.{entry_of}
@@ -31,7 +31,7 @@ use Rattle.site_model.specs.Variables.{with_new_equation, with_known_equation, w
 use Rattle.token_chain.specs.Mail as token
 use Rattle.site_model.specs.Cells.{leave_row, forward_row, get_row, serving, request_row, with_exchange_waiting, after_exchange, content_after_exchange, exchange_stack}
 use Rattle.site_model.specs.Messages.{with_thread, bind_request_row, message_row, reception, birth}
-use Rattle.site_model.specs.Unit.{next_names, with_fresh_names, birth_row, placement, step_row, after_effect, thread_step, fresh_names, effect_here, step_pick, bind_attempt, with_waiting, after_cell, IsStepOrRequest, IsUnitFor, counter_after, runnable_state, content_here, counters_after}
+use Rattle.site_model.specs.Unit.{next_names, with_fresh_names, birth_row, placement, step_row, after_effect, thread_step, fresh_names, effect_here, step_pick, bind_attempt, with_waiting, with_waiting_any, after_cell, IsStepOrRequest, IsUnitFor, counter_after, runnable_state, content_here, counters_after}
 use Rattle.site_model.specs.Turn.{IsReception, AreUnits, SiteTurn}
 use Rattle.tree_node.specs.declared.names.NameKind.TheVariants as kind
 use Rattle.tree_node.specs.declared.node.Node.{Node}
@@ -99,6 +99,7 @@ module _ (p : List Stmt) (n limit : ℕ) where
   outcome_new k c env rest (outcome.Spawns at body vars) kinds e = spawn_new k c env rest (outcome.Spawns at body vars) kinds (takes_same (kind.Thread ∷ []) kinds e) (refl, omega arith, omega arith)
   outcome_new k c env rest (outcome.Fails x) kinds e = no_birth k c (counters_after c kinds) _ (fails_none x rest (vars_among (next_names k c kinds)))
   outcome_new k c env rest (outcome.Waits x) kinds e = tt
+  outcome_new k c env rest (outcome.Compares left right) kinds e = tt
   outcome_new k c env rest (outcome.Runs items) kinds e = tt
   outcome_new k c env rest (outcome.Tells x t) kinds e = tt
   outcome_new k c env rest (outcome.Declares first count body) kinds e = tt
@@ -459,6 +460,8 @@ module _ (p : List Stmt) (n limit : ℕ) (i low : ℕ) (P : ThreadName → Type 
   need_asks : (base : List Sent) (s : Site) (th : ThreadName) (st : Stack) (need : Need) (d : Transition) → s.records.site ≡ i → thread_state s th ≡ Some (st, Runs) → Full base s → stack_need p s.equations st ≡ need → IsUnitFor p n limit s th st need d → AsksOn base d
   need_asks base s th st (Waits x) d own at h e (z, names, g) =
       subst (AsksOn base) (sym g) (of_quiet s.counters.threads base (without_output (with_waiting th st z s)) (still p n limit i low s.counters.threads P start base (with_waiting th st z s) (goes i low s.counters.threads P start base s (with_waiting th st z s) th (st, Runs) (Some (st, site.Waits z)) refl refl refl at runs_not h)))
+  need_asks base s th st (WaitsAny q) d own at h e (xs, hangs, g) =
+      subst (AsksOn base) (sym g) (of_quiet s.counters.threads base (without_output (with_waiting_any th st xs s)) (still p n limit i low s.counters.threads P start base (with_waiting_any th st xs s) (goes i low s.counters.threads P start base s (with_waiting_any th st xs s) th (st, Runs) (Some (st, site.WaitsAny xs)) refl refl refl at runs_not h)))
   need_asks base s th st (Binds a b) d own at h e (u, t, root, g) = subst (AsksOn base) (sym g) (bind_asks base s th st a b u t (u.site == s.records.site) at e root.1 h)
   need_asks base s th st (Takes kinds) d own at h e g =
       either_asks base th st s (thread_step p n limit th st kinds (fresh_names s kinds) None s) (effect_here p s (fresh_names s kinds) None st).cell d at h

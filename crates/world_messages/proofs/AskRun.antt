@@ -1,6 +1,6 @@
 -- No thread asks twice to bind a variable, in every run.
 use Rattle.std.proofs.Common.{arith, ◌≡◌, ◌≢◌, ◌∙◌, sym, ap, refl, subst, ℕ, zero, suc, ◌+◌, ◌<◌, ◌≤◌, List, [], ◌∷◌, ◌++◌, ◌⊎◌, inl, inr, Bool, true, false, cond}
-use Rattle.std.specs.Prelude.{Option, Some, None, Contains, ◌==◌, ◌||◌, slice_get}
+use Rattle.std.specs.Prelude.{Option, Some, None, Contains, ◌==◌, slice_get}
 use Rattle.tree_node.specs.declared.names.VarName.{VarName}
 use Rattle.tree_node.specs.declared.names.CellName.{CellName}
 use Rattle.tree_node.specs.declared.names.ThreadName.{ThreadName}

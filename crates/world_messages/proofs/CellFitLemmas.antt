@@ -1,11 +1,10 @@
 -- Messages of cells are fit, by the chains.
-use Rattle.std.proofs.Common.{rules, arith, ◌≡◌, ◌≢◌, ◌∙◌, sym, ap, refl, subst, ℕ, ◌≤◌, List, [], ◌∷◌, inl, inr, true}
+use Rattle.std.proofs.Common.{rules, arith, ◌≡◌, ◌≢◌, ◌∙◌, sym, ap, refl, subst, ℕ, ◌≤◌, List, true}
 use Rattle.std.specs.Prelude.{Option, Some, None, ◌==◌, ◌&&◌}
 use Rattle.std.specs.Map.{lookup}
 use Rattle.tree_node.specs.declared.names.VarName.{VarName}
 use Rattle.tree_node.specs.declared.names.CellName.{CellName}
 use Rattle.tree_node.specs.Assoc.{value_of}
-use Rattle.tree_node.specs.Each.{AreDistinct}
 use Rattle.tree_node.specs.Goal.{equal_cell}
 use Rattle.tree_node.specs.State.{State}
 use Rattle.tree_node.specs.Store.{Equation, equal_var}
@@ -17,15 +16,14 @@ use Rattle.site_message.specs.declared.message.Sent.{Sent}
 use Rattle.site_message.specs.declared.turn.Turn.{Turn}
 use Rattle.site_message.specs.Journal.{IsTravelling, travelling}
 use Rattle.site_message.proofs.JournalLemmas.{travelling_tells}
-use Rattle.token_chain.specs.declared.token.Token.{Token}
-use Rattle.token_chain.specs.declared.token.Token.TheVariants.{Away, Asked, Here}
-use Rattle.token_chain.specs.Holding.{Holding, IsUsed, CanFollow}
+use Rattle.token_chain.specs.declared.token.Token.TheVariants.{Away, Asked}
+use Rattle.token_chain.specs.Holding.{Holding, CanFollow}
 use Rattle.token_chain.specs.Mail.{is_mail, sent_count as on_way}
 use Rattle.token_chain.specs.Mail as token
-use Rattle.token_chain.specs.Chain.{IsChain, IsDue, IsNext}
+use Rattle.token_chain.specs.Chain.{IsChain, IsDue}
 use Rattle.token_chain.proofs.ChangeLemmas.{on_used, due_at}
 use Rattle.token_chain.proofs.ListLemmas.{last_on, next_on, before_on, next_differs}
-use Rattle.site_model.specs.Site.{Site, initial_site, cell_record_in, cell_record, last_asker}
+use Rattle.site_model.specs.Site.{Site, cell_record_in, cell_record, last_asker}
 use Rattle.site_model.specs.Fit.{CanRequest}
 use Rattle.site_model.specs.Run.{WorldRun}
 use Rattle.world_model.specs.World.{Sites, cell_records, managers, world_of}

@@ -22,7 +22,6 @@ use Rattle.world_messages.specs.RegisterCounts.{OncePerSite, NoneOfOwn}
 use Rattle.world_messages.proofs.DeedLemmas.{Tallies, heard_in, turn_tally}
 use Rattle.world_messages.proofs.RunLemmas.{Entry, every_run}
 use Rattle.world_messages.proofs.WireLemmas.{left_over, travel_after, travel_less, travel_one}
-use Rattle.tree_node.proofs.EachLemmas.{each_append}
 
 -- ---- fewer travel
 

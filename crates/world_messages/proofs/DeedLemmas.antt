@@ -1,5 +1,5 @@
 -- What each row of a turn does to the counts of messages on variables.
-use Rattle.std.proofs.Common.{◌≡◌, ◌∙◌, sym, ap, refl, subst, ℕ, ◌≤◌, length, List, [], ◌∷◌, ◌++◌, inl, inr, Bool, true, false, cond, Some, None}
+use Rattle.std.proofs.Common.{◌≡◌, ◌∙◌, sym, ap, refl, subst, ℕ, List, [], ◌∷◌, ◌++◌, inl, inr, Bool, true, false, cond, Some, None}
 use Rattle.std.specs.Prelude.{Option, ◌==◌, ◌&&◌}
 use Rattle.tree_node.specs.declared.names.VarName.{VarName}
 use Rattle.tree_node.specs.declared.names.CellName.{CellName}
@@ -17,8 +17,7 @@ use Rattle.kernel_syntax.specs.declared.stmt.Stmt.{Stmt}
 use Rattle.site_message.specs.declared.message.Msg.{Msg}
 use Rattle.site_message.specs.declared.message.Msg.TheVariants as msg
 use Rattle.site_message.specs.declared.message.Sent.{Sent}
-use Rattle.site_message.specs.Wire.{NamesAscend}
-use Rattle.oz_model.specs.Need.{Need, Waits, Binds, Takes, stack_need}
+use Rattle.oz_model.specs.Need.{Need, Waits, WaitsAny, Binds, Takes, stack_need}
 use Rattle.oz_model.specs.Effect.{Birth, CellChange, Stays, Made, Exchanged, Effect, vars_among, equations_of}
 use Rattle.bind_protocol.specs.Records.{Records, is_own, knowledge}
 use Rattle.bind_protocol.specs.Rows.{sent_message, request, after_make, after_meet, meet_sends, after_ask, ask_sends, after_meets, meets_send}
@@ -31,7 +30,7 @@ use Rattle.site_model.specs.Cells.{leave_row, forward_row, get_row, serving, put
 use Rattle.token_chain.specs.Mail as token
 use Rattle.world_model.proofs.CellLemmas.{letters, request_only}
 use Rattle.site_model.specs.Messages.{with_thread, bind_request_row, message_row, reception}
-use Rattle.site_model.specs.Unit.{next_names, with_fresh_names, birth_row, placement, step_row, after_effect, thread_step, fresh_names, effect_here, step_pick, bind_attempt, after_cell, IsStepOrRequest, IsUnitFor, IsUnit}
+use Rattle.site_model.specs.Unit.{next_names, with_fresh_names, birth_row, placement, step_row, after_effect, thread_step, fresh_names, effect_here, step_pick, bind_attempt, IsStepOrRequest, IsUnitFor, IsUnit}
 use Rattle.site_model.specs.Fit.{IsFit}
 use Rattle.site_model.specs.Turn.{IsReception, AreUnits, SiteTurn}
 use Rattle.world_model.proofs.PutLemmas.{nat_decides}
@@ -220,6 +219,7 @@ either_tally p limit th st s step (Made c v) d k h = subst (λ (e : Transition).
 
 need_tally : (p : List Stmt) (n limit : ℕ) (s : Site) (th : ThreadName) (st : Stack) (need : Need) (d : Transition) → IsUnitFor p n limit s th st need d → Counts s [] d
 need_tally p n limit s th st (Waits x) d h = subst (λ (e : Transition). Counts s [] e) (sym h.2) (quiet s.records [] tt)
+need_tally p n limit s th st (WaitsAny q) d h = subst (λ (e : Transition). Counts s [] e) (sym h.2) (quiet s.records [] tt)
 need_tally p n limit s th st (Binds a b) d h = subst (λ (e : Transition). Counts s [] e) (sym h.3) (bind_tally p n limit th st h.0 h.1 s)
 need_tally p n limit s th st (Takes kinds) d h =
     either_tally p limit th st s (thread_step p n limit th st kinds (fresh_names s kinds) None s) (effect_here p s (fresh_names s kinds) None st).cell d

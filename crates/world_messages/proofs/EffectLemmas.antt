@@ -4,7 +4,6 @@ use Rattle.std.specs.Prelude.{Option, Contains, take}
 use Rattle.tree_node.specs.declared.names.VarName.{VarName}
 use Rattle.tree_node.specs.declared.names.Name.{Name}
 use Rattle.tree_node.specs.declared.names.NameKind.{NameKind}
-use Rattle.tree_node.specs.declared.names.NameKind.TheVariants as kind
 use Rattle.tree_node.specs.declared.node.Term.{Term}
 use Rattle.tree_node.specs.Assoc.{value_of}
 use Rattle.tree_node.specs.Each.{Each}
@@ -23,9 +22,7 @@ use Rattle.thread_machine.specs.Fits.{EquationsFit}
 use Rattle.thread_machine.specs.Effects.{EffectFits}
 use Rattle.thread_machine.proofs.KeepLemmas.{stack_effect_fits, stack_bound}
 use Rattle.site_model.proofs.EffectLemmas.{bind_effect as effect_of_bind}
-use Rattle.site_model.specs.Site.{Counters}
 use Rattle.site_model.specs.Bundle.{option_list, known_equations, distinct_vars, reachable_vars, reachable_equations, insert_ascending, ascending, bundle_from, is_below}
-use Rattle.site_model.specs.Unit.{next_names, counter_after}
 use Rattle.world_messages.specs.Fitting.{ThreadFits}
 use Rattle.world_messages.proofs.TermLemmas.{IsFitFor}
 use Rattle.tree_node.proofs.OrderLemmas.{Each-member}

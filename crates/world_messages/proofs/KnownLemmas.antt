@@ -6,8 +6,7 @@ use Rattle.tree_node.specs.declared.names.NameKind.{NameKind}
 use Rattle.tree_node.specs.declared.names.NameKind.TheVariants as kind
 use Rattle.tree_node.specs.declared.node.Term.{Term}
 use Rattle.tree_node.specs.Each.{Each}
-use Rattle.tree_node.specs.Store.{equal_var}
-use Rattle.tree_node.proofs.ClassLemmas.{same_name_decides, Contains-cons_cases, Contains-head, Contains-tail}
+use Rattle.tree_node.proofs.ClassLemmas.{Contains-cons_cases, Contains-head, Contains-tail}
 use Rattle.proxy_table.specs.Proxies.{entry_of}
 use Rattle.variable_owner.specs.declared.owners.Owner.{Owner}
 use Rattle.variable_owner.specs.declared.owners.Owner.TheVariants.{Open, Bound}

@@ -15,7 +15,7 @@ use Rattle.kernel_syntax.specs.declared.stmt.Stmt.{Stmt}
 use Rattle.site_message.specs.declared.message.Msg.{Msg}
 use Rattle.site_message.specs.declared.message.Msg.TheVariants as msg
 use Rattle.site_message.specs.declared.message.Sent.{Sent}
-use Rattle.oz_model.specs.Need.{Need, Waits, Binds, Takes, stack_need, outcome_need}
+use Rattle.oz_model.specs.Need.{Need, Waits, WaitsAny, Binds, Takes, stack_need, outcome_need}
 use Rattle.oz_model.specs.Effect.{Birth, CellChange, Stays, Made, Exchanged, Effect, vars_among, stack_effect, outcome_effect, goal_effect, pair_effect, exception_effect}
 use Rattle.bind_protocol.specs.Records.{Records, is_own, knowledge}
 use Rattle.proxy_table.specs.Proxies.{entry_of}
@@ -24,13 +24,13 @@ use Rattle.bind_protocol.proofs.ListLemmas.{one, count_cons, count_append}
 use Rattle.site_model.specs.Site.{Site, Counters, ThreadState, thread_state, cell_record}
 use Rattle.site_model.specs.Bundle.{with_own_bundle, with_own_bundles, message_bundle, message_vars}
 use Rattle.site_model.specs.Transition.{Transition, without_output, with_messages, and_then, sequence}
-use Rattle.site_model.specs.Variables.{with_known_equation, with_known_equations, own_bind, own_binds, opening}
+use Rattle.site_model.specs.Variables.{with_known_equations, own_bind, own_binds, opening}
 use Rattle.site_model.specs.Cells.{last_before, leave_row, forward_row, get_row, serving, request_row, after_exchange, content_after_exchange}
 use Rattle.token_chain.specs.Mail as token
 use Rattle.token_chain.specs.Rows.{leave_reply, forward_reply, get_reply, exchange_reply}
 use Rattle.world_model.proofs.CellLemmas.{letters, request_only}
 use Rattle.site_model.specs.Messages.{with_thread, bind_request_row, message_row}
-use Rattle.site_model.specs.Unit.{next_names, with_fresh_names, birth_row, placement, step_row, after_effect, thread_step, fresh_names, effect_here, step_pick, bind_attempt, with_waiting, after_cell, IsStepOrRequest, IsUnitFor, counter_after, counters_after}
+use Rattle.site_model.specs.Unit.{next_names, with_fresh_names, birth_row, placement, step_row, after_effect, thread_step, fresh_names, effect_here, step_pick, bind_attempt, with_waiting, with_waiting_any, after_cell, IsStepOrRequest, IsUnitFor, counter_after, counters_after}
 use Rattle.site_model.specs.Turn.{IsReception, AreUnits, SiteTurn}
 use Rattle.std.specs.List.{count_by}
 use Rattle.tree_node.specs.declared.names.Name.TheVariants as name
@@ -327,6 +327,7 @@ module _ (p : List Stmt) (n limit : ℕ) where
   outcome_births i c env rest fresh (outcome.Spawns at body vars) kinds e = one_thread i c kinds (takes_one (kind.Thread ∷ []) kinds e)
   outcome_births i c env rest fresh (outcome.Fails x) kinds e = omega (arith, fails_births x rest (vars_among fresh))
   outcome_births i c env rest fresh (outcome.Waits x) kinds e = omega arith
+  outcome_births i c env rest fresh (outcome.Compares left right) kinds e = omega arith
   outcome_births i c env rest fresh (outcome.Runs items) kinds e = omega arith
   outcome_births i c env rest fresh (outcome.Tells x t) kinds e = omega arith
   outcome_births i c env rest fresh (outcome.Declares first count body) kinds e = omega arith
@@ -373,6 +374,7 @@ module _ (p : List Stmt) (n limit : ℕ) where
 
   need_picks : (s : Site) (th : ThreadName) (st : Stack) (need : Need) (d : Transition) → stack_need p s.equations st ≡ need → IsUnitFor p n limit s th st need d → DoesPicks s d
   need_picks s th st (Waits x) d e h = subst (DoesPicks s) (sym h.2) (still_picks s.records.site s (without_output (with_waiting th st h.0 s)) (record { counters = refl; sent = refl }))
+  need_picks s th st (WaitsAny q) d e h = subst (DoesPicks s) (sym h.2) (still_picks s.records.site s (without_output (with_waiting_any th st h.0 s)) (record { counters = refl; sent = refl }))
   need_picks s th st (Binds a b) d e h = subst (DoesPicks s) (sym h.3) (bind_picks th st h.0 h.1 a b (h.0.site == s.records.site) s e)
   need_picks s th st (Takes kinds) d e h =
       either_picks th st s (thread_step p n limit th st kinds (fresh_names s kinds) None s) (effect_here p s (fresh_names s kinds) None st).cell d

@@ -1,5 +1,5 @@
 -- What holds of each message that a site sends: of those that carry what is known, and of a Register, a Get and a Forward.
-use Rattle.std.proofs.Common.{arith, ◌≡◌, ◌≢◌, sym, refl, subst, ℕ, ◌≤◌, List, [], ◌∷◌, ◌++◌, map, inl, inr, Bool, true, false, cond, Some, None}
+use Rattle.std.proofs.Common.{◌≡◌, ◌≢◌, sym, refl, subst, ℕ, List, [], ◌∷◌, ◌++◌, map, inl, inr, Bool, true, false, cond, Some, None}
 use Rattle.std.specs.Prelude.{Option, ◌==◌, is_some}
 use Rattle.tree_node.specs.declared.names.VarName.{VarName}
 use Rattle.tree_node.specs.declared.names.CellName.{CellName}
@@ -15,7 +15,7 @@ use Rattle.site_message.specs.declared.message.Msg.{Msg}
 use Rattle.site_message.specs.declared.message.Msg.TheVariants as msg
 use Rattle.site_message.specs.declared.message.Sent.{Sent}
 use Rattle.proxy_table.specs.Proxies.{entry_of}
-use Rattle.oz_model.specs.Need.{Need, Waits, Binds, Takes, stack_need}
+use Rattle.oz_model.specs.Need.{Need, Waits, WaitsAny, Binds, Takes, stack_need}
 use Rattle.oz_model.specs.Effect.{Birth, CellChange, Stays, Made, Exchanged, Effect}
 use Rattle.bind_protocol.specs.Records.{Records, is_own, knowledge}
 use Rattle.tree_node.specs.declared.names.CodeId.{CodeId}
@@ -34,8 +34,6 @@ use Rattle.site_model.specs.Unit.{with_fresh_names, birth_row, placement, step_r
 use Rattle.world_model.proofs.PutLemmas.{nat_decides}
 use Rattle.site_model.specs.Turn.{IsReception, AreUnits, SiteTurn}
 use Rattle.tree_node.proofs.EachLemmas.{each_append}
-use Rattle.site_message.specs.Vars.{vars_of}
-use Rattle.site_message.specs.Wire.{NamesAscend}
 
 module _ (p : List Stmt) (n limit : ℕ) (Q : Sent → Type 0)
     (spawns : (s : Store) (to : ℕ) (th : ThreadName) (code : CodeId) (vars : List VarName) → Q (with_own_bundle limit s (sent_message to (msg.Spawn th code vars [])))) (requests : (s : Store) (x : VarName) (t : Term) (th : ThreadName) → Q (with_own_bundle limit s (request x t th)))
@@ -114,6 +112,7 @@ module _ (p : List Stmt) (n limit : ℕ) (Q : Sent → Type 0)
 
   need_all : (s : Site) (th : ThreadName) (st : Stack) (need : Need) (d : Transition) → IsUnitFor p n limit s th st need d → All d
   need_all s th st (Waits x) d h = subst All (sym h.2) tt
+  need_all s th st (WaitsAny q) d h = subst All (sym h.2) tt
   need_all s th st (Binds a b) d h = subst All (sym h.3) (bind_all th st h.0 h.1 (h.0.site == s.records.site) s)
   need_all s th st (Takes kinds) d h =
       either_all th st s (thread_step p n limit th st kinds (fresh_names s kinds) None s) (effect_here p s (fresh_names s kinds) None st).cell d

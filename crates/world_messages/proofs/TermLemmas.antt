@@ -1,7 +1,6 @@
 -- Terms, stacks and contents of a site go on fitting the program.
 use Rattle.std.proofs.Common.{◌≡◌, ◌≢◌, ◌∙◌, sym, ap, refl, subst, ◌<◌, List, [], ◌∷◌, ◌++◌, length, ◌⊎◌, inl, inr, Bool, true, false, cond, Some, None}
 use Rattle.std.specs.Prelude.{Option, Contains, slice_get, unwrap_or}
-use Rattle.std.specs.Map.{lookup}
 use Rattle.std.proofs.lemmas.Option.{slice_get_within}
 use Rattle.indexmap.specs.IndexMap.{insert_entry}
 use Rattle.tree_node.specs.declared.names.VarName.{VarName}
@@ -12,7 +11,7 @@ use Rattle.tree_node.specs.declared.node.Node.{Node}
 use Rattle.tree_node.specs.declared.node.Node.TheVariants as node
 use Rattle.tree_node.specs.declared.node.Term.{Term}
 use Rattle.tree_node.specs.declared.node.Term.TheVariants as term
-use Rattle.tree_node.specs.Assoc.{value_of, with_optional_value}
+use Rattle.tree_node.specs.Assoc.{value_of}
 use Rattle.tree_node.specs.Each.{Each}
 use Rattle.tree_node.specs.Env.{env_for}
 use Rattle.tree_node.specs.declared.item.Item.TheVariants as item
@@ -28,19 +27,18 @@ use Rattle.kernel_syntax.specs.Program.{IsProgram}
 use Rattle.oz_model.specs.WellFormed.{IsMadeBy, IsNode, IsNodeOf, AreNodesOf}
 use Rattle.oz_model.specs.Effect.{Birth}
 use Rattle.oz_model.specs.Step.{threads_born, living_stack}
-use Rattle.oz_model.proofs.KindLemmas.{equal_cell_decides, cell_cases}
+use Rattle.oz_model.proofs.KindLemmas.{cell_cases}
 use Rattle.thread_machine.specs.Fits.{IsTellOf, NodeFits, TermFits, StackFits}
 use Rattle.thread_machine.specs.Fits as fits
 use Rattle.thread_machine.proofs.KeepLemmas.{stack_grows, equations_grow}
 use Rattle.thread_machine.proofs.FitLemmas.{begun_fits}
 use Rattle.token_chain.specs.declared.token.Token.TheVariants.{Here}
-use Rattle.site_model.specs.Site.{ThreadState, Threads, CellRecord, cell_record_in, unused_cell, runnable_threads}
+use Rattle.site_model.specs.Site.{ThreadState, Threads, CellRecord, cell_record_in, runnable_threads}
 use Rattle.thread_roster.specs.declared.mode.Mode.TheVariants.{Runs}
 use Rattle.thread_roster.specs.Threads.{wake_all}
 use Rattle.site_model.specs.Unit.{runnable_state}
-use Rattle.world_model.proofs.KeyLemmas.{goes_cases, woken_old}
+use Rattle.world_model.proofs.KeyLemmas.{woken_old}
 use Rattle.world_messages.specs.Fitting.{ThreadFits, TermsFit}
-use Rattle.tree_node.proofs.NameLemmas.{same_thread_decides}
 use Rattle.site_model.proofs.CellKeyLemmas.{place_here, place_other}
 
 -- ---- nodes of the program
@@ -62,6 +60,7 @@ node_fits p is (node.Proc q code formals vars) h = go (slice_get p code.0) refl 
     told (stmt.TellAtom left text) h b = absurd h
     told (stmt.TellRec left label fields) h b = absurd h
     told (stmt.Calc left op a c) h b = absurd h
+    told (stmt.Test left op a c) h b = absurd h
     told (stmt.Select left source by) h b = absurd h
     told (stmt.If subject first second) h b = absurd h
     told (stmt.Case subject pat first c d) h b = absurd h

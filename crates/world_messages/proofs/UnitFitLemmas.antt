@@ -27,7 +27,7 @@ use Rattle.site_message.specs.declared.message.Msg.{Msg}
 use Rattle.site_message.specs.declared.message.Msg.TheVariants as msg
 use Rattle.site_message.specs.declared.message.Sent.{Sent}
 use Rattle.oz_model.specs.WellFormed.{IsNode, IsNodeOf, AreNodesOf}
-use Rattle.oz_model.specs.Need.{Need, Waits, Binds, Takes, stack_need}
+use Rattle.oz_model.specs.Need.{Need, Waits, WaitsAny, Binds, Takes, stack_need}
 use Rattle.oz_model.specs.Effect.{Birth, CellChange, Stays, Made, Exchanged, Effect, tell_item}
 use Rattle.oz_model.specs.Step.{living_stack}
 use Rattle.oz_model.proofs.NameLemmas.{Each-weaker}
@@ -50,7 +50,7 @@ use Rattle.site_model.specs.Transition.{Transition, without_output, with_message
 use Rattle.site_model.specs.Variables.{own_binds}
 use Rattle.site_model.specs.Cells.{cell_reply, last_before, leave_row, forward_row, get_row, request_row, with_last_asker, with_own_request, with_exchange_waiting, exchange_stack}
 use Rattle.site_model.specs.Messages.{with_thread}
-use Rattle.site_model.specs.Unit.{with_fresh_names, birth_row, placement, step_row, after_effect, thread_step, fresh_names, effect_here, step_pick, bind_attempt, after_cell, with_stack, token_content, content_here, runnable_state, with_waiting, IsTokenHere, IsStepOrRequest, IsUnitFor, IsUnit}
+use Rattle.site_model.specs.Unit.{with_fresh_names, birth_row, placement, step_row, after_effect, thread_step, fresh_names, effect_here, step_pick, bind_attempt, after_cell, with_stack, token_content, content_here, runnable_state, with_waiting, with_waiting_any, IsTokenHere, IsStepOrRequest, IsUnitFor, IsUnit}
 use Rattle.site_model.specs.Fit.{EachOfMsg}
 use Rattle.world_model.proofs.PutLemmas.{nat_decides}
 use Rattle.world_model.proofs.MailLemmas.{nothing}
@@ -218,6 +218,9 @@ module _ (p : List Stmt) (is : IsProgram p) (n limit : ℕ) (i : ℕ) (R : VarNa
   waits_fits : (known : List VarName) (th : ThreadName) (st : Stack) (x : VarName) (s : Site) → ThreadFits p known st → SiteFits p i known s → SiteFits p i known (with_waiting th st x s)
   waits_fits known th st x s f h = record { names = h.names; terms = thread_with p is n limit i R known s.equations s.threads s.cell_records th st (site.Waits x) f h.terms }
 
+  waits_any_fits : (known : List VarName) (th : ThreadName) (st : Stack) (xs : List VarName) (s : Site) → ThreadFits p known st → SiteFits p i known s → SiteFits p i known (with_waiting_any th st xs s)
+  waits_any_fits known th st xs s f h = record { names = h.names; terms = thread_with p is n limit i R known s.equations s.threads s.cell_records th st (site.WaitsAny xs) f h.terms }
+
   -- a step that takes names
   names_fits : (known : List VarName) (s : Site) (th : ThreadName) (st : Stack) (kinds : List NameKind) → ThreadFits p known st → SiteFits p i known s → stack_need p s.equations st ≡ Takes kinds →
       EffectIsFit p (new_of p is n limit i R s kinds ++ known) (effect_here p s (fresh_names s kinds) None st)
@@ -252,6 +255,7 @@ module _ (p : List Stmt) (is : IsProgram p) (n limit : ℕ) (i : ℕ) (R : VarNa
 
   need_fits : (known : List VarName) (s : Site) (th : ThreadName) (st : Stack) (need : Need) (d : Transition) → ThreadFits p known st → SiteFits p i known s → stack_need p s.equations st ≡ need → IsUnitFor p n limit s th st need d → FitsOn p i R known d
   need_fits known s th st (Waits x) d f h e (z, at, g) = subst (FitsOn p i R known) (sym g) (still known (with_waiting th st z s) (waits_fits known th st z s f h))
+  need_fits known s th st (WaitsAny q) d f h e (xs, hangs, g) = subst (FitsOn p i R known) (sym g) (still known (with_waiting_any th st xs s) (waits_any_fits known th st xs s f h))
   need_fits known s th st (Binds a b) d f h e (u, t, root, g) = subst (FitsOn p i R known) (sym g) (bind_unit known s th st a b u t f h e root.0 (u.site == s.records.site) refl)
   need_fits known s th st (Takes kinds) d f h e g =
       either_fits known th st s (thread_step p n limit th st kinds (fresh_names s kinds) None s) (effect_here p s (fresh_names s kinds) None st).cell d f h

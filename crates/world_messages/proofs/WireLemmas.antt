@@ -1,5 +1,5 @@
 -- How many messages travel after one more entry.
-use Rattle.std.proofs.Common.{arith, ◌≡◌, ◌∙◌, sym, ap, refl, ℕ, suc, ◌+◌, ◌≤◌, List, [], ◌∷◌, ◌++◌, length, ◌⊎◌, inl, inr, Bool, true, false, cond, Some}
+use Rattle.std.proofs.Common.{arith, ◌≡◌, ◌∙◌, sym, ap, refl, ℕ, ◌+◌, ◌≤◌, List, [], ◌∷◌, ◌++◌, length, ◌⊎◌, inl, inr, Bool, true, false, cond, Some}
 use Rattle.std.specs.Prelude.{Contains, ◌||◌, not}
 use Rattle.std.specs.List.{count_by, filter, enumerate_from}
 use Rattle.tree_node.proofs.ClassLemmas.{Contains-cons_cases}

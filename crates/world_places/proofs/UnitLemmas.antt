@@ -19,7 +19,7 @@ use Rattle.kernel_syntax.specs.declared.stmt.Stmt.{Stmt}
 use Rattle.site_message.specs.declared.message.Msg.{Msg}
 use Rattle.site_message.specs.declared.message.Msg.TheVariants as msg
 use Rattle.site_message.specs.declared.message.Sent.{Sent}
-use Rattle.oz_model.specs.Need.{Need, Waits, Binds, Takes, stack_need}
+use Rattle.oz_model.specs.Need.{Need, Waits, WaitsAny, Binds, Takes, stack_need}
 use Rattle.oz_model.specs.Effect.{Birth, CellChange, Stays, Made, Exchanged, Effect}
 use Rattle.oz_model.specs.Step.{living_stack, threads_born}
 use Rattle.bind_protocol.specs.Rows.{sent_message, request}
@@ -33,7 +33,7 @@ use Rattle.site_model.specs.Transition.{Transition, without_output, with_message
 use Rattle.site_model.specs.Variables.{own_binds}
 use Rattle.site_model.specs.Cells.{exchange_stack, with_own_request, with_exchange_waiting, with_last_asker, request_row}
 use Rattle.site_model.specs.Messages.{with_thread}
-use Rattle.site_model.specs.Unit.{next_names, counter_after, counters_after, fresh_names, with_fresh_names, placement, birth_row, content_here, after_cell, runnable_state, after_effect, step_row, with_waiting, step_pick, effect_here, thread_step, bind_attempt, IsStepOrRequest, IsUnitFor}
+use Rattle.site_model.specs.Unit.{next_names, counter_after, counters_after, fresh_names, with_fresh_names, placement, birth_row, content_here, after_cell, runnable_state, after_effect, step_row, with_waiting, with_waiting_any, step_pick, effect_here, thread_step, bind_attempt, IsStepOrRequest, IsUnitFor}
 use Rattle.site_model.specs.Turn.{AreUnits, SiteTurn}
 use Rattle.world_model.proofs.CellLemmas.{OnlyCells, request_only}
 use Rattle.world_model.proofs.MailLemmas.{nothing}
@@ -117,6 +117,9 @@ module _ (p : List Stmt) (n limit i : ℕ) (C : ThreadName → Type 0) (Q : Pick
 
   waits_part : (th : ThreadName) (st : Stack) (x : VarName) (s : Site) → thread_state s th ≡ Some (st, Runs) → Part i C Q s (without_output (with_waiting th st x s))
   waits_part th st x s at = still_part i C Q s (without_output (with_waiting th st x s)) (record { counters = refl; sent = refl }) refl (waits_keep th st x s at) (λ k h. absurd (nothing k h))
+
+  waits_any_part : (th : ThreadName) (st : Stack) (xs : List VarName) (s : Site) → thread_state s th ≡ Some (st, Runs) → Part i C Q s (without_output (with_waiting_any th st xs s))
+  waits_any_part th st xs s at = still_part i C Q s (without_output (with_waiting_any th st xs s)) (record { counters = refl; sent = refl }) refl (goes C s (with_waiting_any th st xs s) th (st, Runs) (Some (st, mode.WaitsAny xs)) refl refl at) (λ k h. absurd (nothing k h))
 
   asks_part : (th : ThreadName) (st : Stack) (u : VarName) (t : Term) (s : Site) → thread_state s th ≡ Some (st, Runs) → Part i C Q s (with_messages (with_waiting th st u s) (with_own_bundle limit s.equations (request u t th) ∷ []))
   asks_part th st u t s at = still_part i C Q s (with_messages (with_waiting th st u s) (with_own_bundle limit s.equations (request u t th) ∷ [])) (record { counters = refl; sent = refl }) refl (waits_keep th st u s at) (λ k h. absurd (nothing k h))
@@ -264,6 +267,7 @@ module _ (p : List Stmt) (n limit i : ℕ) (C : ThreadName → Type 0) (Q : Pick
 
   need_part : (s : Site) (th : ThreadName) (st : Stack) (need : Need) (d : Transition) → s.records.site ≡ i → thread_state s th ≡ Some (st, Runs) → stack_need p s.equations st ≡ need → IsUnitFor p n limit s th st need d → Part i C Q s d
   need_part s th st (Waits x) d own at e (z, names, g) = subst (Part i C Q s) (sym g) (waits_part th st z s at)
+  need_part s th st (WaitsAny q) d own at e (xs, hangs, g) = subst (Part i C Q s) (sym g) (waits_any_part th st xs s at)
   need_part s th st (Binds a b) d own at e (u, t, root, g) = subst (Part i C Q s) (sym g) (bind_part s th st a b u t (u.site == s.records.site) at e)
   need_part s th st (Takes kinds) d own at e g =
       either_part th st s (thread_step p n limit th st kinds (fresh_names s kinds) None s) (effect_here p s (fresh_names s kinds) None st).cell d at

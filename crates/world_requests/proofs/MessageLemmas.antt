@@ -16,7 +16,7 @@ use Rattle.kernel_syntax.specs.declared.stmt.Stmt.{Stmt}
 use Rattle.site_message.specs.declared.message.Msg.{Msg}
 use Rattle.site_message.specs.declared.message.Msg.TheVariants as msg
 use Rattle.site_message.specs.declared.message.Sent.{Sent}
-use Rattle.oz_model.specs.Need.{Need, Waits, Binds, Takes, stack_need}
+use Rattle.oz_model.specs.Need.{Need, Waits, WaitsAny, Binds, Takes, stack_need}
 use Rattle.oz_model.specs.Effect.{CellChange, Stays, Made, Exchanged}
 use Rattle.oz_model.proofs.KindLemmas.{cells_differ, cell_cases}
 use Rattle.bind_protocol.proofs.ListLemmas.{one, count_append, count_cons}
@@ -101,6 +101,7 @@ module _ (p : List Stmt) (n limit i : ℕ) where
 
   need_own : (s : Site) (th : ThreadName) (st : Stack) (need : Need) (d : Transition) → s.records.site ≡ i → IsUnitFor p n limit s th st need d → Own d
   need_own s th st (Waits x) d own h = subst Own (sym h.2) tt
+  need_own s th st (WaitsAny q) d own h = subst Own (sym h.2) tt
   need_own s th st (Binds a b) d own h = subst Own (sym h.3) (bind_own th st h.0 h.1 (h.0.site == s.records.site) s)
   need_own s th st (Takes kinds) d own h =
       either_own th st s (thread_step p n limit th st kinds (fresh_names s kinds) None s) (effect_here p s (fresh_names s kinds) None st).cell d own

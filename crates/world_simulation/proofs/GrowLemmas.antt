@@ -14,7 +14,7 @@ use Rattle.kernel_syntax.specs.declared.stmt.Stmt.{Stmt}
 use Rattle.site_message.specs.declared.message.Msg.{Msg}
 use Rattle.site_message.specs.declared.message.Msg.TheVariants as msg
 use Rattle.oz_model.specs.Answers.{IsPartOf}
-use Rattle.oz_model.specs.Need.{Need, Waits, Binds, Takes, stack_need}
+use Rattle.oz_model.specs.Need.{Need, Waits, WaitsAny, Binds, Takes, stack_need}
 use Rattle.oz_model.specs.Effect.{Birth, CellChange, Stays, Made, Exchanged, Effect}
 use Rattle.bind_protocol.specs.Records.{is_own, knowledge}
 use Rattle.bind_protocol.specs.Rows.{sent_message}
@@ -127,6 +127,7 @@ module _ (p : List Stmt) (n limit : ℕ) where
 
   unit_for_grows : (th : ThreadName) (st : Stack) (s : Site) (need : Need) (d : Transition) → IsUnitFor p n limit s th st need d → Grows s d.site
   unit_for_grows th st s (Waits x) d (z, is, g) = subst (λ (t : Transition). Grows s t.site) (sym g) (λ y c. c)
+  unit_for_grows th st s (WaitsAny q) d (xs, is, g) = subst (λ (t : Transition). Grows s t.site) (sym g) (λ y c. c)
   unit_for_grows th st s (Binds a b) d (u, t, root, g) = subst (λ (e : Transition). Grows s e.site) (sym g) (attempt_grows th st u t (u.site == s.records.site) s)
   unit_for_grows th st s (Takes kinds) d g =
       either_grows th st s (thread_step p n limit th st kinds (fresh_names s kinds) None s) (effect_here p s (fresh_names s kinds) None st).cell d

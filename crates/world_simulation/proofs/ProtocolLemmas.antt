@@ -16,7 +16,7 @@ use Rattle.site_message.specs.Journal.{travelling}
 use Rattle.site_message.proofs.JournalLemmas.{travelling_tells}
 use Rattle.site_model.specs.Site.{Site}
 use Rattle.world_model.specs.World.{counters, managers, cell_records}
-use Rattle.world_model.specs.Names.{IsMade, IsHome}
+use Rattle.world_model.specs.Names.{IsMade, IsHome, IsHereName}
 use Rattle.world_model.specs.Chain.{HasChain, IsNowhere}
 use Rattle.world_model.specs.Simulated.{IsSimulated}
 use Rattle.world_variables.proofs.FollowLemmas.{value_each, all_in}
@@ -48,6 +48,19 @@ known_here p n i w (known, site, made) = record {
     weaker (name.Proc x) c = tt
     weaker (name.Thread x) c = tt
 
+-- what is known to a site is here
+known_is_here : (n : ℕ) (s : Site) → IsHome (IsKnownHere n s.records) s.equations s.threads → IsHome (IsHereName s.records) s.equations s.threads
+known_is_here n s h = record {
+  equations = Each-weaker _ _ (EachOfEquation-weaker (IsKnownHere n s.records) (IsHereName s.records) weaker) s.equations h.equations;
+  stacks = λ m v e. Each-weaker _ _ (EachOfItem-weaker (IsKnownHere n s.records) (IsHereName s.records) weaker) v.0 (h.stacks m v e);
+}
+  where
+    weaker : (x : Name) → IsKnownHere n s.records x → IsHereName s.records x
+    weaker (name.Var x) c = inr c.2
+    weaker (name.Cell x) c = tt
+    weaker (name.Proc x) c = tt
+    weaker (name.Thread x) c = tt
+
 protocols_hold : (p : List Stmt) (n : ℕ) (j : List Turn) (w : ℕ → Site) (s : State) → IsSimulated p n j w s → MessagesAreFit p n j w → WorldFits p n j w → NamedIn j w → ProtocolsHold p n j w
 protocols_hold p n j w s h fit fitting named = record {
   known = λ i e c. owned e (h.matches.parts.knowledge.known i e c);
@@ -55,7 +68,7 @@ protocols_hold p n j w s h fit fitting named = record {
   one = λ i x t r c d. h.matches.parts.knowledge.one x t r (h.matches.parts.knowledge.known i (x, t) c) (h.matches.parts.knowledge.known i (x, r) d);
   down = λ i x t c. h.matches.parts.knowledge.down x t (h.matches.parts.knowledge.known i (x, t) c);
   asks = λ k to x th t bundle at. (h.matches.parts.addressed k to (msg.BindReq x th t bundle) ((travelling_tells j k (record { to = to; msg = msg.BindReq x th t bundle })).1 at)).2;
-  here = h.matches.parts.homes;
+  here = λ i. known_is_here n (w i) (known_here p n i w (fitting.sites i));
   vars = λ i. known_here p n i w (fitting.sites i);
   others = λ i. record { equations = (named.0 i).equations; stacks = λ m v e. ((named.0 i).stacks m v e).1 };
   registered = h.matches.parts.told;

@@ -21,7 +21,7 @@ use Rattle.oz_model.specs.Answers.{LinksGoDown}
 use Rattle.site_model.specs.Site.{Site}
 use Rattle.site_model.specs.Run.{WorldRun}
 use Rattle.world_model.specs.World.{records, counters, managers, cell_records}
-use Rattle.world_model.specs.Names.{IsHome, IsMade, here_at, KnownAreMade, AreMailNamesMade}
+use Rattle.world_model.specs.Names.{IsHome, IsMade, IsHereName, KnownAreMade, AreMailNamesMade}
 use Rattle.world_model.specs.Chain.{HasChain, IsNowhere, AreGetsAddressed}
 use Rattle.world_model.specs.Matches.{equations_in, AreTold}
 use Rattle.world_messages.specs.Unfit.{MessagesAreFit, OnOthers}
@@ -46,7 +46,7 @@ pub record ProtocolsHold (p : List Stmt) (n : ℕ) (j : List Turn) (w : ℕ → 
   pub one : (i : ℕ) → HasOneEach (w i).equations
   pub down : (i : ℕ) → LinksGoDown (w i).equations
   pub asks : (k to : ℕ) (x : VarName) (th : ThreadName) (t : Term) (bundle : List Equation) → IsTravelling j k (record { to = to; msg = msg.BindReq x th t bundle }) → IsLower t x
-  pub here : (i : ℕ) → IsHome (here_at (records w) i) (w i).equations (w i).threads
+  pub here : (i : ℕ) → IsHome (IsHereName (records w i)) (w i).equations (w i).threads
   pub vars : (i : ℕ) → IsHome (IsKnownHere n (w i).records) (w i).equations (w i).threads
   pub others : (i : ℕ) → IsHome IsOfSite (w i).equations (w i).threads
   pub registered : AreTold (records w) (travelling j)

@@ -64,6 +64,7 @@ module _ (mail more : Mail) (out : List Sent) (posts : Posts mail more out) wher
   waiting_posts p eqs records threads c new k = record {
     asks = λ i to x t n bundle h. go to x t n bundle i (posts.from i to _ h);
     waits = λ i n st x h. let o = k.waits i n st x h in (o.0, o.1, still n x i st o.2);
+    compares = k.compares;
     exchanges = k.exchanges;
   }
     where
@@ -129,6 +130,7 @@ module _ (k : ℕ) (mail less : Mail) (gone : Gone k mail less) where
   waiting_gone p eqs records threads c bound o = record {
     asks = λ i to x t n bundle h. o.asks i to x t n bundle (gone.old i to _ h).0;
     waits = λ i n st x h. let q = o.waits i n st x h in (q.0, q.1, still n x i st q.2);
+    compares = o.compares;
     exchanges = o.exchanges;
   }
     where
@@ -196,6 +198,7 @@ module _ (records more : ℕ → Records) (wide : Wider records more) where
   waiting_wider p eqs threads mail c k = record {
     asks = k.asks;
     waits = λ i n st x h. let o = k.waits i n st x h in (o.0, here_wider i x o.1, o.2);
+    compares = λ i n st xs h. let o = k.compares i n st xs h in (o.0, λ x m. let q = o.1 x m in (q.0, here_wider i x q.1));
     exchanges = k.exchanges;
   }
 

@@ -1,27 +1,27 @@
--- Units that end in waiting: for a variable, and for the answer of an owner elsewhere.
-use Rattle.std.proofs.Common.{◌≡◌, refl, ℕ, List, [], ◌∷◌, ◌++◌, ◌⊎◌, inl, inr, Some}
+-- Units that end in waiting: for a variable, for one of several, and for the answer of an owner elsewhere.
+use Rattle.std.proofs.Common.{◌≡◌, refl, ℕ, List, [], ◌∷◌, ◌++◌, inl, Some}
 use Rattle.std.specs.Prelude.{Contains}
 use Rattle.tree_node.specs.declared.names.VarName.{VarName}
 use Rattle.tree_node.specs.declared.names.ThreadName.{ThreadName}
 use Rattle.tree_node.specs.declared.names.Name.{Name}
 use Rattle.tree_node.specs.declared.names.Name.TheVariants as name
 use Rattle.tree_node.specs.declared.node.Term.{Term}
-use Rattle.tree_node.specs.declared.node.Term.TheVariants as term
 use Rattle.tree_node.specs.Assoc.{value_of}
+use Rattle.tree_node.specs.Compare.{Pair, Open, compared}
 use Rattle.tree_node.specs.Each.{Each}
 use Rattle.tree_node.specs.Names.{EachOfEquation}
 use Rattle.tree_node.specs.State.{Stack, State, equal_thread}
-use Rattle.tree_node.specs.Store.{Store, Equation, Same, here, onward, IsFree, IsClassName}
+use Rattle.tree_node.specs.Store.{Equation, IsFree, IsClassName}
 use Rattle.kernel_syntax.specs.declared.stmt.Stmt.{Stmt}
 use Rattle.site_message.specs.declared.message.Msg.TheVariants as msg
-use Rattle.oz_model.specs.Need.{Waits, stack_need}
+use Rattle.oz_model.specs.Need.{Waits, WaitsAny, stack_need}
 use Rattle.oz_model.proofs.NameLemmas.{Each-weaker}
 use Rattle.bind_protocol.specs.Rows.{request}
 use Rattle.thread_roster.specs.declared.mode.Mode.TheVariants.{Runs}
 use Rattle.thread_roster.specs.declared.mode.Mode.TheVariants as site
 use Rattle.site_model.specs.Transition.{without_output, with_messages}
 use Rattle.site_model.specs.Bundle.{with_own_bundle, bundle_of}
-use Rattle.site_model.specs.Unit.{with_waiting}
+use Rattle.site_model.specs.Unit.{with_waiting, with_waiting_any}
 use Rattle.site_model.proofs.BundleLemmas.{bundle_known}
 use Rattle.world_model.specs.World.{World, after_transition, mail_from, eqs, records, threads, counters}
 use Rattle.world_model.specs.Names.{IsHere, IsMade}
@@ -32,7 +32,6 @@ use Rattle.world_variables.proofs.TellLemmas.{each_of}
 use Rattle.world_variables.proofs.ModeLemmas.{mode_parts, ask_parts}
 use Rattle.world_variables.proofs.RowLemmas.{to_put, unsent}
 use Rattle.world_variables.specs.Laws.{PartsIn}
-use Rattle.tree_node.proofs.OrderLemmas.{Each-member}
 
 module _ (p : List Stmt) (hereF : ℕ → Name → Type 0) (w : World) (c : State) (i : ℕ) (n : ThreadName) (st : Stack) (h : PartsIn p hereF w c) (at : value_of equal_thread (threads w.sites i) n ≡ Some (st, Runs)) where
   pub wait_row : (x z : VarName) → stack_need p (eqs w.sites i) st ≡ Waits x → IsClassName (eqs w.sites i) x z → IsHere (records w.sites i) z → PartsIn p hereF (after_transition w i (without_output (with_waiting n st z (w.sites i)))) c
@@ -40,6 +39,13 @@ module _ (p : List Stmt) (hereF : ℕ → Name → Type 0) (w : World) (c : Stat
       unsent p hereF w.sites i (with_waiting n st z (w.sites i)) w.mail w.sent c
       (rw (at_own (eqs w.sites) i, at_own (records w.sites) i, at_own (counters w.sites) i)
       (mode_parts p hereF (eqs w.sites) (records w.sites) (threads w.sites) (counters w.sites) w.mail c h i n st (site.Waits z) at (free, is, inl (x, need, joined))))
+
+  pub wait_any_row : (q : Pair) (xs : List VarName) → stack_need p (eqs w.sites i) st ≡ WaitsAny q → compared (eqs w.sites i) q ≡ Open xs → ((x : VarName) → Contains xs x → IsFree (eqs w.sites i) x × IsHere (records w.sites i) x) →
+      PartsIn p hereF (after_transition w i (without_output (with_waiting_any n st xs (w.sites i)))) c
+  wait_any_row q xs need hangs each =
+      unsent p hereF w.sites i (with_waiting_any n st xs (w.sites i)) w.mail w.sent c
+      (rw (at_own (eqs w.sites) i, at_own (records w.sites) i, at_own (counters w.sites) i)
+      (mode_parts p hereF (eqs w.sites) (records w.sites) (threads w.sites) (counters w.sites) w.mail c h i n st (site.WaitsAny xs) at ((q, need, hangs), each)))
 
   pub ask_row : (limit : ℕ) (u : VarName) (t : Term) → IsFree (eqs w.sites i) u → IsHere (records w.sites i) u → IsHere (records w.sites u.site) u → HasAllowedBind p (eqs w.sites i) st u t → EachOfEquation (IsMade (counters w.sites)) (u, t) → IsMade (counters w.sites) (name.Thread n) →
       PartsIn p hereF (after_transition w i (with_messages (with_waiting n st u (w.sites i)) (with_own_bundle limit (w.sites i).equations (request u t n) ∷ []))) c

@@ -10,13 +10,14 @@ use Rattle.tree_node.specs.declared.names.NameKind.{NameKind}
 use Rattle.tree_node.specs.declared.node.Term.{Term}
 use Rattle.tree_node.specs.declared.pick.Pick.{Pick}
 use Rattle.tree_node.specs.Assoc.{value_of}
+use Rattle.tree_node.specs.Compare.{Pair, Open, compared}
 use Rattle.tree_node.specs.Each.{Each}
 use Rattle.tree_node.specs.Names.{EachOfEquation, EachOfStack, EachOfThread}
 use Rattle.tree_node.specs.State.{Stack, State, equal_thread}
 use Rattle.tree_node.specs.Store.{Store, Equation, IsSound, IsClassName}
 use Rattle.kernel_syntax.specs.declared.stmt.Stmt.{Stmt}
 use Rattle.site_message.specs.declared.message.Msg.TheVariants as msg
-use Rattle.oz_model.specs.Need.{Need, Waits, Binds, Takes, stack_need, kinds_of}
+use Rattle.oz_model.specs.Need.{Need, Waits, WaitsAny, Binds, Takes, stack_need, kinds_of}
 use Rattle.oz_model.specs.Effect.{Effect, Birth, CellChange, Stays, Made, Exchanged, stack_effect}
 use Rattle.oz_model.specs.Run.{IsRun}
 use Rattle.oz_model.specs.Step.{IsBindFor, next}
@@ -32,16 +33,17 @@ use Rattle.site_model.specs.Bundle as Bundle
 use Rattle.site_model.specs.Transition.{Transition, without_output, with_messages}
 use Rattle.site_model.specs.Variables.{own_binds}
 use Rattle.site_model.specs.Messages as Receive
-use Rattle.site_model.specs.Unit.{IsStepOrRequest, IsRootBind, IsNamedStep, IsUnitFor, IsUnit, bind_attempt, thread_step, fresh_names, next_names, step_row, with_fresh_names, step_pick, birth_row, with_waiting, placement}
+use Rattle.site_model.specs.Unit.{IsStepOrRequest, IsRootBind, IsNamedStep, IsUnitFor, IsUnit, bind_attempt, thread_step, fresh_names, next_names, step_row, with_fresh_names, step_pick, birth_row, with_waiting, with_waiting_any, placement}
 use Rattle.world_model.specs.World.{World, after_transition, records, counters}
 use Rattle.world_variables.specs.Plain.{IsCellUnit}
 use Rattle.world_model.specs.Names.{IsHere, IsMade, here_at}
 use Rattle.world_model.specs.Matches.{IsNumbered}
 use Rattle.world_model.proofs.PutLemmas.{field_kept, nat_decides}
 use Rattle.world_variables.proofs.UnitLemmas.{SiteStep, CellAgrees, UnitDone, unit_step}
-use Rattle.world_variables.proofs.AttemptLemmas.{wait_row, ask_row}
+use Rattle.world_variables.proofs.AttemptLemmas.{wait_row, wait_any_row, ask_row}
 use Rattle.world_variables.specs.Laws.{PartsIn}
-use Rattle.oz_model.proofs.EffectNames.{stack_need_has}
+use Rattle.oz_model.proofs.EffectNames.{stack_need_has, stack_several_has}
+use Rattle.oz_model.proofs.OpenLemmas.{open_free, open_has}
 use Rattle.tree_node.proofs.NameLemmas.{same_thread_decides}
 use Rattle.tree_node.proofs.SoundLemmas.{class_names}
 
@@ -136,6 +138,19 @@ module _ (p : List Stmt) (w : World) (c : State) (n limit i : ℕ) (th : ThreadN
             (stack_need_has (here_at (records w.sites) i) p s.equations st x (inl nob) (h.homes i).equations ((h.homes i).stacks th (st, site.Runs) at) need)))),
       )
 
+      waits_any : (q : Pair) (xs : List VarName) → stack_need p s.equations st ≡ WaitsAny q → compared s.equations q ≡ Open xs → d ≡ without_output (with_waiting_any th st xs s) → Follows p w c i d
+      waits_any q xs need hangs is = subst (λ (t : Transition). Follows p w c i t) (sym is) (
+        c,
+        refl,
+        stands (with_waiting_any th st xs s) (without_output s) refl refl
+            (wait_any_row p (here_at (records w.sites)) w c i th st h at q xs need hangs (λ x k. (
+              (open_free s.equations q xs x (h.kept i).sound hangs k).0,
+              at_site x
+                  (open_has (here_at (records w.sites) i) s.equations (h.homes i).equations q xs x
+                  (stack_several_has (here_at (records w.sites) i) p s.equations st q (inl nob) (h.homes i).equations ((h.homes i).stacks th (st, site.Runs) at) need) hangs k),
+            ))),
+      )
+
       binds : (a b : Term) → stack_need p s.equations st ≡ Binds a b → (u : VarName) (t : Term) → IsRootBind s.equations a b u t → d ≡ bind_attempt p n limit th st u t (u.site == s.records.site) s → Follows p w c i d
       binds a b need u t (allows, free, low, root) is = go (u.site == s.records.site) refl is
         where
@@ -189,5 +204,6 @@ module _ (p : List Stmt) (w : World) (c : State) (n limit i : ℕ) (th : ThreadN
 
       go : (q : Need) → stack_need p s.equations st ≡ q → IsUnitFor p n limit s th st q d → Goal
       go (Waits x) e (z, class, is) = inr (waits x z e class is)
+      go (WaitsAny q) e (xs, hangs, is) = inr (waits_any q xs e hangs is)
       go (Binds a b) e (u, t, root, is) = inr (binds a b e u t root is)
       go (Takes kinds) e t = takes kinds e t

@@ -1,6 +1,6 @@
 -- Journals: where each site's entries are its turns, the centre follows them all.
-use Rattle.std.proofs.Common.{arith, ◌≡◌, ◌∙◌, sym, ap, refl, ℕ, zero, suc, ◌+◌, ◌<◌, ◌≤◌, List, [], ◌∷◌, ◌++◌, Bool, true, false, cond, Some, None, length, length-append}
-use Rattle.std.specs.Prelude.{Option, ◌==◌, ◌||◌, not, slice_get}
+use Rattle.std.proofs.Common.{arith, ◌≡◌, ◌∙◌, sym, ap, refl, ℕ, ◌+◌, ◌<◌, ◌≤◌, List, [], ◌∷◌, ◌++◌, Bool, true, false, cond, Some, None, length, length-append}
+use Rattle.std.specs.Prelude.{Option, ◌==◌, ◌||◌, not}
 use Rattle.std.specs.List.{filter, enumerate_from}
 use Rattle.site_message.specs.declared.message.Sent.{Sent}
 use Rattle.site_message.specs.declared.turn.Turn.{Turn}

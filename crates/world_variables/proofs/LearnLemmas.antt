@@ -28,6 +28,7 @@ use Rattle.oz_model.specs.Effect.{Effect}
 use Rattle.oz_model.proofs.DownLemmas.{lower_binds}
 use Rattle.oz_model.proofs.WithinLemmas.{more_is_within}
 use Rattle.oz_model.proofs.KeepLemmas.{steps_stay, waits_stay, binds_stay}
+use Rattle.oz_model.proofs.TestLemmas.{open_waits_stay}
 use Rattle.oz_model.proofs.NameLemmas.{Each-weaker}
 use Rattle.bind_protocol.specs.Records.{Records, knowledge, IsKnown, sites_in}
 use Rattle.site_model.specs.Site.{Threads}
@@ -38,10 +39,10 @@ use Rattle.thread_roster.specs.declared.mode.Mode.TheVariants as site
 use Rattle.world_model.specs.World.{Mail, IsOnItsWay, at_put}
 use Rattle.world_model.specs.Placed.{IsPlaced}
 use Rattle.world_model.specs.Names.{IsHere, IsHome, AreHome}
-use Rattle.world_model.specs.Matches.{equations_in, EquationsMatch, RecordsMatch, AllRecordsMatch, ThreadsMatch, IsTold, AreTold, IsAddressed, AreAddressed, IsBound, HasAllowedBind, IsWaiting, NeedsFirst, IsAsked, IsExchange, IsAwaited, WaitersMatch}
+use Rattle.world_model.specs.Matches.{equations_in, EquationsMatch, RecordsMatch, AllRecordsMatch, ThreadsMatch, IsTold, AreTold, IsAddressed, AreAddressed, IsBound, HasAllowedBind, IsWaiting, IsWaitingAny, HangsOn, NeedsFirst, IsAsked, IsExchange, IsAwaited, WaitersMatch}
 use Rattle.world_model.proofs.PutLemmas.{two_all, at_all, at_here}
 use Rattle.world_model.proofs.MailLemmas.{sent_to, Posts}
-use Rattle.world_model.proofs.KeyLemmas.{woken_new, woken_old, wake_waits, wake_other, wake_cell}
+use Rattle.world_model.proofs.KeyLemmas.{woken_new, woken_old, wake_waits, wake_several, wake_other, wake_cell}
 use Rattle.bind_protocol.specs.Learn.{HasLearned}
 
 -- ---- stores
@@ -91,6 +92,12 @@ needs_more p s c st x sound one down more free (z, need, same) =
   where
     no_node : (z : VarName) → Same c z x → node_of c z ≡ None
     no_node z joined = class_none c z x joined (lower_binds c x (term.Node (node.Int (pos 0))) one down free tt).0
+
+-- a comparison that hangs on variables that are still free
+pub hangs_more : (p : List Stmt) (s c : Store) (st : Stack) (xs : List VarName) → IsSound c → HasOneEach c → LinksGoDown c → IsPartOf s c → ((x : VarName) → Contains xs x → IsFree c x) → HangsOn p s st xs → HangsOn p c st xs
+hangs_more p s c st xs sound one down more free (q, need, hangs) =
+    let kept = open_waits_stay p s c st q xs sound (more_is_within s c more) one need hangs (λ x h. (free x h, (lower_binds c x (term.Node (node.Int (pos 0))) one down (free x h) tt).0)) in
+    (q, kept.0, kept.1)
 
 exchange_more : (p : List Stmt) (s c : Store) (st : Stack) (d : CellName) → IsSound c → IsPartOf s c → IsExchange p s st d → IsExchange p c st d
 exchange_more p s c st d sound more (new, told, need, is) =
@@ -211,6 +218,15 @@ module _ (p : List Stmt) (eqs : ℕ → Store) (records : ℕ → Records) (thre
       back : (n : ThreadName) (st : Stack) (y : VarName) → (m : Mode) × (value_of equal_thread (threads j) n ≡ Some (st, m)) × (wake x m ≡ site.Waits y) → IsWaiting threads j n st y × (j ≡ j → y ≢ x)
       back n st y (m, at, e) =
           let modes = wake_waits x y m e in
+          (subst (λ (o : Mode). value_of equal_thread (threads j) n ≡ Some (st, o)) modes.0 at, λ e. modes.1)
+
+  several_old : (i : ℕ) (n : ThreadName) (st : Stack) (ys : List VarName) → IsWaitingAny threads' i n st ys → IsWaitingAny threads i n st ys × (i ≡ j → (y : VarName) → Contains ys y → y ≢ x)
+  several_old = at_all threads j (wake_all x (threads j)) (λ i (ts : Threads). (n : ThreadName) (st : Stack) (ys : List VarName) → value_of equal_thread ts n ≡ Some (st, site.WaitsAny ys) → IsWaitingAny threads i n st ys × (i ≡ j → (y : VarName) → Contains ys y → y ≢ x))
+      (λ n st ys h. back n st ys (woken_old x (threads j) n st (site.WaitsAny ys) h)) (λ i other n st ys h. (h, λ e. absurd (other e)))
+    where
+      back : (n : ThreadName) (st : Stack) (ys : List VarName) → (m : Mode) × (value_of equal_thread (threads j) n ≡ Some (st, m)) × (wake x m ≡ site.WaitsAny ys) → IsWaitingAny threads j n st ys × (j ≡ j → (y : VarName) → Contains ys y → y ≢ x)
+      back n st ys (m, at, e) =
+          let modes = wake_several x ys m e in
           (subst (λ (o : Mode). value_of equal_thread (threads j) n ≡ Some (st, o)) modes.0 at, λ e. modes.1)
 
   waits_new : (i : ℕ) (n : ThreadName) (st : Stack) (y : VarName) → y ≢ x → IsWaiting threads i n st y → IsWaiting threads' i n st y
@@ -340,6 +356,7 @@ module _ (p : List Stmt) (eqs : ℕ → Store) (records : ℕ → Records) (thre
   learnt_waiting k kept w = record {
     asks = λ i to y r n bundle h. asked i to y r n bundle (l.posts.from i to _ h);
     waits = λ i n st y h. let old = waits_old i n st y h in waiting i n st y old.1 (w.waits i n st y old.0);
+    compares = λ i n st ys h. let old = several_old i n st ys h in hanging i n st ys old.1 (w.compares i n st ys old.0);
     exchanges = λ i n st e h. exchange_more p (eqs i) (eqs' i) st e (kept i).sound (grow i) (w.exchanges i n st e (cell_old i n st e h));
   }
     where
@@ -372,6 +389,14 @@ module _ (p : List Stmt) (eqs : ℕ → Store) (records : ℕ → Records) (thre
           go (inl needs) = inl (needs_more p (eqs i) (eqs' i) st y (kept i).sound (learnt_part k i).0 (learnt_part k i).1 (grow i) free_now needs)
           go (inr (inl h)) = inr (inl (h.0, h.1, h.2, l.posts.old h.0 _ _ h.3))
           go (inr (inr q)) = inr (inr (grown y q))
+
+      hanging : (i : ℕ) (n : ThreadName) (st : Stack) (ys : List VarName) → (i ≡ j → (y : VarName) → Contains ys y → y ≢ x) → HangsOn p (eqs i) st ys × ((y : VarName) → Contains ys y → IsFree (eqs i) y × IsHere (records i) y) →
+          HangsOn p (eqs' i) st ys × ((y : VarName) → Contains ys y → IsFree (eqs' i) y × IsHere (records' i) y)
+      hanging i n st ys other (hangs, each) =
+          (hangs_more p (eqs i) (eqs' i) st ys (kept i).sound (learnt_part k i).0 (learnt_part k i).1 (grow i) (λ y h. free_now y h) hangs, λ y h. (free_now y h, here_more i y (each y h).1))
+        where
+          free_now : (y : VarName) → Contains ys y → IsFree (eqs' i) y
+          free_now y h = free_new i y (λ e. other e y h) (each y h).0
 
   pub learnt_homes : (here : ℕ → Name → Type 0) → EachOfEquation (here j) (x, t) → AreHome here eqs threads → AreHome here eqs' threads'
   learnt_homes here is k = two_all eqs threads j ((x, t) ∷ eqs j) (wake_all x (threads j)) (λ i (s : Store) (ts : Threads). IsHome (here i) s ts) home (λ i other. k i)

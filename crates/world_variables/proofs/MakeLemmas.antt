@@ -1,5 +1,5 @@
 -- Names that a site makes.
-use Rattle.std.proofs.Common.{rules, arith, ◌≡◌, ◌∙◌, sym, ap, refl, subst, ℕ, ◌≤◌, List, [], ◌∷◌, map, ◌⊎◌, inl, inr, Some, None}
+use Rattle.std.proofs.Common.{rules, arith, ◌≡◌, ◌∙◌, sym, ap, refl, subst, ℕ, ◌≤◌, List, [], ◌∷◌, ◌⊎◌, inl, inr, Some, None}
 use Rattle.std.specs.Prelude.{Option, Contains, ◌≢◌, ◌↔◌, is_some, IsTrue}
 use Rattle.tree_node.specs.declared.names.VarName.{VarName}
 use Rattle.tree_node.specs.declared.names.Name.{Name}

@@ -1,13 +1,13 @@
 -- Names that are met, and registrations.
-use Rattle.std.proofs.Common.{◌≡◌, ◌∙◌, sym, ap, refl, subst, ℕ, List, [], ◌∷◌, ◌++◌, ◌⊎◌, inl, inr, Bool, true, false, Some, None, append-nil}
+use Rattle.std.proofs.Common.{◌≡◌, ◌∙◌, sym, ap, refl, subst, ℕ, List, [], ◌∷◌, ◌++◌, ◌⊎◌, inl, inr, Some, None, append-nil}
 use Rattle.std.specs.Prelude.{Option, Contains, ◌≢◌, ◌↔◌, is_some, IsTrue}
 use Rattle.tree_node.specs.declared.names.VarName.{VarName}
 use Rattle.tree_node.specs.declared.names.Name.{Name}
 use Rattle.tree_node.specs.declared.names.Name.TheVariants as name
 use Rattle.tree_node.specs.declared.node.Term.{Term}
 use Rattle.tree_node.specs.State.{State}
-use Rattle.tree_node.specs.Store.{Store, equal_var}
-use Rattle.tree_node.proofs.ClassLemmas.{same_name_decides, Contains-cons_cases, Contains-head}
+use Rattle.tree_node.specs.Store.{Store}
+use Rattle.tree_node.proofs.ClassLemmas.{Contains-cons_cases, Contains-head}
 use Rattle.kernel_syntax.specs.declared.stmt.Stmt.{Stmt}
 use Rattle.site_message.specs.declared.message.Msg.{Msg}
 use Rattle.site_message.specs.declared.message.Msg.TheVariants as msg

@@ -1,6 +1,6 @@
 -- Where threads are, as one goes on, is born, leaves and lands.
 use Rattle.std.proofs.Common.{rules, ◌≡◌, ◌∙◌, sym, ap, refl, subst, ℕ, List, ◌∷◌, ◌⊎◌, inl, inr, Bool, true, false, cond, Some, None}
-use Rattle.std.specs.Prelude.{Option, ◌≢◌}
+use Rattle.std.specs.Prelude.{Option, Contains, ◌≢◌}
 use Rattle.tree_node.specs.declared.names.VarName.{VarName}
 use Rattle.tree_node.specs.declared.names.CellName.{CellName}
 use Rattle.tree_node.specs.declared.names.ThreadName.{ThreadName}
@@ -19,7 +19,7 @@ use Rattle.thread_roster.specs.declared.mode.Mode.TheVariants as site
 use Rattle.site_model.specs.Unit.{runnable_state}
 use Rattle.world_model.specs.World.{Mail, at_put}
 use Rattle.world_model.specs.Names.{IsHere, AreHome}
-use Rattle.world_model.specs.Matches.{IsThreadAt, IsInSpawn, ThreadsMatch, IsWaiting, NeedsFirst, IsAsked, IsExchange, IsAwaited, WaitersMatch}
+use Rattle.world_model.specs.Matches.{IsThreadAt, IsInSpawn, ThreadsMatch, IsWaiting, IsWaitingAny, HangsOn, NeedsFirst, IsAsked, IsExchange, IsAwaited, WaitersMatch}
 use Rattle.world_model.proofs.PutLemmas.{at_all, at_here}
 use Rattle.world_model.proofs.MailLemmas.{Gone}
 use Rattle.world_model.proofs.KeyLemmas.{goes_cases, goes_here, goes_there}
@@ -76,6 +76,7 @@ module _ (threads : ℕ → Threads) (i : ℕ) (n : ThreadName) (st : Stack) (no
   waiting_fronted p eqs records mail c w = record {
     asks = λ k to x t o bundle h. asked x t o (w.asks k to x t o bundle h);
     waits = λ j o su x h. wait j o su x (fronted_old j o (su, site.Waits x) h);
+    compares = λ j o su xs h. compare j o su xs (fronted_old j o (su, site.WaitsAny xs) h);
     exchanges = λ j o su d h. exchange j o su d (fronted_old j o (su, WaitsFor d) h);
   }
     where
@@ -87,6 +88,11 @@ module _ (threads : ℕ → Threads) (i : ℕ) (n : ThreadName) (st : Stack) (no
           IsFree (eqs j) x × IsHere (records j) x × (NeedsFirst p (eqs j) su x ⊎ IsAsked mail c o x)
       wait j o su x (inl e) = let modes : site.Waits x ≡ Runs = ap (λ (v : ThreadState). v.1) e.2 in cc
       wait j o su x (inr h) = w.waits j o su x h.1
+
+      compare : (j : ℕ) (o : ThreadName) (su : Stack) (xs : List VarName) → ((j ≡ i) × (o ≡ n) × (◌≡◌ {A = ThreadState} (su, site.WaitsAny xs) (st, Runs))) ⊎ ((n ≢ o) × IsWaitingAny threads j o su xs) →
+          HangsOn p (eqs j) su xs × ((x : VarName) → Contains xs x → IsFree (eqs j) x × IsHere (records j) x)
+      compare j o su xs (inl e) = let modes : site.WaitsAny xs ≡ Runs = ap (λ (v : ThreadState). v.1) e.2 in cc
+      compare j o su xs (inr h) = w.compares j o su xs h.1
 
       exchange : (j : ℕ) (o : ThreadName) (su : Stack) (d : CellName) → ((j ≡ i) × (o ≡ n) × (◌≡◌ {A = ThreadState} (su, WaitsFor d) (st, Runs))) ⊎ ((n ≢ o) × (value_of equal_thread (threads j) o ≡ Some (su, WaitsFor d))) → IsExchange p (eqs j) su d
       exchange j o su d (inl e) = let modes : WaitsFor d ≡ Runs = ap (λ (v : ThreadState). v.1) e.2 in cc
@@ -303,6 +309,7 @@ module _ (threads : ℕ → Threads) (i : ℕ) (n : ThreadName) (st : Stack) (r 
   waiting_goes p eqs records mail c w = record {
     asks = λ k to x t o bundle h. asked x t o (w.asks k to x t o bundle h);
     waits = λ j o su x h. wait j o su x (goes_old j o (su, site.Waits x) h);
+    compares = λ j o su xs h. compare j o su xs (goes_old j o (su, site.WaitsAny xs) h);
     exchanges = λ j o su d h. exchange j o su d (goes_old j o (su, WaitsFor d) h);
   }
     where
@@ -314,6 +321,11 @@ module _ (threads : ℕ → Threads) (i : ℕ) (n : ThreadName) (st : Stack) (r 
           IsFree (eqs j) x × IsHere (records j) x × (NeedsFirst p (eqs j) su x ⊎ IsAsked mail c o x)
       wait j o su x (inl e) = let no = e.3 in cc
       wait j o su x (inr h) = w.waits j o su x h.1
+
+      compare : (j : ℕ) (o : ThreadName) (su : Stack) (xs : List VarName) → ((j ≡ i) × (o ≡ n) × (r ≡ Some su) × (site.WaitsAny xs ≡ Runs)) ⊎ ((j ≡ i → n ≢ o) × IsWaitingAny threads j o su xs) →
+          HangsOn p (eqs j) su xs × ((x : VarName) → Contains xs x → IsFree (eqs j) x × IsHere (records j) x)
+      compare j o su xs (inl e) = let no = e.3 in cc
+      compare j o su xs (inr h) = w.compares j o su xs h.1
 
       exchange : (j : ℕ) (o : ThreadName) (su : Stack) (d : CellName) → ((j ≡ i) × (o ≡ n) × (r ≡ Some su) × (WaitsFor d ≡ Runs)) ⊎ ((j ≡ i → n ≢ o) × (value_of equal_thread (threads j) o ≡ Some (su, WaitsFor d))) → IsExchange p (eqs j) su d
       exchange j o su d (inl e) = let no = e.3 in cc

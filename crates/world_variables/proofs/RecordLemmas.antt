@@ -1,22 +1,14 @@
 -- What a site knows after its records changed.
-use Rattle.std.proofs.Common.{arith, ◌≡◌, ◌∙◌, sym, ap, refl, subst, ℕ, List, [], ◌∷◌, ◌++◌, ◌⊎◌, inl, inr, Bool, true, false, cond, Some, None}
-use Rattle.std.specs.Prelude.{Option, Contains, ◌≢◌, is_some, IsTrue}
+use Rattle.std.proofs.Common.{arith, ◌≡◌, ap, refl, ℕ, [], ◌⊎◌, inl, inr, Some, None}
+use Rattle.std.specs.Prelude.{Option, Contains}
 use Rattle.tree_node.specs.declared.names.VarName.{VarName}
 use Rattle.tree_node.specs.declared.node.Term.{Term}
-use Rattle.tree_node.specs.Store.{equal_var}
-use Rattle.tree_node.proofs.ClassLemmas.{same_name_decides, Contains-head}
-use Rattle.proxy_table.specs.Proxies.{entry_of}
-use Rattle.proxy_table.specs.Proxies as proxies
 use Rattle.variable_owner.specs.declared.owners.Owner.{Owner}
 use Rattle.variable_owner.specs.declared.owners.Owner.TheVariants.{Open, Bound}
-use Rattle.variable_owner.specs.Owners.{owner_of, sites_of, with_owner}
-use Rattle.variable_owner.specs.Owners as owners
-use Rattle.bind_protocol.specs.Records.{Records, is_own, knowledge, owner_knows, IsKnown, sites_in}
-use Rattle.bind_protocol.specs.Rows.{after_make, after_meet, meet_sends, register, after_register, after_ask, after_binding}
-use Rattle.bind_protocol.proofs.LookLemmas.{in_here, in_other, last_here, last_other, owner_here, owner_other, proxy_here, proxy_other}
-use Rattle.std.proofs.lemmas.List.Elements.{Contains-append_left, Contains-append_right}
-use Rattle.world_model.proofs.PutLemmas.{nat_decides}
-use Rattle.bind_protocol.proofs.LearnLemmas.{own_is, not_own, owner_at, open_at, meet_case, owner_known, proxy_known}
+use Rattle.variable_owner.specs.Owners.{owner_of, sites_of}
+use Rattle.bind_protocol.specs.Records.{Records, knowledge, owner_knows, IsKnown, sites_in}
+use Rattle.bind_protocol.specs.Rows.{after_meet}
+use Rattle.bind_protocol.proofs.LearnLemmas.{own_is, meet_case}
 use Rattle.bind_protocol.specs.Learn.{MeetCase}
 
 pub bound_knows : (b : Records) (x : VarName) (t : Term) → x.site ≡ b.site → owner_of b.owners x ≡ Some (Bound t) → knowledge b x ≡ Some (Some t)

@@ -73,6 +73,7 @@ start_parts p = record {
   waiting = record {
     asks = λ k to x t n bundle h. absurd (nothing _ h);
     waits = λ i n st x h. let m = (start_thread p i n (st, site.Waits x) h).2 in cc;
+    compares = λ i n st xs h. let m = (start_thread p i n (st, site.WaitsAny xs) h).2 in cc;
     exchanges = λ i n st d h. let m = (start_thread p i n (st, WaitsFor d) h).2 in cc;
   };
   homes = λ i. record { equations = tt; stacks = λ n v h. start_stack p (here_at (records (initial_site p)) i) (inl (inl refl)) n v.0 (start_thread p i n v h).1 };

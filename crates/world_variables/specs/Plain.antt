@@ -1,5 +1,5 @@
 -- Units and messages that have nothing to do with a cell.
-use Rattle.std.specs.Prelude.{◌≡◌, List, ◌∷◌, None}
+use Rattle.std.specs.Prelude.{◌≡◌, List, None}
 use Rattle.tree_node.specs.declared.names.VarName.{VarName}
 use Rattle.tree_node.specs.declared.names.CellName.{CellName}
 use Rattle.tree_node.specs.declared.names.Name.{Name}
