@@ -1,7 +1,7 @@
 //! How a seat that waits for its turn sleeps, and how the next in line alone is woken. Nothing here is a step of the
 //! lock's rule, and no promise rests on it: a seat that is woken for nothing looks again.
 
-ghost use Rattle.std.specs.Prelude.{◌≡◌, ◌<◌, length, IfOk};
+ghost use Rattle.std.specs.Prelude.{◌≡◌, ◌<◌, ◌%◌, length, IfOk};
 
 use crossbeam_utils::sync::{Parker, Unparker};
 use std::alloc::{AllocError, Global};
@@ -34,11 +34,11 @@ impl Board {
     }
 
     fn place(&self, ticket: u64) -> Option<&AtomicU32> {
-        let count = self.places.len() as u64;
+        let count = self.places.len();
         if count == 0 {
             return None;
         }
-        self.places.get((ticket % count) as usize)
+        self.places.get(place_of(ticket, count))
     }
 
     // The seat of the site is about to sleep with this ticket.
@@ -65,4 +65,13 @@ impl Board {
             }
         }
     }
+}
+
+// The place of a ticket, of so many.
+fn place_of(ticket: u64, places: usize) -> usize
+    requires { 0 < places }
+    ensures value { result ≡ ticket % places }
+    ensures range { result < places }
+{
+    (ticket % places as u64) as usize
 }

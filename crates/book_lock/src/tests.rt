@@ -13,7 +13,6 @@ use std::test::Fail;
 use std::thread::{Threads, join};
 
 // The turns of two sites.
-#[derive(Drop)]
 struct Ledger {
     turns: Journal,
 }
@@ -115,15 +114,30 @@ fn filled<R: Threads + Wait + Sync>(
     let empty = Ledger {
         turns: Journal::new(alloc),
     };
-    let Ok((lock, mut seats)) = CountedLock::begin(alloc, empty, 2) else {
-        return Err(AllocError);
-    };
-    let second = seats.pop().unwrap();
-    let first = seats.pop().unwrap();
-    let (first, second) = both(rt, alloc, &lock, first, second, count);
-    seats.push_reserved(first);
-    seats.push_reserved(second);
-    Ok(lock.finish(seats))
+    match CountedLock::begin(alloc, empty, 2) {
+        Ok((lock, mut seats)) => {
+            let second = seats.pop().unwrap();
+            let first = seats.pop().unwrap();
+            let (first, second) = both(rt, alloc, &lock, first, second, count);
+            seats.push_reserved(first);
+            seats.push_reserved(second);
+            Ok(lock.finish(seats))
+        }
+        Err((empty, _)) => {
+            let Ledger { turns } = empty;
+            turns.forget();
+            Err(AllocError)
+        }
+    }
+}
+
+// How many turns there are, and how many each of the two sites has, if those are numbered from 0 on. They are given up.
+fn counts(ledger: Ledger) -> (usize, Option<u64>, Option<u64>) {
+    let Ledger { turns } = ledger;
+    let list = turns.oldest_first();
+    let found = (list.len(), numbered(list, 1), numbered(list, 2));
+    turns.forget();
+    found
 }
 
 // How many turns the site has, if they are numbered from 0 on.
@@ -142,19 +156,17 @@ fn numbered(turns: &[Turn], site: u32) -> Option<u64> {
 
 #[test]
 fn two_threads_enter_ten_times_each(rt: HostRuntime) -> Result<(), Fail> {
-    let ledger = filled(&rt, rt.alloc(), 10)?;
-    let turns = ledger.turns.oldest_first();
-    assert_eq!(rt; turns.len(), 20);
-    assert_eq!(rt; numbered(turns, 1), Some(10));
-    assert_eq!(rt; numbered(turns, 2), Some(10));
+    let (all, first, second) = counts(filled(&rt, rt.alloc(), 10)?);
+    assert_eq!(rt; all, 20);
+    assert_eq!(rt; first, Some(10));
+    assert_eq!(rt; second, Some(10));
     Ok(())
 }
 
 #[test]
 fn two_threads_enter_many_times_each(rt: HostRuntime) -> Result<(), Fail> {
-    let ledger = filled(&rt, rt.alloc(), 100_000)?;
-    let turns = ledger.turns.oldest_first();
-    assert_eq!(rt; numbered(turns, 1), Some(100_000));
-    assert_eq!(rt; numbered(turns, 2), Some(100_000));
+    let (_, first, second) = counts(filled(&rt, rt.alloc(), 100_000)?);
+    assert_eq!(rt; first, Some(100_000));
+    assert_eq!(rt; second, Some(100_000));
     Ok(())
 }

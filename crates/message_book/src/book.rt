@@ -17,19 +17,19 @@ use crate::inbox::Inbox;
 use crate::outgoing::{enqueue_all, make_room};
 use crate::posted::Posted;
 use crate::spelled_turn::SpelledTurn;
-use site_message::{Journal, Reason, Story};
+use site_message::{History, Journal, Reason, Story};
 use std::alloc::{AllocError, Global};
 use std::collections::VecDeque;
 use std::marker::Model;
 use wire_form::Bytes;
 
-/// The turns posted, the messages sent and not delivered, and the reason why the run ends, if there is one.
-#[derive(Drop)]
+/// The turns posted, the messages sent and not delivered, and the reason why the run ends, if there is one. It has no `Drop`: whoever
+/// has it hands its turns on.
 pub struct Book {
     sites: u32,
     step_limit: u64,
     message_limit: u64,
-    journal: Journal,
+    journal: History,
     sent: u64,
     inboxes: Vec<Inbox>,
     reason: Option<Reason>,
@@ -71,7 +71,7 @@ impl Book {
             sites,
             step_limit,
             message_limit,
-            journal: Journal::new(alloc),
+            journal: History::new(alloc),
             sent: 0,
             inboxes,
             reason: None,
@@ -171,17 +171,33 @@ impl Book {
         ensures sites { AreSites self.now.limits.sites self.now.journal }
         ensures went { HasNoEarlierEnd self.now.limits self.now.journal }
     {
-        &self.journal
+        self.journal.journal()
     }
 
-    /// The turns posted, of a book that is done with. It takes no memory.
-    pub fn into_journal(self) -> Journal
+    /// Lets go of a book without turns.
+    pub fn destroy_empty(self)
+        requires { self.journal ≡ [] }
+    {
+        self.into_history().destroy_empty();
+    }
+
+    /// The turns posted with their schedule, of a book that is done with. It takes no memory.
+    pub fn into_history(self) -> History
         ensures value { result ≡ self.journal }
         ensures wired { Wired self.journal }
         ensures sites { AreSites self.limits.sites self.journal }
         ensures went { HasNoEarlierEnd self.limits self.journal }
     {
-        self.journal
+        let Book {
+            sites: _,
+            step_limit: _,
+            message_limit: _,
+            journal,
+            sent: _,
+            inboxes: _,
+            reason: _,
+        } = self;
+        journal
     }
 }
 

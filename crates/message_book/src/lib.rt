@@ -6,10 +6,11 @@
 //! nothing; `Closed` comes exactly where there was a reason. `take` hands out the number and the bytes of a message
 //! that travels to the site and that no site has taken (`IsUntakenSpelling`: `decode` reads it back), and nothing exactly where
 //! there is none; it takes no memory, nor do `quiet` and `close`. `quiet` holds exactly where no message travels and every site is
-//! idle (`is_quiet`), so a message in hand keeps the run going. `close` keeps the first reason. `journal` and `into_journal` give
+//! idle (`is_quiet`), so a message in hand keeps the run going. `close` keeps the first reason. `journal` and `into_history` give
 //! the turns posted: each message was delivered once at most, after it was sent, to the site that it was sent to (`Wired`), every
-//! turn is of a site of the book, and none but the last had ended the run (`HasNoEarlierEnd`). `Book` is a `Story` for a lock: its
-//! fixed part is the number of sites and both limits.
+//! turn is of a site of the book, and none but the last had ended the run (`HasNoEarlierEnd`). A book has no `Drop`: its turns are
+//! handed on with their schedule, or it has none (`destroy_empty`). `Book` is a `Story` for a lock: its fixed part is the number of sites
+//! and both limits.
 //!
 //! No call walks over the journal: `take` takes one step, `post` as many as the turn sent messages and there are sites, on
 //! average, since a list that is full is moved to a greater room.

@@ -3,7 +3,7 @@ use Rattle.std.proofs.Common.{◌≡◌, sym, subst, refl, List, Some, inl, inr}
 use Rattle.site_message.specs.declared.turn.Turn.{Turn}
 use Rattle.site_message.specs.declared.reason.Reason.{Reason}
 use Rattle.site_message.specs.declared.reason.Reason.TheVariants.{Memory}
-use Rattle.site_message.specs.Journal.{Limits}
+use Rattle.site_message.specs.Journal.{Limits, AreWithin}
 use Rattle.site_message.specs.EarlierEnd.{HasNoEarlierEnd}
 use Rattle.message_book.specs.Book.{IsReason}
 use Rattle.plain_run.specs.Progress.{HasReason, limits_of}
@@ -19,6 +19,9 @@ its_reason b j r (inr (memory, goes_on)) = inr ((let same : r ≡ Memory = cc in
 -- a book with these limits has a journal that went on within them
 pub went_of_book : (l : Limits) (b : plain.Limits) (j : List Turn) → l.sites ≡ b.sites → l.steps ≡ b.steps → l.messages ≡ b.messages → HasNoEarlierEnd l j → HasNoEarlierEnd (limits_of b) j
 went_of_book l b j sites steps messages went = subst (λ (k : Limits). HasNoEarlierEnd k j) (the_same l b sites steps messages) went
+
+pub within_book : (l : Limits) (b : plain.Limits) (j : List Turn) → l.sites ≡ b.sites → l.steps ≡ b.steps → l.messages ≡ b.messages → AreWithin l j → AreWithin (limits_of b) j
+within_book l b j sites steps messages within = subst (λ (k : Limits). AreWithin k j) (the_same l b sites steps messages) within
 
 -- the reason of a book with these limits is how a run within them ended
 pub reason_of_book : (l : Limits) (b : plain.Limits) (j : List Turn) (r : Reason)

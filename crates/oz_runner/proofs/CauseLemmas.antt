@@ -1,5 +1,5 @@
 -- How the cause of a status goes on to the status that stands before the writing, and to the one that is answered.
-use Rattle.std.proofs.Common.{◌≡◌, ◌⊎◌, ◌≤◌, sym, subst, List, ℕ, ◌++◌, ◌∷◌, [], inl, inr, refl}
+use Rattle.std.proofs.Common.{◌≡◌, ◌∙◌, ◌⊎◌, ◌≤◌, sym, subst, List, ℕ, ◌++◌, ◌∷◌, [], inl, inr, refl}
 use Rattle.std.specs.Str.{IsUtf8, IsValidUpTo}
 use Rattle.tree_node.specs.declared.pick.Pick.{Pick}
 use Rattle.site_message.specs.declared.turn.Turn.{Turn}
@@ -14,6 +14,8 @@ use Rattle.oz_show.specs.declared.status.Status.{Status}
 use Rattle.oz_show.specs.declared.status.Status.TheVariants.{Quiescent, Usage, Refused, NotUtf8, TooLong, StepLimit, MessageLimit, ReadFault, WriteFault, Memory}
 use Rattle.oz_runner.specs.OzCall.{Stream, OzCall, RunOutput, run_output_of}
 use Rattle.oz_runner.specs.Cause.{Cause, HasFault, SourceGivesFront, IsTextOfSource, HasProgram, IsTextOf, IsUntouched, HasNoFault, NothingRan, ReadsSource, HasOptions, IsSourceWanted, text_limit}
+use Rattle.oz_runner.specs.Ends.{lines_of}
+use Rattle.oz_runner.specs.declared.work.Work.{Work}
 use Rattle.oz_runner.specs.Run.{IsStatusOfRun}
 use Rattle.oz_runner.specs.Headline.{Headline}
 use Rattle.oz_runner.specs.Writing.{IsReportedAs, IsOutputTaken, after_fault}
@@ -125,3 +127,21 @@ told_memory sink lines kept status stopped final has same is wrote = (
   subst (λ (ls : List (List ℕ)). IsOutputTaken sink (output ls (end_line Memory)) Memory final) same
       (subst (λ (st : Status). IsOutputTaken sink (output kept (end_line Memory)) st final) is wrote),
 )
+
+-- nothing ran for want of memory, and its line was written
+pub told_without_run : (sink : Stream) (work : Work) (final : Status) → Told sink (lines_of work.printed) work.status final → work.status ≡ Memory → lines_of work.printed ≡ []
+    → (final ≡ Memory) × IsOutputTaken sink (output [] (end_line Memory)) Memory Memory
+told_without_run sink work final (worked, told, wrote) status lines =
+    let is = reported_memory work.status worked status told in
+    let all : IsOutputTaken sink (output [] (end_line Memory)) Memory final =
+    subst (λ (z : List (List ℕ) × Status). IsOutputTaken sink (output z.0 (end_line z.1)) z.1 final) (λ i. (lines i, is i)) wrote in
+    let ends = final_memory sink _ final all in
+    (ends, subst (IsOutputTaken sink (output [] (end_line Memory)) Memory) ends all)
+  where
+    reported_memory : (status worked : Status) → status ≡ Memory → IsReportedAs status worked → worked ≡ Memory
+    reported_memory status worked is (inl same) = same ∙ is
+    reported_memory status worked is (inr (has, memory)) = memory
+
+    final_memory : (sink : Stream) (bytes : List ℕ) (final : Status) → IsOutputTaken sink bytes Memory final → final ≡ Memory
+    final_memory sink bytes final (inl all) = all.0
+    final_memory sink bytes final (inr front) = front.0

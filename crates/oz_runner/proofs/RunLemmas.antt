@@ -10,7 +10,7 @@ use Rattle.site_message.specs.declared.reason.Reason.{Reason}
 use Rattle.site_message.specs.declared.reason.Reason.TheVariants as reason
 use Rattle.site_message.specs.declared.turn.Turn.{Turn}
 use Rattle.site_message.specs.Journal as journal
-use Rattle.site_message.specs.Journal.{are_idle, end_of, is_empty, is_quiet, sent_of, travelling}
+use Rattle.site_message.specs.Journal.{AreWithin, are_idle, end_of, is_empty, is_quiet, sent_of, travelling}
 use Rattle.site_message.specs.EarlierEnd.{HasNoEarlierEnd}
 use Rattle.site_message.specs.Laws.{QuietTells}
 use Rattle.site_model.specs.Bundle.{bundle_limit}
@@ -72,6 +72,7 @@ pub record Leaves (p : List Stmt) (options : Options) (out : RunOut) : Type 0 wh
   pub few : AreMessagesFew p options.sites out.journal
   pub reason : HasReason (plain_limits options) out.journal out.reason
   pub went : HasNoEarlierEnd (limits_of options) out.journal
+  pub within : AreWithin (limits_of options) out.journal
   pub ended : out.ended ≡ sum_to options.sites (last_ended out.journal)
   pub waiting : out.waiting ≡ sum_to options.sites (last_waiting out.journal)
 
@@ -112,6 +113,7 @@ module _ (p : List Stmt) (options : Options) (out : RunOut) (is : IsOverSites op
     states = states;
     run = left.rows;
     went = left.went;
+    within = left.within;
     picks = left.picks;
     lines = refl;
     known = λ i e there.

@@ -7,7 +7,7 @@ use Rattle.tree_node.specs.Store.{Equation}
 use Rattle.kernel_syntax.specs.declared.stmt.Stmt.{Stmt}
 use Rattle.oz_model.specs.Laws.{IsChainOf}
 use Rattle.oz_model.specs.Run.{Run, AtRest, exchanges, contents_given}
-use Rattle.site_message.specs.Journal.{Limits, end_of, is_idle, sent_of, travelling}
+use Rattle.site_message.specs.Journal.{Limits, AreWithin, end_of, is_idle, sent_of, travelling}
 use Rattle.site_message.specs.EarlierEnd.{HasNoEarlierEnd}
 use Rattle.site_message.specs.declared.reason.Reason.{Reason}
 use Rattle.site_message.specs.declared.turn.Turn.{Turn}
@@ -36,13 +36,14 @@ abbrev pub limits_of : Options → Limits
 limits_of options = record { sites = options.sites; steps = options.steps; messages = options.messages }
 
 -- what the sites made: the journal is one of the program on that many, and leads to these states of them; no turn but the last
--- ended it; the schedule has its picks, and the lines are its; what a site knows is an equation of the machine's, which the owner
+-- ended it, and no site made more own steps than the words say; the schedule has its picks, and the lines are its; what a site knows is an equation of the machine's, which the owner
 -- of its variable has; each own step of a thread is of the site where the thread was placed; and no more messages were sent than
 -- the schedule's threads, variables and exchanges allow
 pub record IsMadeBySites (p : List Stmt) (options : Options) (made : RunOutput) (s : State) : Type 0 where
   pub states : ℕ → Site
   pub run : DistributedRun p options.sites bundle_limit made.journal states
   pub went : HasNoEarlierEnd (limits_of options) made.journal
+  pub within : AreWithin (limits_of options) made.journal
   pub picks : made.schedule ≡ schedule made.journal
   pub lines : made.lines ≡ lines_in made.journal
   pub known : (i : ℕ) (e : Equation) → Contains (states i).equations e → Contains s.equations e × Contains (states e.0.site).equations e

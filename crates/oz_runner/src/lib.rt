@@ -10,8 +10,8 @@
 //! `specs/Run.antt`); each status has its cause (`Cause` in `specs/Cause.antt`, one line a status), and what a failed write left is
 //! a front of what was due. `oz` (`complete`): with words that are taken, a text that reads a program, and no fault, the run goes
 //! to its end or to a limit. `run_program`: the journal that workers, or the plain rounds, leave is a run of the program on so many
-//! sites, with its schedule and totals, and ends by the reason that is told. `start`: the program ends with the number of the
-//! status that a call of `oz` answers.
+//! sites, with its schedule and totals, ends by the reason that is told, and has no turn past the limit of own steps. `start`: the program ends
+//! with the number of the status that a call of `oz` answers; where no memory is left for the words it writes `out of memory`.
 //!
 //! **Stands on** `oz_words` for the words, `oz_base` for the text and the bytes written, `oz_parser` and `oz_grammar` for what a
 //! text reads, `large_run` for the text of `gen`, `site_worker`, `message_book` and `plain_run` for a run over sites, `world_runs`

@@ -1,15 +1,16 @@
 //! The top call.
 
-ghost use Rattle.std.specs.Prelude.{◌≡◌, ◌<◌, ◌++◌, List, ℕ, length, map, string_bytes};
+ghost use Rattle.std.specs.Prelude.{◌≡◌, ◌<◌, ◌++◌, List, [], ℕ, length, map, string_bytes};
 ghost use Rattle.oz_model.specs.Output.{output, pieces_of};
 ghost use Rattle.oz_show.specs.Status.{end_line, HasLine};
+ghost use Rattle.oz_show.specs.declared.status.Status.TheVariants.{Memory};
 ghost use Rattle.oz_runner.specs.OzCall.{stream_of, oz_call_of, run_output_of};
 ghost use Rattle.oz_runner.specs.Complete.{IsGood, IsDone};
 ghost use Rattle.oz_runner.specs.Ends.{journal_of, lines_of};
 ghost use Rattle.oz_runner.specs.Headline.{Headline};
 ghost use Rattle.oz_runner.specs.Writing.{IsOutputTaken, IsReportedAs, after_fault};
 
-use crate::work::{RunLines, Work, do_work};
+use crate::work::{RunLines, Work, do_work, work_without_run};
 use crate::write::write_all;
 use crate::{Report, Status};
 use oz_base::{Sink, Source};
@@ -44,6 +45,14 @@ pub fn oz<S: Source, K: Sink, G: Gate + Sync, R: Threads + Wait + Sync>(
     report(alloc, sink, work)
 }
 
+/// The report where no memory is left for the words: nothing ran, and the line of want of memory is written. It takes no memory.
+pub(crate) fn report_without_words<K: Sink>(alloc: Global, sink: &mut K) -> Report
+    ensures status { result.status ≡ Memory }
+    ensures written { IsOutputTaken (stream_of K.taken K.faults sink.old sink.new) (output [] (end_line Memory)) Memory Memory }
+{
+    report(alloc, sink, work_without_run(alloc, Status::Memory))
+}
+
 // Writes the lines of the work and its end line.
 fn report<K: Sink>(alloc: Global, sink: &mut K, work: Work) -> Report
     requires { HasLine work.status }
@@ -63,14 +72,19 @@ fn report<K: Sink>(alloc: Global, sink: &mut K, work: Work) -> Report
 
 // The same schedule and lines, where no memory is left for the end line.
 fn out_of_memory(work: Work) -> Work
-    ensures status { result.status ≡ Status.Memory }
+    ensures status { result.status ≡ Memory }
     ensures schedule { result.schedule ≡ work.schedule }
     ensures printed { result.printed ≡ work.printed }
 {
+    let Work {
+        status: _,
+        schedule,
+        printed,
+    } = work;
     Work {
         status: Status::Memory,
-        schedule: work.schedule,
-        printed: work.printed,
+        schedule,
+        printed,
     }
 }
 
@@ -81,14 +95,19 @@ fn finish<K: Sink>(alloc: Global, sink: &mut K, work: Work, end: &[u8]) -> Repor
     ensures journal { result.journal ≡ journal_of work.printed }
     ensures schedule { result.schedule ≡ work.schedule }
 {
-    let status = match write_all(sink, &work.printed, end) {
-        Ok(()) => work.status,
-        Err(_) => after_fault(work.status),
+    let Work {
+        status,
+        schedule,
+        printed,
+    } = work;
+    let status = match write_all(sink, &printed, end) {
+        Ok(()) => status,
+        Err(_) => after_fault(status),
     };
     Report {
         status,
-        schedule: work.schedule,
-        journal: into_journal(alloc, work.printed),
+        schedule,
+        journal: into_journal(alloc, printed),
     }
 }
 

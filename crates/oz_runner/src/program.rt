@@ -2,6 +2,7 @@
 
 ghost use Rattle.std.specs.Prelude.{◌≡◌, ◌≤◌, Some};
 ghost use Rattle.site_message.specs.declared.reason.Reason.{Reason};
+ghost use Rattle.site_message.specs.Journal.{AreWithin};
 ghost use Rattle.site_message.specs.EarlierEnd.{HasNoEarlierEnd};
 ghost use Rattle.message_book.specs.Book.{IsReason};
 ghost use Rattle.world_model.specs.Schedule.{schedule, sum_to};
@@ -15,7 +16,7 @@ ghost use Rattle.oz_runner.specs.Bounds.{AreBounds, limits_in};
 use kernel_syntax::Program;
 use message_book::Book;
 use plain_run::{DrivenRun, Limits, RunOut, finish_run, run_plain};
-use site_message::{Journal, Reason};
+use site_message::{History, Reason};
 use site_worker::{Gate, RunLimits, run_sites};
 use std::alloc::Global;
 use std::sync::Wait;
@@ -39,6 +40,7 @@ pub fn run_program<G: Gate + Sync, R: Threads + Wait + Sync>(
     ensures schedule { result.schedule ≡ schedule result.journal }
     ensures reason { HasReason (limits_in bounds) result.journal result.reason }
     ensures went { HasNoEarlierEnd (limits_of (limits_in bounds)) result.journal }
+    ensures within { AreWithin (limits_of (limits_in bounds)) result.journal }
     ensures ended { result.ended ≡ sum_to bounds.sites (last_ended result.journal) }
     ensures waiting { result.waiting ≡ sum_to bounds.sites (last_waiting result.journal) }
 {
@@ -52,7 +54,7 @@ pub fn run_program<G: Gate + Sync, R: Threads + Wait + Sync>(
         return run_plain(alloc, program, limits);
     }
     let driven = drive_sites(rt, alloc, program, bounds, gate);
-    finish_run(alloc, program, limits, driven)
+    finish_run(program, limits, driven)
 }
 
 // What workers leave, of which there are no more than sites.
@@ -65,15 +67,16 @@ fn drive_sites<G: Gate + Sync, R: Threads + Wait + Sync>(
 ) -> DrivenRun
     requires bounds { AreBounds bounds }
     requires some { 1 ≤ bounds.workers }
-    ensures run { HasRun program.now bounds.sites result.journal }
-    ensures reason { HasReason (limits_in bounds) result.journal result.reason }
-    ensures went { HasNoEarlierEnd (limits_of (limits_in bounds)) result.journal }
+    ensures run { HasRun program.now bounds.sites result.history }
+    ensures reason { HasReason (limits_in bounds) result.history result.reason }
+    ensures went { HasNoEarlierEnd (limits_of (limits_in bounds)) result.history }
+    ensures within { AreWithin (limits_of (limits_in bounds)) result.history }
 {
     let workers = bounds.workers.min(bounds.sites);
     match run_sites(rt, alloc, program, RunLimits { workers, ..bounds }, gate) {
         Ok(book) => run_in_book(book),
         Err(_) => DrivenRun {
-            journal: Journal::new(alloc),
+            history: History::new(alloc),
             reason: Reason::Memory,
         },
     }
@@ -82,13 +85,13 @@ fn drive_sites<G: Gate + Sync, R: Threads + Wait + Sync>(
 // What a book leaves that has a reason.
 fn run_in_book(book: Book) -> DrivenRun
     requires { (r : Reason) × (book.reason ≡ Some r) }
-    ensures journal { result.journal ≡ book.journal }
+    ensures journal { result.history ≡ book.journal }
     ensures reason { IsReason book.limits book.journal (Some result.reason) }
     ensures went { HasNoEarlierEnd book.limits book.journal }
 {
     let reason = book.reason().unwrap();
     DrivenRun {
-        journal: book.into_journal(),
+        history: book.into_history(),
         reason,
     }
 }

@@ -12,6 +12,7 @@ use crate::work::{RunLines, Work};
 use kernel_syntax::Program;
 use oz_model::{exchanges_are_a_chain, runs_are_determined};
 use oz_words::{Action, Options};
+use plain_run::RunOut;
 use site_message::{Reason, quiet_tells};
 use site_worker::{Gate, RunLimits};
 use std::alloc::Global;
@@ -53,16 +54,22 @@ fn run_over_sites<G: Gate + Sync, R: Threads + Wait + Sync>(
         steps: options.steps,
         messages: options.messages,
     };
-    let out = run_program(rt, alloc, program, bounds, gate);
+    let RunOut {
+        reason,
+        ended,
+        waiting,
+        journal,
+        schedule,
+    } = run_program(rt, alloc, program, bounds, gate);
     quiet_tells();
     program.is_program();
     runs_take_rows();
     runs_are_determined();
     exchanges_are_a_chain();
     Work {
-        status: status_of(out.reason, out.ended, out.waiting),
-        schedule: out.schedule,
-        printed: RunLines::Sites(out.journal),
+        status: status_of(reason, ended, waiting),
+        schedule,
+        printed: RunLines::Sites(journal),
     }
 }
 

@@ -1,10 +1,13 @@
 //! What the program does with the system: its words, and the number that it ends with.
 
-ghost use Rattle.std.specs.Prelude.{◌<◌, length, IfOk};
+ghost use Rattle.std.specs.Prelude.{◌≡◌, ◌<◌, length, IfOk};
+ghost use Rattle.std.specs.Process.{exit_status};
+ghost use Rattle.oz_show.specs.Status.{status_number};
 ghost use Rattle.oz_runner.specs.OzCall.{stream_of};
 ghost use Rattle.oz_runner.specs.Exit.{IsExit};
 
-use crate::oz;
+use crate::oz_call::report_without_words;
+use crate::{Report, oz};
 use oz_base::{Sink, Source};
 use site_worker::OpenGate;
 use std::alloc::{AllocError, Global};
@@ -15,9 +18,6 @@ use std::process::ExitCode;
 use std::rt::Env;
 use std::sync::Wait;
 use std::thread::Threads;
-
-// The number that the program ends with where not even its words find memory.
-const OUT_OF_MEMORY: u8 = 8;
 
 // Why there are no words.
 enum NoWords {
@@ -77,7 +77,8 @@ fn words<R: Env + AllocGlobal>(rt: &R) -> Result<Vec<String>, AllocError>
 }
 
 /// Calls `oz` with the words that the system gives, and tells the number of its status, with which the program ends. It is
-/// all that `main` does. A word that is no text is refused, as a word is that the command does not take.
+/// all that `main` does. A word that is no text is refused, as a word is that the command does not take. Where no memory is left for the
+/// words, nothing is read, and the line of want of memory is written all the same.
 pub fn start<R: Env + AllocGlobal + Threads + Wait + Sync, S: Source, K: Sink>(
     rt: &R,
     source: &mut S,
@@ -86,13 +87,21 @@ pub fn start<R: Env + AllocGlobal + Threads + Wait + Sync, S: Source, K: Sink>(
     ensures { IsExit (stream_of S.left S.faults source.old source.new) (stream_of K.taken K.faults sink.old sink.new) result }
 {
     match words(rt) {
-        Ok(words) => {
-            let report = oz(rt, rt.alloc(), &words, source, sink, &OpenGate);
-            let code = ExitCode::from(report.status.number());
-            // The program ends, and its memory goes back to the system as a whole.
-            forget(report);
-            code
-        }
-        Err(_) => ExitCode::from(OUT_OF_MEMORY),
+        Ok(words) => exit_with(oz(rt, rt.alloc(), &words, source, sink, &OpenGate)),
+        Err(_) => exit_with(report_without_words(rt.alloc(), sink)),
     }
+}
+
+// The number of a report's status. The program ends, and its memory goes back to the system as a whole.
+fn exit_with(report: Report) -> ExitCode
+    ensures { exit_status result ≡ status_number report.status }
+{
+    let Report {
+        status,
+        schedule,
+        journal,
+    } = report;
+    forget(schedule);
+    journal.forget();
+    ExitCode::from(status.number())
 }

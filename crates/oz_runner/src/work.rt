@@ -26,14 +26,12 @@ use tree_node::Line;
 const TEXT_LIMIT: u64 = 1_048_576;
 
 /// Where the lines of a run stand: in the turns of its sites, or by themselves where the centralised machine ran.
-#[derive(Drop)]
 pub enum RunLines {
     Sites(Journal),
     Machine(Vec<Line>),
 }
 
 /// What the work came to: its status, and the schedule and the lines of the run, if there was one.
-#[derive(Drop)]
 pub struct Work {
     pub status: Status,
     pub schedule: Schedule,
@@ -159,8 +157,8 @@ fn work_on_text<G: Gate + Sync, R: Threads + Wait + Sync>(
     }
 }
 
-// The end before anything ran.
-fn work_without_run(alloc: Global, status: Status) -> Work
+/// The end before anything ran. It takes no memory.
+pub fn work_without_run(alloc: Global, status: Status) -> Work
     ensures status { result.status ≡ status }
     ensures journal { journal_of result.printed ≡ [] }
     ensures schedule { result.schedule ≡ [] }

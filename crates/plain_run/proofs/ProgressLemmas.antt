@@ -1,12 +1,11 @@
 -- Each turn of a plain run takes a message, makes an own step, or lets a thread wait.
-use Rattle.std.proofs.Common.{rules, arith, ◌≡◌, ◌≢◌, ◌∙◌, sym, ap, refl, subst, ℕ, zero, suc, ◌+◌, ◌-◌, ◌<◌, ◌≤◌, List, [], ◌∷◌, length, Bool, true, false, ◌⊎◌, inl, inr, ⊎_elim}
-use Rattle.std.specs.Prelude.{Option, Some, None, Result, Ok, Err, is_some, is_err, nat_lt, min, OnOk, MatchOption, Contains, slice_get}
+use Rattle.std.proofs.Common.{rules, arith, ◌≡◌, ◌≢◌, ◌∙◌, sym, ap, refl, subst, ℕ, zero, suc, ◌+◌, ◌-◌, ◌<◌, ◌≤◌, List, ◌∷◌, length, Bool, true, false, ◌⊎◌, inl, inr, ⊎_elim}
+use Rattle.std.specs.Prelude.{Option, Some, None, Result, Ok, Err, is_some, is_err, nat_lt, min, OnOk, MatchOption, Contains}
 use Rattle.std.proofs.lemmas.Bool.{cases_lt}
-use Rattle.tree_node.proofs.ClassLemmas.{Contains-head, Contains-tail}
 use Rattle.kernel_syntax.specs.declared.stmt.Stmt.{Stmt}
 use Rattle.site_message.specs.declared.message.Sent.{Sent}
 use Rattle.site_message.specs.declared.turn.Turn.{Turn}
-use Rattle.site_message.specs.Journal.{Wired, IsTravelling, sent_of, travelling, deliveries, delivery_count}
+use Rattle.site_message.specs.Journal.{Wired, IsTravelling, sent_of, travelling, deliveries, delivery_count, AreWithin}
 use Rattle.site_message.specs.EarlierEnd.{HasNoEarlierEnd}
 use Rattle.site_message.proofs.JournalLemmas.{travelling_tells}
 use Rattle.site_message.proofs.TravelLemmas.{messages_add_up}
@@ -21,7 +20,7 @@ use Rattle.world_core.specs.Travels.{IsNumberAt}
 use Rattle.world_core.specs.World.{WorldState, IsWorldTurn, states_of}
 use Rattle.plain_run.specs.declared.out.Limits.{Limits}
 use Rattle.plain_run.specs.Counts.{runnable_count}
-use Rattle.plain_run.specs.Progress.{IsGoing, IsLimitedTurn, IsAtEase, IsBusy, IsProgress, turns_left, limits_of, steps_left}
+use Rattle.plain_run.specs.Progress.{IsGoing, IsLimitedTurn, IsAtEase, IsBusy, IsFirstBusy, IsNextBusy, ComesBefore, IsProgress, turns_left, limits_of, steps_left}
 use Rattle.plain_run.proofs.StepLemmas.{turn_steps, turn_goes_on}
 use Rattle.world_core.proofs.QuietLemmas.{at_contains}
 
@@ -103,19 +102,24 @@ module _ (l : Limits) (p : List Stmt) (old new : WorldState) (site quantum : ℕ
   grown : deliveries new.journal ≡ delivery_count t.entry.delivered + deliveries old.journal
   grown = ap deliveries t.journal
 
+  -- the entry tells the own steps of the site
+  entry_steps : t.entry.steps ≡ (states_of new site).steps
+  entry_steps = t.turn.2.steps ∙ ap (λ (s : Site). s.steps) (sym t.turn.3)
+
   -- each site keeps within its limit of own steps, and is idle where it is there
   pub made : new.program ≡ old.program → new.sites ≡ old.sites → new.spent ≡ false → IsLimitedTurn l p old new site
   made program sites live = record {
     entry = t.entry;
     journal = t.journal;
     at = t.site_is;
-    steps = t.turn.2.steps ∙ ap (λ (s : Site). s.steps) (sym t.turn.3);
+    steps = entry_steps;
     rests = t.turn.2.idle ∙ ap is_idle (sym t.turn.3);
     program = program ∙ going.program;
     sites = sites ∙ going.sites;
     live = live;
     run = run;
     within = λ i. by i (either_site i);
+    kept = subst (AreWithin (limits_of l)) (sym t.journal) (subst (λ n. n ≤ l.steps) (sym entry_steps) here_within, going.kept);
     idle = λ i other full. idle i (t.others i (λ (e : i ≡ site). other (t.site_is ∙ sym e))) full;
     went = subst (HasNoEarlierEnd (limits_of l)) (sym t.journal) (going.went, going.goes_on);
   }
@@ -221,15 +225,28 @@ pub is_none : (place : Option ℕ) → is_some place ≡ false → place ≡ Non
 is_none None e = refl
 is_none (Some q) e = cc
 
+-- a busy site behind the last one comes before the others
+pub next_behind : (w : WorldState) (last sites i : ℕ) → IsFirstBusy w (last + 1) (sites + 1) i → IsNextBusy w sites last i
+next_behind w last sites i (low, high, busy, before) = (omega arith, omega arith, busy, λ k a b comes. by k comes)
+  where
+    by : (k : ℕ) → ComesBefore last k i → IsAtEase w k
+    by k (inl (far, inl c)) = before k (omega arith) c
+    by k (inl (far, inr c)) = absurd (omega arith)
+    by k (inr (near, c, d)) = absurd (omega arith)
+
 -- the sites behind the last one, and then the others
-pub rounds : (w : WorldState) (last sites : ℕ) (r : Option ℕ) → last ≤ sites → ((i : ℕ) → last + 1 ≤ i → i < sites + 1 → IsAtEase w i) → MatchOption r ((i : ℕ) → 1 ≤ i → i < last + 1 → IsAtEase w i) (λ i. (1 ≤ i) × (i < last + 1) × IsBusy w i) →
-    MatchOption r ((i : ℕ) → 1 ≤ i → i ≤ sites → IsAtEase w i) (λ i. (1 ≤ i) × (i ≤ sites) × IsBusy w i)
+pub rounds : (w : WorldState) (last sites : ℕ) (r : Option ℕ) → last ≤ sites → ((i : ℕ) → last + 1 ≤ i → i < sites + 1 → IsAtEase w i) → MatchOption r ((i : ℕ) → 1 ≤ i → i < last + 1 → IsAtEase w i) (λ i. IsFirstBusy w 1 (last + 1) i) →
+    MatchOption r ((i : ℕ) → 1 ≤ i → i ≤ sites → IsAtEase w i) (λ i. IsNextBusy w sites last i)
 rounds w last sites None low behind before = λ i a b. by i a b (cases_lt i (last + 1))
   where
     by : (i : ℕ) → 1 ≤ i → i ≤ sites → (i < last + 1) ⊎ (last + 1 ≤ i) → IsAtEase w i
     by i a b (inl c) = before i a c
     by i a b (inr c) = behind i c (omega arith)
-rounds w last sites (Some i) low behind (a, b, busy) = (a, omega arith, busy)
+rounds w last sites (Some i) low behind (a, b, busy, before) = (a, omega arith, busy, λ k one most comes. by k one most comes)
+  where
+    by : (k : ℕ) → 1 ≤ k → k ≤ sites → ComesBefore last k i → IsAtEase w k
+    by k one most (inl (far, c)) = behind k (omega arith) (omega arith)
+    by k one most (inr (near, c, d)) = before k one d
 
 pub ease_more : (w : WorldState) (from site : ℕ) → ((i : ℕ) → from ≤ i → i < site → IsAtEase w i) → IsAtEase w site → (i : ℕ) → from ≤ i → i < site + 1 → IsAtEase w i
 ease_more w from site before here i a b = by (cases_lt i site)

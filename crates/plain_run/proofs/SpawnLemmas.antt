@@ -21,7 +21,7 @@ use Rattle.proxy_table.specs.Proxies.{entry_of}
 use Rattle.variable_owner.specs.declared.owners.Owner.{Owner}
 use Rattle.variable_owner.specs.declared.owners.Owner.TheVariants.{Open, Bound}
 use Rattle.variable_owner.specs.Owners.{owner_of, sites_of}
-use Rattle.oz_model.specs.Need.{Need, Waits, Binds, Takes, stack_need}
+use Rattle.oz_model.specs.Need.{Need, Waits, WaitsAny, Binds, Takes, stack_need}
 use Rattle.oz_model.specs.Effect.{Birth, CellChange, Stays, Made, Exchanged, Effect}
 use Rattle.bind_protocol.specs.Records.{Records, is_own, knowledge}
 use Rattle.bind_protocol.specs.Rows.{sent_message, binding, register, register_answer, after_meet, meet_sends, meets_send}
@@ -133,6 +133,7 @@ module _ (p : List Stmt) (n limit : ℕ) (some : 1 ≤ n) where
 
   need_all : (s : Site) (th : ThreadName) (st : Stack) (need : Need) (d : Transition) → IsUnitFor p n limit s th st need d → All d
   need_all s th st (Waits x) d h = subst All (sym h.2) tt
+  need_all s th st (WaitsAny q) d h = subst All (sym h.2) tt
   need_all s th st (Binds a b) d h = subst All (sym h.3) (bind_all th st h.0 h.1 (h.0.site == s.records.site) s)
   need_all s th st (Takes kinds) d h =
       either_all th st s (thread_step p n limit th st kinds (fresh_names s kinds) None s) (effect_here p s (fresh_names s kinds) None st).cell d

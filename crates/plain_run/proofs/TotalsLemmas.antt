@@ -183,10 +183,6 @@ sum_fits site n a b bound f low high before last most =
 
 -- ---- a run without turns, and what the laws say of any
 
-pub no_totals : (n : ℕ) → sum_to n (λ (i : ℕ). 0) ≡ 0
-no_totals zero = refl
-no_totals (suc n) = let rest = no_totals n in omega (arith, rest)
-
 pub empty_run : (p : List Stmt) (n : ℕ) → HasRun p n []
 empty_run p n = (initial_site p, record { wired = tt; sites = tt; runs = λ i. refl })
 

@@ -5,7 +5,7 @@ use Rattle.site_message.specs.declared.turn.Turn.{Turn}
 use Rattle.site_message.specs.declared.reason.Reason.{Reason}
 use Rattle.site_message.specs.declared.reason.Reason.TheVariants.{Memory}
 use Rattle.site_message.specs.Journal as journal
-use Rattle.site_message.specs.Journal.{sent_of, deliveries, end_of, is_quiet}
+use Rattle.site_message.specs.Journal.{sent_of, deliveries, end_of, is_quiet, AreWithin}
 use Rattle.site_message.specs.EarlierEnd.{HasNoEarlierEnd}
 use Rattle.site_model.specs.Bundle.{bundle_limit}
 use Rattle.site_model.specs.Site.{is_idle}
@@ -43,16 +43,29 @@ IsAtEase w i = (is_idle (states_of w i) ≡ true) × IsNothingFor w.journal i
 abbrev pub IsBusy : WorldState → ℕ → Type 0
 IsBusy w i = (is_idle (states_of w i) ≡ false) ⊎ (IsNoneFor w.travels i → ⊥)
 
+-- i is the first busy site from one on, below the end
+abbrev pub IsFirstBusy : WorldState → ℕ → ℕ → ℕ → Type 0
+IsFirstBusy w from end i = (from ≤ i) × (i < end) × IsBusy w i × ((k : ℕ) → from ≤ k → k < i → IsAtEase w k)
+
+-- in the circle behind the last site the site k comes before the site i: those behind the last one come first, and then those from 1 on
+abbrev pub ComesBefore : ℕ → ℕ → ℕ → Type 0
+ComesBefore last k i = ((last < k) × ((k < i) ⊎ (i ≤ last))) ⊎ ((k ≤ last) × (i ≤ last) × (k < i))
+
+-- i is the first busy site of n in the circle behind the last one
+abbrev pub IsNextBusy : WorldState → ℕ → ℕ → ℕ → Type 0
+IsNextBusy w n last i = (1 ≤ i) × (i ≤ n) × IsBusy w i × ((k : ℕ) → 1 ≤ k → k ≤ n → ComesBefore last k i → IsAtEase w k)
+
 -- ---- runs that go on
 
--- no limit is reached: no site that can go on is at its limit of own steps, no more messages were sent than the limit, and the
--- journal has no end and had none before
+-- no limit is reached: no site that can go on is at its limit of own steps, no turn went past it, no more messages were sent than the
+-- limit, and the journal has no end and had none before
 pub record IsGoing (l : Limits) (p : List Stmt) (w : WorldState) : Type 0 where
   pub program : w.program ≡ p
   pub sites : w.sites ≡ l.sites
   pub live : w.spent ≡ false
   pub run : WorldRun w.program w.sites bundle_limit w.journal (states_of w)
   pub within : (i : ℕ) → (states_of w i).steps ≤ l.steps
+  pub kept : AreWithin (limits_of l) w.journal
   pub idle : (i : ℕ) → (states_of w i).steps ≡ l.steps → is_idle (states_of w i) ≡ true
   pub few : length (sent_of w.journal) ≤ l.messages
   pub goes_on : end_of (limits_of l) w.journal ≡ None
@@ -84,6 +97,7 @@ pub record IsLimitedTurn (l : Limits) (p : List Stmt) (old new : WorldState) (si
   pub live : new.spent ≡ false
   pub run : WorldRun new.program new.sites bundle_limit new.journal (states_of new)
   pub within : (i : ℕ) → (states_of new i).steps ≤ l.steps
+  pub kept : AreWithin (limits_of l) new.journal
   pub idle : (i : ℕ) → (entry.site ≡ i → ⊥) → (states_of new i).steps ≡ l.steps → is_idle (states_of new i) ≡ true
   pub went : HasNoEarlierEnd (limits_of l) new.journal
 

@@ -1,7 +1,7 @@
 //! Which site goes next.
 
 ghost use Rattle.std.specs.Prelude.{◌≡◌, ◌+◌, ◌<◌, ◌≤◌, ℕ, false, MatchOption};
-ghost use Rattle.plain_run.specs.Progress.{IsAtEase, IsBusy};
+ghost use Rattle.plain_run.specs.Progress.{IsAtEase, IsFirstBusy, IsNextBusy};
 
 use world_core::World;
 
@@ -10,7 +10,7 @@ fn busy_among(world: &World<'_>, from: u32, end: u32) -> Option<u32>
     requires some { 1 ≤ from }
     requires among { end ≤ world.now.sites + 1 }
     requires live { world.now.spent ≡ false }
-    ensures { MatchOption result ((i : ℕ) → from ≤ i → i < end → IsAtEase world.now i) (λ i. (from ≤ i) × (i < end) × IsBusy world.now i) }
+    ensures { MatchOption result ((i : ℕ) → from ≤ i → i < end → IsAtEase world.now i) (λ i. IsFirstBusy world.now from end i) }
 {
     for site in from..end {
         if !world.idle(site) || world.next_for(site).is_some() {
@@ -26,7 +26,7 @@ pub(crate) fn next_busy(world: &World<'_>, last: u32, sites: u32) -> Option<u32>
     requires sites { sites ≡ world.now.sites }
     requires most { sites ≤ 64 }
     requires live { world.now.spent ≡ false }
-    ensures { MatchOption result ((i : ℕ) → 1 ≤ i → i ≤ sites → IsAtEase world.now i) (λ i. (1 ≤ i) × (i ≤ sites) × IsBusy world.now i) }
+    ensures { MatchOption result ((i : ℕ) → 1 ≤ i → i ≤ sites → IsAtEase world.now i) (λ i. IsNextBusy world.now sites last i) }
 {
     match busy_among(world, last + 1, sites + 1) {
         Some(site) => Some(site),

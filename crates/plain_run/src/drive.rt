@@ -4,7 +4,7 @@ ghost use Rattle.std.specs.Prelude.{◌≡◌, ◌+◌, ◌<◌, ◌≤◌, ℕ,
 ghost use Rattle.kernel_syntax.specs.declared.stmt.Stmt.{Stmt};
 ghost use Rattle.kernel_syntax.specs.Program.{IsProgram};
 ghost use Rattle.site_message.specs.declared.turn.Turn.{Turn};
-ghost use Rattle.site_message.specs.Journal.{end_of};
+ghost use Rattle.site_message.specs.Journal.{end_of, AreWithin};
 ghost use Rattle.site_message.specs.EarlierEnd.{HasNoEarlierEnd};
 ghost use Rattle.world_core.specs.World.{WorldState};
 ghost use Rattle.plain_run.specs.Progress.{AreLimits, HasReason, IsBusy, IsGoing, IsLimitedTurn, IsProgress, turns_left, limits_of};
@@ -68,6 +68,7 @@ fn advance(world: &mut World<'_>, last: u32, limits: Limits) -> Result<u32, Reas
     ensures same { (world.new.program ≡ world.old.program) × (world.new.sites ≡ world.old.sites) }
     ensures ended { IfErr result (λ reason. HasReason limits world.new.journal reason) }
     ensures went { HasNoEarlierEnd (limits_of limits) world.new.journal }
+    ensures within { AreWithin (limits_of limits) world.new.journal }
     ensures on { IfOk result (λ site. (site ≤ limits.sites) × IsGoing limits world.old.program world.new × (turns_left limits world.new < turns_left limits world.old)) }
 {
     let mut last = last;
@@ -97,6 +98,7 @@ pub(crate) fn drive(world: &mut World<'_>, limits: Limits) -> Reason
     ensures same { (world.new.program ≡ world.old.program) × (world.new.sites ≡ world.old.sites) }
     ensures reason { HasReason limits world.new.journal result }
     ensures went { HasNoEarlierEnd (limits_of limits) world.new.journal }
+    ensures within { AreWithin (limits_of limits) world.new.journal }
 {
     let mut last = limits.sites;
     loop {

@@ -6,17 +6,17 @@
 //! lets a thread wait. Its journal is one of a run of the program on the sites (`HasRun`), the picks of which lead the
 //! centralised machine to a state that the sites match (`HasMachineRun`); where nothing travels and every site is idle the
 //! machine rests there. `schedule` has these picks in order; the reason is how the journal ends (`HasReason`, by `end_of` of
-//! `site_message`), or that memory ran out where it goes on; no turn before the last had ended it (`HasNoEarlierEnd`); `ended` and
-//! `waiting` are the sums of what the sites told last; and no more messages were sent than the picks allow (`AreMessagesFew`).
-//! `finish_run` tells all of this of the journal and the reason that it is given, unless memory ran out (`IsOutputOf`), whatever
-//! drove the run: workers end by it, too.
+//! `site_message`), or that memory ran out where it goes on; no turn before the last had ended it (`HasNoEarlierEnd`), and none
+//! went past the limit of own steps (`AreWithin`); `ended` and `waiting` are the sums of what the sites told last; and no more messages were sent than the picks allow (`AreMessagesFew`).
+//! `finish_run` tells all of this of the turns and the reason that it is given (`IsOutputOf`), whatever drove the run, and takes no
+//! memory: workers end by it, too.
 //!
 //! The order: sites 1 to the last in rounds, each taking its message with the lowest number and then its threads, first come
 //! first served, for at most 64 units and never past its limit of own steps. A site that has no message and is idle is left out.
-//! No clause tells the order of the sites: tests show that two runs print the same.
+//! The next site is the first behind the last one, in the circle, that has something to do (`IsNextBusy`); tests show that two runs
+//! print the same.
 //!
-//! A turn costs by what it does and by the number of sites; the journal is walked over twice at the end, for the schedule and
-//! for the totals.
+//! A turn costs by what it does and by the number of sites; the journal is walked over once at the end, for the totals.
 //!
 //! It stands on `world_core` for the world that it drives, and on the definitions below that. Tests of programs (`oz_tests`) run
 //! it with ample memory.

@@ -1,6 +1,6 @@
 //! The limits of a run and what it gives.
 
-use site_message::{Journal, Reason, Schedule};
+use site_message::{History, Journal, Reason, Schedule};
 
 /// On how many sites a program runs, 1 to 64, how many own steps each site may make, 1 to 1,000,000,000, and how many messages
 /// may be sent, at most 4,000,000,000.
@@ -11,16 +11,15 @@ pub struct Limits {
     pub messages: u64,
 }
 
-/// What the driver of a run leaves: the turns that were made, and why no more were.
-#[derive(Drop)]
+/// What the driver of a run leaves: the turns that were made with their schedule, and why no more were. It has no `Drop`: whoever has
+/// turns hands them on.
 pub struct DrivenRun {
-    pub journal: Journal,
+    pub history: History,
     pub reason: Reason,
 }
 
 /// How a run ended: the reason, how many threads ended and wait by what the sites told last, the turns made, and the picks by
-/// which the centralised machine makes the same run.
-#[derive(Drop)]
+/// which the centralised machine makes the same run. It has no `Drop`, as its journal has none.
 pub struct RunOut {
     pub reason: Reason,
     pub ended: u64,

@@ -4,7 +4,8 @@
 //!
 //! It promises: `wire_fits` tells which messages can be spelled (`FitsWire`); a bundle, an outbox, the lists of a turn, a
 //! journal and a schedule are the lists of what was put into them; copies are equal to what they were made of, and share
-//! it.
+//! it. A `History` is the turns of a run with their schedule, made turn by turn. What holds turns has no `Drop`, so that they are lost by
+//! two calls alone: `forget`, for a program that ends, and `destroy_empty`, whose condition is that there are none.
 //! Of journals it defines which deliveries are lawful (`Wired`), which messages travel (`travelling`) and how a run ends
 //! (`end_of`), and the functions of `laws` say what follows: `travelling_tells`, `travelling_grows` (how a turn changes
 //! what travels), `deliveries_add_up`, `wired_tells`, `quiet_tells`, `worked_ends`.
@@ -17,6 +18,7 @@
 #![tactic(auto)]
 
 mod copy;
+mod history;
 mod laws;
 mod message;
 mod outbox;
@@ -30,6 +32,7 @@ mod turn;
 mod wire;
 
 pub use copy::{copy_msg, copy_sent};
+pub use history::History;
 pub use laws::{
     deliveries_add_up, quiet_tells, travelling_grows, travelling_tells, wired_tells, worked_ends,
 };

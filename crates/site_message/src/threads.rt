@@ -1,5 +1,6 @@
 //! What may cross from one thread to another, and what threads may share. A type that loses Send or Sync is refused here.
 
+use crate::history::History;
 use crate::message::{Bundle, Msg, Sent};
 use crate::outbox::Outbox;
 use crate::picks::Picks;
@@ -17,6 +18,7 @@ fn cross_threads() {
     is_send_and_sync::<Picks>();
     is_send_and_sync::<Turn>();
     is_send_and_sync::<Journal>();
+    is_send_and_sync::<History>();
     is_send_and_sync::<Schedule>();
     is_send_and_sync::<Outbox>();
     is_send_and_sync::<Reason>();

@@ -1,5 +1,5 @@
 -- From what the lock gives at its end, and what stays true of the hosts, to the run of the world.
-use Rattle.std.proofs.Common.{◌≡◌, ◌⊎◌, ℕ, zero, suc, ◌+◌, ◌<◌, ◌≤◌, List, [], ◌∷◌, ◌++◌, length, Bool, true, false, eqb, eqb-true, cond, refl, sym, ap, ◌∙◌, subst, arith, inl, inr, ⊎_elim, length-append, length-set, get_or, get_or-set_same, set, take, drop, Option, Some, None}
+use Rattle.std.proofs.Common.{◌≡◌, ◌⊎◌, ℕ, zero, suc, ◌+◌, ◌<◌, ◌≤◌, List, [], ◌∷◌, ◌++◌, length, Bool, true, false, eqb, eqb-true, eq-eqb, cond, refl, sym, ap, ◌∙◌, subst, arith, inl, inr, ⊎_elim, length-append, length-set, get_or, get_or-set_same, set, take, drop, Option, Some, None}
 use Rattle.std.specs.List.{All}
 use Rattle.std.specs.Prelude.{slice_index_or, IsSome, ◌↔◌}
 use Rattle.std.proofs.Math.Seq.{map-set_same, take-append_seam}
@@ -10,7 +10,8 @@ use Rattle.kernel_syntax.specs.declared.stmt.Stmt.{Stmt}
 use Rattle.site_message.specs.declared.turn.Turn.{Turn}
 use Rattle.site_message.specs.declared.story.Sight.{Sight}
 use Rattle.site_message.specs.declared.reason.Reason.{Reason}
-use Rattle.site_message.specs.Journal.{Wired, Limits}
+use Rattle.site_message.specs.Journal.{Wired, Limits, AreWithin}
+use Rattle.site_message.specs.Story.{own}
 use Rattle.message_book.specs.Book.{IsSiteOf, AreSites}
 use Rattle.book_lock.specs.declared.lock.SiteSeat.{SiteSeat}
 use Rattle.book_lock.specs.Rule.{AreInAgreement, Each}
@@ -56,6 +57,10 @@ All-cons : {X : Type 0} (P : X → Type 0) (x : X) (xs : List X) → P x → All
 All-cons P x xs p all zero d below = p
 All-cons P x xs p all (suc k) d below = all k d (omega arith)
 
+-- the entry leaves its site with no more own steps than the limit
+abbrev IsWithin : Limits → Turn → Type 0
+IsWithin l e = e.steps ≤ l.steps
+
 -- what the value agrees with at the end
 abbrev AgreesWith : Sight → SiteSeat → Type 0
 AgreesWith x s = AreInAgreement s.site x (last_seen s)
@@ -82,22 +87,25 @@ one_runs table p l x h is of a =
 all_run : (table : TableId) (p : List Stmt) (l : Limits) (x : Sight) (hs : List Host) → AreHosts table hs → AreHostsOf p (fixed_part l) hs → All (λ (h : Host). AgreesWith x h.site.seat) hs → All (HasRun p l.sites x.entries) hs
 all_run table p l x hs are of agree k d below = one_runs table p l x (get_or hs k d) (are k d below) (of k d below) (agree k d below)
 
-run_case : (p : List Stmt) (n k : ℕ) (j : List Turn) (h : Host) (hs : List Host) (t : Bool) → eqb (number_of h) k ≡ t → HasRun p n j h → (0 < times k hs → (s : Site) × SiteRun p n bundle_limit k j s) → 0 < times k (h ∷ hs) → (s : Site) × SiteRun p n bundle_limit k j s
-run_case p n k j h hs true is run rest some = subst (λ (i : ℕ). (s : Site) × SiteRun p n bundle_limit i j s) (eqb-true (number_of h) k is) run
-run_case p n k j h hs false is run rest some = rest (let e : times k (h ∷ hs) ≡ 0 + times k hs = ap (λ b. cond b 1 0 + times k hs) is in omega arith)
+-- what holds of the sites of all hosts holds of each site that has one
+host_case : (Q : ℕ → Type 0) (k : ℕ) (h : Host) (hs : List Host) (t : Bool) → eqb (number_of h) k ≡ t → Q h.number → (0 < times k hs → Q k) → 0 < times k (h ∷ hs) → Q k
+host_case Q k h hs true is here rest some = subst Q (eqb-true (number_of h) k is) here
+host_case Q k h hs false is here rest some = rest (let e : times k (h ∷ hs) ≡ 0 + times k hs = ap (λ b. cond b 1 0 + times k hs) is in omega arith)
 
-run_of : (p : List Stmt) (n k : ℕ) (j : List Turn) (hs : List Host) → All (HasRun p n j) hs → 0 < times k hs → (s : Site) × SiteRun p n bundle_limit k j s
-run_of p n k j [] all some = absurd (omega arith)
-run_of p n k j (h ∷ hs) all some = run_case p n k j h hs (eqb (number_of h) k) refl (All-head (HasRun p n j) h hs all) (run_of p n k j hs (All-tail (HasRun p n j) h hs all)) some
+of_host : (Q : ℕ → Type 0) (k : ℕ) (hs : List Host) → All (λ (h : Host). Q h.number) hs → 0 < times k hs → Q k
+of_host Q k [] all some = absurd (omega arith)
+of_host Q k (h ∷ hs) all some =
+    let P = λ (h : Host). Q h.number in
+    host_case Q k h hs (eqb (number_of h) k) refl (All-head P h hs all) (of_host Q k hs (All-tail P h hs all)) some
 
 -- whether a number is one of 1 to n
-site_or_not : (n k : ℕ) → IsSiteOf n k ⊎ (IsSiteOf n k → ⊥)
+pub site_or_not : (n k : ℕ) → IsSiteOf n k ⊎ (IsSiteOf n k → ⊥)
 site_or_not n zero = inr (λ is. let l = is.0 in absurd (omega arith))
 site_or_not n (suc k) = ⊎_elim (λ (b : n < suc k). inr (λ is. let l = is.1 in absurd (omega arith))) (λ (b : suc k ≤ n). inl (omega arith, b)) (cases_lt n (suc k))
 
 -- each site has come to some state
 site_run : (p : List Stmt) (n k : ℕ) (j : List Turn) (hs : List Host) → All (HasRun p n j) hs → IsComplete n hs → AreSites n j → IsSiteOf n k ⊎ (IsSiteOf n k → ⊥) → (s : Site) × SiteRun p n bundle_limit k j s
-site_run p n k j hs all complete are (inl is) = run_of p n k j hs all (complete k is)
+site_run p n k j hs all complete are (inl is) = of_host (λ (i : ℕ). (s : Site) × SiteRun p n bundle_limit i j s) k hs all (complete k is)
 site_run p n k j hs all complete are (inr not_one) = (initial_site p k, run_none p n bundle_limit k n j are not_one)
 
 -- the value has the fixed part that each seat saw
@@ -131,6 +139,35 @@ world_run table p l x hs some are of complete each wired sites =
         runs = λ k. (site_run p n k x.entries hs all complete here (site_or_not n k)).1;
       },
     )
+
+-- ---- the own steps
+
+-- the own entries of a host's site in the whole journal
+one_within : (table : TableId) (p : List Stmt) (l : Limits) (x : Sight) (h : Host) → IsHost table h → IsHostOf p (fixed_part l) h → AgreesWith x h.site.seat → Each (IsWithin l) (own h.number x.entries)
+one_within table p l x h is of a =
+    let b : AreInAgreement h.number x (sight h) = subst (λ (k : ℕ). AreInAgreement k x (sight h)) (sym is.seated.seat) a in
+    subst (λ (z : List ℕ × List Turn). Each (λ (e : Turn). e.steps ≤ slice_index_or z.0 1 0) z.1) (λ i. (of.1 i, sym b.own_entries i)) is.within
+
+-- without the newest entry
+own_rest : (P : Turn → Type 0) (k : ℕ) (e : Turn) (j : List Turn) (b : Bool) → eqb e.site k ≡ b → Each P (own k (e ∷ j)) → Each P (own k j)
+own_rest P k e j true is all = (subst (λ b. Each P (cond b (e ∷ own k j) (own k j))) is all).1
+own_rest P k e j false is all = subst (λ b. Each P (cond b (e ∷ own k j) (own k j))) is all
+
+-- what holds of the entries of each site holds of all entries
+each_own : (P : Turn → Type 0) (n : ℕ) (j : List Turn) → AreSites n j → ((k : ℕ) → IsSiteOf n k → Each P (own k j)) → Each P j
+each_own P n [] are all = tt
+each_own P n (e ∷ j) are all = (
+  (subst (λ b. Each P (cond b (e ∷ own e.site j) (own e.site j))) (eq-eqb e.site e.site refl) (all e.site are.0)).0,
+  each_own P n j are.1 (λ k is. own_rest P k e j (eqb e.site k) refl (all k is)),
+)
+
+pub world_within : (table : TableId) (p : List Stmt) (l : Limits) (x : Sight) (hs : List Host) → 0 < length hs → AreHosts table hs → AreHostsOf p (fixed_part l) hs → IsComplete l.sites hs → Each (AgreesWith x) (back_seats hs)
+    → AreSites (book_sites x) x.entries → AreWithin l x.entries
+world_within table p l x hs some are of complete each sites =
+    let first : book_sites x ≡ l.sites = ap (λ (y : List ℕ). slice_index_or y 0 0) (fixed_same p (fixed_part l) x hs some of each) in
+    let agree = all_agree x hs each in
+    each_own (IsWithin l) l.sites x.entries (subst (λ m. AreSites m x.entries) first sites)
+    (λ k is. of_host (λ (i : ℕ). Each (IsWithin l) (own i x.entries)) k hs (λ i d below. one_within table p l x (get_or hs i d) (are i d below) (of i d below) (agree i d below)) (complete k is))
 
 -- ---- hosts that are visited
 

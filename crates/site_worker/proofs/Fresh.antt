@@ -1,17 +1,18 @@
 -- New hosts.
 use Rattle.std.proofs.Common.{◌≡◌, ℕ, ◌≤◌, List, [], true, false, refl, sym, ap, ◌∙◌, subst, arith}
 use Rattle.atomic_table.specs.Seated.{TableId}
+use Rattle.tree_node.specs.Each.{Each}
 use Rattle.kernel_syntax.specs.Program.{IsProgram}
 use Rattle.site_message.specs.declared.turn.Turn.{Turn}
 use Rattle.site_message.specs.declared.story.NoSeat.{NoSeat}
-use Rattle.site_message.specs.Story.{hand}
+use Rattle.site_message.specs.Story.{own, hand}
 use Rattle.message_book.specs.Book.{IsSiteOf}
 use Rattle.book_lock.specs.declared.lock.SiteSeat.{SiteSeat}
 use Rattle.book_lock.specs.Seats.{last_seen, IsOutsideOf}
 use Rattle.site_model.specs.Site.{Site, initial_site}
 use Rattle.site_core.specs.Site.{SiteState}
 use Rattle.site_worker.specs.declared.host.Host.{Host}
-use Rattle.site_worker.specs.Inside.{book_sites}
+use Rattle.site_worker.specs.Inside.{book_sites, book_steps}
 use Rattle.site_worker.specs.Host.{IsHost, IsNewSeat, IsRunTo, state_of, sight, sites_of, program_of}
 
 off : false ≡ true → ⊥
@@ -39,6 +40,7 @@ new_host t h v x is start fresh mine live real few new =
         sites = ap (λ (z : SiteSeat). book_sites (last_seen z)) seat ∙ (new.2 ∙ sym sites);
         range = subst (λ (z : ℕ × ℕ). IsSiteOf z.0 z.1) (λ i. (sym sites i, sym mine i)) new.1;
         most = subst (λ (n : ℕ). n ≤ 64) (sym sites) few;
+        limit = subst (λ (z : SiteSeat). book_steps (last_seen z) ≤ 1000000000) (sym seat) new.5;
         program = subst IsProgram (sym program) real;
       };
       state = initial_site (program_of h) h.number;
@@ -49,4 +51,5 @@ new_host t h v x is start fresh mine live real few new =
       );
       over = λ yes. absurd (off (sym live ∙ yes));
       steps = omega arith;
+      within = subst (λ (es : List Turn). Each (λ (e : Turn). e.steps ≤ book_steps (sight h)) (own h.number es)) (sym none) tt;
     }

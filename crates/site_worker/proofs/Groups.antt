@@ -1,10 +1,11 @@
 -- Hosts go to the groups of their workers one by one.
-use Rattle.std.proofs.Common.{◌≡◌, ℕ, zero, suc, ◌+◌, ◌<◌, ◌≤◌, List, [], ◌∷◌, ◌++◌, cond, eqb, arith, length, length-append, sym, ap, ◌∙◌, subst, get_or, set, vec_capacity}
+use Rattle.std.proofs.Common.{◌≡◌, ◌≢◌, ◌⊎◌, ⊎_elim, ℕ, zero, suc, ◌+◌, ◌<◌, ◌≤◌, List, [], ◌∷◌, ◌++◌, cond, eqb, arith, length, length-append, sym, ap, ◌∙◌, subst, get_or, set, get_or-set_same, get_or-set_other, length-set, vec_capacity, rules}
 use Rattle.std.specs.List.{All}
 use Rattle.std.proofs.lemmas.List.Elements.{All-head, All-tail, All-set, All-push}
 use Rattle.site_worker.specs.declared.host.Host.{Host}
 use Rattle.site_worker.specs.declared.load.Group.{Group}
-use Rattle.site_worker.specs.Hosts.{number_of, AllHosts, AreEmpty, HaveRoom, times, all_times, all_hosts}
+use Rattle.site_worker.specs.Waking.{worker_of}
+use Rattle.site_worker.specs.Hosts.{number_of, AreAtHome, AllHosts, AreEmpty, HaveRoom, times, all_times, all_hosts}
 use Rattle.site_worker.proofs.Times.{times_push}
 
 abbrev IsEmptyFor : ℕ → Group → Type 0
@@ -50,3 +51,24 @@ room_set n i gs d g h inside e c room =
 pub all_set : (P : Host → Type 0) (i : ℕ) (gs : List Group) (d g : Group) (h : Host) → i < length gs → g.hosts.items ≡ (get_or gs i d).hosts.items ++ h ∷ [] → P h → AllHosts P gs → AllHosts P (set gs i g)
 all_set P i gs d g h inside e is all =
     All-set (λ (g : Group). All P g.hosts.items) gs i g (subst (All P) (sym e) (All-push P (get_or gs i d).hosts.items h (all i d inside) is)) all
+
+pub empty_home : (n : ℕ) (gs : List Group) → AreEmpty n gs → AreAtHome gs
+empty_home n gs h w d below = subst (All (λ (y : Host). worker_of y.number (length gs) ≡ w)) (sym (h w d below).0) (λ i e inside. absurd (omega arith))
+
+pub home_set : (i : ℕ) (gs : List Group) (d g : Group) (h : Host) → i < length gs → g.hosts.items ≡ (get_or gs i d).hosts.items ++ h ∷ [] → worker_of h.number (length gs) ≡ i → AreAtHome gs → AreAtHome (set gs i g)
+home_set i gs d g h inside e here home w x below =
+    let long = length-set gs i g in
+    let low : w < length gs = omega arith in
+    rw long (⊎_elim
+    (λ (same : w ≡ i).
+    let first = All-push (IsHere i) (get_or gs i d).hosts.items h (home i d inside) here in
+    subst (λ (k : ℕ). All (IsHere k) (get_or (set gs i g) k x).hosts.items) (sym same)
+    (rw (get_or-set_same gs i g x inside) (subst (All (IsHere i)) (sym e) first)))
+    (λ (other : w ≢ i). rw (get_or-set_other gs i w g x other) (home w x low))
+    (either w i))
+  where
+    IsHere : ℕ → Host → Type 0
+    IsHere k y = worker_of y.number (length gs) ≡ k
+
+    either : (a b : ℕ) → (a ≡ b) ⊎ (a ≢ b)
+    either a b = search rules

@@ -1,5 +1,5 @@
 -- How a host goes on from one part of a visit to the next.
-use Rattle.std.proofs.Common.{min, inl, inr, ⊎_elim, ◌-◌, ◌≡◌, ℕ, ◌≤◌, List, [], ◌∷◌, ◌++◌, cond, not, Bool, true, false, eq-eqb, Option, Some, None, refl, sym, ap, ◌∙◌, subst, arith}
+use Rattle.std.proofs.Common.{min, inl, inr, ⊎_elim, ◌-◌, ◌≡◌, ℕ, ◌≤◌, List, [], ◌∷◌, ◌++◌, cond, not, Bool, true, false, eq-eqb, Option, Some, None, refl, sym, ap, ◌∙◌, subst, arith, append_assoc}
 use Rattle.std.specs.Prelude.{slice_get, slice_index_or}
 use Rattle.atomic_table.specs.Seated.{TableId}
 use Rattle.kernel_syntax.specs.declared.stmt.Stmt.{Stmt}
@@ -8,9 +8,10 @@ use Rattle.site_message.specs.declared.message.Msg.{Msg}
 use Rattle.site_message.specs.declared.turn.Turn.{Turn}
 use Rattle.site_message.specs.declared.story.Sight.{Sight}
 use Rattle.site_message.specs.declared.reason.Reason.{Reason}
+use Rattle.site_message.specs.declared.reason.Reason.TheVariants.{Memory}
 use Rattle.site_message.specs.Journal.{sent_of}
 use Rattle.site_message.specs.Story.{own, hand}
-use Rattle.message_book.specs.Book.{IsSiteOf, without_delivered}
+use Rattle.message_book.specs.Book.{IsSiteOf, without_delivered, first_reason}
 use Rattle.book_lock.specs.declared.lock.SiteSeat.{SiteSeat}
 use Rattle.book_lock.specs.Rule.{IsContinuation}
 use Rattle.book_lock.specs.Seats.{last_seen, IsOutsideOf}
@@ -28,11 +29,12 @@ use Rattle.site_worker.specs.declared.inside.Fetched.{Fetched}
 use Rattle.site_worker.specs.declared.inside.Fetched.TheVariants.{Over, Open}
 use Rattle.site_worker.specs.declared.inside.PostOutcome.TheVariants.{Posted, Refused}
 use Rattle.site_worker.specs.Inside.{book_sites, book_steps, NoneWaits, HasTaken, HasFetched, HasPosted, HasClosed, Since}
-use Rattle.site_worker.specs.Host.{state_of, sight, program_of, sites_of, fixed_of, IsRunTo, IsSeated, HasCome, IsHost, IsSpelledBy, HasMessage, HasTurned, HasFailed, number_list}
+use Rattle.site_worker.specs.Host.{state_of, sight, program_of, sites_of, fixed_of, IsRunTo, IsSeated, HasCome, AreOwnWithin, IsHost, IsSpelledBy, HasMessage, HasTurned, HasFailed, number_list}
 use Rattle.site_worker.specs.declared.visited.Visited.{Visited}
 use Rattle.site_worker.specs.declared.visited.Visited.TheVariants.{Did, Nothing}
 use Rattle.site_worker.specs.declared.visited.Visited.TheVariants as visited
-use Rattle.site_worker.specs.Visit.{IsVisit, IsFirstHalf, IsSecondHalf, HasNoEntry, HasEntry, HasMadeTurn}
+use Rattle.site_worker.specs.Waking.{AreRecipients}
+use Rattle.site_worker.specs.Visit.{IsVisit, IsFirstHalf, IsSecondHalf, IsGivenUp, HasNoEntry, HasEntry, HasMadeTurn, WasClosed}
 use Rattle.site_worker.proofs.RunLemmas.{message_later, run_later, run_entry}
 use Rattle.site_model.proofs.FrameLemmas.{few_units}
 
@@ -51,6 +53,7 @@ seated_later table h x mine out same fixed = record {
   sites = ap (λ (l : List ℕ). slice_index_or l 0 0) fixed ∙ mine.sites;
   range = mine.range;
   most = mine.most;
+  limit = subst (λ (l : List ℕ). slice_index_or l 1 0 ≤ 1000000000) (sym fixed) mine.limit;
   program = mine.program;
 }
 
@@ -60,6 +63,23 @@ come_later h x s on same come = record {
   state = come.state;
   live = come.live;
 }
+
+-- steps and entries within the limit, where the fixed part stays and no own entry came
+steps_later : (n : ℕ) (old new : Sight) → new.fixed ≡ old.fixed → n ≤ book_steps old → n ≤ book_steps new
+steps_later n old new fixed few = subst (λ (l : List ℕ). n ≤ slice_index_or l 1 0) (sym fixed) few
+
+within_later : (h : Host) (x : SiteSeat) → (last_seen x).fixed ≡ (sight h).fixed → HasNoEntry h.number (sight h) (last_seen x) → AreOwnWithin h → AreOwnWithin (with_seat h x)
+within_later h x fixed same within =
+    subst (λ (z : List ℕ × List Turn). Each (λ (e : Turn). e.steps ≤ slice_index_or z.0 1 0) z.1) (λ i. (sym fixed i, sym same i)) within
+
+-- where the seat stays
+within_seat : (h : Host) (x : SiteSeat) → x ≡ h.site.seat → AreOwnWithin h → AreOwnWithin (with_seat h x)
+within_seat h x same within = subst (λ (z : SiteSeat). AreOwnWithin (with_seat h z)) (sym same) within
+
+-- what was found goes on from what the seat had seen
+pub fetched_begins : (k : ℕ) (old new : Sight) (r : Fetched) → Since k old new (λ now. HasFetched k now new r) → IsContinuation new.entries old.entries
+fetched_begins k old new (Over r) a = subst (λ (es : List Turn). IsContinuation es old.entries) (sym a.2.1) a.1.begins
+fetched_begins k old new (Open o limit) a = subst (λ (es : List Turn). IsContinuation es old.entries) (sym a.2.2) a.1.begins
 
 -- ---- the first half
 
@@ -96,23 +116,25 @@ module _ (table : TableId) (h : Host) (x : SiteSeat) (mine : IsHost table h) (ou
   fetched_from (Over r) a =
       let found = a.2 in
       let own_same : HasNoEntry h.number (sight h) (last_seen x) = ap (own h.number) found.1 ∙ a.1.own_entries in
-      let on : IsContinuation (last_seen x).entries (sight h).entries = subst (λ (es : List Turn). IsContinuation es (sight h).entries) (sym found.1) a.1.begins in (
+      let on = fetched_begins h.number (sight h) (last_seen x) (Over r) a in (
         record {
           seated = seated_later table h x mine.seated out same a.3;
           state = mine.state;
           run = run_later (program_of h) (sites_of h) bundle_limit h.number (sight h).entries (last_seen x).entries mine.state on own_same mine.run;
           live = λ is. (come_later h x mine.state on own_same (mine.live is).0, ap (hand h.number) found.2 ∙ (a.1.own_hands ∙ (mine.live is).1));
           over = λ is. (r, found.0);
-          steps = mine.steps;
+          steps = steps_later mine.state.steps (sight h) (last_seen x) a.3 mine.steps;
+          within = within_later h x a.3 own_same mine.within;
         },
         found.0,
         own_same,
+        (a.0, a.1.begins, found.1, ap (λ (o : Option Reason). first_reason o Memory) found.3),
       )
   fetched_from (Open o limit) a =
       let now = a.0 in
       let found = a.2 in
       let own_same : HasNoEntry h.number (sight h) (last_seen x) = ap (own h.number) found.2 ∙ a.1.own_entries in
-      let on : IsContinuation (last_seen x).entries (sight h).entries = subst (λ (es : List Turn). IsContinuation es (sight h).entries) (sym found.2) a.1.begins in
+      let on = fetched_begins h.number (sight h) (last_seen x) (Open o limit) a in
       let live : h.spent ≡ false = alive h.spent h.spent refl (λ yes. let t = mine.over yes in let e = sym (a.1.reason t.0 t.1) ∙ found.0 in cc) in
       let is = mine.live live in
       let come = come_later h x mine.state on own_same is.0 in
@@ -126,7 +148,8 @@ module _ (table : TableId) (h : Host) (x : SiteSeat) (mine : IsHost table h) (ou
             hands = taken.hands;
             message = taken.content;
             live = live;
-            steps = subst (λ (s : Site). s.steps ≤ 1000000000) (sym is.0.state) mine.steps;
+            steps = steps_later (state_of h).steps (sight h) (last_seen x) a.3 (subst (λ (s : Site). s.steps ≤ book_steps (sight h)) (sym is.0.state) mine.steps);
+            within = within_later h x a.3 own_same mine.within;
             reason = found.1;
             waits = taken.waits;
           },
@@ -152,17 +175,18 @@ seated_turn table h v seat same mine = record {
   sites = ap (λ (z : SiteSeat). book_sites (last_seen z)) seat ∙ (mine.sites ∙ sym same.1);
   range = subst (λ n. IsSiteOf n h.number) (sym same.1) mine.range;
   most = subst (λ n. n ≤ 64) (sym same.1) mine.most;
+  limit = subst (λ (z : SiteSeat). book_steps (last_seen z) ≤ 1000000000) (sym seat) mine.limit;
   program = subst IsProgram (sym same.0) mine.program;
 }
 
 -- a host whose site made a turn with what was taken
 pub turned_host : (table : TableId) (h : Host) (v : SiteState SiteSeat) (recipients quantum : ℕ) (o : Option (ℕ × Msg)) (e : Turn) → HasMessage table h o → v.seat ≡ h.site.seat
     → (v.program ≡ program_of h) × (v.sites ≡ sites_of h) × (v.state.records.site ≡ (state_of h).records.site) → v.spent ≡ false → quantum ≤ 64
-    → IsTurnMade (program_of h) (sites_of h) (state_of h) o quantum e v.state → v.state.steps ≤ 1000000000 → HasTurned table (record h { site = v; recipients = recipients }) e
+    → IsTurnMade (program_of h) (sites_of h) (state_of h) o quantum e v.state → v.state.steps ≤ book_steps (sight h) → HasTurned table (record h { site = v; recipients = recipients }) e
 turned_host table h v recipients quantum o e mine seat same live few turn steps =
     let seated = seated_turn table h v seat same mine.seated in
     record {
-      seated = record { outside = seated.outside; seat = seated.seat; site = seated.site; sites = seated.sites; range = seated.range; most = seated.most; program = seated.program };
+      seated = record { outside = seated.outside; seat = seated.seat; site = seated.site; sites = seated.sites; range = seated.range; most = seated.most; limit = seated.limit; program = seated.program };
       before = state_of h;
       taken = o;
       quantum = quantum;
@@ -173,7 +197,8 @@ turned_host table h v recipients quantum o e mine seat same live few turn steps 
       message = subst (λ (z : SiteSeat). delivered_message (last_seen z).entries (number_in o) ≡ message_in o) (sym seat) mine.message;
       hands = ap (λ (z : SiteSeat). hand h.number (last_seen z).hands) seat ∙ (mine.hands ∙ ap number_list (sym turn.delivered));
       live = (mine.live, live);
-      steps = (mine.steps, steps);
+      steps = subst (λ (z : SiteSeat). ((state_of h).steps ≤ book_steps (last_seen z)) × (v.state.steps ≤ book_steps (last_seen z))) (sym seat) (mine.steps, steps);
+      within = within_seat h v.seat seat mine.within;
     }
 
 -- a host whose site had no memory for its turn
@@ -182,44 +207,26 @@ pub spent_host : (table : TableId) (h : Host) (v : SiteState SiteSeat) (o : Opti
 spent_host table h v o mine seat same =
     let seated = seated_turn table h v seat same mine.seated in
     record {
-      seated = record { outside = seated.outside; seat = seated.seat; site = seated.site; sites = seated.sites; range = seated.range; most = seated.most; program = seated.program };
+      seated = record { outside = seated.outside; seat = seated.seat; site = seated.site; sites = seated.sites; range = seated.range; most = seated.most; limit = seated.limit; program = seated.program };
       before = state_of h;
       run = subst (λ (z : List Stmt × ℕ × SiteSeat). SiteRun z.0 z.1 bundle_limit h.number (last_seen z.2).entries (state_of h)) (λ i. (sym same.0 i, sym same.1 i, sym seat i)) mine.come.run;
       spent = refl;
-      steps = mine.steps;
+      steps = subst (λ (z : SiteSeat). (state_of h).steps ≤ book_steps (last_seen z)) (sym seat) mine.steps;
+      within = within_seat h v.seat seat mine.within;
     }
 
 -- a host that counts its turns
 pub counted_host : (table : TableId) (h : Host) (turns : ℕ) (o : Option (ℕ × Msg)) → HasMessage table h o → HasMessage table (record h { turns = turns }) o
 counted_host table h turns o mine = record {
-  seated = record { outside = mine.seated.outside; seat = mine.seated.seat; site = mine.seated.site; sites = mine.seated.sites; range = mine.seated.range; most = mine.seated.most; program = mine.seated.program };
+  seated = record { outside = mine.seated.outside; seat = mine.seated.seat; site = mine.seated.site; sites = mine.seated.sites; range = mine.seated.range; most = mine.seated.most; limit = mine.seated.limit; program = mine.seated.program };
   come = record { run = mine.come.run; state = mine.come.state; live = mine.come.live };
   hands = mine.hands;
   message = mine.message;
   live = mine.live;
   steps = mine.steps;
+  within = mine.within;
   reason = mine.reason;
   waits = mine.waits;
-}
-
--- a host that had no memory to read the message that was taken
-pub unread_host : (table : TableId) (h : Host) (o : Option (ℕ × Msg)) → HasMessage table h o → HasFailed table (record h { spent = true })
-unread_host table h o mine = record {
-  seated = record { outside = mine.seated.outside; seat = mine.seated.seat; site = mine.seated.site; sites = mine.seated.sites; range = mine.seated.range; most = mine.seated.most; program = mine.seated.program };
-  before = state_of h;
-  run = mine.come.run;
-  spent = refl;
-  steps = mine.steps;
-}
-
--- a host that had no memory to spell what its turn sends
-pub unspelled_host : (table : TableId) (h : Host) (e : Turn) → HasTurned table h e → HasFailed table (record h { spent = true })
-unspelled_host table h e mine = record {
-  seated = record { outside = mine.seated.outside; seat = mine.seated.seat; site = mine.seated.site; sites = mine.seated.sites; range = mine.seated.range; most = mine.seated.most; program = mine.seated.program };
-  before = mine.before;
-  run = mine.run;
-  spent = refl;
-  steps = mine.steps.0;
 }
 
 -- ---- the second half
@@ -253,6 +260,14 @@ sent_fits law table h e mine =
     (subst (Each (λ (d : Turn). CanBeSpelled d.sent)) (own_first k e es mine.site) all).0
 
 module _ (table : TableId) (h : Host) (e : Turn) (x : SiteSeat) (mine : HasTurned table h e) (out : IsOutsideOf table x) (same : x.site ≡ h.site.seat.site) where
+  -- the entry's own steps are those that the site came to
+  posted_within : (last_seen x).fixed ≡ (sight h).fixed → HasEntry h.number (sight h) (last_seen x) e → AreOwnWithin (with_seat h x)
+  posted_within fixed entry =
+      let t = mine.turn.turn in
+      let steps : e.steps ≡ (state_of h).steps = t.2.steps ∙ ap (λ (s : Site). s.steps) (sym t.3) in
+      let few : e.steps ≤ book_steps (sight h) = subst (λ n. n ≤ book_steps (sight h)) (sym steps) mine.steps.1 in
+      subst (λ (z : List ℕ × List Turn). Each (λ (e : Turn). e.steps ≤ slice_index_or z.0 1 0) z.1) (λ i. (sym fixed i, sym entry i)) (few, mine.within)
+
   posted_host : (o : Option Reason) → Since h.number (sight h) (last_seen x) (λ now. HasPosted e now (last_seen x) (Posted o))
       → IsHost table (with_seat h x) × ((last_seen x).reason ≡ o) × HasEntry h.number (sight h) (last_seen x) e × (hand h.number (last_seen x).hands ≡ []) × IsContinuation (last_seen x).entries (sight h).entries
   posted_host o a =
@@ -269,7 +284,8 @@ module _ (table : TableId) (h : Host) (e : Turn) (x : SiteSeat) (mine : HasTurne
           run = run;
           live = λ _. (record { run = run; state = refl; live = mine.live.1 }, hands);
           over = λ yes. absurd (off (sym yes ∙ mine.live.0));
-          steps = mine.steps.1;
+          steps = steps_later (state_of h).steps (sight h) (last_seen x) a.3 mine.steps.1;
+          within = posted_within a.3 mine_new;
         },
         found.2,
         mine_new,
@@ -278,27 +294,29 @@ module _ (table : TableId) (h : Host) (e : Turn) (x : SiteSeat) (mine : HasTurne
       )
 
   refused_host : (r : Reason) → Since h.number (sight h) (last_seen x) (λ now. HasPosted e now (last_seen x) (Refused r))
-      → IsHost table (record (with_seat h x) { spent = true }) × ((last_seen x).reason ≡ Some r) × HasNoEntry h.number (sight h) (last_seen x) × IsContinuation (last_seen x).entries (sight h).entries
+      → IsHost table (record (with_seat h x) { spent = true }) × ((last_seen x).reason ≡ Some r) × HasNoEntry h.number (sight h) (last_seen x) × IsContinuation (last_seen x).entries (sight h).entries × WasClosed (sight h) (last_seen x) r
   refused_host r a =
       let found = a.2 in
       let own_same : HasNoEntry h.number (sight h) (last_seen x) = ap (own h.number) found.0 ∙ a.1.own_entries in
       let on : IsContinuation (last_seen x).entries (sight h).entries = subst (λ (es : List Turn). IsContinuation es (sight h).entries) (sym found.0) a.1.begins in
       let seated = seated_later table h x mine.seated out same a.3 in (
         record {
-          seated = record { outside = seated.outside; seat = seated.seat; site = seated.site; sites = seated.sites; range = seated.range; most = seated.most; program = seated.program };
+          seated = record { outside = seated.outside; seat = seated.seat; site = seated.site; sites = seated.sites; range = seated.range; most = seated.most; limit = seated.limit; program = seated.program };
           state = mine.before;
           run = run_later (program_of h) (sites_of h) bundle_limit h.number (sight h).entries (last_seen x).entries mine.before on own_same mine.run;
           live = λ no_more. absurd (off no_more);
           over = λ _. (r, found.1);
-          steps = mine.steps.0;
+          steps = steps_later mine.before.steps (sight h) (last_seen x) a.3 mine.steps.0;
+          within = within_later h x a.3 own_same mine.within;
         },
         found.1,
         own_same,
         on,
+        (a.0, a.1.begins, found.0, found.2),
       )
 
 failed_host : (table : TableId) (h : Host) (x : SiteSeat) (mine : HasFailed table h) (out : IsOutsideOf table x) (same : x.site ≡ h.site.seat.site) (r : Reason)
-    → Since h.number (sight h) (last_seen x) (λ now. HasClosed now (last_seen x) r) → IsHost table (with_seat h x) × ((last_seen x).reason ≡ Some r) × HasNoEntry h.number (sight h) (last_seen x)
+    → Since h.number (sight h) (last_seen x) (λ now. HasClosed now (last_seen x) r) → IsHost table (with_seat h x) × ((last_seen x).reason ≡ Some r) × HasNoEntry h.number (sight h) (last_seen x) × WasClosed (sight h) (last_seen x) r
 failed_host table h x mine out same r a =
     let found = a.2 in
     let own_same : HasNoEntry h.number (sight h) (last_seen x) = ap (own h.number) found.1 ∙ a.1.own_entries in
@@ -309,10 +327,12 @@ failed_host table h x mine out same r a =
         run = run_later (program_of h) (sites_of h) bundle_limit h.number (sight h).entries (last_seen x).entries mine.before on own_same mine.run;
         live = λ living. absurd (off (sym mine.spent ∙ living));
         over = λ _. (r, found.0);
-        steps = mine.steps;
+        steps = steps_later mine.before.steps (sight h) (last_seen x) a.3 mine.steps;
+        within = within_later h x a.3 own_same mine.within;
       },
       found.0,
       own_same,
+      (a.0, a.1.begins, found.1, found.2),
     )
 
 -- a seat that was lent, and the site's number
@@ -327,13 +347,13 @@ posted_by table h e y x is mine out o a =
 
 pub refused_by : (table : TableId) (h : Host) (e : Turn) (y x : SiteSeat) → y ≡ h.site.seat → HasTurned table h e → IsOutsideOf table x × (x.site ≡ y.site) → (r : Reason)
     → Since y.site (last_seen y) (last_seen x) (λ now. HasPosted e now (last_seen x) (Refused r))
-    → IsHost table (record (with_seat h x) { spent = true }) × ((last_seen x).reason ≡ Some r) × HasNoEntry h.number (sight h) (last_seen x) × IsContinuation (last_seen x).entries (sight h).entries
+    → IsHost table (record (with_seat h x) { spent = true }) × ((last_seen x).reason ≡ Some r) × HasNoEntry h.number (sight h) (last_seen x) × IsContinuation (last_seen x).entries (sight h).entries × WasClosed (sight h) (last_seen x) r
 refused_by table h e y x is mine out r a =
     refused_host table h e x mine out.0 (out.1 ∙ ap (λ (z : SiteSeat). z.site) is) r (lent y h.site.seat h.number (last_seen x) (λ now. HasPosted e now (last_seen x) (Refused r)) is mine.seated.seat a)
 
 pub failed_by : (table : TableId) (h : Host) (y x : SiteSeat) → y ≡ h.site.seat → HasFailed table h → IsOutsideOf table x × (x.site ≡ y.site) → (r : Reason)
     → Since y.site (last_seen y) (last_seen x) (λ now. HasClosed now (last_seen x) r)
-    → IsHost table (with_seat h x) × ((last_seen x).reason ≡ Some r) × HasNoEntry h.number (sight h) (last_seen x)
+    → IsHost table (with_seat h x) × ((last_seen x).reason ≡ Some r) × HasNoEntry h.number (sight h) (last_seen x) × WasClosed (sight h) (last_seen x) r
 failed_by table h y x is mine out r a =
     failed_host table h x mine out.0 (out.1 ∙ ap (λ (z : SiteSeat). z.site) is) r (lent y h.site.seat h.number (last_seen x) (λ now. HasClosed now (last_seen x) r) is mine.seated.seat a)
 
@@ -355,8 +375,9 @@ pub made_turn : (a b c d : Host) (limit : ℕ) (o : Option (ℕ × Msg)) (e : Tu
     → (b.number ≡ a.number) × (program_of b ≡ program_of a) × (sites_of b ≡ sites_of a) × (fixed_of b ≡ fixed_of a) × (state_of b ≡ state_of a)
     → HasNoEntry a.number (sight a) (sight b) → limit ≡ book_steps (sight b) → delivered_message (sight b).entries (number_in o) ≡ message_in o
     → (c.number ≡ b.number) × (c.site.seat ≡ b.site.seat) → IsTurnMade (program_of b) (sites_of b) (state_of b) o (min (limit - (state_of b).steps) 64) e (state_of c)
-    → HasEntry c.number (sight c) (sight d) e → state_of d ≡ state_of c → IsContinuation (sight d).entries (sight c).entries → (o ≡ None → is_idle (state_of a) ≡ false) → HasMadeTurn a d
-made_turn a b c d limit o e same none left content seat turn posted state begins cause =
+    → HasEntry c.number (sight c) (sight d) e → state_of d ≡ state_of c → IsContinuation (sight d).entries (sight c).entries → (o ≡ None → is_idle (state_of a) ≡ false)
+    → (o ≡ None → NoneWaits b.number (sight b)) → IsContinuation (sight b).entries (sight a).entries → AreRecipients c.recipients e.sent → d.recipients ≡ c.recipients → HasMadeTurn a d
+made_turn a b c d limit o e same none left content seat turn posted state begins cause waits found wakes kept =
     let number : c.number ≡ a.number = seat.0 ∙ same.0 in
     let mine : own a.number (sight d).entries ≡ e ∷ own a.number (sight c).entries = subst (λ k. own k (sight d).entries ≡ e ∷ own k (sight c).entries) number posted in
     let steps : limit ≡ book_steps (sight a) = left ∙ ap (λ (y : List ℕ). slice_index_or y 1 0) same.3 in
@@ -367,13 +388,31 @@ made_turn a b c d limit o e same none left content seat turn posted state begins
       turn = subst (λ (z : List Stmt × ℕ × Site × ℕ × Site). IsTurnMade z.0 z.1 z.2 o z.3 e z.4) (λ i. (same.1 i, same.2 i, same.4 i, min (steps i - (same.4 i).steps) 64, sym state i)) turn;
       content = message_later (sight c).entries (sight d).entries o begins (subst (λ (z : SiteSeat). delivered_message (last_seen z).entries (number_in o) ≡ message_in o) (sym seat.1) content);
       cause = cause;
+      waits = λ is. (sight b, found, none, subst (λ k. NoneWaits k (sight b)) same.0 (waits is));
+      wakes = subst (λ n. AreRecipients n e.sent) (sym kept) wakes;
     }
 
+-- a book that the second half closed was closed by the visit
+pub closed_by : (a b c d : Host) → c.site.seat ≡ b.site.seat → IsContinuation (sight b).entries (sight a).entries → (r : Reason) → WasClosed (sight c) (sight d) r → WasClosed (sight a) (sight d) r
+closed_by a b c d seat first r was =
+    let second : IsContinuation was.0.entries (sight b).entries = subst (λ (z : SiteSeat). IsContinuation was.0.entries (last_seen z).entries) seat was.1 in
+    (was.0, (second.0 ++ first.0, second.1 ∙ (ap (λ l. second.0 ++ l) first.1 ∙ sym (append_assoc second.0 first.0 (sight a).entries))), was.2, was.3)
+
 pub visited_by : (a c d : Host) (e : Turn) (r : Visited) → c.number ≡ a.number → (HasEntry c.number (sight c) (sight d) e → HasMadeTurn a d) → (HasNoEntry c.number (sight c) (sight d) → HasNoEntry a.number (sight a) (sight d))
-    → IsSecondHalf c.number e (sight c) (sight d) r → IsVisit a d r
-visited_by a c d e Did number made none half = (half.0, made half.1, subst (λ k. hand k (sight d).hands ≡ []) number half.2)
-visited_by a c d e Nothing number made none half = absurd half
-visited_by a c d e (visited.Over r) number made none half = (half.0, ⊎_elim (λ (same : HasNoEntry c.number (sight c) (sight d)). inl (none same)) (λ (more : HasEntry c.number (sight c) (sight d) e). inr (made more)) half.1)
+    → ((r : Reason) → WasClosed (sight c) (sight d) r → WasClosed (sight a) (sight d) r) → IsSecondHalf c.number e (sight c) (sight d) r → IsVisit a d r
+visited_by a c d e Did number made none closed half = (half.0, made half.1, subst (λ k. hand k (sight d).hands ≡ []) number half.2)
+visited_by a c d e Nothing number made none closed half = absurd half
+visited_by a c d e (visited.Over r) number made none closed half = (
+  half.0,
+  ⊎_elim (λ (same : HasNoEntry c.number (sight c) (sight d) × WasClosed (sight c) (sight d) r). inl (none same.0, closed r same.1)) (λ (more : HasEntry c.number (sight c) (sight d) e). inr (made more)) half.1,
+)
+
+-- a visit whose turn had no memory
+pub given_up_by : (a c d : Host) (r : Visited) → (HasNoEntry c.number (sight c) (sight d) → HasNoEntry a.number (sight a) (sight d)) → ((r : Reason) → WasClosed (sight c) (sight d) r → WasClosed (sight a) (sight d) r)
+    → IsGivenUp c.number (sight c) (sight d) r → IsVisit a d r
+given_up_by a c d Did none closed half = absurd half
+given_up_by a c d Nothing none closed half = absurd half
+given_up_by a c d (visited.Over r) none closed half = (half.0, inl (none half.1, closed r half.2))
 
 -- no entry more in the halves, so none in the visit
 pub none_by : (a b c d : Host) → c.number ≡ a.number → c.site.seat ≡ b.site.seat → HasNoEntry a.number (sight a) (sight b) → HasNoEntry c.number (sight c) (sight d) → HasNoEntry a.number (sight a) (sight d)

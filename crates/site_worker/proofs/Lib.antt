@@ -4,5 +4,6 @@ pub mod HostLemmas
 pub mod Times
 pub mod Groups
 pub mod Ending
+pub mod Recipients
 pub mod Fresh
 pub mod NewSites

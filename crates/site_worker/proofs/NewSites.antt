@@ -13,7 +13,7 @@ use Rattle.book_lock.specs.Rule.{part, outside, head_of}
 use Rattle.book_lock.specs.Seats.{last_seen, parts_of, AreNewSeats}
 use Rattle.site_core.specs.Site.{SiteState}
 use Rattle.site_worker.specs.declared.host.Host.{Host}
-use Rattle.site_worker.specs.Inside.{book_sites}
+use Rattle.site_worker.specs.Inside.{book_sites, book_steps}
 use Rattle.site_worker.specs.Host.{IsNewSeat}
 use Rattle.site_worker.specs.Hosts.{number_of, times}
 use Rattle.site_worker.specs.Sites.{IsNewSite, AreNewSites, IsFresh}
@@ -56,6 +56,7 @@ new_seat t n x s fresh site table views =
       ap book_sites saw ∙ fresh.sites,
       ap (λ (z : Sight). z.entries) saw ∙ fresh.entries,
       ap (λ (z : Sight). hand s.site z.hands) saw ∙ fresh.hands s.site,
+      subst (λ (z : Sight). book_steps z ≤ 1000000000) (sym saw) fresh.limit,
     )
 
 -- the last site and the last seat are of one number, and the others are new

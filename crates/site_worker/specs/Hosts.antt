@@ -1,5 +1,5 @@
 -- Hosts by their sites, and the hosts of one run.
-use Rattle.std.specs.Prelude.{◌≡◌, ℕ, ◌+◌, ◌≤◌, ◌<◌, ◌==◌, List, [], ◌∷◌, map, cond, length, Vec, vec_capacity, Result, Ok, Err, Some}
+use Rattle.std.specs.Prelude.{◌≡◌, ℕ, ◌+◌, ◌≤◌, ◌<◌, ◌==◌, List, [], ◌∷◌, map, cond, length, Vec, vec_capacity, Result, Ok, Err, Some, slice_index_or}
 use Rattle.std.specs.List.{All, Any}
 use Rattle.std.proofs.Common.{Global}
 use Rattle.atomic_table.specs.Seated.{TableId}
@@ -14,6 +14,7 @@ use Rattle.site_model.specs.Run.{SiteRun, WorldRun}
 use Rattle.site_worker.specs.declared.host.Host.{Host}
 use Rattle.site_worker.specs.declared.load.Group.{Group}
 use Rattle.site_worker.specs.Host.{IsHost, IsHostOf, sight}
+use Rattle.site_worker.specs.Waking.{worker_of}
 
 -- the number of the host's site
 abbrev pub number_of : Host → ℕ
@@ -81,6 +82,10 @@ HaveRoom n gs = All (λ (g : Group). length g.hosts.items + n ≤ vec_capacity g
 -- each group is empty, with room for so many hosts
 abbrev pub AreEmpty : ℕ → List Group → Type 0
 AreEmpty n gs = All (λ (g : Group). (g.hosts.items ≡ []) × (n ≤ vec_capacity g.hosts)) gs
+
+-- each host of the groups stands in the group of its worker
+abbrev pub AreAtHome : List Group → Type 0
+AreAtHome gs = (w : ℕ) (d : Group) → w < length gs → All (λ (h : Host). worker_of h.number (length gs) ≡ w) (slice_index_or gs w d).hosts.items
 
 -- ---- the end
 

@@ -37,25 +37,25 @@ abbrev pub HasTaken : ℕ → Sight → Sight → Option (ℕ × List ℕ) → T
 HasTaken k old new None = (new ≡ old) × NoneWaits k old
 HasTaken k old new (Some x) = IsSentSpelling k old x.0 x.1 × (hand k new.hands ≡ hand k old.hands ++ x.0 ∷ [])
 
--- the book has a reason, and nothing changed; or it has none, and what was taken is told
+-- the book had a reason, and nothing changed; or it has none, and what was taken is told
 abbrev pub HasFetched : ℕ → Sight → Sight → Fetched → Type 0
-HasFetched k old new (Over r) = (new.reason ≡ Some r) × (new.entries ≡ old.entries) × (new.hands ≡ old.hands)
+HasFetched k old new (Over r) = (new.reason ≡ Some r) × (new.entries ≡ old.entries) × (new.hands ≡ old.hands) × (old.reason ≡ Some r)
 HasFetched k old new (Open o limit) = (old.reason ≡ None) × (new.reason ≡ None) × (new.entries ≡ old.entries)
     × ((limit ≡ book_steps new) × (limit ≤ 1000000000)) × HasTaken k old new o
 
--- the turn is the newest entry, its message is off the hand, and the book has this reason or none; or the book has this
--- reason and no entry more
+-- the turn is the newest entry, its message is off the hand, and the book has this reason or none; or the book has no entry more and this
+-- reason, which is the one that it had, or want of memory where it had none
 abbrev pub HasPosted : Turn → Sight → Sight → PostOutcome → Type 0
 HasPosted e old new (Posted o) = (new.entries ≡ e ∷ old.entries) × (hand e.site new.hands ≡ without_delivered e.delivered (hand e.site old.hands)) × (new.reason ≡ o)
-HasPosted e old new (Refused r) = (new.entries ≡ old.entries) × (new.reason ≡ Some r)
+HasPosted e old new (Refused r) = (new.entries ≡ old.entries) × (new.reason ≡ Some r) × (first_reason old.reason Memory ≡ Some r)
 
 -- the book has this reason, which is its first one or want of memory, and nothing else changed
 abbrev pub IsClosedBy : BookState → BookState → Reason → Type 0
 IsClosedBy old new r = (new.reason ≡ Some r) × (first_reason old.reason Memory ≡ Some r) × (new.limits ≡ old.limits) × (new.journal ≡ old.journal) × (new.hands ≡ old.hands)
 
--- the book has this reason, and the entries are those that there were
+-- the book has this reason, which is the one that it had, or want of memory where it had none, and the entries are those that there were
 abbrev pub HasClosed : Sight → Sight → Reason → Type 0
-HasClosed old new r = (new.reason ≡ Some r) × (new.entries ≡ old.entries)
+HasClosed old new r = (new.reason ≡ Some r) × (new.entries ≡ old.entries) × (first_reason old.reason Memory ≡ Some r)
 
 -- when the seat of the site k came in it found what it had left and what others did since; P is of what it found. The fixed
 -- part stays

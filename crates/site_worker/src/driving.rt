@@ -4,7 +4,7 @@ ghost use Rattle.std.specs.Prelude.{◌≡◌, ℕ, List, ◌+◌, ◌≤◌, �
 ghost use Rattle.kernel_syntax.specs.declared.stmt.Stmt.{Stmt};
 ghost use Rattle.book_lock.specs.Seats.{lock_id};
 ghost use Rattle.site_worker.specs.Host.{IsHost, IsHostOf};
-ghost use Rattle.site_worker.specs.Hosts.{AreHosts, AreHostsOf, AllHosts, AreSame, hosts_of, IsSomeOver, times, all_times, all_hosts};
+ghost use Rattle.site_worker.specs.Hosts.{AreHosts, AreHostsOf, AllHosts, AreSame, hosts_of, AreEmpty, IsSomeOver, times, all_times, all_hosts};
 
 use crate::gate::Gate;
 use crate::host::Host;
@@ -151,6 +151,28 @@ pub fn drive<'a, G: Gate + Sync, R: Threads + Wait + Sync>(
     let Ok(tools) = prepare(alloc, workers as usize, hosts.len()) else {
         return Err((hosts, AllocError));
     };
+    Ok(drive_with(rt, tools, hosts, lock, gate))
+}
+
+/// The same with what workers need besides hosts. It takes no memory.
+pub(crate) fn drive_with<'a, G: Gate + Sync, R: Threads + Wait + Sync>(
+    rt: &R,
+    tools: Tools<'a>,
+    hosts: Vec<Host<'a>>,
+    lock: &CountedLock<Book>,
+    gate: &G,
+) -> Vec<Host<'a>>
+    requires some { 0 < length hosts.items }
+    requires hosts { AreHosts (lock_id lock.now) hosts.items }
+    requires groups { (0 < length tools.load.groups.items) × AreEmpty (length hosts.items) tools.load.groups.items }
+    requires left_to_caller { length tools.left_to_caller.items ≡ length tools.load.groups.items }
+    requires here { (tools.load.here.hosts.items ≡ []) × (length hosts.items ≤ vec_capacity tools.load.here.hosts) }
+    ensures each { (k : ℕ) → times k result.items ≡ times k hosts.entry.items }
+    ensures count { length result.items ≡ length hosts.entry.items }
+    ensures hosts { AreHosts (lock_id lock.now) result.items }
+    ensures run { (p : List Stmt) (x : List ℕ) → AreHostsOf p x hosts.entry.items → AreHostsOf p x result.items }
+    ensures over { IsSomeOver result.items }
+{
     let Tools {
         unparkers,
         left_to_caller,
@@ -165,5 +187,5 @@ pub fn drive<'a, G: Gate + Sync, R: Threads + Wait + Sync>(
     let groups = deal(groups, hosts, lock);
     let all = drive_all(rt, lock, gate, &shared, Load { groups, here });
     // A look at the reason that ended the workers.
-    Ok(work(rt, lock, gate, &shared, Group { parker, hosts: all }))
+    work(rt, lock, gate, &shared, Group { parker, hosts: all })
 }

@@ -1,14 +1,17 @@
 //! A site with its seat, and a visit.
 
-ghost use Rattle.std.specs.Prelude.{◌≡◌, ◌≤◌, ◌-◌, min, ℕ, false, Option, IfOk, IfSome};
+ghost use Rattle.std.specs.Prelude.{◌≡◌, ◌≤◌, ◌-◌, ◌^◌, min, ℕ, false, Option, IfOk, IfSome};
 ghost use Rattle.atomic_table.specs.Seated.{TableId};
 ghost use Rattle.book_lock.specs.Rule.{IsContinuation};
 ghost use Rattle.book_lock.specs.Seats.{lock_id, last_seen};
 ghost use Rattle.kernel_syntax.specs.Program.{IsProgram};
+ghost use Rattle.message_book.specs.Book.{IsSiteOf};
 ghost use Rattle.site_message.specs.declared.message.Msg.{Msg as AMsg};
 ghost use Rattle.site_model.specs.Site.{initial_site};
 ghost use Rattle.site_core.specs.Site.{IsTurnMade};
 ghost use Rattle.site_worker.specs.Host.{IsHost, IsHostOf, IsNewSeat, IsSpelledBy, HasMessage, HasSpelling, HasTurned, HasFailed, HasTriedTurn, program_of, sites_of, state_of, sight};
+ghost use Rattle.site_worker.specs.Inside.{book_steps};
+ghost use Rattle.site_worker.specs.Waking.{AreRecipients};
 ghost use Rattle.site_worker.specs.Visit.{IsVisit, IsSameHost, IsFirstHalf, IsSecondHalf, IsGivenUp};
 
 use crate::gate::Gate;
@@ -100,6 +103,7 @@ impl<'a> Host<'a> {
         requires { IsHost (lock_id lock.now) self.old }
         ensures same { IsSameHost self.old self.new × (state_of self.new ≡ state_of self.old) }
         ensures fetched { IsFirstHalf (lock_id lock.now) self.old self.new result }
+        ensures begins { IsContinuation (sight self.new).entries (sight self.old).entries }
     {
         seats::fetch(rt, lock, self.site.seat())
     }
@@ -108,9 +112,10 @@ impl<'a> Host<'a> {
     // is given up.
     fn turn(&mut self, taken: Option<(u64, Bytes)>, limit: u64) -> Option<SpelledTurn>
         requires taken { (t : TableId) × HasSpelling t self.old taken }
-        requires limit { limit ≤ 1000000000 }
+        requires limit { (limit ≡ book_steps (sight self.old)) × (limit ≤ 1000000000) }
         ensures same { IsSameHost self.old self.new × (self.new.site.seat ≡ self.old.site.seat) }
         ensures turned { (t : TableId) → HasSpelling t self.old taken → HasTriedTurn t self.new result }
+        ensures recipients { IfSome result (λ e. AreRecipients self.new.recipients e.sent) }
         ensures turn { (m : Option (ℕ × AMsg)) → IsSpelledBy taken m → IfSome result (λ e. IsTurnMade (program_of self.old) (sites_of self.old) (state_of self.old) m (min (limit - (state_of self.old).steps) 64) e (state_of self.new)) }
     {
         let Ok(message) = read(self.alloc, taken) else {
@@ -129,9 +134,10 @@ impl<'a> Host<'a> {
     // The turn with its message. Without memory the site is given up.
     fn make_turn(&mut self, message: Option<(u64, Msg)>, limit: u64) -> Option<Turn>
         requires message { (t : TableId) × HasMessage t self.old message }
-        requires limit { limit ≤ 1000000000 }
+        requires limit { (limit ≡ book_steps (sight self.old)) × (limit ≤ 1000000000) }
         ensures same { IsSameHost self.old self.new × (self.new.site.seat ≡ self.old.site.seat) }
         ensures turned { (t : TableId) → HasMessage t self.old message → HasTriedTurn t self.new result }
+        ensures recipients { IfSome result (λ e. AreRecipients self.new.recipients e.sent) }
         ensures turn { IfSome result (λ e. IsTurnMade (program_of self.old) (sites_of self.old) (state_of self.old) message (min (limit - (state_of self.old).steps) 64) e (state_of self.new)) }
     {
         let left = limit.saturating_sub(self.site.steps());
@@ -153,6 +159,7 @@ impl<'a> Host<'a> {
         ensures host { IsHost (lock_id lock.now) self.new × IsSameHost self.old self.new }
         ensures visited { IsSecondHalf self.old.number turn (sight self.old) (sight self.new) result }
         ensures state { state_of self.new ≡ state_of self.old }
+        ensures recipients { self.new.recipients ≡ self.old.recipients }
         ensures begins { IsContinuation (sight self.new).entries (sight self.old).entries }
     {
         match seats::post(rt, lock, self.site.seat(), turn) {
@@ -190,13 +197,25 @@ fn read(alloc: Global, taken: Option<(u64, Bytes)>) -> Result<Option<(u64, Msg)>
     }
 }
 
-// The sites that the messages go to, a bit for each.
-fn recipients_of(sent: &[Sent]) -> u64 {
+// The sites that the messages go to: the bit `k - 1` for the site `k`.
+fn recipients_of(sent: &[Sent]) -> u64
+    ensures { AreRecipients result sent.now }
+{
     let mut recipients = 0;
     for one in sent {
-        if 1 <= one.to && one.to <= 64 {
-            recipients |= 1u64 << (one.to - 1);
-        }
+        recipients |= bit_of(one.to);
     }
     recipients
+}
+
+// The bit of a site, 1 to 64; none where there is no such site.
+fn bit_of(site: u32) -> u64
+    ensures one { IsSiteOf 64 site → result ≡ 2 ^ (site - 1) }
+    ensures none { (IsSiteOf 64 site → ⊥) → result ≡ 0 }
+{
+    if 1 <= site && site <= 64 {
+        1u64 << (site - 1)
+    } else {
+        0
+    }
 }

@@ -4,7 +4,8 @@ ghost use Rattle.std.specs.Prelude.{◌≡◌, ℕ, List, ◌+◌, ◌≤◌, �
 ghost use Rattle.kernel_syntax.specs.declared.stmt.Stmt.{Stmt};
 ghost use Rattle.book_lock.specs.Seats.{lock_id};
 ghost use Rattle.site_worker.specs.Host.{IsHost, IsHostOf};
-ghost use Rattle.site_worker.specs.Hosts.{AreHosts, AreHostsOf, AllHosts, AreEmpty, times, all_times, all_hosts};
+ghost use Rattle.site_worker.specs.Waking.{worker_of};
+ghost use Rattle.site_worker.specs.Hosts.{AreHosts, AreHostsOf, AllHosts, AreEmpty, AreAtHome, times, all_times, all_hosts};
 
 use crate::host::Host;
 use book_lock::CountedLock;
@@ -70,6 +71,15 @@ pub(crate) fn prepare<'a>(
     })
 }
 
+/// The worker of a site, of so many.
+pub(crate) fn worker_of(site: u32, workers: usize) -> usize
+    requires { 0 < workers }
+    ensures value { result ≡ worker_of site workers }
+    ensures range { result < workers }
+{
+    site as usize % workers
+}
+
 // Gives each worker its hosts. The lock is there for the contract.
 pub(crate) fn deal<'a>(
     mut groups: Vec<Group<'a>>,
@@ -82,9 +92,10 @@ pub(crate) fn deal<'a>(
     ensures hosts { AllHosts (IsHost (lock_id lock.now)) result.items }
     ensures run { (p : List Stmt) (x : List ℕ) → AreHostsOf p x hosts.entry.items → AllHosts (IsHostOf p x) result.items }
     ensures count { (all_hosts result.items ≡ length hosts.entry.items) × (length result.items ≡ length groups.entry.items) }
+    ensures homes { AreAtHome result.items }
 {
     while let Some(host) = hosts.pop() {
-        let worker = host.number as usize % groups.len();
+        let worker = worker_of(host.number, groups.len());
         groups[worker].hosts.push_reserved(host);
     }
     hosts.destroy_empty();

@@ -4,7 +4,7 @@ ghost use Rattle.std.specs.Prelude.{◌≡◌, List, ◌<◌, ◌≤◌, [], Som
 ghost use Rattle.kernel_syntax.specs.declared.stmt.Stmt.{Stmt};
 ghost use Rattle.book_lock.specs.Seats.{lock_id, lock_seats};
 ghost use Rattle.site_message.specs.declared.reason.Reason.{Reason};
-ghost use Rattle.site_message.specs.Journal.{Limits};
+ghost use Rattle.site_message.specs.Journal.{Limits, AreWithin};
 ghost use Rattle.site_message.specs.EarlierEnd.{HasNoEarlierEnd};
 ghost use Rattle.site_worker.specs.Hosts.{AreHosts, AreHostsOf, IsComplete, IsSomeOver, IsWorldRun, fixed_part};
 
@@ -24,6 +24,7 @@ pub fn finish<'a>(
     ensures run { (p : List Stmt) (l : Limits) → AreHostsOf p (fixed_part l) hosts.entry.items → IsComplete l.sites hosts.entry.items → IsWorldRun p l.sites result.journal }
     ensures limits { (p : List Stmt) (l : Limits) → AreHostsOf p (fixed_part l) hosts.entry.items → result.limits ≡ l }
     ensures went { HasNoEarlierEnd result.limits result.journal }
+    ensures within { (p : List Stmt) (l : Limits) → AreHostsOf p (fixed_part l) hosts.entry.items → IsComplete l.sites hosts.entry.items → AreWithin l result.journal }
     ensures over { IsSomeOver hosts.entry.items → ((r : Reason) × (result.reason ≡ Some r)) }
 {
     while let Some(host) = hosts.pop() {

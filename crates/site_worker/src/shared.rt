@@ -1,5 +1,6 @@
 //! What all workers of a run share.
 
+use crate::load::worker_of;
 use crossbeam_utils::sync::Unparker;
 use std::sync::atomic::AtomicBool;
 use std::sync::atomic::Ordering::SeqCst;
@@ -13,21 +14,20 @@ pub(crate) struct Shared {
 }
 
 impl Shared {
-    // Wakes the workers of these sites, the bit `k - 1` for the site `k`. A site's worker is its number modulo the number of
-    // workers.
+    // Wakes the workers of these sites, the bit `k - 1` for the site `k`.
     pub(crate) fn wake(&self, recipients: u64) {
         let workers = self.left_to_caller.len();
         if workers == 0 || self.unparkers.len() <= workers {
             return;
         }
         let mut left = recipients;
-        let mut site = 1usize;
+        let mut site = 1u32;
         for _ in 0..64u32 {
             if left == 0 {
                 return;
             }
             if left % 2 == 1 {
-                let worker = site % workers;
+                let worker = worker_of(site, workers);
                 self.unparkers[worker].unpark();
                 if self.left_to_caller[worker].load(SeqCst) {
                     self.unparkers[workers].unpark();

@@ -3,15 +3,17 @@
 ghost use Rattle.std.specs.Prelude.{◌≡◌, ℕ, ◌<◌, ◌≤◌, [], Some, length, vec_capacity, IfOk};
 ghost use Rattle.site_message.specs.declared.reason.Reason.{Reason};
 ghost use Rattle.site_message.specs.declared.story.Sight.{Sight};
+ghost use Rattle.site_message.specs.Journal.{AreWithin};
 ghost use Rattle.site_message.specs.EarlierEnd.{HasNoEarlierEnd};
 ghost use Rattle.message_book.specs.Book.{IsSiteOf};
 ghost use Rattle.book_lock.specs.Seats.{lock_id, AreNewSeats};
 ghost use Rattle.site_worker.specs.Hosts.{AreHosts, AreHostsOf, IsComplete, IsWorldRun};
 ghost use Rattle.site_worker.specs.Sites.{AreNewSites, IsFresh};
 
-use crate::driving::drive;
+use crate::driving::drive_with;
 use crate::gate::Gate;
 use crate::host::Host;
+use crate::load::prepare;
 use crate::run::finish;
 use book_lock::{CountedLock, SiteSeat};
 use kernel_syntax::Program;
@@ -92,21 +94,23 @@ pub fn run_sites<G: Gate + Sync, R: Threads + Wait + Sync>(
     ensures run { IfOk result (λ b. IsWorldRun program.now bounds.sites b.journal) }
     ensures limits { IfOk result (λ b. (b.limits.sites ≡ bounds.sites) × (b.limits.steps ≡ bounds.steps) × (b.limits.messages ≡ bounds.messages)) }
     ensures went { IfOk result (λ b. HasNoEarlierEnd b.limits b.journal) }
+    ensures within { IfOk result (λ b. AreWithin b.limits b.journal) }
     ensures over { IfOk result (λ b. (r : Reason) × (b.reason ≡ Some r)) }
 {
     let size = bounds.sites as usize;
     let hosts = Vec::with_capacity(alloc, size)?;
     let room = Vec::with_capacity(alloc, size)?;
     let sites = new_sites(alloc, bounds.sites, program)?;
+    let tools = prepare(alloc, bounds.workers as usize, size)?;
     let book = Book::new(alloc, bounds.sites, bounds.steps, bounds.messages)?;
-    let Ok((lock, seats)) = CountedLock::begin(alloc, book, bounds.sites) else {
-        return Err(AllocError);
-    };
-    let hosts = seat_all(sites, seats, hosts, bounds.sites, program, &lock);
-    match drive(rt, alloc, hosts, bounds.workers, &lock, gate) {
-        Ok(hosts) => Ok(finish(lock, hosts, room)),
-        Err((hosts, _)) => {
-            drop(finish(lock, hosts, room));
+    match CountedLock::begin(alloc, book, bounds.sites) {
+        Ok((lock, seats)) => {
+            let hosts = seat_all(sites, seats, hosts, bounds.sites, program, &lock);
+            let hosts = drive_with(rt, tools, hosts, &lock, gate);
+            Ok(finish(lock, hosts, room))
+        }
+        Err((book, _)) => {
+            book.destroy_empty();
             Err(AllocError)
         }
     }

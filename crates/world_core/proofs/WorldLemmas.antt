@@ -1,16 +1,15 @@
 -- How a run of a world grows by a turn.
 use Rattle.std.proofs.Common.{arith, ◌≡◌, ◌≢◌, sym, refl, subst, ℕ, ◌≤◌, List, [], ◌∷◌, Bool, true, false}
-use Rattle.std.specs.Prelude.{Option, ◌==◌}
+use Rattle.std.specs.Prelude.{◌==◌}
 use Rattle.kernel_syntax.specs.declared.stmt.Stmt.{Stmt}
 use Rattle.kernel_syntax.specs.Program.{IsProgram}
-use Rattle.site_message.specs.declared.message.Msg.{Msg}
 use Rattle.site_message.specs.declared.turn.Turn.{Turn}
 use Rattle.site_message.specs.Journal.{DeliversOnce}
 use Rattle.site_model.specs.Bundle.{bundle_limit}
 use Rattle.site_model.specs.Site.{Site, initial_site}
 use Rattle.site_model.specs.Run.{WorldRun, SiteRun, IsEntry, IsReachedBy, IsRecordOf, IsSiteIn, delivered_message}
 use Rattle.site_model.specs.Transition.{Transition}
-use Rattle.site_model.specs.Turn.{SiteTurn, IsFullTurn}
+use Rattle.site_model.specs.Turn.{SiteTurn}
 use Rattle.world_model.proofs.PutLemmas.{nat_decides}
 use Rattle.world_messages.proofs.CountLemmas.{once_each, none_own}
 use Rattle.world_simulation.specs.Protocols.{ProtocolsHold}

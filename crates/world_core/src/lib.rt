@@ -11,7 +11,7 @@
 //! (`IsSimulated`), the protocols' invariants hold (`ProtocolsHold`), no delivered message was unfit, and no more messages were
 //! sent than the picks allow (`AreMessagesFew`). Where the world is quiet the machine rests, with the threads that ended and
 //! wait at the sites. After want of memory the world is given up: it has the journal of the turns made before, which stays one
-//! of a run.
+//! of a run. A world has no `Drop`: its turns are handed on, with their schedule (`into_history`).
 //!
 //! No call walks over messages, threads or the journal, but for `schedule`, which takes a step for each turn and shares its
 //! picks: a turn costs by what it does, `quiet` by the number of sites.

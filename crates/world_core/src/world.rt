@@ -20,18 +20,18 @@ ghost use Rattle.site_message.specs.declared.story.NoSeat.{NoSeat};
 use crate::refusal::WorldRefusal;
 use kernel_syntax::Program;
 use site_core::Site;
-use site_message::{Journal, Msg, NoSeat, Quantum};
+use site_message::{History, Journal, Msg, NoSeat, Quantum};
 use std::alloc::{AllocError, Global};
 use std::marker::Model;
 use world_mail::{Mail, Travel};
 
 /// A program on 1 to 64 sites. Its sites take turns in whatever order the caller gives, and each turn delivers one message at
-/// most. After want of memory the world is given up: it makes no turn any more, and its journal tells the turns made before.
-#[derive(Drop)]
+/// most. After want of memory the world is given up: it makes no turn any more, and its journal tells the turns made before. It has no
+/// `Drop`: whoever has it hands its turns on.
 pub struct World<'a> {
     program: &'a Program,
     sites: Vec<Site<'a, NoSeat>>,
-    journal: Journal,
+    journal: History,
     mail: Mail,
     sent: u64,
     spent: bool,
@@ -62,11 +62,13 @@ impl<'a> World<'a> {
         ensures live { IfOk result (λ w. w.spent ≡ false) }
     {
         program.is_program();
+        let first = first_sites(alloc, program, sites)?;
+        let mail = Mail::new(alloc, sites)?;
         Ok(World {
             program,
-            sites: first_sites(alloc, program, sites)?,
-            journal: Journal::new(alloc),
-            mail: Mail::new(alloc, sites)?,
+            sites: first,
+            journal: History::new(alloc),
+            mail,
             sent: 0,
             spent: false,
         })
@@ -170,16 +172,24 @@ impl<'a> World<'a> {
         ensures live { self.now.spent ≡ false → WorldRun self.now.program self.now.sites bundle_limit self.now.journal (states_of self.now) }
         ensures few { AreMessagesFew self.now.program self.now.sites self.now.journal }
     {
-        &self.journal
+        self.journal.journal()
     }
 
-    /// The turns made, of a world that is done with. It takes no memory.
-    pub fn into_journal(self) -> Journal
+    /// The turns made with their schedule, of a world that is done with. It takes no memory.
+    pub fn into_history(self) -> History
         ensures value { result ≡ self.entry.journal }
         ensures run { HasRun self.entry.program self.entry.sites self.entry.journal }
         ensures few { AreMessagesFew self.entry.program self.entry.sites self.entry.journal }
     {
-        self.journal
+        let World {
+            program: _,
+            sites: _,
+            journal,
+            mail: _,
+            sent: _,
+            spent: _,
+        } = self;
+        journal
     }
 }
 

@@ -1,10 +1,11 @@
 use Rattle.std.proofs.Common.{sym, subst, refl, inr}
+use Rattle.site_message.specs.Journal.{AreWithin}
 use Rattle.site_message.specs.EarlierEnd.{HasNoEarlierEnd}
 use Rattle.world_core.specs.Laws.{HasRun}
 use Rattle.plain_run.specs.Progress.{HasReason, limits_of}
 use Rattle.plain_run.proofs.TotalsLemmas.{empty_run}
 use Rattle.oz_runner.specs.Bounds.{limits_in}
-use Rattle.oz_runner.proofs.BookLemmas.{reason_of_book, went_of_book}
+use Rattle.oz_runner.proofs.BookLemmas.{reason_of_book, went_of_book, within_book}
 use Rattle.oz_runner.proofs.program.drive_sites.Goals as goal
 
 pub returns-in-Ok-clause-run : goal.returns-in-Ok-clause-run
@@ -23,6 +24,15 @@ returns-in-Ok-clause-went g c =
     let left = c.run_in_book.ensures in
     subst (HasNoEarlierEnd (limits_of (limits_in c.args.bounds))) (sym left.journal)
     (went_of_book c.in-Ok.book.limits (limits_in c.args.bounds) c.in-Ok.book.journal limits.0 limits.1 limits.2 left.went)
+
+pub returns-in-Ok-clause-within : goal.returns-in-Ok-clause-within
+returns-in-Ok-clause-within g c =
+    let limits = c.in-Ok.ensures.limits in
+    subst (AreWithin (limits_of (limits_in c.args.bounds))) (sym c.run_in_book.ensures.journal)
+    (within_book c.in-Ok.book.limits (limits_in c.args.bounds) c.in-Ok.book.journal limits.0 limits.1 limits.2 c.in-Ok.ensures.within)
+
+pub returns-in-Err-clause-within : goal.returns-in-Err-clause-within
+returns-in-Err-clause-within g c = subst (AreWithin (limits_of (limits_in c.args.bounds))) (sym c.new.ensures) tt
 
 pub returns-in-Err-clause-went : goal.returns-in-Err-clause-went
 returns-in-Err-clause-went g c = subst (HasNoEarlierEnd (limits_of (limits_in c.args.bounds))) (sym c.new.ensures) tt

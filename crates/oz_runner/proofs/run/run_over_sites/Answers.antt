@@ -6,7 +6,7 @@ use Rattle.oz_runner.proofs.run.run_over_sites.Goals as goal
 
 pub returns : goal.returns
 returns g c =
-    let out = c.run_program-out in
+    let out = c.run_program-reason in
     λ is. subst (IsStatusOfRun _ _ _) (sym c.status_of.ensures)
     (sites_came c.args.program.now c.args.options out.result is c.quiet_tells.ensures c.runs_are_determined.ensures.end c.exchanges_are_a_chain.ensures.chains (record {
       run = out.ensures.simulated;
@@ -16,6 +16,7 @@ returns g c =
       few = out.ensures.few;
       reason = out.ensures.reason;
       went = out.ensures.went;
+      within = out.ensures.within;
       ended = out.ensures.ended;
       waiting = out.ensures.waiting;
     }))

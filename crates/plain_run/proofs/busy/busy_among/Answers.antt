@@ -11,6 +11,7 @@ returns-then-not-idle c = (
     | then-not-idle-via-then-not-idle w ↦ inl (sym c.idle.ensures ∙ w.if-not-idle.true)
     | then-not-idle-via-else-not-idle+then-is_some w ↦ inr (some_for c.args.world.now.travels c.loop-site.site w.next_for.result w.next_for.ensures.place (sym w.is_some.ensures ∙ w.if-is_some.true))
   ],
+  c.loop-site.invariant,
 )
 
 pub loop-site-preserved : goal.loop-site-preserved

@@ -1,5 +1,7 @@
-use Rattle.std.proofs.Common.{◌∙◌, sym, ap, rules}
-use Rattle.message_book.specs.Book.{BookState}
+use Rattle.std.proofs.Common.{◌∙◌, sym, ap, rules, Option}
+use Rattle.site_message.specs.declared.reason.Reason.{Reason}
+use Rattle.site_message.specs.declared.reason.Reason.TheVariants.{Memory}
+use Rattle.message_book.specs.Book.{BookState, first_reason}
 use Rattle.site_worker.proofs.Moving.{posts}
 use Rattle.site_worker.proofs.inside.post.Goals as goal
 
@@ -11,4 +13,4 @@ pub returns-in-Err-Closed-clause-delivered : goal.returns-in-Err-Closed-clause-d
 returns-in-Err-Closed-clause-delivered c =
     let same = c.in-Err-Closed.ensures.refused in
     let r = (c.post.ensures.closed c.in-Err-Closed.reason).0 (search rules) in
-    (ap (λ (b : BookState). b.journal) same, ap (λ (b : BookState). b.reason) same ∙ r)
+    (ap (λ (b : BookState). b.journal) same, ap (λ (b : BookState). b.reason) same ∙ r, ap (λ (o : Option Reason). first_reason o Memory) r)

@@ -1,11 +1,12 @@
-use Rattle.std.proofs.Common.{◌≡◌, ◌<◌, ◌+◌, ◌%◌, ◌++◌, ◌∷◌, [], ℕ, length, length-set, length-append, refl, ap, ◌∙◌, subst, arith, rules, vec_capacity, get_or}
+use Rattle.std.proofs.Common.{◌≡◌, ◌<◌, ◌+◌, ◌%◌, ◌++◌, ◌∷◌, [], ℕ, length, length-set, length-append, refl, sym, ap, ◌∙◌, subst, arith, rules, vec_capacity, get_or}
 use Rattle.std.proofs.lemmas.List.Elements.{All-pop}
 use Rattle.book_lock.specs.Seats.{lock_id}
 use Rattle.site_worker.specs.declared.load.Group.{Group}
 use Rattle.site_worker.specs.Host.{IsHost, IsHostOf}
+use Rattle.site_worker.specs.Waking.{worker_of}
 use Rattle.site_worker.specs.Hosts.{HaveRoom, times}
 use Rattle.site_worker.proofs.Times.{times_push}
-use Rattle.site_worker.proofs.Groups.{empty_times, empty_hosts, empty_room, empty_all, times_set, hosts_set, room_set, all_set}
+use Rattle.site_worker.proofs.Groups.{empty_times, empty_hosts, empty_room, empty_all, times_set, hosts_set, room_set, all_set, empty_home, home_set}
 use Rattle.site_worker.proofs.load.deal.Goals as goal
 
 pub loop-host-init : goal.loop-host-init
@@ -18,6 +19,7 @@ loop-host-init c =
       dealt = empty_all (IsHost (lock_id c.args.lock.now)) n c.args.groups.items e;
       left = c.requires.hosts;
       run = λ p x of. (empty_all (IsHostOf p x) n c.args.groups.items e, of);
+      homes = empty_home n c.args.groups.items e;
       count = (let z = empty_hosts n c.args.groups.items e in omega arith, refl);
     }
 
@@ -27,7 +29,9 @@ loop-host-preserved c =
     let gs = c.loop-host.groups.items in
     let h = c.in-Some.host in
     let hs = c.pop.new.self.items in
-    let i : ℕ = h.number % c.len.result in
+    let i : ℕ = c.worker_of-worker.result in
+    let long_groups : c.len.result ≡ length gs = search rules in
+    let here : worker_of h.number (length gs) ≡ i = ap (worker_of h.number) (sym long_groups) ∙ sym c.worker_of-worker.ensures.value in
     let d = c.index_mut.result.now in
     let x = get_or gs i d in
     let w : Group = record d { hosts = c.push_reserved.new.self } in
@@ -49,5 +53,9 @@ loop-host-preserved c =
           let old = v.run p x of in
           let rest = All-pop (IsHostOf p x) c.loop-host.hosts.items hs c.pop.result c.pop.ensures.items old.1 in
           (all_set (IsHostOf p x) i gs d w h inside items (rw c.in-Some.is at rest.1) old.0, rest.0);
+      homes = home_set i gs d w h inside items here v.homes;
       count = (let t = hosts_set i gs d w h inside items in let old = v.count.0 in omega arith, length-set gs i w ∙ v.count.1);
     }
+
+pub returns-clause-run : goal.returns-clause-run
+returns-clause-run c p x of = (c.loop-host.invariant.run p x of).0

@@ -2,7 +2,7 @@ use Rattle.std.proofs.Common.{◌≡◌, ℕ, ◌+◌, ◌<◌, List, length, ve
 use Rattle.kernel_syntax.specs.declared.stmt.Stmt.{Stmt}
 use Rattle.book_lock.specs.Seats.{lock_id}
 use Rattle.site_worker.specs.Host.{IsHost, IsHostOf}
-use Rattle.site_worker.specs.Hosts.{AreHosts, AreHostsOf, AllHosts, HaveRoom, times, all_times, all_hosts}
+use Rattle.site_worker.specs.Hosts.{AreHosts, AreHostsOf, AllHosts, AreAtHome, HaveRoom, times, all_times, all_hosts}
 use Rattle.site_worker.proofs.load.deal.Given as goal
 
 abbrev pub decreases-loop-host : goal.decreases-loop-host
@@ -16,5 +16,6 @@ invariant-loop-host l = record {
   dealt : AllHosts (IsHost (lock_id l.lock)) l.groups.items;
   left : AreHosts (lock_id l.lock) l.hosts.items;
   run : (p : List Stmt) (x : List ℕ) → AreHostsOf p x l.fn.hosts.items → AllHosts (IsHostOf p x) l.groups.items × AreHostsOf p x l.hosts.items;
+  homes : AreAtHome l.groups.items;
   count : (all_hosts l.groups.items + length l.hosts.items ≡ length l.fn.hosts.items) × (length l.groups.items ≡ length l.fn.groups.items);
 }

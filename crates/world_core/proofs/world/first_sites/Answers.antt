@@ -1,6 +1,6 @@
-use Rattle.std.proofs.Common.{arith, ◌≡◌, sym, subst, List, ℕ, length, ◌+◌}
+use Rattle.std.proofs.Common.{arith, ◌≡◌, sym, subst, List, ℕ, length}
 use Rattle.std.specs.Prelude.{Some, slice_get}
-use Rattle.site_model.specs.Site.{Site, initial_site}
+use Rattle.site_model.specs.Site.{initial_site}
 use Rattle.site_core.specs.Site.{SiteState}
 use Rattle.site_message.specs.declared.story.NoSeat.{NoSeat}
 use Rattle.world_core.specs.World.{IsNewSite}

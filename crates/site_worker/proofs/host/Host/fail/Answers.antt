@@ -12,4 +12,4 @@ returns-clause-host g c =
 pub returns-clause-visited : goal.returns-clause-visited
 returns-clause-visited g c =
     let t = failed_by _ c.args.self.now c.seat.result.now c.fail.new.seat c.seat.ensures.value c.requires c.fail.ensures.seat c.fail.result c.fail.ensures.closed in
-    (t.1, t.2)
+    (t.1, t.2, t.3)

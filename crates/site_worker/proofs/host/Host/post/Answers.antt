@@ -42,7 +42,7 @@ returns-in-Refused-clause-host g c =
 pub returns-in-Refused-clause-visited : goal.returns-in-Refused-clause-visited
 returns-in-Refused-clause-visited g c =
     let t = refused_by _ c.args.self.now c.args.turn c.seat.result.now c.post.new.seat c.seat.ensures.value c.requires c.post.ensures.seat c.in-Refused.reason c.in-Refused.ensures.delivered in
-    (t.1, inl t.2)
+    (t.1, inl (t.2, t.4))
 
 pub returns-in-Posted-None-clause-begins : goal.returns-in-Posted-None-clause-begins
 returns-in-Posted-None-clause-begins g c = (posted_by _ c.args.self.now c.args.turn c.seat.result.now c.post.new.seat c.seat.ensures.value c.requires c.post.ensures.seat c.in-Posted-None.field-0 c.in-Posted-None.ensures.delivered).4

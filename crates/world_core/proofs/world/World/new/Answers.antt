@@ -6,9 +6,9 @@ use Rattle.world_core.proofs.world.World.new.Goals as goal
 
 pub invariant_of-result : goal.invariant_of-result
 invariant_of-result c =
-    subst (λ (j : List Turn). IsConsistent c.args.program.now j c.in_ok-first_sites.field-0.items c.in_ok-new.field-0 0 false) (sym c.new.ensures)
-    (starts c.args.program.now c.args.sites c.in_ok-first_sites.field-0.items c.in_ok-new.field-0 c.is_program.ensures c.requires.some c.requires.most
-    c.in_ok-first_sites.ensures.length c.in_ok-first_sites.ensures.sites c.in_ok-new.ensures.queues c.in_ok-new.ensures.empty)
+    subst (λ (j : List Turn). IsConsistent c.args.program.now j c.in_ok-first.first.items c.in_ok-mail.mail 0 false) (sym c.new-2.ensures)
+    (starts c.args.program.now c.args.sites c.in_ok-first.first.items c.in_ok-mail.mail c.is_program.ensures c.requires.some c.requires.most
+    c.in_ok-first.ensures.length c.in_ok-first.ensures.sites c.in_ok-mail.ensures.queues c.in_ok-mail.ensures.empty)
 
 pub returns-clause-states : goal.returns-clause-states
-returns-clause-states c = new_states c.args.program.now c.args.sites c.in_ok-first_sites.field-0.items c.in_ok-first_sites.ensures.sites
+returns-clause-states c = new_states c.args.program.now c.args.sites c.in_ok-first.first.items c.in_ok-first.ensures.sites

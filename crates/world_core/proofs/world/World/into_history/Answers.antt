@@ -2,7 +2,7 @@ use Rattle.std.proofs.Common.{subst}
 use Rattle.world_core.specs.Laws.{HasRun, AreMessagesFew}
 use Rattle.world_core.specs.World.{WorldState}
 use Rattle.world_core.proofs.WorldLemmas.{messages_few}
-use Rattle.world_core.proofs.world.World.into_journal.Goals as goal
+use Rattle.world_core.proofs.world.World.into_history.Goals as goal
 use Rattle.std.proofs.Common.{length}
 
 pub returns-clause-run : goal.returns-clause-run
