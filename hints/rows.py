@@ -77,17 +77,12 @@ ROWS = [
     (
         "local X in if X == 1 then skip else skip end end",
         "refused 1:17 expected then",
-        "there is no == and no \\=: a constant is matched by case, integers are",
+        "the value of a test gets a name: local B in B = X == Y if B then",
     ),
     (
-        "local X Y B in B = X == Y end",
-        "refused 1:22 expected a statement or end",
-        "there is no == and no \\=: a constant is matched by case, integers are",
-    ),
-    (
-        "local X Y B in B = X \\= Y end",
-        "refused 1:22 expected a statement or end",
-        "there is no == and no \\=: a constant is matched by case, integers are",
+        "local X Y in if X \\= Y then skip else skip end end",
+        "refused 1:19 expected then",
+        "the value of a test gets a name: local B in B = X == Y if B then",
     ),
     (
         "local X in if X then skip end end",
@@ -260,7 +255,7 @@ ROWS = [
         "refused 1:17 expected a statement or end",
         "a head of a list is a variable: a constant gets a name first, as A =",
     ),
-    ("local X in X == 5 end", "refused 1:14 expected =", "a tell has one =; there is no ==: a constant is matched by case X of"),
+    ("local X in X == 5 end", "refused 1:14 expected =", "a tell has one =; a test is the value of a tell: B = X == Y"),
     ("local in skip end", "refused 1:7 expected a variable", ""),
     (
         "local X X2 in if X<X2 then skip else skip end end",

@@ -12,7 +12,7 @@ RESERVED = set(
 BUILT_IN = {"Browse": 1, "Wait": 1, "NewCell": 2, "Exchange": 3}
 TOKEN = re.compile(
     r"(?P<variable>[A-Z]\w*)|(?P<word>[a-z]\w*)|'(?P<quoted>(?:[^'\\]|\\.)*)'|(?P<integer>~?\d+)"
-    r"|(?P<sign>=<|>=|[=(){}$:.|+\-*<>])",
+    r"|(?P<sign>==|\\=|=<|>=|[=(){}$:.|+\-*<>])",
     re.ASCII,
 )
 
@@ -166,7 +166,7 @@ class Reader:
             return self.procedure(declared)
         if said not in declared:
             raise self.fault(f"{said} is undeclared")
-        for sign in ("+", "-", "*", "div", "mod", "=<", "<", ">=", ">"):
+        for sign in ("+", "-", "*", "div", "mod", "=<", "<", ">=", ">", "==", "\\="):
             if self.takes(sign):
                 return "operation", sign, said, self.variable(declared)
         if self.takes("."):

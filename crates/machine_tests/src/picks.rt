@@ -7,6 +7,8 @@ use tree_node::{CellName, Name, ThreadName};
 
 const CELL: Name = Name::Cell(CellName { site: 1, num: 0 });
 
+const SECOND: ThreadName = ThreadName { site: 1, num: 1 };
+
 static SKIP: Story = Story {
     text: "skip",
     rows: &[
@@ -41,6 +43,33 @@ static WAITING: Story = Story {
     lines: &[],
     rests: true,
     counts: (0, 1),
+};
+
+// A test of two unbound variables waits for the first, whatever else the pick has. Once they are one class its truth is told.
+static TEST: Story = Story {
+    text: "local A B R in thread B = A end R = A == B {Browse R} end",
+    rows: &[
+        Row::Pick(
+            FIRST,
+            Choice::Takes(&[Name::Var(X), Name::Var(Y), Name::Var(Z)]),
+            Answer::Goes,
+        ),
+        Row::Pick(FIRST, Choice::Nothing, Answer::Goes),
+        Row::Pick(FIRST, Choice::Takes(&[Name::Thread(SECOND)]), Answer::Goes),
+        Row::Pick(FIRST, Choice::Nothing, Answer::Waits(X)),
+        Row::Pick(FIRST, Choice::Takes(&[CELL]), Answer::Waits(X)),
+        Row::Pick(FIRST, Choice::Atom(Z, "true"), Answer::Waits(X)),
+        Row::Pick(SECOND, Choice::Nothing, Answer::Goes),
+        Row::Pick(SECOND, Choice::Joins(Y, X), Answer::Goes),
+        Row::Pick(FIRST, Choice::Takes(&[CELL]), Answer::Fresh),
+        Row::Pick(FIRST, Choice::Nothing, Answer::Goes),
+        Row::Pick(FIRST, Choice::Atom(Z, "false"), Answer::Bind),
+        Row::Pick(FIRST, Choice::Atom(Z, "true"), Answer::Goes),
+        Row::Rests(100),
+    ],
+    lines: &["true"],
+    rests: true,
+    counts: (2, 0),
 };
 
 // A second declaration takes neither the name of the first, which still occurs, nor one of another kind, nor none or two.
@@ -122,6 +151,7 @@ fn picks_are_steps_or_refused_by_their_first_part(rt: HostRuntime) -> Result<(),
     let alloc = rt.alloc();
     play_story(&rt, alloc, &SKIP)?;
     play_story(&rt, alloc, &WAITING)?;
+    play_story(&rt, alloc, &TEST)?;
     play_story(&rt, alloc, &USED)?;
     play_story(&rt, alloc, &GONE)?;
     play_story(&rt, alloc, &LINKS)?;

@@ -130,6 +130,72 @@ static IN_ITS_TURN: Story = Story {
     counts: (1, 1),
 };
 
+// The first thread ends with its 64th step, and the two that it made have their turns in the order in which they were born.
+const ENDS_WITH_ITS_TURN: &str = "local Zero One N Count in
+  Zero = 0 One = 1 N = 2
+  Count = proc {$ K}
+    local B in
+      B = K =< Zero
+      if B then skip else local J in J = K - One {Count J} end end
+    end
+  end
+  thread {Browse Zero} end
+  thread {Browse One} end
+  skip skip skip skip skip skip skip
+  {Count N}
+end";
+
+static BOTH_ARE_LEFT: Story = Story {
+    text: ENDS_WITH_ITS_TURN,
+    rows: &[Row::Turns(64, 64)],
+    lines: &[],
+    rests: false,
+    counts: (1, 2),
+};
+
+static NONE_IS_PASSED_BY: Story = Story {
+    text: ENDS_WITH_ITS_TURN,
+    rows: &[Row::Turns(100, 66)],
+    lines: &["0", "1"],
+    rests: true,
+    counts: (3, 0),
+};
+
+// A thread that compares is woken by the first of four variables, and keeps its one place when the others are bound. It goes round
+// and round then, and the last thread has its turn behind 64 steps of it.
+const COMPARES_AND_GOES_ON: &str = "local A B X1 X2 Y1 Y2 W P One Two in
+  One = 1 Two = 2
+  A = pair(X1 X2) B = pair(Y1 Y2)
+  P = proc {$} {P} end
+  thread local R in R = A == B if R then skip else {P} end end end
+  thread local Q in Q = W + W end end
+  local S in
+    thread S = One end
+    local Q in
+      Q = S + S
+      X1 = One Y1 = Two
+      X2 = One Y2 = Two
+      thread {Browse One} end
+    end
+  end
+end";
+
+static BEHIND_ONE_TURN: Story = Story {
+    text: COMPARES_AND_GOES_ON,
+    rows: &[Row::Turns(121, 121)],
+    lines: &[],
+    rests: false,
+    counts: (2, 3),
+};
+
+static WOKEN_ONCE: Story = Story {
+    text: COMPARES_AND_GOES_ON,
+    rows: &[Row::Turns(122, 122)],
+    lines: &["1"],
+    rests: false,
+    counts: (3, 2),
+};
+
 #[test]
 fn turns_go_on_to_the_end_or_the_limit(rt: HostRuntime) -> Result<(), Fail> {
     let alloc = rt.alloc();
@@ -140,5 +206,9 @@ fn turns_go_on_to_the_end_or_the_limit(rt: HostRuntime) -> Result<(), Fail> {
     play_story(&rt, alloc, &LOOP)?;
     play_story(&rt, alloc, &BEFORE_ITS_TURN)?;
     play_story(&rt, alloc, &IN_ITS_TURN)?;
+    play_story(&rt, alloc, &BOTH_ARE_LEFT)?;
+    play_story(&rt, alloc, &NONE_IS_PASSED_BY)?;
+    play_story(&rt, alloc, &BEHIND_ONE_TURN)?;
+    play_story(&rt, alloc, &WOKEN_ONCE)?;
     Ok(())
 }

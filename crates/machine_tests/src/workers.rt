@@ -72,7 +72,10 @@ fn reason_of<R: Abort + Threads + Wait + Sync>(
         messages: 4_000_000_000,
     };
     let book: Book = run_sites(rt, alloc, &program, bounds, &OpenGate)?;
-    Ok(book.reason())
+    let reason = book.reason();
+    let (journal, _) = book.into_history().into_parts();
+    journal.forget();
+    Ok(reason)
 }
 
 #[test]

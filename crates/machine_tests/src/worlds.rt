@@ -14,7 +14,8 @@ fn a_place_without_a_message_is_refused(rt: HostRuntime) -> Result<(), Fail> {
         panic!(rt; "no memory")
     };
     assert!(rt; world.turn(1, Some(0), Quantum(64)) == Err(WorldRefusal::NotThere));
-    forget(world);
+    let (journal, _) = world.into_history().into_parts();
+    journal.forget();
     forget(program);
     Ok(())
 }
@@ -27,7 +28,8 @@ fn a_turn_that_ends_all_leaves_the_world_quiet(rt: HostRuntime) -> Result<(), Fa
     };
     assert!(rt; world.turn(1, None, Quantum(64)).is_ok());
     assert!(rt; world.quiet());
-    forget(world);
+    let (journal, _) = world.into_history().into_parts();
+    journal.forget();
     forget(program);
     Ok(())
 }

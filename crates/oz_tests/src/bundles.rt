@@ -1,7 +1,7 @@
 //! What a site knows goes out with its messages.
 
 use crate::rows::KNOWN;
-use crate::texts::{report_of, with_workers};
+use crate::texts::{give_up, report_of, with_workers};
 use oz_base::{MemSink, MemSource};
 use oz_runner::OpenGate;
 use site_message::{Journal, Msg, Sent};
@@ -82,11 +82,13 @@ fn a_thread_takes_along_what_it_shows(rt: HostRuntime) -> Result<(), Fail> {
         let mut source = MemSource::new(KNOWN.as_bytes(), &[]);
         let mut sink = MemSink::new(alloc, &[], 2000)?;
         let report = report_of(&rt, alloc, &words, &mut source, &mut sink, &OpenGate)?;
+        let is_one = is_one_spawn(alloc, &report.journal);
+        give_up(report);
         assert_eq!(rt;
             sink.bytes(),
             b"f(5)\nquiescent ended=2 waiting=0\n".as_slice()
         );
-        assert!(rt; is_one_spawn(alloc, &report.journal)?);
+        assert!(rt; is_one?);
     }
     Ok(())
 }

@@ -1,7 +1,7 @@
 //! Examples of the repository, as `examples/check --tables` writes them.
 
 // A text, what it prints and its status' number.
-pub static EXAMPLES: [(&str, &str, u8); 17] = [
+pub static EXAMPLES: [(&str, &str, u8); 18] = [
     (
         "% Lists are records with a head and a tail; nil is an atom. Append goes through the first list and shares the second.
 local Append A B C Nil L1 L2 L3 M in
@@ -543,6 +543,44 @@ local Call Lift Move Mail Calls Zero One Three A B in
 end
 ",
         "2\n3\n2\n1\n0\nquiescent ended=2 waiting=0\n",
+        0,
+    ),
+    (
+        "% Many senders and one receiver: a cell holds the end of a stream, and each sender exchanges it for a new end.
+local NewMailbox Send Receive Mailbox Stream Zero One Three Nil Total in
+  Zero = 0  One = 1  Three = 3  Nil = nil
+  proc {NewMailbox Stream ?Mailbox} {NewCell Stream Mailbox} end
+  proc {Send Mailbox Message}
+    local End New in
+      {Exchange Mailbox End New}
+      End = Message|New
+    end
+  end
+  % sums so many messages
+  proc {Receive N Xs State ?Total}
+    local Ends in
+      Ends = N =< Zero
+      if Ends then Total = State
+      else
+        case Xs of X|Xr then
+          local Less Next in
+            Less = N - One
+            Next = State + X
+            {Receive Less Xr Next Total}
+          end
+        else skip end
+      end
+    end
+  end
+  {NewMailbox Stream Mailbox}
+  thread local M in M = 1 {Send Mailbox M} end end
+  thread local M in M = 20 {Send Mailbox M} end end
+  thread local M in M = 300 {Send Mailbox M} end end
+  {Receive Three Stream Zero Total}
+  {Browse Total}
+end
+",
+        "321\nquiescent ended=4 waiting=0\n",
         0,
     ),
 ];

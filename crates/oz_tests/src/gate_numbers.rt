@@ -1,7 +1,7 @@
 //! The numbers with which the gate is called.
 
 use crate::rows::COUNTER;
-use crate::texts::{report_of, with_workers};
+use crate::texts::{give_up, report_of, with_workers};
 use oz_base::{MemSink, MemSource};
 use oz_runner::Gate;
 use site_message::Journal;
@@ -83,8 +83,10 @@ fn calls_in_order<R: Abort + Threads + Wait + Sync>(
     let mut sink = MemSink::new(alloc, &[], 2000)?;
     let gate = DueTurns::new(alloc, 3)?;
     let report = report_of(rt, alloc, &words, &mut source, &mut sink, &gate)?;
+    let counts = gate.counts(&report.journal);
+    give_up(report);
     assert_eq!(rt; gate.noted.load(SeqCst), 0);
-    assert!(rt; gate.counts(&report.journal));
+    assert!(rt; counts);
     Ok(())
 }
 

@@ -1,6 +1,6 @@
 //! Turns of two sites are under way at once.
 
-use crate::texts::{report_of, with_workers};
+use crate::texts::{give_up, report_of, with_workers};
 use oz_base::{MemSink, MemSource};
 use oz_runner::{Gate, Status};
 use std::alloc::{AllocError, Global};
@@ -63,7 +63,8 @@ fn run_loops<R: Abort + Threads + Wait + Sync>(
         gave_up: AtomicU64::new(0),
     };
     let report = report_of(rt, alloc, &words, &mut source, &mut sink, &gate)?;
-    Ok((gate.gave_up.load(SeqCst) == 1, report.status))
+    let (status, _) = give_up(report);
+    Ok((gate.gave_up.load(SeqCst) == 1, status))
 }
 
 #[test]

@@ -3,44 +3,6 @@
 // A text, what it prints and its status' number.
 pub static MORE_EXAMPLES: [(&str, &str, u8); 17] = [
     (
-        "% Many senders and one receiver: a cell holds the end of a stream, and each sender exchanges it for a new end.
-local NewMailbox Send Receive Mailbox Stream Zero One Three Nil Total in
-  Zero = 0  One = 1  Three = 3  Nil = nil
-  proc {NewMailbox Stream ?Mailbox} {NewCell Stream Mailbox} end
-  proc {Send Mailbox Message}
-    local End New in
-      {Exchange Mailbox End New}
-      End = Message|New
-    end
-  end
-  % sums so many messages
-  proc {Receive N Xs State ?Total}
-    local Ends in
-      Ends = N =< Zero
-      if Ends then Total = State
-      else
-        case Xs of X|Xr then
-          local Less Next in
-            Less = N - One
-            Next = State + X
-            {Receive Less Xr Next Total}
-          end
-        else skip end
-      end
-    end
-  end
-  {NewMailbox Stream Mailbox}
-  thread local M in M = 1 {Send Mailbox M} end end
-  thread local M in M = 20 {Send Mailbox M} end end
-  thread local M in M = 300 {Send Mailbox M} end end
-  {Receive Three Stream Zero Total}
-  {Browse Total}
-end
-",
-        "321\nquiescent ended=4 waiting=0\n",
-        0,
-    ),
-    (
         "% A procedure is a value: Map takes one and calls it for each element of a list.
 local Map Square Double Count One Five L M N in
   One = 1
@@ -100,6 +62,43 @@ local Left Right Same in
 end
 ",
         "done\ndone\nquiescent ended=1 waiting=0\n",
+        0,
+    ),
+    (
+        "% What is kept by key: an association list is searched by ==, which compares whole keys. Two lists are the same as soon as what is
+% known of them tells it, and differ as soon as one part does.
+local Find Keys K1 K2 K3 V1 V2 A B C Nil Found Missing Absent Same in
+  proc {Find List Key Default ?Value}
+    case List of Pair|Rest then
+      case Pair of entry(Other Kept) then
+        local IsIt in
+          IsIt = Other == Key
+          if IsIt then Value = Kept else {Find Rest Key Default Value} end
+        end
+      else skip end
+    else Value = Default end
+  end
+  A = 1  B = 2  C = 3  Nil = nil
+  K1 = point(x:A y:B)  K2 = point(x:A y:C)  K3 = point(x:B y:B)
+  V1 = first  V2 = second  Absent = none
+  local P Q T in
+    P = entry(K1 V1)  Q = entry(K2 V2)
+    T = Q|Nil
+    Keys = P|T
+  end
+  {Find Keys K2 Absent Found}
+  {Find Keys K3 Absent Missing}
+  {Browse Found}
+  {Browse Missing}
+  local L M Open in
+    L = A|Open
+    M = B|Open
+    Same = L == M
+    {Browse Same}
+  end
+end
+",
+        "second\nnone\nfalse\nquiescent ended=1 waiting=0\n",
         0,
     ),
     (

@@ -96,7 +96,7 @@ pub static LISTED: [Listed; 5] = [
 // A text, the bytes that are taken, and the status' number.
 type Run = (&'static str, &'static str, u8);
 
-pub static RUNS: [Run; 31] = [
+pub static RUNS: [Run; 41] = [
     (FIVE, "5\nquiescent ended=1 waiting=0\n", 0),
     ("skip", "quiescent ended=1 waiting=0\n", 0),
     (
@@ -240,12 +240,65 @@ pub static RUNS: [Run; 31] = [
         "uncaught error(zero)\nquiescent ended=1 waiting=0\n",
         0,
     ),
+    // Two are equal or different as soon as what is told of them tells that.
+    (
+        "local X in X = X == X end",
+        "quiescent ended=1 waiting=0\n",
+        0,
+    ),
+    (
+        "local X Y A B One Two R in
+          One = 1 Two = 2 X = f(A One) Y = f(B Two) R = X == Y {Browse R}
+        end",
+        "false\nquiescent ended=1 waiting=0\n",
+        0,
+    ),
+    (
+        "local A B R in thread at 2 R = A == B end B = A {Browse R} end",
+        "true\nquiescent ended=2 waiting=0\n",
+        0,
+    ),
+    (
+        "local A B R in R = A \\= B {Browse R} end",
+        "quiescent ended=0 waiting=1\n",
+        1,
+    ),
+    (
+        "local A B R in A = B R = A == B {Browse R} end",
+        "true\nquiescent ended=1 waiting=0\n",
+        0,
+    ),
+    (
+        "local A B R in A = 1 B = 2 R = A \\= B {Browse R} end",
+        "true\nquiescent ended=1 waiting=0\n",
+        0,
+    ),
+    (
+        "local A B U V R in A = f(a:U) B = f(b:V) R = A == B {Browse R} end",
+        "false\nquiescent ended=1 waiting=0\n",
+        0,
+    ),
+    (
+        "local A B C D E R in A = f(B) B = f(A) C = f(D) D = f(E) E = f(C) R = A == C {Browse R} end",
+        "true\nquiescent ended=1 waiting=0\n",
+        0,
+    ),
+    (
+        "local P Q R in P = proc {$} skip end Q = proc {$} skip end R = P == Q {Browse R} end",
+        "false\nquiescent ended=1 waiting=0\n",
+        0,
+    ),
+    (
+        "local A B R in A = 1 thread R = A == B end thread R = B == A end B = 1 {Browse R} end",
+        "true\nquiescent ended=3 waiting=0\n",
+        0,
+    ),
 ];
 
 // The words after the name, a text, the bytes that are taken, and the status' number.
 pub type Worded = (&'static [&'static str], &'static str, &'static str, u8);
 
-pub static WORDED: [Worded; 14] = [
+pub static WORDED: [Worded; 17] = [
     (&["run"], FIVE, "5\nquiescent ended=1 waiting=0\n", 0),
     (&["central"], FIVE, "5\nquiescent ended=1 waiting=0\n", 0),
     (
@@ -279,6 +332,26 @@ pub static WORDED: [Worded; 14] = [
         &["--steps", "1000000000"],
         "skip",
         "quiescent ended=1 waiting=0\n",
+        0,
+    ),
+    (
+        &["central"],
+        "local A B R in thread R = A == B end B = A {Browse R} end",
+        "true\nquiescent ended=2 waiting=0\n",
+        0,
+    ),
+    (
+        &["central"],
+        "local A B R in R = A == B end",
+        "quiescent ended=0 waiting=1\n",
+        1,
+    ),
+    (
+        &["--sites", "2"],
+        "local X Y A B R in
+          X = f(A) Y = f(B) thread at 2 R = X == Y end A = 1 B = 1 {Browse R}
+        end",
+        "true\nquiescent ended=2 waiting=0\n",
         0,
     ),
     (
@@ -407,8 +480,8 @@ pub static REFUSED: [(&str, &str); 21] = [
     ("local X in X = f(1:X X) end", "refused 1:22 given twice"),
     ("local X in X = fun", "refused 1:16 expected a value"),
     (
-        "local X in X = X == X end",
-        "refused 1:18 expected a statement or end",
+        "local X in X = X \\= 5 end",
+        "refused 1:21 expected a variable",
     ),
     ("local X Y in X == Y end", "refused 1:16 expected ="),
     ("thread at 0 skip end", "refused 1:11 site below 1"),

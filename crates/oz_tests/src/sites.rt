@@ -4,7 +4,7 @@ use crate::endless::{ENDLESS, FAR_STREAM};
 use crate::rows::COUNTER;
 use crate::site_programs::{CELLS, RAISED, SENT, SITES, SiteProgram, THREADS};
 use crate::site_texts::{FRONTS, RACE, SITED, SiteText, THIRD};
-use crate::texts::{answer, report_of, with_workers};
+use crate::texts::{answer, give_up, report_of, with_workers};
 use oz_base::{MemSink, MemSource};
 use oz_runner::OpenGate;
 use site_message::Journal;
@@ -186,6 +186,8 @@ fn a_line_stands_in_a_turn_of_its_site(rt: HostRuntime) -> Result<(), Fail> {
     let mut sink = MemSink::new(alloc, &[], 2000)?;
     let words: [&str; 2] = ["--sites", "3"];
     let report = report_of(&rt, alloc, &words, &mut source, &mut sink, &OpenGate)?;
-    assert!(rt; has_lines_of(&report.journal, 3));
+    let found = has_lines_of(&report.journal, 3);
+    give_up(report);
+    assert!(rt; found);
     Ok(())
 }

@@ -5,7 +5,7 @@ use crate::examples::EXAMPLES;
 use crate::more_examples::MORE_EXAMPLES;
 use crate::rows::{FAILING, LIST, LISTED, Listed, REFUSED, RUNS, USAGE, WIDE, WORDED};
 use oz_base::{MemSink, MemSource};
-use oz_runner::{Gate, OpenGate, Report, oz};
+use oz_runner::{Gate, OpenGate, Report, Status, oz};
 use std::alloc::{AllocError, Global};
 use std::process::Abort;
 use std::sync::Wait;
@@ -50,6 +50,17 @@ pub fn report_of<R: Abort + Threads + Wait + Sync, G: Gate + Sync>(
     Ok(oz(rt, alloc, &list, source, sink, gate))
 }
 
+/// Gives the turns of a report up. Its status, and how many picks its schedule has.
+pub fn give_up(report: Report) -> (Status, usize) {
+    let Report {
+        status,
+        schedule,
+        journal,
+    } = report;
+    journal.forget();
+    (status, schedule.len())
+}
+
 // These bytes, the status' number and the length of the schedule.
 fn answer_of<R: Abort>(
     rt: &R,
@@ -57,11 +68,16 @@ fn answer_of<R: Abort>(
     bytes: &[u8],
     report: Report,
 ) -> Result<(Vec<u8>, u8, usize), AllocError> {
-    let number = report.status.number();
-    let count = report.schedule.len();
-    let picks = report.schedule.into_vec(alloc)?;
+    let Report {
+        status,
+        schedule,
+        journal,
+    } = report;
+    journal.forget();
+    let count = schedule.len();
+    let picks = schedule.into_vec(alloc)?;
     assert_eq!(rt; picks.len(), count);
-    Ok((Vec::from_slice(alloc, bytes)?, number, count))
+    Ok((Vec::from_slice(alloc, bytes)?, status.number(), count))
 }
 
 /// The bytes taken, the status' number and the length of the schedule, with room for two thousand bytes.

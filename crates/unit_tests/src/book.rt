@@ -88,15 +88,18 @@ fn is_spelling(bytes: &Bytes) -> bool {
     bytes.as_slice() == [17, 1, 0, 0, 0, 0, 0, 0, 0, 1, 0, 0, 0, 3, 0, 0, 0, 0].as_slice()
 }
 
-// A book of two sites, to which site 1 has posted that it sent a thread to site 2.
-fn post_first(alloc: Global) -> Option<Book>
-    ensures { IfSome result (λ b. b.limits.sites ≡ 2) }
+// Site 1 posts that it sent a thread to site 2.
+fn post_first(alloc: Global, book: &mut Book) -> bool
+    requires { book.old.limits.sites ≡ 2 }
+    ensures { book.new.limits.sites ≡ 2 }
 {
-    let mut book = Book::new(alloc, 2, 10, 1).ok()?;
-    let sent = one_spawn(alloc).ok()?;
-    let first = spell_turn(alloc, turn(alloc, 1, None, sent))?;
-    book.post(first).ok()?;
-    Some(book)
+    let Ok(sent) = one_spawn(alloc) else {
+        return false;
+    };
+    match spell_turn(alloc, turn(alloc, 1, None, sent)) {
+        Some(first) => book.post(first).is_ok(),
+        None => false,
+    }
 }
 
 // Site 2 takes a message.
@@ -152,23 +155,28 @@ fn close_book(book: &mut Book) -> Option<Reason> {
     book.reason()
 }
 
-fn run_two_turns(alloc: Global) -> Option<Observed> {
-    let mut book = post_first(alloc)?;
-    let after_first = book.reason();
-    if !has_none(&mut book, 1) {
+// What two turns of two sites come to.
+fn run_in(alloc: Global, book: &mut Book) -> Option<Observed>
+    requires { book.old.limits.sites ≡ 2 }
+{
+    if !post_first(alloc, book) {
         return None;
     }
-    let (number, bytes) = take_message(&mut book)?;
-    if !has_none(&mut book, 2) {
+    let after_first = book.reason();
+    if !has_none(book, 1) {
+        return None;
+    }
+    let (number, bytes) = take_message(book)?;
+    if !has_none(book, 2) {
         return None;
     }
     let quiet_in_between = book.quiet();
-    if !post_second(alloc, &mut book, number) {
+    if !post_second(alloc, book, number) {
         return None;
     }
     let after_second = book.reason();
-    let third = post_third(alloc, &mut book);
-    let after_close = close_book(&mut book);
+    let third = post_third(alloc, book);
+    let after_close = close_book(book);
     Some(Observed {
         after_first,
         number,
@@ -178,8 +186,19 @@ fn run_two_turns(alloc: Global) -> Option<Observed> {
         third,
         after_close,
         step_limit: book.step_limit(),
-        entries: book.into_journal().oldest_first().len(),
+        entries: book.journal().oldest_first().len(),
     })
+}
+
+// The turns of the book are given up.
+fn run_two_turns(alloc: Global) -> Option<Observed> {
+    let Ok(mut book) = Book::new(alloc, 2, 10, 1) else {
+        return None;
+    };
+    let seen = run_in(alloc, &mut book);
+    let (journal, _) = book.into_history().into_parts();
+    journal.forget();
+    seen
 }
 
 // Of two sites, with a limit of ten steps and one message.
