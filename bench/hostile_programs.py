@@ -195,5 +195,5 @@ ENDLESS = {
     "a cell between three sites": exchanged_forever(),
 }
 
-# of these nearly all memory is the journal of turns. Their lines are lost, where the schedule finds no memory beside it
-JOURNALS = {"lines", "a loop", "a cell between three sites"}
+# of these the first turn, which prints the first line, takes megabytes
+GREAT_TURNS = {"lines of a wide cycle"}

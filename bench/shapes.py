@@ -199,6 +199,52 @@ def equal_rings(n):
 end"""
 
 
+def compared_lists(n):
+    """Two lists of n equal elements, compared."""
+    return f"""local Count Zero One N Nil L M R in {constants(n)} {COUNT} {{Count N L}} {{Count N M}} R = L == M {{Wait R}} end"""
+
+
+def compared_streams(n):
+    """Two lists of n equal elements, compared while two threads make them."""
+    return f"""local Count Zero One N Nil L M R in {constants(n)} {COUNT}
+  thread {{Count N L}} end thread {{Count N M}} end R = L == M {{Wait R}}
+end"""
+
+
+def compared_rings(n):
+    """A ring of n nodes and one of seven, compared: each node of the one meets each of the other, where n is no multiple of seven."""
+    return f"""local Ring Zero One N Seven Nil L M R in {constants(n)} Seven = 7
+  proc {{Ring K First ?L}}
+    local Ends in
+      Ends = K =< One
+      if Ends then L = f(First) else local M T in M = K - One L = f(T) {{Ring M First T}} end end
+    end
+  end
+  {{Ring N L L}} {{Ring Seven M M}} R = L == M {{Wait R}}
+end"""
+
+
+def association_list(n):
+    """A key looked up in a list of n pairs, of which the last has it: each key is compared with it."""
+    return f"""local Make Look Zero One N Nil L Sought Value in {constants(n)}
+  proc {{Make K ?L}}
+    local Ends in
+      Ends = K =< Zero
+      if Ends then L = nil
+      else local M Key T P in M = K - One Key = key(K) P = pair(Key K) L = P|T {{Make M T}} end end
+    end
+  end
+  proc {{Look Xs Sought ?Value}}
+    case Xs of X|Xr then
+      case X of pair(Key V) then
+        local Is in Is = Key == Sought if Is then Value = V else {{Look Xr Sought Value}} end end
+      else Value = none end
+    else Value = none end
+  end
+  {{Make N L}} Sought = key(One) {{Look L Sought Value}} {{Wait Value}}
+end"""
+
+
 def chain(n, tell):
     return f"""local Chain Zero One N Nil First Last in {constants(n)}
   proc {{Chain K X ?Y}}
@@ -411,6 +457,10 @@ SHAPES = [
     (show_list, 1, (2000, 2001, 2003), 10000, 3),
     (equal_lists, 1, (8, 16, 32), 4000, 3),
     (equal_rings, 1, (8, 16, 32), 4000, 3),
+    (compared_lists, 1, (8, 16, 32), 4000, 3),
+    (compared_streams, 1, (8, 16, 32), 4000, 3),
+    (compared_rings, 1, (8, 16, 32), 1000, 3),
+    (association_list, 1, (8, 16, 32), 2000, 3),
     (chain_down, 1, (8, 16, 32), 10000, 3),
     (chain_up, 1, (8, 16, 32), 10000, 3),
     (chain_read, 1, (8, 16, 32), 10000, 3),
