@@ -37,7 +37,7 @@
     ("\\<proc[ \t]*{[ \t]*\\([A-Z]\\w*\\)" 1 font-lock-function-name-face)
     (,(regexp-opt kernel-oz-words 'words) . font-lock-keyword-face)
     (,(regexp-opt kernel-oz-unused-words 'words) . font-lock-warning-face)
-    ("==\\|\\\\=\\|\\[\\]" . font-lock-warning-face)
+    ("\\[\\]" . font-lock-warning-face)
     ("~?\\<0[0-9]+\\>" . font-lock-warning-face)
     ("\\<[A-Z]\\w*\\>" . font-lock-variable-name-face)
     ("\\<[a-z]\\w*\\>" . font-lock-constant-face)

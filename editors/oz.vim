@@ -25,9 +25,9 @@ syntax keyword ozOperatorWord div mod
 syntax keyword ozUnused andthen attr choice class cond declare define dis elsecase elseif export fail feat finally from
 syntax keyword ozUnused fun functor import lock meth not or orelse prepare prop require self unit
 
-" Signs; ==, \= and [] are tokens that no rule uses.
-syntax match ozSign "[=(){}$:.|+*<>-]"
-syntax match ozUnusedSign "==\|\\=\|\[\]"
+" Signs; [] is a token that no rule uses.
+syntax match ozSign "==\|\\=\|[=(){}$:.|+*<>-]"
+syntax match ozUnusedSign "\[\]"
 
 " A quoted atom with its escapes, and comments: to the end of a line, or nested.
 syntax match ozEscape "\\['\\n]" contained

@@ -6,7 +6,7 @@ local Twice X in
   end
   X = ~5
   case X of 'an\'atom\q'(a:Y) then {Browse Y} else fun {Wait X} end
-  X == 007
+  X = Y == Z [] 007
   Browse = X div Y
   if_x = thread_1
 end
