@@ -1,0 +1,17 @@
+pub mod UnitLemmas
+pub mod FieldLaws
+pub mod FrontLaws
+pub mod NumberLaws
+pub mod ItemLaws
+pub mod BaseLaws
+pub mod RunLaws
+pub mod EndLaws
+pub mod WholeLaws
+pub mod LoopLaws
+pub mod StayLaws
+pub mod GoesOnLaws
+pub mod OpenLaws
+pub mod ReadLaws
+pub mod WriteLaws
+pub mod RowsRead
+pub mod FitsLaws

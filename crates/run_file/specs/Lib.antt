@@ -1,0 +1,9 @@
+pub mod Units
+pub mod Field
+pub mod Saved
+pub mod Reading
+pub mod Laws
+pub mod Parts
+pub mod Writing
+pub mod Rows
+pub mod Fits
