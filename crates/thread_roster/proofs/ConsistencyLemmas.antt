@@ -16,14 +16,15 @@ use Rattle.thread_roster.specs.declared.slot.Occupant.{Occupant}
 use Rattle.waiting_keys.specs.Keys as keys
 use Rattle.waiting_keys.specs.Keys.{keys_among}
 use Rattle.thread_roster.specs.Invariant.{IsConsistent}
-use Rattle.thread_roster.specs.Slots.{Slot, IsNotSlotOf, IsSlotOf, IsOnlyAt, IsPlaced, ArePlaced, slot_in, with_slot, IsModeAt, AreInside, wake_slot, wake_slots, total, one, weight, waiting, entry, threads_in, HasLeft, IsRest, IsNext, with_value_in, value_there, woken}
-use Rattle.thread_roster.specs.Threads.{Threads, awaits, wake, wake_all, set_mode, set_value, AllWait, IsRunnable}
+use Rattle.thread_roster.specs.Slots.{Slot, IsNotSlotOf, IsSlotOf, IsOnlyAt, IsPlaced, ArePlaced, slot_in, with_slot, IsModeAt, AreInside, wake_slot, wake_slots, total, one, weight, waiting, entry, threads_in, HasLeft, IsRest, IsNext, value_there, without_slot, woken}
+use Rattle.thread_roster.specs.Threads.{awaits, wake, wake_all, set_mode, set_value, AllWait, IsRunnable}
 use Rattle.tree_node.specs.Assoc.{value_of, without_key}
 use Rattle.tree_node.specs.State.{equal_thread}
 use Rattle.thread_roster.proofs.NameLemmas.{is_same, is_other}
 use Rattle.thread_roster.proofs.SlotLemmas.{placed_set, placed_end, placed_born, total_set, total_end, total_born, only_inside, only_at, held_at, lacking, found, placed_there, has_place, mode_put, value_put, thread_ended, thread_born, living_le}
 use Rattle.thread_roster.proofs.WakeLemmas.{IsAwaitingAt, mode_in, roused_all, living_roused, threads_woken}
 use Rattle.thread_roster.proofs.WokenLemmas.{woken_all, woken_inside}
+use Rattle.thread_roster.proofs.QueueLemmas.{stays, each_without}
 use Rattle.tree_node.proofs.EachLemmas.{each_append}
 use Rattle.std.proofs.lemmas.List.{length_push}
 
@@ -401,6 +402,19 @@ pub kept_left : {V : Type 0} (slots : List (Slot V)) (by_name : Places) (queue r
 kept_left slots by_name queue rest waiting_keys a b i (inl same) still h = subst (λ (q : List ℕ). IsConsistent slots by_name q waiting_keys a b) (sym same) h
 kept_left slots by_name queue rest waiting_keys a b i (inr first) still h = kept_pop slots by_name queue rest waiting_keys a b i h first still
 
+-- a slot whose thread does not go on leaves the queue, wherever it stood
+pub kept_without : {V : Type 0} (slots : List (Slot V)) (by_name : Places) (queue rest : List ℕ) (waiting_keys : Waiting) (a b i : ℕ) → rest ≡ without_slot i queue → (IsModeAt slots i mode.Runs → ⊥) → IsConsistent slots by_name queue waiting_keys a b →
+    IsConsistent slots by_name rest waiting_keys a b
+kept_without {V} slots by_name queue rest waiting_keys a b i e still h = subst (λ (q : List ℕ). IsConsistent slots by_name q waiting_keys a b) (sym e) (record {
+  placed = h.placed;
+  parked = h.parked;
+  keys_inside = h.keys_inside;
+  queued = λ j s. stays i queue j (h.queued j s) (λ same. still (subst (λ (k : ℕ). IsModeAt slots k mode.Runs) (sym same) s));
+  inside = each_without (λ (j : ℕ). j < length slots) i queue h.inside;
+  alive = h.alive;
+  waiters = h.waiters;
+})
+
 -- slots whose threads do not go on have left the front of the queue
 pub kept_rest : {V : Type 0} (slots : List (Slot V)) (by_name : Places) (queue rest : List ℕ) (waiting_keys : Waiting) (a b : ℕ) → IsRest slots queue rest → IsConsistent slots by_name queue waiting_keys a b → IsConsistent slots by_name rest waiting_keys a b
 kept_rest {V} slots by_name queue rest waiting_keys a b (front, e, still) h = go front still (subst (λ (q : List ℕ). IsConsistent slots by_name q waiting_keys a b) e h)
@@ -520,6 +534,14 @@ pub value_found : {V : Type 0} (slots : List (Slot V)) (slot : ThreadName → Op
     value_of equal_thread (threads_in slots) n ≡ Some (h.value, h.mode)
 value_found slots slot n i h placed e at = found n slots i h (only_at slots slot n i placed e) at
 
+-- it stands there as its name says
+pub stands_there : {V : Type 0} (slots : List (Slot V)) (slot : ThreadName → Option ℕ) (n : ThreadName) (i : ℕ) (h : Occupant V) (v : V) (m : Mode) → ArePlaced slots slot → slot n ≡ Some i → slice_get slots i ≡ Some (Some h) →
+    value_of equal_thread (threads_in slots) n ≡ Some (v, m) → h.mode ≡ m
+stands_there {V} slots slot n i h v m placed e at there =
+    let both : Some (h.value, h.mode) ≡ Some (v, m) = sym (value_found slots slot n i h placed e at) ∙ there in
+    let same : (h.value, h.mode) ≡ (v, m) = cc in
+    ap (λ (u : V × Mode). u.1) same
+
 -- what was popped was the first
 pub popped : (queue now rest : List ℕ) (i : ℕ) (o : Option ℕ) → IfSome o (λ j. queue ≡ j ∷ now) → IfNone o (queue ≡ []) → queue ≡ i ∷ rest → queue ≡ i ∷ now
 popped queue now rest i None some none e = let both : i ∷ rest ≡ [] = sym e ∙ none in cc
@@ -565,22 +587,3 @@ slot_is slots i o h at is = let both : Some o ≡ Some (Some h) = sym at ∙ is 
 
 pub value_is : {V : Type 0} (o : Slot V) (h : Occupant V) (v : V) → o ≡ Some h → value_there o ≡ Some v → h.value ≡ v
 value_is o h v is there = let both : Some h.value ≡ Some v = ap value_there (sym is) ∙ there in cc
-
-pub lent_view : {V : Type 0} (s : Threads V) (slots : List (Slot V)) (slot : ThreadName → Option ℕ) (n : ThreadName) (i : ℕ) (o : Slot V) (h : Occupant V) (v : V) → ArePlaced slots slot → slot n ≡ Some i → slice_get slots i ≡ Some (Some h) → h.name ≡ n → o ≡ Some h →
-    record { living = threads_in slots; ended = ended_in slots } ≡ s →
-    ◌≡◌ {A = Threads V} (record { living = threads_in (slice_set slots i (with_value_in o v)); ended = ended_in (slice_set slots i (with_value_in o v)) }) (record s { living = set_value s.living n v })
-lent_view {V} s slots slot n i o h v placed e at is there view =
-    subst (λ (t : Threads V). ◌≡◌ {A = Threads V} (record { living = threads_in now; ended = ended_in now }) (record t { living = set_value t.living n v })) view
-    (rw (living, ended) refl)
-  where
-    now : List (Slot V)
-    now = slice_set slots i (with_value_in o v)
-
-    put : now ≡ slice_set slots i (Some (record h { value = v }))
-    put = ap (λ (p : Slot V). slice_set slots i (with_value_in p v)) there
-
-    living : threads_in now ≡ set_value (threads_in slots) n v
-    living = ap (λ (l : List (Slot V)). threads_in l) put ∙ value_view slots slot n i h v placed e at is
-
-    ended : ended_in now ≡ ended_in slots
-    ended = ended_set slots now i h (record h { value = v }) at put

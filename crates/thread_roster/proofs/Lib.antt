@@ -2,6 +2,10 @@ pub mod NameLemmas
 pub mod SlotLemmas
 pub mod WakeLemmas
 pub mod WokenLemmas
+pub mod QueueLemmas
+pub mod OrderLemmas
+pub mod BehindLemmas
 pub mod ConsistencyLemmas
+pub mod ViewLemmas
 pub mod ThreadLemmas
 pub mod ParkingLemmas

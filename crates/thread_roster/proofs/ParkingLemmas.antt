@@ -6,7 +6,7 @@ use Rattle.tree_node.specs.declared.names.VarName.{VarName}
 use Rattle.tree_node.specs.Each.{Each}
 use Rattle.tree_node.proofs.EachLemmas.{each_append}
 use Rattle.tree_node.proofs.EnvLemmas.{each_more}
-use Rattle.waiting_keys.specs.Keys.{keys_among}
+use Rattle.waiting_keys.specs.Keys.{IsQueuedAgain, keys_among}
 use Rattle.thread_roster.specs.Parking.{HasMoreKeys}
 use Rattle.thread_roster.proofs.ConsistencyLemmas.{Waiting}
 
@@ -19,6 +19,9 @@ more_on a b c key f g = record { kept = λ y j k. g.kept y j (f.kept y j k); onl
     go : (y : VarName) (j : ℕ) → Contains (keys_among b y) j ⊎ (j ≡ key) → Contains (keys_among a y) j ⊎ (j ≡ key)
     go y j (inl k) = f.only y j k
     go y j (inr e) = inr e
+
+pub more_at : (old new : Waiting) (key : ℕ) → ((y : VarName) → IsQueuedAgain (keys_among old y) key (keys_among new y)) → HasMoreKeys old key new
+more_at old new key h = record { kept = λ y. (h y).kept; only = λ y. (h y).only }
 
 -- the key is at each of these variables
 abbrev pub IsAtEach : Waiting → ℕ → List VarName → Type 0

@@ -1,9 +1,11 @@
 -- What holds of slots, the table of names, the run queue, the waiting keys and the numbers together.
-use Rattle.std.specs.Prelude.{◌≡◌, ℕ, List, Contains, true}
+use Rattle.std.specs.Prelude.{◌≡◌, ℕ, List, Some, Contains, slice_get, true}
 use Rattle.tree_node.specs.declared.names.VarName.{VarName}
 use Rattle.tree_node.specs.declared.names.ThreadName.{ThreadName}
+use Rattle.tree_node.specs.Each.{AreDistinct}
 use Rattle.thread_roster.specs.declared.mode.Mode.{Mode}
 use Rattle.thread_roster.specs.declared.mode.Mode.TheVariants.{Runs}
+use Rattle.thread_roster.specs.declared.slot.Occupant.{Occupant}
 use Rattle.thread_roster.specs.Threads.{awaits}
 use Rattle.waiting_keys.specs.Keys.{keys_among}
 use Rattle.thread_roster.specs.Slots.{Slot, ArePlaced, slot_in, IsModeAt, AreInside, total, one, waiting}
@@ -19,3 +21,8 @@ pub record IsConsistent {V : Type 0} (slots : List (Slot V)) (by_name : List (Th
   pub keys_inside : (x : VarName) → AreInside slots (keys_among keys x)
   pub alive : living_count ≡ total one slots
   pub waiters : waiting_count ≡ total waiting slots
+
+-- each slot is in the queue once, and a thread that lives in one of them can go on. So the queue is the order of turns
+pub record IsOrdered {V : Type 0} (slots : List (Slot V)) (queue : List ℕ) : Type 0 where
+  pub ready : (j : ℕ) (h : Occupant V) → Contains queue j → slice_get slots j ≡ Some (Some h) → h.mode ≡ Runs
+  pub once : AreDistinct queue

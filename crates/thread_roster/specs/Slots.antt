@@ -1,6 +1,6 @@
 -- Threads in slots: each keeps its slot until it has ended, and no slot is used again, so that the order of the slots is
 -- that in which threads were born.
-use Rattle.std.specs.Prelude.{◌≡◌, ◌≢◌, ℕ, ◌+◌, ◌<◌, zero, suc, List, [], ◌∷◌, ◌++◌, length, Option, Some, None, Bool, false, slice_get, ◌⊎◌, if◌then◌else◌}
+use Rattle.std.specs.Prelude.{◌≡◌, ◌≢◌, ℕ, ◌+◌, ◌<◌, zero, suc, List, [], ◌∷◌, ◌++◌, length, Option, Some, None, Bool, false, slice_get, ◌⊎◌, ◌==◌, not, filter, if◌then◌else◌}
 use Rattle.std.specs.Map.{lookup}
 use Rattle.tree_node.specs.declared.names.VarName.{VarName}
 use Rattle.tree_node.specs.declared.names.ThreadName.{ThreadName}
@@ -143,6 +143,21 @@ waiting h = weight h.mode
 -- the slot stays in the queue, or was the first there and has left it
 abbrev pub HasLeft : ℕ → List ℕ → List ℕ → Type 0
 HasLeft i queue rest = (rest ≡ queue) ⊎ (queue ≡ i ∷ rest)
+
+-- without this slot
+abbrev pub without_slot : ℕ → List ℕ → List ℕ
+without_slot i queue = filter (λ (j : ℕ). not (i == j)) queue
+
+-- the name of the thread in a slot, if one lives there
+abbrev pub name_in : {V : Type 0} → Option (Slot V) → List ThreadName
+name_in None = []
+name_in (Some None) = []
+name_in (Some (Some h)) = h.name ∷ []
+
+-- the names of the threads in these slots, in their order
+abbrev pub names_at : {V : Type 0} → List (Slot V) → List ℕ → List ThreadName
+names_at slots [] = []
+names_at slots (j ∷ js) = name_in (slice_get slots j) ++ names_at slots js
 
 -- slots whose threads do not go on have left the front of the queue
 abbrev pub IsRest : {V : Type 0} → List (Slot V) → List ℕ → List ℕ → Type 0

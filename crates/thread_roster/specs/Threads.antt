@@ -14,10 +14,12 @@ use Rattle.thread_roster.specs.declared.mode.Mode.TheVariants.{Runs, Waits, Wait
 abbrev pub Entry : Type 0 → Type 0
 Entry V = ThreadName × (V × Mode)
 
--- the threads that live, the newest first, and the number of those that have ended
+-- the threads that live, the newest first; the number of those that have ended; and the names of those that can go on, the next in
+-- turn first
 pub record Threads (V : Type 0) : Type 0 where
   pub living : List (Entry V)
   pub ended : ℕ
+  pub order : List ThreadName
 
 -- ---- one thread
 
@@ -51,7 +53,7 @@ wake_all x (t ∷ ts) = (t.0, (t.1.0, wake x t.1.1)) ∷ wake_all x ts
 
 -- ---- waiting
 
--- the thread waits for a variable, for one of several, or for a cell
+-- the thread waits for a variable, for any of several, or for a cell
 abbrev pub is_waiting : Mode → Bool
 is_waiting Runs = false
 is_waiting (Waits x) = true

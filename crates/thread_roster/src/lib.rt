@@ -2,21 +2,24 @@
 //! several, or for the token of a cell. The machines of one site and of all keep their threads here, in place.
 //!
 //! Contracts see a `Roster` as `Threads`: the list of those that live, the newest first, each with its value and its
-//! `Mode`, and the number of those that have ended. `start`, `end`, `wait`, `wait_any`, `wait_for`, `resume` and `wake` say which list
-//! they leave (after want of memory the roster is unchanged); `value_mut` lends a thread's value where it stands; `get`,
-//! `mode` and `contains` find a thread by its name; `slots` shows all of them; `len`, `waiting` and `ended` tell numbers that are kept;
-//! `first` gives a thread that can go on, and gives none exactly where none can, as `is_idle` tells without looking for one.
-//! Slots, names, the run queue and the waiting keys are hidden; what they keep together is `IsConsistent`.
+//! `Mode`; the number of those that have ended; and `order`, the names of those that can go on, the next in turn first.
+//! `start`, `end`, `wait`, `wait_any`, `wait_for`, `resume` and `wake` say what they leave of each (after want of memory the roster
+//! is unchanged); `value_mut` lends a thread's value where it stands; `get`, `mode` and `contains` find a thread by its name;
+//! `slots` shows all of them; `len`, `waiting` and `ended` tell numbers that are kept; `first` gives the first in the order,
+//! and none exactly where no thread can go on, as `is_idle` tells without looking for one. Slots, names, the run queue and
+//! the waiting keys are hidden; what they keep together is `IsConsistent` and `IsOrdered`.
+//!
+//! Turns are taken first come first served: who is born, resumed or woken goes behind the others, and `rotate` moves the
+//! first behind the others. In which order those go on that waited for one variable, no clause says: tests alone show that
+//! runs without workers print the same each time (`oz_tests`).
 //!
 //! A call costs by what it does: the first of the queue is found without a look-up, another thread by one, `wake` looks at
-//! those that wait for its variable, and `first` at the slots that leave the queue. A slot is not used again, so that the
-//! list stays in the order of birth; an ended thread leaves an empty one. A thread that waited for several variables stays among the
-//! keys of the others, where it is passed over; `wait_any` puts no key where its own is the last one already.
-//!
-//! That turns are taken first come first served, and that a thread that is woken or passed by goes behind the others, no
-//! clause says yet; tests alone show that runs without workers print the same each time (`oz_tests`), and that a thread that was woken
-//! has one turn in a round, whatever else it had waited for (`machine_tests`). It stands on `tree_node` (names), `waiting_keys` and
-//! `indexmap`.
+//! those that wait for its variable, and `first` and `rotate` at the slots that leave the queue. A thread that comes to
+//! wait leaves the queue at once where it is the first, as the thread of a turn is, and else by a walk over the queue. A slot is
+//! not used again, so that the list stays in the order of birth; an ended thread leaves an empty one. A thread that waited for
+//! several variables stays among the keys of the others, where it is passed over. One that waits there again and again has a key
+//! once, or twice where others wait there in turns with it: where a variable's keys have no room, those that stand there more than
+//! once leave. It stands on `tree_node` (names), `waiting_keys` and `indexmap`.
 //!
 //! Source: Van Roy and Haridi, *Concepts, Techniques, and Models of Computer Programming*, sections 2.4 and 4.1 (threads that wait
 //! for variables).

@@ -1,7 +1,8 @@
 //! Threads by name.
 
-ghost use Rattle.std.specs.Prelude.{Contains, ◌≡◌, ◌↔◌, ◌+◌, ◌∷◌, [], None, Some, OnOk, OnErr, IfSome, IfNone, IsTrue, IsSome, length};
+ghost use Rattle.std.specs.Prelude.{Contains, ◌≡◌, ◌↔◌, ◌+◌, ◌∷◌, ◌++◌, [], List, None, Some, OnOk, OnErr, IfSome, IfNone, IsTrue, IsSome, length};
 ghost use Rattle.std.specs.Borrow.{sem};
+ghost use Rattle.tree_node.specs.declared.names.ThreadName.{ThreadName as Named};
 ghost use Rattle.tree_node.specs.Assoc.{value_of, without_key};
 ghost use Rattle.tree_node.specs.State.{equal_thread};
 ghost use Rattle.thread_roster.specs.declared.mode.Mode.{Mode as Standing};
@@ -11,6 +12,7 @@ ghost use Rattle.tree_node.specs.Each.{Each};
 ghost use Rattle.thread_roster.specs.Parking.{HasMoreKeys};
 ghost use Rattle.thread_roster.specs.Slots.{threads_in as slots_hold};
 ghost use Rattle.thread_roster.specs.Threads.{set_mode, set_value, wake_all, waiting_of, AllWait, IsSuspended, IsRunnable};
+ghost use Rattle.thread_roster.specs.Order.{without_name, rotated, HaveComeBehind};
 
 use crate::mode::Mode;
 use crate::queue::Queue;
@@ -24,9 +26,10 @@ use std::marker::Model;
 use tree_node::{CellName, ThreadName, VarName, Vars};
 use waiting_keys::Waiters;
 
-/// Threads by name, each with a value and how it stands, which contracts see as a list, the newest first, and the number of
-/// those that have ended. A thread keeps its slot until it has ended. Those that can go on have their slots in a queue; a
-/// slot in the queue whose thread does not go on is passed over.
+/// Threads by name, each with a value and how it stands, which contracts see as a list, the newest first, the number of
+/// those that have ended, and the order of those that can go on. A thread keeps its slot until it has ended. Those that can go on
+/// have their slots in a queue; there the slot of a thread that has ended is passed over, and among the keys of a variable each
+/// that does not wait for it.
 #[derive(Drop)]
 pub struct Roster<V> {
     slots: Vec<Slot<V>>,
@@ -43,18 +46,19 @@ impl<V> Model for Roster<V> {
 
     ghost Value = { Threads V };
 
-    ghost use Rattle.thread_roster.specs.Slots.{threads_in, total, one};
-    ghost use Rattle.thread_roster.specs.Invariant.{IsConsistent};
+    ghost use Rattle.thread_roster.specs.Slots.{threads_in, total, one, names_at};
+    ghost use Rattle.thread_roster.specs.Invariant.{IsConsistent, IsOrdered};
 
     ghost view = { λ r. record {
       living = threads_in r.slots.items;
       ended = length r.slots.items - total one r.slots.items;
+      order = names_at r.slots.items r.queue;
     } };
 
-    ghost invariant = { λ r. IsConsistent r.slots.items r.by_name.entries r.queue r.waiters r.living r.waiting };
+    ghost invariant = { λ r. IsConsistent r.slots.items r.by_name.entries r.queue r.waiters r.living r.waiting × IsOrdered r.slots.items r.queue };
 }
 
-// A slot is among the keys of each of these variables. Where it is the last there already, it is not put there once more.
+// A slot is among the keys of each of these variables.
 fn park(waiters: &mut Waiters, vars: &[VarName], slot: usize) -> Result<(), AllocError>
     ensures stay { HasMoreKeys waiters.old slot waiters.new }
     ensures there { OnOk result (Each (λ y. Contains (keys_among waiters.new y) slot) vars.now) }
@@ -65,25 +69,24 @@ fn park(waiters: &mut Waiters, vars: &[VarName], slot: usize) -> Result<(), Allo
     Ok(())
 }
 
-// A slot is among the keys of a variable.
+// A slot is among the keys of a variable, where it may be already.
+#[tactic(auto, using(crate::proofs::ParkingLemmas::more_at))]
 fn park_at(waiters: &mut Waiters, var: VarName, slot: usize) -> Result<(), AllocError>
     ensures stay { HasMoreKeys waiters.old slot waiters.new }
     ensures there { OnOk result (Contains (keys_among waiters.new var) slot) }
 {
-    if waiters.keys_at(var).last() == Some(&slot) {
-        return Ok(());
-    }
-    waiters.add(var, slot)
+    waiters.add_again(var, slot)
 }
 
 impl<V: Drop> Roster<V> {
     ghost use Rattle.thread_roster.specs.Lends.{lends_value};
 
     /// No threads.
-    #[tactic(auto, using(crate::proofs::ConsistencyLemmas::kept_none))]
+    #[tactic(auto, using(crate::proofs::ConsistencyLemmas::kept_none, crate::proofs::QueueLemmas::ordered_none))]
     pub fn new(alloc: Global) -> Roster<V>
         ensures living { result.living ≡ [] }
         ensures ended { result.ended ≡ 0 }
+        ensures order { result.order ≡ [] }
     {
         Roster {
             slots: Vec::new(alloc),
@@ -184,6 +187,7 @@ impl<V: Drop> Roster<V> {
         requires new { value_of equal_thread self.old.living name ≡ None }
         ensures living { OnOk result (self.new.living ≡ (name, (value, stands.Runs)) ∷ self.old.living) }
         ensures ended { OnOk result (self.new.ended ≡ self.old.ended) }
+        ensures order { OnOk result (self.new.order ≡ self.old.order ++ name ∷ []) }
         ensures err { OnErr result (self.new ≡ self.old) }
     {
         let slot = self.slots.len();
@@ -203,29 +207,31 @@ impl<V: Drop> Roster<V> {
         requires lives { IsSome (value_of equal_thread self.old.living name) }
         ensures living { OnOk result (self.new.living ≡ set_mode self.old.living name (stands.Waits var)) }
         ensures ended { OnOk result (self.new.ended ≡ self.old.ended) }
+        ensures order { OnOk result (self.new.order ≡ without_name name self.old.order) }
         ensures err { OnErr result (self.new ≡ self.old) }
     {
         let slot = find(&self.slots, &self.by_name, &self.queue, name);
         self.waiters.add(var, slot)?;
         let before = set_mode(&mut self.slots, slot, Mode::Waits(var));
         self.waiting = count_waiting(self.waiting, before);
-        leave(&mut self.queue, slot);
+        self.queue.remove(slot);
         Ok(())
     }
 
-    /// A thread waits until one of several variables is bound. It may be among the keys of the others still when it goes on, and
+    /// A thread waits until any of several variables is bound. It may be among the keys of the others still when it goes on, and
     /// is passed over there.
     pub fn wait_any(&mut self, name: ThreadName, vars: Vars) -> Result<(), AllocError>
         requires lives { IsSome (value_of equal_thread self.old.living name) }
         ensures living { OnOk result (self.new.living ≡ set_mode self.old.living name (stands.WaitsAny vars)) }
         ensures ended { OnOk result (self.new.ended ≡ self.old.ended) }
+        ensures order { OnOk result (self.new.order ≡ without_name name self.old.order) }
         ensures err { OnErr result (self.new ≡ self.old) }
     {
         let slot = find(&self.slots, &self.by_name, &self.queue, name);
         park(&mut self.waiters, vars.as_slice(), slot)?;
         let before = set_mode(&mut self.slots, slot, Mode::WaitsAny(vars));
         self.waiting = count_waiting(self.waiting, before);
-        leave(&mut self.queue, slot);
+        self.queue.remove(slot);
         Ok(())
     }
 
@@ -234,11 +240,12 @@ impl<V: Drop> Roster<V> {
         requires lives { IsSome (value_of equal_thread self.old.living name) }
         ensures living { self.new.living ≡ set_mode self.old.living name (stands.WaitsFor cell) }
         ensures ended { self.new.ended ≡ self.old.ended }
+        ensures order { self.new.order ≡ without_name name self.old.order }
     {
         let slot = find(&self.slots, &self.by_name, &self.queue, name);
         let before = set_mode(&mut self.slots, slot, Mode::WaitsFor(cell));
         self.waiting = count_waiting(self.waiting, before);
-        leave(&mut self.queue, slot);
+        self.queue.remove(slot);
     }
 
     /// A thread that waits goes on, behind those that can go on.
@@ -246,6 +253,7 @@ impl<V: Drop> Roster<V> {
         requires waits { IsSuspended self.old.living name }
         ensures living { OnOk result (self.new.living ≡ set_mode self.old.living name stands.Runs) }
         ensures ended { OnOk result (self.new.ended ≡ self.old.ended) }
+        ensures order { OnOk result (self.new.order ≡ self.old.order ++ name ∷ []) }
         ensures err { OnErr result (self.new ≡ self.old) }
     {
         let slot = find(&self.slots, &self.by_name, &self.queue, name);
@@ -260,6 +268,7 @@ impl<V: Drop> Roster<V> {
     pub fn wake(&mut self, var: VarName) -> Result<(), AllocError>
         ensures living { OnOk result (self.new.living ≡ wake_all var self.old.living) }
         ensures ended { OnOk result (self.new.ended ≡ self.old.ended) }
+        ensures order { OnOk result (HaveComeBehind self.old.order self.new.order) }
         ensures err { OnErr result (self.new ≡ self.old) }
     {
         if self.waiting == 0 {
@@ -277,6 +286,7 @@ impl<V: Drop> Roster<V> {
         requires lives { IsSome (value_of equal_thread self.old.living name) }
         ensures living { self.new.living ≡ without_key equal_thread self.old.living name }
         ensures ended { self.new.ended ≡ self.old.ended + 1 }
+        ensures order { self.new.order ≡ without_name name self.old.order }
     {
         let slot = find(&self.slots, &self.by_name, &self.queue, name);
         let before = clear(&mut self.slots, slot);
@@ -286,19 +296,23 @@ impl<V: Drop> Roster<V> {
         leave(&mut self.queue, slot);
     }
 
-    /// The first thread in the order of turns that can go on; none, exactly where no thread can.
+    /// The first thread in the order of those that can go on; none, exactly where no thread can.
     pub fn first(&mut self) -> Option<ThreadName>
         ensures some { IfSome result (λ n. IsRunnable self.old.living n) }
+        ensures first { IfSome result (λ n. (rest : List Named) × (self.old.order ≡ n ∷ rest) × (without_name n rest ≡ rest)) }
+        ensures all { (n : Named) → Contains self.old.order n ↔ IsRunnable self.old.living n }
         ensures none { IfNone result (AllWait self.old.living) }
+        ensures empty { IfNone result (self.old.order ≡ []) }
         ensures same { self.new ≡ self.old }
     {
         next_runnable(&self.slots, &mut self.queue)
     }
 
-    /// The first thread in the order of turns goes behind the others.
+    /// The first thread in the order of those that can go on goes behind the others.
     pub fn rotate(&mut self)
-        ensures { self.new ≡ self.old }
+        ensures { self.new ≡ record self.old { order = rotated self.old.order } }
     {
+        next_runnable(&self.slots, &mut self.queue);
         self.queue.rotate();
     }
 }

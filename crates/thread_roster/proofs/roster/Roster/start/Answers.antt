@@ -5,24 +5,30 @@ use Rattle.thread_roster.specs.declared.mode.Mode.TheVariants as stands
 use Rattle.thread_roster.specs.Slots.{slot_in, with_slot}
 use Rattle.thread_roster.proofs.SlotLemmas.{living_le}
 use Rattle.thread_roster.proofs.ConsistencyLemmas.{kept_born, no_place, born_view, ended_born}
+use Rattle.thread_roster.proofs.QueueLemmas.{ordered_born}
+use Rattle.thread_roster.proofs.OrderLemmas.{order_born}
 use Rattle.thread_roster.proofs.roster.Roster.start.Goals as goal
 
 pub overflow_add-self : goal.overflow_add-self
 overflow_add-self g c =
     let most = living_le c.self.inside.slots.items in
-    let all = c.self.invariant.alive in
+    let all = c.self.invariant.0.alive in
     let ok = c.self.inside.slots.ok in
     let small = c.self.inside.slots.small in
     omega (arith, most, all, ok, small)
 
 pub invariant_of-self-2 : goal.invariant_of-self-2
 invariant_of-self-2 g c =
-    let slot = c.len-slot.ensures ∙ c.self.inside.slots.ok.0 in
-    kept_born c.self.inside.slots.items c.push_reserved.new.self.items c.self.inside.by_name.entries c.insert.new.self.entries c.self.inside.queue c.push.new.self c.self.inside.waiters c.self.inside.living c.self.inside.waiting _ c.args.name (record { name = c.args.name; mode = stands.Runs; value = c.args.value }) c.self.invariant
-    (no_place c.self.inside.slots.items (slot_in c.self.inside.by_name.entries) c.args.name c.self.invariant.placed (ap (λ s. value_of equal_thread s.living c.args.name) c.self.view_is ∙ c.requires.new)) refl refl
-    (c.push_reserved.ensures.items ∙ ap (λ l. l ++ Some (record { name = c.args.name; mode = stands.Runs; value = c.args.value }) ∷ []) c.reserve.ensures.items)
-    (λ k. (rw c.reserve-2.ensures.entries at c.in_ok-insert.ensures.updates.0 k) ∙ ap (λ i. with_slot (slot_in c.self.inside.by_name.entries) c.args.name (Some i) k) slot)
-    (c.in_ok-push.ensures.ok ∙ ap (λ i. c.self.inside.queue ++ i ∷ []) slot) refl
+    let slot = c.len-slot.ensures ∙ c.self.inside.slots.ok.0 in (
+      kept_born c.self.inside.slots.items c.push_reserved.new.self.items c.self.inside.by_name.entries c.insert.new.self.entries c.self.inside.queue c.push.new.self c.self.inside.waiters c.self.inside.living c.self.inside.waiting _ c.args.name (record { name = c.args.name; mode = stands.Runs; value = c.args.value }) c.self.invariant.0
+          (no_place c.self.inside.slots.items (slot_in c.self.inside.by_name.entries) c.args.name c.self.invariant.0.placed (ap (λ s. value_of equal_thread s.living c.args.name) c.self.view_is ∙ c.requires.new)) refl refl
+          (c.push_reserved.ensures.items ∙ ap (λ l. l ++ Some (record { name = c.args.name; mode = stands.Runs; value = c.args.value }) ∷ []) c.reserve.ensures.items)
+          (λ k. (rw c.reserve-2.ensures.entries at c.in_ok-insert.ensures.updates.0 k) ∙ ap (λ i. with_slot (slot_in c.self.inside.by_name.entries) c.args.name (Some i) k) slot)
+          (c.in_ok-push.ensures.ok ∙ ap (λ i. c.self.inside.queue ++ i ∷ []) slot) refl,
+      ordered_born c.self.inside.slots.items c.push_reserved.new.self.items c.self.inside.queue c.push.new.self (record { name = c.args.name; mode = stands.Runs; value = c.args.value }) c.self.invariant.1 c.self.invariant.0.inside refl
+          (c.push_reserved.ensures.items ∙ ap (λ l. l ++ Some (record { name = c.args.name; mode = stands.Runs; value = c.args.value }) ∷ []) c.reserve.ensures.items)
+          (c.in_ok-push.ensures.ok ∙ ap (λ i. c.self.inside.queue ++ i ∷ []) slot),
+    )
 
 pub returns-clause-living : goal.returns-clause-living
 returns-clause-living g c =
@@ -35,3 +41,11 @@ returns-clause-ended g c =
     ended_born c.self.inside.slots.items c.push_reserved.new.self.items (record { name = c.args.name; mode = stands.Runs; value = c.args.value })
     (c.push_reserved.ensures.items ∙ ap (λ l. l ++ Some (record { name = c.args.name; mode = stands.Runs; value = c.args.value }) ∷ []) c.reserve.ensures.items)
     ∙ ap (λ s. s.ended) c.self.view_is
+
+pub returns-clause-order : goal.returns-clause-order
+returns-clause-order g c =
+    let slot = c.len-slot.ensures ∙ c.self.inside.slots.ok.0 in
+    order_born c.self.inside.slots.items c.push_reserved.new.self.items (record { name = c.args.name; mode = stands.Runs; value = c.args.value }) c.self.inside.queue c.push.new.self
+    (c.push_reserved.ensures.items ∙ ap (λ l. l ++ Some (record { name = c.args.name; mode = stands.Runs; value = c.args.value }) ∷ []) c.reserve.ensures.items)
+    (c.in_ok-push.ensures.ok ∙ ap (λ i. c.self.inside.queue ++ i ∷ []) slot) c.self.invariant.0.inside
+    ∙ ap (λ s. s.order ++ c.args.name ∷ []) c.self.view_is
