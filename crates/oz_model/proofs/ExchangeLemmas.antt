@@ -57,7 +57,7 @@ outcome_makes : (p : List Stmt) (env : Env) (rest : Stack) (fresh : List Name) (
 outcome_makes p env rest fresh (outcome.MakesCell content told) e = cell_makes fresh content e
 outcome_makes p env rest fresh (outcome.Fails exception) e = fails_makes fresh exception rest (vars_among fresh)
 outcome_makes p env rest fresh (outcome.Waits x) e = tt
-outcome_makes p env rest fresh (outcome.Compares left right) e = tt
+outcome_makes p env rest fresh (outcome.WaitsAny left right) e = tt
 outcome_makes p env rest fresh (outcome.Runs codes) e = tt
 outcome_makes p env rest fresh (outcome.Tells x t) e = tt
 outcome_makes p env rest fresh (outcome.Declares first count body) e = tt

@@ -36,7 +36,7 @@ takes_goes s kinds = inr (tt, (None, tt))
 
 outcome_goes : (s : Store) (o : Outcome) → Goes s (outcome_need o)
 outcome_goes s (outcome.Waits x) = inl tt
-outcome_goes s (outcome.Compares left right) = inl tt
+outcome_goes s (outcome.WaitsAny left right) = inl tt
 outcome_goes s (outcome.Runs codes) = takes_goes s []
 outcome_goes s (outcome.Tells x t) = takes_goes s []
 outcome_goes s (outcome.Declares first count body) = takes_goes s (variable_kinds count)

@@ -64,9 +64,9 @@ pub fn runs_are_sound()
 {}
 
 /// A store that says more keeps what does not wait: what takes names or nothing goes as it does with fewer equations,
-/// what waits for a variable without a node waits for it, a comparison that hangs on variables without nodes hangs on the same,
-/// and a bind of a variable without a node to a term of another class stays one. Sites know fewer equations than there are.
-/// Where links go down, binds of what has no equation to what is lower are of this kind.
+/// what waits for a variable without a node waits for it, the variables that are open in a comparison stay open in it while none has
+/// a node, and a bind of a variable without a node to a term of another class stays one. Sites know fewer equations than there
+/// are. Where links go down, binds of what has no equation to what is lower are of this kind.
 pub fn more_equations_keep()
     ensures more { MoreIsWithin }
     ensures steps { StepsStay }
@@ -89,7 +89,7 @@ pub fn agreeing_stores_answer_alike()
 {}
 
 /// One thread alone, with the equations of a site: each name of its effect is one of its stack or of the equations, or
-/// fresh; what it waits for, or what its comparison hangs on, is a variable of these; environments go on to have a variable
+/// fresh; what it waits for, or what is open in its comparison, is a variable of these; environments go on to have a variable
 /// at each free position; and nodes are those of the program. What holds of all nodes that the program tells holds of those of an effect, whatever it is: that
 /// is a lemma (`stack_nodes`), since it speaks of every property of nodes, and so are its forms for every property of names
 /// (`stack_effect_has`, `stack_need_has`).

@@ -1,4 +1,4 @@
--- How far a comparison has come that hangs on variables, and what a store keeps of it.
+-- How far a comparison has come that is open, and what a store keeps of it.
 use Rattle.std.specs.Prelude.{◌≡◌, ℕ, suc, List, [], ◌∷◌, Some, slice_get}
 use Rattle.std.specs.Map.{lookup}
 use Rattle.tree_node.specs.Store.{Store}

@@ -12,7 +12,7 @@ use indexmap::IndexSet;
 use std::alloc::{AllocError, Global};
 use tree_node::{Feature, Node, VarName, Vars, equal_bytes, equal_features, equal_text};
 
-/// What a store tells of two variables: they are equal, or different, or that hangs on these variables, which have no node.
+/// What a store tells of two variables: they are equal, or different, or these variables, which have no node, are open in them.
 #[derive(Drop)]
 pub enum Compared {
     Equal,
@@ -95,13 +95,17 @@ pub fn add_parts(
 }
 
 // A variable that stands for its class goes behind the open ones, if the class has no node.
-fn add_open(store: &Store, hanging: &mut IndexSet<VarName>, var: VarName) -> Result<(), AllocError>
+fn add_open(
+    store: &Store,
+    open_vars: &mut IndexSet<VarName>,
+    var: VarName,
+) -> Result<(), AllocError>
     requires { root_of store.now.equations var ≡ var }
-    ensures { OnOk result (hanging.new.keys ≡ all_new equal_var hanging.old.keys (open_root store.now.equations var)) }
+    ensures { OnOk result (open_vars.new.keys ≡ all_new equal_var open_vars.old.keys (open_root store.now.equations var)) }
 {
     match store.root_of(var) {
         Root::Unbound(_) => {
-            hanging.insert(var)?;
+            open_vars.insert(var)?;
             Ok(())
         }
         Root::Node(_) => Ok(()),
@@ -111,17 +115,17 @@ fn add_open(store: &Store, hanging: &mut IndexSet<VarName>, var: VarName) -> Res
 // The open variables of a pair of two classes go behind the others, the left one first.
 fn add_both(
     store: &Store,
-    hanging: &mut IndexSet<VarName>,
+    open_vars: &mut IndexSet<VarName>,
     left: VarName,
     right: VarName,
 ) -> Result<(), AllocError>
     requires left { root_of store.now.equations left ≡ left }
     requires right { root_of store.now.equations right ≡ right }
     requires apart { is_one_class store.now.equations (left, right) ≡ false }
-    ensures { OnOk result (hanging.new.keys ≡ all_new equal_var hanging.old.keys (open_roots store.now.equations (left, right))) }
+    ensures { OnOk result (open_vars.new.keys ≡ all_new equal_var open_vars.old.keys (open_roots store.now.equations (left, right))) }
 {
-    add_open(store, hanging, left)?;
-    add_open(store, hanging, right)?;
+    add_open(store, open_vars, left)?;
+    add_open(store, open_vars, right)?;
     Ok(())
 }
 
@@ -129,7 +133,7 @@ fn add_both(
 fn visit(
     store: &Store,
     pairs: &mut IndexSet<(VarName, VarName)>,
-    hanging: &mut IndexSet<VarName>,
+    open_vars: &mut IndexSet<VarName>,
     left: VarName,
     right: VarName,
 ) -> Result<bool, AllocError>
@@ -137,7 +141,7 @@ fn visit(
     requires right { root_of store.now.equations right ≡ right }
     ensures apart { IfOk result (λ b. b ≡ is_apart (relation store.now.equations (left, right))) }
     ensures pairs { OnOk result (pairs.new.keys ≡ all_new equal_pair pairs.old.keys (leads_to store.now.equations (left, right))) }
-    ensures open_ones { OnOk result (hanging.new.keys ≡ all_new equal_var hanging.old.keys (open_roots store.now.equations (left, right))) }
+    ensures open_ones { OnOk result (open_vars.new.keys ≡ all_new equal_var open_vars.old.keys (open_roots store.now.equations (left, right))) }
 {
     match find(store, left, right) {
         Finding::Alike => Ok(false),
@@ -147,24 +151,24 @@ fn visit(
             Ok(false)
         }
         Finding::Unknown => {
-            add_both(store, hanging, left, right)?;
+            add_both(store, open_vars, left, right)?;
             Ok(false)
         }
     }
 }
 
 // The answer where nothing differs.
-fn unless_open(alloc: Global, hanging: &IndexSet<VarName>) -> Result<Compared, AllocError>
-    ensures { IfOk result (λ c. comparison_of c ≡ open_or_equal hanging.now.keys) }
+fn unless_open(alloc: Global, open_vars: &IndexSet<VarName>) -> Result<Compared, AllocError>
+    ensures { IfOk result (λ c. comparison_of c ≡ open_or_equal open_vars.now.keys) }
 {
-    if hanging.is_empty() {
+    if open_vars.is_empty() {
         return Ok(Compared::Equal);
     }
-    let vars = Vec::from_slice(alloc, hanging.as_slice())?;
+    let vars = Vec::from_slice(alloc, open_vars.as_slice())?;
     Ok(Compared::Open(Vars::from_vec(vars)?))
 }
 
-/// Whether two variables are equal or different for all that a store tells, or on which variables that hangs, where the search
+/// Whether two variables are equal or different for all that a store tells, or which variables are open in them, where the search
 /// goes on behind these pairs, of which so many match. Each pair is looked at once by its names, and none of classes that are there
 /// already is added, so it ends on cyclic values too.
 #[tactic(auto, using(crate::proofs::FrontLemmas::class_named))]
@@ -180,16 +184,16 @@ pub fn search_on(
     ensures front { OnOk result (take (length pairs.old.keys) pairs.new.keys ≡ pairs.old.keys) }
 {
     store.forest();
-    let mut hanging = IndexSet::new(alloc);
+    let mut open_vars = IndexSet::new(alloc);
     'pairs: while at < pairs.len() {
         let pair = pairs.as_slice()[at];
         let left = store.class_of(pair.0);
         let right = store.class_of(pair.1);
-        let is_apart = visit(store, pairs, &mut hanging, left, right)?;
+        let is_apart = visit(store, pairs, &mut open_vars, left, right)?;
         if is_apart {
             return Ok(Compared::Different);
         }
         at += 1;
     }
-    unless_open(alloc, &hanging)
+    unless_open(alloc, &open_vars)
 }

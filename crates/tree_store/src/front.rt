@@ -1,4 +1,4 @@
-//! How far comparisons have come that hang on variables. Each goes on from there, so that a pair that matches is looked at once,
+//! How far comparisons have come that are open. Each goes on from there, so that a pair that matches is looked at once,
 //! however often more becomes known.
 
 ghost use Rattle.std.specs.Prelude.{◌≡◌, Some, None, true, false, IfOk, IfSome, OnOk, OnErr, if◌then◌else◌};
@@ -23,7 +23,7 @@ pub struct Front {
     pub at: usize,
 }
 
-/// The fronts of comparisons that hang on variables, each under the pair that is compared.
+/// The fronts of comparisons that are open, each under the pair that is compared.
 pub type Fronts = IndexMap<(VarName, VarName), Front>;
 
 /// Takes the front of a pair, if it has one.

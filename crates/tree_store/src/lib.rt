@@ -11,9 +11,9 @@
 //!   (`IsForest`, `IsSound`). So every way to a root ends.
 //! - `shown`: the line that a value shows as, to 20 levels and 1,000 nodes, or the first variable that it needs and that
 //!   has no value, by the name of its class (`IsShownAs`).
-//! - `compare`: whether two variables are equal or different for all that the equations tell, or on which variables that hangs,
+//! - `compare`: whether two variables are equal or different for all that the equations tell, or which variables are open in them,
 //!   in the order in which they are come to, breadth first (`compared`). It costs by the pairs of classes that it comes to, each
-//!   of which it looks at once, so cyclic values end too. `compare_on` answers the same, and where that hangs on variables the store keeps
+//!   of which it looks at once, so cyclic values end too. `compare_on` answers the same, and where variables are open the store keeps
 //!   how far it came: the next such call goes on from there (`front`).
 //! - `wait`, `wake`: keys wait for a variable in the order in which they came, until all of them are taken (`keys`,
 //!   `rest`). The programs here let threads wait in rosters; no crate of code calls these two.

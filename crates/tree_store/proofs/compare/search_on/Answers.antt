@@ -12,12 +12,12 @@ use Rattle.tree_store.proofs.compare.search_on.Goals as goal
 
 pub pairs-init : goal.pairs-init
 pairs-init g c =
-    subst (λ (l : List VarName). IsLooked c.args.store.now.equations g.sides c.args.pairs.now.keys c.args.pairs.now.keys l c.args.at) (sym c.new-hanging.ensures.empty)
+    subst (λ (l : List VarName). IsLooked c.args.store.now.equations g.sides c.args.pairs.now.keys c.args.pairs.now.keys l c.args.at) (sym c.new-open_vars.ensures.empty)
     (front_looked c.args.store.now.equations g.sides c.args.pairs.now.keys c.args.at c.forest.ensures.sound c.requires)
 
 pub returns-then-is_apart-clause-answer : goal.returns-then-is_apart-clause-answer
 returns-then-is_apart-clause-answer g c =
-    search_found c.args.store.now.equations g.sides c.args.pairs.now.keys c.pairs.pairs.keys c.pairs.hanging.keys c.pairs.at _ c.class_of-left.result c.class_of-right.result c.in_ok-is_apart.is_apart c.pairs.invariant
+    search_found c.args.store.now.equations g.sides c.args.pairs.now.keys c.pairs.pairs.keys c.pairs.open_vars.keys c.pairs.at _ c.class_of-left.result c.class_of-right.result c.in_ok-is_apart.is_apart c.pairs.invariant
     (next_pair c.as_slice.result.now c.pairs.pairs.keys c.pairs.at c.len.result _ c.as_slice.ensures.keys c.len.ensures.len c.pairs-test.true)
     (record { left = c.class_of-left.ensures; right = c.class_of-right.ensures }) c.in_ok-is_apart.ensures.apart c.if-is_apart.true
 
@@ -31,7 +31,7 @@ pairs-smaller g c =
 
 pub pairs-preserved : goal.pairs-preserved
 pairs-preserved g c =
-    search_looked c.args.store.now.equations g.sides c.args.pairs.now.keys c.pairs.pairs.keys c.visit.new.pairs.keys c.pairs.hanging.keys c.visit.new.hanging.keys c.pairs.at _ c.class_of-left.result c.class_of-right.result
+    search_looked c.args.store.now.equations g.sides c.args.pairs.now.keys c.pairs.pairs.keys c.visit.new.pairs.keys c.pairs.open_vars.keys c.visit.new.open_vars.keys c.pairs.at _ c.class_of-left.result c.class_of-right.result
     c.in_ok-is_apart.is_apart c.pairs.invariant
     (next_pair c.as_slice.result.now c.pairs.pairs.keys c.pairs.at c.len.result _ c.as_slice.ensures.keys c.len.ensures.len c.pairs-test.true)
     (record { left = c.class_of-left.ensures; right = c.class_of-right.ensures })
@@ -40,5 +40,5 @@ pairs-preserved g c =
 pub returns-clause-answer : goal.returns-clause-answer
 returns-clause-answer g c =
     subst (λ (v : Comparison). IfOk c.unless_open.result (λ (k : Compared). comparison_of k ≡ v))
-    (search_done c.args.store.now.equations g.sides c.args.pairs.now.keys c.pairs.pairs.keys c.pairs.hanging.keys c.pairs.at c.len.result c.pairs.invariant c.len.ensures.len c.pairs-test.false)
+    (search_done c.args.store.now.equations g.sides c.args.pairs.now.keys c.pairs.pairs.keys c.pairs.open_vars.keys c.pairs.at c.len.result c.pairs.invariant c.len.ensures.len c.pairs-test.false)
     c.unless_open.ensures
