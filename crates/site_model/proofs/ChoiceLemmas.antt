@@ -107,15 +107,15 @@ bind_is : (p : List Stmt) (n limit : ℕ) (s : Site) (th : ThreadName) (st : Sta
 bind_is p n limit s th st a b e =
     ((root_bind s.equations a b).0, (root_bind s.equations a b).1, root_bind_is s.equations a b e, refl)
 
--- a comparison that is waited for hangs on something
-abbrev Hangs : Site → Need → Type 0
-Hangs s d = (q : Pair) → d ≡ WaitsAny q → (xs : List VarName) × (compared s.equations q ≡ Open xs)
+-- in a comparison that is waited for something is open
+abbrev IsOpenFor : Site → Need → Type 0
+IsOpenFor s d = (q : Pair) → d ≡ WaitsAny q → (xs : List VarName) × (compared s.equations q ≡ Open xs)
 
-need_is : (p : List Stmt) (n limit : ℕ) (s : Site) (th : ThreadName) (st : Stack) (d : Need) → is_possible s.equations d ≡ true → Hangs s d → IsUnitFor p n limit s th st d (unit_for p n limit th st s d)
-need_is p n limit s th st (Waits x) e hangs = (root_of s.equations x, (to_root s.equations x, free_tells s.equations (root_of s.equations x) e), refl)
-need_is p n limit s th st (WaitsAny q) e hangs = let xs = hangs q refl in (xs.0, xs.1, ap (λ (c : Comparison). without_output (with_waiting_any th st (open_list c) s)) xs.1)
-need_is p n limit s th st (Binds a b) e hangs = bind_is p n limit s th st a b e
-need_is p n limit s th st (Takes kinds) e hangs = token_here limit th st s _ _
+need_is : (p : List Stmt) (n limit : ℕ) (s : Site) (th : ThreadName) (st : Stack) (d : Need) → is_possible s.equations d ≡ true → IsOpenFor s d → IsUnitFor p n limit s th st d (unit_for p n limit th st s d)
+need_is p n limit s th st (Waits x) e open_on = (root_of s.equations x, (to_root s.equations x, free_tells s.equations (root_of s.equations x) e), refl)
+need_is p n limit s th st (WaitsAny q) e open_on = let xs = open_on q refl in (xs.0, xs.1, ap (λ (c : Comparison). without_output (with_waiting_any th st (open_list c) s)) xs.1)
+need_is p n limit s th st (Binds a b) e open_on = bind_is p n limit s th st a b e
+need_is p n limit s th st (Takes kinds) e open_on = token_here limit th st s _ _
 
 pub unit_is : (p : List Stmt) (n limit : ℕ) (s : Site) (th : ThreadName) → can_go p s th ≡ true → IsUnit p n limit th s (next_unit p n limit th s)
 unit_is p n limit s th e = go (thread_state s th) refl e

@@ -60,7 +60,7 @@ fails_adds exception rest fresh e =
 outcome_adds : (p : List Stmt) (env : Env) (rest : Stack) (fresh : List Name) (o : Outcome) (ks : List NameKind) → outcome_need o ≡ Takes ks → map kind_of fresh ≡ ks → AddsFresh fresh (outcome_effect p env rest fresh o).adds
 outcome_adds p env rest fresh (outcome.Fails exception) ks d e = let same : variable_kinds 2 ≡ ks = cc in fails_adds exception rest fresh (e ∙ sym same)
 outcome_adds p env rest fresh (outcome.Waits x) ks d e = inl refl
-outcome_adds p env rest fresh (outcome.Compares left right) ks d e = inl refl
+outcome_adds p env rest fresh (outcome.WaitsAny left right) ks d e = inl refl
 outcome_adds p env rest fresh (outcome.Runs codes) ks d e = inl refl
 outcome_adds p env rest fresh (outcome.Tells x t) ks d e = inl refl
 outcome_adds p env rest fresh (outcome.Declares first count body) ks d e = inl refl
@@ -97,7 +97,7 @@ IsBindEffect e q st = e ≡ record { adds = q ∷ []; stack = st; line = None; b
 
 no_binds : (o : Outcome) (a b : Term) → outcome_need o ≡ need.Binds a b → ⊥
 no_binds (outcome.Waits x) a b e = cc
-no_binds (outcome.Compares left right) a b e = cc
+no_binds (outcome.WaitsAny left right) a b e = cc
 no_binds (outcome.Runs codes) a b e = cc
 no_binds (outcome.Tells x t) a b e = cc
 no_binds (outcome.Declares first count body) a b e = cc

@@ -212,7 +212,7 @@ module _ (p : List Stmt) (n limit : ℕ) (th : ThreadName) (s : Site) (st : Stac
 
   unit_filled : (need : Need) (d : Transition) → stack_need p s.equations st ≡ need → IsUnitFor p n 0 s th st need d → IsUnitFor p n limit s th st need (with_bundles limit d)
   unit_filled (Waits x) d is (z, class, e) = (z, class, ap (with_bundles limit) e)
-  unit_filled (WaitsAny q) d is (xs, hangs, e) = (xs, hangs, ap (with_bundles limit) e)
+  unit_filled (WaitsAny q) d is (xs, open_on, e) = (xs, open_on, ap (with_bundles limit) e)
   unit_filled (Binds a b) d is (u, t, root, e) = (u, t, root, ap (with_bundles limit) e ∙ sym (attempt_filled a b u t (u.site == s.records.site) is))
   unit_filled (Takes kinds) d is h =
       named_filled (thread_step p n 0 th st kinds (fresh_names s kinds) None s) (thread_step p n limit th st kinds (fresh_names s kinds) None s)

@@ -68,7 +68,7 @@ abbrev pub step_or_request : ℕ → ThreadName → Stack → Site → Transitio
 step_or_request limit th st s step (Exchanged c new told) = if is_here (cell_record s c).held.token then step else request_row limit c new th st s
 step_or_request limit th st s step _ = step
 
--- the variables on which a comparison hangs, none where it is decided
+-- the variables that are open in a comparison, none where it is decided
 abbrev pub open_list : Comparison → List VarName
 open_list (Open xs) = xs
 open_list _ = []
@@ -100,7 +100,7 @@ next_units p n limit (th ∷ ths) s = and_then (next_unit p n limit th s) (next_
 
 -- ---- whether it is a unit
 
--- the variable to wait for is unbound; the bind leads down; waiting where a comparison hangs, and taking names, is possible always
+-- the variable to wait for is unbound; the bind leads down; waiting where a comparison is open, and taking names, is possible always
 abbrev pub is_possible : Store → Need → Bool
 is_possible s (Waits x) = is_free s (root_of s x)
 is_possible s (WaitsAny q) = true

@@ -134,7 +134,7 @@ step_row p n limit k kinds e s =
 abbrev pub with_waiting : ThreadName → Stack → VarName → Site → Site
 with_waiting n st x s = record s { threads = with_value equal_thread s.threads n (st, mode.Waits x) }
 
--- the thread waits for some of these
+-- the thread waits for any of these
 abbrev pub with_waiting_any : ThreadName → Stack → List VarName → Site → Site
 with_waiting_any n st xs s = record s { threads = with_value equal_thread s.threads n (st, mode.WaitsAny xs) }
 
@@ -187,7 +187,7 @@ IsBindUnit p n limit s th st a b d =
     (u : VarName) × (t : Term) × IsRootBind s.equations a b u t
     × (d ≡ bind_attempt p n limit th st u t (u.site == s.records.site) s)
 
--- by what the thread needs: it waits for the root of x's class, or for all on which its comparison hangs by what the site knows,
+-- by what the thread needs: it waits for the root of x's class, or for any that is open in its comparison by what the site knows,
 -- binds one of two sides, or takes names and steps
 abbrev pub IsUnitFor : List Stmt → ℕ → ℕ → Site → ThreadName → Stack → Need → Transition → Type 0
 IsUnitFor p n limit s th st (Waits x) d = (z : VarName) × IsClassName s.equations x z × (d ≡ without_output (with_waiting th st z s))

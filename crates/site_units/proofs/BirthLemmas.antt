@@ -219,6 +219,10 @@ module _ (p : List Stmt) (c0 c c1 : Core) (o0 o1 : Output) (th : ThreadName) (r 
   not_here : value_of equal_thread c0.threads.living n ≡ None
   not_here = unmade_new c0.fresh c0.threads.living n h.consistent.threads_made born_unmade
 
+  -- it is not the one that made the thread
+  pub born_apart : th ≢ n
+  born_apart = lives_apart c0.threads.living th n r h.running not_here
+
   -- the name of the new thread is new
   pub born_new : value_of equal_thread c1.threads.living n ≡ None
   born_new =

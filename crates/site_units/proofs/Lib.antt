@@ -13,6 +13,7 @@ pub mod CellLemmas
 pub mod CellUnitLemmas
 pub mod RaiseLemmas
 pub mod TurnLemmas
+pub mod OrderLemmas
 pub mod FinishLemmas
 pub mod AdvanceLemmas
 pub mod RowLemmas

@@ -123,3 +123,41 @@ units_end p quantum count c0 c1 o0 o1 h most idle = (
 pub units_stop : (p : List Stmt) (quantum count : ℕ) (c0 c1 c2 : Core) (o0 o1 o2 : Output) → UnitsSoFar p count c0 o0 c1 o1 → c2 ≡ c1 → o2 ≡ o1 → count ≤ quantum → AllWait c1.threads.living → AreUnitsMade p quantum c0 o0 c2 o2
 units_stop p quantum count c0 c1 c2 o0 o1 o2 h same silent most idle =
     subst (λ (c : Core). AreUnitsMade p quantum c0 o0 c o2) (sym same) (subst (λ (o : Output). AreUnitsMade p quantum c0 o0 c1 o) (sym silent) (units_end p quantum count c0 c1 o0 o1 h most (λ less. idle)))
+
+-- ---- another order of turns
+
+consistent_turned : (p : List Stmt) (c : Core) (ns : List ThreadName) → IsConsistent p c → IsConsistent p (record c { threads = record c.threads { order = ns } })
+consistent_turned p c ns h = record {
+  linked = h.linked;
+  threads = h.threads;
+  equations = h.equations;
+  site = h.site;
+  below = h.below;
+  known_made = h.known_made;
+  made_known = h.made_known;
+  threads_made = h.threads_made;
+  tables = h.tables;
+  cells = λ cell. record { content = (h.cells cell).content; queue = (h.cells cell).queue; once = (h.cells cell).once };
+  among = h.among;
+  some = h.some;
+}
+
+units_turned : (p : List Stmt) (quantum : ℕ) (c0 c1 : Core) (o0 o1 : Output) (ns : List ThreadName) → AreUnitsMade p quantum c0 o0 c1 o1 → AreUnitsMade p quantum c0 o0 (record c1 { threads = record c1.threads { order = ns } }) o1
+units_turned p quantum c0 c1 o0 o1 ns (ths, d, units, reached, few, idle) = (
+  ths,
+  d,
+  units,
+  record {
+    site = reached.site;
+    picks = reached.picks;
+    sent = reached.sent;
+    lines = reached.lines;
+    consistent = consistent_turned p c1 ns reached.consistent;
+    sites = reached.sites;
+  },
+  few,
+  idle,
+)
+
+pub turned_on : (p : List Stmt) (quantum : ℕ) (c0 c1 c2 : Core) (o0 o1 : Output) → (ns : List ThreadName) × (c2 ≡ record c1 { threads = record c1.threads { order = ns } }) → AreUnitsMade p quantum c0 o0 c1 o1 → AreUnitsMade p quantum c0 o0 c2 o1
+turned_on p quantum c0 c1 c2 o0 o1 (ns, e) h = subst (λ (c : Core). AreUnitsMade p quantum c0 o0 c o1) (sym e) (units_turned p quantum c0 c1 o0 o1 ns h)

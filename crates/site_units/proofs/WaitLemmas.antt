@@ -149,12 +149,12 @@ wait_any_made p c0 c c1 o0 th r q xs h v f l s n e t =
     let unchanged = h.step.0 in
     let pair : Pair = h.step.1.0 in
     let need : stack_need p c0.variables.store.equations r.stack ≡ WaitsAny pair = h.step.1.1 in
-    let hangs : compared c0.variables.store.equations pair ≡ Open xs = h.step.1.2 in
+    let open_on : compared c0.variables.store.equations pair ≡ Open xs = h.step.1.2 in
     let stack : q.stack ≡ r.stack = ap (λ (y : Running). y.stack) unchanged.0 in
     let called : q.name ≡ r.name = ap (λ (y : Running). y.name) unchanged.0 in
     let site : site_of c1 ≡ with_tables c1.cells (with_waiting_any th r.stack xs (site_of c0)) = waits_site p c0 c c1 th r q (out.WaitsAny xs) (mode.WaitsAny xs) h stack called unchanged.1 unchanged.2 v f l s n e in (
       without_output (with_waiting_any th r.stack xs (site_of c0)),
-      unit_of p c0 th r (WaitsAny pair) (without_output (with_waiting_any th r.stack xs (site_of c0))) h.running need (xs, hangs, refl),
+      unit_of p c0 th r (WaitsAny pair) (without_output (with_waiting_any th r.stack xs (site_of c0))) h.running need (xs, open_on, refl),
       record {
         site = site ∙ ap (λ (y : CellTables). with_tables y (with_waiting_any th r.stack xs (site_of c0))) (t ∙ h.cells);
         picks = sym (nil_right o0.picks);

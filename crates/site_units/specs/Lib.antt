@@ -1,5 +1,6 @@
 pub mod Core
 pub mod Invariant
 pub mod Units
+pub mod Order
 pub mod Turns
 pub mod Serving

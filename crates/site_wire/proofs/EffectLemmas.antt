@@ -81,7 +81,7 @@ effect_fits p is s fresh bind st h g f k w =
 takes_none : {p : List Stmt} {s : Store} {code : CodeId} {env : Env} {st : Stmt} {o : Outcome} → ComesTo p s code env st o → IsNameless st → (kinds_of (outcome_need o) ≡ []) ⊎ ((x : SystemException) × (o ≡ outcome.Fails x))
 takes_none (waiting st x at none) n = inl refl
 takes_none (needing st x y at shows) n = inl refl
-takes_none (comparing left op a b xs hangs) n = inl refl
+takes_none (comparing left op a b xs open_on) n = inl refl
 takes_none (running st bodies at) n = inl refl
 takes_none (matching st sc x m at named is many) n = inl refl
 takes_none (calling st args x q at formals vars left first count body named from is tell many) n = inl refl
@@ -100,7 +100,7 @@ takes_none (printing st x text left at shows) n = inl refl
 
 no_bind : (s : Store) (o : Outcome) → IsBindFor s (outcome_need o) None
 no_bind s (outcome.Waits x) = tt
-no_bind s (outcome.Compares left right) = tt
+no_bind s (outcome.WaitsAny left right) = tt
 no_bind s (outcome.Runs items) = tt
 no_bind s (outcome.Tells x t) = tt
 no_bind s (outcome.Declares first count body) = tt

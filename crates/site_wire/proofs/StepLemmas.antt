@@ -83,7 +83,7 @@ outcome_born p env rest fresh (outcome.Spawns at body vars) b e =
     (sym (ap (λ (c : Birth). c.name) same), refl)
 outcome_born p env rest fresh (outcome.Fails x) b e = fails_born fresh (outcome_need (outcome.Fails x)) x rest (vars_among fresh) b e
 outcome_born p env rest fresh (outcome.Waits x) b e = cc
-outcome_born p env rest fresh (outcome.Compares left right) b e = cc
+outcome_born p env rest fresh (outcome.WaitsAny left right) b e = cc
 outcome_born p env rest fresh (outcome.Runs items) b e = cc
 outcome_born p env rest fresh (outcome.Tells x t) b e = cc
 outcome_born p env rest fresh (outcome.Declares first count body) b e = cc
@@ -366,7 +366,7 @@ module _ (p : List Stmt) (is : IsProgram p) (n limit : ℕ) (high : limit ≤ 25
 
   needs_fit : (s : Site) (th : ThreadName) (st : Stack) (d : Need) (e : Transition) → thread_state s th ≡ Some (st, Runs) → SiteFits p i s → stack_need p s.equations st ≡ d → IsUnitFor p n limit s th st d e → TransitionFits p i e
   needs_fit s th st (need.Waits x) e now h q (z, names, g) = subst (TransitionFits p i) (sym g) (still p is limit high i low (with_waiting th st z s) (waits_fits th st z s now h))
-  needs_fit s th st (need.WaitsAny r) e now h q (xs, hangs, g) = subst (TransitionFits p i) (sym g) (still p is limit high i low (with_waiting_any th st xs s) (several_fits th st xs s now h))
+  needs_fit s th st (need.WaitsAny r) e now h q (xs, open_on, g) = subst (TransitionFits p i) (sym g) (still p is limit high i low (with_waiting_any th st xs s) (several_fits th st xs s now h))
   needs_fit s th st (need.Binds a b) e now h q (u, t, root, g) = subst (TransitionFits p i) (sym g) (bind_attempts_fit s th st a b u t (u.site == s.records.site) now q root.0 h)
   needs_fit s th st (Takes kinds) e now h q g = either_fits th st kinds s (effect_here p s (fresh_names s kinds) None st) e now f (λ c new told r. exchanges_nameless p s.equations (fresh_names s kinds) None st c new told r)
       (λ token. steps_fit (step_pick th (fresh_names s kinds) None) kinds (effect_here p s (fresh_names s kinds) None st) s st now f (record { none = λ b r. none b r; number = λ b r mine. number b r mine; token = token }) h) h g

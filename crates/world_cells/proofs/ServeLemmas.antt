@@ -21,7 +21,7 @@ use Rattle.thread_roster.specs.declared.mode.Mode.TheVariants.{WaitsFor}
 use Rattle.thread_roster.specs.declared.mode.Mode.TheVariants as site
 use Rattle.world_model.specs.World.{Mail, at_put}
 use Rattle.world_model.specs.Names.{IsHere, IsHome, IsMade, IsCentreMade, here_at}
-use Rattle.world_model.specs.Matches.{PartsMatch, IsThreadAt, IsWaiting, IsWaitingAny, IsAwaited, HangsOn, NeedsFirst, IsAsked, IsExchange}
+use Rattle.world_model.specs.Matches.{PartsMatch, IsThreadAt, IsWaiting, IsWaitingAny, IsAwaited, IsOpenOn, NeedsFirst, IsAsked, IsExchange}
 use Rattle.world_model.proofs.PutLemmas.{at_all, at_here, at_twice}
 use Rattle.world_variables.proofs.LearnLemmas.{placed_alike}
 use Rattle.world_model.proofs.KeyLemmas.{with_here, with_there, goes_cases}
@@ -78,7 +78,7 @@ module _ (p : List Stmt) (here : ℕ → Name → Type 0) (eqs : ℕ → Store) 
         asks = λ k to x t o bundle h. asked x t o (parts.waiting.asks k to x t o bundle h);
         waits = at_all threads i resumed (λ j (ts : Threads). (o : ThreadName) (su : Stack) (x : VarName) → value_of equal_thread ts o ≡ Some (su, site.Waits x) → IsFree (eqs j) x × IsHere (records j) x × (NeedsFirst p (eqs j) su x ⊎ IsAsked mail s.equations o x))
             (λ o su x h. wait o su x (resumed_old o (su, site.Waits x) h)) (λ j other o su x h. parts.waiting.waits j o su x h);
-        compares = at_all threads i resumed (λ j (ts : Threads). (o : ThreadName) (su : Stack) (xs : List VarName) → value_of equal_thread ts o ≡ Some (su, site.WaitsAny xs) → HangsOn p (eqs j) su xs × ((x : VarName) → Contains xs x → IsFree (eqs j) x × IsHere (records j) x))
+        compares = at_all threads i resumed (λ j (ts : Threads). (o : ThreadName) (su : Stack) (xs : List VarName) → value_of equal_thread ts o ≡ Some (su, site.WaitsAny xs) → IsOpenOn p (eqs j) su xs × ((x : VarName) → Contains xs x → IsFree (eqs j) x × IsHere (records j) x))
             (λ o su xs h. compare o su xs (resumed_old o (su, site.WaitsAny xs) h)) (λ j other o su xs h. parts.waiting.compares j o su xs h);
         exchanges = at_all threads i resumed (λ j (ts : Threads). (o : ThreadName) (su : Stack) (d : CellName) → value_of equal_thread ts o ≡ Some (su, WaitsFor d) → IsExchange p (eqs j) su d)
             (λ o su d h. exchange o su d (resumed_old o (su, WaitsFor d) h)) (λ j other o su d h. parts.waiting.exchanges j o su d h);
@@ -101,7 +101,7 @@ module _ (p : List Stmt) (here : ℕ → Name → Type 0) (eqs : ℕ → Store) 
         wait o su x (inr h) = parts.waiting.waits i o su x h.1
         wait o su x (inl e) = let modes : site.Waits x ≡ site.Runs = ap (λ (v : ThreadState). v.1) e.1 in absurd (cc)
 
-        compare : (o : ThreadName) (su : Stack) (xs : List VarName) → ((o ≡ n) × (◌≡◌ {A = ThreadState} (su, site.WaitsAny xs) (st, site.Runs))) ⊎ ((n ≢ o) × IsWaitingAny threads i o su xs) → HangsOn p (eqs i) su xs × ((x : VarName) → Contains xs x → IsFree (eqs i) x × IsHere (records i) x)
+        compare : (o : ThreadName) (su : Stack) (xs : List VarName) → ((o ≡ n) × (◌≡◌ {A = ThreadState} (su, site.WaitsAny xs) (st, site.Runs))) ⊎ ((n ≢ o) × IsWaitingAny threads i o su xs) → IsOpenOn p (eqs i) su xs × ((x : VarName) → Contains xs x → IsFree (eqs i) x × IsHere (records i) x)
         compare o su xs (inr h) = parts.waiting.compares i o su xs h.1
         compare o su xs (inl e) = let modes : site.WaitsAny xs ≡ site.Runs = ap (λ (v : ThreadState). v.1) e.1 in absurd (cc)
 

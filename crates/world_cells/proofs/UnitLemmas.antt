@@ -88,7 +88,7 @@ outcome_lone p env rest fresh (outcome.Exchanges cell n t) c new told e = (refl,
 outcome_lone p env rest fresh (outcome.Fails exception) c new told e = fails_lone _ exception rest (vars_among fresh) _ c new told e
 outcome_lone p env rest fresh (outcome.MakesCell content t) c new told e = cc
 outcome_lone p env rest fresh (outcome.Waits x) c new told e = cc
-outcome_lone p env rest fresh (outcome.Compares left right) c new told e = cc
+outcome_lone p env rest fresh (outcome.WaitsAny left right) c new told e = cc
 outcome_lone p env rest fresh (outcome.Runs codes) c new told e = cc
 outcome_lone p env rest fresh (outcome.Tells x t) c new told e = cc
 outcome_lone p env rest fresh (outcome.Declares first count body) c new told e = cc
@@ -372,6 +372,6 @@ module _ (p : List Stmt) (n limit i : ℕ) (real : i ≢ 0) (w : World) (ks : Li
 
       go : (d0 : Need) → stack_need p (eqs w.sites i) st ≡ d0 → IsUnitFor p n limit (w.sites i) th st d0 d → Goal
       go (need.Waits y) e (z, class, is) = waits y z e is
-      go (need.WaitsAny q) e (zs, hangs, is) = waits_any q zs e is
+      go (need.WaitsAny q) e (zs, open_on, is) = waits_any q zs e is
       go (need.Binds a b) e (u, t, root, is) = binds a b e u t root is
       go (Takes kinds) e s = takes kinds e (w.sites i).records.site number (stack_effect p (eqs w.sites i) (next_names (w.sites i).records.site (counters w.sites i) kinds) None st).cell refl s

@@ -181,7 +181,7 @@ module _ (p : List Stmt) (n limit i : ℕ) (real : i ≢ 0) (w : World) (ks : Li
 
       go : (d0 : Need) → stack_need p (eqs w.sites i) st ≡ d0 → IsUnitFor p n limit (w.sites i) th st d0 d → Goal
       go (need.Waits y) e (z, class, is) = plain_tally d c2 (ap (λ (q : Transition). q.picks) is) run2 (subst (NoCells (w.sites i)) (sym is) (record { cell_records = refl; managers = refl; site = refl; silent = tt }))
-      go (need.WaitsAny r) e (zs, hangs, is) = plain_tally d c2 (ap (λ (q : Transition). q.picks) is) run2 (subst (NoCells (w.sites i)) (sym is) (record { cell_records = refl; managers = refl; site = refl; silent = tt }))
+      go (need.WaitsAny r) e (zs, open_on, is) = plain_tally d c2 (ap (λ (q : Transition). q.picks) is) run2 (subst (NoCells (w.sites i)) (sym is) (record { cell_records = refl; managers = refl; site = refl; silent = tt }))
       go (need.Binds a b) e (u, y, root, is) = binds a b e u y root is
       go (Takes kinds) e s = takes kinds e (w.sites i).records.site (parts.kept i).site (stack_effect p (eqs w.sites i) (next_names (w.sites i).records.site (counters w.sites i) kinds) None st).cell refl s
 

@@ -38,7 +38,7 @@ module _ (P : VarName → Type 0) where
 
   outcome_lefts : (p : List Stmt) (env : Env) (rest : Stack) (fresh : List Name) (o : Outcome) → Each P (vars_among fresh) → Lefts (outcome_effect p env rest fresh o).adds
   outcome_lefts p env rest fresh (outcome.Waits x) h = tt
-  outcome_lefts p env rest fresh (outcome.Compares left right) h = tt
+  outcome_lefts p env rest fresh (outcome.WaitsAny left right) h = tt
   outcome_lefts p env rest fresh (outcome.Runs items) h = tt
   outcome_lefts p env rest fresh (outcome.Tells x t) h = tt
   outcome_lefts p env rest fresh (outcome.Declares first count body) h = tt

@@ -99,7 +99,7 @@ module _ (p : List Stmt) (n limit : ℕ) where
   outcome_new k c env rest (outcome.Spawns at body vars) kinds e = spawn_new k c env rest (outcome.Spawns at body vars) kinds (takes_same (kind.Thread ∷ []) kinds e) (refl, omega arith, omega arith)
   outcome_new k c env rest (outcome.Fails x) kinds e = no_birth k c (counters_after c kinds) _ (fails_none x rest (vars_among (next_names k c kinds)))
   outcome_new k c env rest (outcome.Waits x) kinds e = tt
-  outcome_new k c env rest (outcome.Compares left right) kinds e = tt
+  outcome_new k c env rest (outcome.WaitsAny left right) kinds e = tt
   outcome_new k c env rest (outcome.Runs items) kinds e = tt
   outcome_new k c env rest (outcome.Tells x t) kinds e = tt
   outcome_new k c env rest (outcome.Declares first count body) kinds e = tt
@@ -460,7 +460,7 @@ module _ (p : List Stmt) (n limit : ℕ) (i low : ℕ) (P : ThreadName → Type 
   need_asks : (base : List Sent) (s : Site) (th : ThreadName) (st : Stack) (need : Need) (d : Transition) → s.records.site ≡ i → thread_state s th ≡ Some (st, Runs) → Full base s → stack_need p s.equations st ≡ need → IsUnitFor p n limit s th st need d → AsksOn base d
   need_asks base s th st (Waits x) d own at h e (z, names, g) =
       subst (AsksOn base) (sym g) (of_quiet s.counters.threads base (without_output (with_waiting th st z s)) (still p n limit i low s.counters.threads P start base (with_waiting th st z s) (goes i low s.counters.threads P start base s (with_waiting th st z s) th (st, Runs) (Some (st, site.Waits z)) refl refl refl at runs_not h)))
-  need_asks base s th st (WaitsAny q) d own at h e (xs, hangs, g) =
+  need_asks base s th st (WaitsAny q) d own at h e (xs, open_on, g) =
       subst (AsksOn base) (sym g) (of_quiet s.counters.threads base (without_output (with_waiting_any th st xs s)) (still p n limit i low s.counters.threads P start base (with_waiting_any th st xs s) (goes i low s.counters.threads P start base s (with_waiting_any th st xs s) th (st, Runs) (Some (st, site.WaitsAny xs)) refl refl refl at runs_not h)))
   need_asks base s th st (Binds a b) d own at h e (u, t, root, g) = subst (AsksOn base) (sym g) (bind_asks base s th st a b u t (u.site == s.records.site) at e root.1 h)
   need_asks base s th st (Takes kinds) d own at h e g =

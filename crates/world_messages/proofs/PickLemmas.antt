@@ -327,7 +327,7 @@ module _ (p : List Stmt) (n limit : ℕ) where
   outcome_births i c env rest fresh (outcome.Spawns at body vars) kinds e = one_thread i c kinds (takes_one (kind.Thread ∷ []) kinds e)
   outcome_births i c env rest fresh (outcome.Fails x) kinds e = omega (arith, fails_births x rest (vars_among fresh))
   outcome_births i c env rest fresh (outcome.Waits x) kinds e = omega arith
-  outcome_births i c env rest fresh (outcome.Compares left right) kinds e = omega arith
+  outcome_births i c env rest fresh (outcome.WaitsAny left right) kinds e = omega arith
   outcome_births i c env rest fresh (outcome.Runs items) kinds e = omega arith
   outcome_births i c env rest fresh (outcome.Tells x t) kinds e = omega arith
   outcome_births i c env rest fresh (outcome.Declares first count body) kinds e = omega arith

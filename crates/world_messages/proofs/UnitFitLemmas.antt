@@ -255,7 +255,7 @@ module _ (p : List Stmt) (is : IsProgram p) (n limit : ℕ) (i : ℕ) (R : VarNa
 
   need_fits : (known : List VarName) (s : Site) (th : ThreadName) (st : Stack) (need : Need) (d : Transition) → ThreadFits p known st → SiteFits p i known s → stack_need p s.equations st ≡ need → IsUnitFor p n limit s th st need d → FitsOn p i R known d
   need_fits known s th st (Waits x) d f h e (z, at, g) = subst (FitsOn p i R known) (sym g) (still known (with_waiting th st z s) (waits_fits known th st z s f h))
-  need_fits known s th st (WaitsAny q) d f h e (xs, hangs, g) = subst (FitsOn p i R known) (sym g) (still known (with_waiting_any th st xs s) (waits_any_fits known th st xs s f h))
+  need_fits known s th st (WaitsAny q) d f h e (xs, open_on, g) = subst (FitsOn p i R known) (sym g) (still known (with_waiting_any th st xs s) (waits_any_fits known th st xs s f h))
   need_fits known s th st (Binds a b) d f h e (u, t, root, g) = subst (FitsOn p i R known) (sym g) (bind_unit known s th st a b u t f h e root.0 (u.site == s.records.site) refl)
   need_fits known s th st (Takes kinds) d f h e g =
       either_fits known th st s (thread_step p n limit th st kinds (fresh_names s kinds) None s) (effect_here p s (fresh_names s kinds) None st).cell d f h

@@ -12,13 +12,12 @@ use Rattle.tree_node.specs.Each.{Each, AreDistinct}
 use Rattle.tree_node.specs.Goal.{IsAllowedBind}
 use Rattle.tree_node.specs.Order.{IsLower}
 use Rattle.tree_node.specs.State.{Stack, State, equal_thread}
-use Rattle.tree_node.specs.Compare.{Pair, Open, compared}
 use Rattle.tree_node.specs.Store.{Store, Equation, Same, IsFree, IsSound}
 use Rattle.kernel_syntax.specs.declared.stmt.Stmt.{Stmt}
 use Rattle.site_message.specs.declared.message.Msg.{Msg}
 use Rattle.site_message.specs.declared.message.Msg.TheVariants as msg
 use Rattle.oz_model.specs.Answers.{IsPartOf, LinksGoDown}
-use Rattle.oz_model.specs.Need.{Waits, WaitsAny, Binds, Takes, stack_need}
+use Rattle.oz_model.specs.Need.{IsOpenNeed, Waits, Binds, Takes, stack_need}
 use Rattle.oz_model.specs.Effect.{Exchanged, stack_effect}
 use Rattle.oz_model.specs.Step.{threads_born}
 use Rattle.bind_protocol.specs.Records.{Records, knowledge, sites_in}
@@ -115,13 +114,13 @@ HasAllowedBind p s st x t =
 abbrev pub IsWaiting : (ℕ → Threads) → ℕ → ThreadName → Stack → VarName → Type 0
 IsWaiting threads i n st x = value_of equal_thread (threads i) n ≡ Some (st, site.Waits x)
 
--- thread n is at site i with this stack and waits for some of these
+-- thread n is at site i with this stack and waits for any of these
 abbrev pub IsWaitingAny : (ℕ → Threads) → ℕ → ThreadName → Stack → List VarName → Type 0
 IsWaitingAny threads i n st xs = value_of equal_thread (threads i) n ≡ Some (st, site.WaitsAny xs)
 
--- the top item compares, and by what the site knows it hangs on these
-abbrev pub HangsOn : List Stmt → Store → Stack → List VarName → Type 0
-HangsOn p s st xs = (q : Pair) × (stack_need p s st ≡ WaitsAny q) × (compared s q ≡ Open xs)
+-- the top item tests two variables, and by what the site knows these are open in them
+abbrev pub IsOpenOn : List Stmt → Store → Stack → List VarName → Type 0
+IsOpenOn p s st xs = IsOpenNeed s (stack_need p s st) xs
 
 -- the top item waits for the class of x
 abbrev pub NeedsFirst : List Stmt → Store → Stack → VarName → Type 0
@@ -143,7 +142,7 @@ IsAwaited p eqs threads c x t n =
     IsBound c x ⊎ ((i : ℕ) × (st : Stack) × IsWaiting threads i n st x × HasAllowedBind p (eqs i) st x t)
 
 -- what each waiting thread waits for: a request to bind is late or its thread waits for x; who waits for a variable has it
--- unbound at its site and needs it, or asked to bind it; who waits for several compares two that hang on these by what its site knows,
+-- unbound at its site and needs it, or asked to bind it; who waits for any of several tests two in which these are open by what its site knows,
 -- and has each of them unbound there; who waits for a token has an exchange of that cell next
 pub record WaitersMatch (p : List Stmt) (eqs : ℕ → Store) (records : ℕ → Records) (threads : ℕ → Threads) (mail : Mail) (c : Store) : Type 0 where
   pub asks : (k to : ℕ) (x : VarName) (t : Term) (n : ThreadName) (bundle : List Equation) → IsOnItsWay mail k to (msg.BindReq x n t bundle) →
@@ -151,7 +150,7 @@ pub record WaitersMatch (p : List Stmt) (eqs : ℕ → Store) (records : ℕ →
   pub waits : (i : ℕ) (n : ThreadName) (st : Stack) (x : VarName) → IsWaiting threads i n st x →
       IsFree (eqs i) x × IsHere (records i) x × (NeedsFirst p (eqs i) st x ⊎ IsAsked mail c n x)
   pub compares : (i : ℕ) (n : ThreadName) (st : Stack) (xs : List VarName) → IsWaitingAny threads i n st xs →
-      HangsOn p (eqs i) st xs × ((x : VarName) → Contains xs x → IsFree (eqs i) x × IsHere (records i) x)
+      IsOpenOn p (eqs i) st xs × ((x : VarName) → Contains xs x → IsFree (eqs i) x × IsHere (records i) x)
   pub exchanges : (i : ℕ) (n : ThreadName) (st : Stack) (d : CellName) → value_of equal_thread (threads i) n ≡ Some (st, WaitsFor d) →
       IsExchange p (eqs i) st d
 

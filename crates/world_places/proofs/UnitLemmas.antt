@@ -267,7 +267,7 @@ module _ (p : List Stmt) (n limit i : ℕ) (C : ThreadName → Type 0) (Q : Pick
 
   need_part : (s : Site) (th : ThreadName) (st : Stack) (need : Need) (d : Transition) → s.records.site ≡ i → thread_state s th ≡ Some (st, Runs) → stack_need p s.equations st ≡ need → IsUnitFor p n limit s th st need d → Part i C Q s d
   need_part s th st (Waits x) d own at e (z, names, g) = subst (Part i C Q s) (sym g) (waits_part th st z s at)
-  need_part s th st (WaitsAny q) d own at e (xs, hangs, g) = subst (Part i C Q s) (sym g) (waits_any_part th st xs s at)
+  need_part s th st (WaitsAny q) d own at e (xs, open_on, g) = subst (Part i C Q s) (sym g) (waits_any_part th st xs s at)
   need_part s th st (Binds a b) d own at e (u, t, root, g) = subst (Part i C Q s) (sym g) (bind_part s th st a b u t (u.site == s.records.site) at e)
   need_part s th st (Takes kinds) d own at e g =
       either_part th st s (thread_step p n limit th st kinds (fresh_names s kinds) None s) (effect_here p s (fresh_names s kinds) None st).cell d at

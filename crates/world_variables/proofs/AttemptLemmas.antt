@@ -1,4 +1,4 @@
--- Units that end in waiting: for a variable, for one of several, and for the answer of an owner elsewhere.
+-- Units that end in waiting: for a variable, for any of several, and for the answer of an owner elsewhere.
 use Rattle.std.proofs.Common.{◌≡◌, refl, ℕ, List, [], ◌∷◌, ◌++◌, inl, Some}
 use Rattle.std.specs.Prelude.{Contains}
 use Rattle.tree_node.specs.declared.names.VarName.{VarName}
@@ -42,10 +42,10 @@ module _ (p : List Stmt) (hereF : ℕ → Name → Type 0) (w : World) (c : Stat
 
   pub wait_any_row : (q : Pair) (xs : List VarName) → stack_need p (eqs w.sites i) st ≡ WaitsAny q → compared (eqs w.sites i) q ≡ Open xs → ((x : VarName) → Contains xs x → IsFree (eqs w.sites i) x × IsHere (records w.sites i) x) →
       PartsIn p hereF (after_transition w i (without_output (with_waiting_any n st xs (w.sites i)))) c
-  wait_any_row q xs need hangs each =
+  wait_any_row q xs need open_on each =
       unsent p hereF w.sites i (with_waiting_any n st xs (w.sites i)) w.mail w.sent c
       (rw (at_own (eqs w.sites) i, at_own (records w.sites) i, at_own (counters w.sites) i)
-      (mode_parts p hereF (eqs w.sites) (records w.sites) (threads w.sites) (counters w.sites) w.mail c h i n st (site.WaitsAny xs) at ((q, need, hangs), each)))
+      (mode_parts p hereF (eqs w.sites) (records w.sites) (threads w.sites) (counters w.sites) w.mail c h i n st (site.WaitsAny xs) at ((q, need, open_on), each)))
 
   pub ask_row : (limit : ℕ) (u : VarName) (t : Term) → IsFree (eqs w.sites i) u → IsHere (records w.sites i) u → IsHere (records w.sites u.site) u → HasAllowedBind p (eqs w.sites i) st u t → EachOfEquation (IsMade (counters w.sites)) (u, t) → IsMade (counters w.sites) (name.Thread n) →
       PartsIn p hereF (after_transition w i (with_messages (with_waiting n st u (w.sites i)) (with_own_bundle limit (w.sites i).equations (request u t n) ∷ []))) c

@@ -139,15 +139,15 @@ module _ (p : List Stmt) (w : World) (c : State) (n limit i : ℕ) (th : ThreadN
       )
 
       waits_any : (q : Pair) (xs : List VarName) → stack_need p s.equations st ≡ WaitsAny q → compared s.equations q ≡ Open xs → d ≡ without_output (with_waiting_any th st xs s) → Follows p w c i d
-      waits_any q xs need hangs is = subst (λ (t : Transition). Follows p w c i t) (sym is) (
+      waits_any q xs need open_on is = subst (λ (t : Transition). Follows p w c i t) (sym is) (
         c,
         refl,
         stands (with_waiting_any th st xs s) (without_output s) refl refl
-            (wait_any_row p (here_at (records w.sites)) w c i th st h at q xs need hangs (λ x k. (
-              (open_free s.equations q xs x (h.kept i).sound hangs k).0,
+            (wait_any_row p (here_at (records w.sites)) w c i th st h at q xs need open_on (λ x k. (
+              (open_free s.equations q xs x (h.kept i).sound open_on k).0,
               at_site x
                   (open_has (here_at (records w.sites) i) s.equations (h.homes i).equations q xs x
-                  (stack_several_has (here_at (records w.sites) i) p s.equations st q (inl nob) (h.homes i).equations ((h.homes i).stacks th (st, site.Runs) at) need) hangs k),
+                  (stack_several_has (here_at (records w.sites) i) p s.equations st q (inl nob) (h.homes i).equations ((h.homes i).stacks th (st, site.Runs) at) need) open_on k),
             ))),
       )
 
@@ -204,6 +204,6 @@ module _ (p : List Stmt) (w : World) (c : State) (n limit i : ℕ) (th : ThreadN
 
       go : (q : Need) → stack_need p s.equations st ≡ q → IsUnitFor p n limit s th st q d → Goal
       go (Waits x) e (z, class, is) = inr (waits x z e class is)
-      go (WaitsAny q) e (xs, hangs, is) = inr (waits_any q xs e hangs is)
+      go (WaitsAny q) e (xs, open_on, is) = inr (waits_any q xs e open_on is)
       go (Binds a b) e (u, t, root, is) = inr (binds a b e u t root is)
       go (Takes kinds) e t = takes kinds e t

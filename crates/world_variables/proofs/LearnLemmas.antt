@@ -39,7 +39,7 @@ use Rattle.thread_roster.specs.declared.mode.Mode.TheVariants as site
 use Rattle.world_model.specs.World.{Mail, IsOnItsWay, at_put}
 use Rattle.world_model.specs.Placed.{IsPlaced}
 use Rattle.world_model.specs.Names.{IsHere, IsHome, AreHome}
-use Rattle.world_model.specs.Matches.{equations_in, EquationsMatch, RecordsMatch, AllRecordsMatch, ThreadsMatch, IsTold, AreTold, IsAddressed, AreAddressed, IsBound, HasAllowedBind, IsWaiting, IsWaitingAny, HangsOn, NeedsFirst, IsAsked, IsExchange, IsAwaited, WaitersMatch}
+use Rattle.world_model.specs.Matches.{equations_in, EquationsMatch, RecordsMatch, AllRecordsMatch, ThreadsMatch, IsTold, AreTold, IsAddressed, AreAddressed, IsBound, HasAllowedBind, IsWaiting, IsWaitingAny, IsOpenOn, NeedsFirst, IsAsked, IsExchange, IsAwaited, WaitersMatch}
 use Rattle.world_model.proofs.PutLemmas.{two_all, at_all, at_here}
 use Rattle.world_model.proofs.MailLemmas.{sent_to, Posts}
 use Rattle.world_model.proofs.KeyLemmas.{woken_new, woken_old, wake_waits, wake_several, wake_other, wake_cell}
@@ -93,10 +93,10 @@ needs_more p s c st x sound one down more free (z, need, same) =
     no_node : (z : VarName) → Same c z x → node_of c z ≡ None
     no_node z joined = class_none c z x joined (lower_binds c x (term.Node (node.Int (pos 0))) one down free tt).0
 
--- a comparison that hangs on variables that are still free
-pub hangs_more : (p : List Stmt) (s c : Store) (st : Stack) (xs : List VarName) → IsSound c → HasOneEach c → LinksGoDown c → IsPartOf s c → ((x : VarName) → Contains xs x → IsFree c x) → HangsOn p s st xs → HangsOn p c st xs
-hangs_more p s c st xs sound one down more free (q, need, hangs) =
-    let kept = open_waits_stay p s c st q xs sound (more_is_within s c more) one need hangs (λ x h. (free x h, (lower_binds c x (term.Node (node.Int (pos 0))) one down (free x h) tt).0)) in
+-- variables that are open in a comparison, and still free
+pub open_more : (p : List Stmt) (s c : Store) (st : Stack) (xs : List VarName) → IsSound c → HasOneEach c → LinksGoDown c → IsPartOf s c → ((x : VarName) → Contains xs x → IsFree c x) → IsOpenOn p s st xs → IsOpenOn p c st xs
+open_more p s c st xs sound one down more free (q, need, open_on) =
+    let kept = open_waits_stay p s c st q xs sound (more_is_within s c more) one need open_on (λ x h. (free x h, (lower_binds c x (term.Node (node.Int (pos 0))) one down (free x h) tt).0)) in
     (q, kept.0, kept.1)
 
 exchange_more : (p : List Stmt) (s c : Store) (st : Stack) (d : CellName) → IsSound c → IsPartOf s c → IsExchange p s st d → IsExchange p c st d
@@ -356,7 +356,7 @@ module _ (p : List Stmt) (eqs : ℕ → Store) (records : ℕ → Records) (thre
   learnt_waiting k kept w = record {
     asks = λ i to y r n bundle h. asked i to y r n bundle (l.posts.from i to _ h);
     waits = λ i n st y h. let old = waits_old i n st y h in waiting i n st y old.1 (w.waits i n st y old.0);
-    compares = λ i n st ys h. let old = several_old i n st ys h in hanging i n st ys old.1 (w.compares i n st ys old.0);
+    compares = λ i n st ys h. let old = several_old i n st ys h in open_vars i n st ys old.1 (w.compares i n st ys old.0);
     exchanges = λ i n st e h. exchange_more p (eqs i) (eqs' i) st e (kept i).sound (grow i) (w.exchanges i n st e (cell_old i n st e h));
   }
     where
@@ -390,10 +390,10 @@ module _ (p : List Stmt) (eqs : ℕ → Store) (records : ℕ → Records) (thre
           go (inr (inl h)) = inr (inl (h.0, h.1, h.2, l.posts.old h.0 _ _ h.3))
           go (inr (inr q)) = inr (inr (grown y q))
 
-      hanging : (i : ℕ) (n : ThreadName) (st : Stack) (ys : List VarName) → (i ≡ j → (y : VarName) → Contains ys y → y ≢ x) → HangsOn p (eqs i) st ys × ((y : VarName) → Contains ys y → IsFree (eqs i) y × IsHere (records i) y) →
-          HangsOn p (eqs' i) st ys × ((y : VarName) → Contains ys y → IsFree (eqs' i) y × IsHere (records' i) y)
-      hanging i n st ys other (hangs, each) =
-          (hangs_more p (eqs i) (eqs' i) st ys (kept i).sound (learnt_part k i).0 (learnt_part k i).1 (grow i) (λ y h. free_now y h) hangs, λ y h. (free_now y h, here_more i y (each y h).1))
+      open_vars : (i : ℕ) (n : ThreadName) (st : Stack) (ys : List VarName) → (i ≡ j → (y : VarName) → Contains ys y → y ≢ x) → IsOpenOn p (eqs i) st ys × ((y : VarName) → Contains ys y → IsFree (eqs i) y × IsHere (records i) y) →
+          IsOpenOn p (eqs' i) st ys × ((y : VarName) → Contains ys y → IsFree (eqs' i) y × IsHere (records' i) y)
+      open_vars i n st ys other (open_on, each) =
+          (open_more p (eqs i) (eqs' i) st ys (kept i).sound (learnt_part k i).0 (learnt_part k i).1 (grow i) (λ y h. free_now y h) open_on, λ y h. (free_now y h, here_more i y (each y h).1))
         where
           free_now : (y : VarName) → Contains ys y → IsFree (eqs' i) y
           free_now y h = free_new i y (λ e. other e y h) (each y h).0

@@ -26,7 +26,7 @@ use Rattle.world_model.specs.World.{Mail, IsOnItsWay, at_put, mail_from}
 use Rattle.world_model.specs.Names.{IsMade, IsHere, IsHome, AreHome}
 use Rattle.world_model.proofs.MailLemmas.{nothing, sent_to, Posts, posts}
 use Rattle.world_variables.proofs.AlikeLemmas.{knowledge_posts, placed_posts, told_posts, addressed_posts, said_posts, asked_posts}
-use Rattle.world_model.specs.Matches.{IsThreadAt, ThreadsMatch, HasAllowedBind, IsWaiting, IsWaitingAny, HangsOn, NeedsFirst, IsAsked, IsExchange, IsAwaited, PartsMatch}
+use Rattle.world_model.specs.Matches.{IsThreadAt, ThreadsMatch, HasAllowedBind, IsWaiting, IsWaitingAny, IsOpenOn, NeedsFirst, IsAsked, IsExchange, IsAwaited, PartsMatch}
 use Rattle.world_model.proofs.PutLemmas.{at_all, at_here}
 use Rattle.world_variables.proofs.LearnLemmas.{placed_alike}
 use Rattle.world_model.proofs.KeyLemmas.{with_here, with_there, goes_cases}
@@ -37,7 +37,7 @@ use Rattle.thread_roster.proofs.NameLemmas.{name_cases as threads_decide}
 abbrev pub MayWait : List Stmt → Store → Records → Mail → Store → ThreadName → Stack → Mode → Type 0
 MayWait p s b mail c n st Runs = Unit {0}
 MayWait p s b mail c n st (site.Waits x) = IsFree s x × IsHere b x × (NeedsFirst p s st x ⊎ IsAsked mail c n x)
-MayWait p s b mail c n st (site.WaitsAny xs) = HangsOn p s st xs × ((x : VarName) → Contains xs x → IsFree s x × IsHere b x)
+MayWait p s b mail c n st (site.WaitsAny xs) = IsOpenOn p s st xs × ((x : VarName) → Contains xs x → IsFree s x × IsHere b x)
 MayWait p s b mail c n st (WaitsFor d) = IsExchange p s st d
 
 module _ (p : List Stmt) (here : ℕ → Name → Type 0) (eqs : ℕ → Store) (records : ℕ → Records) (threads : ℕ → Threads) (made : ℕ → Counters) (mail : Mail) (s : State) (parts : PartsMatch p here eqs records threads made mail s) where
@@ -102,7 +102,7 @@ module _ (p : List Stmt) (here : ℕ → Name → Type 0) (eqs : ℕ → Store) 
         asks = λ k to x t o bundle h. asked x t o (parts.waiting.asks k to x t o bundle h);
         waits = at_all threads i waits (λ j (ts : Threads). (o : ThreadName) (su : Stack) (x : VarName) → value_of equal_thread ts o ≡ Some (su, site.Waits x) → IsFree (eqs j) x × IsHere (records j) x × (NeedsFirst p (eqs j) su x ⊎ IsAsked mail s.equations o x))
             (λ o su x h. wait o su x (mode_old o (su, site.Waits x) h)) (λ j other o su x h. parts.waiting.waits j o su x h);
-        compares = at_all threads i waits (λ j (ts : Threads). (o : ThreadName) (su : Stack) (xs : List VarName) → value_of equal_thread ts o ≡ Some (su, site.WaitsAny xs) → HangsOn p (eqs j) su xs × ((x : VarName) → Contains xs x → IsFree (eqs j) x × IsHere (records j) x))
+        compares = at_all threads i waits (λ j (ts : Threads). (o : ThreadName) (su : Stack) (xs : List VarName) → value_of equal_thread ts o ≡ Some (su, site.WaitsAny xs) → IsOpenOn p (eqs j) su xs × ((x : VarName) → Contains xs x → IsFree (eqs j) x × IsHere (records j) x))
             (λ o su xs h. compare o su xs (mode_old o (su, site.WaitsAny xs) h)) (λ j other o su xs h. parts.waiting.compares j o su xs h);
         exchanges = at_all threads i waits (λ j (ts : Threads). (o : ThreadName) (su : Stack) (d : CellName) → value_of equal_thread ts o ≡ Some (su, WaitsFor d) → IsExchange p (eqs j) su d)
             (λ o su d h. exchange o su d (mode_old o (su, WaitsFor d) h)) (λ j other o su d h. parts.waiting.exchanges j o su d h);
@@ -123,7 +123,7 @@ module _ (p : List Stmt) (here : ℕ → Name → Type 0) (eqs : ℕ → Store) 
             let modes : site.Waits x ≡ m = ap (λ (v : ThreadState). v.1) e.1 in
             rw (e.0, ap (λ (v : ThreadState). v.0) e.1) (subst (λ (q : Mode). MayWait p (eqs i) (records i) mail s.equations n st q) (sym modes) may)
 
-        compare : (o : ThreadName) (su : Stack) (xs : List VarName) → ((o ≡ n) × (◌≡◌ {A = ThreadState} (su, site.WaitsAny xs) (st, m))) ⊎ ((n ≢ o) × IsWaitingAny threads i o su xs) → HangsOn p (eqs i) su xs × ((x : VarName) → Contains xs x → IsFree (eqs i) x × IsHere (records i) x)
+        compare : (o : ThreadName) (su : Stack) (xs : List VarName) → ((o ≡ n) × (◌≡◌ {A = ThreadState} (su, site.WaitsAny xs) (st, m))) ⊎ ((n ≢ o) × IsWaitingAny threads i o su xs) → IsOpenOn p (eqs i) su xs × ((x : VarName) → Contains xs x → IsFree (eqs i) x × IsHere (records i) x)
         compare o su xs (inr h) = parts.waiting.compares i o su xs h.1
         compare o su xs (inl e) =
             let modes : site.WaitsAny xs ≡ m = ap (λ (v : ThreadState). v.1) e.1 in
@@ -148,7 +148,7 @@ module _ (p : List Stmt) (here : ℕ → Name → Type 0) (eqs : ℕ → Store) 
         asks = λ l a y u o bs h. asked a y u o bs (sent.from l a _ h);
         waits = at_all threads i waits (λ j (ts : Threads). (o : ThreadName) (su : Stack) (y : VarName) → value_of equal_thread ts o ≡ Some (su, site.Waits y) → IsFree (eqs j) y × IsHere (records j) y × (NeedsFirst p (eqs j) su y ⊎ IsAsked more s.equations o y))
             (λ o su y h. wait o su y (mode_old o (su, site.Waits y) h)) (λ j other o su y h. let r = parts.waiting.waits j o su y h in (r.0, r.1, still o y j su r.2));
-        compares = at_all threads i waits (λ j (ts : Threads). (o : ThreadName) (su : Stack) (ys : List VarName) → value_of equal_thread ts o ≡ Some (su, site.WaitsAny ys) → HangsOn p (eqs j) su ys × ((y : VarName) → Contains ys y → IsFree (eqs j) y × IsHere (records j) y))
+        compares = at_all threads i waits (λ j (ts : Threads). (o : ThreadName) (su : Stack) (ys : List VarName) → value_of equal_thread ts o ≡ Some (su, site.WaitsAny ys) → IsOpenOn p (eqs j) su ys × ((y : VarName) → Contains ys y → IsFree (eqs j) y × IsHere (records j) y))
             (λ o su ys h. compare o su ys (mode_old o (su, site.WaitsAny ys) h)) (λ j other o su ys h. parts.waiting.compares j o su ys h);
         exchanges = at_all threads i waits (λ j (ts : Threads). (o : ThreadName) (su : Stack) (d : CellName) → value_of equal_thread ts o ≡ Some (su, WaitsFor d) → IsExchange p (eqs j) su d)
             (λ o su d h. exchange o su d (mode_old o (su, WaitsFor d) h)) (λ j other o su d h. parts.waiting.exchanges j o su d h);
@@ -207,7 +207,7 @@ module _ (p : List Stmt) (here : ℕ → Name → Type 0) (eqs : ℕ → Store) 
             let posted = sent.new x.site request (Contains-head _ []) in
             rw (e.0, var) (free, is, inr (inl (posted.0, t, bundle, posted.1)))
 
-        compare : (o : ThreadName) (su : Stack) (ys : List VarName) → ((o ≡ n) × (◌≡◌ {A = ThreadState} (su, site.WaitsAny ys) (st, m))) ⊎ ((n ≢ o) × IsWaitingAny threads i o su ys) → HangsOn p (eqs i) su ys × ((y : VarName) → Contains ys y → IsFree (eqs i) y × IsHere (records i) y)
+        compare : (o : ThreadName) (su : Stack) (ys : List VarName) → ((o ≡ n) × (◌≡◌ {A = ThreadState} (su, site.WaitsAny ys) (st, m))) ⊎ ((n ≢ o) × IsWaitingAny threads i o su ys) → IsOpenOn p (eqs i) su ys × ((y : VarName) → Contains ys y → IsFree (eqs i) y × IsHere (records i) y)
         compare o su ys (inr h) = parts.waiting.compares i o su ys h.1
         compare o su ys (inl e) = let modes : site.WaitsAny ys ≡ site.Waits x = ap (λ (v : ThreadState). v.1) e.1 ∙ mode in cc
 

@@ -19,7 +19,7 @@ use Rattle.thread_roster.specs.declared.mode.Mode.TheVariants as site
 use Rattle.site_model.specs.Unit.{runnable_state}
 use Rattle.world_model.specs.World.{Mail, at_put}
 use Rattle.world_model.specs.Names.{IsHere, AreHome}
-use Rattle.world_model.specs.Matches.{IsThreadAt, IsInSpawn, ThreadsMatch, IsWaiting, IsWaitingAny, HangsOn, NeedsFirst, IsAsked, IsExchange, IsAwaited, WaitersMatch}
+use Rattle.world_model.specs.Matches.{IsThreadAt, IsInSpawn, ThreadsMatch, IsWaiting, IsWaitingAny, IsOpenOn, NeedsFirst, IsAsked, IsExchange, IsAwaited, WaitersMatch}
 use Rattle.world_model.proofs.PutLemmas.{at_all, at_here}
 use Rattle.world_model.proofs.MailLemmas.{Gone}
 use Rattle.world_model.proofs.KeyLemmas.{goes_cases, goes_here, goes_there}
@@ -90,7 +90,7 @@ module _ (threads : ℕ → Threads) (i : ℕ) (n : ThreadName) (st : Stack) (no
       wait j o su x (inr h) = w.waits j o su x h.1
 
       compare : (j : ℕ) (o : ThreadName) (su : Stack) (xs : List VarName) → ((j ≡ i) × (o ≡ n) × (◌≡◌ {A = ThreadState} (su, site.WaitsAny xs) (st, Runs))) ⊎ ((n ≢ o) × IsWaitingAny threads j o su xs) →
-          HangsOn p (eqs j) su xs × ((x : VarName) → Contains xs x → IsFree (eqs j) x × IsHere (records j) x)
+          IsOpenOn p (eqs j) su xs × ((x : VarName) → Contains xs x → IsFree (eqs j) x × IsHere (records j) x)
       compare j o su xs (inl e) = let modes : site.WaitsAny xs ≡ Runs = ap (λ (v : ThreadState). v.1) e.2 in cc
       compare j o su xs (inr h) = w.compares j o su xs h.1
 
@@ -323,7 +323,7 @@ module _ (threads : ℕ → Threads) (i : ℕ) (n : ThreadName) (st : Stack) (r 
       wait j o su x (inr h) = w.waits j o su x h.1
 
       compare : (j : ℕ) (o : ThreadName) (su : Stack) (xs : List VarName) → ((j ≡ i) × (o ≡ n) × (r ≡ Some su) × (site.WaitsAny xs ≡ Runs)) ⊎ ((j ≡ i → n ≢ o) × IsWaitingAny threads j o su xs) →
-          HangsOn p (eqs j) su xs × ((x : VarName) → Contains xs x → IsFree (eqs j) x × IsHere (records j) x)
+          IsOpenOn p (eqs j) su xs × ((x : VarName) → Contains xs x → IsFree (eqs j) x × IsHere (records j) x)
       compare j o su xs (inl e) = let no = e.3 in cc
       compare j o su xs (inr h) = w.compares j o su xs h.1
 

@@ -18,8 +18,8 @@ use Rattle.thread_roster.specs.declared.mode.Mode.TheVariants.{Runs, WaitsFor}
 use Rattle.thread_roster.specs.declared.mode.Mode.TheVariants as site
 use Rattle.world_model.specs.World.{Mail}
 use Rattle.world_model.specs.Names.{IsHere}
-use Rattle.world_model.specs.Matches.{IsThreadAt, IsInSpawn, NeedsFirst, IsAsked, HangsOn, IsTold, PartsMatch}
-use Rattle.world_variables.proofs.LearnLemmas.{needs_more, hangs_more}
+use Rattle.world_model.specs.Matches.{IsThreadAt, IsInSpawn, NeedsFirst, IsAsked, IsOpenOn, IsTold, PartsMatch}
+use Rattle.world_variables.proofs.LearnLemmas.{needs_more, open_more}
 use Rattle.world_variables.proofs.RecordLemmas.{registered_open}
 use Rattle.thread_roster.specs.Threads.{is_waiting}
 use Rattle.world_variables.specs.Laws.{IsStill}
@@ -65,11 +65,11 @@ module _ (p : List Stmt) (here : ℕ → Name → Type 0) (eqs : ℕ → Store) 
       waiting : (i : ℕ) (m : Mode) → value_of equal_thread (threads i) n ≡ Some (st, m) → IsWaiting (stack_need p s.equations st)
       waiting i Runs at = absurd (still.waits i n st at)
       waiting i (WaitsFor d) at = absurd (still.cells i n st d at)
-      waiting i (site.WaitsAny xs) at = hanging (parts.waiting.compares i n st xs at)
+      waiting i (site.WaitsAny xs) at = open_vars (parts.waiting.compares i n st xs at)
         where
-          hanging : HangsOn p (eqs i) st xs × ((x : VarName) → Contains xs x → IsFree (eqs i) x × IsHere (records i) x) → IsWaiting (stack_need p s.equations st)
-          hanging (hangs, each) =
-              let c = hangs_more p (eqs i) s.equations st xs sound parts.knowledge.one parts.knowledge.down (parts.knowledge.known i) (λ x k. free_there i x (each x k).0 (each x k).1) hangs in
+          open_vars : IsOpenOn p (eqs i) st xs × ((x : VarName) → Contains xs x → IsFree (eqs i) x × IsHere (records i) x) → IsWaiting (stack_need p s.equations st)
+          open_vars (open_on, each) =
+              let c = open_more p (eqs i) s.equations st xs sound parts.knowledge.one parts.knowledge.down (parts.knowledge.known i) (λ x k. free_there i x (each x k).0 (each x k).1) open_on in
               subst (λ (d : Need). IsWaiting d) (sym c.1) tt
       waiting i (site.Waits x) at = why (parts.waiting.waits i n st x at)
         where
