@@ -8,3 +8,4 @@ pub mod ShortLemmas
 pub mod PositionListLemmas
 pub mod TableLemmas
 pub mod ArithmeticLemmas
+pub mod SugarItems

@@ -1,5 +1,5 @@
 -- A program's statements have few free positions.
-use Rattle.std.proofs.Common.{arith, ◌≡◌, subst, refl, ℕ, zero, suc, ◌+◌, ◌-◌, ◌<◌, ◌≤◌, List, [], ◌∷◌, length}
+use Rattle.std.proofs.Common.{arith, ◌≡◌, ℕ, zero, suc, ◌+◌, ◌-◌, ◌<◌, ◌≤◌, List, [], ◌∷◌, length}
 use Rattle.std.specs.Prelude.{Contains, slice_get, unwrap_or}
 use Rattle.tree_node.specs.declared.names.CodeId.{CodeId}
 use Rattle.tree_node.specs.Each.{Each}
@@ -10,7 +10,6 @@ use Rattle.kernel_syntax.specs.declared.stmt.Stmt.TheVariants.{Skip}
 use Rattle.kernel_syntax.specs.Scopes.{stmt_at, named_positions}
 use Rattle.kernel_syntax.specs.Free.{AreRising, free}
 use Rattle.kernel_syntax.specs.Preorder.{whole_program}
-use Rattle.kernel_syntax.specs.Program.{IsProgram}
 use Rattle.kernel_syntax.specs.Uses.{IsUsed, itself, within}
 use Rattle.kernel_syntax.specs.Laws.{FreeIsFew}
 use Rattle.kernel_syntax.proofs.Below.{Below}

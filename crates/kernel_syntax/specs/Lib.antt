@@ -12,3 +12,4 @@ pub mod BuiltIns
 pub mod Sugar
 pub mod SugarView
 pub mod SugarLimits
+pub mod Surfaces

@@ -9,7 +9,7 @@ ghost use Rattle.kernel_syntax.specs.Program.{AreFeatures, IsPattern, IsThreadSi
 
 use crate::stmt::{Pattern, Stmt, features};
 use std::cmp::Ordering;
-use tree_node::{Feature, compare_features};
+use tree_node::{Feature, Integer, compare_features};
 
 /// Whether a statement is within its limits.
 pub fn is_stmt(stmt: &Stmt) -> bool
@@ -27,7 +27,7 @@ pub fn is_stmt(stmt: &Stmt) -> bool
             is_pattern(pattern) && fits_behind(*first, features(pattern))
         }
         Stmt::Call { args, .. } => args.as_slice().len() <= 64,
-        Stmt::Thread { at, .. } => is_thread_site(*at),
+        Stmt::Thread { at, .. } => is_thread_site(at),
         Stmt::Try { first, .. } => *first as u64 + 1 < LIMIT,
         _ => true,
     }
@@ -36,11 +36,11 @@ pub fn is_stmt(stmt: &Stmt) -> bool
 // Above all positions.
 const LIMIT: u64 = 1 << 32;
 
-fn is_thread_site(at: Option<i128>) -> bool
-    ensures { IsTrue result ↔ IsThreadSite at }
+fn is_thread_site(at: &Option<Integer>) -> bool
+    ensures { IsTrue result ↔ IsThreadSite at.now }
 {
     match at {
-        Some(site) => 1 <= site,
+        Some(site) => 1 <= site.get(),
         None => true,
     }
 }

@@ -3,7 +3,7 @@
 ghost use Rattle.std.specs.Prelude.{◌≡◌};
 ghost use Rattle.kernel_syntax.specs.Scopes.{features_in};
 
-use tree_node::{CodeId, Feature, Seq, Text};
+use tree_node::{CodeId, Feature, Integer, Seq, Text};
 
 /// The numbers of statements in the order in which they run.
 pub type Bodies = Seq<CodeId>;
@@ -48,7 +48,7 @@ pub enum Selector {
 /// The pattern of a `case`: an integer, an atom, or a record of a label and 1 to 64 features.
 #[derive(Drop)]
 pub enum Pattern {
-    Int(i128),
+    Int(Integer),
     Atom(Text),
     Rec(Text, Features),
 }
@@ -74,7 +74,7 @@ pub enum Stmt {
     },
     TellInt {
         left: u32,
-        value: i128,
+        value: Integer,
     },
     TellAtom {
         left: u32,
@@ -136,7 +136,7 @@ pub enum Stmt {
         new: u32,
     },
     Thread {
-        at: Option<i128>,
+        at: Option<Integer>,
         body: CodeId,
     },
     Try {

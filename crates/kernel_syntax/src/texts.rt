@@ -10,35 +10,35 @@ ghost use Rattle.kernel_syntax.specs.Texts.{is_text_byte, IsText, IsFeature, IsS
 
 use crate::stmt::{Pattern, Selector, Stmt};
 use std::alloc::{AllocError, Global};
-use tree_node::{Feature, Text, atom_text};
+use tree_node::{Feature, Integer, Text, atom_text};
 
 /// Whether each atom, label and feature of a statement is an atom's text.
 pub fn has_texts(alloc: Global, stmt: &Stmt) -> Result<bool, AllocError>
     ensures { IfOk result (λ b. IsTrue b ↔ HasTexts stmt.now) }
 {
     match stmt {
-        Stmt::TellInt { value, .. } => Ok(is_integer(*value)),
+        Stmt::TellInt { value, .. } => Ok(is_integer(value)),
         Stmt::TellAtom { text, .. } => is_text(alloc, text),
         Stmt::TellRec { label, fields, .. } => {
             Ok(is_text(alloc, label)? && are_fields(alloc, fields.as_slice())?)
         }
         Stmt::Select { by, .. } => is_spelled_selector(alloc, by),
         Stmt::Case { pattern, .. } => is_spelled_pattern(alloc, pattern),
-        Stmt::Thread { at, .. } => Ok(is_integer_if_some(*at)),
+        Stmt::Thread { at, .. } => Ok(is_integer_if_some(at)),
         _ => Ok(true),
     }
 }
 
 // Every value of the type is one.
-fn is_integer(value: i128) -> bool
-    ensures { IsTrue result ↔ IsTrue (is_integer value) }
+fn is_integer(value: &Integer) -> bool
+    ensures { IsTrue result ↔ IsTrue (is_integer value.now) }
 {
-    let _ = value;
+    let _ = value.get();
     true
 }
 
-fn is_integer_if_some(at: Option<i128>) -> bool
-    ensures { IsTrue result ↔ IsIntegerIfSome at }
+fn is_integer_if_some(at: &Option<Integer>) -> bool
+    ensures { IsTrue result ↔ IsIntegerIfSome at.now }
 {
     match at {
         Some(site) => is_integer(site),
@@ -81,7 +81,7 @@ fn is_feature(alloc: Global, feature: &Feature) -> Result<bool, AllocError>
     ensures { IfOk result (λ b. IsTrue b ↔ IsFeature feature.now) }
 {
     match feature {
-        Feature::Int(value) => Ok(is_integer(value.get())),
+        Feature::Int(value) => Ok(is_integer(value)),
         Feature::Atom(text) => is_text(alloc, text),
     }
 }
@@ -99,7 +99,7 @@ fn is_spelled_pattern(alloc: Global, pattern: &Pattern) -> Result<bool, AllocErr
     ensures { IfOk result (λ b. IsTrue b ↔ IsSpelledPattern pattern.now) }
 {
     match pattern {
-        Pattern::Int(value) => Ok(is_integer(*value)),
+        Pattern::Int(value) => Ok(is_integer(value)),
         Pattern::Atom(text) => is_text(alloc, text),
         Pattern::Rec(label, features) => {
             Ok(is_text(alloc, label)? && are_features(alloc, features.as_slice())?)

@@ -89,7 +89,7 @@ field_read p scope d room before next [] σ e = refl
 field_read p scope d room before next (x ∷ xs) σ e = refl
 
 -- where there is no room, a field is a fault
-full : (p : Purpose) (scope : Scope) (before : Fields) (next : ℕ) (symbols : List Symbol) → is_close_round symbols ≡ false → (f : Fault) × (field_at p scope zero before next symbols ≡ Err f)
+pub full : (p : Purpose) (scope : Scope) (before : Fields) (next : ℕ) (symbols : List Symbol) → is_close_round symbols ≡ false → (f : Fault) × (field_at p scope zero before next symbols ≡ Err f)
 full p scope before next (t.CloseRound ∷ xs) e = absurd cc
 full p scope before next (t.Variable x ∷ xs) e = (_, refl)
 full p scope before next (t.Atom a ∷ xs) e = (_, refl)
@@ -102,7 +102,7 @@ round_read : (p : Purpose) (scope : Scope) (d room : ℕ) (before : Fields) (nex
 round_read p scope d room before next (t.CloseRound ∷ xs) σ e = refl
 round_read p scope d room before next symbols σ e = absurd cc
 
-err_both : {X Y : Type 0} (r : Result X Fault) (f : X → Result Y Fault) (m : X → Option Fault) (k : Y → Option Fault) (e : Fault) → r ≡ Err e → read_on r m ≡ read_on (r >>= f) k
+pub err_both : {X Y : Type 0} (r : Result X Fault) (f : X → Result Y Fault) (m : X → Option Fault) (k : Y → Option Fault) (e : Fault) → r ≡ Err e → read_on r m ≡ read_on (r >>= f) k
 err_both r f m k e same = rw same refl
 
 abbrev kept : FieldOut → Result (Fields × List Symbol) Fault

@@ -63,14 +63,14 @@ reads_programs symbols p ends = (read_is symbols p ends, is_read symbols p)
 -- ---- faults
 
 -- the symbol alone tells its role
-abbrev look : List Point → Symbol → Look
+abbrev pub look : List Point → Symbol → Look
 look σ x = Alone
 
 roles : (σ : List Point) (x : Symbol) (a b : List Symbol) → wrong σ (x ∷ a) ≡ wrong σ (x ∷ b)
 roles [] x a b = refl
 roles (p ∷ σ) x a b = refl
 
-kernel_is_read : IsRead kernel look
+pub kernel_is_read : IsRead kernel look
 kernel_is_read = record { reads = program_run; rows = check_row; roles = λ σ x a b same. roles σ x a b; through = through; none_bad = none_bad }
 
 pub fault_is : (symbols : List Symbol) (f : Fault) → program_at symbols ≡ Err f → FaultOfSymbols symbols f

@@ -224,7 +224,7 @@ record_pattern_short : (a : List ℕ) (scope : Scope) (symbols : List Symbol) (n
 record_pattern_short a scope (t.OpenRound ∷ xs) n le = leaves_then second third n n (fields_at purpose.Declare scope 64 [] 1 xs) _ (fields_short 64 purpose.Declare scope [] 1 xs n (omega arith)) (λ m h. h)
 record_pattern_short a scope xs n le = le
 
-pattern_short : (scope : Scope) (symbols : List Symbol) (n : ℕ) → length symbols ≤ n → Leaves third n (pattern_at scope symbols)
+pub pattern_short : (scope : Scope) (symbols : List Symbol) (n : ℕ) → length symbols ≤ n → Leaves third n (pattern_at scope symbols)
 pattern_short scope (t.Integer i ∷ xs) n le = leaves_unless third n _ (t.Integer i ∷ xs) (Ok (_, [], xs)) (omega arith)
 pattern_short scope (t.Atom a ∷ xs) n le = record_pattern_short a scope xs n (omega arith)
 pattern_short scope (t.Variable x ∷ xs) n le = leaves_then itself third n n (sign_at sign.Bar xs) _ (sign_short sign.Bar xs n (omega arith)) (λ rest h. pair_short x rest n h)

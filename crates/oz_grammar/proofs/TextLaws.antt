@@ -1,10 +1,9 @@
 -- Texts: their tokens end once, a fault has a place, and each text is one program or has one fault.
-use Rattle.std.proofs.Common.{◌≡◌, ℕ, suc, ◌+◌, ◌<◌, ◌≤◌, List, [], ◌∷◌, ◌++◌, ◌⊎◌, inl, inr, length, map, take, Bool, true, false, cond, Some, Result, Ok, Err, refl, sym, ap, subst, ◌∙◌, arith, length-append}
+use Rattle.std.proofs.Common.{◌≡◌, ℕ, suc, ◌+◌, ◌<◌, ◌≤◌, List, [], ◌∷◌, ◌++◌, ◌⊎◌, inl, inr, length, map, take, Bool, true, false, cond, Option, Some, None, Result, Ok, Err, refl, sym, ap, subst, ◌∙◌, arith, append_assoc, length-append}
 use Rattle.std.specs.Prelude.{◌&&◌, codes}
 use Rattle.std.specs.Str.{bytes_eq}
 use Rattle.std.proofs.lemmas.List.{append-nil, length-map}
 use Rattle.std.proofs.lemmas.Bool.{cases_lt, and_parts}
-use Rattle.kernel_syntax.specs.declared.stmt.Stmt.{Stmt}
 use Rattle.kernel_syntax.specs.declared.stmt.Op.TheVariants as op
 use Rattle.kernel_syntax.specs.declared.stmt.TestOp.TheVariants as test
 use Rattle.oz_lexer.specs.declared.token.TokenKind.{TokenKind}
@@ -17,18 +16,17 @@ use Rattle.oz_grammar.specs.declared.symbol.Symbol.{Symbol}
 use Rattle.oz_grammar.specs.declared.symbol.Symbol.TheVariants as t
 use Rattle.oz_grammar.specs.declared.fault.Fault.{Fault}
 use Rattle.oz_grammar.specs.declared.fault.FaultKind.{FaultKind}
+use Rattle.oz_grammar.specs.declared.fault.FaultKind.TheVariants.{Expected}
 use Rattle.oz_grammar.specs.declared.fault.TextFault.{TextFault}
 use Rattle.oz_grammar.specs.Symbols.{word_symbol, sign_symbol, symbol_at, symbol_of, ends_once}
-use Rattle.oz_grammar.specs.Automata.{is_done, state_behind}
-use Rattle.oz_grammar.specs.Points.{Point, points_automaton, start, run}
-use Rattle.oz_grammar.specs.Reads.{ReadsSymbols, Reads, FaultOfSymbols, IsPlace, FaultOf}
-use Rattle.oz_grammar.specs.Laws.{FaultRead, ReadsTexts, FaultsTexts, TextsHaveOne, TextsNeverHaveBoth, TextIsOneProgram, TextHasOneFault, TextsArePrograms}
-use Rattle.oz_grammar.proofs.Leaves.{leaves, leaves_behind, completion, all_completes}
-use Rattle.oz_grammar.proofs.Derivations.{goes_on_with}
+use Rattle.oz_grammar.specs.Automata.{Automaton, read, onward, state_behind, Grammar, Look}
+use Rattle.oz_grammar.specs.Reads.{ReadsSymbols, FaultOfSymbols, kernel, ReadsIn, IsPlace, FaultIn, FaultOf}
+use Rattle.oz_grammar.specs.Laws.{FaultRead, ReadsTexts, FaultsTexts, AreOneOfBoth, TextsArePrograms}
 use Rattle.oz_grammar.proofs.Ends.{is_inner, ends_over, program_ends}
-use Rattle.oz_grammar.proofs.FirstFaults.{behind_clean, stopped, left_within}
+use Rattle.oz_grammar.proofs.FaultRows.{IsRow}
+use Rattle.oz_grammar.proofs.FirstFaults.{IsRead, behind_clean, stopped, left_within, kind_at, same_head}
 use Rattle.oz_grammar.proofs.TextSymbols.{text_spelled}
-use Rattle.oz_grammar.proofs.ReadLaws.{is_read, read_is, fault_is, fault_found, reads_faults, symbols_have_one, never_both, one_program, one_fault, reads_are_programs}
+use Rattle.oz_grammar.proofs.ReadLaws.{look, kernel_is_read, is_read, read_is, fault_is, fault_found, reads_faults, symbols_have_one, never_both, one_program, one_fault, reads_are_programs}
 
 -- ---- the symbols of a text end once
 
@@ -112,26 +110,61 @@ nothing_more (x ∷ front) more e f = nothing_more front more e f
 cases_left : (left n : ℕ) → left ≤ suc n → (left ≤ n) ⊎ (left ≡ suc n)
 cases_left left n le = elim (cases_lt n left) as (λ c. (left ≤ n) ⊎ (left ≡ suc n)) [ inl h ↦ let e : left ≡ suc n = omega arith in inr e | inr h ↦ inl h ]
 
-unfinished : (σ : List Point) → is_done σ ≡ false → leaves [] σ ≡ Some [] → ⊥
-unfinished [] goes e = absurd cc
-unfinished (p ∷ σ) goes e = absurd cc
+-- the last of these symbols, and the state before it
+record LastStep {State : Type 0} (a : Automaton State) (front : List Symbol) (s u : State) : Type 0 where
+  before : List Symbol
+  symbol : Symbol
+  state : State
+  divided : front ≡ before ++ symbol ∷ []
+  behind : state_behind a before s ≡ Some state
+  leads : a.next state symbol ≡ Some u
 
--- where more is to come, the symbols have not ended
-some_left : (symbols front rest : List Symbol) (σ : List Point) → ends_once symbols ≡ true → symbols ≡ front ++ rest → state_behind points_automaton front start ≡ Some σ → is_done σ ≡ false → 0 < length rest
-some_left symbols front [] σ ends is e goes =
-    let whole : symbols ≡ front = is ∙ append-nil front in
-    let on = goes_on_with front (completion σ) (leaves_behind front (completion σ) start σ e ∙ all_completes σ) in
-    let none : completion σ ≡ [] = nothing_more front (completion σ) (ap ends_once (sym whole) ∙ ends) (ap ends_once on.derived ∙ program_ends on.program) in
-    absurd (unfinished σ goes (ap (λ (more : List Symbol). leaves more σ) (sym none) ∙ all_completes σ))
-some_left symbols front (x ∷ rest) σ ends is e goes = omega arith
+further : {State : Type 0} (a : Automaton State) (x : Symbol) (front : List Symbol) (s r u : State) → a.next s x ≡ Some r → LastStep a front r u → LastStep a (x ∷ front) s u
+further a x front s r u n l = record {
+  before = x ∷ l.before;
+  symbol = l.symbol;
+  state = l.state;
+  divided = ap (λ (xs : List Symbol). x ∷ xs) l.divided;
+  behind = ap (onward (state_behind a l.before)) n ∙ l.behind;
+  leads = l.leads;
+}
 
-pub fault_left : (symbols : List Symbol) (f : Fault) → ends_once symbols ≡ true → FaultOfSymbols symbols f → (0 < f.left) × (f.left ≤ length symbols)
-fault_left symbols f ends F =
-    let found : run symbols start ≡ Some f = fault_found symbols f ends F in
-    let s = stopped points_automaton symbols start f found in
-    let some = some_left symbols s.front s.rest s.state ends s.divided (behind_clean points_automaton s.front s.rest start s.state s.clean) s.goes in
-    let place : f.left ≡ length s.rest = ap (λ (g : Fault). g.left) s.is in
-    (omega (arith, some, place), left_within points_automaton symbols start f found)
+last_step : {State : Type 0} (a : Automaton State) (x : Symbol) (front : List Symbol) (s u : State) (o : Option State) → a.next s x ≡ o → onward (state_behind a front) o ≡ Some u → LastStep a (x ∷ front) s u
+last_step a x front s u None n e = absurd cc
+last_step a x [] s u (Some r) n e = record { before = []; symbol = x; state = s; divided = refl; behind = refl; leads = n ∙ e }
+last_step a x (y ∷ front) s u (Some r) n e = further a x (y ∷ front) s r u n (last_step a y front r u (a.next r y) refl e)
+
+module _ {Program : Type 0} {Derives : Program → Type 0} {State : Type 0} (g : Grammar Program Derives State) (look : State → Symbol → Look) (law : IsRead g look) (ends : (q : Program) → ends_once (g.text q) ≡ true) where
+  -- a program does not end before more is to come
+  not_at_end : (front : List Symbol) (s : State) (f : Fault) → ends_once front ≡ true → read g.automaton front g.start ≡ Some f → LastStep g.automaton front g.start s → f.kind ≡ Expected (g.automaton.expected s) → ⊥
+  not_at_end front s f once found l kind =
+      let v = law.through l.before l.state s l.symbol [] l.behind l.leads in
+      let more = same_head (look l.state l.symbol) (l.symbol ∷ []) v.more v.same in
+      let is : front ++ more.0 ≡ g.text v.goes_on.program = ap (λ (xs : List Symbol). xs ++ more.0) l.divided ∙ append_assoc l.before (l.symbol ∷ []) more.0 ∙ ap (λ (xs : List Symbol). l.before ++ xs) (sym more.1) ∙ v.goes_on.derived in
+      let none : more.0 ≡ [] = nothing_more front more.0 once (ap ends_once is ∙ ends v.goes_on.program) in
+      let whole : front ≡ g.text v.goes_on.program = sym (append-nil front) ∙ ap (λ (xs : List Symbol). front ++ xs) (sym none) ∙ is in
+      let checked : g.check v.goes_on.program ≡ Some f = sym (law.reads v.goes_on.program v.goes_on.derives) ∙ ap (λ (xs : List Symbol). read g.automaton xs g.start) (sym whole) ∙ found in
+      subst IsRow kind (law.rows v.goes_on.program f checked)
+
+  some_left : (symbols front rest : List Symbol) (s : State) (f : Fault) → ends_once symbols ≡ true → read g.automaton symbols g.start ≡ Some f → symbols ≡ front ++ rest → state_behind g.automaton front g.start ≡ Some s
+      → (rest ≡ [] → f.kind ≡ Expected (g.automaton.expected s)) → 0 < length rest
+  some_left symbols front (x ∷ rest) s f once found is e kind = omega arith
+  some_left symbols [] [] s f once found is e kind = absurd (let none : false ≡ true = ap ends_once (sym is) ∙ once in cc)
+  some_left symbols (y ∷ front) [] s f once found is e kind =
+      let whole : symbols ≡ y ∷ front = is ∙ append-nil (y ∷ front) in
+      absurd (not_at_end (y ∷ front) s f (ap ends_once (sym whole) ∙ once) (ap (λ (xs : List Symbol). read g.automaton xs g.start) (sym whole) ∙ found) (last_step g.automaton y front g.start s (g.automaton.next g.start y) refl e) (kind refl))
+
+  end_kind : (rest : List Symbol) (s : State) (k : FaultKind) → kind_at g.automaton s rest ≡ Some k → rest ≡ [] → k ≡ Expected (g.automaton.expected s)
+  end_kind rest s k is none = let e : kind_at g.automaton s [] ≡ Some k = ap (kind_at g.automaton s) (sym none) ∙ is in cc
+
+  -- a fault stands at one of the symbols
+  pub fault_stands : (symbols : List Symbol) (f : Fault) → ends_once symbols ≡ true → read g.automaton symbols g.start ≡ Some f → (0 < f.left) × (f.left ≤ length symbols)
+  fault_stands symbols f once found =
+      let s = stopped g.automaton symbols g.start f found in
+      let kind : f.kind ≡ s.kind = ap (λ (h : Fault). h.kind) s.is in
+      let some = some_left symbols s.front s.rest s.state f once found s.divided (behind_clean g.automaton s.front s.rest g.start s.state s.clean) (λ none. kind ∙ end_kind s.rest s.state s.kind s.is_kind none) in
+      let place : f.left ≡ length s.rest = ap (λ (h : Fault). h.left) s.is in
+      (omega (arith, some, place), left_within g.automaton symbols g.start f found)
 
 -- the token at which so many are left
 pub record TokenAt (tokens : List Lexeme) (left : ℕ) : Type 0 where
@@ -193,38 +226,60 @@ faults_text once text tokens f divided = (
   λ F. read_fault text tokens f F.tokens (once text F.tokens tokens F.divided divided) divided F.fault F.applies F.is_kind F.place,
 )
 
-one_by : (text : List ℕ) (tokens : List Lexeme) → Tokens text tokens → ((p : List Stmt) × ReadsSymbols (map symbol_of tokens) p) ⊎ ((f : Fault) × FaultOfSymbols (map symbol_of tokens) f) → ((p : List Stmt) × Reads text p) ⊎ ((f : TextFault) × FaultOf text f)
-one_by text tokens divided (inl r) = inl (r.0, record { tokens = tokens; divided = divided; reads = r.1 })
-one_by text tokens divided (inr r) =
-    let bounds = fault_left (map symbol_of tokens) r.0 (tokens_end text tokens divided) r.1 in
-    let at = placed text tokens r.0.left bounds.0 (omega (arith, bounds, length-map tokens symbol_of)) in
-    inr (record { kind = r.0.kind; line = at.0; column = at.1 }, record { tokens = tokens; divided = divided; fault = r.0; applies = r.1; is_kind = refl; place = at.2 })
+-- what holds of the symbols of a language: they are one program or have one fault, never both, and it stands at one of them
+pub record SymbolLaws {Program : Type 0} (are : List Symbol → Program → Type 0) (have : List Symbol → Fault → Type 0) : Type 0 where
+  pub some : (symbols : List Symbol) → ends_once symbols ≡ true → ((p : Program) × are symbols p) ⊎ ((f : Fault) × have symbols f)
+  pub never_both : (symbols : List Symbol) (p : Program) (f : Fault) → are symbols p → have symbols f → ⊥
+  pub one_program : (symbols : List Symbol) (p q : Program) → are symbols p → are symbols q → p ≡ q
+  pub one_fault : (symbols : List Symbol) (f g : Fault) → have symbols f → have symbols g → f ≡ g
+  pub stands : (symbols : List Symbol) (f : Fault) → ends_once symbols ≡ true → have symbols f → (0 < f.left) × (f.left ≤ length symbols)
 
-pub texts_have_one : TextsDivide → TextsHaveOne
-texts_have_one some text =
-    let d = some text in
-    one_by text d.0 d.1 (symbols_have_one (map symbol_of d.0) (tokens_end text d.0 d.1))
+module _ {Program : Type 0} {are : List Symbol → Program → Type 0} {have : List Symbol → Fault → Type 0} (law : SymbolLaws are have) where
+  one_by : (text : List ℕ) (tokens : List Lexeme) → Tokens text tokens → ((p : Program) × are (map symbol_of tokens) p) ⊎ ((f : Fault) × have (map symbol_of tokens) f) → ((p : Program) × ReadsIn are text p) ⊎ ((f : TextFault) × FaultIn have text f)
+  one_by text tokens divided (inl r) = inl (r.0, record { tokens = tokens; divided = divided; reads = r.1 })
+  one_by text tokens divided (inr r) =
+      let bounds = law.stands (map symbol_of tokens) r.0 (tokens_end text tokens divided) r.1 in
+      let at = placed text tokens r.0.left bounds.0 (omega (arith, bounds, length-map tokens symbol_of)) in
+      inr (record { kind = r.0.kind; line = at.0; column = at.1 }, record { tokens = tokens; divided = divided; fault = r.0; applies = r.1; is_kind = refl; place = at.2 })
 
-pub never_have_both : TextsDivideOnce → TextsNeverHaveBoth
-never_have_both once text p f r F =
-    let same = once text F.tokens r.tokens F.divided r.divided in
-    never_both (map symbol_of r.tokens) p F.fault r.reads (subst (λ (ls : List Lexeme). FaultOfSymbols (map symbol_of ls) F.fault) same F.applies)
+  never_have_both : TextsDivideOnce → (text : List ℕ) (p : Program) (f : TextFault) → ReadsIn are text p → FaultIn have text f → ⊥
+  never_have_both once text p f r F =
+      let same = once text F.tokens r.tokens F.divided r.divided in
+      law.never_both (map symbol_of r.tokens) p F.fault r.reads (subst (λ (ls : List Lexeme). have (map symbol_of ls) F.fault) same F.applies)
 
-pub is_one_program : TextsDivideOnce → TextIsOneProgram
-is_one_program once text p q r s =
-    let same = once text r.tokens s.tokens r.divided s.divided in
-    one_program (map symbol_of s.tokens) p q (subst (λ (ls : List Lexeme). ReadsSymbols (map symbol_of ls) p) same r.reads) s.reads
+  is_one_program : TextsDivideOnce → (text : List ℕ) (p q : Program) → ReadsIn are text p → ReadsIn are text q → p ≡ q
+  is_one_program once text p q r s =
+      let same = once text r.tokens s.tokens r.divided s.divided in
+      law.one_program (map symbol_of s.tokens) p q (subst (λ (ls : List Lexeme). are (map symbol_of ls) p) same r.reads) s.reads
 
-pub has_one_fault : TextsDivideOnce → TextHasOneFault
-has_one_fault once text f g F G =
-    let tokens = once text F.tokens G.tokens F.divided G.divided in
-    let same = one_fault (map symbol_of G.tokens) F.fault G.fault (subst (λ (ls : List Lexeme). FaultOfSymbols (map symbol_of ls) F.fault) tokens F.applies) G.applies in
-    let kinds : f.kind ≡ g.kind = F.is_kind ∙ ap (λ (h : Fault). h.kind) same ∙ sym G.is_kind in
-    let there : IsPlace text G.tokens G.fault.left f.line f.column = subst (λ (l : ℕ). IsPlace text G.tokens l f.line f.column) (ap (λ (h : Fault). h.left) same) (subst (λ (ls : List Lexeme). IsPlace text ls F.fault.left f.line f.column) tokens F.place) in
-    let at = same_place text G.tokens G.fault.left f.line f.column g.line g.column there G.place in
-    ap (λ (k : FaultKind). record { kind = k; line = f.line; column = f.column }) kinds
-    ∙ ap (λ (l : ℕ). record { kind = g.kind; line = l; column = f.column }) at.0
-    ∙ ap (λ (c : ℕ). record { kind = g.kind; line = g.line; column = c }) at.1
+  has_one_fault : TextsDivideOnce → (text : List ℕ) (f g : TextFault) → FaultIn have text f → FaultIn have text g → f ≡ g
+  has_one_fault once text f g F G =
+      let tokens = once text F.tokens G.tokens F.divided G.divided in
+      let same = law.one_fault (map symbol_of G.tokens) F.fault G.fault (subst (λ (ls : List Lexeme). have (map symbol_of ls) F.fault) tokens F.applies) G.applies in
+      let kinds : f.kind ≡ g.kind = F.is_kind ∙ ap (λ (h : Fault). h.kind) same ∙ sym G.is_kind in
+      let there : IsPlace text G.tokens G.fault.left f.line f.column = subst (λ (l : ℕ). IsPlace text G.tokens l f.line f.column) (ap (λ (h : Fault). h.left) same) (subst (λ (ls : List Lexeme). IsPlace text ls F.fault.left f.line f.column) tokens F.place) in
+      let at = same_place text G.tokens G.fault.left f.line f.column g.line g.column there G.place in
+      ap (λ (k : FaultKind). record { kind = k; line = f.line; column = f.column }) kinds
+      ∙ ap (λ (l : ℕ). record { kind = g.kind; line = l; column = f.column }) at.0
+      ∙ ap (λ (c : ℕ). record { kind = g.kind; line = g.line; column = c }) at.1
+
+  -- each text is one program or has one fault
+  pub are_one_of_both : TextsDivide → TextsDivideOnce → AreOneOfBoth (ReadsIn are) (FaultIn have)
+  are_one_of_both some once = record {
+    one = λ text. let d = some text in one_by text d.0 d.1 (law.some (map symbol_of d.0) (tokens_end text d.0 d.1));
+    never_both = never_have_both once;
+    program = is_one_program once;
+    fault = has_one_fault once;
+  }
 
 pub texts_are_programs : TextsArePrograms
 texts_are_programs text p utf8 r = reads_are_programs (map symbol_of r.tokens) p (text_spelled text r.tokens utf8 r.divided) r.reads
+
+pub symbol_laws : SymbolLaws ReadsSymbols FaultOfSymbols
+symbol_laws = record {
+  some = symbols_have_one;
+  never_both = never_both;
+  one_program = one_program;
+  one_fault = one_fault;
+  stands = λ symbols f ends F. fault_stands kernel look kernel_is_read program_ends symbols f ends (fault_found symbols f ends F);
+}

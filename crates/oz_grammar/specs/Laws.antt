@@ -68,21 +68,13 @@ ReadsTexts = (text : List ℕ) (tokens : List Lexeme) (p : List Stmt) → Tokens
 abbrev pub FaultsTexts : Type 0
 FaultsTexts = (text : List ℕ) (tokens : List Lexeme) (f : TextFault) → Tokens text tokens → FaultRead text tokens f ↔ FaultOf text f
 
--- each text is a program or has a fault
-abbrev pub TextsHaveOne : Type 0
-TextsHaveOne = (text : List ℕ) → ((p : List Stmt) × Reads text p) ⊎ ((f : TextFault) × FaultOf text f)
-
--- .. never both
-abbrev pub TextsNeverHaveBoth : Type 0
-TextsNeverHaveBoth = (text : List ℕ) (p : List Stmt) (f : TextFault) → Reads text p → FaultOf text f → ⊥
-
--- .. one program
-abbrev pub TextIsOneProgram : Type 0
-TextIsOneProgram = (text : List ℕ) (p q : List Stmt) → Reads text p → Reads text q → p ≡ q
-
--- .. and one fault
-abbrev pub TextHasOneFault : Type 0
-TextHasOneFault = (text : List ℕ) (f g : TextFault) → FaultOf text f → FaultOf text g → f ≡ g
+-- Of a language of texts, which tells which program a text is and which fault it has: each text is one program or has one
+-- fault, never both.
+pub record AreOneOfBoth {Program : Type 0} (is : List ℕ → Program → Type 0) (has : List ℕ → TextFault → Type 0) : Type 0 where
+  pub one : (text : List ℕ) → ((p : Program) × is text p) ⊎ ((f : TextFault) × has text f)
+  pub never_both : (text : List ℕ) (p : Program) (f : TextFault) → is text p → has text f → ⊥
+  pub program : (text : List ℕ) (p q : Program) → is text p → is text q → p ≡ q
+  pub fault : (text : List ℕ) (f g : TextFault) → has text f → has text g → f ≡ g
 
 -- what a text in UTF-8 is read as is a program
 abbrev pub TextsArePrograms : Type 0

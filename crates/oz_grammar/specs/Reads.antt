@@ -24,11 +24,15 @@ pub record ReadsSymbols (symbols : List Symbol) (p : List Stmt) : Type 0 where
   pub passes : check program ≡ None
   pub table : p ≡ program_table program
 
--- the text is a program with this table
-pub record Reads (text : List ℕ) (p : List Stmt) : Type 0 where
+-- the text's tokens are symbols that are this program, in the language that tells which program symbols are
+pub record ReadsIn {Program : Type 0} (are : List Symbol → Program → Type 0) (text : List ℕ) (p : Program) : Type 0 where
   pub tokens : List Lexeme
   pub divided : Tokens text tokens
-  pub reads : ReadsSymbols (map symbol_of tokens) p
+  pub reads : are (map symbol_of tokens) p
+
+-- the text is a program with this table
+abbrev pub Reads : List ℕ → List Stmt → Type 0
+Reads text p = ReadsIn ReadsSymbols text p
 
 -- ---- faults
 
@@ -49,11 +53,15 @@ pub record IsPlace (text : List ℕ) (tokens : List Lexeme) (left line column : 
   pub place : left ≡ length (token ∷ behind)
   pub is : (line, column) ≡ place_of (take token.start text)
 
--- the text has this fault first
-pub record FaultOf (text : List ℕ) (f : TextFault) : Type 0 where
+-- the text's tokens are symbols that have this fault, at its line and column, in the language that tells which fault they have
+pub record FaultIn (have : List Symbol → Fault → Type 0) (text : List ℕ) (f : TextFault) : Type 0 where
   pub tokens : List Lexeme
   pub divided : Tokens text tokens
   pub fault : Fault
-  pub applies : FaultOfSymbols (map symbol_of tokens) fault
+  pub applies : have (map symbol_of tokens) fault
   pub is_kind : f.kind ≡ fault.kind
   pub place : IsPlace text tokens fault.left f.line f.column
+
+-- the text has this fault first
+abbrev pub FaultOf : List ℕ → TextFault → Type 0
+FaultOf text f = FaultIn FaultOfSymbols text f

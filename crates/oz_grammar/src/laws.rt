@@ -1,6 +1,7 @@
 //! Laws of the definitions. Each function does nothing: its clauses are the law.
 
-ghost use Rattle.oz_grammar.specs.Laws.{ReadsPrograms, ReadsFaults, SymbolsHaveOne, NeverBoth, OneProgram, OneFault, ReadsArePrograms, CanonicalReads, ProgramsRead, ReadsTexts, FaultsTexts, TextsHaveOne, TextsNeverHaveBoth, TextIsOneProgram, TextHasOneFault, TextsArePrograms};
+ghost use Rattle.oz_grammar.specs.Laws.{ReadsPrograms, ReadsFaults, SymbolsHaveOne, NeverBoth, OneProgram, OneFault, ReadsArePrograms, CanonicalReads, ProgramsRead, ReadsTexts, FaultsTexts, AreOneOfBoth, TextsArePrograms};
+ghost use Rattle.oz_grammar.specs.Reads.{Reads, FaultOf};
 ghost use Rattle.oz_grammar.specs.Rows.{EmptyText, OpenQuoteAt, UndeclaredAt, BuiltInIsFull, HiddenBuiltIn, TwiceByPosition, TwiceBeforeColon, TwiceInPattern, SiteBelow, NumberFirst, BehindThread, HiddenCounts, PatternOrder, BodiesInPreorder, ExampleReads, ExampleIsCanonical};
 
 use oz_lexer::texts_divide;
@@ -40,10 +41,7 @@ pub fn reading_texts_is_exact()
 
 /// Each text is one program or has one first fault, never both.
 pub fn texts_have_one_of_both()
-    ensures one { TextsHaveOne }
-    ensures never_both { TextsNeverHaveBoth }
-    ensures program { TextIsOneProgram }
-    ensures fault { TextHasOneFault }
+    ensures one_of_both { AreOneOfBoth Reads FaultOf }
     ensures programs { TextsArePrograms }
 {
     texts_divide();

@@ -21,6 +21,7 @@
 
 mod fault;
 mod laws;
+mod numeral;
 mod symbol;
 
 pub use fault::{Fault, FaultKind, TextFault, What};
@@ -28,4 +29,5 @@ pub use laws::{
     canonical_symbols_read, one_of_both, read_examples, reading_is_exact, reading_texts_is_exact,
     reads_are_programs, refused_examples, texts_have_one_of_both,
 };
+pub use numeral::Numeral;
 pub use symbol::{Closer, Purpose, Sign, Symbol};

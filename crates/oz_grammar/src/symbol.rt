@@ -1,8 +1,9 @@
 //! The symbols of the grammar.
 
+use crate::numeral::Numeral;
 use kernel_syntax::{Op, TestOp};
 use oz_lexer::LexKind;
-use tree_node::{Integer, Text};
+use tree_node::Text;
 
 /// A symbol of the grammar: a token as the grammar reads it. The symbols of a text end with `EndOfText`, or with `Bad`
 /// where its first lexical fault stands, and neither stands anywhere else.
@@ -13,7 +14,7 @@ pub enum Symbol {
     /// The text of an atom, without quotes and escapes.
     Atom(Text),
     /// The value of an integer, and none where the token is no good number.
-    Integer(Option<Integer>),
+    Integer(Option<Numeral>),
     Skip,
     Local,
     In,

@@ -12,7 +12,7 @@ ghost use Rattle.oz_phrases.specs.ReadAnswers.{IsReadAs};
 use crate::scope::{Scope, position_or_zero};
 use crate::signs::sign;
 use crate::stop::{Read, Stop, fault, mismatch};
-use oz_grammar::{FaultKind, Purpose, Sign, Symbol, What};
+use oz_grammar::{FaultKind, Numeral, Purpose, Sign, Symbol, What};
 use std::alloc::{AllocError, Global};
 use tree_node::{Feature, Integer, Text, compare_features, copy_feature, equal_feature};
 
@@ -194,7 +194,7 @@ fn numbered_field<'t>(
     at: Brackets,
     scope: &Scope,
     fields: &mut Vec<(Feature, Text)>,
-    value: &Option<Integer>,
+    value: &Option<Numeral>,
     symbols: &'t [Symbol],
 ) -> Read<'t, u32>
     requires { 0 < length symbols.now }
@@ -205,7 +205,13 @@ fn numbered_field<'t>(
 {
     match value {
         None => Err(fault(FaultKind::Number, symbols)),
-        Some(value) => field_with_feature(at, scope, fields, Feature::Int(value.copy()), symbols),
+        Some(value) => field_with_feature(
+            at,
+            scope,
+            fields,
+            Feature::Int(Integer::new(value.get())),
+            symbols,
+        ),
     }
 }
 

@@ -23,9 +23,10 @@ mod stop;
 mod values;
 
 pub use declarations::{count_fault, first_local, formals};
-pub use operands::{catch_name, site, used_variable};
+pub use fields::has_name;
+pub use operands::{catch_name, selection, site, used_variable};
 pub use patterns::pattern;
-pub use scope::{Scope, built_in_at, position_or_zero};
+pub use scope::{Scope, arity_of, built_in_at, position_or_zero};
 pub use signs::{close, expected_after, is_at_statement, is_end_of, sign};
 pub use stop::{Read, Stop, fault, mismatch};
 pub use values::value;

@@ -8,7 +8,7 @@ use crate::scope::Scope;
 use crate::stop::{Read, Stop, fault, mismatch};
 use kernel_syntax::Selector;
 use oz_grammar::{FaultKind, Symbol, What};
-use tree_node::{Feature, Text};
+use tree_node::{Feature, Integer, Text};
 
 /// The position of the used variable at the front.
 pub fn used_variable<'t>(what: What, scope: &Scope, symbols: &'t [Symbol]) -> Read<'t, u32>
@@ -41,7 +41,10 @@ pub fn selection<'t>(scope: &Scope, symbols: &'t [Symbol]) -> Read<'t, Selector>
             Ok((Selector::Feature(feature), rest))
         }
         [Symbol::Integer(Some(value)), rest @ ..] => {
-            Ok((Selector::Feature(Feature::Int(value.copy())), rest))
+            Ok((
+                Selector::Feature(Feature::Int(Integer::new(value.get()))),
+                rest,
+            ))
         }
         [Symbol::Integer(None), ..] => Err(fault(FaultKind::Number, symbols)),
         _ => Err(mismatch(What::VariableOrFeature, symbols)),

@@ -91,7 +91,7 @@ pub fn pattern<'t>(
 {
     match symbols {
         [Symbol::Integer(Some(value)), rest @ ..] => Ok((
-            Pattern::Int(value.get()),
+            Pattern::Int(Integer::new(value.get())),
             Vec::new(alloc),
             rest,
         )),

@@ -2,6 +2,7 @@
 
 ghost use Rattle.std.specs.Prelude.{◌≡◌, ◌<◌, ◌≤◌, ◌^◌, ◌+◌, ◌-◌, ◌++◌, ◌∷◌, ℕ, List, [], take, length, if◌then◌else◌, Some, IsSome, IfSome, OnOk, OnErr};
 ghost use Rattle.std.specs.Str.{bytes_eq};
+ghost use Rattle.kernel_syntax.specs.BuiltIns.{arity_of};
 ghost use Rattle.oz_grammar.specs.Scoping.{position_of, declaration_of, built_in_of, built_in_at};
 ghost use Rattle.oz_phrases.specs.ScopeIndex.{position_named};
 
@@ -184,6 +185,18 @@ pub fn built_in_at(scope: &Scope, name: &[u8]) -> Option<BuiltIn>
         None
     } else {
         built_in_of(name)
+    }
+}
+
+/// How many arguments what is built in has.
+pub fn arity_of(built_in: BuiltIn) -> u32
+    ensures value { result ≡ arity_of built_in }
+    ensures small { result ≤ 3 }
+{
+    match built_in {
+        BuiltIn::Browse | BuiltIn::Wait => 1,
+        BuiltIn::NewCell => 2,
+        BuiltIn::Exchange => 3,
     }
 }
 

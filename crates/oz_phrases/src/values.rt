@@ -169,7 +169,7 @@ pub fn value<'t>(alloc: Global, left: u32, scope: &Scope, symbols: &'t [Symbol])
         [Symbol::Integer(Some(value)), rest @ ..] => Ok((
             Stmt::TellInt {
                 left,
-                value: value.get(),
+                value: Integer::new(value.get()),
             },
             rest,
         )),

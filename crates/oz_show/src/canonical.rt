@@ -11,7 +11,7 @@ use crate::symbols::Symbols;
 use kernel_syntax::{Op, Program, TestOp};
 use oz_grammar::Symbol;
 use std::alloc::{AllocError, Global};
-use tree_node::{Feature, Text, atom_text, feature_text};
+use tree_node::{Feature, Integer, Text, atom_text, feature_text};
 
 /// The canonical text of a program: one blank between any two tokens and a newline after the last, where the identifier
 /// at position n is `V` and n, every field has its feature, and pairs and `proc` statements are written out.
@@ -67,7 +67,10 @@ fn spell(alloc: Global, text: &mut Vec<u8>, symbol: &Symbol) -> Result<(), Alloc
         Symbol::Variable(name) => text.extend_from_slice(name.as_slice())?,
         Symbol::Atom(atom) => text.extend_from_slice(atom_text(alloc, atom)?.as_slice())?,
         Symbol::Integer(Some(value)) => {
-            text.extend_from_slice(feature_text(alloc, &Feature::Int(value.copy()))?.as_slice())?;
+            text.extend_from_slice(feature_text(
+                alloc,
+                &Feature::Int(Integer::new(value.get())),
+            )?.as_slice())?;
         }
         Symbol::Integer(None) => {}
         word => text.extend_from_slice(word_text(word))?,

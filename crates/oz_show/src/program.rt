@@ -11,7 +11,7 @@ ghost use Rattle.oz_grammar.specs.Canonical.{name_at, names_from, slot_field, se
 
 use crate::symbols::Symbols;
 use kernel_syntax::{Op, Pattern, Program, Selector, Stmt, TestOp};
-use oz_grammar::Symbol;
+use oz_grammar::{Numeral, Symbol};
 use std::alloc::{AllocError, Global};
 use tree_node::{CodeId, Feature, Integer, Text};
 
@@ -148,7 +148,7 @@ fn put_front(alloc: Global, symbols: &mut Symbols, stmt: &Stmt) -> Result<(), Al
             first,
             ..
         } => put_case(alloc, symbols, *subject, pattern, *first),
-        Stmt::Thread { at, .. } => put_thread(symbols, *at),
+        Stmt::Thread { at, .. } => put_thread(symbols, at),
         Stmt::Try { .. } => symbols.put(Symbol::Try),
         _ => put_plain(alloc, symbols, stmt),
     }
@@ -200,11 +200,11 @@ fn put_case(
     symbols.put(Symbol::Case)
 }
 
-fn put_thread(symbols: &mut Symbols, at: Option<i128>) -> Result<(), AllocError>
-    ensures { OnOk result (symbols.new ≡ opening_text (thread_opening at) symbols.old) }
+fn put_thread(symbols: &mut Symbols, at: &Option<Integer>) -> Result<(), AllocError>
+    ensures { OnOk result (symbols.new ≡ opening_text (thread_opening at.now) symbols.old) }
 {
     if let Some(site) = at {
-        symbols.put(Symbol::Integer(Some(Integer::new(site))))?;
+        symbols.put(Symbol::Integer(Some(Numeral::new(site.get()))))?;
         symbols.put(Symbol::At)?;
     }
     symbols.put(Symbol::Thread)
@@ -219,7 +219,7 @@ fn put_plain(alloc: Global, symbols: &mut Symbols, stmt: &Stmt) -> Result<(), Al
     match stmt {
         Stmt::Skip => symbols.put(Symbol::Skip),
         Stmt::TellVar { left, right } => put_tell_variable(alloc, symbols, *left, *right),
-        Stmt::TellInt { left, value } => put_tell_integer(alloc, symbols, *left, *value),
+        Stmt::TellInt { left, value } => put_tell_integer(alloc, symbols, *left, value),
         Stmt::TellAtom { left, text } => put_tell_atom(alloc, symbols, *left, text),
         Stmt::TellRec {
             left,
@@ -270,11 +270,11 @@ fn put_tell_integer(
     alloc: Global,
     symbols: &mut Symbols,
     left: u32,
-    value: i128,
+    value: &Integer,
 ) -> Result<(), AllocError>
-    ensures { OnOk result (symbols.new ≡ plain_text (tell_statement left (ToInt (Some value))) symbols.old) }
+    ensures { OnOk result (symbols.new ≡ plain_text (tell_statement left (ToInt (Some value.now))) symbols.old) }
 {
-    symbols.put(Symbol::Integer(Some(Integer::new(value))))?;
+    symbols.put(Symbol::Integer(Some(Numeral::new(value.get()))))?;
     put_tell(alloc, symbols, left)
 }
 

@@ -8,10 +8,10 @@ ghost use Rattle.oz_grammar.specs.Canonical.{name_at, names_from, feature_token,
 ghost use Rattle.kernel_syntax.specs.Scopes.{features_in};
 
 use kernel_syntax::Pattern;
-use oz_grammar::Symbol;
+use oz_grammar::{Numeral, Symbol};
 use std::alloc::{AllocError, Global};
 use std::marker::Model;
-use tree_node::{Feature, Integer, Text};
+use tree_node::{Feature, Text};
 
 /// Symbols with the next one at the front: each is put before those that stand there.
 #[derive(Drop)]
@@ -85,7 +85,7 @@ impl Symbols {
         ensures { OnOk result (self.new ≡ feature_symbol (feature_token feature.now) ∷ self.old) }
     {
         match feature {
-            Feature::Int(value) => self.put(Symbol::Integer(Some(value.copy()))),
+            Feature::Int(value) => self.put(Symbol::Integer(Some(Numeral::new(value.get())))),
             Feature::Atom(text) => self.put_atom(text),
         }
     }
@@ -167,7 +167,7 @@ impl Symbols {
         ensures { OnOk result (self.new ≡ pattern_text (pattern_tree first pattern.now) self.old) }
     {
         match pattern {
-            Pattern::Int(value) => self.put(Symbol::Integer(Some(Integer::new(*value)))),
+            Pattern::Int(value) => self.put(Symbol::Integer(Some(Numeral::new(value.get())))),
             Pattern::Atom(text) => self.put_atom(text),
             Pattern::Rec(label, features) => {
                 self.put(Symbol::CloseRound)?;

@@ -4,7 +4,7 @@ ghost use Rattle.std.specs.Prelude.{◌≡◌, ◌≤◌, nat_le, if◌then◌el
 ghost use Rattle.oz_lexer.specs.Spelling.{digits_of};
 ghost use Rattle.oz_grammar.specs.Symbols.{number_of, is_plain, negation, signed_integer, integer_of};
 
-use tree_node::Integer;
+use oz_grammar::Numeral;
 
 /// The number that digits name, at most 2^127.
 #[tactic(auto, using(crate::proofs::Numbers::too_large))]
@@ -45,14 +45,14 @@ fn negation(value: u128) -> i128
     }
 }
 
-fn signed_integer(is_negative: bool, digits: &[u8]) -> Option<Integer>
+fn signed_integer(is_negative: bool, digits: &[u8]) -> Option<Numeral>
     ensures { result ≡ signed_integer is_negative (number_of digits.now) }
 {
     let value = magnitude(digits)?;
     if is_negative {
-        Some(Integer::new(negation(value)))
+        Some(Numeral::new(negation(value)))
     } else if value < 170141183460469231731687303715884105728 {
-        Some(Integer::new(value as i128))
+        Some(Numeral::new(value as i128))
     } else {
         None
     }
@@ -60,7 +60,7 @@ fn signed_integer(is_negative: bool, digits: &[u8]) -> Option<Integer>
 
 /// The integer that is spelled so.
 #[tactic(auto, unfolding(oz_grammar::specs::Symbols::integer_of))]
-pub fn integer_of(text: &[u8]) -> Option<Integer>
+pub fn integer_of(text: &[u8]) -> Option<Numeral>
     ensures { result ≡ integer_of text.now }
 {
     let digits = digits_of(text);

@@ -14,7 +14,9 @@ use Rattle.oz_grammar.specs.Check.{check_selection}
 use Rattle.oz_grammar.proofs.FaultRows.{IsRow, Rows, not_row, or_row, number_row, site_row, deep_row, use_row, called_row, twice_row, room_row, selected_row, Found, stop_row, pattern_row, locals_row}
 use Rattle.surface_grammar.specs.Derivations.{Primary, Name, Number, Word, Record, Calls, Procedure, Function, Brackets, Selects, Tail, Last, More, Value, Alone, Calculates, Tests, Pairs, IfValue, CaseValue, Arguments, no_arguments, argument_and, no_fields, placed_and, named_and, ValueClauses, no_clauses, clause_and, Statement, Skips, Tells, CallsStatement, Raises, Locals, ProcNamed, FunNamed, Threads, ThreadsAt, Ifs, Cases, Tries, TriesFinally, Finally, Clauses, no_cases, case_and, Sequence, One, Then}
 use Rattle.surface_grammar.specs.Derivations as tree
-use Rattle.surface_grammar.specs.Points.{Callable, OfProc, OfFun, value_fault, is_given, given_fault, named_fault, argument_fault, most_formals, formal_wrong}
+use Rattle.surface_grammar.specs.declared.parts.Callable.{Callable}
+use Rattle.surface_grammar.specs.declared.parts.Callable.TheVariants.{OfProc, OfFun}
+use Rattle.surface_grammar.specs.Points.{value_fault, is_given, given_fault, named_fault, argument_fault, most_formals, formal_wrong}
 use Rattle.surface_grammar.specs.Check.{levels_behind, check_formals, check_primary, check_tail, check_value, check_arguments, check_fields, check_value_clauses, check_statement, check_clauses, check_sequence, check}
 
 given_row : (room : ℕ) (before : List Feature) (f : Feature) → Rows (given_fault room before f)

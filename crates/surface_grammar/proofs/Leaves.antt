@@ -11,7 +11,11 @@ use Rattle.oz_grammar.specs.Faults.{fewer}
 use Rattle.oz_grammar.specs.Points.{Stage, First, AfterThread, Later, is_sign, next_selection, on_variable, on_integer}
 use Rattle.oz_grammar.specs.Automata.{onward, state_behind, then_points, or_points, is_done}
 use Rattle.oz_grammar.proofs.Leaves.{sign_symbol, no_name}
-use Rattle.surface_grammar.specs.Points.{Extent, Whole, Part, Rest, CallUse, AsValue, AsStatement, Callable, OfProc, OfFun, Branch, OfValue, OfStatements, Closing, Ends, BeforeElse, InClause, InTry, InHandler, WithText, Point, At, Here, LocalName, LocalMore, CallableName, Formals, ValueOf, OperandOf, TailOf, Behind, BehindWord, SelectionOf, FieldOf, FieldBegun, CallName, Wanted, PatternOf, BehindPattern, PatternTail, PatternField, PatternName, ClauseEnd, SiteHere, CatchName, next_call, next, points_automaton}
+use Rattle.surface_grammar.specs.declared.parts.CallUse.{CallUse}
+use Rattle.surface_grammar.specs.declared.parts.CallUse.TheVariants.{AsValue, AsStatement}
+use Rattle.surface_grammar.specs.declared.parts.Callable.{Callable}
+use Rattle.surface_grammar.specs.declared.parts.Callable.TheVariants.{OfProc, OfFun}
+use Rattle.surface_grammar.specs.Points.{Extent, Whole, Part, Rest, Branch, OfValue, OfStatements, Closing, Ends, BeforeElse, InClause, InTry, InHandler, WithText, Point, At, Here, LocalName, LocalMore, CallableName, Formals, ValueOf, OperandOf, TailOf, Behind, BehindWord, SelectionOf, FieldOf, FieldBegun, CallName, Wanted, PatternOf, BehindPattern, PatternTail, PatternField, PatternName, ClauseEnd, SiteHere, CatchName, next_call, next, points_automaton}
 use Rattle.surface_grammar.specs.Points as points
 use Rattle.surface_grammar.proofs.Starts.{stops}
 use Rattle.surface_grammar.proofs.Runs.{closes, closes_stops}

@@ -14,3 +14,11 @@ pub mod FieldLimits
 pub mod Limits
 pub mod Lifting
 pub mod Derived
+pub mod ReadSteps
+pub mod ReadValues
+pub mod ReadHeld
+pub mod ReadStatements
+pub mod Passing
+pub mod ReadTrees
+pub mod ReadDerived
+pub mod ReadLaws

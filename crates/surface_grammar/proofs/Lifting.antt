@@ -24,7 +24,8 @@ use Rattle.oz_grammar.specs.Reads as reads
 use Rattle.oz_grammar.proofs.FieldOrder.{has_with_field}
 use Rattle.surface_grammar.specs.Derivations.{Name, Number, Word, Record, Procedure, Selects, Last, Value, Alone, Calculates, Tests, Pairs, Arguments, no_arguments, argument_and, no_fields, placed_and, named_and, Statement, Skips, Tells, CallsStatement, Raises, Locals, ProcNamed, Threads, ThreadsAt, Ifs, Cases, Tries, no_cases, Sequence, One, Then, value_text, arguments_text, fields_text, statement_text, sequence_text, count_arguments, HasAllArguments, ValueDerives, ArgumentsDerive, FieldsDerive, StatementDerives, SequenceDerives}
 use Rattle.surface_grammar.specs.Derivations as tree
-use Rattle.surface_grammar.specs.Points.{OfProc, is_given, given_fault, named_fault, argument_fault, formal_wrong}
+use Rattle.surface_grammar.specs.declared.parts.Callable.TheVariants.{OfProc}
+use Rattle.surface_grammar.specs.Points.{is_given, given_fault, named_fault, argument_fault, formal_wrong}
 use Rattle.surface_grammar.specs.Check.{most_arguments, check_formals, check_value, check_arguments, check_fields, check_statement, check_sequence}
 use Rattle.surface_grammar.specs.Trees.{program_of}
 use Rattle.surface_grammar.specs.Laws.{ReadsSymbols, KernelReads}

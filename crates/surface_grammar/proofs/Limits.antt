@@ -30,7 +30,9 @@ use Rattle.oz_grammar.proofs.TableScopes.{used_within}
 use Rattle.oz_grammar.proofs.TableTexts.{is_small, number_good, selected_good, names_rest, pattern_good, site_good}
 use Rattle.surface_grammar.specs.Derivations.{Primary, Name, Number, Word, Record, Calls, Procedure, Function, Brackets, Selects, Tail, Last, More, Value, Alone, Calculates, Tests, Pairs, IfValue, CaseValue, Arguments, no_arguments, argument_and, no_fields, placed_and, named_and, ValueClauses, no_clauses, clause_and, Statement, Skips, Tells, CallsStatement, Raises, Locals, ProcNamed, FunNamed, Threads, ThreadsAt, Ifs, Cases, Tries, TriesFinally, Finally, Clauses, no_cases, case_and, Sequence, One, Then, primary_text, tail_text, value_text, arguments_text, fields_text, value_clauses_text, statement_text, clauses_text, sequence_text, program_text, count_arguments, HasAllArguments, LacksOneArgument, PrimaryDerives, TailDerives, ValueDerives, ArgumentsDerive, FieldsDerive, ValueClausesDerive, StatementDerives, ClausesDerive, SequenceDerives, IsDerivation}
 use Rattle.surface_grammar.specs.Derivations as tree
-use Rattle.surface_grammar.specs.Points.{Callable, OfProc, OfFun, most_formals, formal_wrong, value_fault, given_fault, named_fault, argument_fault}
+use Rattle.surface_grammar.specs.declared.parts.Callable.{Callable}
+use Rattle.surface_grammar.specs.declared.parts.Callable.TheVariants.{OfProc, OfFun}
+use Rattle.surface_grammar.specs.Points.{most_formals, formal_wrong, value_fault, given_fault, named_fault, argument_fault}
 use Rattle.surface_grammar.specs.Check.{levels_behind, most_arguments, check_formals, check_primary, check_tail, check_value, check_arguments, check_fields, check_value_clauses, check_statement, check_clauses, check_sequence, check}
 use Rattle.surface_grammar.specs.Trees.{call_value, call_statement, primary_of, tail_of, value_in, arguments_of, fields_in, value_clauses_of, statement_of, clauses_of, sequence_of, program_of}
 use Rattle.surface_grammar.specs.Laws.{ReadsFit}

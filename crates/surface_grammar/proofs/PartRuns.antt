@@ -10,7 +10,8 @@ use Rattle.oz_grammar.specs.Scoping.{Scope, Fields, with_field, feature_of, plac
 use Rattle.oz_grammar.specs.Faults.{count_fault, feature_token_fault, name_fault, placed_fault, deep_fault, fewer}
 use Rattle.oz_grammar.specs.Check.{first_fault, check_selection, check_fields, check_pattern, check_locals}
 use Rattle.oz_grammar.specs.Points.{First}
-use Rattle.surface_grammar.specs.Points.{Extent, Callable, Branch, Ends, Point, At, LocalMore, Formals, Behind, PatternOf, PatternField, clause_points, body_points, formal_wrong, run}
+use Rattle.surface_grammar.specs.declared.parts.Callable.{Callable}
+use Rattle.surface_grammar.specs.Points.{Extent, Branch, Ends, Point, At, LocalMore, Formals, Behind, PatternOf, PatternField, clause_points, body_points, formal_wrong, run}
 use Rattle.surface_grammar.specs.Check.{check_formals}
 
 -- ---- lists of names

@@ -20,7 +20,9 @@ use Rattle.oz_grammar.specs.Points.{Stage, First, AfterThread, Later}
 use Rattle.surface_grammar.specs.Derivations.{Primary, Name, Number, Word, Record, Calls, Procedure, Function, Brackets, Selects, Tail, Last, More, Value, Alone, Calculates, Tests, Pairs, IfValue, CaseValue, Arguments, no_arguments, argument_and, no_fields, placed_and, named_and, ValueClauses, no_clauses, clause_and, Statement, Skips, Tells, CallsStatement, Raises, Locals, ProcNamed, FunNamed, Threads, ThreadsAt, Ifs, Cases, Tries, TriesFinally, Finally, Clauses, no_cases, case_and, Sequence, One, Then, primary_text, tail_text, value_text, arguments_text, fields_text, value_clauses_text, statement_text, clauses_text, sequence_text, program_text, is_word, tail_ends_in_word, ends_in_word, begins_round, IsApart, count_arguments, HasAllArguments, LacksOneArgument, PrimaryDerives, TailDerives, ValueDerives, ArgumentsDerive, FieldsDerive, ValueClausesDerive, StatementDerives, ClausesDerive, SequenceDerives, IsDerivation}
 use Rattle.surface_grammar.specs.Derivations as tree
 use Rattle.oz_grammar.specs.Automata.{is_done}
-use Rattle.surface_grammar.specs.Points.{Extent, Whole, Part, Rest, AsValue, AsStatement, OfProc, OfFun, OfValue, OfStatements, Closing, Ends, BeforeElse, InClause, InTry, InHandler, WithText, Point, At, Here, Formals, ValueOf, OperandOf, TailOf, Behind, BehindWord, FieldOf, CallName, Wanted, PatternOf, ClauseEnd, value_fault, given_fault, named_fault, argument_fault, next_call, behind_placed, run, start}
+use Rattle.surface_grammar.specs.declared.parts.CallUse.TheVariants.{AsValue, AsStatement}
+use Rattle.surface_grammar.specs.declared.parts.Callable.TheVariants.{OfProc, OfFun}
+use Rattle.surface_grammar.specs.Points.{Extent, Whole, Part, Rest, OfValue, OfStatements, Closing, Ends, BeforeElse, InClause, InTry, InHandler, WithText, Point, At, Here, Formals, ValueOf, OperandOf, TailOf, Behind, BehindWord, FieldOf, CallName, Wanted, PatternOf, ClauseEnd, value_fault, given_fault, named_fault, argument_fault, next_call, behind_placed, run, start}
 use Rattle.surface_grammar.specs.Points as points
 use Rattle.surface_grammar.specs.Check.{levels_behind, most_arguments, check_formals, check_primary, check_tail, check_value, check_arguments, check_fields, check_value_clauses, check_statement, check_clauses, check_sequence, check}
 use Rattle.surface_grammar.proofs.Starts.{stops, is_no_colon, stops_no_colon, primary_behind, word_behind, IsStart, IsValueStart, value_start, operand_start, tail_start, argument_start, wanted_start, field_start}
@@ -74,7 +76,7 @@ pub arguments_round : (vs : Arguments) (rest : List Symbol) → begins_round (ar
 arguments_round no_arguments rest = refl
 arguments_round (argument_and v vs) rest = value_round v _ _
 
-arguments_stop : (vs : Arguments) (rest : List Symbol) → stops (arguments_text vs (t.CloseCurly ∷ rest)) ≡ true
+pub arguments_stop : (vs : Arguments) (rest : List Symbol) → stops (arguments_text vs (t.CloseCurly ∷ rest)) ≡ true
 arguments_stop no_arguments rest = refl
 arguments_stop (argument_and v vs) rest = value_stops v _
 
@@ -84,7 +86,7 @@ fields_round (placed_and v fs) rest = value_round v _ _
 fields_round (named_and (AtomFeature a) v fs) rest = refl
 fields_round (named_and (IntFeature n) v fs) rest = refl
 
-fields_stop : (fs : tree.Fields) (rest : List Symbol) → stops (fields_text fs (t.CloseRound ∷ rest)) ≡ true
+pub fields_stop : (fs : tree.Fields) (rest : List Symbol) → stops (fields_text fs (t.CloseRound ∷ rest)) ≡ true
 fields_stop no_fields rest = refl
 fields_stop (placed_and v fs) rest = value_stops v _
 fields_stop (named_and (AtomFeature a) v fs) rest = refl
@@ -111,7 +113,7 @@ closes_stops (t.Colon ∷ rest) e = absurd cc
 closes_stops (t.OpenRound ∷ rest) e = absurd cc
 closes_stops (s ∷ rest) e = refl
 
-closes_apart : (v : Value) (rest : List Symbol) → closes rest ≡ true → IsApart v rest
+pub closes_apart : (v : Value) (rest : List Symbol) → closes rest ≡ true → IsApart v rest
 closes_apart v [] e = absurd cc
 closes_apart v (t.OpenRound ∷ rest) e = absurd cc
 closes_apart v (s ∷ rest) e = and_false (ends_in_word v)
@@ -132,15 +134,15 @@ statement_closes (Tries q x r) rest = refl
 statement_closes (TriesFinally q x r u) rest = refl
 statement_closes (Finally q u) rest = refl
 
-sequence_closes : (q : Sequence) (rest : List Symbol) → closes (sequence_text q rest) ≡ true
+pub sequence_closes : (q : Sequence) (rest : List Symbol) → closes (sequence_text q rest) ≡ true
 sequence_closes (One s) rest = statement_closes s rest
 sequence_closes (Then s q) rest = statement_closes s _
 
-value_clauses_close : (cs : ValueClauses) (rest : List Symbol) → closes (value_clauses_text cs (t.Else ∷ rest)) ≡ true
+pub value_clauses_close : (cs : ValueClauses) (rest : List Symbol) → closes (value_clauses_text cs (t.Else ∷ rest)) ≡ true
 value_clauses_close no_clauses rest = refl
 value_clauses_close (clause_and p v cs) rest = refl
 
-clauses_close : (cs : Clauses) (rest : List Symbol) → closes (clauses_text cs (t.Else ∷ rest)) ≡ true
+pub clauses_close : (cs : Clauses) (rest : List Symbol) → closes (clauses_text cs (t.Else ∷ rest)) ≡ true
 clauses_close no_cases rest = refl
 clauses_close (case_and p q cs) rest = refl
 

@@ -88,10 +88,10 @@ pub record IsValueStart (q : Point) (scope : Scope) (d : ℕ) (holder : Option F
   pub cases : (symbols : List Symbol) (σ : List Point) → run (t.Case ∷ symbols) (q ∷ σ) ≡ first_fault (value_fault scope d holder t.Case) (t.Case ∷ symbols) (run symbols (case_points scope d (others ++ σ)))
 
 -- what the point takes, and what is wrong there, decide what is read
-begins_by : (q : Point) (σ : List Point) (s : Symbol) (symbols : List Symbol) (w : Option FaultKind) (on : List Point) → next (q ∷ σ) s ≡ Some on → wrong (q ∷ σ) (s ∷ symbols) ≡ w → run (s ∷ symbols) (q ∷ σ) ≡ first_fault w (s ∷ symbols) (run symbols on)
+pub begins_by : (q : Point) (σ : List Point) (s : Symbol) (symbols : List Symbol) (w : Option FaultKind) (on : List Point) → next (q ∷ σ) s ≡ Some on → wrong (q ∷ σ) (s ∷ symbols) ≡ w → run (s ∷ symbols) (q ∷ σ) ≡ first_fault w (s ∷ symbols) (run symbols on)
 begins_by q σ s symbols w on n e = rw (n, e) refl
 
-first_whole : (scope : Scope) (d : ℕ) (s : Symbol) → is_first s ≡ true → next_value scope d s ≡ next_primary Whole scope d s
+pub first_whole : (scope : Scope) (d : ℕ) (s : Symbol) → is_first s ≡ true → next_value scope d s ≡ next_primary Whole scope d s
 first_whole scope d (t.Variable x) e = refl
 first_whole scope d (t.Integer n) e = refl
 first_whole scope d (t.Atom a) e = refl
@@ -102,7 +102,7 @@ first_whole scope d t.OpenRound e = refl
 first_whole scope d s e = absurd cc
 
 -- a value's points, others and those behind
-then_both : (o : Option (List Point)) (others σ inside : List Point) → o ≡ Some inside → then_points (then_points o others) σ ≡ Some (inside ++ (others ++ σ))
+pub then_both : (o : Option (List Point)) (others σ inside : List Point) → o ≡ Some inside → then_points (then_points o others) σ ≡ Some (inside ++ (others ++ σ))
 then_both o others σ inside e = ap (λ (k : Option (List Point)). then_points (then_points k others) σ) e ∙ ap Some (append_assoc inside others σ)
 
 value_begins : (scope : Scope) (d : ℕ) (s : Symbol) (symbols : List Symbol) (σ inside : List Point) → is_first s ≡ true → is_no_colon symbols ≡ true → next_primary Whole scope d s ≡ Some inside
@@ -129,7 +129,7 @@ tail_start scope d = record { begins = tail_begins scope d }
 
 -- ---- arguments
 
-argument_next : (scope : Scope) (d n most : ℕ) (s : Symbol) (σ : List Point) → is_first s ≡ true → next (Arguments scope d n most ∷ σ) s ≡ then_points (then_points (next_primary Whole scope d s) (Arguments scope d (n + 1) most ∷ [])) σ
+pub argument_next : (scope : Scope) (d n most : ℕ) (s : Symbol) (σ : List Point) → is_first s ≡ true → next (Arguments scope d n most ∷ σ) s ≡ then_points (then_points (next_primary Whole scope d s) (Arguments scope d (n + 1) most ∷ [])) σ
 argument_next scope d n most (t.Variable x) σ e = refl
 argument_next scope d n most (t.Integer i) σ e = refl
 argument_next scope d n most (t.Atom a) σ e = refl
@@ -139,7 +139,7 @@ argument_next scope d n most t.Fun σ e = refl
 argument_next scope d n most t.OpenRound σ e = refl
 argument_next scope d n most s σ e = absurd cc
 
-argument_wrong_is : (scope : Scope) (d n most : ℕ) (s : Symbol) (symbols : List Symbol) (σ : List Point) → is_first s ≡ true → wrong (Arguments scope d n most ∷ σ) (s ∷ symbols) ≡ value_fault scope d (argument_fault n most) s
+pub argument_wrong_is : (scope : Scope) (d n most : ℕ) (s : Symbol) (symbols : List Symbol) (σ : List Point) → is_first s ≡ true → wrong (Arguments scope d n most ∷ σ) (s ∷ symbols) ≡ value_fault scope d (argument_fault n most) s
 argument_wrong_is scope d n most (t.Variable x) symbols σ e = refl
 argument_wrong_is scope d n most (t.Integer i) symbols σ e = refl
 argument_wrong_is scope d n most (t.Atom a) symbols σ e = refl
@@ -199,7 +199,7 @@ integer_field_fault scope d room before nth n (s ∷ symbols) e = refl
 same_inside : (a b : List Point) → Some a ≡ Some b → a ≡ b
 same_inside a b e = cc
 
-field_begins : (scope : Scope) (d room : ℕ) (before : List Feature) (nth : ℕ) (s : Symbol) (symbols : List Symbol) (σ inside : List Point) → is_first s ≡ true → is_no_colon symbols ≡ true → next_primary Whole scope d s ≡ Some inside
+pub field_begins : (scope : Scope) (d room : ℕ) (before : List Feature) (nth : ℕ) (s : Symbol) (symbols : List Symbol) (σ inside : List Point) → is_first s ≡ true → is_no_colon symbols ≡ true → next_primary Whole scope d s ≡ Some inside
     → run (s ∷ symbols) (FieldOf scope d room before nth ∷ σ)
     ≡ first_fault (value_fault scope d (given_fault room before (place_feature nth)) s) (s ∷ symbols) (run symbols (inside ++ (behind_placed scope d room before nth ++ σ)))
 field_begins scope d room before nth (t.Atom a) symbols σ inside e c n =

@@ -12,7 +12,9 @@ use Rattle.oz_grammar.specs.Points.{First, AfterThread, Later}
 use Rattle.oz_grammar.specs.Automata.{state_behind, Look, Alone, ByColon, has_colon, IsCompletedBy, IsViable, then_points, or_points}
 use Rattle.oz_grammar.proofs.Parts.{never, in_text, curly_text, then_text}
 use Rattle.surface_grammar.specs.Derivations.{Statement, Skips, Tells, CallsStatement, Raises, Locals, ProcNamed, FunNamed, Threads, ThreadsAt, Ifs, Cases, Tries, TriesFinally, Finally, Clauses, no_cases, case_and, Sequence, One, Then, value_text, statement_text, clauses_text, sequence_text, HasAllArguments, StatementDerives, ClausesDerive, SequenceDerives}
-use Rattle.surface_grammar.specs.Points.{AsStatement, OfProc, OfFun, OfStatements, Closing, Ends, BeforeElse, InClause, InTry, InHandler, WithText, Point, At, Here, LocalName, CallableName, ValueOf, CallName, PatternOf, CatchName, next_call, next_first, next_closing, next, points_automaton, start}
+use Rattle.surface_grammar.specs.declared.parts.CallUse.TheVariants.{AsStatement}
+use Rattle.surface_grammar.specs.declared.parts.Callable.TheVariants.{OfProc, OfFun}
+use Rattle.surface_grammar.specs.Points.{OfStatements, Closing, Ends, BeforeElse, InClause, InTry, InHandler, WithText, Point, At, Here, LocalName, CallableName, ValueOf, CallName, PatternOf, CatchName, next_call, next_first, next_closing, next, points_automaton, start}
 use Rattle.surface_grammar.specs.Faults.{surface}
 use Rattle.surface_grammar.proofs.Leaves.{leads, leaves, leaves_behind, completion, IsStack, all_completes, OnStack, next_stack, stack_behind}
 use Rattle.surface_grammar.proofs.Roles.{look, Begun, role_begun}

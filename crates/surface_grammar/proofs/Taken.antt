@@ -11,7 +11,8 @@ use Rattle.oz_grammar.specs.Faults.{fewer}
 use Rattle.oz_grammar.specs.Points.{First}
 use Rattle.oz_grammar.proofs.Leaves.{sign_symbol}
 use Rattle.oz_grammar.proofs.Parts.{never, in_text, curly_text, then_text}
-use Rattle.surface_grammar.specs.Points.{Callable, Branch, Ends, Point, At, Here, LocalMore, Formals, PatternOf, PatternField, clause_points, body_points}
+use Rattle.surface_grammar.specs.declared.parts.Callable.{Callable}
+use Rattle.surface_grammar.specs.Points.{Branch, Ends, Point, At, Here, LocalMore, Formals, PatternOf, PatternField, clause_points, body_points}
 use Rattle.surface_grammar.proofs.Leaves.{leaves}
 
 -- A part stands at the front of these symbols, and what is behind it is taken by the points behind it.

@@ -18,7 +18,9 @@ use Rattle.oz_grammar.proofs.Parts.{never, curly_text}
 use Rattle.surface_grammar.specs.Derivations.{Primary, Name, Number, Word, Record, Calls, Procedure, Function, Brackets, Selects, Tail, Last, More, Value, Alone, Calculates, Pairs, IfValue, CaseValue, Arguments, no_arguments, argument_and, no_fields, placed_and, named_and, ValueClauses, no_clauses, clause_and, Clauses, no_cases, case_and, Sequence, primary_text, tail_text, value_text, arguments_text, fields_text, value_clauses_text, clauses_text, sequence_text, is_word, tail_ends_in_word, ends_in_word, begins_round, IsApart, count_arguments, LacksOneArgument, PrimaryDerives, TailDerives, ValueDerives, ArgumentsDerive, FieldsDerive, ValueClausesDerive, ClausesDerive, SequenceDerives}
 use Rattle.surface_grammar.specs.Derivations as tree
 use Rattle.oz_grammar.specs.Automata.{then_points}
-use Rattle.surface_grammar.specs.Points.{Extent, Whole, Part, Rest, AsValue, OfProc, OfFun, OfValue, OfStatements, Closing, Ends, InClause, Point, At, Here, Formals, ValueOf, OperandOf, TailOf, Behind, BehindWord, FieldOf, FieldBegun, CallName, Wanted, PatternOf, ClauseEnd, next_primary, next_value, next_call, next_closing, behind_placed}
+use Rattle.surface_grammar.specs.declared.parts.CallUse.TheVariants.{AsValue}
+use Rattle.surface_grammar.specs.declared.parts.Callable.TheVariants.{OfProc, OfFun}
+use Rattle.surface_grammar.specs.Points.{Extent, Whole, Part, Rest, OfValue, OfStatements, Closing, Ends, InClause, Point, At, Here, Formals, ValueOf, OperandOf, TailOf, Behind, BehindWord, FieldOf, FieldBegun, CallName, Wanted, PatternOf, ClauseEnd, next_primary, next_value, next_call, next_closing, behind_placed}
 use Rattle.surface_grammar.specs.Points as points
 use Rattle.surface_grammar.proofs.Leaves.{leads, leaves}
 use Rattle.surface_grammar.proofs.Taken.{sign_taken, formals_taken}

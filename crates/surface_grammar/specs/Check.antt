@@ -12,7 +12,9 @@ use Rattle.oz_grammar.specs.Faults.{or_else, site_fault, deep_fault, use_fault, 
 use Rattle.oz_grammar.specs.Check.{first_fault, check_locals, check_pattern, check_selection}
 use Rattle.surface_grammar.specs.Derivations.{Primary, Name, Number, Word, Record, Calls, Procedure, Function, Brackets, Selects, Tail, Last, More, Value, Alone, Calculates, Tests, Pairs, IfValue, CaseValue, Arguments, no_arguments, argument_and, no_fields, placed_and, named_and, ValueClauses, no_clauses, clause_and, Statement, Skips, Tells, CallsStatement, Raises, Locals, ProcNamed, FunNamed, Threads, ThreadsAt, Ifs, Cases, Tries, TriesFinally, Finally, Clauses, no_cases, case_and, Sequence, One, Then, primary_text, tail_text, value_text, arguments_text, fields_text, value_clauses_text, statement_text, clauses_text, sequence_text}
 use Rattle.surface_grammar.specs.Derivations as tree
-use Rattle.surface_grammar.specs.Points.{Callable, OfProc, OfFun, value_fault, given_fault, named_fault, argument_fault, formal_wrong}
+use Rattle.surface_grammar.specs.declared.parts.Callable.{Callable}
+use Rattle.surface_grammar.specs.declared.parts.Callable.TheVariants.{OfProc, OfFun}
+use Rattle.surface_grammar.specs.Points.{value_fault, given_fault, named_fault, argument_fault, formal_wrong}
 
 -- Levels: of the 200 that a program has, d are left for a value. Its parts have one less, but its first primary is read before
 -- what makes it a part: a dot, an operator, a test or a bar behind it. So many levels are left for it there. A variable takes none.

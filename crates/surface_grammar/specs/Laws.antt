@@ -1,5 +1,5 @@
 -- Which program symbols with sugar are, and which fault they have; and that it is one of both.
-use Rattle.std.specs.Prelude.{◌≡◌, ◌⊎◌, List, true, Some, None}
+use Rattle.std.specs.Prelude.{◌≡◌, ◌⊎◌, List, true, Some, None, Ok, Err}
 use Rattle.tree_node.specs.Each.{Each}
 use Rattle.kernel_syntax.specs.declared.stmt.Stmt.{Stmt}
 use Rattle.kernel_syntax.specs.Sugar.{Statements}
@@ -13,6 +13,7 @@ use Rattle.surface_grammar.specs.Derivations.{Sequence, IsDerivation, program_te
 use Rattle.surface_grammar.specs.Points.{run, start}
 use Rattle.surface_grammar.specs.Check.{check}
 use Rattle.surface_grammar.specs.Trees.{program_of}
+use Rattle.surface_grammar.specs.Reading.{program_at}
 use Rattle.surface_grammar.specs.Faults.{surface}
 
 -- the symbols are a program with this tree: they derive it, and nothing is wrong in the derivation
@@ -54,3 +55,15 @@ ReadsFit = (symbols : List Symbol) (s : Statements) → Each IsSpelled symbols �
 -- a program of the kernel is one with sugar
 abbrev pub KernelReads : Type 0
 KernelReads = (symbols : List Symbol) (p : List Stmt) → kernel.ReadsSymbols symbols p → (s : Statements) × ReadsSymbols symbols s
+
+-- reading gives the tree that the symbols are, and no other
+abbrev pub ReadsPrograms : Type 0
+ReadsPrograms = (symbols : List Symbol) (s : Statements) → ends_once symbols ≡ true → (program_at symbols ≡ Ok s → ReadsSymbols symbols s) × (ReadsSymbols symbols s → program_at symbols ≡ Ok s)
+
+-- .. and their first fault, and no other
+abbrev pub ReadsFaults : Type 0
+ReadsFaults = (symbols : List Symbol) (f : Fault) → ends_once symbols ≡ true → (program_at symbols ≡ Err f → FaultOfSymbols symbols f) × (FaultOfSymbols symbols f → program_at symbols ≡ Err f)
+
+-- symbols are one tree
+abbrev pub OneTree : Type 0
+OneTree = (symbols : List Symbol) (s r : Statements) → ReadsSymbols symbols s → ReadsSymbols symbols r → s ≡ r

@@ -4,4 +4,6 @@ pub mod Check
 pub mod Trees
 pub mod Faults
 pub mod Rows
+pub mod Reading
 pub mod Laws
+pub mod Texts

@@ -21,22 +21,16 @@ use Rattle.oz_grammar.specs.Scoping.{Scope, Fields, built_in_at, has_name, with_
 use Rattle.oz_grammar.specs.Faults.{or_else, where_so, where_not, number_fault, site_fault, deep_fault, use_fault, count_fault, called_fault, room_fault, name_fault, fewer}
 use Rattle.oz_grammar.specs.Points.{Stage, First, AfterThread, Later, is_sign, expected_sign, next_selection, on_variable, on_integer, stmt_fault, value_wrong, field_wrong, by_name, by_number}
 use Rattle.oz_grammar.specs.Automata.{Automaton, read, then_points, or_points, is_done}
+use Rattle.surface_grammar.specs.declared.parts.CallUse.{CallUse}
+use Rattle.surface_grammar.specs.declared.parts.CallUse.TheVariants.{AsValue, AsStatement}
+use Rattle.surface_grammar.specs.declared.parts.Callable.{Callable}
+use Rattle.surface_grammar.specs.declared.parts.Callable.TheVariants.{OfProc, OfFun}
 
 -- how far a value may go on behind its first primary: a whole value, a part of an operator or a test, the tail of a list
 pub data Extent : Type 0 where
   Whole : Extent
   Part : Extent
   Rest : Extent
-
--- a call as a value, whose last argument is told, or as a statement
-pub data CallUse : Type 0 where
-  AsValue : CallUse
-  AsStatement : CallUse
-
--- formals of a procedure, before statements, or of a function, before a value
-pub data Callable : Type 0 where
-  OfProc : Callable
-  OfFun : Callable
 
 -- clauses of values, or of statements
 pub data Branch : Type 0 where

@@ -1,7 +1,11 @@
 //! Laws of the definitions. Each function does nothing: its clauses are the law.
 
-ghost use Rattle.surface_grammar.specs.Laws.{SymbolsHaveOne, NeverBoth, OneFault, PointsTellFaults, PointsTellPrograms, ReadsFit, KernelReads};
+ghost use Rattle.oz_grammar.specs.Laws.{AreOneOfBoth};
+ghost use Rattle.surface_grammar.specs.Laws.{SymbolsHaveOne, NeverBoth, OneFault, PointsTellFaults, PointsTellPrograms, ReadsPrograms, ReadsFaults, OneTree, ReadsFit, KernelReads};
+ghost use Rattle.surface_grammar.specs.Texts.{Reads, FaultOf, TextsFit};
 ghost use Rattle.surface_grammar.specs.Rows.{FunNeedsBrace, BrowseNeedsValue, TryNeedsHandler, OperatorsNeedBrackets, TestsNeedBrackets, TestNeedsValue, IfNeedsElse, CallNeedsClose, CaseNeedsElse, FactorialPasses, ClausesPass, FinallyPasses, TestsPass, LabelsPass, IntegerIsValue, TwiceByPosition, TwiceByFeature, TwiceBeforeRefusal, UnboundPrimary, VariablesTakeNoLevel, PartsTakeLevel, TestsTakeLevel, DotsTakeLevels, ThreeLevels, TwoLevels, ListsTakeLevels, TailIsTooDeep};
+
+use oz_lexer::texts_divide;
 
 /// Symbols are a program or have one first fault, never both, and reading by the points tells which.
 pub fn one_of_both()
@@ -12,10 +16,26 @@ pub fn one_of_both()
     ensures read { PointsTellPrograms }
 {}
 
+/// Reading gives the tree that symbols are, and their first fault, and nothing else.
+pub fn reading_is_exact()
+    ensures programs { ReadsPrograms }
+    ensures faults { ReadsFaults }
+    ensures tree { OneTree }
+{}
+
 /// What the symbols of a text are read as is within the limits of trees.
 pub fn reads_fit()
     ensures { ReadsFit }
 {}
+
+/// Each text is one program with sugar or has one first fault, never both, and what a text in UTF-8 is read as is within the
+/// limits of trees.
+pub fn texts_have_one_of_both()
+    ensures one_of_both { AreOneOfBoth Reads FaultOf }
+    ensures fit { TextsFit }
+{
+    texts_divide();
+}
 
 /// Symbols that are a program of the kernel language are one with sugar.
 pub fn kernel_programs_read()

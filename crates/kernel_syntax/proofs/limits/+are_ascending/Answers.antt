@@ -1,4 +1,4 @@
-use Rattle.std.proofs.Common.{◌≡◌, ◌↔◌, List, ◌∷◌, IsTrue, sym, subst}
+use Rattle.std.proofs.Common.{◌↔◌, List, IsTrue, sym, subst}
 use Rattle.tree_node.specs.declared.node.Feature.{Feature}
 use Rattle.tree_node.specs.Node.{AreAscending}
 use Rattle.kernel_syntax.proofs.Elements.{first_others}
