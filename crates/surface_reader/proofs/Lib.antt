@@ -1,0 +1,5 @@
+pub mod Slots
+pub mod Rows
+pub mod Levels
+pub mod Steps
+pub mod Unfold
