@@ -5,9 +5,11 @@ use Rattle.std.proofs.lemmas.List.{length-map}
 use Rattle.tree_node.specs.Each.{Each}
 use Rattle.kernel_syntax.specs.declared.stmt.Stmt.{Stmt}
 use Rattle.kernel_syntax.specs.Program.{IsProgram}
-use Rattle.oz_lexer.specs.Tokens.{Lexeme}
+use Rattle.kernel_syntax.specs.Sugar.{Statements}
+use Rattle.kernel_syntax.specs.SugarLimits.{FitsStatements}
+use Rattle.oz_lexer.specs.Tokens.{Lexeme, Tokens}
 use Rattle.oz_lexer.specs.Place.{place_of}
-use Rattle.oz_lexer.proofs.Dividing.{texts_divide_once}
+use Rattle.oz_lexer.proofs.Dividing.{texts_divide, texts_divide_once}
 use Rattle.oz_grammar.specs.declared.symbol.Symbol.{Symbol}
 use Rattle.oz_grammar.specs.declared.symbol.Closer.TheVariants as closer
 use Rattle.oz_grammar.specs.declared.fault.What.TheVariants as what
@@ -15,14 +17,22 @@ use Rattle.oz_grammar.specs.declared.fault.Fault.{Fault}
 use Rattle.oz_grammar.specs.declared.fault.TextFault.{TextFault}
 use Rattle.oz_grammar.specs.Symbols.{symbol_of, ends_once}
 use Rattle.oz_grammar.specs.Reading.{seq_at, stmt_at, program_at, shift_rows}
-use Rattle.oz_grammar.specs.Reads.{Reads, FaultOf}
-use Rattle.oz_grammar.proofs.ReadLaws.{read_is, fault_is, read_stands}
-use Rattle.oz_grammar.proofs.TextLaws.{tokens_end, fault_left, reads_text, faults_text, is_one_program, has_one_fault, never_have_both, texts_are_programs}
+use Rattle.oz_grammar.specs.Reads.{FaultIn, Reads, FaultOf}
+use Rattle.oz_grammar.specs.Laws.{AreOneOfBoth}
+use Rattle.oz_grammar.proofs.ReadLaws.{read_is, read_stands}
+use Rattle.oz_grammar.proofs.TextLaws.{SymbolLaws, tokens_end, reads_text, texts_are_programs, are_one_of_both}
+use Rattle.oz_grammar.proofs.TextLaws as kernel
+use Rattle.oz_phrases.specs.declared.stop.Stop.{Stop}
+use Rattle.oz_phrases.specs.declared.stop.Stop.TheVariants as stops
+use Rattle.oz_phrases.specs.ReadAnswers.{IsFailure}
+use Rattle.oz_symbols.specs.TextSymbols.{start_of, AreSymbols}
+use Rattle.surface_grammar.specs.Reading as sugar
+use Rattle.surface_grammar.specs.Texts as surface
+use Rattle.surface_grammar.proofs.ReadLaws as surface_laws
 use Rattle.oz_parser.specs.declared.error.ParseError.{ParseError}
 use Rattle.oz_parser.specs.declared.error.ParseError.TheVariants as errors
 use Rattle.oz_parser.specs.Fits.{RowsFit}
-use Rattle.oz_symbols.specs.TextSymbols.{start_of, AreSymbols}
-use Rattle.oz_parser.specs.ParseAnswers.{IsParse, IsProgramAnswer, IsFaultAnswer}
+use Rattle.oz_parser.specs.ParseAnswers.{IsErrorOf, IsParse, IsAnswer, IsFaultAnswer, Stands, IsFaultAt, IsErrorAt}
 use Rattle.oz_parser.proofs.Shifting.{program_fits, same_count}
 
 -- the numbers of what is read fit
@@ -45,9 +55,6 @@ pub is_program : (text : List ℕ) → IsUtf8 text → (symbols : List Symbol) (
 is_program text utf8 symbols starts rows a e = texts_are_programs text rows utf8 (reads text symbols starts rows a e)
 
 -- ---- faults
-
-pub fault_stands : (text : List ℕ) (symbols : List Symbol) (starts : List ℕ) (fault : Fault) → AreSymbols text symbols starts → program_at symbols ≡ Err fault → (0 < fault.left) × (fault.left ≤ length symbols)
-fault_stands text symbols starts fault a e = fault_left symbols fault (symbols_end text symbols starts a) (fault_is symbols fault e)
 
 pub each_within : (n : ℕ) (xs : List ℕ) (i : ℕ) → Each (λ (s : ℕ). s ≤ n) xs → i < length xs → get_or xs i 0 ≤ n
 each_within n [] i h lt = absurd (omega arith)
@@ -90,37 +97,78 @@ left_at (x ∷ xs) left some le =
           record { before = []; token = x; behind = xs; divided = refl; place = is; start = rw z refl }
     ]
 
-pub fault_of : (text : List ℕ) (symbols : List Symbol) (starts : List ℕ) (fault : Fault) (f : TextFault) → AreSymbols text symbols starts → program_at symbols ≡ Err fault
-    → f.kind ≡ fault.kind → (f.line, f.column) ≡ place_of (take (get_or starts (length starts - fault.left) 0) text) → FaultOf text f
-fault_of text symbols starts fault f a e kind place =
-    let stands = fault_stands text symbols starts fault a e in
-    let n : length starts ≡ length a.tokens = ap (λ (xs : List ℕ). length xs) a.starts_are ∙ length-map a.tokens start_of in
-    let m : length symbols ≡ length a.tokens = ap (λ (xs : List Symbol). length xs) a.symbols_are ∙ length-map a.tokens symbol_of in
-    let l = left_at a.tokens fault.left stands.0 (let s = stands.1 in omega arith) in
-    let there : get_or starts (length starts - fault.left) 0 ≡ l.token.start =
-    ap (λ (k : ℕ). get_or starts (k - fault.left) 0) n ∙ ap (λ (xs : List ℕ). get_or xs (length a.tokens - fault.left) 0) a.starts_are ∙ l.start in
-    (faults_text texts_divide_once text a.tokens f a.divided).0 (record {
-      fault = fault;
-      read = ap program_at (sym a.symbols_are) ∙ e;
-      is_kind = kind;
-      place = record {
-        before = l.before;
-        token = l.token;
-        behind = l.behind;
-        divided = l.divided;
-        place = l.place;
-        is = place ∙ ap (λ (k : ℕ). place_of (take k text)) there;
-      };
-    })
+-- Of a language, by the laws of its symbols.
+module _ {Program : Type 0} {are : List Symbol → Program → Type 0} {have : List Symbol → Fault → Type 0} (law : SymbolLaws are have) where
+  -- a refusal stands at one of the symbols
+  pub refusal_stands : {X : Type 0} (text : List ℕ) (symbols : List Symbol) (starts : List ℕ) (read : Result X Fault) (stop : Stop) → AreSymbols text symbols starts → ((f : Fault) → read ≡ Err f → have symbols f) → IsFailure stop read → Stands stop (length starts)
+  refusal_stands text symbols starts read stops.Memory a faults fails = tt
+  refusal_stands text symbols starts read (stops.Fault f) a faults fails =
+      let stands = law.stands symbols f (symbols_end text symbols starts a) (faults f fails) in
+      let n = same_length text symbols starts a in
+      (stands.0, omega (arith, stands, n))
+
+  at_token : (text : List ℕ) (symbols : List Symbol) (starts : List ℕ) (fault : Fault) (f : TextFault) → AreSymbols text symbols starts → have symbols fault → IsFaultAt text starts fault f → FaultIn have text f
+  at_token text symbols starts fault f a applies at =
+      let stands = law.stands symbols fault (symbols_end text symbols starts a) applies in
+      let n : length starts ≡ length a.tokens = ap (λ (xs : List ℕ). length xs) a.starts_are ∙ length-map a.tokens start_of in
+      let m : length symbols ≡ length a.tokens = ap (λ (xs : List Symbol). length xs) a.symbols_are ∙ length-map a.tokens symbol_of in
+      let l = left_at a.tokens fault.left stands.0 (let s = stands.1 in omega arith) in
+      let there : get_or starts (length starts - fault.left) 0 ≡ l.token.start =
+      ap (λ (k : ℕ). get_or starts (k - fault.left) 0) n ∙ ap (λ (xs : List ℕ). get_or xs (length a.tokens - fault.left) 0) a.starts_are ∙ l.start in
+      record {
+        tokens = a.tokens;
+        divided = a.divided;
+        fault = fault;
+        applies = subst (λ (xs : List Symbol). have xs fault) a.symbols_are applies;
+        is_kind = at.kind;
+        place = record {
+          before = l.before;
+          token = l.token;
+          behind = l.behind;
+          divided = l.divided;
+          place = l.place;
+          is = at.place ∙ ap (λ (k : ℕ). place_of (take k text)) there;
+        };
+      }
+
+  -- its error is the text's fault
+  pub refusal_is : {X : Type 0} (text : List ℕ) (symbols : List Symbol) (starts : List ℕ) (read : Result X Fault) (stop : Stop) (e : ParseError) → AreSymbols text symbols starts → ((f : Fault) → read ≡ Err f → have symbols f) → IsFailure stop read → IsErrorAt text starts stop e → IsErrorOf (FaultIn have) text e
+  refusal_is text symbols starts read stops.Memory e a faults fails at = subst (IsErrorOf (FaultIn have) text) (sym at) tt
+  refusal_is text symbols starts read (stops.Fault f) errors.Memory a faults fails at = absurd at
+  refusal_is text symbols starts read (stops.Fault f) (errors.Text g) a faults fails at = at_token text symbols starts f g a (faults f fails) at
 
 -- ---- only these
 
-pub only_program : (text : List ℕ) (r : Result (List Stmt) ParseError) → IsParse text r → (p : List Stmt) → Reads text p → IsProgramAnswer r p
-only_program text (Ok q) h p reads = is_one_program texts_divide_once text q p h reads
-only_program text (Err errors.Memory) h p reads = tt
-only_program text (Err (errors.Text f)) h p reads = never_have_both texts_divide_once text p f reads h
+-- of a language of texts in which each is one program or has one fault: only that is answered, where a text is told of by view
+pub only_program : {X Program : Type 0} {is : List ℕ → Program → Type 0} {has : List ℕ → TextFault → Type 0} (law : AreOneOfBoth is has) (told : List ℕ → X → Type 0) (view : X → Program) (text : List ℕ) (r : Result X ParseError)
+    → ((x : X) → told text x → is text (view x)) → IsParse told has text r → (p : Program) → is text p → IsAnswer r (λ x. view x ≡ p)
+only_program law told view text (Ok x) seen h p given = law.program text (view x) p (seen x h) given
+only_program law told view text (Err errors.Memory) seen h p given = tt
+only_program law told view text (Err (errors.Text f)) seen h p given = law.never_both text p f given h
 
-pub only_fault : (text : List ℕ) (r : Result (List Stmt) ParseError) → IsParse text r → (f : TextFault) → FaultOf text f → IsFaultAnswer r f
-only_fault text (Ok q) h f fault = never_have_both texts_divide_once text q f h fault
-only_fault text (Err errors.Memory) h f fault = tt
-only_fault text (Err (errors.Text g)) h f fault = has_one_fault texts_divide_once text g f h fault
+pub only_fault : {X Program : Type 0} {is : List ℕ → Program → Type 0} {has : List ℕ → TextFault → Type 0} (law : AreOneOfBoth is has) (told : List ℕ → X → Type 0) (view : X → Program) (text : List ℕ) (r : Result X ParseError)
+    → ((x : X) → told text x → is text (view x)) → IsParse told has text r → (f : TextFault) → has text f → IsFaultAnswer r f
+only_fault law told view text (Ok x) seen h f fault = law.never_both text (view x) f (seen x h) fault
+only_fault law told view text (Err errors.Memory) seen h f fault = tt
+only_fault law told view text (Err (errors.Text g)) seen h f fault = law.fault text g f h fault
+
+-- ---- both languages
+
+pub kernel_texts : AreOneOfBoth Reads FaultOf
+kernel_texts = are_one_of_both kernel.symbol_laws texts_divide texts_divide_once
+
+pub surface_texts : AreOneOfBoth surface.Reads surface.FaultOf
+surface_texts = are_one_of_both surface_laws.symbol_laws texts_divide texts_divide_once
+
+pub surface_reads : (text : List ℕ) (symbols : List Symbol) (starts : List ℕ) (s : Statements) → AreSymbols text symbols starts → sugar.program_at symbols ≡ Ok s → surface.Reads text s
+surface_reads text symbols starts s a e = record {
+  tokens = a.tokens;
+  divided = a.divided;
+  reads = (surface_laws.reads_programs (map symbol_of a.tokens) s (tokens_end text a.tokens a.divided)).0 (ap sugar.program_at (sym a.symbols_are) ∙ e);
+}
+
+pub surface_fits : (text : List ℕ) → IsUtf8 text → (symbols : List Symbol) (starts : List ℕ) (s : Statements) → AreSymbols text symbols starts → sugar.program_at symbols ≡ Ok s → FitsStatements s 0
+surface_fits text utf8 symbols starts s a e = surface_laws.texts_fit text s utf8 (surface_reads text symbols starts s a e)
+
+pub starts_told : (text : List ℕ) (symbols : List Symbol) (starts : List ℕ) → AreSymbols text symbols starts → (tokens : List Lexeme) → Tokens text tokens → starts ≡ map start_of tokens
+starts_told text symbols starts a tokens divided = a.starts_are ∙ ap (map start_of) (texts_divide_once text a.tokens tokens a.divided divided)

@@ -1,12 +1,10 @@
 //! The arguments of calls.
 
 ghost use Rattle.std.specs.Prelude.{◌≡◌, ◌<◌, ◌≤◌, ◌^◌, [], length, IfOk};
-ghost use Rattle.kernel_syntax.specs.BuiltIns.{arity_of};
 ghost use Rattle.oz_grammar.specs.Faults.{argument_fault};
 ghost use Rattle.oz_grammar.specs.Reading.{arguments_at, built_in_arguments_at};
 ghost use Rattle.oz_phrases.specs.ReadAnswers.{IsReadAs};
 
-use kernel_syntax::BuiltIn;
 use oz_grammar::{FaultKind, Symbol, What};
 use oz_phrases::{
     Read, Scope, close, count_fault, fault, mismatch, position_or_zero, used_variable,
@@ -51,18 +49,6 @@ pub fn arguments<'t>(alloc: Global, scope: &Scope, symbols: &'t [Symbol]) -> Rea
             },
             _ => return Err(mismatch(What::VariableOrClose, rest)),
         }
-    }
-}
-
-/// How many arguments what is built in has.
-pub fn arity_of(built_in: BuiltIn) -> u32
-    ensures value { result ≡ arity_of built_in }
-    ensures small { result ≤ 3 }
-{
-    match built_in {
-        BuiltIn::Browse | BuiltIn::Wait => 1,
-        BuiltIn::NewCell => 2,
-        BuiltIn::Exchange => 3,
     }
 }
 

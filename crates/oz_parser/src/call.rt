@@ -5,11 +5,11 @@ ghost use Rattle.oz_grammar.specs.Table.{built_in_row};
 ghost use Rattle.oz_phrases.specs.ReadAnswers.{IsReadAs};
 ghost use Rattle.oz_parser.specs.Heads.{head_parts, built_in_head, procedure_call_head, call_head, raise_head};
 
-use crate::arguments::{arguments, arity_of, built_in_arguments};
+use crate::arguments::{arguments, built_in_arguments};
 use crate::head::{Head, head_without_body};
 use kernel_syntax::{BuiltIn, Positions, Stmt};
 use oz_grammar::{FaultKind, Sign, Symbol, What};
-use oz_phrases::{Scope, Stop, built_in_at, fault, mismatch, sign, used_variable};
+use oz_phrases::{Scope, Stop, arity_of, built_in_at, fault, mismatch, sign, used_variable};
 use std::alloc::Global;
 
 fn position_at(positions: &[u32], at: usize) -> u32

@@ -11,7 +11,7 @@ use oz_phrases::{
     Scope, Stop, first_local, formals, mismatch, pattern, sign, site, used_variable, value,
 };
 use std::alloc::Global;
-use tree_node::{CodeId, Text};
+use tree_node::{CodeId, Integer, Text};
 
 /// A statement up to where its body begins: its row, the names that it declares for the body, what is expected where that
 /// begins, if it has one, and the symbols from there on.
@@ -162,7 +162,7 @@ fn placed_thread<'t>(alloc: Global, symbols: &'t [Symbol]) -> Result<Head<'t>, S
 {
     let (at, rest) = site(symbols)?;
     let row = Stmt::Thread {
-        at: Some(at),
+        at: Some(Integer::new(at)),
         body: CodeId(1),
     };
     Ok(head_with_body(row, Vec::new(alloc), rest))

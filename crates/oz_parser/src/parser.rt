@@ -1,16 +1,15 @@
 //! Programs from their texts.
 
-ghost use Rattle.std.specs.Prelude.{◌≡◌, ◌+◌, ◌-◌, ◌<◌, ◌≤◌, ◌^◌, List, true, length, take, slice_index, IfOk};
+ghost use Rattle.std.specs.Prelude.{◌≡◌, ◌<◌, ◌≤◌, ◌^◌, List, true, length, IfOk};
 ghost use Rattle.tree_node.specs.Each.{Each};
 ghost use Rattle.kernel_syntax.specs.declared.stmt.Stmt.{Stmt};
-ghost use Rattle.oz_lexer.specs.Place.{place_of};
 ghost use Rattle.oz_grammar.specs.declared.fault.TextFault.{TextFault};
 ghost use Rattle.oz_grammar.specs.Symbols.{ends_once};
 ghost use Rattle.oz_grammar.specs.Reading.{program_at};
 ghost use Rattle.oz_grammar.specs.Reads.{Reads, FaultOf};
-ghost use Rattle.oz_phrases.specs.ReadAnswers.{IsReadAs, IsFailure};
+ghost use Rattle.oz_phrases.specs.ReadAnswers.{IsReadAs};
 ghost use Rattle.oz_symbols.specs.TextSymbols.{AreSymbols};
-ghost use Rattle.oz_parser.specs.ParseAnswers.{IsErrorOf, IsParse, IsProgramAnswer, IsFaultAnswer, IfFault};
+ghost use Rattle.oz_parser.specs.ParseAnswers.{IsParse, IsAnswer, IsFaultAnswer, IfFault, Stands, IsFaultAt, IsErrorAt};
 
 use crate::error::ParseError;
 use crate::reader::Reader;
@@ -40,8 +39,7 @@ fn text_fault(text: &str, starts: &[usize], fault: Fault) -> TextFault
     requires some { 0 < fault.left }
     requires left { fault.left ≤ length starts.now }
     requires within { Each (λ s. s ≤ length text.now) starts.now }
-    ensures kind { result.kind ≡ fault.kind }
-    ensures place { (result.line, result.column) ≡ place_of (take (slice_index starts.now (length starts.now - fault.left)) text.now) }
+    ensures { IsFaultAt text.now starts.now fault result }
 {
     let at = starts[starts.len() - fault.left];
     let (line, column) = line_and_column(text, at);
@@ -52,11 +50,11 @@ fn text_fault(text: &str, starts: &[usize], fault: Fault) -> TextFault
     }
 }
 
-/// The fault of a text where reading its symbols was refused.
-fn fault_of(text: &str, symbols: &[Symbol], starts: &[usize], stop: Stop) -> ParseError
-    requires symbols { AreSymbols text.now symbols.now starts.now }
-    requires fails { IsFailure stop (program_at symbols.now) }
-    ensures { IsErrorOf text.now result }
+/// The error of a text where reading its symbols was refused.
+pub fn error_of(text: &str, starts: &[usize], stop: Stop) -> ParseError
+    requires stands { Stands stop (length starts.now) }
+    requires within { Each (λ s. s ≤ length text.now) starts.now }
+    ensures { IsErrorAt text.now starts.now stop result }
 {
     match stop {
         Stop::Memory => ParseError::Memory,
@@ -73,11 +71,11 @@ fn program(
 ) -> Result<Program, ParseError>
     requires few { length symbols.now < 2 ^ 29 }
     requires symbols { AreSymbols text.now symbols.now starts.now }
-    ensures { IsParse text.now result }
+    ensures { IsParse Reads FaultOf text.now result }
 {
     match table(alloc, symbols) {
         Ok(rows) => Ok(Program::from_vec(alloc, rows)?),
-        Err(stop) => Err(fault_of(text, symbols, starts, stop)),
+        Err(stop) => Err(error_of(text, starts, stop)),
     }
 }
 
@@ -87,7 +85,7 @@ pub fn parse(alloc: Global, text: &str) -> Result<Program, ParseError>
     requires { length text.now < 2 ^ 28 }
     ensures read { IfOk result (λ p. Reads text.now p) }
     ensures refused { IfFault result (λ f. FaultOf text.now f) }
-    ensures program { (p : List Stmt) → Reads text.now p → IsProgramAnswer result p }
+    ensures program { (p : List Stmt) → Reads text.now p → IsAnswer result (λ q. q ≡ p) }
     ensures fault { (f : TextFault) → FaultOf text.now f → IsFaultAnswer result f }
 {
     let (symbols, starts) = symbols_of(alloc, text)?;

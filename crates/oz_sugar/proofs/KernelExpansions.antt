@@ -29,11 +29,10 @@ use Rattle.oz_grammar.proofs.FieldOrder.{stopped, or_neither, good_fields}
 use Rattle.oz_grammar.proofs.TableLimits.{locals_few, formals_few, pattern_limits, plain_limits}
 use Rattle.oz_grammar.proofs.TableScopes.{used_within}
 use Rattle.surface_grammar.specs.Trees.{record_value, call_statement, value_in, arguments_of, fields_in, statement_of, sequence_of, program_of}
-use Rattle.surface_grammar.proofs.Lifting.{lift_arguments, lift_fields, lift_value, lift_plain, lift_block, lift_choice, lift_statement, lift, lifted}
+use Rattle.surface_grammar.proofs.Lifting.{lift_arguments, lift_fields, lift_value, lift_plain, lift_block, lift_choice, lift_statement, lift}
 use Rattle.surface_grammar.specs.Derivations.{Sequence, sequence_text}
 use Rattle.oz_sugar.specs.Codes.{Code, Leaf, Proc, If, Case, Try, Codes, One, Then, follow, codes_rows}
 use Rattle.oz_sugar.specs.Put.{Places, place, positions_from, declare, slot_places, put, put_all, put_statement, put_statements, put_others, expanded_rows, action_row}
-use Rattle.oz_sugar.specs.Laws.{KernelExpands}
 use Rattle.oz_sugar.proofs.KernelCodes.{block_code, choice_code, code_of, codes_of, pattern_each, sequence_rows}
 
 -- ---- positions
@@ -69,7 +68,7 @@ under_names f scope xs = ap (λ (ps : Places). f ps (length scope + length xs)) 
 -- ---- values
 
 -- fields of identifiers
-abbrev slot_of : Scope → Feature × Identifier → Feature × Field
+abbrev pub slot_of : Scope → Feature × Identifier → Feature × Field
 slot_of scope f = (f.0, field.Variable (declaration_of scope f.1))
 
 map_with_field : {A B : Type 0} (g : A → B) (f : Feature) (x : A) (fields : List (Feature × A)) → with_field f (g x) (map (λ (s : Feature × A). (s.0, g s.1)) fields) ≡ map (λ (s : Feature × A). (s.0, g s.1)) (with_field f x fields)
@@ -80,7 +79,7 @@ map_with_field {A = A} {B = B} g f x ((h, y) ∷ fields) =
       | false ↦ ap (λ (ss : List (Feature × B)). (h, g y) ∷ ss) (map_with_field g f x fields)
     ] in chosen (is_lt (feature_cmp f h))
 
-fields_are : (fs : List kernel.Field) (scope : Scope) (nth i : ℕ) (before : Fields) (rest : List Symbol) (left : ℕ) (a : List ℕ)
+pub fields_are : (fs : List kernel.Field) (scope : Scope) (nth i : ℕ) (before : Fields) (rest : List Symbol) (left : ℕ) (a : List ℕ)
     → fields_in (lift_fields fs) scope nth i (map (slot_of scope) before) no_values rest left a ≡ record_value left a (map (slot_of scope) (fields_behind before nth fs)) no_values
 fields_are [] scope nth i before rest left a = refl
 fields_are (Placed x ∷ fs) scope nth i before rest left a =
@@ -163,14 +162,14 @@ plain_code (kernel.Calls p xs) scope rest symbols behind e =
     let s = stopped (called_fault (built_in_at scope p) scope p) _ _ e in call_code (built_in_at scope p) p xs scope _ (t.CloseCurly ∷ rest) (t.CloseCurly ∷ symbols) behind s.0 s.1
 plain_code (kernel.Raises x) scope rest symbols behind e = ap (λ (k : ℕ). Leaf (stmt.Raise k)) (place_is scope x (stopped (use_fault scope x) _ _ e).0)
 
-opening_behind : (o : kernel.Opening) (scope : Scope) (rest : List Symbol) (behind : Option Fault) → checks.check_opening o scope rest behind ≡ None → behind ≡ None
+pub opening_behind : (o : kernel.Opening) (scope : Scope) (rest : List Symbol) (behind : Option Fault) → checks.check_opening o scope rest behind ≡ None → behind ≡ None
 opening_behind (kernel.Locals x xs) scope rest behind e = (locals_few (x ∷ []) xs (t.In ∷ rest) behind e (omega arith)).0
 opening_behind (kernel.ProcValue x xs) scope rest behind e = (formals_few [] xs (t.CloseCurly ∷ rest) behind (stopped (use_fault scope x) _ _ e).1 (omega arith)).0
 opening_behind (kernel.ProcNamed x xs) scope rest behind e = (formals_few [] xs (t.CloseCurly ∷ rest) behind (stopped (use_fault scope x) _ _ e).1 (omega arith)).0
 opening_behind kernel.Threads scope rest behind e = e
 opening_behind (kernel.ThreadsAt n) scope rest behind e = (stopped (site_fault n) _ _ e).1
 
-choice_behind : (h : kernel.Choice) (scope : Scope) (rest : List Symbol) (behind : Option Fault) → checks.check_choice h scope rest behind ≡ None → behind ≡ None
+pub choice_behind : (h : kernel.Choice) (scope : Scope) (rest : List Symbol) (behind : Option Fault) → checks.check_choice h scope rest behind ≡ None → behind ≡ None
 choice_behind (kernel.Ifs x) scope rest behind e = (stopped (use_fault scope x) _ _ e).1
 choice_behind (kernel.Cases x p) scope rest behind e = (pattern_limits p scope (t.Then ∷ rest) behind (stopped (use_fault scope x) _ _ e).1).reached
 
@@ -239,8 +238,6 @@ mutual
         ap (λ (c : Code). follow c (put_others (sequence_of (lift q) scope symbols) (places scope) (length scope))) k.1 ∙ follow_is (code_of s scope) q scope symbols (places scope) (length scope) ∙ ap (Then (code_of s scope)) m.1,
       )
 
-table_is : (q : kernel.Sequence) → checks.check q ≡ None → program_table q ≡ expanded_rows (program_of (lift q))
+-- the table of a program is that of what it is with sugar
+pub table_is : (q : kernel.Sequence) → checks.check q ≡ None → program_table q ≡ expanded_rows (program_of (lift q))
 table_is q e = sym (ap (λ (c : Codes). codes_rows c 0 0) (sequence_code q 200 [] (t.EndOfText ∷ []) (t.EndOfText ∷ []) None e).1 ∙ sequence_rows q [] 0)
-
-pub kernel_expands : KernelExpands
-kernel_expands symbols p r = (program_of (lift r.program), lifted symbols p r, r.table ∙ table_is r.program r.passes)

@@ -1,4 +1,3 @@
-pub mod Rows
 pub mod Programs
 pub mod PutFits
 pub mod WritingLaws
@@ -8,3 +7,5 @@ pub mod Expansions
 pub mod WorkedRows
 pub mod KernelCodes
 pub mod KernelExpansions
+pub mod KernelDepth
+pub mod TextLaws

@@ -1,6 +1,11 @@
 -- Where an expansion is too deep: at the first statement or value, in the order of the text, that stands for kernel
 -- statements of which one of its own, apart from those of its parts, has depth 201.
-use Rattle.std.specs.Prelude.{ℕ, ◌+◌, ◌-◌, nat_lt, if◌then◌else◌, Option, Some, None}
+use Rattle.std.specs.Prelude.{◌≡◌, ℕ, ◌+◌, ◌-◌, nat_lt, if◌then◌else◌, Option, Some, None, length, take, slice_index}
+use Rattle.kernel_syntax.specs.Surfaces.{SurfaceParts}
+use Rattle.kernel_syntax.specs.SugarView.{statements_in}
+use Rattle.oz_lexer.specs.Place.{place_of}
+use Rattle.oz_grammar.specs.declared.fault.TextFault.{TextFault}
+use Rattle.oz_grammar.specs.declared.fault.FaultKind.TheVariants as faults
 use Rattle.kernel_syntax.specs.Sugar.{Value, Variable, Integer, Atom, Record, Apply, Proc, Fun, If, Case, Brackets, Values, no_values, value_and, ValueClauses, no_clauses, clause_and, Statement, Skip, Tell, Acts, Local, Thread, IfStatement, CaseStatement, Try, Finally, Statements, no_statements, statement_and, Clauses, no_cases, case_and, left_of, by_kind, new_of, new_in, count_value_clauses, count_clauses}
 
 -- the first of two places
@@ -76,3 +81,10 @@ abbrev mutual
 -- the first place in a program, whose statements have depth 1
 abbrev pub deep : Statements → Option ℕ
 deep q = deep_statements q 1
+
+-- .. with its line and column
+pub record IsTooDeep (s : SurfaceParts) (f : TextFault) : Type 0 where
+  pub left : ℕ
+  pub first : deep (statements_in s.tree) ≡ Some left
+  pub kind : f.kind ≡ faults.Deep
+  pub place : (f.line, f.column) ≡ place_of (take (slice_index s.starts (length s.starts - left)) s.text)

@@ -5,3 +5,4 @@ pub mod CodeLimits
 pub mod Writing
 pub mod Rows
 pub mod Laws
+pub mod Texts

@@ -67,7 +67,7 @@ fn or_else(first: Option<usize>, other: Option<usize>) -> Option<usize>
 
 /// In a value that counts as one with so many symbols left, and whose first statement has this depth.
 #[cycle(deep)]
-#[tactic(auto, using(crate::proofs::Counts::record_of, crate::proofs::Counts::apply_of, crate::proofs::Counts::proc_of, crate::proofs::Counts::value_case_of, crate::proofs::Counts::value_clauses))]
+#[tactic(auto, using(kernel_syntax::proofs::SugarItems::record_of, kernel_syntax::proofs::SugarItems::apply_of, kernel_syntax::proofs::SugarItems::proc_of, kernel_syntax::proofs::SugarItems::value_case_of, kernel_syntax::proofs::SugarItems::value_clauses))]
 fn deep_value(value: &Value, left: usize, depth: usize) -> Option<usize>
     requires { depth ≤ 201 }
     ensures { result ≡ deep_value (value_of value.now) left depth }
@@ -222,7 +222,7 @@ fn deep_clauses(clauses: &[ValueClause], depth: usize) -> Option<usize>
 
 /// In a statement of this depth.
 #[cycle(deep)]
-#[tactic(auto, using(crate::proofs::Counts::acts_of, crate::proofs::Counts::local_of, crate::proofs::Counts::thread_of, crate::proofs::Counts::if_of, crate::proofs::Counts::case_of, crate::proofs::Counts::try_of, crate::proofs::Counts::finally_of, crate::proofs::Counts::clauses))]
+#[tactic(auto, using(kernel_syntax::proofs::SugarItems::acts_of, kernel_syntax::proofs::SugarItems::local_of, kernel_syntax::proofs::SugarItems::thread_of, kernel_syntax::proofs::SugarItems::if_of, kernel_syntax::proofs::SugarItems::case_of, kernel_syntax::proofs::SugarItems::try_of, kernel_syntax::proofs::SugarItems::finally_of, kernel_syntax::proofs::SugarItems::clauses))]
 fn deep_statement(statement: &Statement, depth: usize) -> Option<usize>
     requires { depth ≤ 201 }
     ensures { result ≡ deep_statement (statement_of statement.now) depth }

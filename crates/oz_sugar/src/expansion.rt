@@ -1,43 +1,67 @@
 //! What a program with sugar stands for.
 
-ghost use Rattle.std.specs.Prelude.{◌≡◌, ℕ, Some, None, Err, IfOk};
+ghost use Rattle.std.specs.Prelude.{◌≡◌, ◌-◌, ◌≤◌, ℕ, Some, None, Err, IfOk, length, slice_index};
+ghost use Rattle.tree_node.specs.Each.{Each};
 ghost use Rattle.kernel_syntax.specs.SugarView.{statements_in};
-ghost use Rattle.oz_sugar.specs.Put.{Expand};
-ghost use Rattle.oz_sugar.specs.Deep.{deep};
 ghost use Rattle.kernel_syntax.specs.SugarLimits.{FitsStatements};
+ghost use Rattle.oz_parser.specs.ParseAnswers.{IfFault};
+ghost use Rattle.oz_sugar.specs.Put.{Expand};
+ghost use Rattle.oz_sugar.specs.Deep.{deep, IsTooDeep};
 
 use crate::depth::deep;
 use crate::writer::Writer;
-use kernel_syntax::Program;
 use kernel_syntax::sugar::Statement;
-use std::alloc::Global;
+use kernel_syntax::{Program, Surface};
+use oz_lexer::line_and_column;
+use oz_parser::{FaultKind, ParseError, TextFault};
+use std::alloc::{AllocError, Global};
 
-/// Why a program with sugar stands for none of the kernel.
-#[derive(Clone, Copy, Debug, PartialEq, Eq)]
-pub enum ExpandError {
-    /// Statements would stand within 200 others: so many symbols are left where the first of them is.
-    Deep(usize),
-    /// Memory ran out.
-    Memory,
-}
-
-/// The program that a tree stands for.
+/// The program that a tree stands for, which is not too deep.
 #[tactic(auto, using(crate::proofs::Expansions::written_are_programs, crate::proofs::Expansions::written_expand))]
-pub fn expand(alloc: Global, tree: &[Statement]) -> Result<Program, ExpandError>
-    requires { FitsStatements (statements_in tree.now) 0 }
+fn program_of(alloc: Global, tree: &[Statement]) -> Result<Program, AllocError>
+    requires fits { FitsStatements (statements_in tree.now) 0 }
+    requires shallow { deep (statements_in tree.now) ≡ None }
     ensures program { IfOk result (λ p. Expand (statements_in tree.now) p) }
-    ensures fits { IfOk result (λ _. deep (statements_in tree.now) ≡ None) }
-    ensures refused { (left : ℕ) → result ≡ Err (ExpandError.Deep left) → deep (statements_in tree.now) ≡ Some left }
 {
-    if let Some(left) = deep(tree) {
-        return Err(ExpandError::Deep(left));
-    }
     let mut writer = Writer::new(alloc);
-    if writer.statements(tree).is_err() {
-        return Err(ExpandError::Memory);
-    }
+    writer.statements(tree)?;
     match Program::from_vec(alloc, writer.into_rows()) {
         Ok(program) => Ok(program),
-        Err(_) => Err(ExpandError::Memory),
+        Err(_) => Err(AllocError),
+    }
+}
+
+/// Where the symbol begins at which so many are left.
+fn start_of(starts: &[usize], left: usize) -> usize
+    ensures { result ≡ slice_index starts.now (length starts.now - left) }
+{
+    let at = starts.len().saturating_sub(left);
+    if at < starts.len() { starts[at] } else { 0 }
+}
+
+/// The fault of statements within 200 others, where so many symbols are left at the first of them.
+fn too_deep(surface: &Surface, left: usize) -> TextFault
+    requires { deep (statements_in surface.now.tree) ≡ Some left }
+    ensures { IsTooDeep surface.now result }
+{
+    let at = start_of(surface.starts(), left);
+    let (line, column) = line_and_column(surface.text(), at);
+    TextFault {
+        kind: FaultKind::Deep,
+        line,
+        column,
+    }
+}
+
+/// The program of the kernel that a program with sugar stands for (CTM section 2.6), or where that has a statement within 200
+/// others: at the first statement or value that stands for one. Time and memory grow with the tree.
+pub fn expand(alloc: Global, surface: &Surface) -> Result<Program, ParseError>
+    ensures program { IfOk result (λ p. Expand (statements_in surface.now.tree) p) }
+    ensures fits { IfOk result (λ _. deep (statements_in surface.now.tree) ≡ None) }
+    ensures refused { IfFault result (λ f. IsTooDeep surface.now f) }
+{
+    match deep(surface.tree()) {
+        Some(left) => Err(ParseError::Text(too_deep(surface, left))),
+        None => Ok(program_of(alloc, surface.tree())?),
     }
 }

@@ -151,7 +151,7 @@ pub fn copy_pattern(alloc: Global, pattern: &Pattern) -> Result<Pattern, AllocEr
     ensures { IfOk result (λ p. p ≡ pattern.now) }
 {
     match pattern {
-        Pattern::Int(value) => Ok(Pattern::Int(*value)),
+        Pattern::Int(value) => Ok(Pattern::Int(value.copy())),
         Pattern::Atom(text) => Ok(Pattern::Atom(text.copy()?)),
         Pattern::Rec(label, features) => Ok(Pattern::Rec(
             label.copy()?,

@@ -5,16 +5,26 @@ ghost use Rattle.kernel_syntax.specs.declared.stmt.Stmt.TheVariants as stmt;
 ghost use Rattle.kernel_syntax.specs.Scopes.{features_in};
 ghost use Rattle.oz_grammar.specs.Table.{code_at};
 ghost use Rattle.kernel_syntax.specs.Sugar.{Acts, Clauses};
-ghost use Rattle.kernel_syntax.specs.SugarView.{values_in, statement_of, statements_in, case_and_of, clauses_in};
-ghost use Rattle.oz_sugar.specs.Put.{declare, action_row};
-ghost use Rattle.oz_sugar.specs.Writing.{add, behind, with_numbered, write_one, write_statement, write_statements, write_others, write_cases, written};
+ghost use Rattle.kernel_syntax.specs.SugarView.{value_of, values_in, statement_of, statements_in, case_and_of, clauses_in};
+ghost use Rattle.oz_sugar.specs.Put.{place, declare, action_row};
+ghost use Rattle.oz_sugar.specs.Writing.{add, behind, with_numbered, write, write_one, write_statement, write_statements, write_others, write_cases, state_of, written};
 
 use super::Writer;
 use crate::leaves::action_row;
 use kernel_syntax::sugar::{Action, Clause, Statement, Value};
 use kernel_syntax::{Pattern, Stmt};
 use std::alloc::AllocError;
-use tree_node::CodeId;
+use tree_node::{CodeId, Integer};
+
+// The site of a thread, as a statement holds it.
+fn site_of(at: Option<i128>) -> Option<Integer>
+    ensures { result ≡ at }
+{
+    match at {
+        Some(site) => Some(Integer::new(site)),
+        None => None,
+    }
+}
 
 impl Writer {
     /// What stands for statements.
@@ -56,38 +66,27 @@ impl Writer {
     {
         match statement {
             Statement::Skip(_) => self.add(Stmt::Skip),
-            Statement::Tell(_, identifier, value) => {
-                let told = self.place(*identifier);
-                self.put(value, told)
-            }
+            Statement::Tell(_, identifier, value) => self.put_tell(*identifier, value),
             Statement::Apply(_, action, parts) => self.act(*action, parts.as_slice()),
             Statement::Local(_, count, body) => self.put_local(*count, body.as_slice()),
             Statement::Thread(_, at, body) => self.put_thread(*at, body.as_slice()),
             Statement::If(_, subject, yes, no) => {
                 let outer = self.around;
                 let tested = self.hold(subject)?;
-                let owner = self.rows.len();
-                self.open_if(tested)?;
-                self.statements(yes.as_slice())?;
-                self.set_second(owner)?;
+                self.put_yes(tested, yes.as_slice())?;
                 self.statements(no.as_slice())?;
                 self.around = outer;
                 Ok(())
             }
             Statement::Try(_, body, handler) => {
-                let owner = self.rows.len();
-                self.open_try()?;
-                self.statements(body.as_slice())?;
-                self.set_second(owner)?;
+                self.put_tried(body.as_slice())?;
                 self.put_handler(handler.as_slice())
             }
             Statement::Case(_, subject, clauses, no) => {
                 let outer = self.around;
                 let tested = self.hold(subject)?;
                 if clauses.is_empty() {
-                    self.add(Stmt::Skip)?;
-                    self.around = outer;
-                    return Ok(());
+                    return self.put_skip(outer);
                 }
                 self.cases(clauses.as_slice(), tested)?;
                 self.statements(no.as_slice())?;
@@ -100,12 +99,54 @@ impl Writer {
                 self.open_finally()?;
                 self.statements(last.as_slice())?;
                 let tried = self.rows.len();
-                self.open_try()?;
-                self.statements(body.as_slice())?;
-                self.set_second(tried)?;
+                self.put_tried(body.as_slice())?;
                 self.end_finally(outer, owner, tried)
             }
         }
+    }
+
+    /// A `skip`, behind which so many declarations stay.
+    fn put_skip(&mut self, outer: u32) -> Result<(), AllocError>
+        ensures rows { OnOk result (self.new ≡ state_of (add stmt.Skip self.old.rows) self.old.places outer) }
+        ensures grows { OnOk result (length self.old.rows ≤ length self.new.rows) }
+    {
+        self.add(Stmt::Skip)?;
+        self.around = outer;
+        Ok(())
+    }
+
+    /// What stands for a value that is told to an identifier.
+    #[cycle(writer)]
+    fn put_tell(&mut self, identifier: u32, value: &Value) -> Result<(), AllocError>
+        ensures rows { OnOk result (self.new ≡ written (write (value_of value.now) self.old.places self.old.around (place self.old.places identifier) self.old.rows) self.old) }
+        ensures grows { OnOk result (length self.old.rows ≤ length self.new.rows) }
+    {
+        let told = self.place(identifier);
+        self.put(value, told)
+    }
+
+    /// An `if` with its first branch, where the second is still to come.
+    #[cycle(writer)]
+    fn put_yes(&mut self, tested: u32, yes: &[Statement]) -> Result<(), AllocError>
+        ensures rows { OnOk result (self.new ≡ written (write_one (stmt.If tested (behind self.old.rows) (code_at 0)) (write_statements (statements_in yes.now) self.old.places self.old.around) self.old.rows) self.old) }
+        ensures grows { OnOk result (length self.old.rows ≤ length self.new.rows) }
+    {
+        let owner = self.rows.len();
+        self.open_if(tested)?;
+        self.statements(yes)?;
+        self.set_second(owner)
+    }
+
+    /// A `try` with its statements, where the handler is still to come.
+    #[cycle(writer)]
+    fn put_tried(&mut self, body: &[Statement]) -> Result<(), AllocError>
+        ensures rows { OnOk result (self.new ≡ written (write_one (stmt.Try (behind self.old.rows) self.old.around (code_at 0)) (write_statements (statements_in body.now) self.old.places self.old.around) self.old.rows) self.old) }
+        ensures grows { OnOk result (length self.old.rows + 1 ≤ length self.new.rows) }
+    {
+        let owner = self.rows.len();
+        self.open_try()?;
+        self.statements(body)?;
+        self.set_second(owner)
     }
 
     /// What stands for a statement with parts.
@@ -165,7 +206,10 @@ impl Writer {
     {
         self.room()?;
         let inside = self.behind();
-        self.add(Stmt::Thread { at, body: inside })?;
+        self.add(Stmt::Thread {
+            at: site_of(at),
+            body: inside,
+        })?;
         self.statements(body)
     }
 

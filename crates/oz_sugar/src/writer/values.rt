@@ -13,7 +13,7 @@ use crate::leaves::{operation_row, slot_places};
 use kernel_syntax::sugar::{Field, Operation, Statement, Value, ValueClause};
 use kernel_syntax::{Slots, Stmt};
 use std::alloc::AllocError;
-use tree_node::{CodeId, Feature, Text};
+use tree_node::{CodeId, Feature, Integer, Text};
 
 impl Writer {
     /// The position of a part, behind the rows before those of what goes on with it.
@@ -69,18 +69,12 @@ impl Writer {
     {
         self.room()?;
         match value {
-            Value::Variable(_, identifier) => {
-                let right = self.place(*identifier);
-                self.add(Stmt::TellVar { left: told, right })
-            }
+            Value::Variable(_, identifier) => self.tell_variable(*identifier, told),
             Value::Integer(_, number) => self.add(Stmt::TellInt {
                 left: told,
-                value: *number,
+                value: Integer::new(*number),
             }),
-            Value::Atom(_, text) => {
-                let text = text.copy()?;
-                self.add(Stmt::TellAtom { left: told, text })
-            }
+            Value::Atom(_, text) => self.tell_atom(text, told),
             Value::Record(_, label, slots, values) => {
                 self.put_record(label, slots.as_slice(), values.as_slice(), told)
             }
@@ -112,6 +106,24 @@ impl Writer {
                 Ok(())
             }
         }
+    }
+
+    /// What stands for an identifier of the text that is told to a position.
+    fn tell_variable(&mut self, identifier: u32, told: u32) -> Result<(), AllocError>
+        ensures rows { OnOk result (self.new ≡ written (add (stmt.TellVar told (place self.old.places identifier)) self.old.rows) self.old) }
+        ensures grows { OnOk result (length self.old.rows ≤ length self.new.rows) }
+    {
+        let right = self.place(identifier);
+        self.add(Stmt::TellVar { left: told, right })
+    }
+
+    /// What stands for an atom.
+    fn tell_atom(&mut self, text: &Text, told: u32) -> Result<(), AllocError>
+        ensures rows { OnOk result (self.new ≡ written (add (stmt.TellAtom told text.now) self.old.rows) self.old) }
+        ensures grows { OnOk result (length self.old.rows ≤ length self.new.rows) }
+    {
+        let text = text.copy()?;
+        self.add(Stmt::TellAtom { left: told, text })
     }
 
     /// What stands for a record.

@@ -3,7 +3,7 @@ use Rattle.kernel_syntax.specs.declared.sugar.Clause.{the_lemmas}
 use Rattle.kernel_syntax.specs.Sugar as sugar
 use Rattle.kernel_syntax.specs.SugarView.{value_of, values_in, value_clauses_in, statement_of, statements_in, clauses_in, case_and_of}
 use Rattle.oz_sugar.specs.Deep.{or_else, deep_statements, deep_cases}
-use Rattle.oz_sugar.proofs.Counts.{record_of, apply_of, proc_of, value_case_of, value_clauses, acts_of, local_of, thread_of, if_of, case_of, try_of, finally_of, clauses, branch_of}
+use Rattle.kernel_syntax.proofs.SugarItems.{record_of, apply_of, proc_of, value_case_of, value_clauses, acts_of, local_of, thread_of, if_of, case_of, try_of, finally_of, clauses, branch_of}
 use Rattle.oz_sugar.proofs.depth.+deep.Goals as goal
 
 pub deep_value-returns-in-Record : goal.deep_value-returns-in-Record

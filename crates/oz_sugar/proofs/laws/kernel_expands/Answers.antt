@@ -1,4 +1,4 @@
-use Rattle.oz_sugar.proofs.KernelExpansions as proved
+use Rattle.oz_sugar.proofs.KernelDepth as proved
 use Rattle.oz_sugar.proofs.laws.kernel_expands.Goals as goal
 
 pub returns : goal.returns

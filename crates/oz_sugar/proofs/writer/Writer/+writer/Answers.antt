@@ -5,7 +5,8 @@ use Rattle.kernel_syntax.specs.Sugar as sugar
 use Rattle.kernel_syntax.specs.Sugar.{Clauses}
 use Rattle.oz_sugar.specs.Writing.{with_cases}
 use Rattle.kernel_syntax.specs.SugarView.{value_of, values_in, value_clauses_in, statement_of, statements_in, clauses_in, case_and_of}
-use Rattle.oz_sugar.proofs.Counts.{record_of, apply_of, proc_of, value_case_of, acts_of, local_of, thread_of, if_of, case_of, try_of, finally_of, branch_of, some_cases, no_clauses}
+use Rattle.kernel_syntax.proofs.SugarItems.{record_of, apply_of, proc_of, value_case_of, acts_of, local_of, thread_of, if_of, case_of, try_of, finally_of, branch_of}
+use Rattle.oz_sugar.proofs.Counts.{some_cases, no_clauses}
 use Rattle.oz_sugar.proofs.Declaring.{sequence_law}
 use Rattle.oz_sugar.proofs.writer.Writer.+writer.Goals as goal
 
@@ -44,13 +45,13 @@ statement-returns-in-Thread-clause-rows t c =
     let e : statement_of c.args.statement.now ≡ sugar.Thread c.in-Thread.field-0 c.in-Thread.at (statements_in c.in-Thread.body.items) = ap statement_of c.in-Thread.is ∙ thread_of _ _ _ in
     search (rules, e)
 
-pub statement-returns-in_ok-statements-in-If-2-clause-rows : goal.statement-returns-in_ok-statements-in-If-2-clause-rows
-statement-returns-in_ok-statements-in-If-2-clause-rows t c =
+pub statement-returns-in_ok-statements-in-If-clause-rows : goal.statement-returns-in_ok-statements-in-If-clause-rows
+statement-returns-in_ok-statements-in-If-clause-rows t c =
     let e : statement_of c.args.statement.now ≡ sugar.IfStatement c.in-If.field-0 (value_of c.in-If.subject) (statements_in c.in-If.yes.items) (statements_in c.in-If.no.items) = ap statement_of c.in-If.is ∙ if_of _ _ _ _ in
     search (rules, e)
 
-pub statement-returns-in_ok-set_second-in-Try-clause-rows : goal.statement-returns-in_ok-set_second-in-Try-clause-rows
-statement-returns-in_ok-set_second-in-Try-clause-rows t c =
+pub statement-returns-in_ok-put_tried-in-Try-clause-rows : goal.statement-returns-in_ok-put_tried-in-Try-clause-rows
+statement-returns-in_ok-put_tried-in-Try-clause-rows t c =
     let e : statement_of c.args.statement.now ≡ sugar.Try c.in-Try.field-0 (statements_in c.in-Try.body.items) (statements_in c.in-Try.handler.items) = ap statement_of c.in-Try.is ∙ try_of _ _ _ in
     search (rules, e)
 
@@ -59,8 +60,8 @@ statements-returns-in-len2-up-clause-rows t c =
     let e = sequence_law c.args.statements.now c.args.self.now.places c.args.self.now.around c.args.self.now.rows c.in-len2-up.len_at_least in
     search (rules, e)
 
-pub statement-returns-in_ok-set_second-in-Finally-clause-rows : goal.statement-returns-in_ok-set_second-in-Finally-clause-rows
-statement-returns-in_ok-set_second-in-Finally-clause-rows t c =
+pub statement-returns-in_ok-put_tried-in-Finally-clause-rows : goal.statement-returns-in_ok-put_tried-in-Finally-clause-rows
+statement-returns-in_ok-put_tried-in-Finally-clause-rows t c =
     let e : statement_of c.args.statement.now ≡ sugar.Finally c.in-Finally.field-0 (statements_in c.in-Finally.body.items) (statements_in c.in-Finally.last.items) = ap statement_of c.in-Finally.is ∙ finally_of _ _ _ in
     search (rules, e)
 
