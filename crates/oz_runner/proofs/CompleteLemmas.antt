@@ -5,8 +5,8 @@ use Rattle.std.proofs.lemmas.Slice.Eq.{bytes_eq-Decides}
 use Rattle.std.proofs.lemmas.List.{append-nil}
 use Rattle.std.specs.Io.KnownBytes.{Consumes, IsAtEnd}
 use Rattle.std.specs.Str.{IsUtf8}
-use Rattle.oz_grammar.specs.Laws.{TextsNeverHaveBoth}
-use Rattle.oz_grammar.specs.Reads.{Reads}
+use Rattle.oz_grammar.specs.Laws.{AreOneOfBoth}
+use Rattle.oz_sugar.specs.Texts.{Reads, FaultOf}
 use Rattle.oz_show.specs.declared.status.Status.{Status}
 use Rattle.oz_show.specs.declared.status.Status.TheVariants.{Quiescent, Usage, Refused, NotUtf8, TooLong, StepLimit, MessageLimit, ReadFault, WriteFault, Memory}
 use Rattle.oz_words.specs.Words.{IsActionText}
@@ -76,23 +76,23 @@ equal_text seen good options text says is_text =
     run_told good.options.action seen.source good.text text good.told
     (subst (λ (a : Action). IsTextOf a seen.source text) (sym (same_action seen good options says)) is_text)
 
-pub complete : (seen : OzCall) (made : RunOutput) (status : Status) → TextsNeverHaveBoth → Cause seen made status → IsGood seen → IsDone status
-complete seen made (Quiescent ended waiting) never cause good = tt
-complete seen made (StepLimit site) never cause good = tt
-complete seen made MessageLimit never cause good = tt
-complete seen made Memory never cause good = tt
-complete seen made Usage never (refused, unread, nothing) good = refused good.says.0
-complete seen made WriteFault never failed good = good.wrote failed
-complete seen made ReadFault never (wants, failed, gave, nothing) good = good.read failed
-complete seen made TooLong never ((options, says, reads), steady, (bytes, given, past), nothing) good =
+pub complete : (seen : OzCall) (made : RunOutput) (status : Status) → AreOneOfBoth Reads FaultOf → Cause seen made status → IsGood seen → IsDone status
+complete seen made (Quiescent ended waiting) texts cause good = tt
+complete seen made (StepLimit site) texts cause good = tt
+complete seen made MessageLimit texts cause good = tt
+complete seen made Memory texts cause good = tt
+complete seen made Usage texts (refused, unread, nothing) good = refused good.says.0
+complete seen made WriteFault texts failed good = good.wrote failed
+complete seen made ReadFault texts (wants, failed, gave, nothing) good = good.read failed
+complete seen made TooLong texts ((options, says, reads), steady, (bytes, given, past), nothing) good =
     let told = source_told good.options.action options.action seen.source good.text (same_action seen good options says) reads good.told in
     let whole : Consumes (Some good.text) seen.source.bytes_after bytes =
     subst (λ (o : Option (List ℕ)). Consumes o seen.source.bytes_after bytes) told given in
     let most = no_more good.text bytes seen.source.bytes_after whole in
     let fits = good.fits in
     absurd (omega arith)
-complete seen made (NotUtf8 at) never (((options, says, reads), (text, gave, (bad, up_to))), nothing) good =
+complete seen made (NotUtf8 at) texts (((options, says, reads), (text, gave, (bad, up_to))), nothing) good =
     let told = source_told good.options.action options.action seen.source good.text (same_action seen good options says) reads good.told in
     bad (subst IsUtf8 (read_told seen.source good.text text told gave) good.utf8)
-complete seen made (Refused fault) never ((options, says, (text, is_text, (utf8, applies))), nothing) good =
-    never text good.program fault (subst (λ (t : List ℕ). Reads t good.program) (equal_text seen good options text says is_text) good.reads) applies
+complete seen made (Refused fault) texts ((options, says, (text, is_text, (utf8, applies))), nothing) good =
+    texts.never_both text good.program fault (subst (λ (t : List ℕ). Reads t good.program) (equal_text seen good options text says is_text) good.reads) applies

@@ -4,3 +4,5 @@ pub mod MachineLemmas
 pub mod Pieces
 pub mod CauseLemmas
 pub mod CompleteLemmas
+pub mod BesideLemmas
+pub mod WordLemmas

@@ -1,10 +1,10 @@
 -- What a run over sites comes to, by what it left.
-use Rattle.std.proofs.Common.{◌≡◌, ◌∙◌, ◌≤◌, sym, subst, refl, not, ℕ, List, [], ◌∷◌, length, Bool, true, false, Some, None, inl, inr}
+use Rattle.std.proofs.Common.{◌≡◌, ◌∙◌, sym, subst, refl, not, ℕ, List, [], ◌∷◌, length, Bool, true, false, Some, None, inl, inr}
 use Rattle.std.specs.Prelude.{◌&&◌, nat_lt, nat_le, if◌then◌else◌}
 use Rattle.tree_node.specs.State.{State}
 use Rattle.tree_node.specs.declared.pick.Pick.{Pick}
 use Rattle.oz_model.specs.Laws.{RunsAreDetermined, CellsAreChains}
-use Rattle.oz_model.specs.Run.{Run, start}
+use Rattle.oz_model.specs.Run.{Run}
 use Rattle.kernel_syntax.specs.declared.stmt.Stmt.{Stmt}
 use Rattle.site_message.specs.declared.reason.Reason.{Reason}
 use Rattle.site_message.specs.declared.reason.Reason.TheVariants as reason
@@ -18,8 +18,6 @@ use Rattle.site_model.specs.Site.{Site}
 use Rattle.world_model.specs.Matches.{EquationsMatch}
 use Rattle.world_model.specs.Simulated.{IsSimulated, last_ended, last_waiting}
 use Rattle.world_model.specs.World.{eqs}
-use Rattle.world_core.specs.Laws.{AreMessagesFew}
-use Rattle.world_places.specs.Places.{ThreadsStayHome}
 use Rattle.world_runs.specs.Distributed.{DistributedRun}
 use Rattle.plain_run.specs.Progress.{HasReason}
 use Rattle.plain_run.specs.Simulated.{HasMachineRun}
@@ -32,7 +30,6 @@ use Rattle.oz_show.specs.Status.{HasLine}
 use Rattle.oz_show.specs.declared.status.Status.{Status}
 use Rattle.oz_show.specs.declared.status.Status.TheVariants.{Quiescent, Usage, Refused, NotUtf8, TooLong, StepLimit, MessageLimit, ReadFault, WriteFault, Memory}
 use Rattle.oz_runner.specs.OzCall.{RunOutput, run_output_of}
-use Rattle.oz_runner.specs.Messages.{most_messages}
 use Rattle.oz_runner.specs.Run.{IsStatusOfRun, HasEnded, IsMadeByMachine, IsMadeBySites, IsQuiet, IsRun, OfSitesOrMachine, SitesAreSilent, StopsFor, limits_of}
 use Rattle.oz_runner.specs.Ends.{IsOverSites, status_of}
 use Rattle.world_model.specs.Schedule.{lines_in, schedule, sum_to}
@@ -67,9 +64,7 @@ plain_limits options = record { sites = options.sites; steps = options.steps; me
 pub record Leaves (p : List Stmt) (options : Options) (out : RunOut) : Type 0 where
   pub run : HasMachineRun p options.sites out.journal
   pub rows : DistributedRun p options.sites bundle_limit out.journal run.0
-  pub homes : ThreadsStayHome out.journal
   pub picks : out.schedule ≡ schedule out.journal
-  pub few : AreMessagesFew p options.sites out.journal
   pub reason : HasReason (plain_limits options) out.journal out.reason
   pub went : HasNoEarlierEnd (limits_of options) out.journal
   pub within : AreWithin (limits_of options) out.journal
@@ -82,15 +77,6 @@ over_sites : (a : Action) (OfSites OfMachine : Type 0) → IsOverSites a → OfS
 over_sites action.Run OfSites OfMachine over holds = holds
 over_sites (action.Gen size) OfSites OfMachine over holds = holds
 over_sites action.Central OfSites OfMachine over holds = absurd over
-
--- the bound on messages, in the state that the picks lead to
-few_in : (p : List Stmt) (n : ℕ) (j : List Turn) (picks : List Pick) (s : State) → RunsAreDetermined → picks ≡ schedule j → Run p (schedule j) s
-    → AreMessagesFew p n j → length (sent_of j) ≤ most_messages p n picks s
-few_in p n j picks s one is run few =
-    let all = few.all in
-    let same : all.0 ≡ s = one p (start p) (schedule j) all.0 s all.1 run in
-    let within : length (sent_of j) ≤ most_messages p n (schedule j) s = subst (λ (t : State). length (sent_of j) ≤ most_messages p n (schedule j) t) same all.2 in
-    subst (λ (ks : List Pick). length (sent_of j) ≤ most_messages p n ks s) (sym is) within
 
 module _ (p : List Stmt) (options : Options) (out : RunOut) (is : IsOverSites options.action) (tells : QuietTells) (one : RunsAreDetermined) (chain : CellsAreChains) (left : Leaves p options out) where
   abbrev states : ℕ → Site
@@ -119,8 +105,6 @@ module _ (p : List Stmt) (options : Options) (out : RunOut) (is : IsOverSites op
     known = λ i e there.
         let central = knowledge.known i e there in
         (central, knowledge.owned e.0 e.1 central);
-    homes = left.homes;
-    few = few_in p options.sites out.journal out.schedule s one left.picks simulated.run left.few;
   }
 
   run_by_picks : Run p out.schedule s

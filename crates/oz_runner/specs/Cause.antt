@@ -5,7 +5,7 @@ use Rattle.std.specs.Io.KnownBytes.{Consumes, IsAtEnd}
 use Rattle.oz_base.specs.Streams.{HasRisen}
 use Rattle.oz_base.specs.Reading.{GivesFront}
 use Rattle.kernel_syntax.specs.declared.stmt.Stmt.{Stmt}
-use Rattle.oz_grammar.specs.Reads.{Reads, FaultOf}
+use Rattle.oz_sugar.specs.Texts.{Reads, FaultOf}
 use Rattle.oz_words.specs.Words.{InRange, ReadsWords}
 use Rattle.large_run.specs.Text.{large_text}
 use Rattle.oz_words.specs.declared.options.Action.{Action}
@@ -13,7 +13,7 @@ use Rattle.oz_words.specs.declared.options.Action.TheVariants as action
 use Rattle.oz_words.specs.declared.options.Options.{Options}
 use Rattle.oz_words.specs.declared.options.WordsError.TheVariants as words_error
 use Rattle.oz_show.specs.declared.status.Status.{Status}
-use Rattle.oz_show.specs.declared.status.Status.TheVariants.{Quiescent, Usage, Refused, NotUtf8, TooLong, StepLimit, MessageLimit, ReadFault, WriteFault, Memory}
+use Rattle.oz_show.specs.declared.status.Status.TheVariants.{Usage, Refused, NotUtf8, TooLong, ReadFault, WriteFault, Memory}
 use Rattle.oz_runner.specs.OzCall.{Stream, OzCall, RunOutput}
 use Rattle.oz_runner.specs.Run.{IsStatusOfRun}
 
@@ -44,15 +44,13 @@ IsTextOfSource s text =
 
 -- the text that is run: what the source gave, or with `gen` the large text of the size, and the source is not touched
 abbrev pub IsTextOf : Action → Stream → List ℕ → Type 0
-IsTextOf action.Run source text = IsTextOfSource source text
-IsTextOf action.Central source text = IsTextOfSource source text
 IsTextOf (action.Gen size) source text = (text ≡ large_text size) × IsUntouched source
+IsTextOf _ source text = IsTextOfSource source text
 
 -- the text is that of the source
 abbrev pub ReadsSource : Action → Type 0
-ReadsSource action.Run = Unit {0}
-ReadsSource action.Central = Unit {0}
 ReadsSource (action.Gen size) = ⊥
+ReadsSource _ = Unit {0}
 
 -- nothing ran: there is no turn, no step and no line
 abbrev pub NothingRan : RunOutput → Type 0
@@ -65,10 +63,6 @@ HasOptions seen options = ReadsWords seen.words (Ok options)
 -- the words are taken, and by them the text is that of the source
 abbrev pub IsSourceWanted : OzCall → Type 0
 IsSourceWanted seen = (options : Options) × HasOptions seen options × ReadsSource options.action
-
--- and the source gave a text of which this holds
-abbrev pub HasSourceText : OzCall → (List ℕ → Type 0) → Type 0
-HasSourceText seen Holds = IsSourceWanted seen × ((text : List ℕ) × IsTextOfSource seen.source text × Holds text)
 
 -- the words are taken, and this holds of the text that is run
 abbrev pub HasRunText : OzCall → (List ℕ → Type 0) → Type 0
@@ -103,10 +97,9 @@ abbrev pub Cause : OzCall → RunOutput → Status → Type 0
 Cause seen made Usage = ReadsWords seen.words (Err words_error.Usage) × IsUntouched seen.source × NothingRan made
 Cause seen made ReadFault = IsSourceWanted seen × HasFault seen.source × SourceGivesFront seen.source (λ n. n ≤ text_limit) × NothingRan made
 Cause seen made TooLong = IsSourceWanted seen × HasNoFault seen.source × SourceGivesFront seen.source (λ n. text_limit < n) × NothingRan made
-Cause seen made (NotUtf8 at) = HasSourceText seen (λ text. (IsUtf8 text → ⊥) × IsValidUpTo text at) × NothingRan made
+Cause seen made (NotUtf8 at) =
+    (IsSourceWanted seen × ((text : List ℕ) × IsTextOfSource seen.source text × ((IsUtf8 text → ⊥) × IsValidUpTo text at))) × NothingRan made
 Cause seen made (Refused fault) = HasRunText seen (λ text. IsUtf8 text × FaultOf text fault) × NothingRan made
-Cause seen made (Quiescent ended waiting) = HasRunStatus seen made (Quiescent ended waiting)
-Cause seen made (StepLimit site) = HasRunStatus seen made (StepLimit site)
-Cause seen made MessageLimit = HasRunStatus seen made MessageLimit
 Cause seen made WriteFault = HasFault seen.sink
 Cause seen made Memory = IsStoppedEarly seen made ⊎ HasRunStatus seen made Memory
+Cause seen made status = HasRunStatus seen made status

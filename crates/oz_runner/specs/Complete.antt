@@ -2,21 +2,20 @@
 use Rattle.std.specs.Prelude.{◌≡◌, ◌≤◌, ℕ, List, length, Some}
 use Rattle.std.specs.Str.{IsUtf8}
 use Rattle.kernel_syntax.specs.declared.stmt.Stmt.{Stmt}
-use Rattle.oz_grammar.specs.Reads.{Reads}
+use Rattle.oz_sugar.specs.Texts.{Reads}
 use Rattle.large_run.specs.Text.{large_text}
 use Rattle.oz_words.specs.declared.options.Action.{Action}
 use Rattle.oz_words.specs.declared.options.Action.TheVariants as action
 use Rattle.oz_words.specs.declared.options.Options.{Options}
 use Rattle.oz_show.specs.declared.status.Status.{Status}
-use Rattle.oz_show.specs.declared.status.Status.TheVariants.{Quiescent, Usage, Refused, NotUtf8, TooLong, StepLimit, MessageLimit, ReadFault, WriteFault, Memory}
+use Rattle.oz_show.specs.declared.status.Status.TheVariants.{Quiescent, StepLimit, MessageLimit, Memory}
 use Rattle.oz_runner.specs.OzCall.{OzCall, Stream}
 use Rattle.oz_runner.specs.Cause.{HasFault, HasOptions, text_limit}
 
 -- the text that is to be run: what the source has, where it tells that, or the large text of the size
 abbrev pub HasText : Action → Stream → List ℕ → Type 0
-HasText action.Run source text = source.bytes_before ≡ Some text
-HasText action.Central source text = source.bytes_before ≡ Some text
 HasText (action.Gen size) source text = text ≡ large_text size
+HasText _ source text = source.bytes_before ≡ Some text
 
 -- the words are taken, the text is told, short enough and UTF-8, it reads a program, and there was no fault
 pub record IsGood (seen : OzCall) : Type 0 where
@@ -37,9 +36,4 @@ IsDone (Quiescent ended waiting) = Unit {0}
 IsDone (StepLimit site) = Unit {0}
 IsDone MessageLimit = Unit {0}
 IsDone Memory = Unit {0}
-IsDone Usage = ⊥
-IsDone (Refused fault) = ⊥
-IsDone (NotUtf8 at) = ⊥
-IsDone TooLong = ⊥
-IsDone ReadFault = ⊥
-IsDone WriteFault = ⊥
+IsDone _ = ⊥

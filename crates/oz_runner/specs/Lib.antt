@@ -1,4 +1,5 @@
 pub mod OzCall
+pub mod Words
 pub mod Messages
 pub mod Run
 pub mod Cause
@@ -8,4 +9,5 @@ pub mod Complete
 pub mod Ends
 pub mod Bounds
 pub mod Machine
+pub mod Besides
 pub mod Exit

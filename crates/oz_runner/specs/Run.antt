@@ -7,7 +7,7 @@ use Rattle.tree_node.specs.Store.{Equation}
 use Rattle.kernel_syntax.specs.declared.stmt.Stmt.{Stmt}
 use Rattle.oz_model.specs.Laws.{IsChainOf}
 use Rattle.oz_model.specs.Run.{Run, AtRest, exchanges, contents_given}
-use Rattle.site_message.specs.Journal.{Limits, AreWithin, end_of, is_idle, sent_of, travelling}
+use Rattle.site_message.specs.Journal.{Limits, AreWithin, end_of, is_idle, travelling}
 use Rattle.site_message.specs.EarlierEnd.{HasNoEarlierEnd}
 use Rattle.site_message.specs.declared.reason.Reason.{Reason}
 use Rattle.site_message.specs.declared.turn.Turn.{Turn}
@@ -15,30 +15,26 @@ use Rattle.site_message.specs.declared.reason.Reason.TheVariants.{Quiet, Steps, 
 use Rattle.site_model.specs.Bundle.{bundle_limit}
 use Rattle.site_model.specs.Site.{Site}
 use Rattle.world_model.specs.Schedule.{schedule, lines_in}
-use Rattle.world_places.specs.Places.{ThreadsStayHome}
 use Rattle.world_runs.specs.Distributed.{DistributedRun}
 use Rattle.oz_words.specs.declared.options.Action.{Action}
 use Rattle.oz_words.specs.declared.options.Action.TheVariants as action
 use Rattle.oz_words.specs.declared.options.Options.{Options}
 use Rattle.oz_show.specs.declared.status.Status.{Status}
 use Rattle.oz_show.specs.declared.status.Status.TheVariants.{Quiescent, StepLimit, MessageLimit, Memory}
-use Rattle.oz_runner.specs.Messages.{most_messages}
 use Rattle.oz_runner.specs.OzCall.{RunOutput}
 
 -- `run` and `gen` run the program over sites, `central` on the machine alone: the first is said of sites, the second of the machine
 abbrev pub OfSitesOrMachine : Action → Type 0 → Type 0 → Type 0
-OfSitesOrMachine action.Run OfSites OfMachine = OfSites
-OfSitesOrMachine (action.Gen size) OfSites OfMachine = OfSites
 OfSitesOrMachine action.Central OfSites OfMachine = OfMachine
+OfSitesOrMachine _ OfSites OfMachine = OfSites
 
 -- the limits that the words set for the sites
 abbrev pub limits_of : Options → Limits
 limits_of options = record { sites = options.sites; steps = options.steps; messages = options.messages }
 
 -- what the sites made: the journal is one of the program on that many, and leads to these states of them; no turn but the last
--- ended it, and no site made more own steps than the words say; the schedule has its picks, and the lines are its; what a site knows is an equation of the machine's, which the owner
--- of its variable has; each own step of a thread is of the site where the thread was placed; and no more messages were sent than
--- the schedule's threads, variables and exchanges allow
+-- ended it, and no site made more own steps than the words say; the schedule has its picks, and the lines are its; what a site
+-- knows is an equation of the machine's, which the owner of its variable has
 pub record IsMadeBySites (p : List Stmt) (options : Options) (made : RunOutput) (s : State) : Type 0 where
   pub states : ℕ → Site
   pub run : DistributedRun p options.sites bundle_limit made.journal states
@@ -47,8 +43,6 @@ pub record IsMadeBySites (p : List Stmt) (options : Options) (made : RunOutput) 
   pub picks : made.schedule ≡ schedule made.journal
   pub lines : made.lines ≡ lines_in made.journal
   pub known : (i : ℕ) (e : Equation) → Contains (states i).equations e → Contains s.equations e × Contains (states e.0.site).equations e
-  pub homes : ThreadsStayHome made.journal
-  pub few : length (sent_of made.journal) ≤ most_messages p options.sites made.schedule s
 
 -- what the machine made alone: there is no journal, and the schedule has at most as many steps as the words say
 abbrev pub IsMadeByMachine : Options → RunOutput → Type 0

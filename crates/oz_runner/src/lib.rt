@@ -11,10 +11,10 @@
 //! a front of what was due. `oz` (`complete`): with words that are taken, a text that reads a program, and no fault, the run goes
 //! to its end or to a limit. `run_program`: the journal that workers, or the plain rounds, leave is a run of the program on so many
 //! sites, with its schedule and totals, ends by the reason that is told, and has no turn past the limit of own steps. `start`: the program ends
-//! with the number of the status that a call of `oz` answers; where no memory is left for the words it writes `out of memory`.
+//! with the number of the status that a call of `oz` with the words answers; where no memory is left for the words it writes `out of memory`.
 //!
-//! **Stands on** `oz_words` for the words, `oz_base` for the text and the bytes written, `oz_parser` and `oz_grammar` for what a
-//! text reads, `large_run` for the text of `gen`, `site_worker`, `message_book` and `plain_run` for a run over sites, `world_runs`
+//! **Stands on** `oz_words` for the words, `oz_base` for the text and the bytes written, `oz_sugar` and `oz_parser` for the program
+//! that a text stands for, `large_run` for the text of `gen`, `site_worker`, `message_book` and `plain_run` for a run over sites, `world_runs`
 //! and `world_places` for what such a run is and where its threads stay, `central_machine` and `oz_model` for a run of the machine
 //! alone, and `oz_show` for the end line.
 //!
@@ -32,6 +32,7 @@ mod program;
 mod report;
 mod run;
 mod system;
+mod words;
 mod work;
 mod write;
 
@@ -43,3 +44,4 @@ pub use program::run_program;
 pub use report::Report;
 pub use site_worker::{Gate, OpenGate, RunLimits};
 pub use system::start;
+pub use words::{NoWords, StoredWords, SystemWords, Words};

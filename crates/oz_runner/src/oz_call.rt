@@ -4,6 +4,8 @@ ghost use Rattle.std.specs.Prelude.{◌≡◌, ◌<◌, ◌++◌, List, [], ℕ,
 ghost use Rattle.oz_model.specs.Output.{output, pieces_of};
 ghost use Rattle.oz_show.specs.Status.{end_line, HasLine};
 ghost use Rattle.oz_show.specs.declared.status.Status.TheVariants.{Memory};
+ghost use Rattle.world_places.specs.Places.{ThreadsStayHome};
+ghost use Rattle.oz_runner.specs.Besides.{AreMessagesBounded, AreTokensServed};
 ghost use Rattle.oz_runner.specs.OzCall.{stream_of, oz_call_of, run_output_of};
 ghost use Rattle.oz_runner.specs.Complete.{IsGood, IsDone};
 ghost use Rattle.oz_runner.specs.Ends.{journal_of, lines_of};
@@ -14,13 +16,17 @@ use crate::work::{RunLines, Work, do_work, work_without_run};
 use crate::write::write_all;
 use crate::{Report, Status};
 use oz_base::{Sink, Source};
-use oz_grammar::texts_have_one_of_both;
 use oz_show::{fixed_piece, last_line};
+use oz_sugar::texts_have_one_of_both;
 use site_message::Journal;
 use site_worker::Gate;
 use std::alloc::Global;
 use std::sync::Wait;
 use std::thread::Threads;
+use world_places::threads_stay_home;
+use world_requests::requests_are_served;
+use world_runs::runs_take_rows;
+use world_simulation::messages_are_few;
 
 /// Reads the words and a text, runs it, and writes its lines and the end line. `words` are the program's name and the
 /// words after it. Workers call the gate before each turn of a site.
@@ -39,8 +45,19 @@ pub fn oz<S: Source, K: Sink, G: Gate + Sync, R: Threads + Wait + Sync>(
     ensures complete { IsGood
         (oz_call_of (map string_bytes words.now) (stream_of S.left S.faults source.old source.new) (stream_of K.taken K.faults sink.old sink.new))
         → IsDone result.status }
+    ensures homes { ThreadsStayHome result.journal }
+    ensures few { AreMessagesBounded
+        (oz_call_of (map string_bytes words.now) (stream_of S.left S.faults source.old source.new) (stream_of K.taken K.faults sink.old sink.new))
+        result.journal result.schedule }
+    ensures served { AreTokensServed
+        (oz_call_of (map string_bytes words.now) (stream_of S.left S.faults source.old source.new) (stream_of K.taken K.faults sink.old sink.new))
+        result.journal }
 {
     texts_have_one_of_both();
+    runs_take_rows();
+    threads_stay_home();
+    messages_are_few();
+    requests_are_served();
     let work = do_work(rt, alloc, words, source, gate);
     report(alloc, sink, work)
 }

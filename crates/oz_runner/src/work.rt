@@ -12,7 +12,8 @@ use crate::Status;
 use crate::run::run;
 use large_run::large_text;
 use oz_base::{ReadError, Source, read_text};
-use oz_parser::{ParseError, parse};
+use oz_parser::ParseError;
+use oz_sugar::program_of_text;
 use oz_words::{Action, Options, WordsError, read_options};
 use site_message::{Journal, Schedule};
 use site_worker::Gate;
@@ -150,7 +151,7 @@ fn work_on_text<G: Gate + Sync, R: Threads + Wait + Sync>(
     ensures cause { (seen : OzCall) → HasOptions seen options → IsTextOf options.action seen.source text.now → Cause seen (output_of_work result) result.status }
     ensures line { HasLine result.status }
 {
-    match parse(alloc, text) {
+    match program_of_text(alloc, text) {
         Ok(program) => run(rt, alloc, options, &program, gate),
         Err(ParseError::Text(fault)) => work_without_run(alloc, Status::Refused(fault)),
         Err(ParseError::Memory) => work_without_run(alloc, Status::Memory),

@@ -167,7 +167,7 @@ stepped s t e = inl (omega arith)
 waits_var : (s : Site) (th : ThreadName) (st : Stack) (x : VarName) → thread_state s th ≡ Some (st, Runs) → Counts s (with_waiting th st x s) 1
 waits_var s th st x at = inr (refl, fewer_run s (with_waiting th st x s) (waits_more s.threads th st st (mode.Waits x) refl at))
 
--- and one for one of several
+-- and one for any of several
 waits_several : (s : Site) (th : ThreadName) (st : Stack) (xs : List VarName) → thread_state s th ≡ Some (st, Runs) → Counts s (with_waiting_any th st xs s) 1
 waits_several s th st xs at = inr (refl, fewer_run s (with_waiting_any th st xs s) (waits_more s.threads th st st (mode.WaitsAny xs) refl at))
 
@@ -204,7 +204,7 @@ unit_counts p n limit th s d (st, at, unit) = by (stack_need p s.equations st) u
 
     by : (need : Need) → IsUnitFor p n limit s th st need d → Counts s d.site 1
     by (Waits x) (z, root, is) = subst (λ (y : Transition). Counts s y.site 1) (sym is) (waits_var s th st z at)
-    by (WaitsAny q) (xs, hangs, is) = subst (λ (y : Transition). Counts s y.site 1) (sym is) (waits_several s th st xs at)
+    by (WaitsAny q) (xs, open_on, is) = subst (λ (y : Transition). Counts s y.site 1) (sym is) (waits_several s th st xs at)
     by (Binds a b) (u, t, root, is) = subst (λ (y : Transition). Counts s y.site 1) (sym is) (bound u t (u.site == s.records.site))
     by (Takes kinds) is = named (thread_step p n limit th st kinds (fresh_names s kinds) None s) (step_of kinds (fresh_names s kinds) None) (effect_here p s (fresh_names s kinds) None st).cell is
 

@@ -12,6 +12,7 @@ use Rattle.site_model.specs.Transition.{Transition}
 use Rattle.site_model.specs.Turn.{SiteTurn}
 use Rattle.world_model.proofs.PutLemmas.{nat_decides}
 use Rattle.world_messages.proofs.CountLemmas.{once_each, none_own}
+use Rattle.world_requests.proofs.RequestLemmas.{requests_are_served}
 use Rattle.world_simulation.specs.Protocols.{ProtocolsHold}
 use Rattle.world_simulation.proofs.SimulationLemmas.{every_run_is_simulated, delivered_messages_are_fit, cell_messages_are_few, messages_are_few, requests_are_single}
 use Rattle.world_simulation.proofs.ProtocolLemmas.{protocols_always_hold}
@@ -65,4 +66,5 @@ module _ (p : List Stmt) (n : ℕ) (j : List Turn) (w : ℕ → Site) (is : IsPr
     variables = messages_are_few p n bundle_limit j w is low high short run;
     cells = λ c. cell_messages_are_few p n bundle_limit j w c is low high short run;
     all = all_messages_are_few p n bundle_limit j w is low high short run;
+    served = (w, run, requests_are_served p n bundle_limit j w is low high short run);
   }

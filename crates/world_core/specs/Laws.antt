@@ -11,7 +11,7 @@ use Rattle.site_message.specs.Journal.{sent_of}
 use Rattle.oz_model.specs.Run.{Run, exchanges}
 use Rattle.bind_protocol.specs.Lawful.{register_count, binding_count}
 use Rattle.site_model.specs.Bundle.{bundle_limit}
-use Rattle.site_model.specs.Site.{Site}
+use Rattle.site_model.specs.Site.{Site, cell_record}
 use Rattle.site_model.specs.Run.{WorldRun}
 use Rattle.world_model.specs.Schedule.{schedule}
 use Rattle.world_model.specs.Simulated.{IsSimulated, IsAtRest}
@@ -19,6 +19,7 @@ use Rattle.world_messages.specs.BindRequests.{requests}
 use Rattle.world_messages.specs.Messages.{variable_messages, spawns, asks_to_know, tells_binding, asks_to_bind}
 use Rattle.world_cells.specs.CellCounts.{cell_weights}
 use Rattle.world_cells.specs.FitRuns.{SiteFitRun}
+use Rattle.world_requests.specs.Requests.{AreRequestsServed}
 use Rattle.world_simulation.specs.Messages.{sum_over}
 
 -- the journal is one of a run of the program on so many sites
@@ -37,9 +38,15 @@ HasMachineAtRest p n j w = (s : State) × IsSimulated p n j w s × IsAtRest p n 
 abbrev pub WereFit : List Stmt → ℕ → List Turn → (ℕ → Site) → Type 0
 WereFit p n j w = (i : ℕ) → SiteFitRun p n bundle_limit i j (w i)
 
+-- the journal leads to states of the sites in which each request for the token of a cell was followed by an exchange at the site that
+-- asked, or is outstanding
+abbrev pub AreAllServed : List Stmt → ℕ → List Turn → Type 0
+AreAllServed p n j =
+    (w : ℕ → Site) × WorldRun p n bundle_limit j w × ((c : CellName) (i : ℕ) → AreRequestsServed p c i j (cell_record (w i) c).held.token)
+
 -- each site sends at most one Register for a variable and is sent at most one Binding, and none for its own; no thread asks
 -- twice to bind a variable. The messages on variables and threads are at most `variable_messages` of the schedule, those of a
--- cell three for each of its exchanges and each site, and all messages together at most both
+-- cell three for each of its exchanges and each site, and all messages together at most both. And each request for a token is served
 pub record AreMessagesFew (p : List Stmt) (n : ℕ) (j : List Turn) : Type 0 where
   pub once : (i : ℕ) (x : VarName) → (register_count x i (sent_of j) ≤ 1) × (binding_count x i (sent_of j) ≤ 1)
   pub own : (i : ℕ) (x : VarName) → i ≡ x.site → (register_count x i (sent_of j) ≡ 0) × (binding_count x i (sent_of j) ≡ 0)
@@ -47,3 +54,4 @@ pub record AreMessagesFew (p : List Stmt) (n : ℕ) (j : List Turn) : Type 0 whe
   pub variables : count_by spawns (sent_of j) + count_by asks_to_know (sent_of j) + count_by tells_binding (sent_of j) + count_by asks_to_bind (sent_of j) ≤ variable_messages n (schedule j)
   pub cells : (c : CellName) → cell_weights c 1 1 1 (sent_of j) ≤ 3 * (length (exchanges p (schedule j) c) + n)
   pub all : (s : State) × Run p (schedule j) s × (length (sent_of j) ≤ variable_messages n (schedule j) + sum_over (λ c. 3 * (length (exchanges p (schedule j) c) + n)) s.cells)
+  pub served : AreAllServed p n j

@@ -2,6 +2,7 @@ use Rattle.oz_runner.specs.Ends.{lines_of}
 use Rattle.oz_runner.specs.OzCall.{stream_of}
 use Rattle.oz_runner.proofs.CauseLemmas.{headline}
 use Rattle.oz_runner.proofs.CompleteLemmas.{complete}
+use Rattle.oz_runner.proofs.BesideLemmas.{accounted}
 use Rattle.oz_runner.proofs.oz_call.oz.Goals as goal
 
 pub returns-clause-headline : goal.returns-clause-headline
@@ -16,4 +17,22 @@ returns-clause-headline g c =
 pub returns-clause-complete : goal.returns-clause-complete
 returns-clause-complete g c =
     let whole = returns-clause-headline g c in
-    complete _ _ _ c.texts_have_one_of_both.ensures.never_both whole.1.answered
+    complete _ _ _ c.texts_have_one_of_both.ensures.one_of_both whole.1.answered
+
+pub returns-clause-homes : goal.returns-clause-homes
+returns-clause-homes g c =
+    let whole = returns-clause-headline g c in
+    (accounted _ _ _ c.runs_take_rows.ensures.rows c.threads_stay_home.ensures.home c.messages_are_few.ensures.all
+    c.requests_are_served.ensures.served c.texts_have_one_of_both.ensures.programs whole.1).homes
+
+pub returns-clause-few : goal.returns-clause-few
+returns-clause-few g c =
+    let whole = returns-clause-headline g c in
+    (accounted _ _ _ c.runs_take_rows.ensures.rows c.threads_stay_home.ensures.home c.messages_are_few.ensures.all
+    c.requests_are_served.ensures.served c.texts_have_one_of_both.ensures.programs whole.1).few
+
+pub returns-clause-served : goal.returns-clause-served
+returns-clause-served g c =
+    let whole = returns-clause-headline g c in
+    (accounted _ _ _ c.runs_take_rows.ensures.rows c.threads_stay_home.ensures.home c.messages_are_few.ensures.all
+    c.requests_are_served.ensures.served c.texts_have_one_of_both.ensures.programs whole.1).served

@@ -11,9 +11,7 @@ returns g c =
     (sites_came c.args.program.now c.args.options out.result is c.quiet_tells.ensures c.runs_are_determined.ensures.end c.exchanges_are_a_chain.ensures.chains (record {
       run = out.ensures.simulated;
       rows = (c.runs_take_rows.ensures.rows c.args.program.now c.args.options.sites bundle_limit out.result.journal out.ensures.simulated.0 c.is_program.ensures c.requires.sites.0 c.requires.sites.1 (omega arith)).0 out.ensures.simulated.1;
-      homes = out.ensures.homes;
       picks = out.ensures.schedule;
-      few = out.ensures.few;
       reason = out.ensures.reason;
       went = out.ensures.went;
       within = out.ensures.within;
