@@ -4,22 +4,15 @@
 pub static EXAMPLES: [(&str, &str, u8); 18] = [
     (
         "% Lists are records with a head and a tail; nil is an atom. Append goes through the first list and shares the second.
-local Append A B C Nil L1 L2 L3 M in
-  proc {Append Xs Ys ?Zs}
-    case Xs of X|Xr then
-      local Zr in
-        Zs = X|Zr
-        {Append Xr Ys Zr}
-      end
-    else Zs = Ys end
+local Append L1 L2 in
+  fun {Append Xs Ys}
+    case Xs of X|Xr then X|{Append Xr Ys}
+    else Ys end
   end
-  A = a  B = b  C = c  Nil = nil
-  local T in T = B|Nil L1 = A|T end
-  L2 = C|Nil
-  {Append L1 L2 L3}
-  {Browse L3}
-  M = L1|L2
-  {Browse M}
+  L1 = a|b|nil
+  L2 = c|nil
+  {Browse {Append L1 L2}}
+  {Browse L1|L2}
 end
 ",
         "a|b|c|nil\n(a|b|nil)|c|nil\nquiescent ended=1 waiting=0\n",
@@ -28,14 +21,13 @@ end
     (
         "% CTM 4.4.3, concurrent composition: a barrier runs procedures at once, each in a thread of its own, and goes on when all have
 % ended. Each thread binds a variable to that of the thread before it, so that the last one is known when all are.
-local Barrier Count Tally Zero One Nil A B C L1 L2 L3 in
-  Zero = 0  One = 1  Nil = nil
-  {NewCell Zero Tally}
+local Barrier Count Tally Once Twice Thrice in
+  Tally = {NewCell 0}
   proc {Count}
-    local Old New in {Exchange Tally Old New} New = Old + One end
+    local Old New in {Exchange Tally Old New} New = Old + 1 end
   end
   proc {Barrier Ps}
-    local Start Go Last in
+    local Start in
       proc {Start Ps Before ?Last}
         case Ps of P|Pr then
           local After in
@@ -44,16 +36,13 @@ local Barrier Count Tally Zero One Nil A B C L1 L2 L3 in
           end
         else Last = Before end
       end
-      Go = go
-      {Start Ps Go Last}
-      {Wait Last}
+      {Wait {Start Ps go}}
     end
   end
-  A = proc {$} {Count} end
-  B = proc {$} {Count} {Count} end
-  C = proc {$} {Count} {Count} {Count} end
-  L3 = C|Nil  L2 = B|L3  L1 = A|L2
-  {Barrier L1}
+  proc {Once} {Count} end
+  proc {Twice} {Count} {Count} end
+  proc {Thrice} {Count} {Count} {Count} end
+  {Barrier Once|Twice|Thrice|nil}
   local Sum in {Exchange Tally Sum Sum} {Browse Sum} end
 end
 ",
@@ -63,67 +52,46 @@ end
     (
         "% A bounded buffer: the consumer's questions and the producer's answers are two streams, and the buffer asks at most three
 % elements ahead of the consumer.
-local Produce Buffer Start Serve Take Zero One Three Six Questions Answers Taken in
-  Zero = 0  One = 1  Three = 3  Six = 6
+local Produce Buffer Start Serve Take Questions Answers in
   % answers each question with the next number
   proc {Produce N Xs}
-    case Xs of X|Xr then
-      local Next in
-        X = N
-        Next = N + One
-        {Produce Next Xr}
-      end
+    case Xs of X|Xr then X = N {Produce N + 1 Xr}
     else skip end
   end
-  % asks N elements ahead; End is what is to be asked next
+  % asks N elements ahead; the result is what is to be asked next
   proc {Start N Xs ?End}
-    local Ends in
-      Ends = N =< Zero
-      if Ends then End = Xs
-      else
-        local X Xr Less in
-          Xs = X|Xr
-          Less = N - One
-          {Start Less Xr End}
-        end
+    if N =< 0 then End = Xs
+    else
+      local X Xr in
+        Xs = X|Xr
+        End = {Start N - 1 Xr}
       end
     end
   end
   % each element that the consumer takes lets one more be asked
   proc {Serve Ys Xs End}
     case Ys of Y|Yr then
-      local Xr More X in
+      local Xr X More in
         Xs = Y|Xr
         End = X|More
         {Serve Yr Xr More}
       end
     else End = nil end
   end
-  proc {Buffer N Xs Ys}
-    local End in
-      {Start N Xs End}
-      {Serve Ys Xs End}
-    end
-  end
+  proc {Buffer N Xs Ys} {Serve Ys Xs {Start N Xs}} end
   % takes N elements and then closes the buffer
   proc {Take N Ys ?Taken}
-    local Ends in
-      Ends = N =< Zero
-      if Ends then Ys = nil Taken = nil
-      else
-        local Y Yr Less Tr in
-          Ys = Y|Yr
-          Less = N - One
-          Taken = Y|Tr
-          {Take Less Yr Tr}
-        end
+    if N =< 0 then Ys = nil Taken = nil
+    else
+      local Y Yr in
+        Ys = Y|Yr
+        Taken = Y|{Take N - 1 Yr}
       end
     end
   end
-  thread {Produce Zero Questions} end
-  thread {Buffer Three Questions Answers} end
-  {Take Six Answers Taken}
-  {Browse Taken}
+  thread {Produce 0 Questions} end
+  thread {Buffer 3 Questions Answers} end
+  {Browse {Take 6 Answers}}
 end
 ",
         "0|1|2|3|4|5|nil\nquiescent ended=3 waiting=0\n",
@@ -131,20 +99,13 @@ end
     ),
     (
         "% An exception goes to the nearest handler. What was bound before it stays bound.
-local Divide A B Zero Q in
-  A = 7
-  B = 2
-  Zero = 0
+local Divide in
   proc {Divide X Y ?R}
     try R = X div Y
     catch E then {Browse E} R = none end
   end
-  {Divide A B Q}
-  {Browse Q}
-  local R in
-    {Divide A Zero R}
-    {Browse R}
-  end
+  {Browse {Divide 7 2}}
+  {Browse {Divide 7 0}}
 end
 ",
         "3\nerror(zero)\nnone\nquiescent ended=1 waiting=0\n",
@@ -153,22 +114,21 @@ end
     (
         "% CTM 4.2.3, dataflow threads: a map with a thread for each element. The list is there before its elements are, and each is
 % known when its thread has made it.
-local Map Wait3 Double F A B C Nil L1 L2 L3 Ys in
+local Map Wait3 Double F A B C Ys in
   proc {Map Xs F ?Ys}
     case Xs of X|Xr then
       local Y Yr in
         Ys = Y|Yr
-        thread {F X Y} end
-        {Map Xr F Yr}
+        thread Y = {F X} end
+        Yr = {Map Xr F}
       end
     else Ys = nil end
   end
-  proc {Double X ?Y} Y = X + X end
+  fun {Double X} X + X end
   % elements that are not known yet can be mapped, too
-  Nil = nil  L3 = C|Nil  L2 = B|L3  L1 = A|L2
-  {Map L1 Double Ys}
+  Ys = {Map A|B|C|nil Double}
   proc {Wait3 ?R} C = 3  B = C + C  A = B + C  R = done end
-  thread at 2 {Wait3 F} end
+  thread at 2 F = {Wait3} end
   {Browse Ys}
   {Browse F}
 end
@@ -178,36 +138,26 @@ end
     ),
     (
         "% State that only its procedures can reach: a counter is a record of two procedures round one cell.
-local MakeCounter Zero One A B in
-  Zero = 0  One = 1
+local MakeCounter A B Increment Get Other in
   proc {MakeCounter ?Counter}
     local C Increment Get in
-      {NewCell Zero C}
+      C = {NewCell 0}
       proc {Increment}
-        local Old New in
-          {Exchange C Old New}
-          New = Old + One
-        end
+        local Old New in {Exchange C Old New} New = Old + 1 end
       end
       proc {Get ?X} {Exchange C X X} end
       Counter = counter(get:Get increment:Increment)
     end
   end
-  {MakeCounter A}
-  {MakeCounter B}
-  local Increment Get X Y in
-    Increment = A.increment
-    Get = A.get
-    {Increment}
-    {Increment}
-    {Get X}
-    {Browse X}
-    local Other in
-      Other = B.get
-      {Other Y}
-      {Browse Y}
-    end
-  end
+  A = {MakeCounter}
+  B = {MakeCounter}
+  Increment = A.increment
+  Get = A.get
+  Other = B.get
+  {Increment}
+  {Increment}
+  {Browse {Get}}
+  {Browse {Other}}
 end
 ",
         "2\n0\nquiescent ended=1 waiting=0\n",
@@ -230,30 +180,22 @@ end
     (
         "% CTM 4.3.3, demand-driven streams: the consumer makes the list, and the producer binds each element that is asked for. It makes
 % none that nobody wants.
-local Produce Sum Zero One Four Xs S in
-  Zero = 0  One = 1  Four = 4
+local Produce Sum Xs S in
   proc {Produce N Xs}
-    case Xs of X|Xr then
-      local Next in
-        X = N
-        Next = N + One
-        {Produce Next Xr}
-      end
+    case Xs of X|Xr then X = N {Produce N + 1 Xr}
     else {Browse N} end
   end
   proc {Sum N Xs Before ?S}
     case N of 0 then Xs = nil  S = Before
     else
-      local X Xr Less After in
+      local X Xr in
         Xs = X|Xr
-        Less = N - One
-        After = Before + X
-        {Sum Less Xr After S}
+        S = {Sum N - 1 Xr Before + X}
       end
     end
   end
-  thread {Sum Four Xs Zero S} end
-  {Produce One Xs}
+  thread S = {Sum 4 Xs 0} end
+  {Produce 1 Xs}
   {Browse S}
 end
 ",
@@ -262,33 +204,13 @@ end
     ),
     (
         "% Integers have 128 bits: thirty-three is the last number whose factorial fits, and one more raises an exception.
-local Factorial Zero One Most F G in
-  Zero = 0  One = 1  Most = 33
-  proc {Factorial N ?F}
-    local Ends in
-      Ends = N =< Zero
-      if Ends then F = 1
-      else
-        local Less G in
-          Less = N - One
-          {Factorial Less G}
-          F = N * G
-        end
-      end
-    end
+local Factorial in
+  fun {Factorial N}
+    if N =< 0 then 1 else N * {Factorial N - 1} end
   end
-  local N in
-    N = 25
-    {Factorial N F}
-  end
-  {Browse F}
-  {Factorial Most G}
-  {Browse G}
-  try
-    local N H in
-      N = Most + One
-      {Factorial N H}
-    end
+  {Browse {Factorial 25}}
+  {Browse {Factorial 33}}
+  try {Browse {Factorial 34}}
   catch E then {Browse E} end
 end
 ",
@@ -309,24 +231,17 @@ end
     ),
     (
         "% CTM 4.2.3, threads are cheap: each call starts a thread for one of its two calls, and waits for nothing but their sum.
-local Fibonacci One Two Ten F in
-  One = 1  Two = 2  Ten = 10
+local Fibonacci in
   proc {Fibonacci N ?F}
-    local Small in
-      Small = N =< Two
-      if Small then F = One
-      else
-        local M K G H in
-          M = N - One  K = N - Two
-          thread {Fibonacci M G} end
-          {Fibonacci K H}
-          F = G + H
-        end
+    if N =< 2 then F = 1
+    else
+      local G in
+        thread G = {Fibonacci N - 1} end
+        F = {Fibonacci N - 2} + G
       end
     end
   end
-  {Fibonacci Ten F}
-  {Browse F}
+  {Browse {Fibonacci 10}}
 end
 ",
         "55\nquiescent ended=55 waiting=0\n",
@@ -344,27 +259,14 @@ end
     ),
     (
         "% A loop with an accumulator, made from a procedure that is handed in: the sum and the product of a list.
-local Fold Add Multiply A B C Zero One Nil Xs S P in
-  proc {Fold Xs F State ?End}
-    case Xs of X|Xr then
-      local Next in
-        {F State X Next}
-        {Fold Xr F Next End}
-      end
-    else End = State end
+local Fold Xs in
+  fun {Fold Xs F State}
+    case Xs of X|Xr then {Fold Xr F {F State X}}
+    else State end
   end
-  proc {Add X Y ?Z} Z = X + Y end
-  proc {Multiply X Y ?Z} Z = X * Y end
-  A = 3  B = 4  C = 5  Zero = 0  One = 1  Nil = nil
-  local T U in
-    U = C|Nil
-    T = B|U
-    Xs = A|T
-  end
-  {Fold Xs Add Zero S}
-  {Fold Xs Multiply One P}
-  {Browse S}
-  {Browse P}
+  Xs = 3|4|5|nil
+  {Browse {Fold Xs fun {$ X Y} X + Y end 0}}
+  {Browse {Fold Xs fun {$ X Y} X * Y end 1}}
 end
 ",
         "12\n60\nquiescent ended=1 waiting=0\n",
@@ -372,34 +274,23 @@ end
     ),
     (
         "% Logic gates are threads over streams of bits: a half adder of two gates gives the sum and the carry of each pair.
-local Gate And Xor Two Zero One Nil A B Sum Carry in
-  Two = 2  Zero = 0  One = 1  Nil = nil
-  proc {Gate F Xs Ys ?Zs}
+local Gate And Xor A B Sum Carry in
+  fun {Gate F Xs Ys}
     case Xs of X|Xr then
-      case Ys of Y|Yr then
-        local Z Zr in
-          Zs = Z|Zr
-          {F X Y Z}
-          {Gate F Xr Yr Zr}
-        end
-      else Zs = nil end
-    else Zs = nil end
+      case Ys of Y|Yr then {F X Y}|{Gate F Xr Yr}
+      else nil end
+    else nil end
   end
-  proc {And X Y ?Z} Z = X * Y end
-  proc {Xor X Y ?Z}
-    local S in
-      S = X + Y
-      Z = S mod Two
-    end
-  end
-  thread {Gate Xor A B Sum} end
-  thread {Gate And A B Carry} end
+  fun {And X Y} X * Y end
+  fun {Xor X Y} (X + Y) mod 2 end
+  thread Sum = {Gate Xor A B} end
+  thread Carry = {Gate And A B} end
   % the bits come one by one
   local A1 A2 A3 B1 B2 B3 in
-    A = Zero|A1  B = Zero|B1
-    A1 = One|A2  B1 = Zero|B2
-    A2 = Zero|A3  B2 = One|B3
-    A3 = One|Nil  B3 = One|Nil
+    A = 0|A1  B = 0|B1
+    A1 = 1|A2  B1 = 0|B2
+    A2 = 0|A3  B2 = 1|B3
+    A3 = 1|nil  B3 = 1|nil
   end
   {Browse Sum}
   {Browse Carry}
@@ -411,45 +302,28 @@ end
     (
         "% CTM 4.5.6, a network of streams that feeds itself: Hamming's numbers are 1, and twice, three times and five times each of them, in
 % order. Each of the five threads stops by itself at numbers above the last one.
-local Times Merge One Two Three Five Last H H2 H3 H5 H23 Rest in
-  One = 1  Two = 2  Three = 3  Five = 5  Last = 30
-  proc {Times N Xs ?Ys}
+local Times Merge Last H H2 H3 H5 H23 Rest in
+  Last = 30
+  fun {Times N Xs}
     case Xs of X|Xr then
-      local Y Fits in
-        Y = N * X
-        Fits = Y =< Last
-        if Fits then
-          local Yr in Ys = Y|Yr {Times N Xr Yr} end
-        else Ys = nil end
-      end
-    else Ys = nil end
+      if (N * X) =< Last then (N * X)|{Times N Xr} else nil end
+    else nil end
   end
   % merges two lists in order; what stands in both stands once in the result
-  proc {Merge Xs Ys ?Zs}
+  fun {Merge Xs Ys}
     case Xs of X|Xr then
       case Ys of Y|Yr then
-        local Less More in
-          Less = X < Y
-          More = X > Y
-          if Less then
-            local Zr in Zs = X|Zr {Merge Xr Ys Zr} end
-          else
-            if More then
-              local Zr in Zs = Y|Zr {Merge Xs Yr Zr} end
-            else
-              local Zr in Zs = X|Zr {Merge Xr Yr Zr} end
-            end
-          end
-        end
-      else Zs = Xs end
-    else Zs = Ys end
+        if X < Y then X|{Merge Xr Ys}
+        else if X > Y then Y|{Merge Xs Yr} else X|{Merge Xr Yr} end end
+      else Xs end
+    else Ys end
   end
-  H = One|Rest
-  thread {Times Two H H2} end
-  thread at 2 {Times Three H H3} end
-  thread at 3 {Times Five H H5} end
-  thread {Merge H2 H3 H23} end
-  thread {Merge H23 H5 Rest} end
+  H = 1|Rest
+  thread H2 = {Times 2 H} end
+  thread at 2 H3 = {Times 3 H} end
+  thread at 3 H5 = {Times 5 H} end
+  thread H23 = {Merge H2 H3} end
+  thread Rest = {Merge H23 H5} end
   {Browse H}
 end
 ",
@@ -459,40 +333,30 @@ end
     (
         "% CTM 7.8.3, active objects: Flavius Josephus. Forty stand in a ring, and every third one goes. Each is a thread that reads a
 % stream and writes the next; the message that goes round has the count and the number of those who are left.
-local Pipe Stand All Step One Zero Xs Last in
-  One = 1  Zero = 0  All = 40  Step = 3
+local Pipe Stand All Step Last Xs in
+  All = 40  Step = 3
   proc {Stand I Xs ?Ys}
     case Xs of M|Xr then
       case M of count(K Left) then
-        case Left of 1 then Last = I  Ys = nil
+        if Left == 1 then Last = I  Ys = nil
         else
-          local Rest Next in
-            Rest = K mod Step  Next = K + One
-            case Rest of 0 then
-              local Fewer N in Fewer = Left - One  N = count(Next Fewer)  Ys = N|Xr end
-            else
-              local N Yr in N = count(Next Left)  Ys = N|Yr  {Stand I Xr Yr} end
-            end
-          end
+          if (K mod Step) == 0 then Ys = count(K + 1 Left - 1)|Xr
+          else Ys = count(K + 1 Left)|{Stand I Xr} end
         end
       else skip end
     else Ys = nil end
   end
   proc {Pipe I Xs ?Ys}
-    local More in
-      More = I =< All
-      if More then
-        local Next Zs in
-          Next = I + One
-          thread {Stand I Xs Zs} end
-          {Pipe Next Zs Ys}
-        end
-      else Ys = Xs end
-    end
+    if I =< All then
+      local Zs in
+        thread Zs = {Stand I Xs} end
+        Ys = {Pipe I + 1 Zs}
+      end
+    else Ys = Xs end
   end
-  local M Round in
-    M = count(One All)  Xs = M|Round
-    thread {Pipe One Xs Round} end
+  local Round in
+    Xs = count(1 All)|Round
+    thread Round = {Pipe 1 Xs} end
   end
   {Browse Last}
 end
@@ -503,42 +367,32 @@ end
     (
         "% CTM 5.4.4, agents: a lift at another site takes calls from a stream, and tells each floor that it passes. Who called waits until
 % it is there.
-local Call Lift Move Mail Calls Zero One Three A B in
-  Zero = 0  One = 1  Three = 3
-  {NewCell Calls Mail}
+local Call Lift Move Mail Calls in
+  Mail = {NewCell Calls}
   proc {Call Floor ?There}
-    local Old New M in
-      M = call(Floor There)
+    local Old New in
       {Exchange Mail Old New}
-      Old = M|New
+      Old = call(Floor There)|New
     end
   end
   proc {Move From To ?At}
-    local Up Down in
-      Up = From < To  Down = From > To
-      if Up then
-        local F in F = From + One  {Browse F}  {Move F To At} end
-      else
-        if Down then
-          local F in F = From - One  {Browse F}  {Move F To At} end
-        else At = To end
-      end
+    if From < To then {Browse From + 1}  At = {Move From + 1 To}
+    else
+      if From > To then {Browse From - 1}  At = {Move From - 1 To}
+      else At = To end
     end
   end
   proc {Lift Calls Pos}
     case Calls of M|Rest then
       case M of call(Floor There) then
-        local At in
-          {Move Pos Floor At}
-          There = At
-          {Lift Rest At}
-        end
+        There = {Move Pos Floor}
+        {Lift Rest There}
       else skip end
     else skip end
   end
-  thread at 2 {Lift Calls One} end
-  {Call Three A}  {Wait A}
-  {Call Zero B}  {Wait B}
+  thread at 2 {Lift Calls 1} end
+  {Wait {Call 3}}
+  {Wait {Call 0}}
   local Last in {Exchange Mail Last Last} Last = nil end
 end
 ",
@@ -547,9 +401,8 @@ end
     ),
     (
         "% Many senders and one receiver: a cell holds the end of a stream, and each sender exchanges it for a new end.
-local NewMailbox Send Receive Mailbox Stream Zero One Three Nil Total in
-  Zero = 0  One = 1  Three = 3  Nil = nil
-  proc {NewMailbox Stream ?Mailbox} {NewCell Stream Mailbox} end
+local NewMailbox Send Receive Mailbox Stream in
+  fun {NewMailbox Stream} {NewCell Stream} end
   proc {Send Mailbox Message}
     local End New in
       {Exchange Mailbox End New}
@@ -557,27 +410,18 @@ local NewMailbox Send Receive Mailbox Stream Zero One Three Nil Total in
     end
   end
   % sums so many messages
-  proc {Receive N Xs State ?Total}
-    local Ends in
-      Ends = N =< Zero
-      if Ends then Total = State
-      else
-        case Xs of X|Xr then
-          local Less Next in
-            Less = N - One
-            Next = State + X
-            {Receive Less Xr Next Total}
-          end
-        else skip end
-      end
+  fun {Receive N Xs State}
+    if N =< 0 then State
+    else
+      case Xs of X|Xr then {Receive N - 1 Xr State + X}
+      else none end
     end
   end
-  {NewMailbox Stream Mailbox}
-  thread local M in M = 1 {Send Mailbox M} end end
-  thread local M in M = 20 {Send Mailbox M} end end
-  thread local M in M = 300 {Send Mailbox M} end end
-  {Receive Three Stream Zero Total}
-  {Browse Total}
+  Mailbox = {NewMailbox Stream}
+  thread {Send Mailbox 1} end
+  thread {Send Mailbox 20} end
+  thread {Send Mailbox 300} end
+  {Browse {Receive 3 Stream 0}}
 end
 ",
         "321\nquiescent ended=4 waiting=0\n",

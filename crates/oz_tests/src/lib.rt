@@ -6,7 +6,7 @@
 //! **They show** what no clause says: that the texts of the tables have their one lawful output with ample memory, or one of
 //! their lawful outputs, on 1 to 64 sites, refusals and end lines among them; that the examples of the repository print what
 //! stands beside them; that a text as long as may be is read and runs; that a text without an end is stopped behind its
-//! lines, and keeps no other thread of its site from a turn; that two runs without workers print the same, and go by rounds of sites; that
+//! lines, and keeps no other thread of its site from a turn; that the program takes words in memory; that two runs without workers print the same, and go by rounds of sites; that
 //! the gate is called with the turns of each site; that turns of two sites are under way at once; that what a site knows goes out with its messages.
 //!
 //! **They stand on** `oz_runner`, and on `oz_base` for sources and sinks in memory.
@@ -34,5 +34,7 @@ mod site_programs;
 mod site_texts;
 #[cfg(test)]
 mod sites;
+#[cfg(test)]
+mod start;
 #[cfg(test)]
 mod texts;

@@ -96,9 +96,39 @@ pub static LISTED: [Listed; 5] = [
 // A text, the bytes that are taken, and the status' number.
 type Run = (&'static str, &'static str, u8);
 
-pub static RUNS: [Run; 41] = [
+pub static RUNS: [Run; 55] = [
     (FIVE, "5\nquiescent ended=1 waiting=0\n", 0),
     ("skip", "quiescent ended=1 waiting=0\n", 0),
+    (
+        "local F in fun {F N} if N =< 1 then 1 else N * {F N - 1} end end {Browse {F 20}} end",
+        "2432902008176640000\nquiescent ended=1 waiting=0\n",
+        0,
+    ),
+    (
+        "local X in try X = 1 X = 2 catch E then {Browse E} finally {Browse X} end end",
+        "failure(tell)\n1\nquiescent ended=1 waiting=0\n",
+        0,
+    ),
+    (
+        "local L in L = a|b|nil case L of nil then skip [] H|T then {Browse T} else skip end end",
+        "b|nil\nquiescent ended=1 waiting=0\n",
+        0,
+    ),
+    (
+        "try raise 1 end finally {Browse 2} end",
+        "2\nuncaught 1\nquiescent ended=1 waiting=0\n",
+        0,
+    ),
+    (
+        "local X Y in X = f(5) Y = case X of f(X) then X else X end {Browse Y} end",
+        "5\nquiescent ended=1 waiting=0\n",
+        0,
+    ),
+    (
+        "local F X in proc {F X ?R} {Browse X} R = X end X = f({F 1} {F 2} + {F 3} {F 4}|nil) {Browse X} end",
+        "1\n2\n3\n4\nf(1 5 4|nil)\nquiescent ended=1 waiting=0\n",
+        0,
+    ),
     (
         "local X in X = 1 X = 2 end",
         "uncaught failure(tell)\nquiescent ended=1 waiting=0\n",
@@ -178,6 +208,11 @@ pub static RUNS: [Run; 41] = [
     (
         "local X Y Z A in A = 170141183460469231731687303715884105727 X = f(170141183460469231731687303715884105727:A) Y = X.170141183460469231731687303715884105727 case Y of 170141183460469231731687303715884105727 then Z = X.Y else Z = 0 end {Browse Z} end",
         "170141183460469231731687303715884105727\nquiescent ended=1 waiting=0\n",
+        0,
+    ),
+    (
+        "local X Y Z A in A = ~170141183460469231731687303715884105728 X = f(~170141183460469231731687303715884105728:A) Y = X.~170141183460469231731687303715884105728 case Y of ~170141183460469231731687303715884105728 then case X of f(~170141183460469231731687303715884105728:B) then Z = B else Z = 0 end else Z = 1 end {Browse Z} end",
+        "~170141183460469231731687303715884105728\nquiescent ended=1 waiting=0\n",
         0,
     ),
     (
@@ -291,6 +326,52 @@ pub static RUNS: [Run; 41] = [
     (
         "local A B R in A = 1 thread R = A == B end thread R = B == A end B = 1 {Browse R} end",
         "true\nquiescent ended=3 waiting=0\n",
+        0,
+    ),
+    (
+        "local C D X R in {NewCell X C} {NewCell X D} R = C == D {Browse R} end",
+        "false\nquiescent ended=1 waiting=0\n",
+        0,
+    ),
+    (
+        "local C D X R in {NewCell X C} D = C R = C == D {Browse R} end",
+        "true\nquiescent ended=1 waiting=0\n",
+        0,
+    ),
+    (
+        "local A B U R in A = f(U) B = g(U) R = A == B {Browse R} end",
+        "false\nquiescent ended=1 waiting=0\n",
+        0,
+    ),
+    (
+        "local A B R in A = 1 B = '1' R = A == B {Browse R} end",
+        "false\nquiescent ended=1 waiting=0\n",
+        0,
+    ),
+    (
+        "local A R in R = false R = A == A end",
+        "uncaught failure(tell)\nquiescent ended=1 waiting=0\n",
+        0,
+    ),
+    (
+        "local A B C R in thread R = A == B {Browse R} end A = C B = C end",
+        "true\nquiescent ended=2 waiting=0\n",
+        0,
+    ),
+    (
+        "local A B One Two R in
+          One = 1 Two = 2
+          A = f(One One One One One One One One One One One One One One One One
+            One One One One One One One One One One One One One One One One
+            One One One One One One One One One One One One One One One One
+            One One One One One One One One One One One One One One One One)
+          B = f(One One One One One One One One One One One One One One One One
+            One One One One One One One One One One One One One One One One
+            One One One One One One One One One One One One One One One One
+            One One One One One One One Two One One One One One One One One)
+          R = A == B {Browse R}
+        end",
+        "false\nquiescent ended=1 waiting=0\n",
         0,
     ),
 ];
@@ -453,10 +534,7 @@ pub static REFUSED: [(&str, &str); 21] = [
     ("local", "refused 1:6 expected a variable"),
     ("local X in X", "refused 1:13 expected ="),
     ("local X in X = 5 {Brows", "refused 1:19 undeclared"),
-    (
-        "local X in X = 5 {Browse",
-        "refused 1:25 expected a variable",
-    ),
+    ("local X in X = 5 {Browse", "refused 1:25 expected a value"),
     ("local X in X = 5 {Browse X", "refused 1:27 expected }"),
     (
         "local X in X = 5 {Browse X}",
@@ -478,11 +556,8 @@ pub static REFUSED: [(&str, &str); 21] = [
     ),
     ("{Browse X}", "refused 1:9 undeclared"),
     ("local X in X = f(1:X X) end", "refused 1:22 given twice"),
-    ("local X in X = fun", "refused 1:16 expected a value"),
-    (
-        "local X in X = X \\= 5 end",
-        "refused 1:21 expected a variable",
-    ),
+    ("local X in X = fun", "refused 1:19 expected {"),
+    ("local X in X = X \\= end", "refused 1:21 expected a value"),
     ("local X Y in X == Y end", "refused 1:16 expected ="),
     ("thread at 0 skip end", "refused 1:11 site below 1"),
     ("local A in A = 'x", "refused 1:16 open quote"),

@@ -1,6 +1,6 @@
 // Programs in their canonical form, worked by hand.
 
-use crate::printed::first_difference;
+use crate::printed::{Language, first_difference};
 use std::test::Fail;
 
 // A text, and its canonical text.
@@ -53,7 +53,8 @@ static CANONICAL: [(&str, &str); 11] = [
 
 #[test]
 fn texts_print_in_canonical_form(rt: HostRuntime) -> Result<(), Fail> {
-    assert_eq!(rt; first_difference(rt.alloc(), CANONICAL.as_slice())?, None);
+    let differs = first_difference(rt.alloc(), Language::Kernel, CANONICAL.as_slice())?;
+    assert_eq!(rt; differs, None);
     Ok(())
 }
 
@@ -61,7 +62,7 @@ fn texts_print_in_canonical_form(rt: HostRuntime) -> Result<(), Fail> {
 fn canonical_texts_print_as_themselves(rt: HostRuntime) -> Result<(), Fail> {
     for (_, canonical) in CANONICAL {
         assert_eq!(rt;
-            first_difference(rt.alloc(), &[(canonical, canonical)])?,
+            first_difference(rt.alloc(), Language::Kernel, &[(canonical, canonical)])?,
             None
         );
     }

@@ -1,11 +1,11 @@
 // Texts that are refused: the first fault of each, worked by hand.
 
-use crate::printed::{first_difference, is_printed};
+use crate::printed::{Language, first_difference, is_printed};
 use std::alloc::{AllocError, Global};
 use std::test::Fail;
 
 // A text, and the line of its refusal.
-static REFUSED: [(&str, &str); 64] = [
+static REFUSED: [(&str, &str); 70] = [
     ("", "refused 1:1 expected a statement"),
     (
         "local X in X = 170141183460469231731687303715884105728 end",
@@ -34,6 +34,30 @@ static REFUSED: [(&str, &str); 64] = [
     (
         "thread at 170141183460469231731687303715884105728 skip end",
         "refused 1:11 bad number",
+    ),
+    (
+        "local X in X = f(~170141183460469231731687303715884105729:X) end",
+        "refused 1:18 bad number",
+    ),
+    (
+        "local X Y in Y = f(X) X = Y.~170141183460469231731687303715884105729 end",
+        "refused 1:29 bad number",
+    ),
+    (
+        "local X in case X of 170141183460469231731687303715884105728 then skip else skip end end",
+        "refused 1:22 bad number",
+    ),
+    (
+        "local X in case X of f(~170141183460469231731687303715884105729:Y) then skip else skip end end",
+        "refused 1:24 bad number",
+    ),
+    (
+        "thread at ~170141183460469231731687303715884105729 skip end",
+        "refused 1:11 bad number",
+    ),
+    (
+        "thread at ~170141183460469231731687303715884105728 skip end",
+        "refused 1:11 site below 1",
     ),
     ("local X in", "refused 1:11 expected a statement"),
     (
@@ -167,7 +191,7 @@ static REFUSED: [(&str, &str); 64] = [
 
 // What stands first, a piece that follows so many times, what stands behind it, and a piece that follows as often; and the
 // line of the refusal, if the text is refused.
-type Long = (
+pub type Long = (
     &'static str,
     &'static str,
     u64,
@@ -250,7 +274,8 @@ static LONG: [Long; 13] = [
 
 #[test]
 fn faults_stand_at_their_places(rt: HostRuntime) -> Result<(), Fail> {
-    assert_eq!(rt; first_difference(rt.alloc(), REFUSED.as_slice())?, None);
+    let differs = first_difference(rt.alloc(), Language::Kernel, REFUSED.as_slice())?;
+    assert_eq!(rt; differs, None);
     Ok(())
 }
 
@@ -261,25 +286,34 @@ fn push_times(text: &mut String, piece: &str, times: u64) -> Result<(), AllocErr
     Ok(())
 }
 
-#[test]
-fn limits_are_exact(rt: HostRuntime) -> Result<(), Fail> {
-    let alloc = rt.alloc();
-    for row in LONG.as_slice() {
+/// The first of the texts that is not refused as told, by what stands first in it, by its piece and by how often that follows.
+pub fn first_wrong(
+    alloc: Global,
+    language: Language,
+    rows: &[Long],
+) -> Result<Option<(&'static str, &'static str, u64)>, AllocError> {
+    for row in rows {
         let (before, piece, times, behind, closing, want) = *row;
         let mut text = String::from_str(alloc, before)?;
         push_times(&mut text, piece, times)?;
         text.push_str(behind)?;
         push_times(&mut text, closing, times)?;
-        assert!(rt;
-            is_printed(alloc, text.as_str(), want)?,
-            "at {before}{piece}"
-        );
+        if !is_printed(alloc, language, text.as_str(), want)? {
+            return Ok(Some((before, piece, times)));
+        }
     }
+    Ok(None)
+}
+
+#[test]
+fn limits_are_exact(rt: HostRuntime) -> Result<(), Fail> {
+    let wrong = first_wrong(rt.alloc(), Language::Kernel, LONG.as_slice())?;
+    assert_eq!(rt; wrong, None);
     Ok(())
 }
 
-// A text with so many names of its own, from `V1` on, between two others.
-fn text_with_names(
+/// A text with so many names of its own, from `V1` on, between two others.
+pub fn text_with_names(
     alloc: Global,
     before: &str,
     count: u64,
@@ -316,7 +350,7 @@ fn names_are_counted(rt: HostRuntime) -> Result<(), Fail> {
     for (before, count, behind, want) in rows {
         let text = text_with_names(alloc, before, count, behind)?;
         assert!(rt;
-            is_printed(alloc, text.as_str(), want)?,
+            is_printed(alloc, Language::Kernel, text.as_str(), want)?,
             "at {before} {count}"
         );
     }

@@ -26,5 +26,3 @@ mod stores;
 mod streams;
 #[cfg(test)]
 mod variables;
-#[cfg(test)]
-mod wire;

@@ -36,43 +36,59 @@ fn bytes_of(alloc: Global, text: &str) -> Result<Vec<u8>, AllocError> {
     Ok(bytes)
 }
 
-// The spelling of a message in form 1, none where an integer has more than 64 bits.
-fn spelling_1(alloc: Global, msg: &Msg) -> Result<Option<Bytes>, AllocError>
-    requires { FitsWire msg.now }
-{
-    if fits_words(msg) {
-        Ok(Some(encode_1(alloc, msg)?))
-    } else {
-        Ok(None)
-    }
+// A message as its bytes in form 2, and in form 1 where its integers have 64 bits.
+#[derive(Drop)]
+struct Spellings {
+    two: Bytes,
+    one: Option<Bytes>,
 }
 
-// Whether the bytes are the spelling of the message in form 2, or in form 1.
-fn is_spelling(alloc: Global, msg: &Msg, bytes: &[u8]) -> Result<bool, AllocError>
+fn spelled(alloc: Global, msg: &Msg) -> Result<Spellings, AllocError>
     requires { FitsWire msg.now }
 {
     let two = encode(alloc, msg)?;
-    if two.as_slice() == bytes {
-        return Ok(true);
+    let one = if fits_words(msg) {
+        Some(encode_1(alloc, msg)?)
+    } else {
+        None
+    };
+    Ok(Spellings { two, one })
+}
+
+// The spellings of the message that bytes spell, or their fault. No other function owns a message that was read: each way
+// out of one that does takes a message apart, which is dear to prove.
+fn read(alloc: Global, bytes: &[u8]) -> Result<Result<Spellings, WireFault>, AllocError> {
+    match decode(alloc, bytes) {
+        Ok(msg) => {
+            let written = spelled(alloc, &msg);
+            drop(msg);
+            Ok(Ok(written?))
+        }
+        Err(fault) => Ok(Err(fault)),
     }
-    match spelling_1(alloc, msg)? {
-        Some(one) => Ok(one.as_slice() == bytes),
-        None => Ok(false),
-    }
+}
+
+// Whether bytes are one of the two spellings.
+fn is_either(spellings: &Spellings, bytes: &[u8]) -> bool {
+    spellings.two.as_slice() == bytes
+        || match &spellings.one {
+            Some(one) => one.as_slice() == bytes,
+            None => false,
+        }
 }
 
 // The fault of bytes, none where they spell a message whose spelling they are.
 fn fault_of(alloc: Global, bytes: &[u8]) -> Result<Option<WireFault>, AllocError> {
-    match decode(alloc, bytes) {
-        Ok(msg) => {
-            if is_spelling(alloc, &msg, bytes)? {
-                Ok(None)
+    Ok(match read(alloc, bytes)? {
+        Ok(spellings) => {
+            if is_either(&spellings, bytes) {
+                None
             } else {
-                Ok(Some(WireFault::Memory))
+                Some(WireFault::Memory)
             }
         }
-        Err(fault) => Ok(Some(fault)),
-    }
+        Err(fault) => Some(fault),
+    })
 }
 
 // Messages of each kind in form 1, the same in form 2, and two that form 2 alone spells; and what comes of each byte set to 00, to 41 and to ff: '=' a message, 'K', 'R' and 'U' a fault
@@ -368,45 +384,73 @@ fn outcome(letter: u8, row: usize, place: usize, value: u8, len: usize) -> Optio
     }
 }
 
+// How many bytes of a message stand where the fault is not the one that it must be: Short before all stand, none where they
+// do, Rest with one byte more. None where each is.
+fn wrong_front(alloc: Global, text: &str) -> Result<Option<usize>, AllocError> {
+    let mut bytes = bytes_of(alloc, text)?;
+    let len = bytes.len();
+    for front in 0..len {
+        if fault_of(alloc, &bytes[..front])? != Some(WireFault::Short(front)) {
+            return Ok(Some(front));
+        }
+    }
+    if fault_of(alloc, &bytes)? != None {
+        return Ok(Some(len));
+    }
+    bytes.push(0)?;
+    let rest = fault_of(alloc, &bytes)? == Some(WireFault::Rest(len));
+    Ok(if rest { None } else { Some(bytes.len()) })
+}
+
 #[test]
 fn messages_have_these_bytes(rt: HostRuntime) -> Result<(), Fail> {
     for (text, _) in ROWS.as_slice() {
-        let mut bytes = bytes_of(rt.alloc(), text)?;
-        assert_eq!(rt; fault_of(rt.alloc(), &bytes)?, None, "{text}");
-        for len in 0..bytes.len() {
-            let front = fault_of(rt.alloc(), &bytes[..len])?;
-            assert_eq!(rt; front, Some(WireFault::Short(len)), "{text} to {len}");
-        }
-        let len = bytes.len();
-        bytes.push(0)?;
-        assert_eq!(rt;
-            fault_of(rt.alloc(), &bytes)?,
-            Some(WireFault::Rest(len)),
-            "{text} 00"
-        );
+        assert_eq!(rt; wrong_front(rt.alloc(), text)?, None, "{text}");
     }
     Ok(())
+}
+
+// The fault of the bytes of a row, with this value at this place.
+fn fault_with(
+    alloc: Global,
+    text: &str,
+    place: usize,
+    value: u8,
+) -> Result<Option<WireFault>, AllocError> {
+    let mut bytes = bytes_of(alloc, text)?;
+    if place < bytes.len() {
+        bytes[place] = value;
+    }
+    fault_of(alloc, &bytes)
+}
+
+// The place in a row at which this value does not come to what its letter says, or whose letter is missing. None where there is none.
+fn wrong_place(
+    alloc: Global,
+    row: usize,
+    text: &str,
+    letters: &[u8],
+    value: u8,
+) -> Result<Option<usize>, AllocError> {
+    let len = bytes_of(alloc, text)?.len();
+    if letters.len() != len {
+        return Ok(Some(len));
+    }
+    for (place, letter) in letters.iter().enumerate() {
+        let want = outcome(*letter, row, place, value, len);
+        if fault_with(alloc, text, place, value)? != want {
+            return Ok(Some(place));
+        }
+    }
+    Ok(None)
 }
 
 #[test]
 fn other_bytes_have_these_faults(rt: HostRuntime) -> Result<(), Fail> {
     for (row, (text, outcomes)) in ROWS.as_slice().iter().enumerate() {
         for (letters, value) in outcomes.iter().zip([0x00u8, 0x41, 0xff]) {
-            let letters = letters.as_bytes();
-            let len = bytes_of(rt.alloc(), text)?.len();
-            assert_eq!(rt; letters.len(), len, "{text}");
-            for place in 0..len.min(letters.len()) {
-                let mut bytes = bytes_of(rt.alloc(), text)?;
-                if place < bytes.len() {
-                    bytes[place] = value;
-                }
-                let want = outcome(letters[place], row, place, value, len);
-                assert_eq!(rt;
-                    fault_of(rt.alloc(), &bytes)?,
-                    want,
-                    "{text} with {value} at {place}"
-                );
-            }
+            let wrong = wrong_place(rt.alloc(), row, text, letters.as_bytes(), value)?;
+            assert_eq!(rt; wrong, None, "{text} with {value}");
         }
     }
     Ok(())
@@ -421,22 +465,22 @@ fn other_texts_have_these_faults(rt: HostRuntime) -> Result<(), Fail> {
     Ok(())
 }
 
+// Whether the first text spells a message whose spelling in form 2 is the second.
+fn is_respelled(alloc: Global, text: &str, want: &str) -> Result<bool, AllocError> {
+    let spelled = bytes_of(alloc, text)?;
+    let want = bytes_of(alloc, want)?;
+    Ok(match read(alloc, &spelled)? {
+        Ok(spellings) => spellings.two.as_slice() == want.as_slice(),
+        Err(_) => false,
+    })
+}
+
 // The messages of the first nine rows are those of the next nine, in form 2.
 #[test]
 fn what_form_1_spells_form_2_spells(rt: HostRuntime) -> Result<(), Fail> {
-    for (one, two) in ROWS
-        .as_slice()
-        .iter()
-        .zip(ROWS.as_slice().iter().skip(9))
-        .take(9)
-    {
-        let read = bytes_of(rt.alloc(), one.0)?;
-        let want = bytes_of(rt.alloc(), two.0)?;
-        let Ok(msg) = decode(rt.alloc(), &read) else {
-            return Err(Fail::new("a message"));
-        };
-        let written = encode(rt.alloc(), &msg)?;
-        assert!(rt; written.as_slice() == want.as_slice(), "{}", two.0);
+    for row in 0..9 {
+        let (one, two) = (ROWS[row].0, ROWS[row + 9].0);
+        assert!(rt; is_respelled(rt.alloc(), one, two)?, "{two}");
     }
     Ok(())
 }
@@ -483,14 +527,19 @@ static WORDS: [(&str, bool); 4] = [
     ),
 ];
 
+// Whether the message of these bytes can be spelled in form 1, none where they spell none.
+fn fits_form_1(alloc: Global, text: &str) -> Result<Option<bool>, AllocError> {
+    let bytes = bytes_of(alloc, text)?;
+    Ok(match read(alloc, &bytes)? {
+        Ok(spellings) => Some(spellings.one.is_some()),
+        Err(_) => None,
+    })
+}
+
 #[test]
 fn integers_of_64_bits_fit_form_1(rt: HostRuntime) -> Result<(), Fail> {
     for (text, fits) in WORDS.as_slice() {
-        let bytes = bytes_of(rt.alloc(), text)?;
-        let Ok(msg) = decode(rt.alloc(), &bytes) else {
-            return Err(Fail::new("a message"));
-        };
-        assert_eq!(rt; fits_words(&msg), *fits, "{text}");
+        assert_eq!(rt; fits_form_1(rt.alloc(), text)?, Some(*fits), "{text}");
     }
     Ok(())
 }
@@ -509,15 +558,27 @@ fn start_with(alloc: Global, count: usize) -> Result<Msg, AllocError> {
     })
 }
 
+// The bytes of a message, none where it has no spelling.
+fn spelled_len(alloc: Global, msg: &Msg) -> Result<Option<usize>, AllocError> {
+    if wire_fits(msg) {
+        Ok(Some(encode(alloc, msg)?.as_slice().len()))
+    } else {
+        Ok(None)
+    }
+}
+
+// The bytes of a start of a thread with so many variables.
+fn start_len(alloc: Global, count: usize) -> Result<Option<usize>, AllocError> {
+    let msg = start_with(alloc, count)?;
+    let len = spelled_len(alloc, &msg);
+    drop(msg);
+    len
+}
+
 #[test]
 fn many_names_are_spelled(rt: HostRuntime) -> Result<(), Fail> {
-    let some = start_with(rt.alloc(), 1_000)?;
-    let fits = wire_fits(&some);
-    assert!(rt; fits);
-    let bytes = encode(rt.alloc(), &some)?;
-    assert_eq!(rt; bytes.as_slice().len(), 9_018);
-    let more = start_with(rt.alloc(), 70_000)?;
-    assert!(rt; !wire_fits(&more));
+    assert_eq!(rt; start_len(rt.alloc(), 1_000)?, Some(9_018));
+    assert_eq!(rt; start_len(rt.alloc(), 70_000)?, None);
     Ok(())
 }
 
