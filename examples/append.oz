@@ -1,18 +1,11 @@
 % Lists are records with a head and a tail; nil is an atom. Append goes through the first list and shares the second.
-local Append A B C Nil L1 L2 L3 M in
-  proc {Append Xs Ys ?Zs}
-    case Xs of X|Xr then
-      local Zr in
-        Zs = X|Zr
-        {Append Xr Ys Zr}
-      end
-    else Zs = Ys end
+local Append L1 L2 in
+  fun {Append Xs Ys}
+    case Xs of X|Xr then X|{Append Xr Ys}
+    else Ys end
   end
-  A = a  B = b  C = c  Nil = nil
-  local T in T = B|Nil L1 = A|T end
-  L2 = C|Nil
-  {Append L1 L2 L3}
-  {Browse L3}
-  M = L1|L2
-  {Browse M}
+  L1 = a|b|nil
+  L2 = c|nil
+  {Browse {Append L1 L2}}
+  {Browse L1|L2}
 end

@@ -1,32 +1,22 @@
 % State that only its procedures can reach: a counter is a record of two procedures round one cell.
-local MakeCounter Zero One A B in
-  Zero = 0  One = 1
+local MakeCounter A B Increment Get Other in
   proc {MakeCounter ?Counter}
     local C Increment Get in
-      {NewCell Zero C}
+      C = {NewCell 0}
       proc {Increment}
-        local Old New in
-          {Exchange C Old New}
-          New = Old + One
-        end
+        local Old New in {Exchange C Old New} New = Old + 1 end
       end
       proc {Get ?X} {Exchange C X X} end
       Counter = counter(get:Get increment:Increment)
     end
   end
-  {MakeCounter A}
-  {MakeCounter B}
-  local Increment Get X Y in
-    Increment = A.increment
-    Get = A.get
-    {Increment}
-    {Increment}
-    {Get X}
-    {Browse X}
-    local Other in
-      Other = B.get
-      {Other Y}
-      {Browse Y}
-    end
-  end
+  A = {MakeCounter}
+  B = {MakeCounter}
+  Increment = A.increment
+  Get = A.get
+  Other = B.get
+  {Increment}
+  {Increment}
+  {Browse {Get}}
+  {Browse {Other}}
 end

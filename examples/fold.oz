@@ -1,23 +1,10 @@
 % A loop with an accumulator, made from a procedure that is handed in: the sum and the product of a list.
-local Fold Add Multiply A B C Zero One Nil Xs S P in
-  proc {Fold Xs F State ?End}
-    case Xs of X|Xr then
-      local Next in
-        {F State X Next}
-        {Fold Xr F Next End}
-      end
-    else End = State end
+local Fold Xs in
+  fun {Fold Xs F State}
+    case Xs of X|Xr then {Fold Xr F {F State X}}
+    else State end
   end
-  proc {Add X Y ?Z} Z = X + Y end
-  proc {Multiply X Y ?Z} Z = X * Y end
-  A = 3  B = 4  C = 5  Zero = 0  One = 1  Nil = nil
-  local T U in
-    U = C|Nil
-    T = B|U
-    Xs = A|T
-  end
-  {Fold Xs Add Zero S}
-  {Fold Xs Multiply One P}
-  {Browse S}
-  {Browse P}
+  Xs = 3|4|5|nil
+  {Browse {Fold Xs fun {$ X Y} X + Y end 0}}
+  {Browse {Fold Xs fun {$ X Y} X * Y end 1}}
 end

@@ -1,40 +1,30 @@
 % CTM 5.4.4, agents: a lift at another site takes calls from a stream, and tells each floor that it passes. Who called waits until
 % it is there.
-local Call Lift Move Mail Calls Zero One Three A B in
-  Zero = 0  One = 1  Three = 3
-  {NewCell Calls Mail}
+local Call Lift Move Mail Calls in
+  Mail = {NewCell Calls}
   proc {Call Floor ?There}
-    local Old New M in
-      M = call(Floor There)
+    local Old New in
       {Exchange Mail Old New}
-      Old = M|New
+      Old = call(Floor There)|New
     end
   end
   proc {Move From To ?At}
-    local Up Down in
-      Up = From < To  Down = From > To
-      if Up then
-        local F in F = From + One  {Browse F}  {Move F To At} end
-      else
-        if Down then
-          local F in F = From - One  {Browse F}  {Move F To At} end
-        else At = To end
-      end
+    if From < To then {Browse From + 1}  At = {Move From + 1 To}
+    else
+      if From > To then {Browse From - 1}  At = {Move From - 1 To}
+      else At = To end
     end
   end
   proc {Lift Calls Pos}
     case Calls of M|Rest then
       case M of call(Floor There) then
-        local At in
-          {Move Pos Floor At}
-          There = At
-          {Lift Rest At}
-        end
+        There = {Move Pos Floor}
+        {Lift Rest There}
       else skip end
     else skip end
   end
-  thread at 2 {Lift Calls One} end
-  {Call Three A}  {Wait A}
-  {Call Zero B}  {Wait B}
+  thread at 2 {Lift Calls 1} end
+  {Wait {Call 3}}
+  {Wait {Call 0}}
   local Last in {Exchange Mail Last Last} Last = nil end
 end

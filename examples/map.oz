@@ -1,35 +1,16 @@
 % A procedure is a value: Map takes one and calls it for each element of a list.
-local Map Square Double Count One Five L M N in
-  One = 1
-  Five = 5
-  proc {Map Xs F ?Ys}
-    case Xs of X|Xr then
-      local Y Yr in
-        Ys = Y|Yr
-        {F X Y}
-        {Map Xr F Yr}
-      end
-    else Ys = nil end
+local Map Double Count L M in
+  fun {Map Xs F}
+    case Xs of X|Xr then {F X}|{Map Xr F}
+    else nil end
   end
-  proc {Square X ?Y} Y = X * X end
-  proc {Double X ?Y} Y = X + X end
-  proc {Count From To ?Xs}
-    local Ends in
-      Ends = From > To
-      if Ends then Xs = nil
-      else
-        local Next Xr in
-          Xs = From|Xr
-          Next = From + One
-          {Count Next To Xr}
-        end
-      end
-    end
+  fun {Double X} X + X end
+  fun {Count From To}
+    if From > To then nil else From|{Count From + 1 To} end
   end
-  {Count One Five L}
-  {Map L Square M}
-  {Map M Double N}
+  L = {Count 1 5}
+  M = {Map L fun {$ X} X * X end}
   {Browse L}
   {Browse M}
-  {Browse N}
+  {Browse {Map M Double}}
 end

@@ -1,54 +1,30 @@
 % CTM 9.2.3, a puzzle by search: five queens, none of which attacks another. Rows are tried from the first one on, and an exception
 % leads back from a square on which nothing can be built.
-local Attacked Place Try Zero One Nil Five Answer in
-  Zero = 0  One = 1  Five = 5  Nil = nil
+local Attacked Distance Place Try in
+  % how far two rows are from each other
+  fun {Distance Row Other}
+    if Row < Other then Other - Row else Row - Other end
+  end
   % whether a queen at the row attacks one of these, of which the first stands so many columns away
-  proc {Attacked Row Queens Away ?B}
+  fun {Attacked Row Queens Away}
     case Queens of Q|Qr then
-      local Up Down in
-        Up = Row - Q  Down = Q - Row
-        case Up of 0 then B = true
-        else
-          local Far Same in
-            Far = Up >= Zero
-            if Far then Same = Up else Same = Down end
-            local Least Most in
-              Least = Same >= Away  Most = Same =< Away
-              if Least then
-                if Most then B = true
-                else local Next in Next = Away + One {Attacked Row Qr Next B} end end
-              else local Next in Next = Away + One {Attacked Row Qr Next B} end end
-            end
-          end
-        end
-      end
-    else B = false end
+      if Row == Q then true
+      else if {Distance Row Q} == Away then true else {Attacked Row Qr Away + 1} end end
+    else false end
   end
   % places so many queens more
-  proc {Place N Queens ?Answer}
-    case N of 0 then Answer = Queens
-    else {Try One N Queens Answer} end
+  fun {Place N Queens}
+    if N == 0 then Queens else {Try 1 N Queens} end
   end
   proc {Try Row N Queens ?Answer}
-    local Fits in
-      Fits = Row =< Five
-      if Fits then
-        local B Next in
-          {Attacked Row Queens One B}
-          Next = Row + One
-          if B then {Try Next N Queens Answer}
-          else
-            local More Less Found in
-              More = Row|Queens
-              Less = N - One
-              try {Place Less More Found} Answer = Found
-              catch E then {Try Next N Queens Answer} end
-            end
-          end
-        end
-      else local E in E = none raise E end end end
+    if Row > 5 then raise none end
+    else
+      if {Attacked Row Queens 1} then Answer = {Try Row + 1 N Queens}
+      else
+        try Answer = {Place N - 1 Row|Queens}
+        catch E then Answer = {Try Row + 1 N Queens} end
+      end
     end
   end
-  {Place Five Nil Answer}
-  {Browse Answer}
+  {Browse {Place 5 nil}}
 end

@@ -1,19 +1,8 @@
 % Reversing a list with an accumulator. The last call leaves nothing on the stack.
-local Reverse A B C Nil Xs Ys in
-  proc {Reverse Xs Done ?Ys}
-    case Xs of X|Xr then
-      local More in
-        More = X|Done
-        {Reverse Xr More Ys}
-      end
-    else Ys = Done end
+local Reverse in
+  fun {Reverse Xs Done}
+    case Xs of X|Xr then {Reverse Xr X|Done}
+    else Done end
   end
-  A = a  B = b  C = c  Nil = nil
-  local T U in
-    U = C|Nil
-    T = B|U
-    Xs = A|T
-  end
-  {Reverse Xs Nil Ys}
-  {Browse Ys}
+  {Browse {Reverse a|b|c|nil nil}}
 end

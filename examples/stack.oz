@@ -1,40 +1,30 @@
 % A stack with state: a cell holds the list of what was pushed. Popping an empty stack raises an exception.
-local MakeStack A B S Push Pop X Y Z in
-  A = a  B = b
+local MakeStack S Push Pop in
   proc {MakeStack ?Stack}
-    local C Nil Push Pop in
-      Nil = nil
-      {NewCell Nil C}
+    local C Push Pop in
+      C = {NewCell nil}
       proc {Push X}
-        local Old New in
-          {Exchange C Old New}
-          New = X|Old
-        end
+        local Old in {Exchange C Old X|Old} end
       end
       proc {Pop ?X}
         local Old New in
           {Exchange C Old New}
-          case Old of H|T then X = H New = T
+          case Old of H|T then X = H  New = T
           else
-            local Empty in
-              New = Old
-              Empty = empty
-              raise Empty end
-            end
+            New = Old
+            raise empty end
           end
         end
       end
       Stack = stack(pop:Pop push:Push)
     end
   end
-  {MakeStack S}
+  S = {MakeStack}
   Push = S.push
   Pop = S.pop
-  {Push A}
-  {Push B}
-  {Pop X}
-  {Browse X}
-  {Pop Y}
-  {Browse Y}
-  try {Pop Z} catch E then {Browse E} end
+  {Push a}
+  {Push b}
+  {Browse {Pop}}
+  {Browse {Pop}}
+  try {Browse {Pop}} catch E then {Browse E} end
 end

@@ -1,0 +1,40 @@
+% CTM 5.4.4, agents: a lift at another site takes calls from a stream, and tells each floor that it passes. Who called waits until
+% it is there.
+local Call Lift Move Mail Calls Zero One Three A B in
+  Zero = 0  One = 1  Three = 3
+  {NewCell Calls Mail}
+  proc {Call Floor ?There}
+    local Old New M in
+      M = call(Floor There)
+      {Exchange Mail Old New}
+      Old = M|New
+    end
+  end
+  proc {Move From To ?At}
+    local Up Down in
+      Up = From < To  Down = From > To
+      if Up then
+        local F in F = From + One  {Browse F}  {Move F To At} end
+      else
+        if Down then
+          local F in F = From - One  {Browse F}  {Move F To At} end
+        else At = To end
+      end
+    end
+  end
+  proc {Lift Calls Pos}
+    case Calls of M|Rest then
+      case M of call(Floor There) then
+        local At in
+          {Move Pos Floor At}
+          There = At
+          {Lift Rest At}
+        end
+      else skip end
+    else skip end
+  end
+  thread at 2 {Lift Calls One} end
+  {Call Three A}  {Wait A}
+  {Call Zero B}  {Wait B}
+  local Last in {Exchange Mail Last Last} Last = nil end
+end
