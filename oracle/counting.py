@@ -2,7 +2,8 @@
 
     local Old New in .. {Exchange C Old New} New = Old + K .. end
 
-is such a count where nothing else uses `Old` and `New`. Two counts in one cell that holds an integer may change places, and nobody
+is such a count where nothing else uses `Old` and `New`; an amount that is an integer in the text has a name of its own, as `local K in K = 1
+New = Old + K end`. Two counts in one cell that holds an integer may change places, and nobody
 can tell: the cell has the same content then, and no thread has kept the one between. That is so as long as all amounts are integers
 that are known, and no sum is too large for 128 bits.
 """
@@ -13,8 +14,19 @@ MOST_CONTENT = 2**61
 OTHER = "other"
 
 
-def amount_name(first, second, declared, free_elsewhere):
-    """The variable of the amount where these two statements are a count, or None."""
+def without_name(statement):
+    """A tell, and the name that an integer in it has, where that is so: `local K in K = 1 X = Y + K end`. Else the statement and None."""
+    kind, parts, _ = statement
+    if kind == "local" and len(parts[0]) == 1 and parts[1].kind == "sequence" and len(parts[1].parts) == 2:
+        named, telling = parts[1].parts
+        if is_small_integer(named) and named.parts[0] == parts[0][0]:
+            return telling, parts[0][0]
+    return statement, None
+
+
+def amount_names(first, second, declared, free_elsewhere):
+    """The variables of the amount where these two statements are a count: one, or none where the text has it; else None."""
+    second, literal = without_name(second)
     if first.kind != "Exchange" or second.kind != "tell" or second.parts[1][0] != "operation":
         return None
     cell, old, new = first.parts
@@ -24,7 +36,9 @@ def amount_name(first, second, declared, free_elsewhere):
     private = {old, new}
     if sign not in ("+", "-") or left != new or one != old or len(private) < 2 or private & {cell, other}:
         return None
-    return other if private <= declared and not private & free_elsewhere else None
+    if not private <= declared or private & free_elsewhere:
+        return None
+    return frozenset({other} - {literal})
 
 
 class Counts:
@@ -40,8 +54,8 @@ class Counts:
             parts = statement.parts
             for at in range(len(parts) - 1):
                 elsewhere = frozenset().union(*(other.free for other in parts[:at] + parts[at + 2 :]))
-                amount = amount_name(parts[at], parts[at + 1], declared, elsewhere)
-                if amount:
+                amount = amount_names(parts[at], parts[at + 1], declared, elsewhere)
+                if amount is not None:
                     self.amounts[id(parts[at])] = parts[at + 1], amount
         names = frozenset(statement.parts[0]) if statement.kind == "local" else frozenset()
         for body in bodies(statement):
@@ -58,10 +72,8 @@ class Counts:
         if statement.kind == "Exchange":
             if id(statement) not in self.amounts:
                 return OTHER
-            name = self.amounts[id(statement)][1]
-            if name in known:
-                return frozenset()
-            return OTHER if name in declared else frozenset({name})
+            names = self.amounts[id(statement)][1] - known
+            return OTHER if names & declared else names
         found = frozenset()
         own = own_names(statement)
         declared, known = declared | own, known - own

@@ -1,7 +1,9 @@
 """Reads Kernel Oz: `read(text)` is the program of a text, as docs/language.md has its grammar. A text that is none is `Unreadable`; that
 its first fault is told as `oz` tells it is not promised, and limits of sizes are not known here."""
 import re
-from typing import NamedTuple
+
+from statements import built_in, call, caught, choice, in_order, local, raising, sequence, tell, thread
+from sugar import Expansion
 
 RESERVED = set(
     """skip local in end if then else case of thread at try catch raise proc div mod andthen attr choice class cond declare define
@@ -12,21 +14,13 @@ RESERVED = set(
 BUILT_IN = {"Browse": 1, "Wait": 1, "NewCell": 2, "Exchange": 3}
 TOKEN = re.compile(
     r"(?P<variable>[A-Z]\w*)|(?P<word>[a-z]\w*)|'(?P<quoted>(?:[^'\\]|\\.)*)'|(?P<integer>~?\d+)"
-    r"|(?P<sign>==|\\=|=<|>=|[=(){}$:.|+\-*<>])",
+    r"|(?P<sign>\[\]|==|\\=|=<|>=|[=(){}$:.|+\-*<>])",
     re.ASCII,
 )
 
 
 class Unreadable(Exception):
     """A text is no program: what is wrong, and how many characters stand before it."""
-
-
-class Statement(NamedTuple):
-    """A statement: its kind, what it has besides, and the variables that are free in it."""
-
-    kind: str
-    parts: tuple
-    free: frozenset
 
 
 def tokens(text):
@@ -69,16 +63,13 @@ def after_comment(text, at):
     raise Unreadable("a comment is open", at)
 
 
-def in_order(fields):
-    """Fields in the order of features: integers before atoms, these by their bytes."""
-    return tuple(sorted(fields, key=lambda field: (1, field[0].encode()) if isinstance(field[0], str) else (0, field[0])))
-
-
 class Reader:
-    """Reads a text. `declared` are the names declared around the place, and `statements` where each statement begins."""
+    """Reads a text. `declared` has the names that are declared around the place, each with its name in the program, where no name hides
+    another; `statements` is where each statement begins."""
 
     def __init__(self, text):
         (self.tokens, self.places), self.at, self.statements = tokens(text), 0, []
+        self.expansion, self.hiding = Expansion(), 0
 
     def fault(self, wanted):
         """That something else stands at the token read last."""
@@ -92,9 +83,14 @@ class Reader:
             raise self.fault(" or ".join(kinds or ("a statement",)) + " is missing")
         return kind, said
 
+    def stands(self, *words):
+        """Whether one of these words or signs comes next."""
+        kind, said = self.tokens[self.at]
+        return kind in ("word", "sign") and said in words
+
     def takes(self, said):
         """Takes this word or sign, if it comes next."""
-        taken = self.tokens[self.at] in (("word", said), ("sign", said))
+        taken = self.stands(said)
         self.at += taken
         return taken
 
@@ -104,25 +100,45 @@ class Reader:
                 self.at += 1
                 raise self.fault(f"{said} is missing")
 
-    def variable(self, declared=None):
-        """Takes a variable, which has to be declared where names are given."""
-        name = self.next("variable")[1]
-        if declared is not None and name not in declared:
-            raise self.fault(f"{name} is undeclared")
-        return name
+    # ---- names
 
-    def variables(self, closing, declared=None):
-        names = []
+    def variable(self, declared):
+        """Takes a variable that is used, and gives its name in the program."""
+        name = self.next("variable")[1]
+        if name not in declared:
+            raise self.fault(f"{name} is undeclared")
+        return declared[name]
+
+    def names(self, closing):
+        """Takes the variables up to this sign or word."""
+        found = []
         while not self.takes(closing):
-            names.append(self.variable(declared))
-        return tuple(names)
+            found.append(self.next("variable")[1])
+        return found
+
+    def declare(self, declared, names):
+        """What is declared where these names are, too, and their names in the program."""
+        inside, made = dict(declared), []
+        for name in names:
+            self.hiding += 1
+            inside[name] = f"{name}'{self.hiding}" if name in inside else name
+            made.append(inside[name])
+        return inside, tuple(made)
+
+    # ---- statements
 
     def sequence(self, declared, *closings):
-        """Statements up to one of these words, which is taken, or up to the end of the text where none is given."""
+        """Statements up to one of these words, which stays, or up to the end of the text where none is given."""
         statements = [self.statement(declared)]
-        while not (any(map(self.takes, closings)) if closings else self.tokens[self.at][0] == "end"):
+        while not (self.stands(*closings) if closings else self.tokens[self.at][0] == "end"):
             statements.append(self.statement(declared))
-        return Statement("sequence", tuple(statements), frozenset().union(*(statement.free for statement in statements)))
+        return sequence(*statements)
+
+    def body(self, declared, closing):
+        """Statements up to this word, which is taken."""
+        statements = self.sequence(declared, closing)
+        self.expect(closing)
+        return statements
 
     def statement(self, declared):
         self.statements.append(self.places[self.at])
@@ -133,143 +149,196 @@ class Reader:
                 raise self.fault("no statement begins so")
             return reader(declared)
         if said == "{":
-            return self.call(declared)
+            name, is_built_in, values = self.called(declared, 0)
+            return self.expansion.held(values, lambda *names: built_in(name, names) if is_built_in else call(name, names))
         if kind != "variable" or said not in declared:
             raise self.fault(f"{said} is undeclared" if kind == "variable" else "no statement begins so")
         self.expect("=")
-        return self.tell(said, self.value(declared))
+        return self.expansion.told(declared[said], self.value(declared))
 
-    def tell(self, left, value):
-        kind, *parts = value
-        free = {left}
-        if kind == "variable":
-            free |= {parts[0]}
-        elif kind == "record":
-            free |= {name for _, name in parts[1]}
-        elif kind == "procedure":
-            free |= parts[1].free - set(parts[0])
-        elif kind == "operation":
-            free |= {parts[1], parts[2]}
-        elif kind == "selection":
-            free |= {parts[0]} | ({parts[1][1]} if parts[1][0] == "variable" else set())
-        return Statement("tell", (left, value), frozenset(free))
-
-    def value(self, declared):
-        kind, said = self.next("integer", "atom", "word", "variable")
-        if kind == "integer":
-            return "integer", said
-        if kind == "atom":
-            return self.record(said, declared)
-        if kind == "word":
-            self.at -= 1
-            self.expect("proc", "{", "$")
-            return self.procedure(declared)
-        if said not in declared:
-            raise self.fault(f"{said} is undeclared")
-        for sign in ("+", "-", "*", "div", "mod", "=<", "<", ">=", ">", "==", "\\="):
-            if self.takes(sign):
-                return "operation", sign, said, self.variable(declared)
-        if self.takes("."):
-            by = self.next("variable", "atom", "integer")
-            if by[0] == "variable" and by[1] not in declared:
-                raise self.fault(f"{by[1]} is undeclared")
-            return "selection", said, by
-        if self.takes("|"):
-            return "record", "|", ((1, said), (2, self.variable(declared)))
-        return "variable", said
-
-    def procedure(self, declared):
-        """A procedure's formals and its body."""
-        formals = self.variables("}")
-        return "procedure", formals, self.sequence(declared | set(formals), "end")
-
-    def record(self, label, declared=None):
-        """What follows an atom: a record, or an atom where it has no field."""
-        fields, count = [], 0
-        if self.takes("("):
-            while not self.takes(")"):
-                kind, said = self.next("variable", "atom", "integer")
-                if kind == "variable":
-                    self.at -= 1
-                    count += 1
-                    fields.append((count, self.variable(declared)))
-                else:
-                    self.expect(":")
-                    fields.append((said, self.variable(declared)))
-        return ("record", label, in_order(fields)) if fields else ("atom", label)
-
-    def pattern(self):
-        kind, said = self.next("variable", "integer", "atom")
-        if kind == "variable":
-            self.expect("|")
-            return "record", "|", ((1, said), (2, self.variable()))
-        return ("integer", said) if kind == "integer" else self.record(said)
-
-    def call(self, declared):
+    def called(self, declared, results):
+        """What is called, whether it is built in, and its arguments, of which so many as results are left out."""
         name = self.next("variable")[1]
+        values = []
         if name in BUILT_IN and name not in declared:
-            names = tuple(self.variable(declared) for _ in range(BUILT_IN[name]))
+            values = [self.value(declared) for _ in range(BUILT_IN[name] - results)]
             self.expect("}")
-            return Statement(name, names, frozenset(names))
+            return name, True, values
         if name not in declared:
             raise self.fault(f"{name} is undeclared")
-        names = self.variables("}", declared)
-        return Statement("call", (name, names), frozenset(names) | {name})
+        while not self.takes("}"):
+            values.append(self.value(declared))
+        return declared[name], False, values
 
     def read_skip(self, declared):
-        return Statement("sequence", (), frozenset())
+        return sequence()
 
     def read_local(self, declared):
-        names = (self.variable(), *self.variables("in"))
-        body = self.sequence(declared | set(names), "end")
-        return Statement("local", (names, body), body.free - set(names))
+        inside, names = self.declare(declared, [self.next("variable")[1], *self.names("in")])
+        return local(names, self.body(inside, "end"))
 
     def read_if(self, declared):
-        subject = self.variable(declared)
+        subject = self.value(declared)
         self.expect("then")
-        first, second = self.sequence(declared, "else"), self.sequence(declared, "end")
-        return Statement("if", (subject, first, second), first.free | second.free | {subject})
+        first, second = self.body(declared, "else"), self.body(declared, "end")
+        return self.expansion.held((subject,), lambda name: choice(name, first, second))
 
     def read_case(self, declared):
-        subject = self.variable(declared)
-        self.expect("of")
-        pattern = self.pattern()
-        names = {name for _, name in pattern[2]} if pattern[0] == "record" else set()
-        self.expect("then")
-        first, second = self.sequence(declared | names, "else"), self.sequence(declared, "end")
-        return Statement("case", (subject, pattern, first, second), (first.free - names) | second.free | {subject})
+        subject, clauses = self.clauses(declared, lambda inside: self.sequence(inside, "[]", "else"))
+        return self.expansion.matched(subject, clauses, self.body(declared, "end"))
 
     def read_thread(self, declared):
         if self.takes("at"):
             self.next("integer")
-        body = self.sequence(declared, "end")
-        return Statement("thread", (body,), body.free)
+        return thread(self.body(declared, "end"))
 
     def read_try(self, declared):
-        body = self.sequence(declared, "catch")
-        name = self.variable()
-        self.expect("then")
-        handler = self.sequence(declared | {name}, "end")
-        return Statement("try", (body, name, handler), body.free | (handler.free - {name}))
+        body = self.sequence(declared, "catch", "finally")
+        if self.takes("catch"):
+            inside, (name,) = self.declare(declared, [self.next("variable")[1]])
+            self.expect("then")
+            body = caught(body, name, self.sequence(inside, "finally", "end"))
+        if self.takes("end"):
+            return body
+        self.expect("finally")
+        return self.expansion.finished(body, self.body(declared, "end"))
 
     def read_raise(self, declared):
-        name = self.variable(declared)
+        raised = self.value(declared)
         self.expect("end")
-        return Statement("raise", (name,), frozenset({name}))
+        return self.expansion.held((raised,), raising)
 
     def read_proc(self, declared):
         self.expect("{")
         name = self.variable(declared)
-        return self.tell(name, self.procedure(declared))
+        return tell(name, self.procedure(declared))
+
+    def read_fun(self, declared):
+        self.expect("{")
+        name = self.variable(declared)
+        return self.expansion.told(name, self.function(declared))
+
+    # ---- values
+
+    def value(self, declared):
+        if self.takes("if"):
+            subject = self.value(declared)
+            self.expect("then")
+            chosen = self.value(declared)
+            self.expect("else")
+            return "if", subject, chosen, self.closed(declared, "end")
+        if self.takes("case"):
+            subject, clauses = self.clauses(declared, self.value)
+            return "case", subject, clauses, self.closed(declared, "end")
+        first = self.primary(declared)
+        for sign in ("+", "-", "*", "div", "mod", "=<", "<", ">=", ">", "==", "\\="):
+            if self.takes(sign):
+                return "operation", sign, first, self.primary(declared)
+        return self.list_from(first, declared)
+
+    def closed(self, declared, closing):
+        """A value, with the word or sign behind it."""
+        value = self.value(declared)
+        self.expect(closing)
+        return value
+
+    def list_from(self, first, declared):
+        """A value, or a list whose first element it is."""
+        elements = [first]
+        while self.takes("|"):
+            elements.append(self.primary(declared))
+        made = elements.pop()
+        for element in reversed(elements):
+            made = "record", "|", ((1, element), (2, made))
+        return made
+
+    def primary(self, declared):
+        value = self.first_of_primary(declared)
+        while self.takes("."):
+            kind, said = self.next("variable", "atom", "integer")
+            if kind == "variable" and said not in declared:
+                raise self.fault(f"{said} is undeclared")
+            value = "selection", value, (kind, declared[said] if kind == "variable" else said)
+        return value
+
+    def first_of_primary(self, declared):
+        """A primary without the selections behind it."""
+        if self.takes("{"):
+            name, is_built_in, values = self.called(declared, 1)
+            return "built in" if is_built_in else "call", name, values
+        if self.takes("("):
+            return "brackets", self.closed(declared, ")")
+        if self.stands("proc", "fun"):
+            reading = self.function if self.stands("fun") else self.procedure
+            self.next()
+            self.expect("{", "$")
+            return reading(declared)
+        kind, said = self.next("integer", "atom", "variable")
+        if kind == "atom":
+            return self.record(said, declared)
+        if kind == "variable":
+            self.at -= 1
+            said = self.variable(declared)
+        return kind, said
+
+    def procedure(self, declared):
+        """A procedure's formals and its body."""
+        inside, formals = self.declare(declared, self.names("}"))
+        return "procedure", formals, self.body(inside, "end")
+
+    def function(self, declared):
+        """A function's formals and its value."""
+        inside, formals = self.declare(declared, self.names("}"))
+        return "function", formals, self.closed(inside, "end")
+
+    def record(self, label, declared):
+        """What follows an atom: a record, or an atom where it has no field."""
+        fields = self.fields(lambda: self.value(declared)) if self.takes("(") else ()
+        return ("record", label, fields) if fields else ("atom", label)
+
+    def fields(self, reading):
+        """Fields up to the bracket that closes them, each with its feature."""
+        found, count = [], 0
+        while not self.takes(")"):
+            if self.tokens[self.at][0] in ("atom", "integer") and self.tokens[self.at + 1] == ("sign", ":"):
+                feature = self.next("atom", "integer")[1]
+                self.expect(":")
+            else:
+                count += 1
+                feature = count
+            found.append((feature, reading()))
+        return tuple(found)
+
+    def clauses(self, declared, reading):
+        """The subject of a `case`, and its patterns with what is read behind each."""
+        subject, clauses = self.closed(declared, "of"), []
+        while not clauses or self.takes("[]"):
+            kind, said, names = self.pattern()
+            inside, made = self.declare(declared, [name for _, name in names])
+            self.expect("then")
+            pattern = ("record", said, tuple(zip([feature for feature, _ in names], made))) if names else (kind, said)
+            clauses.append((pattern, reading(inside)))
+        self.expect("else")
+        return subject, clauses
+
+    def pattern(self):
+        """The kind of a pattern, its integer, atom or label, and its variables in the order of their features."""
+        kind, said = self.next("variable", "integer", "atom")
+        if kind == "variable":
+            self.expect("|")
+            return "record", "|", ((1, said), (2, self.next("variable")[1]))
+        if kind == "atom" and self.takes("("):
+            return kind, said, in_order(self.fields(lambda: self.next("variable")[1]))
+        return kind, said, ()
 
 
 def read(text):
     """The program of a text."""
-    return Reader(text).sequence(frozenset())
+    return Reader(text).sequence({})
 
 
 def statement_places(text):
     """How many characters stand before each statement of a text."""
     reader = Reader(text)
-    reader.sequence(frozenset())
+    reader.sequence({})
     return reader.statements
