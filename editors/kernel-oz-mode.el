@@ -24,20 +24,21 @@
   "Atoms in quotes are strings here; comments go to the end of a line, or nest.")
 
 (defconst kernel-oz-words
-  '("skip" "local" "in" "end" "if" "then" "else" "case" "of" "thread" "at" "try" "catch" "raise" "proc" "div" "mod")
+  '("skip" "local" "in" "end" "if" "then" "else" "case" "of" "thread" "at" "try" "catch" "finally" "raise"
+    "proc" "fun" "div" "mod")
   "The reserved words that the language uses.")
 
 (defconst kernel-oz-unused-words
   '("andthen" "attr" "choice" "class" "cond" "declare" "define" "dis" "elsecase" "elseif" "export" "fail" "feat"
-    "finally" "from" "fun" "functor" "import" "lock" "meth" "not" "or" "orelse" "prepare" "prop" "require" "self" "unit")
+    "from" "functor" "import" "lock" "meth" "not" "or" "orelse" "prepare" "prop" "require" "self" "unit")
   "The reserved words that no rule uses.")
 
 (defvar kernel-oz-font-lock-keywords
   `(("{[ \t]*\\(Browse\\|Wait\\|NewCell\\|Exchange\\)\\>" 1 font-lock-builtin-face)
-    ("\\<proc[ \t]*{[ \t]*\\([A-Z]\\w*\\)" 1 font-lock-function-name-face)
+    ("\\<\\(?:proc\\|fun\\)[ \t]*{[ \t]*\\([A-Z]\\w*\\)" 1 font-lock-function-name-face)
     (,(regexp-opt kernel-oz-words 'words) . font-lock-keyword-face)
     (,(regexp-opt kernel-oz-unused-words 'words) . font-lock-warning-face)
-    ("\\[\\]" . font-lock-warning-face)
+    ("\\[\\]" . font-lock-keyword-face)
     ("~?\\<0[0-9]+\\>" . font-lock-warning-face)
     ("\\<[A-Z]\\w*\\>" . font-lock-variable-name-face)
     ("\\<[a-z]\\w*\\>" . font-lock-constant-face)
@@ -46,7 +47,7 @@
 
 (defvar kernel-oz-indent 2 "How many columns a body stands to the right of its statement.")
 
-(defconst kernel-oz-turning "\\<\\(local\\|proc\\|if\\|case\\|thread\\|try\\|raise\\|end\\)\\>")
+(defconst kernel-oz-turning "\\<\\(local\\|proc\\|fun\\|if\\|case\\|thread\\|try\\|raise\\|end\\)\\>")
 
 (defun kernel-oz-depth-at-line ()
   "How many statements are open where this line begins."
@@ -64,7 +65,7 @@
   (let ((depth (kernel-oz-depth-at-line)) (case-fold-search nil))
     (save-excursion
       (back-to-indentation)
-      (when (looking-at "\\(end\\|else\\|in\\|then\\|catch\\)\\>")
+      (when (looking-at "\\(?:end\\|else\\|in\\|then\\|catch\\|finally\\)\\>\\|\\[\\]")
         (setq depth (max 0 (1- depth))))
       (indent-line-to (* kernel-oz-indent depth)))
     (when (< (current-column) (current-indentation))

@@ -18,16 +18,15 @@ syntax match ozInteger "\~\?\<\d\+\>"
 syntax match ozBadInteger "\~\?\<0\d\+\>"
 
 " Reserved words that the language uses, and those that nothing uses.
-syntax keyword ozStatement skip local in end proc thread at raise
+syntax keyword ozStatement skip local in end proc fun thread at raise
 syntax keyword ozConditional if then else case of
-syntax keyword ozException try catch
+syntax keyword ozException try catch finally
 syntax keyword ozOperatorWord div mod
-syntax keyword ozUnused andthen attr choice class cond declare define dis elsecase elseif export fail feat finally from
-syntax keyword ozUnused fun functor import lock meth not or orelse prepare prop require self unit
+syntax keyword ozUnused andthen attr choice class cond declare define dis elsecase elseif export fail feat from
+syntax keyword ozUnused functor import lock meth not or orelse prepare prop require self unit
 
-" Signs; [] is a token that no rule uses.
-syntax match ozSign "==\|\\=\|[=(){}$:.|+*<>-]"
-syntax match ozUnusedSign "\[\]"
+" Signs.
+syntax match ozSign "\[\]\|==\|\\=\|[=(){}$:.|+*<>-]"
 
 " A quoted atom with its escapes, and comments: to the end of a line, or nested.
 syntax match ozEscape "\\['\\n]" contained
@@ -48,7 +47,6 @@ highlight default link ozException Exception
 highlight default link ozOperatorWord Operator
 highlight default link ozUnused Error
 highlight default link ozSign Operator
-highlight default link ozUnusedSign Error
 highlight default link ozEscape SpecialChar
 highlight default link ozBadEscape Error
 highlight default link ozQuoted String

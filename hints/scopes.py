@@ -1,31 +1,31 @@
 """What is open, and which names are declared, at a place of a text: read leniently, since the text is refused from there on."""
 import re
 
-TOKEN = re.compile(r"%[^\n]*|/\*|'(?:[^'\\\n]|\\.)*'|[A-Z]\w*|[a-z]\w*|\d+|[^\s\w]", re.ASCII)
+TOKEN = re.compile(r"%[^\n]*|/\*|\[\]|'(?:[^'\\\n]|\\.)*'|[A-Z]\w*|[a-z]\w*|\d+|[^\s\w]", re.ASCII)
 BLANKS = re.compile(r"[ \t]*")
-OPENING = ("local", "proc", "if", "case", "thread", "try", "raise")
+OPENING = ("local", "proc", "fun", "if", "case", "thread", "try", "raise")
 # The words behind which a statement declares nothing any more, and those behind which it declares what stands there.
 BODY = ("in", "then", "}")
-PATTERN = ("of", "catch")
+PATTERN = ("of", "[]", "catch")
 
 
 class Opened:
-    """A statement that was opened: its word, its place, by how much its line is indented, the names that it declares, and whether names
-    that come are declared."""
+    """A statement or a value that was opened: its word, its place, by how much its line is indented, the names that it declares, and whether names
+    that come are declared. It is headless as long as the name of a procedure or of a function is to come."""
 
     def __init__(self, word, line, column, indent):
         self.word, self.line, self.column, self.indent, self.names = word, line, column, indent, []
-        self.declares = word == "local"
+        self.declares, self.is_headless = word == "local", word in ("proc", "fun")
 
     def place(self):
         return f"{self.line}:{self.column}"
 
     def go_on(self, word, last):
         """What a word says of this statement, behind the last one."""
-        if word in PATTERN or word == "else":
+        if word in PATTERN or word in ("else", "finally"):
             self.names, self.declares = [], word in PATTERN
-        elif self.word == "proc" and last == "{" and not self.names:
-            self.declares = True
+        elif last == "{" and self.is_headless:
+            self.declares, self.is_headless = True, False
         elif word in BODY:
             self.declares = False
         elif self.declares and word[0].isupper():
