@@ -139,10 +139,23 @@ UNDECLARED = "local X in\n  X = 1\n  {Browse Y}\nend\n"
 FAILED = "uncaught failure(tell)"
 RACE_LINES = [lines for told in "12" for lines in ([told, FAILED], [FAILED, told])]
 
+# Each form of sugar, and a text that stands for a program which is too deep.
+SUGAR = """local F G X in
+  fun {F N} if N =< 1 then 1 else N * {F N - 1} end end
+  fun {G Xs} case Xs of nil then 0 [] H|T then H.a + {G T} else ~1 end end
+  try {Browse {F 5}} finally {Browse {G f(a:1)|f(a:2)|nil}} end
+  try raise f(1 b:2) end catch E then {Browse E} finally {Browse (X) == X} end
+end
+"""
+SUGAR_LINES = ["120", "3", "f(1 b:2)", "true"]
+DEEP = f"local X in X = {'1|' * 120}nil end"
+
 CASES = {
     "race": Case([], 3, RACE, RACE_LINES, "quiescent ended=3 waiting=0"),
     "cell": Case([], 4, CELL, [["100"]], "quiescent ended=5 waiting=0"),
     "gen": Case(["gen", "2"], 4, "", [["120", "20"]], "quiescent ended=7 waiting=0"),
     "whole": Case([], 4, WHOLE, [WHOLE_LINES], "quiescent ended=3 waiting=0"),
     "refused": Case([], 4, UNDECLARED, [[]], "refused 3:11 undeclared", 3),
+    "sugar": Case([], 4, SUGAR, [SUGAR_LINES], "quiescent ended=1 waiting=0"),
+    "deep": Case([], 4, DEEP, [[]], "refused 1:214 nested too deep", 3),
 }

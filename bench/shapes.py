@@ -224,6 +224,33 @@ def compared_rings(n):
 end"""
 
 
+def compared_coprime(n):
+    """A ring of n nodes and one of n + 1, compared: each node of the one meets each of the other."""
+    return f"""local Ring Zero One N More Nil L M R in {constants(n)} More = {n + 1}
+  proc {{Ring K First ?L}}
+    local Ends in
+      Ends = K =< One
+      if Ends then L = f(First) else local M T in M = K - One L = f(T) {{Ring M First T}} end end
+    end
+  end
+  {{Ring N L L}} {{Ring More M M}} R = L == M {{Wait R}}
+end"""
+
+
+def awaited_list(n):
+    """n threads that wait for the same four variables, and for those of them that are left each time when one is bound."""
+    return f"""local Start Zero One N Nil Left Right A B C D in {constants(n)} Left = f(A B) Right = f(C D)
+  proc {{Start K}}
+    local Ends in
+      Ends = K =< Zero
+      if Ends then skip else local M R in M = K - One thread R = Left == Right {{Wait R}} end {{Start M}} end end
+    end
+  end
+  {{Start N}}
+  thread A = One end thread {{Wait A}} C = One end thread {{Wait C}} B = One end thread {{Wait B}} D = One end
+end"""
+
+
 def association_list(n):
     """A key looked up in a list of n pairs, of which the last has it: each key is compared with it."""
     return f"""local Make Look Zero One N Nil L Sought Value in {constants(n)}
@@ -436,6 +463,16 @@ def locals_():
     return f"local {names} in V0 = V63 end\n"
 
 
+def functions():
+    """Functions, calls within operators, and records of values."""
+    return "local F X in fun {F N} if N =< 1 then 1 else N * {F N - 1} end end X = f(1 a:{F 2}) end\n"
+
+
+def lists():
+    """Lists of integers."""
+    return "local X in X = " + "1|" * 98 + "nil end\n"
+
+
 def repeated(piece, size):
     """A text of so many KiB, of pieces side by side."""
     one = piece()
@@ -461,9 +498,16 @@ SHAPES = [
     (compared_streams, 1, (8, 16, 32), 4000, 3),
     (compared_rings, 1, (8, 16, 32), 1000, 3),
     (association_list, 1, (8, 16, 32), 2000, 3),
+    (awaited_list, 1, (80, 160, 320), 1250, 3),
     (chain_down, 1, (8, 16, 32), 10000, 3),
     (chain_up, 1, (8, 16, 32), 10000, 3),
     (chain_read, 1, (8, 16, 32), 10000, 3),
+]
+
+# shapes whose steps do not tell their work: shape, what it does as its size tells, the degree of its steps, the sizes that find them,
+# the first size measured, and how often it is doubled
+COMPARED = [
+    (compared_coprime, lambda n: n * (n + 1), 1, (8, 16, 32), 50, 3),
 ]
 
 # programs that are placed on sites: shape, the number of sites, the first size measured, and how often it is doubled
@@ -478,5 +522,5 @@ PLACED = [
     (spread, 4, 5000, 3),
 ]
 
-TEXTS = [statements, nests, locals_]
+TEXTS = [statements, nests, locals_, functions, lists]
 TEXT_SIZES = (128, 256, 512, 1024)
