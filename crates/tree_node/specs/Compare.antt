@@ -1,5 +1,5 @@
--- Whether two variables are equal or different for all that a store tells, or on which variables that hangs (entailment of
--- equality: CTM section 2.8.2). Each pair of parts is looked at by itself: nothing is concluded from two pairs together.
+-- Whether two variables are equal or different for all that a store tells, or which open variables would have to be told first
+-- (entailment of equality: CTM section 2.8.2). Each pair of parts is looked at by itself: nothing is concluded from two pairs together.
 use Rattle.std.specs.Prelude.{◌≡◌, ◌↔◌, ℕ, zero, suc, ◌*◌, ◌≤◌, List, [], ◌∷◌, ◌++◌, length, fold, Bool, true, false, ◌&&◌, Option, Some, None, Contains, if◌then◌else◌}
 use Rattle.std.specs.List.{list_any, flat_map}
 use Rattle.std.specs.Str.{bytes_eq}
@@ -115,7 +115,7 @@ open_within s p d = each_once equal_var (flat_map (open_roots s) (pairs_within s
 pub data Comparison : Type 0 where
   Equal : Comparison
   Different : Comparison
-  Open : (vars : List VarName) → Comparison  -- it hangs on these
+  Open : (vars : List VarName) → Comparison  -- these are open
 
 -- no pair stands for the first time deeper than there are pairs of equations
 abbrev pub depth_of : Store → ℕ

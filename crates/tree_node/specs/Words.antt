@@ -8,17 +8,17 @@ use Rattle.std.specs.Str.{bytes_eq}
 abbrev pub grammar_words : List (List ℕ)
 grammar_words =
     codes "skip" ∷ codes "local" ∷ codes "in" ∷ codes "end" ∷ codes "if" ∷ codes "then" ∷ codes "else"
-    ∷ codes "case" ∷ codes "of" ∷ codes "thread" ∷ codes "at" ∷ codes "try" ∷ codes "catch" ∷ codes "raise"
-    ∷ codes "proc" ∷ codes "div" ∷ codes "mod" ∷ []
+    ∷ codes "case" ∷ codes "of" ∷ codes "thread" ∷ codes "at" ∷ codes "try" ∷ codes "catch" ∷ codes "finally"
+    ∷ codes "raise" ∷ codes "proc" ∷ codes "fun" ∷ codes "div" ∷ codes "mod" ∷ []
 
 -- those that it keeps for later
 abbrev pub later_words : List (List ℕ)
 later_words =
     codes "andthen" ∷ codes "attr" ∷ codes "choice" ∷ codes "class" ∷ codes "cond" ∷ codes "declare"
     ∷ codes "define" ∷ codes "dis" ∷ codes "elsecase" ∷ codes "elseif" ∷ codes "export" ∷ codes "fail"
-    ∷ codes "feat" ∷ codes "finally" ∷ codes "from" ∷ codes "fun" ∷ codes "functor" ∷ codes "import"
-    ∷ codes "lock" ∷ codes "meth" ∷ codes "not" ∷ codes "or" ∷ codes "orelse" ∷ codes "prepare"
-    ∷ codes "prop" ∷ codes "require" ∷ codes "self" ∷ codes "unit" ∷ []
+    ∷ codes "feat" ∷ codes "from" ∷ codes "functor" ∷ codes "import" ∷ codes "lock" ∷ codes "meth"
+    ∷ codes "not" ∷ codes "or" ∷ codes "orelse" ∷ codes "prepare" ∷ codes "prop" ∷ codes "require"
+    ∷ codes "self" ∷ codes "unit" ∷ []
 
 -- all of them
 unfoldable pub reserved_words : List (List ℕ)

@@ -41,7 +41,7 @@ pub fn comparisons_are_exact()
     ensures equal_found { EqualIsFound }
     ensures different { DifferentIsTold }
     ensures different_found { DifferentIsFound }
-    ensures hangs { OpenIsTold }
+    ensures open_told { OpenIsTold }
     ensures all { OpenIsAll }
     ensures one { NeverBoth }
 {}
@@ -53,7 +53,7 @@ pub fn comparisons_stay()
     ensures equal { EqualStays }
     ensures different { DifferentStays }
     ensures apart { DifferentIsNeverSame }
-    ensures hangs { OpenStays }
+    ensures open_stays { OpenStays }
     ensures list { OpenListStays }
     ensures more { MoreIsWithin }
     ensures agreeing { AgreeingAnswer }

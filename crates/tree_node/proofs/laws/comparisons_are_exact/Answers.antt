@@ -7,7 +7,7 @@ returns c = record {
   equal_found = equal_is_found;
   different = different_is_told;
   different_found = different_is_found;
-  hangs = open_is_told;
+  open_told = open_is_told;
   all = open_is_all;
   one = never_both;
 }

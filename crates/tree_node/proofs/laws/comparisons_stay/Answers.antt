@@ -2,4 +2,4 @@ use Rattle.tree_node.proofs.CompareLaws.{equal_stays, different_stays, different
 use Rattle.tree_node.proofs.laws.comparisons_stay.Goals as goal
 
 pub returns : goal.returns
-returns c = record { equal = equal_stays; different = different_stays; apart = different_is_never_same; hangs = open_stays; list = open_list_stays; more = more_is_within; agreeing = agreeing_answer }
+returns c = record { equal = equal_stays; different = different_stays; apart = different_is_never_same; open_stays = open_stays; list = open_list_stays; more = more_is_within; agreeing = agreeing_answer }
