@@ -1,6 +1,6 @@
 //! Threads by name.
 
-ghost use Rattle.std.specs.Prelude.{Contains, ◌≡◌, ◌↔◌, ◌+◌, ◌∷◌, ◌++◌, [], List, None, Some, OnOk, OnErr, IfSome, IfNone, IsTrue, IsSome, length};
+ghost use Rattle.std.specs.Prelude.{Contains, ◌≡◌, ◌≢◌, ◌↔◌, ◌+◌, ◌∷◌, ◌++◌, [], List, None, Some, OnOk, OnErr, IfSome, IfNone, IsTrue, IsSome, length};
 ghost use Rattle.std.specs.Borrow.{sem};
 ghost use Rattle.tree_node.specs.declared.names.ThreadName.{ThreadName as Named};
 ghost use Rattle.tree_node.specs.Assoc.{value_of, without_key};
@@ -222,6 +222,7 @@ impl<V: Drop> Roster<V> {
     /// is passed over there.
     pub fn wait_any(&mut self, name: ThreadName, vars: Vars) -> Result<(), AllocError>
         requires lives { IsSome (value_of equal_thread self.old.living name) }
+        requires some { vars ≢ [] }
         ensures living { OnOk result (self.new.living ≡ set_mode self.old.living name (stands.WaitsAny vars)) }
         ensures ended { OnOk result (self.new.ended ≡ self.old.ended) }
         ensures order { OnOk result (self.new.order ≡ without_name name self.old.order) }
@@ -264,7 +265,7 @@ impl<V: Drop> Roster<V> {
     }
 
     /// The threads that wait for a variable go on, behind those that can go on, in the order in which they first came to wait for
-    /// it. One that is among the keys there still, and goes on already, keeps its place.
+    /// it, which no clause tells. One that is among the keys there still, and goes on already, keeps its place. No key stays there.
     pub fn wake(&mut self, var: VarName) -> Result<(), AllocError>
         ensures living { OnOk result (self.new.living ≡ wake_all var self.old.living) }
         ensures ended { OnOk result (self.new.ended ≡ self.old.ended) }
@@ -272,6 +273,8 @@ impl<V: Drop> Roster<V> {
         ensures err { OnErr result (self.new ≡ self.old) }
     {
         if self.waiting == 0 {
+            // Those that went on by another variable may have left keys here.
+            self.waiters.take(var);
             return Ok(());
         }
         let keys = self.waiters.keys_at(var);

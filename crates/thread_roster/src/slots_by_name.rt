@@ -95,7 +95,7 @@ pub fn next_runnable<V>(slots: &Vec<Slot<V>>, queue: &mut Queue) -> Option<Threa
     None
 }
 
-/// How many wait, once a thread does that waited before, or did not.
+/// How many threads wait after one has come to wait; `before` tells whether it waited already.
 pub fn count_waiting(waiting: usize, before: bool) -> usize
     requires few { waiting < 2 ^ 63 }
     ensures { result + (if before then 1 else 0) ≡ waiting + 1 }
@@ -103,7 +103,7 @@ pub fn count_waiting(waiting: usize, before: bool) -> usize
     if before { waiting } else { waiting + 1 }
 }
 
-/// How many wait, once a thread does not any more that waited before, or did not.
+/// How many threads wait after one has gone on or ended; `before` tells whether it waited.
 pub fn count_running(waiting: usize, before: bool) -> usize
     requires among { (if before then 1 else 0) ≤ waiting }
     ensures { result + (if before then 1 else 0) ≡ waiting }
