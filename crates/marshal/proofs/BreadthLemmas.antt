@@ -2,7 +2,7 @@
 use Rattle.std.proofs.Common.{arith, ◌≡◌, ◌∙◌, sym, ap, refl, subst, ℕ, zero, suc, ◌+◌, ◌≤◌, List, [], ◌∷◌, ◌++◌, length, map, append_assoc, ◌⊎◌, inl, inr, Bool, true, false, cond, ◌||◌, None, Some}
 use Rattle.std.proofs.lemmas.List.{append-nil, length-append}
 use Rattle.std.proofs.lemmas.List.Folds.{list_any-append}
-use Rattle.std.specs.Prelude.{Option}
+use Rattle.std.specs.Prelude.{Option, option_to_list}
 use Rattle.std.specs.List.{list_any}
 use Rattle.tree_node.specs.declared.names.VarName.{VarName}
 use Rattle.tree_node.specs.declared.node.Term.{Term}
@@ -11,7 +11,7 @@ use Rattle.tree_node.specs.Each.{Each}
 use Rattle.tree_node.specs.Store.{Store, Equation, equal_var}
 use Rattle.tree_node.proofs.ClassLemmas.{same_name_decides, same_name_refl}
 use Rattle.site_message.specs.Vars.{vars_of}
-use Rattle.site_model.specs.Bundle.{vars_of_terms, option_list, known_terms, reachable_vars, distinct_vars, known_equations, reachable_equations}
+use Rattle.site_model.specs.Bundle.{vars_of_terms, known_terms, reachable_vars, distinct_vars, known_equations, reachable_equations}
 use Rattle.marshal.specs.Marshal.{equations_among}
 use Rattle.marshal.proofs.ImportLemmas.{distinct_append, seen_moved}
 
@@ -51,7 +51,7 @@ in_distinct (x ∷ xs) seen = go (list_any (equal_var x) seen) refl (in_distinct
 
 -- those in the term of a variable
 abbrev onward : Store → VarName → List VarName
-onward s x = vars_of_terms (option_list (value_of equal_var s x))
+onward s x = vars_of_terms (option_to_list (value_of equal_var s x))
 
 abbrev onward_all : Store → List VarName → List VarName
 onward_all s xs = vars_of_terms (known_terms s xs)
@@ -64,7 +64,7 @@ equation_vars (e ∷ es) = vars_of e.1 ++ equation_vars es
 onward_cons : (s : Store) (x : VarName) (xs : List VarName) → onward_all s (x ∷ xs) ≡ onward s x ++ onward_all s xs
 onward_cons s x xs = go (value_of equal_var s x)
   where
-    go : (o : Option Term) → vars_of_terms (option_list o ++ known_terms s xs) ≡ vars_of_terms (option_list o) ++ onward_all s xs
+    go : (o : Option Term) → vars_of_terms (option_to_list o ++ known_terms s xs) ≡ vars_of_terms (option_to_list o) ++ onward_all s xs
     go None = refl
     go (Some t) = ap (λ (l : List VarName). l ++ onward_all s xs) (sym (append-nil (vars_of t)))
 
@@ -83,14 +83,14 @@ onward_known s [] = refl
 onward_known s (x ∷ xs) = go (value_of equal_var s x) (onward_known s xs)
   where
     go : (o : Option Term) → equation_vars (known_equations s xs) ≡ onward_all s xs →
-        equation_vars (map (λ (t : Term). (x, t)) (option_list o) ++ known_equations s xs) ≡ vars_of_terms (option_list o ++ known_terms s xs)
+        equation_vars (map (λ (t : Term). (x, t)) (option_to_list o) ++ known_equations s xs) ≡ vars_of_terms (option_to_list o ++ known_terms s xs)
     go None ih = ih
     go (Some t) ih = ap (λ (l : List VarName). vars_of t ++ l) ih
 
 pub known_append : (s : Store) (xs ys : List VarName) → known_equations s (xs ++ ys) ≡ known_equations s xs ++ known_equations s ys
 known_append s [] ys = refl
 known_append s (x ∷ xs) ys =
-    let first : List Equation = map (λ (t : Term). (x, t)) (option_list (value_of equal_var s x)) in
+    let first : List Equation = map (λ (t : Term). (x, t)) (option_to_list (value_of equal_var s x)) in
     ap (λ (l : List Equation). first ++ l) (known_append s xs ys) ∙ sym (append_assoc first (known_equations s xs) (known_equations s ys))
 
 -- a name that stands twice leads to nothing new
@@ -216,7 +216,7 @@ known_few s (x ∷ xs) seen = go (list_any (equal_var x) seen) refl (known_few s
     go true e f g = f
     go false e f g = by_value (value_of equal_var s x) refl
       where
-        by_value : (o : Option Term) → value_of equal_var s x ≡ o → length (map (λ (t : Term). (x, t)) (option_list o) ++ rest) ≤ unseen s seen
+        by_value : (o : Option Term) → value_of equal_var s x ≡ o → length (map (λ (t : Term). (x, t)) (option_to_list o) ++ rest) ≤ unseen s seen
         by_value None k = let h = fewer_unseen s x seen in omega (arith, g, h)
         by_value (Some t) k = let h = one_fewer s x t seen e k in omega (arith, g, h)
 

@@ -1,6 +1,6 @@
 -- The equations of a bundle are reached.
 use Rattle.std.proofs.Common.{◌≡◌, refl, ℕ, zero, suc, List, [], ◌∷◌, ◌++◌, length, map, take, Bool, true, false, cond, None, Some}
-use Rattle.std.specs.Prelude.{Option}
+use Rattle.std.specs.Prelude.{Option, option_to_list}
 use Rattle.std.specs.List.{list_any}
 use Rattle.tree_node.specs.declared.names.VarName.{VarName}
 use Rattle.tree_node.specs.declared.node.Term.{Term}
@@ -9,7 +9,7 @@ use Rattle.tree_node.specs.Each.{Each}
 use Rattle.tree_node.specs.Store.{Store, Equation, equal_var}
 use Rattle.tree_node.proofs.EachLemmas.{each_append, each_in}
 use Rattle.site_message.specs.Vars.{vars_of}
-use Rattle.site_model.specs.Bundle.{vars_of_terms, option_list, known_terms, reachable_vars, distinct_vars, known_equations, reachable_equations, is_below, insert_ascending, ascending, bundle_from}
+use Rattle.site_model.specs.Bundle.{vars_of_terms, known_terms, reachable_vars, distinct_vars, known_equations, reachable_equations, is_below, insert_ascending, ascending, bundle_from}
 use Rattle.marshal.specs.Marshal.{IsReached, first, onward, IsReachedEquation}
 use Rattle.site_model.proofs.BundleLemmas.{value_there}
 
@@ -19,7 +19,7 @@ module _ (s : Store) (xs : List VarName) where
   next_reached [] h = tt
   next_reached (y ∷ ys) h = go (value_of equal_var s y) refl (next_reached ys h.1)
     where
-      go : (o : Option Term) → value_of equal_var s y ≡ o → Each (IsReached s xs) (vars_of_terms (known_terms s ys)) → Each (IsReached s xs) (vars_of_terms (option_list o ++ known_terms s ys))
+      go : (o : Option Term) → value_of equal_var s y ≡ o → Each (IsReached s xs) (vars_of_terms (known_terms s ys)) → Each (IsReached s xs) (vars_of_terms (option_to_list o ++ known_terms s ys))
       go None e rest = rest
       go (Some t) e rest = each_append (IsReached s xs) (vars_of t) (vars_of_terms (known_terms s ys)) (each_in (IsReached s xs) (vars_of t) (λ z k. onward h.0 (value_there s y t e) k)) rest
 
@@ -39,7 +39,7 @@ module _ (s : Store) (xs : List VarName) where
   equations_reached [] h = tt
   equations_reached (y ∷ ys) h = go (value_of equal_var s y) refl (equations_reached ys h.1)
     where
-      go : (o : Option Term) → value_of equal_var s y ≡ o → Each (IsReachedEquation s xs) (known_equations s ys) → Each (IsReachedEquation s xs) (map (λ (t : Term). (y, t)) (option_list o) ++ known_equations s ys)
+      go : (o : Option Term) → value_of equal_var s y ≡ o → Each (IsReachedEquation s xs) (known_equations s ys) → Each (IsReachedEquation s xs) (map (λ (t : Term). (y, t)) (option_to_list o) ++ known_equations s ys)
       go None e rest = rest
       go (Some t) e rest = ((value_there s y t e, h.0), rest)
 

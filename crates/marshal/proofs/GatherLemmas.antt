@@ -1,7 +1,7 @@
 -- Equations are gathered along a queue of variables.
 use Rattle.std.proofs.Common.{arith, ◌≡◌, ◌∙◌, sym, ap, refl, subst, ℕ, ◌+◌, ◌≤◌, ◌<◌, List, [], ◌∷◌, ◌++◌, length, map, take, drop, get_or, ◌⊎◌, inl, inr, Bool, true, false, cond, ◌||◌, None, Some}
 use Rattle.std.proofs.lemmas.List.{append-nil, take_more, take-append-le, take_all, take_at, take-append-drop, length-append}
-use Rattle.std.specs.Prelude.{Option, Contains}
+use Rattle.std.specs.Prelude.{Option, Contains, option_to_list}
 use Rattle.std.specs.List.{list_any}
 use Rattle.tree_node.specs.declared.names.VarName.{VarName}
 use Rattle.tree_node.specs.declared.node.Term.{Term}
@@ -11,7 +11,7 @@ use Rattle.tree_node.proofs.ClassLemmas.{same_name_decides, Contains-cons_cases,
 use Rattle.tree_store.specs.Forest.{IsForest}
 use Rattle.site_message.specs.Vars.{vars_of}
 use Rattle.site_message.specs.Wire.{NamesAscend}
-use Rattle.site_model.specs.Bundle.{option_list, distinct_vars, known_equations, reachable_equations, insert_ascending, ascending, bundle_from}
+use Rattle.site_model.specs.Bundle.{distinct_vars, known_equations, reachable_equations, insert_ascending, ascending, bundle_from}
 use Rattle.site_model.specs.Laws.{left_names}
 use Rattle.marshal.specs.Marshal.{equations_among, IsNext}
 use Rattle.marshal.proofs.ImportLemmas.{distinct_append}
@@ -52,7 +52,7 @@ taken_seen : (s : Store) (x : VarName) (xs : List VarName) → list_any (equal_v
 taken_seen s x [] h = h
 taken_seen s x (y ∷ xs) h = go (equal_var x y) (value_of equal_var s y) refl h (λ k. taken_seen s x xs k)
   where
-    go : (b : Bool) (o : Option Term) → equal_var x y ≡ b → list_any (equal_var x) (left_names (map (λ (t : Term). (y, t)) (option_list o) ++ known_equations s xs)) ≡ true →
+    go : (b : Bool) (o : Option Term) → equal_var x y ≡ b → list_any (equal_var x) (left_names (map (λ (t : Term). (y, t)) (option_to_list o) ++ known_equations s xs)) ≡ true →
         (list_any (equal_var x) (left_names (known_equations s xs)) ≡ true → list_any (equal_var x) xs ≡ true) → (b || list_any (equal_var x) xs) ≡ true
     go true o e k ih = refl
     go false None e k ih = ih k
@@ -62,7 +62,7 @@ new_unseen : (s : Store) (x : VarName) (t : Term) (xs : List VarName) → value_
 new_unseen s x t [] e h = refl
 new_unseen s x t (y ∷ xs) e h = go (equal_var x y) (value_of equal_var s y) refl refl h (λ k. new_unseen s x t xs e k)
   where
-    go : (b : Bool) (o : Option Term) → equal_var x y ≡ b → value_of equal_var s y ≡ o → list_any (equal_var x) (left_names (map (λ (r : Term). (y, r)) (option_list o) ++ known_equations s xs)) ≡ false →
+    go : (b : Bool) (o : Option Term) → equal_var x y ≡ b → value_of equal_var s y ≡ o → list_any (equal_var x) (left_names (map (λ (r : Term). (y, r)) (option_to_list o) ++ known_equations s xs)) ≡ false →
         (list_any (equal_var x) (left_names (known_equations s xs)) ≡ false → list_any (equal_var x) xs ≡ false) → (b || list_any (equal_var x) xs) ≡ false
     go true None q v k ih =
         let same : x ≡ y = (same_name_decides x y).0 q in
@@ -78,7 +78,7 @@ free_adds_nothing s seen x e = go (list_any (equal_var x) seen)
   where
     go : (b : Bool) → known_equations s (cond b [] (x ∷ [])) ≡ []
     go true = refl
-    go false = ap (λ (o : Option Term). map (λ (t : Term). (x, t)) (option_list o) ++ []) e
+    go false = ap (λ (o : Option Term). map (λ (t : Term). (x, t)) (option_to_list o) ++ []) e
 
 free_passed : (s : Store) (xs : List VarName) (x : VarName) → IsFree s x → equations_among s (xs ++ x ∷ []) ≡ equations_among s xs
 free_passed s xs x free = among_more s xs x ∙ (ap (λ (l : List Equation). equations_among s xs ++ l) (free_adds_nothing s (distinct_vars [] xs) x (no_value s x free)) ∙ append-nil (equations_among s xs))
@@ -106,7 +106,7 @@ new_taken : (s : Store) (xs : List VarName) (x : VarName) (t : Term) → value_o
 new_taken s xs x t e new =
     among_more s xs x
     ∙ (ap (λ (b : Bool). equations_among s xs ++ known_equations s (cond b [] (x ∷ []))) (new_unseen s x t (distinct_vars [] xs) e new)
-    ∙ ap (λ (o : Option Term). equations_among s xs ++ (map (λ (r : Term). (x, r)) (option_list o) ++ [])) e)
+    ∙ ap (λ (o : Option Term). equations_among s xs ++ (map (λ (r : Term). (x, r)) (option_to_list o) ++ [])) e)
 
 -- ---- what is gathered
 

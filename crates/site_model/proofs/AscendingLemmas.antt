@@ -1,6 +1,6 @@
 -- Equations in the ascending order of their names.
 use Rattle.std.proofs.Common.{rules, arith, ◌≡◌, ◌∙◌, sym, ap, refl, subst, ℕ, zero, suc, ◌≤◌, List, [], ◌∷◌, ◌++◌, length, map, take, Bool, true, false, cond, ◌||◌, None, Some}
-use Rattle.std.specs.Prelude.{Option}
+use Rattle.std.specs.Prelude.{Option, option_to_list}
 use Rattle.std.specs.List.{list_any}
 use Rattle.tree_node.specs.declared.names.VarName.{VarName}
 use Rattle.tree_node.specs.declared.node.Term.{Term}
@@ -9,7 +9,7 @@ use Rattle.tree_node.specs.Order.{IsBelow}
 use Rattle.tree_node.specs.Store.{Store, Equation, equal_var}
 use Rattle.tree_node.proofs.ClassLemmas.{same_name_decides, same_name_refl}
 use Rattle.site_message.specs.Wire.{NamesAscend}
-use Rattle.site_model.specs.Bundle.{option_list, distinct_vars, known_equations, reachable_vars, reachable_equations, is_below, insert_ascending, ascending}
+use Rattle.site_model.specs.Bundle.{distinct_vars, known_equations, reachable_vars, reachable_equations, is_below, insert_ascending, ascending}
 use Rattle.site_model.specs.Laws.{left_names, BundlesAreOrdered}
 
 -- of two different names one is below the other
@@ -116,7 +116,7 @@ not_again s x (y ∷ xs) seen h = go (list_any (equal_var y) seen) refl (not_aga
         later : list_any (equal_var x) (left_names rest) ≡ false
         later = g (ap (λ (b : Bool). b || list_any (equal_var x) seen) (apart (equal_var x y) refl) ∙ h)
 
-        by : (o : Option Term) → list_any (equal_var x) (left_names (map (λ (t : Term). (y, t)) (option_list o) ++ rest)) ≡ false
+        by : (o : Option Term) → list_any (equal_var x) (left_names (map (λ (t : Term). (y, t)) (option_to_list o) ++ rest)) ≡ false
         by None = later
         by (Some t) = ap (λ (b : Bool). b || list_any (equal_var x) (left_names rest)) (apart (equal_var x y) refl) ∙ later
 
@@ -131,7 +131,7 @@ known_once s (y ∷ xs) seen = go (list_any (equal_var y) seen) (known_once s xs
     go true f g = f
     go false f g = by (value_of equal_var s y)
       where
-        by : (o : Option Term) → StandOnce (map (λ (t : Term). (y, t)) (option_list o) ++ rest)
+        by : (o : Option Term) → StandOnce (map (λ (t : Term). (y, t)) (option_to_list o) ++ rest)
         by None = g
         by (Some t) = (not_again s y xs (y ∷ seen) (ap (λ (b : Bool). b || list_any (equal_var y) seen) (same_name_refl y)), g)
 

@@ -1,6 +1,6 @@
 -- A bundle has known equations alone.
 use Rattle.std.proofs.Common.{◌≡◌, ◌∙◌, sym, ap, refl, subst, ℕ, ◌<◌, List, [], ◌∷◌, ◌++◌, map, length, get_or, append_assoc, Bool, true, false, cond, Some, None}
-use Rattle.std.specs.Prelude.{Option, Contains}
+use Rattle.std.specs.Prelude.{Option, Contains, option_to_list}
 use Rattle.tree_node.specs.declared.names.VarName.{VarName}
 use Rattle.tree_node.specs.declared.node.Term.{Term}
 use Rattle.tree_node.specs.Assoc.{value_of}
@@ -13,7 +13,7 @@ use Rattle.site_message.specs.declared.message.Msg.{Msg}
 use Rattle.site_message.specs.declared.message.Msg.TheVariants as msg
 use Rattle.site_message.specs.Vars.{vars_of}
 use Rattle.site_message.specs.Wire.{FitsEquation, FitsWire}
-use Rattle.site_model.specs.Bundle.{option_list, known_equations, reachable_equations, is_below, insert_ascending, ascending, bundle_roots, bundle_of, vars_of_equations, message_bundle}
+use Rattle.site_model.specs.Bundle.{known_equations, reachable_equations, is_below, insert_ascending, ascending, bundle_roots, bundle_of, vars_of_equations, message_bundle}
 use Rattle.tree_node.proofs.EachLemmas.{each_append, each_take}
 
 pub value_there : (s : Store) (x : VarName) (t : Term) → value_of equal_var s x ≡ Some t → Contains s (x, t)
@@ -31,7 +31,7 @@ own_known : (s : Store) (xs : List VarName) → Each (Contains s) (known_equatio
 own_known s [] = tt
 own_known s (x ∷ xs) = each_append (Contains s) _ (known_equations s xs) (go (value_of equal_var s x) refl) (own_known s xs)
   where
-    go : (o : Option Term) → value_of equal_var s x ≡ o → Each (Contains s) (map (λ (t : Term). (x, t)) (option_list o))
+    go : (o : Option Term) → value_of equal_var s x ≡ o → Each (Contains s) (map (λ (t : Term). (x, t)) (option_to_list o))
     go None e = tt
     go (Some t) e = (value_there s x t e, tt)
 

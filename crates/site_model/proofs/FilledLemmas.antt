@@ -1,7 +1,7 @@
 -- The messages of a row and of a unit get their bundles at its end: what the site knows then is what it knew as it sent them.
 use Rattle.std.proofs.Common.{◌≡◌, ◌∙◌, sym, ap, refl, subst, ℕ, List, [], ◌∷◌, ◌++◌, map, inl, inr, Bool, true, false, Some, None}
 use Rattle.std.proofs.lemmas.List.{append-nil}
-use Rattle.std.specs.Prelude.{Option, ◌==◌}
+use Rattle.std.specs.Prelude.{Option, ◌==◌, option_to_list}
 use Rattle.tree_node.specs.declared.names.VarName.{VarName}
 use Rattle.tree_node.specs.declared.names.CellName.{CellName}
 use Rattle.tree_node.specs.declared.names.ThreadName.{ThreadName}
@@ -20,19 +20,19 @@ use Rattle.site_message.specs.declared.message.Msg.TheVariants as msg
 use Rattle.site_message.specs.declared.message.Sent.{Sent}
 use Rattle.oz_model.specs.Need.{Need, Waits, WaitsAny, Binds, Takes, stack_need}
 use Rattle.oz_model.specs.Effect.{Birth, CellChange, Stays, Made, Exchanged, Effect, vars_among}
-use Rattle.oz_model.specs.Step.{kind_of, lines_of}
+use Rattle.oz_model.specs.Step.{kind_of}
 use Rattle.variable_owner.specs.declared.owners.Owner.{Owner}
 use Rattle.variable_owner.specs.declared.owners.Owner.TheVariants.{Open, Bound}
 use Rattle.variable_owner.specs.Owners.{Owned, owner_of, sites_of, with_owner, after_bind}
 use Rattle.variable_owner.specs.Owners as owners
 use Rattle.bind_protocol.specs.Records.{Records, knowledge}
-use Rattle.bind_protocol.specs.Rows.{after_make, register_sends, ask_sends, binding}
+use Rattle.bind_protocol.specs.Rows.{after_make, register_sends, after_ask, ask_sends, binding}
 use Rattle.bind_protocol.proofs.LookLemmas.{in_here, in_other}
 use Rattle.token_chain.specs.Rows.{Reply}
 use Rattle.site_model.specs.Bundle.{bundle_of, with_bundle, with_own_bundle, with_own_bundles}
 use Rattle.site_model.specs.Site.{Site, Counters, cell_record}
 use Rattle.site_model.specs.Transition.{Transition, without_output, with_pick, with_lines, sequence, and_then}
-use Rattle.site_model.specs.Variables.{after_makes, with_own_equation, own_bind, own_binds}
+use Rattle.site_model.specs.Variables.{after_makes, with_site_equation, own_bind, own_binds}
 use Rattle.site_model.specs.Cells.{cell_reply, serving, leave_row, put_row, request_row}
 use Rattle.site_model.specs.Messages.{bind_request_as, message_row}
 use Rattle.site_model.specs.Unit.{next_names, counter_after, fresh_names, with_fresh_names, birth_row, placement, after_effect, step_row, step_pick, effect_here, thread_step, IsStepOrRequest, bind_attempt, IsUnitFor}
@@ -126,7 +126,7 @@ binds_quiet : (limit : ℕ) (es : List Equation) (s : Site) → Each (λ (q : Eq
 binds_quiet limit [] s h = refl
 binds_quiet limit (e ∷ es) s h =
     ap (λ (d : Transition). and_then d (own_bind limit e.0 e.1)) (binds_quiet limit es s h.1)
-    ∙ ap (λ (ks : List ℕ). record (without_output (with_own_equation before e.0 e.1)) { sent = with_own_bundles limit ((e.0, e.1) ∷ before.equations) (map (λ k. binding e.0 e.1 k) ks) })
+    ∙ ap (λ (ks : List ℕ). record (without_output (with_site_equation before e.0 e.1 (after_ask before.records e.0 e.1))) { sent = with_own_bundles limit ((e.0, e.1) ∷ before.equations) (map (λ k. binding e.0 e.1 k) ks) })
     (binds_unasked es s e.0 h.0)
   where
     before : Site
@@ -151,7 +151,7 @@ quiet_step p n limit k kinds e s h = row limit ∙ (ap (λ (d : Transition). seq
     named = with_pick (with_fresh_names kinds s) k
 
     onward : Transition → Transition
-    onward d = and_then (sequence named d) (λ (t : Site). with_lines (lines_of e.line) (after_effect k.thread e t))
+    onward d = and_then (sequence named d) (λ (t : Site). with_lines (option_to_list e.line) (after_effect k.thread e t))
 
     bound : Transition
     bound = onward (without_output (own_binds 0 e.adds named.site).site)

@@ -1,5 +1,5 @@
 -- The variables in a message, and the known equations that travel with it: its bundle.
-use Rattle.std.specs.Prelude.{ℕ, zero, suc, List, [], ◌∷◌, ◌++◌, length, map, take, Bool, ◌&&◌, ◌||◌, ◌==◌, nat_lt, Option, Some, None, if◌then◌else◌}
+use Rattle.std.specs.Prelude.{ℕ, zero, suc, List, [], ◌∷◌, ◌++◌, length, map, take, Bool, ◌&&◌, ◌||◌, ◌==◌, nat_lt, Option, Some, None, if◌then◌else◌, option_to_list}
 use Rattle.std.specs.List.{list_any}
 use Rattle.tree_node.specs.declared.names.VarName.{VarName}
 use Rattle.tree_node.specs.declared.node.Term.{Term}
@@ -21,15 +21,10 @@ abbrev pub vars_of_terms : List Term → List VarName
 vars_of_terms [] = []
 vars_of_terms (t ∷ ts) = vars_of t ++ vars_of_terms ts
 
--- the term, if there is one, as a list
-abbrev pub option_list : Option Term → List Term
-option_list None = []
-option_list (Some t) = t ∷ []
-
 -- the terms of the variables that have an equation of their own
 abbrev pub known_terms : Store → List VarName → List Term
 known_terms s [] = []
-known_terms s (x ∷ xs) = option_list (value_of equal_var s x) ++ known_terms s xs
+known_terms s (x ∷ xs) = option_to_list (value_of equal_var s x) ++ known_terms s xs
 
 -- breadth first, through so many equations: the variables, then those of their terms, and on
 abbrev pub reachable_vars : ℕ → Store → List VarName → List VarName
@@ -45,7 +40,7 @@ distinct_vars seen (x ∷ xs) =
 -- the equations of these variables, in their order
 abbrev pub known_equations : Store → List VarName → List Equation
 known_equations s [] = []
-known_equations s (x ∷ xs) = map (λ (t : Term). (x, t)) (option_list (value_of equal_var s x)) ++ known_equations s xs
+known_equations s (x ∷ xs) = map (λ (t : Term). (x, t)) (option_to_list (value_of equal_var s x)) ++ known_equations s xs
 
 -- the equations reached from these variables. None lies behind more of them than there are
 abbrev pub reachable_equations : Store → List VarName → List Equation

@@ -12,7 +12,7 @@ use Rattle.kernel_syntax.specs.declared.stmt.Stmt.TheVariants.{Exchange}
 use Rattle.site_message.specs.declared.message.Msg.TheVariants as msg
 use Rattle.token_chain.specs.declared.token.Token.TheVariants.{Away}
 use Rattle.token_chain.specs.Holding.{here_with}
-use Rattle.site_model.specs.Site.{Site, CellRecord, ThreadState, zero_counters, cell_record, last_asker}
+use Rattle.site_model.specs.Site.{Site, CellRecord, ThreadState, cell_record, last_asker}
 use Rattle.thread_roster.specs.declared.mode.Mode.TheVariants.{Runs}
 use Rattle.site_model.specs.Transition.{Transition}
 use Rattle.site_model.specs.Messages.{message_row}
@@ -46,7 +46,7 @@ site_with i managers kept = record {
   managers = managers;
   cell_records = kept;
   threads = exchanging i 0 ∷ exchanging i 1 ∷ [];
-  counters = zero_counters;
+  counters = record { vars = 0; cells = 0; procs = 0; threads = 0 };
   ended = 0;
   steps = 0;
 }

@@ -5,11 +5,13 @@ use Rattle.indexmap.specs.IndexMap.{insert_entry}
 use Rattle.tree_node.specs.declared.names.VarName.{VarName}
 use Rattle.tree_node.specs.declared.names.CellName.{CellName}
 use Rattle.tree_node.specs.declared.names.ThreadName.{ThreadName}
+use Rattle.tree_node.specs.declared.names.Name.{Name}
 use Rattle.tree_node.specs.declared.node.Term.TheVariants as term
 use Rattle.tree_node.specs.declared.pick.Pick.{Pick}
 use Rattle.tree_node.specs.Assoc.{with_value}
 use Rattle.tree_node.specs.Goal.{equal_cell}
 use Rattle.tree_node.specs.State.{Stack, equal_thread}
+use Rattle.tree_node.specs.Store.{Equation}
 use Rattle.kernel_syntax.specs.declared.stmt.Stmt.{Stmt}
 use Rattle.oz_model.specs.Effect.{Effect, CellChange, Exchanged, stack_effect, tell_item}
 use Rattle.thread_roster.specs.declared.mode.Mode.TheVariants.{Runs, WaitsFor}
@@ -47,9 +49,13 @@ get_row limit c k s =
 
 -- ---- exchanges of threads that waited
 
--- what a thread of this stack does when it goes on
-abbrev pub exchange_effect : List Stmt → Site → Stack → Effect
-exchange_effect p s st = stack_effect p s.equations [] None st
+-- the pick of a step of thread n with these fresh names and this chosen bind
+abbrev pub step_pick : ThreadName → List Name → Option Equation → Pick
+step_pick n fresh bind = record { thread = n; fresh = fresh; bind = bind }
+
+-- what a stack does with the site's equations
+abbrev pub effect_here : List Stmt → Site → List Name → Option Equation → Stack → Effect
+effect_here p s fresh bind st = stack_effect p s.equations fresh bind st
 
 -- the stack after an exchange that gave this old content
 abbrev pub exchange_stack : VarName → CellChange → Stack → Stack
@@ -65,7 +71,7 @@ content_after_change v _ = v
 abbrev pub after_exchange_as : List Stmt → ThreadName → VarName → Site → Option ThreadState → Site
 after_exchange_as p n v s None = s
 after_exchange_as p n v s (Some st) = record s {
-  threads = with_value equal_thread s.threads n (exchange_stack v (exchange_effect p s st.0).cell (exchange_effect p s st.0).stack, Runs);
+  threads = with_value equal_thread s.threads n (exchange_stack v (effect_here p s [] None st.0).cell (effect_here p s [] None st.0).stack, Runs);
 }
 
 -- a waiting thread is given the content v
@@ -75,22 +81,18 @@ after_exchange p n v s = after_exchange_as p n v s (thread_state s n)
 -- the content that a thread in this state leaves when it is given v; without a thread it is v
 abbrev pub content_after_exchange_as : List Stmt → VarName → Site → Option ThreadState → VarName
 content_after_exchange_as p v s None = v
-content_after_exchange_as p v s (Some st) = content_after_change v (exchange_effect p s st.0).cell
+content_after_exchange_as p v s (Some st) = content_after_change v (effect_here p s [] None st.0).cell
 
 -- the content that it leaves
 abbrev pub content_after_exchange : List Stmt → ThreadName → VarName → Site → VarName
 content_after_exchange p n v s = content_after_exchange_as p v s (thread_state s n)
-
--- the pick of an exchange: no fresh name and no bind
-abbrev pub exchange_pick : ThreadName → Pick
-exchange_pick n = record { thread = n; fresh = []; bind = None }
 
 -- these threads exchange in order, the first gets the content v; then the token is here, with what the last one left
 abbrev pub serving : List Stmt → CellName → List ThreadName → VarName → Site → Transition
 serving p c [] v s =
     without_output (with_cell_record s c (record { held = record (cell_record s c).held { token = Here v; waiting = 0 }; queue = [] }))
 serving p c (n ∷ ns) v s =
-    and_then (with_pick (after_exchange p n v s) (exchange_pick n)) (serving p c ns (content_after_exchange p n v s))
+    and_then (with_pick (after_exchange p n v s) (step_pick n [] None)) (serving p c ns (content_after_exchange p n v s))
 
 -- the token goes to the successor, where one is known and nobody waits
 abbrev pub leave_row : ℕ → CellName → Site → Transition

@@ -87,10 +87,6 @@ is_idle s = waiting_count s == length s.threads
 
 -- ---- the start
 
--- the counters of a site that made no name
-abbrev pub zero_counters : Counters
-zero_counters = record { vars = 0; cells = 0; procs = 0; threads = 0 }
-
 -- threads that can go on
 abbrev pub runnable_threads : List (ThreadName × Stack) → Threads
 runnable_threads [] = []
@@ -104,7 +100,7 @@ initial_site p i = record {
   managers = [];
   cell_records = [];
   threads = if i == 1 then runnable_threads (model.start p).threads else [];
-  counters = record zero_counters { threads = if i == 1 then 1 else 0 };
+  counters = record { vars = 0; cells = 0; procs = 0; threads = if i == 1 then 1 else 0 };
   ended = 0;
   steps = 0;
 }

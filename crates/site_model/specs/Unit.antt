@@ -1,5 +1,5 @@
 -- One unit of a site: a step of a thread that can go on, or an attempt that ends in waiting.
-use Rattle.std.specs.Prelude.{◌≡◌, ℕ, suc, ◌+◌, ◌%◌, ℤ, pos, List, [], ◌∷◌, ◌⊎◌, Bool, true, false, ◌==◌, Option, Some, None, if◌then◌else◌}
+use Rattle.std.specs.Prelude.{◌≡◌, ℕ, suc, ◌+◌, ◌%◌, ℤ, pos, List, [], ◌∷◌, ◌⊎◌, Bool, true, false, ◌==◌, Option, Some, None, if◌then◌else◌, option_to_list}
 use Rattle.indexmap.specs.IndexMap.{insert_entry}
 use Rattle.tree_node.specs.declared.names.VarName.{VarName}
 use Rattle.tree_node.specs.declared.names.CellName.{CellName}
@@ -20,8 +20,8 @@ use Rattle.tree_node.specs.Store.{Store, Equation, IsFree, IsClassName}
 use Rattle.kernel_syntax.specs.declared.stmt.Stmt.{Stmt}
 use Rattle.site_message.specs.declared.message.Msg.TheVariants as msg
 use Rattle.oz_model.specs.Need.{Need, Waits, WaitsAny, Binds, Takes, stack_need}
-use Rattle.oz_model.specs.Effect.{Birth, CellChange, Stays, Made, Exchanged, Effect, stack_effect, vars_among}
-use Rattle.oz_model.specs.Step.{living_stack, end_count, lines_of}
+use Rattle.oz_model.specs.Effect.{Birth, CellChange, Stays, Made, Exchanged, Effect, vars_among}
+use Rattle.oz_model.specs.Step.{living_stack, end_count}
 use Rattle.bind_protocol.specs.Rows.{sent_message, request}
 use Rattle.thread_roster.specs.declared.mode.Mode.TheVariants.{Runs}
 use Rattle.thread_roster.specs.declared.mode.Mode.TheVariants as mode
@@ -33,6 +33,7 @@ use Rattle.site_model.specs.Bundle.{with_own_bundle}
 use Rattle.site_model.specs.Transition.{Transition, without_output, with_messages, with_pick, with_lines, and_then}
 use Rattle.site_model.specs.Variables.{after_makes, own_binds}
 use Rattle.site_model.specs.Cells.{exchange_stack, request_row}
+pub use Rattle.site_model.specs.Cells.{step_pick, effect_here}
 use Rattle.site_model.specs.Messages.{with_thread}
 
 -- ---- fresh names
@@ -126,7 +127,7 @@ after_effect n e s = with_stack n (exchange_stack (content_here s e.cell) e.cell
 -- a step: names are made, variables bound, the stack goes on, a line is printed, a thread is born
 abbrev pub step_row : List Stmt → ℕ → ℕ → Pick → List NameKind → Effect → Site → Transition
 step_row p n limit k kinds e s =
-    and_then (and_then (and_then (with_pick (with_fresh_names kinds s) k) (own_binds limit e.adds)) (λ t. with_lines (lines_of e.line) (after_effect k.thread e t))) (birth_row p n limit e.born)
+    and_then (and_then (and_then (with_pick (with_fresh_names kinds s) k) (own_binds limit e.adds)) (λ t. with_lines (option_to_list e.line) (after_effect k.thread e t))) (birth_row p n limit e.born)
 
 -- ---- units
 
@@ -137,14 +138,6 @@ with_waiting n st x s = record s { threads = with_value equal_thread s.threads n
 -- the thread waits for any of these
 abbrev pub with_waiting_any : ThreadName → Stack → List VarName → Site → Site
 with_waiting_any n st xs s = record s { threads = with_value equal_thread s.threads n (st, mode.WaitsAny xs) }
-
--- the pick of a step of thread n with these fresh names and this chosen bind
-abbrev pub step_pick : ThreadName → List Name → Option Equation → Pick
-step_pick n fresh bind = record { thread = n; fresh = fresh; bind = bind }
-
--- what a stack does with the site's equations
-abbrev pub effect_here : List Stmt → Site → List Name → Option Equation → Stack → Effect
-effect_here p s fresh bind st = stack_effect p s.equations fresh bind st
 
 -- the step of a thread that takes these names
 abbrev pub thread_step : List Stmt → ℕ → ℕ → ThreadName → Stack → List NameKind → List Name → Option Equation → Site → Transition
@@ -160,12 +153,6 @@ abbrev pub IsStepOrRequest : ℕ → ThreadName → Stack → Site → Transitio
 IsStepOrRequest limit th st s step (Exchanged c new told) d =
     (IsTokenHere s c × (d ≡ step)) ⊎ ((IsTokenHere s c → ⊥) × (d ≡ request_row limit c new th st s))
 IsStepOrRequest limit th st s step _ d = d ≡ step
-
--- the step that takes fresh names of these kinds, or the wait for a token
-abbrev pub IsNamedStep : List Stmt → ℕ → ℕ → Site → ThreadName → Stack → List NameKind → Transition → Type 0
-IsNamedStep p n limit s th st kinds d =
-    IsStepOrRequest limit th st s (thread_step p n limit th st kinds (fresh_names s kinds) None s)
-    (effect_here p s (fresh_names s kinds) None st).cell d
 
 -- a bind of a root without an equation of its own, to a lesser root or to the node of the other side
 abbrev pub IsRootBind : Store → Term → Term → VarName → Term → Type 0
@@ -188,13 +175,15 @@ IsBindUnit p n limit s th st a b d =
     × (d ≡ bind_attempt p n limit th st u t (u.site == s.records.site) s)
 
 -- by what the thread needs: it waits for the root of x's class, or for any that is open in its comparison by what the site knows,
--- binds one of two sides, or takes names and steps
+-- binds one of two sides, or takes fresh names and steps, or waits for a token
 abbrev pub IsUnitFor : List Stmt → ℕ → ℕ → Site → ThreadName → Stack → Need → Transition → Type 0
 IsUnitFor p n limit s th st (Waits x) d = (z : VarName) × IsClassName s.equations x z × (d ≡ without_output (with_waiting th st z s))
 IsUnitFor p n limit s th st (WaitsAny q) d =
     (xs : List VarName) × (compared s.equations q ≡ Open xs) × (d ≡ without_output (with_waiting_any th st xs s))
 IsUnitFor p n limit s th st (Binds a b) d = IsBindUnit p n limit s th st a b d
-IsUnitFor p n limit s th st (Takes kinds) d = IsNamedStep p n limit s th st kinds d
+IsUnitFor p n limit s th st (Takes kinds) d =
+    IsStepOrRequest limit th st s (thread_step p n limit th st kinds (fresh_names s kinds) None s)
+    (effect_here p s (fresh_names s kinds) None st).cell d
 
 -- a unit of this thread, which can go on
 abbrev pub IsUnit : List Stmt → ℕ → ℕ → ThreadName → Site → Transition → Type 0

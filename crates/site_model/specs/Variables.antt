@@ -24,13 +24,17 @@ after_makes b (x ∷ xs) = after_makes (after_make b x) xs
 
 -- ---- equations
 
--- x, owned elsewhere, is known to be t from now on, and the threads that wait for it can go on
-abbrev pub with_new_equation : Site → VarName → Term → Site
-with_new_equation s x t = record s {
+-- x is known to be t from now on, with these records of variables, and the threads that wait for it can go on
+abbrev pub with_site_equation : Site → VarName → Term → Records → Site
+with_site_equation s x t b = record s {
   equations = (x, t) ∷ s.equations;
-  records = after_binding s.records x t;
+  records = b;
   threads = wake_all x s.threads;
 }
+
+-- so it is of x owned elsewhere by a Binding or a bundle
+abbrev pub with_new_equation : Site → VarName → Term → Site
+with_new_equation s x t = with_site_equation s x t (after_binding s.records x t)
 
 -- by whether x is the site's own, and what is known of it
 abbrev pub with_known_equation_as : Bool → Option (Option Term) → Site → VarName → Term → Site
@@ -47,17 +51,10 @@ abbrev pub with_known_equations : Site → List Equation → Site
 with_known_equations s [] = s
 with_known_equations s (e ∷ es) = with_known_equations (with_known_equation s e.0 e.1) es
 
--- x, the site's own, is bound to t, and the threads that wait for it can go on
-abbrev pub with_own_equation : Site → VarName → Term → Site
-with_own_equation s x t = record s {
-  equations = (x, t) ∷ s.equations;
-  records = after_ask s.records x t;
-  threads = wake_all x s.threads;
-}
-
--- and a Binding goes to each site that is registered for it
+-- x, the site's own, is bound to t, and a Binding goes to each site that is registered for it
 abbrev pub own_bind : ℕ → VarName → Term → Site → Transition
-own_bind limit x t s = with_messages (with_own_equation s x t) (with_own_bundles limit ((x, t) ∷ s.equations) (ask_sends s.records x t))
+own_bind limit x t s =
+    with_messages (with_site_equation s x t (after_ask s.records x t)) (with_own_bundles limit ((x, t) ∷ s.equations) (ask_sends s.records x t))
 
 -- binds of own variables, the newest first, as they stand among the equations
 abbrev pub own_binds : ℕ → List Equation → Site → Transition

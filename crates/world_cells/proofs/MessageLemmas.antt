@@ -1,6 +1,6 @@
 -- Each delivered message, those of cells among them, is followed by the centre.
 use Rattle.std.proofs.Common.{arith, append-nil, ◌≡◌, ◌∙◌, sym, ap, refl, subst, ℕ, ◌+◌, ◌<◌, List, [], ◌∷◌, ◌++◌, ◌⊎◌, inl, inr, Bool, true, false, Some, None}
-use Rattle.std.specs.Prelude.{Option, Contains, ◌≢◌}
+use Rattle.std.specs.Prelude.{Option, Contains, ◌≢◌, option_to_list}
 use Rattle.std.proofs.lemmas.List.Elements.{Contains-append_left}
 use Rattle.tree_node.specs.declared.names.VarName.{VarName}
 use Rattle.tree_node.specs.declared.names.CellName.{CellName}
@@ -93,7 +93,7 @@ bind_told p c k e allowed none bound = go (need_of p c k.thread) refl (subst (λ
     go (need.Waits x) q h = absurd h
     go (need.WaitsAny r) q h = absurd h
     go (need.Takes kinds) q h = absurd h
-    go (need.Binds a b) q h = (ap (λ (y : Effect). c.lines ++ Step.lines_of y.line) effect ∙ append-nil c.lines, ap (λ (y : Effect). c.ended + end_count (Step.stack_with_content c.cells y.cell y.stack)) effect ∙ ap (λ (x : ℕ). c.ended + x) (needs_item p c.equations (stack_of c k.thread) a b q) ∙ omega arith)
+    go (need.Binds a b) q h = (ap (λ (y : Effect). c.lines ++ option_to_list y.line) effect ∙ append-nil c.lines, ap (λ (y : Effect). c.ended + end_count (Step.stack_with_content c.cells y.cell y.stack)) effect ∙ ap (λ (x : ℕ). c.ended + x) (needs_item p c.equations (stack_of c k.thread) a b q) ∙ omega arith)
       where
         effect : effect_of p c k ≡ record { adds = e ∷ []; stack = stack_of c k.thread; line = None; born = None; cell = Stays }
         effect =

@@ -1,5 +1,5 @@
 -- Cells in a step of a thread: one is made, or exchanged where its token is.
-use Rattle.std.proofs.Common.{◌≡◌, ◌∙◌, sym, ap, refl, ℕ, List, [], ◌∷◌, Some, None}
+use Rattle.std.proofs.Common.{◌≡◌, ◌∙◌, sym, ap, refl, ℕ, List, [], ◌∷◌, Some, None, option_to_list}
 use Rattle.std.specs.Map.{lookup}
 use Rattle.tree_node.specs.declared.names.VarName.{VarName}
 use Rattle.tree_node.specs.declared.names.CellName.{CellName}
@@ -18,7 +18,6 @@ use Rattle.site_model.specs.Site.{Site, CellRecord, cell_record_in, cell_record,
 use Rattle.site_model.specs.Transition.{Transition, with_pick, and_then, with_lines}
 use Rattle.site_model.specs.Variables.{own_binds}
 use Rattle.site_model.specs.Unit.{with_fresh_names, birth_row, after_cell, after_effect, step_row}
-use Rattle.oz_model.specs.Step.{lines_of}
 use Rattle.world_model.specs.World.{World, after_transition}
 use Rattle.site_model.proofs.CellKeyLemmas.{entry_here, entry_other, place_here, place_other}
 use Rattle.world_cells.proofs.ReplyLemmas.{Answers, Manages}
@@ -37,7 +36,7 @@ module _ (p : List Stmt) (n limit : ℕ) (k : Pick) (kinds : List NameKind) (e :
   begins = begins_nothing limit k kinds e.adds s
 
   abbrev before_birth : Transition
-  before_birth = and_then begun (λ t. with_lines (lines_of e.line) (after_effect k.thread e t))
+  before_birth = and_then begun (λ t. with_lines (option_to_list e.line) (after_effect k.thread e t))
 
   born : NoCells before_birth.site (birth_row p n limit e.born before_birth.site)
   born = bears_nothing p n limit e.born before_birth.site

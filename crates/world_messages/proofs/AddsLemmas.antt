@@ -1,6 +1,6 @@
 -- The variables of the equations that a step adds: its fresh ones, or the one that it binds.
 use Rattle.std.proofs.Common.{◌≡◌, refl, ℕ, List, [], ◌∷◌}
-use Rattle.std.specs.Prelude.{Option, codes}
+use Rattle.std.specs.Prelude.{Option, codes, option_to_list}
 use Rattle.tree_node.specs.declared.names.VarName.{VarName}
 use Rattle.tree_node.specs.declared.names.Name.{Name}
 use Rattle.tree_node.specs.declared.names.NameKind.{NameKind}
@@ -22,7 +22,7 @@ use Rattle.oz_model.specs.declared.outcome.SystemException.TheVariants.{FailureT
 use Rattle.oz_model.specs.declared.outcome.Outcome.{Outcome}
 use Rattle.oz_model.specs.declared.outcome.Outcome.TheVariants as outcome
 use Rattle.oz_model.specs.Outcome.{outcome_of, print_outcome}
-use Rattle.oz_model.specs.Effect.{exception_effect, vars_among, equations_of, outcome_effect, pair_effect, goal_effect, stack_effect}
+use Rattle.oz_model.specs.Effect.{exception_effect, vars_among, outcome_effect, pair_effect, goal_effect, stack_effect}
 use Rattle.site_model.specs.Site.{Counters}
 use Rattle.site_model.specs.Unit.{next_names, counter_after}
 
@@ -51,17 +51,17 @@ module _ (P : VarName → Type 0) where
   outcome_lefts p env rest fresh (outcome.Fails x) h = fails_lefts x rest (vars_among fresh) h
   outcome_lefts p env rest fresh (outcome.Prints line) h = tt
 
-  pair_lefts : (a b : Term) (pairs : List (Term × Term)) (met : List (Node × Node)) (rest : Stack) (fresh : List Name) (bind : Option Equation) (c : Case) → Each P (vars_among fresh) → Lefts (equations_of bind) → Lefts (pair_effect a b pairs met rest fresh bind c).adds
+  pair_lefts : (a b : Term) (pairs : List (Term × Term)) (met : List (Node × Node)) (rest : Stack) (fresh : List Name) (bind : Option Equation) (c : Case) → Each P (vars_among fresh) → Lefts (option_to_list bind) → Lefts (pair_effect a b pairs met rest fresh bind c).adds
   pair_lefts a b pairs met rest fresh bind goal.Dropped h g = tt
   pair_lefts a b pairs met rest fresh bind goal.Binds h g = g
   pair_lefts a b pairs met rest fresh bind (goal.Opened m n fields) h g = tt
   pair_lefts a b pairs met rest fresh bind goal.Failed h g = fails_lefts FailureTell rest (vars_among fresh) h
 
-  goal_lefts : (s : Store) (met : List (Node × Node)) (rest : Stack) (fresh : List Name) (bind : Option Equation) (pairs : List (Term × Term)) → Each P (vars_among fresh) → Lefts (equations_of bind) → Lefts (goal_effect s met rest fresh bind pairs).adds
+  goal_lefts : (s : Store) (met : List (Node × Node)) (rest : Stack) (fresh : List Name) (bind : Option Equation) (pairs : List (Term × Term)) → Each P (vars_among fresh) → Lefts (option_to_list bind) → Lefts (goal_effect s met rest fresh bind pairs).adds
   goal_lefts s met rest fresh bind [] h g = tt
   goal_lefts s met rest fresh bind ((a, b) ∷ pairs) h g = pair_lefts a b pairs met rest fresh bind (case_of s met a b) h g
 
-  pub effect_lefts : (p : List Stmt) (s : Store) (fresh : List Name) (bind : Option Equation) (stack : Stack) → Each P (vars_among fresh) → Lefts (equations_of bind) → Lefts (stack_effect p s fresh bind stack).adds
+  pub effect_lefts : (p : List Stmt) (s : Store) (fresh : List Name) (bind : Option Equation) (stack : Stack) → Each P (vars_among fresh) → Lefts (option_to_list bind) → Lefts (stack_effect p s fresh bind stack).adds
   effect_lefts p s fresh bind [] h g = tt
   effect_lefts p s fresh bind (item.Run code env ∷ rest) h g = outcome_lefts p env rest fresh (outcome_of p s code env (stmt_at p code)) h
   effect_lefts p s fresh bind (item.Goals b ∷ rest) h g = goal_lefts s b.met rest fresh bind b.pairs h g

@@ -21,13 +21,13 @@ use Rattle.oz_model.specs.Need.{Need, Waits, WaitsAny, Binds, Takes, stack_need,
 use Rattle.oz_model.specs.Effect.{Birth, CellChange, Stays, Made, Exchanged, Effect, vars_among, stack_effect, outcome_effect, goal_effect, pair_effect, exception_effect}
 use Rattle.bind_protocol.specs.Records.{Records, is_own, knowledge}
 use Rattle.proxy_table.specs.Proxies.{entry_of}
-use Rattle.bind_protocol.specs.Rows.{sent_message, register, binding, register_answer, after_meet, meet_sends, meets_send}
+use Rattle.bind_protocol.specs.Rows.{sent_message, register, binding, register_answer, after_meet, meet_sends, meets_send, after_ask}
 use Rattle.bind_protocol.proofs.ListLemmas.{one, count_push}
 use Rattle.site_model.specs.Site.{Site, Counters, ThreadState, thread_state, cell_record, Threads, runnable_threads}
 use Rattle.thread_roster.specs.declared.mode.Mode.TheVariants.{Runs, WaitsFor}
 use Rattle.site_model.specs.Bundle.{with_own_bundle, with_own_bundles, message_bundle, message_vars}
 use Rattle.site_model.specs.Transition.{Transition, without_output, with_messages, and_then}
-use Rattle.site_model.specs.Variables.{with_new_equation, with_known_equation, with_known_equations, with_own_equation, own_bind, own_binds, opening}
+use Rattle.site_model.specs.Variables.{with_new_equation, with_known_equation, with_known_equations, with_site_equation, own_bind, own_binds, opening}
 use Rattle.token_chain.specs.Mail as token
 use Rattle.site_model.specs.Cells.{leave_row, forward_row, get_row, serving, request_row, with_exchange_waiting, after_exchange, content_after_exchange, exchange_stack}
 use Rattle.site_model.specs.Messages.{with_thread, bind_request_row, message_row, reception, birth}
@@ -184,7 +184,7 @@ module _ (p : List Stmt) (n limit : ℕ) (i low cap : ℕ) (P : ThreadName → T
   }
 
   binds_asks : (base : List Sent) (x : VarName) (t : Term) (s : Site) → Asks i low cap P start base s → Quiet i low cap P start base (own_bind limit x t s)
-  binds_asks base x t s h = record { site = wakes i low cap P start base s (with_own_equation s x t) x t refl refl refl h; none = told_none ((x, t) ∷ s.equations) x t (sites_of (owner_of s.records.owners x)) }
+  binds_asks base x t s h = record { site = wakes i low cap P start base s (with_site_equation s x t (after_ask s.records x t)) x t refl refl refl h; none = told_none ((x, t) ∷ s.equations) x t (sites_of (owner_of s.records.owners x)) }
 
   binds_each_asks : (base : List Sent) (es : List Equation) (s : Site) → Asks i low cap P start base s → Quiet i low cap P start base (own_binds limit es s)
   binds_each_asks base [] s h = still base s h

@@ -1,6 +1,6 @@
 -- What each row of a turn does to the counts of messages on variables.
 use Rattle.std.proofs.Common.{◌≡◌, ◌∙◌, sym, ap, refl, subst, ℕ, List, [], ◌∷◌, ◌++◌, inl, inr, Bool, true, false, cond, Some, None}
-use Rattle.std.specs.Prelude.{Option, ◌==◌, ◌&&◌}
+use Rattle.std.specs.Prelude.{Option, ◌==◌, ◌&&◌, option_to_list}
 use Rattle.tree_node.specs.declared.names.VarName.{VarName}
 use Rattle.tree_node.specs.declared.names.CellName.{CellName}
 use Rattle.tree_node.specs.declared.names.ThreadName.{ThreadName}
@@ -18,7 +18,7 @@ use Rattle.site_message.specs.declared.message.Msg.{Msg}
 use Rattle.site_message.specs.declared.message.Msg.TheVariants as msg
 use Rattle.site_message.specs.declared.message.Sent.{Sent}
 use Rattle.oz_model.specs.Need.{Need, Waits, WaitsAny, Binds, Takes, stack_need}
-use Rattle.oz_model.specs.Effect.{Birth, CellChange, Stays, Made, Exchanged, Effect, vars_among, equations_of}
+use Rattle.oz_model.specs.Effect.{Birth, CellChange, Stays, Made, Exchanged, Effect, vars_among}
 use Rattle.bind_protocol.specs.Records.{Records, is_own, knowledge}
 use Rattle.bind_protocol.specs.Rows.{sent_message, request, after_make, after_meet, meet_sends, after_ask, ask_sends, after_meets, meets_send}
 use Rattle.bind_protocol.proofs.ListLemmas.{one}
@@ -200,7 +200,7 @@ steps_tally p n limit k kinds e s own =
     three = subst (λ (ms : List Sent). Tallies s.records bound_all.site.records [] ms) (sym (no_more bound_all.sent)) two
 
 step_with_tally : (p : List Stmt) (n limit : ℕ) (th : ThreadName) (st : Stack) (kinds : List NameKind) (fresh : List Name) (bind : Option Equation) (s : Site) →
-    Each (λ (x : VarName). x.site ≡ s.records.site) (vars_among fresh) → Each (λ (q : Equation). q.0.site ≡ s.records.site) (equations_of bind) → Counts s [] (thread_step p n limit th st kinds fresh bind s)
+    Each (λ (x : VarName). x.site ≡ s.records.site) (vars_among fresh) → Each (λ (q : Equation). q.0.site ≡ s.records.site) (option_to_list bind) → Counts s [] (thread_step p n limit th st kinds fresh bind s)
 step_with_tally p n limit th st kinds fresh bind s new own =
     steps_tally p n limit (step_pick th fresh bind) kinds (effect_here p s fresh bind st) s (effect_lefts (λ (x : VarName). x.site ≡ s.records.site) p s.equations fresh bind st new own)
 

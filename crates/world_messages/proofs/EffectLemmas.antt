@@ -1,6 +1,6 @@
 -- The effects of steps of fitting threads fit.
 use Rattle.std.proofs.Common.{◌≡◌, ◌∙◌, sym, ap, refl, subst, ℕ, zero, suc, List, [], ◌∷◌, ◌++◌, map, length, Bool, true, false, cond, Some, None}
-use Rattle.std.specs.Prelude.{Option, Contains, take}
+use Rattle.std.specs.Prelude.{Option, Contains, take, option_to_list}
 use Rattle.tree_node.specs.declared.names.VarName.{VarName}
 use Rattle.tree_node.specs.declared.names.Name.{Name}
 use Rattle.tree_node.specs.declared.names.NameKind.{NameKind}
@@ -22,7 +22,7 @@ use Rattle.thread_machine.specs.Fits.{EquationsFit}
 use Rattle.thread_machine.specs.Effects.{EffectFits}
 use Rattle.thread_machine.proofs.KeepLemmas.{stack_effect_fits, stack_bound}
 use Rattle.site_model.proofs.EffectLemmas.{bind_effect as effect_of_bind}
-use Rattle.site_model.specs.Bundle.{option_list, known_equations, distinct_vars, reachable_vars, reachable_equations, insert_ascending, ascending, bundle_from, is_below}
+use Rattle.site_model.specs.Bundle.{known_equations, distinct_vars, reachable_vars, reachable_equations, insert_ascending, ascending, bundle_from, is_below}
 use Rattle.world_messages.specs.Fitting.{ThreadFits}
 use Rattle.world_messages.proofs.TermLemmas.{IsFitFor}
 use Rattle.tree_node.proofs.OrderLemmas.{Each-member}
@@ -91,7 +91,7 @@ module _ (R : Equation → Type 0) where
   owns s h [] = tt
   owns s h (x ∷ xs) = each_append _ (known_equations s xs) (first (value_of equal_var s x) refl) (owns s h xs)
     where
-      first : (o : Option Term) → value_of equal_var s x ≡ o → Each R (map (λ (t : Term). (x, t)) (option_list o))
+      first : (o : Option Term) → value_of equal_var s x ≡ o → Each R (map (λ (t : Term). (x, t)) (option_to_list o))
       first None e = tt
       first (Some t) e = (Each-member R s (x, t) h (value_in s x t e), tt)
 

@@ -30,7 +30,7 @@ use Rattle.site_model.specs.Site.{Site, ThreadState, Threads, CellRecord, thread
 use Rattle.site_model.specs.Bundle.{message_bundle}
 use Rattle.site_model.specs.Transition.{Transition, without_output, and_then}
 use Rattle.site_model.specs.Variables.{with_new_equation, with_known_equation, with_known_equations, own_bind, opening}
-use Rattle.site_model.specs.Cells.{serving, leave_row, exchange_effect, exchange_pick, exchange_stack, after_exchange, content_after_exchange}
+use Rattle.site_model.specs.Cells.{serving, leave_row, effect_here, step_pick, exchange_stack, after_exchange, content_after_exchange}
 use Rattle.site_model.specs.Messages.{with_thread, birth, bind_pick, bind_request_row, message_row}
 use Rattle.site_model.specs.Turn.{IsReception}
 use Rattle.thread_roster.specs.declared.mode.Mode.TheVariants.{Runs}
@@ -140,7 +140,7 @@ module _ (C : ThreadName → Type 0) where
       where
         go : (o : Option ThreadState) → thread_state s n ≡ o → Keeps s (after_exchange p n v s)
         go None q = rw q (λ th h. h)
-        go (Some u) q = rw q (goes s (record s { threads = with_value equal_thread s.threads n (exchange_stack v (exchange_effect p s u.0).cell (exchange_effect p s u.0).stack, Runs) }) n u (Some (exchange_stack v (exchange_effect p s u.0).cell (exchange_effect p s u.0).stack, Runs)) refl refl q)
+        go (Some u) q = rw q (goes s (record s { threads = with_value equal_thread s.threads n (exchange_stack v (effect_here p s [] None u.0).cell (effect_here p s [] None u.0).stack, Runs) }) n u (Some (exchange_stack v (effect_here p s [] None u.0).cell (effect_here p s [] None u.0).stack, Runs)) refl refl q)
 
     serves_keep : (c : CellName) (ns : List ThreadName) (v : VarName) (s : Site) → Keeps s (serving p c ns v s).site
     serves_keep c [] v s th h = replies s c _ (λ o k. absurd (nothing o k)) th h
@@ -186,9 +186,9 @@ module _ (C : ThreadName → Type 0) where
 
     serves_picks : (c : CellName) (ns : List ThreadName) (v : VarName) (s : Site) (k : Pick) → Contains (serving p c ns v s).picks k → (k.fresh ≡ []) × Contains ns k.thread
     serves_picks c [] v s k h = absurd (nothing k h)
-    serves_picks c (n ∷ ns) v s k h = by (Contains-cons_cases (exchange_pick n) k _ h) (λ q. serves_picks c ns (content_after_exchange p n v s) (after_exchange p n v s) k q)
+    serves_picks c (n ∷ ns) v s k h = by (Contains-cons_cases (step_pick n [] None) k _ h) (λ q. serves_picks c ns (content_after_exchange p n v s) (after_exchange p n v s) k q)
       where
-        by : (exchange_pick n ≡ k) ⊎ Contains (serving p c ns (content_after_exchange p n v s) (after_exchange p n v s)).picks k → (Contains (serving p c ns (content_after_exchange p n v s) (after_exchange p n v s)).picks k → (k.fresh ≡ []) × Contains ns k.thread) → (k.fresh ≡ []) × Contains (n ∷ ns) k.thread
+        by : (step_pick n [] None ≡ k) ⊎ Contains (serving p c ns (content_after_exchange p n v s) (after_exchange p n v s)).picks k → (Contains (serving p c ns (content_after_exchange p n v s) (after_exchange p n v s)).picks k → (k.fresh ≡ []) × Contains ns k.thread) → (k.fresh ≡ []) × Contains (n ∷ ns) k.thread
         by (inl e) ih = subst (λ (l : Pick). (l.fresh ≡ []) × Contains (n ∷ ns) l.thread) e (refl, Contains-head n ns)
         by (inr q) ih = let r = ih q in (r.0, Contains-tail n k.thread ns r.1)
 

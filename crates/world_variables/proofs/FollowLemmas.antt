@@ -33,7 +33,7 @@ use Rattle.site_model.specs.Bundle as Bundle
 use Rattle.site_model.specs.Transition.{Transition, without_output, with_messages}
 use Rattle.site_model.specs.Variables.{own_binds}
 use Rattle.site_model.specs.Messages as Receive
-use Rattle.site_model.specs.Unit.{IsStepOrRequest, IsRootBind, IsNamedStep, IsUnitFor, IsUnit, bind_attempt, thread_step, fresh_names, next_names, step_row, with_fresh_names, step_pick, birth_row, with_waiting, with_waiting_any, placement}
+use Rattle.site_model.specs.Unit.{IsStepOrRequest, IsRootBind, IsUnitFor, IsUnit, bind_attempt, thread_step, fresh_names, next_names, step_row, with_fresh_names, step_pick, birth_row, with_waiting, with_waiting_any, placement}
 use Rattle.world_model.specs.World.{World, after_transition, records, counters}
 use Rattle.world_variables.specs.Plain.{IsCellUnit}
 use Rattle.world_model.specs.Names.{IsHere, IsMade, here_at}
@@ -186,7 +186,7 @@ module _ (p : List Stmt) (w : World) (c : State) (n limit i : ℕ) (th : ThreadN
                 (ask_row p (here_at (records w.sites)) w c i th st h at limit u t free (at_site u is_here.0) owner (a, b, need, allows, low) was central.0),
           )
 
-      takes : (kinds : List NameKind) → stack_need p s.equations st ≡ Takes kinds → IsNamedStep p n limit s th st kinds d → Goal
+      takes : (kinds : List NameKind) → stack_need p s.equations st ≡ Takes kinds → IsUnitFor p n limit s th st (Takes kinds) d → Goal
       takes kinds need t = one (stack_effect p s.equations (fresh_names s kinds) None st).cell refl t
         where
           site_is : s.records.site ≡ i

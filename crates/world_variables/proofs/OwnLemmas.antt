@@ -1,6 +1,6 @@
 -- A step of a thread of a site: its whole row.
 use Rattle.std.proofs.Common.{arith, ◌≡◌, ◌∙◌, sym, ap, refl, subst, ℕ, ◌+◌, ◌<◌, ◌≤◌, List, [], ◌∷◌, ◌++◌, ◌⊎◌, inl, inr, Bool, true, false, cond, Some, None, length}
-use Rattle.std.specs.Prelude.{Option, Contains, ◌≢◌, ◌==◌, is_some, IsTrue}
+use Rattle.std.specs.Prelude.{Option, Contains, ◌≢◌, ◌==◌, is_some, IsTrue, option_to_list}
 use Rattle.tree_node.specs.declared.names.VarName.{VarName}
 use Rattle.tree_node.specs.declared.names.ThreadName.{ThreadName}
 use Rattle.tree_node.specs.declared.names.Name.{Name}
@@ -16,7 +16,7 @@ use Rattle.tree_node.specs.State.{Stack, State, equal_thread}
 use Rattle.tree_node.specs.Store.{Store, Equation, IsFree}
 use Rattle.kernel_syntax.specs.declared.stmt.Stmt.{Stmt}
 use Rattle.oz_model.specs.Effect.{Effect, Birth, CellChange, Stays, Made, Exchanged}
-use Rattle.oz_model.specs.Step.{threads_born, living_stack, stack_with_content, IsAllowed, effect_of, next, lines_of}
+use Rattle.oz_model.specs.Step.{threads_born, living_stack, stack_with_content, IsAllowed, effect_of, next}
 use Rattle.oz_model.proofs.NameLemmas.{Each-weaker}
 use Rattle.oz_model.specs.EffectNames.{EachOfBirth}
 use Rattle.oz_model.proofs.EffectNames.{step_names, effect_names}
@@ -271,14 +271,14 @@ own_step p here w c n limit i k kinds st q h =
     site2 = at_here w1.sites i d2.site
 
     d3 : Transition
-    d3 = with_lines (lines_of e.line) (after_effect k.thread e d2.site)
+    d3 = with_lines (option_to_list e.line) (after_effect k.thread e d2.site)
 
     w3 : World
     w3 = after_transition w2 i d3
 
     h3 : PartsIn p here w3 c3
-    h3 = at_site p here w1 i d2 (λ t. with_lines (lines_of e.line) (after_effect k.thread e t)) c3
-        (goes_row p here w2 c2 c3 i k.thread e (lines_of e.line) st su
+    h3 = at_site p here w1 i d2 (λ t. with_lines (option_to_list e.line) (after_effect k.thread e t)) c3
+        (goes_row p here w2 c2 c3 i k.thread e (option_to_list e.line) st su
         (subst (λ (t : Site). value_of equal_thread t.threads k.thread ≡ Some (st, Runs)) (sym site2) (binds_run limit e.adds d1.site k.thread st q.at))
         (subst (λ (t : Site). exchange_stack (content_here t e.cell) e.cell e.stack ≡ su) (sym site2) q.cell) q.stack refl refl centred3 h2)
 

@@ -13,10 +13,10 @@ use Rattle.tree_node.specs.State.{State}
 use Rattle.tree_node.specs.Store.{Store}
 use Rattle.kernel_syntax.specs.declared.stmt.Stmt.{Stmt}
 use Rattle.bind_protocol.specs.Records.{Records, knowledge}
-use Rattle.bind_protocol.specs.Rows.{after_meet, meet_sends}
+use Rattle.bind_protocol.specs.Rows.{after_meet, meet_sends, after_ask}
 use Rattle.site_model.specs.Site.{Site, Threads, Counters}
 use Rattle.site_model.specs.Transition.{Transition, with_messages, with_pick, and_then}
-use Rattle.site_model.specs.Variables.{with_own_equation, own_bind}
+use Rattle.site_model.specs.Variables.{with_site_equation, own_bind}
 use Rattle.site_model.specs.Unit.{with_fresh_names}
 use Rattle.site_model.specs.Unit as Unit
 use Rattle.site_model.specs.Variables as Learn
@@ -64,7 +64,7 @@ module _ (p : List Stmt) (here : ℕ → Name → Type 0) where
   pub bind_row : (w : World) (c : State) (limit i : ℕ) (x : VarName) (t : Term) → x.site ≡ i → x.site ≢ 0 → knowledge (records w.sites i) x ≡ Some None → IsLower t x → EachOfEquation (here i) (x, t) → EachOfEquation (IsMade (counters w.sites)) (x, t) →
       PartsIn p here w c → PartsIn p here (after_transition w i (own_bind limit x t (w.sites i))) (with_equation c x t)
   bind_row w c limit i x t own real unbound low names was h =
-      to_put p here w.sites i (with_own_equation (w.sites i) x t) (w.mail ++ mail_from w.sent (own_bind limit x t (w.sites i)).sent) (with_equation c x t)
+      to_put p here w.sites i (with_site_equation (w.sites i) x t (after_ask (w.sites i).records x t)) (w.mail ++ mail_from w.sent (own_bind limit x t (w.sites i)).sent) (with_equation c x t)
       (rw (at_own (counters w.sites) i) (bind_parts p here (eqs w.sites) (records w.sites) (threads w.sites) (counters w.sites) w.mail c h limit w.sent i x t own real unbound low names was))
 
   -- one name is met

@@ -1,6 +1,6 @@
 -- Lines, ended threads and names of threads, part by part of a turn.
 use Rattle.std.proofs.Common.{rules, arith, ◌≡◌, ◌≢◌, ◌∙◌, sym, ap, refl, subst, ℕ, zero, suc, ◌+◌, ◌≤◌, List, [], ◌∷◌, ◌++◌, map, append-nil, ◌⊎◌, inl, inr, Bool, true, false, cond, Some, None}
-use Rattle.std.specs.Prelude.{Option, ◌==◌}
+use Rattle.std.specs.Prelude.{Option, ◌==◌, option_to_list}
 use Rattle.tree_node.specs.declared.names.VarName.{VarName}
 use Rattle.tree_node.specs.declared.names.CellName.{CellName}
 use Rattle.tree_node.specs.declared.names.ThreadName.{ThreadName}
@@ -15,7 +15,7 @@ use Rattle.kernel_syntax.specs.declared.stmt.Stmt.{Stmt}
 use Rattle.site_message.specs.declared.message.Msg.{Msg}
 use Rattle.site_message.specs.declared.message.Msg.TheVariants as msg
 use Rattle.oz_model.specs.Effect.{Effect, Birth, CellChange, Stays, Made, Exchanged}
-use Rattle.oz_model.specs.Step.{stack_with_content, end_count, living_stack, lines_of, effect_of, next}
+use Rattle.oz_model.specs.Step.{stack_with_content, end_count, living_stack, effect_of, next}
 use Rattle.bind_protocol.specs.Records.{is_own, knowledge}
 use Rattle.bind_protocol.specs.Rows as Rows
 use Rattle.site_model.specs.Site.{Site, Threads, ThreadState, thread_state}
@@ -294,15 +294,15 @@ module _ (p : List Stmt) (n limit : ℕ) (k : Pick) (kinds : List NameKind) (e :
 
   pub steps_summed : (c : State) → effect_of p c k ≡ e → IsUnborn s e.born → Summed s (step_row p n limit k kinds e s) c (next p c k)
   steps_summed c is new = record {
-    printed = ap (λ (y : Effect). c.lines ++ lines_of y.line) is ∙ ap (λ (l : List (List ℕ)). c.lines ++ l) (sym lines);
+    printed = ap (λ (y : Effect). c.lines ++ option_to_list y.line) is ∙ ap (λ (l : List (List ℕ)). c.lines ++ l) (sym lines);
     more = end_count left;
     here = bears_ended p n limit e.born stepped ∙ ap (λ (x : ℕ). x + end_count left) (cell_ended e.cell begun.site ∙ begun_sums.ended);
     there = ap (λ (y : Effect). c.ended + end_count (stack_with_content c.cells y.cell y.stack)) is ∙ ap (λ (x : ℕ). c.ended + x) (sym (ends_same (content_here begun.site e.cell) c.cells e.cell e.stack));
     once = λ h. bears_once p n limit e.born stepped (stepped_new e.born new) (stepped_once h);
   }
     where
-      lines : (step_row p n limit k kinds e s).lines ≡ lines_of e.line
-      lines = rw (bears_lines p n limit e.born stepped, binds_each_lines limit e.adds (with_fresh_names kinds s)) (append-nil (lines_of e.line))
+      lines : (step_row p n limit k kinds e s).lines ≡ option_to_list e.line
+      lines = rw (bears_lines p n limit e.born stepped, binds_each_lines limit e.adds (with_fresh_names kinds s)) (append-nil (option_to_list e.line))
 
 -- ---- those that wait for a token are served
 
