@@ -1,5 +1,5 @@
 -- Ascending positions.
-use Rattle.std.proofs.Common.{arith, ◌≡◌, sym, ap, refl, subst, ℕ, zero, suc, ◌+◌, ◌<◌, ◌≤◌, List, [], ◌∷◌, length, get_or, drop, drop-cons, add-one, Bool, true, false, cond}
+use Rattle.std.proofs.Common.{arith, ◌≡◌, sym, ap, refl, subst, ℕ, zero, suc, ◌+◌, ◌<◌, ◌≤◌, List, [], ◌∷◌, ◌++◌, length, get_or, drop, drop-cons, add-one, Bool, true, false, cond}
 use Rattle.std.specs.Prelude.{◌==◌, nat_lt, insert, MatchResult, Result, Ok, Err}
 use Rattle.std.specs.Ordering.{nat_cmp}
 use Rattle.std.specs.List.Sorted.{IsBinarySearchResult}
@@ -83,6 +83,25 @@ pub position_missing : (k : ℕ) (js xs : List ℕ) (r : Result ℕ ℕ) (i : �
 position_missing k js xs r i up e at is =
     sym (subst (λ (q : Result ℕ ℕ). MatchResult q (λ i. with_position k js ≡ js) (λ i. with_position k js ≡ insert js i k)) is
     (with_position_searched k js r up (rw (← e) at)))
+
+-- a position above all, by the last of them
+pub above_all : (k : ℕ) (js : List ℕ) (i : ℕ) → AreRising js → suc i ≡ length js → get_or js i 0 < k → Each (λ j. j < k) js
+above_all k [] i up e l = tt
+above_all k (j ∷ []) zero up e l = (l, tt)
+above_all k (j ∷ []) (suc i) up e l = absurd (omega (arith, e))
+above_all k (j ∷ x ∷ xs) zero up e l = absurd (omega (arith, e))
+above_all k (j ∷ x ∷ xs) (suc i) up e l =
+    let rest : Each (λ y. y < k) (x ∷ xs) = above_all k (x ∷ xs) i up.1 (omega (arith, e)) l in
+    let low : j < x = up.0.0 in
+    let high : x < k = rest.0 in
+    (omega (arith, low, high), rest)
+
+pub position_above : (k : ℕ) (js : List ℕ) → Each (λ j. j < k) js → with_position k js ≡ js ++ k ∷ []
+position_above k [] h = refl
+position_above k (j ∷ js) h =
+    let low : j < k = h.0 in
+    let ih : with_position k js ≡ js ++ k ∷ [] = position_above k js h.1 in
+    grind (arith, low, ih)
 
 -- the next position of a list
 pub with_positions_next : (js ks : List ℕ) (i : ℕ) → i < length ks → with_positions (with_position (get_or ks i 0) js) (drop (i + 1) ks) ≡ with_positions js (drop i ks)

@@ -1,8 +1,10 @@
 -- Programs with sugar (CTM section 2.6) as trees. An identifier is the number of declarations of the text that enclose its own.
-use Rattle.std.specs.Prelude.{ℕ, suc, ◌+◌, List, Option, ℤ}
+use Rattle.std.specs.Prelude.{ℕ, suc, ◌+◌, List, [], ◌∷◌, Option, ℤ, pos}
 use Rattle.tree_node.specs.declared.node.Feature.{Feature}
+use Rattle.tree_node.specs.declared.node.Feature.TheVariants as feature
 use Rattle.kernel_syntax.specs.declared.stmt.Pattern.{Pattern}
 use Rattle.kernel_syntax.specs.declared.sugar.Field.{Field}
+use Rattle.kernel_syntax.specs.declared.sugar.Field.TheVariants as field
 use Rattle.kernel_syntax.specs.declared.sugar.Operation.{Operation}
 use Rattle.kernel_syntax.specs.declared.sugar.Action.{Action}
 
@@ -72,6 +74,23 @@ by_kind v variable other = other
 -- how many new identifiers a part takes: one, unless it is a variable
 abbrev pub new_of : Value → ℕ
 new_of v = by_kind v 0 1
+
+-- the field that a value is, where so many that are no variables stand before it
+abbrev pub field_of : Value → ℕ → Field
+field_of (Variable left k) i = field.Variable k
+field_of v i = field.Value i
+
+-- a value before others, unless it is a variable
+abbrev pub part_and : Value → Values → Values
+part_and v vs = by_kind v vs (value_and v vs)
+
+-- the fields of the record H|T
+abbrev pub pair_fields : Value → Value → List (Feature × Field)
+pair_fields h u = (feature.Int (pos 1), field_of h 0) ∷ (feature.Int (pos 2), field_of u (new_of h)) ∷ []
+
+-- its values that are no variables
+abbrev pub pair_values : Value → Value → Values
+pair_values h u = part_and h (part_and u no_values)
 
 -- how many parts take
 abbrev pub new_in : Values → ℕ

@@ -1,24 +1,34 @@
 -- What the types of programs with sugar hold, as plain trees.
-use Rattle.std.specs.Prelude.{List, [], ◌∷◌}
+use Rattle.std.specs.Prelude.{List, [], ◌∷◌, codes}
+use Rattle.tree_node.specs.declared.node.Feature.{Feature}
+use Rattle.kernel_syntax.specs.declared.sugar.Field.{Field}
 use Rattle.kernel_syntax.specs.declared.sugar.Value as values
+use Rattle.kernel_syntax.specs.declared.sugar.Pair as pairs
 use Rattle.kernel_syntax.specs.declared.sugar.ValueClause as value_clauses
 use Rattle.kernel_syntax.specs.declared.sugar.Statement as statements
 use Rattle.kernel_syntax.specs.declared.sugar.Clause as clauses
-use Rattle.kernel_syntax.specs.Sugar.{Value, Variable, Integer, Atom, Record, Apply, Proc, Fun, If, Case, Brackets, Values, no_values, value_and, ValueClauses, no_clauses, clause_and, Statement, Skip, Tell, Acts, Local, Thread, IfStatement, CaseStatement, Try, Finally, Statements, no_statements, statement_and, Clauses, no_cases, case_and}
+use Rattle.kernel_syntax.specs.Sugar.{Value, Variable, Integer, Atom, Record, Apply, Proc, Fun, If, Case, Brackets, Values, no_values, value_and, ValueClauses, no_clauses, clause_and, Statement, Skip, Tell, Acts, Local, Thread, IfStatement, CaseStatement, Try, Finally, Statements, no_statements, statement_and, Clauses, no_cases, case_and, pair_fields, pair_values}
 
--- values and statements, and the rows of vectors of them
+-- values and statements, what a head and a tail are as fields, and the rows of vectors
 abbrev mutual
   pub value_of : values.Value → Value
   value_of (values.Variable left k) = Variable left k
   value_of (values.Integer left i) = Integer left i
   value_of (values.Atom left a) = Atom left a
   value_of (values.Record' left a slots l vs) = Record left a slots (values_of vs)
+  value_of (values.Pair' left p hu) = Record left (codes "|") (fields_in hu) (parts_in hu)
   value_of (values.Apply' left operation l vs) = Apply left operation (values_of vs)
   value_of (values.Proc' left count l q) = Proc left count (statements_of q)
   value_of (values.Fun' left count p v) = Fun left count (value_of v)
   value_of (values.If' left p e q a r b) = If left (value_of e) (value_of a) (value_of b)
   value_of (values.Case' left p e l cs q b) = Case left (value_of e) (value_clauses_of cs) (value_of b)
   value_of (values.Brackets' left p v) = Brackets left (value_of v)
+
+  pub fields_in : pairs.Pair → List (Feature × Field)
+  fields_in (pairs.Of h u) = pair_fields (value_of h) (value_of u)
+
+  pub parts_in : pairs.Pair → Values
+  parts_in (pairs.Of h u) = pair_values (value_of h) (value_of u)
 
   pub values_of : {m : _} → values.Row_of-Value m → Values
   values_of values.end_of-Value = no_values

@@ -1,13 +1,16 @@
-//! Programs of the kernel language as tables of statements.
+//! Programs of the kernel language as tables of statements, and programs with sugar as trees.
 //!
-//! For: what a program is, apart from its text. The reader of texts makes programs, and every machine walks them: a body is
-//! the number of its statement, an identifier the number of declarations around its own.
+//! For: what a program is, apart from its text. The reader of kernel texts makes programs (`Program`), and every machine walks
+//! them: a body is the number of its statement, an identifier the number of declarations around its own. The reader of texts
+//! with sugar makes trees (`sugar`), and hands each on with its text as a `Surface`, from which a program is made.
 //!
 //! Promises: `Program::try_from_vec` gives a program exactly where the statements are one (`IsProgram`: each within the limits,
 //! naming what a text can spell, in preorder, at most 200 levels deep, each body with one owner, under the declarations that
 //! it counts). `Program::code` and `Program::free` give its statements and their free positions, which are those that are
 //! used and not declared (`free_is_used`, `free_goes_out`, `free_unfolds`), at most 12,800 of them (`free_is_few`). What the
-//! operators give is exact (`operators_divide`).
+//! operators give is exact (`operators_divide`). Contracts see a tree as `Statements` (specs/Sugar.antt), by `SugarView`. Each
+//! `Surface` has a tree within the limits (`FitsStatements`: what it uses is declared, each list has its items, and all can be
+//! spelled) and places within its text; that its text reads as its tree is a promise of the reader, and not of the type.
 //!
 //! Stands on: `tree_node`, for texts, features, their order and how they are spelled. That a table is a program exactly where
 //! a text is read as it stands where texts are read and printed (`oz_show::programs_are_texts`).
@@ -17,7 +20,7 @@
 //! Tests alone show (`unit_tests`) that a program is made and asked where there is memory.
 //!
 //! Sources: Van Roy and Haridi, *Concepts, Techniques, and Models of Computer Programming*, sections 2.3 (the kernel
-//! language), 2.4.2 (scope), 2.7 (exceptions), 3.2 (numbers), 4.1 (threads), 6.3 (cells); its appendix C (how atoms are spelled).
+//! language), 2.4.2 (scope), 2.6 (sugar), 2.7 (exceptions), 3.2 (numbers), 4.1 (threads), 6.3 (cells); its appendix C (how atoms are spelled).
 #![tactic(auto)]
 
 mod built_in;

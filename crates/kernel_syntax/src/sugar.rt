@@ -4,7 +4,7 @@
 
 use crate::built_in::BuiltIn;
 use crate::stmt::{Op, Pattern, Selector, TestOp};
-use tree_node::{Feature, Seq, Text};
+use tree_node::{Feature, Integer, Seq, Text};
 
 /// A field of a record: an identifier, or the number of one of the record's values that are no variables, from 0, in the
 /// order of the text.
@@ -38,10 +38,12 @@ pub enum Action {
 #[cycle(sugar)]
 pub enum Value {
     Variable(usize, u32),
-    Integer(usize, i128),
+    Integer(usize, Integer),
     Atom(usize, Text),
     /// The label, the fields in ascending order of features, and the values among them that are no variables.
     Record(usize, Text, Seq<(Feature, Field)>, Vec<Value>),
+    /// The record H|T of a head and a tail.
+    Pair(usize, Box<Pair>),
     Apply(usize, Operation, Vec<Value>),
     /// The number of formals, and the body.
     Proc(usize, u8, Vec<Statement>),
@@ -52,6 +54,13 @@ pub enum Value {
     Case(usize, Box<Value>, Vec<ValueClause>, Box<Value>),
     /// A value in round brackets.
     Brackets(usize, Box<Value>),
+}
+
+/// A head and a tail.
+#[derive(Drop)]
+#[cycle(sugar)]
+pub enum Pair {
+    Of(Value, Value),
 }
 
 /// A clause of a `case` that is a value: its pattern and its value.
@@ -70,7 +79,7 @@ pub enum Statement {
     Apply(usize, Action, Vec<Value>),
     /// How many identifiers are declared, and the body.
     Local(usize, u32, Vec<Statement>),
-    Thread(usize, Option<i128>, Vec<Statement>),
+    Thread(usize, Option<Integer>, Vec<Statement>),
     If(usize, Value, Vec<Statement>, Vec<Statement>),
     /// The value that is matched, the clauses, one at least, and the statements behind `else`.
     Case(usize, Value, Vec<Clause>, Vec<Statement>),

@@ -105,7 +105,7 @@ closed_here closer.EndOfText rest = refl
 
 -- ---- rows
 
-set_here : (pre post : List Stmt) (x y : Stmt) → slice_set (pre ++ x ∷ post) (length pre) y ≡ pre ++ y ∷ post
+pub set_here : (pre post : List Stmt) (x y : Stmt) → slice_set (pre ++ x ∷ post) (length pre) y ≡ pre ++ y ∷ post
 set_here [] post x y = refl
 set_here (p ∷ pre) post x y = ap (λ (xs : List Stmt). p ∷ xs) (set_here pre post x y)
 

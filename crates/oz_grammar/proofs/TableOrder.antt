@@ -67,11 +67,11 @@ alone (stmt.Raise x) p = record { none = λ b. refl; declares = λ n. tt; sequen
 -- ---- rows with bodies
 
 -- a row names what is declared around it, declares behind that, and has these bodies
-record Stands (b : Body) (row : Stmt) (inner : List Body) : Type 0 where
-  names : Below b.around (scopes.named_positions row)
-  declares : DeclaresBehind b.around row
-  sequence : IsWholeSequence b.in_sequence row
-  bodies : bodies_in b row ≡ inner
+pub record Stands (b : Body) (row : Stmt) (inner : List Body) : Type 0 where
+  pub names : Below b.around (scopes.named_positions row)
+  pub declares : DeclaresBehind b.around row
+  pub sequence : IsWholeSequence b.in_sequence row
+  pub bodies : bodies_in b row ≡ inner
 
 -- a body that declares so many names
 inner_is : (d n m : ℕ) (c : CodeId) → n ≡ m → ◌≡◌ {A = Body} (record { code = c; levels = d - 1; around = n; in_sequence = false }) (record { code = c; levels = fewer d; around = m; in_sequence = false })
@@ -120,16 +120,16 @@ try_bodies : (d n m : ℕ) (c : CodeId) (l : ℕ) (f : CodeId) → n ≡ m
 try_bodies d n m c l f e = rw (fewer_is d, e) refl
 
 -- a row before those of its bodies
-row_before : (b : Body) (row : Stmt) (inner bs : List Body) (rows : List Stmt) (k : ℕ) → b.code.0 ≡ k → 1 ≤ b.levels → Stands b row inner → AreBodies (k + 1) (inner ++ bs) rows → AreBodies k (b ∷ bs) (row ∷ rows)
+pub row_before : (b : Body) (row : Stmt) (inner bs : List Body) (rows : List Stmt) (k : ℕ) → b.code.0 ≡ k → 1 ≤ b.levels → Stands b row inner → AreBodies (k + 1) (inner ++ bs) rows → AreBodies k (b ∷ bs) (row ∷ rows)
 row_before b row inner bs rows k at levels s h =
     (at, record { level = levels; names = s.names; declares = s.declares; sequence = s.sequence }, subst (λ (cs : List Body). AreBodies (k + 1) (cs ++ bs) rows) (sym s.bodies) h)
 
 -- ---- rows of a derivation
 
-ends_at : (m n : ℕ) (bs : List Body) (more : List Stmt) → m ≡ n → AreBodies m bs more → AreBodies n bs more
+pub ends_at : (m n : ℕ) (bs : List Body) (more : List Stmt) → m ≡ n → AreBodies m bs more → AreBodies n bs more
 ends_at m n bs more e h = subst (λ (k : ℕ). AreBodies k bs more) e h
 
-before_more : (k : ℕ) (bs : List Body) (xs ys more : List Stmt) → AreBodies k bs (xs ++ (ys ++ more)) → AreBodies k bs ((xs ++ ys) ++ more)
+pub before_more : (k : ℕ) (bs : List Body) (xs ys more : List Stmt) → AreBodies k bs (xs ++ (ys ++ more)) → AreBodies k bs ((xs ++ ys) ++ more)
 before_more k bs xs ys more h = subst (AreBodies k bs) (sym (append_assoc xs ys more)) h
 
 stmt_level : (s : Statement) (d : ℕ) (scope : Scope) (rest : List Symbol) (behind : Option Fault) → check_stmt s d scope rest behind ≡ None → 1 ≤ d

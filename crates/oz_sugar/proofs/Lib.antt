@@ -9,3 +9,4 @@ pub mod KernelCodes
 pub mod KernelExpansions
 pub mod KernelDepth
 pub mod TextLaws
+pub mod Pairs

@@ -8,24 +8,14 @@ use Rattle.kernel_syntax.specs.declared.preorder.Body.{Body}
 use Rattle.kernel_syntax.specs.declared.stmt.Stmt.{Stmt}
 use Rattle.kernel_syntax.specs.declared.stmt.Stmt.TheVariants as stmt
 use Rattle.kernel_syntax.specs.Scopes.{named_positions, features_in}
-use Rattle.kernel_syntax.specs.Preorder.{sequence_body, bodies_in, DeclaresBehind, IsWholeSequence, AreBodies}
+use Rattle.kernel_syntax.specs.Preorder.{sequence_body, AreBodies}
 use Rattle.kernel_syntax.specs.Program.{IsStmt, IsProgram}
 use Rattle.kernel_syntax.specs.Texts.{HasTexts}
 use Rattle.kernel_syntax.proofs.PreorderLemmas.{program_of}
 use Rattle.oz_grammar.specs.Table.{code_at}
+use Rattle.oz_grammar.proofs.TableOrder.{body, Stands, row_before, ends_at, before_more}
 use Rattle.oz_sugar.specs.Codes.{Code, Leaf, Local, Proc, Thread, If, Case, Try, Codes, One, Then, code_rows, codes_rows, more_rows, codes_numbers}
 use Rattle.oz_sugar.specs.CodeLimits.{IsLeaf, FitsCode, FitsCodes}
-
--- the body with number k, d levels and n declarations around it, which is one of a sequence or not
-abbrev body : ℕ → ℕ → ℕ → Bool → Body
-body k d n one = record { code = code_at k; levels = d; around = n; in_sequence = one }
-
--- a row names what is declared around it, declares behind that, and has these bodies
-record Stands (b : Body) (row : Stmt) (inner : List Body) : Type 0 where
-  names : Each (λ (j : ℕ). j < b.around) (named_positions row)
-  declares : DeclaresBehind b.around row
-  sequence : IsWholeSequence b.in_sequence row
-  bodies : bodies_in b row ≡ inner
 
 leaf_stands : (row : Stmt) (k d n : ℕ) (one : Bool) → IsLeaf row → Each (λ (j : ℕ). j < n) (named_positions row) → Stands (body k d n one) row []
 leaf_stands (stmt.Seq bodies) k d n one p h = absurd p
@@ -49,17 +39,6 @@ leaf_stands (stmt.Exchange cell old new) k d n one p h = record { names = h; dec
 leaf_stands (stmt.Thread at c) k d n one p h = absurd p
 leaf_stands (stmt.Try c first handler) k d n one p h = absurd p
 leaf_stands (stmt.Raise x) k d n one p h = record { names = h; declares = tt; sequence = tt; bodies = refl }
-
--- a row before those of its bodies
-row_before : (b : Body) (row : Stmt) (inner bs : List Body) (rows : List Stmt) (k : ℕ) → b.code.0 ≡ k → 1 ≤ b.levels → Stands b row inner → AreBodies (k + 1) (inner ++ bs) rows → AreBodies k (b ∷ bs) (row ∷ rows)
-row_before b row inner bs rows k at levels s h =
-    (at, record { level = levels; names = s.names; declares = s.declares; sequence = s.sequence }, subst (λ (cs : List Body). AreBodies (k + 1) (cs ++ bs) rows) (sym s.bodies) h)
-
-ends_at : (m n : ℕ) (bs : List Body) (more : List Stmt) → m ≡ n → AreBodies m bs more → AreBodies n bs more
-ends_at m n bs more e h = subst (λ (k : ℕ). AreBodies k bs more) e h
-
-before_more : (k : ℕ) (bs : List Body) (xs ys more : List Stmt) → AreBodies k bs (xs ++ (ys ++ more)) → AreBodies k bs ((xs ++ ys) ++ more)
-before_more k bs xs ys more h = subst (AreBodies k bs) (sym (append_assoc xs ys more)) h
 
 code_level : (c : Code) (d n : ℕ) → FitsCode c d n → 1 ≤ d
 code_level (Leaf row) d n f = f.0

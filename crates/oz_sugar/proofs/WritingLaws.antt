@@ -9,6 +9,7 @@ use Rattle.kernel_syntax.specs.Scopes.{features_in}
 use Rattle.kernel_syntax.proofs.PreorderLemmas.{stmt_here}
 use Rattle.oz_grammar.specs.Table.{code_at}
 use Rattle.oz_grammar.specs.Reading.{set_second}
+use Rattle.oz_grammar.proofs.StatementsChecked.{set_here}
 use Rattle.kernel_syntax.specs.Sugar.{Value, Variable, Integer, Atom, Record, Apply, Proc, Fun, If, Case, Brackets, Values, no_values, value_and, ValueClauses, no_clauses, clause_and, Statement, Skip, Tell, Acts, Local, Thread, IfStatement, CaseStatement, Try, Finally, Statements, no_statements, statement_and, Clauses, no_cases, case_and, by_kind, new_of, new_in}
 use Rattle.oz_sugar.specs.Codes.{Code, Leaf, Codes, One, Then, code_rows, codes_rows, more_rows, codes_numbers, follow}
 use Rattle.oz_sugar.specs.Codes as code
@@ -18,10 +19,6 @@ use Rattle.oz_sugar.specs.Writing.{add, next, behind, with_second, with_numbers,
 -- w writes what f gives for the number of the first row
 abbrev Writes : (List Stmt → List Stmt) → (ℕ → List Stmt) → Type 0
 Writes w f = (rows : List Stmt) → w rows ≡ rows ++ f (length rows)
-
-set_here : (pre post : List Stmt) (x y : Stmt) → slice_set (pre ++ x ∷ post) (length pre) y ≡ pre ++ y ∷ post
-set_here [] post x y = refl
-set_here (p ∷ pre) post x y = ap (λ (xs : List Stmt). p ∷ xs) (set_here pre post x y)
 
 one_more : (rows : List Stmt) (row : Stmt) → length (rows ++ row ∷ []) ≡ length rows + 1
 one_more rows row = length-append rows (row ∷ [])

@@ -2,10 +2,10 @@
 
 ghost use Rattle.std.specs.Prelude.{◌≡◌, ◌≤◌, ◌+◌, ◌-◌, length, true, false, Some, None, nat_lt, if◌then◌else◌};
 ghost use Rattle.kernel_syntax.specs.Sugar.{Clauses, left_of, by_kind, new_of, new_in};
-ghost use Rattle.kernel_syntax.specs.SugarView.{value_of, values_in, value_clauses_in, statement_of, statements_in, case_and_of, clauses_in};
+ghost use Rattle.kernel_syntax.specs.SugarView.{value_of, values_in, parts_in, value_clauses_in, statement_of, statements_in, case_and_of, clauses_in};
 ghost use Rattle.oz_sugar.specs.Deep.{or_else, too_deep, deep_value, deep_parts, deep_fields, deep_clauses, deep_statement, deep_statements, deep_cases, deep};
 
-use kernel_syntax::sugar::{Clause, Statement, Value, ValueClause};
+use kernel_syntax::sugar::{Clause, Pair, Statement, Value, ValueClause};
 
 fn is_variable(value: &Value) -> bool
     ensures { result ≡ by_kind (value_of value.now) true false }
@@ -36,6 +36,17 @@ pub fn new_in(values: &[Value]) -> usize
     count
 }
 
+/// How many a head and a tail take.
+#[tactic(auto, using(crate::proofs::Pairs::new_two))]
+pub fn new_in_pair(pair: &Pair) -> usize
+    ensures value { result ≡ new_in (parts_in pair.now) }
+    ensures few { result ≤ 2 }
+{
+    match pair {
+        Pair::Of(head, tail) => new_of(head) + new_of(tail),
+    }
+}
+
 fn left_of(value: &Value) -> usize
     ensures { result ≡ left_of (value_of value.now) }
 {
@@ -44,6 +55,7 @@ fn left_of(value: &Value) -> usize
         Value::Integer(left, ..) => *left,
         Value::Atom(left, ..) => *left,
         Value::Record(left, ..) => *left,
+        Value::Pair(left, _) => *left,
         Value::Apply(left, ..) => *left,
         Value::Proc(left, ..) => *left,
         Value::Fun(left, ..) => *left,
@@ -74,6 +86,7 @@ fn deep_value(value: &Value, left: usize, depth: usize) -> Option<usize>
 {
     match value {
         Value::Record(_, _, _, values) => deep_record(values.as_slice(), left, depth),
+        Value::Pair(_, parts) => deep_pair(parts, left, depth),
         Value::Apply(_, _, values) => deep_apply(values.as_slice(), left, depth),
         Value::Proc(_, _, body) => deep_body(body.as_slice(), left, depth),
         Value::Fun(_, _, body) => {
@@ -123,6 +136,22 @@ fn deep_record(values: &[Value], left: usize, depth: usize) -> Option<usize>
         return Some(left);
     }
     deep_fields(values, inside)
+}
+
+/// In a pair that counts as one with so many symbols left.
+#[cycle(deep)]
+#[tactic(auto, using(crate::proofs::Pairs::deep_two))]
+fn deep_pair(pair: &Pair, left: usize, depth: usize) -> Option<usize>
+    requires { depth ≤ 201 }
+    ensures { result ≡ (if nat_lt 200 (depth + new_in (parts_in pair.now)) then Some left else deep_fields (parts_in pair.now) (depth + new_in (parts_in pair.now))) }
+{
+    let inside = depth + new_in_pair(pair);
+    if inside > 200 {
+        return Some(left);
+    }
+    match pair {
+        Pair::Of(head, tail) => or_else(deep_field(head, inside), deep_field(tail, inside)),
+    }
 }
 
 /// In what is made of these parts.

@@ -4,6 +4,7 @@ ghost use Rattle.std.specs.Prelude.{◌≡◌, ◌-◌, ◌≤◌, ℕ, Some, No
 ghost use Rattle.tree_node.specs.Each.{Each};
 ghost use Rattle.kernel_syntax.specs.SugarView.{statements_in};
 ghost use Rattle.kernel_syntax.specs.SugarLimits.{FitsStatements};
+ghost use Rattle.kernel_syntax.specs.Program.{IsProgram};
 ghost use Rattle.oz_parser.specs.ParseAnswers.{IfFault};
 ghost use Rattle.oz_sugar.specs.Put.{Expand};
 ghost use Rattle.oz_sugar.specs.Deep.{deep, IsTooDeep};
@@ -11,24 +12,22 @@ ghost use Rattle.oz_sugar.specs.Deep.{deep, IsTooDeep};
 use crate::depth::deep;
 use crate::writer::Writer;
 use kernel_syntax::sugar::Statement;
-use kernel_syntax::{Program, Surface};
+use kernel_syntax::{Program, Stmt, Surface};
 use oz_lexer::line_and_column;
 use oz_parser::{FaultKind, ParseError, TextFault};
 use std::alloc::{AllocError, Global};
 
-/// The program that a tree stands for, which is not too deep.
+/// The rows of the program that a tree stands for, which is not too deep.
 #[tactic(auto, using(crate::proofs::Expansions::written_are_programs, crate::proofs::Expansions::written_expand))]
-fn program_of(alloc: Global, tree: &[Statement]) -> Result<Program, AllocError>
+fn rows_of(alloc: Global, tree: &[Statement]) -> Result<Vec<Stmt>, AllocError>
     requires fits { FitsStatements (statements_in tree.now) 0 }
     requires shallow { deep (statements_in tree.now) ≡ None }
-    ensures program { IfOk result (λ p. Expand (statements_in tree.now) p) }
+    ensures program { IfOk result (λ r. IsProgram r.items) }
+    ensures rows { IfOk result (λ r. Expand (statements_in tree.now) r.items) }
 {
-    let mut writer = Writer::new(alloc);
+    let mut writer = Writer::new(alloc)?;
     writer.statements(tree)?;
-    match Program::from_vec(alloc, writer.into_rows()) {
-        Ok(program) => Ok(program),
-        Err(_) => Err(AllocError),
-    }
+    Ok(writer.into_rows())
 }
 
 /// Where the symbol begins at which so many are left.
@@ -53,15 +52,28 @@ fn too_deep(surface: &Surface, left: usize) -> TextFault
     }
 }
 
-/// The program of the kernel that a program with sugar stands for (CTM section 2.6), or where that has a statement within 200
-/// others: at the first statement or value that stands for one. Time and memory grow with the tree.
-pub fn expand(alloc: Global, surface: &Surface) -> Result<Program, ParseError>
-    ensures program { IfOk result (λ p. Expand (statements_in surface.now.tree) p) }
-    ensures fits { IfOk result (λ _. deep (statements_in surface.now.tree) ≡ None) }
+/// The rows of the program of the kernel that a program with sugar stands for, or where that is too deep. The program with
+/// sugar is wanted no more behind it.
+pub fn expanded_rows(alloc: Global, surface: &Surface) -> Result<Vec<Stmt>, ParseError>
+    ensures program { IfOk result (λ r. IsProgram r.items) }
+    ensures rows { IfOk result (λ r. Expand (statements_in surface.now.tree) r.items) }
+    ensures shallow { IfOk result (λ _. deep (statements_in surface.now.tree) ≡ None) }
     ensures refused { IfFault result (λ f. IsTooDeep surface.now f) }
 {
     match deep(surface.tree()) {
         Some(left) => Err(ParseError::Text(too_deep(surface, left))),
-        None => Ok(program_of(alloc, surface.tree())?),
+        None => Ok(rows_of(alloc, surface.tree())?),
     }
+}
+
+/// The program of the kernel that a program with sugar stands for (CTM section 2.6), or `Deep` at
+/// the first statement or value, in the order of the text, of whose own kernel statements one stands within 200 others, or want of
+/// memory. Time and memory grow with the tree.
+pub fn expand(alloc: Global, surface: &Surface) -> Result<Program, ParseError>
+    ensures program { IfOk result (λ p. Expand (statements_in surface.now.tree) p) }
+    ensures shallow { IfOk result (λ _. deep (statements_in surface.now.tree) ≡ None) }
+    ensures refused { IfFault result (λ f. IsTooDeep surface.now f) }
+{
+    let rows = expanded_rows(alloc, surface)?;
+    Ok(Program::from_vec(alloc, rows)?)
 }

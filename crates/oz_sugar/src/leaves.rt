@@ -129,7 +129,7 @@ pub fn slot_places(
 ) -> Result<Vec<(Feature, u32)>, AllocError>
     ensures { IfOk result (λ v. v.items ≡ slot_places places.now first slots.now) }
 {
-    let mut placed = Vec::new(alloc);
+    let mut placed = Vec::with_capacity(alloc, slots.len())?;
     for slot in slots {
         placed.push((copy_feature(&slot.0)?, field_place(slot.1, places, first)?))?;
     }

@@ -10,20 +10,21 @@ use crate::leaves::position_at;
 use kernel_syntax::{Bodies, Stmt};
 use std::alloc::{AllocError, Global};
 use std::marker::Model;
-use tree_node::CodeId;
+use tree_node::{CodeId, Text};
 
 mod openings;
 mod statements;
 mod values;
 
-/// A writer: the rows so far, the positions in the program of the identifiers that the text declares, and the number of
-/// declarations in the program.
+/// A writer: the rows so far, the positions in the program of the identifiers that the text declares, the number of
+/// declarations in the program, and the label of pairs.
 #[derive(Drop)]
 pub struct Writer {
     alloc: Global,
     rows: Vec<Stmt>,
     places: Vec<u32>,
     around: u32,
+    bar: Text,
 }
 
 impl Model for Writer {
@@ -32,19 +33,25 @@ impl Model for Writer {
     ghost Value = { State };
 
     ghost view = { λ w. state_of w.rows.items w.places.items w.around };
+
+    ghost use Rattle.std.specs.Prelude.{◌≡◌};
+    ghost use Rattle.oz_grammar.specs.Table.{bar_label};
+
+    ghost invariant = { λ w. w.bar ≡ bar_label };
 }
 
 impl Writer {
     /// A writer of no rows.
-    pub fn new(alloc: Global) -> Writer
-        ensures { result ≡ state_of [] [] 0 }
+    pub fn new(alloc: Global) -> Result<Writer, AllocError>
+        ensures { IfOk result (λ w. w ≡ state_of [] [] 0) }
     {
-        Writer {
+        Ok(Writer {
             alloc,
             rows: Vec::new(alloc),
             places: Vec::new(alloc),
             around: 0,
-        }
+            bar: Text::from_vec(Vec::from_slice(alloc, b"|")?)?,
+        })
     }
 
     /// The rows.

@@ -1,21 +1,17 @@
 -- Fields in the order of features.
-use Rattle.std.proofs.Common.{◌≡◌, ℕ, suc, ◌+◌, List, [], ◌∷◌, Bool, true, false, cond, refl, ap, arith}
+use Rattle.std.proofs.Common.{◌≡◌, suc, ◌+◌, List, [], ◌∷◌, Bool, true, false, cond, refl, ap, arith}
 use Rattle.std.specs.Prelude.{insert, ◌||◌}
 use Rattle.std.specs.Ordering.{is_lt}
 use Rattle.tree_node.specs.declared.node.Feature.{Feature}
 use Rattle.tree_node.specs.Node.{feature_cmp}
 use Rattle.tree_node.specs.Goal.{equal_feature}
 use Rattle.kernel_syntax.specs.declared.sugar.Field.{Field}
-use Rattle.kernel_syntax.specs.Sugar as sugar
-use Rattle.kernel_syntax.specs.Sugar.{no_values, count_values, new_of}
-use Rattle.oz_grammar.specs.Scoping.{has_feature, place_feature, with_field}
-use Rattle.oz_grammar.specs.Table.{bar_label}
+use Rattle.oz_grammar.specs.Scoping.{has_feature, with_field}
+use Rattle.oz_grammar.specs.Table.{features_in}
 use Rattle.surface_grammar.specs.Points.{is_given}
-use Rattle.surface_grammar.specs.Trees.{field_of, with_value, pair_value}
-use Rattle.surface_grammar.specs.Reading.{FieldsSoFar, features_of, with_one}
 use Rattle.surface_reader.specs.Slots.{slot_point}
 
-pub given_of_slots : (slots : List (Feature × Field)) (f : Feature) → has_feature slots f ≡ is_given (features_of slots) f
+pub given_of_slots : (slots : List (Feature × Field)) (f : Feature) → has_feature slots f ≡ is_given (features_in slots) f
 given_of_slots [] f = refl
 given_of_slots (s ∷ slots) f = ap (λ (b : Bool). equal_feature s.0 f || b) (given_of_slots slots f)
 
@@ -26,11 +22,3 @@ inserted f p ((g, q) ∷ slots) =
       | true ↦ refl
       | false ↦ let n : slot_point f slots + 1 ≡ suc (slot_point f slots) = omega arith in rw n (ap (λ (xs : List (Feature × Field)). (g, q) ∷ xs) (inserted f p slots))
     ] in chosen (is_lt (feature_cmp f g))
-
-counted : (h : sugar.Value) → count_values (with_value no_values h) ≡ new_of h
-counted (sugar.Variable left k) = refl
-counted v = refl
-
-pub pair_of : (left : ℕ) (h u : sugar.Value) (m : FieldsSoFar) → m ≡ with_one (place_feature 2) u 1 (with_one (place_feature 1) h 1 ([], no_values, 1)) → sugar.Record left bar_label m.0 m.1 ≡ pair_value left h u
-pair_of left h u m is =
-    rw is (ap (λ (i : ℕ). sugar.Record left bar_label ((place_feature 1, field_of h 0) ∷ (place_feature 2, field_of u i) ∷ []) (with_value (with_value no_values h) u)) (counted h))

@@ -5,15 +5,16 @@ ghost use Rattle.kernel_syntax.specs.Sugar.{no_values, new_of};
 ghost use Rattle.kernel_syntax.specs.Sugar as sugar;
 ghost use Rattle.kernel_syntax.specs.SugarView.{value_of, values_in, value_clauses_in, statement_of, statements_in, clauses_in};
 ghost use Rattle.oz_grammar.specs.Scoping.{has_feature, place_feature, with_field};
+ghost use Rattle.oz_grammar.specs.Table.{features_in};
 ghost use Rattle.surface_grammar.specs.Points.{is_given};
 ghost use Rattle.kernel_syntax.specs.Sugar.{value_and};
 ghost use Rattle.kernel_syntax.specs.declared.sugar.Operation.TheVariants as operations;
 ghost use Rattle.kernel_syntax.specs.declared.sugar.Action.TheVariants as actions;
 ghost use Rattle.surface_grammar.specs.Trees.{with_last, record_value, pair_value, call_value, call_statement};
-ghost use Rattle.surface_grammar.specs.Reading.{features_of, with_one, with_statement, with_value_clause, with_clause};
+ghost use Rattle.surface_grammar.specs.Reading.{with_one, with_statement, with_value_clause, with_clause};
 ghost use Rattle.surface_reader.specs.Slots.{slot_point, so_far};
 
-use kernel_syntax::sugar::{Action, Clause, Field, Operation, Statement, Value, ValueClause};
+use kernel_syntax::sugar::{Action, Clause, Field, Operation, Pair, Statement, Value, ValueClause};
 use kernel_syntax::{BuiltIn, Pattern, Selector};
 use std::alloc::{AllocError, Global};
 use tree_node::{Feature, Integer, Seq, Text, compare_features, equal_feature};
@@ -84,7 +85,7 @@ fn has_feature(slots: &[(Feature, Field)], feature: &Feature) -> bool
 /// Whether a feature is among those of the fields.
 #[tactic(auto, using(crate::proofs::Slots::given_of_slots))]
 pub fn is_given(slots: &[(Feature, Field)], feature: &Feature) -> bool
-    ensures { result ≡ is_given (features_of slots.now) feature.now }
+    ensures { result ≡ is_given (features_in slots.now) feature.now }
 {
     has_feature(slots, feature)
 }
@@ -181,24 +182,11 @@ pub fn record_value(left: usize, label: Text, fields: Fields) -> Value
     record(left, label, fields)
 }
 
-/// The fields of the record H|T.
-fn pair_fields(alloc: Global, head: Value, tail: Value) -> Result<Fields, AllocError>
-    ensures { IfOk result (λ f. so_far f.slots.items f.values.items f.next ≡ with_one (place_feature 2) (value_of tail) 1 (with_one (place_feature 1) (value_of head) 1 ([], no_values, 1))) }
-{
-    let mut fields = no_fields(alloc);
-    add_field(&mut fields, place_feature(1), head)?;
-    add_field(&mut fields, place_feature(2), tail)?;
-    Ok(fields)
-}
-
 /// H|T of these values.
-#[tactic(auto, using(crate::proofs::Slots::pair_of))]
 pub fn pair_value(alloc: Global, left: usize, head: Value, tail: Value) -> Result<Value, AllocError>
     ensures { IfOk result (λ v. value_of v ≡ pair_value left (value_of head) (value_of tail)) }
 {
-    let label = Text::from_vec(Vec::from_slice(alloc, b"|")?)?;
-    let fields = pair_fields(alloc, head, tail)?;
-    Ok(record(left, label, fields))
+    Ok(Value::Pair(left, Box::new(alloc, Pair::Of(head, tail))?))
 }
 
 /// What is made of parts.
@@ -330,7 +318,7 @@ pub fn local(left: usize, count: u32, body: Vec<Statement>) -> Statement
 }
 
 /// A thread.
-pub fn thread(left: usize, at: Option<i128>, body: Vec<Statement>) -> Statement
+pub fn thread(left: usize, at: Option<Integer>, body: Vec<Statement>) -> Statement
     ensures { statement_of result ≡ sugar.Thread left at (statements_in body.items) }
 {
     Statement::Thread(left, at, body)

@@ -17,11 +17,11 @@ use std::alloc::AllocError;
 use tree_node::{CodeId, Integer};
 
 // The site of a thread, as a statement holds it.
-fn site_of(at: Option<i128>) -> Option<Integer>
-    ensures { result ≡ at }
+fn site_of(at: &Option<Integer>) -> Option<Integer>
+    ensures { result ≡ at.now }
 {
     match at {
-        Some(site) => Some(Integer::new(site)),
+        Some(site) => Some(site.copy()),
         None => None,
     }
 }
@@ -69,7 +69,7 @@ impl Writer {
             Statement::Tell(_, identifier, value) => self.put_tell(*identifier, value),
             Statement::Apply(_, action, parts) => self.act(*action, parts.as_slice()),
             Statement::Local(_, count, body) => self.put_local(*count, body.as_slice()),
-            Statement::Thread(_, at, body) => self.put_thread(*at, body.as_slice()),
+            Statement::Thread(_, at, body) => self.put_thread(at, body.as_slice()),
             Statement::If(_, subject, yes, no) => {
                 let outer = self.around;
                 let tested = self.hold(subject)?;
@@ -200,8 +200,8 @@ impl Writer {
 
     /// What stands for a thread.
     #[cycle(writer)]
-    fn put_thread(&mut self, at: Option<i128>, body: &[Statement]) -> Result<(), AllocError>
-        ensures rows { OnOk result (self.new ≡ written (write_statements (statements_in body.now) self.old.places self.old.around (add (stmt.Thread at (behind self.old.rows)) self.old.rows)) self.old) }
+    fn put_thread(&mut self, at: &Option<Integer>, body: &[Statement]) -> Result<(), AllocError>
+        ensures rows { OnOk result (self.new ≡ written (write_statements (statements_in body.now) self.old.places self.old.around (add (stmt.Thread at.now (behind self.old.rows)) self.old.rows)) self.old) }
         ensures grows { OnOk result (length self.old.rows ≤ length self.new.rows) }
     {
         self.room()?;

@@ -1,16 +1,17 @@
 //! What stands for values.
 
-ghost use Rattle.std.specs.Prelude.{◌≡◌, ◌+◌, ◌<◌, ◌≤◌, [], length, IfOk, OnOk};
+ghost use Rattle.std.specs.Prelude.{◌≡◌, ◌+◌, ◌<◌, ◌≤◌, ◌^◌, [], ◌∷◌, length, IfOk, OnOk};
 ghost use Rattle.kernel_syntax.specs.declared.stmt.Stmt.TheVariants as stmt;
-ghost use Rattle.kernel_syntax.specs.Sugar.{Apply, Record, ValueClauses, new_of, new_in};
-ghost use Rattle.kernel_syntax.specs.SugarView.{value_of, values_in, value_clause_and, value_clauses_in, statements_in};
+ghost use Rattle.kernel_syntax.specs.Sugar.{Apply, Record, ValueClauses, no_values, new_of, new_in, part_and};
+ghost use Rattle.kernel_syntax.specs.SugarView.{value_of, values_in, fields_in, parts_in, value_clause_and, value_clauses_in, statements_in};
+ghost use Rattle.oz_grammar.specs.Table.{bar_label};
 ghost use Rattle.oz_sugar.specs.Put.{place, declare, slot_places, operation_row};
 ghost use Rattle.oz_sugar.specs.Writing.{add, behind, held_place, new_rows, hold_rows, write, write_all, write_fields, write_clauses, write_statements, state_of, written};
 
 use super::Writer;
-use crate::depth::new_in;
+use crate::depth::{new_in, new_in_pair, new_of};
 use crate::leaves::{operation_row, slot_places};
-use kernel_syntax::sugar::{Field, Operation, Statement, Value, ValueClause};
+use kernel_syntax::sugar::{Field, Operation, Pair, Statement, Value, ValueClause};
 use kernel_syntax::{Slots, Stmt};
 use std::alloc::AllocError;
 use tree_node::{CodeId, Feature, Integer, Text};
@@ -54,7 +55,7 @@ impl Writer {
         ensures rows { OnOk result (self.new ≡ state_of (write_all (values_in parts.now) self.old.places self.old.around [] self.old.rows).1 self.old.places (self.old.around + new_in (values_in parts.now))) }
         ensures grows { OnOk result (length self.old.rows ≤ length self.new.rows) }
     {
-        let mut positions = Vec::new(self.alloc);
+        let mut positions = Vec::with_capacity(self.alloc, parts.len().saturating_add(1))?;
         for part in parts {
             positions.push(self.hold(part)?)?;
         }
@@ -72,12 +73,13 @@ impl Writer {
             Value::Variable(_, identifier) => self.tell_variable(*identifier, told),
             Value::Integer(_, number) => self.add(Stmt::TellInt {
                 left: told,
-                value: Integer::new(*number),
+                value: number.copy(),
             }),
             Value::Atom(_, text) => self.tell_atom(text, told),
             Value::Record(_, label, slots, values) => {
                 self.put_record(label, slots.as_slice(), values.as_slice(), told)
             }
+            Value::Pair(_, parts) => self.put_pair(parts, told),
             Value::Apply(_, operation, parts) => self.put_operation(
                 operation,
                 parts.as_slice(),
@@ -155,11 +157,117 @@ impl Writer {
         let number = self.behind();
         self.add(Stmt::Skip)?;
         self.add(tell)?;
-        let numbers = vec![in self.alloc; number]?;
+        let mut numbers = Vec::with_capacity(self.alloc, count.saturating_add(1))?;
+        numbers.push(number)?;
         let numbers = self.put_fields(values, first, numbers)?;
         self.set_numbers(owner, numbers);
         self.around = first;
         Ok(())
+    }
+
+    /// What stands for a pair.
+    #[cycle(writer)]
+    fn put_pair(&mut self, pair: &Pair, told: u32) -> Result<(), AllocError>
+        ensures rows { OnOk result (self.new ≡ written (write (Record 0 bar_label (fields_in pair.now) (parts_in pair.now)) self.old.places self.old.around told self.old.rows) self.old) }
+        ensures grows { OnOk result (length self.old.rows ≤ length self.new.rows) }
+    {
+        self.room()?;
+        let first = self.around;
+        let tell = self.pair_row(pair, told)?;
+        let count = new_in_pair(pair);
+        if count == 0 {
+            return self.add(tell);
+        }
+        self.open_locals(count)?;
+        self.room()?;
+        let owner = self.rows.len();
+        let number = self.behind();
+        self.add(Stmt::Skip)?;
+        self.add(tell)?;
+        let numbers = self.put_two(pair, first, number)?;
+        self.set_numbers(owner, numbers);
+        self.around = first;
+        Ok(())
+    }
+
+    /// What stands for a head and a tail that are no variables, behind their tell, with their numbers behind its.
+    #[cycle(writer)]
+    #[tactic(auto, using(crate::proofs::Pairs::write_both))]
+    fn put_two(
+        &mut self,
+        pair: &Pair,
+        first: u32,
+        number: CodeId,
+    ) -> Result<Vec<CodeId>, AllocError>
+        requires { first < 2 ^ 31 }
+        ensures numbers { IfOk result (λ v. v.items ≡ (write_fields (parts_in pair.now) self.old.places self.old.around first (number ∷ []) self.old.rows).0) }
+        ensures rows { OnOk result (self.new ≡ written (write_fields (parts_in pair.now) self.old.places self.old.around first (number ∷ []) self.old.rows).1 self.old) }
+        ensures grows { OnOk result (length self.old.rows ≤ length self.new.rows) }
+    {
+        let mut numbers = Vec::with_capacity(self.alloc, 3)?;
+        numbers.push(number)?;
+        match pair {
+            Pair::Of(head, tail) => {
+                let second = first + new_of(head) as u32;
+                self.put_field(head, first, &mut numbers)?;
+                self.put_field(tail, second, &mut numbers)?;
+                Ok(numbers)
+            }
+        }
+    }
+
+    /// What stands for a field that is no variable, with its number behind others.
+    #[cycle(writer)]
+    fn put_field(
+        &mut self,
+        value: &Value,
+        told: u32,
+        numbers: &mut Vec<CodeId>,
+    ) -> Result<(), AllocError>
+        ensures numbers { OnOk result (numbers.new.items ≡ (write_fields (part_and (value_of value.now) no_values) self.old.places self.old.around told numbers.old.items self.old.rows).0) }
+        ensures rows { OnOk result (self.new ≡ written (write_fields (part_and (value_of value.now) no_values) self.old.places self.old.around told numbers.old.items self.old.rows).1 self.old) }
+        ensures grows { OnOk result (length self.old.rows ≤ length self.new.rows) }
+    {
+        match value {
+            Value::Variable(..) => Ok(()),
+            _ => {
+                self.room()?;
+                numbers.push(CodeId(self.rows.len() as u32))?;
+                self.put(value, told)
+            }
+        }
+    }
+
+    /// The tell of a pair, where new identifiers have positions from the next one on.
+    #[tactic(auto, using(crate::proofs::Pairs::head_place, crate::proofs::Pairs::tail_place))]
+    fn pair_row(&self, pair: &Pair, told: u32) -> Result<Stmt, AllocError>
+        requires { self.now.around < 2 ^ 31 }
+        ensures { IfOk result (λ r. r ≡ stmt.TellRec told bar_label (slot_places self.now.places self.now.around (fields_in pair.now))) }
+    {
+        match pair {
+            Pair::Of(head, tail) => {
+                let head_place = self.part_place(head, self.around);
+                let tail_place = self.part_place(tail, self.around + new_of(head) as u32);
+                let first = (Feature::Int(Integer::new(1)), head_place);
+                let second = (Feature::Int(Integer::new(2)), tail_place);
+                let fields = vec![in self.alloc; first, second]?;
+                Ok(Stmt::TellRec {
+                    left: told,
+                    label: self.bar.copy()?,
+                    fields: Slots::from_vec(fields),
+                })
+            }
+        }
+    }
+
+    /// The position of a field, a new one unless it is a variable.
+    fn part_place(&self, value: &Value, new: u32) -> u32
+        ensures { result ≡ held_place (value_of value.now) self.now.places new }
+    {
+        match value {
+            Value::Variable(_, identifier) => self.place(*identifier),
+            _ => new,
+        }
     }
 
     /// What stands for the fields of a record that are no variables, behind its tell, with their numbers behind others.

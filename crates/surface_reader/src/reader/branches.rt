@@ -21,8 +21,9 @@ use oz_phrases::{Stop, catch_name, mismatch, pattern};
 use surface_grammar::Closer;
 
 impl<'t> Reader<'t> {
-    /// An `if` as a value, behind that word.
+    /// An `if` as a value, behind that word. It is not inlined, so that other values do without the stack memory that it needs.
     #[cycle(reader)]
+    #[inline(never)]
     pub(super) fn if_value(&mut self, depth: u32, left: usize) -> Result<Value, Stop>
         ensures read { IsReadAs (λ v. (value_of v, self.new.rest)) result (if_value_at (read_value depth) self.old.scope left self.old.rest) }
         ensures moves { OnOk result (IsBehind self.old self.new) }
@@ -36,8 +37,9 @@ impl<'t> Reader<'t> {
         Ok(if_value(self.alloc, left, tested, chosen, other)?)
     }
 
-    /// A `case` as a value, behind that word.
+    /// A `case` as a value, behind that word. It is not inlined, so that other values do without the stack memory that it needs.
     #[cycle(reader)]
+    #[inline(never)]
     pub(super) fn case_value(&mut self, depth: u32, left: usize) -> Result<Value, Stop>
         ensures read { IsReadAs (λ v. (value_of v, self.new.rest)) result (case_value_at (read_value depth) self.old.scope left self.old.rest) }
         ensures moves { OnOk result (IsBehind self.old self.new) }

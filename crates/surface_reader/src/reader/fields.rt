@@ -3,9 +3,10 @@
 ghost use Rattle.std.specs.Prelude.{◌≡◌, ◌≤◌, ◌+◌, ◌<◌, ◌^◌, [], length, OnOk};
 ghost use Rattle.kernel_syntax.specs.Sugar.{no_values};
 ghost use Rattle.kernel_syntax.specs.SugarView.{value_of};
+ghost use Rattle.oz_grammar.specs.Table.{features_in};
 ghost use Rattle.oz_phrases.specs.ReadAnswers.{IsReadAs};
 ghost use Rattle.surface_grammar.specs.Points.{given_fault};
-ghost use Rattle.surface_grammar.specs.Reading.{word_at, fields_at, field_at, named_at, placed_at, features_of};
+ghost use Rattle.surface_grammar.specs.Reading.{atom_at, fields_at, field_at, named_at, placed_at};
 ghost use Rattle.surface_reader.specs.State.{IsBehind, IsNotBefore};
 ghost use Rattle.surface_reader.specs.Levels.{read_value};
 ghost use Rattle.surface_reader.specs.Slots.{so_far};
@@ -20,7 +21,7 @@ use tree_node::{Feature, Integer, Text};
 
 /// What is wrong with one more field of this feature, where there is room for so many.
 fn given_fault(room: u32, slots: &[(Feature, Field)], feature: &Feature) -> Option<FaultKind>
-    ensures { result ≡ given_fault room (features_of slots.now) feature.now }
+    ensures { result ≡ given_fault room (features_in slots.now) feature.now }
 {
     if room == 0 {
         Some(FaultKind::Wide)
@@ -34,8 +35,8 @@ fn given_fault(room: u32, slots: &[(Feature, Field)], feature: &Feature) -> Opti
 impl<'t> Reader<'t> {
     /// Behind an atom: the fields of a record, if a bracket opens them.
     #[cycle(reader)]
-    pub(super) fn word(&mut self, depth: u32, left: usize, label: &Text) -> Result<Value, Stop>
-        ensures read { IsReadAs (λ v. (value_of v, self.new.rest)) result (word_at (read_value depth) self.old.scope left label.now self.old.rest) }
+    pub(super) fn atom(&mut self, depth: u32, left: usize, label: &Text) -> Result<Value, Stop>
+        ensures read { IsReadAs (λ v. (value_of v, self.new.rest)) result (atom_at (read_value depth) self.old.scope left label.now self.old.rest) }
         ensures moves { OnOk result (IsNotBefore self.old self.new) }
     {
         match self.rest {

@@ -15,6 +15,7 @@ use kernel_syntax::sugar::Statement;
 use oz_grammar::{Sign, Symbol, What};
 use oz_phrases::{Stop, first_local, mismatch, site, used_variable};
 use surface_grammar::{Callable, Closer};
+use tree_node::Integer;
 
 impl<'t> Reader<'t> {
     /// A statement with so many levels, where this is expected if none begins.
@@ -145,7 +146,7 @@ impl<'t> Reader<'t> {
                 let (at, behind) = site(rest)?;
                 self.rest = behind;
                 let body = self.body(depth)?;
-                Ok(thread(left, Some(at), body))
+                Ok(thread(left, Some(Integer::new(at)), body))
             }
             _ => {
                 let body = self.closed(depth, Closer::End, What::StatementOrAt)?;

@@ -15,6 +15,7 @@ use oz_grammar::{FaultKind, Sign, Symbol, What};
 use oz_phrases::{Read, Scope, Stop, fault, mismatch, selection, used_variable};
 use std::alloc::Global;
 use surface_grammar::Callable;
+use tree_node::Integer;
 
 /// What is selected in a part of a value, as often as a dot follows.
 #[tactic(auto, using(crate::proofs::Unfold::selections_none, crate::proofs::Unfold::selections_deep, crate::proofs::Unfold::selections_some))]
@@ -238,7 +239,7 @@ impl<'t> Reader<'t> {
             [Symbol::Integer(Some(number)), rest @ ..] => {
                 let inner = self.level(depth, holder)?;
                 self.rest = rest;
-                Ok((Value::Integer(left, number.get()), inner))
+                Ok((Value::Integer(left, Integer::new(number.get())), inner))
             }
             [Symbol::Integer(None), ..] => Err(fault(FaultKind::Number, self.rest)),
             _ => Err(mismatch(What::Value, self.rest)),
@@ -255,7 +256,7 @@ impl<'t> Reader<'t> {
         match self.rest {
             [Symbol::Atom(label), rest @ ..] => {
                 self.rest = rest;
-                self.word(depth, left, label)
+                self.atom(depth, left, label)
             }
             [Symbol::OpenCurly, rest @ ..] => {
                 self.rest = rest;

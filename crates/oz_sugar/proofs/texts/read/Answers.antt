@@ -8,7 +8,7 @@ use Rattle.oz_sugar.proofs.texts.read.Goals as goal
 pub returns-in-Ok : goal.returns-in-Ok
 returns-in-Ok c =
     let told : IsSurface c.args.text.now c.in-Ok.surface = search rules in
-    expanded_is c.args.text.now c.in-Ok.surface c.expand.result told c.expand.ensures.program c.expand.ensures.fits c.expand.ensures.refused
+    expanded_is c.args.text.now c.in-Ok.surface c.program_of.result told c.program_of.ensures.program c.program_of.ensures.shallow c.program_of.ensures.refused
 
 pub returns-in-Err : goal.returns-in-Err
 returns-in-Err c =

@@ -126,8 +126,8 @@ decreases-field l = 32 * l.depth + 5
 abbrev pub decreases-fields : goal.decreases-fields
 decreases-fields l = 32 * l.depth + 6
 
-abbrev pub decreases-word : goal.decreases-word
-decreases-word l = 32 * l.depth + 7
+abbrev pub decreases-atom : goal.decreases-atom
+decreases-atom l = 32 * l.depth + 7
 
 abbrev pub decreases-brackets : goal.decreases-brackets
 decreases-brackets l = 32 * l.depth + 4
