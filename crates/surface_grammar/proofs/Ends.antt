@@ -6,14 +6,14 @@ use Rattle.oz_grammar.specs.declared.symbol.Symbol.TheVariants as t
 use Rattle.oz_grammar.specs.Symbols.{ends_once}
 use Rattle.oz_grammar.specs.Grammar.{feature_symbol, selection_symbol}
 use Rattle.oz_grammar.proofs.Ends.{PassesOver, mark_inner, selection_inner, names_pass, pattern_passes, ends_over, nothing_behind, has_bad, bad_over, bad_behind}
-use Rattle.surface_grammar.specs.Derivations.{Primary, Name, Number, Word, Record, Calls, Procedure, Function, Brackets, Selects, Tail, Last, More, Value, Alone, Calculates, Tests, Pairs, IfValue, CaseValue, Arguments, no_arguments, argument_and, no_fields, placed_and, named_and, ValueClauses, no_clauses, clause_and, Statement, Skips, Tells, CallsStatement, Raises, Locals, ProcNamed, FunNamed, Threads, ThreadsAt, Ifs, Cases, Tries, TriesFinally, Finally, Clauses, no_cases, case_and, Sequence, One, Then, primary_text, tail_text, value_text, arguments_text, fields_text, value_clauses_text, statement_text, clauses_text, sequence_text, program_text}
+use Rattle.surface_grammar.specs.Derivations.{Primary, Variable, Integer, Atom, Record, Calls, Procedure, Function, Brackets, Selects, Tail, Last, More, Value, Alone, Calculates, Tests, Pairs, IfValue, CaseValue, Arguments, no_arguments, argument_and, no_fields, placed_and, named_and, ValueClauses, no_clauses, clause_and, Statement, Skips, Tells, CallsStatement, Raises, Locals, ProcNamed, FunNamed, Threads, ThreadsAt, Ifs, Cases, Tries, TriesFinally, Finally, Clauses, no_cases, case_and, Sequence, One, Then, primary_text, tail_text, value_text, arguments_text, fields_text, value_clauses_text, statement_text, clauses_text, sequence_text, program_text}
 use Rattle.surface_grammar.specs.Derivations as tree
 
 mutual
   primary_passes : (g : List Symbol → Bool) (over : PassesOver g) (p : Primary) (rest : List Symbol) → g (primary_text p rest) ≡ g rest
-  primary_passes g over (Name x) rest = over (t.Variable x) rest refl
-  primary_passes g over (Number n) rest = over (t.Integer n) rest refl
-  primary_passes g over (Word a) rest = over (t.Atom a) rest refl
+  primary_passes g over (Variable x) rest = over (t.Variable x) rest refl
+  primary_passes g over (Integer n) rest = over (t.Integer n) rest refl
+  primary_passes g over (Atom a) rest = over (t.Atom a) rest refl
   primary_passes g over (Record a fs) rest = over (t.Atom a) _ refl ∙ over t.OpenRound _ refl ∙ fields_pass g over fs (t.CloseRound ∷ rest) ∙ over t.CloseRound rest refl
   primary_passes g over (Calls p vs) rest = over t.OpenCurly _ refl ∙ over (t.Variable p) _ refl ∙ arguments_pass g over vs (t.CloseCurly ∷ rest) ∙ over t.CloseCurly rest refl
   primary_passes g over (Procedure xs q) rest =

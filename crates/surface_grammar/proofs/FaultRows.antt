@@ -12,7 +12,7 @@ use Rattle.oz_grammar.specs.Scoping.{Scope, built_in_at, has_name, feature_of, p
 use Rattle.oz_grammar.specs.Faults.{or_else, where_not, where_so, number_fault, deep_fault, use_fault, room_fault, selected_fault, fewer}
 use Rattle.oz_grammar.specs.Check.{check_selection}
 use Rattle.oz_grammar.proofs.FaultRows.{IsRow, Rows, not_row, or_row, number_row, site_row, deep_row, use_row, called_row, twice_row, room_row, selected_row, Found, stop_row, pattern_row, locals_row}
-use Rattle.surface_grammar.specs.Derivations.{Primary, Name, Number, Word, Record, Calls, Procedure, Function, Brackets, Selects, Tail, Last, More, Value, Alone, Calculates, Tests, Pairs, IfValue, CaseValue, Arguments, no_arguments, argument_and, no_fields, placed_and, named_and, ValueClauses, no_clauses, clause_and, Statement, Skips, Tells, CallsStatement, Raises, Locals, ProcNamed, FunNamed, Threads, ThreadsAt, Ifs, Cases, Tries, TriesFinally, Finally, Clauses, no_cases, case_and, Sequence, One, Then}
+use Rattle.surface_grammar.specs.Derivations.{Primary, Variable, Integer, Atom, Record, Calls, Procedure, Function, Brackets, Selects, Tail, Last, More, Value, Alone, Calculates, Tests, Pairs, IfValue, CaseValue, Arguments, no_arguments, argument_and, no_fields, placed_and, named_and, ValueClauses, no_clauses, clause_and, Statement, Skips, Tells, CallsStatement, Raises, Locals, ProcNamed, FunNamed, Threads, ThreadsAt, Ifs, Cases, Tries, TriesFinally, Finally, Clauses, no_cases, case_and, Sequence, One, Then}
 use Rattle.surface_grammar.specs.Derivations as tree
 use Rattle.surface_grammar.specs.declared.parts.Callable.{Callable}
 use Rattle.surface_grammar.specs.declared.parts.Callable.TheVariants.{OfProc, OfFun}
@@ -48,9 +48,9 @@ formals_row c before (x ∷ xs) rest behind h = stop_row (formal_wrong c before 
 
 mutual
   primary_row : (p : Primary) (scope : Scope) (d : ℕ) (holder : Option FaultKind) (rest : List Symbol) (behind : Option Fault) → Rows holder → Found behind → Found (check_primary p scope d holder rest behind)
-  primary_row (Name x) scope d holder rest behind k h = stop_row _ _ behind (value_row scope d holder (t.Variable x) k) h
-  primary_row (Number n) scope d holder rest behind k h = stop_row _ _ behind (value_row scope d holder (t.Integer n) k) h
-  primary_row (Word a) scope d holder rest behind k h = stop_row _ _ behind (value_row scope d holder (t.Atom a) k) h
+  primary_row (Variable x) scope d holder rest behind k h = stop_row _ _ behind (value_row scope d holder (t.Variable x) k) h
+  primary_row (Integer n) scope d holder rest behind k h = stop_row _ _ behind (value_row scope d holder (t.Integer n) k) h
+  primary_row (Atom a) scope d holder rest behind k h = stop_row _ _ behind (value_row scope d holder (t.Atom a) k) h
   primary_row (Record a fs) scope d holder rest behind k h = stop_row _ _ _ (value_row scope d holder (t.Atom a) k) (fields_row fs scope (fewer d) 64 [] 1 _ behind h)
   primary_row (Calls p vs) scope d holder rest behind k h =
       stop_row _ _ _ (value_row scope d holder t.OpenCurly k) (stop_row _ _ _ (called_row (built_in_at scope p) scope p) (arguments_row vs scope (fewer d) 0 _ _ behind h))

@@ -10,7 +10,7 @@ use Rattle.kernel_syntax.specs.declared.sugar.Field.{Field}
 use Rattle.kernel_syntax.specs.declared.sugar.Field.TheVariants as field
 use Rattle.kernel_syntax.specs.Texts.{IsText, IsFeature}
 use Rattle.kernel_syntax.specs.Sugar as sugar
-use Rattle.kernel_syntax.specs.Sugar.{Value, Values, no_values, value_and, new_of, new_in}
+use Rattle.kernel_syntax.specs.Sugar.{Value, Values, no_values, value_and, new_of, new_in, field_of, pair_values}
 use Rattle.kernel_syntax.specs.SugarLimits.{FitsField, FitsValue, FitsValues}
 use Rattle.oz_grammar.specs.declared.fault.FaultKind.TheVariants.{Twice}
 use Rattle.oz_grammar.specs.Scoping.{has_feature, with_field}
@@ -20,7 +20,7 @@ use Rattle.oz_grammar.proofs.FieldOrder.{Each-with_field, Each-features, Each-fi
 use Rattle.oz_grammar.proofs.PartsChecked.{room_of}
 use Rattle.oz_grammar.proofs.TableTexts.{bar_text}
 use Rattle.surface_grammar.specs.Points.{is_given, given_fault}
-use Rattle.surface_grammar.specs.Trees.{field_of, with_last, with_value, record_value, pair_value}
+use Rattle.surface_grammar.specs.Trees.{with_last, with_value, record_value, pair_value}
 
 -- ---- the values of a record that are no variables
 
@@ -51,14 +51,17 @@ all_grow : (t n m : ℕ) (slots : List (Feature × Field)) → n ≤ m → Each 
 all_grow t n m [] le h = tt
 all_grow t n m (s ∷ slots) le h = (grows t n m s.1 le h.0, all_grow t n m slots le h.1)
 
+-- the fields of a pair and its values
+pair_parts : (h u : Value) (t : ℕ) → FitsValue h t → FitsValue u t
+    → FitsField t (new_in (pair_values h u)) (field_of h 0) × FitsField t (new_in (pair_values h u)) (field_of u (new_of h)) × FitsValues (pair_values h u) t
+pair_parts (sugar.Variable l k) (sugar.Variable m j) t f g = (f, g, tt)
+pair_parts (sugar.Variable l k) u t f g = (f, omega arith, (g, tt))
+pair_parts h (sugar.Variable m j) t f g = (omega arith, g, (f, tt))
+pair_parts h u t f g = (omega arith, omega arith, (f, (g, tt)))
+
 pub pair_fits : (left t : ℕ) (h u : Value) → FitsValue h t → FitsValue u t → FitsValue (pair_value left h u) t
 pair_fits left t h u f g =
-    let a = held h no_values t tt f in
-    let b = held u (with_value no_values h) t a.values g in
-    let same : new_in (with_value no_values h) ≡ new_of h = omega (arith, a.new) in
-    let first = grows t (new_in (with_value no_values h)) (new_in (with_value (with_value no_values h) u)) (field_of h 0) (omega (arith, b.new)) a.place in
-    let second = subst (λ (i : ℕ). FitsField t (new_in (with_value (with_value no_values h) u)) (field_of u i)) same b.place in
-    (bar_text, (omega arith, omega arith, ((refl, tt), (tt, tt))), (refl, (refl, tt)), (first, (second, tt)), b.values)
+    let p = pair_parts h u t f g in (bar_text, (omega arith, omega arith, ((refl, tt), (tt, tt))), (refl, (refl, tt)), (p.0, (p.1, tt)), p.2)
 
 -- ---- fields one after another
 

@@ -9,15 +9,15 @@ use Rattle.oz_grammar.specs.Grammar.{FeatureToken, AtomFeature, IntFeature, feat
 use Rattle.oz_grammar.specs.Scoping.{Scope, feature_of, place_feature, pattern_names}
 use Rattle.oz_grammar.specs.Faults.{fewer}
 use Rattle.oz_grammar.proofs.Parts.{never, then_text}
-use Rattle.surface_grammar.specs.Derivations.{Primary, Tail, Last, More, Value, ValueClauses, Alone, Calculates, Tests, Pairs, IfValue, CaseValue, no_arguments, argument_and, no_fields, placed_and, named_and, no_clauses, clause_and, primary_text, tail_text, value_text, arguments_text, fields_text, value_clauses_text, is_word, tail_ends_in_word, begins_round, IsApart, PrimaryDerives, TailDerives, ValueDerives, ValueClausesDerive}
+use Rattle.surface_grammar.specs.Derivations.{Primary, Tail, Last, More, Value, ValueClauses, Alone, Calculates, Tests, Pairs, IfValue, CaseValue, no_arguments, argument_and, no_fields, placed_and, named_and, no_clauses, clause_and, primary_text, tail_text, value_text, arguments_text, fields_text, value_clauses_text, is_atom, tail_ends_in_atom, begins_round, StaysBare, PrimaryDerives, TailDerives, ValueDerives, ValueClausesDerive}
 use Rattle.oz_grammar.specs.Automata.{then_points, or_points}
-use Rattle.surface_grammar.specs.Points.{Whole, Part, Rest, OfValue, Point, Here, ValueOf, OperandOf, TailOf, Behind, BehindWord, FieldOf, FieldBegun, Wanted, PatternOf, ClauseEnd, next_primary, next_value, behind_placed, next}
+use Rattle.surface_grammar.specs.Points.{Whole, Part, Rest, OfValue, Point, Here, ValueOf, OperandOf, TailOf, Behind, BehindAtom, FieldOf, FieldBegun, Wanted, PatternOf, ClauseEnd, next_primary, next_value, behind_placed, next}
 use Rattle.surface_grammar.specs.Points as points
-use Rattle.surface_grammar.proofs.Starts.{is_no_colon}
-use Rattle.surface_grammar.proofs.Runs.{moved_apart, arguments_round, fields_round}
+use Rattle.surface_grammar.proofs.Starts.{is_no_colon, is_no_dot}
+use Rattle.surface_grammar.proofs.Runs.{moved_bare, arguments_round, fields_round}
 use Rattle.surface_grammar.proofs.Leaves.{leads, leaves}
 use Rattle.surface_grammar.proofs.Taken.{pattern_taken}
-use Rattle.surface_grammar.proofs.ValuesTaken.{is_no_dot, ValueTaken, PrimaryTaken, TailTaken, ArgumentsTaken, WantedTaken, FieldsTaken, ValueClausesTaken, Laws, value_then, leads_to, leads_then, leads_then_others, whole_primary}
+use Rattle.surface_grammar.proofs.ValuesTaken.{ValueTaken, PrimaryTaken, TailTaken, ArgumentsTaken, WantedTaken, FieldsTaken, ValueClausesTaken, Laws, value_then, leads_to, leads_then, leads_then_others, whole_primary}
 
 -- ---- where a value ends
 
@@ -40,50 +40,50 @@ record Ended (scope : Scope) (σ : List Point) (symbols out : List Symbol) (m : 
   rest : List Symbol
   is : symbols ≡ value_text value rest
   derives : ValueDerives value scope
-  apart : IsApart value rest
+  bare : StaysBare value rest
   on : leaves rest σ ≡ Some out
   few : length rest ≤ m
 
 -- what is taken from the end of a first primary on
-value_ends : (n : ℕ) → Laws n → (p : Primary) (rest : List Symbol) (scope : Scope) (d r : ℕ) (σ : List Point) (out : List Symbol) → PrimaryDerives p scope → (is_word p && begins_round rest) ≡ false → length rest < n
+value_ends : (n : ℕ) → Laws n → (p : Primary) (rest : List Symbol) (scope : Scope) (d r : ℕ) (σ : List Point) (out : List Symbol) → PrimaryDerives p scope → (is_atom p && begins_round rest) ≡ false → length rest < n
     → leaves rest (Behind Whole scope d r ∷ σ) ≡ Some out → is_no_dot rest ≡ true → Ended scope σ (primary_text p rest) out (length rest)
-value_ends n law p [] scope d r σ out good apart lt h e = absurd (never out h)
-value_ends n law p (t.Dot ∷ xs) scope d r σ out good apart lt h e = absurd cc
-value_ends n law p (t.Operator o ∷ xs) scope d r σ out good apart lt h e =
+value_ends n law p [] scope d r σ out good bare lt h e = absurd (never out h)
+value_ends n law p (t.Dot ∷ xs) scope d r σ out good bare lt h e = absurd cc
+value_ends n law p (t.Operator o ∷ xs) scope d r σ out good bare lt h e =
     let k = law.operand xs scope (fewer d) σ out (omega arith) h in
     record {
       value = Calculates p o k.primary;
       rest = k.rest;
       is = ap (λ (a : List Symbol). primary_text p (t.Operator o ∷ a)) k.is;
       derives = (good, k.derives);
-      apart = k.apart;
+      bare = k.bare;
       on = k.on;
       few = (let l = k.shorter in omega (arith, l));
     }
-value_ends n law p (t.Test o ∷ xs) scope d r σ out good apart lt h e =
+value_ends n law p (t.Test o ∷ xs) scope d r σ out good bare lt h e =
     let k = law.operand xs scope (fewer d) σ out (omega arith) h in
     record {
       value = Tests p o k.primary;
       rest = k.rest;
       is = ap (λ (a : List Symbol). primary_text p (t.Test o ∷ a)) k.is;
       derives = (good, k.derives);
-      apart = k.apart;
+      bare = k.bare;
       on = k.on;
       few = (let l = k.shorter in omega (arith, l));
     }
-value_ends n law p (t.Bar ∷ xs) scope d r σ out good apart lt h e =
+value_ends n law p (t.Bar ∷ xs) scope d r σ out good bare lt h e =
     let k = law.tail xs scope (fewer d) σ out (omega arith) h in
     record {
       value = Pairs p k.tail;
       rest = k.rest;
       is = ap (λ (a : List Symbol). primary_text p (t.Bar ∷ a)) k.is;
       derives = (good, k.derives);
-      apart = k.apart;
+      bare = k.bare;
       on = k.on;
       few = (let l = k.shorter in omega (arith, l));
     }
-value_ends n law p (x ∷ xs) scope d r σ out good apart lt h e =
-    record { value = Alone p; rest = x ∷ xs; is = refl; derives = good; apart = apart; on = whole_off x xs scope d r σ out refl h; few = omega arith }
+value_ends n law p (x ∷ xs) scope d r σ out good bare lt h e =
+    record { value = Alone p; rest = x ∷ xs; is = refl; derives = good; bare = bare; on = whole_off x xs scope d r σ out refl h; few = omega arith }
 
 -- ---- whole values
 
@@ -101,7 +101,7 @@ if_taken n law xs scope d σ out lt h =
       rest = b.rest;
       is = ap (λ (r : List Symbol). t.If ∷ r) (e.is ∙ ap (λ (r : List Symbol). value_text e.value (t.Then ∷ r)) (a.is ∙ ap (λ (r : List Symbol). value_text a.value (t.Else ∷ r)) b.is));
       derives = (e.derives, a.derives, b.derives);
-      apart = refl;
+      bare = refl;
       on = b.on;
       shorter = (let k = b.shorter in omega (arith, l, m, k));
     }
@@ -119,7 +119,7 @@ case_taken n law xs scope d σ out lt h =
       rest = b.rest;
       is = ap (λ (r : List Symbol). t.Case ∷ r) (e.is ∙ ap (λ (r : List Symbol). value_text e.value (t.Of ∷ r)) (c.is ∙ ap (λ (r : List Symbol). then_text c.pattern (value_text c.value (value_clauses_text c.others (t.Else ∷ r)))) b.is));
       derives = (e.derives, c.derives, c.others_derive, b.derives);
-      apart = refl;
+      bare = refl;
       on = b.on;
       shorter = (let k = b.shorter in omega (arith, l, m, k));
     }
@@ -129,13 +129,13 @@ primary_value n law s xs scope d σ out lt h =
     let w = whole_primary n law s xs Whole scope d σ out lt h in
     let p = w.taken in
     let l = w.shorter in
-    let k = value_ends n law p.primary p.rest scope d p.levels σ out p.derives p.apart (omega (arith, l, lt)) p.on p.no_dot in
+    let k = value_ends n law p.primary p.rest scope d p.levels σ out p.derives p.bare (omega (arith, l, lt)) p.on p.no_dot in
     record {
       value = k.value;
       rest = k.rest;
       is = p.is ∙ k.is;
       derives = k.derives;
-      apart = k.apart;
+      bare = k.bare;
       on = k.on;
       shorter = (let m = k.few in omega (arith, l, m));
     }
@@ -161,7 +161,7 @@ operand_begun : (n : ℕ) → Laws n → (s : Symbol) (xs : List Symbol) (scope 
 operand_begun n law s xs scope d σ out lt h =
     let w = whole_primary n law s xs Part scope d σ out lt h in
     let p = w.taken in
-    record { primary = p.primary; rest = p.rest; is = p.is; derives = p.derives; apart = p.apart; on = operand_ends p.primary p.rest scope d p.levels σ out p.no_dot p.on; shorter = w.shorter }
+    record { primary = p.primary; rest = p.rest; is = p.is; derives = p.derives; bare = p.bare; on = operand_ends p.primary p.rest scope d p.levels σ out p.no_dot p.on; shorter = w.shorter }
 
 pub operand_step : (n : ℕ) → Laws n → (symbols : List Symbol) (scope : Scope) (d : ℕ) (σ : List Point) (out : List Symbol) → length symbols < suc n → leaves symbols (OperandOf scope d ∷ σ) ≡ Some out → PrimaryTaken scope σ symbols out
 operand_step n law [] scope d σ out lt h = absurd (never out h)
@@ -173,35 +173,35 @@ record TailEnded (scope : Scope) (σ : List Point) (symbols out : List Symbol) (
   rest : List Symbol
   is : symbols ≡ tail_text tail rest
   derives : TailDerives tail scope
-  apart : (tail_ends_in_word tail && begins_round rest) ≡ false
+  bare : (tail_ends_in_atom tail && begins_round rest) ≡ false
   on : leaves rest σ ≡ Some out
   few : length rest ≤ m
 
-tail_ends : (n : ℕ) → Laws n → (p : Primary) (rest : List Symbol) (scope : Scope) (d r : ℕ) (σ : List Point) (out : List Symbol) → PrimaryDerives p scope → (is_word p && begins_round rest) ≡ false → length rest < n
+tail_ends : (n : ℕ) → Laws n → (p : Primary) (rest : List Symbol) (scope : Scope) (d r : ℕ) (σ : List Point) (out : List Symbol) → PrimaryDerives p scope → (is_atom p && begins_round rest) ≡ false → length rest < n
     → leaves rest (Behind Rest scope d r ∷ σ) ≡ Some out → is_no_dot rest ≡ true → TailEnded scope σ (primary_text p rest) out (length rest)
-tail_ends n law p [] scope d r σ out good apart lt h e = absurd (never out h)
-tail_ends n law p (t.Dot ∷ xs) scope d r σ out good apart lt h e = absurd cc
-tail_ends n law p (t.Bar ∷ xs) scope d r σ out good apart lt h e =
+tail_ends n law p [] scope d r σ out good bare lt h e = absurd (never out h)
+tail_ends n law p (t.Dot ∷ xs) scope d r σ out good bare lt h e = absurd cc
+tail_ends n law p (t.Bar ∷ xs) scope d r σ out good bare lt h e =
     let k = law.tail xs scope (fewer d) σ out (omega arith) h in
     record {
       tail = More p k.tail;
       rest = k.rest;
       is = ap (λ (a : List Symbol). primary_text p (t.Bar ∷ a)) k.is;
       derives = (good, k.derives);
-      apart = k.apart;
+      bare = k.bare;
       on = k.on;
       few = (let l = k.shorter in omega (arith, l));
     }
-tail_ends n law p (x ∷ xs) scope d r σ out good apart lt h e =
-    record { tail = Last p; rest = x ∷ xs; is = refl; derives = good; apart = apart; on = rest_off x xs scope d r σ out refl h; few = omega arith }
+tail_ends n law p (x ∷ xs) scope d r σ out good bare lt h e =
+    record { tail = Last p; rest = x ∷ xs; is = refl; derives = good; bare = bare; on = rest_off x xs scope d r σ out refl h; few = omega arith }
 
 tail_begun : (n : ℕ) → Laws n → (s : Symbol) (xs : List Symbol) (scope : Scope) (d : ℕ) (σ : List Point) (out : List Symbol) → length xs < n → leads_to xs σ (next_primary Rest scope d s) ≡ Some out → TailTaken scope σ (s ∷ xs) out
 tail_begun n law s xs scope d σ out lt h =
     let w = whole_primary n law s xs Rest scope d σ out lt h in
     let p = w.taken in
     let l = w.shorter in
-    let k = tail_ends n law p.primary p.rest scope d p.levels σ out p.derives p.apart (omega (arith, l, lt)) p.on p.no_dot in
-    record { tail = k.tail; rest = k.rest; is = p.is ∙ k.is; derives = k.derives; apart = k.apart; on = k.on; shorter = (let m = k.few in omega (arith, l, m)) }
+    let k = tail_ends n law p.primary p.rest scope d p.levels σ out p.derives p.bare (omega (arith, l, lt)) p.on p.no_dot in
+    record { tail = k.tail; rest = k.rest; is = p.is ∙ k.is; derives = k.derives; bare = k.bare; on = k.on; shorter = (let m = k.few in omega (arith, l, m)) }
 
 pub tail_step : (n : ℕ) → Laws n → (symbols : List Symbol) (scope : Scope) (d : ℕ) (σ : List Point) (out : List Symbol) → length symbols < suc n → leaves symbols (TailOf scope d ∷ σ) ≡ Some out → TailTaken scope σ symbols out
 tail_step n law [] scope d σ out lt h = absurd (never out h)
@@ -217,7 +217,7 @@ one_argument scope others σ symbols out v k = record {
   arguments = argument_and v.value k.arguments;
   rest = k.rest;
   is = v.is ∙ ap (value_text v.value) k.is;
-  derives = (v.derives, moved_apart v.value (arguments_text k.arguments []) v.rest (sym (arguments_round k.arguments k.rest) ∙ ap begins_round (sym k.is)) v.apart, k.derives);
+  derives = (v.derives, moved_bare v.value (arguments_text k.arguments []) v.rest (sym (arguments_round k.arguments k.rest) ∙ ap begins_round (sym k.is)) v.bare, k.derives);
   on = k.on;
   shorter = (let l = v.shorter in let m = k.shorter in omega (arith, l, m));
 }
@@ -253,7 +253,7 @@ one_placed scope others σ symbols out v k = record {
   fields = placed_and v.value k.fields;
   rest = k.rest;
   is = v.is ∙ ap (value_text v.value) k.is;
-  derives = (v.derives, moved_apart v.value (fields_text k.fields []) v.rest (sym (fields_round k.fields k.rest) ∙ ap begins_round (sym k.is)) v.apart, k.derives);
+  derives = (v.derives, moved_bare v.value (fields_text k.fields []) v.rest (sym (fields_round k.fields k.rest) ∙ ap begins_round (sym k.is)) v.bare, k.derives);
   on = k.on;
   shorter = (let l = v.shorter in let m = k.shorter in omega (arith, l, m));
 }
@@ -275,14 +275,14 @@ named_taken n law m xs scope d room before nth σ out lt h =
       fields = named_and m v.value k.fields;
       rest = k.rest;
       is = ap (λ (r : List Symbol). feature_symbol m ∷ t.Colon ∷ r) (v.is ∙ ap (value_text v.value) k.is);
-      derives = (v.derives, moved_apart v.value (fields_text k.fields []) v.rest (sym (fields_round k.fields k.rest) ∙ ap begins_round (sym k.is)) v.apart, k.derives);
+      derives = (v.derives, moved_bare v.value (fields_text k.fields []) v.rest (sym (fields_round k.fields k.rest) ∙ ap begins_round (sym k.is)) v.bare, k.derives);
       on = k.on;
       shorter = (let j = k.shorter in omega (arith, l, j));
     }
 
 -- an atom that no colon follows, as at the front of a value
 atom_placed : (scope : Scope) (d room : ℕ) (before : List Feature) (nth : ℕ) (a : List ℕ) (xs : List Symbol) (σ : List Point) → is_no_colon xs ≡ true
-    → leaves xs (FieldBegun scope d room before nth (AtomFeature a) ∷ σ) ≡ leaves xs (BehindWord Whole scope d ∷ (behind_placed scope d room before nth ++ σ))
+    → leaves xs (FieldBegun scope d room before nth (AtomFeature a) ∷ σ) ≡ leaves xs (BehindAtom Whole scope d ∷ (behind_placed scope d room before nth ++ σ))
 atom_placed scope d room before nth a [] σ e = refl
 atom_placed scope d room before nth a (t.Colon ∷ xs) σ e = absurd cc
 atom_placed scope d room before nth a (x ∷ xs) σ e = refl

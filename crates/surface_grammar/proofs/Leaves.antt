@@ -15,7 +15,7 @@ use Rattle.surface_grammar.specs.declared.parts.CallUse.{CallUse}
 use Rattle.surface_grammar.specs.declared.parts.CallUse.TheVariants.{AsValue, AsStatement}
 use Rattle.surface_grammar.specs.declared.parts.Callable.{Callable}
 use Rattle.surface_grammar.specs.declared.parts.Callable.TheVariants.{OfProc, OfFun}
-use Rattle.surface_grammar.specs.Points.{Extent, Whole, Part, Rest, Branch, OfValue, OfStatements, Closing, Ends, BeforeElse, InClause, InTry, InHandler, WithText, Point, At, Here, LocalName, LocalMore, CallableName, Formals, ValueOf, OperandOf, TailOf, Behind, BehindWord, SelectionOf, FieldOf, FieldBegun, CallName, Wanted, PatternOf, BehindPattern, PatternTail, PatternField, PatternName, ClauseEnd, SiteHere, CatchName, next_call, next, points_automaton}
+use Rattle.surface_grammar.specs.Points.{Extent, Whole, Part, Rest, Branch, OfValue, OfStatements, Closing, Ends, BeforeElse, InClause, InTry, InHandler, WithText, Point, At, Here, LocalName, LocalMore, CallableName, Formals, ValueOf, OperandOf, TailOf, Behind, BehindAtom, SelectionOf, FieldOf, FieldBegun, CallName, Wanted, PatternOf, BehindPattern, PatternTail, PatternField, PatternName, ClauseEnd, SiteHere, CatchName, next_call, next, points_automaton}
 use Rattle.surface_grammar.specs.Points as points
 use Rattle.surface_grammar.proofs.Starts.{stops}
 use Rattle.surface_grammar.proofs.Runs.{closes, closes_stops}
@@ -79,7 +79,7 @@ point_text (ValueOf scope d) rest = t.Integer None ∷ rest
 point_text (OperandOf scope d) rest = t.Integer None ∷ rest
 point_text (TailOf scope d) rest = t.Integer None ∷ rest
 point_text (Behind extent scope d r) rest = rest
-point_text (BehindWord extent scope d) rest = rest
+point_text (BehindAtom extent scope d) rest = rest
 point_text (SelectionOf scope) rest = t.Integer None ∷ rest
 point_text (FieldOf scope d room before nth) rest = t.CloseRound ∷ rest
 point_text (FieldBegun scope d room before nth m) rest = t.CloseRound ∷ rest
@@ -112,7 +112,7 @@ IsReady (ValueOf scope d) σ = IsClosed σ
 IsReady (OperandOf scope d) σ = IsClosed σ
 IsReady (TailOf scope d) σ = IsClosed σ
 IsReady (Behind extent scope d r) σ = IsClosed σ
-IsReady (BehindWord extent scope d) σ = IsClosed σ
+IsReady (BehindAtom extent scope d) σ = IsClosed σ
 IsReady p σ = Unit {0}
 
 abbrev pub IsStack : List Point → Type 0
@@ -132,18 +132,18 @@ behind_leaves Whole scope d r (s ∷ rest) (p ∷ σ) o e = refl
 behind_leaves Part scope d r (s ∷ rest) (p ∷ σ) o e = refl
 behind_leaves Rest scope d r (s ∷ rest) (p ∷ σ) o e = refl
 
-word_leaves : (extent : Extent) (scope : Scope) (d : ℕ) (rest : List Symbol) (σ : List Point) → is_done σ ≡ false → closes rest ≡ true → leaves rest (BehindWord extent scope d ∷ σ) ≡ leaves rest σ
-word_leaves extent scope d rest [] o e = absurd cc
-word_leaves extent scope d [] (p ∷ σ) o e = absurd cc
-word_leaves extent scope d (t.Dot ∷ rest) (p ∷ σ) o e = absurd cc
-word_leaves extent scope d (t.Operator x ∷ rest) (p ∷ σ) o e = absurd cc
-word_leaves extent scope d (t.Test x ∷ rest) (p ∷ σ) o e = absurd cc
-word_leaves extent scope d (t.Bar ∷ rest) (p ∷ σ) o e = absurd cc
-word_leaves extent scope d (t.Colon ∷ rest) (p ∷ σ) o e = absurd cc
-word_leaves extent scope d (t.OpenRound ∷ rest) (p ∷ σ) o e = absurd cc
-word_leaves Whole scope d (s ∷ rest) (p ∷ σ) o e = refl
-word_leaves Part scope d (s ∷ rest) (p ∷ σ) o e = refl
-word_leaves Rest scope d (s ∷ rest) (p ∷ σ) o e = refl
+atom_leaves : (extent : Extent) (scope : Scope) (d : ℕ) (rest : List Symbol) (σ : List Point) → is_done σ ≡ false → closes rest ≡ true → leaves rest (BehindAtom extent scope d ∷ σ) ≡ leaves rest σ
+atom_leaves extent scope d rest [] o e = absurd cc
+atom_leaves extent scope d [] (p ∷ σ) o e = absurd cc
+atom_leaves extent scope d (t.Dot ∷ rest) (p ∷ σ) o e = absurd cc
+atom_leaves extent scope d (t.Operator x ∷ rest) (p ∷ σ) o e = absurd cc
+atom_leaves extent scope d (t.Test x ∷ rest) (p ∷ σ) o e = absurd cc
+atom_leaves extent scope d (t.Bar ∷ rest) (p ∷ σ) o e = absurd cc
+atom_leaves extent scope d (t.Colon ∷ rest) (p ∷ σ) o e = absurd cc
+atom_leaves extent scope d (t.OpenRound ∷ rest) (p ∷ σ) o e = absurd cc
+atom_leaves Whole scope d (s ∷ rest) (p ∷ σ) o e = refl
+atom_leaves Part scope d (s ∷ rest) (p ∷ σ) o e = refl
+atom_leaves Rest scope d (s ∷ rest) (p ∷ σ) o e = refl
 
 closing_leaves : (c : Closing) (scope : Scope) (d : ℕ) (rest : List Symbol) (σ : List Point) → leaves (closing_text c rest) (At Later c scope d ∷ σ) ≡ leaves rest σ
 closing_leaves Ends scope d rest σ = refl
@@ -189,7 +189,7 @@ completes (ValueOf scope d) σ h = behind_leaves Whole scope d (fewer d) (comple
 completes (OperandOf scope d) σ h = behind_leaves Part scope d (fewer d) (completion σ) σ h.0 (closes_stops (completion σ) h.1)
 completes (TailOf scope d) σ h = behind_leaves Rest scope d (fewer d) (completion σ) σ h.0 (closes_stops (completion σ) h.1)
 completes (Behind extent scope d r) σ h = behind_leaves extent scope d r (completion σ) σ h.0 (closes_stops (completion σ) h.1)
-completes (BehindWord extent scope d) σ h = word_leaves extent scope d (completion σ) σ h.0 h.1
+completes (BehindAtom extent scope d) σ h = atom_leaves extent scope d (completion σ) σ h.0 h.1
 completes (SelectionOf scope) σ h = refl
 completes (FieldOf scope d room before nth) σ h = refl
 completes (FieldBegun scope d room before nth (AtomFeature a)) σ h = refl
@@ -267,9 +267,9 @@ behind_stacks Whole scope d r x σ c h = tt
 behind_stacks Part scope d r x σ c h = tt
 behind_stacks Rest scope d r x σ c h = tt
 
-word_stacks : (extent : Extent) (scope : Scope) (d : ℕ) (x : Symbol) (σ : List Point) → IsClosed σ → IsStack σ → Stacks (points.next_word extent scope d x) σ
-word_stacks extent scope d t.OpenRound σ c h = (tt, (c, h))
-word_stacks extent scope d x σ c h = behind_stacks extent scope d (fewer d) x σ c h
+atom_stacks : (extent : Extent) (scope : Scope) (d : ℕ) (x : Symbol) (σ : List Point) → IsClosed σ → IsStack σ → Stacks (points.next_atom extent scope d x) σ
+atom_stacks extent scope d t.OpenRound σ c h = (tt, (c, h))
+atom_stacks extent scope d x σ c h = behind_stacks extent scope d (fewer d) x σ c h
 
 field_stacks : (scope : Scope) (d room : ℕ) (before : List Feature) (nth : ℕ) (x : Symbol) (σ : List Point) → IsStack σ → Stacks (points.next_field scope d room before nth x) σ
 field_stacks scope d room before nth t.CloseRound σ h = h
@@ -278,7 +278,7 @@ field_stacks scope d room before nth (t.Integer n) σ h = (tt, h)
 field_stacks scope d room before nth x σ h = then_stacks (points.next_value scope d x) (points.behind_placed scope d room before nth) σ (value_stacks scope d x (points.behind_placed scope d room before nth ++ σ) (refl, refl) (tt, h))
 
 begun_value_stacks : (scope : Scope) (d : ℕ) (m : FeatureToken) (x : Symbol) (σ : List Point) → IsClosed σ → IsStack σ → Stacks (points.next_begun_value scope d m x) σ
-begun_value_stacks scope d (AtomFeature a) x σ c h = word_stacks Whole scope d x σ c h
+begun_value_stacks scope d (AtomFeature a) x σ c h = atom_stacks Whole scope d x σ c h
 begun_value_stacks scope d (IntFeature n) x σ c h = behind_stacks Whole scope d (fewer d) x σ c h
 
 begun_stacks : (scope : Scope) (d room : ℕ) (before : List Feature) (nth : ℕ) (m : FeatureToken) (x : Symbol) (σ : List Point) → IsStack σ → Stacks (points.next_begun scope d room before nth m x) σ
@@ -417,7 +417,7 @@ point_stacks (ValueOf scope d) x σ r h = value_stacks scope d x σ r h
 point_stacks (OperandOf scope d) x σ r h = primary_stacks Part scope d x σ r h
 point_stacks (TailOf scope d) x σ r h = primary_stacks Rest scope d x σ r h
 point_stacks (Behind extent scope d k) x σ r h = behind_stacks extent scope d k x σ r h
-point_stacks (BehindWord extent scope d) x σ r h = word_stacks extent scope d x σ r h
+point_stacks (BehindAtom extent scope d) x σ r h = atom_stacks extent scope d x σ r h
 point_stacks (SelectionOf scope) x σ r h = dot_stacks x σ h
 point_stacks (FieldOf scope d room before nth) x σ r h = field_stacks scope d room before nth x σ h
 point_stacks (FieldBegun scope d room before nth m) x σ r h = begun_stacks scope d room before nth m x σ h
@@ -438,8 +438,8 @@ pub next_stack : (σ : List Point) (x : Symbol) → IsStack σ → OnStack (next
 next_stack [] x h = tt
 next_stack (Behind extent scope d r ∷ σ) x h =
     on_either (then_points (points.next_behind extent scope d r x) σ) (next σ x) (on_then (points.next_behind extent scope d r x) σ (behind_stacks extent scope d r x σ h.0 h.1)) (next_stack σ x h.1)
-next_stack (BehindWord extent scope d ∷ σ) x h =
-    on_either (then_points (points.next_word extent scope d x) σ) (next σ x) (on_then (points.next_word extent scope d x) σ (word_stacks extent scope d x σ h.0 h.1)) (next_stack σ x h.1)
+next_stack (BehindAtom extent scope d ∷ σ) x h =
+    on_either (then_points (points.next_atom extent scope d x) σ) (next σ x) (on_then (points.next_atom extent scope d x) σ (atom_stacks extent scope d x σ h.0 h.1)) (next_stack σ x h.1)
 next_stack (FieldBegun scope d room before nth m ∷ σ) x h =
     on_either (then_points (points.next_begun scope d room before nth m x) σ) (then_points (points.next_field scope d (fewer room) (place_feature nth ∷ before) (nth + 1) x) σ)
     (on_then (points.next_begun scope d room before nth m x) σ (begun_stacks scope d room before nth m x σ h.1))

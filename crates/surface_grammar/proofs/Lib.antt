@@ -16,9 +16,11 @@ pub mod Lifting
 pub mod Derived
 pub mod ReadSteps
 pub mod ReadValues
+pub mod ReadFields
 pub mod ReadHeld
 pub mod ReadStatements
 pub mod Passing
 pub mod ReadTrees
+pub mod ReadParts
 pub mod ReadDerived
 pub mod ReadLaws

@@ -22,7 +22,7 @@ use Rattle.oz_grammar.specs.Check.{first_fault}
 use Rattle.oz_grammar.specs.Check as checks
 use Rattle.oz_grammar.specs.Reads as reads
 use Rattle.oz_grammar.proofs.FieldOrder.{has_with_field}
-use Rattle.surface_grammar.specs.Derivations.{Name, Number, Word, Record, Procedure, Selects, Last, Value, Alone, Calculates, Tests, Pairs, Arguments, no_arguments, argument_and, no_fields, placed_and, named_and, Statement, Skips, Tells, CallsStatement, Raises, Locals, ProcNamed, Threads, ThreadsAt, Ifs, Cases, Tries, no_cases, Sequence, One, Then, value_text, arguments_text, fields_text, statement_text, sequence_text, count_arguments, HasAllArguments, ValueDerives, ArgumentsDerive, FieldsDerive, StatementDerives, SequenceDerives}
+use Rattle.surface_grammar.specs.Derivations.{Variable, Integer, Atom, Record, Procedure, Selects, Last, Value, Alone, Calculates, Tests, Pairs, Arguments, no_arguments, argument_and, no_fields, placed_and, named_and, Statement, Skips, Tells, CallsStatement, Raises, Locals, ProcNamed, Threads, ThreadsAt, Ifs, Cases, Tries, no_cases, Sequence, One, Then, value_text, arguments_text, fields_text, statement_text, sequence_text, count_arguments, HasAllArguments, ValueDerives, ArgumentsDerive, FieldsDerive, StatementDerives, SequenceDerives}
 use Rattle.surface_grammar.specs.Derivations as tree
 use Rattle.surface_grammar.specs.declared.parts.Callable.TheVariants.{OfProc}
 use Rattle.surface_grammar.specs.Points.{is_given, given_fault, named_fault, argument_fault, formal_wrong}
@@ -34,28 +34,28 @@ use Rattle.surface_grammar.specs.Laws.{ReadsSymbols, KernelReads}
 
 abbrev pub lift_arguments : List Identifier → Arguments
 lift_arguments [] = no_arguments
-lift_arguments (x ∷ xs) = argument_and (Alone (Name x)) (lift_arguments xs)
+lift_arguments (x ∷ xs) = argument_and (Alone (Variable x)) (lift_arguments xs)
 
 abbrev pub lift_fields : List Field → tree.Fields
 lift_fields [] = no_fields
-lift_fields (Placed x ∷ fs) = placed_and (Alone (Name x)) (lift_fields fs)
-lift_fields (WithFeature m x ∷ fs) = named_and m (Alone (Name x)) (lift_fields fs)
+lift_fields (Placed x ∷ fs) = placed_and (Alone (Variable x)) (lift_fields fs)
+lift_fields (WithFeature m x ∷ fs) = named_and m (Alone (Variable x)) (lift_fields fs)
 
 abbrev pub lift_value : kernel.Value → Value
-lift_value (kernel.ToVar y) = Alone (Name y)
-lift_value (kernel.Calculates y o z) = Calculates (Name y) o (Name z)
-lift_value (kernel.Tests y o z) = Tests (Name y) o (Name z)
-lift_value (kernel.Selects y s) = Alone (Selects (Name y) s)
-lift_value (kernel.Pairs h u) = Pairs (Name h) (Last (Name u))
-lift_value (kernel.ToInt n) = Alone (Number n)
-lift_value (kernel.ToAtom a) = Alone (Word a)
+lift_value (kernel.ToVar y) = Alone (Variable y)
+lift_value (kernel.Calculates y o z) = Calculates (Variable y) o (Variable z)
+lift_value (kernel.Tests y o z) = Tests (Variable y) o (Variable z)
+lift_value (kernel.Selects y s) = Alone (Selects (Variable y) s)
+lift_value (kernel.Pairs h u) = Pairs (Variable h) (Last (Variable u))
+lift_value (kernel.ToInt n) = Alone (Integer n)
+lift_value (kernel.ToAtom a) = Alone (Atom a)
 lift_value (kernel.ToRecord a fs) = Alone (Record a (lift_fields fs))
 
 abbrev pub lift_plain : kernel.Plain → Statement
 lift_plain kernel.Skips = Skips
 lift_plain (kernel.Tells x v) = Tells x (lift_value v)
 lift_plain (kernel.Calls p xs) = CallsStatement p (lift_arguments xs)
-lift_plain (kernel.Raises x) = Raises (Alone (Name x))
+lift_plain (kernel.Raises x) = Raises (Alone (Variable x))
 
 abbrev pub lift_block : kernel.Opening → Sequence → Statement
 lift_block (kernel.Locals x xs) q = Locals x xs q
@@ -65,8 +65,8 @@ lift_block kernel.Threads q = Threads q
 lift_block (kernel.ThreadsAt n) q = ThreadsAt n q
 
 abbrev pub lift_choice : kernel.Choice → Sequence → Sequence → Statement
-lift_choice (kernel.Ifs x) q r = Ifs (Alone (Name x)) q r
-lift_choice (kernel.Cases x p) q r = Cases (Alone (Name x)) p q no_cases r
+lift_choice (kernel.Ifs x) q r = Ifs (Alone (Variable x)) q r
+lift_choice (kernel.Cases x p) q r = Cases (Alone (Variable x)) p q no_cases r
 
 abbrev mutual
   pub lift_statement : kernel.Statement → Statement

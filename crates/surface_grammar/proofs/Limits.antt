@@ -28,7 +28,7 @@ use Rattle.oz_grammar.proofs.PartsChecked.{room_of}
 use Rattle.oz_grammar.proofs.TableLimits.{locals_few, site_limits, pattern_limits}
 use Rattle.oz_grammar.proofs.TableScopes.{used_within}
 use Rattle.oz_grammar.proofs.TableTexts.{is_small, number_good, selected_good, names_rest, pattern_good, site_good}
-use Rattle.surface_grammar.specs.Derivations.{Primary, Name, Number, Word, Record, Calls, Procedure, Function, Brackets, Selects, Tail, Last, More, Value, Alone, Calculates, Tests, Pairs, IfValue, CaseValue, Arguments, no_arguments, argument_and, no_fields, placed_and, named_and, ValueClauses, no_clauses, clause_and, Statement, Skips, Tells, CallsStatement, Raises, Locals, ProcNamed, FunNamed, Threads, ThreadsAt, Ifs, Cases, Tries, TriesFinally, Finally, Clauses, no_cases, case_and, Sequence, One, Then, primary_text, tail_text, value_text, arguments_text, fields_text, value_clauses_text, statement_text, clauses_text, sequence_text, program_text, count_arguments, HasAllArguments, LacksOneArgument, PrimaryDerives, TailDerives, ValueDerives, ArgumentsDerive, FieldsDerive, ValueClausesDerive, StatementDerives, ClausesDerive, SequenceDerives, IsDerivation}
+use Rattle.surface_grammar.specs.Derivations.{Primary, Variable, Integer, Atom, Record, Calls, Procedure, Function, Brackets, Selects, Tail, Last, More, Value, Alone, Calculates, Tests, Pairs, IfValue, CaseValue, Arguments, no_arguments, argument_and, no_fields, placed_and, named_and, ValueClauses, no_clauses, clause_and, Statement, Skips, Tells, CallsStatement, Raises, Locals, ProcNamed, FunNamed, Threads, ThreadsAt, Ifs, Cases, Tries, TriesFinally, Finally, Clauses, no_cases, case_and, Sequence, One, Then, primary_text, tail_text, value_text, arguments_text, fields_text, value_clauses_text, statement_text, clauses_text, sequence_text, program_text, count_arguments, HasAllArguments, LacksOneArgument, PrimaryDerives, TailDerives, ValueDerives, ArgumentsDerive, FieldsDerive, ValueClausesDerive, StatementDerives, ClausesDerive, SequenceDerives, IsDerivation}
 use Rattle.surface_grammar.specs.Derivations as tree
 use Rattle.surface_grammar.specs.declared.parts.Callable.{Callable}
 use Rattle.surface_grammar.specs.declared.parts.Callable.TheVariants.{OfProc, OfFun}
@@ -36,33 +36,8 @@ use Rattle.surface_grammar.specs.Points.{most_formals, formal_wrong, value_fault
 use Rattle.surface_grammar.specs.Check.{levels_behind, most_arguments, check_formals, check_primary, check_tail, check_value, check_arguments, check_fields, check_value_clauses, check_statement, check_clauses, check_sequence, check}
 use Rattle.surface_grammar.specs.Trees.{call_value, call_statement, primary_of, tail_of, value_in, arguments_of, fields_in, value_clauses_of, statement_of, clauses_of, sequence_of, program_of}
 use Rattle.surface_grammar.specs.Laws.{ReadsFit}
+use Rattle.surface_grammar.proofs.ReadTrees.{value_holder}
 use Rattle.surface_grammar.proofs.FieldLimits.{pair_fits, Collected, none_collected, collected, record_fits}
-
--- ---- what holders have wrong
-
-fault_free : (scope : Scope) (d : ℕ) (holder : Option FaultKind) (x : Symbol) → value_fault scope d holder x ≡ None → holder ≡ None
-fault_free scope d holder (t.Variable x) e = (or_neither holder (use_fault scope x) e).0
-fault_free scope d holder (t.Integer n) e = (or_neither (deep_fault d) holder (or_neither (number_fault n) (or_else (deep_fault d) holder) e).1).1
-fault_free scope d holder x e = (or_neither (deep_fault d) holder e).1
-
-primary_free : (p : Primary) (scope : Scope) (d : ℕ) (holder : Option FaultKind) (rest : List Symbol) (behind : Option Fault) → check_primary p scope d holder rest behind ≡ None → holder ≡ None
-primary_free (Name x) scope d holder rest behind e = fault_free scope d holder (t.Variable x) (stopped _ _ _ e).0
-primary_free (Number n) scope d holder rest behind e = fault_free scope d holder (t.Integer n) (stopped _ _ _ e).0
-primary_free (Word a) scope d holder rest behind e = fault_free scope d holder (t.Atom a) (stopped _ _ _ e).0
-primary_free (Record a fs) scope d holder rest behind e = fault_free scope d holder (t.Atom a) (stopped _ _ _ e).0
-primary_free (Calls p vs) scope d holder rest behind e = fault_free scope d holder t.OpenCurly (stopped _ _ _ e).0
-primary_free (Procedure xs q) scope d holder rest behind e = fault_free scope d holder t.Proc (stopped _ _ _ e).0
-primary_free (Function xs v) scope d holder rest behind e = fault_free scope d holder t.Fun (stopped _ _ _ e).0
-primary_free (Brackets v) scope d holder rest behind e = fault_free scope d holder t.OpenRound (stopped _ _ _ e).0
-primary_free (Selects p s) scope d holder rest behind e = primary_free p scope d holder _ _ e
-
-value_free : (v : Value) (scope : Scope) (d : ℕ) (holder : Option FaultKind) (rest : List Symbol) (behind : Option Fault) → check_value v scope d holder rest behind ≡ None → holder ≡ None
-value_free (Alone p) scope d holder rest behind e = primary_free p scope d holder _ _ e
-value_free (Calculates p o q) scope d holder rest behind e = primary_free p scope d holder _ _ e
-value_free (Tests p o q) scope d holder rest behind e = primary_free p scope d holder _ _ e
-value_free (Pairs p l) scope d holder rest behind e = primary_free p scope d holder _ _ e
-value_free (IfValue a b c) scope d holder rest behind e = fault_free scope d holder t.If (stopped _ _ _ e).0
-value_free (CaseValue a p v cs b) scope d holder rest behind e = fault_free scope d holder t.Case (stopped _ _ _ e).0
 
 -- ---- what stands behind is reached and spelled, and this holds of the tree
 
@@ -139,11 +114,11 @@ others_fit (sugar.statement_and s q) t h = h
 mutual
   primary_fits : (p : Primary) (scope : Scope) (d : ℕ) (holder : Option FaultKind) (rest : List Symbol) (behind : Option Fault) → PrimaryDerives p scope → check_primary p scope d holder rest behind ≡ None → Each IsSpelled (primary_text p rest)
       → Within (FitsValue (primary_of p scope rest) (length scope)) rest behind
-  primary_fits (Name x) scope d holder rest behind good e g =
+  primary_fits (Variable x) scope d holder rest behind good e g =
       let s = stopped (value_fault scope d holder (t.Variable x)) _ _ e in record { reached = s.1; spelled = g.1; fits = used_within scope x (or_neither holder (use_fault scope x) s.0).1 }
-  primary_fits (Number n) scope d holder rest behind good e g =
+  primary_fits (Integer n) scope d holder rest behind good e g =
       let s = stopped (value_fault scope d holder (t.Integer n)) _ _ e in record { reached = s.1; spelled = g.1; fits = number_good n (or_neither (number_fault n) (or_else (deep_fault d) holder) s.0).0 g.0 }
-  primary_fits (Word a) scope d holder rest behind good e g = let s = stopped (value_fault scope d holder (t.Atom a)) _ _ e in record { reached = s.1; spelled = g.1; fits = g.0 }
+  primary_fits (Atom a) scope d holder rest behind good e g = let s = stopped (value_fault scope d holder (t.Atom a)) _ _ e in record { reached = s.1; spelled = g.1; fits = g.0 }
   primary_fits (Record a fs) scope d holder rest behind good e g =
       let s = stopped (value_fault scope d holder (t.Atom a)) _ _ e in
       let k = fields_fit fs scope (fewer d) 64 [] 1 0 [] no_values (t.CloseRound ∷ rest) behind (length (primary_text (Record a fs) rest)) a good s.1 g.1.1 (none_collected (length scope)) g.0 in
@@ -219,7 +194,7 @@ mutual
       → Within (ArgumentsFit (arguments_of vs scope rest) (count_arguments vs) n most (length scope)) rest behind
   arguments_fit no_arguments scope d n most rest behind good e g le = record { reached = e; spelled = g; fits = (tt, refl, omega (arith, le)) }
   arguments_fit (argument_and v vs) scope d n most rest behind good e g le =
-      let free = value_free v scope d (argument_fault n most) _ _ e in
+      let free = value_holder v scope d (argument_fault n most) _ _ e in
       let room : nat_lt n most ≡ true = is_so (nat_lt n most) Wide free in
       let lt : n < most = grind (arith, room) in
       let k = value_fits v scope d (argument_fault n most) (arguments_text vs rest) _ good.0 e g in
@@ -230,7 +205,7 @@ mutual
       → check_fields fs scope d room before nth rest behind ≡ None → Each IsSpelled (fields_text fs rest) → Collected (length scope) room nth i before slots vs → IsText a → Within (FitsValue (fields_in fs scope nth i slots vs rest left a) (length scope)) rest behind
   fields_fit no_fields scope d room before nth i slots vs rest behind left a good e g c is = record { reached = e; spelled = g; fits = record_fits (length scope) room nth i left before slots vs a c is }
   fields_fit (placed_and v fs) scope d room before nth i slots vs rest behind left a good e g c is =
-      let free = value_free v scope d (given_fault room before (place_feature nth)) _ _ e in
+      let free = value_holder v scope d (given_fault room before (place_feature nth)) _ _ e in
       let k = value_fits v scope d (given_fault room before (place_feature nth)) (fields_text fs rest) _ good.0 e g in
       let r = room_of room (or_neither (room_fault room) _ free).0 in
       let limit = c.numbered in

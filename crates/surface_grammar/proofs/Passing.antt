@@ -14,7 +14,7 @@ use Rattle.oz_grammar.proofs.FieldOrder.{stopped}
 use Rattle.surface_grammar.specs.declared.parts.Callable.{Callable}
 use Rattle.surface_grammar.specs.declared.parts.Callable.TheVariants.{OfProc, OfFun}
 use Rattle.surface_grammar.specs.Points.{value_fault}
-use Rattle.surface_grammar.specs.Derivations.{Primary, Name, Number, Word, Record, Calls, Procedure, Function, Brackets, Selects, Tail, Last, More, Value, Alone, Calculates, Tests, Pairs, IfValue, CaseValue, Arguments, no_arguments, argument_and, no_fields, placed_and, named_and, ValueClauses, no_clauses, clause_and, Statement, Skips, Tells, CallsStatement, Raises, Locals, ProcNamed, FunNamed, Threads, ThreadsAt, Ifs, Cases, Tries, TriesFinally, Finally, Clauses, no_cases, case_and, Sequence, One, Then, value_text, sequence_text}
+use Rattle.surface_grammar.specs.Derivations.{Primary, Variable, Integer, Atom, Record, Calls, Procedure, Function, Brackets, Selects, Tail, Last, More, Value, Alone, Calculates, Tests, Pairs, IfValue, CaseValue, Arguments, no_arguments, argument_and, no_fields, placed_and, named_and, ValueClauses, no_clauses, clause_and, Statement, Skips, Tells, CallsStatement, Raises, Locals, ProcNamed, FunNamed, Threads, ThreadsAt, Ifs, Cases, Tries, TriesFinally, Finally, Clauses, no_cases, case_and, Sequence, One, Then, value_text, sequence_text}
 use Rattle.surface_grammar.specs.Derivations as tree
 use Rattle.surface_grammar.specs.Check.{most_arguments, check_formals, check_primary, check_tail, check_value, check_arguments, check_value_clauses, check_statement, check_clauses, check_sequence}
 use Rattle.surface_grammar.specs.Check as surface
@@ -49,9 +49,9 @@ pattern_on (PairPattern h u) scope rest behind e = (stopped _ _ behind e).1
 
 mutual
   pub primary_on : (p : Primary) (scope : Scope) (d : ℕ) (holder : Option FaultKind) (rest : List Symbol) (behind : Option Fault) → check_primary p scope d holder rest behind ≡ None → behind ≡ None
-  primary_on (Name x) scope d holder rest behind e = (stopped _ _ behind e).1
-  primary_on (Number n) scope d holder rest behind e = (stopped _ _ behind e).1
-  primary_on (Word a) scope d holder rest behind e = (stopped _ _ behind e).1
+  primary_on (Variable x) scope d holder rest behind e = (stopped _ _ behind e).1
+  primary_on (Integer n) scope d holder rest behind e = (stopped _ _ behind e).1
+  primary_on (Atom a) scope d holder rest behind e = (stopped _ _ behind e).1
   primary_on (Record a fs) scope d holder rest behind e = fields_on fs scope _ _ _ _ _ behind (stopped _ _ _ e).1
   primary_on (Calls p vs) scope d holder rest behind e =
       let s = stopped (value_fault scope d holder t.OpenCurly) _ _ e in

@@ -1,14 +1,12 @@
 -- What is derived and passes is read as its tree.
-use Rattle.std.proofs.Common.{◌≡◌, ◌∙◌, ℕ, zero, suc, ◌+◌, ◌-◌, ◌<◌, ◌≤◌, List, [], ◌∷◌, ◌++◌, length, Bool, true, false, cond, Option, Some, None, Ok, refl, sym, ap, subst, arith}
-use Rattle.std.specs.Prelude.{◌&&◌, IfOk}
+use Rattle.std.proofs.Common.{◌≡◌, ◌∙◌, ℕ, zero, suc, ◌+◌, ◌-◌, ◌<◌, List, [], ◌∷◌, ◌++◌, length, true, false, Option, Some, None, Ok, refl, sym, ap, subst, arith}
+use Rattle.std.specs.Prelude.{◌&&◌}
 use Rattle.tree_node.specs.declared.node.Feature.{Feature}
 use Rattle.kernel_syntax.specs.declared.built_in.BuiltIn.{BuiltIn}
 use Rattle.kernel_syntax.specs.BuiltIns.{arity_of}
-use Rattle.kernel_syntax.specs.declared.stmt.Pattern.{Pattern}
-use Rattle.kernel_syntax.specs.declared.sugar.Operation.{Operation}
 use Rattle.kernel_syntax.specs.declared.sugar.Operation.TheVariants as operation
 use Rattle.kernel_syntax.specs.Sugar as sugar
-use Rattle.kernel_syntax.specs.Sugar.{Values, no_values, value_and, no_statements, statement_and, count_values}
+use Rattle.kernel_syntax.specs.Sugar.{Values, no_values, no_statements, statement_and, count_values, field_of}
 use Rattle.oz_grammar.specs.declared.symbol.Symbol.{Symbol}
 use Rattle.oz_grammar.specs.declared.symbol.Symbol.TheVariants as t
 use Rattle.oz_grammar.specs.declared.symbol.Sign.TheVariants as sign
@@ -16,255 +14,38 @@ use Rattle.oz_grammar.specs.declared.fault.Fault.{Fault}
 use Rattle.oz_grammar.specs.declared.fault.FaultKind.{FaultKind}
 use Rattle.oz_grammar.specs.declared.fault.What.{What}
 use Rattle.oz_grammar.specs.declared.fault.What.TheVariants as what
-use Rattle.oz_grammar.specs.Grammar.{FeatureToken, AtomFeature, IntFeature, feature_symbol, selection_symbol, names_text, pattern_text}
+use Rattle.oz_grammar.specs.Grammar.{selection_symbol, names_text, pattern_text}
 use Rattle.oz_grammar.specs.Grammar as grammar
 use Rattle.oz_grammar.specs.Scoping.{Scope, built_in_at, declaration_of, feature_of, place_feature, pattern_names, with_field}
 use Rattle.oz_grammar.specs.Faults.{or_else, deep_fault, use_fault, called_fault, number_fault, site_fault, fewer}
-use Rattle.oz_grammar.specs.Check.{first_fault, check_pattern}
+use Rattle.oz_grammar.specs.Check.{check_pattern}
 use Rattle.oz_grammar.specs.Table.{pattern_of}
-use Rattle.oz_grammar.specs.Points.{First}
-use Rattle.oz_grammar.specs.Reading.{◌>>=◌, fault_expected, sign_at, used_variable_at, locals_at}
+use Rattle.oz_grammar.specs.Reading.{◌>>=◌, sign_at, used_variable_at, locals_at}
 use Rattle.oz_grammar.proofs.FieldOrder.{stopped}
 use Rattle.oz_grammar.proofs.PartsChecked.{passes, then_read, used_read, locals_read, pattern_read}
-use Rattle.surface_grammar.specs.declared.parts.CallUse.{CallUse}
 use Rattle.surface_grammar.specs.declared.parts.CallUse.TheVariants.{AsValue, AsStatement}
 use Rattle.surface_grammar.specs.declared.parts.Callable.TheVariants.{OfProc, OfFun}
 use Rattle.surface_grammar.specs.declared.parts.Closer.{Closer}
 use Rattle.surface_grammar.specs.declared.parts.Closer.TheVariants as closer
-use Rattle.surface_grammar.specs.Derivations.{Primary, Name, Number, Word, Record, Calls, Procedure, Function, Brackets, Selects, Tail, Last, More, Value, Alone, Calculates, Tests, Pairs, IfValue, CaseValue, Arguments, no_arguments, argument_and, no_fields, placed_and, named_and, ValueClauses, Statement, Skips, Tells, CallsStatement, Raises, Locals, ProcNamed, FunNamed, Threads, ThreadsAt, Ifs, Cases, Tries, TriesFinally, Finally, Sequence, One, Then, primary_text, tail_text, value_text, arguments_text, fields_text, value_clauses_text, statement_text, clauses_text, sequence_text, program_text, is_word, tail_ends_in_word, ends_in_word, begins_round, IsApart, count_arguments, HasAllArguments, LacksOneArgument, PrimaryDerives, TailDerives, ValueDerives, ArgumentsDerive, FieldsDerive, ValueClausesDerive, StatementDerives, ClausesDerive, SequenceDerives, IsDerivation}
+use Rattle.surface_grammar.specs.Derivations.{Primary, Variable, Integer, Atom, Record, Calls, Procedure, Function, Brackets, Selects, Tail, Last, More, Value, Alone, Calculates, Tests, Pairs, IfValue, CaseValue, Arguments, no_arguments, argument_and, no_fields, placed_and, named_and, ValueClauses, Statement, Skips, Tells, CallsStatement, Raises, Locals, ProcNamed, FunNamed, Threads, ThreadsAt, Ifs, Cases, Tries, TriesFinally, Finally, Sequence, One, Then, primary_text, tail_text, value_text, arguments_text, fields_text, value_clauses_text, statement_text, clauses_text, sequence_text, program_text, is_atom, tail_ends_in_atom, ends_in_atom, begins_round, StaysBare, count_arguments, HasAllArguments, LacksOneArgument, PrimaryDerives, TailDerives, ValueDerives, ArgumentsDerive, FieldsDerive, ValueClausesDerive, StatementDerives, ClausesDerive, SequenceDerives, IsDerivation}
 use Rattle.surface_grammar.specs.Derivations as tree
-use Rattle.surface_grammar.specs.Points.{Ends, argument_fault, given_fault, named_fault}
+use Rattle.surface_grammar.specs.Points.{argument_fault, given_fault, named_fault}
 use Rattle.surface_grammar.specs.Check.{levels_behind, most_arguments, check_formals, check_primary, check_tail, check_value, check_arguments, check_fields, check_value_clauses, check_statement, check_clauses, check_sequence, check}
-use Rattle.surface_grammar.specs.Trees.{field_of, with_last, with_value, record_value, pair_value, call_value, primary_of, tail_of, value_in, arguments_of, fields_in, value_clauses_of, statement_of, clauses_of, sequence_of, program_of}
-use Rattle.surface_grammar.specs.Reading.{Read, ValueReader, StatementReader, arguments_at, wanted_at, wanted_of, most_of_call, called_at, call_value_at, FieldsSoFar, features_of, with_one, fields_at, word_at, brackets_at, formals_at, is_end_of, is_at_statement, expected_behind, with_statement, others_at, sequence_at, closed_at, body_at, callable_at, selections_at, part_at, behind_head_at, second_at, behind_part_at, operand_at, tail_at, if_value_at, with_value_clause, value_clause_at, value_clauses_at, case_value_at, thread_at, with_clause, clause_at, clauses_at, readers_over, below, value_with, statement_with, program_at}
-use Rattle.surface_grammar.proofs.Starts.{stops, is_no_colon, stops_no_colon}
-use Rattle.surface_grammar.proofs.Runs.{and_false, arguments_round, arguments_stop, fields_round, fields_stop, moved_apart, closes, closes_stops, closes_apart, sequence_closes}
+use Rattle.surface_grammar.specs.Trees.{with_last, with_value, record_value, call_value, primary_of, tail_of, value_in, arguments_of, fields_in, value_clauses_of, statement_of, clauses_of, sequence_of, program_of}
+use Rattle.surface_grammar.specs.Reading.{Read, arguments_at, wanted_at, called_at, call_value_at, FieldsSoFar, with_one, fields_at, atom_at, brackets_at, formals_at, is_end_of, expected_behind, with_statement, others_at, sequence_at, closed_at, body_at, callable_at, selections_at, part_at, behind_head_at, behind_part_at, operand_at, tail_at, if_value_at, with_value_clause, value_clause_at, value_clauses_at, case_value_at, with_clause, clause_at, clauses_at, readers_over, below, value_with, statement_with, program_at}
+use Rattle.surface_grammar.proofs.Starts.{stops, stops_no_colon}
+use Rattle.surface_grammar.proofs.Runs.{and_false, arguments_round, arguments_stop, fields_round, fields_stop, moved_bare, closes, closes_stops, closes_bare, sequence_closes}
 use Rattle.surface_grammar.proofs.Passing.{primary_on, value_on, formals_on, locals_on, pattern_on, value_clauses_on, statement_on, sequence_on, clauses_on}
-use Rattle.surface_grammar.proofs.ReadSteps.{any}
-use Rattle.surface_grammar.proofs.ReadHeld.{Same, same_more, same_fault, same_no_fields, value_clause_read}
-use Rattle.surface_grammar.proofs.ReadStatements.{all_reads, clause_read, ClauseEnds}
-use Rattle.surface_grammar.proofs.ReadTrees.{one_selection, formals_checked, behind_values, one_behind, none_behind, value_holder, value_open, value_round, arguments_close, arguments_more, room_left, word_plain, compound_then, whole_at, last_selection, stops_no_dot, behind_nothing, head_alone, counted, value_placed, fields_close, fields_more, named_more, named_room}
-
--- a value's check with nothing wrong for its holder
-same_holder : (v : Value) (scope : Scope) (d : ℕ) (holder : Option FaultKind) (rest : List Symbol) (behind : Option Fault) → check_value v scope d holder rest behind ≡ None → check_value v scope d None rest behind ≡ None
-same_holder v scope d holder rest behind e = subst (λ (h : Option FaultKind). check_value v scope d h rest behind ≡ None) (value_holder v scope d holder rest behind e) e
-
--- the arguments of a call, by what is called
-wanted_called : (b : BuiltIn) (d : ℕ) (u : CallUse) (scope : Scope) (p : List ℕ) (text rest : List Symbol) (vs : Values) → wanted_at (value_with d) scope (wanted_of u b) no_values text ≡ Ok (vs, rest) → called_at (value_with d) u scope (Some b) p text ≡ Ok ((Some b, declaration_of scope p, vs), rest)
-wanted_called b d u scope p text rest vs e = rw e refl
-
-procedure_called : (d : ℕ) (u : CallUse) (scope : Scope) (p : List ℕ) (text rest : List Symbol) (vs : Values) → use_fault scope p ≡ None → arguments_at (value_with d) scope (most_of_call u) no_values text ≡ Ok (vs, rest)
-    → called_at (value_with d) u scope None p text ≡ Ok ((None, declaration_of scope p, vs), rest)
-procedure_called d u scope p text rest vs ok e = rw (ok, e) refl
-
-one_fewer : (b : BuiltIn) (n : ℕ) → suc n ≡ arity_of b → n ≡ arity_of b - 1
-one_fewer b n e = omega (arith, e)
-
--- where no level is left, a primary is no part of another value
-no_levels : (p : Primary) → levels_behind p zero ≡ zero
-no_levels (Name x) = refl
-no_levels (Number n) = refl
-no_levels (Word a) = refl
-no_levels (Record a fs) = refl
-no_levels (Calls p vs) = refl
-no_levels (Procedure xs q) = refl
-no_levels (Function xs v) = refl
-no_levels (Brackets v) = refl
-no_levels (Selects p s) = ap fewer (no_levels p)
-
-deep_zero : (r : ℕ) → r ≡ zero → deep_fault r ≡ None → ⊥
-deep_zero zero e d = cc
-deep_zero (suc r) e d = cc
-
-no_part : (p : Primary) (scope : Scope) (holder : Option FaultKind) (more symbols : List Symbol) (behind : Option Fault) → check_primary p scope zero holder more (first_fault (deep_fault (levels_behind p zero)) symbols behind) ≡ None → ⊥
-no_part p scope holder more symbols behind e = deep_zero (levels_behind p zero) (no_levels p) (stopped (deep_fault (levels_behind p zero)) symbols behind (primary_on p scope zero holder more _ e)).0
-
-bar_is : (r d : ℕ) (scope : Scope) (left : ℕ) (v u : sugar.Value) (text rest : List Symbol) → deep_fault r ≡ None → tail_at (below d) d scope text ≡ Ok (u, rest) → behind_head_at (below (suc d)) scope left (v, r) (t.Bar ∷ text) ≡ Ok (pair_value left v u, rest)
-unfolding below
-bar_is zero d scope left v u text rest ok e = cc
-bar_is (suc r) d scope left v u text rest ok e = rw e refl
-
-second_is : (r d : ℕ) (f : Operation) (scope : Scope) (left : ℕ) (v u : sugar.Value) (s : Symbol) (text rest : List Symbol) → deep_fault r ≡ None → operand_at (below d) d scope text ≡ Ok (u, rest)
-    → second_at (below (suc d)) scope left f (v, r) (s ∷ text) ≡ Ok (sugar.Apply left f (value_and v (value_and u no_values)), rest)
-unfolding below
-second_is zero d f scope left v u s text rest ok e = cc
-second_is (suc r) d f scope left v u s text rest ok e = rw e refl
-
-wanted_closes : (value : ValueReader) (scope : Scope) (before : Values) (rest : List Symbol) → wanted_at value scope zero before (t.CloseCurly ∷ rest) ≡ Ok (before, rest)
-unfolding wanted_at
-wanted_closes value scope before rest = refl
-
-wanted_more : (value : ValueReader) (scope : Scope) (k : ℕ) (before : Values) (symbols : List Symbol) (v : sugar.Value) (rest : List Symbol) → value scope None what.Value symbols ≡ Ok (v, rest) → wanted_at value scope (suc k) before symbols ≡ wanted_at value scope k (with_last before v) rest
-unfolding wanted_at
-wanted_more value scope k before symbols v rest e = rw e refl
-
--- a field behind others is read, and those behind it
-abbrev AsRecord : ℕ → List ℕ → FieldsSoFar × List Symbol → Read sugar.Value
-AsRecord left a m = Ok (record_value left a m.0.0 m.0.1, m.1)
-
-placed_more : (value : ValueReader) (scope : Scope) (room : ℕ) (before : List Feature) (m : FieldsSoFar) (v : Value) (u : sugar.Value) (text : List Symbol) → Same before m → given_fault room before (place_feature m.2) ≡ None → is_no_colon text ≡ true
-    → value scope None what.FieldOrBracket (value_text v text) ≡ Ok (u, text) → fields_at value scope room m (value_text v text) ≡ fields_at value scope (fewer room) (with_one (place_feature m.2) u (m.2 + 1) m) text
-placed_more value scope zero before m v u text same ok colon e = cc
-placed_more value scope (suc room) before m v u text same ok colon e =
-    let given : given_fault (suc room) (features_of m.0) (place_feature m.2) ≡ None = sym (same_fault (suc room) before m (place_feature m.2) same) ∙ ok in
-    fields_more value scope room m (value_text v text) (with_one (place_feature m.2) u (m.2 + 1) m) text (value_round v text) (value_placed v value scope (suc room) m text colon ∙ rw (given, e) refl)
-
-feature_more : (value : ValueReader) (scope : Scope) (room : ℕ) (before : List Feature) (m : FieldsSoFar) (f : FeatureToken) (u : sugar.Value) (text rest : List Symbol) → Same before m → named_fault room before f ≡ None → value scope None what.Value text ≡ Ok (u, rest)
-    → fields_at value scope room m (feature_symbol f ∷ t.Colon ∷ text) ≡ fields_at value scope (fewer room) (with_one (feature_of f) u m.2 m) rest
-feature_more value scope zero before m (AtomFeature a) u text rest same ok e = cc
-feature_more value scope zero before m (IntFeature n) u text rest same ok e = let r = named_room zero before (IntFeature n) ok in absurd (omega (arith, r))
-feature_more value scope (suc room) before m f u text rest same ok e = named_more value scope room before m f u text rest same ok e
-
--- clauses behind others
-abbrev pub behind_value_clauses : sugar.ValueClauses → sugar.ValueClauses → sugar.ValueClauses
-behind_value_clauses sugar.no_clauses cs = cs
-behind_value_clauses (sugar.clause_and p v bs) cs = sugar.clause_and p v (behind_value_clauses bs cs)
-
-value_clause_behind : (bs : sugar.ValueClauses) (p : Pattern) (v : sugar.Value) (cs : sugar.ValueClauses) → behind_value_clauses (with_value_clause bs p v) cs ≡ behind_value_clauses bs (sugar.clause_and p v cs)
-value_clause_behind sugar.no_clauses p v cs = refl
-value_clause_behind (sugar.clause_and q u bs) p v cs = ap (sugar.clause_and q u) (value_clause_behind bs p v cs)
-
-no_value_clause_behind : (bs : sugar.ValueClauses) → behind_value_clauses bs sugar.no_clauses ≡ bs
-no_value_clause_behind sugar.no_clauses = refl
-no_value_clause_behind (sugar.clause_and q u bs) = ap (sugar.clause_and q u) (no_value_clause_behind bs)
-
-abbrev pub behind_clauses : sugar.Clauses → sugar.Clauses → sugar.Clauses
-behind_clauses sugar.no_cases cs = cs
-behind_clauses (sugar.case_and p q bs) cs = sugar.case_and p q (behind_clauses bs cs)
-
-clause_behind : (bs : sugar.Clauses) (p : Pattern) (q : sugar.Statements) (cs : sugar.Clauses) → behind_clauses (with_clause bs p q) cs ≡ behind_clauses bs (sugar.case_and p q cs)
-clause_behind sugar.no_cases p q cs = refl
-clause_behind (sugar.case_and o r bs) p q cs = ap (sugar.case_and o r) (clause_behind bs p q cs)
-
-no_clause_behind : (bs : sugar.Clauses) → behind_clauses bs sugar.no_cases ≡ bs
-no_clause_behind sugar.no_cases = refl
-no_clause_behind (sugar.case_and q u bs) = ap (sugar.case_and q u) (no_clause_behind bs)
-
--- statements behind others
-abbrev pub behind_statements : sugar.Statements → sugar.Statements → sugar.Statements
-behind_statements no_statements q = q
-behind_statements (statement_and s b) q = statement_and s (behind_statements b q)
-
-statement_behind : (b : sugar.Statements) (s : sugar.Statement) (q : sugar.Statements) → behind_statements (with_statement b s) q ≡ behind_statements b (statement_and s q)
-statement_behind no_statements s q = refl
-statement_behind (statement_and r b) s q = ap (statement_and r) (statement_behind b s q)
-
-no_statement_behind : (b : sugar.Statements) → behind_statements b no_statements ≡ b
-no_statement_behind no_statements = refl
-no_statement_behind (statement_and r b) = ap (statement_and r) (no_statement_behind b)
-
--- what is expected where no statement begins does not matter where one does
-same_statement : (b : Bool) (w u : What) (symbols : List Symbol) (r : Read sugar.Statement) (x : sugar.Statement × List Symbol) → cond b r (fault_expected w symbols) ≡ Ok x → cond b r (fault_expected u symbols) ≡ Ok x
-same_statement true w u symbols r x e = e
-same_statement false w u symbols r x e = cc
-
--- what is read leaves fewer symbols
-statement_shorter : (d : ℕ) (scope : Scope) (w : What) (symbols : List Symbol) (s : sugar.Statement) (rest : List Symbol) → statement_with d scope w symbols ≡ Ok (s, rest) → length rest < length symbols
-statement_shorter d scope w [] s rest e = cc
-statement_shorter d scope w (x ∷ xs) s rest e =
-    let r = (all_reads d).statement First Ends scope what.Statement (length xs) (x ∷ xs) [] refl refl (omega arith) in
-    let same = same_statement (is_at_statement (x ∷ xs)) w what.Statement (x ∷ xs) _ (s, rest) e in
-    let good = subst (λ (k : Read sugar.Statement). IfOk k (λ y. (length y.1 ≤ length xs) × any y)) same r.good in
-    let le = good.0 in omega (arith, le)
-
-clause_shorter : (d : ℕ) (scope : Scope) (symbols : List Symbol) (c : Pattern × sugar.Value) (rest : List Symbol) → value_clause_at (value_with d) scope symbols ≡ Ok (c, rest) → length rest < length symbols
-clause_shorter d scope [] c rest e = cc
-clause_shorter d scope (x ∷ xs) c rest e =
-    let r = value_clause_read d (all_reads d).values scope (length xs) (x ∷ xs) [] (omega arith) in
-    let good = subst (λ (k : Read (Pattern × sugar.Value)). IfOk k (λ y. (length y.1 ≤ length xs) × any y)) e r.good in
-    let le = good.0 in omega (arith, le)
-
-statement_clause_shorter : (d : ℕ) (scope : Scope) (symbols : List Symbol) (c : Pattern × sugar.Statements) (rest : List Symbol) → clause_at (statement_with d) scope symbols ≡ Ok (c, rest) → length rest < length symbols
-statement_clause_shorter d scope [] c rest e = cc
-statement_clause_shorter d scope (x ∷ xs) c rest e =
-    let r = clause_read d (all_reads d) scope (length xs) (x ∷ xs) [] (omega arith) in
-    let good = subst (λ (k : Read (Pattern × sugar.Statements)). IfOk k (λ y. (length y.1 ≤ length xs) × ClauseEnds y)) e r.good in
-    let le = good.0 in omega (arith, le)
-
--- ---- sequences
-
-others_end : (statement : StatementReader) (c : Closer) (scope : Scope) (fuel : ℕ) (before : sugar.Statements) (more : List Symbol) → 1 ≤ fuel → is_end_of c more ≡ true → others_at statement c scope fuel before more ≡ Ok (before, more)
-unfolding others_at
-others_end statement c scope zero before more some e = absurd (omega (arith, some))
-others_end statement c scope (suc fuel) before more some e = rw e refl
-
-others_more : (statement : StatementReader) (c : Closer) (scope : Scope) (fuel : ℕ) (before : sugar.Statements) (symbols : List Symbol) (s : sugar.Statement) (rest : List Symbol) → is_end_of c symbols ≡ false → statement scope (expected_behind c) symbols ≡ Ok (s, rest)
-    → others_at statement c scope (suc fuel) before symbols ≡ others_at statement c scope fuel (with_statement before s) rest
-unfolding others_at
-others_more statement c scope fuel before symbols s rest o e = rw (o, e) refl
-
--- what begins a statement closes nothing
-begun_open : (c : Closer) (symbols : List Symbol) → is_at_statement symbols ≡ true → is_end_of c symbols ≡ false
-begun_open c [] e = cc
-begun_open closer.End (t.End ∷ rest) e = absurd cc
-begun_open closer.End (x ∷ rest) e = refl
-begun_open closer.Else (t.Else ∷ rest) e = absurd cc
-begun_open closer.Else (x ∷ rest) e = refl
-begun_open closer.OfClause (t.Clause ∷ rest) e = absurd cc
-begun_open closer.OfClause (t.Else ∷ rest) e = absurd cc
-begun_open closer.OfClause (x ∷ rest) e = refl
-begun_open closer.OfTry (t.Catch ∷ rest) e = absurd cc
-begun_open closer.OfTry (t.Finally ∷ rest) e = absurd cc
-begun_open closer.OfTry (x ∷ rest) e = refl
-begun_open closer.OfHandler (t.Finally ∷ rest) e = absurd cc
-begun_open closer.OfHandler (t.End ∷ rest) e = absurd cc
-begun_open closer.OfHandler (x ∷ rest) e = refl
-begun_open closer.EndOfText (t.EndOfText ∷ rest) e = absurd cc
-begun_open closer.EndOfText (x ∷ rest) e = refl
-
-begins_statement : (s : Statement) (rest : List Symbol) → is_at_statement (statement_text s rest) ≡ true
-begins_statement Skips rest = refl
-begins_statement (Tells x v) rest = refl
-begins_statement (CallsStatement p vs) rest = refl
-begins_statement (Raises v) rest = refl
-begins_statement (Locals x xs q) rest = refl
-begins_statement (ProcNamed x xs q) rest = refl
-begins_statement (FunNamed x xs v) rest = refl
-begins_statement (Threads q) rest = refl
-begins_statement (ThreadsAt n q) rest = refl
-begins_statement (Ifs e q r) rest = refl
-begins_statement (Cases e p q cs r) rest = refl
-begins_statement (Tries q x r) rest = refl
-begins_statement (TriesFinally q x r u) rest = refl
-begins_statement (Finally q u) rest = refl
-
-begins_sequence : (q : Sequence) (rest : List Symbol) → is_at_statement (sequence_text q rest) ≡ true
-begins_sequence (One s) rest = begins_statement s rest
-begins_sequence (Then s q) rest = begins_statement s (sequence_text q rest)
-
-thread_plain : (statement : StatementReader) (scope : Scope) (left : ℕ) (symbols : List Symbol) (q : sugar.Statements) (rest : List Symbol) → is_at_statement symbols ≡ true → closed_at statement closer.End scope what.StatementOrAt symbols ≡ Ok (q, rest)
-    → thread_at statement scope left symbols ≡ Ok (sugar.Thread left None q, rest)
-thread_plain statement scope left [] q rest b e = cc
-thread_plain statement scope left (t.At ∷ symbols) q rest b e = absurd cc
-thread_plain statement scope left (s ∷ symbols) q rest b e = rw e refl
-
--- ---- clauses
-
-clauses_more : (value : ValueReader) (scope : Scope) (fuel : ℕ) (before : sugar.ValueClauses) (symbols : List Symbol) (p : Pattern) (v : sugar.Value) (rest : List Symbol) → value_clause_at value scope symbols ≡ Ok ((p, v), t.Clause ∷ rest)
-    → value_clauses_at value scope (suc fuel) before symbols ≡ value_clauses_at value scope fuel (with_value_clause before p v) rest
-unfolding value_clauses_at
-clauses_more value scope fuel before symbols p v rest e = rw e refl
-
-clauses_last : (value : ValueReader) (scope : Scope) (fuel : ℕ) (before : sugar.ValueClauses) (symbols : List Symbol) (p : Pattern) (v : sugar.Value) (rest : List Symbol) → value_clause_at value scope symbols ≡ Ok ((p, v), t.Else ∷ rest)
-    → value_clauses_at value scope (suc fuel) before symbols ≡ Ok (with_value_clause before p v, rest)
-unfolding value_clauses_at
-clauses_last value scope fuel before symbols p v rest e = rw e refl
-
-branches_more : (statement : StatementReader) (scope : Scope) (fuel : ℕ) (before : sugar.Clauses) (symbols : List Symbol) (p : Pattern) (q : sugar.Statements) (rest : List Symbol) → clause_at statement scope symbols ≡ Ok ((p, q), t.Clause ∷ rest)
-    → clauses_at statement scope (suc fuel) before symbols ≡ clauses_at statement scope fuel (with_clause before p q) rest
-unfolding clauses_at
-branches_more statement scope fuel before symbols p q rest e = rw e refl
-
-branches_last : (statement : StatementReader) (scope : Scope) (fuel : ℕ) (before : sugar.Clauses) (symbols : List Symbol) (p : Pattern) (q : sugar.Statements) (rest : List Symbol) → clause_at statement scope symbols ≡ Ok ((p, q), t.Else ∷ rest)
-    → clauses_at statement scope (suc fuel) before symbols ≡ Ok (with_clause before p q, rest)
-unfolding clauses_at
-branches_last statement scope fuel before symbols p q rest e = rw e refl
+use Rattle.surface_grammar.proofs.ReadFields.{Same, same_more}
+use Rattle.surface_grammar.proofs.ReadHeld.{same_no_fields}
+use Rattle.surface_grammar.proofs.ReadTrees.{one_selection, formals_checked, behind_values, one_behind, none_behind, value_holder, value_open, arguments_close, arguments_more, room_left, atom_plain, compound_then, whole_at, last_selection, stops_no_dot, behind_nothing, head_alone, counted, fields_close}
+use Rattle.surface_grammar.proofs.ReadParts.{same_holder, wanted_called, procedure_called, one_fewer, no_part, bar_is, second_is, wanted_closes, wanted_more, AsRecord, placed_more, feature_more, behind_value_clauses, value_clause_behind, no_value_clause_behind, behind_clauses, clause_behind, no_clause_behind, behind_statements, statement_behind, no_statement_behind, statement_shorter, clause_shorter, statement_clause_shorter, others_end, others_more, begun_open, begins_statement, begins_sequence, thread_plain, clauses_more, clauses_last, branches_more, branches_last}
 
 -- ---- laws of parts: a value, a sequence, and arguments are read as their trees
 
 abbrev pub ValueLaw : Value → ℕ → Type 0
 ValueLaw v d =
-    (scope : Scope) (holder : Option FaultKind) (w : What) (rest : List Symbol) (behind : Option Fault) → ValueDerives v scope → check_value v scope d holder rest behind ≡ None → stops rest ≡ true → IsApart v rest
+    (scope : Scope) (holder : Option FaultKind) (w : What) (rest : List Symbol) (behind : Option Fault) → ValueDerives v scope → check_value v scope d holder rest behind ≡ None → stops rest ≡ true → StaysBare v rest
     → value_with d scope holder w (value_text v rest) ≡ Ok (value_in v scope rest, rest)
 
 abbrev pub SequenceLaw : Sequence → ℕ → Type 0
@@ -305,14 +86,14 @@ if_is : (c a b : Value) (d : ℕ) (lc : ValueLaw c d) (la : ValueLaw a d) (lb : 
 if_is c a b d lc la lb scope left rest behind good e =
     let ea = value_on c scope d None _ _ e in
     let eb = value_on a scope d None _ _ ea in
-    then_read (value_with d scope None what.Value (value_text c (t.Then ∷ value_text a (t.Else ∷ value_text b (t.End ∷ rest))))) _ _ _ (lc scope None what.Value (t.Then ∷ value_text a (t.Else ∷ value_text b (t.End ∷ rest))) _ good.0 e refl (and_false (ends_in_word c)))
-    (then_read (value_with d scope None what.Value (value_text a (t.Else ∷ value_text b (t.End ∷ rest)))) _ _ _ (la scope None what.Value (t.Else ∷ value_text b (t.End ∷ rest)) _ good.1 ea refl (and_false (ends_in_word a)))
-    (then_read (value_with d scope None what.Value (value_text b (t.End ∷ rest))) _ _ _ (lb scope None what.Value (t.End ∷ rest) behind good.2 eb refl (and_false (ends_in_word b))) refl))
+    then_read (value_with d scope None what.Value (value_text c (t.Then ∷ value_text a (t.Else ∷ value_text b (t.End ∷ rest))))) _ _ _ (lc scope None what.Value (t.Then ∷ value_text a (t.Else ∷ value_text b (t.End ∷ rest))) _ good.0 e refl (and_false (ends_in_atom c)))
+    (then_read (value_with d scope None what.Value (value_text a (t.Else ∷ value_text b (t.End ∷ rest)))) _ _ _ (la scope None what.Value (t.Else ∷ value_text b (t.End ∷ rest)) _ good.1 ea refl (and_false (ends_in_atom a)))
+    (then_read (value_with d scope None what.Value (value_text b (t.End ∷ rest))) _ _ _ (lb scope None what.Value (t.End ∷ rest) behind good.2 eb refl (and_false (ends_in_atom b))) refl))
 
 value_clause_is : (p : grammar.Pattern) (v : Value) (d : ℕ) (law : ValueLaw v d) (scope : Scope) (more : List Symbol) (behind : Option Fault) → ValueDerives v (scope ++ pattern_names p) → check_pattern p scope (t.Then ∷ value_text v more) (check_value v (scope ++ pattern_names p) d None more behind) ≡ None → closes more ≡ true
     → value_clause_at (value_with d) scope (pattern_text p (t.Then ∷ value_text v more)) ≡ Ok ((pattern_of p, value_in v (scope ++ pattern_names p) more), more)
 value_clause_is p v d law scope more behind good e ends =
-    rw (pattern_read p scope (value_text v more) _ e) (then_read (value_with d (scope ++ pattern_names p) None what.Value (value_text v more)) _ _ _ (law (scope ++ pattern_names p) None what.Value more behind good (pattern_on p scope _ _ e) (closes_stops more ends) (closes_apart v more ends)) refl)
+    rw (pattern_read p scope (value_text v more) _ e) (then_read (value_with d (scope ++ pattern_names p) None what.Value (value_text v more)) _ _ _ (law (scope ++ pattern_names p) None what.Value more behind good (pattern_on p scope _ _ e) (closes_stops more ends) (closes_bare v more ends)) refl)
 
 body_is : (q : Sequence) (d : ℕ) (law : SequenceLaw q d) (scope : Scope) (rest : List Symbol) (behind : Option Fault) → SequenceDerives q scope → check_sequence q scope d (t.End ∷ rest) behind ≡ None → body_at (statement_with d) scope (sequence_text q (t.End ∷ rest)) ≡ Ok (sequence_of q scope (t.End ∷ rest), rest)
 body_is q d law scope rest behind good e = then_read (sequence_at (statement_with d) closer.End scope what.Statement (sequence_text q (t.End ∷ rest))) _ _ _ (law closer.End scope what.Statement (t.End ∷ rest) behind refl refl good e) refl
@@ -327,7 +108,7 @@ function_is : (xs : List (List ℕ)) (v : Value) (d : ℕ) (law : ValueLaw v d) 
     → callable_at (readers_over (below d) d) OfFun scope left (names_text xs (t.CloseCurly ∷ value_text v (t.End ∷ rest))) ≡ Ok (sugar.Fun left (length xs) (value_in v (scope ++ xs) (t.End ∷ rest)), rest)
 function_is xs v d law scope left rest behind good e =
     then_read (formals_at OfFun [] (names_text xs (t.CloseCurly ∷ value_text v (t.End ∷ rest)))) _ _ _ (formals_checked xs [] OfFun (value_text v (t.End ∷ rest)) _ e)
-    (then_read (value_with d (scope ++ xs) None what.Value (value_text v (t.End ∷ rest))) _ _ _ (law (scope ++ xs) None what.Value (t.End ∷ rest) behind good (formals_on xs [] OfFun (t.CloseCurly ∷ value_text v (t.End ∷ rest)) _ e) refl (and_false (ends_in_word v))) refl)
+    (then_read (value_with d (scope ++ xs) None what.Value (value_text v (t.End ∷ rest))) _ _ _ (law (scope ++ xs) None what.Value (t.End ∷ rest) behind good (formals_on xs [] OfFun (t.CloseCurly ∷ value_text v (t.End ∷ rest)) _ e) refl (and_false (ends_in_atom v))) refl)
 
 branch_is : (p : grammar.Pattern) (q : Sequence) (d : ℕ) (law : SequenceLaw q d) (scope : Scope) (more : List Symbol) (behind : Option Fault) → SequenceDerives q (scope ++ pattern_names p) → check_pattern p scope (t.Then ∷ sequence_text q more) (check_sequence q (scope ++ pattern_names p) d more behind) ≡ None → is_end_of closer.OfClause more ≡ true → closes more ≡ true
     → clause_at (statement_with d) scope (pattern_text p (t.Then ∷ sequence_text q more)) ≡ Ok ((pattern_of p, sequence_of q (scope ++ pattern_names p) more), more)
@@ -356,111 +137,111 @@ case_is c p v cs b d lc lb clauses scope left rest behind good e =
     let text : List Symbol = pattern_text p (t.Then ∷ value_text v (value_clauses_text cs (t.Else ∷ more))) in
     let ep = value_on c scope d None _ _ e in
     let eb = value_clauses_on cs scope d _ _ (value_on v (scope ++ pattern_names p) d None _ _ (pattern_on p scope _ _ ep)) in
-    then_read (value_with d scope None what.Value (value_text c (t.Of ∷ text))) _ _ _ (lc scope None what.Value (t.Of ∷ text) _ good.0 e refl (and_false (ends_in_word c)))
+    then_read (value_with d scope None what.Value (value_text c (t.Of ∷ text))) _ _ _ (lc scope None what.Value (t.Of ∷ text) _ good.0 e refl (and_false (ends_in_atom c)))
     (then_read (value_clauses_at (value_with d) scope (length text + 1) sugar.no_clauses text) _ _ _ (clauses scope (length text + 1) sugar.no_clauses more _ (omega arith) good.1 good.2 ep)
-    (then_read (value_with d scope None what.Value more) _ _ _ (lb scope None what.Value (t.End ∷ rest) behind good.3 eb refl (and_false (ends_in_word b))) refl))
+    (then_read (value_with d scope None what.Value more) _ _ _ (lb scope None what.Value (t.End ∷ rest) behind good.3 eb refl (and_false (ends_in_atom b))) refl))
 
 mutual
   unfolding below
 
-  pub primary_is : (p : Primary) (d : ℕ) (scope : Scope) (holder : Option FaultKind) (w : What) (rest : List Symbol) (behind : Option Fault) → PrimaryDerives p scope → check_primary p scope d holder rest behind ≡ None → (is_word p && begins_round rest) ≡ false
+  pub primary_is : (p : Primary) (d : ℕ) (scope : Scope) (holder : Option FaultKind) (w : What) (rest : List Symbol) (behind : Option Fault) → PrimaryDerives p scope → check_primary p scope d holder rest behind ≡ None → (is_atom p && begins_round rest) ≡ false
       → part_at (below d) d scope holder w (primary_text p rest) ≡ selections_at (levels_behind p d) scope (length (primary_text p rest)) (primary_of p scope rest) rest
-  primary_is (Name x) d scope holder w rest behind good e apart = let s = stopped (or_else holder (use_fault scope x)) _ behind e in rw s.0 refl
-  primary_is (Number n) d scope holder w rest behind good e apart = let s = stopped (or_else (number_fault n) (or_else (deep_fault d) holder)) _ behind e in rw s.0 refl
-  primary_is (Word a) d scope holder w rest behind good e apart =
+  primary_is (Variable x) d scope holder w rest behind good e bare = let s = stopped (or_else holder (use_fault scope x)) _ behind e in rw s.0 refl
+  primary_is (Integer n) d scope holder w rest behind good e bare = let s = stopped (or_else (number_fault n) (or_else (deep_fault d) holder)) _ behind e in rw s.0 refl
+  primary_is (Atom a) d scope holder w rest behind good e bare =
       let s = stopped (or_else (deep_fault d) holder) _ behind e in
-      compound_then d holder (t.Atom a ∷ rest) scope (length (t.Atom a ∷ rest)) (word_at (below d).value scope (length (t.Atom a ∷ rest)) a rest) (sugar.Atom (length (t.Atom a ∷ rest)) a) rest s.0 (word_plain (below d).value scope (length (t.Atom a ∷ rest)) a rest apart)
-  primary_is (Record a fs) zero scope holder w rest behind good e apart = cc
-  primary_is (Record a fs) (suc d) scope holder w rest behind good e apart =
+      compound_then d holder (t.Atom a ∷ rest) scope (length (t.Atom a ∷ rest)) (atom_at (below d).value scope (length (t.Atom a ∷ rest)) a rest) (sugar.Atom (length (t.Atom a ∷ rest)) a) rest s.0 (atom_plain (below d).value scope (length (t.Atom a ∷ rest)) a rest bare)
+  primary_is (Record a fs) zero scope holder w rest behind good e bare = cc
+  primary_is (Record a fs) (suc d) scope holder w rest behind good e bare =
       let s = stopped (or_else (deep_fault (suc d)) holder) _ _ e in
       let symbols : List Symbol = primary_text (Record a fs) rest in
       compound_then (suc d) holder symbols scope (length symbols) (fields_at (value_with d) scope 64 ([], no_values, 1) (fields_text fs (t.CloseRound ∷ rest)) >>= λ m. Ok (record_value (length symbols) a m.0.0 m.0.1, m.1)) (primary_of (Record a fs) scope rest) rest s.0
       (fields_are fs d scope 64 [] ([], no_values, 1) (length symbols) a rest behind same_no_fields good s.1)
-  primary_is (Calls p vs) zero scope holder w rest behind good e apart = cc
-  primary_is (Calls p vs) (suc d) scope holder w rest behind good e apart =
+  primary_is (Calls p vs) zero scope holder w rest behind good e bare = cc
+  primary_is (Calls p vs) (suc d) scope holder w rest behind good e bare =
       let s = stopped (or_else (deep_fault (suc d)) holder) _ _ e in
       let c = stopped (called_fault (built_in_at scope p) scope p) _ _ s.1 in
       let symbols : List Symbol = primary_text (Calls p vs) rest in
       let called = call_is (built_in_at scope p) vs p d (wanted_are vs d) (arguments_are vs d) scope rest behind good c.0 c.1 in
       compound_then (suc d) holder symbols scope (length symbols) (call_value_at (value_with d) scope (length symbols) (t.Variable p ∷ arguments_text vs (t.CloseCurly ∷ rest))) (primary_of (Calls p vs) scope rest) rest s.0
       (then_read (called_at (value_with d) AsValue scope (built_in_at scope p) p (arguments_text vs (t.CloseCurly ∷ rest))) (λ k. Ok (call_value k.0.0 (length symbols) k.0.1 k.0.2, k.1)) ((built_in_at scope p, declaration_of scope p, arguments_of vs scope (t.CloseCurly ∷ rest)), rest) (Ok (primary_of (Calls p vs) scope rest, rest)) called refl)
-  primary_is (Procedure xs q) zero scope holder w rest behind good e apart = cc
-  primary_is (Procedure xs q) (suc d) scope holder w rest behind good e apart =
+  primary_is (Procedure xs q) zero scope holder w rest behind good e bare = cc
+  primary_is (Procedure xs q) (suc d) scope holder w rest behind good e bare =
       let s = stopped (or_else (deep_fault (suc d)) holder) _ _ e in
       let symbols : List Symbol = primary_text (Procedure xs q) rest in
       compound_then (suc d) holder symbols scope (length symbols) (callable_at (readers_over (below d) d) OfProc scope (length symbols) (names_text xs (t.CloseCurly ∷ sequence_text q (t.End ∷ rest)))) (primary_of (Procedure xs q) scope rest) rest s.0
       (procedure_is xs q d (sequence_is q d) scope (length symbols) rest behind good s.1)
-  primary_is (Function xs v) zero scope holder w rest behind good e apart = cc
-  primary_is (Function xs v) (suc d) scope holder w rest behind good e apart =
+  primary_is (Function xs v) zero scope holder w rest behind good e bare = cc
+  primary_is (Function xs v) (suc d) scope holder w rest behind good e bare =
       let s = stopped (or_else (deep_fault (suc d)) holder) _ _ e in
       let symbols : List Symbol = primary_text (Function xs v) rest in
       compound_then (suc d) holder symbols scope (length symbols) (callable_at (readers_over (below d) d) OfFun scope (length symbols) (names_text xs (t.CloseCurly ∷ value_text v (t.End ∷ rest)))) (primary_of (Function xs v) scope rest) rest s.0
       (function_is xs v d (value_is v d) scope (length symbols) rest behind good s.1)
-  primary_is (Brackets v) zero scope holder w rest behind good e apart = cc
-  primary_is (Brackets v) (suc d) scope holder w rest behind good e apart =
+  primary_is (Brackets v) zero scope holder w rest behind good e bare = cc
+  primary_is (Brackets v) (suc d) scope holder w rest behind good e bare =
       let s = stopped (or_else (deep_fault (suc d)) holder) _ _ e in
       let symbols : List Symbol = primary_text (Brackets v) rest in
       compound_then (suc d) holder symbols scope (length symbols) (brackets_at (value_with d) scope (length symbols) (value_text v (t.CloseRound ∷ rest))) (primary_of (Brackets v) scope rest) rest s.0
       (then_read (value_with d scope None what.Value (value_text v (t.CloseRound ∷ rest))) (λ u. sign_at sign.CloseRound u.1 >>= λ more. Ok (sugar.Brackets (length symbols) u.0, more)) (value_in v scope (t.CloseRound ∷ rest), t.CloseRound ∷ rest) (Ok (primary_of (Brackets v) scope rest, rest))
-      (value_is v d scope None what.Value (t.CloseRound ∷ rest) behind good s.1 refl (and_false (ends_in_word v))) refl)
-  primary_is (Selects p k) d scope holder w rest behind good e apart =
+      (value_is v d scope None what.Value (t.CloseRound ∷ rest) behind good s.1 refl (and_false (ends_in_atom v))) refl)
+  primary_is (Selects p k) d scope holder w rest behind good e bare =
       let s = stopped (deep_fault (levels_behind p d)) _ _ (primary_on p scope d holder _ _ e) in
-      primary_is p d scope holder w (t.Dot ∷ selection_symbol k ∷ rest) _ good e (and_false (is_word p))
+      primary_is p d scope holder w (t.Dot ∷ selection_symbol k ∷ rest) _ good e (and_false (is_atom p))
       ∙ one_selection (levels_behind p d) k scope (length (primary_text (Selects p k) rest)) (primary_of p scope (t.Dot ∷ selection_symbol k ∷ rest)) rest behind s.0 s.1
 
-  pub tail_is : (l : Tail) (d : ℕ) (scope : Scope) (rest : List Symbol) (behind : Option Fault) → TailDerives l scope → check_tail l scope d rest behind ≡ None → stops rest ≡ true → (tail_ends_in_word l && begins_round rest) ≡ false
+  pub tail_is : (l : Tail) (d : ℕ) (scope : Scope) (rest : List Symbol) (behind : Option Fault) → TailDerives l scope → check_tail l scope d rest behind ≡ None → stops rest ≡ true → (tail_ends_in_atom l && begins_round rest) ≡ false
       → tail_at (below d) d scope (tail_text l rest) ≡ Ok (tail_of l scope rest, rest)
-  tail_is (Last p) d scope rest behind good e ends apart =
+  tail_is (Last p) d scope rest behind good e ends bare =
       then_read (part_at (below d) d scope None what.Value (primary_text p rest)) (λ q. behind_head_at (below d) scope (length (primary_text p rest)) q.0 q.1) ((primary_of p scope rest, levels_behind p d), rest) (Ok (primary_of p scope rest, rest))
-      (primary_is p d scope None what.Value rest behind good e apart ∙ last_selection (levels_behind p d) scope (length (primary_text p rest)) (primary_of p scope rest) rest (stops_no_dot rest ends)) (head_alone (below d) scope (length (primary_text p rest)) (primary_of p scope rest, levels_behind p d) rest ends)
-  tail_is (More p l) zero scope rest behind good e ends apart = absurd (no_part p scope None (t.Bar ∷ tail_text l rest) _ _ e)
-  tail_is (More p l) (suc d) scope rest behind good e ends apart =
+      (primary_is p d scope None what.Value rest behind good e bare ∙ last_selection (levels_behind p d) scope (length (primary_text p rest)) (primary_of p scope rest) rest (stops_no_dot rest ends)) (head_alone (below d) scope (length (primary_text p rest)) (primary_of p scope rest, levels_behind p d) rest ends)
+  tail_is (More p l) zero scope rest behind good e ends bare = absurd (no_part p scope None (t.Bar ∷ tail_text l rest) _ _ e)
+  tail_is (More p l) (suc d) scope rest behind good e ends bare =
       let s = stopped (deep_fault (levels_behind p (suc d))) _ _ (primary_on p scope (suc d) None _ _ e) in
       let left : ℕ = length (tail_text (More p l) rest) in
       let more : List Symbol = t.Bar ∷ tail_text l rest in
       then_read (part_at (below (suc d)) (suc d) scope None what.Value (primary_text p more)) (λ q. behind_head_at (below (suc d)) scope left q.0 q.1) ((primary_of p scope more, levels_behind p (suc d)), more) (Ok (tail_of (More p l) scope rest, rest))
-      (primary_is p (suc d) scope None what.Value more _ good.0 e (and_false (is_word p)) ∙ last_selection (levels_behind p (suc d)) scope left (primary_of p scope more) more refl)
-      (bar_is (levels_behind p (suc d)) d scope left (primary_of p scope more) (tail_of l scope rest) (tail_text l rest) rest s.0 (tail_is l d scope rest behind good.1 s.1 ends apart))
+      (primary_is p (suc d) scope None what.Value more _ good.0 e (and_false (is_atom p)) ∙ last_selection (levels_behind p (suc d)) scope left (primary_of p scope more) more refl)
+      (bar_is (levels_behind p (suc d)) d scope left (primary_of p scope more) (tail_of l scope rest) (tail_text l rest) rest s.0 (tail_is l d scope rest behind good.1 s.1 ends bare))
 
-  pub value_is : (v : Value) (d : ℕ) (scope : Scope) (holder : Option FaultKind) (w : What) (rest : List Symbol) (behind : Option Fault) → ValueDerives v scope → check_value v scope d holder rest behind ≡ None → stops rest ≡ true → IsApart v rest
+  pub value_is : (v : Value) (d : ℕ) (scope : Scope) (holder : Option FaultKind) (w : What) (rest : List Symbol) (behind : Option Fault) → ValueDerives v scope → check_value v scope d holder rest behind ≡ None → stops rest ≡ true → StaysBare v rest
       → value_with d scope holder w (value_text v rest) ≡ Ok (value_in v scope rest, rest)
-  value_is (Alone p) d scope holder w rest behind good e ends apart =
+  value_is (Alone p) d scope holder w rest behind good e ends bare =
       whole_at p (below d) d scope holder w rest
       ∙ then_read (part_at (below d) d scope holder w (primary_text p rest)) (λ q. behind_part_at (below d) scope (length (primary_text p rest)) q.0 q.1) ((primary_of p scope rest, levels_behind p d), rest) (Ok (primary_of p scope rest, rest))
-      (primary_is p d scope holder w rest behind good e apart ∙ last_selection (levels_behind p d) scope (length (primary_text p rest)) (primary_of p scope rest) rest (stops_no_dot rest ends)) (behind_nothing (below d) scope (length (primary_text p rest)) (primary_of p scope rest, levels_behind p d) rest ends)
-  value_is (Calculates p o q) zero scope holder w rest behind good e ends apart = absurd (no_part p scope holder (t.Operator o ∷ primary_text q rest) _ _ e)
-  value_is (Calculates p o q) (suc d) scope holder w rest behind good e ends apart =
+      (primary_is p d scope holder w rest behind good e bare ∙ last_selection (levels_behind p d) scope (length (primary_text p rest)) (primary_of p scope rest) rest (stops_no_dot rest ends)) (behind_nothing (below d) scope (length (primary_text p rest)) (primary_of p scope rest, levels_behind p d) rest ends)
+  value_is (Calculates p o q) zero scope holder w rest behind good e ends bare = absurd (no_part p scope holder (t.Operator o ∷ primary_text q rest) _ _ e)
+  value_is (Calculates p o q) (suc d) scope holder w rest behind good e ends bare =
       let s = stopped (deep_fault (levels_behind p (suc d))) _ _ (primary_on p scope (suc d) holder _ _ e) in
       let left : ℕ = length (value_text (Calculates p o q) rest) in
       let more : List Symbol = t.Operator o ∷ primary_text q rest in
       whole_at p (below (suc d)) (suc d) scope holder w more
       ∙ then_read (part_at (below (suc d)) (suc d) scope holder w (primary_text p more)) (λ k. behind_part_at (below (suc d)) scope left k.0 k.1) ((primary_of p scope more, levels_behind p (suc d)), more) (Ok (value_in (Calculates p o q) scope rest, rest))
-      (primary_is p (suc d) scope holder w more _ good.0 e (and_false (is_word p)) ∙ last_selection (levels_behind p (suc d)) scope left (primary_of p scope more) more refl)
-      (second_is (levels_behind p (suc d)) d (operation.Calc o) scope left (primary_of p scope more) (primary_of q scope rest) (t.Operator o) (primary_text q rest) rest s.0 (operand_is q d scope rest (primary_is q d scope None what.Value rest behind good.1 s.1 apart) ends))
-  value_is (Tests p o q) zero scope holder w rest behind good e ends apart = absurd (no_part p scope holder (t.Test o ∷ primary_text q rest) _ _ e)
-  value_is (Tests p o q) (suc d) scope holder w rest behind good e ends apart =
+      (primary_is p (suc d) scope holder w more _ good.0 e (and_false (is_atom p)) ∙ last_selection (levels_behind p (suc d)) scope left (primary_of p scope more) more refl)
+      (second_is (levels_behind p (suc d)) d (operation.Calc o) scope left (primary_of p scope more) (primary_of q scope rest) (t.Operator o) (primary_text q rest) rest s.0 (operand_is q d scope rest (primary_is q d scope None what.Value rest behind good.1 s.1 bare) ends))
+  value_is (Tests p o q) zero scope holder w rest behind good e ends bare = absurd (no_part p scope holder (t.Test o ∷ primary_text q rest) _ _ e)
+  value_is (Tests p o q) (suc d) scope holder w rest behind good e ends bare =
       let s = stopped (deep_fault (levels_behind p (suc d))) _ _ (primary_on p scope (suc d) holder _ _ e) in
       let left : ℕ = length (value_text (Tests p o q) rest) in
       let more : List Symbol = t.Test o ∷ primary_text q rest in
       whole_at p (below (suc d)) (suc d) scope holder w more
       ∙ then_read (part_at (below (suc d)) (suc d) scope holder w (primary_text p more)) (λ k. behind_part_at (below (suc d)) scope left k.0 k.1) ((primary_of p scope more, levels_behind p (suc d)), more) (Ok (value_in (Tests p o q) scope rest, rest))
-      (primary_is p (suc d) scope holder w more _ good.0 e (and_false (is_word p)) ∙ last_selection (levels_behind p (suc d)) scope left (primary_of p scope more) more refl)
-      (second_is (levels_behind p (suc d)) d (operation.Test o) scope left (primary_of p scope more) (primary_of q scope rest) (t.Test o) (primary_text q rest) rest s.0 (operand_is q d scope rest (primary_is q d scope None what.Value rest behind good.1 s.1 apart) ends))
-  value_is (Pairs p l) zero scope holder w rest behind good e ends apart = absurd (no_part p scope holder (t.Bar ∷ tail_text l rest) _ _ e)
-  value_is (Pairs p l) (suc d) scope holder w rest behind good e ends apart =
+      (primary_is p (suc d) scope holder w more _ good.0 e (and_false (is_atom p)) ∙ last_selection (levels_behind p (suc d)) scope left (primary_of p scope more) more refl)
+      (second_is (levels_behind p (suc d)) d (operation.Test o) scope left (primary_of p scope more) (primary_of q scope rest) (t.Test o) (primary_text q rest) rest s.0 (operand_is q d scope rest (primary_is q d scope None what.Value rest behind good.1 s.1 bare) ends))
+  value_is (Pairs p l) zero scope holder w rest behind good e ends bare = absurd (no_part p scope holder (t.Bar ∷ tail_text l rest) _ _ e)
+  value_is (Pairs p l) (suc d) scope holder w rest behind good e ends bare =
       let s = stopped (deep_fault (levels_behind p (suc d))) _ _ (primary_on p scope (suc d) holder _ _ e) in
       let left : ℕ = length (value_text (Pairs p l) rest) in
       let more : List Symbol = t.Bar ∷ tail_text l rest in
       whole_at p (below (suc d)) (suc d) scope holder w more
       ∙ then_read (part_at (below (suc d)) (suc d) scope holder w (primary_text p more)) (λ k. behind_part_at (below (suc d)) scope left k.0 k.1) ((primary_of p scope more, levels_behind p (suc d)), more) (Ok (value_in (Pairs p l) scope rest, rest))
-      (primary_is p (suc d) scope holder w more _ good.0 e (and_false (is_word p)) ∙ last_selection (levels_behind p (suc d)) scope left (primary_of p scope more) more refl)
-      (bar_is (levels_behind p (suc d)) d scope left (primary_of p scope more) (tail_of l scope rest) (tail_text l rest) rest s.0 (tail_is l d scope rest behind good.1 s.1 ends apart))
-  value_is (IfValue c a b) zero scope holder w rest behind good e ends apart = cc
-  value_is (IfValue c a b) (suc d) scope holder w rest behind good e ends apart =
+      (primary_is p (suc d) scope holder w more _ good.0 e (and_false (is_atom p)) ∙ last_selection (levels_behind p (suc d)) scope left (primary_of p scope more) more refl)
+      (bar_is (levels_behind p (suc d)) d scope left (primary_of p scope more) (tail_of l scope rest) (tail_text l rest) rest s.0 (tail_is l d scope rest behind good.1 s.1 ends bare))
+  value_is (IfValue c a b) zero scope holder w rest behind good e ends bare = cc
+  value_is (IfValue c a b) (suc d) scope holder w rest behind good e ends bare =
       let s = stopped (or_else (deep_fault (suc d)) holder) _ _ e in
       passes (or_else (deep_fault (suc d)) holder) (value_text (IfValue c a b) rest) _ s.0 ∙ if_is c a b d (value_is c d) (value_is a d) (value_is b d) scope (length (value_text (IfValue c a b) rest)) rest behind good s.1
-  value_is (CaseValue c p v cs b) zero scope holder w rest behind good e ends apart = cc
-  value_is (CaseValue c p v cs b) (suc d) scope holder w rest behind good e ends apart =
+  value_is (CaseValue c p v cs b) zero scope holder w rest behind good e ends bare = cc
+  value_is (CaseValue c p v cs b) (suc d) scope holder w rest behind good e ends bare =
       let s = stopped (or_else (deep_fault (suc d)) holder) _ _ e in
       passes (or_else (deep_fault (suc d)) holder) (value_text (CaseValue c p v cs b) rest) _ s.0 ∙ case_is c p v cs b d (value_is c d) (value_is b d) (value_clauses_are cs p v d (value_is v d)) scope (length (value_text (CaseValue c p v cs b) rest)) rest behind good s.1
 
@@ -473,7 +254,7 @@ mutual
       let there = k.1 in
       subst (λ (m : ℕ). arguments_at (value_with d) scope m before (value_text v text) ≡ Ok (behind_values before (arguments_of (argument_and v vs) scope (t.CloseCurly ∷ rest)), rest)) (sym k.1)
       (arguments_more (value_with d) scope k.0 before (value_text v text) (value_in v scope text) text (value_open v text)
-      (value_is v d scope None what.ValueOrClose text _ good.0 (same_holder v scope d (argument_fault n most) text _ e) (arguments_stop vs rest) (moved_apart v text (arguments_text vs []) (arguments_round vs rest) good.1))
+      (value_is v d scope None what.ValueOrClose text _ good.0 (same_holder v scope d (argument_fault n most) text _ e) (arguments_stop vs rest) (moved_bare v text (arguments_text vs []) (arguments_round vs rest) good.1))
       ∙ arguments_are vs d scope k.0 (n + 1) most (with_last before (value_in v scope text)) rest behind (omega (arith, same, there)) good.2 (value_on v scope d (argument_fault n most) text _ e)
       ∙ ap (λ (us : Values). Ok (us, rest)) (one_behind before (value_in v scope text) (arguments_of vs scope (t.CloseCurly ∷ rest))))
 
@@ -485,7 +266,7 @@ mutual
   wanted_are (argument_and v vs) d scope (suc k) n most before rest behind same good e =
       let text : List Symbol = arguments_text vs (t.CloseCurly ∷ rest) in
       wanted_more (value_with d) scope k before (value_text v text) (value_in v scope text) text
-      (value_is v d scope None what.Value text _ good.0 (same_holder v scope d (argument_fault n most) text _ e) (arguments_stop vs rest) (moved_apart v text (arguments_text vs []) (arguments_round vs rest) good.1))
+      (value_is v d scope None what.Value text _ good.0 (same_holder v scope d (argument_fault n most) text _ e) (arguments_stop vs rest) (moved_bare v text (arguments_text vs []) (arguments_round vs rest) good.1))
       ∙ wanted_are vs d scope k (n + 1) most (with_last before (value_in v scope text)) rest behind (omega (arith, same)) good.2 (value_on v scope d (argument_fault n most) text _ e)
       ∙ ap (λ (us : Values). Ok (us, rest)) (one_behind before (value_in v scope text) (arguments_of vs scope (t.CloseCurly ∷ rest)))
 
@@ -496,7 +277,7 @@ mutual
       let text : List Symbol = fields_text fs (t.CloseRound ∷ rest) in
       let u : sugar.Value = value_in v scope text in
       let ok = value_holder v scope d (given_fault room before (place_feature m.2)) text _ e in
-      let one = value_is v d scope None what.FieldOrBracket text _ good.0 (same_holder v scope d (given_fault room before (place_feature m.2)) text _ e) (fields_stop fs rest) (moved_apart v text (fields_text fs []) (fields_round fs rest) good.1) in
+      let one = value_is v d scope None what.FieldOrBracket text _ good.0 (same_holder v scope d (given_fault room before (place_feature m.2)) text _ e) (fields_stop fs rest) (moved_bare v text (fields_text fs []) (fields_round fs rest) good.1) in
       ap (λ (r : Read FieldsSoFar). r >>= AsRecord left a) (placed_more (value_with d) scope room before m v u text same ok (stops_no_colon text (fields_stop fs rest)) one)
       ∙ fields_are fs d scope (fewer room) (place_feature m.2 ∷ before) (with_one (place_feature m.2) u (m.2 + 1) m) left a rest behind (same_more before m (place_feature m.2) u (m.2 + 1) same) good.2 (value_on v scope d (given_fault room before (place_feature m.2)) text _ e)
       ∙ ap (λ (i : ℕ). Ok (fields_in fs scope (m.2 + 1) i (with_field (place_feature m.2) (field_of u (count_values m.1)) m.0) (with_value m.1 u) (t.CloseRound ∷ rest) left a, rest)) (counted m.1 u)
@@ -504,7 +285,7 @@ mutual
       let text : List Symbol = fields_text fs (t.CloseRound ∷ rest) in
       let u : sugar.Value = value_in v scope text in
       let s = stopped (named_fault room before f) _ _ e in
-      let one = value_is v d scope None what.Value text _ good.0 s.1 (fields_stop fs rest) (moved_apart v text (fields_text fs []) (fields_round fs rest) good.1) in
+      let one = value_is v d scope None what.Value text _ good.0 s.1 (fields_stop fs rest) (moved_bare v text (fields_text fs []) (fields_round fs rest) good.1) in
       ap (λ (r : Read FieldsSoFar). r >>= AsRecord left a) (feature_more (value_with d) scope room before m f u (value_text v text) text same s.0 one)
       ∙ fields_are fs d scope (fewer room) (feature_of f ∷ before) (with_one (feature_of f) u m.2 m) left a rest behind (same_more before m (feature_of f) u m.2 same) good.2 (value_on v scope d None text _ s.1)
       ∙ ap (λ (i : ℕ). Ok (fields_in fs scope m.2 i (with_field (feature_of f) (field_of u (count_values m.1)) m.0) (with_value m.1 u) (t.CloseRound ∷ rest) left a, rest)) (counted m.1 u)
@@ -575,14 +356,14 @@ mutual
   statement_is (Tells x v) (suc d) scope w rest behind good e ends =
       let s = stopped (use_fault scope x) _ _ e in
       then_read (used_variable_at what.Statement scope (t.Variable x ∷ t.Equals ∷ value_text v rest)) _ _ _ (used_read what.Statement scope x (t.Equals ∷ value_text v rest) s.0)
-      (then_read (value_with (suc d) scope None what.Value (value_text v rest)) _ _ _ (value_is v (suc d) scope None what.Value rest behind good s.1 (closes_stops rest ends) (closes_apart v rest ends)) refl)
+      (then_read (value_with (suc d) scope None what.Value (value_text v rest)) _ _ _ (value_is v (suc d) scope None what.Value rest behind good s.1 (closes_stops rest ends) (closes_bare v rest ends)) refl)
   statement_is (CallsStatement p vs) zero scope w rest behind good e ends = cc
   statement_is (CallsStatement p vs) (suc d) scope w rest behind good e ends =
       let s = stopped (called_fault (built_in_at scope p) scope p) _ _ e in
       then_read (called_at (value_with (suc d)) AsStatement scope (built_in_at scope p) p (arguments_text vs (t.CloseCurly ∷ rest))) _ _ _ (statement_call_is (built_in_at scope p) vs p (suc d) (wanted_are vs (suc d)) (arguments_are vs (suc d)) scope rest behind good s.0 s.1) refl
   statement_is (Raises v) zero scope w rest behind good e ends = cc
   statement_is (Raises v) (suc d) scope w rest behind good e ends =
-      then_read (value_with (suc d) scope None what.Value (value_text v (t.End ∷ rest))) _ _ _ (value_is v (suc d) scope None what.Value (t.End ∷ rest) behind good e refl (and_false (ends_in_word v))) refl
+      then_read (value_with (suc d) scope None what.Value (value_text v (t.End ∷ rest))) _ _ _ (value_is v (suc d) scope None what.Value (t.End ∷ rest) behind good e refl (and_false (ends_in_atom v))) refl
   statement_is (Locals x xs q) zero scope w rest behind good e ends = cc
   statement_is (Locals x xs q) (suc d) scope w rest behind good e ends =
       then_read (locals_at (x ∷ []) (names_text xs (t.In ∷ sequence_text q (t.End ∷ rest)))) _ _ _ (locals_read xs (x ∷ []) (sequence_text q (t.End ∷ rest)) _ e)
@@ -612,7 +393,7 @@ mutual
       let more : List Symbol = sequence_text r (t.End ∷ rest) in
       let eq = value_on c scope (suc d) None _ _ e in
       let er = sequence_on q scope d _ _ eq in
-      then_read (value_with (suc d) scope None what.Value (value_text c (t.Then ∷ sequence_text q (t.Else ∷ more)))) _ _ _ (value_is c (suc d) scope None what.Value (t.Then ∷ sequence_text q (t.Else ∷ more)) _ good.0 e refl (and_false (ends_in_word c)))
+      then_read (value_with (suc d) scope None what.Value (value_text c (t.Then ∷ sequence_text q (t.Else ∷ more)))) _ _ _ (value_is c (suc d) scope None what.Value (t.Then ∷ sequence_text q (t.Else ∷ more)) _ good.0 e refl (and_false (ends_in_atom c)))
       (then_read (closed_at (statement_with d) closer.Else scope what.Statement (sequence_text q (t.Else ∷ more))) _ _ _
       (then_read (sequence_at (statement_with d) closer.Else scope what.Statement (sequence_text q (t.Else ∷ more))) _ _ _ (sequence_is q d closer.Else scope what.Statement (t.Else ∷ more) _ refl refl good.1 eq) refl)
       (then_read (body_at (statement_with d) scope more) _ _ _ (body_is r d (sequence_is r d) scope rest behind good.2 er) refl))
@@ -622,7 +403,7 @@ mutual
       let text : List Symbol = pattern_text p (t.Then ∷ sequence_text q (clauses_text cs (t.Else ∷ more))) in
       let ep = value_on c scope (suc d) None _ _ e in
       let er = clauses_on cs scope d _ _ (sequence_on q (scope ++ pattern_names p) d _ _ (pattern_on p scope _ _ ep)) in
-      then_read (value_with (suc d) scope None what.Value (value_text c (t.Of ∷ text))) _ _ _ (value_is c (suc d) scope None what.Value (t.Of ∷ text) _ good.0 e refl (and_false (ends_in_word c)))
+      then_read (value_with (suc d) scope None what.Value (value_text c (t.Of ∷ text))) _ _ _ (value_is c (suc d) scope None what.Value (t.Of ∷ text) _ good.0 e refl (and_false (ends_in_atom c)))
       (then_read (clauses_at (statement_with d) scope (length text + 1) sugar.no_cases text) _ _ _ (branches_are cs p q d (sequence_is q d) scope (length text + 1) sugar.no_cases more _ (omega arith) good.1 good.2 ep)
       (then_read (body_at (statement_with d) scope more) _ _ _ (body_is r d (sequence_is r d) scope rest behind good.3 er) refl))
   statement_is (Tries q x r) zero scope w rest behind good e ends = cc

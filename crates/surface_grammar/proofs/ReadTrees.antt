@@ -1,5 +1,5 @@
 -- What is derived and passes is read as its tree: values.
-use Rattle.std.proofs.Common.{◌≡◌, ◌∙◌, ℕ, zero, suc, ◌+◌, List, [], ◌∷◌, ◌++◌, length, Bool, true, false, Option, None, Ok, refl, sym, ap, arith, append_assoc}
+use Rattle.std.proofs.Common.{◌≡◌, ◌∙◌, ℕ, zero, suc, ◌+◌, List, [], ◌∷◌, ◌++◌, length, true, false, Option, None, Ok, refl, sym, ap, arith, append_assoc}
 use Rattle.std.proofs.lemmas.List.{append-nil}
 use Rattle.tree_node.specs.declared.node.Feature.{Feature}
 use Rattle.kernel_syntax.specs.declared.sugar.Operation.TheVariants as operation
@@ -15,26 +15,19 @@ use Rattle.oz_grammar.specs.Grammar.{Identifier, FeatureToken, AtomFeature, IntF
 use Rattle.oz_grammar.specs.Scoping.{Scope, feature_of}
 use Rattle.oz_grammar.specs.Faults.{or_else, room_fault, deep_fault, use_fault, number_fault, fewer}
 use Rattle.oz_grammar.specs.Check.{check_selection}
-use Rattle.oz_grammar.specs.Table.{selector_of}
+use Rattle.oz_grammar.specs.Table.{selector_of, features_in}
 use Rattle.oz_grammar.specs.Reading.{◌>>=◌, selection_at, is_close_round}
 use Rattle.oz_grammar.proofs.FieldOrder.{stopped, or_neither}
 use Rattle.oz_grammar.proofs.PartsChecked.{passes}
 use Rattle.surface_grammar.specs.declared.parts.Callable.{Callable}
-use Rattle.surface_grammar.specs.Derivations.{Primary, Name, Number, Word, Record, Calls, Procedure, Function, Brackets, Selects, Alone, Calculates, Tests, Pairs, IfValue, CaseValue, primary_text, value_text, begins_round, IsApart, ValueDerives}
+use Rattle.surface_grammar.specs.Derivations.{Primary, Variable, Integer, Atom, Record, Calls, Procedure, Function, Brackets, Selects, Alone, Calculates, Tests, Pairs, IfValue, CaseValue, primary_text, value_text, begins_round, StaysBare, ValueDerives}
 use Rattle.surface_grammar.specs.Derivations as tree
 use Rattle.surface_grammar.specs.Points.{formal_wrong, argument_fault, given_fault, named_fault}
 use Rattle.surface_grammar.specs.Check.{check_formals, check_primary, check_value}
 use Rattle.surface_grammar.specs.Trees.{with_last, with_value, value_in}
-use Rattle.surface_grammar.specs.Reading.{Read, ValueReader, Readers, on_level, is_close, arguments_at, FieldsSoFar, features_of, with_one, placed_at, field_at, fields_at, word_at, formals_at, selections_at, part_at, behind_head_at, behind_part_at, value_at, value_with}
-use Rattle.surface_grammar.proofs.Starts.{stops, is_no_colon}
-use Rattle.surface_grammar.proofs.ReadHeld.{Same, same_fault, argument_room}
-
--- ---- levels
-
--- where there is a level left
-pub level_left : (d : ℕ) → deep_fault d ≡ None → d ≡ suc (fewer d)
-level_left zero e = cc
-level_left (suc d) e = refl
+use Rattle.surface_grammar.specs.Reading.{Read, ValueReader, Readers, on_level, is_close, arguments_at, FieldsSoFar, with_one, placed_at, field_at, fields_at, atom_at, formals_at, selections_at, part_at, behind_head_at, behind_part_at, value_at, value_with}
+use Rattle.surface_grammar.proofs.Starts.{stops, is_no_colon, is_no_dot}
+use Rattle.surface_grammar.proofs.ReadFields.{Same, same_fault, argument_room}
 
 pub selection_checked : (s : Selection) (scope : Scope) (rest : List Symbol) (behind : Option Fault) → check_selection s scope rest behind ≡ None → selection_at scope (selection_symbol s ∷ rest) ≡ Ok (selector_of s scope, rest)
 selection_checked (ByVariable x) scope rest behind e = let s = stopped (use_fault scope x) _ behind e in rw s.0 refl
@@ -58,7 +51,7 @@ formals_checked (x ∷ xs) before c rest behind e =
 -- a value is read as its tree, with d levels, where it ends and passes
 abbrev pub ValueIs : ℕ → Type 0
 ValueIs d =
-    (v : tree.Value) (scope : Scope) (holder : Option FaultKind) (w : What) (rest : List Symbol) (behind : Option Fault) → ValueDerives v scope → check_value v scope d holder rest behind ≡ None → stops rest ≡ true → IsApart v rest
+    (v : tree.Value) (scope : Scope) (holder : Option FaultKind) (w : What) (rest : List Symbol) (behind : Option Fault) → ValueDerives v scope → check_value v scope d holder rest behind ≡ None → stops rest ≡ true → StaysBare v rest
     → value_with d scope holder w (value_text v rest) ≡ Ok (value_in v scope rest, rest)
 
 -- values behind others
@@ -76,9 +69,9 @@ none_behind (value_and u us) = ap (value_and u) (none_behind us)
 
 -- a value whose holder has something wrong does not pass
 pub primary_holder : (p : Primary) (scope : Scope) (d : ℕ) (holder : Option FaultKind) (rest : List Symbol) (behind : Option Fault) → check_primary p scope d holder rest behind ≡ None → holder ≡ None
-primary_holder (Name x) scope d holder rest behind e = (or_neither holder _ (stopped _ _ behind e).0).0
-primary_holder (Number n) scope d holder rest behind e = (or_neither (deep_fault d) holder (or_neither (number_fault n) _ (stopped _ _ behind e).0).1).1
-primary_holder (Word a) scope d holder rest behind e = (or_neither (deep_fault d) holder (stopped _ _ behind e).0).1
+primary_holder (Variable x) scope d holder rest behind e = (or_neither holder _ (stopped _ _ behind e).0).0
+primary_holder (Integer n) scope d holder rest behind e = (or_neither (deep_fault d) holder (or_neither (number_fault n) _ (stopped _ _ behind e).0).1).1
+primary_holder (Atom a) scope d holder rest behind e = (or_neither (deep_fault d) holder (stopped _ _ behind e).0).1
 primary_holder (Record a fs) scope d holder rest behind e = (or_neither (deep_fault d) holder (stopped _ _ _ e).0).1
 primary_holder (Calls p vs) scope d holder rest behind e = (or_neither (deep_fault d) holder (stopped _ _ _ e).0).1
 primary_holder (Procedure xs q) scope d holder rest behind e = (or_neither (deep_fault d) holder (stopped _ _ _ e).0).1
@@ -96,9 +89,9 @@ value_holder (CaseValue c p v cs b) scope d holder rest behind e = (or_neither (
 
 -- a value stands before the bracket of a call
 primary_open : (p : Primary) (rest : List Symbol) → is_close (primary_text p rest) ≡ false
-primary_open (Name x) rest = refl
-primary_open (Number n) rest = refl
-primary_open (Word a) rest = refl
+primary_open (Variable x) rest = refl
+primary_open (Integer n) rest = refl
+primary_open (Atom a) rest = refl
 primary_open (Record a fs) rest = refl
 primary_open (Calls p vs) rest = refl
 primary_open (Procedure xs q) rest = refl
@@ -116,9 +109,9 @@ value_open (CaseValue c p v cs b) rest = refl
 
 -- .. and of fields
 primary_round : (p : Primary) (rest : List Symbol) → is_close_round (primary_text p rest) ≡ false
-primary_round (Name x) rest = refl
-primary_round (Number n) rest = refl
-primary_round (Word a) rest = refl
+primary_round (Variable x) rest = refl
+primary_round (Integer n) rest = refl
+primary_round (Atom a) rest = refl
 primary_round (Record a fs) rest = refl
 primary_round (Calls p vs) rest = refl
 primary_round (Procedure xs q) rest = refl
@@ -153,10 +146,10 @@ room_left n (suc room) most e f = (room, refl)
 
 -- ---- what begins with one symbol
 
-pub word_plain : (value : ValueReader) (scope : Scope) (left : ℕ) (a : List ℕ) (rest : List Symbol) → begins_round rest ≡ false → word_at value scope left a rest ≡ Ok (sugar.Atom left a, rest)
-word_plain value scope left a [] e = refl
-word_plain value scope left a (t.OpenRound ∷ rest) e = absurd cc
-word_plain value scope left a (s ∷ rest) e = refl
+pub atom_plain : (value : ValueReader) (scope : Scope) (left : ℕ) (a : List ℕ) (rest : List Symbol) → begins_round rest ≡ false → atom_at value scope left a rest ≡ Ok (sugar.Atom left a, rest)
+atom_plain value scope left a [] e = refl
+atom_plain value scope left a (t.OpenRound ∷ rest) e = absurd cc
+atom_plain value scope left a (s ∷ rest) e = refl
 
 -- a value with so many levels left as a part
 abbrev pub AsPart : ℕ → sugar.Value × List Symbol → Read (sugar.Value × ℕ)
@@ -172,9 +165,9 @@ abbrev pub AsWhole : Readers → ℕ → Scope → Option FaultKind → What →
 AsWhole inner d scope holder w symbols = part_at inner d scope holder w symbols >>= λ q. behind_part_at inner scope (length symbols) q.0 q.1
 
 pub whole_at : (p : Primary) (inner : Readers) (d : ℕ) (scope : Scope) (holder : Option FaultKind) (w : What) (rest : List Symbol) → value_at inner d scope holder w (primary_text p rest) ≡ AsWhole inner d scope holder w (primary_text p rest)
-whole_at (Name x) inner d scope holder w rest = refl
-whole_at (Number n) inner d scope holder w rest = refl
-whole_at (Word a) inner d scope holder w rest = refl
+whole_at (Variable x) inner d scope holder w rest = refl
+whole_at (Integer n) inner d scope holder w rest = refl
+whole_at (Atom a) inner d scope holder w rest = refl
 whole_at (Record a fs) inner d scope holder w rest = refl
 whole_at (Calls p vs) inner d scope holder w rest = refl
 whole_at (Procedure xs q) inner d scope holder w rest = refl
@@ -182,12 +175,7 @@ whole_at (Function xs v) inner d scope holder w rest = refl
 whole_at (Brackets v) inner d scope holder w rest = refl
 whole_at (Selects p s) inner d scope holder w rest = whole_at p inner d scope holder w _
 
--- no dot stands behind a part
-abbrev pub no_dot : List Symbol → Bool
-no_dot (t.Dot ∷ rest) = false
-no_dot symbols = true
-
-pub last_selection : (r : ℕ) (scope : Scope) (left : ℕ) (v : sugar.Value) (rest : List Symbol) → no_dot rest ≡ true → selections_at r scope left v rest ≡ Ok ((v, r), rest)
+pub last_selection : (r : ℕ) (scope : Scope) (left : ℕ) (v : sugar.Value) (rest : List Symbol) → is_no_dot rest ≡ true → selections_at r scope left v rest ≡ Ok ((v, r), rest)
 last_selection zero scope left v [] e = refl
 last_selection zero scope left v (t.Dot ∷ rest) e = absurd cc
 last_selection zero scope left v (s ∷ rest) e = refl
@@ -195,7 +183,7 @@ last_selection (suc r) scope left v [] e = refl
 last_selection (suc r) scope left v (t.Dot ∷ rest) e = absurd cc
 last_selection (suc r) scope left v (s ∷ rest) e = refl
 
-pub stops_no_dot : (rest : List Symbol) → stops rest ≡ true → no_dot rest ≡ true
+pub stops_no_dot : (rest : List Symbol) → stops rest ≡ true → is_no_dot rest ≡ true
 stops_no_dot [] e = absurd cc
 stops_no_dot (t.Dot ∷ rest) e = absurd cc
 stops_no_dot (s ∷ rest) e = refl
@@ -232,13 +220,13 @@ counted vs (sugar.Brackets left u) = counted_last vs _
 
 -- a field without a feature is no other
 primary_placed : (p : Primary) (value : ValueReader) (scope : Scope) (room : ℕ) (m : FieldsSoFar) (rest : List Symbol) → is_no_colon rest ≡ true → field_at value scope room m (primary_text p rest) ≡ placed_at value scope room m (primary_text p rest)
-primary_placed (Name x) value scope room m rest e = refl
-primary_placed (Number n) value scope room m [] e = refl
-primary_placed (Number n) value scope room m (t.Colon ∷ rest) e = absurd cc
-primary_placed (Number n) value scope room m (s ∷ rest) e = refl
-primary_placed (Word a) value scope room m [] e = refl
-primary_placed (Word a) value scope room m (t.Colon ∷ rest) e = absurd cc
-primary_placed (Word a) value scope room m (s ∷ rest) e = refl
+primary_placed (Variable x) value scope room m rest e = refl
+primary_placed (Integer n) value scope room m [] e = refl
+primary_placed (Integer n) value scope room m (t.Colon ∷ rest) e = absurd cc
+primary_placed (Integer n) value scope room m (s ∷ rest) e = refl
+primary_placed (Atom a) value scope room m [] e = refl
+primary_placed (Atom a) value scope room m (t.Colon ∷ rest) e = absurd cc
+primary_placed (Atom a) value scope room m (s ∷ rest) e = refl
 primary_placed (Record a fs) value scope room m rest e = refl
 primary_placed (Calls p vs) value scope room m rest e = refl
 primary_placed (Procedure xs q) value scope room m rest e = refl
@@ -267,11 +255,11 @@ fields_more value scope room m symbols next rest o e = rw (o, e) refl
 pub named_more : (value : ValueReader) (scope : Scope) (room : ℕ) (before : List Feature) (m : FieldsSoFar) (f : FeatureToken) (v : sugar.Value) (text rest : List Symbol) → Same before m → named_fault (suc room) before f ≡ None → value scope None what.Value text ≡ Ok (v, rest)
     → fields_at value scope (suc room) m (feature_symbol f ∷ t.Colon ∷ text) ≡ fields_at value scope room (with_one (feature_of f) v m.2 m) rest
 named_more value scope room before m (AtomFeature a) v text rest same ok e =
-    let given : given_fault (suc room) (features_of m.0) (feature_of (AtomFeature a)) ≡ None = sym (same_fault (suc room) before m (feature_of (AtomFeature a)) same) ∙ ok in
+    let given : given_fault (suc room) (features_in m.0) (feature_of (AtomFeature a)) ≡ None = sym (same_fault (suc room) before m (feature_of (AtomFeature a)) same) ∙ ok in
     fields_more value scope room m (t.Atom a ∷ t.Colon ∷ text) (with_one (feature_of (AtomFeature a)) v m.2 m) rest refl (rw (given, e) refl)
 named_more value scope room before m (IntFeature n) v text rest same ok e =
     let both = or_neither (number_fault n) _ ok in
-    let given : given_fault (suc room) (features_of m.0) (feature_of (IntFeature n)) ≡ None = sym (same_fault (suc room) before m (feature_of (IntFeature n)) same) ∙ both.1 in
+    let given : given_fault (suc room) (features_in m.0) (feature_of (IntFeature n)) ≡ None = sym (same_fault (suc room) before m (feature_of (IntFeature n)) same) ∙ both.1 in
     fields_more value scope room m (t.Integer n ∷ t.Colon ∷ text) (with_one (feature_of (IntFeature n)) v m.2 m) rest refl (rw (both.0, given, e) refl)
 
 pub given_room : (room : ℕ) (before : List Feature) (f : Feature) → given_fault room before f ≡ None → room ≡ suc (fewer room)

@@ -3,7 +3,7 @@ use Rattle.std.proofs.Common.{◌≡◌, ◌∙◌, ℕ, zero, suc, ◌+◌, ◌
 use Rattle.kernel_syntax.specs.declared.sugar.Operation.{Operation}
 use Rattle.kernel_syntax.specs.declared.sugar.Operation.TheVariants as operation
 use Rattle.kernel_syntax.specs.Sugar as sugar
-use Rattle.kernel_syntax.specs.Sugar.{Value, Values, no_values, value_and, Statement, Statements}
+use Rattle.kernel_syntax.specs.Sugar.{Value, no_values, value_and}
 use Rattle.oz_grammar.specs.declared.symbol.Symbol.{Symbol}
 use Rattle.oz_grammar.specs.declared.symbol.Symbol.TheVariants as t
 use Rattle.oz_grammar.specs.declared.symbol.Sign.TheVariants as sign
@@ -18,7 +18,7 @@ use Rattle.oz_grammar.specs.Reading.{◌>>=◌, fault_expected, selection_at}
 use Rattle.oz_grammar.specs.Automata.{then_points, is_done}
 use Rattle.surface_grammar.specs.declared.parts.CallUse.TheVariants.{AsValue}
 use Rattle.surface_grammar.specs.declared.parts.Callable.TheVariants.{OfProc, OfFun}
-use Rattle.surface_grammar.specs.Points.{Extent, Whole, Part, Rest, Closing, Point, At, Here, ValueOf, OperandOf, TailOf, Behind, BehindWord, CallName, Formals, SelectionOf, PatternOf, OfValue, next_primary, beside, expected_statement, value_fault, run}
+use Rattle.surface_grammar.specs.Points.{Extent, Whole, Part, Rest, Closing, Point, At, Here, ValueOf, OperandOf, TailOf, Behind, BehindAtom, CallName, Formals, SelectionOf, PatternOf, OfValue, next_primary, beside, expected_statement, value_fault, run}
 use Rattle.surface_grammar.specs.Reading.{Read, on_level, begins_compound, variable_at, integer_at, primary_at, selections_at, part_at, behind_head_at, second_at, behind_part_at, operand_at, tail_at, compound_at, if_value_at, case_value_at, readers_over, below, value_with, statement_with}
 use Rattle.surface_grammar.specs.Trees.{pair_value}
 use Rattle.surface_grammar.proofs.Starts.{is_first, if_points, case_points, begins_by, first_whole}
@@ -184,7 +184,7 @@ integer_read extent scope d holder w n i rest points behind p le =
 
 -- the points inside a primary of several symbols
 inside_of : Extent → Scope → ℕ → Symbol → List Point
-inside_of extent scope d (t.Atom a) = BehindWord extent scope d ∷ []
+inside_of extent scope d (t.Atom a) = BehindAtom extent scope d ∷ []
 inside_of extent scope d t.OpenCurly = CallName AsValue scope (fewer d) ∷ Behind extent scope d (fewer d) ∷ []
 inside_of extent scope d t.Proc = Here sign.OpenCurly ∷ Here sign.Dollar ∷ Formals OfProc scope [] (fewer d) ∷ Behind extent scope d (fewer d) ∷ []
 inside_of extent scope d t.Fun = Here sign.OpenCurly ∷ Here sign.Dollar ∷ Formals OfFun scope [] (fewer d) ∷ Behind extent scope d (fewer d) ∷ []

@@ -8,7 +8,7 @@ use Rattle.oz_grammar.specs.Grammar.{FeatureToken, AtomFeature, IntFeature}
 use Rattle.oz_grammar.specs.Scoping.{Scope, place_feature}
 use Rattle.oz_grammar.specs.Faults.{deep_fault, fewer}
 use Rattle.oz_grammar.specs.Automata.{Look, Alone, ByColon, has_colon, SameRole}
-use Rattle.surface_grammar.specs.Points.{Whole, Part, Rest, Point, Behind, BehindWord, FieldOf, FieldBegun, next_behind, next_word, next_begun, where_taken, value_fault, given_fault, named_fault, field_fault, word_wrong, begun_wrong, next, wrong}
+use Rattle.surface_grammar.specs.Points.{Whole, Part, Rest, Point, Behind, BehindAtom, FieldOf, FieldBegun, next_behind, next_atom, next_begun, where_taken, value_fault, given_fault, named_fault, field_fault, atom_wrong, begun_wrong, next, wrong}
 
 -- what tells the role of a symbol at a field
 abbrev pub role_of : Symbol → Look
@@ -20,7 +20,7 @@ role_of symbol = Alone
 abbrev pub look : List Point → Symbol → Look
 look [] x = Alone
 look (Behind extent scope d r ∷ σ) x = look σ x
-look (BehindWord extent scope d ∷ σ) x = look σ x
+look (BehindAtom extent scope d ∷ σ) x = look σ x
 look (FieldOf scope d room before next ∷ σ) x = role_of x
 look (FieldBegun scope d room before next m ∷ σ) x = role_of x
 look (p ∷ σ) x = Alone
@@ -49,7 +49,7 @@ field_roles scope d room before nth x a b h = refl
 pub roles : (σ : List Point) (x : Symbol) (a b : List Symbol) → SameRole (look σ x) (x ∷ a) (x ∷ b) → wrong σ (x ∷ a) ≡ wrong σ (x ∷ b)
 roles [] x a b h = refl
 roles (Behind extent scope d r ∷ σ) x a b h = ap (where_taken (next_behind extent scope d r x) (deep_fault r)) (roles σ x a b h)
-roles (BehindWord extent scope d ∷ σ) x a b h = ap (where_taken (next_word extent scope d x) (word_wrong d x)) (roles σ x a b h)
+roles (BehindAtom extent scope d ∷ σ) x a b h = ap (where_taken (next_atom extent scope d x) (atom_wrong d x)) (roles σ x a b h)
 roles (FieldOf scope d room before nth ∷ σ) x a b h = field_roles scope d room before nth x a b h
 roles (FieldBegun scope d room before nth m ∷ σ) x a b h =
     ap (where_taken (next_begun scope d room before nth m x) (begun_wrong d x)) (field_roles scope d (fewer room) (place_feature nth ∷ before) (nth + 1) x a b h)
@@ -85,9 +85,9 @@ atom_begun [] τ a l e = absurd cc
 atom_begun (Behind Whole scope d r ∷ σ) τ a l e = atom_begun σ τ a l e
 atom_begun (Behind Part scope d r ∷ σ) τ a l e = atom_begun σ τ a l e
 atom_begun (Behind Rest scope d r ∷ σ) τ a l e = atom_begun σ τ a l e
-atom_begun (BehindWord Whole scope d ∷ σ) τ a l e = atom_begun σ τ a l e
-atom_begun (BehindWord Part scope d ∷ σ) τ a l e = atom_begun σ τ a l e
-atom_begun (BehindWord Rest scope d ∷ σ) τ a l e = atom_begun σ τ a l e
+atom_begun (BehindAtom Whole scope d ∷ σ) τ a l e = atom_begun σ τ a l e
+atom_begun (BehindAtom Part scope d ∷ σ) τ a l e = atom_begun σ τ a l e
+atom_begun (BehindAtom Rest scope d ∷ σ) τ a l e = atom_begun σ τ a l e
 atom_begun (FieldOf scope d room before nth ∷ σ) τ a l e = begun scope d room before nth (AtomFeature a) σ τ e
 atom_begun (FieldBegun scope d room before nth (AtomFeature b) ∷ σ) τ a l e = begun scope d (fewer room) (place_feature nth ∷ before) (nth + 1) (AtomFeature a) σ τ e
 atom_begun (FieldBegun scope d room before nth (IntFeature n) ∷ σ) τ a l e = begun scope d (fewer room) (place_feature nth ∷ before) (nth + 1) (AtomFeature a) σ τ e
@@ -98,9 +98,9 @@ integer_begun [] τ i l e = absurd cc
 integer_begun (Behind Whole scope d r ∷ σ) τ i l e = integer_begun σ τ i l e
 integer_begun (Behind Part scope d r ∷ σ) τ i l e = integer_begun σ τ i l e
 integer_begun (Behind Rest scope d r ∷ σ) τ i l e = integer_begun σ τ i l e
-integer_begun (BehindWord Whole scope d ∷ σ) τ i l e = integer_begun σ τ i l e
-integer_begun (BehindWord Part scope d ∷ σ) τ i l e = integer_begun σ τ i l e
-integer_begun (BehindWord Rest scope d ∷ σ) τ i l e = integer_begun σ τ i l e
+integer_begun (BehindAtom Whole scope d ∷ σ) τ i l e = integer_begun σ τ i l e
+integer_begun (BehindAtom Part scope d ∷ σ) τ i l e = integer_begun σ τ i l e
+integer_begun (BehindAtom Rest scope d ∷ σ) τ i l e = integer_begun σ τ i l e
 integer_begun (FieldOf scope d room before nth ∷ σ) τ i l e = begun scope d room before nth (IntFeature i) σ τ e
 integer_begun (FieldBegun scope d room before nth (AtomFeature b) ∷ σ) τ i l e = begun scope d (fewer room) (place_feature nth ∷ before) (nth + 1) (IntFeature i) σ τ e
 integer_begun (FieldBegun scope d room before nth (IntFeature n) ∷ σ) τ i l e = begun scope d (fewer room) (place_feature nth ∷ before) (nth + 1) (IntFeature i) σ τ e
@@ -109,7 +109,7 @@ integer_begun (p ∷ σ) τ i l e = absurd cc
 no_role : (σ : List Point) (x : Symbol) → role_of x ≡ Alone → look σ x ≡ Alone
 no_role [] x e = refl
 no_role (Behind extent scope d r ∷ σ) x e = no_role σ x e
-no_role (BehindWord extent scope d ∷ σ) x e = no_role σ x e
+no_role (BehindAtom extent scope d ∷ σ) x e = no_role σ x e
 no_role (FieldOf scope d room before nth ∷ σ) x e = e
 no_role (FieldBegun scope d room before nth m ∷ σ) x e = e
 no_role (p ∷ σ) x e = refl

@@ -17,15 +17,15 @@ use Rattle.oz_grammar.specs.declared.fault.FaultKind.TheVariants.{Wide}
 use Rattle.oz_grammar.specs.Faults.{where_not, fewer, deep_fault, use_fault, called_fault, site_fault}
 use Rattle.oz_grammar.specs.Check.{first_fault, check_locals, check_pattern}
 use Rattle.oz_grammar.specs.Points.{Stage, First, AfterThread, Later}
-use Rattle.surface_grammar.specs.Derivations.{Primary, Name, Number, Word, Record, Calls, Procedure, Function, Brackets, Selects, Tail, Last, More, Value, Alone, Calculates, Tests, Pairs, IfValue, CaseValue, Arguments, no_arguments, argument_and, no_fields, placed_and, named_and, ValueClauses, no_clauses, clause_and, Statement, Skips, Tells, CallsStatement, Raises, Locals, ProcNamed, FunNamed, Threads, ThreadsAt, Ifs, Cases, Tries, TriesFinally, Finally, Clauses, no_cases, case_and, Sequence, One, Then, primary_text, tail_text, value_text, arguments_text, fields_text, value_clauses_text, statement_text, clauses_text, sequence_text, program_text, is_word, tail_ends_in_word, ends_in_word, begins_round, IsApart, count_arguments, HasAllArguments, LacksOneArgument, PrimaryDerives, TailDerives, ValueDerives, ArgumentsDerive, FieldsDerive, ValueClausesDerive, StatementDerives, ClausesDerive, SequenceDerives, IsDerivation}
+use Rattle.surface_grammar.specs.Derivations.{Primary, Variable, Integer, Atom, Record, Calls, Procedure, Function, Brackets, Selects, Tail, Last, More, Value, Alone, Calculates, Tests, Pairs, IfValue, CaseValue, Arguments, no_arguments, argument_and, no_fields, placed_and, named_and, ValueClauses, no_clauses, clause_and, Statement, Skips, Tells, CallsStatement, Raises, Locals, ProcNamed, FunNamed, Threads, ThreadsAt, Ifs, Cases, Tries, TriesFinally, Finally, Clauses, no_cases, case_and, Sequence, One, Then, primary_text, tail_text, value_text, arguments_text, fields_text, value_clauses_text, statement_text, clauses_text, sequence_text, program_text, is_atom, tail_ends_in_atom, ends_in_atom, begins_round, StaysBare, count_arguments, HasAllArguments, LacksOneArgument, PrimaryDerives, TailDerives, ValueDerives, ArgumentsDerive, FieldsDerive, ValueClausesDerive, StatementDerives, ClausesDerive, SequenceDerives, IsDerivation}
 use Rattle.surface_grammar.specs.Derivations as tree
 use Rattle.oz_grammar.specs.Automata.{is_done}
 use Rattle.surface_grammar.specs.declared.parts.CallUse.TheVariants.{AsValue, AsStatement}
 use Rattle.surface_grammar.specs.declared.parts.Callable.TheVariants.{OfProc, OfFun}
-use Rattle.surface_grammar.specs.Points.{Extent, Whole, Part, Rest, OfValue, OfStatements, Closing, Ends, BeforeElse, InClause, InTry, InHandler, WithText, Point, At, Here, Formals, ValueOf, OperandOf, TailOf, Behind, BehindWord, FieldOf, CallName, Wanted, PatternOf, ClauseEnd, value_fault, given_fault, named_fault, argument_fault, next_call, behind_placed, run, start}
+use Rattle.surface_grammar.specs.Points.{Extent, Whole, Part, Rest, OfValue, OfStatements, Closing, Ends, BeforeElse, InClause, InTry, InHandler, WithText, Point, At, Here, Formals, ValueOf, OperandOf, TailOf, Behind, BehindAtom, FieldOf, CallName, Wanted, ClauseEnd, value_fault, given_fault, named_fault, argument_fault, next_call, behind_placed, run, start}
 use Rattle.surface_grammar.specs.Points as points
 use Rattle.surface_grammar.specs.Check.{levels_behind, most_arguments, check_formals, check_primary, check_tail, check_value, check_arguments, check_fields, check_value_clauses, check_statement, check_clauses, check_sequence, check}
-use Rattle.surface_grammar.proofs.Starts.{stops, is_no_colon, stops_no_colon, primary_behind, word_behind, IsStart, IsValueStart, value_start, operand_start, tail_start, argument_start, wanted_start, field_start}
+use Rattle.surface_grammar.proofs.Starts.{stops, is_no_colon, stops_no_colon, primary_behind, atom_behind, IsStart, IsValueStart, value_start, operand_start, tail_start, argument_start, wanted_start, field_start}
 use Rattle.surface_grammar.proofs.PartRuns.{locals_run, formals_run, selection_run, pattern_run}
 
 -- ---- what follows values
@@ -35,9 +35,9 @@ and_false true = refl
 and_false false = refl
 
 primary_stops : (p : Primary) (rest : List Symbol) → stops (primary_text p rest) ≡ true
-primary_stops (Name x) rest = refl
-primary_stops (Number n) rest = refl
-primary_stops (Word a) rest = refl
+primary_stops (Variable x) rest = refl
+primary_stops (Integer n) rest = refl
+primary_stops (Atom a) rest = refl
 primary_stops (Record a fs) rest = refl
 primary_stops (Calls p vs) rest = refl
 primary_stops (Procedure xs q) rest = refl
@@ -54,9 +54,9 @@ value_stops (IfValue e a b) rest = refl
 value_stops (CaseValue e p v cs b) rest = refl
 
 primary_round : (p : Primary) (a b : List Symbol) → begins_round (primary_text p a) ≡ begins_round (primary_text p b)
-primary_round (Name x) a b = refl
-primary_round (Number n) a b = refl
-primary_round (Word x) a b = refl
+primary_round (Variable x) a b = refl
+primary_round (Integer n) a b = refl
+primary_round (Atom x) a b = refl
 primary_round (Record x fs) a b = refl
 primary_round (Calls p vs) a b = refl
 primary_round (Procedure xs q) a b = refl
@@ -113,10 +113,10 @@ closes_stops (t.Colon ∷ rest) e = absurd cc
 closes_stops (t.OpenRound ∷ rest) e = absurd cc
 closes_stops (s ∷ rest) e = refl
 
-pub closes_apart : (v : Value) (rest : List Symbol) → closes rest ≡ true → IsApart v rest
-closes_apart v [] e = absurd cc
-closes_apart v (t.OpenRound ∷ rest) e = absurd cc
-closes_apart v (s ∷ rest) e = and_false (ends_in_word v)
+pub closes_bare : (v : Value) (rest : List Symbol) → closes rest ≡ true → StaysBare v rest
+closes_bare v [] e = absurd cc
+closes_bare v (t.OpenRound ∷ rest) e = absurd cc
+closes_bare v (s ∷ rest) e = and_false (ends_in_atom v)
 
 statement_closes : (s : Statement) (rest : List Symbol) → closes (statement_text s rest) ≡ true
 statement_closes Skips rest = refl
@@ -146,8 +146,8 @@ pub clauses_close : (cs : Clauses) (rest : List Symbol) → closes (clauses_text
 clauses_close no_cases rest = refl
 clauses_close (case_and p q cs) rest = refl
 
-pub moved_apart : (v : Value) (a b : List Symbol) → begins_round a ≡ begins_round b → IsApart v b → IsApart v a
-moved_apart v a b e h = ap (λ (x : Bool). ends_in_word v && x) e ∙ h
+pub moved_bare : (v : Value) (a b : List Symbol) → begins_round a ≡ begins_round b → StaysBare v b → StaysBare v a
+moved_bare v a b e h = ap (λ (x : Bool). ends_in_atom v && x) e ∙ h
 
 -- ---- calls
 
@@ -186,93 +186,93 @@ statement_call (Some b) vs scope d rest σ good all wanted = let few = arity_few
 
 mutual
   pub primary_run : (p : Primary) (q : Point) (extent : Extent) (scope : Scope) (d : ℕ) (holder : Option FaultKind) (others : List Point) (rest : List Symbol) (σ : List Point) → IsStart q extent scope d holder others → PrimaryDerives p scope → is_no_colon rest ≡ true
-      → (is_word p && begins_round rest) ≡ false → run (primary_text p rest) (q ∷ σ) ≡ check_primary p scope d holder rest (run rest (Behind extent scope d (levels_behind p d) ∷ (others ++ σ)))
-  primary_run (Name x) q extent scope d holder others rest σ start good colon apart = start.begins (t.Variable x) rest σ (Behind extent scope d d ∷ []) refl colon refl
-  primary_run (Number n) q extent scope d holder others rest σ start good colon apart = start.begins (t.Integer n) rest σ (Behind extent scope d (fewer d) ∷ []) refl colon refl
-  primary_run (Word a) q extent scope d holder others rest σ start good colon apart =
-      start.begins (t.Atom a) rest σ (BehindWord extent scope d ∷ []) refl colon refl ∙ ap (first_fault (value_fault scope d holder (t.Atom a)) (t.Atom a ∷ rest)) (word_behind extent scope d rest (others ++ σ) apart)
-  primary_run (Record a fs) q extent scope d holder others rest σ start good colon apart =
-      start.begins (t.Atom a) (t.OpenRound ∷ fields_text fs (t.CloseRound ∷ rest)) σ (BehindWord extent scope d ∷ []) refl refl refl
+      → (is_atom p && begins_round rest) ≡ false → run (primary_text p rest) (q ∷ σ) ≡ check_primary p scope d holder rest (run rest (Behind extent scope d (levels_behind p d) ∷ (others ++ σ)))
+  primary_run (Variable x) q extent scope d holder others rest σ start good colon bare = start.begins (t.Variable x) rest σ (Behind extent scope d d ∷ []) refl colon refl
+  primary_run (Integer n) q extent scope d holder others rest σ start good colon bare = start.begins (t.Integer n) rest σ (Behind extent scope d (fewer d) ∷ []) refl colon refl
+  primary_run (Atom a) q extent scope d holder others rest σ start good colon bare =
+      start.begins (t.Atom a) rest σ (BehindAtom extent scope d ∷ []) refl colon refl ∙ ap (first_fault (value_fault scope d holder (t.Atom a)) (t.Atom a ∷ rest)) (atom_behind extent scope d rest (others ++ σ) bare)
+  primary_run (Record a fs) q extent scope d holder others rest σ start good colon bare =
+      start.begins (t.Atom a) (t.OpenRound ∷ fields_text fs (t.CloseRound ∷ rest)) σ (BehindAtom extent scope d ∷ []) refl refl refl
       ∙ ap (first_fault (value_fault scope d holder (t.Atom a)) _) (fields_run fs scope (fewer d) 64 [] 1 rest (Behind extent scope d (fewer d) ∷ (others ++ σ)) good)
-  primary_run (Calls p vs) q extent scope d holder others rest σ start good colon apart =
+  primary_run (Calls p vs) q extent scope d holder others rest σ start good colon bare =
       start.begins t.OpenCurly (t.Variable p ∷ arguments_text vs (t.CloseCurly ∷ rest)) σ (CallName AsValue scope (fewer d) ∷ Behind extent scope d (fewer d) ∷ []) refl refl refl
       ∙ ap (λ (f : Option Fault). first_fault (value_fault scope d holder t.OpenCurly) (primary_text (Calls p vs) rest) (first_fault (called_fault (built_in_at scope p) scope p) (t.Variable p ∷ arguments_text vs (t.CloseCurly ∷ rest)) f))
       (value_call (built_in_at scope p) vs scope (fewer d) rest (Behind extent scope d (fewer d) ∷ (others ++ σ)) good.0
       (λ e n most. arguments_run vs scope e n most rest (Behind extent scope d (fewer d) ∷ (others ++ σ)) good.1) (λ e k n all few. wanted_run vs scope e k n rest (Behind extent scope d (fewer d) ∷ (others ++ σ)) good.1 all few))
-  primary_run (Procedure xs b) q extent scope d holder others rest σ start good colon apart =
+  primary_run (Procedure xs b) q extent scope d holder others rest σ start good colon bare =
       start.begins t.Proc (t.OpenCurly ∷ t.Dollar ∷ names_text xs (t.CloseCurly ∷ sequence_text b (t.End ∷ rest))) σ (Here sign.OpenCurly ∷ Here sign.Dollar ∷ Formals OfProc scope [] (fewer d) ∷ Behind extent scope d (fewer d) ∷ []) refl refl refl
       ∙ ap (first_fault (value_fault scope d holder t.Proc) _)
       (formals_run xs [] OfProc scope (fewer d) (sequence_text b (t.End ∷ rest)) (Behind extent scope d (fewer d) ∷ (others ++ σ))
       ∙ ap (check_formals OfProc [] xs (t.CloseCurly ∷ sequence_text b (t.End ∷ rest))) (sequence_run b First Ends (scope ++ xs) (fewer d) (t.End ∷ rest) (Behind extent scope d (fewer d) ∷ (others ++ σ)) refl good))
-  primary_run (Function xs v) q extent scope d holder others rest σ start good colon apart =
+  primary_run (Function xs v) q extent scope d holder others rest σ start good colon bare =
       start.begins t.Fun (t.OpenCurly ∷ t.Dollar ∷ names_text xs (t.CloseCurly ∷ value_text v (t.End ∷ rest))) σ (Here sign.OpenCurly ∷ Here sign.Dollar ∷ Formals OfFun scope [] (fewer d) ∷ Behind extent scope d (fewer d) ∷ []) refl refl refl
       ∙ ap (first_fault (value_fault scope d holder t.Fun) _)
       (formals_run xs [] OfFun scope (fewer d) (value_text v (t.End ∷ rest)) (Behind extent scope d (fewer d) ∷ (others ++ σ))
       ∙ ap (check_formals OfFun [] xs (t.CloseCurly ∷ value_text v (t.End ∷ rest)))
-      (value_run v (ValueOf (scope ++ xs) (fewer d)) (scope ++ xs) (fewer d) None [] (t.End ∷ rest) (Here sign.End ∷ Behind extent scope d (fewer d) ∷ (others ++ σ)) (value_start (scope ++ xs) (fewer d)) good refl (and_false (ends_in_word v)) refl))
-  primary_run (Brackets v) q extent scope d holder others rest σ start good colon apart =
+      (value_run v (ValueOf (scope ++ xs) (fewer d)) (scope ++ xs) (fewer d) None [] (t.End ∷ rest) (Here sign.End ∷ Behind extent scope d (fewer d) ∷ (others ++ σ)) (value_start (scope ++ xs) (fewer d)) good refl (and_false (ends_in_atom v)) refl))
+  primary_run (Brackets v) q extent scope d holder others rest σ start good colon bare =
       start.begins t.OpenRound (value_text v (t.CloseRound ∷ rest)) σ (ValueOf scope (fewer d) ∷ Here sign.CloseRound ∷ Behind extent scope d (fewer d) ∷ []) refl (stops_no_colon _ (value_stops v (t.CloseRound ∷ rest))) refl
       ∙ ap (first_fault (value_fault scope d holder t.OpenRound) _)
-      (value_run v (ValueOf scope (fewer d)) scope (fewer d) None [] (t.CloseRound ∷ rest) (Here sign.CloseRound ∷ Behind extent scope d (fewer d) ∷ (others ++ σ)) (value_start scope (fewer d)) good refl (and_false (ends_in_word v)) refl)
-  primary_run (Selects p s) q extent scope d holder others rest σ start good colon apart =
-      primary_run p q extent scope d holder others (t.Dot ∷ selection_symbol s ∷ rest) σ start good refl (and_false (is_word p))
+      (value_run v (ValueOf scope (fewer d)) scope (fewer d) None [] (t.CloseRound ∷ rest) (Here sign.CloseRound ∷ Behind extent scope d (fewer d) ∷ (others ++ σ)) (value_start scope (fewer d)) good refl (and_false (ends_in_atom v)) refl)
+  primary_run (Selects p s) q extent scope d holder others rest σ start good colon bare =
+      primary_run p q extent scope d holder others (t.Dot ∷ selection_symbol s ∷ rest) σ start good refl (and_false (is_atom p))
       ∙ ap (check_primary p scope d holder (t.Dot ∷ selection_symbol s ∷ rest)) (selection_run s extent scope d (levels_behind p d) rest (others ++ σ))
 
-  pub tail_run : (l : Tail) (scope : Scope) (d : ℕ) (rest : List Symbol) (σ : List Point) → TailDerives l scope → is_done σ ≡ false → stops rest ≡ true → (tail_ends_in_word l && begins_round rest) ≡ false
+  pub tail_run : (l : Tail) (scope : Scope) (d : ℕ) (rest : List Symbol) (σ : List Point) → TailDerives l scope → is_done σ ≡ false → stops rest ≡ true → (tail_ends_in_atom l && begins_round rest) ≡ false
       → run (tail_text l rest) (TailOf scope d ∷ σ) ≡ check_tail l scope d rest (run rest σ)
-  tail_run (Last p) scope d rest σ good goes ends apart =
-      primary_run p (TailOf scope d) Rest scope d None [] rest σ (tail_start scope d) good (stops_no_colon rest ends) apart
+  tail_run (Last p) scope d rest σ good goes ends bare =
+      primary_run p (TailOf scope d) Rest scope d None [] rest σ (tail_start scope d) good (stops_no_colon rest ends) bare
       ∙ ap (check_primary p scope d None rest) (primary_behind Rest scope d (levels_behind p d) rest σ goes ends)
-  tail_run (More p l) scope d rest σ good goes ends apart =
-      primary_run p (TailOf scope d) Rest scope d None [] (t.Bar ∷ tail_text l rest) σ (tail_start scope d) good.0 refl (and_false (is_word p))
-      ∙ ap (λ (f : Option Fault). check_primary p scope d None (t.Bar ∷ tail_text l rest) (first_fault (deep_fault (levels_behind p d)) (t.Bar ∷ tail_text l rest) f)) (tail_run l scope (fewer d) rest σ good.1 goes ends apart)
+  tail_run (More p l) scope d rest σ good goes ends bare =
+      primary_run p (TailOf scope d) Rest scope d None [] (t.Bar ∷ tail_text l rest) σ (tail_start scope d) good.0 refl (and_false (is_atom p))
+      ∙ ap (λ (f : Option Fault). check_primary p scope d None (t.Bar ∷ tail_text l rest) (first_fault (deep_fault (levels_behind p d)) (t.Bar ∷ tail_text l rest) f)) (tail_run l scope (fewer d) rest σ good.1 goes ends bare)
 
-  pub value_run : (v : Value) (q : Point) (scope : Scope) (d : ℕ) (holder : Option FaultKind) (others : List Point) (rest : List Symbol) (σ : List Point) → IsValueStart q scope d holder others → ValueDerives v scope → stops rest ≡ true → IsApart v rest
+  pub value_run : (v : Value) (q : Point) (scope : Scope) (d : ℕ) (holder : Option FaultKind) (others : List Point) (rest : List Symbol) (σ : List Point) → IsValueStart q scope d holder others → ValueDerives v scope → stops rest ≡ true → StaysBare v rest
       → is_done (others ++ σ) ≡ false → run (value_text v rest) (q ∷ σ) ≡ check_value v scope d holder rest (run rest (others ++ σ))
-  value_run (Alone p) q scope d holder others rest σ start good ends apart goes =
-      primary_run p q Whole scope d holder others rest σ start.start good (stops_no_colon rest ends) apart
+  value_run (Alone p) q scope d holder others rest σ start good ends bare goes =
+      primary_run p q Whole scope d holder others rest σ start.start good (stops_no_colon rest ends) bare
       ∙ ap (check_primary p scope d holder rest) (primary_behind Whole scope d (levels_behind p d) rest (others ++ σ) goes ends)
-  value_run (Calculates p o r) q scope d holder others rest σ start good ends apart goes =
-      primary_run p q Whole scope d holder others (t.Operator o ∷ primary_text r rest) σ start.start good.0 refl (and_false (is_word p))
+  value_run (Calculates p o r) q scope d holder others rest σ start good ends bare goes =
+      primary_run p q Whole scope d holder others (t.Operator o ∷ primary_text r rest) σ start.start good.0 refl (and_false (is_atom p))
       ∙ ap (λ (f : Option Fault). check_primary p scope d holder (t.Operator o ∷ primary_text r rest) (first_fault (deep_fault (levels_behind p d)) (t.Operator o ∷ primary_text r rest) f))
-      (primary_run r (OperandOf scope (fewer d)) Part scope (fewer d) None [] rest (others ++ σ) (operand_start scope (fewer d)) good.1 (stops_no_colon rest ends) apart
+      (primary_run r (OperandOf scope (fewer d)) Part scope (fewer d) None [] rest (others ++ σ) (operand_start scope (fewer d)) good.1 (stops_no_colon rest ends) bare
       ∙ ap (check_primary r scope (fewer d) None rest) (primary_behind Part scope (fewer d) (levels_behind r (fewer d)) rest (others ++ σ) goes ends))
-  value_run (Tests p o r) q scope d holder others rest σ start good ends apart goes =
-      primary_run p q Whole scope d holder others (t.Test o ∷ primary_text r rest) σ start.start good.0 refl (and_false (is_word p))
+  value_run (Tests p o r) q scope d holder others rest σ start good ends bare goes =
+      primary_run p q Whole scope d holder others (t.Test o ∷ primary_text r rest) σ start.start good.0 refl (and_false (is_atom p))
       ∙ ap (λ (f : Option Fault). check_primary p scope d holder (t.Test o ∷ primary_text r rest) (first_fault (deep_fault (levels_behind p d)) (t.Test o ∷ primary_text r rest) f))
-      (primary_run r (OperandOf scope (fewer d)) Part scope (fewer d) None [] rest (others ++ σ) (operand_start scope (fewer d)) good.1 (stops_no_colon rest ends) apart
+      (primary_run r (OperandOf scope (fewer d)) Part scope (fewer d) None [] rest (others ++ σ) (operand_start scope (fewer d)) good.1 (stops_no_colon rest ends) bare
       ∙ ap (check_primary r scope (fewer d) None rest) (primary_behind Part scope (fewer d) (levels_behind r (fewer d)) rest (others ++ σ) goes ends))
-  value_run (Pairs p l) q scope d holder others rest σ start good ends apart goes =
-      primary_run p q Whole scope d holder others (t.Bar ∷ tail_text l rest) σ start.start good.0 refl (and_false (is_word p))
-      ∙ ap (λ (f : Option Fault). check_primary p scope d holder (t.Bar ∷ tail_text l rest) (first_fault (deep_fault (levels_behind p d)) (t.Bar ∷ tail_text l rest) f)) (tail_run l scope (fewer d) rest (others ++ σ) good.1 goes ends apart)
-  value_run (IfValue e a b) q scope d holder others rest σ start good ends apart goes =
+  value_run (Pairs p l) q scope d holder others rest σ start good ends bare goes =
+      primary_run p q Whole scope d holder others (t.Bar ∷ tail_text l rest) σ start.start good.0 refl (and_false (is_atom p))
+      ∙ ap (λ (f : Option Fault). check_primary p scope d holder (t.Bar ∷ tail_text l rest) (first_fault (deep_fault (levels_behind p d)) (t.Bar ∷ tail_text l rest) f)) (tail_run l scope (fewer d) rest (others ++ σ) good.1 goes ends bare)
+  value_run (IfValue e a b) q scope d holder others rest σ start good ends bare goes =
       start.ifs _ σ
       ∙ ap (first_fault (value_fault scope d holder t.If) (value_text (IfValue e a b) rest))
-      (value_run e (ValueOf scope (fewer d)) scope (fewer d) None [] (t.Then ∷ value_text a (t.Else ∷ value_text b (t.End ∷ rest))) _ (value_start scope (fewer d)) good.0 refl (and_false (ends_in_word e)) refl
+      (value_run e (ValueOf scope (fewer d)) scope (fewer d) None [] (t.Then ∷ value_text a (t.Else ∷ value_text b (t.End ∷ rest))) _ (value_start scope (fewer d)) good.0 refl (and_false (ends_in_atom e)) refl
       ∙ ap (check_value e scope (fewer d) None (t.Then ∷ value_text a (t.Else ∷ value_text b (t.End ∷ rest))))
-      (value_run a (ValueOf scope (fewer d)) scope (fewer d) None [] (t.Else ∷ value_text b (t.End ∷ rest)) _ (value_start scope (fewer d)) good.1 refl (and_false (ends_in_word a)) refl
+      (value_run a (ValueOf scope (fewer d)) scope (fewer d) None [] (t.Else ∷ value_text b (t.End ∷ rest)) _ (value_start scope (fewer d)) good.1 refl (and_false (ends_in_atom a)) refl
       ∙ ap (check_value a scope (fewer d) None (t.Else ∷ value_text b (t.End ∷ rest)))
-      (value_run b (ValueOf scope (fewer d)) scope (fewer d) None [] (t.End ∷ rest) _ (value_start scope (fewer d)) good.2 refl (and_false (ends_in_word b)) refl)))
-  value_run (CaseValue e p v cs b) q scope d holder others rest σ start good ends apart goes =
+      (value_run b (ValueOf scope (fewer d)) scope (fewer d) None [] (t.End ∷ rest) _ (value_start scope (fewer d)) good.2 refl (and_false (ends_in_atom b)) refl)))
+  value_run (CaseValue e p v cs b) q scope d holder others rest σ start good ends bare goes =
       start.cases _ σ
       ∙ ap (first_fault (value_fault scope d holder t.Case) (value_text (CaseValue e p v cs b) rest))
-      (value_run e (ValueOf scope (fewer d)) scope (fewer d) None [] (t.Of ∷ pattern_text p (t.Then ∷ value_text v (value_clauses_text cs (t.Else ∷ value_text b (t.End ∷ rest))))) _ (value_start scope (fewer d)) good.0 refl (and_false (ends_in_word e)) refl
+      (value_run e (ValueOf scope (fewer d)) scope (fewer d) None [] (t.Of ∷ pattern_text p (t.Then ∷ value_text v (value_clauses_text cs (t.Else ∷ value_text b (t.End ∷ rest))))) _ (value_start scope (fewer d)) good.0 refl (and_false (ends_in_atom e)) refl
       ∙ ap (check_value e scope (fewer d) None (t.Of ∷ pattern_text p (t.Then ∷ value_text v (value_clauses_text cs (t.Else ∷ value_text b (t.End ∷ rest))))))
       (pattern_run p OfValue scope (fewer d) (value_text v (value_clauses_text cs (t.Else ∷ value_text b (t.End ∷ rest)))) (others ++ σ)
       ∙ ap (check_pattern p scope (t.Then ∷ value_text v (value_clauses_text cs (t.Else ∷ value_text b (t.End ∷ rest)))))
       (value_run v (ValueOf (scope ++ pattern_names p) (fewer d)) (scope ++ pattern_names p) (fewer d) None [] (value_clauses_text cs (t.Else ∷ value_text b (t.End ∷ rest))) (ClauseEnd scope (fewer d) ∷ (others ++ σ)) (value_start (scope ++ pattern_names p) (fewer d)) good.1
-      (closes_stops _ (value_clauses_close cs _)) (closes_apart v _ (value_clauses_close cs _)) refl
+      (closes_stops _ (value_clauses_close cs _)) (closes_bare v _ (value_clauses_close cs _)) refl
       ∙ ap (check_value v (scope ++ pattern_names p) (fewer d) None (value_clauses_text cs (t.Else ∷ value_text b (t.End ∷ rest))))
       (value_clauses_run cs scope (fewer d) (value_text b (t.End ∷ rest)) (others ++ σ) good.2
       ∙ ap (check_value_clauses cs scope (fewer d) (t.Else ∷ value_text b (t.End ∷ rest)))
-      (value_run b (ValueOf scope (fewer d)) scope (fewer d) None [] (t.End ∷ rest) (Here sign.End ∷ (others ++ σ)) (value_start scope (fewer d)) good.3 refl (and_false (ends_in_word b)) refl)))))
+      (value_run b (ValueOf scope (fewer d)) scope (fewer d) None [] (t.End ∷ rest) (Here sign.End ∷ (others ++ σ)) (value_start scope (fewer d)) good.3 refl (and_false (ends_in_atom b)) refl)))))
 
   arguments_run : (vs : Arguments) (scope : Scope) (d n most : ℕ) (rest : List Symbol) (σ : List Point) → ArgumentsDerive vs scope
       → run (arguments_text vs (t.CloseCurly ∷ rest)) (points.Arguments scope d n most ∷ σ) ≡ check_arguments vs scope d n most (t.CloseCurly ∷ rest) (run rest σ)
   arguments_run no_arguments scope d n most rest σ good = refl
   arguments_run (argument_and v vs) scope d n most rest σ good =
       value_run v (points.Arguments scope d n most) scope d (argument_fault n most) (points.Arguments scope d (n + 1) most ∷ []) (arguments_text vs (t.CloseCurly ∷ rest)) σ (argument_start scope d n most) good.0 (arguments_stop vs rest)
-      (moved_apart v _ _ (arguments_round vs rest) good.1) refl
+      (moved_bare v _ _ (arguments_round vs rest) good.1) refl
       ∙ ap (check_value v scope d (argument_fault n most) (arguments_text vs (t.CloseCurly ∷ rest))) (arguments_run vs scope d (n + 1) most rest σ good.2)
 
   wanted_run : (vs : Arguments) (scope : Scope) (d k n : ℕ) (rest : List Symbol) (σ : List Point) → ArgumentsDerive vs scope → count_arguments vs ≡ k → n + k ≤ 64
@@ -281,7 +281,7 @@ mutual
   wanted_run no_arguments scope d (suc k) n rest σ good all few = absurd (omega (arith, all))
   wanted_run (argument_and v vs) scope d zero n rest σ good all few = absurd (omega (arith, all))
   wanted_run (argument_and v vs) scope d (suc k) n rest σ good all few =
-      value_run v (Wanted scope d (suc k)) scope d None (Wanted scope d k ∷ []) (arguments_text vs (t.CloseCurly ∷ rest)) σ (wanted_start scope d k) good.0 (arguments_stop vs rest) (moved_apart v _ _ (arguments_round vs rest) good.1) refl
+      value_run v (Wanted scope d (suc k)) scope d None (Wanted scope d k ∷ []) (arguments_text vs (t.CloseCurly ∷ rest)) σ (wanted_start scope d k) good.0 (arguments_stop vs rest) (moved_bare v _ _ (arguments_round vs rest) good.1) refl
       ∙ ap (λ (h : Option FaultKind). check_value v scope d h (arguments_text vs (t.CloseCurly ∷ rest)) (run (arguments_text vs (t.CloseCurly ∷ rest)) (Wanted scope d k ∷ σ))) (sym (no_fault n 64 (omega (arith, few))))
       ∙ ap (check_value v scope d (argument_fault n 64) (arguments_text vs (t.CloseCurly ∷ rest))) (wanted_run vs scope d k (n + 1) rest σ good.2 (omega (arith, all)) (omega (arith, few)))
 
@@ -290,15 +290,15 @@ mutual
   fields_run no_fields scope d room before nth rest σ good = refl
   fields_run (placed_and v fs) scope d room before nth rest σ good =
       value_run v (FieldOf scope d room before nth) scope d (given_fault room before (place_feature nth)) (behind_placed scope d room before nth) (fields_text fs (t.CloseRound ∷ rest)) σ (field_start scope d room before nth) good.0 (fields_stop fs rest)
-      (moved_apart v _ _ (fields_round fs rest) good.1) refl
+      (moved_bare v _ _ (fields_round fs rest) good.1) refl
       ∙ ap (check_value v scope d (given_fault room before (place_feature nth)) (fields_text fs (t.CloseRound ∷ rest))) (fields_run fs scope d (fewer room) (place_feature nth ∷ before) (nth + 1) rest σ good.2)
   fields_run (named_and (AtomFeature a) v fs) scope d room before nth rest σ good =
       ap (first_fault (named_fault room before (AtomFeature a)) _)
-      (value_run v (ValueOf scope d) scope d None [] (fields_text fs (t.CloseRound ∷ rest)) (FieldOf scope d (fewer room) (feature_of (AtomFeature a) ∷ before) nth ∷ σ) (value_start scope d) good.0 (fields_stop fs rest) (moved_apart v _ _ (fields_round fs rest) good.1) refl
+      (value_run v (ValueOf scope d) scope d None [] (fields_text fs (t.CloseRound ∷ rest)) (FieldOf scope d (fewer room) (feature_of (AtomFeature a) ∷ before) nth ∷ σ) (value_start scope d) good.0 (fields_stop fs rest) (moved_bare v _ _ (fields_round fs rest) good.1) refl
       ∙ ap (check_value v scope d None (fields_text fs (t.CloseRound ∷ rest))) (fields_run fs scope d (fewer room) (feature_of (AtomFeature a) ∷ before) nth rest σ good.2))
   fields_run (named_and (IntFeature i) v fs) scope d room before nth rest σ good =
       ap (first_fault (named_fault room before (IntFeature i)) _)
-      (value_run v (ValueOf scope d) scope d None [] (fields_text fs (t.CloseRound ∷ rest)) (FieldOf scope d (fewer room) (feature_of (IntFeature i) ∷ before) nth ∷ σ) (value_start scope d) good.0 (fields_stop fs rest) (moved_apart v _ _ (fields_round fs rest) good.1) refl
+      (value_run v (ValueOf scope d) scope d None [] (fields_text fs (t.CloseRound ∷ rest)) (FieldOf scope d (fewer room) (feature_of (IntFeature i) ∷ before) nth ∷ σ) (value_start scope d) good.0 (fields_stop fs rest) (moved_bare v _ _ (fields_round fs rest) good.1) refl
       ∙ ap (check_value v scope d None (fields_text fs (t.CloseRound ∷ rest))) (fields_run fs scope d (fewer room) (feature_of (IntFeature i) ∷ before) nth rest σ good.2))
 
   -- clauses of values, up to the last value
@@ -309,7 +309,7 @@ mutual
       pattern_run p OfValue scope d (value_text v (value_clauses_text cs (t.Else ∷ rest))) σ
       ∙ ap (check_pattern p scope (t.Then ∷ value_text v (value_clauses_text cs (t.Else ∷ rest))))
       (value_run v (ValueOf (scope ++ pattern_names p) d) (scope ++ pattern_names p) d None [] (value_clauses_text cs (t.Else ∷ rest)) (ClauseEnd scope d ∷ σ) (value_start (scope ++ pattern_names p) d) good.0
-      (closes_stops _ (value_clauses_close cs rest)) (closes_apart v _ (value_clauses_close cs rest)) refl
+      (closes_stops _ (value_clauses_close cs rest)) (closes_bare v _ (value_clauses_close cs rest)) refl
       ∙ ap (check_value v (scope ++ pattern_names p) d None (value_clauses_text cs (t.Else ∷ rest))) (value_clauses_run cs scope d rest σ good.1))
 
   pub statement_run : (s : Statement) (stage : Stage) (c : Closing) (scope : Scope) (d : ℕ) (rest : List Symbol) (σ : List Point) → closes rest ≡ true → StatementDerives s scope
@@ -317,14 +317,14 @@ mutual
   statement_run Skips stage c scope d rest σ ends good = refl
   statement_run (Tells x v) stage c scope d rest σ ends good =
       ap (first_fault _ (statement_text (Tells x v) rest))
-      (value_run v (ValueOf scope d) scope d None [] rest (At Later c scope d ∷ σ) (value_start scope d) good (closes_stops rest ends) (closes_apart v rest ends) refl)
+      (value_run v (ValueOf scope d) scope d None [] rest (At Later c scope d ∷ σ) (value_start scope d) good (closes_stops rest ends) (closes_bare v rest ends) refl)
   statement_run (CallsStatement p vs) stage c scope d rest σ ends good =
       ap (λ (f : Option Fault). first_fault (deep_fault d) (statement_text (CallsStatement p vs) rest) (first_fault (called_fault (built_in_at scope p) scope p) (t.Variable p ∷ arguments_text vs (t.CloseCurly ∷ rest)) f))
       (statement_call (built_in_at scope p) vs scope d rest (At Later c scope d ∷ σ) good.0 (λ e n most. arguments_run vs scope e n most rest (At Later c scope d ∷ σ) good.1)
       (λ e k n all few. wanted_run vs scope e k n rest (At Later c scope d ∷ σ) good.1 all few))
   statement_run (Raises v) stage c scope d rest σ ends good =
       ap (first_fault (deep_fault d) (statement_text (Raises v) rest))
-      (value_run v (ValueOf scope d) scope d None [] (t.End ∷ rest) (Here sign.End ∷ At Later c scope d ∷ σ) (value_start scope d) good refl (and_false (ends_in_word v)) refl)
+      (value_run v (ValueOf scope d) scope d None [] (t.End ∷ rest) (Here sign.End ∷ At Later c scope d ∷ σ) (value_start scope d) good refl (and_false (ends_in_atom v)) refl)
   statement_run (Locals x xs q) stage c scope d rest σ ends good =
       ap (first_fault (deep_fault d) (statement_text (Locals x xs q) rest))
       (locals_run xs (x ∷ []) scope (fewer d) (sequence_text q (t.End ∷ rest)) (At Later c scope d ∷ σ)
@@ -337,7 +337,7 @@ mutual
       ap (λ (f : Option Fault). first_fault (deep_fault d) (statement_text (FunNamed x xs v) rest) (first_fault (use_fault scope x) (t.Variable x ∷ names_text xs (t.CloseCurly ∷ value_text v (t.End ∷ rest))) f))
       (formals_run xs [] OfFun scope (fewer d) (value_text v (t.End ∷ rest)) (At Later c scope d ∷ σ)
       ∙ ap (check_formals OfFun [] xs (t.CloseCurly ∷ value_text v (t.End ∷ rest)))
-      (value_run v (ValueOf (scope ++ xs) (fewer d)) (scope ++ xs) (fewer d) None [] (t.End ∷ rest) (Here sign.End ∷ At Later c scope d ∷ σ) (value_start (scope ++ xs) (fewer d)) good refl (and_false (ends_in_word v)) refl))
+      (value_run v (ValueOf (scope ++ xs) (fewer d)) (scope ++ xs) (fewer d) None [] (t.End ∷ rest) (Here sign.End ∷ At Later c scope d ∷ σ) (value_start (scope ++ xs) (fewer d)) good refl (and_false (ends_in_atom v)) refl))
   statement_run (Threads q) stage c scope d rest σ ends good =
       ap (first_fault (deep_fault d) (statement_text (Threads q) rest)) (sequence_run q AfterThread Ends scope (fewer d) (t.End ∷ rest) (At Later c scope d ∷ σ) refl good)
   statement_run (ThreadsAt n q) stage c scope d rest σ ends good =
@@ -345,13 +345,13 @@ mutual
       (sequence_run q First Ends scope (fewer d) (t.End ∷ rest) (At Later c scope d ∷ σ) refl good)
   statement_run (Ifs e q r) stage c scope d rest σ ends good =
       ap (first_fault (deep_fault d) (statement_text (Ifs e q r) rest))
-      (value_run e (ValueOf scope d) scope d None [] (t.Then ∷ sequence_text q (t.Else ∷ sequence_text r (t.End ∷ rest))) _ (value_start scope d) good.0 refl (and_false (ends_in_word e)) refl
+      (value_run e (ValueOf scope d) scope d None [] (t.Then ∷ sequence_text q (t.Else ∷ sequence_text r (t.End ∷ rest))) _ (value_start scope d) good.0 refl (and_false (ends_in_atom e)) refl
       ∙ ap (check_value e scope d None (t.Then ∷ sequence_text q (t.Else ∷ sequence_text r (t.End ∷ rest))))
       (sequence_run q First BeforeElse scope (fewer d) (t.Else ∷ sequence_text r (t.End ∷ rest)) (At First Ends scope (fewer d) ∷ At Later c scope d ∷ σ) refl good.1
       ∙ ap (check_sequence q scope (fewer d) (t.Else ∷ sequence_text r (t.End ∷ rest))) (sequence_run r First Ends scope (fewer d) (t.End ∷ rest) (At Later c scope d ∷ σ) refl good.2)))
   statement_run (Cases e p q cs r) stage c scope d rest σ ends good =
       ap (first_fault (deep_fault d) (statement_text (Cases e p q cs r) rest))
-      (value_run e (ValueOf scope d) scope d None [] (t.Of ∷ pattern_text p (t.Then ∷ sequence_text q (clauses_text cs (t.Else ∷ sequence_text r (t.End ∷ rest))))) _ (value_start scope d) good.0 refl (and_false (ends_in_word e)) refl
+      (value_run e (ValueOf scope d) scope d None [] (t.Of ∷ pattern_text p (t.Then ∷ sequence_text q (clauses_text cs (t.Else ∷ sequence_text r (t.End ∷ rest))))) _ (value_start scope d) good.0 refl (and_false (ends_in_atom e)) refl
       ∙ ap (check_value e scope d None (t.Of ∷ pattern_text p (t.Then ∷ sequence_text q (clauses_text cs (t.Else ∷ sequence_text r (t.End ∷ rest))))))
       (pattern_run p OfStatements scope (fewer d) (sequence_text q (clauses_text cs (t.Else ∷ sequence_text r (t.End ∷ rest)))) (At Later c scope d ∷ σ)
       ∙ ap (check_pattern p scope (t.Then ∷ sequence_text q (clauses_text cs (t.Else ∷ sequence_text r (t.End ∷ rest)))))

@@ -11,7 +11,7 @@ use Rattle.oz_grammar.specs.Faults.{fewer}
 use Rattle.oz_grammar.specs.Check.{first_fault}
 use Rattle.surface_grammar.specs.Derivations.{begins_round}
 use Rattle.oz_grammar.specs.Automata.{then_points, is_done}
-use Rattle.surface_grammar.specs.Points.{Extent, Whole, Part, Rest, OfValue, Point, Here, ValueOf, OperandOf, TailOf, Behind, BehindWord, FieldOf, FieldBegun, Arguments, Wanted, PatternOf, next_primary, next_value, behind_placed, value_fault, given_fault, argument_fault, field_fault, next, wrong, run}
+use Rattle.surface_grammar.specs.Points.{Extent, Whole, Part, Rest, OfValue, Point, Here, ValueOf, OperandOf, TailOf, Behind, BehindAtom, FieldOf, FieldBegun, Arguments, Wanted, PatternOf, next_primary, next_value, behind_placed, value_fault, given_fault, argument_fault, field_fault, next, wrong, run}
 
 -- ---- what follows a value
 
@@ -41,6 +41,11 @@ abbrev pub is_no_colon : List Symbol → Bool
 is_no_colon (t.Colon ∷ rest) = false
 is_no_colon symbols = true
 
+-- .. and no dot
+abbrev pub is_no_dot : List Symbol → Bool
+is_no_dot (t.Dot ∷ rest) = false
+is_no_dot symbols = true
+
 pub stops_no_colon : (rest : List Symbol) → stops rest ≡ true → is_no_colon rest ≡ true
 stops_no_colon [] e = absurd cc
 stops_no_colon (t.Colon ∷ rest) e = absurd cc
@@ -60,12 +65,12 @@ primary_behind Part scope d r (s ∷ rest) (p ∷ σ) o e = refl
 primary_behind Rest scope d r (s ∷ rest) (p ∷ σ) o e = refl
 
 -- behind an atom that is no label, as behind another primary
-pub word_behind : (extent : Extent) (scope : Scope) (d : ℕ) (rest : List Symbol) (σ : List Point) → begins_round rest ≡ false → run rest (BehindWord extent scope d ∷ σ) ≡ run rest (Behind extent scope d (fewer d) ∷ σ)
-word_behind extent scope d [] σ e = refl
-word_behind extent scope d (t.OpenRound ∷ rest) σ e = absurd cc
-word_behind Whole scope d (s ∷ rest) σ e = refl
-word_behind Part scope d (s ∷ rest) σ e = refl
-word_behind Rest scope d (s ∷ rest) σ e = refl
+pub atom_behind : (extent : Extent) (scope : Scope) (d : ℕ) (rest : List Symbol) (σ : List Point) → begins_round rest ≡ false → run rest (BehindAtom extent scope d ∷ σ) ≡ run rest (Behind extent scope d (fewer d) ∷ σ)
+atom_behind extent scope d [] σ e = refl
+atom_behind extent scope d (t.OpenRound ∷ rest) σ e = absurd cc
+atom_behind Whole scope d (s ∷ rest) σ e = refl
+atom_behind Part scope d (s ∷ rest) σ e = refl
+atom_behind Rest scope d (s ∷ rest) σ e = refl
 
 -- ---- where values begin
 
@@ -171,7 +176,7 @@ wanted_start scope d k = record { start = record { begins = wanted_begins scope 
 
 -- an atom that begins a field, where no colon makes it a feature
 atom_begun : (scope : Scope) (d room : ℕ) (before : List Feature) (nth : ℕ) (a : List ℕ) (symbols : List Symbol) (σ : List Point) → is_no_colon symbols ≡ true
-    → run symbols (FieldBegun scope d room before nth (AtomFeature a) ∷ σ) ≡ run symbols (BehindWord Whole scope d ∷ (behind_placed scope d room before nth ++ σ))
+    → run symbols (FieldBegun scope d room before nth (AtomFeature a) ∷ σ) ≡ run symbols (BehindAtom Whole scope d ∷ (behind_placed scope d room before nth ++ σ))
 atom_begun scope d room before nth a [] σ e = refl
 atom_begun scope d room before nth a (t.Colon ∷ symbols) σ e = absurd cc
 atom_begun scope d room before nth a (s ∷ symbols) σ e = refl
@@ -196,7 +201,7 @@ integer_field_fault scope d room before nth n (t.Colon ∷ symbols) e = absurd c
 integer_field_fault scope d room before nth n (s ∷ symbols) e = refl
 
 -- a list of points that is given twice
-same_inside : (a b : List Point) → Some a ≡ Some b → a ≡ b
+pub same_inside : (a b : List Point) → Some a ≡ Some b → a ≡ b
 same_inside a b e = cc
 
 pub field_begins : (scope : Scope) (d room : ℕ) (before : List Feature) (nth : ℕ) (s : Symbol) (symbols : List Symbol) (σ inside : List Point) → is_first s ≡ true → is_no_colon symbols ≡ true → next_primary Whole scope d s ≡ Some inside

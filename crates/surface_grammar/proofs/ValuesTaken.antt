@@ -1,5 +1,5 @@
 -- What the points take is derived: values, where shorter values and statements are.
-use Rattle.std.proofs.Common.{◌≡◌, ◌∙◌, ℕ, ◌<◌, ◌≤◌, List, [], ◌∷◌, ◌++◌, ◌⊎◌, length, Bool, true, false, Option, Some, None, refl, sym, ap, subst, append_assoc, arith}
+use Rattle.std.proofs.Common.{◌≡◌, ◌∙◌, ℕ, ◌<◌, ◌≤◌, List, [], ◌∷◌, ◌++◌, ◌⊎◌, length, true, false, Option, Some, None, refl, sym, ap, subst, append_assoc, arith}
 use Rattle.std.specs.Prelude.{◌-◌, ◌&&◌}
 use Rattle.tree_node.specs.declared.node.Feature.{Feature}
 use Rattle.kernel_syntax.specs.declared.built_in.BuiltIn.{BuiltIn}
@@ -15,13 +15,14 @@ use Rattle.oz_grammar.specs.Faults.{fewer}
 use Rattle.oz_grammar.specs.Points.{First, Later}
 use Rattle.oz_grammar.proofs.Leaves.{sign_symbol}
 use Rattle.oz_grammar.proofs.Parts.{never, curly_text}
-use Rattle.surface_grammar.specs.Derivations.{Primary, Name, Number, Word, Record, Calls, Procedure, Function, Brackets, Selects, Tail, Last, More, Value, Alone, Calculates, Pairs, IfValue, CaseValue, Arguments, no_arguments, argument_and, no_fields, placed_and, named_and, ValueClauses, no_clauses, clause_and, Clauses, no_cases, case_and, Sequence, primary_text, tail_text, value_text, arguments_text, fields_text, value_clauses_text, clauses_text, sequence_text, is_word, tail_ends_in_word, ends_in_word, begins_round, IsApart, count_arguments, LacksOneArgument, PrimaryDerives, TailDerives, ValueDerives, ArgumentsDerive, FieldsDerive, ValueClausesDerive, ClausesDerive, SequenceDerives}
+use Rattle.surface_grammar.specs.Derivations.{Primary, Variable, Integer, Atom, Record, Calls, Procedure, Function, Brackets, Selects, Tail, Value, Arguments, ValueClauses, Clauses, Sequence, primary_text, tail_text, value_text, arguments_text, fields_text, value_clauses_text, clauses_text, sequence_text, is_atom, tail_ends_in_atom, begins_round, StaysBare, count_arguments, LacksOneArgument, PrimaryDerives, TailDerives, ValueDerives, ArgumentsDerive, FieldsDerive, ValueClausesDerive, ClausesDerive, SequenceDerives}
 use Rattle.surface_grammar.specs.Derivations as tree
 use Rattle.oz_grammar.specs.Automata.{then_points}
 use Rattle.surface_grammar.specs.declared.parts.CallUse.TheVariants.{AsValue}
 use Rattle.surface_grammar.specs.declared.parts.Callable.TheVariants.{OfProc, OfFun}
-use Rattle.surface_grammar.specs.Points.{Extent, Whole, Part, Rest, OfValue, OfStatements, Closing, Ends, InClause, Point, At, Here, Formals, ValueOf, OperandOf, TailOf, Behind, BehindWord, FieldOf, FieldBegun, CallName, Wanted, PatternOf, ClauseEnd, next_primary, next_value, next_call, next_closing, behind_placed}
+use Rattle.surface_grammar.specs.Points.{Extent, Whole, Part, Rest, OfValue, OfStatements, Closing, Ends, Point, At, Here, Formals, ValueOf, OperandOf, TailOf, Behind, BehindAtom, FieldOf, CallName, Wanted, PatternOf, next_primary, next_call, next_closing}
 use Rattle.surface_grammar.specs.Points as points
+use Rattle.surface_grammar.proofs.Starts.{is_no_dot}
 use Rattle.surface_grammar.proofs.Leaves.{leads, leaves}
 use Rattle.surface_grammar.proofs.Taken.{sign_taken, formals_taken}
 
@@ -32,7 +33,7 @@ pub record ValueTaken (scope : Scope) (σ : List Point) (symbols out : List Symb
   pub rest : List Symbol
   pub is : symbols ≡ value_text value rest
   pub derives : ValueDerives value scope
-  pub apart : IsApart value rest
+  pub bare : StaysBare value rest
   pub on : leaves rest σ ≡ Some out
   pub shorter : length rest < length symbols
 
@@ -41,7 +42,7 @@ pub record PrimaryTaken (scope : Scope) (σ : List Point) (symbols out : List Sy
   pub rest : List Symbol
   pub is : symbols ≡ primary_text primary rest
   pub derives : PrimaryDerives primary scope
-  pub apart : (is_word primary && begins_round rest) ≡ false
+  pub bare : (is_atom primary && begins_round rest) ≡ false
   pub on : leaves rest σ ≡ Some out
   pub shorter : length rest < length symbols
 
@@ -50,7 +51,7 @@ pub record TailTaken (scope : Scope) (σ : List Point) (symbols out : List Symbo
   pub rest : List Symbol
   pub is : symbols ≡ tail_text tail rest
   pub derives : TailDerives tail scope
-  pub apart : (tail_ends_in_word tail && begins_round rest) ≡ false
+  pub bare : (tail_ends_in_atom tail && begins_round rest) ≡ false
   pub on : leaves rest σ ≡ Some out
   pub shorter : length rest < length symbols
 
@@ -196,20 +197,20 @@ pub record PrimaryBegun (extent : Extent) (scope : Scope) (d : ℕ) (σ : List P
   pub rest : List Symbol
   pub is : symbols ≡ primary_text primary rest
   pub derives : PrimaryDerives primary scope
-  pub apart : (is_word primary && begins_round rest) ≡ false
+  pub bare : (is_atom primary && begins_round rest) ≡ false
   pub on : leaves rest (Behind extent scope d levels ∷ σ) ≡ Some out
   pub shorter : length rest < length symbols
 
-word_on : (extent : Extent) (scope : Scope) (d : ℕ) (xs : List Symbol) (σ : List Point) → begins_round xs ≡ false → leaves xs (BehindWord extent scope d ∷ σ) ≡ leaves xs (Behind extent scope d (fewer d) ∷ σ)
-word_on extent scope d [] σ e = refl
-word_on extent scope d (t.OpenRound ∷ xs) σ e = absurd cc
-word_on Whole scope d (x ∷ xs) σ e = refl
-word_on Part scope d (x ∷ xs) σ e = refl
-word_on Rest scope d (x ∷ xs) σ e = refl
+atom_on : (extent : Extent) (scope : Scope) (d : ℕ) (xs : List Symbol) (σ : List Point) → begins_round xs ≡ false → leaves xs (BehindAtom extent scope d ∷ σ) ≡ leaves xs (Behind extent scope d (fewer d) ∷ σ)
+atom_on extent scope d [] σ e = refl
+atom_on extent scope d (t.OpenRound ∷ xs) σ e = absurd cc
+atom_on Whole scope d (x ∷ xs) σ e = refl
+atom_on Part scope d (x ∷ xs) σ e = refl
+atom_on Rest scope d (x ∷ xs) σ e = refl
 
-word_begun : (n : ℕ) → Laws n → (a : List ℕ) (xs : List Symbol) (extent : Extent) (scope : Scope) (d : ℕ) (σ : List Point) (out : List Symbol) → length xs < n → leaves xs (BehindWord extent scope d ∷ σ) ≡ Some out → PrimaryBegun extent scope d σ (t.Atom a ∷ xs) out
-word_begun n law a [] extent scope d σ out lt h = absurd (never out h)
-word_begun n law a (t.OpenRound ∷ xs) extent scope d σ out lt h =
+atom_begun : (n : ℕ) → Laws n → (a : List ℕ) (xs : List Symbol) (extent : Extent) (scope : Scope) (d : ℕ) (σ : List Point) (out : List Symbol) → length xs < n → leaves xs (BehindAtom extent scope d ∷ σ) ≡ Some out → PrimaryBegun extent scope d σ (t.Atom a ∷ xs) out
+atom_begun n law a [] extent scope d σ out lt h = absurd (never out h)
+atom_begun n law a (t.OpenRound ∷ xs) extent scope d σ out lt h =
     let k = law.fields xs scope (fewer d) 64 [] 1 (Behind extent scope d (fewer d) ∷ σ) out (omega arith) h in
     record {
       primary = Record a k.fields;
@@ -217,12 +218,12 @@ word_begun n law a (t.OpenRound ∷ xs) extent scope d σ out lt h =
       rest = k.rest;
       is = ap (λ (r : List Symbol). t.Atom a ∷ t.OpenRound ∷ r) k.is;
       derives = k.derives;
-      apart = refl;
+      bare = refl;
       on = k.on;
       shorter = (let l = k.shorter in omega (arith, l));
     }
-word_begun n law a (x ∷ xs) extent scope d σ out lt h =
-    record { primary = Word a; levels = fewer d; rest = x ∷ xs; is = refl; derives = tt; apart = refl; on = sym (word_on extent scope d (x ∷ xs) σ refl) ∙ h; shorter = omega arith }
+atom_begun n law a (x ∷ xs) extent scope d σ out lt h =
+    record { primary = Atom a; levels = fewer d; rest = x ∷ xs; is = refl; derives = tt; bare = refl; on = sym (atom_on extent scope d (x ∷ xs) σ refl) ∙ h; shorter = omega arith }
 
 -- the arguments of a call as a value
 record CallTaken (o : Option BuiltIn) (scope : Scope) (σ : List Point) (symbols out : List Symbol) : Type 0 where
@@ -250,7 +251,7 @@ curly_begun n law (t.Variable p ∷ xs) extent scope d σ out lt h =
       rest = k.taken.rest;
       is = ap (λ (r : List Symbol). t.OpenCurly ∷ t.Variable p ∷ r) k.taken.is;
       derives = (k.lacks, k.taken.derives);
-      apart = refl;
+      bare = refl;
       on = k.taken.on;
       shorter = (let l = k.taken.shorter in omega (arith, l));
     }
@@ -268,7 +269,7 @@ proc_begun n law (t.OpenCurly ∷ t.Dollar ∷ xs) extent scope d σ out lt h =
       rest = k.rest;
       is = ap (λ (r : List Symbol). t.Proc ∷ t.OpenCurly ∷ t.Dollar ∷ r) (f.is ∙ ap (curly_text f.part) k.is);
       derives = k.derives;
-      apart = refl;
+      bare = refl;
       on = k.on;
       shorter = (let m = k.shorter in omega (arith, l, m));
     }
@@ -286,7 +287,7 @@ fun_begun n law (t.OpenCurly ∷ t.Dollar ∷ xs) extent scope d σ out lt h =
       rest = k.rest;
       is = ap (λ (r : List Symbol). t.Fun ∷ t.OpenCurly ∷ t.Dollar ∷ r) (f.is ∙ ap (curly_text f.part) k.is);
       derives = k.derives;
-      apart = refl;
+      bare = refl;
       on = k.on;
       shorter = (let m = k.shorter in omega (arith, l, m));
     }
@@ -294,9 +295,9 @@ fun_begun n law xs extent scope d σ out lt h = absurd (never out h)
 
 pub primary_begun : (n : ℕ) → Laws n → (s : Symbol) (xs : List Symbol) (extent : Extent) (scope : Scope) (d : ℕ) (σ : List Point) (out : List Symbol) → length xs < n → leads_to xs σ (next_primary extent scope d s) ≡ Some out
     → PrimaryBegun extent scope d σ (s ∷ xs) out
-primary_begun n law (t.Variable x) xs extent scope d σ out lt h = record { primary = Name x; levels = d; rest = xs; is = refl; derives = tt; apart = refl; on = h; shorter = omega arith }
-primary_begun n law (t.Integer i) xs extent scope d σ out lt h = record { primary = Number i; levels = fewer d; rest = xs; is = refl; derives = tt; apart = refl; on = h; shorter = omega arith }
-primary_begun n law (t.Atom a) xs extent scope d σ out lt h = word_begun n law a xs extent scope d σ out lt h
+primary_begun n law (t.Variable x) xs extent scope d σ out lt h = record { primary = Variable x; levels = d; rest = xs; is = refl; derives = tt; bare = refl; on = h; shorter = omega arith }
+primary_begun n law (t.Integer i) xs extent scope d σ out lt h = record { primary = Integer i; levels = fewer d; rest = xs; is = refl; derives = tt; bare = refl; on = h; shorter = omega arith }
+primary_begun n law (t.Atom a) xs extent scope d σ out lt h = atom_begun n law a xs extent scope d σ out lt h
 primary_begun n law t.OpenCurly xs extent scope d σ out lt h = curly_begun n law xs extent scope d σ out lt h
 primary_begun n law t.Proc xs extent scope d σ out lt h = proc_begun n law xs extent scope d σ out lt h
 primary_begun n law t.Fun xs extent scope d σ out lt h = fun_begun n law xs extent scope d σ out lt h
@@ -308,17 +309,13 @@ primary_begun n law t.OpenRound xs extent scope d σ out lt h =
       rest = k.rest;
       is = ap (λ (r : List Symbol). t.OpenRound ∷ r) k.is;
       derives = k.derives;
-      apart = refl;
+      bare = refl;
       on = k.on;
       shorter = (let l = k.shorter in omega (arith, l));
     }
 primary_begun n law s xs extent scope d σ out lt h = absurd (never out h)
 
 -- ---- the selections behind it
-
-abbrev pub is_no_dot : List Symbol → Bool
-is_no_dot (t.Dot ∷ rest) = false
-is_no_dot symbols = true
 
 -- a primary with all its selections
 pub record PrimaryEnded (extent : Extent) (scope : Scope) (d : ℕ) (σ : List Point) (symbols out : List Symbol) : Type 0 where
@@ -327,19 +324,19 @@ pub record PrimaryEnded (extent : Extent) (scope : Scope) (d : ℕ) (σ : List P
   pub rest : List Symbol
   pub is : symbols ≡ primary_text primary rest
   pub derives : PrimaryDerives primary scope
-  pub apart : (is_word primary && begins_round rest) ≡ false
+  pub bare : (is_atom primary && begins_round rest) ≡ false
   pub on : leaves rest (Behind extent scope d levels ∷ σ) ≡ Some out
   pub no_dot : is_no_dot rest ≡ true
 
-ended : (rest : List Symbol) (p : Primary) (extent : Extent) (scope : Scope) (d r : ℕ) (σ : List Point) (out : List Symbol) → PrimaryDerives p scope → (is_word p && begins_round rest) ≡ false → leaves rest (Behind extent scope d r ∷ σ) ≡ Some out
+ended : (rest : List Symbol) (p : Primary) (extent : Extent) (scope : Scope) (d r : ℕ) (σ : List Point) (out : List Symbol) → PrimaryDerives p scope → (is_atom p && begins_round rest) ≡ false → leaves rest (Behind extent scope d r ∷ σ) ≡ Some out
     → (k : PrimaryEnded extent scope d σ (primary_text p rest) out) × (length k.rest ≤ length rest)
-ended (t.Dot ∷ t.Variable x ∷ xs) p extent scope d r σ out good apart h = let k = ended xs (Selects p (ByVariable x)) extent scope d (fewer r) σ out good refl h in (k.0, let l = k.1 in omega (arith, l))
-ended (t.Dot ∷ t.Atom a ∷ xs) p extent scope d r σ out good apart h =
+ended (t.Dot ∷ t.Variable x ∷ xs) p extent scope d r σ out good bare h = let k = ended xs (Selects p (ByVariable x)) extent scope d (fewer r) σ out good refl h in (k.0, let l = k.1 in omega (arith, l))
+ended (t.Dot ∷ t.Atom a ∷ xs) p extent scope d r σ out good bare h =
     let k = ended xs (Selects p (ByFeature (AtomFeature a))) extent scope d (fewer r) σ out good refl h in (k.0, let l = k.1 in omega (arith, l))
-ended (t.Dot ∷ t.Integer n ∷ xs) p extent scope d r σ out good apart h =
+ended (t.Dot ∷ t.Integer n ∷ xs) p extent scope d r σ out good bare h =
     let k = ended xs (Selects p (ByFeature (IntFeature n))) extent scope d (fewer r) σ out good refl h in (k.0, let l = k.1 in omega (arith, l))
-ended (t.Dot ∷ xs) p extent scope d r σ out good apart h = absurd (never out h)
-ended rest p extent scope d r σ out good apart h = (record { primary = p; levels = r; rest = rest; is = refl; derives = good; apart = apart; on = h; no_dot = refl }, omega arith)
+ended (t.Dot ∷ xs) p extent scope d r σ out good bare h = absurd (never out h)
+ended rest p extent scope d r σ out good bare h = (record { primary = p; levels = r; rest = rest; is = refl; derives = good; bare = bare; on = h; no_dot = refl }, omega arith)
 
 -- all of it, from its first symbol on
 pub record WholePrimary (extent : Extent) (scope : Scope) (d : ℕ) (σ : List Point) (symbols out : List Symbol) : Type 0 where
@@ -350,9 +347,9 @@ pub whole_primary : (n : ℕ) → Laws n → (s : Symbol) (xs : List Symbol) (ex
     → WholePrimary extent scope d σ (s ∷ xs) out
 whole_primary n law s xs extent scope d σ out lt h =
     let b = primary_begun n law s xs extent scope d σ out lt h in
-    let k = ended b.rest b.primary extent scope d b.levels σ out b.derives b.apart b.on in
+    let k = ended b.rest b.primary extent scope d b.levels σ out b.derives b.bare b.on in
     let e = k.0 in
     record {
-      taken = record { primary = e.primary; levels = e.levels; rest = e.rest; is = b.is ∙ e.is; derives = e.derives; apart = e.apart; on = e.on; no_dot = e.no_dot };
+      taken = record { primary = e.primary; levels = e.levels; rest = e.rest; is = b.is ∙ e.is; derives = e.derives; bare = e.bare; on = e.on; no_dot = e.no_dot };
       shorter = (let l = k.1 in let m = b.shorter in omega (arith, l, m));
     }

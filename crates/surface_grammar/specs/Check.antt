@@ -10,7 +10,7 @@ use Rattle.oz_grammar.specs.Grammar.{Identifier, selection_symbol, names_text, p
 use Rattle.oz_grammar.specs.Scoping.{Scope, built_in_at, feature_of, place_feature, pattern_names}
 use Rattle.oz_grammar.specs.Faults.{or_else, site_fault, deep_fault, use_fault, called_fault, fewer}
 use Rattle.oz_grammar.specs.Check.{first_fault, check_locals, check_pattern, check_selection}
-use Rattle.surface_grammar.specs.Derivations.{Primary, Name, Number, Word, Record, Calls, Procedure, Function, Brackets, Selects, Tail, Last, More, Value, Alone, Calculates, Tests, Pairs, IfValue, CaseValue, Arguments, no_arguments, argument_and, no_fields, placed_and, named_and, ValueClauses, no_clauses, clause_and, Statement, Skips, Tells, CallsStatement, Raises, Locals, ProcNamed, FunNamed, Threads, ThreadsAt, Ifs, Cases, Tries, TriesFinally, Finally, Clauses, no_cases, case_and, Sequence, One, Then, primary_text, tail_text, value_text, arguments_text, fields_text, value_clauses_text, statement_text, clauses_text, sequence_text}
+use Rattle.surface_grammar.specs.Derivations.{Primary, Variable, Integer, Atom, Record, Calls, Procedure, Function, Brackets, Selects, Tail, Last, More, Value, Alone, Calculates, Tests, Pairs, IfValue, CaseValue, Arguments, no_arguments, argument_and, no_fields, placed_and, named_and, ValueClauses, no_clauses, clause_and, Statement, Skips, Tells, CallsStatement, Raises, Locals, ProcNamed, FunNamed, Threads, ThreadsAt, Ifs, Cases, Tries, TriesFinally, Finally, Clauses, no_cases, case_and, Sequence, One, Then, primary_text, tail_text, value_text, arguments_text, fields_text, value_clauses_text, statement_text, clauses_text, sequence_text}
 use Rattle.surface_grammar.specs.Derivations as tree
 use Rattle.surface_grammar.specs.declared.parts.Callable.{Callable}
 use Rattle.surface_grammar.specs.declared.parts.Callable.TheVariants.{OfProc, OfFun}
@@ -19,7 +19,7 @@ use Rattle.surface_grammar.specs.Points.{value_fault, given_fault, named_fault, 
 -- Levels: of the 200 that a program has, d are left for a value. Its parts have one less, but its first primary is read before
 -- what makes it a part: a dot, an operator, a test or a bar behind it. So many levels are left for it there. A variable takes none.
 abbrev pub levels_behind : Primary → ℕ → ℕ
-levels_behind (Name x) d = d
+levels_behind (Variable x) d = d
 levels_behind (Selects p s) d = fewer (levels_behind p d)
 levels_behind p d = fewer d
 
@@ -39,9 +39,9 @@ check_formals c before (x ∷ xs) rest behind = first_fault (formal_wrong c befo
 -- less, those of a statement its own; brackets are a value that holds one.
 abbrev mutual
   pub check_primary : Primary → Scope → ℕ → Option FaultKind → List Symbol → Option Fault → Option Fault
-  check_primary (Name x) scope d holder rest behind = first_fault (value_fault scope d holder (t.Variable x)) (primary_text (Name x) rest) behind
-  check_primary (Number n) scope d holder rest behind = first_fault (value_fault scope d holder (t.Integer n)) (primary_text (Number n) rest) behind
-  check_primary (Word a) scope d holder rest behind = first_fault (value_fault scope d holder (t.Atom a)) (primary_text (Word a) rest) behind
+  check_primary (Variable x) scope d holder rest behind = first_fault (value_fault scope d holder (t.Variable x)) (primary_text (Variable x) rest) behind
+  check_primary (Integer n) scope d holder rest behind = first_fault (value_fault scope d holder (t.Integer n)) (primary_text (Integer n) rest) behind
+  check_primary (Atom a) scope d holder rest behind = first_fault (value_fault scope d holder (t.Atom a)) (primary_text (Atom a) rest) behind
   check_primary (Record a fs) scope d holder rest behind =
       first_fault (value_fault scope d holder (t.Atom a)) (primary_text (Record a fs) rest) (check_fields fs scope (fewer d) 64 [] 1 (t.CloseRound ∷ rest) behind)
   check_primary (Calls p vs) scope d holder rest behind =

@@ -18,9 +18,9 @@ use Rattle.oz_grammar.specs.Scoping.{Scope, built_in_at, pattern_names}
 -- try S catch X then S finally S end, try S finally S end.
 mutual
   pub data Primary : Type 0 where
-    Name : Identifier → Primary
-    Number : Option ℤ → Primary
-    Word : List ℕ → Primary
+    Variable : Identifier → Primary
+    Integer : Option ℤ → Primary
+    Atom : List ℕ → Primary
     Record : List ℕ → Fields → Primary
     Calls : Identifier → Arguments → Primary
     Procedure : List Identifier → Sequence → Primary
@@ -80,9 +80,9 @@ mutual
 -- the symbols of each before those that follow it, rest
 abbrev mutual
   pub primary_text : Primary → List Symbol → List Symbol
-  primary_text (Name x) rest = t.Variable x ∷ rest
-  primary_text (Number n) rest = t.Integer n ∷ rest
-  primary_text (Word a) rest = t.Atom a ∷ rest
+  primary_text (Variable x) rest = t.Variable x ∷ rest
+  primary_text (Integer n) rest = t.Integer n ∷ rest
+  primary_text (Atom a) rest = t.Atom a ∷ rest
   primary_text (Record a fs) rest = t.Atom a ∷ t.OpenRound ∷ fields_text fs (t.CloseRound ∷ rest)
   primary_text (Calls p vs) rest = t.OpenCurly ∷ t.Variable p ∷ arguments_text vs (t.CloseCurly ∷ rest)
   primary_text (Procedure xs q) rest = t.Proc ∷ t.OpenCurly ∷ t.Dollar ∷ names_text xs (t.CloseCurly ∷ sequence_text q (t.End ∷ rest))
@@ -149,32 +149,32 @@ program_text q = sequence_text q (t.EndOfText ∷ [])
 -- ---- which trees are derivations
 
 -- a bare atom
-abbrev pub is_word : Primary → Bool
-is_word (Word a) = true
-is_word p = false
+abbrev pub is_atom : Primary → Bool
+is_atom (Atom a) = true
+is_atom p = false
 
 -- the last primary of a list is a bare atom
-abbrev pub tail_ends_in_word : Tail → Bool
-tail_ends_in_word (Last p) = is_word p
-tail_ends_in_word (More p l) = tail_ends_in_word l
+abbrev pub tail_ends_in_atom : Tail → Bool
+tail_ends_in_atom (Last p) = is_atom p
+tail_ends_in_atom (More p l) = tail_ends_in_atom l
 
 -- the last symbol of a value is a bare atom
-abbrev pub ends_in_word : Value → Bool
-ends_in_word (Alone p) = is_word p
-ends_in_word (Calculates p o q) = is_word q
-ends_in_word (Tests p o q) = is_word q
-ends_in_word (Pairs p l) = tail_ends_in_word l
-ends_in_word (IfValue e a b) = false
-ends_in_word (CaseValue e p v cs b) = false
+abbrev pub ends_in_atom : Value → Bool
+ends_in_atom (Alone p) = is_atom p
+ends_in_atom (Calculates p o q) = is_atom q
+ends_in_atom (Tests p o q) = is_atom q
+ends_in_atom (Pairs p l) = tail_ends_in_atom l
+ends_in_atom (IfValue e a b) = false
+ends_in_atom (CaseValue e p v cs b) = false
 
 -- an opening round bracket stands first
 abbrev pub begins_round : List Symbol → Bool
 begins_round (t.OpenRound ∷ rest) = true
 begins_round symbols = false
 
--- no bare atom stands directly before an opening round bracket: it would be a label
-abbrev pub IsApart : Value → List Symbol → Type 0
-IsApart v following = (ends_in_word v && begins_round following) ≡ false
+-- a bare atom at the end stays one before what follows: no opening round bracket, to which it would be a label
+abbrev pub StaysBare : Value → List Symbol → Type 0
+StaysBare v following = (ends_in_atom v && begins_round following) ≡ false
 
 -- how many arguments these are
 abbrev pub count_arguments : Arguments → ℕ
@@ -194,9 +194,9 @@ LacksOneArgument None vs = Unit {0}
 -- Each is a derivation under these declarations, which decide what calls are built in.
 abbrev mutual
   pub PrimaryDerives : Primary → Scope → Type 0
-  PrimaryDerives (Name x) scope = Unit {0}
-  PrimaryDerives (Number n) scope = Unit {0}
-  PrimaryDerives (Word a) scope = Unit {0}
+  PrimaryDerives (Variable x) scope = Unit {0}
+  PrimaryDerives (Integer n) scope = Unit {0}
+  PrimaryDerives (Atom a) scope = Unit {0}
   PrimaryDerives (Record a fs) scope = FieldsDerive fs scope
   PrimaryDerives (Calls p vs) scope = LacksOneArgument (built_in_at scope p) vs × ArgumentsDerive vs scope
   PrimaryDerives (Procedure xs q) scope = SequenceDerives q (scope ++ xs)
@@ -219,12 +219,12 @@ abbrev mutual
 
   pub ArgumentsDerive : Arguments → Scope → Type 0
   ArgumentsDerive no_arguments scope = Unit {0}
-  ArgumentsDerive (argument_and v vs) scope = ValueDerives v scope × IsApart v (arguments_text vs []) × ArgumentsDerive vs scope
+  ArgumentsDerive (argument_and v vs) scope = ValueDerives v scope × StaysBare v (arguments_text vs []) × ArgumentsDerive vs scope
 
   pub FieldsDerive : Fields → Scope → Type 0
   FieldsDerive no_fields scope = Unit {0}
-  FieldsDerive (placed_and v fs) scope = ValueDerives v scope × IsApart v (fields_text fs []) × FieldsDerive fs scope
-  FieldsDerive (named_and m v fs) scope = ValueDerives v scope × IsApart v (fields_text fs []) × FieldsDerive fs scope
+  FieldsDerive (placed_and v fs) scope = ValueDerives v scope × StaysBare v (fields_text fs []) × FieldsDerive fs scope
+  FieldsDerive (named_and m v fs) scope = ValueDerives v scope × StaysBare v (fields_text fs []) × FieldsDerive fs scope
 
   pub ValueClausesDerive : ValueClauses → Scope → Type 0
   ValueClausesDerive no_clauses scope = Unit {0}

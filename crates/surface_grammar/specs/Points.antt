@@ -65,7 +65,7 @@ pub data Point : Type 0 where
   TailOf : Scope → ℕ → Point
   -- behind a primary, which as a part of a value has so many levels left, and behind an atom
   Behind : Extent → Scope → ℕ → ℕ → Point
-  BehindWord : Extent → Scope → ℕ → Point
+  BehindAtom : Extent → Scope → ℕ → Point
   SelectionOf : Scope → Point
   -- a field behind others of these features, with room for so many, and behind an atom or an integer that begins one
   FieldOf : Scope → ℕ → ℕ → List Feature → ℕ → Point
@@ -121,7 +121,7 @@ expected (ValueOf scope d ∷ points) = what.Value
 expected (OperandOf scope d ∷ points) = what.Value
 expected (TailOf scope d ∷ points) = what.Value
 expected (Behind extent scope d r ∷ points) = expected points
-expected (BehindWord extent scope d ∷ points) = expected points
+expected (BehindAtom extent scope d ∷ points) = expected points
 expected (SelectionOf scope ∷ points) = what.VariableOrFeature
 expected (FieldOf scope d room before nth ∷ points) = what.FieldOrBracket
 expected (FieldBegun scope d room before nth m ∷ points) = what.FieldOrBracket
@@ -143,7 +143,7 @@ expected (CatchName scope d ∷ points) = what.Variable
 abbrev pub next_primary : Extent → Scope → ℕ → Symbol → Option (List Point)
 next_primary extent scope d (t.Variable x) = Some (Behind extent scope d d ∷ [])
 next_primary extent scope d (t.Integer n) = Some (Behind extent scope d (fewer d) ∷ [])
-next_primary extent scope d (t.Atom a) = Some (BehindWord extent scope d ∷ [])
+next_primary extent scope d (t.Atom a) = Some (BehindAtom extent scope d ∷ [])
 next_primary extent scope d t.OpenCurly = Some (CallName AsValue scope (fewer d) ∷ Behind extent scope d (fewer d) ∷ [])
 next_primary extent scope d t.Proc = Some (Here sign.OpenCurly ∷ Here sign.Dollar ∷ Formals OfProc scope [] (fewer d) ∷ Behind extent scope d (fewer d) ∷ [])
 next_primary extent scope d t.Fun = Some (Here sign.OpenCurly ∷ Here sign.Dollar ∷ Formals OfFun scope [] (fewer d) ∷ Behind extent scope d (fewer d) ∷ [])
@@ -166,9 +166,9 @@ next_behind Rest scope d r t.Bar = Some (TailOf scope (fewer d) ∷ [])
 next_behind extent scope d r symbol = None
 
 -- behind an atom: an opening bracket makes it a label
-abbrev pub next_word : Extent → Scope → ℕ → Symbol → Option (List Point)
-next_word extent scope d t.OpenRound = Some (FieldOf scope (fewer d) 64 [] 1 ∷ Behind extent scope d (fewer d) ∷ [])
-next_word extent scope d symbol = next_behind extent scope d (fewer d) symbol
+abbrev pub next_atom : Extent → Scope → ℕ → Symbol → Option (List Point)
+next_atom extent scope d t.OpenRound = Some (FieldOf scope (fewer d) 64 [] 1 ∷ Behind extent scope d (fewer d) ∷ [])
+next_atom extent scope d symbol = next_behind extent scope d (fewer d) symbol
 
 -- behind a field without a feature
 abbrev pub behind_placed : Scope → ℕ → ℕ → List Feature → ℕ → List Point
@@ -183,7 +183,7 @@ next_field scope d room before nth symbol = then_points (next_value scope d symb
 
 -- what goes on with an atom or an integer as a value
 abbrev pub next_begun_value : Scope → ℕ → FeatureToken → Symbol → Option (List Point)
-next_begun_value scope d (AtomFeature a) symbol = next_word Whole scope d symbol
+next_begun_value scope d (AtomFeature a) symbol = next_atom Whole scope d symbol
 next_begun_value scope d (IntFeature n) symbol = next_behind Whole scope d (fewer d) symbol
 
 -- behind an atom or an integer that begins a field: a colon makes it a feature
@@ -309,7 +309,7 @@ next_of (ValueOf scope d) symbol = next_value scope d symbol
 next_of (OperandOf scope d) symbol = next_primary Part scope d symbol
 next_of (TailOf scope d) symbol = next_primary Rest scope d symbol
 next_of (Behind extent scope d r) symbol = next_behind extent scope d r symbol
-next_of (BehindWord extent scope d) symbol = next_word extent scope d symbol
+next_of (BehindAtom extent scope d) symbol = next_atom extent scope d symbol
 next_of (SelectionOf scope) symbol = next_selection symbol
 next_of (FieldOf scope d room before nth) symbol = next_field scope d room before nth symbol
 next_of (FieldBegun scope d room before nth m) symbol = next_begun scope d room before nth m symbol
@@ -330,7 +330,7 @@ next_of (CatchName scope d) symbol = on_variable (λ x. Here sign.Then ∷ At Fi
 abbrev pub next : List Point → Symbol → Option (List Point)
 next [] symbol = None
 next (Behind extent scope d r ∷ points) symbol = or_points (then_points (next_behind extent scope d r symbol) points) (next points symbol)
-next (BehindWord extent scope d ∷ points) symbol = or_points (then_points (next_word extent scope d symbol) points) (next points symbol)
+next (BehindAtom extent scope d ∷ points) symbol = or_points (then_points (next_atom extent scope d symbol) points) (next points symbol)
 next (FieldBegun scope d room before nth m ∷ points) symbol =
     or_points (then_points (next_begun scope d room before nth m symbol) points)
     (then_points (next_field scope d (fewer room) (place_feature nth ∷ before) (nth + 1) symbol) points)
@@ -394,14 +394,14 @@ abbrev pub formal_wrong : Callable → List Identifier → Identifier → Option
 formal_wrong c before x = or_else (where_not (nat_lt (length before) (most_formals c)) Wide) (where_so (has_name before x) Twice)
 
 -- behind an atom: it has no level left as a part; an opening bracket takes none
-abbrev pub word_wrong : ℕ → Symbol → Option FaultKind
-word_wrong d t.OpenRound = None
-word_wrong d symbol = deep_fault (fewer d)
+abbrev pub atom_wrong : ℕ → Symbol → Option FaultKind
+atom_wrong d t.OpenRound = None
+atom_wrong d symbol = deep_fault (fewer d)
 
 -- behind an atom or an integer that begins a field: likewise; a colon takes none
 abbrev pub begun_wrong : ℕ → Symbol → Option FaultKind
 begun_wrong d t.Colon = None
-begun_wrong d symbol = word_wrong d symbol
+begun_wrong d symbol = atom_wrong d symbol
 
 -- what is wrong, besides the grammar, at a symbol that goes on from a point
 abbrev pub wrong_of : Point → Symbol → Option FaultKind
@@ -415,7 +415,7 @@ wrong_of (ValueOf scope d) symbol = value_fault scope d None symbol
 wrong_of (OperandOf scope d) symbol = value_fault scope d None symbol
 wrong_of (TailOf scope d) symbol = value_fault scope d None symbol
 wrong_of (Behind extent scope d r) symbol = deep_fault r
-wrong_of (BehindWord extent scope d) symbol = word_wrong d symbol
+wrong_of (BehindAtom extent scope d) symbol = atom_wrong d symbol
 wrong_of (SelectionOf scope) symbol = value_wrong scope symbol
 wrong_of (FieldOf scope d room before nth) symbol = None
 wrong_of (FieldBegun scope d room before nth m) symbol = begun_wrong d symbol
@@ -441,7 +441,7 @@ abbrev pub wrong : List Point → List Symbol → Option FaultKind
 wrong points [] = None
 wrong [] (symbol ∷ symbols) = None
 wrong (Behind extent scope d r ∷ points) (symbol ∷ symbols) = where_taken (next_behind extent scope d r symbol) (deep_fault r) (wrong points (symbol ∷ symbols))
-wrong (BehindWord extent scope d ∷ points) (symbol ∷ symbols) = where_taken (next_word extent scope d symbol) (word_wrong d symbol) (wrong points (symbol ∷ symbols))
+wrong (BehindAtom extent scope d ∷ points) (symbol ∷ symbols) = where_taken (next_atom extent scope d symbol) (atom_wrong d symbol) (wrong points (symbol ∷ symbols))
 wrong (FieldBegun scope d room before nth m ∷ points) (symbol ∷ symbols) =
     where_taken (next_begun scope d room before nth m symbol) (begun_wrong d symbol) (field_fault scope d (fewer room) (place_feature nth ∷ before) (nth + 1) (symbol ∷ symbols))
 wrong (FieldOf scope d room before nth ∷ points) (symbol ∷ symbols) = field_fault scope d room before nth (symbol ∷ symbols)

@@ -1,6 +1,6 @@
 -- How symbols with sugar are read from the left: the tree and the symbols behind it, or the first fault. A reader's code follows
 -- these clause by clause; that they give the tree or the first fault of the symbols is a law.
-use Rattle.std.specs.Prelude.{ℕ, zero, suc, ◌+◌, ◌-◌, List, [], ◌∷◌, ◌++◌, length, Bool, true, false, if◌then◌else◌, drop, map, Result, Ok, Err, Option, Some, None}
+use Rattle.std.specs.Prelude.{ℕ, zero, suc, ◌+◌, ◌-◌, List, [], ◌∷◌, ◌++◌, length, Bool, true, false, if◌then◌else◌, drop, Result, Ok, Err, Option, Some, None}
 use Rattle.tree_node.specs.declared.node.Feature.{Feature}
 use Rattle.kernel_syntax.specs.declared.stmt.Pattern.{Pattern}
 use Rattle.kernel_syntax.specs.declared.built_in.BuiltIn.{BuiltIn}
@@ -10,7 +10,7 @@ use Rattle.kernel_syntax.specs.declared.sugar.Operation.{Operation}
 use Rattle.kernel_syntax.specs.declared.sugar.Operation.TheVariants as operation
 use Rattle.kernel_syntax.specs.declared.sugar.Action.TheVariants as action
 use Rattle.kernel_syntax.specs.Sugar as sugar
-use Rattle.kernel_syntax.specs.Sugar.{Value, Values, no_values, value_and, ValueClauses, no_clauses, clause_and, Statement, Statements, no_statements, statement_and, Clauses, no_cases, case_and, count_values}
+use Rattle.kernel_syntax.specs.Sugar.{Value, Values, no_values, value_and, ValueClauses, no_clauses, clause_and, Statement, Statements, no_statements, statement_and, Clauses, no_cases, case_and, count_values, field_of}
 use Rattle.oz_grammar.specs.declared.symbol.Symbol.{Symbol}
 use Rattle.oz_grammar.specs.declared.symbol.Symbol.TheVariants as t
 use Rattle.oz_grammar.specs.declared.symbol.Sign.TheVariants as sign
@@ -23,7 +23,7 @@ use Rattle.oz_grammar.specs.Grammar.{Identifier, AtomFeature, IntFeature}
 use Rattle.oz_grammar.specs.Scoping.{Scope, declaration_of, built_in_at, feature_of, place_feature, with_field}
 use Rattle.oz_grammar.specs.Faults.{or_else, number_fault, deep_fault, use_fault, room_fault, fewer, fault_here}
 use Rattle.oz_grammar.specs.Points.{is_statement_start}
-use Rattle.oz_grammar.specs.Table.{value_of}
+use Rattle.oz_grammar.specs.Table.{value_of, features_in}
 use Rattle.oz_grammar.specs.Reading.{◌>>=◌, fault_expected, fault_or, sign_at, used_variable_at, selection_at, is_close_round, first_local_at, close_at, pattern_at, site_at, catch_name_at}
 use Rattle.surface_grammar.specs.declared.parts.CallUse.{CallUse}
 use Rattle.surface_grammar.specs.declared.parts.CallUse.TheVariants.{AsValue, AsStatement}
@@ -32,7 +32,7 @@ use Rattle.surface_grammar.specs.declared.parts.Callable.TheVariants.{OfProc, Of
 use Rattle.surface_grammar.specs.declared.parts.Closer.{Closer}
 use Rattle.surface_grammar.specs.declared.parts.Closer.TheVariants as closer
 use Rattle.surface_grammar.specs.Points.{given_fault, formal_wrong}
-use Rattle.surface_grammar.specs.Trees.{field_of, with_last, with_value, record_value, pair_value, call_value, call_statement}
+use Rattle.surface_grammar.specs.Trees.{with_last, with_value, record_value, pair_value, call_value, call_statement}
 
 -- what is read, and the symbols behind it, or the first fault
 abbrev pub Read : Type 0 → Type 0
@@ -125,19 +125,15 @@ FieldsSoFar = List (Feature × Field) × Values × ℕ
 abbrev pub with_one : Feature → Value → ℕ → FieldsSoFar → FieldsSoFar
 with_one f v nth before = (with_field f (field_of v (count_values before.1)) before.0, with_value before.1 v, nth)
 
--- the features of fields
-abbrev pub features_of : List (Feature × Field) → List Feature
-features_of slots = map (λ (s : Feature × Field). s.0) slots
-
 -- a field of this feature, with room for so many, behind whose colon these symbols stand
 abbrev pub named_at : ValueReader → Scope → ℕ → FieldsSoFar → Feature → List Symbol → List Symbol → Read FieldsSoFar
 named_at value scope room before f symbols rest =
-    fault_or (given_fault room (features_of before.0) f) symbols (value scope None what.Value rest >>= λ v. Ok (with_one f v.0 before.2 before, v.1))
+    fault_or (given_fault room (features_in before.0) f) symbols (value scope None what.Value rest >>= λ v. Ok (with_one f v.0 before.2 before, v.1))
 
 -- a field without a feature
 abbrev pub placed_at : ValueReader → Scope → ℕ → FieldsSoFar → List Symbol → Read FieldsSoFar
 placed_at value scope room before symbols =
-    value scope (given_fault room (features_of before.0) (place_feature before.2)) what.FieldOrBracket symbols >>= λ v.
+    value scope (given_fault room (features_in before.0) (place_feature before.2)) what.FieldOrBracket symbols >>= λ v.
     Ok (with_one (place_feature before.2) v.0 (before.2 + 1) before, v.1)
 
 -- a field behind others: an atom or an integer is its feature where a colon stands behind it
@@ -157,9 +153,9 @@ fields_at value scope (suc room) before symbols =
     else (field_at value scope (suc room) before symbols >>= λ m. fields_at value scope room m.0 m.1)
 
 -- behind an atom: the fields of a record, if a bracket opens them
-abbrev pub word_at : ValueReader → Scope → ℕ → List ℕ → List Symbol → Read Value
-word_at value scope left a (t.OpenRound ∷ rest) = fields_at value scope 64 ([], no_values, 1) rest >>= λ m. Ok (record_value left a m.0.0 m.0.1, m.1)
-word_at value scope left a symbols = Ok (sugar.Atom left a, symbols)
+abbrev pub atom_at : ValueReader → Scope → ℕ → List ℕ → List Symbol → Read Value
+atom_at value scope left a (t.OpenRound ∷ rest) = fields_at value scope 64 ([], no_values, 1) rest >>= λ m. Ok (record_value left a m.0.0 m.0.1, m.1)
+atom_at value scope left a symbols = Ok (sugar.Atom left a, symbols)
 
 -- a value in round brackets, behind the first
 abbrev pub brackets_at : ValueReader → Scope → ℕ → List Symbol → Read Value
@@ -250,7 +246,7 @@ callable_statement_at inner c scope left symbols =
 
 -- a primary of several symbols, and the bare atom
 abbrev pub compound_at : Readers → Scope → List Symbol → Read Value
-compound_at inner scope (t.Atom a ∷ rest) = word_at inner.value scope (length (t.Atom a ∷ rest)) a rest
+compound_at inner scope (t.Atom a ∷ rest) = atom_at inner.value scope (length (t.Atom a ∷ rest)) a rest
 compound_at inner scope (t.OpenCurly ∷ rest) = call_value_at inner.value scope (length (t.OpenCurly ∷ rest)) rest
 compound_at inner scope (t.Proc ∷ rest) = callable_value_at inner OfProc scope (length (t.Proc ∷ rest)) rest
 compound_at inner scope (t.Fun ∷ rest) = callable_value_at inner OfFun scope (length (t.Fun ∷ rest)) rest

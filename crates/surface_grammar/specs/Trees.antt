@@ -9,17 +9,11 @@ use Rattle.oz_grammar.specs.Grammar.{selection_symbol, pattern_text}
 use Rattle.oz_grammar.specs.Scoping.{Scope, declaration_of, built_in_at, with_field, feature_of, place_feature, pattern_names}
 use Rattle.oz_grammar.specs.Table.{value_of, bar_label, pattern_of, selector_of}
 use Rattle.kernel_syntax.specs.declared.sugar.Field.{Field}
-use Rattle.kernel_syntax.specs.declared.sugar.Field.TheVariants as field
 use Rattle.kernel_syntax.specs.declared.sugar.Operation.TheVariants as operation
 use Rattle.kernel_syntax.specs.declared.sugar.Action.TheVariants as action
 use Rattle.kernel_syntax.specs.Sugar as sugar
-use Rattle.kernel_syntax.specs.Sugar.{by_kind}
-use Rattle.surface_grammar.specs.Derivations.{Primary, Name, Number, Word, Record, Calls, Procedure, Function, Brackets, Selects, Tail, Last, More, Value, Alone, Calculates, Tests, Pairs, IfValue, CaseValue, Arguments, no_arguments, argument_and, Fields, no_fields, placed_and, named_and, ValueClauses, no_clauses, clause_and, Statement, Skips, Tells, CallsStatement, Raises, Locals, ProcNamed, FunNamed, Threads, ThreadsAt, Ifs, Cases, Tries, TriesFinally, Finally, Clauses, no_cases, case_and, Sequence, One, Then, primary_text, tail_text, value_text, arguments_text, fields_text, value_clauses_text, statement_text, clauses_text, sequence_text}
-
--- the field that a value is, where so many that are no variables stand before it
-abbrev pub field_of : sugar.Value → ℕ → Field
-field_of (sugar.Variable left k) i = field.Variable k
-field_of v i = field.Value i
+use Rattle.kernel_syntax.specs.Sugar.{by_kind, field_of}
+use Rattle.surface_grammar.specs.Derivations.{Primary, Variable, Integer, Atom, Record, Calls, Procedure, Function, Brackets, Selects, Tail, Last, More, Value, Alone, Calculates, Tests, Pairs, IfValue, CaseValue, Arguments, no_arguments, argument_and, Fields, no_fields, placed_and, named_and, ValueClauses, no_clauses, clause_and, Statement, Skips, Tells, CallsStatement, Raises, Locals, ProcNamed, FunNamed, Threads, ThreadsAt, Ifs, Cases, Tries, TriesFinally, Finally, Clauses, no_cases, case_and, Sequence, One, Then, primary_text, tail_text, value_text, arguments_text, fields_text, value_clauses_text, statement_text, clauses_text, sequence_text}
 
 -- one value more
 abbrev pub with_last : sugar.Values → sugar.Value → sugar.Values
@@ -37,8 +31,7 @@ record_value left a (slot ∷ slots) vs = sugar.Record left a (slot ∷ slots) v
 
 -- H|T of these values
 abbrev pub pair_value : ℕ → sugar.Value → sugar.Value → sugar.Value
-pair_value left h u =
-    sugar.Record left bar_label ((place_feature 1, field_of h 0) ∷ (place_feature 2, field_of u (sugar.new_of h)) ∷ []) (with_value (with_value sugar.no_values h) u)
+pair_value left h u = sugar.Record left bar_label (sugar.pair_fields h u) (sugar.pair_values h u)
 
 -- a call as a value, of what is built in or of a procedure
 abbrev pub call_value : Option BuiltIn → ℕ → ℕ → sugar.Values → sugar.Value
@@ -53,9 +46,9 @@ call_statement None left p vs = sugar.Acts left (action.Call p) vs
 -- Each takes the declarations around it and the symbols behind it: its place is how many symbols its text has with those.
 abbrev mutual
   pub primary_of : Primary → Scope → List Symbol → sugar.Value
-  primary_of (Name x) scope rest = sugar.Variable (length (primary_text (Name x) rest)) (declaration_of scope x)
-  primary_of (Number n) scope rest = sugar.Integer (length (primary_text (Number n) rest)) (value_of n)
-  primary_of (Word a) scope rest = sugar.Atom (length (primary_text (Word a) rest)) a
+  primary_of (Variable x) scope rest = sugar.Variable (length (primary_text (Variable x) rest)) (declaration_of scope x)
+  primary_of (Integer n) scope rest = sugar.Integer (length (primary_text (Integer n) rest)) (value_of n)
+  primary_of (Atom a) scope rest = sugar.Atom (length (primary_text (Atom a) rest)) a
   primary_of (Record a fs) scope rest = fields_in fs scope 1 0 [] sugar.no_values (t.CloseRound ∷ rest) (length (primary_text (Record a fs) rest)) a
   primary_of (Calls p vs) scope rest = call_value (built_in_at scope p) (length (primary_text (Calls p vs) rest)) (declaration_of scope p) (arguments_of vs scope (t.CloseCurly ∷ rest))
   primary_of (Procedure xs q) scope rest = sugar.Proc (length (primary_text (Procedure xs q) rest)) (length xs) (sequence_of q (scope ++ xs) (t.End ∷ rest))
