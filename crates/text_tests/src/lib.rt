@@ -9,6 +9,8 @@ mod canonical;
 #[cfg(test)]
 mod faults;
 #[cfg(test)]
+mod levels;
+#[cfg(test)]
 mod printed;
 #[cfg(test)]
 mod statuses;

@@ -359,7 +359,7 @@ static REFUSED: [(&str, &str); 103] = [
     ("local X in X = -5 end", "refused 1:16 expected a value"),
 ];
 
-static LIMITS: [Long; 24] = [
+static LIMITS: [Long; 21] = [
     ("local P X in X = {P", " 1", 63, "} end", "", None),
     (
         "local P X in X = {P",
@@ -386,30 +386,6 @@ static LIMITS: [Long; 24] = [
         "a:1",
         "",
         Some("refused 1:146 too many items"),
-    ),
-    (
-        "local X in X = ",
-        "(",
-        199,
-        "X",
-        ")",
-        Some("refused 1:415 expected a statement or end"),
-    ),
-    (
-        "local X in X = ",
-        "(",
-        199,
-        "1",
-        "",
-        Some("refused 1:215 nested too deep"),
-    ),
-    (
-        "local X in X = ",
-        "(",
-        200,
-        "X",
-        "",
-        Some("refused 1:215 nested too deep"),
     ),
     ("local X in X = ", "1|", 99, "nil end", "", None),
     (
@@ -471,20 +447,20 @@ static LIMITS: [Long; 24] = [
         Some("refused 1:415 expected a field or )"),
     ),
     (
-        "local X in X = ",
-        "fun {$} ",
-        198,
-        "1",
-        " end",
-        Some("refused 1:2393 expected a statement or end"),
-    ),
-    (
         "local X in case X of a then skip ",
         "[] b then skip ",
         197,
         "else skip end end",
         "",
         None,
+    ),
+    (
+        "local X in case X of a then skip ",
+        "[] b then skip ",
+        198,
+        "else skip end end",
+        "",
+        Some("refused 1:2999 nested too deep"),
     ),
     (
         "local X in case X of a then skip ",
