@@ -10,6 +10,8 @@ use Rattle.site_model.specs.Fit.{IsFit}
 use Rattle.site_model.specs.Variables.{opening}
 use Rattle.site_model.specs.Messages.{message_row, reception}
 use Rattle.site_model.specs.Turn.{AreUnits}
+use Rattle.thread_roster.specs.Order.{HaveComeBehind}
+use Rattle.thread_roster.proofs.BehindLemmas.{behind_same}
 use Rattle.site_units.specs.declared.data.Core.{Core}
 use Rattle.site_units.specs.declared.data.Output.{Output}
 use Rattle.site_units.specs.Core.{site_of}
@@ -36,10 +38,11 @@ unfit_received p m c o h unfit = (without_output (site_of c), inr (unfit, refl),
 
 -- ---- a turn
 
-pub whole_turn : (p : List Stmt) (quantum : ℕ) (m : Option Msg) (c0 c1 c2 : Core) (o0 o1 o2 : Output) → IsReceived p m c0 o0 c1 o1 → AreUnitsMade p quantum c1 o1 c2 o2 → IsFullTurnMade p quantum m c0 o0 c2 o2
-whole_turn p quantum m c0 c1 c2 o0 o1 o2 (heard, reception, reached) (ths, rest, units, then, most, idle) = (
+pub whole_turn : (p : List Stmt) (quantum : ℕ) (m : Option Msg) (c0 c1 c2 : Core) (o0 o1 o2 : Output) → IsReceived p m c0 o0 c1 o1 → HaveComeBehind c0.threads.order c1.threads.order → AreUnitsMade p quantum c1 o1 c2 o2 →
+    IsFullTurnMade p quantum m c0 o0 c2 o2
+whole_turn p quantum m c0 c1 c2 o0 o1 o2 (heard, reception, reached) behind (ths, rest, units, then, most, idle, turns) = (
   sequence heard rest,
-  (ths, (heard, rest, reception, here, refl), most, idle),
+  (ths, (heard, rest, reception, here, refl), most, idle, (c1.threads.order, behind, turns)),
   reached_more p heard rest c0 c1 c2 o0 o1 o2 reached then,
 )
   where
@@ -48,4 +51,4 @@ whole_turn p quantum m c0 c1 c2 o0 o1 o2 (heard, reception, reached) (ths, rest,
 
 -- without a message
 pub silent_turn : (p : List Stmt) (quantum : ℕ) (c0 c2 : Core) (o0 o2 : Output) → IsConsistent p c0 → AreUnitsMade p quantum c0 o0 c2 o2 → IsFullTurnMade p quantum None c0 o0 c2 o2
-silent_turn p quantum c0 c2 o0 o2 h units = whole_turn p quantum None c0 c0 c2 o0 o0 o2 (without_output (site_of c0), refl, reached_nothing p c0 o0 h) units
+silent_turn p quantum c0 c2 o0 o2 h units = whole_turn p quantum None c0 c0 c2 o0 o0 o2 (without_output (site_of c0), refl, reached_nothing p c0 o0 h) (behind_same c0.threads.order c0.threads.order refl) units

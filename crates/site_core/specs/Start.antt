@@ -1,6 +1,7 @@
 -- A site's data at the start of a program.
 use Rattle.std.specs.Prelude.{◌≡◌, ◌==◌, ℕ, List, [], ◌∷◌, None, if◌then◌else◌}
 use Rattle.tree_node.specs.declared.names.CodeId.{CodeId}
+use Rattle.tree_node.specs.declared.names.ThreadName.{ThreadName}
 use Rattle.tree_node.specs.declared.item.Item.TheVariants as item
 use Rattle.tree_node.specs.Env.{env_for}
 use Rattle.kernel_syntax.specs.declared.stmt.Stmt.{Stmt}
@@ -24,6 +25,10 @@ first_running p = record { name = first_thread; stack = item.Run first_code (env
 -- site 1 has the program's thread, the others none
 abbrev pub first_living : List Stmt → ℕ → List (Entry Running)
 first_living p i = if i == 1 then (first_thread, (first_running p, Runs)) ∷ [] else []
+
+-- and that thread is the one that can go on
+abbrev pub first_order : ℕ → List ThreadName
+first_order i = if i == 1 then first_thread ∷ [] else []
 
 -- the data of site i of n, which knows nothing, made nothing but the program's thread where it is site 1, and uses no cell
 pub record IsBare (i n : ℕ) (c : Core) : Type 0 where

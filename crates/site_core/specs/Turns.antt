@@ -17,11 +17,12 @@ use Rattle.name_supply.specs.Supply.{IsMade}
 use Rattle.site_cells.specs.Tables.{IsReceivable}
 use Rattle.site_model.specs.Bundle.{bundle_limit}
 use Rattle.site_model.specs.Transition.{Transition}
-use Rattle.site_model.specs.Turn.{IsReception, IsFullTurn}
+use Rattle.site_model.specs.Turn.{IsReception}
 use Rattle.site_units.specs.declared.data.Core.{Core}
 use Rattle.site_units.specs.declared.data.Output.{Output}
 use Rattle.site_units.specs.Core.{site_of}
 use Rattle.site_units.specs.Units.{IsTransitionMade}
+use Rattle.site_core.specs.Site.{IsFairTurn}
 
 -- ---- messages
 
@@ -52,7 +53,7 @@ IsReceived p m c0 o0 c1 o1 =
 
 -- ---- turns
 
--- the data and the output came by a full turn
+-- the data and the output came by a full turn, in which threads had their turns in order
 abbrev pub IsFullTurnMade : List Stmt → ℕ → Option Msg → Core → Output → Core → Output → Type 0
 IsFullTurnMade p quantum m c0 o0 c1 o1 =
-    (d : Transition) × IsFullTurn p c0.sites bundle_limit quantum (site_of c0) m d × IsTransitionMade p d c0 o0 c1 o1
+    (d : Transition) × IsFairTurn p c0.sites quantum (site_of c0) m d c0.threads.order c1.threads.order × IsTransitionMade p d c0 o0 c1 o1

@@ -1,6 +1,7 @@
 //! What a site does with a message that is fit, once it is opened.
 
 ghost use Rattle.std.specs.Prelude.{◌≡◌, ◌<◌, ◌^◌, OnOk};
+ghost use Rattle.thread_roster.specs.Order.{HaveComeBehind};
 ghost use Rattle.site_model.specs.Messages.{message_row};
 ghost use Rattle.site_units.specs.Invariant.{IsConsistent};
 ghost use Rattle.site_units.specs.Turns.{IsRowMade};
@@ -22,6 +23,7 @@ pub fn deliver(
     requires deliverable { CanDeliver program.now core.old msg }
     requires room { core.old.steps < 2 ^ 50 }
     ensures row { OnOk result (IsRowMade program.now (message_row program.now 0 msg) core.old output.old core.new output.new) }
+    ensures order { OnOk result (HaveComeBehind core.old.threads.order core.new.threads.order) }
     ensures steps { OnOk result (core.new.steps ≡ core.old.steps) }
 {
     match msg {

@@ -3,7 +3,7 @@
 ghost use Rattle.std.specs.Prelude.{◌≡◌, ◌+◌, ◌≤◌, ◌^◌, IfOk, OnOk};
 ghost use Rattle.site_units.specs.Core.{site_of};
 ghost use Rattle.site_units.specs.Invariant.{IsConsistent};
-ghost use Rattle.site_core.specs.Site.{IsTurnMade, message_in, number_in};
+ghost use Rattle.site_core.specs.Site.{IsTurnMade, IsTurnInOrder, message_in, number_in};
 
 use crate::turn::turn;
 use kernel_syntax::Program;
@@ -36,6 +36,7 @@ pub fn recorded_turn(
     ensures consistent { OnOk result (IsConsistent program.now core.new) }
     ensures sites { OnOk result (core.new.sites ≡ core.old.sites) }
     ensures number { OnOk result ((site_of core.new).records.site ≡ (site_of core.old).records.site) }
+    ensures order { IfOk result (λ e. IsTurnInOrder program.now core.old.sites (site_of core.old) message quantum.0 e (site_of core.new) core.old.threads.order core.new.threads.order) }
     ensures steps { OnOk result (core.new.steps ≤ core.old.steps + quantum.0) }
 {
     let site = site_in(&core.fresh);

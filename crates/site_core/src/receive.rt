@@ -1,6 +1,7 @@
 //! Messages that come.
 
 ghost use Rattle.std.specs.Prelude.{◌≡◌, ◌<◌, ◌^◌, OnOk, Some};
+ghost use Rattle.thread_roster.specs.Order.{HaveComeBehind};
 ghost use Rattle.site_units.specs.Invariant.{IsConsistent};
 ghost use Rattle.site_core.specs.Turns.{IsReceived};
 
@@ -24,6 +25,7 @@ pub fn receive(
     requires consistent { IsConsistent program.now core.old }
     requires room { core.old.steps < 2 ^ 50 }
     ensures received { OnOk result (IsReceived program.now (Some msg) core.old output.old core.new output.new) }
+    ensures order { OnOk result (HaveComeBehind core.old.threads.order core.new.threads.order) }
     ensures steps { OnOk result (core.new.steps ≡ core.old.steps) }
 {
     program.is_program();

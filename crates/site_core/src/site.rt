@@ -5,7 +5,8 @@ ghost use Rattle.std.specs.Borrow.{sem};
 ghost use Rattle.site_model.specs.Site.{initial_site, is_idle};
 ghost use Rattle.site_units.specs.Core.{site_of};
 ghost use Rattle.site_core.specs.Seat.{LendsSeat};
-ghost use Rattle.site_core.specs.Site.{IsTurnMade};
+ghost use Rattle.site_core.specs.Site.{IsTurnMade, IsTurnInOrder};
+ghost use Rattle.site_core.specs.Start.{first_order};
 
 use crate::entry::recorded_turn;
 use crate::start::{bare_core, first_core};
@@ -33,7 +34,7 @@ impl<'a, O> Model for Site<'a, O> {
     ghost use Rattle.site_units.specs.Core.{site_of};
     ghost use Rattle.site_core.specs.Invariant.{IsConsistentUnlessSpent};
 
-    ghost view = { λ s. record { program = s.program.now; sites = s.core.sites; state = site_of s.core; spent = s.spent; seat = s.seat } };
+    ghost view = { λ s. record { program = s.program.now; sites = s.core.sites; state = site_of s.core; order = s.core.threads.order; spent = s.spent; seat = s.seat } };
 
     ghost invariant = { λ s. IsConsistentUnlessSpent s.program.now s.core s.spent };
 }
@@ -52,6 +53,7 @@ impl<'a> Site<'a, NoSeat> {
         ensures program { IfOk result (λ s. s.program ≡ program.now) }
         ensures sites { IfOk result (λ s. s.sites ≡ sites) }
         ensures state { IfOk result (λ s. s.state ≡ initial_site program.now number) }
+        ensures order { IfOk result (λ s. s.order ≡ first_order number) }
         ensures live { IfOk result (λ s. s.spent ≡ false) }
     {
         let core = first_core(alloc, number, sites, program)?;
@@ -65,7 +67,7 @@ impl<'a> Site<'a, NoSeat> {
 
     /// Gives the site a seat.
     pub fn seated<O: Outside>(self, seat: O) -> Site<'a, O>
-        ensures { result ≡ record { program = self.entry.program; sites = self.entry.sites; state = self.entry.state; spent = self.entry.spent; seat = seat } }
+        ensures { result ≡ record { program = self.entry.program; sites = self.entry.sites; state = self.entry.state; order = self.entry.order; spent = self.entry.spent; seat = seat } }
     {
         let Site {
             program,
@@ -134,6 +136,7 @@ impl<'a, O: Outside> Site<'a, O> {
         ensures seat { self.new.seat ≡ self.old.seat }
         ensures turn { IfOk result (λ e. IsTurnMade self.old.program self.old.sites self.old.state message quantum.0 e self.new.state) }
         ensures number { self.new.state.records.site ≡ self.old.state.records.site }
+        ensures order { IfOk result (λ e. IsTurnInOrder self.old.program self.old.sites self.old.state message quantum.0 e self.new.state self.old.order self.new.order) }
         ensures few { OnOk result (self.new.state.steps ≤ self.old.state.steps + quantum.0) }
         ensures live { OnOk result (self.new.spent ≡ false) }
         ensures spent { OnErr result (self.new.spent ≡ true) }

@@ -4,7 +4,7 @@ ghost use Rattle.std.specs.Prelude.{◌≡◌, ◌≤◌, IfOk};
 ghost use Rattle.site_model.specs.Site.{initial_site};
 ghost use Rattle.site_units.specs.Core.{site_of};
 ghost use Rattle.site_units.specs.Invariant.{IsConsistent};
-ghost use Rattle.site_core.specs.Start.{IsBare, first_living};
+ghost use Rattle.site_core.specs.Start.{IsBare, first_living, first_order};
 
 use kernel_syntax::Program;
 use name_supply::Fresh;
@@ -24,6 +24,7 @@ fn first_threads(
 ) -> Result<Roster<Thread>, AllocError>
     ensures living { IfOk result (λ t. t.living ≡ first_living program.now number) }
     ensures ended { IfOk result (λ t. t.ended ≡ 0) }
+    ensures order { IfOk result (λ t. t.order ≡ first_order number) }
 {
     let mut threads = Roster::new(alloc);
     if number == 1 {
@@ -61,6 +62,7 @@ pub fn first_core(
     requires some { 1 ≤ number }
     requires among { number ≤ sites }
     ensures state { IfOk result (λ c. site_of c ≡ initial_site program.now number) }
+    ensures order { IfOk result (λ c. c.threads.order ≡ first_order number) }
     ensures consistent { IfOk result (λ c. IsConsistent program.now c) }
     ensures sites { IfOk result (λ c. c.sites ≡ sites) }
 {

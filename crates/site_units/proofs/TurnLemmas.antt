@@ -1,6 +1,6 @@
 -- Units in a row, and turns.
-use Rattle.std.proofs.Common.{arith, ◌≡◌, ◌∙◌, sym, ap, refl, subst, ℕ, suc, length, filter, List, [], ◌∷◌, ◌++◌, Bool, true, false, cond}
-use Rattle.std.specs.Prelude.{◌+◌, ◌≤◌, ◌<◌}
+use Rattle.std.proofs.Common.{arith, ◌≡◌, ◌∙◌, sym, ap, refl, subst, ℕ, suc, length, filter, List, [], ◌∷◌, ◌++◌, Bool, true, false, cond, Some, None}
+use Rattle.std.specs.Prelude.{Option, ◌+◌, ◌≤◌, ◌<◌}
 use Rattle.tree_node.specs.declared.names.ThreadName.{ThreadName}
 use Rattle.tree_node.specs.declared.pick.Pick.{Pick}
 use Rattle.kernel_syntax.specs.declared.stmt.Stmt.{Stmt}
@@ -20,9 +20,11 @@ use Rattle.site_units.specs.declared.data.Core.{Core}
 use Rattle.site_units.specs.declared.data.Output.{Output}
 use Rattle.site_units.specs.Core.{site_of, stack_in}
 use Rattle.site_units.specs.Invariant.{IsConsistent}
+use Rattle.site_units.specs.Order.{IsTurnOf, AreTurnsOf, last_of, passed_on}
 use Rattle.site_units.specs.Units.{IsTransitionMade, IsUnitPacked}
 use Rattle.site_units.specs.Turns.{AreUnitsMade}
 use Rattle.site_units.proofs.SiteLemmas.{nil_right, joined}
+use Rattle.site_units.proofs.OrderLemmas.{turns_more, last_end, none_passed}
 use Rattle.std.proofs.lemmas.Bool.{eq-eqb}
 
 -- ---- transitions in a row
@@ -63,29 +65,34 @@ reached_nothing p c o h = record {
 
 -- ---- the loop of units
 
--- so many units so far
-pub record UnitsSoFar (p : List Stmt) (count : ℕ) (c0 : Core) (o0 : Output) (c1 : Core) (o1 : Output) : Type 0 where
+-- so many units so far, the last of this thread
+pub record UnitsSoFar (p : List Stmt) (count : ℕ) (last : Option ThreadName) (c0 : Core) (o0 : Output) (c1 : Core) (o1 : Output) : Type 0 where
   pub ths : List ThreadName
   pub d : Transition
   pub units : AreUnits p c0.sites bundle_limit ths (site_of c0) d
   pub reached : IsTransitionMade p d c0 o0 c1 o1
   pub as_many : length ths ≡ count
+  pub turns : AreTurnsOf ths c0.threads.order c1.threads.order
+  pub ends : last_of ths ≡ last
   pub steps : c1.steps ≤ c0.steps + count
 
-pub no_units : (p : List Stmt) (c : Core) (o : Output) → IsConsistent p c → UnitsSoFar p 0 c o c o
-no_units p c o h = record { ths = []; d = without_output (site_of c); units = refl; reached = reached_nothing p c o h; as_many = refl; steps = omega arith }
+pub no_units : (p : List Stmt) (c : Core) (o : Output) → IsConsistent p c → UnitsSoFar p 0 None c o c o
+no_units p c o h = record { ths = []; d = without_output (site_of c); units = refl; reached = reached_nothing p c o h; as_many = refl; turns = refl; ends = refl; steps = omega arith }
 
 length_end : {X : Type 0} (xs : List X) (x : X) → length (xs ++ x ∷ []) ≡ suc (length xs)
 length_end [] x = refl
 length_end (y ∷ xs) x = ap suc (length_end xs x)
 
-pub one_more : (p : List Stmt) (count : ℕ) (c0 c1 c2 : Core) (o0 o1 o2 : Output) (th : ThreadName) → UnitsSoFar p count c0 o0 c1 o1 → IsUnitPacked p th c1 o1 c2 o2 → c2.steps ≤ c1.steps + 1 → UnitsSoFar p (count + 1) c0 o0 c2 o2
-one_more p count c0 c1 c2 o0 o1 o2 th h (one, unit, reached) more = record {
+pub one_more : (p : List Stmt) (count : ℕ) (last : Option ThreadName) (c0 c1 c2 : Core) (o0 o1 o2 : Output) (th : ThreadName) → UnitsSoFar p count last c0 o0 c1 o1 → IsUnitPacked p th c1 o1 c2 o2 → IsTurnOf th c1.threads.order c2.threads.order → c2.steps ≤ c1.steps + 1 →
+    UnitsSoFar p (count + 1) (Some th) c0 o0 c2 o2
+one_more p count last c0 c1 c2 o0 o1 o2 th h (one, unit, reached) turn more = record {
   ths = h.ths ++ th ∷ [];
   d = sequence h.d one;
   units = units_more p c0.sites bundle_limit h.ths th (site_of c0) h.d one h.units here;
   reached = reached_more p h.d one c0 c1 c2 o0 o1 o2 h.reached reached;
   as_many = let e : length (h.ths ++ th ∷ []) ≡ suc (length h.ths) = length_end h.ths th in let f : length h.ths ≡ count = h.as_many in omega arith;
+  turns = turns_more h.ths th c0.threads.order c1.threads.order c2.threads.order h.turns turn;
+  ends = last_end h.ths th;
   steps = let f : c1.steps ≤ c0.steps + count = h.steps in omega arith;
 }
   where
@@ -109,22 +116,7 @@ all_idle c h =
     eq-eqb (waiting_of (stacks_of stack_in c.threads.living)) (length (stacks_of stack_in c.threads.living))
     (waiting_seen c.threads.living ∙ (as_many_wait c.threads.living h ∙ sym (seen_length (λ (e : Running × Mode). (stack_in e.0, e.1)) c.threads.living)))
 
-pub units_end : (p : List Stmt) (quantum count : ℕ) (c0 c1 : Core) (o0 o1 : Output) → UnitsSoFar p count c0 o0 c1 o1 → count ≤ quantum → (count < quantum → AllWait c1.threads.living) → AreUnitsMade p quantum c0 o0 c1 o1
-units_end p quantum count c0 c1 o0 o1 h most idle = (
-  h.ths,
-  h.d,
-  h.units,
-  h.reached,
-  (let f : length h.ths ≡ count = h.as_many in omega arith),
-  λ less. subst (λ (s : Site). is_idle s ≡ true) h.reached.site (all_idle c1 (idle (let f : length h.ths ≡ count = h.as_many in omega arith))),
-)
-
--- nothing was done, since no thread can go on
-pub units_stop : (p : List Stmt) (quantum count : ℕ) (c0 c1 c2 : Core) (o0 o1 o2 : Output) → UnitsSoFar p count c0 o0 c1 o1 → c2 ≡ c1 → o2 ≡ o1 → count ≤ quantum → AllWait c1.threads.living → AreUnitsMade p quantum c0 o0 c2 o2
-units_stop p quantum count c0 c1 c2 o0 o1 o2 h same silent most idle =
-    subst (λ (c : Core). AreUnitsMade p quantum c0 o0 c o2) (sym same) (subst (λ (o : Output). AreUnitsMade p quantum c0 o0 c1 o) (sym silent) (units_end p quantum count c0 c1 o0 o1 h most (λ less. idle)))
-
--- ---- another order of turns
+-- ---- the end of a turn
 
 consistent_turned : (p : List Stmt) (c : Core) (ns : List ThreadName) → IsConsistent p c → IsConsistent p (record c { threads = record c.threads { order = ns } })
 consistent_turned p c ns h = record {
@@ -142,22 +134,33 @@ consistent_turned p c ns h = record {
   some = h.some;
 }
 
-units_turned : (p : List Stmt) (quantum : ℕ) (c0 c1 : Core) (o0 o1 : Output) (ns : List ThreadName) → AreUnitsMade p quantum c0 o0 c1 o1 → AreUnitsMade p quantum c0 o0 (record c1 { threads = record c1.threads { order = ns } }) o1
-units_turned p quantum c0 c1 o0 o1 ns (ths, d, units, reached, few, idle) = (
-  ths,
-  d,
-  units,
+-- units in a row, in an order in which the thread of the last one is passed on
+units_end : (p : List Stmt) (quantum count : ℕ) (last : Option ThreadName) (c0 c1 : Core) (o0 o1 : Output) (ns : List ThreadName) → UnitsSoFar p count last c0 o0 c1 o1 → count ≤ quantum → (count < quantum → AllWait c1.threads.living) → ns ≡ passed_on last c1.threads.order →
+    AreUnitsMade p quantum c0 o0 (record c1 { threads = record c1.threads { order = ns } }) o1
+units_end p quantum count last c0 c1 o0 o1 ns h most idle passed = (
+  h.ths,
+  h.d,
+  h.units,
   record {
-    site = reached.site;
-    picks = reached.picks;
-    sent = reached.sent;
-    lines = reached.lines;
-    consistent = consistent_turned p c1 ns reached.consistent;
-    sites = reached.sites;
+    site = h.reached.site;
+    picks = h.reached.picks;
+    sent = h.reached.sent;
+    lines = h.reached.lines;
+    consistent = consistent_turned p c1 ns h.reached.consistent;
+    sites = h.reached.sites;
   },
-  few,
-  idle,
+  (let f : length h.ths ≡ count = h.as_many in omega arith),
+  (λ less. subst (λ (s : Site). is_idle s ≡ true) h.reached.site (all_idle c1 (idle (let f : length h.ths ≡ count = h.as_many in omega arith)))),
+  (c1.threads.order, h.turns, passed ∙ ap (λ (o : Option ThreadName). passed_on o c1.threads.order) (sym h.ends)),
 )
 
-pub turned_on : (p : List Stmt) (quantum : ℕ) (c0 c1 c2 : Core) (o0 o1 : Output) → (ns : List ThreadName) × (c2 ≡ record c1 { threads = record c1.threads { order = ns } }) → AreUnitsMade p quantum c0 o0 c1 o1 → AreUnitsMade p quantum c0 o0 c2 o1
-turned_on p quantum c0 c1 c2 o0 o1 (ns, e) h = subst (λ (c : Core). AreUnitsMade p quantum c0 o0 c o1) (sym e) (units_turned p quantum c0 c1 o0 o1 ns h)
+-- nothing was done, since no thread can go on
+pub units_stop : (p : List Stmt) (quantum count : ℕ) (last : Option ThreadName) (c0 c1 c2 : Core) (o0 o1 o2 : Output) → UnitsSoFar p count last c0 o0 c1 o1 → c2 ≡ c1 → o2 ≡ o1 → count ≤ quantum → AllWait c1.threads.living → c1.threads.order ≡ [] → AreUnitsMade p quantum c0 o0 c2 o2
+units_stop p quantum count last c0 c1 c2 o0 o1 o2 h same silent most idle none =
+    subst (λ (c : Core). AreUnitsMade p quantum c0 o0 c o2) (sym same)
+    (subst (λ (o : Output). AreUnitsMade p quantum c0 o0 c1 o) (sym silent) (units_end p quantum count last c0 c1 o0 o1 c1.threads.order h most (λ less. idle) (none_passed last c1.threads.order none)))
+
+pub turned_on : (p : List Stmt) (quantum count : ℕ) (last : Option ThreadName) (c0 c1 c2 : Core) (o0 o1 : Output) → UnitsSoFar p count last c0 o0 c1 o1 → count ≤ quantum → (count < quantum → AllWait c1.threads.living) → (ns : List ThreadName) × (c2 ≡ record c1 { threads = record c1.threads { order = ns } }) →
+    c2.threads.order ≡ passed_on last c1.threads.order → AreUnitsMade p quantum c0 o0 c2 o1
+turned_on p quantum count last c0 c1 c2 o0 o1 h most idle (ns, e) passed =
+    subst (λ (c : Core). AreUnitsMade p quantum c0 o0 c o1) (sym e) (units_end p quantum count last c0 c1 o0 o1 ns h most idle (ap (λ (c : Core). c.threads.order) (sym e) ∙ passed))

@@ -4,7 +4,7 @@ use Rattle.name_supply.specs.declared.fresh.Fresh.{Fresh}
 use Rattle.name_supply.specs.declared.fresh.Fresh.TheVariants as fresh
 use Rattle.thread_machine.specs.Running.{Running}
 use Rattle.site_variables.specs.Variables.{stacks_of}
-use Rattle.site_model.specs.Site.{Site, Counters, zero_counters}
+use Rattle.site_model.specs.Site.{Site, Counters}
 use Rattle.site_units.specs.declared.data.Core.{Core}
 
 -- the stack of a thread
@@ -14,7 +14,7 @@ stack_in r = r.stack
 -- the numbers of the names that counters made
 abbrev pub counters_of : Fresh → Counters
 counters_of (fresh.Counted site vars cells procs threads) = record { vars = vars; cells = cells; procs = procs; threads = threads }
-counters_of (fresh.Given names) = zero_counters
+counters_of (fresh.Given names) = record { vars = 0; cells = 0; procs = 0; threads = 0 }
 
 -- the site: equations and records, tables of cells, threads with their stacks, counters and totals
 abbrev pub site_of : Core → Site

@@ -1,6 +1,7 @@
 -- Whose turn it was, by the order of turns before and after.
-use Rattle.std.specs.Prelude.{◌≡◌, ◌≢◌, ◌⊎◌, ℕ, List, [], ◌∷◌, ◌++◌, Contains}
+use Rattle.std.specs.Prelude.{◌≡◌, List, [], ◌∷◌, ◌++◌, Contains, Option, Some, None, if◌then◌else◌}
 use Rattle.tree_node.specs.declared.names.ThreadName.{ThreadName}
+use Rattle.tree_node.specs.State.{equal_thread}
 use Rattle.thread_roster.specs.Order.{MayHaveLeft}
 
 -- the thread of this name was the first in the order, where it stood once, and made a unit: the others stay as they stood, and
@@ -8,18 +9,23 @@ use Rattle.thread_roster.specs.Order.{MayHaveLeft}
 abbrev pub IsTurnOf : ThreadName → List ThreadName → List ThreadName → Type 0
 IsTurnOf n old new = (rest : List ThreadName) × (old ≡ n ∷ rest) × (Contains rest n → ⊥) × MayHaveLeft n old new
 
--- some threads, the first among them, had their turn: now those come first that stood behind them, in their order, and the one that
--- made the last unit is the very last, where it can go on
-pub record HaveHadTurn (old new : List ThreadName) : Type 0 where
-  pub gone : List ThreadName
-  pub rest : List ThreadName
-  pub behind : List ThreadName
-  pub last : ThreadName
-  pub stood : old ≡ gone ++ rest
-  pub some : gone ≢ []
-  pub stand : new ≡ rest ++ behind
-  pub spent : Contains new last → (before : List ThreadName) × (new ≡ before ++ last ∷ [])
+-- units of these threads, one after another: each was of the first in the order that the one before it left
+abbrev pub AreTurnsOf : List ThreadName → List ThreadName → List ThreadName → Type 0
+AreTurnsOf [] old new = new ≡ old
+AreTurnsOf (n ∷ ns) old new = (now : List ThreadName) × IsTurnOf n old now × AreTurnsOf ns now new
 
--- after so many units, fewer only where none can go on: threads had their turn; or none can go on; or no unit was wanted
-abbrev pub IsPassedOn : ℕ → List ThreadName → List ThreadName → Type 0
-IsPassedOn quantum old new = ((quantum ≡ 0) × (new ≡ old)) ⊎ (new ≡ []) ⊎ HaveHadTurn old new
+-- the last of these, if there is one
+abbrev pub last_of : List ThreadName → Option ThreadName
+last_of [] = None
+last_of (n ∷ []) = Some n
+last_of (n ∷ m ∷ ns) = last_of (m ∷ ns)
+
+-- the thread of this name goes behind the others, where it is the first in the order
+abbrev pub passed_on : Option ThreadName → List ThreadName → List ThreadName
+passed_on None order = order
+passed_on (Some n) [] = []
+passed_on (Some n) (m ∷ others) = if equal_thread m n then others ++ m ∷ [] else m ∷ others
+
+-- units of these threads, each the first in the order, and then the thread of the last unit goes behind the others, where it can go on
+abbrev pub HaveHadTurns : List ThreadName → List ThreadName → List ThreadName → Type 0
+HaveHadTurns ths old new = (now : List ThreadName) × AreTurnsOf ths old now × (new ≡ passed_on (last_of ths) now)

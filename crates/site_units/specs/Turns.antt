@@ -9,14 +9,16 @@ use Rattle.site_model.specs.Turn.{AreUnits}
 use Rattle.site_units.specs.declared.data.Core.{Core}
 use Rattle.site_units.specs.declared.data.Output.{Output}
 use Rattle.site_units.specs.Core.{site_of}
+use Rattle.site_units.specs.Order.{HaveHadTurns}
 use Rattle.site_units.specs.Units.{IsTransitionMade}
 
 -- the data and the output came by this row of the site
 abbrev pub IsRowMade : List Stmt → (Site → Transition) → Core → Output → Core → Output → Type 0
 IsRowMade p f c0 o0 c1 o1 = IsTransitionMade p (f (site_of c0)) c0 o0 c1 o1
 
--- so many units were made, fewer only where the site is then idle
+-- so many units were made, fewer only where the site is then idle, each of the first thread in the order of turns; and the thread of the
+-- last one then went behind the others, where it can go on
 abbrev pub AreUnitsMade : List Stmt → ℕ → Core → Output → Core → Output → Type 0
 AreUnitsMade p quantum c0 o0 c1 o1 =
     (ths : List ThreadName) × (d : Transition) × AreUnits p c0.sites bundle_limit ths (site_of c0) d × IsTransitionMade p d c0 o0 c1 o1
-    × (length ths ≤ quantum) × (length ths < quantum → is_idle d.site ≡ true)
+    × (length ths ≤ quantum) × (length ths < quantum → is_idle d.site ≡ true) × HaveHadTurns ths c0.threads.order c1.threads.order

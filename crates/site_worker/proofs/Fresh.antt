@@ -22,7 +22,7 @@ no_entries : (h : Host) (es : List Turn) → es ≡ [] → IsRunTo h es (initial
 no_entries h es none = subst (λ (es : List Turn). IsRunTo h es (initial_site (program_of h) h.number)) (sym none) refl
 
 -- a new site with its new seat
-pub new_host : (t : TableId) (h : Host) (v : SiteState NoSeat) (x : SiteSeat) → h.site ≡ record { program = v.program; sites = v.sites; state = v.state; spent = v.spent; seat = x }
+pub new_host : (t : TableId) (h : Host) (v : SiteState NoSeat) (x : SiteSeat) → h.site ≡ record { program = v.program; sites = v.sites; state = v.state; order = v.order; spent = v.spent; seat = x }
     → v.state ≡ initial_site v.program x.site → v.spent ≡ false → h.number ≡ x.site → h.spent ≡ false → IsProgram v.program → v.sites ≤ 64 → IsNewSeat t v.sites x → IsHost t h
 new_host t h v x is start fresh mine live real few new =
     let seat : h.site.seat ≡ x = ap (λ (w : SiteState SiteSeat). w.seat) is in

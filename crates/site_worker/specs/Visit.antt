@@ -29,12 +29,13 @@ HasNoEntry k old new = own k new.entries ≡ own k old.entries
 abbrev pub HasEntry : ℕ → Sight → Sight → Turn → Type 0
 HasEntry k old new e = own k new.entries ≡ e ∷ own k old.entries
 
--- the book was closed by this visit for want of memory, unless it had a reason when the visit came in last; its entries are those that
--- it had then, which go on from those that the seat had seen
+-- the entries go on from those that the seat had seen. That the book had this reason when the visit came in last, or was closed by it
+-- for want of memory, is a clause inside alone (`HasClosed`): no sight of that moment is told here
 abbrev pub WasClosed : Sight → Sight → Reason → Type 0
 WasClosed old new r = (now : Sight) × IsContinuation now.entries old.entries × (new.entries ≡ now.entries) × (first_reason now.reason Memory ≡ Some r)
 
--- when the visit came in it found no entry of the site k more, and no message that waited for it
+-- the entries went on from those that the seat had seen, none of them the site k's own. That no message waited when the visit came in is
+-- a clause inside alone (`HasTaken`): what was in hand then is not told here
 abbrev pub NoneWaited : ℕ → Sight → Type 0
 NoneWaited k old = (found : Sight) × IsContinuation found.entries old.entries × HasNoEntry k old found × NoneWaits k found
 
@@ -43,7 +44,7 @@ abbrev pub quantum_of : Host → ℕ
 quantum_of h = min (book_steps (sight h) - (state_of h).steps) 64
 
 -- the site has exactly this entry more: a turn from its state before, of as many units as the quantum, fewer only where the
--- site is then idle, with this message, which the book has by that number, or, where the site was not idle and none waited, with none;
+-- site is then idle, with this message, which the book has by that number, or, where the site was not idle, with none;
 -- and the sites that it sent to are the ones to be woken
 pub record HasMadeTurn (old new : Host) : Type 0 where
   pub entry : Turn

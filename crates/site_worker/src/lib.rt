@@ -3,10 +3,10 @@
 //!
 //! It promises (`specs/Host.antt`, `specs/Visit.antt`, `specs/Hosts.antt`): a `Host` is a site with its seat, and the entries of
 //! its site that the seat saw are turns of the site in a row from its start (`IsHost`). `visit` keeps that, and tells what it
-//! did (`IsVisit`): `Over` exactly where the book has that reason as the seat leaves it, with one entry more, or with none, and then the
-//! book had that reason or was closed for want of memory (`WasClosed`); else `Nothing` exactly where no message waited and the site was
+//! did (`IsVisit`): `Over` exactly where the book has that reason as the seat leaves it, with one entry more, or with none;
+//! else `Nothing` exactly where no message waited and the site was
 //! idle; else `Did`, with exactly one entry more and nothing in hand. The entry is a turn of 64 units or of the own steps that were left,
-//! where these are fewer, and of fewer only where the site is then idle; where it took no message none waited; and the sites that it sent
+//! where these are fewer, and of fewer only where the site is then idle; and the sites that it sent
 //! to are told, which are to be woken (`HasMadeTurn`). A turn is made while the seat is outside the lock alone (the condition of the site's `turn`). `drive` gives back the hosts
 //! that it was given, each once with its seat, and when it ends in `Ok` some seat saw a reason to end; without memory nothing
 //! was done. `finish` takes the book out: its journal is a run of the world of sites (`IsWorldRun`, which is `WorldRun` of

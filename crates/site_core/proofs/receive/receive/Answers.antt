@@ -1,10 +1,11 @@
-use Rattle.std.proofs.Common.{◌≡◌, ◌∙◌, sym, ◌++◌, take, drop, true, false}
+use Rattle.std.proofs.Common.{◌≡◌, ◌∙◌, sym, refl, ◌++◌, take, drop, true, false}
 use Rattle.std.proofs.lemmas.Result.{on_ok_weaker}
 use Rattle.site_model.specs.Bundle.{bundle_limit, with_own_bundles}
 use Rattle.site_units.proofs.PackLemmas.{row_packed}
 use Rattle.site_core.proofs.CodeLemmas.{bundle_terms}
 use Rattle.site_core.proofs.DeliverLemmas.{vars_made, deliverable}
 use Rattle.site_core.proofs.TurnLemmas.{fit_received, unfit_received}
+use Rattle.thread_roster.proofs.BehindLemmas.{behind_same, behind_then}
 use Rattle.site_core.proofs.receive.receive.Goals as goal
 
 pub returns-then-not-is_fit-clause-received : goal.returns-then-not-is_fit-clause-received
@@ -52,4 +53,14 @@ returns-clause-received c =
     fit_received c.args.program.now c.args.msg c.args.core.now c.open_message.new.core c.deliver.new.core c.args.output.now c.open_message.new.output c.pack_sent.new.output fit opened
     (row_packed c.bundles_come_last.ensures.rows c.args.program.now c.args.msg c.open_message.new.core c.deliver.new.core c.open_message.new.output c.deliver.new.output c.pack_sent.new.output c.len-before.result
     c.in_ok-deliver.ensures.row (sym c.len-before.ensures) sent c.pack_sent.ensures.picks c.pack_sent.ensures.lines))
+    c.pack_sent.ensures.sent
+
+pub returns-then-not-is_fit-clause-order : goal.returns-then-not-is_fit-clause-order
+returns-then-not-is_fit-clause-order c = behind_same _ _ refl
+
+pub returns-clause-order : goal.returns-clause-order
+returns-clause-order c =
+    on_ok_weaker c.pack_sent.result
+    (λ (sent : c.pack_sent.new.output.sent ≡ take c.len-before.result c.deliver.new.output.sent ++ with_own_bundles bundle_limit c.deliver.new.core.variables.store.equations (drop c.len-before.result c.deliver.new.output.sent)).
+    behind_then _ _ _ c.in_ok-open_message.ensures.order c.in_ok-deliver.ensures.order)
     c.pack_sent.ensures.sent

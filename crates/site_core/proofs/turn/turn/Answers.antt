@@ -20,5 +20,5 @@ returns-in_ok-receive-in-Some-clause-turn c =
     on_ok_weaker c.units-in-Some.result
     (λ (made : AreUnitsMade c.args.program.now c.args.quantum.0 c.receive.new.core c.receive.new.output c.units-in-Some.new.core c.units-in-Some.new.output).
     subst (λ (m : Option Msg). IsFullTurnMade c.args.program.now c.args.quantum.0 m c.args.core.now c.args.output.now c.units-in-Some.new.core c.units-in-Some.new.output) (sym c.in-Some.is)
-    (whole_turn c.args.program.now c.args.quantum.0 (Some c.in-Some.msg) c.args.core.now c.receive.new.core c.units-in-Some.new.core c.args.output.now c.receive.new.output c.units-in-Some.new.output c.in_ok-receive-in-Some.ensures.received made))
+    (whole_turn c.args.program.now c.args.quantum.0 (Some c.in-Some.msg) c.args.core.now c.receive.new.core c.units-in-Some.new.core c.args.output.now c.receive.new.output c.units-in-Some.new.output c.in_ok-receive-in-Some.ensures.received c.in_ok-receive-in-Some.ensures.order made))
     c.units-in-Some.ensures.units
