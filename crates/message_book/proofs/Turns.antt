@@ -8,13 +8,13 @@ use Rattle.site_message.specs.declared.turn.Turn.{Turn}
 use Rattle.site_message.specs.declared.reason.Reason.{Reason}
 use Rattle.site_message.specs.declared.reason.Reason.TheVariants.{Memory, Messages, Steps, Quiet}
 use Rattle.std.specs.Prelude.{◌&&◌}
-use Rattle.site_message.specs.Journal.{Limits, Wired, DeliversOnce, sent_of, is_number, is_idle, is_quiet, end_of}
+use Rattle.site_message.specs.Journal.{Limits, Wired, DeliversOnce, sent_of, is_number, is_idle, is_quiet, end_by, end_of}
 use Rattle.site_message.specs.Story.{hand}
 use Rattle.tree_node.proofs.ClassLemmas.{Contains-head, Contains-tail}
 use Rattle.std.proofs.lemmas.List.Elements.{Contains-append_left, filter-append}
 use Rattle.message_book.specs.Inbox.{InboxState, HoldsSame}
 use Rattle.message_book.specs.Book.{BookState, IsSiteOf, IsReason, without_delivered}
-use Rattle.message_book.specs.Inboxes.{HoldsTravelling, AllHoldTravelling, IsConsistent, IsAfterTurn, place, messages_at, number_of, hand_of, new_messages, letter_of, AllOfFormat, inbox_at, idle_at, reason_by}
+use Rattle.message_book.specs.Inboxes.{HoldsTravelling, AllHoldTravelling, IsConsistent, IsAfterTurn, place, messages_at, number_of, hand_of, new_messages, letter_of, AllOfFormat, inbox_at, idle_at}
 use Rattle.message_book.proofs.Travels.{messages_step, without_message, messages_ascend, LacksNumber, after_low, without_none_there, map_filter, right}
 use Rattle.site_message.specs.Laws.{IsAscending}
 use Rattle.tree_node.proofs.EachLemmas.{each_append}
@@ -158,8 +158,8 @@ module _ (l : Limits) (j : List Turn) (sent : ℕ) (bs : List InboxState) (r : O
     }
 
     pub reason_after : (n : ℕ) (t : Option Reason) → n ≡ sent + length e.sent
-        → t ≡ reason_by (nat_lt l.messages n) (nat_le l.steps e.steps && not e.idle) e.site (is_quiet l.sites (e ∷ j)) → t ≡ end_of l (e ∷ j)
-    reason_after n t is found = found ∙ ap (λ k. reason_by (nat_lt l.messages k) (nat_le l.steps e.steps && not e.idle) e.site (is_quiet l.sites (e ∷ j)))
+        → t ≡ end_by (nat_lt l.messages n) (nat_le l.steps e.steps && not e.idle) e.site (is_quiet l.sites (e ∷ j)) → t ≡ end_of l (e ∷ j)
+    reason_after n t is found = found ∙ ap (λ k. end_by (nat_lt l.messages k) (nat_le l.steps e.steps && not e.idle) e.site (is_quiet l.sites (e ∷ j)))
         (is ∙ (ap (λ m. m + length e.sent) kept.count ∙ sym (length-append (sent_of j) e.sent)))
 
     pub hand_here : (v : BookState) → hand e.site (map hand_of bs) ≡ hand e.site v.hands → hand e.site (map hand_of cs) ≡ without_delivered e.delivered (hand e.site v.hands)

@@ -4,7 +4,6 @@ use Rattle.std.specs.List.{filter, All}
 use Rattle.site_message.specs.declared.message.Sent.{Sent}
 use Rattle.site_message.specs.declared.turn.Turn.{Turn}
 use Rattle.site_message.specs.declared.reason.Reason.{Reason}
-use Rattle.site_message.specs.declared.reason.Reason.TheVariants.{Messages, Steps, Quiet}
 use Rattle.site_message.specs.Journal.{Limits, Wired, sent_of, travelling, is_idle}
 use Rattle.tree_node.specs.Each.{Each}
 use Rattle.wire_form.specs.declared.form.Form.TheVariants as forms
@@ -102,11 +101,3 @@ pub record IsAfterTurn (n site : ℕ) (delivered : Option ℕ) (idle : Bool) (fi
   pub here : ((inbox_at new site).hand ≡ without_delivered delivered (inbox_at old site).hand) × ((inbox_at new site).idle ≡ idle)
   pub others : (i : ℕ) → i ≢ site → ((inbox_at new i).hand ≡ (inbox_at old i).hand) × ((inbox_at new i).idle ≡ (inbox_at old i).idle)
   pub waiting : (i : ℕ) → (inbox_at new i).waiting ≡ (inbox_at old i).waiting ++ new_messages n i first cs
-
--- how a run ends where more messages were sent than the limit, where the site came to its limit, where it is quiet
-abbrev pub reason_by : Bool → Bool → ℕ → Bool → Option Reason
-reason_by over_limit at_limit site quiet =
-    if over_limit then Some Messages
-    else if at_limit then Some (Steps site)
-    else if quiet then Some Quiet
-    else None

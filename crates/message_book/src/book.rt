@@ -1,11 +1,11 @@
 //! The book.
 
 ghost use Rattle.std.specs.Prelude.{◌≡◌, ◌≢◌, ◌⊎◌, ℕ, List, ◌+◌, ◌&&◌, not, nat_le, ◌↔◌, [], ◌∷◌, ◌++◌, ◌≤◌, ◌<◌, ◌^◌, Some, None, Err, IsTrue, Contains, IfOk, OnOk, OnErr, MatchOption, map, length, slice_set};
-ghost use Rattle.site_message.specs.Journal.{Wired, IsTravelling, sent_of, is_quiet, end_of};
+ghost use Rattle.site_message.specs.Journal.{Wired, IsTravelling, sent_of, is_quiet, end_by, end_of};
 ghost use Rattle.site_message.specs.EarlierEnd.{HasNoEarlierEnd};
 ghost use Rattle.site_message.specs.Story.{hand};
 ghost use Rattle.message_book.specs.Book.{IsSiteOf, AreSites, IsUntaken, IsUntakenSpelling, IsReason, without_delivered, sight_of, first_reason};
-ghost use Rattle.message_book.specs.Inboxes.{IsNewInbox, IsQuietInbox, IsAfterTurn, HasRoom, AllHoldTravelling, reason_by, inbox_at};
+ghost use Rattle.message_book.specs.Inboxes.{IsNewInbox, IsQuietInbox, IsAfterTurn, HasRoom, AllHoldTravelling, inbox_at};
 ghost use Rattle.message_book.specs.declared.posted.Posted.TheVariants.{Closed};
 ghost use Rattle.site_message.specs.declared.reason.Reason.TheVariants.{Memory};
 ghost use Rattle.site_message.specs.declared.message.Msg.{Msg};
@@ -17,7 +17,7 @@ use crate::inbox::Inbox;
 use crate::outgoing::{enqueue_all, make_room};
 use crate::posted::Posted;
 use crate::spelled_turn::SpelledTurn;
-use site_message::{History, Journal, Reason, Story};
+use site_message::{History, Journal, Reason, Story, end_after};
 use std::alloc::{AllocError, Global};
 use std::collections::VecDeque;
 use std::marker::Model;
@@ -276,17 +276,7 @@ fn is_at_limit(steps: u64, limit: u64, idle: bool) -> bool
 // How the run ends after a turn of the site, where more messages were sent than the limit, or the site came to its limit
 // of steps.
 fn find_reason(over_limit: bool, at_limit: bool, site: u32, inboxes: &[Inbox]) -> Option<Reason>
-    ensures { (n : ℕ) (j : List Turn) → length inboxes.now ≡ n + 1 → AllHoldTravelling n j inboxes.now → result ≡ reason_by over_limit at_limit site (is_quiet n j) }
+    ensures { (n : ℕ) (j : List Turn) → length inboxes.now ≡ n + 1 → AllHoldTravelling n j inboxes.now → result ≡ end_by over_limit at_limit site (is_quiet n j) }
 {
-    if over_limit {
-        return Some(Reason::Messages);
-    }
-    if at_limit {
-        return Some(Reason::Steps(site));
-    }
-    if are_quiet(inboxes) {
-        Some(Reason::Quiet)
-    } else {
-        None
-    }
+    end_after(over_limit, at_limit, site, are_quiet(inboxes))
 }

@@ -39,7 +39,7 @@ pub use laws::{
 pub use message::{Bundle, Msg, Sent, SentList};
 pub use outbox::Outbox;
 pub use picks::Picks;
-pub use reason::{DeliverError, Reason};
+pub use reason::{DeliverError, Reason, end_after};
 pub use schedule::Schedule;
 pub use shared_seq::SharedSeq;
 pub use story::{NoSeat, Outside, Sight, Story};

@@ -1,11 +1,11 @@
 use Rattle.std.proofs.Common.{◌≡◌, ◌∙◌, ℕ, ◌+◌, ◌∷◌, List, length, map, sym, ap, subst, rules}
 use Rattle.site_message.specs.Story.{hand}
-use Rattle.site_message.specs.Journal.{Limits, end_of, is_quiet}
+use Rattle.site_message.specs.Journal.{Limits, end_by, end_of, is_quiet}
 use Rattle.std.specs.Prelude.{Contains, Some, nat_lt, nat_le, not, ◌&&◌}
 use Rattle.site_message.specs.declared.turn.Turn.{Turn}
 use lib.ListN.{length-map}
 use Rattle.message_book.specs.Book.{BookState, IsSiteOf}
-use Rattle.message_book.specs.Inboxes.{IsConsistent, AllHoldTravelling, IsAfterTurn, letter_of, reason_by, inbox_at}
+use Rattle.message_book.specs.Inboxes.{IsConsistent, AllHoldTravelling, IsAfterTurn, letter_of, inbox_at}
 use Rattle.message_book.proofs.Posts.{state_of, hand_at}
 use Rattle.message_book.proofs.Turns.{on_err, kept_same, shown_same, inboxes_after, kept_after, hand_here, hand_there, reason_after}
 use Rattle.message_book.proofs.book.Book.post.Goals as goal
@@ -78,10 +78,10 @@ ended c =
     let slice : c.as_slice-2.result.now ≡ cs = c.as_slice-2.ensures.value in
     let places : length c.as_slice-2.result.now ≡ l.sites + 1 = ap length slice ∙ ((settled_of c).places ∙ k.places) in
     let told = c.find_reason-self-inside.ensures l.sites (c.args.turn ∷ c.self.inside.journal) places (subst (AllHoldTravelling l.sites (c.args.turn ∷ c.self.inside.journal)) (sym slice) inboxes) in
-    let here : c.find_reason-self-inside.result ≡ reason_by (nat_lt c.self.inside.message_limit (c.self.inside.sent + c.len-count.result)) c.is_at_limit.result c.args.turn.site (is_quiet l.sites (c.args.turn ∷ c.self.inside.journal)) =
-    subst (λ (e : Turn). c.find_reason-self-inside.result ≡ reason_by (nat_lt c.self.inside.message_limit (c.self.inside.sent + c.len-count.result)) c.is_at_limit.result e.site (is_quiet l.sites (c.args.turn ∷ c.self.inside.journal))) (turn_of c) told in
+    let here : c.find_reason-self-inside.result ≡ end_by (nat_lt c.self.inside.message_limit (c.self.inside.sent + c.len-count.result)) c.is_at_limit.result c.args.turn.site (is_quiet l.sites (c.args.turn ∷ c.self.inside.journal)) =
+    subst (λ (e : Turn). c.find_reason-self-inside.result ≡ end_by (nat_lt c.self.inside.message_limit (c.self.inside.sent + c.len-count.result)) c.is_at_limit.result e.site (is_quiet l.sites (c.args.turn ∷ c.self.inside.journal))) (turn_of c) told in
     reason_after l _ _ bs _ k c.args.turn (site_of c) (given_of c) cs (settled_of c) _ _ (count_of c)
-    (here ∙ ap (λ b. reason_by (nat_lt c.self.inside.message_limit (c.self.inside.sent + c.len-count.result)) b c.args.turn.site (is_quiet l.sites (c.args.turn ∷ c.self.inside.journal))) (limit_of c))
+    (here ∙ ap (λ b. end_by (nat_lt c.self.inside.message_limit (c.self.inside.sent + c.len-count.result)) b c.args.turn.site (is_quiet l.sites (c.args.turn ∷ c.self.inside.journal))) (limit_of c))
 
 pub invariant_of-self-2 : goal.invariant_of-self-2
 unfolding limits_of
