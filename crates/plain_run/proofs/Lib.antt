@@ -1,3 +1,4 @@
+pub mod RoundLemmas
 pub mod ProgressLemmas
 pub mod ReachLemmas
 pub mod SpawnLemmas

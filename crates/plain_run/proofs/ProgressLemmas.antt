@@ -11,17 +11,19 @@ use Rattle.site_message.proofs.JournalLemmas.{travelling_tells}
 use Rattle.site_message.proofs.TravelLemmas.{messages_add_up}
 use Rattle.site_model.specs.Bundle.{bundle_limit}
 use Rattle.site_model.specs.Site.{Site, is_idle}
-use Rattle.site_model.specs.Run.{WorldRun, delivered_message}
+use Rattle.site_model.specs.Run.{WorldRun, SiteRun, delivered_message}
 use Rattle.site_model.specs.Turn.{IsFullTurn}
 use Rattle.world_model.specs.Schedule.{sum_to}
 use Rattle.world_mail.specs.declared.travel.Travel.{Travel}
 use Rattle.world_mail.specs.Travels.{IsNoneFor, IsFirstFor}
-use Rattle.world_core.specs.Travels.{IsNumberAt}
+use Rattle.world_core.specs.Travels.{AreTravels, IsNumberAt}
 use Rattle.world_core.specs.World.{WorldState, IsWorldTurn, states_of}
 use Rattle.plain_run.specs.declared.out.Limits.{Limits}
 use Rattle.plain_run.specs.Counts.{runnable_count}
-use Rattle.plain_run.specs.Progress.{IsGoing, IsLimitedTurn, IsAtEase, IsBusy, IsFirstBusy, IsNextBusy, ComesBefore, IsProgress, turns_left, limits_of, steps_left}
+use Rattle.plain_run.specs.Progress.{IsGoing, IsLimitedTurn, IsAtEase, IsBusy, IsFirstBusy, IsNextBusy, IsProgress, turns_left, limits_of, steps_left}
+use Rattle.plain_run.specs.Rounds.{HasNothingToDo, IsLowestFor, ComesBefore, IsPlainTurn, IsPlainRun, last_site}
 use Rattle.plain_run.proofs.StepLemmas.{turn_steps, turn_goes_on}
+use Rattle.plain_run.proofs.RoundLemmas.{lowest_is, nothing_to_do, something_to_do}
 use Rattle.world_core.proofs.QuietLemmas.{at_contains}
 
 pub on_ok : {A E : Type 0} (r : Result A E) (P : Type 0) → is_err r ≡ false → OnOk r P → P
@@ -107,8 +109,9 @@ module _ (l : Limits) (p : List Stmt) (old new : WorldState) (site quantum : ℕ
   entry_steps = t.turn.2.steps ∙ ap (λ (s : Site). s.steps) (sym t.turn.3)
 
   -- each site keeps within its limit of own steps, and is idle where it is there
-  pub made : new.program ≡ old.program → new.sites ≡ old.sites → new.spent ≡ false → IsLimitedTurn l p old new site
-  made program sites live = record {
+  pub made : new.program ≡ old.program → new.sites ≡ old.sites → new.spent ≡ false → AreTravels old.journal old.travels → MatchOption place (IsNoneFor old.travels site) (λ q. IsFirstFor old.travels site q) →
+      IsNextBusy old l.sites (last_site l.sites old.journal) site → IsLimitedTurn l p old new site
+  made program sites live travels found next = record {
     entry = t.entry;
     journal = t.journal;
     at = t.site_is;
@@ -122,8 +125,30 @@ module _ (l : Limits) (p : List Stmt) (old new : WorldState) (site quantum : ℕ
     kept = subst (AreWithin (limits_of l)) (sym t.journal) (subst (λ n. n ≤ l.steps) (sym entry_steps) here_within, going.kept);
     idle = λ i other full. idle i (t.others i (λ (e : i ≡ site). other (t.site_is ∙ sym e))) full;
     went = subst (HasNoEarlierEnd (limits_of l)) (sym t.journal) (going.went, going.goes_on);
+    rounds = subst (IsPlainRun p l) (sym t.journal) (going.rounds, plain);
+    last = ap (last_site l.sites) t.journal ∙ t.site_is;
   }
     where
+      in_limits : (P : List Stmt → ℕ → Type 0) → P old.program old.sites → P p l.sites
+      in_limits P h = subst (λ (q : List Stmt). P q l.sites) going.program (subst (λ (n : ℕ). P old.program n) going.sites h)
+
+      plain : IsPlainTurn p l old.journal t.entry
+      plain = record {
+        some = subst (λ (i : ℕ). 1 ≤ i) (sym t.site_is) low;
+        among = subst (λ (i : ℕ). i ≤ l.sites) (sym t.site_is) high;
+        busy = subst (λ (i : ℕ). HasNothingToDo old.journal i → ⊥) (sym t.site_is) (something_to_do old going.run site travels next.2);
+        first = λ k a b comes. nothing_to_do old going.run k (next.3 k a b (subst (λ (i : ℕ). ComesBefore (last_site l.sites old.journal) k i) t.site_is comes));
+        lowest = subst (λ (i : ℕ). IsLowestFor old.journal i t.entry.delivered) (sym t.site_is) (lowest_is old.journal old.travels site place t.entry.delivered travels found t.delivered);
+        full = (
+          states_of old site,
+          t.turn.0,
+          subst (λ (i : ℕ). SiteRun p l.sites bundle_limit i old.journal (states_of old site)) (sym t.site_is) (in_limits (λ q n. SiteRun q n bundle_limit site old.journal (states_of old site)) (going.run.runs site)),
+          in_limits (λ q n. IsFullTurn q n bundle_limit (min (l.steps - (states_of old site).steps) 64) (states_of old site) (delivered_message old.journal t.entry.delivered) t.turn.0)
+              (subst (λ (u : ℕ). IsFullTurn old.program old.sites bundle_limit u (states_of old site) (delivered_message old.journal t.entry.delivered) t.turn.0) units t.turn.1),
+          t.turn.2,
+        );
+      }
+
       by : (i : ℕ) → (i ≡ site) ⊎ (i ≢ site) → (states_of new i).steps ≤ l.steps
       by i (inl same) = subst (λ (x : ℕ). (states_of new x).steps ≤ l.steps) (sym same) here_within
       by i (inr other) = subst (λ (s : Site). s.steps ≤ l.steps) (sym (t.others i other)) (going.within i)

@@ -26,7 +26,9 @@ use Rattle.world_core.proofs.WorldLemmas.{machine, were_fit, messages_few}
 use Rattle.plain_run.specs.Simulated.{HasMachineRun}
 use Rattle.plain_run.proofs.ProgressLemmas.{sum_fewer, sum_same}
 use Rattle.plain_run.proofs.StepLemmas.{waiting_fit}
-use Rattle.world_core.proofs.ScheduleLemmas.{reverse_push}
+
+reverse_push : (xs : List Turn) (x : Turn) → reverse (xs ++ x ∷ []) ≡ x ∷ reverse xs
+reverse_push xs x = grind (arith, common_steps)
 
 -- ---- the centralised machine
 

@@ -16,6 +16,7 @@ use Rattle.world_core.specs.Travels.{IsNothingFor}
 use Rattle.world_core.specs.World.{WorldState, states_of}
 use Rattle.plain_run.specs.declared.out.Limits.{Limits}
 use Rattle.plain_run.specs.Counts.{runnable_count}
+use Rattle.plain_run.specs.Rounds.{IsPlainRun, ComesBefore, last_site}
 
 -- the limits by which a journal ends
 abbrev pub limits_of : Limits → journal.Limits
@@ -47,10 +48,6 @@ IsBusy w i = (is_idle (states_of w i) ≡ false) ⊎ (IsNoneFor w.travels i → 
 abbrev pub IsFirstBusy : WorldState → ℕ → ℕ → ℕ → Type 0
 IsFirstBusy w from end i = (from ≤ i) × (i < end) × IsBusy w i × ((k : ℕ) → from ≤ k → k < i → IsAtEase w k)
 
--- in the circle behind the last site the site k comes before the site i: those behind the last one come first, and then those from 1 on
-abbrev pub ComesBefore : ℕ → ℕ → ℕ → Type 0
-ComesBefore last k i = ((last < k) × ((k < i) ⊎ (i ≤ last))) ⊎ ((k ≤ last) × (i ≤ last) × (k < i))
-
 -- i is the first busy site of n in the circle behind the last one
 abbrev pub IsNextBusy : WorldState → ℕ → ℕ → ℕ → Type 0
 IsNextBusy w n last i = (1 ≤ i) × (i ≤ n) × IsBusy w i × ((k : ℕ) → 1 ≤ k → k ≤ n → ComesBefore last k i → IsAtEase w k)
@@ -58,7 +55,7 @@ IsNextBusy w n last i = (1 ≤ i) × (i ≤ n) × IsBusy w i × ((k : ℕ) → 1
 -- ---- runs that go on
 
 -- no limit is reached: no site that can go on is at its limit of own steps, no turn went past it, no more messages were sent than the
--- limit, and the journal has no end and had none before
+-- limit, the journal has no end and had none before, and each turn was the next in the fixed order
 pub record IsGoing (l : Limits) (p : List Stmt) (w : WorldState) : Type 0 where
   pub program : w.program ≡ p
   pub sites : w.sites ≡ l.sites
@@ -70,6 +67,7 @@ pub record IsGoing (l : Limits) (p : List Stmt) (w : WorldState) : Type 0 where
   pub few : length (sent_of w.journal) ≤ l.messages
   pub goes_on : end_of (limits_of l) w.journal ≡ None
   pub went : HasNoEarlierEnd (limits_of l) w.journal
+  pub rounds : IsPlainRun p l w.journal
 
 -- the own steps that the site may still make
 abbrev pub steps_left : Limits → WorldState → ℕ → ℕ
@@ -85,7 +83,7 @@ all_runnable l w = sum_to l.sites (λ i. runnable_count (states_of w i))
 
 -- ---- turns
 
--- after a turn of the site within its limit of own steps
+-- after a turn of the site, the next in the fixed order, within its limit of own steps
 pub record IsLimitedTurn (l : Limits) (p : List Stmt) (old new : WorldState) (site : ℕ) : Type 0 where
   pub entry : Turn
   pub journal : new.journal ≡ entry ∷ old.journal
@@ -100,6 +98,8 @@ pub record IsLimitedTurn (l : Limits) (p : List Stmt) (old new : WorldState) (si
   pub kept : AreWithin (limits_of l) new.journal
   pub idle : (i : ℕ) → (entry.site ≡ i → ⊥) → (states_of new i).steps ≡ l.steps → is_idle (states_of new i) ≡ true
   pub went : HasNoEarlierEnd (limits_of l) new.journal
+  pub rounds : IsPlainRun p l new.journal
+  pub last : last_site l.sites new.journal ≡ site
 
 -- a turn that takes a message or makes an own step leaves fewer of them; after another one fewer threads can go on
 abbrev pub IsProgress : Limits → WorldState → WorldState → Bool → Type 0

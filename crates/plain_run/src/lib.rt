@@ -13,8 +13,10 @@
 //!
 //! The order: sites 1 to the last in rounds, each taking its message with the lowest number and then its threads, first come
 //! first served, for at most 64 units and never past its limit of own steps. A site that has no message and is idle is left out.
-//! The next site is the first behind the last one, in the circle, that has something to do (`IsNextBusy`); tests show that two runs
-//! print the same.
+//! So each turn of the journal is (`IsPlainTurn`), by the turns before it alone: it is of the first site behind the last one, in the
+//! circle, that has something to do, it takes the lowest number, and it is full. `turns_are_determined` is the law that site and
+//! message of the next turn follow from the journal. In which order the threads of a turn go is a clause of `Site::turn`; that two runs
+//! print the same, tests show.
 //!
 //! A turn costs by what it does and by the number of sites; the journal is walked over once at the end, for the totals.
 //!
@@ -28,10 +30,12 @@
 mod busy;
 mod drive;
 mod finish;
+mod laws;
 mod out;
 mod run;
 mod totals;
 
 pub use finish::finish_run;
+pub use laws::turns_are_determined;
 pub use out::{DrivenRun, Limits, RunOut};
 pub use run::run_plain;

@@ -7,6 +7,7 @@ ghost use Rattle.site_message.specs.Journal.{AreWithin};
 ghost use Rattle.site_message.specs.EarlierEnd.{HasNoEarlierEnd};
 ghost use Rattle.world_core.specs.Laws.{HasRun, AreMessagesFew};
 ghost use Rattle.plain_run.specs.Progress.{AreLimits, HasReason, limits_of};
+ghost use Rattle.plain_run.specs.Rounds.{IsPlainRun};
 ghost use Rattle.plain_run.specs.Simulated.{HasMachineRun};
 
 use crate::drive::drive;
@@ -30,6 +31,7 @@ pub fn run_plain(alloc: Global, program: &Program, limits: Limits) -> RunOut
     ensures reason { HasReason limits result.journal result.reason }
     ensures went { HasNoEarlierEnd (limits_of limits) result.journal }
     ensures within { AreWithin (limits_of limits) result.journal }
+    ensures rounds { IsPlainRun program.now limits result.journal }
     ensures ended { result.ended ≡ sum_to limits.sites (last_ended result.journal) }
     ensures waiting { result.waiting ≡ sum_to limits.sites (last_waiting result.journal) }
 {
@@ -43,6 +45,7 @@ fn run_world(alloc: Global, program: &Program, limits: Limits) -> DrivenRun
     ensures reason { HasReason limits result.history result.reason }
     ensures went { HasNoEarlierEnd (limits_of limits) result.history }
     ensures within { AreWithin (limits_of limits) result.history }
+    ensures rounds { IsPlainRun program.now limits result.history }
 {
     program.is_program();
     match World::new(alloc, program, limits.sites) {

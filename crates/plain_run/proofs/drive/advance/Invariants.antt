@@ -1,5 +1,6 @@
 use Rattle.std.proofs.Common.{◌≡◌, ◌≤◌}
 use Rattle.plain_run.specs.Progress.{IsGoing, all_runnable, turns_left}
+use Rattle.plain_run.specs.Rounds.{last_site}
 use Rattle.plain_run.proofs.drive.advance.Given as goal
 
 abbrev pub invariant-loop-site : goal.invariant-loop-site
@@ -8,6 +9,7 @@ invariant-loop-site l = record {
   going : IsGoing l.limits l.initial.world.program l.world;
   left : turns_left l.limits l.world ≡ turns_left l.limits l.initial.world;
   last : l.last ≤ l.limits.sites;
+  behind : l.last ≡ last_site l.limits.sites l.world.journal;
 }
 
 abbrev pub decreases-loop-site : goal.decreases-loop-site

@@ -1,5 +1,6 @@
 use Rattle.std.proofs.Common.{◌≡◌, ◌∙◌, ◌-◌, ap, sym, subst, ℕ, Bool, true, false}
 use Rattle.std.specs.Prelude.{is_some, nat_lt, min}
+use Rattle.world_core.specs.Travels.{AreTravels}
 use Rattle.plain_run.specs.Progress.{IsProgress}
 use Rattle.plain_run.proofs.ProgressLemmas.{on_ok, made, took, went, busy_runs}
 use Rattle.plain_run.proofs.drive.take_turn.Goals as goal
@@ -30,9 +31,10 @@ returns-then-is_some-clause-made c =
     let turn = on_ok c.turn.result _ ok c.turn.ensures.turn in
     let run = on_ok c.turn.result _ ok c.turn.ensures.run in
     let live = on_ok c.turn.result _ ok c.turn.ensures.live in
+    let travels = subst (AreTravels c.args.world.now.journal) c.travelling.ensures.value c.travelling.ensures.exact in
     let units = c.min-units.ensures ∙ ap (λ (k : ℕ). min (c.args.limits.steps - k) 64) c.steps-steps.ensures in
     made c.args.limits c.args.world.now.program c.args.world.now c.turn.new.self c.args.site c.min-units.result c.next_for-place.result c.requires.going c.requires.some c.requires.among turn run units
-    c.turn.ensures.program.0 c.turn.ensures.program.1 live
+    c.turn.ensures.program.0 c.turn.ensures.program.1 live travels c.next_for-place.ensures.place c.requires.next
 
 pub returns-else-is_some-clause-made : goal.returns-else-is_some-clause-made
 returns-else-is_some-clause-made c =
@@ -40,6 +42,7 @@ returns-else-is_some-clause-made c =
     let turn = on_ok c.turn.result _ ok c.turn.ensures.turn in
     let run = on_ok c.turn.result _ ok c.turn.ensures.run in
     let live = on_ok c.turn.result _ ok c.turn.ensures.live in
+    let travels = subst (AreTravels c.args.world.now.journal) c.travelling.ensures.value c.travelling.ensures.exact in
     let units = c.min-units.ensures ∙ ap (λ (k : ℕ). min (c.args.limits.steps - k) 64) c.steps-steps.ensures in
     made c.args.limits c.args.world.now.program c.args.world.now c.turn.new.self c.args.site c.min-units.result c.next_for-place.result c.requires.going c.requires.some c.requires.among turn run units
-    c.turn.ensures.program.0 c.turn.ensures.program.1 live
+    c.turn.ensures.program.0 c.turn.ensures.program.1 live travels c.next_for-place.ensures.place c.requires.next

@@ -2,7 +2,7 @@ use Rattle.std.proofs.Common.{arith, ◌≡◌, ap, sym, subst, List, length}
 use Rattle.site_message.specs.declared.turn.Turn.{Turn}
 use Rattle.world_model.specs.Schedule.{schedule, sum_to}
 use Rattle.world_model.specs.Simulated.{last_ended, last_waiting}
-use Rattle.world_core.specs.Laws.{HasRun, AreMessagesFew}
+use Rattle.world_core.specs.Laws.{AreMessagesFew}
 use Rattle.plain_run.specs.Simulated.{HasMachineRun}
 use Rattle.plain_run.proofs.TotalsLemmas.{totals_fit, machine_run, few_of}
 use Rattle.plain_run.proofs.finish.finish_run.Goals as goal
