@@ -82,7 +82,7 @@ fn answer_of(outcome: Result<(), Refusal>) -> Answer {
     }
 }
 
-/// What the pick of a thread is answered, whose names have numbers below 2^60.
+/// What the pick of a thread is answered, whose names have numbers below 2^61.
 pub fn answer_to_pick<R: Abort>(
     rt: &R,
     alloc: Global,

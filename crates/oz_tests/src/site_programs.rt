@@ -129,6 +129,66 @@ pub static SENT: [SiteProgram; 12] = [
     ),
 ];
 
+// Values of other sites that are compared: their parts come with them, or later, or never.
+pub static TESTED: [SiteProgram; 6] = [
+    (
+        "local X Y R in
+          thread at 2 local A B C in A = 1 B = 2 C = g(A B) X = f(C A) end end
+          thread at 3 local A B C in A = 1 B = 2 C = g(A B) Y = f(C A) end end
+          R = X == Y
+          {Browse R}
+        end",
+        &["true\nquiescent ended=3 waiting=0\n"],
+        0,
+    ),
+    (
+        "local X Y R in
+          thread at 2 local A B C in A = 1 C = g(B A) X = f(C B) end end
+          thread at 3 local A B C in A = 2 C = g(B A) Y = f(C B) end end
+          R = X \\= Y
+          {Browse R}
+        end",
+        &["true\nquiescent ended=3 waiting=0\n"],
+        0,
+    ),
+    (
+        "local X Y P Q R in
+          thread at 2 X = f(P) {Wait Y} P = a end
+          thread at 3 Y = f(Q) {Wait P} Q = a end
+          thread at 4 R = X == Y {Browse R} end
+        end",
+        &["true\nquiescent ended=4 waiting=0\n"],
+        0,
+    ),
+    (
+        "local X Y R in
+          thread at 2 X = f(X) end
+          thread at 3 local Z in Y = f(Z) Z = f(Y) end end
+          R = X == Y
+          {Browse R}
+        end",
+        &["true\nquiescent ended=3 waiting=0\n"],
+        0,
+    ),
+    (
+        "local C D P Q X R S in
+          {NewCell X C}
+          {NewCell X D}
+          proc {P} skip end
+          proc {Q} skip end
+          thread at 2 R = C == D S = P \\= Q end
+          {Browse R} {Browse S}
+        end",
+        &["false\ntrue\nquiescent ended=2 waiting=0\n"],
+        0,
+    ),
+    (
+        "local X Y R in thread at 2 X = f(Y) end R = X == Y {Browse R} end",
+        &["quiescent ended=1 waiting=1\n"],
+        1,
+    ),
+];
+
 // Threads, and what they wait for.
 pub static THREADS: [SiteProgram; 9] = [
     (

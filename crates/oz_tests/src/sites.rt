@@ -2,7 +2,7 @@
 
 use crate::endless::{ENDLESS, FAR_STREAM};
 use crate::rows::COUNTER;
-use crate::site_programs::{CELLS, RAISED, SENT, SITES, SiteProgram, THREADS};
+use crate::site_programs::{CELLS, RAISED, SENT, SITES, SiteProgram, TESTED, THREADS};
 use crate::site_texts::{FRONTS, RACE, SITED, SiteText, THIRD};
 use crate::texts::{answer, give_up, report_of, with_workers};
 use oz_base::{MemSink, MemSource};
@@ -135,6 +135,7 @@ fn any_number_of_sites_prints_what_is_lawful(rt: HostRuntime) -> Result<(), Fail
     let alloc = rt.alloc();
     for workers in ["0", "3"] {
         print_on_all_sites(&rt, alloc, workers, SENT.as_slice())?;
+        print_on_all_sites(&rt, alloc, workers, TESTED.as_slice())?;
         print_on_all_sites(&rt, alloc, workers, THREADS.as_slice())?;
         print_on_all_sites(&rt, alloc, workers, CELLS.as_slice())?;
         print_on_all_sites(&rt, alloc, workers, RAISED.as_slice())?;

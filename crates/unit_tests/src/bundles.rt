@@ -56,17 +56,39 @@ fn link(store: &mut Store, num: u64, lower: u64) -> Result<bool, AllocError> {
     Ok(true)
 }
 
-// Variable 4 leads to 3, which is f(2 1); 2 is g(0), 1 is 1 and 0 is 2. Whether the store was made so.
+// What a variable is: an integer, a record with a letter and these variables, or a variable with a lower number.
+#[derive(Clone, Copy)]
+enum Told {
+    Int(i128),
+    Record(u8, &'static [u64]),
+    Var(u64),
+}
+
+// Variable 4 leads to 3, which is f(2 1); 2 is g(0), 1 is 1 and 0 is 2.
+static TOLD: [(u64, Told); 5] = [
+    (0, Told::Int(2)),
+    (1, Told::Int(1)),
+    (2, Told::Record(b'g', &[0])),
+    (3, Told::Record(b'f', &[2, 1])),
+    (4, Told::Var(3)),
+];
+
+fn tell_it(alloc: Global, store: &mut Store, num: u64, told: Told) -> Result<bool, AllocError> {
+    match told {
+        Told::Int(value) => tell(store, num, Node::Int(Integer::new(value))),
+        Told::Record(letter, numbers) => tell(store, num, record(alloc, letter, numbers)?),
+        Told::Var(lower) => link(store, num, lower),
+    }
+}
+
+// Whether the store was made so.
 fn fill(alloc: Global, store: &mut Store) -> Result<bool, AllocError> {
-    let inner = record(alloc, b'g', &[0])?;
-    let outer = record(alloc, b'f', &[2, 1])?;
-    Ok(
-        tell(store, 0, Node::Int(Integer::new(2)))?
-            && tell(store, 1, Node::Int(Integer::new(1)))?
-            && tell(store, 2, inner)?
-            && tell(store, 3, outer)?
-            && link(store, 4, 3)?,
-    )
+    for (num, told) in TOLD.as_slice() {
+        if !tell_it(alloc, store, *num, *told)? {
+            return Ok(false);
+        }
+    }
+    Ok(true)
 }
 
 // The numbers of the names in a bundle.

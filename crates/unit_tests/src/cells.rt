@@ -138,34 +138,38 @@ fn ask_world(world: &mut CellWorld, site: u32, new: VarName) -> Result<Option<As
 enum Event {
     Asks(u32, u64, Ask),
     Delivers(usize),
+    DeliversForward,
 }
 
-// Whether the event can be, and is answered so.
-fn make_event(world: &mut CellWorld, event: Event) -> Result<bool, AllocError> {
+// Whether the event can be, and is answered so. The Forward to site 3 is delivered from `place`.
+fn make_event(world: &mut CellWorld, event: Event, place: usize) -> Result<bool, AllocError> {
     match event {
         Event::Asks(site, num, want) => Ok(ask_world(world, site, var(num))? == Some(want)),
         Event::Delivers(at) => Ok(world.deliver(at).is_ok()),
+        Event::DeliversForward => Ok(world.deliver(place).is_ok()),
     }
 }
 
-// The worked row. The Forward to site 3 comes at `place` beside its Put.
+// The worked row.
+static EVENTS: [Event; 12] = [
+    Event::Asks(3, 1, Ask::SendGet),
+    Event::Delivers(0),
+    Event::Asks(2, 2, Ask::SendGet),
+    Event::Delivers(1),
+    Event::DeliversForward,
+    Event::Delivers(0),
+    Event::Delivers(0),
+    Event::Asks(3, 3, Ask::SendGet),
+    Event::Asks(3, 4, Ask::Already),
+    Event::Delivers(0),
+    Event::Delivers(0),
+    Event::Delivers(0),
+];
+
+// The Forward to site 3 comes at `place` beside its Put.
 fn run_events<R: Abort>(rt: &R, world: &mut CellWorld, place: usize) -> Result<(), AllocError> {
-    let events = [
-        Event::Asks(3, 1, Ask::SendGet),
-        Event::Delivers(0),
-        Event::Asks(2, 2, Ask::SendGet),
-        Event::Delivers(1),
-        Event::Delivers(place),
-        Event::Delivers(0),
-        Event::Delivers(0),
-        Event::Asks(3, 3, Ask::SendGet),
-        Event::Asks(3, 4, Ask::Already),
-        Event::Delivers(0),
-        Event::Delivers(0),
-        Event::Delivers(0),
-    ];
-    for (at, event) in events.into_iter().enumerate() {
-        assert!(rt; make_event(world, event)?, "at {at}");
+    for (at, event) in EVENTS.iter().enumerate() {
+        assert!(rt; make_event(world, *event, place)?, "at {at}");
     }
     Ok(())
 }

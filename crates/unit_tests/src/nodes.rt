@@ -38,27 +38,28 @@ fn procedure(alloc: Global, num: u64, formals: u8) -> Result<Node, AllocError> {
     ))
 }
 
+static ATOMS: [(&[u8], &[u8]); 14] = [
+    (b"a", b"a"),
+    (b"aB9_", b"aB9_"),
+    (b"nil", b"nil"),
+    (b"true", b"true"),
+    (b"skipp", b"skipp"),
+    (b"skip", b"'skip'"),
+    (b"unit", b"'unit'"),
+    (b"", b"''"),
+    (b"Abc", b"'Abc'"),
+    (b"_a", b"'_a'"),
+    (b"9", b"'9'"),
+    (b"two words", b"'two words'"),
+    (b"|", b"'|'"),
+    (b"it's\\a\nb", b"'it\\'s\\\\a\\nb'"),
+];
+
 #[test]
 fn atoms_are_bare_or_quoted(rt: HostRuntime) -> Result<(), Fail> {
-    let rows: [(&[u8], &[u8]); 14] = [
-        (b"a", b"a"),
-        (b"aB9_", b"aB9_"),
-        (b"nil", b"nil"),
-        (b"true", b"true"),
-        (b"skipp", b"skipp"),
-        (b"skip", b"'skip'"),
-        (b"unit", b"'unit'"),
-        (b"", b"''"),
-        (b"Abc", b"'Abc'"),
-        (b"_a", b"'_a'"),
-        (b"9", b"'9'"),
-        (b"two words", b"'two words'"),
-        (b"|", b"'|'"),
-        (b"it's\\a\nb", b"'it\\'s\\\\a\\nb'"),
-    ];
-    for (bytes, want) in rows {
+    for (bytes, want) in ATOMS.as_slice() {
         let line = atom_text(rt.alloc(), &text(rt.alloc(), bytes)?)?;
-        assert_eq!(rt; line.as_slice(), want);
+        assert_eq!(rt; line.as_slice(), *want);
     }
     Ok(())
 }
@@ -80,18 +81,19 @@ fn has_head(
     }
 }
 
+static INTEGERS: [(i128, &str); 4] = [
+    (0, "0"),
+    (-3, "~3"),
+    (i128::MAX, "170141183460469231731687303715884105727"),
+    (i128::MIN, "~170141183460469231731687303715884105728"),
+];
+
 #[test]
 fn heads_of_nodes_are_spelled(rt: HostRuntime) -> Result<(), Fail> {
     let alloc = rt.alloc();
-    let rows = [
-        (0, "0"),
-        (-3, "~3"),
-        (i128::MAX, "170141183460469231731687303715884105727"),
-        (i128::MIN, "~170141183460469231731687303715884105728"),
-    ];
-    for (value, want) in rows {
+    for (value, want) in INTEGERS.as_slice() {
         assert!(rt;
-            has_head(alloc, Ok(Node::Int(Integer::new(value))), want.as_bytes())?,
+            has_head(alloc, Ok(Node::Int(Integer::new(*value))), want.as_bytes())?,
             "at {value}"
         );
     }
@@ -194,23 +196,37 @@ fn two_of_them(alloc: Global, env: &Env) -> Result<Env, AllocError> {
     Ok(limited.with_room()?.bind(4, variable(4)))
 }
 
+// A position, and the number of its variable in an environment, after one more was bound, and where two are left of these.
+type Row = (u32, Option<u64>, Option<u64>, Option<u64>);
+
+static POSITIONS: [Row; 5] = [
+    (0, None, Some(1), Some(1)),
+    (2, Some(2), Some(2), None),
+    (3, Some(3), Some(3), None),
+    (4, None, None, Some(4)),
+    (5, Some(6), Some(6), None),
+];
+
+// Whether an environment has the variable of this number at a position, or none.
+fn has(env: &Env, position: u32, num: Option<u64>) -> bool {
+    match (env.get(position), num) {
+        (Some(var), Some(num)) => var == variable(num),
+        (None, None) => true,
+        _ => false,
+    }
+}
+
 #[test]
 fn environments_map_positions(rt: HostRuntime) -> Result<(), Fail> {
     let alloc = rt.alloc();
     let env = three_positions(alloc)?;
     let bound = one_more(alloc, &env)?;
     let rebound = two_of_them(alloc, &bound)?;
-    let rows = [
-        (0, None, Some(variable(1)), Some(variable(1))),
-        (2, Some(variable(2)), Some(variable(2)), None),
-        (3, Some(variable(3)), Some(variable(3)), None),
-        (4, None, None, Some(variable(4))),
-        (5, Some(variable(6)), Some(variable(6)), None),
-    ];
-    for (position, before, after, last) in rows {
-        assert_eq!(rt; env.get(position), before, "at {position}");
-        assert_eq!(rt; bound.get(position), after, "at {position}");
-        assert_eq!(rt; rebound.get(position), last, "at {position}");
+    for row in POSITIONS.as_slice() {
+        let (position, before, after, last) = *row;
+        assert!(rt; has(&env, position, before), "at {position}");
+        assert!(rt; has(&bound, position, after), "at {position}");
+        assert!(rt; has(&rebound, position, last), "at {position}");
     }
     Ok(())
 }

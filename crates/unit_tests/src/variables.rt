@@ -84,14 +84,23 @@ fn asks_for_five(asker: &mut Binder, outbox: &mut Outbox) -> Result<bool, AllocE
     Ok(asker.want(X, int(5), thread(2), outbox)? == Want::Sent)
 }
 
+fn registers_once<R: Abort>(
+    rt: &R,
+    asker: &mut Binder,
+    outbox: &mut Outbox,
+) -> Result<(), AllocError> {
+    assert!(rt; meets(asker, outbox)? == Some(Met::New));
+    assert!(rt; meets(asker, outbox)? == Some(Met::Known));
+    assert!(rt; asks_for_five(asker, outbox)?);
+    assert_eq!(rt; outbox.len(), 2);
+    Ok(())
+}
+
 #[test]
 fn a_site_registers_once_and_sends_its_request(rt: HostRuntime) -> Result<(), Fail> {
     let mut asker = Binder::new(rt.alloc(), 2);
     let mut outbox = Outbox::new(rt.alloc());
-    assert!(rt; meets(&mut asker, &mut outbox)? == Some(Met::New));
-    assert!(rt; meets(&mut asker, &mut outbox)? == Some(Met::Known));
-    assert!(rt; asks_for_five(&mut asker, &mut outbox)?);
-    assert_eq!(rt; outbox.len(), 2);
+    registers_once(&rt, &mut asker, &mut outbox)?;
     Ok(())
 }
 
@@ -113,23 +122,21 @@ fn known_value(site: &Binder) -> Option<i128> {
     }
 }
 
+fn knows_it<R: Abort>(rt: &R, site: &mut Binder, outbox: &mut Outbox) -> Result<(), AllocError> {
+    assert!(rt; meets_bound(site)? == Some(Met::New));
+    assert!(rt; meets(site, outbox)? == Some(Met::Known));
+    assert_eq!(rt; outbox.len(), 0);
+    assert_eq!(rt; known_value(site), Some(5));
+    Ok(())
+}
+
 // A bundle told X with its term: nobody is asked for it.
 #[test]
 fn a_name_that_is_met_with_its_term_is_not_registered(rt: HostRuntime) -> Result<(), Fail> {
     let mut site = Binder::new(rt.alloc(), 2);
     let mut outbox = Outbox::new(rt.alloc());
-    assert!(rt; meets_bound(&mut site)? == Some(Met::New));
-    assert!(rt; meets(&mut site, &mut outbox)? == Some(Met::Known));
-    assert_eq!(rt; outbox.len(), 0);
-    assert_eq!(rt; known_value(&site), Some(5));
+    knows_it(&rt, &mut site, &mut outbox)?;
     Ok(())
-}
-
-// The owner of X.
-fn owner_of_x(alloc: Global) -> Result<Binder, AllocError> {
-    let mut owner = Binder::new(alloc, 1);
-    owner.make(X)?;
-    Ok(owner)
 }
 
 // 5 is asked for, and is taken.
@@ -137,13 +144,33 @@ fn takes_five(owner: &mut Binder, answers: &mut Outbox) -> Result<bool, AllocErr
     Ok(ask(owner, 5, answers)? == Some(Asked::Taken))
 }
 
+// The owner of X makes it, unless it is made.
+fn makes_x(owner: &mut Binder) -> Result<bool, AllocError> {
+    match owner.knows(X) {
+        Knowledge::Nothing if owner.owns(X) => (),
+        _ => return Ok(false),
+    }
+    owner.make(X)?;
+    Ok(true)
+}
+
+fn is_late_behind_five<R: Abort>(
+    rt: &R,
+    owner: &mut Binder,
+    answers: &mut Outbox,
+) -> Result<(), AllocError> {
+    assert!(rt; makes_x(owner)?);
+    assert!(rt; takes_five(owner, answers)?);
+    assert!(rt; ask(owner, 6, answers)? == Some(Asked::Late));
+    assert_eq!(rt; answers.len(), 0);
+    Ok(())
+}
+
 #[test]
 fn a_second_request_is_late(rt: HostRuntime) -> Result<(), Fail> {
-    let mut owner = owner_of_x(rt.alloc())?;
+    let mut owner = Binder::new(rt.alloc(), 1);
     let mut answers = Outbox::new(rt.alloc());
-    assert!(rt; takes_five(&mut owner, &mut answers)?);
-    assert!(rt; ask(&mut owner, 6, &mut answers)? == Some(Asked::Late));
-    assert_eq!(rt; answers.len(), 0);
+    is_late_behind_five(&rt, &mut owner, &mut answers)?;
     Ok(())
 }
 
@@ -163,13 +190,23 @@ fn is_answered(
     }
 }
 
+fn are_answered<R: Abort>(
+    rt: &R,
+    owner: &mut Binder,
+    answers: &mut Outbox,
+) -> Result<(), AllocError> {
+    assert!(rt; makes_x(owner)?);
+    assert!(rt; takes_five(owner, answers)?);
+    assert!(rt; is_answered(owner, 2, answers, 1)?);
+    assert!(rt; is_answered(owner, 3, answers, 2)?);
+    Ok(())
+}
+
 #[test]
 fn a_registration_behind_the_binding_is_answered(rt: HostRuntime) -> Result<(), Fail> {
-    let mut owner = owner_of_x(rt.alloc())?;
+    let mut owner = Binder::new(rt.alloc(), 1);
     let mut answers = Outbox::new(rt.alloc());
-    assert!(rt; takes_five(&mut owner, &mut answers)?);
-    assert!(rt; is_answered(&mut owner, 2, &mut answers, 1)?);
-    assert!(rt; is_answered(&mut owner, 3, &mut answers, 2)?);
+    are_answered(&rt, &mut owner, &mut answers)?;
     Ok(())
 }
 
@@ -232,7 +269,6 @@ fn value_at(world: &BindWorld, site: u32, var: VarName) -> Option<i128> {
     }
 }
 
-// The message of a place is delivered, and so many travel then.
 fn delivers(world: &mut BindWorld, place: usize, count: usize) -> bool {
     world.deliver(place).is_ok() && world.travelling().len() == count
 }
@@ -241,7 +277,6 @@ fn delivers_none(world: &mut BindWorld, place: usize) -> bool {
     world.deliver(place) == Err(DeliverError::NotThere)
 }
 
-// The one message on its way tells a site that X is 5.
 fn tells_only(world: &BindWorld, site: u32) -> bool {
     match world.travelling() {
         [only] => tells_five(only, site),
@@ -249,53 +284,79 @@ fn tells_only(world: &BindWorld, site: u32) -> bool {
     }
 }
 
-// Site 1 makes X, and site 2 meets it and asks for 5: a Register and a request travel.
-fn begins(world: &mut BindWorld) -> Result<bool, AllocError> {
-    Ok(
-        delivers_none(world, 0)
-            && make(world, X)?
-            && !make(world, X)?
-            && !meet(world, 2, Y)?
-            && meet(world, 2, X)?
-            && meet(world, 2, X)?
-            && world.travelling().len() == 1
-            && want_int(world, 2, X, 5)?
-            && world.travelling().len() == 2
-            && delivers_none(world, 2),
-    )
+// A call on a world with its answer, or what is seen of it then.
+#[derive(Clone, Copy)]
+enum Step {
+    // The site of a variable makes it: whether that can be.
+    Makes(VarName, bool),
+    // A site meets a variable: whether that can be.
+    Meets(u32, VarName, bool),
+    // A site asks for X to be an integer.
+    Wants(u32, i128),
+    // The message of a place is delivered, and so many travel then.
+    Delivers(usize, usize),
+    DeliversNone(usize),
+    Travel(usize),
+    // A site knows X to be this integer, or none.
+    Knows(u32, Option<i128>),
+    // The one message on its way tells a site that X is 5.
+    TellsOnly(u32),
 }
 
-// The request comes before the Register, and nothing is sent.
-fn is_bound_first(world: &mut BindWorld) -> bool {
-    delivers(world, 1, 1)
-        && value_at(world, 1, X) == Some(5)
-        && value_at(world, 2, X) == None
-        && delivers(world, 0, 1)
-        && tells_only(world, 2)
-        && delivers(world, 0, 0)
-        && value_at(world, 2, X) == Some(5)
+fn is_so(world: &mut BindWorld, step: Step) -> Result<bool, AllocError> {
+    match step {
+        Step::Makes(var, can) => Ok(make(world, var)? == can),
+        Step::Meets(site, var, can) => Ok(meet(world, site, var)? == can),
+        Step::Wants(site, value) => want_int(world, site, X, value),
+        Step::Delivers(place, count) => Ok(delivers(world, place, count)),
+        Step::DeliversNone(place) => Ok(delivers_none(world, place)),
+        Step::Travel(count) => Ok(world.travelling().len() == count),
+        Step::Knows(site, value) => Ok(value_at(world, site, X) == value),
+        Step::TellsOnly(site) => Ok(tells_only(world, site)),
+    }
 }
 
-// Site 3 comes too late with its request, and learns the binding by its registration.
-fn is_late(world: &mut BindWorld) -> Result<bool, AllocError> {
-    Ok(
-        meet(world, 3, X)?
-            && want_int(world, 3, X, 6)?
-            && delivers(world, 1, 1)
-            && value_at(world, 1, X) == Some(5)
-            && delivers(world, 0, 1)
-            && tells_only(world, 3)
-            && delivers(world, 0, 0)
-            && value_at(world, 3, X) == Some(5)
-            && delivers_none(world, 0),
-    )
+// Site 1 makes X, and site 2 meets it and asks for 5. The request comes before the Register, and nothing is sent. Site 3
+// comes too late with its request, and learns the binding by its registration.
+static STEPS: [Step; 26] = [
+    Step::DeliversNone(0),
+    Step::Makes(X, true),
+    Step::Makes(X, false),
+    Step::Meets(2, Y, false),
+    Step::Meets(2, X, true),
+    Step::Meets(2, X, true),
+    Step::Travel(1),
+    Step::Wants(2, 5),
+    Step::Travel(2),
+    Step::DeliversNone(2),
+    Step::Delivers(1, 1),
+    Step::Knows(1, Some(5)),
+    Step::Knows(2, None),
+    Step::Delivers(0, 1),
+    Step::TellsOnly(2),
+    Step::Delivers(0, 0),
+    Step::Knows(2, Some(5)),
+    Step::Meets(3, X, true),
+    Step::Wants(3, 6),
+    Step::Delivers(1, 1),
+    Step::Knows(1, Some(5)),
+    Step::Delivers(0, 1),
+    Step::TellsOnly(3),
+    Step::Delivers(0, 0),
+    Step::Knows(3, Some(5)),
+    Step::DeliversNone(0),
+];
+
+fn goes_so<R: Abort>(rt: &R, world: &mut BindWorld) -> Result<(), AllocError> {
+    for (at, step) in STEPS.iter().enumerate() {
+        assert!(rt; is_so(world, *step)?, "at {at}");
+    }
+    Ok(())
 }
 
 #[test]
 fn a_world_delivers_requests_and_registrations_in_any_order(rt: HostRuntime) -> Result<(), Fail> {
     let mut world = BindWorld::new(rt.alloc(), 3)?;
-    assert!(rt; begins(&mut world)?);
-    assert!(rt; is_bound_first(&mut world));
-    assert!(rt; is_late(&mut world)?);
+    goes_so(&rt, &mut world)?;
     Ok(())
 }
