@@ -3,7 +3,8 @@
 //!
 //! For: every other crate speaks of these values, and its contracts are written in the definitions that stand here:
 //! stores and their classes (`Store`, `Classes`), pairs of a tell (`Goal`), comparisons of two variables (`Compare`), shown values (`Shown`), states and the names in
-//! them (`State`, `Names`), environments (`Env`), exceptions (`Unwind`), values by key (`Assoc`).
+//! them (`State`, `Names`), environments (`Env`), exceptions (`Unwind`), values by key (`Assoc`). The
+//! greatest numbers that all agree on have names (`MOST_SITES` and its like).
 //!
 //! Promises: copies equal what they copy (`copy_node`, `copy_term`, `copy_feature`, `copy_pick`); tests and orders are those
 //! of the definitions (`equal_text`, `equal_fields`, `equal_feature`, `compare_features`, `is_below`); atoms,
@@ -26,6 +27,7 @@ mod env;
 mod integer;
 mod item;
 mod laws;
+mod limits;
 mod line;
 mod names;
 mod node;
@@ -44,6 +46,7 @@ pub use laws::{
     roots_tell_classes, shown_cuts, shown_nodes, shown_records, sound_stores, worked_comparisons,
     worked_goals,
 };
+pub use limits::{MOST_ITEMS, MOST_MESSAGES, MOST_SITES, MOST_STEPS, MOST_UNITS};
 pub use line::Line;
 pub use names::{
     CellName, CodeId, Name, NameKind, NameList, ProcName, ThreadName, VarName, is_below,
