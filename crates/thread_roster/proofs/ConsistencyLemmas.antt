@@ -178,38 +178,6 @@ kept_roused {V} x slots now by_name queue more js waiting_keys left a b c h e m 
     among : (j : ℕ) → IsAwaitingAt slots j x → Contains (woken x slots js) j
     among j s = woken_all x slots js j s (subst (λ (l : List ℕ). Contains l j) (sym e) (h.parked j x s.0.mode (s.0, s.1, refl) s.2))
 
--- ---- keys that were left behind
-
-weighs : (y : VarName) (m : Mode) → awaits y m ≡ true → weight m ≡ 1
-weighs y mode.Runs w = cc
-weighs y (mode.Waits x) w = refl
-weighs y (mode.WaitsAny xs) w = refl
-weighs y (mode.WaitsFor c) w = cc
-
--- where no thread waits, none waits for a variable
-idle : {V : Type 0} (slots : List (Slot V)) (j : ℕ) (y : VarName) (m : Mode) → total waiting slots ≡ 0 → IsModeAt slots j m → awaits y m ≡ true → ⊥
-idle {V} slots j y m none (h, at, is) w =
-    let less = total_end waiting slots j h at in
-    let one : weight h.mode ≡ 1 = weighs y h.mode (ap (λ (k : Mode). awaits y k) is ∙ w) in
-    omega (arith, less, one, none)
-
--- where no thread waits, the keys at a variable may go
-pub kept_idle : {V : Type 0} (x : VarName) (slots : List (Slot V)) (by_name : Places) (queue : List ℕ) (waiting_keys left : Waiting) (a b : ℕ) → IsConsistent slots by_name queue waiting_keys a b → b ≡ 0 →
-    ((y : VarName) → keys_among left y ≡ keys.without_keys (keys_among waiting_keys) x y) → IsConsistent slots by_name queue left a b
-kept_idle {V} x slots by_name queue waiting_keys left a b h none rest = record {
-  placed = h.placed;
-  queued = h.queued;
-  parked = λ j y m s w. absurd (idle slots j y m (sym h.waiters ∙ none) s w);
-  inside = h.inside;
-  keys_inside = λ y. subst (λ (js : List ℕ). AreInside slots js) (sym (rest y)) (some y (equal_var x y));
-  alive = h.alive;
-  waiters = h.waiters;
-}
-  where
-    some : (y : VarName) (r : Bool) → AreInside slots (cond r [] (keys_among waiting_keys y))
-    some y true = tt
-    some y false = h.keys_inside y
-
 -- ---- one slot changes
 
 stands_set : {V : Type 0} (slots : List (Slot V)) (i j : ℕ) (e : Occupant V) (m : Mode) → IsModeAt (slice_set slots i (Some e)) j m → ((j ≡ i) × (e.mode ≡ m)) ⊎ IsModeAt slots j m

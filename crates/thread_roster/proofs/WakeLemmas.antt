@@ -1,5 +1,5 @@
 -- Threads in slots that go on.
-use Rattle.std.proofs.Common.{arith, length-append, ◌≡◌, ◌≢◌, ◌∙◌, sym, ap, refl, ℕ, ◌+◌, ◌<◌, ◌≤◌, zero, suc, length, drop, get_or, add-one, drop-cons, map, filter, ◌⊎◌, inl, inr, List, [], ◌∷◌, ◌++◌, Bool, true, false, cond, Some, None}
+use Rattle.std.proofs.Common.{arith, length-append, ◌≡◌, ◌≢◌, ◌∙◌, sym, ap, refl, ℕ, ◌+◌, ◌<◌, ◌≤◌, zero, suc, length, drop, get_or, add-one, drop-cons, map, filter, ◌⊎◌, inl, inr, List, [], ◌∷◌, ◌++◌, append-nil, Bool, true, false, cond, Some, None}
 use Rattle.std.specs.Prelude.{slice_set, slice_get, Contains}
 use Rattle.std.specs.List.{list_any}
 use Rattle.tree_node.specs.declared.names.VarName.{VarName}
@@ -9,7 +9,7 @@ use Rattle.thread_roster.specs.declared.mode.Mode.{Mode}
 use Rattle.thread_roster.specs.declared.mode.Mode.TheVariants as mode
 use Rattle.thread_roster.specs.declared.slot.Occupant.{Occupant}
 use Rattle.thread_roster.specs.Threads.{Entry, awaits, wake, wake_all, is_waiting, waiting_of, AllWait}
-use Rattle.thread_roster.specs.Slots.{Slot, entry, threads_in, wake_slot, wake_slot_at, wake_slots, awaits_in, awaits_at, total, one, weight, waiting}
+use Rattle.thread_roster.specs.Slots.{Slot, entry, threads_in, wake_slot, wake_slot_at, wake_slots, awaits_in, awaits_at, woken, total, one, weight, waiting}
 
 -- ---- one slot
 
@@ -78,6 +78,45 @@ not_roused {V} x (Some k) h = ap (λ (m : Mode). Some (record k { mode = m })) (
 -- the thread in a slot waits for this variable
 abbrev pub IsAwaitingAt : {V : Type 0} → List (Slot V) → ℕ → VarName → Type 0
 IsAwaitingAt {V} slots j x = (h : Occupant V) × (slice_get slots j ≡ Some (Some h)) × (awaits x h.mode ≡ true)
+
+-- where no thread waits, none goes on
+asleep : (x : VarName) (m : Mode) → weight m ≡ 0 → (awaits x m ≡ false) × (wake x m ≡ m)
+asleep x mode.Runs e = (refl, refl)
+asleep x (mode.Waits y) e = cc
+asleep x (mode.WaitsAny ys) e = cc
+asleep x (mode.WaitsFor c) e = cc
+
+asleep_at : {V : Type 0} (x : VarName) (slots : List (Slot V)) (k : ℕ) → total waiting slots ≡ 0 → (awaits_at x slots k ≡ false) × (wake_slot_at x slots k ≡ slots)
+asleep_at x [] k e = (refl, refl)
+asleep_at x (None ∷ slots) zero e = (refl, refl)
+asleep_at {V} x (None ∷ slots) (suc k) e =
+    let r = asleep_at x slots k e in
+    (r.0, ap (λ (l : List (Slot V)). None ∷ l) r.1)
+asleep_at {V} x (Some h ∷ slots) zero e =
+    let sum : weight h.mode + total waiting slots ≡ 0 = e in
+    let none : weight h.mode ≡ 0 = omega (arith, sum) in
+    let r = asleep x h.mode none in
+    (r.0, ap (λ (m : Mode). Some (record h { mode = m }) ∷ slots) r.1)
+asleep_at {V} x (Some h ∷ slots) (suc k) e =
+    let sum : weight h.mode + total waiting slots ≡ 0 = e in
+    let none : total waiting slots ≡ 0 = omega (arith, sum) in
+    let r = asleep_at x slots k none in
+    (r.0, ap (λ (l : List (Slot V)). Some h ∷ l) r.1)
+
+none_go_on : {V : Type 0} (x : VarName) (slots : List (Slot V)) (keys : List ℕ) → total waiting slots ≡ 0 → (woken x slots keys ≡ []) × (wake_slots x slots keys ≡ slots)
+none_go_on x slots [] e = (refl, refl)
+none_go_on {V} x slots (k ∷ keys) e =
+    let r = asleep_at x slots k e in
+    let rest = none_go_on x slots keys e in (
+      ap (λ (b : Bool). cond b (k ∷ []) [] ++ woken x (wake_slot_at x slots k) keys) r.0 ∙ (ap (λ (l : List (Slot V)). woken x l keys) r.1 ∙ rest.0),
+      ap (λ (l : List (Slot V)). wake_slots x l keys) r.1 ∙ rest.1,
+    )
+
+pub idle_queue : {V : Type 0} (x : VarName) (slots : List (Slot V)) (keys queue : List ℕ) (n : ℕ) → n ≡ total waiting slots → n ≡ 0 → queue ≡ queue ++ woken x slots keys
+idle_queue x slots keys queue n is none = sym (ap (λ (l : List ℕ). queue ++ l) (none_go_on x slots keys (sym is ∙ none)).0 ∙ append-nil queue)
+
+pub idle_slots : {V : Type 0} (x : VarName) (slots : List (Slot V)) (keys : List ℕ) (n : ℕ) → n ≡ total waiting slots → n ≡ 0 → slots ≡ wake_slots x slots keys
+idle_slots x slots keys n is none = sym (none_go_on x slots keys (sym is ∙ none)).1
 
 none_waits : {V : Type 0} (x : VarName) (slots : List (Slot V)) → ((j : ℕ) → IsAwaitingAt slots j x → ⊥) → map (wake_slot x) slots ≡ slots
 none_waits x [] h = refl
@@ -171,14 +210,6 @@ pub waiting_is : {V : Type 0} (slots : List (Slot V)) → total waiting slots �
 waiting_is [] = refl
 waiting_is (None ∷ slots) = waiting_is slots
 waiting_is {V} (Some h ∷ slots) = let rest = waiting_is slots in let more = waiting_append (threads_in slots) h in omega (arith, rest, more)
-
--- where none waits, nothing is woken
-pub none_woken : {V : Type 0} (x : VarName) (ts : List (Entry V)) → waiting_of ts ≡ 0 → wake_all x ts ≡ ts
-none_woken x [] e = refl
-none_woken {V} x ((n, (v, mode.Runs)) ∷ ts) e = ap (λ (l : List (Entry V)). (n, (v, mode.Runs)) ∷ l) (none_woken x ts e)
-none_woken x ((n, (v, mode.Waits y)) ∷ ts) e = cc
-none_woken x ((n, (v, mode.WaitsAny ys)) ∷ ts) e = cc
-none_woken x ((n, (v, mode.WaitsFor c)) ∷ ts) e = cc
 
 pub waiting_at_most : {V : Type 0} (ts : List (Entry V)) → waiting_of ts ≤ length ts
 waiting_at_most [] = omega arith

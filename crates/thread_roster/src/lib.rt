@@ -17,10 +17,11 @@
 //! those that wait for its variable, and `first` and `rotate` at the slots that leave the queue. A thread that comes to
 //! wait leaves the queue at once where it is the first, as the thread of a turn is, and else by a walk over the queue. A slot is
 //! not used again, so that the list stays in the order of birth; an ended thread leaves an empty one. A thread that waited for
-//! several variables stays among the keys of the others, where it is passed over, until that variable is bound. One that waits there
-//! again and again, alone, has one key there; where others wait there in turns with it, all keys of a variable together are some
-//! twice as many as the threads that have one: where there is no room for one more, those that stand there more than once leave.
-//! No clause bounds them. It stands on `tree_node` (names), `waiting_keys` and `indexmap`.
+//! several variables stays among the keys of the others, where it is passed over, until that variable is bound. One that waits
+//! there again puts no key where its own is the last, as a clause of `add_again` tells (`waiting_keys`). Where others come to
+//! wait there in turns with it, each puts one; where there is no room for one more, those that stand there more than once leave,
+//! so that all keys of a variable together are some twice as many as the threads that have one. Their number is bounded by no
+//! clause. It stands on `tree_node` (names), `waiting_keys` and `indexmap`.
 //!
 //! Source: Van Roy and Haridi, *Concepts, Techniques, and Models of Computer Programming*, sections 2.4 and 4.1 (threads that wait
 //! for variables).

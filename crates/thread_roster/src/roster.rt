@@ -1,16 +1,18 @@
 //! Threads by name.
 
-ghost use Rattle.std.specs.Prelude.{Contains, ◌≡◌, ◌≢◌, ◌↔◌, ◌+◌, ◌∷◌, ◌++◌, [], List, None, Some, OnOk, OnErr, IfSome, IfNone, IsTrue, IsSome, length};
+ghost use Rattle.std.specs.Prelude.{Contains, ℕ, ◌≡◌, ◌≢◌, ◌↔◌, ◌+◌, ◌∷◌, ◌++◌, [], List, None, Some, OnOk, OnErr, IfOk, IfSome, IfNone, IsTrue, IsSome, length};
 ghost use Rattle.std.specs.Borrow.{sem};
+ghost use Rattle.std.specs.Vec.{vec_len};
 ghost use Rattle.tree_node.specs.declared.names.ThreadName.{ThreadName as Named};
+ghost use Rattle.tree_node.specs.declared.names.VarName.{VarName as TheVar};
 ghost use Rattle.tree_node.specs.Assoc.{value_of, without_key};
 ghost use Rattle.tree_node.specs.State.{equal_thread};
 ghost use Rattle.thread_roster.specs.declared.mode.Mode.{Mode as Standing};
 ghost use Rattle.thread_roster.specs.declared.mode.Mode.TheVariants as stands;
-ghost use Rattle.waiting_keys.specs.Keys.{keys_among};
+ghost use Rattle.waiting_keys.specs.Keys.{keys_among, without_keys};
 ghost use Rattle.tree_node.specs.Each.{Each};
 ghost use Rattle.thread_roster.specs.Parking.{HasMoreKeys};
-ghost use Rattle.thread_roster.specs.Slots.{threads_in as slots_hold};
+ghost use Rattle.thread_roster.specs.Slots.{threads_in as slots_hold, AreInside, woken, wake_slots, total, waiting as waits};
 ghost use Rattle.thread_roster.specs.Threads.{set_mode, set_value, wake_all, waiting_of, AllWait, IsSuspended, IsRunnable};
 ghost use Rattle.thread_roster.specs.Order.{without_name, rotated, HaveComeBehind};
 
@@ -69,13 +71,43 @@ fn park(waiters: &mut Waiters, vars: &[VarName], slot: usize) -> Result<(), Allo
     Ok(())
 }
 
-// A slot is among the keys of a variable, where it may be already.
+// A slot is among the keys of a variable, where it may be already. Where it is the last there, nothing changes.
 #[tactic(auto, using(crate::proofs::ParkingLemmas::more_at))]
 fn park_at(waiters: &mut Waiters, var: VarName, slot: usize) -> Result<(), AllocError>
     ensures stay { HasMoreKeys waiters.old slot waiters.new }
     ensures there { OnOk result (Contains (keys_among waiters.new var) slot) }
+    ensures last { (ks : List ℕ) → keys_among waiters.old var ≡ ks ++ slot ∷ [] → waiters.new ≡ waiters.old }
 {
     waiters.add_again(var, slot)
+}
+
+// The threads that wait for a variable go on, behind those in the queue, and its keys are taken. Answers how many go on. Where no
+// thread waits, those that went on by another variable may have left keys.
+#[tactic(auto, using(crate::proofs::WakeLemmas::idle_queue, crate::proofs::WakeLemmas::idle_slots))]
+fn rouse<V: Drop>(
+    slots: &mut Vec<Slot<V>>,
+    queue: &mut Queue,
+    waiters: &mut Waiters,
+    waiting: usize,
+    var: VarName,
+) -> Result<usize, AllocError>
+    requires inside { AreInside slots.old.items (keys_among waiters.old var) }
+    requires waiting { waiting ≡ total waits slots.old.items }
+    ensures queue { OnOk result (queue.new ≡ queue.old ++ woken var slots.old.items (keys_among waiters.old var)) }
+    ensures slots { OnOk result (slots.new.items ≡ wake_slots var slots.old.items (keys_among waiters.old var)) }
+    ensures count { IfOk result (λ roused. roused + total waits slots.new.items ≡ total waits slots.old.items) }
+    ensures taken { OnOk result ((y : TheVar) → keys_among waiters.new y ≡ without_keys (keys_among waiters.old) var y) }
+    ensures len { vec_len slots.new ≡ vec_len slots.old }
+    ensures err { OnErr result ((queue.new ≡ queue.old) × (slots.new ≡ slots.old) × (waiters.new ≡ waiters.old)) }
+{
+    if waiting == 0 {
+        waiters.take(var);
+        return Ok(0);
+    }
+    let keys = waiters.keys_at(var);
+    let roused = queue.wake(slots, keys, var)?;
+    waiters.take(var);
+    Ok(roused)
 }
 
 impl<V: Drop> Roster<V> {
@@ -212,8 +244,8 @@ impl<V: Drop> Roster<V> {
     {
         let slot = find(&self.slots, &self.by_name, &self.queue, name);
         self.waiters.add(var, slot)?;
-        let before = set_mode(&mut self.slots, slot, Mode::Waits(var));
-        self.waiting = count_waiting(self.waiting, before);
+        let waited = set_mode(&mut self.slots, slot, Mode::Waits(var));
+        self.waiting = count_waiting(self.waiting, waited);
         self.queue.remove(slot);
         Ok(())
     }
@@ -230,8 +262,8 @@ impl<V: Drop> Roster<V> {
     {
         let slot = find(&self.slots, &self.by_name, &self.queue, name);
         park(&mut self.waiters, vars.as_slice(), slot)?;
-        let before = set_mode(&mut self.slots, slot, Mode::WaitsAny(vars));
-        self.waiting = count_waiting(self.waiting, before);
+        let waited = set_mode(&mut self.slots, slot, Mode::WaitsAny(vars));
+        self.waiting = count_waiting(self.waiting, waited);
         self.queue.remove(slot);
         Ok(())
     }
@@ -244,8 +276,8 @@ impl<V: Drop> Roster<V> {
         ensures order { self.new.order ≡ without_name name self.old.order }
     {
         let slot = find(&self.slots, &self.by_name, &self.queue, name);
-        let before = set_mode(&mut self.slots, slot, Mode::WaitsFor(cell));
-        self.waiting = count_waiting(self.waiting, before);
+        let waited = set_mode(&mut self.slots, slot, Mode::WaitsFor(cell));
+        self.waiting = count_waiting(self.waiting, waited);
         self.queue.remove(slot);
     }
 
@@ -259,8 +291,8 @@ impl<V: Drop> Roster<V> {
     {
         let slot = find(&self.slots, &self.by_name, &self.queue, name);
         self.queue.push(slot)?;
-        let before = set_mode(&mut self.slots, slot, Mode::Runs);
-        self.waiting = count_running(self.waiting, before);
+        let waited = set_mode(&mut self.slots, slot, Mode::Runs);
+        self.waiting = count_running(self.waiting, waited);
         Ok(())
     }
 
@@ -272,15 +304,14 @@ impl<V: Drop> Roster<V> {
         ensures order { OnOk result (HaveComeBehind self.old.order self.new.order) }
         ensures err { OnErr result (self.new ≡ self.old) }
     {
-        if self.waiting == 0 {
-            // Those that went on by another variable may have left keys here.
-            self.waiters.take(var);
-            return Ok(());
-        }
-        let keys = self.waiters.keys_at(var);
-        let roused = self.queue.wake(&mut self.slots, keys, var)?;
+        let roused = rouse(
+            &mut self.slots,
+            &mut self.queue,
+            &mut self.waiters,
+            self.waiting,
+            var,
+        )?;
         self.waiting -= roused;
-        self.waiters.take(var);
         Ok(())
     }
 
@@ -292,8 +323,8 @@ impl<V: Drop> Roster<V> {
         ensures order { self.new.order ≡ without_name name self.old.order }
     {
         let slot = find(&self.slots, &self.by_name, &self.queue, name);
-        let before = clear(&mut self.slots, slot);
-        self.waiting = count_running(self.waiting, before);
+        let waited = clear(&mut self.slots, slot);
+        self.waiting = count_running(self.waiting, waited);
         forget(&mut self.by_name, name);
         self.living -= 1;
         leave(&mut self.queue, slot);

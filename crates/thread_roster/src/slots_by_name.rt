@@ -95,18 +95,18 @@ pub fn next_runnable<V>(slots: &Vec<Slot<V>>, queue: &mut Queue) -> Option<Threa
     None
 }
 
-/// How many threads wait after one has come to wait; `before` tells whether it waited already.
-pub fn count_waiting(waiting: usize, before: bool) -> usize
+/// How many threads wait after one has come to wait; `waited` tells whether it waited already.
+pub fn count_waiting(waiting: usize, waited: bool) -> usize
     requires few { waiting < 2 ^ 63 }
-    ensures { result + (if before then 1 else 0) ≡ waiting + 1 }
+    ensures { result + (if waited then 1 else 0) ≡ waiting + 1 }
 {
-    if before { waiting } else { waiting + 1 }
+    if waited { waiting } else { waiting + 1 }
 }
 
-/// How many threads wait after one has gone on or ended; `before` tells whether it waited.
-pub fn count_running(waiting: usize, before: bool) -> usize
-    requires among { (if before then 1 else 0) ≤ waiting }
-    ensures { result + (if before then 1 else 0) ≡ waiting }
+/// How many threads wait after one has gone on or ended; `waited` tells whether it waited.
+pub fn count_running(waiting: usize, waited: bool) -> usize
+    requires among { (if waited then 1 else 0) ≤ waiting }
+    ensures { result + (if waited then 1 else 0) ≡ waiting }
 {
-    if before { waiting - 1 } else { waiting }
+    if waited { waiting - 1 } else { waiting }
 }

@@ -1,11 +1,12 @@
 -- Keys that are put again, and keys each once.
-use Rattle.std.proofs.Common.{arith, ◌≡◌, ◌≢◌, ◌∙◌, sym, ap, refl, subst, ℕ, suc, ◌+◌, ◌<◌, Bool, true, false, cond, List, [], ◌∷◌, ◌++◌, length, take, get_or, ◌⊎◌, inl, inr, Some}
+use Rattle.std.proofs.Common.{arith, ◌≡◌, ◌≢◌, ◌∙◌, sym, ap, refl, subst, ℕ, suc, ◌+◌, ◌<◌, Bool, true, false, cond, nat_eq, List, [], ◌∷◌, ◌++◌, length, take, get_or, ◌⊎◌, inl, inr, None, Some}
 use Rattle.std.specs.Prelude.{Contains, IsSome}
 use Rattle.std.specs.Global.{Vec}
 use Rattle.std.specs.List.{list_any}
 use Rattle.std.specs.Map.{lookup}
 use Rattle.std.proofs.Math.Seq.{take-suc}
 use Rattle.std.proofs.lemmas.List.Elements.{Contains-append_left, Contains-push, Contains-push_cases}
+use Rattle.std.proofs.lemmas.Bool.Decides.{eqb_tells}
 use Rattle.indexmap.specs.IndexSet.{insert_key}
 use Rattle.indexmap.proofs.CallerLemmas.{Contains-insert_key}
 use Rattle.slab.specs.Slab.{get, with_value}
@@ -15,7 +16,7 @@ use Rattle.tree_node.specs.Store.{equal_var}
 use Rattle.tree_node.proofs.ClassLemmas.{same_name_decides}
 use Rattle.waiting_keys.specs.Keys.{IsQueuedAgain, keys_among, with_key}
 use Rattle.waiting_keys.specs.Waiting.{queue_of, queues_of, IsFiled}
-use Rattle.waiting_keys.proofs.WaitLemmas.{Numbers, Queues, keys_by, keys_found, others_kept}
+use Rattle.waiting_keys.proofs.WaitLemmas.{Numbers, Queues, keys_by, keys_found, others_kept, queues_same}
 
 -- the one has what the other has
 abbrev pub HaveSame : List ℕ → List ℕ → Type 0
@@ -89,6 +90,26 @@ queued_again es q w x n key filed p again others y = go (equal_var x y) refl
 
 pub there_again : (es : Numbers) (w : Queues) (x : VarName) (n key : ℕ) → lookup (equal_var x) es ≡ Some n → Contains (queue_of (get w n)) key → Contains (keys_among (queues_of w es) x) key
 there_again es w x n key p h = subst (λ (l : List ℕ). Contains l key) (sym (keys_found w es x ∙ ap (keys_by w) p)) h
+
+-- where the key is the last of its variable, nothing changes if its queue stays
+pub nothing_put : (es : Numbers) (q w : Queues) (x : VarName) (n key : ℕ) → lookup (equal_var x) es ≡ Some n → ((ks : List ℕ) → queue_of (get q n) ≡ ks ++ key ∷ [] → queue_of (get w n) ≡ queue_of (get q n)) →
+    ((m : ℕ) → m ≢ n → get w m ≡ get q m) → (ks : List ℕ) → keys_among (queues_of q es) x ≡ ks ++ key ∷ [] → queues_of w es ≡ queues_of q es
+nothing_put es q w x n key p last others ks e = queues_same es q w (λ m. go m (eqb_tells m n))
+  where
+    stays : queue_of (get w n) ≡ queue_of (get q n)
+    stays = last ks (sym (keys_found q es x ∙ ap (keys_by q) p) ∙ e)
+
+    go : (m : ℕ) → ((nat_eq m n ≡ true) × (m ≡ n)) ⊎ ((nat_eq m n ≡ false) × (m ≢ n)) → queue_of (get w m) ≡ queue_of (get q m)
+    go m (inl here) = subst (λ (k : ℕ). queue_of (get w k) ≡ queue_of (get q k)) (sym here.1) stays
+    go m (inr there) = ap queue_of (others m there.1)
+
+-- a variable without a queue has no last key
+pub no_last : (es : Numbers) (q : Queues) (x : VarName) (ks : List ℕ) (key : ℕ) → lookup (equal_var x) es ≡ None → keys_among (queues_of q es) x ≢ ks ++ key ∷ []
+no_last es q x ks key none e = go ks (sym (keys_found q es x ∙ ap (keys_by q) none) ∙ e)
+  where
+    go : (l : List ℕ) → [] ≢ l ++ key ∷ []
+    go [] h = cc
+    go (k ∷ l) h = cc
 
 -- a key that was put is there, and the others stay
 pub added_there : (old new : VarName → List ℕ) (x : VarName) (key : ℕ) → ((y : VarName) → new y ≡ with_key old x key y) → Contains (new x) key

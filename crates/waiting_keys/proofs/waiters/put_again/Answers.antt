@@ -1,4 +1,4 @@
-use Rattle.std.proofs.Common.{◌≡◌, sym, subst, ℕ, List}
+use Rattle.std.proofs.Common.{sym, subst, ℕ, List}
 use Rattle.waiting_keys.specs.Keys.{IsQueuedAgain}
 use Rattle.waiting_keys.proofs.AgainLemmas.{again_pushed, again_shorter}
 use Rattle.waiting_keys.proofs.waiters.put_again.Goals as goal

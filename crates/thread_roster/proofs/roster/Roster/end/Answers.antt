@@ -14,7 +14,7 @@ count_running-self-inside-requires g c =
     let held = c.find-slot.ensures.held in
     let some = total_holds waiting c.self.inside.slots.items c.find-slot.result held.0 held.1 in
     let all = c.self.invariant.0.waiters in
-    record { among = rw (c.clear-before.ensures.old held.0 held.1) (omega (arith, some, all)) }
+    record { among = rw (c.clear-waited.ensures.old held.0 held.1) (omega (arith, some, all)) }
 
 pub overflow_sub-self : goal.overflow_sub-self
 overflow_sub-self g c =
@@ -28,26 +28,26 @@ invariant_of-self g c =
     let held = c.find-slot.ensures.held in
     let some = total_holds one c.self.inside.slots.items c.find-slot.result held.0 held.1 in
     let all = c.self.invariant.0.alive in (
-      kept_left c.clear-before.new.slots.items c.forget.new.by_name.entries c.self.inside.queue c.leave.new.queue c.self.inside.waiters _ c.count_running-self-inside.result c.find-slot.result c.leave.ensures
-          (still_none c.self.inside.slots.items c.clear-before.new.slots.items c.find-slot.result c.clear-before.ensures.put)
-          (kept_end c.self.inside.slots.items c.clear-before.new.slots.items c.self.inside.by_name.entries c.forget.new.by_name.entries c.self.inside.queue c.self.inside.waiters c.self.inside.living c.self.inside.waiting _ c.count_running-self-inside.result c.args.name c.find-slot.result held.0 c.self.invariant.0 c.find-slot.ensures.slot held.1 c.clear-before.ensures.put c.forget.ensures
-          (omega (arith, some, all)) (rw (c.clear-before.ensures.old held.0 held.1) at c.count_running-self-inside.ensures)),
-      ordered_left c.clear-before.new.slots.items c.self.inside.queue c.leave.new.queue c.find-slot.result (ordered_end c.self.inside.slots.items c.clear-before.new.slots.items c.self.inside.queue c.find-slot.result c.self.invariant.1 c.clear-before.ensures.put) c.leave.ensures,
+      kept_left c.clear-waited.new.slots.items c.forget.new.by_name.entries c.self.inside.queue c.leave.new.queue c.self.inside.waiters _ c.count_running-self-inside.result c.find-slot.result c.leave.ensures
+          (still_none c.self.inside.slots.items c.clear-waited.new.slots.items c.find-slot.result c.clear-waited.ensures.put)
+          (kept_end c.self.inside.slots.items c.clear-waited.new.slots.items c.self.inside.by_name.entries c.forget.new.by_name.entries c.self.inside.queue c.self.inside.waiters c.self.inside.living c.self.inside.waiting _ c.count_running-self-inside.result c.args.name c.find-slot.result held.0 c.self.invariant.0 c.find-slot.ensures.slot held.1 c.clear-waited.ensures.put c.forget.ensures
+          (omega (arith, some, all)) (rw (c.clear-waited.ensures.old held.0 held.1) at c.count_running-self-inside.ensures)),
+      ordered_left c.clear-waited.new.slots.items c.self.inside.queue c.leave.new.queue c.find-slot.result (ordered_end c.self.inside.slots.items c.clear-waited.new.slots.items c.self.inside.queue c.find-slot.result c.self.invariant.1 c.clear-waited.ensures.put) c.leave.ensures,
     )
 
 pub returns-clause-living : goal.returns-clause-living
 returns-clause-living g c =
-    end_view c.self.inside.slots.items c.clear-before.new.slots.items (slot_in c.self.inside.by_name.entries) c.args.name c.find-slot.result c.self.invariant.0.placed c.find-slot.ensures.slot c.clear-before.ensures.put
+    end_view c.self.inside.slots.items c.clear-waited.new.slots.items (slot_in c.self.inside.by_name.entries) c.args.name c.find-slot.result c.self.invariant.0.placed c.find-slot.ensures.slot c.clear-waited.ensures.put
     ∙ ap (λ s. without_key equal_thread s.living c.args.name) c.self.view_is
 
 pub returns-clause-ended : goal.returns-clause-ended
 returns-clause-ended g c =
     let held = c.find-slot.ensures.held in
-    ended_more c.self.inside.slots.items c.clear-before.new.slots.items c.find-slot.result held.0 held.1 c.clear-before.ensures.put
+    ended_more c.self.inside.slots.items c.clear-waited.new.slots.items c.find-slot.result held.0 held.1 c.clear-waited.ensures.put
     ∙ ap (λ s. s.ended + 1) c.self.view_is
 
 pub returns-clause-order : goal.returns-clause-order
 returns-clause-order g c =
-    order_ended c.args.name c.self.inside.slots.items c.clear-before.new.slots.items c.find-slot.result c.self.inside.queue c.leave.new.queue
-    (only_at c.self.inside.slots.items (slot_in c.self.inside.by_name.entries) c.args.name c.find-slot.result c.self.invariant.0.placed c.find-slot.ensures.slot) c.clear-before.ensures.put c.leave.ensures
+    order_ended c.args.name c.self.inside.slots.items c.clear-waited.new.slots.items c.find-slot.result c.self.inside.queue c.leave.new.queue
+    (only_at c.self.inside.slots.items (slot_in c.self.inside.by_name.entries) c.args.name c.find-slot.result c.self.invariant.0.placed c.find-slot.ensures.slot) c.clear-waited.ensures.put c.leave.ensures
     ∙ ap (λ s. without_name c.args.name s.order) c.self.view_is
