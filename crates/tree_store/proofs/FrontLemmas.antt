@@ -1,6 +1,6 @@
 -- A comparison that goes on from where it stopped.
-use Rattle.std.proofs.Common.{arith, ◌≡◌, ◌∙◌, sym, ap, refl, subst, ℕ, suc, ◌+◌, ◌<◌, ◌≤◌, ◌-◌, List, [], ◌∷◌, ◌++◌, length, map, take, reverse, get_or, Bool, true, false, None, Some, cond}
-use Rattle.std.specs.Prelude.{Option, slice_get}
+use Rattle.std.proofs.Common.{arith, ◌≡◌, ◌∙◌, sym, ap, refl, subst, ℕ, suc, ◌+◌, ◌<◌, ◌≤◌, ◌-◌, List, [], ◌∷◌, ◌++◌, length, map, take, reverse, Bool, true, false, None, Some, cond}
+use Rattle.std.specs.Prelude.{slice_get}
 use Rattle.std.specs.Map.{lookup}
 use Rattle.std.proofs.Math.Seq.{take-append_seam}
 use Rattle.std.proofs.lemmas.List.{reverse-append}
@@ -16,7 +16,7 @@ use Rattle.tree_node.proofs.ClassLemmas.{Contains-tail}
 use Rattle.tree_node.proofs.BreadthLemmas.{front_length, front_take, all_new_front}
 use Rattle.tree_node.proofs.FrontLemmas.{IsKept, kept_begins, kept_goes_on, kept_stays, matched_together}
 use Rattle.tree_node.proofs.LookedLemmas.{IsAdded, added_begins, IsLooked, looked_on, looked_apart, looked_ends, looked_left, most_pairs, within_itself}
-use Rattle.tree_store.specs.Front.{IsMatchedFront, begins, goes_on, stays, AreFronts}
+use Rattle.tree_store.specs.Front.{IsMatchedFront, begins, goes_on, stays, AreFronts, IsAtUnmatched, HasGoneOn}
 use Rattle.tree_store.specs.declared.front.Front.{Front}
 use Rattle.tree_store.proofs.SearchLemmas.{IsNextPair}
 
@@ -52,6 +52,18 @@ front_on s p queue after at c l r h next classes matched e =
     let one : suc at ≡ at + 1 = omega arith in
     subst (λ (n : ℕ). IsMatchedFront p s after n) one
     (subst (λ (l : List Pair). IsMatchedFront p s l (suc at)) (sym (e ∙ ap (all_new equal_pair queue) led)) (goes_on c h is (subst IsMatched here matched)))
+
+-- the next pair does not match
+pub at_unmatched : (s : Store) (queue after : List Pair) (at : ℕ) (c : Pair) (l r : VarName) → IsNextPair queue at c → AreClassesOf s c l r → (IsMatched (relation s (l, r)) → ⊥) → after ≡ queue → IsAtUnmatched s after at
+at_unmatched s queue after at c l r next classes unmatched e d is matched =
+    let here : relation s (l, r) ≡ relation s c = ap (relation s) (classes_are s c l r classes) ∙ relation_roots s c in
+    let found : slice_get queue at ≡ Some c = slice_get-get_or queue at c next.within ∙ ap Some (sym next.is) in
+    let same : d ≡ c = let both : Some d ≡ Some c = sym is ∙ (ap (λ (ps : List Pair). slice_get ps at) e ∙ found) in cc in
+    unmatched (subst IsMatched (ap (relation s) same ∙ sym here) matched)
+
+-- or there is none
+pub past_unmatched : (s : Store) (queue : List Pair) (at n : ℕ) → n ≡ length queue → n ≤ at → IsAtUnmatched s queue at
+past_unmatched s queue at n l past c is matched = omega (arith, l, past, slice_get_within queue at c is)
 
 -- and is counted
 pub front_added : (s : Store) (p : Pair) (first queue after : List Pair) (at : ℕ) (c : Pair) (l r : VarName) → IsSound s → IsMatchedFront p s queue at → IsAdded s p first queue → IsNextPair queue at c → AreClassesOf s c l r →
@@ -94,6 +106,10 @@ pub first_goes_on : (s : Store) (p : Pair) (first queue after ys : List Pair) �
 first_goes_on s p first queue after ys a e =
     let long = front_length first queue (a.rest, a.is) in
     ap (take (length first)) e ∙ (front_take (length first) queue (all_new equal_pair queue ys) (all_new_front equal_pair queue ys) long ∙ first_stay s p first queue a)
+
+-- the front has gone on
+pub gone_on : (s : Store) (p : Pair) (first queue after : List Pair) (at now : ℕ) → IsAdded s p first queue → after ≡ queue → at ≤ now → HasGoneOn first at after now
+gone_on s p first queue after at now a e h = record { first = ap (take (length first)) e ∙ first_stay s p first queue a; place = h }
 
 -- the first pair
 pub front_begins : (s : Store) (p : Pair) (none after : List Pair) (l r : VarName) → none ≡ [] → l ≡ root_of s p.0 → r ≡ root_of s p.1 → after ≡ with_new equal_pair none (l, r) → IsMatchedFront p s after 0

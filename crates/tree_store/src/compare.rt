@@ -168,9 +168,9 @@ fn unless_open(alloc: Global, open_vars: &IndexSet<VarName>) -> Result<Compared,
     Ok(Compared::Open(Vars::from_vec(vars)?))
 }
 
-/// Whether two variables are equal or different for all that a store tells, or which variables are open in them, where the search
-/// goes on behind these pairs, of which so many match. Each pair is looked at once by its names, and none of classes that are there
-/// already is added, so it ends on cyclic values too.
+/// Whether two variables are equal or different for all that a store tells, or which variables are open in them. The search begins
+/// with these pairs, of which the first `at` match, and looks at the others. A pair whose classes stand in the list by their
+/// present names is not added again, so it ends on cyclic values too.
 #[tactic(auto, using(crate::proofs::FrontLemmas::class_named))]
 pub fn search_on(
     alloc: Global,

@@ -7,7 +7,7 @@ ghost use Rattle.tree_node.specs.Store.{root_of};
 ghost use Rattle.tree_node.specs.Compare.{Pair, relation, IsMatched, compared};
 ghost use Rattle.tree_node.specs.ClassPairs.{equal_pair, leads_to, all_new};
 ghost use Rattle.tree_store.specs.Compared.{comparison_of};
-ghost use Rattle.tree_store.specs.Front.{IsMatchedFront};
+ghost use Rattle.tree_store.specs.Front.{IsMatchedFront, IsAtUnmatched, HasGoneOn};
 
 use crate::compare::{Compared, Finding, add_parts, find, search_on};
 use crate::store::Store;
@@ -67,6 +67,7 @@ fn pass(
     requires left { root_of store.now.equations left ≡ left }
     requires right { root_of store.now.equations right ≡ right }
     ensures matches { IfOk result (λ b. b ≡ true → IsMatched (relation store.now.equations (left, right))) }
+    ensures stops { IfOk result (λ b. b ≡ false → IsMatched (relation store.now.equations (left, right)) → ⊥) }
     ensures pairs { OnOk result (pairs.new.keys ≡ all_new equal_pair pairs.old.keys (leads_to store.now.equations (left, right))) }
     ensures same { IfOk result (λ b. b ≡ false → pairs.new.keys ≡ pairs.old.keys) }
 {
@@ -86,7 +87,9 @@ fn pass(
 fn pass_matched(store: &Store, front: &mut Front) -> Result<(), AllocError>
     ghost sides: { Pair }
     requires { IsMatchedFront sides store.now.equations front.old.pairs.keys front.old.at }
-    ensures { OnOk result (IsMatchedFront sides store.now.equations front.new.pairs.keys front.new.at) }
+    ensures front { OnOk result (IsMatchedFront sides store.now.equations front.new.pairs.keys front.new.at) }
+    ensures stops { OnOk result (IsAtUnmatched store.now.equations front.new.pairs.keys front.new.at) }
+    ensures goes_on { OnOk result (HasGoneOn front.old.pairs.keys front.old.at front.new.pairs.keys front.new.at) }
 {
     store.forest();
     'pairs: while front.at < front.pairs.len() {
@@ -103,7 +106,7 @@ fn pass_matched(store: &Store, front: &mut Front) -> Result<(), AllocError>
 }
 
 /// A comparison goes on from what is kept of it, or begins. Beside what it answers it hands back the front, which has gone on over
-/// the pairs that match. Pairs behind the first one that does not are not kept, since parts that become known stand before them.
+/// the pairs that match, to the first that does not. Pairs behind that one are not kept, since parts that become known stand before them.
 pub fn resume(
     alloc: Global,
     store: &Store,
@@ -116,6 +119,8 @@ pub fn resume(
     requires kept { IfSome kept (λ f. IsMatchedFront sides store.now.equations f.pairs.keys f.at) }
     ensures answer { IfOk result (λ r. comparison_of r.0 ≡ compared store.now.equations sides) }
     ensures front { IfOk result (λ r. IsMatchedFront sides store.now.equations r.1.pairs.keys r.1.at) }
+    ensures stops { IfOk result (λ r. IsAtUnmatched store.now.equations r.1.pairs.keys r.1.at) }
+    ensures goes_on { IfOk result (λ r. IfSome kept (λ f. HasGoneOn f.pairs.keys f.at r.1.pairs.keys r.1.at)) }
 {
     let mut front = match kept {
         Some(front) => front,

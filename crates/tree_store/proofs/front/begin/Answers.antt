@@ -1,8 +1,3 @@
-use Rattle.std.proofs.Common.{◌≡◌, ◌∙◌, ap, sym, subst, List, [], ◌∷◌}
-use Rattle.tree_node.specs.Store.{root_of}
-use Rattle.tree_node.specs.Compare.{Pair, with_new}
-use Rattle.tree_node.specs.ClassPairs.{equal_pair, roots}
-use Rattle.tree_store.specs.Front.{IsMatchedFront, begins}
 use Rattle.tree_store.proofs.FrontLemmas.{front_begins}
 use Rattle.tree_store.proofs.front.begin.Goals as goal
 

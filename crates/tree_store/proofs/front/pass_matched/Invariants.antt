@@ -1,4 +1,4 @@
-use Rattle.std.proofs.Common.{◌-◌}
+use Rattle.std.proofs.Common.{◌-◌, ◌≤◌}
 use Rattle.tree_node.proofs.LookedLemmas.{IsAdded, most_pairs}
 use Rattle.tree_store.specs.Front.{IsMatchedFront}
 use Rattle.tree_store.proofs.front.pass_matched.Given as goal
@@ -6,6 +6,7 @@ use Rattle.tree_store.proofs.front.pass_matched.Given as goal
 abbrev pub invariant-pairs : goal.invariant-pairs
 invariant-pairs g l = record {
   matched : IsMatchedFront g.sides l.store.equations l.front.pairs.keys l.front.at;
+  place : l.fn.front.at ≤ l.front.at;
   added : IsAdded l.store.equations g.sides l.fn.front.pairs.keys l.front.pairs.keys;
 }
 
