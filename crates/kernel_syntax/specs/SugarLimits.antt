@@ -1,5 +1,5 @@
--- The limits of programs with sugar, where the text declares t identifiers around a place: what is used is declared, each list
--- has its items, and integers, atoms and features can be spelled.
+-- The limits of programs with sugar, where the text declares t identifiers around a place: what is used is declared, calls have
+-- their arguments, bodies a statement and statements a clause at least, and integers, atoms and features can be spelled.
 use Rattle.std.specs.Prelude.{◌≡◌, ℕ, ◌+◌, ◌<◌, ◌≤◌, length, map, IsTrue}
 use Rattle.tree_node.specs.Each.{Each}
 use Rattle.tree_node.specs.declared.node.Feature.{Feature}

@@ -20,7 +20,8 @@
 //! Tests alone show (`unit_tests`) that a program is made and asked where there is memory.
 //!
 //! Sources: Van Roy and Haridi, *Concepts, Techniques, and Models of Computer Programming*, sections 2.3 (the kernel
-//! language), 2.4.2 (scope), 2.6 (sugar), 2.7 (exceptions), 3.2 (numbers), 4.1 (threads), 6.3 (cells); its appendix C (how atoms are spelled).
+//! language), 2.4.2 (scope), 2.6 (sugar), 2.7 (exceptions), 3.2 (numbers), 4.1 (threads), 6.3 (cells); its appendix C (how
+//! atoms are spelled).
 #![tactic(auto)]
 
 mod built_in;

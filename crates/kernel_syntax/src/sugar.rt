@@ -40,7 +40,8 @@ pub enum Value {
     Variable(usize, u32),
     Integer(usize, Integer),
     Atom(usize, Text),
-    /// The label, the fields in ascending order of features, and the values among them that are no variables.
+    /// The label, the fields in ascending order of features, and the values that these number (`Field::Value`). In the trees of
+    /// texts these are no variables, in the order of the text, each in one field; the limits of trees do not ask for it.
     Record(usize, Text, Seq<(Feature, Field)>, Vec<Value>),
     /// The record H|T of a head and a tail.
     Pair(usize, Box<Pair>),
@@ -50,7 +51,8 @@ pub enum Value {
     /// The number of formals, and the value that the function gives.
     Fun(usize, u8, Box<Value>),
     If(usize, Box<Value>, Box<Value>, Box<Value>),
-    /// The value that is matched, the clauses, one at least, and the value behind `else`.
+    /// The value that is matched, the clauses, and the value behind `else`. Texts have one clause at least; the limits of trees do
+    /// not ask for it, and with none the value behind `else` is what it gives.
     Case(usize, Box<Value>, Vec<ValueClause>, Box<Value>),
     /// A value in round brackets.
     Brackets(usize, Box<Value>),

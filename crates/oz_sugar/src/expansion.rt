@@ -30,7 +30,7 @@ fn rows_of(alloc: Global, tree: &[Statement]) -> Result<Vec<Stmt>, AllocError>
     Ok(writer.into_rows())
 }
 
-/// Where the symbol begins at which so many are left.
+/// Where the symbol begins at which so many are left, and 0 where there is none.
 fn start_of(starts: &[usize], left: usize) -> usize
     ensures { result ≡ slice_index starts.now (length starts.now - left) }
 {

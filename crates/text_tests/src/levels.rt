@@ -4,8 +4,8 @@ use crate::faults::first_wrong;
 use crate::printed::Language;
 use std::test::Fail;
 
-// A construct: what stands before it, how it begins and ends, what stands within, how often it can be nested, and the refusals of the text that
-// nests it so often, which lacks its last `end` or more, and of the text that nests it once more.
+// A construct: what stands before it, how it begins and ends, what stands within, how often it can be nested, and the refusals of the
+// text that nests it so often, which lacks its last `end` or more, and of the text that nests it once more.
 struct Nested {
     before: &'static str,
     begin: &'static str,
@@ -16,7 +16,7 @@ struct Nested {
     too_deep: &'static str,
 }
 
-static NESTED: [Nested; 21] = [
+static NESTED: [Nested; 30] = [
     Nested {
         before: "local P X in X = ",
         begin: "{P ",
@@ -205,6 +205,87 @@ static NESTED: [Nested; 21] = [
         end: " catch E then skip end",
         read: "refused 1:5164 expected a statement or end",
         too_deep: "refused 1:808 nested too deep",
+    },
+    Nested {
+        before: "local X in ",
+        begin: "local X in ",
+        most: 198,
+        within: "skip",
+        end: " end",
+        read: "refused 1:2986 expected a statement or end",
+        too_deep: "refused 1:2201 nested too deep",
+    },
+    Nested {
+        before: "local X in ",
+        begin: "if X then skip else ",
+        most: 198,
+        within: "skip",
+        end: " end",
+        read: "refused 1:4768 expected a statement or end",
+        too_deep: "refused 1:3982 nested too deep",
+    },
+    Nested {
+        before: "local X in ",
+        begin: "case X of a then skip else ",
+        most: 198,
+        within: "skip",
+        end: " end",
+        read: "refused 1:6154 expected a statement or end",
+        too_deep: "refused 1:5375 nested too deep",
+    },
+    Nested {
+        before: "local X in ",
+        begin: "case X of a then skip [] b then ",
+        most: 198,
+        within: "skip",
+        end: " else skip end",
+        read: "refused 1:9124 expected a statement or end",
+        too_deep: "refused 1:6365 nested too deep",
+    },
+    Nested {
+        before: "local X in ",
+        begin: "try skip catch E then ",
+        most: 198,
+        within: "skip",
+        end: " end",
+        read: "refused 1:5164 expected a statement or end",
+        too_deep: "refused 1:4372 nested too deep",
+    },
+    Nested {
+        before: "local X in X = ",
+        begin: "case X of a then X [] b then ",
+        most: 198,
+        within: "1",
+        end: " else X end",
+        read: "refused 1:7937 expected a statement or end",
+        too_deep: "refused 1:5787 nested too deep",
+    },
+    Nested {
+        before: "local X in X = ",
+        begin: "(1 == ",
+        most: 99,
+        within: "1",
+        end: ")",
+        read: "refused 1:710 expected a statement or end",
+        too_deep: "refused 1:611 nested too deep",
+    },
+    Nested {
+        before: "local X in X = ",
+        begin: "(",
+        most: 197,
+        within: "1",
+        end: " == X)",
+        read: "refused 1:1396 expected a statement or end",
+        too_deep: "refused 1:216 nested too deep",
+    },
+    Nested {
+        before: "local X in X = ",
+        begin: "(1|",
+        most: 99,
+        within: "nil",
+        end: ")",
+        read: "refused 1:415 expected a statement or end",
+        too_deep: "refused 1:314 nested too deep",
     },
 ];
 
