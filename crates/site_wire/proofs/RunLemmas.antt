@@ -56,7 +56,7 @@ module _ (p : List Stmt) (is : IsProgram p) (n limit : ℕ) (high : limit ≤ 25
           → SiteFits p i s × Each (λ (e : Turn). CanBeSpelled e.sent) (cond b (e ∷ own i j) (own i j))
       go true (old, before, entry) ih =
           let was : Fits j old = ih old before in
-          let d : TransitionFits p i entry.0 = turn_fits p is n limit high i low (delivered_message j e.delivered) old entry.0 was.0 entry.1 in
+          let d : TransitionFits p i entry.0 = turn_fits p is n limit high i low (delivered_message j e.delivered) old entry.0 was.0 (e.units, entry.1.0, entry.1.1) in
           (subst (SiteFits p i) (sym entry.3) d.site, (subst CanBeSpelled (sym entry.2.sent) d.sent, was.1))
       go false before ih = ih s before
 

@@ -1,5 +1,6 @@
 -- What a site sends can be spelled.
 use Rattle.std.specs.Prelude.{ℕ, ◌≤◌, List}
+use Rattle.tree_node.specs.declared.limits.TheConstants.{MOST_SITES}
 use Rattle.tree_node.specs.Each.{Each}
 use Rattle.kernel_syntax.specs.declared.stmt.Stmt.{Stmt}
 use Rattle.kernel_syntax.specs.Program.{IsProgram}
@@ -13,5 +14,5 @@ use Rattle.site_wire.specs.Sending.{CanBeSpelled}
 -- each message that they send can be spelled. Nothing is said of the entries of other sites
 abbrev pub SitesSendWhatFits : Type 0
 SitesSendWhatFits =
-    (p : List Stmt) (n limit i : ℕ) (j : List Turn) (s : Site) → IsProgram p → n ≤ 64 → limit ≤ 256 → 1 ≤ i → i ≤ n
+    (p : List Stmt) (n limit i : ℕ) (j : List Turn) (s : Site) → IsProgram p → n ≤ MOST_SITES → limit ≤ 256 → 1 ≤ i → i ≤ n
     → SiteRun p n limit i j s → Each (λ (e : Turn). CanBeSpelled e.sent) (own i j)

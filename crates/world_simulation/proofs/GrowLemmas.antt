@@ -146,4 +146,4 @@ module _ (p : List Stmt) (n limit : ℕ) where
 
 pub equations_stay : EquationsStay
 equations_stay p n limit j e old new (d, turn, told, is) =
-    subst (λ (t : Site). IsPartOf old.equations t.equations) (sym is) (turn_grows p n limit (delivered_message j e.delivered) old d turn)
+    subst (λ (t : Site). IsPartOf old.equations t.equations) (sym is) (turn_grows p n limit (delivered_message j e.delivered) old d (e.units, turn.0, turn.1))

@@ -3,3 +3,4 @@ pub mod PremiseLemmas
 pub mod ProtocolLemmas
 pub mod SimulationLemmas
 pub mod TotalLemmas
+pub mod RowLemmas

@@ -124,7 +124,7 @@ module _ (p : List Stmt) (n limit : ℕ) (is : IsProgram p) (low : 1 ≤ n) (hig
         by (Some m) q = (comes_fit m q).1
 
     fit_entry : IsFitEntry p n limit j e (f e.site) d.site
-    fit_entry = record { turn = (d, entry.turn, entry.tells, refl); fit = λ m q. (comes_fit m q).0 }
+    fit_entry = record { turn = (d, entry.told, entry.tells, refl); fit = λ m q. (comes_fit m q).0 }
 
     joined_entry : JoinedIn (e ∷ j) (put f e.site d.site)
     joined_entry = record {

@@ -11,11 +11,10 @@ use Rattle.site_message.specs.declared.message.Msg.TheVariants as msg
 use Rattle.site_message.specs.declared.message.Sent.{Sent}
 use Rattle.site_message.specs.Journal.{sent_of}
 use Rattle.oz_model.specs.Run.{exchanges}
-use Rattle.oz_model.proofs.KindLemmas.{equal_cell_decides}
+use Rattle.oz_model.proofs.KindLemmas.{equal_cell_decides, cell_same}
 use Rattle.bind_protocol.proofs.ListLemmas.{one, count_cons}
 use Rattle.world_model.specs.Schedule.{schedule}
 use Rattle.world_model.specs.World.{world_of}
-use Rattle.world_model.proofs.PutLemmas.{nat_decides}
 use Rattle.world_messages.specs.Messages.{spawns, asks_to_know, tells_binding, asks_to_bind}
 use Rattle.world_cells.specs.CellCounts.{cell_weight, cell_weights}
 use Rattle.world_cells.proofs.CellTallyLemmas.{few_messages}
@@ -51,11 +50,8 @@ sum_less : (f g : CellName → ℕ) → ((c : CellName) → f c ≤ g c) → (cs
 sum_less f g h [] = omega arith
 sum_less f g h (c ∷ cs) = omega (arith, h c.0, sum_less f g h cs)
 
-same_self : (c : CellName) → equal_cell c c ≡ true
-same_self c = rw ((nat_decides c.site c.site).1 refl, (nat_decides c.num c.num).1 refl) refl
-
 weight_one : (d : CellName) → ◌≡◌ {A = ℕ} (cond (equal_cell d d) 1 0) 1
-weight_one d = rw (same_self d) refl
+weight_one d = rw (cell_same d) refl
 
 -- a message about a cell weighs one there
 weight_there : (o : Msg) (d : CellName) → cell_of o ≡ Some d → cell_weight d 1 1 1 o ≡ 1

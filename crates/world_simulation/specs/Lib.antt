@@ -2,3 +2,4 @@ pub mod Messages
 pub mod Protocols
 pub mod Simulation
 pub mod Stays
+pub mod Distributed

@@ -1,5 +1,6 @@
 -- How many messages a run sends at most.
 use Rattle.std.specs.Prelude.{◌≡◌, ℕ, ◌+◌, ◌*◌, ◌≤◌, List, [], ◌∷◌, length, Option, Some, None}
+use Rattle.tree_node.specs.declared.limits.TheConstants.{MOST_SITES}
 use Rattle.tree_node.specs.declared.names.VarName.{VarName}
 use Rattle.tree_node.specs.declared.names.CellName.{CellName}
 use Rattle.tree_node.specs.State.{State}
@@ -24,21 +25,21 @@ use Rattle.world_messages.specs.Messages.{variable_messages, spawns, asks_to_kno
 -- the messages that are not a cell's are at most `variable_messages` of the schedule
 abbrev pub MessagesAreFew : Type 0
 MessagesAreFew =
-    (p : List Stmt) (n limit : ℕ) (j : List Turn) (w : ℕ → Site) → IsProgram p → 1 ≤ n → n ≤ 64 → limit ≤ 256 → WorldRun p n limit j w →
+    (p : List Stmt) (n limit : ℕ) (j : List Turn) (w : ℕ → Site) → IsProgram p → 1 ≤ n → n ≤ MOST_SITES → limit ≤ 256 → WorldRun p n limit j w →
     count_by spawns (sent_of j) + count_by asks_to_know (sent_of j) + count_by tells_binding (sent_of j) + count_by asks_to_bind (sent_of j)
     ≤ variable_messages n (schedule j)
 
 -- no thread sends two requests to bind one variable
 abbrev pub RequestsAreSingle : Type 0
 RequestsAreSingle =
-    (p : List Stmt) (n limit : ℕ) (j : List Turn) (w : ℕ → Site) → IsProgram p → 1 ≤ n → n ≤ 64 → limit ≤ 256 → WorldRun p n limit j w →
+    (p : List Stmt) (n limit : ℕ) (j : List Turn) (w : ℕ → Site) → IsProgram p → 1 ≤ n → n ≤ MOST_SITES → limit ≤ 256 → WorldRun p n limit j w →
     (th : ThreadName) (x : VarName) → requests th x (sent_of j) ≤ 1
 
 -- of each cell, over all sites, no more Gets and no more Forwards were sent than there were exchanges and are outstanding
 -- requests, and no more Puts than exchanges and one
 abbrev pub CellRequestsArePaid : Type 0
 CellRequestsArePaid =
-    (p : List Stmt) (n limit : ℕ) (j : List Turn) (w : ℕ → Site) → IsProgram p → 1 ≤ n → n ≤ 64 → limit ≤ 256 → WorldRun p n limit j w →
+    (p : List Stmt) (n limit : ℕ) (j : List Turn) (w : ℕ → Site) → IsProgram p → 1 ≤ n → n ≤ MOST_SITES → limit ≤ 256 → WorldRun p n limit j w →
     (s : State) × Run p (schedule j) s
     × ((c : CellName) (v : VarName) → value_of equal_cell s.cells c ≡ Some v → IsTallied n w (travelling j) (sent_of j) c (length (exchanges p (schedule j) c)))
 
@@ -58,6 +59,6 @@ sum_over f (c ∷ cs) = f c.0 + sum_over f cs
 -- site
 abbrev pub AllMessagesAreFew : Type 0
 AllMessagesAreFew =
-    (p : List Stmt) (n limit : ℕ) (j : List Turn) (w : ℕ → Site) → IsProgram p → 1 ≤ n → n ≤ 64 → limit ≤ 256 → WorldRun p n limit j w →
+    (p : List Stmt) (n limit : ℕ) (j : List Turn) (w : ℕ → Site) → IsProgram p → 1 ≤ n → n ≤ MOST_SITES → limit ≤ 256 → WorldRun p n limit j w →
     (s : State) × Run p (schedule j) s
     × (length (sent_of j) ≤ variable_messages n (schedule j) + sum_over (λ c. 3 * (length (exchanges p (schedule j) c) + n)) s.cells)

@@ -1,5 +1,6 @@
 -- What holds of the sites and of the messages that travel, between the entries of every run.
 use Rattle.std.specs.Prelude.{ℕ, ◌≤◌, List, ◌⊎◌, Contains}
+use Rattle.tree_node.specs.declared.limits.TheConstants.{MOST_SITES}
 use Rattle.tree_node.specs.declared.names.VarName.{VarName}
 use Rattle.tree_node.specs.declared.names.CellName.{CellName}
 use Rattle.tree_node.specs.declared.names.ThreadName.{ThreadName}
@@ -60,4 +61,4 @@ pub record ProtocolsHold (p : List Stmt) (n : ℕ) (j : List Turn) (w : ℕ → 
 -- in every run of a program on 1 to 64 sites, with any limit of bundles up to 256
 abbrev pub ProtocolsAlwaysHold : Type 0
 ProtocolsAlwaysHold =
-    (p : List Stmt) (n limit : ℕ) (j : List Turn) (w : ℕ → Site) → IsProgram p → 1 ≤ n → n ≤ 64 → limit ≤ 256 → WorldRun p n limit j w → ProtocolsHold p n j w
+    (p : List Stmt) (n limit : ℕ) (j : List Turn) (w : ℕ → Site) → IsProgram p → 1 ≤ n → n ≤ MOST_SITES → limit ≤ 256 → WorldRun p n limit j w → ProtocolsHold p n j w

@@ -1,5 +1,6 @@
 -- The simulation: every run of sites is a run of the centralised machine.
 use Rattle.std.specs.Prelude.{ℕ, ◌+◌, ◌*◌, ◌≤◌, List, length}
+use Rattle.tree_node.specs.declared.limits.TheConstants.{MOST_SITES}
 use Rattle.tree_node.specs.declared.names.CellName.{CellName}
 use Rattle.tree_node.specs.State.{State}
 use Rattle.kernel_syntax.specs.declared.stmt.Stmt.{Stmt}
@@ -21,17 +22,17 @@ use Rattle.world_cells.specs.FitRuns.{SiteFitRun}
 -- that travels is fit for its site
 abbrev pub EveryRunIsSimulated : Type 0
 EveryRunIsSimulated =
-    (p : List Stmt) (n limit : ℕ) (j : List Turn) (w : ℕ → Site) → IsProgram p → 1 ≤ n → n ≤ 64 → limit ≤ 256 → WorldRun p n limit j w →
+    (p : List Stmt) (n limit : ℕ) (j : List Turn) (w : ℕ → Site) → IsProgram p → 1 ≤ n → n ≤ MOST_SITES → limit ≤ 256 → WorldRun p n limit j w →
     (s : State) × IsSimulated p n j w s × MessagesAreFit p n j w
 
 -- and no message that was delivered was unfit: each state is reached by turns whose messages were fit for the site before them
 abbrev pub DeliveredMessagesAreFit : Type 0
 DeliveredMessagesAreFit =
-    (p : List Stmt) (n limit : ℕ) (j : List Turn) (w : ℕ → Site) → IsProgram p → 1 ≤ n → n ≤ 64 → limit ≤ 256 → WorldRun p n limit j w →
+    (p : List Stmt) (n limit : ℕ) (j : List Turn) (w : ℕ → Site) → IsProgram p → 1 ≤ n → n ≤ MOST_SITES → limit ≤ 256 → WorldRun p n limit j w →
     (i : ℕ) → SiteFitRun p n limit i j (w i)
 
 -- the messages of a cell are at most three for each of its exchanges and each site
 abbrev pub CellMessagesAreFew : Type 0
 CellMessagesAreFew =
-    (p : List Stmt) (n limit : ℕ) (j : List Turn) (w : ℕ → Site) (c : CellName) → IsProgram p → 1 ≤ n → n ≤ 64 → limit ≤ 256 → WorldRun p n limit j w →
+    (p : List Stmt) (n limit : ℕ) (j : List Turn) (w : ℕ → Site) (c : CellName) → IsProgram p → 1 ≤ n → n ≤ MOST_SITES → limit ≤ 256 → WorldRun p n limit j w →
     cell_weights c 1 1 1 (sent_of j) ≤ 3 * (length (exchanges p (schedule j) c) + n)

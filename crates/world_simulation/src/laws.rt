@@ -1,5 +1,6 @@
 //! The simulation, as laws over all runs.
 
+ghost use Rattle.world_simulation.specs.Distributed.{RunsTakeRows};
 ghost use Rattle.world_simulation.specs.Messages.{MessagesAreFew, RequestsAreSingle, CellRequestsArePaid, AllMessagesAreFew};
 ghost use Rattle.world_simulation.specs.Protocols.{ProtocolsAlwaysHold};
 ghost use Rattle.world_simulation.specs.Simulation.{EveryRunIsSimulated, DeliveredMessagesAreFit, CellMessagesAreFew};
@@ -13,6 +14,14 @@ pub fn sites_are_simulated()
     ensures simulated { EveryRunIsSimulated }
     ensures fit { DeliveredMessagesAreFit }
 {}
+
+/// The runs of a program over its sites in which each delivered message takes its row are those in which an unfit message changes
+/// nothing, by the law that no delivered message is unfit. It does nothing: its clause is the law.
+pub fn runs_take_rows()
+    ensures rows { RunsTakeRows }
+{
+    sites_are_simulated();
+}
 
 /// Between the entries of every run the protocols' invariants hold of the sites and of the messages that travel; and what a site
 /// knows stays known, whatever its next turn does.

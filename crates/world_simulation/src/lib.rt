@@ -8,7 +8,9 @@
 //! chain; where the run is quiet the machine rests, and its ended and waiting threads are those that the sites told last
 //! (`IsSimulated`); and no delivered message was unfit. By `protocols_hold`: what the two protocols keep between the entries of
 //! every run (`ProtocolsHold`), among it that each message that travels is fit for its site; and what a site knows stays known. By
-//! `messages_are_few`: how many messages a run sends at most.
+//! `messages_are_few`: how many messages a run sends at most. By `runs_take_rows`: for every program and 1 to 64 sites the runs
+//! whose messages take their rows without a test (`DistributedRun`, by which the headline says what a run over sites is) are the
+//! runs in which an unfit message changes nothing (`WorldRun` of `site_model`), since none comes.
 //!
 //! It stands on `world_cells`, which proves the simulation where each delivered message is fit, and on `world_messages`, which
 //! proves that it is fit where the simulation holds: one induction over the journal joins them. It has no code, and no
@@ -20,4 +22,4 @@
 
 mod laws;
 
-pub use laws::{messages_are_few, protocols_hold, sites_are_simulated};
+pub use laws::{messages_are_few, protocols_hold, runs_take_rows, sites_are_simulated};

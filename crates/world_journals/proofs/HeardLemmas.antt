@@ -1,0 +1,232 @@
+-- Where threads are after a message: those that were there, and the one that it brings.
+use Rattle.std.proofs.Common.{◌≡◌, ◌≢◌, ◌∙◌, sym, ap, refl, subst, ℕ, List, [], ◌∷◌, ◌++◌, ◌⊎◌, inl, inr, Bool, true, false, cond, Some, None}
+use Rattle.std.specs.Prelude.{Option, Contains}
+use Rattle.std.proofs.lemmas.List.Elements.{Contains-append_cases}
+use Rattle.indexmap.specs.IndexMap.{insert_entry}
+use Rattle.tree_node.specs.declared.names.VarName.{VarName}
+use Rattle.tree_node.specs.declared.names.CellName.{CellName}
+use Rattle.tree_node.specs.declared.names.ThreadName.{ThreadName}
+use Rattle.tree_node.specs.declared.names.Name.{Name}
+use Rattle.tree_node.specs.declared.node.Term.{Term}
+use Rattle.tree_node.specs.declared.item.Item.TheVariants as item
+use Rattle.tree_node.specs.declared.pick.Pick.{Pick}
+use Rattle.tree_node.specs.Assoc.{value_of, with_value, with_optional_value}
+use Rattle.tree_node.specs.Env.{env_for}
+use Rattle.tree_node.specs.Goal.{equal_cell}
+use Rattle.tree_node.specs.State.{equal_thread}
+use Rattle.tree_node.specs.Store.{Equation}
+use Rattle.tree_node.proofs.ClassLemmas.{Contains-cons_cases, Contains-head, Contains-tail}
+use Rattle.tree_node.proofs.NameLemmas.{same_thread_decides}
+use Rattle.kernel_syntax.specs.declared.stmt.Stmt.{Stmt}
+use Rattle.kernel_syntax.specs.Free.{free}
+use Rattle.site_message.specs.declared.message.Msg.{Msg}
+use Rattle.site_message.specs.declared.message.Msg.TheVariants as msg
+use Rattle.oz_model.specs.Effect.{Birth}
+use Rattle.oz_model.specs.Step.{threads_born}
+use Rattle.oz_model.proofs.KindLemmas.{equal_cell_decides}
+use Rattle.bind_protocol.specs.Records.{is_own, knowledge}
+use Rattle.thread_roster.specs.Threads.{wake_all}
+use Rattle.site_model.specs.Site.{Site, ThreadState, Threads, CellRecord, thread_state, cell_record, cell_record_in, with_cell_record, runnable_threads}
+use Rattle.site_model.specs.Bundle.{message_bundle}
+use Rattle.site_model.specs.Transition.{Transition, without_output, and_then}
+use Rattle.site_model.specs.Variables.{with_new_equation, with_known_equation, with_known_equations, own_bind, opening}
+use Rattle.site_model.specs.Cells.{serving, leave_row, effect_here, step_pick, exchange_stack, after_exchange, content_after_exchange}
+use Rattle.site_model.specs.Messages.{with_thread, birth, bind_pick, bind_request_row, message_row}
+use Rattle.site_model.specs.Turn.{IsReception}
+use Rattle.thread_roster.specs.declared.mode.Mode.TheVariants.{Runs}
+use Rattle.world_model.proofs.KeyLemmas.{goes_cases, woken_old}
+use Rattle.world_model.proofs.MailLemmas.{nothing}
+use Rattle.world_messages.specs.Messages.{fresh_in, threads_among}
+use Rattle.world_messages.proofs.PickLemmas.{heard_still}
+use Rattle.world_messages.proofs.TermLemmas.{value_cases}
+use Rattle.world_journals.specs.Places.{IsRequested}
+use Rattle.world_journals.proofs.PartPlaceLemmas.{IsHere, Part, still_part}
+use Rattle.site_model.proofs.CellKeyLemmas.{place_here, place_other}
+
+-- ---- lists of those that wait
+
+-- who is listed after one cell's record changed was listed before, or stands in the new record
+pub listed_cases : (qs : List (CellName × CellRecord)) (c d : CellName) (q : CellRecord) (th : ThreadName) → Contains (cell_record_in (insert_entry equal_cell qs c q) d).queue th → Contains q.queue th ⊎ Contains (cell_record_in qs d).queue th
+listed_cases qs c d q th h = go (equal_cell d c) refl
+  where
+    go : (b : Bool) → equal_cell d c ≡ b → Contains q.queue th ⊎ Contains (cell_record_in qs d).queue th
+    go true e =
+        let same : d ≡ c = (equal_cell_decides d c).0 e in
+        inl (subst (λ (r : CellRecord). Contains r.queue th) (place_here qs c q) (subst (λ (z : CellName). Contains (cell_record_in (insert_entry equal_cell qs c q) z).queue th) same h))
+    go false e =
+        let other : d ≢ c = λ z. (let yes : equal_cell d c ≡ true = (equal_cell_decides d c).1 z in cc) in
+        inr (subst (λ (r : CellRecord). Contains r.queue th) (place_other qs c d q other) h)
+
+pub born_name : (p : List Stmt) (b : Birth) (th : ThreadName) (v : ThreadState) → value_of equal_thread (runnable_threads (threads_born p (Some b))) th ≡ Some v → b.name ≡ th
+born_name p b th v e = go (equal_thread b.name th) refl e
+  where
+    go : (c : Bool) → equal_thread b.name th ≡ c → cond {A = Option ThreadState} c (Some (item.Run b.code (env_for (free p b.code) b.vars) ∷ [], Runs)) None ≡ Some v → b.name ≡ th
+    go true q k = (same_thread_decides b.name th).0 q
+    go false q k = cc
+
+module _ (C : ThreadName → Type 0) where
+  -- a change of the site that brings no thread
+  abbrev pub Keeps : Site → Site → Type 0
+  Keeps s t = (th : ThreadName) → IsHere C t th → IsHere C s th
+
+  pub moves : (s t : Site) → ((th : ThreadName) (v : ThreadState) → thread_state t th ≡ Some v → IsHere C s th) → ((c : CellName) (th : ThreadName) → Contains (cell_record t c).queue th → IsHere C s th) → Keeps s t
+  moves s t stand listed th (inl (v, at)) = stand th v at
+  moves s t stand listed th (inr (inl (c, at))) = listed c th at
+  moves s t stand listed th (inr (inr h)) = inr (inr h)
+
+  -- a cell's record with the same list, or with members that are here
+  pub replies : (s : Site) (c : CellName) (q : CellRecord) → ((th : ThreadName) → Contains q.queue th → IsHere C s th) → Keeps s (with_cell_record s c q)
+  replies s c q all = moves s (with_cell_record s c q) (λ th v at. inl (v, at)) (λ d th at. by d th (listed_cases s.cell_records c d q th at))
+    where
+      by : (d : CellName) (th : ThreadName) → Contains q.queue th ⊎ Contains (cell_record s d).queue th → IsHere C s th
+      by d th (inl k) = all th k
+      by d th (inr k) = inr (inl (d, k))
+
+  pub wakes : (s t : Site) (x : VarName) → t.threads ≡ wake_all x s.threads → t.cell_records ≡ s.cell_records → Keeps s t
+  wakes s t x threads cells = moves s t stand (λ c th at. inr (inl (c, subst (λ (qs : List (CellName × CellRecord)). Contains (cell_record_in qs c).queue th) cells at)))
+    where
+      stand : (th : ThreadName) (v : ThreadState) → thread_state t th ≡ Some v → IsHere C s th
+      stand th v at =
+          let o = woken_old x s.threads th v.0 v.1 (subst (λ (ts : Threads). value_of equal_thread ts th ≡ Some v) threads at) in
+          inl ((v.0, o.0), o.1)
+
+  -- a thread that was there goes on
+  pub goes : (s t : Site) (n : ThreadName) (u : ThreadState) (r : Option ThreadState) → t.threads ≡ with_optional_value equal_thread s.threads n r → t.cell_records ≡ s.cell_records → thread_state s n ≡ Some u → Keeps s t
+  goes s t n u r threads cells at = moves s t (λ th w h. by th w (goes_cases equal_thread same_thread_decides s.threads n th r u w at (subst (λ (ts : Threads). value_of equal_thread ts th ≡ Some w) threads h)))
+      (λ c th h. inr (inl (c, subst (λ (qs : List (CellName × CellRecord)). Contains (cell_record_in qs c).queue th) cells h)))
+    where
+      by : (th : ThreadName) (w : ThreadState) → ((th ≡ n) × (r ≡ Some w)) ⊎ ((n ≢ th) × (value_of equal_thread s.threads th ≡ Some w)) → IsHere C s th
+      by th w (inl k) = inl (u, subst (λ (z : ThreadName). thread_state s z ≡ Some u) (sym k.0) at)
+      by th w (inr k) = inl (w, k.1)
+
+  -- ---- a message is opened
+
+  told_keeps : (s : Site) (x : VarName) (t : Term) → Keeps s (with_known_equation s x t)
+  told_keeps s x t = go (is_own s.records x) refl (knowledge s.records x) refl
+    where
+      go : (b : Bool) → is_own s.records x ≡ b → (o : Option (Option Term)) → knowledge s.records x ≡ o → Keeps s (with_known_equation s x t)
+      go true q o k = rw (k, q) (λ th h. h)
+      go false q None k = rw (k, q) (wakes s (with_new_equation s x t) x refl refl)
+      go false q (Some None) k = rw (k, q) (wakes s (with_new_equation s x t) x refl refl)
+      go false q (Some (Some r)) k = rw (k, q) (λ th h. h)
+
+  told_all_keep : (es : List Equation) (s : Site) → Keeps s (with_known_equations s es)
+  told_all_keep [] s th h = h
+  told_all_keep (e ∷ es) s th h = told_keeps s e.0 e.1 th (told_all_keep es (with_known_equation s e.0 e.1) th h)
+
+  opens_keep : (m : Msg) (s : Site) → Keeps s (opening m s).site
+  opens_keep m s th h = told_all_keep (message_bundle m) s th h
+
+  -- ---- rows
+
+  starts_keep : (p : List Stmt) (b : Birth) (s : Site) → C b.name → Keeps s (with_thread p (Some b) s)
+  starts_keep p b s comes = moves s (with_thread p (Some b) s) (λ th v at. by th v (value_cases (runnable_threads (threads_born p (Some b))) s.threads th v at)) (λ c th at. inr (inl (c, at)))
+    where
+      by : (th : ThreadName) (v : ThreadState) → (value_of equal_thread (runnable_threads (threads_born p (Some b))) th ≡ Some v) ⊎ (value_of equal_thread s.threads th ≡ Some v) → IsHere C s th
+      by th v (inl k) = inr (inr (subst C (born_name p b th v k) comes))
+      by th v (inr k) = inl (v, k)
+
+  module _ (p : List Stmt) (limit : ℕ) where
+    asked_keeps : (x : VarName) (t : Term) (n : ThreadName) (s : Site) → Keeps s (bind_request_row limit x t n s).site
+    asked_keeps x t n s = go (knowledge s.records x) refl
+      where
+        go : (o : Option (Option Term)) → knowledge s.records x ≡ o → Keeps s (bind_request_row limit x t n s).site
+        go None q = rw q (λ th h. h)
+        go (Some None) q = rw q (wakes s (own_bind limit x t s).site x refl refl)
+        go (Some (Some r)) q = rw q (λ th h. h)
+
+    exchange_keeps : (n : ThreadName) (v : VarName) (s : Site) → Keeps s (after_exchange p n v s)
+    exchange_keeps n v s = go (thread_state s n) refl
+      where
+        go : (o : Option ThreadState) → thread_state s n ≡ o → Keeps s (after_exchange p n v s)
+        go None q = rw q (λ th h. h)
+        go (Some u) q = rw q (goes s (record s { threads = with_value equal_thread s.threads n (exchange_stack v (effect_here p s [] None u.0).cell (effect_here p s [] None u.0).stack, Runs) }) n u (Some (exchange_stack v (effect_here p s [] None u.0).cell (effect_here p s [] None u.0).stack, Runs)) refl refl q)
+
+    serves_keep : (c : CellName) (ns : List ThreadName) (v : VarName) (s : Site) → Keeps s (serving p c ns v s).site
+    serves_keep c [] v s th h = replies s c _ (λ o k. absurd (nothing o k)) th h
+    serves_keep c (n ∷ ns) v s th h = exchange_keeps n v s th (serves_keep c ns (content_after_exchange p n v s) (after_exchange p n v s) th h)
+
+    leave_keeps : (c : CellName) (s : Site) → Keeps s (leave_row limit c s).site
+    leave_keeps c s = replies s c _ (λ th k. inr (inl (c, k)))
+
+    -- where the thread that a message brings comes
+    abbrev pub Comes : Msg → Type 0
+    Comes (msg.Spawn n code vars bundle) = C n
+    Comes m = Unit {0}
+
+    row_keeps : (m : Msg) (s : Site) → Comes m → Keeps s (message_row p limit m s).site
+    row_keeps (msg.Spawn n code vars es) s comes th h = starts_keep p (birth n code vars) s comes th h
+    row_keeps (msg.Register x k) s comes th h = h
+    row_keeps (msg.BindReq x n t es) s comes th h = asked_keeps x t n s th h
+    row_keeps (msg.Binding x t es) s comes th h = told_keeps s x t th h
+    row_keeps (msg.Get c k) s comes th h = replies s c _ (λ o q. inr (inl (c, q))) th h
+    row_keeps (msg.Forward c k) s comes th h = replies s c _ (λ o q. inr (inl (c, q))) th h
+    row_keeps (msg.Put c v es) s comes th h = serves_keep c (cell_record s c).queue v s th (leave_keeps c (serving p c (cell_record s c).queue v s).site th h)
+
+    -- ---- picks
+
+    -- a pick without fresh names, requested or of a thread that is here
+    abbrev Lawful : Msg → Site → Pick → Type 0
+    Lawful m s k = (k.fresh ≡ []) × (IsRequested (Some m) k ⊎ IsHere C s k.thread)
+
+    one_lawful : (m : Msg) (s : Site) (k l : Pick) → Lawful m s k → Contains (k ∷ []) l → Lawful m s l
+    one_lawful m s k l h c = by (Contains-cons_cases k l [] c)
+      where
+        by : (k ≡ l) ⊎ Contains [] l → Lawful m s l
+        by (inl e) = subst (Lawful m s) e h
+        by (inr k) = absurd (nothing l k)
+
+    asked_picks : (x : VarName) (n : ThreadName) (t : Term) (es : List Equation) (s : Site) (k : Pick) → Contains (bind_request_row limit x t n s).picks k → Lawful (msg.BindReq x n t es) s k
+    asked_picks x n t es s k = go (knowledge s.records x) refl
+      where
+        go : (o : Option (Option Term)) → knowledge s.records x ≡ o → Contains (bind_request_row limit x t n s).picks k → Lawful (msg.BindReq x n t es) s k
+        go None q = rw q (λ c. absurd (nothing k c))
+        go (Some None) q = rw q (λ c. one_lawful (msg.BindReq x n t es) s (bind_pick n x t) k (refl, inl refl) c)
+        go (Some (Some r)) q = rw q (λ c. absurd (nothing k c))
+
+    serves_picks : (c : CellName) (ns : List ThreadName) (v : VarName) (s : Site) (k : Pick) → Contains (serving p c ns v s).picks k → (k.fresh ≡ []) × Contains ns k.thread
+    serves_picks c [] v s k h = absurd (nothing k h)
+    serves_picks c (n ∷ ns) v s k h = by (Contains-cons_cases (step_pick n [] None) k _ h) (λ q. serves_picks c ns (content_after_exchange p n v s) (after_exchange p n v s) k q)
+      where
+        by : (step_pick n [] None ≡ k) ⊎ Contains (serving p c ns (content_after_exchange p n v s) (after_exchange p n v s)).picks k → (Contains (serving p c ns (content_after_exchange p n v s) (after_exchange p n v s)).picks k → (k.fresh ≡ []) × Contains ns k.thread) → (k.fresh ≡ []) × Contains (n ∷ ns) k.thread
+        by (inl e) ih = subst (λ (l : Pick). (l.fresh ≡ []) × Contains (n ∷ ns) l.thread) e (refl, Contains-head n ns)
+        by (inr q) ih = let r = ih q in (r.0, Contains-tail n k.thread ns r.1)
+
+    put_picks : (c : CellName) (v : VarName) (es : List Equation) (s : Site) (k : Pick) → Contains (serving p c (cell_record s c).queue v s).picks k ⊎ Contains [] k → Lawful (msg.Put c v es) s k
+    put_picks c v es s k (inl h) = let r = serves_picks c (cell_record s c).queue v s k h in (r.0, inr (inr (inl (c, r.1))))
+    put_picks c v es s k (inr h) = absurd (nothing k h)
+
+    row_picks : (m : Msg) (s : Site) (k : Pick) → Contains (message_row p limit m s).picks k → Lawful m s k
+    row_picks (msg.Spawn n code vars es) s k c = absurd (nothing k c)
+    row_picks (msg.Register x a) s k c = absurd (nothing k c)
+    row_picks (msg.BindReq x n t es) s k c = asked_picks x n t es s k c
+    row_picks (msg.Binding x t es) s k c = absurd (nothing k c)
+    row_picks (msg.Get d a) s k c = absurd (nothing k c)
+    row_picks (msg.Forward d a) s k c = absurd (nothing k c)
+    row_picks (msg.Put d v es) s k c = put_picks d v es s k (Contains-append_cases (serving p d (cell_record s d).queue v s).picks [] k c)
+
+    -- ---- a message
+
+    none_fresh : (ks : List Pick) → ((k : Pick) → Contains ks k → k.fresh ≡ []) → threads_among (fresh_in ks) ≡ []
+    none_fresh [] h = refl
+    none_fresh (k ∷ ks) h = ap (λ (ns : List Name). threads_among (ns ++ fresh_in ks)) (h k (Contains-head k ks)) ∙ none_fresh ks (λ l c. h l (Contains-tail k l ks c))
+
+    opened : (m : Msg) (s : Site) (k : Pick) → Lawful m (opening m s).site k → Lawful m s k
+    opened m s k (f, inl q) = (f, inl q)
+    opened m s k (f, inr h) = (f, inr (opens_keep m s k.thread h))
+
+    abbrev pub AllComes : Option Msg → Type 0
+    AllComes None = Unit {0}
+    AllComes (Some m) = Comes m
+
+    pub heard_part : (i n : ℕ) (m : Option Msg) (s : Site) (d : Transition) → AllComes m → IsReception p n limit m s d → Part i C (IsRequested m) s d
+    heard_part i n None s d comes h = subst (Part i C (IsRequested None) s) (sym h) (still_part i C (IsRequested None) s (without_output s) (heard_still p n limit None s (without_output s) refl) refl (λ th k. k) (λ k c. absurd (nothing k c)))
+    heard_part i n (Some m) s d comes (inr h) = subst (Part i C (IsRequested (Some m)) s) (sym h.1) (still_part i C (IsRequested (Some m)) s (without_output s) (heard_still p n limit (Some m) s (without_output s) (inr (h.0, refl))) refl (λ th k. k) (λ k c. absurd (nothing k c)))
+    heard_part i n (Some m) s d comes (inl h) =
+        subst (Part i C (IsRequested (Some m)) s) (sym h.1) (still_part i C (IsRequested (Some m)) s (and_then (opening m s) (message_row p limit m)) (heard_still p n limit (Some m) s _ (inl (h.0, refl)))
+        (none_fresh _ (λ k c. (all k c).0))
+        (λ th k. opens_keep m s th (row_keeps m (opening m s).site comes th k))
+        (λ k c. (all k c).1))
+      where
+        all : (k : Pick) → Contains (message_row p limit m (opening m s).site).picks k → Lawful m s k
+        all k c = opened m s k (row_picks m (opening m s).site k c)

@@ -1,0 +1,13 @@
+pub mod PartPlaceLemmas
+pub mod HeardLemmas
+pub mod UnitLemmas
+pub mod PlaceLemmas
+pub mod CopyLemmas
+pub mod TurnLemmas
+pub mod PartPaymentLemmas
+pub mod PaymentLemmas
+pub mod MessageLemmas
+pub mod OwnLemmas
+pub mod CountLemmas
+pub mod TravelLemmas
+pub mod RequestLemmas

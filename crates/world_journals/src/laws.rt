@@ -1,0 +1,23 @@
+//! What the journal of every run tells of each site, as laws over all runs.
+
+ghost use Rattle.world_journals.specs.Places.{ThreadsAlwaysStayHome, UnitsAreAlwaysNamed};
+ghost use Rattle.world_journals.specs.Requests.{ExchangesAreSplit, RequestsAreServed, TurnsArePaid};
+
+/// Each pick of a turn is an own step of a thread that was placed at the turn's site, or the bind that the delivered message asks
+/// for; and a thread was placed at one site only. It does nothing: its clause is the law.
+pub fn threads_stay_home()
+    ensures home { ThreadsAlwaysStayHome }
+{}
+
+/// The thread of each unit of a turn has its name from one of the sites of the run. It does nothing: its clause is the law.
+pub fn units_are_named()
+    ensures named { UnitsAreAlwaysNamed }
+{}
+
+/// In each turn exchanges pay for the Gets and Forwards that it sends and for a Put that it takes; and so, over each run, at each
+/// site for each cell, where the exchanges at the sites are together those of the run. It does nothing: its clauses are the laws.
+pub fn requests_are_served()
+    ensures turns { TurnsArePaid }
+    ensures split { ExchangesAreSplit }
+    ensures served { RequestsAreServed }
+{}

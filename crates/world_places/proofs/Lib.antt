@@ -1,4 +1,0 @@
-pub mod PartLemmas
-pub mod HeardLemmas
-pub mod UnitLemmas
-pub mod PlaceLemmas

@@ -1,5 +1,0 @@
-use Rattle.world_places.proofs.PlaceLemmas.{threads_always_stay_home}
-use Rattle.world_places.proofs.laws.threads_stay_home.Goals as goal
-
-pub returns : goal.returns
-returns c = record { home = threads_always_stay_home }

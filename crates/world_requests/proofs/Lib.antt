@@ -1,9 +1,0 @@
-pub mod CopyLemmas
-pub mod TurnLemmas
-pub mod PartLemmas
-pub mod PaymentLemmas
-pub mod MessageLemmas
-pub mod OwnLemmas
-pub mod CountLemmas
-pub mod TravelLemmas
-pub mod RequestLemmas

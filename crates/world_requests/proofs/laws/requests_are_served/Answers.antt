@@ -1,5 +1,0 @@
-use Rattle.world_requests.proofs.RequestLemmas.{turns_are_paid, requests_are_served, exchanges_are_split}
-use Rattle.world_requests.proofs.laws.requests_are_served.Goals as goal
-
-pub returns : goal.returns
-returns c = record { turns = turns_are_paid; split = exchanges_are_split; served = requests_are_served }
