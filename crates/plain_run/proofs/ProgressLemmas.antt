@@ -12,7 +12,7 @@ use Rattle.site_message.proofs.TravelLemmas.{messages_add_up}
 use Rattle.site_model.specs.Bundle.{bundle_limit}
 use Rattle.site_model.specs.Site.{Site, is_idle}
 use Rattle.site_model.specs.Run.{WorldRun, SiteRun, delivered_message}
-use Rattle.site_model.specs.Turn.{IsFullTurn}
+use Rattle.site_model.specs.Turn.{IsFullTurn, IsFullTurnOf}
 use Rattle.world_model.specs.Schedule.{sum_to}
 use Rattle.world_mail.specs.declared.travel.Travel.{Travel}
 use Rattle.world_mail.specs.Travels.{IsNoneFor, IsFirstFor}
@@ -84,7 +84,7 @@ module _ (l : Limits) (p : List Stmt) (old new : WorldState) (site quantum : ℕ
 
   here_steps : (states_of old site).steps ≤ (states_of new site).steps
   here_steps =
-      let h = turn_steps old.program old.sites bundle_limit quantum (states_of old site) (delivered_message old.journal t.entry.delivered) t.turn.0 t.turn.1 in
+      let h = turn_steps old.program old.sites bundle_limit quantum (states_of old site) (delivered_message old.journal t.entry.delivered) t.turn.0 (t.entry.units, t.turn.1.0, t.turn.1.1, t.turn.1.2) in
       let is : (states_of new site).steps ≡ t.turn.0.site.steps = ap (λ (s : Site). s.steps) t.turn.3 in
       omega (arith, h, is)
 
@@ -143,8 +143,8 @@ module _ (l : Limits) (p : List Stmt) (old new : WorldState) (site quantum : ℕ
           states_of old site,
           t.turn.0,
           subst (λ (i : ℕ). SiteRun p l.sites bundle_limit i old.journal (states_of old site)) (sym t.site_is) (in_limits (λ q n. SiteRun q n bundle_limit site old.journal (states_of old site)) (going.run.runs site)),
-          in_limits (λ q n. IsFullTurn q n bundle_limit (min (l.steps - (states_of old site).steps) 64) (states_of old site) (delivered_message old.journal t.entry.delivered) t.turn.0)
-              (subst (λ (u : ℕ). IsFullTurn old.program old.sites bundle_limit u (states_of old site) (delivered_message old.journal t.entry.delivered) t.turn.0) units t.turn.1),
+          in_limits (λ q n. IsFullTurnOf q n bundle_limit (min (l.steps - (states_of old site).steps) 64) t.entry.units (states_of old site) (delivered_message old.journal t.entry.delivered) t.turn.0)
+              (subst (λ (u : ℕ). IsFullTurnOf old.program old.sites bundle_limit u t.entry.units (states_of old site) (delivered_message old.journal t.entry.delivered) t.turn.0) units t.turn.1),
           t.turn.2,
         );
       }
@@ -208,7 +208,7 @@ module _ (l : Limits) (p : List Stmt) (old new : WorldState) (site quantum : ℕ
       same = grown ∙ ap (λ (o : Option ℕ). delivery_count o + deliveries old.journal) nothing ∙ (omega arith)
 
       full : IsFullTurn old.program old.sites bundle_limit quantum (states_of old site) None t.turn.0
-      full = subst (λ (o : Option ℕ). IsFullTurn old.program old.sites bundle_limit quantum (states_of old site) (delivered_message old.journal o) t.turn.0) nothing t.turn.1
+      full = subst (λ (o : Option ℕ). IsFullTurn old.program old.sites bundle_limit quantum (states_of old site) (delivered_message old.journal o) t.turn.0) nothing (t.entry.units, t.turn.1.0, t.turn.1.1, t.turn.1.2)
 
       some : 1 ≤ quantum
       some = above (at_limit (states_of old site).steps)

@@ -8,7 +8,7 @@ use Rattle.site_model.specs.Bundle.{bundle_limit}
 use Rattle.site_model.specs.Site.{Site}
 use Rattle.site_model.specs.Run.{SiteRun, IsRecordOf, delivered_message}
 use Rattle.site_model.specs.Transition.{Transition}
-use Rattle.site_model.specs.Turn.{IsFullTurn}
+use Rattle.site_model.specs.Turn.{IsFullTurnOf}
 use Rattle.world_core.specs.Travels.{IsNothingFor}
 use Rattle.plain_run.specs.declared.out.Limits.{Limits}
 
@@ -40,7 +40,7 @@ pub record IsPlainTurn (p : List Stmt) (l : Limits) (j : List Turn) (e : Turn) :
   pub first : (k : ℕ) → 1 ≤ k → k ≤ l.sites → ComesBefore (last_site l.sites j) k e.site → HasNothingToDo j k
   pub lowest : IsLowestFor j e.site e.delivered
   pub full : (old : Site) × (d : Transition) × SiteRun p l.sites bundle_limit e.site j old
-      × IsFullTurn p l.sites bundle_limit (min (l.steps - old.steps) 64) old (delivered_message j e.delivered) d × IsRecordOf e d
+      × IsFullTurnOf p l.sites bundle_limit (min (l.steps - old.steps) 64) e.units old (delivered_message j e.delivered) d × IsRecordOf e d
 
 -- each turn of the journal is so
 abbrev pub IsPlainRun : List Stmt → Limits → List Turn → Type 0

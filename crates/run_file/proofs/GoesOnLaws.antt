@@ -2,12 +2,13 @@
 use Rattle.std.proofs.Common.{◌≡◌, ℕ, ◌+◌, ◌<◌, Bool, true, false, ltb, List, [], ◌∷◌, ◌++◌, length, take, drop, Option, Some, None, refl, sym, ap, subst, ◌∙◌, append_assoc, arith, inl, inr}
 use Rattle.std.specs.Prelude.{codes}
 use Rattle.std.proofs.lemmas.List.{length-append, length-take, take-append-drop}
+use Rattle.tree_node.specs.declared.limits.TheConstants.{MOST_MESSAGES, MOST_SITES, MOST_STEPS, MOST_UNITS}
 use Rattle.tree_node.specs.declared.names.ThreadName.{ThreadName}
 use Rattle.run_file.specs.declared.entry.Entry.{Entry}
 use Rattle.run_file.specs.declared.fault.FileFault.{FileFault}
 use Rattle.run_file.specs.declared.fault.FileFault.TheVariants.{Bad}
 use Rattle.run_file.specs.Field.{◌after◌, ◌then◌, number, line, BeginsWith}
-use Rattle.run_file.specs.Saved.{SavedRun, greatest, most_sites, most_steps, most_messages, most_bytes, most_units, thread, unit, no_unit, unit_where, unit_behind, units, delivered, printed, printed_lines, entry, entries, counted_text, header, end_line, turns, saved_run, IsFirstFault}
+use Rattle.run_file.specs.Saved.{SavedRun, greatest, most_bytes, thread, unit, no_unit, unit_where, unit_behind, units, delivered, printed, printed_lines, entry, entries, counted_text, header, end_line, turns, saved_run, IsFirstFault}
 use Rattle.run_file.specs.Laws.{BeginsNoText, IsWrongPart, NoTextGoesOn}
 use Rattle.run_file.proofs.StayLaws.{IsSteady, Stays, bad_is, regrouped, begins_same, stops_same, some_front, after_steady, then_steady, part_steady, line_steady, bytes_steady, number_steady, many_steady}
 use Rattle.run_file.proofs.WholeLaws.{not_both}
@@ -36,7 +37,7 @@ unit_where_steady sites false = record {
 }
 
 units_steady : (sites : ℕ) → IsSteady (units sites)
-units_steady sites = many_steady 32 (unit sites) (unit_behind sites) (unit_steady sites) (λ front. unit_where_steady sites (ltb (length front) most_units))
+units_steady sites = many_steady 32 (unit sites) (unit_behind sites) (unit_steady sites) (λ front. unit_where_steady sites (ltb (length front) MOST_UNITS))
 
 -- ---- the number of a message, or none
 
@@ -85,9 +86,9 @@ counted_text_steady =
 
 header_steady : IsSteady header
 header_steady =
-    after_steady (codes "ozrun 1 ") _ (then_steady _ _ (number_steady 1 most_sites (omega arith)) (λ sites. after_steady (codes " ") _
-    (then_steady _ _ (number_steady 1 most_steps (omega arith)) (λ steps. after_steady (codes " ") _
-    (then_steady _ _ (number_steady 0 most_messages (omega arith)) (λ messages. after_steady (codes " ") _ counted_text_steady))))))
+    after_steady (codes "ozrun 1 ") _ (then_steady _ _ (number_steady 1 MOST_SITES (omega arith)) (λ sites. after_steady (codes " ") _
+    (then_steady _ _ (number_steady 1 MOST_STEPS (omega arith)) (λ steps. after_steady (codes " ") _
+    (then_steady _ _ (number_steady 0 MOST_MESSAGES (omega arith)) (λ messages. after_steady (codes " ") _ counted_text_steady))))))
 
 turns_steady : (sites : ℕ) → IsSteady (turns sites)
 turns_steady sites = after_steady (codes "\n") _ (then_steady (entries sites) (λ journal. end_line) (entries_steady sites) (λ journal. after_steady (codes "end ") line line_steady))

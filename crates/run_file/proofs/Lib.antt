@@ -1,4 +1,3 @@
-pub mod UnitLemmas
 pub mod FieldLaws
 pub mod FrontLaws
 pub mod NumberLaws

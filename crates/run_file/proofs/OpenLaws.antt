@@ -5,13 +5,15 @@ use Rattle.std.specs.List.{flat_map}
 use Rattle.std.proofs.lemmas.Fmt.{decimal_digit}
 use Rattle.std.proofs.lemmas.List.{length-append, append-nil, length-replicate}
 use Rattle.std.proofs.lemmas.Grind.{flat_map-append}
+use Rattle.tree_node.specs.declared.limits.TheConstants.{MOST_MESSAGES, MOST_SITES, MOST_STEPS, MOST_UNITS}
 use Rattle.tree_node.specs.declared.names.ThreadName.{ThreadName}
 use Rattle.run_file.specs.declared.entry.Entry.{Entry}
 use Rattle.run_file.specs.declared.fault.FileFault.{FileFault}
 use Rattle.run_file.specs.declared.fault.FileFault.TheVariants.{Bad}
 use Rattle.run_file.specs.Field.{Field, IsOtherWord, ◌after◌, ◌then◌, part_field, IsBadNumeral, number, zero_fault, line, bytes_of, EachBehind, many}
-use Rattle.run_file.specs.Saved.{SavedRun, greatest, most_sites, most_steps, most_messages, most_bytes, most_units, thread, unit, unit_where, unit_behind, units, delivered, printed, printed_lines, entry, entries, counted_text, header, end_line, turns, saved_run}
+use Rattle.run_file.specs.Saved.{SavedRun, greatest, most_bytes, thread, unit, unit_where, unit_behind, units, delivered, printed, printed_lines, entry, entries, counted_text, header, end_line, turns, saved_run}
 use Rattle.run_file.specs.Laws.{SomeTextBegins}
+use Rattle.run_file.proofs.RunLaws.{same_spelling}
 use Rattle.run_file.proofs.StayLaws.{bad_is}
 
 -- a value of the field is spelled with this front
@@ -239,14 +241,10 @@ unit_where_opens : (sites : ℕ) → 1 ≤ sites → (b : Bool) (at : ℕ) (byte
 unit_where_opens sites some true at bytes f h = (unit_open sites some).opens at bytes f h
 unit_where_opens sites some false at bytes f h = at_begin (unit_where sites false) at bytes f h
 
-unit_where_spelling : (sites : ℕ) (b : Bool) (x : ThreadName) → (unit_where sites b).spelling x ≡ (unit sites).spelling x
-unit_where_spelling sites true x = refl
-unit_where_spelling sites false x = refl
-
 units_open : (sites : ℕ) → 1 ≤ sites → IsOpen (units sites)
 units_open sites some =
     many_open 32 (unit sites) (unit_behind sites)
-    (record { spelling = λ front x. unit_where_spelling sites (ltb (length front) most_units) x; opens = λ front. unit_where_opens sites some (ltb (length front) most_units) })
+    (record { spelling = λ front x. same_spelling sites (ltb (length front) MOST_UNITS) x; opens = λ front. unit_where_opens sites some (ltb (length front) MOST_UNITS) })
 
 delivered_open : IsOpen delivered
 delivered_open = record { value = None; has = tt; opens = opens }
@@ -280,9 +278,9 @@ counted_text_open =
 
 header_open : IsOpen header
 header_open =
-    after_open (codes "ozrun 1 ") _ (then_open _ _ (number_open 1 most_sites (omega arith)) (λ sites h. after_open (codes " ") _
-    (then_open _ _ (number_open 1 most_steps (omega arith)) (λ steps h. after_open (codes " ") _
-    (then_open _ _ (number_open 0 most_messages (omega arith)) (λ messages h. after_open (codes " ") _ counted_text_open))))))
+    after_open (codes "ozrun 1 ") _ (then_open _ _ (number_open 1 MOST_SITES (omega arith)) (λ sites h. after_open (codes " ") _
+    (then_open _ _ (number_open 1 MOST_STEPS (omega arith)) (λ steps h. after_open (codes " ") _
+    (then_open _ _ (number_open 0 MOST_MESSAGES (omega arith)) (λ messages h. after_open (codes " ") _ counted_text_open))))))
 
 turns_open : (sites : ℕ) → 1 ≤ sites → IsOpen (turns sites)
 turns_open sites some = after_open (codes "\n") _ (then_open (entries sites) (λ journal. end_line) (entries_open sites some) (λ journal h. after_open (codes "end ") line line_open))

@@ -7,10 +7,11 @@ use Rattle.std.proofs.lemmas.List.{length-append, take-append-drop}
 use Rattle.std.proofs.lemmas.List.Folds.{list_all-append}
 use Rattle.run_file.specs.declared.fault.FileFault.{FileFault}
 use Rattle.run_file.specs.declared.fault.FileFault.TheVariants.{Bad}
-use Rattle.run_file.specs.Field.{Field, IsOtherWord, ◌after◌, ◌then◌, part_field, AllPass, IsNoDigit, IsOutside, IsBadNumeral, number, value_after, value_of, zero_fault, line, bytes_of, BeginsWith, EachEnds, many}
+use Rattle.run_file.specs.Field.{Field, IsOtherWord, ◌after◌, ◌then◌, part_field, IsNoDigit, IsOutside, IsBadNumeral, number, value_after, value_of, zero_fault, line, bytes_of, BeginsWith, EachEnds, many}
 use Rattle.run_file.specs.Reading.{digit_count}
 use Rattle.run_file.specs.Laws.{IsWrongPart}
 use Rattle.run_file.proofs.FrontLaws.{front_passes, front_ends}
+use Rattle.run_file.proofs.NumberLaws.{AreDigits}
 use Rattle.run_file.proofs.LoopLaws.{grows}
 
 -- the fault stays whatever comes behind this part of the tail
@@ -165,9 +166,6 @@ bytes_steady n = record {
 }
 
 -- ---- numbers
-
-abbrev AreDigits : List ℕ → Type 0
-AreDigits ds = AllPass is_ascii_digit ds
 
 zero_low : (least at k : ℕ) → zero_fault least at ≡ Bad k → at ≤ k
 zero_low zero at k e = let same = bad_is (at + 1) k e in omega (arith, same)

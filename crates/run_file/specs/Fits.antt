@@ -1,10 +1,11 @@
 -- Which runs have a text: the ranges of their numbers, and lines without newlines.
 use Rattle.std.specs.Prelude.{◌↔◌, ℕ, ◌≤◌, length, Option, Some, None}
+use Rattle.tree_node.specs.declared.limits.TheConstants.{MOST_MESSAGES, MOST_SITES, MOST_STEPS, MOST_UNITS}
 use Rattle.tree_node.specs.declared.names.ThreadName.{ThreadName}
 use Rattle.tree_node.specs.Each.{Each}
 use Rattle.run_file.specs.declared.entry.Entry.{Entry}
 use Rattle.run_file.specs.Field.{IsWithin, IsLine}
-use Rattle.run_file.specs.Saved.{SavedRun, greatest, most_sites, most_steps, most_messages, most_bytes, most_units, saved_run}
+use Rattle.run_file.specs.Saved.{SavedRun, greatest, most_bytes, saved_run}
 
 -- a thread of one of the sites, with a number of 64 bits
 abbrev pub IsThreadOf : ℕ → ThreadName → Type 0
@@ -19,16 +20,16 @@ IsNumber (Some n) = IsWithin 0 greatest n
 pub record IsEntryOf (sites : ℕ) (e : Entry) : Type 0 where
   pub site : IsWithin 1 sites e.site
   pub delivered : IsNumber e.delivered
-  pub few : length e.units ≤ most_units
+  pub few : length e.units ≤ MOST_UNITS
   pub units : Each (IsThreadOf sites) e.units
   pub lines : Each IsLine e.lines
 
 -- the text has at most 1,048,576 bytes, the limits are in their ranges, and each entry is one of the sites
 pub record MayBeSaved (r : SavedRun) : Type 0 where
   pub text : length r.text ≤ most_bytes
-  pub sites : IsWithin 1 most_sites r.sites
-  pub steps : IsWithin 1 most_steps r.steps
-  pub messages : IsWithin 0 most_messages r.messages
+  pub sites : IsWithin 1 MOST_SITES r.sites
+  pub steps : IsWithin 1 MOST_STEPS r.steps
+  pub messages : IsWithin 0 MOST_MESSAGES r.messages
   pub entries : Each (IsEntryOf r.sites) r.entries
   pub end : IsLine r.end
 

@@ -3,12 +3,13 @@
 use Rattle.std.specs.Prelude.{◌≡◌, ℕ, zero, suc, ◌+◌, ◌⊎◌, ◌&&◌, List, [], ◌∷◌, ◌++◌, length, take, drop, Bool, false, Option, Some, None, Result, Ok, Err, nat_lt, nat_le, ◌==◌, if◌then◌else◌, codes}
 use Rattle.std.specs.Char.{is_ascii_digit}
 use Rattle.std.specs.List.{prefix_len}
+use Rattle.tree_node.specs.declared.limits.TheConstants.{MOST_MESSAGES, MOST_SITES, MOST_STEPS, MOST_UNITS}
 use Rattle.tree_node.specs.declared.names.ThreadName.{ThreadName}
 use Rattle.run_file.specs.declared.entry.Entry.{Entry}
 use Rattle.run_file.specs.declared.fault.FileFault.{FileFault}
 use Rattle.run_file.specs.declared.fault.FileFault.TheVariants.{Bad, Memory}
 use Rattle.run_file.specs.Field.{value_of, zero_fault, is_in_line}
-use Rattle.run_file.specs.Saved.{SavedRun, greatest, most_sites, most_steps, most_messages, most_bytes, most_units}
+use Rattle.run_file.specs.Saved.{SavedRun, greatest, most_bytes}
 
 -- a place, and the bytes from it to the end
 abbrev pub Left : Type 0
@@ -116,7 +117,7 @@ thread_at sites = map_at (λ p. record { site = p.0; num = p.1 }) (number_at 1 s
 
 -- a unit, behind these; then the units of a turn
 unfoldable pub unit_at : ℕ → List ThreadName → Left → Read ThreadName
-unit_at sites front l = if nat_lt (length front) most_units then (codes " " behind thread_at sites) l else Err (Bad l.0)
+unit_at sites front l = if nat_lt (length front) MOST_UNITS then (codes " " behind thread_at sites) l else Err (Bad l.0)
 
 unfoldable pub units_at : ℕ → Left → Read (List ThreadName)
 units_at sites = many_at 32 (unit_at sites)
@@ -148,8 +149,8 @@ counted_text_at = map_at (λ p. p.1) (number_at 0 most_bytes and λ count. codes
 -- the first line and the text
 unfoldable pub header_at : Left → Read (ℕ × (ℕ × (ℕ × List ℕ)))
 header_at =
-    codes "ozrun 1 " behind (number_at 1 most_sites and λ sites. codes " " behind (number_at 1 most_steps and λ steps. codes " " behind
-    (number_at 0 most_messages and λ messages. codes " " behind counted_text_at)))
+    codes "ozrun 1 " behind (number_at 1 MOST_SITES and λ sites. codes " " behind (number_at 1 MOST_STEPS and λ steps. codes " " behind
+    (number_at 0 MOST_MESSAGES and λ messages. codes " " behind counted_text_at)))
 
 -- the end line
 unfoldable pub end_at : Left → Read (List ℕ)

@@ -1,5 +1,6 @@
 -- A saved run, and its text: a line with the numbers, the program's text, the entries of the journal, and the end line.
 use Rattle.std.specs.Prelude.{◌≡◌, ℕ, ◌⊎◌, List, ◌++◌, length, Option, Some, None, codes, Bool, true, false, nat_lt, decimal}
+use Rattle.tree_node.specs.declared.limits.TheConstants.{MOST_MESSAGES, MOST_SITES, MOST_STEPS, MOST_UNITS}
 use Rattle.tree_node.specs.declared.names.ThreadName.{ThreadName}
 use Rattle.run_file.specs.declared.entry.Entry.{Entry}
 use Rattle.run_file.specs.declared.fault.FileFault.{FileFault}
@@ -19,22 +20,9 @@ pub record SavedRun : Type 0 where
 abbrev pub greatest : ℕ
 greatest = 18446744073709551615
 
--- how many sites a run may have, how many own steps a site may make, how many messages may be sent, how many bytes a program's text
--- may have, and how many units a turn may have, at most
-abbrev pub most_sites : ℕ
-most_sites = 64
-
-abbrev pub most_steps : ℕ
-most_steps = 1000000000
-
-abbrev pub most_messages : ℕ
-most_messages = 4000000000
-
+-- how many bytes a program's text may have at most
 abbrev pub most_bytes : ℕ
 most_bytes = 1048576
-
-abbrev pub most_units : ℕ
-most_units = 64
 
 -- a thread of one of the sites: its site, a point and its number
 abbrev pub thread : ℕ → Field ThreadName
@@ -55,7 +43,7 @@ unit_where sites false = no_unit sites
 
 -- the unit behind these, of which there are 64 at most
 abbrev pub unit_behind : ℕ → List ThreadName → Field ThreadName
-unit_behind sites front = unit_where sites (nat_lt (length front) most_units)
+unit_behind sites front = unit_where sites (nat_lt (length front) MOST_UNITS)
 
 -- the units of a turn
 abbrev pub units : ℕ → Field (List ThreadName)
@@ -105,8 +93,8 @@ counted_text = part_field (λ (text : List ℕ). (length text, text)) (number 0 
 -- the sites, the own steps of a site, the messages, and the text
 abbrev pub header : Field (ℕ × (ℕ × (ℕ × List ℕ)))
 header =
-    codes "ozrun 1 " after (number 1 most_sites then λ sites. codes " " after (number 1 most_steps then λ steps. codes " " after
-    (number 0 most_messages then λ messages. codes " " after counted_text)))
+    codes "ozrun 1 " after (number 1 MOST_SITES then λ sites. codes " " after (number 1 MOST_STEPS then λ steps. codes " " after
+    (number 0 MOST_MESSAGES then λ messages. codes " " after counted_text)))
 
 -- the end line
 abbrev pub end_line : Field (List ℕ)

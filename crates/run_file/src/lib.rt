@@ -1,18 +1,18 @@
 //! Runs as files: the text of a program, the limits of a run of it, the entries of its journal, and its end line.
 //!
 //! For: whoever keeps a run over sites, to look at it or to have it made again. `docs/saved-runs.md` tells the format to writers and
-//! readers in other languages. Nothing calls this crate yet.
+//! readers in other languages. The command does not use it yet; `run_check` makes again what it reads.
 //!
-//! Promises: `write_run` answers the text of a saved run, by its parts. `read_run` answers a saved run exactly where the bytes are its
-//! text (`saved`, `only`), and a fault exactly where it is the first fault of the bytes, with its place (`fault`, `first`). Both may
-//! answer that no memory was left, and nothing else. The text and the first fault are defined by a grammar of fields (`Field`, `Saved`),
+//! Promises: `write_run` answers the text of a journal with a program's text, limits and an end line (`saved_text`). `read_run` answers
+//! a saved run exactly where the bytes are its text (`saved`, `only`), and a fault exactly where it is the first fault of the bytes, with
+//! its place (`fault`, `first`). Both may answer that no memory was left, and nothing else. The text and the first fault are defined by a grammar of fields (`Field`, `Saved`),
 //! which neither direction shares. Laws of it, as functions that do nothing: every list of bytes is the text of one saved run or has one
 //! first fault, and not both (`bytes_save_or_fail`); no text is a proper prefix of another (`no_proper_prefix`); the bytes before a first
 //! fault begin a text, and none goes on with the byte there, or, where a number that is out of range stands there, with its digits
 //! (`first_fault_is_exact`); which runs have a text (`these_are_saved`: `MayBeSaved`); worked runs and faults (`worked_runs`,
 //! `worked_file_faults`). Whether a saved run is a run of its program is not asked here.
 //!
-//! Stands on: `tree_node`.
+//! Stands on: `site_message`, `tree_node`.
 //!
 //! By tests alone: that ample memory suffices. The tests, in `run_file_tests`, try a worked text and its fronts on both directions, and a
 //! table of bytes with their first faults. Cost is told by no clause: both directions cost by the length of the text; `read_run` copies
@@ -28,7 +28,6 @@ mod file;
 mod laws;
 mod reading;
 mod threads;
-mod units;
 mod writing;
 
 pub use entry::Entry;
@@ -39,5 +38,4 @@ pub use laws::{
     worked_file_faults, worked_runs,
 };
 pub use reading::read_run;
-pub use units::{Stint, Units};
 pub use writing::{RunNumbers, write_run};

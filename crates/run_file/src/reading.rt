@@ -12,24 +12,12 @@ use crate::cursor::Cursor;
 use crate::entry::Entry;
 use crate::fault::FileFault;
 use crate::file::{Header, RunFile};
-use crate::units::Units;
+use site_message::{Lines, Units};
 use std::alloc::Global;
-use tree_node::{Line, Seq, ThreadName};
-
-/// How many sites a run may have at most.
-const MOST_SITES: u64 = 64;
-
-/// How many own steps a site may make at most.
-const MOST_STEPS: u64 = 1_000_000_000;
-
-/// How many messages may be sent at most.
-const MOST_MESSAGES: u64 = 4_000_000_000;
+use tree_node::{Line, MOST_MESSAGES, MOST_SITES, MOST_STEPS, MOST_UNITS, Seq, ThreadName};
 
 /// How many bytes a program's text has at most.
 const MOST_BYTES: u64 = 1_048_576;
-
-/// How many units a turn has at most.
-const MOST_UNITS: usize = 64;
 
 // A thread of one of the sites.
 #[tactic(auto, unfolding(crate::specs::Reading::thread_at))]
@@ -49,9 +37,9 @@ fn thread(cursor: &mut Cursor, sites: u32) -> Result<ThreadName, FileFault>
 #[tactic(auto, unfolding(crate::specs::Reading::unit_at))]
 fn unit(cursor: &mut Cursor, sites: u32, count: usize) -> Result<ThreadName, FileFault>
     ensures read { (front : List AThread) → length front ≡ count → IsReadAs (unit_at sites front) cursor.old cursor.new result }
-    ensures within { IfOk result (λ th. count < 64) }
+    ensures within { IfOk result (λ th. count < MOST_UNITS) }
 {
-    if count >= MOST_UNITS {
+    if count >= MOST_UNITS as usize {
         return Err(FileFault::Bad(cursor.place()));
     }
     cursor.word(b" ")?;
@@ -94,10 +82,10 @@ fn printed(alloc: Global, cursor: &mut Cursor) -> Result<Line, FileFault>
 }
 
 // The lines of a turn.
-fn lines(alloc: Global, cursor: &mut Cursor) -> Result<Seq<Line>, FileFault>
+fn lines(alloc: Global, cursor: &mut Cursor) -> Result<Lines, FileFault>
     ensures { IsReadAs lines_at cursor.old cursor.new result }
 {
-    let mut lines = Seq::new(alloc);
+    let mut lines = Lines::new(alloc);
     'items: while cursor.begins_with(b'l') {
         let next = printed(alloc, cursor)?;
         lines.push(next)?;
@@ -154,7 +142,7 @@ fn header(alloc: Global, cursor: &mut Cursor) -> Result<Header, FileFault>
     ensures read { IsReadAs (map_at header_of header_at) cursor.old cursor.new result }
 {
     cursor.word(b"ozrun 1 ")?;
-    let sites = cursor.number(1, MOST_SITES)?;
+    let sites = cursor.number(1, MOST_SITES as u64)?;
     cursor.word(b" ")?;
     let steps = cursor.number(1, MOST_STEPS)?;
     cursor.word(b" ")?;

@@ -1,10 +1,11 @@
 //! Saved runs as bytes: a worked text both ways, and what comes of others. The outcomes were worked out from the format by another
 //! program.
 
-use run_file::{Entry, FileFault, RunFile, RunNumbers, Units, read_run, write_run};
+use run_file::{FileFault, RunNumbers, read_run, write_run};
+use site_message::{Journal, Lines, Picks, SentList, Turn, Units};
 use std::alloc::{AllocError, Global};
 use std::test::Fail;
-use tree_node::{Line, Seq, ThreadName};
+use tree_node::{Line, ThreadName};
 
 static WHOLE: &str =
     "ozrun 1 2 10 7 6\nskip\n%\nturn 1 - 1.0 1.0 1.3\nline 5\nline line \nturn 2 0\nend quiescent ended=2 waiting=0\n";
@@ -90,28 +91,10 @@ static FAULTS: [(&str, usize); 45] = [
     ("ozrun 1 1 1 0 0\n\nend x\n\n", 23),
 ];
 
-// The text of a saved run.
-fn text_of(alloc: Global, run: &RunFile) -> Result<Vec<u8>, AllocError> {
-    let numbers = RunNumbers {
-        sites: run.sites(),
-        steps: run.steps(),
-        messages: run.messages(),
-    };
-    let text = write_run(alloc, run.text(), numbers, run.entries(), run.end())?;
-    Ok(text.into_vec())
-}
-
-// Where bytes go wrong; none where they are a saved run, whose text they are.
+// Where bytes go wrong; none where they are a saved run.
 fn place_of(alloc: Global, bytes: &[u8]) -> Result<Option<usize>, AllocError> {
     match read_run(alloc, bytes) {
-        Ok(run) => {
-            let text = text_of(alloc, &run)?;
-            Ok(if text.as_slice() == bytes {
-                None
-            } else {
-                Some(usize::MAX)
-            })
-        }
+        Ok(_) => Ok(None),
         Err(FileFault::Bad(at)) => Ok(Some(at)),
         Err(FileFault::Memory) => Err(AllocError),
     }
@@ -130,6 +113,7 @@ fn outcome(letter: u8, place: usize) -> Option<usize> {
 #[test]
 fn other_bytes_go_wrong_there(rt: HostRuntime) -> Result<(), Fail> {
     for (value, letters) in OTHERS.as_slice() {
+        assert_eq!(rt; letters.len(), WHOLE.len(), "{value}");
         for (place, letter) in letters.as_bytes().iter().enumerate() {
             let mut bytes = Vec::from_slice(rt.alloc(), WHOLE.as_bytes())?;
             if let Some(byte) = bytes.get_mut(place) {
@@ -169,37 +153,45 @@ fn line(alloc: Global, text: &str) -> Result<Line, AllocError> {
 // Units of thread 0 of site 1, and one of thread 3.
 fn units_of(alloc: Global, count: usize) -> Result<Units, AllocError> {
     let mut units = Units::new(alloc);
-    for place in 0..count {
-        // How many there are is all that counts.
-        let _ = place;
+    for _ in 0..count {
         units.push(ThreadName { site: 1, num: 0 })?;
     }
     units.push(ThreadName { site: 1, num: 3 })?;
     Ok(units)
 }
 
-// The entries of the whole text, with so many units before the last one of the first entry.
-fn entries(alloc: Global, count: usize) -> Result<Seq<Entry>, AllocError> {
-    let mut lines = Seq::new(alloc);
-    lines.push(line(alloc, "5")?)?;
-    lines.push(line(alloc, "line ")?)?;
-    let mut entries = Seq::new(alloc);
-    entries.push(Entry {
-        site: 1,
-        delivered: None,
-        units: units_of(alloc, count)?,
+// A turn with these units and lines.
+fn turn(alloc: Global, site: u32, delivered: Option<u64>, units: Units, lines: Lines) -> Turn {
+    Turn {
+        site,
+        delivered,
+        units,
+        picks: Picks::new(),
+        sent: SentList::new(alloc),
         lines,
-    })?;
-    entries.push(Entry {
-        site: 2,
-        delivered: Some(0),
-        units: Units::new(alloc),
-        lines: Seq::new(alloc),
-    })?;
-    Ok(entries)
+        idle: true,
+        ended: 1,
+        waiting: 0,
+        steps: 1,
+    }
 }
 
-// The text of these entries.
+// The journal of the whole text, with so many units before the last one of the first entry.
+fn journal(alloc: Global, count: usize) -> Result<Journal, AllocError> {
+    let mut lines = Lines::new(alloc);
+    lines.push(line(alloc, "5")?)?;
+    lines.push(line(alloc, "line ")?)?;
+    let first = turn(alloc, 1, None, units_of(alloc, count)?, lines);
+    let second = turn(alloc, 2, Some(0), Units::new(alloc), Lines::new(alloc));
+    let mut journal = Journal::new(alloc);
+    if journal.push(first).is_err() || journal.push(second).is_err() {
+        journal.forget();
+        return Err(AllocError);
+    }
+    Ok(journal)
+}
+
+// The text of that journal.
 fn saved(alloc: Global, count: usize) -> Result<Vec<u8>, AllocError> {
     let numbers = RunNumbers {
         sites: 2,
@@ -207,13 +199,14 @@ fn saved(alloc: Global, count: usize) -> Result<Vec<u8>, AllocError> {
         messages: 7,
     };
     let end = line(alloc, "quiescent ended=2 waiting=0")?;
-    let entries = entries(alloc, count)?;
-    let text = write_run(alloc, b"skip\n%", numbers, entries.as_slice(), &end)?;
-    Ok(text.into_vec())
+    let journal = journal(alloc, count)?;
+    let text = write_run(alloc, b"skip\n%", numbers, &journal, &end);
+    journal.forget();
+    Ok(text?.into_vec())
 }
 
 #[test]
-fn entries_have_this_text(rt: HostRuntime) -> Result<(), Fail> {
+fn a_journal_has_this_text(rt: HostRuntime) -> Result<(), Fail> {
     let text = saved(rt.alloc(), 2)?;
     assert_eq!(rt; text.as_slice(), WHOLE.as_bytes());
     let told = place_of(rt.alloc(), &text)?;

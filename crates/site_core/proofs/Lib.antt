@@ -7,3 +7,4 @@ pub mod NumberLemmas
 pub mod EntryLemmas
 pub mod StartLemmas
 pub mod TurnLemmas
+pub mod ReplayLemmas

@@ -25,7 +25,7 @@ use Rattle.site_model.specs.Variables.{with_known_equation_as, with_known_equati
 use Rattle.site_model.specs.Cells.{serving, after_exchange, after_exchange_as, content_after_exchange, with_exchange_waiting, with_own_request, with_last_asker}
 use Rattle.site_model.specs.Messages.{with_thread, message_row, bind_request_as, reception}
 use Rattle.site_model.specs.Unit.{next_names, with_fresh_names, placement, birth_row, after_cell, after_effect, step_row, step_pick, effect_here, thread_step, fresh_names, bind_attempt, IsStepOrRequest, IsUnitFor, IsUnit}
-use Rattle.site_model.specs.Turn.{IsReception, AreUnits, IsFullTurn}
+use Rattle.site_model.specs.Turn.{IsReception, AreUnits, IsFullTurn, IsTurnOf}
 use Rattle.site_model.proofs.FrameLemmas.{meets_site, makes_site}
 
 abbrev number_of : Site → ℕ
@@ -150,4 +150,8 @@ units_number p n limit (th ∷ ths) s d (one, rest, unit, units, e) =
 
 pub turn_number : (p : List Stmt) (n limit quantum : ℕ) (s : Site) (m : Option Msg) (d : Transition) → IsFullTurn p n limit quantum s m d → d.site.records.site ≡ s.records.site
 turn_number p n limit quantum s m d (ths, (heard, rest, reception, units, e), most, idle) =
+    ap number_after e ∙ (units_number p n limit ths heard.site rest units ∙ heard_number p n limit m s heard reception)
+
+pub turn_of_number : (p : List Stmt) (n limit : ℕ) (ths : List ThreadName) (s : Site) (m : Option Msg) (d : Transition) → IsTurnOf p n limit ths s m d → d.site.records.site ≡ s.records.site
+turn_of_number p n limit ths s m d (heard, rest, reception, units, e) =
     ap number_after e ∙ (units_number p n limit ths heard.site rest units ∙ heard_number p n limit m s heard reception)

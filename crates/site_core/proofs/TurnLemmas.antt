@@ -1,6 +1,7 @@
 -- A message and then units are a turn.
 use Rattle.std.proofs.Common.{refl, subst, ℕ, List, inl, inr, Some, None}
 use Rattle.std.specs.Prelude.{Option}
+use Rattle.tree_node.specs.declared.names.ThreadName.{ThreadName}
 use Rattle.kernel_syntax.specs.declared.stmt.Stmt.{Stmt}
 use Rattle.site_message.specs.declared.message.Msg.{Msg}
 use Rattle.site_model.specs.Site.{Site}
@@ -17,9 +18,9 @@ use Rattle.site_units.specs.declared.data.Output.{Output}
 use Rattle.site_units.specs.Core.{site_of}
 use Rattle.site_units.specs.Invariant.{IsConsistent}
 use Rattle.site_units.specs.Units.{IsTransitionMade}
-use Rattle.site_units.specs.Turns.{IsRowMade, AreUnitsMade}
+use Rattle.site_units.specs.Turns.{IsRowMade, AreToldUnitsMade}
 use Rattle.site_units.proofs.TurnLemmas.{reached_more, reached_nothing}
-use Rattle.site_core.specs.Turns.{IsReceived, IsFullTurnMade}
+use Rattle.site_core.specs.Turns.{IsReceived, IsToldTurnMade}
 
 -- ---- a message
 
@@ -38,17 +39,21 @@ unfit_received p m c o h unfit = (without_output (site_of c), inr (unfit, refl),
 
 -- ---- a turn
 
-pub whole_turn : (p : List Stmt) (quantum : ℕ) (m : Option Msg) (c0 c1 c2 : Core) (o0 o1 o2 : Output) → IsReceived p m c0 o0 c1 o1 → HaveComeBehind c0.threads.order c1.threads.order → AreUnitsMade p quantum c1 o1 c2 o2 →
-    IsFullTurnMade p quantum m c0 o0 c2 o2
-whole_turn p quantum m c0 c1 c2 o0 o1 o2 (heard, reception, reached) behind (ths, rest, units, then, most, idle, turns) = (
-  sequence heard rest,
-  (ths, (heard, rest, reception, here, refl), most, idle, (c1.threads.order, behind, turns)),
-  reached_more p heard rest c0 c1 c2 o0 o1 o2 reached then,
+pub whole_turn : (p : List Stmt) (quantum : ℕ) (t0 t1 : List ThreadName) (m : Option Msg) (c0 c1 c2 : Core) (o0 o1 o2 : Output) → IsReceived p m c0 o0 c1 o1 → HaveComeBehind c0.threads.order c1.threads.order → AreToldUnitsMade p quantum t0 t1 c1 o1 c2 o2 → IsToldTurnMade p quantum t0 t1 m c0 o0 c2 o2
+whole_turn p quantum t0 t1 m c0 c1 c2 o0 o1 o2 (heard, reception, reached) behind (ths, told, (rest, units, then, most, idle, turns)) = (
+  ths,
+  told,
+  (
+    sequence heard rest,
+    ((heard, rest, reception, here, refl), most, idle),
+    (c1.threads.order, behind, turns),
+    reached_more p heard rest c0 c1 c2 o0 o1 o2 reached then,
+  ),
 )
   where
     here : AreUnits p c0.sites bundle_limit ths heard.site rest
     here = subst (λ (s : Site). AreUnits p c0.sites bundle_limit ths s rest) reached.site (subst (λ (n : ℕ). AreUnits p n bundle_limit ths (site_of c1) rest) reached.sites units)
 
 -- without a message
-pub silent_turn : (p : List Stmt) (quantum : ℕ) (c0 c2 : Core) (o0 o2 : Output) → IsConsistent p c0 → AreUnitsMade p quantum c0 o0 c2 o2 → IsFullTurnMade p quantum None c0 o0 c2 o2
-silent_turn p quantum c0 c2 o0 o2 h units = whole_turn p quantum None c0 c0 c2 o0 o0 o2 (without_output (site_of c0), refl, reached_nothing p c0 o0 h) (behind_same c0.threads.order c0.threads.order refl) units
+pub silent_turn : (p : List Stmt) (quantum : ℕ) (t0 t1 : List ThreadName) (c0 c2 : Core) (o0 o2 : Output) → IsConsistent p c0 → AreToldUnitsMade p quantum t0 t1 c0 o0 c2 o2 → IsToldTurnMade p quantum t0 t1 None c0 o0 c2 o2
+silent_turn p quantum t0 t1 c0 c2 o0 o2 h units = whole_turn p quantum t0 t1 None c0 c0 c2 o0 o0 o2 (without_output (site_of c0), refl, reached_nothing p c0 o0 h) (behind_same c0.threads.order c0.threads.order refl) units

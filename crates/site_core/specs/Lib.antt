@@ -4,3 +4,4 @@ pub mod Start
 pub mod Invariant
 pub mod Site
 pub mod Seat
+pub mod Replay

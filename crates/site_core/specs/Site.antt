@@ -1,5 +1,5 @@
 -- A site as its callers see it, and its turns.
-use Rattle.std.specs.Prelude.{◌≡◌, ℕ, ◌<◌, ◌≤◌, List, length, Bool, true, Option, Some, None}
+use Rattle.std.specs.Prelude.{◌≡◌, ℕ, List, Bool, Option, Some, None}
 use Rattle.tree_node.specs.declared.names.ThreadName.{ThreadName}
 use Rattle.kernel_syntax.specs.declared.stmt.Stmt.{Stmt}
 use Rattle.site_message.specs.declared.message.Msg.{Msg}
@@ -10,7 +10,7 @@ use Rattle.site_model.specs.Bundle.{bundle_limit}
 use Rattle.site_model.specs.Run.{IsRecordOf}
 use Rattle.site_model.specs.Site as model
 use Rattle.site_model.specs.Transition.{Transition}
-use Rattle.site_model.specs.Turn.{IsTurnOf, IsFullTurn}
+use Rattle.site_model.specs.Turn.{IsFullTurnOf}
 
 -- a site of a program on so many sites: its state, the names of its threads that can go on, the next in turn first, whether it
 -- is spent after want of memory, and its seat
@@ -31,22 +31,14 @@ abbrev pub number_in : Option (ℕ × Msg) → Option ℕ
 number_in None = None
 number_in (Some m) = Some m.0
 
--- this entry is a turn of a site of this program from one state to the next, with this message, of as many units as the
--- quantum, fewer only where the site is then idle
+-- this entry is a turn of a site of this program from one state to the next, with this message, of the units that it tells, as
+-- many as the quantum, fewer only where the site is then idle
 pub record IsTurnMade (p : List Stmt) (n : ℕ) (old : model.Site) (message : Option (ℕ × Msg)) (quantum : ℕ) (e : Turn) (new : model.Site) : Type 0 where
-  pub turn : (d : Transition) × IsFullTurn p n bundle_limit quantum old (message_in message) d × IsRecordOf e d × (new ≡ d.site)
+  pub turn : (d : Transition) × IsFullTurnOf p n bundle_limit quantum e.units old (message_in message) d × IsRecordOf e d × (new ≡ d.site)
   pub site : e.site ≡ old.records.site
   pub delivered : e.delivered ≡ number_in message
 
--- a turn of as many units as the quantum, fewer only where the site is then idle, by the orders of threads before and after it: what the
--- message let go on came behind the others; each unit was of the first thread in the order; and the thread of the last one then went
--- behind the others, where it can go on
-abbrev pub IsFairTurn : List Stmt → ℕ → ℕ → model.Site → Option Msg → Transition → List ThreadName → List ThreadName → Type 0
-IsFairTurn p n quantum s m d old new =
-    (ths : List ThreadName) × IsTurnOf p n bundle_limit ths s m d × (length ths ≤ quantum) × (length ths < quantum → model.is_idle d.site ≡ true)
-    × ((ready : List ThreadName) × HaveComeBehind old ready × HaveHadTurns ths ready new)
-
--- this entry records such a turn, with this message
-abbrev pub IsTurnInOrder : List Stmt → ℕ → model.Site → Option (ℕ × Msg) → ℕ → Turn → model.Site → List ThreadName → List ThreadName → Type 0
-IsTurnInOrder p n s message quantum e t old new =
-    (d : Transition) × IsFairTurn p n quantum s (message_in message) d old new × IsRecordOf e d × (t ≡ d.site)
+-- the order of threads before and after a turn of these units: what the message let go on came behind the others; each unit was of the first
+-- thread in the order; and the thread of the last one then went behind the others, where it can go on
+abbrev pub IsFairTurn : List ThreadName → List ThreadName → List ThreadName → Type 0
+IsFairTurn ths old new = (ready : List ThreadName) × HaveComeBehind old ready × HaveHadTurns ths ready new

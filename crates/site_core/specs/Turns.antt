@@ -1,6 +1,7 @@
 -- Messages that a site's data receive, and turns.
-use Rattle.std.specs.Prelude.{◌≡◌, ◌≢◌, ℕ, List, Option, None, Contains}
+use Rattle.std.specs.Prelude.{◌≡◌, ◌≢◌, ℕ, List, ◌++◌, Option, None, Contains}
 use Rattle.tree_node.specs.declared.names.VarName.{VarName}
+use Rattle.tree_node.specs.declared.names.ThreadName.{ThreadName}
 use Rattle.tree_node.specs.declared.names.Name.TheVariants as name
 use Rattle.tree_node.specs.Assoc.{value_of}
 use Rattle.tree_node.specs.Each.{Each}
@@ -17,7 +18,7 @@ use Rattle.name_supply.specs.Supply.{IsMade}
 use Rattle.site_cells.specs.Tables.{IsReceivable}
 use Rattle.site_model.specs.Bundle.{bundle_limit}
 use Rattle.site_model.specs.Transition.{Transition}
-use Rattle.site_model.specs.Turn.{IsReception}
+use Rattle.site_model.specs.Turn.{IsReception, IsFullTurnOf}
 use Rattle.site_units.specs.declared.data.Core.{Core}
 use Rattle.site_units.specs.declared.data.Output.{Output}
 use Rattle.site_units.specs.Core.{site_of}
@@ -53,7 +54,11 @@ IsReceived p m c0 o0 c1 o1 =
 
 -- ---- turns
 
--- the data and the output came by a full turn, in which threads had their turns in order
-abbrev pub IsFullTurnMade : List Stmt → ℕ → Option Msg → Core → Output → Core → Output → Type 0
-IsFullTurnMade p quantum m c0 o0 c1 o1 =
-    (d : Transition) × IsFairTurn p c0.sites quantum (site_of c0) m d c0.threads.order c1.threads.order × IsTransitionMade p d c0 o0 c1 o1
+-- the data and the output came by a full turn of these units, in which threads had their turns in order
+abbrev pub IsFullTurnMade : List Stmt → ℕ → List ThreadName → Option Msg → Core → Output → Core → Output → Type 0
+IsFullTurnMade p quantum ths m c0 o0 c1 o1 =
+    (d : Transition) × IsFullTurnOf p c0.sites bundle_limit quantum ths (site_of c0) m d × IsFairTurn ths c0.threads.order c1.threads.order × IsTransitionMade p d c0 o0 c1 o1
+
+-- so they did by one of the units whose threads were told behind others
+abbrev pub IsToldTurnMade : List Stmt → ℕ → List ThreadName → List ThreadName → Option Msg → Core → Output → Core → Output → Type 0
+IsToldTurnMade p quantum t0 t1 m c0 o0 c1 o1 = (ths : List ThreadName) × (t1 ≡ t0 ++ ths) × IsFullTurnMade p quantum ths m c0 o0 c1 o1

@@ -1,15 +1,20 @@
 //! A turn and its entry.
 
-ghost use Rattle.std.specs.Prelude.{◌≡◌, ◌+◌, ◌≤◌, ◌^◌, IfOk, OnOk};
+ghost use Rattle.std.specs.Prelude.{◌≡◌, ◌+◌, ◌≤◌, ◌^◌, length, Err, IfOk, OnOk};
+ghost use Rattle.site_model.specs.Run.{IsRecordOf};
+ghost use Rattle.site_units.specs.declared.replay.Replay.TheVariants.{NotRunnable};
 ghost use Rattle.site_units.specs.Core.{site_of};
 ghost use Rattle.site_units.specs.Invariant.{IsConsistent};
-ghost use Rattle.site_core.specs.Site.{IsTurnMade, IsTurnInOrder, message_in, number_in};
+ghost use Rattle.site_core.specs.Site.{IsFairTurn, IsTurnMade, message_in, number_in};
+ghost use Rattle.site_core.specs.Replay.{IsReplayMade, IsStuckTurn, transition_of};
 
+use crate::replay::replay;
 use crate::turn::turn;
 use kernel_syntax::Program;
-use site_message::{Lines, Msg, Picks, Quantum, Turn};
-use site_units::{Core, Output, site_in};
+use site_message::{Lines, Msg, Picks, Quantum, Turn, Units};
+use site_units::{Core, Output, Replay, site_in};
 use std::alloc::AllocError;
+use tree_node::ThreadName;
 
 // The number and the message of a numbered message.
 fn split(message: Option<(u64, Msg)>) -> (Option<u64>, Option<Msg>)
@@ -20,6 +25,35 @@ fn split(message: Option<(u64, Msg)>) -> (Option<u64>, Option<Msg>)
         None => (None, None),
         Some((number, msg)) => (Some(number), Some(msg)),
     }
+}
+
+// The entry that tells what a turn of these units made. The totals are looked up.
+#[inline(always)]
+fn entry_of(
+    core: &Core,
+    output: Output,
+    site: u32,
+    delivered: Option<u64>,
+    units: Units,
+) -> Result<Turn, AllocError>
+    ensures record { IfOk result (λ e. IsRecordOf e (transition_of core.now output)) }
+    ensures site { IfOk result (λ e. e.site ≡ site) }
+    ensures delivered { IfOk result (λ e. e.delivered ≡ delivered) }
+    ensures units { IfOk result (λ e. e.units ≡ units) }
+{
+    let picks = Picks::from_list(core.alloc, output.picks)?;
+    Ok(Turn {
+        site,
+        delivered,
+        units,
+        picks,
+        sent: output.sent.into_list(),
+        lines: Lines::from_vec(output.lines),
+        idle: core.threads.is_idle(),
+        ended: core.threads.ended() as u64,
+        waiting: core.threads.waiting() as u64,
+        steps: core.steps,
+    })
 }
 
 /// A turn, with the entry that tells it. Its totals are looked up. After want of memory the data are given up.
@@ -36,23 +70,41 @@ pub fn recorded_turn(
     ensures consistent { OnOk result (IsConsistent program.now core.new) }
     ensures sites { OnOk result (core.new.sites ≡ core.old.sites) }
     ensures number { OnOk result ((site_of core.new).records.site ≡ (site_of core.old).records.site) }
-    ensures order { IfOk result (λ e. IsTurnInOrder program.now core.old.sites (site_of core.old) message quantum.0 e (site_of core.new) core.old.threads.order core.new.threads.order) }
+    ensures order { IfOk result (λ e. IsFairTurn e.units core.old.threads.order core.new.threads.order) }
     ensures steps { OnOk result (core.new.steps ≤ core.old.steps + quantum.0) }
 {
     let site = site_in(&core.fresh);
     let (delivered, msg) = split(message);
     let mut output = Output::new(core.alloc);
-    turn(core, &mut output, program, msg, quantum)?;
-    let picks = Picks::from_list(core.alloc, output.picks)?;
-    Ok(Turn {
-        site,
-        delivered,
-        picks,
-        sent: output.sent.into_list(),
-        lines: Lines::from_vec(output.lines),
-        idle: core.threads.is_idle(),
-        ended: core.threads.ended() as u64,
-        waiting: core.threads.waiting() as u64,
-        steps: core.steps,
-    })
+    let mut units = Units::new(core.alloc);
+    turn(core, &mut output, program, msg, quantum, &mut units)?;
+    let entry = entry_of(core, output, site, delivered, units)?;
+    Ok(entry)
+}
+
+/// A turn of units of these threads, with the entry that tells it. Where a thread cannot go on when its unit comes, and after want
+/// of memory, the data are given up.
+pub fn recorded_replay(
+    core: &mut Core,
+    program: &Program,
+    message: Option<(u64, Msg)>,
+    threads: &[ThreadName],
+) -> Result<Turn, Replay>
+    requires consistent { IsConsistent program.now core.old }
+    requires room { core.old.steps ≤ 2 ^ 48 }
+    requires most { length threads.now ≤ 64 }
+    ensures turn { IfOk result (λ e. IsReplayMade program.now core.old.sites (site_of core.old) message threads.now e (site_of core.new)) }
+    ensures stuck { (at : _) → result ≡ Err (NotRunnable at) → IsStuckTurn program.now core.old.sites (site_of core.old) (message_in message) threads.now at }
+    ensures consistent { OnOk result (IsConsistent program.now core.new) }
+    ensures sites { OnOk result (core.new.sites ≡ core.old.sites) }
+    ensures number { OnOk result ((site_of core.new).records.site ≡ (site_of core.old).records.site) }
+    ensures steps { OnOk result (core.new.steps ≤ core.old.steps + length threads.now) }
+{
+    let site = site_in(&core.fresh);
+    let (delivered, msg) = split(message);
+    let mut output = Output::new(core.alloc);
+    replay(core, &mut output, program, msg, threads)?;
+    let units = Units::from_slice(core.alloc, threads)?;
+    let entry = entry_of(core, output, site, delivered, units)?;
+    Ok(entry)
 }

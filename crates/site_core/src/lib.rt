@@ -4,10 +4,10 @@
 //!
 //! It promises, of a site that contracts see as its plain state (`SiteState`): `Site::new` begins as the definitions say
 //! (`initial_site`); `turn` is a full turn of the definitions, and its entry records it (`IsTurnMade`): the message, which
-//! changes nothing where it is not fit, and then as many units as the quantum, fewer only where no thread can go on; threads have
-//! their turns in order, and none is passed by (`IsFairTurn`); each
-//! message that it sends has the first 256 equations known there that are reached from its variables (`bundle_limit`). `idle`
-//! and `steps` tell what they say; the seat is lent and taken back, and stays over a turn. After want of memory the site is
+//! changes nothing where it is not fit, and then as many units as the quantum, fewer only where no thread can go on; each
+//! message that it sends has the first 256 equations known there that are reached from its variables (`bundle_limit`). `replay` makes
+//! a turn of given units, which is the one turn that they make (`TurnComesTo`), or tells the first that cannot be made (`IsStuckTurn`);
+//! both give equal turns (`turns_are_made_again`). `idle` and `steps` tell what they say; the seat is lent and taken back, and stays over a turn. After want of memory the site is
 //! spent: its data are given up, and it makes no turn any more. `threads` shows that a site goes from thread to thread where its
 //! seat may.
 //!
@@ -23,10 +23,14 @@
 mod deliver;
 mod entry;
 mod fit;
+mod laws;
 mod receive;
+mod replay;
 mod site;
 mod start;
 mod threads;
 mod turn;
 
+pub use laws::turns_are_made_again;
 pub use site::Site;
+pub use site_units::Replay;

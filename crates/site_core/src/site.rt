@@ -1,20 +1,23 @@
 //! One site of a program.
 
-ghost use Rattle.std.specs.Prelude.{◌≡◌, ◌≤◌, ◌+◌, ◌^◌, IfOk, OnErr, OnOk, false, true};
+ghost use Rattle.std.specs.Prelude.{◌≡◌, ◌≤◌, ◌+◌, ◌^◌, length, Err, IfOk, OnErr, OnOk, false, true};
 ghost use Rattle.std.specs.Borrow.{sem};
 ghost use Rattle.site_model.specs.Site.{initial_site, is_idle};
 ghost use Rattle.site_units.specs.Core.{site_of};
 ghost use Rattle.site_core.specs.Seat.{LendsSeat};
-ghost use Rattle.site_core.specs.Site.{IsTurnMade, IsTurnInOrder};
+ghost use Rattle.site_core.specs.Site.{IsFairTurn, IsTurnMade, message_in};
+ghost use Rattle.site_core.specs.Replay.{IsReplayMade, IsStuckTurn};
+ghost use Rattle.site_units.specs.declared.replay.Replay.TheVariants.{NotRunnable};
 ghost use Rattle.site_core.specs.Start.{first_order};
 
-use crate::entry::recorded_turn;
+use crate::entry::{recorded_replay, recorded_turn};
 use crate::start::{bare_core, first_core};
 use kernel_syntax::Program;
 use site_message::{Msg, NoSeat, Outside, Quantum, Turn};
-use site_units::{Core, site_in};
+use site_units::{Core, Replay, site_in};
 use std::alloc::{AllocError, Global};
 use std::marker::Model;
+use tree_node::ThreadName;
 
 /// One site of a program, with a seat. A site whose turn ran out of memory is spent: its data are given up and it makes no turn
 /// any more, but its seat can still be lent and taken.
@@ -136,7 +139,7 @@ impl<'a, O: Outside> Site<'a, O> {
         ensures seat { self.new.seat ≡ self.old.seat }
         ensures turn { IfOk result (λ e. IsTurnMade self.old.program self.old.sites self.old.state message quantum.0 e self.new.state) }
         ensures number { self.new.state.records.site ≡ self.old.state.records.site }
-        ensures order { IfOk result (λ e. IsTurnInOrder self.old.program self.old.sites self.old.state message quantum.0 e self.new.state self.old.order self.new.order) }
+        ensures order { IfOk result (λ e. IsFairTurn e.units self.old.order self.new.order) }
         ensures few { OnOk result (self.new.state.steps ≤ self.old.state.steps + quantum.0) }
         ensures live { OnOk result (self.new.spent ≡ false) }
         ensures spent { OnErr result (self.new.spent ≡ true) }
@@ -146,6 +149,45 @@ impl<'a, O: Outside> Site<'a, O> {
         let alloc = self.core.alloc;
         self.spent = true;
         match recorded_turn(&mut self.core, self.program, message, quantum) {
+            Ok(entry) => {
+                self.spent = false;
+                Ok(entry)
+            }
+            Err(error) => {
+                self.core = bare_core(alloc, number, sites);
+                Err(error)
+            }
+        }
+    }
+
+    /// One turn made again: the message, if there is one, with its number, and then a unit of each of these threads, in order.
+    /// `NotRunnable` tells the first place whose thread cannot go on when its unit comes; after it, and after want of memory, the
+    /// site is spent.
+    pub fn replay(
+        &mut self,
+        message: Option<(u64, Msg)>,
+        threads: &[ThreadName],
+    ) -> Result<Turn, Replay>
+        requires outside { O.is_outside self.old.seat }
+        requires live { self.old.spent ≡ false }
+        requires most { length threads.now ≤ 64 }
+        requires room { self.old.state.steps ≤ 2 ^ 48 }
+        ensures program { self.new.program ≡ self.old.program }
+        ensures sites { self.new.sites ≡ self.old.sites }
+        ensures seat { self.new.seat ≡ self.old.seat }
+        ensures turn { IfOk result (λ e. IsReplayMade self.old.program self.old.sites self.old.state message threads.now e self.new.state) }
+        ensures as_many { IfOk result (λ e. IsTurnMade self.old.program self.old.sites self.old.state message (length threads.now) e self.new.state) }
+        ensures stuck { (at : _) → result ≡ Err (NotRunnable at) → IsStuckTurn self.old.program self.old.sites self.old.state (message_in message) threads.now at }
+        ensures number { self.new.state.records.site ≡ self.old.state.records.site }
+        ensures few { OnOk result (self.new.state.steps ≤ self.old.state.steps + length threads.now) }
+        ensures live { OnOk result (self.new.spent ≡ false) }
+        ensures spent { OnErr result (self.new.spent ≡ true) }
+    {
+        let number = site_in(&self.core.fresh);
+        let sites = self.core.sites;
+        let alloc = self.core.alloc;
+        self.spent = true;
+        match recorded_replay(&mut self.core, self.program, message, threads) {
             Ok(entry) => {
                 self.spent = false;
                 Ok(entry)

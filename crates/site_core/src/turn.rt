@@ -2,15 +2,16 @@
 
 ghost use Rattle.std.specs.Prelude.{◌+◌, ◌≤◌, ◌^◌, OnOk};
 ghost use Rattle.site_units.specs.Invariant.{IsConsistent};
-ghost use Rattle.site_core.specs.Turns.{IsFullTurnMade};
+ghost use Rattle.site_core.specs.Turns.{IsToldTurnMade};
 
 use crate::receive::receive;
 use kernel_syntax::Program;
-use site_message::{Msg, Quantum};
+use site_message::{Msg, Quantum, Units};
 use site_units::{Core, Output, units};
 use std::alloc::AllocError;
 
-/// A turn: the message, if there is one, and then as many units as the quantum, fewer only where no thread can go on. After
+/// A turn: the message, if there is one, and then as many units as the quantum, fewer only where no thread can go on. Their
+/// threads are told behind `told`. After
 /// want of memory the data are given up.
 pub fn turn(
     core: &mut Core,
@@ -18,18 +19,19 @@ pub fn turn(
     program: &Program,
     message: Option<Msg>,
     quantum: Quantum,
+    told: &mut Units,
 ) -> Result<(), AllocError>
     requires consistent { IsConsistent program.now core.old }
     requires room { core.old.steps ≤ 2 ^ 48 }
     requires most { quantum.0 ≤ 64 }
-    ensures turn { OnOk result (IsFullTurnMade program.now quantum.0 message core.old output.old core.new output.new) }
+    ensures turn { OnOk result (IsToldTurnMade program.now quantum.0 told.old told.new message core.old output.old core.new output.new) }
     ensures steps { OnOk result (core.new.steps ≤ core.old.steps + quantum.0) }
 {
     match message {
-        None => units(core, output, program, quantum.0),
+        None => units(core, output, program, quantum.0, told),
         Some(msg) => {
             receive(core, output, program, msg)?;
-            units(core, output, program, quantum.0)
+            units(core, output, program, quantum.0, told)
         }
     }
 }

@@ -66,6 +66,7 @@ abbrev pub first_turn : Turn
 first_turn = record {
   site = 1;
   delivered = None;
+  units = [];
   picks = [];
   sent = spawned ∷ [];
   lines = [];
@@ -80,6 +81,7 @@ abbrev pub second_turn : Turn
 second_turn = record {
   site = 2;
   delivered = Some 0;
+  units = [];
   picks = [];
   sent = [];
   lines = [];

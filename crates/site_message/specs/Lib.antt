@@ -1,5 +1,6 @@
 pub mod SharedSeq
 pub mod Schedule
+pub mod Units
 pub mod Journal
 pub mod EarlierEnd
 pub mod Wire

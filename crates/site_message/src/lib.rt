@@ -29,6 +29,7 @@ mod shared_seq;
 mod story;
 mod threads;
 mod turn;
+mod units;
 mod wire;
 
 pub use copy::{copy_msg, copy_sent};
@@ -44,4 +45,5 @@ pub use schedule::Schedule;
 pub use shared_seq::SharedSeq;
 pub use story::{NoSeat, Outside, Sight, Story};
 pub use turn::{Journal, Lines, Quantum, Turn};
+pub use units::Units;
 pub use wire::wire_fits;

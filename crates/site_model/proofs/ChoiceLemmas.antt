@@ -28,7 +28,7 @@ use Rattle.site_model.specs.Cells.{request_row}
 use Rattle.site_model.specs.Unit.{with_waiting_any, IsTokenHere, IsStepOrRequest, IsRootBind, IsBindUnit, IsUnitFor, IsUnit}
 use Rattle.site_message.specs.declared.message.Msg.{Msg}
 use Rattle.site_model.specs.Fit.{IsFit}
-use Rattle.site_model.specs.Turn.{AreUnits, IsReception, SiteTurn}
+use Rattle.site_model.specs.Turn.{AreUnits, IsReception, SiteTurnOf}
 use Rattle.site_model.specs.Choice.{reception_of, next_turn, open_list, nobody, is_missing, to_lesser, bind_between, root_bind, is_free, leads_down, is_here, step_or_request, unit_for, unit_from, next_unit, next_units, is_possible, can_go_from, can_go, can_all_go}
 use Rattle.tree_node.proofs.SoundLemmas.{root_root}
 use Rattle.std.proofs.lemmas.Bool.{and_parts}
@@ -143,6 +143,6 @@ heard_is p n limit None s h = refl
 heard_is p n limit (Some m) s h = inl (h, refl)
 
 pub turn_is : (p : List Stmt) (n limit : ℕ) (ths : List ThreadName) (m : Option Msg) (s : Site) → length ths ≤ 64 → CanHear p n m s →
-    can_all_go p n limit ths (reception_of p limit m s).site ≡ true → SiteTurn p n limit s m (next_turn p n limit ths m s)
+    can_all_go p n limit ths (reception_of p limit m s).site ≡ true → SiteTurnOf p n limit ths s m (next_turn p n limit ths m s)
 turn_is p n limit ths m s few fit can =
-    (ths, few, (reception_of p limit m s, next_units p n limit ths (reception_of p limit m s).site, heard_is p n limit m s fit, units_are p n limit ths (reception_of p limit m s).site can, refl))
+    (few, (reception_of p limit m s, next_units p n limit ths (reception_of p limit m s).site, heard_is p n limit m s fit, units_are p n limit ths (reception_of p limit m s).site can, refl))

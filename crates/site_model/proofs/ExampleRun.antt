@@ -224,7 +224,7 @@ mail_once w i (Some k) e d s (m, t, to) l q =
 first_goes : (w : Story) (k : Option ℕ) (u : ℕ) → length (times u example.first) ≤ 64 → IsMail w 1 k → CanHear program 2 (delivered_message w.journal k) w.first →
     can_all_go program 2 0 (times u example.first) (reception_of program 0 (delivered_message w.journal k) w.first).site ≡ true → Goes w → Goes (first_turn w k u)
 first_goes w k u few mail hear can g = record {
-  wired = (g.wired, mail_once w 1 k (example.entry 1 k (next_turn program 2 0 (times u example.first) (delivered_message w.journal k) w.first)) refl refl mail);
+  wired = (g.wired, mail_once w 1 k (example.entry 1 k (times u example.first) (next_turn program 2 0 (times u example.first) (delivered_message w.journal k) w.first)) refl refl mail);
   inside = ((le _ _ refl, le _ _ refl), g.inside);
   one = (
     w.first,
@@ -244,7 +244,7 @@ first_goes w k u few mail hear can g = record {
 second_goes : (w : Story) (k : Option ℕ) (u : ℕ) → length (times u example.second) ≤ 64 → IsMail w 2 k → CanHear program 2 (delivered_message w.journal k) w.second →
     can_all_go program 2 0 (times u example.second) (reception_of program 0 (delivered_message w.journal k) w.second).site ≡ true → Goes w → Goes (second_turn w k u)
 second_goes w k u few mail hear can g = record {
-  wired = (g.wired, mail_once w 2 k (example.entry 2 k (next_turn program 2 0 (times u example.second) (delivered_message w.journal k) w.second)) refl refl mail);
+  wired = (g.wired, mail_once w 2 k (example.entry 2 k (times u example.second) (next_turn program 2 0 (times u example.second) (delivered_message w.journal k) w.second)) refl refl mail);
   inside = ((le _ _ refl, le _ _ refl), g.inside);
   one = g.one;
   two = (

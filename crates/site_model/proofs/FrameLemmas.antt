@@ -3,6 +3,7 @@ use Rattle.std.proofs.Common.{arith, ◌≡◌, ◌∙◌, refl, ℕ, ◌≤◌,
 use Rattle.std.specs.Prelude.{Option, ◌==◌}
 use Rattle.tree_node.specs.declared.names.VarName.{VarName}
 use Rattle.tree_node.specs.declared.names.CellName.{CellName}
+use Rattle.tree_node.specs.declared.names.ThreadName.{ThreadName}
 use Rattle.tree_node.specs.declared.node.Term.{Term}
 use Rattle.tree_node.specs.Store.{Equation}
 use Rattle.kernel_syntax.specs.declared.stmt.Stmt.{Stmt}
@@ -16,7 +17,7 @@ use Rattle.oz_model.specs.Effect.{CellChange, Stays, Made, Exchanged}
 use Rattle.site_model.specs.Site.{Site}
 use Rattle.site_model.specs.Cells.{with_own_request, with_last_asker}
 use Rattle.site_model.specs.Transition.{Transition}
-use Rattle.site_model.specs.Turn.{IsFullTurn, SiteTurn}
+use Rattle.site_model.specs.Turn.{IsFullTurnOf, SiteTurnOf}
 use Rattle.site_model.specs.Unit.{after_cell}
 use Rattle.site_model.specs.Variables.{after_makes, with_known_equation, with_known_equation_as, with_known_equations, own_binds}
 
@@ -75,5 +76,5 @@ makes_site b (x ∷ xs) = makes_site (after_make b x) xs
 -- ---- turns
 
 -- a turn of as many units as a quantum has, or until nothing is left to do, is a turn
-pub few_units : (p : List Stmt) (n limit quantum : ℕ) (s : Site) (m : Option Msg) (d : Transition) → quantum ≤ 64 → IsFullTurn p n limit quantum s m d → SiteTurn p n limit s m d
-few_units p n limit quantum s m d few (ths, turn, most, idle) = (ths, omega (arith, few, most), turn)
+pub few_units : (p : List Stmt) (n limit quantum : ℕ) (ths : List ThreadName) (s : Site) (m : Option Msg) (d : Transition) → quantum ≤ 64 → IsFullTurnOf p n limit quantum ths s m d → SiteTurnOf p n limit ths s m d
+few_units p n limit quantum ths s m d few (turn, most, idle) = (omega (arith, few, most), turn)

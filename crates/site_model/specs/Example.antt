@@ -47,11 +47,12 @@ pub record Story : Type 0 where
   pub first : Site
   pub second : Site
 
--- the entry of a turn of site i that delivered message k, if any
-abbrev pub entry : ℕ → Option ℕ → Transition → Turn
-entry i k d = record {
+-- the entry of a turn of site i that delivered message k, if any, and of these units
+abbrev pub entry : ℕ → Option ℕ → List ThreadName → Transition → Turn
+entry i k ths d = record {
   site = i;
   delivered = k;
+  units = ths;
   picks = d.picks;
   sent = d.sent;
   lines = d.lines;
@@ -61,21 +62,21 @@ entry i k d = record {
   steps = d.site.steps;
 }
 
--- site 1 makes this turn
-abbrev pub first_does : Story → Option ℕ → Transition → Story
-first_does w k d = record { journal = entry 1 k d ∷ w.journal; first = d.site; second = w.second }
+-- site 1 makes this turn of these units
+abbrev pub first_does : Story → Option ℕ → List ThreadName → Transition → Story
+first_does w k ths d = record { journal = entry 1 k ths d ∷ w.journal; first = d.site; second = w.second }
 
--- site 2 makes this turn
-abbrev pub second_does : Story → Option ℕ → Transition → Story
-second_does w k d = record { journal = entry 2 k d ∷ w.journal; first = w.first; second = d.site }
+-- site 2 makes this turn of these units
+abbrev pub second_does : Story → Option ℕ → List ThreadName → Transition → Story
+second_does w k ths d = record { journal = entry 2 k ths d ∷ w.journal; first = w.first; second = d.site }
 
 -- a turn of so many units of its thread
 abbrev pub first_turn : Story → Option ℕ → ℕ → Story
-first_turn w k u = first_does w k (next_turn program 2 0 (times u first) (delivered_message w.journal k) w.first)
+first_turn w k u = first_does w k (times u first) (next_turn program 2 0 (times u first) (delivered_message w.journal k) w.first)
 
 -- the same at site 2
 abbrev pub second_turn : Story → Option ℕ → ℕ → Story
-second_turn w k u = second_does w k (next_turn program 2 0 (times u second) (delivered_message w.journal k) w.second)
+second_turn w k u = second_does w k (times u second) (next_turn program 2 0 (times u second) (delivered_message w.journal k) w.second)
 
 -- the two sites at the start
 abbrev pub first_story : Story

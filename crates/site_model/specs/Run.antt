@@ -8,7 +8,7 @@ use Rattle.site_message.specs.declared.turn.Turn.{Turn}
 use Rattle.site_message.specs.Journal.{Wired, sent_of}
 use Rattle.site_model.specs.Site.{Site, initial_site, is_idle, waiting_count}
 use Rattle.site_model.specs.Transition.{Transition}
-use Rattle.site_model.specs.Turn.{SiteTurn}
+use Rattle.site_model.specs.Turn.{SiteTurnOf}
 
 -- what was sent, without its receiver
 abbrev pub message_of : Option Sent → Option Msg
@@ -30,10 +30,10 @@ pub record IsRecordOf (e : Turn) (d : Transition) : Type 0 where
   pub waiting : e.waiting ≡ waiting_count d.site
   pub steps : e.steps ≡ d.site.steps
 
--- the entry is a turn of the site from its state before to this one
+-- the entry is a turn of the site, of the units that it tells, from the state before to this one
 abbrev pub IsEntry : List Stmt → ℕ → ℕ → List Turn → Turn → Site → Site → Type 0
 IsEntry p n limit j e old s =
-    (d : Transition) × SiteTurn p n limit old (delivered_message j e.delivered) d × IsRecordOf e d × (s ≡ d.site)
+    (d : Transition) × SiteTurnOf p n limit e.units old (delivered_message j e.delivered) d × IsRecordOf e d × (s ≡ d.site)
 
 -- an own entry leads from an earlier state to this one, and an entry of another site changes nothing
 abbrev pub IsReachedBy : Bool → (Site → Type 0) → (Site → Site → Type 0) → Site → Type 0

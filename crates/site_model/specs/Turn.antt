@@ -1,5 +1,6 @@
 -- Turns of a site: at most one message, then units.
 use Rattle.std.specs.Prelude.{◌≡◌, ℕ, ◌<◌, ◌≤◌, List, [], ◌∷◌, ◌⊎◌, length, true, Option, Some, None}
+use Rattle.tree_node.specs.declared.limits.TheConstants.{MOST_UNITS}
 use Rattle.tree_node.specs.declared.names.ThreadName.{ThreadName}
 use Rattle.kernel_syntax.specs.declared.stmt.Stmt.{Stmt}
 use Rattle.site_message.specs.declared.message.Msg.{Msg}
@@ -26,11 +27,20 @@ abbrev pub IsTurnOf : List Stmt → ℕ → ℕ → List ThreadName → Site →
 IsTurnOf p n limit ths s m d =
     (heard rest : Transition) × IsReception p n limit m s heard × AreUnits p n limit ths heard.site rest × (d ≡ sequence heard rest)
 
--- at most 64 units
-abbrev pub SiteTurn : List Stmt → ℕ → ℕ → Site → Option Msg → Transition → Type 0
-SiteTurn p n limit s m d = (ths : List ThreadName) × (length ths ≤ 64) × IsTurnOf p n limit ths s m d
+-- of these units, which are at most 64
+abbrev pub SiteTurnOf : List Stmt → ℕ → ℕ → List ThreadName → Site → Option Msg → Transition → Type 0
+SiteTurnOf p n limit ths s m d = (length ths ≤ 64) × IsTurnOf p n limit ths s m d
 
--- a turn of as many units as the quantum, fewer only where the site is then idle
+-- of some at most 64 units
+abbrev pub SiteTurn : List Stmt → ℕ → ℕ → Site → Option Msg → Transition → Type 0
+SiteTurn p n limit s m d = (ths : List ThreadName) × (length ths ≤ MOST_UNITS) × IsTurnOf p n limit ths s m d
+
+-- a turn of these units, which are as many as the quantum, fewer only where the site is then idle
+abbrev pub IsFullTurnOf : List Stmt → ℕ → ℕ → ℕ → List ThreadName → Site → Option Msg → Transition → Type 0
+IsFullTurnOf p n limit quantum ths s m d =
+    IsTurnOf p n limit ths s m d × (length ths ≤ quantum) × (length ths < quantum → is_idle d.site ≡ true)
+
+-- the same of some units
 abbrev pub IsFullTurn : List Stmt → ℕ → ℕ → ℕ → Site → Option Msg → Transition → Type 0
 IsFullTurn p n limit quantum s m d =
     (ths : List ThreadName) × IsTurnOf p n limit ths s m d × (length ths ≤ quantum) × (length ths < quantum → is_idle d.site ≡ true)

@@ -22,3 +22,5 @@ pub mod OpenLemmas
 pub mod ServeLemmas
 pub mod PutLemmas
 pub mod PackLemmas
+pub mod OneUnitLemmas
+pub mod ReplayLemmas

@@ -1,5 +1,5 @@
 -- Units in a row, and turns.
-use Rattle.std.proofs.Common.{arith, ◌≡◌, ◌∙◌, sym, ap, refl, subst, ℕ, suc, length, filter, List, [], ◌∷◌, ◌++◌, Bool, true, false, cond, Some, None}
+use Rattle.std.proofs.Common.{add-one, arith, ◌≡◌, ◌∙◌, sym, ap, refl, subst, ℕ, zero, suc, length, filter, List, [], ◌∷◌, ◌++◌, Bool, true, false, cond, Some, None}
 use Rattle.std.specs.Prelude.{Option, ◌+◌, ◌≤◌, ◌<◌}
 use Rattle.tree_node.specs.declared.names.ThreadName.{ThreadName}
 use Rattle.tree_node.specs.declared.pick.Pick.{Pick}
@@ -22,7 +22,10 @@ use Rattle.site_units.specs.Core.{site_of, stack_in}
 use Rattle.site_units.specs.Invariant.{IsConsistent}
 use Rattle.site_units.specs.Order.{IsTurnOf, AreTurnsOf, last_of, passed_on}
 use Rattle.site_units.specs.Units.{IsTransitionMade, IsUnitPacked}
-use Rattle.site_units.specs.Turns.{AreUnitsMade}
+use Rattle.site_units.specs.declared.turn.LastUnits.{LastUnits}
+use Rattle.site_units.specs.LastUnits.{thread_of_some, thread_in, threads_of}
+use Rattle.site_message.specs.Units.{in_a_row}
+use Rattle.site_units.specs.Turns.{AreUnitsMade, AreToldUnitsMade}
 use Rattle.site_units.proofs.SiteLemmas.{nil_right, joined}
 use Rattle.site_units.proofs.OrderLemmas.{turns_more, last_end, none_passed}
 use Rattle.std.proofs.lemmas.Bool.{eq-eqb}
@@ -35,7 +38,7 @@ sequence_joined a b c = rw (joined a.picks b.picks c.picks, joined a.sent b.sent
 sequence_nothing : (d : Transition) → d ≡ sequence d (without_output d.site)
 sequence_nothing d = rw (nil_right d.picks, nil_right d.sent, nil_right d.lines) refl
 
-units_more : (p : List Stmt) (n limit : ℕ) (ths : List ThreadName) (th : ThreadName) (s : Site) (d one : Transition) → AreUnits p n limit ths s d → IsUnit p n limit th d.site one → AreUnits p n limit (ths ++ th ∷ []) s (sequence d one)
+pub units_more : (p : List Stmt) (n limit : ℕ) (ths : List ThreadName) (th : ThreadName) (s : Site) (d one : Transition) → AreUnits p n limit ths s d → IsUnit p n limit th d.site one → AreUnits p n limit (ths ++ th ∷ []) s (sequence d one)
 units_more p n limit [] th s d one e u =
     let here : IsUnit p n limit th s one = subst (λ (z : Transition). IsUnit p n limit th z.site one) e u in
     (one, without_output one.site, here, refl, ap (λ (z : Transition). sequence z one) e ∙ sequence_nothing one)
@@ -76,23 +79,23 @@ pub record UnitsSoFar (p : List Stmt) (count : ℕ) (last : Option ThreadName) (
   pub ends : last_of ths ≡ last
   pub steps : c1.steps ≤ c0.steps + count
 
-pub no_units : (p : List Stmt) (c : Core) (o : Output) → IsConsistent p c → UnitsSoFar p 0 None c o c o
+no_units : (p : List Stmt) (c : Core) (o : Output) → IsConsistent p c → UnitsSoFar p 0 None c o c o
 no_units p c o h = record { ths = []; d = without_output (site_of c); units = refl; reached = reached_nothing p c o h; as_many = refl; turns = refl; ends = refl; steps = omega arith }
 
 length_end : {X : Type 0} (xs : List X) (x : X) → length (xs ++ x ∷ []) ≡ suc (length xs)
 length_end [] x = refl
 length_end (y ∷ xs) x = ap suc (length_end xs x)
 
-pub one_more : (p : List Stmt) (count : ℕ) (last : Option ThreadName) (c0 c1 c2 : Core) (o0 o1 o2 : Output) (th : ThreadName) → UnitsSoFar p count last c0 o0 c1 o1 → IsUnitPacked p th c1 o1 c2 o2 → IsTurnOf th c1.threads.order c2.threads.order → c2.steps ≤ c1.steps + 1 →
-    UnitsSoFar p (count + 1) (Some th) c0 o0 c2 o2
-one_more p count last c0 c1 c2 o0 o1 o2 th h (one, unit, reached) turn more = record {
+one_more : (p : List Stmt) (count : ℕ) (last next : Option ThreadName) (c0 c1 c2 : Core) (o0 o1 o2 : Output) (th : ThreadName) → UnitsSoFar p count last c0 o0 c1 o1 → IsUnitPacked p th c1 o1 c2 o2 → IsTurnOf th c1.threads.order c2.threads.order → c2.steps ≤ c1.steps + 1 →
+    next ≡ Some th → UnitsSoFar p (count + 1) next c0 o0 c2 o2
+one_more p count last next c0 c1 c2 o0 o1 o2 th h (one, unit, reached) turn more is = record {
   ths = h.ths ++ th ∷ [];
   d = sequence h.d one;
   units = units_more p c0.sites bundle_limit h.ths th (site_of c0) h.d one h.units here;
   reached = reached_more p h.d one c0 c1 c2 o0 o1 o2 h.reached reached;
   as_many = let e : length (h.ths ++ th ∷ []) ≡ suc (length h.ths) = length_end h.ths th in let f : length h.ths ≡ count = h.as_many in omega arith;
   turns = turns_more h.ths th c0.threads.order c1.threads.order c2.threads.order h.turns turn;
-  ends = last_end h.ths th;
+  ends = last_end h.ths th ∙ sym is;
   steps = let f : c1.steps ≤ c0.steps + count = h.steps in omega arith;
 }
   where
@@ -118,7 +121,7 @@ all_idle c h =
 
 -- ---- the end of a turn
 
-consistent_turned : (p : List Stmt) (c : Core) (ns : List ThreadName) → IsConsistent p c → IsConsistent p (record c { threads = record c.threads { order = ns } })
+pub consistent_turned : (p : List Stmt) (c : Core) (ns : List ThreadName) → IsConsistent p c → IsConsistent p (record c { threads = record c.threads { order = ns } })
 consistent_turned p c ns h = record {
   linked = h.linked;
   threads = h.threads;
@@ -135,10 +138,9 @@ consistent_turned p c ns h = record {
 }
 
 -- units in a row, in an order in which the thread of the last one is passed on
-units_end : (p : List Stmt) (quantum count : ℕ) (last : Option ThreadName) (c0 c1 : Core) (o0 o1 : Output) (ns : List ThreadName) → UnitsSoFar p count last c0 o0 c1 o1 → count ≤ quantum → (count < quantum → AllWait c1.threads.living) → ns ≡ passed_on last c1.threads.order →
-    AreUnitsMade p quantum c0 o0 (record c1 { threads = record c1.threads { order = ns } }) o1
+units_end : (p : List Stmt) (quantum count : ℕ) (last : Option ThreadName) (c0 c1 : Core) (o0 o1 : Output) (ns : List ThreadName) (h : UnitsSoFar p count last c0 o0 c1 o1) → count ≤ quantum → (count < quantum → AllWait c1.threads.living) → ns ≡ passed_on last c1.threads.order →
+    AreUnitsMade p quantum h.ths c0 o0 (record c1 { threads = record c1.threads { order = ns } }) o1
 units_end p quantum count last c0 c1 o0 o1 ns h most idle passed = (
-  h.ths,
   h.d,
   h.units,
   record {
@@ -155,12 +157,91 @@ units_end p quantum count last c0 c1 o0 o1 ns h most idle passed = (
 )
 
 -- nothing was done, since no thread can go on
-pub units_stop : (p : List Stmt) (quantum count : ℕ) (last : Option ThreadName) (c0 c1 c2 : Core) (o0 o1 o2 : Output) → UnitsSoFar p count last c0 o0 c1 o1 → c2 ≡ c1 → o2 ≡ o1 → count ≤ quantum → AllWait c1.threads.living → c1.threads.order ≡ [] → AreUnitsMade p quantum c0 o0 c2 o2
+units_stop : (p : List Stmt) (quantum count : ℕ) (last : Option ThreadName) (c0 c1 c2 : Core) (o0 o1 o2 : Output) (h : UnitsSoFar p count last c0 o0 c1 o1) → c2 ≡ c1 → o2 ≡ o1 → count ≤ quantum → AllWait c1.threads.living → c1.threads.order ≡ [] → AreUnitsMade p quantum h.ths c0 o0 c2 o2
 units_stop p quantum count last c0 c1 c2 o0 o1 o2 h same silent most idle none =
-    subst (λ (c : Core). AreUnitsMade p quantum c0 o0 c o2) (sym same)
-    (subst (λ (o : Output). AreUnitsMade p quantum c0 o0 c1 o) (sym silent) (units_end p quantum count last c0 c1 o0 o1 c1.threads.order h most (λ less. idle) (none_passed last c1.threads.order none)))
+    subst (λ (c : Core). AreUnitsMade p quantum h.ths c0 o0 c o2) (sym same)
+    (subst (λ (o : Output). AreUnitsMade p quantum h.ths c0 o0 c1 o) (sym silent) (units_end p quantum count last c0 c1 o0 o1 c1.threads.order h most (λ less. idle) (none_passed last c1.threads.order none)))
 
-pub turned_on : (p : List Stmt) (quantum count : ℕ) (last : Option ThreadName) (c0 c1 c2 : Core) (o0 o1 : Output) → UnitsSoFar p count last c0 o0 c1 o1 → count ≤ quantum → (count < quantum → AllWait c1.threads.living) → (ns : List ThreadName) × (c2 ≡ record c1 { threads = record c1.threads { order = ns } }) →
-    c2.threads.order ≡ passed_on last c1.threads.order → AreUnitsMade p quantum c0 o0 c2 o1
+turned_on : (p : List Stmt) (quantum count : ℕ) (last : Option ThreadName) (c0 c1 c2 : Core) (o0 o1 : Output) (h : UnitsSoFar p count last c0 o0 c1 o1) → count ≤ quantum → (count < quantum → AllWait c1.threads.living) → (ns : List ThreadName) × (c2 ≡ record c1 { threads = record c1.threads { order = ns } }) →
+    c2.threads.order ≡ passed_on last c1.threads.order → AreUnitsMade p quantum h.ths c0 o0 c2 o1
 turned_on p quantum count last c0 c1 c2 o0 o1 h most idle (ns, e) passed =
-    subst (λ (c : Core). AreUnitsMade p quantum c0 o0 c o1) (sym e) (units_end p quantum count last c0 c1 o0 o1 ns h most idle (ap (λ (c : Core). c.threads.order) (sym e) ∙ passed))
+    subst (λ (c : Core). AreUnitsMade p quantum h.ths c0 o0 c o1) (sym e) (units_end p quantum count last c0 c1 o0 o1 ns h most idle (ap (λ (c : Core). c.threads.order) (sym e) ∙ passed))
+
+-- ---- units that are counted in a row
+
+row_next : (n : ℕ) (th : ThreadName) → in_a_row (suc n) th ≡ in_a_row n th ++ th ∷ []
+row_next zero th = refl
+row_next (suc n) th = ap (λ (z : List ThreadName). th ∷ z) (row_next n th)
+
+row_more : (n : ℕ) (th : ThreadName) → in_a_row (n + 1) th ≡ in_a_row n th ++ th ∷ []
+row_more n th = ap (λ (k : ℕ). in_a_row k th) (add-one n) ∙ row_next n th
+
+-- the thread that made them
+pub no_thread : (last : LastUnits) → last.count ≡ 0 → thread_in last ≡ None
+no_thread last none = ap (λ (n : ℕ). thread_of_some n last.thread) none
+
+pub of_some : (n : ℕ) (th : ThreadName) → 0 < n → thread_of_some n th ≡ Some th
+of_some zero th some = absurd (omega arith)
+of_some (suc n) th some = refl
+
+pub their_thread : (last : LastUnits) → 0 < last.count → thread_in last ≡ Some last.thread
+their_thread last some = of_some last.count last.thread some
+
+-- one more of the same thread
+pub counted_on : (t : List ThreadName) (old new : LastUnits) (th : ThreadName) → old.thread ≡ th → new.thread ≡ old.thread → new.count ≡ old.count + 1 → t ++ threads_of new ≡ (t ++ threads_of old) ++ th ∷ []
+counted_on t old new th is same more =
+    ap (λ (m : ThreadName). t ++ in_a_row new.count m) (same ∙ is)
+    ∙ (ap (λ (n : ℕ). t ++ in_a_row n th) more
+    ∙ (ap (λ (us : List ThreadName). t ++ us) (row_more old.count th)
+    ∙ (sym (joined t (in_a_row old.count th) (th ∷ []))
+    ∙ ap (λ (m : ThreadName). (t ++ in_a_row old.count m) ++ th ∷ []) (sym is))))
+
+-- the first one of another thread, behind those before
+pub begun : (t u : List ThreadName) (old new : LastUnits) (th : ThreadName) → u ≡ t ++ threads_of old → new.thread ≡ th → new.count ≡ 1 → u ++ threads_of new ≡ (t ++ threads_of old) ++ th ∷ []
+begun t u old new th e is one =
+    ap (λ (us : List ThreadName). us ++ threads_of new) e
+    ∙ (ap (λ (m : ThreadName). (t ++ threads_of old) ++ in_a_row new.count m) is
+    ∙ ap (λ (n : ℕ). (t ++ threads_of old) ++ in_a_row n th) one)
+
+-- none is told
+pub told_none : (t : List ThreadName) (last : LastUnits) → last.count ≡ 0 → t ≡ t ++ threads_of last
+told_none t last none = sym (nil_right t) ∙ ap (λ (n : ℕ). t ++ in_a_row n last.thread) (sym none)
+
+no_names : (ths : List ThreadName) → length ths ≡ 0 → ths ≡ []
+no_names [] none = refl
+no_names (th ∷ ths) none = absurd (omega arith)
+
+-- ---- the threads that were told
+
+-- so many units so far, whose threads are told behind others, but for the last ones
+pub record ToldSoFar (p : List Stmt) (count : ℕ) (last : LastUnits) (t0 t1 : List ThreadName) (c0 : Core) (o0 : Output) (c1 : Core) (o1 : Output) : Type 0 where
+  pub made : UnitsSoFar p count (thread_in last) c0 o0 c1 o1
+  pub told : t1 ++ threads_of last ≡ t0 ++ made.ths
+  pub few : last.count ≤ count
+
+pub none_told : (p : List Stmt) (last : LastUnits) (t : List ThreadName) (c : Core) (o : Output) → last.count ≡ 0 → IsConsistent p c → ToldSoFar p 0 last t t c o c o
+none_told p last t c o none h =
+    let units : UnitsSoFar p 0 (thread_in last) c o c o = subst (λ (by : Option ThreadName). UnitsSoFar p 0 by c o c o) (sym (no_thread last none)) (no_units p c o h) in record {
+      made = units;
+      told = sym (told_none t last none) ∙ sym (nil_right t) ∙ ap (λ (us : List ThreadName). t ++ us) (sym (no_names units.ths units.as_many));
+      few = omega (arith, none);
+    }
+
+pub one_told : (p : List Stmt) (count : ℕ) (last next : LastUnits) (t0 t1 t2 : List ThreadName) (c0 c1 c2 : Core) (o0 o1 o2 : Output) (th : ThreadName) → ToldSoFar p count last t0 t1 c0 o0 c1 o1 → IsUnitPacked p th c1 o1 c2 o2 →
+    IsTurnOf th c1.threads.order c2.threads.order → c2.steps ≤ c1.steps + 1 → thread_in next ≡ Some th → next.count ≤ last.count + 1 → t2 ++ threads_of next ≡ (t1 ++ threads_of last) ++ th ∷ [] → ToldSoFar p (count + 1) next t0 t2 c0 o0 c2 o2
+unfolding one_more
+one_told p count last next t0 t1 t2 c0 c1 c2 o0 o1 o2 th h unit turn more is most told = record {
+  made = one_more p count (thread_in last) (thread_in next) c0 c1 c2 o0 o1 o2 th h.made unit turn more is;
+  told = told ∙ (ap (λ (ths : List ThreadName). ths ++ th ∷ []) h.told ∙ joined t0 h.made.ths (th ∷ []));
+  few = let f : last.count ≤ count = h.few in omega arith;
+}
+
+-- nothing was done, since no thread can go on
+pub told_stop : (p : List Stmt) (quantum count : ℕ) (last : LastUnits) (t0 t1 t2 : List ThreadName) (c0 c1 c2 : Core) (o0 o1 o2 : Output) → ToldSoFar p count last t0 t1 c0 o0 c1 o1 → t2 ≡ t1 ++ threads_of last → c2 ≡ c1 → o2 ≡ o1 → count ≤ quantum →
+    AllWait c1.threads.living → c1.threads.order ≡ [] → AreToldUnitsMade p quantum t0 t2 c0 o0 c2 o2
+told_stop p quantum count last t0 t1 t2 c0 c1 c2 o0 o1 o2 h told same silent most idle none = (h.made.ths, told ∙ h.told, units_stop p quantum count (thread_in last) c0 c1 c2 o0 o1 o2 h.made same silent most idle none)
+
+-- the thread of the last one is passed on
+pub told_end : (p : List Stmt) (quantum count : ℕ) (last : LastUnits) (t0 t1 t2 : List ThreadName) (c0 c1 c2 : Core) (o0 o1 : Output) → ToldSoFar p count last t0 t1 c0 o0 c1 o1 → t2 ≡ t1 ++ threads_of last → count ≤ quantum → (count < quantum → AllWait c1.threads.living) →
+    (ns : List ThreadName) × (c2 ≡ record c1 { threads = record c1.threads { order = ns } }) → c2.threads.order ≡ passed_on (thread_in last) c1.threads.order → AreToldUnitsMade p quantum t0 t2 c0 o0 c2 o1
+told_end p quantum count last t0 t1 t2 c0 c1 c2 o0 o1 h told most idle turned passed = (h.made.ths, told ∙ h.told, turned_on p quantum count (thread_in last) c0 c1 c2 o0 o1 h.made most idle turned passed)

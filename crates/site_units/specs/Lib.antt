@@ -4,3 +4,5 @@ pub mod Units
 pub mod Order
 pub mod Turns
 pub mod Serving
+pub mod Replay
+pub mod LastUnits

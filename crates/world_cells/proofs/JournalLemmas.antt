@@ -121,7 +121,7 @@ module _ (p : List Stmt) (n limit : ℕ) where
                   (subst (λ (ks : List Pick). Paid p n (after_transition (after_receipt (Some k) (after_transition w i heard)) i rest) ks (sent_of j ++ (heard.sent ++ rest.sent))) (append_assoc (schedule j) heard.picks rest.picks) (subst (λ (ms : List Sent). Paid p n (after_transition (after_receipt (Some k) (after_transition w i heard)) i rest) ((schedule j ++ heard.picks) ++ rest.picks) ms) (append_assoc (sent_of j) heard.sent rest.sent) got))))
 
       go : IsEntry p n limit j e old (f i) → Paid p n (world_of (e ∷ j) f) (schedule j ++ e.picks) (sent_of j ++ e.sent)
-      go (d, turn, tells, is) = finish d tells is (turn_of e.delivered refl d turn)
+      go (d, turn, tells, is) = finish d tells is (turn_of e.delivered refl d (e.units, turn.0, turn.1))
 
   -- whatever the order of turns and deliveries
   pub journal_paid : (j : List Turn) (f : Sites) → Wired j → Each (IsSiteIn n) j → ((i : ℕ) → SiteFitRun p n limit i j (f i)) → Paid p n (world_of j f) (schedule j) (sent_of j)

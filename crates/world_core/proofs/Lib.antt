@@ -3,3 +3,4 @@ pub mod QuietLemmas
 pub mod TravelLemmas
 pub mod TurnLemmas
 pub mod WorldLemmas
+pub mod ReplayLemmas

@@ -13,7 +13,7 @@ use Rattle.site_message.specs.Journal.{DeliversOnce, IsTravelling, sent_of, was_
 use Rattle.site_model.specs.Bundle.{bundle_limit}
 use Rattle.site_model.specs.Site.{Site, initial_site}
 use Rattle.site_model.specs.Run.{WorldRun, delivered_message, message_of}
-use Rattle.site_model.specs.Turn.{IsFullTurn}
+use Rattle.site_model.specs.Turn.{IsFullTurnOf}
 use Rattle.site_core.specs.Site.{SiteState, IsTurnMade, message_in, number_in}
 use Rattle.world_mail.specs.declared.travel.Travel.{Travel}
 use Rattle.world_mail.specs.Mail.{MailState, message_at, AreBelow}
@@ -142,7 +142,7 @@ module _ (p : List Stmt) (j : List Turn) (ss : List (SiteState NoSeat)) (mail : 
   message_is = tells_message j mail.messages box.messages live.travels (suc i) place message taken ∙ ap (delivered_message j) (sym made.delivered)
 
   abbrev Full : List Stmt → ℕ → Site → Option Msg → Type 0
-  Full q m x o = IsFullTurn q m bundle_limit quantum x o made.turn.0
+  Full q m x o = IsFullTurnOf q m bundle_limit quantum e.units x o made.turn.0
 
   full : Full p (length ss) (w (suc i)) (delivered_message j e.delivered)
   full =
@@ -160,7 +160,7 @@ module _ (p : List Stmt) (j : List Turn) (ss : List (SiteState NoSeat)) (mail : 
   run_now =
       run_grows p (length ss) bundle_limit j e w v made.turn.0 live.run once
       (subst (λ (x : ℕ). (1 ≤ x) × (x ≤ length ss)) (sym turn_site) (omega arith, omega arith))
-      (few_units p (length ss) bundle_limit quantum (w e.site) (delivered_message j e.delivered) made.turn.0 few (subst (λ (x : ℕ). Full p (length ss) (w x) (delivered_message j e.delivered)) (sym turn_site) full))
+      (few_units p (length ss) bundle_limit quantum e.units (w e.site) (delivered_message j e.delivered) made.turn.0 few (subst (λ (x : ℕ). Full p (length ss) (w x) (delivered_message j e.delivered)) (sym turn_site) full))
       made.turn.2
       (ap v turn_site ∙ here_now ∙ made.turn.3)
       (λ x other. others_now x (λ is. other (is ∙ sym turn_site)))
@@ -205,11 +205,11 @@ module _ (p : List Stmt) (j : List Turn) (ss : List (SiteState NoSeat)) (mail : 
       at_new : (x : ℕ) → states_of new x ≡ v x
       at_new x = λ r. states_by (program_now r) (states_now r) x
 
-      before : IsFullTurn old.program old.sites bundle_limit quantum (states_of old (suc i)) (delivered_message old.journal e.delivered) made.turn.0
+      before : IsFullTurnOf old.program old.sites bundle_limit quantum e.units (states_of old (suc i)) (delivered_message old.journal e.delivered) made.turn.0
       before =
-          subst (λ (l : List Turn). IsFullTurn old.program old.sites bundle_limit quantum (states_of old (suc i)) (delivered_message l e.delivered) made.turn.0) (sym journal)
-          (subst (λ (x : Site). IsFullTurn old.program old.sites bundle_limit quantum x (delivered_message j e.delivered) made.turn.0) (sym (at_old (suc i)))
-          (subst (λ (m : ℕ). IsFullTurn old.program m bundle_limit quantum (w (suc i)) (delivered_message j e.delivered) made.turn.0) (sym sites)
+          subst (λ (l : List Turn). IsFullTurnOf old.program old.sites bundle_limit quantum e.units (states_of old (suc i)) (delivered_message l e.delivered) made.turn.0) (sym journal)
+          (subst (λ (x : Site). IsFullTurnOf old.program old.sites bundle_limit quantum e.units x (delivered_message j e.delivered) made.turn.0) (sym (at_old (suc i)))
+          (subst (λ (m : ℕ). IsFullTurnOf old.program m bundle_limit quantum e.units (w (suc i)) (delivered_message j e.delivered) made.turn.0) (sym sites)
           (subst (λ (q : List Stmt). Full q (length ss) (w (suc i)) (delivered_message j e.delivered)) (sym program) full)))
 
 -- ---- one site of a world
@@ -254,7 +254,7 @@ turn_stays old new site place quantum most t i = by (site == i) refl
     here : IsPartOf (states_of old site).equations (states_of new site).equations
     here =
         equations_stay old.program old.sites bundle_limit old.journal t.entry (states_of old site) (states_of new site)
-        (t.turn.0, few_units old.program old.sites bundle_limit quantum (states_of old site) (delivered_message old.journal t.entry.delivered) t.turn.0 most t.turn.1, t.turn.2, t.turn.3)
+        (t.turn.0, few_units old.program old.sites bundle_limit quantum t.entry.units (states_of old site) (delivered_message old.journal t.entry.delivered) t.turn.0 most t.turn.1, t.turn.2, t.turn.3)
 
     by : (b : Bool) → (site == i) ≡ b → IsPartOf (states_of old i).equations (states_of new i).equations
     by true q = subst (λ (x : ℕ). IsPartOf (states_of old x).equations (states_of new x).equations) ((nat_decides site i).0 q) here

@@ -9,10 +9,10 @@ use Rattle.site_model.specs.Bundle.{bundle_limit}
 use Rattle.site_model.specs.Site.{Site, initial_site}
 use Rattle.site_model.specs.Run.{WorldRun, SiteRun, IsEntry, IsReachedBy, IsRecordOf, IsSiteIn, delivered_message}
 use Rattle.site_model.specs.Transition.{Transition}
-use Rattle.site_model.specs.Turn.{SiteTurn}
+use Rattle.site_model.specs.Turn.{SiteTurnOf}
 use Rattle.world_model.proofs.PutLemmas.{nat_decides}
 use Rattle.world_messages.proofs.CountLemmas.{once_each, none_own}
-use Rattle.world_requests.proofs.RequestLemmas.{requests_are_served}
+use Rattle.world_journals.proofs.RequestLemmas.{requests_are_served}
 use Rattle.world_simulation.specs.Protocols.{ProtocolsHold}
 use Rattle.world_simulation.proofs.SimulationLemmas.{every_run_is_simulated, delivered_messages_are_fit, cell_messages_are_few, messages_are_few, requests_are_single}
 use Rattle.world_simulation.proofs.ProtocolLemmas.{protocols_always_hold}
@@ -22,7 +22,7 @@ use Rattle.world_core.specs.Laws.{HasMachine, WereFit, AreMessagesFew}
 -- the run goes on by one entry
 module _ (p : List Stmt) (n limit : ℕ) (j : List Turn) (e : Turn) (w v : ℕ → Site) (d : Transition)
     (run : WorldRun p n limit j w) (once : DeliversOnce j e) (site : IsSiteIn n e)
-    (turn : SiteTurn p n limit (w e.site) (delivered_message j e.delivered) d) (tells : IsRecordOf e d)
+    (turn : SiteTurnOf p n limit e.units (w e.site) (delivered_message j e.delivered) d) (tells : IsRecordOf e d)
     (here : v e.site ≡ d.site) (others : (i : ℕ) → i ≢ e.site → v i ≡ w i) where
   own_run : SiteRun p n limit e.site (e ∷ j) (v e.site)
   own_run = subst (λ (b : Bool). IsReachedBy b (λ old. SiteRun p n limit e.site j old) (λ old new. IsEntry p n limit j e old new) (v e.site)) (sym ((nat_decides e.site e.site).1 refl)) (w e.site, run.runs e.site, (d, turn, tells, here))

@@ -19,7 +19,7 @@ use Rattle.world_messages.specs.BindRequests.{requests}
 use Rattle.world_messages.specs.Messages.{variable_messages, spawns, asks_to_know, tells_binding, asks_to_bind}
 use Rattle.world_cells.specs.CellCounts.{cell_weights}
 use Rattle.world_cells.specs.FitRuns.{SiteFitRun}
-use Rattle.world_requests.specs.Requests.{AreRequestsServed}
+use Rattle.world_journals.specs.Requests.{AreRequestsServed}
 use Rattle.world_simulation.specs.Messages.{sum_over}
 
 -- the journal is one of a run of the program on so many sites

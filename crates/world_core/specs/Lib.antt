@@ -1,3 +1,4 @@
 pub mod Laws
 pub mod Travels
 pub mod World
+pub mod Replay

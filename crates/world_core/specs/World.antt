@@ -12,7 +12,7 @@ use Rattle.site_model.specs.Bundle.{bundle_limit}
 use Rattle.site_model.specs.Site.{Site, initial_site}
 use Rattle.site_model.specs.Run.{WorldRun, IsRecordOf, delivered_message}
 use Rattle.site_model.specs.Transition.{Transition}
-use Rattle.site_model.specs.Turn.{IsFullTurn}
+use Rattle.site_model.specs.Turn.{IsFullTurnOf}
 use Rattle.site_core.specs.Site.{SiteState}
 use Rattle.world_mail.specs.declared.travel.Travel.{Travel}
 use Rattle.world_mail.specs.Mail.{MailState, message_at, without_message}
@@ -44,7 +44,7 @@ pub record IsWorldTurn (old new : WorldState) (site : ℕ) (place : Option ℕ) 
   pub journal : new.journal ≡ entry ∷ old.journal
   pub site_is : entry.site ≡ site
   pub delivered : IsNumberAt old.travels site place entry.delivered
-  pub turn : (d : Transition) × IsFullTurn old.program old.sites bundle_limit quantum (states_of old site) (delivered_message old.journal entry.delivered) d × IsRecordOf entry d × (states_of new site ≡ d.site)
+  pub turn : (d : Transition) × IsFullTurnOf old.program old.sites bundle_limit quantum entry.units (states_of old site) (delivered_message old.journal entry.delivered) d × IsRecordOf entry d × (states_of new site ≡ d.site)
   pub few : (states_of new site).steps ≤ (states_of old site).steps + quantum
   pub others : (i : ℕ) → i ≢ site → states_of new i ≡ states_of old i
 

@@ -3,7 +3,8 @@
 //! For: drivers that choose which site goes next and what it is told, as the fixed order of a plain run.
 //!
 //! It promises: every world that `World::new` and `World::turn` give is a run of the program by its `journal` (`WorldRun`),
-//! and each turn adds the entry that tells it (`IsWorldTurn`). `NotThere` comes exactly where the place is none of
+//! and each turn adds the entry that tells it (`IsWorldTurn`). `World::replay` makes a turn of given units again, where it
+//! prints given lines. `NotThere` comes exactly where the place is none of
 //! `travelling` or its message is for another site, and then nothing changes. `travelling` tells exactly the messages that
 //! travel by the journal, each once (`AreTravels`), `next_for` the place of the one with the lowest number for a site, `quiet`
 //! whether nothing travels and every site is idle, `sent` how many messages were sent. After each turn the picks of the journal lead the centralised machine to a state that the sites match
@@ -24,6 +25,6 @@
 mod refusal;
 mod world;
 
-pub use refusal::WorldRefusal;
+pub use refusal::{ReplayRefusal, WorldRefusal};
 pub use world::World;
 pub use world_mail::Travel;

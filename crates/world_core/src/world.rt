@@ -1,28 +1,30 @@
 //! The world.
 
-ghost use Rattle.std.specs.Prelude.{◌≡◌, ◌≢◌, ◌↔◌, ℕ, ◌+◌, ◌^◌, ◌<◌, ◌≤◌, [], length, map, true, false, None, Some, Ok, Err, IsTrue, IfOk, IfErr, OnOk, OnErr, MatchOption, slice_get};
-ghost use Rattle.site_message.specs.Journal.{is_quiet, sent_of};
-ghost use Rattle.site_message.specs.declared.turn.Turn.{Turn};
+ghost use Rattle.std.specs.Prelude.{◌≡◌, ◌≢◌, ◌↔◌, ◌∷◌, ℕ, ◌+◌, ◌^◌, ◌<◌, ◌≤◌, [], length, map, true, false, None, Some, Ok, Err, IsTrue, IfOk, IfErr, OnOk, OnErr, MatchOption, slice_get};
+ghost use Rattle.site_message.specs.Journal.{is_quiet, sent_of, IsTravelling};
 ghost use Rattle.site_message.specs.declared.message.Sent.{Sent};
 ghost use Rattle.site_model.specs.Bundle.{bundle_limit};
 ghost use Rattle.site_model.specs.Site.{initial_site, is_idle};
 ghost use Rattle.site_model.specs.Run.{WorldRun};
 ghost use Rattle.world_simulation.specs.Protocols.{ProtocolsHold};
 ghost use Rattle.world_core.specs.declared.refusal.WorldRefusal.TheVariants.{NotThere, Memory};
+ghost use Rattle.world_core.specs.declared.refusal.ReplayRefusal.TheVariants as replay;
+ghost use Rattle.world_core.specs.Replay.{IsReplayed, IsWorldStuck, PrintsOthers};
 ghost use Rattle.world_core.specs.Laws.{HasRun, HasMachine, HasMachineAtRest, WereFit, AreMessagesFew};
 ghost use Rattle.world_mail.specs.Mail.{message_at, without_message};
-ghost use Rattle.world_mail.specs.Travels.{travel_of, IsNoneFor, IsFirstFor};
+ghost use Rattle.world_mail.specs.Travels.{travel_of, IsNoneFor, IsFirstFor, IsAt, IsPlaceOf};
 ghost use Rattle.world_core.specs.Travels.{AreTravels, IsNothingFor, IsNotThere};
 ghost use Rattle.world_core.specs.World.{states_of, IsWorldTurn, KnowledgeStays, IsNewSite, IsTaken};
 ghost use Rattle.site_core.specs.Site.{SiteState};
 ghost use Rattle.site_message.specs.declared.story.NoSeat.{NoSeat};
 
-use crate::refusal::WorldRefusal;
+use crate::refusal::{ReplayRefusal, WorldRefusal};
 use kernel_syntax::Program;
 use site_core::Site;
-use site_message::{History, Journal, Msg, NoSeat, Quantum};
+use site_message::{History, Journal, Msg, NoSeat, Quantum, Turn};
 use std::alloc::{AllocError, Global};
 use std::marker::Model;
+use tree_node::{Line, ThreadName};
 use world_mail::{Mail, Travel};
 
 /// A program on 1 to 64 sites. Its sites take turns in whatever order the caller gives, and each turn delivers one message at
@@ -111,6 +113,51 @@ impl<'a> World<'a> {
         Ok(())
     }
 
+    /// One turn of the site made again: the message at the place, if one is given, and then a unit of each of these threads, in order,
+    /// where it prints these lines. A place that holds no message for the site is refused, and nothing changes; after any other
+    /// refusal the world is given up, with the journal of the turns made before.
+    pub fn replay(
+        &mut self,
+        site: u32,
+        place: Option<usize>,
+        threads: &[ThreadName],
+        lines: &[Line],
+    ) -> Result<(), ReplayRefusal>
+        requires some { 1 ≤ site }
+        requires among { site ≤ self.old.sites }
+        requires live { self.old.spent ≡ false }
+        requires units { length threads.now ≤ 64 }
+        requires room { (states_of self.old site).steps ≤ 2 ^ 48 }
+        ensures program { (self.new.program ≡ self.old.program) × (self.new.sites ≡ self.old.sites) }
+        ensures refused { (result ≡ Err replay.NotThere) ↔ IsNotThere self.old.travels site place }
+        ensures same { result ≡ Err replay.NotThere → self.new ≡ self.old }
+        ensures err { OnErr result (self.new.journal ≡ self.old.journal) }
+        ensures live { OnOk result (self.new.spent ≡ false) }
+        ensures turn { OnOk result (IsWorldTurn self.old self.new site place (length threads.now)) }
+        ensures replayed { OnOk result (IsReplayed self.old self.new site place threads.now lines.now) }
+        ensures stuck { (at : ℕ) → result ≡ Err (replay.NotRunnable at) → IsWorldStuck self.old site place threads.now at }
+        ensures other { result ≡ Err replay.OtherLines → PrintsOthers self.old site place threads.now lines.now }
+        ensures run { OnOk result (WorldRun self.new.program self.new.sites bundle_limit self.new.journal (states_of self.new)) }
+        ensures stays { OnOk result (KnowledgeStays self.old self.new) }
+        ensures simulated { OnOk result (HasMachine self.new.program self.new.sites self.new.journal (states_of self.new)) }
+        ensures protocols { OnOk result (ProtocolsHold self.new.program self.new.sites self.new.journal (states_of self.new)) }
+        ensures fit { OnOk result (WereFit self.new.program self.new.sites self.new.journal (states_of self.new)) }
+        ensures few { OnOk result (AreMessagesFew self.new.program self.new.sites self.new.journal) }
+    {
+        let message = take_message(&mut self.mail, site, place)?;
+        self.spent = true;
+        let made = self.sites[site as usize - 1].replay(message, threads)?;
+        if !has_lines(&made, lines) {
+            return Err(ReplayRefusal::OtherLines);
+        }
+        self.sent = self.mail.push_all(self.sent, made.sent.as_slice())?;
+        if self.journal.push(made).is_err() {
+            return Err(ReplayRefusal::Memory);
+        }
+        self.spent = false;
+        Ok(())
+    }
+
     /// The messages that travel, in no order that means anything: `turn` takes the place of one of them.
     pub fn travelling(&self) -> &[Travel]
         requires { self.now.spent ≡ false }
@@ -128,6 +175,15 @@ impl<'a> World<'a> {
         ensures none { result ≡ None → IsNothingFor self.now.journal site }
     {
         self.mail.next_for(site)
+    }
+
+    /// The place of the message of this number, if it travels.
+    pub fn place_of(&self, number: u64) -> Option<usize>
+        requires live { self.now.spent ≡ false }
+        ensures place { IsPlaceOf self.now.travels number result }
+        ensures travels { (m : Sent) → IsTravelling self.now.journal number m → (place : ℕ) × (result ≡ Some place) × IsAt self.now.travels m.to place number }
+    {
+        self.mail.place_of(number)
     }
 
     /// Whether no thread of the site can go on.
@@ -238,4 +294,28 @@ fn take_message(
     }
     let (number, sent) = mail.take(place);
     Ok(Some((number, sent.msg)))
+}
+
+// Whether two lines have the same bytes.
+fn is_same(one: &Line, other: &Line) -> bool
+    ensures { IsTrue result ↔ (one.now ≡ other.now) }
+{
+    one.as_slice() == other.as_slice()
+}
+
+// Whether a turn printed these lines.
+fn has_lines(turn: &Turn, lines: &[Line]) -> bool
+    ensures same { IsTrue result → turn.now.lines ≡ lines.now }
+    ensures all { turn.now.lines ≡ lines.now → IsTrue result }
+{
+    let told = turn.lines.as_slice();
+    if told.len() != lines.len() {
+        return false;
+    }
+    for at in 0..lines.len() {
+        if !is_same(&told[at], &lines[at]) {
+            return false;
+        }
+    }
+    true
 }

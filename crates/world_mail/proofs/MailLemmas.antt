@@ -15,10 +15,9 @@ use Rattle.std.proofs.lemmas.Option.{slice_get-map}
 use Rattle.tree_node.proofs.ClassLemmas.{Contains-head, Contains-tail, Contains-cons_cases}
 use Rattle.site_message.specs.declared.message.Msg.{Msg}
 use Rattle.site_message.specs.declared.message.Sent.{Sent}
-use Rattle.std.specs.Bool.{Decides}
 use Rattle.world_mail.specs.declared.travel.Travel.{Travel}
 use Rattle.world_mail.specs.Mail.{IsConsistent, message_at, is_queued, with_bit, without_bit, queue_at, is_for}
-use Rattle.world_mail.specs.Travels.{travel_of, IsNoneFor, IsFirstFor}
+use Rattle.world_mail.specs.Travels.{travel_of, IsNoneFor, IsFirstFor, IsAt, IsPlaceOf}
 use Rattle.std.proofs.lemmas.Bool.Decides.{Decides-eqb}
 
 -- ---- numbers
@@ -167,6 +166,37 @@ travels_tell ms once k to = (there, back)
         let same : k ≡ found.1 = (Decides-eqb k found.1).0 found.3 in
         let entry : slice_get ms found.0 ≡ Some (k, record { to = to; msg = m }) = subst (λ (x : ℕ). slice_get ms found.0 ≡ Some (x, record { to = to; msg = m })) (sym same) found.2 in
         at_contains (map travel_of ms) _ found.0 (travel_at ms found.0 k (record { to = to; msg = m }) entry)
+
+-- ---- the message of a number
+
+pub number_held : (ms : List (ℕ × Sent)) (number : ℕ) (m : Sent) →
+    (r : Option ℕ) → r ≡ position (nat_eq number) (keys_of ms) → is_some r ≡ is_some (message_at ms number) → IfSome r (λ i. slice_get (values_of ms) i ≡ message_at ms number) → message_at ms number ≡ Some m →
+    (place : ℕ) × (r ≡ Some place) × IsAt (map travel_of ms) m.to place number
+number_held ms number m None index found value q = let no : false ≡ true = found ∙ ap is_some q in cc
+number_held ms number m (Some place) index found value q =
+    let key = (position-Some (nat_eq number) (keys_of ms) place 0 (sym index)).1 in
+    let same : number ≡ get_or (keys_of ms) place 0 = (Decides-eqb number (get_or (keys_of ms) place 0)).0 key in
+    (place, refl, travel_at ms place number m (entry_of ms place number m (value ∙ q) (sym same)))
+
+pub number_place : (ms : List (ℕ × Sent)) (number : ℕ) → IsDistinct nat_eq (keys_of ms) →
+    (r : Option ℕ) → r ≡ position (nat_eq number) (keys_of ms) → is_some r ≡ is_some (message_at ms number) → IfSome r (λ i. slice_get (values_of ms) i ≡ message_at ms number) → IsPlaceOf (map travel_of ms) number r
+number_place ms number once None index found value = none
+  where
+    none : (t : Travel) → Contains (map travel_of ms) t → t.number ≡ number → ⊥
+    none t at same =
+        let p = contains_at (map travel_of ms) t at in
+        let e = entry_at ms t p.0 p.1 in
+        let some : message_at ms number ≡ Some e.0 = subst (λ (k : ℕ). message_at ms k ≡ Some e.0) same (found_at ms p.0 t.number e.0 once e.1) in
+        let no : false ≡ true = found ∙ ap is_some some in
+        cc
+number_place ms number once (Some place) index found value = by (message_at ms number) refl
+  where
+    by : (o : Option Sent) → message_at ms number ≡ o → IsPlaceOf (map travel_of ms) number (Some place)
+    by None q = let no : true ≡ false = found ∙ ap is_some q in cc
+    by (Some m) q =
+        let h = number_held ms number m (Some place) index found value q in
+        let same : place ≡ h.0 = cc in
+        (m.to, subst (λ (x : ℕ). IsAt (map travel_of ms) m.to x number) (sym same) h.2)
 
 -- ---- the next message for a site
 

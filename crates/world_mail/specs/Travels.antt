@@ -1,5 +1,5 @@
 -- What is told of the messages on their way.
-use Rattle.std.specs.Prelude.{◌≡◌, ℕ, ◌≤◌, List, Some, slice_get, Contains}
+use Rattle.std.specs.Prelude.{◌≡◌, ℕ, ◌≤◌, List, Option, Some, None, slice_get, Contains}
 use Rattle.site_message.specs.declared.message.Sent.{Sent}
 use Rattle.world_mail.specs.declared.travel.Travel.{Travel}
 
@@ -19,3 +19,8 @@ IsNoneFor ts site = (t : Travel) → Contains ts t → t.to ≡ site → ⊥
 abbrev pub IsFirstFor : List Travel → ℕ → ℕ → Type 0
 IsFirstFor ts site place =
     (number : ℕ) × IsAt ts site place number × ((t : Travel) → Contains ts t → t.to ≡ site → number ≤ t.number)
+
+-- at this place is the message of this number; none, where there is no such message
+abbrev pub IsPlaceOf : List Travel → ℕ → Option ℕ → Type 0
+IsPlaceOf ts number None = (t : Travel) → Contains ts t → t.number ≡ number → ⊥
+IsPlaceOf ts number (Some place) = (to : ℕ) × IsAt ts to place number

@@ -4,9 +4,10 @@ ghost use Rattle.std.specs.Prelude.{◌≡◌, ℕ, ◌+◌, ◌^◌, ◌<◌, �
 ghost use Rattle.std.specs.List.{enumerate_from, IsDistinct};
 ghost use Rattle.std.specs.Map.{keys_of};
 ghost use Rattle.indexmap.specs.IndexMap.{spare};
-ghost use Rattle.world_mail.specs.Travels.{travel_of, IsNoneFor, IsFirstFor};
+ghost use Rattle.world_mail.specs.Travels.{travel_of, IsNoneFor, IsFirstFor, IsAt, IsPlaceOf};
 ghost use Rattle.world_mail.specs.Mail.{is_queued, with_bit, without_bit, message_at, with_message, without_message, queue_at, AreBelow};
 ghost use Rattle.site_message.specs.declared.message.Msg.{Msg};
+ghost use Rattle.site_message.specs.declared.message.Sent.{Sent as ASent};
 ghost use Rattle.world_mail.specs.declared.travel.Travel.{Travel};
 
 use crate::queue::Queue;
@@ -72,6 +73,14 @@ impl Mail {
         ensures { MatchOption result (IsNoneFor (map travel_of self.now.messages) site) (λ place. IsFirstFor (map travel_of self.now.messages) site place) }
     {
         let number = self.queues[site as usize].first()?;
+        self.messages.get_index_of(&number)
+    }
+
+    /// The place of the message of a number.
+    pub fn place_of(&self, number: u64) -> Option<usize>
+        ensures place { IsPlaceOf (map travel_of self.now.messages) number result }
+        ensures held { (m : ASent) → message_at self.now.messages number ≡ Some m → (place : ℕ) × (result ≡ Some place) × IsAt (map travel_of self.now.messages) m.to place number }
+    {
         self.messages.get_index_of(&number)
     }
 

@@ -6,7 +6,7 @@ use Rattle.site_message.specs.declared.turn.Turn.{Turn}
 use Rattle.site_message.specs.Journal.{DeliversOnce}
 use Rattle.site_model.specs.Site.{Site, initial_site}
 use Rattle.site_model.specs.Transition.{Transition}
-use Rattle.site_model.specs.Turn.{SiteTurn}
+use Rattle.site_model.specs.Turn.{SiteTurn, SiteTurnOf}
 use Rattle.site_model.specs.Run.{IsRecordOf, IsEntry, IsReachedBy, SiteRun, IsSiteIn, WorldRun, delivered_message}
 use Rattle.world_model.specs.World.{Sites, put}
 use Rattle.world_model.proofs.PutLemmas.{nat_decides, at_all, at_here, at_own, at_twice}
@@ -42,12 +42,13 @@ before_entry p n limit j e f run = (
         go true q h = absurd (other (sym ((nat_decides e.site i).0 q)))
         go false q h = h
 
--- one entry more
+-- one entry more: its turn, told by itself and with its units
 pub record Entry (p : List Stmt) (n limit : ℕ) (j : List Turn) (e : Turn) (f : Sites) (d : Transition) : Type 0 where
   pub run : WorldRun p n limit j f
   pub wired : DeliversOnce j e
   pub site : IsSiteIn n e
   pub turn : SiteTurn p n limit (f e.site) (delivered_message j e.delivered) d
+  pub told : SiteTurnOf p n limit e.units (f e.site) (delivered_message j e.delivered) d
   pub tells : IsRecordOf e d
 
 module _ (p : List Stmt) (n limit : ℕ) (I : List Turn → Sites → Type 0) (start : I [] (initial_site p))
@@ -62,7 +63,8 @@ module _ (p : List Stmt) (n limit : ℕ) (I : List Turn → Sites → Type 0) (s
             run = before;
             wired = run.wired.1;
             site = run.sites.0;
-            turn = subst (λ (s : Site). SiteTurn p n limit s (delivered_message j e.delivered) d) (sym (at_here f e.site old)) turn;
+            turn = subst (λ (s : Site). SiteTurn p n limit s (delivered_message j e.delivered) d) (sym (at_here f e.site old)) (e.units, turn.0, turn.1);
+            told = subst (λ (s : Site). SiteTurnOf p n limit e.units s (delivered_message j e.delivered) d) (sym (at_here f e.site old)) turn;
             tells = tells;
           }) (ih (put f e.site old) before))
         where

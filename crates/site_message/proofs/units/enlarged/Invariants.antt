@@ -1,0 +1,7 @@
+use Rattle.std.proofs.Common.{◌≡◌, take}
+use Rattle.std.specs.List.{flat_map}
+use Rattle.site_message.specs.Units.{units_of, small_units}
+use Rattle.site_message.proofs.units.enlarged.Given as goal
+
+abbrev pub invariant-loop-stint : goal.invariant-loop-stint
+invariant-loop-stint l = flat_map units_of l.row.items ≡ flat_map small_units (take l.stint-index l.stints)

@@ -1,0 +1,21 @@
+use Rattle.std.proofs.Common.{◌≡◌, ap, ℕ, List, map, subst}
+use Rattle.std.specs.Prelude.{Some}
+use Rattle.site_message.specs.declared.message.Sent.{Sent}
+use Rattle.world_mail.specs.Mail.{MailState, message_at}
+use Rattle.world_mail.specs.Travels.{travel_of, IsAt, IsPlaceOf}
+use Rattle.world_mail.proofs.MailLemmas.{number_place, number_held}
+use Rattle.world_mail.proofs.mail.Mail.place_of.Goals as goal
+
+pub returns-clause-place : goal.returns-clause-place
+returns-clause-place c =
+    let ms = c.self.inside.messages.entries in
+    let is : ms ≡ c.args.self.now.messages = ap (λ (m : MailState). m.messages) c.self.view_is in
+    subst (λ (es : List (ℕ × Sent)). IsPlaceOf (map travel_of es) c.args.number c.get_index_of.result) is
+    (number_place ms c.args.number c.self.invariant.once c.get_index_of.result c.get_index_of.ensures.index c.get_index_of.ensures.found c.get_index_of.ensures.value)
+
+pub returns-clause-held : goal.returns-clause-held
+returns-clause-held c =
+    let ms = c.self.inside.messages.entries in
+    let is : ms ≡ c.args.self.now.messages = ap (λ (m : MailState). m.messages) c.self.view_is in
+    subst (λ (es : List (ℕ × Sent)). (m : Sent) → message_at es c.args.number ≡ Some m → (place : ℕ) × (c.get_index_of.result ≡ Some place) × IsAt (map travel_of es) m.to place c.args.number) is
+    (λ m q. number_held ms c.args.number m c.get_index_of.result c.get_index_of.ensures.index c.get_index_of.ensures.found c.get_index_of.ensures.value q)
