@@ -1,0 +1,5 @@
+pub mod AgainLemmas
+pub mod WorldLemmas
+pub mod LineLemmas
+pub mod PrintLemmas
+pub mod SaveLemmas
