@@ -6,7 +6,7 @@ ghost use Rattle.book_lock.specs.Seats.{lock_id, IsOutsideOf};
 ghost use Rattle.book_lock.specs.Ledger.{turns_alone};
 
 use super::*;
-use site_message::{Journal, Lines, Picks, SentList, Story, Turn};
+use site_message::{Journal, Lines, Picks, SentList, Story, Turn, Units};
 use std::alloc::{AllocError, Global};
 use std::sync::Wait;
 use std::test::Fail;
@@ -37,6 +37,7 @@ fn turn(alloc: Global, site: u32, steps: u64) -> Turn
     Turn {
         site,
         delivered: None,
+        units: Units::new(alloc),
         picks: Picks::new(),
         sent: SentList::new(alloc),
         lines: Lines::new(alloc),

@@ -1,6 +1,6 @@
 -- How a host goes on from one part of a visit to the next.
 use Rattle.std.proofs.Common.{min, inl, inr, ⊎_elim, ◌-◌, ◌≡◌, ℕ, ◌≤◌, List, [], ◌∷◌, ◌++◌, cond, not, Bool, true, false, eq-eqb, Option, Some, None, refl, sym, ap, ◌∙◌, subst, arith, append_assoc}
-use Rattle.std.specs.Prelude.{slice_get, slice_index_or}
+use Rattle.std.specs.Prelude.{Contains, slice_get, slice_index_or}
 use Rattle.atomic_table.specs.Seated.{TableId}
 use Rattle.kernel_syntax.specs.declared.stmt.Stmt.{Stmt}
 use Rattle.kernel_syntax.specs.Program.{IsProgram}
@@ -8,17 +8,15 @@ use Rattle.site_message.specs.declared.message.Msg.{Msg}
 use Rattle.site_message.specs.declared.turn.Turn.{Turn}
 use Rattle.site_message.specs.declared.story.Sight.{Sight}
 use Rattle.site_message.specs.declared.reason.Reason.{Reason}
-use Rattle.site_message.specs.declared.reason.Reason.TheVariants.{Memory}
 use Rattle.site_message.specs.Journal.{sent_of}
 use Rattle.site_message.specs.Story.{own, hand}
-use Rattle.message_book.specs.Book.{IsSiteOf, without_delivered, first_reason}
+use Rattle.message_book.specs.Book.{IsSiteOf, IsReason, without_delivered}
 use Rattle.book_lock.specs.declared.lock.SiteSeat.{SiteSeat}
 use Rattle.book_lock.specs.Rule.{IsContinuation}
 use Rattle.book_lock.specs.Seats.{last_seen, IsOutsideOf}
 use Rattle.site_model.specs.Site.{Site, is_idle}
 use Rattle.site_model.specs.Bundle.{bundle_limit}
-use Rattle.site_model.specs.Transition.{Transition}
-use Rattle.site_model.specs.Turn.{SiteTurn, IsFullTurn}
+use Rattle.site_model.specs.Turn.{SiteTurnOf}
 use Rattle.site_model.specs.Run.{SiteRun, IsEntry, message_of, delivered_message}
 use Rattle.tree_node.specs.Each.{Each}
 use Rattle.site_wire.specs.Laws.{SitesSendWhatFits}
@@ -28,13 +26,13 @@ use Rattle.site_worker.specs.declared.host.Host.{Host}
 use Rattle.site_worker.specs.declared.inside.Fetched.{Fetched}
 use Rattle.site_worker.specs.declared.inside.Fetched.TheVariants.{Over, Open}
 use Rattle.site_worker.specs.declared.inside.PostOutcome.TheVariants.{Posted, Refused}
-use Rattle.site_worker.specs.Inside.{book_sites, book_steps, NoneWaits, HasTaken, HasFetched, HasPosted, HasClosed, Since}
+use Rattle.site_worker.specs.Inside.{book_sites, book_steps, book_limits, HasCause, NoneWaits, HasTaken, HasFetched, HasPosted, HasClosed, Since}
 use Rattle.site_worker.specs.Host.{state_of, sight, program_of, sites_of, fixed_of, IsRunTo, IsSeated, HasCome, AreOwnWithin, IsHost, IsSpelledBy, HasMessage, HasTurned, HasFailed, number_list}
 use Rattle.site_worker.specs.declared.visited.Visited.{Visited}
 use Rattle.site_worker.specs.declared.visited.Visited.TheVariants.{Did, Nothing}
 use Rattle.site_worker.specs.declared.visited.Visited.TheVariants as visited
 use Rattle.site_worker.specs.Waking.{AreRecipients}
-use Rattle.site_worker.specs.Visit.{IsVisit, IsFirstHalf, IsSecondHalf, IsGivenUp, HasNoEntry, HasEntry, HasMadeTurn, WasClosed}
+use Rattle.site_worker.specs.Visit.{IsVisit, IsFirstHalf, IsSecondHalf, IsGivenUp, HasNoEntry, HasEntry, HasMadeTurn, IsOver, NoneTravels}
 use Rattle.site_worker.proofs.RunLemmas.{message_later, run_later, run_entry}
 use Rattle.site_model.proofs.FrameLemmas.{few_units}
 
@@ -81,6 +79,18 @@ pub fetched_begins : (k : ℕ) (old new : Sight) (r : Fetched) → Since k old n
 fetched_begins k old new (Over r) a = subst (λ (es : List Turn). IsContinuation es old.entries) (sym a.2.1) a.1.begins
 fetched_begins k old new (Open o limit) a = subst (λ (es : List Turn). IsContinuation es old.entries) (sym a.2.2) a.1.begins
 
+-- a reason that the book has
+pub over_by : (x : Sight) (r : Reason) → HasCause x → x.reason ≡ Some r → IsOver x r
+over_by x r cause is = (is, subst (IsReason (book_limits x) x.entries) is cause)
+
+-- what goes on from what goes on
+on_by : (a b c : List Turn) → IsContinuation b a → IsContinuation c b → IsContinuation c a
+on_by a b c first second = (second.0 ++ first.0, second.1 ∙ (ap (λ l. second.0 ++ l) first.1 ∙ sym (append_assoc second.0 first.0 a)))
+
+-- no message travels to a site with nothing in hand for which none waits
+pub none_travels : (k : ℕ) (x : Sight) → hand k x.hands ≡ [] → NoneWaits k x → NoneTravels k x.entries
+none_travels k x none waits n m sent = waits n m (sent, λ (inside : Contains (hand k x.hands) n). let low = (subst (λ (l : List ℕ). Contains l n) none inside).1 in absurd (omega arith))
+
 -- ---- the first half
 
 alive : (b : Bool) (spent : Bool) → spent ≡ b → (spent ≡ true → ⊥) → spent ≡ false
@@ -111,7 +121,7 @@ taken_first h x (Some y) now entries none t = record {
   waits = λ e. absurd (cc);
 }
 
-module _ (table : TableId) (h : Host) (x : SiteSeat) (mine : IsHost table h) (out : IsOutsideOf table x) (same : x.site ≡ h.site.seat.site) where
+module _ (table : TableId) (h : Host) (x : SiteSeat) (mine : IsHost table h) (out : IsOutsideOf table x) (same : x.site ≡ h.site.seat.site) (cause : HasCause (last_seen x)) where
   fetched_from : (r : Fetched) → Since h.number (sight h) (last_seen x) (λ now. HasFetched h.number now (last_seen x) r) → IsFirstHalf table h (with_seat h x) r
   fetched_from (Over r) a =
       let found = a.2 in
@@ -126,9 +136,9 @@ module _ (table : TableId) (h : Host) (x : SiteSeat) (mine : IsHost table h) (ou
           steps = steps_later mine.state.steps (sight h) (last_seen x) a.3 mine.steps;
           within = within_later h x a.3 own_same mine.within;
         },
-        found.0,
+        over_by (last_seen x) r cause found.0,
         own_same,
-        (a.0, a.1.begins, found.1, ap (λ (o : Option Reason). first_reason o Memory) found.3),
+        on,
       )
   fetched_from (Open o limit) a =
       let now = a.0 in
@@ -158,11 +168,11 @@ module _ (table : TableId) (h : Host) (x : SiteSeat) (mine : IsHost table h) (ou
         found.3,
       )
 
-pub fetched_host : (table : TableId) (h : Host) (y x : SiteSeat) (r : Fetched) → y ≡ h.site.seat → IsHost table h → IsOutsideOf table x × (x.site ≡ y.site)
+pub fetched_host : (table : TableId) (h : Host) (y x : SiteSeat) (r : Fetched) → y ≡ h.site.seat → IsHost table h → IsOutsideOf table x × (x.site ≡ y.site) → HasCause (last_seen x)
     → Since y.site (last_seen y) (last_seen x) (λ now. HasFetched y.site now (last_seen x) r) → IsFirstHalf table h (with_seat h x) r
-fetched_host table h y x r is mine out a =
+fetched_host table h y x r is mine out cause a =
     let b : Since h.site.seat.site (sight h) (last_seen x) (λ now. HasFetched h.site.seat.site now (last_seen x) r) = subst (λ (z : SiteSeat). Since z.site (last_seen z) (last_seen x) (λ now. HasFetched z.site now (last_seen x) r)) is a in
-    fetched_from table h x mine out.0 (out.1 ∙ ap (λ (z : SiteSeat). z.site) is) r (subst (λ (k : ℕ). Since k (sight h) (last_seen x) (λ now. HasFetched k now (last_seen x) r)) (sym mine.seated.seat) b)
+    fetched_from table h x mine out.0 (out.1 ∙ ap (λ (z : SiteSeat). z.site) is) cause r (subst (λ (k : ℕ). Since k (sight h) (last_seen x) (λ now. HasFetched k now (last_seen x) r)) (sym mine.seated.seat) b)
 
 -- ---- the turn
 
@@ -245,9 +255,9 @@ entry_over table h e es mine on same =
     let message : message_in mine.taken ≡ delivered_message es e.delivered =
     sym (ap (delivered_message es) mine.turn.delivered ∙ message_later (sight h).entries es mine.taken on mine.message) in
     let t = mine.turn.turn in
-    let turn = few_units (program_of h) (sites_of h) bundle_limit mine.quantum mine.before (message_in mine.taken) t.0 mine.few t.1 in
+    let turn = few_units (program_of h) (sites_of h) bundle_limit mine.quantum e.units mine.before (message_in mine.taken) t.0 mine.few t.1 in
     let entry : IsEntry (program_of h) (sites_of h) bundle_limit es e mine.before (state_of h) =
-    (t.0, subst (λ m. SiteTurn (program_of h) (sites_of h) bundle_limit mine.before m t.0) message turn, t.2, t.3) in
+    (t.0, subst (λ m. SiteTurnOf (program_of h) (sites_of h) bundle_limit e.units mine.before m t.0) message turn, t.2, t.3) in
     run_entry (program_of h) (sites_of h) bundle_limit h.number e es mine.before (state_of h) mine.site before entry
 
 -- each message that it sends can be spelled
@@ -294,7 +304,7 @@ module _ (table : TableId) (h : Host) (e : Turn) (x : SiteSeat) (mine : HasTurne
       )
 
   refused_host : (r : Reason) → Since h.number (sight h) (last_seen x) (λ now. HasPosted e now (last_seen x) (Refused r))
-      → IsHost table (record (with_seat h x) { spent = true }) × ((last_seen x).reason ≡ Some r) × HasNoEntry h.number (sight h) (last_seen x) × IsContinuation (last_seen x).entries (sight h).entries × WasClosed (sight h) (last_seen x) r
+      → IsHost table (record (with_seat h x) { spent = true }) × ((last_seen x).reason ≡ Some r) × HasNoEntry h.number (sight h) (last_seen x) × IsContinuation (last_seen x).entries (sight h).entries
   refused_host r a =
       let found = a.2 in
       let own_same : HasNoEntry h.number (sight h) (last_seen x) = ap (own h.number) found.0 ∙ a.1.own_entries in
@@ -312,11 +322,10 @@ module _ (table : TableId) (h : Host) (e : Turn) (x : SiteSeat) (mine : HasTurne
         found.1,
         own_same,
         on,
-        (a.0, a.1.begins, found.0, found.2),
       )
 
 failed_host : (table : TableId) (h : Host) (x : SiteSeat) (mine : HasFailed table h) (out : IsOutsideOf table x) (same : x.site ≡ h.site.seat.site) (r : Reason)
-    → Since h.number (sight h) (last_seen x) (λ now. HasClosed now (last_seen x) r) → IsHost table (with_seat h x) × ((last_seen x).reason ≡ Some r) × HasNoEntry h.number (sight h) (last_seen x) × WasClosed (sight h) (last_seen x) r
+    → Since h.number (sight h) (last_seen x) (λ now. HasClosed now (last_seen x) r) → IsHost table (with_seat h x) × ((last_seen x).reason ≡ Some r) × HasNoEntry h.number (sight h) (last_seen x) × IsContinuation (last_seen x).entries (sight h).entries
 failed_host table h x mine out same r a =
     let found = a.2 in
     let own_same : HasNoEntry h.number (sight h) (last_seen x) = ap (own h.number) found.1 ∙ a.1.own_entries in
@@ -332,7 +341,7 @@ failed_host table h x mine out same r a =
       },
       found.0,
       own_same,
-      (a.0, a.1.begins, found.1, found.2),
+      on,
     )
 
 -- a seat that was lent, and the site's number
@@ -347,13 +356,13 @@ posted_by table h e y x is mine out o a =
 
 pub refused_by : (table : TableId) (h : Host) (e : Turn) (y x : SiteSeat) → y ≡ h.site.seat → HasTurned table h e → IsOutsideOf table x × (x.site ≡ y.site) → (r : Reason)
     → Since y.site (last_seen y) (last_seen x) (λ now. HasPosted e now (last_seen x) (Refused r))
-    → IsHost table (record (with_seat h x) { spent = true }) × ((last_seen x).reason ≡ Some r) × HasNoEntry h.number (sight h) (last_seen x) × IsContinuation (last_seen x).entries (sight h).entries × WasClosed (sight h) (last_seen x) r
+    → IsHost table (record (with_seat h x) { spent = true }) × ((last_seen x).reason ≡ Some r) × HasNoEntry h.number (sight h) (last_seen x) × IsContinuation (last_seen x).entries (sight h).entries
 refused_by table h e y x is mine out r a =
     refused_host table h e x mine out.0 (out.1 ∙ ap (λ (z : SiteSeat). z.site) is) r (lent y h.site.seat h.number (last_seen x) (λ now. HasPosted e now (last_seen x) (Refused r)) is mine.seated.seat a)
 
 pub failed_by : (table : TableId) (h : Host) (y x : SiteSeat) → y ≡ h.site.seat → HasFailed table h → IsOutsideOf table x × (x.site ≡ y.site) → (r : Reason)
     → Since y.site (last_seen y) (last_seen x) (λ now. HasClosed now (last_seen x) r)
-    → IsHost table (with_seat h x) × ((last_seen x).reason ≡ Some r) × HasNoEntry h.number (sight h) (last_seen x) × WasClosed (sight h) (last_seen x) r
+    → IsHost table (with_seat h x) × ((last_seen x).reason ≡ Some r) × HasNoEntry h.number (sight h) (last_seen x) × IsContinuation (last_seen x).entries (sight h).entries
 failed_by table h y x is mine out r a =
     failed_host table h x mine out.0 (out.1 ∙ ap (λ (z : SiteSeat). z.site) is) r (lent y h.site.seat h.number (last_seen x) (λ now. HasClosed now (last_seen x) r) is mine.seated.seat a)
 
@@ -376,7 +385,7 @@ pub made_turn : (a b c d : Host) (limit : ℕ) (o : Option (ℕ × Msg)) (e : Tu
     → HasNoEntry a.number (sight a) (sight b) → limit ≡ book_steps (sight b) → delivered_message (sight b).entries (number_in o) ≡ message_in o
     → (c.number ≡ b.number) × (c.site.seat ≡ b.site.seat) → IsTurnMade (program_of b) (sites_of b) (state_of b) o (min (limit - (state_of b).steps) 64) e (state_of c)
     → HasEntry c.number (sight c) (sight d) e → state_of d ≡ state_of c → IsContinuation (sight d).entries (sight c).entries → (o ≡ None → is_idle (state_of a) ≡ false)
-    → (o ≡ None → NoneWaits b.number (sight b)) → IsContinuation (sight b).entries (sight a).entries → AreRecipients c.recipients e.sent → d.recipients ≡ c.recipients → HasMadeTurn a d
+    → (o ≡ None → NoneTravels b.number (sight b).entries) → IsContinuation (sight b).entries (sight a).entries → AreRecipients c.recipients e.sent → d.recipients ≡ c.recipients → HasMadeTurn a d
 made_turn a b c d limit o e same none left content seat turn posted state begins cause waits found wakes kept =
     let number : c.number ≡ a.number = seat.0 ∙ same.0 in
     let mine : own a.number (sight d).entries ≡ e ∷ own a.number (sight c).entries = subst (λ k. own k (sight d).entries ≡ e ∷ own k (sight c).entries) number posted in
@@ -388,31 +397,30 @@ made_turn a b c d limit o e same none left content seat turn posted state begins
       turn = subst (λ (z : List Stmt × ℕ × Site × ℕ × Site). IsTurnMade z.0 z.1 z.2 o z.3 e z.4) (λ i. (same.1 i, same.2 i, same.4 i, min (steps i - (same.4 i).steps) 64, sym state i)) turn;
       content = message_later (sight c).entries (sight d).entries o begins (subst (λ (z : SiteSeat). delivered_message (last_seen z).entries (number_in o) ≡ message_in o) (sym seat.1) content);
       cause = cause;
-      waits = λ is. (sight b, found, none, subst (λ k. NoneWaits k (sight b)) same.0 (waits is));
+      waits = λ is. ((sight b).entries, found, subst (λ (z : SiteSeat). IsContinuation (sight d).entries (last_seen z).entries) seat.1 begins, none, subst (λ k. NoneTravels k (sight b).entries) same.0 (waits is));
       wakes = subst (λ n. AreRecipients n e.sent) (sym kept) wakes;
     }
 
--- a book that the second half closed was closed by the visit
-pub closed_by : (a b c d : Host) → c.site.seat ≡ b.site.seat → IsContinuation (sight b).entries (sight a).entries → (r : Reason) → WasClosed (sight c) (sight d) r → WasClosed (sight a) (sight d) r
-closed_by a b c d seat first r was =
-    let second : IsContinuation was.0.entries (sight b).entries = subst (λ (z : SiteSeat). IsContinuation was.0.entries (last_seen z).entries) seat was.1 in
-    (was.0, (second.0 ++ first.0, second.1 ∙ (ap (λ l. second.0 ++ l) first.1 ∙ sym (append_assoc second.0 first.0 (sight a).entries))), was.2, was.3)
+-- the entries go on in the halves, so in the visit
+pub on_since : (a b c d : Host) → c.site.seat ≡ b.site.seat → IsContinuation (sight b).entries (sight a).entries → IsContinuation (sight d).entries (sight c).entries → IsContinuation (sight d).entries (sight a).entries
+on_since a b c d seat first second =
+    on_by (sight a).entries (sight b).entries (sight d).entries first (subst (λ (z : SiteSeat). IsContinuation (sight d).entries (last_seen z).entries) seat second)
 
 pub visited_by : (a c d : Host) (e : Turn) (r : Visited) → c.number ≡ a.number → (HasEntry c.number (sight c) (sight d) e → HasMadeTurn a d) → (HasNoEntry c.number (sight c) (sight d) → HasNoEntry a.number (sight a) (sight d))
-    → ((r : Reason) → WasClosed (sight c) (sight d) r → WasClosed (sight a) (sight d) r) → IsSecondHalf c.number e (sight c) (sight d) r → IsVisit a d r
-visited_by a c d e Did number made none closed half = (half.0, made half.1, subst (λ k. hand k (sight d).hands ≡ []) number half.2)
-visited_by a c d e Nothing number made none closed half = absurd half
-visited_by a c d e (visited.Over r) number made none closed half = (
+    → (IsContinuation (sight d).entries (sight c).entries → IsContinuation (sight d).entries (sight a).entries) → IsSecondHalf c.number e (sight c) (sight d) r → IsVisit a d r
+visited_by a c d e Did number made none on half = (half.0, made half.1, subst (λ k. hand k (sight d).hands ≡ []) number half.2)
+visited_by a c d e Nothing number made none on half = absurd half
+visited_by a c d e (visited.Over r) number made none on half = (
   half.0,
-  ⊎_elim (λ (same : HasNoEntry c.number (sight c) (sight d) × WasClosed (sight c) (sight d) r). inl (none same.0, closed r same.1)) (λ (more : HasEntry c.number (sight c) (sight d) e). inr (made more)) half.1,
+  ⊎_elim (λ (same : HasNoEntry c.number (sight c) (sight d) × IsContinuation (sight d).entries (sight c).entries). inl (none same.0, on same.1)) (λ (more : HasEntry c.number (sight c) (sight d) e). inr (made more)) half.1,
 )
 
 -- a visit whose turn had no memory
-pub given_up_by : (a c d : Host) (r : Visited) → (HasNoEntry c.number (sight c) (sight d) → HasNoEntry a.number (sight a) (sight d)) → ((r : Reason) → WasClosed (sight c) (sight d) r → WasClosed (sight a) (sight d) r)
+pub given_up_by : (a c d : Host) (r : Visited) → (HasNoEntry c.number (sight c) (sight d) → HasNoEntry a.number (sight a) (sight d)) → (IsContinuation (sight d).entries (sight c).entries → IsContinuation (sight d).entries (sight a).entries)
     → IsGivenUp c.number (sight c) (sight d) r → IsVisit a d r
-given_up_by a c d Did none closed half = absurd half
-given_up_by a c d Nothing none closed half = absurd half
-given_up_by a c d (visited.Over r) none closed half = (half.0, inl (none half.1, closed r half.2))
+given_up_by a c d Did none on half = absurd half
+given_up_by a c d Nothing none on half = absurd half
+given_up_by a c d (visited.Over r) none on half = (half.0, inl (none half.1, on half.2))
 
 -- no entry more in the halves, so none in the visit
 pub none_by : (a b c d : Host) → c.number ≡ a.number → c.site.seat ≡ b.site.seat → HasNoEntry a.number (sight a) (sight b) → HasNoEntry c.number (sight c) (sight d) → HasNoEntry a.number (sight a) (sight d)

@@ -1,6 +1,7 @@
 pub mod Moving
 pub mod RunLemmas
 pub mod HostLemmas
+pub mod NextVisits
 pub mod Times
 pub mod Groups
 pub mod Ending

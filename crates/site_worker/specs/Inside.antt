@@ -5,16 +5,18 @@ use Rattle.site_message.specs.declared.turn.Turn.{Turn}
 use Rattle.site_message.specs.declared.story.Sight.{Sight}
 use Rattle.site_message.specs.declared.reason.Reason.{Reason}
 use Rattle.site_message.specs.declared.reason.Reason.TheVariants.{Memory}
-use Rattle.site_message.specs.Journal.{IsTravelling, sent_of}
+use Rattle.site_message.specs.Journal.{Limits, IsTravelling, sent_of}
 use Rattle.site_message.specs.Story.{hand}
 use Rattle.wire_form.specs.declared.form.Form.TheVariants as forms
 use Rattle.wire_form.specs.Format.{IsSpelling}
-use Rattle.message_book.specs.Book.{BookState, without_delivered, first_reason}
+use Rattle.message_book.specs.Book.{BookState, IsReason, without_delivered, first_reason}
 use Rattle.book_lock.specs.Rule.{AreInAgreement}
 use Rattle.site_worker.specs.declared.inside.Fetched.{Fetched}
 use Rattle.site_worker.specs.declared.inside.Fetched.TheVariants.{Over, Open}
 use Rattle.site_worker.specs.declared.inside.PostOutcome.{PostOutcome}
 use Rattle.site_worker.specs.declared.inside.PostOutcome.TheVariants.{Posted, Refused}
+use Rattle.site_worker.specs.declared.inside.NextVisit.{NextVisit}
+use Rattle.site_worker.specs.declared.inside.NextVisit.TheVariants as next
 
 -- the number of sites of the book that shows this
 abbrev pub book_sites : Sight → ℕ
@@ -23,6 +25,14 @@ book_sites x = slice_index_or x.fixed 0 0
 -- the own steps that each site of the book that shows this may make
 abbrev pub book_steps : Sight → ℕ
 book_steps x = slice_index_or x.fixed 1 0
+
+-- the limits of the book that shows this
+abbrev pub book_limits : Sight → Limits
+book_limits x = record { sites = book_sites x; steps = book_steps x; messages = slice_index_or x.fixed 2 0 }
+
+-- the reason that the book that shows this has or has not is how its entries end; or memory ran out where they go on
+abbrev pub HasCause : Sight → Type 0
+HasCause x = IsReason (book_limits x) x.entries x.reason
 
 -- no message waits for the site k: what travels to it is in hand
 abbrev pub NoneWaits : ℕ → Sight → Type 0
@@ -48,6 +58,11 @@ HasFetched k old new (Open o limit) = (old.reason ≡ None) × (new.reason ≡ N
 abbrev pub HasPosted : Turn → Sight → Sight → PostOutcome → Type 0
 HasPosted e old new (Posted o) = (new.entries ≡ e ∷ old.entries) × (hand e.site new.hands ≡ without_delivered e.delivered (hand e.site old.hands)) × (new.reason ≡ o)
 HasPosted e old new (Refused r) = (new.entries ≡ old.entries) × (new.reason ≡ Some r) × (first_reason old.reason Memory ≡ Some r)
+
+-- the turn of the site k was posted, and from what the book showed then this was fetched, with nothing else in between; or it was refused
+abbrev pub HasPostedAndFetched : ℕ → Turn → Sight → Sight → NextVisit → Type 0
+HasPostedAndFetched k e old new (next.Posted r) = (between : Sight) × HasPosted e old between (Posted between.reason) × HasFetched k between new r × (between.fixed ≡ old.fixed)
+HasPostedAndFetched k e old new (next.Refused r) = HasPosted e old new (Refused r)
 
 -- the book has this reason, which is its first one or want of memory, and nothing else changed
 abbrev pub IsClosedBy : BookState → BookState → Reason → Type 0

@@ -1,27 +1,29 @@
 //! A site with its seat, and a visit.
 
-ghost use Rattle.std.specs.Prelude.{◌≡◌, ◌≤◌, ◌-◌, ◌^◌, min, ℕ, false, Option, IfOk, IfSome};
+ghost use Rattle.std.specs.Prelude.{◌≡◌, ◌≤◌, ◌-◌, ◌^◌, min, ℕ, false, Option, None, IfOk, IfSome};
 ghost use Rattle.atomic_table.specs.Seated.{TableId};
 ghost use Rattle.book_lock.specs.Rule.{IsContinuation};
 ghost use Rattle.book_lock.specs.Seats.{lock_id, last_seen};
 ghost use Rattle.kernel_syntax.specs.Program.{IsProgram};
 ghost use Rattle.message_book.specs.Book.{IsSiteOf};
 ghost use Rattle.site_message.specs.declared.message.Msg.{Msg as AMsg};
-ghost use Rattle.site_model.specs.Site.{initial_site};
+ghost use Rattle.site_model.specs.Site.{initial_site, is_idle};
 ghost use Rattle.site_core.specs.Site.{IsTurnMade};
+ghost use Rattle.site_worker.specs.declared.host.Host.{Host};
 ghost use Rattle.site_worker.specs.Host.{IsHost, IsHostOf, IsNewSeat, IsSpelledBy, HasMessage, HasSpelling, HasTurned, HasFailed, HasTriedTurn, program_of, sites_of, state_of, sight};
+ghost use Rattle.site_worker.specs.declared.visited.Visited.TheVariants.{Over};
 ghost use Rattle.site_worker.specs.Inside.{book_steps};
 ghost use Rattle.site_worker.specs.Waking.{AreRecipients};
-ghost use Rattle.site_worker.specs.Visit.{IsVisit, IsSameHost, IsFirstHalf, IsSecondHalf, IsGivenUp};
+ghost use Rattle.site_worker.specs.Visit.{IsVisit, IsSameHost, IsFirstHalf, IsSecondHalf, IsGivenUp, HasBegun, IsNextHalf, IsNextVisit};
 
 use crate::gate::Gate;
-use crate::inside::{Fetched, PostOutcome};
+use crate::inside::{Fetched, NextVisit, PostOutcome};
 use crate::seats;
 use crate::visited::Visited;
 use book_lock::{CountedLock, SiteSeat};
 use message_book::{Book, SpelledTurn};
 use site_core::Site;
-use site_message::{Msg, NoSeat, Quantum, Sent, Turn};
+use site_message::{Msg, NoSeat, Quantum, Reason, Sent, Turn};
 use site_wire::sites_send_what_fits;
 use std::alloc::{AllocError, Global};
 use std::sync::Wait;
@@ -54,17 +56,7 @@ pub fn visit<'a, G: Gate, R: Wait>(
     host.recipients = 0;
     match host.fetch(rt, lock) {
         Fetched::Over(reason) => Visited::Over(reason),
-        Fetched::Open(taken, limit) => {
-            if taken.is_none() && host.site.idle() {
-                return Visited::Nothing;
-            }
-            host.turns = host.turns.saturating_add(1);
-            gate.before_turn(rt, host.number, host.turns);
-            match host.turn(taken, limit) {
-                Some(turn) => host.post(rt, lock, turn),
-                None => host.fail(rt, lock),
-            }
-        }
+        Fetched::Open(taken, limit) => host.end_visit(rt, lock, gate, taken, limit),
     }
 }
 
@@ -99,13 +91,75 @@ impl<'a> Host<'a> {
     }
 
     // The first half of a visit.
-    fn fetch<R: Wait>(&mut self, rt: &R, lock: &CountedLock<Book>) -> Fetched
+    pub(crate) fn fetch<R: Wait>(&mut self, rt: &R, lock: &CountedLock<Book>) -> Fetched
         requires { IsHost (lock_id lock.now) self.old }
         ensures same { IsSameHost self.old self.new × (state_of self.new ≡ state_of self.old) }
         ensures fetched { IsFirstHalf (lock_id lock.now) self.old self.new result }
         ensures begins { IsContinuation (sight self.new).entries (sight self.old).entries }
     {
         seats::fetch(rt, lock, self.site.seat())
+    }
+
+    // The rest of a visit that goes on with what was taken.
+    pub(crate) fn end_visit<G: Gate, R: Wait>(
+        &mut self,
+        rt: &R,
+        lock: &CountedLock<Book>,
+        gate: &G,
+        taken: Option<(u64, Bytes)>,
+        limit: u64,
+    ) -> Visited
+        requires { (a : Host) × HasBegun (lock_id lock.now) a self.old taken limit }
+        ensures host { IsHost (lock_id lock.now) self.new × IsSameHost self.old self.new }
+        ensures visited { (a : Host) → HasBegun (lock_id lock.now) a self.old taken limit → IsVisit a self.new result }
+    {
+        if taken.is_none() && self.site.idle() {
+            return Visited::Nothing;
+        }
+        match self.counted_turn(rt, gate, taken, limit) {
+            Some(turn) => self.post(rt, lock, turn),
+            None => Visited::Over(self.fail(rt, lock)),
+        }
+    }
+
+    // A turn of a site that is not idle or has a message, posted; and what is fetched then, for the next visit.
+    pub(crate) fn turn_and_fetch<G: Gate, R: Wait>(
+        &mut self,
+        rt: &R,
+        lock: &CountedLock<Book>,
+        gate: &G,
+        message: Option<(u64, Bytes)>,
+        limit: u64,
+    ) -> Fetched
+        requires begun { (a : Host) × HasBegun (lock_id lock.now) a self.old message limit }
+        requires cause { message ≡ None → is_idle (state_of self.old) ≡ false }
+        ensures same { IsSameHost self.old self.new }
+        ensures visited { (a : Host) → HasBegun (lock_id lock.now) a self.old message limit → IsNextVisit (lock_id lock.now) a self.new result }
+    {
+        match self.counted_turn(rt, gate, message, limit) {
+            Some(turn) => self.post_and_fetch(rt, lock, turn),
+            None => Fetched::Over(self.fail(rt, lock)),
+        }
+    }
+
+    // The next turn, behind the gate.
+    fn counted_turn<G: Gate, R: Wait>(
+        &mut self,
+        rt: &R,
+        gate: &G,
+        taken: Option<(u64, Bytes)>,
+        limit: u64,
+    ) -> Option<SpelledTurn>
+        requires taken { (t : TableId) × HasSpelling t self.old taken }
+        requires limit { (limit ≡ book_steps (sight self.old)) × (limit ≤ 1000000000) }
+        ensures same { IsSameHost self.old self.new × (self.new.site.seat ≡ self.old.site.seat) }
+        ensures turned { (t : TableId) → HasSpelling t self.old taken → HasTriedTurn t self.new result }
+        ensures recipients { IfSome result (λ e. AreRecipients self.new.recipients e.sent) }
+        ensures turn { (m : Option (ℕ × AMsg)) → IsSpelledBy taken m → IfSome result (λ e. IsTurnMade (program_of self.old) (sites_of self.old) (state_of self.old) m (min (limit - (state_of self.old).steps) 64) e (state_of self.new)) }
+    {
+        self.turns = self.turns.saturating_add(1);
+        gate.before_turn(rt, self.number, self.turns);
+        self.turn(taken, limit)
     }
 
     // The turn, outside the lock, from the bytes of its message to those of the messages that it sends. Without memory the site
@@ -172,13 +226,33 @@ impl<'a> Host<'a> {
         }
     }
 
+    // The second half of a visit, and the first half of the next one. A site whose turn is refused is given up.
+    fn post_and_fetch<R: Wait>(
+        &mut self,
+        rt: &R,
+        lock: &CountedLock<Book>,
+        turn: SpelledTurn,
+    ) -> Fetched
+        requires { HasTurned (lock_id lock.now) self.old turn }
+        ensures same { IsSameHost self.old self.new }
+        ensures next { IsNextHalf (lock_id lock.now) self.old self.new turn result }
+    {
+        match seats::post_and_fetch(rt, lock, self.site.seat(), turn) {
+            NextVisit::Posted(fetched) => fetched,
+            NextVisit::Refused(reason) => {
+                self.spent = true;
+                Fetched::Over(reason)
+            }
+        }
+    }
+
     // The second half of a visit whose turn had no memory.
-    fn fail<R: Wait>(&mut self, rt: &R, lock: &CountedLock<Book>) -> Visited
+    fn fail<R: Wait>(&mut self, rt: &R, lock: &CountedLock<Book>) -> Reason
         requires { HasFailed (lock_id lock.now) self.old }
         ensures host { IsHost (lock_id lock.now) self.new × IsSameHost self.old self.new }
-        ensures visited { IsGivenUp self.old.number (sight self.old) (sight self.new) result }
+        ensures visited { IsGivenUp self.old.number (sight self.old) (sight self.new) (Over result) }
     {
-        Visited::Over(seats::fail(rt, lock, self.site.seat()))
+        seats::fail(rt, lock, self.site.seat())
     }
 }
 

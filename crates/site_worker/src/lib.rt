@@ -3,15 +3,18 @@
 //!
 //! It promises (`specs/Host.antt`, `specs/Visit.antt`, `specs/Hosts.antt`): a `Host` is a site with its seat, and the entries of
 //! its site that the seat saw are turns of the site in a row from its start (`IsHost`). `visit` keeps that, and tells what it
-//! did (`IsVisit`): `Over` exactly where the book has that reason as the seat leaves it, with one entry more, or with none;
-//! else `Nothing` exactly where no message waited and the site was
-//! idle; else `Did`, with exactly one entry more and nothing in hand. The entry is a turn of 64 units or of the own steps that were left,
-//! where these are fewer, and of fewer only where the site is then idle; and the sites that it sent
-//! to are told, which are to be woken (`HasMadeTurn`). A turn is made while the seat is outside the lock alone (the condition of the site's `turn`). `drive` gives back the hosts
-//! that it was given, each once with its seat, and when it ends in `Ok` some seat saw a reason to end; without memory nothing
-//! was done. `finish` takes the book out: its journal is a run of the world of sites (`IsWorldRun`, which is `WorldRun` of
-//! `site_model` with some states), nothing had ended it before its last turn (`HasNoEarlierEnd`), no site went past its limit of own steps (`AreWithin`), and its limits are
-//! those that the seats saw. Each host stands in the group of its site's worker (`AreAtHome`). `run_sites` does all of it from a program to the finished book, which has a reason.
+//! did (`IsVisit`): `Over` exactly where the book has that reason as the seat leaves it, which is how its entries end, or want of
+//! memory where they go on (`IsOver`), with one entry more, or with none; else `Nothing` exactly where no message travelled to the
+//! site and it was idle; else `Did`, with exactly one entry more and nothing in hand. The entry is a turn of 64 units or of the own
+//! steps that were left, where these are fewer, and of fewer only where the site is then idle. Where it took no message the site was
+//! not idle, and at some time of the visit none travelled to it (`NoneWaited`). The sites that it sent to are told, which are to be
+//! woken (`HasMadeTurn`). A turn is made while the seat is outside the lock alone (the condition of the site's `turn`). Workers make
+//! visits in a row (`AreVisits`). Each host stands in the group of its site's worker (`AreAtHome`). `drive` gives back the hosts that
+//! it was given, each once with its seat, and when it ends in `Ok` some seat saw a reason to end; without memory nothing was done.
+//! `finish` takes the book out: its journal is a run of the world of sites (`IsWorldRun`, which is `WorldRun` of
+//! `site_model` with some states), nothing had ended it before its last turn (`HasNoEarlierEnd`), no site went past its limit of own
+//! steps (`AreWithin`), and its limits are those that the seats saw. `run_sites` does all of it from a program to the finished book,
+//! which has a reason; without the memory to begin nothing is run.
 //!
 //! It stands on `site_core` for a site and its turns, on `site_model` for what turns and runs are, on `message_book` and
 //! `book_lock` for the book and its lock, on `wire_form` and `site_wire` for the bytes of messages and that each can be spelled, and on
@@ -33,6 +36,7 @@ mod seats;
 mod shared;
 mod sites;
 mod visited;
+mod visits;
 mod work;
 
 pub use driving::drive;

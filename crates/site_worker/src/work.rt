@@ -6,10 +6,11 @@ ghost use Rattle.site_worker.specs.Hosts.{AreHosts, AreSame, IsSomeOver};
 ghost use Rattle.site_worker.specs.declared.work.Round.TheVariants.{Over};
 
 use crate::gate::Gate;
-use crate::host::{Host, visit};
+use crate::host::Host;
 use crate::load::Group;
 use crate::shared::Shared;
 use crate::visited::Visited;
+use crate::visits::visit_in_a_row;
 use book_lock::CountedLock;
 use message_book::Book;
 use std::sync::Wait;
@@ -22,7 +23,8 @@ pub(crate) enum Round {
     Over,
 }
 
-// Visits each host once, and wakes the workers of those that it sent messages to. It ends early where the book has a reason.
+// Visits each host, one turn or some in a row, and wakes the workers of those that it sent messages to. It ends early where the
+// book has a reason.
 fn visit_each<G: Gate, R: Wait>(
     rt: &R,
     lock: &CountedLock<Book>,
@@ -36,11 +38,8 @@ fn visit_each<G: Gate, R: Wait>(
 {
     let mut busy = false;
     for i in 0..hosts.len() {
-        match visit(rt, &mut hosts[i], lock, gate) {
-            Visited::Did => {
-                busy = true;
-                shared.wake(hosts[i].recipients);
-            }
+        match visit_in_a_row(rt, &mut hosts[i], lock, gate, shared) {
+            Visited::Did => busy = true,
             Visited::Nothing => {}
             Visited::Over(_) => return Round::Over,
         }

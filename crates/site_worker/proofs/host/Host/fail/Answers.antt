@@ -1,7 +1,7 @@
 use Rattle.std.proofs.Common.{refl, ap, ◌∙◌}
 use Rattle.book_lock.specs.declared.lock.SiteSeat.{SiteSeat}
 use Rattle.book_lock.specs.Seats.{last_seen}
-use Rattle.site_worker.proofs.HostLemmas.{failed_by}
+use Rattle.site_worker.proofs.HostLemmas.{over_by, failed_by}
 use Rattle.site_worker.proofs.host.Host.fail.Goals as goal
 
 pub returns-clause-host : goal.returns-clause-host
@@ -12,4 +12,4 @@ returns-clause-host g c =
 pub returns-clause-visited : goal.returns-clause-visited
 returns-clause-visited g c =
     let t = failed_by _ c.args.self.now c.seat.result.now c.fail.new.seat c.seat.ensures.value c.requires c.fail.ensures.seat c.fail.result c.fail.ensures.closed in
-    (t.1, t.2, t.3)
+    (over_by (last_seen c.fail.new.seat) c.fail.result c.fail.ensures.cause t.1, t.2, t.3)

@@ -6,7 +6,7 @@ use Rattle.site_worker.proofs.HostLemmas.{fetched_host, fetched_begins}
 use Rattle.site_worker.proofs.host.Host.fetch.Goals as goal
 
 pub returns-clause-fetched : goal.returns-clause-fetched
-returns-clause-fetched g c = fetched_host _ c.args.self.now c.seat.result.now c.fetch.new.seat c.fetch.result c.seat.ensures.value c.requires c.fetch.ensures.seat c.fetch.ensures.fetched
+returns-clause-fetched g c = fetched_host _ c.args.self.now c.seat.result.now c.fetch.new.seat c.fetch.result c.seat.ensures.value c.requires c.fetch.ensures.seat c.fetch.ensures.cause c.fetch.ensures.fetched
 
 pub returns-clause-begins : goal.returns-clause-begins
 returns-clause-begins g c =

@@ -1,6 +1,4 @@
-use Rattle.std.proofs.Common.{arith, ◌≡◌, ◌≤◌}
-use Rattle.site_worker.specs.Inside.{book_steps}
-use Rattle.site_worker.specs.Host.{sight}
+use Rattle.std.proofs.Common.{arith}
 use Rattle.site_worker.proofs.HostLemmas.{turned_host, spent_host}
 use Rattle.site_worker.proofs.host.Host.make_turn.Goals as goal
 

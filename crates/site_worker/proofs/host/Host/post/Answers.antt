@@ -3,7 +3,7 @@ use Rattle.message_book.specs.Book.{IsSiteOf}
 use Rattle.book_lock.specs.declared.lock.SiteSeat.{SiteSeat}
 use Rattle.book_lock.specs.Seats.{last_seen}
 use Rattle.site_worker.specs.Inside.{book_sites}
-use Rattle.site_worker.proofs.HostLemmas.{posted_by, refused_by}
+use Rattle.site_worker.proofs.HostLemmas.{over_by, posted_by, refused_by}
 use Rattle.site_worker.proofs.host.Host.post.Goals as goal
 
 pub post-requires-clause-site : goal.post-requires-clause-site
@@ -32,7 +32,7 @@ returns-in-Posted-Some-clause-host g c =
 pub returns-in-Posted-Some-clause-visited : goal.returns-in-Posted-Some-clause-visited
 returns-in-Posted-Some-clause-visited g c =
     let t = posted_by _ c.args.self.now c.args.turn c.seat.result.now c.post.new.seat c.seat.ensures.value c.requires c.post.ensures.seat c.in-Posted-Some.field-0 c.in-Posted-Some.ensures.delivered in
-    (t.1 ∙ c.in-Posted-Some.field-0-is, inr t.2)
+    (over_by (last_seen c.post.new.seat) c.in-Posted-Some.reason c.post.ensures.cause (t.1 ∙ c.in-Posted-Some.field-0-is), inr t.2)
 
 pub returns-in-Refused-clause-host : goal.returns-in-Refused-clause-host
 returns-in-Refused-clause-host g c =
@@ -42,7 +42,7 @@ returns-in-Refused-clause-host g c =
 pub returns-in-Refused-clause-visited : goal.returns-in-Refused-clause-visited
 returns-in-Refused-clause-visited g c =
     let t = refused_by _ c.args.self.now c.args.turn c.seat.result.now c.post.new.seat c.seat.ensures.value c.requires c.post.ensures.seat c.in-Refused.reason c.in-Refused.ensures.delivered in
-    (t.1, inl (t.2, t.4))
+    (over_by (last_seen c.post.new.seat) c.in-Refused.reason c.post.ensures.cause t.1, inl (t.2, t.3))
 
 pub returns-in-Posted-None-clause-begins : goal.returns-in-Posted-None-clause-begins
 returns-in-Posted-None-clause-begins g c = (posted_by _ c.args.self.now c.args.turn c.seat.result.now c.post.new.seat c.seat.ensures.value c.requires c.post.ensures.seat c.in-Posted-None.field-0 c.in-Posted-None.ensures.delivered).4
