@@ -1,9 +1,9 @@
 // A source and a sink of bytes.
-ghost use Rattle.std.specs.Prelude.{◌<◌, List, ℕ, length, IfOk};
+ghost use Rattle.std.specs.Prelude.{◌<◌, List, None, ℕ, length, IfOk};
 ghost use Rattle.std.specs.declared.option.Option.{Option};
 ghost use Rattle.std.specs.Io.{ReadsAtMost, WritesAtMost};
 ghost use Rattle.std.specs.Io.KnownBytes.{ReadConsumes, WriteAppends};
-ghost use Rattle.oz_base.specs.Streams.{HasCause};
+ghost use Rattle.oz_base.specs.Streams.{HasCause, HandsIn};
 
 use thiserror::Error;
 
@@ -38,6 +38,9 @@ pub trait Sink {
     /// How often it has failed.
     ghost faults: { Self → ℕ };
 
+    /// The pieces that its calls were handed, where it tells them.
+    ghost pieces: { Self → Option (List (List ℕ)) } = { λ _. None };
+
     /// Takes at least one byte of the piece's front and says how many; `write_piece` writes all of
     /// it. A call that fails takes no bytes; the sink may be written again.
     fn write(&mut self, piece: &[u8]) -> Result<usize, Failed>
@@ -45,5 +48,6 @@ pub trait Sink {
         ensures bound { WritesAtMost result piece.now }
         ensures some { IfOk result (λ n. 0 < n) }
         ensures bytes { WriteAppends (taken self.old) (taken self.new) result piece.now }
+        ensures pieces { HandsIn (pieces self.old) (pieces self.new) piece.now }
         ensures cause { HasCause (faults self.old) (faults self.new) result };
 }
