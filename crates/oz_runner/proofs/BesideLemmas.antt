@@ -15,9 +15,9 @@ use Rattle.site_message.specs.declared.turn.Turn.{Turn}
 use Rattle.site_model.specs.Bundle.{bundle_limit}
 use Rattle.site_model.specs.Run.{WorldRun}
 use Rattle.world_model.specs.Schedule.{schedule}
-use Rattle.world_places.specs.Places.{ThreadsStayHome, ThreadsAlwaysStayHome}
-use Rattle.world_requests.specs.Requests.{RequestsAreServed}
-use Rattle.world_runs.specs.Distributed.{RunsTakeRows}
+use Rattle.world_journals.specs.Places.{ThreadsStayHome, ThreadsAlwaysStayHome}
+use Rattle.world_journals.specs.Requests.{RequestsAreServed}
+use Rattle.world_simulation.specs.Distributed.{RunsTakeRows}
 use Rattle.world_simulation.specs.Messages.{AllMessagesAreFew}
 use Rattle.oz_runner.specs.Besides.{AreMessagesBounded, AreTokensServed, IsAccounted}
 use Rattle.oz_runner.specs.Cause.{Cause, HasProgram}

@@ -1,8 +1,9 @@
 -- How the cause of a status goes on to the status that stands before the writing, and to the one that is answered.
-use Rattle.std.proofs.Common.{◌≡◌, ◌∙◌, ◌⊎◌, ◌≤◌, sym, subst, List, ℕ, ◌++◌, ◌∷◌, [], inl, inr, refl}
+use Rattle.std.proofs.Common.{◌≡◌, ◌∙◌, ◌⊎◌, ◌≤◌, sym, subst, List, ℕ, ◌++◌, ◌∷◌, [], inl, inr, refl, Option}
 use Rattle.std.specs.Str.{IsUtf8, IsValidUpTo}
 use Rattle.tree_node.specs.declared.pick.Pick.{Pick}
 use Rattle.site_message.specs.declared.turn.Turn.{Turn}
+use Rattle.oz_base.specs.Streams.{HandsInOnly}
 use Rattle.oz_model.specs.Output.{output, pieces_of}
 use Rattle.oz_sugar.specs.Texts.{FaultOf}
 use Rattle.oz_grammar.specs.declared.fault.TextFault.{TextFault}
@@ -19,6 +20,7 @@ use Rattle.oz_runner.specs.declared.work.Work.{Work}
 use Rattle.oz_runner.specs.Run.{IsStatusOfRun}
 use Rattle.oz_runner.specs.Headline.{Headline}
 use Rattle.oz_runner.specs.Writing.{IsReportedAs, IsOutputTaken, after_fault}
+use Rattle.oz_runner.specs.Pieces.{IsRestOfOutput, IsWrittenByLine}
 
 -- the end of a run
 pub ran_cause : (seen : OzCall) (made : RunOutput) (status : Status) (given : HasProgram seen) → IsStatusOfRun given.program given.options made status → Cause seen made status
@@ -92,11 +94,12 @@ answered_cause : (seen : OzCall) (made : RunOutput) (bytes : List ℕ) (worked s
 answered_cause seen made bytes worked status (inl all) cause = subst (Cause seen made) (sym all.0) cause
 answered_cause seen made bytes worked status (inr front) cause = subst (Cause seen made) (sym front.0) (fault_cause seen made worked front.1 cause)
 
--- the work, and what was written of it
-pub headline : (seen : OzCall) (made : RunOutput) (status worked final : Status) (journal : List Turn) (schedule : List Pick)
+-- the work, what was written of it, and by which pieces
+pub headline : (seen : OzCall) (made : RunOutput) (status worked final : Status) (journal : List Turn) (schedule : List Pick) (old new : Option (List (List ℕ)))
     → journal ≡ made.journal → schedule ≡ made.schedule → Cause seen made status → HasLine status → IsReportedAs status worked
-    → IsOutputTaken seen.sink (output made.lines (end_line worked)) worked final → Headline seen (run_output_of journal schedule made.lines) final
-headline seen made status worked final journal schedule same_journal same_schedule cause has told wrote =
+    → IsOutputTaken seen.sink (output made.lines (end_line worked)) worked final
+    → HandsInOnly old new (IsRestOfOutput made.lines (end_line worked ++ 10 ∷ [])) → IsWrittenByLine seen journal schedule final old new
+headline seen made status worked final journal schedule old new same_journal same_schedule cause has told wrote handed =
     let before = told_cause seen made status worked told cause in
     let whole : Headline seen made final = record {
       worked = worked;
@@ -105,38 +108,49 @@ headline seen made status worked final journal schedule same_journal same_schedu
       written = wrote;
       answered = answered_cause seen made _ worked final wrote before;
     } in
-    subst (λ (j : List Turn). Headline seen (run_output_of j schedule made.lines) final) (sym same_journal)
-    (subst (λ (picks : List Pick). Headline seen (run_output_of made.journal picks made.lines) final) (sym same_schedule) whole)
+    subst (λ (j : List Turn). IsWrittenByLine seen j schedule final old new) (sym same_journal)
+    (subst (λ (picks : List Pick). IsWrittenByLine seen made.journal picks final old new) (sym same_schedule) (made.lines, whole, handed))
 
-abbrev Told : (sink : Stream) (lines : List (List ℕ)) (status final : Status) → Type 0
-Told sink lines status final = (worked : Status) × IsReportedAs status worked × IsOutputTaken sink (output lines (end_line worked)) worked final
+abbrev Told : (sink : Stream) (old new : Option (List (List ℕ))) (lines : List (List ℕ)) (status final : Status) → Type 0
+Told sink old new lines status final =
+    (worked : Status) × IsReportedAs status worked × IsOutputTaken sink (output lines (end_line worked)) worked final
+    × HandsInOnly old new (IsRestOfOutput lines (end_line worked ++ 10 ∷ []))
 
 -- the end line was written
-pub told_as : (sink : Stream) (lines : List (List ℕ)) (status : Status) (end : List ℕ) (final : Status)
-    → end ≡ end_line status ++ 10 ∷ [] → IsOutputTaken sink (pieces_of lines ++ end) status final → Told sink lines status final
-told_as sink lines status end final is wrote =
-    (status, inl refl, subst (λ (b : List ℕ). IsOutputTaken sink (pieces_of lines ++ b) status final) is wrote)
+pub told_as : (sink : Stream) (old new : Option (List (List ℕ))) (lines : List (List ℕ)) (status : Status) (end : List ℕ) (final : Status)
+    → end ≡ end_line status ++ 10 ∷ [] → IsOutputTaken sink (pieces_of lines ++ end) status final
+    → HandsInOnly old new (IsRestOfOutput lines end) → Told sink old new lines status final
+told_as sink old new lines status end final is wrote handed = (
+  status,
+  inl refl,
+  subst (λ (b : List ℕ). IsOutputTaken sink (pieces_of lines ++ b) status final) is wrote,
+  subst (λ (b : List ℕ). HandsInOnly old new (IsRestOfOutput lines b)) is handed,
+)
 
 -- the end line found no memory: the lines stay, and the status is Memory
-pub told_memory : (sink : Stream) (lines kept : List (List ℕ)) (status stopped final : Status)
+pub told_memory : (sink : Stream) (old new : Option (List (List ℕ))) (lines kept : List (List ℕ)) (status stopped final : Status)
     → HasNumbers status → kept ≡ lines → stopped ≡ Memory → IsOutputTaken sink (pieces_of kept ++ (end_line Memory ++ 10 ∷ [])) stopped final
-    → Told sink lines status final
-told_memory sink lines kept status stopped final has same is wrote = (
+    → HandsInOnly old new (IsRestOfOutput kept (end_line Memory ++ 10 ∷ [])) → Told sink old new lines status final
+told_memory sink old new lines kept status stopped final has same is wrote handed = (
   Memory,
   inr (has, refl),
   subst (λ (ls : List (List ℕ)). IsOutputTaken sink (output ls (end_line Memory)) Memory final) same
       (subst (λ (st : Status). IsOutputTaken sink (output kept (end_line Memory)) st final) is wrote),
+  subst (λ (ls : List (List ℕ)). HandsInOnly old new (IsRestOfOutput ls (end_line Memory ++ 10 ∷ []))) same handed,
 )
 
 -- nothing ran for want of memory, and its line was written
-pub told_without_run : (sink : Stream) (work : Work) (final : Status) → Told sink (lines_of work.printed) work.status final → work.status ≡ Memory → lines_of work.printed ≡ []
-    → (final ≡ Memory) × IsOutputTaken sink (output [] (end_line Memory)) Memory Memory
-told_without_run sink work final (worked, told, wrote) status lines =
+pub told_without_run : (sink : Stream) (old new : Option (List (List ℕ))) (work : Work) (final : Status) → Told sink old new (lines_of work.printed) work.status final
+    → work.status ≡ Memory → lines_of work.printed ≡ []
+    → (final ≡ Memory) × IsOutputTaken sink (output [] (end_line Memory)) Memory Memory × HandsInOnly old new (IsRestOfOutput [] (end_line Memory ++ 10 ∷ []))
+told_without_run sink old new work final (worked, told, wrote, handed) status lines =
     let is = reported_memory work.status worked status told in
     let all : IsOutputTaken sink (output [] (end_line Memory)) Memory final =
     subst (λ (z : List (List ℕ) × Status). IsOutputTaken sink (output z.0 (end_line z.1)) z.1 final) (λ i. (lines i, is i)) wrote in
     let ends = final_memory sink _ final all in
-    (ends, subst (IsOutputTaken sink (output [] (end_line Memory)) Memory) ends all)
+    let pieces : HandsInOnly old new (IsRestOfOutput [] (end_line Memory ++ 10 ∷ [])) =
+    subst (λ (z : List (List ℕ) × Status). HandsInOnly old new (IsRestOfOutput z.0 (end_line z.1 ++ 10 ∷ []))) (λ i. (lines i, is i)) handed in
+    (ends, subst (IsOutputTaken sink (output [] (end_line Memory)) Memory) ends all, pieces)
   where
     reported_memory : (status worked : Status) → status ≡ Memory → IsReportedAs status worked → worked ≡ Memory
     reported_memory status worked is (inl same) = same ∙ is

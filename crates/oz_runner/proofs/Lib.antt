@@ -2,7 +2,9 @@ pub mod RunLemmas
 pub mod BookLemmas
 pub mod MachineLemmas
 pub mod Pieces
+pub mod HandedLemmas
 pub mod CauseLemmas
 pub mod CompleteLemmas
 pub mod BesideLemmas
 pub mod WordLemmas
+pub mod ExcludeLemmas

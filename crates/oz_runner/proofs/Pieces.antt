@@ -71,7 +71,7 @@ lines_append [] k = sym (append-nil (lines_in k))
 lines_append (e ∷ j) k = ap (λ ls. ls ++ e.lines) (lines_append j k) ∙ append_assoc (lines_in k) (lines_in j) e.lines
 
 -- the oldest turn's lines come first
-lines_reverse : (e : Turn) (ts : List Turn) → lines_in (reverse (e ∷ ts)) ≡ e.lines ++ lines_in (reverse ts)
+pub lines_reverse : (e : Turn) (ts : List Turn) → lines_in (reverse (e ∷ ts)) ≡ e.lines ++ lines_in (reverse ts)
 lines_reverse e ts = ap lines_in (reverse-append (e ∷ []) ts) ∙ lines_append (reverse ts) (e ∷ [])
 
 pub turns_are : (ts : List Turn) → flat_map turn_pieces ts ≡ pieces_of (lines_in (reverse ts))

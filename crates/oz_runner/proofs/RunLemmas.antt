@@ -18,7 +18,7 @@ use Rattle.site_model.specs.Site.{Site}
 use Rattle.world_model.specs.Matches.{EquationsMatch}
 use Rattle.world_model.specs.Simulated.{IsSimulated, last_ended, last_waiting}
 use Rattle.world_model.specs.World.{eqs}
-use Rattle.world_runs.specs.Distributed.{DistributedRun}
+use Rattle.world_simulation.specs.Distributed.{DistributedRun}
 use Rattle.plain_run.specs.Progress.{HasReason}
 use Rattle.plain_run.specs.Simulated.{HasMachineRun}
 use Rattle.plain_run.specs.declared.out.Limits.{Limits}

@@ -4,7 +4,7 @@ use Rattle.std.specs.Process.{exit_status}
 use Rattle.std.specs.declared.process.ExitCode.{ExitCode}
 use Rattle.oz_show.specs.Status.{status_number}
 use Rattle.oz_show.specs.declared.status.Status.{Status}
-use Rattle.world_places.specs.Places.{ThreadsStayHome}
+use Rattle.world_journals.specs.Places.{ThreadsStayHome}
 use Rattle.oz_runner.specs.OzCall.{Stream, RunOutput, oz_call_of}
 use Rattle.oz_runner.specs.Words.{AreToldAs}
 use Rattle.oz_runner.specs.Headline.{Headline}

@@ -8,9 +8,9 @@ use Rattle.site_message.specs.Journal.{sent_of}
 use Rattle.site_message.specs.declared.turn.Turn.{Turn}
 use Rattle.site_model.specs.Bundle.{bundle_limit}
 use Rattle.site_model.specs.Site.{Site, cell_record}
-use Rattle.world_places.specs.Places.{ThreadsStayHome}
-use Rattle.world_requests.specs.Requests.{AreRequestsServed}
-use Rattle.world_runs.specs.Distributed.{DistributedRun}
+use Rattle.world_journals.specs.Places.{ThreadsStayHome}
+use Rattle.world_journals.specs.Requests.{AreRequestsServed}
+use Rattle.world_simulation.specs.Distributed.{DistributedRun}
 use Rattle.oz_runner.specs.Cause.{HasProgram}
 use Rattle.oz_runner.specs.Messages.{most_messages}
 use Rattle.oz_runner.specs.OzCall.{OzCall}

@@ -13,7 +13,7 @@ use Rattle.oz_words.specs.declared.options.Action.TheVariants as action
 use Rattle.oz_words.specs.declared.options.Options.{Options}
 use Rattle.oz_words.specs.declared.options.WordsError.TheVariants as words_error
 use Rattle.oz_show.specs.declared.status.Status.{Status}
-use Rattle.oz_show.specs.declared.status.Status.TheVariants.{Usage, Refused, NotUtf8, TooLong, ReadFault, WriteFault, Memory}
+use Rattle.oz_show.specs.declared.status.Status.TheVariants.{Quiescent, Usage, Refused, NotUtf8, TooLong, StepLimit, MessageLimit, ReadFault, WriteFault, Memory}
 use Rattle.oz_runner.specs.OzCall.{Stream, OzCall, RunOutput}
 use Rattle.oz_runner.specs.Run.{IsStatusOfRun}
 
@@ -39,18 +39,19 @@ IsUntouched s = (s.bytes_after ≡ s.bytes_before) × HasNoFault s
 
 -- the source gave this text to its end without a fault, and it is short enough
 abbrev pub IsTextOfSource : Stream → List ℕ → Type 0
-IsTextOfSource s text =
-    Consumes s.bytes_before s.bytes_after text × IsAtEnd s.bytes_after × (length text ≤ text_limit) × HasNoFault s
+IsTextOfSource s text = Consumes s.bytes_before s.bytes_after text × IsAtEnd s.bytes_after × (length text ≤ text_limit) × HasNoFault s
 
 -- the text that is run: what the source gave, or with `gen` the large text of the size, and the source is not touched
 abbrev pub IsTextOf : Action → Stream → List ℕ → Type 0
+IsTextOf action.Run source text = IsTextOfSource source text
+IsTextOf action.Central source text = IsTextOfSource source text
 IsTextOf (action.Gen size) source text = (text ≡ large_text size) × IsUntouched source
-IsTextOf _ source text = IsTextOfSource source text
 
 -- the text is that of the source
 abbrev pub ReadsSource : Action → Type 0
+ReadsSource action.Run = Unit {0}
+ReadsSource action.Central = Unit {0}
 ReadsSource (action.Gen size) = ⊥
-ReadsSource _ = Unit {0}
 
 -- nothing ran: there is no turn, no step and no line
 abbrev pub NothingRan : RunOutput → Type 0
@@ -87,9 +88,7 @@ HasRunStatus seen made status = (given : HasProgram seen) × IsStatusOfRun given
 -- no memory was left before anything ran: the source was not read, or no more of it than a short text
 abbrev pub IsStoppedEarly : OzCall → RunOutput → Type 0
 IsStoppedEarly seen made =
-    (IsUntouched seen.source
-    ⊎ (IsSourceWanted seen × HasNoFault seen.source × SourceGivesFront seen.source (λ n. n ≤ text_limit)))
-    × NothingRan made
+    (IsUntouched seen.source ⊎ (IsSourceWanted seen × HasNoFault seen.source × SourceGivesFront seen.source (λ n. n ≤ text_limit))) × NothingRan made
 
 -- The cause of each status. Want of memory is the one free answer: it comes before anything ran, or in a run, whose lines are
 -- those of the schedule
@@ -102,4 +101,6 @@ Cause seen made (NotUtf8 at) =
 Cause seen made (Refused fault) = HasRunText seen (λ text. IsUtf8 text × FaultOf text fault) × NothingRan made
 Cause seen made WriteFault = HasFault seen.sink
 Cause seen made Memory = IsStoppedEarly seen made ⊎ HasRunStatus seen made Memory
-Cause seen made status = HasRunStatus seen made status
+Cause seen made (Quiescent ended waiting) = HasRunStatus seen made (Quiescent ended waiting)
+Cause seen made (StepLimit site) = HasRunStatus seen made (StepLimit site)
+Cause seen made MessageLimit = HasRunStatus seen made MessageLimit

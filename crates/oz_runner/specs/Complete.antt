@@ -14,8 +14,9 @@ use Rattle.oz_runner.specs.Cause.{HasFault, HasOptions, text_limit}
 
 -- the text that is to be run: what the source has, where it tells that, or the large text of the size
 abbrev pub HasText : Action → Stream → List ℕ → Type 0
+HasText action.Run source text = source.bytes_before ≡ Some text
+HasText action.Central source text = source.bytes_before ≡ Some text
 HasText (action.Gen size) source text = text ≡ large_text size
-HasText _ source text = source.bytes_before ≡ Some text
 
 -- the words are taken, the text is told, short enough and UTF-8, it reads a program, and there was no fault
 pub record IsGood (seen : OzCall) : Type 0 where

@@ -14,7 +14,8 @@ use Rattle.oz_runner.specs.Headline.{Headline}
 use Rattle.oz_runner.specs.Besides.{IsAccounted}
 use Rattle.oz_runner.specs.Writing.{IsOutputTaken}
 
--- a call of `oz` was made with the words, which are those told where they are told, and the number is that of its status
+-- a call of `oz` was made with the words, which are those told where they are told: the headline holds of it, and what is said of its
+-- journal besides, and the number is that of its status
 abbrev pub IsExitOfCall : Option (List (List ℕ)) → Stream → Stream → ExitCode → Type 0
 IsExitOfCall told source sink code =
     (words : List (List ℕ)) × AreToldAs told words × (made : RunOutput) × (status : Status)

@@ -5,9 +5,11 @@ pub mod Run
 pub mod Cause
 pub mod Writing
 pub mod Headline
+pub mod Pieces
 pub mod Complete
 pub mod Ends
 pub mod Bounds
 pub mod Machine
 pub mod Besides
 pub mod Exit
+pub mod Laws

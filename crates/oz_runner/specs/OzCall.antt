@@ -14,12 +14,8 @@ pub record Stream : Type 0 where
 
 -- the stream whose bytes and faults are told so, by what it was before the call and after it
 abbrev pub stream_of : {X : Type 0} → (X → Option (List ℕ)) → (X → ℕ) → X → X → Stream
-stream_of bytes faults old new = record {
-  bytes_before = bytes old;
-  bytes_after = bytes new;
-  faults_before = faults old;
-  faults_after = faults new;
-}
+stream_of bytes faults old new =
+    record { bytes_before = bytes old; bytes_after = bytes new; faults_before = faults old; faults_after = faults new }
 
 -- the words, which are the program's name and those after it, the source and the sink
 pub record OzCall : Type 0 where

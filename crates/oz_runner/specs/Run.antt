@@ -15,7 +15,7 @@ use Rattle.site_message.specs.declared.reason.Reason.TheVariants.{Quiet, Steps, 
 use Rattle.site_model.specs.Bundle.{bundle_limit}
 use Rattle.site_model.specs.Site.{Site}
 use Rattle.world_model.specs.Schedule.{schedule, lines_in}
-use Rattle.world_runs.specs.Distributed.{DistributedRun}
+use Rattle.world_simulation.specs.Distributed.{DistributedRun}
 use Rattle.oz_words.specs.declared.options.Action.{Action}
 use Rattle.oz_words.specs.declared.options.Action.TheVariants as action
 use Rattle.oz_words.specs.declared.options.Options.{Options}
@@ -25,8 +25,9 @@ use Rattle.oz_runner.specs.OzCall.{RunOutput}
 
 -- `run` and `gen` run the program over sites, `central` on the machine alone: the first is said of sites, the second of the machine
 abbrev pub OfSitesOrMachine : Action → Type 0 → Type 0 → Type 0
+OfSitesOrMachine action.Run OfSites OfMachine = OfSites
 OfSitesOrMachine action.Central OfSites OfMachine = OfMachine
-OfSitesOrMachine _ OfSites OfMachine = OfSites
+OfSitesOrMachine (action.Gen size) OfSites OfMachine = OfSites
 
 -- the limits that the words set for the sites
 abbrev pub limits_of : Options → Limits

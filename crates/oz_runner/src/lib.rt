@@ -8,14 +8,17 @@
 //! the order of turns and deliveries in the journal of the report, and whatever drove the sites; where it is quiescent no message
 //! travels, that machine has no step left, and the threads that ended and wait are that machine's (`IsStatusOfRun` in
 //! `specs/Run.antt`); each status has its cause (`Cause` in `specs/Cause.antt`, one line a status), and what a failed write left is
-//! a front of what was due. `oz` (`complete`): with words that are taken, a text that reads a program, and no fault, the run goes
-//! to its end or to a limit. `run_program`: the journal that workers, or the plain rounds, leave is a run of the program on so many
-//! sites, with its schedule and totals, ends by the reason that is told, and has no turn past the limit of own steps. `start`: the program ends
-//! with the number of the status that a call of `oz` with the words answers; where no memory is left for the words it writes `out of memory`.
+//! a front of what was due. `causes_exclude`: where the source tells its bytes, no two statuses but those of failed writes and of
+//! want of memory have their causes in one call. `oz` (`complete`): with words that are taken, a text that reads a program, and no
+//! fault, the run goes to its end or to a limit. `oz` (`pieces`): each call of a sink that tells its pieces is handed all that is
+//! left of one line with its newline. `run_program`: the journal that workers, or the plain rounds, leave is a run of the program on
+//! so many sites, with its schedule and totals, ends by the reason that is told, and has no turn past the limit of own steps;
+//! without workers its turns come in the fixed order of `plain_run` (`rounds`). `start`: the program ends with the number of the
+//! status that a call of `oz` with the words answers; where no memory is left for the words it writes `out of memory`.
 //!
 //! **Stands on** `oz_words` for the words, `oz_base` for the text and the bytes written, `oz_sugar` and `oz_parser` for the program
-//! that a text stands for, `large_run` for the text of `gen`, `site_worker`, `message_book` and `plain_run` for a run over sites, `world_runs`
-//! and `world_places` for what such a run is and where its threads stay, `central_machine` and `oz_model` for a run of the machine
+//! that a text stands for, `large_run` for the text of `gen`, `site_worker`, `message_book` and `plain_run` for a run over sites, `world_simulation`
+//! and `world_journals` for what such a run is and where its threads stay, `central_machine` and `oz_model` for a run of the machine
 //! alone, and `oz_show` for the end line.
 //!
 //! **Tests alone show**, in `oz_tests`: that memory suffices for the texts there, that runs with workers end, and that two runs
@@ -26,6 +29,7 @@
 //! and Van Roy and others, Mobile Objects in Distributed Oz (TOPLAS 19(5), 1997), for what the sites do.
 #![tactic(auto)]
 
+mod laws;
 mod machine;
 mod oz_call;
 mod program;
@@ -36,6 +40,7 @@ mod words;
 mod work;
 mod write;
 
+pub use laws::causes_exclude;
 pub use oz_call::oz;
 pub use oz_show::Status;
 pub use oz_words::command;

@@ -1,15 +1,17 @@
 //! The top call.
 
-ghost use Rattle.std.specs.Prelude.{◌≡◌, ◌<◌, ◌++◌, List, [], ℕ, length, map, string_bytes};
+ghost use Rattle.std.specs.Prelude.{◌≡◌, ◌<◌, ◌++◌, ◌∷◌, List, [], ℕ, length, map, string_bytes};
+ghost use Rattle.oz_base.specs.Streams.{HandsInOnly};
 ghost use Rattle.oz_model.specs.Output.{output, pieces_of};
 ghost use Rattle.oz_show.specs.Status.{end_line, HasLine};
 ghost use Rattle.oz_show.specs.declared.status.Status.TheVariants.{Memory};
-ghost use Rattle.world_places.specs.Places.{ThreadsStayHome};
+ghost use Rattle.world_journals.specs.Places.{ThreadsStayHome};
 ghost use Rattle.oz_runner.specs.Besides.{AreMessagesBounded, AreTokensServed};
 ghost use Rattle.oz_runner.specs.OzCall.{stream_of, oz_call_of, run_output_of};
 ghost use Rattle.oz_runner.specs.Complete.{IsGood, IsDone};
 ghost use Rattle.oz_runner.specs.Ends.{journal_of, lines_of};
 ghost use Rattle.oz_runner.specs.Headline.{Headline};
+ghost use Rattle.oz_runner.specs.Pieces.{IsRestOfOutput, IsWrittenByLine};
 ghost use Rattle.oz_runner.specs.Writing.{IsOutputTaken, IsReportedAs, after_fault};
 
 use crate::work::{RunLines, Work, do_work, work_without_run};
@@ -23,10 +25,8 @@ use site_worker::Gate;
 use std::alloc::Global;
 use std::sync::Wait;
 use std::thread::Threads;
-use world_places::threads_stay_home;
-use world_requests::requests_are_served;
-use world_runs::runs_take_rows;
-use world_simulation::messages_are_few;
+use world_journals::{requests_are_served, threads_stay_home};
+use world_simulation::{messages_are_few, runs_take_rows};
 
 /// Reads the words and a text, runs it, and writes its lines and the end line. `words` are the program's name and the
 /// words after it. Workers call the gate before each turn of a site.
@@ -52,6 +52,9 @@ pub fn oz<S: Source, K: Sink, G: Gate + Sync, R: Threads + Wait + Sync>(
     ensures served { AreTokensServed
         (oz_call_of (map string_bytes words.now) (stream_of S.left S.faults source.old source.new) (stream_of K.taken K.faults sink.old sink.new))
         result.journal }
+    ensures pieces { IsWrittenByLine
+        (oz_call_of (map string_bytes words.now) (stream_of S.left S.faults source.old source.new) (stream_of K.taken K.faults sink.old sink.new))
+        result.journal result.schedule result.status (K.pieces sink.old) (K.pieces sink.new) }
 {
     texts_have_one_of_both();
     runs_take_rows();
@@ -66,6 +69,7 @@ pub fn oz<S: Source, K: Sink, G: Gate + Sync, R: Threads + Wait + Sync>(
 pub(crate) fn report_without_words<K: Sink>(alloc: Global, sink: &mut K) -> Report
     ensures status { result.status ≡ Memory }
     ensures written { IsOutputTaken (stream_of K.taken K.faults sink.old sink.new) (output [] (end_line Memory)) Memory Memory }
+    ensures pieces { HandsInOnly (K.pieces sink.old) (K.pieces sink.new) (IsRestOfOutput [] (end_line Memory ++ 10 ∷ [])) }
 {
     report(alloc, sink, work_without_run(alloc, Status::Memory))
 }
@@ -74,7 +78,8 @@ pub(crate) fn report_without_words<K: Sink>(alloc: Global, sink: &mut K) -> Repo
 fn report<K: Sink>(alloc: Global, sink: &mut K, work: Work) -> Report
     requires { HasLine work.status }
     ensures written { (worked : Status) × IsReportedAs work.status worked
-        × IsOutputTaken (stream_of K.taken K.faults sink.old sink.new) (output (lines_of work.printed) (end_line worked)) worked result.status }
+        × IsOutputTaken (stream_of K.taken K.faults sink.old sink.new) (output (lines_of work.printed) (end_line worked)) worked result.status
+        × HandsInOnly (K.pieces sink.old) (K.pieces sink.new) (IsRestOfOutput (lines_of work.printed) (end_line worked ++ 10 ∷ [])) }
     ensures journal { result.journal ≡ journal_of work.printed }
     ensures schedule { result.schedule ≡ work.schedule }
 {
@@ -109,6 +114,7 @@ fn out_of_memory(work: Work) -> Work
 fn finish<K: Sink>(alloc: Global, sink: &mut K, work: Work, end: &[u8]) -> Report
     ensures written { IsOutputTaken (stream_of K.taken K.faults sink.old sink.new)
         (pieces_of (lines_of work.printed) ++ end.now) work.status result.status }
+    ensures pieces { HandsInOnly (K.pieces sink.old) (K.pieces sink.new) (IsRestOfOutput (lines_of work.printed) end.now) }
     ensures journal { result.journal ≡ journal_of work.printed }
     ensures schedule { result.schedule ≡ work.schedule }
 {

@@ -8,8 +8,9 @@ ghost use Rattle.message_book.specs.Book.{IsReason};
 ghost use Rattle.world_model.specs.Schedule.{schedule, sum_to};
 ghost use Rattle.world_model.specs.Simulated.{last_ended, last_waiting};
 ghost use Rattle.world_core.specs.Laws.{HasRun, AreMessagesFew};
-ghost use Rattle.world_places.specs.Places.{ThreadsStayHome};
+ghost use Rattle.world_journals.specs.Places.{ThreadsStayHome};
 ghost use Rattle.plain_run.specs.Progress.{HasReason, limits_of};
+ghost use Rattle.plain_run.specs.Rounds.{IsPlainRun};
 ghost use Rattle.plain_run.specs.Simulated.{HasMachineRun};
 ghost use Rattle.oz_runner.specs.Bounds.{AreBounds, limits_in};
 
@@ -20,8 +21,8 @@ use site_message::{History, Reason};
 use site_worker::{Gate, RunLimits, run_sites};
 use std::alloc::Global;
 use std::sync::Wait;
-use std::thread::Threads;
-use world_places::threads_stay_home;
+use std::thread::{Threads, available_parallelism};
+use world_journals::threads_stay_home;
 
 /// Runs a program over its sites. Workers drive them on threads of the system, and call the gate before each turn; without
 /// workers the sites take turns here, in a fixed order, and there is no gate.
@@ -41,6 +42,7 @@ pub fn run_program<G: Gate + Sync, R: Threads + Wait + Sync>(
     ensures reason { HasReason (limits_in bounds) result.journal result.reason }
     ensures went { HasNoEarlierEnd (limits_of (limits_in bounds)) result.journal }
     ensures within { AreWithin (limits_of (limits_in bounds)) result.journal }
+    ensures rounds { bounds.workers ≡ 0 → IsPlainRun program.now (limits_in bounds) result.journal }
     ensures ended { result.ended ≡ sum_to bounds.sites (last_ended result.journal) }
     ensures waiting { result.waiting ≡ sum_to bounds.sites (last_waiting result.journal) }
 {
@@ -57,7 +59,7 @@ pub fn run_program<G: Gate + Sync, R: Threads + Wait + Sync>(
     finish_run(program, limits, driven)
 }
 
-// What workers leave, of which there are no more than sites.
+// What workers leave, of which there are no more than sites and than may be at work at once.
 fn drive_sites<G: Gate + Sync, R: Threads + Wait + Sync>(
     rt: &R,
     alloc: Global,
@@ -72,13 +74,23 @@ fn drive_sites<G: Gate + Sync, R: Threads + Wait + Sync>(
     ensures went { HasNoEarlierEnd (limits_of (limits_in bounds)) result.history }
     ensures within { AreWithin (limits_of (limits_in bounds)) result.history }
 {
-    let workers = bounds.workers.min(bounds.sites);
+    let workers = bounds.workers.min(bounds.sites).min(most_workers(rt));
     match run_sites(rt, alloc, program, RunLimits { workers, ..bounds }, gate) {
         Ok(book) => run_in_book(book),
         Err(_) => DrivenRun {
             history: History::new(alloc),
             reason: Reason::Memory,
         },
+    }
+}
+
+// How many workers may be at work at once: one for each processor, and always two. More would only wait for the book.
+fn most_workers<R: Threads>(rt: &R) -> u32
+    ensures { 2 ≤ result }
+{
+    match available_parallelism(rt) {
+        Ok(processors) => processors.get().clamp(2, 64) as u32,
+        Err(_) => 64,
     }
 }
 

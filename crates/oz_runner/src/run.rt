@@ -18,7 +18,7 @@ use site_worker::{Gate, RunLimits};
 use std::alloc::Global;
 use std::sync::Wait;
 use std::thread::Threads;
-use world_runs::runs_take_rows;
+use world_simulation::runs_take_rows;
 
 /// Runs a program, as the options say.
 pub fn run<G: Gate + Sync, R: Threads + Wait + Sync>(

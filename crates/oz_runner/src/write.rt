@@ -1,10 +1,11 @@
 //! The lines and the end line, written as pieces.
 
 ghost use Rattle.std.specs.Prelude.{◌++◌, reverse};
-ghost use Rattle.oz_base.specs.Streams.{HasCause, TakesPiece};
+ghost use Rattle.oz_base.specs.Streams.{HasCause, HandsInOnly, TakesPiece};
 ghost use Rattle.oz_model.specs.Output.{pieces_of};
 ghost use Rattle.world_model.specs.Schedule.{lines_in};
 ghost use Rattle.oz_runner.specs.Ends.{lines_of};
+ghost use Rattle.oz_runner.specs.Pieces.{IsRestOfLine, IsRestOfOutput};
 
 use crate::work::RunLines;
 use oz_base::{Failed, Sink, write_piece};
@@ -14,6 +15,7 @@ use tree_node::Line;
 /// Writes each line with its newline, in order, and stops at the first that fails.
 pub fn write_lines<K: Sink>(sink: &mut K, lines: &[Line]) -> Result<(), Failed>
     ensures bytes { TakesPiece (K.taken sink.old) (K.taken sink.new) result (pieces_of lines.now) }
+    ensures pieces { HandsInOnly (K.pieces sink.old) (K.pieces sink.new) (IsRestOfLine lines.now) }
     ensures cause { HasCause (K.faults sink.old) (K.faults sink.new) result }
 {
     for line in lines {
@@ -27,6 +29,7 @@ pub fn write_lines<K: Sink>(sink: &mut K, lines: &[Line]) -> Result<(), Failed>
 /// Writes the lines of turns, the oldest first, and stops at the first that fails.
 pub fn write_turns<K: Sink>(sink: &mut K, turns: &[Turn]) -> Result<(), Failed>
     ensures bytes { TakesPiece (K.taken sink.old) (K.taken sink.new) result (pieces_of (lines_in (reverse turns.now))) }
+    ensures pieces { HandsInOnly (K.pieces sink.old) (K.pieces sink.new) (IsRestOfLine (lines_in (reverse turns.now))) }
     ensures cause { HasCause (K.faults sink.old) (K.faults sink.new) result }
 {
     for turn in turns {
@@ -40,6 +43,7 @@ pub fn write_turns<K: Sink>(sink: &mut K, turns: &[Turn]) -> Result<(), Failed>
 /// Writes the lines of a run.
 pub fn write_run_lines<K: Sink>(sink: &mut K, printed: &RunLines) -> Result<(), Failed>
     ensures bytes { TakesPiece (K.taken sink.old) (K.taken sink.new) result (pieces_of (lines_of printed.now)) }
+    ensures pieces { HandsInOnly (K.pieces sink.old) (K.pieces sink.new) (IsRestOfLine (lines_of printed.now)) }
     ensures cause { HasCause (K.faults sink.old) (K.faults sink.new) result }
 {
     match printed {
@@ -51,6 +55,7 @@ pub fn write_run_lines<K: Sink>(sink: &mut K, printed: &RunLines) -> Result<(), 
 /// Writes the lines of a run and then the piece of the end line.
 pub fn write_all<K: Sink>(sink: &mut K, printed: &RunLines, end: &[u8]) -> Result<(), Failed>
     ensures bytes { TakesPiece (K.taken sink.old) (K.taken sink.new) result (pieces_of (lines_of printed.now) ++ end.now) }
+    ensures pieces { HandsInOnly (K.pieces sink.old) (K.pieces sink.new) (IsRestOfOutput (lines_of printed.now) end.now) }
     ensures cause { HasCause (K.faults sink.old) (K.faults sink.new) result }
 {
     if let Err(failed) = write_run_lines(sink, printed) {

@@ -10,3 +10,9 @@ pub returns-clause-homes : goal.returns-clause-homes
 returns-clause-homes g c =
     let ran = c.finish_run.ensures.run in
     c.threads_stay_home.ensures.home c.args.program.now c.args.bounds.sites bundle_limit c.finish_run.result.journal ran.0 ran.1
+
+pub returns-then-bounds-eq0-clause-rounds : goal.returns-then-bounds-eq0-clause-rounds
+returns-then-bounds-eq0-clause-rounds g c = λ none. c.run_plain.ensures.rounds
+
+pub returns-clause-rounds : goal.returns-clause-rounds
+returns-clause-rounds g c = λ none. absurd (c.if-bounds-eq0.false none)

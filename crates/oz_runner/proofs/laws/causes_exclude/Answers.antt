@@ -1,0 +1,5 @@
+use Rattle.oz_runner.proofs.ExcludeLemmas.{causes_exclude}
+use Rattle.oz_runner.proofs.laws.causes_exclude.Goals as goal
+
+pub returns : goal.returns
+returns c = causes_exclude c.texts_have_one_of_both.ensures.one_of_both c.runs_are_determined.ensures.end
