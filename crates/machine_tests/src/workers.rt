@@ -12,8 +12,13 @@ use std::sync::Wait;
 use std::test::Fail;
 use std::thread::Threads;
 
-// Rows: a text, its sites, and its workers. Each run comes to rest.
-const QUIET: [(&str, u32, u32); 7] = [
+/// The own steps that a site may make, and the messages that may be sent.
+pub const STEPS: u64 = 10_000;
+
+pub const MESSAGES: u64 = 4_000_000_000;
+
+/// Rows: a text, its sites, and its workers. Each run comes to rest.
+pub const QUIET: [(&str, u32, u32); 7] = [
     ("skip", 1, 1),
     ("skip", 64, 64),
     ("local X in {Browse X} end", 2, 2),
@@ -54,9 +59,28 @@ const ROUNDS: &str = "local Cell Add Zero One N A B in
   {Wait A} {Wait B}
 end";
 
-const LOOP: &str = "local P in P = proc {$} {P} end {P} end";
+/// A thread that goes round and round.
+pub const LOOP: &str = "local P in P = proc {$} {P} end {P} end";
 
-// The reason by which a run of the text ends on so many sites with so many workers.
+/// The book of a run of the row's text on so many sites with so many workers.
+pub fn book_of<R: Abort + Threads + Wait + Sync>(
+    rt: &R,
+    alloc: Global,
+    row: (&str, u32, u32),
+) -> Result<Book, AllocError>
+    requires { (1 ≤ row.1) × (row.1 ≤ 64) × (1 ≤ row.2) × (row.2 ≤ 64) }
+{
+    let program = program_of(rt, alloc, row.0)?;
+    let bounds = RunLimits {
+        sites: row.1,
+        workers: row.2,
+        steps: STEPS,
+        messages: MESSAGES,
+    };
+    run_sites(rt, alloc, &program, bounds, &OpenGate)
+}
+
+// The reason by which such a run ends.
 fn reason_of<R: Abort + Threads + Wait + Sync>(
     rt: &R,
     alloc: Global,
@@ -64,14 +88,7 @@ fn reason_of<R: Abort + Threads + Wait + Sync>(
 ) -> Result<Option<Reason>, AllocError>
     requires { (1 ≤ row.1) × (row.1 ≤ 64) × (1 ≤ row.2) × (row.2 ≤ 64) }
 {
-    let program = program_of(rt, alloc, row.0)?;
-    let bounds = RunLimits {
-        sites: row.1,
-        workers: row.2,
-        steps: 10_000,
-        messages: 4_000_000_000,
-    };
-    let book: Book = run_sites(rt, alloc, &program, bounds, &OpenGate)?;
+    let book = book_of(rt, alloc, row)?;
     let reason = book.reason();
     let (journal, _) = book.into_history().into_parts();
     journal.forget();

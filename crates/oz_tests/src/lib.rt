@@ -6,8 +6,10 @@
 //! **They show** what no clause says: that the texts of the tables have their one lawful output with ample memory, or one of
 //! their lawful outputs, on 1 to 64 sites, refusals and end lines among them; that the examples of the repository print what
 //! stands beside them; that a text as long as may be is read and runs; that a text without an end is stopped behind its
-//! lines, and keeps no other thread of its site from a turn; that the program takes words in memory; that two runs without workers print the same, and go by rounds of sites; that
-//! the gate is called with the turns of each site; that turns of two sites are under way at once; that what a site knows goes out with its messages.
+//! lines, and keeps no other thread of its site from a turn; that the program takes words in memory, and reads nothing where there
+//! are none; that a sink is handed one line with its newline after the other; that two runs without workers print the same, and go
+//! by rounds of sites; that the gate is called with the turns of each site; that turns of two sites are under way at once; that what
+//! a site knows goes out with its messages.
 //!
 //! **They stand on** `oz_runner`, and on `oz_base` for sources and sinks in memory.
 #![tactic(auto)]
@@ -26,6 +28,8 @@ mod large;
 mod meeting;
 #[cfg(test)]
 mod more_examples;
+#[cfg(test)]
+mod pieces;
 #[cfg(test)]
 mod rows;
 #[cfg(test)]

@@ -8,7 +8,7 @@ ghost use Rattle.message_book.specs.Book.{IsSiteOf};
 ghost use Rattle.site_message.specs.Story.{hand};
 
 use message_book::{Book, Posted, SpelledTurn};
-use site_message::{Bundle, Lines, Msg, Picks, Reason, Sent, SentList, Turn, wire_fits};
+use site_message::{Bundle, Lines, Msg, Picks, Reason, Sent, SentList, Turn, Units, wire_fits};
 use std::alloc::{AllocError, Global};
 use std::test::Fail;
 use tree_node::{CodeId, Seq, ThreadName, Vars};
@@ -35,6 +35,7 @@ fn turn(alloc: Global, site: u32, delivered: Option<u64>, sent: SentList) -> Tur
     Turn {
         site,
         delivered,
+        units: Units::new(alloc),
         picks: Picks::new(),
         sent,
         lines: Lines::new(alloc),
