@@ -9,7 +9,7 @@
 //! next to the one that makes it; all of them count in one cell, and the sums are added up in another. Its last lines are the
 //! two numbers `5 * N * N + 50 * N` and `10 * N`, on any number of sites: tests of `oz_tests` show that.
 //!
-//! **Stands on** std alone. That the text reads as a program is seen where it is parsed; no clause says so.
+//! **Stands on** std alone. That the text reads as a program is a law of `large_run_laws`.
 //!
 //! **Source**: the text is of this project; it is made of streams and cells, as in Van Roy and Haridi, *Concepts, Techniques, and Models
 //! of Computer Programming*, chapters 4 and 6.
