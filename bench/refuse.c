@@ -5,7 +5,7 @@
    REFUSE_ALLOCATION=N   the Nth malloc or realloc answers that there is no memory; with REFUSE_ON=1 each later one, too
    REFUSE_CHANCE=R       each of them does so by a chance of R in a million, drawn from REFUSE_SEED and its number
    REFUSE_THREAD=N       the Nth thread is not started; with REFUSE_THREADS_ON=1 none after it, either
-   FAIL_READ=N           the Nth read fails, with the error FAIL_ERROR; FAIL_WRITE=N likewise
+   FAIL_READ=N           the Nth read of standard input fails, with the error FAIL_ERROR; FAIL_WRITE=N likewise for writes
    SHORT_READ=N          the Nth read moves one byte, and each does where N is 0; SHORT_WRITE=N likewise
    COUNTS=FILE           a line with the numbers of calls is written there at the end. `late` counts the allocations that were
                          asked for after the first write. */
@@ -112,7 +112,7 @@ static ssize_t moved(long call, size_t size, long failing, long shortened) {
 }
 
 ssize_t read(int from, void *to, size_t size) {
-    ssize_t most = is_own(__builtin_return_address(0)) ? moved(atomic_fetch_add(&reads, 1) + 1, size, fail_read, short_read) : (ssize_t)size;
+    ssize_t most = from == 0 && is_own(__builtin_return_address(0)) ? moved(atomic_fetch_add(&reads, 1) + 1, size, fail_read, short_read) : (ssize_t)size;
     return most < 0 ? -1 : syscall(SYS_read, from, to, (size_t)most);
 }
 

@@ -432,8 +432,9 @@ def asked_by_all(n):
 end end"""
 
 
-def spread(n):
-    """A loop of n turns at each of four sites."""
+def loops(n, sites):
+    """A loop of n turns at each of so many sites."""
+    threads = " ".join(f"thread at {site} {{Loop N}} end" for site in range(1, sites + 1))
     return f"""local Loop Zero One N Nil in {constants(n)}
   proc {{Loop K}}
     local Ends in
@@ -441,8 +442,13 @@ def spread(n):
       if Ends then skip else local M in M = K - One {{Loop M}} end end
     end
   end
-  thread at 1 {{Loop N}} end thread at 2 {{Loop N}} end thread at 3 {{Loop N}} end thread at 4 {{Loop N}} end
+  {threads}
 end"""
+
+
+def spread(n):
+    """A loop of n turns at each of four sites."""
+    return loops(n, 4)
 
 
 # texts that are read: pieces side by side
