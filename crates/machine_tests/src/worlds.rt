@@ -5,7 +5,7 @@ use crate::programs::program_of;
 use site_message::Quantum;
 use std::mem::forget;
 use std::test::Fail;
-use world_core::{World, WorldRefusal};
+use world_core::{World, WorldRefusal, schedule};
 
 #[test]
 fn a_place_without_a_message_is_refused(rt: HostRuntime) -> Result<(), Fail> {
@@ -28,8 +28,10 @@ fn a_turn_that_ends_all_leaves_the_world_quiet(rt: HostRuntime) -> Result<(), Fa
     };
     assert!(rt; world.turn(1, None, Quantum(64)).is_ok());
     assert!(rt; world.quiet());
+    let picks = schedule(rt.alloc(), world.journal());
     let (journal, _) = world.into_history().into_parts();
     journal.forget();
     forget(program);
+    assert_eq!(rt; picks?.len(), 1);
     Ok(())
 }

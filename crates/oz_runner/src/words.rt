@@ -5,7 +5,7 @@ ghost use Rattle.std.specs.declared.option.Option.{Option};
 ghost use Rattle.oz_runner.specs.Words.{AreToldAs};
 ghost use Rattle.oz_runner.specs.declared.words.NoWords.TheVariants.{NotText};
 
-use std::alloc::{AllocError, Global};
+use std::alloc::Global;
 use std::env;
 use std::io::ErrorKind;
 use std::marker::Model;
@@ -18,12 +18,6 @@ pub enum NoWords {
     NotText,
     /// No memory is left for them.
     Memory,
-}
-
-impl From<AllocError> for NoWords {
-    fn from(_: AllocError) -> Self {
-        NoWords::Memory
-    }
 }
 
 /// What gives a program its name and the words after it: the command line of the system, or words in memory.
@@ -69,7 +63,7 @@ impl<R: Env + AllocGlobal> Words for SystemWords<'_, R> {
             words.push(word).map_err(|_| NoWords::Memory)?;
         }
         if words.is_empty() {
-            let name = String::from_str(alloc, "oz")?;
+            let name = String::from_str(alloc, "oz").map_err(|_| NoWords::Memory)?;
             words.push(name).map_err(|_| NoWords::Memory)?;
         }
         Ok(words)

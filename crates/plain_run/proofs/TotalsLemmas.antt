@@ -22,13 +22,11 @@ use Rattle.world_model.specs.Schedule.{schedule, sum_to}
 use Rattle.world_model.specs.Simulated.{last_ended, last_waiting}
 use Rattle.world_model.proofs.PutLemmas.{nat_decides}
 use Rattle.world_core.specs.Laws.{HasRun, AreMessagesFew}
+use Rattle.world_core.proofs.ScheduleLemmas.{reverse_push}
 use Rattle.world_core.proofs.WorldLemmas.{machine, were_fit, messages_few}
 use Rattle.plain_run.specs.Simulated.{HasMachineRun}
 use Rattle.plain_run.proofs.ProgressLemmas.{sum_fewer, sum_same}
 use Rattle.plain_run.proofs.StepLemmas.{waiting_fit}
-
-reverse_push : (xs : List Turn) (x : Turn) → reverse (xs ++ x ∷ []) ≡ x ∷ reverse xs
-reverse_push xs x = grind (arith, common_steps)
 
 -- ---- the centralised machine
 

@@ -1,5 +1,6 @@
 pub mod PlaceLemmas
 pub mod QuietLemmas
+pub mod ScheduleLemmas
 pub mod TravelLemmas
 pub mod TurnLemmas
 pub mod WorldLemmas

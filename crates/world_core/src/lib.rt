@@ -7,13 +7,15 @@
 //! prints given lines. `NotThere` comes exactly where the place is none of
 //! `travelling` or its message is for another site, and then nothing changes. `travelling` tells exactly the messages that
 //! travel by the journal, each once (`AreTravels`), `next_for` the place of the one with the lowest number for a site, `quiet`
-//! whether nothing travels and every site is idle, `sent` how many messages were sent. After each turn the picks of the journal lead the centralised machine to a state that the sites match
+//! whether nothing travels and every site is idle, `sent` how many messages were sent, `schedule` the picks of the turns in
+//! order. After each turn the picks of the journal lead the centralised machine to a state that the sites match
 //! (`IsSimulated`), the protocols' invariants hold (`ProtocolsHold`), no delivered message was unfit, and no more messages were
 //! sent than the picks allow (`AreMessagesFew`). Where the world is quiet the machine rests, with the threads that ended and
 //! wait at the sites. After want of memory the world is given up: it has the journal of the turns made before, which stays one
 //! of a run. A world has no `Drop`: its turns are handed on, with their schedule (`into_history`).
 //!
-//! No call walks over messages, threads or the journal: a turn costs by what it does, `quiet` by the number of sites.
+//! No call walks over messages, threads or the journal, but for `schedule`, which takes a step for each turn and shares its
+//! picks: a turn costs by what it does, `quiet` by the number of sites.
 //!
 //! It stands on `site_core` for the turns of sites, on `world_mail` for the messages between them, and on `world_simulation`
 //! for the laws. Tests of programs (`oz_tests`) run it; no promise is left to them alone.
@@ -22,9 +24,11 @@
 //! others, *Mobile Objects in Distributed Oz* (TOPLAS 19(5), 1997).
 #![tactic(auto)]
 
+mod picks;
 mod refusal;
 mod world;
 
+pub use picks::schedule;
 pub use refusal::{ReplayRefusal, WorldRefusal};
 pub use world::World;
 pub use world_mail::Travel;
