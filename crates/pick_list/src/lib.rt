@@ -3,7 +3,7 @@
 //! **For**: whoever makes steps and keeps their picks: `machine_state` and `central_machine` those of a run, `site_units` those of a
 //! turn, and `site_message`, whose turns and schedules are made of them.
 //!
-//! **Promises**: a [`PickList`] is a list of picks (contracts see it so): `push` and `push_plain` put a pick behind the others,
+//! **Promises**: a [`PickList`] is a list of picks (contracts see it so): `push`, `push_plain` and `push_bind` put a pick behind the others,
 //! and after want of memory the list is as before; `drop_last` takes the last one away; `len` counts them; `to_vec` copies them.
 //! `binds` are the equations that they added, in order. A pick of the thread of the one before it that takes no name and adds no
 //! equation takes no memory.

@@ -92,8 +92,8 @@ impl PickList {
         Ok(())
     }
 
-    // A pick behind the others that adds an equation.
-    fn push_bind(
+    /// A pick behind the others that adds an equation.
+    pub fn push_bind(
         &mut self,
         thread: ThreadName,
         fresh: &[Name],

@@ -1,9 +1,10 @@
 -- What contracts see of slots and queue.
-use Rattle.std.proofs.Common.{arith, ◌≡◌, ◌∙◌, sym, ap, refl, subst, ℕ, ◌⊎◌, inl, inr, List, [], ◌∷◌, ◌++◌, Some, None}
+use Rattle.std.proofs.Common.{arith, ◌≡◌, ◌≢◌, ◌∙◌, sym, ap, refl, subst, ℕ, ◌⊎◌, inl, inr, List, [], ◌∷◌, ◌++◌, Some, None}
 use Rattle.std.specs.Prelude.{Option, ◌↔◌, slice_set, slice_get, Contains}
 use Rattle.std.proofs.lemmas.List.Elements.{Contains-append_left, Contains-append_right, Contains-append_cases}
 use Rattle.tree_node.specs.declared.names.ThreadName.{ThreadName}
 use Rattle.tree_node.specs.Assoc.{value_of}
+use Rattle.tree_node.specs.Each.{Each, AreDistinct}
 use Rattle.tree_node.specs.State.{equal_thread}
 use Rattle.tree_node.proofs.ClassLemmas.{Contains-cons_cases, Contains-head, Contains-tail}
 use Rattle.thread_roster.specs.declared.mode.Mode.{Mode}
@@ -12,10 +13,11 @@ use Rattle.thread_roster.specs.declared.slot.Occupant.{Occupant}
 use Rattle.thread_roster.specs.Invariant.{IsConsistent, IsOrdered}
 use Rattle.thread_roster.specs.Order.{rotated}
 use Rattle.thread_roster.specs.Slots.{Slot, ArePlaced, slot_in, threads_in, name_in, names_at, with_value_in}
-use Rattle.thread_roster.specs.Threads.{Threads, Entry, set_value, IsRunnable}
+use Rattle.thread_roster.specs.Threads.{Threads, Entry, set_value, IsRunnable, IsOrderOf}
 use Rattle.thread_roster.proofs.SlotLemmas.{found, only_at, placed_there}
 use Rattle.thread_roster.proofs.ConsistencyLemmas.{Places, Waiting, ended_in, ended_set, value_view, no_thread, thread_there, stands_there}
-use Rattle.thread_roster.proofs.OrderLemmas.{names_put}
+use Rattle.thread_roster.proofs.OrderLemmas.{names_put, names_other}
+use Rattle.thread_roster.proofs.BehindLemmas.{is_not_left}
 
 -- the model
 abbrev pub view_of : {V : Type 0} → List (Slot V) → List ℕ → Threads V
@@ -103,3 +105,26 @@ order_all {V} slots by_name queue waiting_keys a b n h k = (λ c. goes (named_at
     among (Some i) e v there =
         let at = thread_there slots (slot_in by_name) n i h.placed e in
         at_named slots n i queue at (h.queued i (at.0, at.1, stands_there slots (slot_in by_name) n i at.0 v mode.Runs h.placed e at.1 there))
+
+-- a name that is not among others differs from each
+differs : (n : ThreadName) (ns : List ThreadName) → (Contains ns n → ⊥) → Each (λ (m : ThreadName). n ≢ m) ns
+differs n [] h = tt
+differs n (m ∷ ns) h = (λ same. h (subst (λ (k : ThreadName). Contains (k ∷ ns) n) same (Contains-head n ns)), differs n ns (λ c. h (Contains-tail m n ns c)))
+
+-- each name is there once
+names_once : {V : Type 0} (slots : List (Slot V)) (slot : ThreadName → Option ℕ) (js : List ℕ) → ArePlaced slots slot → AreDistinct js → AreDistinct (names_at slots js)
+names_once slots slot [] placed once = tt
+names_once {V} slots slot (j ∷ js) placed once = go (slice_get slots j) refl (names_once slots slot js placed once.1)
+  where
+    apart : (h : Occupant V) → slice_get slots j ≡ Some (Some h) → Contains (names_at slots js) h.name → ⊥
+    apart h at c =
+        let other = names_other h.name slots j (only_at slots slot h.name j placed (placed_there slots slot j h h.name placed at refl)) js once.0 in
+        is_not_left h.name (names_at slots js) (subst (λ (l : List ThreadName). Contains l h.name) (sym other) c)
+
+    go : (o : Option (Slot V)) → slice_get slots j ≡ o → AreDistinct (names_at slots js) → AreDistinct (name_in o ++ names_at slots js)
+    go None at rest = rest
+    go (Some None) at rest = rest
+    go (Some (Some h)) at rest = (differs h.name (names_at slots js) (apart h at), rest)
+
+pub order_is : {V : Type 0} (slots : List (Slot V)) (by_name : Places) (queue : List ℕ) (waiting_keys : Waiting) (a b : ℕ) → IsConsistent slots by_name queue waiting_keys a b → IsOrdered slots queue → IsOrderOf (threads_in slots) (names_at slots queue)
+order_is slots by_name queue waiting_keys a b h k = (λ n. order_all slots by_name queue waiting_keys a b n h k, names_once slots (slot_in by_name) queue h.placed k.once)

@@ -1,10 +1,11 @@
 -- Threads in slots that go on.
-use Rattle.std.proofs.Common.{arith, length-append, ◌≡◌, ◌≢◌, ◌∙◌, sym, ap, refl, ℕ, ◌+◌, ◌<◌, ◌≤◌, zero, suc, length, drop, get_or, add-one, drop-cons, map, filter, ◌⊎◌, inl, inr, List, [], ◌∷◌, ◌++◌, append-nil, Bool, true, false, cond, Some, None}
+use Rattle.std.proofs.Common.{arith, length-append, ◌≡◌, ◌≢◌, ◌∙◌, sym, ap, refl, subst, ℕ, ◌+◌, ◌<◌, ◌≤◌, zero, suc, length, drop, get_or, add-one, drop-cons, map, filter, ◌⊎◌, inl, inr, List, [], ◌∷◌, ◌++◌, append-nil, Bool, true, false, cond, Some, None}
 use Rattle.std.specs.Prelude.{slice_set, slice_get, Contains}
 use Rattle.std.specs.List.{list_any}
 use Rattle.tree_node.specs.declared.names.VarName.{VarName}
 use Rattle.tree_node.specs.Store.{equal_var}
-use Rattle.tree_node.proofs.ClassLemmas.{Contains-cons_cases}
+use Rattle.tree_node.proofs.ClassLemmas.{Contains-cons_cases, same_name_decides}
+use Rattle.waiting_keys.specs.Keys.{keys_among, without_keys}
 use Rattle.thread_roster.specs.declared.mode.Mode.{Mode}
 use Rattle.thread_roster.specs.declared.mode.Mode.TheVariants as mode
 use Rattle.thread_roster.specs.declared.slot.Occupant.{Occupant}
@@ -117,6 +118,20 @@ idle_queue x slots keys queue n is none = sym (ap (λ (l : List ℕ). queue ++ l
 
 pub idle_slots : {V : Type 0} (x : VarName) (slots : List (Slot V)) (keys : List ℕ) (n : ℕ) → n ≡ total waiting slots → n ≡ 0 → slots ≡ wake_slots x slots keys
 idle_slots x slots keys n is none = sym (none_go_on x slots keys (sym is ∙ none)).1
+
+-- where no key stands at a variable, nobody goes on and none is taken
+pub unkeyed_queue : {V : Type 0} (x : VarName) (slots : List (Slot V)) (keys queue : List ℕ) → keys ≡ [] → queue ≡ queue ++ woken x slots keys
+unkeyed_queue x slots keys queue none = sym (ap (λ (ks : List ℕ). queue ++ woken x slots ks) none ∙ append-nil queue)
+
+pub unkeyed_slots : {V : Type 0} (x : VarName) (slots : List (Slot V)) (keys : List ℕ) → keys ≡ [] → slots ≡ wake_slots x slots keys
+unkeyed_slots x slots keys none = sym (ap (λ (ks : List ℕ). wake_slots x slots ks) none)
+
+pub none_taken : (waiters : List (VarName × List ℕ)) (x : VarName) → keys_among waiters x ≡ [] → (y : VarName) → keys_among waiters y ≡ without_keys (keys_among waiters) x y
+none_taken waiters x none y = go (equal_var x y) refl
+  where
+    go : (b : Bool) → equal_var x y ≡ b → keys_among waiters y ≡ cond b [] (keys_among waiters y)
+    go true e = subst (λ (z : VarName). keys_among waiters z ≡ []) ((same_name_decides x y).0 e) none
+    go false e = refl
 
 none_waits : {V : Type 0} (x : VarName) (slots : List (Slot V)) → ((j : ℕ) → IsAwaitingAt slots j x → ⊥) → map (wake_slot x) slots ≡ slots
 none_waits x [] h = refl

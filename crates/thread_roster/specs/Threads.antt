@@ -1,10 +1,10 @@
 -- Threads by name, each with a value and how it stands.
-use Rattle.std.specs.Prelude.{◌≡◌, ◌≢◌, ℕ, List, [], ◌∷◌, filter, length, Bool, true, false, Some, if◌then◌else◌}
+use Rattle.std.specs.Prelude.{◌≡◌, ◌≢◌, ◌↔◌, ℕ, List, [], ◌∷◌, filter, length, Contains, Bool, true, false, Some, if◌then◌else◌}
 use Rattle.std.specs.List.{list_any}
 use Rattle.tree_node.specs.declared.names.VarName.{VarName}
 use Rattle.tree_node.specs.declared.names.ThreadName.{ThreadName}
 use Rattle.tree_node.specs.Assoc.{value_of}
-use Rattle.tree_node.specs.Each.{Each}
+use Rattle.tree_node.specs.Each.{Each, AreDistinct}
 use Rattle.tree_node.specs.State.{equal_thread}
 use Rattle.tree_node.specs.Store.{equal_var}
 use Rattle.thread_roster.specs.declared.mode.Mode.{Mode}
@@ -75,6 +75,10 @@ IsSuspended {V} ts n = (v : V) × (m : Mode) × (value_of equal_thread ts n ≡ 
 -- the thread of a name lives and can go on
 abbrev pub IsRunnable : {V : Type 0} → List (Entry V) → ThreadName → Type 0
 IsRunnable {V} ts n = (v : V) × (value_of equal_thread ts n ≡ Some (v, Runs))
+
+-- exactly those of the threads stand in the order that can go on, each once
+abbrev pub IsOrderOf : {V : Type 0} → List (Entry V) → List ThreadName → Type 0
+IsOrderOf {V} ts order = ((n : ThreadName) → Contains order n ↔ IsRunnable ts n) × AreDistinct order
 
 -- ---- what others see of threads
 

@@ -13,7 +13,7 @@ ghost use Rattle.waiting_keys.specs.Keys.{keys_among, without_keys};
 ghost use Rattle.tree_node.specs.Each.{Each};
 ghost use Rattle.thread_roster.specs.Parking.{HasMoreKeys};
 ghost use Rattle.thread_roster.specs.Slots.{threads_in as slots_hold, AreInside, woken, wake_slots, total, waiting as waits};
-ghost use Rattle.thread_roster.specs.Threads.{set_mode, set_value, wake_all, waiting_of, AllWait, IsSuspended, IsRunnable};
+ghost use Rattle.thread_roster.specs.Threads.{set_mode, set_value, wake_all, waiting_of, AllWait, IsSuspended, IsRunnable, IsOrderOf};
 ghost use Rattle.thread_roster.specs.Order.{without_name, rotated, HaveComeBehind};
 
 use crate::mode::Mode;
@@ -82,8 +82,8 @@ fn park_at(waiters: &mut Waiters, var: VarName, slot: usize) -> Result<(), Alloc
 }
 
 // The threads that wait for a variable go on, behind those in the queue, and its keys are taken. Answers how many go on. Where no
-// thread waits, those that went on by another variable may have left keys.
-#[tactic(auto, using(crate::proofs::WakeLemmas::idle_queue, crate::proofs::WakeLemmas::idle_slots))]
+// thread waits, those that went on by another variable may have left keys. Where there are no keys, nothing is left to do.
+#[tactic(auto, using(crate::proofs::WakeLemmas::idle_queue, crate::proofs::WakeLemmas::idle_slots, crate::proofs::WakeLemmas::unkeyed_queue, crate::proofs::WakeLemmas::unkeyed_slots, crate::proofs::WakeLemmas::none_taken))]
 fn rouse<V: Drop>(
     slots: &mut Vec<Slot<V>>,
     queue: &mut Queue,
@@ -105,6 +105,9 @@ fn rouse<V: Drop>(
         return Ok(0);
     }
     let keys = waiters.keys_at(var);
+    if keys.is_empty() {
+        return Ok(0);
+    }
     let roused = queue.wake(slots, keys, var)?;
     waiters.take(var);
     Ok(roused)
@@ -340,6 +343,13 @@ impl<V: Drop> Roster<V> {
         ensures same { self.new ≡ self.old }
     {
         next_runnable(&self.slots, &mut self.queue)
+    }
+
+    /// Exactly those threads stand in the order that can go on, each once. It does nothing: its clause is what it tells.
+    pub fn in_order(&self)
+        ensures { IsOrderOf self.now.living self.now.order }
+    {
+        let _ = &self.queue;
     }
 
     /// The first thread in the order of those that can go on goes behind the others.
