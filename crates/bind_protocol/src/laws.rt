@@ -1,6 +1,7 @@
 //! Sites whose messages travel in any order, and what holds of them whatever the calls and the deliveries.
 
 ghost use Rattle.std.specs.Prelude.{◌≡◌, ◌↔◌, ◌<◌, ◌≤◌, [], ◌∷◌, ◌++◌, length, remove, slice_get, Some, None, IfOk, OnOk, OnErr, IsErrOf};
+ghost use Rattle.tree_node.specs.declared.limits.TheConstants.{MOST_SITES};
 ghost use Rattle.tree_node.specs.Each.{Each};
 ghost use Rattle.variable_owner.specs.Owners.{IsMade};
 ghost use Rattle.bind_protocol.specs.Records.{IsKnowledge, IsReceivableNews, knowledge};
@@ -207,7 +208,7 @@ impl BindWorld {
     /// New sites, 1 to 64 of them, with no variables.
     #[tactic(auto, using(crate::proofs::HoldLemmas::new_lawful, crate::proofs::HoldLemmas::lawful_holds))]
     pub fn new(alloc: Global, sites: u32) -> Result<BindWorld, AllocError>
-        requires { (1 ≤ sites) × (sites ≤ 64) }
+        requires { (1 ≤ sites) × (sites ≤ MOST_SITES) }
         ensures new { IfOk result (λ w. w ≡ new_world sites) }
         ensures holds { IfOk result HasInvariant }
     {

@@ -7,8 +7,8 @@ ghost use Rattle.run_file.specs.Fits.{MayBeSaved};
 use crate::programs::program_of;
 use crate::workers::{LOOP, MESSAGES, QUIET, STEPS, book_of};
 use run_check::{Again, Made, make_again};
-use run_file::{FileFault, RunFile, RunNumbers, read_run, these_are_saved, write_run};
-use site_message::Reason;
+use run_file::{FileFault, RunFile, read_run, these_are_saved, write_run};
+use site_message::{Limits, Reason};
 use std::alloc::{AllocError, Global};
 use std::process::Abort;
 use std::sync::Wait;
@@ -184,14 +184,14 @@ fn saved_of<R: Abort + Threads + Wait + Sync>(
     requires { (1 ≤ row.1) × (row.1 ≤ 64) × (1 ≤ row.2) × (row.2 ≤ 64) }
 {
     let end = Line::from_vec(Vec::from_slice(alloc, b"done")?)?;
-    let numbers = RunNumbers {
+    let limits = Limits {
         sites: row.1,
         steps: STEPS,
         messages: MESSAGES,
     };
     let book = book_of(rt, alloc, row)?;
     let (journal, _) = book.into_history().into_parts();
-    let text = write_run(alloc, row.0.as_bytes(), numbers, &journal, &end);
+    let text = write_run(alloc, row.0.as_bytes(), limits, &journal, &end);
     journal.forget();
     Ok(text?.into_vec())
 }

@@ -4,8 +4,8 @@ ghost use Rattle.std.specs.Prelude.{◌≤◌};
 
 use crate::programs::program_of;
 use message_book::Book;
-use site_message::Reason;
-use site_worker::{OpenGate, RunLimits, run_sites};
+use site_message::{Limits, Reason};
+use site_worker::{OpenGate, run_sites};
 use std::alloc::{AllocError, Global};
 use std::process::Abort;
 use std::sync::Wait;
@@ -71,13 +71,12 @@ pub fn book_of<R: Abort + Threads + Wait + Sync>(
     requires { (1 ≤ row.1) × (row.1 ≤ 64) × (1 ≤ row.2) × (row.2 ≤ 64) }
 {
     let program = program_of(rt, alloc, row.0)?;
-    let bounds = RunLimits {
+    let limits = Limits {
         sites: row.1,
-        workers: row.2,
         steps: STEPS,
         messages: MESSAGES,
     };
-    run_sites(rt, alloc, &program, bounds, &OpenGate)
+    run_sites(rt, alloc, &program, limits, row.2, &OpenGate)
 }
 
 // The reason by which such a run ends.

@@ -9,7 +9,8 @@ use Rattle.site_message.specs.declared.message.Msg.{Msg}
 use Rattle.site_message.specs.declared.message.Sent.{Sent}
 use Rattle.site_message.specs.declared.turn.Turn.{Turn}
 use Rattle.site_message.specs.declared.reason.Reason.{Reason}
-use Rattle.site_message.specs.Journal.{Limits, IsTravelling, sent_of, travelling}
+use Rattle.site_message.specs.declared.limits.Limits.{Limits}
+use Rattle.site_message.specs.Journal.{IsTravelling, sent_of, travelling}
 use Rattle.site_message.specs.Story.{hand}
 use Rattle.site_message.proofs.JournalLemmas.{travelling_tells, kept, passed}
 use Rattle.std.proofs.lemmas.Bool.{le-leb}
@@ -100,9 +101,7 @@ inboxes_set n j bs p b inside all mine i below = dite (ℕ_discrete p i)
 
 pub take_kept : (l : Limits) (j : List Turn) (sent : ℕ) (bs : List InboxState) (r : Option Reason) (p : ℕ) (b : InboxState) (o : Option (ℕ × List ℕ)) → IsConsistent l j sent bs r → p ≤ l.sites → IsTaken (inbox_at bs p) b o → IsConsistent l j sent (set bs p b) r
 take_kept l j sent bs r p b o k below t = let many = k.places in record {
-  sites = k.sites;
-  few_messages = k.few_messages;
-  step_range = k.step_range;
+  ranges = k.ranges;
   places = length-set bs p b ∙ k.places;
   count = k.count;
   wired = k.wired;

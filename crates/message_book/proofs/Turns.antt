@@ -8,7 +8,8 @@ use Rattle.site_message.specs.declared.turn.Turn.{Turn}
 use Rattle.site_message.specs.declared.reason.Reason.{Reason}
 use Rattle.site_message.specs.declared.reason.Reason.TheVariants.{Memory, Messages, Steps, Quiet}
 use Rattle.std.specs.Prelude.{◌&&◌}
-use Rattle.site_message.specs.Journal.{Limits, Wired, DeliversOnce, sent_of, is_number, is_idle, is_quiet, end_by, end_of}
+use Rattle.site_message.specs.declared.limits.Limits.{Limits}
+use Rattle.site_message.specs.Journal.{Wired, DeliversOnce, sent_of, is_number, is_idle, is_quiet, end_by, end_of}
 use Rattle.site_message.specs.Story.{hand}
 use Rattle.tree_node.proofs.ClassLemmas.{Contains-head, Contains-tail}
 use Rattle.std.proofs.lemmas.List.Elements.{Contains-append_left, filter-append}
@@ -28,9 +29,7 @@ same_inbox n j i old new s b = record { in_hand = b.in_hand; hand = s.0 ∙ b.ha
 -- room alone was made
 pub kept_same : (l : Limits) (j : List Turn) (sent : ℕ) (bs cs : List InboxState) (r : Option Reason) → length cs ≡ length bs → ((i : ℕ) → HoldsSame (inbox_at bs i) (inbox_at cs i)) → IsConsistent l j sent bs r → IsConsistent l j sent cs r
 kept_same l j sent bs cs r len same k = record {
-  sites = k.sites;
-  few_messages = k.few_messages;
-  step_range = k.step_range;
+  ranges = k.ranges;
   places = len ∙ k.places;
   count = k.count;
   wired = k.wired;
@@ -144,9 +143,7 @@ module _ (l : Limits) (j : List Turn) (sent : ℕ) (bs : List InboxState) (r : O
 
     pub kept_after : (n : ℕ) → n ≡ sent + length e.sent → AllOfFormat e.sent → ((x : Reason) → r ≡ Some x → ⊥) → IsConsistent l (e ∷ j) n cs (end_of l (e ∷ j))
     kept_after n is spelled none = record {
-      sites = kept.sites;
-      few_messages = kept.few_messages;
-      step_range = kept.step_range;
+      ranges = kept.ranges;
       places = s.places ∙ kept.places;
       count = is ∙ (ap (λ m. m + length e.sent) kept.count ∙ sym (length-append (sent_of j) e.sent));
       wired = wired;

@@ -4,13 +4,15 @@ use Rattle.std.specs.List.{filter, All}
 use Rattle.site_message.specs.declared.message.Sent.{Sent}
 use Rattle.site_message.specs.declared.turn.Turn.{Turn}
 use Rattle.site_message.specs.declared.reason.Reason.{Reason}
-use Rattle.site_message.specs.Journal.{Limits, Wired, sent_of, travelling, is_idle}
+use Rattle.site_message.specs.declared.limits.Limits.{Limits}
+use Rattle.site_message.specs.Journal.{Wired, sent_of, travelling, is_idle}
+use Rattle.site_message.specs.Limits.{AreLimits}
 use Rattle.tree_node.specs.Each.{Each}
 use Rattle.wire_form.specs.declared.form.Form.TheVariants as forms
 use Rattle.wire_form.specs.Format.{message, spelling}
 use Rattle.site_message.specs.EarlierEnd.{HasNoEarlierEnd}
 use Rattle.message_book.specs.Inbox.{InboxState}
-use Rattle.message_book.specs.Book.{IsSiteOf, AreSites, IsReason, without_delivered}
+use Rattle.message_book.specs.Book.{AreSites, IsReason, without_delivered}
 
 -- where the messages to a site lie. Those to no site of the book lie at the place 0
 abbrev pub place : ℕ → ℕ → ℕ
@@ -62,9 +64,7 @@ AllOfFormat ms = Each (λ (s : Sent). (message forms.Two).Has s.msg) ms
 
 -- what stays true of a book
 pub record IsConsistent (l : Limits) (j : List Turn) (sent : ℕ) (bs : List InboxState) (r : Option Reason) : Type 0 where
-  pub sites : IsSiteOf 64 l.sites
-  pub few_messages : l.messages ≤ 4000000000
-  pub step_range : (1 ≤ l.steps) × (l.steps ≤ 1000000000)
+  pub ranges : AreLimits l
   pub places : length bs ≡ l.sites + 1
   pub count : sent ≡ length (sent_of j)
   pub wired : Wired j

@@ -1,6 +1,8 @@
 //! The book.
 
 ghost use Rattle.std.specs.Prelude.{◌≡◌, ◌≢◌, ◌⊎◌, ℕ, List, ◌+◌, ◌&&◌, not, nat_le, ◌↔◌, [], ◌∷◌, ◌++◌, ◌≤◌, ◌<◌, ◌^◌, Some, None, Err, IsTrue, Contains, IfOk, OnOk, OnErr, MatchOption, map, length, slice_set};
+ghost use Rattle.tree_node.specs.declared.limits.TheConstants.{MOST_MESSAGES, MOST_SITES, MOST_STEPS};
+ghost use Rattle.site_message.specs.Limits.{AreLimits};
 ghost use Rattle.site_message.specs.Journal.{Wired, IsTravelling, sent_of, is_quiet, end_by, end_of};
 ghost use Rattle.site_message.specs.EarlierEnd.{HasNoEarlierEnd};
 ghost use Rattle.site_message.specs.Story.{hand};
@@ -17,7 +19,7 @@ use crate::inbox::Inbox;
 use crate::outgoing::{enqueue_all, make_room};
 use crate::posted::Posted;
 use crate::spelled_turn::SpelledTurn;
-use site_message::{History, Journal, Reason, Story, end_after};
+use site_message::{History, Journal, Limits, Reason, Story, end_after};
 use std::alloc::{AllocError, Global};
 use std::collections::VecDeque;
 use std::marker::Model;
@@ -26,9 +28,7 @@ use wire_form::Bytes;
 /// The turns posted, the messages sent and not delivered, and the reason why the run ends, if there is one. It has no `Drop`: whoever
 /// has it hands its turns on.
 pub struct Book {
-    sites: u32,
-    step_limit: u64,
-    message_limit: u64,
+    limits: Limits,
     journal: History,
     sent: u64,
     inboxes: Vec<Inbox>,
@@ -42,9 +42,9 @@ impl Model for Book {
 
     ghost Value = { BookState };
 
-    ghost view = { λ b. record { limits = record { sites = b.sites; steps = b.step_limit; messages = b.message_limit }; journal = b.journal; hands = map hand_of b.inboxes.items; reason = b.reason } };
+    ghost view = { λ b. record { limits = b.limits; journal = b.journal; hands = map hand_of b.inboxes.items; reason = b.reason } };
 
-    ghost invariant = { λ b. IsConsistent (record { sites = b.sites; steps = b.step_limit; messages = b.message_limit }) b.journal b.sent b.inboxes.items b.reason };
+    ghost invariant = { λ b. IsConsistent b.limits b.journal b.sent b.inboxes.items b.reason };
 }
 
 impl Story for Book {
@@ -52,25 +52,16 @@ impl Story for Book {
 }
 
 impl Book {
-    /// An empty book for sites 1 to `sites`. Each site may make so many own steps, and so many messages may be sent.
-    pub fn new(
-        alloc: Global,
-        sites: u32,
-        step_limit: u64,
-        message_limit: u64,
-    ) -> Result<Book, AllocError>
-        requires sites { IsSiteOf 64 sites }
-        requires steps { (1 ≤ step_limit) × (step_limit ≤ 1000000000) }
-        requires messages { message_limit ≤ 4000000000 }
-        ensures limits { IfOk result (λ b. (b.limits.sites ≡ sites) × (b.limits.steps ≡ step_limit) × (b.limits.messages ≡ message_limit)) }
+    /// An empty book of a run within these limits.
+    pub fn new(alloc: Global, limits: Limits) -> Result<Book, AllocError>
+        requires { AreLimits limits }
+        ensures limits { IfOk result (λ b. b.limits ≡ limits) }
         ensures empty { IfOk result (λ b. (b.journal ≡ []) × (b.reason ≡ None)) }
         ensures hands { IfOk result (λ b. (i : ℕ) → hand i b.hands ≡ []) }
     {
-        let inboxes = empty_inboxes(alloc, sites)?;
+        let inboxes = empty_inboxes(alloc, limits.sites)?;
         Ok(Book {
-            sites,
-            step_limit,
-            message_limit,
+            limits,
             journal: History::new(alloc),
             sent: 0,
             inboxes,
@@ -95,7 +86,7 @@ impl Book {
             return Err(Posted::Closed(reason));
         }
         let (turn, letters) = turn.into_parts();
-        prepare(&mut self.inboxes, self.sites, letters.as_slice())?;
+        prepare(&mut self.inboxes, self.limits.sites, letters.as_slice())?;
         let end = TurnEnd {
             site: turn.site,
             delivered: turn.delivered,
@@ -108,10 +99,10 @@ impl Book {
         }
         let first = self.sent;
         self.sent += count;
-        apply_turn(&mut self.inboxes, self.sites, end, letters, first);
+        apply_turn(&mut self.inboxes, self.limits.sites, end, letters, first);
         self.reason = find_reason(
-            self.sent > self.message_limit,
-            is_at_limit(steps, self.step_limit, end.idle),
+            self.sent > self.limits.messages,
+            is_at_limit(steps, self.limits.steps, end.idle),
             end.site,
             self.inboxes.as_slice(),
         );
@@ -125,7 +116,7 @@ impl Book {
         ensures others { (i : ℕ) → i ≢ site → hand i self.new.hands ≡ hand i self.old.hands }
         ensures same { (self.new.limits ≡ self.old.limits) × (self.new.journal ≡ self.old.journal) × (self.new.reason ≡ self.old.reason) }
         ensures wired { Wired self.old.journal }
-        ensures few { self.old.reason ≡ None → length (sent_of self.old.journal) ≤ 4000000000 }
+        ensures few { self.old.reason ≡ None → length (sent_of self.old.journal) ≤ MOST_MESSAGES }
     {
         self.inboxes[site as usize].take()
     }
@@ -151,9 +142,9 @@ impl Book {
     /// The own steps that a site may make.
     pub fn step_limit(&self) -> u64
         ensures value { result ≡ self.now.limits.steps }
-        ensures range { (1 ≤ result) × (result ≤ 1000000000) }
+        ensures range { (1 ≤ result) × (result ≤ MOST_STEPS) }
     {
-        self.step_limit
+        self.limits.steps
     }
 
     /// Why the book ended, if it has: by how its journal ends, or because memory ran out where that goes on.
@@ -189,9 +180,7 @@ impl Book {
         ensures went { HasNoEarlierEnd self.limits self.journal }
     {
         let Book {
-            sites: _,
-            step_limit: _,
-            message_limit: _,
+            limits: _,
             journal,
             sent: _,
             inboxes: _,
@@ -211,7 +200,7 @@ struct TurnEnd {
 
 // An inbox for each place from 0 to the number of sites. Site 1 has the program's thread, and is not idle.
 fn empty_inboxes(alloc: Global, sites: u32) -> Result<Vec<Inbox>, AllocError>
-    requires { sites ≤ 64 }
+    requires { sites ≤ MOST_SITES }
     ensures { IfOk result (λ bs. (length bs.items ≡ sites + 1) × ((i : ℕ) → i ≤ sites → IsNewInbox i (inbox_at bs.items i))) }
 {
     let mut inboxes = Vec::new(alloc);

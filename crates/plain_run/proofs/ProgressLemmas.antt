@@ -3,6 +3,7 @@ use Rattle.std.proofs.Common.{rules, arith, ◌≡◌, ◌≢◌, ◌∙◌, sym
 use Rattle.std.specs.Prelude.{Option, Some, None, Result, Ok, Err, is_some, is_err, nat_lt, min, OnOk, MatchOption, Contains}
 use Rattle.std.proofs.lemmas.Bool.{cases_lt}
 use Rattle.kernel_syntax.specs.declared.stmt.Stmt.{Stmt}
+use Rattle.site_message.specs.declared.limits.Limits.{Limits}
 use Rattle.site_message.specs.declared.message.Sent.{Sent}
 use Rattle.site_message.specs.declared.turn.Turn.{Turn}
 use Rattle.site_message.specs.Journal.{Wired, IsTravelling, sent_of, travelling, deliveries, delivery_count, AreWithin}
@@ -18,9 +19,8 @@ use Rattle.world_mail.specs.declared.travel.Travel.{Travel}
 use Rattle.world_mail.specs.Travels.{IsNoneFor, IsFirstFor}
 use Rattle.world_core.specs.Travels.{AreTravels, IsNumberAt}
 use Rattle.world_core.specs.World.{WorldState, IsWorldTurn, states_of}
-use Rattle.plain_run.specs.declared.out.Limits.{Limits}
 use Rattle.plain_run.specs.Counts.{runnable_count}
-use Rattle.plain_run.specs.Progress.{IsGoing, IsLimitedTurn, IsAtEase, IsBusy, IsFirstBusy, IsNextBusy, IsProgress, turns_left, limits_of, steps_left}
+use Rattle.plain_run.specs.Progress.{IsGoing, IsLimitedTurn, IsAtEase, IsBusy, IsFirstBusy, IsNextBusy, IsProgress, turns_left, steps_left}
 use Rattle.plain_run.specs.Rounds.{HasNothingToDo, IsLowestFor, ComesBefore, IsPlainTurn, IsPlainRun, last_site}
 use Rattle.plain_run.proofs.StepLemmas.{turn_steps, turn_goes_on}
 use Rattle.plain_run.proofs.RoundLemmas.{lowest_is, nothing_to_do, something_to_do}
@@ -122,9 +122,9 @@ module _ (l : Limits) (p : List Stmt) (old new : WorldState) (site quantum : ℕ
     live = live;
     run = run;
     within = λ i. by i (either_site i);
-    kept = subst (AreWithin (limits_of l)) (sym t.journal) (subst (λ n. n ≤ l.steps) (sym entry_steps) here_within, going.kept);
+    kept = subst (AreWithin l) (sym t.journal) (subst (λ n. n ≤ l.steps) (sym entry_steps) here_within, going.kept);
     idle = λ i other full. idle i (t.others i (λ (e : i ≡ site). other (t.site_is ∙ sym e))) full;
-    went = subst (HasNoEarlierEnd (limits_of l)) (sym t.journal) (going.went, going.goes_on);
+    went = subst (HasNoEarlierEnd l) (sym t.journal) (going.went, going.goes_on);
     rounds = subst (IsPlainRun p l) (sym t.journal) (going.rounds, plain);
     last = ap (last_site l.sites) t.journal ∙ t.site_is;
   }

@@ -7,6 +7,7 @@ use Rattle.tree_node.specs.Each.{Each}
 use Rattle.tree_node.specs.State.{State}
 use Rattle.kernel_syntax.specs.declared.stmt.Stmt.{Stmt}
 use Rattle.kernel_syntax.specs.Program.{IsProgram}
+use Rattle.site_message.specs.declared.limits.Limits.{Limits}
 use Rattle.site_message.specs.declared.message.Msg.{Msg}
 use Rattle.site_message.specs.declared.message.Msg.TheVariants as msg
 use Rattle.site_message.specs.declared.message.Sent.{Sent}
@@ -31,8 +32,6 @@ use Rattle.world_messages.specs.Unfit.{MessagesAreFit}
 use Rattle.world_simulation.proofs.SimulationLemmas.{every_run_is_simulated}
 use Rattle.world_core.specs.Travels.{IsNothingFor}
 use Rattle.world_core.proofs.QuietLemmas.{idle_as_told}
-use Rattle.plain_run.specs.declared.out.Limits.{Limits}
-use Rattle.plain_run.specs.Progress.{limits_of}
 use Rattle.plain_run.proofs.SpawnLemmas.{SpawnsWithin, spawns_within}
 
 -- a site that is none of n stays as it began
@@ -102,7 +101,7 @@ module _ (p : List Stmt) (n : ℕ) (j : List Turn) (w : ℕ → Site) (is : IsPr
       idle i a b = idle_as_told p n bundle_limit i j (w i) (run.runs i) ∙ (ease i a b).0
 
 -- a quiet run does not go on
-pub quiet_ends : (l : Limits) (j : List Turn) → 1 ≤ l.sites → end_of (limits_of l) j ≡ None → is_quiet l.sites j ≡ true → ⊥
+pub quiet_ends : (l : Limits) (j : List Turn) → 1 ≤ l.sites → end_of l j ≡ None → is_quiet l.sites j ≡ true → ⊥
 quiet_ends l [] low on quiet = let first = ((quiet_tells l.sites []).0 quiet).1 1 (omega arith) low in cc
 quiet_ends l (e ∷ j) low on quiet = by (nat_lt l.messages (length (sent_of (e ∷ j)))) (nat_le l.steps e.steps && not e.idle) (is_quiet l.sites (e ∷ j)) quiet on
   where

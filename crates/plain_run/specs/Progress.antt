@@ -4,7 +4,7 @@ use Rattle.kernel_syntax.specs.declared.stmt.Stmt.{Stmt}
 use Rattle.site_message.specs.declared.turn.Turn.{Turn}
 use Rattle.site_message.specs.declared.reason.Reason.{Reason}
 use Rattle.site_message.specs.declared.reason.Reason.TheVariants.{Memory}
-use Rattle.site_message.specs.Journal as journal
+use Rattle.site_message.specs.declared.limits.Limits.{Limits}
 use Rattle.site_message.specs.Journal.{sent_of, deliveries, end_of, is_quiet, AreWithin}
 use Rattle.site_message.specs.EarlierEnd.{HasNoEarlierEnd}
 use Rattle.site_model.specs.Bundle.{bundle_limit}
@@ -14,25 +14,12 @@ use Rattle.world_model.specs.Schedule.{sum_to}
 use Rattle.world_mail.specs.Travels.{IsNoneFor}
 use Rattle.world_core.specs.Travels.{IsNothingFor}
 use Rattle.world_core.specs.World.{WorldState, states_of}
-use Rattle.plain_run.specs.declared.out.Limits.{Limits}
 use Rattle.plain_run.specs.Counts.{runnable_count}
 use Rattle.plain_run.specs.Rounds.{IsPlainRun, ComesBefore, last_site}
 
--- the limits by which a journal ends
-abbrev pub limits_of : Limits → journal.Limits
-limits_of l = record { sites = l.sites; steps = l.steps; messages = l.messages }
-
--- the ranges of the limits
-pub record AreLimits (l : Limits) : Type 0 where
-  pub some_site : 1 ≤ l.sites
-  pub most_sites : l.sites ≤ 64
-  pub some_step : 1 ≤ l.steps
-  pub most_steps : l.steps ≤ 1000000000
-  pub most_messages : l.messages ≤ 4000000000
-
 -- the reason is how the journal ends; or memory ran out where it goes on
 abbrev pub HasReason : Limits → List Turn → Reason → Type 0
-HasReason l j r = (end_of (limits_of l) j ≡ Some r) ⊎ ((r ≡ Memory) × (end_of (limits_of l) j ≡ None))
+HasReason l j r = (end_of l j ≡ Some r) ⊎ ((r ≡ Memory) × (end_of l j ≡ None))
 
 -- ---- sites
 
@@ -62,11 +49,11 @@ pub record IsGoing (l : Limits) (p : List Stmt) (w : WorldState) : Type 0 where
   pub live : w.spent ≡ false
   pub run : WorldRun w.program w.sites bundle_limit w.journal (states_of w)
   pub within : (i : ℕ) → (states_of w i).steps ≤ l.steps
-  pub kept : AreWithin (limits_of l) w.journal
+  pub kept : AreWithin l w.journal
   pub idle : (i : ℕ) → (states_of w i).steps ≡ l.steps → is_idle (states_of w i) ≡ true
   pub few : length (sent_of w.journal) ≤ l.messages
-  pub goes_on : end_of (limits_of l) w.journal ≡ None
-  pub went : HasNoEarlierEnd (limits_of l) w.journal
+  pub goes_on : end_of l w.journal ≡ None
+  pub went : HasNoEarlierEnd l w.journal
   pub rounds : IsPlainRun p l w.journal
 
 -- the own steps that the site may still make
@@ -95,9 +82,9 @@ pub record IsLimitedTurn (l : Limits) (p : List Stmt) (old new : WorldState) (si
   pub live : new.spent ≡ false
   pub run : WorldRun new.program new.sites bundle_limit new.journal (states_of new)
   pub within : (i : ℕ) → (states_of new i).steps ≤ l.steps
-  pub kept : AreWithin (limits_of l) new.journal
+  pub kept : AreWithin l new.journal
   pub idle : (i : ℕ) → (entry.site ≡ i → ⊥) → (states_of new i).steps ≡ l.steps → is_idle (states_of new i) ≡ true
-  pub went : HasNoEarlierEnd (limits_of l) new.journal
+  pub went : HasNoEarlierEnd l new.journal
   pub rounds : IsPlainRun p l new.journal
   pub last : last_site l.sites new.journal ≡ site
 

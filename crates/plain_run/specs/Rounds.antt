@@ -1,8 +1,10 @@
 -- The fixed order of a plain run, as its journal tells it.
 use Rattle.std.specs.Prelude.{◌≡◌, ◌⊎◌, ℕ, ◌-◌, ◌<◌, ◌≤◌, min, List, [], ◌∷◌, Option, Some, None, true}
+use Rattle.tree_node.specs.declared.limits.TheConstants.{MOST_UNITS}
 use Rattle.kernel_syntax.specs.declared.stmt.Stmt.{Stmt}
 use Rattle.site_message.specs.declared.message.Sent.{Sent}
 use Rattle.site_message.specs.declared.turn.Turn.{Turn}
+use Rattle.site_message.specs.declared.limits.Limits.{Limits}
 use Rattle.site_message.specs.Journal.{IsTravelling, is_idle}
 use Rattle.site_model.specs.Bundle.{bundle_limit}
 use Rattle.site_model.specs.Site.{Site}
@@ -10,7 +12,6 @@ use Rattle.site_model.specs.Run.{SiteRun, IsRecordOf, delivered_message}
 use Rattle.site_model.specs.Transition.{Transition}
 use Rattle.site_model.specs.Turn.{IsFullTurnOf}
 use Rattle.world_core.specs.Travels.{IsNothingFor}
-use Rattle.plain_run.specs.declared.out.Limits.{Limits}
 
 -- the site has nothing to do by the journal: it is idle, and no message travels to it
 abbrev pub HasNothingToDo : List Turn → ℕ → Type 0
@@ -40,7 +41,7 @@ pub record IsPlainTurn (p : List Stmt) (l : Limits) (j : List Turn) (e : Turn) :
   pub first : (k : ℕ) → 1 ≤ k → k ≤ l.sites → ComesBefore (last_site l.sites j) k e.site → HasNothingToDo j k
   pub lowest : IsLowestFor j e.site e.delivered
   pub full : (old : Site) × (d : Transition) × SiteRun p l.sites bundle_limit e.site j old
-      × IsFullTurnOf p l.sites bundle_limit (min (l.steps - old.steps) 64) e.units old (delivered_message j e.delivered) d × IsRecordOf e d
+      × IsFullTurnOf p l.sites bundle_limit (min (l.steps - old.steps) MOST_UNITS) e.units old (delivered_message j e.delivered) d × IsRecordOf e d
 
 -- each turn of the journal is so
 abbrev pub IsPlainRun : List Stmt → Limits → List Turn → Type 0

@@ -1,6 +1,7 @@
 //! Which site goes next.
 
 ghost use Rattle.std.specs.Prelude.{◌≡◌, ◌+◌, ◌<◌, ◌≤◌, ℕ, false, MatchOption};
+ghost use Rattle.tree_node.specs.declared.limits.TheConstants.{MOST_SITES};
 ghost use Rattle.plain_run.specs.Progress.{IsAtEase, IsFirstBusy, IsNextBusy};
 
 use world_core::World;
@@ -24,7 +25,7 @@ fn busy_among(world: &World<'_>, from: u32, end: u32) -> Option<u32>
 pub(crate) fn next_busy(world: &World<'_>, last: u32, sites: u32) -> Option<u32>
     requires last { last ≤ sites }
     requires sites { sites ≡ world.now.sites }
-    requires most { sites ≤ 64 }
+    requires most { sites ≤ MOST_SITES }
     requires live { world.now.spent ≡ false }
     ensures { MatchOption result ((i : ℕ) → 1 ≤ i → i ≤ sites → IsAtEase world.now i) (λ i. IsNextBusy world.now sites last i) }
 {

@@ -4,16 +4,17 @@ ghost use Rattle.std.specs.Prelude.{◌≡◌, ◌+◌, ◌<◌, ◌≤◌, ℕ,
 ghost use Rattle.kernel_syntax.specs.declared.stmt.Stmt.{Stmt};
 ghost use Rattle.kernel_syntax.specs.Program.{IsProgram};
 ghost use Rattle.site_message.specs.declared.turn.Turn.{Turn};
+ghost use Rattle.site_message.specs.Limits.{AreLimits};
 ghost use Rattle.site_message.specs.Journal.{end_of, AreWithin};
 ghost use Rattle.site_message.specs.EarlierEnd.{HasNoEarlierEnd};
 ghost use Rattle.world_core.specs.World.{WorldState};
 ghost use Rattle.plain_run.specs.Rounds.{IsPlainRun, last_site};
-ghost use Rattle.plain_run.specs.Progress.{AreLimits, HasReason, IsBusy, IsNextBusy, IsGoing, IsLimitedTurn, IsProgress, turns_left, limits_of};
+ghost use Rattle.plain_run.specs.Progress.{HasReason, IsBusy, IsNextBusy, IsGoing, IsLimitedTurn, IsProgress, turns_left};
 
 use crate::busy::next_busy;
-use crate::out::Limits;
-use site_message::{Quantum, Reason};
+use site_message::{Limits, Quantum, Reason};
 use std::alloc::AllocError;
+use tree_node::MOST_UNITS;
 use world_core::World;
 
 // One turn of the site: its message with the lowest number, if there is one, and then its threads, within its limit of own
@@ -33,7 +34,7 @@ fn take_turn(world: &mut World<'_>, site: u32, limits: Limits) -> Result<bool, A
     world.travelling();
     let place = world.next_for(site);
     let steps = world.steps(site);
-    let units = (limits.steps - steps).min(64) as u32;
+    let units = (limits.steps - steps).min(MOST_UNITS as u64) as u32;
     if world.turn(site, place, Quantum(units)).is_err() {
         return Err(AllocError);
     }
@@ -46,7 +47,7 @@ fn end_after(world: &World<'_>, site: u32, limits: Limits) -> Option<Reason>
     requires live { world.now.spent ≡ false }
     requires some { 1 ≤ site }
     requires among { site ≤ limits.sites }
-    ensures { (old : WorldState) (p : List Stmt) → IsLimitedTurn limits p old world.now site → result ≡ end_of (limits_of limits) world.now.journal }
+    ensures { (old : WorldState) (p : List Stmt) → IsLimitedTurn limits p old world.now site → result ≡ end_of limits world.now.journal }
 {
     let over_limit = world.sent() > limits.messages;
     let at_limit = world.steps(site) >= limits.steps && !world.idle(site);
@@ -63,8 +64,8 @@ fn advance(world: &mut World<'_>, last: u32, limits: Limits) -> Result<u32, Reas
     requires behind { last ≡ last_site limits.sites world.old.journal }
     ensures same { (world.new.program ≡ world.old.program) × (world.new.sites ≡ world.old.sites) }
     ensures ended { IfErr result (λ reason. HasReason limits world.new.journal reason) }
-    ensures went { HasNoEarlierEnd (limits_of limits) world.new.journal }
-    ensures within { AreWithin (limits_of limits) world.new.journal }
+    ensures went { HasNoEarlierEnd limits world.new.journal }
+    ensures within { AreWithin limits world.new.journal }
     ensures rounds { IsPlainRun world.old.program limits world.new.journal }
     ensures behind { IfOk result (λ site. site ≡ last_site limits.sites world.new.journal) }
     ensures on { IfOk result (λ site. (site ≤ limits.sites) × IsGoing limits world.old.program world.new × (turns_left limits world.new < turns_left limits world.old)) }
@@ -98,8 +99,8 @@ pub(crate) fn drive(world: &mut World<'_>, limits: Limits) -> Reason
     ensures same { (world.new.program ≡ world.old.program) × (world.new.sites ≡ world.old.sites) }
     ensures rounds { IsPlainRun world.old.program limits world.new.journal }
     ensures reason { HasReason limits world.new.journal result }
-    ensures went { HasNoEarlierEnd (limits_of limits) world.new.journal }
-    ensures within { AreWithin (limits_of limits) world.new.journal }
+    ensures went { HasNoEarlierEnd limits world.new.journal }
+    ensures within { AreWithin limits world.new.journal }
 {
     let mut last = limits.sites;
     loop {

@@ -7,13 +7,14 @@
 //! centralised machine to a state that the sites match (`HasMachineRun`); where nothing travels and every site is idle the
 //! machine rests there. `schedule` has these picks in order; the reason is how the journal ends (`HasReason`, by `end_of` of
 //! `site_message`), or that memory ran out where it goes on; no turn before the last had ended it (`HasNoEarlierEnd`), and none
-//! went past the limit of own steps (`AreWithin`); `ended` and `waiting` are the sums of what the sites told last; and no more messages were sent than the picks allow (`AreMessagesFew`).
+//! went past the limit of own steps (`AreWithin`); `ended` and `waiting` are the sums of what the sites told last; and no more
+//! messages were sent than the picks allow (`AreMessagesFew`).
 //! `finish_run` tells all of this of the turns and the reason that it is given (`IsOutputOf`), whatever drove the run, and takes no
 //! memory: workers end by it, too.
 //!
 //! The order: sites 1 to the last in rounds, each taking its message with the lowest number and then its threads, first come
 //! first served, for at most 64 units and never past its limit of own steps. A site that has no message and is idle is left out.
-//! So each turn of the journal is (`IsPlainTurn`), by the turns before it alone: it is of the first site behind the last one, in the
+//! Site, message and number of units of each turn are so by the turns before it alone (`IsPlainTurn`): it is of the first site behind the last one, in the
 //! circle, that has something to do, it takes the lowest number, and it is full. `turns_are_determined` is the law that site and
 //! message of the next turn follow from the journal. In which order the threads of a turn go is a clause of `Site::turn`; that two runs
 //! print the same, tests show.
@@ -37,5 +38,5 @@ mod totals;
 
 pub use finish::finish_run;
 pub use laws::turns_are_determined;
-pub use out::{DrivenRun, Limits, RunOut};
+pub use out::{DrivenRun, RunOut};
 pub use run::run_plain;

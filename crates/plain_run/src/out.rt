@@ -1,15 +1,6 @@
-//! The limits of a run and what it gives.
+//! What a run gives.
 
 use site_message::{History, Journal, Reason, Schedule};
-
-/// On how many sites a program runs, 1 to 64, how many own steps each site may make, 1 to 1,000,000,000, and how many messages
-/// may be sent, at most 4,000,000,000.
-#[derive(Clone, Copy)]
-pub struct Limits {
-    pub sites: u32,
-    pub steps: u64,
-    pub messages: u64,
-}
 
 /// What the driver of a run leaves: the turns that were made with their schedule, and why no more were. It has no `Drop`: whoever has
 /// turns hands them on.

@@ -3,18 +3,19 @@
 ghost use Rattle.std.specs.Prelude.{◌≡◌};
 ghost use Rattle.world_model.specs.Schedule.{schedule, sum_to};
 ghost use Rattle.world_model.specs.Simulated.{last_ended, last_waiting};
+ghost use Rattle.site_message.specs.Limits.{AreLimits};
 ghost use Rattle.site_message.specs.Journal.{AreWithin};
 ghost use Rattle.site_message.specs.EarlierEnd.{HasNoEarlierEnd};
 ghost use Rattle.world_core.specs.Laws.{HasRun, AreMessagesFew};
-ghost use Rattle.plain_run.specs.Progress.{AreLimits, HasReason, limits_of};
+ghost use Rattle.plain_run.specs.Progress.{HasReason};
 ghost use Rattle.plain_run.specs.Rounds.{IsPlainRun};
 ghost use Rattle.plain_run.specs.Simulated.{HasMachineRun};
 
 use crate::drive::drive;
 use crate::finish::finish_run;
-use crate::out::{DrivenRun, Limits, RunOut};
+use crate::out::{DrivenRun, RunOut};
 use kernel_syntax::Program;
-use site_message::{History, Reason};
+use site_message::{History, Limits, Reason};
 use std::alloc::Global;
 use world_core::World;
 
@@ -29,8 +30,8 @@ pub fn run_plain(alloc: Global, program: &Program, limits: Limits) -> RunOut
     ensures few { AreMessagesFew program.now limits.sites result.journal }
     ensures schedule { result.schedule ≡ schedule result.journal }
     ensures reason { HasReason limits result.journal result.reason }
-    ensures went { HasNoEarlierEnd (limits_of limits) result.journal }
-    ensures within { AreWithin (limits_of limits) result.journal }
+    ensures went { HasNoEarlierEnd limits result.journal }
+    ensures within { AreWithin limits result.journal }
     ensures rounds { IsPlainRun program.now limits result.journal }
     ensures ended { result.ended ≡ sum_to limits.sites (last_ended result.journal) }
     ensures waiting { result.waiting ≡ sum_to limits.sites (last_waiting result.journal) }
@@ -43,8 +44,8 @@ fn run_world(alloc: Global, program: &Program, limits: Limits) -> DrivenRun
     requires { AreLimits limits }
     ensures run { HasRun program.now limits.sites result.history }
     ensures reason { HasReason limits result.history result.reason }
-    ensures went { HasNoEarlierEnd (limits_of limits) result.history }
-    ensures within { AreWithin (limits_of limits) result.history }
+    ensures went { HasNoEarlierEnd limits result.history }
+    ensures within { AreWithin limits result.history }
     ensures rounds { IsPlainRun program.now limits result.history }
 {
     program.is_program();

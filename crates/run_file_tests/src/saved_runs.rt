@@ -1,8 +1,8 @@
 //! Saved runs as bytes: a worked text both ways, and what comes of others. The outcomes were worked out from the format by another
 //! program.
 
-use run_file::{FileFault, RunNumbers, read_run, write_run};
-use site_message::{Journal, Lines, Picks, SentList, Turn, Units};
+use run_file::{FileFault, read_run, write_run};
+use site_message::{Journal, Limits, Lines, Picks, SentList, Turn, Units};
 use std::alloc::{AllocError, Global};
 use std::test::Fail;
 use tree_node::{Line, ThreadName};
@@ -193,14 +193,14 @@ fn journal(alloc: Global, count: usize) -> Result<Journal, AllocError> {
 
 // The text of that journal.
 fn saved(alloc: Global, count: usize) -> Result<Vec<u8>, AllocError> {
-    let numbers = RunNumbers {
+    let limits = Limits {
         sites: 2,
         steps: 10,
         messages: 7,
     };
     let end = line(alloc, "quiescent ended=2 waiting=0")?;
     let journal = journal(alloc, count)?;
-    let text = write_run(alloc, b"skip\n%", numbers, &journal, &end);
+    let text = write_run(alloc, b"skip\n%", limits, &journal, &end);
     journal.forget();
     Ok(text?.into_vec())
 }

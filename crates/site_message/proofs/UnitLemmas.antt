@@ -6,7 +6,7 @@ use Rattle.std.proofs.lemmas.Grind.{flat_map-append}
 use Rattle.tree_node.specs.declared.names.ThreadName.{ThreadName}
 use Rattle.site_message.specs.declared.units.SmallStint.{SmallStint}
 use Rattle.site_message.specs.declared.units.Stint.{Stint}
-use Rattle.site_message.specs.Units.{in_a_row, thread_of, units_of, small_units}
+use Rattle.site_message.specs.Units.{in_a_row, units_of, small_units}
 
 row_next : (n : ℕ) (th : ThreadName) → in_a_row (suc n) th ≡ in_a_row n th ++ th ∷ []
 row_next zero th = refl
@@ -30,10 +30,11 @@ large_more stints s = flat_map-append units_of stints (s ∷ []) ∙ ap (λ (z :
 pub small_more : (stints : List SmallStint) (s : SmallStint) → flat_map small_units (stints ++ s ∷ []) ≡ flat_map small_units stints ++ small_units s
 small_more stints s = flat_map-append small_units stints (s ∷ []) ∙ ap (λ (z : List ThreadName). flat_map small_units stints ++ z) (append-nil (small_units s))
 
--- two stints
-pub behind_none : (s t : Stint) → s.count ≡ 0 → units_of t ≡ units_of s ++ units_of t
-behind_none s t none = ap (λ (n : ℕ). in_a_row n (thread_of s) ++ units_of t) (sym none)
+-- the first stint
+pub behind_none : (count site num : ℕ) (t : Stint) → count ≡ 0 → units_of t ≡ in_a_row count (record { site = site; num = num }) ++ units_of t
+behind_none count site num t none = let one : ThreadName = record { site = site; num = num } in ap (λ (n : ℕ). in_a_row n one ++ units_of t) (sym none)
 
+-- two stints
 pub two_of : (s t : Stint) → flat_map units_of (s ∷ t ∷ []) ≡ units_of s ++ units_of t
 two_of s t = ap (λ (z : List ThreadName). units_of s ++ z) (append-nil (units_of t))
 

@@ -1,7 +1,8 @@
 -- Runs that nothing ended before.
 use Rattle.std.specs.Prelude.{◌≡◌, List, [], ◌∷◌, None}
 use Rattle.site_message.specs.declared.turn.Turn.{Turn}
-use Rattle.site_message.specs.Journal.{Limits, end_of}
+use Rattle.site_message.specs.declared.limits.Limits.{Limits}
+use Rattle.site_message.specs.Journal.{end_of}
 
 -- the run went on after each of its turns but the last one
 abbrev pub HasNoEarlierEnd : Limits → List Turn → Type 0

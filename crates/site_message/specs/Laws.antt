@@ -5,7 +5,8 @@ use Rattle.site_message.specs.declared.message.Sent.{Sent}
 use Rattle.site_message.specs.declared.message.Msg.TheVariants as msg
 use Rattle.site_message.specs.declared.turn.Turn.{Turn}
 use Rattle.site_message.specs.declared.reason.Reason.TheVariants.{Quiet, Steps, Messages}
-use Rattle.site_message.specs.Journal.{Limits, Wired, IsTravelling, sent_of, travelling, was_delivered, without_number, deliveries, is_idle, is_quiet, end_of}
+use Rattle.site_message.specs.declared.limits.Limits.{Limits}
+use Rattle.site_message.specs.Journal.{Wired, IsTravelling, sent_of, travelling, was_delivered, without_number, deliveries, is_idle, is_quiet, end_of}
 use Rattle.site_message.specs.Story.{own}
 
 -- the list of travelling messages has those that were sent and not delivered, and no other

@@ -1,6 +1,7 @@
 pub mod SharedSeq
 pub mod Schedule
 pub mod Units
+pub mod Limits
 pub mod Journal
 pub mod EarlierEnd
 pub mod Wire

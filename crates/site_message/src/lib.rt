@@ -20,6 +20,7 @@
 mod copy;
 mod history;
 mod laws;
+mod limits;
 mod message;
 mod outbox;
 mod picks;
@@ -37,6 +38,7 @@ pub use history::History;
 pub use laws::{
     deliveries_add_up, quiet_tells, travelling_grows, travelling_tells, wired_tells, worked_ends,
 };
+pub use limits::Limits;
 pub use message::{Bundle, Msg, Sent, SentList};
 pub use outbox::Outbox;
 pub use picks::Picks;

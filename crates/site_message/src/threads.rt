@@ -1,6 +1,7 @@
 //! What may cross from one thread to another, and what threads may share. A type that loses Send or Sync is refused here.
 
 use crate::history::History;
+use crate::limits::Limits;
 use crate::message::{Bundle, Msg, Sent};
 use crate::outbox::Outbox;
 use crate::picks::Picks;
@@ -12,6 +13,7 @@ fn is_send_and_sync<T: Send + Sync>() {}
 
 // Threads may hold and share each of these.
 fn cross_threads() {
+    is_send_and_sync::<Limits>();
     is_send_and_sync::<Bundle>();
     is_send_and_sync::<Msg>();
     is_send_and_sync::<Sent>();

@@ -180,13 +180,19 @@ fn count_on(stints: &mut Stints, thread: ThreadName) -> bool
 }
 
 // A stint behind the others.
-#[tactic(auto, using(crate::proofs::UnitLemmas::small_more, crate::proofs::UnitLemmas::large_more))]
+#[tactic(auto, using(crate::proofs::UnitLemmas::behind_none, crate::proofs::UnitLemmas::small_more, crate::proofs::UnitLemmas::large_more))]
 fn push_next(alloc: Global, stints: &mut Stints, next: Stint) -> Result<(), AllocError>
     ensures ok { OnOk result (threads_in stints.new ≡ threads_in stints.old ++ units_of next) }
     ensures err { OnErr result (threads_in stints.new ≡ threads_in stints.old) }
 {
     match stints {
         Stints::One { count, site, num } => {
+            if *count == 0 {
+                *count = next.count;
+                *site = next.site;
+                *num = next.num;
+                return Ok(());
+            }
             let first = Stint {
                 count: *count,
                 site: *site,
@@ -206,18 +212,12 @@ fn push_next(alloc: Global, stints: &mut Stints, next: Stint) -> Result<(), Allo
     Ok(())
 }
 
-// One stint behind another, which may have no unit.
-#[tactic(auto, using(crate::proofs::UnitLemmas::behind_none, crate::proofs::UnitLemmas::two_of, crate::proofs::UnitLemmas::two_small))]
+// One stint behind another.
+#[inline(never)]
+#[tactic(auto, using(crate::proofs::UnitLemmas::two_of, crate::proofs::UnitLemmas::two_small))]
 fn two_stints(alloc: Global, first: Stint, next: Stint) -> Result<Stints, AllocError>
     ensures { IfOk result (λ stints. threads_in stints ≡ units_of first ++ units_of next) }
 {
-    if first.count == 0 {
-        return Ok(Stints::One {
-            count: next.count,
-            site: next.site,
-            num: next.num,
-        });
-    }
     if let Some(small_first) = first.small() {
         if let Some(small_next) = next.small() {
             return Ok(Stints::Small(two(alloc, small_first, small_next)?));
@@ -238,6 +238,7 @@ fn two<T: Drop>(alloc: Global, first: T, next: T) -> Result<Box<Vec<T>>, AllocEr
 }
 
 // Small stints as others are kept, and one more.
+#[inline(never)]
 #[tactic(auto, using(crate::proofs::UnitLemmas::large_more))]
 fn enlarged(
     alloc: Global,

@@ -10,7 +10,8 @@ use Rattle.kernel_syntax.specs.declared.stmt.Stmt.{Stmt}
 use Rattle.site_message.specs.declared.turn.Turn.{Turn}
 use Rattle.site_message.specs.declared.story.Sight.{Sight}
 use Rattle.site_message.specs.declared.reason.Reason.{Reason}
-use Rattle.site_message.specs.Journal.{Wired, Limits, AreWithin}
+use Rattle.site_message.specs.declared.limits.Limits.{Limits}
+use Rattle.site_message.specs.Journal.{Wired, AreWithin}
 use Rattle.site_message.specs.Story.{own}
 use Rattle.message_book.specs.Book.{IsSiteOf, AreSites}
 use Rattle.book_lock.specs.declared.lock.SiteSeat.{SiteSeat}

@@ -5,7 +5,7 @@ use Rattle.site_message.specs.declared.message.Msg.{Msg}
 use Rattle.site_message.specs.declared.turn.Turn.{Turn}
 use Rattle.site_message.specs.declared.reason.Reason.{Reason}
 use Rattle.site_message.specs.Story.{hand}
-use Rattle.site_message.specs.Journal.{Limits}
+use Rattle.site_message.specs.declared.limits.Limits.{Limits}
 use Rattle.message_book.specs.Book.{BookState, IsUntaken, IsUntakenSpelling, sight_of}
 use Rattle.book_lock.specs.Rule.{IsLawfulChange}
 use Rattle.site_worker.specs.Inside.{HasTaken}

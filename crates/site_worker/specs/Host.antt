@@ -1,5 +1,6 @@
 -- What stays true of a host, between visits and between the parts of one.
 use Rattle.std.specs.Prelude.{◌≡◌, ℕ, ◌≤◌, List, [], ◌∷◌, true, false, Option, Some, None}
+use Rattle.tree_node.specs.declared.limits.TheConstants.{MOST_SITES, MOST_STEPS, MOST_UNITS}
 use Rattle.atomic_table.specs.Seated.{TableId}
 use Rattle.tree_node.specs.Each.{Each}
 use Rattle.kernel_syntax.specs.declared.stmt.Stmt.{Stmt}
@@ -57,8 +58,8 @@ pub record IsSeated (table : TableId) (h : Host) : Type 0 where
   pub site : (state_of h).records.site ≡ h.number
   pub sites : book_sites (sight h) ≡ sites_of h
   pub range : IsSiteOf (sites_of h) h.number
-  pub most : sites_of h ≤ 64
-  pub limit : book_steps (sight h) ≤ 1000000000
+  pub most : sites_of h ≤ MOST_SITES
+  pub limit : book_steps (sight h) ≤ MOST_STEPS
   pub program : IsProgram (program_of h)
 
 -- no entry of the site that the host's seat saw leaves it with more own steps than the book's limit
@@ -119,7 +120,7 @@ pub record HasTurned (table : TableId) (h : Host) (e : Turn) : Type 0 where
   pub before : Site
   pub taken : Option (ℕ × Msg)
   pub quantum : ℕ
-  pub few : quantum ≤ 64
+  pub few : quantum ≤ MOST_UNITS
   pub run : IsRunTo h (sight h).entries before
   pub turn : IsTurnMade (program_of h) (sites_of h) before taken quantum e (state_of h)
   pub site : e.site ≡ h.number
@@ -149,4 +150,4 @@ HasTriedTurn table h (Some e) = HasTurned table h e
 abbrev pub IsNewSeat : TableId → ℕ → SiteSeat → Type 0
 IsNewSeat table n x =
     IsOutsideOf table x × IsSiteOf n x.site × (book_sites (last_seen x) ≡ n) × ((last_seen x).entries ≡ [])
-    × (hand x.site (last_seen x).hands ≡ []) × (book_steps (last_seen x) ≤ 1000000000)
+    × (hand x.site (last_seen x).hands ≡ []) × (book_steps (last_seen x) ≤ MOST_STEPS)

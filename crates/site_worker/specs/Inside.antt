@@ -1,11 +1,13 @@
 -- What a site does to the book inside the lock.
 use Rattle.std.specs.Prelude.{◌≡◌, ℕ, ◌≤◌, List, [], ◌∷◌, ◌++◌, Option, Some, None, Contains, slice_get, slice_index_or}
+use Rattle.tree_node.specs.declared.limits.TheConstants.{MOST_STEPS}
 use Rattle.site_message.specs.declared.message.Msg.{Msg}
 use Rattle.site_message.specs.declared.turn.Turn.{Turn}
 use Rattle.site_message.specs.declared.story.Sight.{Sight}
 use Rattle.site_message.specs.declared.reason.Reason.{Reason}
 use Rattle.site_message.specs.declared.reason.Reason.TheVariants.{Memory}
-use Rattle.site_message.specs.Journal.{Limits, IsTravelling, sent_of}
+use Rattle.site_message.specs.declared.limits.Limits.{Limits}
+use Rattle.site_message.specs.Journal.{IsTravelling, sent_of}
 use Rattle.site_message.specs.Story.{hand}
 use Rattle.wire_form.specs.declared.form.Form.TheVariants as forms
 use Rattle.wire_form.specs.Format.{IsSpelling}
@@ -51,7 +53,7 @@ HasTaken k old new (Some x) = IsSentSpelling k old x.0 x.1 × (hand k new.hands 
 abbrev pub HasFetched : ℕ → Sight → Sight → Fetched → Type 0
 HasFetched k old new (Over r) = (new.reason ≡ Some r) × (new.entries ≡ old.entries) × (new.hands ≡ old.hands) × (old.reason ≡ Some r)
 HasFetched k old new (Open o limit) = (old.reason ≡ None) × (new.reason ≡ None) × (new.entries ≡ old.entries)
-    × ((limit ≡ book_steps new) × (limit ≤ 1000000000)) × HasTaken k old new o
+    × ((limit ≡ book_steps new) × (limit ≤ MOST_STEPS)) × HasTaken k old new o
 
 -- the turn is the newest entry, its message is off the hand, and the book has this reason or none; or the book has no entry more and this
 -- reason, which is the one that it had, or want of memory where it had none

@@ -1,5 +1,6 @@
 -- New sites, and what a book shows before its first entry.
 use Rattle.std.specs.Prelude.{◌≡◌, ℕ, ◌+◌, ◌≤◌, List, [], ◌∷◌, false}
+use Rattle.tree_node.specs.declared.limits.TheConstants.{MOST_STEPS}
 use Rattle.kernel_syntax.specs.declared.stmt.Stmt.{Stmt}
 use Rattle.site_message.specs.declared.story.NoSeat.{NoSeat}
 use Rattle.site_message.specs.declared.story.Sight.{Sight}
@@ -25,4 +26,4 @@ pub record IsFresh (n : ℕ) (x : Sight) : Type 0 where
   pub sites : book_sites x ≡ n
   pub entries : x.entries ≡ []
   pub hands : (k : ℕ) → hand k x.hands ≡ []
-  pub limit : book_steps x ≤ 1000000000
+  pub limit : book_steps x ≤ MOST_STEPS

@@ -1,5 +1,6 @@
 -- What a visit leaves.
 use Rattle.std.specs.Prelude.{min, ◌-◌, Option, ◌≡◌, ◌⊎◌, ℕ, ◌≤◌, List, [], ◌∷◌, true, false, Some, None}
+use Rattle.tree_node.specs.declared.limits.TheConstants.{MOST_STEPS, MOST_UNITS}
 use Rattle.atomic_table.specs.Seated.{TableId}
 use Rattle.site_message.specs.declared.message.Msg.{Msg}
 use Rattle.site_message.specs.declared.turn.Turn.{Turn}
@@ -45,7 +46,7 @@ NoneWaited k old new =
 
 -- the units that a turn of the host may make: 64, or the own steps that are left, where these are fewer
 abbrev pub quantum_of : Host → ℕ
-quantum_of h = min (book_steps (sight h) - (state_of h).steps) 64
+quantum_of h = min (book_steps (sight h) - (state_of h).steps) MOST_UNITS
 
 -- the site has exactly this entry more: a turn from its state before, of as many units as the quantum, fewer only where the
 -- site is then idle, with this message, which the book has by that number, or, where the site was not idle and none waited for
@@ -82,7 +83,7 @@ pub record IsSameHost (old new : Host) : Type 0 where
 abbrev pub IsFirstHalf : TableId → Host → Host → Fetched → Type 0
 IsFirstHalf table old new (fetched.Over r) =
     IsHost table new × IsOver (sight new) r × HasNoEntry old.number (sight old) (sight new) × IsContinuation (sight new).entries (sight old).entries
-IsFirstHalf table old new (fetched.Open o limit) = HasSpelling table new o × HasNoEntry old.number (sight old) (sight new) × ((limit ≡ book_steps (sight new)) × (limit ≤ 1000000000))
+IsFirstHalf table old new (fetched.Open o limit) = HasSpelling table new o × HasNoEntry old.number (sight old) (sight new) × ((limit ≡ book_steps (sight new)) × (limit ≤ MOST_STEPS))
 
 -- the host is in a visit that it began as `old`, and goes on with what was taken
 pub record HasBegun (table : TableId) (old new : Host) (o : Option (ℕ × List ℕ)) (limit : ℕ) : Type 0 where

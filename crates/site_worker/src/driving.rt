@@ -1,6 +1,7 @@
 //! One scoped thread for each worker, by recursion on the list of workers.
 
 ghost use Rattle.std.specs.Prelude.{◌≡◌, ℕ, List, ◌+◌, ◌≤◌, ◌<◌, [], length, vec_capacity, IfOk, IfErr};
+ghost use Rattle.tree_node.specs.declared.limits.TheConstants.{MOST_SITES};
 ghost use Rattle.kernel_syntax.specs.declared.stmt.Stmt.{Stmt};
 ghost use Rattle.book_lock.specs.Seats.{lock_id};
 ghost use Rattle.site_worker.specs.Host.{IsHost, IsHostOf};
@@ -129,7 +130,7 @@ fn drive_all<'a, G: Gate + Sync, R: Threads + Wait + Sync>(
 }
 
 /// Drives the hosts of the sites of one run: the host of the site `s` belongs to the worker `s` modulo the number of
-/// workers. Memory is taken before anything is started.
+/// workers, who are at most as many as sites may be. Memory is taken before anything is started.
 pub fn drive<'a, G: Gate + Sync, R: Threads + Wait + Sync>(
     rt: &R,
     alloc: Global,
@@ -138,7 +139,7 @@ pub fn drive<'a, G: Gate + Sync, R: Threads + Wait + Sync>(
     lock: &CountedLock<Book>,
     gate: &G,
 ) -> Result<Vec<Host<'a>>, (Vec<Host<'a>>, AllocError)>
-    requires workers { (0 < workers) × (workers ≤ 64) }
+    requires workers { (0 < workers) × (workers ≤ MOST_SITES) }
     requires some { 0 < length hosts.items }
     requires hosts { AreHosts (lock_id lock.now) hosts.items }
     ensures each { (k : ℕ) → times k (hosts_of result) ≡ times k hosts.entry.items }

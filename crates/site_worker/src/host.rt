@@ -1,6 +1,7 @@
 //! A site with its seat, and a visit.
 
 ghost use Rattle.std.specs.Prelude.{◌≡◌, ◌≤◌, ◌-◌, ◌^◌, min, ℕ, false, Option, None, IfOk, IfSome};
+ghost use Rattle.tree_node.specs.declared.limits.TheConstants.{MOST_SITES, MOST_STEPS, MOST_UNITS};
 ghost use Rattle.atomic_table.specs.Seated.{TableId};
 ghost use Rattle.book_lock.specs.Rule.{IsContinuation};
 ghost use Rattle.book_lock.specs.Seats.{lock_id, last_seen};
@@ -27,6 +28,7 @@ use site_message::{Msg, NoSeat, Quantum, Reason, Sent, Turn};
 use site_wire::sites_send_what_fits;
 use std::alloc::{AllocError, Global};
 use std::sync::Wait;
+use tree_node::{MOST_SITES, MOST_UNITS};
 use wire_form::{Bytes, WireFault, decode};
 
 /// A site of a run with its seat: the site's number, the turns that it has begun, whether it was given up, and the sites
@@ -64,7 +66,7 @@ impl<'a> Host<'a> {
     /// A new site and its new seat. Its visits take memory of the allocator.
     pub fn new(alloc: Global, site: Site<'a, NoSeat>, seat: SiteSeat) -> Host<'a>
         requires program { IsProgram site.program }
-        requires most { site.sites ≤ 64 }
+        requires most { site.sites ≤ MOST_SITES }
         requires site { site.state ≡ initial_site site.program seat.site }
         requires live { site.spent ≡ false }
         requires seat { (t : TableId) × IsNewSeat t site.sites seat }
@@ -151,11 +153,11 @@ impl<'a> Host<'a> {
         limit: u64,
     ) -> Option<SpelledTurn>
         requires taken { (t : TableId) × HasSpelling t self.old taken }
-        requires limit { (limit ≡ book_steps (sight self.old)) × (limit ≤ 1000000000) }
+        requires limit { (limit ≡ book_steps (sight self.old)) × (limit ≤ MOST_STEPS) }
         ensures same { IsSameHost self.old self.new × (self.new.site.seat ≡ self.old.site.seat) }
         ensures turned { (t : TableId) → HasSpelling t self.old taken → HasTriedTurn t self.new result }
         ensures recipients { IfSome result (λ e. AreRecipients self.new.recipients e.sent) }
-        ensures turn { (m : Option (ℕ × AMsg)) → IsSpelledBy taken m → IfSome result (λ e. IsTurnMade (program_of self.old) (sites_of self.old) (state_of self.old) m (min (limit - (state_of self.old).steps) 64) e (state_of self.new)) }
+        ensures turn { (m : Option (ℕ × AMsg)) → IsSpelledBy taken m → IfSome result (λ e. IsTurnMade (program_of self.old) (sites_of self.old) (state_of self.old) m (min (limit - (state_of self.old).steps) MOST_UNITS) e (state_of self.new)) }
     {
         self.turns = self.turns.saturating_add(1);
         gate.before_turn(rt, self.number, self.turns);
@@ -166,11 +168,11 @@ impl<'a> Host<'a> {
     // is given up.
     fn turn(&mut self, taken: Option<(u64, Bytes)>, limit: u64) -> Option<SpelledTurn>
         requires taken { (t : TableId) × HasSpelling t self.old taken }
-        requires limit { (limit ≡ book_steps (sight self.old)) × (limit ≤ 1000000000) }
+        requires limit { (limit ≡ book_steps (sight self.old)) × (limit ≤ MOST_STEPS) }
         ensures same { IsSameHost self.old self.new × (self.new.site.seat ≡ self.old.site.seat) }
         ensures turned { (t : TableId) → HasSpelling t self.old taken → HasTriedTurn t self.new result }
         ensures recipients { IfSome result (λ e. AreRecipients self.new.recipients e.sent) }
-        ensures turn { (m : Option (ℕ × AMsg)) → IsSpelledBy taken m → IfSome result (λ e. IsTurnMade (program_of self.old) (sites_of self.old) (state_of self.old) m (min (limit - (state_of self.old).steps) 64) e (state_of self.new)) }
+        ensures turn { (m : Option (ℕ × AMsg)) → IsSpelledBy taken m → IfSome result (λ e. IsTurnMade (program_of self.old) (sites_of self.old) (state_of self.old) m (min (limit - (state_of self.old).steps) MOST_UNITS) e (state_of self.new)) }
     {
         let Ok(message) = read(self.alloc, taken) else {
             self.spent = true;
@@ -188,14 +190,17 @@ impl<'a> Host<'a> {
     // The turn with its message. Without memory the site is given up.
     fn make_turn(&mut self, message: Option<(u64, Msg)>, limit: u64) -> Option<Turn>
         requires message { (t : TableId) × HasMessage t self.old message }
-        requires limit { (limit ≡ book_steps (sight self.old)) × (limit ≤ 1000000000) }
+        requires limit { (limit ≡ book_steps (sight self.old)) × (limit ≤ MOST_STEPS) }
         ensures same { IsSameHost self.old self.new × (self.new.site.seat ≡ self.old.site.seat) }
         ensures turned { (t : TableId) → HasMessage t self.old message → HasTriedTurn t self.new result }
         ensures recipients { IfSome result (λ e. AreRecipients self.new.recipients e.sent) }
-        ensures turn { IfSome result (λ e. IsTurnMade (program_of self.old) (sites_of self.old) (state_of self.old) message (min (limit - (state_of self.old).steps) 64) e (state_of self.new)) }
+        ensures turn { IfSome result (λ e. IsTurnMade (program_of self.old) (sites_of self.old) (state_of self.old) message (min (limit - (state_of self.old).steps) MOST_UNITS) e (state_of self.new)) }
     {
         let left = limit.saturating_sub(self.site.steps());
-        match self.site.turn(message, Quantum(left.min(64) as u32)) {
+        match self
+            .site
+            .turn(message, Quantum(left.min(MOST_UNITS as u64) as u32))
+        {
             Ok(turn) => {
                 self.recipients = recipients_of(turn.sent.as_slice());
                 Some(turn)
@@ -282,12 +287,12 @@ fn recipients_of(sent: &[Sent]) -> u64
     recipients
 }
 
-// The bit of a site, 1 to 64; none where there is no such site.
+// The bit of a site, from 1 on; none where there is no such site.
 fn bit_of(site: u32) -> u64
-    ensures one { IsSiteOf 64 site → result ≡ 2 ^ (site - 1) }
-    ensures none { (IsSiteOf 64 site → ⊥) → result ≡ 0 }
+    ensures one { IsSiteOf MOST_SITES site → result ≡ 2 ^ (site - 1) }
+    ensures none { (IsSiteOf MOST_SITES site → ⊥) → result ≡ 0 }
 {
-    if 1 <= site && site <= 64 {
+    if 1 <= site && site <= MOST_SITES {
         1u64 << (site - 1)
     } else {
         0

@@ -8,8 +8,8 @@
 //! site and it was idle; else `Did`, with exactly one entry more and nothing in hand. The entry is a turn of 64 units or of the own
 //! steps that were left, where these are fewer, and of fewer only where the site is then idle. Where it took no message the site was
 //! not idle, and at some time of the visit none travelled to it (`NoneWaited`). The sites that it sent to are told, which are to be
-//! woken (`HasMadeTurn`). A turn is made while the seat is outside the lock alone (the condition of the site's `turn`). Workers make
-//! visits in a row (`AreVisits`). Each host stands in the group of its site's worker (`AreAtHome`). `drive` gives back the hosts that
+//! woken (`HasMadeTurn`). A turn is made while the seat is outside the lock alone (the condition of the site's `turn`). Inside, a
+//! worker makes visits in a row (`AreVisits`), which `drive` does not hand on. Each host stands in the group of its site's worker (`AreAtHome`). `drive` gives back the hosts that
 //! it was given, each once with its seat, and when it ends in `Ok` some seat saw a reason to end; without memory nothing was done.
 //! `finish` takes the book out: its journal is a run of the world of sites (`IsWorldRun`, which is `WorldRun` of
 //! `site_model` with some states), nothing had ended it before its last turn (`HasNoEarlierEnd`), no site went past its limit of own
@@ -43,5 +43,5 @@ pub use driving::drive;
 pub use gate::{Gate, OpenGate};
 pub use host::{Host, visit};
 pub use run::finish;
-pub use sites::{RunLimits, run_sites};
+pub use sites::run_sites;
 pub use visited::Visited;

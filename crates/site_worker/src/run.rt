@@ -4,7 +4,8 @@ ghost use Rattle.std.specs.Prelude.{◌≡◌, List, ◌<◌, ◌≤◌, [], Som
 ghost use Rattle.kernel_syntax.specs.declared.stmt.Stmt.{Stmt};
 ghost use Rattle.book_lock.specs.Seats.{lock_id, lock_seats};
 ghost use Rattle.site_message.specs.declared.reason.Reason.{Reason};
-ghost use Rattle.site_message.specs.Journal.{Limits, AreWithin};
+ghost use Rattle.site_message.specs.declared.limits.Limits.{Limits};
+ghost use Rattle.site_message.specs.Journal.{AreWithin};
 ghost use Rattle.site_message.specs.EarlierEnd.{HasNoEarlierEnd};
 ghost use Rattle.site_worker.specs.Hosts.{AreHosts, AreHostsOf, IsComplete, IsSomeOver, IsWorldRun, fixed_part};
 

@@ -3,6 +3,8 @@
 ghost use Rattle.std.specs.Prelude.{◌≡◌, ℕ, ◌<◌, ◌≤◌, [], Some, length, vec_capacity, IfOk};
 ghost use Rattle.site_message.specs.declared.reason.Reason.{Reason};
 ghost use Rattle.site_message.specs.declared.story.Sight.{Sight};
+ghost use Rattle.tree_node.specs.declared.limits.TheConstants.{MOST_SITES};
+ghost use Rattle.site_message.specs.Limits.{AreLimits};
 ghost use Rattle.site_message.specs.Journal.{AreWithin};
 ghost use Rattle.site_message.specs.EarlierEnd.{HasNoEarlierEnd};
 ghost use Rattle.message_book.specs.Book.{IsSiteOf};
@@ -19,19 +21,10 @@ use book_lock::{CountedLock, SiteSeat};
 use kernel_syntax::Program;
 use message_book::Book;
 use site_core::Site;
-use site_message::NoSeat;
+use site_message::{Limits, NoSeat};
 use std::alloc::{AllocError, Global};
 use std::sync::Wait;
 use std::thread::Threads;
-
-/// How large a run may be: its sites, the own steps of each, and the messages; and how many workers drive it.
-#[derive(Clone, Copy, Debug, PartialEq, Eq)]
-pub struct RunLimits {
-    pub sites: u32,
-    pub workers: u32,
-    pub steps: u64,
-    pub messages: u64,
-}
 
 // The sites of a program at their start, that of site 1 first.
 fn new_sites<'a>(
@@ -39,7 +32,7 @@ fn new_sites<'a>(
     count: u32,
     program: &'a Program,
 ) -> Result<Vec<Site<'a, NoSeat>>, AllocError>
-    requires { count ≤ 64 }
+    requires { count ≤ MOST_SITES }
     ensures count { IfOk result (λ ss. length ss.items ≡ count) }
     ensures new { IfOk result (λ ss. AreNewSites program.now count 1 ss.items) }
 {
@@ -59,7 +52,7 @@ fn seat_all<'a>(
     program: &'a Program,
     lock: &CountedLock<Book>,
 ) -> Vec<Host<'a>>
-    requires count { count ≤ 64 }
+    requires count { count ≤ MOST_SITES }
     requires room { (hosts.items ≡ []) × (count ≤ vec_capacity hosts) }
     requires sites { (length sites.items ≡ count) × AreNewSites program.now count 1 sites.items }
     requires seats { (length seats.items ≡ count) × ((x : Sight) × IsFresh count x × AreNewSeats (lock_id lock.now) 1 x seats.items) }
@@ -79,33 +72,33 @@ fn seat_all<'a>(
     hosts
 }
 
-/// Runs a program on new sites to a reason to end. Without the memory to begin, nothing is run.
+/// Runs a program on new sites to a reason to end. Workers are at most as many as sites may be. Without the memory to begin,
+/// nothing is run.
 pub fn run_sites<G: Gate + Sync, R: Threads + Wait + Sync>(
     rt: &R,
     alloc: Global,
     program: &Program,
-    bounds: RunLimits,
+    limits: Limits,
+    workers: u32,
     gate: &G,
 ) -> Result<Book, AllocError>
-    requires sites { IsSiteOf 64 bounds.sites }
-    requires workers { IsSiteOf 64 bounds.workers }
-    requires steps { (1 ≤ bounds.steps) × (bounds.steps ≤ 1000000000) }
-    requires messages { bounds.messages ≤ 4000000000 }
-    ensures run { IfOk result (λ b. IsWorldRun program.now bounds.sites b.journal) }
-    ensures limits { IfOk result (λ b. (b.limits.sites ≡ bounds.sites) × (b.limits.steps ≡ bounds.steps) × (b.limits.messages ≡ bounds.messages)) }
+    requires limits { AreLimits limits }
+    requires workers { IsSiteOf MOST_SITES workers }
+    ensures run { IfOk result (λ b. IsWorldRun program.now limits.sites b.journal) }
+    ensures limits { IfOk result (λ b. b.limits ≡ limits) }
     ensures went { IfOk result (λ b. HasNoEarlierEnd b.limits b.journal) }
     ensures within { IfOk result (λ b. AreWithin b.limits b.journal) }
     ensures over { IfOk result (λ b. (r : Reason) × (b.reason ≡ Some r)) }
 {
-    let size = bounds.sites as usize;
+    let size = limits.sites as usize;
     let hosts = Vec::with_capacity(alloc, size)?;
     let room = Vec::with_capacity(alloc, size)?;
-    let sites = new_sites(alloc, bounds.sites, program)?;
-    let tools = prepare(alloc, bounds.workers as usize, size)?;
-    let book = Book::new(alloc, bounds.sites, bounds.steps, bounds.messages)?;
-    match CountedLock::begin(alloc, book, bounds.sites) {
+    let sites = new_sites(alloc, limits.sites, program)?;
+    let tools = prepare(alloc, workers as usize, size)?;
+    let book = Book::new(alloc, limits)?;
+    match CountedLock::begin(alloc, book, limits.sites) {
         Ok((lock, seats)) => {
-            let hosts = seat_all(sites, seats, hosts, bounds.sites, program, &lock);
+            let hosts = seat_all(sites, seats, hosts, limits.sites, program, &lock);
             let hosts = drive_with(rt, tools, hosts, &lock, gate);
             Ok(finish(lock, hosts, room))
         }

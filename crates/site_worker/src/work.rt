@@ -15,10 +15,11 @@ use book_lock::CountedLock;
 use message_book::Book;
 use std::sync::Wait;
 
-/// What a round of visits came to.
+/// What a round of visits came to; `Nothing` where no site had anything to do at its last visit.
 #[derive(Clone, Copy, Debug, PartialEq, Eq)]
 pub(crate) enum Round {
     Did,
+    // No site had anything to do at its last visit.
     Nothing,
     Over,
 }

@@ -8,7 +8,9 @@ ghost use Rattle.message_book.specs.Book.{IsSiteOf};
 ghost use Rattle.site_message.specs.Story.{hand};
 
 use message_book::{Book, Posted, SpelledTurn};
-use site_message::{Bundle, Lines, Msg, Picks, Reason, Sent, SentList, Turn, Units, wire_fits};
+use site_message::{
+    Bundle, Limits, Lines, Msg, Picks, Reason, Sent, SentList, Turn, Units, wire_fits,
+};
 use std::alloc::{AllocError, Global};
 use std::test::Fail;
 use tree_node::{CodeId, Seq, ThreadName, Vars};
@@ -193,7 +195,12 @@ fn run_in(alloc: Global, book: &mut Book) -> Option<Observed>
 
 // The turns of the book are given up.
 fn run_two_turns(alloc: Global) -> Option<Observed> {
-    let Ok(mut book) = Book::new(alloc, 2, 10, 1) else {
+    let limits = Limits {
+        sites: 2,
+        steps: 10,
+        messages: 1,
+    };
+    let Ok(mut book) = Book::new(alloc, limits) else {
         return None;
     };
     let seen = run_in(alloc, &mut book);

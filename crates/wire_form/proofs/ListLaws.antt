@@ -26,9 +26,6 @@ spelled_cons F x more rest = ap (λ (z : List ℕ). z ++ rest) (flat_map-cons F.
 length_cons : {X : Type 0} (F : Field X) (x : X) (more : List X) → length (flat_map F.spelling (x ∷ more)) ≡ length (F.spelling x) + length (flat_map F.spelling more)
 length_cons F x more = ap (λ (z : List ℕ). length z) (flat_map-cons F.spelling x more) ∙ length-append (F.spelling x) (flat_map F.spelling more)
 
-behind_one : {X : Type 0} (front more : List X) (x : X) → (front ++ x ∷ []) ++ more ≡ front ++ x ∷ more
-behind_one front more x = append_assoc front (x ∷ []) more
-
 -- one item, and then more
 one_more : {X : Type 0} (F : Field X) (behind : List X → Field X) (item : List X → Left → Read X) → AreRead F behind item
     → (front : List X) (at : ℕ) (bytes : List ℕ) (x : X) (l : Left) (more : List X) (m : Left) → Takes (behind front) at bytes x l
@@ -56,7 +53,7 @@ items_take F behind item are (suc n) front at bytes xs m fits e =
     let a = bind_ok (item front (at, bytes)) (λ r. items_at item n (front ++ r.0 ∷ []) r.1) (xs, m) e in
     let t = (are.read front).takes at bytes a.0.0 a.0.1 fits a.1 in
     let u = items_take F behind item are n (front ++ a.0.0 ∷ []) a.0.1.0 a.0.1.1 xs m t.rest_fits a.2 in
-    (a.0.0 ∷ u.0, u.1 ∙ behind_one front u.0 a.0.0, ap suc u.2, one_more F behind item are front at bytes a.0.0 a.0.1 u.0 m t u.3)
+    (a.0.0 ∷ u.0, u.1 ∙ append_assoc front (a.0.0 ∷ []) u.0, ap suc u.2, one_more F behind item are front at bytes a.0.0 a.0.1 u.0 m t u.3)
 
 -- an item that is read, whatever stands behind it
 read_one : {X : Type 0} (F : Field X) (behind : List X → Field X) (item : List X → Left → Read X) → AreRead F behind item
@@ -77,7 +74,7 @@ items_again F behind item are (x ∷ more) front at rest each =
     let others = items_again F behind item are more (front ++ x ∷ []) (at + length (F.spelling x)) rest each.1 in
     let place : (at + length (F.spelling x)) + length (flat_map F.spelling more) ≡ at + length (flat_map F.spelling (x ∷ more)) = omega (arith, length_cons F x more) in
     ap (λ (a : Read _). a >>= λ r. items_at item (length more) (front ++ r.0 ∷ []) r.1) one ∙ others
-    ∙ ap (λ (xs : List _). done (xs, ((at + length (F.spelling x)) + length (flat_map F.spelling more), rest))) (behind_one front more x)
+    ∙ ap (λ (xs : List _). done (xs, ((at + length (F.spelling x)) + length (flat_map F.spelling more), rest))) (append_assoc front (x ∷ []) more)
     ∙ ap (λ (n : ℕ). done (front ++ x ∷ more, (n, rest))) place
 
 -- some items, and the fault of the next one
@@ -111,7 +108,7 @@ items_fail F behind item are (suc n) front at bytes f fits e = elim (bind_err (i
         fewer = omega (arith, u.fewer);
         each = (t.has, u.each);
         parts = parts ∙ ap (λ (z : List ℕ). F.spelling h.0.0 ++ z) u.parts ∙ sym (spelled_cons F h.0.0 u.more u.rest);
-        fault = subst (λ (k : ℕ). (behind (front ++ h.0.0 ∷ u.more)).Fault k u.rest f) there (subst (λ (xs : List _). (behind xs).Fault (h.0.1.0 + length (flat_map F.spelling u.more)) u.rest f) (behind_one front u.more h.0.0) u.fault);
+        fault = subst (λ (k : ℕ). (behind (front ++ h.0.0 ∷ u.more)).Fault k u.rest f) there (subst (λ (xs : List _). (behind xs).Fault (h.0.1.0 + length (flat_map F.spelling u.more)) u.rest f) (append_assoc front (h.0.0 ∷ []) u.more) u.fault);
       }
 ]
 
@@ -128,7 +125,7 @@ items_failing F behind item are (x ∷ more) front (suc n) at bytes rest f fewer
     let one = read_one F behind item are front at x bytes (flat_map F.spelling more ++ rest) each.0 (parts ∙ spelled_cons F x more rest) in
     let place : at + length (flat_map F.spelling (x ∷ more)) ≡ (at + length (F.spelling x)) + length (flat_map F.spelling more) = omega (arith, length_cons F x more) in
     let there : (behind ((front ++ x ∷ []) ++ more)).Fault ((at + length (F.spelling x)) + length (flat_map F.spelling more)) rest f =
-    subst (λ (k : ℕ). (behind ((front ++ x ∷ []) ++ more)).Fault k rest f) place (subst (λ (xs : List _). (behind xs).Fault (at + length (flat_map F.spelling (x ∷ more))) rest f) (sym (behind_one front more x)) fault) in
+    subst (λ (k : ℕ). (behind ((front ++ x ∷ []) ++ more)).Fault k rest f) place (subst (λ (xs : List _). (behind xs).Fault (at + length (flat_map F.spelling (x ∷ more))) rest f) (sym (append_assoc front (x ∷ []) more)) fault) in
     ap (λ (a : Read _). a >>= λ r. items_at item n (front ++ r.0 ∷ []) r.1) one
     ∙ items_failing F behind item are more (front ++ x ∷ []) n (at + length (F.spelling x)) (flat_map F.spelling more ++ rest) rest f (omega (arith, fewer)) each.1 refl there
 

@@ -1,6 +1,6 @@
 -- All of the bytes: they spell one message in one form, or have one first fault.
 use Rattle.std.proofs.Common.{◌≡◌, ℕ, ◌+◌, Bool, cond, eqb, List, [], ◌∷◌, ◌++◌, length, Result, Ok, Err, refl, sym, ap, subst, ◌∙◌, arith, ◌⊎◌, inl, inr}
-use Rattle.std.proofs.lemmas.List.{append-nil}
+use Rattle.std.proofs.lemmas.List.{append-nil, nil_from_length}
 use Rattle.std.proofs.lemmas.Bool.{eqb-true, eqb-false, ne_eqb}
 use Rattle.site_message.specs.declared.message.Msg.{Msg}
 use Rattle.wire_form.specs.declared.form.Form.{Form}
@@ -13,10 +13,6 @@ use Rattle.wire_form.specs.Laws.{BytesHaveOne, SpellsOne, HasOneFault, NotBoth, 
 use Rattle.wire_form.proofs.FieldLaws.{IsBytes, done, failed, ok_is, err_is, no_err, bind_ok, bind_err, passed, not_passed}
 use Rattle.wire_form.proofs.MessageLaws.{begins, no_kind_of_both, message_takes, message_again, message_fails, message_failing}
 
-none_of : (xs : List ℕ) → length xs ≡ 0 → xs ≡ []
-none_of [] e = refl
-none_of (x ∷ xs) e = absurd (omega (arith, e))
-
 -- what a message was taken from reads as that message
 reads : (form : Form) (bytes rest : List ℕ) (m : Msg) → (message form).Has m → bytes ≡ spelling form m ++ rest → message_at (0, bytes) ≡ Ok (m, (0 + length (spelling form m), rest))
 reads form bytes rest m has parts = ap (λ (z : List ℕ). message_at (0, z)) parts ∙ message_again form 0 m rest has
@@ -28,7 +24,7 @@ whole_spelled bytes m fits e =
     let t = message_takes 0 bytes a.0.0 a.0.1 fits a.1 in
     let form = t.0 in
     let g = passed (eqb (length a.0.1.1) 0) (Rest a.0.1.0) a.0.0 m a.2 in
-    let none = none_of a.0.1.1 (eqb-true (length a.0.1.1) 0 g.0) in
+    let none = nil_from_length a.0.1.1 (eqb-true (length a.0.1.1) 0 g.0) in
     let one : IsSpelling form bytes a.0.0 = (t.1.has, t.1.parts ∙ ap (λ (z : List ℕ). spelling form a.0.0 ++ z) none ∙ append-nil (spelling form a.0.0)) in
     (form, subst (λ (x : Msg). IsSpelling form bytes x) g.1 one)
 
@@ -84,15 +80,13 @@ same_form forms.Two forms.Two byte h k = refl
 same_form forms.One forms.Two byte h k = absurd (no_kind_of_both byte h k)
 same_form forms.Two forms.One byte h k = absurd (no_kind_of_both byte k h)
 
-first_byte : (a b : ℕ) (xs ys : List ℕ) → a ∷ xs ≡ b ∷ ys → a ≡ b
-first_byte a b xs ys e = cc
-
 -- spellings, of which the one is the front of the other, have one form
 one_form : (form other : Form) (m n : Msg) (rest : List ℕ) → spelling form m ++ rest ≡ spelling other n → form ≡ other
 one_form form other m n rest e =
     let a = begins form m in
     let b = begins other n in
-    let same : a.0 ≡ b.0 = first_byte a.0 b.0 (a.1 ++ rest) b.1 (sym (ap (λ (z : List ℕ). z ++ rest) a.2) ∙ e ∙ b.2) in
+    let bytes : a.0 ∷ (a.1 ++ rest) ≡ b.0 ∷ b.1 = sym (ap (λ (z : List ℕ). z ++ rest) a.2) ∙ e ∙ b.2 in
+    let same : a.0 ≡ b.0 = cc bytes in
     same_form form other a.0 a.3 (subst (λ (byte : ℕ). IsKind other byte) (sym same) b.3)
 
 pub spells_one : SpellsOne

@@ -3,6 +3,7 @@
 use Rattle.std.specs.Prelude.{◌≡◌, ℕ, ◌+◌, ◌≤◌, List, [], ◌∷◌, ◌++◌, ◌⊎◌, length, ℤ, IsUtf8, ◌<◌}
 use Rattle.std.specs.Int.{Width, w8, w16, w32, w64, w128}
 use Rattle.std.specs.declared.cmp.Ordering.TheVariants.{Less}
+use Rattle.tree_node.specs.declared.limits.TheConstants.{MOST_ITEMS, MOST_SITES}
 use Rattle.tree_node.specs.declared.names.VarName.{VarName}
 use Rattle.tree_node.specs.declared.names.CellName.{CellName}
 use Rattle.tree_node.specs.declared.names.ProcName.{ProcName}
@@ -44,7 +45,7 @@ within least most F = restriction (IsWithin least most) Range F
 
 -- a site is one byte, 1 to 64
 abbrev pub site : Field ℕ
-site = within 1 64 (number w8)
+site = within 1 MOST_SITES (number w8)
 
 -- a name is a site and a number of eight bytes
 abbrev pub name : Field (ℕ × ℕ)
@@ -108,7 +109,7 @@ field_behind form front = restriction (IsAbove (λ (x : Feature × VarName). x.0
 
 -- a byte of count, 1 to 64, and the fields, whose features ascend
 abbrev pub record_fields : Form → Field (List (Feature × VarName))
-record_fields form = list_behind (within 1 64 (number w8)) (record_field form) (field_behind form)
+record_fields form = list_behind (within 1 MOST_ITEMS (number w8)) (record_field form) (field_behind form)
 
 -- a count of two bytes and that many names
 abbrev pub variables : Field (List VarName)
@@ -116,7 +117,7 @@ variables = list_behind (number w16) var_name (λ front. var_name)
 
 -- the number of formals is a byte, 0 to 64
 abbrev pub formals : Field ℕ
-formals = within 0 64 (number w8)
+formals = within 0 MOST_ITEMS (number w8)
 
 -- a label and fields
 abbrev pub tree : Form → Field (List ℕ × List (Feature × VarName))

@@ -4,6 +4,7 @@ use Rattle.std.specs.Prelude.{◌≡◌, ℕ, zero, suc, ◌+◌, ◌⊎◌, ◌
 use Rattle.std.specs.Int.{Width, w16, w32, w64, byte_len, from_be_bytes, cast_signed}
 use Rattle.std.specs.Str.{is_utf8}
 use Rattle.std.specs.Ordering.{is_lt}
+use Rattle.tree_node.specs.declared.limits.TheConstants.{MOST_ITEMS, MOST_SITES}
 use Rattle.tree_node.specs.declared.names.VarName.{VarName}
 use Rattle.tree_node.specs.declared.names.CellName.{CellName}
 use Rattle.tree_node.specs.declared.names.ProcName.{ProcName}
@@ -103,7 +104,7 @@ text_at = filter_at is_utf8 (λ at. Utf8 (at + 1)) short_bytes_at
 
 -- a name: a byte of site, 1 to 64, and a number of eight bytes; then the names of the four kinds
 unfoldable pub name_at : Left → Read (ℕ × ℕ)
-name_at = byte_within_at 1 64 and number_at w64
+name_at = byte_within_at 1 MOST_SITES and number_at w64
 
 unfoldable pub var_name_at : Left → Read VarName
 var_name_at = map_at (λ p. record { site = p.0; num = p.1 }) name_at
@@ -166,7 +167,7 @@ unfoldable pub field_at : Form → List (Feature × VarName) → Left → Read (
 field_at form front = filter_at (is_above (λ (x : Feature × VarName). x.0) feature_below front) Order (feature_at form) and var_name_at
 
 unfoldable pub fields_at : Form → Left → Read (List (Feature × VarName))
-fields_at form = list_at (byte_within_at 1 64) (field_at form)
+fields_at form = list_at (byte_within_at 1 MOST_ITEMS) (field_at form)
 
 -- a count of two bytes, and that many variables
 unfoldable pub variables_at : Left → Read (List VarName)
@@ -177,7 +178,7 @@ unfoldable pub record_at : Form → Left → Read Term
 record_at form = map_at (λ p. terms.Node (nodes.Rec p.0 p.1)) (text_at and fields_at form)
 
 unfoldable pub procedure_at : Left → Read Term
-procedure_at = map_at (λ p. terms.Node (nodes.Proc p.0 p.1.0 p.1.1.0 p.1.1.1)) (proc_name_at and code_at and byte_within_at 0 64 and variables_at)
+procedure_at = map_at (λ p. terms.Node (nodes.Proc p.0 p.1.0 p.1.1.0 p.1.1.1)) (proc_name_at and code_at and byte_within_at 0 MOST_ITEMS and variables_at)
 
 -- what follows the tag of a term
 unfoldable pub node_at : Form → ℕ → ℕ → Left → Read Term
@@ -208,7 +209,7 @@ unfoldable pub spawn_at : Form → Left → Read Msg
 spawn_at form = map_at (λ p. messages.Spawn p.0 p.1.0 p.1.1.0 p.1.1.1) (thread_name_at and code_at and variables_at and bundle_at form)
 
 unfoldable pub register_at : Left → Read Msg
-register_at = map_at (λ p. messages.Register p.0 p.1) (var_name_at and byte_within_at 1 64)
+register_at = map_at (λ p. messages.Register p.0 p.1) (var_name_at and byte_within_at 1 MOST_SITES)
 
 unfoldable pub bind_request_at : Form → Left → Read Msg
 bind_request_at form = map_at (λ p. messages.BindReq p.0 p.1.0 p.1.1.0 p.1.1.1) (var_name_at and thread_name_at and term_at form and bundle_at form)
@@ -217,10 +218,10 @@ unfoldable pub binding_at : Form → Left → Read Msg
 binding_at form = map_at (λ p. messages.Binding p.0 p.1.0 p.1.1) (var_name_at and term_at form and bundle_at form)
 
 unfoldable pub get_at : Left → Read Msg
-get_at = map_at (λ p. messages.Get p.0 p.1) (cell_name_at and byte_within_at 1 64)
+get_at = map_at (λ p. messages.Get p.0 p.1) (cell_name_at and byte_within_at 1 MOST_SITES)
 
 unfoldable pub forward_at : Left → Read Msg
-forward_at = map_at (λ p. messages.Forward p.0 p.1) (cell_name_at and byte_within_at 1 64)
+forward_at = map_at (λ p. messages.Forward p.0 p.1) (cell_name_at and byte_within_at 1 MOST_SITES)
 
 unfoldable pub put_at : Form → Left → Read Msg
 put_at form = map_at (λ p. messages.Put p.0 p.1.0 p.1.1) (cell_name_at and var_name_at and bundle_at form)

@@ -8,14 +8,16 @@ use crate::cursor::Cursor;
 use crate::fault::WireFault;
 use crate::form::Form;
 use std::alloc::Global;
-use tree_node::{CellName, CodeId, Feature, Integer, ProcName, Shared, Text, ThreadName, VarName};
+use tree_node::{
+    CellName, CodeId, Feature, Integer, MOST_SITES, ProcName, Shared, Text, ThreadName, VarName,
+};
 
 // A site and a number.
 #[tactic(auto, unfolding(crate::specs::Reading::name_at))]
 fn name(cursor: &mut Cursor) -> Result<(u32, u64), WireFault>
     ensures { IsReadAs name_at cursor.old cursor.new result }
 {
-    let site = cursor.byte_within(1, 64)?;
+    let site = cursor.byte_within(1, MOST_SITES as u8)?;
     let num = cursor.number_64()?;
     Ok((site as u32, num))
 }

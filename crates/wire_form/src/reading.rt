@@ -20,7 +20,8 @@ use site_message::{Bundle, Msg};
 use std::alloc::Global;
 use std::cmp::Ordering;
 use tree_node::{
-    Feature, Fields, Integer, Node, Shared, Term, VarName, Vars, compare_features, is_below,
+    Feature, Fields, Integer, MOST_ITEMS, MOST_SITES, Node, Shared, Term, VarName, Vars,
+    compare_features, is_below,
 };
 
 // Whether a feature is above that of the last field.
@@ -58,7 +59,7 @@ fn field(
 fn fields(alloc: Global, form: Form, cursor: &mut Cursor) -> Result<Fields, WireFault>
     ensures { IsReadAs (fields_at form) cursor.old cursor.new result }
 {
-    let count = cursor.byte_within(1, 64)?;
+    let count = cursor.byte_within(1, MOST_ITEMS as u8)?;
     let mut items = Vec::with_capacity(alloc, cursor.len().min(count as usize))?;
     for _ in 0..count {
         let next = field(alloc, form, cursor, &items)?;
@@ -98,7 +99,7 @@ fn procedure(alloc: Global, cursor: &mut Cursor) -> Result<Term, WireFault>
 {
     let name = proc_name(cursor)?;
     let code = code(cursor)?;
-    let formals = cursor.byte_within(0, 64)?;
+    let formals = cursor.byte_within(0, MOST_ITEMS as u8)?;
     let vars = variables(alloc, cursor)?;
     Ok(Term::Node(Node::Proc(name, code, formals, vars)))
 }
@@ -206,7 +207,7 @@ fn register(cursor: &mut Cursor) -> Result<Msg, WireFault>
     ensures { IsReadAs register_at cursor.old cursor.new result }
 {
     let var = var_name(cursor)?;
-    let asking = cursor.byte_within(1, 64)? as u32;
+    let asking = cursor.byte_within(1, MOST_SITES as u8)? as u32;
     Ok(Msg::Register { var, asking })
 }
 
@@ -244,7 +245,7 @@ fn get(cursor: &mut Cursor) -> Result<Msg, WireFault>
     ensures { IsReadAs get_at cursor.old cursor.new result }
 {
     let cell = cell_name(cursor)?;
-    let asking = cursor.byte_within(1, 64)? as u32;
+    let asking = cursor.byte_within(1, MOST_SITES as u8)? as u32;
     Ok(Msg::Get { cell, asking })
 }
 
@@ -254,7 +255,7 @@ fn forward(cursor: &mut Cursor) -> Result<Msg, WireFault>
     ensures { IsReadAs forward_at cursor.old cursor.new result }
 {
     let cell = cell_name(cursor)?;
-    let next = cursor.byte_within(1, 64)? as u32;
+    let next = cursor.byte_within(1, MOST_SITES as u8)? as u32;
     Ok(Msg::Forward { cell, next })
 }
 

@@ -1,5 +1,6 @@
 use Rattle.std.proofs.Common.{arith, ◌≡◌, ap, sym, subst, List, length}
 use Rattle.site_message.specs.declared.turn.Turn.{Turn}
+use Rattle.site_message.specs.Journal.{AreWithin}
 use Rattle.world_model.specs.Schedule.{schedule, sum_to}
 use Rattle.world_model.specs.Simulated.{last_ended, last_waiting}
 use Rattle.world_core.specs.Laws.{AreMessagesFew}
@@ -34,3 +35,6 @@ pub returns-clause-few : goal.returns-clause-few
 returns-clause-few c =
     subst (AreMessagesFew c.args.program.now c.args.limits.sites) (sym c.into_parts-journal.ensures.journal)
     (few_of c.args.program.now c.args.limits.sites c.args.driven.history c.is_program.ensures c.requires.limits.some_site c.requires.limits.most_sites c.requires.run)
+
+pub returns-clause-within : goal.returns-clause-within
+returns-clause-within c = λ within. subst (AreWithin c.args.limits) (sym c.into_parts-journal.ensures.journal) within

@@ -1,7 +1,7 @@
 use Rattle.std.proofs.Common.{◌≡◌, ◌∙◌, List, Option, None, sym, ap, subst}
 use Rattle.site_message.specs.declared.turn.Turn.{Turn}
 use Rattle.site_message.specs.declared.reason.Reason.{Reason}
-use Rattle.site_message.specs.Journal.{Limits}
+use Rattle.site_message.specs.declared.limits.Limits.{Limits}
 use Rattle.message_book.specs.Book.{IsReason}
 use Rattle.site_worker.proofs.Moving.{taken}
 use Rattle.site_worker.proofs.inside.fetch.Goals as goal

@@ -14,7 +14,7 @@ here c =
     let bs = c.self.inside.inboxes.items in
     let inside : c.args.site < length bs = let m = c.self.invariant.places in let s = c.requires in let e = ap (λ (v : BookState). v.limits.sites) c.self.view_is in omega arith in
     let t : IsTaken (inbox_at bs c.args.site) c.take.new.self c.take.result = subst (λ (b : InboxState). IsTaken b c.take.new.self c.take.result) (c.index_mut.ensures.value ∙ inbox_get bs c.args.site _ inside) c.take.ensures.taken in
-    let below : c.args.site ≤ c.self.inside.sites = let s = c.requires in let e = ap (λ (v : BookState). v.limits.sites) c.self.view_is in omega arith in
+    let below : c.args.site ≤ c.self.inside.limits.sites = let s = c.requires in let e = ap (λ (v : BookState). v.limits.sites) c.self.view_is in omega arith in
     take_kept _ _ _ bs _ c.args.site c.take.new.self c.take.result c.self.invariant below t
 
 pub invariant_of-self : goal.invariant_of-self
@@ -35,5 +35,5 @@ returns-clause-few c none =
     let k = c.self.invariant in
     let r : c.self.inside.reason ≡ None = ap (λ (v : BookState). v.reason) c.self.view_is ∙ none in
     let f = few_sent _ c.self.inside.journal (subst (IsReason _ c.self.inside.journal) r k.reason) in
-    let m = k.few_messages in
+    let m = k.ranges.most_messages in
     rw (sym (ap (λ (v : BookState). v.journal) c.self.view_is)) (omega arith)
