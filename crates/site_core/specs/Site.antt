@@ -38,7 +38,8 @@ pub record IsTurnMade (p : List Stmt) (n : ℕ) (old : model.Site) (message : Op
   pub site : e.site ≡ old.records.site
   pub delivered : e.delivered ≡ number_in message
 
--- the order of threads before and after a turn of these units: what the message let go on came behind the others; each unit was of the first
--- thread in the order; and the thread of the last one then went behind the others, where it can go on
+-- the order of threads before and after a turn of these units: some threads, with a message those that it let go on, came behind the
+-- others; each unit was of the first thread in the order; and the thread of the last one then went behind the others, where it can
+-- go on. Which threads came, and that without a message none did, is not said
 abbrev pub IsFairTurn : List ThreadName → List ThreadName → List ThreadName → Type 0
 IsFairTurn ths old new = (ready : List ThreadName) × HaveComeBehind old ready × HaveHadTurns ths ready new

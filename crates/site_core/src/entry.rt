@@ -1,6 +1,7 @@
 //! A turn and its entry.
 
 ghost use Rattle.std.specs.Prelude.{◌≡◌, ◌+◌, ◌≤◌, ◌^◌, length, Err, IfOk, OnOk};
+ghost use Rattle.tree_node.specs.declared.limits.TheConstants.{MOST_UNITS};
 ghost use Rattle.site_model.specs.Run.{IsRecordOf};
 ghost use Rattle.site_units.specs.declared.replay.Replay.TheVariants.{NotRunnable};
 ghost use Rattle.site_units.specs.Core.{site_of};
@@ -65,7 +66,7 @@ pub fn recorded_turn(
 ) -> Result<Turn, AllocError>
     requires consistent { IsConsistent program.now core.old }
     requires room { core.old.steps ≤ 2 ^ 48 }
-    requires most { quantum.0 ≤ 64 }
+    requires most { quantum.0 ≤ MOST_UNITS }
     ensures turn { IfOk result (λ e. IsTurnMade program.now core.old.sites (site_of core.old) message quantum.0 e (site_of core.new)) }
     ensures consistent { OnOk result (IsConsistent program.now core.new) }
     ensures sites { OnOk result (core.new.sites ≡ core.old.sites) }
@@ -92,7 +93,7 @@ pub fn recorded_replay(
 ) -> Result<Turn, Replay>
     requires consistent { IsConsistent program.now core.old }
     requires room { core.old.steps ≤ 2 ^ 48 }
-    requires most { length threads.now ≤ 64 }
+    requires most { length threads.now ≤ MOST_UNITS }
     ensures turn { IfOk result (λ e. IsReplayMade program.now core.old.sites (site_of core.old) message threads.now e (site_of core.new)) }
     ensures stuck { (at : _) → result ≡ Err (NotRunnable at) → IsStuckTurn program.now core.old.sites (site_of core.old) (message_in message) threads.now at }
     ensures consistent { OnOk result (IsConsistent program.now core.new) }

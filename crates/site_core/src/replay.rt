@@ -1,6 +1,7 @@
 //! Turns of given units.
 
 ghost use Rattle.std.specs.Prelude.{◌≡◌, ◌+◌, ◌≤◌, ◌^◌, length, Err, OnOk};
+ghost use Rattle.tree_node.specs.declared.limits.TheConstants.{MOST_UNITS};
 ghost use Rattle.site_units.specs.declared.replay.Replay.TheVariants.{NotRunnable};
 ghost use Rattle.site_units.specs.Core.{site_of};
 ghost use Rattle.site_units.specs.Invariant.{IsConsistent};
@@ -23,7 +24,7 @@ pub fn replay(
 ) -> Result<(), Replay>
     requires consistent { IsConsistent program.now core.old }
     requires room { core.old.steps ≤ 2 ^ 48 }
-    requires most { length threads.now ≤ 64 }
+    requires most { length threads.now ≤ MOST_UNITS }
     ensures turn { OnOk result (IsTheTurnMade program.now threads.now message core.old output.old core.new output.new) }
     ensures stuck { (at : _) → result ≡ Err (NotRunnable at) → IsStuckTurn program.now core.old.sites (site_of core.old) message threads.now at }
     ensures steps { OnOk result (core.new.steps ≤ core.old.steps + length threads.now) }

@@ -2,6 +2,7 @@
 
 ghost use Rattle.std.specs.Prelude.{◌≡◌, ◌≤◌, ◌+◌, ◌^◌, length, Err, IfOk, OnErr, OnOk, false, true};
 ghost use Rattle.std.specs.Borrow.{sem};
+ghost use Rattle.tree_node.specs.declared.limits.TheConstants.{MOST_SITES, MOST_UNITS};
 ghost use Rattle.site_model.specs.Site.{initial_site, is_idle};
 ghost use Rattle.site_units.specs.Core.{site_of};
 ghost use Rattle.site_core.specs.Seat.{LendsSeat};
@@ -52,7 +53,7 @@ impl<'a> Site<'a, NoSeat> {
     ) -> Result<Site<'a, NoSeat>, AllocError>
         requires some { 1 ≤ number }
         requires among { number ≤ sites }
-        requires most { sites ≤ 64 }
+        requires most { sites ≤ MOST_SITES }
         ensures program { IfOk result (λ s. s.program ≡ program.now) }
         ensures sites { IfOk result (λ s. s.sites ≡ sites) }
         ensures state { IfOk result (λ s. s.state ≡ initial_site program.now number) }
@@ -132,7 +133,7 @@ impl<'a, O: Outside> Site<'a, O> {
     ) -> Result<Turn, AllocError>
         requires outside { O.is_outside self.old.seat }
         requires live { self.old.spent ≡ false }
-        requires most { quantum.0 ≤ 64 }
+        requires most { quantum.0 ≤ MOST_UNITS }
         requires room { self.old.state.steps ≤ 2 ^ 48 }
         ensures program { self.new.program ≡ self.old.program }
         ensures sites { self.new.sites ≡ self.old.sites }
@@ -170,7 +171,7 @@ impl<'a, O: Outside> Site<'a, O> {
     ) -> Result<Turn, Replay>
         requires outside { O.is_outside self.old.seat }
         requires live { self.old.spent ≡ false }
-        requires most { length threads.now ≤ 64 }
+        requires most { length threads.now ≤ MOST_UNITS }
         requires room { self.old.state.steps ≤ 2 ^ 48 }
         ensures program { self.new.program ≡ self.old.program }
         ensures sites { self.new.sites ≡ self.old.sites }

@@ -1,6 +1,7 @@
 //! Turns.
 
 ghost use Rattle.std.specs.Prelude.{◌+◌, ◌≤◌, ◌^◌, OnOk};
+ghost use Rattle.tree_node.specs.declared.limits.TheConstants.{MOST_UNITS};
 ghost use Rattle.site_units.specs.Invariant.{IsConsistent};
 ghost use Rattle.site_core.specs.Turns.{IsToldTurnMade};
 
@@ -11,8 +12,7 @@ use site_units::{Core, Output, units};
 use std::alloc::AllocError;
 
 /// A turn: the message, if there is one, and then as many units as the quantum, fewer only where no thread can go on. Their
-/// threads are told behind `told`. After
-/// want of memory the data are given up.
+/// threads are told behind `told`. After want of memory the data are given up.
 pub fn turn(
     core: &mut Core,
     output: &mut Output,
@@ -23,7 +23,7 @@ pub fn turn(
 ) -> Result<(), AllocError>
     requires consistent { IsConsistent program.now core.old }
     requires room { core.old.steps ≤ 2 ^ 48 }
-    requires most { quantum.0 ≤ 64 }
+    requires most { quantum.0 ≤ MOST_UNITS }
     ensures turn { OnOk result (IsToldTurnMade program.now quantum.0 told.old told.new message core.old output.old core.new output.new) }
     ensures steps { OnOk result (core.new.steps ≤ core.old.steps + quantum.0) }
 {

@@ -17,6 +17,7 @@ use Rattle.tree_node.proofs.ClassLemmas.{Contains-head, Contains-tail, Contains-
 use Rattle.tree_node.proofs.EachLemmas.{each_in}
 use Rattle.tree_node.proofs.OrderLemmas.{Each-member, none}
 use Rattle.kernel_syntax.specs.declared.stmt.Stmt.{Stmt}
+use Rattle.kernel_syntax.proofs.PreorderLemmas.{each_left, each_right}
 use Rattle.oz_model.specs.Answers.{IsPartOf}
 use Rattle.oz_model.proofs.NameLemmas.{Each-weaker}
 use Rattle.bind_protocol.specs.Records.{Records, IsKnown, is_own, knowledge, owner_knows}
@@ -100,10 +101,6 @@ brings_all (e ∷ es) s =
 
 -- ---- names
 
-each_split : {X : Type 0} (P : X → Type 0) (xs ys : List X) → Each P (xs ++ ys) → Each P xs × Each P ys
-each_split P [] ys h = (tt, h)
-each_split P (x ∷ xs) ys h = let both = each_split P xs ys h.1 in ((h.0, both.0), both.1)
-
 each_field : (known : List VarName) (fields : List (Feature × VarName)) → Each (Contains known) (field_vars fields) → Each (λ (f : Feature × VarName). Contains known f.1) fields
 each_field known [] h = tt
 each_field known (f ∷ fields) h = (h.0, each_field known fields h.1)
@@ -120,8 +117,8 @@ term_known known (term.Node (node.Cell c)) h = tt
 equations_known : (known : List VarName) (es : List Equation) → Each (Contains known) (vars_of_equations es) → Each (EachOfEquation (IsAmong known)) es
 equations_known known [] h = tt
 equations_known known (e ∷ es) h =
-    let both = each_split (Contains known) (e.0 ∷ vars_of e.1) (vars_of_equations es) h in
-    ((both.0.0, term_known known e.1 both.0.1), equations_known known es both.1)
+    let first = each_left (Contains known) (e.0 ∷ vars_of e.1) (vars_of_equations es) h in
+    ((first.0, term_known known e.1 first.1), equations_known known es (each_right (Contains known) (e.0 ∷ vars_of e.1) (vars_of_equations es) h))
 
 -- ---- own variables
 
@@ -189,7 +186,7 @@ module _ (p : List Stmt) (c : Core) (v1 : Variables) (ts1 : Roster Running) (o0 
       old = equations_grow p c.variables.store.known v1.store.known c.variables.store.equations grows h.equations
 
       bundle_known : Each (EachOfEquation (IsAmong v1.store.known)) (message_bundle m)
-      bundle_known = equations_known v1.store.known (message_bundle m) (each_split (Contains v1.store.known) (body_vars m) (vars_of_equations (message_bundle m)) known).1
+      bundle_known = equations_known v1.store.known (message_bundle m) (each_right (Contains v1.store.known) (body_vars m) (vars_of_equations (message_bundle m)) known)
 
       each_new : (P : Equation → Type 0) → Each P c.variables.store.equations → Each P (message_bundle m) → Each P v1.store.equations
       each_new P before brought = each_in P v1.store.equations (λ e k. from e ((brings stack_in).from e (subst (λ (es : Store). Contains es e) (sym equations_are) k)))

@@ -50,6 +50,20 @@ rest_packed s old now packed taken from h all =
     let e : length now ≡ from = omega arith in
     h.reversed ∙ ap (with_own_bundles bundle_limit s) (sym (drop_at now h.rest from e) ∙ ap (drop from) (sym h.split))
 
+-- there is one
+pub one_behind : (s : Store) (old less : List Sent) (m : Sent) (from : ℕ) → old ≡ less ++ m ∷ [] → from + 1 ≡ length old →
+    less ++ with_own_bundle bundle_limit s m ∷ [] ≡ take from old ++ with_own_bundles bundle_limit s (drop from old)
+one_behind s old less m from is one = sym (ap (λ (l : List Sent). l ++ with_own_bundles bundle_limit s (drop from old)) before ∙ ap (λ (l : List Sent). less ++ with_own_bundles bundle_limit s l) behind)
+  where
+    as_many : length less ≡ from
+    as_many = let e : length old ≡ length less + 1 = ap length is ∙ length_push less m in omega (arith, one)
+
+    before : take from old ≡ less
+    before = ap (take from) is ∙ take_at less (m ∷ []) from as_many
+
+    behind : drop from old ≡ m ∷ []
+    behind = ap (drop from) is ∙ drop_at less (m ∷ []) from as_many
+
 -- there are none
 pub nothing_packed : (s : Store) (old : List Sent) (from : ℕ) → length old ≤ from → old ≡ take from old ++ with_own_bundles bundle_limit s (drop from old)
 nothing_packed s old from past = sym (ap (λ (l : List Sent). l ++ with_own_bundles bundle_limit s (drop from old)) (take_all from old past) ∙ (ap (λ (l : List Sent). old ++ with_own_bundles bundle_limit s l) (drop_all from old past) ∙ append-nil old))

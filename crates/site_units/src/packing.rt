@@ -1,6 +1,6 @@
 //! Messages get their bundles as a unit or a row ends: what the site knows then is what it knew as it sent them.
 
-ghost use Rattle.std.specs.Prelude.{◌≡◌, ◌≤◌, ◌++◌, OnOk, IfOk, length, take, drop};
+ghost use Rattle.std.specs.Prelude.{◌≡◌, ◌≤◌, ◌+◌, ◌++◌, OnOk, IfOk, length, take, drop};
 ghost use Rattle.site_model.specs.Bundle.{bundle_limit, with_own_bundles};
 
 use crate::data::{Core, Output};
@@ -33,8 +33,30 @@ fn pack_behind(core: &Core, output: &mut Output, from: usize) -> Result<(), Allo
     ensures picks { output.new.picks ≡ output.old.picks }
     ensures lines { output.new.lines ≡ output.old.lines }
 {
+    if output.sent.len() - from == 1 {
+        return pack_one(core, output, from);
+    }
     let packed = pack_last(core.alloc, &core.variables.store, &mut output.sent, from)?;
     output.sent.append(packed)
+}
+
+// The only message behind the first `from` gets its bundle, in its place.
+#[tactic(auto, using(crate::proofs::PackLemmas::one_behind))]
+fn pack_one(core: &Core, output: &mut Output, from: usize) -> Result<(), AllocError>
+    requires one { from + 1 ≡ length output.old.sent }
+    ensures sent { OnOk result (output.new.sent ≡ take from output.old.sent ++ with_own_bundles bundle_limit core.now.variables.store.equations (drop from output.old.sent)) }
+    ensures picks { output.new.picks ≡ output.old.picks }
+    ensures lines { output.new.lines ≡ output.old.lines }
+{
+    let _ = from;
+    match output.sent.pop() {
+        None => unreachable!(),
+        Some(last) => {
+            let packed = pack(core.alloc, &core.variables.store, last, BUNDLE_LIMIT)?;
+            output.sent.push(packed)?;
+            Ok(())
+        }
+    }
 }
 
 // Takes the messages behind the first `from` out, and gives them in their order, each with its bundle.

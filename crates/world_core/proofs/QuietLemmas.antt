@@ -2,6 +2,7 @@
 use Rattle.std.proofs.Common.{rules, arith, ◌≡◌, ◌∙◌, sym, subst, ap, refl, ℕ, zero, suc, ◌<◌, ◌≤◌, List, [], ◌∷◌, length, map, Bool, true, false, cond}
 use Rattle.std.specs.Prelude.{Option, Some, None, ◌==◌, ◌↔◌, not, IsTrue, Contains, nat_eq, slice_get}
 use Rattle.std.specs.List.{IsDistinct}
+use Rattle.std.proofs.lemmas.Bool.Decides.{same_from_decides}
 use Rattle.std.proofs.lemmas.Map.Entries.{place_from_lookup}
 use Rattle.tree_node.proofs.ClassLemmas.{Contains-head, Contains-tail}
 use Rattle.kernel_syntax.specs.declared.stmt.Stmt.{Stmt}
@@ -48,11 +49,6 @@ at_contains (y ∷ ys) x zero e = let same : y ≡ x = cc in subst (λ (z : Trav
 at_contains (y ∷ ys) x (suc p) e = Contains-tail y x ys (at_contains ys x p e)
 
 -- ---- quiet
-
-same_bool : (a b : Bool) → (a ≡ true → b ≡ true) → (b ≡ true → a ≡ true) → a ≡ b
-same_bool true b there back = sym (there refl)
-same_bool false true there back = back refl
-same_bool false false there back = refl
 
 module _ (p : List Stmt) (j : List Turn) (ss : List (SiteState NoSeat)) (mail : MailState) (sent : ℕ) (k : IsConsistent p j ss mail sent false) where
   live : IsLive p (length ss) j ss mail sent
@@ -103,10 +99,10 @@ module _ (p : List Stmt) (j : List Turn) (ss : List (SiteState NoSeat)) (mail : 
       idle i s at = let low : i < length ss = slice_get_within ss i s at in sym (idle_here i s at) ∙ two.1 (suc i) (omega arith) (omega arith)
 
   pub both_seen : (a b : Bool) → a ≡ true → (IsTrue a ↔ (mail.messages ≡ [])) → (IsTrue b ↔ ((i : ℕ) (s : SiteState NoSeat) → slice_get ss i ≡ Some s → is_idle s.state ≡ true)) → b ≡ is_quiet (length ss) j
-  both_seen a b is empty idle = same_bool b (is_quiet (length ss) j) (λ e. seen_quiet (empty.0 is, idle.0 e)) (λ e. idle.1 (quiet_seen e).1)
+  both_seen a b is empty idle = same_from_decides {P = is_quiet (length ss) j ≡ true} b (is_quiet (length ss) j) (λ e. seen_quiet (empty.0 is, idle.0 e), λ e. idle.1 (quiet_seen e).1) (λ e. e, λ e. e)
 
   pub unseen : (a : Bool) → a ≡ false → (IsTrue a ↔ (mail.messages ≡ [])) → a ≡ is_quiet (length ss) j
-  unseen a is empty = same_bool a (is_quiet (length ss) j) (λ e. (let both : true ≡ false = sym e ∙ is in cc)) (λ e. empty.1 (quiet_seen e).0)
+  unseen a is empty = same_from_decides {P = is_quiet (length ss) j ≡ true} a (is_quiet (length ss) j) (λ e. (let both : true ≡ false = sym e ∙ is in cc), λ e. empty.1 (quiet_seen e).0) (λ e. e, λ e. e)
 
   pub rests : is_quiet (length ss) j ≡ true → HasMachineAtRest p (length ss) j w
   rests q = let h = machine p (length ss) j w k.program k.range.0 k.range.1 live.run in (h.0, h.1, h.1.quiet q)

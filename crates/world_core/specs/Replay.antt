@@ -14,12 +14,12 @@ use Rattle.world_core.specs.declared.refusal.WorldRefusal.TheVariants as turn
 use Rattle.world_core.specs.declared.refusal.ReplayRefusal.{ReplayRefusal}
 use Rattle.world_core.specs.declared.refusal.ReplayRefusal.TheVariants.{NotThere, NotRunnable, Memory}
 
--- as for a turn of the world
+-- the answer to a replay where a turn of the world would have been refused so
 abbrev pub refusal_of : WorldRefusal → ReplayRefusal → Type 0
 refusal_of turn.NotThere r = r ≡ NotThere
 refusal_of turn.Memory r = r ≡ Memory
 
--- as for a turn of the site
+-- the answer to a replay that the site refused so
 abbrev pub replay_refusal_of : Replay → ReplayRefusal → Type 0
 replay_refusal_of (replay.NotRunnable at) r = r ≡ NotRunnable at
 replay_refusal_of replay.Memory r = r ≡ Memory

@@ -1,5 +1,6 @@
 -- A world of sites as its callers see it, and its turns.
 use Rattle.std.specs.Prelude.{◌≡◌, ◌≢◌, ℕ, zero, suc, ◌+◌, ◌≤◌, List, ◌∷◌, map, length, Bool, false, Option, Some, None, slice_get, slice_index_or, if◌then◌else◌}
+use Rattle.tree_node.specs.declared.limits.TheConstants.{MOST_SITES}
 use Rattle.kernel_syntax.specs.declared.stmt.Stmt.{Stmt}
 use Rattle.kernel_syntax.specs.Program.{IsProgram}
 use Rattle.site_message.specs.declared.message.Msg.{Msg}
@@ -77,7 +78,7 @@ pub record IsLive (p : List Stmt) (n : ℕ) (j : List Turn) (sites : List (SiteS
 -- what stays true of a world. After want of memory no more is known than that its journal is one of a run
 pub record IsConsistent (p : List Stmt) (j : List Turn) (sites : List (SiteState NoSeat)) (mail : MailState) (sent : ℕ) (spent : Bool) : Type 0 where
   pub program : IsProgram p
-  pub range : (1 ≤ length sites) × (length sites ≤ 64)
+  pub range : (1 ≤ length sites) × (length sites ≤ MOST_SITES)
   pub run : (w : ℕ → Site) × WorldRun p (length sites) bundle_limit j w
   pub live : spent ≡ false → IsLive p (length sites) j sites mail sent
 

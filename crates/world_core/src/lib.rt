@@ -2,17 +2,17 @@
 //!
 //! For: drivers that choose which site goes next and what it is told, as the fixed order of a plain run.
 //!
-//! It promises: every world that `World::new` and `World::turn` give is a run of the program by its `journal` (`WorldRun`),
-//! and each turn adds the entry that tells it (`IsWorldTurn`). `World::replay` makes a turn of given units again, where it
-//! prints given lines. `NotThere` comes exactly where the place is none of
-//! `travelling` or its message is for another site, and then nothing changes. `travelling` tells exactly the messages that
-//! travel by the journal, each once (`AreTravels`), `next_for` the place of the one with the lowest number for a site, `quiet`
-//! whether nothing travels and every site is idle, `sent` how many messages were sent, `schedule` the picks of the turns in
+//! It promises: every world that `World::new`, `World::turn` and `World::replay` give is a run of the program by its `journal`
+//! (`WorldRun`), and each turn adds the entry that tells it (`IsWorldTurn`). `World::replay` makes a turn of given units again,
+//! where it prints given lines (`IsReplayed`), and else tells the first unit that cannot be made (`IsWorldStuck`), or that the one
+//! turn of these units prints others (`PrintsOthers`). `NotThere` comes exactly where the place is none of `travelling` or its
+//! message is for another site, and then nothing changes. `travelling` tells exactly the messages that travel by the journal, each
+//! once (`AreTravels`), `next_for` the place of the one with the lowest number for a site, `place_of` that of a number, `quiet` whether nothing travels and every site is idle, `sent` how many messages were sent, `schedule` the picks of the turns in
 //! order. After each turn the picks of the journal lead the centralised machine to a state that the sites match
 //! (`IsSimulated`), the protocols' invariants hold (`ProtocolsHold`), no delivered message was unfit, and no more messages were
 //! sent than the picks allow (`AreMessagesFew`). Where the world is quiet the machine rests, with the threads that ended and
-//! wait at the sites. After want of memory the world is given up: it has the journal of the turns made before, which stays one
-//! of a run. A world has no `Drop`: its turns are handed on, with their schedule (`into_history`).
+//! wait at the sites. After want of memory, and after a turn that could not be made again, the world is given up: it has the
+//! journal of the turns made before, which stays one of a run. A world has no `Drop`: its turns are handed on, with their schedule (`into_history`).
 //!
 //! No call walks over messages, threads or the journal, but for `schedule`, which takes a step for each turn and shares its
 //! picks: a turn costs by what it does, `quiet` by the number of sites.

@@ -1,6 +1,7 @@
 //! The world.
 
 ghost use Rattle.std.specs.Prelude.{◌≡◌, ◌≢◌, ◌↔◌, ◌∷◌, ℕ, ◌+◌, ◌^◌, ◌<◌, ◌≤◌, [], length, map, true, false, None, Some, Ok, Err, IsTrue, IfOk, IfErr, OnOk, OnErr, MatchOption, slice_get};
+ghost use Rattle.tree_node.specs.declared.limits.TheConstants.{MOST_SITES, MOST_UNITS};
 ghost use Rattle.site_message.specs.Journal.{is_quiet, sent_of, IsTravelling};
 ghost use Rattle.site_message.specs.declared.message.Sent.{Sent};
 ghost use Rattle.site_model.specs.Bundle.{bundle_limit};
@@ -55,7 +56,7 @@ impl<'a> World<'a> {
     /// The program on so many sites at its start: site 1 has the program's thread, the others none, and nothing travels.
     pub fn new(alloc: Global, program: &'a Program, sites: u32) -> Result<World<'a>, AllocError>
         requires some { 1 ≤ sites }
-        requires most { sites ≤ 64 }
+        requires most { sites ≤ MOST_SITES }
         ensures program { IfOk result (λ w. w.program ≡ program.now) }
         ensures sites { IfOk result (λ w. w.sites ≡ sites) }
         ensures journal { IfOk result (λ w. w.journal ≡ []) }
@@ -87,7 +88,7 @@ impl<'a> World<'a> {
         requires some { 1 ≤ site }
         requires among { site ≤ self.old.sites }
         requires live { self.old.spent ≡ false }
-        requires units { quantum.0 ≤ 64 }
+        requires units { quantum.0 ≤ MOST_UNITS }
         requires room { (states_of self.old site).steps ≤ 2 ^ 48 }
         ensures refused { (result ≡ Err NotThere) ↔ IsNotThere self.old.travels site place }
         ensures same { result ≡ Err NotThere → self.new ≡ self.old }
@@ -126,7 +127,7 @@ impl<'a> World<'a> {
         requires some { 1 ≤ site }
         requires among { site ≤ self.old.sites }
         requires live { self.old.spent ≡ false }
-        requires units { length threads.now ≤ 64 }
+        requires units { length threads.now ≤ MOST_UNITS }
         requires room { (states_of self.old site).steps ≤ 2 ^ 48 }
         ensures program { (self.new.program ≡ self.old.program) × (self.new.sites ≡ self.old.sites) }
         ensures refused { (result ≡ Err replay.NotThere) ↔ IsNotThere self.old.travels site place }
@@ -256,7 +257,7 @@ fn first_sites<'a>(
     sites: u32,
 ) -> Result<Vec<Site<'a, NoSeat>>, AllocError>
     requires some { 1 ≤ sites }
-    requires most { sites ≤ 64 }
+    requires most { sites ≤ MOST_SITES }
     ensures length { IfOk result (λ ss. length ss.items ≡ sites) }
     ensures sites { IfOk result (λ ss. (i : ℕ) (s : SiteState NoSeat) → slice_get ss.items i ≡ Some s → IsNewSite program.now sites i s) }
 {

@@ -10,7 +10,8 @@
 //! every run (`ProtocolsHold`), among it that each message that travels is fit for its site; and what a site knows stays known. By
 //! `messages_are_few`: how many messages a run sends at most. By `runs_take_rows`: for every program and 1 to 64 sites the runs
 //! whose messages take their rows without a test (`DistributedRun`, by which the headline says what a run over sites is) are the
-//! runs in which an unfit message changes nothing (`WorldRun` of `site_model`), since none comes.
+//! runs in which an unfit message changes nothing (`WorldRun` of `site_model`), since none comes. All four laws are of bundles of
+//! at most 256 equations.
 //!
 //! It stands on `world_cells`, which proves the simulation where each delivered message is fit, and on `world_messages`, which
 //! proves that it is fit where the simulation holds: one induction over the journal joins them. It has no code, and no
