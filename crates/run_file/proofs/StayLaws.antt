@@ -30,9 +30,6 @@ pub record IsSteady {X : Type 0} (F : Field X) : Type 0 where
 pub bad_is : (i j : ℕ) → Bad i ≡ Bad j → i ≡ j
 bad_is i j e = cc
 
-head_is : (x y : ℕ) (u v : List ℕ) → x ∷ u ≡ y ∷ v → x ≡ y
-head_is x y u v e = cc
-
 tail_is : (x y : ℕ) (u v : List ℕ) → x ∷ u ≡ y ∷ v → u ≡ v
 tail_is x y u v e = cc
 
@@ -42,7 +39,8 @@ split a b [] d e le = (a, refl, sym e)
 split [] b (y ∷ ys) d e le = absurd (omega (arith, le))
 split (x ∷ xs) b (y ∷ ys) d e le =
     let t = split xs b ys d (tail_is x y (xs ++ b) (ys ++ d) e) (omega (arith, le)) in
-    (t.0, ap (λ (z : List ℕ). x ∷ z) t.1 ∙ ap (λ (k : ℕ). k ∷ (ys ++ t.0)) (head_is x y (xs ++ b) (ys ++ d) e), t.2)
+    let first : x ≡ y = cc e in
+    (t.0, ap (λ (z : List ℕ). x ∷ z) t.1 ∙ ap (λ (k : ℕ). k ∷ (ys ++ t.0)) first, t.2)
 
 pub some_front : (m part : List ℕ) → 0 < length part → 0 < length (m ++ part)
 some_front m part some = omega (arith, some, length-append m part)
@@ -85,7 +83,8 @@ word_stays (c ∷ word) at (b ∷ bytes) [] tail f (inr h) e parts some =
 word_stays (c ∷ word) at (b ∷ bytes) (y ∷ ys) tail f (inr h) e parts some =
     let place : at + length (y ∷ ys) ≡ (at + 1) + length ys = omega arith in
     let t = word_stays word (at + 1) bytes ys tail f h.1 (e ∙ ap (λ (n : ℕ). Bad n) place) (tail_is b y bytes (ys ++ tail) parts) some in
-    (t.0, t.1, t.2, λ other. inr (sym (head_is b y bytes (ys ++ tail) parts) ∙ h.0, t.3 other))
+    let first : b ≡ y = cc parts in
+    (t.0, t.1, t.2, λ other. inr (sym first ∙ h.0, t.3 other))
 
 pub after_steady : {X : Type 0} (word : List ℕ) (F : Field X) → IsSteady F → IsSteady (word after F)
 after_steady {X = X} word F s = record { low = low; ends = s.ends; stays = stays }
@@ -268,7 +267,7 @@ leading : (least most at c d : ℕ) (ds rest front tail : List ℕ) (f : FileFau
     → Stays (number least most) at front tail f
 leading zero most at c d ds rest [] tail f all zero_first h e parts = let same = bad_is (at + 1) (at + 0) (sym h ∙ e) in absurd (omega (arith, same))
 leading zero most at c d ds rest (y ∷ []) tail f all zero_first h e parts =
-    let first = head_is c y (d ∷ (ds ++ rest)) tail parts in
+    let first : c ≡ y = cc parts in
     let two = and_parts (is_ascii_digit c) (list_all is_ascii_digit (d ∷ ds)) all in
     let second = first_digit d ds two.1 in (
       d ∷ [],

@@ -1,7 +1,7 @@
 //! Runs as files: the text of a program, the limits of a run of it, the entries of its journal, and its end line.
 //!
 //! For: whoever keeps a run over sites, to look at it or to have it made again. `docs/saved-runs.md` tells the format to writers and
-//! readers in other languages. The command does not use it yet; `run_check` makes again what it reads.
+//! readers in other languages. `oz save` writes by it, and `oz check` reads by it what `run_check` makes again.
 //!
 //! Promises: `write_run` answers the text of a journal with a program's text, limits and an end line (`saved_text`). `read_run` answers
 //! a saved run exactly where the bytes are its text (`saved`, `only`), and a fault exactly where it is the first fault of the bytes, with
@@ -38,4 +38,4 @@ pub use laws::{
     worked_file_faults, worked_runs,
 };
 pub use reading::read_run;
-pub use writing::{RunNumbers, write_run};
+pub use writing::write_run;
