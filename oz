@@ -12,13 +12,16 @@ most=1048577
 
 takes() {
     cat >&2 <<'END'
-./oz [--sites N] [--workers N] [--steps N] [--messages N] [--hints] [run|central] [FILE.oz]
+./oz [--sites N] [--workers N] [--steps N] [--messages N] [--hints] [run|central|save] [FILE.oz]
+./oz check
 ./oz [--sites N] [--workers N] [--steps N] [--messages N] gen NUMBER
 ./oz prove | version | program | races FILE.oz
 
   FILE.oz        the text to run; where it is left out, the text is standard input
   run            runs the text over its sites; this is what is done where neither word stands
   central        runs it on the centralised machine, without sites
+  save           runs it over its sites, and prints the whole run in place of its lines
+  check          makes a run again that save printed, which is standard input: prints its lines, or where it is wrong
   gen NUMBER     runs a large text of that size, 1 to 1,000, over its sites: no text is read
   --sites N      the number of sites, 1 to 64; 4 where it is left out
   --workers N    the number of workers that drive the sites, 0 to 64; 4 where it is left out. With 0 the sites take
@@ -33,8 +36,9 @@ takes() {
 
 It prints what the text shows, a line each, and a last line that tells how the run ended. The exit status is 0 where
 every thread ended, 1 where some wait for ever, 2 for words that are not taken or a text that is not there, 3 for a text that
-is refused, 4 and 5 where the steps or the messages are used up, 6 and 7 where reading or writing failed, and 8 where memory
-was wanting. It is 70 where the program is not there yet and could not be built, or a proof fails.
+is refused, 4 and 5 where the steps or the messages are used up, 6 and 7 where reading or writing failed, 8 where memory was
+wanting, 9 where a saved run is wrong, and 10 where what should be one is none. It is 70 where the program is not there yet and
+could not be built, or a proof fails.
 docs/language.md is the reference, and examples/ has texts to begin with.
 END
 }
@@ -203,14 +207,16 @@ refuse() {
     exit 2
 }
 
-# Says of each word that could be meant as a text why it is none.
+# Says of each word that could be meant as a text, or as a saved run, why it is none.
 tell_words() {
     for word in "$@"; do
         case $word in
-        run | central | gen | -* | *[0-9]) ;;
+        run | central | gen | save | check | -* | *[0-9]) ;;
         *)
             if [ -d "$word" ]; then
                 echo "oz: $word is a folder, and no text" >&2
+            elif [ "$checks" = yes ]; then
+                echo "oz: $word is no word that is taken; check reads standard input: ./oz check < RUN" >&2
             else
                 echo "oz: $word is no word that is taken; the name of a text ends with .oz" >&2
             fi
@@ -301,12 +307,32 @@ for word in "$@"; do
     exit "$status"
 done
 
+# `check` reads no text, but a saved run. A file beside it is a word too many.
+checks=no
+for word in "$@"; do
+    [ "$word" = check ] || continue
+    [ -z "$file" ] || set -- "$@" "$file"
+    checks=yes
+    break
+done
+
 # Words that are not taken are refused before anything is read.
 "$program" "$@" </dev/null >/dev/null 2>&1
 if [ $? -eq 2 ]; then
     takes
     tell_words "$@"
     exec "$program" "$@"
+fi
+
+# A saved run is left to the program, where it stands.
+if [ "$checks" = yes ]; then
+    if [ "$hints" = no ] || ! (exec 3<&0) 2>/dev/null; then
+        exec "$program" "$@"
+    fi
+    exec 3<&0
+    waits_for "$program" "$@"
+    hint end "$status" "$@"
+    exit "$status"
 fi
 
 if [ -n "$file" ]; then

@@ -275,5 +275,7 @@ ENDS = [
     ("6", (), ""),
     ("7", (), ""),
     ("8", (), "memory was wanting"),
+    ("9", ("check",), "wrong entry=I counts the turns of a saved run"),
+    ("10", ("check",), "what was read is no saved run"),
     ("no number", (), ""),
 ]

@@ -9,7 +9,7 @@ use Rattle.oz_words.specs.declared.options.Action.{Action}
 use Rattle.oz_words.specs.declared.options.Action.TheVariants as action
 use Rattle.oz_show.specs.Status.{HasLine}
 use Rattle.oz_show.specs.declared.status.Status.{Status}
-use Rattle.oz_show.specs.declared.status.Status.TheVariants.{Quiescent, Usage, Refused, NotUtf8, TooLong, StepLimit, MessageLimit, ReadFault, WriteFault, Memory}
+use Rattle.oz_show.specs.declared.status.Status.TheVariants.{Quiescent, Usage, Refused, NotUtf8, TooLong, StepLimit, MessageLimit, ReadFault, WriteFault, Memory, Checked, Wrong, BadFile}
 use Rattle.site_message.specs.Journal.{sent_of}
 use Rattle.site_message.specs.declared.turn.Turn.{Turn}
 use Rattle.site_model.specs.Bundle.{bundle_limit}
@@ -33,9 +33,11 @@ record Ran (seen : OzCall) (made : RunOutput) : Type 0 where
   pub by_sites : IsMadeBySites given.program given.options made s
   pub run : Run given.program made.schedule s
 
-by_action : (a : Action) (OfSites OfMachine : Type 0) → OfSitesOrMachine a OfSites OfMachine → OfMachine ⊎ OfSites
+pub by_action : (a : Action) (OfSites OfMachine : Type 0) → OfSitesOrMachine a OfSites OfMachine → OfMachine ⊎ OfSites
 by_action action.Run OfSites OfMachine holds = inr holds
 by_action (action.Gen size) OfSites OfMachine holds = inr holds
+by_action action.Save OfSites OfMachine holds = inr holds
+by_action action.Check OfSites OfMachine holds = inr holds
 by_action action.Central OfSites OfMachine holds = inl holds
 
 of_action : (seen : OzCall) (made : RunOutput) (given : HasProgram seen) (s : State) → Run given.program made.schedule s
@@ -51,12 +53,15 @@ of_run seen made given s is =
 -- by each cause of a status that has a line: nothing ran at the sites, or they made it
 by_cause : (seen : OzCall) (made : RunOutput) (worked : Status) → HasLine worked → Cause seen made worked → (made.journal ≡ []) ⊎ Ran seen made
 by_cause seen made Usage has cause = inl cause.2.0
-by_cause seen made ReadFault has cause = inl cause.3.0
-by_cause seen made TooLong has cause = inl cause.3.0
+by_cause seen made ReadFault has cause = inl cause.1.0
+by_cause seen made TooLong has cause = inl cause.1.0
+by_cause seen made (BadFile at) has cause = inl cause.1.0
 by_cause seen made (NotUtf8 at) has cause = inl cause.1.0
 by_cause seen made (Refused fault) has cause = inl cause.1.0
 by_cause seen made (Quiescent ended waiting) has (given, (s, end, quiet)) = of_run seen made given s end.run
 by_cause seen made (StepLimit site) has (given, (s, end)) = of_run seen made given s end.run
+by_cause seen made (Checked entries picks) has (given, file, is, (s, run), found) = of_run seen made given s run
+by_cause seen made (Wrong at) has (given, file, is, (s, run), found) = of_run seen made given s run
 by_cause seen made MessageLimit has (given, (s, end)) = of_run seen made given s end.run
 by_cause seen made WriteFault has cause = absurd has
 by_cause seen made Memory has (inl early) = inl early.1.0

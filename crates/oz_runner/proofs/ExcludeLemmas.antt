@@ -1,10 +1,8 @@
 -- A call has the cause of one status at most, those of failed writes and of want of memory left out.
-use Rattle.std.proofs.Common.{arith, ◌≡◌, ◌∙◌, sym, ap, subst, refl, ◌⊎◌, inl, inr, ℕ, ◌<◌, ◌≤◌, List, [], ◌++◌, length, get_or, append-nil, Option, Some, None}
+use Rattle.std.proofs.Common.{arith, ◌≡◌, ◌∙◌, sym, ap, subst, refl, ◌⊎◌, inl, inr, ℕ, ◌<◌, ◌≤◌, List, length, Option, Some, None}
 use Rattle.std.proofs.lemmas.Bool.Decides.{leb_tells}
-use Rattle.std.specs.Prelude.{unwrap_or, codes, leb, true, false}
+use Rattle.std.specs.Prelude.{unwrap_or, leb, true, false}
 use Rattle.std.specs.Str.{IsUtf8, IsValidUpTo}
-use Rattle.std.specs.Io.KnownBytes.{Consumes, IsAtEnd}
-use Rattle.clap.specs.Words.{one_of}
 use Rattle.tree_node.specs.State.{State}
 use Rattle.kernel_syntax.specs.declared.stmt.Stmt.{Stmt}
 use Rattle.oz_model.specs.Laws.{RunsAreDetermined}
@@ -12,93 +10,36 @@ use Rattle.oz_model.specs.Run.{start}
 use Rattle.oz_grammar.specs.Laws.{AreOneOfBoth}
 use Rattle.oz_grammar.specs.declared.fault.TextFault.{TextFault}
 use Rattle.oz_sugar.specs.Texts.{Reads, FaultOf}
-use Rattle.oz_words.specs.Command.{sites_option, workers_option, steps_option, messages_option}
-use Rattle.oz_words.specs.Matches.{words_rows}
-use Rattle.oz_words.specs.Words.{IsNumberText, IsActionText, AreTaken}
+use Rattle.oz_words.specs.Words.{AreTaken}
 use Rattle.oz_words.specs.declared.options.Action.{Action}
-use Rattle.oz_words.specs.declared.options.Action.TheVariants.{Run, Central, Gen}
+use Rattle.oz_words.specs.declared.options.Action.TheVariants.{Run, Central, Gen, Save, Check}
 use Rattle.oz_words.specs.declared.options.Options.{Options}
 use Rattle.oz_show.specs.declared.status.Status.{Status}
-use Rattle.oz_show.specs.declared.status.Status.TheVariants.{Quiescent, Usage, Refused, NotUtf8, TooLong, StepLimit, MessageLimit, ReadFault, WriteFault, Memory}
+use Rattle.oz_show.specs.declared.status.Status.TheVariants.{Quiescent, Usage, Refused, NotUtf8, TooLong, StepLimit, MessageLimit, ReadFault, WriteFault, Memory, Checked, Wrong, BadFile}
 use Rattle.site_message.specs.Journal.{end_of}
 use Rattle.site_message.specs.declared.reason.Reason.{Reason}
 use Rattle.site_message.specs.declared.reason.Reason.TheVariants.{Quiet, Steps, Messages}
 use Rattle.site_message.specs.declared.reason.Reason.TheVariants as reason
+use Rattle.run_file.specs.Laws as file_laws
+use Rattle.run_file.specs.Laws.{HasOneFault, SavesOne}
+use Rattle.run_file.specs.Saved.{IsFirstFault, SavedRun}
+use Rattle.run_file.specs.declared.fault.FileFault.{FileFault}
+use Rattle.run_file.specs.declared.fault.FileFault.TheVariants.{Bad}
+use Rattle.run_check.specs.Laws.{NotBoth, WrongIsOne}
+use Rattle.run_check.specs.World.{limits_of as numbers_of}
 use Rattle.oz_runner.specs.OzCall.{Stream, OzCall, RunOutput}
-use Rattle.oz_runner.specs.Cause.{Cause, HasFault, HasNoFault, SourceGivesFront, IsTextOfSource, IsTextOf, text_limit, ReadsSource, HasOptions, IsSourceWanted, HasRunStatus}
-use Rattle.oz_runner.specs.Run.{OfSitesOrMachine, StopsFor, HasEnded, IsStatusOfRun, limits_of}
+use Rattle.oz_runner.specs.Cause.{Cause, HasFault, HasNoFault, HasProgram, HasRunStatus, HasOptions, IsGiven, IsTextOf, ReadsSource, SourceGivesFront, byte_limit, file_limit, options_with}
+use Rattle.oz_runner.specs.Checking.{IsRight, IsWrongRun}
+use Rattle.oz_runner.specs.Run.{IsNew, OfSitesOrMachine, StopsFor, HasEnded, IsStatusOfRun, limits_of}
 use Rattle.oz_runner.specs.Laws.{IsTold, IsOfWork, CausesExclude}
-
--- ---- words
-
-number_same : (o : Option (List ℕ)) (a b : ℕ) → IsNumberText o a → IsNumberText o b → a ≡ b
-number_same None a b h g = absurd h
-number_same (Some text) a b h g = h ∙ sym g
-
--- two texts that begin otherwise
-apart : (a b : List ℕ) → Some a ≡ Some b → get_or a 0 0 ≡ get_or b 0 0
-apart a b e = ap (λ (o : Option (List ℕ)). get_or (unwrap_or o []) 0 0) e
-
-run_or_central : Some (codes "run") ≡ Some (codes "central") → ⊥
-run_or_central e = let h = apart (codes "run") (codes "central") e in absurd (omega (arith, h))
-
-run_or_gen : Some (codes "run") ≡ Some (codes "gen") → ⊥
-run_or_gen e = let h = apart (codes "run") (codes "gen") e in absurd (omega (arith, h))
-
-central_or_gen : Some (codes "central") ≡ Some (codes "gen") → ⊥
-central_or_gen e = let h = apart (codes "central") (codes "gen") e in absurd (omega (arith, h))
-
-action_same : (named number : Option (List ℕ)) (a b : Action) → IsActionText named number a → IsActionText named number b → a ≡ b
-action_same named number Run Run h g = refl
-action_same named number Run Central h g = absurd (run_or_central (sym h ∙ g))
-action_same named number Run (Gen k) h g = absurd (run_or_gen (sym h ∙ g.0))
-action_same named number Central Run h g = absurd (run_or_central (sym g ∙ h))
-action_same named number Central Central h g = refl
-action_same named number Central (Gen k) h g = absurd (central_or_gen (sym h ∙ g.0))
-action_same named number (Gen n) Run h g = absurd (run_or_gen (sym g ∙ h.0))
-action_same named number (Gen n) Central h g = absurd (central_or_gen (sym g ∙ h.0))
-action_same named number (Gen n) (Gen k) h g = ap Gen (number_same number n k h.1 g.1)
-
-options_same : (seen : OzCall) (a b : Options) → HasOptions seen a → HasOptions seen b → a ≡ b
-options_same seen a b h g =
-    let rows = words_rows seen.words in
-    let sites = number_same (one_of sites_option.name rows) a.sites b.sites h.1.sites g.1.sites in
-    let workers = number_same (one_of workers_option.name rows) a.workers b.workers h.1.workers g.1.workers in
-    let steps = number_same (one_of steps_option.name rows) a.steps b.steps h.1.steps g.1.steps in
-    let messages = number_same (one_of messages_option.name rows) a.messages b.messages h.1.messages g.1.messages in
-    let action = action_same (one_of (codes "action") rows) (one_of (codes "number") rows) a.action b.action h.1.action g.1.action in
-    λ i. record { sites = sites i; workers = workers i; steps = steps i; messages = messages i; action = action i }
+use Rattle.oz_runner.proofs.ActionLemmas.{options_same}
+use Rattle.oz_runner.proofs.TextLemmas.{bytes_of_text, given_same, text_same}
 
 -- ---- the source
 
 no_fault : (s : Stream) → IsTold s → HasNoFault s → HasFault s → ⊥
 no_fault s told none (inl rose) = omega (arith, none, rose)
 no_fault s told none (inr last) = let least = told.1 in let is = last.0 in omega (arith, least, is)
-
--- what was given of told bytes is no longer than a text that was given to its end
-front_within : (bytes text front : List ℕ) (after : Option (List ℕ)) → Consumes (Some bytes) after text → IsAtEnd after → Consumes (Some bytes) after front → front ≡ text
-front_within bytes text front None h end g = absurd h
-front_within bytes text front (Some rest) h end g =
-    let h2 : bytes ≡ text ++ [] = h ∙ ap (λ r. text ++ r) end in
-    let g2 : bytes ≡ front ++ [] = g ∙ ap (λ r. front ++ r) end in
-    sym (append-nil front) ∙ (sym g2 ∙ (h2 ∙ append-nil text))
-
-given_same : (s : Stream) (text front : List ℕ) → IsTold s → IsTextOfSource s text → Consumes s.bytes_before s.bytes_after front → front ≡ text
-given_same s text front told h g =
-    front_within told.0.0 text front s.bytes_after
-    (subst (λ (o : Option (List ℕ)). Consumes o s.bytes_after text) told.0.1 h.0) h.1
-    (subst (λ (o : Option (List ℕ)). Consumes o s.bytes_after front) told.0.1 g)
-
-text_same : (a : Action) (s : Stream) (text other : List ℕ) → IsTold s → IsTextOf a s text → IsTextOf a s other → text ≡ other
-text_same Run s text other told h g = given_same s other text told g h.0
-text_same Central s text other told h g = given_same s other text told g h.0
-text_same (Gen size) s text other told h g = h.0 ∙ sym g.0
-
--- the words let the source be read, and what is run is its text
-source_text : (a : Action) (s : Stream) (text : List ℕ) → ReadsSource a → IsTextOf a s text → IsTextOfSource s text
-source_text Run s text reads h = h
-source_text Central s text reads h = h
-source_text (Gen size) s text reads h = absurd reads
 
 -- ---- a run
 
@@ -124,6 +65,8 @@ some_same o q r h g = ap (λ (p : Option Reason). unwrap_or p Quiet) (sym h ∙ 
 ends_same : (a : Action) (o : Option Reason) (p : List Stmt) (options : Options) (made : RunOutput) (s : State) (q r : Reason)
     → OfSitesOrMachine a (o ≡ Some q) (StopsFor p options made s q) → OfSitesOrMachine a (o ≡ Some r) (StopsFor p options made s r) → q ≡ r
 ends_same Run o p options made s q r h g = some_same o q r h g
+ends_same Save o p options made s q r h g = some_same o q r h g
+ends_same Check o p options made s q r h g = some_same o q r h g
 ends_same (Gen size) o p options made s q r h g = some_same o q r h g
 ends_same Central o p options made s q r h g = stops_same p options made s q r h g
 
@@ -159,6 +102,9 @@ ended_as p options made (Refused fault) work came = absurd came
 ended_as p options made (NotUtf8 at) work came = absurd came
 ended_as p options made TooLong work came = absurd came
 ended_as p options made ReadFault work came = absurd came
+ended_as p options made (Checked entries picks) work came = absurd came
+ended_as p options made (Wrong at) work came = absurd came
+ended_as p options made (BadFile at) work came = absurd came
 
 runs_same : RunsAreDetermined → (p : List Stmt) (options : Options) (made : RunOutput) (a b : Status) → Ended p options made a → Ended p options made b → a ≡ b
 runs_same determined p options made a b h g =
@@ -166,6 +112,33 @@ runs_same determined p options made a b h g =
     let reasons = reasons_same determined p options made h.why g.why h.state g.state h.ended g.ended in
     let both : told h.why h.state ≡ told g.why g.state = λ i. told (reasons i) (states i) in
     h.tells ∙ (both ∙ sym g.tells)
+
+-- ---- a saved run
+
+-- the saved run was found right, or wrong at a place
+abbrev Found : List Stmt → SavedRun → RunOutput → Status → Type 0
+Found p file made status =
+    ((entries picks : ℕ) × (status ≡ Checked entries picks) × IsRight p file made entries picks)
+    ⊎ ((at : ℕ) × (status ≡ Wrong at) × IsWrongRun p file made.journal at)
+
+module _ (apart : NotBoth) (first : WrongIsOne) where
+  -- a saved run that is right is not wrong
+  not_wrong : (p : List Stmt) (file : SavedRun) (made : RunOutput) (entries picks at : ℕ) → IsRight p file made entries picks → IsWrongRun p file made.journal at → ⊥
+  not_wrong p file made entries picks at right (inl wrong) = apart p (numbers_of file) made.journal made.journal file.entries right.0.0 at right.0.1 wrong
+  not_wrong p file made entries picks at right (inr wrong) = wrong.2 right.1
+
+  -- it is wrong at one place
+  wrong_same : (p : List Stmt) (file : SavedRun) (made : RunOutput) (i k : ℕ) → IsWrongRun p file made.journal i → IsWrongRun p file made.journal k → i ≡ k
+  wrong_same p file made i k (inl h) (inl g) = (first p (numbers_of file) file.entries i k made.journal made.journal h g).0
+  wrong_same p file made i k (inl h) (inr g) = absurd (apart p (numbers_of file) made.journal made.journal file.entries g.0.0 i g.0.1 h)
+  wrong_same p file made i k (inr h) (inl g) = absurd (apart p (numbers_of file) made.journal made.journal file.entries h.0.0 k h.0.1 g)
+  wrong_same p file made i k (inr h) (inr g) = h.1 ∙ sym g.1
+
+  found_same : (p : List Stmt) (file : SavedRun) (made : RunOutput) (a b : Status) → Found p file made a → Found p file made b → a ≡ b
+  found_same p file made a b (inl h) (inl g) = h.2 ∙ ((λ i. Checked ((h.3.2 ∙ sym g.3.2) i) ((h.3.3 ∙ sym g.3.3) i)) ∙ sym g.2)
+  found_same p file made a b (inl h) (inr g) = absurd (not_wrong p file made h.0 h.1 g.0 h.3 g.2)
+  found_same p file made a b (inr h) (inl g) = absurd (not_wrong p file made g.0 g.1 h.0 g.3 h.2)
+  found_same p file made a b (inr h) (inr g) = h.1 ∙ (ap Wrong (wrong_same p file made h.0 g.0 h.2 g.2) ∙ sym g.1)
 
 -- ---- a text
 
@@ -177,104 +150,204 @@ valid_same text n m h g = go (leb_tells n m) (leb_tells m n)
     go (inr x) y = absurd (g.longest n x.1 h.front)
     go x (inr y) = absurd (h.longest m y.1 g.front)
 
--- a text that is not UTF-8, one with a fault, or one that reads a program, whose run ended
-abbrev TextEnds : Options → RunOutput → List ℕ → Status → Type 0
-TextEnds options made text status =
+-- a new run of the program ended, or the saved run was found right or wrong
+abbrev ProgramEnds : Options → Option SavedRun → RunOutput → List Stmt → Status → Type 0
+ProgramEnds words file made p status =
+    (IsNew words.action × Ended p (options_with file words) made status)
+    ⊎ ((words.action ≡ Check) × ((run : SavedRun) × (file ≡ Some run) × Found p run made status))
+
+-- a text that is not UTF-8, one with a fault, or one that reads a program
+abbrev TextEnds : Options → Option SavedRun → RunOutput → List ℕ → Status → Type 0
+TextEnds words file made text status =
     ((at : ℕ) × (status ≡ NotUtf8 at) × (IsUtf8 text → ⊥) × IsValidUpTo text at)
     ⊎ (((f : TextFault) × (status ≡ Refused f) × IsUtf8 text × FaultOf text f)
-    ⊎ ((p : List Stmt) × IsUtf8 text × Reads text p × Ended p options made status))
+    ⊎ ((p : List Stmt) × IsUtf8 text × Reads text p × ProgramEnds words file made p status))
 
-module _ (texts : AreOneOfBoth Reads FaultOf) (determined : RunsAreDetermined) where
-  texts_same : (options : Options) (made : RunOutput) (text : List ℕ) (a b : Status) → TextEnds options made text a → TextEnds options made text b → a ≡ b
-  texts_same options made text a b (inl h) (inl g) = h.1 ∙ (ap NotUtf8 (valid_same text h.0 g.0 h.3 g.3) ∙ sym g.1)
-  texts_same options made text a b (inl h) (inr (inl g)) = absurd (h.2 g.2)
-  texts_same options made text a b (inl h) (inr (inr g)) = absurd (h.2 g.1)
-  texts_same options made text a b (inr (inl h)) (inl g) = absurd (g.2 h.2)
-  texts_same options made text a b (inr (inr h)) (inl g) = absurd (g.2 h.1)
-  texts_same options made text a b (inr (inl h)) (inr (inl g)) = h.1 ∙ (ap Refused (texts.fault text h.0 g.0 h.3 g.3) ∙ sym g.1)
-  texts_same options made text a b (inr (inl h)) (inr (inr g)) = absurd (texts.never_both text g.0 h.0 g.2 h.3)
-  texts_same options made text a b (inr (inr h)) (inr (inl g)) = absurd (texts.never_both text h.0 g.0 h.2 g.3)
-  texts_same options made text a b (inr (inr h)) (inr (inr g)) =
-      runs_same determined h.0 options made a b h.3
-      (subst (λ (p : List Stmt). Ended p options made b) (texts.program text g.0 h.0 g.2 h.2) g.3)
+new_or_check : (a : Action) → IsNew a → a ≡ Check → ⊥
+new_or_check a is_new is = subst IsNew is is_new
+
+module _ (texts : AreOneOfBoth Reads FaultOf) (determined : RunsAreDetermined) (saves : SavesOne) (one_fault : HasOneFault) (saved_or_bad : file_laws.NotBoth) (apart : NotBoth) (first : WrongIsOne) where
+  found_one : (p : List Stmt) (made : RunOutput) (file : Option SavedRun) (a b : Status) → (run : SavedRun) × (file ≡ Some run) × Found p run made a
+      → (run : SavedRun) × (file ≡ Some run) × Found p run made b → a ≡ b
+  found_one p made file a b (r, is, h) (q, also, g) =
+      let same : q ≡ r = ap (λ (o : Option SavedRun). unwrap_or o r) (sym also ∙ is) in
+      found_same apart first p r made a b h (subst (λ (f : SavedRun). Found p f made b) same g)
+
+  programs_same : (words : Options) (file : Option SavedRun) (made : RunOutput) (p : List Stmt) (a b : Status) → ProgramEnds words file made p a → ProgramEnds words file made p b → a ≡ b
+  programs_same words file made p a b (inl h) (inl g) = runs_same determined p (options_with file words) made a b h.1 g.1
+  programs_same words file made p a b (inl h) (inr g) = absurd (new_or_check words.action h.0 g.0)
+  programs_same words file made p a b (inr h) (inl g) = absurd (new_or_check words.action g.0 h.0)
+  programs_same words file made p a b (inr h) (inr g) = found_one p made file a b h.1 g.1
+
+  texts_same : (words : Options) (file : Option SavedRun) (made : RunOutput) (text : List ℕ) (a b : Status) → TextEnds words file made text a → TextEnds words file made text b → a ≡ b
+  texts_same words file made text a b (inl h) (inl g) = h.1 ∙ (ap NotUtf8 (valid_same text h.0 g.0 h.3 g.3) ∙ sym g.1)
+  texts_same words file made text a b (inl h) (inr (inl g)) = absurd (h.2 g.2)
+  texts_same words file made text a b (inl h) (inr (inr g)) = absurd (h.2 g.1)
+  texts_same words file made text a b (inr (inl h)) (inl g) = absurd (g.2 h.2)
+  texts_same words file made text a b (inr (inr h)) (inl g) = absurd (g.2 h.1)
+  texts_same words file made text a b (inr (inl h)) (inr (inl g)) = h.1 ∙ (ap Refused (texts.fault text h.0 g.0 h.3 g.3) ∙ sym g.1)
+  texts_same words file made text a b (inr (inl h)) (inr (inr g)) = absurd (texts.never_both text g.0 h.0 g.2 h.3)
+  texts_same words file made text a b (inr (inr h)) (inr (inl g)) = absurd (texts.never_both text h.0 g.0 h.2 g.3)
+  texts_same words file made text a b (inr (inr h)) (inr (inr g)) =
+      programs_same words file made h.0 a b h.3
+      (subst (λ (p : List Stmt). ProgramEnds words file made p b) (texts.program text g.0 h.0 g.2 h.2) g.3)
 
   -- ---- a call
 
-  -- the words are refused; or the source failed, gave too much, or nothing of that, and a text is run
+  -- the source failed, gave too much, or what is no saved run, or nothing of that, and a text is run
+  abbrev WordsEnd : OzCall → RunOutput → Options → Status → Type 0
+  WordsEnd seen made words status =
+      ((status ≡ ReadFault) × ReadsSource words.action × HasFault seen.source)
+      ⊎ (((status ≡ TooLong) × ReadsSource words.action × HasNoFault seen.source × SourceGivesFront seen.source (λ n. byte_limit words.action < n))
+      ⊎ (((at : ℕ) × (status ≡ BadFile at) × (words.action ≡ Check) × (bytes : List ℕ) × IsGiven file_limit seen.source bytes × IsFirstFault bytes (Bad at))
+      ⊎ ((file : Option SavedRun) × (text : List ℕ) × IsTextOf words.action file seen.source text × TextEnds words file made text status)))
+
+  -- the words are refused, or they are taken
   abbrev Fate : OzCall → RunOutput → Status → Type 0
   Fate seen made status =
-      ((status ≡ Usage) × (AreTaken seen.words → ⊥))
-      ⊎ (((status ≡ ReadFault) × IsSourceWanted seen × HasFault seen.source)
-      ⊎ (((status ≡ TooLong) × IsSourceWanted seen × HasNoFault seen.source × SourceGivesFront seen.source (λ n. text_limit < n))
-      ⊎ ((options : Options) × HasOptions seen options × (text : List ℕ) × IsTextOf options.action seen.source text × TextEnds options made text status)))
+      ((status ≡ Usage) × (AreTaken seen.words → ⊥)) ⊎ ((words : Options) × HasOptions seen words × WordsEnd seen made words status)
 
-  run_text : (a : Action) (s : Stream) (text : List ℕ) → ReadsSource a → IsTextOfSource s text → IsTextOf a s text
-  run_text Run s text reads h = h
-  run_text Central s text reads h = h
-  run_text (Gen size) s text reads h = absurd reads
+  -- ---- of a cause
 
+  check_of_file : (a : Action) (run : SavedRun) (s : Stream) (text : List ℕ) → IsTextOf a (Some run) s text → a ≡ Check
+  check_of_file Check run s text h = refl
+  check_of_file Run run s text h = absurd h
+  check_of_file Central run s text h = absurd h
+  check_of_file (Gen size) run s text h = absurd h
+  check_of_file Save run s text h = absurd h
+
+  is_new_of : (file : Option SavedRun) (words options : Options) → options ≡ options_with file words → IsNew options.action → IsNew words.action
+  is_new_of None words options is h = subst (λ (o : Options). IsNew o.action) is h
+  is_new_of (Some run) words options is h = subst (λ (o : Options). IsNew o.action) is h
+
+  is_new_end : (p : List Stmt) (options : Options) (made : RunOutput) (status : Status) → Ended p options made status → IsNew options.action
+  is_new_end p options made status h = h.ended.is_new
+
+  -- a new run of a program
   of_run : (seen : OzCall) (made : RunOutput) (status : Status) → IsOfWork status → HasRunStatus seen made status → Fate seen made status
   of_run seen made status work (given, came) =
-      inr (inr (inr (
-        given.options,
+      let ended = ended_as given.program given.options made status work came in
+      let anew : IsNew given.words.action = is_new_of given.file given.words given.options given.with_file (is_new_end given.program given.options made status ended) in
+      inr (
+        given.words,
         given.says,
-        given.text,
-        given.is_text,
-        inr (inr (given.program, given.utf8, given.reads, ended_as given.program given.options made status work came)),
-      )))
+        inr (inr (inr (
+          given.file,
+          given.text,
+          given.is_text,
+          inr (inr (
+            given.program,
+            given.utf8,
+            given.reads,
+            inl (anew, subst (λ (o : Options). Ended given.program o made status) given.with_file ended),
+          )),
+        ))),
+      )
+
+  -- a saved run that was made again
+  of_file : (seen : OzCall) (made : RunOutput) (status : Status) → (given : HasProgram seen) → (run : SavedRun) → given.file ≡ Some run → Found given.program run made status → Fate seen made status
+  of_file seen made status given run is found =
+      let check : given.words.action ≡ Check = check_of_file given.words.action run seen.source given.text (subst (λ (f : Option SavedRun). IsTextOf given.words.action f seen.source given.text) is given.is_text) in
+      inr (
+        given.words,
+        given.says,
+        inr (inr (inr (given.file, given.text, given.is_text, inr (inr (given.program, given.utf8, given.reads, inr (check, (run, is, found))))))),
+      )
 
   fate_of : (seen : OzCall) (made : RunOutput) (status : Status) → IsOfWork status → Cause seen made status → Fate seen made status
   fate_of seen made Usage work cause = inl (refl, cause.0)
-  fate_of seen made ReadFault work cause = inr (inl (refl, cause.0, cause.1))
-  fate_of seen made TooLong work cause = inr (inr (inl (refl, cause.0, cause.1, cause.2)))
-  fate_of seen made (NotUtf8 at) work (((options, says, reads), (text, gave, wrong)), nothing) =
-      inr (inr (inr (options, says, text, run_text options.action seen.source text reads gave, inl (at, refl, wrong.0, wrong.1))))
-  fate_of seen made (Refused fault) work ((options, says, (text, is_text, (utf8, has))), nothing) =
-      inr (inr (inr (options, says, text, is_text, inr (inl (fault, refl, utf8, has)))))
+  fate_of seen made ReadFault work ((words, says, reads, (failed, gave)), nothing) = inr (words, says, inl (refl, reads, failed))
+  fate_of seen made TooLong work ((words, says, reads, (steady, gave)), nothing) = inr (words, says, inr (inl (refl, reads, steady, gave)))
+  fate_of seen made (BadFile at) work ((words, says, reads, (is, (bytes, gave, wrong))), nothing) =
+      inr (words, says, inr (inr (inl (at, refl, is, bytes, gave, wrong))))
+  fate_of seen made (NotUtf8 at) work ((words, says, (file, text, is_text, (reads, bad, up_to))), nothing) =
+      inr (words, says, inr (inr (inr (file, text, is_text, inl (at, refl, bad, up_to)))))
+  fate_of seen made (Refused fault) work ((words, says, (file, text, is_text, (utf8, has))), nothing) =
+      inr (words, says, inr (inr (inr (file, text, is_text, inr (inl (fault, refl, utf8, has))))))
   fate_of seen made (Quiescent ended waiting) work cause = of_run seen made (Quiescent ended waiting) work cause
   fate_of seen made (StepLimit site) work cause = of_run seen made (StepLimit site) work cause
   fate_of seen made MessageLimit work cause = of_run seen made MessageLimit work cause
+  fate_of seen made (Checked entries picks) work (given, run, is, ran, right) = of_file seen made (Checked entries picks) given run is (inl (entries, picks, refl, right))
+  fate_of seen made (Wrong at) work (given, run, is, ran, wrong) = of_file seen made (Wrong at) given run is (inr (at, refl, wrong))
   fate_of seen made WriteFault work cause = absurd work
   fate_of seen made Memory work cause = absurd work
 
-  -- where the words let the source be read, the text that is run is its
-  wanted_text : (seen : OzCall) (options : Options) (text : List ℕ) → IsSourceWanted seen → HasOptions seen options → IsTextOf options.action seen.source text → IsTextOfSource seen.source text
-  wanted_text seen options text wanted says is =
-      source_text options.action seen.source text
-      (subst (λ (o : Options). ReadsSource o.action) (options_same seen wanted.0 options wanted.1 says) wanted.2) is
+  -- ---- of the same words
 
-  fault_or_text : (seen : OzCall) (options : Options) (text : List ℕ) → IsTold seen.source → IsSourceWanted seen → HasFault seen.source → HasOptions seen options → IsTextOf options.action seen.source text → ⊥
-  fault_or_text seen options text is_told wanted fault says is = no_fault seen.source is_told (wanted_text seen options text wanted says is).3 fault
+  module _ (seen : OzCall) (made : RunOutput) (words : Options) (is_told : IsTold seen.source) where
+    abbrev s : Stream
+    s = seen.source
 
-  long_or_text : (seen : OzCall) (options : Options) (text : List ℕ) → IsTold seen.source → IsSourceWanted seen → SourceGivesFront seen.source (λ n. text_limit < n)
-      → HasOptions seen options → IsTextOf options.action seen.source text → ⊥
-  long_or_text seen options text is_told wanted (front, gave, long) says is =
-      let whole = wanted_text seen options text wanted says is in
-      let same : length front ≡ length text = ap length (given_same seen.source text front is_told whole gave) in
-      let short : length text ≤ text_limit = whole.2 in
-      omega (arith, same, short, long)
+    -- the source gave no more than may be, and its count stood still, where a text is run
+    steady_text : (file : Option SavedRun) (text : List ℕ) → ReadsSource words.action → IsTextOf words.action file s text → HasFault s → ⊥
+    steady_text file text reads is fault = no_fault s is_told (bytes_of_text words.action file s text reads is).1.3 fault
+
+    short_text : (file : Option SavedRun) (text : List ℕ) → ReadsSource words.action → IsTextOf words.action file s text → SourceGivesFront s (λ n. byte_limit words.action < n) → ⊥
+    short_text file text reads is (front, gave, long) =
+        let whole = bytes_of_text words.action file s text reads is in
+        let same : length front ≡ length whole.0 = ap length (given_same s is_told.0.0 whole.0 front (byte_limit words.action) is_told.0.1 whole.1 gave) in
+        let short = whole.1.2 in
+        omega (arith, same, short, long)
+
+    short_file : words.action ≡ Check → (bytes : List ℕ) → IsGiven file_limit s bytes → SourceGivesFront s (λ n. byte_limit words.action < n) → ⊥
+    short_file is bytes gave (front, given, long) =
+        let same : length front ≡ length bytes = ap length (given_same s is_told.0.0 bytes front file_limit is_told.0.1 gave given) in
+        let limit : byte_limit words.action ≡ file_limit = ap byte_limit is in
+        let short = gave.2 in
+        omega (arith, same, short, long, limit)
+
+    -- bytes that are no saved run are not the text of one
+    bad_or_text : (at : ℕ) (bytes : List ℕ) (file : Option SavedRun) (text : List ℕ) → words.action ≡ Check → IsGiven file_limit s bytes → IsFirstFault bytes (Bad at) → IsTextOf words.action file s text → ⊥
+    bad_or_text at bytes file text is gave wrong is_text = go file (subst (λ (a : Action). IsTextOf a file s text) is is_text)
+      where
+        go : (f : Option SavedRun) → IsTextOf Check f s text → ⊥
+        go None h = h
+        go (Some run) h =
+            let same : bytes ≡ h.0.0 = given_same s is_told.0.0 h.0.0 bytes file_limit is_told.0.1 h.0.1 gave.0 in
+            saved_or_bad h.0.0 run (Bad at) h.0.2 (subst (λ (b : List ℕ). IsFirstFault b (Bad at)) same wrong)
+
+    bad_same : (i k : ℕ) (a b : List ℕ) → IsGiven file_limit s a → IsGiven file_limit s b → IsFirstFault a (Bad i) → IsFirstFault b (Bad k) → i ≡ k
+    bad_same i k a b gave given h g =
+        let same : b ≡ a = given_same s is_told.0.0 a b file_limit is_told.0.1 gave given.0 in
+        let one : Bad i ≡ Bad k = one_fault a (Bad i) (Bad k) h (subst (λ (c : List ℕ). IsFirstFault c (Bad k)) same g) in
+        place one
+      where
+        place_of : FileFault → ℕ
+        place_of (Bad at) = at
+        place_of _ = 0
+
+        place : Bad i ≡ Bad k → i ≡ k
+        place e = ap place_of e
+
+    -- of two ends one is told
+    words_same : (a b : Status) → WordsEnd seen made words a → WordsEnd seen made words b → a ≡ b
+    words_same a b (inl h) (inl g) = h.0 ∙ sym g.0
+    words_same a b (inl h) (inr (inl g)) = absurd (no_fault s is_told g.2 h.2)
+    words_same a b (inl h) (inr (inr (inl g))) = absurd (no_fault s is_told g.4.3 h.2)
+    words_same a b (inl h) (inr (inr (inr g))) = absurd (steady_text g.0 g.1 h.1 g.2 h.2)
+    words_same a b (inr (inl h)) (inl g) = absurd (no_fault s is_told h.2 g.2)
+    words_same a b (inr (inl h)) (inr (inl g)) = h.0 ∙ sym g.0
+    words_same a b (inr (inl h)) (inr (inr (inl g))) = absurd (short_file g.2 g.3 g.4 h.3)
+    words_same a b (inr (inl h)) (inr (inr (inr g))) = absurd (short_text g.0 g.1 h.1 g.2 h.3)
+    words_same a b (inr (inr (inl h))) (inl g) = absurd (no_fault s is_told h.4.3 g.2)
+    words_same a b (inr (inr (inl h))) (inr (inl g)) = absurd (short_file h.2 h.3 h.4 g.3)
+    words_same a b (inr (inr (inl h))) (inr (inr (inl g))) = h.1 ∙ (ap BadFile (bad_same h.0 g.0 h.3 g.3 h.4 g.4 h.5 g.5) ∙ sym g.1)
+    words_same a b (inr (inr (inl h))) (inr (inr (inr g))) = absurd (bad_or_text h.0 h.3 g.0 g.1 h.2 h.4 h.5 g.2)
+    words_same a b (inr (inr (inr h))) (inl g) = absurd (steady_text h.0 h.1 g.1 h.2 g.2)
+    words_same a b (inr (inr (inr h))) (inr (inl g)) = absurd (short_text h.0 h.1 g.1 h.2 g.3)
+    words_same a b (inr (inr (inr h))) (inr (inr (inl g))) = absurd (bad_or_text g.0 g.3 h.0 h.1 g.2 g.4 g.5 h.2)
+    words_same a b (inr (inr (inr h))) (inr (inr (inr g))) =
+        let same = text_same saves words.action h.0 g.0 s h.1 g.1 is_told.0 h.2 g.2 in
+        texts_same words h.0 made h.1 a b h.3
+        (subst (λ (z : Option SavedRun × List ℕ). TextEnds words z.0 made z.1 b) (λ i. (sym same.0 i, sym same.1 i)) g.3)
 
   fates_same : (seen : OzCall) (made : RunOutput) (a b : Status) → IsTold seen.source → Fate seen made a → Fate seen made b → a ≡ b
   fates_same seen made a b is_told (inl h) (inl g) = h.0 ∙ sym g.0
-  fates_same seen made a b is_told (inl h) (inr (inl g)) = absurd (h.1 g.1.1.0)
-  fates_same seen made a b is_told (inl h) (inr (inr (inl g))) = absurd (h.1 g.1.1.0)
-  fates_same seen made a b is_told (inl h) (inr (inr (inr g))) = absurd (h.1 g.1.0)
-  fates_same seen made a b is_told (inr (inl h)) (inl g) = absurd (g.1 h.1.1.0)
-  fates_same seen made a b is_told (inr (inr (inl h))) (inl g) = absurd (g.1 h.1.1.0)
-  fates_same seen made a b is_told (inr (inr (inr h))) (inl g) = absurd (g.1 h.1.0)
-  fates_same seen made a b is_told (inr (inl h)) (inr (inl g)) = h.0 ∙ sym g.0
-  fates_same seen made a b is_told (inr (inl h)) (inr (inr (inl g))) = absurd (no_fault seen.source is_told g.2 h.2)
-  fates_same seen made a b is_told (inr (inr (inl h))) (inr (inl g)) = absurd (no_fault seen.source is_told h.2 g.2)
-  fates_same seen made a b is_told (inr (inl h)) (inr (inr (inr g))) = absurd (fault_or_text seen g.0 g.2 is_told h.1 h.2 g.1 g.3)
-  fates_same seen made a b is_told (inr (inr (inr h))) (inr (inl g)) = absurd (fault_or_text seen h.0 h.2 is_told g.1 g.2 h.1 h.3)
-  fates_same seen made a b is_told (inr (inr (inl h))) (inr (inr (inl g))) = h.0 ∙ sym g.0
-  fates_same seen made a b is_told (inr (inr (inl h))) (inr (inr (inr g))) = absurd (long_or_text seen g.0 g.2 is_told h.1 h.3 g.1 g.3)
-  fates_same seen made a b is_told (inr (inr (inr h))) (inr (inr (inl g))) = absurd (long_or_text seen h.0 h.2 is_told g.1 g.3 h.1 h.3)
-  fates_same seen made a b is_told (inr (inr (inr h))) (inr (inr (inr g))) =
-      let options = options_same seen g.0 h.0 g.1 h.1 in
-      let is : IsTextOf h.0.action seen.source g.2 = subst (λ (o : Options). IsTextOf o.action seen.source g.2) options g.3 in
-      let text = text_same h.0.action seen.source g.2 h.2 is_told is h.3 in
-      texts_same h.0 made h.2 a b h.4 (subst (λ (z : Options × List ℕ). TextEnds z.0 made z.1 b) (λ i. (options i, text i)) g.4)
+  fates_same seen made a b is_told (inl h) (inr g) = absurd (h.1 g.1.0)
+  fates_same seen made a b is_told (inr h) (inl g) = absurd (g.1 h.1.0)
+  fates_same seen made a b is_told (inr h) (inr g) =
+      words_same seen made h.0 is_told a b h.2
+      (subst (λ (o : Options). WordsEnd seen made o b) (options_same seen g.0 h.0 g.1 h.1) g.2)
 
   pub causes_exclude : CausesExclude
   causes_exclude seen made a b is_told of_a of_b cause_a cause_b = fates_same seen made a b is_told (fate_of seen made a of_a cause_a) (fate_of seen made b of_b cause_b)

@@ -1,22 +1,22 @@
 -- Which pieces the sink was handed: what is left of a line, of one of a turn, of one of a journal, or of the end line.
-use Rattle.std.proofs.Common.{zero, suc, ◌≡◌, ◌<◌, ◌⊎◌, inl, inr, ℕ, List, [], ◌∷◌, ◌++◌, length, get_or, reverse, arith, sym, subst, Option, Some, None}
+use Rattle.std.proofs.Common.{zero, suc, ◌≡◌, ◌<◌, inl, inr, ℕ, List, [], ◌∷◌, length, get_or, reverse, arith, sym, subst, Option, Some, None}
 use Rattle.std.proofs.lemmas.List.Elements.{Contains-get_or, Contains-append_left, Contains-append_right}
 use Rattle.std.specs.Prelude.{Contains}
 use Rattle.oz_base.specs.Streams.{EachPiece, HandsInOnly, IsRestOf}
 use Rattle.oz_base.proofs.Pieces.{handed_joined}
 use Rattle.site_message.specs.declared.turn.Turn.{Turn}
 use Rattle.world_model.specs.Schedule.{lines_in}
-use Rattle.oz_runner.specs.Pieces.{IsRestOfLine, IsRestOfOutput}
+use Rattle.oz_runner.specs.Due.{IsRestOfLine, IsRestOfOutput}
 use Rattle.oz_runner.proofs.Pieces.{line_piece, lines_reverse}
 
-abbrev Handed : Type 0
+abbrev pub Handed : Type 0
 Handed = Option (List (List ℕ))
 
 each_also : (P Q : List ℕ → Type 0) → ((piece : List ℕ) → P piece → Q piece) → (xs : List (List ℕ)) → EachPiece P xs → EachPiece Q xs
 each_also P Q also [] each = tt
 each_also P Q also (x ∷ xs) each = (also x each.0, each_also P Q also xs each.1)
 
-handed_also : (P Q : List ℕ → Type 0) → ((piece : List ℕ) → P piece → Q piece) → (a b : Handed) → HandsInOnly a b P → HandsInOnly a b Q
+pub handed_also : (P Q : List ℕ → Type 0) → ((piece : List ℕ) → P piece → Q piece) → (a b : Handed) → HandsInOnly a b P → HandsInOnly a b Q
 handed_also P Q also None b h = tt
 handed_also P Q also (Some old) None h = absurd h
 handed_also P Q also (Some old) (Some new) (xs, is, each) = (xs, is, each_also P Q also xs each)

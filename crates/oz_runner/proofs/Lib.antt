@@ -1,10 +1,17 @@
+pub mod ActionLemmas
+pub mod TextLemmas
 pub mod RunLemmas
 pub mod BookLemmas
 pub mod MachineLemmas
 pub mod Pieces
 pub mod HandedLemmas
+pub mod DueLemmas
 pub mod CauseLemmas
 pub mod CompleteLemmas
 pub mod BesideLemmas
+pub mod SaveLemmas
+pub mod FileLemmas
 pub mod WordLemmas
+pub mod WorkLemmas
 pub mod ExcludeLemmas
+pub mod RightLemmas

@@ -15,7 +15,7 @@ use Rattle.oz_words.specs.declared.options.Action.{Action}
 use Rattle.oz_words.specs.declared.options.Action.TheVariants as action
 use Rattle.oz_words.specs.declared.options.Options.{Options}
 use Rattle.oz_runner.specs.OzCall.{RunOutput, run_output_of}
-use Rattle.oz_runner.specs.Run.{IsStatusOfRun, HasEnded, IsMadeByMachine, IsMadeBySites, IsRun, OfSitesOrMachine, SitesAreSilent, StopsFor, limits_of}
+use Rattle.oz_runner.specs.Run.{IsStatusOfRun, HasEnded, IsMadeByMachine, IsMadeBySites, IsNew, IsRun, OfSitesOrMachine, SitesAreSilent, StopsFor, limits_of}
 use Rattle.oz_runner.specs.Machine.{machine_status}
 
 -- what is said of `central`
@@ -37,6 +37,7 @@ module _ (p : List Stmt) (options : Options) (s : State) (left : CentralOut) (is
 
   machine_end : (why : Reason) → HasOneEach s.equations → StopsFor p options by_machine s why → HasEnded p options by_machine why s
   machine_end why once how = record {
+    is_new = subst IsNew (sym is) tt;
     run = machine_run once;
     ends = alone options.action (end_of (limits_of options) [] ≡ Some why) (StopsFor p options by_machine s why) is how;
   }

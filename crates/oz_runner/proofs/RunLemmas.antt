@@ -1,15 +1,15 @@
 -- What a run over sites comes to, by what it left.
-use Rattle.std.proofs.Common.{◌≡◌, ◌∙◌, sym, subst, refl, not, ℕ, List, [], ◌∷◌, length, Bool, true, false, Some, None, inl, inr}
+use Rattle.std.proofs.Common.{◌≡◌, ◌∙◌, ap, sym, subst, refl, not, ℕ, List, [], ◌∷◌, length, Bool, true, false, Option, Some, None, inl, inr}
 use Rattle.std.specs.Prelude.{◌&&◌, nat_lt, nat_le, if◌then◌else◌}
 use Rattle.tree_node.specs.State.{State}
 use Rattle.tree_node.specs.declared.pick.Pick.{Pick}
 use Rattle.oz_model.specs.Laws.{RunsAreDetermined, CellsAreChains}
 use Rattle.oz_model.specs.Run.{Run}
 use Rattle.kernel_syntax.specs.declared.stmt.Stmt.{Stmt}
+use Rattle.site_message.specs.declared.limits.Limits.{Limits}
 use Rattle.site_message.specs.declared.reason.Reason.{Reason}
 use Rattle.site_message.specs.declared.reason.Reason.TheVariants as reason
 use Rattle.site_message.specs.declared.turn.Turn.{Turn}
-use Rattle.site_message.specs.Journal as journal
 use Rattle.site_message.specs.Journal.{AreWithin, are_idle, end_of, is_empty, is_quiet, sent_of, travelling}
 use Rattle.site_message.specs.EarlierEnd.{HasNoEarlierEnd}
 use Rattle.site_message.specs.Laws.{QuietTells}
@@ -21,16 +21,16 @@ use Rattle.world_model.specs.World.{eqs}
 use Rattle.world_simulation.specs.Distributed.{DistributedRun}
 use Rattle.plain_run.specs.Progress.{HasReason}
 use Rattle.plain_run.specs.Simulated.{HasMachineRun}
-use Rattle.plain_run.specs.declared.out.Limits.{Limits}
 use Rattle.plain_run.specs.declared.out.RunOut.{RunOut}
 use Rattle.oz_words.specs.declared.options.Action.{Action}
 use Rattle.oz_words.specs.declared.options.Action.TheVariants as action
 use Rattle.oz_words.specs.declared.options.Options.{Options}
 use Rattle.oz_show.specs.Status.{HasLine}
 use Rattle.oz_show.specs.declared.status.Status.{Status}
-use Rattle.oz_show.specs.declared.status.Status.TheVariants.{Quiescent, Usage, Refused, NotUtf8, TooLong, StepLimit, MessageLimit, ReadFault, WriteFault, Memory}
+use Rattle.oz_show.specs.declared.status.Status.TheVariants.{Quiescent, Usage, Refused, NotUtf8, TooLong, StepLimit, MessageLimit, ReadFault, WriteFault, Memory, Checked, Wrong, BadFile}
 use Rattle.oz_runner.specs.OzCall.{RunOutput, run_output_of}
-use Rattle.oz_runner.specs.Run.{IsStatusOfRun, HasEnded, IsMadeByMachine, IsMadeBySites, IsQuiet, IsRun, OfSitesOrMachine, SitesAreSilent, StopsFor, limits_of}
+use Rattle.oz_runner.specs.Run.{IsStatusOfRun, HasEnded, IsMadeByMachine, IsMadeBySites, IsQuiet, IsNew, IsRun, OfSitesOrMachine, SitesAreSilent, StopsFor, limits_of}
+use Rattle.oz_runner.specs.Checking.{status_after, status_of_end}
 use Rattle.oz_runner.specs.Ends.{IsOverSites, status_of}
 use Rattle.world_model.specs.Schedule.{lines_in, schedule, sum_to}
 
@@ -45,7 +45,7 @@ chosen_quiet false false true site e = refl
 chosen_quiet false false false site e = cc
 
 -- a journal that ends quiet is quiet
-quiet_end : (l : journal.Limits) (j : List Turn) → end_of l j ≡ Some reason.Quiet → is_quiet l.sites j ≡ true
+quiet_end : (l : Limits) (j : List Turn) → end_of l j ≡ Some reason.Quiet → is_quiet l.sites j ≡ true
 quiet_end l [] is = cc
 quiet_end l (e ∷ j) is =
     chosen_quiet (nat_lt l.messages (length (sent_of (e ∷ j)))) (nat_le l.steps e.steps && not e.idle) (is_quiet l.sites (e ∷ j)) e.site is
@@ -56,16 +56,12 @@ none_of (x ∷ xs) b e = cc
 
 -- ---- the sites
 
--- the limits that the sites are given
-abbrev pub plain_limits : Options → Limits
-plain_limits options = record { sites = options.sites; steps = options.steps; messages = options.messages }
-
 -- what a run over sites left
 pub record Leaves (p : List Stmt) (options : Options) (out : RunOut) : Type 0 where
   pub run : HasMachineRun p options.sites out.journal
   pub rows : DistributedRun p options.sites bundle_limit out.journal run.0
   pub picks : out.schedule ≡ schedule out.journal
-  pub reason : HasReason (plain_limits options) out.journal out.reason
+  pub reason : HasReason (limits_of options) out.journal out.reason
   pub went : HasNoEarlierEnd (limits_of options) out.journal
   pub within : AreWithin (limits_of options) out.journal
   pub ended : out.ended ≡ sum_to options.sites (last_ended out.journal)
@@ -76,7 +72,16 @@ pub record Leaves (p : List Stmt) (options : Options) (out : RunOut) : Type 0 wh
 over_sites : (a : Action) (OfSites OfMachine : Type 0) → IsOverSites a → OfSites → OfSitesOrMachine a OfSites OfMachine
 over_sites action.Run OfSites OfMachine over holds = holds
 over_sites (action.Gen size) OfSites OfMachine over holds = holds
+over_sites action.Save OfSites OfMachine over holds = holds
 over_sites action.Central OfSites OfMachine over holds = absurd over
+over_sites action.Check OfSites OfMachine over holds = absurd over
+
+new_over_sites : (a : Action) → IsOverSites a → IsNew a
+new_over_sites action.Run over = tt
+new_over_sites (action.Gen size) over = tt
+new_over_sites action.Save over = tt
+new_over_sites action.Central over = absurd over
+new_over_sites action.Check over = absurd over
 
 module _ (p : List Stmt) (options : Options) (out : RunOut) (is : IsOverSites options.action) (tells : QuietTells) (one : RunsAreDetermined) (chain : CellsAreChains) (left : Leaves p options out) where
   abbrev states : ℕ → Site
@@ -99,7 +104,7 @@ module _ (p : List Stmt) (options : Options) (out : RunOut) (is : IsOverSites op
     states = states;
     run = left.rows;
     went = left.went;
-    within = left.within;
+    within = λ anew. left.within;
     picks = left.picks;
     lines = refl;
     known = λ i e there.
@@ -124,6 +129,7 @@ module _ (p : List Stmt) (options : Options) (out : RunOut) (is : IsOverSites op
 
   sites_end : (why : Reason) → Ends why → HasEnded p options by_sites why s
   sites_end why ends = record {
+    is_new = new_over_sites options.action is;
     run = sites_run;
     ends = over_sites options.action (Ends why) (StopsFor p options by_sites s why) is ends;
   }
@@ -140,7 +146,7 @@ module _ (p : List Stmt) (options : Options) (out : RunOut) (is : IsOverSites op
         waiting = left.waiting ∙ sym told.living;
       }
 
-  by_reason : (why : Reason) → HasReason (plain_limits options) out.journal why → IsStatusOfRun p options by_sites (status_of why out.ended out.waiting)
+  by_reason : (why : Reason) → HasReason (limits_of options) out.journal why → IsStatusOfRun p options by_sites (status_of why out.ended out.waiting)
   by_reason reason.Quiet (inl ends) = (s, sites_end reason.Quiet ends, sites_quiet ends)
   by_reason reason.Quiet (inr memory) = cc memory.0
   by_reason (reason.Steps site) (inl ends) = (s, sites_end (reason.Steps site) ends)
@@ -153,6 +159,25 @@ module _ (p : List Stmt) (options : Options) (out : RunOut) (is : IsOverSites op
 pub sites_came : (p : List Stmt) (options : Options) (out : RunOut) → IsOverSites options.action → QuietTells → RunsAreDetermined → CellsAreChains → Leaves p options out
     → IsStatusOfRun p options (run_output_of out.journal out.schedule (lines_in out.journal)) (status_of out.reason out.ended out.waiting)
 sites_came p options out is tells one chain left = by_reason p options out is tells one chain left out.reason left.reason
+
+-- the status is that of the journal
+pub sites_after : (options : Options) (out : RunOut) → HasReason (limits_of options) out.journal out.reason → out.ended ≡ sum_to options.sites (last_ended out.journal)
+    → out.waiting ≡ sum_to options.sites (last_waiting out.journal) → status_of out.reason out.ended out.waiting ≡ status_after (limits_of options) out.journal
+sites_after options out why ended waiting =
+    by out.reason why
+  where
+    l : Limits
+    l = limits_of options
+
+    totals : (r : Reason) → status_of r out.ended out.waiting ≡ status_of r (sum_to l.sites (last_ended out.journal)) (sum_to l.sites (last_waiting out.journal))
+    totals r = λ i. status_of r (ended i) (waiting i)
+
+    by : (r : Reason) → HasReason (limits_of options) out.journal r → status_of r out.ended out.waiting ≡ status_after l out.journal
+    by r (inl ends) =
+        totals r ∙ ap (λ (o : Option Reason). status_of_end o (sum_to l.sites (last_ended out.journal)) (sum_to l.sites (last_waiting out.journal))) (sym ends)
+    by r (inr (memory, goes_on)) =
+        ap (λ (q : Reason). status_of q out.ended out.waiting) memory
+        ∙ ap (λ (o : Option Reason). status_of_end o (sum_to l.sites (last_ended out.journal)) (sum_to l.sites (last_waiting out.journal))) (sym goes_on)
 
 -- ---- the status
 
@@ -168,3 +193,6 @@ came_line p options made (StepLimit site) came = tt
 came_line p options made MessageLimit came = tt
 came_line p options made ReadFault came = tt
 came_line p options made Memory came = tt
+came_line p options made (Checked entries picks) came = tt
+came_line p options made (Wrong at) came = tt
+came_line p options made (BadFile at) came = tt

@@ -13,11 +13,13 @@ use Rattle.oz_runner.specs.declared.work.RunLines.TheVariants as printed
 use Rattle.oz_runner.specs.declared.work.Work.{Work}
 use Rattle.oz_runner.specs.OzCall.{RunOutput, run_output_of}
 
--- the program runs over the sites
+-- a program runs over the sites, anew
 abbrev pub IsOverSites : Action → Type 0
 IsOverSites action.Run = Unit {0}
 IsOverSites (action.Gen size) = Unit {0}
+IsOverSites action.Save = Unit {0}
 IsOverSites action.Central = ⊥
+IsOverSites action.Check = ⊥
 
 -- the status of a run that ended for this reason
 abbrev pub status_of : Reason → ℕ → ℕ → Status
@@ -30,11 +32,13 @@ status_of reason.Memory ended waiting = Memory
 abbrev pub journal_of : RunLines → List Turn
 journal_of (printed.Sites journal) = journal
 journal_of (printed.Machine lines) = []
+journal_of (printed.Saved journal file) = journal
 
 -- the lines of the turns, or those of the machine
 abbrev pub lines_of : RunLines → List (List ℕ)
 lines_of (printed.Sites journal) = lines_in journal
 lines_of (printed.Machine lines) = lines.items
+lines_of (printed.Saved journal file) = lines_in journal
 
 -- the journal, the schedule and the lines of the work
 abbrev pub output_of_work : Work → RunOutput

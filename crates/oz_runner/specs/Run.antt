@@ -7,7 +7,8 @@ use Rattle.tree_node.specs.Store.{Equation}
 use Rattle.kernel_syntax.specs.declared.stmt.Stmt.{Stmt}
 use Rattle.oz_model.specs.Laws.{IsChainOf}
 use Rattle.oz_model.specs.Run.{Run, AtRest, exchanges, contents_given}
-use Rattle.site_message.specs.Journal.{Limits, AreWithin, end_of, is_idle, travelling}
+use Rattle.site_message.specs.declared.limits.Limits.{Limits}
+use Rattle.site_message.specs.Journal.{AreWithin, end_of, is_idle, travelling}
 use Rattle.site_message.specs.EarlierEnd.{HasNoEarlierEnd}
 use Rattle.site_message.specs.declared.reason.Reason.{Reason}
 use Rattle.site_message.specs.declared.turn.Turn.{Turn}
@@ -23,24 +24,35 @@ use Rattle.oz_show.specs.declared.status.Status.{Status}
 use Rattle.oz_show.specs.declared.status.Status.TheVariants.{Quiescent, StepLimit, MessageLimit, Memory}
 use Rattle.oz_runner.specs.OzCall.{RunOutput}
 
--- `run` and `gen` run the program over sites, `central` on the machine alone: the first is said of sites, the second of the machine
+-- `run`, `gen` and `save` run the program over sites, and so was what `check` makes again; `central` runs it on the machine alone: the
+-- first is said of sites, the second of the machine
 abbrev pub OfSitesOrMachine : Action → Type 0 → Type 0 → Type 0
 OfSitesOrMachine action.Run OfSites OfMachine = OfSites
 OfSitesOrMachine action.Central OfSites OfMachine = OfMachine
 OfSitesOrMachine (action.Gen size) OfSites OfMachine = OfSites
+OfSitesOrMachine action.Save OfSites OfMachine = OfSites
+OfSitesOrMachine action.Check OfSites OfMachine = OfSites
 
--- the limits that the words set for the sites
+-- the run is a new one: with `check` it is a saved one, made again
+abbrev pub IsNew : Action → Type 0
+IsNew action.Run = Unit {0}
+IsNew action.Central = Unit {0}
+IsNew (action.Gen size) = Unit {0}
+IsNew action.Save = Unit {0}
+IsNew action.Check = ⊥
+
+-- the limits of the sites
 abbrev pub limits_of : Options → Limits
 limits_of options = record { sites = options.sites; steps = options.steps; messages = options.messages }
 
 -- what the sites made: the journal is one of the program on that many, and leads to these states of them; no turn but the last
--- ended it, and no site made more own steps than the words say; the schedule has its picks, and the lines are its; what a site
--- knows is an equation of the machine's, which the owner of its variable has
+-- ended it, and in a new run no site made more own steps than the words say; the schedule has its picks, and the lines are its; what a
+-- site knows is an equation of the machine's, which the owner of its variable has
 pub record IsMadeBySites (p : List Stmt) (options : Options) (made : RunOutput) (s : State) : Type 0 where
   pub states : ℕ → Site
   pub run : DistributedRun p options.sites bundle_limit made.journal states
   pub went : HasNoEarlierEnd (limits_of options) made.journal
-  pub within : AreWithin (limits_of options) made.journal
+  pub within : IsNew options.action → AreWithin (limits_of options) made.journal
   pub picks : made.schedule ≡ schedule made.journal
   pub lines : made.lines ≡ lines_in made.journal
   pub known : (i : ℕ) (e : Equation) → Contains (states i).equations e → Contains s.equations e × Contains (states e.0.site).equations e
@@ -76,13 +88,14 @@ pub record IsQuiet (p : List Stmt) (options : Options) (made : RunOutput) (s : S
   pub ended : told_ended ≡ s.ended
   pub waiting : told_waiting ≡ length s.threads
 
--- the run ended in this state, for this reason: the sites' run for the one that its journal tells
+-- a new run ended in this state, for this reason: the sites' run for the one that its journal tells
 pub record HasEnded (p : List Stmt) (options : Options) (made : RunOutput) (reason : Reason) (s : State) : Type 0 where
+  pub is_new : IsNew options.action
   pub run : IsRun p options made s
   pub ends : OfSitesOrMachine options.action (end_of (limits_of options) made.journal ≡ Some reason) (StopsFor p options made s reason)
 
--- The run of the program came to this status. Want of memory may come at any point of it; the lines are then those of the
--- schedule, as ever
+-- The run of the program came to this status. Want of memory may come at any point of it, also of one that is made again; the lines are
+-- then those of the schedule, as ever
 abbrev pub IsStatusOfRun : List Stmt → Options → RunOutput → Status → Type 0
 IsStatusOfRun p options made (Quiescent ended waiting) = (s : State) × HasEnded p options made Quiet s × IsQuiet p options made s ended waiting
 IsStatusOfRun p options made (StepLimit site) = (s : State) × HasEnded p options made (Steps site) s

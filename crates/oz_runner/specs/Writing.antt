@@ -5,8 +5,10 @@ use Rattle.oz_base.specs.Streams.{TakesFront}
 use Rattle.oz_show.specs.Status.{HasNumbers}
 use Rattle.oz_show.specs.declared.status.Status.{Status}
 use Rattle.oz_show.specs.declared.status.Status.TheVariants.{WriteFault, Memory}
+use Rattle.oz_runner.specs.declared.work.RunLines.{RunLines}
 use Rattle.oz_runner.specs.OzCall.{Stream}
 use Rattle.oz_runner.specs.Cause.{HasFault, HasNoFault}
+use Rattle.oz_runner.specs.Saving.{IsPlain}
 
 -- a write that fails makes the status WriteFault, but Memory stays
 abbrev pub after_fault : Status → Status
@@ -20,6 +22,6 @@ IsOutputTaken sink bytes worked status =
     ((status ≡ worked) × HasNoFault sink × Appends sink.bytes_before sink.bytes_after bytes)
     ⊎ ((status ≡ after_fault worked) × HasFault sink × TakesFront sink.bytes_before sink.bytes_after bytes)
 
--- the status that stands before the writing is that of the work, or Memory where no memory is left for the end line
-abbrev pub IsReportedAs : Status → Status → Type 0
-IsReportedAs status worked = (worked ≡ status) ⊎ (HasNumbers status × (worked ≡ Memory))
+-- the status that stands before the writing is that of the work, or Memory where no memory is left for the end line, which a saved run has
+abbrev pub IsReportedAs : RunLines → Status → Status → Type 0
+IsReportedAs lines status worked = (worked ≡ status) ⊎ (IsPlain lines × HasNumbers status × (worked ≡ Memory))

@@ -6,6 +6,7 @@ ghost use Rattle.oz_words.specs.declared.options.Action.TheVariants.{Central};
 ghost use Rattle.oz_runner.specs.Run.{IsStatusOfRun};
 ghost use Rattle.oz_runner.specs.Ends.{output_of_work};
 ghost use Rattle.oz_runner.specs.Machine.{machine_status};
+ghost use Rattle.oz_runner.specs.Saving.{IsPlain};
 
 use crate::Status;
 use crate::work::{RunLines, Work};
@@ -19,7 +20,8 @@ use std::alloc::Global;
 /// Runs a program on the centralised machine.
 pub fn run_machine(alloc: Global, options: Options, program: &Program) -> Work
     requires { InRange options }
-    ensures { options.action ≡ Central → IsStatusOfRun program.now options (output_of_work result) result.status }
+    ensures came { options.action ≡ Central → IsStatusOfRun program.now options (output_of_work result) result.status }
+    ensures plain { IsPlain result.printed }
 {
     let ran = run_program(alloc, program, options.steps);
     exchanges_are_a_chain();

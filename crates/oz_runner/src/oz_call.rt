@@ -2,24 +2,27 @@
 
 ghost use Rattle.std.specs.Prelude.{◌≡◌, ◌<◌, ◌++◌, ◌∷◌, List, [], ℕ, length, map, string_bytes};
 ghost use Rattle.oz_base.specs.Streams.{HandsInOnly};
-ghost use Rattle.oz_model.specs.Output.{output, pieces_of};
+ghost use Rattle.oz_model.specs.Output.{output};
 ghost use Rattle.oz_show.specs.Status.{end_line, HasLine};
 ghost use Rattle.oz_show.specs.declared.status.Status.TheVariants.{Memory};
 ghost use Rattle.world_journals.specs.Places.{ThreadsStayHome};
 ghost use Rattle.oz_runner.specs.Besides.{AreMessagesBounded, AreTokensServed};
 ghost use Rattle.oz_runner.specs.OzCall.{stream_of, oz_call_of, run_output_of};
 ghost use Rattle.oz_runner.specs.Complete.{IsGood, IsDone};
-ghost use Rattle.oz_runner.specs.Ends.{journal_of, lines_of};
+ghost use Rattle.oz_runner.specs.Ends.{journal_of};
 ghost use Rattle.oz_runner.specs.Headline.{Headline};
-ghost use Rattle.oz_runner.specs.Pieces.{IsRestOfOutput, IsWrittenByLine};
+ghost use Rattle.oz_runner.specs.Due.{IsRestOfDue, IsRestOfOutput, due_bytes};
+ghost use Rattle.oz_runner.specs.Pieces.{IsWrittenByLine};
+ghost use Rattle.oz_runner.specs.Saving.{IsRestOfWork, bytes_due, due_of};
 ghost use Rattle.oz_runner.specs.Writing.{IsOutputTaken, IsReportedAs, after_fault};
 
 use crate::work::{RunLines, Work, do_work, work_without_run};
-use crate::write::write_all;
+use crate::write::write_due;
 use crate::{Report, Status};
 use oz_base::{Sink, Source};
 use oz_show::{fixed_piece, last_line};
 use oz_sugar::texts_have_one_of_both;
+use run_file::bytes_save_or_fail;
 use site_message::Journal;
 use site_worker::Gate;
 use std::alloc::Global;
@@ -28,8 +31,9 @@ use std::thread::Threads;
 use world_journals::{requests_are_served, threads_stay_home};
 use world_simulation::{messages_are_few, runs_take_rows};
 
-/// Reads the words and a text, runs it, and writes its lines and the end line. `words` are the program's name and the
-/// words after it. Workers call the gate before each turn of a site.
+/// Reads the words and a text, runs it, and writes its lines and the end line, or with `save` the saved run; with `check` it reads a saved
+/// run in the place of a text, and has it made again. `words` are the program's name and the words after it. Workers call the gate before
+/// each turn of a site.
 pub fn oz<S: Source, K: Sink, G: Gate + Sync, R: Threads + Wait + Sync>(
     rt: &R,
     alloc: Global,
@@ -57,6 +61,7 @@ pub fn oz<S: Source, K: Sink, G: Gate + Sync, R: Threads + Wait + Sync>(
         result.journal result.schedule result.status (K.pieces sink.old) (K.pieces sink.new) }
 {
     texts_have_one_of_both();
+    bytes_save_or_fail();
     runs_take_rows();
     threads_stay_home();
     messages_are_few();
@@ -74,15 +79,18 @@ pub(crate) fn report_without_words<K: Sink>(alloc: Global, sink: &mut K) -> Repo
     report(alloc, sink, work_without_run(alloc, Status::Memory))
 }
 
-// Writes the lines of the work and its end line.
+// Writes the lines of the work and its end line, or its saved run.
 fn report<K: Sink>(alloc: Global, sink: &mut K, work: Work) -> Report
     requires { HasLine work.status }
-    ensures written { (worked : Status) × IsReportedAs work.status worked
-        × IsOutputTaken (stream_of K.taken K.faults sink.old sink.new) (output (lines_of work.printed) (end_line worked)) worked result.status
-        × HandsInOnly (K.pieces sink.old) (K.pieces sink.new) (IsRestOfOutput (lines_of work.printed) (end_line worked ++ 10 ∷ [])) }
+    ensures written { (worked : Status) × IsReportedAs work.printed work.status worked
+        × IsOutputTaken (stream_of K.taken K.faults sink.old sink.new) (due_bytes (due_of work.printed worked)) worked result.status
+        × HandsInOnly (K.pieces sink.old) (K.pieces sink.new) (IsRestOfDue (due_of work.printed worked)) }
     ensures journal { result.journal ≡ journal_of work.printed }
     ensures schedule { result.schedule ≡ work.schedule }
 {
+    if let RunLines::Saved(_, _) = &work.printed {
+        return finish(alloc, sink, work, b"");
+    }
     if let Some(end) = fixed_piece(work.status) {
         return finish(alloc, sink, work, end);
     }
@@ -110,11 +118,11 @@ fn out_of_memory(work: Work) -> Work
     }
 }
 
-// Writes lines and the piece of an end line.
+// Writes what is due, with the piece of an end line.
 fn finish<K: Sink>(alloc: Global, sink: &mut K, work: Work, end: &[u8]) -> Report
     ensures written { IsOutputTaken (stream_of K.taken K.faults sink.old sink.new)
-        (pieces_of (lines_of work.printed) ++ end.now) work.status result.status }
-    ensures pieces { HandsInOnly (K.pieces sink.old) (K.pieces sink.new) (IsRestOfOutput (lines_of work.printed) end.now) }
+        (bytes_due work.printed work.status end.now) work.status result.status }
+    ensures pieces { HandsInOnly (K.pieces sink.old) (K.pieces sink.new) (IsRestOfWork work.printed work.status end.now) }
     ensures journal { result.journal ≡ journal_of work.printed }
     ensures schedule { result.schedule ≡ work.schedule }
 {
@@ -123,7 +131,7 @@ fn finish<K: Sink>(alloc: Global, sink: &mut K, work: Work, end: &[u8]) -> Repor
         schedule,
         printed,
     } = work;
-    let status = match write_all(sink, &printed, end) {
+    let status = match write_due(sink, status, &printed, end) {
         Ok(()) => status,
         Err(_) => after_fault(status),
     };
@@ -140,7 +148,8 @@ fn into_journal(alloc: Global, printed: RunLines) -> Journal
 {
     match printed {
         RunLines::Sites(journal) => journal,
-        RunLines::Machine(_) => Journal::new(alloc),
+        RunLines::Saved(journal, _file) => journal,
+        RunLines::Machine(_lines) => Journal::new(alloc),
     }
 }
 

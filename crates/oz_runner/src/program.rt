@@ -2,6 +2,7 @@
 
 ghost use Rattle.std.specs.Prelude.{◌≡◌, ◌≤◌, Some};
 ghost use Rattle.site_message.specs.declared.reason.Reason.{Reason};
+ghost use Rattle.site_message.specs.Limits.{AreLimits};
 ghost use Rattle.site_message.specs.Journal.{AreWithin};
 ghost use Rattle.site_message.specs.EarlierEnd.{HasNoEarlierEnd};
 ghost use Rattle.message_book.specs.Book.{IsReason};
@@ -9,16 +10,16 @@ ghost use Rattle.world_model.specs.Schedule.{schedule, sum_to};
 ghost use Rattle.world_model.specs.Simulated.{last_ended, last_waiting};
 ghost use Rattle.world_core.specs.Laws.{HasRun, AreMessagesFew};
 ghost use Rattle.world_journals.specs.Places.{ThreadsStayHome};
-ghost use Rattle.plain_run.specs.Progress.{HasReason, limits_of};
+ghost use Rattle.plain_run.specs.Progress.{HasReason};
 ghost use Rattle.plain_run.specs.Rounds.{IsPlainRun};
 ghost use Rattle.plain_run.specs.Simulated.{HasMachineRun};
-ghost use Rattle.oz_runner.specs.Bounds.{AreBounds, limits_in};
+ghost use Rattle.tree_node.specs.declared.limits.TheConstants.{MOST_SITES};
 
 use kernel_syntax::Program;
 use message_book::Book;
-use plain_run::{DrivenRun, Limits, RunOut, finish_run, run_plain};
-use site_message::{History, Reason};
-use site_worker::{Gate, RunLimits, run_sites};
+use plain_run::{DrivenRun, RunOut, finish_run, run_plain};
+use site_message::{History, Limits, Reason};
+use site_worker::{Gate, run_sites};
 use std::alloc::Global;
 use std::sync::Wait;
 use std::thread::{Threads, available_parallelism};
@@ -30,32 +31,29 @@ pub fn run_program<G: Gate + Sync, R: Threads + Wait + Sync>(
     rt: &R,
     alloc: Global,
     program: &Program,
-    bounds: RunLimits,
+    limits: Limits,
+    workers: u32,
     gate: &G,
 ) -> RunOut
-    requires { AreBounds bounds }
-    ensures run { HasRun program.now bounds.sites result.journal }
-    ensures simulated { HasMachineRun program.now bounds.sites result.journal }
-    ensures few { AreMessagesFew program.now bounds.sites result.journal }
+    requires limits { AreLimits limits }
+    requires workers { workers ≤ MOST_SITES }
+    ensures run { HasRun program.now limits.sites result.journal }
+    ensures simulated { HasMachineRun program.now limits.sites result.journal }
+    ensures few { AreMessagesFew program.now limits.sites result.journal }
     ensures homes { ThreadsStayHome result.journal }
     ensures schedule { result.schedule ≡ schedule result.journal }
-    ensures reason { HasReason (limits_in bounds) result.journal result.reason }
-    ensures went { HasNoEarlierEnd (limits_of (limits_in bounds)) result.journal }
-    ensures within { AreWithin (limits_of (limits_in bounds)) result.journal }
-    ensures rounds { bounds.workers ≡ 0 → IsPlainRun program.now (limits_in bounds) result.journal }
-    ensures ended { result.ended ≡ sum_to bounds.sites (last_ended result.journal) }
-    ensures waiting { result.waiting ≡ sum_to bounds.sites (last_waiting result.journal) }
+    ensures reason { HasReason limits result.journal result.reason }
+    ensures went { HasNoEarlierEnd limits result.journal }
+    ensures within { AreWithin limits result.journal }
+    ensures rounds { workers ≡ 0 → IsPlainRun program.now limits result.journal }
+    ensures ended { result.ended ≡ sum_to limits.sites (last_ended result.journal) }
+    ensures waiting { result.waiting ≡ sum_to limits.sites (last_waiting result.journal) }
 {
-    let limits = Limits {
-        sites: bounds.sites,
-        steps: bounds.steps,
-        messages: bounds.messages,
-    };
     threads_stay_home();
-    if bounds.workers == 0 {
+    if workers == 0 {
         return run_plain(alloc, program, limits);
     }
-    let driven = drive_sites(rt, alloc, program, bounds, gate);
+    let driven = drive_sites(rt, alloc, program, limits, workers, gate);
     finish_run(program, limits, driven)
 }
 
@@ -64,18 +62,19 @@ fn drive_sites<G: Gate + Sync, R: Threads + Wait + Sync>(
     rt: &R,
     alloc: Global,
     program: &Program,
-    bounds: RunLimits,
+    limits: Limits,
+    workers: u32,
     gate: &G,
 ) -> DrivenRun
-    requires bounds { AreBounds bounds }
-    requires some { 1 ≤ bounds.workers }
-    ensures run { HasRun program.now bounds.sites result.history }
-    ensures reason { HasReason (limits_in bounds) result.history result.reason }
-    ensures went { HasNoEarlierEnd (limits_of (limits_in bounds)) result.history }
-    ensures within { AreWithin (limits_of (limits_in bounds)) result.history }
+    requires limits { AreLimits limits }
+    requires workers { (1 ≤ workers) × (workers ≤ MOST_SITES) }
+    ensures run { HasRun program.now limits.sites result.history }
+    ensures reason { HasReason limits result.history result.reason }
+    ensures went { HasNoEarlierEnd limits result.history }
+    ensures within { AreWithin limits result.history }
 {
-    let workers = bounds.workers.min(bounds.sites).min(most_workers(rt));
-    match run_sites(rt, alloc, program, RunLimits { workers, ..bounds }, gate) {
+    let workers = workers.min(limits.sites).min(most_workers(rt));
+    match run_sites(rt, alloc, program, limits, workers, gate) {
         Ok(book) => run_in_book(book),
         Err(_) => DrivenRun {
             history: History::new(alloc),

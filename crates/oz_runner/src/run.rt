@@ -2,8 +2,10 @@
 
 ghost use Rattle.std.specs.Prelude.{◌≡◌};
 ghost use Rattle.oz_words.specs.Words.{InRange};
-ghost use Rattle.oz_runner.specs.Run.{IsStatusOfRun};
-ghost use Rattle.oz_runner.specs.Ends.{IsOverSites, status_of, output_of_work};
+ghost use Rattle.oz_runner.specs.Run.{IsNew, IsStatusOfRun, limits_of};
+ghost use Rattle.oz_runner.specs.Checking.{status_after};
+ghost use Rattle.oz_runner.specs.Ends.{IsOverSites, journal_of, output_of_work, status_of};
+ghost use Rattle.oz_runner.specs.Saving.{IsPlain};
 
 use crate::Status;
 use crate::machine::run_machine;
@@ -13,8 +15,8 @@ use kernel_syntax::Program;
 use oz_model::{exchanges_are_a_chain, runs_are_determined};
 use oz_words::{Action, Options};
 use plain_run::RunOut;
-use site_message::{Reason, quiet_tells};
-use site_worker::{Gate, RunLimits};
+use site_message::{Limits, Reason, quiet_tells};
+use site_worker::Gate;
 use std::alloc::Global;
 use std::sync::Wait;
 use std::thread::Threads;
@@ -28,12 +30,15 @@ pub fn run<G: Gate + Sync, R: Threads + Wait + Sync>(
     program: &Program,
     gate: &G,
 ) -> Work
-    requires { InRange options }
-    ensures { IsStatusOfRun program.now options (output_of_work result) result.status }
+    requires range { InRange options }
+    requires new { IsNew options.action }
+    ensures came { IsStatusOfRun program.now options (output_of_work result) result.status }
+    ensures plain { IsPlain result.printed }
+    ensures after { IsOverSites options.action → result.status ≡ status_after (limits_of options) (journal_of result.printed) }
 {
     match options.action {
-        Action::Run | Action::Gen(_) => run_over_sites(rt, alloc, options, program, gate),
         Action::Central => run_machine(alloc, options, program),
+        _ => run_over_sites(rt, alloc, options, program, gate),
     }
 }
 
@@ -46,11 +51,12 @@ fn run_over_sites<G: Gate + Sync, R: Threads + Wait + Sync>(
     gate: &G,
 ) -> Work
     requires { InRange options }
-    ensures { IsOverSites options.action → IsStatusOfRun program.now options (output_of_work result) result.status }
+    ensures came { IsOverSites options.action → IsStatusOfRun program.now options (output_of_work result) result.status }
+    ensures plain { IsPlain result.printed }
+    ensures after { result.status ≡ status_after (limits_of options) (journal_of result.printed) }
 {
-    let bounds = RunLimits {
+    let limits = Limits {
         sites: options.sites,
-        workers: options.workers,
         steps: options.steps,
         messages: options.messages,
     };
@@ -60,7 +66,7 @@ fn run_over_sites<G: Gate + Sync, R: Threads + Wait + Sync>(
         waiting,
         journal,
         schedule,
-    } = run_program(rt, alloc, program, bounds, gate);
+    } = run_program(rt, alloc, program, limits, options.workers, gate);
     quiet_tells();
     program.is_program();
     runs_take_rows();
@@ -73,8 +79,8 @@ fn run_over_sites<G: Gate + Sync, R: Threads + Wait + Sync>(
     }
 }
 
-// The status of a run that ended for this reason.
-fn status_of(reason: Reason, ended: u64, waiting: u64) -> Status
+/// The status of a run that ended for this reason.
+pub fn status_of(reason: Reason, ended: u64, waiting: u64) -> Status
     ensures { result ≡ status_of reason ended waiting }
 {
     match reason {

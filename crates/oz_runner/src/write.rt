@@ -5,8 +5,10 @@ ghost use Rattle.oz_base.specs.Streams.{HasCause, HandsInOnly, TakesPiece};
 ghost use Rattle.oz_model.specs.Output.{pieces_of};
 ghost use Rattle.world_model.specs.Schedule.{lines_in};
 ghost use Rattle.oz_runner.specs.Ends.{lines_of};
-ghost use Rattle.oz_runner.specs.Pieces.{IsRestOfLine, IsRestOfOutput};
+ghost use Rattle.oz_runner.specs.Due.{IsRestOfLine, IsRestOfOutput};
+ghost use Rattle.oz_runner.specs.Saving.{IsRestOfWork, bytes_due};
 
+use crate::Status;
 use crate::work::RunLines;
 use oz_base::{Failed, Sink, write_piece};
 use site_message::Turn;
@@ -40,20 +42,22 @@ pub fn write_turns<K: Sink>(sink: &mut K, turns: &[Turn]) -> Result<(), Failed>
     Ok(())
 }
 
-/// Writes the lines of a run.
-pub fn write_run_lines<K: Sink>(sink: &mut K, printed: &RunLines) -> Result<(), Failed>
+// Writes the lines of a run.
+fn write_run_lines<K: Sink>(sink: &mut K, printed: &RunLines) -> Result<(), Failed>
     ensures bytes { TakesPiece (K.taken sink.old) (K.taken sink.new) result (pieces_of (lines_of printed.now)) }
     ensures pieces { HandsInOnly (K.pieces sink.old) (K.pieces sink.new) (IsRestOfLine (lines_of printed.now)) }
     ensures cause { HasCause (K.faults sink.old) (K.faults sink.new) result }
 {
     match printed {
-        RunLines::Sites(journal) => write_turns(sink, journal.oldest_first()),
+        RunLines::Sites(journal) | RunLines::Saved(journal, _) => {
+            write_turns(sink, journal.oldest_first())
+        }
         RunLines::Machine(lines) => write_lines(sink, lines),
     }
 }
 
-/// Writes the lines of a run and then the piece of the end line.
-pub fn write_all<K: Sink>(sink: &mut K, printed: &RunLines, end: &[u8]) -> Result<(), Failed>
+// Writes the lines of a run and then the piece of the end line.
+fn write_all<K: Sink>(sink: &mut K, printed: &RunLines, end: &[u8]) -> Result<(), Failed>
     ensures bytes { TakesPiece (K.taken sink.old) (K.taken sink.new) result (pieces_of (lines_of printed.now) ++ end.now) }
     ensures pieces { HandsInOnly (K.pieces sink.old) (K.pieces sink.new) (IsRestOfOutput (lines_of printed.now) end.now) }
     ensures cause { HasCause (K.faults sink.old) (K.faults sink.new) result }
@@ -62,4 +66,23 @@ pub fn write_all<K: Sink>(sink: &mut K, printed: &RunLines, end: &[u8]) -> Resul
         return Err(failed);
     }
     write_piece(sink, end)
+}
+
+/// Writes what is due: the saved run, if there is one, and nothing else; or the lines of the run, but none where an entry is wrong, and
+/// then the piece of the end line.
+pub fn write_due<K: Sink>(
+    sink: &mut K,
+    status: Status,
+    printed: &RunLines,
+    end: &[u8],
+) -> Result<(), Failed>
+    ensures bytes { TakesPiece (K.taken sink.old) (K.taken sink.new) result (bytes_due printed.now status end.now) }
+    ensures pieces { HandsInOnly (K.pieces sink.old) (K.pieces sink.new) (IsRestOfWork printed.now status end.now) }
+    ensures cause { HasCause (K.faults sink.old) (K.faults sink.new) result }
+{
+    match (printed, status) {
+        (RunLines::Saved(_, file), _) => write_piece(sink, file.as_slice()),
+        (_, Status::Wrong(_)) => write_piece(sink, end),
+        _ => write_all(sink, printed, end),
+    }
 }

@@ -1,7 +1,7 @@
 -- The end line of each status, and the number with which the program ends.
 use Rattle.std.specs.Prelude.{ℕ, zero, suc, List, [], ◌++◌, codes, decimal}
 use Rattle.oz_show.specs.declared.status.Status.{Status}
-use Rattle.oz_show.specs.declared.status.Status.TheVariants.{Quiescent, Usage, Refused, NotUtf8, TooLong, StepLimit, MessageLimit, ReadFault, WriteFault, Memory}
+use Rattle.oz_show.specs.declared.status.Status.TheVariants.{Quiescent, Usage, Refused, NotUtf8, TooLong, StepLimit, MessageLimit, ReadFault, WriteFault, Memory, Checked, Wrong, BadFile}
 use Rattle.oz_show.specs.Refusal.{fault_line}
 
 -- the end line of a status, without its newline; empty where writing failed, which has none
@@ -16,6 +16,9 @@ end_line MessageLimit = codes "stopped messages"
 end_line ReadFault = codes "read fault"
 end_line WriteFault = []
 end_line Memory = codes "out of memory"
+end_line (Checked entries picks) = codes "checked entries=" ++ decimal entries ++ codes " picks=" ++ decimal picks
+end_line (Wrong at) = codes "wrong entry=" ++ decimal at
+end_line (BadFile at) = codes "bad run file byte " ++ decimal at
 
 -- the exit code of a status
 abbrev pub status_number : Status → ℕ
@@ -30,6 +33,9 @@ status_number MessageLimit = 5
 status_number ReadFault = 6
 status_number WriteFault = 7
 status_number Memory = 8
+status_number (Checked entries picks) = 0
+status_number (Wrong at) = 9
+status_number (BadFile at) = 10
 
 -- all have an end line but the fault of writing, after which nothing more is written
 abbrev pub HasLine : Status → Type 0
@@ -42,4 +48,7 @@ HasNumbers (Quiescent ended waiting) = Unit {0}
 HasNumbers (Refused fault) = Unit {0}
 HasNumbers (NotUtf8 at) = Unit {0}
 HasNumbers (StepLimit site) = Unit {0}
+HasNumbers (Checked entries picks) = Unit {0}
+HasNumbers (Wrong at) = Unit {0}
+HasNumbers (BadFile at) = Unit {0}
 HasNumbers _ = ⊥

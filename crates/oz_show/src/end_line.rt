@@ -44,6 +44,11 @@ pub fn last_line(alloc: Global, status: &Status) -> Result<Line, AllocError>
         Status::ReadFault => String::from_str(alloc, "read fault")?,
         Status::WriteFault => String::new(alloc),
         Status::Memory => String::from_str(alloc, "out of memory")?,
+        Status::Checked { entries, picks } => {
+            format!(in alloc; "checked entries={entries} picks={picks}")?
+        }
+        Status::Wrong(at) => format!(in alloc; "wrong entry={at}")?,
+        Status::BadFile(at) => format!(in alloc; "bad run file byte {at}")?,
     };
     Ok(Line::from_vec(text.into_bytes())?)
 }

@@ -9,7 +9,8 @@
 //! lines, and keeps no other thread of its site from a turn; that the program takes words in memory, and reads nothing where there
 //! are none; that a sink is handed one line with its newline after the other; that two runs without workers print the same, and go
 //! by rounds of sites; that the gate is called with the turns of each site; that turns of two sites are under way at once; that what
-//! a site knows goes out with its messages.
+//! a site knows goes out with its messages; that runs have the saved runs of the table, that a check finds of other saved runs what the
+//! table says, and that what is saved of the examples, of a count at four sites and of runs that a limit ends is right.
 //!
 //! **They stand on** `oz_runner`, and on `oz_base` for sources and sinks in memory.
 #![tactic(auto)]
@@ -32,6 +33,8 @@ mod more_examples;
 mod pieces;
 #[cfg(test)]
 mod rows;
+#[cfg(test)]
+mod saved;
 #[cfg(test)]
 mod site_programs;
 #[cfg(test)]

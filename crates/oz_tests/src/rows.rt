@@ -496,7 +496,7 @@ pub static WIDE: [Worded; 2] = [
 ];
 
 // Words that are refused.
-pub static USAGE: [&[&str]; 28] = [
+pub static USAGE: [&[&str]; 31] = [
     &["gen"],
     &["gen", "0"],
     &["gen", "1001"],
@@ -507,6 +507,9 @@ pub static USAGE: [&[&str]; 28] = [
     &["4"],
     &["walk"],
     &["run", "central"],
+    &["save", "4"],
+    &["check", "4"],
+    &["save", "check"],
     &["--steps", "0"],
     &["--steps", "1000000001"],
     &["--steps", "many"],

@@ -98,7 +98,7 @@ rules_of_oz names =
     (number_rule sites_option)) (number_rule workers_option)) (number_rule steps_option)) (number_rule messages_option))
     (action_rule names)) (size_rule sizes)
 
--- `oz [--sites N] [--workers N] [--steps N] [--messages N] [run|central|gen] [NUMBER]`
+-- `oz [--sites N] [--workers N] [--steps N] [--messages N] [run|central|gen|save|check] [NUMBER]`
 abbrev pub oz_app : Bor (List (Bor Text)) → App
 oz_app names = record (rules_of_oz names) {
   top = record (rules_of_oz names).top {
@@ -109,7 +109,7 @@ oz_app names = record (rules_of_oz names) {
 
 -- the names of the actions
 abbrev pub action_names : List Text
-action_names = codes "run" ∷ codes "central" ∷ codes "gen" ∷ []
+action_names = codes "run" ∷ codes "central" ∷ codes "gen" ∷ codes "save" ∷ codes "check" ∷ []
 
 -- these are the names of the actions, wherever they lie
 abbrev pub AreActions : List (Bor Text) → Type 0

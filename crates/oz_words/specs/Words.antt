@@ -7,7 +7,7 @@ use Rattle.clap.specs.Words.{Row, Text, one_of}
 use Rattle.oz_words.specs.Command.{IsSize, IsWithin, sites_option, workers_option, steps_option, messages_option}
 use Rattle.oz_words.specs.Matches.{words_fault, words_rows}
 use Rattle.oz_words.specs.declared.options.Action.{Action}
-use Rattle.oz_words.specs.declared.options.Action.TheVariants.{Run, Central, Gen}
+use Rattle.oz_words.specs.declared.options.Action.TheVariants.{Run, Central, Gen, Save, Check}
 use Rattle.oz_words.specs.declared.options.ActionName.{ActionName}
 use Rattle.oz_words.specs.declared.options.ActionName.TheVariants as name
 use Rattle.oz_words.specs.declared.options.Options.{Options}
@@ -25,17 +25,22 @@ abbrev pub action_name : ActionName → Text
 action_name name.Run = codes "run"
 action_name name.Central = codes "central"
 action_name name.Gen = codes "gen"
+action_name name.Save = codes "save"
+action_name name.Check = codes "check"
 
 -- what reading an action's name gives
 abbrev pub NamesAction : Text → Result ActionName UnknownAction → Type 0
 NamesAction text (Ok action) = text ≡ action_name action
-NamesAction text (Err unknown) = (text ≢ codes "run") × (text ≢ codes "central") × (text ≢ codes "gen")
+NamesAction text (Err unknown) =
+    (text ≢ codes "run") × (text ≢ codes "central") × (text ≢ codes "gen") × (text ≢ codes "save") × (text ≢ codes "check")
 
 -- the action, by its name and the number behind it
 abbrev pub IsActionText : Option Text → Option Text → Action → Type 0
 IsActionText named number Run = named ≡ Some (codes "run")
 IsActionText named number Central = named ≡ Some (codes "central")
 IsActionText named number (Gen size) = (named ≡ Some (codes "gen")) × IsNumberText number size
+IsActionText named number Save = named ≡ Some (codes "save")
+IsActionText named number Check = named ≡ Some (codes "check")
 
 -- the action's word is `gen`
 abbrev pub is_gen : Option Text → Bool

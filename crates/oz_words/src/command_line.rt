@@ -9,7 +9,7 @@ use clap::builder::ValueParser;
 use clap::{Arg, ArgAction, Command, value_parser};
 use std::alloc::{AllocError, Global};
 
-static ACTIONS: [&str; 3] = ["run", "central", "gen"];
+static ACTIONS: [&str; 5] = ["run", "central", "gen", "save", "check"];
 
 // `--name N`, given at most once, with a default.
 fn option_of<'a>(alloc: Global, name: &'a str, parser: ValueParser<'a>, default: &'a str) -> Arg<'a>
@@ -67,7 +67,7 @@ fn bare_command<'a>(alloc: Global) -> Command<'a>
         .disable_version_flag(true)
 }
 
-/// The command that takes `oz [--sites N] [--workers N] [--steps N] [--messages N] [run|central|gen] [NUMBER]`:
+/// The command that takes `oz [--sites N] [--workers N] [--steps N] [--messages N] [run|central|gen|save|check] [NUMBER]`:
 ///
 /// - `--sites N`, the number of sites of a run, from 1 to 64; 4 where it is left out;
 /// - `--workers N`, the number of workers that drive the sites, from 0 to 64; 4 where it is left out;
@@ -75,7 +75,7 @@ fn bare_command<'a>(alloc: Global) -> Command<'a>
 ///   left out;
 /// - `--messages N`, the most messages that sites send to each other, from 0 to 4,000,000,000; 1,000,000 where it is left
 ///   out;
-/// - `run`, `central` or `gen`, what to run; `run` where it is left out;
+/// - `run`, `central`, `gen`, `save` or `check`, what to do; `run` where it is left out;
 /// - a number from 1 to 1,000 behind it. `read_options` refuses it without `gen`, and `gen` without it.
 ///
 /// Each is given at most once, and there is neither `--help` nor `--version`. The command borrows constants alone, so it

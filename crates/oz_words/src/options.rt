@@ -13,21 +13,26 @@ use clap::error::ErrorKind;
 use std::alloc::Global;
 use std::str::FromStr;
 
-/// What to run: the text of the source over its sites, or on the centralised machine; or the large text of this size, 1 to
-/// 1,000, over its sites.
+/// What to do: to run the text of the source over its sites, or on the centralised machine; or the large text of this size, 1 to
+/// 1,000, over its sites; to run the text of the source over its sites and save that run; or to have the saved run of the source made
+/// again.
 #[derive(Clone, Copy, Debug, PartialEq, Eq)]
 pub enum Action {
     Run,
     Central,
     Gen(u32),
+    Save,
+    Check,
 }
 
-/// The word that names what to run.
+/// The word that names what to do.
 #[derive(Clone, Copy, Debug, PartialEq, Eq)]
 pub(crate) enum ActionName {
     Run,
     Central,
     Gen,
+    Save,
+    Check,
 }
 
 /// A text that names no action.
@@ -44,6 +49,8 @@ impl FromStr for ActionName {
             "run" => Ok(ActionName::Run),
             "central" => Ok(ActionName::Central),
             "gen" => Ok(ActionName::Gen),
+            "save" => Ok(ActionName::Save),
+            "check" => Ok(ActionName::Check),
             _ => Err(UnknownAction),
         }
     }
@@ -51,7 +58,8 @@ impl FromStr for ActionName {
 
 /// What the words ask for: what to do, the number of sites, 1 to 64, the number of workers that drive them, 0 to 64, the most
 /// steps of each site, 1 to 1,000,000,000, and the most messages, 0 to 4,000,000,000. Without workers the sites take turns on
-/// the caller's thread. On the centralised machine there are no sites, workers and messages, and the steps are of the whole.
+/// the caller's thread. On the centralised machine there are no sites, workers and messages, and the steps are of the whole. A saved
+/// run that is made again has numbers of its own in the place of these.
 #[derive(Clone, Copy, Debug, PartialEq, Eq)]
 pub struct Options {
     pub sites: u32,
@@ -94,7 +102,7 @@ fn number_of(matches: &ArgMatches, name: &str) -> u64
     matches.get_one(name).unwrap()
 }
 
-// What to run: the action's name, and the number where it takes one.
+// What to do: the action's name, and the number where it takes one.
 fn action_in(matches: &ArgMatches) -> Result<Action, WordsError>
     requires name { HasValue matches.now (codes "action") (action_values (placeless_names action_names)) }
     requires size { MayHaveSize matches.now }
@@ -106,6 +114,8 @@ fn action_in(matches: &ArgMatches) -> Result<Action, WordsError>
         (ActionName::Run, None) => Ok(Action::Run),
         (ActionName::Central, None) => Ok(Action::Central),
         (ActionName::Gen, Some(size)) => Ok(Action::Gen(size as u32)),
+        (ActionName::Save, None) => Ok(Action::Save),
+        (ActionName::Check, None) => Ok(Action::Check),
         _ => Err(WordsError::Usage),
     }
 }

@@ -7,7 +7,8 @@ use Rattle.tree_node.specs.Each.{Each}
 use Rattle.kernel_syntax.specs.declared.stmt.Stmt.{Stmt}
 use Rattle.site_message.specs.declared.reason.Reason.{Reason}
 use Rattle.site_message.specs.declared.turn.Turn.{Turn}
-use Rattle.site_message.specs.Journal.{Limits, end_of, DeliversOnce}
+use Rattle.site_message.specs.declared.limits.Limits.{Limits}
+use Rattle.site_message.specs.Journal.{end_of, DeliversOnce}
 use Rattle.site_message.specs.EarlierEnd.{HasNoEarlierEnd}
 use Rattle.site_model.specs.Bundle.{bundle_limit}
 use Rattle.site_model.specs.Run.{WorldRun, SiteRun, IsEntry, IsReachedBy, IsRecordOf, delivered_message}

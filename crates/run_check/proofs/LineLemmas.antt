@@ -50,7 +50,7 @@ digits_line (suc k) base upper n acc h = by (n / base == 0) (digits_line k base 
     by true rest = more
     by false rest = rest
 
-decimal_line : (n : ℕ) → IsLine (decimal n)
+pub decimal_line : (n : ℕ) → IsLine (decimal n)
 unfolding digits
 decimal_line n = digits_line 64 10 false n [] refl
 

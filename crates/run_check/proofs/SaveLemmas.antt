@@ -11,7 +11,8 @@ use Rattle.site_message.specs.declared.message.Sent.{Sent}
 use Rattle.site_message.specs.declared.reason.Reason.{Reason}
 use Rattle.site_message.specs.declared.reason.Reason.TheVariants.{Messages}
 use Rattle.site_message.specs.declared.turn.Turn.{Turn}
-use Rattle.site_message.specs.Journal.{Limits, end_of, end_by, is_quiet, sent_of, DeliversOnce}
+use Rattle.site_message.specs.declared.limits.Limits.{Limits}
+use Rattle.site_message.specs.Journal.{end_of, end_by, is_quiet, sent_of, DeliversOnce}
 use Rattle.site_message.specs.EarlierEnd.{HasNoEarlierEnd}
 use Rattle.site_model.specs.Bundle.{bundle_limit}
 use Rattle.site_model.specs.Run.{WorldRun}
@@ -21,8 +22,8 @@ use Rattle.world_journals.proofs.PlaceLemmas.{units_are_always_named}
 use Rattle.run_file.specs.Field.{IsLine}
 use Rattle.run_file.specs.Fits.{IsThreadOf, IsNumber, IsEntryOf}
 use Rattle.run_file.specs.Saved.{greatest}
-use Rattle.run_file.specs.Writing.{entry_of}
-use Rattle.run_check.specs.Laws.{AreNumbered, RunsMayBeSaved}
+use Rattle.run_file.specs.Writing.{AreNumbered, entry_of}
+use Rattle.run_check.specs.Laws.{RunsMayBeSaved}
 use Rattle.run_check.proofs.AgainLemmas.{run_before}
 use Rattle.run_check.proofs.PrintLemmas.{printed_law}
 

@@ -8,7 +8,8 @@ use Rattle.site_message.specs.declared.message.Sent.{Sent}
 use Rattle.site_message.specs.declared.turn.Turn.{Turn}
 use Rattle.site_message.specs.declared.reason.Reason.{Reason}
 use Rattle.site_message.specs.EarlierEnd.{HasNoEarlierEnd}
-use Rattle.site_message.specs.Journal.{Limits, end_of, end_by, is_quiet, sent_of, IsTravelling, DeliversOnce, Wired}
+use Rattle.site_message.specs.declared.limits.Limits.{Limits}
+use Rattle.site_message.specs.Journal.{end_of, end_by, is_quiet, sent_of, IsTravelling, DeliversOnce, Wired}
 use Rattle.site_model.specs.Bundle.{bundle_limit}
 use Rattle.site_model.specs.Site.{Site, initial_site}
 use Rattle.site_model.specs.Run.{WorldRun, delivered_message}

@@ -4,7 +4,8 @@ use Rattle.kernel_syntax.specs.declared.stmt.Stmt.{Stmt}
 use Rattle.site_message.specs.declared.message.Sent.{Sent}
 use Rattle.site_message.specs.declared.reason.Reason.{Reason}
 use Rattle.site_message.specs.declared.turn.Turn.{Turn}
-use Rattle.site_message.specs.Journal.{Limits, end_of, IsTravelling, DeliversOnce}
+use Rattle.site_message.specs.declared.limits.Limits.{Limits}
+use Rattle.site_message.specs.Journal.{end_of, IsTravelling, DeliversOnce}
 use Rattle.site_model.specs.Run.{IsRecordOf, delivered_message}
 use Rattle.site_model.specs.Site.{Site, initial_site}
 use Rattle.site_model.specs.Transition.{Transition}

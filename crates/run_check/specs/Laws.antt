@@ -1,12 +1,11 @@
 -- What follows for all saved runs.
 use Rattle.std.specs.Prelude.{◌≡◌, ℕ, ◌≤◌, List, length, map, reverse}
-use Rattle.tree_node.specs.declared.limits.TheConstants.{MOST_MESSAGES, MOST_SITES}
-use Rattle.tree_node.specs.declared.names.ThreadName.{ThreadName}
+use Rattle.tree_node.specs.declared.limits.TheConstants.{MOST_MESSAGES, MOST_SITES, MOST_UNITS}
 use Rattle.tree_node.specs.Each.{Each}
 use Rattle.kernel_syntax.specs.declared.stmt.Stmt.{Stmt}
 use Rattle.kernel_syntax.specs.Program.{IsProgram}
 use Rattle.site_message.specs.declared.turn.Turn.{Turn}
-use Rattle.site_message.specs.Journal.{Limits}
+use Rattle.site_message.specs.declared.limits.Limits.{Limits}
 use Rattle.site_message.specs.EarlierEnd.{HasNoEarlierEnd}
 use Rattle.site_model.specs.Bundle.{bundle_limit}
 use Rattle.site_model.specs.Run.{WorldRun}
@@ -14,13 +13,12 @@ use Rattle.site_model.specs.Site.{Site}
 use Rattle.run_file.specs.declared.entry.Entry.{Entry}
 use Rattle.run_file.specs.Field.{IsLine}
 use Rattle.run_file.specs.Fits.{IsEntryOf}
-use Rattle.run_file.specs.Saved.{greatest}
-use Rattle.run_file.specs.Writing.{entry_of}
+use Rattle.run_file.specs.Writing.{AreNumbered, entry_of}
 use Rattle.run_check.specs.Again.{AreMadeAgain, IsWrongAt}
 
 -- an entry of one of n sites, of at most 64 units
 abbrev pub CanBeEntry : ℕ → Entry → Type 0
-CanBeEntry n e = (1 ≤ e.site) × (e.site ≤ n) × (length e.units ≤ 64)
+CanBeEntry n e = (1 ≤ e.site) × (e.site ≤ n) × (length e.units ≤ MOST_UNITS)
 
 -- entries of n sites that were made again are a run that nothing ended before its end
 abbrev pub MadeAgainIsRun : Type 0
@@ -56,11 +54,7 @@ RunsAreMadeAgain =
 -- no line that a run prints has a newline in it
 abbrev pub PrintedLinesAreLines : Type 0
 PrintedLinesAreLines =
-    (p : List Stmt) (n : ℕ) (j : List Turn) (w : ℕ → Site) → IsProgram p → 1 ≤ n → n ≤ 64 → WorldRun p n bundle_limit j w → Each (λ (e : Turn). Each IsLine e.lines) j
-
--- the threads of all units have numbers of 64 bits
-abbrev pub AreNumbered : List Turn → Type 0
-AreNumbered j = Each (λ (e : Turn). Each (λ (th : ThreadName). th.num ≤ greatest) e.units) j
+    (p : List Stmt) (n : ℕ) (j : List Turn) (w : ℕ → Site) → IsProgram p → 1 ≤ n → n ≤ MOST_SITES → WorldRun p n bundle_limit j w → Each (λ (e : Turn). Each IsLine e.lines) j
 
 -- the entries of a run that nothing ended before its end have a text, where the numbers of its threads have 64 bits
 abbrev pub RunsMayBeSaved : Type 0

@@ -1,7 +1,8 @@
 //! Entries of a saved run, made again.
 
 ghost use Rattle.std.specs.Prelude.{◌≡◌, ◌≢◌, ℕ, [], false, IfOk, IfErr, OnOk, OnErr, Option, None};
-ghost use Rattle.site_message.specs.Journal.{Limits, end_of};
+ghost use Rattle.site_message.specs.declared.limits.Limits.{Limits};
+ghost use Rattle.site_message.specs.Journal.{end_of};
 ghost use Rattle.site_message.specs.EarlierEnd.{HasNoEarlierEnd};
 ghost use Rattle.site_model.specs.Site.{initial_site};
 ghost use Rattle.world_core.specs.Laws.{HasRun, AreMessagesFew};
@@ -20,7 +21,7 @@ use std::alloc::Global;
 use world_core::{ReplayRefusal, World};
 
 // The most own steps of a site before a turn that is made again. No saved run comes near to it.
-const MOST_STEPS: u64 = 1 << 48;
+const MOST_STEPS_BEFORE: u64 = 1 << 48;
 
 /// Makes the entries of a saved run of the program again, one after another, up to the first that is wrong.
 pub fn make_again(alloc: Global, program: &Program, run: &RunFile) -> Again
@@ -121,7 +122,7 @@ fn replay(alloc: Global, world: &mut World<'_>, entry: &Entry) -> Result<(), Rep
     ensures next { (l : Limits) → l.sites ≡ world.old.sites → end_of l world.old.journal ≡ None → OnOk result (IsNext l world.old world.new entry.now) }
     ensures wrong { (l : Limits) → l.sites ≡ world.old.sites → IfErr result (λ r. r ≢ OutOfMemory → IsWrong world.old.program l world.old.journal (states_of world.old) entry.now) }
 {
-    if world.steps(entry.site) > MOST_STEPS {
+    if world.steps(entry.site) > MOST_STEPS_BEFORE {
         return Err(ReplayRefusal::Memory);
     }
     let place = place_for(world, entry.delivered)?;

@@ -7,7 +7,7 @@ use std::test::Fail;
 use tree_node::Line;
 
 // A status, its number, its last line, and the piece that takes no memory, where it has one.
-static STATUSES: [(Status, u8, &str, Option<&str>); 17] = [
+static STATUSES: [(Status, u8, &str, Option<&str>); 20] = [
     (
         Status::Quiescent {
             ended: 5,
@@ -104,6 +104,17 @@ static STATUSES: [(Status, u8, &str, Option<&str>); 17] = [
         "quiescent ended=18446744073709551615 waiting=20",
         None,
     ),
+    (
+        Status::Checked {
+            entries: 1,
+            picks: 7,
+        },
+        0,
+        "checked entries=1 picks=7",
+        None,
+    ),
+    (Status::Wrong(0), 9, "wrong entry=0", None),
+    (Status::BadFile(6), 10, "bad run file byte 6", None),
 ];
 
 fn line_of(alloc: Global, status: &Status) -> Result<Line, AllocError> {

@@ -1,3 +1,5 @@
+use Rattle.std.proofs.Common.{refl}
+use Rattle.oz_runner.specs.Ends.{output_of_work}
 use Rattle.oz_runner.specs.OzCall.{stream_of}
 use Rattle.oz_runner.proofs.CauseLemmas.{headline}
 use Rattle.oz_runner.proofs.CompleteLemmas.{complete}
@@ -9,7 +11,8 @@ returns-clause-pieces g c =
     let work = c.do_work-work in
     let told = c.report.ensures in
     let sink = stream_of g.K.Sink.taken g.K.Sink.faults c.args.sink.now c.report.new.sink in
-    headline _ _ _ _ _ _ _ _ _ told.journal told.schedule (work.ensures.cause sink) work.ensures.line told.written.1 told.written.2 told.written.3
+    headline _ (output_of_work work.result) work.result.printed _ _ _ _ _ _ _ told.journal told.schedule refl (work.ensures.cause sink) (work.ensures.due sink) work.ensures.line told.written.1 told.written.2
+    told.written.3
 
 pub returns-clause-headline : goal.returns-clause-headline
 returns-clause-headline g c =
@@ -19,7 +22,7 @@ returns-clause-headline g c =
 pub returns-clause-complete : goal.returns-clause-complete
 returns-clause-complete g c =
     let whole = returns-clause-headline g c in
-    complete _ _ _ c.texts_have_one_of_both.ensures.one_of_both whole.1.answered
+    complete _ _ _ c.texts_have_one_of_both.ensures.one_of_both c.bytes_save_or_fail.ensures.run c.bytes_save_or_fail.ensures.apart whole.1.answered
 
 pub returns-clause-homes : goal.returns-clause-homes
 returns-clause-homes g c =

@@ -1,11 +1,11 @@
-use Rattle.std.proofs.Common.{arith, subst, sym}
+use Rattle.std.proofs.Common.{◌∙◌, arith, subst, sym}
 use Rattle.site_model.specs.Bundle.{bundle_limit}
 use Rattle.oz_runner.specs.Run.{IsStatusOfRun}
-use Rattle.oz_runner.proofs.RunLemmas.{sites_came}
+use Rattle.oz_runner.proofs.RunLemmas.{sites_after, sites_came}
 use Rattle.oz_runner.proofs.run.run_over_sites.Goals as goal
 
-pub returns : goal.returns
-returns g c =
+pub returns-clause-came : goal.returns-clause-came
+returns-clause-came g c =
     let out = c.run_program-reason in
     λ is. subst (IsStatusOfRun _ _ _) (sym c.status_of.ensures)
     (sites_came c.args.program.now c.args.options out.result is c.quiet_tells.ensures c.runs_are_determined.ensures.end c.exchanges_are_a_chain.ensures.chains (record {
@@ -18,3 +18,8 @@ returns g c =
       ended = out.ensures.ended;
       waiting = out.ensures.waiting;
     }))
+
+pub returns-clause-after : goal.returns-clause-after
+returns-clause-after g c =
+    let out = c.run_program-reason in
+    c.status_of.ensures ∙ sites_after c.args.options out.result out.ensures.reason out.ensures.ended out.ensures.waiting

@@ -2,7 +2,7 @@ use Rattle.std.proofs.Common.{◌≡◌, take}
 use Rattle.std.specs.List.{flat_map}
 use Rattle.std.specs.Io.KnownBytes.{Appends}
 use Rattle.oz_base.specs.Streams.{HandsInOnly}
-use Rattle.oz_runner.specs.Pieces.{IsRestOfLine}
+use Rattle.oz_runner.specs.Due.{IsRestOfLine}
 use Rattle.oz_runner.proofs.Pieces.{line_piece}
 use Rattle.oz_runner.proofs.write.write_lines.Given as goal
 

@@ -3,7 +3,7 @@ use Rattle.std.specs.List.{flat_map}
 use Rattle.std.specs.Io.KnownBytes.{Appends}
 use Rattle.oz_base.specs.Streams.{HandsInOnly}
 use Rattle.world_model.specs.Schedule.{lines_in}
-use Rattle.oz_runner.specs.Pieces.{IsRestOfLine}
+use Rattle.oz_runner.specs.Due.{IsRestOfLine}
 use Rattle.oz_runner.proofs.Pieces.{turn_pieces}
 use Rattle.oz_runner.proofs.write.write_turns.Given as goal
 
