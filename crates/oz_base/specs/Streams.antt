@@ -42,6 +42,6 @@ HandsInOnly None new P = Unit {0}
 HandsInOnly (Some old) None P = ⊥
 HandsInOnly (Some old) (Some new) P = (more : List (List ℕ)) × (new ≡ old ++ more) × EachPiece P more
 
--- what is left of a piece behind a front of it
+-- a piece without some front of it: the piece, or a back of it, which may be empty
 abbrev pub IsRestOf : List ℕ → List ℕ → Type 0
 IsRestOf piece rest = (n : ℕ) × (rest ≡ drop n piece)

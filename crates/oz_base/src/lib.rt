@@ -8,8 +8,8 @@
 //! count of faults rises at each failed call and stands still at the others, and at its last value it
 //! stays). `read_text` gives the bytes of the source to its end, or more than the limit of them, and
 //! stops at the first fault (`text`: `ReadsText`; `cause`). `write_piece` writes all of a piece, or a
-//! front of it at the first fault (`bytes`: `TakesPiece`; `cause`), and hands the sink all that is left
-//! of it at each call (`pieces`, of a sink that tells them). `MemSource` and `MemSink` fail exactly
+//! front of it at the first fault (`bytes`: `TakesPiece`; `cause`), and hands the sink nothing but backs of
+//! it, whatever was taken (`pieces`, of a sink that tells them). `MemSource` and `MemSink` fail exactly
 //! at the calls whose numbers they are given (`fails`); `SteadySource` and `SteadySink` never do (`ok`,
 //! `whole`); `StdSource` and `StdSink` stand over a reader and a writer of std and tell the bytes that
 //! those tell, which of files and streams of the system are none.
