@@ -1,4 +1,3 @@
-pub mod Reversed
 pub mod Elements
 pub mod OrderLemmas
 pub mod Below

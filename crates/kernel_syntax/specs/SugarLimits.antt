@@ -1,6 +1,7 @@
 -- The limits of programs with sugar, where the text declares t identifiers around a place: what is used is declared, calls have
 -- their arguments, bodies a statement and statements a clause at least, and integers, atoms and features can be spelled.
 use Rattle.std.specs.Prelude.{◌≡◌, ℕ, ◌+◌, ◌<◌, ◌≤◌, length, map, IsTrue}
+use Rattle.tree_node.specs.declared.limits.TheConstants.{MOST_ITEMS}
 use Rattle.tree_node.specs.Each.{Each}
 use Rattle.tree_node.specs.declared.node.Feature.{Feature}
 use Rattle.kernel_syntax.specs.declared.stmt.Selector.TheVariants as selector
@@ -35,13 +36,13 @@ FitsOperation (operation.BuiltIn b) count t = count + 1 ≡ arity_of b
 
 -- a call has its arguments, an exception is one value
 abbrev pub FitsAction : Action → ℕ → ℕ → Type 0
-FitsAction (action.Call p) count t = (p < t) × (count ≤ 64)
+FitsAction (action.Call p) count t = (p < t) × (count ≤ MOST_ITEMS)
 FitsAction (action.BuiltIn b) count t = count ≡ arity_of b
 FitsAction action.Raise count t = count ≡ 1
 
 -- a pattern that a text can spell, of at most 64 fields
 abbrev pub FitsPattern : Pattern → Type 0
-FitsPattern p = IsPattern p × IsSpelledPattern p × (length (features_in p) ≤ 64)
+FitsPattern p = IsPattern p × IsSpelledPattern p × (length (features_in p) ≤ MOST_ITEMS)
 
 -- values and statements, lists of them, and clauses, whose patterns declare identifiers
 abbrev mutual
@@ -52,7 +53,7 @@ abbrev mutual
   FitsValue (sugar.Record left a slots vs) t =
       IsText a × AreFeatures (map (λ (s : Feature × Field). s.0) slots) × Each IsFeature (map (λ (s : Feature × Field). s.0) slots) × Each (λ (s : Feature × Field). FitsField t (new_in vs) s.1) slots × FitsValues vs t
   FitsValue (sugar.Apply left f vs) t = FitsOperation f (count_values vs) t × FitsValues vs t
-  FitsValue (sugar.Proc left count q) t = (count ≤ 64) × FitsStatements q (t + count)
+  FitsValue (sugar.Proc left count q) t = (count ≤ MOST_ITEMS) × FitsStatements q (t + count)
   FitsValue (sugar.Fun left count v) t = (count ≤ 63) × FitsValue v (t + count)
   FitsValue (sugar.If left e a b) t = FitsValue e t × FitsValue a t × FitsValue b t
   FitsValue (sugar.Case left e cs b) t = FitsValue e t × FitsValueClauses cs t × FitsValue b t
@@ -70,7 +71,7 @@ abbrev mutual
   FitsStatement (sugar.Skip left) t = Unit {0}
   FitsStatement (sugar.Tell left x v) t = (x < t) × FitsValue v t
   FitsStatement (sugar.Acts left a vs) t = FitsAction a (count_values vs) t × FitsValues vs t
-  FitsStatement (sugar.Local left count q) t = (1 ≤ count) × (count ≤ 64) × FitsStatements q (t + count)
+  FitsStatement (sugar.Local left count q) t = (1 ≤ count) × (count ≤ MOST_ITEMS) × FitsStatements q (t + count)
   FitsStatement (sugar.Thread left at q) t = IsThreadSite at × IsIntegerIfSome at × FitsStatements q t
   FitsStatement (sugar.IfStatement left e q r) t = FitsValue e t × FitsStatements q t × FitsStatements r t
   FitsStatement (sugar.CaseStatement left e cs r) t = FitsValue e t × FitsClauses cs t × FitsStatements r t × (1 ≤ count_clauses cs)

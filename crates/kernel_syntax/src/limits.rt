@@ -9,7 +9,7 @@ ghost use Rattle.kernel_syntax.specs.Program.{AreFeatures, IsPattern, IsThreadSi
 
 use crate::stmt::{Pattern, Stmt, features};
 use std::cmp::Ordering;
-use tree_node::{Feature, Integer, compare_features};
+use tree_node::{Feature, Integer, MOST_ITEMS, compare_features};
 
 /// Whether a statement is within its limits.
 pub fn is_stmt(stmt: &Stmt) -> bool
@@ -17,16 +17,16 @@ pub fn is_stmt(stmt: &Stmt) -> bool
 {
     match stmt {
         Stmt::Local { first, count, .. } => {
-            1 <= *count && *count <= 64 && *first as u64 + (*count as u64) < LIMIT
+            1 <= *count && *count <= MOST_ITEMS && *first as u64 + (*count as u64) < LIMIT
         }
         Stmt::TellRec { fields, .. } => are_fields(fields.as_slice()),
         Stmt::TellProc { first, count, .. } => {
-            *count <= 64 && *first as u64 + (*count as u64) < LIMIT
+            *count as u32 <= MOST_ITEMS && *first as u64 + (*count as u64) < LIMIT
         }
         Stmt::Case { pattern, first, .. } => {
             is_pattern(pattern) && fits_behind(*first, features(pattern))
         }
-        Stmt::Call { args, .. } => args.as_slice().len() <= 64,
+        Stmt::Call { args, .. } => args.as_slice().len() <= MOST_ITEMS as usize,
         Stmt::Thread { at, .. } => is_thread_site(at),
         Stmt::Try { first, .. } => *first as u64 + 1 < LIMIT,
         _ => true,
@@ -66,7 +66,7 @@ fn fits_behind(first: u32, features: &[Feature]) -> bool
 fn are_features(features: &[Feature]) -> bool
     ensures { IsTrue result ↔ AreFeatures features.now }
 {
-    1 <= features.len() && features.len() <= 64 && are_ascending(features)
+    1 <= features.len() && features.len() <= MOST_ITEMS as usize && are_ascending(features)
 }
 
 fn are_ascending(features: &[Feature]) -> bool
@@ -98,7 +98,7 @@ fn is_below(first: &Feature, other: &Feature) -> bool
 fn are_fields(fields: &[(Feature, u32)]) -> bool
     ensures { IsTrue result ↔ AreFeatures (map (λ (f : Feature × ℕ). f.0) fields.now) }
 {
-    1 <= fields.len() && fields.len() <= 64 && fields_ascend(fields)
+    1 <= fields.len() && fields.len() <= MOST_ITEMS as usize && fields_ascend(fields)
 }
 
 fn fields_ascend(fields: &[(Feature, u32)]) -> bool

@@ -1,6 +1,6 @@
 //! Whether a table is in preorder.
 
-ghost use Rattle.std.specs.Prelude.{◌≡◌, ◌↔◌, ℕ, ◌+◌, ◌<◌, ◌≤◌, ◌^◌, ◌++◌, ◌∷◌, [], map, IsTrue, IfOk, OnOk, IfSome, IfNone};
+ghost use Rattle.std.specs.Prelude.{◌≡◌, ◌↔◌, ℕ, ◌+◌, ◌<◌, ◌≤◌, ◌^◌, ◌++◌, map, IsTrue, IfOk, OnOk};
 ghost use Rattle.tree_node.specs.declared.names.CodeId.{CodeId};
 ghost use Rattle.tree_node.specs.declared.node.Feature.{Feature};
 ghost use Rattle.tree_node.specs.Each.{Each};
@@ -9,8 +9,8 @@ ghost use Rattle.kernel_syntax.specs.Program.{IsStmt};
 ghost use Rattle.kernel_syntax.specs.Preorder.{inner_body, sequence_body, bodies_in, DeclaresBehind, IsWholeSequence, IsBody, HasRoom, IsInPreorder};
 
 use crate::stmt::{Selector, Stmt, features};
-use std::alloc::{AllocError, Global};
-use std::marker::Model;
+use list_stack::Stack;
+use std::alloc::{AllocError, AllocFailed, Global};
 use tree_node::{CodeId, Feature};
 
 /// A body that is still to come: the number of its statement, how many levels of statements it may have, how many
@@ -23,97 +23,57 @@ pub struct Body {
     pub in_sequence: bool,
 }
 
-// Bodies that are still to come, the next one first.
-#[derive(Drop)]
-struct BodyStack {
-    last_first: Vec<Body>,
+// Puts the bodies of a statement before those that are still to come.
+fn put_bodies(coming: &mut Stack<Body>, owner: Body, stmt: &Stmt) -> Result<(), AllocFailed<Body>>
+    requires body { IsBody owner stmt.now }
+    requires stmt { IsStmt stmt.now }
+    requires room { HasRoom owner }
+    ensures { OnOk result (coming.new ≡ bodies_in owner stmt.now ++ coming.old) }
+{
+    match stmt {
+        Stmt::Seq(bodies) => put_sequence(coming, owner, bodies.as_slice()),
+        Stmt::Local { count, body, .. } => coming.push(inner_body(owner, *count, *body)),
+        Stmt::TellProc { count, body, .. } => coming.push(inner_body(owner, *count as u32, *body)),
+        Stmt::If { yes, no, .. } => {
+            coming.push(inner_body(owner, 0, *no))?;
+            coming.push(inner_body(owner, 0, *yes))
+        }
+        Stmt::Case {
+            pattern,
+            yes,
+            no,
+            ..
+        } => {
+            coming.push(inner_body(owner, 0, *no))?;
+            coming.push(inner_body(owner, features(pattern).len() as u32, *yes))
+        }
+        Stmt::Thread { body, .. } => coming.push(inner_body(owner, 0, *body)),
+        Stmt::Try { body, handler, .. } => {
+            coming.push(inner_body(owner, 1, *handler))?;
+            coming.push(inner_body(owner, 0, *body))
+        }
+        _ => Ok(()),
+    }
 }
 
-impl Model for BodyStack {
-    ghost use Rattle.std.specs.Prelude.{List, reverse};
-    ghost use Rattle.kernel_syntax.specs.declared.preorder.Body.{Body};
-
-    ghost Value = { List Body };
-
-    ghost view = { λ s. reverse s.last_first.items };
-}
-
-impl BodyStack {
-    // No bodies yet.
-    fn new(alloc: Global) -> BodyStack
-        ensures { result ≡ [] }
-    {
-        BodyStack {
-            last_first: Vec::new(alloc),
-        }
+// Puts the statements of a sequence before those that are still to come.
+fn put_sequence(
+    coming: &mut Stack<Body>,
+    owner: Body,
+    bodies: &[CodeId],
+) -> Result<(), AllocFailed<Body>>
+    ensures { OnOk result (coming.new ≡ map (sequence_body owner) bodies.now ++ coming.old) }
+{
+    let mut left = bodies.len();
+    while left > 0 {
+        left -= 1;
+        coming.push(Body {
+            code: bodies[left],
+            in_sequence: true,
+            ..owner
+        })?;
     }
-
-    // Puts a body before the others.
-    #[tactic(auto, using(crate::proofs::Reversed::put_before))]
-    fn put(&mut self, body: Body) -> Result<(), AllocError>
-        ensures { OnOk result (self.new ≡ body ∷ self.old) }
-    {
-        self.last_first.push(body)?;
-        Ok(())
-    }
-
-    // Takes the first.
-    #[tactic(auto, using(crate::proofs::Reversed::taken, crate::proofs::Reversed::none_left))]
-    fn take(&mut self) -> Option<Body>
-        ensures some { IfSome result (λ b. self.old ≡ b ∷ self.new) }
-        ensures none { IfNone result (self.old ≡ []) }
-    {
-        self.last_first.pop()
-    }
-
-    // Puts the bodies of a statement before the others.
-    fn put_bodies(&mut self, owner: Body, stmt: &Stmt) -> Result<(), AllocError>
-        requires body { IsBody owner stmt.now }
-        requires stmt { IsStmt stmt.now }
-        requires room { HasRoom owner }
-        ensures { OnOk result (self.new ≡ bodies_in owner stmt.now ++ self.old) }
-    {
-        match stmt {
-            Stmt::Seq(bodies) => self.put_sequence(owner, bodies.as_slice()),
-            Stmt::Local { count, body, .. } => self.put(inner_body(owner, *count, *body)),
-            Stmt::TellProc { count, body, .. } => self.put(inner_body(owner, *count as u32, *body)),
-            Stmt::If { yes, no, .. } => {
-                self.put(inner_body(owner, 0, *no))?;
-                self.put(inner_body(owner, 0, *yes))
-            }
-            Stmt::Case {
-                pattern,
-                yes,
-                no,
-                ..
-            } => {
-                self.put(inner_body(owner, 0, *no))?;
-                self.put(inner_body(owner, features(pattern).len() as u32, *yes))
-            }
-            Stmt::Thread { body, .. } => self.put(inner_body(owner, 0, *body)),
-            Stmt::Try { body, handler, .. } => {
-                self.put(inner_body(owner, 1, *handler))?;
-                self.put(inner_body(owner, 0, *body))
-            }
-            _ => Ok(()),
-        }
-    }
-
-    // Puts the statements of a sequence before the others.
-    fn put_sequence(&mut self, owner: Body, bodies: &[CodeId]) -> Result<(), AllocError>
-        ensures { OnOk result (self.new ≡ map (sequence_body owner) bodies.now ++ self.old) }
-    {
-        let mut left = bodies.len();
-        while left > 0 {
-            left -= 1;
-            self.put(Body {
-                code: bodies[left],
-                in_sequence: true,
-                ..owner
-            })?;
-        }
-        Ok(())
-    }
+    Ok(())
 }
 
 // A body of a statement that declares so many identifiers for it.
@@ -135,17 +95,17 @@ pub fn is_in_preorder(alloc: Global, stmts: &[Stmt]) -> Result<bool, AllocError>
     requires { Each IsStmt stmts.now }
     ensures { IfOk result (λ b. IsTrue b ↔ IsInPreorder stmts.now) }
 {
-    let mut coming = BodyStack::new(alloc);
-    coming.put(WHOLE)?;
+    let mut coming = Stack::new(alloc);
+    coming.push(WHOLE)?;
     for (number, stmt) in stmts.iter().enumerate() {
-        match coming.take() {
+        match coming.pop() {
             Some(body) if body.code.0 as usize == number && is_body(body, stmt) => {
-                coming.put_bodies(body, stmt)?;
+                put_bodies(&mut coming, body, stmt)?;
             }
             _ => return Ok(false),
         }
     }
-    Ok(coming.take().is_none())
+    Ok(coming.pop().is_none())
 }
 
 // The whole program.

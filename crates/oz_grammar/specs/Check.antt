@@ -1,5 +1,6 @@
 -- What is wrong in a derivation: its first fault in the order of its symbols, if it has one.
 use Rattle.std.specs.Prelude.{ℕ, ◌+◌, List, [], ◌∷◌, ◌++◌, length, Option, Some, None}
+use Rattle.tree_node.specs.declared.limits.TheConstants.{MOST_ITEMS}
 use Rattle.oz_grammar.specs.declared.symbol.Symbol.{Symbol}
 use Rattle.oz_grammar.specs.declared.symbol.Symbol.TheVariants as t
 use Rattle.kernel_syntax.specs.declared.built_in.BuiltIn.{BuiltIn}
@@ -44,13 +45,13 @@ check_value (Selects y s) scope rest behind = first_fault (use_fault scope y) (v
 check_value (Pairs h u) scope rest behind = first_fault (use_fault scope h) (value_text (Pairs h u) rest) (first_fault (use_fault scope u) (t.Variable u ∷ rest) behind)
 check_value (ToInt n) scope rest behind = first_fault (number_fault n) (t.Integer n ∷ rest) behind
 check_value (ToAtom a) scope rest behind = behind
-check_value (ToRecord a fs) scope rest behind = check_fields purpose.Use scope 64 [] 1 fs (t.CloseRound ∷ rest) behind
+check_value (ToRecord a fs) scope rest behind = check_fields purpose.Use scope MOST_ITEMS [] 1 fs (t.CloseRound ∷ rest) behind
 
 -- an integer pattern's number; a variable is given once in a pattern
 abbrev pub check_pattern : Pattern → Scope → List Symbol → Option Fault → Option Fault
 check_pattern (IntPattern n) scope rest behind = first_fault (number_fault n) (t.Integer n ∷ rest) behind
 check_pattern (AtomPattern a) scope rest behind = behind
-check_pattern (RecordPattern a fs) scope rest behind = check_fields purpose.Declare scope 64 [] 1 fs (t.CloseRound ∷ rest) behind
+check_pattern (RecordPattern a fs) scope rest behind = check_fields purpose.Declare scope MOST_ITEMS [] 1 fs (t.CloseRound ∷ rest) behind
 check_pattern (PairPattern h u) scope rest behind = first_fault (where_so (has_name (h ∷ []) u) Twice) (t.Variable u ∷ rest) behind
 
 -- further names of a `local`, behind others

@@ -1,5 +1,6 @@
 -- What is wrong at a token besides the grammar, in the order in which it is answered: Number, Site, Deep, Wide, Twice, Unbound.
 use Rattle.std.specs.Prelude.{ℕ, zero, suc, List, ◌∷◌, length, Bool, true, false, nat_lt, Option, Some, None, ℤ, pos, int_lt}
+use Rattle.tree_node.specs.declared.limits.TheConstants.{MOST_ITEMS}
 use Rattle.oz_grammar.specs.declared.symbol.Symbol.{Symbol}
 use Rattle.oz_grammar.specs.declared.symbol.Symbol.TheVariants as t
 use Rattle.oz_grammar.specs.declared.symbol.Purpose.{Purpose}
@@ -49,7 +50,7 @@ use_fault scope x = where_not (is_declared scope x) Unbound
 
 -- one more item, where there are so many
 abbrev pub count_fault : ℕ → Option FaultKind
-count_fault n = where_not (nat_lt n 64) Wide
+count_fault n = where_not (nat_lt n MOST_ITEMS) Wide
 
 -- the name first in a call
 abbrev pub called_fault : Option BuiltIn → Scope → Identifier → Option FaultKind

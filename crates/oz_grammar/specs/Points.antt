@@ -1,6 +1,7 @@
 -- The points of the grammar: what is expected at each, which symbols go on from it and to which points, and what is wrong
 -- at a symbol there. A list of points, the next first, is what a program must still give behind some symbols.
 use Rattle.std.specs.Prelude.{ℕ, zero, suc, ◌+◌, List, [], ◌∷◌, ◌++◌, length, Bool, true, false, if◌then◌else◌, Option, Some, None, ℤ}
+use Rattle.tree_node.specs.declared.limits.TheConstants.{MOST_ITEMS}
 use Rattle.oz_grammar.specs.declared.symbol.Symbol.{Symbol}
 use Rattle.oz_grammar.specs.declared.symbol.Symbol.TheVariants as t
 use Rattle.oz_grammar.specs.declared.symbol.Sign.{Sign}
@@ -185,7 +186,7 @@ next_variable c scope d symbol = next_stmt Later c scope d symbol
 
 -- behind the atom of a right side: at an opening bracket, or at what follows the tell
 abbrev pub next_atom : Closer → Scope → ℕ → Symbol → Option (List Point)
-next_atom c scope d t.OpenRound = Some (FieldOf purpose.Use scope d 64 [] 1 ∷ At Later c scope d ∷ [])
+next_atom c scope d t.OpenRound = Some (FieldOf purpose.Use scope d MOST_ITEMS [] 1 ∷ At Later c scope d ∷ [])
 next_atom c scope d symbol = next_stmt Later c scope d symbol
 
 -- behind a dot
@@ -235,7 +236,7 @@ next_pattern scope d symbol = None
 
 -- behind the atom of a pattern: at an opening bracket, or at `then`
 abbrev pub next_behind_pattern : Scope → ℕ → Symbol → Option (List Point)
-next_behind_pattern scope d t.OpenRound = Some (FieldOf purpose.Declare scope d 64 [] 1 ∷ [])
+next_behind_pattern scope d t.OpenRound = Some (FieldOf purpose.Declare scope d MOST_ITEMS [] 1 ∷ [])
 next_behind_pattern scope d t.Then = Some (At First closer.Else scope d ∷ [])
 next_behind_pattern scope d symbol = None
 

@@ -1,6 +1,7 @@
 -- How symbols are read from the left: the value and the symbols behind it, or the first fault. A reader's code follows
 -- these clause by clause; that they give the program or the first fault of the symbols is a law.
 use Rattle.std.specs.Prelude.{ℕ, zero, suc, ◌+◌, ◌-◌, List, [], ◌∷◌, ◌++◌, length, Bool, true, false, if◌then◌else◌, slice_set, slice_get, unwrap_or, insert, map, drop, Result, Ok, Err, Option, Some, None, ℤ}
+use Rattle.tree_node.specs.declared.limits.TheConstants.{MOST_ITEMS}
 use Rattle.tree_node.specs.declared.names.CodeId.{CodeId}
 use Rattle.kernel_syntax.specs.declared.stmt.Stmt.{Stmt}
 use Rattle.kernel_syntax.specs.declared.stmt.Stmt.TheVariants as stmt
@@ -107,7 +108,7 @@ fields_at p scope (suc room) before next symbols =
 
 -- what may follow an atom
 abbrev pub record_at : ℕ → List ℕ → Scope → List Symbol → Result (Stmt × List Symbol) Fault
-record_at left a scope (t.OpenRound ∷ rest) = fields_at purpose.Use scope 64 [] 1 rest >>= λ m. Ok (record_row left a (slots_of scope m.0), m.1)
+record_at left a scope (t.OpenRound ∷ rest) = fields_at purpose.Use scope MOST_ITEMS [] 1 rest >>= λ m. Ok (record_row left a (slots_of scope m.0), m.1)
 record_at left a scope rest = Ok (stmt.TellAtom left a, rest)
 
 -- the right side of a tell, where it is no procedure
@@ -266,7 +267,7 @@ pair_pattern_at h symbols = fault_expected what.Variable symbols
 
 -- what may follow the atom of a pattern
 abbrev pub record_pattern_at : List ℕ → Scope → List Symbol → Result PatternOut Fault
-record_pattern_at a scope (t.OpenRound ∷ rest) = fields_at purpose.Declare scope 64 [] 1 rest >>= λ m. Ok (record_pattern a (features_in m.0), names_in m.0, m.1)
+record_pattern_at a scope (t.OpenRound ∷ rest) = fields_at purpose.Declare scope MOST_ITEMS [] 1 rest >>= λ m. Ok (record_pattern a (features_in m.0), names_in m.0, m.1)
 record_pattern_at a scope rest = Ok (pattern.Atom a, [], rest)
 
 -- a pattern of any form

@@ -1,6 +1,7 @@
 //! Lists of names that are declared.
 
 ghost use Rattle.std.specs.Prelude.{◌≡◌, ◌+◌, ◌<◌, ◌≤◌, [], length, vec_len, IfOk};
+ghost use Rattle.tree_node.specs.declared.limits.TheConstants.{MOST_ITEMS};
 ghost use Rattle.oz_grammar.specs.Faults.{count_fault, formal_fault};
 ghost use Rattle.oz_grammar.specs.Reading.{locals_at, first_local_at, formals_at};
 ghost use Rattle.oz_phrases.specs.ReadAnswers.{IsReadAs};
@@ -9,13 +10,13 @@ use crate::fields::has_name;
 use crate::stop::{Read, Stop, fault, mismatch};
 use oz_grammar::{FaultKind, Symbol, What};
 use std::alloc::Global;
-use tree_node::Text;
+use tree_node::{MOST_ITEMS, Text};
 
 /// What is wrong with one item more than so many.
 pub fn count_fault(count: usize) -> Option<FaultKind>
     ensures { result ≡ count_fault count }
 {
-    if count < 64 {
+    if count < MOST_ITEMS as usize {
         None
     } else {
         Some(FaultKind::Wide)
@@ -24,10 +25,10 @@ pub fn count_fault(count: usize) -> Option<FaultKind>
 
 /// The names of a `local` behind those before, up to `in`.
 fn locals<'t>(mut names: Vec<Text>, symbols: &'t [Symbol]) -> Read<'t, Vec<Text>>
-    requires { vec_len names ≤ 64 }
+    requires { vec_len names ≤ MOST_ITEMS }
     ensures read { IsReadAs (λ x. (x.0.items, x.1.now)) result (locals_at names.items symbols.now) }
     ensures shorter { IfOk result (λ x. vec_len x.0 + length x.1.now < vec_len names + length symbols.now) }
-    ensures count { IfOk result (λ x. vec_len x.0 ≤ 64) }
+    ensures count { IfOk result (λ x. vec_len x.0 ≤ MOST_ITEMS) }
 {
     let mut rest = symbols;
     loop {
@@ -49,7 +50,7 @@ fn locals<'t>(mut names: Vec<Text>, symbols: &'t [Symbol]) -> Read<'t, Vec<Text>
 pub fn first_local<'t>(alloc: Global, symbols: &'t [Symbol]) -> Read<'t, Vec<Text>>
     ensures read { IsReadAs (λ x. (x.0.items, x.1.now)) result (first_local_at symbols.now) }
     ensures shorter { IfOk result (λ x. vec_len x.0 + length x.1.now < length symbols.now) }
-    ensures count { IfOk result (λ x. vec_len x.0 ≤ 64) }
+    ensures count { IfOk result (λ x. vec_len x.0 ≤ MOST_ITEMS) }
 {
     match symbols {
         [Symbol::Variable(name), rest @ ..] => {
@@ -80,7 +81,7 @@ fn formal_fault(names: &[Text], name: &Text) -> Option<FaultKind>
 pub fn formals<'t>(alloc: Global, symbols: &'t [Symbol]) -> Read<'t, Vec<Text>>
     ensures read { IsReadAs (λ x. (x.0.items, x.1.now)) result (formals_at [] symbols.now) }
     ensures shorter { IfOk result (λ x. vec_len x.0 + length x.1.now < length symbols.now) }
-    ensures count { IfOk result (λ x. vec_len x.0 ≤ 64) }
+    ensures count { IfOk result (λ x. vec_len x.0 ≤ MOST_ITEMS) }
 {
     let mut names = Vec::new(alloc);
     let mut rest = symbols;

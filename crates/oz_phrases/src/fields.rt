@@ -1,6 +1,7 @@
 //! The fields of records and patterns.
 
 ghost use Rattle.std.specs.Prelude.{◌≡◌, ◌+◌, ◌<◌, ◌≤◌, ◌^◌, [], map, drop, length, vec_len, IfOk, OnOk, insert};
+ghost use Rattle.tree_node.specs.declared.limits.TheConstants.{MOST_ITEMS};
 ghost use Rattle.oz_grammar.specs.Scoping.{has_feature, has_name, names_in, with_field, feature_of};
 ghost use Rattle.oz_grammar.specs.Faults.{feature_fault, name_fault, placed_fault, feature_token_fault};
 ghost use Rattle.oz_grammar.specs.Table.{slots_of, features_in};
@@ -14,7 +15,9 @@ use crate::signs::sign;
 use crate::stop::{Read, Stop, fault, mismatch};
 use oz_grammar::{FaultKind, Numeral, Purpose, Sign, Symbol, What};
 use std::alloc::{AllocError, Global};
-use tree_node::{Feature, Integer, Text, compare_features, copy_feature, equal_feature};
+use tree_node::{
+    Feature, Integer, MOST_ITEMS, Text, compare_features, copy_feature, equal_feature,
+};
 
 /// Whether some field has a feature.
 fn has_feature(fields: &[(Feature, Text)], feature: &Feature) -> bool
@@ -269,11 +272,11 @@ pub fn fields<'t>(
     scope: &Scope,
     symbols: &'t [Symbol],
 ) -> Read<'t, Vec<(Feature, Text)>>
-    ensures read { IsReadAs (λ x. (x.0.items, x.1.now)) result (fields_at purpose scope.now 64 [] 1 symbols.now) }
+    ensures read { IsReadAs (λ x. (x.0.items, x.1.now)) result (fields_at purpose scope.now MOST_ITEMS [] 1 symbols.now) }
     ensures shorter { IfOk result (λ x. vec_len x.0 + length x.1.now < length symbols.now) }
 {
     let mut fields = Vec::new(alloc);
-    let mut room: u32 = 64;
+    let mut room: u32 = MOST_ITEMS;
     let mut next: u32 = 1;
     let mut rest = symbols;
     loop {

@@ -8,6 +8,7 @@ ghost use Rattle.oz_grammar.specs.Canonical.{name_at, names_from, feature_token,
 ghost use Rattle.kernel_syntax.specs.Scopes.{features_in};
 
 use kernel_syntax::Pattern;
+use list_stack::Stack;
 use oz_grammar::{Numeral, Symbol};
 use std::alloc::{AllocError, Global};
 use std::marker::Model;
@@ -16,16 +17,16 @@ use tree_node::{Feature, Text};
 /// Symbols with the next one at the front: each is put before those that stand there.
 #[derive(Drop)]
 pub struct Symbols {
-    last_first: Vec<Symbol>,
+    symbols: Stack<Symbol>,
 }
 
 impl Model for Symbols {
-    ghost use Rattle.std.specs.Prelude.{List, reverse};
+    ghost use Rattle.std.specs.Prelude.{List};
     ghost use Rattle.oz_grammar.specs.declared.symbol.Symbol.{Symbol};
 
     ghost Value = { List Symbol };
 
-    ghost view = { λ s. reverse s.last_first.items };
+    ghost view = { λ s. s.symbols };
 }
 
 impl Symbols {
@@ -34,26 +35,24 @@ impl Symbols {
         ensures { result ≡ [] }
     {
         Symbols {
-            last_first: Vec::new(alloc),
+            symbols: Stack::new(alloc),
         }
     }
 
     /// Puts a symbol before the others.
-    #[tactic(auto, using(kernel_syntax::proofs::Reversed::put_before))]
     pub fn put(&mut self, symbol: Symbol) -> Result<(), AllocError>
         ensures { OnOk result (self.new ≡ symbol ∷ self.old) }
     {
-        self.last_first.push(symbol)?;
+        self.symbols.push(symbol)?;
         Ok(())
     }
 
     /// Takes the first.
-    #[tactic(auto, using(kernel_syntax::proofs::Reversed::taken, kernel_syntax::proofs::Reversed::none_left))]
     pub fn take(&mut self) -> Option<Symbol>
         ensures some { IfSome result (λ s. self.old ≡ s ∷ self.new) }
         ensures none { IfNone result ((self.old ≡ []) × (self.new ≡ [])) }
     {
-        self.last_first.pop()
+        self.symbols.pop()
     }
 
     /// Puts the identifier at a position.

@@ -19,11 +19,11 @@ thread_of s = record { site = s.site; num = s.num }
 abbrev pub units_of : Stint → List ThreadName
 units_of s = in_a_row s.count (thread_of s)
 
--- of one with small numbers
+-- the thread of each unit of a stint with small numbers
 abbrev pub small_units : SmallStint → List ThreadName
 small_units s = in_a_row s.count (record { site = s.site; num = s.num })
 
--- those of units that are kept as stints
+-- the threads of all units that are kept as stints, in order
 abbrev pub threads_in : Stints → List ThreadName
 threads_in (One count site num) = in_a_row count (record { site = site; num = num })
 threads_in (Small row) = flat_map small_units row.value.items

@@ -7,7 +7,8 @@ use std::alloc::{AllocError, Global};
 use std::marker::Model;
 use tree_node::ThreadName;
 
-// Units of one thread, one after another: how many they are, and the thread's name.
+// A run of units, as in run-length coding, here called a stint since a run is that of a whole program: how many units of one thread
+// follow one another, and the thread's name.
 #[derive(Clone, Copy)]
 pub(crate) struct Stint {
     count: u16,
@@ -71,8 +72,8 @@ pub(crate) enum Stints {
     Large(Box<Vec<Stint>>),
 }
 
-/// The thread of each unit of a turn, in order, which contracts see as a list. Units of one thread that follow one another take
-/// no memory of their own, and those of a turn of one thread take none at all.
+/// The thread of each unit of a turn, in order, which contracts see as a list. Those of one `push_row` are kept together, and take
+/// no memory for each; those of a turn of one thread take none at all. `push` counts on only while all units are of one thread.
 #[derive(Drop)]
 pub struct Units {
     stints: Stints,
@@ -230,7 +231,7 @@ fn two_stints(alloc: Global, first: Stint, next: Stint) -> Result<Stints, AllocE
 fn two<T: Drop>(alloc: Global, first: T, next: T) -> Result<Box<Vec<T>>, AllocError>
     ensures { IfOk result (λ row. row.value.items ≡ first ∷ next ∷ []) }
 {
-    // Six small stints fill the least piece of memory that an allocator hands out.
+    // Room for some more: six small stints are 24 bytes.
     let mut row = Vec::with_capacity(alloc, 6)?;
     row.push(first)?;
     row.push(next)?;

@@ -29,7 +29,7 @@ IsTurnOf p n limit ths s m d =
 
 -- of these units, which are at most 64
 abbrev pub SiteTurnOf : List Stmt → ℕ → ℕ → List ThreadName → Site → Option Msg → Transition → Type 0
-SiteTurnOf p n limit ths s m d = (length ths ≤ 64) × IsTurnOf p n limit ths s m d
+SiteTurnOf p n limit ths s m d = (length ths ≤ MOST_UNITS) × IsTurnOf p n limit ths s m d
 
 -- of some at most 64 units
 abbrev pub SiteTurn : List Stmt → ℕ → ℕ → Site → Option Msg → Transition → Type 0

@@ -1,5 +1,6 @@
 -- What is wrong in a derivation with sugar: its first fault in the order of its symbols, if it has one.
 use Rattle.std.specs.Prelude.{ℕ, ◌+◌, List, [], ◌∷◌, ◌++◌, Option, Some, None}
+use Rattle.tree_node.specs.declared.limits.TheConstants.{MOST_ITEMS}
 use Rattle.tree_node.specs.declared.node.Feature.{Feature}
 use Rattle.kernel_syntax.specs.declared.built_in.BuiltIn.{BuiltIn}
 use Rattle.oz_grammar.specs.declared.symbol.Symbol.{Symbol}
@@ -25,7 +26,7 @@ levels_behind p d = fewer d
 
 -- the most arguments of a call: what is built in has its number of them, by the grammar
 abbrev pub most_arguments : Option BuiltIn → ℕ → ℕ
-most_arguments (Some b) most = 64
+most_arguments (Some b) most = MOST_ITEMS
 most_arguments None most = most
 
 -- Each of the following takes what stands behind, rest, and the first fault that is found there, behind.
@@ -43,7 +44,7 @@ abbrev mutual
   check_primary (Integer n) scope d holder rest behind = first_fault (value_fault scope d holder (t.Integer n)) (primary_text (Integer n) rest) behind
   check_primary (Atom a) scope d holder rest behind = first_fault (value_fault scope d holder (t.Atom a)) (primary_text (Atom a) rest) behind
   check_primary (Record a fs) scope d holder rest behind =
-      first_fault (value_fault scope d holder (t.Atom a)) (primary_text (Record a fs) rest) (check_fields fs scope (fewer d) 64 [] 1 (t.CloseRound ∷ rest) behind)
+      first_fault (value_fault scope d holder (t.Atom a)) (primary_text (Record a fs) rest) (check_fields fs scope (fewer d) MOST_ITEMS [] 1 (t.CloseRound ∷ rest) behind)
   check_primary (Calls p vs) scope d holder rest behind =
       first_fault (value_fault scope d holder t.OpenCurly) (primary_text (Calls p vs) rest)
       (first_fault (called_fault (built_in_at scope p) scope p) (t.Variable p ∷ arguments_text vs (t.CloseCurly ∷ rest))
@@ -114,7 +115,7 @@ abbrev mutual
   check_statement (CallsStatement p vs) scope d rest behind =
       first_fault (deep_fault d) (statement_text (CallsStatement p vs) rest)
       (first_fault (called_fault (built_in_at scope p) scope p) (t.Variable p ∷ arguments_text vs (t.CloseCurly ∷ rest))
-      (check_arguments vs scope d 0 (most_arguments (built_in_at scope p) 64) (t.CloseCurly ∷ rest) behind))
+      (check_arguments vs scope d 0 (most_arguments (built_in_at scope p) MOST_ITEMS) (t.CloseCurly ∷ rest) behind))
   check_statement (Raises v) scope d rest behind = first_fault (deep_fault d) (statement_text (Raises v) rest) (check_value v scope d None (t.End ∷ rest) behind)
   check_statement (Locals x xs q) scope d rest behind =
       first_fault (deep_fault d) (statement_text (Locals x xs q) rest)

@@ -2,6 +2,7 @@
 -- wrong at a symbol there. A list of points, the next first, is what a program must still give behind some symbols.
 use Rattle.std.specs.Prelude.{ℕ, zero, suc, ◌+◌, ◌-◌, List, [], ◌∷◌, ◌++◌, length, nat_lt, Bool, if◌then◌else◌, Option, Some, None}
 use Rattle.std.specs.List.{list_any}
+use Rattle.tree_node.specs.declared.limits.TheConstants.{MOST_ITEMS}
 use Rattle.tree_node.specs.declared.node.Feature.{Feature}
 use Rattle.tree_node.specs.Goal.{equal_feature}
 use Rattle.kernel_syntax.specs.declared.built_in.BuiltIn.{BuiltIn}
@@ -167,7 +168,7 @@ next_behind extent scope d r symbol = None
 
 -- behind an atom: an opening bracket makes it a label
 abbrev pub next_atom : Extent → Scope → ℕ → Symbol → Option (List Point)
-next_atom extent scope d t.OpenRound = Some (FieldOf scope (fewer d) 64 [] 1 ∷ Behind extent scope d (fewer d) ∷ [])
+next_atom extent scope d t.OpenRound = Some (FieldOf scope (fewer d) MOST_ITEMS [] 1 ∷ Behind extent scope d (fewer d) ∷ [])
 next_atom extent scope d symbol = next_behind extent scope d (fewer d) symbol
 
 -- behind a field without a feature
@@ -196,7 +197,7 @@ abbrev pub next_call : CallUse → Scope → ℕ → Option BuiltIn → List Poi
 next_call AsValue scope d (Some b) = Wanted scope d (arity_of b - 1) ∷ []
 next_call AsStatement scope d (Some b) = Wanted scope d (arity_of b) ∷ []
 next_call AsValue scope d None = Arguments scope d 0 63 ∷ []
-next_call AsStatement scope d None = Arguments scope d 0 64 ∷ []
+next_call AsStatement scope d None = Arguments scope d 0 MOST_ITEMS ∷ []
 
 -- at an argument of a procedure behind n others, or at the closing bracket
 abbrev pub next_argument : Scope → ℕ → ℕ → ℕ → Symbol → Option (List Point)
@@ -223,7 +224,7 @@ next_pattern b scope d symbol = None
 
 -- behind the atom of a pattern: at an opening bracket, or at `then`
 abbrev pub next_behind_pattern : Branch → Scope → ℕ → Symbol → Option (List Point)
-next_behind_pattern b scope d t.OpenRound = Some (PatternField b scope d 64 [] 1 ∷ [])
+next_behind_pattern b scope d t.OpenRound = Some (PatternField b scope d MOST_ITEMS [] 1 ∷ [])
 next_behind_pattern b scope d t.Then = Some (clause_points b scope scope d)
 next_behind_pattern b scope d symbol = None
 
@@ -386,7 +387,7 @@ statement_fault scope d symbol = stmt_fault scope d symbol
 
 -- the most formals: the last of a function's procedure is its result
 abbrev pub most_formals : Callable → ℕ
-most_formals OfProc = 64
+most_formals OfProc = MOST_ITEMS
 most_formals OfFun = 63
 
 -- a formal behind others

@@ -1,6 +1,7 @@
 -- How symbols with sugar are read from the left: the tree and the symbols behind it, or the first fault. A reader's code follows
 -- these clause by clause; that they give the tree or the first fault of the symbols is a law.
 use Rattle.std.specs.Prelude.{ℕ, zero, suc, ◌+◌, ◌-◌, List, [], ◌∷◌, ◌++◌, length, Bool, true, false, if◌then◌else◌, drop, Result, Ok, Err, Option, Some, None}
+use Rattle.tree_node.specs.declared.limits.TheConstants.{MOST_ITEMS}
 use Rattle.tree_node.specs.declared.node.Feature.{Feature}
 use Rattle.kernel_syntax.specs.declared.stmt.Pattern.{Pattern}
 use Rattle.kernel_syntax.specs.declared.built_in.BuiltIn.{BuiltIn}
@@ -88,7 +89,7 @@ wanted_of AsStatement b = arity_of b
 -- how many arguments of a procedure there may be
 abbrev pub most_of_call : CallUse → ℕ
 most_of_call AsValue = 63
-most_of_call AsStatement = 64
+most_of_call AsStatement = MOST_ITEMS
 
 -- what is called, by its name: what is built in, or the identifier; and the arguments
 abbrev pub Called : Type 0
@@ -154,7 +155,7 @@ fields_at value scope (suc room) before symbols =
 
 -- behind an atom: the fields of a record, if a bracket opens them
 abbrev pub atom_at : ValueReader → Scope → ℕ → List ℕ → List Symbol → Read Value
-atom_at value scope left a (t.OpenRound ∷ rest) = fields_at value scope 64 ([], no_values, 1) rest >>= λ m. Ok (record_value left a m.0.0 m.0.1, m.1)
+atom_at value scope left a (t.OpenRound ∷ rest) = fields_at value scope MOST_ITEMS ([], no_values, 1) rest >>= λ m. Ok (record_value left a m.0.0 m.0.1, m.1)
 atom_at value scope left a symbols = Ok (sugar.Atom left a, symbols)
 
 -- a value in round brackets, behind the first

@@ -9,14 +9,14 @@ use oz_grammar::{FaultKind, Symbol, What};
 use oz_phrases::{Read, fault, has_name, mismatch};
 use std::alloc::Global;
 use surface_grammar::Callable;
-use tree_node::Text;
+use tree_node::{MOST_ITEMS, Text};
 
 /// How many formals there may be: the last of a function's procedure is its result.
 fn most_formals(callable: Callable) -> usize
     ensures { result ≡ most_formals callable }
 {
     match callable {
-        Callable::OfProc => 64,
+        Callable::OfProc => MOST_ITEMS as usize,
         Callable::OfFun => 63,
     }
 }

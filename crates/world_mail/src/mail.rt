@@ -3,6 +3,7 @@
 ghost use Rattle.std.specs.Prelude.{◌≡◌, ℕ, ◌+◌, ◌^◌, ◌<◌, ◌≤◌, ◌≢◌, [], ◌∷◌, ◌++◌, length, map, IsTrue, ◌↔◌, Some, None, slice_get, Contains, nat_eq, IfOk, OnOk, OnErr, MatchOption};
 ghost use Rattle.std.specs.List.{enumerate_from, IsDistinct};
 ghost use Rattle.std.specs.Map.{keys_of};
+ghost use Rattle.tree_node.specs.declared.limits.TheConstants.{MOST_SITES};
 ghost use Rattle.indexmap.specs.IndexMap.{spare};
 ghost use Rattle.world_mail.specs.Travels.{travel_of, IsNoneFor, IsFirstFor, IsAt, IsPlaceOf};
 ghost use Rattle.world_mail.specs.Mail.{is_queued, with_bit, without_bit, message_at, with_message, without_message, queue_at, AreBelow};
@@ -40,7 +41,7 @@ impl Model for Mail {
 impl Mail {
     /// No messages, and a queue for each place up to the number of sites.
     pub fn new(alloc: Global, sites: u32) -> Result<Mail, AllocError>
-        requires { sites ≤ 64 }
+        requires { sites ≤ MOST_SITES }
         ensures queues { IfOk result (λ m. m.queues ≡ sites + 1) }
         ensures empty { IfOk result (λ m. m.messages ≡ []) }
     {
@@ -134,7 +135,7 @@ impl Mail {
 
 // A queue for each place from 0 to the number of sites.
 fn empty_queues(alloc: Global, sites: u32) -> Result<Vec<Queue>, AllocError>
-    requires { sites ≤ 64 }
+    requires { sites ≤ MOST_SITES }
     ensures length { IfOk result (λ qs. length qs.items ≡ sites + 1) }
     ensures empty { IfOk result (λ qs. (i : ℕ) → queue_at qs.items i ≡ []) }
 {

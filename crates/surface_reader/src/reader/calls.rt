@@ -16,6 +16,7 @@ use kernel_syntax::sugar::{Statement, Value};
 use oz_grammar::{FaultKind, Symbol, What};
 use oz_phrases::{Stop, arity_of, built_in_at, close, mismatch, position_or_zero, used_variable};
 use surface_grammar::CallUse;
+use tree_node::MOST_ITEMS;
 
 /// What is called, by its name: what is built in, or the position of an identifier; and the arguments.
 #[derive(Drop)]
@@ -41,7 +42,7 @@ fn most_of_call(call: CallUse) -> u32
 {
     match call {
         CallUse::AsValue => 63,
-        CallUse::AsStatement => 64,
+        CallUse::AsStatement => MOST_ITEMS,
     }
 }
 

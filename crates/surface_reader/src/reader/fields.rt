@@ -1,6 +1,7 @@
 //! The fields of records.
 
 ghost use Rattle.std.specs.Prelude.{◌≡◌, ◌≤◌, ◌+◌, ◌<◌, ◌^◌, [], length, OnOk};
+ghost use Rattle.tree_node.specs.declared.limits.TheConstants.{MOST_ITEMS};
 ghost use Rattle.kernel_syntax.specs.Sugar.{no_values};
 ghost use Rattle.kernel_syntax.specs.SugarView.{value_of};
 ghost use Rattle.oz_grammar.specs.Table.{features_in};
@@ -17,7 +18,7 @@ use crate::trees::{Fields, add_field, is_given, no_fields, place_feature, record
 use kernel_syntax::sugar::{Field, Value};
 use oz_grammar::{FaultKind, Symbol, What};
 use oz_phrases::{Stop, fault};
-use tree_node::{Feature, Integer, Text};
+use tree_node::{Feature, Integer, MOST_ITEMS, Text};
 
 /// What is wrong with one more field of this feature, where there is room for so many.
 fn given_fault(room: u32, slots: &[(Feature, Field)], feature: &Feature) -> Option<FaultKind>
@@ -53,11 +54,11 @@ impl<'t> Reader<'t> {
     #[cycle(reader)]
     #[tactic(auto, using(crate::proofs::Unfold::fields_none, crate::proofs::Unfold::fields_some))]
     fn fields(&mut self, depth: u32) -> Result<Fields, Stop>
-        ensures read { IsReadAs (λ f. (so_far f.slots.items f.values.items f.next, self.new.rest)) result (fields_at (read_value depth) self.old.scope 64 ([], no_values, 1) self.old.rest) }
+        ensures read { IsReadAs (λ f. (so_far f.slots.items f.values.items f.next, self.new.rest)) result (fields_at (read_value depth) self.old.scope MOST_ITEMS ([], no_values, 1) self.old.rest) }
         ensures moves { OnOk result (IsBehind self.old self.new) }
     {
         let mut fields = no_fields(self.alloc);
-        let mut room: u32 = 64;
+        let mut room: u32 = MOST_ITEMS;
         loop {
             if is_close_round(self.rest) {
                 self.advance();

@@ -11,7 +11,7 @@ loop-number-preserved c =
     let is = c.if-is_body.ensures.0 refl in
     record {
       stmts = limits.1;
-      room = room_behind c.in-Some.body c.take.new.self c.loop-number.coming c.put_bodies.new.self c.index-stmts-number.result c.in-Some.ensures.some c.in_ok-put_bodies-in-Some.ensures limits.0 is c.loop-number.invariant.room;
-      ahead = goes_behind c.args.stmts.now c.loop-number.number c.in-Some.body c.take.new.self c.loop-number.coming c.put_bodies.new.self c.index-stmts-number.result at c.in-Some.ensures.some c.in_ok-put_bodies-in-Some.ensures
+      room = room_behind c.in-Some.body c.pop.new.self c.loop-number.coming c.put_bodies.new.coming c.index-stmts-number.result c.in-Some.ensures c.in_ok-put_bodies-in-Some.ensures limits.0 is c.loop-number.invariant.room;
+      ahead = goes_behind c.args.stmts.now c.loop-number.number c.in-Some.body c.pop.new.self c.loop-number.coming c.put_bodies.new.coming c.index-stmts-number.result at c.in-Some.ensures c.in_ok-put_bodies-in-Some.ensures
           c.if-body-number.true is c.loop-number.invariant.ahead;
     }
