@@ -129,7 +129,7 @@ bind_before_rest n b bs h is = record {
 
 -- ---- the picks
 
-same_pick : (t u : ThreadName) (f g : List Name) (a b : Option Equation) → t ≡ u → f ≡ g → a ≡ b → ◌≡◌ {A = Pick} (record { thread = t; fresh = f; bind = a }) (record { thread = u; fresh = g; bind = b })
+pub same_pick : (t u : ThreadName) (f g : List Name) (a b : Option Equation) → t ≡ u → f ≡ g → a ≡ b → ◌≡◌ {A = Pick} (record { thread = t; fresh = f; bind = a }) (record { thread = u; fresh = g; bind = b })
 same_pick t u f g a b p q r = cc
 
 pub picks_same : (c d : Columns) (n : ℕ) →
