@@ -1,4 +1,5 @@
 pub mod RoundLemmas
+pub mod RunLemmas
 pub mod ProgressLemmas
 pub mod ReachLemmas
 pub mod SpawnLemmas

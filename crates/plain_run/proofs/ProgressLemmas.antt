@@ -12,19 +12,28 @@ use Rattle.site_message.proofs.JournalLemmas.{travelling_tells}
 use Rattle.site_message.proofs.TravelLemmas.{messages_add_up}
 use Rattle.site_model.specs.Bundle.{bundle_limit}
 use Rattle.site_model.specs.Site.{Site, is_idle}
-use Rattle.site_model.specs.Run.{WorldRun, SiteRun, delivered_message}
-use Rattle.site_model.specs.Turn.{IsFullTurn, IsFullTurnOf}
+use Rattle.site_model.specs.Run.{WorldRun, delivered_message}
+use Rattle.site_model.specs.Turn.{IsFullTurn}
+use Rattle.site_core.specs.Site.{IsTurnInOrder}
 use Rattle.world_model.specs.Schedule.{sum_to}
 use Rattle.world_mail.specs.declared.travel.Travel.{Travel}
 use Rattle.world_mail.specs.Travels.{IsNoneFor, IsFirstFor}
 use Rattle.world_core.specs.Travels.{AreTravels, IsNumberAt}
-use Rattle.world_core.specs.World.{WorldState, IsWorldTurn, states_of}
+use Rattle.world_core.specs.World.{WorldState, IsWorldTurn, IsWorldTurnInOrder, states_of, orders_of}
 use Rattle.plain_run.specs.Counts.{runnable_count}
-use Rattle.plain_run.specs.Progress.{IsGoing, IsLimitedTurn, IsAtEase, IsBusy, IsFirstBusy, IsNextBusy, IsProgress, turns_left, steps_left}
-use Rattle.plain_run.specs.Rounds.{HasNothingToDo, IsLowestFor, ComesBefore, IsPlainTurn, IsPlainRun, last_site}
+use Rattle.plain_run.specs.Progress.{IsGoing, IsLimitedTurn, IsAtEase, IsBusy, IsFirstBusy, IsNextBusy, IsProgress, turns_left, standing_of, steps_left}
+use Rattle.plain_run.specs.Rounds.{HasNothingToDo, IsLowestFor, ComesBefore, IsPlainTurn, IsPlainRun, LeadsTo, most_units, last_site}
 use Rattle.plain_run.proofs.StepLemmas.{turn_steps, turn_goes_on}
 use Rattle.plain_run.proofs.RoundLemmas.{lowest_is, nothing_to_do, something_to_do}
 use Rattle.world_core.proofs.QuietLemmas.{at_contains}
+use Rattle.world_core.proofs.ReplayLemmas.{same_entry}
+
+-- a run that goes on is a plain one, and so it is after a turn
+pub going_plain : (l : Limits) (p : List Stmt) (w : WorldState) → IsGoing l p w → IsPlainRun p l w.journal
+going_plain l p w going = (standing_of w, going.rounds)
+
+pub turn_plain : (l : Limits) (p : List Stmt) (old new : WorldState) (site : ℕ) → IsLimitedTurn l p old new site → IsPlainRun p l new.journal
+turn_plain l p old new site t = (standing_of new, t.rounds)
 
 pub on_ok : {A E : Type 0} (r : Result A E) (P : Type 0) → is_err r ≡ false → OnOk r P → P
 on_ok (Ok x) P e h = h
@@ -110,8 +119,8 @@ module _ (l : Limits) (p : List Stmt) (old new : WorldState) (site quantum : ℕ
 
   -- each site keeps within its limit of own steps, and is idle where it is there
   pub made : new.program ≡ old.program → new.sites ≡ old.sites → new.spent ≡ false → AreTravels old.journal old.travels → MatchOption place (IsNoneFor old.travels site) (λ q. IsFirstFor old.travels site q) →
-      IsNextBusy old l.sites (last_site l.sites old.journal) site → IsLimitedTurn l p old new site
-  made program sites live travels found next = record {
+      IsNextBusy old l.sites (last_site l.sites old.journal) site → IsWorldTurnInOrder old new site → IsLimitedTurn l p old new site
+  made program sites live travels found next ordered = record {
     entry = t.entry;
     journal = t.journal;
     at = t.site_is;
@@ -125,28 +134,36 @@ module _ (l : Limits) (p : List Stmt) (old new : WorldState) (site quantum : ℕ
     kept = subst (AreWithin l) (sym t.journal) (subst (λ n. n ≤ l.steps) (sym entry_steps) here_within, going.kept);
     idle = λ i other full. idle i (t.others i (λ (e : i ≡ site). other (t.site_is ∙ sym e))) full;
     went = subst (HasNoEarlierEnd l) (sym t.journal) (going.went, going.goes_on);
-    rounds = subst (IsPlainRun p l) (sym t.journal) (going.rounds, plain);
+    rounds = subst (λ (j : List Turn). LeadsTo p l j (standing_of new)) (sym t.journal) (standing_of old, going.rounds, plain);
     last = ap (last_site l.sites) t.journal ∙ t.site_is;
   }
     where
       in_limits : (P : List Stmt → ℕ → Type 0) → P old.program old.sites → P p l.sites
       in_limits P h = subst (λ (q : List Stmt). P q l.sites) going.program (subst (λ (n : ℕ). P old.program n) going.sites h)
 
-      plain : IsPlainTurn p l old.journal t.entry
+      at_entry : (P : ℕ → Type 0) → P site → P t.entry.site
+      at_entry P h = subst P (sym t.site_is) h
+
+      in_order : IsTurnInOrder old.program old.sites (states_of old site) (delivered_message old.journal t.entry.delivered) t.entry (states_of new site) (orders_of old site) (orders_of new site)
+      in_order =
+          subst (λ (e : Turn). IsTurnInOrder old.program old.sites (states_of old site) (delivered_message old.journal e.delivered) e (states_of new site) (orders_of old site) (orders_of new site))
+          (same_entry ordered.entry t.entry old.journal old.journal (sym ordered.journal ∙ t.journal)) ordered.turn
+
+      rests : length t.entry.units < most_units l (standing_of old) site → is_idle (states_of new site) ≡ true
+      rests less = subst (λ (s : Site). is_idle s ≡ true) (sym t.turn.3) (t.turn.1.2 (subst (λ (u : ℕ). length t.entry.units < u) (sym units) less))
+
+      plain : IsPlainTurn p l old.journal (standing_of old) t.entry (standing_of new)
       plain = record {
         some = subst (λ (i : ℕ). 1 ≤ i) (sym t.site_is) low;
         among = subst (λ (i : ℕ). i ≤ l.sites) (sym t.site_is) high;
         busy = subst (λ (i : ℕ). HasNothingToDo old.journal i → ⊥) (sym t.site_is) (something_to_do old going.run site travels next.2);
         first = λ k a b comes. nothing_to_do old going.run k (next.3 k a b (subst (λ (i : ℕ). ComesBefore (last_site l.sites old.journal) k i) t.site_is comes));
         lowest = subst (λ (i : ℕ). IsLowestFor old.journal i t.entry.delivered) (sym t.site_is) (lowest_is old.journal old.travels site place t.entry.delivered travels found t.delivered);
-        full = (
-          states_of old site,
-          t.turn.0,
-          subst (λ (i : ℕ). SiteRun p l.sites bundle_limit i old.journal (states_of old site)) (sym t.site_is) (in_limits (λ q n. SiteRun q n bundle_limit site old.journal (states_of old site)) (going.run.runs site)),
-          in_limits (λ q n. IsFullTurnOf q n bundle_limit (min (l.steps - (states_of old site).steps) 64) t.entry.units (states_of old site) (delivered_message old.journal t.entry.delivered) t.turn.0)
-              (subst (λ (u : ℕ). IsFullTurnOf old.program old.sites bundle_limit u t.entry.units (states_of old site) (delivered_message old.journal t.entry.delivered) t.turn.0) units t.turn.1),
-          t.turn.2,
-        );
+        most = at_entry (λ i. length t.entry.units ≤ most_units l (standing_of old) i) (subst (λ (u : ℕ). length t.entry.units ≤ u) units t.turn.1.1);
+        full = at_entry (λ i. length t.entry.units < most_units l (standing_of old) i → is_idle (states_of new i) ≡ true) rests;
+        turn = at_entry (λ i. IsTurnInOrder p l.sites (states_of old i) (delivered_message old.journal t.entry.delivered) t.entry (states_of new i) (orders_of old i) (orders_of new i))
+            (in_limits (λ q n. IsTurnInOrder q n (states_of old site) (delivered_message old.journal t.entry.delivered) t.entry (states_of new site) (orders_of old site) (orders_of new site)) in_order);
+        others = λ i other. (let away = λ (e : i ≡ site). other (e ∙ sym t.site_is) in (t.others i away, ordered.others i away));
       }
 
       by : (i : ℕ) → (i ≡ site) ⊎ (i ≢ site) → (states_of new i).steps ≤ l.steps

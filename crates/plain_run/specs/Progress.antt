@@ -13,13 +13,17 @@ use Rattle.site_model.specs.Run.{WorldRun}
 use Rattle.world_model.specs.Schedule.{sum_to}
 use Rattle.world_mail.specs.Travels.{IsNoneFor}
 use Rattle.world_core.specs.Travels.{IsNothingFor}
-use Rattle.world_core.specs.World.{WorldState, states_of}
+use Rattle.world_core.specs.World.{WorldState, states_of, orders_of}
 use Rattle.plain_run.specs.Counts.{runnable_count}
-use Rattle.plain_run.specs.Rounds.{IsPlainRun, ComesBefore, last_site}
+use Rattle.plain_run.specs.Rounds.{Standing, LeadsTo, ComesBefore, last_site}
 
 -- the reason is how the journal ends; or memory ran out where it goes on
 abbrev pub HasReason : Limits → List Turn → Reason → Type 0
 HasReason l j r = (end_of l j ≡ Some r) ⊎ ((r ≡ Memory) × (end_of l j ≡ None))
+
+-- how the sites of this world stand
+abbrev pub standing_of : WorldState → Standing
+standing_of w = record { states = states_of w; orders = orders_of w }
 
 -- ---- sites
 
@@ -54,7 +58,7 @@ pub record IsGoing (l : Limits) (p : List Stmt) (w : WorldState) : Type 0 where
   pub few : length (sent_of w.journal) ≤ l.messages
   pub goes_on : end_of l w.journal ≡ None
   pub went : HasNoEarlierEnd l w.journal
-  pub rounds : IsPlainRun p l w.journal
+  pub rounds : LeadsTo p l w.journal (standing_of w)
 
 -- the own steps that the site may still make
 abbrev pub steps_left : Limits → WorldState → ℕ → ℕ
@@ -85,7 +89,7 @@ pub record IsLimitedTurn (l : Limits) (p : List Stmt) (old new : WorldState) (si
   pub kept : AreWithin l new.journal
   pub idle : (i : ℕ) → (entry.site ≡ i → ⊥) → (states_of new i).steps ≡ l.steps → is_idle (states_of new i) ≡ true
   pub went : HasNoEarlierEnd l new.journal
-  pub rounds : IsPlainRun p l new.journal
+  pub rounds : LeadsTo p l new.journal (standing_of new)
   pub last : last_site l.sites new.journal ≡ site
 
 -- a turn that takes a message or makes an own step leaves fewer of them; after another one fewer threads can go on

@@ -56,6 +56,7 @@ fn end_after(world: &World<'_>, site: u32, limits: Limits) -> Option<Reason>
 
 // Turns up to the next one that takes a message or makes an own step, behind the site that went last: the site that made it,
 // or how the run ends before.
+#[tactic(auto, using(crate::proofs::ProgressLemmas::going_plain, crate::proofs::ProgressLemmas::turn_plain))]
 fn advance(world: &mut World<'_>, last: u32, limits: Limits) -> Result<u32, Reason>
     requires program { IsProgram world.old.program }
     requires limits { AreLimits limits }
@@ -90,7 +91,7 @@ fn advance(world: &mut World<'_>, last: u32, limits: Limits) -> Result<u32, Reas
 }
 
 // Turns in rounds of sites 1 to the last, up to the end of the run.
-#[tactic(auto, using(crate::proofs::RoundLemmas::at_start))]
+#[tactic(auto, using(crate::proofs::RoundLemmas::at_start, crate::proofs::ProgressLemmas::going_plain))]
 pub(crate) fn drive(world: &mut World<'_>, limits: Limits) -> Reason
     requires program { IsProgram world.old.program }
     requires limits { AreLimits limits }

@@ -14,10 +14,12 @@
 //!
 //! The order: sites 1 to the last in rounds, each taking its message with the lowest number and then its threads, first come
 //! first served, for at most 64 units and never past its limit of own steps. A site that has no message and is idle is left out.
-//! Site, message and number of units of each turn are so by the turns before it alone (`IsPlainTurn`): it is of the first site behind the last one, in the
-//! circle, that has something to do, it takes the lowest number, and it is full. `turns_are_determined` is the law that site and
-//! message of the next turn follow from the journal. In which order the threads of a turn go is a clause of `Site::turn`; that two runs
-//! print the same, tests show.
+//! Each turn of the journal is so by the turns before it and by how the sites stand (`IsPlainTurn`), from their start on
+//! (`IsPlainRun`): it is of the first site behind the last one, in the circle, that has something to do, it takes the lowest number,
+//! it is full, and each of its units is of the first thread in the order of the site, in which exactly those stand that can go on.
+//! `turns_are_determined` is the law that site and message of the next turn follow from the journal, `runs_are_determined` that two
+//! runs are the same whose turns tell the same threads. In which order those come behind the others that one bind lets go on at
+//! once, no clause tells; so that two runs print the same, tests show.
 //!
 //! A turn costs by what it does and by the number of sites; the journal is walked over once at the end, for the totals.
 //!
@@ -37,6 +39,6 @@ mod run;
 mod totals;
 
 pub use finish::finish_run;
-pub use laws::turns_are_determined;
+pub use laws::{runs_are_determined, turns_are_determined};
 pub use out::{DrivenRun, RunOut};
 pub use run::run_plain;

@@ -40,6 +40,7 @@ pub fn run_plain(alloc: Global, program: &Program, limits: Limits) -> RunOut
 }
 
 // The turns of the run, and how it ended.
+#[tactic(auto, using(crate::proofs::RoundLemmas::starts_plain))]
 fn run_world(alloc: Global, program: &Program, limits: Limits) -> DrivenRun
     requires { AreLimits limits }
     ensures run { HasRun program.now limits.sites result.history }

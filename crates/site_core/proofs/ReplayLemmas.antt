@@ -17,8 +17,9 @@ use Rattle.site_units.specs.declared.data.Output.{Output}
 use Rattle.site_units.specs.Core.{site_of}
 use Rattle.site_units.specs.Invariant.{IsConsistent}
 use Rattle.site_units.specs.Replay.{ComesTo, AreTheseMade, IsStuckAt}
-use Rattle.site_units.proofs.TurnLemmas.{reached_more, reached_nothing}
-use Rattle.site_core.specs.Site.{IsTurnMade, message_in, number_in}
+use Rattle.site_units.specs.Turns.{AreUnitsInOrder}
+use Rattle.site_units.proofs.TurnLemmas.{in_order_is_one, reached_more, reached_nothing}
+use Rattle.site_core.specs.Site.{IsTransitionInOrder, IsTurnMade, message_in, number_in}
 use Rattle.site_core.specs.Turns.{IsReceived}
 use Rattle.site_core.specs.Replay.{TurnComesTo, IsReplayMade, TurnsAreMadeAgain, IsStuckTurn, IsTheTurnMade, transition_of}
 
@@ -93,21 +94,33 @@ replay_is_turn p n old message ths e new h = record {
   delivered = h.delivered;
 }
 
+-- two entries of one site that record one transition, with one message and the same units, are equal
+pub same_record : (e f : Turn) (d : Transition) → IsRecordOf e d → IsRecordOf f d → e.site ≡ f.site → e.delivered ≡ f.delivered → e.units ≡ f.units → e ≡ f
+same_record e f d h k site delivered units = λ i. record {
+  site = site i;
+  idle = (h.idle ∙ sym k.idle) i;
+  delivered = delivered i;
+  units = units i;
+  picks = (h.picks ∙ sym k.picks) i;
+  sent = (h.sent ∙ sym k.sent) i;
+  lines = (h.lines ∙ sym k.lines) i;
+  ended = (h.ended ∙ sym k.ended) i;
+  waiting = (h.waiting ∙ sym k.waiting) i;
+  steps = (h.steps ∙ sym k.steps) i;
+}
+
 -- and the one that was made, where the units are those that it tells
 pub turns_are_made_again : TurnsAreMadeAgain
 turns_are_made_again p n old new again message quantum e f h g =
     let same : h.turn.0 ≡ g.turn.0 = g.turn.1.1 h.turn.0 h.turn.1.0 in (
-      λ i. record {
-        site = (h.site ∙ sym g.site) i;
-        idle = (h.turn.2.idle ∙ ap (λ (d : Transition). is_idle d.site) same ∙ sym g.turn.2.idle) i;
-        delivered = (h.delivered ∙ sym g.delivered) i;
-        units = sym g.units i;
-        picks = (h.turn.2.picks ∙ ap (λ (d : Transition). d.picks) same ∙ sym g.turn.2.picks) i;
-        sent = (h.turn.2.sent ∙ ap (λ (d : Transition). d.sent) same ∙ sym g.turn.2.sent) i;
-        lines = (h.turn.2.lines ∙ ap (λ (d : Transition). d.lines) same ∙ sym g.turn.2.lines) i;
-        ended = (h.turn.2.ended ∙ ap (λ (d : Transition). d.site.ended) same ∙ sym g.turn.2.ended) i;
-        waiting = (h.turn.2.waiting ∙ ap (λ (d : Transition). waiting_count d.site) same ∙ sym g.turn.2.waiting) i;
-        steps = (h.turn.2.steps ∙ ap (λ (d : Transition). d.site.steps) same ∙ sym g.turn.2.steps) i;
-      },
+      same_record e f g.turn.0 (subst (IsRecordOf e) same h.turn.2) g.turn.2 (h.site ∙ sym g.site) (h.delivered ∙ sym g.delivered) (sym g.units),
       h.turn.3 ∙ ap (λ (d : Transition). d.site) same ∙ sym g.turn.3,
     )
+
+-- units in order of the same threads come to one turn, whatever the orders
+pub ordered_is_one : (p : List Stmt) (n : ℕ) (ths : List ThreadName) (s : Site) (m : Option Msg) (d e : Transition) (a b x y : List ThreadName) → IsTransitionInOrder p n ths s m d a b → IsTransitionInOrder p n ths s m e x y → d ≡ e
+ordered_is_one p n ths s m d e a b x y (heard, rest, ready, now, reception, behind, units, is, passed) (other, more, begins, then, hears, later, us, at, on) =
+    let same : heard ≡ other = reception_is_one p n bundle_limit m s heard other reception hears in
+    let moved : AreUnitsInOrder p n ths other.site ready rest now = subst (λ (z : Transition). AreUnitsInOrder p n ths z.site ready rest now) same units in
+    let tail : rest ≡ more = in_order_is_one p n ths other.site ready now begins then rest more moved us in
+    is ∙ ap (λ (z : Transition). sequence z rest) same ∙ ap (λ (z : Transition). sequence other z) tail ∙ sym at

@@ -10,7 +10,6 @@ use Rattle.site_model.specs.Transition.{without_output, sequence}
 use Rattle.site_model.specs.Fit.{IsFit}
 use Rattle.site_model.specs.Variables.{opening}
 use Rattle.site_model.specs.Messages.{message_row, reception}
-use Rattle.site_model.specs.Turn.{AreUnits}
 use Rattle.thread_roster.specs.Order.{HaveComeBehind}
 use Rattle.thread_roster.proofs.BehindLemmas.{behind_same}
 use Rattle.site_units.specs.declared.data.Core.{Core}
@@ -18,8 +17,8 @@ use Rattle.site_units.specs.declared.data.Output.{Output}
 use Rattle.site_units.specs.Core.{site_of}
 use Rattle.site_units.specs.Invariant.{IsConsistent}
 use Rattle.site_units.specs.Units.{IsTransitionMade}
-use Rattle.site_units.specs.Turns.{IsRowMade, AreToldUnitsMade}
-use Rattle.site_units.proofs.TurnLemmas.{reached_more, reached_nothing}
+use Rattle.site_units.specs.Turns.{IsRowMade, AreUnitsInOrder, AreToldUnitsMade}
+use Rattle.site_units.proofs.TurnLemmas.{are_units, reached_more, reached_nothing}
 use Rattle.site_core.specs.Turns.{IsReceived, IsToldTurnMade}
 
 -- ---- a message
@@ -40,19 +39,19 @@ unfit_received p m c o h unfit = (without_output (site_of c), inr (unfit, refl),
 -- ---- a turn
 
 pub whole_turn : (p : List Stmt) (quantum : ℕ) (t0 t1 : List ThreadName) (m : Option Msg) (c0 c1 c2 : Core) (o0 o1 o2 : Output) → IsReceived p m c0 o0 c1 o1 → HaveComeBehind c0.threads.order c1.threads.order → AreToldUnitsMade p quantum t0 t1 c1 o1 c2 o2 → IsToldTurnMade p quantum t0 t1 m c0 o0 c2 o2
-whole_turn p quantum t0 t1 m c0 c1 c2 o0 o1 o2 (heard, reception, reached) behind (ths, told, (rest, units, then, most, idle, turns)) = (
+whole_turn p quantum t0 t1 m c0 c1 c2 o0 o1 o2 (heard, reception, reached) behind (ths, told, (rest, now, units, then, most, idle, passed)) = (
   ths,
   told,
   (
     sequence heard rest,
-    ((heard, rest, reception, here, refl), most, idle),
-    (c1.threads.order, behind, turns),
+    ((heard, rest, reception, are_units p c0.sites ths heard.site c1.threads.order now rest here, refl), most, idle),
+    (heard, rest, c1.threads.order, now, reception, behind, here, refl, passed),
     reached_more p heard rest c0 c1 c2 o0 o1 o2 reached then,
   ),
 )
   where
-    here : AreUnits p c0.sites bundle_limit ths heard.site rest
-    here = subst (λ (s : Site). AreUnits p c0.sites bundle_limit ths s rest) reached.site (subst (λ (n : ℕ). AreUnits p n bundle_limit ths (site_of c1) rest) reached.sites units)
+    here : AreUnitsInOrder p c0.sites ths heard.site c1.threads.order rest now
+    here = subst (λ (s : Site). AreUnitsInOrder p c0.sites ths s c1.threads.order rest now) reached.site (subst (λ (n : ℕ). AreUnitsInOrder p n ths (site_of c1) c1.threads.order rest now) reached.sites units)
 
 -- without a message
 pub silent_turn : (p : List Stmt) (quantum : ℕ) (t0 t1 : List ThreadName) (c0 c2 : Core) (o0 o2 : Output) → IsConsistent p c0 → AreToldUnitsMade p quantum t0 t1 c0 o0 c2 o2 → IsToldTurnMade p quantum t0 t1 None c0 o0 c2 o2

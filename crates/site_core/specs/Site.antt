@@ -5,12 +5,13 @@ use Rattle.kernel_syntax.specs.declared.stmt.Stmt.{Stmt}
 use Rattle.site_message.specs.declared.message.Msg.{Msg}
 use Rattle.site_message.specs.declared.turn.Turn.{Turn}
 use Rattle.thread_roster.specs.Order.{HaveComeBehind}
-use Rattle.site_units.specs.Order.{HaveHadTurns}
+use Rattle.site_units.specs.Order.{last_of, passed_on}
+use Rattle.site_units.specs.Turns.{AreUnitsInOrder}
 use Rattle.site_model.specs.Bundle.{bundle_limit}
 use Rattle.site_model.specs.Run.{IsRecordOf}
 use Rattle.site_model.specs.Site as model
-use Rattle.site_model.specs.Transition.{Transition}
-use Rattle.site_model.specs.Turn.{IsFullTurnOf}
+use Rattle.site_model.specs.Transition.{Transition, sequence}
+use Rattle.site_model.specs.Turn.{IsReception, IsFullTurnOf}
 
 -- a site of a program on so many sites: its state, the names of its threads that can go on, the next in turn first, whether it
 -- is spent after want of memory, and its seat
@@ -38,8 +39,14 @@ pub record IsTurnMade (p : List Stmt) (n : ℕ) (old : model.Site) (message : Op
   pub site : e.site ≡ old.records.site
   pub delivered : e.delivered ≡ number_in message
 
--- the order of threads before and after a turn of these units: some threads, with a message those that it let go on, came behind the
--- others; each unit was of the first thread in the order; and the thread of the last one then went behind the others, where it can
--- go on. Which threads came, and that without a message none did, is not said
-abbrev pub IsFairTurn : List ThreadName → List ThreadName → List ThreadName → Type 0
-IsFairTurn ths old new = (ready : List ThreadName) × HaveComeBehind old ready × HaveHadTurns ths ready new
+-- a turn of these units, from one order of threads to another: what the message let go on came behind the others; each unit was of the
+-- first of those that can go on; and the thread of the last one then went behind the others, where it can go on
+abbrev pub IsTransitionInOrder : List Stmt → ℕ → List ThreadName → model.Site → Option Msg → Transition → List ThreadName → List ThreadName → Type 0
+IsTransitionInOrder p n ths s m d old new =
+    (heard rest : Transition) × (ready now : List ThreadName) × IsReception p n bundle_limit m s heard × HaveComeBehind old ready
+    × AreUnitsInOrder p n ths heard.site ready rest now × (d ≡ sequence heard rest) × (new ≡ passed_on (last_of ths) now)
+
+-- this entry is such a turn of its units, with this message, from one state and order of threads to others
+abbrev pub IsTurnInOrder : List Stmt → ℕ → model.Site → Option Msg → Turn → model.Site → List ThreadName → List ThreadName → Type 0
+IsTurnInOrder p n old m e new old_order new_order =
+    (d : Transition) × IsTransitionInOrder p n e.units old m d old_order new_order × IsRecordOf e d × (new ≡ d.site)

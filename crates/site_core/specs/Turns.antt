@@ -23,7 +23,7 @@ use Rattle.site_units.specs.declared.data.Core.{Core}
 use Rattle.site_units.specs.declared.data.Output.{Output}
 use Rattle.site_units.specs.Core.{site_of}
 use Rattle.site_units.specs.Units.{IsTransitionMade}
-use Rattle.site_core.specs.Site.{IsFairTurn}
+use Rattle.site_core.specs.Site.{IsTransitionInOrder}
 
 -- ---- messages
 
@@ -57,7 +57,8 @@ IsReceived p m c0 o0 c1 o1 =
 -- the data and the output came by a full turn of these units, in which threads had their turns in order
 abbrev pub IsFullTurnMade : List Stmt → ℕ → List ThreadName → Option Msg → Core → Output → Core → Output → Type 0
 IsFullTurnMade p quantum ths m c0 o0 c1 o1 =
-    (d : Transition) × IsFullTurnOf p c0.sites bundle_limit quantum ths (site_of c0) m d × IsFairTurn ths c0.threads.order c1.threads.order × IsTransitionMade p d c0 o0 c1 o1
+    (d : Transition) × IsFullTurnOf p c0.sites bundle_limit quantum ths (site_of c0) m d
+    × IsTransitionInOrder p c0.sites ths (site_of c0) m d c0.threads.order c1.threads.order × IsTransitionMade p d c0 o0 c1 o1
 
 -- so they did by one of the units whose threads were told behind others
 abbrev pub IsToldTurnMade : List Stmt → ℕ → List ThreadName → List ThreadName → Option Msg → Core → Output → Core → Output → Type 0

@@ -6,7 +6,7 @@ ghost use Rattle.site_model.specs.Run.{IsRecordOf};
 ghost use Rattle.site_units.specs.declared.replay.Replay.TheVariants.{NotRunnable};
 ghost use Rattle.site_units.specs.Core.{site_of};
 ghost use Rattle.site_units.specs.Invariant.{IsConsistent};
-ghost use Rattle.site_core.specs.Site.{IsFairTurn, IsTurnMade, message_in, number_in};
+ghost use Rattle.site_core.specs.Site.{IsTurnInOrder, IsTurnMade, message_in, number_in};
 ghost use Rattle.site_core.specs.Replay.{IsReplayMade, IsStuckTurn, transition_of};
 
 use crate::replay::replay;
@@ -71,7 +71,7 @@ pub fn recorded_turn(
     ensures consistent { OnOk result (IsConsistent program.now core.new) }
     ensures sites { OnOk result (core.new.sites ≡ core.old.sites) }
     ensures number { OnOk result ((site_of core.new).records.site ≡ (site_of core.old).records.site) }
-    ensures order { IfOk result (λ e. IsFairTurn e.units core.old.threads.order core.new.threads.order) }
+    ensures order { IfOk result (λ e. IsTurnInOrder program.now core.old.sites (site_of core.old) (message_in message) e (site_of core.new) core.old.threads.order core.new.threads.order) }
     ensures steps { OnOk result (core.new.steps ≤ core.old.steps + quantum.0) }
 {
     let site = site_in(&core.fresh);

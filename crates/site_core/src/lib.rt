@@ -7,9 +7,11 @@
 //! changes nothing where it is not fit, and then as many units as the quantum, fewer only where no thread can go on; each
 //! message that it sends has the first 256 equations known there that are reached from its variables (`bundle_limit`). `replay` makes
 //! a turn of given units, which is the one turn that they make (`TurnComesTo`), or tells the first that cannot be made
-//! (`IsStuckTurn`); both give equal turns (`turns_are_made_again`). `idle` and `steps` tell what they say; the seat is lent and taken
-//! back, and stays over a turn. After want of memory the site is spent: its data are given up, and it makes no turn any more.
-//! `threads` shows that a site goes from thread to thread where its seat may.
+//! (`IsStuckTurn`); both give equal turns (`turns_are_made_again`). A site's threads have their turns in order: exactly those stand
+//! in it that can go on, each once (`in_order`); the units of a turn are each of the first, and the thread of the last one then goes
+//! behind the others where it can go on (`IsTransitionInOrder`). `idle` and `steps` tell what they say; the seat is lent and taken back, and
+//! stays over a turn. After want of memory the site is spent: its data are given up, and it makes no turn any more. `threads` shows
+//! that a site goes from thread to thread where its seat may.
 //!
 //! A turn costs by what it does: its message by the message's size, a unit by the statement. The totals of an entry are looked
 //! up. It stands on `site_units` (units and the rows of messages), `site_variables` and `site_cells` (what a site keeps and

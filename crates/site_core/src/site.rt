@@ -6,7 +6,8 @@ ghost use Rattle.tree_node.specs.declared.limits.TheConstants.{MOST_SITES, MOST_
 ghost use Rattle.site_model.specs.Site.{initial_site, is_idle};
 ghost use Rattle.site_units.specs.Core.{site_of};
 ghost use Rattle.site_core.specs.Seat.{LendsSeat};
-ghost use Rattle.site_core.specs.Site.{IsFairTurn, IsTurnMade, message_in};
+ghost use Rattle.thread_roster.specs.Threads.{IsOrderOf};
+ghost use Rattle.site_core.specs.Site.{IsTurnInOrder, IsTurnMade, message_in};
 ghost use Rattle.site_core.specs.Replay.{IsReplayMade, IsStuckTurn};
 ghost use Rattle.site_units.specs.declared.replay.Replay.TheVariants.{NotRunnable};
 ghost use Rattle.site_core.specs.Start.{first_order};
@@ -117,6 +118,13 @@ impl<'a, O: Outside> Site<'a, O> {
         self.core.threads.is_idle()
     }
 
+    /// Exactly those of its threads stand in its order that can go on, each once. It does nothing: its clause is what it tells.
+    pub fn in_order(&self)
+        ensures { IsOrderOf self.now.state.threads self.now.order }
+    {
+        self.core.threads.in_order();
+    }
+
     /// How many own steps the site has made.
     pub fn steps(&self) -> u64
         ensures { result ≡ self.now.state.steps }
@@ -140,7 +148,7 @@ impl<'a, O: Outside> Site<'a, O> {
         ensures seat { self.new.seat ≡ self.old.seat }
         ensures turn { IfOk result (λ e. IsTurnMade self.old.program self.old.sites self.old.state message quantum.0 e self.new.state) }
         ensures number { self.new.state.records.site ≡ self.old.state.records.site }
-        ensures order { IfOk result (λ e. IsFairTurn e.units self.old.order self.new.order) }
+        ensures order { IfOk result (λ e. IsTurnInOrder self.old.program self.old.sites self.old.state (message_in message) e self.new.state self.old.order self.new.order) }
         ensures few { OnOk result (self.new.state.steps ≤ self.old.state.steps + quantum.0) }
         ensures live { OnOk result (self.new.spent ≡ false) }
         ensures spent { OnErr result (self.new.spent ≡ true) }

@@ -3,11 +3,12 @@ use Rattle.std.proofs.Common.{add-one, arith, ◌≡◌, ◌∙◌, sym, ap, ref
 use Rattle.std.specs.Prelude.{Option, ◌+◌, ◌≤◌, ◌<◌}
 use Rattle.tree_node.specs.declared.names.ThreadName.{ThreadName}
 use Rattle.tree_node.specs.declared.pick.Pick.{Pick}
+use Rattle.tree_store.specs.Forest.{IsForest}
 use Rattle.kernel_syntax.specs.declared.stmt.Stmt.{Stmt}
 use Rattle.site_message.specs.declared.message.Sent.{Sent}
 use Rattle.thread_machine.specs.Running.{Running}
 use Rattle.thread_roster.specs.declared.mode.Mode.{Mode}
-use Rattle.thread_roster.specs.Threads.{Entry, AllWait, waiting_of, is_waiting}
+use Rattle.thread_roster.specs.Threads.{Entry, AllWait, IsOrderOf, waiting_of, is_waiting}
 use Rattle.thread_roster.proofs.WakeLemmas.{as_many_wait}
 use Rattle.thread_roster.proofs.ThreadLemmas.{seen_length}
 use Rattle.site_model.specs.Site.{Site, is_idle}
@@ -20,14 +21,16 @@ use Rattle.site_units.specs.declared.data.Core.{Core}
 use Rattle.site_units.specs.declared.data.Output.{Output}
 use Rattle.site_units.specs.Core.{site_of, stack_in}
 use Rattle.site_units.specs.Invariant.{IsConsistent}
-use Rattle.site_units.specs.Order.{IsTurnOf, AreTurnsOf, last_of, passed_on}
+use Rattle.site_units.specs.Order.{IsUnitOfFirst, last_of, passed_on}
 use Rattle.site_units.specs.Units.{IsTransitionMade, IsUnitPacked}
 use Rattle.site_units.specs.declared.turn.LastUnits.{LastUnits}
 use Rattle.site_units.specs.LastUnits.{thread_of_some, thread_in, threads_of}
 use Rattle.site_message.specs.Units.{in_a_row}
-use Rattle.site_units.specs.Turns.{AreUnitsMade, AreToldUnitsMade}
+use Rattle.site_message.proofs.UnitLemmas.{row_more}
+use Rattle.site_units.specs.Turns.{IsTheUnit, AreUnitsInOrder, AreUnitsMade, AreToldUnitsMade}
 use Rattle.site_units.proofs.SiteLemmas.{nil_right, joined}
-use Rattle.site_units.proofs.OrderLemmas.{turns_more, last_end, none_passed}
+use Rattle.site_units.proofs.OrderLemmas.{order_seen, last_end, none_passed}
+use Rattle.site_units.proofs.OneUnitLemmas.{unit_is_one}
 use Rattle.std.proofs.lemmas.Bool.{eq-eqb}
 
 -- ---- transitions in a row
@@ -45,6 +48,30 @@ units_more p n limit [] th s d one e u =
 units_more p n limit (t ∷ ths) th s d one (first, rest, u0, us, e) u =
     let tail : IsUnit p n limit th rest.site one = subst (λ (z : Transition). IsUnit p n limit th z.site one) e u in
     (first, sequence rest one, u0, units_more p n limit ths th first.site rest one us tail, ap (λ (z : Transition). sequence z one) e ∙ sequence_joined first rest one)
+
+-- so it is with units in order
+in_order_more : (p : List Stmt) (n : ℕ) (ths : List ThreadName) (th : ThreadName) (s : Site) (old now new : List ThreadName) (d one : Transition) → AreUnitsInOrder p n ths s old d now → IsTheUnit p n th d.site one → IsUnitOfFirst th now new → IsOrderOf one.site.threads new →
+    AreUnitsInOrder p n (ths ++ th ∷ []) s old (sequence d one) new
+in_order_more p n [] th s old now new d one (e, same, stands) u first ready =
+    let here : IsTheUnit p n th s one = subst (λ (z : Transition). IsTheUnit p n th z.site one) e u in
+    (one, without_output one.site, new, stands, here, subst (λ (l : List ThreadName). IsUnitOfFirst th l new) same first, (refl, refl, ready), ap (λ (z : Transition). sequence z one) e ∙ sequence_nothing one)
+in_order_more p n (t ∷ ths) th s old now new d one (begins, rest, then, stands, u0, f0, us, e) u first ready =
+    let tail : IsTheUnit p n th rest.site one = subst (λ (z : Transition). IsTheUnit p n th z.site one) e u in
+    (begins, sequence rest one, then, stands, u0, f0, in_order_more p n ths th begins.site then now new rest one us tail first ready, ap (λ (z : Transition). sequence z one) e ∙ sequence_joined begins rest one)
+
+-- units in order are units
+pub are_units : (p : List Stmt) (n : ℕ) (ths : List ThreadName) (s : Site) (old new : List ThreadName) (d : Transition) → AreUnitsInOrder p n ths s old d new → AreUnits p n bundle_limit ths s d
+are_units p n [] s old new d (e, same, stands) = e
+are_units p n (th ∷ ths) s old new d (one, rest, now, stands, unit, first, us, e) = (one, rest, unit.0, are_units p n ths one.site now new rest us, e)
+
+-- and those of the same threads come to one transition
+pub in_order_is_one : (p : List Stmt) (n : ℕ) (ths : List ThreadName) (s : Site) (a b x y : List ThreadName) (d e : Transition) → AreUnitsInOrder p n ths s a d b → AreUnitsInOrder p n ths s x e y → d ≡ e
+in_order_is_one p n [] s a b x y d e (h, same, stands) (k, other, ready) = h ∙ sym k
+in_order_is_one p n (th ∷ ths) s a b x y d e (one, rest, now, stands, unit, first, us, is) (other, more, then, ready, again, begins, vs, at) =
+    let same : one ≡ other = again.1 one unit.0 in
+    let moved : AreUnitsInOrder p n ths other.site now rest b = subst (λ (z : Transition). AreUnitsInOrder p n ths z.site now rest b) same us in
+    let tail : rest ≡ more = in_order_is_one p n ths other.site now b then y rest more moved vs in
+    is ∙ ap (λ (z : Transition). sequence z rest) same ∙ ap (λ (z : Transition). sequence other z) tail ∙ sym at
 
 pub reached_more : (p : List Stmt) (d e : Transition) (c0 c1 c2 : Core) (o0 o1 o2 : Output) → IsTransitionMade p d c0 o0 c1 o1 → IsTransitionMade p e c1 o1 c2 o2 → IsTransitionMade p (sequence d e) c0 o0 c2 o2
 reached_more p d e c0 c1 c2 o0 o1 o2 h g = record {
@@ -72,35 +99,47 @@ reached_nothing p c o h = record {
 pub record UnitsSoFar (p : List Stmt) (count : ℕ) (last : Option ThreadName) (c0 : Core) (o0 : Output) (c1 : Core) (o1 : Output) : Type 0 where
   pub ths : List ThreadName
   pub d : Transition
-  pub units : AreUnits p c0.sites bundle_limit ths (site_of c0) d
+  pub units : AreUnitsInOrder p c0.sites ths (site_of c0) c0.threads.order d c1.threads.order
   pub reached : IsTransitionMade p d c0 o0 c1 o1
   pub as_many : length ths ≡ count
-  pub turns : AreTurnsOf ths c0.threads.order c1.threads.order
   pub ends : last_of ths ≡ last
   pub steps : c1.steps ≤ c0.steps + count
 
-no_units : (p : List Stmt) (c : Core) (o : Output) → IsConsistent p c → UnitsSoFar p 0 None c o c o
-no_units p c o h = record { ths = []; d = without_output (site_of c); units = refl; reached = reached_nothing p c o h; as_many = refl; turns = refl; ends = refl; steps = omega arith }
+no_units : (p : List Stmt) (c : Core) (o : Output) → IsConsistent p c → IsOrderOf c.threads.living c.threads.order → UnitsSoFar p 0 None c o c o
+no_units p c o h ready = record {
+  ths = [];
+  d = without_output (site_of c);
+  units = (refl, refl, order_seen c.threads.living c.threads.order ready);
+  reached = reached_nothing p c o h;
+  as_many = refl;
+  ends = refl;
+  steps = omega arith;
+}
 
 length_end : {X : Type 0} (xs : List X) (x : X) → length (xs ++ x ∷ []) ≡ suc (length xs)
 length_end [] x = refl
 length_end (y ∷ xs) x = ap suc (length_end xs x)
 
-one_more : (p : List Stmt) (count : ℕ) (last next : Option ThreadName) (c0 c1 c2 : Core) (o0 o1 o2 : Output) (th : ThreadName) → UnitsSoFar p count last c0 o0 c1 o1 → IsUnitPacked p th c1 o1 c2 o2 → IsTurnOf th c1.threads.order c2.threads.order → c2.steps ≤ c1.steps + 1 →
+one_more : (p : List Stmt) (count : ℕ) (last next : Option ThreadName) (c0 c1 c2 : Core) (o0 o1 o2 : Output) (th : ThreadName) → IsForest c1.variables.store.equations → UnitsSoFar p count last c0 o0 c1 o1 → IsUnitPacked p th c1 o1 c2 o2 → IsUnitOfFirst th c1.threads.order c2.threads.order → IsOrderOf c2.threads.living c2.threads.order → c2.steps ≤ c1.steps + 1 →
     next ≡ Some th → UnitsSoFar p (count + 1) next c0 o0 c2 o2
-one_more p count last next c0 c1 c2 o0 o1 o2 th h (one, unit, reached) turn more is = record {
+one_more p count last next c0 c1 c2 o0 o1 o2 th f h (one, unit, reached) first ready more is = record {
   ths = h.ths ++ th ∷ [];
   d = sequence h.d one;
-  units = units_more p c0.sites bundle_limit h.ths th (site_of c0) h.d one h.units here;
+  units = in_order_more p c0.sites h.ths th (site_of c0) c0.threads.order c1.threads.order c2.threads.order h.d one h.units (here, λ e u. unit_is_one p c0.sites bundle_limit th h.d.site e one forest u here) first stands;
   reached = reached_more p h.d one c0 c1 c2 o0 o1 o2 h.reached reached;
   as_many = let e : length (h.ths ++ th ∷ []) ≡ suc (length h.ths) = length_end h.ths th in let f : length h.ths ≡ count = h.as_many in omega arith;
-  turns = turns_more h.ths th c0.threads.order c1.threads.order c2.threads.order h.turns turn;
   ends = last_end h.ths th ∙ sym is;
   steps = let f : c1.steps ≤ c0.steps + count = h.steps in omega arith;
 }
   where
     here : IsUnit p c0.sites bundle_limit th h.d.site one
     here = subst (λ (s : Site). IsUnit p c0.sites bundle_limit th s one) h.reached.site (subst (λ (n : ℕ). IsUnit p n bundle_limit th (site_of c1) one) h.reached.sites unit)
+
+    forest : IsForest h.d.site.equations
+    forest = subst (λ (s : Site). IsForest s.equations) h.reached.site f
+
+    stands : IsOrderOf one.site.threads c2.threads.order
+    stands = subst (λ (s : Site). IsOrderOf s.threads c2.threads.order) reached.site (order_seen c2.threads.living c2.threads.order ready)
 
 -- ---- rest
 
@@ -142,6 +181,7 @@ units_end : (p : List Stmt) (quantum count : ℕ) (last : Option ThreadName) (c0
     AreUnitsMade p quantum h.ths c0 o0 (record c1 { threads = record c1.threads { order = ns } }) o1
 units_end p quantum count last c0 c1 o0 o1 ns h most idle passed = (
   h.d,
+  c1.threads.order,
   h.units,
   record {
     site = h.reached.site;
@@ -153,7 +193,7 @@ units_end p quantum count last c0 c1 o0 o1 ns h most idle passed = (
   },
   (let f : length h.ths ≡ count = h.as_many in omega arith),
   (λ less. subst (λ (s : Site). is_idle s ≡ true) h.reached.site (all_idle c1 (idle (let f : length h.ths ≡ count = h.as_many in omega arith)))),
-  (c1.threads.order, h.turns, passed ∙ ap (λ (o : Option ThreadName). passed_on o c1.threads.order) (sym h.ends)),
+  passed ∙ ap (λ (o : Option ThreadName). passed_on o c1.threads.order) (sym h.ends),
 )
 
 -- nothing was done, since no thread can go on
@@ -168,13 +208,6 @@ turned_on p quantum count last c0 c1 c2 o0 o1 h most idle (ns, e) passed =
     subst (λ (c : Core). AreUnitsMade p quantum h.ths c0 o0 c o1) (sym e) (units_end p quantum count last c0 c1 o0 o1 ns h most idle (ap (λ (c : Core). c.threads.order) (sym e) ∙ passed))
 
 -- ---- units that are counted in a row
-
-row_next : (n : ℕ) (th : ThreadName) → in_a_row (suc n) th ≡ in_a_row n th ++ th ∷ []
-row_next zero th = refl
-row_next (suc n) th = ap (λ (z : List ThreadName). th ∷ z) (row_next n th)
-
-row_more : (n : ℕ) (th : ThreadName) → in_a_row (n + 1) th ≡ in_a_row n th ++ th ∷ []
-row_more n th = ap (λ (k : ℕ). in_a_row k th) (add-one n) ∙ row_next n th
 
 -- the thread that made them
 pub no_thread : (last : LastUnits) → last.count ≡ 0 → thread_in last ≡ None
@@ -219,19 +252,19 @@ pub record ToldSoFar (p : List Stmt) (count : ℕ) (last : LastUnits) (t0 t1 : L
   pub told : t1 ++ threads_of last ≡ t0 ++ made.ths
   pub few : last.count ≤ count
 
-pub none_told : (p : List Stmt) (last : LastUnits) (t : List ThreadName) (c : Core) (o : Output) → last.count ≡ 0 → IsConsistent p c → ToldSoFar p 0 last t t c o c o
-none_told p last t c o none h =
-    let units : UnitsSoFar p 0 (thread_in last) c o c o = subst (λ (by : Option ThreadName). UnitsSoFar p 0 by c o c o) (sym (no_thread last none)) (no_units p c o h) in record {
+pub none_told : (p : List Stmt) (last : LastUnits) (t : List ThreadName) (c : Core) (o : Output) → last.count ≡ 0 → IsConsistent p c → IsOrderOf c.threads.living c.threads.order → ToldSoFar p 0 last t t c o c o
+none_told p last t c o none h ready =
+    let units : UnitsSoFar p 0 (thread_in last) c o c o = subst (λ (by : Option ThreadName). UnitsSoFar p 0 by c o c o) (sym (no_thread last none)) (no_units p c o h ready) in record {
       made = units;
       told = sym (told_none t last none) ∙ sym (nil_right t) ∙ ap (λ (us : List ThreadName). t ++ us) (sym (no_names units.ths units.as_many));
       few = omega (arith, none);
     }
 
-pub one_told : (p : List Stmt) (count : ℕ) (last next : LastUnits) (t0 t1 t2 : List ThreadName) (c0 c1 c2 : Core) (o0 o1 o2 : Output) (th : ThreadName) → ToldSoFar p count last t0 t1 c0 o0 c1 o1 → IsUnitPacked p th c1 o1 c2 o2 →
-    IsTurnOf th c1.threads.order c2.threads.order → c2.steps ≤ c1.steps + 1 → thread_in next ≡ Some th → next.count ≤ last.count + 1 → t2 ++ threads_of next ≡ (t1 ++ threads_of last) ++ th ∷ [] → ToldSoFar p (count + 1) next t0 t2 c0 o0 c2 o2
+pub one_told : (p : List Stmt) (count : ℕ) (last next : LastUnits) (t0 t1 t2 : List ThreadName) (c0 c1 c2 : Core) (o0 o1 o2 : Output) (th : ThreadName) → IsForest c1.variables.store.equations → ToldSoFar p count last t0 t1 c0 o0 c1 o1 → IsUnitPacked p th c1 o1 c2 o2 →
+    IsUnitOfFirst th c1.threads.order c2.threads.order → IsOrderOf c2.threads.living c2.threads.order → c2.steps ≤ c1.steps + 1 → thread_in next ≡ Some th → next.count ≤ last.count + 1 → t2 ++ threads_of next ≡ (t1 ++ threads_of last) ++ th ∷ [] → ToldSoFar p (count + 1) next t0 t2 c0 o0 c2 o2
 unfolding one_more
-one_told p count last next t0 t1 t2 c0 c1 c2 o0 o1 o2 th h unit turn more is most told = record {
-  made = one_more p count (thread_in last) (thread_in next) c0 c1 c2 o0 o1 o2 th h.made unit turn more is;
+one_told p count last next t0 t1 t2 c0 c1 c2 o0 o1 o2 th f h unit first ready more is most told = record {
+  made = one_more p count (thread_in last) (thread_in next) c0 c1 c2 o0 o1 o2 th f h.made unit first ready more is;
   told = told ∙ (ap (λ (ths : List ThreadName). ths ++ th ∷ []) h.told ∙ joined t0 h.made.ths (th ∷ []));
   few = let f : last.count ≤ count = h.few in omega arith;
 }

@@ -1,5 +1,6 @@
 -- What holds of a site's data at all times.
 use Rattle.std.specs.Prelude.{◌≡◌, ◌≢◌, ◌+◌, ◌*◌, ◌≤◌, List, [], Some, None, Contains}
+use Rattle.tree_node.specs.declared.limits.TheConstants.{MOST_ITEMS}
 use Rattle.tree_node.specs.declared.names.VarName.{VarName}
 use Rattle.tree_node.specs.declared.names.CellName.{CellName}
 use Rattle.tree_node.specs.declared.names.ThreadName.{ThreadName}
@@ -75,7 +76,7 @@ pub record IsConsistent (p : List Stmt) (c : Core) : Type 0 where
   pub threads : Each (ThreadFits p c.variables.store.known) c.threads.living
   pub equations : EquationsFit p c.variables.store.known c.variables.store.equations
   pub site : site_in c.fresh ≡ Some c.variables.binder.site
-  pub below : AreBelow (64 * c.steps + 2) c.fresh
+  pub below : AreBelow (MOST_ITEMS * c.steps + 2) c.fresh
   pub known_made : Each (λ (x : VarName). IsMade c.fresh (name.Var x)) c.variables.store.known
   pub made_known : (x : VarName) → HasMade c.fresh (name.Var x) → Contains c.variables.store.known x
   pub threads_made : Each (λ (t : Entry Running). IsMade c.fresh (name.Thread t.0)) c.threads.living

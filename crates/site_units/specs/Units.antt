@@ -1,5 +1,6 @@
 -- Parts of a turn, and units of a site's threads.
 use Rattle.std.specs.Prelude.{◌≡◌, ℕ, ◌+◌, ◌<◌, ◌^◌, List, [], ◌∷◌, ◌++◌, Option, Some, None}
+use Rattle.tree_node.specs.declared.limits.TheConstants.{MOST_ITEMS}
 use Rattle.tree_node.specs.declared.names.ThreadName.{ThreadName}
 use Rattle.tree_node.specs.declared.names.Name.{Name}
 use Rattle.tree_node.specs.declared.pick.Pick.{Pick}
@@ -68,7 +69,7 @@ pub record IsStepping (p : List Stmt) (c0 c : Core) (n : ThreadName) (r q : Runn
   pub made : Each (HasMade c.fresh) (fresh_of out)
   pub stays : (x : Name) → IsMade c0.fresh x → IsMade c.fresh x
   pub site : site_in c.fresh ≡ site_in c0.fresh
-  pub few : (m : ℕ) → AreBelow m c0.fresh → AreBelow (m + 64) c.fresh
+  pub few : (m : ℕ) → AreBelow m c0.fresh → AreBelow (m + MOST_ITEMS) c.fresh
   pub living : c.threads.living ≡ set_value c0.threads.living n q
   pub ended : c.threads.ended ≡ c0.threads.ended
   pub records : c.variables.binder ≡ c0.variables.binder

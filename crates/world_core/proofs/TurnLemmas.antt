@@ -3,6 +3,7 @@ use Rattle.std.proofs.Common.{arith, ◌≡◌, ◌≢◌, ◌∙◌, sym, ap, r
 use Rattle.std.specs.Prelude.{Option, Some, None, ◌==◌, slice_get, slice_set}
 use Rattle.std.specs.List.{enumerate_from}
 use Rattle.std.proofs.lemmas.Option.{slice_get_read}
+use Rattle.tree_node.specs.declared.names.ThreadName.{ThreadName}
 use Rattle.kernel_syntax.specs.declared.stmt.Stmt.{Stmt}
 use Rattle.kernel_syntax.specs.Program.{IsProgram}
 use Rattle.site_message.specs.declared.message.Msg.{Msg}
@@ -14,13 +15,14 @@ use Rattle.site_model.specs.Bundle.{bundle_limit}
 use Rattle.site_model.specs.Site.{Site, initial_site}
 use Rattle.site_model.specs.Run.{WorldRun, delivered_message, message_of}
 use Rattle.site_model.specs.Turn.{IsFullTurnOf}
-use Rattle.site_core.specs.Site.{SiteState, IsTurnMade, message_in, number_in}
+use Rattle.site_core.specs.Site.{SiteState, IsTurnMade, IsTurnInOrder, message_in, number_in}
+use Rattle.site_core.specs.Start.{first_order}
 use Rattle.world_mail.specs.declared.travel.Travel.{Travel}
 use Rattle.world_mail.specs.Mail.{MailState, message_at, AreBelow}
 use Rattle.world_mail.specs.Travels.{travel_of}
 use Rattle.world_mail.proofs.MailLemmas.{travel_at}
 use Rattle.world_core.specs.Travels.{IsNumberAt}
-use Rattle.world_core.specs.World.{WorldState, IsWorldTurn, KnowledgeStays, IsLive, IsConsistent, IsSiteOf, IsNewSite, IsTaken, state_in, states_by, states_of, travelling_at}
+use Rattle.world_core.specs.World.{WorldState, IsWorldTurn, IsWorldTurnInOrder, KnowledgeStays, IsLive, IsConsistent, IsSiteOf, IsNewSite, IsTaken, state_in, states_by, states_of, order_in, orders_by, orders_of, travelling_at}
 use Rattle.world_core.proofs.PlaceLemmas.{set_all, read_there, read_past, read_same}
 use Rattle.world_core.proofs.TravelLemmas.{mail_grows, travels_there, none_either, get_past}
 use Rattle.world_core.proofs.WorldLemmas.{run_grows, run_starts, machine}
@@ -41,6 +43,16 @@ new_states p n ss new (suc i) = by (slice_get ss i) refl
     by (Some s) e =
         let one : i + 1 ≡ suc i = omega arith in
         read_there state_in ss i s (initial_site p (suc i)) e ∙ (new i s e).1 ∙ ap (initial_site p) one
+
+pub new_orders : (p : List Stmt) (n : ℕ) (ss : List (SiteState NoSeat)) → ((i : ℕ) (s : SiteState NoSeat) → slice_get ss i ≡ Some s → IsNewSite p n i s) → (i : ℕ) → orders_by (map order_in ss) i ≡ first_order i
+new_orders p n ss new zero = refl
+new_orders p n ss new (suc i) = by (slice_get ss i) refl
+  where
+    by : (o : Option (SiteState NoSeat)) → slice_get ss i ≡ o → get_or (map order_in ss) i (first_order (suc i)) ≡ first_order (suc i)
+    by None e = read_past order_in ss i (first_order (suc i)) e
+    by (Some s) e =
+        let one : i + 1 ≡ suc i = omega arith in
+        read_there order_in ss i s (first_order (suc i)) e ∙ (new i s e).2 ∙ ap first_order one
 
 pub starts : (p : List Stmt) (n : ℕ) (ss : List (SiteState NoSeat)) (mail : MailState) → IsProgram p → 1 ≤ n → n ≤ 64 → length ss ≡ n → ((i : ℕ) (s : SiteState NoSeat) → slice_get ss i ≡ Some s → IsNewSite p n i s) →
     mail.queues ≡ n + 1 → mail.messages ≡ [] → IsConsistent p [] ss mail 0 false
@@ -212,6 +224,49 @@ module _ (p : List Stmt) (j : List Turn) (ss : List (SiteState NoSeat)) (mail : 
           (subst (λ (m : ℕ). IsFullTurnOf old.program m bundle_limit quantum e.units (w (suc i)) (delivered_message j e.delivered) made.turn.0) (sym sites)
           (subst (λ (q : List Stmt). Full q (length ss) (w (suc i)) (delivered_message j e.delivered)) (sym program) full)))
 
+  abbrev Ordered : List Stmt → ℕ → Site → Option Msg → Site → List ThreadName → List ThreadName → Type 0
+  Ordered q m x o y a b = IsTurnInOrder q m x o e y a b
+
+  -- and so are the turns of its threads
+  pub world_order : (old new : WorldState) → old.program ≡ p → old.sites ≡ length ss → old.journal ≡ j → old.states ≡ map state_in ss → old.orders ≡ map order_in ss →
+      new.program ≡ p → new.journal ≡ e ∷ j → new.states ≡ map state_in (slice_set ss i t) → new.orders ≡ map order_in (slice_set ss i t) →
+      Ordered s.program s.sites s.state (message_in message) t.state s.order t.order → IsWorldTurnInOrder old new (suc i)
+  world_order old new program sites journal states orders program_now journal_now states_now orders_now ordered = record {
+    entry = e;
+    journal = journal_now ∙ ap (λ (l : List Turn). e ∷ l) (sym journal);
+    turn = in_world;
+    others = λ x other. ap (λ (os : List (List ThreadName)). orders_by os x) orders_now ∙ others x other ∙ sym (ap (λ (os : List (List ThreadName)). orders_by os x) orders);
+  }
+    where
+      others : (x : ℕ) → x ≢ suc i → orders_by (map order_in (slice_set ss i t)) x ≡ orders_by (map order_in ss) x
+      others zero other = refl
+      others (suc x) other = read_same order_in (slice_set ss i t) ss x (first_order (suc x)) (set_other ss i x t (λ q. other (ap suc q)))
+
+      was : s.state ≡ states_of old (suc i)
+      was = sym ((λ r. states_by (program r) (states r) (suc i)) ∙ here)
+
+      is : t.state ≡ states_of new (suc i)
+      is = sym ((λ r. states_by (program_now r) (states_now r) (suc i)) ∙ here_now)
+
+      stood : s.order ≡ orders_of old (suc i)
+      stood = sym (ap (λ (os : List (List ThreadName)). orders_by os (suc i)) orders ∙ read_there order_in ss i s (first_order (suc i)) at)
+
+      stands : t.order ≡ orders_of new (suc i)
+      stands = sym (ap (λ (os : List (List ThreadName)). orders_by os (suc i)) orders_now ∙ read_there order_in (slice_set ss i t) i t (first_order (suc i)) (set_here ss i t inside))
+
+      heard : message_in message ≡ delivered_message old.journal e.delivered
+      heard = message_is ∙ ap (λ (l : List Turn). delivered_message l e.delivered) (sym journal)
+
+      in_world : Ordered old.program old.sites (states_of old (suc i)) (delivered_message old.journal e.delivered) (states_of new (suc i)) (orders_of old (suc i)) (orders_of new (suc i))
+      in_world =
+          subst (λ (q : List Stmt). Ordered q old.sites (states_of old (suc i)) (delivered_message old.journal e.delivered) (states_of new (suc i)) (orders_of old (suc i)) (orders_of new (suc i))) (is_here.0 ∙ sym program)
+          (subst (λ (m : ℕ). Ordered s.program m (states_of old (suc i)) (delivered_message old.journal e.delivered) (states_of new (suc i)) (orders_of old (suc i)) (orders_of new (suc i))) (is_here.1 ∙ sym sites)
+          (subst (λ (x : Site). Ordered s.program s.sites x (delivered_message old.journal e.delivered) (states_of new (suc i)) (orders_of old (suc i)) (orders_of new (suc i))) was
+          (subst (λ (o : Option Msg). Ordered s.program s.sites s.state o (states_of new (suc i)) (orders_of old (suc i)) (orders_of new (suc i))) heard
+          (subst (λ (x : Site). Ordered s.program s.sites s.state (message_in message) x (orders_of old (suc i)) (orders_of new (suc i))) is
+          (subst (λ (a : List ThreadName). Ordered s.program s.sites s.state (message_in message) t.state a (orders_of new (suc i))) stood
+          (subst (λ (b : List ThreadName). Ordered s.program s.sites s.state (message_in message) t.state s.order b) stands ordered))))))
+
 -- ---- one site of a world
 
 pub state_read : (p : List Stmt) (ss : List (SiteState NoSeat)) (site : ℕ) (s : SiteState NoSeat) → 1 ≤ site → site ≤ length ss → s ≡ get_or ss (site - 1) s → states_by p (map state_in ss) site ≡ s.state
@@ -245,6 +300,24 @@ after_turn p j ss mail box sent k (suc i) low high place quantum few s t at mess
       consistent = consistent_now p j ss mail sent k i inside place quantum few s t found message box taken e made;
       turn = world_turn p j ss mail sent k i inside place quantum few s t found message box taken e made;
     })
+
+-- so it is with the order of threads
+abbrev OrderAfter : List Stmt → List Turn → List (SiteState NoSeat) → ℕ → ℕ → SiteState NoSeat → SiteState NoSeat → Option (ℕ × Msg) → Turn → Type 0
+OrderAfter p j ss site x s t message e =
+    (old new : WorldState) → old.program ≡ p → old.sites ≡ length ss → old.journal ≡ j → old.states ≡ map state_in ss → old.orders ≡ map order_in ss →
+    new.program ≡ p → new.journal ≡ e ∷ j → new.states ≡ map state_in (slice_set ss x t) → new.orders ≡ map order_in (slice_set ss x t) →
+    IsTurnInOrder s.program s.sites s.state (message_in message) e t.state s.order t.order → IsWorldTurnInOrder old new site
+
+pub after_in_order : (p : List Stmt) (j : List Turn) (ss : List (SiteState NoSeat)) (mail box : MailState) (sent : ℕ) (k : IsConsistent p j ss mail sent false) (site : ℕ) (low : 1 ≤ site) (high : site ≤ length ss)
+    (place : Option ℕ) (quantum : ℕ) (few : quantum ≤ 64) (s t : SiteState NoSeat) (at : s ≡ get_or ss (site - 1) s) (message : Option (ℕ × Msg)) (taken : IsTaken mail.messages box.messages site place message)
+    (e : Turn) (made : IsTurnMade s.program s.sites s.state message quantum e t.state) → OrderAfter p j ss site (site - 1) s t message e
+after_in_order p j ss mail box sent k zero low high place quantum few s t at message taken e made = absurd (omega arith)
+after_in_order p j ss mail box sent k (suc i) low high place quantum few s t at message taken e made =
+    let before : suc i - 1 ≡ i = omega arith in
+    let same : s ≡ get_or ss i s = subst (λ (x : ℕ). s ≡ get_or ss x s) before at in
+    let found : slice_get ss i ≡ Some s = slice_get_read ss (length ss) i s refl (omega arith) same in
+    let inside : i < length ss = omega arith in
+    subst (λ (x : ℕ). OrderAfter p j ss (suc i) x s t message e) (sym before) (world_order p j ss mail sent k i inside place quantum few s t found message box taken e made)
 
 -- ---- what the sites know stays
 

@@ -1,6 +1,7 @@
 -- A world of sites as its callers see it, and its turns.
 use Rattle.std.specs.Prelude.{◌≡◌, ◌≢◌, ℕ, zero, suc, ◌+◌, ◌≤◌, List, ◌∷◌, map, length, Bool, false, Option, Some, None, slice_get, slice_index_or, if◌then◌else◌}
 use Rattle.tree_node.specs.declared.limits.TheConstants.{MOST_SITES}
+use Rattle.tree_node.specs.declared.names.ThreadName.{ThreadName}
 use Rattle.kernel_syntax.specs.declared.stmt.Stmt.{Stmt}
 use Rattle.kernel_syntax.specs.Program.{IsProgram}
 use Rattle.site_message.specs.declared.message.Msg.{Msg}
@@ -14,18 +15,20 @@ use Rattle.site_model.specs.Site.{Site, initial_site}
 use Rattle.site_model.specs.Run.{WorldRun, IsRecordOf, delivered_message}
 use Rattle.site_model.specs.Transition.{Transition}
 use Rattle.site_model.specs.Turn.{IsFullTurnOf}
-use Rattle.site_core.specs.Site.{SiteState}
+use Rattle.site_core.specs.Site.{SiteState, IsTurnInOrder}
+use Rattle.site_core.specs.Start.{first_order}
 use Rattle.world_mail.specs.declared.travel.Travel.{Travel}
 use Rattle.world_mail.specs.Mail.{MailState, message_at, without_message}
 use Rattle.world_core.specs.Travels.{IsNumberAt}
 
--- the program, the number of its sites, the turns made, the states of the sites from 1 on, the messages that travel, by
--- places, and whether the world is given up after want of memory
+-- the program, the number of its sites, the turns made, the states of the sites from 1 on and the orders of their threads, the
+-- messages that travel, by places, and whether the world is given up after want of memory
 pub record WorldState : Type 0 where
   pub program : List Stmt
   pub sites : ℕ
   pub journal : List Turn
   pub states : List Site
+  pub orders : List (List ThreadName)
   pub travels : List Travel
   pub spent : Bool
 
@@ -38,6 +41,15 @@ states_by p ss (suc i) = slice_index_or ss i (initial_site p (suc i))
 abbrev pub states_of : WorldState → ℕ → Site
 states_of w i = states_by w.program w.states i
 
+-- the orders of threads by the sites' numbers. Those beyond the last are as they began
+abbrev pub orders_by : List (List ThreadName) → ℕ → List ThreadName
+orders_by os zero = first_order zero
+orders_by os (suc i) = slice_index_or os i (first_order (suc i))
+
+-- the order in which the threads of site i have their turns
+abbrev pub orders_of : WorldState → ℕ → List ThreadName
+orders_of w i = orders_by w.orders i
+
 -- one turn of the site: the journal has one entry more, which delivers the message at the place that was given; as many units
 -- as the quantum, fewer only where the site is then idle; the others are as they were
 pub record IsWorldTurn (old new : WorldState) (site : ℕ) (place : Option ℕ) (quantum : ℕ) : Type 0 where
@@ -48,6 +60,13 @@ pub record IsWorldTurn (old new : WorldState) (site : ℕ) (place : Option ℕ) 
   pub turn : (d : Transition) × IsFullTurnOf old.program old.sites bundle_limit quantum entry.units (states_of old site) (delivered_message old.journal entry.delivered) d × IsRecordOf entry d × (states_of new site ≡ d.site)
   pub few : (states_of new site).steps ≤ (states_of old site).steps + quantum
   pub others : (i : ℕ) → i ≢ site → states_of new i ≡ states_of old i
+
+-- the newest turn is of this site, and its threads had their turns in order; those of the other sites stand as they did
+pub record IsWorldTurnInOrder (old new : WorldState) (site : ℕ) : Type 0 where
+  pub entry : Turn
+  pub journal : new.journal ≡ entry ∷ old.journal
+  pub turn : IsTurnInOrder old.program old.sites (states_of old site) (delivered_message old.journal entry.delivered) entry (states_of new site) (orders_of old site) (orders_of new site)
+  pub others : (i : ℕ) → i ≢ site → orders_of new i ≡ orders_of old i
 
 -- each site knows what it knew: an equation at its owner stays
 abbrev pub KnowledgeStays : WorldState → WorldState → Type 0
@@ -62,6 +81,10 @@ travelling_at j k = if was_delivered j k then None else slice_get (sent_of j) k
 -- the state of a site
 abbrev pub state_in : SiteState NoSeat → Site
 state_in s = s.state
+
+-- the order of its threads
+abbrev pub order_in : SiteState NoSeat → List ThreadName
+order_in s = s.order
 
 -- a site of the program on so many sites, that can make turns
 abbrev pub IsSiteOf : List Stmt → ℕ → SiteState NoSeat → Type 0
@@ -86,7 +109,7 @@ pub record IsConsistent (p : List Stmt) (j : List Turn) (sites : List (SiteState
 
 -- the site of this place at the start
 abbrev pub IsNewSite : List Stmt → ℕ → ℕ → SiteState NoSeat → Type 0
-IsNewSite p n i s = IsSiteOf p n s × (s.state ≡ initial_site p (i + 1))
+IsNewSite p n i s = IsSiteOf p n s × (s.state ≡ initial_site p (i + 1)) × (s.order ≡ first_order (i + 1))
 
 -- the message at the place that was given is taken out
 abbrev pub IsTaken : List (ℕ × Sent) → List (ℕ × Sent) → ℕ → Option ℕ → Option (ℕ × Msg) → Type 0

@@ -3,11 +3,13 @@
 //! For: drivers that choose which site goes next and what it is told, as the fixed order of a plain run.
 //!
 //! It promises: every world that `World::new`, `World::turn` and `World::replay` give is a run of the program by its `journal`
-//! (`WorldRun`), and each turn adds the entry that tells it (`IsWorldTurn`). `World::replay` makes a turn of given units again,
-//! where it prints given lines (`IsReplayed`), and else tells the first unit that cannot be made (`IsWorldStuck`), or that the one
-//! turn of these units prints others (`PrintsOthers`). `NotThere` comes exactly where the place is none of `travelling` or its
-//! message is for another site, and then nothing changes. `travelling` tells exactly the messages that travel by the journal, each
-//! once (`AreTravels`), `next_for` the place of the one with the lowest number for a site, `place_of` that of a number, `quiet` whether nothing travels and every site is idle, `sent` how many messages were sent, `schedule` the picks of the turns in
+//! (`WorldRun`), and each turn adds the entry that tells it (`IsWorldTurn`); in a turn that is made by `turn` the threads of the site
+//! have their turns in order, and those of the others stand as they did (`IsWorldTurnInOrder`). `World::replay` makes a turn of given
+//! units again, where it prints given lines (`IsReplayed`), and else tells the first unit that cannot be made (`IsWorldStuck`), or
+//! that the one turn of these units prints others (`PrintsOthers`). `NotThere` comes exactly where the place is none of `travelling`
+//! or its message is for another site, and then nothing changes. `travelling` tells exactly the messages that travel by the journal,
+//! each once (`AreTravels`), `next_for` the place of the one with the lowest number for a site, `place_of` that of a number, `quiet`
+//! whether nothing travels and every site is idle, `sent` how many messages were sent, `schedule` the picks of the turns in
 //! order. After each turn the picks of the journal lead the centralised machine to a state that the sites match
 //! (`IsSimulated`), the protocols' invariants hold (`ProtocolsHold`), no delivered message was unfit, and no more messages were
 //! sent than the picks allow (`AreMessagesFew`). Where the world is quiet the machine rests, with the threads that ended and

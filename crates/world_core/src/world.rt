@@ -15,7 +15,8 @@ ghost use Rattle.world_core.specs.Laws.{HasRun, HasMachine, HasMachineAtRest, We
 ghost use Rattle.world_mail.specs.Mail.{message_at, without_message};
 ghost use Rattle.world_mail.specs.Travels.{travel_of, IsNoneFor, IsFirstFor, IsAt, IsPlaceOf};
 ghost use Rattle.world_core.specs.Travels.{AreTravels, IsNothingFor, IsNotThere};
-ghost use Rattle.world_core.specs.World.{states_of, IsWorldTurn, KnowledgeStays, IsNewSite, IsTaken};
+ghost use Rattle.world_core.specs.World.{states_of, orders_of, IsWorldTurn, IsWorldTurnInOrder, KnowledgeStays, IsNewSite, IsTaken};
+ghost use Rattle.site_core.specs.Start.{first_order};
 ghost use Rattle.site_core.specs.Site.{SiteState};
 ghost use Rattle.site_message.specs.declared.story.NoSeat.{NoSeat};
 
@@ -43,11 +44,11 @@ pub struct World<'a> {
 impl<'a> Model for World<'a> {
     ghost use Rattle.std.specs.Prelude.{length, map};
     ghost use Rattle.world_mail.specs.Travels.{travel_of};
-    ghost use Rattle.world_core.specs.World.{WorldState, IsConsistent, state_in};
+    ghost use Rattle.world_core.specs.World.{WorldState, IsConsistent, order_in, state_in};
 
     ghost Value = { WorldState };
 
-    ghost view = { λ w. record { program = w.program.now; sites = length w.sites.items; journal = w.journal; states = map state_in w.sites.items; travels = map travel_of w.mail.messages; spent = w.spent } };
+    ghost view = { λ w. record { program = w.program.now; sites = length w.sites.items; journal = w.journal; states = map state_in w.sites.items; orders = map order_in w.sites.items; travels = map travel_of w.mail.messages; spent = w.spent } };
 
     ghost invariant = { λ w. IsConsistent w.program.now w.journal w.sites.items w.mail w.sent w.spent };
 }
@@ -61,6 +62,7 @@ impl<'a> World<'a> {
         ensures sites { IfOk result (λ w. w.sites ≡ sites) }
         ensures journal { IfOk result (λ w. w.journal ≡ []) }
         ensures states { IfOk result (λ w. (i : ℕ) → states_of w i ≡ initial_site program.now i) }
+        ensures orders { IfOk result (λ w. (i : ℕ) → orders_of w i ≡ first_order i) }
         ensures travels { IfOk result (λ w. w.travels ≡ []) }
         ensures live { IfOk result (λ w. w.spent ≡ false) }
     {
@@ -96,6 +98,7 @@ impl<'a> World<'a> {
         ensures program { (self.new.program ≡ self.old.program) × (self.new.sites ≡ self.old.sites) }
         ensures live { OnOk result (self.new.spent ≡ false) }
         ensures turn { OnOk result (IsWorldTurn self.old self.new site place quantum.0) }
+        ensures order { OnOk result (IsWorldTurnInOrder self.old self.new site) }
         ensures stays { OnOk result (KnowledgeStays self.old self.new) }
         ensures run { OnOk result (WorldRun self.new.program self.new.sites bundle_limit self.new.journal (states_of self.new)) }
         ensures simulated { OnOk result (HasMachine self.new.program self.new.sites self.new.journal (states_of self.new)) }

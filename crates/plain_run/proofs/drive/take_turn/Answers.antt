@@ -34,7 +34,7 @@ returns-then-is_some-clause-made c =
     let travels = subst (AreTravels c.args.world.now.journal) c.travelling.ensures.value c.travelling.ensures.exact in
     let units = c.min-units.ensures ∙ ap (λ (k : ℕ). min (c.args.limits.steps - k) 64) c.steps-steps.ensures in
     made c.args.limits c.args.world.now.program c.args.world.now c.turn.new.self c.args.site c.min-units.result c.next_for-place.result c.requires.going c.requires.some c.requires.among turn run units
-    c.turn.ensures.program.0 c.turn.ensures.program.1 live travels c.next_for-place.ensures.place c.requires.next
+    c.turn.ensures.program.0 c.turn.ensures.program.1 live travels c.next_for-place.ensures.place c.requires.next (on_ok c.turn.result _ ok c.turn.ensures.order)
 
 pub returns-else-is_some-clause-made : goal.returns-else-is_some-clause-made
 returns-else-is_some-clause-made c =
@@ -45,4 +45,4 @@ returns-else-is_some-clause-made c =
     let travels = subst (AreTravels c.args.world.now.journal) c.travelling.ensures.value c.travelling.ensures.exact in
     let units = c.min-units.ensures ∙ ap (λ (k : ℕ). min (c.args.limits.steps - k) 64) c.steps-steps.ensures in
     made c.args.limits c.args.world.now.program c.args.world.now c.turn.new.self c.args.site c.min-units.result c.next_for-place.result c.requires.going c.requires.some c.requires.among turn run units
-    c.turn.ensures.program.0 c.turn.ensures.program.1 live travels c.next_for-place.ensures.place c.requires.next
+    c.turn.ensures.program.0 c.turn.ensures.program.1 live travels c.next_for-place.ensures.place c.requires.next (on_ok c.turn.result _ ok c.turn.ensures.order)

@@ -15,5 +15,5 @@ returns-clause-number c =
 
 pub returns-clause-order : goal.returns-clause-order
 returns-clause-order c =
-    turn_in_order c.args.program.now c.args.quantum.0 c.new-units.result c.turn.new.told c.split-delivered.result.1 c.args.core.now c.turn.new.core c.new-output.result c.turn.new.output c.in_ok-entry.entry
-    c.new-units.ensures c.in_ok-turn.ensures.turn c.in_ok-entry.ensures.units
+    turn_in_order c.args.program.now c.args.quantum.0 c.new-units.result c.turn.new.told c.args.message c.split-delivered.result.1 c.args.core.now c.turn.new.core c.new-output.result c.turn.new.output c.in_ok-entry.entry
+    c.new-output.ensures.picks c.new-output.ensures.sent c.new-output.ensures.lines c.split-delivered.ensures.message c.new-units.ensures c.in_ok-turn.ensures.turn c.in_ok-entry.ensures.units c.in_ok-entry.ensures.record

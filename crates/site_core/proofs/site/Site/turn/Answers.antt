@@ -1,7 +1,7 @@
 use Rattle.std.proofs.Common.{◌∙◌, ap, subst}
 use Rattle.bind_protocol.specs.Records.{Records}
 use Rattle.site_units.specs.Core.{site_of}
-use Rattle.site_core.specs.Site.{IsFairTurn, IsTurnMade}
+use Rattle.site_core.specs.Site.{IsTurnInOrder, IsTurnMade, message_in}
 use Rattle.site_core.proofs.site.Site.turn.Goals as goal
 
 pub returns-in-Err-clause-sites : goal.returns-in-Err-clause-sites
@@ -21,4 +21,4 @@ returns-in-Ok-clause-turn g c =
 
 pub returns-in-Ok-clause-order : goal.returns-in-Ok-clause-order
 returns-in-Ok-clause-order g c =
-    subst (λ s. IsFairTurn c.in-Ok.entry.units s.order c.recorded_turn.new.core.threads.order) c.self.view_is c.in-Ok.ensures.order
+    subst (λ s. IsTurnInOrder s.program s.sites s.state (message_in c.args.message) c.in-Ok.entry (site_of c.recorded_turn.new.core) s.order c.recorded_turn.new.core.threads.order) c.self.view_is c.in-Ok.ensures.order

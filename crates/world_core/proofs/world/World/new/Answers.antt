@@ -1,7 +1,7 @@
 use Rattle.std.proofs.Common.{sym, subst, List, false}
 use Rattle.site_message.specs.declared.turn.Turn.{Turn}
 use Rattle.world_core.specs.World.{IsConsistent}
-use Rattle.world_core.proofs.TurnLemmas.{starts, new_states}
+use Rattle.world_core.proofs.TurnLemmas.{starts, new_states, new_orders}
 use Rattle.world_core.proofs.world.World.new.Goals as goal
 
 pub invariant_of-result : goal.invariant_of-result
@@ -12,3 +12,6 @@ invariant_of-result c =
 
 pub returns-clause-states : goal.returns-clause-states
 returns-clause-states c = new_states c.args.program.now c.args.sites c.in_ok-first.first.items c.in_ok-first.ensures.sites
+
+pub returns-clause-orders : goal.returns-clause-orders
+returns-clause-orders c = new_orders c.args.program.now c.args.sites c.in_ok-first.first.items c.in_ok-first.ensures.sites

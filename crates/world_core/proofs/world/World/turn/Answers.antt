@@ -5,8 +5,10 @@ use Rattle.site_message.specs.declared.message.Sent.{Sent}
 use Rattle.site_message.specs.declared.turn.Turn.{Turn}
 use Rattle.site_model.specs.Bundle.{bundle_limit}
 use Rattle.site_model.specs.Run.{WorldRun}
+use Rattle.world_mail.specs.declared.travel.Travel.{Travel}
+use Rattle.world_core.specs.Travels.{IsNotThere}
 use Rattle.world_core.specs.World.{WorldState, IsConsistent, state_in, states_by}
-use Rattle.world_core.proofs.TurnLemmas.{After, after_turn, taken_below, turn_stays}
+use Rattle.world_core.proofs.TurnLemmas.{After, after_turn, after_in_order, taken_below, turn_stays}
 use Rattle.world_core.proofs.WorldLemmas.{machine, were_fit, protocols, messages_few}
 use Rattle.world_core.proofs.world.World.turn.Goals as goal
 
@@ -44,10 +46,28 @@ invariant_of-self-2 c =
     subst (λ (j : List Turn). IsConsistent w.program.now j (slice_set w.sites.items (c.args.site - 1) c.turn.new.self) c.push_all.new.self c.in_ok-self-inside.field-0 false) (sym (pushed c))
     ((after c).consistent c.push_all.new.self c.in_ok-self-inside.field-0 c.take_message.ensures.queues c.push_all.ensures.queues sent next c.turn.ensures.program c.turn.ensures.sites c.in_ok-turn.ensures.live)
 
+pub returns-then-is_err-clause-refused : goal.returns-then-is_err-clause-refused
+returns-then-is_err-clause-refused c =
+    let travels = ap (λ (v : WorldState). v.travels) (sym c.self.view_is) in (
+      λ q. cc,
+      λ n. (let both = c.in_ok-message.ensures.refused.1 (subst (λ (ts : List Travel). IsNotThere ts c.args.site c.args.place) travels n) in cc),
+    )
+
 pub returns-clause-turn : goal.returns-clause-turn
 returns-clause-turn c =
     (after c).turn c.args.self.now _ (ap (λ (v : WorldState). v.program) (sym c.self.view_is)) (ap (λ (v : WorldState). v.sites) (sym c.self.view_is)) (ap (λ (v : WorldState). v.journal) (sym c.self.view_is))
     (ap (λ (v : WorldState). v.states) (sym c.self.view_is)) (ap (λ (v : WorldState). v.travels) (sym c.self.view_is)) refl (pushed c) refl c.in_ok-turn.ensures.few
+
+pub returns-clause-order : goal.returns-clause-order
+returns-clause-order c =
+    let w = c.self.inside in
+    let sites : length w.sites.items ≡ c.args.self.now.sites = ap (λ (v : WorldState). v.sites) c.self.view_is in
+    let among = c.requires.among in
+    let high : c.args.site ≤ length w.sites.items = omega arith in
+    after_in_order w.program.now w.journal w.sites.items w.mail c.take_message.new.mail w.sent (before c) c.args.site c.requires.some high c.args.place c.args.quantum.0 c.requires.units
+    c.index_mut.result.now c.turn.new.self c.index_mut.ensures.value c.in_ok-message.message c.in_ok-message.ensures.taken c.in_ok-turn.turn c.in_ok-turn.ensures.turn
+    c.args.self.now _ (ap (λ (v : WorldState). v.program) (sym c.self.view_is)) (ap (λ (v : WorldState). v.sites) (sym c.self.view_is)) (ap (λ (v : WorldState). v.journal) (sym c.self.view_is))
+    (ap (λ (v : WorldState). v.states) (sym c.self.view_is)) (ap (λ (v : WorldState). v.orders) (sym c.self.view_is)) refl (pushed c) refl refl c.in_ok-turn.ensures.order
 
 pub returns-clause-stays : goal.returns-clause-stays
 returns-clause-stays c = turn_stays _ _ c.args.site c.args.place c.args.quantum.0 c.requires.units (returns-clause-turn c)
