@@ -4,6 +4,7 @@ use Rattle.tree_node.specs.declared.pick.Pick.{Pick}
 use Rattle.tree_node.specs.State.{State}
 use Rattle.kernel_syntax.specs.Program.{IsProgram}
 use Rattle.oz_sugar.specs.Texts.{TextsArePrograms}
+use Rattle.oz_model.specs.Laws.{CellsAreChains}
 use Rattle.oz_model.specs.Run.{Run}
 use Rattle.oz_words.specs.declared.options.Action.{Action}
 use Rattle.oz_words.specs.declared.options.Action.TheVariants as action
@@ -21,6 +22,7 @@ use Rattle.world_simulation.specs.Distributed.{RunsTakeRows}
 use Rattle.world_simulation.specs.Messages.{AllMessagesAreFew}
 use Rattle.oz_runner.specs.Besides.{AreMessagesBounded, AreTokensServed, IsAccounted}
 use Rattle.oz_runner.specs.Cause.{Cause, HasProgram}
+use Rattle.oz_runner.specs.Cells.{AreExchangesChained}
 use Rattle.oz_runner.specs.Headline.{Headline}
 use Rattle.oz_runner.specs.Messages.{most_messages}
 use Rattle.oz_runner.specs.OzCall.{OzCall, RunOutput}
@@ -74,6 +76,7 @@ pub record RunLaws : Type 0 where
   pub few : AllMessagesAreFew
   pub served : RequestsAreServed
   pub programs : TextsArePrograms
+  pub cells : CellsAreChains
 
 -- no journal is of threads that stay
 none_moves : (j : List Turn) → j ≡ [] → ThreadsStayHome j
@@ -111,12 +114,16 @@ module _ (seen : OzCall) (made : RunOutput) (laws : RunLaws) (ran : Ran seen mad
     laws.served given.program given.options.sites bundle_limit made.journal ran.by_sites.states program given.range.sites.0 given.range.sites.1 (omega arith) world,
   )
 
+-- whatever the run, the exchanges of its cells are chains
+pub chained : CellsAreChains → (picks : List Pick) → AreExchangesChained picks
+chained cells picks = record { chain = λ p s c run. cells p picks s c run }
+
 accounted_by : (seen : OzCall) (made : RunOutput) → RunLaws → (made.journal ≡ []) ⊎ Ran seen made → IsAccounted seen made.journal made.schedule
-accounted_by seen made laws (inl none) = record { homes = none_moves made.journal none; few = inl none; served = inl none }
-accounted_by seen made laws (inr ran) = record { homes = stays seen made laws ran; few = bounded seen made laws ran; served = served seen made laws ran }
+accounted_by seen made laws (inl none) = record { homes = none_moves made.journal none; few = inl none; served = inl none; chains = chained laws.cells made.schedule }
+accounted_by seen made laws (inr ran) = record { homes = stays seen made laws ran; few = bounded seen made laws ran; served = served seen made laws ran; chains = chained laws.cells made.schedule }
 
 -- what a call promises of its status accounts for its journal
 pub accounted : (seen : OzCall) (made : RunOutput) (status : Status) → RunsTakeRows → ThreadsAlwaysStayHome → AllMessagesAreFew → RequestsAreServed → TextsArePrograms
-    → Headline seen made status → IsAccounted seen made.journal made.schedule
-accounted seen made status rows homes few served programs whole =
-    accounted_by seen made (record { rows = rows; homes = homes; few = few; served = served; programs = programs }) (by_cause seen made whole.worked whole.has_line whole.cause)
+    → CellsAreChains → Headline seen made status → IsAccounted seen made.journal made.schedule
+accounted seen made status rows homes few served programs cells whole =
+    accounted_by seen made (record { rows = rows; homes = homes; few = few; served = served; programs = programs; cells = cells }) (by_cause seen made whole.worked whole.has_line whole.cause)

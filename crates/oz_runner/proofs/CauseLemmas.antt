@@ -1,5 +1,6 @@
 -- How the cause of a status goes on to the status that stands before the writing, and to the one that is answered.
 use Rattle.std.proofs.Common.{◌≡◌, ◌∙◌, ◌⊎◌, ◌≤◌, sym, subst, List, ℕ, ◌++◌, ◌∷◌, [], length, ap, inl, inr, refl, Option, Some, None, Err}
+use Rattle.std.specs.Io.KnownBytes.{Consumes}
 use Rattle.tree_node.specs.declared.pick.Pick.{Pick}
 use Rattle.site_message.specs.declared.turn.Turn.{Turn}
 use Rattle.oz_base.specs.Streams.{HandsInOnly}
@@ -12,7 +13,7 @@ use Rattle.oz_show.specs.Status.{end_line, HasLine, HasNumbers}
 use Rattle.oz_show.specs.declared.status.Status.{Status}
 use Rattle.oz_show.specs.declared.status.Status.TheVariants.{Quiescent, Usage, Refused, NotUtf8, TooLong, StepLimit, MessageLimit, ReadFault, WriteFault, Memory, Checked, Wrong, BadFile}
 use Rattle.oz_runner.specs.OzCall.{Stream, OzCall, RunOutput}
-use Rattle.oz_runner.specs.Cause.{Cause, HasFault, SourceGivesFront, IsFileOfSource, IsGiven, IsTextOfSource, HasProgram, IsTextOf, IsUntouched, HasNoFault, NothingRan, ReadsSource, ReadsText, HasOptions, IsSourceWanted, byte_limit, file_limit, text_limit}
+use Rattle.oz_runner.specs.Cause.{Cause, HasFault, IsFileOfSource, IsGiven, HasProgram, IsTextOf, IsUntouched, HasNoFault, HasRead, NothingRan, ReadsSource, ReadsText, HasOptions, byte_limit, file_limit, text_limit}
 use Rattle.oz_runner.specs.Due.{Due, File, IsDue, IsRestOfDue, IsRestOfOutput, Lines, due_bytes, lines_before}
 use Rattle.oz_runner.specs.Reading.{IsReadAs}
 use Rattle.oz_runner.specs.Saving.{IsPlain, IsReadyAs, IsRestOfWork, bytes_due, due_of}
@@ -43,15 +44,15 @@ ran_cause seen made (BadFile at) given came = absurd came
 
 -- the source gave bytes to its end, and so no more than may be
 read_within : (seen : OzCall) (words : Options) (a : Action) → words.action ≡ a → HasOptions seen words → ReadsSource a → (limit : ℕ) → ((n : ℕ) → n ≤ limit → n ≤ byte_limit a)
-    → (bytes : List ℕ) → IsGiven limit seen.source bytes → IsSourceWanted seen (λ b. HasNoFault seen.source × SourceGivesFront seen.source (λ n. n ≤ byte_limit b))
+    → (bytes : List ℕ) → IsGiven limit seen.source bytes → HasRead seen HasNoFault (λ n most. n ≤ most)
 read_within seen words a is says reads limit most bytes gave =
-    let moved = subst (λ (b : Action). ReadsSource b × (HasNoFault seen.source × SourceGivesFront seen.source (λ n. n ≤ byte_limit b))) (sym is)
+    let moved = subst (λ (b : Action). ReadsSource b × (HasNoFault seen.source × ((front : List ℕ) × Consumes seen.source.bytes_before seen.source.bytes_after front × (length front ≤ byte_limit b)))) (sym is)
     (reads, (gave.3, (bytes, gave.0, most (length bytes) gave.2))) in
     (words, says, moved.0, moved.1)
 
 -- no more was read than may be
 read_front : (seen : OzCall) (words : Options) (file : Option SavedRun) (text : List ℕ) (a : Action) → words.action ≡ a → HasOptions seen words → IsTextOf a file seen.source text
-    → IsUntouched seen.source ⊎ IsSourceWanted seen (λ b. HasNoFault seen.source × SourceGivesFront seen.source (λ n. n ≤ byte_limit b))
+    → IsUntouched seen.source ⊎ HasRead seen HasNoFault (λ n most. n ≤ most)
 read_front seen words None text action.Run is says gave = inr (read_within seen words action.Run is says tt text_limit (λ n less. less) text gave)
 read_front seen words None text action.Central is says gave = inr (read_within seen words action.Central is says tt text_limit (λ n less. less) text gave)
 read_front seen words None text action.Save is says gave = inr (read_within seen words action.Save is says tt text_limit (λ n less. less) text gave)
@@ -86,7 +87,7 @@ unread_cause seen made words file text (Wrong at) says reads is_text why nothing
 unread_cause seen made words file text (BadFile at) says reads is_text why nothing = absurd why
 
 -- a text that the source gave is the one that is run
-pub source_text : (a : Action) (source : Stream) (text : List ℕ) → ReadsText a → IsTextOfSource source text → IsTextOf a None source text
+pub source_text : (a : Action) (source : Stream) (text : List ℕ) → ReadsText a → IsGiven text_limit source text → IsTextOf a None source text
 source_text action.Run source text reads gave = gave
 source_text action.Central source text reads gave = gave
 source_text action.Save source text reads gave = gave
@@ -106,7 +107,7 @@ memory_cause seen made (NotUtf8 at) has ((words, says, (file, text, is_text, hol
 memory_cause seen made (Refused fault) has ((words, says, (file, text, is_text, holds)), nothing) = text_stops seen made words file text says is_text nothing
 memory_cause seen made (Checked entries picks) has (given, file, is, ran, found) = inr (given, ran)
 memory_cause seen made (Wrong at) has (given, file, is, ran, found) = inr (given, ran)
-memory_cause seen made (BadFile at) has ((words, says, reads, (is, (bytes, gave, first))), nothing) =
+memory_cause seen made (BadFile at) has ((words, says, is, (bytes, gave, first)), nothing) =
     inl (inr (read_within seen words action.Check is says tt file_limit (λ n less. less) bytes gave), nothing)
 memory_cause seen made Usage has cause = absurd has
 memory_cause seen made TooLong has cause = absurd has

@@ -31,13 +31,13 @@ all_of_it text bytes (Some ys) h end = h ∙ (ap (λ l. bytes ++ l) end ∙ appe
 -- ---- the text is the one that was told
 
 -- with these words the source has these bytes, and they are no more than may be
-source_told : (a : Action) (source : Stream) (text : List ℕ) → ReadsSource a → HasText a source text → length text ≤ text_limit
+source_told : (a : Action) (source : Stream) (text : List ℕ) → ReadsSource a → HasText a source text
     → (bytes : List ℕ) × (source.bytes_before ≡ Some bytes) × (length bytes ≤ byte_limit a)
-source_told action.Run source text reads told fits = (text, told, fits)
-source_told action.Central source text reads told fits = (text, told, fits)
-source_told action.Save source text reads told fits = (text, told, fits)
-source_told action.Check source text reads told fits = (told.0, told.1, told.2)
-source_told (action.Gen size) source text reads told fits = absurd reads
+source_told action.Run source text reads told = (text, told.0, told.1)
+source_told action.Central source text reads told = (text, told.0, told.1)
+source_told action.Save source text reads told = (text, told.0, told.1)
+source_told action.Check source text reads told = (told.0, told.1, told.2)
+source_told (action.Gen size) source text reads told = absurd reads
 
 -- what was read to the end are the bytes that the source had
 read_told : (limit : ℕ) (source : Stream) (told bytes : List ℕ) → source.bytes_before ≡ Some told → IsGiven limit source bytes → told ≡ bytes
@@ -45,9 +45,9 @@ read_told limit source told bytes before gave =
     all_of_it told bytes source.bytes_after (subst (λ (o : Option (List ℕ)). Consumes o source.bytes_after bytes) before gave.0) gave.1
 
 run_told : SavesOne → (a : Action) (file : Option SavedRun) (source : Stream) (told text : List ℕ) → HasText a source told → IsTextOf a file source text → told ≡ text
-run_told saves action.Run None source told text before gave = read_told text_limit source told text before gave
-run_told saves action.Central None source told text before gave = read_told text_limit source told text before gave
-run_told saves action.Save None source told text before gave = read_told text_limit source told text before gave
+run_told saves action.Run None source told text before gave = read_told text_limit source told text before.0 gave
+run_told saves action.Central None source told text before gave = read_told text_limit source told text before.0 gave
+run_told saves action.Save None source told text before gave = read_told text_limit source told text before.0 gave
 run_told saves (action.Gen size) None source told text before gave = before ∙ sym gave.0
 run_told saves action.Check (Some file) source told text (bytes, has, short, (run, spells, is)) gave =
     let same : bytes ≡ gave.0.0 = read_told file_limit source bytes gave.0.0 has gave.0.1 in
@@ -74,7 +74,7 @@ good_bytes : (seen : OzCall) (good : IsGood seen) (words : Options) → HasOptio
     → (bytes : List ℕ) × (seen.source.bytes_before ≡ Some bytes) × (length bytes ≤ byte_limit words.action)
 good_bytes seen good words says reads =
     subst (λ (o : Options). (bytes : List ℕ) × (seen.source.bytes_before ≡ Some bytes) × (length bytes ≤ byte_limit o.action)) (as_good seen good words says)
-    (source_told good.options.action seen.source good.text (subst (λ (o : Options). ReadsSource o.action) (sym (as_good seen good words says)) reads) good.told good.fits)
+    (source_told good.options.action seen.source good.text (subst (λ (o : Options). ReadsSource o.action) (sym (as_good seen good words says)) reads) good.told)
 
 -- with `check` they are the text of a saved run
 good_file : (a : Action) (source : Stream) (text : List ℕ) → a ≡ action.Check → HasText a source text → (bytes : List ℕ) × (source.bytes_before ≡ Some bytes) × ((file : SavedRun) × Saved file bytes)
@@ -99,7 +99,7 @@ complete seen made TooLong texts saves apart ((words, says, reads, (steady, (byt
     let most = no_more told.0 bytes seen.source.bytes_after whole in
     let fits = told.2 in
     absurd (omega (arith, most, fits, past))
-complete seen made (BadFile at) texts saves apart ((words, says, reads, (is, (bytes, gave, first))), nothing) good =
+complete seen made (BadFile at) texts saves apart ((words, says, is, (bytes, gave, first)), nothing) good =
     let file = good_file good.options.action seen.source good.text (ap (λ (o : Options). o.action) (as_good seen good words says) ∙ is) good.told in
     let same : file.0 ≡ bytes = read_told file_limit seen.source file.0 bytes file.1 gave in
     absurd (apart bytes file.2.0 (Bad at) (subst (Saved file.2.0) same file.2.1) first)

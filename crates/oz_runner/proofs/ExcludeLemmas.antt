@@ -2,6 +2,7 @@
 use Rattle.std.proofs.Common.{arith, ◌≡◌, ◌∙◌, sym, ap, subst, refl, ◌⊎◌, inl, inr, ℕ, ◌<◌, ◌≤◌, List, length, Option, Some, None}
 use Rattle.std.proofs.lemmas.Bool.Decides.{leb_tells}
 use Rattle.std.specs.Prelude.{unwrap_or, leb, true, false}
+use Rattle.std.specs.Io.KnownBytes.{Consumes}
 use Rattle.std.specs.Str.{IsUtf8, IsValidUpTo}
 use Rattle.tree_node.specs.State.{State}
 use Rattle.kernel_syntax.specs.declared.stmt.Stmt.{Stmt}
@@ -28,7 +29,7 @@ use Rattle.run_file.specs.declared.fault.FileFault.TheVariants.{Bad}
 use Rattle.run_check.specs.Laws.{NotBoth, WrongIsOne}
 use Rattle.run_check.specs.World.{limits_of as numbers_of}
 use Rattle.oz_runner.specs.OzCall.{Stream, OzCall, RunOutput}
-use Rattle.oz_runner.specs.Cause.{Cause, HasFault, HasNoFault, HasProgram, HasRunStatus, HasOptions, IsGiven, IsTextOf, ReadsSource, SourceGivesFront, byte_limit, file_limit, options_with}
+use Rattle.oz_runner.specs.Cause.{Cause, HasFault, HasNoFault, HasProgram, HasRunStatus, HasOptions, IsGiven, IsTextOf, ReadsSource, byte_limit, file_limit, options_with}
 use Rattle.oz_runner.specs.Checking.{IsRight, IsWrongRun}
 use Rattle.oz_runner.specs.Run.{IsNew, OfSitesOrMachine, StopsFor, HasEnded, IsStatusOfRun, limits_of}
 use Rattle.oz_runner.specs.Laws.{IsTold, IsOfWork, CausesExclude}
@@ -36,6 +37,10 @@ use Rattle.oz_runner.proofs.ActionLemmas.{options_same}
 use Rattle.oz_runner.proofs.TextLemmas.{bytes_of_text, given_same, text_same}
 
 -- ---- the source
+
+-- the source gave a front of its bytes, and the front's length is as the fact says
+abbrev Gives : Stream → (ℕ → Type 0) → Type 0
+Gives s IsLength = (front : List ℕ) × Consumes s.bytes_before s.bytes_after front × IsLength (length front)
 
 no_fault : (s : Stream) → IsTold s → HasNoFault s → HasFault s → ⊥
 no_fault s told none (inl rose) = omega (arith, none, rose)
@@ -198,7 +203,7 @@ module _ (texts : AreOneOfBoth Reads FaultOf) (determined : RunsAreDetermined) (
   abbrev WordsEnd : OzCall → RunOutput → Options → Status → Type 0
   WordsEnd seen made words status =
       ((status ≡ ReadFault) × ReadsSource words.action × HasFault seen.source)
-      ⊎ (((status ≡ TooLong) × ReadsSource words.action × HasNoFault seen.source × SourceGivesFront seen.source (λ n. byte_limit words.action < n))
+      ⊎ (((status ≡ TooLong) × ReadsSource words.action × HasNoFault seen.source × Gives seen.source (λ n. byte_limit words.action < n))
       ⊎ (((at : ℕ) × (status ≡ BadFile at) × (words.action ≡ Check) × (bytes : List ℕ) × IsGiven file_limit seen.source bytes × IsFirstFault bytes (Bad at))
       ⊎ ((file : Option SavedRun) × (text : List ℕ) × IsTextOf words.action file seen.source text × TextEnds words file made text status)))
 
@@ -258,7 +263,7 @@ module _ (texts : AreOneOfBoth Reads FaultOf) (determined : RunsAreDetermined) (
   fate_of seen made Usage work cause = inl (refl, cause.0)
   fate_of seen made ReadFault work ((words, says, reads, (failed, gave)), nothing) = inr (words, says, inl (refl, reads, failed))
   fate_of seen made TooLong work ((words, says, reads, (steady, gave)), nothing) = inr (words, says, inr (inl (refl, reads, steady, gave)))
-  fate_of seen made (BadFile at) work ((words, says, reads, (is, (bytes, gave, wrong))), nothing) =
+  fate_of seen made (BadFile at) work ((words, says, is, (bytes, gave, wrong)), nothing) =
       inr (words, says, inr (inr (inl (at, refl, is, bytes, gave, wrong))))
   fate_of seen made (NotUtf8 at) work ((words, says, (file, text, is_text, (reads, bad, up_to))), nothing) =
       inr (words, says, inr (inr (inr (file, text, is_text, inl (at, refl, bad, up_to)))))
@@ -282,14 +287,14 @@ module _ (texts : AreOneOfBoth Reads FaultOf) (determined : RunsAreDetermined) (
     steady_text : (file : Option SavedRun) (text : List ℕ) → ReadsSource words.action → IsTextOf words.action file s text → HasFault s → ⊥
     steady_text file text reads is fault = no_fault s is_told (bytes_of_text words.action file s text reads is).1.3 fault
 
-    short_text : (file : Option SavedRun) (text : List ℕ) → ReadsSource words.action → IsTextOf words.action file s text → SourceGivesFront s (λ n. byte_limit words.action < n) → ⊥
+    short_text : (file : Option SavedRun) (text : List ℕ) → ReadsSource words.action → IsTextOf words.action file s text → Gives s (λ n. byte_limit words.action < n) → ⊥
     short_text file text reads is (front, gave, long) =
         let whole = bytes_of_text words.action file s text reads is in
         let same : length front ≡ length whole.0 = ap length (given_same s is_told.0.0 whole.0 front (byte_limit words.action) is_told.0.1 whole.1 gave) in
         let short = whole.1.2 in
         omega (arith, same, short, long)
 
-    short_file : words.action ≡ Check → (bytes : List ℕ) → IsGiven file_limit s bytes → SourceGivesFront s (λ n. byte_limit words.action < n) → ⊥
+    short_file : words.action ≡ Check → (bytes : List ℕ) → IsGiven file_limit s bytes → Gives s (λ n. byte_limit words.action < n) → ⊥
     short_file is bytes gave (front, given, long) =
         let same : length front ≡ length bytes = ap length (given_same s is_told.0.0 bytes front file_limit is_told.0.1 gave given) in
         let limit : byte_limit words.action ≡ file_limit = ap byte_limit is in

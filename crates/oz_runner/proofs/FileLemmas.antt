@@ -5,7 +5,6 @@ use Rattle.std.specs.Str.{IsUtf8}
 use Rattle.tree_node.specs.State.{State}
 use Rattle.kernel_syntax.specs.declared.stmt.Stmt.{Stmt}
 use Rattle.kernel_syntax.specs.Program.{IsProgram}
-use Rattle.oz_model.specs.Laws.{CellsAreChains}
 use Rattle.oz_sugar.specs.Texts.{Reads}
 use Rattle.site_message.specs.declared.limits.Limits.{Limits}
 use Rattle.site_message.specs.EarlierEnd.{HasNoEarlierEnd}
@@ -54,7 +53,6 @@ made_of j = run_output_of j (schedule j) (lines_in j)
 pub record FileLaws : Type 0 where
   pub rows : RunsTakeRows
   pub simulated : EveryRunIsSimulated
-  pub chains : CellsAreChains
 
 module _ (laws : FileLaws) (p : List Stmt) (program : IsProgram p) (file : SavedRun) (fits : MayBeSaved file) (j : List Turn) (run : HasRun p file.sites j) (went : HasNoEarlierEnd (numbers_of file) j)
     (words : Options) (is : words.action ≡ action.Check) where
@@ -86,7 +84,6 @@ module _ (laws : FileLaws) (p : List Stmt) (program : IsProgram p) (file : Saved
     run = machine.1.run;
     lines = sym machine.1.matches.lines;
     once = machine.1.once;
-    chains = λ c. laws.chains p (schedule j) machine.0 c machine.1.run;
   }
 
 made_same : (work : Work) (j : List Turn) → work.printed ≡ printed.Sites j → work.schedule ≡ schedule j → output_of_work work ≡ made_of j
@@ -163,7 +160,7 @@ first_fault bytes f at is (inr first) = subst (IsFirstFault bytes) is first
 pub bad_file_cause : (seen : OzCall) (made : RunOutput) (words : Options) (bytes : List ℕ) (at : ℕ) → HasOptions seen words → words.action ≡ action.Check
     → IsGiven file_limit seen.source bytes → IsFirstFault bytes (fault.Bad at) → NothingRan made → Cause seen made (BadFile at)
 bad_file_cause seen made words bytes at says is gave first nothing =
-    ((words, says, subst ReadsSource (sym is) tt, (is, (bytes, gave, first))), nothing)
+    ((words, says, is, (bytes, gave, first)), nothing)
 
 -- its program was not read
 pub unread_file_cause : (seen : OzCall) (made : RunOutput) (words : Options) (file : SavedRun) (status : Status) → HasOptions seen words → words.action ≡ action.Check

@@ -3,7 +3,6 @@ use Rattle.std.proofs.Common.{◌≡◌, sym, subst, refl, List, [], Some}
 use Rattle.tree_node.specs.Classes.{HasOneEach}
 use Rattle.tree_node.specs.State.{State}
 use Rattle.kernel_syntax.specs.declared.stmt.Stmt.{Stmt}
-use Rattle.oz_model.specs.Laws.{CellsAreChains}
 use Rattle.site_message.specs.Journal.{end_of}
 use Rattle.site_message.specs.declared.reason.Reason.{Reason}
 use Rattle.site_message.specs.declared.reason.Reason.TheVariants as reason
@@ -22,7 +21,7 @@ use Rattle.oz_runner.specs.Machine.{machine_status}
 alone : (a : Action) (OfSites OfMachine : Type 0) → a ≡ action.Central → OfMachine → OfSitesOrMachine a OfSites OfMachine
 alone a OfSites OfMachine is holds = subst (λ (a : Action). OfSitesOrMachine a OfSites OfMachine) (sym is) holds
 
-module _ (p : List Stmt) (options : Options) (s : State) (left : CentralOut) (is : options.action ≡ action.Central) (chain : CellsAreChains) (ends : EndsAt p options.steps s left) where
+module _ (p : List Stmt) (options : Options) (s : State) (left : CentralOut) (is : options.action ≡ action.Central) (ends : EndsAt p options.steps s left) where
   abbrev by_machine : RunOutput
   by_machine = run_output_of [] left.picks left.lines.items
 
@@ -32,7 +31,6 @@ module _ (p : List Stmt) (options : Options) (s : State) (left : CentralOut) (is
     run = ends.run;
     lines = ends.lines;
     once = once;
-    chains = λ c. chain p left.picks s c ends.run;
   }
 
   machine_end : (why : Reason) → HasOneEach s.equations → StopsFor p options by_machine s why → HasEnded p options by_machine why s
@@ -57,6 +55,6 @@ module _ (p : List Stmt) (options : Options) (s : State) (left : CentralOut) (is
   came_for stops.Memory once = (s, machine_run once)
 
 -- a run of the machine comes to the status of its reason
-pub machine_came : (p : List Stmt) (options : Options) (s : State) (left : CentralOut) → options.action ≡ action.Central → CellsAreChains → EndsAt p options.steps s left
+pub machine_came : (p : List Stmt) (options : Options) (s : State) (left : CentralOut) → options.action ≡ action.Central → EndsAt p options.steps s left
     → IsStatusOfRun p options (run_output_of [] left.picks left.lines.items) (machine_status left.reason left.ended left.waiting)
-machine_came p options s left is chain ends = came_for p options s left is chain ends left.reason ends.reason
+machine_came p options s left is ends = came_for p options s left is ends left.reason ends.reason

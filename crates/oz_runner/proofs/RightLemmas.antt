@@ -115,7 +115,7 @@ module _ (texts : AreOneOfBoth Reads FaultOf) (programs : TextsArePrograms) (sav
   answers TooLong cause = tt
   answers Memory cause = tt
   answers Usage cause = absurd (cause.0 says.0)
-  answers (BadFile at) ((other, says_too, reads, (is, (given_bytes, gave, first))), nothing) =
+  answers (BadFile at) ((other, says_too, is, (given_bytes, gave, first)), nothing) =
       absurd (apart given_bytes run (Bad at) (subst (Saved run) (told_same checking.source bytes given_bytes file_limit told gave) due.saved) first)
   answers (NotUtf8 at) ((other, says_too, (file, text, is_text, (reads, bad, up_to))), nothing) =
       absurd (bad (subst IsUtf8 (sym (its_file other says_too file text is_text).1) given.utf8))

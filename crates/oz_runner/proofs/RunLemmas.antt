@@ -3,7 +3,7 @@ use Rattle.std.proofs.Common.{◌≡◌, ◌∙◌, ap, sym, subst, refl, not, �
 use Rattle.std.specs.Prelude.{◌&&◌, nat_lt, nat_le, if◌then◌else◌}
 use Rattle.tree_node.specs.State.{State}
 use Rattle.tree_node.specs.declared.pick.Pick.{Pick}
-use Rattle.oz_model.specs.Laws.{RunsAreDetermined, CellsAreChains}
+use Rattle.oz_model.specs.Laws.{RunsAreDetermined}
 use Rattle.oz_model.specs.Run.{Run}
 use Rattle.kernel_syntax.specs.declared.stmt.Stmt.{Stmt}
 use Rattle.site_message.specs.declared.limits.Limits.{Limits}
@@ -83,7 +83,7 @@ new_over_sites action.Save over = tt
 new_over_sites action.Central over = absurd over
 new_over_sites action.Check over = absurd over
 
-module _ (p : List Stmt) (options : Options) (out : RunOut) (is : IsOverSites options.action) (tells : QuietTells) (one : RunsAreDetermined) (chain : CellsAreChains) (left : Leaves p options out) where
+module _ (p : List Stmt) (options : Options) (out : RunOut) (is : IsOverSites options.action) (tells : QuietTells) (one : RunsAreDetermined) (left : Leaves p options out) where
   abbrev states : ℕ → Site
   states = left.run.0
 
@@ -121,7 +121,6 @@ module _ (p : List Stmt) (options : Options) (out : RunOut) (is : IsOverSites op
     run = run_by_picks;
     lines = sym simulated.matches.lines;
     once = simulated.once;
-    chains = λ c. chain p out.schedule s c run_by_picks;
   }
 
   abbrev Ends : Reason → Type 0
@@ -156,9 +155,9 @@ module _ (p : List Stmt) (options : Options) (out : RunOut) (is : IsOverSites op
   by_reason reason.Memory how = (s, sites_run)
 
 -- a run over sites comes to the status of its reason
-pub sites_came : (p : List Stmt) (options : Options) (out : RunOut) → IsOverSites options.action → QuietTells → RunsAreDetermined → CellsAreChains → Leaves p options out
+pub sites_came : (p : List Stmt) (options : Options) (out : RunOut) → IsOverSites options.action → QuietTells → RunsAreDetermined → Leaves p options out
     → IsStatusOfRun p options (run_output_of out.journal out.schedule (lines_in out.journal)) (status_of out.reason out.ended out.waiting)
-sites_came p options out is tells one chain left = by_reason p options out is tells one chain left out.reason left.reason
+sites_came p options out is tells one left = by_reason p options out is tells one left out.reason left.reason
 
 -- the status is that of the journal
 pub sites_after : (options : Options) (out : RunOut) → HasReason (limits_of options) out.journal out.reason → out.ended ≡ sum_to options.sites (last_ended out.journal)

@@ -12,6 +12,7 @@ use Rattle.world_journals.specs.Places.{ThreadsStayHome}
 use Rattle.world_journals.specs.Requests.{AreRequestsServed}
 use Rattle.world_simulation.specs.Distributed.{DistributedRun}
 use Rattle.oz_runner.specs.Cause.{HasProgram}
+use Rattle.oz_runner.specs.Cells.{AreExchangesChained}
 use Rattle.oz_runner.specs.Messages.{most_messages}
 use Rattle.oz_runner.specs.OzCall.{OzCall}
 
@@ -31,8 +32,10 @@ AreTokensServed seen j =
     ⊎ ((given : HasProgram seen) × (states : ℕ → Site) × DistributedRun given.program given.options.sites bundle_limit j states
     × ((c : CellName) (i : ℕ) → AreRequestsServed given.program c i j (cell_record (states i) c).held.token))
 
--- each own step of a thread is of the site where the thread was placed; the sites sent few messages, and their requests are served
+-- each own step of a thread is of the site where the thread was placed; the sites sent few messages, and their requests are served; and
+-- the exchanges of each cell are one chain
 pub record IsAccounted (seen : OzCall) (j : List Turn) (picks : List Pick) : Type 0 where
   pub homes : ThreadsStayHome j
   pub few : AreMessagesBounded seen j picks
   pub served : AreTokensServed seen j
+  pub chains : AreExchangesChained picks

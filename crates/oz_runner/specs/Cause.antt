@@ -3,7 +3,6 @@ use Rattle.std.specs.Prelude.{◌≡◌, ◌<◌, ◌≤◌, ◌⊎◌, ℕ, Lis
 use Rattle.std.specs.Str.{IsUtf8, IsValidUpTo}
 use Rattle.std.specs.Io.KnownBytes.{Consumes, IsAtEnd}
 use Rattle.oz_base.specs.Streams.{HasRisen}
-use Rattle.oz_base.specs.Reading.{GivesFront}
 use Rattle.tree_node.specs.State.{State}
 use Rattle.kernel_syntax.specs.declared.stmt.Stmt.{Stmt}
 use Rattle.oz_sugar.specs.Texts.{Reads, FaultOf}
@@ -16,7 +15,7 @@ use Rattle.oz_words.specs.declared.options.Action.TheVariants as action
 use Rattle.oz_words.specs.declared.options.Options.{Options}
 use Rattle.oz_words.specs.declared.options.WordsError.TheVariants as words_error
 use Rattle.oz_show.specs.declared.status.Status.{Status}
-use Rattle.oz_show.specs.declared.status.Status.TheVariants.{Quiescent, Usage, Refused, NotUtf8, TooLong, StepLimit, MessageLimit, ReadFault, WriteFault, Memory, Checked, Wrong, BadFile}
+use Rattle.oz_show.specs.declared.status.Status.TheVariants.{Usage, Refused, NotUtf8, TooLong, ReadFault, WriteFault, Memory, Checked, Wrong, BadFile}
 use Rattle.oz_runner.specs.OzCall.{Stream, OzCall, RunOutput}
 use Rattle.oz_runner.specs.Checking.{IsRight, IsWrongRun}
 use Rattle.oz_runner.specs.Run.{IsRun, IsStatusOfRun}
@@ -31,11 +30,8 @@ file_limit = 268435456
 
 -- the most bytes that the source may give
 abbrev pub byte_limit : Action → ℕ
-byte_limit action.Run = text_limit
-byte_limit action.Central = text_limit
-byte_limit (action.Gen size) = text_limit
-byte_limit action.Save = text_limit
 byte_limit action.Check = file_limit
+byte_limit _ = text_limit
 
 -- a call of the stream failed
 abbrev pub HasFault : Stream → Type 0
@@ -45,10 +41,6 @@ HasFault s = HasRisen s.faults_before s.faults_after
 abbrev pub HasNoFault : Stream → Type 0
 HasNoFault s = s.faults_after ≡ s.faults_before
 
--- the source gave a front of its bytes, and the front's length is as the fact says
-abbrev pub SourceGivesFront : Stream → (ℕ → Type 0) → Type 0
-SourceGivesFront s IsLength = GivesFront s.bytes_before s.bytes_after IsLength
-
 -- the stream was not touched
 abbrev pub IsUntouched : Stream → Type 0
 IsUntouched s = (s.bytes_after ≡ s.bytes_before) × HasNoFault s
@@ -57,39 +49,33 @@ IsUntouched s = (s.bytes_after ≡ s.bytes_before) × HasNoFault s
 abbrev pub IsGiven : ℕ → Stream → List ℕ → Type 0
 IsGiven limit s bytes = Consumes s.bytes_before s.bytes_after bytes × IsAtEnd s.bytes_after × (length bytes ≤ limit) × HasNoFault s
 
--- they are a text
-abbrev pub IsTextOfSource : Stream → List ℕ → Type 0
-IsTextOfSource s text = IsGiven text_limit s text
-
--- they are the text of this saved run
+-- the source gave the text of this saved run
 abbrev pub IsFileOfSource : Stream → SavedRun → Type 0
 IsFileOfSource s file = (bytes : List ℕ) × IsGiven file_limit s bytes × Saved file bytes
 
+-- there is a saved run, which the source gave, and its text is this
+abbrev pub IsFileText : Option SavedRun → Stream → List ℕ → Type 0
+IsFileText None source text = ⊥
+IsFileText (Some file) source text = IsFileOfSource source file × (text ≡ file.text)
+
 -- the text that is run: what the source gave, or with `gen` the large text of the size, and the source is not touched, or with `check`
--- that of the saved run which the source gave
+-- that of the saved run which the source gave. With other words there is no saved run
 abbrev pub IsTextOf : Action → Option SavedRun → Stream → List ℕ → Type 0
-IsTextOf action.Run None source text = IsTextOfSource source text
-IsTextOf action.Central None source text = IsTextOfSource source text
+IsTextOf action.Check file source text = IsFileText file source text
 IsTextOf (action.Gen size) None source text = (text ≡ large_text size) × IsUntouched source
-IsTextOf action.Save None source text = IsTextOfSource source text
-IsTextOf action.Check (Some file) source text = IsFileOfSource source file × (text ≡ file.text)
-IsTextOf _ _ source text = ⊥
+IsTextOf _ None source text = IsGiven text_limit source text
+IsTextOf _ (Some file) source text = ⊥
 
 -- what is read is that of the source
 abbrev pub ReadsSource : Action → Type 0
-ReadsSource action.Run = Unit {0}
-ReadsSource action.Central = Unit {0}
 ReadsSource (action.Gen size) = ⊥
-ReadsSource action.Save = Unit {0}
-ReadsSource action.Check = Unit {0}
+ReadsSource _ = Unit {0}
 
 -- and it is a text
 abbrev pub ReadsText : Action → Type 0
-ReadsText action.Run = Unit {0}
-ReadsText action.Central = Unit {0}
 ReadsText (action.Gen size) = ⊥
-ReadsText action.Save = Unit {0}
 ReadsText action.Check = ⊥
+ReadsText _ = Unit {0}
 
 -- nothing ran: there is no turn, no step and no line
 abbrev pub NothingRan : RunOutput → Type 0
@@ -99,9 +85,19 @@ NothingRan made = (made.journal ≡ []) × (made.schedule ≡ []) × (made.lines
 abbrev pub HasOptions : OzCall → Options → Type 0
 HasOptions seen options = ReadsWords seen.words (Ok options)
 
--- the words are taken, by them the source is read, and this holds of what they say
-abbrev pub IsSourceWanted : OzCall → (Action → Type 0) → Type 0
-IsSourceWanted seen Holds = (options : Options) × HasOptions seen options × ReadsSource options.action × Holds options.action
+-- the words are taken, and by them the source is read: the count of its faults is as the first fact says, and it gave a front of its
+-- bytes, of whose length and the most that it may be the second holds
+abbrev pub HasRead : OzCall → (Stream → Type 0) → (ℕ → ℕ → Type 0) → Type 0
+HasRead seen Counts IsLength =
+    (options : Options) × HasOptions seen options × ReadsSource options.action
+    × (Counts seen.source
+    × ((front : List ℕ) × Consumes seen.source.bytes_before seen.source.bytes_after front × IsLength (length front) (byte_limit options.action)))
+
+-- with `check` the source gave bytes that are no saved run: this is the place of their first fault
+abbrev pub HasBadFile : OzCall → ℕ → Type 0
+HasBadFile seen at =
+    (options : Options) × HasOptions seen options × (options.action ≡ action.Check)
+    × ((bytes : List ℕ) × IsGiven file_limit seen.source bytes × IsFirstFault bytes (Bad at))
 
 -- the words are taken, and this holds of what they say, and of the text that is run
 abbrev pub HasRunText : OzCall → (Action → List ℕ → Type 0) → Type 0
@@ -139,32 +135,20 @@ HasFileRun seen made Holds =
     (given : HasProgram seen) × (file : SavedRun) × (given.file ≡ Some file)
     × ((s : State) × IsRun given.program given.options made s) × Holds given.program file
 
--- no memory was left before anything ran, or for the saved run of it, and then nothing is told: the source was not read, or no more of
--- it than may be
-abbrev pub IsStoppedEarly : OzCall → RunOutput → Type 0
-IsStoppedEarly seen made =
-    (IsUntouched seen.source
-    ⊎ IsSourceWanted seen (λ a. HasNoFault seen.source × SourceGivesFront seen.source (λ n. n ≤ byte_limit a)))
-    × NothingRan made
-
--- The cause of each status. Want of memory is the one free answer: it comes before anything ran, or in a run, whose lines are
--- those of the schedule. A saved run that is wrong leaves the run of the entries before the place that is told
+-- The cause of each status. Want of memory is the one free answer: it comes before anything ran, or for the saved run of what ran, and
+-- then nothing is told, and the source was not read, or no more of it than may be; or it comes in a run, whose lines are those of the
+-- schedule. A saved run that is wrong leaves the run of the entries before the place that is told. The last line is that of the other
+-- ends of a run, `Quiescent`, `StepLimit` and `MessageLimit`
 abbrev pub Cause : OzCall → RunOutput → Status → Type 0
 Cause seen made Usage = ReadsWords seen.words (Err words_error.Usage) × IsUntouched seen.source × NothingRan made
-Cause seen made ReadFault =
-    IsSourceWanted seen (λ a. HasFault seen.source × SourceGivesFront seen.source (λ n. n ≤ byte_limit a)) × NothingRan made
-Cause seen made TooLong =
-    IsSourceWanted seen (λ a. HasNoFault seen.source × SourceGivesFront seen.source (λ n. byte_limit a < n)) × NothingRan made
-Cause seen made (BadFile at) =
-    IsSourceWanted seen (λ a. (a ≡ action.Check) × ((bytes : List ℕ) × IsGiven file_limit seen.source bytes × IsFirstFault bytes (Bad at)))
-    × NothingRan made
+Cause seen made ReadFault = HasRead seen HasFault (λ n most. n ≤ most) × NothingRan made
+Cause seen made TooLong = HasRead seen HasNoFault (λ n most. most < n) × NothingRan made
+Cause seen made (BadFile at) = HasBadFile seen at × NothingRan made
 Cause seen made (NotUtf8 at) =
     HasRunText seen (λ a text. ReadsSource a × (IsUtf8 text → ⊥) × IsValidUpTo text at) × NothingRan made
 Cause seen made (Refused fault) = HasRunText seen (λ a text. IsUtf8 text × FaultOf text fault) × NothingRan made
 Cause seen made WriteFault = HasFault seen.sink
-Cause seen made Memory = IsStoppedEarly seen made ⊎ HasRunStatus seen made Memory
-Cause seen made (Quiescent ended waiting) = HasRunStatus seen made (Quiescent ended waiting)
-Cause seen made (StepLimit site) = HasRunStatus seen made (StepLimit site)
-Cause seen made MessageLimit = HasRunStatus seen made MessageLimit
+Cause seen made Memory = ((IsUntouched seen.source ⊎ HasRead seen HasNoFault (λ n most. n ≤ most)) × NothingRan made) ⊎ HasRunStatus seen made Memory
 Cause seen made (Checked entries picks) = HasFileRun seen made (λ p file. IsRight p file made entries picks)
 Cause seen made (Wrong at) = HasFileRun seen made (λ p file. IsWrongRun p file made.journal at)
+Cause seen made status = HasRunStatus seen made status

@@ -13,16 +13,18 @@ use Rattle.oz_show.specs.declared.status.Status.TheVariants.{Quiescent, StepLimi
 use Rattle.oz_runner.specs.OzCall.{OzCall, Stream}
 use Rattle.oz_runner.specs.Cause.{HasFault, HasOptions, file_limit, text_limit}
 
--- the text that is to be run: what the source has, where it tells that, or the large text of the size; or with `check` that of a saved
--- run which the source has
-abbrev pub HasText : Action → Stream → List ℕ → Type 0
-HasText action.Run source text = source.bytes_before ≡ Some text
-HasText action.Central source text = source.bytes_before ≡ Some text
-HasText (action.Gen size) source text = text ≡ large_text size
-HasText action.Save source text = source.bytes_before ≡ Some text
-HasText action.Check source text =
+-- the source has a saved run, where it tells that, and its text is this
+abbrev pub HasFileText : Stream → List ℕ → Type 0
+HasFileText source text =
     (bytes : List ℕ) × (source.bytes_before ≡ Some bytes) × (length bytes ≤ file_limit)
     × ((file : SavedRun) × Saved file bytes × (text ≡ file.text))
+
+-- the text that is to be run: what the source has, where it tells that and it is short enough, or the large text of the size; or with
+-- `check` that of a saved run which the source has
+abbrev pub HasText : Action → Stream → List ℕ → Type 0
+HasText (action.Gen size) source text = text ≡ large_text size
+HasText action.Check source text = HasFileText source text
+HasText _ source text = (source.bytes_before ≡ Some text) × (length text ≤ text_limit)
 
 -- the words are taken, the text is told, short enough and UTF-8, it reads a program, and there was no fault
 pub record IsGood (seen : OzCall) : Type 0 where
@@ -30,7 +32,6 @@ pub record IsGood (seen : OzCall) : Type 0 where
   pub says : HasOptions seen options
   pub text : List ℕ
   pub told : HasText options.action seen.source text
-  pub fits : length text ≤ text_limit
   pub utf8 : IsUtf8 text
   pub program : List Stmt
   pub reads : Reads text program

@@ -14,20 +14,12 @@ use Rattle.oz_runner.specs.Headline.{Headline}
 use Rattle.oz_runner.specs.Besides.{IsAccounted}
 use Rattle.oz_runner.specs.Writing.{IsOutputTaken}
 
--- a call of `oz` was made with the words, which are those told where they are told: the headline holds of it, and what is said of its
--- journal besides, and the number is that of its status
-abbrev pub IsExitOfCall : Option (List (List ℕ)) → Stream → Stream → ExitCode → Type 0
-IsExitOfCall told source sink code =
-    (words : List (List ℕ)) × AreToldAs told words × (made : RunOutput) × (status : Status)
-    × Headline (oz_call_of words source sink) made status × IsAccounted (oz_call_of words source sink) made.journal made.schedule
-    × (exit_status code ≡ status_number status)
-
--- no memory was left for the words: nothing was read, the line of want of memory was written, or the sink failed and took a front of it,
--- and the number is that of want of memory
-abbrev pub IsExitWithoutCall : Stream → Stream → ExitCode → Type 0
-IsExitWithoutCall source sink code =
-    IsUntouched source × IsOutputTaken sink (output [] (end_line Memory)) Memory Memory × (exit_status code ≡ status_number Memory)
-
--- the program ends with this number: after a call of `oz`, or without one where no memory is left for the words
+-- The program ends with this number. A call of `oz` was made with the words, which are those told where they are told: the headline holds
+-- of it, and what is said of its journal besides, and the number is that of its status. Or no memory was left for the words: nothing was
+-- read, the line of want of memory was written, or the sink failed and took a front of it, and the number is that of want of memory
 abbrev pub IsExit : Option (List (List ℕ)) → Stream → Stream → ExitCode → Type 0
-IsExit told source sink code = IsExitOfCall told source sink code ⊎ IsExitWithoutCall source sink code
+IsExit told source sink code =
+    ((words : List (List ℕ)) × AreToldAs told words × (made : RunOutput) × (status : Status)
+    × Headline (oz_call_of words source sink) made status × IsAccounted (oz_call_of words source sink) made.journal made.schedule
+    × (exit_status code ≡ status_number status))
+    ⊎ (IsUntouched source × IsOutputTaken sink (output [] (end_line Memory)) Memory Memory × (exit_status code ≡ status_number Memory))

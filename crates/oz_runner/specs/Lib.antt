@@ -14,6 +14,7 @@ pub mod Headline
 pub mod Pieces
 pub mod Complete
 pub mod Machine
+pub mod Cells
 pub mod Besides
 pub mod Exit
 pub mod Laws

@@ -1,12 +1,10 @@
 -- What the run of a program comes to.
 use Rattle.std.specs.Prelude.{◌≡◌, ◌≤◌, ℕ, List, [], length, IsTrue, Some, Contains}
-use Rattle.tree_node.specs.declared.names.CellName.{CellName}
 use Rattle.tree_node.specs.Classes.{HasOneEach}
 use Rattle.tree_node.specs.State.{State}
 use Rattle.tree_node.specs.Store.{Equation}
 use Rattle.kernel_syntax.specs.declared.stmt.Stmt.{Stmt}
-use Rattle.oz_model.specs.Laws.{IsChainOf}
-use Rattle.oz_model.specs.Run.{Run, AtRest, exchanges, contents_given}
+use Rattle.oz_model.specs.Run.{Run, AtRest}
 use Rattle.site_message.specs.declared.limits.Limits.{Limits}
 use Rattle.site_message.specs.Journal.{AreWithin, end_of, is_idle, travelling}
 use Rattle.site_message.specs.EarlierEnd.{HasNoEarlierEnd}
@@ -27,19 +25,13 @@ use Rattle.oz_runner.specs.OzCall.{RunOutput}
 -- `run`, `gen` and `save` run the program over sites, and so was what `check` makes again; `central` runs it on the machine alone: the
 -- first is said of sites, the second of the machine
 abbrev pub OfSitesOrMachine : Action → Type 0 → Type 0 → Type 0
-OfSitesOrMachine action.Run OfSites OfMachine = OfSites
 OfSitesOrMachine action.Central OfSites OfMachine = OfMachine
-OfSitesOrMachine (action.Gen size) OfSites OfMachine = OfSites
-OfSitesOrMachine action.Save OfSites OfMachine = OfSites
-OfSitesOrMachine action.Check OfSites OfMachine = OfSites
+OfSitesOrMachine _ OfSites OfMachine = OfSites
 
 -- the run is a new one: with `check` it is a saved one, made again
 abbrev pub IsNew : Action → Type 0
-IsNew action.Run = Unit {0}
-IsNew action.Central = Unit {0}
-IsNew (action.Gen size) = Unit {0}
-IsNew action.Save = Unit {0}
 IsNew action.Check = ⊥
+IsNew _ = Unit {0}
 
 -- the limits of the sites
 abbrev pub limits_of : Options → Limits
@@ -61,15 +53,13 @@ pub record IsMadeBySites (p : List Stmt) (options : Options) (made : RunOutput) 
 abbrev pub IsMadeByMachine : Options → RunOutput → Type 0
 IsMadeByMachine options made = (made.journal ≡ []) × (length made.schedule ≤ options.steps)
 
--- The schedule leads the centralised machine from the start of the program to this state, whose lines these are and in which
--- each variable has at most one equation. Under the schedule the exchanges of each cell are one chain, from the content given to
--- NewCell on: each old content is the new one of the exchange before
+-- the schedule leads the centralised machine from the start of the program to this state, whose lines these are and in which each
+-- variable has at most one equation
 pub record IsRun (p : List Stmt) (options : Options) (made : RunOutput) (s : State) : Type 0 where
   pub made_by : OfSitesOrMachine options.action (IsMadeBySites p options made s) (IsMadeByMachine options made)
   pub run : Run p made.schedule s
   pub lines : made.lines ≡ s.lines
   pub once : HasOneEach s.equations
-  pub chains : (c : CellName) → IsChainOf (contents_given p made.schedule c) (exchanges p made.schedule c)
 
 -- the machine alone stops where it rests, or at its limit where it could go on. It is site 1
 abbrev pub StopsFor : List Stmt → Options → RunOutput → State → Reason → Type 0

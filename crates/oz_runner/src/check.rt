@@ -26,7 +26,6 @@ use crate::run::status_of;
 use crate::text::program_of_bytes;
 use crate::work::{RunLines, Work, work_without_run};
 use kernel_syntax::Program;
-use oz_model::exchanges_are_a_chain;
 use oz_show::last_line;
 use plain_run::{DrivenRun, RunOut, finish_run};
 use run_check::{Again, Made, make_again};
@@ -82,7 +81,6 @@ fn check_run(alloc: Global, program: &Program, file: &RunFile) -> Work
     program.is_program();
     sites_are_simulated();
     runs_take_rows();
-    exchanges_are_a_chain();
     let Again { history, made } = make_again(alloc, program, file);
     match made {
         Made::All(reason) => check_end(alloc, program, file, history, reason),

@@ -3,23 +3,25 @@
 //! **For**: `oz_main`, whose `main` is `start`, and whoever embeds the whole program over a source and a sink of their own,
 //! by `oz`, or runs a program over its sites, by `run_program`.
 //!
-//! **Promises**: `oz` (`headline`: `Headline` in `specs/Headline.antt`): the lines that were written, uncaught exceptions among
-//! them, are those of the centralised machine under the schedule of the report, for every program and number of sites, whatever
-//! the order of turns and deliveries in the journal of the report, and whatever drove the sites; where it is quiescent no message
-//! travels, that machine has no step left, and the threads that ended and wait are that machine's (`IsStatusOfRun` in
-//! `specs/Run.antt`); each status has its cause (`Cause` in `specs/Cause.antt`, one line a status), and what a failed write left is
-//! a front of what was due. `causes_exclude`: where the source tells its bytes and the count of its faults can rise, no two
-//! statuses have their causes in one call, those of failed writes and of want of memory left out. With `save` the lines stand in a
-//! saved run, which alone is written where the sites made turns (`IsDue` in `specs/Due.antt`); with `check` a saved run is made
-//! again, and is right, or wrong at the place that is told, and what was made is a run of its program all the same; what one call
-//! had to save is right to another that reads it, unless reading, writing, the length or memory stands in the way
-//! (`saved_runs_are_right`). `oz` (`complete`): with words that are taken, a text that reads a program, and no fault, the run goes
-//! to its end or to a limit, or memory is wanting; a saved run is made again, whole or as far as it is right, or memory is wanting.
-//! `oz` (`pieces`): each call of a sink that tells its pieces is handed one line with its newline or a back of that, or the saved
-//! run or a back of it. `run_program`: the journal that workers, or the plain rounds, leave is a run of the program on so many
-//! sites, with its schedule and totals, ends by the reason that is told, and has no turn past the limit of own steps; without
-//! workers its turns come in the fixed order of `plain_run` (`rounds`). `start`: the program ends with the number of the status that
-//! a call of `oz` with the words answers; where no memory is left for the words it writes `out of memory`.
+//! **Promises**: `oz` (`headline`: `Headline` in `specs/Headline.antt`): the lines that were written, uncaught exceptions
+//! among them, are those of the centralised machine under the schedule of the report, for every program and number of sites,
+//! whatever the order of turns and deliveries in the journal of the report, and whatever drove the sites; where it is
+//! quiescent no message travels, that machine has no step left, and the threads that ended and wait are that machine's
+//! (`IsStatusOfRun` in `specs/Run.antt`); each status has its cause (`Cause` in `specs/Cause.antt`), and what a failed write
+//! left is a front of what was due. `causes_exclude`: where the source tells its bytes and the count of its faults can rise,
+//! no two statuses have their causes in one call, those of failed writes and of want of memory left out. With `save` the
+//! lines stand in a saved run, which alone is written where the sites made turns (`IsDue` in `specs/Due.antt`); with `check`
+//! a saved run is made again, and is right, or wrong at the place that is told, and what was made is a run of its program all
+//! the same; what one call had to save is right to another that reads it, unless reading, writing, the length or memory
+//! stands in the way (`saved_runs_are_right`). `oz` (`complete`): with words that are taken, a text that reads a program, and
+//! no fault, the run goes to its end or to a limit, or memory is wanting; a saved run is made again, whole or as far as it is
+//! right, or memory is wanting. `oz` (`homes`, `few`, `served`, `chains`): each own step of a thread is of the site where the
+//! thread was placed, messages are few, requests for cells are served, and the exchanges of each cell are one chain. `oz`
+//! (`pieces`): each call of a sink that tells its pieces is handed one line with its newline or a back of that, or the saved
+//! run or a back of it. `run_program`: the journal that workers, or the plain rounds, leave is a run of the program on so
+//! many sites, with its schedule and totals, ends by the reason that is told, and has no turn past the limit of own steps;
+//! without workers its turns come in the fixed order of `plain_run` (`rounds`). `start`: the program ends with the number of
+//! the status that a call of `oz` with the words answers; where no memory is left for the words it writes `out of memory`.
 //!
 //! **Stands on** `oz_words` for the words, `oz_base` for the text and the bytes written, `oz_sugar` and `oz_parser` for the program
 //! that a text stands for, `large_run` for the text of `gen`, `run_file` and `run_check` for saved runs, `site_worker`,

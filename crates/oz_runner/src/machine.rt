@@ -12,7 +12,6 @@ use crate::Status;
 use crate::work::{RunLines, Work};
 use central_machine::{Reason, run_program};
 use kernel_syntax::Program;
-use oz_model::exchanges_are_a_chain;
 use oz_words::Options;
 use site_message::Schedule;
 use std::alloc::Global;
@@ -24,7 +23,6 @@ pub fn run_machine(alloc: Global, options: Options, program: &Program) -> Work
     ensures plain { IsPlain result.printed }
 {
     let ran = run_program(alloc, program, options.steps);
-    exchanges_are_a_chain();
     Work {
         status: machine_status(ran.reason, ran.ended, ran.waiting),
         schedule: Schedule::from_picks(alloc, ran.picks),

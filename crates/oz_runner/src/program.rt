@@ -23,6 +23,7 @@ use site_worker::{Gate, run_sites};
 use std::alloc::Global;
 use std::sync::Wait;
 use std::thread::{Threads, available_parallelism};
+use tree_node::MOST_SITES;
 use world_journals::threads_stay_home;
 
 /// Runs a program over its sites. Workers drive them on threads of the system, and call the gate before each turn; without
@@ -88,8 +89,8 @@ fn most_workers<R: Threads>(rt: &R) -> u32
     ensures { 2 ≤ result }
 {
     match available_parallelism(rt) {
-        Ok(processors) => processors.get().clamp(2, 64) as u32,
-        Err(_) => 64,
+        Ok(processors) => processors.get().clamp(2, MOST_SITES as usize) as u32,
+        Err(_) => MOST_SITES,
     }
 }
 

@@ -12,7 +12,7 @@ use crate::machine::run_machine;
 use crate::program::run_program;
 use crate::work::{RunLines, Work};
 use kernel_syntax::Program;
-use oz_model::{exchanges_are_a_chain, runs_are_determined};
+use oz_model::runs_are_determined;
 use oz_words::{Action, Options};
 use plain_run::RunOut;
 use site_message::{Limits, Reason, quiet_tells};
@@ -71,7 +71,6 @@ fn run_over_sites<G: Gate + Sync, R: Threads + Wait + Sync>(
     program.is_program();
     runs_take_rows();
     runs_are_determined();
-    exchanges_are_a_chain();
     Work {
         status: status_of(reason, ended, waiting),
         schedule,

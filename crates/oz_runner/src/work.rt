@@ -5,7 +5,7 @@ ghost use Rattle.oz_words.specs.Words.{ReadsWords, InRange};
 ghost use Rattle.oz_show.specs.Status.{HasLine};
 ghost use Rattle.oz_runner.specs.OzCall.{Stream, OzCall, stream_of, oz_call_of};
 ghost use Rattle.oz_words.specs.declared.options.Action.TheVariants.{Gen};
-ghost use Rattle.oz_runner.specs.Cause.{Cause, HasOptions, IsGiven, IsTextOfSource, IsUntouched, ReadsSource, ReadsText, byte_limit, text_limit};
+ghost use Rattle.oz_runner.specs.Cause.{Cause, HasOptions, IsGiven, IsUntouched, ReadsSource, ReadsText, byte_limit, text_limit};
 ghost use Rattle.oz_runner.specs.Ends.{output_of_work};
 ghost use Rattle.oz_runner.specs.declared.work.RunLines.TheVariants.{Sites};
 ghost use Rattle.oz_runner.specs.Saving.{IsPlain, IsReady};
@@ -27,6 +27,12 @@ use std::sync::Wait;
 use std::thread::Threads;
 use tree_node::{Line, Seq};
 use world_simulation::runs_take_rows;
+
+// The most bytes of a text, `text_limit` of the definitions.
+const MOST_TEXT: u64 = 1_048_576;
+
+// The most bytes of a saved run, `file_limit` of the definitions.
+const MOST_FILE: u64 = 268_435_456;
 
 /// What a run left to be written: its lines, which stand in the turns of its sites, or by themselves where the centralised machine ran;
 /// or with the turns their saved run, whole.
@@ -114,8 +120,8 @@ fn byte_limit(action: Action) -> u64
     ensures { result ≡ byte_limit action }
 {
     match action {
-        Action::Check => 268_435_456,
-        _ => 1_048_576,
+        Action::Check => MOST_FILE,
+        _ => MOST_TEXT,
     }
 }
 
@@ -175,8 +181,8 @@ fn work_on_text<G: Gate + Sync, R: Threads + Wait + Sync>(
     requires range { InRange options }
     requires source { ReadsText options.action }
     requires short { length bytes.now ≤ text_limit }
-    ensures cause { (seen : OzCall) → HasOptions seen options → IsTextOfSource seen.source bytes.now → Cause seen (output_of_work result) result.status }
-    ensures due { (seen : OzCall) → HasOptions seen options → IsTextOfSource seen.source bytes.now → IsReady seen result }
+    ensures cause { (seen : OzCall) → HasOptions seen options → IsGiven text_limit seen.source bytes.now → Cause seen (output_of_work result) result.status }
+    ensures due { (seen : OzCall) → HasOptions seen options → IsGiven text_limit seen.source bytes.now → IsReady seen result }
     ensures line { HasLine result.status }
 {
     let program = match program_of_bytes(alloc, bytes) {

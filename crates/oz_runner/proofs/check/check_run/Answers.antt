@@ -3,7 +3,7 @@ use Rattle.oz_runner.proofs.check.check_run.Goals as goal
 
 pub returns-in-All-clause-run : goal.returns-in-All-clause-run
 returns-in-All-clause-run c =
-    let laws : FileLaws = record { rows = c.runs_take_rows.ensures.rows; simulated = c.sites_are_simulated.ensures.simulated; chains = c.exchanges_are_a_chain.ensures.chains } in
+    let laws : FileLaws = record { rows = c.runs_take_rows.ensures.rows; simulated = c.sites_are_simulated.ensures.simulated } in
     let made = c.make_again-history in
     file_run laws c.args.program.now c.is_program.ensures c.args.file.now c.requires made.result.history made.ensures.run made.ensures.went c.check_end.result
     c.check_end.ensures.journal c.check_end.ensures.schedule
@@ -16,14 +16,14 @@ returns-in-Wrong-clause-found c =
 
 pub returns-in-Wrong-clause-run : goal.returns-in-Wrong-clause-run
 returns-in-Wrong-clause-run c =
-    let laws : FileLaws = record { rows = c.runs_take_rows.ensures.rows; simulated = c.sites_are_simulated.ensures.simulated; chains = c.exchanges_are_a_chain.ensures.chains } in
+    let laws : FileLaws = record { rows = c.runs_take_rows.ensures.rows; simulated = c.sites_are_simulated.ensures.simulated } in
     let made = c.make_again-history in
     file_run laws c.args.program.now c.is_program.ensures c.args.file.now c.requires made.result.history made.ensures.run made.ensures.went c.again.result
     c.again.ensures.journal c.again.ensures.schedule
 
 pub returns-in-Memory-clause-run : goal.returns-in-Memory-clause-run
 returns-in-Memory-clause-run c =
-    let laws : FileLaws = record { rows = c.runs_take_rows.ensures.rows; simulated = c.sites_are_simulated.ensures.simulated; chains = c.exchanges_are_a_chain.ensures.chains } in
+    let laws : FileLaws = record { rows = c.runs_take_rows.ensures.rows; simulated = c.sites_are_simulated.ensures.simulated } in
     let made = c.make_again-history in
     file_run laws c.args.program.now c.is_program.ensures c.args.file.now c.requires made.result.history made.ensures.run made.ensures.went c.again-in-Memory.result
     c.again-in-Memory.ensures.journal c.again-in-Memory.ensures.schedule

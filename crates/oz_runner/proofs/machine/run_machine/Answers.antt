@@ -9,4 +9,4 @@ pub returns-clause-came : goal.returns-clause-came
 returns-clause-came c =
     let ran = c.run_program-ran in
     λ is. subst (λ (picks : List Pick). IsStatusOfRun c.args.program.now c.args.options (run_output_of [] picks ran.result.lines.items) c.machine_status.result) (sym c.from_picks.ensures)
-    (subst (IsStatusOfRun _ _ _) (sym c.machine_status.ensures) (machine_came c.args.program.now c.args.options ran.ensures.0 ran.result is c.exchanges_are_a_chain.ensures.chains ran.ensures.1))
+    (subst (IsStatusOfRun _ _ _) (sym c.machine_status.ensures) (machine_came c.args.program.now c.args.options ran.ensures.0 ran.result is ran.ensures.1))

@@ -8,7 +8,7 @@ pub returns-clause-came : goal.returns-clause-came
 returns-clause-came g c =
     let out = c.run_program-reason in
     λ is. subst (IsStatusOfRun _ _ _) (sym c.status_of.ensures)
-    (sites_came c.args.program.now c.args.options out.result is c.quiet_tells.ensures c.runs_are_determined.ensures.end c.exchanges_are_a_chain.ensures.chains (record {
+    (sites_came c.args.program.now c.args.options out.result is c.quiet_tells.ensures c.runs_are_determined.ensures.end (record {
       run = out.ensures.simulated;
       rows = (c.runs_take_rows.ensures.rows c.args.program.now c.args.options.sites bundle_limit out.result.journal out.ensures.simulated.0 c.is_program.ensures c.requires.sites.0 c.requires.sites.1 (omega arith)).0 out.ensures.simulated.1;
       picks = out.ensures.schedule;
