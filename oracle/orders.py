@@ -73,7 +73,7 @@ class Threads:
             try:
                 noticed = self.advance(name)
             except Unbound as waits:
-                self.awaited[name] = waits.args[0]
+                self.awaited[name] = waits.args
                 return made > 0
             if noticed and not self.is_own(name, noticed):
                 self.next[name] = noticed
@@ -112,7 +112,7 @@ class Threads:
         found = {other: self.state.threads[other] for other in self.next if other != name}
         while found:
             reached = self.state.reached(found.values())[0]
-            woken = [other for other, root in self.awaited.items() if other not in found and root in reached]
+            woken = [other for other, roots in self.awaited.items() if other not in found and not reached.isdisjoint(roots)]
             if not woken:
                 break
             found.update((other, self.state.threads[other]) for other in woken)
