@@ -25,7 +25,7 @@ use Rattle.world_core.specs.declared.refusal.ReplayRefusal.TheVariants.{NotThere
 use Rattle.world_core.proofs.ReplayLemmas.{Told}
 use Rattle.world_core.proofs.WorldLemmas.{messages_few, run_starts}
 use Rattle.run_file.specs.declared.entry.Entry.{Entry}
-use Rattle.run_check.specs.Again.{IsMadeAgain, AreMadeAgain, IsWrong, IsWrongAt}
+use Rattle.run_check.specs.Again.{IsFrontMadeAgain, IsMadeAgain, AreMadeAgain, IsWrong, IsWrongAt}
 use Rattle.run_check.specs.declared.made.Made.{Made}
 use Rattle.run_check.specs.declared.made.Made.TheVariants as made
 use Rattle.run_check.specs.World.{HasMade, IsNext, IsLookedUp, Stops, TravelsNowhere}
@@ -38,6 +38,10 @@ empty_run p n = ((λ i. initial_site p i), run_starts p n bundle_limit (λ i. in
 
 pub empty_few : (p : List Stmt) (n : ℕ) → IsProgram p → 1 ≤ n → n ≤ 64 → AreMessagesFew p n []
 empty_few p n is low high = messages_few p n [] (λ i. initial_site p i) is low high (run_starts p n bundle_limit (λ i. initial_site p i) (λ i. refl))
+
+-- none of the entries is a front of them
+pub none_made : (p : List Stmt) (l : Limits) (es : List Entry) → IsFrontMadeAgain p l [] es
+none_made p l es = ([], es, (λ i. initial_site p i), refl, (refl, λ i. refl))
 
 pub some_reason : (o : Option Reason) → is_some o ≡ true → (r : Reason) × (o ≡ Some r)
 some_reason None e = cc

@@ -29,6 +29,10 @@ AreMadeAgain p l [] es w = (es ≡ []) × ((i : ℕ) → w i ≡ initial_site p 
 AreMadeAgain p l (t ∷ j) es w =
     (front : List Entry) × (e : Entry) × (old : ℕ → Site) × (es ≡ front ++ e ∷ []) × AreMadeAgain p l j front old × IsMadeAgain p l j old e t w
 
+-- a front of these entries was made again, and led to this journal
+abbrev pub IsFrontMadeAgain : List Stmt → Limits → List Turn → List Entry → Type 0
+IsFrontMadeAgain p l j es = (front behind : List Entry) × (w : ℕ → Site) × (es ≡ front ++ behind) × AreMadeAgain p l j front w
+
 -- what an entry delivers does not travel to its site
 abbrev pub DeliversNone : List Turn → Entry → Type 0
 DeliversNone j e = (k : ℕ) × (e.delivered ≡ Some k) × ((m : Sent) → IsTravelling j k m → m.to ≡ e.site → ⊥)

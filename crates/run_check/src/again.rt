@@ -9,7 +9,7 @@ ghost use Rattle.world_core.specs.Laws.{HasRun, AreMessagesFew};
 ghost use Rattle.world_core.specs.World.{states_of};
 ghost use Rattle.world_core.specs.declared.refusal.ReplayRefusal.TheVariants.{Memory as OutOfMemory};
 ghost use Rattle.run_file.specs.Fits.{MayBeSaved, IsEntryOf};
-ghost use Rattle.run_check.specs.Again.{AreMadeAgain, IsWrong, IsWrongAt};
+ghost use Rattle.run_check.specs.Again.{AreMadeAgain, IsFrontMadeAgain, IsWrong, IsWrongAt};
 ghost use Rattle.run_check.specs.World.{HasMade, IsNext, IsLookedUp, Stops, TravelsNowhere, limits_of};
 ghost use Rattle.run_check.specs.declared.made.Made.TheVariants as made;
 
@@ -32,6 +32,7 @@ pub fn make_again(alloc: Global, program: &Program, run: &RunFile) -> Again
     ensures all { (reason : Option _) → result.made ≡ made.All reason → (w : _) × AreMadeAgain program.now (limits_of run.now) result.history run.now.entries w }
     ensures end { (reason : Option _) → result.made ≡ made.All reason → reason ≡ end_of (limits_of run.now) result.history }
     ensures wrong { (at : ℕ) → result.made ≡ made.Wrong at → IsWrongAt program.now (limits_of run.now) run.now.entries at result.history }
+    ensures memory { result.made ≡ made.Memory → IsFrontMadeAgain program.now (limits_of run.now) result.history run.now.entries }
 {
     program.is_program();
     match World::new(alloc, program, run.sites()) {
@@ -61,6 +62,7 @@ fn replay_all(alloc: Global, world: &mut World<'_>, run: &RunFile) -> Made
     ensures all { (reason : Option _) → result ≡ made.All reason → HasMade world.old.program (limits_of run.now) run.now.entries world.new }
     ensures end { (reason : Option _) → result ≡ made.All reason → reason ≡ end_of (limits_of run.now) world.new.journal }
     ensures wrong { (at : ℕ) → result ≡ made.Wrong at → IsWrongAt world.old.program (limits_of run.now) run.now.entries at world.new.journal }
+    ensures memory { result ≡ made.Memory → IsFrontMadeAgain world.old.program (limits_of run.now) world.new.journal run.now.entries }
 {
     let entries = run.entries();
     for at in 0..entries.len() {

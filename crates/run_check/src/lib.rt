@@ -4,15 +4,14 @@
 //! text; the program is read from that text by the caller, who also compares the end line.
 //!
 //! Promises: `make_again` makes the entries again, one after another, from the start of the program (`AreMadeAgain`): each delivers a
-//! message that travels to its site, and has the units that it tells, which come to one turn alone, with the lines that it tells.
-//! The journal that it hands on is one of a run of the program (`HasRun`), which nothing ended before its last turn
-//! (`HasNoEarlierEnd`). `Made::All` comes where all entries were made again, and tells how the run ends after them (`end_of`);
-//! `Made::Wrong` the first entry that is wrong (`IsWrongAt`), with the journal of those before it. Memory may run out at any time; then
-//! the journal is that of some run of the program, by the clauses: that it is of the entries made so far is told by none. Laws, as
-//! functions that do nothing: entries that were made again are a run whose entries they are, they lead to one journal, and none of
-//! them is wrong; of the entries of a run that nothing ended before its end none is wrong, and made again they lead to this very run
-//! (`again_is_exact`). No line that a run prints has a newline in it, and the entries of such a run have a text, where the numbers
-//! of its threads have 64 bits (`runs_have_texts`).
+//! message that travels to its site, and has the units that it tells, which come to one turn alone, with the lines that it tells. The
+//! journal that it hands on is one of a run of the program (`HasRun`), which nothing ended before its last turn (`HasNoEarlierEnd`).
+//! `Made::All` comes where all entries were made again, and tells how the run ends after them (`end_of`); `Made::Wrong` the first
+//! entry that is wrong (`IsWrongAt`), with the journal of those before it. Memory may run out at any time; then the journal is that
+//! of a front of the entries, which were made again (`IsFrontMadeAgain`). Laws, as functions that do nothing: entries that were made
+//! again are a run whose entries they are, they lead to one journal, and none of them is wrong; of the entries of a run that nothing
+//! ended before its end none is wrong, and made again they lead to this very run (`again_is_exact`). No line that a run prints has a
+//! newline in it, and the entries of such a run have a text, where the numbers of its threads have 64 bits (`runs_have_texts`).
 //!
 //! Stands on: `world_core`, `world_mail`, `world_journals`, `world_model`, `run_file`, `site_core`, `site_units`, `site_model`,
 //! `site_message`, `oz_model`, `kernel_syntax`, `tree_node`.

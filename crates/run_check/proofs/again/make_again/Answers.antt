@@ -2,9 +2,9 @@ use Rattle.std.proofs.Common.{sym, subst, List}
 use Rattle.kernel_syntax.specs.declared.stmt.Stmt.{Stmt}
 use Rattle.site_message.specs.declared.turn.Turn.{Turn}
 use Rattle.world_core.specs.Laws.{HasRun, AreMessagesFew}
-use Rattle.run_check.specs.Again.{IsWrongAt}
+use Rattle.run_check.specs.Again.{IsFrontMadeAgain, IsWrongAt}
 use Rattle.run_check.specs.World.{limits_of}
-use Rattle.run_check.proofs.WorldLemmas.{empty_run, empty_few}
+use Rattle.run_check.proofs.WorldLemmas.{empty_run, empty_few, none_made}
 use Rattle.run_check.proofs.again.make_again.Goals as goal
 
 pub returns-in-Ok-clause-wrong : goal.returns-in-Ok-clause-wrong
@@ -13,6 +13,18 @@ returns-in-Ok-clause-wrong c at q =
     let history = sym c.into_history.ensures.value in
     subst (λ (j : List Turn). IsWrongAt c.args.program.now (limits_of c.args.run.now) c.args.run.now.entries at j) history
     (subst (λ (p : List Stmt). IsWrongAt p (limits_of c.args.run.now) c.args.run.now.entries at c.replay_all-made.new.world.journal) c.in-Ok.ensures.program told)
+
+pub returns-in-Ok-clause-memory : goal.returns-in-Ok-clause-memory
+returns-in-Ok-clause-memory c q =
+    let told = c.replay_all-made.ensures.memory q in
+    let history = sym c.into_history.ensures.value in
+    subst (λ (j : List Turn). IsFrontMadeAgain c.args.program.now (limits_of c.args.run.now) j c.args.run.now.entries) history
+    (subst (λ (p : List Stmt). IsFrontMadeAgain p (limits_of c.args.run.now) c.replay_all-made.new.world.journal c.args.run.now.entries) c.in-Ok.ensures.program told)
+
+pub returns-in-Err-clause-memory : goal.returns-in-Err-clause-memory
+returns-in-Err-clause-memory c q =
+    subst (λ (j : List Turn). IsFrontMadeAgain c.args.program.now (limits_of c.args.run.now) j c.args.run.now.entries) (sym c.new-in-Err.ensures)
+    (none_made c.args.program.now (limits_of c.args.run.now) c.args.run.now.entries)
 
 pub returns-in-Err-clause-run : goal.returns-in-Err-clause-run
 returns-in-Err-clause-run c =

@@ -1,11 +1,11 @@
-use Rattle.std.proofs.Common.{◌≡◌, ◌∙◌, ◌<◌, ◌+◌, ap, sym, subst, ℕ, List, [], ◌∷◌, ◌++◌, length, take, get_or}
+use Rattle.std.proofs.Common.{◌≡◌, ◌∙◌, ◌<◌, ◌+◌, ap, sym, subst, ℕ, List, [], ◌∷◌, ◌++◌, drop, length, take, get_or}
 use Rattle.std.specs.Prelude.{None}
-use Rattle.std.proofs.lemmas.List.{take_more}
+use Rattle.std.proofs.lemmas.List.{take-append-drop, take_more}
 use Rattle.site_message.specs.declared.turn.Turn.{Turn}
 use Rattle.site_message.specs.EarlierEnd.{HasNoEarlierEnd}
 use Rattle.world_core.specs.World.{states_of}
 use Rattle.run_file.specs.declared.entry.Entry.{Entry}
-use Rattle.run_check.specs.Again.{IsWrong, IsWrongAt}
+use Rattle.run_check.specs.Again.{AreMadeAgain, IsWrong, IsWrongAt}
 use Rattle.run_check.specs.World.{limits_of}
 use Rattle.run_check.proofs.WorldLemmas.{made_went, made_next, wrong_next, ended_wrong, some_reason, no_reason, not_all, stops_wrong}
 use Rattle.run_check.proofs.again.replay_all.Goals as goal
@@ -43,6 +43,7 @@ returns-in-Err c =
       went = subst (λ (j : List Turn). HasNoEarlierEnd l j) (sym journal) (made_went p l w.journal (take c.loop-at.at es) (states_of w) inv.again);
       all = λ reason q. absurd (not_all c.in-Err.refusal c.loop-at.at c.stopped.result c.stopped.ensures reason q);
       end = λ reason q. absurd (not_all c.in-Err.refusal c.loop-at.at c.stopped.result c.stopped.ensures reason q);
+      memory = λ q. (take c.loop-at.at es, drop c.loop-at.at es, states_of w, sym (take-append-drop c.loop-at.at es), subst (λ (j : List Turn). AreMadeAgain p l j (take c.loop-at.at es) (states_of w)) (sym journal) inv.again);
       wrong = λ at q. (
           let r = stops_wrong c.in-Err.refusal c.loop-at.at c.stopped.result c.stopped.ensures at q in
           let h = subst (λ (x : Entry). IsWrong w.program l w.journal (states_of w) x) (subst (λ (xs : List Entry). e ≡ get_or xs c.loop-at.at e) c.entries-entries.ensures c.index-entries-at.is) (c.in-Err.ensures.wrong l (sym inv.sites) r.0) in
