@@ -7,10 +7,9 @@ ghost use Rattle.site_model.specs.Site.{Site as TheSite};
 ghost use Rattle.site_model.specs.Fit.{BundleFits};
 ghost use Rattle.site_variables.specs.Fit.{with_variables, CanTakeVariable, EquationFits};
 
-use crate::equal_terms::equal_term;
 use crate::variables::Variables;
 use site_message::Msg;
-use tree_node::{Term, VarName, is_below};
+use tree_node::{Term, VarName, equal_term, is_below};
 
 impl Variables {
     /// Whether the equations that a message carries lead down and agree with those that are known here, and tell nothing new

@@ -19,7 +19,6 @@
 //! Source: Haridi and others, *Efficient Logic Variables for Distributed Computing* (TOPLAS 21(3), 1999).
 #![tactic(auto)]
 
-mod equal_terms;
 mod fit;
 mod meeting;
 mod names;

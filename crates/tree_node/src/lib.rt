@@ -53,7 +53,8 @@ pub use names::{
 };
 pub use node::{
     Feature, Fields, Node, Term, Text, Vars, compare_features, copy_feature, copy_node, copy_term,
-    equal_bytes, equal_feature, equal_features, equal_fields, equal_text, node_arity,
+    equal_bytes, equal_feature, equal_features, equal_fields, equal_node, equal_term, equal_text,
+    node_arity,
 };
 pub use pick::{Pick, copy_pick, plain_pick};
 pub use seq::Seq;

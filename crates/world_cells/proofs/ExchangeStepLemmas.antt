@@ -86,22 +86,22 @@ exchange_alone p s fresh bind (Goals b ∷ rest) c new told e = go b.pairs c new
 
 -- ---- where more is known it is the same exchange
 
-abbrev pub pick_of : ThreadName → Pick
-pick_of n = record { thread = n; fresh = []; bind = None }
+abbrev pub plain_pick : ThreadName → Pick
+plain_pick n = record { thread = n; fresh = []; bind = None }
 
 -- the stack that the exchange of a content leaves
 abbrev pub stack_left : List Stmt → Store → Stack → VarName → VarName → Stack
 stack_left p s st told v = tell_item told (term.Var v) ∷ (stack_effect p s [] None st).stack
 
 pub record Exchanges (p : List Stmt) (z : State) (n : ThreadName) (c : CellName) (new : VarName) (stack : Stack) (t : State) : Type 0 where
-  pub step : Step p z (pick_of n) t
+  pub step : Step p z (plain_pick n) t
   pub equations : t.equations ≡ z.equations
   pub cells : t.cells ≡ with_value equal_cell z.cells c new
   pub threads : t.threads ≡ with_value equal_thread z.threads n stack
   pub ended : t.ended ≡ z.ended
   pub lines : t.lines ≡ z.lines
   pub told : VarName
-  pub effect : (effect_of p z (pick_of n)).cell ≡ Exchanged c new told
+  pub effect : (effect_of p z (plain_pick n)).cell ≡ Exchanged c new told
 
 -- a thread whose site knows a part of the machine's equations exchanges there
 pub exchange_steps : (p : List Stmt) (s : Store) (z : State) (n : ThreadName) (st : Stack) (c : CellName) (v : VarName) (x : IsExchange p s st c) → IsSound z.equations → IsPartOf s z.equations →
@@ -152,7 +152,7 @@ exchange_steps p s z n st c v (new, told, need, is) sound more lives value = (
 -- the machine finds the cell
 pub exchange_found : (p : List Stmt) (s : Store) (z : State) (ks : List Pick) (n : ThreadName) (st : Stack) (c : CellName) → IsExchange p s st c → ModelRun p ks z → IsSound z.equations → IsPartOf s z.equations → value_of equal_thread z.threads n ≡ Some st →
     (v : VarName) × (value_of equal_cell z.cells c ≡ Some v)
-exchange_found p s z ks n st c (new, told, need, is) run sound more lives = subst (FindsCell z.cells) effect_is (steps_find_cells p ks z (pick_of n) run allowed)
+exchange_found p s z ks n st c (new, told, need, is) run sound more lives = subst (FindsCell z.cells) effect_is (steps_find_cells p ks z (plain_pick n) run allowed)
   where
     stack_is : stack_of z n ≡ st
     stack_is = ap (λ (o : Option Stack). unwrap_or o []) lives
@@ -188,7 +188,7 @@ exchange_home p P nobody thread s st c v (new, told, need, is) eqs home here = (
     n : ThreadName
     n = record { site = 0; num = 0 }
 
-    allowed : IsAllowed p (alone s st) (pick_of (record { site = 0; num = 0 }))
+    allowed : IsAllowed p (alone s st) (plain_pick (record { site = 0; num = 0 }))
     allowed = record {
       lives = refl;
       ready = subst (λ (d : Need). IsReady d) (sym need) tt;
@@ -197,7 +197,7 @@ exchange_home p P nobody thread s st c v (new, told, need, is) eqs home here = (
     }
 
     names : EachOfEffect P (stack_effect p s [] None st)
-    names = effect_names P nobody p (alone s st) (pick_of (record { site = 0; num = 0 })) (eqs, tt, ((thread, home), tt)) tt allowed
+    names = effect_names P nobody p (alone s st) (plain_pick (record { site = 0; num = 0 })) (eqs, tt, ((thread, home), tt)) tt allowed
 
     change : EachOfChange P (Exchanged c new told)
     change = subst (λ (y : CellChange). EachOfChange P y) is names.cell

@@ -30,7 +30,7 @@ use Rattle.world_model.proofs.PutLemmas.{at_here, at_twice}
 use Rattle.world_model.proofs.MailLemmas.{nothing}
 use Rattle.world_model.proofs.KeyLemmas.{with_here, with_there}
 use Rattle.site_model.proofs.CellKeyLemmas.{place_here, place_other}
-use Rattle.world_cells.proofs.ExchangeStepLemmas.{Exchanges, stack_left, pick_of}
+use Rattle.world_cells.proofs.ExchangeStepLemmas.{Exchanges, stack_left, plain_pick}
 use Rattle.world_cells.proofs.ServeLemmas.{serve_step, serve_parts, new_home}
 use Rattle.tree_node.proofs.NameLemmas.{same_thread_decides}
 use Rattle.oz_model.proofs.KindLemmas.{cell_same, cells_differ}
@@ -166,22 +166,22 @@ module _ (p : List Stmt) (a : Around) (i : ℕ) (c : CellName) (n : ThreadName) 
     printed = r.printed;
   }
     where
-      after_is : exchanges_from p c (model.next p z (pick_of n)) rest_deed.picks ≡ exchanges_from p c after.0 rest_deed.picks
+      after_is : exchanges_from p c (model.next p z (plain_pick n)) rest_deed.picks ≡ exchanges_from p c after.0 rest_deed.picks
       after_is = ap (λ (y : State). exchanges_from p c y rest_deed.picks) (sym after.1.step.1)
 
-      counted : length (exchange_in z c (effect_of p z (pick_of n)).cell ++ exchanges_from p c (model.next p z (pick_of n)) rest_deed.picks) ≡ suc (length ns)
-      counted = ap length (ap (λ (y : CellChange). exchange_in z c y ++ exchanges_from p c (model.next p z (pick_of n)) rest_deed.picks) after.1.effect)
+      counted : length (exchange_in z c (effect_of p z (plain_pick n)).cell ++ exchanges_from p c (model.next p z (plain_pick n)) rest_deed.picks) ≡ suc (length ns)
+      counted = ap length (ap (λ (y : CellChange). exchange_in z c y ++ exchanges_from p c (model.next p z (plain_pick n)) rest_deed.picks) after.1.effect)
           ∙ one (equal_cell c c) (cell_same c)
         where
-          one : (b : Bool) → b ≡ true → length (cond b ((content_of z.cells c, exchange.0) ∷ []) [] ++ exchanges_from p c (model.next p z (pick_of n)) rest_deed.picks) ≡ suc (length ns)
+          one : (b : Bool) → b ≡ true → length (cond b ((content_of z.cells c, exchange.0) ∷ []) [] ++ exchanges_from p c (model.next p z (plain_pick n)) rest_deed.picks) ≡ suc (length ns)
           one true e = ap suc (ap length after_is ∙ r.exchanged)
           one false e = cc
 
-      not_counted : (b : CellName) → b ≢ c → exchange_in z b (effect_of p z (pick_of n)).cell ++ exchanges_from p b (model.next p z (pick_of n)) rest_deed.picks ≡ []
-      not_counted b h = ap (λ (y : CellChange). exchange_in z b y ++ exchanges_from p b (model.next p z (pick_of n)) rest_deed.picks) after.1.effect
+      not_counted : (b : CellName) → b ≢ c → exchange_in z b (effect_of p z (plain_pick n)).cell ++ exchanges_from p b (model.next p z (plain_pick n)) rest_deed.picks ≡ []
+      not_counted b h = ap (λ (y : CellChange). exchange_in z b y ++ exchanges_from p b (model.next p z (plain_pick n)) rest_deed.picks) after.1.effect
           ∙ none (equal_cell c b) (cells_differ c b (λ e. h (sym e)))
         where
-          none : (x : Bool) → x ≡ false → cond x ((content_of z.cells c, exchange.0) ∷ []) [] ++ exchanges_from p b (model.next p z (pick_of n)) rest_deed.picks ≡ []
+          none : (x : Bool) → x ≡ false → cond x ((content_of z.cells c, exchange.0) ∷ []) [] ++ exchanges_from p b (model.next p z (plain_pick n)) rest_deed.picks ≡ []
           none true e = cc
           none false e = ap (λ (y : State). exchanges_from p b y rest_deed.picks) (sym after.1.step.1) ∙ r.apart b h
 

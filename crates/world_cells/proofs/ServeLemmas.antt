@@ -26,7 +26,7 @@ use Rattle.world_model.proofs.PutLemmas.{at_all, at_here, at_twice}
 use Rattle.world_variables.proofs.LearnLemmas.{placed_alike}
 use Rattle.world_model.proofs.KeyLemmas.{with_here, with_there, goes_cases}
 use Rattle.world_variables.proofs.StepLemmas.{goes_parts}
-use Rattle.world_cells.proofs.ExchangeStepLemmas.{Exchanges, exchange_steps, exchange_home, stack_left, pick_of}
+use Rattle.world_cells.proofs.ExchangeStepLemmas.{Exchanges, exchange_steps, exchange_home, stack_left, plain_pick}
 use Rattle.tree_node.proofs.NameLemmas.{same_thread_decides}
 use Rattle.thread_roster.proofs.NameLemmas.{name_cases as threads_decide}
 
@@ -159,7 +159,7 @@ module _ (p : List Stmt) (eqs : ℕ → Store) (records : ℕ → Records) (thre
 
       centred : IsCentreMade made t
       centred = subst (λ (x : State). IsCentreMade made x) (sym e.step.1) (record {
-        all = step_names (IsMade made) (inl refl) p z (pick_of n) parts.centred.all tt e.step.0;
+        all = step_names (IsMade made) (inl refl) p z (plain_pick n) parts.centred.all tt e.step.0;
         nobody = λ x h. subst (λ (q : Store). IsFree q x) (sym (ap (λ (y : State). y.equations) (sym e.step.1) ∙ e.equations)) (parts.centred.nobody x h);
       })
 
