@@ -12,7 +12,7 @@ use Rattle.site_message.specs.Journal.{sent_of}
 use Rattle.site_message.specs.Story.{own, hand}
 use Rattle.message_book.specs.Book.{IsSiteOf, IsReason, without_delivered}
 use Rattle.book_lock.specs.declared.lock.SiteSeat.{SiteSeat}
-use Rattle.book_lock.specs.Rule.{IsContinuation}
+use Rattle.book_lock.specs.Rule.{IsContinuation, AreInAgreement}
 use Rattle.book_lock.specs.Seats.{last_seen, IsOutsideOf}
 use Rattle.site_model.specs.Site.{Site, is_idle}
 use Rattle.site_model.specs.Bundle.{bundle_limit}
@@ -73,6 +73,19 @@ within_later h x fixed same within =
 -- where the seat stays
 within_seat : (h : Host) (x : SiteSeat) → x ≡ h.site.seat → AreOwnWithin h → AreOwnWithin (with_seat h x)
 within_seat h x same within = subst (λ (z : SiteSeat). AreOwnWithin (with_seat h z)) (sym same) within
+
+-- what a seat finds, does and leaves in one way through the lock
+pub since_way : (k : ℕ) (old found left new : Sight) (P : Sight → Sight → Type 0) → AreInAgreement k found old → P found left → left.fixed ≡ found.fixed → new ≡ left → Since k old new (λ now. P now new)
+since_way k old found left new P agrees did fixed seen = (found, agrees, subst (P found) (sym seen) did, ap (λ (x : Sight). x.fixed) seen ∙ (fixed ∙ agrees.fixed))
+
+-- what was in hand for a site is in hand still, as others leave it there
+pub in_hand : (table : TableId) (h : Host) (e : Turn) (y : SiteSeat) (found : Sight) → y ≡ h.site.seat → HasTurned table h e → AreInAgreement y.site found (last_seen y)
+    → (k : ℕ) → e.delivered ≡ Some k → Contains (hand e.site found.hands) k
+in_hand table h e y found is mine agrees k delivers =
+    let own_seat : y.site ≡ h.number = ap (λ (z : SiteSeat). z.site) is ∙ sym mine.seated.seat in
+    let hands : hand e.site found.hands ≡ k ∷ [] =
+    ap (λ (i : ℕ). hand i found.hands) (mine.site ∙ sym own_seat) ∙ (agrees.own_hands ∙ (ap (λ (z : SiteSeat). hand y.site (last_seen z).hands) is ∙ (ap (λ (i : ℕ). hand i (sight h).hands) own_seat ∙ (mine.hands ∙ ap number_list delivers)))) in
+    subst (λ (l : List ℕ). Contains l k) (sym hands) (0, omega arith, refl)
 
 -- what was found goes on from what the seat had seen
 pub fetched_begins : (k : ℕ) (old new : Sight) (r : Fetched) → Since k old new (λ now. HasFetched k now new r) → IsContinuation new.entries old.entries

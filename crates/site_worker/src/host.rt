@@ -18,8 +18,8 @@ ghost use Rattle.site_worker.specs.Waking.{AreRecipients};
 ghost use Rattle.site_worker.specs.Visit.{IsVisit, IsSameHost, IsFirstHalf, IsSecondHalf, IsGivenUp, HasBegun, IsNextHalf, IsNextVisit};
 
 use crate::gate::Gate;
+use crate::inside;
 use crate::inside::{Fetched, NextVisit, PostOutcome};
-use crate::seats;
 use crate::visited::Visited;
 use book_lock::{CountedLock, SiteSeat};
 use message_book::{Book, SpelledTurn};
@@ -92,14 +92,19 @@ impl<'a> Host<'a> {
         self.site.into_seat()
     }
 
-    // The first half of a visit.
+    // The first half of a visit, in one way through the lock.
     pub(crate) fn fetch<R: Wait>(&mut self, rt: &R, lock: &CountedLock<Book>) -> Fetched
         requires { IsHost (lock_id lock.now) self.old }
         ensures same { IsSameHost self.old self.new × (state_of self.new ≡ state_of self.old) }
         ensures fetched { IsFirstHalf (lock_id lock.now) self.old self.new result }
         ensures begins { IsContinuation (sight self.new).entries (sight self.old).entries }
     {
-        seats::fetch(rt, lock, self.site.seat())
+        let seat = self.site.seat();
+        let site = seat.site();
+        let mut held = lock.enter(rt, seat);
+        let fetched = inside::fetch(&mut held.value, site);
+        lock.leave(seat, held);
+        fetched
     }
 
     // The rest of a visit that goes on with what was taken.
@@ -212,7 +217,7 @@ impl<'a> Host<'a> {
         }
     }
 
-    // The second half of a visit. A site whose turn is refused is given up.
+    // The second half of a visit, in one way through the lock. A site whose turn is refused is given up.
     fn post<R: Wait>(&mut self, rt: &R, lock: &CountedLock<Book>, turn: SpelledTurn) -> Visited
         requires { HasTurned (lock_id lock.now) self.old turn }
         ensures host { IsHost (lock_id lock.now) self.new × IsSameHost self.old self.new }
@@ -221,9 +226,15 @@ impl<'a> Host<'a> {
         ensures recipients { self.new.recipients ≡ self.old.recipients }
         ensures begins { IsContinuation (sight self.new).entries (sight self.old).entries }
     {
-        match seats::post(rt, lock, self.site.seat(), turn) {
-            PostOutcome::Posted(None) => Visited::Did,
-            PostOutcome::Posted(Some(reason)) => Visited::Over(reason),
+        let seat = self.site.seat();
+        let mut held = lock.enter(rt, seat);
+        let posted = inside::post(&mut held.value, turn);
+        lock.leave(seat, held);
+        match posted {
+            PostOutcome::Posted(ended) => match ended {
+                None => Visited::Did,
+                Some(reason) => Visited::Over(reason),
+            },
             PostOutcome::Refused(reason) => {
                 self.spent = true;
                 Visited::Over(reason)
@@ -231,7 +242,8 @@ impl<'a> Host<'a> {
         }
     }
 
-    // The second half of a visit, and the first half of the next one. A site whose turn is refused is given up.
+    // The second half of a visit and the first half of the next one, in one way through the lock. A site whose turn is refused
+    // is given up.
     fn post_and_fetch<R: Wait>(
         &mut self,
         rt: &R,
@@ -242,7 +254,12 @@ impl<'a> Host<'a> {
         ensures same { IsSameHost self.old self.new }
         ensures next { IsNextHalf (lock_id lock.now) self.old self.new turn result }
     {
-        match seats::post_and_fetch(rt, lock, self.site.seat(), turn) {
+        let seat = self.site.seat();
+        let site = seat.site();
+        let mut held = lock.enter(rt, seat);
+        let next = inside::post_and_fetch(&mut held.value, turn, site);
+        lock.leave(seat, held);
+        match next {
             NextVisit::Posted(fetched) => fetched,
             NextVisit::Refused(reason) => {
                 self.spent = true;
@@ -251,13 +268,17 @@ impl<'a> Host<'a> {
         }
     }
 
-    // The second half of a visit whose turn had no memory.
+    // The second half of a visit whose turn had no memory, in one way through the lock.
     fn fail<R: Wait>(&mut self, rt: &R, lock: &CountedLock<Book>) -> Reason
         requires { HasFailed (lock_id lock.now) self.old }
         ensures host { IsHost (lock_id lock.now) self.new × IsSameHost self.old self.new }
         ensures visited { IsGivenUp self.old.number (sight self.old) (sight self.new) (Over result) }
     {
-        seats::fail(rt, lock, self.site.seat())
+        let seat = self.site.seat();
+        let mut held = lock.enter(rt, seat);
+        let reason = inside::fail(&mut held.value);
+        lock.leave(seat, held);
+        reason
     }
 }
 

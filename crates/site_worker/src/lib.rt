@@ -32,7 +32,6 @@ mod host;
 mod inside;
 mod load;
 mod run;
-mod seats;
 mod shared;
 mod sites;
 mod visited;

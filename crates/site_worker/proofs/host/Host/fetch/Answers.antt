@@ -1,19 +1,18 @@
-use Rattle.std.proofs.Common.{refl, ap, subst, ◌∙◌}
-use Rattle.book_lock.specs.declared.lock.SiteSeat.{SiteSeat}
-use Rattle.book_lock.specs.Rule.{IsContinuation}
+use Rattle.std.proofs.Common.{ℕ, ◌∙◌, sym, subst}
+use Rattle.site_message.specs.declared.story.Sight.{Sight}
+use Rattle.message_book.specs.Book.{sight_of}
 use Rattle.book_lock.specs.Seats.{last_seen}
-use Rattle.site_worker.proofs.HostLemmas.{fetched_host, fetched_begins}
+use Rattle.site_worker.specs.Inside.{HasCause, HasFetched}
+use Rattle.site_worker.proofs.HostLemmas.{since_way, fetched_host}
 use Rattle.site_worker.proofs.host.Host.fetch.Goals as goal
 
 pub returns-clause-fetched : goal.returns-clause-fetched
-returns-clause-fetched g c = fetched_host _ c.args.self.now c.seat.result.now c.fetch.new.seat c.fetch.result c.seat.ensures.value c.requires c.fetch.ensures.seat c.fetch.ensures.cause c.fetch.ensures.fetched
-
-pub returns-clause-begins : goal.returns-clause-begins
-returns-clause-begins g c =
-    let x = c.fetch.new.seat in
-    subst (λ (z : SiteSeat). IsContinuation (last_seen x).entries (last_seen z).entries) c.seat.ensures.value
-    (fetched_begins c.seat.result.now.site (last_seen c.seat.result.now) (last_seen x) c.fetch.result c.fetch.ensures.fetched)
-
-pub returns-clause-same : goal.returns-clause-same
-returns-clause-same g c =
-    (record { number = refl; program = refl; sites = refl; fixed = c.fetch.ensures.fetched.3 ∙ ap (λ (z : SiteSeat). (last_seen z).fixed) c.seat.ensures.value }, refl)
+returns-clause-fetched g c =
+    let y = c.seat-seat.result.now in
+    let x = c.leave.new.seat in
+    let found : Sight = sight_of c.enter-held.result.value in
+    let left : Sight = sight_of c.fetch-fetched.new.book in
+    let fetched : HasFetched y.site found left c.fetch-fetched.result = subst (λ (k : ℕ). HasFetched k found left c.fetch-fetched.result) c.site-site.ensures c.fetch-fetched.ensures.fetched in
+    fetched_host _ c.args.self.now y x c.fetch-fetched.result c.seat-seat.ensures.value c.requires (c.leave.ensures.seat.0, c.leave.ensures.seat.1 ∙ c.enter-held.ensures.inside.1)
+    (subst HasCause (sym c.leave.ensures.seen) c.fetch-fetched.ensures.cause)
+    (since_way y.site (last_seen y) found left (last_seen x) (λ now new. HasFetched y.site now new c.fetch-fetched.result) c.enter-held.ensures.agrees fetched c.fetch-fetched.ensures.lawful.fixed c.leave.ensures.seen)
