@@ -139,6 +139,21 @@ UNDECLARED = "local X in\n  X = 1\n  {Browse Y}\nend\n"
 FAILED = "uncaught failure(tell)"
 RACE_LINES = [lines for told in "12" for lines in ([told, FAILED], [FAILED, told])]
 
+# threads that wait at three sites for the value of a variable, or at a test, while it is told equal to others; then it has one
+TOLD = """local X Y Z A B One D E R S in
+  One = 1
+  thread {Wait X} D = X end
+  thread at 2 {Wait Y} E = Y end
+  thread at 3 R = X == Z end
+  thread S = Y \\= Z end
+  X = Y Y = A Z = B A = B
+  {Browse R} {Browse S}
+  A = One
+  {Browse D} {Browse E}
+end
+"""
+TOLD_LINES = ["true", "false", "1", "1"]
+
 # Each form of sugar, and a text that stands for a program which is too deep.
 SUGAR = """local F G X in
   fun {F N} if N =< 1 then 1 else N * {F N - 1} end end
@@ -155,6 +170,7 @@ CASES = {
     "cell": Case([], 4, CELL, [["100"]], "quiescent ended=5 waiting=0"),
     "gen": Case(["gen", "2"], 4, "", [["120", "20"]], "quiescent ended=7 waiting=0"),
     "whole": Case([], 4, WHOLE, [WHOLE_LINES], "quiescent ended=3 waiting=0"),
+    "told": Case([], 3, TOLD, [TOLD_LINES], "quiescent ended=5 waiting=0"),
     "refused": Case([], 4, UNDECLARED, [[]], "refused 3:11 undeclared", 3),
     "sugar": Case([], 4, SUGAR, [SUGAR_LINES], "quiescent ended=1 waiting=0"),
     "deep": Case([], 4, DEEP, [[]], "refused 1:214 nested too deep", 3),

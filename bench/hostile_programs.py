@@ -60,9 +60,9 @@ def known_everywhere(number):
     return loop(number // 64, f"local X in {waits} X = K end")
 
 
-def told_equal(number):
-    """So many threads wait for a variable that is told equal to as many others, one after the other; between, all try again."""
-    start = counted("Start", "X", "skip", "thread {Wait X} end {Start J X}")
+def told_equal(number, waits="{Wait X}"):
+    """So many threads wait for a variable that is told equal to as many others, one after the other; between, all could try again."""
+    start = counted("Start", "X", "skip", f"thread {waits} end {{Start J X}}")
     tell = counted("Tell", "X", "{Start N X}", "local Y D in {Tell J Y} Y = X thread D = One end {Wait D} end")
     return program("N Start Tell X", f"N = {number}", start, tell, "{Tell N X} X = One")
 
@@ -124,8 +124,15 @@ def threads_between_sites(number):
     return program("N Hop", f"N = {number}", hop, "{Hop N}")
 
 
+def lists_compared_while_they_grow(number):
+    """So many threads compare two lists, which grow by turns to as many elements: each is woken by each element."""
+    start = counted("Start", "", "skip", "thread local B in B = L == M end end {Start J}")
+    grow = counted("Grow", "X Y", "X = nil Y = nil", "local S T D in X = One|S Y = One|T thread D = One end {Wait D} {Grow J S T} end")
+    return program("N Start Grow L M", f"N = {number}", start, grow, "{Start N} {Grow N L M}")
+
+
 # each with its first size, and by what its time and its memory may grow where the size doubles. Twice is what the work is; where so
-# many threads wait for a variable that is told equal as often, each trying again, the work is four times as much
+# many threads compare what is told or grows as often, each trying again, the work is four times as much
 TWICE, FOUR_TIMES = 2.7, 5.4
 
 PROGRAMS = {
@@ -136,7 +143,9 @@ PROGRAMS = {
     "a chain of variables, looked up": (chain_looked_up, 25000, TWICE),
     "a chain of variables, sent": (chain_sent, 10000, TWICE),
     "a variable known at 64 sites": (known_everywhere, 25000, TWICE),
-    "threads that wait for what is told equal": (told_equal, 500, FOUR_TIMES),
+    "threads that wait for what is told equal": (told_equal, 2000, TWICE),
+    "threads at a test of what is told equal": (lambda n: told_equal(n, "local B in B = X == Zero end"), 250, FOUR_TIMES),
+    "threads that compare lists that grow": (lists_compared_while_they_grow, 250, FOUR_TIMES),
     "threads that show a list that grows": (list_shown_while_it_grows, 100, TWICE),
     "a body of 6336 variables": (wide_body, 2500, TWICE),
     "messages of 256 wide records": (wide_messages, 100, TWICE),

@@ -171,6 +171,34 @@ def waiters(n):
 end"""
 
 
+def told_equal(n, place=""):
+    """n threads that wait for a variable, which is told equal to n others, one after the other. Before the next one is told, a thread that
+    is born behind all that go on has run, where they are placed."""
+    return f"""local Start Tell X Zero One N Nil in {constants(n)}
+  proc {{Start K Y}}
+    local Ends in
+      Ends = K =< Zero
+      if Ends then skip else local M in M = K - One thread {place} {{Wait Y}} end {{Start M Y}} end end
+    end
+  end
+  proc {{Tell K Y}}
+    local Ends in
+      Ends = K =< Zero
+      if Ends then {{Start N Y}}
+      else local M Z Done in
+        M = K - One {{Tell M Z}} Z = Y thread {place} Done = One end {{Wait Done}}
+      end end
+    end
+  end
+  {{Tell N X}} X = One
+end"""
+
+
+def told_equal_elsewhere(n):
+    """The same, but the threads wait at another site."""
+    return told_equal(n, "at 2")
+
+
 def tells(n):
     """n tells of one value, one after the other."""
     return "local X in X = 5\n" + "X = 5\n" * n + "end"
@@ -496,6 +524,7 @@ SHAPES = [
     (marks, 1, (8, 16, 32), 10000, 3),
     (tree, 1, (8, 16, 32), 4096, 3),
     (waiters, 1, (8, 16, 32), 10000, 3),
+    (told_equal, 1, (8, 16, 32), 2000, 3),
     (tells, 1, (8, 16, 32), 20000, 3),
     (show_list, 1, (2000, 2001, 2003), 10000, 3),
     (equal_lists, 1, (8, 16, 32), 4000, 3),
@@ -523,6 +552,7 @@ PLACED = [
     (list_known, 2, 4000, 3),
     (numbers_known, 2, 4000, 3),
     (met_by_three, 3, 2000, 3),
+    (told_equal_elsewhere, 2, 2000, 3),
     (placed_threads, 64, 2000, 3),
     (asked_by_all, 64, 40, 3),
     (spread, 4, 5000, 3),

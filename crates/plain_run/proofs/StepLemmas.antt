@@ -31,7 +31,7 @@ use Rattle.site_model.specs.Transition.{Transition, without_output, with_message
 use Rattle.site_model.specs.Variables.{with_known_equation_as, with_known_equation, with_known_equations, opening, own_binds}
 use Rattle.site_model.specs.Cells.{serving, after_exchange, after_exchange_as, content_after_exchange, with_own_request, with_exchange_waiting, with_last_asker, request_row}
 use Rattle.site_model.specs.Messages.{with_thread, bind_request_as, message_row}
-use Rattle.site_model.specs.Unit.{IsUnit, IsUnitFor, IsStepOrRequest, bind_attempt, with_waiting, with_waiting_any, step_row, birth_row, after_cell, after_effect, with_fresh_names, placement, thread_step, step_pick, effect_here, fresh_names}
+use Rattle.site_model.specs.Unit.{IsUnit, IsUnitFor, IsStepOrRequest, bind_attempt, step_row, birth_row, after_cell, after_effect, with_fresh_names, placement, thread_step, step_pick, effect_here, fresh_names, with_mode}
 use Rattle.site_model.specs.Turn.{IsReception, AreUnits, IsFullTurn}
 use Rattle.plain_run.specs.Counts.{runnable_count}
 
@@ -163,13 +163,17 @@ Counts s t k = (s.steps < t.steps) ⊎ ((t.steps ≡ s.steps) × (runnable_count
 stepped : (s t : Site) → t.steps ≡ s.steps + 1 → Counts s t 1
 stepped s t e = inl (omega arith)
 
+-- a wait for the node of a class
+needs_node : (s : Site) (th : ThreadName) (st : Stack) (x : VarName) → thread_state s th ≡ Some (st, Runs) → Counts s (with_mode th st (mode.Needs x) s) 1
+needs_node s th st x at = inr (refl, fewer_run s (with_mode th st (mode.Needs x) s) (waits_more s.threads th st st (mode.Needs x) refl at))
+
 -- a wait for a variable, and one for a cell
-waits_var : (s : Site) (th : ThreadName) (st : Stack) (x : VarName) → thread_state s th ≡ Some (st, Runs) → Counts s (with_waiting th st x s) 1
-waits_var s th st x at = inr (refl, fewer_run s (with_waiting th st x s) (waits_more s.threads th st st (mode.Waits x) refl at))
+waits_var : (s : Site) (th : ThreadName) (st : Stack) (x : VarName) → thread_state s th ≡ Some (st, Runs) → Counts s (with_mode th st (mode.Waits x) s) 1
+waits_var s th st x at = inr (refl, fewer_run s (with_mode th st (mode.Waits x) s) (waits_more s.threads th st st (mode.Waits x) refl at))
 
 -- and one for any of several
-waits_several : (s : Site) (th : ThreadName) (st : Stack) (xs : List VarName) → thread_state s th ≡ Some (st, Runs) → Counts s (with_waiting_any th st xs s) 1
-waits_several s th st xs at = inr (refl, fewer_run s (with_waiting_any th st xs s) (waits_more s.threads th st st (mode.WaitsAny xs) refl at))
+waits_several : (s : Site) (th : ThreadName) (st : Stack) (xs : List VarName) → thread_state s th ≡ Some (st, Runs) → Counts s (with_mode th st (mode.WaitsAny xs) s) 1
+waits_several s th st xs at = inr (refl, fewer_run s (with_mode th st (mode.WaitsAny xs) s) (waits_more s.threads th st st (mode.WaitsAny xs) refl at))
 
 request_same : (c : CellName) (tok : Token) (s : Site) → ((with_own_request c tok s).threads ≡ s.threads) × ((with_own_request c tok s).steps ≡ s.steps)
 request_same c Away s = by (c.site == s.records.site)
@@ -203,7 +207,7 @@ unit_counts p n limit th s d (st, at, unit) = by (stack_need p s.equations st) u
     named step h (Made c v) is = subst (λ (x : Transition). Counts s x.site 1) (sym is) h
 
     by : (need : Need) → IsUnitFor p n limit s th st need d → Counts s d.site 1
-    by (Waits x) (z, root, is) = subst (λ (y : Transition). Counts s y.site 1) (sym is) (waits_var s th st z at)
+    by (Waits x) (z, root, is) = subst (λ (y : Transition). Counts s y.site 1) (sym is) (needs_node s th st z at)
     by (WaitsAny q) (xs, open_on, is) = subst (λ (y : Transition). Counts s y.site 1) (sym is) (waits_several s th st xs at)
     by (Binds a b) (u, t, root, is) = subst (λ (y : Transition). Counts s y.site 1) (sym is) (bound u t (u.site == s.records.site))
     by (Takes kinds) is = named (thread_step p n limit th st kinds (fresh_names s kinds) None s) (step_of kinds (fresh_names s kinds) None) (effect_here p s (fresh_names s kinds) None st).cell is

@@ -25,7 +25,7 @@ use Rattle.thread_roster.specs.declared.mode.Mode.TheVariants as site
 use Rattle.site_model.specs.Bundle.{is_below}
 use Rattle.site_model.specs.Transition.{Transition, without_output}
 use Rattle.site_model.specs.Cells.{request_row}
-use Rattle.site_model.specs.Unit.{with_waiting_any, IsTokenHere, IsStepOrRequest, IsRootBind, IsBindUnit, IsUnitFor, IsUnit}
+use Rattle.site_model.specs.Unit.{IsTokenHere, IsStepOrRequest, IsRootBind, IsBindUnit, IsUnitFor, IsUnit, with_mode}
 use Rattle.site_message.specs.declared.message.Msg.{Msg}
 use Rattle.site_model.specs.Fit.{IsFit}
 use Rattle.site_model.specs.Turn.{AreUnits, IsReception, SiteTurnOf}
@@ -113,7 +113,7 @@ IsOpenFor s d = (q : Pair) → d ≡ WaitsAny q → (xs : List VarName) × (comp
 
 need_is : (p : List Stmt) (n limit : ℕ) (s : Site) (th : ThreadName) (st : Stack) (d : Need) → is_possible s.equations d ≡ true → IsOpenFor s d → IsUnitFor p n limit s th st d (unit_for p n limit th st s d)
 need_is p n limit s th st (Waits x) e open_on = (root_of s.equations x, (to_root s.equations x, free_tells s.equations (root_of s.equations x) e), refl)
-need_is p n limit s th st (WaitsAny q) e open_on = let xs = open_on q refl in (xs.0, xs.1, ap (λ (c : Comparison). without_output (with_waiting_any th st (open_list c) s)) xs.1)
+need_is p n limit s th st (WaitsAny q) e open_on = let xs = open_on q refl in (xs.0, xs.1, ap (λ (c : Comparison). without_output (with_mode th st (site.WaitsAny (open_list c)) s)) xs.1)
 need_is p n limit s th st (Binds a b) e open_on = bind_is p n limit s th st a b e
 need_is p n limit s th st (Takes kinds) e open_on = token_here limit th st s _ _
 
@@ -124,6 +124,7 @@ unit_is p n limit s th e = go (thread_state s th) refl e
     go None q k = cc
     go (Some (st, site.Runs)) q k = (st, q, need_is p n limit s th st (stack_need p s.equations st) k (λ r d. (at_test p s.equations st r d).1))
     go (Some (st, site.Waits x)) q k = cc
+    go (Some (st, site.Needs x)) q k = cc
     go (Some (st, site.WaitsAny xs)) q k = cc
     go (Some (st, site.WaitsFor c)) q k = cc
 

@@ -17,13 +17,14 @@ use Rattle.oz_model.specs.Need.{Need, Waits, WaitsAny, Binds, Takes, stack_need}
 use Rattle.oz_model.specs.Effect.{CellChange, Exchanged}
 use Rattle.token_chain.specs.declared.token.Token.{Token}
 use Rattle.token_chain.specs.declared.token.Token.TheVariants.{Here}
+use Rattle.thread_roster.specs.declared.mode.Mode.TheVariants as mode
 use Rattle.site_model.specs.Site.{Site, ThreadState, thread_state, cell_record}
 use Rattle.thread_roster.specs.Threads.{is_waiting}
 use Rattle.site_model.specs.Bundle.{is_below}
 use Rattle.site_model.specs.Transition.{Transition, without_output, and_then}
 use Rattle.site_model.specs.Cells.{request_row}
 use Rattle.site_model.specs.Messages.{reception}
-use Rattle.site_model.specs.Unit.{bind_attempt, effect_here, thread_step, fresh_names, with_waiting, with_waiting_any}
+use Rattle.site_model.specs.Unit.{bind_attempt, effect_here, thread_step, fresh_names, with_mode}
 
 -- a name that no site makes: what `root_bind` gives where there is nothing to bind
 abbrev pub nobody : VarName
@@ -75,8 +76,8 @@ open_list _ = []
 
 -- the unit of a thread by what it needs: it waits, binds one of two sides, or takes names and steps
 abbrev pub unit_for : List Stmt → ℕ → ℕ → ThreadName → Stack → Site → Need → Transition
-unit_for p n limit th st s (Waits x) = without_output (with_waiting th st (root_of s.equations x) s)
-unit_for p n limit th st s (WaitsAny q) = without_output (with_waiting_any th st (open_list (compared s.equations q)) s)
+unit_for p n limit th st s (Waits x) = without_output (with_mode th st (mode.Needs (root_of s.equations x)) s)
+unit_for p n limit th st s (WaitsAny q) = without_output (with_mode th st (mode.WaitsAny (open_list (compared s.equations q))) s)
 unit_for p n limit th st s (Binds a b) =
     bind_attempt p n limit th st (root_bind s.equations a b).0 (root_bind s.equations a b).1
     ((root_bind s.equations a b).0.site == s.records.site) s

@@ -23,6 +23,7 @@ use Rattle.oz_model.specs.Need.{Need, Waits, WaitsAny, Binds, Takes, stack_need}
 use Rattle.oz_model.specs.Effect.{Birth, CellChange, Stays, Made, Exchanged, Effect, vars_among}
 use Rattle.oz_model.specs.Step.{living_stack, end_count}
 use Rattle.bind_protocol.specs.Rows.{sent_message, request}
+use Rattle.thread_roster.specs.declared.mode.Mode.{Mode}
 use Rattle.thread_roster.specs.declared.mode.Mode.TheVariants.{Runs}
 use Rattle.thread_roster.specs.declared.mode.Mode.TheVariants as mode
 use Rattle.token_chain.specs.declared.token.Token.{Token}
@@ -131,13 +132,9 @@ step_row p n limit k kinds e s =
 
 -- ---- units
 
--- the thread waits for x
-abbrev pub with_waiting : ThreadName → Stack → VarName → Site → Site
-with_waiting n st x s = record s { threads = with_value equal_thread s.threads n (st, mode.Waits x) }
-
--- the thread waits for any of these
-abbrev pub with_waiting_any : ThreadName → Stack → List VarName → Site → Site
-with_waiting_any n st xs s = record s { threads = with_value equal_thread s.threads n (st, mode.WaitsAny xs) }
+-- the thread is left in this mode, with this stack
+abbrev pub with_mode : ThreadName → Stack → Mode → Site → Site
+with_mode n st m s = record s { threads = with_value equal_thread s.threads n (st, m) }
 
 -- the step of a thread that takes these names
 abbrev pub thread_step : List Stmt → ℕ → ℕ → ThreadName → Stack → List NameKind → List Name → Option Equation → Site → Transition
@@ -166,7 +163,7 @@ IsRootBind s a b u t = IsAllowedBind s a b (u, t) × IsFree s u × IsLower t u �
 abbrev pub bind_attempt : List Stmt → ℕ → ℕ → ThreadName → Stack → VarName → Term → Bool → Site → Transition
 bind_attempt p n limit th st u t true s = thread_step p n limit th st [] [] (Some (u, t)) s
 bind_attempt p n limit th st u t false s =
-    with_messages (with_waiting th st u s) (with_own_bundle limit s.equations (request u t th) ∷ [])
+    with_messages (with_mode th st (mode.Waits u) s) (with_own_bundle limit s.equations (request u t th) ∷ [])
 
 -- the unit that binds a root of one of the two sides: at once where the site owns it, else by a request
 abbrev pub IsBindUnit : List Stmt → ℕ → ℕ → Site → ThreadName → Stack → Term → Term → Transition → Type 0
@@ -174,12 +171,12 @@ IsBindUnit p n limit s th st a b d =
     (u : VarName) × (t : Term) × IsRootBind s.equations a b u t
     × (d ≡ bind_attempt p n limit th st u t (u.site == s.records.site) s)
 
--- by what the thread needs: it waits for the root of x's class, or for any that is open in its comparison by what the site knows,
+-- by what the thread needs: it waits for the node of x's class, by the name of its root, or for any that is open in its comparison by what the site knows,
 -- binds one of two sides, or takes fresh names and steps, or waits for a token
 abbrev pub IsUnitFor : List Stmt → ℕ → ℕ → Site → ThreadName → Stack → Need → Transition → Type 0
-IsUnitFor p n limit s th st (Waits x) d = (z : VarName) × IsClassName s.equations x z × (d ≡ without_output (with_waiting th st z s))
+IsUnitFor p n limit s th st (Waits x) d = (z : VarName) × IsClassName s.equations x z × (d ≡ without_output (with_mode th st (mode.Needs z) s))
 IsUnitFor p n limit s th st (WaitsAny q) d =
-    (xs : List VarName) × (compared s.equations q ≡ Open xs) × (d ≡ without_output (with_waiting_any th st xs s))
+    (xs : List VarName) × (compared s.equations q ≡ Open xs) × (d ≡ without_output (with_mode th st (mode.WaitsAny xs) s))
 IsUnitFor p n limit s th st (Binds a b) d = IsBindUnit p n limit s th st a b d
 IsUnitFor p n limit s th st (Takes kinds) d =
     IsStepOrRequest limit th st s (thread_step p n limit th st kinds (fresh_names s kinds) None s)

@@ -6,7 +6,8 @@ use Rattle.tree_node.specs.Store.{Equation}
 use Rattle.site_message.specs.declared.message.Msg.{Msg}
 use Rattle.bind_protocol.specs.Records.{Records, is_own, knowledge}
 use Rattle.bind_protocol.specs.Rows.{after_make, after_meets, meets_send, after_ask, ask_sends, after_binding}
-use Rattle.thread_roster.specs.Threads.{wake_all}
+use Rattle.thread_roster.specs.Binds.{goes_on}
+use Rattle.thread_roster.specs.Threads.{wake_where}
 use Rattle.site_model.specs.Site.{Site}
 use Rattle.site_model.specs.Bundle.{with_own_bundles, message_vars, message_bundle}
 use Rattle.site_model.specs.Transition.{Transition, without_output, with_messages, and_then}
@@ -24,12 +25,13 @@ after_makes b (x ∷ xs) = after_makes (after_make b x) xs
 
 -- ---- equations
 
--- x is known to be t from now on, with these records of variables, and the threads that wait for it can go on
+-- x is known to be t from now on, with these records of variables; the threads that wait until x is bound can go on, and, where its class
+-- has a node by that, those that need it
 abbrev pub with_site_equation : Site → VarName → Term → Records → Site
 with_site_equation s x t b = record s {
   equations = (x, t) ∷ s.equations;
   records = b;
-  threads = wake_all x s.threads;
+  threads = wake_where (goes_on ((x, t) ∷ s.equations) x) s.threads;
 }
 
 -- so it is of x owned elsewhere by a Binding or a bundle

@@ -26,8 +26,9 @@ use Rattle.thread_machine.specs.Running.{Running}
 use Rattle.name_supply.specs.Supply.{site_in, IsMade}
 use Rattle.thread_machine.proofs.KeepLemmas.{equations_grow}
 use Rattle.thread_roster.specs.declared.mode.Mode.{Mode}
-use Rattle.thread_roster.specs.Threads.{Threads as Roster, Entry, wake, wake_all}
-use Rattle.thread_roster.proofs.ThreadLemmas.{each_woken}
+use Rattle.thread_roster.specs.Threads.{Threads as Roster, Entry, wake_where}
+use Rattle.thread_roster.specs.Binds.{goes_on}
+use Rattle.thread_roster.proofs.ThreadLemmas.{woken_by, each_where}
 use Rattle.oz_model.proofs.NameLemmas.{Each-weaker}
 use Rattle.site_model.specs.Site.{Site}
 use Rattle.site_model.specs.Transition.{Transition, without_output}
@@ -41,7 +42,7 @@ use Rattle.site_units.specs.Core.{site_of, stack_in}
 use Rattle.site_units.specs.Invariant.{ThreadFits, IsConsistent}
 use Rattle.site_units.specs.Turns.{IsRowMade}
 use Rattle.site_units.proofs.ThreadLemmas.{Living, WaitsStay, waits_woken}
-use Rattle.site_units.proofs.WakeLemmas.{encode, woken_each, woken_living, recovered_all}
+use Rattle.site_units.proofs.WakeLemmas.{Bind, encode, woken_each, woken_living, recovered_all}
 use Rattle.site_units.proofs.FreshLemmas.{each_of}
 use Rattle.site_units.proofs.NextLemmas.{next_consistent, thread_grows, exchanges_more}
 use Rattle.site_units.proofs.SiteLemmas.{nil_right}
@@ -49,15 +50,15 @@ use Rattle.site_units.proofs.RowLemmas.{row_reached}
 use Rattle.tree_node.proofs.OrderLemmas.{Each-member}
 use Rattle.std.proofs.lemmas.Bool.{ne_eqb, eq-eqb}
 
--- ---- woken one after another
+-- ---- some go on by one bind after another
 
-waits_each : (xs : List VarName) (ts : Living) → WaitsStay ts (woken_each xs ts)
+waits_each : (bs : List Bind) (ts : Living) → WaitsStay ts (woken_each bs ts)
 waits_each [] ts m s c e = e
-waits_each (x ∷ xs) ts m s c e = waits_each xs (wake_all x ts) m s c (waits_woken x ts m s c e)
+waits_each (b ∷ bs) ts m s c e = waits_each bs (wake_where (goes_on b.0 b.1) ts) m s c (waits_woken b.0 b.1 ts m s c e)
 
-each_each : (P : Entry Running → Type 0) → ((n : ThreadName) (v : Running) (m k : Mode) → P (n, (v, m)) → P (n, (v, k))) → (xs : List VarName) (ts : Living) → Each P ts → Each P (woken_each xs ts)
+each_each : (P : Entry Running → Type 0) → ((n : ThreadName) (v : Running) (m k : Mode) → P (n, (v, m)) → P (n, (v, k))) → (bs : List Bind) (ts : Living) → Each P ts → Each P (woken_each bs ts)
 each_each P any [] ts all = all
-each_each P any (x ∷ xs) ts all = each_each P any xs (wake_all x ts) (each_woken P P x ts (λ n v m g. any n v m (wake x m) g) all)
+each_each P any (b ∷ bs) ts all = each_each P any bs (wake_where (goes_on b.0 b.1) ts) (each_where P P (goes_on b.0 b.1) ts (λ n v m g. any n v m (woken_by (goes_on b.0 b.1) m) g) all)
 
 -- ---- names
 
@@ -94,7 +95,7 @@ pub record Learned (p : List Stmt) (c : Core) (v1 : Variables) (ts1 : Roster Run
   pub equations : EquationsFit p v1.store.known v1.store.equations
   pub includes : IsPartOf c.variables.store.equations v1.store.equations
   pub sound : IsSound v1.store.equations
-  pub bound : List VarName
+  pub bound : List Bind
   pub woken : ts1.living ≡ woken_each bound c.threads.living
 
 pub learned_consistent : (p : List Stmt) (c : Core) (v1 : Variables) (ts1 : Roster Running) → IsConsistent p c → Learned p c v1 ts1 → IsConsistent p (record c { variables = v1; threads = ts1 })
@@ -120,10 +121,10 @@ learned_consistent p c v1 ts1 h l = next_consistent p c (record c { variables = 
 
 -- ---- one equation, or none
 
--- the equation came, and those that waited for its variable go on; or nothing changed
+-- the equation came, and those go on that go on by it; or nothing changed
 abbrev pub IsOneMore : VarName → Term → Core → Variables → Roster Running → Type 0
 IsOneMore x t c v1 ts1 =
-    ((v1.store.equations ≡ (x, t) ∷ c.variables.store.equations) × (ts1.living ≡ wake_all x c.threads.living))
+    ((v1.store.equations ≡ (x, t) ∷ c.variables.store.equations) × (ts1.living ≡ wake_where (goes_on ((x, t) ∷ c.variables.store.equations) x) c.threads.living))
     ⊎ ((v1.store.equations ≡ c.variables.store.equations) × (ts1.living ≡ c.threads.living))
 
 one_learned : (p : List Stmt) (c : Core) (v1 : Variables) (ts1 : Roster Running) (x : VarName) (t : Term) → IsConsistent p c → IsLinked v1 → v1.binder.site ≡ c.variables.binder.site → IsGrown c.variables.store.known v1.store.known →
@@ -139,7 +140,7 @@ one_learned p c v1 ts1 x t h linked own grows names sound known term fits (inl m
       (record { names = ((known, term), h.equations.names); terms = (fits, h.equations.terms) }));
   includes = λ e m. subst (λ (es : Store). Contains es e) (sym more.0) (Contains-tail (x, t) e c.variables.store.equations m);
   sound = sound;
-  bound = x ∷ [];
+  bound = ((x, t) ∷ c.variables.store.equations, x) ∷ [];
   woken = more.1;
 }
 one_learned p c v1 ts1 x t h linked own grows names sound known term fits (inr same) = record {
@@ -167,7 +168,7 @@ granted c v1 ts1 o0 o1 x t n a done = go (knowledge c.variables.binder x) (λ g.
         ((g : Running → Stack) → bind_request_as k 0 x t n (with_parts (site_of c) (parts_of c.variables (stacks_of g c.threads.living) o0.sent)) ≡ record { site = with_parts (site_of c) (parts_of v1 (stacks_of g ts1.living) o1.sent); picks = request_picks a n x t; sent = (done g).more; lines = [] }) →
         IsOneMore x t c v1 ts1 × (v1.binder.site ≡ c.variables.binder.site)
     go None e = (inr (sym (ap (λ (d : Transition). d.site.equations) (e stack_in)), recovered_all c.threads.living ts1.living (sym (ap (λ (d : Transition). d.site.threads) (e encode)))), sym (ap (λ (d : Transition). d.site.records.site) (e stack_in)))
-    go (Some None) e = (inl (sym (ap (λ (d : Transition). d.site.equations) (e stack_in)), woken_living x c.threads.living ts1.living (sym (ap (λ (d : Transition). d.site.threads) (e encode)))), sym (ap (λ (d : Transition). d.site.records.site) (e stack_in)))
+    go (Some None) e = (inl (sym (ap (λ (d : Transition). d.site.equations) (e stack_in)), woken_living (goes_on ((x, t) ∷ c.variables.store.equations) x) c.threads.living ts1.living (sym (ap (λ (d : Transition). d.site.threads) (e encode)))), sym (ap (λ (d : Transition). d.site.records.site) (e stack_in)))
     go (Some (Some r)) e = (inr (sym (ap (λ (d : Transition). d.site.equations) (e stack_in)), recovered_all c.threads.living ts1.living (sym (ap (λ (d : Transition). d.site.threads) (e encode)))), sym (ap (λ (d : Transition). d.site.records.site) (e stack_in)))
 
 pub grant_made : (p : List Stmt) (c : Core) (v1 : Variables) (ts1 : Roster Running) (o0 o1 : Output) (x : VarName) (t : Term) (n : ThreadName) (a : Asked) → Requested c v1 ts1 o0 o1 x t n a → ts1.ended ≡ c.threads.ended → IsLinked v1 →
@@ -196,8 +197,8 @@ told_one c v1 ts1 x t elsewhere done =
     after g = with_parts (site_of c) (parts_of v1 (stacks_of g ts1.living) [])
 
     go : (k : Option (Option Term)) → ((g : Running → Stack) → with_known_equation_as false k (with_parts (site_of c) (parts_of c.variables (stacks_of g c.threads.living) [])) x t ≡ with_parts (site_of c) (parts_of v1 (stacks_of g ts1.living) [])) → IsOneMore x t c v1 ts1
-    go None e = inl (sym (ap (λ (s : Site). s.equations) (e stack_in)), woken_living x c.threads.living ts1.living (sym (ap (λ (s : Site). s.threads) (e encode))))
-    go (Some None) e = inl (sym (ap (λ (s : Site). s.equations) (e stack_in)), woken_living x c.threads.living ts1.living (sym (ap (λ (s : Site). s.threads) (e encode))))
+    go None e = inl (sym (ap (λ (s : Site). s.equations) (e stack_in)), woken_living (goes_on ((x, t) ∷ c.variables.store.equations) x) c.threads.living ts1.living (sym (ap (λ (s : Site). s.threads) (e encode))))
+    go (Some None) e = inl (sym (ap (λ (s : Site). s.equations) (e stack_in)), woken_living (goes_on ((x, t) ∷ c.variables.store.equations) x) c.threads.living ts1.living (sym (ap (λ (s : Site). s.threads) (e encode))))
     go (Some (Some r)) e = inr (sym (ap (λ (s : Site). s.equations) (e stack_in)), recovered_all c.threads.living ts1.living (sym (ap (λ (s : Site). s.threads) (e encode))))
 
 pub learn_made : (p : List Stmt) (c : Core) (v1 : Variables) (ts1 : Roster Running) (o : Output) (x : VarName) (t : Term) → Told c v1 ts1 x t → ts1.ended ≡ c.threads.ended → IsLinked v1 → IsGrown c.variables.store.known v1.store.known →

@@ -17,9 +17,10 @@ use Rattle.kernel_syntax.specs.declared.stmt.Stmt.{Stmt}
 use Rattle.oz_model.specs.Need.{Need, Waits, WaitsAny, Binds, Takes, stack_need}
 use Rattle.oz_model.specs.Effect.{CellChange, Stays, Made, Exchanged}
 use Rattle.thread_roster.specs.declared.mode.Mode.TheVariants.{Runs}
+use Rattle.thread_roster.specs.declared.mode.Mode.TheVariants as mode
 use Rattle.site_model.specs.Site.{Site, ThreadState}
 use Rattle.site_model.specs.Transition.{Transition, without_output}
-use Rattle.site_model.specs.Unit.{IsRootBind, IsStepOrRequest, IsUnitFor, IsUnit, with_waiting, with_waiting_any, bind_attempt}
+use Rattle.site_model.specs.Unit.{IsRootBind, IsStepOrRequest, IsUnitFor, IsUnit, bind_attempt, with_mode}
 use Rattle.tree_node.proofs.NameLemmas.{below_not, below_trans}
 use Rattle.tree_node.proofs.ClassLemmas.{roots_tell_classes}
 
@@ -106,9 +107,9 @@ unit_for_is_one : (p : List Stmt) (n limit : ℕ) (s : Site) (th : ThreadName) (
 unit_for_is_one p n limit s th st (Waits x) d e f h k =
     let roots : root_of s.equations h.0 ≡ root_of s.equations k.0 = sym ((roots_tell_classes s.equations x h.0).0 h.1.0) ∙ (roots_tell_classes s.equations x k.0).0 k.1.0 in
     let same = one_free s.equations h.0 k.0 f h.1.1 k.1.1 roots in
-    h.2 ∙ ap (λ (z : VarName). without_output (with_waiting th st z s)) same ∙ sym k.2
+    h.2 ∙ ap (λ (z : VarName). without_output (with_mode th st (mode.Needs z) s)) same ∙ sym k.2
 unit_for_is_one p n limit s th st (WaitsAny q) d e f h k =
-    h.2 ∙ ap (λ (xs : List VarName). without_output (with_waiting_any th st xs s)) (open_same h.0 k.0 (sym h.1 ∙ k.1)) ∙ sym k.2
+    h.2 ∙ ap (λ (xs : List VarName). without_output (with_mode th st (mode.WaitsAny xs) s)) (open_same h.0 k.0 (sym h.1 ∙ k.1)) ∙ sym k.2
 unit_for_is_one p n limit s th st (Binds a b) d e f h k =
     let same = bind_is_one s.equations a b h.0 k.0 h.1 k.1 f h.2 k.2 in
     h.3 ∙ ap (λ (u : VarName). bind_attempt p n limit th st u h.1 (u.site == s.records.site) s) same.0

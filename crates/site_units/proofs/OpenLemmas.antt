@@ -31,7 +31,10 @@ use Rattle.thread_machine.specs.Fits.{IsKnown as IsAmong, TermFits, EquationsFit
 use Rattle.thread_machine.specs.Running.{Running}
 use Rattle.name_supply.specs.Supply.{site_in, IsMade, HasMade}
 use Rattle.thread_machine.proofs.KeepLemmas.{equations_grow}
-use Rattle.thread_roster.specs.Threads.{Threads as Roster, wake, wake_all}
+use Rattle.thread_roster.specs.declared.mode.Mode.{Mode}
+use Rattle.thread_roster.specs.Threads.{Threads as Roster, wake_where}
+use Rattle.thread_roster.specs.Binds.{goes_on}
+use Rattle.thread_roster.proofs.ThreadLemmas.{woken_by}
 use Rattle.site_model.specs.Site.{Site, Threads}
 use Rattle.site_model.specs.Bundle.{body_vars, message_bundle, message_vars, vars_of_equations}
 use Rattle.site_model.specs.Transition.{Transition}
@@ -44,7 +47,7 @@ use Rattle.site_units.specs.Core.{site_of, stack_in}
 use Rattle.site_units.specs.Invariant.{IsConsistent}
 use Rattle.site_units.specs.Turns.{IsRowMade}
 use Rattle.site_units.proofs.ThreadLemmas.{Living}
-use Rattle.site_units.proofs.WakeLemmas.{encode, woken_each, woken_back}
+use Rattle.site_units.proofs.WakeLemmas.{Bind, encode, woken_each, woken_back}
 use Rattle.site_units.proofs.LearnLemmas.{own_known, learned_consistent}
 use Rattle.site_units.proofs.SiteLemmas.{nil_right}
 use Rattle.site_units.proofs.RowLemmas.{row_reached}
@@ -52,11 +55,11 @@ use Rattle.std.proofs.lemmas.Bool.{eq-eqb}
 
 -- ---- what a bundle brings
 
--- equations and threads afterwards: the new ones are of the bundle, and the threads that waited for some variables go on
+-- equations and threads afterwards: the new ones are of the bundle, and threads go on by some binds
 record Brings (es : List Equation) (s t : Site) : Type 0 where
   from : (e : Equation) → Contains t.equations e → Contains s.equations e ⊎ Contains es e
   includes : IsPartOf s.equations t.equations
-  bound : List VarName
+  bound : List Bind
   woken : t.threads ≡ woken_each bound s.threads
 
 brings_one : (s : Site) (x : VarName) (t : Term) → Brings ((x, t) ∷ []) s (with_known_equation s x t)
@@ -69,7 +72,7 @@ brings_one s x t = go (is_own s.records x) (knowledge s.records x)
     more = record {
       from = λ e m. (elim (Contains-cons_cases (x, t) e s.equations m) [ inl is ↦ inr (subst (Contains ((x, t) ∷ [])) is (Contains-head (x, t) [])) | inr old ↦ inl old ]);
       includes = λ e m. Contains-tail (x, t) e s.equations m;
-      bound = x ∷ [];
+      bound = ((x, t) ∷ s.equations, x) ∷ [];
       woken = refl;
     }
 
@@ -79,9 +82,9 @@ brings_one s x t = go (is_own s.records x) (knowledge s.records x)
     go false (Some None) = more
     go false None = more
 
-woken_on : (xs ys : List VarName) (ts : Threads) → woken_each ys (woken_each xs ts) ≡ woken_each (xs ++ ys) ts
-woken_on [] ys ts = refl
-woken_on (x ∷ xs) ys ts = woken_on xs ys (wake_all x ts)
+woken_on : (bs ds : List Bind) (ts : Threads) → woken_each ds (woken_each bs ts) ≡ woken_each (bs ++ ds) ts
+woken_on [] ds ts = refl
+woken_on (b ∷ bs) ds ts = woken_on bs ds (wake_where (goes_on b.0 b.1) ts)
 
 brings_all : (es : List Equation) (s : Site) → Brings es s (with_known_equations s es)
 brings_all [] s = record { from = λ e m. inl m; includes = λ e m. m; bound = []; woken = refl }
@@ -159,7 +162,7 @@ module _ (p : List Stmt) (c : Core) (v1 : Variables) (ts1 : Roster Running) (o0 
   threads_are : (with_known_equations (begun encode) (message_bundle m)).threads ≡ stacks_of encode ts1.living
   threads_are = ap (λ (d : Transition). d.site.threads) ((done encode).done (site_of c))
 
-  pub which_woken : (xs : List VarName) × (ts1.living ≡ woken_each xs c.threads.living)
+  pub which_woken : (bs : List Bind) × (ts1.living ≡ woken_each bs c.threads.living)
   which_woken = ((brings encode).bound, woken_back (brings encode).bound c.threads.living ts1.living (sym threads_are ∙ (brings encode).woken))
 
   pub open_made : IsConsistent p c → Each (λ (e : Equation). TermFits p e.1) (message_bundle m) → ts1.ended ≡ c.threads.ended → IsLinked v1 → IsGrown c.variables.store.known v1.store.known → Each (Contains v1.store.known) (message_vars m) →
@@ -199,18 +202,18 @@ module _ (p : List Stmt) (c : Core) (v1 : Variables) (ts1 : Roster Running) (o0 
       fit = record { names = each_new (EachOfEquation (IsAmong v1.store.known)) old.names bundle_known; terms = each_new (λ (e : Equation). TermFits p e.1) old.terms terms }
 
 -- no thread is born
-pub still_new : (xs : List VarName) (ts us : Living) (n : ThreadName) → us ≡ woken_each xs ts → value_of equal_thread ts n ≡ None → value_of equal_thread us n ≡ None
-still_new xs ts us n e none = ap (λ (l : Living). value_of equal_thread l n) e ∙ each xs ts none
+pub still_new : (bs : List Bind) (ts us : Living) (n : ThreadName) → us ≡ woken_each bs ts → value_of equal_thread ts n ≡ None → value_of equal_thread us n ≡ None
+still_new bs ts us n e none = ap (λ (l : Living). value_of equal_thread l n) e ∙ each bs ts none
   where
-    one : (x : VarName) (ts : Living) → value_of equal_thread ts n ≡ None → value_of equal_thread (wake_all x ts) n ≡ None
-    one x [] h = refl
-    one x (t ∷ ts) h = go (equal_thread t.0 n) h (λ k. one x ts k)
+    one : (f : Mode → Bool) (ts : Living) → value_of equal_thread ts n ≡ None → value_of equal_thread (wake_where f ts) n ≡ None
+    one f [] h = refl
+    one f (t ∷ ts) h = go (equal_thread t.0 n) h (λ k. one f ts k)
       where
-        go : (b : Bool) → cond b (Some t.1) (value_of equal_thread ts n) ≡ None → (value_of equal_thread ts n ≡ None → value_of equal_thread (wake_all x ts) n ≡ None) →
-            cond b (Some (t.1.0, wake x t.1.1)) (value_of equal_thread (wake_all x ts) n) ≡ None
+        go : (b : Bool) → cond b (Some t.1) (value_of equal_thread ts n) ≡ None → (value_of equal_thread ts n ≡ None → value_of equal_thread (wake_where f ts) n ≡ None) →
+            cond b (Some (t.1.0, woken_by f t.1.1)) (value_of equal_thread (wake_where f ts) n) ≡ None
         go true h ih = cc
         go false h ih = ih h
 
-    each : (xs : List VarName) (ts : Living) → value_of equal_thread ts n ≡ None → value_of equal_thread (woken_each xs ts) n ≡ None
+    each : (bs : List Bind) (ts : Living) → value_of equal_thread ts n ≡ None → value_of equal_thread (woken_each bs ts) n ≡ None
     each [] ts h = h
-    each (x ∷ xs) ts h = each xs (wake_all x ts) (one x ts h)
+    each (b ∷ bs) ts h = each bs (wake_where (goes_on b.0 b.1) ts) (one (goes_on b.0 b.1) ts h)

@@ -7,14 +7,16 @@ use Rattle.tree_node.specs.declared.names.ThreadName.{ThreadName}
 use Rattle.tree_node.specs.Assoc.{value_of, with_value, without_key, with_optional_value}
 use Rattle.tree_node.specs.Each.{Each}
 use Rattle.tree_node.specs.State.{Stack, equal_thread}
+use Rattle.tree_node.specs.Store.{Store}
 use Rattle.oz_model.specs.Step.{living_stack}
 use Rattle.thread_machine.specs.Running.{Running}
 use Rattle.thread_roster.specs.declared.mode.Mode.{Mode}
 use Rattle.thread_roster.specs.declared.mode.Mode.TheVariants as mode
-use Rattle.thread_roster.specs.Threads.{Entry, set_value, set_mode, wake, wake_all}
+use Rattle.thread_roster.specs.Threads.{Entry, set_value, set_mode, wake_where}
+use Rattle.thread_roster.specs.Binds.{goes_on}
 use Rattle.tree_node.proofs.NameLemmas.{same_thread_decides}
 use Rattle.thread_roster.proofs.NameLemmas.{is_same, is_other}
-use Rattle.thread_roster.proofs.ThreadLemmas.{seen_found, seen_end, seen_value, seen_mode, value_there, each_end, each_value}
+use Rattle.thread_roster.proofs.ThreadLemmas.{seen_found, seen_end, seen_value, seen_mode, value_there, each_end, each_value, woken_by, found_where}
 use Rattle.site_model.specs.Site.{Threads}
 use Rattle.site_model.specs.Unit.{runnable_state}
 use Rattle.site_variables.specs.Variables.{stacks_of}
@@ -211,29 +213,16 @@ settled_each P ts n q (i ∷ is) here all = each_value P ts n q (here not_nil) a
     not_nil : i ∷ is ≢ []
     not_nil e = cc
 
--- ---- waking
+-- ---- some go on
 
-pub woken_value : (x : VarName) (ts : Living) (n : ThreadName) (q : Running) → wake_all x (set_value ts n q) ≡ set_value (wake_all x ts) n q
-woken_value x [] n q = refl
-woken_value x (t ∷ ts) n q = go (equal_thread t.0 n) (woken_value x ts n q)
+pub woken_value : (f : Mode → Bool) (ts : Living) (n : ThreadName) (q : Running) → wake_where f (set_value ts n q) ≡ set_value (wake_where f ts) n q
+woken_value f [] n q = refl
+woken_value f (t ∷ ts) n q = go (equal_thread t.0 n) (woken_value f ts n q)
   where
-    go : (b : Bool) → wake_all x (set_value ts n q) ≡ set_value (wake_all x ts) n q →
-        wake_all x (cond b ((n, (q, t.1.1)) ∷ ts) (t ∷ set_value ts n q)) ≡ cond b ((n, (q, wake x t.1.1)) ∷ wake_all x ts) ((t.0, (t.1.0, wake x t.1.1)) ∷ set_value (wake_all x ts) n q)
+    go : (b : Bool) → wake_where f (set_value ts n q) ≡ set_value (wake_where f ts) n q →
+        wake_where f (cond b ((n, (q, t.1.1)) ∷ ts) (t ∷ set_value ts n q)) ≡ cond b ((n, (q, woken_by f t.1.1)) ∷ wake_where f ts) ((t.0, (t.1.0, woken_by f t.1.1)) ∷ set_value (wake_where f ts) n q)
     go true ih = refl
-    go false ih = ap (λ (l : Living). (t.0, (t.1.0, wake x t.1.1)) ∷ l) ih
+    go false ih = ap (λ (l : Living). (t.0, (t.1.0, woken_by f t.1.1)) ∷ l) ih
 
-pub woken_found : (x : VarName) (ts : Living) (n : ThreadName) (r : Running) (k : Mode) → value_of equal_thread ts n ≡ Some (r, k) → value_of equal_thread (wake_all x ts) n ≡ Some (r, wake x k)
-woken_found x [] n r k e = cc
-woken_found x (t ∷ ts) n r k e = go (equal_thread t.0 n) e (λ h. woken_found x ts n r k h)
-  where
-    awake : Option (Running × Mode) → Option (Running × Mode)
-    awake None = None
-    awake (Some v) = Some (v.0, wake x v.1)
-
-    go : (b : Bool) → cond b (Some t.1) (value_of equal_thread ts n) ≡ Some (r, k) → (value_of equal_thread ts n ≡ Some (r, k) → value_of equal_thread (wake_all x ts) n ≡ Some (r, wake x k)) →
-        cond b (Some (t.1.0, wake x t.1.1)) (value_of equal_thread (wake_all x ts) n) ≡ Some (r, wake x k)
-    go true h ih = ap awake h
-    go false h ih = ih h
-
-pub waits_woken : (x : VarName) (ts : Living) → WaitsStay ts (wake_all x ts)
-waits_woken x ts m s c waits = woken_found x ts m s (mode.WaitsFor c) waits
+pub waits_woken : (s : Store) (x : VarName) (ts : Living) → WaitsStay ts (wake_where (goes_on s x) ts)
+waits_woken s x ts m r c waits = found_where (goes_on s x) ts m r (mode.WaitsFor c) waits

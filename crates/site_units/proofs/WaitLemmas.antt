@@ -24,7 +24,7 @@ use Rattle.thread_roster.specs.declared.mode.Mode.TheVariants as mode
 use Rattle.thread_roster.specs.Threads.{Entry, set_value, set_mode}
 use Rattle.thread_roster.proofs.ThreadLemmas.{each_found, each_value, each_mode, value_there}
 use Rattle.site_model.specs.Transition.{Transition, without_output}
-use Rattle.site_model.specs.Unit.{IsUnit, IsUnitFor, with_waiting, with_waiting_any}
+use Rattle.site_model.specs.Unit.{IsUnit, IsUnitFor, with_mode}
 use Rattle.site_cells.specs.Tables.{CellTables, with_tables}
 use Rattle.site_variables.specs.declared.variables.Variables.{Variables}
 use Rattle.site_variables.specs.Variables.{IsLinked, IsRecorded, stacks_of}
@@ -109,7 +109,7 @@ module _ (p : List Stmt) (c0 c c1 : Core) (th : ThreadName) (r q : Running) (o :
           ∙ (threads_wait c0.threads.living th r q k h.running
           ∙ ap (λ (st : Stack). with_value equal_thread (stacks_of stack_in c0.threads.living) th (st, k)) stack)
 
--- ---- a variable
+-- ---- the node of a class
 
 -- the unit of a thread with this need
 pub unit_of : (p : List Stmt) (c : Core) (th : ThreadName) (r : Running) (need : Need) (d : Transition) → value_of equal_thread c.threads.living th ≡ Some (r, mode.Runs) → stack_need p c.variables.store.equations r.stack ≡ need →
@@ -118,7 +118,7 @@ unit_of p c th r need d runs e u =
     (r.stack, thread_found c.threads.living th r mode.Runs runs, subst (λ (k : Need). IsUnitFor p c.sites 0 (site_of c) th r.stack k d) (sym e) u)
 
 pub wait_made : (p : List Stmt) (c0 c c1 : Core) (o0 : Output) (th : ThreadName) (r q : Running) (x : VarName) → IsStepping p c0 c th r q (out.Waits x) →
-    c1.variables ≡ c.variables → c1.fresh ≡ c.fresh → c1.threads.living ≡ set_mode c.threads.living th (mode.Waits x) → c1.steps ≡ c.steps → c1.sites ≡ c.sites → c1.threads.ended ≡ c.threads.ended → c1.cells ≡ c.cells →
+    c1.variables ≡ c.variables → c1.fresh ≡ c.fresh → c1.threads.living ≡ set_mode c.threads.living th (mode.Needs x) → c1.steps ≡ c.steps → c1.sites ≡ c.sites → c1.threads.ended ≡ c.threads.ended → c1.cells ≡ c.cells →
     IsUnitMade p th c0 o0 c1 o0
 wait_made p c0 c c1 o0 th r q x h v f l s n e t =
     let unchanged = h.step.0 in
@@ -127,15 +127,15 @@ wait_made p c0 c c1 o0 th r q x h v f l s n e t =
     let class : IsClassName c0.variables.store.equations z x = h.step.1.2.1 in
     let stack : q.stack ≡ r.stack = ap (λ (y : Running). y.stack) unchanged.0 in
     let called : q.name ≡ r.name = ap (λ (y : Running). y.name) unchanged.0 in
-    let site : site_of c1 ≡ with_tables c1.cells (with_waiting th r.stack x (site_of c0)) = waits_site p c0 c c1 th r q (out.Waits x) (mode.Waits x) h stack called unchanged.1 unchanged.2 v f l s n e in (
-      without_output (with_waiting th r.stack x (site_of c0)),
-      unit_of p c0 th r (Waits z) (without_output (with_waiting th r.stack x (site_of c0))) h.running need (x, class, refl),
+    let site : site_of c1 ≡ with_tables c1.cells (with_mode th r.stack (mode.Needs x) (site_of c0)) = waits_site p c0 c c1 th r q (out.Waits x) (mode.Needs x) h stack called unchanged.1 unchanged.2 v f l s n e in (
+      without_output (with_mode th r.stack (mode.Needs x) (site_of c0)),
+      unit_of p c0 th r (Waits z) (without_output (with_mode th r.stack (mode.Needs x) (site_of c0))) h.running need (x, class, refl),
       record {
-        site = site ∙ ap (λ (y : CellTables). with_tables y (with_waiting th r.stack x (site_of c0))) (t ∙ h.cells);
+        site = site ∙ ap (λ (y : CellTables). with_tables y (with_mode th r.stack (mode.Needs x) (site_of c0))) (t ∙ h.cells);
         picks = sym (nil_right o0.picks);
         sent = sym (nil_right o0.sent);
         lines = sym (nil_right o0.lines.items);
-        consistent = next_consistent p c0 c1 h.consistent (waits_next p c0 c c1 th r q (out.Waits x) (mode.Waits x) h stack called unchanged.1 unchanged.2 v f l s n t);
+        consistent = next_consistent p c0 c1 h.consistent (waits_next p c0 c c1 th r q (out.Waits x) (mode.Needs x) h stack called unchanged.1 unchanged.2 v f l s n t);
         sites = n ∙ h.sites;
       },
     )
@@ -152,11 +152,11 @@ wait_any_made p c0 c c1 o0 th r q xs h v f l s n e t =
     let open_on : compared c0.variables.store.equations pair ≡ Open xs = h.step.1.2 in
     let stack : q.stack ≡ r.stack = ap (λ (y : Running). y.stack) unchanged.0 in
     let called : q.name ≡ r.name = ap (λ (y : Running). y.name) unchanged.0 in
-    let site : site_of c1 ≡ with_tables c1.cells (with_waiting_any th r.stack xs (site_of c0)) = waits_site p c0 c c1 th r q (out.WaitsAny xs) (mode.WaitsAny xs) h stack called unchanged.1 unchanged.2 v f l s n e in (
-      without_output (with_waiting_any th r.stack xs (site_of c0)),
-      unit_of p c0 th r (WaitsAny pair) (without_output (with_waiting_any th r.stack xs (site_of c0))) h.running need (xs, open_on, refl),
+    let site : site_of c1 ≡ with_tables c1.cells (with_mode th r.stack (mode.WaitsAny xs) (site_of c0)) = waits_site p c0 c c1 th r q (out.WaitsAny xs) (mode.WaitsAny xs) h stack called unchanged.1 unchanged.2 v f l s n e in (
+      without_output (with_mode th r.stack (mode.WaitsAny xs) (site_of c0)),
+      unit_of p c0 th r (WaitsAny pair) (without_output (with_mode th r.stack (mode.WaitsAny xs) (site_of c0))) h.running need (xs, open_on, refl),
       record {
-        site = site ∙ ap (λ (y : CellTables). with_tables y (with_waiting_any th r.stack xs (site_of c0))) (t ∙ h.cells);
+        site = site ∙ ap (λ (y : CellTables). with_tables y (with_mode th r.stack (mode.WaitsAny xs) (site_of c0))) (t ∙ h.cells);
         picks = sym (nil_right o0.picks);
         sent = sym (nil_right o0.sent);
         lines = sym (nil_right o0.lines.items);

@@ -1,12 +1,16 @@
 -- Threads that were woken: what holds of their stacks, however these are told from the threads, holds of the threads.
-use Rattle.std.proofs.Common.{◌≡◌, ◌∙◌, sym, ap, refl, List, [], ◌∷◌, Some, None}
+use Rattle.std.proofs.Common.{◌≡◌, ◌∙◌, sym, ap, refl, List, [], ◌∷◌, Bool, Some, None}
 use Rattle.std.specs.Prelude.{Option}
 use Rattle.tree_node.specs.declared.names.VarName.{VarName}
 use Rattle.tree_node.specs.declared.item.Item.{Item}
 use Rattle.tree_node.specs.declared.item.Item.TheVariants as item
 use Rattle.tree_node.specs.State.{Block, Stack}
+use Rattle.tree_node.specs.Store.{Store}
 use Rattle.thread_machine.specs.Running.{Running}
-use Rattle.thread_roster.specs.Threads.{Entry, wake, wake_all}
+use Rattle.thread_roster.specs.declared.mode.Mode.{Mode}
+use Rattle.thread_roster.specs.Threads.{Entry, wake_where}
+use Rattle.thread_roster.specs.Binds.{goes_on}
+use Rattle.thread_roster.proofs.ThreadLemmas.{woken_by}
 use Rattle.site_model.specs.Site.{Threads}
 use Rattle.site_variables.specs.Variables.{stacks_of}
 use Rattle.site_units.proofs.ThreadLemmas.{Living}
@@ -42,25 +46,29 @@ recovered : (ts : Living) → living_of (stacks_of encode ts) ≡ ts
 recovered [] = refl
 recovered (t ∷ ts) = ap (λ (r : Running). (t.0, (r, t.1.1)) ∷ living_of (stacks_of encode ts)) (decoded t.1.0) ∙ ap (λ (l : Living). t ∷ l) (recovered ts)
 
-woken_seen : (x : VarName) (ts : Threads) → living_of (wake_all x ts) ≡ wake_all x (living_of ts)
-woken_seen x [] = refl
-woken_seen x (t ∷ ts) = ap (λ (l : Living). (t.0, (decode t.1.0, wake x t.1.1)) ∷ l) (woken_seen x ts)
+woken_seen : (f : Mode → Bool) (ts : Threads) → living_of (wake_where f ts) ≡ wake_where f (living_of ts)
+woken_seen f [] = refl
+woken_seen f (t ∷ ts) = ap (λ (l : Living). (t.0, (decode t.1.0, woken_by f t.1.1)) ∷ l) (woken_seen f ts)
 
-pub woken_living : (x : VarName) (old new : Living) → stacks_of encode new ≡ wake_all x (stacks_of encode old) → new ≡ wake_all x old
-woken_living x old new h =
-    sym (recovered new) ∙ (ap living_of h ∙ (woken_seen x (stacks_of encode old) ∙ ap (λ (l : Living). wake_all x l) (recovered old)))
+pub woken_living : (f : Mode → Bool) (old new : Living) → stacks_of encode new ≡ wake_where f (stacks_of encode old) → new ≡ wake_where f old
+woken_living f old new h =
+    sym (recovered new) ∙ (ap living_of h ∙ (woken_seen f (stacks_of encode old) ∙ ap (wake_where f) (recovered old)))
 
--- woken one after another
-abbrev pub woken_each : {V : Type 0} → List VarName → List (Entry V) → List (Entry V)
+-- a variable that was bound, and the equations by then
+abbrev pub Bind : Type 0
+Bind = Store × VarName
+
+-- those go on that go on by one bind after another
+abbrev pub woken_each : {V : Type 0} → List Bind → List (Entry V) → List (Entry V)
 woken_each [] ts = ts
-woken_each (x ∷ xs) ts = woken_each xs (wake_all x ts)
+woken_each (b ∷ bs) ts = woken_each bs (wake_where (goes_on b.0 b.1) ts)
 
-woken_each_seen : (xs : List VarName) (ts : Threads) → living_of (woken_each xs ts) ≡ woken_each xs (living_of ts)
+woken_each_seen : (bs : List Bind) (ts : Threads) → living_of (woken_each bs ts) ≡ woken_each bs (living_of ts)
 woken_each_seen [] ts = refl
-woken_each_seen (x ∷ xs) ts = woken_each_seen xs (wake_all x ts) ∙ ap (woken_each xs) (woken_seen x ts)
+woken_each_seen (b ∷ bs) ts = woken_each_seen bs (wake_where (goes_on b.0 b.1) ts) ∙ ap (woken_each bs) (woken_seen (goes_on b.0 b.1) ts)
 
-pub woken_back : (xs : List VarName) (old new : Living) → stacks_of encode new ≡ woken_each xs (stacks_of encode old) → new ≡ woken_each xs old
-woken_back xs old new h = sym (recovered new) ∙ (ap living_of h ∙ (woken_each_seen xs (stacks_of encode old) ∙ ap (woken_each xs) (recovered old)))
+pub woken_back : (bs : List Bind) (old new : Living) → stacks_of encode new ≡ woken_each bs (stacks_of encode old) → new ≡ woken_each bs old
+woken_back bs old new h = sym (recovered new) ∙ (ap living_of h ∙ (woken_each_seen bs (stacks_of encode old) ∙ ap (woken_each bs) (recovered old)))
 
 -- nothing changed
 pub recovered_all : (old new : Living) → stacks_of encode new ≡ stacks_of encode old → new ≡ old

@@ -1,5 +1,5 @@
 mod LinkLemmas
-mod RowLemmas
+pub mod RowLemmas
 mod MeetLemmas
 pub mod MakeLemmas
 mod FitLemmas

@@ -17,7 +17,11 @@ use Rattle.variable_owner.specs.declared.owners.Owner.TheVariants.{Open, Bound}
 use Rattle.variable_owner.specs.Owners.{owner_of, sites_of}
 use Rattle.bind_protocol.specs.Records.{is_own, knowledge}
 use Rattle.bind_protocol.specs.Rows.{binding, after_binding, after_ask, ask_sends, after_register, register_sends, register_answer, meets_send}
-use Rattle.thread_roster.specs.Threads.{Entry, wake_all, wake}
+use Rattle.thread_roster.specs.declared.mode.Mode.{Mode}
+use Rattle.thread_roster.specs.Threads.{Entry, wake_where}
+use Rattle.thread_roster.specs.Binds.{by_node, goes_on}
+use Rattle.thread_roster.proofs.ThreadLemmas.{woken_by}
+use Rattle.thread_roster.proofs.NodeLemmas.{where_alike, goes_alike}
 use Rattle.site_model.specs.Site.{Site, Threads}
 use Rattle.site_model.specs.Bundle.{with_own_bundles, message_vars, message_bundle}
 use Rattle.site_model.specs.Transition.{Transition, without_output, with_pick, and_then}
@@ -29,9 +33,15 @@ use Rattle.site_variables.specs.Meeting.{AreMet}
 
 -- ---- threads
 
-pub stacks_woken : {V : Type 0} (g : V → Stack) (x : VarName) (ts : List (Entry V)) → stacks_of g (wake_all x ts) ≡ wake_all x (stacks_of g ts)
-stacks_woken g x [] = refl
-stacks_woken {V} g x (t ∷ ts) = ap (λ (l : Threads). (t.0, (g t.1.0, wake x t.1.1)) ∷ l) (stacks_woken g x ts)
+pub stacks_woken : {V : Type 0} (g : V → Stack) (f : Mode → Bool) (ts : List (Entry V)) → stacks_of g (wake_where f ts) ≡ wake_where f (stacks_of g ts)
+stacks_woken g f [] = refl
+stacks_woken {V} g f (t ∷ ts) = ap (λ (l : Threads). (t.0, (g t.1.0, woken_by f t.1.1)) ∷ l) (stacks_woken g f ts)
+
+-- x was bound: who goes on by these equations goes on by others that give a node to the same
+pub stacks_bound : {V : Type 0} (g : V → Stack) (s r : Store) (x : VarName) (old new : List (Entry V)) → ((y : VarName) → by_node r x y ≡ by_node s x y) → new ≡ wake_where (goes_on s x) old → stacks_of g new ≡ wake_where (goes_on r x) (stacks_of g old)
+stacks_bound {V} g s r x old new alike e =
+    ap (λ (ts : List (Entry V)). stacks_of g ts) e
+    ∙ (stacks_woken g (goes_on s x) old ∙ where_alike (goes_on s x) (goes_on r x) (goes_alike s r x (λ y. sym (alike y))) (stacks_of g old))
 
 -- ---- an equation that is told
 
@@ -58,7 +68,7 @@ done_kept p x t none h = record {
 
 -- it is known from now on
 pub done_learnt : (p q : Parts) (x : VarName) (t : Term) → is_own p.records x ≡ false → ((r : Term) → knowledge p.records x ≡ Some (Some r) → ⊥) →
-    q.equations ≡ (x, t) ∷ p.equations → q.records ≡ after_binding p.records x t → q.threads ≡ wake_all x p.threads → q.sent ≡ p.sent → IsVariableRow (λ s. without_output (with_known_equation s x t)) [] p q
+    q.equations ≡ (x, t) ∷ p.equations → q.records ≡ after_binding p.records x t → q.threads ≡ wake_where (goes_on ((x, t) ∷ p.equations) x) p.threads → q.sent ≡ p.sent → IsVariableRow (λ s. without_output (with_known_equation s x t)) [] p q
 done_learnt p q x t own free a b c d = record {
   more = [];
   sent = d ∙ sym (append-nil p.sent);
@@ -78,7 +88,7 @@ answer_unbundled s (Some (Bound t)) x k = refl
 
 -- ---- an own bind, a registration, a request
 
-pub done_bound : (p q : Parts) (x : VarName) (t : Term) → q.equations ≡ (x, t) ∷ p.equations → q.records ≡ after_ask p.records x t → q.threads ≡ wake_all x p.threads → q.sent ≡ p.sent ++ ask_sends p.records x t → IsVariableRow (own_bind 0 x t) [] p q
+pub done_bound : (p q : Parts) (x : VarName) (t : Term) → q.equations ≡ (x, t) ∷ p.equations → q.records ≡ after_ask p.records x t → q.threads ≡ wake_where (goes_on ((x, t) ∷ p.equations) x) p.threads → q.sent ≡ p.sent ++ ask_sends p.records x t → IsVariableRow (own_bind 0 x t) [] p q
 done_bound p q x t a b c d = record {
   more = ask_sends p.records x t;
   sent = d;

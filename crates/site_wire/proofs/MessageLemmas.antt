@@ -31,6 +31,7 @@ use Rattle.variable_owner.specs.Owners.{owner_of}
 use Rattle.bind_protocol.specs.Records.{is_own, knowledge}
 use Rattle.bind_protocol.specs.Rows.{register_sends}
 use Rattle.thread_roster.specs.declared.mode.Mode.TheVariants.{Runs, WaitsFor}
+use Rattle.thread_roster.specs.Binds.{goes_on}
 use Rattle.token_chain.specs.declared.token.Token.TheVariants.{Here}
 use Rattle.site_model.specs.Site.{Site, CellRecord, Counters, thread_state, cell_record, cell_record_in}
 use Rattle.site_model.specs.Bundle.{with_own_bundles, message_bundle, vars_of_equations, body_vars, message_vars}
@@ -88,8 +89,8 @@ told_dead s x t n none = go (is_own s.records x) refl (knowledge s.records x) re
   where
     go : (c : Bool) → is_own s.records x ≡ c → (o : Option (Option Term)) → knowledge s.records x ≡ o → thread_state (with_known_equation s x t) n ≡ None
     go true q o e = rw (e, q) none
-    go false q None e = rw (e, q) (dead_woken x s.threads n none)
-    go false q (Some None) e = rw (e, q) (dead_woken x s.threads n none)
+    go false q None e = rw (e, q) (dead_woken (goes_on ((x, t) ∷ s.equations) x) s.threads n none)
+    go false q (Some None) e = rw (e, q) (dead_woken (goes_on ((x, t) ∷ s.equations) x) s.threads n none)
     go false q (Some (Some r)) e = rw (e, q) none
 
 told_all_dead : (es : List Equation) (s : Site) (n : ThreadName) → thread_state s n ≡ None → thread_state (with_known_equations s es) n ≡ None

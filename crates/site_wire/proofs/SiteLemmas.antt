@@ -140,7 +140,7 @@ module _ (p : List Stmt) (is : IsProgram p) (limit : ℕ) (high : limit ≤ 256)
     site = h.site;
     equations = more_fits p s.equations x t fx ft h.equations;
     owners = h.owners;
-    threads = woken_fit p i s.counters.threads s.threads _ x h.threads;
+    threads = woken_fit p i s.counters.threads s.threads _ ((x, t) ∷ s.equations) x h.threads;
     contents = h.contents;
   }
 
@@ -169,7 +169,7 @@ module _ (p : List Stmt) (is : IsProgram p) (limit : ℕ) (high : limit ≤ 256)
           site = h.site;
           equations = more;
           owners = asked_fit p s.records.owners x t ft h.owners;
-          threads = woken_fit p i s.counters.threads s.threads _ x h.threads;
+          threads = woken_fit p i s.counters.threads s.threads _ ((x, t) ∷ s.equations) x h.threads;
           contents = h.contents;
         };
         sent = told_each ((x, t) ∷ s.equations) x t (sites_of (owner_of s.records.owners x)) more fx ft;

@@ -39,9 +39,11 @@ use Rattle.oz_model.specs.Step.{IsBindFor, living_stack}
 use Rattle.oz_model.proofs.ClosureLemmas.{for_names}
 use Rattle.oz_model.proofs.CoverLemmas.{covers_for}
 use Rattle.bind_protocol.specs.Rows.{sent_message}
+use Rattle.thread_roster.specs.declared.mode.Mode.{Mode}
 use Rattle.thread_roster.specs.declared.mode.Mode.TheVariants.{Runs}
 use Rattle.thread_roster.specs.declared.mode.Mode.TheVariants as mode
-use Rattle.thread_roster.specs.Threads.{wake_all}
+use Rattle.thread_roster.specs.Binds.{goes_on}
+use Rattle.thread_roster.specs.Threads.{wake_where}
 use Rattle.token_chain.specs.declared.token.Token.{Token}
 use Rattle.token_chain.specs.declared.token.Token.TheVariants.{Away, Asked, Here}
 use Rattle.token_chain.specs.Holding.{here_with}
@@ -52,7 +54,7 @@ use Rattle.site_model.specs.Variables.{own_binds}
 use Rattle.site_model.specs.Cells.{exchange_stack, with_own_request, with_last_asker, with_exchange_waiting, request_row}
 use Rattle.site_model.specs.Messages.{with_thread}
 use Rattle.site_model.specs.Turn.{AreUnits}
-use Rattle.site_model.specs.Unit.{next_names, counter_after, with_fresh_names, fresh_names, placement, birth_row, content_here, after_cell, runnable_state, after_effect, step_row, with_waiting, with_waiting_any, step_pick, effect_here, IsTokenHere, IsStepOrRequest, bind_attempt, IsUnitFor}
+use Rattle.site_model.specs.Unit.{next_names, counter_after, with_fresh_names, fresh_names, placement, birth_row, content_here, after_cell, runnable_state, after_effect, step_row, step_pick, effect_here, IsTokenHere, IsStepOrRequest, bind_attempt, IsUnitFor, with_mode}
 use Rattle.site_model.proofs.EffectLemmas.{bind_effect}
 use Rattle.world_model.proofs.KeyLemmas.{goes_there, woken_new, woken_old}
 use Rattle.site_wire.specs.Sending.{IsOfSites, EquationsFit, StackFits, IsAtNameless, ThreadFits, QueueFits, ContentFits, SiteFits, TransitionFits}
@@ -122,13 +124,13 @@ fresh_of i c (kind.Thread ∷ ks) low = (low, fresh_of i (counter_after c kind.T
 
 -- ---- a name that no thread has
 
-pub dead_woken : (x : VarName) (ts : Threads) (n : ThreadName) → value_of equal_thread ts n ≡ None → value_of equal_thread (wake_all x ts) n ≡ None
-dead_woken x ts n none = go (value_of equal_thread (wake_all x ts) n) refl
+pub dead_woken : (f : Mode → Bool) (ts : Threads) (n : ThreadName) → value_of equal_thread ts n ≡ None → value_of equal_thread (wake_where f ts) n ≡ None
+dead_woken f ts n none = go (value_of equal_thread (wake_where f ts) n) refl
   where
-    go : (o : Option ThreadState) → value_of equal_thread (wake_all x ts) n ≡ o → value_of equal_thread (wake_all x ts) n ≡ None
+    go : (o : Option ThreadState) → value_of equal_thread (wake_where f ts) n ≡ o → value_of equal_thread (wake_where f ts) n ≡ None
     go None e = e
     go (Some v) e =
-        let was = woken_old x ts n v.0 v.1 e in
+        let was = woken_old f ts n v.0 v.1 e in
         let contrary : ◌≡◌ {A = Option ThreadState} None (Some (v.0, was.0)) = sym none ∙ was.1 in cc
 
 dead_goes : (ts : Threads) (th n : ThreadName) (r : Option ThreadState) (w : ThreadState) → value_of equal_thread ts th ≡ Some w → value_of equal_thread ts n ≡ None → value_of equal_thread (with_optional_value equal_thread ts th r) n ≡ None
@@ -141,13 +143,13 @@ dead_goes ts th n r w now none = goes_there equal_thread same_thread_decides ts 
 
 dead_binds : (limit : ℕ) (es : List Equation) (s : Site) (n : ThreadName) → thread_state s n ≡ None → thread_state (own_binds limit es s).site n ≡ None
 dead_binds limit [] s n none = none
-dead_binds limit (e ∷ es) s n none = dead_woken e.0 (own_binds limit es s).site.threads n (dead_binds limit es s n none)
+dead_binds limit (e ∷ es) s n none = dead_woken (goes_on (e ∷ (own_binds limit es s).site.equations) e.0) (own_binds limit es s).site.threads n (dead_binds limit es s n none)
 
 -- ---- what binds leave as it was
 
 runs_stay : (limit : ℕ) (es : List Equation) (s : Site) (th : ThreadName) (st : Stack) → thread_state s th ≡ Some (st, Runs) → thread_state (own_binds limit es s).site th ≡ Some (st, Runs)
 runs_stay limit [] s th st e = e
-runs_stay limit (q ∷ es) s th st e = woken_new q.0 (own_binds limit es s).site.threads th st Runs (runs_stay limit es s th st e)
+runs_stay limit (q ∷ es) s th st e = woken_new (goes_on (q ∷ (own_binds limit es s).site.equations) q.0) (own_binds limit es s).site.threads th st Runs (runs_stay limit es s th st e)
 
 tokens_stay : (limit : ℕ) (es : List Equation) (s : Site) (c : CellName) → IsTokenHere s c → IsTokenHere (own_binds limit es s).site c
 tokens_stay limit [] s c h = h
@@ -166,10 +168,13 @@ module _ (p : List Stmt) (is : IsProgram p) (n limit : ℕ) (high : limit ≤ 25
       → SiteFits p i (record s { threads = with_optional_value equal_thread s.threads th r })
   thread_fits th st r s now f h = record { site = h.site; equations = h.equations; owners = h.owners; threads = goes_fit p i s.counters.threads s.threads _ th st r now f h.threads; contents = h.contents }
 
-  waits_fits : (th : ThreadName) (st : Stack) (x : VarName) (s : Site) → thread_state s th ≡ Some (st, Runs) → SiteFits p i s → SiteFits p i (with_waiting th st x s)
+  needing_fits : (th : ThreadName) (st : Stack) (x : VarName) (s : Site) → thread_state s th ≡ Some (st, Runs) → SiteFits p i s → SiteFits p i (with_mode th st (mode.Needs x) s)
+  needing_fits th st x s now h = thread_fits th st (Some (st, mode.Needs x)) s now (λ v e. running_fits p th st (mode.Needs x) (λ (c : CellName) (q : mode.Needs x ≡ mode.WaitsFor c). cc) (st, Runs) (h.threads.each th (st, Runs) now) (h.threads.each th (st, Runs) now).stack v e) h
+
+  waits_fits : (th : ThreadName) (st : Stack) (x : VarName) (s : Site) → thread_state s th ≡ Some (st, Runs) → SiteFits p i s → SiteFits p i (with_mode th st (mode.Waits x) s)
   waits_fits th st x s now h = thread_fits th st (Some (st, mode.Waits x)) s now (λ v e. running_fits p th st (mode.Waits x) (λ (c : CellName) (q : mode.Waits x ≡ mode.WaitsFor c). cc) (st, Runs) (h.threads.each th (st, Runs) now) (h.threads.each th (st, Runs) now).stack v e) h
 
-  several_fits : (th : ThreadName) (st : Stack) (xs : List VarName) (s : Site) → thread_state s th ≡ Some (st, Runs) → SiteFits p i s → SiteFits p i (with_waiting_any th st xs s)
+  several_fits : (th : ThreadName) (st : Stack) (xs : List VarName) (s : Site) → thread_state s th ≡ Some (st, Runs) → SiteFits p i s → SiteFits p i (with_mode th st (mode.WaitsAny xs) s)
   several_fits th st xs s now h = thread_fits th st (Some (st, mode.WaitsAny xs)) s now (λ v e. running_fits p th st (mode.WaitsAny xs) (λ (c : CellName) (q : mode.WaitsAny xs ≡ mode.WaitsFor c). cc) (st, Runs) (h.threads.each th (st, Runs) now) (h.threads.each th (st, Runs) now).stack v e) h
 
   pub begins_fits : (b : Birth) (s : Site) → BirthFits p (Some b) → thread_state s b.name ≡ None → (b.name.site ≡ i → b.name.num < s.counters.threads) → SiteFits p i s → SiteFits p i (with_thread p (Some b) s)
@@ -365,8 +370,8 @@ module _ (p : List Stmt) (is : IsProgram p) (n limit : ℕ) (high : limit ≤ 25
           subst (TransitionFits p i) (sym k.1) (requests_fit b m th st s now (calm b m t q) names.0 names.1 h)
 
   needs_fit : (s : Site) (th : ThreadName) (st : Stack) (d : Need) (e : Transition) → thread_state s th ≡ Some (st, Runs) → SiteFits p i s → stack_need p s.equations st ≡ d → IsUnitFor p n limit s th st d e → TransitionFits p i e
-  needs_fit s th st (need.Waits x) e now h q (z, names, g) = subst (TransitionFits p i) (sym g) (still p is limit high i low (with_waiting th st z s) (waits_fits th st z s now h))
-  needs_fit s th st (need.WaitsAny r) e now h q (xs, open_on, g) = subst (TransitionFits p i) (sym g) (still p is limit high i low (with_waiting_any th st xs s) (several_fits th st xs s now h))
+  needs_fit s th st (need.Waits x) e now h q (z, names, g) = subst (TransitionFits p i) (sym g) (still p is limit high i low (with_mode th st (mode.Needs z) s) (needing_fits th st z s now h))
+  needs_fit s th st (need.WaitsAny r) e now h q (xs, open_on, g) = subst (TransitionFits p i) (sym g) (still p is limit high i low (with_mode th st (mode.WaitsAny xs) s) (several_fits th st xs s now h))
   needs_fit s th st (need.Binds a b) e now h q (u, t, root, g) = subst (TransitionFits p i) (sym g) (bind_attempts_fit s th st a b u t (u.site == s.records.site) now q root.0 h)
   needs_fit s th st (Takes kinds) e now h q g = either_fits th st kinds s (effect_here p s (fresh_names s kinds) None st) e now f (λ c new told r. exchanges_nameless p s.equations (fresh_names s kinds) None st c new told r)
       (λ token. steps_fit (step_pick th (fresh_names s kinds) None) kinds (effect_here p s (fresh_names s kinds) None st) s st now f (record { none = λ b r. none b r; number = λ b r mine. number b r mine; token = token }) h) h g

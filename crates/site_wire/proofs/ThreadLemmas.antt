@@ -8,6 +8,7 @@ use Rattle.tree_node.specs.Assoc.{value_of, with_value, with_optional_value}
 use Rattle.tree_node.specs.Each.{Each, AreDistinct}
 use Rattle.tree_node.specs.Goal.{equal_cell}
 use Rattle.tree_node.specs.State.{Stack, equal_thread}
+use Rattle.tree_node.specs.Store.{Store}
 use Rattle.tree_node.proofs.EachLemmas.{each_append}
 use Rattle.tree_node.proofs.NameLemmas.{same_thread_decides}
 use Rattle.kernel_syntax.specs.declared.stmt.Stmt.{Stmt}
@@ -15,7 +16,9 @@ use Rattle.oz_model.proofs.KindLemmas.{equal_cell_decides}
 use Rattle.oz_model.proofs.NameLemmas.{Each-weaker}
 use Rattle.thread_roster.specs.declared.mode.Mode.{Mode}
 use Rattle.thread_roster.specs.declared.mode.Mode.TheVariants.{Runs, WaitsFor}
-use Rattle.thread_roster.specs.Threads.{wake, wake_all}
+use Rattle.thread_roster.specs.Binds.{goes_on}
+use Rattle.thread_roster.specs.Threads.{wake_where}
+use Rattle.thread_roster.proofs.ThreadLemmas.{woken_by}
 use Rattle.site_model.specs.Site.{ThreadState, Threads}
 use Rattle.world_model.proofs.KeyLemmas.{with_here, with_there, goes_cases, goes_there, woken_new, woken_old, wake_cell}
 use Rattle.site_message.specs.Wire.{IsSite}
@@ -47,20 +50,20 @@ abbrev pub besides : CellName → (CellName → List ThreadName) → CellName �
 besides c q d = cond (equal_cell d c) [] (q d)
 
 module _ (p : List Stmt) (i : ℕ) where
-  -- ---- those that wait for a variable are woken
+  -- ---- some go on by a bind
 
-  pub woken_fit : (made : ℕ) (ts : Threads) (q : CellName → List ThreadName) (x : VarName) → ThreadsFit p i made ts q → ThreadsFit p i made (wake_all x ts) q
-  woken_fit made ts q x h = record {
-    each = λ n v at. fits n v (woken_old x ts n v.0 v.1 at);
-    own = λ n v at mine. (let o = woken_old x ts n v.0 v.1 at in h.own n (v.0, o.0) o.1 mine);
+  pub woken_fit : (made : ℕ) (ts : Threads) (q : CellName → List ThreadName) (s : Store) (x : VarName) → ThreadsFit p i made ts q → ThreadsFit p i made (wake_where (goes_on s x) ts) q
+  woken_fit made ts q s x h = record {
+    each = λ n v at. fits n v (woken_old (goes_on s x) ts n v.0 v.1 at);
+    own = λ n v at mine. (let o = woken_old (goes_on s x) ts n v.0 v.1 at in h.own n (v.0, o.0) o.1 mine);
     queues = λ c. record {
       once = (h.queues c).once;
-      inside = Each-weaker (IsInLine ts c) (IsInLine (wake_all x ts) c) (λ (n : ThreadName) (w : IsInLine ts c n). (w.0, woken_new x ts n w.0 (WaitsFor c) w.1)) (q c) (h.queues c).inside;
+      inside = Each-weaker (IsInLine ts c) (IsInLine (wake_where (goes_on s x) ts) c) (λ (n : ThreadName) (w : IsInLine ts c n). (w.0, woken_new (goes_on s x) ts n w.0 (WaitsFor c) w.1)) (q c) (h.queues c).inside;
     };
   }
     where
-      fits : (n : ThreadName) (v : ThreadState) → (m : Mode) × (value_of equal_thread ts n ≡ Some (v.0, m)) × (wake x m ≡ v.1) → ThreadFits p n v
-      fits n v o = let was : ThreadFits p n (v.0, o.0) = h.each n (v.0, o.0) o.1 in record { name = was.name; stack = was.stack; calm = λ c e. was.calm c (wake_cell x c o.0 (o.2 ∙ e)) }
+      fits : (n : ThreadName) (v : ThreadState) → (m : Mode) × (value_of equal_thread ts n ≡ Some (v.0, m)) × (woken_by (goes_on s x) m ≡ v.1) → ThreadFits p n v
+      fits n v o = let was : ThreadFits p n (v.0, o.0) = h.each n (v.0, o.0) o.1 in record { name = was.name; stack = was.stack; calm = λ c e. was.calm c (wake_cell s x c o.0 (o.2 ∙ e)) }
 
   -- ---- a thread goes on
 

@@ -1,49 +1,48 @@
 -- What slots, names, queue, keys and numbers keep together.
-use Rattle.std.proofs.Common.{arith, ◌≡◌, ◌≢◌, ◌∙◌, sym, ap, refl, subst, ℕ, ◌+◌, zero, suc, length, map, ◌⊎◌, inl, inr, List, [], ◌∷◌, ◌++◌, ◌||◌, Bool, true, false, cond, Some, None}
+use Rattle.std.proofs.Common.{arith, ◌≡◌, ◌≢◌, ◌∙◌, sym, ap, refl, subst, ℕ, ◌+◌, zero, suc, length, map, ◌⊎◌, inl, inr, List, [], ◌∷◌, ◌++◌, Bool, true, false, cond, Some, None}
 use Rattle.std.specs.Prelude.{Option, slice_set, slice_get, Contains, ◌<◌, ◌-◌, IfSome, IfNone, IsSome}
 use Rattle.std.proofs.lemmas.List.Elements.{Contains-push, Contains-append_left, Contains-append_right}
 use Rattle.tree_node.specs.declared.names.VarName.{VarName}
 use Rattle.tree_node.specs.declared.names.ThreadName.{ThreadName}
 use Rattle.tree_node.specs.Each.{Each}
 use Rattle.tree_node.specs.Store.{equal_var}
-use Rattle.std.specs.List.{list_any}
-use Rattle.tree_node.proofs.ClassLemmas.{same_name_decides, Contains-cons_cases, Contains-head, Contains-tail}
+use Rattle.tree_node.proofs.ClassLemmas.{Contains-cons_cases, Contains-head, Contains-tail}
 use Rattle.tree_node.proofs.OrderLemmas.{Each-member}
 use Rattle.thread_roster.specs.Parking.{HasMoreKeys}
+use Rattle.thread_roster.specs.declared.mode.Event.{Event}
+use Rattle.thread_roster.specs.declared.mode.Event.TheVariants as event
 use Rattle.thread_roster.specs.declared.mode.Mode.{Mode}
 use Rattle.thread_roster.specs.declared.mode.Mode.TheVariants as mode
 use Rattle.thread_roster.specs.declared.slot.Occupant.{Occupant}
-use Rattle.waiting_keys.specs.Keys as keys
-use Rattle.waiting_keys.specs.Keys.{keys_among}
 use Rattle.thread_roster.specs.Invariant.{IsConsistent}
-use Rattle.thread_roster.specs.Slots.{Slot, IsNotSlotOf, IsSlotOf, IsOnlyAt, IsPlaced, ArePlaced, slot_in, with_slot, IsModeAt, AreInside, wake_slot, wake_slots, total, one, weight, waiting, entry, threads_in, HasLeft, IsRest, IsNext, value_there, without_slot, woken}
-use Rattle.thread_roster.specs.Threads.{awaits, wake, wake_all, set_mode, set_value, AllWait, IsRunnable}
+use Rattle.thread_roster.specs.Slots.{Slot, IsNotSlotOf, IsSlotOf, IsOnlyAt, IsPlaced, ArePlaced, slot_in, with_slot, IsModeAt, AreInside, wakes, wake_by, wake_slot, wake_slots, total, one, weight, waiting, entry, threads_in, HasLeft, IsRest, IsNext, value_there, without_slot, woken}
+use Rattle.thread_roster.specs.Threads.{is_waiting, wake_all, determine_all, set_mode, set_value, AllWait, IsRunnable}
 use Rattle.tree_node.specs.Assoc.{value_of, without_key}
 use Rattle.tree_node.specs.State.{equal_thread}
 use Rattle.thread_roster.proofs.NameLemmas.{is_same, is_other}
 use Rattle.thread_roster.proofs.SlotLemmas.{placed_set, placed_end, placed_born, total_set, total_end, total_born, only_inside, only_at, held_at, lacking, found, placed_there, has_place, mode_put, value_put, thread_ended, thread_born, living_le}
-use Rattle.thread_roster.proofs.WakeLemmas.{IsAwaitingAt, mode_in, roused_all, living_roused, threads_woken}
+use Rattle.thread_roster.proofs.WakeLemmas.{IsAwaitingAt, mode_in, never_waits, roused_all, living_roused, threads_bound, threads_determined}
 use Rattle.thread_roster.proofs.WokenLemmas.{woken_all, woken_inside}
 use Rattle.thread_roster.proofs.QueueLemmas.{stays, each_without}
 use Rattle.tree_node.proofs.EachLemmas.{each_append}
 use Rattle.std.proofs.lemmas.List.{length_push}
 
 abbrev pub Waiting : Type 0
-Waiting = List (VarName × List ℕ)
+Waiting = Event → List ℕ
 
 abbrev pub Places : Type 0
 Places = List (ThreadName × ℕ)
 
-pub kept_none : {V : Type 0} (slots : List (Slot V)) (by_name : Places) (queue : List ℕ) (waiting_keys : Waiting) → slots ≡ [] → by_name ≡ [] → queue ≡ [] → waiting_keys ≡ [] → IsConsistent slots by_name queue waiting_keys 0 0
-kept_none {V} slots by_name queue waiting_keys a b c d = rw (a, b, c, d) (empty)
+pub kept_none : {V : Type 0} (slots : List (Slot V)) (by_name : Places) (queue : List ℕ) (waiting_keys : Waiting) → slots ≡ [] → by_name ≡ [] → queue ≡ [] → ((e : Event) → waiting_keys e ≡ []) → IsConsistent slots by_name queue waiting_keys 0 0
+kept_none {V} slots by_name queue waiting_keys a b c none = rw (a, b, c) (empty)
   where
-    empty : IsConsistent {V = V} [] [] [] [] 0 0
+    empty : IsConsistent {V = V} [] [] [] waiting_keys 0 0
     empty = record {
       placed = λ n. tt;
       queued = λ j h. cc;
       parked = λ j x m h w. cc;
       inside = tt;
-      keys_inside = λ x. tt;
+      keys_inside = λ x. subst (λ (js : List ℕ). AreInside {X = Slot V} [] js) (sym (none x)) tt;
       alive = refl;
       waiters = refl;
     }
@@ -84,26 +83,26 @@ kept_rotated {V} slots by_name queue rest now waiting_keys a b i h e f = subst (
 
 -- ---- waking
 
-map_length : {V : Type 0} (x : VarName) (slots : List (Slot V)) → length (map (wake_slot x) slots) ≡ length slots
+map_length : {V : Type 0} (x : Event) (slots : List (Slot V)) → length (map (wake_slot x) slots) ≡ length slots
 map_length x [] = refl
 map_length x (o ∷ slots) = ap suc (map_length x slots)
 
 inside_same : {X Y : Type 0} (slots : List X) (now : List Y) (js : List ℕ) → length now ≡ length slots → AreInside slots js → AreInside now js
 inside_same slots now js e h = subst (λ (n : ℕ). Each (λ (j : ℕ). j < n) js) (sym e) h
 
-lacks_map : {V : Type 0} (x : VarName) (n : ThreadName) (slots : List (Slot V)) → Each (IsNotSlotOf n) slots → Each (IsNotSlotOf n) (map (wake_slot x) slots)
+lacks_map : {V : Type 0} (x : Event) (n : ThreadName) (slots : List (Slot V)) → Each (IsNotSlotOf n) slots → Each (IsNotSlotOf n) (map (wake_slot x) slots)
 lacks_map x n [] h = tt
 lacks_map x n (None ∷ slots) h = (tt, lacks_map x n slots h.1)
 lacks_map x n (Some e ∷ slots) h = (h.0, lacks_map x n slots h.1)
 
-only_map : {V : Type 0} (x : VarName) (n : ThreadName) (slots : List (Slot V)) (i : ℕ) → IsOnlyAt n slots i → IsOnlyAt n (map (wake_slot x) slots) i
+only_map : {V : Type 0} (x : Event) (n : ThreadName) (slots : List (Slot V)) (i : ℕ) → IsOnlyAt n slots i → IsOnlyAt n (map (wake_slot x) slots) i
 only_map x n [] i h = h
 only_map x n (None ∷ slots) zero h = absurd h.0
 only_map x n (Some e ∷ slots) zero h = (h.0, lacks_map x n slots h.1)
 only_map x n (None ∷ slots) (suc i) h = (tt, only_map x n slots i h.1)
 only_map x n (Some e ∷ slots) (suc i) h = (h.0, only_map x n slots i h.1)
 
-placed_map : {V : Type 0} (x : VarName) (slots : List (Slot V)) (slot : ThreadName → Option ℕ) → ArePlaced slots slot → ArePlaced (map (wake_slot x) slots) slot
+placed_map : {V : Type 0} (x : Event) (slots : List (Slot V)) (slot : ThreadName → Option ℕ) → ArePlaced slots slot → ArePlaced (map (wake_slot x) slots) slot
 placed_map {V} x slots slot h n = go (slot n) (h n)
   where
     go : (o : Option ℕ) → IsPlaced slots n o → IsPlaced (map (wake_slot x) slots) n o
@@ -111,64 +110,68 @@ placed_map {V} x slots slot h n = go (slot n) (h n)
     go (Some i) k = only_map x n slots i k
 
 -- a roused thread: it can go on now and waited, or stands as before
-wake_cases : (x : VarName) (m : Mode) → ((awaits x m ≡ true) × (wake x m ≡ mode.Runs)) ⊎ ((wake x m ≡ m) × (awaits x m ≡ false))
-wake_cases x m = go (awaits x m) refl
+wake_cases : (x : Event) (m : Mode) → ((wakes x m ≡ true) × (wake_by x m ≡ mode.Runs)) ⊎ ((wake_by x m ≡ m) × (wakes x m ≡ false))
+wake_cases x m = go (wakes x m) refl
   where
-    go : (b : Bool) → awaits x m ≡ b → ((awaits x m ≡ true) × (cond b mode.Runs m ≡ mode.Runs)) ⊎ ((cond b mode.Runs m ≡ m) × (awaits x m ≡ false))
+    go : (b : Bool) → wakes x m ≡ b → ((wakes x m ≡ true) × (cond b mode.Runs m ≡ mode.Runs)) ⊎ ((cond b mode.Runs m ≡ m) × (wakes x m ≡ false))
     go true e = inl (e, refl)
     go false e = inr (refl, e)
 
 -- how a roused slot stood
-stood : {V : Type 0} (x : VarName) (slots : List (Slot V)) (j : ℕ) (m : Mode) → IsModeAt (map (wake_slot x) slots) j m → (old : Mode) × IsModeAt slots j old × (wake x old ≡ m)
+stood : {V : Type 0} (x : Event) (slots : List (Slot V)) (j : ℕ) (m : Mode) → IsModeAt (map (wake_slot x) slots) j m → (old : Mode) × IsModeAt slots j old × (wake_by x old ≡ m)
 stood x [] j m h = cc
 stood x (None ∷ slots) zero m h = cc
 stood {V} x (Some e ∷ slots) zero m h =
-    let same : (Some (record e { mode = wake x e.mode })) ≡ Some h.0 = cc in
+    let same : (Some (record e { mode = wake_by x e.mode })) ≡ Some h.0 = cc in
     (e.mode, (e, refl, refl), ap (λ (o : Slot V). mode_in o) same ∙ h.2)
 stood x (o ∷ slots) (suc j) m h = stood x slots j m h
 
-kept_map : {V : Type 0} (x : VarName) (slots : List (Slot V)) (by_name : Places) (queue behind : List ℕ) (waiting_keys left : Waiting) (a b c : ℕ) → IsConsistent slots by_name queue waiting_keys a b → ((j : ℕ) → IsAwaitingAt slots j x → Contains behind j) → AreInside slots behind →
-    ((y : VarName) → keys_among left y ≡ keys.without_keys (keys_among waiting_keys) x y) → c ≡ total waiting (map (wake_slot x) slots) → IsConsistent (map (wake_slot x) slots) by_name (queue ++ behind) left a c
+-- the keys of each stay, or it happened and has none
+abbrev pub AreLeft : Event → Waiting → Waiting → Type 0
+AreLeft x old left = (y : Event) → (left y ≡ old y) ⊎ ((left y ≡ []) × (x ≡ y))
+
+kept_map : {V : Type 0} (x : Event) (slots : List (Slot V)) (by_name : Places) (queue behind : List ℕ) (waiting_keys left : Waiting) (a b c : ℕ) → IsConsistent slots by_name queue waiting_keys a b → ((j : ℕ) → IsAwaitingAt slots j x → Contains behind j) → AreInside slots behind →
+    AreLeft x waiting_keys left → c ≡ total waiting (map (wake_slot x) slots) → IsConsistent (map (wake_slot x) slots) by_name (queue ++ behind) left a c
 kept_map {V} x slots by_name queue behind waiting_keys left a b c h among inner rest counted = record {
   placed = placed_map x slots (slot_in by_name) h.placed;
   queued = λ j s. goes j (stood x slots j mode.Runs s);
   parked = λ j y m s w. waits j y m (stood x slots j m s) w;
   inside = inside_same slots (map (wake_slot x) slots) (queue ++ behind) (map_length x slots) (each_append _ queue behind h.inside inner);
-  keys_inside = λ y. subst (λ (js : List ℕ). AreInside (map (wake_slot x) slots) js) (sym (rest y)) (some y (equal_var x y));
+  keys_inside = λ y. some y (rest y);
   alive = h.alive ∙ sym (living_roused x slots);
   waiters = counted;
 }
   where
-    goes : (j : ℕ) → (old : Mode) × IsModeAt slots j old × (wake x old ≡ mode.Runs) → Contains (queue ++ behind) j
+    goes : (j : ℕ) → (old : Mode) × IsModeAt slots j old × (wake_by x old ≡ mode.Runs) → Contains (queue ++ behind) j
     goes j (old, at, is) = go (wake_cases x old)
       where
-        go : ((awaits x old ≡ true) × (wake x old ≡ mode.Runs)) ⊎ ((wake x old ≡ old) × (awaits x old ≡ false)) → Contains (queue ++ behind) j
-        go (inl w) = Contains-append_right queue behind j (among j (at.0, at.1, ap (λ (k : Mode). awaits x k) at.2 ∙ w.0))
+        go : ((wakes x old ≡ true) × (wake_by x old ≡ mode.Runs)) ⊎ ((wake_by x old ≡ old) × (wakes x old ≡ false)) → Contains (queue ++ behind) j
+        go (inl w) = Contains-append_right queue behind j (among j (at.0, at.1, ap (λ (k : Mode). wakes x k) at.2 ∙ w.0))
         go (inr s) = Contains-append_left queue behind j (h.queued j (at.0, at.1, at.2 ∙ (sym s.0 ∙ is)))
 
-    waits : (j : ℕ) (y : VarName) (m : Mode) → (old : Mode) × IsModeAt slots j old × (wake x old ≡ m) → awaits y m ≡ true → Contains (keys_among left y) j
+    waits : (j : ℕ) (y : Event) (m : Mode) → (old : Mode) × IsModeAt slots j old × (wake_by x old ≡ m) → wakes y m ≡ true → Contains (left y) j
     waits j y m (old, at, is) w = go (wake_cases x old)
       where
-        there : (r : Bool) → equal_var x y ≡ r → awaits y old ≡ true → awaits x old ≡ false → Contains (cond r [] (keys_among waiting_keys y)) j
-        there true e k l = let besides : awaits x old ≡ true = subst (λ (z : VarName). awaits z old ≡ true) (sym ((same_name_decides x y).0 e)) k in absurd (cc)
-        there false e k l = h.parked j y old at k
+        there : (left y ≡ waiting_keys y) ⊎ ((left y ≡ []) × (x ≡ y)) → wakes y old ≡ true → wakes x old ≡ false → Contains (left y) j
+        there (inl e) k l = subst (λ (js : List ℕ). Contains js j) (sym e) (h.parked j y old at k)
+        there (inr e) k l = let both : true ≡ false = sym k ∙ (ap (λ (z : Event). wakes z old) (sym e.1) ∙ l) in cc
 
-        go : ((awaits x old ≡ true) × (wake x old ≡ mode.Runs)) ⊎ ((wake x old ≡ old) × (awaits x old ≡ false)) → Contains (keys_among left y) j
-        go (inl s) = let runs : awaits y mode.Runs ≡ true = subst (λ (k : Mode). awaits y k ≡ true) (sym is ∙ s.1) w in absurd (cc)
-        go (inr s) = subst (λ (js : List ℕ). Contains js j) (sym (rest y)) (there (equal_var x y) refl (subst (λ (k : Mode). awaits y k ≡ true) (sym is ∙ s.0) w) s.1)
+        go : ((wakes x old ≡ true) × (wake_by x old ≡ mode.Runs)) ⊎ ((wake_by x old ≡ old) × (wakes x old ≡ false)) → Contains (left y) j
+        go (inl s) = let both : true ≡ false = sym w ∙ (ap (wakes y) (sym is ∙ s.1) ∙ never_waits y) in cc
+        go (inr s) = there (rest y) (subst (λ (k : Mode). wakes y k ≡ true) (sym is ∙ s.0) w) s.1
 
-    some : (y : VarName) (r : Bool) → AreInside (map (wake_slot x) slots) (cond r [] (keys_among waiting_keys y))
-    some y true = tt
-    some y false = inside_same slots (map (wake_slot x) slots) (keys_among waiting_keys y) (map_length x slots) (h.keys_inside y)
+    some : (y : Event) → (left y ≡ waiting_keys y) ⊎ ((left y ≡ []) × (x ≡ y)) → AreInside (map (wake_slot x) slots) (left y)
+    some y (inl e) = subst (λ (js : List ℕ). AreInside (map (wake_slot x) slots) js) (sym e) (inside_same slots (map (wake_slot x) slots) (waiting_keys y) (map_length x slots) (h.keys_inside y))
+    some y (inr e) = subst (λ (js : List ℕ). AreInside (map (wake_slot x) slots) js) (sym e.0) tt
 
--- all that waited for a variable are roused
-pub slots_roused : {V : Type 0} (x : VarName) (slots now : List (Slot V)) (by_name : Places) (queue js : List ℕ) (waiting_keys : Waiting) (a b : ℕ) → IsConsistent slots by_name queue waiting_keys a b → js ≡ keys_among waiting_keys x → now ≡ wake_slots x slots js →
+-- all that waited for this are roused
+pub slots_roused : {V : Type 0} (x : Event) (slots now : List (Slot V)) (by_name : Places) (queue js : List ℕ) (waiting_keys : Waiting) (a b : ℕ) → IsConsistent slots by_name queue waiting_keys a b → js ≡ waiting_keys x → now ≡ wake_slots x slots js →
     now ≡ map (wake_slot x) slots
 slots_roused x slots now by_name queue js waiting_keys a b h e f =
-    f ∙ (ap (λ (k : List ℕ). wake_slots x slots k) e ∙ roused_all x slots (keys_among waiting_keys x) (λ j s. h.parked j x s.0.mode (s.0, s.1, refl) s.2))
+    f ∙ (ap (λ (k : List ℕ). wake_slots x slots k) e ∙ roused_all x slots (waiting_keys x) (λ j s. h.parked j x s.0.mode (s.0, s.1, refl) s.2))
 
-pub kept_roused : {V : Type 0} (x : VarName) (slots now : List (Slot V)) (by_name : Places) (queue more js : List ℕ) (waiting_keys left : Waiting) (a b c : ℕ) → IsConsistent slots by_name queue waiting_keys a b → js ≡ keys_among waiting_keys x → more ≡ queue ++ woken x slots js →
-    now ≡ wake_slots x slots js → ((y : VarName) → keys_among left y ≡ keys.without_keys (keys_among waiting_keys) x y) → c ≡ total waiting now → IsConsistent now by_name more left a c
+pub kept_roused : {V : Type 0} (x : Event) (slots now : List (Slot V)) (by_name : Places) (queue more js : List ℕ) (waiting_keys left : Waiting) (a b c : ℕ) → IsConsistent slots by_name queue waiting_keys a b → js ≡ waiting_keys x → more ≡ queue ++ woken x slots js →
+    now ≡ wake_slots x slots js → AreLeft x waiting_keys left → c ≡ total waiting now → IsConsistent now by_name more left a c
 kept_roused {V} x slots now by_name queue more js waiting_keys left a b c h e m f rest counted =
     let all : now ≡ map (wake_slot x) slots = slots_roused x slots now by_name queue js waiting_keys a b h e f in
     rw (all, m)
@@ -203,15 +206,15 @@ inside_set xs i x js h = inside_same xs (slice_set xs i x) js (set_length xs i x
 
 -- a thread stands otherwise: where it can go on it is in the queue, where it waits for a variable it is among the keys
 kept_set : {V : Type 0} (slots : List (Slot V)) (by_name : Places) (queue more : List ℕ) (waiting_keys left : Waiting) (a b c : ℕ) (n : ThreadName) (i : ℕ) (old new : Occupant V) → IsConsistent slots by_name queue waiting_keys a b →
-    slot_in by_name n ≡ Some i → slice_get slots i ≡ Some (Some old) → new.name ≡ n → ((j : ℕ) → Contains queue j → Contains more j) → ((y : VarName) (j : ℕ) → Contains (keys_among waiting_keys y) j → Contains (keys_among left y) j) →
-    (new.mode ≡ mode.Runs → Contains more i) → ((x : VarName) → awaits x new.mode ≡ true → Contains (keys_among left x) i) →
-    AreInside slots more → ((y : VarName) → AreInside slots (keys_among left y)) → c + weight old.mode ≡ b + weight new.mode → IsConsistent (slice_set slots i (Some new)) by_name more left a c
+    slot_in by_name n ≡ Some i → slice_get slots i ≡ Some (Some old) → new.name ≡ n → ((j : ℕ) → Contains queue j → Contains more j) → ((y : Event) (j : ℕ) → Contains (waiting_keys y) j → Contains (left y) j) →
+    (new.mode ≡ mode.Runs → Contains more i) → ((x : Event) → wakes x new.mode ≡ true → Contains (left x) i) →
+    AreInside slots more → ((y : Event) → AreInside slots (left y)) → c + weight old.mode ≡ b + weight new.mode → IsConsistent (slice_set slots i (Some new)) by_name more left a c
 kept_set {V} slots by_name queue more waiting_keys left a b c n i old new h e at is longer further runs waits inside keyed counted = record {
   placed = placed_set n slots (slot_in by_name) i new h.placed e is;
   queued = λ j s. goes j (stands_set slots i j new mode.Runs s);
   parked = λ j x m s w. rests j x m (stands_set slots i j new m s) w;
   inside = inside_set slots i (Some new) more inside;
-  keys_inside = λ y. inside_set slots i (Some new) (keys_among left y) (keyed y);
+  keys_inside = λ y. inside_set slots i (Some new) (left y) (keyed y);
   alive = let all = h.alive in let same = total_set one slots i old new at in omega (arith, all, same);
   waiters = let all = h.waiters in let same = total_set waiting slots i old new at in omega (arith, all, same, counted);
 }
@@ -220,20 +223,20 @@ kept_set {V} slots by_name queue more waiting_keys left a b c n i old new h e at
     goes j (inl s) = subst (λ (k : ℕ). Contains more k) (sym s.0) (runs s.1)
     goes j (inr s) = longer j (h.queued j s)
 
-    rests : (j : ℕ) (x : VarName) (m : Mode) → ((j ≡ i) × (new.mode ≡ m)) ⊎ IsModeAt slots j m → awaits x m ≡ true → Contains (keys_among left x) j
-    rests j x m (inl s) w = subst (λ (k : ℕ). Contains (keys_among left x) k) (sym s.0) (waits x (subst (λ (k : Mode). awaits x k ≡ true) (sym s.1) w))
+    rests : (j : ℕ) (x : Event) (m : Mode) → ((j ≡ i) × (new.mode ≡ m)) ⊎ IsModeAt slots j m → wakes x m ≡ true → Contains (left x) j
+    rests j x m (inl s) w = subst (λ (k : ℕ). Contains (left x) k) (sym s.0) (waits x (subst (λ (k : Mode). wakes x k ≡ true) (sym s.1) w))
     rests j x m (inr s) w = further x j (h.parked j x m s w)
 
 -- one more key at some variables, of a slot that is there
 keyed_more : {V : Type 0} (slots : List (Slot V)) (by_name : Places) (queue : List ℕ) (waiting_keys left : Waiting) (a b : ℕ) (n : ThreadName) (i : ℕ) → IsConsistent slots by_name queue waiting_keys a b → slot_in by_name n ≡ Some i →
-    HasMoreKeys waiting_keys i left → (y : VarName) → AreInside slots (keys_among left y)
-keyed_more {V} slots by_name queue waiting_keys left a b n i h e more y = from_all (keys_among left y) (λ j k. inside j (more.only y j k))
+    HasMoreKeys waiting_keys i left → (y : Event) → AreInside slots (left y)
+keyed_more {V} slots by_name queue waiting_keys left a b n i h e more y = from_all (left y) (λ j k. inside j (more.only y j k))
   where
     below : i < length slots
     below = only_inside slots n i (only_at slots (slot_in by_name) n i h.placed e)
 
-    inside : (j : ℕ) → Contains (keys_among waiting_keys y) j ⊎ (j ≡ i) → j < length slots
-    inside j (inl k) = Each-member (λ (l : ℕ). l < length slots) (keys_among waiting_keys y) j (h.keys_inside y) k
+    inside : (j : ℕ) → Contains (waiting_keys y) j ⊎ (j ≡ i) → j < length slots
+    inside j (inl k) = Each-member (λ (l : ℕ). l < length slots) (waiting_keys y) j (h.keys_inside y) k
     inside j (inr q) = subst (λ (l : ℕ). l < length slots) (sym q) below
 
     from_all : (js : List ℕ) → ((j : ℕ) → Contains js j → j < length slots) → AreInside slots js
@@ -253,54 +256,21 @@ kept_keys slots by_name queue waiting_keys left a b n i h e more = record {
   waiters = h.waiters;
 }
 
--- it waits for a variable, and its slot is one more key there
-pub kept_waits : {V : Type 0} (slots now : List (Slot V)) (by_name : Places) (queue : List ℕ) (waiting_keys left : Waiting) (a b c : ℕ) (n : ThreadName) (i : ℕ) (old : Occupant V) (x : VarName) → IsConsistent slots by_name queue waiting_keys a b →
-    slot_in by_name n ≡ Some i → slice_get slots i ≡ Some (Some old) → old.name ≡ n → now ≡ slice_set slots i (Some (record old { mode = mode.Waits x })) →
-    ((y : VarName) → keys_among left y ≡ keys.with_key (keys_among waiting_keys) x i y) → c + weight old.mode ≡ b + 1 → IsConsistent now by_name queue left a c
-kept_waits {V} slots now by_name queue waiting_keys left a b c n i old x h e at is f rest counted =
+-- it waits for something in a variable, or in several, and its slot is one more key at each
+pub kept_parked : {V : Type 0} (slots now : List (Slot V)) (by_name : Places) (queue : List ℕ) (waiting_keys left : Waiting) (a b c : ℕ) (n : ThreadName) (i : ℕ) (old : Occupant V) (m : Mode) → IsConsistent slots by_name queue waiting_keys a b →
+    slot_in by_name n ≡ Some i → slice_get slots i ≡ Some (Some old) → old.name ≡ n → now ≡ slice_set slots i (Some (record old { mode = m })) →
+    is_waiting m ≡ true → HasMoreKeys waiting_keys i left → ((e : Event) → wakes e m ≡ true → Contains (left e) i) → c + weight old.mode ≡ b + 1 → IsConsistent now by_name queue left a c
+kept_parked {V} slots now by_name queue waiting_keys left a b c n i old m h e at is f waits more there counted =
     subst (λ (l : List (Slot V)). IsConsistent l by_name queue left a c) (sym f)
-    (kept_set slots by_name queue queue waiting_keys left a b c n i old (record old { mode = mode.Waits x }) h e at is (λ j k. k) (λ y j k. keeps y j k) (λ r. cc) (λ y w. there y ((same_name_decides x y).0 w)) h.inside (λ y. inside y) counted)
+    (kept_set slots by_name queue queue waiting_keys left a b c n i old (record old { mode = m }) h e at is (λ j k. k) (λ y j k. more.kept y j k) (λ r. absurd (still r)) there h.inside (keyed_more slots by_name queue waiting_keys left a b n i h e more)
+    (counted ∙ ap (λ (t : Bool). b + cond t 1 0) (sym waits)))
   where
-    below : i < length slots
-    below = only_inside slots n i (only_at slots (slot_in by_name) n i h.placed e)
-
-    more : (y : VarName) (j : ℕ) (r : Bool) → Contains (keys_among waiting_keys y) j → Contains (cond r (keys_among waiting_keys y ++ i ∷ []) (keys_among waiting_keys y)) j
-    more y j true k = Contains-append_left (keys_among waiting_keys y) (i ∷ []) j k
-    more y j false k = k
-
-    keeps : (y : VarName) (j : ℕ) → Contains (keys_among waiting_keys y) j → Contains (keys_among left y) j
-    keeps y j k = subst (λ (js : List ℕ). Contains js j) (sym (rest y)) (more y j (equal_var x y) k)
-
-    there : (y : VarName) → x ≡ y → Contains (keys_among left y) i
-    there y same = subst (λ (js : List ℕ). Contains js i) (sym (rest y))
-        (rw ((same_name_decides x y).1 same) (Contains-push (keys_among waiting_keys y) i))
-
-    each_more : (r : Bool) (js : List ℕ) → AreInside slots js → AreInside slots (cond r (js ++ i ∷ []) js)
-    each_more true js g = each_append (λ (j : ℕ). j < length slots) js (i ∷ []) g (below, tt)
-    each_more false js g = g
-
-    inside : (y : VarName) → AreInside slots (keys_among left y)
-    inside y = subst (λ (js : List ℕ). AreInside slots js) (sym (rest y)) (each_more (equal_var x y) (keys_among waiting_keys y) (h.keys_inside y))
-
--- it waits for any of several variables, and its slot is among the keys of each
-pub kept_waits_any : {V : Type 0} (slots now : List (Slot V)) (by_name : Places) (queue : List ℕ) (waiting_keys left : Waiting) (a b c : ℕ) (n : ThreadName) (i : ℕ) (old : Occupant V) (xs : List VarName) → IsConsistent slots by_name queue waiting_keys a b →
-    slot_in by_name n ≡ Some i → slice_get slots i ≡ Some (Some old) → old.name ≡ n → now ≡ slice_set slots i (Some (record old { mode = mode.WaitsAny xs })) →
-    HasMoreKeys waiting_keys i left → Each (λ (y : VarName). Contains (keys_among left y) i) xs → c + weight old.mode ≡ b + 1 → IsConsistent now by_name queue left a c
-kept_waits_any {V} slots now by_name queue waiting_keys left a b c n i old xs h e at is f more there counted =
-    subst (λ (l : List (Slot V)). IsConsistent l by_name queue left a c) (sym f)
-    (kept_set slots by_name queue queue waiting_keys left a b c n i old (record old { mode = mode.WaitsAny xs }) h e at is (λ j k. k) (λ y j k. more.kept y j k) (λ r. cc) (λ y w. among xs there y w) h.inside (keyed_more slots by_name queue waiting_keys left a b n i h e more) counted)
-  where
-    among : (ys : List VarName) → Each (λ (y : VarName). Contains (keys_among left y) i) ys → (y : VarName) → list_any (λ (z : VarName). equal_var z y) ys ≡ true → Contains (keys_among left y) i
-    among [] all y w = cc
-    among (z ∷ ys) all y w = go (equal_var z y) refl w (λ k. among ys all.1 y k)
-      where
-        go : (r : Bool) → equal_var z y ≡ r → (r || list_any (λ (u : VarName). equal_var u y) ys) ≡ true → (list_any (λ (u : VarName). equal_var u y) ys ≡ true → Contains (keys_among left y) i) → Contains (keys_among left y) i
-        go true q k ih = subst (λ (u : VarName). Contains (keys_among left u) i) ((same_name_decides z y).0 q) all.0
-        go false q k ih = ih k
+    still : m ≡ mode.Runs → ⊥
+    still r = let both : true ≡ false = sym waits ∙ ap is_waiting r in cc
 
 -- it waits for something else
 pub kept_waits_for : {V : Type 0} (slots now : List (Slot V)) (by_name : Places) (queue : List ℕ) (waiting_keys : Waiting) (a b c : ℕ) (n : ThreadName) (i : ℕ) (old : Occupant V) (m : Mode) → IsConsistent slots by_name queue waiting_keys a b →
-    slot_in by_name n ≡ Some i → slice_get slots i ≡ Some (Some old) → old.name ≡ n → now ≡ slice_set slots i (Some (record old { mode = m })) → m ≢ mode.Runs → ((x : VarName) → awaits x m ≡ true → ⊥) → c + weight old.mode ≡ b + weight m →
+    slot_in by_name n ≡ Some i → slice_get slots i ≡ Some (Some old) → old.name ≡ n → now ≡ slice_set slots i (Some (record old { mode = m })) → m ≢ mode.Runs → ((x : Event) → wakes x m ≡ true → ⊥) → c + weight old.mode ≡ b + weight m →
     IsConsistent now by_name queue waiting_keys a c
 kept_waits_for {V} slots now by_name queue waiting_keys a b c n i old m h e at is f still other counted =
     subst (λ (l : List (Slot V)). IsConsistent l by_name queue waiting_keys a c) (sym f)
@@ -313,7 +283,7 @@ kept_runs {V} slots now by_name queue more waiting_keys a b c n i old h e at is 
     subst (λ (l : List (Slot V)). IsConsistent l by_name more waiting_keys a c) (sym f)
     (subst (λ (q : List ℕ). IsConsistent (slice_set slots i (Some (record old { mode = mode.Runs }))) by_name q waiting_keys a c) (sym g)
     (kept_set slots by_name queue (queue ++ i ∷ []) waiting_keys waiting_keys a b c n i old (record old { mode = mode.Runs }) h e at is
-    (λ j k. Contains-append_left queue (i ∷ []) j k) (λ y j k. k) (λ r. Contains-push queue i) (λ x w. cc)
+    (λ j k. Contains-append_left queue (i ∷ []) j k) (λ y j k. k) (λ r. Contains-push queue i) (λ x w. let both : true ≡ false = sym w ∙ never_waits x in cc)
     (each_append (λ (j : ℕ). j < length slots) queue (i ∷ []) h.inside (only_inside slots n i (only_at slots (slot_in by_name) n i h.placed e), tt)) h.keys_inside (omega (arith, counted))))
 
 -- its value is another
@@ -338,7 +308,7 @@ kept_end {V} slots now by_name rest queue waiting_keys a b c d n i old h e at f 
   queued = λ j s. h.queued j (stands_none slots i j mode.Runs s);
   parked = λ j x m s w. h.parked j x m (stands_none slots i j m s) w;
   inside = inside_set slots i None queue h.inside;
-  keys_inside = λ x. inside_set slots i None (keys_among waiting_keys x) (h.keys_inside x);
+  keys_inside = λ x. inside_set slots i None (waiting_keys x) (h.keys_inside x);
   alive = let all = h.alive in let less = total_end one slots i old at in omega (arith, all, less, lived);
   waiters = let all = h.waiters in let less = total_end waiting slots i old at in omega (arith, all, less, waited);
 })
@@ -369,7 +339,7 @@ kept_born {V} slots now by_name more queue longer waiting_keys a b c n w h none 
       queued = λ j s. goes j (stands_more slots w j mode.Runs s);
       parked = λ j x m s k. waits j x m (stands_more slots w j m s) k;
       inside = each_append _ queue (length slots ∷ []) (inside_more slots (Some w) queue h.inside) (let more = length_push slots (Some w) in omega (arith, more), tt);
-      keys_inside = λ x. inside_more slots (Some w) (keys_among waiting_keys x) (h.keys_inside x);
+      keys_inside = λ x. inside_more slots (Some w) (waiting_keys x) (h.keys_inside x);
       alive = let all = h.alive in let further = total_born one slots w in omega (arith, all, further, counted);
       waiters = let all = h.waiters in let further = total_born waiting slots w in let zero_weight : weight w.mode ≡ 0 = rw runs refl in omega (arith, all, further, zero_weight);
     })
@@ -378,8 +348,8 @@ kept_born {V} slots now by_name more queue longer waiting_keys a b c n w h none 
     goes j (inl s) = subst (λ (k : ℕ). Contains (queue ++ length slots ∷ []) k) (sym s.0) (Contains-push queue (length slots))
     goes j (inr s) = Contains-append_left queue (length slots ∷ []) j (h.queued j s)
 
-    waits : (j : ℕ) (x : VarName) (m : Mode) → ((j ≡ length slots) × (w.mode ≡ m)) ⊎ IsModeAt slots j m → awaits x m ≡ true → Contains (keys_among waiting_keys x) j
-    waits j x m (inl s) k = let none : awaits x mode.Runs ≡ true = subst (λ (l : Mode). awaits x l ≡ true) (sym s.1 ∙ runs) k in absurd (cc)
+    waits : (j : ℕ) (x : Event) (m : Mode) → ((j ≡ length slots) × (w.mode ≡ m)) ⊎ IsModeAt slots j m → wakes x m ≡ true → Contains (waiting_keys x) j
+    waits j x m (inl s) k = let both : true ≡ false = sym k ∙ (ap (wakes x) (sym s.1 ∙ runs) ∙ never_waits x) in cc
     waits j x m (inr s) k = h.parked j x m s k
 
 -- ---- the slot that leaves the queue
@@ -484,7 +454,7 @@ ended_set {V} slots now i h k at f = ap (λ (l : List (Slot V)). ended_in l) f �
     same : ended_in (slice_set slots i (Some k)) ≡ ended_in slots
     same = let long = set_length slots i (Some k) in let sum = total_set one slots i h k at in omega (arith, long, sum)
 
-pub ended_roused : {V : Type 0} (x : VarName) (slots now : List (Slot V)) → now ≡ map (wake_slot x) slots → ended_in now ≡ ended_in slots
+pub ended_roused : {V : Type 0} (x : Event) (slots now : List (Slot V)) → now ≡ map (wake_slot x) slots → ended_in now ≡ ended_in slots
 ended_roused {V} x slots now f = ap (λ (l : List (Slot V)). ended_in l) f ∙ same
   where
     same : ended_in (map (wake_slot x) slots) ≡ ended_in slots
@@ -505,8 +475,11 @@ ended_born {V} slots now h f = ap (λ (l : List (Slot V)). ended_in l) f ∙ sam
 pub born_view : {V : Type 0} (slots now : List (Slot V)) (h : Occupant V) → now ≡ slots ++ Some h ∷ [] → threads_in now ≡ entry h ∷ threads_in slots
 born_view {V} slots now h f = ap (λ (l : List (Slot V)). threads_in l) f ∙ thread_born slots h
 
-pub wake_view : {V : Type 0} (x : VarName) (slots now : List (Slot V)) → now ≡ map (wake_slot x) slots → threads_in now ≡ wake_all x (threads_in slots)
-wake_view {V} x slots now f = ap (λ (l : List (Slot V)). threads_in l) f ∙ threads_woken x slots
+pub wake_view : {V : Type 0} (x : VarName) (slots now : List (Slot V)) → now ≡ map (wake_slot (event.Bound x)) slots → threads_in now ≡ wake_all x (threads_in slots)
+wake_view {V} x slots now f = ap (λ (l : List (Slot V)). threads_in l) f ∙ threads_bound x slots
+
+pub determine_view : {V : Type 0} (x : VarName) (slots now : List (Slot V)) → now ≡ map (wake_slot (event.Determined x)) slots → threads_in now ≡ determine_all (λ (y : VarName). equal_var y x) (threads_in slots)
+determine_view {V} x slots now f = ap (λ (l : List (Slot V)). threads_in l) f ∙ threads_determined x slots
 
 -- ---- a name without a thread, and one with one
 

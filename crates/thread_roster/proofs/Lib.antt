@@ -8,4 +8,5 @@ pub mod BehindLemmas
 pub mod ConsistencyLemmas
 pub mod ViewLemmas
 pub mod ThreadLemmas
+pub mod NodeLemmas
 pub mod ParkingLemmas

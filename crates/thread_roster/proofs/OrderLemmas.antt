@@ -3,7 +3,7 @@ use Rattle.std.proofs.Common.{arith, ◌≡◌, ◌≢◌, ◌∙◌, sym, ap, r
 use Rattle.std.specs.Prelude.{Option, slice_set, slice_get, Contains, IfSome, IfNone, ◌==◌}
 use Rattle.std.proofs.lemmas.Bool.Decides.{Decides-eqb as nat_decides}
 use Rattle.std.proofs.lemmas.List.Elements.{Contains-append_left}
-use Rattle.tree_node.specs.declared.names.VarName.{VarName}
+use Rattle.thread_roster.specs.declared.mode.Event.{Event}
 use Rattle.tree_node.specs.declared.names.ThreadName.{ThreadName}
 use Rattle.tree_node.specs.Each.{Each, AreDistinct}
 use Rattle.tree_node.specs.State.{equal_thread}
@@ -43,13 +43,13 @@ name_put (o ∷ slots) (suc i) h k at same (suc j) = name_put slots i h k at sam
 pub names_put : {V : Type 0} (slots now : List (Slot V)) (i : ℕ) (h k : Occupant V) → slice_get slots i ≡ Some (Some h) → k.name ≡ h.name → now ≡ slice_set slots i (Some k) → (js : List ℕ) → names_at now js ≡ names_at slots js
 names_put {V} slots now i h k at same e js = ap (λ (l : List (Slot V)). names_at l js) e ∙ names_same slots (slice_set slots i (Some k)) (name_put slots i h k at same) js
 
-name_woken : {V : Type 0} (x : VarName) (slots : List (Slot V)) (j : ℕ) → name_in (slice_get (map (wake_slot x) slots) j) ≡ name_in (slice_get slots j)
+name_woken : {V : Type 0} (x : Event) (slots : List (Slot V)) (j : ℕ) → name_in (slice_get (map (wake_slot x) slots) j) ≡ name_in (slice_get slots j)
 name_woken x [] j = refl
 name_woken x (None ∷ slots) zero = refl
 name_woken x (Some h ∷ slots) zero = refl
 name_woken x (o ∷ slots) (suc j) = name_woken x slots j
 
-pub names_woken : {V : Type 0} (x : VarName) (slots now : List (Slot V)) → now ≡ map (wake_slot x) slots → (js : List ℕ) → names_at now js ≡ names_at slots js
+pub names_woken : {V : Type 0} (x : Event) (slots now : List (Slot V)) → now ≡ map (wake_slot x) slots → (js : List ℕ) → names_at now js ≡ names_at slots js
 names_woken {V} x slots now e js = ap (λ (l : List (Slot V)). names_at l js) e ∙ names_same slots (map (wake_slot x) slots) (name_woken x slots) js
 
 -- ---- without a name
@@ -219,7 +219,7 @@ order_more {V} slots now queue more n i h k at is same e f =
     ∙ (ap (λ (js : List ℕ). names_at slots js) f ∙ (names_append slots queue (i ∷ []) ∙ ap (λ (l : List ThreadName). names_at slots queue ++ l) (name_at slots n i h at is)))
 
 -- those that wait for a variable come behind the others
-pub order_woken : {V : Type 0} (x : VarName) (slots now : List (Slot V)) (queue more woken : List ℕ) → now ≡ map (wake_slot x) slots → more ≡ queue ++ woken → names_at now more ≡ names_at slots queue ++ names_at slots woken
+pub order_woken : {V : Type 0} (x : Event) (slots now : List (Slot V)) (queue more woken : List ℕ) → now ≡ map (wake_slot x) slots → more ≡ queue ++ woken → names_at now more ≡ names_at slots queue ++ names_at slots woken
 order_woken {V} x slots now queue more woken e f = names_woken x slots now e more ∙ (ap (λ (js : List ℕ). names_at slots js) f ∙ names_append slots queue woken)
 
 -- a thread has ended

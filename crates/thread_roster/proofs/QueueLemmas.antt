@@ -4,16 +4,15 @@ use Rattle.std.specs.Prelude.{Option, IfSome, IfNone, slice_set, slice_get, Cont
 use Rattle.std.specs.Option.{option_eq}
 use Rattle.std.proofs.lemmas.Bool.Decides.{Decides-eqb as nat_decides}
 use Rattle.std.proofs.lemmas.List.Elements.{Contains-append_right, Contains-append_cases, Contains-push_cases}
-use Rattle.tree_node.specs.declared.names.VarName.{VarName}
+use Rattle.thread_roster.specs.declared.mode.Event.{Event}
 use Rattle.tree_node.specs.Each.{Each, AreDistinct}
 use Rattle.tree_node.proofs.ClassLemmas.{Contains-cons_cases, Contains-head, Contains-tail}
 use Rattle.tree_node.proofs.EachLemmas.{each_in, each_append}
 use Rattle.thread_roster.specs.declared.mode.Mode.TheVariants as mode
 use Rattle.thread_roster.specs.declared.slot.Occupant.{Occupant}
 use Rattle.thread_roster.specs.Invariant.{IsOrdered}
-use Rattle.thread_roster.specs.Slots.{Slot, AreInside, wake_slot, wake_slot_at, awaits_at, woken, without_slot, HasLeft, IsRest}
-use Rattle.thread_roster.specs.Threads.{awaits, wake}
-use Rattle.thread_roster.proofs.WakeLemmas.{IsAwaitingAt, mode_in, waits_before}
+use Rattle.thread_roster.specs.Slots.{Slot, AreInside, wakes, wake_by, wake_slot, wake_slot_at, awaits_at, woken, without_slot, HasLeft, IsRest}
+use Rattle.thread_roster.proofs.WakeLemmas.{IsAwaitingAt, mode_in, waits_before, never_waits, runs_on}
 
 -- ---- lists in which each stands once
 
@@ -142,24 +141,24 @@ occupant_more {V} (o ∷ slots) e h (suc j) k = go (occupant_more slots e h j k)
     go (inl s) = inl (ap suc s.0, s.1)
     go (inr s) = inr s
 
-occupant_woken : {V : Type 0} (x : VarName) (slots : List (Slot V)) (j : ℕ) (h : Occupant V) → slice_get (map (wake_slot x) slots) j ≡ Some (Some h) → (g : Occupant V) × (slice_get slots j ≡ Some (Some g)) × (h.mode ≡ wake x g.mode)
+occupant_woken : {V : Type 0} (x : Event) (slots : List (Slot V)) (j : ℕ) (h : Occupant V) → slice_get (map (wake_slot x) slots) j ≡ Some (Some h) → (g : Occupant V) × (slice_get slots j ≡ Some (Some g)) × (h.mode ≡ wake_by x g.mode)
 occupant_woken x [] j h k = cc
 occupant_woken x (None ∷ slots) zero h k = cc
 occupant_woken {V} x (Some g ∷ slots) zero h k =
-    let same : record g { mode = wake x g.mode } ≡ h = cc in
+    let same : record g { mode = wake_by x g.mode } ≡ h = cc in
     (g, refl, ap (λ (o : Occupant V). o.mode) (sym same))
 occupant_woken x (o ∷ slots) (suc j) h k = occupant_woken x slots j h k
 
 -- ---- those that are woken
 
-waits_there : {V : Type 0} (x : VarName) (slots : List (Slot V)) (k : ℕ) → awaits_at x slots k ≡ true → IsAwaitingAt slots k x
+waits_there : {V : Type 0} (x : Event) (slots : List (Slot V)) (k : ℕ) → awaits_at x slots k ≡ true → IsAwaitingAt slots k x
 waits_there x [] k e = cc
 waits_there x (None ∷ slots) zero e = cc
 waits_there x (Some h ∷ slots) zero e = (h, refl, e)
 waits_there x (o ∷ slots) (suc k) e = waits_there x slots k e
 
 -- each of them waited
-woken_waits : {V : Type 0} (x : VarName) (slots : List (Slot V)) (keys : List ℕ) (j : ℕ) → Contains (woken x slots keys) j → IsAwaitingAt slots j x
+woken_waits : {V : Type 0} (x : Event) (slots : List (Slot V)) (keys : List ℕ) (j : ℕ) → Contains (woken x slots keys) j → IsAwaitingAt slots j x
 woken_waits x slots [] j c = absurd (nothing j c)
 woken_waits {V} x slots (k ∷ keys) j c = go (awaits_at x slots k) refl (λ d. (waits_before x slots k j (woken_waits x (wake_slot_at x slots k) keys j d)).1) c
   where
@@ -175,7 +174,7 @@ woken_waits {V} x slots (k ∷ keys) j c = go (awaits_at x slots k) refl (λ d. 
     go false e rest d = rest d
 
 -- each once
-woken_once : {V : Type 0} (x : VarName) (slots : List (Slot V)) (keys : List ℕ) → AreDistinct (woken x slots keys)
+woken_once : {V : Type 0} (x : Event) (slots : List (Slot V)) (keys : List ℕ) → AreDistinct (woken x slots keys)
 woken_once x slots [] = tt
 woken_once {V} x slots (k ∷ keys) = go (awaits_at x slots k) (woken_once x (wake_slot_at x slots k) keys)
   where
@@ -285,7 +284,7 @@ ordered_born {V} slots now queue more new h inside runs e f =
     goes j k (inr same) (inr s) = absurd (past slots j k same s)
 
 -- those that wait for a variable go on, behind the others
-pub ordered_woken : {V : Type 0} (x : VarName) (slots now : List (Slot V)) (queue more keys : List ℕ) → IsOrdered slots queue → now ≡ map (wake_slot x) slots → more ≡ queue ++ woken x slots keys → IsOrdered now more
+pub ordered_woken : {V : Type 0} (x : Event) (slots now : List (Slot V)) (queue more keys : List ℕ) → IsOrdered slots queue → now ≡ map (wake_slot x) slots → more ≡ queue ++ woken x slots keys → IsOrdered now more
 ordered_woken {V} x slots now queue more keys h e f =
     subst (λ (l : List (Slot V)). IsOrdered l more) (sym e) (subst (λ (js : List ℕ). IsOrdered (map (wake_slot x) slots) js) (sym f) (record {
       ready = λ j k c there. goes j k (Contains-append_cases queue (woken x slots keys) j c) (occupant_woken x slots j k there);
@@ -293,14 +292,14 @@ ordered_woken {V} x slots now queue more keys h e f =
     }))
   where
     apart : (j : ℕ) → Contains queue j → IsAwaitingAt slots j x → ⊥
-    apart j c (o, at, is) = let runs : o.mode ≡ mode.Runs = h.ready j o c at in let never : awaits x o.mode ≡ false = ap (awaits x) runs in cc
+    apart j c (o, at, is) = let runs : o.mode ≡ mode.Runs = h.ready j o c at in let never : wakes x o.mode ≡ false = ap (wakes x) runs ∙ never_waits x in let both : true ≡ false = sym is ∙ never in cc
 
-    waited : (j : ℕ) (o : Occupant V) → slice_get slots j ≡ Some (Some o) → IsAwaitingAt slots j x → awaits x o.mode ≡ true
+    waited : (j : ℕ) (o : Occupant V) → slice_get slots j ≡ Some (Some o) → IsAwaitingAt slots j x → wakes x o.mode ≡ true
     waited j o at (g, there, is) =
         let both : Some (Some o) ≡ Some (Some g) = sym at ∙ there in
         let same : Some o ≡ Some g = cc in
-        ap (λ (p : Slot V). awaits x (mode_in p)) same ∙ is
+        ap (λ (p : Slot V). wakes x (mode_in p)) same ∙ is
 
-    goes : (j : ℕ) (k : Occupant V) → Contains queue j ⊎ Contains (woken x slots keys) j → (g : Occupant V) × (slice_get slots j ≡ Some (Some g)) × (k.mode ≡ wake x g.mode) → k.mode ≡ mode.Runs
-    goes j k (inl c) (o, at, is) = is ∙ ap (wake x) (h.ready j o c at)
+    goes : (j : ℕ) (k : Occupant V) → Contains queue j ⊎ Contains (woken x slots keys) j → (g : Occupant V) × (slice_get slots j ≡ Some (Some g)) × (k.mode ≡ wake_by x g.mode) → k.mode ≡ mode.Runs
+    goes j k (inl c) (o, at, is) = is ∙ (ap (wake_by x) (h.ready j o c at) ∙ runs_on x)
     goes j k (inr c) (o, at, is) = is ∙ ap (λ (b : Bool). cond b mode.Runs o.mode) (waited j o at (woken_waits x slots keys j c))

@@ -1,5 +1,5 @@
 -- Laws of lists of threads, for those who keep their threads in a roster.
-use Rattle.std.proofs.Common.{◌≡◌, ◌∙◌, sym, ap, refl, subst, suc, length, filter, List, [], ◌∷◌, Bool, true, false, cond, Some, None}
+use Rattle.std.proofs.Common.{◌≡◌, ◌∙◌, sym, ap, refl, subst, suc, length, filter, List, [], ◌∷◌, ◌||◌, Bool, true, false, cond, Some, None}
 use Rattle.tree_node.specs.declared.names.VarName.{VarName}
 use Rattle.tree_node.specs.declared.names.ThreadName.{ThreadName}
 use Rattle.tree_node.specs.Assoc.{value_of, with_value, without_key}
@@ -7,7 +7,7 @@ use Rattle.tree_node.specs.Each.{Each}
 use Rattle.tree_node.specs.State.{equal_thread}
 use Rattle.thread_roster.specs.declared.mode.Mode.{Mode}
 use Rattle.thread_roster.specs.declared.mode.Mode.TheVariants as mode
-use Rattle.thread_roster.specs.Threads.{Entry, is_waiting, waiting_of, map_entries, set_value, set_mode, wake, wake_all}
+use Rattle.thread_roster.specs.Threads.{Entry, is_waiting, waiting_of, map_entries, set_value, set_mode, awaits, wake_all, needs_one, wake_where, determine_all}
 use Rattle.thread_roster.proofs.NameLemmas.{is_same}
 use Rattle.tree_node.proofs.NameLemmas.{same_thread_decides}
 
@@ -71,9 +71,47 @@ values_mode {V} {W} f (t ∷ ts) n k = go (equal_thread t.0 n) refl (values_mode
     go true q ih = ap (λ (x : ThreadName). (x, f t.1.0) ∷ map_entries (λ (e : V × Mode). f e.0) ts) (sym ((same_thread_decides t.0 n).0 q))
     go false q ih = ap (λ (l : List (ThreadName × W)). (t.0, f t.1.0) ∷ l) ih
 
-pub values_woken : {V W : Type 0} (f : V → W) (x : VarName) (ts : List (Entry V)) → map_entries (λ (e : V × Mode). f e.0) (wake_all x ts) ≡ map_entries (λ (e : V × Mode). f e.0) ts
-values_woken f x [] = refl
-values_woken {V} {W} f x (t ∷ ts) = ap (λ (l : List (ThreadName × W)). (t.0, f t.1.0) ∷ l) (values_woken f x ts)
+-- ---- some go on
+
+-- a thread that goes on where it stands so, or stands as before
+abbrev pub woken_by : (Mode → Bool) → Mode → Mode
+woken_by f m = cond (f m) mode.Runs m
+
+pub found_where : {V : Type 0} (f : Mode → Bool) (ts : List (Entry V)) (n : ThreadName) (v : V) (m : Mode) → value_of equal_thread ts n ≡ Some (v, m) → value_of equal_thread (wake_where f ts) n ≡ Some (v, woken_by f m)
+found_where f [] n v m h = cc
+found_where {V} f (t ∷ ts) n v m h = go (equal_thread t.0 n) h (λ k. found_where f ts n v m k)
+  where
+    go : (b : Bool) → cond b (Some t.1) (value_of equal_thread ts n) ≡ Some (v, m) → (value_of equal_thread ts n ≡ Some (v, m) → value_of equal_thread (wake_where f ts) n ≡ Some (v, woken_by f m)) →
+        cond b (Some (t.1.0, woken_by f t.1.1)) (value_of equal_thread (wake_where f ts) n) ≡ Some (v, woken_by f m)
+    go true k ih = let same : t.1 ≡ (v, m) = cc in ap (λ (u : V × Mode). Some (u.0, woken_by f u.1)) same
+    go false k ih = ih k
+
+pub values_where : {V W : Type 0} (g : V → W) (f : Mode → Bool) (ts : List (Entry V)) → map_entries (λ (e : V × Mode). g e.0) (wake_where f ts) ≡ map_entries (λ (e : V × Mode). g e.0) ts
+values_where g f [] = refl
+values_where {V} {W} g f (t ∷ ts) = ap (λ (l : List (ThreadName × W)). (t.0, g t.1.0) ∷ l) (values_where g f ts)
+
+pub each_where : {V : Type 0} (P Q : Entry V → Type 0) (f : Mode → Bool) (ts : List (Entry V)) → ((n : ThreadName) (v : V) (m : Mode) → P (n, (v, m)) → Q (n, (v, woken_by f m))) → Each P ts → Each Q (wake_where f ts)
+each_where P Q f [] h all = tt
+each_where {V} P Q f ((n, (v, m)) ∷ ts) h all = (h n v m all.0, each_where P Q f ts h all.1)
+
+-- who goes on by a bind: it waits until x is bound, or needs the node of one of these
+abbrev pub goes_by : VarName → (VarName → Bool) → Mode → Bool
+goes_by x f m = awaits x m || needs_one f m
+
+pub bind_where : {V : Type 0} (x : VarName) (f : VarName → Bool) (ts : List (Entry V)) → determine_all f (wake_all x ts) ≡ wake_where (goes_by x f) ts
+bind_where x f [] = refl
+bind_where {V} x f (t ∷ ts) =
+    ap (λ (k : Mode). (t.0, (t.1.0, k)) ∷ determine_all f (wake_all x ts)) (go (awaits x t.1.1) t.1.1)
+    ∙ ap (λ (l : List (Entry V)). (t.0, (t.1.0, woken_by (goes_by x f) t.1.1)) ∷ l) (bind_where x f ts)
+  where
+    go : (a : Bool) (m : Mode) → woken_by (needs_one f) (cond a mode.Runs m) ≡ cond (a || needs_one f m) mode.Runs m
+    go true m = refl
+    go false m = refl
+
+-- where nobody stands so, none goes on
+pub same_where : {V : Type 0} (f : Mode → Bool) (ts : List (Entry V)) → Each (λ (t : Entry V). f t.1.1 ≡ false) ts → wake_where f ts ≡ ts
+same_where f [] h = refl
+same_where {V} f (t ∷ ts) h = ap (λ (b : Bool). (t.0, (t.1.0, cond b mode.Runs t.1.1)) ∷ wake_where f ts) h.0 ∙ ap (λ (l : List (Entry V)). t ∷ l) (same_where f ts h.1)
 
 -- ---- the thread that changed
 
@@ -121,10 +159,6 @@ each_end {V} P (t ∷ ts) n h = go (equal_thread t.0 n) (each_end P ts n h.1)
     go : (b : Bool) → Each P (without_key equal_thread ts n) → Each P (cond b (without_key equal_thread ts n) (t ∷ without_key equal_thread ts n))
     go true ih = ih
     go false ih = (h.0, ih)
-
-pub each_woken : {V : Type 0} (P Q : Entry V → Type 0) (x : VarName) (ts : List (Entry V)) → ((n : ThreadName) (v : V) (m : Mode) → P (n, (v, m)) → Q (n, (v, wake x m))) → Each P ts → Each Q (wake_all x ts)
-each_woken P Q x [] goes h = tt
-each_woken P Q x (t ∷ ts) goes h = (goes t.0 t.1.0 t.1.1 h.0, each_woken P Q x ts goes h.1)
 
 pub each_found : {V : Type 0} (P : Entry V → Type 0) (ts : List (Entry V)) (n : ThreadName) (e : V × Mode) → value_of equal_thread ts n ≡ Some e → Each P ts → P (n, e)
 each_found P [] n e found h = cc

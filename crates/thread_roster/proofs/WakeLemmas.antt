@@ -1,93 +1,103 @@
 -- Threads in slots that go on.
 use Rattle.std.proofs.Common.{arith, length-append, ◌≡◌, ◌≢◌, ◌∙◌, sym, ap, refl, subst, ℕ, ◌+◌, ◌<◌, ◌≤◌, zero, suc, length, drop, get_or, add-one, drop-cons, map, filter, ◌⊎◌, inl, inr, List, [], ◌∷◌, ◌++◌, append-nil, Bool, true, false, cond, Some, None}
 use Rattle.std.specs.Prelude.{slice_set, slice_get, Contains}
-use Rattle.std.specs.List.{list_any}
 use Rattle.tree_node.specs.declared.names.VarName.{VarName}
 use Rattle.tree_node.specs.Store.{equal_var}
+use Rattle.thread_roster.specs.declared.mode.Event.{Event}
+use Rattle.thread_roster.specs.declared.mode.Event.TheVariants as event
 use Rattle.tree_node.proofs.ClassLemmas.{Contains-cons_cases, same_name_decides}
 use Rattle.waiting_keys.specs.Keys.{keys_among, without_keys}
 use Rattle.thread_roster.specs.declared.mode.Mode.{Mode}
 use Rattle.thread_roster.specs.declared.mode.Mode.TheVariants as mode
 use Rattle.thread_roster.specs.declared.slot.Occupant.{Occupant}
-use Rattle.thread_roster.specs.Threads.{Entry, awaits, wake, wake_all, is_waiting, waiting_of, AllWait}
-use Rattle.thread_roster.specs.Slots.{Slot, entry, threads_in, wake_slot, wake_slot_at, wake_slots, awaits_in, awaits_at, woken, total, one, weight, waiting}
+use Rattle.thread_roster.specs.Threads.{Entry, awaits, wake, wake_all, wake_where, determine_all, is_waiting, waiting_of, AllWait}
+use Rattle.thread_roster.specs.Slots.{Slot, entry, threads_in, wakes, wake_by, wake_slot, wake_slot_at, wake_slots, awaits_in, awaits_at, woken, total, one, weight, waiting}
 
 -- ---- one slot
 
-set_same : {V : Type 0} (slots : List (Slot V)) (k : ℕ) (o : Slot V) (x : VarName) → slice_get slots k ≡ Some o → slice_set slots k (wake_slot x o) ≡ wake_slot_at x slots k
+set_same : {V : Type 0} (slots : List (Slot V)) (k : ℕ) (o : Slot V) (x : Event) → slice_get slots k ≡ Some o → slice_set slots k (wake_slot x o) ≡ wake_slot_at x slots k
 set_same [] k o x e = cc
 set_same (p ∷ slots) zero o x e = let same : p ≡ o = cc in rw same refl
 set_same {V} (p ∷ slots) (suc k) o x e = ap (λ (l : List (Slot V)). p ∷ l) (set_same slots k o x e)
 
-pub roused_none : {V : Type 0} (slots now : List (Slot V)) (k : ℕ) (x : VarName) → slice_get slots k ≡ Some None → now ≡ slice_set slots k None → now ≡ wake_slot_at x slots k
+pub roused_none : {V : Type 0} (slots now : List (Slot V)) (k : ℕ) (x : Event) → slice_get slots k ≡ Some None → now ≡ slice_set slots k None → now ≡ wake_slot_at x slots k
 roused_none slots now k x at e = e ∙ set_same slots k None x at
 
-pub roused_some : {V : Type 0} (slots now : List (Slot V)) (k : ℕ) (x : VarName) (h g : Occupant V) → slice_get slots k ≡ Some (Some h) → g ≡ record h { mode = wake x h.mode } → now ≡ slice_set slots k (Some g) → now ≡ wake_slot_at x slots k
+pub roused_some : {V : Type 0} (slots now : List (Slot V)) (k : ℕ) (x : Event) (h g : Occupant V) → slice_get slots k ≡ Some (Some h) → g ≡ record h { mode = wake_by x h.mode } → now ≡ slice_set slots k (Some g) → now ≡ wake_slot_at x slots k
 roused_some slots now k x h g at made e = e ∙ rw made (set_same slots k (Some h) x at)
 
 -- whether the thread in a slot waits
-pub awaits_as : {V : Type 0} (slots : List (Slot V)) (k : ℕ) (o : Slot V) (x : VarName) → slice_get slots k ≡ Some o → awaits_at x slots k ≡ awaits_in x o
+pub awaits_as : {V : Type 0} (slots : List (Slot V)) (k : ℕ) (o : Slot V) (x : Event) → slice_get slots k ≡ Some o → awaits_at x slots k ≡ awaits_in x o
 awaits_as [] k o x e = cc
 awaits_as {V} (p ∷ slots) zero o x e = let same : p ≡ o = cc in ap (λ (q : Slot V). awaits_in x q) same
 awaits_as (p ∷ slots) (suc k) o x e = awaits_as slots k o x e
 
 -- ---- all slots of the keys
 
--- what waits for a variable waits
-pub wake_weight : (x : VarName) (m : Mode) → cond (awaits x m) 1 0 + weight (wake x m) ≡ weight m
-wake_weight x mode.Runs = refl
-wake_weight x (mode.WaitsFor c) = refl
-wake_weight x (mode.Waits y) = go (equal_var y x)
-  where
-    go : (b : Bool) → cond b 1 0 + weight (cond b mode.Runs (mode.Waits y)) ≡ 1
-    go true = refl
-    go false = refl
-wake_weight x (mode.WaitsAny ys) = go (list_any (λ y. equal_var y x) ys)
-  where
-    go : (b : Bool) → cond b 1 0 + weight (cond b mode.Runs (mode.WaitsAny ys)) ≡ 1
-    go true = refl
-    go false = refl
+-- who can go on waits for nothing
+pub never_waits : (x : Event) → wakes x mode.Runs ≡ false
+never_waits (event.Bound y) = refl
+never_waits (event.Determined y) = refl
 
-wake_twice : (x : VarName) (m : Mode) → wake x (wake x m) ≡ wake x m
-wake_twice x m = go (awaits x m) refl
-  where
-    go : (b : Bool) → awaits x m ≡ b → wake x (cond b mode.Runs m) ≡ cond b mode.Runs m
-    go true e = refl
-    go false e = rw e refl
+pub runs_on : (x : Event) → wake_by x mode.Runs ≡ mode.Runs
+runs_on x = ap (λ (c : Bool). cond c mode.Runs mode.Runs) (never_waits x)
 
-rouse_twice : {V : Type 0} (x : VarName) (o : Slot V) → wake_slot x (wake_slot x o) ≡ wake_slot x o
+-- what waits for something waits
+pub wake_weight : (x : Event) (m : Mode) → cond (wakes x m) 1 0 + weight (wake_by x m) ≡ weight m
+wake_weight x m = go m
+  where
+    one_less : (k : Mode) (b : Bool) → weight k ≡ 1 → cond b 1 0 + weight (cond b mode.Runs k) ≡ weight k
+    one_less k true e = sym e
+    one_less k false e = let same : 0 + weight k ≡ weight k = omega arith in same
+
+    go : (k : Mode) → cond (wakes x k) 1 0 + weight (wake_by x k) ≡ weight k
+    go mode.Runs = ap (λ (b : Bool). cond b 1 0 + weight (cond b mode.Runs mode.Runs)) (never_waits x)
+    go (mode.Waits y) = one_less (mode.Waits y) (wakes x (mode.Waits y)) refl
+    go (mode.Needs y) = one_less (mode.Needs y) (wakes x (mode.Needs y)) refl
+    go (mode.WaitsAny ys) = one_less (mode.WaitsAny ys) (wakes x (mode.WaitsAny ys)) refl
+    go (mode.WaitsFor c) = one_less (mode.WaitsFor c) (wakes x (mode.WaitsFor c)) refl
+
+wake_twice : (x : Event) (m : Mode) → wake_by x (wake_by x m) ≡ wake_by x m
+wake_twice x m = go (wakes x m) refl
+  where
+    go : (b : Bool) → wakes x m ≡ b → wake_by x (cond b mode.Runs m) ≡ cond b mode.Runs m
+    go true e = runs_on x
+    go false e = ap (λ (c : Bool). cond c mode.Runs m) e
+
+rouse_twice : {V : Type 0} (x : Event) (o : Slot V) → wake_slot x (wake_slot x o) ≡ wake_slot x o
 rouse_twice x None = refl
 rouse_twice x (Some h) = rw (wake_twice x h.mode) refl
 
-map_rouse_at : {V : Type 0} (x : VarName) (slots : List (Slot V)) (k : ℕ) → map (wake_slot x) (wake_slot_at x slots k) ≡ map (wake_slot x) slots
+map_rouse_at : {V : Type 0} (x : Event) (slots : List (Slot V)) (k : ℕ) → map (wake_slot x) (wake_slot_at x slots k) ≡ map (wake_slot x) slots
 map_rouse_at x [] k = refl
 map_rouse_at {V} x (o ∷ slots) zero = ap (λ (p : Slot V). p ∷ map (wake_slot x) slots) (rouse_twice x o)
 map_rouse_at {V} x (o ∷ slots) (suc k) = ap (λ (l : List (Slot V)). wake_slot x o ∷ l) (map_rouse_at x slots k)
 
 -- a mode that does not wait for the variable stays
-not_woken : (x : VarName) (m : Mode) → (awaits x m ≡ true → ⊥) → wake x m ≡ m
-not_woken x m h = go (awaits x m) refl
+not_woken : (x : Event) (m : Mode) → (wakes x m ≡ true → ⊥) → wake_by x m ≡ m
+not_woken x m h = go (wakes x m) refl
   where
-    go : (b : Bool) → awaits x m ≡ b → cond b mode.Runs m ≡ m
+    go : (b : Bool) → wakes x m ≡ b → cond b mode.Runs m ≡ m
     go false e = refl
     go true e = absurd (h e)
 
-not_roused : {V : Type 0} (x : VarName) (o : Slot V) → ((h : Occupant V) → o ≡ Some h → awaits x h.mode ≡ true → ⊥) → wake_slot x o ≡ o
+not_roused : {V : Type 0} (x : Event) (o : Slot V) → ((h : Occupant V) → o ≡ Some h → wakes x h.mode ≡ true → ⊥) → wake_slot x o ≡ o
 not_roused x None h = refl
 not_roused {V} x (Some k) h = ap (λ (m : Mode). Some (record k { mode = m })) (not_woken x k.mode (λ e. h k refl e))
 
 -- the thread in a slot waits for this variable
-abbrev pub IsAwaitingAt : {V : Type 0} → List (Slot V) → ℕ → VarName → Type 0
-IsAwaitingAt {V} slots j x = (h : Occupant V) × (slice_get slots j ≡ Some (Some h)) × (awaits x h.mode ≡ true)
+abbrev pub IsAwaitingAt : {V : Type 0} → List (Slot V) → ℕ → Event → Type 0
+IsAwaitingAt {V} slots j x = (h : Occupant V) × (slice_get slots j ≡ Some (Some h)) × (wakes x h.mode ≡ true)
 
 -- where no thread waits, none goes on
-asleep : (x : VarName) (m : Mode) → weight m ≡ 0 → (awaits x m ≡ false) × (wake x m ≡ m)
-asleep x mode.Runs e = (refl, refl)
+asleep : (x : Event) (m : Mode) → weight m ≡ 0 → (wakes x m ≡ false) × (wake_by x m ≡ m)
+asleep x mode.Runs e = (never_waits x, runs_on x)
 asleep x (mode.Waits y) e = cc
+asleep x (mode.Needs y) e = cc
 asleep x (mode.WaitsAny ys) e = cc
 asleep x (mode.WaitsFor c) e = cc
 
-asleep_at : {V : Type 0} (x : VarName) (slots : List (Slot V)) (k : ℕ) → total waiting slots ≡ 0 → (awaits_at x slots k ≡ false) × (wake_slot_at x slots k ≡ slots)
+asleep_at : {V : Type 0} (x : Event) (slots : List (Slot V)) (k : ℕ) → total waiting slots ≡ 0 → (awaits_at x slots k ≡ false) × (wake_slot_at x slots k ≡ slots)
 asleep_at x [] k e = (refl, refl)
 asleep_at x (None ∷ slots) zero e = (refl, refl)
 asleep_at {V} x (None ∷ slots) (suc k) e =
@@ -104,7 +114,7 @@ asleep_at {V} x (Some h ∷ slots) (suc k) e =
     let r = asleep_at x slots k none in
     (r.0, ap (λ (l : List (Slot V)). Some h ∷ l) r.1)
 
-none_go_on : {V : Type 0} (x : VarName) (slots : List (Slot V)) (keys : List ℕ) → total waiting slots ≡ 0 → (woken x slots keys ≡ []) × (wake_slots x slots keys ≡ slots)
+none_go_on : {V : Type 0} (x : Event) (slots : List (Slot V)) (keys : List ℕ) → total waiting slots ≡ 0 → (woken x slots keys ≡ []) × (wake_slots x slots keys ≡ slots)
 none_go_on x slots [] e = (refl, refl)
 none_go_on {V} x slots (k ∷ keys) e =
     let r = asleep_at x slots k e in
@@ -113,17 +123,17 @@ none_go_on {V} x slots (k ∷ keys) e =
       ap (λ (l : List (Slot V)). wake_slots x l keys) r.1 ∙ rest.1,
     )
 
-pub idle_queue : {V : Type 0} (x : VarName) (slots : List (Slot V)) (keys queue : List ℕ) (n : ℕ) → n ≡ total waiting slots → n ≡ 0 → queue ≡ queue ++ woken x slots keys
+pub idle_queue : {V : Type 0} (x : Event) (slots : List (Slot V)) (keys queue : List ℕ) (n : ℕ) → n ≡ total waiting slots → n ≡ 0 → queue ≡ queue ++ woken x slots keys
 idle_queue x slots keys queue n is none = sym (ap (λ (l : List ℕ). queue ++ l) (none_go_on x slots keys (sym is ∙ none)).0 ∙ append-nil queue)
 
-pub idle_slots : {V : Type 0} (x : VarName) (slots : List (Slot V)) (keys : List ℕ) (n : ℕ) → n ≡ total waiting slots → n ≡ 0 → slots ≡ wake_slots x slots keys
+pub idle_slots : {V : Type 0} (x : Event) (slots : List (Slot V)) (keys : List ℕ) (n : ℕ) → n ≡ total waiting slots → n ≡ 0 → slots ≡ wake_slots x slots keys
 idle_slots x slots keys n is none = sym (none_go_on x slots keys (sym is ∙ none)).1
 
 -- where no key stands at a variable, nobody goes on and none is taken
-pub unkeyed_queue : {V : Type 0} (x : VarName) (slots : List (Slot V)) (keys queue : List ℕ) → keys ≡ [] → queue ≡ queue ++ woken x slots keys
+pub unkeyed_queue : {V : Type 0} (x : Event) (slots : List (Slot V)) (keys queue : List ℕ) → keys ≡ [] → queue ≡ queue ++ woken x slots keys
 unkeyed_queue x slots keys queue none = sym (ap (λ (ks : List ℕ). queue ++ woken x slots ks) none ∙ append-nil queue)
 
-pub unkeyed_slots : {V : Type 0} (x : VarName) (slots : List (Slot V)) (keys : List ℕ) → keys ≡ [] → slots ≡ wake_slots x slots keys
+pub unkeyed_slots : {V : Type 0} (x : Event) (slots : List (Slot V)) (keys : List ℕ) → keys ≡ [] → slots ≡ wake_slots x slots keys
 unkeyed_slots x slots keys none = sym (ap (λ (ks : List ℕ). wake_slots x slots ks) none)
 
 pub none_taken : (waiters : List (VarName × List ℕ)) (x : VarName) → keys_among waiters x ≡ [] → (y : VarName) → keys_among waiters y ≡ without_keys (keys_among waiters) x y
@@ -133,7 +143,7 @@ none_taken waiters x none y = go (equal_var x y) refl
     go true e = subst (λ (z : VarName). keys_among waiters z ≡ []) ((same_name_decides x y).0 e) none
     go false e = refl
 
-none_waits : {V : Type 0} (x : VarName) (slots : List (Slot V)) → ((j : ℕ) → IsAwaitingAt slots j x → ⊥) → map (wake_slot x) slots ≡ slots
+none_waits : {V : Type 0} (x : Event) (slots : List (Slot V)) → ((j : ℕ) → IsAwaitingAt slots j x → ⊥) → map (wake_slot x) slots ≡ slots
 none_waits x [] h = refl
 none_waits {V} x (o ∷ slots) h =
     let head : wake_slot x o ≡ o = not_roused x o (λ e is m. h 0 (e, ap Some is, m)) in
@@ -145,19 +155,19 @@ abbrev pub mode_in : {V : Type 0} → Slot V → Mode
 mode_in None = mode.Runs
 mode_in (Some h) = h.mode
 
-wake_goes : (x : VarName) (m : Mode) → awaits x (wake x m) ≡ true → ⊥
-wake_goes x m e = go (awaits x m) refl e
+wake_goes : (x : Event) (m : Mode) → wakes x (wake_by x m) ≡ true → ⊥
+wake_goes x m e = go (wakes x m) refl e
   where
-    go : (b : Bool) → awaits x m ≡ b → awaits x (cond b mode.Runs m) ≡ true → ⊥
-    go true q k = cc
-    go false q k = cc
+    go : (b : Bool) → wakes x m ≡ b → wakes x (cond b mode.Runs m) ≡ true → ⊥
+    go true q k = let both : true ≡ false = sym k ∙ never_waits x in cc
+    go false q k = let both : true ≡ false = sym k ∙ q in cc
 
-roused_goes : {V : Type 0} (x : VarName) (o : Slot V) (h : Occupant V) → wake_slot x o ≡ Some h → awaits x h.mode ≡ true → ⊥
+roused_goes : {V : Type 0} (x : Event) (o : Slot V) (h : Occupant V) → wake_slot x o ≡ Some h → wakes x h.mode ≡ true → ⊥
 roused_goes x None h is m = cc
-roused_goes {V} x (Some d) h is m = wake_goes x d.mode (ap (λ (o : Slot V). awaits x (mode_in o)) is ∙ m)
+roused_goes {V} x (Some d) h is m = wake_goes x d.mode (ap (λ (o : Slot V). wakes x (mode_in o)) is ∙ m)
 
 -- a slot that waits after one was roused is another, and waited before
-pub waits_before : {V : Type 0} (x : VarName) (slots : List (Slot V)) (k j : ℕ) → IsAwaitingAt (wake_slot_at x slots k) j x → (j ≢ k) × IsAwaitingAt slots j x
+pub waits_before : {V : Type 0} (x : Event) (slots : List (Slot V)) (k j : ℕ) → IsAwaitingAt (wake_slot_at x slots k) j x → (j ≢ k) × IsAwaitingAt slots j x
 waits_before x [] k j w = cc
 waits_before x (o ∷ slots) zero zero w = absurd (roused_goes x o w.0 (cc) w.2)
 waits_before x (o ∷ slots) zero (suc j) w = (omega arith, w)
@@ -166,7 +176,7 @@ waits_before x (o ∷ slots) (suc k) (suc j) w =
     let b = waits_before x slots k j w in (λ (same : suc j ≡ suc k). b.0 (omega (arith, same)), b.1)
 
 -- where each slot that waits is among the keys, all that wait are roused
-pub roused_all : {V : Type 0} (x : VarName) (slots : List (Slot V)) (keys : List ℕ) → ((j : ℕ) → IsAwaitingAt slots j x → Contains keys j) → wake_slots x slots keys ≡ map (wake_slot x) slots
+pub roused_all : {V : Type 0} (x : Event) (slots : List (Slot V)) (keys : List ℕ) → ((j : ℕ) → IsAwaitingAt slots j x → Contains keys j) → wake_slots x slots keys ≡ map (wake_slot x) slots
 roused_all x slots [] h = sym (none_waits x slots (λ j w. nothing j (h j w)))
   where
     nothing : (j : ℕ) → Contains [] j → ⊥
@@ -181,22 +191,33 @@ roused_all {V} x slots (k ∷ keys) h = roused_all x (wake_slot_at x slots k) ke
         go (inr c) = c
 
 -- the next key
-pub rouse_next : {V : Type 0} (x : VarName) (slots now : List (Slot V)) (keys : List ℕ) (i d : ℕ) → i < length keys → now ≡ wake_slot_at x slots (get_or keys i d) → wake_slots x now (drop (i + 1) keys) ≡ wake_slots x slots (drop i keys)
+pub rouse_next : {V : Type 0} (x : Event) (slots now : List (Slot V)) (keys : List ℕ) (i d : ℕ) → i < length keys → now ≡ wake_slot_at x slots (get_or keys i d) → wake_slots x now (drop (i + 1) keys) ≡ wake_slots x slots (drop i keys)
 rouse_next x slots now keys i d below e = rw (e, add-one) (sym (ap (λ (l : List ℕ). wake_slots x slots l) (drop-cons keys i d below)))
 
 -- ---- the threads by name
 
-wake_append : {V : Type 0} (x : VarName) (es fs : List (Entry V)) → wake_all x (es ++ fs) ≡ wake_all x es ++ wake_all x fs
-wake_append x [] fs = refl
-wake_append {V} x (a ∷ es) fs = ap (λ (l : List (Entry V)). (a.0, (a.1.0, wake x a.1.1)) ∷ l) (wake_append x es fs)
+where_append : {V : Type 0} (f : Mode → Bool) (es fs : List (Entry V)) → wake_where f (es ++ fs) ≡ wake_where f es ++ wake_where f fs
+where_append f [] fs = refl
+where_append {V} f (a ∷ es) fs = ap (λ (l : List (Entry V)). (a.0, (a.1.0, cond (f a.1.1) mode.Runs a.1.1)) ∷ l) (where_append f es fs)
 
-pub threads_woken : {V : Type 0} (x : VarName) (slots : List (Slot V)) → threads_in (map (wake_slot x) slots) ≡ wake_all x (threads_in slots)
+threads_woken : {V : Type 0} (x : Event) (slots : List (Slot V)) → threads_in (map (wake_slot x) slots) ≡ wake_where (wakes x) (threads_in slots)
 threads_woken x [] = refl
 threads_woken x (None ∷ slots) = threads_woken x slots
 threads_woken {V} x (Some h ∷ slots) =
-    ap (λ (l : List (Entry V)). l ++ (h.name, (h.value, wake x h.mode)) ∷ []) (threads_woken x slots) ∙ sym (wake_append x (threads_in slots) (entry h ∷ []))
+    ap (λ (l : List (Entry V)). l ++ (h.name, (h.value, wake_by x h.mode)) ∷ []) (threads_woken x slots) ∙ sym (where_append (wakes x) (threads_in slots) (entry h ∷ []))
 
-pub living_roused : {V : Type 0} (x : VarName) (slots : List (Slot V)) → total one (map (wake_slot x) slots) ≡ total one slots
+-- those that wait until x is bound are all whose wait that ends
+all_where : {V : Type 0} (x : VarName) (ts : List (Entry V)) → wake_where (awaits x) ts ≡ wake_all x ts
+all_where x [] = refl
+all_where {V} x (t ∷ ts) = ap (λ (l : List (Entry V)). (t.0, (t.1.0, wake x t.1.1)) ∷ l) (all_where x ts)
+
+pub threads_bound : {V : Type 0} (x : VarName) (slots : List (Slot V)) → threads_in (map (wake_slot (event.Bound x)) slots) ≡ wake_all x (threads_in slots)
+threads_bound x slots = threads_woken (event.Bound x) slots ∙ all_where x (threads_in slots)
+
+pub threads_determined : {V : Type 0} (x : VarName) (slots : List (Slot V)) → threads_in (map (wake_slot (event.Determined x)) slots) ≡ determine_all (λ (y : VarName). equal_var y x) (threads_in slots)
+threads_determined x slots = threads_woken (event.Determined x) slots
+
+pub living_roused : {V : Type 0} (x : Event) (slots : List (Slot V)) → total one (map (wake_slot x) slots) ≡ total one slots
 living_roused x [] = refl
 living_roused x (None ∷ slots) = living_roused x slots
 living_roused x (Some h ∷ slots) = let rest = living_roused x slots in omega (arith, rest)
@@ -230,6 +251,7 @@ pub waiting_at_most : {V : Type 0} (ts : List (Entry V)) → waiting_of ts ≤ l
 waiting_at_most [] = omega arith
 waiting_at_most {V} ((n, (v, mode.Runs)) ∷ ts) = let rest = waiting_at_most ts in omega (arith, rest)
 waiting_at_most {V} ((n, (v, mode.Waits y)) ∷ ts) = let rest = waiting_at_most ts in omega (arith, rest)
+waiting_at_most {V} ((n, (v, mode.Needs y)) ∷ ts) = let rest = waiting_at_most ts in omega (arith, rest)
 waiting_at_most {V} ((n, (v, mode.WaitsAny ys)) ∷ ts) = let rest = waiting_at_most ts in omega (arith, rest)
 waiting_at_most {V} ((n, (v, mode.WaitsFor c)) ∷ ts) = let rest = waiting_at_most ts in omega (arith, rest)
 
@@ -238,6 +260,7 @@ pub all_wait : {V : Type 0} (ts : List (Entry V)) → waiting_of ts ≡ length t
 all_wait [] e = tt
 all_wait {V} ((n, (v, mode.Runs)) ∷ ts) e = let most : waiting_of ts ≤ length ts = waiting_at_most ts in absurd (omega (arith, most, e))
 all_wait {V} ((n, (v, mode.Waits y)) ∷ ts) e = (λ k. cc, all_wait ts (omega (arith, e)))
+all_wait {V} ((n, (v, mode.Needs y)) ∷ ts) e = (λ k. cc, all_wait ts (omega (arith, e)))
 all_wait {V} ((n, (v, mode.WaitsAny ys)) ∷ ts) e = (λ k. cc, all_wait ts (omega (arith, e)))
 all_wait {V} ((n, (v, mode.WaitsFor c)) ∷ ts) e = (λ k. cc, all_wait ts (omega (arith, e)))
 
@@ -245,5 +268,6 @@ pub as_many_wait : {V : Type 0} (ts : List (Entry V)) → AllWait ts → waiting
 as_many_wait [] h = refl
 as_many_wait {V} ((n, (v, mode.Runs)) ∷ ts) h = absurd (h.0 refl)
 as_many_wait {V} ((n, (v, mode.Waits y)) ∷ ts) h = ap suc (as_many_wait ts h.1)
+as_many_wait {V} ((n, (v, mode.Needs y)) ∷ ts) h = ap suc (as_many_wait ts h.1)
 as_many_wait {V} ((n, (v, mode.WaitsAny ys)) ∷ ts) h = ap suc (as_many_wait ts h.1)
 as_many_wait {V} ((n, (v, mode.WaitsFor c)) ∷ ts) h = ap suc (as_many_wait ts h.1)

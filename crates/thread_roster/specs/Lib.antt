@@ -1,4 +1,5 @@
 pub mod Threads
+pub mod Binds
 pub mod Order
 pub mod Lends
 pub mod Slots

@@ -6,10 +6,13 @@ use Rattle.tree_node.specs.declared.names.VarName.{VarName}
 use Rattle.tree_node.specs.declared.names.ThreadName.{ThreadName}
 use Rattle.tree_node.specs.Each.{Each}
 use Rattle.tree_node.specs.State.{equal_thread}
+use Rattle.tree_node.specs.Store.{equal_var}
+use Rattle.thread_roster.specs.declared.mode.Event.{Event}
+use Rattle.thread_roster.specs.declared.mode.Event.TheVariants.{Bound, Determined}
 use Rattle.thread_roster.specs.declared.mode.Mode.{Mode}
 use Rattle.thread_roster.specs.declared.mode.Mode.TheVariants.{Runs}
 use Rattle.thread_roster.specs.declared.slot.Occupant.{Occupant}
-use Rattle.thread_roster.specs.Threads.{Entry, awaits, wake, is_waiting}
+use Rattle.thread_roster.specs.Threads.{Entry, awaits, needs_one, is_waiting}
 
 -- a thread with its value and how it stands; None once it has ended
 abbrev pub Slot : Type 0 → Type 0
@@ -82,41 +85,55 @@ AreInside slots js = Each (λ (j : ℕ). j < length slots) js
 
 -- ---- waking
 
--- the thread in a slot goes on, if it waits for x
-abbrev pub wake_slot : {V : Type 0} → VarName → Slot V → Slot V
-wake_slot x None = None
-wake_slot x (Some h) = Some (record h { mode = wake x h.mode })
+-- the variable to which this happens
+abbrev pub var_of : Event → VarName
+var_of (Bound x) = x
+var_of (Determined x) = x
+
+-- the thread goes on by this: it waits until the variable is bound, alone or among others, or needs its node
+abbrev pub wakes : Event → Mode → Bool
+wakes (Bound x) m = awaits x m
+wakes (Determined x) m = needs_one (λ y. equal_var y x) m
+
+-- a thread that waits for this goes on
+abbrev pub wake_by : Event → Mode → Mode
+wake_by e m = if wakes e m then Runs else m
+
+-- the thread in a slot goes on, if it waits for this
+abbrev pub wake_slot : {V : Type 0} → Event → Slot V → Slot V
+wake_slot e None = None
+wake_slot e (Some h) = Some (record h { mode = wake_by e h.mode })
 
 -- the thread in one slot
-abbrev pub wake_slot_at : {V : Type 0} → VarName → List (Slot V) → ℕ → List (Slot V)
-wake_slot_at x [] k = []
-wake_slot_at x (o ∷ slots) zero = wake_slot x o ∷ slots
-wake_slot_at x (o ∷ slots) (suc k) = o ∷ wake_slot_at x slots k
+abbrev pub wake_slot_at : {V : Type 0} → Event → List (Slot V) → ℕ → List (Slot V)
+wake_slot_at e [] k = []
+wake_slot_at e (o ∷ slots) zero = wake_slot e o ∷ slots
+wake_slot_at e (o ∷ slots) (suc k) = o ∷ wake_slot_at e slots k
 
 -- those in the slots of these keys
-abbrev pub wake_slots : {V : Type 0} → VarName → List (Slot V) → List ℕ → List (Slot V)
-wake_slots x slots [] = slots
-wake_slots x slots (k ∷ keys) = wake_slots x (wake_slot_at x slots k) keys
+abbrev pub wake_slots : {V : Type 0} → Event → List (Slot V) → List ℕ → List (Slot V)
+wake_slots e slots [] = slots
+wake_slots e slots (k ∷ keys) = wake_slots e (wake_slot_at e slots k) keys
 
--- whether the thread in a slot waits for x
-abbrev pub awaits_in : {V : Type 0} → VarName → Slot V → Bool
-awaits_in x None = false
-awaits_in x (Some h) = awaits x h.mode
+-- whether the thread in a slot waits for this
+abbrev pub awaits_in : {V : Type 0} → Event → Slot V → Bool
+awaits_in e None = false
+awaits_in e (Some h) = wakes e h.mode
 
 -- whether the thread in one of the slots does
-abbrev pub awaits_at : {V : Type 0} → VarName → List (Slot V) → ℕ → Bool
-awaits_at x [] k = false
-awaits_at x (o ∷ slots) zero = awaits_in x o
-awaits_at x (o ∷ slots) (suc k) = awaits_at x slots k
+abbrev pub awaits_at : {V : Type 0} → Event → List (Slot V) → ℕ → Bool
+awaits_at e [] k = false
+awaits_at e (o ∷ slots) zero = awaits_in e o
+awaits_at e (o ∷ slots) (suc k) = awaits_at e slots k
 
--- the key, where the thread in its slot waits for x
-abbrev pub woken_at : {V : Type 0} → VarName → List (Slot V) → ℕ → List ℕ
-woken_at x slots k = if awaits_at x slots k then k ∷ [] else []
+-- the key, where the thread in its slot waits for this
+abbrev pub woken_at : {V : Type 0} → Event → List (Slot V) → ℕ → List ℕ
+woken_at e slots k = if awaits_at e slots k then k ∷ [] else []
 
 -- the keys of the slots whose threads go on, as one after the other does, each once
-abbrev pub woken : {V : Type 0} → VarName → List (Slot V) → List ℕ → List ℕ
-woken x slots [] = []
-woken x slots (k ∷ keys) = woken_at x slots k ++ woken x (wake_slot_at x slots k) keys
+abbrev pub woken : {V : Type 0} → Event → List (Slot V) → List ℕ → List ℕ
+woken e slots [] = []
+woken e slots (k ∷ keys) = woken_at e slots k ++ woken e (wake_slot_at e slots k) keys
 
 -- ---- numbers
 

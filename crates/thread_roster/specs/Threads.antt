@@ -8,7 +8,7 @@ use Rattle.tree_node.specs.Each.{Each, AreDistinct}
 use Rattle.tree_node.specs.State.{equal_thread}
 use Rattle.tree_node.specs.Store.{equal_var}
 use Rattle.thread_roster.specs.declared.mode.Mode.{Mode}
-use Rattle.thread_roster.specs.declared.mode.Mode.TheVariants.{Runs, Waits, WaitsAny, WaitsFor}
+use Rattle.thread_roster.specs.declared.mode.Mode.TheVariants.{Runs, Waits, Needs, WaitsAny, WaitsFor}
 
 -- a thread's name, its value, and how it stands
 abbrev pub Entry : Type 0 → Type 0
@@ -35,10 +35,11 @@ set_mode (t ∷ ts) n m = if equal_thread t.0 n then (n, (t.1.0, m)) ∷ ts else
 
 -- ---- waking
 
--- the thread waits for x, alone or among others
+-- the thread waits until x is bound, alone or among others
 abbrev pub awaits : VarName → Mode → Bool
 awaits x Runs = false
 awaits x (Waits y) = equal_var y x
+awaits x (Needs y) = false
 awaits x (WaitsAny ys) = list_any (λ y. equal_var y x) ys
 awaits x (WaitsFor c) = false
 
@@ -51,12 +52,30 @@ abbrev pub wake_all : {V : Type 0} → VarName → List (Entry V) → List (Entr
 wake_all x [] = []
 wake_all x (t ∷ ts) = (t.0, (t.1.0, wake x t.1.1)) ∷ wake_all x ts
 
+-- the thread needs the node of a variable of which this holds
+abbrev pub needs_one : (VarName → Bool) → Mode → Bool
+needs_one f Runs = false
+needs_one f (Waits y) = false
+needs_one f (Needs y) = f y
+needs_one f (WaitsAny ys) = false
+needs_one f (WaitsFor c) = false
+
+-- those that stand so go on
+abbrev pub wake_where : {V : Type 0} → (Mode → Bool) → List (Entry V) → List (Entry V)
+wake_where f [] = []
+wake_where f (t ∷ ts) = (t.0, (t.1.0, if f t.1.1 then Runs else t.1.1)) ∷ wake_where f ts
+
+-- all those that need the node of one of these variables go on
+abbrev pub determine_all : {V : Type 0} → (VarName → Bool) → List (Entry V) → List (Entry V)
+determine_all f ts = wake_where (needs_one f) ts
+
 -- ---- waiting
 
--- the thread waits for a variable, for any of several, or for a cell
+-- the thread waits for a variable, for a node, for any of several variables, or for a cell
 abbrev pub is_waiting : Mode → Bool
 is_waiting Runs = false
 is_waiting (Waits x) = true
+is_waiting (Needs x) = true
 is_waiting (WaitsAny xs) = true
 is_waiting (WaitsFor c) = true
 

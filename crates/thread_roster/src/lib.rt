@@ -1,10 +1,11 @@
 //! Threads by name, each with a value, and with how it stands: it can go on, or it waits until a variable is bound, or one of
-//! several, or for the token of a cell. The machines of one site and of all keep their threads here, in place.
+//! several, or until a variable's class has a node, or for the token of a cell. The machines of one site and of all keep their
+//! threads here, in place.
 //!
 //! Contracts see a `Roster` as `Threads`: the list of those that live, the newest first, each with its value and its
 //! `Mode`; the number of those that have ended; and `order`, the names of those that can go on, the next in turn first.
-//! `start`, `end`, `wait`, `wait_any`, `wait_for`, `resume` and `wake` say what they leave of each (after want of memory the roster
-//! is unchanged); `value_mut` lends a thread's value where it stands; `get`, `mode` and `contains` find a thread by its name;
+//! `start`, `end`, `wait`, `need`, `wait_any`, `wait_for`, `resume`, `wake` and `determine` say what they leave of each (after
+//! want of memory the roster is unchanged); `value_mut` lends a thread's value where it stands; `get`, `mode` and `contains` find a thread by its name;
 //! `slots` shows all of them; `len`, `waiting` and `ended` tell numbers that are kept; `first` gives the first in the order,
 //! and none exactly where no thread can go on, as `is_idle` tells without looking for one. Slots, names, the run queue and
 //! the waiting keys are hidden; what they keep together is `IsConsistent` and `IsOrdered`.
@@ -14,7 +15,7 @@
 //! runs without workers print the same each time (`oz_tests`).
 //!
 //! A call costs by what it does: the first of the queue is found without a look-up, another thread by one, `wake` looks at
-//! those that wait for its variable, and `first` and `rotate` at the slots that leave the queue. A thread that comes to
+//! those that wait for its variable, `determine` at those that need its node, and `first` and `rotate` at the slots that leave the queue. A thread that comes to
 //! wait leaves the queue at once where it is the first, as the thread of a turn is, and else by a walk over the queue. A slot is
 //! not used again, so that the list stays in the order of birth; an ended thread leaves an empty one. A thread that waited for
 //! several variables stays among the keys of the others, where it is passed over, until that variable is bound. One that waits

@@ -7,16 +7,17 @@ ghost use Rattle.tree_node.specs.declared.names.ThreadName.{ThreadName as Named}
 ghost use Rattle.tree_node.specs.declared.names.VarName.{VarName as TheVar};
 ghost use Rattle.tree_node.specs.Assoc.{value_of, without_key};
 ghost use Rattle.tree_node.specs.State.{equal_thread};
+ghost use Rattle.tree_node.specs.Store.{equal_var};
 ghost use Rattle.thread_roster.specs.declared.mode.Mode.{Mode as Standing};
 ghost use Rattle.thread_roster.specs.declared.mode.Mode.TheVariants as stands;
 ghost use Rattle.waiting_keys.specs.Keys.{keys_among, without_keys};
 ghost use Rattle.tree_node.specs.Each.{Each};
 ghost use Rattle.thread_roster.specs.Parking.{HasMoreKeys};
-ghost use Rattle.thread_roster.specs.Slots.{threads_in as slots_hold, AreInside, woken, wake_slots, total, waiting as waits};
-ghost use Rattle.thread_roster.specs.Threads.{set_mode, set_value, wake_all, waiting_of, AllWait, IsSuspended, IsRunnable, IsOrderOf};
+ghost use Rattle.thread_roster.specs.Slots.{threads_in as slots_hold, AreInside, var_of, woken, wake_slots, total, waiting as waits};
+ghost use Rattle.thread_roster.specs.Threads.{set_mode, set_value, wake_all, determine_all, waiting_of, AllWait, IsSuspended, IsRunnable, IsOrderOf};
 ghost use Rattle.thread_roster.specs.Order.{without_name, rotated, HaveComeBehind};
 
-use crate::mode::Mode;
+use crate::mode::{Event, Mode};
 use crate::queue::Queue;
 use crate::slot::{Occupant, Slot, clear, set_mode, value_in};
 use crate::slots_by_name::{
@@ -31,13 +32,15 @@ use waiting_keys::Waiters;
 /// Threads by name, each with a value and how it stands, which contracts see as a list, the newest first, the number of
 /// those that have ended, and the order of those that can go on. A thread keeps its slot until it has ended. Those that can go on
 /// have their slots in a queue; there the slot of a thread that has ended is passed over, and among the keys of a variable each
-/// that does not wait for it.
+/// that does not wait for it. Those that wait until a variable is bound have other keys than those that need its node, so that neither
+/// are looked at for the others.
 #[derive(Drop)]
 pub struct Roster<V> {
     slots: Vec<Slot<V>>,
     by_name: SlotsByName,
     queue: Queue,
     waiters: Waiters,
+    needers: Waiters,
     living: usize,
     waiting: usize,
 }
@@ -50,6 +53,7 @@ impl<V> Model for Roster<V> {
 
     ghost use Rattle.thread_roster.specs.Slots.{threads_in, total, one, names_at};
     ghost use Rattle.thread_roster.specs.Invariant.{IsConsistent, IsOrdered};
+    ghost use Rattle.thread_roster.specs.Parking.{keys_for};
 
     ghost view = { λ r. record {
       living = threads_in r.slots.items;
@@ -57,12 +61,12 @@ impl<V> Model for Roster<V> {
       order = names_at r.slots.items r.queue;
     } };
 
-    ghost invariant = { λ r. IsConsistent r.slots.items r.by_name.entries r.queue r.waiters r.living r.waiting × IsOrdered r.slots.items r.queue };
+    ghost invariant = { λ r. IsConsistent r.slots.items r.by_name.entries r.queue (keys_for r.waiters r.needers) r.living r.waiting × IsOrdered r.slots.items r.queue };
 }
 
 // A slot is among the keys of each of these variables.
 fn park(waiters: &mut Waiters, vars: &[VarName], slot: usize) -> Result<(), AllocError>
-    ensures stay { HasMoreKeys waiters.old slot waiters.new }
+    ensures stay { HasMoreKeys (keys_among waiters.old) slot (keys_among waiters.new) }
     ensures there { OnOk result (Each (λ y. Contains (keys_among waiters.new y) slot) vars.now) }
 {
     'vars: for var in vars {
@@ -74,14 +78,14 @@ fn park(waiters: &mut Waiters, vars: &[VarName], slot: usize) -> Result<(), Allo
 // A slot is among the keys of a variable, where it may be already. Where it is the last there, nothing changes.
 #[tactic(auto, using(crate::proofs::ParkingLemmas::more_at))]
 fn park_at(waiters: &mut Waiters, var: VarName, slot: usize) -> Result<(), AllocError>
-    ensures stay { HasMoreKeys waiters.old slot waiters.new }
+    ensures stay { HasMoreKeys (keys_among waiters.old) slot (keys_among waiters.new) }
     ensures there { OnOk result (Contains (keys_among waiters.new var) slot) }
     ensures last { (ks : List ℕ) → keys_among waiters.old var ≡ ks ++ slot ∷ [] → waiters.new ≡ waiters.old }
 {
     waiters.add_again(var, slot)
 }
 
-// The threads that wait for a variable go on, behind those in the queue, and its keys are taken. Answers how many go on. Where no
+// The threads that wait for this go on, behind those in the queue, and the keys of its variable are taken. Answers how many go on. Where no
 // thread waits, those that went on by another variable may have left keys. Where there are no keys, nothing is left to do.
 #[tactic(auto, using(crate::proofs::WakeLemmas::idle_queue, crate::proofs::WakeLemmas::idle_slots, crate::proofs::WakeLemmas::unkeyed_queue, crate::proofs::WakeLemmas::unkeyed_slots, crate::proofs::WakeLemmas::none_taken))]
 fn rouse<V: Drop>(
@@ -89,17 +93,18 @@ fn rouse<V: Drop>(
     queue: &mut Queue,
     waiters: &mut Waiters,
     waiting: usize,
-    var: VarName,
+    event: Event,
 ) -> Result<usize, AllocError>
-    requires inside { AreInside slots.old.items (keys_among waiters.old var) }
+    requires inside { AreInside slots.old.items (keys_among waiters.old (var_of event)) }
     requires waiting { waiting ≡ total waits slots.old.items }
-    ensures queue { OnOk result (queue.new ≡ queue.old ++ woken var slots.old.items (keys_among waiters.old var)) }
-    ensures slots { OnOk result (slots.new.items ≡ wake_slots var slots.old.items (keys_among waiters.old var)) }
+    ensures queue { OnOk result (queue.new ≡ queue.old ++ woken event slots.old.items (keys_among waiters.old (var_of event))) }
+    ensures slots { OnOk result (slots.new.items ≡ wake_slots event slots.old.items (keys_among waiters.old (var_of event))) }
     ensures count { IfOk result (λ roused. roused + total waits slots.new.items ≡ total waits slots.old.items) }
-    ensures taken { OnOk result ((y : TheVar) → keys_among waiters.new y ≡ without_keys (keys_among waiters.old) var y) }
+    ensures taken { OnOk result ((y : TheVar) → keys_among waiters.new y ≡ without_keys (keys_among waiters.old) (var_of event) y) }
     ensures len { vec_len slots.new ≡ vec_len slots.old }
     ensures err { OnErr result ((queue.new ≡ queue.old) × (slots.new ≡ slots.old) × (waiters.new ≡ waiters.old)) }
 {
+    let var = event.var();
     if waiting == 0 {
         waiters.take(var);
         return Ok(0);
@@ -108,7 +113,7 @@ fn rouse<V: Drop>(
     if keys.is_empty() {
         return Ok(0);
     }
-    let roused = queue.wake(slots, keys, var)?;
+    let roused = queue.wake(slots, keys, event)?;
     waiters.take(var);
     Ok(roused)
 }
@@ -117,7 +122,7 @@ impl<V: Drop> Roster<V> {
     ghost use Rattle.thread_roster.specs.Lends.{lends_value};
 
     /// No threads.
-    #[tactic(auto, using(crate::proofs::ConsistencyLemmas::kept_none, crate::proofs::QueueLemmas::ordered_none))]
+    #[tactic(auto, using(crate::proofs::ConsistencyLemmas::kept_none, crate::proofs::ParkingLemmas::none_filed, crate::proofs::QueueLemmas::ordered_none))]
     pub fn new(alloc: Global) -> Roster<V>
         ensures living { result.living ≡ [] }
         ensures ended { result.ended ≡ 0 }
@@ -128,6 +133,7 @@ impl<V: Drop> Roster<V> {
             by_name: IndexMap::new(alloc),
             queue: Queue::new(alloc),
             waiters: Waiters::new(alloc),
+            needers: Waiters::new(alloc),
             living: 0,
             waiting: 0,
         }
@@ -253,6 +259,22 @@ impl<V: Drop> Roster<V> {
         Ok(())
     }
 
+    /// A thread needs the node of a variable's class, and waits until there is one.
+    pub fn need(&mut self, name: ThreadName, var: VarName) -> Result<(), AllocError>
+        requires lives { IsSome (value_of equal_thread self.old.living name) }
+        ensures living { OnOk result (self.new.living ≡ set_mode self.old.living name (stands.Needs var)) }
+        ensures ended { OnOk result (self.new.ended ≡ self.old.ended) }
+        ensures order { OnOk result (self.new.order ≡ without_name name self.old.order) }
+        ensures err { OnErr result (self.new ≡ self.old) }
+    {
+        let slot = find(&self.slots, &self.by_name, &self.queue, name);
+        self.needers.add(var, slot)?;
+        let waited = set_mode(&mut self.slots, slot, Mode::Needs(var));
+        self.waiting = count_waiting(self.waiting, waited);
+        self.queue.remove(slot);
+        Ok(())
+    }
+
     /// A thread waits until any of several variables is bound. It may be among the keys of the others still when it goes on, and
     /// is passed over there.
     pub fn wait_any(&mut self, name: ThreadName, vars: Vars) -> Result<(), AllocError>
@@ -299,7 +321,7 @@ impl<V: Drop> Roster<V> {
         Ok(())
     }
 
-    /// The threads that wait for a variable go on, behind those that can go on, in the order in which they first came to wait for
+    /// The threads that wait until a variable is bound go on, behind those that can go on, in the order in which they first came to wait for
     /// it, which no clause tells. One that is among the keys there still, and goes on already, keeps its place. No key stays there.
     pub fn wake(&mut self, var: VarName) -> Result<(), AllocError>
         ensures living { OnOk result (self.new.living ≡ wake_all var self.old.living) }
@@ -312,7 +334,26 @@ impl<V: Drop> Roster<V> {
             &mut self.queue,
             &mut self.waiters,
             self.waiting,
-            var,
+            Event::Bound(var),
+        )?;
+        self.waiting -= roused;
+        Ok(())
+    }
+
+    /// The threads that need the node of a variable go on, behind those that can go on, in the order in which they came to need it,
+    /// which no clause tells. No key of such a thread stays there.
+    pub fn determine(&mut self, var: VarName) -> Result<(), AllocError>
+        ensures living { OnOk result (self.new.living ≡ determine_all (λ y. equal_var y var) self.old.living) }
+        ensures ended { OnOk result (self.new.ended ≡ self.old.ended) }
+        ensures order { OnOk result (HaveComeBehind self.old.order self.new.order) }
+        ensures err { OnErr result (self.new ≡ self.old) }
+    {
+        let roused = rouse(
+            &mut self.slots,
+            &mut self.queue,
+            &mut self.needers,
+            self.waiting,
+            Event::Determined(var),
         )?;
         self.waiting -= roused;
         Ok(())

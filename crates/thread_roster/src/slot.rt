@@ -5,15 +5,15 @@ ghost use Rattle.std.specs.Vec.{vec_len};
 ghost use Rattle.std.specs.VecDeque.{deque_len, deque_capacity};
 ghost use Rattle.std.specs.Borrow.{sem, Lends};
 ghost use Rattle.thread_roster.specs.declared.mode.Mode.TheVariants as stands;
-ghost use Rattle.thread_roster.specs.Threads.{awaits, wake, is_waiting};
-ghost use Rattle.thread_roster.specs.Slots.{Slot as TheSlot, IsSlotOf, AreInside, wake_slot_at, wake_slots, awaits_at, woken_at, woken, total, waiting};
+ghost use Rattle.thread_roster.specs.Threads.{is_waiting};
+ghost use Rattle.thread_roster.specs.Slots.{Slot as TheSlot, IsSlotOf, AreInside, wakes, wake_by, wake_slot_at, wake_slots, awaits_at, woken_at, woken, total, waiting};
 ghost use Rattle.std.specs.contracts.option.Option.{the_row as OptionOf};
 ghost use Rattle.thread_roster.specs.contracts.slot.Occupant.{the_row as held_row};
 ghost use Rattle.thread_roster.specs.Slots.{with_value_in, value_there};
 
-use crate::mode::Mode;
+use crate::mode::{Event, Mode};
 use std::collections::VecDeque;
-use tree_node::{ThreadName, VarName};
+use tree_node::ThreadName;
 
 /// A thread: its name, how it stands, and its value.
 #[derive(Drop)]
@@ -46,6 +46,7 @@ pub fn runnable_name<V>(slot: &Slot<V>) -> Option<ThreadName>
         Some(held) => match &held.mode {
             Mode::Runs => Some(held.name),
             Mode::Waits(_) => None,
+            Mode::Needs(_) => None,
             Mode::WaitsAny(_) => None,
             Mode::WaitsFor(_) => None,
         },
@@ -98,32 +99,32 @@ pub fn clear<V: Drop>(slots: &mut Vec<Slot<V>>, slot: usize) -> bool
     waited
 }
 
-// A thread that waits for this variable goes on: true, where it does.
+// A thread that waits for this goes on: true, where it does.
 #[tactic(auto, using(crate::proofs::WakeLemmas::wake_weight))]
-fn wake_slot<V>(held: &mut Occupant<V>, var: VarName) -> bool
-    ensures held { held.new ≡ record held.old { mode = wake var held.old.mode } }
-    ensures goes { result ≡ awaits var held.old.mode }
+fn wake_slot<V>(held: &mut Occupant<V>, event: Event) -> bool
+    ensures held { held.new ≡ record held.old { mode = wake_by event held.old.mode } }
+    ensures goes { result ≡ wakes event held.old.mode }
     ensures count { (if result then 1 else 0) + waiting held.new ≡ waiting held.old }
 {
-    let goes = held.mode.awaits(var);
+    let goes = held.mode.awaits(event);
     if goes {
         held.mode = Mode::Runs;
     }
     goes
 }
 
-// The thread in a slot goes on, where it waits for this variable: true, where it does.
+// The thread in a slot goes on, where it waits for this: true, where it does.
 #[tactic(auto, using(crate::proofs::WakeLemmas::roused_none, crate::proofs::WakeLemmas::roused_some, crate::proofs::SlotLemmas::total_set))]
-fn wake_slot_at<V: Drop>(slots: &mut Vec<Slot<V>>, slot: usize, var: VarName) -> bool
+fn wake_slot_at<V: Drop>(slots: &mut Vec<Slot<V>>, slot: usize, event: Event) -> bool
     requires inside { slot < length slots.old.items }
-    ensures slots { slots.new.items ≡ wake_slot_at var slots.old.items slot }
-    ensures goes { result ≡ awaits_at var slots.old.items slot }
+    ensures slots { slots.new.items ≡ wake_slot_at event slots.old.items slot }
+    ensures goes { result ≡ awaits_at event slots.old.items slot }
     ensures count { (if result then 1 else 0) + total waiting slots.new.items ≡ total waiting slots.old.items }
     ensures len { vec_len slots.new ≡ vec_len slots.old }
 {
     match &mut slots[slot] {
         None => false,
-        Some(held) => wake_slot(held, var),
+        Some(held) => wake_slot(held, event),
     }
 }
 
@@ -132,18 +133,18 @@ fn wake_next<V: Drop>(
     slots: &mut Vec<Slot<V>>,
     queue: &mut VecDeque<usize>,
     slot: usize,
-    var: VarName,
+    event: Event,
 ) -> usize
     requires inside { slot < length slots.old.items }
     requires room { deque_len queue.old < deque_capacity queue.old }
-    ensures slots { slots.new.items ≡ wake_slot_at var slots.old.items slot }
-    ensures queue { queue.new.items ≡ queue.old.items ++ woken_at var slots.old.items slot }
+    ensures slots { slots.new.items ≡ wake_slot_at event slots.old.items slot }
+    ensures queue { queue.new.items ≡ queue.old.items ++ woken_at event slots.old.items slot }
     ensures count { result + total waiting slots.new.items ≡ total waiting slots.old.items }
     ensures len { vec_len slots.new ≡ vec_len slots.old }
     ensures few { deque_len queue.new ≤ deque_len queue.old + 1 }
     ensures capacity { deque_capacity queue.new ≡ deque_capacity queue.old }
 {
-    if wake_slot_at(slots, slot, var) {
+    if wake_slot_at(slots, slot, event) {
         queue.push_back_reserved(slot);
         1
     } else {
@@ -151,24 +152,24 @@ fn wake_next<V: Drop>(
     }
 }
 
-/// Those in the slots of these keys go on, where they wait for this variable, and their slots come behind the others in a queue,
+/// Those in the slots of these keys go on, where they wait for this, and their slots come behind the others in a queue,
 /// which has room, each once. Answers how many do.
 pub fn wake_slots<V: Drop>(
     slots: &mut Vec<Slot<V>>,
     queue: &mut VecDeque<usize>,
     keys: &[usize],
-    var: VarName,
+    event: Event,
 ) -> usize
     requires inside { AreInside slots.old.items keys.now }
     requires room { deque_len queue.old + length keys.now ≤ deque_capacity queue.old }
-    ensures slots { slots.new.items ≡ wake_slots var slots.old.items keys.now }
-    ensures queue { queue.new.items ≡ queue.old.items ++ woken var slots.old.items keys.now }
+    ensures slots { slots.new.items ≡ wake_slots event slots.old.items keys.now }
+    ensures queue { queue.new.items ≡ queue.old.items ++ woken event slots.old.items keys.now }
     ensures count { result + total waiting slots.new.items ≡ total waiting slots.old.items }
     ensures len { vec_len slots.new ≡ vec_len slots.old }
 {
     let mut roused = 0;
     'keys: for key in keys {
-        let more = wake_next(slots, queue, *key, var);
+        let more = wake_next(slots, queue, *key, event);
         roused += more;
     }
     roused

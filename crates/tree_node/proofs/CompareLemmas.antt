@@ -277,7 +277,7 @@ open_by_classes s p d =
 abbrev pub tells_apart : Store → Pair → Bool
 tells_apart s q = is_apart (relation s q)
 
-equal_truths : (a b : Bool) → (a ≡ true → b ≡ true) → (b ≡ true → a ≡ true) → a ≡ b
+pub equal_truths : (a b : Bool) → (a ≡ true → b ≡ true) → (b ≡ true → a ≡ true) → a ≡ b
 equal_truths true b f g = sym (f refl)
 equal_truths false true f g = g refl
 equal_truths false false f g = refl

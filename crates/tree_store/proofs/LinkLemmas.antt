@@ -1,12 +1,17 @@
 -- Trees of classes: how an entry is written, and what putting one tree below another does.
-use Rattle.std.proofs.Common.{arith, ◌^◌, ◌≡◌, ◌∙◌, sym, ap, refl, subst, ℕ, ◌+◌, ◌*◌, ◌<◌, ◌≤◌, List, [], ◌∷◌, ◌++◌, length, ◌⊎◌, inl, inr, Bool, true, false, cond, Some, None}
-use Rattle.std.specs.Prelude.{Option, Result, Ok, Err, OnErr, IsSome, unwrap_or}
+use Rattle.std.proofs.Common.{arith, ◌^◌, ◌≡◌, ◌∙◌, sym, ap, refl, subst, ℕ, ◌+◌, ◌*◌, ◌<◌, ◌≤◌, suc, List, [], ◌∷◌, ◌++◌, append_assoc, append-nil, length, length-append, ◌⊎◌, inl, inr, Bool, true, false, cond, Some, None}
+use Rattle.std.specs.Prelude.{◌≢◌, ◌↔◌, ◌-◌, ◌==◌, Contains, Option, Result, Ok, Err, OnErr, IsSome, IsTrue, unwrap_or}
+use Rattle.std.proofs.lemmas.Bool.Decides.{Decides-eqb as nat_decides}
 use Rattle.std.specs.Map.{lookup, set_value}
 use Rattle.tree_node.specs.declared.names.VarName.{VarName}
 use Rattle.tree_node.specs.Store.{equal_var, joined_root}
-use Rattle.tree_node.proofs.ClassLemmas.{same_name_decides, same_name_refl, joined_when, joined_same}
+use Rattle.std.proofs.lemmas.List.Elements.{Contains-append_cases, Contains-append_left, Contains-append_right}
+use Rattle.tree_node.specs.Each.{Each}
+use Rattle.tree_node.proofs.ClassLemmas.{same_name_decides, same_name_refl, joined_when, joined_same, Contains-cons_cases, Contains-head, Contains-tail}
+use Rattle.tree_node.proofs.EachLemmas.{each_append}
+use Rattle.tree_node.proofs.OrderLemmas.{Each-member}
 use Rattle.tree_store.specs.declared.links.ClassEntry.{ClassEntry}
-use Rattle.tree_store.specs.Links.{ClassEntries, singleton, entry_in, IsRepresentative, weight, total, IsTree, AreClasses, entry_after_union}
+use Rattle.tree_store.specs.Links.{ClassEntries, singleton, entry_in, IsRepresentative, weight, total, IsTree, AreClasses, entry_after_union, IsPath, IsRing, visited}
 
 same_true : (x y : VarName) → x ≡ y → equal_var x y ≡ true
 same_true x y e = (same_name_decides x y).1 e
@@ -141,20 +146,119 @@ tree_alone es fs x e none t =
       counts = rw e (alone_total es x ∙ ap (λ (n : ℕ). n + 1) t.counts ∙ sym (alone_length es x));
     }
 
+-- ---- rings
+
+-- the same way, from x that has the next variable of z
+path_moved : (entry other : VarName → ClassEntry) (x z : VarName) (ys : List VarName) (end : VarName) → (other x).next ≡ (entry z).next → Each (λ (y : VarName). (other y).next ≡ (entry y).next) ys → IsPath entry z ys end → IsPath other x ys end
+path_moved entry other x z [] end e same h = e ∙ h
+path_moved entry other x z (y ∷ ys) end e same h = (e ∙ h.0, path_moved entry other y y ys end same.0 same.1 h.1)
+
+path_on : (entry : VarName → ClassEntry) (x y z : VarName) (xs ys : List VarName) → IsPath entry x xs y → IsPath entry y ys z → IsPath entry x (xs ++ y ∷ ys) z
+path_on entry x y z [] ys h g = (h, g)
+path_on entry x y z (w ∷ xs) ys h g = (h.0, path_on entry w y z xs ys h.1 g)
+
+each_all : {P : VarName → Type 0} → ((y : VarName) → P y) → (ys : List VarName) → Each P ys
+each_all f [] = tt
+each_all f (y ∷ ys) = (f y, each_all f ys)
+
+each_from : (P : VarName → Type 0) (ys : List VarName) → ((y : VarName) → Contains ys y → P y) → Each P ys
+each_from P [] f = tt
+each_from P (y ∷ ys) f = (f y (Contains-head y ys), each_from P ys (λ z k. f z (Contains-tail y z ys k)))
+
+-- a variable without an entry is a ring of its own
+pub alone_ring : (x : VarName) → IsRing (λ (y : VarName). y) singleton x []
+alone_ring x = record { path = refl; first = tt; all = λ y. (λ k. only y (Contains-cons_cases x y [] k), λ e. subst (Contains (x ∷ [])) (sym e) (Contains-head x [])); long = refl }
+  where
+    only : (y : VarName) → (x ≡ y) ⊎ Contains [] y → y ≡ x
+    only y (inl e) = sym e
+    only y (inr (k, below, is)) = absurd (omega arith)
+
+ring_same : (root : VarName → VarName) (entry other : VarName → ClassEntry) (x : VarName) (ys : List VarName) → ((y : VarName) → other y ≡ entry y) → IsRing root entry x ys → IsRing root other x ys
+ring_same root entry other x ys h r = record {
+  path = path_moved entry other x x ys x (next x) (each_all next ys) r.path;
+  first = r.first;
+  all = r.all;
+  long = r.long ∙ ap (λ (p : ClassEntry). p.size) (sym (h x));
+}
+  where
+    next : (y : VarName) → (other y).next ≡ (entry y).next
+    next y = ap (λ (p : ClassEntry). p.next) (h y)
+
+-- what a ring visits
+pub visits : (entry : VarName → ClassEntry) (x z : VarName) (ys : List VarName) → IsPath entry x ys z → visited entry x (suc (length ys)) ≡ x ∷ ys
+visits entry x z [] h = refl
+visits entry x z (y ∷ ys) h = ap (λ (l : List VarName). x ∷ l) (ap (λ (v : VarName). visited entry v (suc (length ys))) h.0 ∙ visits entry y z ys h.1)
+
+-- what is visited from the top is the class
+pub members_told : (root : VarName → VarName) (entry : VarName → ClassEntry) (items : List VarName) (t x : VarName) → AreClasses root entry → IsRepresentative entry t → root t ≡ root x → items ≡ visited entry t (entry t).size →
+    (y : VarName) → Contains items y ↔ (root y ≡ root x)
+members_told root entry items t x h top same e y =
+    let r = h.ring t top in
+    let list : items ≡ t ∷ r.0 = e ∙ ap (visited entry t) (sym r.1.long) ∙ visits entry t t r.0 r.1.path in
+    (λ k. (r.1.all y).0 (subst (λ (l : List VarName). Contains l y) list k) ∙ same, λ k. subst (λ (l : List VarName). Contains l y) (sym list) ((r.1.all y).1 (k ∙ sym same)))
+
+-- the next one is visited
+pub visited_next : (entry : VarName → ClassEntry) (items all : List VarName) (at : VarName) (n : ℕ) → items ++ visited entry at (suc n) ≡ all → (items ++ at ∷ []) ++ visited entry (entry at).next n ≡ all
+visited_next entry items all at n e = append_assoc items (at ∷ []) (visited entry (entry at).next n) ∙ e
+
+pub visited_on : (entry : VarName → ClassEntry) (items new all : List VarName) (at next : VarName) (left : ℕ) → 0 < left → new ≡ items ++ at ∷ [] → next ≡ (entry at).next → items ++ visited entry at left ≡ all → new ++ visited entry next (left - 1) ≡ all
+visited_on entry items new all at next left some pushed e h =
+    let one : left ≡ suc (left - 1) = omega (arith, some) in
+    ap (λ (l : List VarName). l ++ visited entry next (left - 1)) pushed
+    ∙ (ap (λ (v : VarName). (items ++ at ∷ []) ++ visited entry v (left - 1)) e
+    ∙ visited_next entry items all at (left - 1) (ap (λ (n : ℕ). items ++ visited entry at n) (sym one) ∙ h))
+
+pub visited_first : (entry : VarName → ClassEntry) (items : List VarName) (t : VarName) (p : ClassEntry) → items ≡ [] → p ≡ entry t → items ++ visited entry t p.size ≡ visited entry t (entry t).size
+visited_first entry items t p none is = ap (λ (l : List VarName). l ++ visited entry t p.size) none ∙ ap (λ (q : ClassEntry). visited entry t q.size) is
+
+pub visited_last : (entry : VarName → ClassEntry) (items all : List VarName) (at : VarName) (left : ℕ) → left ≡ 0 → items ++ visited entry at left ≡ all → items ≡ all
+visited_last entry items all at left none h = sym (append-nil items) ∙ (ap (λ (n : ℕ). items ++ visited entry at n) (sym none) ∙ h)
+
+-- a class of one
+pub alone_told : (root : VarName → VarName) (entry : VarName → ClassEntry) (t x : VarName) → AreClasses root entry → IsRepresentative entry t → root t ≡ root x → (entry t).size ≡ 1 ↔ ((y : VarName) → root y ≡ root x → y ≡ x)
+alone_told root entry t x h top same = (λ e. one (r.0) r.1 e, λ f. size r.0 r.1 f)
+  where
+    r : (ys : List VarName) × IsRing root entry t ys
+    r = h.ring t top
+
+    one : (ys : List VarName) → IsRing root entry t ys → (entry t).size ≡ 1 → (y : VarName) → root y ≡ root x → y ≡ x
+    one [] q e y k = sym (it y ((q.all y).1 (k ∙ sym same))) ∙ it x ((q.all x).1 (sym same))
+      where
+        it : (z : VarName) → Contains (t ∷ []) z → t ≡ z
+        it z c = go (Contains-cons_cases t z [] c)
+          where
+            go : (t ≡ z) ⊎ Contains [] z → t ≡ z
+            go (inl p) = p
+            go (inr (k, below, is)) = absurd (omega arith)
+    one (z ∷ zs) q e y k = let long = q.long in absurd (omega (arith, long, e))
+
+    size : (ys : List VarName) → IsRing root entry t ys → ((y : VarName) → root y ≡ root x → y ≡ x) → (entry t).size ≡ 1
+    size [] q f = sym q.long
+    size (z ∷ zs) q f =
+        let own : root z ≡ root t = (q.all z).0 (Contains-tail t z (z ∷ zs) (Contains-head z zs)) in
+        absurd (q.first.0 (f t same ∙ sym (f z (own ∙ same))))
+
+pub alone_is : (root : VarName → VarName) (entry : VarName → ClassEntry) (p : ClassEntry) (t x : VarName) → AreClasses root entry → IsRepresentative entry t → root t ≡ root x → p ≡ entry t → IsTrue (p.size == 1) ↔ ((y : VarName) → root y ≡ root x → y ≡ x)
+alone_is root entry p t x h top same is =
+    let size : p.size ≡ (entry t).size = ap (λ (q : ClassEntry). q.size) is in
+    let told = alone_told root entry t x h top same in
+    (λ yes. told.0 (sym size ∙ (nat_decides p.size 1).0 yes), λ f. (nat_decides p.size 1).1 (size ∙ told.1 f))
+
 pub tells_same : (root : VarName → VarName) (entry other : VarName → ClassEntry) → ((y : VarName) → other y ≡ entry y) → AreClasses root entry → AreClasses root other
 tells_same root entry other h t = record {
   parent = λ x. rw (h x) (t.parent x);
   end = λ x top. rw (h x) (t.end x (rw (h x) at top));
   one = λ x y p q e. t.one x y (rw (h x) at p) (rw (h y) at q) e;
+  ring = λ x top. let r = t.ring x (rw (h x) at top) in (r.0, ring_same root entry other x r.0 h r.1);
 }
 
 -- ---- one tree below the top of another
 
 abbrev pub below_entry : (VarName → ClassEntry) → VarName → VarName → ClassEntry
-below_entry entry c w = record { parent = w; size = (entry c).size; end = (entry c).end }
+below_entry entry c w = record { parent = w; size = (entry c).size; end = (entry c).end; next = (entry w).next }
 
 abbrev pub above_entry : (VarName → ClassEntry) → VarName → VarName → VarName → ClassEntry
-above_entry entry c w e = record { parent = w; size = (entry c).size + (entry w).size; end = e }
+above_entry entry c w e = record { parent = w; size = (entry c).size + (entry w).size; end = e; next = (entry c).next }
 
 abbrev pub forest_after : ClassEntries → VarName → VarName → VarName → ClassEntries
 forest_after es c w e = set_value (equal_var w) (set_value (equal_var c) es (below_entry (entry_in es) c w)) (above_entry (entry_in es) c w e)
@@ -257,6 +361,9 @@ joined_right root x y z e = go (equal_var (root z) (root x))
 joined_other : (root : VarName → VarName) (x y z : VarName) → (root z ≡ root x → ⊥) → joined_root root x y z ≡ root z
 joined_other root x y z h = rw (apart_false (root z) (root x) h) refl
 
+joined_apart : (root : VarName → VarName) (x y z : VarName) → equal_var (root z) (root x) ≡ false → joined_root root x y z ≡ root z
+joined_apart root x y z e = ap (λ (b : Bool). cond b (root y) (root z)) e
+
 child_joined : (root : VarName → VarName) (x y c w : VarName) → AreRepresentatives root x y c w → joined_root root x y c ≡ root y
 child_joined root x y c w (inl h) = joined_when root x y c h.0
 child_joined root x y c w (inr h) = joined_right root x y c h.0
@@ -291,7 +398,7 @@ kept entry c w e z differ t = go (equal_var w z) (equal_var c z) refl refl t
 
 pub classes_after_union : (root : VarName → VarName) (entry : VarName → ClassEntry) (x y c w e : VarName) → AreClasses root entry → IsRepresentative entry c → IsRepresentative entry w → (c ≡ w → ⊥) → (root x ≡ root y → ⊥) →
     AreRepresentatives root x y c w → e ≡ root y → AreClasses (joined_root root x y) (entry_after_union entry c w e)
-classes_after_union root entry x y c w e t tc tw differ apart representatives ends = record { parent = parent; end = end; one = one }
+classes_after_union root entry x y c w e t tc tw differ apart representatives ends = record { parent = parent; end = end; one = one; ring = ring }
   where
     parent : (z : VarName) → joined_root root x y (entry_after_union entry c w e z).parent ≡ joined_root root x y z
     parent z = go (equal_var w z) (equal_var c z) refl refl
@@ -322,6 +429,131 @@ classes_after_union root entry x y c w e t tc tw differ apart representatives en
         go (other p nc nw) (joint q) =
             absurd (not_right root entry x y c w a t tc tw representatives p nc nw (sym (alone_root a p nc nw) ∙ same ∙ ap (joined_root root x y) (sym q) ∙ top_joined root x y c w representatives))
         go (other p nc nw) (other q mc mw) = t.one a b p q (sym (alone_root a p nc nw) ∙ same ∙ alone_root b q mc mw)
+
+    -- the next variables after the joining
+    next_else : (z : VarName) → (c ≡ z → ⊥) → (w ≡ z → ⊥) → (entry_after_union entry c w e z).next ≡ (entry z).next
+    next_else z nc nw = rw (apart_false w z nw, apart_false c z nc) refl
+
+    next_top : (entry_after_union entry c w e w).next ≡ (entry c).next
+    next_top = ap (λ (r : ClassEntry). r.next) (above_there entry c w e)
+
+    next_child : (entry_after_union entry c w e c).next ≡ (entry w).next
+    next_child = rw (apart_false w c (λ k. differ (sym k)), same_name_refl c) refl
+
+    -- the two classes are apart
+    split : (root c ≡ root w → ⊥)
+    split k = differ (t.one c w tc tw k)
+
+    -- of a ring that neither top is in but as its first
+    others : (x : VarName) (ys : List VarName) → ((y : VarName) → Contains ys y → (c ≡ y → ⊥) × (w ≡ y → ⊥)) → Each (λ (y : VarName). (entry_after_union entry c w e y).next ≡ (entry y).next) ys
+    others x [] f = tt
+    others x (y ∷ ys) f = let apart = f y (Contains-head y ys) in (next_else y apart.0 apart.1, others x ys (λ z k. f z (Contains-tail y z ys k)))
+
+    ring : (z : VarName) → IsRepresentative (entry_after_union entry c w e) z → (ys : List VarName) × IsRing (joined_root root x y) (entry_after_union entry c w e) z ys
+    ring z tz = go (kept entry c w e z differ tz)
+      where
+        cs : List VarName
+        cs = (t.ring c tc).0
+
+        ws : List VarName
+        ws = (t.ring w tw).0
+
+        rc : IsRing root entry c cs
+        rc = (t.ring c tc).1
+
+        rtop : IsRing root entry w ws
+        rtop = (t.ring w tw).1
+
+        of_child : (v : VarName) → Contains cs v → root v ≡ root c
+        of_child v k = (rc.all v).0 (Contains-tail c v cs k)
+
+        of_top : (v : VarName) → Contains ws v → root v ≡ root w
+        of_top v k = (rtop.all v).0 (Contains-tail w v ws k)
+
+        apart_child : (v : VarName) → Contains cs v → (c ≡ v → ⊥) × (w ≡ v → ⊥)
+        apart_child v k = (Each-member (λ (u : VarName). c ≢ u) cs v rc.first k, λ q. split (sym (of_child v k) ∙ ap root (sym q)))
+
+        apart_top : (v : VarName) → Contains ws v → (c ≡ v → ⊥) × (w ≡ v → ⊥)
+        apart_top v k = (λ q. split (ap root q ∙ of_top v k), Each-member (λ (u : VarName). w ≢ u) ws v rtop.first k)
+
+        go : IsKept entry c w z → (ys : List VarName) × IsRing (joined_root root x y) (entry_after_union entry c w e) z ys
+        go (joint p) = subst (λ (v : VarName). (ys : List VarName) × IsRing (joined_root root x y) (entry_after_union entry c w e) v ys) p (
+          cs ++ c ∷ ws,
+          record {
+            path = path_on (entry_after_union entry c w e) w c w cs ws
+                (path_moved entry (entry_after_union entry c w e) w c cs c next_top (others c cs apart_child) rc.path)
+                (path_moved entry (entry_after_union entry c w e) c w ws w next_child (others w ws apart_top) rtop.path);
+            first = each_append (λ (v : VarName). w ≢ v) cs (c ∷ ws) (each_from (λ (v : VarName). w ≢ v) cs (λ v k. (apart_child v k).1)) ((λ q. differ (sym q)), rtop.first);
+            all = λ v. (into v, from v);
+            long = let a = rc.long in let b = rtop.long in let more = length-append cs (c ∷ ws) in
+                let sum : (entry_after_union entry c w e w).size ≡ (entry c).size + (entry w).size = ap (λ (r : ClassEntry). r.size) (above_there entry c w e) in omega (arith, a, b, more, sum);
+          },
+        )
+          where
+            into : (v : VarName) → Contains (w ∷ (cs ++ c ∷ ws)) v → joined_root root x y v ≡ joined_root root x y w
+            into v k = which (Contains-cons_cases w v (cs ++ c ∷ ws) k)
+              where
+                tail : Contains cs v ⊎ Contains (c ∷ ws) v → joined_root root x y v ≡ joined_root root x y w
+                tail (inl q) = joined_same root x y v c (of_child v q) ∙ child_joined root x y c w representatives ∙ sym (top_joined root x y c w representatives)
+                tail (inr q) = last (Contains-cons_cases c v ws q)
+                  where
+                    last : (c ≡ v) ⊎ Contains ws v → joined_root root x y v ≡ joined_root root x y w
+                    last (inl r) = ap (joined_root root x y) (sym r) ∙ child_joined root x y c w representatives ∙ sym (top_joined root x y c w representatives)
+                    last (inr r) = joined_same root x y v w (of_top v r)
+
+                which : (w ≡ v) ⊎ Contains (cs ++ c ∷ ws) v → joined_root root x y v ≡ joined_root root x y w
+                which (inl q) = ap (joined_root root x y) (sym q)
+                which (inr q) = tail (Contains-append_cases cs (c ∷ ws) v q)
+
+            -- what is of the joined class was of one of the two
+            was : (v : VarName) → joined_root root x y v ≡ root y → (root v ≡ root c) ⊎ (root v ≡ root w)
+            was v k = by representatives (equal_var (root v) (root x)) refl
+              where
+                by : AreRepresentatives root x y c w → (b : Bool) → equal_var (root v) (root x) ≡ b → (root v ≡ root c) ⊎ (root v ≡ root w)
+                by (inl h) true q = inl (same_back (root v) (root x) q ∙ sym h.0)
+                by (inr h) true q = inr (same_back (root v) (root x) q ∙ sym h.1)
+                by (inl h) false q = inr (sym (joined_apart root x y v q) ∙ k ∙ sym h.1)
+                by (inr h) false q = inl (sym (joined_apart root x y v q) ∙ k ∙ sym h.0)
+
+            from : (v : VarName) → joined_root root x y v ≡ joined_root root x y w → Contains (w ∷ (cs ++ c ∷ ws)) v
+            from v k = side (was v (k ∙ top_joined root x y c w representatives))
+              where
+                side : (root v ≡ root c) ⊎ (root v ≡ root w) → Contains (w ∷ (cs ++ c ∷ ws)) v
+                side (inl q) = Contains-tail w v (cs ++ c ∷ ws) (child (Contains-cons_cases c v cs ((rc.all v).1 q)))
+                  where
+                    child : (c ≡ v) ⊎ Contains cs v → Contains (cs ++ c ∷ ws) v
+                    child (inl r) = Contains-append_right cs (c ∷ ws) v (subst (Contains (c ∷ ws)) r (Contains-head c ws))
+                    child (inr r) = Contains-append_left cs (c ∷ ws) v r
+                side (inr q) = top (Contains-cons_cases w v ws ((rtop.all v).1 q))
+                  where
+                    top : (w ≡ v) ⊎ Contains ws v → Contains (w ∷ (cs ++ c ∷ ws)) v
+                    top (inl r) = subst (Contains (w ∷ (cs ++ c ∷ ws))) r (Contains-head w (cs ++ c ∷ ws))
+                    top (inr r) = Contains-tail w v (cs ++ c ∷ ws) (Contains-append_right cs (c ∷ ws) v (Contains-tail c v ws r))
+        go (other p nc nw) = (
+          zs,
+          record {
+            path = path_moved entry (entry_after_union entry c w e) z z zs z (next_else z nc nw) (others z zs far) rz.path;
+            first = rz.first;
+            all = λ v. (λ k. joined_same root x y v z ((rz.all v).0 k), λ k. (rz.all v).1 (back v k));
+            long = rz.long ∙ sym (rw (apart_false w z nw, apart_false c z nc) refl);
+          },
+        )
+          where
+            zs : List VarName
+            zs = (t.ring z p).0
+
+            rz : IsRing root entry z zs
+            rz = (t.ring z p).1
+
+            far : (v : VarName) → Contains zs v → (c ≡ v → ⊥) × (w ≡ v → ⊥)
+            far v k = let own = (rz.all v).0 (Contains-tail z v zs k) in (λ q. nc (t.one c z tc p (ap root q ∙ own)), λ q. nw (t.one w z tw p (ap root q ∙ own)))
+
+            back : (v : VarName) → joined_root root x y v ≡ joined_root root x y z → root v ≡ root z
+            back v k = by (equal_var (root v) (root x)) refl
+              where
+                by : (b : Bool) → equal_var (root v) (root x) ≡ b → root v ≡ root z
+                by true q = absurd (not_right root entry x y c w z t tc tw representatives p nc nw (sym (sym (joined_when root x y v (same_back (root v) (root x) q)) ∙ k ∙ alone_root z p nc nw)))
+                by false q = sym (joined_apart root x y v q) ∙ k ∙ alone_root z p nc nw
 
 -- the same where the entries were written down in between
 pub join_tells : (root : VarName → VarName) (entry settled new : VarName → ClassEntry) (x y c w e : VarName) → AreClasses root entry → ((z : VarName) → settled z ≡ entry z) →

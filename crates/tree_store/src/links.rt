@@ -1,6 +1,6 @@
 //! Classes of variables.
 
-ghost use Rattle.std.specs.Prelude.{◌≡◌, ◌≤◌, [], OnOk, OnErr, IsSome};
+ghost use Rattle.std.specs.Prelude.{◌≡◌, ◌↔◌, ◌≤◌, [], Contains, IfOk, IsTrue, OnOk, OnErr, IsSome};
 ghost use Rattle.std.specs.Map.{lookup, set_value};
 ghost use Rattle.tree_node.specs.declared.names.VarName.{VarName};
 ghost use Rattle.tree_node.specs.Store.{equal_var, joined_root};
@@ -12,12 +12,13 @@ use std::marker::Model;
 use tree_node::{Term, VarName};
 
 /// The entry of a variable in the tree of its class: its parent, itself at the top, and there how many variables the
-/// class has, and at which of them its links end.
+/// class has, and at which of them its links end; and the next variable of the class, which all stand in a ring.
 #[derive(Clone, Copy)]
 pub struct ClassEntry {
     pub parent: VarName,
     pub size: u64,
     pub end: VarName,
+    pub next: VarName,
 }
 
 /// The classes of variables that links join, which contracts see as the entries of the variables. The smaller tree is put
@@ -52,6 +53,7 @@ fn entry_of(forest: &IndexMap<VarName, ClassEntry>, var: VarName) -> ClassEntry
             parent: var,
             size: 1,
             end: var,
+            next: var,
         },
     }
 }
@@ -71,6 +73,7 @@ fn make_set(forest: &mut IndexMap<VarName, ClassEntry>, var: VarName) -> Result<
                 parent: var,
                 size: 1,
                 end: var,
+                next: var,
             };
             forest.insert(var, alone)?;
             Ok(())
@@ -108,11 +111,13 @@ fn attach(forest: &mut IndexMap<VarName, ClassEntry>, child: VarName, top: VarNa
         parent: top,
         size: small.size,
         end: small.end,
+        next: great.next,
     };
     let above = ClassEntry {
         parent: top,
         size: small.size + great.size,
         end,
+        next: small.next,
     };
     put(forest, child, below);
     put(forest, top, above);
@@ -153,6 +158,33 @@ impl Links {
     {
         let top = self.find(var);
         entry_of(&self.forest, top).end
+    }
+
+    /// Whether a variable is alone in its class.
+    pub fn is_alone(&self, var: VarName) -> bool
+        ensures { (root : VarName → VarName) → AreClasses root (entry_in self.now) → IsTrue result ↔ ((y : VarName) → root y ≡ root var → y ≡ var) }
+    {
+        let top = self.find(var);
+        let entry = entry_of(&self.forest, top);
+        entry.size == 1
+    }
+
+    /// The variables of a variable's class.
+    pub fn members(&self, alloc: Global, var: VarName) -> Result<Vec<VarName>, AllocError>
+        ensures { IfOk result (λ v. (root : VarName → VarName) → AreClasses root (entry_in self.now) → (y : VarName) → Contains v.items y ↔ (root y ≡ root var)) }
+    {
+        let mut members = Vec::new(alloc);
+        let top = self.find(var);
+        let first = entry_of(&self.forest, top);
+        let mut at = top;
+        let mut left = first.size;
+        'members: while left > 0 {
+            members.push(at)?;
+            let entry = entry_of(&self.forest, at);
+            at = entry.next;
+            left -= 1;
+        }
+        Ok(members)
     }
 
     // Joins the class of a variable to another one, which keeps its end.

@@ -21,7 +21,6 @@ use Rattle.world_model.specs.Schedule as Schedule
 use Rattle.oz_model.specs.Run.{AtRest}
 use Rattle.world_cells.specs.FitRuns.{IsFitEntry, SiteFitRun}
 use Rattle.world_model.specs.World.{Sites, Mail, IsOnItsWay, world_of, eqs, records, threads, counters}
-use Rattle.world_model.specs.Names.{here_at}
 use Rattle.world_model.proofs.PutLemmas.{nat_decides}
 use Rattle.world_variables.proofs.QuietLemmas.{waits}
 use Rattle.world_cells.proofs.UnitLemmas.{Reached}
@@ -100,7 +99,7 @@ quiet_mail n j q = no_mail (journal.travelling j) (λ k to m h. ((quiet_tells n 
 
 -- and the machine rests
 pub rests : (p : List Stmt) (n limit : ℕ) (j : List Turn) (f : Sites) → 1 ≤ n → Each (IsSiteIn n) j → ((i : ℕ) → SiteFitRun p n limit i j (f i)) → (r : Reached p (world_of j f) (Schedule.schedule j)) → IsTrue (is_quiet n j) → AtRest p r.centre
-rests p n limit j f some inside runs r q = quiet_rests p (here_at (records f)) (eqs f) (records f) (threads f) (counters f) (world_of j f).mail r.centre r.parts (record {
+rests p n limit j f some inside runs r q = quiet_rests p (eqs f) (records f) (threads f) (counters f) (world_of j f).mail r.centre r.parts (record {
   none = none;
   waits = λ i m st h. stands i m st h (in_or i n);
   cells = λ i m st d h. nobody_waits (world_of j f) r.centre r.cells (no_mail (world_of j f).mail none) i m st d h;

@@ -24,6 +24,7 @@ use Rattle.oz_model.specs.Step as Step
 use Rattle.oz_model.specs.Step.{Step, IsAllowed, IsBindFor, need_of, stack_of, effect_of, next, threads_born, end_count}
 use Rattle.oz_model.proofs.SoundLemmas.{runs_are_sound}
 use Rattle.bind_protocol.specs.Records.{Records, knowledge}
+use Rattle.thread_roster.specs.Binds.{goes_on}
 use Rattle.site_model.specs.Site.{Site, ThreadState, Threads, cell_record, runnable_threads}
 use Rattle.site_model.specs.Bundle.{message_vars, message_bundle}
 use Rattle.site_model.specs.Transition.{Transition}
@@ -240,7 +241,7 @@ apart_asked limit x t n s = record { still = asked_for_nothing limit x t n s; wa
   where
     waiters : (b : CellName) (o : Option (Option Term)) → SameWaiters s.threads (bind_request_as o limit x t n s).site.threads b
     waiters b None = waiters_same s.threads b
-    waiters b (Some None) = woken_waiters x s.threads b
+    waiters b (Some None) = woken_waiters ((x, t) ∷ s.equations) x s.threads b
     waiters b (Some (Some q)) = waiters_same s.threads b
 
     silent : (o : Option (Option Term)) → (bind_request_as o limit x t n s).lines ≡ []
@@ -255,7 +256,7 @@ apart_asked limit x t n s = record { still = asked_for_nothing limit x t n s; wa
 
     once : (o : Option (Option Term)) → AreDistinct (names s.threads) → AreDistinct (names (bind_request_as o limit x t n s).site.threads)
     once None h = h
-    once (Some None) h = subst (λ (xs : List ThreadName). AreDistinct xs) (sym (woken_names x s.threads)) h
+    once (Some None) h = subst (λ (xs : List ThreadName). AreDistinct xs) (sym (woken_names (goes_on ((x, t) ∷ s.equations) x) s.threads)) h
     once (Some (Some q)) h = h
 
     picks : (o : Option (Option Term)) → PicksBind (bind_request_as o limit x t n s).picks

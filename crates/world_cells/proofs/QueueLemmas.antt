@@ -8,6 +8,7 @@ use Rattle.tree_node.specs.declared.names.ThreadName.{ThreadName}
 use Rattle.tree_node.specs.Assoc.{value_of, with_value, with_optional_value}
 use Rattle.tree_node.specs.Each.{Each, AreDistinct}
 use Rattle.tree_node.specs.State.{Stack, equal_thread}
+use Rattle.tree_node.specs.Store.{Store}
 use Rattle.tree_node.proofs.ClassLemmas.{Contains-cons_cases, Contains-head, Contains-tail}
 use Rattle.token_chain.specs.declared.token.Token.{Token}
 use Rattle.token_chain.specs.declared.token.Token.TheVariants.{Away, Asked, Here}
@@ -17,7 +18,9 @@ use Rattle.token_chain.specs.Rows.{leave_with, leave_reply, forward_reply, get_r
 use Rattle.site_model.specs.Site.{Site, ThreadState, Threads, CellRecord, cell_record, runnable_threads}
 use Rattle.thread_roster.specs.declared.mode.Mode.{Mode}
 use Rattle.thread_roster.specs.declared.mode.Mode.TheVariants.{Runs, WaitsFor}
-use Rattle.thread_roster.specs.Threads.{wake_all, wake}
+use Rattle.thread_roster.specs.Binds.{goes_on}
+use Rattle.thread_roster.specs.Threads.{wake_where}
+use Rattle.thread_roster.proofs.ThreadLemmas.{woken_by}
 use Rattle.site_model.specs.Transition.{Transition}
 use Rattle.site_model.specs.Cells.{leave_row, forward_row, last_before, with_last_asker, get_row, request_row}
 use Rattle.world_model.specs.World.{Sites, cell_records, threads, put}
@@ -56,14 +59,14 @@ queues_put f i s all here j = at_all f i s (λ (k : ℕ) (x : Site). (d : CellNa
 
 -- ---- who waits after a change of the threads
 
-pub woken_waiters : (x : VarName) (ts : Threads) (d : CellName) → SameWaiters ts (wake_all x ts) d
-woken_waiters x ts d = record {
-  old = λ n st h. old n st (woken_old x ts n st (WaitsFor d) h);
-  new = λ n st h. woken_new x ts n st (WaitsFor d) h;
+pub woken_waiters : (s : Store) (x : VarName) (ts : Threads) (d : CellName) → SameWaiters ts (wake_where (goes_on s x) ts) d
+woken_waiters s x ts d = record {
+  old = λ n st h. old n st (woken_old (goes_on s x) ts n st (WaitsFor d) h);
+  new = λ n st h. woken_new (goes_on s x) ts n st (WaitsFor d) h;
 }
   where
-    old : (n : ThreadName) (st : Stack) → (m : Mode) × (value_of equal_thread ts n ≡ Some (st, m)) × (wake x m ≡ WaitsFor d) → value_of equal_thread ts n ≡ Some (st, WaitsFor d)
-    old n st (m, e, f) = subst (λ (o : Mode). value_of equal_thread ts n ≡ Some (st, o)) (wake_cell x d m f) e
+    old : (n : ThreadName) (st : Stack) → (m : Mode) × (value_of equal_thread ts n ≡ Some (st, m)) × (woken_by (goes_on s x) m ≡ WaitsFor d) → value_of equal_thread ts n ≡ Some (st, WaitsFor d)
+    old n st (m, e, f) = subst (λ (o : Mode). value_of equal_thread ts n ≡ Some (st, o)) (wake_cell s x d m f) e
 
 abbrev pub IsOtherMode : CellName → Option ThreadState → Type 0
 IsOtherMode d r = (st : Stack) → r ≢ Some (st, WaitsFor d)

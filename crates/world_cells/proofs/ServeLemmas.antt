@@ -21,7 +21,7 @@ use Rattle.thread_roster.specs.declared.mode.Mode.TheVariants.{WaitsFor}
 use Rattle.thread_roster.specs.declared.mode.Mode.TheVariants as site
 use Rattle.world_model.specs.World.{Mail, at_put}
 use Rattle.world_model.specs.Names.{IsHere, IsHome, IsMade, IsCentreMade, here_at}
-use Rattle.world_model.specs.Matches.{PartsMatch, IsThreadAt, IsWaiting, IsWaitingAny, IsAwaited, IsOpenOn, NeedsFirst, IsAsked, IsExchange}
+use Rattle.world_model.specs.Matches.{PartsMatch, IsThreadAt, IsWaiting, IsNeeding, IsWaitingAny, IsAwaited, IsOpenOn, NeedsFirst, IsAsked, IsExchange}
 use Rattle.world_model.proofs.PutLemmas.{at_all, at_here, at_twice}
 use Rattle.world_variables.proofs.LearnLemmas.{placed_alike}
 use Rattle.world_model.proofs.KeyLemmas.{with_here, with_there, goes_cases}
@@ -76,8 +76,10 @@ module _ (p : List Stmt) (here : ℕ → Name → Type 0) (eqs : ℕ → Store) 
       addressed = parts.addressed;
       waiting = record {
         asks = λ k to x t o bundle h. asked x t o (parts.waiting.asks k to x t o bundle h);
-        waits = at_all threads i resumed (λ j (ts : Threads). (o : ThreadName) (su : Stack) (x : VarName) → value_of equal_thread ts o ≡ Some (su, site.Waits x) → IsFree (eqs j) x × IsHere (records j) x × (NeedsFirst p (eqs j) su x ⊎ IsAsked mail s.equations o x))
+        waits = at_all threads i resumed (λ j (ts : Threads). (o : ThreadName) (su : Stack) (x : VarName) → value_of equal_thread ts o ≡ Some (su, site.Waits x) → IsFree (eqs j) x × IsHere (records j) x × IsAsked mail s.equations o x)
             (λ o su x h. wait o su x (resumed_old o (su, site.Waits x) h)) (λ j other o su x h. parts.waiting.waits j o su x h);
+        needs = at_all threads i resumed (λ j (ts : Threads). (o : ThreadName) (su : Stack) (x : VarName) → value_of equal_thread ts o ≡ Some (su, site.Needs x) → (j ≢ 0) × NeedsFirst p (eqs j) su x)
+            (λ o su x h. need o su x (resumed_old o (su, site.Needs x) h)) (λ j other o su x h. parts.waiting.needs j o su x h);
         compares = at_all threads i resumed (λ j (ts : Threads). (o : ThreadName) (su : Stack) (xs : List VarName) → value_of equal_thread ts o ≡ Some (su, site.WaitsAny xs) → IsOpenOn p (eqs j) su xs × ((x : VarName) → Contains xs x → IsFree (eqs j) x × IsHere (records j) x))
             (λ o su xs h. compare o su xs (resumed_old o (su, site.WaitsAny xs) h)) (λ j other o su xs h. parts.waiting.compares j o su xs h);
         exchanges = at_all threads i resumed (λ j (ts : Threads). (o : ThreadName) (su : Stack) (d : CellName) → value_of equal_thread ts o ≡ Some (su, WaitsFor d) → IsExchange p (eqs j) su d)
@@ -97,9 +99,13 @@ module _ (p : List Stmt) (here : ℕ → Name → Type 0) (eqs : ℕ → Store) 
         asked x t o (inl h) = inl h
         asked x t o (inr (j, su, w, wants)) = inr (j, su, waiting_stays j o su x w, wants)
 
-        wait : (o : ThreadName) (su : Stack) (x : VarName) → ((o ≡ n) × (◌≡◌ {A = ThreadState} (su, site.Waits x) (st, site.Runs))) ⊎ ((n ≢ o) × IsWaiting threads i o su x) → IsFree (eqs i) x × IsHere (records i) x × (NeedsFirst p (eqs i) su x ⊎ IsAsked mail s.equations o x)
+        wait : (o : ThreadName) (su : Stack) (x : VarName) → ((o ≡ n) × (◌≡◌ {A = ThreadState} (su, site.Waits x) (st, site.Runs))) ⊎ ((n ≢ o) × IsWaiting threads i o su x) → IsFree (eqs i) x × IsHere (records i) x × IsAsked mail s.equations o x
         wait o su x (inr h) = parts.waiting.waits i o su x h.1
         wait o su x (inl e) = let modes : site.Waits x ≡ site.Runs = ap (λ (v : ThreadState). v.1) e.1 in absurd (cc)
+
+        need : (o : ThreadName) (su : Stack) (x : VarName) → ((o ≡ n) × (◌≡◌ {A = ThreadState} (su, site.Needs x) (st, site.Runs))) ⊎ ((n ≢ o) × IsNeeding threads i o su x) → (i ≢ 0) × NeedsFirst p (eqs i) su x
+        need o su x (inr h) = parts.waiting.needs i o su x h.1
+        need o su x (inl e) = let modes : site.Needs x ≡ site.Runs = ap (λ (v : ThreadState). v.1) e.1 in absurd (cc)
 
         compare : (o : ThreadName) (su : Stack) (xs : List VarName) → ((o ≡ n) × (◌≡◌ {A = ThreadState} (su, site.WaitsAny xs) (st, site.Runs))) ⊎ ((n ≢ o) × IsWaitingAny threads i o su xs) → IsOpenOn p (eqs i) su xs × ((x : VarName) → Contains xs x → IsFree (eqs i) x × IsHere (records i) x)
         compare o su xs (inr h) = parts.waiting.compares i o su xs h.1

@@ -43,10 +43,11 @@ use Rattle.token_chain.specs.declared.token.Token.TheVariants.{Away}
 use Rattle.token_chain.specs.Holding.{Holding}
 use Rattle.token_chain.proofs.MoveLemmas.{tokens_have_contents}
 use Rattle.site_model.specs.Site.{Site, ThreadState, Threads, CellRecord, cell_record, thread_state}
+use Rattle.thread_roster.specs.declared.mode.Mode.{Mode}
 use Rattle.thread_roster.specs.declared.mode.Mode.TheVariants as site
 use Rattle.site_model.specs.Transition.{Transition, without_output}
 use Rattle.site_model.specs.Cells.{request_row, with_exchange_waiting}
-use Rattle.site_model.specs.Unit.{IsUnit, IsUnitFor, IsStepOrRequest, IsRootBind, bind_attempt, with_waiting, with_waiting_any, counters_after, token_content, content_here, next_names, step_row, step_pick, IsTokenHere}
+use Rattle.site_model.specs.Unit.{IsUnit, IsUnitFor, IsStepOrRequest, IsRootBind, bind_attempt, counters_after, token_content, content_here, next_names, step_row, step_pick, IsTokenHere, with_mode}
 use Rattle.world_model.specs.World.{World, after_transition, records, threads, counters, eqs}
 use Rattle.world_model.specs.Names.{IsHere, here_at}
 use Rattle.world_model.specs.Matches.{IsNumbered, CellsMatch, IsExchange}
@@ -280,17 +281,8 @@ module _ (p : List Stmt) (n limit i : ℕ) (real : i ≢ 0) (w : World) (ks : Li
       stays = subst (λ (ls : List Pick). IsRun p c ls c2) none runs
 
   -- a thread that could go on does not wait for a cell afterwards
-  variable_waits : (th : ThreadName) (st : Stack) (z : VarName) → value_of equal_thread (threads w.sites i) th ≡ Some (st, site.Runs) → (b : CellName) → SameWaiters (w.sites i).threads (with_value equal_thread (w.sites i).threads th (st, site.Waits z)) b
-  variable_waits th st z at b = goes_waiters (w.sites i).threads th (Some (st, site.Waits z)) (st, site.Runs) b at (λ r q. running_not st r b q) (λ r q. other r q)
-    where
-      other : (r : Stack) → ◌≡◌ {A = Option ThreadState} (Some (st, site.Waits z)) (Some (r, site.WaitsFor b)) → ⊥
-      other r q = let f : site.Waits z ≡ site.WaitsFor b = ap mode_in q in cc
-
-  several_wait : (th : ThreadName) (st : Stack) (zs : List VarName) → value_of equal_thread (threads w.sites i) th ≡ Some (st, site.Runs) → (b : CellName) → SameWaiters (w.sites i).threads (with_value equal_thread (w.sites i).threads th (st, site.WaitsAny zs)) b
-  several_wait th st zs at b = goes_waiters (w.sites i).threads th (Some (st, site.WaitsAny zs)) (st, site.Runs) b at (λ r q. running_not st r b q) (λ r q. other r q)
-    where
-      other : (r : Stack) → ◌≡◌ {A = Option ThreadState} (Some (st, site.WaitsAny zs)) (Some (r, site.WaitsFor b)) → ⊥
-      other r q = let f : site.WaitsAny zs ≡ site.WaitsFor b = ap mode_in q in cc
+  stands_waiters : (th : ThreadName) (st : Stack) (m : Mode) → ((b : CellName) → m ≢ site.WaitsFor b) → value_of equal_thread (threads w.sites i) th ≡ Some (st, site.Runs) → (b : CellName) → SameWaiters (w.sites i).threads (with_value equal_thread (w.sites i).threads th (st, m)) b
+  stands_waiters th st m never at b = goes_waiters (w.sites i).threads th (Some (st, m)) (st, site.Runs) b at (λ r q. running_not st r b q) (λ r q. never b (ap mode_in q))
 
   pub unit_reached : (th : ThreadName) (d : Transition) → IsUnit p n limit th (w.sites i) d → Reached p (after_transition w i d) (ks ++ d.picks)
   unit_reached th d (st, at, unit) = go (stack_need p (eqs w.sites i) st) refl unit
@@ -311,21 +303,21 @@ module _ (p : List Stmt) (n limit i : ℕ) (real : i ≢ 0) (w : World) (ks : Li
               stack_same : (a b : Stack) → ◌≡◌ {A = Option ThreadState} (Some (a, site.Runs)) (Some (b, site.Runs)) → a ≡ b
               stack_same a b e = ap stack_in e
 
-      waits : (y z : VarName) → stack_need p (eqs w.sites i) st ≡ need.Waits y → d ≡ without_output (with_waiting th st z (w.sites i)) → Goal
-      waits y z e is = plain_reached d (follows (λ kinds q. not_takes y kinds (sym e ∙ q))) (ap (λ (q : Transition). q.picks) is)
+      needs : (y z : VarName) → stack_need p (eqs w.sites i) st ≡ need.Waits y → d ≡ without_output (with_mode th st (site.Needs z) (w.sites i)) → Goal
+      needs y z e is = plain_reached d (follows (λ kinds q. not_takes y kinds (sym e ∙ q))) (ap (λ (q : Transition). q.picks) is)
           (subst (NoCells (w.sites i)) (sym is) (record { cell_records = refl; managers = refl; site = refl; silent = tt }))
-          (λ b. subst (λ (q : Transition). SameWaiters (w.sites i).threads q.site.threads b) (sym is) (variable_waits th st z at b))
+          (λ b. subst (λ (q : Transition). SameWaiters (w.sites i).threads q.site.threads b) (sym is) (stands_waiters th st (site.Needs z) (λ (c : CellName) (q : site.Needs z ≡ site.WaitsFor c). cc) at b))
           (ap (λ (q : Transition). q.site.records) is)
           (ap (λ (q : Transition). q.lines) is)
-          (subst (λ (q : Transition). SameSums (w.sites i) q.site) (sym is) (record { ended = refl; names = with_names (w.sites i).threads th (st, site.Waits z) }))
+          (subst (λ (q : Transition). SameSums (w.sites i) q.site) (sym is) (record { ended = refl; names = with_names (w.sites i).threads th (st, site.Needs z) }))
         where
           not_takes : (y : VarName) (kinds : List NameKind) → need.Waits y ≡ Takes kinds → ⊥
           not_takes y kinds q = cc
 
-      waits_any : (q : Pair) (zs : List VarName) → stack_need p (eqs w.sites i) st ≡ need.WaitsAny q → d ≡ without_output (with_waiting_any th st zs (w.sites i)) → Goal
+      waits_any : (q : Pair) (zs : List VarName) → stack_need p (eqs w.sites i) st ≡ need.WaitsAny q → d ≡ without_output (with_mode th st (site.WaitsAny zs) (w.sites i)) → Goal
       waits_any q zs e is = plain_reached d (follows (λ kinds r. not_takes kinds (sym e ∙ r))) (ap (λ (t : Transition). t.picks) is)
           (subst (NoCells (w.sites i)) (sym is) (record { cell_records = refl; managers = refl; site = refl; silent = tt }))
-          (λ b. subst (λ (t : Transition). SameWaiters (w.sites i).threads t.site.threads b) (sym is) (several_wait th st zs at b))
+          (λ b. subst (λ (t : Transition). SameWaiters (w.sites i).threads t.site.threads b) (sym is) (stands_waiters th st (site.WaitsAny zs) (λ (c : CellName) (q : site.WaitsAny zs ≡ site.WaitsFor c). cc) at b))
           (ap (λ (t : Transition). t.site.records) is)
           (ap (λ (t : Transition). t.lines) is)
           (subst (λ (t : Transition). SameSums (w.sites i) t.site) (sym is) (record { ended = refl; names = with_names (w.sites i).threads th (st, site.WaitsAny zs) }))
@@ -345,7 +337,7 @@ module _ (p : List Stmt) (n limit i : ℕ) (real : i ≢ 0) (w : World) (ks : Li
               (subst (IsReachable (w.sites i)) (sym (ap (λ (y : Effect). y.cell) (bind_effect p (eqs w.sites i) st a b (u, t) e))) tt))
           one false q is = plain_reached d (follows (λ kinds r. not_takes kinds (sym e ∙ r))) (ap (λ (y : Transition). y.picks) is)
               (subst (NoCells (w.sites i)) (sym is) (record { cell_records = refl; managers = refl; site = refl; silent = (tt, tt) }))
-              (λ b. subst (λ (y : Transition). SameWaiters (w.sites i).threads y.site.threads b) (sym is) (variable_waits th st u at b))
+              (λ b. subst (λ (y : Transition). SameWaiters (w.sites i).threads y.site.threads b) (sym is) (stands_waiters th st (site.Waits u) (λ (c : CellName) (q : site.Waits u ≡ site.WaitsFor c). cc) at b))
               (ap (λ (y : Transition). y.site.records) is)
               (ap (λ (y : Transition). y.lines) is)
               (subst (λ (y : Transition). SameSums (w.sites i) y.site) (sym is) (record { ended = refl; names = with_names (w.sites i).threads th (st, site.Waits u) }))
@@ -371,7 +363,7 @@ module _ (p : List Stmt) (n limit i : ℕ) (real : i ≢ 0) (w : World) (ks : Li
               (asks_reached th st x new at (lone_exchange p (eqs w.sites i) (next_names i (counters w.sites i) kinds) kinds st x new told e q) elsewhere)
 
       go : (d0 : Need) → stack_need p (eqs w.sites i) st ≡ d0 → IsUnitFor p n limit (w.sites i) th st d0 d → Goal
-      go (need.Waits y) e (z, class, is) = waits y z e is
+      go (need.Waits y) e (z, class, is) = needs y z e is
       go (need.WaitsAny q) e (zs, open_on, is) = waits_any q zs e is
       go (need.Binds a b) e (u, t, root, is) = binds a b e u t root is
       go (Takes kinds) e s = takes kinds e (w.sites i).records.site number (stack_effect p (eqs w.sites i) (next_names (w.sites i).records.site (counters w.sites i) kinds) None st).cell refl s

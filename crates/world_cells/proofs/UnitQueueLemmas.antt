@@ -52,8 +52,8 @@ told_waiters s x t d = go (is_own s.records x) (entry_of s.records.proxies x) re
   where
     go : (o : Bool) (k : Option (Option Term)) → is_own s.records x ≡ o → entry_of s.records.proxies x ≡ k → SameWaiters s.threads (with_known_equation s x t).threads d
     go true k e f = rw e (waiters_same s.threads d)
-    go false None e f = rw (e, f) (woken_waiters x s.threads d)
-    go false (Some None) e f = rw (e, f) (woken_waiters x s.threads d)
+    go false None e f = rw (e, f) (woken_waiters ((x, t) ∷ s.equations) x s.threads d)
+    go false (Some None) e f = rw (e, f) (woken_waiters ((x, t) ∷ s.equations) x s.threads d)
     go false (Some (Some r)) e f = rw (e, f) (waiters_same s.threads d)
 
 pub told_all_waiters : (s : Site) (es : List Equation) (d : CellName) → SameWaiters s.threads (with_known_equations s es).threads d
@@ -62,7 +62,7 @@ told_all_waiters s (e ∷ es) d = waiters_then s.threads (with_known_equation s 
 
 pub binds_each_waiters : (limit : ℕ) (es : List Equation) (s : Site) (d : CellName) → SameWaiters s.threads (own_binds limit es s).site.threads d
 binds_each_waiters limit [] s d = waiters_same s.threads d
-binds_each_waiters limit (e ∷ es) s d = waiters_then s.threads (own_binds limit es s).site.threads _ d (binds_each_waiters limit es s d) (woken_waiters e.0 (own_binds limit es s).site.threads d)
+binds_each_waiters limit (e ∷ es) s d = waiters_then s.threads (own_binds limit es s).site.threads _ d (binds_each_waiters limit es s d) (woken_waiters (e ∷ (own_binds limit es s).site.equations) e.0 (own_binds limit es s).site.threads d)
 
 -- ---- a step
 

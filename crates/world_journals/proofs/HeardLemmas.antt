@@ -25,7 +25,9 @@ use Rattle.oz_model.specs.Effect.{Birth}
 use Rattle.oz_model.specs.Step.{threads_born}
 use Rattle.oz_model.proofs.KindLemmas.{equal_cell_decides}
 use Rattle.bind_protocol.specs.Records.{is_own, knowledge}
-use Rattle.thread_roster.specs.Threads.{wake_all}
+use Rattle.thread_roster.specs.declared.mode.Mode.{Mode}
+use Rattle.thread_roster.specs.Binds.{goes_on}
+use Rattle.thread_roster.specs.Threads.{wake_where}
 use Rattle.site_model.specs.Site.{Site, ThreadState, Threads, CellRecord, thread_state, cell_record, cell_record_in, with_cell_record, runnable_threads}
 use Rattle.site_model.specs.Bundle.{message_bundle}
 use Rattle.site_model.specs.Transition.{Transition, without_output, and_then}
@@ -82,12 +84,12 @@ module _ (C : ThreadName → Type 0) where
       by d th (inl k) = all th k
       by d th (inr k) = inr (inl (d, k))
 
-  pub wakes : (s t : Site) (x : VarName) → t.threads ≡ wake_all x s.threads → t.cell_records ≡ s.cell_records → Keeps s t
-  wakes s t x threads cells = moves s t stand (λ c th at. inr (inl (c, subst (λ (qs : List (CellName × CellRecord)). Contains (cell_record_in qs c).queue th) cells at)))
+  pub wakes : (s t : Site) (f : Mode → Bool) → t.threads ≡ wake_where f s.threads → t.cell_records ≡ s.cell_records → Keeps s t
+  wakes s t f threads cells = moves s t stand (λ c th at. inr (inl (c, subst (λ (qs : List (CellName × CellRecord)). Contains (cell_record_in qs c).queue th) cells at)))
     where
       stand : (th : ThreadName) (v : ThreadState) → thread_state t th ≡ Some v → IsHere C s th
       stand th v at =
-          let o = woken_old x s.threads th v.0 v.1 (subst (λ (ts : Threads). value_of equal_thread ts th ≡ Some v) threads at) in
+          let o = woken_old f s.threads th v.0 v.1 (subst (λ (ts : Threads). value_of equal_thread ts th ≡ Some v) threads at) in
           inl ((v.0, o.0), o.1)
 
   -- a thread that was there goes on
@@ -106,8 +108,8 @@ module _ (C : ThreadName → Type 0) where
     where
       go : (b : Bool) → is_own s.records x ≡ b → (o : Option (Option Term)) → knowledge s.records x ≡ o → Keeps s (with_known_equation s x t)
       go true q o k = rw (k, q) (λ th h. h)
-      go false q None k = rw (k, q) (wakes s (with_new_equation s x t) x refl refl)
-      go false q (Some None) k = rw (k, q) (wakes s (with_new_equation s x t) x refl refl)
+      go false q None k = rw (k, q) (wakes s (with_new_equation s x t) (goes_on ((x, t) ∷ s.equations) x) refl refl)
+      go false q (Some None) k = rw (k, q) (wakes s (with_new_equation s x t) (goes_on ((x, t) ∷ s.equations) x) refl refl)
       go false q (Some (Some r)) k = rw (k, q) (λ th h. h)
 
   told_all_keep : (es : List Equation) (s : Site) → Keeps s (with_known_equations s es)
@@ -132,7 +134,7 @@ module _ (C : ThreadName → Type 0) where
       where
         go : (o : Option (Option Term)) → knowledge s.records x ≡ o → Keeps s (bind_request_row limit x t n s).site
         go None q = rw q (λ th h. h)
-        go (Some None) q = rw q (wakes s (own_bind limit x t s).site x refl refl)
+        go (Some None) q = rw q (wakes s (own_bind limit x t s).site (goes_on ((x, t) ∷ s.equations) x) refl refl)
         go (Some (Some r)) q = rw q (λ th h. h)
 
     exchange_keeps : (n : ThreadName) (v : VarName) (s : Site) → Keeps s (after_exchange p n v s)

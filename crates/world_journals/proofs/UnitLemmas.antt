@@ -25,6 +25,7 @@ use Rattle.oz_model.specs.Step.{living_stack, threads_born}
 use Rattle.bind_protocol.specs.Rows.{sent_message, request}
 use Rattle.thread_roster.specs.declared.mode.Mode.TheVariants.{Runs, WaitsFor}
 use Rattle.thread_roster.specs.declared.mode.Mode.TheVariants as mode
+use Rattle.thread_roster.specs.Binds.{goes_on}
 use Rattle.token_chain.specs.declared.token.Token.{Token}
 use Rattle.token_chain.specs.declared.token.Token.TheVariants.{Away, Asked, Here}
 use Rattle.site_model.specs.Site.{Site, Counters, CellRecord, Threads, ThreadState, thread_state, cell_record, cell_record_in, runnable_threads}
@@ -33,7 +34,7 @@ use Rattle.site_model.specs.Transition.{Transition, without_output, with_message
 use Rattle.site_model.specs.Variables.{own_binds}
 use Rattle.site_model.specs.Cells.{exchange_stack, with_own_request, with_exchange_waiting, with_last_asker, request_row}
 use Rattle.site_model.specs.Messages.{with_thread}
-use Rattle.site_model.specs.Unit.{next_names, counter_after, counters_after, fresh_names, with_fresh_names, placement, birth_row, content_here, after_cell, runnable_state, after_effect, step_row, with_waiting, with_waiting_any, step_pick, effect_here, thread_step, bind_attempt, IsStepOrRequest, IsUnitFor}
+use Rattle.site_model.specs.Unit.{next_names, counter_after, counters_after, fresh_names, with_fresh_names, placement, birth_row, content_here, after_cell, runnable_state, after_effect, step_row, step_pick, effect_here, thread_step, bind_attempt, IsStepOrRequest, IsUnitFor, with_mode}
 use Rattle.site_model.specs.Turn.{AreUnits, SiteTurn}
 use Rattle.world_model.proofs.CellLemmas.{OnlyCells, request_only}
 use Rattle.world_model.proofs.MailLemmas.{nothing}
@@ -112,17 +113,17 @@ module _ (p : List Stmt) (n limit i : ℕ) (C : ThreadName → Type 0) (Q : Pick
 
   -- ---- a thread waits for a variable
 
-  waits_keep : (th : ThreadName) (st : Stack) (x : VarName) (s : Site) → thread_state s th ≡ Some (st, Runs) → Keeps C s (with_waiting th st x s)
-  waits_keep th st x s at = goes C s (with_waiting th st x s) th (st, Runs) (Some (st, mode.Waits x)) refl refl at
+  waits_keep : (th : ThreadName) (st : Stack) (x : VarName) (s : Site) → thread_state s th ≡ Some (st, Runs) → Keeps C s (with_mode th st (mode.Waits x) s)
+  waits_keep th st x s at = goes C s (with_mode th st (mode.Waits x) s) th (st, Runs) (Some (st, mode.Waits x)) refl refl at
 
-  waits_part : (th : ThreadName) (st : Stack) (x : VarName) (s : Site) → thread_state s th ≡ Some (st, Runs) → Part i C Q s (without_output (with_waiting th st x s))
-  waits_part th st x s at = still_part i C Q s (without_output (with_waiting th st x s)) (record { counters = refl; sent = refl }) refl (waits_keep th st x s at) (λ k h. absurd (nothing k h))
+  needs_part : (th : ThreadName) (st : Stack) (x : VarName) (s : Site) → thread_state s th ≡ Some (st, Runs) → Part i C Q s (without_output (with_mode th st (mode.Needs x) s))
+  needs_part th st x s at = still_part i C Q s (without_output (with_mode th st (mode.Needs x) s)) (record { counters = refl; sent = refl }) refl (goes C s (with_mode th st (mode.Needs x) s) th (st, Runs) (Some (st, mode.Needs x)) refl refl at) (λ k h. absurd (nothing k h))
 
-  waits_any_part : (th : ThreadName) (st : Stack) (xs : List VarName) (s : Site) → thread_state s th ≡ Some (st, Runs) → Part i C Q s (without_output (with_waiting_any th st xs s))
-  waits_any_part th st xs s at = still_part i C Q s (without_output (with_waiting_any th st xs s)) (record { counters = refl; sent = refl }) refl (goes C s (with_waiting_any th st xs s) th (st, Runs) (Some (st, mode.WaitsAny xs)) refl refl at) (λ k h. absurd (nothing k h))
+  waits_any_part : (th : ThreadName) (st : Stack) (xs : List VarName) (s : Site) → thread_state s th ≡ Some (st, Runs) → Part i C Q s (without_output (with_mode th st (mode.WaitsAny xs) s))
+  waits_any_part th st xs s at = still_part i C Q s (without_output (with_mode th st (mode.WaitsAny xs) s)) (record { counters = refl; sent = refl }) refl (goes C s (with_mode th st (mode.WaitsAny xs) s) th (st, Runs) (Some (st, mode.WaitsAny xs)) refl refl at) (λ k h. absurd (nothing k h))
 
-  asks_part : (th : ThreadName) (st : Stack) (u : VarName) (t : Term) (s : Site) → thread_state s th ≡ Some (st, Runs) → Part i C Q s (with_messages (with_waiting th st u s) (with_own_bundle limit s.equations (request u t th) ∷ []))
-  asks_part th st u t s at = still_part i C Q s (with_messages (with_waiting th st u s) (with_own_bundle limit s.equations (request u t th) ∷ [])) (record { counters = refl; sent = refl }) refl (waits_keep th st u s at) (λ k h. absurd (nothing k h))
+  asks_part : (th : ThreadName) (st : Stack) (u : VarName) (t : Term) (s : Site) → thread_state s th ≡ Some (st, Runs) → Part i C Q s (with_messages (with_mode th st (mode.Waits u) s) (with_own_bundle limit s.equations (request u t th) ∷ []))
+  asks_part th st u t s at = still_part i C Q s (with_messages (with_mode th st (mode.Waits u) s) (with_own_bundle limit s.equations (request u t th) ∷ [])) (record { counters = refl; sent = refl }) refl (waits_keep th st u s at) (λ k h. absurd (nothing k h))
 
   -- ---- a thread is born
 
@@ -167,7 +168,7 @@ module _ (p : List Stmt) (n limit i : ℕ) (C : ThreadName → Type 0) (Q : Pick
 
   binds_keep : (es : List Equation) (s : Site) → Keeps C s (own_binds limit es s).site
   binds_keep [] s th h = h
-  binds_keep (e ∷ es) s th h = binds_keep es s th (wakes C (own_binds limit es s).site (own_binds limit (e ∷ es) s).site e.0 refl refl th h)
+  binds_keep (e ∷ es) s th h = binds_keep es s th (wakes C (own_binds limit es s).site (own_binds limit (e ∷ es) s).site (goes_on (e ∷ (own_binds limit es s).site.equations) e.0) refl refl th h)
 
   binds_pick : (es : List Equation) (s : Site) → (own_binds limit es s).picks ≡ []
   binds_pick [] s = refl
@@ -266,7 +267,7 @@ module _ (p : List Stmt) (n limit i : ℕ) (C : ThreadName → Type 0) (Q : Pick
   either_part th st s whole (Made c v) d at k g = subst (Part i C Q s) (sym g) k
 
   need_part : (s : Site) (th : ThreadName) (st : Stack) (need : Need) (d : Transition) → s.records.site ≡ i → thread_state s th ≡ Some (st, Runs) → stack_need p s.equations st ≡ need → IsUnitFor p n limit s th st need d → Part i C Q s d
-  need_part s th st (Waits x) d own at e (z, names, g) = subst (Part i C Q s) (sym g) (waits_part th st z s at)
+  need_part s th st (Waits x) d own at e (z, names, g) = subst (Part i C Q s) (sym g) (needs_part th st z s at)
   need_part s th st (WaitsAny q) d own at e (xs, open_on, g) = subst (Part i C Q s) (sym g) (waits_any_part th st xs s at)
   need_part s th st (Binds a b) d own at e (u, t, root, g) = subst (Part i C Q s) (sym g) (bind_part s th st a b u t (u.site == s.records.site) at e)
   need_part s th st (Takes kinds) d own at e g =

@@ -16,10 +16,12 @@ use Rattle.site_model.specs.Site.{Site, Counters, ThreadState, thread_state, Thr
 use Rattle.thread_roster.specs.declared.mode.Mode.{Mode}
 use Rattle.thread_roster.specs.declared.mode.Mode.TheVariants.{Runs, WaitsFor}
 use Rattle.site_model.specs.Bundle.{with_own_bundle}
-use Rattle.site_model.specs.Unit.{with_waiting}
+use Rattle.site_model.specs.Unit.{with_mode}
 use Rattle.kernel_syntax.specs.Free.{free}
 use Rattle.tree_node.specs.Assoc.{value_of, with_optional_value}
-use Rattle.thread_roster.specs.Threads.{wake, wake_all}
+use Rattle.thread_roster.specs.Binds.{goes_on}
+use Rattle.thread_roster.specs.Threads.{wake_where}
+use Rattle.thread_roster.proofs.ThreadLemmas.{woken_by}
 use Rattle.thread_roster.specs.declared.mode.Mode.TheVariants as site
 use Rattle.world_model.specs.Matches.{IsBound}
 use Rattle.world_model.proofs.KeyLemmas.{goes_cases, woken_old}
@@ -106,7 +108,7 @@ pub same_threads : (i low cap : ℕ) (P : ThreadName → Type 0) (start : List S
 same_threads i low cap P start base s t e more made h = changes i low cap P start base s t more made (λ n v at. (v, (subst (λ (ts : Threads). value_of equal_thread ts n ≡ Some v) e at), λ x q. inr q)) h
 
 -- an equation is learnt, and threads wake
-pub wakes : (i low cap : ℕ) (P : ThreadName → Type 0) (start : List Sent) (base : List Sent) (s t : Site) (x : VarName) (r : Term) → t.threads ≡ wake_all x s.threads → t.equations ≡ (x, r) ∷ s.equations → t.counters ≡ s.counters → Asks i low cap P start base s → Asks i low cap P start base t
+pub wakes : (i low cap : ℕ) (P : ThreadName → Type 0) (start : List Sent) (base : List Sent) (s t : Site) (x : VarName) (r : Term) → t.threads ≡ wake_where (goes_on ((x, r) ∷ s.equations) x) s.threads → t.equations ≡ (x, r) ∷ s.equations → t.counters ≡ s.counters → Asks i low cap P start base s → Asks i low cap P start base t
 wakes i low cap P start base s t x r e f g h = changes i low cap P start base s t more (omega (arith, ap (λ (c : Counters). c.threads) g)) from h
   where
     new : IsBound t.equations x
@@ -115,8 +117,8 @@ wakes i low cap P start base s t x r e f g h = changes i low cap P start base s 
     more : (y : VarName) → IsBound s.equations y → IsBound t.equations y
     more y (u, at) = (u, subst (λ (q : Store). Contains q (y, u)) (sym f) (Contains-tail (x, r) (y, u) s.equations at))
 
-    woke : (m : Mode) (y : VarName) → m ≡ site.Waits y → IsBound t.equations y ⊎ (wake x m ≡ site.Waits y)
-    woke m y q = subst (λ (o : Mode). IsBound t.equations y ⊎ (wake x o ≡ site.Waits y)) (sym q) (go (equal_var y x) refl)
+    woke : (m : Mode) (y : VarName) → m ≡ site.Waits y → IsBound t.equations y ⊎ (woken_by (goes_on ((x, r) ∷ s.equations) x) m ≡ site.Waits y)
+    woke m y q = subst (λ (o : Mode). IsBound t.equations y ⊎ (woken_by (goes_on ((x, r) ∷ s.equations) x) o ≡ site.Waits y)) (sym q) (go (equal_var y x) refl)
       where
         go : (b : Bool) → equal_var y x ≡ b → IsBound t.equations y ⊎ (cond b Runs (site.Waits y) ≡ site.Waits y)
         go true k = inl (subst (λ (z : VarName). IsBound t.equations z) (sym ((same_name_decides y x).0 k)) new)
@@ -124,7 +126,7 @@ wakes i low cap P start base s t x r e f g h = changes i low cap P start base s 
 
     from : (n : ThreadName) (v : ThreadState) → thread_state t n ≡ Some v → (w : ThreadState) × (thread_state s n ≡ Some w) × ((y : VarName) → w.1 ≡ site.Waits y → IsBound t.equations y ⊎ (v.1 ≡ site.Waits y))
     from n v at =
-        let o = woken_old x s.threads n v.0 v.1 (subst (λ (ts : Threads). value_of equal_thread ts n ≡ Some v) e at) in
+        let o = woken_old (goes_on ((x, r) ∷ s.equations) x) s.threads n v.0 v.1 (subst (λ (ts : Threads). value_of equal_thread ts n ≡ Some v) e at) in
         ((v.0, o.0), o.1, λ y q. subst (λ (m : Mode). IsBound t.equations y ⊎ (m ≡ site.Waits y)) o.2 (woke o.0 y q))
 
 -- one thread goes on to another standing, which knows all bound that it asked for; or it is gone
@@ -143,7 +145,7 @@ goes i low cap P start base s t th w r e f g at runs h = changes i low cap P sta
 
 -- a thread that can go on asks to bind a variable that has no equation here, and waits for it
 pub asks_once : (i limit low cap : ℕ) (P : ThreadName → Type 0) (start : List Sent) (base : List Sent) (s : Site) (th : ThreadName) (st : Stack) (u : VarName) (r : Term) → thread_state s th ≡ Some (st, Runs) → IsFree s.equations u → Asks i low cap P start base s →
-    Asks i low cap P start (base ++ with_own_bundle limit s.equations (request u r th) ∷ []) (with_waiting th st u s)
+    Asks i low cap P start (base ++ with_own_bundle limit s.equations (request u r th) ∷ []) (with_mode th st (site.Waits u) s)
 asks_once i limit low cap P start base s th st u r at free h = record {
   once = λ n x. once n x (equal_thread n th && equal_var x u) refl;
   stands = λ n v x q asked. by n v x (goes_cases equal_thread same_thread_decides s.threads th n (Some (st, site.Waits u)) (st, Runs) v at q) asked;

@@ -25,13 +25,14 @@ use Rattle.bind_protocol.specs.Rows.{sent_message, register, binding, register_a
 use Rattle.bind_protocol.proofs.ListLemmas.{one, count_push}
 use Rattle.site_model.specs.Site.{Site, Counters, ThreadState, thread_state, cell_record, Threads, runnable_threads}
 use Rattle.thread_roster.specs.declared.mode.Mode.TheVariants.{Runs, WaitsFor}
+use Rattle.thread_roster.specs.Binds.{goes_on}
 use Rattle.site_model.specs.Bundle.{with_own_bundle, with_own_bundles, message_bundle, message_vars}
 use Rattle.site_model.specs.Transition.{Transition, without_output, with_messages, and_then}
 use Rattle.site_model.specs.Variables.{with_new_equation, with_known_equation, with_known_equations, with_site_equation, own_bind, own_binds, opening}
 use Rattle.token_chain.specs.Mail as token
 use Rattle.site_model.specs.Cells.{leave_row, forward_row, get_row, serving, request_row, with_exchange_waiting, after_exchange, content_after_exchange, exchange_stack}
 use Rattle.site_model.specs.Messages.{with_thread, bind_request_row, message_row, reception, birth}
-use Rattle.site_model.specs.Unit.{next_names, with_fresh_names, birth_row, placement, step_row, after_effect, thread_step, fresh_names, effect_here, step_pick, bind_attempt, with_waiting, with_waiting_any, after_cell, IsStepOrRequest, IsUnitFor, counter_after, runnable_state, content_here, counters_after}
+use Rattle.site_model.specs.Unit.{next_names, with_fresh_names, birth_row, placement, step_row, after_effect, thread_step, fresh_names, effect_here, step_pick, bind_attempt, after_cell, IsStepOrRequest, IsUnitFor, counter_after, runnable_state, content_here, counters_after, with_mode}
 use Rattle.site_model.specs.Turn.{IsReception, AreUnits, SiteTurn}
 use Rattle.tree_node.specs.declared.names.NameKind.TheVariants as kind
 use Rattle.tree_node.specs.declared.node.Node.{Node}
@@ -136,7 +137,7 @@ module _ (p : List Stmt) (n limit : ℕ) where
 
   pub runs_stay : (es : List Equation) (s : Site) (th : ThreadName) (st : Stack) → thread_state s th ≡ Some (st, Runs) → thread_state (own_binds limit es s).site th ≡ Some (st, Runs)
   runs_stay [] s th st e = e
-  runs_stay (q ∷ es) s th st e = woken_new q.0 (own_binds limit es s).site.threads th st Runs (runs_stay es s th st e)
+  runs_stay (q ∷ es) s th st e = woken_new (goes_on (q ∷ (own_binds limit es s).site.equations) q.0) (own_binds limit es s).site.threads th st Runs (runs_stay es s th st e)
 
   pub made_stay : (es : List Equation) (s : Site) → (own_binds limit es s).site.counters ≡ s.counters
   made_stay [] s = refl
@@ -459,9 +460,9 @@ module _ (p : List Stmt) (n limit : ℕ) (i low : ℕ) (P : ThreadName → Type 
 
   need_asks : (base : List Sent) (s : Site) (th : ThreadName) (st : Stack) (need : Need) (d : Transition) → s.records.site ≡ i → thread_state s th ≡ Some (st, Runs) → Full base s → stack_need p s.equations st ≡ need → IsUnitFor p n limit s th st need d → AsksOn base d
   need_asks base s th st (Waits x) d own at h e (z, names, g) =
-      subst (AsksOn base) (sym g) (of_quiet s.counters.threads base (without_output (with_waiting th st z s)) (still p n limit i low s.counters.threads P start base (with_waiting th st z s) (goes i low s.counters.threads P start base s (with_waiting th st z s) th (st, Runs) (Some (st, site.Waits z)) refl refl refl at runs_not h)))
+      subst (AsksOn base) (sym g) (of_quiet s.counters.threads base (without_output (with_mode th st (site.Needs z) s)) (still p n limit i low s.counters.threads P start base (with_mode th st (site.Needs z) s) (goes i low s.counters.threads P start base s (with_mode th st (site.Needs z) s) th (st, Runs) (Some (st, site.Needs z)) refl refl refl at runs_not h)))
   need_asks base s th st (WaitsAny q) d own at h e (xs, open_on, g) =
-      subst (AsksOn base) (sym g) (of_quiet s.counters.threads base (without_output (with_waiting_any th st xs s)) (still p n limit i low s.counters.threads P start base (with_waiting_any th st xs s) (goes i low s.counters.threads P start base s (with_waiting_any th st xs s) th (st, Runs) (Some (st, site.WaitsAny xs)) refl refl refl at runs_not h)))
+      subst (AsksOn base) (sym g) (of_quiet s.counters.threads base (without_output (with_mode th st (site.WaitsAny xs) s)) (still p n limit i low s.counters.threads P start base (with_mode th st (site.WaitsAny xs) s) (goes i low s.counters.threads P start base s (with_mode th st (site.WaitsAny xs) s) th (st, Runs) (Some (st, site.WaitsAny xs)) refl refl refl at runs_not h)))
   need_asks base s th st (Binds a b) d own at h e (u, t, root, g) = subst (AsksOn base) (sym g) (bind_asks base s th st a b u t (u.site == s.records.site) at e root.1 h)
   need_asks base s th st (Takes kinds) d own at h e g =
       either_asks base th st s (thread_step p n limit th st kinds (fresh_names s kinds) None s) (effect_here p s (fresh_names s kinds) None st).cell d at h

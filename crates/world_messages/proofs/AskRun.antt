@@ -21,7 +21,9 @@ use Rattle.bind_protocol.specs.Records.{is_own, knowledge}
 use Rattle.bind_protocol.proofs.ListLemmas.{there_counted, count_append}
 use Rattle.site_model.specs.Site.{Site, CellRecord, Counters, ThreadState, thread_state, cell_record_in, initial_site, runnable_threads}
 use Rattle.thread_roster.specs.declared.mode.Mode.TheVariants.{WaitsFor}
-use Rattle.thread_roster.specs.Threads.{wake, wake_all}
+use Rattle.thread_roster.specs.Binds.{goes_on}
+use Rattle.thread_roster.specs.Threads.{wake_where}
+use Rattle.thread_roster.proofs.ThreadLemmas.{woken_by}
 use Rattle.thread_roster.specs.declared.mode.Mode.TheVariants as site
 use Rattle.site_model.specs.Bundle.{message_bundle}
 use Rattle.site_model.specs.Transition.{Transition}
@@ -83,8 +85,8 @@ told_standing s x t n c w at = go (is_own s.records x) refl (knowledge s.records
     same : thread_state s n ≡ Some w → (u : ThreadState) × (thread_state s n ≡ Some u) × (u.1 ≡ WaitsFor c → w.1 ≡ WaitsFor c)
     same e = (w, e, λ q. q)
 
-    woke : value_of equal_thread (wake_all x s.threads) n ≡ Some w → (u : ThreadState) × (thread_state s n ≡ Some u) × (u.1 ≡ WaitsFor c → w.1 ≡ WaitsFor c)
-    woke e = let o = woken_old x s.threads n w.0 w.1 e in ((w.0, o.0), o.1, λ q. sym o.2 ∙ ap (wake x) q)
+    woke : value_of equal_thread (wake_where (goes_on ((x, t) ∷ s.equations) x) s.threads) n ≡ Some w → (u : ThreadState) × (thread_state s n ≡ Some u) × (u.1 ≡ WaitsFor c → w.1 ≡ WaitsFor c)
+    woke e = let o = woken_old (goes_on ((x, t) ∷ s.equations) x) s.threads n w.0 w.1 e in ((w.0, o.0), o.1, λ q. sym o.2 ∙ ap (woken_by (goes_on ((x, t) ∷ s.equations) x)) q)
 
     go : (b : Bool) → is_own s.records x ≡ b → (o : Option (Option Term)) → knowledge s.records x ≡ o → thread_state (with_known_equation s x t) n ≡ Some w → (u : ThreadState) × (thread_state s n ≡ Some u) × (u.1 ≡ WaitsFor c → w.1 ≡ WaitsFor c)
     go true q o k = rw (k, q) same

@@ -21,6 +21,7 @@ use Rattle.bind_protocol.specs.Records.{Records, is_own, knowledge}
 use Rattle.proxy_table.specs.Proxies.{entry_of}
 use Rattle.bind_protocol.specs.Rows.{sent_message, request, register, binding, register_answer, after_meet, meet_sends, meets_send}
 use Rattle.bind_protocol.proofs.ListLemmas.{one, count_cons, count_append}
+use Rattle.thread_roster.specs.declared.mode.Mode.TheVariants as mode
 use Rattle.site_model.specs.Site.{Site, Counters, ThreadState, thread_state, cell_record}
 use Rattle.site_model.specs.Bundle.{with_own_bundle, with_own_bundles, message_bundle, message_vars}
 use Rattle.site_model.specs.Transition.{Transition, without_output, with_messages, and_then, sequence}
@@ -30,7 +31,7 @@ use Rattle.token_chain.specs.Mail as token
 use Rattle.token_chain.specs.Rows.{leave_reply, forward_reply, get_reply, exchange_reply}
 use Rattle.world_model.proofs.CellLemmas.{letters, request_only}
 use Rattle.site_model.specs.Messages.{with_thread, bind_request_row, message_row}
-use Rattle.site_model.specs.Unit.{next_names, with_fresh_names, birth_row, placement, step_row, after_effect, thread_step, fresh_names, effect_here, step_pick, bind_attempt, with_waiting, with_waiting_any, after_cell, IsStepOrRequest, IsUnitFor, counter_after, counters_after}
+use Rattle.site_model.specs.Unit.{next_names, with_fresh_names, birth_row, placement, step_row, after_effect, thread_step, fresh_names, effect_here, step_pick, bind_attempt, after_cell, IsStepOrRequest, IsUnitFor, counter_after, counters_after, with_mode}
 use Rattle.site_model.specs.Turn.{IsReception, AreUnits, SiteTurn}
 use Rattle.std.specs.List.{count_by}
 use Rattle.tree_node.specs.declared.names.Name.TheVariants as name
@@ -370,11 +371,11 @@ module _ (p : List Stmt) (n limit : ℕ) where
   bind_picks th st u t a b true s need =
       steps_picks (step_pick th [] (Some (u, t))) [] (effect_here p s [] (Some (u, t)) st) s refl
       (subst (λ (e : Effect). births e.born ≤ 0) (sym (bind_effect p s.equations st a b u t need)) (omega arith))
-  bind_picks th st u t a b false s need = still_picks s.records.site s (with_messages (with_waiting th st u s) (with_own_bundle limit s.equations (request u t th) ∷ [])) (record { counters = refl; sent = refl })
+  bind_picks th st u t a b false s need = still_picks s.records.site s (with_messages (with_mode th st (mode.Waits u) s) (with_own_bundle limit s.equations (request u t th) ∷ [])) (record { counters = refl; sent = refl })
 
   need_picks : (s : Site) (th : ThreadName) (st : Stack) (need : Need) (d : Transition) → stack_need p s.equations st ≡ need → IsUnitFor p n limit s th st need d → DoesPicks s d
-  need_picks s th st (Waits x) d e h = subst (DoesPicks s) (sym h.2) (still_picks s.records.site s (without_output (with_waiting th st h.0 s)) (record { counters = refl; sent = refl }))
-  need_picks s th st (WaitsAny q) d e h = subst (DoesPicks s) (sym h.2) (still_picks s.records.site s (without_output (with_waiting_any th st h.0 s)) (record { counters = refl; sent = refl }))
+  need_picks s th st (Waits x) d e h = subst (DoesPicks s) (sym h.2) (still_picks s.records.site s (without_output (with_mode th st (mode.Needs h.0) s)) (record { counters = refl; sent = refl }))
+  need_picks s th st (WaitsAny q) d e h = subst (DoesPicks s) (sym h.2) (still_picks s.records.site s (without_output (with_mode th st (mode.WaitsAny h.0) s)) (record { counters = refl; sent = refl }))
   need_picks s th st (Binds a b) d e h = subst (DoesPicks s) (sym h.3) (bind_picks th st h.0 h.1 a b (h.0.site == s.records.site) s e)
   need_picks s th st (Takes kinds) d e h =
       either_picks th st s (thread_step p n limit th st kinds (fresh_names s kinds) None s) (effect_here p s (fresh_names s kinds) None st).cell d

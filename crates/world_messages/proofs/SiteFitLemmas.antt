@@ -31,7 +31,8 @@ use Rattle.bind_protocol.specs.Rows.{binding}
 use Rattle.site_message.specs.Vars.{vars_of}
 use Rattle.site_model.specs.Site.{Site, ThreadState, Threads, CellRecord, Counters}
 use Rattle.thread_roster.specs.declared.mode.Mode.{Mode}
-use Rattle.thread_roster.specs.Threads.{wake_all}
+use Rattle.thread_roster.specs.Binds.{goes_on}
+use Rattle.thread_roster.specs.Threads.{wake_where}
 use Rattle.site_model.specs.Bundle.{with_own_bundles, bundle_of, message_bundle, with_bundle}
 use Rattle.site_model.specs.Transition.{Transition, without_output, and_then}
 use Rattle.site_model.specs.Variables.{after_makes, own_bind, own_binds}
@@ -191,7 +192,7 @@ module _ (p : List Stmt) (is : IsProgram p) (n limit : ℕ) (i : ℕ) (R : VarNa
     bindings_fit known ((x, t) ∷ s.equations) x t (sites_of (owner_of s.records.owners x)) terms.equations terms.nodes f,
   )
     where
-      terms : TermsFit p known ((x, t) ∷ s.equations) (wake_all x s.threads) s.cell_records
+      terms : TermsFit p known ((x, t) ∷ s.equations) (wake_where (goes_on ((x, t) ∷ s.equations) x) s.threads) s.cell_records
       terms = terms_learn p known s.equations s.threads s.cell_records x t f h.terms
 
   pub binds_each_fits : (known : List VarName) (es : List Equation) (s : Site) → Each (λ (e : Equation). e.0.site ≡ i) es → Each (λ (e : Equation). IsFitFor p known e.0 e.1) es → SiteFits p i known s →

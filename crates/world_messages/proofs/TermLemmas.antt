@@ -35,7 +35,8 @@ use Rattle.thread_machine.proofs.FitLemmas.{begun_fits}
 use Rattle.token_chain.specs.declared.token.Token.TheVariants.{Here}
 use Rattle.site_model.specs.Site.{ThreadState, Threads, CellRecord, cell_record_in, runnable_threads}
 use Rattle.thread_roster.specs.declared.mode.Mode.TheVariants.{Runs}
-use Rattle.thread_roster.specs.Threads.{wake_all}
+use Rattle.thread_roster.specs.Binds.{goes_on}
+use Rattle.thread_roster.specs.Threads.{wake_where}
 use Rattle.site_model.specs.Unit.{runnable_state}
 use Rattle.world_model.proofs.KeyLemmas.{woken_old}
 use Rattle.world_messages.specs.Fitting.{ThreadFits, TermsFit}
@@ -106,11 +107,11 @@ terms_grow p known more s ts qs w h = record {
 abbrev pub IsFitFor : List Stmt → List VarName → VarName → Term → Type 0
 IsFitFor p known x t = Contains known x × EachOfTerm (fits.IsKnown known) t × TermFits p t × IsNodeOf (IsNode p) t
 
-pub terms_learn : (p : List Stmt) (known : List VarName) (s : Store) (ts : Threads) (qs : List (CellName × CellRecord)) (x : VarName) (t : Term) → IsFitFor p known x t → TermsFit p known s ts qs → TermsFit p known ((x, t) ∷ s) (wake_all x ts) qs
+pub terms_learn : (p : List Stmt) (known : List VarName) (s : Store) (ts : Threads) (qs : List (CellName × CellRecord)) (x : VarName) (t : Term) → IsFitFor p known x t → TermsFit p known s ts qs → TermsFit p known ((x, t) ∷ s) (wake_where (goes_on ((x, t) ∷ s) x) ts) qs
 terms_learn p known s ts qs x t f h = record {
   equations = record { names = ((f.0, f.1), h.equations.names); terms = (f.2, h.equations.terms) };
   nodes = (f.3, h.nodes);
-  stacks = λ n v e. let o = woken_old x ts n v.0 v.1 e in h.stacks n (v.0, o.0) o.1;
+  stacks = λ n v e. let o = woken_old (goes_on ((x, t) ∷ s) x) ts n v.0 v.1 e in h.stacks n (v.0, o.0) o.1;
   contents = h.contents;
 }
 

@@ -50,7 +50,7 @@ use Rattle.site_model.specs.Transition.{Transition, without_output, with_message
 use Rattle.site_model.specs.Variables.{own_binds}
 use Rattle.site_model.specs.Cells.{cell_reply, last_before, leave_row, forward_row, get_row, request_row, with_last_asker, with_own_request, with_exchange_waiting, exchange_stack}
 use Rattle.site_model.specs.Messages.{with_thread}
-use Rattle.site_model.specs.Unit.{with_fresh_names, birth_row, placement, step_row, after_effect, thread_step, fresh_names, effect_here, step_pick, bind_attempt, after_cell, with_stack, token_content, content_here, runnable_state, with_waiting, with_waiting_any, IsTokenHere, IsStepOrRequest, IsUnitFor, IsUnit}
+use Rattle.site_model.specs.Unit.{with_fresh_names, birth_row, placement, step_row, after_effect, thread_step, fresh_names, effect_here, step_pick, bind_attempt, after_cell, with_stack, token_content, content_here, runnable_state, IsTokenHere, IsStepOrRequest, IsUnitFor, IsUnit, with_mode}
 use Rattle.site_model.specs.Fit.{EachOfMsg}
 use Rattle.world_model.proofs.PutLemmas.{nat_decides}
 use Rattle.world_model.proofs.MailLemmas.{nothing}
@@ -215,10 +215,13 @@ module _ (p : List Stmt) (is : IsProgram p) (n limit : ℕ) (i : ℕ) (R : VarNa
   thread_at : (known : List VarName) (s : Site) (th : ThreadName) (st : Stack) (m : Mode) → thread_state s th ≡ Some (st, m) → SiteFits p i known s → ThreadFits p known st
   thread_at known s th st m at h = h.terms.stacks th (st, m) at
 
-  waits_fits : (known : List VarName) (th : ThreadName) (st : Stack) (x : VarName) (s : Site) → ThreadFits p known st → SiteFits p i known s → SiteFits p i known (with_waiting th st x s)
+  waits_fits : (known : List VarName) (th : ThreadName) (st : Stack) (x : VarName) (s : Site) → ThreadFits p known st → SiteFits p i known s → SiteFits p i known (with_mode th st (site.Waits x) s)
   waits_fits known th st x s f h = record { names = h.names; terms = thread_with p is n limit i R known s.equations s.threads s.cell_records th st (site.Waits x) f h.terms }
 
-  waits_any_fits : (known : List VarName) (th : ThreadName) (st : Stack) (xs : List VarName) (s : Site) → ThreadFits p known st → SiteFits p i known s → SiteFits p i known (with_waiting_any th st xs s)
+  needs_fits : (known : List VarName) (th : ThreadName) (st : Stack) (x : VarName) (s : Site) → ThreadFits p known st → SiteFits p i known s → SiteFits p i known (with_mode th st (site.Needs x) s)
+  needs_fits known th st x s f h = record { names = h.names; terms = thread_with p is n limit i R known s.equations s.threads s.cell_records th st (site.Needs x) f h.terms }
+
+  waits_any_fits : (known : List VarName) (th : ThreadName) (st : Stack) (xs : List VarName) (s : Site) → ThreadFits p known st → SiteFits p i known s → SiteFits p i known (with_mode th st (site.WaitsAny xs) s)
   waits_any_fits known th st xs s f h = record { names = h.names; terms = thread_with p is n limit i R known s.equations s.threads s.cell_records th st (site.WaitsAny xs) f h.terms }
 
   -- a step that takes names
@@ -250,12 +253,12 @@ module _ (p : List Stmt) (is : IsProgram p) (n limit : ℕ) (i : ℕ) (R : VarNa
           steps_fits known (step_pick th [] (Some (u, t))) [] (effect_here p s [] (Some (u, t)) st) s h e
           (effect_lefts (λ (x : VarName). x.site ≡ s.records.site) p s.equations [] (Some (u, t)) st tt ((nat_decides u.site s.records.site).0 q, tt))
           (subst (λ (e : Effect). FindsToken s e.cell) (sym (bind_effect p s.equations st a b u t need)) tt)
-      go false q k = sends_fits known (with_waiting th st u s) _ (waits_fits known th st u s f h)
+      go false q k = sends_fits known (with_mode th st (site.Waits u) s) _ (waits_fits known th st u s f h)
           (carried p is n limit i R known s.equations (msg.BindReq u th t []) h.terms.equations h.terms.nodes refl ((k.0, tt, k.1, tt), (tt, (k.3, tt))), tt)
 
   need_fits : (known : List VarName) (s : Site) (th : ThreadName) (st : Stack) (need : Need) (d : Transition) → ThreadFits p known st → SiteFits p i known s → stack_need p s.equations st ≡ need → IsUnitFor p n limit s th st need d → FitsOn p i R known d
-  need_fits known s th st (Waits x) d f h e (z, at, g) = subst (FitsOn p i R known) (sym g) (still known (with_waiting th st z s) (waits_fits known th st z s f h))
-  need_fits known s th st (WaitsAny q) d f h e (xs, open_on, g) = subst (FitsOn p i R known) (sym g) (still known (with_waiting_any th st xs s) (waits_any_fits known th st xs s f h))
+  need_fits known s th st (Waits x) d f h e (z, at, g) = subst (FitsOn p i R known) (sym g) (still known (with_mode th st (site.Needs z) s) (needs_fits known th st z s f h))
+  need_fits known s th st (WaitsAny q) d f h e (xs, open_on, g) = subst (FitsOn p i R known) (sym g) (still known (with_mode th st (site.WaitsAny xs) s) (waits_any_fits known th st xs s f h))
   need_fits known s th st (Binds a b) d f h e (u, t, root, g) = subst (FitsOn p i R known) (sym g) (bind_unit known s th st a b u t f h e root.0 (u.site == s.records.site) refl)
   need_fits known s th st (Takes kinds) d f h e g =
       either_fits known th st s (thread_step p n limit th st kinds (fresh_names s kinds) None s) (effect_here p s (fresh_names s kinds) None st).cell d f h

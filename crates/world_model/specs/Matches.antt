@@ -114,6 +114,10 @@ HasAllowedBind p s st x t =
 abbrev pub IsWaiting : (ℕ → Threads) → ℕ → ThreadName → Stack → VarName → Type 0
 IsWaiting threads i n st x = value_of equal_thread (threads i) n ≡ Some (st, site.Waits x)
 
+-- thread n is at site i with this stack and needs the node of x's class
+abbrev pub IsNeeding : (ℕ → Threads) → ℕ → ThreadName → Stack → VarName → Type 0
+IsNeeding threads i n st x = value_of equal_thread (threads i) n ≡ Some (st, site.Needs x)
+
 -- thread n is at site i with this stack and waits for any of these
 abbrev pub IsWaitingAny : (ℕ → Threads) → ℕ → ThreadName → Stack → List VarName → Type 0
 IsWaitingAny threads i n st xs = value_of equal_thread (threads i) n ≡ Some (st, site.WaitsAny xs)
@@ -141,14 +145,16 @@ abbrev pub IsAwaited : List Stmt → (ℕ → Store) → (ℕ → Threads) → S
 IsAwaited p eqs threads c x t n =
     IsBound c x ⊎ ((i : ℕ) × (st : Stack) × IsWaiting threads i n st x × HasAllowedBind p (eqs i) st x t)
 
--- what each waiting thread waits for: a request to bind is late or its thread waits for x; who waits for a variable has it
--- unbound at its site and needs it, or asked to bind it; who waits for any of several tests two in which these are open by what its site knows,
--- and has each of them unbound there; who waits for a token has an exchange of that cell next
+-- what each waiting thread waits for: a request to bind is late or its thread waits for x; who waits until a variable is bound has it
+-- unbound at its site, and asked to bind it; who needs the node of a variable's class is at a real site, and needs it first by what that
+-- knows; who waits for any of several tests two in which these are open by what its site knows, and has each of them unbound there; who
+-- waits for a token has an exchange of that cell next
 pub record WaitersMatch (p : List Stmt) (eqs : ℕ → Store) (records : ℕ → Records) (threads : ℕ → Threads) (mail : Mail) (c : Store) : Type 0 where
   pub asks : (k to : ℕ) (x : VarName) (t : Term) (n : ThreadName) (bundle : List Equation) → IsOnItsWay mail k to (msg.BindReq x n t bundle) →
       IsAwaited p eqs threads c x t n
   pub waits : (i : ℕ) (n : ThreadName) (st : Stack) (x : VarName) → IsWaiting threads i n st x →
-      IsFree (eqs i) x × IsHere (records i) x × (NeedsFirst p (eqs i) st x ⊎ IsAsked mail c n x)
+      IsFree (eqs i) x × IsHere (records i) x × IsAsked mail c n x
+  pub needs : (i : ℕ) (n : ThreadName) (st : Stack) (x : VarName) → IsNeeding threads i n st x → (i ≢ 0) × NeedsFirst p (eqs i) st x
   pub compares : (i : ℕ) (n : ThreadName) (st : Stack) (xs : List VarName) → IsWaitingAny threads i n st xs →
       IsOpenOn p (eqs i) st xs × ((x : VarName) → Contains xs x → IsFree (eqs i) x × IsHere (records i) x)
   pub exchanges : (i : ℕ) (n : ThreadName) (st : Stack) (d : CellName) → value_of equal_thread (threads i) n ≡ Some (st, WaitsFor d) →

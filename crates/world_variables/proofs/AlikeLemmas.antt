@@ -20,7 +20,7 @@ use Rattle.site_model.specs.Site.{Threads, Counters}
 use Rattle.site_model.specs.Fit.{EachOfMsg}
 use Rattle.world_model.specs.World.{Mail, IsOnItsWay}
 use Rattle.world_model.specs.Names.{IsHere, AreHome, IsMade, AreMailNamesMade}
-use Rattle.world_model.specs.Matches.{equations_in, EquationsMatch, AllRecordsMatch, ThreadsMatch, IsTold, AreTold, IsAddressed, AreAddressed, IsBound, NeedsFirst, IsAsked, IsAwaited, WaitersMatch, PartsMatch}
+use Rattle.world_model.specs.Matches.{equations_in, EquationsMatch, AllRecordsMatch, ThreadsMatch, IsTold, AreTold, IsAddressed, AreAddressed, IsBound, IsAsked, IsAwaited, WaitersMatch, PartsMatch}
 use Rattle.world_model.proofs.MailLemmas.{sent_to, Posts, Gone}
 use Rattle.world_variables.proofs.LearnLemmas.{placed_alike}
 
@@ -63,7 +63,8 @@ module _ (mail more : Mail) (out : List Sent) (posts : Posts mail more out) wher
       WaitersMatch p eqs records threads mail c → WaitersMatch p eqs records threads more c
   waiting_posts p eqs records threads c new k = record {
     asks = λ i to x t n bundle h. go to x t n bundle i (posts.from i to _ h);
-    waits = λ i n st x h. let o = k.waits i n st x h in (o.0, o.1, still n x i st o.2);
+    waits = λ i n st x h. let o = k.waits i n st x h in (o.0, o.1, asked_posts c n x o.2);
+    needs = k.needs;
     compares = k.compares;
     exchanges = k.exchanges;
   }
@@ -71,10 +72,6 @@ module _ (mail more : Mail) (out : List Sent) (posts : Posts mail more out) wher
       go : (to : ℕ) (x : VarName) (t : Term) (n : ThreadName) (bundle : List Equation) (i : ℕ) → IsOnItsWay mail i to (msg.BindReq x n t bundle) ⊎ Contains out (sent_to to (msg.BindReq x n t bundle)) → IsAwaited p eqs threads c x t n
       go to x t n bundle i (inl h) = k.asks i to x t n bundle h
       go to x t n bundle i (inr h) = new to x t n bundle h
-
-      still : (n : ThreadName) (x : VarName) (i : ℕ) (st : Stack) → NeedsFirst p (eqs i) st x ⊎ IsAsked mail c n x → NeedsFirst p (eqs i) st x ⊎ IsAsked more c n x
-      still n x i st (inl h) = inl h
-      still n x i st (inr h) = inr (asked_posts c n x h)
 
   pub placed_posts : (p : List Stmt) (threads : ℕ → Threads) (ts : List (ThreadName × Stack)) →
       ((to : ℕ) (n : ThreadName) (code : CodeId) (vars : List VarName) (bundle : List Equation) → Contains out (sent_to to (msg.Spawn n code vars bundle)) → ⊥) →
@@ -129,7 +126,8 @@ module _ (k : ℕ) (mail less : Mail) (gone : Gone k mail less) where
       WaitersMatch p eqs records threads mail c → WaitersMatch p eqs records threads less c
   waiting_gone p eqs records threads c bound o = record {
     asks = λ i to x t n bundle h. o.asks i to x t n bundle (gone.old i to _ h).0;
-    waits = λ i n st x h. let q = o.waits i n st x h in (q.0, q.1, still n x i st q.2);
+    waits = λ i n st x h. let q = o.waits i n st x h in (q.0, q.1, still n x q.2);
+    needs = o.needs;
     compares = o.compares;
     exchanges = o.exchanges;
   }
@@ -137,14 +135,13 @@ module _ (k : ℕ) (mail less : Mail) (gone : Gone k mail less) where
       number : (l : ℕ) → (l ≡ k) ⊎ (l ≢ k)
       number l = search rules
 
-      still : (n : ThreadName) (x : VarName) (i : ℕ) (st : Stack) → NeedsFirst p (eqs i) st x ⊎ IsAsked mail c n x → NeedsFirst p (eqs i) st x ⊎ IsAsked less c n x
-      still n x i st (inl h) = inl h
-      still n x i st (inr (inr h)) = inr (inr h)
-      still n x i st (inr (inl (l, t, bundle, h))) = go (number l)
+      still : (n : ThreadName) (x : VarName) → IsAsked mail c n x → IsAsked less c n x
+      still n x (inr h) = inr h
+      still n x (inl (l, t, bundle, h)) = go (number l)
         where
-          go : (l ≡ k) ⊎ (l ≢ k) → NeedsFirst p (eqs i) st x ⊎ IsAsked less c n x
-          go (inl e) = inr (inr (bound x.site x t n bundle (subst (λ (q : ℕ). IsOnItsWay mail q x.site (msg.BindReq x n t bundle)) e h)))
-          go (inr e) = inr (inl (l, t, bundle, gone.kept l _ _ h e))
+          go : (l ≡ k) ⊎ (l ≢ k) → IsAsked less c n x
+          go (inl e) = inr (bound x.site x t n bundle (subst (λ (q : ℕ). IsOnItsWay mail q x.site (msg.BindReq x n t bundle)) e h))
+          go (inr e) = inl (l, t, bundle, gone.kept l _ _ h e)
 
   -- a Spawn apart, threads are where they were
   pub placed_gone : (p : List Stmt) (threads : ℕ → Threads) (ts : List (ThreadName × Stack)) →
@@ -198,6 +195,7 @@ module _ (records more : ℕ → Records) (wide : Wider records more) where
   waiting_wider p eqs threads mail c k = record {
     asks = k.asks;
     waits = λ i n st x h. let o = k.waits i n st x h in (o.0, here_wider i x o.1, o.2);
+    needs = k.needs;
     compares = λ i n st xs h. let o = k.compares i n st xs h in (o.0, λ x m. let q = o.1 x m in (q.0, here_wider i x q.1));
     exchanges = k.exchanges;
   }

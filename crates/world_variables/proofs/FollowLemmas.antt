@@ -14,7 +14,7 @@ use Rattle.tree_node.specs.Compare.{Pair, Open, compared}
 use Rattle.tree_node.specs.Each.{Each}
 use Rattle.tree_node.specs.Names.{EachOfEquation, EachOfStack, EachOfThread}
 use Rattle.tree_node.specs.State.{Stack, State, equal_thread}
-use Rattle.tree_node.specs.Store.{Store, Equation, IsSound, IsClassName}
+use Rattle.tree_node.specs.Store.{Store, Equation, Same, IsSound}
 use Rattle.kernel_syntax.specs.declared.stmt.Stmt.{Stmt}
 use Rattle.site_message.specs.declared.message.Msg.TheVariants as msg
 use Rattle.oz_model.specs.Need.{Need, Waits, WaitsAny, Binds, Takes, stack_need, kinds_of}
@@ -33,19 +33,18 @@ use Rattle.site_model.specs.Bundle as Bundle
 use Rattle.site_model.specs.Transition.{Transition, without_output, with_messages}
 use Rattle.site_model.specs.Variables.{own_binds}
 use Rattle.site_model.specs.Messages as Receive
-use Rattle.site_model.specs.Unit.{IsStepOrRequest, IsRootBind, IsUnitFor, IsUnit, bind_attempt, thread_step, fresh_names, next_names, step_row, with_fresh_names, step_pick, birth_row, with_waiting, with_waiting_any, placement}
+use Rattle.site_model.specs.Unit.{IsStepOrRequest, IsRootBind, IsUnitFor, IsUnit, bind_attempt, thread_step, fresh_names, next_names, step_row, with_fresh_names, step_pick, birth_row, placement, with_mode}
 use Rattle.world_model.specs.World.{World, after_transition, records, counters}
 use Rattle.world_variables.specs.Plain.{IsCellUnit}
 use Rattle.world_model.specs.Names.{IsHere, IsMade, here_at}
 use Rattle.world_model.specs.Matches.{IsNumbered}
 use Rattle.world_model.proofs.PutLemmas.{field_kept, nat_decides}
 use Rattle.world_variables.proofs.UnitLemmas.{SiteStep, CellAgrees, UnitDone, unit_step}
-use Rattle.world_variables.proofs.AttemptLemmas.{wait_row, wait_any_row, ask_row}
+use Rattle.world_variables.proofs.AttemptLemmas.{need_row, wait_any_row, ask_row}
 use Rattle.world_variables.specs.Laws.{PartsIn}
-use Rattle.oz_model.proofs.EffectNames.{stack_need_has, stack_several_has}
+use Rattle.oz_model.proofs.EffectNames.{stack_several_has}
 use Rattle.oz_model.proofs.OpenLemmas.{open_free, open_has}
 use Rattle.tree_node.proofs.NameLemmas.{same_thread_decides}
-use Rattle.tree_node.proofs.SoundLemmas.{class_names}
 
 abbrev pub Follows : List Stmt → World → State → ℕ → Transition → Type 0
 Follows p w c i d = (c2 : State) × IsRun p c d.picks c2 × PartsIn p (here_at (records (after_transition w i d).sites)) (after_transition w i d) c2
@@ -128,21 +127,18 @@ module _ (p : List Stmt) (w : World) (c : State) (n limit i : ℕ) (th : ThreadN
       Goal : Type 0
       Goal = ((st : Stack) × (thread_state s th ≡ Some (st, site.Runs)) × IsCellUnit p s.equations st) ⊎ Follows p w c i d
 
-      waits : (x z : VarName) → stack_need p s.equations st ≡ Waits x → IsClassName s.equations x z → d ≡ without_output (with_waiting th st z s) → Follows p w c i d
-      waits x z need class is = subst (λ (q : Transition). Follows p w c i q) (sym is) (
+      needs : (x z : VarName) → stack_need p s.equations st ≡ Waits x → Same s.equations x z → d ≡ without_output (with_mode th st (site.Needs z) s) → Follows p w c i d
+      needs x z need same is = subst (λ (q : Transition). Follows p w c i q) (sym is) (
         c,
         refl,
-        stands (with_waiting th st z s) (without_output s) refl refl
-            (wait_row p (here_at (records w.sites)) w c i th st h at x z need class (at_site z
-            (class_names (here_at (records w.sites) i) s.equations x z (h.homes i).equations class.0
-            (stack_need_has (here_at (records w.sites) i) p s.equations st x (inl nob) (h.homes i).equations ((h.homes i).stacks th (st, site.Runs) at) need)))),
+        stands (with_mode th st (site.Needs z) s) (without_output s) refl refl (need_row p (here_at (records w.sites)) w c i th st h at x z real need same),
       )
 
-      waits_any : (q : Pair) (xs : List VarName) → stack_need p s.equations st ≡ WaitsAny q → compared s.equations q ≡ Open xs → d ≡ without_output (with_waiting_any th st xs s) → Follows p w c i d
+      waits_any : (q : Pair) (xs : List VarName) → stack_need p s.equations st ≡ WaitsAny q → compared s.equations q ≡ Open xs → d ≡ without_output (with_mode th st (site.WaitsAny xs) s) → Follows p w c i d
       waits_any q xs need open_on is = subst (λ (t : Transition). Follows p w c i t) (sym is) (
         c,
         refl,
-        stands (with_waiting_any th st xs s) (without_output s) refl refl
+        stands (with_mode th st (site.WaitsAny xs) s) (without_output s) refl refl
             (wait_any_row p (here_at (records w.sites)) w c i th st h at q xs need open_on (λ x k. (
               (open_free s.equations q xs x (h.kept i).sound open_on k).0,
               at_site x
@@ -182,7 +178,7 @@ module _ (p : List Stmt) (w : World) (c : State) (n limit i : ℕ) (th : ThreadN
           go false e is = subst (λ (q : Transition). Follows p w c i q) (sym is) (
             c,
             refl,
-            stands (with_waiting th st u s) (bind_attempt p n limit th st u t false s) refl refl
+            stands (with_mode th st (site.Waits u) s) (bind_attempt p n limit th st u t false s) refl refl
                 (ask_row p (here_at (records w.sites)) w c i th st h at limit u t free (at_site u is_here.0) owner (a, b, need, allows, low) was central.0),
           )
 
@@ -203,7 +199,7 @@ module _ (p : List Stmt) (w : World) (c : State) (n limit i : ℕ) (th : ThreadN
           one (Exchanged x new told) e q = inl (st, at, (x, new, told, kinds, fresh_names s kinds, need, e))
 
       go : (q : Need) → stack_need p s.equations st ≡ q → IsUnitFor p n limit s th st q d → Goal
-      go (Waits x) e (z, class, is) = inr (waits x z e class is)
+      go (Waits x) e (z, class, is) = inr (needs x z e class.0 is)
       go (WaitsAny q) e (xs, open_on, is) = inr (waits_any q xs e open_on is)
       go (Binds a b) e (u, t, root, is) = inr (binds a b e u t root is)
       go (Takes kinds) e t = takes kinds e t

@@ -16,9 +16,8 @@ use Rattle.tree_node.specs.Each.{Each}
 use Rattle.tree_node.specs.Names.{EachOfEquation}
 use Rattle.tree_node.specs.Order.{IsLower}
 use Rattle.tree_node.specs.State.{Stack, equal_thread}
-use Rattle.tree_node.specs.Store.{Store, Equation, Same, IsFree, IsSound, equal_var, node_of}
-use Rattle.tree_node.proofs.ClassLemmas.{Same-trans, Same-sym, same_name_decides, Contains-cons_cases, Contains-head, Contains-tail}
-use Rattle.tree_node.proofs.DetLemmas.{node_is_det, none_is_not_det}
+use Rattle.tree_node.specs.Store.{Store, Equation, IsFree, IsSound, equal_var, node_of}
+use Rattle.tree_node.proofs.ClassLemmas.{same_name_decides, Contains-cons_cases, Contains-head, Contains-tail}
 use Rattle.kernel_syntax.specs.declared.stmt.Stmt.{Stmt}
 use Rattle.site_message.specs.declared.message.Msg.{Msg}
 use Rattle.site_message.specs.declared.message.Msg.TheVariants as msg
@@ -27,22 +26,26 @@ use Rattle.oz_model.specs.Answers.{IsPartOf, LinksGoDown}
 use Rattle.oz_model.specs.Effect.{Effect}
 use Rattle.oz_model.proofs.DownLemmas.{lower_binds}
 use Rattle.oz_model.proofs.WithinLemmas.{more_is_within}
-use Rattle.oz_model.proofs.KeepLemmas.{steps_stay, waits_stay, binds_stay}
+use Rattle.oz_model.proofs.KeepLemmas.{steps_stay, need_stays, binds_stay}
+use Rattle.oz_model.proofs.WaitLemmas.{needed_none}
 use Rattle.oz_model.proofs.TestLemmas.{open_waits_stay}
 use Rattle.oz_model.proofs.NameLemmas.{Each-weaker}
 use Rattle.bind_protocol.specs.Records.{Records, knowledge, IsKnown, sites_in}
 use Rattle.site_model.specs.Site.{Threads}
 use Rattle.thread_roster.specs.declared.mode.Mode.{Mode}
 use Rattle.thread_roster.specs.declared.mode.Mode.TheVariants.{WaitsFor}
-use Rattle.thread_roster.specs.Threads.{wake, wake_all}
+use Rattle.thread_roster.specs.Binds.{goes_on}
+use Rattle.thread_roster.specs.Threads.{wake_where}
+use Rattle.thread_roster.proofs.NodeLemmas.{left_none}
+use Rattle.thread_roster.proofs.ThreadLemmas.{woken_by}
 use Rattle.thread_roster.specs.declared.mode.Mode.TheVariants as site
 use Rattle.world_model.specs.World.{Mail, IsOnItsWay, at_put}
 use Rattle.world_model.specs.Placed.{IsPlaced}
 use Rattle.world_model.specs.Names.{IsHere, IsHome, AreHome}
-use Rattle.world_model.specs.Matches.{equations_in, EquationsMatch, RecordsMatch, AllRecordsMatch, ThreadsMatch, IsTold, AreTold, IsAddressed, AreAddressed, IsBound, HasAllowedBind, IsWaiting, IsWaitingAny, IsOpenOn, NeedsFirst, IsAsked, IsExchange, IsAwaited, WaitersMatch}
+use Rattle.world_model.specs.Matches.{equations_in, EquationsMatch, RecordsMatch, AllRecordsMatch, ThreadsMatch, IsTold, AreTold, IsAddressed, AreAddressed, IsBound, HasAllowedBind, IsWaiting, IsNeeding, IsWaitingAny, IsOpenOn, NeedsFirst, IsAsked, IsExchange, IsAwaited, WaitersMatch}
 use Rattle.world_model.proofs.PutLemmas.{two_all, at_all, at_here}
 use Rattle.world_model.proofs.MailLemmas.{sent_to, Posts}
-use Rattle.world_model.proofs.KeyLemmas.{woken_new, woken_old, wake_waits, wake_several, wake_other, wake_cell}
+use Rattle.world_model.proofs.KeyLemmas.{woken_new, woken_old, wake_waits, wake_needs, wake_several, wake_other, wake_cell}
 use Rattle.bind_protocol.specs.Learn.{HasLearned}
 
 -- ---- stores
@@ -74,29 +77,20 @@ wants_more p s c st x t sound one down more free (a, b, need, allows, low) =
     let kept = binds_stay p s c st a b x t sound (more_is_within s c more) need allows lower.0 lower.1 in
     (a, b, kept.0, kept.1, low)
 
-pub class_none : (c : Store) (z x : VarName) → Same c z x → node_of c x ≡ None → node_of c z ≡ None
-class_none c z x joined none = go (node_of c z) refl
-  where
-    go : (o : Option Node) → node_of c z ≡ o → node_of c z ≡ None
-    go None e = e
-    go (Some n) e =
-        let det = node_is_det c z n e in
-        absurd (none_is_not_det c x n none (det.0, Same-trans (Same-sym joined) det.1, det.2))
+-- what is free is of a class without a node
+pub free_none : (c : Store) (x : VarName) → HasOneEach c → LinksGoDown c → IsFree c x → node_of c x ≡ None
+free_none c x one down free = (lower_binds c x (term.Node (node.Int (pos 0))) one down free tt).0
 
--- a wait for the class of a variable that is still free
-pub needs_more : (p : List Stmt) (s c : Store) (st : Stack) (x : VarName) → IsSound c → HasOneEach c → LinksGoDown c → IsPartOf s c → IsFree c x → NeedsFirst p s st x → NeedsFirst p c st x
-needs_more p s c st x sound one down more free (z, need, same) =
-    let within = more_is_within s c more in
-    let joined = within.same z x same in
-    (z, waits_stay p s c st z sound within need (no_node z joined), joined)
-  where
-    no_node : (z : VarName) → Same c z x → node_of c z ≡ None
-    no_node z joined = class_none c z x joined (lower_binds c x (term.Node (node.Int (pos 0))) one down free tt).0
+-- a wait for the node of a class that has none still
+pub needs_more : (p : List Stmt) (s c : Store) (st : Stack) (x : VarName) → IsSound c → IsPartOf s c → node_of c x ≡ None → NeedsFirst p s st x → NeedsFirst p c st x
+needs_more p s c st x sound more none (z, need, same) =
+    let kept = need_stays p s c st z x sound (more_is_within s c more) need same none in
+    (z, kept.0, kept.1)
 
 -- variables that are open in a comparison, and still free
 pub open_more : (p : List Stmt) (s c : Store) (st : Stack) (xs : List VarName) → IsSound c → HasOneEach c → LinksGoDown c → IsPartOf s c → ((x : VarName) → Contains xs x → IsFree c x) → IsOpenOn p s st xs → IsOpenOn p c st xs
 open_more p s c st xs sound one down more free (q, need, open_on) =
-    let kept = open_waits_stay p s c st q xs sound (more_is_within s c more) one need open_on (λ x h. (free x h, (lower_binds c x (term.Node (node.Int (pos 0))) one down (free x h) tt).0)) in
+    let kept = open_waits_stay p s c st q xs sound (more_is_within s c more) one need open_on (λ x h. (free x h, free_none c x one down (free x h))) in
     (q, kept.0, kept.1)
 
 exchange_more : (p : List Stmt) (s c : Store) (st : Stack) (d : CellName) → IsSound c → IsPartOf s c → IsExchange p s st d → IsExchange p c st d
@@ -142,8 +136,9 @@ pub record IsLearnt (eqs : ℕ → Store) (records : ℕ → Records) (mail more
 abbrev learns : (ℕ → Store) → ℕ → VarName → Term → ℕ → Store
 learns eqs j x t = at_put eqs j ((x, t) ∷ eqs j)
 
-abbrev wakes : (ℕ → Threads) → ℕ → VarName → ℕ → Threads
-wakes threads j x = at_put threads j (wake_all x (threads j))
+-- those that wait for x at site j, or need a node that its class has by that, go on
+abbrev woken_at : Store → VarName → Term → Threads → Threads
+woken_at s x t ts = wake_where (goes_on ((x, t) ∷ s) x) ts
 
 module _ (p : List Stmt) (eqs : ℕ → Store) (records : ℕ → Records) (threads : ℕ → Threads) (mail more : Mail) (out : List Sent) (c d : Store) (j : ℕ) (b : Records) (x : VarName) (t : Term)
     (l : IsLearnt eqs records mail more out c d j b x t) where
@@ -154,7 +149,11 @@ module _ (p : List Stmt) (eqs : ℕ → Store) (records : ℕ → Records) (thre
   records' = at_put records j b
 
   abbrev threads' : ℕ → Threads
-  threads' = wakes threads j x
+  threads' = at_put threads j (woken_at (eqs j) x t (threads j))
+
+  -- how a thread of site j stands then
+  abbrev stand : Mode → Mode
+  stand = woken_by (goes_on ((x, t) ∷ eqs j) x)
 
   grow : (i : ℕ) → IsPartOf (eqs i) (eqs' i)
   grow = at_all eqs j ((x, t) ∷ eqs j) (λ i (s : Store). IsPartOf (eqs i) s) (λ e h. Contains-tail _ _ (eqs j) h) (λ i other e h. h)
@@ -203,42 +202,56 @@ module _ (p : List Stmt) (eqs : ℕ → Store) (records : ℕ → Records) (thre
   here_more i y (inr h) = inr (know_more i y h)
 
   -- threads
-  threads_old : (i : ℕ) (n : ThreadName) (st : Stack) (o : Mode) → value_of equal_thread (threads' i) n ≡ Some (st, o) → (m : Mode) × (value_of equal_thread (threads i) n ≡ Some (st, m)) × ((o ≡ m) ⊎ ((i ≡ j) × (wake x m ≡ o)))
-  threads_old = at_all threads j (wake_all x (threads j)) (λ i (ts : Threads). (n : ThreadName) (st : Stack) (o : Mode) → value_of equal_thread ts n ≡ Some (st, o) → (m : Mode) × (value_of equal_thread (threads i) n ≡ Some (st, m)) × ((o ≡ m) ⊎ ((i ≡ j) × (wake x m ≡ o))))
-      (λ n st o h. let r = woken_old x (threads j) n st o h in (r.0, r.1, inr (refl, r.2))) (λ i other n st o h. (o, h, inl refl))
+  threads_old : (i : ℕ) (n : ThreadName) (st : Stack) (o : Mode) → value_of equal_thread (threads' i) n ≡ Some (st, o) → (m : Mode) × (value_of equal_thread (threads i) n ≡ Some (st, m)) × ((o ≡ m) ⊎ ((i ≡ j) × (stand m ≡ o)))
+  threads_old = at_all threads j (woken_at (eqs j) x t (threads j)) (λ i (ts : Threads). (n : ThreadName) (st : Stack) (o : Mode) → value_of equal_thread ts n ≡ Some (st, o) → (m : Mode) × (value_of equal_thread (threads i) n ≡ Some (st, m)) × ((o ≡ m) ⊎ ((i ≡ j) × (stand m ≡ o))))
+      (λ n st o h. let r = woken_old (goes_on ((x, t) ∷ eqs j) x) (threads j) n st o h in (r.0, r.1, inr (refl, r.2))) (λ i other n st o h. (o, h, inl refl))
 
   threads_new : (i : ℕ) (n : ThreadName) (st : Stack) (m : Mode) → value_of equal_thread (threads i) n ≡ Some (st, m) → (o : Mode) × (value_of equal_thread (threads' i) n ≡ Some (st, o))
-  threads_new = at_all threads j (wake_all x (threads j)) (λ i (ts : Threads). (n : ThreadName) (st : Stack) (m : Mode) → value_of equal_thread (threads i) n ≡ Some (st, m) → (o : Mode) × (value_of equal_thread ts n ≡ Some (st, o)))
-      (λ n st m h. (wake x m, woken_new x (threads j) n st m h)) (λ i other n st m h. (m, h))
+  threads_new = at_all threads j (woken_at (eqs j) x t (threads j)) (λ i (ts : Threads). (n : ThreadName) (st : Stack) (m : Mode) → value_of equal_thread (threads i) n ≡ Some (st, m) → (o : Mode) × (value_of equal_thread ts n ≡ Some (st, o)))
+      (λ n st m h. (stand m, woken_new (goes_on ((x, t) ∷ eqs j) x) (threads j) n st m h)) (λ i other n st m h. (m, h))
 
   waits_old : (i : ℕ) (n : ThreadName) (st : Stack) (y : VarName) → IsWaiting threads' i n st y → IsWaiting threads i n st y × (i ≡ j → y ≢ x)
-  waits_old = at_all threads j (wake_all x (threads j)) (λ i (ts : Threads). (n : ThreadName) (st : Stack) (y : VarName) → value_of equal_thread ts n ≡ Some (st, site.Waits y) → IsWaiting threads i n st y × (i ≡ j → y ≢ x))
-      (λ n st y h. back n st y (woken_old x (threads j) n st (site.Waits y) h)) (λ i other n st y h. (h, λ e. absurd (other e)))
+  waits_old = at_all threads j (woken_at (eqs j) x t (threads j)) (λ i (ts : Threads). (n : ThreadName) (st : Stack) (y : VarName) → value_of equal_thread ts n ≡ Some (st, site.Waits y) → IsWaiting threads i n st y × (i ≡ j → y ≢ x))
+      (λ n st y h. back n st y (woken_old (goes_on ((x, t) ∷ eqs j) x) (threads j) n st (site.Waits y) h)) (λ i other n st y h. (h, λ e. absurd (other e)))
     where
-      back : (n : ThreadName) (st : Stack) (y : VarName) → (m : Mode) × (value_of equal_thread (threads j) n ≡ Some (st, m)) × (wake x m ≡ site.Waits y) → IsWaiting threads j n st y × (j ≡ j → y ≢ x)
+      back : (n : ThreadName) (st : Stack) (y : VarName) → (m : Mode) × (value_of equal_thread (threads j) n ≡ Some (st, m)) × (stand m ≡ site.Waits y) → IsWaiting threads j n st y × (j ≡ j → y ≢ x)
       back n st y (m, at, e) =
-          let modes = wake_waits x y m e in
+          let modes = wake_waits ((x, t) ∷ eqs j) x y m e in
           (subst (λ (o : Mode). value_of equal_thread (threads j) n ≡ Some (st, o)) modes.0 at, λ e. modes.1)
 
-  several_old : (i : ℕ) (n : ThreadName) (st : Stack) (ys : List VarName) → IsWaitingAny threads' i n st ys → IsWaitingAny threads i n st ys × (i ≡ j → (y : VarName) → Contains ys y → y ≢ x)
-  several_old = at_all threads j (wake_all x (threads j)) (λ i (ts : Threads). (n : ThreadName) (st : Stack) (ys : List VarName) → value_of equal_thread ts n ≡ Some (st, site.WaitsAny ys) → IsWaitingAny threads i n st ys × (i ≡ j → (y : VarName) → Contains ys y → y ≢ x))
-      (λ n st ys h. back n st ys (woken_old x (threads j) n st (site.WaitsAny ys) h)) (λ i other n st ys h. (h, λ e. absurd (other e)))
+  -- who still needs the node of a class has none of it by what the site knows then
+  needs_old : (i : ℕ) (n : ThreadName) (st : Stack) (y : VarName) → IsNeeding threads' i n st y → IsNeeding threads i n st y × (NeedsFirst p (eqs i) st y → node_of (eqs' i) y ≡ None)
+  needs_old = two_all threads eqs j (woken_at (eqs j) x t (threads j)) ((x, t) ∷ eqs j) (λ i (ts : Threads) (s : Store). (n : ThreadName) (st : Stack) (y : VarName) → value_of equal_thread ts n ≡ Some (st, site.Needs y) → IsNeeding threads i n st y × (NeedsFirst p (eqs i) st y → node_of s y ≡ None))
+      (λ n st y h. back n st y (woken_old (goes_on ((x, t) ∷ eqs j) x) (threads j) n st (site.Needs y) h)) (λ i other n st y h. (h, none i st y))
     where
-      back : (n : ThreadName) (st : Stack) (ys : List VarName) → (m : Mode) × (value_of equal_thread (threads j) n ≡ Some (st, m)) × (wake x m ≡ site.WaitsAny ys) → IsWaitingAny threads j n st ys × (j ≡ j → (y : VarName) → Contains ys y → y ≢ x)
+      none : (i : ℕ) (st : Stack) (y : VarName) → NeedsFirst p (eqs i) st y → node_of (eqs i) y ≡ None
+      none i st y (z, need, same) = needed_none p (eqs i) st z y need same
+
+      back : (n : ThreadName) (st : Stack) (y : VarName) → (m : Mode) × (value_of equal_thread (threads j) n ≡ Some (st, m)) × (stand m ≡ site.Needs y) →
+          IsNeeding threads j n st y × (NeedsFirst p (eqs j) st y → node_of ((x, t) ∷ eqs j) y ≡ None)
+      back n st y (m, at, e) =
+          let modes = wake_needs ((x, t) ∷ eqs j) x y m e in
+          (subst (λ (o : Mode). value_of equal_thread (threads j) n ≡ Some (st, o)) modes.0 at, λ needs. left_none (eqs j) x y t (none j st y needs) modes.1)
+
+  several_old : (i : ℕ) (n : ThreadName) (st : Stack) (ys : List VarName) → IsWaitingAny threads' i n st ys → IsWaitingAny threads i n st ys × (i ≡ j → (y : VarName) → Contains ys y → y ≢ x)
+  several_old = at_all threads j (woken_at (eqs j) x t (threads j)) (λ i (ts : Threads). (n : ThreadName) (st : Stack) (ys : List VarName) → value_of equal_thread ts n ≡ Some (st, site.WaitsAny ys) → IsWaitingAny threads i n st ys × (i ≡ j → (y : VarName) → Contains ys y → y ≢ x))
+      (λ n st ys h. back n st ys (woken_old (goes_on ((x, t) ∷ eqs j) x) (threads j) n st (site.WaitsAny ys) h)) (λ i other n st ys h. (h, λ e. absurd (other e)))
+    where
+      back : (n : ThreadName) (st : Stack) (ys : List VarName) → (m : Mode) × (value_of equal_thread (threads j) n ≡ Some (st, m)) × (stand m ≡ site.WaitsAny ys) → IsWaitingAny threads j n st ys × (j ≡ j → (y : VarName) → Contains ys y → y ≢ x)
       back n st ys (m, at, e) =
-          let modes = wake_several x ys m e in
+          let modes = wake_several ((x, t) ∷ eqs j) x ys m e in
           (subst (λ (o : Mode). value_of equal_thread (threads j) n ≡ Some (st, o)) modes.0 at, λ e. modes.1)
 
   waits_new : (i : ℕ) (n : ThreadName) (st : Stack) (y : VarName) → y ≢ x → IsWaiting threads i n st y → IsWaiting threads' i n st y
-  waits_new i n st y other = at_all threads j (wake_all x (threads j)) (λ i (ts : Threads). IsWaiting threads i n st y → value_of equal_thread ts n ≡ Some (st, site.Waits y))
-      (λ h. subst (λ (o : Mode). value_of equal_thread (wake_all x (threads j)) n ≡ Some (st, o)) (wake_other x y other) (woken_new x (threads j) n st (site.Waits y) h)) (λ i other h. h) i
+  waits_new i n st y other = at_all threads j (woken_at (eqs j) x t (threads j)) (λ i (ts : Threads). IsWaiting threads i n st y → value_of equal_thread ts n ≡ Some (st, site.Waits y))
+      (λ h. subst (λ (o : Mode). value_of equal_thread (woken_at (eqs j) x t (threads j)) n ≡ Some (st, o)) (wake_other ((x, t) ∷ eqs j) x y other) (woken_new (goes_on ((x, t) ∷ eqs j) x) (threads j) n st (site.Waits y) h)) (λ i other h. h) i
 
   cell_old : (i : ℕ) (n : ThreadName) (st : Stack) (e : CellName) → value_of equal_thread (threads' i) n ≡ Some (st, WaitsFor e) → value_of equal_thread (threads i) n ≡ Some (st, WaitsFor e)
-  cell_old = at_all threads j (wake_all x (threads j)) (λ i (ts : Threads). (n : ThreadName) (st : Stack) (e : CellName) → value_of equal_thread ts n ≡ Some (st, WaitsFor e) → value_of equal_thread (threads i) n ≡ Some (st, WaitsFor e))
-      (λ n st e h. back n st e (woken_old x (threads j) n st (WaitsFor e) h)) (λ i other n st e h. h)
+  cell_old = at_all threads j (woken_at (eqs j) x t (threads j)) (λ i (ts : Threads). (n : ThreadName) (st : Stack) (e : CellName) → value_of equal_thread ts n ≡ Some (st, WaitsFor e) → value_of equal_thread (threads i) n ≡ Some (st, WaitsFor e))
+      (λ n st e h. back n st e (woken_old (goes_on ((x, t) ∷ eqs j) x) (threads j) n st (WaitsFor e) h)) (λ i other n st e h. h)
     where
-      back : (n : ThreadName) (st : Stack) (e : CellName) → (m : Mode) × (value_of equal_thread (threads j) n ≡ Some (st, m)) × (wake x m ≡ WaitsFor e) → value_of equal_thread (threads j) n ≡ Some (st, WaitsFor e)
-      back n st e (m, at, q) = subst (λ (o : Mode). value_of equal_thread (threads j) n ≡ Some (st, o)) (wake_cell x e m q) at
+      back : (n : ThreadName) (st : Stack) (e : CellName) → (m : Mode) × (value_of equal_thread (threads j) n ≡ Some (st, m)) × (stand m ≡ WaitsFor e) → value_of equal_thread (threads j) n ≡ Some (st, WaitsFor e)
+      back n st e (m, at, q) = subst (λ (o : Mode). value_of equal_thread (threads j) n ≡ Some (st, o)) (wake_cell ((x, t) ∷ eqs j) x e m q) at
 
   -- messages
   only_bindings : (to : ℕ) (m : Msg) → ((bundle : List Equation) → m ≢ msg.Binding x t bundle) → Contains out (sent_to to m) → ⊥
@@ -355,7 +368,8 @@ module _ (p : List Stmt) (eqs : ℕ → Store) (records : ℕ → Records) (thre
   pub learnt_waiting : EquationsMatch eqs mail c → AllRecordsMatch records' eqs' → WaitersMatch p eqs records threads mail c → WaitersMatch p eqs' records' threads' more d
   learnt_waiting k kept w = record {
     asks = λ i to y r n bundle h. asked i to y r n bundle (l.posts.from i to _ h);
-    waits = λ i n st y h. let old = waits_old i n st y h in waiting i n st y old.1 (w.waits i n st y old.0);
+    waits = λ i n st y h. let old = waits_old i n st y h in waiting i n y old.1 (w.waits i n st y old.0);
+    needs = λ i n st y h. let old = needs_old i n st y h in needing i st y old.1 (w.needs i n st y old.0);
     compares = λ i n st ys h. let old = several_old i n st ys h in open_vars i n st ys old.1 (w.compares i n st ys old.0);
     exchanges = λ i n st e h. exchange_more p (eqs i) (eqs' i) st e (kept i).sound (grow i) (w.exchanges i n st e (cell_old i n st e h));
   }
@@ -378,17 +392,15 @@ module _ (p : List Stmt) (eqs : ℕ → Store) (records : ℕ → Records) (thre
           old (inr q) = decide y r n (equal_var y x) refl q
       asked i to y r n bundle (inr h) = absurd (only_bindings to _ (λ bs e. cc) h)
 
-      waiting : (i : ℕ) (n : ThreadName) (st : Stack) (y : VarName) → (i ≡ j → y ≢ x) → IsFree (eqs i) y × IsHere (records i) y × (NeedsFirst p (eqs i) st y ⊎ IsAsked mail c n y) →
-          IsFree (eqs' i) y × IsHere (records' i) y × (NeedsFirst p (eqs' i) st y ⊎ IsAsked more d n y)
-      waiting i n st y other (free, here, why) = (free_now, here_more i y here, go why)
+      waiting : (i : ℕ) (n : ThreadName) (y : VarName) → (i ≡ j → y ≢ x) → IsFree (eqs i) y × IsHere (records i) y × IsAsked mail c n y → IsFree (eqs' i) y × IsHere (records' i) y × IsAsked more d n y
+      waiting i n y other (free, here, why) = (free_new i y other free, here_more i y here, go why)
         where
-          free_now : IsFree (eqs' i) y
-          free_now = free_new i y other free
+          go : IsAsked mail c n y → IsAsked more d n y
+          go (inl h) = inl (h.0, h.1, h.2, l.posts.old h.0 _ _ h.3)
+          go (inr q) = inr (grown y q)
 
-          go : NeedsFirst p (eqs i) st y ⊎ IsAsked mail c n y → NeedsFirst p (eqs' i) st y ⊎ IsAsked more d n y
-          go (inl needs) = inl (needs_more p (eqs i) (eqs' i) st y (kept i).sound (learnt_part k i).0 (learnt_part k i).1 (grow i) free_now needs)
-          go (inr (inl h)) = inr (inl (h.0, h.1, h.2, l.posts.old h.0 _ _ h.3))
-          go (inr (inr q)) = inr (inr (grown y q))
+      needing : (i : ℕ) (st : Stack) (y : VarName) → (NeedsFirst p (eqs i) st y → node_of (eqs' i) y ≡ None) → (i ≢ 0) × NeedsFirst p (eqs i) st y → (i ≢ 0) × NeedsFirst p (eqs' i) st y
+      needing i st y none (real, needs) = (real, needs_more p (eqs i) (eqs' i) st y (kept i).sound (grow i) (none needs) needs)
 
       open_vars : (i : ℕ) (n : ThreadName) (st : Stack) (ys : List VarName) → (i ≡ j → (y : VarName) → Contains ys y → y ≢ x) → IsOpenOn p (eqs i) st ys × ((y : VarName) → Contains ys y → IsFree (eqs i) y × IsHere (records i) y) →
           IsOpenOn p (eqs' i) st ys × ((y : VarName) → Contains ys y → IsFree (eqs' i) y × IsHere (records' i) y)
@@ -399,10 +411,10 @@ module _ (p : List Stmt) (eqs : ℕ → Store) (records : ℕ → Records) (thre
           free_now y h = free_new i y (λ e. other e y h) (each y h).0
 
   pub learnt_homes : (here : ℕ → Name → Type 0) → EachOfEquation (here j) (x, t) → AreHome here eqs threads → AreHome here eqs' threads'
-  learnt_homes here is k = two_all eqs threads j ((x, t) ∷ eqs j) (wake_all x (threads j)) (λ i (s : Store) (ts : Threads). IsHome (here i) s ts) home (λ i other. k i)
+  learnt_homes here is k = two_all eqs threads j ((x, t) ∷ eqs j) (woken_at (eqs j) x t (threads j)) (λ i (s : Store) (ts : Threads). IsHome (here i) s ts) home (λ i other. k i)
     where
-      home : IsHome (here j) ((x, t) ∷ eqs j) (wake_all x (threads j))
+      home : IsHome (here j) ((x, t) ∷ eqs j) (woken_at (eqs j) x t (threads j))
       home = record {
         equations = (is, (k j).equations);
-        stacks = λ n v h. let r = woken_old x (threads j) n v.0 v.1 h in (k j).stacks n (v.0, r.0) r.1;
+        stacks = λ n v h. let r = woken_old (goes_on ((x, t) ∷ eqs j) x) (threads j) n v.0 v.1 h in (k j).stacks n (v.0, r.0) r.1;
       }

@@ -26,19 +26,20 @@ use Rattle.world_model.specs.World.{Mail, IsOnItsWay, at_put, mail_from}
 use Rattle.world_model.specs.Names.{IsMade, IsHere, IsHome, AreHome}
 use Rattle.world_model.proofs.MailLemmas.{nothing, sent_to, Posts, posts}
 use Rattle.world_variables.proofs.AlikeLemmas.{knowledge_posts, placed_posts, told_posts, addressed_posts, said_posts, asked_posts}
-use Rattle.world_model.specs.Matches.{IsThreadAt, ThreadsMatch, HasAllowedBind, IsWaiting, IsWaitingAny, IsOpenOn, NeedsFirst, IsAsked, IsExchange, IsAwaited, PartsMatch}
+use Rattle.world_model.specs.Matches.{IsThreadAt, ThreadsMatch, HasAllowedBind, IsWaiting, IsNeeding, IsWaitingAny, IsOpenOn, NeedsFirst, IsAsked, IsExchange, IsAwaited, PartsMatch}
 use Rattle.world_model.proofs.PutLemmas.{at_all, at_here}
 use Rattle.world_variables.proofs.LearnLemmas.{placed_alike}
 use Rattle.world_model.proofs.KeyLemmas.{with_here, with_there, goes_cases}
 use Rattle.tree_node.proofs.NameLemmas.{same_thread_decides}
 use Rattle.thread_roster.proofs.NameLemmas.{name_cases as threads_decide}
 
--- why a thread may wait so
-abbrev pub MayWait : List Stmt → Store → Records → Mail → Store → ThreadName → Stack → Mode → Type 0
-MayWait p s b mail c n st Runs = Unit {0}
-MayWait p s b mail c n st (site.Waits x) = IsFree s x × IsHere b x × (NeedsFirst p s st x ⊎ IsAsked mail c n x)
-MayWait p s b mail c n st (site.WaitsAny xs) = IsOpenOn p s st xs × ((x : VarName) → Contains xs x → IsFree s x × IsHere b x)
-MayWait p s b mail c n st (WaitsFor d) = IsExchange p s st d
+-- why a thread of site i may wait so
+abbrev pub MayWait : List Stmt → ℕ → Store → Records → Mail → Store → ThreadName → Stack → Mode → Type 0
+MayWait p i s b mail c n st Runs = Unit {0}
+MayWait p i s b mail c n st (site.Waits x) = IsFree s x × IsHere b x × IsAsked mail c n x
+MayWait p i s b mail c n st (site.Needs x) = (i ≢ 0) × NeedsFirst p s st x
+MayWait p i s b mail c n st (site.WaitsAny xs) = IsOpenOn p s st xs × ((x : VarName) → Contains xs x → IsFree s x × IsHere b x)
+MayWait p i s b mail c n st (WaitsFor d) = IsExchange p s st d
 
 module _ (p : List Stmt) (here : ℕ → Name → Type 0) (eqs : ℕ → Store) (records : ℕ → Records) (threads : ℕ → Threads) (made : ℕ → Counters) (mail : Mail) (s : State) (parts : PartsMatch p here eqs records threads made mail s) where
   -- thread n of site i, which could go on, stands so from now on
@@ -91,7 +92,7 @@ module _ (p : List Stmt) (here : ℕ → Name → Type 0) (eqs : ℕ → Store) 
     mode_homes : AreHome here eqs (at_put threads i waits)
     mode_homes = at_all threads i waits (λ j (ts : Threads). IsHome (here j) (eqs j) ts) (record { equations = (parts.homes i).equations; stacks = λ o v h. home o v (mode_old o v h) }) (λ j other. parts.homes j)
 
-    pub mode_parts : MayWait p (eqs i) (records i) mail s.equations n st m → PartsMatch p here eqs records (at_put threads i waits) made mail s
+    pub mode_parts : MayWait p i (eqs i) (records i) mail s.equations n st m → PartsMatch p here eqs records (at_put threads i waits) made mail s
     mode_parts may = record {
       knowledge = parts.knowledge;
       kept = parts.kept;
@@ -100,8 +101,10 @@ module _ (p : List Stmt) (here : ℕ → Name → Type 0) (eqs : ℕ → Store) 
       addressed = parts.addressed;
       waiting = record {
         asks = λ k to x t o bundle h. asked x t o (parts.waiting.asks k to x t o bundle h);
-        waits = at_all threads i waits (λ j (ts : Threads). (o : ThreadName) (su : Stack) (x : VarName) → value_of equal_thread ts o ≡ Some (su, site.Waits x) → IsFree (eqs j) x × IsHere (records j) x × (NeedsFirst p (eqs j) su x ⊎ IsAsked mail s.equations o x))
+        waits = at_all threads i waits (λ j (ts : Threads). (o : ThreadName) (su : Stack) (x : VarName) → value_of equal_thread ts o ≡ Some (su, site.Waits x) → IsFree (eqs j) x × IsHere (records j) x × IsAsked mail s.equations o x)
             (λ o su x h. wait o su x (mode_old o (su, site.Waits x) h)) (λ j other o su x h. parts.waiting.waits j o su x h);
+        needs = at_all threads i waits (λ j (ts : Threads). (o : ThreadName) (su : Stack) (x : VarName) → value_of equal_thread ts o ≡ Some (su, site.Needs x) → (j ≢ 0) × NeedsFirst p (eqs j) su x)
+            (λ o su x h. need o su x (mode_old o (su, site.Needs x) h)) (λ j other o su x h. parts.waiting.needs j o su x h);
         compares = at_all threads i waits (λ j (ts : Threads). (o : ThreadName) (su : Stack) (xs : List VarName) → value_of equal_thread ts o ≡ Some (su, site.WaitsAny xs) → IsOpenOn p (eqs j) su xs × ((x : VarName) → Contains xs x → IsFree (eqs j) x × IsHere (records j) x))
             (λ o su xs h. compare o su xs (mode_old o (su, site.WaitsAny xs) h)) (λ j other o su xs h. parts.waiting.compares j o su xs h);
         exchanges = at_all threads i waits (λ j (ts : Threads). (o : ThreadName) (su : Stack) (d : CellName) → value_of equal_thread ts o ≡ Some (su, WaitsFor d) → IsExchange p (eqs j) su d)
@@ -117,23 +120,29 @@ module _ (p : List Stmt) (here : ℕ → Name → Type 0) (eqs : ℕ → Store) 
         asked x t o (inl h) = inl h
         asked x t o (inr (j, su, w, wants)) = inr (j, su, waiting_stays j o su x w, wants)
 
-        wait : (o : ThreadName) (su : Stack) (x : VarName) → ((o ≡ n) × (◌≡◌ {A = ThreadState} (su, site.Waits x) (st, m))) ⊎ ((n ≢ o) × IsWaiting threads i o su x) → IsFree (eqs i) x × IsHere (records i) x × (NeedsFirst p (eqs i) su x ⊎ IsAsked mail s.equations o x)
+        wait : (o : ThreadName) (su : Stack) (x : VarName) → ((o ≡ n) × (◌≡◌ {A = ThreadState} (su, site.Waits x) (st, m))) ⊎ ((n ≢ o) × IsWaiting threads i o su x) → IsFree (eqs i) x × IsHere (records i) x × IsAsked mail s.equations o x
         wait o su x (inr h) = parts.waiting.waits i o su x h.1
         wait o su x (inl e) =
             let modes : site.Waits x ≡ m = ap (λ (v : ThreadState). v.1) e.1 in
-            rw (e.0, ap (λ (v : ThreadState). v.0) e.1) (subst (λ (q : Mode). MayWait p (eqs i) (records i) mail s.equations n st q) (sym modes) may)
+            rw e.0 (subst (λ (q : Mode). MayWait p i (eqs i) (records i) mail s.equations n st q) (sym modes) may)
+
+        need : (o : ThreadName) (su : Stack) (x : VarName) → ((o ≡ n) × (◌≡◌ {A = ThreadState} (su, site.Needs x) (st, m))) ⊎ ((n ≢ o) × IsNeeding threads i o su x) → (i ≢ 0) × NeedsFirst p (eqs i) su x
+        need o su x (inr h) = parts.waiting.needs i o su x h.1
+        need o su x (inl e) =
+            let modes : site.Needs x ≡ m = ap (λ (v : ThreadState). v.1) e.1 in
+            rw (ap (λ (v : ThreadState). v.0) e.1) (subst (λ (q : Mode). MayWait p i (eqs i) (records i) mail s.equations n st q) (sym modes) may)
 
         compare : (o : ThreadName) (su : Stack) (xs : List VarName) → ((o ≡ n) × (◌≡◌ {A = ThreadState} (su, site.WaitsAny xs) (st, m))) ⊎ ((n ≢ o) × IsWaitingAny threads i o su xs) → IsOpenOn p (eqs i) su xs × ((x : VarName) → Contains xs x → IsFree (eqs i) x × IsHere (records i) x)
         compare o su xs (inr h) = parts.waiting.compares i o su xs h.1
         compare o su xs (inl e) =
             let modes : site.WaitsAny xs ≡ m = ap (λ (v : ThreadState). v.1) e.1 in
-            rw (ap (λ (v : ThreadState). v.0) e.1) (subst (λ (q : Mode). MayWait p (eqs i) (records i) mail s.equations n st q) (sym modes) may)
+            rw (ap (λ (v : ThreadState). v.0) e.1) (subst (λ (q : Mode). MayWait p i (eqs i) (records i) mail s.equations n st q) (sym modes) may)
 
         exchange : (o : ThreadName) (su : Stack) (d : CellName) → ((o ≡ n) × (◌≡◌ {A = ThreadState} (su, WaitsFor d) (st, m))) ⊎ ((n ≢ o) × (value_of equal_thread (threads i) o ≡ Some (su, WaitsFor d))) → IsExchange p (eqs i) su d
         exchange o su d (inr h) = parts.waiting.exchanges i o su d h.1
         exchange o su d (inl e) =
             let modes : WaitsFor d ≡ m = ap (λ (v : ThreadState). v.1) e.1 in
-            rw (ap (λ (v : ThreadState). v.0) e.1) (subst (λ (q : Mode). MayWait p (eqs i) (records i) mail s.equations n st q) (sym modes) may)
+            rw (ap (λ (v : ThreadState). v.0) e.1) (subst (λ (q : Mode). MayWait p i (eqs i) (records i) mail s.equations n st q) (sym modes) may)
 
     -- it asked for a bind, and waits for the answer
     pub ask_parts : (k : ℕ) (x : VarName) (t : Term) (bundle : List Equation) → m ≡ site.Waits x → IsFree (eqs i) x → IsHere (records i) x → IsHere (records x.site) x → HasAllowedBind p (eqs i) st x t → Each (Contains s.equations) bundle → Fit.EachOfMsg (IsMade made) (msg.BindReq x n t bundle) →
@@ -146,8 +155,10 @@ module _ (p : List Stmt) (here : ℕ → Name → Type 0) (eqs : ℕ → Store) 
       addressed = addressed_posts mail more out sent records (λ a o h. rw (only a o h).1 ((only a o h).0, owner, wants.4)) parts.addressed;
       waiting = record {
         asks = λ l a y u o bs h. asked a y u o bs (sent.from l a _ h);
-        waits = at_all threads i waits (λ j (ts : Threads). (o : ThreadName) (su : Stack) (y : VarName) → value_of equal_thread ts o ≡ Some (su, site.Waits y) → IsFree (eqs j) y × IsHere (records j) y × (NeedsFirst p (eqs j) su y ⊎ IsAsked more s.equations o y))
-            (λ o su y h. wait o su y (mode_old o (su, site.Waits y) h)) (λ j other o su y h. let r = parts.waiting.waits j o su y h in (r.0, r.1, still o y j su r.2));
+        waits = at_all threads i waits (λ j (ts : Threads). (o : ThreadName) (su : Stack) (y : VarName) → value_of equal_thread ts o ≡ Some (su, site.Waits y) → IsFree (eqs j) y × IsHere (records j) y × IsAsked more s.equations o y)
+            (λ o su y h. wait o su y (mode_old o (su, site.Waits y) h)) (λ j other o su y h. let r = parts.waiting.waits j o su y h in (r.0, r.1, asked_posts mail more out sent s.equations o y r.2));
+        needs = at_all threads i waits (λ j (ts : Threads). (o : ThreadName) (su : Stack) (y : VarName) → value_of equal_thread ts o ≡ Some (su, site.Needs y) → (j ≢ 0) × NeedsFirst p (eqs j) su y)
+            (λ o su y h. need o su y (mode_old o (su, site.Needs y) h)) (λ j other o su y h. parts.waiting.needs j o su y h);
         compares = at_all threads i waits (λ j (ts : Threads). (o : ThreadName) (su : Stack) (ys : List VarName) → value_of equal_thread ts o ≡ Some (su, site.WaitsAny ys) → IsOpenOn p (eqs j) su ys × ((y : VarName) → Contains ys y → IsFree (eqs j) y × IsHere (records j) y))
             (λ o su ys h. compare o su ys (mode_old o (su, site.WaitsAny ys) h)) (λ j other o su ys h. parts.waiting.compares j o su ys h);
         exchanges = at_all threads i waits (λ j (ts : Threads). (o : ThreadName) (su : Stack) (d : CellName) → value_of equal_thread ts o ≡ Some (su, WaitsFor d) → IsExchange p (eqs j) su d)
@@ -178,10 +189,6 @@ module _ (p : List Stmt) (here : ℕ → Name → Type 0) (eqs : ℕ → Store) 
             go (inl q) = (sym (ap (λ (r : Sent). r.to) q), sym (ap (λ (r : Sent). r.msg) q))
             go (inr q) = absurd (nothing _ q)
 
-        still : (o : ThreadName) (y : VarName) (j : ℕ) (su : Stack) → NeedsFirst p (eqs j) su y ⊎ IsAsked mail s.equations o y → NeedsFirst p (eqs j) su y ⊎ IsAsked more s.equations o y
-        still o y j su (inl h) = inl h
-        still o y j su (inr h) = inr (asked_posts mail more out sent s.equations o y h)
-
         here_now : IsWaiting (at_put threads i waits) i n st x
         here_now = subst (λ (ts : Threads). value_of equal_thread ts n ≡ Some (st, site.Waits x)) (sym (at_here threads i waits))
             (subst (λ (q : Mode). value_of equal_thread waits n ≡ Some (st, q)) mode (with_here equal_thread same_thread_decides (threads i) n (st, m) (st, Runs) at))
@@ -199,13 +206,17 @@ module _ (p : List Stmt) (here : ℕ → Name → Type 0) (eqs : ℕ → Store) 
             let term : u ≡ t = cc in
             rw (var, thread, term) (inr (i, st, here_now, wants))
 
-        wait : (o : ThreadName) (su : Stack) (y : VarName) → ((o ≡ n) × (◌≡◌ {A = ThreadState} (su, site.Waits y) (st, m))) ⊎ ((n ≢ o) × IsWaiting threads i o su y) → IsFree (eqs i) y × IsHere (records i) y × (NeedsFirst p (eqs i) su y ⊎ IsAsked more s.equations o y)
-        wait o su y (inr h) = let r = parts.waiting.waits i o su y h.1 in (r.0, r.1, still o y i su r.2)
+        wait : (o : ThreadName) (su : Stack) (y : VarName) → ((o ≡ n) × (◌≡◌ {A = ThreadState} (su, site.Waits y) (st, m))) ⊎ ((n ≢ o) × IsWaiting threads i o su y) → IsFree (eqs i) y × IsHere (records i) y × IsAsked more s.equations o y
+        wait o su y (inr h) = let r = parts.waiting.waits i o su y h.1 in (r.0, r.1, asked_posts mail more out sent s.equations o y r.2)
         wait o su y (inl e) =
             let modes : site.Waits y ≡ site.Waits x = ap (λ (v : ThreadState). v.1) e.1 ∙ mode in
             let var : y ≡ x = cc in
             let posted = sent.new x.site request (Contains-head _ []) in
-            rw (e.0, var) (free, is, inr (inl (posted.0, t, bundle, posted.1)))
+            rw (e.0, var) (free, is, inl (posted.0, t, bundle, posted.1))
+
+        need : (o : ThreadName) (su : Stack) (y : VarName) → ((o ≡ n) × (◌≡◌ {A = ThreadState} (su, site.Needs y) (st, m))) ⊎ ((n ≢ o) × IsNeeding threads i o su y) → (i ≢ 0) × NeedsFirst p (eqs i) su y
+        need o su y (inr h) = parts.waiting.needs i o su y h.1
+        need o su y (inl e) = let modes : site.Needs y ≡ site.Waits x = ap (λ (v : ThreadState). v.1) e.1 ∙ mode in cc
 
         compare : (o : ThreadName) (su : Stack) (ys : List VarName) → ((o ≡ n) × (◌≡◌ {A = ThreadState} (su, site.WaitsAny ys) (st, m))) ⊎ ((n ≢ o) × IsWaitingAny threads i o su ys) → IsOpenOn p (eqs i) su ys × ((y : VarName) → Contains ys y → IsFree (eqs i) y × IsHere (records i) y)
         compare o su ys (inr h) = parts.waiting.compares i o su ys h.1

@@ -23,6 +23,7 @@ use Rattle.oz_model.proofs.EffectNames.{step_names, effect_names}
 use Rattle.bind_protocol.specs.Records.{knowledge, IsKnown}
 use Rattle.site_model.specs.Site.{Site, Counters}
 use Rattle.thread_roster.specs.declared.mode.Mode.TheVariants.{Runs}
+use Rattle.thread_roster.specs.Binds.{goes_on}
 use Rattle.site_model.specs.Transition.{Transition, without_output, with_messages, with_pick, sequence, with_lines}
 use Rattle.site_model.specs.Variables.{own_bind, own_binds}
 use Rattle.site_model.specs.Cells.{exchange_stack}
@@ -100,7 +101,7 @@ binds_rows p here w c i limit (e ∷ es) real can h =
 -- who can go on still can
 pub binds_run : (limit : ℕ) (es : List Equation) (s : Site) (n : ThreadName) (st : Stack) → value_of equal_thread s.threads n ≡ Some (st, Runs) → value_of equal_thread (own_binds limit es s).site.threads n ≡ Some (st, Runs)
 binds_run limit [] s n st h = h
-binds_run limit (e ∷ es) s n st h = woken_new e.0 (own_binds limit es s).site.threads n st Runs (binds_run limit es s n st h)
+binds_run limit (e ∷ es) s n st h = woken_new (goes_on (e ∷ (own_binds limit es s).site.equations) e.0) (own_binds limit es s).site.threads n st Runs (binds_run limit es s n st h)
 
 -- ---- the thread goes on
 

@@ -19,7 +19,7 @@ use Rattle.thread_roster.specs.declared.mode.Mode.TheVariants as site
 use Rattle.site_model.specs.Unit.{runnable_state}
 use Rattle.world_model.specs.World.{Mail, at_put}
 use Rattle.world_model.specs.Names.{IsHere, AreHome}
-use Rattle.world_model.specs.Matches.{IsThreadAt, IsInSpawn, ThreadsMatch, IsWaiting, IsWaitingAny, IsOpenOn, NeedsFirst, IsAsked, IsExchange, IsAwaited, WaitersMatch}
+use Rattle.world_model.specs.Matches.{IsThreadAt, IsInSpawn, ThreadsMatch, IsWaiting, IsNeeding, IsWaitingAny, IsOpenOn, NeedsFirst, IsAsked, IsExchange, IsAwaited, WaitersMatch}
 use Rattle.world_model.proofs.PutLemmas.{at_all, at_here}
 use Rattle.world_model.proofs.MailLemmas.{Gone}
 use Rattle.world_model.proofs.KeyLemmas.{goes_cases, goes_here, goes_there}
@@ -76,6 +76,7 @@ module _ (threads : ℕ → Threads) (i : ℕ) (n : ThreadName) (st : Stack) (no
   waiting_fronted p eqs records mail c w = record {
     asks = λ k to x t o bundle h. asked x t o (w.asks k to x t o bundle h);
     waits = λ j o su x h. wait j o su x (fronted_old j o (su, site.Waits x) h);
+    needs = λ j o su x h. need j o su x (fronted_old j o (su, site.Needs x) h);
     compares = λ j o su xs h. compare j o su xs (fronted_old j o (su, site.WaitsAny xs) h);
     exchanges = λ j o su d h. exchange j o su d (fronted_old j o (su, WaitsFor d) h);
   }
@@ -85,9 +86,13 @@ module _ (threads : ℕ → Threads) (i : ℕ) (n : ThreadName) (st : Stack) (no
       asked x t o (inr (j, su, h, wants)) = inr (j, su, fronted_new j o (su, site.Waits x) h, wants)
 
       wait : (j : ℕ) (o : ThreadName) (su : Stack) (x : VarName) → ((j ≡ i) × (o ≡ n) × (◌≡◌ {A = ThreadState} (su, site.Waits x) (st, Runs))) ⊎ ((n ≢ o) × IsWaiting threads j o su x) →
-          IsFree (eqs j) x × IsHere (records j) x × (NeedsFirst p (eqs j) su x ⊎ IsAsked mail c o x)
+          IsFree (eqs j) x × IsHere (records j) x × IsAsked mail c o x
       wait j o su x (inl e) = let modes : site.Waits x ≡ Runs = ap (λ (v : ThreadState). v.1) e.2 in cc
       wait j o su x (inr h) = w.waits j o su x h.1
+
+      need : (j : ℕ) (o : ThreadName) (su : Stack) (x : VarName) → ((j ≡ i) × (o ≡ n) × (◌≡◌ {A = ThreadState} (su, site.Needs x) (st, Runs))) ⊎ ((n ≢ o) × IsNeeding threads j o su x) → (j ≢ 0) × NeedsFirst p (eqs j) su x
+      need j o su x (inl e) = let modes : site.Needs x ≡ Runs = ap (λ (v : ThreadState). v.1) e.2 in cc
+      need j o su x (inr h) = w.needs j o su x h.1
 
       compare : (j : ℕ) (o : ThreadName) (su : Stack) (xs : List VarName) → ((j ≡ i) × (o ≡ n) × (◌≡◌ {A = ThreadState} (su, site.WaitsAny xs) (st, Runs))) ⊎ ((n ≢ o) × IsWaitingAny threads j o su xs) →
           IsOpenOn p (eqs j) su xs × ((x : VarName) → Contains xs x → IsFree (eqs j) x × IsHere (records j) x)
@@ -309,6 +314,7 @@ module _ (threads : ℕ → Threads) (i : ℕ) (n : ThreadName) (st : Stack) (r 
   waiting_goes p eqs records mail c w = record {
     asks = λ k to x t o bundle h. asked x t o (w.asks k to x t o bundle h);
     waits = λ j o su x h. wait j o su x (goes_old j o (su, site.Waits x) h);
+    needs = λ j o su x h. need j o su x (goes_old j o (su, site.Needs x) h);
     compares = λ j o su xs h. compare j o su xs (goes_old j o (su, site.WaitsAny xs) h);
     exchanges = λ j o su d h. exchange j o su d (goes_old j o (su, WaitsFor d) h);
   }
@@ -318,9 +324,13 @@ module _ (threads : ℕ → Threads) (i : ℕ) (n : ThreadName) (st : Stack) (r 
       asked x t o (inr (j, su, h, wants)) = inr (j, su, goes_new j o (su, site.Waits x) (waiting_other j o su x h) h, wants)
 
       wait : (j : ℕ) (o : ThreadName) (su : Stack) (x : VarName) → ((j ≡ i) × (o ≡ n) × (r ≡ Some su) × (site.Waits x ≡ Runs)) ⊎ ((j ≡ i → n ≢ o) × IsWaiting threads j o su x) →
-          IsFree (eqs j) x × IsHere (records j) x × (NeedsFirst p (eqs j) su x ⊎ IsAsked mail c o x)
+          IsFree (eqs j) x × IsHere (records j) x × IsAsked mail c o x
       wait j o su x (inl e) = let no = e.3 in cc
       wait j o su x (inr h) = w.waits j o su x h.1
+
+      need : (j : ℕ) (o : ThreadName) (su : Stack) (x : VarName) → ((j ≡ i) × (o ≡ n) × (r ≡ Some su) × (site.Needs x ≡ Runs)) ⊎ ((j ≡ i → n ≢ o) × IsNeeding threads j o su x) → (j ≢ 0) × NeedsFirst p (eqs j) su x
+      need j o su x (inl e) = let no = e.3 in cc
+      need j o su x (inr h) = w.needs j o su x h.1
 
       compare : (j : ℕ) (o : ThreadName) (su : Stack) (xs : List VarName) → ((j ≡ i) × (o ≡ n) × (r ≡ Some su) × (site.WaitsAny xs ≡ Runs)) ⊎ ((j ≡ i → n ≢ o) × IsWaitingAny threads j o su xs) →
           IsOpenOn p (eqs j) su xs × ((x : VarName) → Contains xs x → IsFree (eqs j) x × IsHere (records j) x)

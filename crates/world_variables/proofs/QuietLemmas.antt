@@ -3,23 +3,26 @@ use Rattle.std.proofs.Common.{rules, ◌≡◌, ◌∙◌, sym, refl, subst, ℕ
 use Rattle.std.specs.Prelude.{Option, Contains, ◌≢◌, is_some, IsTrue}
 use Rattle.tree_node.specs.declared.names.VarName.{VarName}
 use Rattle.tree_node.specs.declared.names.ThreadName.{ThreadName}
-use Rattle.tree_node.specs.declared.names.Name.{Name}
+use Rattle.tree_node.specs.declared.names.Name.TheVariants as name
 use Rattle.tree_node.specs.declared.node.Term.{Term}
 use Rattle.tree_node.specs.Assoc.{value_of}
 use Rattle.tree_node.specs.State.{State, equal_thread}
-use Rattle.tree_node.specs.Store.{Store, IsFree, IsSound}
+use Rattle.tree_node.specs.Store.{Store, IsClassName, IsFree, IsSound, root_of}
 use Rattle.kernel_syntax.specs.declared.stmt.Stmt.{Stmt}
 use Rattle.oz_model.specs.Need.{Need, IsWaiting, stack_need}
 use Rattle.oz_model.specs.Run.{AtRest}
+use Rattle.oz_model.proofs.EffectNames.{stack_need_has}
+use Rattle.oz_model.proofs.WaitLemmas.{stack_waits}
+use Rattle.tree_node.proofs.SoundLemmas.{class_names, root_names_class}
 use Rattle.bind_protocol.specs.Records.{Records, knowledge, IsKnown}
 use Rattle.site_model.specs.Site.{ThreadState, Threads, Counters}
 use Rattle.thread_roster.specs.declared.mode.Mode.{Mode}
 use Rattle.thread_roster.specs.declared.mode.Mode.TheVariants.{Runs, WaitsFor}
 use Rattle.thread_roster.specs.declared.mode.Mode.TheVariants as site
 use Rattle.world_model.specs.World.{Mail}
-use Rattle.world_model.specs.Names.{IsHere}
+use Rattle.world_model.specs.Names.{IsHere, here_at}
 use Rattle.world_model.specs.Matches.{IsThreadAt, IsInSpawn, NeedsFirst, IsAsked, IsOpenOn, IsTold, PartsMatch}
-use Rattle.world_variables.proofs.LearnLemmas.{needs_more, open_more}
+use Rattle.world_variables.proofs.LearnLemmas.{free_none, needs_more, open_more}
 use Rattle.world_variables.proofs.RecordLemmas.{registered_open}
 use Rattle.thread_roster.specs.Threads.{is_waiting}
 use Rattle.world_variables.specs.Laws.{IsStill}
@@ -27,7 +30,7 @@ use Rattle.world_variables.specs.Laws.{IsStill}
 abbrev pub waits : ThreadName × ThreadState → Bool
 waits t = is_waiting t.1.1
 
-module _ (p : List Stmt) (here : ℕ → Name → Type 0) (eqs : ℕ → Store) (records : ℕ → Records) (threads : ℕ → Threads) (made : ℕ → Counters) (mail : Mail) (s : State) (parts : PartsMatch p here eqs records threads made mail s) (still : IsStill threads mail) where
+module _ (p : List Stmt) (eqs : ℕ → Store) (records : ℕ → Records) (threads : ℕ → Threads) (made : ℕ → Counters) (mail : Mail) (s : State) (parts : PartsMatch p (here_at records) eqs records threads made mail s) (still : IsStill threads mail) where
   -- what a site sees as free, and has here, is free at the centre
   free_there : (i : ℕ) (x : VarName) → IsFree (eqs i) x → IsHere (records i) x → IsFree s.equations x
   free_there i x free (inl zero) t h = parts.centred.nobody x zero t h
@@ -73,12 +76,29 @@ module _ (p : List Stmt) (here : ℕ → Name → Type 0) (eqs : ℕ → Store) 
               subst (λ (d : Need). IsWaiting d) (sym c.1) tt
       waiting i (site.Waits x) at = why (parts.waiting.waits i n st x at)
         where
-          why : IsFree (eqs i) x × IsHere (records i) x × (NeedsFirst p (eqs i) st x ⊎ IsAsked mail s.equations n x) → IsWaiting (stack_need p s.equations st)
-          why (free, is, inl needs) =
-              let c = needs_more p (eqs i) s.equations st x sound parts.knowledge.one parts.knowledge.down (parts.knowledge.known i) (free_there i x free is) needs in
-              subst (λ (d : Need). IsWaiting d) (sym c.1) tt
-          why (free, is, inr (inl (k, t, bundle, q))) = absurd (still.none k _ _ q)
-          why (free, is, inr (inr (t, q))) = absurd (free_there i x free is t q)
+          why : IsFree (eqs i) x × IsHere (records i) x × IsAsked mail s.equations n x → IsWaiting (stack_need p s.equations st)
+          why (free, is, inl (k, t, bundle, q)) = absurd (still.none k _ _ q)
+          why (free, is, inr (t, q)) = absurd (free_there i x free is t q)
+      waiting i (site.Needs x) at = why (parts.waiting.needs i n st x at)
+        where
+          why : (i ≢ 0) × NeedsFirst p (eqs i) st x → IsWaiting (stack_need p s.equations st)
+          why (real, (z, need, same)) = subst (λ (d : Need). IsWaiting d) (sym kept.1) tt
+            where
+              -- the end of the class is free, and here
+              end : IsClassName (eqs i) z (root_of (eqs i) z)
+              end = root_names_class (eqs i) z (parts.kept i).sound (stack_waits p (eqs i) st z need)
+
+              end_here : here_at records i (name.Var (root_of (eqs i) z)) → IsHere (records i) (root_of (eqs i) z)
+              end_here (inl h) = h
+              end_here (inr zero) = absurd (real zero)
+
+              named : IsHere (records i) (root_of (eqs i) z)
+              named = end_here (class_names (here_at records i) (eqs i) z (root_of (eqs i) z) (parts.homes i).equations end.0
+                  (stack_need_has (here_at records i) p (eqs i) st z (inl (inl (inl refl))) (parts.homes i).equations ((parts.homes i).stacks n (st, site.Needs x) at) need))
+
+              kept : NeedsFirst p s.equations st (root_of (eqs i) z)
+              kept = needs_more p (eqs i) s.equations st (root_of (eqs i) z) sound (parts.knowledge.known i)
+                  (free_none s.equations (root_of (eqs i) z) parts.knowledge.one parts.knowledge.down (free_there i (root_of (eqs i) z) end.1 named)) (z, need, end.0)
 
       go : ((i : ℕ) × IsThreadAt threads i n st) ⊎ ((k : ℕ) × IsInSpawn p mail k n st) → IsWaiting (stack_need p s.equations st)
       go (inl (i, (m, at))) = waiting i m at

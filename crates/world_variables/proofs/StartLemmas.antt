@@ -73,6 +73,7 @@ start_parts p = record {
   waiting = record {
     asks = λ k to x t n bundle h. absurd (nothing _ h);
     waits = λ i n st x h. let m = (start_thread p i n (st, site.Waits x) h).2 in cc;
+    needs = λ i n st x h. let m = (start_thread p i n (st, site.Needs x) h).2 in cc;
     compares = λ i n st xs h. let m = (start_thread p i n (st, site.WaitsAny xs) h).2 in cc;
     exchanges = λ i n st d h. let m = (start_thread p i n (st, WaitsFor d) h).2 in cc;
   };

@@ -19,7 +19,9 @@ use Rattle.oz_model.specs.Step.{stack_with_content, end_count, living_stack, eff
 use Rattle.bind_protocol.specs.Records.{is_own, knowledge}
 use Rattle.bind_protocol.specs.Rows as Rows
 use Rattle.site_model.specs.Site.{Site, Threads, ThreadState, thread_state}
-use Rattle.thread_roster.specs.Threads.{wake_all}
+use Rattle.thread_roster.specs.declared.mode.Mode.{Mode}
+use Rattle.thread_roster.specs.Binds.{goes_on}
+use Rattle.thread_roster.specs.Threads.{wake_where}
 use Rattle.site_model.specs.Bundle.{message_bundle}
 use Rattle.site_model.specs.Bundle as Bundle
 use Rattle.site_model.specs.Transition.{Transition, without_output, with_messages, with_pick, and_then}
@@ -70,9 +72,9 @@ goes_once : {V : Type 0} (ts : List (ThreadName × V)) (n : ThreadName) (o : Opt
 goes_once ts n None h = without_once ts n h
 goes_once ts n (Some v) h = subst (λ (xs : List ThreadName). AreDistinct xs) (sym (with_names ts n v)) h
 
-pub woken_names : (x : VarName) (ts : Threads) → names (wake_all x ts) ≡ names ts
-woken_names x [] = refl
-woken_names x (t ∷ ts) = ap (λ (xs : List ThreadName). t.0 ∷ xs) (woken_names x ts)
+pub woken_names : (f : Mode → Bool) (ts : Threads) → names (wake_where f ts) ≡ names ts
+woken_names f [] = refl
+woken_names f (t ∷ ts) = ap (λ (xs : List ThreadName). t.0 ∷ xs) (woken_names f ts)
 
 pub none_named : {V : Type 0} (ts : List (ThreadName × V)) (n : ThreadName) → value_of equal_thread ts n ≡ None → Each (λ m. n ≢ m) (names ts)
 none_named [] n h = tt
@@ -99,8 +101,8 @@ told_sums s x t = go (is_own s.records x) (knowledge s.records x)
   where
     go : (o : Bool) (k : Option (Option Term)) → SameSums s (with_known_equation_as o k s x t)
     go true k = sums_same s
-    go false None = record { ended = refl; names = woken_names x s.threads }
-    go false (Some None) = record { ended = refl; names = woken_names x s.threads }
+    go false None = record { ended = refl; names = woken_names (goes_on ((x, t) ∷ s.equations) x) s.threads }
+    go false (Some None) = record { ended = refl; names = woken_names (goes_on ((x, t) ∷ s.equations) x) s.threads }
     go false (Some (Some r)) = sums_same s
 
 pub told_all_sums : (s : Site) (es : List Equation) → SameSums s (with_known_equations s es)
@@ -111,7 +113,7 @@ binds_each_sums : (limit : ℕ) (es : List Equation) (s : Site) → SameSums s (
 binds_each_sums limit [] s = sums_same s
 binds_each_sums limit (e ∷ es) s =
     let ih = binds_each_sums limit es s in
-    record { ended = ih.ended; names = woken_names e.0 (own_binds limit es s).site.threads ∙ ih.names }
+    record { ended = ih.ended; names = woken_names (goes_on (e ∷ (own_binds limit es s).site.equations) e.0) (own_binds limit es s).site.threads ∙ ih.names }
 
 binds_each_lines : (limit : ℕ) (es : List Equation) (s : Site) → (own_binds limit es s).lines ≡ []
 binds_each_lines limit [] s = refl

@@ -19,7 +19,8 @@ use Rattle.oz_model.specs.Answers.{IsPartOf}
 use Rattle.bind_protocol.specs.Records.{Records, knowledge, IsKnown, sites_in}
 use Rattle.bind_protocol.specs.Rows.{after_ask, ask_sends, after_binding, binding}
 use Rattle.site_model.specs.Site.{Threads, Counters}
-use Rattle.thread_roster.specs.Threads.{wake_all}
+use Rattle.thread_roster.specs.Binds.{goes_on}
+use Rattle.thread_roster.specs.Threads.{wake_where}
 use Rattle.site_model.specs.Bundle.{with_own_bundles, with_own_bundle, bundle_of}
 use Rattle.site_model.specs.Fit as Fit
 use Rattle.site_model.proofs.BundleLemmas.{bundle_known}
@@ -83,7 +84,7 @@ module _ (p : List Stmt) (here : ℕ → Name → Type 0) (eqs : ℕ → Store) 
       met y h (inr other) = parts.makers.met i y (subst (λ (r : Option (Option Term)). IsTrue (is_some r)) (l.others y other) h)
 
   pub learnt_parts : (i : ℕ) (x : VarName) (t : Term) → x.site ≢ i → ((r : Term) → knowledge (records i) x ≢ Some (Some r)) → Contains s.equations (x, t) → EachOfEquation (here i) (x, t) → IsMade made (name.Var x) →
-      PartsMatch p here (at_put eqs i ((x, t) ∷ eqs i)) (at_put records i (after_binding (records i) x t)) (at_put threads i (wake_all x (threads i))) made mail s
+      PartsMatch p here (at_put eqs i ((x, t) ∷ eqs i)) (at_put records i (after_binding (records i) x t)) (at_put threads i (wake_where (goes_on ((x, t) ∷ eqs i) x) (threads i))) made mail s
   learnt_parts i x t elsewhere unknown has names real = record {
     knowledge = learnt_knowledge p eqs records threads mail mail [] s.equations s.equations i b x t l parts.knowledge;
     kept = kept;
@@ -148,7 +149,7 @@ module _ (p : List Stmt) (here : ℕ → Name → Type 0) (eqs : ℕ → Store) 
       go (inr q) ih = Contains-tail _ _ _ (ih q)
 
   pub bind_parts : (limit k i : ℕ) (x : VarName) (t : Term) → x.site ≡ i → x.site ≢ 0 → knowledge (records i) x ≡ Some None → IsLower t x → EachOfEquation (here i) (x, t) → EachOfEquation (IsMade made) (x, t) →
-      PartsMatch p here (at_put eqs i ((x, t) ∷ eqs i)) (at_put records i (after_ask (records i) x t)) (at_put threads i (wake_all x (threads i))) made
+      PartsMatch p here (at_put eqs i ((x, t) ∷ eqs i)) (at_put records i (after_ask (records i) x t)) (at_put threads i (wake_where (goes_on ((x, t) ∷ eqs i) x) (threads i))) made
       (mail ++ mail_from k (with_own_bundles limit ((x, t) ∷ eqs i) (ask_sends (records i) x t))) (with_equation s x t)
   bind_parts limit k i x t own real unbound low names was = record {
     knowledge = learnt_knowledge p eqs records threads mail more out s.equations d i b x t l parts.knowledge;

@@ -22,9 +22,9 @@ keys-preserved g c =
     let fewer = c.wake_next-more.ensures.few in
     record {
       len = c.wake_next-more.ensures.len ∙ c.keys.invariant.len;
-      rest = rouse_next c.args.var c.keys.slots.items c.wake_next-more.new.slots.items c.args.keys.now c.keys.key-index _ c.keys-test.true c.wake_next-more.ensures.slots ∙ c.keys.invariant.rest;
+      rest = rouse_next c.args.event c.keys.slots.items c.wake_next-more.new.slots.items c.args.keys.now c.keys.key-index _ c.keys-test.true c.wake_next-more.ensures.slots ∙ c.keys.invariant.rest;
       count = omega (arith, so_far, one_more);
-      queue = woken_next c.args.var c.keys.slots.items c.wake_next-more.new.slots.items c.keys.queue.items c.wake_next-more.new.queue.items c.args.keys.now c.keys.key-index _ c.keys-test.true c.wake_next-more.ensures.slots c.wake_next-more.ensures.queue ∙ c.keys.invariant.queue;
+      queue = woken_next c.args.event c.keys.slots.items c.wake_next-more.new.slots.items c.keys.queue.items c.wake_next-more.new.queue.items c.args.keys.now c.keys.key-index _ c.keys-test.true c.wake_next-more.ensures.slots c.wake_next-more.ensures.queue ∙ c.keys.invariant.queue;
       few = omega (arith, few, fewer);
       room = c.wake_next-more.ensures.capacity ∙ c.keys.invariant.room;
     }

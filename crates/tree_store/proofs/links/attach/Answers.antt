@@ -13,7 +13,7 @@ overflow_add-above c =
 
 pub put-requires-2 : goal.put-requires-2
 put-requires-2 c =
-    rw (c.put.ensures, c.entry_of-small.ensures) (put_stays c.args.forest.now.entries c.args.child c.args.top (below_entry (entry_in c.args.forest.now.entries) c.args.child c.args.top) c.requires.top_there)
+    rw (c.put.ensures, c.entry_of-small.ensures, c.entry_of-great.ensures) (put_stays c.args.forest.now.entries c.args.child c.args.top (below_entry (entry_in c.args.forest.now.entries) c.args.child c.args.top) c.requires.top_there)
 
 pub returns-clause-tree : goal.returns-clause-tree
 returns-clause-tree c =

@@ -1,12 +1,12 @@
-use Rattle.std.proofs.Common.{◌∙◌, ap, refl}
-use Rattle.site_variables.specs.Variables.{stacks_of}
+use Rattle.std.proofs.Common.{◌∷◌, refl}
 use Rattle.site_variables.proofs.LinkLemmas.{ask_recorded}
-use Rattle.site_variables.proofs.RowLemmas.{done_bound, stacks_woken}
+use Rattle.site_variables.proofs.RowLemmas.{done_bound, stacks_bound}
 use Rattle.site_variables.proofs.variables.Variables.follow_bind.Goals as goal
 
 pub returns-clause-done : goal.returns-clause-done
 returns-clause-done g c =
-    λ f es. done_bound _ _ c.args.var c.args.term refl c.in_ok-on_ask.ensures.records (ap (stacks_of f) c.in_ok-wake.ensures.living ∙ stacks_woken f c.args.var c.args.threads.now.living) c.in_ok-on_ask.ensures.sent
+    λ f es alike. done_bound _ _ c.args.var c.args.term refl c.in_ok-on_ask.ensures.records
+    (stacks_bound f c.args.self.now.store.equations ((c.args.var, c.args.term) ∷ es) c.args.var c.args.threads.now.living _ alike c.in_ok-wake_bound.ensures.living) c.in_ok-on_ask.ensures.sent
 
 pub returns-clause-recorded : goal.returns-clause-recorded
 returns-clause-recorded g c =

@@ -7,6 +7,7 @@ use Rattle.thread_roster.proofs.SlotLemmas.{only_at, total_holds}
 use Rattle.thread_roster.proofs.ConsistencyLemmas.{kept_left, kept_end, still_none, end_view, ended_more}
 use Rattle.thread_roster.proofs.QueueLemmas.{ordered_end, ordered_left}
 use Rattle.thread_roster.proofs.OrderLemmas.{order_ended}
+use Rattle.thread_roster.specs.Parking.{keys_for}
 use Rattle.thread_roster.proofs.roster.Roster.end.Goals as goal
 
 pub count_running-self-inside-requires : goal.count_running-self-inside-requires
@@ -28,9 +29,9 @@ invariant_of-self g c =
     let held = c.find-slot.ensures.held in
     let some = total_holds one c.self.inside.slots.items c.find-slot.result held.0 held.1 in
     let all = c.self.invariant.0.alive in (
-      kept_left c.clear-waited.new.slots.items c.forget.new.by_name.entries c.self.inside.queue c.leave.new.queue c.self.inside.waiters _ c.count_running-self-inside.result c.find-slot.result c.leave.ensures
+      kept_left c.clear-waited.new.slots.items c.forget.new.by_name.entries c.self.inside.queue c.leave.new.queue (keys_for c.self.inside.waiters c.self.inside.needers) _ c.count_running-self-inside.result c.find-slot.result c.leave.ensures
           (still_none c.self.inside.slots.items c.clear-waited.new.slots.items c.find-slot.result c.clear-waited.ensures.put)
-          (kept_end c.self.inside.slots.items c.clear-waited.new.slots.items c.self.inside.by_name.entries c.forget.new.by_name.entries c.self.inside.queue c.self.inside.waiters c.self.inside.living c.self.inside.waiting _ c.count_running-self-inside.result c.args.name c.find-slot.result held.0 c.self.invariant.0 c.find-slot.ensures.slot held.1 c.clear-waited.ensures.put c.forget.ensures
+          (kept_end c.self.inside.slots.items c.clear-waited.new.slots.items c.self.inside.by_name.entries c.forget.new.by_name.entries c.self.inside.queue (keys_for c.self.inside.waiters c.self.inside.needers) c.self.inside.living c.self.inside.waiting _ c.count_running-self-inside.result c.args.name c.find-slot.result held.0 c.self.invariant.0 c.find-slot.ensures.slot held.1 c.clear-waited.ensures.put c.forget.ensures
           (omega (arith, some, all)) (rw (c.clear-waited.ensures.old held.0 held.1) at c.count_running-self-inside.ensures)),
       ordered_left c.clear-waited.new.slots.items c.self.inside.queue c.leave.new.queue c.find-slot.result (ordered_end c.self.inside.slots.items c.clear-waited.new.slots.items c.self.inside.queue c.find-slot.result c.self.invariant.1 c.clear-waited.ensures.put) c.leave.ensures,
     )

@@ -7,6 +7,7 @@ use Rattle.thread_roster.proofs.SlotLemmas.{living_le}
 use Rattle.thread_roster.proofs.ConsistencyLemmas.{kept_born, no_place, born_view, ended_born}
 use Rattle.thread_roster.proofs.QueueLemmas.{ordered_born}
 use Rattle.thread_roster.proofs.OrderLemmas.{order_born}
+use Rattle.thread_roster.specs.Parking.{keys_for}
 use Rattle.thread_roster.proofs.roster.Roster.start.Goals as goal
 
 pub overflow_add-self : goal.overflow_add-self
@@ -17,10 +18,19 @@ overflow_add-self g c =
     let small = c.self.inside.slots.small in
     omega (arith, most, all, ok, small)
 
+pub invariant_of-self : goal.invariant_of-self
+invariant_of-self g c = rw c.reserve.ensures.items c.self.invariant
+
+pub invariant_of-self-in_err-reserve-2 : goal.invariant_of-self-in_err-reserve-2
+invariant_of-self-in_err-reserve-2 g c = rw (c.reserve.ensures.items, c.reserve-2.ensures.entries) c.self.invariant
+
+pub invariant_of-self-in_err-push : goal.invariant_of-self-in_err-push
+invariant_of-self-in_err-push g c = rw (c.reserve.ensures.items, c.reserve-2.ensures.entries, c.in_err-push.ensures.err) c.self.invariant
+
 pub invariant_of-self-2 : goal.invariant_of-self-2
 invariant_of-self-2 g c =
     let slot = c.len-slot.ensures ∙ c.self.inside.slots.ok.0 in (
-      kept_born c.self.inside.slots.items c.push_reserved.new.self.items c.self.inside.by_name.entries c.insert.new.self.entries c.self.inside.queue c.push.new.self c.self.inside.waiters c.self.inside.living c.self.inside.waiting _ c.args.name (record { name = c.args.name; mode = stands.Runs; value = c.args.value }) c.self.invariant.0
+      kept_born c.self.inside.slots.items c.push_reserved.new.self.items c.self.inside.by_name.entries c.insert.new.self.entries c.self.inside.queue c.push.new.self (keys_for c.self.inside.waiters c.self.inside.needers) c.self.inside.living c.self.inside.waiting _ c.args.name (record { name = c.args.name; mode = stands.Runs; value = c.args.value }) c.self.invariant.0
           (no_place c.self.inside.slots.items (slot_in c.self.inside.by_name.entries) c.args.name c.self.invariant.0.placed (ap (λ s. value_of equal_thread s.living c.args.name) c.self.view_is ∙ c.requires.new)) refl refl
           (c.push_reserved.ensures.items ∙ ap (λ l. l ++ Some (record { name = c.args.name; mode = stands.Runs; value = c.args.value }) ∷ []) c.reserve.ensures.items)
           (λ k. (rw c.reserve-2.ensures.entries at c.in_ok-insert.ensures.updates.0 k) ∙ ap (λ i. with_slot (slot_in c.self.inside.by_name.entries) c.args.name (Some i) k) slot)

@@ -6,6 +6,7 @@ use Rattle.thread_roster.proofs.SlotLemmas.{at_index}
 use Rattle.thread_roster.proofs.ConsistencyLemmas.{kept_value, slot_is, value_is, value_found}
 use Rattle.thread_roster.proofs.ViewLemmas.{lent_view}
 use Rattle.thread_roster.proofs.QueueLemmas.{ordered_value}
+use Rattle.thread_roster.specs.Parking.{keys_for}
 use Rattle.thread_roster.proofs.roster.Roster.value_mut.Goals as goal
 
 pub invariant_of-self-lent : goal.invariant_of-self-lent
@@ -15,7 +16,7 @@ invariant_of-self-lent g c w =
     slot_is c.self.inside.slots.items c.find-slot.result _ held.0
     (at_index c.self.inside.slots.items c.find-slot.result _ c.find-slot.ensures.inside c.index_mut.ensures.value) held.1 in
     rw slot (
-      kept_value c.self.inside.slots.items c.self.inside.by_name.entries c.self.inside.queue c.self.inside.waiters c.self.inside.living c.self.inside.waiting c.args.name c.find-slot.result held.0 w c.self.invariant.0 c.find-slot.ensures.slot held.1 held.2,
+      kept_value c.self.inside.slots.items c.self.inside.by_name.entries c.self.inside.queue (keys_for c.self.inside.waiters c.self.inside.needers) c.self.inside.living c.self.inside.waiting c.args.name c.find-slot.result held.0 w c.self.invariant.0 c.find-slot.ensures.slot held.1 held.2,
       ordered_value c.self.inside.slots.items c.self.inside.queue c.find-slot.result held.0 w c.self.invariant.1 held.1,
     )
 

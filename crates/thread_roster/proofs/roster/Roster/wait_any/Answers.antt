@@ -3,11 +3,12 @@ use Rattle.thread_roster.specs.declared.mode.Mode.TheVariants as stands
 use Rattle.thread_roster.specs.Threads.{set_mode}
 use Rattle.thread_roster.specs.Slots.{slot_in}
 use Rattle.thread_roster.proofs.SlotLemmas.{living_le, waiting_le}
-use Rattle.thread_roster.proofs.ConsistencyLemmas.{kept_without, kept_waits_any, kept_keys, still_set, mode_view, ended_set}
+use Rattle.thread_roster.proofs.ConsistencyLemmas.{kept_without, kept_parked, kept_keys, still_set, mode_view, ended_set}
 use Rattle.thread_roster.specs.Order.{without_name}
 use Rattle.thread_roster.proofs.QueueLemmas.{ordered_waits}
 use Rattle.thread_roster.proofs.OrderLemmas.{order_less}
-use Rattle.thread_roster.proofs.ParkingLemmas.{same_vars}
+use Rattle.thread_roster.proofs.ParkingLemmas.{same_vars, more_waiters, any_there}
+use Rattle.thread_roster.specs.Parking.{keys_for}
 use Rattle.thread_roster.proofs.roster.Roster.wait_any.Goals as goal
 
 pub count_waiting-self-inside-requires : goal.count_waiting-self-inside-requires
@@ -22,15 +23,19 @@ count_waiting-self-inside-requires g c =
 pub invariant_of-self-2 : goal.invariant_of-self-2
 invariant_of-self-2 g c =
     let held = c.find-slot.ensures.held in (
-      kept_without c.set_mode-waited.new.slots.items c.self.inside.by_name.entries c.self.inside.queue c.remove.new.self c.park.new.waiters c.self.inside.living c.count_waiting-self-inside.result c.find-slot.result c.remove.ensures
+      kept_without c.set_mode-waited.new.slots.items c.self.inside.by_name.entries c.self.inside.queue c.remove.new.self (keys_for c.park.new.waiters c.self.inside.needers) c.self.inside.living c.count_waiting-self-inside.result c.find-slot.result c.remove.ensures
           (still_set c.self.inside.slots.items c.set_mode-waited.new.slots.items c.find-slot.result (record held.0 { mode = stands.WaitsAny c.args.vars }) (c.set_mode-waited.ensures.put held.0 held.1) (λ e. cc))
-          (kept_waits_any c.self.inside.slots.items c.set_mode-waited.new.slots.items c.self.inside.by_name.entries c.self.inside.queue c.self.inside.waiters c.park.new.waiters c.self.inside.living c.self.inside.waiting c.count_waiting-self-inside.result c.args.name c.find-slot.result held.0 c.args.vars c.self.invariant.0 c.find-slot.ensures.slot held.1 held.2 (c.set_mode-waited.ensures.put held.0 held.1) c.park.ensures.stay (same_vars c.park.new.waiters c.find-slot.result c.as_slice.result.now c.args.vars c.as_slice.ensures c.in_ok-park.ensures.there) (rw (c.set_mode-waited.ensures.old held.0 held.1) at c.count_waiting-self-inside.ensures)),
+          (kept_parked c.self.inside.slots.items c.set_mode-waited.new.slots.items c.self.inside.by_name.entries c.self.inside.queue (keys_for c.self.inside.waiters c.self.inside.needers) (keys_for c.park.new.waiters c.self.inside.needers) c.self.inside.living c.self.inside.waiting c.count_waiting-self-inside.result c.args.name c.find-slot.result held.0 (stands.WaitsAny c.args.vars) c.self.invariant.0 c.find-slot.ensures.slot held.1 held.2 (c.set_mode-waited.ensures.put held.0 held.1) refl
+          (more_waiters c.self.inside.waiters c.park.new.waiters c.self.inside.needers c.find-slot.result c.park.ensures.stay)
+          (any_there c.park.new.waiters c.self.inside.needers c.args.vars c.find-slot.result (same_vars c.park.new.waiters c.find-slot.result c.as_slice.result.now c.args.vars c.as_slice.ensures c.in_ok-park.ensures.there))
+          (rw (c.set_mode-waited.ensures.old held.0 held.1) at c.count_waiting-self-inside.ensures)),
       ordered_waits c.self.inside.slots.items c.set_mode-waited.new.slots.items c.self.inside.queue c.remove.new.self c.find-slot.result (record held.0 { mode = stands.WaitsAny c.args.vars }) c.self.invariant.1 (c.set_mode-waited.ensures.put held.0 held.1) c.remove.ensures,
     )
 
 pub invariant_of-self : goal.invariant_of-self
 invariant_of-self g c = (
-  kept_keys c.self.inside.slots.items c.self.inside.by_name.entries c.self.inside.queue c.self.inside.waiters c.park.new.waiters c.self.inside.living c.self.inside.waiting c.args.name c.find-slot.result c.self.invariant.0 c.find-slot.ensures.slot c.park.ensures.stay,
+  kept_keys c.self.inside.slots.items c.self.inside.by_name.entries c.self.inside.queue (keys_for c.self.inside.waiters c.self.inside.needers) (keys_for c.park.new.waiters c.self.inside.needers) c.self.inside.living c.self.inside.waiting c.args.name c.find-slot.result c.self.invariant.0 c.find-slot.ensures.slot
+      (more_waiters c.self.inside.waiters c.park.new.waiters c.self.inside.needers c.find-slot.result c.park.ensures.stay),
   c.self.invariant.1,
 )
 

@@ -7,6 +7,8 @@ use Rattle.thread_roster.proofs.ConsistencyLemmas.{kept_without, kept_waits_for,
 use Rattle.thread_roster.specs.Order.{without_name}
 use Rattle.thread_roster.proofs.QueueLemmas.{ordered_waits}
 use Rattle.thread_roster.proofs.OrderLemmas.{order_less}
+use Rattle.thread_roster.specs.Parking.{keys_for}
+use Rattle.thread_roster.proofs.ParkingLemmas.{token_there}
 use Rattle.thread_roster.proofs.roster.Roster.wait_for.Goals as goal
 
 pub count_waiting-self-inside-requires : goal.count_waiting-self-inside-requires
@@ -21,9 +23,9 @@ count_waiting-self-inside-requires g c =
 pub invariant_of-self : goal.invariant_of-self
 invariant_of-self g c =
     let held = c.find-slot.ensures.held in (
-      kept_without c.set_mode-waited.new.slots.items c.self.inside.by_name.entries c.self.inside.queue c.remove.new.self c.self.inside.waiters c.self.inside.living c.count_waiting-self-inside.result c.find-slot.result c.remove.ensures
+      kept_without c.set_mode-waited.new.slots.items c.self.inside.by_name.entries c.self.inside.queue c.remove.new.self (keys_for c.self.inside.waiters c.self.inside.needers) c.self.inside.living c.count_waiting-self-inside.result c.find-slot.result c.remove.ensures
           (still_set c.self.inside.slots.items c.set_mode-waited.new.slots.items c.find-slot.result (record held.0 { mode = stands.WaitsFor c.args.cell }) (c.set_mode-waited.ensures.put held.0 held.1) (λ e. cc))
-          (kept_waits_for c.self.inside.slots.items c.set_mode-waited.new.slots.items c.self.inside.by_name.entries c.self.inside.queue c.self.inside.waiters c.self.inside.living c.self.inside.waiting c.count_waiting-self-inside.result c.args.name c.find-slot.result held.0 (stands.WaitsFor c.args.cell) c.self.invariant.0 c.find-slot.ensures.slot held.1 held.2 (c.set_mode-waited.ensures.put held.0 held.1) (λ e. cc) (λ x e. cc) (rw (c.set_mode-waited.ensures.old held.0 held.1) at c.count_waiting-self-inside.ensures)),
+          (kept_waits_for c.self.inside.slots.items c.set_mode-waited.new.slots.items c.self.inside.by_name.entries c.self.inside.queue (keys_for c.self.inside.waiters c.self.inside.needers) c.self.inside.living c.self.inside.waiting c.count_waiting-self-inside.result c.args.name c.find-slot.result held.0 (stands.WaitsFor c.args.cell) c.self.invariant.0 c.find-slot.ensures.slot held.1 held.2 (c.set_mode-waited.ensures.put held.0 held.1) (λ e. cc) (token_there c.args.cell) (rw (c.set_mode-waited.ensures.old held.0 held.1) at c.count_waiting-self-inside.ensures)),
       ordered_waits c.self.inside.slots.items c.set_mode-waited.new.slots.items c.self.inside.queue c.remove.new.self c.find-slot.result (record held.0 { mode = stands.WaitsFor c.args.cell }) c.self.invariant.1 (c.set_mode-waited.ensures.put held.0 held.1) c.remove.ensures,
     )
 
