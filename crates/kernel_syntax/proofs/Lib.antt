@@ -5,6 +5,8 @@ pub mod FreeLemmas
 pub mod PreorderLemmas
 pub mod ShortLemmas
 pub mod PositionListLemmas
+pub mod BodyLemmas
+pub mod FrontLemmas
 pub mod TableLemmas
 pub mod ArithmeticLemmas
 pub mod SugarItems

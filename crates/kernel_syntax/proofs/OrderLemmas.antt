@@ -1,8 +1,8 @@
 -- Ascending positions.
-use Rattle.std.proofs.Common.{arith, ◌≡◌, sym, ap, refl, subst, ℕ, zero, suc, ◌+◌, ◌<◌, ◌≤◌, List, [], ◌∷◌, ◌++◌, length, get_or, drop, drop-cons, add-one, Bool, true, false, cond}
-use Rattle.std.specs.Prelude.{◌==◌, nat_lt, insert, MatchResult, Result, Ok, Err}
+use Rattle.std.proofs.Common.{arith, ◌≡◌, sym, ap, refl, ℕ, zero, suc, ◌+◌, ◌-◌, ◌<◌, ◌≤◌, List, [], ◌∷◌, ◌++◌, length, get_or, drop, drop-cons, add-one, Bool, true, false, cond}
+use Rattle.std.specs.Prelude.{◌==◌, nat_lt, insert, MatchResult, IfOk, IfErr, Result, Ok, Err}
 use Rattle.std.specs.Ordering.{nat_cmp}
-use Rattle.std.specs.List.Sorted.{IsBinarySearchResult}
+use Rattle.std.specs.List.Sorted.{IsBinarySearchResult, IsSearchInRange}
 use Rattle.std.proofs.lemmas.List.Sorted.{searched}
 use Rattle.tree_node.specs.Each.{Each}
 use Rattle.kernel_syntax.specs.Free.{AreRising, with_position, with_positions}
@@ -30,7 +30,7 @@ rise (x ∷ xs) up (suc i) zero le l = absurd (omega arith)
 rise (x ∷ xs) up (suc i) (suc j) le l = rise xs up.1 i j (omega arith) (omega arith)
 
 -- with_position where a search found the position, and where it found its place
-found : (k : ℕ) (js : List ℕ) (i : ℕ) → AreRising js → i < length js → get_or js i 0 ≡ k → with_position k js ≡ js
+pub found : (k : ℕ) (js : List ℕ) (i : ℕ) → AreRising js → i < length js → get_or js i 0 ≡ k → with_position k js ≡ js
 found k [] i up l e = absurd (omega arith)
 found k (j ∷ js) zero up l e = grind arith
 found k (j ∷ js) (suc i) up l e =
@@ -46,6 +46,15 @@ missing k (j ∷ js) (suc i) l low high =
     let above : j < k = low 0 (omega arith) in
     let ih : with_position k js ≡ insert js i k = missing k js i (omega arith) (λ m h. low (suc m) (omega arith)) (λ m h g. high (suc m) (omega arith) (omega arith)) in
     grind (arith, above, ih)
+
+-- .. where it found the last one below, and where none is
+pub missing_behind : (k : ℕ) (js : List ℕ) (i : ℕ) → AreRising js → 0 < i → i ≤ length js → get_or js (i - 1) 0 < k → (i < length js → k < get_or js i 0) → insert js i k ≡ with_position k js
+missing_behind k js i up some few below above =
+    sym (missing k js i few (λ m l. let r = rise js up m (i - 1) (omega (arith, l)) (omega (arith, some, few)) in omega (arith, r, below)) (λ m le l. let a = above (omega (arith, le, l)) in let r = rise js up i m le l in omega (arith, a, r)))
+
+pub missing_first : (k : ℕ) (js : List ℕ) → AreRising js → (0 < length js → k < get_or js 0 0) → insert js 0 k ≡ with_position k js
+missing_first k js up above =
+    sym (missing k js 0 (omega arith) (λ m l. absurd (omega (arith, l))) (λ m le l. let a = above (omega (arith, l)) in let r = rise js up 0 m le l in omega (arith, a, r)))
 
 -- one more position keeps the order
 pub ascends_with : (k : ℕ) (js : List ℕ) → AreRising js → AreRising (with_position k js)
@@ -65,7 +74,7 @@ ascends_with_all js [] up = up
 ascends_with_all js (k ∷ ks) up = ascends_with_all (with_position k js) ks (ascends_with k js up)
 
 -- what a search answers at ascending positions
-pub with_position_searched : (k : ℕ) (js : List ℕ) (r : Result ℕ ℕ) → AreRising js → IsBinarySearchResult (λ y. nat_cmp y k) js r →
+with_position_searched : (k : ℕ) (js : List ℕ) (r : Result ℕ ℕ) → AreRising js → IsBinarySearchResult (λ y. nat_cmp y k) js r →
     MatchResult r (λ i. with_position k js ≡ js) (λ i. with_position k js ≡ insert js i k)
 with_position_searched k js r up at = go r (searched js k r at (rise js up))
   where
@@ -74,15 +83,23 @@ with_position_searched k js r up at = go r (searched js k r at (rise js up))
     go (Ok i) h = found k js i up h.0 h.1
     go (Err i) h = missing k js i h.0 h.1 h.2
 
-pub position_found : (k : ℕ) (js xs : List ℕ) (r : Result ℕ ℕ) (i : ℕ) → AreRising js → xs ≡ js → IsBinarySearchResult (λ y. nat_cmp y k) xs r → r ≡ Ok i → js ≡ with_position k js
-position_found k js xs r i up e at is =
-    sym (subst (λ (q : Result ℕ ℕ). MatchResult q (λ i. with_position k js ≡ js) (λ i. with_position k js ≡ insert js i k)) is
-    (with_position_searched k js r up (rw (← e) at)))
+pub searched_found : (k : ℕ) (js : List ℕ) (r : Result ℕ ℕ) → AreRising js → IsBinarySearchResult (λ y. nat_cmp y k) js r → IfOk r (λ i. with_position k js ≡ js)
+searched_found k js r up at = go r (with_position_searched k js r up at)
+  where
+    go : (r : Result ℕ ℕ) → MatchResult r (λ i. with_position k js ≡ js) (λ i. with_position k js ≡ insert js i k) → IfOk r (λ i. with_position k js ≡ js)
+    go (Ok i) h = h
+    go (Err i) h = tt
 
-pub position_missing : (k : ℕ) (js xs : List ℕ) (r : Result ℕ ℕ) (i : ℕ) → AreRising js → xs ≡ js → IsBinarySearchResult (λ y. nat_cmp y k) xs r → r ≡ Err i → insert js i k ≡ with_position k js
-position_missing k js xs r i up e at is =
-    sym (subst (λ (q : Result ℕ ℕ). MatchResult q (λ i. with_position k js ≡ js) (λ i. with_position k js ≡ insert js i k)) is
-    (with_position_searched k js r up (rw (← e) at)))
+pub searched_missing : (k : ℕ) (js : List ℕ) (r : Result ℕ ℕ) → AreRising js → IsBinarySearchResult (λ y. nat_cmp y k) js r → IfErr r (λ i. insert js i k ≡ with_position k js)
+searched_missing k js r up at = go r (with_position_searched k js r up at)
+  where
+    go : (r : Result ℕ ℕ) → MatchResult r (λ i. with_position k js ≡ js) (λ i. with_position k js ≡ insert js i k) → IfErr r (λ i. insert js i k ≡ with_position k js)
+    go (Ok i) h = tt
+    go (Err i) h = sym h
+
+pub searched_within : (r : Result ℕ ℕ) (n : ℕ) → IsSearchInRange r n → IfErr r (λ i. i ≤ n)
+searched_within (Ok i) n h = tt
+searched_within (Err i) n h = h
 
 -- a position above all, by the last of them
 pub above_all : (k : ℕ) (js : List ℕ) (i : ℕ) → AreRising js → suc i ≡ length js → get_or js i 0 < k → Each (λ j. j < k) js

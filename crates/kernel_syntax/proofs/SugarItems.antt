@@ -1,5 +1,5 @@
 -- What trees of programs with sugar hold whose children stand in vectors.
-use Rattle.std.proofs.Common.{◌≡◌, ◌∙◌, suc, ℕ, List, [], ◌∷◌, Option, length, refl, ap}
+use Rattle.std.proofs.Common.{◌≡◌, ◌∙◌, suc, ℕ, List, [], ◌∷◌, ◌++◌, Option, length, refl, ap}
 use Rattle.std.specs.Prelude.{ℤ}
 use Rattle.std.specs.Global.{Vec, Box}
 use Rattle.tree_node.specs.declared.node.Feature.{Feature}
@@ -11,11 +11,13 @@ use Rattle.kernel_syntax.specs.declared.sugar.ValueClause.{ValueClause}
 use Rattle.kernel_syntax.specs.declared.sugar.ValueClause as value_clause
 use Rattle.kernel_syntax.specs.declared.sugar.Clause.{Clause}
 use Rattle.kernel_syntax.specs.declared.sugar.Clause as clause
+use Rattle.kernel_syntax.specs.declared.sugar.Pair.{Pair}
+use Rattle.kernel_syntax.specs.declared.sugar.Link.{Link}
 use Rattle.kernel_syntax.specs.declared.sugar.Value as values
 use Rattle.kernel_syntax.specs.declared.sugar.Statement as statements
 use Rattle.kernel_syntax.specs.Sugar as sugar
 use Rattle.kernel_syntax.specs.Sugar.{ValueClauses, Statements, Clauses, value_and, statement_and, count_values, count_value_clauses, count_clauses}
-use Rattle.kernel_syntax.specs.SugarView.{value_of, statement_of, values_of, statements_of, value_clauses_of, clauses_of, values_in, statements_in, value_clauses_in, value_clause_and, clauses_in, case_and_of}
+use Rattle.kernel_syntax.specs.SugarView.{value_of, statement_of, values_of, statements_of, value_clauses_of, clauses_of, values_in, statements_in, value_clauses_in, value_clause_and, clauses_in, case_and_of, two_in, behind, before, behind_all}
 
 -- ---- rows of children as lists
 
@@ -30,6 +32,10 @@ row_statements m (statements.more_of-Statement s q) = ap (statement_and (stateme
 pub row_value_clauses : (m : _) (cs : values.Row_of-ValueClause m) → value_clauses_of cs ≡ value_clauses_in (values.items-the_row-ValueClause m cs)
 row_value_clauses m values.end_of-ValueClause = refl
 row_value_clauses m (values.more_of-ValueClause c cs) = ap (value_clause_and c) (row_value_clauses _ cs)
+
+pub row_links : (m : _) (ks : values.Row_of-Link m) (hu : sugar.Value × sugar.Value) → behind hu ks ≡ behind_all hu (values.items-the_row-Link m ks)
+row_links m values.end_of-Link hu = refl
+row_links m (values.more_of-Link k ks) hu = row_links _ ks (before k hu)
 
 pub row_clauses : (m : _) (cs : statements.Row_of-Clause m) → clauses_of cs ≡ clauses_in (statements.items-the_row-Clause m cs)
 row_clauses m statements.end_of-Clause = refl
@@ -63,6 +69,7 @@ value_view (values.Record' left label slots m vs) = sugar.Record left label slot
 value_view (values.Apply' left operation m vs) = sugar.Apply left operation (values_in (values.items-the_row-Value _ vs))
 value_view (values.Proc' left count m q) = sugar.Proc left count (statements_in (statements.items-the_row-Statement _ q))
 value_view (values.Case' left p e m cs r b) = sugar.Case left (value_of e) (value_clauses_in (values.items-the_row-ValueClause _ cs)) (value_of b)
+value_view (values.Pair' left p hu m ks) = sugar.pair_of left (behind_all (two_in hu) (values.items-the_row-Link _ ks))
 value_view v = value_of v
 
 value_is : (v : values.Value) → value_of v ≡ value_view v
@@ -71,6 +78,7 @@ value_is (values.Record' left label slots m vs) = ap (sugar.Record left label sl
 value_is (values.Apply' left operation m vs) = ap (sugar.Apply left operation) (row_values _ vs)
 value_is (values.Proc' left count m q) = ap (sugar.Proc left count) (row_statements _ q)
 value_is (values.Case' left p e m cs r b) = ap (λ (x : ValueClauses). sugar.Case left (value_of e) x (value_of b)) (row_value_clauses _ cs)
+value_is (values.Pair' left p hu m ks) = ap (sugar.pair_of left) (row_links _ ks (two_in hu))
 value_is v = refl
 
 statement_view : statements.Statement → sugar.Statement
@@ -108,6 +116,15 @@ pub record_of : (left : ℕ) (label : List ℕ) (slots : List (Feature × Field)
 unfolding value_view
 record_of left label slots vs = value_is (values.Record left label slots vs) ∙ ap (λ (is : List values.Value). sugar.Record left label slots (values_in is)) (values.items_hidden-the_row-Value-1 vs)
 
+pub pair_is : (left : ℕ) (p : Box Pair) (ks : Vec Link) → value_of (values.Pair left p ks) ≡ sugar.pair_of left (behind_all (two_in p.value) ks.items)
+unfolding value_view
+pair_is left p ks = value_is (values.Pair left p ks) ∙ ap (λ (is : List Link). sugar.pair_of left (behind_all (two_in p.value) is)) (values.items_hidden-the_row-Link-3 ks)
+
+-- one head more before others
+pub behind_more : (hu : sugar.Value × sugar.Value) (ks : List Link) (k : Link) → behind_all hu (ks ++ k ∷ []) ≡ before k (behind_all hu ks)
+behind_more hu [] k = refl
+behind_more hu (x ∷ ks) k = behind_more (before x hu) ks k
+
 pub apply_of : (left : ℕ) (operation : Operation) (vs : Vec values.Value) → value_of (values.Apply left operation vs) ≡ sugar.Apply left operation (values_in vs.items)
 unfolding value_view
 apply_of left operation vs = value_is (values.Apply left operation vs) ∙ ap (λ (is : List values.Value). sugar.Apply left operation (values_in is)) (values.items_hidden-the_row-Value-1 vs)
@@ -118,7 +135,7 @@ proc_of left count q = value_is (values.Proc left count q) ∙ ap (λ (is : List
 
 pub value_case_of : (left : ℕ) (e : Box values.Value) (cs : Vec ValueClause) (b : Box values.Value) → value_of (values.Case left e cs b) ≡ sugar.Case left (value_of e.value) (value_clauses_in cs.items) (value_of b.value)
 unfolding value_view
-value_case_of left e cs b = value_is (values.Case left e cs b) ∙ ap (λ (is : List ValueClause). sugar.Case left (value_of e.value) (value_clauses_in is) (value_of b.value)) (values.items_hidden-the_row-ValueClause-3 cs)
+value_case_of left e cs b = value_is (values.Case left e cs b) ∙ ap (λ (is : List ValueClause). sugar.Case left (value_of e.value) (value_clauses_in is) (value_of b.value)) (values.items_hidden-the_row-ValueClause-4 cs)
 
 pub acts_of : (left : ℕ) (action : Action) (vs : Vec values.Value) → statement_of (statements.Apply left action vs) ≡ sugar.Acts left action (values_in vs.items)
 unfolding statement_view

@@ -6,6 +6,8 @@ pub mod Program
 pub mod Uses
 pub mod Laws
 pub mod PositionLists
+pub mod BodyList
+pub mod SlotList
 pub mod Table
 pub mod Arithmetic
 pub mod BuiltIns

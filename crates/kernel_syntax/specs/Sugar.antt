@@ -1,5 +1,5 @@
 -- Programs with sugar (CTM section 2.6) as trees. An identifier is the number of declarations of the text that enclose its own.
-use Rattle.std.specs.Prelude.{ℕ, suc, ◌+◌, List, [], ◌∷◌, Option, ℤ, pos}
+use Rattle.std.specs.Prelude.{ℕ, suc, ◌+◌, List, [], ◌∷◌, Option, ℤ, pos, codes}
 use Rattle.tree_node.specs.declared.node.Feature.{Feature}
 use Rattle.tree_node.specs.declared.node.Feature.TheVariants as feature
 use Rattle.kernel_syntax.specs.declared.stmt.Pattern.{Pattern}
@@ -91,6 +91,10 @@ pair_fields h u = (feature.Int (pos 1), field_of h 0) ∷ (feature.Int (pos 2), 
 -- its values that are no variables
 abbrev pub pair_values : Value → Value → Values
 pair_values h u = part_and h (part_and u no_values)
+
+-- the record H|T of a head and a tail
+abbrev pub pair_of : ℕ → Value × Value → Value
+pair_of left hu = Record left (codes "|") (pair_fields hu.0 hu.1) (pair_values hu.0 hu.1)
 
 -- how many parts take
 abbrev pub new_in : Values → ℕ

@@ -1,22 +1,23 @@
 -- What the types of programs with sugar hold, as plain trees.
-use Rattle.std.specs.Prelude.{List, [], ◌∷◌, codes}
+use Rattle.std.specs.Prelude.{ℕ, List, [], ◌∷◌}
 use Rattle.tree_node.specs.declared.node.Feature.{Feature}
 use Rattle.kernel_syntax.specs.declared.sugar.Field.{Field}
 use Rattle.kernel_syntax.specs.declared.sugar.Value as values
 use Rattle.kernel_syntax.specs.declared.sugar.Pair as pairs
+use Rattle.kernel_syntax.specs.declared.sugar.Link as links
 use Rattle.kernel_syntax.specs.declared.sugar.ValueClause as value_clauses
 use Rattle.kernel_syntax.specs.declared.sugar.Statement as statements
 use Rattle.kernel_syntax.specs.declared.sugar.Clause as clauses
-use Rattle.kernel_syntax.specs.Sugar.{Value, Variable, Integer, Atom, Record, Apply, Proc, Fun, If, Case, Brackets, Values, no_values, value_and, ValueClauses, no_clauses, clause_and, Statement, Skip, Tell, Acts, Local, Thread, IfStatement, CaseStatement, Try, Finally, Statements, no_statements, statement_and, Clauses, no_cases, case_and, pair_fields, pair_values}
+use Rattle.kernel_syntax.specs.Sugar.{Value, Variable, Integer, Atom, Record, Apply, Proc, Fun, If, Case, Brackets, Values, no_values, value_and, ValueClauses, no_clauses, clause_and, Statement, Skip, Tell, Acts, Local, Thread, IfStatement, CaseStatement, Try, Finally, Statements, no_statements, statement_and, Clauses, no_cases, case_and, pair_fields, pair_values, pair_of}
 
--- values and statements, what a head and a tail are as fields, and the rows of vectors
+-- values and statements, heads and tails, and the rows of vectors
 abbrev mutual
   pub value_of : values.Value → Value
   value_of (values.Variable left k) = Variable left k
   value_of (values.Integer left i) = Integer left i
   value_of (values.Atom left a) = Atom left a
   value_of (values.Record' left a slots l vs) = Record left a slots (values_of vs)
-  value_of (values.Pair' left p hu) = Record left (codes "|") (fields_in hu) (parts_in hu)
+  value_of (values.Pair' left p hu l ks) = pair_of left (behind (two_in hu) ks)
   value_of (values.Apply' left operation l vs) = Apply left operation (values_of vs)
   value_of (values.Proc' left count l q) = Proc left count (statements_of q)
   value_of (values.Fun' left count p v) = Fun left count (value_of v)
@@ -24,11 +25,17 @@ abbrev mutual
   value_of (values.Case' left p e l cs q b) = Case left (value_of e) (value_clauses_of cs) (value_of b)
   value_of (values.Brackets' left p v) = Brackets left (value_of v)
 
-  pub fields_in : pairs.Pair → List (Feature × Field)
-  fields_in (pairs.Of h u) = pair_fields (value_of h) (value_of u)
+  -- the head and the tail of a pair
+  pub two_in : pairs.Pair → Value × Value
+  two_in (pairs.Of h u) = (value_of h, value_of u)
 
-  pub parts_in : pairs.Pair → Values
-  parts_in (pairs.Of h u) = pair_values (value_of h) (value_of u)
+  -- the first head and its tail, where these stand before a head and a tail, the last of them first
+  pub behind : {m : _} → Value × Value → values.Row_of-Link m → Value × Value
+  behind hu values.end_of-Link = hu
+  behind hu (values.more_of-Link k ks) = behind (before k hu) ks
+
+  pub before : links.Link → Value × Value → Value × Value
+  before (links.Before left h) hu = (value_of h, pair_of left hu)
 
   pub values_of : {m : _} → values.Row_of-Value m → Values
   values_of values.end_of-Value = no_values
@@ -62,6 +69,25 @@ abbrev mutual
 
   pub case_and_of : clauses.Clause → Clauses → Clauses
   case_and_of (clauses.Then' p l q) cs = case_and p (statements_of q) cs
+
+-- the head that stands before a list, and where the list begins
+abbrev pub head_in : links.Link → Value
+head_in (links.Before left h) = value_of h
+
+abbrev pub list_place : links.Link → ℕ
+list_place (links.Before left h) = left
+
+-- the fields of a pair, and its values that are no variables
+abbrev pub fields_in : pairs.Pair → List (Feature × Field)
+fields_in hu = pair_fields (two_in hu).0 (two_in hu).1
+
+abbrev pub parts_in : pairs.Pair → Values
+parts_in hu = pair_values (two_in hu).0 (two_in hu).1
+
+-- the first head and its tail, where a list of heads stands before
+abbrev pub behind_all : Value × Value → List links.Link → Value × Value
+behind_all hu [] = hu
+behind_all hu (k ∷ ks) = behind_all (before k hu) ks
 
 -- what a list of values holds
 abbrev pub values_in : List values.Value → Values

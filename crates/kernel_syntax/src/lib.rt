@@ -25,12 +25,15 @@
 //! atoms are spelled).
 #![tactic(auto)]
 
+mod bodies;
 mod built_in;
+mod fronts;
 mod laws;
 mod limits;
 mod position_lists;
 mod preorder;
 mod program;
+mod slots;
 mod stmt;
 pub mod sugar;
 mod surface;
@@ -38,8 +41,10 @@ mod table;
 mod texts;
 mod threads;
 
+pub use bodies::Bodies;
 pub use built_in::BuiltIn;
 pub use laws::{free_goes_out, free_is_few, free_is_used, free_unfolds, operators_divide};
 pub use program::{Program, ProgramError};
-pub use stmt::{Bodies, Features, Op, Pattern, Positions, Selector, Slots, Stmt, TestOp, features};
+pub use slots::Slots;
+pub use stmt::{Features, Op, Pattern, Positions, Selector, Stmt, TestOp, features};
 pub use surface::Surface;

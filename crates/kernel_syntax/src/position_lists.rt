@@ -1,12 +1,12 @@
 //! Lists of positions that stand one behind the other.
 
-ghost use Rattle.std.specs.Prelude.{◌≡◌, ◌<◌, [], ◌∷◌, ◌++◌, length, slice_index_or, OnOk};
+ghost use Rattle.std.specs.Prelude.{◌≡◌, ◌<◌, ◌≤◌, [], ◌∷◌, ◌++◌, length, take, slice_index_or, IfOk, OnOk};
 
 use std::alloc::{AllocError, Global};
 use std::marker::Model;
 
 /// Lists of positions, which contracts see as a list of lists. They stand in one vector, so that a list takes no memory of its
-/// own.
+/// own, and one that is the front of another stands there once.
 #[derive(Drop)]
 pub struct PositionLists {
     positions: Vec<u32>,
@@ -27,23 +27,35 @@ impl Model for PositionLists {
 }
 
 impl PositionLists {
-    /// No lists yet.
-    pub fn new(alloc: Global) -> PositionLists
-        ensures { result ≡ [] }
+    /// No lists yet, with room for so many that have two positions or fewer.
+    pub fn with_capacity(alloc: Global, lists: usize) -> Result<PositionLists, AllocError>
+        ensures { IfOk result (λ l. l ≡ []) }
     {
-        PositionLists {
-            positions: Vec::new(alloc),
-            spans: Vec::new(alloc),
-        }
+        Ok(PositionLists {
+            positions: Vec::with_capacity(alloc, lists.saturating_mul(2))?,
+            spans: Vec::with_capacity(alloc, lists)?,
+        })
     }
 
     /// One list more.
+    #[inline(always)]
     pub fn push(&mut self, list: &[u32]) -> Result<(), AllocError>
         ensures { OnOk result (self.new ≡ self.old ++ list.now ∷ []) }
     {
         let start = self.positions.len();
         self.positions.extend_from_slice(list)?;
         self.spans.push((start, self.positions.len()))?;
+        Ok(())
+    }
+
+    /// One list more: the first so many positions of another. It takes no memory but for its place.
+    pub fn push_prefix(&mut self, at: usize, count: usize) -> Result<(), AllocError>
+        requires at { at < length self.old }
+        requires count { count ≤ length (slice_index_or self.old at []) }
+        ensures { OnOk result (self.new ≡ self.old ++ take count (slice_index_or self.old at []) ∷ []) }
+    {
+        let (start, _) = self.spans[at];
+        self.spans.push((start, start + count))?;
         Ok(())
     }
 

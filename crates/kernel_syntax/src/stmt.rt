@@ -3,19 +3,15 @@
 ghost use Rattle.std.specs.Prelude.{◌≡◌};
 ghost use Rattle.kernel_syntax.specs.Scopes.{features_in};
 
+use crate::bodies::Bodies;
+use crate::slots::Slots;
 use tree_node::{CodeId, Feature, Integer, Seq, Text};
-
-/// The numbers of statements in the order in which they run.
-pub type Bodies = Seq<CodeId>;
 
 /// The positions of a call's arguments.
 pub type Positions = Seq<u32>;
 
 /// The features of a record pattern in ascending order, integers first, then atoms by their bytes.
 pub type Features = Seq<Feature>;
-
-/// The fields of a record with the positions of their values, in ascending order of features.
-pub type Slots = Seq<(Feature, u32)>;
 
 /// An operator on two integers: a sum, a difference, a product, a quotient, the rest of a division, or a comparison.
 #[derive(Clone, Copy, Debug, PartialEq, Eq)]

@@ -43,8 +43,9 @@ pub enum Value {
     /// The label, the fields in ascending order of features, and the values that these number (`Field::Value`). In the trees of
     /// texts these are no variables, in the order of the text, each in one field; the limits of trees do not ask for it.
     Record(usize, Text, Seq<(Feature, Field)>, Vec<Value>),
-    /// The record H|T of a head and a tail.
-    Pair(usize, Box<Pair>),
+    /// The record H|T of a head and a tail, or of heads before these, where each begins a list that the next one goes on: the
+    /// heads stand from the last to the first, so that one more is put behind them, and a list takes no memory a head.
+    Pair(usize, Box<Pair>, Vec<Link>),
     Apply(usize, Operation, Vec<Value>),
     /// The number of formals, and the body.
     Proc(usize, u8, Vec<Statement>),
@@ -63,6 +64,13 @@ pub enum Value {
 #[cycle(sugar)]
 pub enum Pair {
     Of(Value, Value),
+}
+
+/// A head before a list, which begins at this place.
+#[derive(Drop)]
+#[cycle(sugar)]
+pub enum Link {
+    Before(usize, Value),
 }
 
 /// A clause of a `case` that is a value: its pattern and its value.

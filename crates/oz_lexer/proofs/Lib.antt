@@ -1,4 +1,3 @@
-pub mod ReservedWords
 pub mod Signs
 pub mod TokenBytes
 pub mod TokenLength

@@ -4,13 +4,12 @@ ghost use Rattle.std.specs.Prelude.{◌≡◌, ◌+◌, ◌≤◌, ◌∷◌, le
 ghost use Rattle.std.specs.Char.{is_ascii_digit};
 ghost use Rattle.std.specs.List.{prefix_len};
 ghost use Rattle.tree_node.specs.Spelling.{is_word_byte};
-ghost use Rattle.tree_node.specs.Words.{is_reserved};
 ghost use Rattle.oz_lexer.specs.Spelling.{is_control, is_escape, is_name};
 ghost use Rattle.oz_lexer.specs.Blanks.{is_blank};
 ghost use Rattle.oz_lexer.specs.Scan.{is_one_byte_sign, is_two_byte_sign, sign_length, minus_length, token_length, token_kind};
 
 use crate::token::TokenKind;
-use tree_node::is_reserved;
+use tree_node::is_reserved_word;
 
 /// Whether a byte may stand between tokens.
 pub fn is_blank(byte: u8) -> bool
@@ -129,17 +128,6 @@ pub fn token_length(first: u8, rest: &[u8]) -> usize
         minus_length(rest)
     } else {
         sign_length(first, rest)
-    }
-}
-
-/// Whether a word is reserved.
-#[tactic(auto, using(crate::proofs::ReservedWords::reserved_is_text))]
-fn is_reserved_word(bytes: &[u8]) -> bool
-    ensures { result ≡ is_reserved bytes.now }
-{
-    match std::str::from_utf8(bytes) {
-        Ok(word) => is_reserved(word),
-        Err(_) => false,
     }
 }
 

@@ -10,3 +10,4 @@ pub mod KernelExpansions
 pub mod KernelDepth
 pub mod TextLaws
 pub mod Pairs
+pub mod Lists

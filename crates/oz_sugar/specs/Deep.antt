@@ -1,12 +1,12 @@
 -- Where an expansion is too deep: at the first statement or value, in the order of the text, that stands for kernel
 -- statements of which one of its own, apart from those of its parts, has depth 201.
-use Rattle.std.specs.Prelude.{◌≡◌, ℕ, ◌+◌, ◌-◌, nat_lt, if◌then◌else◌, Option, Some, None, length, take, slice_index}
+use Rattle.std.specs.Prelude.{◌≡◌, ℕ, ◌+◌, ◌-◌, nat_lt, if◌then◌else◌, Option, Some, None, Result, Ok, Err, length, take, slice_index}
 use Rattle.kernel_syntax.specs.Surfaces.{SurfaceParts}
 use Rattle.kernel_syntax.specs.SugarView.{statements_in}
 use Rattle.oz_lexer.specs.Place.{place_of}
 use Rattle.oz_grammar.specs.declared.fault.TextFault.{TextFault}
 use Rattle.oz_grammar.specs.declared.fault.FaultKind.TheVariants as faults
-use Rattle.kernel_syntax.specs.Sugar.{Value, Variable, Integer, Atom, Record, Apply, Proc, Fun, If, Case, Brackets, Values, no_values, value_and, ValueClauses, no_clauses, clause_and, Statement, Skip, Tell, Acts, Local, Thread, IfStatement, CaseStatement, Try, Finally, Statements, no_statements, statement_and, Clauses, no_cases, case_and, left_of, by_kind, new_of, new_in, count_value_clauses, count_clauses}
+use Rattle.kernel_syntax.specs.Sugar.{Value, Variable, Integer, Atom, Record, Apply, Proc, Fun, If, Case, Brackets, Values, no_values, value_and, ValueClauses, no_clauses, clause_and, Statement, Skip, Tell, Acts, Local, Thread, IfStatement, CaseStatement, Try, Finally, Statements, no_statements, statement_and, Clauses, no_cases, case_and, left_of, by_kind, new_of, new_in, pair_of, count_value_clauses, count_clauses}
 
 -- the first of two places
 abbrev pub or_else : Option ℕ → Option ℕ → Option ℕ
@@ -77,6 +77,24 @@ abbrev mutual
   pub deep_cases : Clauses → ℕ → Option ℕ
   deep_cases no_cases d = None
   deep_cases (case_and p q cs) d = or_else (deep_statements q d) (deep_cases cs (d + 1))
+
+-- in the record of a head and a tail
+abbrev pub deep_list : Value × Value → ℕ → ℕ → Option ℕ
+deep_list hu at d = deep_value (pair_of 0 hu) at d
+
+-- a place that was found, or else where a list begins and a depth
+abbrev pub or_behind : Option ℕ → ℕ × ℕ → Result (ℕ × ℕ) ℕ
+or_behind (Some left) p = Err left
+or_behind None p = Ok p
+
+-- what is found in a head, or else what the list behind it, which begins at this place, counts as, and the depth of its first statement
+abbrev pub deep_head : Value → ℕ → ℕ → ℕ → Result (ℕ × ℕ) ℕ
+deep_head h left at d = or_behind (too_deep (d + new_of h + 1) at (by_kind h None (deep_value h (left_of h) (d + new_of h + 1)))) (left, d + new_of h + 1)
+
+-- what is found before a head and a tail, or in these as is told
+abbrev pub deep_behind : Result (ℕ × ℕ) ℕ → Value × Value → Option ℕ
+deep_behind (Ok p) hu = deep_list hu p.0 p.1
+deep_behind (Err left) hu = Some left
 
 -- the first place in a program, whose statements have depth 1
 abbrev pub deep : Statements → Option ℕ

@@ -5,9 +5,9 @@ use Rattle.tree_node.specs.declared.names.CodeId.{CodeId}
 use Rattle.kernel_syntax.specs.declared.stmt.Stmt.{Stmt}
 use Rattle.kernel_syntax.specs.declared.stmt.Stmt.TheVariants as stmt
 use Rattle.kernel_syntax.specs.Scopes.{features_in}
-use Rattle.oz_grammar.specs.Table.{code_at}
+use Rattle.oz_grammar.specs.Table.{code_at, pair_row}
 use Rattle.oz_grammar.specs.Reading.{set_second}
-use Rattle.kernel_syntax.specs.Sugar.{Value, Variable, Integer, Atom, Record, Apply, Proc, Fun, If, Case, Brackets, Values, no_values, value_and, ValueClauses, no_clauses, clause_and, Statement, Skip, Tell, Acts, Local, Thread, IfStatement, CaseStatement, Try, Finally, Statements, no_statements, statement_and, Clauses, no_cases, case_and, by_kind, new_of, new_in}
+use Rattle.kernel_syntax.specs.Sugar.{Value, Variable, Integer, Atom, Record, Apply, Proc, Fun, If, Case, Brackets, Values, no_values, value_and, ValueClauses, no_clauses, clause_and, Statement, Skip, Tell, Acts, Local, Thread, IfStatement, CaseStatement, Try, Finally, Statements, no_statements, statement_and, Clauses, no_cases, case_and, by_kind, new_of, new_in, part_and}
 use Rattle.oz_sugar.specs.Put.{Places, place, declare, slot_places, operation_row, action_row}
 
 -- what a writer holds: the rows so far, the positions of the identifiers of the text, and how many declarations there are
@@ -103,10 +103,14 @@ write_ends n owner tried rows =
     let handled = add (stmt.Raise (n + 1)) (add (stmt.Call n []) (add (stmt.Seq (behind rows ∷ code_at (length rows + 1 + 1) ∷ [])) rows)) in
     with_numbers owner (code_at (owner + 1) ∷ code_at tried ∷ next handled ∷ []) (add (stmt.Call n []) handled)
 
+-- the rows before the statements behind `finally`
+abbrev pub last_rows : ℕ → List Stmt → List Stmt
+last_rows n rows = add (stmt.TellProc n (n + 1) 0 (code_at (length rows + 1 + 1 + 1))) (add stmt.Skip (add (stmt.Local n 1 (behind rows)) rows))
+
 -- local P in P = proc {$} U end try S catch V then {P} raise V end end {P} end
 abbrev pub write_finally : ℕ → (List Stmt → List Stmt) → (List Stmt → List Stmt) → List Stmt → List Stmt
 write_finally n u s rows =
-    let called = u (add (stmt.TellProc n (n + 1) 0 (code_at (length rows + 1 + 1 + 1))) (add stmt.Skip (add (stmt.Local n 1 (behind rows)) rows))) in
+    let called = u (last_rows n rows) in
     write_ends n (length rows + 1) (length called) (write_one (stmt.Try (behind called) (n + 1) (code_at 0)) s called)
 
 -- the rows behind those so far: of a value that is told to position x under n declarations, of lists of values, of clauses, of
@@ -175,6 +179,13 @@ abbrev mutual
   write_cases no_cases places n y rows = rows
   write_cases (case_and p q cs) places n y rows =
       write_cases cs places n y (write_one (stmt.Case y p n (behind rows) (code_at 0)) (write_statements q (declare places n (length (features_in p))) (n + length (features_in p))) rows)
+
+-- those of a head before a list, which is told to the position behind the head's
+abbrev pub head_rows : Value → Places → ℕ → ℕ → List Stmt → List Stmt
+head_rows h places n x rows =
+    let inside = write_locals (new_of h + 1) n rows in
+    let m = write_fields (part_and h no_values) places (n + (new_of h + 1)) n (behind inside ∷ []) (add (pair_row x (held_place h places n) (n + new_of h)) (add stmt.Skip inside)) in
+    with_numbers (length inside) (m.0 ++ next m.1 ∷ []) m.1
 
 -- the rows of a program
 abbrev pub program_rows : Statements → List Stmt

@@ -1,11 +1,11 @@
 //! Where an expansion is too deep.
 
-ghost use Rattle.std.specs.Prelude.{◌≡◌, ◌≤◌, ◌+◌, ◌-◌, length, true, false, Some, None, nat_lt, if◌then◌else◌};
-ghost use Rattle.kernel_syntax.specs.Sugar.{Clauses, left_of, by_kind, new_of, new_in};
-ghost use Rattle.kernel_syntax.specs.SugarView.{value_of, values_in, parts_in, value_clauses_in, statement_of, statements_in, case_and_of, clauses_in};
-ghost use Rattle.oz_sugar.specs.Deep.{or_else, too_deep, deep_value, deep_parts, deep_fields, deep_clauses, deep_statement, deep_statements, deep_cases, deep};
+ghost use Rattle.std.specs.Prelude.{◌≡◌, ◌≤◌, ◌+◌, ◌-◌, length, true, false, Some, None, nat_lt, if◌then◌else◌, IfOk};
+ghost use Rattle.kernel_syntax.specs.Sugar.{Value as Tree, Clauses, left_of, by_kind, new_of, new_in};
+ghost use Rattle.kernel_syntax.specs.SugarView.{value_of, values_in, parts_in, behind_all, head_in, list_place, value_clauses_in, statement_of, statements_in, case_and_of, clauses_in};
+ghost use Rattle.oz_sugar.specs.Deep.{or_else, too_deep, deep_value, deep_list, deep_head, deep_behind, deep_parts, deep_fields, deep_clauses, deep_statement, deep_statements, deep_cases, deep};
 
-use kernel_syntax::sugar::{Clause, Pair, Statement, Value, ValueClause};
+use kernel_syntax::sugar::{Clause, Link, Pair, Statement, Value, ValueClause};
 
 fn is_variable(value: &Value) -> bool
     ensures { result ≡ by_kind (value_of value.now) true false }
@@ -55,7 +55,7 @@ fn left_of(value: &Value) -> usize
         Value::Integer(left, ..) => *left,
         Value::Atom(left, ..) => *left,
         Value::Record(left, ..) => *left,
-        Value::Pair(left, _) => *left,
+        Value::Pair(left, ..) => *left,
         Value::Apply(left, ..) => *left,
         Value::Proc(left, ..) => *left,
         Value::Fun(left, ..) => *left,
@@ -86,7 +86,10 @@ fn deep_value(value: &Value, left: usize, depth: usize) -> Option<usize>
 {
     match value {
         Value::Record(_, _, _, values) => deep_record(values.as_slice(), left, depth),
-        Value::Pair(_, parts) => deep_pair(parts, left, depth),
+        Value::Pair(_, last, heads) => match deep_heads(heads.as_slice(), left, depth) {
+            Err(first) => Some(first),
+            Ok((place, inside)) => deep_pair(last, place, inside),
+        },
         Value::Apply(_, _, values) => deep_apply(values.as_slice(), left, depth),
         Value::Proc(_, _, body) => deep_body(body.as_slice(), left, depth),
         Value::Fun(_, _, body) => {
@@ -116,12 +119,7 @@ fn deep_value(value: &Value, left: usize, depth: usize) -> Option<usize>
             or_else(tested, or_else(chosen, other))
         }
         Value::Brackets(_, inner) => deep_value(inner, left, depth),
-        _ => {
-            if depth > 200 {
-                return Some(left);
-            }
-            None
-        }
+        _ => too_deep(depth, left),
     }
 }
 
@@ -136,6 +134,50 @@ fn deep_record(values: &[Value], left: usize, depth: usize) -> Option<usize>
         return Some(left);
     }
     deep_fields(values, inside)
+}
+
+/// In the heads before a pair, the last of them first, of a list that counts as one with so many symbols left; else what the pair
+/// counts as, and the depth of its first statement.
+#[cycle(deep)]
+#[tactic(auto, using(crate::proofs::Lists::heads_deep))]
+fn deep_heads(heads: &[Link], left: usize, depth: usize) -> Result<(usize, usize), usize>
+    requires { depth ≤ 201 }
+    ensures value { (hu : Tree × Tree) → deep_list (behind_all hu heads.now) left depth ≡ deep_behind result hu }
+    ensures depth { IfOk result (λ p. p.1 ≤ 201) }
+{
+    let mut place = left;
+    let mut inside = depth;
+    let mut others = heads.len();
+    while others > 0 {
+        others -= 1;
+        match deep_link(&heads[others], place, inside) {
+            Err(first) => return Err(first),
+            Ok(behind) => (place, inside) = behind,
+        }
+    }
+    Ok((place, inside))
+}
+
+/// In a head before a list that counts as one with so many symbols left; else what the list behind it counts as, and the depth of
+/// its first statement.
+#[cycle(deep)]
+fn deep_link(link: &Link, left: usize, depth: usize) -> Result<(usize, usize), usize>
+    requires { depth ≤ 201 }
+    ensures value { result ≡ deep_head (head_in link.now) (list_place link.now) left depth }
+    ensures depth { IfOk result (λ p. p.1 ≤ 201) }
+{
+    match link {
+        Link::Before(place, head) => {
+            let inside = depth + new_of(head) + 1;
+            if inside > 200 {
+                return Err(left);
+            }
+            match deep_field(head, inside) {
+                Some(first) => Err(first),
+                None => Ok((*place, inside)),
+            }
+        }
+    }
 }
 
 /// In a pair that counts as one with so many symbols left.
@@ -176,6 +218,18 @@ fn deep_body(body: &[Statement], left: usize, depth: usize) -> Option<usize>
         return Some(left);
     }
     deep_statements(body, depth + 1)
+}
+
+/// In statements of this depth, or before them where that is above 200.
+#[cycle(deep)]
+fn deep_within(statements: &[Statement], left: usize, depth: usize) -> Option<usize>
+    requires { depth ≤ 203 }
+    ensures { result ≡ too_deep depth left (deep_statements (statements_in statements.now) depth) }
+{
+    if depth > 200 {
+        return Some(left);
+    }
+    deep_statements(statements, depth)
 }
 
 /// In a part.
@@ -227,7 +281,7 @@ fn deep_field(value: &Value, depth: usize) -> Option<usize>
     ensures { result ≡ by_kind (value_of value.now) None (deep_value (value_of value.now) (left_of (value_of value.now)) depth) }
 {
     match value {
-        Value::Variable(..) => None,
+        Value::Variable(..) | Value::Integer(..) | Value::Atom(..) => None,
         _ => deep_value(value, left_of(value), depth),
     }
 }
@@ -283,20 +337,12 @@ fn deep_statement(statement: &Statement, depth: usize) -> Option<usize>
             or_else(tested, or_else(chosen, other))
         }
         Statement::Try(left, body, handler) => {
-            if depth > 200 {
-                return Some(*left);
-            }
-            let first = deep_statements(body.as_slice(), depth + 1);
-            let second = deep_statements(handler.as_slice(), depth + 1);
-            or_else(first, second)
+            let first = deep_body(body.as_slice(), *left, depth);
+            or_else(first, deep_body(handler.as_slice(), *left, depth))
         }
         Statement::Finally(left, body, last) => {
-            if depth + 2 > 200 {
-                return Some(*left);
-            }
-            let first = deep_statements(body.as_slice(), depth + 2);
-            let second = deep_statements(last.as_slice(), depth + 2);
-            or_else(first, second)
+            let first = deep_within(body.as_slice(), *left, depth + 2);
+            or_else(first, deep_within(last.as_slice(), *left, depth + 2))
         }
     }
 }

@@ -17,15 +17,15 @@ use oz_lexer::line_and_column;
 use oz_parser::{FaultKind, ParseError, TextFault};
 use std::alloc::{AllocError, Global};
 
-/// The rows of the program that a tree stands for, which is not too deep.
+/// The rows of the program that a tree stands for, which is not too deep, with room for so many from the start.
 #[tactic(auto, using(crate::proofs::Expansions::written_are_programs, crate::proofs::Expansions::written_expand))]
-fn rows_of(alloc: Global, tree: &[Statement]) -> Result<Vec<Stmt>, AllocError>
+fn rows_of(alloc: Global, tree: &[Statement], room: usize) -> Result<Vec<Stmt>, AllocError>
     requires fits { FitsStatements (statements_in tree.now) 0 }
     requires shallow { deep (statements_in tree.now) ≡ None }
     ensures program { IfOk result (λ r. IsProgram r.items) }
     ensures rows { IfOk result (λ r. Expand (statements_in tree.now) r.items) }
 {
-    let mut writer = Writer::new(alloc)?;
+    let mut writer = Writer::new(alloc, room)?;
     writer.statements(tree)?;
     Ok(writer.into_rows())
 }
@@ -62,7 +62,7 @@ pub fn expanded_rows(alloc: Global, surface: &Surface) -> Result<Vec<Stmt>, Pars
 {
     match deep(surface.tree()) {
         Some(left) => Err(ParseError::Text(too_deep(surface, left))),
-        None => Ok(rows_of(alloc, surface.tree())?),
+        None => Ok(rows_of(alloc, surface.tree(), surface.starts().len())?),
     }
 }
 

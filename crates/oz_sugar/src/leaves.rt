@@ -1,13 +1,13 @@
 //! Rows without bodies, and copies of what a tree holds.
 
-ghost use Rattle.std.specs.Prelude.{◌≡◌, ◌++◌, slice_index, take, map, IfOk};
+ghost use Rattle.std.specs.Prelude.{◌≡◌, [], ◌∷◌, ◌++◌, slice_index, take, map, IfOk};
 ghost use Rattle.oz_grammar.specs.Table.{built_in_row};
 ghost use Rattle.oz_sugar.specs.Put.{place, slot_places, operation_row, action_row, placed_selector, field_place};
 
 use kernel_syntax::sugar::{Action, Field, Operation};
-use kernel_syntax::{BuiltIn, Features, Pattern, Positions, Selector, Stmt};
+use kernel_syntax::{Bodies, BuiltIn, Features, Pattern, Positions, Selector, Slots, Stmt};
 use std::alloc::{AllocError, Global};
-use tree_node::{Feature, copy_feature};
+use tree_node::{CodeId, Feature, copy_feature};
 
 /// A position of a list, 0 where it has none there.
 pub fn position_at(positions: &[u32], at: usize) -> u32
@@ -18,6 +18,16 @@ pub fn position_at(positions: &[u32], at: usize) -> u32
     } else {
         0
     }
+}
+
+/// Two statements in the order in which they run.
+pub fn two_bodies(alloc: Global, first: CodeId, second: CodeId) -> Result<Bodies, AllocError>
+    ensures { IfOk result (λ b. b ≡ first ∷ second ∷ []) }
+{
+    let mut bodies = Bodies::new(alloc);
+    bodies.push(first)?;
+    bodies.push(second)?;
+    Ok(bodies)
 }
 
 fn built_in_row(built_in: BuiltIn, positions: &[u32]) -> Stmt
@@ -120,8 +130,17 @@ fn field_place(part: Field, places: &[u32], first: u32) -> Result<u32, AllocErro
     }
 }
 
-/// The fields of a record with their positions, where new identifiers have positions from `first` on.
-pub fn slot_places(
+fn slot_place(
+    slot: &(Feature, Field),
+    places: &[u32],
+    first: u32,
+) -> Result<(Feature, u32), AllocError>
+    ensures { IfOk result (λ s. s ≡ (slot.now.0, field_place places.now first slot.now.1)) }
+{
+    Ok((copy_feature(&slot.0)?, field_place(slot.1, places, first)?))
+}
+
+fn many_slot_places(
     alloc: Global,
     slots: &[(Feature, Field)],
     places: &[u32],
@@ -131,9 +150,28 @@ pub fn slot_places(
 {
     let mut placed = Vec::with_capacity(alloc, slots.len())?;
     for slot in slots {
-        placed.push((copy_feature(&slot.0)?, field_place(slot.1, places, first)?))?;
+        placed.push(slot_place(slot, places, first)?)?;
     }
     Ok(placed)
+}
+
+/// The fields of a record with their positions, where new identifiers have positions from `first` on.
+pub fn slot_places(
+    alloc: Global,
+    slots: &[(Feature, Field)],
+    places: &[u32],
+    first: u32,
+) -> Result<Slots, AllocError>
+    ensures { IfOk result (λ s. s ≡ slot_places places.now first slots.now) }
+{
+    match slots {
+        [only] => Ok(Slots::one(slot_place(only, places, first)?)),
+        [one, other] => {
+            let placed = slot_place(one, places, first)?;
+            Ok(Slots::two(placed, slot_place(other, places, first)?))
+        }
+        _ => Ok(Slots::from_vec(many_slot_places(alloc, slots, places, first)?)),
+    }
 }
 
 fn copy_features(alloc: Global, features: &[Feature]) -> Result<Vec<Feature>, AllocError>

@@ -41,13 +41,13 @@ impl Model for Writer {
 }
 
 impl Writer {
-    /// A writer of no rows.
-    pub fn new(alloc: Global) -> Result<Writer, AllocError>
+    /// A writer of no rows, with room for so many.
+    pub fn new(alloc: Global, room: usize) -> Result<Writer, AllocError>
         ensures { IfOk result (λ w. w ≡ state_of [] [] 0) }
     {
         Ok(Writer {
             alloc,
-            rows: Vec::new(alloc),
+            rows: Vec::with_capacity(alloc, room)?,
             places: Vec::new(alloc),
             around: 0,
             bar: Text::from_vec(Vec::from_slice(alloc, b"|")?)?,
@@ -71,12 +71,14 @@ impl Writer {
         Ok(())
     }
 
-    /// One row more.
+    /// One row more. Room is made for it first: so the row is moved once.
+    #[inline(always)]
     fn add(&mut self, row: Stmt) -> Result<(), AllocError>
         ensures rows { OnOk result (self.new ≡ written (add row self.old.rows) self.old) }
         ensures len { OnOk result (length self.new.rows ≡ length self.old.rows + 1) }
     {
-        self.rows.push(row)?;
+        self.rows.reserve(1)?;
+        self.rows.push_reserved(row);
         Ok(())
     }
 
@@ -108,12 +110,13 @@ impl Writer {
     }
 
     /// Makes the row at a place a sequence of these statements.
-    fn set_numbers(&mut self, owner: usize, numbers: Vec<CodeId>)
+    #[inline(always)]
+    fn set_numbers(&mut self, owner: usize, numbers: Bodies)
         requires { owner < length self.old.rows }
-        ensures rows { self.new ≡ written (with_numbers owner numbers.items self.old.rows) self.old }
+        ensures rows { self.new ≡ written (with_numbers owner numbers self.old.rows) self.old }
         ensures len { length self.new.rows ≡ length self.old.rows }
     {
-        self.rows[owner] = Stmt::Seq(Bodies::from_vec(numbers));
+        self.rows[owner] = Stmt::Seq(numbers);
     }
 
     /// Only the first of the identifiers of the text, and so many declarations.

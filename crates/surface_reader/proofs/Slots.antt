@@ -1,5 +1,5 @@
 -- Fields in the order of features.
-use Rattle.std.proofs.Common.{◌≡◌, suc, ◌+◌, List, [], ◌∷◌, Bool, true, false, cond, refl, ap, arith}
+use Rattle.std.proofs.Common.{◌≡◌, suc, ◌+◌, List, [], ◌∷◌, ◌++◌, length, Bool, true, false, cond, refl, ap, arith}
 use Rattle.std.specs.Prelude.{insert, ◌||◌}
 use Rattle.std.specs.Ordering.{is_lt}
 use Rattle.tree_node.specs.declared.node.Feature.{Feature}
@@ -22,3 +22,11 @@ inserted f p ((g, q) ∷ slots) =
       | true ↦ refl
       | false ↦ let n : slot_point f slots + 1 ≡ suc (slot_point f slots) = omega arith in rw n (ap (λ (xs : List (Feature × Field)). (g, q) ∷ xs) (inserted f p slots))
     ] in chosen (is_lt (feature_cmp f g))
+
+pub appended : (f : Feature) (p : Field) (slots : List (Feature × Field)) → slot_point f slots ≡ length slots → slots ++ (f, p) ∷ [] ≡ with_field f p slots
+appended f p [] e = refl
+appended f p ((g, q) ∷ slots) e =
+    let chosen : (t : Bool) → cond t 0 (slot_point f slots + 1) ≡ suc (length slots) → (g, q) ∷ (slots ++ (f, p) ∷ []) ≡ cond t ((f, p) ∷ (g, q) ∷ slots) ((g, q) ∷ with_field f p slots) = elim [
+      | true ↦ λ h. absurd (omega (arith, h))
+      | false ↦ λ h. ap (λ (xs : List (Feature × Field)). (g, q) ∷ xs) (appended f p slots (omega (arith, h)))
+    ] in chosen (is_lt (feature_cmp f g)) e

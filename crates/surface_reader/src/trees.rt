@@ -14,7 +14,9 @@ ghost use Rattle.surface_grammar.specs.Trees.{with_last, record_value, pair_valu
 ghost use Rattle.surface_grammar.specs.Reading.{with_one, with_statement, with_value_clause, with_clause};
 ghost use Rattle.surface_reader.specs.Slots.{slot_point, so_far};
 
-use kernel_syntax::sugar::{Action, Clause, Field, Operation, Pair, Statement, Value, ValueClause};
+use kernel_syntax::sugar::{
+    Action, Clause, Field, Link, Operation, Pair, Statement, Value, ValueClause,
+};
 use kernel_syntax::{BuiltIn, Pattern, Selector};
 use std::alloc::{AllocError, Global};
 use tree_node::{Feature, Integer, Seq, Text, compare_features, equal_feature};
@@ -28,12 +30,14 @@ pub struct Fields {
     pub next: u32,
 }
 
-/// One value more.
+/// One value more. Room is made for it first: so the value is moved once.
+#[inline(always)]
 #[tactic(auto, using(crate::proofs::Rows::value_pushed))]
 pub fn push_value(values: &mut Vec<Value>, value: Value) -> Result<(), AllocError>
     ensures { OnOk result (values_in values.new.items ≡ with_last (values_in values.old.items) (value_of value)) }
 {
-    values.push(value)?;
+    values.reserve(1)?;
+    values.push_reserved(value);
     Ok(())
 }
 
@@ -104,7 +108,8 @@ fn slot_point(feature: &Feature, slots: &[(Feature, Field)]) -> usize
 }
 
 /// One field more, in the order of features.
-#[tactic(auto, using(crate::proofs::Slots::inserted))]
+#[inline(always)]
+#[tactic(auto, using(crate::proofs::Slots::inserted, crate::proofs::Slots::appended))]
 fn add_slot(
     slots: &mut Vec<(Feature, Field)>,
     feature: Feature,
@@ -113,6 +118,11 @@ fn add_slot(
     ensures { OnOk result (slots.new.items ≡ with_field feature field slots.old.items) }
 {
     let at = slot_point(&feature, slots.as_slice());
+    if at == slots.len() {
+        slots.reserve(1)?;
+        slots.push_reserved((feature, field));
+        return Ok(());
+    }
     match slots.insert(at, (feature, field)) {
         Ok(()) => Ok(()),
         Err(_) => Err(AllocError),
@@ -131,6 +141,7 @@ pub fn no_fields(alloc: Global) -> Fields
 }
 
 /// One field more, of this feature.
+#[inline(always)]
 pub fn add_field(fields: &mut Fields, feature: Feature, value: Value) -> Result<(), AllocError>
     ensures fields { OnOk result (so_far fields.new.slots.items fields.new.values.items fields.new.next ≡ with_one feature (value_of value) fields.old.next (so_far fields.old.slots.items fields.old.values.items fields.old.next)) }
     ensures next { fields.new.next ≡ fields.old.next }
@@ -144,6 +155,7 @@ pub fn add_field(fields: &mut Fields, feature: Feature, value: Value) -> Result<
 }
 
 /// One field more, which is no variable.
+#[inline(always)]
 #[tactic(auto, using(kernel_syntax::proofs::SugarItems::value_count))]
 fn add_value(fields: &mut Fields, feature: Feature, value: Value) -> Result<(), AllocError>
     requires { new_of (value_of value) ≡ 1 }
@@ -182,11 +194,22 @@ pub fn record_value(left: usize, label: Text, fields: Fields) -> Value
     record(left, label, fields)
 }
 
-/// H|T of these values.
+/// H|T of these values. Before a list it is one head more of the list, which takes no piece of memory of its own.
+#[inline(always)]
 pub fn pair_value(alloc: Global, left: usize, head: Value, tail: Value) -> Result<Value, AllocError>
     ensures { IfOk result (λ v. value_of v ≡ pair_value left (value_of head) (value_of tail)) }
 {
-    Ok(Value::Pair(left, Box::new(alloc, Pair::Of(head, tail))?))
+    match tail {
+        Value::Pair(place, last, mut heads) => {
+            heads.reserve(1)?;
+            heads.push_reserved(Link::Before(place, head));
+            Ok(Value::Pair(left, last, heads))
+        }
+        _ => {
+            let last = Box::new(alloc, Pair::Of(head, tail))?;
+            Ok(Value::Pair(left, last, Vec::new(alloc)))
+        }
+    }
 }
 
 /// What is made of parts.

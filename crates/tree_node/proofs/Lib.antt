@@ -9,6 +9,7 @@ pub mod EnvLemmas
 pub mod AssocLemmas
 pub mod EachLemmas
 pub mod TextLemmas
+pub mod WordLemmas
 pub mod CaseLemmas
 pub mod NameLemmas
 pub mod FeatureOrder

@@ -1,7 +1,7 @@
 -- Reserved words, those that the grammar uses and those that it keeps for later.
-use Rattle.std.specs.Prelude.{ℕ, List, [], ◌∷◌, ◌++◌, Bool, codes}
+use Rattle.std.specs.Prelude.{ℕ, List, [], ◌∷◌, ◌++◌, Bool, ◌==◌, length, codes}
 use Rattle.std.specs.Borrow.{Bor}
-use Rattle.std.specs.List.{list_any}
+use Rattle.std.specs.List.{filter, list_any}
 use Rattle.std.specs.Str.{bytes_eq}
 
 -- those that the grammar uses
@@ -23,6 +23,10 @@ later_words =
 -- all of them
 unfoldable pub reserved_words : List (List ℕ)
 reserved_words = grammar_words ++ later_words
+
+-- those of so many letters
+abbrev pub words_of_length : ℕ → List (List ℕ)
+words_of_length n = filter (λ word. length word == n) reserved_words
 
 -- the text is one of them
 abbrev pub is_reserved : List ℕ → Bool

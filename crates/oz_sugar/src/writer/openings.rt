@@ -1,14 +1,14 @@
 //! Rows that declare identifiers or branch, whose bodies come behind them.
 
-ghost use Rattle.std.specs.Prelude.{◌≡◌, ◌+◌, ◌<◌, ◌≤◌, [], length, OnOk};
+ghost use Rattle.std.specs.Prelude.{◌≡◌, ◌+◌, ◌<◌, ◌≤◌, [], ◌∷◌, length, IfOk, OnOk};
 ghost use Rattle.kernel_syntax.specs.declared.stmt.Stmt.TheVariants as stmt;
 ghost use Rattle.kernel_syntax.specs.Scopes.{features_in};
 ghost use Rattle.oz_grammar.specs.Table.{code_at};
 ghost use Rattle.oz_sugar.specs.Put.{declare};
-ghost use Rattle.oz_sugar.specs.Writing.{add, behind, write_ends, write_locals, state_of, written};
+ghost use Rattle.oz_sugar.specs.Writing.{add, behind, last_rows, write_ends, write_locals, state_of, written};
 
 use super::Writer;
-use crate::leaves::copy_pattern;
+use crate::leaves::{copy_pattern, two_bodies};
 use kernel_syntax::{Bodies, Pattern, Positions, Stmt, features};
 use std::alloc::{AllocError, Global};
 use tree_node::CodeId;
@@ -79,9 +79,32 @@ impl Writer {
         Ok(())
     }
 
+    /// The rows before those of the fields of a record with so many new identifiers: a `local` for each, a row to be a sequence, whose
+    /// place this is with the numbers in it so far, and the tell.
+    pub(super) fn open_record(
+        &mut self,
+        count: usize,
+        tell: Stmt,
+    ) -> Result<(usize, Bodies), AllocError>
+        ensures owner { IfOk result (λ p. p.0 ≡ length (write_locals count self.old.around self.old.rows)) }
+        ensures numbers { IfOk result (λ p. p.1 ≡ behind (write_locals count self.old.around self.old.rows) ∷ []) }
+        ensures rows { OnOk result (self.new ≡ state_of (add tell (add stmt.Skip (write_locals count self.old.around self.old.rows))) self.old.places (self.old.around + count)) }
+        ensures len { OnOk result (length (write_locals count self.old.around self.old.rows) + 1 + 1 ≡ length self.new.rows) }
+        ensures grows { OnOk result (length self.old.rows ≤ length self.new.rows) }
+    {
+        self.open_locals(count)?;
+        self.room()?;
+        let owner = self.rows.len();
+        let mut numbers = Bodies::new(self.alloc);
+        numbers.push(self.behind())?;
+        self.add(Stmt::Skip)?;
+        self.add(tell)?;
+        Ok((owner, numbers))
+    }
+
     /// The rows before the statements behind `finally`.
     pub(super) fn open_finally(&mut self) -> Result<(), AllocError>
-        ensures rows { OnOk result (self.new ≡ state_of (add (stmt.TellProc self.old.around (self.old.around + 1) 0 (code_at (length self.old.rows + 1 + 1 + 1))) (add stmt.Skip (add (stmt.Local self.old.around 1 (behind self.old.rows)) self.old.rows))) self.old.places (self.old.around + 1)) }
+        ensures rows { OnOk result (self.new ≡ state_of (last_rows self.old.around self.old.rows) self.old.places (self.old.around + 1)) }
         ensures len { OnOk result (length self.new.rows ≡ length self.old.rows + 1 + 1 + 1) }
     {
         self.room()?;
@@ -114,13 +137,14 @@ impl Writer {
         }
         let first = CodeId(self.rows.len() as u32 + 1);
         let second = CodeId(self.rows.len() as u32 + 2);
-        let inside = vec![in self.alloc; first, second]?;
-        self.add(Stmt::Seq(Bodies::from_vec(inside)))?;
+        let inside = two_bodies(self.alloc, first, second)?;
+        self.add(Stmt::Seq(inside))?;
         self.add(call_of(self.alloc, outer))?;
         self.add(Stmt::Raise(outer + 1))?;
         let last = CodeId(self.rows.len() as u32);
         self.add(call_of(self.alloc, outer))?;
-        let numbers = vec![in self.alloc; CodeId(owner as u32 + 1), CodeId(tried as u32), last]?;
+        let mut numbers = two_bodies(self.alloc, CodeId(owner as u32 + 1), CodeId(tried as u32))?;
+        numbers.push(last)?;
         self.set_numbers(owner, numbers);
         self.around = outer;
         Ok(())

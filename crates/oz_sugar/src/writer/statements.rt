@@ -1,18 +1,18 @@
 //! What stands for statements.
 
-ghost use Rattle.std.specs.Prelude.{◌≡◌, ◌+◌, ◌<◌, ◌≤◌, [], length, OnOk};
+ghost use Rattle.std.specs.Prelude.{◌≡◌, ◌+◌, ◌<◌, ◌≤◌, [], length, IfOk, OnOk};
 ghost use Rattle.kernel_syntax.specs.declared.stmt.Stmt.TheVariants as stmt;
 ghost use Rattle.kernel_syntax.specs.Scopes.{features_in};
 ghost use Rattle.oz_grammar.specs.Table.{code_at};
 ghost use Rattle.kernel_syntax.specs.Sugar.{Acts, Clauses};
 ghost use Rattle.kernel_syntax.specs.SugarView.{value_of, values_in, statement_of, statements_in, case_and_of, clauses_in};
 ghost use Rattle.oz_sugar.specs.Put.{place, declare, action_row};
-ghost use Rattle.oz_sugar.specs.Writing.{add, behind, with_numbered, write, write_one, write_statement, write_statements, write_others, write_cases, state_of, written};
+ghost use Rattle.oz_sugar.specs.Writing.{add, behind, with_numbered, last_rows, write, write_one, write_statement, write_statements, write_others, write_cases, state_of, written};
 
 use super::Writer;
 use crate::leaves::action_row;
 use kernel_syntax::sugar::{Action, Clause, Statement, Value};
-use kernel_syntax::{Pattern, Stmt};
+use kernel_syntax::{Bodies, Pattern, Stmt};
 use std::alloc::AllocError;
 use tree_node::{CodeId, Integer};
 
@@ -48,7 +48,7 @@ impl Writer {
     {
         let owner = self.rows.len();
         self.add(Stmt::Skip)?;
-        let mut numbers = Vec::new(self.alloc);
+        let mut numbers = Bodies::new(self.alloc);
         for statement in statements {
             self.room()?;
             numbers.push(CodeId(self.rows.len() as u32))?;
@@ -96,9 +96,7 @@ impl Writer {
             Statement::Finally(_, body, last) => {
                 let outer = self.around;
                 let owner = self.rows.len() + 1;
-                self.open_finally()?;
-                self.statements(last.as_slice())?;
-                let tried = self.rows.len();
+                let tried = self.put_last(last.as_slice())?;
                 self.put_tried(body.as_slice())?;
                 self.end_finally(outer, owner, tried)
             }
@@ -135,6 +133,18 @@ impl Writer {
         self.open_if(tested)?;
         self.statements(yes)?;
         self.set_second(owner)
+    }
+
+    /// What stands for the statements behind `finally`, behind the rows before them; then comes what is tried, which has this number.
+    #[cycle(writer)]
+    fn put_last(&mut self, last: &[Statement]) -> Result<usize, AllocError>
+        ensures tried { IfOk result (λ n. n ≡ length self.new.rows) }
+        ensures rows { OnOk result (self.new ≡ state_of (write_statements (statements_in last.now) self.old.places (self.old.around + 1) (last_rows self.old.around self.old.rows)) self.old.places (self.old.around + 1)) }
+        ensures grows { OnOk result (length self.old.rows + 1 + 1 + 1 ≤ length self.new.rows) }
+    {
+        self.open_finally()?;
+        self.statements(last)?;
+        Ok(self.rows.len())
     }
 
     /// A `try` with its statements, where the handler is still to come.

@@ -1,20 +1,29 @@
 //! What stands for values.
 
-ghost use Rattle.std.specs.Prelude.{◌≡◌, ◌+◌, ◌<◌, ◌≤◌, ◌^◌, [], ◌∷◌, length, IfOk, OnOk};
+ghost use Rattle.std.specs.Prelude.{◌≡◌, ◌+◌, ◌<◌, ◌≤◌, ◌^◌, pos, [], ◌∷◌, length, IfOk, OnOk};
 ghost use Rattle.kernel_syntax.specs.declared.stmt.Stmt.TheVariants as stmt;
-ghost use Rattle.kernel_syntax.specs.Sugar.{Apply, Record, ValueClauses, no_values, new_of, new_in, part_and};
-ghost use Rattle.kernel_syntax.specs.SugarView.{value_of, values_in, fields_in, parts_in, value_clause_and, value_clauses_in, statements_in};
-ghost use Rattle.oz_grammar.specs.Table.{bar_label};
+ghost use Rattle.kernel_syntax.specs.Sugar.{Value as Tree, Apply, Record, ValueClauses, no_values, new_of, new_in, part_and, pair_of};
+ghost use Rattle.tree_node.specs.declared.node.Feature.TheVariants as feature;
+ghost use Rattle.kernel_syntax.specs.SugarView.{value_of, values_in, fields_in, parts_in, behind_all, head_in, value_clause_and, value_clauses_in, statements_in};
+ghost use Rattle.oz_grammar.specs.Table.{bar_label, code_at};
 ghost use Rattle.oz_sugar.specs.Put.{place, declare, slot_places, operation_row};
-ghost use Rattle.oz_sugar.specs.Writing.{add, behind, held_place, new_rows, hold_rows, write, write_all, write_fields, write_clauses, write_statements, state_of, written};
+ghost use Rattle.oz_sugar.specs.Writing.{add, behind, held_place, new_rows, hold_rows, head_rows, write_one, write, write_all, write_fields, write_clauses, write_statements, state_of, written};
 
 use super::Writer;
 use crate::depth::{new_in, new_in_pair, new_of};
-use crate::leaves::{operation_row, slot_places};
-use kernel_syntax::sugar::{Field, Operation, Pair, Statement, Value, ValueClause};
-use kernel_syntax::{Slots, Stmt};
+use crate::leaves::{operation_row, slot_places, two_bodies};
+use kernel_syntax::sugar::{Field, Link, Operation, Pair, Statement, Value, ValueClause};
+use kernel_syntax::{Bodies, Slots, Stmt};
 use std::alloc::AllocError;
 use tree_node::{CodeId, Feature, Integer, Text};
+
+/// The fields of the record H|T.
+fn pair_slots(head: u32, tail: u32) -> Slots
+    ensures { result ≡ (feature.Int (pos 1), head) ∷ (feature.Int (pos 2), tail) ∷ [] }
+{
+    let first = (Feature::Int(Integer::new(1)), head);
+    Slots::two(first, (Feature::Int(Integer::new(2)), tail))
+}
 
 impl Writer {
     /// The position of a part, behind the rows before those of what goes on with it.
@@ -43,7 +52,7 @@ impl Writer {
         self.put(part, position)?;
         self.room()?;
         let next = CodeId(self.rows.len() as u32);
-        let numbers = vec![in self.alloc; CodeId(owner as u32 + 1), next]?;
+        let numbers = two_bodies(self.alloc, CodeId(owner as u32 + 1), next)?;
         self.set_numbers(owner, numbers);
         Ok(position)
     }
@@ -71,29 +80,25 @@ impl Writer {
         self.room()?;
         match value {
             Value::Variable(_, identifier) => self.tell_variable(*identifier, told),
-            Value::Integer(_, number) => self.add(Stmt::TellInt {
-                left: told,
-                value: number.copy(),
-            }),
+            Value::Integer(_, number) => self.tell_integer(number, told),
             Value::Atom(_, text) => self.tell_atom(text, told),
             Value::Record(_, label, slots, values) => {
                 self.put_record(label, slots.as_slice(), values.as_slice(), told)
             }
-            Value::Pair(_, parts) => self.put_pair(parts, told),
-            Value::Apply(_, operation, parts) => self.put_operation(
-                operation,
-                parts.as_slice(),
-                told,
-            ),
+            Value::Pair(_, last, heads) => {
+                let outer = self.around;
+                let rest = self.put_heads(heads.as_slice(), told)?;
+                self.put_pair(last, rest)?;
+                self.around = outer;
+                Ok(())
+            }
+            Value::Apply(_, by, parts) => self.put_operation(by, parts.as_slice(), told),
             Value::Proc(_, count, body) => self.put_procedure(*count, body.as_slice(), told),
             Value::Fun(_, count, body) => self.put_function(*count, body, told),
             Value::If(_, subject, yes, no) => {
                 let outer = self.around;
                 let tested = self.hold(subject)?;
-                let owner = self.rows.len();
-                self.open_if(tested)?;
-                self.put(yes, told)?;
-                self.set_second(owner)?;
+                self.put_chosen(tested, yes, told)?;
                 self.put(no, told)?;
                 self.around = outer;
                 Ok(())
@@ -110,6 +115,18 @@ impl Writer {
         }
     }
 
+    /// An `if` with the value of its first branch, where the second is still to come.
+    #[cycle(writer)]
+    fn put_chosen(&mut self, tested: u32, yes: &Value, told: u32) -> Result<(), AllocError>
+        ensures rows { OnOk result (self.new ≡ written (write_one (stmt.If tested (behind self.old.rows) (code_at 0)) (write (value_of yes.now) self.old.places self.old.around told) self.old.rows) self.old) }
+        ensures grows { OnOk result (length self.old.rows ≤ length self.new.rows) }
+    {
+        let owner = self.rows.len();
+        self.open_if(tested)?;
+        self.put(yes, told)?;
+        self.set_second(owner)
+    }
+
     /// What stands for an identifier of the text that is told to a position.
     fn tell_variable(&mut self, identifier: u32, told: u32) -> Result<(), AllocError>
         ensures rows { OnOk result (self.new ≡ written (add (stmt.TellVar told (place self.old.places identifier)) self.old.rows) self.old) }
@@ -117,6 +134,15 @@ impl Writer {
     {
         let right = self.place(identifier);
         self.add(Stmt::TellVar { left: told, right })
+    }
+
+    /// What stands for an integer.
+    fn tell_integer(&mut self, number: &Integer, told: u32) -> Result<(), AllocError>
+        ensures rows { OnOk result (self.new ≡ written (add (stmt.TellInt told number.now) self.old.rows) self.old) }
+        ensures grows { OnOk result (length self.old.rows ≤ length self.new.rows) }
+    {
+        let value = number.copy();
+        self.add(Stmt::TellInt { left: told, value })
     }
 
     /// What stands for an atom.
@@ -145,7 +171,7 @@ impl Writer {
         let tell = Stmt::TellRec {
             left: told,
             label: label.copy()?,
-            fields: Slots::from_vec(placed),
+            fields: placed,
         };
         let count = new_in(values);
         if count == 0 {
@@ -157,12 +183,70 @@ impl Writer {
         let number = self.behind();
         self.add(Stmt::Skip)?;
         self.add(tell)?;
-        let mut numbers = Vec::with_capacity(self.alloc, count.saturating_add(1))?;
+        let mut numbers = Bodies::new(self.alloc);
         numbers.push(number)?;
-        let numbers = self.put_fields(values, first, numbers)?;
+        self.put_fields(values, first, &mut numbers)?;
         self.set_numbers(owner, numbers);
         self.around = first;
         Ok(())
+    }
+
+    /// What stands for the heads before a pair, the last of them first, up to what stands for the pair: its position.
+    #[cycle(writer)]
+    #[tactic(auto, using(crate::proofs::Lists::heads_write))]
+    fn put_heads(&mut self, heads: &[Link], told: u32) -> Result<u32, AllocError>
+        ensures rows { IfOk result (λ t. (hu : Tree × Tree) → write (pair_of 0 (behind_all hu heads.now)) self.old.places self.old.around told self.old.rows ≡ write (pair_of 0 hu) self.old.places self.new.around t self.new.rows) }
+        ensures same { OnOk result (self.new.places ≡ self.old.places) }
+        ensures grows { OnOk result (length self.old.rows ≤ length self.new.rows) }
+    {
+        let mut rest = told;
+        let mut others = heads.len();
+        while others > 0 {
+            others -= 1;
+            rest = self.put_link(&heads[others], rest)?;
+        }
+        Ok(rest)
+    }
+
+    /// What stands for a head before a list, up to what stands for that: its position.
+    #[cycle(writer)]
+    fn put_link(&mut self, link: &Link, told: u32) -> Result<u32, AllocError>
+        ensures told { IfOk result (λ t. t ≡ self.old.around + new_of (head_in link.now)) }
+        ensures rows { OnOk result (self.new ≡ state_of (head_rows (head_in link.now) self.old.places self.old.around told self.old.rows) self.old.places (self.old.around + (new_of (head_in link.now) + 1))) }
+        ensures grows { OnOk result (length self.old.rows ≤ length self.new.rows) }
+    {
+        match link {
+            Link::Before(_, head) => self.put_head(head, told),
+        }
+    }
+
+    /// The same for the head.
+    #[cycle(writer)]
+    fn put_head(&mut self, head: &Value, told: u32) -> Result<u32, AllocError>
+        ensures told { IfOk result (λ t. t ≡ self.old.around + new_of (value_of head.now)) }
+        ensures rows { OnOk result (self.new ≡ state_of (head_rows (value_of head.now) self.old.places self.old.around told self.old.rows) self.old.places (self.old.around + (new_of (value_of head.now) + 1))) }
+        ensures grows { OnOk result (length self.old.rows ≤ length self.new.rows) }
+    {
+        self.room()?;
+        let first = self.around;
+        let second = first + new_of(head) as u32;
+        let tell = Stmt::TellRec {
+            left: told,
+            label: self.bar.copy()?,
+            fields: pair_slots(self.part_place(head, first), second),
+        };
+        self.open_locals(new_of(head) + 1)?;
+        self.room()?;
+        let owner = self.rows.len();
+        let mut numbers = Bodies::new(self.alloc);
+        numbers.push(self.behind())?;
+        self.add(Stmt::Skip)?;
+        self.add(tell)?;
+        self.put_field(head, first, &mut numbers)?;
+        self.room()?;
+        numbers.push(CodeId(self.rows.len() as u32))?;
+        self.set_numbers(owner, numbers);
+        Ok(second)
     }
 
     /// What stands for a pair.
@@ -178,40 +262,27 @@ impl Writer {
         if count == 0 {
             return self.add(tell);
         }
-        self.open_locals(count)?;
-        self.room()?;
-        let owner = self.rows.len();
-        let number = self.behind();
-        self.add(Stmt::Skip)?;
-        self.add(tell)?;
-        let numbers = self.put_two(pair, first, number)?;
+        let (owner, mut numbers) = self.open_record(count, tell)?;
+        self.put_two(pair, first, &mut numbers)?;
         self.set_numbers(owner, numbers);
         self.around = first;
         Ok(())
     }
 
-    /// What stands for a head and a tail that are no variables, behind their tell, with their numbers behind its.
+    /// What stands for a head and a tail that are no variables, behind their tell, with their numbers behind others.
     #[cycle(writer)]
     #[tactic(auto, using(crate::proofs::Pairs::write_both))]
-    fn put_two(
-        &mut self,
-        pair: &Pair,
-        first: u32,
-        number: CodeId,
-    ) -> Result<Vec<CodeId>, AllocError>
+    fn put_two(&mut self, pair: &Pair, first: u32, numbers: &mut Bodies) -> Result<(), AllocError>
         requires { first < 2 ^ 31 }
-        ensures numbers { IfOk result (λ v. v.items ≡ (write_fields (parts_in pair.now) self.old.places self.old.around first (number ∷ []) self.old.rows).0) }
-        ensures rows { OnOk result (self.new ≡ written (write_fields (parts_in pair.now) self.old.places self.old.around first (number ∷ []) self.old.rows).1 self.old) }
+        ensures numbers { OnOk result (numbers.new ≡ (write_fields (parts_in pair.now) self.old.places self.old.around first numbers.old self.old.rows).0) }
+        ensures rows { OnOk result (self.new ≡ written (write_fields (parts_in pair.now) self.old.places self.old.around first numbers.old self.old.rows).1 self.old) }
         ensures grows { OnOk result (length self.old.rows ≤ length self.new.rows) }
     {
-        let mut numbers = Vec::with_capacity(self.alloc, 3)?;
-        numbers.push(number)?;
         match pair {
             Pair::Of(head, tail) => {
                 let second = first + new_of(head) as u32;
-                self.put_field(head, first, &mut numbers)?;
-                self.put_field(tail, second, &mut numbers)?;
-                Ok(numbers)
+                self.put_field(head, first, numbers)?;
+                self.put_field(tail, second, numbers)
             }
         }
     }
@@ -222,10 +293,10 @@ impl Writer {
         &mut self,
         value: &Value,
         told: u32,
-        numbers: &mut Vec<CodeId>,
+        numbers: &mut Bodies,
     ) -> Result<(), AllocError>
-        ensures numbers { OnOk result (numbers.new.items ≡ (write_fields (part_and (value_of value.now) no_values) self.old.places self.old.around told numbers.old.items self.old.rows).0) }
-        ensures rows { OnOk result (self.new ≡ written (write_fields (part_and (value_of value.now) no_values) self.old.places self.old.around told numbers.old.items self.old.rows).1 self.old) }
+        ensures numbers { OnOk result (numbers.new ≡ (write_fields (part_and (value_of value.now) no_values) self.old.places self.old.around told numbers.old self.old.rows).0) }
+        ensures rows { OnOk result (self.new ≡ written (write_fields (part_and (value_of value.now) no_values) self.old.places self.old.around told numbers.old self.old.rows).1 self.old) }
         ensures grows { OnOk result (length self.old.rows ≤ length self.new.rows) }
     {
         match value {
@@ -248,13 +319,10 @@ impl Writer {
             Pair::Of(head, tail) => {
                 let head_place = self.part_place(head, self.around);
                 let tail_place = self.part_place(tail, self.around + new_of(head) as u32);
-                let first = (Feature::Int(Integer::new(1)), head_place);
-                let second = (Feature::Int(Integer::new(2)), tail_place);
-                let fields = vec![in self.alloc; first, second]?;
                 Ok(Stmt::TellRec {
                     left: told,
                     label: self.bar.copy()?,
-                    fields: Slots::from_vec(fields),
+                    fields: pair_slots(head_place, tail_place),
                 })
             }
         }
@@ -276,13 +344,12 @@ impl Writer {
         &mut self,
         values: &[Value],
         first: u32,
-        before: Vec<CodeId>,
-    ) -> Result<Vec<CodeId>, AllocError>
-        ensures numbers { IfOk result (λ v. v.items ≡ (write_fields (values_in values.now) self.old.places self.old.around first before.items self.old.rows).0) }
-        ensures rows { OnOk result (self.new ≡ written (write_fields (values_in values.now) self.old.places self.old.around first before.items self.old.rows).1 self.old) }
+        numbers: &mut Bodies,
+    ) -> Result<(), AllocError>
+        ensures numbers { OnOk result (numbers.new ≡ (write_fields (values_in values.now) self.old.places self.old.around first numbers.old self.old.rows).0) }
+        ensures rows { OnOk result (self.new ≡ written (write_fields (values_in values.now) self.old.places self.old.around first numbers.old self.old.rows).1 self.old) }
         ensures grows { OnOk result (length self.old.rows ≤ length self.new.rows) }
     {
-        let mut numbers = before;
         let mut told = first;
         for value in values {
             match value {
@@ -298,7 +365,7 @@ impl Writer {
                 }
             }
         }
-        Ok(numbers)
+        Ok(())
     }
 
     /// What stands for a value that is made of parts.

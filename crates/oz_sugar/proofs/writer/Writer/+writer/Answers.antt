@@ -1,11 +1,15 @@
-use Rattle.std.proofs.Common.{◌≡◌, ◌≢◌, List, length, ap, ◌∙◌, rules}
+use Rattle.std.proofs.Common.{arith, rules, ◌≡◌, ◌≢◌, ◌∙◌, ◌+◌, sym, ap, subst, ℕ, List, length, take}
 use Rattle.kernel_syntax.specs.declared.stmt.Stmt.{Stmt}
+use Rattle.kernel_syntax.specs.declared.stmt.Stmt.TheVariants as stmt
 use Rattle.kernel_syntax.specs.declared.sugar.Clause.{the_lemmas}
 use Rattle.kernel_syntax.specs.Sugar as sugar
-use Rattle.kernel_syntax.specs.Sugar.{Clauses}
-use Rattle.oz_sugar.specs.Writing.{with_cases}
-use Rattle.kernel_syntax.specs.SugarView.{value_of, values_in, value_clauses_in, statement_of, statements_in, clauses_in, case_and_of}
-use Rattle.kernel_syntax.proofs.SugarItems.{record_of, apply_of, proc_of, value_case_of, acts_of, local_of, thread_of, if_of, case_of, try_of, finally_of, branch_of}
+use Rattle.kernel_syntax.specs.Sugar.{Value as Tree, Clauses, pair_of, new_in}
+use Rattle.oz_sugar.specs.Writing.{State, with_cases, write, write_fields}
+use Rattle.kernel_syntax.specs.SugarView.{value_of, two_in, behind_all, fields_in, parts_in, values_in, value_clauses_in, statement_of, statements_in, clauses_in, case_and_of}
+use Rattle.kernel_syntax.proofs.SugarItems.{record_of, pair_is, apply_of, proc_of, value_case_of, acts_of, local_of, thread_of, if_of, case_of, try_of, finally_of, branch_of}
+use Rattle.oz_grammar.specs.Table.{bar_label}
+use Rattle.oz_sugar.specs.Put.{slot_places}
+use Rattle.oz_sugar.proofs.Lists.{write_some}
 use Rattle.oz_sugar.proofs.Counts.{some_cases, no_clauses}
 use Rattle.oz_sugar.proofs.Declaring.{sequence_law}
 use Rattle.oz_sugar.proofs.writer.Writer.+writer.Goals as goal
@@ -17,7 +21,7 @@ put-returns-in-Record-clause-rows t c =
 
 pub put-returns-in-Apply-clause-rows : goal.put-returns-in-Apply-clause-rows
 put-returns-in-Apply-clause-rows t c =
-    let e : value_of c.args.value.now ≡ sugar.Apply c.in-Apply.field-0 c.in-Apply.operation (values_in c.in-Apply.parts.items) = ap value_of c.in-Apply.is ∙ apply_of _ _ _ in
+    let e : value_of c.args.value.now ≡ sugar.Apply c.in-Apply.field-0 c.in-Apply.by (values_in c.in-Apply.parts.items) = ap value_of c.in-Apply.is ∙ apply_of _ _ _ in
     search (rules, e)
 
 pub put-returns-in-Proc-clause-rows : goal.put-returns-in-Proc-clause-rows
@@ -85,3 +89,34 @@ put_case-returns-clause-rows t c =
     let h = simp the_lemmas at (rw c.body-1.given.1 at c.branch-self.ensures.rows) in
     let e : (cs : Clauses) → case_and_of c.args.clause.now cs ≡ sugar.case_and c.body-1.given.0.0 (statements_in c.body-1.given.0.1.0.items) cs = λ cs. ap (λ k. case_and_of k cs) c.body-1.given.1 ∙ branch_of c.body-1.given.0.0 c.body-1.given.0.1.0 cs in
     search (rules, e, f, h)
+
+pub put-returns-in_ok-put_pair-in-Pair-clause-rows : goal.put-returns-in_ok-put_pair-in-Pair-clause-rows
+put-returns-in_ok-put_pair-in-Pair-clause-rows t c =
+    let hu : Tree × Tree = two_in c.in-Pair.last.value in
+    let old : State = c.args.self.now in
+    let inner : State = c.put_heads.new.self in
+    let e : value_of c.args.value.now ≡ pair_of c.in-Pair.field-0 (behind_all hu c.in-Pair.heads.items) = ap value_of c.in-Pair.is ∙ pair_is c.in-Pair.field-0 c.in-Pair.last c.in-Pair.heads in
+    let p : c.deref.result.now ≡ c.in-Pair.last.value = search (rules, c.deref.ensures) in
+    let places : inner.places ≡ old.places = c.in_ok-rest-in-Pair.ensures.same in
+    let around : c.put_pair.new.self.places ≡ old.places = ap (λ (s : State). s.places) c.in_ok-put_pair-in-Pair.ensures.rows ∙ places in
+    let rows : c.put_pair.new.self.rows ≡ write (value_of c.args.value.now) old.places old.around c.args.told old.rows =
+    ap (λ (s : State). s.rows) c.in_ok-put_pair-in-Pair.ensures.rows
+    ∙ ap (λ q. write (pair_of 0 (two_in q)) inner.places inner.around c.in_ok-rest-in-Pair.rest inner.rows) p
+    ∙ ap (λ (ps : List ℕ). write (pair_of 0 hu) ps inner.around c.in_ok-rest-in-Pair.rest inner.rows) places
+    ∙ sym (c.in_ok-rest-in-Pair.ensures.rows hu)
+    ∙ ap (λ is. write (pair_of 0 (behind_all hu is)) old.places old.around c.args.told old.rows) c.as_slice-in-Pair.ensures.value
+    ∙ sym (ap (λ v. write v old.places old.around c.args.told old.rows) e) in
+    search (rules, rows, around)
+
+pub put_heads-returns-clause-rows : goal.put_heads-returns-clause-rows
+put_heads-returns-clause-rows t c = λ hu.
+    let none : c.loop-others.others ≡ 0 = omega (arith, c.loop-others-test.false) in
+    subst (λ (n : ℕ). write (pair_of 0 (behind_all hu c.args.heads.now)) c.args.self.now.places c.args.self.now.around c.args.told c.args.self.now.rows ≡ write (pair_of 0 (behind_all hu (take n c.args.heads.now))) c.args.self.now.places c.loop-others.self.around c.loop-others.rest c.loop-others.self.rows)
+    none (c.loop-others.invariant.write hu)
+
+pub put_pair-returns-clause-rows : goal.put_pair-returns-clause-rows
+put_pair-returns-clause-rows t c =
+    let some : new_in (parts_in c.args.pair.now) ≢ 0 = search rules in
+    let w = write_some (new_in (parts_in c.args.pair.now)) c.args.self.now.around (stmt.TellRec c.args.told bar_label (slot_places c.args.self.now.places c.args.self.now.around (fields_in c.args.pair.now)))
+    (write_fields (parts_in c.args.pair.now) c.args.self.now.places (c.args.self.now.around + new_in (parts_in c.args.pair.now)) c.args.self.now.around) c.args.self.now.rows some in
+    search (rules, w)
