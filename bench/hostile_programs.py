@@ -133,7 +133,7 @@ def lists_compared_while_they_grow(number):
 
 # each with its first size, and by what its time and its memory may grow where the size doubles. Twice is what the work is; where so
 # many threads compare what is told or grows as often, each trying again, the work is four times as much
-TWICE, FOUR_TIMES = 2.7, 5.4
+TWICE, FOUR_TIMES = 2.7, 6.5
 
 PROGRAMS = {
     "a loop": (lambda n: loop(n, "skip"), 50000, TWICE),
