@@ -11,3 +11,4 @@ pub mod KernelDepth
 pub mod TextLaws
 pub mod Pairs
 pub mod Lists
+pub mod FewRows

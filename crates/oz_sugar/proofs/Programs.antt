@@ -36,6 +36,9 @@ leaf_stands (stmt.Browse x) k d n one p h = record { names = h; declares = tt; s
 leaf_stands (stmt.Wait x) k d n one p h = record { names = h; declares = tt; sequence = tt; bodies = refl }
 leaf_stands (stmt.NewCell content cell) k d n one p h = record { names = h; declares = tt; sequence = tt; bodies = refl }
 leaf_stands (stmt.Exchange cell old new) k d n one p h = record { names = h; declares = tt; sequence = tt; bodies = refl }
+leaf_stands (stmt.NewPort stream port) k d n one p h = record { names = h; declares = tt; sequence = tt; bodies = refl }
+leaf_stands (stmt.Send port value) k d n one p h = record { names = h; declares = tt; sequence = tt; bodies = refl }
+leaf_stands (stmt.NewCellAt content cell place) k d n one p h = record { names = h; declares = tt; sequence = tt; bodies = refl }
 leaf_stands (stmt.Thread at c) k d n one p h = absurd p
 leaf_stands (stmt.Try c first handler) k d n one p h = absurd p
 leaf_stands (stmt.Raise x) k d n one p h = record { names = h; declares = tt; sequence = tt; bodies = refl }

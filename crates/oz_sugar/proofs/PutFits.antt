@@ -88,6 +88,9 @@ built_in_fits built.Browse ys n e h = (tt, tt, tt, (index_below n ys 0 h (omega 
 built_in_fits built.Wait ys n e h = (tt, tt, tt, (index_below n ys 0 h (omega arith), tt))
 built_in_fits built.NewCell ys n e h = (tt, tt, tt, (index_below n ys 0 h (omega arith), (index_below n ys 1 h (omega arith), tt)))
 built_in_fits built.Exchange ys n e h = (tt, tt, tt, (index_below n ys 0 h (omega arith), (index_below n ys 1 h (omega arith), (index_below n ys 2 h (omega arith), tt))))
+built_in_fits built.NewPort ys n e h = (tt, tt, tt, (index_below n ys 0 h (omega arith), (index_below n ys 1 h (omega arith), tt)))
+built_in_fits built.Send ys n e h = (tt, tt, tt, (index_below n ys 0 h (omega arith), (index_below n ys 1 h (omega arith), tt)))
+built_in_fits built.NewCellAt ys n e h = (tt, tt, tt, (index_below n ys 0 h (omega arith), (index_below n ys 1 h (omega arith), (index_below n ys 2 h (omega arith), tt))))
 
 one_more : (n x : ℕ) (ys : List ℕ) → Around n ys → x < n → Around n (ys ++ x ∷ [])
 one_more n x ys h lt = each_append _ ys (x ∷ []) h (lt, tt)

@@ -1,5 +1,5 @@
 -- Which program of the kernel a text with sugar stands for, and which fault it has.
-use Rattle.std.specs.Prelude.{◌≡◌, ◌⊎◌, ℕ, ◌-◌, List, length, map, take, slice_index, Some, None}
+use Rattle.std.specs.Prelude.{◌≡◌, ◌⊎◌, ◌≤◌, ℕ, ◌-◌, ◌*◌, List, length, map, take, slice_index, Some, None}
 use Rattle.std.specs.Str.{IsUtf8}
 use Rattle.kernel_syntax.specs.declared.stmt.Stmt.{Stmt}
 use Rattle.kernel_syntax.specs.Program.{IsProgram}
@@ -44,3 +44,7 @@ TextsArePrograms = (text : List ℕ) (p : List Stmt) → IsUtf8 text → Reads t
 -- a text of the kernel is read as the same program with sugar
 abbrev pub KernelTextsRead : Type 0
 KernelTextsRead = (text : List ℕ) (p : List Stmt) → kernel.Reads text p → Reads text p
+
+-- what a text stands for has at most three rows for each of its tokens, the end of the text counted as one
+abbrev pub RowsAreFew : Type 0
+RowsAreFew = (text : List ℕ) (p : List Stmt) → (r : Reads text p) → length p ≤ 3 * length r.reads.tokens

@@ -2,7 +2,7 @@
 
 ghost use Rattle.oz_grammar.specs.Laws.{AreOneOfBoth};
 ghost use Rattle.oz_sugar.specs.Laws.{KernelExpands};
-ghost use Rattle.oz_sugar.specs.Texts.{Reads, FaultOf, TextsArePrograms, KernelTextsRead};
+ghost use Rattle.oz_sugar.specs.Texts.{Reads, FaultOf, TextsArePrograms, KernelTextsRead, RowsAreFew};
 ghost use Rattle.oz_sugar.specs.Rows.{PartsAreNamed, TestsAreNamed, VariablesStay, BracketsAreNamed, FieldsAreNamed, ResultIsFormal, BranchesTell, ClausesNest, FinallyRuns, LeafFits, PartsGoDeeper, PartsFit, BracketsTakeNoLevel, FinallyTakesTwoLevels};
 
 use oz_lexer::texts_divide;
@@ -23,6 +23,11 @@ pub fn texts_have_one_of_both()
     surface_grammar::texts_have_one_of_both();
     kernel_expands();
 }
+
+/// What a text stands for has at most three rows for each token.
+pub fn rows_are_few()
+    ensures { RowsAreFew }
+{}
 
 /// Worked examples: what programs with sugar stand for.
 pub fn expanded_examples()

@@ -11,6 +11,7 @@
 //! `program_of_text` gives a program exactly where the text stands for it, and the text's first fault with its line and column
 //! exactly where it has one (`Reads`, `FaultOf`, specs/Texts.antt), or nothing but want of memory. Each text has one of both, what
 //! a text in UTF-8 stands for is a program, and a text of the kernel stands for the program that it is (`texts_have_one_of_both`).
+//! It has at most three rows for each token of the text (`rows_are_few`).
 //! Worked examples hold of the definitions (`expanded_examples`, `deep_examples`).
 //!
 //! Stands on: `kernel_syntax` (trees, programs), `oz_parser` (texts with sugar, faults), `oz_symbols` (where symbols begin) and
@@ -30,5 +31,7 @@ mod texts;
 mod writer;
 
 pub use expansion::expand;
-pub use laws::{deep_examples, expanded_examples, kernel_expands, texts_have_one_of_both};
+pub use laws::{
+    deep_examples, expanded_examples, kernel_expands, rows_are_few, texts_have_one_of_both,
+};
 pub use texts::program_of_text;

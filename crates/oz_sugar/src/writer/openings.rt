@@ -1,6 +1,6 @@
 //! Rows that declare identifiers or branch, whose bodies come behind them.
 
-ghost use Rattle.std.specs.Prelude.{◌≡◌, ◌+◌, ◌<◌, ◌≤◌, [], ◌∷◌, length, IfOk, OnOk};
+ghost use Rattle.std.specs.Prelude.{◌≡◌, ◌+◌, ◌<◌, ◌≤◌, ◌^◌, [], length, IfOk, OnOk};
 ghost use Rattle.kernel_syntax.specs.declared.stmt.Stmt.TheVariants as stmt;
 ghost use Rattle.kernel_syntax.specs.Scopes.{features_in};
 ghost use Rattle.oz_grammar.specs.Table.{code_at};
@@ -9,7 +9,7 @@ ghost use Rattle.oz_sugar.specs.Writing.{add, behind, last_rows, write_ends, wri
 
 use super::Writer;
 use crate::leaves::{copy_pattern, two_bodies};
-use kernel_syntax::{Bodies, Pattern, Positions, Stmt, features};
+use kernel_syntax::{Pattern, Positions, Stmt, features};
 use std::alloc::{AllocError, Global};
 use tree_node::CodeId;
 
@@ -79,27 +79,20 @@ impl Writer {
         Ok(())
     }
 
-    /// The rows before those of the fields of a record with so many new identifiers: a `local` for each, a row to be a sequence, whose
-    /// place this is with the numbers in it so far, and the tell.
-    pub(super) fn open_record(
-        &mut self,
-        count: usize,
-        tell: Stmt,
-    ) -> Result<(usize, Bodies), AllocError>
-        ensures owner { IfOk result (λ p. p.0 ≡ length (write_locals count self.old.around self.old.rows)) }
-        ensures numbers { IfOk result (λ p. p.1 ≡ behind (write_locals count self.old.around self.old.rows) ∷ []) }
-        ensures rows { OnOk result (self.new ≡ state_of (add tell (add stmt.Skip (write_locals count self.old.around self.old.rows))) self.old.places (self.old.around + count)) }
-        ensures len { OnOk result (length (write_locals count self.old.around self.old.rows) + 1 + 1 ≡ length self.new.rows) }
+    /// The rows before the tell of a record with so many new identifiers: a `local` for each, and a row to be a sequence, whose place
+    /// this is. The tell comes behind it, and is the first of the sequence.
+    pub(super) fn open_record(&mut self, count: usize) -> Result<usize, AllocError>
+        ensures owner { IfOk result (λ k. k ≡ length (write_locals count self.old.around self.old.rows)) }
+        ensures small { IfOk result (λ k. k < 2 ^ 31) }
+        ensures rows { OnOk result (self.new ≡ state_of (add stmt.Skip (write_locals count self.old.around self.old.rows)) self.old.places (self.old.around + count)) }
+        ensures len { OnOk result (length (write_locals count self.old.around self.old.rows) + 1 ≡ length self.new.rows) }
         ensures grows { OnOk result (length self.old.rows ≤ length self.new.rows) }
     {
         self.open_locals(count)?;
         self.room()?;
         let owner = self.rows.len();
-        let mut numbers = Bodies::new(self.alloc);
-        numbers.push(self.behind())?;
         self.add(Stmt::Skip)?;
-        self.add(tell)?;
-        Ok((owner, numbers))
+        Ok(owner)
     }
 
     /// The rows before the statements behind `finally`.

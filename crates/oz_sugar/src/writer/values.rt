@@ -177,14 +177,10 @@ impl Writer {
         if count == 0 {
             return self.add(tell);
         }
-        self.open_locals(count)?;
-        self.room()?;
-        let owner = self.rows.len();
-        let number = self.behind();
-        self.add(Stmt::Skip)?;
-        self.add(tell)?;
+        let owner = self.open_record(count)?;
         let mut numbers = Bodies::new(self.alloc);
-        numbers.push(number)?;
+        numbers.push(CodeId(owner as u32 + 1))?;
+        self.add(tell)?;
         self.put_fields(values, first, &mut numbers)?;
         self.set_numbers(owner, numbers);
         self.around = first;
@@ -235,12 +231,9 @@ impl Writer {
             label: self.bar.copy()?,
             fields: pair_slots(self.part_place(head, first), second),
         };
-        self.open_locals(new_of(head) + 1)?;
-        self.room()?;
-        let owner = self.rows.len();
+        let owner = self.open_record(new_of(head) + 1)?;
         let mut numbers = Bodies::new(self.alloc);
-        numbers.push(self.behind())?;
-        self.add(Stmt::Skip)?;
+        numbers.push(CodeId(owner as u32 + 1))?;
         self.add(tell)?;
         self.put_field(head, first, &mut numbers)?;
         self.room()?;
@@ -262,7 +255,10 @@ impl Writer {
         if count == 0 {
             return self.add(tell);
         }
-        let (owner, mut numbers) = self.open_record(count, tell)?;
+        let owner = self.open_record(count)?;
+        let mut numbers = Bodies::new(self.alloc);
+        numbers.push(CodeId(owner as u32 + 1))?;
+        self.add(tell)?;
         self.put_two(pair, first, &mut numbers)?;
         self.set_numbers(owner, numbers);
         self.around = first;
