@@ -1,13 +1,14 @@
 -- Quotients, rests, and what fits 128 bits.
-use Rattle.std.proofs.Common.{arith, ◌≡◌, refl, ap, subst, ℕ, zero, suc, ◌<◌, ◌≤◌, ◌%◌, Bool, true, false, cond, ℤ, pos, negsuc, neg_ℤ, ◌+ℤ◌, ◌-ℤ◌, ◌*ℤ◌, ◌≤ℤ◌, int_div, int_rem, unsigned_abs, IsTrue}
+use Rattle.std.proofs.Common.{arith, ◌≡◌, ◌≢◌, refl, ap, subst, ℕ, zero, suc, ◌<◌, ◌≤◌, ◌%◌, Bool, true, false, cond, ℤ, pos, negsuc, neg_ℤ, ◌+ℤ◌, ◌-ℤ◌, ◌*ℤ◌, ◌≤ℤ◌, int_div, int_rem, unsigned_abs, IsTrue}
 use Rattle.std.proofs.lemmas.Int.{quot-rem, rem_below}
 use Rattle.std.proofs.Math.Nat.{mod-le}
+use Rattle.std.specs.Ordering.{int_eq}
 use Rattle.kernel_syntax.specs.declared.stmt.Op.TheVariants.{Add, Sub, Mul, Div, Mod, Le, Lt, Ge, Gt}
-use Rattle.kernel_syntax.specs.Arithmetic.{OperatorResult, Number, Overflow, Zero, fit_or_overflow, is_integer, is_zero}
+use Rattle.kernel_syntax.specs.Arithmetic.{OperatorResult, Number, Overflow, Zero, fit_or_overflow, is_integer}
 use Rattle.kernel_syntax.specs.Laws.{DivisionIsExact, RestHasSign, NumbersFit}
 
-some : (b : ℤ) → is_zero b ≡ false → 0 < unsigned_abs b
-some (pos zero) e = absurd (grind (arith, e))
+some : (b : ℤ) → b ≢ pos 0 → 0 < unsigned_abs b
+some (pos zero) e = absurd (e refl)
 some (pos (suc n)) e = omega arith
 some (negsuc n) e = omega arith
 
@@ -63,8 +64,8 @@ pub numbers_fit : NumbersFit
 numbers_fit Add a b z h e = fitted_fits (a +ℤ b) z e
 numbers_fit Sub a b z h e = fitted_fits (a -ℤ b) z e
 numbers_fit Mul a b z h e = fitted_fits (a *ℤ b) z e
-numbers_fit Div a b z h e = unless_zero (fit_or_overflow (int_div a b)) (is_zero b) (fitted_fits (int_div a b)) z e
-numbers_fit Mod a b z h e = unless_zero (Number (int_rem a b)) (is_zero b) (number_fits (int_rem a b) (rest_fits a b h)) z e
+numbers_fit Div a b z h e = unless_zero (fit_or_overflow (int_div a b)) (int_eq b (pos 0)) (fitted_fits (int_div a b)) z e
+numbers_fit Mod a b z h e = unless_zero (Number (int_rem a b)) (int_eq b (pos 0)) (number_fits (int_rem a b) (rest_fits a b h)) z e
 numbers_fit Le a b z h e = absurd (grind (arith, e))
 numbers_fit Lt a b z h e = absurd (grind (arith, e))
 numbers_fit Ge a b z h e = absurd (grind (arith, e))

@@ -9,3 +9,6 @@ arity_of built.Browse = 1
 arity_of built.Wait = 1
 arity_of built.NewCell = 2
 arity_of built.Exchange = 3
+arity_of built.NewPort = 2
+arity_of built.Send = 2
+arity_of built.NewCellAt = 3

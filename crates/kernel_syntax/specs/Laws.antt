@@ -1,5 +1,5 @@
 -- What the free positions of a program are, and what the operators give.
-use Rattle.std.specs.Prelude.{◌≡◌, ◌↔◌, ℕ, ◌<◌, ◌≤◌, List, length, Contains, false, IsTrue, ℤ, pos, ◌+ℤ◌, ◌*ℤ◌, ◌≤ℤ◌, int_div, int_rem, unsigned_abs}
+use Rattle.std.specs.Prelude.{◌≡◌, ◌≢◌, ◌↔◌, ℕ, ◌<◌, ◌≤◌, List, length, Contains, IsTrue, ℤ, pos, ◌+ℤ◌, ◌*ℤ◌, ◌≤ℤ◌, int_div, int_rem, unsigned_abs}
 use Rattle.tree_node.specs.declared.names.CodeId.{CodeId}
 use Rattle.tree_node.specs.Each.{Each}
 use Rattle.kernel_syntax.specs.declared.stmt.Stmt.{Stmt}
@@ -8,7 +8,7 @@ use Rattle.kernel_syntax.specs.Scopes.{stmt_at, named_positions}
 use Rattle.kernel_syntax.specs.Program.{IsProgram}
 use Rattle.kernel_syntax.specs.Uses.{IsBodyOutside, IsUsed}
 use Rattle.kernel_syntax.specs.declared.stmt.Op.{Op}
-use Rattle.kernel_syntax.specs.Arithmetic.{Number, result_of, is_integer, is_zero}
+use Rattle.kernel_syntax.specs.Arithmetic.{Number, result_of, is_integer}
 
 -- those of a statement come from those of its bodies
 abbrev pub FreeUnfolds : Type 0
@@ -40,7 +40,7 @@ NamesAreFree = (p : List Stmt) (code : CodeId) (k : ℕ) → IsProgram p → Con
 
 -- the quotient and the rest make up the dividend, and the rest is smaller than the divisor
 abbrev pub DivisionIsExact : Type 0
-DivisionIsExact = (a b : ℤ) → is_zero b ≡ false → (int_div a b *ℤ b +ℤ int_rem a b ≡ a) × (unsigned_abs (int_rem a b) < unsigned_abs b)
+DivisionIsExact = (a b : ℤ) → b ≢ pos 0 → (int_div a b *ℤ b +ℤ int_rem a b ≡ a) × (unsigned_abs (int_rem a b) < unsigned_abs b)
 
 -- the rest has the sign of the dividend
 abbrev pub RestHasSign : Type 0

@@ -7,4 +7,7 @@ pub enum BuiltIn {
     Wait,
     NewCell,
     Exchange,
+    NewPort,
+    Send,
+    NewCellAt,
 }

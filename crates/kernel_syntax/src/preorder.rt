@@ -172,6 +172,11 @@ fn names_are_within(around: u32, stmt: &Stmt) -> bool
         Stmt::Wait(subject) => *subject < around,
         Stmt::NewCell { content, cell } => *content < around && *cell < around,
         Stmt::Exchange { cell, old, new } => *cell < around && *old < around && *new < around,
+        Stmt::NewPort { stream, port } => *stream < around && *port < around,
+        Stmt::Send { port, value } => *port < around && *value < around,
+        Stmt::NewCellAt { content, cell, at } => {
+            *content < around && *cell < around && *at < around
+        }
         Stmt::Raise(subject) => *subject < around,
         _ => true,
     }

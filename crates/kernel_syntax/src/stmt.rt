@@ -131,6 +131,19 @@ pub enum Stmt {
         old: u32,
         new: u32,
     },
+    NewPort {
+        stream: u32,
+        port: u32,
+    },
+    Send {
+        port: u32,
+        value: u32,
+    },
+    NewCellAt {
+        content: u32,
+        cell: u32,
+        at: u32,
+    },
     Thread {
         at: Option<Integer>,
         body: CodeId,

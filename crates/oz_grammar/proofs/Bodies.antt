@@ -357,6 +357,9 @@ grow b (stmt.Browse x) k bs sts limits room at is f = plain_stands b (stmt.Brows
 grow b (stmt.Wait x) k bs sts limits room at is f = plain_stands b (stmt.Wait x) k bs sts tt limits room at is f
 grow b (stmt.NewCell content cell) k bs sts limits room at is f = plain_stands b (stmt.NewCell content cell) k bs sts tt limits room at is f
 grow b (stmt.Exchange cell old new) k bs sts limits room at is f = plain_stands b (stmt.Exchange cell old new) k bs sts tt limits room at is f
+grow b (stmt.NewPort stream port) k bs sts limits room at is f = plain_stands b (stmt.NewPort stream port) k bs sts tt limits room at is f
+grow b (stmt.Send port value) k bs sts limits room at is f = plain_stands b (stmt.Send port value) k bs sts tt limits room at is f
+grow b (stmt.NewCellAt content cell place) k bs sts limits room at is f = plain_stands b (stmt.NewCellAt content cell place) k bs sts tt limits room at is f
 grow b (stmt.Thread site c) k bs sts limits room at is f =
     stands b (stmt.Thread site c) k f.own f.others sts bs (Block (thread_opening site) f.derived.0) at f.is
     (block_is (thread_opening site) f.derived.0 b.levels b.around b.around k (λ j. stmt.Thread site j) c f.own is.level f.number (thread_opens site b.around limits) f.derived.1) f.more

@@ -92,6 +92,9 @@ built_in_here built.Browse count = rw (undeclared_from 0 count 66 (Rattle.std.pr
 built_in_here built.Wait count = rw (undeclared_from 0 count 87 (Rattle.std.proofs.Common.drop 1 (codes "Wait")) (λ e. omega (arith, e))) refl
 built_in_here built.NewCell count = rw (undeclared_from 0 count 78 (Rattle.std.proofs.Common.drop 1 (codes "NewCell")) (λ e. omega (arith, e))) refl
 built_in_here built.Exchange count = rw (undeclared_from 0 count 69 (Rattle.std.proofs.Common.drop 1 (codes "Exchange")) (λ e. omega (arith, e))) refl
+built_in_here built.NewPort count = rw (undeclared_from 0 count 78 (Rattle.std.proofs.Common.drop 1 (codes "NewPort")) (λ e. omega (arith, e))) refl
+built_in_here built.Send count = rw (undeclared_from 0 count 83 (Rattle.std.proofs.Common.drop 1 (codes "Send")) (λ e. omega (arith, e))) refl
+built_in_here built.NewCellAt count = rw (undeclared_from 0 count 78 (Rattle.std.proofs.Common.drop 1 (codes "NewCellAt")) (λ e. omega (arith, e))) refl
 
 pub no_built_in : (count k : ℕ) → k < count → count ≤ 2 ^ 64 → built_in_at (names_from 0 count) (name_at k) ≡ None
 unfolding built_in_at

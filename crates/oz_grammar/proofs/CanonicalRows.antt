@@ -42,6 +42,9 @@ plain_tree (stmt.Browse x) = calls_built_in built.Browse (x ∷ [])
 plain_tree (stmt.Wait x) = calls_built_in built.Wait (x ∷ [])
 plain_tree (stmt.NewCell content cell) = calls_built_in built.NewCell (content ∷ cell ∷ [])
 plain_tree (stmt.Exchange cell old new) = calls_built_in built.Exchange (cell ∷ old ∷ new ∷ [])
+plain_tree (stmt.NewPort stream port) = calls_built_in built.NewPort (stream ∷ port ∷ [])
+plain_tree (stmt.Send port value) = calls_built_in built.Send (port ∷ value ∷ [])
+plain_tree (stmt.NewCellAt content cell place) = calls_built_in built.NewCellAt (content ∷ cell ∷ place ∷ [])
 plain_tree (stmt.Raise x) = Raises (name_at x)
 plain_tree row = Skips
 
@@ -75,6 +78,9 @@ call_plain (Some built.Browse) callee xs = tt
 call_plain (Some built.Wait) callee xs = tt
 call_plain (Some built.NewCell) callee xs = tt
 call_plain (Some built.Exchange) callee xs = tt
+call_plain (Some built.NewPort) callee xs = tt
+call_plain (Some built.Send) callee xs = tt
+call_plain (Some built.NewCellAt) callee xs = tt
 call_plain None callee xs = tt
 
 pub row_is_plain : (s : Plain) (scope : Scope) → IsPlainRow (plain_row s scope)
@@ -104,6 +110,9 @@ plain_symbols (stmt.Browse x) body rest p = refl
 plain_symbols (stmt.Wait x) body rest p = refl
 plain_symbols (stmt.NewCell content cell) body rest p = refl
 plain_symbols (stmt.Exchange cell old new) body rest p = refl
+plain_symbols (stmt.NewPort stream port) body rest p = refl
+plain_symbols (stmt.Send port value) body rest p = refl
+plain_symbols (stmt.NewCellAt content cell place) body rest p = refl
 plain_symbols (stmt.Raise x) body rest p = refl
 
 -- a field with the identifier of its position
@@ -204,6 +213,9 @@ module _ (n : ℕ) (small : n ≤ 2 ^ 64) where
   row_passes (stmt.Wait x) rest behind p limits below = built_in_pass built.Wait (x ∷ []) rest behind below
   row_passes (stmt.NewCell content cell) rest behind p limits below = built_in_pass built.NewCell (content ∷ cell ∷ []) rest behind below
   row_passes (stmt.Exchange cell old new) rest behind p limits below = built_in_pass built.Exchange (cell ∷ old ∷ new ∷ []) rest behind below
+  row_passes (stmt.NewPort stream port) rest behind p limits below = built_in_pass built.NewPort (stream ∷ port ∷ []) rest behind below
+  row_passes (stmt.Send port value) rest behind p limits below = built_in_pass built.Send (port ∷ value ∷ []) rest behind below
+  row_passes (stmt.NewCellAt content cell place) rest behind p limits below = built_in_pass built.NewCellAt (content ∷ cell ∷ place ∷ []) rest behind below
   row_passes (stmt.Raise x) rest behind p limits below = rw (used x below.0) refl
 
   -- ---- they are the same rows
@@ -238,6 +250,9 @@ module _ (n : ℕ) (small : n ≤ 2 ^ 64) where
   row_again (stmt.Wait x) p limits below = built_in_again built.Wait (x ∷ []) below
   row_again (stmt.NewCell content cell) p limits below = built_in_again built.NewCell (content ∷ cell ∷ []) below
   row_again (stmt.Exchange cell old new) p limits below = built_in_again built.Exchange (cell ∷ old ∷ new ∷ []) below
+  row_again (stmt.NewPort stream port) p limits below = built_in_again built.NewPort (stream ∷ port ∷ []) below
+  row_again (stmt.Send port value) p limits below = built_in_again built.Send (port ∷ value ∷ []) below
+  row_again (stmt.NewCellAt content cell place) p limits below = built_in_again built.NewCellAt (content ∷ cell ∷ place ∷ []) below
   row_again (stmt.Raise x) p limits below = rw (place x below.0) refl
 
   -- ---- they derive
@@ -263,4 +278,7 @@ module _ (n : ℕ) (small : n ≤ 2 ^ 64) where
   row_derives (stmt.Wait x) p below = subst (λ (b : Option BuiltIn). HasArguments b (name_at x ∷ [])) (sym (built_in_here built.Wait n)) refl
   row_derives (stmt.NewCell content cell) p below = subst (λ (b : Option BuiltIn). HasArguments b (name_at content ∷ name_at cell ∷ [])) (sym (built_in_here built.NewCell n)) refl
   row_derives (stmt.Exchange cell old new) p below = subst (λ (b : Option BuiltIn). HasArguments b (name_at cell ∷ name_at old ∷ name_at new ∷ [])) (sym (built_in_here built.Exchange n)) refl
+  row_derives (stmt.NewPort stream port) p below = subst (λ (b : Option BuiltIn). HasArguments b (name_at stream ∷ name_at port ∷ [])) (sym (built_in_here built.NewPort n)) refl
+  row_derives (stmt.Send port value) p below = subst (λ (b : Option BuiltIn). HasArguments b (name_at port ∷ name_at value ∷ [])) (sym (built_in_here built.Send n)) refl
+  row_derives (stmt.NewCellAt content cell place) p below = subst (λ (b : Option BuiltIn). HasArguments b (name_at content ∷ name_at cell ∷ name_at place ∷ [])) (sym (built_in_here built.NewCellAt n)) refl
   row_derives (stmt.Raise x) p below = tt

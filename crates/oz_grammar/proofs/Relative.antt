@@ -65,6 +65,9 @@ call_shift (Some built.Browse) callee xs k = refl
 call_shift (Some built.Wait) callee xs k = refl
 call_shift (Some built.NewCell) callee xs k = refl
 call_shift (Some built.Exchange) callee xs k = refl
+call_shift (Some built.NewPort) callee xs k = refl
+call_shift (Some built.Send) callee xs k = refl
+call_shift (Some built.NewCellAt) callee xs k = refl
 call_shift None callee xs k = refl
 
 pub plain_shift : (s : Plain) (scope : Scope) (k : ℕ) → shift_row k (plain_row s scope) ≡ plain_row s scope

@@ -60,6 +60,9 @@ alone (stmt.Browse x) p = record { none = λ b. refl; declares = λ n. tt; seque
 alone (stmt.Wait x) p = record { none = λ b. refl; declares = λ n. tt; sequence = λ one. tt }
 alone (stmt.NewCell content cell) p = record { none = λ b. refl; declares = λ n. tt; sequence = λ one. tt }
 alone (stmt.Exchange cell old new) p = record { none = λ b. refl; declares = λ n. tt; sequence = λ one. tt }
+alone (stmt.NewPort stream port) p = record { none = λ b. refl; declares = λ n. tt; sequence = λ one. tt }
+alone (stmt.Send port value) p = record { none = λ b. refl; declares = λ n. tt; sequence = λ one. tt }
+alone (stmt.NewCellAt content cell place) p = record { none = λ b. refl; declares = λ n. tt; sequence = λ one. tt }
 alone (stmt.Thread at c) p = absurd p
 alone (stmt.Try c first handler) p = absurd p
 alone (stmt.Raise x) p = record { none = λ b. refl; declares = λ n. tt; sequence = λ one. tt }

@@ -106,6 +106,9 @@ built_in_names built.Browse n xs has p = (first_of n xs (omega (arith, has)) p, 
 built_in_names built.Wait n xs has p = (first_of n xs (omega (arith, has)) p, tt)
 built_in_names built.NewCell n xs has p = (first_of n xs (omega (arith, has)) p, (second_of n xs (omega (arith, has)) p, tt))
 built_in_names built.Exchange n xs has p = (first_of n xs (omega (arith, has)) p, (second_of n xs (omega (arith, has)) p, (third_of n xs (omega (arith, has)) p, tt)))
+built_in_names built.NewPort n xs has p = (first_of n xs (omega (arith, has)) p, (second_of n xs (omega (arith, has)) p, tt))
+built_in_names built.Send n xs has p = (first_of n xs (omega (arith, has)) p, (second_of n xs (omega (arith, has)) p, tt))
+built_in_names built.NewCellAt n xs has p = (first_of n xs (omega (arith, has)) p, (second_of n xs (omega (arith, has)) p, (third_of n xs (omega (arith, has)) p, tt)))
 
 call_names : (b : Option BuiltIn) (p : Identifier) (scope : Scope) (xs : List Identifier) (rest : List Symbol) (behind : Option Fault) → HasArguments b xs → called_fault b scope p ≡ None → check_call b scope xs rest behind ≡ None
     → Below (length scope) (named_positions (call_row b (declaration_of scope p) (map (declaration_of scope) xs)))

@@ -117,6 +117,9 @@ call_good (Some built.Browse) callee xs = tt
 call_good (Some built.Wait) callee xs = tt
 call_good (Some built.NewCell) callee xs = tt
 call_good (Some built.Exchange) callee xs = tt
+call_good (Some built.NewPort) callee xs = tt
+call_good (Some built.Send) callee xs = tt
+call_good (Some built.NewCellAt) callee xs = tt
 call_good None callee xs = tt
 
 plain_good : (s : Plain) (scope : Scope) (rest : List Symbol) (behind : Option Fault) → check_plain s scope rest behind ≡ None → Each IsSpelled (plain_text s rest) → HasTexts (plain_row s scope) × Each IsSpelled rest

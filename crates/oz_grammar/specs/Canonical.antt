@@ -34,6 +34,9 @@ built_in_name built.Browse = codes "Browse"
 built_in_name built.Wait = codes "Wait"
 built_in_name built.NewCell = codes "NewCell"
 built_in_name built.Exchange = codes "Exchange"
+built_in_name built.NewPort = codes "NewPort"
+built_in_name built.Send = codes "Send"
+built_in_name built.NewCellAt = codes "NewCellAt"
 
 -- a feature of a row as a text names it
 abbrev pub feature_token : Feature → FeatureToken
@@ -107,6 +110,9 @@ row_symbols body (stmt.Browse x) rest = plain_text (calls_built_in built.Browse 
 row_symbols body (stmt.Wait x) rest = plain_text (calls_built_in built.Wait (x ∷ [])) rest
 row_symbols body (stmt.NewCell content cell) rest = plain_text (calls_built_in built.NewCell (content ∷ cell ∷ [])) rest
 row_symbols body (stmt.Exchange cell old new) rest = plain_text (calls_built_in built.Exchange (cell ∷ old ∷ new ∷ [])) rest
+row_symbols body (stmt.NewPort stream port) rest = plain_text (calls_built_in built.NewPort (stream ∷ port ∷ [])) rest
+row_symbols body (stmt.Send port value) rest = plain_text (calls_built_in built.Send (port ∷ value ∷ [])) rest
+row_symbols body (stmt.NewCellAt content cell at) rest = plain_text (calls_built_in built.NewCellAt (content ∷ cell ∷ at ∷ [])) rest
 row_symbols body (stmt.Thread at c) rest = opening_text (thread_opening at) (body c (t.End ∷ rest))
 row_symbols body (stmt.Try c first handler) rest = t.Try ∷ body c (t.Catch ∷ t.Variable (name_at first) ∷ t.Then ∷ body handler (t.End ∷ rest))
 row_symbols body (stmt.Raise x) rest = plain_text (Raises (name_at x)) rest

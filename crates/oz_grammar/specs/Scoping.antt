@@ -44,7 +44,10 @@ built_in_of x =
     else (if bytes_eq x (codes "Wait") then Some built.Wait
     else (if bytes_eq x (codes "NewCell") then Some built.NewCell
     else (if bytes_eq x (codes "Exchange") then Some built.Exchange
-    else None)))
+    else (if bytes_eq x (codes "NewPort") then Some built.NewPort
+    else (if bytes_eq x (codes "Send") then Some built.Send
+    else (if bytes_eq x (codes "NewCellAt") then Some built.NewCellAt
+    else None))))))
 
 -- what a call of this name calls, where it is built in: where nothing declares the name
 unfoldable pub built_in_at : Scope → Identifier → Option BuiltIn

@@ -82,6 +82,9 @@ built_in_row built.Browse xs = stmt.Browse (slice_index xs 0)
 built_in_row built.Wait xs = stmt.Wait (slice_index xs 0)
 built_in_row built.NewCell xs = stmt.NewCell (slice_index xs 0) (slice_index xs 1)
 built_in_row built.Exchange xs = stmt.Exchange (slice_index xs 0) (slice_index xs 1) (slice_index xs 2)
+built_in_row built.NewPort xs = stmt.NewPort (slice_index xs 0) (slice_index xs 1)
+built_in_row built.Send xs = stmt.Send (slice_index xs 0) (slice_index xs 1)
+built_in_row built.NewCellAt xs = stmt.NewCellAt (slice_index xs 0) (slice_index xs 1) (slice_index xs 2)
 
 -- a call of what is built in, or of a procedure
 abbrev pub call_row : Option BuiltIn → ℕ → List ℕ → Stmt

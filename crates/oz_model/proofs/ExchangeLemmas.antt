@@ -1,9 +1,8 @@
 -- Exchanges are chains: a cell's content changes by its exchanges alone, and a fresh cell is another one.
-use Rattle.std.proofs.Common.{◌≡◌, ◌≢◌, ◌∙◌, sym, ap, refl, subst, List, [], ◌∷◌, ◌++◌, Some}
-use Rattle.std.specs.Prelude.{Option, Bool, true, false, cond, unwrap_or, map, codes}
+use Rattle.std.proofs.Common.{◌≡◌, ◌≢◌, ◌∙◌, sym, ap, refl, subst, List, [], ◌∷◌, ◌++◌, ℤ, Some}
+use Rattle.std.specs.Prelude.{Option, Bool, true, false, cond, unwrap_or, codes}
 use Rattle.tree_node.specs.declared.names.VarName.{VarName}
 use Rattle.tree_node.specs.declared.names.CellName.{CellName}
-use Rattle.tree_node.specs.declared.names.NameKind.TheVariants as kind
 use Rattle.tree_node.specs.declared.names.Name.{Name}
 use Rattle.tree_node.specs.declared.names.Name.TheVariants as name
 use Rattle.tree_node.specs.declared.node.Node.{Node}
@@ -25,13 +24,13 @@ use Rattle.oz_model.specs.declared.outcome.Outcome.TheVariants as outcome
 use Rattle.oz_model.specs.declared.outcome.SystemException.{SystemException}
 use Rattle.oz_model.specs.declared.outcome.SystemException.TheVariants.{FailureTell}
 use Rattle.oz_model.specs.Outcome.{outcome_of, print_outcome}
-use Rattle.oz_model.specs.Need.{outcome_need, stack_need, kinds_of}
+use Rattle.oz_model.specs.Need.{cell_kind, outcome_need, stack_need, kinds_of}
 use Rattle.oz_model.specs.Effect.{CellChange, Stays, Made, Exchanged, stack_effect, outcome_effect, goal_effect, pair_effect, exception_effect, vars_among, cell_among}
-use Rattle.oz_model.specs.Step.{kind_of, content_of, cells_after, effect_of, stack_of, next, Step}
+use Rattle.oz_model.specs.Step.{AreOfKinds, content_of, cells_after, effect_of, stack_of, next, Step}
 use Rattle.oz_model.specs.Run.{IsRun, exchange_in, exchanges_from}
 use Rattle.oz_model.specs.Laws.{IsChainFrom, ExchangesChain}
 use Rattle.tree_node.proofs.AssocLemmas.{value_of-with_value, value_of-with_value-other}
-use Rattle.oz_model.proofs.KindLemmas.{kinds_one, only_cell, equal_cell_decides}
+use Rattle.oz_model.proofs.KindLemmas.{kinds_one, only_cell_of, equal_cell_decides}
 
 -- ---- a cell that is made is a fresh name
 
@@ -46,15 +45,15 @@ fails_makes fresh exception rest (a ∷ []) = tt
 fails_makes fresh exception rest (a ∷ x ∷ []) = tt
 fails_makes fresh exception rest (a ∷ x ∷ y ∷ ys) = tt
 
-cell_makes : (fresh : List Name) (content : VarName) → map kind_of fresh ≡ kind.Cell ∷ [] → MakesFrom fresh (Made (cell_among fresh) content)
-cell_makes fresh content e =
-    let one = kinds_one kind.Cell fresh e in
-    let cell = only_cell one.0 one.2 in
+cell_makes : (fresh : List Name) (at : Option ℤ) (content : VarName) → AreOfKinds fresh (cell_kind at ∷ []) → MakesFrom fresh (Made (cell_among fresh) content)
+cell_makes fresh at content e =
+    let one = kinds_one (cell_kind at) fresh e in
+    let cell = only_cell_of at one.0 one.2 in
     let is : fresh ≡ name.Cell cell.0 ∷ [] = cc in
     ([], subst (λ (f : List Name). f ≡ name.Cell (cell_among f) ∷ []) (sym is) refl)
 
-outcome_makes : (p : List Stmt) (env : Env) (rest : Stack) (fresh : List Name) (o : Outcome) → map kind_of fresh ≡ kinds_of (outcome_need o) → MakesFrom fresh (outcome_effect p env rest fresh o).cell
-outcome_makes p env rest fresh (outcome.MakesCell content told) e = cell_makes fresh content e
+outcome_makes : (p : List Stmt) (env : Env) (rest : Stack) (fresh : List Name) (o : Outcome) → AreOfKinds fresh (kinds_of (outcome_need o)) → MakesFrom fresh (outcome_effect p env rest fresh o).cell
+outcome_makes p env rest fresh (outcome.MakesCell at content told) e = cell_makes fresh at content e
 outcome_makes p env rest fresh (outcome.Fails exception) e = fails_makes fresh exception rest (vars_among fresh)
 outcome_makes p env rest fresh (outcome.Waits x) e = tt
 outcome_makes p env rest fresh (outcome.WaitsAny left right) e = tt
@@ -63,6 +62,8 @@ outcome_makes p env rest fresh (outcome.Tells x t) e = tt
 outcome_makes p env rest fresh (outcome.Declares first count body) e = tt
 outcome_makes p env rest fresh (outcome.MakesProc left code formals vars) e = tt
 outcome_makes p env rest fresh (outcome.Exchanges cell new told) e = tt
+outcome_makes p env rest fresh (outcome.MakesPort stream told) e = tt
+outcome_makes p env rest fresh (outcome.Sends port value) e = tt
 outcome_makes p env rest fresh (outcome.Spawns at body vars) e = tt
 outcome_makes p env rest fresh (outcome.Tries body body_env handler first handler_env) e = tt
 outcome_makes p env rest fresh (outcome.Raises x) e = tt
@@ -74,7 +75,7 @@ pair_makes a b pairs met rest fresh bind Binds = tt
 pair_makes a b pairs met rest fresh bind (Opened m n fields) = tt
 pair_makes a b pairs met rest fresh bind Failed = fails_makes fresh FailureTell rest (vars_among fresh)
 
-pub stack_makes : (p : List Stmt) (s : Store) (fresh : List Name) (bind : Option Equation) (stack : Stack) → map kind_of fresh ≡ kinds_of (stack_need p s stack) → MakesFrom fresh (stack_effect p s fresh bind stack).cell
+pub stack_makes : (p : List Stmt) (s : Store) (fresh : List Name) (bind : Option Equation) (stack : Stack) → AreOfKinds fresh (kinds_of (stack_need p s stack)) → MakesFrom fresh (stack_effect p s fresh bind stack).cell
 stack_makes p s fresh bind [] e = tt
 stack_makes p s fresh bind (Run code env ∷ rest) e = outcome_makes p env rest fresh (outcome_of p s code env (stmt_at p code)) e
 stack_makes p s fresh bind (Mark code at env ∷ rest) e = tt

@@ -18,6 +18,8 @@ pub mod OccursLemmas
 pub mod ClosureLemmas
 pub mod EffectNames
 pub mod CellLemmas
+pub mod PortLemmas
+pub mod SendLemmas
 pub mod ExamplesRun
 pub mod DownLemmas
 pub mod OnceLemmas

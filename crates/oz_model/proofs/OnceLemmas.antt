@@ -1,8 +1,9 @@
--- Threads and cells are named once, and living threads have items.
-use Rattle.std.proofs.Common.{◌≡◌, ◌≢◌, sym, ap, refl, subst, List, [], ◌∷◌, ◌++◌, map, Some, None}
+-- Threads, cells and ports are named once, and living threads have items.
+use Rattle.std.proofs.Common.{◌≡◌, ◌≢◌, sym, ap, refl, subst, List, [], ◌∷◌, ◌++◌, Some, None}
 use Rattle.std.specs.Prelude.{Option, codes}
 use Rattle.tree_node.specs.declared.names.VarName.{VarName}
 use Rattle.tree_node.specs.declared.names.CellName.{CellName}
+use Rattle.tree_node.specs.declared.names.PortName.{PortName}
 use Rattle.tree_node.specs.declared.names.ThreadName.{ThreadName}
 use Rattle.tree_node.specs.declared.names.NameKind.TheVariants as kind
 use Rattle.tree_node.specs.declared.names.Name.{Name}
@@ -14,8 +15,8 @@ use Rattle.tree_node.specs.declared.pick.Pick.{Pick}
 use Rattle.tree_node.specs.Assoc.{with_optional_value}
 use Rattle.tree_node.specs.Each.{Each, AreDistinct}
 use Rattle.tree_node.specs.Env.{Env}
-use Rattle.tree_node.specs.Goal.{Case, Dropped, Binds, Opened, Failed, case_of, equal_cell}
-use Rattle.tree_node.specs.Names.{EachOfThread, EachOfCell, IsNew}
+use Rattle.tree_node.specs.Goal.{Case, Dropped, Binds, Opened, Failed, case_of, equal_cell, equal_port}
+use Rattle.tree_node.specs.Names.{EachOfThread, EachOfCell, EachOfPort, IsNew}
 use Rattle.tree_node.specs.Shown.{shown}
 use Rattle.tree_node.specs.State.{Stack, State, equal_thread}
 use Rattle.tree_node.specs.Store.{Store, Equation}
@@ -27,13 +28,15 @@ use Rattle.oz_model.specs.declared.outcome.Outcome.{Outcome}
 use Rattle.oz_model.specs.declared.outcome.Outcome.TheVariants as outcome
 use Rattle.oz_model.specs.Outcome.{outcome_of, print_outcome}
 use Rattle.oz_model.specs.Need.{outcome_need, stack_need, kinds_of}
-use Rattle.oz_model.specs.Effect.{Birth, CellChange, Stays, Made, Exchanged, stack_effect, outcome_effect, goal_effect, pair_effect, exception_effect, vars_among, thread_among}
-use Rattle.oz_model.specs.Step.{kind_of, cells_after, stack_with_content, living_stack, threads_born, effect_of, stack_of, IsAllowed, next}
+use Rattle.oz_model.specs.Effect as effect
+use Rattle.oz_model.specs.Effect.{Birth, CellChange, Stays, Made, Exchanged, PortChange, Keeps, Sent, stack_effect, outcome_effect, goal_effect, pair_effect, exception_effect, vars_among, thread_among}
+use Rattle.oz_model.specs.Step.{AreOfKinds, cells_after, ports_after, stack_left, living_stack, threads_born, effect_of, stack_of, IsAllowed, next}
 use Rattle.tree_node.proofs.AssocLemmas.{keys, Each-goes_on, Each-keys-goes_on, AreDistinct-with_value, AreDistinct-goes_on}
 use Rattle.oz_model.specs.Run.{IsRun, start}
 use Rattle.oz_model.specs.Laws.{AreOnce, RunsAreOnce}
-use Rattle.oz_model.proofs.KindLemmas.{equal_cell_decides, kinds_one, only_thread}
+use Rattle.oz_model.proofs.KindLemmas.{equal_cell_decides, equal_port_decides, kinds_one, only_thread}
 use Rattle.oz_model.proofs.ExchangeLemmas.{step_makes}
+use Rattle.oz_model.proofs.PortLemmas.{step_opens}
 use Rattle.tree_node.proofs.NameLemmas.{same_thread_decides}
 
 -- ---- a thread that is born is a fresh name
@@ -48,17 +51,17 @@ fails_born fresh exception rest (a ∷ []) = tt
 fails_born fresh exception rest (a ∷ x ∷ []) = tt
 fails_born fresh exception rest (a ∷ x ∷ y ∷ ys) = tt
 
-spawn_born : (fresh : List Name) → map kind_of fresh ≡ kind.Thread ∷ [] → (rest : List Name) × (fresh ≡ name.Thread (thread_among fresh) ∷ rest)
+spawn_born : (fresh : List Name) → AreOfKinds fresh (kind.Thread ∷ []) → (rest : List Name) × (fresh ≡ name.Thread (thread_among fresh) ∷ rest)
 spawn_born fresh e =
     let one = kinds_one kind.Thread fresh e in
     let thread = only_thread one.0 one.2 in
     let is : fresh ≡ name.Thread thread.0 ∷ [] = cc in
     ([], subst (λ (f : List Name). f ≡ name.Thread (thread_among f) ∷ []) (sym is) refl)
 
-outcome_born : (p : List Stmt) (env : Env) (rest : Stack) (fresh : List Name) (o : Outcome) → map kind_of fresh ≡ kinds_of (outcome_need o) → BornFrom fresh (outcome_effect p env rest fresh o).born
+outcome_born : (p : List Stmt) (env : Env) (rest : Stack) (fresh : List Name) (o : Outcome) → AreOfKinds fresh (kinds_of (outcome_need o)) → BornFrom fresh (outcome_effect p env rest fresh o).born
 outcome_born p env rest fresh (outcome.Spawns at body vars) e = spawn_born fresh e
 outcome_born p env rest fresh (outcome.Fails exception) e = fails_born fresh exception rest (vars_among fresh)
-outcome_born p env rest fresh (outcome.MakesCell content told) e = tt
+outcome_born p env rest fresh (outcome.MakesCell at content told) e = tt
 outcome_born p env rest fresh (outcome.Waits x) e = tt
 outcome_born p env rest fresh (outcome.WaitsAny left right) e = tt
 outcome_born p env rest fresh (outcome.Runs codes) e = tt
@@ -66,6 +69,8 @@ outcome_born p env rest fresh (outcome.Tells x t) e = tt
 outcome_born p env rest fresh (outcome.Declares first count body) e = tt
 outcome_born p env rest fresh (outcome.MakesProc left code formals vars) e = tt
 outcome_born p env rest fresh (outcome.Exchanges cell new told) e = tt
+outcome_born p env rest fresh (outcome.MakesPort stream told) e = tt
+outcome_born p env rest fresh (outcome.Sends port value) e = tt
 outcome_born p env rest fresh (outcome.Tries body body_env handler first handler_env) e = tt
 outcome_born p env rest fresh (outcome.Raises x) e = tt
 outcome_born p env rest fresh (outcome.Prints line) e = tt
@@ -76,7 +81,7 @@ pair_born a b pairs met rest fresh bind Binds = tt
 pair_born a b pairs met rest fresh bind (Opened m n fields) = tt
 pair_born a b pairs met rest fresh bind Failed = fails_born fresh FailureTell rest (vars_among fresh)
 
-pub stack_born : (p : List Stmt) (s : Store) (fresh : List Name) (bind : Option Equation) (stack : Stack) → map kind_of fresh ≡ kinds_of (stack_need p s stack) → BornFrom fresh (stack_effect p s fresh bind stack).born
+pub stack_born : (p : List Stmt) (s : Store) (fresh : List Name) (bind : Option Equation) (stack : Stack) → AreOfKinds fresh (kinds_of (stack_need p s stack)) → BornFrom fresh (stack_effect p s fresh bind stack).born
 stack_born p s fresh bind [] e = tt
 stack_born p s fresh bind (item.Run code env ∷ rest) e = outcome_born p env rest fresh (outcome_of p s code env (stmt_at p code)) e
 stack_born p s fresh bind (item.Mark code at env ∷ rest) e = tt
@@ -121,18 +126,37 @@ cells_distinct s Stays new h = h
 cells_distinct s (Made cell x) new h = (cell_names s.cells cell (new cell x refl).1, h)
 cells_distinct s (Exchanged cell content told) new h = AreDistinct-with_value equal_cell equal_cell_decides s.cells cell content h
 
+port_names : (ports : List (PortName × VarName)) (q : PortName) → Each (EachOfPort (λ y. y ≢ name.Port q)) ports → Each (λ r. q ≢ r) (keys ports)
+port_names [] q h = tt
+port_names (r ∷ ports) q h = ((λ e. h.0.0 (ap name.Port (sym e))), port_names ports q h.1)
+
+-- a name that stands last, and is none of those before it
+last_distinct : (ports : List (PortName × VarName)) (q : PortName) (x : VarName) → AreDistinct (keys ports) → Each (λ r. q ≢ r) (keys ports) → AreDistinct (keys (ports ++ (q, x) ∷ []))
+last_distinct [] q x h apart = (tt, tt)
+last_distinct (r ∷ ports) q x h apart = (others ports h.0, last_distinct ports q x h.1 apart.1)
+  where
+    others : (ports : List (PortName × VarName)) → Each (λ y. r.0 ≢ y) (keys ports) → Each (λ y. r.0 ≢ y) (keys (ports ++ (q, x) ∷ []))
+    others [] k = ((λ e. apart.0 (sym e)), tt)
+    others (t ∷ ports) k = (k.0, others ports k.1)
+
+ports_distinct : (s : State) (change : PortChange) → ((port : PortName) (x : VarName) → change ≡ effect.Opened port x → IsNew s (name.Port port)) → AreDistinct (keys s.ports) → AreDistinct (keys (ports_after s.ports change))
+ports_distinct s Keeps new h = h
+ports_distinct s (effect.Opened port x) new h = last_distinct s.ports port x h (port_names s.ports port (new port x refl).2)
+ports_distinct s (Sent port value x) new h = AreDistinct-with_value equal_port equal_port_decides s.ports port x h
+
 once_step : (p : List Stmt) (s : State) (k : Pick) → IsAllowed p s k → AreOnce s → AreOnce (next p s k)
 once_step p s k a h =
     let e = effect_of p s k in
-    let stack = stack_with_content s.cells e.cell e.stack in
+    let stack = stack_left s e in
     record {
       threads =
           born_distinct p s k.fresh e.born (with_optional_value equal_thread s.threads k.thread (living_stack stack))
           (stack_born p s.equations k.fresh k.bind (stack_of s k.thread) a.fresh.of_kinds) a.fresh.unused
-          (λ n new. Each-keys-goes_on equal_thread same_thread_decides (λ m. n ≢ m) s.threads k.thread (living_stack stack) (thread_names s.threads n new.2))
+          (λ n new. Each-keys-goes_on equal_thread same_thread_decides (λ m. n ≢ m) s.threads k.thread (living_stack stack) (thread_names s.threads n new.3))
           (AreDistinct-goes_on equal_thread same_thread_decides s.threads k.thread (living_stack stack) h.threads);
       stacks = born_items p e.born _ (living_items s.threads k.thread stack h.stacks);
       cells = cells_distinct s e.cell (step_makes p s k (next p s k) (a, refl)) h.cells;
+      ports = ports_distinct s e.port (step_opens p s k a) h.ports;
     }
 
 once_run : (p : List Stmt) (s : State) (ks : List Pick) (t : State) → IsRun p s ks t → AreOnce s → AreOnce t
@@ -140,4 +164,4 @@ once_run p s [] t run h = subst AreOnce (sym run) h
 once_run p s (k ∷ ks) t (m, step, run) h = once_run p m ks t run (subst AreOnce (sym step.1) (once_step p s k step.0 h))
 
 pub runs_are_once : RunsAreOnce
-runs_are_once p ks s run = once_run p (start p) ks s run (record { threads = (tt, tt); stacks = ((λ e. cc), tt); cells = tt })
+runs_are_once p ks s run = once_run p (start p) ks s run (record { threads = (tt, tt); stacks = ((λ e. cc), tt); cells = tt; ports = tt })

@@ -18,7 +18,7 @@ use Rattle.kernel_syntax.specs.Free.{stmt_at}
 use Rattle.oz_model.specs.declared.outcome.Outcome.{Outcome}
 use Rattle.oz_model.specs.declared.outcome.Outcome.TheVariants as outcome
 use Rattle.oz_model.specs.Outcome.{outcome_of, print_outcome}
-use Rattle.oz_model.specs.Need.{Need, Takes, variable_kinds, outcome_need, pair_need, goal_need, stack_need, IsWaiting, IsReady, kinds_of}
+use Rattle.oz_model.specs.Need.{Need, Takes, variable_kinds, cell_kind, outcome_need, pair_need, goal_need, stack_need, IsWaiting, IsReady, kinds_of}
 use Rattle.oz_model.specs.Step.{AreFresh, IsBindFor, Step, next, stack_of}
 use Rattle.oz_model.specs.Run.{AtRest}
 use Rattle.oz_model.specs.Laws.{RestOrStep}
@@ -41,8 +41,10 @@ outcome_goes s (outcome.Runs codes) = takes_goes s []
 outcome_goes s (outcome.Tells x t) = takes_goes s []
 outcome_goes s (outcome.Declares first count body) = takes_goes s (variable_kinds count)
 outcome_goes s (outcome.MakesProc left code formals vars) = takes_goes s (kind.Proc ∷ [])
-outcome_goes s (outcome.MakesCell content told) = takes_goes s (kind.Cell ∷ [])
+outcome_goes s (outcome.MakesCell at content told) = takes_goes s (cell_kind at ∷ [])
 outcome_goes s (outcome.Exchanges cell new told) = takes_goes s []
+outcome_goes s (outcome.MakesPort stream told) = takes_goes s (kind.Port ∷ [])
+outcome_goes s (outcome.Sends port value) = takes_goes s (variable_kinds 1)
 outcome_goes s (outcome.Spawns at body vars) = takes_goes s (kind.Thread ∷ [])
 outcome_goes s (outcome.Tries body env handler first handler_env) = takes_goes s []
 outcome_goes s (outcome.Raises x) = takes_goes s []

@@ -5,7 +5,6 @@ use Rattle.std.specs.Fmt.{digits}
 use Rattle.tree_node.specs.declared.names.NameKind.TheVariants as kind
 use Rattle.tree_node.specs.declared.names.Name.{Name}
 use Rattle.tree_node.specs.declared.names.Name.TheVariants as name
-use Rattle.tree_node.specs.declared.names.NameKind.{NameKind}
 use Rattle.tree_node.specs.declared.names.ThreadName.{ThreadName}
 use Rattle.tree_node.specs.declared.node.Node.{Node}
 use Rattle.tree_node.specs.declared.node.Node.TheVariants as node
@@ -56,7 +55,7 @@ end p s [] = s
 end p s (k ∷ ks) = end p (next p s k) ks
 
 none_fresh : (s : State) → AreFresh s [] []
-none_fresh s = record { of_kinds = refl; distinct = tt; unused = tt }
+none_fresh s = record { of_kinds = tt; distinct = tt; unused = tt }
 
 -- a pick that fits is allowed
 allowed : (p : List Stmt) (s : State) (n : ThreadName) (names : List Name) (bind : Option Equation) (More : Type 0) →
@@ -114,7 +113,7 @@ one_rests p s st e waits n stack at = go (equal_thread first_thread n) (sym (ap 
 
 -- the first name of a run
 first_fresh : (p : List Stmt) → free p (rows.code 0) ≡ [] → AreFresh (start p) (kind.Var ∷ []) (rows.new 0 ∷ [])
-first_fresh p e = record { of_kinds = refl; distinct = (tt, tt); unused = ((tt, tt, ((other_kind 0, (rw e tt, tt)), tt)), tt) }
+first_fresh p e = record { of_kinds = (tt, tt); distinct = (tt, tt); unused = ((tt, tt, tt, ((other_kind 0, (rw e tt, tt)), tt)), tt) }
 
 -- a state without threads in which a run has ended
 pub ends : (p : List Stmt) (ks : List Pick) (lines : List (List ℕ)) (ended : ℕ) → all_fit p (start p) ks ≡ true → Choices p (start p) ks →
@@ -134,11 +133,11 @@ integer_is_printed =
 -- before the failure the only variable is number 0
 failure_new : (n : ℕ) → 0 < n → IsNew (end rows.tells_twice (start rows.tells_twice) (take 7 rows.failure_picks)) (rows.new n)
 unfolding free
-failure_new n h = (((earlier 0 n h, tt), tt), tt, ((other_kind n, ((((earlier 0 n h, tt), tt), tt), tt)), tt))
+failure_new n h = (((earlier 0 n h, tt), tt), tt, tt, ((other_kind n, ((((earlier 0 n h, tt), tt), tt), tt)), tt))
 
 failure_fresh : AreFresh (end rows.tells_twice (start rows.tells_twice) (take 7 rows.failure_picks)) (kind.Var ∷ kind.Var ∷ []) (rows.new 1 ∷ rows.new 2 ∷ [])
 failure_fresh = record {
-  of_kinds = refl;
+  of_kinds = (tt, (tt, tt));
   distinct = ((earlier 1 2 (omega arith), tt), (tt, tt));
   unused = (failure_new 1 (omega arith), (failure_new 2 (omega arith), tt));
 }
@@ -159,9 +158,9 @@ unbound_is_awaited =
 atom_fresh : AreFresh (start rows.prints_atom) (kind.Var ∷ kind.Var ∷ []) (rows.new 0 ∷ rows.new 1 ∷ [])
 unfolding free
 atom_fresh = record {
-  of_kinds = refl;
+  of_kinds = (tt, (tt, tt));
   distinct = ((earlier 0 1 (omega arith), tt), (tt, tt));
-  unused = ((tt, tt, ((other_kind 0, (tt, tt)), tt)), ((tt, tt, ((other_kind 1, (tt, tt)), tt)), tt));
+  unused = ((tt, tt, tt, ((other_kind 0, (tt, tt)), tt)), ((tt, tt, tt, ((other_kind 1, (tt, tt)), tt)), tt));
 }
 
 pub atom_is_printed : AtomIsPrinted
@@ -189,7 +188,7 @@ pub are_refused : AreRefused
 unfolding free shown_within
 are_refused = record {
   thread = refused rows.skips [] _ refl tt (λ a. let none : false ≡ true = a.lives in absurd (cc));
-  spare = refused rows.skips [] _ refl tt (λ a. let kinds : ◌≡◌ {A = List NameKind} (kind.Var ∷ []) [] = a.fresh.of_kinds in absurd (cc));
+  spare = refused rows.skips [] _ refl tt (λ a. a.fresh.of_kinds);
   unasked = refused rows.skips [] _ refl tt (λ a. a.bind);
   ended = refused rows.skips (rows.plain ∷ []) _ refl tt (λ a. let none : false ≡ true = a.lives in absurd (cc));
   waiting = refused rows.prints_unbound rows.unbound_picks _ refl (first_fresh rows.prints_unbound refl, tt) (λ a. a.ready);

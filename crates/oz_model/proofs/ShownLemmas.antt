@@ -68,6 +68,7 @@ module _ (s c : Store) (stay : (x : VarName) (n : Node) → node_of s x ≡ Some
   node_shows d level left (node.Atom t) ih le = (omega arith, refl)
   node_shows d level left (node.Proc name code formals vars) ih le = (omega arith, refl)
   node_shows d level left (node.Cell name) ih le = (omega arith, refl)
+  node_shows d level left (node.Port name) ih le = (omega arith, refl)
   node_shows d level left (node.Rec label fields) ih le = go (head_and_tail (node.Rec label fields))
     where
       go : (o : Option (VarName × VarName)) → Refines c left (show_rec s (show_var d s) level left label fields o) (show_rec c (show_var d c) level left label fields o)

@@ -67,6 +67,7 @@ module _ (P : Name → Type 0) (s : Store) (eqs : Each (EachOfEquation P) s) whe
   found_named w h level left x a (Some (node.Atom t)) e = tt
   found_named w h level left x a (Some (node.Proc q c n vs)) e = tt
   found_named w h level left x a (Some (node.Cell c)) e = tt
+  found_named w h level left x a (Some (node.Port q)) e = tt
 
   var_named : (depth : ℕ) → OfWalk (show_var depth s)
   var_named zero level left x h = tt

@@ -1,6 +1,7 @@
--- Worked examples of the other statements: a procedure, a case, a handler, a cell, a thread, exceptions of the system, and tests.
+-- Worked examples of the other statements: a procedure, a case, a handler, a cell, a port, a thread, exceptions of the system, and tests.
 use Rattle.std.specs.Prelude.{◌≡◌, pos, List, [], ◌∷◌, ◌++◌, Option, Some, None, codes}
 use Rattle.tree_node.specs.declared.names.CellName.{CellName}
+use Rattle.tree_node.specs.declared.names.PortName.{PortName}
 use Rattle.tree_node.specs.declared.names.ProcName.{ProcName}
 use Rattle.tree_node.specs.declared.names.ThreadName.{ThreadName}
 use Rattle.tree_node.specs.declared.names.Name.TheVariants as name
@@ -14,8 +15,8 @@ use Rattle.kernel_syntax.specs.declared.stmt.Op.TheVariants.{Add}
 use Rattle.kernel_syntax.specs.declared.stmt.TestOp.TheVariants.{Equal, NotEqual}
 use Rattle.kernel_syntax.specs.declared.stmt.Pattern.TheVariants as pattern
 use Rattle.kernel_syntax.specs.declared.stmt.Stmt.{Stmt}
-use Rattle.kernel_syntax.specs.declared.stmt.Stmt.TheVariants.{Seq, Skip, Local, TellVar, TellInt, TellRec, TellProc, Calc, Test, If, Case, Call, Browse, NewCell, Exchange, Thread, Try, Raise}
-use Rattle.oz_model.specs.Run.{exchanges, contents_given}
+use Rattle.kernel_syntax.specs.declared.stmt.Stmt.TheVariants.{Seq, Skip, Local, TellVar, TellInt, TellRec, TellProc, Calc, Test, If, Case, Call, Browse, NewCell, Exchange, NewPort, Send, Thread, Try, Raise}
+use Rattle.oz_model.specs.Run.{first_thread, exchanges, contents_given, sends, ends_given}
 use Rattle.oz_model.specs.Rows.{code, new, pick, plain, RunsTo}
 
 -- a tell, the bind of its pair, the pair that is then equal, and the end of its goal block
@@ -28,7 +29,11 @@ first_proc = record { site = 1; num = 0 }
 
 -- its first cell
 abbrev pub first_cell : CellName
-first_cell = record { site = 1; num = 0 }
+first_cell = record { site = 1; at = 0; num = 0 }
+
+-- its first port
+abbrev pub first_port : PortName
+first_port = record { site = 1; num = 0 }
 
 -- its second thread; the first is the one that runs the program
 abbrev pub second_thread : ThreadName
@@ -98,6 +103,27 @@ pub record ContentIsExchanged : Type 0 where
   pub runs : RunsTo exchanges_once exchange_picks (codes "1" ∷ []) 1 0
   pub given : contents_given exchanges_once exchange_picks first_cell ≡ v 1 ∷ []
   pub pairs : exchanges exchanges_once exchange_picks first_cell ≡ (v 1, v 2) ∷ []
+
+-- local S P A in A = 1 {NewPort S P} {Send P A} case S of H|T then {Browse H} else skip end end
+abbrev pub sends_once : List Stmt
+sends_once =
+    Local 0 3 (code 1) ∷ Seq (code 2 ∷ code 3 ∷ code 4 ∷ code 5 ∷ []) ∷ TellInt 2 (pos 1) ∷ NewPort 0 1 ∷ Send 1 2
+    ∷ Case 0 (pattern.Rec (codes "|") (feature.Int (pos 1) ∷ feature.Int (pos 2) ∷ [])) 3 (code 6) (code 7) ∷ Browse 3 ∷ Skip ∷ []
+
+-- A is told the 1, the port is made and told to P, its end is told the pair of A and a fresh variable, and the first of the pair is printed
+abbrev pub send_picks : List Pick
+send_picks =
+    pick (new 0 ∷ new 1 ∷ new 2 ∷ []) None ∷ plain ∷ tell_picks (holds 2 (node.Int (pos 1)))
+    ++ pick (name.Port first_port ∷ []) None ∷ pick [] (Some (holds 1 (node.Port first_port))) ∷ plain ∷ plain
+    ∷ pick (new 3 ∷ []) None
+    ∷ pick [] (Some (holds 0 (node.Rec (codes "|") ((feature.Int (pos 1), v 2) ∷ (feature.Int (pos 2), v 3) ∷ [])))) ∷ plain ∷ plain
+    ∷ plain ∷ plain ∷ []
+
+-- the old end is S's variable, and the new one is fresh
+pub record PairIsSent : Type 0 where
+  pub runs : RunsTo sends_once send_picks (codes "1" ∷ []) 1 0
+  pub given : ends_given sends_once send_picks first_port ≡ v 0 ∷ []
+  pub ends : sends sends_once send_picks first_port ≡ record { thread = first_thread; old = v 0; new = v 3 } ∷ []
 
 -- local X in thread X = 1 end {Browse X} end
 abbrev pub spawns : List Stmt

@@ -1,11 +1,11 @@
 //! Laws of steps and runs.
 
-ghost use Rattle.oz_model.specs.Laws.{StepsAreDetermined, RunsAreDetermined, NoStepAtRest, RestOrStep, WaitsForUnbound, WaitsWhereOpen, TestsTellTruth, RunsAreSound, RunsGoOn, ExchangesChain, ExchangesEnd, CellsAreChains, CellsHaveContents, StepsFindCells, NamesAreKnown, RunsAreOnce, OutcomesHaveShapes};
+ghost use Rattle.oz_model.specs.Laws.{StepsAreDetermined, RunsAreDetermined, NoStepAtRest, RestOrStep, WaitsForUnbound, WaitsWhereOpen, TestsTellTruth, RunsAreSound, RunsGoOn, ExchangesChain, ExchangesEnd, CellsAreChains, CellsHaveContents, StepsFindCells, PortsAreChains, SendsAreInOrder, PortsHaveEnds, StepsFindPorts, NamesAreKnown, RunsAreOnce, OutcomesHaveShapes};
 ghost use Rattle.oz_model.specs.ThreadLaws.{EffectsAreNamed, NeedsAreNamed, OpensAreNamed, EffectsAreCovered, EffectsHaveNodes, EffectsKeepOneEach, RunsAreCovered, NamesAreTaken};
 ghost use Rattle.tree_node.specs.Compare.{MoreIsWithin};
 ghost use Rattle.oz_model.specs.Answers.{NodesAgree, CasesAgree, ShownAgree, FirstsAgree, NeedsAgree, BindsAgree, EffectsAgree, StepsStay, WaitsStay, OpenWaitsStay, BindsStay, LowerBinds};
 ghost use Rattle.oz_model.specs.Occurs.{TestTellsNew, TestTellsOccurs};
-ghost use Rattle.oz_model.specs.Examples.{ProcedureIsCalled, FieldIsMatched, HandlerHasException, ContentIsExchanged, ThreadIsMade, OverflowIsRaised, IntegerIsNoTruth, SameIsEqual, ComparisonIsAwaited};
+ghost use Rattle.oz_model.specs.Examples.{ProcedureIsCalled, FieldIsMatched, HandlerHasException, ContentIsExchanged, PairIsSent, ThreadIsMade, OverflowIsRaised, IntegerIsNoTruth, SameIsEqual, ComparisonIsAwaited};
 ghost use Rattle.oz_model.specs.WellFormed.{NodesAreWell};
 ghost use Rattle.oz_model.specs.Rows.{IntegerIsPrinted, FailureIsReported, UnboundIsAwaited, AtomIsPrinted, AtomIsPrintedToo, SkipEnds, AreRefused, MarksCatch};
 
@@ -25,15 +25,25 @@ pub fn runs_go_on()
     ensures { RunsGoOn }
 {}
 
-/// Each exchange of a cell gives the content that the one before put there, the first the content given to `NewCell`,
-/// and after the last the cell holds what that put there. A run makes a cell once at most, and a cell that occurs has a
-/// content: the cell that a step exchanges has one, and the cell that a step makes has none yet.
+/// Each exchange of a cell gives the content that the one before put there, the first the content given to `NewCell`
+/// or `NewCellAt`, and after the last the cell holds what that put there. A run makes a cell once at most, and a cell that occurs
+/// has a content: the cell that a step exchanges has one, and the cell that a step makes has none yet.
 pub fn exchanges_are_a_chain()
     ensures held { ExchangesChain }
     ensures end { ExchangesEnd }
     ensures chains { CellsAreChains }
     ensures contents { CellsHaveContents }
     ensures steps { StepsFindCells }
+{}
+
+/// Each send to a port gives the end that the one before left, the first the end given to `NewPort`, and those of a thread stand in the order of its
+/// steps. A run makes a port once at most, and a port that occurs has an end: the port that a step sends to has one, and the port that a step makes
+/// has none yet.
+pub fn sends_are_a_chain()
+    ensures chains { PortsAreChains }
+    ensures order { SendsAreInOrder }
+    ensures ends { PortsHaveEnds }
+    ensures steps { StepsFindPorts }
 {}
 
 /// A step makes no names up but its fresh ones.
@@ -136,13 +146,14 @@ pub fn worked_picks()
     ensures raising { MarksCatch }
 {}
 
-/// Worked examples of the other statements: a procedure, a case, a handler, a cell, a thread, exceptions of the system, and
-/// tests.
+/// Worked examples of the other statements: a procedure, a case, a handler, a cell, a port, a thread, exceptions of the system,
+/// and tests.
 pub fn worked_statements()
     ensures procedure { ProcedureIsCalled }
     ensures matched { FieldIsMatched }
     ensures handler { HandlerHasException }
     ensures exchange { ContentIsExchanged }
+    ensures sent { PairIsSent }
     ensures thread { ThreadIsMade }
     ensures overflow { OverflowIsRaised }
     ensures truth { IntegerIsNoTruth }

@@ -37,6 +37,19 @@ fn built_in_row(built_in: BuiltIn, positions: &[u32]) -> Stmt
             old: position_at(positions, 1),
             new: position_at(positions, 2),
         },
+        BuiltIn::NewPort => Stmt::NewPort {
+            stream: position_at(positions, 0),
+            port: position_at(positions, 1),
+        },
+        BuiltIn::Send => Stmt::Send {
+            port: position_at(positions, 0),
+            value: position_at(positions, 1),
+        },
+        BuiltIn::NewCellAt => Stmt::NewCellAt {
+            content: position_at(positions, 0),
+            cell: position_at(positions, 1),
+            at: position_at(positions, 2),
+        },
     }
 }
 

@@ -171,6 +171,12 @@ fn built_in_of(name: &[u8]) -> Option<BuiltIn>
         Some(BuiltIn::NewCell)
     } else if name == b"Exchange".as_slice() {
         Some(BuiltIn::Exchange)
+    } else if name == b"NewPort".as_slice() {
+        Some(BuiltIn::NewPort)
+    } else if name == b"Send".as_slice() {
+        Some(BuiltIn::Send)
+    } else if name == b"NewCellAt".as_slice() {
+        Some(BuiltIn::NewCellAt)
     } else {
         None
     }
@@ -195,8 +201,8 @@ pub fn arity_of(built_in: BuiltIn) -> u32
 {
     match built_in {
         BuiltIn::Browse | BuiltIn::Wait => 1,
-        BuiltIn::NewCell => 2,
-        BuiltIn::Exchange => 3,
+        BuiltIn::NewCell | BuiltIn::NewPort | BuiltIn::Send => 2,
+        BuiltIn::Exchange | BuiltIn::NewCellAt => 3,
     }
 }
 

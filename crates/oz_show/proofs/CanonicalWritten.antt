@@ -87,6 +87,9 @@ built_in_write b ks rest below w = more tt (more (built_in_written b) (names_wri
     built_in_written built.Wait = (refl, omega arith)
     built_in_written built.NewCell = (refl, omega arith)
     built_in_written built.Exchange = (refl, omega arith)
+    built_in_written built.NewPort = (refl, omega arith)
+    built_in_written built.Send = (refl, omega arith)
+    built_in_written built.NewCellAt = (refl, omega arith)
 
 value_write : (left : ℕ) (v : Value) (rest : List Symbol) → left < 2 ^ 32 → Written (value_text v rest) → Written (plain_text (Tells (name_at left) v) rest)
 value_write left v rest small w = more (name_written left small) (more tt w)
@@ -118,6 +121,9 @@ row_writes (stmt.Browse x) rest p below good w = built_in_write built.Browse (x 
 row_writes (stmt.Wait x) rest p below good w = built_in_write built.Wait (x ∷ []) rest below w
 row_writes (stmt.NewCell content cell) rest p below good w = built_in_write built.NewCell (content ∷ cell ∷ []) rest below w
 row_writes (stmt.Exchange cell old new) rest p below good w = built_in_write built.Exchange (cell ∷ old ∷ new ∷ []) rest below w
+row_writes (stmt.NewPort stream port) rest p below good w = built_in_write built.NewPort (stream ∷ port ∷ []) rest below w
+row_writes (stmt.Send port value) rest p below good w = built_in_write built.Send (port ∷ value ∷ []) rest below w
+row_writes (stmt.NewCellAt content cell place) rest p below good w = built_in_write built.NewCellAt (content ∷ cell ∷ place ∷ []) rest below w
 row_writes (stmt.Raise x) rest p below good w = more tt (more (name_written x below.0) (more tt w))
 
 -- ---- rows with bodies
@@ -166,6 +172,9 @@ module _ (body : CodeId → List Symbol → List Symbol) (writes : (c : CodeId) 
   fit_writes (stmt.Wait x) rest fit w = row_writes (stmt.Wait x) rest tt fit.names fit.texts w
   fit_writes (stmt.NewCell content cell) rest fit w = row_writes (stmt.NewCell content cell) rest tt fit.names fit.texts w
   fit_writes (stmt.Exchange cell old new) rest fit w = row_writes (stmt.Exchange cell old new) rest tt fit.names fit.texts w
+  fit_writes (stmt.NewPort stream port) rest fit w = row_writes (stmt.NewPort stream port) rest tt fit.names fit.texts w
+  fit_writes (stmt.Send port value) rest fit w = row_writes (stmt.Send port value) rest tt fit.names fit.texts w
+  fit_writes (stmt.NewCellAt content cell place) rest fit w = row_writes (stmt.NewCellAt content cell place) rest tt fit.names fit.texts w
   fit_writes (stmt.Thread at c) rest fit w = site_writes at _ fit.texts (writes c _ (more tt w))
   fit_writes (stmt.Try c first handler) rest fit w =
       more tt (writes c _ (more tt (more (name_written first (omega (arith, fit.limits))) (more tt (writes handler _ (more tt w))))))

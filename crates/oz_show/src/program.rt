@@ -241,6 +241,13 @@ fn put_plain(alloc: Global, symbols: &mut Symbols, stmt: &Stmt) -> Result<(), Al
         Stmt::Exchange { cell, old, new } => {
             put_built_in(alloc, symbols, b"Exchange", &[*cell, *old, *new])
         }
+        Stmt::NewPort { stream, port } => {
+            put_built_in(alloc, symbols, b"NewPort", &[*stream, *port])
+        }
+        Stmt::Send { port, value } => put_built_in(alloc, symbols, b"Send", &[*port, *value]),
+        Stmt::NewCellAt { content, cell, at } => {
+            put_built_in(alloc, symbols, b"NewCellAt", &[*content, *cell, *at])
+        }
         Stmt::Raise(subject) => put_raise(alloc, symbols, *subject),
         _ => Ok(()),
     }

@@ -4,8 +4,9 @@ use Rattle.std.specs.Prelude.{Option, ◌≢◌}
 use Rattle.std.specs.Bool.{Decides}
 use Rattle.std.specs.Map.{lookup}
 use Rattle.tree_node.specs.declared.names.VarName.{VarName}
-use Rattle.port_owner.specs.declared.name.PortName.{PortName}
-use Rattle.port_owner.specs.Ports.{Owned, equal_port, end_of, with_end}
+use Rattle.tree_node.specs.declared.names.PortName.{PortName}
+use Rattle.port_owner.specs.Ports.{Owned, end_of, with_end}
+use Rattle.tree_node.specs.Goal.{equal_port}
 use Rattle.port_owner.specs.Laws.{ends_from, IsChainFrom}
 
 port_decides : (a b : PortName) → Decides (equal_port a b) (a ≡ b)

@@ -1,8 +1,9 @@
 -- The ends of one port are one chain, whatever is sent to other ports in between (CTM section 5.1).
 use Rattle.std.specs.Prelude.{◌≡◌, List, [], ◌∷◌, ◌++◌, Option, Some, if◌then◌else◌}
 use Rattle.tree_node.specs.declared.names.VarName.{VarName}
-use Rattle.port_owner.specs.declared.name.PortName.{PortName}
-use Rattle.port_owner.specs.Ports.{Owned, equal_port, end_of, with_end}
+use Rattle.tree_node.specs.declared.names.PortName.{PortName}
+use Rattle.port_owner.specs.Ports.{Owned, end_of, with_end}
+use Rattle.tree_node.specs.Goal.{equal_port}
 
 -- the ends that sends to a port gave and left, in their order: each send is a port and the new end
 abbrev pub ends_from : PortName → List Owned → List (PortName × VarName) → List (Option VarName × VarName)

@@ -1,17 +1,14 @@
 -- The ports of a site as a list, in the order in which they were made, each with its end (CTM section 5.1).
-use Rattle.std.specs.Prelude.{List, Option, Bool, ◌==◌, ◌&&◌}
+use Rattle.std.specs.Prelude.{List, Option}
 use Rattle.std.specs.Map.{lookup}
 use Rattle.indexmap.specs.IndexMap.{insert_entry}
 use Rattle.tree_node.specs.declared.names.VarName.{VarName}
-use Rattle.port_owner.specs.declared.name.PortName.{PortName}
+use Rattle.tree_node.specs.declared.names.PortName.{PortName}
+use Rattle.tree_node.specs.Goal.{equal_port}
 
 -- a port with its end: the variable that the next send binds
 abbrev pub Owned : Type 0
 Owned = PortName × VarName
-
--- the same name of a port
-abbrev pub equal_port : PortName → PortName → Bool
-equal_port a b = (a.site == b.site) && (a.num == b.num)
 
 -- the end of a port: none where it was not made
 abbrev pub end_of : List Owned → PortName → Option VarName

@@ -4,17 +4,15 @@
 //! leaves the new one in its place, and the ends of all other ports stay. So the ends of one port form one chain, whatever is sent
 //! to others (`ends_are_chains`).
 //!
-//! It stands on `tree_node` and on `indexmap`. Nothing stands on it yet: no statement makes a port. Nothing is left to
-//! tests but that the calls go well with ample memory.
+//! It stands on `tree_node` and on `indexmap`. The machine (`machine_state`) has its ports so, and each site (`site_core`) those that it made.
+//! Nothing is left to tests but that the calls go well with ample memory.
 //!
 //! Source: Van Roy and Haridi, *Concepts, Techniques, and Models of Computer Programming* (CTM), section 5.1.
 #![tactic(auto)]
 
 mod laws;
-mod name;
 mod ports;
 mod threads;
 
 pub use laws::ends_are_chains;
-pub use name::PortName;
 pub use ports::Ports;

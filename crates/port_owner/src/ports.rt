@@ -3,11 +3,10 @@
 ghost use Rattle.std.specs.Prelude.{◌≡◌, [], None, Some, IsSome, OnOk, OnErr};
 ghost use Rattle.port_owner.specs.Ports.{end_of, with_end};
 
-use crate::name::PortName;
 use indexmap::IndexMap;
 use std::alloc::{AllocError, Global};
 use std::marker::Model;
-use tree_node::VarName;
+use tree_node::{PortName, VarName};
 
 /// The ports that a site made, in the order in which they were made, each with its end. Contracts see them as a list. Each
 /// call costs by a look-up.
@@ -18,7 +17,7 @@ pub struct Ports {
 
 impl Model for Ports {
     ghost use Rattle.std.specs.Prelude.{List};
-    ghost use Rattle.port_owner.specs.declared.name.PortName.{PortName};
+    ghost use Rattle.tree_node.specs.declared.names.PortName.{PortName};
     ghost use Rattle.tree_node.specs.declared.names.VarName.{VarName};
 
     ghost Value = { List (PortName × VarName) };
@@ -41,6 +40,13 @@ impl Ports {
         ensures { result ≡ end_of self.now port }
     {
         self.ends.get(&port).copied()
+    }
+
+    /// The ports by their names, each with its end.
+    pub fn by_name(&self) -> &IndexMap<PortName, VarName>
+        ensures { result.now.entries ≡ self.now }
+    {
+        &self.ends
     }
 
     /// A new port, whose end is this variable.

@@ -195,6 +195,9 @@ arity_few built.Browse = omega arith
 arity_few built.Wait = omega arith
 arity_few built.NewCell = omega arith
 arity_few built.Exchange = omega arith
+arity_few built.NewPort = omega arith
+arity_few built.Send = omega arith
+arity_few built.NewCellAt = omega arith
 
 call_checked : (o : Option BuiltIn) (xs : List Identifier) (scope : Scope) (d : ℕ) (rest : List Symbol) (behind : Option Fault) → HasArguments o xs → check_arguments (lift_arguments xs) scope d 0 (most_arguments o 64) rest behind ≡ checks.check_call o scope xs rest behind
 call_checked (Some b) xs scope d rest behind has = let few = arity_few b in uses_checked xs scope d 0 rest behind (omega (arith, has, few))

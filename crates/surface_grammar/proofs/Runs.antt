@@ -156,6 +156,9 @@ arity_few built.Browse = omega arith
 arity_few built.Wait = omega arith
 arity_few built.NewCell = omega arith
 arity_few built.Exchange = omega arith
+arity_few built.NewPort = omega arith
+arity_few built.Send = omega arith
+arity_few built.NewCellAt = omega arith
 
 few_fault : (b : Bool) → b ≡ true → where_not b Wide ≡ None
 few_fault true e = refl

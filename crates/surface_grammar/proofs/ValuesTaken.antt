@@ -235,6 +235,9 @@ arity_some built.Browse = omega arith
 arity_some built.Wait = omega arith
 arity_some built.NewCell = omega arith
 arity_some built.Exchange = omega arith
+arity_some built.NewPort = omega arith
+arity_some built.Send = omega arith
+arity_some built.NewCellAt = omega arith
 
 call_taken : (n : ℕ) → Laws n → (o : Option BuiltIn) (xs : List Symbol) (scope : Scope) (d : ℕ) (σ : List Point) (out : List Symbol) → length xs < n → leaves xs (next_call AsValue scope d o ++ σ) ≡ Some out → CallTaken o scope σ xs out
 call_taken n law None xs scope d σ out lt h = record { taken = law.arguments xs scope d 0 63 σ out lt h; lacks = tt }

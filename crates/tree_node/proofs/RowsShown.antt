@@ -3,7 +3,7 @@ use Rattle.std.proofs.Common.{refl}
 use Rattle.std.specs.Fmt.{digits}
 use Rattle.tree_node.specs.Shown.{shown_within}
 use Rattle.tree_node.specs.Words.{reserved_words}
-use Rattle.tree_node.specs.Rows.{RingIsCut, FieldsByName, FieldsByPlace, OtherBar, ListInList, ThreeNodes, OneNode, FieldIsNeeded, CutIsNotNeeded, ProcShows, CellShows, LeastShows, ReservedShows, EmptyShows}
+use Rattle.tree_node.specs.Rows.{RingIsCut, FieldsByName, FieldsByPlace, OtherBar, ListInList, ThreeNodes, OneNode, FieldIsNeeded, CutIsNotNeeded, ProcShows, CellShows, PortShows, LeastShows, ReservedShows, EmptyShows}
 
 pub ring_is_cut : RingIsCut
 unfolding shown_within reserved_words
@@ -48,6 +48,10 @@ proc_shows = (999, refl)
 pub cell_shows : CellShows
 unfolding shown_within
 cell_shows = (999, refl)
+
+pub port_shows : PortShows
+unfolding shown_within
+port_shows = (999, refl)
 
 pub least_shows : LeastShows
 unfolding shown_within digits

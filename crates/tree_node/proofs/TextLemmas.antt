@@ -18,6 +18,9 @@ bytes_refl xs = (bytes_eq-Decides xs xs).1 refl
 pub name_refl : (a b : ℕ) → ((a == a) && (b == b)) ≡ true
 name_refl a b = search rules
 
+cell_refl : (a b c : ℕ) → ((a == a) && ((b == b) && (c == c))) ≡ true
+cell_refl a b c = search rules
+
 pub feature_refl : (f : Feature) → equal_feature f f ≡ true
 feature_refl (feature.Int z) = (Decides-int_eq z z).1 refl
 feature_refl (feature.Atom t) = bytes_refl t
@@ -31,4 +34,5 @@ equal_text_refl (node.Int z) = (Decides-int_eq z z).1 refl
 equal_text_refl (node.Atom t) = bytes_refl t
 equal_text_refl (node.Rec label fields) = rw (bytes_refl label, fields_refl fields) refl
 equal_text_refl (node.Proc name code formals vars) = name_refl name.site name.num
-equal_text_refl (node.Cell name) = name_refl name.site name.num
+equal_text_refl (node.Cell name) = cell_refl name.site name.at name.num
+equal_text_refl (node.Port name) = name_refl name.site name.num

@@ -9,17 +9,18 @@ use Rattle.tree_node.specs.declared.names.VarName.{VarName}
 use Rattle.tree_node.specs.declared.node.Feature.{Feature}
 use Rattle.tree_node.specs.declared.node.Feature.TheVariants as feature
 use Rattle.tree_node.specs.declared.node.Node.{Node}
-use Rattle.tree_node.specs.declared.node.Node.TheVariants.{Int, Atom, Rec, Proc, Cell}
+use Rattle.tree_node.specs.declared.node.Node.TheVariants.{Int, Atom, Rec, Proc, Cell, Port}
 use Rattle.tree_node.specs.Each.{Each}
 
 -- the same integer, the same atom, records of equal label, features and variables, procedures of one
--- name, or cells of one name
+-- name, or cells or ports of one name
 abbrev pub SameText : Node → Node → Type 0
 SameText (Int a) (Int b) = a ≡ b
 SameText (Atom a) (Atom b) = a ≡ b
 SameText (Rec a xs) (Rec b ys) = (a ≡ b) × (xs ≡ ys)
 SameText (Proc a i m us) (Proc b j n vs) = a ≡ b
 SameText (Cell a) (Cell b) = a ≡ b
+SameText (Port a) (Port b) = a ≡ b
 SameText _ _ = ⊥
 
 -- the number of a record's fields, and 0 for every other node

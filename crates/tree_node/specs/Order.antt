@@ -19,6 +19,7 @@ IsLower (term.Node n) u = Unit {0}
 abbrev pub site_of : Name → ℕ
 site_of (name.Var x) = x.site
 site_of (name.Cell x) = x.site
+site_of (name.Port x) = x.site
 site_of (name.Proc x) = x.site
 site_of (name.Thread x) = x.site
 
@@ -26,5 +27,6 @@ site_of (name.Thread x) = x.site
 abbrev pub num_of : Name → ℕ
 num_of (name.Var x) = x.num
 num_of (name.Cell x) = x.num
+num_of (name.Port x) = x.num
 num_of (name.Proc x) = x.num
 num_of (name.Thread x) = x.num

@@ -106,7 +106,11 @@ ProcShows = ShowsAs (node.Proc (record { site = 1; num = 0 }) (record { 0 = 3 })
 
 -- a cell shows nothing of its name or content
 abbrev pub CellShows : Type 0
-CellShows = ShowsAs (node.Cell (record { site = 2; num = 7 })) (codes "<Cell>")
+CellShows = ShowsAs (node.Cell (record { site = 2; at = 0; num = 7 })) (codes "<Cell>")
+
+-- a port prints as <Port>
+abbrev pub PortShows : Type 0
+PortShows = ShowsAs (node.Port (record { site = 2; num = 7 })) (codes "<Port>")
 
 -- the least integer of 128 bits
 abbrev pub LeastShows : Type 0

@@ -48,3 +48,4 @@ head_text (node.Atom t) = atom_text t
 head_text (node.Rec label fields) = atom_text label
 head_text (node.Proc name code formals vars) = proc_text formals
 head_text (node.Cell name) = codes "<Cell>"
+head_text (node.Port name) = codes "<Port>"

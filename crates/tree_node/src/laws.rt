@@ -3,7 +3,7 @@
 ghost use Rattle.tree_node.specs.Classes.{RootsTellClasses, NodesAreDet, NoneHasNone, SoundHasOne, OneNamesClass, RootNamesClass};
 ghost use Rattle.tree_node.specs.Fields.{FeaturesAreDistinct, PlacesTellFeatures, OrderTellsFields};
 ghost use Rattle.tree_node.specs.Compare.{EqualIsTold, EqualIsFound, DifferentIsTold, DifferentIsFound, OpenIsTold, OpenIsAll, NeverBoth, EqualStays, DifferentStays, DifferentIsNeverSame, OpenStays, OpenListStays, MoreIsWithin, AgreeingAnswer};
-ghost use Rattle.tree_node.specs.Rows.{RingIsCut, FieldsByName, FieldsByPlace, OtherBar, ListInList, ThreeNodes, OneNode, FieldIsNeeded, CutIsNotNeeded, ProcShows, CellShows, LeastShows, ReservedShows, EmptyShows, PartsAreTold, EitherIsBound, RingIsMet, PairsAreCompared};
+ghost use Rattle.tree_node.specs.Rows.{RingIsCut, FieldsByName, FieldsByPlace, OtherBar, ListInList, ThreeNodes, OneNode, FieldIsNeeded, CutIsNotNeeded, ProcShows, CellShows, PortShows, LeastShows, ReservedShows, EmptyShows, PartsAreTold, EitherIsBound, RingIsMet, PairsAreCompared};
 
 /// Two variables have one root exactly where a path of equations joins them.
 pub fn roots_tell_classes()
@@ -80,6 +80,7 @@ pub fn shown_cuts()
 pub fn shown_nodes()
     ensures procedure { ProcShows }
     ensures cell { CellShows }
+    ensures port { PortShows }
     ensures least { LeastShows }
     ensures reserved { ReservedShows }
     ensures empty { EmptyShows }
