@@ -3,7 +3,7 @@ use Rattle.std.proofs.Common.{arith, ◌≡◌, sym, ap, refl, subst, ℕ, suc, 
 use Rattle.std.specs.Prelude.{Contains}
 use Rattle.std.proofs.Math.Seq.{take-suc}
 use Rattle.tree_node.specs.declared.names.VarName.{VarName}
-use Rattle.tree_node.specs.declared.names.CellName.{CellName}
+use Rattle.thread_roster.specs.declared.mode.Awaited.{Awaited}
 use Rattle.tree_node.specs.Each.{Each}
 use Rattle.tree_node.specs.Store.{equal_var}
 use Rattle.tree_node.proofs.ClassLemmas.{same_name_decides}
@@ -119,7 +119,7 @@ any_there new needers xs key h (event.Bound y) w = among xs h w
         go true q k ih = subst (λ (u : VarName). Contains (keys_among new u) key) ((same_name_decides z y).0 q) all.0
         go false q k ih = ih k
 
-pub token_there : (c : CellName) (e : Event) → wakes e (mode.WaitsFor c) ≡ true → ⊥
+pub token_there : (c : Awaited) (e : Event) → wakes e (mode.WaitsFor c) ≡ true → ⊥
 token_there c (event.Bound y) w = cc
 token_there c (event.Determined y) w = cc
 

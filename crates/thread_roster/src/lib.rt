@@ -35,6 +35,6 @@ mod slot;
 mod slots_by_name;
 mod threads;
 
-pub use mode::Mode;
+pub use mode::{Awaited, Mode};
 pub use roster::Roster;
 pub use slot::{Occupant, Slot};

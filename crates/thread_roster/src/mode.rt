@@ -6,17 +6,24 @@ ghost use Rattle.tree_node.specs.Store.{equal_var};
 ghost use Rattle.thread_roster.specs.Threads.{awaits, needs_one, is_waiting};
 ghost use Rattle.thread_roster.specs.Slots.{wakes, var_of};
 
-use tree_node::{CellName, VarName, Vars};
+use tree_node::{CellName, PortName, VarName, Vars};
+
+/// What a thread waits for that is no variable: a cell, which is its token or, where it is stationary, its content; or the end of a port.
+#[derive(Clone, Copy, Debug, PartialEq, Eq)]
+pub enum Awaited {
+    Cell(CellName),
+    Port(PortName),
+}
 
 /// Whether a thread can go on, or waits until a variable is bound, or until its class has a node, or until any of several
-/// variables is bound, or for a cell's token.
+/// variables is bound, or for a cell or a port.
 #[derive(Drop)]
 pub enum Mode {
     Runs,
     Waits(VarName),
     Needs(VarName),
     WaitsAny(Vars),
-    WaitsFor(CellName),
+    WaitsFor(Awaited),
 }
 
 /// What threads wait for in a variable: that it is bound, to a node or to another variable, or that its class has a node.

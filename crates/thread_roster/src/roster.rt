@@ -17,7 +17,7 @@ ghost use Rattle.thread_roster.specs.Slots.{threads_in as slots_hold, AreInside,
 ghost use Rattle.thread_roster.specs.Threads.{set_mode, set_value, wake_all, determine_all, waiting_of, AllWait, IsSuspended, IsRunnable, IsOrderOf};
 ghost use Rattle.thread_roster.specs.Order.{without_name, rotated, HaveComeBehind};
 
-use crate::mode::{Event, Mode};
+use crate::mode::{Awaited, Event, Mode};
 use crate::queue::Queue;
 use crate::slot::{Occupant, Slot, clear, set_mode, value_in};
 use crate::slots_by_name::{
@@ -26,7 +26,7 @@ use crate::slots_by_name::{
 use indexmap::IndexMap;
 use std::alloc::{AllocError, Global};
 use std::marker::Model;
-use tree_node::{CellName, ThreadName, VarName, Vars};
+use tree_node::{ThreadName, VarName, Vars};
 use waiting_keys::Waiters;
 
 /// Threads by name, each with a value and how it stands, which contracts see as a list, the newest first, the number of
@@ -293,15 +293,15 @@ impl<V: Drop> Roster<V> {
         Ok(())
     }
 
-    /// A thread waits for a cell's token, until `resume` lets it go on.
-    pub fn wait_for(&mut self, name: ThreadName, cell: CellName)
+    /// A thread waits for a cell or a port, until `resume` lets it go on.
+    pub fn wait_for(&mut self, name: ThreadName, awaited: Awaited)
         requires lives { IsSome (value_of equal_thread self.old.living name) }
-        ensures living { self.new.living ≡ set_mode self.old.living name (stands.WaitsFor cell) }
+        ensures living { self.new.living ≡ set_mode self.old.living name (stands.WaitsFor awaited) }
         ensures ended { self.new.ended ≡ self.old.ended }
         ensures order { self.new.order ≡ without_name name self.old.order }
     {
         let slot = find(&self.slots, &self.by_name, &self.queue, name);
-        let waited = set_mode(&mut self.slots, slot, Mode::WaitsFor(cell));
+        let waited = set_mode(&mut self.slots, slot, Mode::WaitsFor(awaited));
         self.waiting = count_waiting(self.waiting, waited);
         self.queue.remove(slot);
     }

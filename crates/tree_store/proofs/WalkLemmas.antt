@@ -71,6 +71,7 @@ ends_shown s walk level left (node.Int z) h t e = cc
 ends_shown s walk level left (node.Atom a) h t e = cc
 ends_shown s walk level left (node.Proc name code formals vars) h t e = cc
 ends_shown s walk level left (node.Cell name) h t e = cc
+ends_shown s walk level left (node.Port name) h t e = cc
 
 bracketed : (b : Bool) (head tail : List ℕ) → in_brackets b head ++ 124 ∷ tail ≡ (head_front b ++ (head ++ head_back b)) ++ tail
 bracketed true head tail = simp append_assoc

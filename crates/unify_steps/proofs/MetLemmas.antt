@@ -43,11 +43,13 @@ equal_hash (node.Int a) (node.Atom b) e = refl
 equal_hash (node.Int a) (node.Rec r ys) e = cc
 equal_hash (node.Int a) (node.Proc q j w vs) e = refl
 equal_hash (node.Int a) (node.Cell d) e = refl
+equal_hash (node.Int a) (node.Port d) e = refl
 equal_hash (node.Atom a) (node.Int b) e = refl
 equal_hash (node.Atom a) (node.Atom b) e = refl
 equal_hash (node.Atom a) (node.Rec r ys) e = cc
 equal_hash (node.Atom a) (node.Proc q j w vs) e = refl
 equal_hash (node.Atom a) (node.Cell d) e = refl
+equal_hash (node.Atom a) (node.Port d) e = refl
 equal_hash (node.Rec l xs) (node.Int b) e = cc
 equal_hash (node.Rec l xs) (node.Atom b) e = cc
 equal_hash (node.Rec l xs) (node.Rec r ys) e =
@@ -56,16 +58,25 @@ equal_hash (node.Rec l xs) (node.Rec r ys) e =
     rw (labels, fields) refl
 equal_hash (node.Rec l xs) (node.Proc q j w vs) e = cc
 equal_hash (node.Rec l xs) (node.Cell d) e = cc
+equal_hash (node.Rec l xs) (node.Port d) e = cc
 equal_hash (node.Proc p i k us) (node.Int b) e = refl
 equal_hash (node.Proc p i k us) (node.Atom b) e = refl
 equal_hash (node.Proc p i k us) (node.Rec r ys) e = cc
 equal_hash (node.Proc p i k us) (node.Proc q j w vs) e = refl
 equal_hash (node.Proc p i k us) (node.Cell d) e = refl
+equal_hash (node.Proc p i k us) (node.Port d) e = refl
 equal_hash (node.Cell c) (node.Int b) e = refl
 equal_hash (node.Cell c) (node.Atom b) e = refl
 equal_hash (node.Cell c) (node.Rec r ys) e = cc
 equal_hash (node.Cell c) (node.Proc q j w vs) e = refl
 equal_hash (node.Cell c) (node.Cell d) e = refl
+equal_hash (node.Cell c) (node.Port d) e = refl
+equal_hash (node.Port c) (node.Int b) e = refl
+equal_hash (node.Port c) (node.Atom b) e = refl
+equal_hash (node.Port c) (node.Rec r ys) e = cc
+equal_hash (node.Port c) (node.Proc q j w vs) e = refl
+equal_hash (node.Port c) (node.Cell d) e = refl
+equal_hash (node.Port c) (node.Port d) e = refl
 
 -- pairs of equal text, in either order, have one hash
 abbrev is_pair : Node → Node → Node × Node → Bool
