@@ -133,6 +133,11 @@ module _ (w : World) (place : ℕ) (l : IsLawful w) where
   message_comes to (msg.Get a b) at fits = absurd fits
   message_comes to (msg.Forward a b) at fits = absurd fits
   message_comes to (msg.Put a b c) at fits = absurd fits
+  message_comes to (msg.PortSend a b c) at fits = absurd fits
+  message_comes to (msg.PortEnd a b c d) at fits = absurd fits
+  message_comes to (msg.CellMake a b c) at fits = absurd fits
+  message_comes to (msg.CellAsk a b c d g) at fits = absurd fits
+  message_comes to (msg.CellOld a b c) at fits = absurd fits
 
   pub letter_of : (m : Sent) → slice_get w.travelling place ≡ Some m → IsTrueMessage (known_at w) m
   letter_of m at = each_at (IsTrueMessage (known_at w)) w.travelling place m l.letters at
@@ -146,6 +151,11 @@ met_first_made w to (msg.Spawn a b c d) l fits = tt
 met_first_made w to (msg.Get a b) l fits = tt
 met_first_made w to (msg.Forward a b) l fits = tt
 met_first_made w to (msg.Put a b c) l fits = tt
+met_first_made w to (msg.PortSend a b c) l fits = tt
+met_first_made w to (msg.PortEnd a b c d) l fits = tt
+met_first_made w to (msg.CellMake a b c) l fits = tt
+met_first_made w to (msg.CellAsk a b c d g) l fits = tt
+met_first_made w to (msg.CellOld a b c) l fits = tt
 
 pub goes_to_site : (w : World) (to : ℕ) (m : Msg) → IsLawful w → Contains w.travelling (record { to = to; msg = m }) → IsTrueMessage (known_at w) (record { to = to; msg = m }) → IsSiteOf w to
 goes_to_site w to (msg.Register y k) l at fits = subst (IsSiteOf w) (sym fits.0) (in_range w y.site y fits.1)
@@ -157,6 +167,11 @@ goes_to_site w to (msg.Spawn a b c d) l at fits = absurd fits
 goes_to_site w to (msg.Get a b) l at fits = absurd fits
 goes_to_site w to (msg.Forward a b) l at fits = absurd fits
 goes_to_site w to (msg.Put a b c) l at fits = absurd fits
+goes_to_site w to (msg.PortSend a b c) l at fits = absurd fits
+goes_to_site w to (msg.PortEnd a b c d) l at fits = absurd fits
+goes_to_site w to (msg.CellMake a b c) l at fits = absurd fits
+goes_to_site w to (msg.CellAsk a b c d g) l at fits = absurd fits
+goes_to_site w to (msg.CellOld a b c) l at fits = absurd fits
 
 -- the world in which the names of a message are met
 pub first_met : (w : World) (place : ℕ) (m : Sent) → IsLawful w → slice_get w.travelling place ≡ Some m → Met w (after_meeting w m.to (met_first m.msg))
@@ -213,3 +228,8 @@ site_takes w to (msg.Spawn a b c d) l at fits = tt
 site_takes w to (msg.Get a b) l at fits = tt
 site_takes w to (msg.Forward a b) l at fits = tt
 site_takes w to (msg.Put a b c) l at fits = tt
+site_takes w to (msg.PortSend a b c) l at fits = tt
+site_takes w to (msg.PortEnd a b c d) l at fits = tt
+site_takes w to (msg.CellMake a b c) l at fits = tt
+site_takes w to (msg.CellAsk a b c d g) l at fits = tt
+site_takes w to (msg.CellOld a b c) l at fits = tt

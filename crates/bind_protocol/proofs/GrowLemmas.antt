@@ -85,6 +85,11 @@ letter_stays know more g s h = go s.msg h
     go (msg.Get a b) h = h
     go (msg.Forward a b) h = h
     go (msg.Put a b c) h = h
+    go (msg.PortSend a b c) h = h
+    go (msg.PortEnd a b c d) h = h
+    go (msg.CellMake a b c) h = h
+    go (msg.CellAsk a b c d g) h = h
+    go (msg.CellOld a b c) h = h
 
 pub letters_stay : (know more : Knowing) → Grows know more → (ms : List Sent) → Each (IsTrueMessage know) ms → Each (IsTrueMessage more) ms
 letters_stay know more g ms h = each_more (IsTrueMessage know) (IsTrueMessage more) ms (λ s l. letter_stays know more g s l) h

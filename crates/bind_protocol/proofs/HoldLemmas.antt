@@ -50,6 +50,11 @@ the_register w x i to (msg.Spawn a b c d) e fits = cc
 the_register w x i to (msg.Get a b) e fits = cc
 the_register w x i to (msg.Forward a b) e fits = cc
 the_register w x i to (msg.Put a b c) e fits = cc
+the_register w x i to (msg.PortSend a b c) e fits = cc
+the_register w x i to (msg.PortEnd a b c d) e fits = cc
+the_register w x i to (msg.CellMake a b c) e fits = cc
+the_register w x i to (msg.CellAsk a b c d g) e fits = cc
+the_register w x i to (msg.CellOld a b c) e fits = cc
 
 abbrev IsBindingTo : VarName → ℕ → Sent → Type 0
 IsBindingTo x i s = (t : Term) × (s ≡ binding x t i)
@@ -62,6 +67,11 @@ the_binding w x i to (msg.Spawn a b c d) e fits = cc
 the_binding w x i to (msg.Get a b) e fits = cc
 the_binding w x i to (msg.Forward a b) e fits = cc
 the_binding w x i to (msg.Put a b c) e fits = cc
+the_binding w x i to (msg.PortSend a b c) e fits = cc
+the_binding w x i to (msg.PortEnd a b c d) e fits = cc
+the_binding w x i to (msg.CellMake a b c) e fits = cc
+the_binding w x i to (msg.CellAsk a b c d g) e fits = cc
+the_binding w x i to (msg.CellOld a b c) e fits = cc
 
 three : (a b c : ℕ) → 1 ≤ a + b + c → (1 ≤ a) ⊎ ((1 ≤ b) ⊎ (1 ≤ c))
 three (suc a) b c h = inl (omega arith)
@@ -106,6 +116,11 @@ elsewhere w to (msg.Spawn a b c d) l fits at = tt
 elsewhere w to (msg.Get a b) l fits at = tt
 elsewhere w to (msg.Forward a b) l fits at = tt
 elsewhere w to (msg.Put a b c) l fits at = tt
+elsewhere w to (msg.PortSend a b c) l fits at = tt
+elsewhere w to (msg.PortEnd a b c d) l fits at = tt
+elsewhere w to (msg.CellMake a b c) l fits at = tt
+elsewhere w to (msg.CellAsk a b c d g) l fits at = tt
+elsewhere w to (msg.CellOld a b c) l fits at = tt
 
 down : (w : World) (to : ℕ) (m : Msg) → IsTrueMessage (known_at w) (record { to = to; msg = m }) → IsDownward (record { to = to; msg = m })
 down w to (msg.BindReq y thread t bundle) fits = fits.2.1
@@ -115,6 +130,11 @@ down w to (msg.Spawn a b c d) fits = tt
 down w to (msg.Get a b) fits = tt
 down w to (msg.Forward a b) fits = tt
 down w to (msg.Put a b c) fits = tt
+down w to (msg.PortSend a b c) fits = tt
+down w to (msg.PortEnd a b c d) fits = tt
+down w to (msg.CellMake a b c) fits = tt
+down w to (msg.CellAsk a b c d g) fits = tt
+down w to (msg.CellOld a b c) fits = tt
 
 pub lawful_holds : (w : World) → IsLawful w → HasInvariant w
 lawful_holds w l = record {

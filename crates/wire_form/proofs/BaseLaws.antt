@@ -13,9 +13,9 @@ use Rattle.wire_form.specs.declared.form.Form.{Form}
 use Rattle.wire_form.specs.declared.form.Form.TheVariants as forms
 use Rattle.wire_form.specs.declared.fault.WireFault.{WireFault}
 use Rattle.wire_form.specs.declared.fault.WireFault.TheVariants.{Short, Range, Utf8}
-use Rattle.wire_form.specs.Field.{Field, IsCut, number, signed_number, short_bytes}
+use Rattle.wire_form.specs.Field.{Field, IsCut, nothing, number, signed_number, short_bytes}
 use Rattle.wire_form.specs.Format.{IsWithin, within, text, integer}
-use Rattle.wire_form.specs.Reading.{Left, Read, ◌>>=◌, byte_at, bytes_at, map_at, filter_at, number_at, signed_at, integer_at, short_bytes_at, is_within, byte_within_at, text_at}
+use Rattle.wire_form.specs.Reading.{Left, Read, ◌>>=◌, nothing_at, byte_at, bytes_at, map_at, filter_at, number_at, signed_at, integer_at, short_bytes_at, is_within, byte_within_at, text_at}
 use Rattle.wire_form.proofs.WideBytes.{be_bytes_16, from_be_bytes-to_be_bytes_16, from_below_16}
 use Rattle.wire_form.proofs.FieldLaws.{IsBytes, Takes, IsRead, done, failed, ok_is, err_is, no_err, no_ok, bind_ok, bind_err, tested_read}
 
@@ -31,6 +31,28 @@ IsBytes-take n bytes h i =
 
 pub IsBytes-rest : (b : ℕ) (bytes : List ℕ) → IsBytes (b ∷ bytes) → IsBytes bytes
 IsBytes-rest b bytes h i = h (suc i)
+
+-- ---- nothing
+
+pub nothing_read : IsRead nothing nothing_at
+nothing_read = record { takes = takes; again = again; fails = fails; failing = failing }
+  where
+    takes : (at : ℕ) (bytes : List ℕ) (x : ℕ) (m : Left) → IsBytes bytes → nothing_at (at, bytes) ≡ Ok (x, m) → Takes nothing at bytes x m
+    takes at bytes x m fits e =
+        let place : at ≡ at + 0 = omega arith in
+        subst (λ (q : ℕ × Left). Takes nothing at bytes q.0 q.1) (ok_is (0, (at, bytes)) (x, m) e)
+        (record { has = refl; parts = refl; place = place; rest_fits = fits })
+
+    again : (at : ℕ) (x : ℕ) (rest : List ℕ) → x ≡ 0 → nothing_at (at, rest) ≡ Ok (x, (at + 0, rest))
+    again at x rest has =
+        let place : at ≡ at + 0 = omega arith in
+        ap (λ (n : ℕ). done (n, (at, rest))) (sym has) ∙ ap (λ (n : ℕ). done (x, (n, rest))) place
+
+    fails : (at : ℕ) (bytes : List ℕ) (f : WireFault) → IsBytes bytes → nothing_at (at, bytes) ≡ Err f → ⊥
+    fails at bytes f fits e = no_err (0, (at, bytes)) f e
+
+    failing : (at : ℕ) (bytes : List ℕ) (f : WireFault) → ⊥ → nothing_at (at, bytes) ≡ Err f
+    failing at bytes f h = absurd h
 
 -- ---- one byte
 

@@ -12,15 +12,15 @@ pub record IsBehind {X : Type 0} (F : Field X) (tag : ℕ) (R : Left → Read X)
   pub fails : (at : ℕ) (bytes : List ℕ) (f : WireFault) → IsBytes bytes → R (at + 1, bytes) ≡ Err f → Fault (at + 1) bytes f
   pub failing : (at : ℕ) (bytes : List ℕ) (f : WireFault) → Fault (at + 1) bytes f → R (at + 1, bytes) ≡ Err f
 
-pub is_behind : {X Y : Type 0} (F : Field X) (tag : ℕ) (G : Field Y) (R : Left → Read Y) (con : Y → X) → ((y : Y) → G.Has y → F.Has (con y))
-    → ((y : Y) → F.spelling (con y) ≡ tag ∷ G.spelling y) → IsRead G R → IsBehind F tag (map_at con R) G.Fault
-is_behind {X = X} {Y = Y} F tag G R con has spelled r = record { takes = takes; fails = fails; failing = failing }
+pub is_behind_where : {X Y : Type 0} (F : Field X) (tag : ℕ) (G : Field Y) (R : Left → Read Y) (con : Y → X) → ((y : Y) → G.Has y → F.Has (con y))
+    → ((y : Y) → G.Has y → F.spelling (con y) ≡ tag ∷ G.spelling y) → IsRead G R → IsBehind F tag (map_at con R) G.Fault
+is_behind_where {X = X} {Y = Y} F tag G R con has spelled r = record { takes = takes; fails = fails; failing = failing }
   where
     takes : (at : ℕ) (bytes : List ℕ) (x : X) (m : Left) → IsBytes bytes → map_at con R (at + 1, bytes) ≡ Ok (x, m) → Takes F at (tag ∷ bytes) x m
     takes at bytes x m fits e =
         let a = bind_ok (R (at + 1, bytes)) (λ a. Ok (con a.0, a.1)) (x, m) e in
         let t = r.takes (at + 1) bytes a.0.0 a.0.1 fits a.1 in
-        let same = spelled a.0.0 in
+        let same = spelled a.0.0 t.has in
         let long : length (F.spelling (con a.0.0)) ≡ length (G.spelling a.0.0) + 1 = ap (λ (z : List ℕ). length z) same ∙ omega arith in
         let one : Takes F at (tag ∷ bytes) (con a.0.0) a.0.1 = record {
           has = has a.0.0 t.has;
@@ -38,6 +38,11 @@ is_behind {X = X} {Y = Y} F tag G R con has spelled r = record { takes = takes; 
 
     failing : (at : ℕ) (bytes : List ℕ) (f : WireFault) → G.Fault (at + 1) bytes f → map_at con R (at + 1, bytes) ≡ Err f
     failing at bytes f h = ap (λ (a : Read Y). a >>= λ a. Ok (con a.0, a.1)) (r.failing (at + 1) bytes f h)
+
+-- where each value is spelled so
+pub is_behind : {X Y : Type 0} (F : Field X) (tag : ℕ) (G : Field Y) (R : Left → Read Y) (con : Y → X) → ((y : Y) → G.Has y → F.Has (con y))
+    → ((y : Y) → F.spelling (con y) ≡ tag ∷ G.spelling y) → IsRead G R → IsBehind F tag (map_at con R) G.Fault
+is_behind F tag G R con has spelled r = is_behind_where F tag G R con has (λ y h. spelled y) r
 
 -- what is spelled behind a tag is read again there
 pub again_behind : {X Y : Type 0} (G : Field Y) (R : Left → Read Y) (con : Y → X) (tag at : ℕ) (y : Y) (rest : List ℕ) → IsRead G R → G.Has y

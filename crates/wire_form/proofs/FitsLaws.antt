@@ -1,6 +1,7 @@
 -- The values of the format are what can be spelled.
-use Rattle.std.proofs.Common.{ℕ, zero, suc, ◌<◌, List, [], ◌∷◌, ◌++◌, length, get_or, arith}
+use Rattle.std.proofs.Common.{◌≡◌, refl, ℕ, zero, suc, ◌<◌, ◌≤◌, List, [], ◌∷◌, ◌++◌, length, get_or, arith}
 use Rattle.tree_node.specs.declared.names.VarName.{VarName}
+use Rattle.tree_node.specs.declared.names.CellName.{CellName}
 use Rattle.tree_node.specs.declared.node.Feature.{Feature}
 use Rattle.tree_node.specs.declared.node.Feature.TheVariants as features
 use Rattle.tree_node.specs.declared.node.Node.TheVariants as nodes
@@ -11,11 +12,12 @@ use Rattle.tree_node.specs.Order.{IsBelow}
 use Rattle.tree_node.specs.Store.{Equation}
 use Rattle.site_message.specs.declared.message.Msg.{Msg}
 use Rattle.site_message.specs.declared.message.Msg.TheVariants as messages
-use Rattle.site_message.specs.Wire.{FitsText, FitsFeature, FitsField, FitsFields, FitsVar, FitsVars, FitsTerm, FitsEquation, FitsBundle, FitsWire}
+use Rattle.site_message.specs.Wire.{IsSite, FitsText, FitsFeature, FitsField, FitsFields, FitsVar, FitsVars, FitsTerm, FitsEquation, FitsBundle, FitsWire}
 use Rattle.site_message.proofs.RiseLemmas.{RisesTo, fields_rise, names_rise}
 use Rattle.wire_form.specs.declared.form.Form.{Form}
+use Rattle.wire_form.specs.declared.form.Form.TheVariants as forms
 use Rattle.wire_form.specs.Field.{Field, EachBehind, IsAbove}
-use Rattle.wire_form.specs.Format.{var_name, text, feature, record_field, field_behind, record_fields, variables, term, equation, equation_behind, bundle, message, IsFeatureBelow}
+use Rattle.wire_form.specs.Format.{HasCell, var_name, text, feature, record_field, field_behind, record_fields, variables, term, equation, equation_behind, bundle, message, IsFeatureBelow}
 use Rattle.tree_node.proofs.EnvLemmas.{each_more}
 
 -- ---- items that follow one another
@@ -101,13 +103,19 @@ each_var front (x ∷ xs) h = (var_fits x h.0, each_var (front ++ x ∷ []) xs h
 vars_fit : (xs : List VarName) → variables.Has xs → FitsVars xs
 vars_fit xs h = (omega (arith, h.0), each_var [] xs h.1)
 
+cell_fits : (form : Form) (c : CellName) (n : ℕ) → c.at ≡ n → HasCell form c n → IsSite c.site × (c.at ≤ 64)
+cell_fits form c zero e h = (h.1.0.1, omega (arith, e))
+cell_fits forms.One c (suc k) e h = absurd h.0
+cell_fits forms.Two c (suc k) e h = (h.1.0.0.1, h.1.1.1.1)
+
 term_fits : (form : Form) (t : Term) → (term form).Has t → FitsTerm t
 term_fits form (terms.Var x) h = var_fits x h
 term_fits form (terms.Node (nodes.Int z)) h = tt
 term_fits form (terms.Node (nodes.Atom t)) h = text_fits t h
 term_fits form (terms.Node (nodes.Rec label fields)) h = (text_fits label h.0, fields_fit form fields h.1)
 term_fits form (terms.Node (nodes.Proc p c n vars)) h = (h.0.0.1, h.1.1.0.1.1, vars_fit vars h.1.1.1)
-term_fits form (terms.Node (nodes.Cell c)) h = h.0.1
+term_fits form (terms.Node (nodes.Cell c)) h = cell_fits form c c.at refl h
+term_fits form (terms.Node (nodes.Port q)) h = h.1.0.1
 
 bundle_fits : (form : Form) (es : List Equation) → (bundle form).Has es → FitsBundle es
 bundle_fits form es h =
@@ -120,6 +128,11 @@ message_fits form (messages.Spawn t c vars es) h = (h.0.0.1, vars_fit vars h.1.1
 message_fits form (messages.Register x asking) h = (var_fits x h.0, h.1.1)
 message_fits form (messages.BindReq x t u es) h = (var_fits x h.0, h.1.0.0.1, term_fits form u h.1.1.0, bundle_fits form es h.1.1.1)
 message_fits form (messages.Binding x u es) h = (var_fits x h.0, term_fits form u h.1.0, bundle_fits form es h.1.1)
-message_fits form (messages.Get c asking) h = (h.0.0.1, h.1.1)
-message_fits form (messages.Forward c next) h = (h.0.0.1, h.1.1)
-message_fits form (messages.Put c x es) h = (h.0.0.1, var_fits x h.1.0, bundle_fits form es h.1.1)
+message_fits form (messages.Get c asking) h = ((h.0.1.0.1, h.0.0), h.1.1)
+message_fits form (messages.Forward c next) h = ((h.0.1.0.1, h.0.0), h.1.1)
+message_fits form (messages.Put c x es) h = ((h.0.1.0.1, h.0.0), var_fits x h.1.0, bundle_fits form es h.1.1)
+message_fits form (messages.PortSend q t asking) h = (h.1.0.0.1, h.1.1.0.0.1, h.1.1.1.1)
+message_fits form (messages.PortEnd t old new es) h = (h.1.0.0.1, var_fits old h.1.1.0, var_fits new h.1.1.1.0, bundle_fits form es h.1.1.1.1)
+message_fits form (messages.CellMake c x es) h = (h.1.0.0.0.1, h.1.0.1.1, var_fits x h.1.1.0, bundle_fits form es h.1.1.1)
+message_fits form (messages.CellAsk c t asking new es) h = (h.1.0.0.0.1, h.1.0.1.1, h.1.1.0.0.1, h.1.1.1.0.1, var_fits new h.1.1.1.1.0, bundle_fits form es h.1.1.1.1.1)
+message_fits form (messages.CellOld t x es) h = (h.1.0.0.1, var_fits x h.1.1.0, bundle_fits form es h.1.1.1)

@@ -1,11 +1,12 @@
 -- Each field of the format is read by the function of its name.
-use Rattle.std.proofs.Common.{◌≡◌, ℕ, ◌+◌, Bool, true, false, cond, eqb, ltb, List, [], ◌∷◌, ◌++◌, length, Ok, Err, refl, sym, ap, ◌∙◌, arith, ◌⊎◌, inl, inr}
+use Rattle.std.proofs.Common.{◌≡◌, ℕ, zero, suc, ◌+◌, ◌<◌, Bool, true, false, cond, eqb, ltb, List, [], ◌∷◌, ◌++◌, length, Ok, Err, refl, sym, ap, ◌∙◌, arith, subst, ◌⊎◌, inl, inr}
 use Rattle.std.specs.Int.{w8, w16, w32, w64}
 use Rattle.std.specs.Ordering.{is_lt}
 use Rattle.std.specs.declared.cmp.Ordering.TheVariants.{Less, Equal, Greater}
 use Rattle.std.proofs.lemmas.Bool.{ltb-true, eqb-true, eq-eqb, ne_eqb, lt-ltb, true≢false, false≢true}
 use Rattle.tree_node.specs.declared.names.VarName.{VarName}
 use Rattle.tree_node.specs.declared.names.CellName.{CellName}
+use Rattle.tree_node.specs.declared.names.PortName.{PortName}
 use Rattle.tree_node.specs.declared.names.ProcName.{ProcName}
 use Rattle.tree_node.specs.declared.names.ThreadName.{ThreadName}
 use Rattle.tree_node.specs.declared.names.CodeId.{CodeId}
@@ -18,15 +19,16 @@ use Rattle.tree_node.specs.Node.{feature_cmp}
 use Rattle.tree_node.specs.Order.{IsBelow}
 use Rattle.tree_node.specs.Store.{Equation}
 use Rattle.wire_form.specs.declared.form.Form.{Form}
+use Rattle.wire_form.specs.declared.form.Form.TheVariants as forms
 use Rattle.wire_form.specs.declared.fault.WireFault.{WireFault}
 use Rattle.wire_form.specs.declared.fault.WireFault.TheVariants.{Short, Kind, Range, Order}
-use Rattle.wire_form.specs.Field.{restriction, number, IsAbove, ◌then◌}
-use Rattle.wire_form.specs.Format.{site, name, var_name, cell_name, proc_name, thread_name, code, integer, text, feature, record_field, IsFeatureBelow, field_behind, record_fields, variables, formals, tree, procedure, term, equation, equation_behind, bundle, within}
-use Rattle.wire_form.specs.Reading.{Left, ◌and◌, map_at, filter_at, number_at, byte_within_at, name_at, var_name_at, cell_name_at, proc_name_at, thread_name_at, code_at, integer_at, text_at, key_at, feature_at, is_above, feature_below, name_below, field_at, fields_at, variables_at, record_at, procedure_at, node_at, term_at, equation_at, bundle_at, is_within}
+use Rattle.wire_form.specs.Field.{restriction, number, nothing, IsAbove, ◌then◌}
+use Rattle.wire_form.specs.Format.{site, name, var_name, cell_name, stationary_name, port_name, HasCell, cell_spelling, LaterTermFault, IsTwo, proc_name, thread_name, code, integer, text, feature, record_field, IsFeatureBelow, field_behind, record_fields, variables, formals, tree, procedure, term, equation, equation_behind, bundle, within}
+use Rattle.wire_form.specs.Reading.{Left, ◌and◌, nothing_at, map_at, filter_at, number_at, byte_within_at, name_at, var_name_at, cell_name_at, stationary_name_at, port_name_at, proc_name_at, thread_name_at, code_at, integer_at, text_at, key_at, feature_at, is_above, feature_below, name_below, field_at, fields_at, variables_at, record_at, procedure_at, later_node_at, node_at, term_at, equation_at, bundle_at, is_within}
 use Rattle.wire_form.proofs.FieldLaws.{IsBytes, Takes, IsRead, failed, err_is, no_ok, and_read, made_read, tested_read}
-use Rattle.wire_form.proofs.BaseLaws.{IsBytes-rest, number_read, wide16, wide32, wide64, within_read, byte_within_read, integer_read, text_read}
+use Rattle.wire_form.proofs.BaseLaws.{IsBytes-rest, nothing_read, number_read, wide16, wide32, wide64, within_read, byte_within_read, integer_read, text_read}
 use Rattle.wire_form.proofs.ListLaws.{listed_read}
-use Rattle.wire_form.proofs.ChoiceLaws.{IsBehind, is_behind, again_behind, takes_step, fails_step, passes}
+use Rattle.wire_form.proofs.ChoiceLaws.{IsBehind, is_behind, is_behind_where, again_behind, takes_step, fails_step, passes}
 
 -- ---- names and codes
 
@@ -40,7 +42,19 @@ var_name_read = made_read {X = VarName} {Y = ℕ × ℕ} name name_at (λ p. rec
 
 pub cell_name_read : IsRead cell_name cell_name_at
 unfolding cell_name_at
-cell_name_read = made_read {X = CellName} {Y = ℕ × ℕ} name name_at (λ p. record { site = p.0; num = p.1 }) (λ x. (x.site, x.num)) (λ y. refl) (λ x. refl) name_read
+cell_name_read =
+    made_read {X = CellName} {Y = ℕ × (ℕ × ℕ)} (nothing then name) (nothing_at and name_at) (λ p. record { site = p.1.0; at = p.0; num = p.1.1 }) (λ x. (x.at, (x.site, x.num))) (λ y. refl) (λ x. refl)
+    (and_read nothing name nothing_at name_at nothing_read name_read)
+
+pub stationary_name_read : IsRead stationary_name stationary_name_at
+unfolding stationary_name_at
+stationary_name_read =
+    made_read {X = CellName} {Y = (ℕ × ℕ) × ℕ} (name then site) (name_at and byte_within_at 1 64) (λ p. record { site = p.0.0; at = p.1; num = p.0.1 }) (λ x. ((x.site, x.num), x.at)) (λ y. refl) (λ x. refl)
+    (and_read name site name_at (byte_within_at 1 64) name_read (byte_within_read 1 64))
+
+pub port_name_read : IsRead port_name port_name_at
+unfolding port_name_at
+port_name_read = made_read {X = PortName} {Y = ℕ × ℕ} name name_at (λ p. record { site = p.0; num = p.1 }) (λ x. (x.site, x.num)) (λ y. refl) (λ x. refl) name_read
 
 pub proc_name_read : IsRead proc_name proc_name_at
 unfolding proc_name_at
@@ -180,7 +194,66 @@ procedure_behind form =
     is_behind (term form) 4 procedure (proc_name_at and code_at and byte_within_at 0 64 and variables_at) (λ p. terms.Node (nodes.Proc p.0 p.1.0 p.1.1.0 p.1.1.1)) (λ y h. h) (λ y. refl) procedure_read
 
 cell_behind : (form : Form) → IsBehind (term form) 5 (map_at (λ c. terms.Node (nodes.Cell c)) cell_name_at) cell_name.Fault
-cell_behind form = is_behind (term form) 5 cell_name cell_name_at (λ c. terms.Node (nodes.Cell c)) (λ y h. h) (λ y. refl) cell_name_read
+cell_behind form =
+    is_behind_where (term form) 5 cell_name cell_name_at (λ c. terms.Node (nodes.Cell c)) (λ c h. subst (λ (n : ℕ). HasCell form c n) (sym h.0) h) (λ c h. ap (λ (n : ℕ). cell_spelling c n) h.0) cell_name_read
+
+-- what form 2 has besides
+
+port_behind : IsBehind (term forms.Two) 6 (map_at (λ q. terms.Node (nodes.Port q)) port_name_at) port_name.Fault
+port_behind = is_behind (term forms.Two) 6 port_name port_name_at (λ q. terms.Node (nodes.Port q)) (λ q h. (tt, h)) (λ q. refl) port_name_read
+
+stationary_has : (c : CellName) (n : ℕ) → c.at ≡ n → stationary_name.Has c → HasCell forms.Two c n
+stationary_has c zero e h = let low = h.1.1.0 in absurd (omega (arith, e, low))
+stationary_has c (suc k) e h = (tt, h)
+
+stationary_spelled : (c : CellName) (n : ℕ) → c.at ≡ n → stationary_name.Has c → cell_spelling c n ≡ 7 ∷ stationary_name.spelling c
+stationary_spelled c zero e h = let low = h.1.1.0 in absurd (omega (arith, e, low))
+stationary_spelled c (suc k) e h = refl
+
+stationary_behind : IsBehind (term forms.Two) 7 (map_at (λ c. terms.Node (nodes.Cell c)) stationary_name_at) stationary_name.Fault
+stationary_behind =
+    is_behind_where (term forms.Two) 7 stationary_name stationary_name_at (λ c. terms.Node (nodes.Cell c)) (λ c h. stationary_has c c.at refl h) (λ c h. stationary_spelled c c.at refl h) stationary_name_read
+
+later_takes : (form : Form) (tag at : ℕ) (bytes : List ℕ) (x : Term) (m : Left) → IsBytes bytes → later_node_at form at tag (at + 1, bytes) ≡ Ok (x, m) → Takes (term form) at (tag ∷ bytes) x m
+unfolding later_node_at
+later_takes forms.One tag at bytes x m fits e = absurd (no_ok (x, m) (Kind at) e)
+later_takes forms.Two tag at bytes x m fits e =
+    takes_step (term forms.Two) tag 6 _ _ port_behind _ at bytes x m fits
+    (takes_step (term forms.Two) tag 7 _ _ stationary_behind _ at bytes x m fits (λ d. absurd (no_ok (x, m) (Kind at) d)))
+    e
+
+later_fails : (form : Form) (tag at : ℕ) (bytes : List ℕ) (f : WireFault) → IsBytes bytes → 5 < tag → later_node_at form at tag (at + 1, bytes) ≡ Err f → LaterTermFault form at tag bytes f
+unfolding later_node_at
+later_fails forms.One tag at bytes f fits high e = (high, sym (err_is {A = Term × Left} (Kind at) f e))
+later_fails forms.Two tag at bytes f fits high e =
+    fails_step (term forms.Two) tag 6 _ _ port_behind _ _ at bytes f fits
+    (λ n6. fails_step (term forms.Two) tag 7 _ _ stationary_behind _ _ at bytes f fits (λ n7 d. (omega (arith, high, n6, n7), sym (err_is {A = Term × Left} (Kind at) f d))))
+    e
+
+later_high : (form : Form) (tag at : ℕ) (bytes : List ℕ) (f : WireFault) → LaterTermFault form at tag bytes f → 5 < tag
+later_high forms.One tag at bytes f h = h.0
+later_high forms.Two tag at bytes f (inl h) = omega (arith, h.0)
+later_high forms.Two tag at bytes f (inr (inl h)) = omega (arith, h.0)
+later_high forms.Two tag at bytes f (inr (inr h)) = omega (arith, h.0)
+
+later_failing : (form : Form) (tag at : ℕ) (bytes : List ℕ) (f : WireFault) → LaterTermFault form at tag bytes f → later_node_at form at tag (at + 1, bytes) ≡ Err f
+unfolding later_node_at
+later_failing forms.One tag at bytes f h = ap (λ (g : WireFault). failed g) (sym h.1)
+later_failing forms.Two tag at bytes f (inl h) = ap (λ (t : ℕ). later_node_at forms.Two at t (at + 1, bytes)) h.0 ∙ port_behind.failing at bytes f h.1
+later_failing forms.Two tag at bytes f (inr (inl h)) = ap (λ (t : ℕ). later_node_at forms.Two at t (at + 1, bytes)) h.0 ∙ stationary_behind.failing at bytes f h.1
+later_failing forms.Two tag at bytes f (inr (inr h)) =
+    passes tag 6 _ _ _ (λ e. omega (arith, e, h.0)) (passes tag 7 _ _ _ (λ e. omega (arith, e, h.0)) (ap (λ (g : WireFault). failed g) (sym h.1)))
+
+cell_again : (form : Form) (at : ℕ) (c : CellName) (n : ℕ) (rest : List ℕ) → HasCell form c n → term_at form (at, cell_spelling c n ++ rest) ≡ Ok (terms.Node (nodes.Cell c), (at + length (cell_spelling c n), rest))
+unfolding term_at node_at later_node_at
+cell_again form at c zero rest h = again_behind cell_name cell_name_at (λ c. terms.Node (nodes.Cell c)) 5 at c rest cell_name_read h
+cell_again forms.One at c (suc k) rest h = absurd h.0
+cell_again forms.Two at c (suc k) rest h = again_behind stationary_name stationary_name_at (λ c. terms.Node (nodes.Cell c)) 7 at c rest stationary_name_read h.1
+
+port_again : (form : Form) (at : ℕ) (q : PortName) (rest : List ℕ) → IsTwo form × port_name.Has q → term_at form (at, 6 ∷ port_name.spelling q ++ rest) ≡ Ok (terms.Node (nodes.Port q), (at + length (6 ∷ port_name.spelling q), rest))
+unfolding term_at node_at later_node_at
+port_again forms.One at q rest h = absurd h.0
+port_again forms.Two at q rest h = again_behind port_name port_name_at (λ q. terms.Node (nodes.Port q)) 6 at q rest port_name_read h.1
 
 pub term_read : (form : Form) → IsRead (term form) (term_at form)
 unfolding term_at node_at record_at procedure_at
@@ -195,7 +268,7 @@ term_read form = record { takes = takes; again = again; fails = fails; failing =
         (takes_step (term form) tag 2 _ _ (text_behind form) _ at bytes x m small
         (takes_step (term form) tag 3 _ _ (record_behind form) _ at bytes x m small
         (takes_step (term form) tag 4 _ _ (procedure_behind form) _ at bytes x m small
-        (takes_step (term form) tag 5 _ _ (cell_behind form) _ at bytes x m small (λ d. absurd (no_ok (x, m) (Kind at) d)))))))
+        (takes_step (term form) tag 5 _ _ (cell_behind form) _ at bytes x m small (λ d. later_takes form tag at bytes x m small d))))))
         e
 
     again : (at : ℕ) (x : Term) (rest : List ℕ) → (term form).Has x → term_at form (at, (term form).spelling x ++ rest) ≡ Ok (x, (at + length ((term form).spelling x), rest))
@@ -206,7 +279,8 @@ term_read form = record { takes = takes; again = again; fails = fails; failing =
         again_behind (tree form) (text_at and fields_at form) (λ p. terms.Node (nodes.Rec p.0 p.1)) 3 at (label, fields) rest (tree_read form) has
     again at (terms.Node (nodes.Proc p c n vars)) rest has =
         again_behind procedure (proc_name_at and code_at and byte_within_at 0 64 and variables_at) (λ p. terms.Node (nodes.Proc p.0 p.1.0 p.1.1.0 p.1.1.1)) 4 at (p, (c, (n, vars))) rest procedure_read has
-    again at (terms.Node (nodes.Cell c)) rest has = again_behind cell_name cell_name_at (λ c. terms.Node (nodes.Cell c)) 5 at c rest cell_name_read has
+    again at (terms.Node (nodes.Cell c)) rest has = cell_again form at c c.at rest has
+    again at (terms.Node (nodes.Port q)) rest has = port_again form at q rest has
 
     fails : (at : ℕ) (bytes : List ℕ) (f : WireFault) → IsBytes bytes → term_at form (at, bytes) ≡ Err f → (term form).Fault at bytes f
     fails at [] f fits e = sym (err_is {A = Term × Left} (Short at) f e)
@@ -218,7 +292,7 @@ term_read form = record { takes = takes; again = again; fails = fails; failing =
         (λ n2. fails_step (term form) tag 3 _ _ (record_behind form) _ _ at bytes f small
         (λ n3. fails_step (term form) tag 4 _ _ (procedure_behind form) _ _ at bytes f small
         (λ n4. fails_step (term form) tag 5 _ _ (cell_behind form) _ _ at bytes f small
-        (λ n5 d. (omega (arith, n0, n1, n2, n3, n4, n5), sym (err_is {A = Term × Left} (Kind at) f d))))))))
+        (λ n5 d. later_fails form tag at bytes f small (omega (arith, n0, n1, n2, n3, n4, n5)) d))))))
         e
 
     failing : (at : ℕ) (bytes : List ℕ) (f : WireFault) → (term form).Fault at bytes f → term_at form (at, bytes) ≡ Err f
@@ -230,12 +304,13 @@ term_read form = record { takes = takes; again = again; fails = fails; failing =
     failing at (tag ∷ bytes) f (inr (inr (inr (inr (inl h))))) = ap (λ (t : ℕ). node_at form at t (at + 1, bytes)) h.0 ∙ (procedure_behind form).failing at bytes f h.1
     failing at (tag ∷ bytes) f (inr (inr (inr (inr (inr (inl h)))))) = ap (λ (t : ℕ). node_at form at t (at + 1, bytes)) h.0 ∙ (cell_behind form).failing at bytes f h.1
     failing at (tag ∷ bytes) f (inr (inr (inr (inr (inr (inr h)))))) =
-        passes tag 0 _ _ _ (λ e. omega (arith, e, h.0))
-        (passes tag 1 _ _ _ (λ e. omega (arith, e, h.0))
-        (passes tag 2 _ _ _ (λ e. omega (arith, e, h.0))
-        (passes tag 3 _ _ _ (λ e. omega (arith, e, h.0))
-        (passes tag 4 _ _ _ (λ e. omega (arith, e, h.0))
-        (passes tag 5 _ _ _ (λ e. omega (arith, e, h.0)) (ap (λ (g : WireFault). failed g) (sym h.1)))))))
+        let high = later_high form tag at bytes f h in
+        passes tag 0 _ _ _ (λ e. omega (arith, e, high))
+        (passes tag 1 _ _ _ (λ e. omega (arith, e, high))
+        (passes tag 2 _ _ _ (λ e. omega (arith, e, high))
+        (passes tag 3 _ _ _ (λ e. omega (arith, e, high))
+        (passes tag 4 _ _ _ (λ e. omega (arith, e, high))
+        (passes tag 5 _ _ _ (λ e. omega (arith, e, high)) (later_failing form tag at bytes f h))))))
 
 -- ---- bundles
 

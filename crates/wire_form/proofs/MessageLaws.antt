@@ -1,5 +1,5 @@
 -- Messages are read in each form, and in the form that the first byte tells.
-use Rattle.std.proofs.Common.{◌≡◌, ℕ, ◌+◌, ◌-◌, ◌<◌, ◌≤◌, Bool, true, false, cond, eqb, List, [], ◌∷◌, ◌++◌, length, Ok, Err, refl, sym, ap, subst, ◌∙◌, arith, ◌⊎◌, inl, inr, lit<}
+use Rattle.std.proofs.Common.{◌≡◌, ℕ, ◌+◌, ◌-◌, ◌<◌, ◌≤◌, Bool, true, false, cond, eqb, List, [], ◌∷◌, ◌++◌, length, Ok, Err, refl, sym, ap, subst, ◌∙◌, arith, ◌⊎◌, inl, inr, lit<, lit≤}
 use Rattle.std.proofs.lemmas.Bool.{cases_lt, eqb-true, eqb-false, lt-ltb, le-ltb}
 use Rattle.site_message.specs.declared.message.Msg.{Msg}
 use Rattle.site_message.specs.declared.message.Msg.TheVariants as messages
@@ -8,12 +8,13 @@ use Rattle.wire_form.specs.declared.form.Form.TheVariants as forms
 use Rattle.wire_form.specs.declared.fault.WireFault.{WireFault}
 use Rattle.wire_form.specs.declared.fault.WireFault.TheVariants.{Short, Kind}
 use Rattle.wire_form.specs.Field.{Faults, ◌then◌}
-use Rattle.wire_form.specs.Format.{lead, IsWithin, IsKind, site, var_name, cell_name, thread_name, code, variables, term, bundle, spawn, register, bind_request, binding, get_or_forward, put, message, spelling, wire}
-use Rattle.wire_form.specs.Reading.{Left, Read, ◌>>=◌, ◌and◌, byte_at, byte_within_at, var_name_at, cell_name_at, thread_name_at, code_at, variables_at, term_at, bundle_at, spawn_at, register_at, bind_request_at, binding_at, get_at, forward_at, put_at, body_at, form_of, message_at}
+use Rattle.site_message.specs.Wire.{IsRequestOrAnswer}
+use Rattle.wire_form.specs.Format.{lead, IsTwo, IsWithin, IsKind, LaterFault, site, var_name, cell_name, stationary_name, port_name, port_send, port_end, cell_make, cell_ask, cell_old, thread_name, code, variables, term, bundle, spawn, register, bind_request, binding, get_or_forward, put, message, spelling, wire}
+use Rattle.wire_form.specs.Reading.{Left, Read, ◌>>=◌, ◌and◌, byte_at, byte_within_at, var_name_at, cell_name_at, stationary_name_at, port_name_at, port_send_at, port_end_at, cell_make_at, cell_ask_at, cell_old_at, later_body_at, thread_name_at, code_at, variables_at, term_at, bundle_at, spawn_at, register_at, bind_request_at, binding_at, get_at, forward_at, put_at, body_at, form_of, message_at}
 use Rattle.wire_form.proofs.FieldLaws.{IsBytes, Takes, IsRead, failed, err_is, no_ok, and_read}
 use Rattle.wire_form.proofs.BaseLaws.{IsBytes-rest, byte_within_read}
 use Rattle.wire_form.proofs.ChoiceLaws.{IsBehind, is_behind, again_behind, takes_if, fails_if, passes}
-use Rattle.wire_form.proofs.FormatLaws.{var_name_read, cell_name_read, thread_name_read, code_read, variables_read, term_read, bundle_read}
+use Rattle.wire_form.proofs.FormatLaws.{var_name_read, cell_name_read, stationary_name_read, port_name_read, thread_name_read, code_read, variables_read, term_read, bundle_read}
 
 spawn_read : (form : Form) → IsRead (spawn form) (thread_name_at and code_at and variables_at and bundle_at form)
 spawn_read form =
@@ -42,6 +43,31 @@ put_read : (form : Form) → IsRead (put form) (cell_name_at and var_name_at and
 put_read form =
     and_read cell_name (var_name then bundle form) cell_name_at (var_name_at and bundle_at form) cell_name_read
     (and_read var_name (bundle form) var_name_at (bundle_at form) var_name_read (bundle_read form))
+
+name_and_bundle_read : (form : Form) → IsRead (var_name then bundle form) (var_name_at and bundle_at form)
+name_and_bundle_read form = and_read var_name (bundle form) var_name_at (bundle_at form) var_name_read (bundle_read form)
+
+port_send_read : IsRead port_send (port_name_at and thread_name_at and byte_within_at 1 64)
+port_send_read =
+    and_read port_name (thread_name then site) port_name_at (thread_name_at and byte_within_at 1 64) port_name_read
+    (and_read thread_name site thread_name_at (byte_within_at 1 64) thread_name_read (byte_within_read 1 64))
+
+port_end_read : (form : Form) → IsRead (port_end form) (thread_name_at and var_name_at and var_name_at and bundle_at form)
+port_end_read form =
+    and_read thread_name (var_name then var_name then bundle form) thread_name_at (var_name_at and var_name_at and bundle_at form) thread_name_read
+    (and_read var_name (var_name then bundle form) var_name_at (var_name_at and bundle_at form) var_name_read (name_and_bundle_read form))
+
+cell_make_read : (form : Form) → IsRead (cell_make form) (stationary_name_at and var_name_at and bundle_at form)
+cell_make_read form = and_read stationary_name (var_name then bundle form) stationary_name_at (var_name_at and bundle_at form) stationary_name_read (name_and_bundle_read form)
+
+cell_ask_read : (form : Form) → IsRead (cell_ask form) (stationary_name_at and thread_name_at and byte_within_at 1 64 and var_name_at and bundle_at form)
+cell_ask_read form =
+    and_read stationary_name (thread_name then site then var_name then bundle form) stationary_name_at (thread_name_at and byte_within_at 1 64 and var_name_at and bundle_at form) stationary_name_read
+    (and_read thread_name (site then var_name then bundle form) thread_name_at (byte_within_at 1 64 and var_name_at and bundle_at form) thread_name_read
+    (and_read site (var_name then bundle form) (byte_within_at 1 64) (var_name_at and bundle_at form) (byte_within_read 1 64) (name_and_bundle_read form)))
+
+cell_old_read : (form : Form) → IsRead (cell_old form) (thread_name_at and var_name_at and bundle_at form)
+cell_old_read form = and_read thread_name (var_name then bundle form) thread_name_at (var_name_at and bundle_at form) thread_name_read (name_and_bundle_read form)
 
 spawn_behind : (form : Form) → IsBehind (message form) (lead form + 1) (spawn_at form) (spawn form).Fault
 unfolding spawn_at
@@ -75,6 +101,30 @@ put_behind : (form : Form) → IsBehind (message form) (lead form + 7) (put_at f
 unfolding put_at
 put_behind form = is_behind (message form) (lead form + 7) (put form) (cell_name_at and var_name_at and bundle_at form) (λ p. messages.Put p.0 p.1.0 p.1.1) (λ y h. h) (λ y. refl) (put_read form)
 
+port_send_behind : IsBehind (message forms.Two) (lead forms.Two + 8) port_send_at port_send.Fault
+unfolding port_send_at
+port_send_behind = is_behind (message forms.Two) (lead forms.Two + 8) port_send (port_name_at and thread_name_at and byte_within_at 1 64) (λ p. messages.PortSend p.0 p.1.0 p.1.1) (λ y h. (tt, h)) (λ y. refl) port_send_read
+
+port_end_behind : IsBehind (message forms.Two) (lead forms.Two + 9) (port_end_at forms.Two) (port_end forms.Two).Fault
+unfolding port_end_at
+port_end_behind =
+    is_behind (message forms.Two) (lead forms.Two + 9) (port_end forms.Two) (thread_name_at and var_name_at and var_name_at and bundle_at forms.Two) (λ p. messages.PortEnd p.0 p.1.0 p.1.1.0 p.1.1.1) (λ y h. (tt, h)) (λ y. refl) (port_end_read forms.Two)
+
+cell_make_behind : IsBehind (message forms.Two) (lead forms.Two + 10) (cell_make_at forms.Two) (cell_make forms.Two).Fault
+unfolding cell_make_at
+cell_make_behind =
+    is_behind (message forms.Two) (lead forms.Two + 10) (cell_make forms.Two) (stationary_name_at and var_name_at and bundle_at forms.Two) (λ p. messages.CellMake p.0 p.1.0 p.1.1) (λ y h. (tt, h)) (λ y. refl) (cell_make_read forms.Two)
+
+cell_ask_behind : IsBehind (message forms.Two) (lead forms.Two + 11) (cell_ask_at forms.Two) (cell_ask forms.Two).Fault
+unfolding cell_ask_at
+cell_ask_behind =
+    is_behind (message forms.Two) (lead forms.Two + 11) (cell_ask forms.Two) (stationary_name_at and thread_name_at and byte_within_at 1 64 and var_name_at and bundle_at forms.Two)
+    (λ p. messages.CellAsk p.0 p.1.0 p.1.1.0 p.1.1.1.0 p.1.1.1.1) (λ y h. (tt, h)) (λ y. refl) (cell_ask_read forms.Two)
+
+cell_old_behind : IsBehind (message forms.Two) (lead forms.Two + 12) (cell_old_at forms.Two) (cell_old forms.Two).Fault
+unfolding cell_old_at
+cell_old_behind = is_behind (message forms.Two) (lead forms.Two + 12) (cell_old forms.Two) (thread_name_at and var_name_at and bundle_at forms.Two) (λ p. messages.CellOld p.0 p.1.0 p.1.1) (λ y h. (tt, h)) (λ y. refl) (cell_old_read forms.Two)
+
 -- ---- messages of one form
 
 -- a message of this form
@@ -107,6 +157,84 @@ fails_kind form first k R Fault some here other Others at bytes f fits go e =
 kind_at : (form : Form) (at first k : ℕ) (bytes : List ℕ) → first ≡ lead form + k → body_at form at (first - lead form) (at + 1, bytes) ≡ body_at form at k (at + 1, bytes)
 kind_at form at first k bytes h = ap (λ (n : ℕ). body_at form at n (at + 1, bytes)) (omega (arith, h))
 
+-- ---- kinds that form 2 alone has
+
+later_takes : (form : Form) (first at : ℕ) (bytes : List ℕ) (x : Msg) (m : Left) → IsBytes bytes → later_body_at form at (first - lead form) (at + 1, bytes) ≡ Ok (x, m) → Takes (message form) at (first ∷ bytes) x m
+unfolding later_body_at
+later_takes forms.One first at bytes x m fits e = absurd (no_ok (x, m) (Kind at) e)
+later_takes forms.Two first at bytes x m fits e =
+    takes_kind forms.Two first 8 _ _ (lit< tt) port_send_behind _ at bytes x m fits
+    (takes_kind forms.Two first 9 _ _ (lit< tt) port_end_behind _ at bytes x m fits
+    (takes_kind forms.Two first 10 _ _ (lit< tt) cell_make_behind _ at bytes x m fits
+    (takes_kind forms.Two first 11 _ _ (lit< tt) cell_ask_behind _ at bytes x m fits
+    (takes_kind forms.Two first 12 _ _ (lit< tt) cell_old_behind _ at bytes x m fits (λ d. absurd (no_ok (x, m) (Kind at) d))))))
+    e
+
+later_fails : (form : Form) (first at : ℕ) (bytes : List ℕ) (f : WireFault) → IsBytes bytes → (IsWithin (lead form + 1) (lead form + 7) first → ⊥) → later_body_at form at (first - lead form) (at + 1, bytes) ≡ Err f → LaterFault form at first bytes f
+unfolding later_body_at
+later_fails forms.One first at bytes f fits none e = (none, sym (err_is {A = Msg × Left} (Kind at) f e))
+later_fails forms.Two first at bytes f fits none e =
+    fails_kind forms.Two first 8 _ _ (lit< tt) port_send_behind _ _ at bytes f fits
+    (λ n8. fails_kind forms.Two first 9 _ _ (lit< tt) port_end_behind _ _ at bytes f fits
+    (λ n9. fails_kind forms.Two first 10 _ _ (lit< tt) cell_make_behind _ _ at bytes f fits
+    (λ n10. fails_kind forms.Two first 11 _ _ (lit< tt) cell_ask_behind _ _ at bytes f fits
+    (λ n11. fails_kind forms.Two first 12 _ _ (lit< tt) cell_old_behind _ _ at bytes f fits
+    (λ n12 d. (λ k. none (k.0, omega (arith, n8, n9, n10, n11, n12, k.1)), sym (err_is {A = Msg × Left} (Kind at) f d)))))))
+    e
+
+later_other : (form : Form) (first at : ℕ) (bytes : List ℕ) (f : WireFault) → LaterFault form at first bytes f → (k : ℕ) → 0 < k → k ≤ 7 → first ≡ lead form + k → ⊥
+later_other forms.One first at bytes f h k some few e = h.0 (omega (arith, e, some), omega (arith, e, few))
+later_other forms.Two first at bytes f (inl h) k some few e = omega (arith, h.0, few, e)
+later_other forms.Two first at bytes f (inr (inl h)) k some few e = omega (arith, h.0, few, e)
+later_other forms.Two first at bytes f (inr (inr (inl h))) k some few e = omega (arith, h.0, few, e)
+later_other forms.Two first at bytes f (inr (inr (inr (inl h)))) k some few e = omega (arith, h.0, few, e)
+later_other forms.Two first at bytes f (inr (inr (inr (inr (inl h))))) k some few e = omega (arith, h.0, few, e)
+later_other forms.Two first at bytes f (inr (inr (inr (inr (inr h))))) k some few e = h.0 (omega (arith, e, some), omega (arith, e, few))
+
+-- what is read behind such a kind
+later_at : (at first k : ℕ) (bytes : List ℕ) → first ≡ lead forms.Two + k → later_body_at forms.Two at (first - lead forms.Two) (at + 1, bytes) ≡ later_body_at forms.Two at k (at + 1, bytes)
+later_at at first k bytes h = ap (λ (n : ℕ). later_body_at forms.Two at n (at + 1, bytes)) (omega (arith, h))
+
+later_failing : (form : Form) (first at : ℕ) (bytes : List ℕ) (f : WireFault) → LaterFault form at first bytes f → later_body_at form at (first - lead form) (at + 1, bytes) ≡ Err f
+unfolding later_body_at
+later_failing forms.One first at bytes f h = ap (λ (g : WireFault). failed g) (sym h.1)
+later_failing forms.Two first at bytes f (inl h) = later_at at first 8 bytes h.0 ∙ port_send_behind.failing at bytes f h.1
+later_failing forms.Two first at bytes f (inr (inl h)) = later_at at first 9 bytes h.0 ∙ port_end_behind.failing at bytes f h.1
+later_failing forms.Two first at bytes f (inr (inr (inl h))) = later_at at first 10 bytes h.0 ∙ cell_make_behind.failing at bytes f h.1
+later_failing forms.Two first at bytes f (inr (inr (inr (inl h)))) = later_at at first 11 bytes h.0 ∙ cell_ask_behind.failing at bytes f h.1
+later_failing forms.Two first at bytes f (inr (inr (inr (inr (inl h))))) = later_at at first 12 bytes h.0 ∙ cell_old_behind.failing at bytes f h.1
+later_failing forms.Two first at bytes f (inr (inr (inr (inr (inr h))))) =
+    passes (first - lead forms.Two) 8 _ _ _ (λ e. h.0 (omega (arith, e), omega (arith, e)))
+    (passes (first - lead forms.Two) 9 _ _ _ (λ e. h.0 (omega (arith, e), omega (arith, e)))
+    (passes (first - lead forms.Two) 10 _ _ _ (λ e. h.0 (omega (arith, e), omega (arith, e)))
+    (passes (first - lead forms.Two) 11 _ _ _ (λ e. h.0 (omega (arith, e), omega (arith, e)))
+    (passes (first - lead forms.Two) 12 _ _ _ (λ e. h.0 (omega (arith, e), omega (arith, e))) (ap (λ (g : WireFault). failed g) (sym h.1))))))
+
+later_again : (form : Form) (at : ℕ) (x : Msg) (rest : List ℕ) → (message form).Has x → IsRequestOrAnswer x → message_in form (at, (message form).spelling x ++ rest) ≡ Ok (x, (at + length ((message form).spelling x), rest))
+unfolding message_in body_at later_body_at port_send_at port_end_at cell_make_at cell_ask_at cell_old_at
+later_again forms.Two at (messages.PortSend q t asking) rest has later =
+    kind_at forms.Two at (lead forms.Two + 8) 8 (port_send.spelling (q, (t, asking)) ++ rest) refl ∙ again_behind port_send (port_name_at and thread_name_at and byte_within_at 1 64) (λ p. messages.PortSend p.0 p.1.0 p.1.1) (lead forms.Two + 8) at (q, (t, asking)) rest port_send_read has.1
+later_again forms.Two at (messages.PortEnd t old new es) rest has later =
+    kind_at forms.Two at (lead forms.Two + 9) 9 ((port_end forms.Two).spelling (t, (old, (new, es))) ++ rest) refl ∙ again_behind (port_end forms.Two) (thread_name_at and var_name_at and var_name_at and bundle_at forms.Two) (λ p. messages.PortEnd p.0 p.1.0 p.1.1.0 p.1.1.1) (lead forms.Two + 9) at (t, (old, (new, es))) rest (port_end_read forms.Two) has.1
+later_again forms.Two at (messages.CellMake c x es) rest has later =
+    kind_at forms.Two at (lead forms.Two + 10) 10 ((cell_make forms.Two).spelling (c, (x, es)) ++ rest) refl ∙ again_behind (cell_make forms.Two) (stationary_name_at and var_name_at and bundle_at forms.Two) (λ p. messages.CellMake p.0 p.1.0 p.1.1) (lead forms.Two + 10) at (c, (x, es)) rest (cell_make_read forms.Two) has.1
+later_again forms.Two at (messages.CellAsk c t asking new es) rest has later =
+    kind_at forms.Two at (lead forms.Two + 11) 11 ((cell_ask forms.Two).spelling (c, (t, (asking, (new, es)))) ++ rest) refl ∙ again_behind (cell_ask forms.Two) (stationary_name_at and thread_name_at and byte_within_at 1 64 and var_name_at and bundle_at forms.Two) (λ p. messages.CellAsk p.0 p.1.0 p.1.1.0 p.1.1.1.0 p.1.1.1.1) (lead forms.Two + 11) at (c, (t, (asking, (new, es)))) rest (cell_ask_read forms.Two) has.1
+later_again forms.Two at (messages.CellOld t x es) rest has later =
+    kind_at forms.Two at (lead forms.Two + 12) 12 ((cell_old forms.Two).spelling (t, (x, es)) ++ rest) refl ∙ again_behind (cell_old forms.Two) (thread_name_at and var_name_at and bundle_at forms.Two) (λ p. messages.CellOld p.0 p.1.0 p.1.1) (lead forms.Two + 12) at (t, (x, es)) rest (cell_old_read forms.Two) has.1
+later_again forms.One at (messages.PortSend q t asking) rest has later = absurd has.0
+later_again forms.One at (messages.PortEnd t old new es) rest has later = absurd has.0
+later_again forms.One at (messages.CellMake c x es) rest has later = absurd has.0
+later_again forms.One at (messages.CellAsk c t asking new es) rest has later = absurd has.0
+later_again forms.One at (messages.CellOld t x es) rest has later = absurd has.0
+later_again form at (messages.Spawn t c vars es) rest has later = absurd later
+later_again form at (messages.Register x asking) rest has later = absurd later
+later_again form at (messages.BindReq x t u es) rest has later = absurd later
+later_again form at (messages.Binding x u es) rest has later = absurd later
+later_again form at (messages.Get c asking) rest has later = absurd later
+later_again form at (messages.Forward c next) rest has later = absurd later
+later_again form at (messages.Put c x es) rest has later = absurd later
+
 pub message_read : (form : Form) → IsRead (message form) (message_in form)
 unfolding message_in body_at spawn_at register_at bind_request_at binding_at get_at forward_at put_at
 message_read form = record { takes = takes; again = again; fails = fails; failing = failing }
@@ -121,7 +249,7 @@ message_read form = record { takes = takes; again = again; fails = fails; failin
         (takes_kind form first 4 _ _ (lit< tt) (binding_behind form) _ at bytes x m small
         (takes_kind form first 5 _ _ (lit< tt) (get_behind form) _ at bytes x m small
         (takes_kind form first 6 _ _ (lit< tt) (forward_behind form) _ at bytes x m small
-        (takes_kind form first 7 _ _ (lit< tt) (put_behind form) _ at bytes x m small (λ d. absurd (no_ok (x, m) (Kind at) d))))))))
+        (takes_kind form first 7 _ _ (lit< tt) (put_behind form) _ at bytes x m small (λ d. later_takes form first at bytes x m small d)))))))
         e
 
     again : (at : ℕ) (x : Msg) (rest : List ℕ) → (message form).Has x → message_in form (at, (message form).spelling x ++ rest) ≡ Ok (x, (at + length ((message form).spelling x), rest))
@@ -139,6 +267,11 @@ message_read form = record { takes = takes; again = again; fails = fails; failin
         kind_at form at (lead form + 6) 6 (get_or_forward.spelling (c, next) ++ rest) refl ∙ again_behind get_or_forward (cell_name_at and byte_within_at 1 64) (λ p. messages.Forward p.0 p.1) (lead form + 6) at (c, next) rest get_read has
     again at (messages.Put c x es) rest has =
         kind_at form at (lead form + 7) 7 ((put form).spelling (c, (x, es)) ++ rest) refl ∙ again_behind (put form) (cell_name_at and var_name_at and bundle_at form) (λ p. messages.Put p.0 p.1.0 p.1.1) (lead form + 7) at (c, (x, es)) rest (put_read form) has
+    again at (messages.PortSend q t asking) rest has = later_again form at (messages.PortSend q t asking) rest has tt
+    again at (messages.PortEnd t old new es) rest has = later_again form at (messages.PortEnd t old new es) rest has tt
+    again at (messages.CellMake c x es) rest has = later_again form at (messages.CellMake c x es) rest has tt
+    again at (messages.CellAsk c t asking new es) rest has = later_again form at (messages.CellAsk c t asking new es) rest has tt
+    again at (messages.CellOld t x es) rest has = later_again form at (messages.CellOld t x es) rest has tt
 
     fails : (at : ℕ) (bytes : List ℕ) (f : WireFault) → IsBytes bytes → message_in form (at, bytes) ≡ Err f → (message form).Fault at bytes f
     fails at [] f fits e = sym (err_is {A = Msg × Left} (Short at) f e)
@@ -151,7 +284,7 @@ message_read form = record { takes = takes; again = again; fails = fails; failin
         (λ n4. fails_kind form first 5 _ _ (lit< tt) (get_behind form) _ _ at bytes f small
         (λ n5. fails_kind form first 6 _ _ (lit< tt) (forward_behind form) _ _ at bytes f small
         (λ n6. fails_kind form first 7 _ _ (lit< tt) (put_behind form) _ _ at bytes f small
-        (λ n7 d. (λ k. omega (arith, n1, n2, n3, n4, n5, n6, n7, k.0, k.1), sym (err_is {A = Msg × Left} (Kind at) f d)))))))))
+        (λ n7 d. later_fails form first at bytes f small (λ k. omega (arith, n1, n2, n3, n4, n5, n6, n7, k.0, k.1)) d)))))))
         e
 
     failing : (at : ℕ) (bytes : List ℕ) (f : WireFault) → (message form).Fault at bytes f → message_in form (at, bytes) ≡ Err f
@@ -164,25 +297,41 @@ message_read form = record { takes = takes; again = again; fails = fails; failin
     failing at (first ∷ bytes) f (inr (inr (inr (inr (inr (inl h)))))) = kind_at form at first 6 bytes h.0 ∙ (forward_behind form).failing at bytes f h.1
     failing at (first ∷ bytes) f (inr (inr (inr (inr (inr (inr (inl h))))))) = kind_at form at first 7 bytes h.0 ∙ (put_behind form).failing at bytes f h.1
     failing at (first ∷ bytes) f (inr (inr (inr (inr (inr (inr (inr h))))))) =
-        passes (first - lead form) 1 _ _ _ (λ e. h.0 (omega (arith, e), omega (arith, e)))
-        (passes (first - lead form) 2 _ _ _ (λ e. h.0 (omega (arith, e), omega (arith, e)))
-        (passes (first - lead form) 3 _ _ _ (λ e. h.0 (omega (arith, e), omega (arith, e)))
-        (passes (first - lead form) 4 _ _ _ (λ e. h.0 (omega (arith, e), omega (arith, e)))
-        (passes (first - lead form) 5 _ _ _ (λ e. h.0 (omega (arith, e), omega (arith, e)))
-        (passes (first - lead form) 6 _ _ _ (λ e. h.0 (omega (arith, e), omega (arith, e)))
-        (passes (first - lead form) 7 _ _ _ (λ e. h.0 (omega (arith, e), omega (arith, e))) (ap (λ (g : WireFault). failed g) (sym h.1))))))))
+        let other : (k : ℕ) → 0 < k → k ≤ 7 → first - lead form ≡ k → ⊥ = λ k some few e. later_other form first at bytes f h k some few (omega (arith, e, some)) in
+        passes (first - lead form) 1 _ _ _ (other 1 (lit< tt) (lit≤ tt))
+        (passes (first - lead form) 2 _ _ _ (other 2 (lit< tt) (lit≤ tt))
+        (passes (first - lead form) 3 _ _ _ (other 3 (lit< tt) (lit≤ tt))
+        (passes (first - lead form) 4 _ _ _ (other 4 (lit< tt) (lit≤ tt))
+        (passes (first - lead form) 5 _ _ _ (other 5 (lit< tt) (lit≤ tt))
+        (passes (first - lead form) 6 _ _ _ (other 6 (lit< tt) (lit≤ tt))
+        (passes (first - lead form) 7 _ _ _ (other 7 (lit< tt) (lit≤ tt)) (later_failing form first at bytes f h)))))))
 
 -- ---- messages of either form
 
+-- the first seven kinds are kinds of both forms
+early : (form : Form) (k : ℕ) → 0 < k → k ≤ 7 → IsKind form (lead form + k)
+early forms.One k some few = (omega (arith, some), omega (arith, few))
+early forms.Two k some few = (omega (arith, some), omega (arith, few))
+
 -- the first byte of a spelling is a kind
-pub begins : (form : Form) (m : Msg) → (byte : ℕ) × (rest : List ℕ) × (spelling form m ≡ byte ∷ rest) × IsKind form byte
-begins form (messages.Spawn t c vars es) = (lead form + 1, (spawn form).spelling (t, (c, (vars, es))), refl, (omega arith, omega arith))
-begins form (messages.Register x asking) = (lead form + 2, register.spelling (x, asking), refl, (omega arith, omega arith))
-begins form (messages.BindReq x t u es) = (lead form + 3, (bind_request form).spelling (x, (t, (u, es))), refl, (omega arith, omega arith))
-begins form (messages.Binding x u es) = (lead form + 4, (binding form).spelling (x, (u, es)), refl, (omega arith, omega arith))
-begins form (messages.Get c asking) = (lead form + 5, get_or_forward.spelling (c, asking), refl, (omega arith, omega arith))
-begins form (messages.Forward c next) = (lead form + 6, get_or_forward.spelling (c, next), refl, (omega arith, omega arith))
-begins form (messages.Put c x es) = (lead form + 7, (put form).spelling (c, (x, es)), refl, (omega arith, omega arith))
+pub begins : (form : Form) (m : Msg) → (message form).Has m → (byte : ℕ) × (rest : List ℕ) × (spelling form m ≡ byte ∷ rest) × IsKind form byte
+begins form (messages.Spawn t c vars es) has = (lead form + 1, (spawn form).spelling (t, (c, (vars, es))), refl, early form 1 (lit< tt) (lit≤ tt))
+begins form (messages.Register x asking) has = (lead form + 2, register.spelling (x, asking), refl, early form 2 (lit< tt) (lit≤ tt))
+begins form (messages.BindReq x t u es) has = (lead form + 3, (bind_request form).spelling (x, (t, (u, es))), refl, early form 3 (lit< tt) (lit≤ tt))
+begins form (messages.Binding x u es) has = (lead form + 4, (binding form).spelling (x, (u, es)), refl, early form 4 (lit< tt) (lit≤ tt))
+begins form (messages.Get c asking) has = (lead form + 5, get_or_forward.spelling (c, asking), refl, early form 5 (lit< tt) (lit≤ tt))
+begins form (messages.Forward c next) has = (lead form + 6, get_or_forward.spelling (c, next), refl, early form 6 (lit< tt) (lit≤ tt))
+begins form (messages.Put c x es) has = (lead form + 7, (put form).spelling (c, (x, es)), refl, early form 7 (lit< tt) (lit≤ tt))
+begins forms.One (messages.PortSend q t asking) has = absurd has.0
+begins forms.Two (messages.PortSend q t asking) has = (lead forms.Two + 8, port_send.spelling (q, (t, asking)), refl, (omega arith, omega arith))
+begins forms.One (messages.PortEnd t old new es) has = absurd has.0
+begins forms.Two (messages.PortEnd t old new es) has = (lead forms.Two + 9, (port_end forms.Two).spelling (t, (old, (new, es))), refl, (omega arith, omega arith))
+begins forms.One (messages.CellMake c x es) has = absurd has.0
+begins forms.Two (messages.CellMake c x es) has = (lead forms.Two + 10, (cell_make forms.Two).spelling (c, (x, es)), refl, (omega arith, omega arith))
+begins forms.One (messages.CellAsk c t asking new es) has = absurd has.0
+begins forms.Two (messages.CellAsk c t asking new es) has = (lead forms.Two + 11, (cell_ask forms.Two).spelling (c, (t, (asking, (new, es)))), refl, (omega arith, omega arith))
+begins forms.One (messages.CellOld t x es) has = absurd has.0
+begins forms.Two (messages.CellOld t x es) has = (lead forms.Two + 12, (cell_old forms.Two).spelling (t, (x, es)), refl, (omega arith, omega arith))
 
 pub no_kind_of_both : (byte : ℕ) → IsKind forms.One byte → IsKind forms.Two byte → ⊥
 no_kind_of_both byte one two = omega (arith, one.1, two.0)
@@ -209,7 +358,7 @@ message_takes at (first ∷ bytes) x m fits e = (form_of first, (message_read (f
 
 pub message_again : (form : Form) (at : ℕ) (x : Msg) (rest : List ℕ) → (message form).Has x → message_at (at, spelling form x ++ rest) ≡ Ok (x, (at + length (spelling form x), rest))
 message_again form at x rest has =
-    let b = begins form x in
+    let b = begins form x has in
     let bytes = b.1 ++ rest in
     let parts : spelling form x ++ rest ≡ b.0 ∷ bytes = ap (λ (z : List ℕ). z ++ rest) b.2 in
     ap (λ (z : List ℕ). message_at (at, z)) parts
@@ -240,10 +389,22 @@ kind_cases byte = elim (cases_lt byte 16) [ inl low ↦ one low | inr high ↦ t
     ]
 
     two : 16 ≤ byte → IsKind forms.One byte ⊎ IsKind forms.Two byte ⊎ ((IsKind forms.One byte → ⊥) × (IsKind forms.Two byte → ⊥))
-    two high = elim (within_cases 17 23 byte) [
+    two high = elim (within_cases 17 28 byte) [
       | inl h ↦ inr (inl h)
       | inr h ↦ inr (inr (λ k. omega (arith, k.1, high), h))
     ]
+
+is_early : (form : Form) (first k : ℕ) → (IsKind form first → ⊥) → 0 < k → k ≤ 7 → first ≡ lead form + k → ⊥
+is_early form first k none some few e = none (subst (λ (n : ℕ). IsKind form n) (sym e) (early form k some few))
+
+later_kind : (form : Form) (at first : ℕ) (bytes : List ℕ) (f : WireFault) → (IsKind form first → ⊥) → LaterFault form at first bytes f → f ≡ Kind at
+later_kind forms.One at first bytes f none h = h.1
+later_kind forms.Two at first bytes f none (inl h) = absurd (none (omega (arith, h.0), omega (arith, h.0)))
+later_kind forms.Two at first bytes f none (inr (inl h)) = absurd (none (omega (arith, h.0), omega (arith, h.0)))
+later_kind forms.Two at first bytes f none (inr (inr (inl h))) = absurd (none (omega (arith, h.0), omega (arith, h.0)))
+later_kind forms.Two at first bytes f none (inr (inr (inr (inl h)))) = absurd (none (omega (arith, h.0), omega (arith, h.0)))
+later_kind forms.Two at first bytes f none (inr (inr (inr (inr (inl h))))) = absurd (none (omega (arith, h.0), omega (arith, h.0)))
+later_kind forms.Two at first bytes f none (inr (inr (inr (inr (inr h))))) = h.1
 
 -- the first fault in the form of the first byte is that in either form
 wire_fault : (at first : ℕ) (bytes : List ℕ) (f : WireFault) → (message (form_of first)).Fault at (first ∷ bytes) f → wire.Fault at (first ∷ bytes) f
@@ -254,23 +415,27 @@ wire_fault at first bytes f h = elim (kind_cases first) [
 ]
   where
     only_kind : (form : Form) (at first : ℕ) (bytes : List ℕ) (f : WireFault) → (IsKind form first → ⊥) → (message form).Fault at (first ∷ bytes) f → f ≡ Kind at
-    only_kind form at first bytes f none (inl h) = absurd (none (omega (arith, h.0), omega (arith, h.0)))
-    only_kind form at first bytes f none (inr (inl h)) = absurd (none (omega (arith, h.0), omega (arith, h.0)))
-    only_kind form at first bytes f none (inr (inr (inl h))) = absurd (none (omega (arith, h.0), omega (arith, h.0)))
-    only_kind form at first bytes f none (inr (inr (inr (inl h)))) = absurd (none (omega (arith, h.0), omega (arith, h.0)))
-    only_kind form at first bytes f none (inr (inr (inr (inr (inl h))))) = absurd (none (omega (arith, h.0), omega (arith, h.0)))
-    only_kind form at first bytes f none (inr (inr (inr (inr (inr (inl h)))))) = absurd (none (omega (arith, h.0), omega (arith, h.0)))
-    only_kind form at first bytes f none (inr (inr (inr (inr (inr (inr (inl h))))))) = absurd (none (omega (arith, h.0), omega (arith, h.0)))
-    only_kind form at first bytes f none (inr (inr (inr (inr (inr (inr (inr h))))))) = h.1
+    only_kind form at first bytes f none (inl h) = absurd (is_early form first 1 none (lit< tt) (lit≤ tt) h.0)
+    only_kind form at first bytes f none (inr (inl h)) = absurd (is_early form first 2 none (lit< tt) (lit≤ tt) h.0)
+    only_kind form at first bytes f none (inr (inr (inl h))) = absurd (is_early form first 3 none (lit< tt) (lit≤ tt) h.0)
+    only_kind form at first bytes f none (inr (inr (inr (inl h)))) = absurd (is_early form first 4 none (lit< tt) (lit≤ tt) h.0)
+    only_kind form at first bytes f none (inr (inr (inr (inr (inl h))))) = absurd (is_early form first 5 none (lit< tt) (lit≤ tt) h.0)
+    only_kind form at first bytes f none (inr (inr (inr (inr (inr (inl h)))))) = absurd (is_early form first 6 none (lit< tt) (lit≤ tt) h.0)
+    only_kind form at first bytes f none (inr (inr (inr (inr (inr (inr (inl h))))))) = absurd (is_early form first 7 none (lit< tt) (lit≤ tt) h.0)
+    only_kind form at first bytes f none (inr (inr (inr (inr (inr (inr (inr h))))))) = later_kind form at first bytes f none h
 
 pub message_fails : (at : ℕ) (bytes : List ℕ) (f : WireFault) → IsBytes bytes → message_at (at, bytes) ≡ Err f → wire.Fault at bytes f
 unfolding message_at
 message_fails at [] f fits e = sym (err_is {A = Msg × Left} (Short at) f e)
 message_fails at (first ∷ bytes) f fits e = wire_fault at first bytes f ((message_read (form_of first)).fails at (first ∷ bytes) f fits (sym (in_form at first bytes) ∙ e))
 
+later_none : (form : Form) (at first : ℕ) (bytes : List ℕ) (f : WireFault) → (IsKind form first → ⊥) → f ≡ Kind at → LaterFault form at first bytes f
+later_none forms.One at first bytes f none same = (none, same)
+later_none forms.Two at first bytes f none same = inr (inr (inr (inr (inr (none, same)))))
+
 -- bytes that begin with no kind have this fault
 no_kind_fault : (form : Form) (at first : ℕ) (bytes : List ℕ) (f : WireFault) → (IsKind form first → ⊥) → f ≡ Kind at → (message form).Fault at (first ∷ bytes) f
-no_kind_fault form at first bytes f none same = inr (inr (inr (inr (inr (inr (inr (none, same)))))))
+no_kind_fault form at first bytes f none same = inr (inr (inr (inr (inr (inr (inr (later_none form at first bytes f none same)))))))
 
 pub message_failing : (at : ℕ) (bytes : List ℕ) (f : WireFault) → wire.Fault at bytes f → message_at (at, bytes) ≡ Err f
 unfolding message_at

@@ -10,8 +10,8 @@ use Rattle.wire_form.specs.declared.form.Form.{Form}
 use Rattle.wire_form.specs.declared.form.Form.TheVariants as forms
 use Rattle.wire_form.specs.declared.fault.WireFault.{WireFault}
 use Rattle.wire_form.specs.declared.fault.WireFault.TheVariants.{Short, Kind, Range, Order, Utf8}
-use Rattle.wire_form.specs.Format.{lead, width, var_name, thread_name, text, feature, message, IsWithin, IsKind, IsFirstFault}
-use Rattle.wire_form.specs.Rows.{var, thread, name_bytes, eight_bytes, sixteen_bytes, atom_bytes, integer_message, record_bytes, first_field, second_field, NothingIsShort, OtherKindIsNone, CutIsShort, OtherSiteIsOut, MoreIsRest, OtherTextIsNone, ExchangedIsOutOfOrder, OtherWidthIsNone}
+use Rattle.wire_form.specs.Format.{lead, width, name, term, var_name, thread_name, text, feature, message, IsWithin, IsKind, IsFirstFault}
+use Rattle.wire_form.specs.Rows.{var, thread, name_bytes, eight_bytes, sixteen_bytes, atom_bytes, integer_message, record_bytes, first_field, second_field, NothingIsShort, OtherKindIsNone, OtherPlaceIsNone, CutIsShort, OtherSiteIsOut, MoreIsRest, OtherTextIsNone, ExchangedIsOutOfOrder, OtherWidthIsNone}
 
 has_one : var_name.Has (var 1 2)
 has_one = ((lit< tt, (lit≤ tt, lit≤ tt)), lit< tt)
@@ -65,7 +65,24 @@ kind = (
   in_none 0 (λ h. omega (arith, h.0)) (λ h. omega (arith, h.0)),
   in_none 8 (λ h. omega (arith, h.1)) (λ h. omega (arith, h.0)),
   in_none 16 (λ h. omega (arith, h.1)) (λ h. omega (arith, h.0)),
-  in_none 24 (λ h. omega (arith, h.1)) (λ h. omega (arith, h.1)),
+  in_none 29 (λ h. omega (arith, h.1)) (λ h. omega (arith, h.1)),
+)
+
+no_home : IsWithin 1 64 0 → ⊥
+no_home h = omega (arith, h.0)
+
+has_name : (n : ℕ) → n < 256 → name.Has (2, n)
+has_name n small = ((lit< tt, (lit≤ tt, lit≤ tt)), omega (arith, small))
+
+-- a term behind the name of a variable
+in_binding : (form : Form) (bytes : List ℕ) (f : WireFault) → (term form).Fault 10 bytes f → (message form).Fault 0 ((lead form + 4) ∷ name_bytes 1 2 ++ bytes) f
+in_binding form bytes f h = inr (inr (inr (inl (refl, inr (var 1 2, bytes, has_one, refl, inl h)))))
+
+pub place : OtherPlaceIsNone
+place = (
+  in_one (lit≤ tt, lit≤ tt) (in_binding forms.One (6 ∷ name_bytes 1 3 ++ 0 ∷ 0 ∷ []) (Kind 10) (inr (inr (inr (inr (inr (inr (lit< tt, refl)))))))),
+  in_two (lit≤ tt, lit≤ tt) (in_binding forms.Two (7 ∷ name_bytes 2 6 ++ 0 ∷ 0 ∷ 0 ∷ []) (Range 20) (inr (inr (inr (inr (inr (inr (inr (inl (refl, inr ((2, 6), 0 ∷ 0 ∷ 0 ∷ [], has_name 6 (lit< tt), refl, inr (0, 0 ∷ 0 ∷ [], lit< tt, refl, (no_home, refl))))))))))))),
+  in_two (lit≤ tt, lit≤ tt) (inr (inr (inr (inr (inr (inr (inr (inr (inr (inl (refl, inl (inr ((2, 6), 65 ∷ name_bytes 2 1 ++ 0 ∷ 0 ∷ [], has_name 6 (lit< tt), refl, inr (65, name_bytes 2 1 ++ 0 ∷ 0 ∷ [], lit< tt, refl, (no_site, refl))))))))))))))),
 )
 
 cut_in : (form : Form) → (message form).Fault 0 ((lead form + 2) ∷ name_bytes 1 2) (Short 10)

@@ -81,17 +81,17 @@ same_form forms.One forms.Two byte h k = absurd (no_kind_of_both byte h k)
 same_form forms.Two forms.One byte h k = absurd (no_kind_of_both byte k h)
 
 -- spellings, of which the one is the front of the other, have one form
-one_form : (form other : Form) (m n : Msg) (rest : List ℕ) → spelling form m ++ rest ≡ spelling other n → form ≡ other
-one_form form other m n rest e =
-    let a = begins form m in
-    let b = begins other n in
+one_form : (form other : Form) (m n : Msg) (rest : List ℕ) → (message form).Has m → (message other).Has n → spelling form m ++ rest ≡ spelling other n → form ≡ other
+one_form form other m n rest has_m has_n e =
+    let a = begins form m has_m in
+    let b = begins other n has_n in
     let bytes : a.0 ∷ (a.1 ++ rest) ≡ b.0 ∷ b.1 = sym (ap (λ (z : List ℕ). z ++ rest) a.2) ∙ e ∙ b.2 in
     let same : a.0 ≡ b.0 = cc bytes in
     same_form form other a.0 a.3 (subst (λ (byte : ℕ). IsKind other byte) (sym same) b.3)
 
 pub spells_one : SpellsOne
 spells_one bytes form other m n h k =
-    (one_form form other m n [] (append-nil (spelling form m) ∙ sym h.1 ∙ k.1), ok_is m n (sym (whole_again form bytes m h) ∙ whole_again other bytes n k))
+    (one_form form other m n [] h.0 k.0 (append-nil (spelling form m) ∙ sym h.1 ∙ k.1), ok_is m n (sym (whole_again form bytes m h) ∙ whole_again other bytes n k))
 
 pub has_one_fault : HasOneFault
 has_one_fault bytes f g h k = err_is {A = Msg} f g (sym (whole_failing bytes f h) ∙ whole_failing bytes g k)
@@ -105,4 +105,4 @@ no_proper_prefix form other m n rest hm hn e =
     let read : message_at (0, spelling form m ++ rest) ≡ Ok (n, (0 + length (spelling other n), [])) =
     ap (λ (z : List ℕ). message_at (0, z)) same ∙ message_again other 0 n [] hn in
     let q = ok_is (m, (0 + length (spelling form m), rest)) (n, (0 + length (spelling other n), [])) (sym (message_again form 0 m rest hm) ∙ read) in
-    (ap (λ (a : Msg × Left). a.1.1) q, one_form form other m n rest e, ap (λ (a : Msg × Left). a.0) q)
+    (ap (λ (a : Msg × Left). a.1.1) q, one_form form other m n rest hm hn e, ap (λ (a : Msg × Left). a.0) q)

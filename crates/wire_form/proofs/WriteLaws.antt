@@ -1,11 +1,13 @@
 -- Items that a loop writes one after another, and lists of them that were written.
-use Rattle.std.proofs.Common.{◌≡◌, ℕ, zero, suc, ◌+◌, ◌<◌, ◌≤◌, List, [], ◌∷◌, ◌++◌, length, get_or, take, sym, ap, subst, ◌∙◌, append_assoc, arith, ◌%◌, Result, Ok, Err, cond}
+use Rattle.std.proofs.Common.{◌≡◌, refl, ℕ, zero, suc, ◌+◌, ◌<◌, ◌≤◌, List, [], ◌∷◌, ◌++◌, length, get_or, take, sym, ap, subst, ◌∙◌, append_assoc, arith, ◌%◌, Result, Ok, Err, cond}
 use Rattle.std.specs.Prelude.{OnOk}
 use Rattle.std.specs.Result.{is_ok}
 use Rattle.std.specs.Int.{w8, to_be_bytes}
 use Rattle.std.specs.List.{flat_map}
 use Rattle.std.proofs.lemmas.List.{append-nil, take_more, take_all, flat_map_more}
 use Rattle.tree_node.specs.declared.names.VarName.{VarName}
+use Rattle.tree_node.specs.declared.names.CellName.{CellName}
+use Rattle.tree_node.specs.declared.names.ThreadName.{ThreadName}
 use Rattle.tree_node.specs.declared.node.Feature.{Feature}
 use Rattle.tree_node.specs.Each.{Each}
 use Rattle.tree_node.specs.Order.{IsBelow}
@@ -15,7 +17,9 @@ use Rattle.site_message.proofs.RiseLemmas.{fields_rise, names_rise}
 use Rattle.wire_form.specs.declared.form.Form.{Form}
 use Rattle.wire_form.specs.Field.{Field, EachBehind, ◌then◌}
 use Rattle.wire_form.specs.Writing.{IsWritten}
-use Rattle.wire_form.specs.Format.{var_name, record_field, field_behind, record_fields, variables, formals, equation, equation_behind, bundle, IsFeatureBelow}
+use Rattle.wire_form.specs.Numbers.{IsMobileOr}
+use Rattle.site_message.specs.declared.message.Msg.TheVariants as messages
+use Rattle.wire_form.specs.Format.{lead, IsTwo, site, cell_name, stationary_name, thread_name, HasCell, cell_spelling, message, var_name, record_field, field_behind, record_fields, variables, formals, equation, equation_behind, bundle, IsFeatureBelow}
 use Rattle.wire_form.proofs.FitsLaws.{behind_of, fields_ordered, equations_ordered}
 
 pub each_get : {X : Type 0} (P : X → Type 0) (xs : List X) (i : ℕ) (d : X) → i < length xs → Each P xs → P (get_or xs i d)
@@ -85,6 +89,42 @@ pub writes_then : {X Y U E : Type 0} (F : Field X) (G : Field Y) (x : X) (y : Y)
 writes_then F G x y old mid new (Ok u) one h =
     ((one.0, h.0), h.1 ∙ ap (λ (z : List ℕ). z ++ G.spelling y) one.1 ∙ append_assoc old (F.spelling x) (G.spelling y))
 writes_then F G x y old mid new (Err e) one h = tt
+
+-- what form 2 alone has
+pub later_written : {E U : Type 0} (form : Form) (Has : Type 0) (old new spelled : List ℕ) (r : Result U E) → IsTwo form → OnOk r (Has × (new ≡ old ++ spelled)) → OnOk r ((IsTwo form × Has) × (new ≡ old ++ spelled))
+later_written form Has old new spelled (Ok u) two h = ((two, h.0), h.1)
+later_written form Has old new spelled (Err e) two h = tt
+
+-- what asks the home of a cell, and its bundle
+pub asked_written : {E U : Type 0} (form : Form) (c : CellName) (t : ThreadName) (asking : ℕ) (x : VarName) (es : List Equation) (old mid new : List ℕ) (r : Result U E) → IsTwo form
+    → (stationary_name then thread_name then site then var_name).Has (c, (t, (asking, x))) × (mid ≡ old ++ (lead form + 11) ∷ (stationary_name then thread_name then site then var_name).spelling (c, (t, (asking, x))))
+    → IsWritten (bundle form) es mid new r → IsWritten (message form) (messages.CellAsk c t asking x es) old new r
+asked_written form c t asking x es old mid new (Err e) two one h = tt
+asked_written form c t asking x es old mid new (Ok u) two one h = (
+  (two, (one.0.0, (one.0.1.0, (one.0.1.1.0, (one.0.1.1.1, h.0))))),
+  h.1 ∙ (ap (λ (z : List ℕ). z ++ (bundle form).spelling es) one.1 ∙ (append_assoc old ((lead form + 11) ∷ (stationary_name then thread_name then site then var_name).spelling (c, (t, (asking, x)))) ((bundle form).spelling es)
+      ∙ ap (λ (z : List ℕ). old ++ (lead form + 11) ∷ z) joined)),
+)
+  where
+    joined : (stationary_name.spelling c ++ (thread_name.spelling t ++ (site.spelling asking ++ var_name.spelling x))) ++ (bundle form).spelling es
+        ≡ stationary_name.spelling c ++ (thread_name.spelling t ++ (site.spelling asking ++ (var_name.spelling x ++ (bundle form).spelling es)))
+    joined =
+        append_assoc (stationary_name.spelling c) (thread_name.spelling t ++ (site.spelling asking ++ var_name.spelling x)) ((bundle form).spelling es)
+        ∙ ap (λ (z : List ℕ). stationary_name.spelling c ++ z)
+        (append_assoc (thread_name.spelling t) (site.spelling asking ++ var_name.spelling x) ((bundle form).spelling es)
+        ∙ ap (λ (z : List ℕ). thread_name.spelling t ++ z) (append_assoc (site.spelling asking) (var_name.spelling x) ((bundle form).spelling es)))
+
+-- a cell as a value
+pub mobile_written : {E U : Type 0} (form : Form) (c : CellName) (old mid new : List ℕ) (r : Result U E) → c.at ≡ 0 → mid ≡ old ++ 5 ∷ [] → IsWritten cell_name c mid new r → OnOk r (HasCell form c c.at × (new ≡ old ++ cell_spelling c c.at))
+mobile_written form c old mid new r mobile put h =
+    subst (λ (n : ℕ). OnOk r (HasCell form c n × (new ≡ old ++ cell_spelling c n))) (sym mobile) (writes_tag 5 cell_name c old mid new r put h)
+
+pub stationary_written : {E U : Type 0} (form : Form) (c : CellName) (old mid new : List ℕ) (r : Result U E) → (c.at ≡ 0 → ⊥) → IsMobileOr (IsTwo form) c.at → mid ≡ old ++ 7 ∷ [] → IsWritten stationary_name c mid new r → OnOk r (HasCell form c c.at × (new ≡ old ++ cell_spelling c c.at))
+stationary_written form c old mid new r some room put h = go c.at some room
+  where
+    go : (n : ℕ) → (n ≡ 0 → ⊥) → IsMobileOr (IsTwo form) n → OnOk r (HasCell form c n × (new ≡ old ++ cell_spelling c n))
+    go zero none m = absurd (none refl)
+    go (suc k) none m = later_written form (stationary_name.Has c) old new (7 ∷ stationary_name.spelling c) r m (writes_tag 7 stationary_name c old mid new r put h)
 
 -- all bytes at once
 pub writes_bytes : {X A E : Type 0} (F : Field X) (x : X) (old new bytes : List ℕ) (r : Result A E) → F.Has x → new ≡ cond (is_ok r) (old ++ bytes) old → bytes ≡ F.spelling x

@@ -32,6 +32,10 @@ number w = record { Has = λ n. n < 256 ^ byte_len w; spelling = λ n. to_be_byt
 abbrev pub signed_number : Width → Field ℤ
 signed_number w = record { Has = λ z. FitsSigned w z; spelling = λ z. to_be_bytes w (cast_unsigned w z); Fault = IsCut (byte_len w) }
 
+-- a number that is always 0, of which nothing is written
+abbrev pub nothing : Field ℕ
+nothing = record { Has = λ n. n ≡ 0; spelling = λ n. []; Fault = λ at bytes f. ⊥ }
+
 -- a byte of length and that many bytes
 abbrev pub short_bytes : Field (List ℕ)
 short_bytes = record { Has = λ bs. length bs < 256; spelling = λ bs. length bs ∷ bs; Fault = short_bytes_fault }

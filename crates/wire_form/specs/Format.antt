@@ -1,11 +1,12 @@
 -- The wire forms: the one spelling of each message between sites in form 1, and the one in form 2, as a grammar of fields
 -- that has the form as a parameter.
-use Rattle.std.specs.Prelude.{◌≡◌, ℕ, ◌+◌, ◌≤◌, List, [], ◌∷◌, ◌++◌, ◌⊎◌, length, ℤ, IsUtf8, ◌<◌}
+use Rattle.std.specs.Prelude.{◌≡◌, ℕ, zero, suc, ◌+◌, ◌≤◌, List, [], ◌∷◌, ◌++◌, ◌⊎◌, length, ℤ, IsUtf8, ◌<◌}
 use Rattle.std.specs.Int.{Width, w8, w16, w32, w64, w128}
 use Rattle.std.specs.declared.cmp.Ordering.TheVariants.{Less}
 use Rattle.tree_node.specs.declared.limits.TheConstants.{MOST_ITEMS, MOST_SITES}
 use Rattle.tree_node.specs.declared.names.VarName.{VarName}
 use Rattle.tree_node.specs.declared.names.CellName.{CellName}
+use Rattle.tree_node.specs.declared.names.PortName.{PortName}
 use Rattle.tree_node.specs.declared.names.ProcName.{ProcName}
 use Rattle.tree_node.specs.declared.names.ThreadName.{ThreadName}
 use Rattle.tree_node.specs.declared.names.CodeId.{CodeId}
@@ -23,7 +24,7 @@ use Rattle.wire_form.specs.declared.form.Form.{Form}
 use Rattle.wire_form.specs.declared.form.Form.TheVariants as forms
 use Rattle.wire_form.specs.declared.fault.WireFault.{WireFault}
 use Rattle.wire_form.specs.declared.fault.WireFault.TheVariants.{Short, Kind, Range, Order, Utf8, Rest}
-use Rattle.wire_form.specs.Field.{Faults, Field, number, signed_number, short_bytes, restriction, ◌then◌, part_field, list_behind, IsAbove}
+use Rattle.wire_form.specs.Field.{Faults, Field, number, signed_number, nothing, short_bytes, restriction, ◌then◌, part_field, list_behind, IsAbove}
 
 -- the width of an integer: 64 bits in form 1, and 128 in form 2
 abbrev pub width : Form → Width
@@ -34,6 +35,16 @@ width forms.Two = w128
 abbrev pub lead : Form → ℕ
 lead forms.One = 0
 lead forms.Two = 16
+
+-- the number of the last kind of message of a form: form 2 alone has requests of threads that wait for their answer, and those answers
+abbrev pub last_kind : Form → ℕ
+last_kind forms.One = 7
+last_kind forms.Two = 12
+
+-- it is form 2
+abbrev pub IsTwo : Form → Type 0
+IsTwo forms.One = ⊥
+IsTwo forms.Two = Unit {0}
 
 -- the number is from the least to the most
 abbrev pub IsWithin : ℕ → ℕ → ℕ → Type 0
@@ -51,12 +62,19 @@ site = within 1 MOST_SITES (number w8)
 abbrev pub name : Field (ℕ × ℕ)
 name = site then number w64
 
--- the name of a variable, a cell, a procedure or a thread is spelled as its site and number
+-- the name of a variable, a mobile cell, a port, a procedure or a thread is spelled as its site and number
 abbrev pub var_name : Field VarName
 var_name = part_field (λ (x : VarName). (x.site, x.num)) name
 
 abbrev pub cell_name : Field CellName
-cell_name = part_field (λ (x : CellName). (x.site, x.num)) name
+cell_name = part_field (λ (x : CellName). (x.at, (x.site, x.num))) (nothing then name)
+
+-- that of a stationary cell as its site and number, and its home
+abbrev pub stationary_name : Field CellName
+stationary_name = part_field (λ (x : CellName). ((x.site, x.num), x.at)) (name then site)
+
+abbrev pub port_name : Field PortName
+port_name = part_field (λ (x : PortName). (x.site, x.num)) name
 
 abbrev pub proc_name : Field ProcName
 proc_name = part_field (λ (x : ProcName). (x.site, x.num)) name
@@ -127,7 +145,24 @@ tree form = text then record_fields form
 abbrev pub procedure : Field (ProcName × (CodeId × (ℕ × List VarName)))
 procedure = proc_name then code then formals then variables
 
--- a byte 00 and a name, 01 and an integer, 02 and a text, 03 and a record, 04 and a procedure, or 05 and a cell
+-- a cell that may be spelled as a value: a mobile one, or in form 2 a stationary one
+abbrev pub HasCell : Form → CellName → ℕ → Type 0
+HasCell form c zero = cell_name.Has c
+HasCell form c (suc k) = IsTwo form × stationary_name.Has c
+
+-- its spelling: 05 and a mobile cell, or 07 and a stationary one
+abbrev pub cell_spelling : CellName → ℕ → List ℕ
+cell_spelling c zero = 5 ∷ cell_name.spelling c
+cell_spelling c (suc k) = 7 ∷ stationary_name.spelling c
+
+-- the fault behind a tag above 05: form 2 has 06 of a port, and 07 of a stationary cell
+abbrev pub LaterTermFault : Form → ℕ → ℕ → List ℕ → WireFault → Type 0
+LaterTermFault forms.One at tag bytes f = (5 < tag) × (f ≡ Kind at)
+LaterTermFault forms.Two at tag bytes f =
+    ((tag ≡ 6) × port_name.Fault (at + 1) bytes f) ⊎ ((tag ≡ 7) × stationary_name.Fault (at + 1) bytes f) ⊎ ((7 < tag) × (f ≡ Kind at))
+
+-- a byte 00 and a name, 01 and an integer, 02 and a text, 03 and a record, 04 and a procedure, 05 and a mobile cell, or in form 2 also 06 and a
+-- port, or 07 and a stationary cell
 abbrev pub term : Form → Field Term
 term form = record { Has = term_has; spelling = term_spell; Fault = term_fault }
   where
@@ -137,7 +172,8 @@ term form = record { Has = term_has; spelling = term_spell; Fault = term_fault }
     term_has (terms.Node (nodes.Atom t)) = text.Has t
     term_has (terms.Node (nodes.Rec label fields)) = (tree form).Has (label, fields)
     term_has (terms.Node (nodes.Proc p c n vars)) = procedure.Has (p, (c, (n, vars)))
-    term_has (terms.Node (nodes.Cell c)) = cell_name.Has c
+    term_has (terms.Node (nodes.Cell c)) = HasCell form c c.at
+    term_has (terms.Node (nodes.Port q)) = IsTwo form × port_name.Has q
 
     term_spell : Term → List ℕ
     term_spell (terms.Var x) = 0 ∷ var_name.spelling x
@@ -145,7 +181,8 @@ term form = record { Has = term_has; spelling = term_spell; Fault = term_fault }
     term_spell (terms.Node (nodes.Atom t)) = 2 ∷ text.spelling t
     term_spell (terms.Node (nodes.Rec label fields)) = 3 ∷ (tree form).spelling (label, fields)
     term_spell (terms.Node (nodes.Proc p c n vars)) = 4 ∷ procedure.spelling (p, (c, (n, vars)))
-    term_spell (terms.Node (nodes.Cell c)) = 5 ∷ cell_name.spelling c
+    term_spell (terms.Node (nodes.Cell c)) = cell_spelling c c.at
+    term_spell (terms.Node (nodes.Port q)) = 6 ∷ port_name.spelling q
 
     term_fault : Faults
     term_fault at [] f = f ≡ Short at
@@ -156,7 +193,7 @@ term form = record { Has = term_has; spelling = term_spell; Fault = term_fault }
         ⊎ ((tag ≡ 3) × (tree form).Fault (at + 1) bytes f)
         ⊎ ((tag ≡ 4) × procedure.Fault (at + 1) bytes f)
         ⊎ ((tag ≡ 5) × cell_name.Fault (at + 1) bytes f)
-        ⊎ ((5 < tag) × (f ≡ Kind at))
+        ⊎ LaterTermFault form at tag bytes f
 
 -- an equation of a bundle: a name, above the one of the equation before, and a term
 abbrev pub equation : Form → Field Equation
@@ -189,9 +226,35 @@ get_or_forward = cell_name then site
 abbrev pub put : Form → Field (CellName × (VarName × List Equation))
 put form = cell_name then var_name then bundle form
 
--- the byte is the kind of a message in the form: 01 to 07 in form 1, and 11 to 17, hexadecimal, in form 2
+abbrev pub port_send : Field (PortName × (ThreadName × ℕ))
+port_send = port_name then thread_name then site
+
+abbrev pub port_end : Form → Field (ThreadName × (VarName × (VarName × List Equation)))
+port_end form = thread_name then var_name then var_name then bundle form
+
+abbrev pub cell_make : Form → Field (CellName × (VarName × List Equation))
+cell_make form = stationary_name then var_name then bundle form
+
+abbrev pub cell_ask : Form → Field (CellName × (ThreadName × (ℕ × (VarName × List Equation))))
+cell_ask form = stationary_name then thread_name then site then var_name then bundle form
+
+abbrev pub cell_old : Form → Field (ThreadName × (VarName × List Equation))
+cell_old form = thread_name then var_name then bundle form
+
+-- the byte is the kind of a message in the form: 01 to 07 in form 1, and 11 to 1c, hexadecimal, in form 2
 abbrev pub IsKind : Form → ℕ → Type 0
-IsKind form byte = IsWithin (lead form + 1) (lead form + 7) byte
+IsKind form byte = IsWithin (lead form + 1) (lead form + last_kind form) byte
+
+-- the fault behind a kind that is none of the first seven
+abbrev pub LaterFault : Form → ℕ → ℕ → List ℕ → WireFault → Type 0
+LaterFault forms.One at kind bytes f = (IsKind forms.One kind → ⊥) × (f ≡ Kind at)
+LaterFault forms.Two at kind bytes f =
+    ((kind ≡ lead forms.Two + 8) × port_send.Fault (at + 1) bytes f)
+    ⊎ ((kind ≡ lead forms.Two + 9) × (port_end forms.Two).Fault (at + 1) bytes f)
+    ⊎ ((kind ≡ lead forms.Two + 10) × (cell_make forms.Two).Fault (at + 1) bytes f)
+    ⊎ ((kind ≡ lead forms.Two + 11) × (cell_ask forms.Two).Fault (at + 1) bytes f)
+    ⊎ ((kind ≡ lead forms.Two + 12) × (cell_old forms.Two).Fault (at + 1) bytes f)
+    ⊎ ((IsKind forms.Two kind → ⊥) × (f ≡ Kind at))
 
 -- a byte of kind, and what follows it
 abbrev pub message : Form → Field Msg
@@ -205,6 +268,11 @@ message form = record { Has = message_has; spelling = message_spell; Fault = mes
     message_has (messages.Get c asking) = get_or_forward.Has (c, asking)
     message_has (messages.Forward c next) = get_or_forward.Has (c, next)
     message_has (messages.Put c x es) = (put form).Has (c, (x, es))
+    message_has (messages.PortSend q t asking) = IsTwo form × port_send.Has (q, (t, asking))
+    message_has (messages.PortEnd t old new es) = IsTwo form × (port_end form).Has (t, (old, (new, es)))
+    message_has (messages.CellMake c x es) = IsTwo form × (cell_make form).Has (c, (x, es))
+    message_has (messages.CellAsk c t asking new es) = IsTwo form × (cell_ask form).Has (c, (t, (asking, (new, es))))
+    message_has (messages.CellOld t x es) = IsTwo form × (cell_old form).Has (t, (x, es))
 
     message_spell : Msg → List ℕ
     message_spell (messages.Spawn t c vars es) = (lead form + 1) ∷ (spawn form).spelling (t, (c, (vars, es)))
@@ -214,6 +282,11 @@ message form = record { Has = message_has; spelling = message_spell; Fault = mes
     message_spell (messages.Get c asking) = (lead form + 5) ∷ get_or_forward.spelling (c, asking)
     message_spell (messages.Forward c next) = (lead form + 6) ∷ get_or_forward.spelling (c, next)
     message_spell (messages.Put c x es) = (lead form + 7) ∷ (put form).spelling (c, (x, es))
+    message_spell (messages.PortSend q t asking) = (lead form + 8) ∷ port_send.spelling (q, (t, asking))
+    message_spell (messages.PortEnd t old new es) = (lead form + 9) ∷ (port_end form).spelling (t, (old, (new, es)))
+    message_spell (messages.CellMake c x es) = (lead form + 10) ∷ (cell_make form).spelling (c, (x, es))
+    message_spell (messages.CellAsk c t asking new es) = (lead form + 11) ∷ (cell_ask form).spelling (c, (t, (asking, (new, es))))
+    message_spell (messages.CellOld t x es) = (lead form + 12) ∷ (cell_old form).spelling (t, (x, es))
 
     message_fault : Faults
     message_fault at [] f = f ≡ Short at
@@ -225,7 +298,7 @@ message form = record { Has = message_has; spelling = message_spell; Fault = mes
         ⊎ ((kind ≡ lead form + 5) × get_or_forward.Fault (at + 1) bytes f)
         ⊎ ((kind ≡ lead form + 6) × get_or_forward.Fault (at + 1) bytes f)
         ⊎ ((kind ≡ lead form + 7) × (put form).Fault (at + 1) bytes f)
-        ⊎ ((IsKind form kind → ⊥) × (f ≡ Kind at))
+        ⊎ LaterFault form at kind bytes f
 
 -- a message in one of the forms, which its first byte tells. A byte that is a kind of neither is no kind
 abbrev pub wire : Field (Form × Msg)

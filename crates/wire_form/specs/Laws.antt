@@ -5,7 +5,7 @@ use Rattle.site_message.specs.Wire.{FitsWire}
 use Rattle.wire_form.specs.declared.form.Form.{Form}
 use Rattle.wire_form.specs.declared.form.Form.TheVariants as forms
 use Rattle.wire_form.specs.declared.fault.WireFault.{WireFault}
-use Rattle.wire_form.specs.Format.{width, IsKind, message, spelling, IsSpelling, IsFirstFault}
+use Rattle.wire_form.specs.Format.{width, IsTwo, IsKind, message, spelling, IsSpelling, IsFirstFault}
 use Rattle.wire_form.specs.Numbers.{HoldsNumbers, EachInMessage}
 
 -- each of the numbers is below 256
@@ -34,7 +34,7 @@ NoProperPrefix = (form other : Form) (m n : Msg) (rest : List ℕ) → (message 
 
 -- each spelling begins with a kind of its form
 abbrev pub BeginsWithKind : Type 0
-BeginsWithKind = (form : Form) (m : Msg) → (byte : ℕ) × (rest : List ℕ) × (spelling form m ≡ byte ∷ rest) × IsKind form byte
+BeginsWithKind = (form : Form) (m : Msg) → (message form).Has m → (byte : ℕ) × (rest : List ℕ) × (spelling form m ≡ byte ∷ rest) × IsKind form byte
 
 -- no byte is a kind of both forms
 abbrev pub NoKindOfBoth : Type 0
@@ -45,6 +45,6 @@ abbrev pub TwoSpellsAll : Type 0
 TwoSpellsAll = (m : Msg) → (message forms.One).Has m → (message forms.Two).Has m
 
 -- a message is one of the form exactly where it can be spelled, its numbers are in the ranges of their types, and its
--- integers have the width of the form
+-- integers have the width of the form, which is form 2 where it has anything of ports and stationary cells
 abbrev pub FormatIsWhatFits : Type 0
-FormatIsWhatFits = (form : Form) (m : Msg) → (message form).Has m ↔ FitsWire m × HoldsNumbers m × EachInMessage (λ z. FitsSigned (width form) z) m
+FormatIsWhatFits = (form : Form) (m : Msg) → (message form).Has m ↔ FitsWire m × HoldsNumbers m × EachInMessage (λ z. FitsSigned (width form) z) (IsTwo form) m

@@ -1,5 +1,5 @@
 -- What the types of the numbers in a message hold by themselves, and its integers.
-use Rattle.std.specs.Prelude.{ℕ, ◌<◌, ◌^◌, List, ℤ, FitsSigned}
+use Rattle.std.specs.Prelude.{ℕ, zero, suc, ◌<◌, ◌^◌, List, ℤ, FitsSigned}
 use Rattle.std.specs.Int.{w64}
 use Rattle.tree_node.specs.declared.names.VarName.{VarName}
 use Rattle.tree_node.specs.declared.node.Feature.{Feature}
@@ -34,6 +34,7 @@ HoldsTerm (terms.Node (nodes.Atom t)) = Unit {0}
 HoldsTerm (terms.Node (nodes.Rec label fields)) = Each HoldsField fields
 HoldsTerm (terms.Node (nodes.Proc p c n vars)) = HoldsName p.num × (c.0 < 2 ^ 32) × Each HoldsVar vars
 HoldsTerm (terms.Node (nodes.Cell c)) = HoldsName c.num
+HoldsTerm (terms.Node (nodes.Port q)) = HoldsName q.num
 
 -- both sides of an equation are held so
 abbrev pub HoldsEquation : Equation → Type 0
@@ -52,6 +53,11 @@ HoldsNumbers (messages.Binding x u es) = HoldsVar x × HoldsTerm u × HoldsBundl
 HoldsNumbers (messages.Get c asking) = HoldsName c.num
 HoldsNumbers (messages.Forward c next) = HoldsName c.num
 HoldsNumbers (messages.Put c x es) = HoldsName c.num × HoldsVar x × HoldsBundle es
+HoldsNumbers (messages.PortSend q t asking) = HoldsName q.num × HoldsName t.num
+HoldsNumbers (messages.PortEnd t old new es) = HoldsName t.num × HoldsVar old × HoldsVar new × HoldsBundle es
+HoldsNumbers (messages.CellMake c x es) = HoldsName c.num × HoldsVar x × HoldsBundle es
+HoldsNumbers (messages.CellAsk c t asking new es) = HoldsName c.num × HoldsName t.num × HoldsVar new × HoldsBundle es
+HoldsNumbers (messages.CellOld t x es) = HoldsName t.num × HoldsVar x × HoldsBundle es
 
 -- the feature, if it is an integer, has the property
 abbrev pub EachInFeature : (ℤ → Type 0) → Feature → Type 0
@@ -62,40 +68,52 @@ EachInFeature P (features.Atom t) = Unit {0}
 abbrev pub EachInField : (ℤ → Type 0) → Feature × VarName → Type 0
 EachInField P field = EachInFeature P field.0
 
--- each integer of the term, features included, has the property
-abbrev pub EachInTerm : (ℤ → Type 0) → Term → Type 0
-EachInTerm P (terms.Var x) = Unit {0}
-EachInTerm P (terms.Node (nodes.Int z)) = P z
-EachInTerm P (terms.Node (nodes.Atom t)) = Unit {0}
-EachInTerm P (terms.Node (nodes.Rec label fields)) = Each (EachInField P) fields
-EachInTerm P (terms.Node (nodes.Proc p c n vars)) = Unit {0}
-EachInTerm P (terms.Node (nodes.Cell c)) = Unit {0}
+-- a cell is mobile, with its home 0, or Q holds
+abbrev pub IsMobileOr : Type 0 → ℕ → Type 0
+IsMobileOr Q zero = Unit {0}
+IsMobileOr Q (suc k) = Q
 
--- each integer of the equation's term has it
-abbrev pub EachInEquation : (ℤ → Type 0) → Equation → Type 0
-EachInEquation P e = EachInTerm P e.1
+-- each integer of the term, features included, has the property; and where it is a port or a stationary cell, Q holds
+abbrev pub EachInTerm : (ℤ → Type 0) → Type 0 → Term → Type 0
+EachInTerm P Q (terms.Var x) = Unit {0}
+EachInTerm P Q (terms.Node (nodes.Int z)) = P z
+EachInTerm P Q (terms.Node (nodes.Atom t)) = Unit {0}
+EachInTerm P Q (terms.Node (nodes.Rec label fields)) = Each (EachInField P) fields
+EachInTerm P Q (terms.Node (nodes.Proc p c n vars)) = Unit {0}
+EachInTerm P Q (terms.Node (nodes.Cell c)) = IsMobileOr Q c.at
+EachInTerm P Q (terms.Node (nodes.Port q)) = Q
 
--- each integer of the bundle has it
-abbrev pub EachInBundle : (ℤ → Type 0) → List Equation → Type 0
-EachInBundle P es = Each (EachInEquation P) es
+-- so it is with the equation's term
+abbrev pub EachInEquation : (ℤ → Type 0) → Type 0 → Equation → Type 0
+EachInEquation P Q e = EachInTerm P Q e.1
 
--- each integer of the message, features included, has it
-abbrev pub EachInMessage : (ℤ → Type 0) → Msg → Type 0
-EachInMessage P (messages.Spawn t c vars es) = EachInBundle P es
-EachInMessage P (messages.Register x asking) = Unit {0}
-EachInMessage P (messages.BindReq x t u es) = EachInTerm P u × EachInBundle P es
-EachInMessage P (messages.Binding x u es) = EachInTerm P u × EachInBundle P es
-EachInMessage P (messages.Get c asking) = Unit {0}
-EachInMessage P (messages.Forward c next) = Unit {0}
-EachInMessage P (messages.Put c x es) = EachInBundle P es
+-- so it is with each equation of the bundle
+abbrev pub EachInBundle : (ℤ → Type 0) → Type 0 → List Equation → Type 0
+EachInBundle P Q es = Each (EachInEquation P Q) es
+
+-- each integer of the message, features included, has the property; and where it asks the owner of a port or the home of a cell, or
+-- answers, or has one of those in a term, Q holds
+abbrev pub EachInMessage : (ℤ → Type 0) → Type 0 → Msg → Type 0
+EachInMessage P Q (messages.Spawn t c vars es) = EachInBundle P Q es
+EachInMessage P Q (messages.Register x asking) = Unit {0}
+EachInMessage P Q (messages.BindReq x t u es) = EachInTerm P Q u × EachInBundle P Q es
+EachInMessage P Q (messages.Binding x u es) = EachInTerm P Q u × EachInBundle P Q es
+EachInMessage P Q (messages.Get c asking) = Unit {0}
+EachInMessage P Q (messages.Forward c next) = Unit {0}
+EachInMessage P Q (messages.Put c x es) = EachInBundle P Q es
+EachInMessage P Q (messages.PortSend q t asking) = Q
+EachInMessage P Q (messages.PortEnd t old new es) = Q × EachInBundle P Q es
+EachInMessage P Q (messages.CellMake c x es) = Q × EachInBundle P Q es
+EachInMessage P Q (messages.CellAsk c t asking new es) = Q × EachInBundle P Q es
+EachInMessage P Q (messages.CellOld t x es) = Q × EachInBundle P Q es
 
 -- an integer of 64 bits
 abbrev pub IsWord : ℤ → Type 0
 IsWord z = FitsSigned w64 z
 
--- each integer of the message, features included, has 64 bits
+-- form 1 can have it: each integer of the message, features included, has 64 bits, and it has nothing of ports and stationary cells
 abbrev pub FitsWords : Msg → Type 0
-FitsWords m = EachInMessage IsWord m
+FitsWords m = EachInMessage IsWord ⊥ m
 
 -- the form has room for an integer of 128 bits: form 1 where it has 64, form 2 always
 abbrev pub HasRoom : Form → ℤ → Type 0

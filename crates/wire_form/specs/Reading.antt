@@ -7,6 +7,7 @@ use Rattle.std.specs.Ordering.{is_lt}
 use Rattle.tree_node.specs.declared.limits.TheConstants.{MOST_ITEMS, MOST_SITES}
 use Rattle.tree_node.specs.declared.names.VarName.{VarName}
 use Rattle.tree_node.specs.declared.names.CellName.{CellName}
+use Rattle.tree_node.specs.declared.names.PortName.{PortName}
 use Rattle.tree_node.specs.declared.names.ProcName.{ProcName}
 use Rattle.tree_node.specs.declared.names.ThreadName.{ThreadName}
 use Rattle.tree_node.specs.declared.names.CodeId.{CodeId}
@@ -84,6 +85,10 @@ signed_at w = map_at (λ bs. cast_signed w (from_be_bytes w bs)) (bytes_at (byte
 abbrev pub integer_at : Form → Left → Read ℤ
 integer_at form = signed_at (width form)
 
+-- a number that is always 0, of which nothing is read
+abbrev pub nothing_at : Left → Read ℕ
+nothing_at l = Ok (0, l)
+
 -- a byte of length and that many bytes
 unfoldable pub short_bytes_at : Left → Read (List ℕ)
 short_bytes_at l = do
@@ -102,7 +107,7 @@ byte_within_at least most = filter_at (is_within least most) Range byte_at
 unfoldable pub text_at : Left → Read (List ℕ)
 text_at = filter_at is_utf8 (λ at. Utf8 (at + 1)) short_bytes_at
 
--- a name: a byte of site, 1 to 64, and a number of eight bytes; then the names of the four kinds
+-- a name: a byte of site, 1 to 64, and a number of eight bytes; then the names of each kind
 unfoldable pub name_at : Left → Read (ℕ × ℕ)
 name_at = byte_within_at 1 MOST_SITES and number_at w64
 
@@ -110,7 +115,13 @@ unfoldable pub var_name_at : Left → Read VarName
 var_name_at = map_at (λ p. record { site = p.0; num = p.1 }) name_at
 
 unfoldable pub cell_name_at : Left → Read CellName
-cell_name_at = map_at (λ p. record { site = p.0; num = p.1 }) name_at
+cell_name_at = map_at (λ p. record { site = p.1.0; at = p.0; num = p.1.1 }) (nothing_at and name_at)
+
+unfoldable pub stationary_name_at : Left → Read CellName
+stationary_name_at = map_at (λ p. record { site = p.0.0; at = p.1; num = p.0.1 }) (name_at and byte_within_at 1 MOST_SITES)
+
+unfoldable pub port_name_at : Left → Read PortName
+port_name_at = map_at (λ p. record { site = p.0; num = p.1 }) name_at
 
 unfoldable pub proc_name_at : Left → Read ProcName
 proc_name_at = map_at (λ p. record { site = p.0; num = p.1 }) name_at
@@ -180,6 +191,14 @@ record_at form = map_at (λ p. terms.Node (nodes.Rec p.0 p.1)) (text_at and fiel
 unfoldable pub procedure_at : Left → Read Term
 procedure_at = map_at (λ p. terms.Node (nodes.Proc p.0 p.1.0 p.1.1.0 p.1.1.1)) (proc_name_at and code_at and byte_within_at 0 MOST_ITEMS and variables_at)
 
+-- what follows a tag above 05: that of a port or of a stationary cell, which form 2 alone has
+unfoldable pub later_node_at : Form → ℕ → ℕ → Left → Read Term
+later_node_at forms.One start tag l = Err (Kind start)
+later_node_at forms.Two start tag l =
+    if tag == 6 then map_at (λ q. terms.Node (nodes.Port q)) port_name_at l
+    else if tag == 7 then map_at (λ c. terms.Node (nodes.Cell c)) stationary_name_at l
+    else Err (Kind start)
+
 -- what follows the tag of a term
 unfoldable pub node_at : Form → ℕ → ℕ → Left → Read Term
 node_at form start tag l =
@@ -189,7 +208,7 @@ node_at form start tag l =
     else if tag == 3 then record_at form l
     else if tag == 4 then procedure_at l
     else if tag == 5 then map_at (λ c. terms.Node (nodes.Cell c)) cell_name_at l
-    else Err (Kind start)
+    else later_node_at form start tag l
 
 -- a term: its tag, and what follows that
 unfoldable pub term_at : Form → Left → Read Term
@@ -204,7 +223,7 @@ equation_at form front = filter_at (is_above (λ (e : Equation). e.0) name_below
 unfoldable pub bundle_at : Form → Left → Read (List Equation)
 bundle_at form = list_at (filter_at (is_within 0 256) Range (number_at w16)) (equation_at form)
 
--- what follows the byte of kind, for each of the seven messages
+-- what follows the byte of kind, for each of the messages
 unfoldable pub spawn_at : Form → Left → Read Msg
 spawn_at form = map_at (λ p. messages.Spawn p.0 p.1.0 p.1.1.0 p.1.1.1) (thread_name_at and code_at and variables_at and bundle_at form)
 
@@ -226,6 +245,32 @@ forward_at = map_at (λ p. messages.Forward p.0 p.1) (cell_name_at and byte_with
 unfoldable pub put_at : Form → Left → Read Msg
 put_at form = map_at (λ p. messages.Put p.0 p.1.0 p.1.1) (cell_name_at and var_name_at and bundle_at form)
 
+unfoldable pub port_send_at : Left → Read Msg
+port_send_at = map_at (λ p. messages.PortSend p.0 p.1.0 p.1.1) (port_name_at and thread_name_at and byte_within_at 1 MOST_SITES)
+
+unfoldable pub port_end_at : Form → Left → Read Msg
+port_end_at form = map_at (λ p. messages.PortEnd p.0 p.1.0 p.1.1.0 p.1.1.1) (thread_name_at and var_name_at and var_name_at and bundle_at form)
+
+unfoldable pub cell_make_at : Form → Left → Read Msg
+cell_make_at form = map_at (λ p. messages.CellMake p.0 p.1.0 p.1.1) (stationary_name_at and var_name_at and bundle_at form)
+
+unfoldable pub cell_ask_at : Form → Left → Read Msg
+cell_ask_at form = map_at (λ p. messages.CellAsk p.0 p.1.0 p.1.1.0 p.1.1.1.0 p.1.1.1.1) (stationary_name_at and thread_name_at and byte_within_at 1 MOST_SITES and var_name_at and bundle_at form)
+
+unfoldable pub cell_old_at : Form → Left → Read Msg
+cell_old_at form = map_at (λ p. messages.CellOld p.0 p.1.0 p.1.1) (thread_name_at and var_name_at and bundle_at form)
+
+-- what follows the byte of kind, for a kind above the seventh, which form 2 alone has
+unfoldable pub later_body_at : Form → ℕ → ℕ → Left → Read Msg
+later_body_at forms.One start kind l = Err (Kind start)
+later_body_at forms.Two start kind l =
+    if kind == 8 then port_send_at l
+    else if kind == 9 then port_end_at forms.Two l
+    else if kind == 10 then cell_make_at forms.Two l
+    else if kind == 11 then cell_ask_at forms.Two l
+    else if kind == 12 then cell_old_at forms.Two l
+    else Err (Kind start)
+
 -- what follows the byte of kind, for a kind of this number
 unfoldable pub body_at : Form → ℕ → ℕ → Left → Read Msg
 body_at form start kind l =
@@ -236,7 +281,7 @@ body_at form start kind l =
     else if kind == 5 then get_at l
     else if kind == 6 then forward_at l
     else if kind == 7 then put_at form l
-    else Err (Kind start)
+    else later_body_at form start kind l
 
 -- the form that a byte of kind tells, if it is one
 unfoldable pub form_of : ℕ → Form

@@ -2,6 +2,7 @@
 use Rattle.std.specs.Prelude.{◌≡◌, ℕ, List, [], ◌∷◌, ◌++◌, ℤ, pos, negsuc, codes}
 use Rattle.tree_node.specs.declared.names.VarName.{VarName}
 use Rattle.tree_node.specs.declared.names.CellName.{CellName}
+use Rattle.tree_node.specs.declared.names.PortName.{PortName}
 use Rattle.tree_node.specs.declared.names.ProcName.{ProcName}
 use Rattle.tree_node.specs.declared.names.ThreadName.{ThreadName}
 use Rattle.tree_node.specs.declared.node.Feature.TheVariants as features
@@ -13,12 +14,18 @@ use Rattle.wire_form.specs.declared.form.Form.TheVariants as forms
 use Rattle.wire_form.specs.declared.fault.WireFault.TheVariants.{Short, Kind, Range, Order, Utf8, Rest}
 use Rattle.wire_form.specs.Format.{spelling, IsFirstFault}
 
--- name n of site s: of a variable, a cell, a procedure and a thread
+-- name n of site s: of a variable, a mobile cell, a stationary one, a port, a procedure and a thread
 abbrev pub var : ℕ → ℕ → VarName
 var s n = record { site = s; num = n }
 
 abbrev pub cell : ℕ → ℕ → CellName
-cell s n = record { site = s; num = n }
+cell s n = record { site = s; at = 0; num = n }
+
+abbrev pub stationary : ℕ → ℕ → ℕ → CellName
+stationary s n home = record { site = s; at = home; num = n }
+
+abbrev pub port : ℕ → ℕ → PortName
+port s n = record { site = s; num = n }
 
 abbrev pub proc : ℕ → ℕ → ProcName
 proc s n = record { site = s; num = n }
@@ -121,12 +128,34 @@ CellsAreSpelled =
     × AreSpellings (messages.Forward (cell 64 1) 2) (6 ∷ name_bytes 64 1 ++ 2 ∷ []) (22 ∷ name_bytes 64 1 ++ 2 ∷ [])
     × AreSpellings (messages.Put (cell 64 1) (var 1 2) []) (7 ∷ name_bytes 64 1 ++ name_bytes 1 2 ++ 0 ∷ 0 ∷ []) (23 ∷ name_bytes 64 1 ++ name_bytes 1 2 ++ 0 ∷ 0 ∷ [])
 
+-- port 3 of site 1 and the stationary cell 6 of site 2, whose home is site 3, as values, in form 2 alone
+abbrev pub PlacesAreSpelled : Type 0
+PlacesAreSpelled =
+    (spelling forms.Two (messages.Binding (var 1 2) (terms.Node (nodes.Port (port 1 3))) []) ≡ 20 ∷ name_bytes 1 2 ++ 6 ∷ name_bytes 1 3 ++ 0 ∷ 0 ∷ [])
+    × (spelling forms.Two (messages.Binding (var 1 2) (terms.Node (nodes.Cell (stationary 2 6 3))) []) ≡ 20 ∷ name_bytes 1 2 ++ 7 ∷ name_bytes 2 6 ++ 3 ∷ 0 ∷ 0 ∷ [])
+
+-- thread 2 of site 4 sends to that port; thread 1 of site 4 exchanges the content of that cell
+abbrev pub RequestsAreSpelled : Type 0
+RequestsAreSpelled =
+    (spelling forms.Two (messages.PortSend (port 1 3) (thread 4 2) 4) ≡ 24 ∷ name_bytes 1 3 ++ name_bytes 4 2 ++ 4 ∷ [])
+    × (spelling forms.Two (messages.PortEnd (thread 4 2) (var 2 5) (var 1 7) []) ≡ 25 ∷ name_bytes 4 2 ++ name_bytes 2 5 ++ name_bytes 1 7 ++ 0 ∷ 0 ∷ [])
+    × (spelling forms.Two (messages.CellMake (stationary 2 6 3) (var 2 1) []) ≡ 26 ∷ name_bytes 2 6 ++ 3 ∷ name_bytes 2 1 ++ 0 ∷ 0 ∷ [])
+    × (spelling forms.Two (messages.CellAsk (stationary 2 6 3) (thread 4 1) 4 (var 4 9) []) ≡ 27 ∷ name_bytes 2 6 ++ 3 ∷ name_bytes 4 1 ++ 4 ∷ name_bytes 4 9 ++ 0 ∷ 0 ∷ [])
+    × (spelling forms.Two (messages.CellOld (thread 4 1) (var 2 1) []) ≡ 28 ∷ name_bytes 4 1 ++ name_bytes 2 1 ++ 0 ∷ 0 ∷ [])
+
 -- no byte, and bytes that are kinds of neither form
 abbrev pub NothingIsShort : Type 0
 NothingIsShort = IsFirstFault [] (Short 0)
 
 abbrev pub OtherKindIsNone : Type 0
-OtherKindIsNone = IsFirstFault (0 ∷ []) (Kind 0) × IsFirstFault (8 ∷ []) (Kind 0) × IsFirstFault (16 ∷ []) (Kind 0) × IsFirstFault (24 ∷ []) (Kind 0)
+OtherKindIsNone = IsFirstFault (0 ∷ []) (Kind 0) × IsFirstFault (8 ∷ []) (Kind 0) × IsFirstFault (16 ∷ []) (Kind 0) × IsFirstFault (29 ∷ []) (Kind 0)
+
+-- a port in form 1, a stationary cell whose home is 0, and one whose home is 65
+abbrev pub OtherPlaceIsNone : Type 0
+OtherPlaceIsNone =
+    IsFirstFault (4 ∷ name_bytes 1 2 ++ 6 ∷ name_bytes 1 3 ++ 0 ∷ 0 ∷ []) (Kind 10)
+    × IsFirstFault (20 ∷ name_bytes 1 2 ++ 7 ∷ name_bytes 2 6 ++ 0 ∷ 0 ∷ 0 ∷ []) (Range 20)
+    × IsFirstFault (26 ∷ name_bytes 2 6 ++ 65 ∷ name_bytes 2 1 ++ 0 ∷ 0 ∷ []) (Range 10)
 
 -- the first message without its last byte, with another site, and with one byte more
 abbrev pub CutIsShort : Type 0

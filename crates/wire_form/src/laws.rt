@@ -1,7 +1,7 @@
 //! Laws of the format, and worked messages and faults. Each function does nothing: its clauses are what it shows.
 
 ghost use Rattle.wire_form.specs.Laws.{BytesHaveOne, SpellsOne, HasOneFault, NotBoth, NoProperPrefix, BeginsWithKind, NoKindOfBoth, TwoSpellsAll, FormatIsWhatFits};
-ghost use Rattle.wire_form.specs.Rows.{RegisterIsSpelled, IntegerIsSpelled, NegativeIsSpelled, WideIsSpelled, AtomIsSpelled, RecordIsSpelled, SpawnIsSpelled, ProcedureIsSpelled, CellsAreSpelled, NothingIsShort, OtherKindIsNone, CutIsShort, OtherSiteIsOut, MoreIsRest, OtherTextIsNone, ExchangedIsOutOfOrder, OtherWidthIsNone};
+ghost use Rattle.wire_form.specs.Rows.{RegisterIsSpelled, IntegerIsSpelled, NegativeIsSpelled, WideIsSpelled, AtomIsSpelled, RecordIsSpelled, SpawnIsSpelled, ProcedureIsSpelled, CellsAreSpelled, PlacesAreSpelled, RequestsAreSpelled, NothingIsShort, OtherKindIsNone, OtherPlaceIsNone, CutIsShort, OtherSiteIsOut, MoreIsRest, OtherTextIsNone, ExchangedIsOutOfOrder, OtherWidthIsNone};
 
 /// Every list of bytes is the spelling of one message in one form, or has one first fault.
 pub fn bytes_spell_or_fail()
@@ -44,12 +44,15 @@ pub fn worked_messages()
     ensures spawn { SpawnIsSpelled }
     ensures procedure { ProcedureIsSpelled }
     ensures cells { CellsAreSpelled }
+    ensures places { PlacesAreSpelled }
+    ensures requests { RequestsAreSpelled }
 {}
 
 /// Bytes that spell no message, and their first faults, one of each kind, in both forms.
 pub fn worked_faults()
     ensures nothing { NothingIsShort }
     ensures kind { OtherKindIsNone }
+    ensures place { OtherPlaceIsNone }
     ensures cut { CutIsShort }
     ensures site { OtherSiteIsOut }
     ensures more { MoreIsRest }

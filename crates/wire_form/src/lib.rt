@@ -4,7 +4,8 @@
 //! in other languages.
 //!
 //! Promises: `encode` answers the one spelling in form 2 of a message that can be spelled, which `site_message::wire_fits` tests;
-//! `encode_1` the one in form 1, where each integer has 64 bits besides, which `fits_words` tests. `decode` answers a message exactly
+//! `encode_1` the one in form 1, where besides each integer has 64 bits and nothing is of ports or stationary cells, which `fits_words`
+//! tests. `decode` answers a message exactly
 //! where the bytes are its spelling in one of the forms (`spelled`, `only`), which then can be spelled again (`fits`), and a fault
 //! exactly where it is the first fault of the bytes, with its place (`fault`, `first`). All three may answer that no memory was left,
 //! and nothing else. The spelling and the first fault are defined by a grammar of fields with the form as a parameter (`Field`,
@@ -31,6 +32,7 @@ mod form;
 mod laws;
 mod names;
 mod reading;
+mod requests;
 mod size;
 mod words;
 mod writing;

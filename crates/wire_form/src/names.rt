@@ -2,14 +2,15 @@
 
 ghost use Rattle.std.specs.Prelude.{◌≡◌};
 ghost use Rattle.std.specs.Str.{is_utf8};
-ghost use Rattle.wire_form.specs.Reading.{IsReadAs, name_at, var_name_at, cell_name_at, proc_name_at, thread_name_at, code_at, text_at, feature_at};
+ghost use Rattle.wire_form.specs.Reading.{IsReadAs, name_at, var_name_at, cell_name_at, stationary_name_at, port_name_at, proc_name_at, thread_name_at, code_at, text_at, feature_at};
 
 use crate::cursor::Cursor;
 use crate::fault::WireFault;
 use crate::form::Form;
 use std::alloc::Global;
 use tree_node::{
-    CellName, CodeId, Feature, Integer, MOST_SITES, ProcName, Shared, Text, ThreadName, VarName,
+    CellName, CodeId, Feature, Integer, MOST_SITES, PortName, ProcName, Shared, Text, ThreadName,
+    VarName,
 };
 
 // A site and a number.
@@ -31,13 +32,36 @@ pub(crate) fn var_name(cursor: &mut Cursor) -> Result<VarName, WireFault>
     Ok(VarName { site, num })
 }
 
-/// A cell's name.
+/// A mobile cell's name.
 #[tactic(auto, unfolding(crate::specs::Reading::cell_name_at))]
 pub(crate) fn cell_name(cursor: &mut Cursor) -> Result<CellName, WireFault>
     ensures { IsReadAs cell_name_at cursor.old cursor.new result }
 {
     let (site, num) = name(cursor)?;
-    Ok(CellName { site, num })
+    Ok(CellName { site, num, at: 0 })
+}
+
+/// A stationary cell's name, with its home.
+#[tactic(auto, unfolding(crate::specs::Reading::stationary_name_at))]
+pub(crate) fn stationary_name(cursor: &mut Cursor) -> Result<CellName, WireFault>
+    ensures { IsReadAs stationary_name_at cursor.old cursor.new result }
+{
+    let (site, num) = name(cursor)?;
+    let at = cursor.byte_within(1, MOST_SITES as u8)?;
+    Ok(CellName {
+        site,
+        num,
+        at: at as u32,
+    })
+}
+
+/// A port's name.
+#[tactic(auto, unfolding(crate::specs::Reading::port_name_at))]
+pub(crate) fn port_name(cursor: &mut Cursor) -> Result<PortName, WireFault>
+    ensures { IsReadAs port_name_at cursor.old cursor.new result }
+{
+    let (site, num) = name(cursor)?;
+    Ok(PortName { site, num })
 }
 
 /// A procedure's name.

@@ -10,12 +10,14 @@ ghost use Rattle.wire_form.specs.Format.{IsSpelling, IsFirstFault};
 ghost use Rattle.tree_node.specs.Store.{Equation};
 ghost use Rattle.tree_node.specs.declared.names.VarName.{VarName as AVarName};
 ghost use Rattle.tree_node.specs.declared.node.Feature.{Feature as AFeature};
-ghost use Rattle.wire_form.specs.Reading.{IsReadAs, is_above, feature_below, name_below, field_at, fields_at, variables_at, record_at, procedure_at, node_at, term_at, equation_at, bundle_at, spawn_at, register_at, bind_request_at, binding_at, get_at, forward_at, put_at, body_at, message_at, whole_of, IsReadAsWhole};
+ghost use Rattle.wire_form.specs.Reading.{IsReadAs, is_above, feature_below, name_below, field_at, fields_at, variables_at, record_at, procedure_at, later_node_at, node_at, term_at, equation_at, bundle_at, spawn_at, register_at, bind_request_at, binding_at, get_at, forward_at, put_at, port_send_at, port_end_at, cell_make_at, cell_ask_at, cell_old_at, later_body_at, body_at, message_at, whole_of, IsReadAsWhole};
 
 use crate::cursor::Cursor;
 use crate::fault::WireFault;
 use crate::form::Form;
-use crate::names::{cell_name, code, feature, proc_name, text, thread_name, var_name};
+use crate::names::{
+    cell_name, code, feature, port_name, proc_name, stationary_name, text, thread_name, var_name,
+};
 use site_message::{Bundle, Msg};
 use std::alloc::Global;
 use std::cmp::Ordering;
@@ -104,6 +106,21 @@ fn procedure(alloc: Global, cursor: &mut Cursor) -> Result<Term, WireFault>
     Ok(Term::Node(Node::Proc(name, code, formals, vars)))
 }
 
+// What follows a tag above 05, which stands at the place: that of a port or of a stationary cell, which form 2 alone has.
+#[tactic(auto, unfolding(crate::specs::Reading::later_node_at))]
+fn later_node(form: Form, at: usize, tag: u8, cursor: &mut Cursor) -> Result<Term, WireFault>
+    ensures { IsReadAs (later_node_at form at tag) cursor.old cursor.new result }
+{
+    match form {
+        Form::One => Err(WireFault::Kind(at)),
+        Form::Two => match tag {
+            6 => Ok(Term::Node(Node::Port(port_name(cursor)?))),
+            7 => Ok(Term::Node(Node::Cell(stationary_name(cursor)?))),
+            _ => Err(WireFault::Kind(at)),
+        },
+    }
+}
+
 // What follows the tag of a term, which stands at the place.
 #[tactic(auto, unfolding(crate::specs::Reading::node_at))]
 fn node(
@@ -122,7 +139,7 @@ fn node(
         3 => tree(alloc, form, cursor),
         4 => procedure(alloc, cursor),
         5 => Ok(Term::Node(Node::Cell(cell_name(cursor)?))),
-        _ => Err(WireFault::Kind(at)),
+        _ => later_node(form, at, tag, cursor),
     }
 }
 
@@ -274,6 +291,111 @@ fn put(alloc: Global, form: Form, cursor: &mut Cursor) -> Result<Msg, WireFault>
     })
 }
 
+// A request of a thread to a port.
+#[tactic(auto, unfolding(crate::specs::Reading::port_send_at))]
+fn port_send(cursor: &mut Cursor) -> Result<Msg, WireFault>
+    ensures { IsReadAs port_send_at cursor.old cursor.new result }
+{
+    let port = port_name(cursor)?;
+    let thread = thread_name(cursor)?;
+    let asking = cursor.byte_within(1, MOST_SITES as u8)? as u32;
+    Ok(Msg::PortSend {
+        port,
+        thread,
+        asking,
+    })
+}
+
+// The ends of a port, for a thread that sent to it.
+#[tactic(auto, unfolding(crate::specs::Reading::port_end_at))]
+fn port_end(alloc: Global, form: Form, cursor: &mut Cursor) -> Result<Msg, WireFault>
+    ensures { IsReadAs (port_end_at form) cursor.old cursor.new result }
+{
+    let thread = thread_name(cursor)?;
+    let old = var_name(cursor)?;
+    let new = var_name(cursor)?;
+    let bundle = bundle(alloc, form, cursor)?;
+    Ok(Msg::PortEnd {
+        thread,
+        old,
+        new,
+        bundle,
+    })
+}
+
+// A stationary cell that was made.
+#[tactic(auto, unfolding(crate::specs::Reading::cell_make_at))]
+fn cell_make(alloc: Global, form: Form, cursor: &mut Cursor) -> Result<Msg, WireFault>
+    ensures { IsReadAs (cell_make_at form) cursor.old cursor.new result }
+{
+    let cell = stationary_name(cursor)?;
+    let content = var_name(cursor)?;
+    let bundle = bundle(alloc, form, cursor)?;
+    Ok(Msg::CellMake {
+        cell,
+        content,
+        bundle,
+    })
+}
+
+// A request of a thread to a stationary cell.
+#[tactic(auto, unfolding(crate::specs::Reading::cell_ask_at))]
+fn cell_ask(alloc: Global, form: Form, cursor: &mut Cursor) -> Result<Msg, WireFault>
+    ensures { IsReadAs (cell_ask_at form) cursor.old cursor.new result }
+{
+    let cell = stationary_name(cursor)?;
+    let thread = thread_name(cursor)?;
+    let asking = cursor.byte_within(1, MOST_SITES as u8)? as u32;
+    let new = var_name(cursor)?;
+    let bundle = bundle(alloc, form, cursor)?;
+    Ok(Msg::CellAsk {
+        cell,
+        thread,
+        asking,
+        new,
+        bundle,
+    })
+}
+
+// The old content of a stationary cell, for a thread that asked.
+#[tactic(auto, unfolding(crate::specs::Reading::cell_old_at))]
+fn cell_old(alloc: Global, form: Form, cursor: &mut Cursor) -> Result<Msg, WireFault>
+    ensures { IsReadAs (cell_old_at form) cursor.old cursor.new result }
+{
+    let thread = thread_name(cursor)?;
+    let content = var_name(cursor)?;
+    let bundle = bundle(alloc, form, cursor)?;
+    Ok(Msg::CellOld {
+        thread,
+        content,
+        bundle,
+    })
+}
+
+// What follows a byte of kind above the seventh, which stands at the place: form 2 alone has such kinds.
+#[tactic(auto, unfolding(crate::specs::Reading::later_body_at))]
+fn later_body(
+    alloc: Global,
+    form: Form,
+    at: usize,
+    kind: u8,
+    cursor: &mut Cursor,
+) -> Result<Msg, WireFault>
+    ensures { IsReadAs (later_body_at form at kind) cursor.old cursor.new result }
+{
+    match form {
+        Form::One => Err(WireFault::Kind(at)),
+        Form::Two => match kind {
+            8 => port_send(cursor),
+            9 => port_end(alloc, form, cursor),
+            10 => cell_make(alloc, form, cursor),
+            11 => cell_ask(alloc, form, cursor),
+            12 => cell_old(alloc, form, cursor),
+            _ => Err(WireFault::Kind(at)),
+        },
+    }
+}
+
 // What follows the byte of kind, which stands at the place and told this kind.
 #[tactic(auto, unfolding(crate::specs::Reading::body_at))]
 fn body(
@@ -293,7 +415,7 @@ fn body(
         5 => get(cursor),
         6 => forward(cursor),
         7 => put(alloc, form, cursor),
-        _ => Err(WireFault::Kind(at)),
+        _ => later_body(alloc, form, at, kind, cursor),
     }
 }
 

@@ -47,7 +47,8 @@ fn variables_size(vars: &[VarName]) -> usize {
 // A term with its tag.
 fn term_size(form: Form, term: &Term) -> usize {
     match term {
-        Term::Var(_) | Term::Node(Node::Cell(_)) => 1 + NAME,
+        Term::Var(_) | Term::Node(Node::Port(_)) => 1 + NAME,
+        Term::Node(Node::Cell(cell)) => { if cell.at == 0 { 1 + NAME } else { 1 + NAME + 1 } }
         Term::Node(Node::Int(_)) => 1 + integer_size(form),
         Term::Node(Node::Atom(text)) => 2usize.saturating_add(text.as_slice().len()),
         Term::Node(Node::Rec(label, fields)) => 2usize
@@ -82,8 +83,18 @@ pub(crate) fn message_size(form: Form, msg: &Msg) -> usize {
         Msg::Binding { term, bundle, .. } => (1 + NAME)
             .saturating_add(term_size(form, term))
             .saturating_add(bundle_size(form, bundle.as_slice())),
-        Msg::Put { bundle, .. } => {
+        Msg::Put { bundle, .. } | Msg::CellOld { bundle, .. } => {
             (1 + 2 * NAME).saturating_add(bundle_size(form, bundle.as_slice()))
+        }
+        Msg::PortSend { .. } => 1 + 2 * NAME + 1,
+        Msg::PortEnd { bundle, .. } => {
+            (1 + 3 * NAME).saturating_add(bundle_size(form, bundle.as_slice()))
+        }
+        Msg::CellMake { bundle, .. } => {
+            (2 + 2 * NAME).saturating_add(bundle_size(form, bundle.as_slice()))
+        }
+        Msg::CellAsk { bundle, .. } => {
+            (3 + 3 * NAME).saturating_add(bundle_size(form, bundle.as_slice()))
         }
     }
 }

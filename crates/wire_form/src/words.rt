@@ -38,21 +38,23 @@ fn fields_fit_words(fields: &[(Feature, VarName)]) -> bool
     true
 }
 
-// Whether each integer of the term has 64 bits.
+// Whether each integer of the term has 64 bits, and it is no port and no stationary cell.
 fn term_fits_words(term: &Term) -> bool
-    ensures { IsTrue result ↔ EachInTerm IsWord term.now }
+    ensures { IsTrue result ↔ EachInTerm IsWord ⊥ term.now }
 {
     match term {
         Term::Node(Node::Int(value)) => is_word(value),
         Term::Node(Node::Rec(_, fields)) => fields_fit_words(fields.as_slice()),
+        Term::Node(Node::Cell(cell)) => cell.at == 0,
+        Term::Node(Node::Port(_)) => false,
         _ => true,
     }
 }
 
-// Whether each integer of the bundle has 64 bits.
+// So it is with each term of the bundle.
 #[tactic(auto, using(site_message::proofs::EachLemmas::each_step, site_message::proofs::EachLemmas::each_stop, site_message::proofs::EachLemmas::each_end))]
 fn bundle_fits_words(equations: &[(VarName, Term)]) -> bool
-    ensures { IsTrue result ↔ EachInBundle IsWord equations.now }
+    ensures { IsTrue result ↔ EachInBundle IsWord ⊥ equations.now }
 {
     for equation in equations {
         if !term_fits_words(&equation.1) {
@@ -62,8 +64,8 @@ fn bundle_fits_words(equations: &[(VarName, Term)]) -> bool
     true
 }
 
-/// Whether each integer of a message, features included, has 64 bits: form 1 spells no other, and a message that
-/// `site_message::wire_fits` tells can then be spelled in form 1. It takes a step for each equation and each field.
+/// Whether form 1 can have a message that `site_message::wire_fits` tells: each of its integers, features included, has 64 bits, and it
+/// has nothing of ports and stationary cells. It takes a step for each equation and each field.
 pub fn fits_words(msg: &Msg) -> bool
     ensures { IsTrue result ↔ FitsWords msg.now }
 {
@@ -73,5 +75,10 @@ pub fn fits_words(msg: &Msg) -> bool
             term_fits_words(term) && bundle_fits_words(bundle.as_slice())
         }
         Msg::Register { .. } | Msg::Get { .. } | Msg::Forward { .. } => true,
+        Msg::PortSend { .. }
+        | Msg::PortEnd { .. }
+        | Msg::CellMake { .. }
+        | Msg::CellAsk { .. }
+        | Msg::CellOld { .. } => false,
     }
 }

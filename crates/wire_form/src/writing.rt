@@ -2,28 +2,32 @@
 
 ghost use Rattle.std.specs.Prelude.{◌≡◌, ◌+◌, ◌≤◌, ◌∷◌, ◌++◌, [], IfOk, OnOk};
 ghost use Rattle.tree_node.specs.Each.{Each};
+ghost use Rattle.tree_node.specs.declared.limits.TheConstants.{MOST_SITES};
 ghost use Rattle.tree_node.specs.declared.node.Term.{Term as ATerm};
-ghost use Rattle.site_message.specs.Wire.{IsSite, FitsText, FitsFeature, FitsField, FitsFields, FitsVar, FitsVars, FitsNode, FitsTerm, FitsEquation, FitsBundle, FitsWire};
+ghost use Rattle.site_message.specs.Wire.{IsSite, FitsText, FitsFeature, FitsField, FitsFields, FitsVar, FitsVars, FitsCell, FitsNode, FitsTerm, FitsEquation, FitsBundle, FitsWire};
 ghost use Rattle.tree_node.specs.declared.node.Term.TheVariants as terms;
 ghost use Rattle.site_message.specs.declared.message.Msg.TheVariants as messages;
 ghost use Rattle.wire_form.specs.declared.form.Form.TheVariants as forms;
 ghost use Rattle.std.specs.Int.{w64, w128};
 ghost use Rattle.wire_form.specs.Field.{signed_number};
-ghost use Rattle.wire_form.specs.Format.{lead, site, name, var_name, cell_name, proc_name, thread_name, code, integer, text, feature, record_field, record_fields, variables, term, equation, bundle, message, IsSpelling};
-ghost use Rattle.wire_form.specs.Numbers.{EachInFeature, EachInField, EachInTerm, EachInEquation, EachInBundle, EachInMessage, IsWord, FitsWords, HasRoom};
+ghost use Rattle.wire_form.specs.Format.{lead, IsTwo, site, name, var_name, cell_name, stationary_name, port_name, HasCell, cell_spelling, proc_name, thread_name, code, integer, text, feature, record_field, record_fields, variables, term, equation, bundle, message, IsSpelling};
+ghost use Rattle.wire_form.specs.Numbers.{IsMobileOr, EachInFeature, EachInField, EachInTerm, EachInEquation, EachInBundle, EachInMessage, IsWord, FitsWords, HasRoom};
 ghost use Rattle.wire_form.specs.Writing.{IsWritten};
 
 use crate::form::Form;
+use crate::requests::put_request_or_answer;
 use crate::size::message_size;
 use site_message::{Bundle, Msg};
 use std::alloc::{AllocError, Global};
-use tree_node::{CellName, CodeId, Feature, Node, ProcName, Seq, Term, ThreadName, VarName, Vars};
+use tree_node::{
+    CellName, CodeId, Feature, Node, PortName, ProcName, Seq, Term, ThreadName, VarName, Vars,
+};
 
 /// The bytes of a message.
 pub type Bytes = Seq<u8>;
 
 // A site.
-fn put_site(out: &mut Vec<u8>, value: u32) -> Result<(), AllocError>
+pub(crate) fn put_site(out: &mut Vec<u8>, value: u32) -> Result<(), AllocError>
     requires { IsSite value }
     ensures { IsWritten site value out.old.items out.new.items result }
 {
@@ -41,16 +45,50 @@ fn put_name(out: &mut Vec<u8>, site_of: u32, num: u64) -> Result<(), AllocError>
 }
 
 // A variable's name.
-fn put_var(out: &mut Vec<u8>, x: VarName) -> Result<(), AllocError>
+pub(crate) fn put_var(out: &mut Vec<u8>, x: VarName) -> Result<(), AllocError>
     requires { FitsVar x }
     ensures { IsWritten var_name x out.old.items out.new.items result }
 {
     put_name(out, x.site, x.num)
 }
 
-// A cell's name.
-fn put_cell(out: &mut Vec<u8>, x: CellName) -> Result<(), AllocError>
+// A port's name.
+pub(crate) fn put_port(out: &mut Vec<u8>, x: PortName) -> Result<(), AllocError>
     requires { IsSite x.site }
+    ensures { IsWritten port_name x out.old.items out.new.items result }
+{
+    put_name(out, x.site, x.num)
+}
+
+// A stationary cell's name, with its home.
+pub(crate) fn put_stationary(out: &mut Vec<u8>, x: CellName) -> Result<(), AllocError>
+    requires site { IsSite x.site }
+    requires home { IsSite x.at }
+    ensures { IsWritten stationary_name x out.old.items out.new.items result }
+{
+    put_name(out, x.site, x.num)?;
+    put_site(out, x.at)
+}
+
+// A cell as a value: a mobile one, or in form 2 a stationary one.
+fn put_cell_value(out: &mut Vec<u8>, form: Form, x: CellName) -> Result<(), AllocError>
+    requires site { IsSite x.site }
+    requires home { x.at ≤ MOST_SITES }
+    requires room { IsMobileOr (IsTwo form) x.at }
+    ensures { OnOk result (HasCell form x x.at × (out.new.items ≡ out.old.items ++ cell_spelling x x.at)) }
+{
+    if x.at == 0 {
+        out.push(5)?;
+        put_cell(out, x)
+    } else {
+        out.push(7)?;
+        put_stationary(out, x)
+    }
+}
+
+// A mobile cell's name.
+fn put_cell(out: &mut Vec<u8>, x: CellName) -> Result<(), AllocError>
+    requires { FitsCell x }
     ensures { IsWritten cell_name x out.old.items out.new.items result }
 {
     put_name(out, x.site, x.num)
@@ -65,7 +103,7 @@ fn put_proc(out: &mut Vec<u8>, x: ProcName) -> Result<(), AllocError>
 }
 
 // A thread's name.
-fn put_thread(out: &mut Vec<u8>, x: ThreadName) -> Result<(), AllocError>
+pub(crate) fn put_thread(out: &mut Vec<u8>, x: ThreadName) -> Result<(), AllocError>
     requires { IsSite x.site }
     ensures { IsWritten thread_name x out.old.items out.new.items result }
 {
@@ -173,7 +211,7 @@ fn put_variables(out: &mut Vec<u8>, vars: &[VarName]) -> Result<(), AllocError>
 // A node, as a term.
 fn put_node(out: &mut Vec<u8>, form: Form, value: &Node) -> Result<(), AllocError>
     requires fits { FitsNode value.now }
-    requires room { EachInTerm (HasRoom form) (terms.Node value.now) }
+    requires room { EachInTerm (HasRoom form) (IsTwo form) (terms.Node value.now) }
     ensures { IsWritten (term form) (terms.Node value.now) out.old.items out.new.items result }
 {
     match value {
@@ -197,9 +235,10 @@ fn put_node(out: &mut Vec<u8>, form: Form, value: &Node) -> Result<(), AllocErro
             out.push(*count)?;
             put_variables(out, vars.as_slice())
         }
-        Node::Cell(x) => {
-            out.push(5)?;
-            put_cell(out, *x)
+        Node::Cell(x) => put_cell_value(out, form, *x),
+        Node::Port(x) => {
+            out.push(6)?;
+            put_port(out, *x)
         }
     }
 }
@@ -207,7 +246,7 @@ fn put_node(out: &mut Vec<u8>, form: Form, value: &Node) -> Result<(), AllocErro
 // A term.
 fn put_term(out: &mut Vec<u8>, form: Form, value: &Term) -> Result<(), AllocError>
     requires fits { FitsTerm value.now }
-    requires room { EachInTerm (HasRoom form) value.now }
+    requires room { EachInTerm (HasRoom form) (IsTwo form) value.now }
     ensures { IsWritten (term form) value.now out.old.items out.new.items result }
 {
     match value {
@@ -222,7 +261,7 @@ fn put_term(out: &mut Vec<u8>, form: Form, value: &Term) -> Result<(), AllocErro
 // An equation of a bundle.
 fn put_equation(out: &mut Vec<u8>, form: Form, entry: &(VarName, Term)) -> Result<(), AllocError>
     requires fits { FitsEquation entry.now }
-    requires room { EachInEquation (HasRoom form) entry.now }
+    requires room { EachInEquation (HasRoom form) (IsTwo form) entry.now }
     ensures { IsWritten (equation form) entry.now out.old.items out.new.items result }
 {
     put_var(out, entry.0)?;
@@ -230,13 +269,13 @@ fn put_equation(out: &mut Vec<u8>, form: Form, entry: &(VarName, Term)) -> Resul
 }
 
 // A bundle.
-fn put_bundle(
+pub(crate) fn put_bundle(
     out: &mut Vec<u8>,
     form: Form,
     equations: &[(VarName, Term)],
 ) -> Result<(), AllocError>
     requires fits { FitsBundle equations.now }
-    requires room { EachInBundle (HasRoom form) equations.now }
+    requires room { EachInBundle (HasRoom form) (IsTwo form) equations.now }
     ensures { IsWritten (bundle form) equations.now out.old.items out.new.items result }
 {
     out.extend_from_slice(&(equations.len() as u16).to_be_bytes())?;
@@ -247,8 +286,8 @@ fn put_bundle(
 }
 
 // The byte of kind of a message, for a kind of this number.
-fn put_kind(out: &mut Vec<u8>, form: Form, kind: u8) -> Result<(), AllocError>
-    requires { kind ≤ 7 }
+pub(crate) fn put_kind(out: &mut Vec<u8>, form: Form, kind: u8) -> Result<(), AllocError>
+    requires { kind ≤ 12 }
     ensures { OnOk result (out.new.items ≡ out.old.items ++ (lead form + kind) ∷ []) }
 {
     out.push(form.lead() + kind)?;
@@ -265,7 +304,7 @@ fn put_spawn(
     bundle: &Bundle,
 ) -> Result<(), AllocError>
     requires fits { FitsWire (messages.Spawn thread code vars.now bundle.now) }
-    requires room { EachInMessage (HasRoom form) (messages.Spawn thread code vars.now bundle.now) }
+    requires room { EachInMessage (HasRoom form) (IsTwo form) (messages.Spawn thread code vars.now bundle.now) }
     ensures { IsWritten (message form) (messages.Spawn thread code vars.now bundle.now) out.old.items out.new.items result }
 {
     put_kind(out, form, 1)?;
@@ -295,7 +334,7 @@ fn put_bind_request(
     bundle: &Bundle,
 ) -> Result<(), AllocError>
     requires fits { FitsWire (messages.BindReq var thread term.now bundle.now) }
-    requires room { EachInMessage (HasRoom form) (messages.BindReq var thread term.now bundle.now) }
+    requires room { EachInMessage (HasRoom form) (IsTwo form) (messages.BindReq var thread term.now bundle.now) }
     ensures { IsWritten (message form) (messages.BindReq var thread term.now bundle.now) out.old.items out.new.items result }
 {
     put_kind(out, form, 3)?;
@@ -314,7 +353,7 @@ fn put_binding(
     bundle: &Bundle,
 ) -> Result<(), AllocError>
     requires fits { FitsWire (messages.Binding var term.now bundle.now) }
-    requires room { EachInMessage (HasRoom form) (messages.Binding var term.now bundle.now) }
+    requires room { EachInMessage (HasRoom form) (IsTwo form) (messages.Binding var term.now bundle.now) }
     ensures { IsWritten (message form) (messages.Binding var term.now bundle.now) out.old.items out.new.items result }
 {
     put_kind(out, form, 4)?;
@@ -357,7 +396,7 @@ fn put_token(
     bundle: &Bundle,
 ) -> Result<(), AllocError>
     requires fits { FitsWire (messages.Put cell content bundle.now) }
-    requires room { EachInMessage (HasRoom form) (messages.Put cell content bundle.now) }
+    requires room { EachInMessage (HasRoom form) (IsTwo form) (messages.Put cell content bundle.now) }
     ensures { IsWritten (message form) (messages.Put cell content bundle.now) out.old.items out.new.items result }
 {
     put_kind(out, form, 7)?;
@@ -369,7 +408,7 @@ fn put_token(
 // A message.
 fn put_message(out: &mut Vec<u8>, form: Form, msg: &Msg) -> Result<(), AllocError>
     requires fits { FitsWire msg.now }
-    requires room { EachInMessage (HasRoom form) msg.now }
+    requires room { EachInMessage (HasRoom form) (IsTwo form) msg.now }
     ensures { IsWritten (message form) msg.now out.old.items out.new.items result }
 {
     match msg {
@@ -394,13 +433,14 @@ fn put_message(out: &mut Vec<u8>, form: Form, msg: &Msg) -> Result<(), AllocErro
             content,
             bundle,
         } => put_token(out, form, *cell, *content, bundle),
+        _ => put_request_or_answer(out, form, msg),
     }
 }
 
 // The spelling of a message in the form. It takes memory once for all of the bytes, and a step for each part of the message.
 fn spelling(alloc: Global, form: Form, msg: &Msg) -> Result<Bytes, AllocError>
     requires fits { FitsWire msg.now }
-    requires room { EachInMessage (HasRoom form) msg.now }
+    requires room { EachInMessage (HasRoom form) (IsTwo form) msg.now }
     ensures { IfOk result (λ bytes. IsSpelling form bytes msg.now) }
 {
     let mut out = Vec::with_capacity(alloc, message_size(form, msg))?;
@@ -417,8 +457,8 @@ pub fn encode(alloc: Global, msg: &Msg) -> Result<Bytes, AllocError>
     spelling(alloc, Form::Two, msg)
 }
 
-/// The one spelling of a message in form 1, for readers that know no other: each integer has to have 64 bits, which
-/// `fits_words` tests. It costs what `encode` does.
+/// The one spelling of a message in form 1, for readers that know no other: it has to be one that `fits_words`
+/// tells. It costs what `encode` does.
 pub fn encode_1(alloc: Global, msg: &Msg) -> Result<Bytes, AllocError>
     requires fits { FitsWire msg.now }
     requires words { FitsWords msg.now }

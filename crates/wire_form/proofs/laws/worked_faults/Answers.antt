@@ -1,4 +1,4 @@
-use Rattle.wire_form.proofs.RowsRead.{kind, cut, other_site, more, other_text, exchanged, other_width}
+use Rattle.wire_form.proofs.RowsRead.{kind, place, cut, other_site, more, other_text, exchanged, other_width}
 use Rattle.wire_form.proofs.laws.worked_faults.Goals as goal
 
 pub returns-clause-cut : goal.returns-clause-cut
@@ -21,3 +21,6 @@ returns-clause-width c = other_width
 
 pub returns-clause-kind : goal.returns-clause-kind
 returns-clause-kind c = kind
+
+pub returns-clause-place : goal.returns-clause-place
+returns-clause-place c = place

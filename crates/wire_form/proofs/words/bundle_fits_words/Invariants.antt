@@ -5,4 +5,4 @@ use Rattle.wire_form.specs.Numbers.{EachInEquation, IsWord}
 use Rattle.wire_form.proofs.words.bundle_fits_words.Given as goal
 
 abbrev pub invariant-loop-equation : goal.invariant-loop-equation
-invariant-loop-equation l = Each (EachInEquation IsWord) (drop l.equation-index l.equations) ↔ Each (EachInEquation IsWord) l.equations
+invariant-loop-equation l = Each (EachInEquation IsWord ⊥) (drop l.equation-index l.equations) ↔ Each (EachInEquation IsWord ⊥) l.equations
