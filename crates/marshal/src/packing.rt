@@ -33,6 +33,10 @@ fn bundle_of(alloc: Global, store: &Store, msg: &Msg, limit: usize) -> Result<Bu
         Msg::BindReq { term, .. } => export_term(alloc, store, term, limit),
         Msg::Binding { term, .. } => export_term(alloc, store, term, limit),
         Msg::Put { content, .. } => export(alloc, store, *content, limit),
+        Msg::PortEnd { old, new, .. } => export_from(alloc, store, &[*old, *new], limit),
+        Msg::CellMake { content, .. } => export(alloc, store, *content, limit),
+        Msg::CellAsk { new, .. } => export(alloc, store, *new, limit),
+        Msg::CellOld { content, .. } => export(alloc, store, *content, limit),
         _ => Ok(Bundle::new()),
     }
 }
@@ -67,6 +71,44 @@ fn with_bundle(msg: Msg, bundle: Bundle) -> Msg
         Msg::Binding { var, term, .. } => Msg::Binding { var, term, bundle },
         Msg::Put { cell, content, .. } => Msg::Put {
             cell,
+            content,
+            bundle,
+        },
+        Msg::PortEnd {
+            thread,
+            old,
+            new,
+            ..
+        } => Msg::PortEnd {
+            thread,
+            old,
+            new,
+            bundle,
+        },
+        Msg::CellMake { cell, content, .. } => Msg::CellMake {
+            cell,
+            content,
+            bundle,
+        },
+        Msg::CellAsk {
+            cell,
+            thread,
+            asking,
+            new,
+            ..
+        } => Msg::CellAsk {
+            cell,
+            thread,
+            asking,
+            new,
+            bundle,
+        },
+        Msg::CellOld {
+            thread,
+            content,
+            ..
+        } => Msg::CellOld {
+            thread,
             content,
             bundle,
         },

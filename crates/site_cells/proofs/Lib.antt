@@ -1,3 +1,4 @@
+pub mod HomeLemmas
 pub mod RecordLemmas
 pub mod RowLemmas
 pub mod TokenLemmas

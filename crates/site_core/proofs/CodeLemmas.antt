@@ -51,6 +51,7 @@ node_same p is (node.Int i) w = (λ h. tt, λ h. tt)
 node_same p is (node.Atom t) w = (λ h. tt, λ h. tt)
 node_same p is (node.Rec l fs) w = (λ h. (w.1.0, w.1.1, w.1.3), λ h. tt)
 node_same p is (node.Cell c) w = (λ h. tt, λ h. tt)
+node_same p is (node.Port c) w = (λ h. tt, λ h. tt)
 node_same p is (node.Proc q code formals vars) w = (λ h. tell_made p formals vars (stmt_at p code) h.1, λ h. made_fits p is code formals vars h)
 
 pub term_same : (p : List Stmt) → IsProgram p → (t : Term) → FitsTerm t → TermFits p t ↔ IsNodeOf (IsNode p) t
@@ -82,6 +83,19 @@ codes_same p is (msg.Binding x t es) w =
 codes_same p is (msg.Get c k) w = (λ h. (tt, (tt, tt)), λ h. tt)
 codes_same p is (msg.Forward c k) w = (λ h. (tt, (tt, tt)), λ h. tt)
 codes_same p is (msg.Put c v es) w =
+    let rest = equations_same p is es w.2.1 in
+    (λ h. (tt, (tt, rest.0 h)), λ h. rest.1 h.1.1)
+codes_same p is (msg.PortSend q n k) w = (λ h. (tt, (tt, tt)), λ h. tt)
+codes_same p is (msg.PortEnd n old new es) w =
+    let rest = equations_same p is es w.3.1 in
+    (λ h. (tt, (tt, rest.0 h)), λ h. rest.1 h.1.1)
+codes_same p is (msg.CellMake c v es) w =
+    let rest = equations_same p is es w.3.1 in
+    (λ h. (tt, (tt, rest.0 h)), λ h. rest.1 h.1.1)
+codes_same p is (msg.CellAsk c n k v es) w =
+    let rest = equations_same p is es w.5.1 in
+    (λ h. (tt, (tt, rest.0 h)), λ h. rest.1 h.1.1)
+codes_same p is (msg.CellOld n v es) w =
     let rest = equations_same p is es w.2.1 in
     (λ h. (tt, (tt, rest.0 h)), λ h. rest.1 h.1.1)
 

@@ -1,5 +1,5 @@
 -- What a message that is fit allows, once it is opened.
-use Rattle.std.proofs.Common.{◌≡◌, ◌∙◌, sym, refl, subst, List, [], ◌∷◌, Bool, true, false, cond, Some, None}
+use Rattle.std.proofs.Common.{◌≡◌, ◌∙◌, sym, ap, refl, subst, List, [], ◌∷◌, Bool, true, false, cond, Some, None}
 use Rattle.std.specs.Prelude.{Option, ◌↔◌, Contains, IsTrue, IsSome, not, Result, OnOk}
 use Rattle.std.proofs.lemmas.Result.{on_ok_weaker}
 use Rattle.tree_node.specs.declared.names.VarName.{VarName}
@@ -10,12 +10,13 @@ use Rattle.tree_node.specs.declared.node.Term.{Term}
 use Rattle.tree_node.specs.Assoc.{value_of}
 use Rattle.tree_node.specs.Each.{Each}
 use Rattle.tree_node.specs.Order.{site_of as site_in_name}
-use Rattle.tree_node.specs.State.{equal_thread}
+use Rattle.tree_node.specs.State.{Stack, equal_thread}
 use Rattle.kernel_syntax.specs.declared.stmt.Stmt.{Stmt}
 use Rattle.kernel_syntax.specs.Program.{IsProgram}
 use Rattle.site_message.specs.declared.message.Msg.{Msg}
 use Rattle.site_message.specs.declared.message.Msg.TheVariants as msg
 use Rattle.site_message.specs.Vars.{vars_of}
+use Rattle.port_owner.specs.Ports.{Owned as Owner, end_of}
 use Rattle.variable_owner.specs.Owners.{Owned, owner_of, sites_of, IsMade as IsOwned}
 use Rattle.oz_model.proofs.NameLemmas.{Each-weaker}
 use Rattle.name_supply.specs.declared.fresh.Fresh.{Fresh}
@@ -23,21 +24,25 @@ use Rattle.name_supply.specs.declared.fresh.Fresh.TheVariants as fresh
 use Rattle.thread_machine.specs.Fits.{TermFits}
 use Rattle.thread_machine.specs.Running.{Running}
 use Rattle.name_supply.specs.Supply.{site_in, IsMade}
+use Rattle.thread_roster.specs.declared.mode.Awaited.TheVariants.{Cell, Port}
 use Rattle.thread_roster.specs.declared.mode.Mode.{Mode}
+use Rattle.thread_roster.specs.declared.mode.Mode.TheVariants.{WaitsFor}
 use Rattle.thread_roster.proofs.ThreadLemmas.{seen_none}
 use Rattle.site_model.specs.Bundle.{vars_of_equations, message_vars}
 use Rattle.site_model.specs.Fit.{IsFit, IsKnownName, IsBelowCounter}
 use Rattle.site_model.specs.Messages.{message_row}
 use Rattle.site_cells.specs.Tables.{CellTables, AreTablesOf, IsReceivableAsSites, IsReceivable}
+use Rattle.site_cells.specs.Homes.{HomeTable, home_in}
 use Rattle.site_variables.specs.Variables.{IsGrown, stacks_of}
 use Rattle.site_units.specs.declared.data.Core.{Core}
 use Rattle.site_units.specs.declared.data.Output.{Output}
 use Rattle.site_units.specs.Core.{site_of, stack_in, counters_of}
 use Rattle.site_units.specs.Invariant.{IsConsistent}
 use Rattle.site_units.specs.Turns.{IsRowMade}
-use Rattle.site_units.proofs.ThreadLemmas.{Living}
+use Rattle.site_units.proofs.ThreadLemmas.{Living, WaitsStay, some_there, thread_found}
 use Rattle.site_core.specs.Turns.{CanDeliver}
 use Rattle.site_core.proofs.CodeLemmas.{term_same}
+use Rattle.site_core.proofs.FitLemmas.{none_found, same_mode}
 use Rattle.site_core.proofs.NameLemmas.{message_each, term_known}
 use Rattle.kernel_syntax.proofs.PreorderLemmas.{each_left}
 
@@ -83,17 +88,27 @@ new_thread ts n b same = (
     nowhere None false same e = refl
     nowhere (Some v) b same e = cc
 
+-- a stack that stands so is a thread's
+behind : (ts : Living) (n : ThreadName) (st : Stack) (k : Mode) → value_of equal_thread (stacks_of stack_in ts) n ≡ Some (st, k) → (r : Running) × (value_of equal_thread ts n ≡ Some (r, k))
+behind ts n st k h = go (value_of equal_thread ts n) refl
+  where
+    go : (o : Option (Running × Mode)) → value_of equal_thread ts n ≡ o → (r : Running) × (value_of equal_thread ts n ≡ Some (r, k))
+    go None e = let none : value_of equal_thread (stacks_of stack_in ts) n ≡ None = seen_none (λ (e : Running × Mode). (stack_in e.0, e.1)) ts n e in absurd (none_found (st, k) (sym none ∙ h))
+    go (Some (r, m)) e =
+        (r, e ∙ ap (λ (j : Mode). Some (r, j)) (same_mode r.stack st m k (sym (thread_found ts n r m e) ∙ h)))
+
 -- ---- names that can come
 
 -- a name that can come is no later one of this site's
 known_made : (c : Core) (x : Name) → site_in c.fresh ≡ Some c.variables.binder.site → IsKnownName c.sites (site_of c) x → IsMade c.fresh x
-known_made c x at h = go c.fresh x at h.2
+known_made c x at h = go c.fresh x at h.3
   where
     go : (f : Fresh) (x : Name) → site_in f ≡ Some c.variables.binder.site → (site_in_name x ≡ c.variables.binder.site → IsBelowCounter (counters_of f) x) → IsMade f x
-    go (fresh.Counted site vars cells procs threads) (name.Var x) e b = let is : site ≡ c.variables.binder.site = cc in λ same. b (same ∙ is)
-    go (fresh.Counted site vars cells procs threads) (name.Cell x) e b = let is : site ≡ c.variables.binder.site = cc in λ same. b (same ∙ is)
-    go (fresh.Counted site vars cells procs threads) (name.Proc x) e b = let is : site ≡ c.variables.binder.site = cc in λ same. b (same ∙ is)
-    go (fresh.Counted site vars cells procs threads) (name.Thread x) e b = let is : site ≡ c.variables.binder.site = cc in λ same. b (same ∙ is)
+    go (fresh.Counted site sites vars cells procs threads ports) (name.Var x) e b = let is : site ≡ c.variables.binder.site = cc in λ same. b (same ∙ is)
+    go (fresh.Counted site sites vars cells procs threads ports) (name.Cell x) e b = let is : site ≡ c.variables.binder.site = cc in λ same. b (same ∙ is)
+    go (fresh.Counted site sites vars cells procs threads ports) (name.Proc x) e b = let is : site ≡ c.variables.binder.site = cc in λ same. b (same ∙ is)
+    go (fresh.Counted site sites vars cells procs threads ports) (name.Port x) e b = let is : site ≡ c.variables.binder.site = cc in λ same. b (same ∙ is)
+    go (fresh.Counted site sites vars cells procs threads ports) (name.Thread x) e b = let is : site ≡ c.variables.binder.site = cc in λ same. b (same ∙ is)
     go (fresh.Given names) x e b = let no : None ≡ Some c.variables.binder.site = e in cc
 
 pub vars_made : (p : List Stmt) (c : Core) (m : Msg) → IsConsistent p c → IsFit p c.sites (site_of c) m → Each (λ (x : VarName). IsMade c.fresh (name.Var x)) (message_vars m)
@@ -111,7 +126,10 @@ pub record IsOpened (p : List Stmt) (m : Msg) (c c1 : Core) : Type 0 where
   pub lives : (n : ThreadName) → value_of equal_thread c.threads.living n ≡ None → value_of equal_thread c1.threads.living n ≡ None
   pub owners : c1.variables.binder.owners ≡ c.variables.binder.owners
   pub site : c1.variables.binder.site ≡ c.variables.binder.site
+  pub waits : WaitsStay c.threads.living c1.threads.living
   pub cells : c1.cells ≡ c.cells
+  pub ports : c1.ports ≡ c.ports
+  pub homes : c1.homes ≡ c.homes
   pub counters : c1.fresh ≡ c.fresh
 
 pub deliverable : (p : List Stmt) → IsProgram p → IsReceivableAsSites → (m : Msg) (c c1 : Core) → IsConsistent p c → IsFit p c.sites (site_of c) m → IsOpened p m c c1 → CanDeliver p c1 m
@@ -158,3 +176,12 @@ deliverable p is law m c c1 h fit o = go m fit o.known
     go (msg.Get cell k) f known = taken (msg.Get cell k) ((law.get (site_of c) c.cells cell k tables).1 f.takes)
     go (msg.Forward cell k) f known = taken (msg.Forward cell k) ((law.forward (site_of c) c.cells cell k tables).1 f.takes)
     go (msg.Put cell v es) f known = (taken (msg.Put cell v es) ((law.put (site_of c) c.cells cell v es tables).1 f.takes), known.0)
+    go (msg.PortSend q n k) f known = subst (λ (ps : List Owner). IsSome (end_of ps q)) (sym o.ports) (some_there (end_of c.ports q) f.takes.1 f.takes.2)
+    go (msg.PortEnd n old new es) f known =
+        let there = behind c.threads.living n f.takes.0 (WaitsFor (Port f.takes.1)) f.takes.2 in
+        ((there.0, f.takes.1, o.waits n there.0 (Port f.takes.1) there.1), known.0, known.1.0)
+    go (msg.CellMake cell v es) f known = (subst (λ (hs : HomeTable). (home_in hs cell).content ≡ None) (sym o.homes) f.takes.1, known.0)
+    go (msg.CellAsk cell n k v es) f known = ((λ e. f.sites.2 (e ∙ o.site)), known.0)
+    go (msg.CellOld n v es) f known =
+        let there = behind c.threads.living n f.takes.0 (WaitsFor (Cell f.takes.1)) f.takes.4 in
+        ((there.0, f.takes.1, f.takes.2, (λ e. f.takes.3 (e ∙ o.site)), o.waits n there.0 (Cell f.takes.1) there.1), known.0)

@@ -35,6 +35,7 @@ module _ (P : Name → Type 0) where
   term_each (term.Node (node.Rec l fs)) h = fields_each fs h
   term_each (term.Node (node.Proc q code formals vars)) h = h.1
   term_each (term.Node (node.Cell c)) h = tt
+  term_each (term.Node (node.Port c)) h = tt
 
   equations_each : (es : List Equation) → Each (EachOfEquation P) es → Each (λ (x : VarName). P (name.Var x)) (vars_of_equations es)
   equations_each [] h = tt
@@ -49,6 +50,11 @@ module _ (P : Name → Type 0) where
   message_each (msg.Get c k) h = tt
   message_each (msg.Forward c k) h = tt
   message_each (msg.Put c v es) h = (h.1, equations_each es h.2)
+  message_each (msg.PortSend q n k) h = tt
+  message_each (msg.PortEnd n old new es) h = (h.1, (h.2, equations_each es h.3))
+  message_each (msg.CellMake c v es) h = (h.1, equations_each es h.2)
+  message_each (msg.CellAsk c n k v es) h = (h.2, equations_each es h.3)
+  message_each (msg.CellOld n v es) h = (h.1, equations_each es h.2)
 
 -- ---- from variables to names
 
@@ -65,3 +71,4 @@ module _ (known : List VarName) where
   term_known (term.Node (node.Rec l fs)) h = fields_known fs h
   term_known (term.Node (node.Proc q code formals vars)) h = (tt, h)
   term_known (term.Node (node.Cell c)) h = tt
+  term_known (term.Node (node.Port c)) h = tt

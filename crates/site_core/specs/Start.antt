@@ -30,13 +30,15 @@ first_living p i = if i == 1 then (first_thread, (first_running p, Runs)) ∷ []
 abbrev pub first_order : ℕ → List ThreadName
 first_order i = if i == 1 then first_thread ∷ [] else []
 
--- the data of site i of n, which knows nothing, made nothing but the program's thread where it is site 1, and uses no cell
+-- the data of site i of n, which knows nothing, made nothing but the program's thread where it is site 1, and uses no cell and no port
 pub record IsBare (i n : ℕ) (c : Core) : Type 0 where
   pub equations : c.variables.store.equations ≡ []
   pub known : c.variables.store.known ≡ []
   pub records : c.variables.binder ≡ record { site = i; owners = []; proxies = [] }
   pub linked : IsLinked c.variables
   pub cells : c.cells ≡ record { site = i; managers = []; cell_records = [] }
-  pub counters : c.fresh ≡ Counted i 0 0 0 (if i == 1 then 1 else 0)
+  pub ports : c.ports ≡ []
+  pub homes : c.homes ≡ []
+  pub counters : c.fresh ≡ Counted i n 0 0 0 (if i == 1 then 1 else 0) 0
   pub steps : c.steps ≡ 0
   pub sites : c.sites ≡ n

@@ -1,6 +1,8 @@
 -- Messages that a site's data receive, and turns.
-use Rattle.std.specs.Prelude.{◌≡◌, ◌≢◌, ℕ, List, ◌++◌, Option, None, Contains}
+use Rattle.std.specs.Prelude.{◌≡◌, ◌≢◌, ℕ, List, ◌++◌, Option, Some, None, Contains, IsSome}
 use Rattle.tree_node.specs.declared.names.VarName.{VarName}
+use Rattle.tree_node.specs.declared.names.CellName.{CellName}
+use Rattle.tree_node.specs.declared.names.PortName.{PortName}
 use Rattle.tree_node.specs.declared.names.ThreadName.{ThreadName}
 use Rattle.tree_node.specs.declared.names.Name.TheVariants as name
 use Rattle.tree_node.specs.Assoc.{value_of}
@@ -11,11 +13,16 @@ use Rattle.tree_node.specs.State.{equal_thread}
 use Rattle.kernel_syntax.specs.declared.stmt.Stmt.{Stmt}
 use Rattle.site_message.specs.declared.message.Msg.{Msg}
 use Rattle.site_message.specs.declared.message.Msg.TheVariants as msg
+use Rattle.port_owner.specs.Ports.{end_of}
 use Rattle.variable_owner.specs.Owners.{IsMade as IsOwned, owner_of, sites_of}
 use Rattle.bind_protocol.specs.Records.{IsKnown as IsMet}
 use Rattle.thread_machine.specs.Fits.{VarsFit, TermFits, IsKnown}
+use Rattle.thread_machine.specs.Running.{Running}
 use Rattle.name_supply.specs.Supply.{IsMade}
+use Rattle.thread_roster.specs.declared.mode.Awaited.TheVariants.{Cell, Port}
+use Rattle.thread_roster.specs.declared.mode.Mode.TheVariants.{WaitsFor}
 use Rattle.site_cells.specs.Tables.{IsReceivable}
+use Rattle.site_cells.specs.Homes.{home_in}
 use Rattle.site_model.specs.Bundle.{bundle_limit}
 use Rattle.site_model.specs.Transition.{Transition}
 use Rattle.site_model.specs.Turn.{IsReception, IsFullTurnOf}
@@ -29,7 +36,9 @@ use Rattle.site_core.specs.Site.{IsTransitionInOrder}
 
 -- the data can do the row of the message, which was opened: a new thread lives nowhere here, its name is no later one of this
 -- site's, and its code fits; an own variable was made, and the asking site is not registered; a term fits, leads down and is of
--- known variables; a variable of another site was met; the cell can take its message, and its content is known
+-- known variables; a variable of another site was met; the cell can take its message, and its content is known; a port was made here; a thread waits for the
+-- end of a port, or for the content of a cell of another home, and both ends, or the content, are known; the home did not hear of the
+-- cell; a request of another site leaves a known content
 abbrev pub CanDeliver : List Stmt → Core → Msg → Type 0
 CanDeliver p c (msg.Spawn n code vars bundle) =
     (value_of equal_thread c.threads.living n ≡ None) × IsMade c.fresh (name.Thread n) × VarsFit p code vars
@@ -46,6 +55,15 @@ CanDeliver p c (msg.Binding x t bundle) =
 CanDeliver p c (msg.Get cell k) = IsReceivable c.cells (msg.Get cell k)
 CanDeliver p c (msg.Forward cell k) = IsReceivable c.cells (msg.Forward cell k)
 CanDeliver p c (msg.Put cell v bundle) = IsReceivable c.cells (msg.Put cell v bundle) × Contains c.variables.store.known v
+CanDeliver p c (msg.PortSend q n k) = IsSome (end_of c.ports q)
+CanDeliver p c (msg.PortEnd n old new bundle) =
+    ((r : Running) × (q : PortName) × (value_of equal_thread c.threads.living n ≡ Some (r, WaitsFor (Port q))))
+    × Contains c.variables.store.known old × Contains c.variables.store.known new
+CanDeliver p c (msg.CellMake cell v bundle) = ((home_in c.homes cell).content ≡ None) × Contains c.variables.store.known v
+CanDeliver p c (msg.CellAsk cell n k v bundle) = (k ≢ c.variables.binder.site) × Contains c.variables.store.known v
+CanDeliver p c (msg.CellOld n v bundle) =
+    ((r : Running) × (d : CellName) × (d.at ≢ 0) × (d.at ≢ c.variables.binder.site) × (value_of equal_thread c.threads.living n ≡ Some (r, WaitsFor (Cell d))))
+    × Contains c.variables.store.known v
 
 -- the data and the output came by the message: by its row where it is fit, and nothing changed where it is not
 abbrev pub IsReceived : List Stmt → Option Msg → Core → Output → Core → Output → Type 0

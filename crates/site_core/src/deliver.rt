@@ -9,8 +9,12 @@ ghost use Rattle.site_core.specs.Turns.{CanDeliver};
 
 use kernel_syntax::Program;
 use site_message::Msg;
-use site_units::{Core, Output, begin, follow, grant, learn, pass_on, register, serve};
+use site_units::{
+    Core, Output, begin, exchange_for, follow, grant, hear, learn, move_end, pass_on, register,
+    resume_sent, resume_served, serve,
+};
 use std::alloc::AllocError;
+use token_chain::EarlyRequest;
 
 /// The row of the message's kind. What it sends is bare: it gets its bundles at the row's end.
 pub fn deliver(
@@ -44,5 +48,36 @@ pub fn deliver(
         Msg::Get { cell, asking } => pass_on(core, output, cell, asking),
         Msg::Forward { cell, next } => follow(core, output, cell, next),
         Msg::Put { cell, content, .. } => serve(core, output, program, cell, content),
+        Msg::PortSend {
+            port,
+            thread,
+            asking,
+        } => move_end(core, output, port, thread, asking),
+        Msg::PortEnd {
+            thread,
+            old,
+            new,
+            ..
+        } => resume_sent(core, output, thread, old, new),
+        Msg::CellMake { cell, content, .. } => hear(core, output, cell, content),
+        Msg::CellAsk {
+            cell,
+            thread,
+            asking,
+            new,
+            ..
+        } => {
+            let request = EarlyRequest {
+                thread,
+                asking,
+                new,
+            };
+            exchange_for(core, output, cell, request)
+        }
+        Msg::CellOld {
+            thread,
+            content,
+            ..
+        } => resume_served(core, output, thread, content),
     }
 }

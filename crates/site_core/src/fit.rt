@@ -8,16 +8,17 @@ ghost use Rattle.site_model.specs.Fit.{IsFit, CanTake, CodesFit};
 ghost use Rattle.site_variables.specs.Fit.{IsBoundOf};
 ghost use Rattle.site_units.specs.Core.{site_of};
 ghost use Rattle.site_units.specs.Invariant.{IsConsistent};
-ghost use Rattle.site_core.specs.Fitting.{IsEquationFit, PartsFit};
+ghost use Rattle.site_core.specs.Fitting.{IsEquationFit, PartsFit, IsForEnd, IsForContent, WaitsForEnd, WaitsForContent, HasPort, IsUnheard};
 
 use kernel_syntax::Program;
 use name_supply::Fresh;
 use site_cells::laws::tables_take_as_sites;
 use site_message::{Msg, wire_fits};
-use site_units::Core;
+use site_units::{Core, site_in};
 use site_variables::{Bounds, bundle_of, names_fit, sites_fit};
 use thread_machine::{term_fits, vars_fit};
-use tree_node::{Term, VarName};
+use thread_roster::{Awaited, Mode};
+use tree_node::{CellName, PortName, Term, ThreadName, VarName};
 
 // Whether the term of an equation fits the program.
 fn equation_fits(program: &Program, equation: &(VarName, Term)) -> bool
@@ -53,7 +54,11 @@ fn parts_fit(program: &Program, msg: &Msg) -> bool
         Msg::BindReq { term, bundle, .. } | Msg::Binding { term, bundle, .. } => {
             term_fits(program, term) && equations_fit(program, bundle.as_slice())
         }
-        Msg::Put { bundle, .. } => equations_fit(program, bundle.as_slice()),
+        Msg::Put { bundle, .. }
+        | Msg::PortEnd { bundle, .. }
+        | Msg::CellMake { bundle, .. }
+        | Msg::CellAsk { bundle, .. }
+        | Msg::CellOld { bundle, .. } => equations_fit(program, bundle.as_slice()),
         _ => true,
     }
 }
@@ -67,15 +72,86 @@ fn codes_fit(program: &Program, msg: &Msg) -> bool
     parts_fit(program, msg)
 }
 
+// Whether who stands so waits for the end of a port.
+fn is_for_end(mode: &Mode) -> bool
+    ensures { IsTrue result ↔ IsForEnd mode.now }
+{
+    match mode {
+        Mode::WaitsFor(Awaited::Port(_)) => true,
+        _ => false,
+    }
+}
+
+// Whether who stands so at this site waits for the content of a stationary cell that is at home elsewhere.
+fn is_for_content(site: u32, mode: &Mode) -> bool
+    ensures { IsTrue result ↔ IsForContent site mode.now }
+{
+    match mode {
+        Mode::WaitsFor(Awaited::Cell(cell)) => cell.at != 0 && cell.at != site,
+        _ => false,
+    }
+}
+
+// Whether a thread waits here for the end of a port.
+fn waits_for_end(core: &Core, thread: ThreadName) -> bool
+    ensures { IsTrue result ↔ WaitsForEnd core.now thread }
+{
+    match core.threads.mode(thread) {
+        Some(mode) => is_for_end(mode),
+        None => false,
+    }
+}
+
+// Whether it waits here for the content of a stationary cell that is at home elsewhere.
+fn waits_for_content(core: &Core, thread: ThreadName) -> bool
+    requires counted { site_among core.now.fresh ≡ Some core.now.variables.binder.site }
+    ensures { IsTrue result ↔ WaitsForContent core.now thread }
+{
+    match core.threads.mode(thread) {
+        Some(mode) => is_for_content(site_in(&core.fresh), mode),
+        None => false,
+    }
+}
+
+// Whether the port was made here.
+fn has_port(core: &Core, port: PortName) -> bool
+    requires counted { site_among core.now.fresh ≡ Some core.now.variables.binder.site }
+    ensures { IsTrue result ↔ HasPort core.now port }
+{
+    port.site == site_in(&core.fresh) && core.ports.end(port).is_some()
+}
+
+// Whether the cell is at home here.
+fn is_at_home(core: &Core, cell: CellName) -> bool
+    requires counted { site_among core.now.fresh ≡ Some core.now.variables.binder.site }
+    ensures { IsTrue result ↔ (cell.at ≡ core.now.variables.binder.site) }
+{
+    cell.at == site_in(&core.fresh)
+}
+
+// Whether the site did not hear yet of a cell that is at home here.
+fn is_unheard(core: &Core, cell: CellName) -> bool
+    requires counted { site_among core.now.fresh ≡ Some core.now.variables.binder.site }
+    ensures { IsTrue result ↔ IsUnheard core.now cell }
+{
+    is_at_home(core, cell) && !core.homes.is_here(cell)
+}
+
 // Whether the conditions of the calls that a message leads to hold.
 fn can_take(core: &Core, msg: &Msg) -> bool
     requires tables { core.now.cells.site ≡ core.now.variables.binder.site }
+    requires counted { site_among core.now.fresh ≡ Some core.now.variables.binder.site }
     ensures { IsTrue result ↔ CanTake (site_of core.now) msg.now }
 {
     tables_take_as_sites();
     match msg {
         Msg::Spawn { thread, .. } => !core.threads.contains(*thread),
         Msg::Get { .. } | Msg::Forward { .. } | Msg::Put { .. } => core.cells.takes(msg),
+        Msg::PortSend { port, .. } => has_port(core, *port),
+        Msg::PortEnd { thread, .. } => waits_for_end(core, *thread),
+        Msg::CellMake { cell, .. } => is_unheard(core, *cell),
+        Msg::CellAsk { cell, .. } => is_at_home(core, *cell),
+        Msg::CellOld { thread, .. } => waits_for_content(core, *thread),
         Msg::Register { .. } | Msg::BindReq { .. } | Msg::Binding { .. } => {
             core.variables.can_take(msg)
         }
@@ -91,10 +167,12 @@ fn bounds_of(core: &Core) -> Bounds
     match core.fresh {
         Fresh::Counted {
             site,
+            sites: _,
             vars,
             cells,
             procs,
             threads,
+            ports,
         } => Bounds {
             sites: core.sites,
             site,
@@ -102,6 +180,7 @@ fn bounds_of(core: &Core) -> Bounds
             cells,
             procs,
             threads,
+            ports,
         },
         Fresh::Given(_) => unreachable!(),
     }

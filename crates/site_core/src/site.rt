@@ -57,7 +57,7 @@ impl<'a> Site<'a, NoSeat> {
         requires most { sites ≤ MOST_SITES }
         ensures program { IfOk result (λ s. s.program ≡ program.now) }
         ensures sites { IfOk result (λ s. s.sites ≡ sites) }
-        ensures state { IfOk result (λ s. s.state ≡ initial_site program.now number) }
+        ensures state { IfOk result (λ s. s.state ≡ initial_site program.now sites number) }
         ensures order { IfOk result (λ s. s.order ≡ first_order number) }
         ensures live { IfOk result (λ s. s.spent ≡ false) }
     {

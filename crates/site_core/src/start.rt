@@ -8,7 +8,8 @@ ghost use Rattle.site_core.specs.Start.{IsBare, first_living, first_order};
 
 use kernel_syntax::Program;
 use name_supply::Fresh;
-use site_cells::Cells;
+use port_owner::Ports;
+use site_cells::{Cells, Homes};
 use site_units::Core;
 use site_variables::Variables;
 use std::alloc::{AllocError, Global};
@@ -46,8 +47,10 @@ pub fn bare_core(alloc: Global, number: u32, sites: u32) -> Core
         sites,
         variables: Variables::new(alloc, number),
         cells: Cells::new(alloc, number),
+        ports: Ports::new(alloc),
+        homes: Homes::new(alloc),
         threads: Roster::new(alloc),
-        fresh: Fresh::of(number),
+        fresh: Fresh::of(number, sites),
         steps: 0,
     }
 }
@@ -61,7 +64,7 @@ pub fn first_core(
 ) -> Result<Core, AllocError>
     requires some { 1 ≤ number }
     requires among { number ≤ sites }
-    ensures state { IfOk result (λ c. site_of c ≡ initial_site program.now number) }
+    ensures state { IfOk result (λ c. site_of c ≡ initial_site program.now sites number) }
     ensures order { IfOk result (λ c. c.threads.order ≡ first_order number) }
     ensures consistent { IfOk result (λ c. IsConsistent program.now c) }
     ensures sites { IfOk result (λ c. c.sites ≡ sites) }

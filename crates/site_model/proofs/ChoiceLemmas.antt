@@ -1,7 +1,9 @@
 -- What the plain program does is a unit.
 use Rattle.std.proofs.Common.{arith, ◌≡◌, ◌∙◌, sym, ap, refl, subst, ℕ, List, [], ◌∷◌, ◌⊎◌, inl, inr, Bool, true, false, cond, Some, None}
-use Rattle.std.specs.Prelude.{Option, Contains, ◌≤◌, length}
+use Rattle.std.specs.Prelude.{Option, Contains, ◌≤◌, ◌≢◌, ◌==◌, length}
+use Rattle.std.proofs.lemmas.Bool.Decides.{Decides-eqb}
 use Rattle.tree_node.specs.declared.names.VarName.{VarName}
+use Rattle.tree_node.specs.declared.names.PortName.{PortName}
 use Rattle.tree_node.specs.declared.names.ThreadName.{ThreadName}
 use Rattle.tree_node.specs.declared.node.Node.{Node}
 use Rattle.tree_node.specs.declared.node.Term.{Term}
@@ -16,20 +18,21 @@ use Rattle.tree_node.specs.Store.{Store, Equation, IsFree, root_of, node_of, equ
 use Rattle.tree_node.proofs.ClassLemmas.{same_name_refl, Contains-cons_cases, to_root}
 use Rattle.kernel_syntax.specs.declared.stmt.Stmt.{Stmt}
 use Rattle.oz_model.specs.Need.{Need, Waits, WaitsAny, Binds, Takes, stack_need}
-use Rattle.oz_model.specs.Effect.{CellChange, Stays, Made, Exchanged}
+use Rattle.oz_model.specs.Effect.{CellChange, Stays, Made, Exchanged, PortChange, Keeps, Opened, Sent, Effect}
 use Rattle.token_chain.specs.declared.token.Token.{Token}
 use Rattle.token_chain.specs.declared.token.Token.TheVariants.{Away, Asked, Here}
-use Rattle.site_model.specs.Site.{Site, ThreadState, thread_state, cell_record}
+use Rattle.site_model.specs.Site.{Site, ThreadState, thread_state, cell_record, port_end, home_record}
+use Rattle.site_model.specs.Requests.{send_request_row, home_request_row}
 use Rattle.thread_roster.specs.declared.mode.Mode.TheVariants.{Runs}
-use Rattle.thread_roster.specs.declared.mode.Mode.TheVariants as site
+use Rattle.thread_roster.specs.declared.mode.Mode.TheVariants as mode
 use Rattle.site_model.specs.Bundle.{is_below}
 use Rattle.site_model.specs.Transition.{Transition, without_output}
 use Rattle.site_model.specs.Cells.{request_row}
-use Rattle.site_model.specs.Unit.{IsTokenHere, IsStepOrRequest, IsRootBind, IsBindUnit, IsUnitFor, IsUnit, with_mode}
+use Rattle.site_model.specs.Unit.{thread_step, kept_step, fresh_names, effect_here, IsTokenHere, IsCellUnit, IsSendUnit, IsStepOrRequest, IsRootBind, IsBindUnit, IsUnitFor, IsUnit, with_mode}
 use Rattle.site_message.specs.declared.message.Msg.{Msg}
 use Rattle.site_model.specs.Fit.{IsFit}
 use Rattle.site_model.specs.Turn.{AreUnits, IsReception, SiteTurnOf}
-use Rattle.site_model.specs.Choice.{reception_of, next_turn, open_list, nobody, is_missing, to_lesser, bind_between, root_bind, is_free, leads_down, is_here, step_or_request, unit_for, unit_from, next_unit, next_units, is_possible, can_go_from, can_go, can_all_go}
+use Rattle.site_model.specs.Choice.{reception_of, next_turn, open_list, nobody, is_missing, to_lesser, bind_between, root_bind, is_free, leads_down, is_here, step_or_wait, send_or_wait, cell_unit, step_or_request, unit_for, unit_from, next_unit, next_units, is_possible, can_go_from, can_go, can_all_go}
 use Rattle.tree_node.proofs.SoundLemmas.{root_root}
 use Rattle.std.proofs.lemmas.Bool.{and_parts}
 use Rattle.site_model.proofs.AscendingLemmas.{below_yes}
@@ -92,15 +95,49 @@ root_bind_is s a b e = go a b (side_node s a) refl (side_node s b) refl e
     go (term.Var x) (term.Node q) (Some m) h (Some n) g k = absurd (nobody_below s k)
     go (term.Var x) (term.Var y) (Some m) h (Some n) g k = absurd (nobody_below s k)
 
-token_here : (limit : ℕ) (th : ThreadName) (st : Stack) (s : Site) (step : Transition) (c : CellChange) → IsStepOrRequest limit th st s step c (step_or_request limit th st s step c)
-token_here limit th st s step (Exchanged c new told) = go (cell_record s c).held.token refl
+cell_unit_is : (limit : ℕ) (th : ThreadName) (st : Stack) (s : Site) (step kept : Transition) (c : CellChange) → IsCellUnit limit th st s step kept c (cell_unit limit th st s step kept c)
+cell_unit_is limit th st s step kept Stays = refl
+cell_unit_is limit th st s step kept (Made c v) = go (c.at == 0) refl
   where
-    go : (t : Token) → (cell_record s c).held.token ≡ t → IsStepOrRequest limit th st s step (Exchanged c new told) (cond (is_here t) step (request_row limit c new th st s))
-    go (Here v) e = inl ((v, e), refl)
-    go Away e = inr (λ (k : IsTokenHere s c). let both : Away ≡ Here k.0 = sym e ∙ k.1 in cc, refl)
-    go Asked e = inr (λ (k : IsTokenHere s c). let both : Asked ≡ Here k.0 = sym e ∙ k.1 in cc, refl)
-token_here limit th st s step Stays = refl
-token_here limit th st s step (Made c v) = refl
+    go : (b : Bool) → (c.at == 0) ≡ b → IsCellUnit limit th st s step kept (Made c v) (cond b step kept)
+    go true e = inl ((Decides-eqb c.at 0).0 e, refl)
+    go false e = inr ((λ q. let yes : (c.at == 0) ≡ true = (Decides-eqb c.at 0).1 q in cc), refl)
+cell_unit_is limit th st s step kept (Exchanged c new told) = go (c.at == 0) refl
+  where
+    mobile : (t : Token) → (cell_record s c).held.token ≡ t → c.at ≡ 0 → IsCellUnit limit th st s step kept (Exchanged c new told) (cond (is_here t) step (request_row limit c new th st s))
+    mobile (Here v) e q = inl (q, inl ((v, e), refl))
+    mobile Away e q = inl (q, inr (λ (k : IsTokenHere s c). let both : Away ≡ Here k.0 = sym e ∙ k.1 in cc, refl))
+    mobile Asked e q = inl (q, inr (λ (k : IsTokenHere s c). let both : Asked ≡ Here k.0 = sym e ∙ k.1 in cc, refl))
+
+    known : (o : Option VarName) → (home_record s c).content ≡ o → c.at ≢ 0 → c.at ≡ s.records.site → IsCellUnit limit th st s step kept (Exchanged c new told) (step_or_wait th st s kept c new o)
+    known (Some v) e far own = inr (far, inl ((own, v, e), refl))
+    known None e far own = inr (far, inr (inr (own, e, refl)))
+
+    stationary : (b : Bool) → (c.at == s.records.site) ≡ b → c.at ≢ 0 →
+        IsCellUnit limit th st s step kept (Exchanged c new told) (cond b (step_or_wait th st s kept c new (home_record s c).content) (home_request_row limit c new th st s))
+    stationary true e far = known (home_record s c).content refl far ((Decides-eqb c.at s.records.site).0 e)
+    stationary false e far = inr (far, inr (inl ((λ q. let yes : (c.at == s.records.site) ≡ true = (Decides-eqb c.at s.records.site).1 q in cc), refl)))
+
+    go : (b : Bool) → (c.at == 0) ≡ b → IsCellUnit limit th st s step kept (Exchanged c new told)
+        (cond b (cond (is_here (cell_record s c).held.token) step (request_row limit c new th st s)) (cond (c.at == s.records.site) (step_or_wait th st s kept c new (home_record s c).content) (home_request_row limit c new th st s)))
+    go true e = mobile (cell_record s c).held.token refl ((Decides-eqb c.at 0).0 e)
+    go false e = stationary (c.at == s.records.site) refl (λ q. let yes : (c.at == 0) ≡ true = (Decides-eqb c.at 0).1 q in cc)
+
+step_is : (limit : ℕ) (th : ThreadName) (st : Stack) (s : Site) (step kept : Transition) (e : Effect) → IsStepOrRequest limit th st s step kept e (step_or_request limit th st s step kept e)
+step_is limit th st s step kept e = go e.port
+  where
+    made : (q : PortName) (o : Option VarName) → port_end s q ≡ o → q.site ≡ s.records.site → IsSendUnit limit th st s kept q (send_or_wait th st s kept q o)
+    made q (Some end) h own = inl (own, end, h, refl)
+    made q None h own = inr (inr (own, h, refl))
+
+    sent : (q : PortName) (b : Bool) → (q.site == s.records.site) ≡ b → IsSendUnit limit th st s kept q (cond b (send_or_wait th st s kept q (port_end s q)) (send_request_row limit q th st s))
+    sent q true h = made q (port_end s q) refl ((Decides-eqb q.site s.records.site).0 h)
+    sent q false h = inr (inl ((λ own. let yes : (q.site == s.records.site) ≡ true = (Decides-eqb q.site s.records.site).1 own in cc), refl))
+
+    go : (q : PortChange) → IsStepOrRequest limit th st s step kept (record e { port = q }) (step_or_request limit th st s step kept (record e { port = q }))
+    go Keeps = cell_unit_is limit th st s step kept e.cell
+    go (Opened q end) = refl
+    go (Sent q value new) = sent q (q.site == s.records.site) refl
 
 bind_is : (p : List Stmt) (n limit : ℕ) (s : Site) (th : ThreadName) (st : Stack) (a b : Term) → leads_down s.equations (root_bind s.equations a b) ≡ true →
     IsBindUnit p n limit s th st a b (unit_for p n limit th st s (Binds a b))
@@ -113,20 +150,21 @@ IsOpenFor s d = (q : Pair) → d ≡ WaitsAny q → (xs : List VarName) × (comp
 
 need_is : (p : List Stmt) (n limit : ℕ) (s : Site) (th : ThreadName) (st : Stack) (d : Need) → is_possible s.equations d ≡ true → IsOpenFor s d → IsUnitFor p n limit s th st d (unit_for p n limit th st s d)
 need_is p n limit s th st (Waits x) e open_on = (root_of s.equations x, (to_root s.equations x, free_tells s.equations (root_of s.equations x) e), refl)
-need_is p n limit s th st (WaitsAny q) e open_on = let xs = open_on q refl in (xs.0, xs.1, ap (λ (c : Comparison). without_output (with_mode th st (site.WaitsAny (open_list c)) s)) xs.1)
+need_is p n limit s th st (WaitsAny q) e open_on = let xs = open_on q refl in (xs.0, xs.1, ap (λ (c : Comparison). without_output (with_mode th st (mode.WaitsAny (open_list c)) s)) xs.1)
 need_is p n limit s th st (Binds a b) e open_on = bind_is p n limit s th st a b e
-need_is p n limit s th st (Takes kinds) e open_on = token_here limit th st s _ _
+need_is p n limit s th st (Takes kinds) e open_on =
+    step_is limit th st s (thread_step p n limit th st kinds (fresh_names s kinds) None s) (kept_step p limit th st kinds (fresh_names s kinds) s) (effect_here p s (fresh_names s kinds) None st)
 
 pub unit_is : (p : List Stmt) (n limit : ℕ) (s : Site) (th : ThreadName) → can_go p s th ≡ true → IsUnit p n limit th s (next_unit p n limit th s)
 unit_is p n limit s th e = go (thread_state s th) refl e
   where
     go : (o : Option ThreadState) → thread_state s th ≡ o → can_go_from p s o ≡ true → IsUnit p n limit th s (unit_from p n limit th s o)
     go None q k = cc
-    go (Some (st, site.Runs)) q k = (st, q, need_is p n limit s th st (stack_need p s.equations st) k (λ r d. (at_test p s.equations st r d).1))
-    go (Some (st, site.Waits x)) q k = cc
-    go (Some (st, site.Needs x)) q k = cc
-    go (Some (st, site.WaitsAny xs)) q k = cc
-    go (Some (st, site.WaitsFor c)) q k = cc
+    go (Some (st, mode.Runs)) q k = (st, q, need_is p n limit s th st (stack_need p s.equations st) k (λ r d. (at_test p s.equations st r d).1))
+    go (Some (st, mode.Waits x)) q k = cc
+    go (Some (st, mode.Needs x)) q k = cc
+    go (Some (st, mode.WaitsAny xs)) q k = cc
+    go (Some (st, mode.WaitsFor c)) q k = cc
 
 pub units_are : (p : List Stmt) (n limit : ℕ) (ths : List ThreadName) (s : Site) → can_all_go p n limit ths s ≡ true → AreUnits p n limit ths s (next_units p n limit ths s)
 units_are p n limit [] s e = refl

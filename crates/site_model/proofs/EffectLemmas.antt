@@ -1,5 +1,5 @@
 -- What a step of a thread adds.
-use Rattle.std.proofs.Common.{◌≡◌, ◌∙◌, sym, refl, subst, List, [], ◌∷◌, map, ◌⊎◌, inl, inr, Some, None}
+use Rattle.std.proofs.Common.{◌≡◌, sym, refl, subst, List, [], ◌∷◌, ◌⊎◌, inl, inr, Some, None}
 use Rattle.std.specs.Prelude.{codes}
 use Rattle.tree_node.specs.declared.names.VarName.{VarName}
 use Rattle.tree_node.specs.declared.names.Name.{Name}
@@ -24,61 +24,62 @@ use Rattle.oz_model.specs.declared.outcome.Outcome.TheVariants as outcome
 use Rattle.oz_model.specs.Outcome.{outcome_of, print_outcome}
 use Rattle.oz_model.specs.Need.{Waits, Takes, outcome_need, pair_need, goal_need, stack_need, variable_kinds}
 use Rattle.oz_model.specs.Need as need
-use Rattle.oz_model.specs.Effect.{Effect, Stays, stack_effect, outcome_effect, goal_effect, pair_effect, exception_effect, vars_among}
-use Rattle.oz_model.specs.Step.{kind_of}
+use Rattle.oz_model.specs.Effect.{Keeps, Effect, Stays, stack_effect, outcome_effect, goal_effect, pair_effect, exception_effect, vars_among}
+use Rattle.oz_model.specs.Step.{IsOfKind, AreOfKinds}
 
 -- nothing, or the two equations of an exception on the two fresh variables
 abbrev pub AddsFresh : List Name → List Equation → Type 0
 AddsFresh fresh adds =
     (adds ≡ []) ⊎ ((a : VarName) × (x : VarName) × (n : Node) × (m : Node) × (fresh ≡ name.Var a ∷ name.Var x ∷ []) × (adds ≡ (x, term.Node n) ∷ (a, term.Node m) ∷ []))
 
-only_var : (x : Name) → kind_of x ≡ kind.Var → (v : VarName) × (x ≡ name.Var v)
+only_var : (x : Name) → IsOfKind x kind.Var → (v : VarName) × (x ≡ name.Var v)
 only_var (name.Var v) e = (v, refl)
-only_var (name.Cell c) e = cc
-only_var (name.Proc c) e = cc
-only_var (name.Thread c) e = cc
+only_var (name.Cell c) e = absurd e
+only_var (name.Proc c) e = absurd e
+only_var (name.Port c) e = absurd e
+only_var (name.Thread c) e = absurd e
 
 pair_is : (a x : Name) (v u : VarName) → a ≡ name.Var v → x ≡ name.Var u → a ∷ x ∷ [] ≡ name.Var v ∷ name.Var u ∷ []
 pair_is a x v u p q = rw (p, q) refl
 
-two_vars : (fresh : List Name) → map kind_of fresh ≡ variable_kinds 2 → (a : VarName) × (x : VarName) × (fresh ≡ name.Var a ∷ name.Var x ∷ [])
-two_vars [] e = cc
-two_vars (a ∷ []) e = cc
-two_vars (a ∷ x ∷ y ∷ ys) e = cc
+two_vars : (fresh : List Name) → AreOfKinds fresh (variable_kinds 2) → (a : VarName) × (x : VarName) × (fresh ≡ name.Var a ∷ name.Var x ∷ [])
+two_vars [] e = absurd e
+two_vars (a ∷ []) e = absurd e.1
+two_vars (a ∷ x ∷ y ∷ ys) e = absurd e.1.1
 two_vars (a ∷ x ∷ []) e =
-    let one : kind_of a ≡ kind.Var = cc in
-    let two : kind_of x ≡ kind.Var = cc in
-    let p = only_var a one in
-    let q = only_var x two in
+    let p = only_var a e.0 in
+    let q = only_var x e.1.0 in
     (p.0, q.0, pair_is a x p.0 q.0 p.1 q.1)
 
-fails_adds : (exception : SystemException) (rest : Stack) (fresh : List Name) → map kind_of fresh ≡ variable_kinds 2 → AddsFresh fresh (exception_effect exception rest (vars_among fresh)).adds
+fails_adds : (exception : SystemException) (rest : Stack) (fresh : List Name) → AreOfKinds fresh (variable_kinds 2) → AddsFresh fresh (exception_effect exception rest (vars_among fresh)).adds
 fails_adds exception rest fresh e =
     let v = two_vars fresh e in
     subst (λ (f : List Name). AddsFresh f (exception_effect exception rest (vars_among f)).adds) (sym v.2) (inr (v.0, v.1, _, _, refl, refl))
 
-outcome_adds : (p : List Stmt) (env : Env) (rest : Stack) (fresh : List Name) (o : Outcome) (ks : List NameKind) → outcome_need o ≡ Takes ks → map kind_of fresh ≡ ks → AddsFresh fresh (outcome_effect p env rest fresh o).adds
-outcome_adds p env rest fresh (outcome.Fails exception) ks d e = let same : variable_kinds 2 ≡ ks = cc in fails_adds exception rest fresh (e ∙ sym same)
+outcome_adds : (p : List Stmt) (env : Env) (rest : Stack) (fresh : List Name) (o : Outcome) (ks : List NameKind) → outcome_need o ≡ Takes ks → AreOfKinds fresh ks → AddsFresh fresh (outcome_effect p env rest fresh o).adds
+outcome_adds p env rest fresh (outcome.Fails exception) ks d e = let same : variable_kinds 2 ≡ ks = cc in fails_adds exception rest fresh (subst (AreOfKinds fresh) (sym same) e)
 outcome_adds p env rest fresh (outcome.Waits x) ks d e = inl refl
 outcome_adds p env rest fresh (outcome.WaitsAny left right) ks d e = inl refl
 outcome_adds p env rest fresh (outcome.Runs codes) ks d e = inl refl
 outcome_adds p env rest fresh (outcome.Tells x t) ks d e = inl refl
 outcome_adds p env rest fresh (outcome.Declares first count body) ks d e = inl refl
 outcome_adds p env rest fresh (outcome.MakesProc left code formals vars) ks d e = inl refl
-outcome_adds p env rest fresh (outcome.MakesCell content told) ks d e = inl refl
+outcome_adds p env rest fresh (outcome.MakesCell at content told) ks d e = inl refl
 outcome_adds p env rest fresh (outcome.Exchanges cell new told) ks d e = inl refl
+outcome_adds p env rest fresh (outcome.MakesPort stream told) ks d e = inl refl
+outcome_adds p env rest fresh (outcome.Sends port value) ks d e = inl refl
 outcome_adds p env rest fresh (outcome.Spawns at body vars) ks d e = inl refl
 outcome_adds p env rest fresh (outcome.Tries body body_env handler first handler_env) ks d e = inl refl
 outcome_adds p env rest fresh (outcome.Raises x) ks d e = inl refl
 outcome_adds p env rest fresh (outcome.Prints line) ks d e = inl refl
 
-pair_adds : (a b : Term) (pairs : List (Term × Term)) (met : List (Node × Node)) (rest : Stack) (fresh : List Name) (c : Case) (ks : List NameKind) → pair_need a b c ≡ Takes ks → map kind_of fresh ≡ ks → AddsFresh fresh (pair_effect a b pairs met rest fresh None c).adds
+pair_adds : (a b : Term) (pairs : List (Term × Term)) (met : List (Node × Node)) (rest : Stack) (fresh : List Name) (c : Case) (ks : List NameKind) → pair_need a b c ≡ Takes ks → AreOfKinds fresh ks → AddsFresh fresh (pair_effect a b pairs met rest fresh None c).adds
 pair_adds a b pairs met rest fresh Dropped ks d e = inl refl
 pair_adds a b pairs met rest fresh Binds ks d e = inl refl
 pair_adds a b pairs met rest fresh (Opened m n fields) ks d e = inl refl
-pair_adds a b pairs met rest fresh Failed ks d e = let same : variable_kinds 2 ≡ ks = cc in fails_adds FailureTell rest fresh (e ∙ sym same)
+pair_adds a b pairs met rest fresh Failed ks d e = let same : variable_kinds 2 ≡ ks = cc in fails_adds FailureTell rest fresh (subst (AreOfKinds fresh) (sym same) e)
 
-pub stack_adds : (p : List Stmt) (s : Store) (fresh : List Name) (st : Stack) (ks : List NameKind) → stack_need p s st ≡ Takes ks → map kind_of fresh ≡ ks → AddsFresh fresh (stack_effect p s fresh None st).adds
+pub stack_adds : (p : List Stmt) (s : Store) (fresh : List Name) (st : Stack) (ks : List NameKind) → stack_need p s st ≡ Takes ks → AreOfKinds fresh ks → AddsFresh fresh (stack_effect p s fresh None st).adds
 stack_adds p s fresh [] ks d e = inl refl
 stack_adds p s fresh (item.Run code env ∷ rest) ks d e = outcome_adds p env rest fresh (outcome_of p s code env (stmt_at p code)) ks d e
 stack_adds p s fresh (item.Mark code at env ∷ rest) ks d e = inl refl
@@ -93,7 +94,7 @@ stack_adds p s fresh (item.Goals b ∷ rest) ks d e = go b.pairs d
 
 -- the bind is added, and the stack stays
 abbrev pub IsBindEffect : Effect → Equation → Stack → Type 0
-IsBindEffect e q st = e ≡ record { adds = q ∷ []; stack = st; line = None; born = None; cell = Stays }
+IsBindEffect e q st = e ≡ record { adds = q ∷ []; stack = st; line = None; born = None; cell = Stays; port = Keeps }
 
 no_binds : (o : Outcome) (a b : Term) → outcome_need o ≡ need.Binds a b → ⊥
 no_binds (outcome.Waits x) a b e = cc
@@ -102,8 +103,10 @@ no_binds (outcome.Runs codes) a b e = cc
 no_binds (outcome.Tells x t) a b e = cc
 no_binds (outcome.Declares first count body) a b e = cc
 no_binds (outcome.MakesProc left code formals vars) a b e = cc
-no_binds (outcome.MakesCell content told) a b e = cc
+no_binds (outcome.MakesCell at content told) a b e = cc
 no_binds (outcome.Exchanges cell new told) a b e = cc
+no_binds (outcome.MakesPort stream told) a b e = cc
+no_binds (outcome.Sends port value) a b e = cc
 no_binds (outcome.Spawns at body vars) a b e = cc
 no_binds (outcome.Tries body body_env handler first handler_env) a b e = cc
 no_binds (outcome.Raises x) a b e = cc

@@ -16,7 +16,7 @@ use Rattle.site_message.specs.Journal.{is_quiet, IsTravelling, Wired, DeliversOn
 use Rattle.site_model.specs.Site.{Site, initial_site}
 use Rattle.site_model.specs.Fit.{BundleFits}
 use Rattle.site_model.specs.Choice.{can_all_go, reception_of, next_turn}
-use Rattle.site_model.specs.Run.{delivered_message, SiteRun, IsEntry, IsRecordOf, IsSiteIn, WorldRun}
+use Rattle.site_model.specs.Run.{delivered_message, SiteRun, IsSiteIn}
 use Rattle.site_model.specs.Run as run
 use Rattle.site_model.proofs.ChoiceLemmas.{turn_is, CanHear}
 use Rattle.site_model.specs.Example.{BundleTravels, Story, program, times, first_turn, second_turn, first_story, sites_of, TokenReturns}
@@ -46,7 +46,7 @@ hear_2 = record {
   wire = ((le _ _ refl, le _ _ refl), (le _ _ refl, ((le _ _ refl, le _ _ refl), ((le _ _ refl, le _ _ refl), ((le _ _ refl, le _ _ refl), tt)))), (le _ _ refl, tt, tt));
   takes = refl;
   sites = tt;
-  names = ((le _ _ refl, le _ _ refl, λ e. far _ _ refl e), ((le _ _ refl, le _ _ refl, λ e. far _ _ refl e), ((le _ _ refl, le _ _ refl, λ e. far _ _ refl e), ((le _ _ refl, le _ _ refl, λ e. far _ _ refl e), tt))), tt);
+  names = ((le _ _ refl, le _ _ refl, le _ _ refl, λ e. far _ _ refl e), ((le _ _ refl, le _ _ refl, le _ _ refl, λ e. far _ _ refl e), ((le _ _ refl, le _ _ refl, le _ _ refl, λ e. far _ _ refl e), ((le _ _ refl, le _ _ refl, le _ _ refl, λ e. far _ _ refl e), tt))), tt);
   codes = ((lt _ _ refl, refl), (tt, tt));
   bundle = no_bundle_fits;
 }
@@ -57,7 +57,7 @@ hear_3 = record {
   wire = ((le _ _ refl, le _ _ refl), (le _ _ refl, le _ _ refl));
   takes = (refl, refl, λ k. nothing _ k);
   sites = (le _ _ refl, le _ _ refl, other _ _ refl);
-  names = (le _ _ refl, le _ _ refl, λ e. lt _ _ refl);
+  names = (le _ _ refl, le _ _ refl, le _ _ refl, λ e. lt _ _ refl);
   codes = (tt, (tt, tt));
   bundle = no_bundle_fits;
 }
@@ -65,10 +65,10 @@ hear_3 = record {
 hear_4 : CanHear program 2 (delivered_message example.turn_3.journal (Some 4)) example.turn_3.second
 unfolding free
 hear_4 = record {
-  wire = ((le _ _ refl, le _ _ refl), (le _ _ refl, le _ _ refl), (le _ _ refl, tt, tt));
+  wire = ((le _ _ refl, le _ _ refl), ((le _ _ refl, le _ _ refl), le _ _ refl), (le _ _ refl, tt, tt));
   takes = (other _ _ refl, tt, refl);
   sites = tt;
-  names = ((le _ _ refl, le _ _ refl, λ e. far _ _ refl e), (le _ _ refl, le _ _ refl, λ e. far _ _ refl e), tt);
+  names = ((le _ _ refl, le _ _ refl, le _ _ refl, λ e. far _ _ refl e), (le _ _ refl, le _ _ refl, le _ _ refl, λ e. far _ _ refl e), tt);
   codes = (tt, (tt, tt));
   bundle = no_bundle_fits;
 }
@@ -76,10 +76,10 @@ hear_4 = record {
 hear_5 : CanHear program 2 (delivered_message example.turn_4.journal (Some 5)) example.turn_4.first
 unfolding free
 hear_5 = record {
-  wire = ((le _ _ refl, le _ _ refl), (le _ _ refl, le _ _ refl));
+  wire = (((le _ _ refl, le _ _ refl), refl), (le _ _ refl, le _ _ refl));
   takes = (refl, λ e. (refl, tt));
   sites = (le _ _ refl, le _ _ refl, other _ _ refl);
-  names = (le _ _ refl, le _ _ refl, λ e. lt _ _ refl);
+  names = (le _ _ refl, le _ _ refl, le _ _ refl, λ e. lt _ _ refl);
   codes = (tt, (tt, tt));
   bundle = no_bundle_fits;
 }
@@ -87,10 +87,10 @@ hear_5 = record {
 hear_6 : CanHear program 2 (delivered_message example.turn_5.journal (Some 6)) example.turn_5.second
 unfolding free
 hear_6 = record {
-  wire = ((le _ _ refl, le _ _ refl), (le _ _ refl, le _ _ refl), (le _ _ refl, tt, tt));
+  wire = (((le _ _ refl, le _ _ refl), refl), (le _ _ refl, le _ _ refl), (le _ _ refl, tt, tt));
   takes = refl;
   sites = tt;
-  names = ((le _ _ refl, le _ _ refl, λ e. far _ _ refl e), (le _ _ refl, le _ _ refl, λ e. far _ _ refl e), tt);
+  names = ((le _ _ refl, le _ _ refl, le _ _ refl, λ e. far _ _ refl e), (le _ _ refl, le _ _ refl, le _ _ refl, λ e. far _ _ refl e), tt);
   codes = (tt, (tt, tt));
   bundle = no_bundle_fits;
 }
@@ -105,7 +105,7 @@ takes_7 = record {
   wire = ((le _ _ refl, le _ _ refl), (le _ _ refl, le _ _ refl), (le _ _ refl, le _ _ refl), (le _ _ refl, tt, tt));
   takes = (inr (refl, lt _ _ refl), (refl, refl));
   sites = tt;
-  names = ((le _ _ refl, le _ _ refl, λ e. lt _ _ refl), (le _ _ refl, le _ _ refl, λ e. lt _ _ refl), (le _ _ refl, le _ _ refl, λ e. lt _ _ refl), tt);
+  names = ((le _ _ refl, le _ _ refl, le _ _ refl, λ e. lt _ _ refl), (le _ _ refl, le _ _ refl, le _ _ refl, λ e. lt _ _ refl), (le _ _ refl, le _ _ refl, le _ _ refl, λ e. lt _ _ refl), tt);
   codes = (tt, (tt, tt));
   bundle = no_bundle_fits;
 }
@@ -119,7 +119,7 @@ hear_8 = record {
   wire = ((le _ _ refl, le _ _ refl), (le _ _ refl, le _ _ refl));
   takes = (refl, refl, λ k. nothing _ k);
   sites = (le _ _ refl, le _ _ refl, other _ _ refl);
-  names = (le _ _ refl, le _ _ refl, λ e. lt _ _ refl);
+  names = (le _ _ refl, le _ _ refl, le _ _ refl, λ e. lt _ _ refl);
   codes = (tt, (tt, tt));
   bundle = no_bundle_fits;
 }
@@ -130,7 +130,7 @@ hear_9 = record {
   wire = ((le _ _ refl, le _ _ refl), (le _ _ refl, le _ _ refl), (le _ _ refl, tt, tt));
   takes = (other _ _ refl, inr (refl, lt _ _ refl), refl);
   sites = tt;
-  names = ((le _ _ refl, le _ _ refl, λ e. far _ _ refl e), (le _ _ refl, le _ _ refl, λ e. far _ _ refl e), tt);
+  names = ((le _ _ refl, le _ _ refl, le _ _ refl, λ e. far _ _ refl e), (le _ _ refl, le _ _ refl, le _ _ refl, λ e. far _ _ refl e), tt);
   codes = (tt, (tt, tt));
   bundle = no_bundle_fits;
 }
@@ -141,7 +141,7 @@ hear_10 = record {
   wire = ((le _ _ refl, le _ _ refl), (le _ _ refl, le _ _ refl));
   takes = (refl, refl, λ k. nothing _ k);
   sites = (le _ _ refl, le _ _ refl, other _ _ refl);
-  names = (le _ _ refl, le _ _ refl, λ e. lt _ _ refl);
+  names = (le _ _ refl, le _ _ refl, le _ _ refl, λ e. lt _ _ refl);
   codes = (tt, (tt, tt));
   bundle = no_bundle_fits;
 }
@@ -156,7 +156,7 @@ takes_11 = record {
   wire = ((le _ _ refl, le _ _ refl), (le _ _ refl, le _ _ refl), tt, (le _ _ refl, tt, tt));
   takes = (tt, (refl, refl));
   sites = tt;
-  names = ((le _ _ refl, le _ _ refl, λ e. lt _ _ refl), (le _ _ refl, le _ _ refl, λ e. lt _ _ refl), tt, tt);
+  names = ((le _ _ refl, le _ _ refl, le _ _ refl, λ e. lt _ _ refl), (le _ _ refl, le _ _ refl, le _ _ refl, λ e. lt _ _ refl), tt, tt);
   codes = (tt, (tt, tt));
   bundle = no_bundle_fits;
 }
@@ -170,7 +170,7 @@ hear_12 = record {
   wire = ((le _ _ refl, le _ _ refl), tt, (le _ _ refl, tt, tt));
   takes = (other _ _ refl, tt, refl);
   sites = tt;
-  names = ((le _ _ refl, le _ _ refl, λ e. far _ _ refl e), tt, tt);
+  names = ((le _ _ refl, le _ _ refl, le _ _ refl, λ e. far _ _ refl e), tt, tt);
   codes = (tt, (tt, tt));
   bundle = no_bundle_fits;
 }
@@ -178,10 +178,10 @@ hear_12 = record {
 hear_13 : CanHear program 2 (delivered_message example.turn_12.journal (Some 11)) example.turn_12.second
 unfolding free
 hear_13 = record {
-  wire = ((le _ _ refl, le _ _ refl), (le _ _ refl, le _ _ refl));
+  wire = (((le _ _ refl, le _ _ refl), refl), (le _ _ refl, le _ _ refl));
   takes = (refl, tt);
   sites = (le _ _ refl, le _ _ refl, other _ _ refl);
-  names = (le _ _ refl, le _ _ refl, λ e. far _ _ refl e);
+  names = (le _ _ refl, le _ _ refl, le _ _ refl, λ e. far _ _ refl e);
   codes = (tt, (tt, tt));
   bundle = no_bundle_fits;
 }
@@ -189,10 +189,10 @@ hear_13 = record {
 hear_14 : CanHear program 2 (delivered_message example.turn_13.journal (Some 12)) example.turn_13.first
 unfolding free
 hear_14 = record {
-  wire = ((le _ _ refl, le _ _ refl), (le _ _ refl, le _ _ refl), (le _ _ refl, tt, tt));
+  wire = (((le _ _ refl, le _ _ refl), refl), (le _ _ refl, le _ _ refl), (le _ _ refl, tt, tt));
   takes = refl;
   sites = tt;
-  names = ((le _ _ refl, le _ _ refl, λ e. lt _ _ refl), (le _ _ refl, le _ _ refl, λ e. lt _ _ refl), tt);
+  names = ((le _ _ refl, le _ _ refl, le _ _ refl, λ e. lt _ _ refl), (le _ _ refl, le _ _ refl, le _ _ refl, λ e. lt _ _ refl), tt);
   codes = (tt, (tt, tt));
   bundle = no_bundle_fits;
 }
@@ -207,8 +207,8 @@ record Goes (w : Story) : Type 0 where
   inside : Each (IsSiteIn 2) w.journal
   one : SiteRun program 2 0 1 w.journal w.first
   two : SiteRun program 2 0 2 w.journal w.second
-  none : SiteRun program 2 0 0 w.journal (initial_site program 0)
-  beyond : (i : ℕ) → SiteRun program 2 0 (suc (suc (suc i))) w.journal (initial_site program (suc (suc (suc i))))
+  none : SiteRun program 2 0 0 w.journal (initial_site program 2 0)
+  beyond : (i : ℕ) → SiteRun program 2 0 (suc (suc (suc i))) w.journal (initial_site program 2 (suc (suc (suc i))))
 
 -- a turn delivers nothing, or a message to this site
 abbrev IsMail : Story → ℕ → Option ℕ → Type 0

@@ -1,5 +1,5 @@
 -- The variables in a message, and the known equations that travel with it: its bundle.
-use Rattle.std.specs.Prelude.{ℕ, zero, suc, List, [], ◌∷◌, ◌++◌, length, map, take, Bool, ◌&&◌, ◌||◌, ◌==◌, nat_lt, Option, Some, None, if◌then◌else◌, option_to_list}
+use Rattle.std.specs.Prelude.{ℕ, zero, suc, List, [], ◌∷◌, ◌++◌, length, map, take, Bool, ◌&&◌, ◌||◌, ◌==◌, nat_lt, if◌then◌else◌, option_to_list}
 use Rattle.std.specs.List.{list_any}
 use Rattle.tree_node.specs.declared.names.VarName.{VarName}
 use Rattle.tree_node.specs.declared.node.Term.{Term}
@@ -72,6 +72,10 @@ bundle_roots (msg.Spawn thread code vars bundle) = vars
 bundle_roots (msg.BindReq x thread t bundle) = vars_of t
 bundle_roots (msg.Binding x t bundle) = vars_of t
 bundle_roots (msg.Put c content bundle) = content ∷ []
+bundle_roots (msg.PortEnd thread old new bundle) = old ∷ new ∷ []
+bundle_roots (msg.CellMake c content bundle) = content ∷ []
+bundle_roots (msg.CellAsk c thread asking new bundle) = new ∷ []
+bundle_roots (msg.CellOld thread content bundle) = content ∷ []
 bundle_roots _ = []
 
 -- the bundle of a message from a site with these equations
@@ -84,6 +88,10 @@ with_bundle es (msg.Spawn thread code vars bundle) = msg.Spawn thread code vars 
 with_bundle es (msg.BindReq x thread t bundle) = msg.BindReq x thread t es
 with_bundle es (msg.Binding x t bundle) = msg.Binding x t es
 with_bundle es (msg.Put c content bundle) = msg.Put c content es
+with_bundle es (msg.PortEnd thread old new bundle) = msg.PortEnd thread old new es
+with_bundle es (msg.CellMake c content bundle) = msg.CellMake c content es
+with_bundle es (msg.CellAsk c thread asking new bundle) = msg.CellAsk c thread asking new es
+with_bundle es (msg.CellOld thread content bundle) = msg.CellOld thread content es
 with_bundle es m = m
 
 -- the message with its bundle from a site with these equations
@@ -100,6 +108,10 @@ message_bundle (msg.Spawn thread code vars bundle) = bundle
 message_bundle (msg.BindReq x thread t bundle) = bundle
 message_bundle (msg.Binding x t bundle) = bundle
 message_bundle (msg.Put c content bundle) = bundle
+message_bundle (msg.PortEnd thread old new bundle) = bundle
+message_bundle (msg.CellMake c content bundle) = bundle
+message_bundle (msg.CellAsk c thread asking new bundle) = bundle
+message_bundle (msg.CellOld thread content bundle) = bundle
 message_bundle _ = []
 
 -- the variables of equations: of each the one on the left and those of its term
@@ -114,6 +126,10 @@ body_vars (msg.Register x asking) = x ∷ []
 body_vars (msg.BindReq x thread t bundle) = x ∷ vars_of t
 body_vars (msg.Binding x t bundle) = x ∷ vars_of t
 body_vars (msg.Put c content bundle) = content ∷ []
+body_vars (msg.PortEnd thread old new bundle) = old ∷ new ∷ []
+body_vars (msg.CellMake c content bundle) = content ∷ []
+body_vars (msg.CellAsk c thread asking new bundle) = new ∷ []
+body_vars (msg.CellOld thread content bundle) = content ∷ []
 body_vars _ = []
 
 -- the variables of a message

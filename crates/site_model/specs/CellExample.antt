@@ -24,7 +24,7 @@ program = Exchange 0 1 2 ∷ []
 
 -- the cell, which site 1 made
 abbrev pub cell : CellName
-cell = record { site = 1; num = 0 }
+cell = record { site = 1; at = 0; num = 0 }
 
 -- variable k of site i
 abbrev pub var : ℕ → ℕ → VarName
@@ -45,8 +45,10 @@ site_with i managers kept = record {
   records = record { site = i; owners = []; proxies = [] };
   managers = managers;
   cell_records = kept;
+  ports = [];
   threads = exchanging i 0 ∷ exchanging i 1 ∷ [];
-  counters = record { vars = 0; cells = 0; procs = 0; threads = 0 };
+  homes = [];
+  counters = record { vars = 0; cells = 0; procs = 0; threads = 0; ports = 0; sites = 3 };
   ended = 0;
   steps = 0;
 }

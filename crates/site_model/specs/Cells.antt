@@ -14,6 +14,7 @@ use Rattle.tree_node.specs.State.{Stack, equal_thread}
 use Rattle.tree_node.specs.Store.{Equation}
 use Rattle.kernel_syntax.specs.declared.stmt.Stmt.{Stmt}
 use Rattle.oz_model.specs.Effect.{Effect, CellChange, Exchanged, stack_effect, tell_item}
+use Rattle.thread_roster.specs.declared.mode.Awaited.TheVariants.{Cell}
 use Rattle.thread_roster.specs.declared.mode.Mode.TheVariants.{Runs, WaitsFor}
 use Rattle.token_chain.specs.declared.token.Token.{Token}
 use Rattle.token_chain.specs.declared.token.Token.TheVariants.{Away, Here}
@@ -111,7 +112,7 @@ with_own_request c _ s = s
 
 -- the thread has this stack and waits for the token of the cell
 abbrev pub with_exchange_waiting : CellName → ThreadName → Stack → Site → Site
-with_exchange_waiting c n st s = record s { threads = with_value equal_thread s.threads n (st, WaitsFor c) }
+with_exchange_waiting c n st s = record s { threads = with_value equal_thread s.threads n (st, WaitsFor (Cell c)) }
 
 -- a thread wants to exchange the content of a cell whose token is not here: it waits behind the others, and the first asks
 -- for the token

@@ -2,6 +2,8 @@
 -- runs.
 use Rattle.std.specs.Prelude.{ℕ, List, [], ◌∷◌, Bool, true, false, not, ◌&&◌, ◌==◌, Option, Some, None, if◌then◌else◌}
 use Rattle.tree_node.specs.declared.names.VarName.{VarName}
+use Rattle.tree_node.specs.declared.names.CellName.{CellName}
+use Rattle.tree_node.specs.declared.names.PortName.{PortName}
 use Rattle.tree_node.specs.declared.names.ThreadName.{ThreadName}
 use Rattle.tree_node.specs.declared.node.Node.{Node}
 use Rattle.tree_node.specs.declared.node.Term.{Term}
@@ -14,17 +16,19 @@ use Rattle.tree_node.specs.Store.{Store, Equation, root_of, equal_var}
 use Rattle.kernel_syntax.specs.declared.stmt.Stmt.{Stmt}
 use Rattle.site_message.specs.declared.message.Msg.{Msg}
 use Rattle.oz_model.specs.Need.{Need, Waits, WaitsAny, Binds, Takes, stack_need}
-use Rattle.oz_model.specs.Effect.{CellChange, Exchanged}
+use Rattle.oz_model.specs.Effect.{CellChange, Stays, Made, Exchanged, PortChange, Keeps, Opened, Sent, Effect}
 use Rattle.token_chain.specs.declared.token.Token.{Token}
 use Rattle.token_chain.specs.declared.token.Token.TheVariants.{Here}
+use Rattle.thread_roster.specs.declared.mode.Awaited.TheVariants.{Port}
 use Rattle.thread_roster.specs.declared.mode.Mode.TheVariants as mode
-use Rattle.site_model.specs.Site.{Site, ThreadState, thread_state, cell_record}
+use Rattle.site_model.specs.Site.{Site, ThreadState, thread_state, cell_record, port_end, home_record}
+use Rattle.site_model.specs.Requests.{with_asking, send_request_row, home_request_row, early_request_row}
 use Rattle.thread_roster.specs.Threads.{is_waiting}
 use Rattle.site_model.specs.Bundle.{is_below}
 use Rattle.site_model.specs.Transition.{Transition, without_output, and_then}
 use Rattle.site_model.specs.Cells.{request_row}
 use Rattle.site_model.specs.Messages.{reception}
-use Rattle.site_model.specs.Unit.{bind_attempt, effect_here, thread_step, fresh_names, with_mode}
+use Rattle.site_model.specs.Unit.{bind_attempt, effect_here, thread_step, kept_step, fresh_names, with_mode}
 
 -- a name that no site makes: what `root_bind` gives where there is nothing to bind
 abbrev pub nobody : VarName
@@ -64,10 +68,32 @@ abbrev pub is_here : Token → Bool
 is_here (Here v) = true
 is_here _ = false
 
--- an exchange of a cell whose token is not here waits for it; all else is the step
-abbrev pub step_or_request : ℕ → ThreadName → Stack → Site → Transition → CellChange → Transition
-step_or_request limit th st s step (Exchanged c new told) = if is_here (cell_record s c).held.token then step else request_row limit c new th st s
-step_or_request limit th st s step _ = step
+-- at the home of a stationary cell: a step where the content is here, else the wait for it
+abbrev pub step_or_wait : ThreadName → Stack → Site → Transition → CellName → VarName → Option VarName → Transition
+step_or_wait th st s kept c new (Some v) = kept
+step_or_wait th st s kept c new None = early_request_row c new th st s
+
+-- by what becomes of a cell: an exchange waits for the token, or asks the home, where the content is not here
+abbrev pub cell_unit : ℕ → ThreadName → Stack → Site → (step kept : Transition) → CellChange → Transition
+cell_unit limit th st s step kept Stays = step
+cell_unit limit th st s step kept (Made c v) = if c.at == 0 then step else kept
+cell_unit limit th st s step kept (Exchanged c new told) =
+    if c.at == 0 then (if is_here (cell_record s c).held.token then step else request_row limit c new th st s)
+    else (if c.at == s.records.site then step_or_wait th st s kept c new (home_record s c).content else home_request_row limit c new th st s)
+
+-- a send to a port of the site: a step where it was made
+abbrev pub send_or_wait : ThreadName → Stack → Site → Transition → PortName → Option VarName → Transition
+send_or_wait th st s kept q (Some end) = kept
+send_or_wait th st s kept q None = without_output (with_asking th st (Port q) s)
+
+-- by what becomes of a port: a send to one of another site asks it
+abbrev pub step_or_request : ℕ → ThreadName → Stack → Site → (step kept : Transition) → Effect → Transition
+step_or_request limit th st s step kept e = by_port e.port
+  where
+    by_port : PortChange → Transition
+    by_port Keeps = cell_unit limit th st s step kept e.cell
+    by_port (Opened q end) = kept
+    by_port (Sent q value new) = if q.site == s.records.site then send_or_wait th st s kept q (port_end s q) else send_request_row limit q th st s
 
 -- the variables that are open in a comparison, none where it is decided
 abbrev pub open_list : Comparison → List VarName
@@ -82,8 +108,8 @@ unit_for p n limit th st s (Binds a b) =
     bind_attempt p n limit th st (root_bind s.equations a b).0 (root_bind s.equations a b).1
     ((root_bind s.equations a b).0.site == s.records.site) s
 unit_for p n limit th st s (Takes kinds) =
-    step_or_request limit th st s (thread_step p n limit th st kinds (fresh_names s kinds) None s)
-    (effect_here p s (fresh_names s kinds) None st).cell
+    step_or_request limit th st s (thread_step p n limit th st kinds (fresh_names s kinds) None s) (kept_step p limit th st kinds (fresh_names s kinds) s)
+    (effect_here p s (fresh_names s kinds) None st)
 
 -- the unit of a thread in this state; of no thread it is nothing
 abbrev pub unit_from : List Stmt → ℕ → ℕ → ThreadName → Site → Option ThreadState → Transition

@@ -80,7 +80,7 @@ second_turn w k u = second_does w k (times u second) (next_turn program 2 0 (tim
 
 -- the two sites at the start
 abbrev pub first_story : Story
-first_story = record { journal = []; first = initial_site program 1; second = initial_site program 2 }
+first_story = record { journal = []; first = initial_site program 2 1; second = initial_site program 2 2 }
 
 -- site 1 makes the variables and the cell, sends the thread, and waits for X
 abbrev pub turn_1 : Story
@@ -140,10 +140,10 @@ turn_14 = first_turn turn_13 (Some 12) 2
 
 -- the states of the two sites; those of others are as they began
 abbrev pub sites_of : Story → ℕ → Site
-sites_of w zero = initial_site program 0
+sites_of w zero = initial_site program 2 0
 sites_of w (suc zero) = w.first
 sites_of w (suc (suc zero)) = w.second
-sites_of w (suc (suc (suc i))) = initial_site program (suc (suc (suc i)))
+sites_of w (suc (suc (suc i))) = initial_site program 2 (suc (suc (suc i)))
 
 -- the fourteen turns are a run of the sites, and it ends quiet
 abbrev pub TokenReturns : Type 0
@@ -166,11 +166,11 @@ spawn = msg.Spawn second (code 5) (v 0 ∷ [])
 
 -- the turn of site 1: eleven units of its thread
 abbrev pub shows_first : Transition
-shows_first = next_turn show_program 2 256 (times 11 first) None (initial_site show_program 1)
+shows_first = next_turn show_program 2 256 (times 11 first) None (initial_site show_program 2 1)
 
 -- the turn of site 2: it takes the thread, and makes one unit of it
 abbrev pub shows_second : Transition
-shows_second = next_turn show_program 2 256 (times 1 second) (Some spawn) (initial_site show_program 2)
+shows_second = next_turn show_program 2 256 (times 1 second) (Some spawn) (initial_site show_program 2 2)
 
 -- one message, and site 2 asks for nothing
 pub record BundleTravels : Type 0 where

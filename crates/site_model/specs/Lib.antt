@@ -6,6 +6,7 @@ pub mod Example
 pub mod Fit
 pub mod Laws
 pub mod Messages
+pub mod Requests
 pub mod Run
 pub mod Site
 pub mod Transition

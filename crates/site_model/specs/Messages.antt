@@ -17,6 +17,7 @@ use Rattle.site_model.specs.Bundle.{with_own_bundles}
 use Rattle.site_model.specs.Transition.{Transition, without_output, with_messages, with_pick, and_then}
 use Rattle.site_model.specs.Variables.{with_known_equation, own_bind, opening}
 use Rattle.site_model.specs.Cells.{forward_row, get_row, put_row}
+use Rattle.site_model.specs.Requests.{port_send_row, cell_make_row, cell_ask_row, answer_row, NewEnd, OldContent}
 
 -- a thread begins at the site, and can go on
 abbrev pub with_thread : List Stmt → Option Birth → Site → Site
@@ -53,6 +54,11 @@ message_row p limit (msg.Binding x t bundle) s = without_output (with_known_equa
 message_row p limit (msg.Get c k) s = get_row limit c k s
 message_row p limit (msg.Forward c k) s = forward_row limit c k s
 message_row p limit (msg.Put c v bundle) s = put_row p limit c v s
+message_row p limit (msg.PortSend q n k) s = port_send_row limit q n k s
+message_row p limit (msg.PortEnd n old new bundle) s = answer_row p n (NewEnd old new) s
+message_row p limit (msg.CellMake c v bundle) s = cell_make_row p limit c v s
+message_row p limit (msg.CellAsk c n k v bundle) s = cell_ask_row p limit c (record { thread = n; asking = k; new = v }) s
+message_row p limit (msg.CellOld n v bundle) s = answer_row p n (OldContent v) s
 
 -- a delivered message: the equations of its bundle are known and its names met, then its row
 abbrev pub reception : List Stmt → ℕ → Msg → Site → Transition

@@ -42,7 +42,7 @@ IsReachedBy false before entry s = before s
 
 -- the entries of site i are turns in a row from its start to this state
 abbrev pub SiteRun : List Stmt → ℕ → ℕ → ℕ → List Turn → Site → Type 0
-SiteRun p n limit i [] s = s ≡ initial_site p i
+SiteRun p n limit i [] s = s ≡ initial_site p n i
 SiteRun p n limit i (e ∷ j) s =
     IsReachedBy (e.site == i) (λ old. SiteRun p n limit i j old) (λ old new. IsEntry p n limit j e old new) s
 

@@ -4,10 +4,10 @@
 //! starts from here.
 //!
 //! It promises the definitions: the state of a site (`specs/Site.antt`), one row for each message (`specs/Messages.antt`, over
-//! those of variables and of cells), a unit of a thread (`specs/Unit.antt`), the known equations that travel with a message
+//! those of variables, of cells, and of requests to the owner of a port or the home of a cell), a unit of a thread (`specs/Unit.antt`), the known equations that travel with a message
 //! (`specs/Bundle.antt`), which messages are fit (`IsFit`), turns (`SiteTurnOf`, `IsFullTurnOf`) and runs of a world (`WorldRun`).
-//! The law `worked_turns` is a run by these definitions, of fourteen turns, in which every kind of message travels, and rows
-//! with a bundle; `worked_cells` are rows of cells, worked one after another. By `bundles_are_ordered` bundles keep to their limit
+//! The law `worked_turns` is a run by these definitions, of fourteen turns, in which every kind of message of variables and of mobile
+//! cells travels, and rows with a bundle; `worked_cells` are rows of cells, worked one after another. By `bundles_are_ordered` bundles keep to their limit
 //! and to the order of names; by `bundles_come_last` the messages of a row or a unit get them at its end.
 //!
 //! It stands on `bind_protocol`, whose rows of variables it takes, on `token_chain` for those of cells, on `thread_roster` for

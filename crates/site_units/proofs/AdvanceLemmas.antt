@@ -39,8 +39,8 @@ goes_on p c th v m h e = (fits_there p c th v m h e).goes
 pub fits_now : (p : List Stmt) (c : Core) (th : ThreadName) (v : Running) (m : Mode) → IsConsistent p c → value_of equal_thread c.threads.living th ≡ Some (v, m) → Fits p v c.variables.store
 fits_now p c th v m h e = record { stack = (fits_there p c th v m h e).fits; equations = h.equations }
 
-names_for_steps : (s : Contents) (kinds : List NameKind) (f : Fresh) (i n : ℕ) → site_in f ≡ Some i → n < 2 ^ 50 → AreBelow (64 * n + 2) f → Each (λ (x : VarName). IsMade f (name.Var x)) s.known → CanName s kinds f
-names_for_steps s kinds (fresh.Counted site vars cells procs threads) i n e small below made = (omega (arith, below.0), omega (arith, below.1), omega (arith, below.2), omega (arith, below.3), made)
+names_for_steps : (s : Contents) (kinds : List NameKind) (f : Fresh) (i n : ℕ) → site_in f ≡ Some i → n < 2 ^ 50 → AreBelow (64 * n + 2 ^ 56) f → Each (λ (x : VarName). IsMade f (name.Var x)) s.known → CanName s kinds f
+names_for_steps s kinds (fresh.Counted site sites vars cells procs threads ports) i n e small below made = (omega (arith, below.0), omega (arith, below.1), omega (arith, below.2), omega (arith, below.3), omega (arith, below.4), made)
 names_for_steps s kinds (fresh.Given names) i n e small below made = cc
 
 pub can_name : (p : List Stmt) (c : Core) (kinds : List NameKind) → IsConsistent p c → c.steps < 2 ^ 50 → CanName c.variables.store kinds c.fresh
@@ -49,8 +49,8 @@ can_name p c kinds h small = names_for_steps c.variables.store kinds c.fresh c.v
 pub stepped : (p : List Stmt) (c0 c1 : Core) (th : ThreadName) (r v q : Running) (o : StepOut) → IsConsistent p c0 → IsRunning c0 th r → v ≡ r → c0.steps < 2 ^ 50 → IsStep p v c0.variables.store c0.fresh o q c1.variables.store c1.fresh →
     Fits p q c1.variables.store → OutFits p c1.variables.store.known o → HasThreadSite o → (IsCounted c0.fresh → Each (λ (x : Name). IsMade c0.fresh x → ⊥) (fresh_of o)) → (IsCounted c0.fresh → Each (HasMade c1.fresh) (fresh_of o)) →
     ((x : Name) → IsMade c0.fresh x → IsMade c1.fresh x) → site_in c1.fresh ≡ site_in c0.fresh → ((n : ℕ) → AreBelow n c0.fresh → AreBelow (n + 64) c1.fresh) → c1.threads.living ≡ set_value c0.threads.living th q →
-    c1.threads.ended ≡ c0.threads.ended → c1.variables.binder ≡ c0.variables.binder → c1.cells ≡ c0.cells → c1.sites ≡ c0.sites → c1.steps ≡ c0.steps → IsStepping p c0 c1 th r q o
-stepped p c0 c1 th r v q o h runs same room step fits handed place unmade made stays site few living ended records cells sites steps =
+    c1.threads.ended ≡ c0.threads.ended → c1.variables.binder ≡ c0.variables.binder → c1.cells ≡ c0.cells → c1.ports ≡ c0.ports → c1.homes ≡ c0.homes → c1.sites ≡ c0.sites → c1.steps ≡ c0.steps → IsStepping p c0 c1 th r q o
+stepped p c0 c1 th r v q o h runs same room step fits handed place unmade made stays site few living ended records cells ports homes sites steps =
     let counted : IsCounted c0.fresh = counted_in c0.fresh c0.variables.binder.site h.site in
     record {
       consistent = h;
@@ -69,6 +69,8 @@ stepped p c0 c1 th r v q o h runs same room step fits handed place unmade made s
       ended = ended;
       records = records;
       cells = cells;
+      ports = ports;
+      homes = homes;
       sites = sites;
       steps = steps;
     }

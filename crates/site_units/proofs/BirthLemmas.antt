@@ -1,5 +1,5 @@
 -- Units that make a thread or a cell.
-use Rattle.std.proofs.Common.{◌≡◌, ◌≢◌, ◌∙◌, sym, ap, refl, subst, ℕ, List, [], ◌∷◌, ◌++◌, Bool, true, false, cond, Some, None}
+use Rattle.std.proofs.Common.{◌≡◌, ◌≢◌, ◌∙◌, sym, ap, refl, subst, ℕ, List, [], ◌∷◌, ◌++◌, ◌⊎◌, inl, inr, Bool, true, false, cond, Some, None}
 use Rattle.std.specs.Prelude.{Option, Contains, ℤ, ◌==◌}
 use Rattle.tree_node.specs.declared.names.VarName.{VarName}
 use Rattle.tree_node.specs.declared.names.CellName.{CellName}
@@ -17,7 +17,7 @@ use Rattle.tree_node.specs.State.{Stack, equal_thread}
 use Rattle.kernel_syntax.specs.declared.stmt.Stmt.{Stmt}
 use Rattle.kernel_syntax.specs.Free.{free}
 use Rattle.oz_model.specs.Need.{kinds_of, stack_need}
-use Rattle.oz_model.specs.Effect.{Birth, Stays, Made, thread_among, vars_among}
+use Rattle.oz_model.specs.Effect.{Birth, Stays, Made, Keeps, thread_among, vars_among}
 use Rattle.oz_model.proofs.NameLemmas.{Each-weaker}
 use Rattle.site_message.specs.declared.message.Msg.TheVariants as msg
 use Rattle.thread_machine.specs.declared.answer.StepOut.{StepOut}
@@ -28,11 +28,13 @@ use Rattle.thread_machine.specs.Fits.{StackFits}
 use Rattle.thread_machine.specs.Running.{Running}
 use Rattle.name_supply.specs.Supply.{names_for, IsCounted, site_in, IsMade, HasMade}
 use Rattle.name_supply.proofs.MadeLemmas.{counted_in}
+use Rattle.thread_roster.specs.declared.mode.Awaited.{Awaited}
+use Rattle.thread_roster.specs.declared.mode.Awaited.TheVariants.{Cell}
 use Rattle.thread_roster.specs.declared.mode.Mode.{Mode}
 use Rattle.thread_roster.specs.declared.mode.Mode.TheVariants as mode
 use Rattle.thread_roster.specs.Threads.{Threads as Roster, Entry, set_value}
 use Rattle.thread_roster.proofs.ThreadLemmas.{each_found}
-use Rattle.thread_roster.proofs.NameLemmas.{is_other}
+use Rattle.thread_roster.proofs.NameLemmas.{is_same, is_other, name_cases}
 use Rattle.token_chain.specs.Holding.{here_with}
 use Rattle.site_model.specs.Site.{Site, CellRecord, ThreadState, cell_record_in}
 use Rattle.site_model.specs.Bundle.{with_own_bundle}
@@ -45,9 +47,10 @@ use Rattle.site_variables.specs.Variables.{stacks_of}
 use Rattle.site_units.specs.declared.data.Core.{Core}
 use Rattle.site_units.specs.declared.data.Output.{Output}
 use Rattle.site_units.specs.Core.{site_of, stack_in, counters_of}
-use Rattle.site_units.specs.Invariant.{ThreadFits, IsAwaiting, CellFits, CellsFit, IsConsistent}
+use Rattle.site_cells.specs.Homes.{home_in}
+use Rattle.site_units.specs.Invariant.{ThreadFits, IsAsking, IsQueued, IsEarly, CellFits, CellsFit, own_threads, IsConsistent}
 use Rattle.site_units.specs.Units.{IsStepping, IsFinished, IsUnitMade, without_ended}
-use Rattle.site_units.proofs.ThreadLemmas.{Living, other_set, other_without}
+use Rattle.site_units.proofs.ThreadLemmas.{Living, mode_in, runs_other, other_set, other_without}
 use Rattle.site_units.proofs.FreshLemmas.{makes_site}
 use Rattle.oz_model.proofs.BirthLemmas.{BornBy, stack_born}
 use Rattle.site_units.proofs.SiteLemmas.{nil_right}
@@ -74,18 +77,21 @@ cells_consistent p c t h site fits = record {
   threads_made = h.threads_made;
   tables = site ∙ h.tables;
   cells = λ cell. fits_alike p c t (cell, cell_record_in t.cell_records cell) (fits cell);
+  ports = h.ports;
+  homes = λ cell. record { content = (h.homes cell).content; news = (h.homes cell).news; waits = (h.homes cell).waits; once = (h.homes cell).once };
+  asks = h.asks;
   among = h.among;
   some = h.some;
 }
 
-pub cell_made : (p : List Stmt) (c0 c c1 : Core) (t2 : CellTables) (o0 o1 : Output) (th : ThreadName) (r q : Running) (k : Pick) (cell : CellName) (v : VarName) → IsStepping p c0 c th r q (out.NewCell k cell v) → IsFinished c th q k c1 →
+pub cell_made : (p : List Stmt) (c0 c c1 : Core) (t2 : CellTables) (o0 o1 : Output) (th : ThreadName) (r q : Running) (k : Pick) (cell : CellName) (v : VarName) → cell.at ≡ 0 → IsStepping p c0 c th r q (out.NewCell k cell v) → IsFinished c th q k c1 →
     IsChange (after_cell (Made cell v)) c1.cells t2 → o1.picks ≡ o0.picks ++ k ∷ [] → o1.sent ≡ o0.sent → o1.lines.items ≡ o0.lines.items → IsUnitMade p th c0 o0 (record c1 { cells = t2 }) o1
-cell_made p c0 c c1 t2 o0 o1 th r q k cell v h f change picks sent lines = (
-  row p c0 c th r q (out.NewCell k cell v) k [] None None (Made cell v) h t h.made,
-  is_unit p c0 c th r q (out.NewCell k cell v) k [] None None (Made cell v) h t h.made tt,
+cell_made p c0 c c1 t2 o0 o1 th r q k cell v mobile h f change picks sent lines = (
+  row p c0 c th r q (out.NewCell k cell v) k [] None None (Made cell v) Keeps h t h.made,
+  is_unit p c0 c th r q (out.NewCell k cell v) k [] None None (Made cell v) Keeps h t h.made mobile refl,
   record {
     site =
-        ap (λ (s : Site). with_tables t2 s) (finished_site p c0 c th r q (out.NewCell k cell v) k [] None None (Made cell v) h t h.made refl c1 f)
+        ap (λ (s : Site). with_tables t2 s) (finished_site p c0 c th r q (out.NewCell k cell v) k [] None None (Made cell v) Keeps h t h.made refl c1 f)
         ∙ ap (λ (s : Site). with_stack k.thread q.stack s) (sym changed);
     picks = picks;
     sent = sent ∙ sym (nil_right o0.sent);
@@ -95,11 +101,11 @@ cell_made p c0 c c1 t2 o0 o1 th r q k cell v h f change picks sent lines = (
   },
 )
   where
-    t : Taken p c0 c r q k [] None None (Made cell v)
-    t = record { goes = h.step.0; printed = h.step.1.line; births = h.step.2; change = h.step.1.cell; equations = h.step.3 }
+    t : Taken p c0 c r q k [] None None (Made cell v) Keeps
+    t = record { goes = h.step.0; printed = h.step.1.line; births = h.step.2; change = h.step.1.cell; ends = h.step.1.port; equations = h.step.3 }
 
     before : IsConsistent p c1
-    before = next_consistent p c0 c1 h.consistent (finished_next p c0 c th r q (out.NewCell k cell v) k [] None None (Made cell v) h t h.made refl c1 f)
+    before = next_consistent p c0 c1 h.consistent (finished_next p c0 c th r q (out.NewCell k cell v) k [] None None (Made cell v) Keeps h t h.made refl c1 f)
 
     begun : Site
     begun = with_fresh_names t.goes.takes.kinds (site_of c0)
@@ -131,7 +137,7 @@ cell_made p c0 c c1 t2 o0 o1 th r q k cell v h f change picks sent lines = (
 -- ---- threads
 
 born_name : (f : Fresh) → IsCounted f → (n : ThreadName) × (names_for f (kind.Thread ∷ []) ≡ name.Thread n ∷ [])
-born_name (fresh.Counted site vars cells procs threads) h = (record { site = site; num = threads }, refl)
+born_name (fresh.Counted site sites vars cells procs threads ports) h = (record { site = site; num = threads }, refl)
 born_name (fresh.Given names) h = absurd h
 
 lives_apart : (ts : Living) (n m : ThreadName) (r : Running) → value_of equal_thread ts n ≡ Some (r, mode.Runs) → value_of equal_thread ts m ≡ None → n ≢ m
@@ -165,31 +171,50 @@ thread_consistent p c ts n w h living new fits made = record {
   tables = h.tables;
   cells = λ cell. record {
     content = (h.cells cell).content;
-    queue = Each-weaker (IsAwaiting p c cell) (IsAwaiting p (record c { threads = ts }) cell) (λ m a. (a.0, still m cell a.0 a.1, a.2)) (cell_record_in c.cells.cell_records cell).queue (h.cells cell).queue;
+    queue = Each-weaker (IsQueued p c cell) (IsQueued p (record c { threads = ts }) cell) (λ m a. (a.0, (a.1.0, still m (Cell cell) a.1.0 a.1.1, a.1.2))) (cell_record_in c.cells.cell_records cell).queue (h.cells cell).queue;
     once = (h.cells cell).once;
   };
+  ports = h.ports;
+  homes = λ cell. record {
+    content = (h.homes cell).content;
+    news = (h.homes cell).news;
+    waits = Each-weaker (IsEarly p c cell) (IsEarly p (record c { threads = ts }) cell) (λ m a. (a.0, a.1, (a.2.0, still m (Cell cell) a.2.0 a.2.1, a.2.2))) (own_threads c.variables.binder.site (home_in c.homes cell).early) (h.homes cell).waits;
+    once = (h.homes cell).once;
+  };
+  asks = asked;
   among = h.among;
   some = h.some;
 }
   where
-    still : (m : ThreadName) (cell : CellName) (s : Running) → value_of equal_thread c.threads.living m ≡ Some (s, mode.WaitsFor cell) → value_of equal_thread ts.living m ≡ Some (s, mode.WaitsFor cell)
-    still m cell s e =
-        let apart : n ≢ m = λ same. let both : ◌≡◌ {A = Option (Running × Mode)} None (Some (s, mode.WaitsFor cell)) = sym new ∙ (ap (λ (x : ThreadName). value_of equal_thread c.threads.living x) same ∙ e) in cc in
+    still : (m : ThreadName) (a : Awaited) (s : Running) → value_of equal_thread c.threads.living m ≡ Some (s, mode.WaitsFor a) → value_of equal_thread ts.living m ≡ Some (s, mode.WaitsFor a)
+    still m a s e =
+        let apart : n ≢ m = λ same. let both : ◌≡◌ {A = Option (Running × Mode)} None (Some (s, mode.WaitsFor a)) = sym new ∙ (ap (λ (x : ThreadName). value_of equal_thread c.threads.living x) same ∙ e) in cc in
         ap (λ (l : Living). value_of equal_thread l m) living ∙ (rw (is_other n m apart) refl ∙ e)
+
+    asked : (m : ThreadName) (s : Running) (a : Awaited) → value_of equal_thread ts.living m ≡ Some (s, mode.WaitsFor a) → IsAsking p c.variables.store.known c.variables.store.equations a s
+    asked m s a e = go (name_cases n m)
+      where
+        go : (n ≡ m) ⊎ (n ≢ m) → IsAsking p c.variables.store.known c.variables.store.equations a s
+        go (inl same) =
+            let first : value_of equal_thread ((n, (w, mode.Runs)) ∷ c.threads.living) m ≡ Some (w, mode.Runs) = rw (is_same n m same) refl in
+            absurd (runs_other a (ap mode_in (sym e ∙ (ap (λ (l : Living). value_of equal_thread l m) living ∙ first))))
+        go (inr apart) =
+            let rest : value_of equal_thread ((n, (w, mode.Runs)) ∷ c.threads.living) m ≡ value_of equal_thread c.threads.living m = rw (is_other n m apart) refl in
+            h.asks m s a (sym (ap (λ (l : Living). value_of equal_thread l m) living ∙ rest) ∙ e)
 
 module _ (p : List Stmt) (c0 c c1 : Core) (o0 o1 : Output) (th : ThreadName) (r q : Running) (k : Pick) (at : Option ℤ) (n : ThreadName) (code : CodeId) (vars : List VarName)
     (h : IsStepping p c0 c th r q (out.Spawn k at n code vars)) (f : IsFinished c th q k c1) where
   abbrev birth : Birth
   birth = record { at = at; name = n; code = code; vars = vars }
 
-  taken : Taken p c0 c r q k [] None (Some (record { at = at; name = n; code = code; vars = vars })) Stays
-  taken = record { goes = h.step.0; printed = h.step.1.line; births = h.step.2; change = h.step.1.cell; equations = h.step.3 }
+  taken : Taken p c0 c r q k [] None (Some (record { at = at; name = n; code = code; vars = vars })) Stays Keeps
+  taken = record { goes = h.step.0; printed = h.step.1.line; births = h.step.2; change = h.step.1.cell; ends = h.step.1.port; equations = h.step.3 }
 
   abbrev whole : Transition
-  whole = row p c0 c th r q (out.Spawn k at n code vars) k [] None (Some (record { at = at; name = n; code = code; vars = vars })) Stays h taken h.made
+  whole = row p c0 c th r q (out.Spawn k at n code vars) k [] None (Some (record { at = at; name = n; code = code; vars = vars })) Stays Keeps h taken h.made
 
   before : IsConsistent p c1
-  before = next_consistent p c0 c1 h.consistent (finished_next p c0 c th r q (out.Spawn k at n code vars) k [] None (Some birth) Stays h taken h.made refl c1 f)
+  before = next_consistent p c0 c1 h.consistent (finished_next p c0 c th r q (out.Spawn k at n code vars) k [] None (Some birth) Stays Keeps h taken h.made refl c1 f)
 
   by : BornBy k.fresh birth (stack_need p c0.variables.store.equations r.stack)
   by = stack_born p c0.variables.store.equations k.fresh None r.stack birth h.step.2
@@ -234,7 +259,7 @@ module _ (p : List Stmt) (c0 c c1 : Core) (o0 o1 : Output) (th : ThreadName) (r 
   begun = with_stack k.thread q.stack (with_fresh_names taken.goes.takes.kinds (site_of c0))
 
   begun_is : site_of c1 ≡ with_stack k.thread q.stack (with_fresh_names taken.goes.takes.kinds (site_of c0))
-  begun_is = finished_site p c0 c th r q (out.Spawn k at n code vars) k [] None (Some birth) Stays h taken h.made refl c1 f
+  begun_is = finished_site p c0 c th r q (out.Spawn k at n code vars) k [] None (Some birth) Stays Keeps h taken h.made refl c1 f
 
   own : (with_fresh_names taken.goes.takes.kinds (site_of c0)).records.site ≡ c0.variables.binder.site
   own = makes_site c0.variables.binder (vars_among (next_names c0.variables.binder.site (counters_of c0.fresh) taken.goes.takes.kinds))
@@ -246,7 +271,7 @@ module _ (p : List Stmt) (c0 c c1 : Core) (o0 o1 : Output) (th : ThreadName) (r 
       (subst (λ (i : ℕ). (placement c0.sites i at == i) ≡ b) (sym own) e)
 
   unit : IsUnit p c0.sites 0 th (site_of c0) whole
-  unit = is_unit p c0 c th r q (out.Spawn k at n code vars) k [] None (Some birth) Stays h taken h.made tt
+  unit = is_unit p c0 c th r q (out.Spawn k at n code vars) k [] None (Some birth) Stays Keeps h taken h.made tt refl
 
   pub spawned_here : (ts : Roster Running) (w : Running) → (placement c0.sites c0.variables.binder.site at == c0.variables.binder.site) ≡ true → w ≡ record { name = n; stack = item.Run code (env_for (free p code) vars) ∷ []; told = None } →
       ((known : List VarName) → Each (λ (x : VarName). Contains known x) vars → StackFits p known w.stack) →

@@ -1,5 +1,5 @@
 -- Names by a site's counters.
-use Rattle.std.proofs.Common.{arith, ◌≡◌, ◌∙◌, sym, ap, refl, ℕ, List, [], ◌∷◌, ◌⊎◌, inl, inr, Some, None}
+use Rattle.std.proofs.Common.{arith, ◌≡◌, ◌∙◌, sym, ap, refl, ℕ, zero, suc, ℤ, pos, negsuc, List, [], ◌∷◌, ◌⊎◌, inl, inr, Some, None}
 use Rattle.std.specs.Prelude.{Option, Contains, ◌<◌, ◌≤◌}
 use Rattle.std.proofs.Math.Numerals.{suc-eq-add-one}
 use Rattle.std.proofs.lemmas.Bool.{cases_lt}
@@ -15,7 +15,7 @@ use Rattle.oz_model.specs.Effect.{vars_among}
 use Rattle.bind_protocol.specs.Records.{Records, IsKnown, knowledge}
 use Rattle.name_supply.specs.declared.fresh.Fresh.{Fresh}
 use Rattle.name_supply.specs.declared.fresh.Fresh.TheVariants as fresh
-use Rattle.name_supply.specs.Supply.{next_name, after_name, names_for, after_names, known_after, IsCounted, site_in, HasMade}
+use Rattle.name_supply.specs.Supply.{next_name, after_name, names_for, after_names, home_among, known_after, IsCounted, site_in, HasMade}
 use Rattle.name_supply.proofs.SupplyLemmas.{kept_after, named_after, each_known}
 use Rattle.name_supply.proofs.MadeLemmas.{counted_in, counted_after, site_after}
 use Rattle.site_model.specs.Site.{Counters}
@@ -29,35 +29,40 @@ pub use Rattle.site_model.proofs.FrameLemmas.{makes_site}
 -- ---- the names that come next
 
 counter_next : (f : Fresh) (k : NameKind) → IsCounted f → counters_of (after_name f k) ≡ counter_after (counters_of f) k
-counter_next (fresh.Counted site vars cells procs threads) kind.Var h = ap (λ (v : ℕ). with_vars v) (suc-eq-add-one vars)
+counter_next (fresh.Counted site sites vars cells procs threads ports) k h = go k
   where
-    with_vars : ℕ → Counters
-    with_vars v = record { vars = v; cells = cells; procs = procs; threads = threads }
-counter_next (fresh.Counted site vars cells procs threads) kind.Cell h = ap (λ (v : ℕ). with_cells v) (suc-eq-add-one cells)
-  where
-    with_cells : ℕ → Counters
-    with_cells v = record { vars = vars; cells = v; procs = procs; threads = threads }
-counter_next (fresh.Counted site vars cells procs threads) kind.Proc h = ap (λ (v : ℕ). with_procs v) (suc-eq-add-one procs)
-  where
-    with_procs : ℕ → Counters
-    with_procs v = record { vars = vars; cells = cells; procs = v; threads = threads }
-counter_next (fresh.Counted site vars cells procs threads) kind.Thread h = ap (λ (v : ℕ). with_threads v) (suc-eq-add-one threads)
-  where
-    with_threads : ℕ → Counters
-    with_threads v = record { vars = vars; cells = cells; procs = procs; threads = v }
+    counted : ℕ → ℕ → ℕ → ℕ → ℕ → Counters
+    counted v c q t o = record { vars = v; cells = c; procs = q; threads = t; ports = o; sites = sites }
+
+    go : (k : NameKind) → counters_of (after_name (fresh.Counted site sites vars cells procs threads ports) k) ≡ counter_after (counted vars cells procs threads ports) k
+    go kind.Var = ap (λ (v : ℕ). counted v cells procs threads ports) (suc-eq-add-one vars)
+    go kind.Cell = ap (λ (v : ℕ). counted vars v procs threads ports) (suc-eq-add-one cells)
+    go (kind.CellAt home) = ap (λ (v : ℕ). counted vars v procs threads ports) (suc-eq-add-one cells)
+    go kind.Proc = ap (λ (v : ℕ). counted vars cells v threads ports) (suc-eq-add-one procs)
+    go kind.Thread = ap (λ (v : ℕ). counted vars cells procs v ports) (suc-eq-add-one threads)
+    go kind.Port = ap (λ (v : ℕ). counted vars cells procs threads v) (suc-eq-add-one ports)
 counter_next (fresh.Given names) k h = absurd h
 
 pub counters_next : (f : Fresh) (ks : List NameKind) → IsCounted f → counters_of (after_names f ks) ≡ counters_after (counters_of f) ks
 counters_next f [] h = refl
 counters_next f (k ∷ ks) h = counters_next (after_name f k) ks (counted_after f k h) ∙ ap (λ (c : Counters). counters_after c ks) (counter_next f k h)
 
+-- both say the same of a cell's home
+home_same : (n : ℕ) (k : ℤ) → home_among n k ≡ unit.home_among n k
+home_same zero k = refl
+home_same (suc n) (pos zero) = refl
+home_same (suc n) (pos (suc k)) = refl
+home_same (suc n) (negsuc k) = refl
+
 name_next : (f : Fresh) (i : ℕ) (k : NameKind) → site_in f ≡ Some i → next_name f k ≡ unit.next_name i (counters_of f) k
-name_next (fresh.Counted site vars cells procs threads) i k e = go k (cc)
+name_next (fresh.Counted site sites vars cells procs threads ports) i k e = go k (cc)
   where
-    go : (k : NameKind) → site ≡ i → next_name (fresh.Counted site vars cells procs threads) k ≡ unit.next_name i (record { vars = vars; cells = cells; procs = procs; threads = threads }) k
+    go : (k : NameKind) → site ≡ i → next_name (fresh.Counted site sites vars cells procs threads ports) k ≡ unit.next_name i (record { vars = vars; cells = cells; procs = procs; threads = threads; ports = ports; sites = sites }) k
     go kind.Var same = rw same refl
     go kind.Cell same = rw same refl
+    go (kind.CellAt home) same = rw (same, home_same sites home) refl
     go kind.Proc same = rw same refl
+    go kind.Port same = rw same refl
     go kind.Thread same = rw same refl
 name_next (fresh.Given names) i k e = cc
 
@@ -72,19 +77,21 @@ names_next f i (k ∷ ks) e =
 -- ---- which variables were made
 
 step_made : (f : Fresh) (k : NameKind) (x : VarName) → IsCounted f → HasMade (after_name f k) (name.Var x) → HasMade f (name.Var x) ⊎ ((k ≡ kind.Var) × (next_name f k ≡ name.Var x))
-step_made (fresh.Counted site vars cells procs threads) kind.Var x h (at, below) = go (cases_lt x.num vars)
+step_made (fresh.Counted site sites vars cells procs threads ports) kind.Var x h (at, below) = go (cases_lt x.num vars)
   where
     same : x.site ≡ site
     same = cc
 
-    go : (x.num < vars) ⊎ (vars ≤ x.num) → HasMade (fresh.Counted site vars cells procs threads) (name.Var x) ⊎ ((kind.Var ≡ kind.Var) × (name.Var (record { site = site; num = vars }) ≡ name.Var x))
+    go : (x.num < vars) ⊎ (vars ≤ x.num) → HasMade (fresh.Counted site sites vars cells procs threads ports) (name.Var x) ⊎ ((kind.Var ≡ kind.Var) × (name.Var (record { site = site; num = vars }) ≡ name.Var x))
     go (inl less) = inl (at, λ e. less)
     go (inr more) =
         let num : x.num ≡ vars = omega (arith, below same) in
         inr (refl, rw (sym same, sym num) refl)
-step_made (fresh.Counted site vars cells procs threads) kind.Cell x h m = inl m
-step_made (fresh.Counted site vars cells procs threads) kind.Proc x h m = inl m
-step_made (fresh.Counted site vars cells procs threads) kind.Thread x h m = inl m
+step_made (fresh.Counted site sites vars cells procs threads ports) kind.Cell x h m = inl m
+step_made (fresh.Counted site sites vars cells procs threads ports) (kind.CellAt at_home) x h m = inl m
+step_made (fresh.Counted site sites vars cells procs threads ports) kind.Proc x h m = inl m
+step_made (fresh.Counted site sites vars cells procs threads ports) kind.Port x h m = inl m
+step_made (fresh.Counted site sites vars cells procs threads ports) kind.Thread x h m = inl m
 step_made (fresh.Given names) k x h m = absurd h
 
 made_head : (n : Name) (ns : List Name) (x : VarName) → n ≡ name.Var x → Contains (vars_among (n ∷ ns)) x
@@ -94,6 +101,7 @@ made_tail : (n : Name) (ns : List Name) (x : VarName) → Contains (vars_among n
 made_tail (name.Var y) ns x h = Contains-tail y x (vars_among ns) h
 made_tail (name.Cell y) ns x h = h
 made_tail (name.Proc y) ns x h = h
+made_tail (name.Port y) ns x h = h
 made_tail (name.Thread y) ns x h = h
 
 -- a variable that was made afterwards was made before, or is one of the names
@@ -115,6 +123,7 @@ each_var P A B [] h a b = tt
 each_var P A B (name.Var x ∷ ns) h a b = (h x a.0 b.0, each_var P A B ns h a.1 b.1)
 each_var P A B (name.Cell x ∷ ns) h a b = each_var P A B ns h a.1 b.1
 each_var P A B (name.Proc x ∷ ns) h a b = each_var P A B ns h a.1 b.1
+each_var P A B (name.Port x ∷ ns) h a b = each_var P A B ns h a.1 b.1
 each_var P A B (name.Thread x ∷ ns) h a b = each_var P A B ns h a.1 b.1
 
 -- ---- known names

@@ -41,10 +41,10 @@ use Rattle.site_units.specs.declared.data.Output.{Output}
 use Rattle.site_units.specs.Core.{site_of, stack_in}
 use Rattle.site_units.specs.Invariant.{ThreadFits, IsConsistent}
 use Rattle.site_units.specs.Turns.{IsRowMade}
-use Rattle.site_units.proofs.ThreadLemmas.{Living, WaitsStay, waits_woken}
+use Rattle.site_units.proofs.ThreadLemmas.{Living, WaitsStay, waits_woken, waited_where}
 use Rattle.site_units.proofs.WakeLemmas.{Bind, encode, woken_each, woken_living, recovered_all}
 use Rattle.site_units.proofs.FreshLemmas.{each_of}
-use Rattle.site_units.proofs.NextLemmas.{next_consistent, thread_grows, exchanges_more}
+use Rattle.site_units.proofs.NextLemmas.{next_consistent, thread_grows, asks_before, exchanges_more, sends_more}
 use Rattle.site_units.proofs.SiteLemmas.{nil_right}
 use Rattle.site_units.proofs.RowLemmas.{row_reached}
 use Rattle.tree_node.proofs.OrderLemmas.{Each-member}
@@ -52,9 +52,13 @@ use Rattle.std.proofs.lemmas.Bool.{ne_eqb, eq-eqb}
 
 -- ---- some go on by one bind after another
 
-waits_each : (bs : List Bind) (ts : Living) → WaitsStay ts (woken_each bs ts)
+pub waits_each : (bs : List Bind) (ts : Living) → WaitsStay ts (woken_each bs ts)
 waits_each [] ts m s c e = e
 waits_each (b ∷ bs) ts m s c e = waits_each bs (wake_where (goes_on b.0 b.1) ts) m s c (waits_woken b.0 b.1 ts m s c e)
+
+waited_each : (bs : List Bind) (ts : Living) → WaitsStay (woken_each bs ts) ts
+waited_each [] ts m s a e = e
+waited_each (b ∷ bs) ts m s a e = waited_where (goes_on b.0 b.1) ts m s a (waited_each bs (wake_where (goes_on b.0 b.1) ts) m s a e)
 
 each_each : (P : Entry Running → Type 0) → ((n : ThreadName) (v : Running) (m k : Mode) → P (n, (v, m)) → P (n, (v, k))) → (bs : List Bind) (ts : Living) → Each P ts → Each P (woken_each bs ts)
 each_each P any [] ts all = all
@@ -63,7 +67,7 @@ each_each P any (b ∷ bs) ts all = each_each P any bs (wake_where (goes_on b.0 
 -- ---- names
 
 made_if_own : (f : Fresh) (i : ℕ) (x : VarName) → site_in f ≡ Some i → (x.site ≡ i → IsMade f (name.Var x)) → IsMade f (name.Var x)
-made_if_own (fresh.Counted site vars cells procs threads) i x e h = let is : site ≡ i = cc in λ same. h (same ∙ is) same
+made_if_own (fresh.Counted site sites vars cells procs threads ports) i x e h = let is : site ≡ i = cc in λ same. h (same ∙ is) same
 made_if_own (fresh.Given names) i x e h = let no : None ≡ Some i = e in cc
 
 -- own names are known by the owners' table alone
@@ -113,9 +117,14 @@ learned_consistent p c v1 ts1 h l = next_consistent p c (record c { variables = 
   known_made = each_of (λ (x : VarName). IsMade c.fresh (name.Var x)) v1.store.known (λ x m. made_if_own c.fresh c.variables.binder.site x h.site (λ same. Each-member (λ (y : VarName). IsMade c.fresh (name.Var y)) c.variables.store.known x h.known_made (l.own_names x same m)));
   made_known = λ x m. l.grows x (h.made_known x m);
   threads_made = subst (Each (λ (t : Entry Running). IsMade c.fresh (name.Thread t.0))) (sym l.woken) (each_each (λ (t : Entry Running). IsMade c.fresh (name.Thread t.0)) (λ n v m k g. g) l.bound c.threads.living h.threads_made);
+  stays = λ x m. m;
   cells = refl;
+  ports = refl;
+  homes = refl;
   waits = subst (λ (ts : Living). WaitsStay c.threads.living ts) (sym l.woken) (waits_each l.bound c.threads.living);
+  asks = asks_before p v1.store.known v1.store.equations c.threads.living ts1.living (subst (λ (ts : Living). WaitsStay ts c.threads.living) (sym l.woken) (waited_each l.bound c.threads.living));
   exchanges = exchanges_more p c.variables.store.known v1.store.known c.variables.store.equations v1.store.equations l.sound l.includes l.grows;
+  sends = sends_more p c.variables.store.known v1.store.known c.variables.store.equations v1.store.equations l.sound l.includes l.grows;
   sites = refl;
 })
 

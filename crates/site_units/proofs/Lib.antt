@@ -24,3 +24,11 @@ pub mod PutLemmas
 pub mod PackLemmas
 pub mod OneUnitLemmas
 pub mod ReplayLemmas
+pub mod MadeLemmas
+pub mod KeptLemmas
+pub mod AskLemmas
+pub mod PortUnitLemmas
+pub mod HomeUnitLemmas
+pub mod ResumeLemmas
+pub mod AnswerLemmas
+pub mod HearLemmas

@@ -1,7 +1,10 @@
 -- A unit of a thread is one: the site and the thread tell what it does.
+use Rattle.site_model.specs.Cells.{effect_here}
 use Rattle.std.specs.Prelude.{◌==◌}
 use Rattle.std.proofs.Common.{◌≡◌, ◌∙◌, sym, ap, subst, ℕ, List, [], Option, Some, None, inl, inr}
 use Rattle.tree_node.specs.declared.names.VarName.{VarName}
+use Rattle.tree_node.specs.declared.names.CellName.{CellName}
+use Rattle.tree_node.specs.declared.names.PortName.{PortName}
 use Rattle.tree_node.specs.declared.names.ThreadName.{ThreadName}
 use Rattle.tree_node.specs.declared.node.Node.{Node}
 use Rattle.tree_node.specs.declared.node.Term.{Term}
@@ -15,12 +18,12 @@ use Rattle.tree_store.specs.Forest.{IsForest}
 use Rattle.tree_store.proofs.ForestLemmas.{one_free, free_none}
 use Rattle.kernel_syntax.specs.declared.stmt.Stmt.{Stmt}
 use Rattle.oz_model.specs.Need.{Need, Waits, WaitsAny, Binds, Takes, stack_need}
-use Rattle.oz_model.specs.Effect.{CellChange, Stays, Made, Exchanged}
+use Rattle.oz_model.specs.Effect.{CellChange, Stays, Made, Exchanged, PortChange, Keeps, Opened, Sent, Effect}
 use Rattle.thread_roster.specs.declared.mode.Mode.TheVariants.{Runs}
 use Rattle.thread_roster.specs.declared.mode.Mode.TheVariants as mode
 use Rattle.site_model.specs.Site.{Site, ThreadState}
 use Rattle.site_model.specs.Transition.{Transition, without_output}
-use Rattle.site_model.specs.Unit.{IsRootBind, IsStepOrRequest, IsUnitFor, IsUnit, bind_attempt, with_mode}
+use Rattle.site_model.specs.Unit.{IsRootBind, IsExchangeUnit, IsHomeUnit, IsCellUnit, IsSendUnit, IsStepOrRequest, IsUnitFor, IsUnit, bind_attempt, with_mode, thread_step, kept_step, fresh_names}
 use Rattle.tree_node.proofs.NameLemmas.{below_not, below_trans}
 use Rattle.tree_node.proofs.ClassLemmas.{roots_tell_classes}
 
@@ -90,14 +93,60 @@ bind_is_one s a b u v (term.Var x) (term.Var y) f (inr h, fu, low, root) (inr k,
 
 -- ---- which unit
 
-step_is_one : (limit : ℕ) (th : ThreadName) (st : Stack) (s : Site) (step : Transition) (c : CellChange) (d e : Transition)
-    → IsStepOrRequest limit th st s step c d → IsStepOrRequest limit th st s step c e → d ≡ e
-step_is_one limit th st s step Stays d e h k = h ∙ sym k
-step_is_one limit th st s step (Made c v) d e h k = h ∙ sym k
-step_is_one limit th st s step (Exchanged c new told) d e (inl h) (inl k) = h.1 ∙ sym k.1
-step_is_one limit th st s step (Exchanged c new told) d e (inl h) (inr k) = absurd (k.0 h.0)
-step_is_one limit th st s step (Exchanged c new told) d e (inr h) (inl k) = absurd (h.0 k.0)
-step_is_one limit th st s step (Exchanged c new told) d e (inr h) (inr k) = h.1 ∙ sym k.1
+none_some : (v : VarName) → None ≡ Some v → ⊥
+none_some v e = cc
+
+exchange_is_one : (limit : ℕ) (th : ThreadName) (st : Stack) (s : Site) (step : Transition) (c : CellName) (new : VarName) (d e : Transition)
+    → IsExchangeUnit limit th st s step c new d → IsExchangeUnit limit th st s step c new e → d ≡ e
+exchange_is_one limit th st s step c new d e (inl h) (inl k) = h.1 ∙ sym k.1
+exchange_is_one limit th st s step c new d e (inl h) (inr k) = absurd (k.0 h.0)
+exchange_is_one limit th st s step c new d e (inr h) (inl k) = absurd (h.0 k.0)
+exchange_is_one limit th st s step c new d e (inr h) (inr k) = h.1 ∙ sym k.1
+
+home_is_one : (limit : ℕ) (th : ThreadName) (st : Stack) (s : Site) (kept : Transition) (c : CellName) (new : VarName) (d e : Transition)
+    → IsHomeUnit limit th st s kept c new d → IsHomeUnit limit th st s kept c new e → d ≡ e
+home_is_one limit th st s kept c new d e (inl h) (inl k) = h.1 ∙ sym k.1
+home_is_one limit th st s kept c new d e (inl h) (inr (inl k)) = absurd (k.0 h.0.0)
+home_is_one limit th st s kept c new d e (inl h) (inr (inr k)) = absurd (none_some h.0.1 (sym k.1 ∙ h.0.2))
+home_is_one limit th st s kept c new d e (inr (inl h)) (inl k) = absurd (h.0 k.0.0)
+home_is_one limit th st s kept c new d e (inr (inl h)) (inr (inl k)) = h.1 ∙ sym k.1
+home_is_one limit th st s kept c new d e (inr (inl h)) (inr (inr k)) = absurd (h.0 k.0)
+home_is_one limit th st s kept c new d e (inr (inr h)) (inl k) = absurd (none_some k.0.1 (sym h.1 ∙ k.0.2))
+home_is_one limit th st s kept c new d e (inr (inr h)) (inr (inl k)) = absurd (k.0 h.0)
+home_is_one limit th st s kept c new d e (inr (inr h)) (inr (inr k)) = h.2 ∙ sym k.2
+
+cell_is_one : (limit : ℕ) (th : ThreadName) (st : Stack) (s : Site) (step kept : Transition) (c : CellChange) (d e : Transition)
+    → IsCellUnit limit th st s step kept c d → IsCellUnit limit th st s step kept c e → d ≡ e
+cell_is_one limit th st s step kept Stays d e h k = h ∙ sym k
+cell_is_one limit th st s step kept (Made c v) d e (inl h) (inl k) = h.1 ∙ sym k.1
+cell_is_one limit th st s step kept (Made c v) d e (inl h) (inr k) = absurd (k.0 h.0)
+cell_is_one limit th st s step kept (Made c v) d e (inr h) (inl k) = absurd (h.0 k.0)
+cell_is_one limit th st s step kept (Made c v) d e (inr h) (inr k) = h.1 ∙ sym k.1
+cell_is_one limit th st s step kept (Exchanged c new told) d e (inl h) (inl k) = exchange_is_one limit th st s step c new d e h.1 k.1
+cell_is_one limit th st s step kept (Exchanged c new told) d e (inl h) (inr k) = absurd (k.0 h.0)
+cell_is_one limit th st s step kept (Exchanged c new told) d e (inr h) (inl k) = absurd (h.0 k.0)
+cell_is_one limit th st s step kept (Exchanged c new told) d e (inr h) (inr k) = home_is_one limit th st s kept c new d e h.1 k.1
+
+send_is_one : (limit : ℕ) (th : ThreadName) (st : Stack) (s : Site) (kept : Transition) (q : PortName) (d e : Transition)
+    → IsSendUnit limit th st s kept q d → IsSendUnit limit th st s kept q e → d ≡ e
+send_is_one limit th st s kept q d e (inl h) (inl k) = h.3 ∙ sym k.3
+send_is_one limit th st s kept q d e (inl h) (inr (inl k)) = absurd (k.0 h.0)
+send_is_one limit th st s kept q d e (inl h) (inr (inr k)) = absurd (none_some h.1 (sym k.1 ∙ h.2))
+send_is_one limit th st s kept q d e (inr (inl h)) (inl k) = absurd (h.0 k.0)
+send_is_one limit th st s kept q d e (inr (inl h)) (inr (inl k)) = h.1 ∙ sym k.1
+send_is_one limit th st s kept q d e (inr (inl h)) (inr (inr k)) = absurd (h.0 k.0)
+send_is_one limit th st s kept q d e (inr (inr h)) (inl k) = absurd (none_some k.1 (sym h.1 ∙ k.2))
+send_is_one limit th st s kept q d e (inr (inr h)) (inr (inl k)) = absurd (k.0 h.0)
+send_is_one limit th st s kept q d e (inr (inr h)) (inr (inr k)) = h.2 ∙ sym k.2
+
+step_is_one : (limit : ℕ) (th : ThreadName) (st : Stack) (s : Site) (step kept : Transition) (f : Effect) (d e : Transition)
+    → IsStepOrRequest limit th st s step kept f d → IsStepOrRequest limit th st s step kept f e → d ≡ e
+step_is_one limit th st s step kept f d e h k = go f.port h k
+  where
+    go : (q : PortChange) → IsStepOrRequest limit th st s step kept (record f { port = q }) d → IsStepOrRequest limit th st s step kept (record f { port = q }) e → d ≡ e
+    go Keeps h k = cell_is_one limit th st s step kept f.cell d e h k
+    go (Opened q end) h k = h ∙ sym k
+    go (Sent q value new) h k = send_is_one limit th st s kept q d e h k
 
 open_same : (xs ys : List VarName) → Open xs ≡ Open ys → xs ≡ ys
 open_same xs ys e = cc
@@ -114,7 +163,8 @@ unit_for_is_one p n limit s th st (Binds a b) d e f h k =
     let same = bind_is_one s.equations a b h.0 k.0 h.1 k.1 f h.2 k.2 in
     h.3 ∙ ap (λ (u : VarName). bind_attempt p n limit th st u h.1 (u.site == s.records.site) s) same.0
     ∙ ap (λ (t : Term). bind_attempt p n limit th st k.0 t (k.0.site == s.records.site) s) same.1 ∙ sym k.3
-unit_for_is_one p n limit s th st (Takes kinds) d e f h k = step_is_one limit th st s _ _ d e h k
+unit_for_is_one p n limit s th st (Takes kinds) d e f h k =
+    step_is_one limit th st s (thread_step p n limit th st kinds (fresh_names s kinds) None s) (kept_step p limit th st kinds (fresh_names s kinds) s) (effect_here p s (fresh_names s kinds) None st) d e h k
 
 abbrev running_as : Stack → Option ThreadState
 running_as st = Some (st, Runs)

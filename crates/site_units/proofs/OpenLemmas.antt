@@ -116,6 +116,7 @@ term_known known (term.Node (node.Proc q code formals vars)) h = (tt, h)
 term_known known (term.Node (node.Int z)) h = tt
 term_known known (term.Node (node.Atom a)) h = tt
 term_known known (term.Node (node.Cell c)) h = tt
+term_known known (term.Node (node.Port c)) h = tt
 
 equations_known : (known : List VarName) (es : List Equation) → Each (Contains known) (vars_of_equations es) → Each (EachOfEquation (IsAmong known)) es
 equations_known known [] h = tt

@@ -38,7 +38,7 @@ use Rattle.site_units.specs.Invariant.{ThreadFits, ContentKnown, CellFits, Cells
 use Rattle.site_units.specs.Turns.{IsRowMade}
 use Rattle.site_units.proofs.ThreadLemmas.{Living}
 use Rattle.site_units.proofs.SiteLemmas.{nil_right}
-use Rattle.site_units.proofs.NextLemmas.{next_consistent, exchanges_known}
+use Rattle.site_units.proofs.NextLemmas.{next_consistent, asks_before, exchanges_known, sends_known}
 use Rattle.site_units.proofs.CellLemmas.{replaced}
 use Rattle.site_units.proofs.BirthLemmas.{cells_consistent, thread_consistent}
 
@@ -72,9 +72,14 @@ registered_consistent p c v1 h linked store own = next_consistent p c (record c 
   known_made = subst (λ (s : Contents). Each (λ (x : VarName). IsMade c.fresh (name.Var x)) s.known) (sym store) h.known_made;
   made_known = λ x m. grows x (h.made_known x m);
   threads_made = h.threads_made;
+  stays = λ x m. m;
   cells = refl;
-  waits = λ m s cell e. e;
+  ports = refl;
+  homes = refl;
+  waits = λ m s a e. e;
+  asks = asks_before p v1.store.known v1.store.equations c.threads.living c.threads.living (λ m s a e. e);
   exchanges = exchanges_known p c.variables.store.known v1.store.known c.variables.store.equations v1.store.equations (ap (λ (s : Contents). s.equations) store) grows;
+  sends = sends_known p c.variables.store.known v1.store.known c.variables.store.equations v1.store.equations (ap (λ (s : Contents). s.equations) store) grows;
   sites = refl;
 })
   where

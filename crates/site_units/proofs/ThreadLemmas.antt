@@ -1,8 +1,7 @@
 -- Threads of a site, one of which has changed.
-use Rattle.std.proofs.Common.{◌≡◌, ◌≢◌, ◌∙◌, sym, ap, refl, subst, List, [], ◌∷◌, Bool, true, false, cond, Some, None}
+use Rattle.std.proofs.Common.{◌≡◌, ◌≢◌, ◌∙◌, sym, ap, refl, subst, List, [], ◌∷◌, ◌⊎◌, inl, inr, Bool, true, false, cond, Some, None}
 use Rattle.std.specs.Prelude.{Option, IsSome}
 use Rattle.tree_node.specs.declared.names.VarName.{VarName}
-use Rattle.tree_node.specs.declared.names.CellName.{CellName}
 use Rattle.tree_node.specs.declared.names.ThreadName.{ThreadName}
 use Rattle.tree_node.specs.Assoc.{value_of, with_value, without_key, with_optional_value}
 use Rattle.tree_node.specs.Each.{Each}
@@ -10,12 +9,13 @@ use Rattle.tree_node.specs.State.{Stack, equal_thread}
 use Rattle.tree_node.specs.Store.{Store}
 use Rattle.oz_model.specs.Step.{living_stack}
 use Rattle.thread_machine.specs.Running.{Running}
+use Rattle.thread_roster.specs.declared.mode.Awaited.{Awaited}
 use Rattle.thread_roster.specs.declared.mode.Mode.{Mode}
 use Rattle.thread_roster.specs.declared.mode.Mode.TheVariants as mode
 use Rattle.thread_roster.specs.Threads.{Entry, set_value, set_mode, wake_where}
 use Rattle.thread_roster.specs.Binds.{goes_on}
 use Rattle.tree_node.proofs.NameLemmas.{same_thread_decides}
-use Rattle.thread_roster.proofs.NameLemmas.{is_same, is_other}
+use Rattle.thread_roster.proofs.NameLemmas.{is_same, is_other, name_cases}
 use Rattle.thread_roster.proofs.ThreadLemmas.{seen_found, seen_end, seen_value, seen_mode, value_there, each_end, each_value, woken_by, found_where}
 use Rattle.site_model.specs.Site.{Threads}
 use Rattle.site_model.specs.Unit.{runnable_state}
@@ -64,7 +64,11 @@ other_value {W} (t ∷ ts) n m w apart = go (equal_thread t.0 n) refl (other_val
         rw (is_other n m apart, is_other t.0 m apart_too) refl
     go false q ih = ap (λ (o : Option W). cond (equal_thread t.0 m) (Some t.1) o) ih
 
-abbrev mode_in : Option (Running × Mode) → Mode
+abbrev pub running_or : Running → Option (Running × Mode) → Running
+running_or r None = r
+running_or r (Some v) = v.0
+
+abbrev pub mode_in : Option (Running × Mode) → Mode
 mode_in None = mode.Runs
 mode_in (Some v) = v.1
 
@@ -120,28 +124,75 @@ other_mode (t ∷ ts) n m k apart = go (equal_thread t.0 n) refl (other_mode ts 
 
 -- ---- waits that stay
 
--- each thread that waits for a cell still does
+-- each thread that waits for an answer, or for a token, still does
 abbrev pub WaitsStay : Living → Living → Type 0
-WaitsStay ts us = (m : ThreadName) (s : Running) (c : CellName) → value_of equal_thread ts m ≡ Some (s, mode.WaitsFor c) → value_of equal_thread us m ≡ Some (s, mode.WaitsFor c)
+WaitsStay ts us = (m : ThreadName) (s : Running) (a : Awaited) → value_of equal_thread ts m ≡ Some (s, mode.WaitsFor a) → value_of equal_thread us m ≡ Some (s, mode.WaitsFor a)
 
-pub runs_other : (c : CellName) → mode.WaitsFor c ≢ mode.Runs
-runs_other c e = cc
+pub runs_other : (a : Awaited) → mode.WaitsFor a ≢ mode.Runs
+runs_other a e = cc
 
 pub waits_set : (ts : Living) (n : ThreadName) (r q : Running) → value_of equal_thread ts n ≡ Some (r, mode.Runs) → WaitsStay ts (set_value ts n q)
-waits_set ts n r q runs m s c waits =
-    other_set ts n m q (modes_apart ts n m r s (mode.WaitsFor c) runs waits (runs_other c)) ∙ waits
+waits_set ts n r q runs m s a waits =
+    other_set ts n m q (modes_apart ts n m r s (mode.WaitsFor a) runs waits (runs_other a)) ∙ waits
 
 pub waits_mode : (ts : Living) (n : ThreadName) (r : Running) (k : Mode) → value_of equal_thread ts n ≡ Some (r, mode.Runs) → WaitsStay ts (set_mode ts n k)
-waits_mode ts n r k runs m s c waits =
-    other_mode ts n m k (modes_apart ts n m r s (mode.WaitsFor c) runs waits (runs_other c)) ∙ waits
+waits_mode ts n r k runs m s a waits =
+    other_mode ts n m k (modes_apart ts n m r s (mode.WaitsFor a) runs waits (runs_other a)) ∙ waits
 
 pub waits_settled : (ts : Living) (n : ThreadName) (r : Running) (st : Stack) → value_of equal_thread ts n ≡ Some (r, mode.Runs) → WaitsStay ts (without_ended ts n st)
-waits_settled ts n r [] runs m s c waits =
-    other_without ts n m (modes_apart ts n m r s (mode.WaitsFor c) runs waits (runs_other c)) ∙ waits
-waits_settled ts n r (i ∷ is) runs m s c waits = waits
+waits_settled ts n r [] runs m s a waits =
+    other_without ts n m (modes_apart ts n m r s (mode.WaitsFor a) runs waits (runs_other a)) ∙ waits
+waits_settled ts n r (i ∷ is) runs m s a waits = waits
 
 pub waits_trans : (ts us vs : Living) → WaitsStay ts us → WaitsStay us vs → WaitsStay ts vs
-waits_trans ts us vs h g m s c waits = g m s c (h m s c waits)
+waits_trans ts us vs h g m s a waits = g m s a (h m s a waits)
+
+-- ---- who waits waited before
+
+pub waited_set : (ts : Living) (n : ThreadName) (r q : Running) → value_of equal_thread ts n ≡ Some (r, mode.Runs) → WaitsStay (set_value ts n q) ts
+waited_set ts n r q runs m s a waits = go (name_cases n m)
+  where
+    go : (n ≡ m) ⊎ (n ≢ m) → value_of equal_thread ts m ≡ Some (s, mode.WaitsFor a)
+    go (inl same) =
+        let there : value_of equal_thread (set_value ts n q) m ≡ Some (q, mode.Runs) = subst (λ (x : ThreadName). value_of equal_thread (set_value ts n q) x ≡ Some (q, mode.Runs)) same (value_there ts n r mode.Runs q runs) in
+        absurd (runs_other a (ap mode_in (sym waits ∙ there)))
+    go (inr apart) = sym (other_set ts n m q apart) ∙ waits
+
+-- none of a name that was taken out
+gone : (ts : Living) (n : ThreadName) → value_of equal_thread (without_key equal_thread ts n) n ≡ None
+gone [] n = refl
+gone (t ∷ ts) n = go (equal_thread t.0 n) refl (gone ts n)
+  where
+    go : (b : Bool) → equal_thread t.0 n ≡ b → value_of equal_thread (without_key equal_thread ts n) n ≡ None → value_of equal_thread (cond b (without_key equal_thread ts n) (t ∷ without_key equal_thread ts n)) n ≡ None
+    go true q ih = ih
+    go false q ih = rw q ih
+
+pub waited_settled : (ts : Living) (n : ThreadName) (st : Stack) → WaitsStay (without_ended ts n st) ts
+waited_settled ts n [] m s a waits = go (name_cases n m)
+  where
+    go : (n ≡ m) ⊎ (n ≢ m) → value_of equal_thread ts m ≡ Some (s, mode.WaitsFor a)
+    go (inl same) =
+        let none : value_of equal_thread (without_key equal_thread ts n) m ≡ None = subst (λ (x : ThreadName). value_of equal_thread (without_key equal_thread ts n) x ≡ None) same (gone ts n) in
+        absurd (runs_other a (ap mode_in (sym waits ∙ none)))
+    go (inr apart) = sym (other_without ts n m apart) ∙ waits
+waited_settled ts n (i ∷ is) m s a waits = waits
+
+-- who goes on waits for nothing
+still_waits : (b : Bool) (m : Mode) (a : Awaited) → cond b mode.Runs m ≡ mode.WaitsFor a → m ≡ mode.WaitsFor a
+still_waits true m a e = absurd (runs_other a (sym e))
+still_waits false m a e = e
+
+pub waited_where : (f : Mode → Bool) (ts : Living) → WaitsStay (wake_where f ts) ts
+waited_where f [] m s a waits = waits
+waited_where f (t ∷ ts) m s a waits = go (equal_thread t.0 m) waits (λ k. waited_where f ts m s a k)
+  where
+    go : (b : Bool) → cond b (Some (t.1.0, woken_by f t.1.1)) (value_of equal_thread (wake_where f ts) m) ≡ Some (s, mode.WaitsFor a) →
+        (value_of equal_thread (wake_where f ts) m ≡ Some (s, mode.WaitsFor a) → value_of equal_thread ts m ≡ Some (s, mode.WaitsFor a)) → cond b (Some t.1) (value_of equal_thread ts m) ≡ Some (s, mode.WaitsFor a)
+    go true k ih =
+        let thread : t.1.0 ≡ s = ap (λ (o : Option (Running × Mode)). running_or s o) k in
+        let stands : t.1.1 ≡ mode.WaitsFor a = still_waits (f t.1.1) t.1.1 a (ap mode_in k) in
+        ap (λ (x : Running). Some (x, t.1.1)) thread ∙ ap (λ (x : Mode). Some (s, x)) stands
+    go false k ih = ih k
 
 -- ---- a thread that was left
 
@@ -225,4 +276,4 @@ woken_value f (t ∷ ts) n q = go (equal_thread t.0 n) (woken_value f ts n q)
     go false ih = ap (λ (l : Living). (t.0, (t.1.0, woken_by f t.1.1)) ∷ l) ih
 
 pub waits_woken : (s : Store) (x : VarName) (ts : Living) → WaitsStay ts (wake_where (goes_on s x) ts)
-waits_woken s x ts m r c waits = found_where (goes_on s x) ts m r (mode.WaitsFor c) waits
+waits_woken s x ts m r a waits = found_where (goes_on s x) ts m r (mode.WaitsFor a) waits

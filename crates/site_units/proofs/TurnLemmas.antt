@@ -172,6 +172,9 @@ consistent_turned p c ns h = record {
   threads_made = h.threads_made;
   tables = h.tables;
   cells = λ cell. record { content = (h.cells cell).content; queue = (h.cells cell).queue; once = (h.cells cell).once };
+  ports = h.ports;
+  homes = λ cell. record { content = (h.homes cell).content; news = (h.homes cell).news; waits = (h.homes cell).waits; once = (h.homes cell).once };
+  asks = h.asks;
   among = h.among;
   some = h.some;
 }

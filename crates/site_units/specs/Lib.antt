@@ -6,3 +6,4 @@ pub mod Turns
 pub mod Serving
 pub mod Replay
 pub mod LastUnits
+pub mod Answers

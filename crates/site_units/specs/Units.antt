@@ -74,6 +74,8 @@ pub record IsStepping (p : List Stmt) (c0 c : Core) (n : ThreadName) (r q : Runn
   pub ended : c.threads.ended ≡ c0.threads.ended
   pub records : c.variables.binder ≡ c0.variables.binder
   pub cells : c.cells ≡ c0.cells
+  pub ports : c.ports ≡ c0.ports
+  pub homes : c.homes ≡ c0.homes
   pub sites : c.sites ≡ c0.sites
   pub steps : c.steps ≡ c0.steps
 
@@ -84,6 +86,7 @@ abbrev pub pick_of : StepOut → Option Pick
 pick_of (out.Ran k) = Some k
 pick_of (out.Spawn k at name code vars) = Some k
 pick_of (out.NewCell k cell content) = Some k
+pick_of (out.NewPort k port end) = Some k
 pick_of (out.Line k line) = Some k
 pick_of _ = None
 
@@ -100,6 +103,8 @@ without_ended ts n (i ∷ is) = ts
 pub record IsSettled (c : Core) (n : ThreadName) (q : Running) (c1 : Core) : Type 0 where
   pub variables : c1.variables ≡ c.variables
   pub cells : c1.cells ≡ c.cells
+  pub ports : c1.ports ≡ c.ports
+  pub homes : c1.homes ≡ c.homes
   pub living : c1.threads.living ≡ without_ended c.threads.living n q.stack
   pub ended : c1.threads.ended ≡ c.threads.ended + end_count q.stack
   pub fresh : c1.fresh ≡ c.fresh
@@ -112,6 +117,8 @@ pub record IsFinished (c : Core) (n : ThreadName) (q : Running) (k : Pick) (c1 :
   pub records : c1.variables.binder ≡ after_makes c.variables.binder (vars_among k.fresh)
   pub linked : IsLinked c1.variables
   pub cells : c1.cells ≡ c.cells
+  pub ports : c1.ports ≡ c.ports
+  pub homes : c1.homes ≡ c.homes
   pub living : c1.threads.living ≡ without_ended c.threads.living n q.stack
   pub ended : c1.threads.ended ≡ c.threads.ended + end_count q.stack
   pub fresh : c1.fresh ≡ c.fresh

@@ -1,8 +1,10 @@
 -- Which messages fit.
 use Rattle.std.proofs.Common.{rules, true, false, ◌≡◌, ◌≢◌, ◌∙◌, sym, refl, subst, ℕ, ◌≤◌, List, Bool}
+use mathlib.Core.Path.{fun_ext}
 use Rattle.std.specs.Prelude.{Contains, ◌↔◌, IsTrue, not}
 use Rattle.tree_node.specs.declared.names.VarName.{VarName}
 use Rattle.tree_node.specs.declared.names.Name.{Name}
+use Rattle.tree_node.specs.declared.names.Name.TheVariants as name
 use Rattle.tree_node.specs.declared.node.Term.{Term}
 use Rattle.tree_node.specs.Each.{Each}
 use Rattle.tree_node.specs.Order.{IsLower, site_of}
@@ -11,7 +13,7 @@ use Rattle.tree_store.specs.Forest.{IsForest}
 use Rattle.site_message.specs.declared.message.Msg.{Msg}
 use Rattle.bind_protocol.specs.Records.{Records, is_own}
 use Rattle.site_model.specs.Site.{Site, Counters}
-use Rattle.site_model.specs.Fit.{BundleFits, EachOfMsg, IsKnownName, IsBelowCounter}
+use Rattle.site_model.specs.Fit.{BundleFits, EachOfMsg, IsKnownName, IsBelowCounter, home_of_name}
 use Rattle.site_variables.specs.declared.variables.Variables.{Variables}
 use Rattle.site_variables.specs.declared.names.Bounds.{Bounds}
 use Rattle.site_variables.specs.Fit.{with_variables, counters_of, IsBoundOf, IsWithin, EquationFits}
@@ -20,11 +22,28 @@ use Rattle.tree_node.proofs.EachLemmas.{each_in}
 
 -- ---- names
 
+-- of the counters none but that of a name's kind is read
+below_same : (c : Counters) (n : ℕ) → ◌≡◌ {A = Name → Type 0} (λ x. IsBelowCounter (record c { sites = n }) x) (λ x. IsBelowCounter c x)
+below_same c n = fun_ext one
+  where
+    one : (x : Name) → IsBelowCounter (record c { sites = n }) x ≡ IsBelowCounter c x
+    one (name.Var x) = refl
+    one (name.Cell x) = refl
+    one (name.Proc x) = refl
+    one (name.Thread x) = refl
+    one (name.Port x) = refl
+
+-- a name of one of so many sites, with such a home, and with this where it is the own site's
+abbrev IsSuch : ℕ → ℕ → (Name → Type 0) → Name → Type 0
+IsSuch n i B x = (1 ≤ site_of x) × (site_of x ≤ n) × (home_of_name x ≤ n) × (site_of x ≡ i → B x)
+
 pub within_known : (b : Bounds) (s : Site) (m : Msg) (o : Bool) → IsBoundOf b s → (IsTrue o ↔ EachOfMsg (IsWithin b) m) → IsTrue o ↔ EachOfMsg (IsKnownName b.sites s) m
 within_known b s m o h same =
-    let P : ℕ → Counters → Name → Type 0 = λ i c x. (1 ≤ site_of x) × (site_of x ≤ b.sites) × (site_of x ≡ i → IsBelowCounter c x) in
-    let first : IsTrue o ↔ EachOfMsg (P s.records.site (counters_of b)) m = subst (λ (i : ℕ). IsTrue o ↔ EachOfMsg (P i (counters_of b)) m) (sym h.0) same in
-    subst (λ (c : Counters). IsTrue o ↔ EachOfMsg (P s.records.site c) m) (sym h.1) first
+    let first : IsTrue o ↔ EachOfMsg (IsSuch b.sites s.records.site (λ x. IsBelowCounter (counters_of b) x)) m =
+    subst (λ (i : ℕ). IsTrue o ↔ EachOfMsg (IsSuch b.sites i (λ x. IsBelowCounter (counters_of b) x)) m) (sym h.0) same in
+    let second : IsTrue o ↔ EachOfMsg (IsSuch b.sites s.records.site (λ x. IsBelowCounter (record s.counters { sites = b.sites }) x)) m =
+    subst (λ (c : Counters). IsTrue o ↔ EachOfMsg (IsSuch b.sites s.records.site (λ x. IsBelowCounter c x)) m) (sym h.1) first in
+    subst (λ (B : Name → Type 0). IsTrue o ↔ EachOfMsg (IsSuch b.sites s.records.site B) m) (below_same s.counters b.sites) second
 
 -- ---- equations
 

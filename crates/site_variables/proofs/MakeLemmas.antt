@@ -106,6 +106,7 @@ pub first_new : (P : VarName → Type 0) (n : Name) (names : List Name) → Each
 first_new P (name.Var x) names h = (h.0, tt)
 first_new P (name.Cell x) names h = tt
 first_new P (name.Proc x) names h = tt
+first_new P (name.Port x) names h = tt
 first_new P (name.Thread x) names h = tt
 
 pub all_left : (names : List Name) (b : Records) → Each (IsNewOwn b) (vars_among names) → AreDistinct (vars_among names) → AreLeft names 0 b b
@@ -115,18 +116,21 @@ left_new : (n : Name) (names : List Name) (b : Records) → Each (IsNewOwn b) (v
 left_new (name.Var x) names b h distinct = new_left b (after_make b x) x (Some None) (vars_among names) (rows_teach.make b x h.0.0) distinct.0 h.1
 left_new (name.Cell x) names b h distinct = h
 left_new (name.Proc x) names b h distinct = h
+left_new (name.Port x) names b h distinct = h
 left_new (name.Thread x) names b h distinct = h
 
 left_distinct : (n : Name) (names : List Name) → AreDistinct (vars_among (n ∷ names)) → AreDistinct (vars_among names)
 left_distinct (name.Var x) names h = h.1
 left_distinct (name.Cell x) names h = h
 left_distinct (name.Proc x) names h = h
+left_distinct (name.Port x) names h = h
 left_distinct (name.Thread x) names h = h
 
 left_rest : (n : Name) (names : List Name) (b : Records) → after_makes (after_makes b (vars_among (n ∷ []))) (vars_among names) ≡ after_makes b (vars_among (n ∷ names))
 left_rest (name.Var x) names b = refl
 left_rest (name.Cell x) names b = refl
 left_rest (name.Proc x) names b = refl
+left_rest (name.Port x) names b = refl
 left_rest (name.Thread x) names b = refl
 
 pub next_left : (names : List Name) (k : ℕ) (d : Name) (b c e : Records) → k < length names → AreLeft names k b c → e ≡ after_makes c (vars_among (get_or names k d ∷ [])) → AreLeft names (k + 1) b e

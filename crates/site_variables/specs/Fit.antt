@@ -10,7 +10,7 @@ use Rattle.tree_node.specs.Store.{Equation}
 use Rattle.site_message.specs.declared.message.Msg.{Msg}
 use Rattle.site_message.specs.declared.message.Msg.TheVariants as msg
 use Rattle.site_model.specs.Site.{Site, Counters}
-use Rattle.site_model.specs.Fit.{CanTake, IsBelowCounter}
+use Rattle.site_model.specs.Fit.{CanTake, IsBelowCounter, home_of_name}
 use Rattle.site_variables.specs.declared.variables.Variables.{Variables}
 use Rattle.site_variables.specs.declared.names.Bounds.{Bounds}
 
@@ -22,15 +22,15 @@ with_variables s v = record s { equations = v.store.equations; records = v.binde
 
 -- the counters of names in the bounds
 abbrev pub counters_of : Bounds → Counters
-counters_of b = record { vars = b.vars; cells = b.cells; procs = b.procs; threads = b.threads }
+counters_of b = record { vars = b.vars; cells = b.cells; procs = b.procs; threads = b.threads; ports = b.ports; sites = b.sites }
 
 -- the number and the counters of the site are those of the bounds
 abbrev pub IsBoundOf : Bounds → Site → Type 0
-IsBoundOf b s = (s.records.site ≡ b.site) × (s.counters ≡ counters_of b)
+IsBoundOf b s = (s.records.site ≡ b.site) × (record s.counters { sites = b.sites } ≡ counters_of b)
 
--- the name is one of the sites', and was made where it is the site's own
+-- the name is one of the sites', its home is one of them or none, and it was made where it is the site's own
 abbrev pub IsWithin : Bounds → Name → Type 0
-IsWithin b x = (1 ≤ site_of x) × (site_of x ≤ b.sites) × (site_of x ≡ b.site → IsBelowCounter (counters_of b) x)
+IsWithin b x = (1 ≤ site_of x) × (site_of x ≤ b.sites) × (home_of_name x ≤ b.sites) × (site_of x ≡ b.site → IsBelowCounter (counters_of b) x)
 
 -- a variable within the bounds
 abbrev pub IsVarWithin : Bounds → VarName → Type 0

@@ -122,6 +122,10 @@ fn meet_body(variables: &mut Variables, outbox: &mut Outbox, msg: &Msg) -> Resul
             meet_equation(variables, outbox, *var, term)
         }
         Msg::Put { content, .. } => meet_vars(variables, outbox, &[*content]),
+        Msg::PortEnd { old, new, .. } => meet_vars(variables, outbox, &[*old, *new]),
+        Msg::CellMake { content, .. } => meet_vars(variables, outbox, &[*content]),
+        Msg::CellAsk { new, .. } => meet_vars(variables, outbox, &[*new]),
+        Msg::CellOld { content, .. } => meet_vars(variables, outbox, &[*content]),
         _ => meet_vars(variables, outbox, &[]),
     }
 }

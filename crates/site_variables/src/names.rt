@@ -3,6 +3,7 @@
 ghost use Rattle.std.specs.Prelude.{◌≡◌, ◌↔◌, ◌<◌, ◌≤◌, IsTrue};
 ghost use Rattle.tree_node.specs.Each.{Each};
 ghost use Rattle.tree_node.specs.Names.{EachOfNode, EachOfTerm, EachOfEquation};
+ghost use Rattle.site_message.specs.Wire.{IsRequestOrAnswer};
 ghost use Rattle.site_model.specs.Site.{Site as TheSite};
 ghost use Rattle.site_model.specs.Fit.{EachOfMsg, SitesOfMsg, IsKnownName, IsOtherSite};
 ghost use Rattle.site_variables.specs.Fit.{IsBoundOf, IsWithin, IsVarWithin, IsFieldWithin};
@@ -26,6 +27,8 @@ pub struct Bounds {
     pub procs: u64,
     /// How many threads.
     pub threads: u64,
+    /// How many ports.
+    pub ports: u64,
 }
 
 // Whether a name is one of the sites', and was made where it is the site's own.
@@ -33,18 +36,22 @@ fn name_fits(bounds: &Bounds, name: Name) -> bool
     ensures { IsTrue result ↔ IsWithin bounds.now name }
 {
     match name {
-        Name::Var(x) => is_within(bounds, x.site, x.num, bounds.vars),
-        Name::Cell(x) => is_within(bounds, x.site, x.num, bounds.cells),
-        Name::Proc(x) => is_within(bounds, x.site, x.num, bounds.procs),
-        Name::Thread(x) => is_within(bounds, x.site, x.num, bounds.threads),
+        Name::Var(x) => is_within(bounds, x.site, 0, x.num, bounds.vars),
+        Name::Cell(x) => is_within(bounds, x.site, x.at, x.num, bounds.cells),
+        Name::Proc(x) => is_within(bounds, x.site, 0, x.num, bounds.procs),
+        Name::Thread(x) => is_within(bounds, x.site, 0, x.num, bounds.threads),
+        Name::Port(x) => is_within(bounds, x.site, 0, x.num, bounds.ports),
     }
 }
 
-// Whether a site is one of them, and a number is below the counter where it is the site itself.
-fn is_within(bounds: &Bounds, site: u32, num: u64, counter: u64) -> bool
-    ensures { IsTrue result ↔ (1 ≤ site) × (site ≤ bounds.now.sites) × (site ≡ bounds.now.site → num < counter) }
+// Whether a site is one of them, a home is one of them or none, and a number is below the counter where it is the site itself.
+fn is_within(bounds: &Bounds, site: u32, home: u32, num: u64, counter: u64) -> bool
+    ensures { IsTrue result ↔ (1 ≤ site) × (site ≤ bounds.now.sites) × (home ≤ bounds.now.sites) × (site ≡ bounds.now.site → num < counter) }
 {
-    1 <= site && site <= bounds.sites && (site != bounds.site || num < counter)
+    1 <= site
+        && site <= bounds.sites
+        && home <= bounds.sites
+        && (site != bounds.site || num < counter)
 }
 
 // Whether each of these variables is within the bounds.
@@ -90,6 +97,7 @@ fn node_within(bounds: &Bounds, node: &Node) -> bool
             name_fits(bounds, Name::Proc(*proc)) && vars_within(bounds, vars.as_slice())
         }
         Node::Cell(cell) => name_fits(bounds, Name::Cell(*cell)),
+        Node::Port(port) => name_fits(bounds, Name::Port(*port)),
         _ => true,
     }
 }
@@ -122,6 +130,60 @@ fn equations_within(bounds: &Bounds, equations: &[(VarName, Term)]) -> bool
         }
     }
     true
+}
+
+// Whether each name in a request of a thread that waits for its answer, or in an answer, is within the bounds.
+fn request_or_answer_within(bounds: &Bounds, msg: &Msg) -> bool
+    requires { IsRequestOrAnswer msg.now }
+    ensures { IsTrue result ↔ EachOfMsg (IsWithin bounds.now) msg.now }
+{
+    match msg {
+        Msg::PortSend { port, thread, .. } => {
+            name_fits(bounds, Name::Port(*port)) && name_fits(bounds, Name::Thread(*thread))
+        }
+        Msg::PortEnd {
+            thread,
+            old,
+            new,
+            bundle,
+        } => {
+            name_fits(bounds, Name::Thread(*thread))
+                && name_fits(bounds, Name::Var(*old))
+                && name_fits(bounds, Name::Var(*new))
+                && equations_within(bounds, bundle.as_slice())
+        }
+        Msg::CellMake {
+            cell,
+            content,
+            bundle,
+        } => {
+            name_fits(bounds, Name::Cell(*cell))
+                && name_fits(bounds, Name::Var(*content))
+                && equations_within(bounds, bundle.as_slice())
+        }
+        Msg::CellAsk {
+            cell,
+            thread,
+            new,
+            bundle,
+            ..
+        } => {
+            name_fits(bounds, Name::Cell(*cell))
+                && name_fits(bounds, Name::Thread(*thread))
+                && name_fits(bounds, Name::Var(*new))
+                && equations_within(bounds, bundle.as_slice())
+        }
+        Msg::CellOld {
+            thread,
+            content,
+            bundle,
+        } => {
+            name_fits(bounds, Name::Thread(*thread))
+                && name_fits(bounds, Name::Var(*content))
+                && equations_within(bounds, bundle.as_slice())
+        }
+        _ => unreachable!(),
+    }
 }
 
 // Whether each name in a message is within the bounds.
@@ -167,6 +229,7 @@ fn message_within(bounds: &Bounds, msg: &Msg) -> bool
                 && name_fits(bounds, Name::Var(*content))
                 && equations_within(bounds, bundle.as_slice())
         }
+        _ => request_or_answer_within(bounds, msg),
     }
 }
 
@@ -185,6 +248,8 @@ pub fn sites_fit(sites: u32, site: u32, msg: &Msg) -> bool
         Msg::Register { asking, .. } => is_other(sites, site, *asking),
         Msg::Get { asking, .. } => is_other(sites, site, *asking),
         Msg::Forward { next, .. } => is_other(sites, site, *next),
+        Msg::PortSend { asking, .. } => is_other(sites, site, *asking),
+        Msg::CellAsk { asking, .. } => is_other(sites, site, *asking),
         _ => true,
     }
 }

@@ -107,7 +107,7 @@ site_or_not n (suc k) = ⊎_elim (λ (b : n < suc k). inr (λ is. let l = is.1 i
 -- each site has come to some state
 site_run : (p : List Stmt) (n k : ℕ) (j : List Turn) (hs : List Host) → All (HasRun p n j) hs → IsComplete n hs → AreSites n j → IsSiteOf n k ⊎ (IsSiteOf n k → ⊥) → (s : Site) × SiteRun p n bundle_limit k j s
 site_run p n k j hs all complete are (inl is) = of_host (λ (i : ℕ). (s : Site) × SiteRun p n bundle_limit i j s) k hs all (complete k is)
-site_run p n k j hs all complete are (inr not_one) = (initial_site p k, run_none p n bundle_limit k n j are not_one)
+site_run p n k j hs all complete are (inr not_one) = (initial_site p n k, run_none p n bundle_limit k n j are not_one)
 
 -- the value has the fixed part that each seat saw
 pub fixed_same : (p : List Stmt) (y : List ℕ) (x : Sight) (hs : List Host) → 0 < length hs → AreHostsOf p y hs → Each (AgreesWith x) (back_seats hs) → x.fixed ≡ y

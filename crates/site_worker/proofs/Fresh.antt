@@ -18,19 +18,19 @@ use Rattle.site_worker.specs.Host.{IsHost, IsNewSeat, IsRunTo, state_of, sight, 
 off : false ≡ true → ⊥
 off e = cc
 
-no_entries : (h : Host) (es : List Turn) → es ≡ [] → IsRunTo h es (initial_site (program_of h) h.number)
-no_entries h es none = subst (λ (es : List Turn). IsRunTo h es (initial_site (program_of h) h.number)) (sym none) refl
+no_entries : (h : Host) (es : List Turn) → es ≡ [] → IsRunTo h es (initial_site (program_of h) (sites_of h) h.number)
+no_entries h es none = subst (λ (es : List Turn). IsRunTo h es (initial_site (program_of h) (sites_of h) h.number)) (sym none) refl
 
 -- a new site with its new seat
 pub new_host : (t : TableId) (h : Host) (v : SiteState NoSeat) (x : SiteSeat) → h.site ≡ record { program = v.program; sites = v.sites; state = v.state; order = v.order; spent = v.spent; seat = x }
-    → v.state ≡ initial_site v.program x.site → v.spent ≡ false → h.number ≡ x.site → h.spent ≡ false → IsProgram v.program → v.sites ≤ 64 → IsNewSeat t v.sites x → IsHost t h
+    → v.state ≡ initial_site v.program v.sites x.site → v.spent ≡ false → h.number ≡ x.site → h.spent ≡ false → IsProgram v.program → v.sites ≤ 64 → IsNewSeat t v.sites x → IsHost t h
 new_host t h v x is start fresh mine live real few new =
     let seat : h.site.seat ≡ x = ap (λ (w : SiteState SiteSeat). w.seat) is in
     let program : program_of h ≡ v.program = ap (λ (w : SiteState SiteSeat). w.program) is in
     let sites : sites_of h ≡ v.sites = ap (λ (w : SiteState SiteSeat). w.sites) is in
     let none : (sight h).entries ≡ [] = ap (λ (z : SiteSeat). (last_seen z).entries) seat ∙ new.3 in
-    let state : state_of h ≡ initial_site (program_of h) h.number =
-    ap (λ (w : SiteState SiteSeat). w.state) is ∙ (start ∙ (λ i. initial_site (sym program i) (sym mine i))) in
+    let state : state_of h ≡ initial_site (program_of h) (sites_of h) h.number =
+    ap (λ (w : SiteState SiteSeat). w.state) is ∙ (start ∙ (λ i. initial_site (sym program i) (sym sites i) (sym mine i))) in
     let run = no_entries h (sight h).entries none in
     record {
       seated = record {
@@ -43,7 +43,7 @@ new_host t h v x is start fresh mine live real few new =
         limit = subst (λ (z : SiteSeat). book_steps (last_seen z) ≤ 1000000000) (sym seat) new.5;
         program = subst IsProgram (sym program) real;
       };
-      state = initial_site (program_of h) h.number;
+      state = initial_site (program_of h) (sites_of h) h.number;
       run = run;
       live = λ _. (
         record { run = run; state = state; live = ap (λ (w : SiteState SiteSeat). w.spent) is ∙ fresh },

@@ -72,9 +72,9 @@ module _ (p : List Stmt) (n limit k : ℕ) where
   run_later old new s on same run = subst (λ j. SiteRun p n limit k j s) (sym on.1) (run_more on.0 old s (ap (own k) (sym on.1) ∙ same) run)
 
   -- a site without entries
-  pub run_none : (m : ℕ) (j : List Turn) → AreSites m j → (IsSiteOf m k → ⊥) → SiteRun p n limit k j (initial_site p k)
+  pub run_none : (m : ℕ) (j : List Turn) → AreSites m j → (IsSiteOf m k → ⊥) → SiteRun p n limit k j (initial_site p n k)
   run_none m [] are no_site = refl
-  run_none m (e ∷ j) are no_site = run_skip e j (initial_site p k) (ne_eqb e.site k (λ is. no_site (subst (IsSiteOf m) is are.0))) (run_none m j are.1 no_site)
+  run_none m (e ∷ j) are no_site = run_skip e j (initial_site p n k) (ne_eqb e.site k (λ is. no_site (subst (IsSiteOf m) is are.0))) (run_none m j are.1 no_site)
 
 -- each turn is of a site 1 to n
 pub each_site : (n : ℕ) (j : List Turn) → AreSites n j → Each (IsSiteIn n) j

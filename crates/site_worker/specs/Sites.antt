@@ -13,7 +13,7 @@ use Rattle.site_worker.specs.Inside.{book_sites, book_steps}
 pub record IsNewSite (p : List Stmt) (n k : ℕ) (s : SiteState NoSeat) : Type 0 where
   pub program : s.program ≡ p
   pub sites : s.sites ≡ n
-  pub state : s.state ≡ initial_site p k
+  pub state : s.state ≡ initial_site p n k
   pub live : s.spent ≡ false
 
 -- the sites from k on

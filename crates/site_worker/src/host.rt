@@ -67,7 +67,7 @@ impl<'a> Host<'a> {
     pub fn new(alloc: Global, site: Site<'a, NoSeat>, seat: SiteSeat) -> Host<'a>
         requires program { IsProgram site.program }
         requires most { site.sites ≤ MOST_SITES }
-        requires site { site.state ≡ initial_site site.program seat.site }
+        requires site { site.state ≡ initial_site site.program site.sites seat.site }
         requires live { site.spent ≡ false }
         requires seat { (t : TableId) × IsNewSeat t site.sites seat }
         ensures host { (t : TableId) → IsNewSeat t site.entry.sites seat → IsHost t result }

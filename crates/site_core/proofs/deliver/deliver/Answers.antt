@@ -24,3 +24,23 @@ returns-in-Get-clause-row c =
 pub returns-in-Forward-clause-row : goal.returns-in-Forward-clause-row
 returns-in-Forward-clause-row c =
     row_for c.follow.result c.args.program.now c.args.msg _ c.args.core.now c.follow.new.core c.args.output.now c.follow.new.output c.follow.ensures.row c.in-Forward.is c.requires.consistent
+
+pub returns-in-PortSend-clause-row : goal.returns-in-PortSend-clause-row
+returns-in-PortSend-clause-row c =
+    row_for c.move_end.result c.args.program.now c.args.msg _ c.args.core.now c.move_end.new.core c.args.output.now c.move_end.new.output c.move_end.ensures.row c.in-PortSend.is c.requires.consistent
+
+pub returns-in-PortEnd-clause-row : goal.returns-in-PortEnd-clause-row
+returns-in-PortEnd-clause-row c =
+    row_for c.resume_sent.result c.args.program.now c.args.msg _ c.args.core.now c.resume_sent.new.core c.args.output.now c.resume_sent.new.output c.resume_sent.ensures.row c.in-PortEnd.is c.requires.consistent
+
+pub returns-in-CellMake-clause-row : goal.returns-in-CellMake-clause-row
+returns-in-CellMake-clause-row c =
+    row_for c.hear.result c.args.program.now c.args.msg _ c.args.core.now c.hear.new.core c.args.output.now c.hear.new.output c.hear.ensures.row c.in-CellMake.is c.requires.consistent
+
+pub returns-in-CellAsk-clause-row : goal.returns-in-CellAsk-clause-row
+returns-in-CellAsk-clause-row c =
+    row_for c.exchange_for.result c.args.program.now c.args.msg _ c.args.core.now c.exchange_for.new.core c.args.output.now c.exchange_for.new.output c.exchange_for.ensures.row c.in-CellAsk.is c.requires.consistent
+
+pub returns-clause-row : goal.returns-clause-row
+returns-clause-row c =
+    row_for c.resume_served.result c.args.program.now c.args.msg _ c.args.core.now c.resume_served.new.core c.args.output.now c.resume_served.new.output c.resume_served.ensures.row c.in-CellOld.is c.requires.consistent

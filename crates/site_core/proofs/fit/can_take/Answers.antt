@@ -18,3 +18,18 @@ returns-in-Register c =
         | inr w ↦ variable_taken site c.args.msg.now (msg.Binding w.0 w.1 w.2) c.can_take.result w.3 (λ k. k) (c.can_take.ensures site)
       ]
     ]
+
+pub returns-in-PortSend : goal.returns-in-PortSend
+returns-in-PortSend c = rw c.in-PortSend.is c.has_port.ensures
+
+pub returns-in-PortEnd : goal.returns-in-PortEnd
+returns-in-PortEnd c = rw c.in-PortEnd.is c.waits_for_end.ensures
+
+pub returns-in-CellMake : goal.returns-in-CellMake
+returns-in-CellMake c = rw c.in-CellMake.is c.is_unheard.ensures
+
+pub returns-in-CellAsk : goal.returns-in-CellAsk
+returns-in-CellAsk c = rw c.in-CellAsk.is c.is_at_home.ensures
+
+pub returns-in-CellOld : goal.returns-in-CellOld
+returns-in-CellOld c = rw c.in-CellOld.is c.waits_for_content.ensures

@@ -38,9 +38,12 @@ deliver-requires-clause-deliverable c =
       known = e.known;
       grows = e.grows;
       lives = e.lives;
+      waits = e.waits;
       owners = e.owners;
       site = e.site;
       cells = e.cells;
+      ports = e.ports;
+      homes = e.homes;
       counters = e.fresh;
     })
 

@@ -1,4 +1,6 @@
-use Rattle.std.proofs.Common.{refl}
+use Rattle.std.proofs.Common.{◌≡◌, sym, refl, subst}
+use Rattle.site_units.proofs.ThreadLemmas.{Living, WaitsStay}
+use Rattle.site_units.proofs.LearnLemmas.{waits_each}
 use Rattle.site_units.proofs.OpenLemmas.{made_if_own, open_made, which_woken, still_new}
 use Rattle.site_units.proofs.rows.open_message.Goals as goal
 
@@ -18,3 +20,9 @@ returns-clause-lives c n none =
     let e = c.in_ok-open.ensures in
     let woken = which_woken c.requires.consistent.0 c.args.core.now c.open.new.self c.open.new.threads c.args.output.now (record c.args.output.now { sent = c.open.new.outbox }) c.args.msg.now e.done in
     still_new woken.0 c.args.core.now.threads.living c.open.new.threads.living n woken.1 none
+
+pub returns-clause-waits : goal.returns-clause-waits
+returns-clause-waits c =
+    let e = c.in_ok-open.ensures in
+    let woken = which_woken c.requires.consistent.0 c.args.core.now c.open.new.self c.open.new.threads c.args.output.now (record c.args.output.now { sent = c.open.new.outbox }) c.args.msg.now e.done in
+    subst (λ (l : Living). WaitsStay c.args.core.now.threads.living l) (sym woken.1) (waits_each woken.0 c.args.core.now.threads.living)

@@ -12,3 +12,9 @@ returns-in-Get c = λ s h. subst (λ (m : Msg). IsTrue c.is_other-in-Get.result 
 
 pub returns-in-Forward : goal.returns-in-Forward
 returns-in-Forward c = λ s h. subst (λ (m : Msg). IsTrue c.is_other-in-Forward.result ↔ SitesOfMsg (IsOtherSite c.args.sites s) m) (sym c.in-Forward.is) (c.is_other-in-Forward.ensures s h)
+
+pub returns-in-PortSend : goal.returns-in-PortSend
+returns-in-PortSend c = λ s h. subst (λ (m : Msg). IsTrue c.is_other-in-PortSend.result ↔ SitesOfMsg (IsOtherSite c.args.sites s) m) (sym c.in-PortSend.is) (c.is_other-in-PortSend.ensures s h)
+
+pub returns-in-CellAsk : goal.returns-in-CellAsk
+returns-in-CellAsk c = λ s h. subst (λ (m : Msg). IsTrue c.is_other-in-CellAsk.result ↔ SitesOfMsg (IsOtherSite c.args.sites s) m) (sym c.in-CellAsk.is) (c.is_other-in-CellAsk.ensures s h)

@@ -13,6 +13,6 @@ loop-k-preserved c =
     let items = c.in_ok-push.ensures.items in
     let number : c.loop-k.k + 1 ≡ 1 + length c.loop-k.sites.items = omega arith in
     let new : IsNewSite c.args.program.now c.args.count (1 + length c.loop-k.sites.items) s =
-    record { program = made.program; sites = made.sites; state = made.state ∙ ap (initial_site c.args.program.now) number; live = made.live } in
+    record { program = made.program; sites = made.sites; state = made.state ∙ ap (initial_site c.args.program.now c.args.count) number; live = made.live } in
     let long = ap length items ∙ length-append c.loop-k.sites.items (s ∷ []) in
     (omega arith, rw items (more_sites c.args.program.now c.args.count 1 c.loop-k.sites.items s old.1 new))

@@ -25,7 +25,7 @@ new-requires-clause-site c =
     let count = old.count in
     let new_seats = (old.of x c.requires.seats.1.2).0 in
     let next = next_host t p n x c.pop-in-Some.new.self.items c.pop.new.self.items c.unwrap-site.result c.in-Some.seat fresh (omega arith) (omega arith) (subst (AreNewSites p n 1) sites old.sites.1) (subst (AreNewSeats t 1 x) seats new_seats) in
-    next.0.state ∙ ap (λ q. initial_site q c.in-Some.seat.site) (sym next.0.program)
+    next.0.state ∙ (λ i. initial_site (sym next.0.program i) (sym next.0.sites i) c.in-Some.seat.site)
 
 pub new-requires-clause-program : goal.new-requires-clause-program
 new-requires-clause-program c =
