@@ -71,9 +71,9 @@ at_start n j e = sym (ap (last_site n) e)
 
 -- before the first turn each site is at its start
 pub before_turns : (p : List Stmt) (l : Limits) → IsPlainRun p l []
-before_turns p l = (record { states = initial_site p; orders = first_order }, λ i. (refl, refl))
+before_turns p l = (record { states = initial_site p l.sites; orders = first_order }, λ i. (refl, refl))
 
-pub starts_plain : (p : List Stmt) (l : Limits) (w : WorldState) → w.journal ≡ [] → ((i : ℕ) → states_of w i ≡ initial_site p i) → ((i : ℕ) → orders_of w i ≡ first_order i) → LeadsTo p l w.journal (standing_of w)
+pub starts_plain : (p : List Stmt) (l : Limits) (w : WorldState) → w.journal ≡ [] → ((i : ℕ) → states_of w i ≡ initial_site p l.sites i) → ((i : ℕ) → orders_of w i ≡ first_order i) → LeadsTo p l w.journal (standing_of w)
 starts_plain p l w none states orders = subst (λ (j : List Turn). LeadsTo p l j (standing_of w)) (sym none) (λ i. (states i, orders i))
 
 -- ---- one turn alone may be the next

@@ -1,4 +1,5 @@
 -- A new thread goes to one of the sites.
+use Rattle.site_model.specs.Requests.{OldContent, after_answer, with_home_content, serve_request, serve_early, cell_ask_row}
 use Rattle.std.proofs.Common.{arith, ◌≡◌, sym, refl, subst, ℕ, zero, suc, ◌≤◌, List, [], ◌∷◌, ◌++◌, map, inl, inr, Bool, true, false, cond, Some, None}
 use Rattle.std.specs.Prelude.{Option, ◌==◌, is_some, ℤ, pos, negsuc}
 use Rattle.tree_node.specs.declared.names.VarName.{VarName}
@@ -22,21 +23,21 @@ use Rattle.variable_owner.specs.declared.owners.Owner.{Owner}
 use Rattle.variable_owner.specs.declared.owners.Owner.TheVariants.{Open, Bound}
 use Rattle.variable_owner.specs.Owners.{owner_of, sites_of}
 use Rattle.oz_model.specs.Need.{Need, Waits, WaitsAny, Binds, Takes, stack_need}
-use Rattle.oz_model.specs.Effect.{Birth, CellChange, Stays, Made, Exchanged, Effect}
+use Rattle.oz_model.specs.Effect.{Birth, CellChange, Stays, Made, Exchanged, Effect, PortChange, Keeps, Opened, Sent as SentTo}
 use Rattle.bind_protocol.specs.Records.{Records, is_own, knowledge}
 use Rattle.bind_protocol.specs.Rows.{sent_message, binding, register, register_answer, after_meet, meet_sends, meets_send}
 use Rattle.token_chain.specs.Rows.{Reply, leave_reply, forward_reply, get_reply, exchange_reply}
 use Rattle.token_chain.specs.Mail.{sent_as}
 use Rattle.token_chain.specs.Mail as token
 use Rattle.site_model.specs.Bundle.{with_own_bundle, with_own_bundles, message_bundle, message_vars}
-use Rattle.site_model.specs.Site.{Site, cell_record}
-use Rattle.site_model.specs.Transition.{Transition, without_output, with_messages}
+use Rattle.site_model.specs.Site.{Site, cell_record, EarlyRequest, home_record}
+use Rattle.site_model.specs.Transition.{Transition, without_output, with_messages, with_pick, and_then}
 use Rattle.site_model.specs.Variables.{with_known_equations, own_bind, own_binds, opening}
 use Rattle.site_model.specs.Cells.{serving, after_exchange, content_after_exchange, cell_reply, last_before, leave_row, request_row}
 use Rattle.site_model.specs.Messages.{with_thread, bind_request_as, bind_request_row, message_row}
 use Rattle.site_model.specs.Run.{WorldRun, delivered_message}
 use Rattle.site_model.specs.Turn.{IsReception, AreUnits, SiteTurn}
-use Rattle.site_model.specs.Unit.{IsUnitFor, IsStepOrRequest, placement, birth_row, step_row, after_effect, with_fresh_names, thread_step, step_pick, effect_here, fresh_names, bind_attempt}
+use Rattle.site_model.specs.Unit.{IsUnitFor, IsStepOrRequest, placement, birth_row, step_row, after_effect, with_fresh_names, thread_step, step_pick, effect_here, fresh_names, bind_attempt, IsCellUnit, kept_step, kept_step_row, kept_stack, with_stack, after_port, after_home_cell, telling_row}
 use Rattle.world_model.proofs.PutLemmas.{nat_decides}
 use Rattle.world_messages.proofs.RunLemmas.{Entry, every_run}
 
@@ -125,19 +126,46 @@ module _ (p : List Stmt) (n limit : ℕ) (some : 1 ≤ n) where
   bind_all th st u t true s = steps_all (step_pick th [] (Some (u, t))) [] (effect_here p s [] (Some (u, t)) st) s
   bind_all th st u t false s = (tt, tt)
 
-  either_all : (th : ThreadName) (st : Stack) (s : Site) (step : Transition) (c : CellChange) (d : Transition) → All step → IsStepOrRequest limit th st s step c d → All d
-  either_all th st s step (Exchanged c new told) d k (inl h) = subst All (sym h.1) k
-  either_all th st s step (Exchanged c new told) d k (inr h) = subst All (sym h.1) (cell_each c (request_row limit c new th st s).site.equations (exchange_reply c.site (last_before s c) s.records.site new (cell_record s c).held).sent)
-  either_all th st s step Stays d k h = subst All (sym h) k
-  either_all th st s step (Made c v) d k h = subst All (sym h) k
+  -- a step on a port or on a stationary cell
+  kept_all : (k : Pick) (kinds : List NameKind) (e : Effect) (s : Site) → All (kept_step_row limit k kinds e s)
+  kept_all k kinds e s = told e.cell (with_stack k.thread (kept_stack s e) (after_port e.port (after_home_cell e.cell (with_fresh_names kinds s))))
+    where
+      told : (c : CellChange) (t : Site) → All (telling_row limit c t)
+      told Stays t = tt
+      told (Exchanged c new old) t = tt
+      told (Made c v) t = by (c.at == t.records.site)
+        where
+          by : (b : Bool) → All (cond b (without_output t) (with_messages t (with_own_bundle limit t.equations (sent_message c.at (msg.CellMake c v [])) ∷ [])))
+          by true = tt
+          by false = (tt, tt)
+
+  unit_all : (th : ThreadName) (st : Stack) (s : Site) (step kept : Transition) (c : CellChange) (d : Transition) → All step → All kept → IsCellUnit limit th st s step kept c d → All d
+  unit_all th st s step kept Stays d k l h = subst All (sym h) k
+  unit_all th st s step kept (Made c v) d k l (inl h) = subst All (sym h.1) k
+  unit_all th st s step kept (Made c v) d k l (inr h) = subst All (sym h.1) l
+  unit_all th st s step kept (Exchanged c new told) d k l (inl (mobile, inl h)) = subst All (sym h.1) k
+  unit_all th st s step kept (Exchanged c new told) d k l (inl (mobile, inr h)) = subst All (sym h.1) (cell_each c (request_row limit c new th st s).site.equations (exchange_reply c.site (last_before s c) s.records.site new (cell_record s c).held).sent)
+  unit_all th st s step kept (Exchanged c new told) d k l (inr (far, inl h)) = subst All (sym h.1) l
+  unit_all th st s step kept (Exchanged c new told) d k l (inr (far, inr (inl h))) = subst All (sym h.1) (tt, tt)
+  unit_all th st s step kept (Exchanged c new told) d k l (inr (far, inr (inr h))) = subst All (sym h.2) tt
+
+  either_all : (th : ThreadName) (st : Stack) (s : Site) (step kept : Transition) (e : Effect) (d : Transition) → All step → All kept → IsStepOrRequest limit th st s step kept e d → All d
+  either_all th st s step kept e d k l h = by_port e.port h
+    where
+      by_port : (r : PortChange) → IsStepOrRequest limit th st s step kept (record e { port = r }) d → All d
+      by_port Keeps h = unit_all th st s step kept e.cell d k l h
+      by_port (Opened q end) h = subst All (sym h) l
+      by_port (SentTo q value new) (inl h) = subst All (sym h.3) l
+      by_port (SentTo q value new) (inr (inl h)) = subst All (sym h.1) (tt, tt)
+      by_port (SentTo q value new) (inr (inr h)) = subst All (sym h.2) tt
 
   need_all : (s : Site) (th : ThreadName) (st : Stack) (need : Need) (d : Transition) → IsUnitFor p n limit s th st need d → All d
   need_all s th st (Waits x) d h = subst All (sym h.2) tt
   need_all s th st (WaitsAny q) d h = subst All (sym h.2) tt
   need_all s th st (Binds a b) d h = subst All (sym h.3) (bind_all th st h.0 h.1 (h.0.site == s.records.site) s)
   need_all s th st (Takes kinds) d h =
-      either_all th st s (thread_step p n limit th st kinds (fresh_names s kinds) None s) (effect_here p s (fresh_names s kinds) None st).cell d
-      (steps_all (step_pick th (fresh_names s kinds) None) kinds (effect_here p s (fresh_names s kinds) None st) s) h
+      either_all th st s (thread_step p n limit th st kinds (fresh_names s kinds) None s) (kept_step p limit th st kinds (fresh_names s kinds) s) (effect_here p s (fresh_names s kinds) None st) d
+      (steps_all (step_pick th (fresh_names s kinds) None) kinds (effect_here p s (fresh_names s kinds) None st) s) (kept_all (step_pick th (fresh_names s kinds) None) kinds (effect_here p s (fresh_names s kinds) None st) s) h
 
   units_all : (ths : List ThreadName) (s : Site) (d : Transition) → AreUnits p n limit ths s d → All d
   units_all [] s d h = subst All (sym h) tt
@@ -152,6 +180,27 @@ module _ (p : List Stmt) (n limit : ℕ) (some : 1 ≤ n) where
       go (Some None) = told_each ((x, t) ∷ s.equations) x t (sites_of (owner_of s.records.owners x))
       go (Some (Some r)) = tt
 
+  serve_all : (c : CellName) (r : EarlyRequest) (v : VarName) (s : Site) → All (serve_request p limit c r v s)
+  serve_all c r v s = by (r.asking == s.records.site)
+    where
+      by : (b : Bool) → All (cond b (with_pick (after_answer p r.thread (OldContent v) (with_home_content c r.new s)) (step_pick r.thread [] None))
+          (and_then (with_pick (with_home_content c r.new s) (step_pick r.thread [] None)) (λ t. with_messages t (with_own_bundle limit t.equations (sent_message r.asking (msg.CellOld r.thread v [])) ∷ []))))
+      by true = tt
+      by false = (tt, tt)
+
+  early_all : (c : CellName) (v : VarName) (rs : List EarlyRequest) (s : Site) → All (serve_early p limit c v rs s)
+  early_all c v [] s = tt
+  early_all c v (r ∷ rs) s =
+      let first = serve_request p limit c r v s in
+      each_append Q first.sent (serve_early p limit c r.new rs first.site).sent (serve_all c r v s) (early_all c r.new rs first.site)
+
+  ask_all : (c : CellName) (r : EarlyRequest) (s : Site) → All (cell_ask_row p limit c r s)
+  ask_all c r s = by (home_record s c).content refl
+    where
+      by : (o : Option VarName) → (home_record s c).content ≡ o → All (cell_ask_row p limit c r s)
+      by (Some v) e = rw e (serve_all c r v s)
+      by None e = rw e tt
+
   takes_all : (m : Msg) (s : Site) → All (message_row p limit m s)
   takes_all (msg.Spawn a b c d) s = tt
   takes_all (msg.Register x k) s = answered s.equations x k (owner_of s.records.owners x)
@@ -162,6 +211,11 @@ module _ (p : List Stmt) (n limit : ℕ) (some : 1 ≤ n) where
   takes_all (msg.Put c v bundle) s =
       let served = serving p c (cell_record s c).queue v s in
       each_append Q served.sent (leave_row limit c served.site).sent (serves_all c (cell_record s c).queue v s) (cell_each c served.site.equations (leave_reply (cell_record served.site c).held).sent)
+  takes_all (msg.PortSend q o k) s = (tt, tt)
+  takes_all (msg.PortEnd o old new bundle) s = tt
+  takes_all (msg.CellMake c v bundle) s = early_all c v (home_record s c).early s
+  takes_all (msg.CellAsk c o k v bundle) s = ask_all c (record { thread = o; asking = k; new = v }) s
+  takes_all (msg.CellOld o v bundle) s = tt
 
   heard_all : (m : Option Msg) (s : Site) (d : Transition) → IsReception p n limit m s d → All d
   heard_all None s d h = subst All (sym h) tt

@@ -1,4 +1,7 @@
 -- What a turn does to a site's own steps, and to the threads that can go on.
+use Rattle.site_model.specs.Requests.{Answer, NewEnd, OldContent, with_asking, send_request_row, home_request_row, early_request_row, after_answer, with_home_content, serve_request, serve_early, cell_ask_row}
+use Rattle.thread_roster.specs.declared.mode.Awaited.TheVariants.{Cell, Port}
+use Rattle.thread_roster.specs.declared.mode.Awaited.{Awaited}
 use Rattle.std.proofs.Common.{arith, ◌≡◌, ◌∙◌, sym, ap, refl, subst, ℕ, ◌+◌, ◌<◌, ◌≤◌, List, [], ◌∷◌, length, Bool, true, false, cond, ◌⊎◌, inl, inr, ⊎_elim}
 use Rattle.std.specs.Prelude.{Option, Some, None, ◌==◌}
 use Rattle.std.specs.List.{filter}
@@ -16,7 +19,7 @@ use Rattle.kernel_syntax.specs.declared.stmt.Stmt.{Stmt}
 use Rattle.site_message.specs.declared.message.Msg.{Msg}
 use Rattle.site_message.specs.declared.message.Msg.TheVariants as msg
 use Rattle.oz_model.specs.Need.{Need, Waits, WaitsAny, Binds, Takes, stack_need}
-use Rattle.oz_model.specs.Effect.{Birth, CellChange, Stays, Made, Exchanged, Effect}
+use Rattle.oz_model.specs.Effect.{Birth, CellChange, Stays, Made, Exchanged, Effect, PortChange, Keeps, Opened, Sent}
 use Rattle.bind_protocol.specs.Rows.{sent_message}
 use Rattle.bind_protocol.specs.Records.{is_own, knowledge}
 use Rattle.thread_roster.specs.declared.mode.Mode.{Mode}
@@ -26,12 +29,12 @@ use Rattle.thread_roster.specs.Threads.{is_waiting, waiting_of}
 use Rattle.token_chain.specs.declared.token.Token.{Token}
 use Rattle.token_chain.specs.declared.token.Token.TheVariants.{Away, Asked, Here}
 use Rattle.site_model.specs.Bundle.{with_own_bundle, message_bundle}
-use Rattle.site_model.specs.Site.{Site, ThreadState, Threads, cell_record, is_idle, thread_state}
-use Rattle.site_model.specs.Transition.{Transition, without_output, with_messages}
+use Rattle.site_model.specs.Site.{Site, ThreadState, Threads, cell_record, is_idle, thread_state, EarlyRequest, home_record, with_home_record}
+use Rattle.site_model.specs.Transition.{Transition, without_output, with_messages, with_pick, and_then}
 use Rattle.site_model.specs.Variables.{with_known_equation_as, with_known_equation, with_known_equations, opening, own_binds}
 use Rattle.site_model.specs.Cells.{serving, after_exchange, after_exchange_as, content_after_exchange, with_own_request, with_exchange_waiting, with_last_asker, request_row}
 use Rattle.site_model.specs.Messages.{with_thread, bind_request_as, message_row}
-use Rattle.site_model.specs.Unit.{IsUnit, IsUnitFor, IsStepOrRequest, bind_attempt, step_row, birth_row, after_cell, after_effect, with_fresh_names, placement, thread_step, step_pick, effect_here, fresh_names, with_mode}
+use Rattle.site_model.specs.Unit.{IsUnit, IsUnitFor, IsStepOrRequest, bind_attempt, step_row, birth_row, after_cell, after_effect, with_fresh_names, placement, thread_step, step_pick, effect_here, fresh_names, with_mode, IsCellUnit, kept_step, kept_step_row, kept_stack, with_stack, after_port, after_home_cell, telling_row}
 use Rattle.site_model.specs.Turn.{IsReception, AreUnits, IsFullTurn}
 use Rattle.plain_run.specs.Counts.{runnable_count}
 
@@ -187,8 +190,41 @@ request_same c (Here v) s = (refl, refl)
 waits_cell : (limit : ℕ) (c : CellName) (new : VarName) (s : Site) (th : ThreadName) (st : Stack) → thread_state s th ≡ Some (st, Runs) → Counts s (request_row limit c new th st s).site 1
 waits_cell limit c new s th st at =
     let same = request_same c (cell_record s c).held.token (with_exchange_waiting c th st s) in
-    let one = waits_more s.threads th st st (WaitsFor c) refl at in
+    let one = waits_more s.threads th st st (WaitsFor (Cell c)) refl at in
     inr (same.1, fewer_run s (request_row limit c new th st s).site (subst (OneWaits s.threads) (sym same.0) one))
+
+-- a wait for an answer
+waits_answer : (s t : Site) (th : ThreadName) (st : Stack) (a : Awaited) → t.threads ≡ with_value equal_thread s.threads th (st, WaitsFor a) → t.steps ≡ s.steps → thread_state s th ≡ Some (st, Runs) → Counts s t 1
+waits_answer s t th st a threads_are steps_are at = inr (steps_are, fewer_run s t (subst (OneWaits s.threads) (sym threads_are) (waits_more s.threads th st st (WaitsFor a) refl at)))
+
+-- a step on a port or on a stationary cell
+kept_steps : (limit : ℕ) (k : Pick) (kinds : List NameKind) (e : Effect) (s : Site) → (kept_step_row limit k kinds e s).site.steps ≡ s.steps + 1
+kept_steps limit k kinds e s =
+    told e.cell (with_stack k.thread (kept_stack s e) (after_port e.port (after_home_cell e.cell (with_fresh_names kinds s))))
+    ∙ ap (λ (m : ℕ). m + 1) (of_port e.port (after_home_cell e.cell (with_fresh_names kinds s)) ∙ of_cell e.cell (with_fresh_names kinds s))
+  where
+    told : (c : CellChange) (t : Site) → (telling_row limit c t).site.steps ≡ t.steps
+    told Stays t = refl
+    told (Exchanged c new old) t = refl
+    told (Made c v) t = by (c.at == t.records.site)
+      where
+        by : (b : Bool) → (cond b (without_output t) (with_messages t (with_own_bundle limit t.equations (sent_message c.at (msg.CellMake c v [])) ∷ []))).site.steps ≡ t.steps
+        by true = refl
+        by false = refl
+
+    of_port : (r : PortChange) (t : Site) → (after_port r t).steps ≡ t.steps
+    of_port Keeps t = refl
+    of_port (Opened q end) t = refl
+    of_port (Sent q value new) t = refl
+
+    of_cell : (c : CellChange) (t : Site) → (after_home_cell c t).steps ≡ t.steps
+    of_cell Stays t = refl
+    of_cell (Exchanged c new old) t = refl
+    of_cell (Made c v) t = by (c.at == t.records.site)
+      where
+        by : (b : Bool) → (cond b (with_home_record t c (record { content = Some v; early = [] })) t).steps ≡ t.steps
+        by true = refl
+        by false = refl
 
 unit_counts : (p : List Stmt) (n limit : ℕ) (th : ThreadName) (s : Site) (d : Transition) → IsUnit p n limit th s d → Counts s d.site 1
 unit_counts p n limit th s d (st, at, unit) = by (stack_need p s.equations st) unit
@@ -200,17 +236,35 @@ unit_counts p n limit th s d (st, at, unit) = by (stack_need p s.equations st) u
     bound u t true = step_of [] [] (Some (u, t))
     bound u t false = waits_var s th st u at
 
-    named : (step : Transition) → Counts s step.site 1 → (c : CellChange) → IsStepOrRequest limit th st s step c d → Counts s d.site 1
-    named step h (Exchanged c new told) (inl (here, is)) = subst (λ (x : Transition). Counts s x.site 1) (sym is) h
-    named step h (Exchanged c new told) (inr (away, is)) = subst (λ (x : Transition). Counts s x.site 1) (sym is) (waits_cell limit c new s th st at)
-    named step h Stays is = subst (λ (x : Transition). Counts s x.site 1) (sym is) h
-    named step h (Made c v) is = subst (λ (x : Transition). Counts s x.site 1) (sym is) h
+    this : (t : Transition) → d ≡ t → Counts s t.site 1 → Counts s d.site 1
+    this t is h = subst (λ (x : Transition). Counts s x.site 1) (sym is) h
+
+    of_cell : (step kept : Transition) → Counts s step.site 1 → Counts s kept.site 1 → (c : CellChange) → IsCellUnit limit th st s step kept c d → Counts s d.site 1
+    of_cell step kept h k Stays is = this step is h
+    of_cell step kept h k (Made c v) (inl (mobile, is)) = this step is h
+    of_cell step kept h k (Made c v) (inr (far, is)) = this kept is k
+    of_cell step kept h k (Exchanged c new told) (inl (mobile, inl (here, is))) = this step is h
+    of_cell step kept h k (Exchanged c new told) (inl (mobile, inr (away, is))) = this _ is (waits_cell limit c new s th st at)
+    of_cell step kept h k (Exchanged c new told) (inr (far, inl (here, is))) = this kept is k
+    of_cell step kept h k (Exchanged c new told) (inr (far, inr (inl (away, is)))) = this _ is (waits_answer s (home_request_row limit c new th st s).site th st (Cell c) refl refl at)
+    of_cell step kept h k (Exchanged c new told) (inr (far, inr (inr (home, none, is)))) = this _ is (waits_answer s (early_request_row c new th st s).site th st (Cell c) refl refl at)
+
+    named : (step kept : Transition) → Counts s step.site 1 → Counts s kept.site 1 → (e : Effect) → IsStepOrRequest limit th st s step kept e d → Counts s d.site 1
+    named step kept h k e is = by_port e.port is
+      where
+        by_port : (r : PortChange) → IsStepOrRequest limit th st s step kept (record e { port = r }) d → Counts s d.site 1
+        by_port Keeps is = of_cell step kept h k e.cell is
+        by_port (Opened q end) is = this kept is k
+        by_port (Sent q value new) (inl (own, end, has, is)) = this kept is k
+        by_port (Sent q value new) (inr (inl (other, is))) = this _ is (waits_answer s (send_request_row limit q th st s).site th st (Port q) refl refl at)
+        by_port (Sent q value new) (inr (inr (own, none, is))) = this _ is (waits_answer s (with_asking th st (Port q) s) th st (Port q) refl refl at)
 
     by : (need : Need) → IsUnitFor p n limit s th st need d → Counts s d.site 1
     by (Waits x) (z, root, is) = subst (λ (y : Transition). Counts s y.site 1) (sym is) (needs_node s th st z at)
     by (WaitsAny q) (xs, open_on, is) = subst (λ (y : Transition). Counts s y.site 1) (sym is) (waits_several s th st xs at)
     by (Binds a b) (u, t, root, is) = subst (λ (y : Transition). Counts s y.site 1) (sym is) (bound u t (u.site == s.records.site))
-    by (Takes kinds) is = named (thread_step p n limit th st kinds (fresh_names s kinds) None s) (step_of kinds (fresh_names s kinds) None) (effect_here p s (fresh_names s kinds) None st).cell is
+    by (Takes kinds) is = named (thread_step p n limit th st kinds (fresh_names s kinds) None s) (kept_step p limit th st kinds (fresh_names s kinds) s) (step_of kinds (fresh_names s kinds) None)
+        (stepped s (kept_step p limit th st kinds (fresh_names s kinds) s).site (kept_steps limit (step_pick th (fresh_names s kinds) None) kinds (effect_here p s (fresh_names s kinds) None st) s)) (effect_here p s (fresh_names s kinds) None st) is
 
 -- and so are several
 units_count : (p : List Stmt) (n limit : ℕ) (ths : List ThreadName) (s : Site) (d : Transition) → AreUnits p n limit ths s d → Counts s d.site (length ths)
@@ -253,6 +307,32 @@ serving_steps : (p : List Stmt) (c : CellName) (ns : List ThreadName) (v : VarNa
 serving_steps p c [] v s = refl
 serving_steps p c (n ∷ ns) v s = serving_steps p c ns (content_after_exchange p n v s) (after_exchange p n v s) ∙ exchange_steps p n v s
 
+answer_steps : (p : List Stmt) (n : ThreadName) (a : Answer) (s : Site) → (after_answer p n a s).steps ≡ s.steps
+answer_steps p n a s = by (thread_state s n) refl
+  where
+    by : (o : Option ThreadState) → thread_state s n ≡ o → (after_answer p n a s).steps ≡ s.steps
+    by None e = rw e refl
+    by (Some st) e = rw e refl
+
+serve_steps : (p : List Stmt) (limit : ℕ) (c : CellName) (r : EarlyRequest) (v : VarName) (s : Site) → (serve_request p limit c r v s).site.steps ≡ s.steps
+serve_steps p limit c r v s = by (r.asking == s.records.site)
+  where
+    by : (b : Bool) → (cond b (with_pick (after_answer p r.thread (OldContent v) (with_home_content c r.new s)) (step_pick r.thread [] None))
+        (and_then (with_pick (with_home_content c r.new s) (step_pick r.thread [] None)) (λ t. with_messages t (with_own_bundle limit t.equations (sent_message r.asking (msg.CellOld r.thread v [])) ∷ [])))).site.steps ≡ s.steps
+    by true = answer_steps p r.thread (OldContent v) (with_home_content c r.new s)
+    by false = refl
+
+early_steps : (p : List Stmt) (limit : ℕ) (c : CellName) (v : VarName) (rs : List EarlyRequest) (s : Site) → (serve_early p limit c v rs s).site.steps ≡ s.steps
+early_steps p limit c v [] s = refl
+early_steps p limit c v (r ∷ rs) s = early_steps p limit c r.new rs (serve_request p limit c r v s).site ∙ serve_steps p limit c r v s
+
+ask_steps : (p : List Stmt) (limit : ℕ) (c : CellName) (r : EarlyRequest) (s : Site) → (cell_ask_row p limit c r s).site.steps ≡ s.steps
+ask_steps p limit c r s = by (home_record s c).content refl
+  where
+    by : (o : Option VarName) → (home_record s c).content ≡ o → (cell_ask_row p limit c r s).site.steps ≡ s.steps
+    by None e = rw e refl
+    by (Some v) e = rw e (serve_steps p limit c r v s)
+
 message_steps : (p : List Stmt) (limit : ℕ) (m : Msg) (s : Site) → (message_row p limit m s).site.steps ≡ s.steps
 message_steps p limit (msg.Spawn n code vars bundle) s = refl
 message_steps p limit (msg.Register x k) s = refl
@@ -266,6 +346,11 @@ message_steps p limit (msg.Binding x t bundle) s = known_steps s x t
 message_steps p limit (msg.Get c k) s = refl
 message_steps p limit (msg.Forward c k) s = refl
 message_steps p limit (msg.Put c v bundle) s = serving_steps p c (cell_record s c).queue v s
+message_steps p limit (msg.PortSend q n k) s = refl
+message_steps p limit (msg.PortEnd n old new bundle) s = answer_steps p n (NewEnd old new) s
+message_steps p limit (msg.CellMake c v bundle) s = early_steps p limit c v (home_record s c).early s
+message_steps p limit (msg.CellAsk c n k v bundle) s = ask_steps p limit c (record { thread = n; asking = k; new = v }) s
+message_steps p limit (msg.CellOld n v bundle) s = answer_steps p n (OldContent v) s
 
 heard_steps : (p : List Stmt) (n limit : ℕ) (m : Option Msg) (s : Site) (d : Transition) → IsReception p n limit m s d → d.site.steps ≡ s.steps
 heard_steps p n limit None s d is = ap (λ (x : Transition). x.site.steps) is

@@ -13,7 +13,7 @@ use Rattle.kernel_syntax.specs.Program.{IsProgram}
 use Rattle.site_message.specs.declared.turn.Turn.{Turn}
 use Rattle.oz_model.specs.Effect.{Birth}
 use Rattle.oz_model.specs.Run.{IsRun, start}
-use Rattle.oz_model.specs.Step.{end_count, effect_of, threads_born, stack_with_content, living_stack}
+use Rattle.oz_model.specs.Step.{end_count, effect_of, threads_born, stack_with_content, living_stack, stack_left}
 use Rattle.thread_roster.specs.Threads.{waiting_of}
 use Rattle.site_model.specs.Bundle.{bundle_limit}
 use Rattle.site_model.specs.Site.{Site, initial_site, runnable_threads, waiting_count}
@@ -68,7 +68,7 @@ run_fits p (k ∷ ks) s t (m, step, rest) =
     let ih = run_fits p ks m t rest in
     let later_ended = ih.0 in
     let later_threads = ih.1 in
-    let stack = stack_with_content s.cells (effect_of p s k).cell (effect_of p s k).stack in
+    let stack = stack_left s (effect_of p s k) in
     let ended : m.ended ≡ s.ended + end_count stack = ap (λ (x : State). x.ended) step.1 in
     let one = end_fits stack in
     let old = with_optional_value equal_thread s.threads k.thread (living_stack stack) in
@@ -184,7 +184,7 @@ sum_fits site n a b bound f low high before last most =
 -- ---- a run without turns, and what the laws say of any
 
 pub empty_run : (p : List Stmt) (n : ℕ) → HasRun p n []
-empty_run p n = (initial_site p, record { wired = tt; sites = tt; runs = λ i. refl })
+empty_run p n = (initial_site p n, record { wired = tt; sites = tt; runs = λ i. refl })
 
 module _ (p : List Stmt) (n : ℕ) (j : List Turn) (is : IsProgram p) (low : 1 ≤ n) (high : n ≤ 64) (run : HasRun p n j) where
   pub machine_run : HasMachineRun p n j

@@ -38,8 +38,8 @@ pub record Standing : Type 0 where
   pub orders : ℕ → List ThreadName
 
 -- each site is at its start: site 1 has the program's thread, the others none
-abbrev pub AreAtStart : List Stmt → Standing → Type 0
-AreAtStart p now = (i : ℕ) → (now.states i ≡ initial_site p i) × (now.orders i ≡ first_order i)
+abbrev pub AreAtStart : List Stmt → ℕ → Standing → Type 0
+AreAtStart p n now = (i : ℕ) → (now.states i ≡ initial_site p n i) × (now.orders i ≡ first_order i)
 
 -- how many units a turn of the site makes, unless the site is idle before: 64, or fewer where the limit of own steps is nearer
 abbrev pub most_units : Limits → Standing → ℕ → ℕ
@@ -61,7 +61,7 @@ pub record IsPlainTurn (p : List Stmt) (l : Limits) (j : List Turn) (old : Stand
 
 -- each turn of the journal is so, from the start to this standing
 abbrev pub LeadsTo : List Stmt → Limits → List Turn → Standing → Type 0
-LeadsTo p l [] now = AreAtStart p now
+LeadsTo p l [] now = AreAtStart p l.sites now
 LeadsTo p l (e ∷ j) now = (old : Standing) × LeadsTo p l j old × IsPlainTurn p l j old e now
 
 -- each turn of the journal is so, from the start

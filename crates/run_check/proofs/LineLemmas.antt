@@ -153,6 +153,7 @@ node_fits s walk level left (node.Int z) w = int_line z
 node_fits s walk level left (node.Atom t) w = atom_line t
 node_fits s walk level left (node.Proc name code formals vars) w = proc_line formals
 node_fits s walk level left (node.Cell name) w = refl
+node_fits s walk level left (node.Port name) w = refl
 
 var_fits : (depth : ℕ) (s : Store) → Walks (show_var depth s)
 var_fits zero s level left x = refl

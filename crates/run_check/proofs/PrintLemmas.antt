@@ -1,5 +1,5 @@
 -- No line that a run prints has a newline in it.
-use Rattle.std.proofs.Common.{◌≡◌, sym, refl, subst, ℕ, List, [], ◌∷◌, ◌++◌, length, Bool, true, false, cond}
+use Rattle.std.proofs.Common.{◌≡◌, sym, refl, subst, ℕ, suc, pos, List, [], ◌∷◌, ◌++◌, length, Bool, true, false, cond}
 use Rattle.std.specs.Prelude.{Option, Some, None, ◌==◌, codes, option_to_list}
 use Rattle.std.specs.Str.{bytes_eq}
 use Rattle.tree_node.specs.declared.item.Item.TheVariants.{Run, Goals, Mark, Report}
@@ -34,7 +34,7 @@ use Rattle.oz_model.specs.declared.outcome.Outcome.TheVariants as outcome
 use Rattle.oz_model.specs.declared.outcome.SystemException.{SystemException}
 use Rattle.oz_model.specs.declared.outcome.SystemException.TheVariants.{FailureTell, ErrorType, ErrorArity}
 use Rattle.oz_model.specs.Effect.{Effect, vars_among, exception_effect, outcome_effect, pair_effect, goal_effect, stack_effect}
-use Rattle.oz_model.specs.Outcome.{one_body, on_node, print_outcome, calculated_outcome, calc_outcome, test_outcome, feature_of, field_outcome, selection_outcome, select_outcome, branch_outcome, match_vars, case_outcome, body_outcome, call_outcome, exchange_outcome, outcome_of}
+use Rattle.oz_model.specs.Outcome.{one_body, on_node, print_outcome, calculated_outcome, calc_outcome, test_outcome, feature_of, field_outcome, selection_outcome, select_outcome, branch_outcome, match_vars, case_outcome, body_outcome, call_outcome, exchange_outcome, placed_outcome, send_outcome, outcome_of}
 use Rattle.oz_model.specs.Run.{IsRun, start}
 use Rattle.oz_model.specs.Step.{effect_of, stack_of, next}
 use Rattle.world_model.specs.Schedule.{lines_in, schedule}
@@ -121,6 +121,14 @@ exchange_clean : (new told : VarName) (n : Node) → Clean (exchange_outcome new
 exchange_clean new told (node.Cell cell) = tt
 exchange_clean new told _ = tt
 
+send_clean : (value : VarName) (n : Node) → Clean (send_outcome value n)
+send_clean value (node.Port port) = tt
+send_clean value _ = tt
+
+placed_clean : (content told : VarName) (n : Node) → Clean (placed_outcome content told n)
+placed_clean content told (node.Int (pos (suc k))) = tt
+placed_clean content told _ = tt
+
 statement_clean : (p : List Stmt) (s : Store) (code : CodeId) (env : Env) (st : Stmt) → Clean (outcome_of p s code env st)
 statement_clean p s code env (stmt.Calc left op a b) =
     node_clean (var_at env a) (node_of s (var_at env a)) _ (λ m. node_clean (var_at env b) (node_of s (var_at env b)) _ (λ n. calc_clean op (var_at env left) m n))
@@ -134,6 +142,8 @@ statement_clean p s code env (stmt.Browse x) = print_clean [] s (var_at env x) r
 statement_clean p s code env (stmt.Wait x) = node_clean (var_at env x) (node_of s (var_at env x)) _ (λ n. tt)
 statement_clean p s code env (stmt.Exchange cell old new) =
     node_clean (var_at env cell) (node_of s (var_at env cell)) _ (λ n. exchange_clean (var_at env new) (var_at env old) n)
+statement_clean p s code env (stmt.Send port value) = node_clean (var_at env port) (node_of s (var_at env port)) _ (λ n. send_clean (var_at env value) n)
+statement_clean p s code env (stmt.NewCellAt content cell at) = node_clean (var_at env at) (node_of s (var_at env at)) _ (λ n. placed_clean (var_at env content) (var_at env cell) n)
 statement_clean p s code env _ = tt
 
 -- ---- what an effect prints

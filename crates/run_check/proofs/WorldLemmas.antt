@@ -34,14 +34,14 @@ use Rattle.run_check.proofs.AgainLemmas.{init_last}
 -- ---- how a run begins and ends
 
 pub empty_run : (p : List Stmt) (n : ℕ) → HasRun p n []
-empty_run p n = ((λ i. initial_site p i), run_starts p n bundle_limit (λ i. initial_site p i) (λ i. refl))
+empty_run p n = ((λ i. initial_site p n i), run_starts p n bundle_limit (λ i. initial_site p n i) (λ i. refl))
 
 pub empty_few : (p : List Stmt) (n : ℕ) → IsProgram p → 1 ≤ n → n ≤ 64 → AreMessagesFew p n []
-empty_few p n is low high = messages_few p n [] (λ i. initial_site p i) is low high (run_starts p n bundle_limit (λ i. initial_site p i) (λ i. refl))
+empty_few p n is low high = messages_few p n [] (λ i. initial_site p n i) is low high (run_starts p n bundle_limit (λ i. initial_site p n i) (λ i. refl))
 
 -- none of the entries is a front of them
 pub none_made : (p : List Stmt) (l : Limits) (es : List Entry) → IsFrontMadeAgain p l [] es
-none_made p l es = ([], es, (λ i. initial_site p i), refl, (refl, λ i. refl))
+none_made p l es = ([], es, (λ i. initial_site p l.sites i), refl, (refl, λ i. refl))
 
 pub some_reason : (o : Option Reason) → is_some o ≡ true → (r : Reason) × (o ≡ Some r)
 some_reason None e = cc
@@ -196,7 +196,7 @@ stops_wrong r at m (inr h) k q = let both : ◌≡◌ {A = Made} (made.Wrong at)
 -- ---- entries, one after another
 
 -- none at the start
-pub made_none : (p : List Stmt) (l : Limits) (w : WorldState) → w.program ≡ p → w.sites ≡ l.sites → w.spent ≡ false → w.journal ≡ [] → ((i : ℕ) → states_of w i ≡ initial_site p i) → HasMade p l [] w
+pub made_none : (p : List Stmt) (l : Limits) (w : WorldState) → w.program ≡ p → w.sites ≡ l.sites → w.spent ≡ false → w.journal ≡ [] → ((i : ℕ) → states_of w i ≡ initial_site p l.sites i) → HasMade p l [] w
 made_none p l w program sites live new start = record {
   program = program;
   sites = sites;

@@ -25,7 +25,7 @@ pub record IsMadeAgain (p : List Stmt) (l : Limits) (j : List Turn) (w : ℕ →
 
 -- these entries were made again, one after another, from the start of the program: they led to this journal and these states
 abbrev pub AreMadeAgain : List Stmt → Limits → List Turn → List Entry → (ℕ → Site) → Type 0
-AreMadeAgain p l [] es w = (es ≡ []) × ((i : ℕ) → w i ≡ initial_site p i)
+AreMadeAgain p l [] es w = (es ≡ []) × ((i : ℕ) → w i ≡ initial_site p l.sites i)
 AreMadeAgain p l (t ∷ j) es w =
     (front : List Entry) × (e : Entry) × (old : ℕ → Site) × (es ≡ front ++ e ∷ []) × AreMadeAgain p l j front old × IsMadeAgain p l j old e t w
 

@@ -56,7 +56,7 @@ fn replay_all(alloc: Global, world: &mut World<'_>, run: &RunFile) -> Made
     requires sites { world.old.sites ≡ run.now.sites }
     requires live { world.old.spent ≡ false }
     requires new { world.old.journal ≡ [] }
-    requires start { (i : ℕ) → states_of world.old i ≡ initial_site world.old.program i }
+    requires start { (i : ℕ) → states_of world.old i ≡ initial_site world.old.program world.old.sites i }
     ensures same { (world.new.program ≡ world.old.program) × (world.new.sites ≡ world.old.sites) }
     ensures went { HasNoEarlierEnd (limits_of run.now) world.new.journal }
     ensures all { (reason : Option _) → result ≡ made.All reason → HasMade world.old.program (limits_of run.now) run.now.entries world.new }

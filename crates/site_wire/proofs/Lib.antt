@@ -6,5 +6,8 @@ pub mod ThreadLemmas
 pub mod CellLemmas
 pub mod SiteLemmas
 pub mod StepLemmas
+pub mod KeptLemmas
+pub mod UnitLemmas
+pub mod AnswerLemmas
 pub mod MessageLemmas
 pub mod RunLemmas

@@ -1,6 +1,8 @@
 -- A site fits after each of its turns, so each message that it sends can be spelled.
 use Rattle.std.proofs.Common.{arith, sym, refl, subst, ℕ, ◌≤◌, List, [], ◌∷◌, Bool, true, false, cond}
 use Rattle.std.specs.Prelude.{◌==◌}
+use Rattle.tree_node.specs.declared.limits.TheConstants.{MOST_SITES}
+use Rattle.tree_node.specs.declared.names.CellName.{CellName}
 use Rattle.tree_node.specs.Each.{Each}
 use Rattle.tree_node.specs.Env.{restriction}
 use Rattle.tree_node.specs.Names.{EachOfEnv}
@@ -14,14 +16,19 @@ use Rattle.oz_model.specs.Effect.{body_item}
 use Rattle.oz_model.specs.Run.{start, first_thread}
 use Rattle.site_model.specs.Site.{Site, initial_site, runnable_threads}
 use Rattle.site_model.specs.Run.{IsReachedBy, IsEntry, SiteRun, delivered_message}
-use Rattle.site_wire.specs.Sending.{CanBeSpelled, IsOfSites, StackFits, ThreadsFit, queue_in, SiteFits, TransitionFits}
+use Rattle.site_wire.specs.Sending.{CanBeSpelled, IsOfSites, StackFits, QueueFits, ThreadsFit, SiteFits, TransitionFits, line_in}
 use Rattle.site_wire.specs.Laws.{SitesSendWhatFits}
 use Rattle.site_wire.proofs.ThreadLemmas.{starts_fit}
 use Rattle.site_wire.proofs.MessageLemmas.{turn_fits}
 
-module _ (p : List Stmt) (is : IsProgram p) (i : ℕ) where
-  no_threads : (made : ℕ) → ThreadsFit p i made [] (queue_in [])
-  no_threads made = record { each = λ n v at. cc; own = λ n v at mine. cc; queues = λ c. record { once = tt; inside = tt } }
+module _ (p : List Stmt) (is : IsProgram p) (n i : ℕ) where
+  no_threads : (made : ℕ) → ThreadsFit p i made [] (line_in i [] [])
+  no_threads made = record { each = λ n v at. cc; own = λ n v at mine. cc; queues = λ c. nobody (c.at == 0) (c.at == i) }
+    where
+      nobody : {c : CellName} (a b : Bool) → QueueFits [] c (cond a [] (cond b [] []))
+      nobody true b = record { once = tt; inside = tt }
+      nobody false true = record { once = tt; inside = tt }
+      nobody false false = record { once = tt; inside = tt }
 
   first_stack : StackFits p (body_item p (record { 0 = 0 }) [] ∷ [])
   first_stack = record {
@@ -30,26 +37,27 @@ module _ (p : List Stmt) (is : IsProgram p) (i : ℕ) where
     covered = (subst (λ (ks : List ℕ). IsCovering (restriction ks []) ks) (sym is.closed) tt, tt);
   }
 
-  first_threads : (b : Bool) → ThreadsFit p i (cond b 1 0) (cond b (runnable_threads (start p).threads) []) (queue_in [])
-  first_threads true = starts_fit p i 1 [] (queue_in []) first_thread (body_item p (record { 0 = 0 }) [] ∷ []) refl (omega arith, omega arith) first_stack (λ mine. omega arith) (no_threads 1)
+  first_threads : (b : Bool) → ThreadsFit p i (cond b 1 0) (cond b (runnable_threads (start p).threads) []) (line_in i [] [])
+  first_threads true = starts_fit p i 1 [] (line_in i [] []) first_thread (body_item p (record { 0 = 0 }) [] ∷ []) refl (omega arith, omega arith) first_stack (λ mine. omega arith) (no_threads 1)
   first_threads false = no_threads 0
 
-  pub start_fits : SiteFits p i (initial_site p i)
-  start_fits = record {
+  pub start_fits : n ≤ MOST_SITES → SiteFits p i (initial_site p n i)
+  start_fits many = record {
     site = refl;
     equations = record { names = tt; nodes = tt };
     owners = λ x t e. cc;
     threads = first_threads (i == 1);
     contents = λ c. tt;
+    kept = record { sites = many; ends = tt; homes = λ c. (tt, tt) };
   }
 
-module _ (p : List Stmt) (is : IsProgram p) (n limit : ℕ) (high : limit ≤ 256) (i : ℕ) (low : IsSite i) where
+module _ (p : List Stmt) (is : IsProgram p) (n limit : ℕ) (high : limit ≤ 256) (i : ℕ) (low : IsSite i) (many : n ≤ MOST_SITES) where
   abbrev pub Fits : List Turn → Site → Type 0
   Fits j s = SiteFits p i s × Each (λ (e : Turn). CanBeSpelled e.sent) (own i j)
 
   -- after each turn the site keeps only what fits, and its turns sent what can be spelled
   pub run_fits : (j : List Turn) (s : Site) → SiteRun p n limit i j s → Fits j s
-  run_fits [] s e = (subst (SiteFits p i) (sym e) (start_fits p is i), tt)
+  run_fits [] s e = (subst (SiteFits p i) (sym e) (start_fits p is n i many), tt)
   run_fits (e ∷ j) s run = go (e.site == i) run (λ t k. run_fits j t k)
     where
       go : (b : Bool) → IsReachedBy b (λ (old : Site). SiteRun p n limit i j old) (λ (old new : Site). IsEntry p n limit j e old new) s → ((t : Site) → SiteRun p n limit i j t → Fits j t)
@@ -61,4 +69,4 @@ module _ (p : List Stmt) (is : IsProgram p) (n limit : ℕ) (high : limit ≤ 25
       go false before ih = ih s before
 
 pub sites_send_what_fits : SitesSendWhatFits
-sites_send_what_fits p n limit i j s is many high low most run = (run_fits p is n limit high i (low, omega (arith, many, most)) j s run).1
+sites_send_what_fits p n limit i j s is many high low most run = (run_fits p is n limit high i (low, omega (arith, many, most)) many j s run).1

@@ -15,7 +15,7 @@ use Rattle.kernel_syntax.specs.declared.stmt.Stmt.{Stmt}
 use Rattle.kernel_syntax.specs.Program.{IsProgram}
 use Rattle.site_message.specs.declared.message.Msg.TheVariants as msg
 use Rattle.site_message.specs.declared.message.Sent.{Sent}
-use Rattle.site_message.specs.Wire.{IsSite, FitsVar, FitsWire}
+use Rattle.site_message.specs.Wire.{IsSite, FitsVar, FitsCell, FitsWire}
 use Rattle.oz_model.specs.Effect.{vars_among}
 use Rattle.proxy_table.specs.Proxies.{entry_of}
 use Rattle.proxy_table.specs.Proxies as proxies
@@ -27,17 +27,18 @@ use Rattle.bind_protocol.specs.Records.{Records, is_own, knowledge}
 use Rattle.bind_protocol.specs.Rows.{binding, register, after_meet, meet_sends, after_meets, meets_send}
 use Rattle.bind_protocol.proofs.LookLemmas.{in_here, in_other}
 use Rattle.token_chain.specs.Rows.{Reply}
-use Rattle.site_model.specs.Site.{Site, Counters}
+use Rattle.site_model.specs.Site.{Site, HomeRecord, Counters, cell_record, home_record, with_home_record}
 use Rattle.site_model.specs.Bundle.{with_own_bundles}
 use Rattle.site_model.specs.Transition.{Transition, without_output, and_then}
 use Rattle.site_model.specs.Variables.{after_makes, meeting, with_new_equation, with_known_equation, with_known_equations, own_bind, own_binds}
 use Rattle.site_model.specs.Cells.{cell_reply}
+use Rattle.site_model.specs.Requests.{with_home_content}
 use Rattle.site_model.specs.Unit.{counter_after, counters_after, with_fresh_names, fresh_names}
-use Rattle.site_wire.specs.Sending.{CanBeSpelled, TermFits, EquationsFit, OwnersFit, QueueFits, SiteFits, TransitionFits}
+use Rattle.site_wire.specs.Sending.{CanBeSpelled, TermFits, EquationsFit, OwnersFit, QueueFits, HomeFits, KeptFits, SiteFits, TransitionFits, home_in, own_threads}
 use Rattle.site_wire.proofs.TermLemmas.{term_spelled, more_fits}
 use Rattle.site_wire.proofs.BundleLemmas.{carried}
 use Rattle.site_wire.proofs.ThreadLemmas.{woken_fit, made_more}
-use Rattle.site_wire.proofs.CellLemmas.{ReplyFits, mails_spelled, contents_put, queues_put}
+use Rattle.site_wire.proofs.CellLemmas.{ReplyFits, mails_spelled, contents_put, homes_put, queues_put, earlies_put, line_mobile, line_home}
 use Rattle.site_model.proofs.FrameLemmas.{makes_site}
 
 -- ---- own variables
@@ -78,7 +79,7 @@ registered_fit p os x k h = go (owner_of os x) refl
     go (Some (Open ks)) e = rw e (owner_put p os x (Open (ks ++ k ∷ [])) (never_open p (ks ++ k ∷ [])) h)
     go (Some (Bound u)) e = rw e (owner_put p os x (Bound u) (λ r q. (let same : u ≡ r = cc in subst (TermFits p) same (h x u e))) h)
 
-made_fit : (p : List Stmt) (b : Records) (xs : List VarName) → OwnersFit p b.owners → OwnersFit p (after_makes b xs).owners
+pub made_fit : (p : List Stmt) (b : Records) (xs : List VarName) → OwnersFit p b.owners → OwnersFit p (after_makes b xs).owners
 made_fit p b [] h = h
 made_fit p b (x ∷ xs) h = made_fit p (record b { owners = with_owner b.owners x (Open []) }) xs (owner_put p b.owners x (Open []) (never_open p []) h)
 
@@ -86,8 +87,20 @@ threads_counted : (c : Counters) (kinds : List NameKind) → c.threads ≤ (coun
 threads_counted c [] = omega arith
 threads_counted c (kind.Var ∷ ks) = threads_counted (counter_after c kind.Var) ks
 threads_counted c (kind.Cell ∷ ks) = threads_counted (counter_after c kind.Cell) ks
+threads_counted c ((kind.CellAt at_home) ∷ ks) = threads_counted (counter_after c (kind.CellAt at_home)) ks
 threads_counted c (kind.Proc ∷ ks) = threads_counted (counter_after c kind.Proc) ks
+threads_counted c (kind.Port ∷ ks) = threads_counted (counter_after c kind.Port) ks
 threads_counted c (kind.Thread ∷ ks) = let more = threads_counted (counter_after c kind.Thread) ks in omega (arith, more)
+
+-- the number of sites is no counter
+sites_counted : (c : Counters) (kinds : List NameKind) → (counters_after c kinds).sites ≡ c.sites
+sites_counted c [] = refl
+sites_counted c (kind.Var ∷ ks) = sites_counted (counter_after c kind.Var) ks
+sites_counted c (kind.Cell ∷ ks) = sites_counted (counter_after c kind.Cell) ks
+sites_counted c ((kind.CellAt at_home) ∷ ks) = sites_counted (counter_after c (kind.CellAt at_home)) ks
+sites_counted c (kind.Proc ∷ ks) = sites_counted (counter_after c kind.Proc) ks
+sites_counted c (kind.Port ∷ ks) = sites_counted (counter_after c kind.Port) ks
+sites_counted c (kind.Thread ∷ ks) = sites_counted (counter_after c kind.Thread) ks
 
 -- ---- names that are met
 
@@ -131,6 +144,7 @@ module _ (p : List Stmt) (is : IsProgram p) (limit : ℕ) (high : limit ≤ 256)
       owners = subst (OwnersFit p) (sym (meets_keep s.records xs).0) h.owners;
       threads = h.threads;
       contents = h.contents;
+      kept = h.kept;
     };
     sent = meets_spelled s.records xs (subst IsSite (sym h.site) low) f;
   }
@@ -142,6 +156,7 @@ module _ (p : List Stmt) (is : IsProgram p) (limit : ℕ) (high : limit ≤ 256)
     owners = h.owners;
     threads = woken_fit p i s.counters.threads s.threads _ ((x, t) ∷ s.equations) x h.threads;
     contents = h.contents;
+    kept = h.kept;
   }
 
   pub told_fit : (s : Site) (x : VarName) (t : Term) → FitsVar x → TermFits p t → SiteFits p i s → SiteFits p i (with_known_equation s x t)
@@ -171,6 +186,7 @@ module _ (p : List Stmt) (is : IsProgram p) (limit : ℕ) (high : limit ≤ 256)
           owners = asked_fit p s.records.owners x t ft h.owners;
           threads = woken_fit p i s.counters.threads s.threads _ ((x, t) ∷ s.equations) x h.threads;
           contents = h.contents;
+          kept = h.kept;
         };
         sent = told_each ((x, t) ∷ s.equations) x t (sites_of (owner_of s.records.owners x)) more fx ft;
       }
@@ -188,18 +204,42 @@ module _ (p : List Stmt) (is : IsProgram p) (limit : ℕ) (high : limit ≤ 256)
     owners = made_fit p s.records (vars_among (fresh_names s kinds)) h.owners;
     threads = made_more p i s.counters.threads (counters_after s.counters kinds).threads s.threads _ (threads_counted s.counters kinds) h.threads;
     contents = h.contents;
+    kept = subst (λ (k : ℕ). KeptFits k s.ports s.homes) (sym (sites_counted s.counters kinds)) h.kept;
   }
 
   -- ---- cells
 
-  pub reply_fits : (c : CellName) (queue : List ThreadName) (r : Reply) (s : Site) → IsSite c.site → ReplyFits r → QueueFits s.threads c queue → SiteFits p i s → TransitionFits p i (cell_reply limit c queue r s)
+  -- the line of a mobile cell is its queue, and that of a stationary one at home here its own early threads
+  pub in_queue : (c : CellName) (s : Site) → SiteFits p i s → c.at ≡ 0 → QueueFits s.threads c (cell_record s c).queue
+  in_queue c s h e = subst (QueueFits s.threads c) (line_mobile i s.cell_records s.homes c e) (h.threads.queues c)
+
+  pub in_early : (c : CellName) (s : Site) → SiteFits p i s → c.at ≡ i → QueueFits s.threads c (own_threads i (home_in s.homes c).early)
+  in_early c s h e = subst (QueueFits s.threads c) (line_home i s.cell_records s.homes c low.0 e) (h.threads.queues c)
+
+  -- the home keeps this of a cell
+  pub homes_fit : (c : CellName) (r : HomeRecord) (s : Site) → HomeFits r → (c.at ≡ i → QueueFits s.threads c (own_threads i r.early)) → SiteFits p i s → SiteFits p i (with_home_record s c r)
+  homes_fit c r s f q h = record {
+    site = h.site;
+    equations = h.equations;
+    owners = h.owners;
+    threads = earlies_put p i s.counters.threads s.threads s.cell_records s.homes c r q h.threads;
+    contents = h.contents;
+    kept = record { sites = h.kept.sites; ends = h.kept.ends; homes = homes_put s.homes c r f h.kept.homes };
+  }
+
+  -- the content at the home is this
+  pub content_kept : (c : CellName) (new : VarName) (s : Site) → FitsVar new → SiteFits p i s → SiteFits p i (with_home_content c new s)
+  content_kept c new s f h = homes_fit c (record (home_record s c) { content = Some new }) s (f, (h.kept.homes c).1) (in_early c s h) h
+
+  pub reply_fits : (c : CellName) (queue : List ThreadName) (r : Reply) (s : Site) → FitsCell c → ReplyFits r → (c.at ≡ 0 → QueueFits s.threads c queue) → SiteFits p i s → TransitionFits p i (cell_reply limit c queue r s)
   reply_fits c queue r s pc f q h = record {
     site = record {
       site = h.site;
       equations = h.equations;
       owners = h.owners;
-      threads = queues_put p i s.counters.threads s.threads s.cell_records c (record { held = r.held; queue = queue }) q h.threads;
+      threads = queues_put p i s.counters.threads s.threads s.cell_records s.homes c (record { held = r.held; queue = queue }) q h.threads;
       contents = contents_put s.cell_records c (record { held = r.held; queue = queue }) f.content h.contents;
+      kept = h.kept;
     };
     sent = mails_spelled p is limit high c s.equations pc h.equations r.sent f.sent;
   }

@@ -1,44 +1,40 @@
--- Units of a site that fits.
-use Rattle.std.proofs.Common.{arith, ◌≡◌, ◌≢◌, ◌∙◌, sym, ap, refl, subst, ℕ, ◌<◌, ◌≤◌, List, [], ◌∷◌, ◌++◌, length, inl, inr, Bool, true, false, cond, Some, None}
-use Rattle.std.specs.Prelude.{Option, ◌==◌, codes}
+-- Births, steps and requests for tokens at a site that fits.
+use Rattle.std.proofs.Common.{arith, ◌≡◌, ◌≢◌, ◌∙◌, sym, ap, refl, subst, ℕ, zero, suc, ◌<◌, ◌≤◌, List, [], ◌∷◌, ◌++◌, length, Bool, true, false, cond, Some, None}
+use Rattle.std.specs.Prelude.{Option, ◌==◌, ℤ, pos, negsuc}
+use Rattle.tree_node.specs.declared.limits.TheConstants.{MOST_SITES}
 use Rattle.tree_node.specs.declared.names.VarName.{VarName}
 use Rattle.tree_node.specs.declared.names.CellName.{CellName}
+use Rattle.tree_node.specs.declared.names.PortName.{PortName}
 use Rattle.tree_node.specs.declared.names.ThreadName.{ThreadName}
-use Rattle.tree_node.specs.declared.names.Name.{Name}
 use Rattle.tree_node.specs.declared.names.NameKind.{NameKind}
 use Rattle.tree_node.specs.declared.names.NameKind.TheVariants as kind
-use Rattle.tree_node.specs.declared.node.Node.{Node}
 use Rattle.tree_node.specs.declared.node.Term.{Term}
 use Rattle.tree_node.specs.declared.pick.Pick.{Pick}
-use Rattle.tree_node.specs.declared.item.Item.TheVariants.{Run, Goals, Mark, Report}
-use Rattle.tree_node.specs.Assoc.{value_of, with_optional_value}
+use Rattle.tree_node.specs.declared.item.Item.TheVariants.{Run}
+use Rattle.tree_node.specs.Assoc.{value_of, with_value, with_optional_value}
 use Rattle.tree_node.specs.Each.{Each}
-use Rattle.tree_node.specs.Env.{Env, env_for}
-use Rattle.tree_node.specs.Goal.{IsAllowedBind, Case, Dropped, Binds, Opened, Failed, case_of}
-use Rattle.tree_node.specs.Shown.{shown}
+use Rattle.tree_node.specs.Env.{env_for}
+use Rattle.tree_node.specs.Goal.{IsAllowedBind, Binds}
 use Rattle.tree_node.specs.State.{Stack, equal_thread}
-use Rattle.tree_node.specs.Store.{Store, Equation}
+use Rattle.tree_node.specs.Store.{Equation}
 use Rattle.tree_node.proofs.EachLemmas.{each_append}
 use Rattle.tree_node.proofs.NameLemmas.{same_thread_decides}
 use Rattle.kernel_syntax.specs.declared.stmt.Stmt.{Stmt}
-use Rattle.kernel_syntax.specs.Free.{stmt_at, free}
+use Rattle.kernel_syntax.specs.Free.{free}
 use Rattle.kernel_syntax.specs.Program.{IsProgram}
 use Rattle.site_message.specs.declared.message.Msg.TheVariants as msg
 use Rattle.site_message.specs.declared.message.Sent.{Sent}
-use Rattle.site_message.specs.Wire.{IsSite, FitsVar, FitsWire}
-use Rattle.oz_model.specs.declared.outcome.SystemException.{SystemException}
-use Rattle.oz_model.specs.declared.outcome.SystemException.TheVariants.{FailureTell}
-use Rattle.oz_model.specs.declared.outcome.Outcome.{Outcome}
-use Rattle.oz_model.specs.declared.outcome.Outcome.TheVariants as outcome
-use Rattle.oz_model.specs.Outcome.{outcome_of, print_outcome}
-use Rattle.oz_model.specs.Need.{Need, Takes, outcome_need, stack_need, pair_need, goal_need, kinds_of}
+use Rattle.site_message.specs.Wire.{IsSite, FitsVar, FitsCell, FitsWire}
+use Rattle.oz_model.specs.Need.{Need, stack_need, kinds_of}
 use Rattle.oz_model.specs.Need as need
-use Rattle.oz_model.specs.Effect.{Birth, CellChange, Stays, Made, Exchanged, Effect, outcome_effect, pair_effect, goal_effect, stack_effect, exception_effect, vars_among, thread_among}
+use Rattle.oz_model.specs.Effect.{Birth, CellChange, Stays, Made, Exchanged, Effect}
 use Rattle.oz_model.specs.EffectNames.{EachOfChange}
-use Rattle.oz_model.specs.Step.{IsBindFor, living_stack}
+use Rattle.oz_model.specs.Step.{AreOfKinds, IsBindFor, living_stack}
 use Rattle.oz_model.proofs.ClosureLemmas.{for_names}
 use Rattle.oz_model.proofs.CoverLemmas.{covers_for}
 use Rattle.bind_protocol.specs.Rows.{sent_message}
+use Rattle.thread_roster.specs.declared.mode.Awaited.{Awaited}
+use Rattle.thread_roster.specs.declared.mode.Awaited.TheVariants.{Cell, Port}
 use Rattle.thread_roster.specs.declared.mode.Mode.{Mode}
 use Rattle.thread_roster.specs.declared.mode.Mode.TheVariants.{Runs}
 use Rattle.thread_roster.specs.declared.mode.Mode.TheVariants as mode
@@ -49,78 +45,41 @@ use Rattle.token_chain.specs.declared.token.Token.TheVariants.{Away, Asked, Here
 use Rattle.token_chain.specs.Holding.{here_with}
 use Rattle.site_model.specs.Site.{Site, ThreadState, Threads, Counters, thread_state, cell_record, with_cell_record}
 use Rattle.site_model.specs.Bundle.{with_own_bundle}
-use Rattle.site_model.specs.Transition.{Transition, without_output, with_messages}
+use Rattle.site_model.specs.Transition.{without_output, with_messages}
 use Rattle.site_model.specs.Variables.{own_binds}
 use Rattle.site_model.specs.Cells.{exchange_stack, with_own_request, with_last_asker, with_exchange_waiting, request_row}
+use Rattle.site_model.specs.Requests.{with_asking}
 use Rattle.site_model.specs.Messages.{with_thread}
-use Rattle.site_model.specs.Turn.{AreUnits}
-use Rattle.site_model.specs.Unit.{next_names, counter_after, with_fresh_names, fresh_names, placement, birth_row, content_here, after_cell, runnable_state, after_effect, step_row, step_pick, effect_here, IsTokenHere, IsStepOrRequest, bind_attempt, IsUnitFor, with_mode}
+use Rattle.site_model.specs.Unit.{home_among, next_names, counter_after, with_fresh_names, placement, birth_row, content_here, after_cell, runnable_state, after_effect, step_row, step_pick, effect_here, IsTokenHere, bind_attempt, with_mode}
 use Rattle.site_model.proofs.EffectLemmas.{bind_effect}
 use Rattle.world_model.proofs.KeyLemmas.{goes_there, woken_new, woken_old}
-use Rattle.site_wire.specs.Sending.{IsOfSites, EquationsFit, StackFits, IsAtNameless, ThreadFits, QueueFits, ContentFits, SiteFits, TransitionFits}
+use Rattle.site_wire.specs.Sending.{IsOfSites, EquationsFit, StackFits, IsAtNameless, IsAtSend, ThreadFits, QueueFits, ContentFits, SiteFits, TransitionFits}
 use Rattle.site_wire.proofs.TextLemmas.{free_short}
 use Rattle.site_wire.proofs.TermLemmas.{term_spelled}
 use Rattle.site_wire.proofs.BundleLemmas.{carried}
-use Rattle.site_wire.proofs.EffectLemmas.{BirthFits, EffectFits, effect_fits, exchanges_nameless}
+use Rattle.site_wire.proofs.EffectLemmas.{BirthFits, EffectFits, effect_fits}
 use Rattle.site_wire.proofs.ThreadLemmas.{running_fits, goes_fit, starts_fit, lines_up}
-use Rattle.site_wire.proofs.CellLemmas.{request_fits, contents_put, queues_put}
-use Rattle.site_wire.proofs.SiteLemmas.{still, binds_fit, fresh_fits, reply_fits}
+use Rattle.site_wire.proofs.CellLemmas.{request_fits, contents_put, queues_put, line_mobile}
+use Rattle.site_wire.proofs.SiteLemmas.{still, binds_fit, fresh_fits, reply_fits, in_queue}
 use Rattle.site_model.proofs.FrameLemmas.{binds_counters}
-use Rattle.site_model.proofs.FilledLemmas.{next_kinds}
-
--- ---- the name of a thread that is born is the fresh one
-
-abbrev IsBornOf : List Name → Need → Option Birth → Type 0
-IsBornOf fresh d o = (b : Birth) → o ≡ Some b → (b.name ≡ thread_among fresh) × (kinds_of d ≡ kind.Thread ∷ [])
-
-fails_born : (fresh : List Name) (d : Need) (x : SystemException) (rest : Stack) (xs : List VarName) → IsBornOf fresh d (exception_effect x rest xs).born
-fails_born fresh d x rest [] b e = cc
-fails_born fresh d x rest (a ∷ []) b e = cc
-fails_born fresh d x rest (a ∷ c ∷ []) b e = cc
-fails_born fresh d x rest (a ∷ c ∷ y ∷ xs) b e = cc
-
-outcome_born : (p : List Stmt) (env : Env) (rest : Stack) (fresh : List Name) (o : Outcome) → IsBornOf fresh (outcome_need o) (outcome_effect p env rest fresh o).born
-outcome_born p env rest fresh (outcome.Spawns at body vars) b e =
-    let same : ◌≡◌ {A = Birth} (record { at = at; name = thread_among fresh; code = body; vars = vars }) b = cc in
-    (sym (ap (λ (c : Birth). c.name) same), refl)
-outcome_born p env rest fresh (outcome.Fails x) b e = fails_born fresh (outcome_need (outcome.Fails x)) x rest (vars_among fresh) b e
-outcome_born p env rest fresh (outcome.Waits x) b e = cc
-outcome_born p env rest fresh (outcome.WaitsAny left right) b e = cc
-outcome_born p env rest fresh (outcome.Runs items) b e = cc
-outcome_born p env rest fresh (outcome.Tells x t) b e = cc
-outcome_born p env rest fresh (outcome.Declares first count body) b e = cc
-outcome_born p env rest fresh (outcome.MakesProc left code formals vars) b e = cc
-outcome_born p env rest fresh (outcome.MakesCell content told) b e = cc
-outcome_born p env rest fresh (outcome.Exchanges cell new told) b e = cc
-outcome_born p env rest fresh (outcome.Tries body env2 handler first env3) b e = cc
-outcome_born p env rest fresh (outcome.Raises x) b e = cc
-outcome_born p env rest fresh (outcome.Prints line) b e = cc
-
-pair_born : (fresh : List Name) (a c : Term) (pairs : List (Term × Term)) (met : List (Node × Node)) (rest : Stack) (bind : Option Equation) (d : Case) → IsBornOf fresh (pair_need a c d) (pair_effect a c pairs met rest fresh bind d).born
-pair_born fresh a c pairs met rest bind Dropped b e = cc
-pair_born fresh a c pairs met rest bind Binds b e = cc
-pair_born fresh a c pairs met rest bind (Opened m n fields) b e = cc
-pair_born fresh a c pairs met rest bind Failed b e = fails_born fresh (pair_need a c Failed) FailureTell rest (vars_among fresh) b e
-
-goals_born : (fresh : List Name) (s : Store) (met : List (Node × Node)) (rest : Stack) (bind : Option Equation) (pairs : List (Term × Term)) → IsBornOf fresh (goal_need s met pairs) (goal_effect s met rest fresh bind pairs).born
-goals_born fresh s met rest bind [] b e = cc
-goals_born fresh s met rest bind ((a, c) ∷ pairs) b e = pair_born fresh a c pairs met rest bind (case_of s met a c) b e
-
-stack_born : (p : List Stmt) (s : Store) (fresh : List Name) (bind : Option Equation) (st : Stack) → IsBornOf fresh (stack_need p s st) (stack_effect p s fresh bind st).born
-stack_born p s fresh bind [] b e = cc
-stack_born p s fresh bind (Run code env ∷ rest) b e = outcome_born p env rest fresh (outcome_of p s code env (stmt_at p code)) b e
-stack_born p s fresh bind (Goals k ∷ rest) b e = goals_born fresh s k.met rest bind k.pairs b e
-stack_born p s fresh bind (Mark code at env ∷ rest) b e = cc
-stack_born p s fresh bind (Report x ∷ rest) b e = outcome_born p [] rest fresh (print_outcome (codes "uncaught ") (shown s x)) b e
 
 -- ---- fresh names
 
-fresh_of : (i : ℕ) (c : Counters) (kinds : List NameKind) → IsSite i → Each IsOfSites (next_names i c kinds)
-fresh_of i c [] low = tt
-fresh_of i c (kind.Var ∷ ks) low = (low, fresh_of i (counter_after c kind.Var) ks low)
-fresh_of i c (kind.Cell ∷ ks) low = (low, fresh_of i (counter_after c kind.Cell) ks low)
-fresh_of i c (kind.Proc ∷ ks) low = (low, fresh_of i (counter_after c kind.Proc) ks low)
-fresh_of i c (kind.Thread ∷ ks) low = (low, fresh_of i (counter_after c kind.Thread) ks low)
+-- a home is one of the sites
+home_low : (n : ℕ) (k : ℤ) → n ≤ MOST_SITES → home_among n k ≤ MOST_SITES
+home_low (suc n) (pos (suc k)) few = omega (arith, few)
+home_low (suc n) (pos zero) few = omega arith
+home_low (suc n) (negsuc k) few = omega arith
+home_low zero k few = omega arith
+
+pub fresh_of : (i : ℕ) (c : Counters) (kinds : List NameKind) → IsSite i → c.sites ≤ MOST_SITES → Each IsOfSites (next_names i c kinds)
+fresh_of i c [] low few = tt
+fresh_of i c (kind.Var ∷ ks) low few = (low, fresh_of i (counter_after c kind.Var) ks low few)
+fresh_of i c (kind.Cell ∷ ks) low few = ((low, omega arith), fresh_of i (counter_after c kind.Cell) ks low few)
+fresh_of i c ((kind.CellAt k) ∷ ks) low few = ((low, home_low c.sites k few), fresh_of i (counter_after c (kind.CellAt k)) ks low few)
+fresh_of i c (kind.Proc ∷ ks) low few = (low, fresh_of i (counter_after c kind.Proc) ks low few)
+fresh_of i c (kind.Port ∷ ks) low few = (low, fresh_of i (counter_after c kind.Port) ks low few)
+fresh_of i c (kind.Thread ∷ ks) low few = (low, fresh_of i (counter_after c kind.Thread) ks low few)
 
 -- ---- a name that no thread has
 
@@ -166,16 +125,16 @@ module _ (p : List Stmt) (is : IsProgram p) (n limit : ℕ) (high : limit ≤ 25
 
   pub thread_fits : (th : ThreadName) (st : Stack) (r : Option ThreadState) (s : Site) → thread_state s th ≡ Some (st, Runs) → ((v : ThreadState) → r ≡ Some v → ThreadFits p th v) → SiteFits p i s
       → SiteFits p i (record s { threads = with_optional_value equal_thread s.threads th r })
-  thread_fits th st r s now f h = record { site = h.site; equations = h.equations; owners = h.owners; threads = goes_fit p i s.counters.threads s.threads _ th st r now f h.threads; contents = h.contents }
+  thread_fits th st r s now f h = record { site = h.site; equations = h.equations; owners = h.owners; threads = goes_fit p i s.counters.threads s.threads _ th st r now f h.threads; contents = h.contents; kept = h.kept }
 
-  needing_fits : (th : ThreadName) (st : Stack) (x : VarName) (s : Site) → thread_state s th ≡ Some (st, Runs) → SiteFits p i s → SiteFits p i (with_mode th st (mode.Needs x) s)
-  needing_fits th st x s now h = thread_fits th st (Some (st, mode.Needs x)) s now (λ v e. running_fits p th st (mode.Needs x) (λ (c : CellName) (q : mode.Needs x ≡ mode.WaitsFor c). cc) (st, Runs) (h.threads.each th (st, Runs) now) (h.threads.each th (st, Runs) now).stack v e) h
+  pub needing_fits : (th : ThreadName) (st : Stack) (x : VarName) (s : Site) → thread_state s th ≡ Some (st, Runs) → SiteFits p i s → SiteFits p i (with_mode th st (mode.Needs x) s)
+  needing_fits th st x s now h = thread_fits th st (Some (st, mode.Needs x)) s now (λ v e. running_fits p th st (mode.Needs x) (λ (a : Awaited) (q : mode.Needs x ≡ mode.WaitsFor a). cc) (st, Runs) (h.threads.each th (st, Runs) now) (h.threads.each th (st, Runs) now).stack v e) h
 
   waits_fits : (th : ThreadName) (st : Stack) (x : VarName) (s : Site) → thread_state s th ≡ Some (st, Runs) → SiteFits p i s → SiteFits p i (with_mode th st (mode.Waits x) s)
-  waits_fits th st x s now h = thread_fits th st (Some (st, mode.Waits x)) s now (λ v e. running_fits p th st (mode.Waits x) (λ (c : CellName) (q : mode.Waits x ≡ mode.WaitsFor c). cc) (st, Runs) (h.threads.each th (st, Runs) now) (h.threads.each th (st, Runs) now).stack v e) h
+  waits_fits th st x s now h = thread_fits th st (Some (st, mode.Waits x)) s now (λ v e. running_fits p th st (mode.Waits x) (λ (a : Awaited) (q : mode.Waits x ≡ mode.WaitsFor a). cc) (st, Runs) (h.threads.each th (st, Runs) now) (h.threads.each th (st, Runs) now).stack v e) h
 
-  several_fits : (th : ThreadName) (st : Stack) (xs : List VarName) (s : Site) → thread_state s th ≡ Some (st, Runs) → SiteFits p i s → SiteFits p i (with_mode th st (mode.WaitsAny xs) s)
-  several_fits th st xs s now h = thread_fits th st (Some (st, mode.WaitsAny xs)) s now (λ v e. running_fits p th st (mode.WaitsAny xs) (λ (c : CellName) (q : mode.WaitsAny xs ≡ mode.WaitsFor c). cc) (st, Runs) (h.threads.each th (st, Runs) now) (h.threads.each th (st, Runs) now).stack v e) h
+  pub several_fits : (th : ThreadName) (st : Stack) (xs : List VarName) (s : Site) → thread_state s th ≡ Some (st, Runs) → SiteFits p i s → SiteFits p i (with_mode th st (mode.WaitsAny xs) s)
+  several_fits th st xs s now h = thread_fits th st (Some (st, mode.WaitsAny xs)) s now (λ v e. running_fits p th st (mode.WaitsAny xs) (λ (a : Awaited) (q : mode.WaitsAny xs ≡ mode.WaitsFor a). cc) (st, Runs) (h.threads.each th (st, Runs) now) (h.threads.each th (st, Runs) now).stack v e) h
 
   pub begins_fits : (b : Birth) (s : Site) → BirthFits p (Some b) → thread_state s b.name ≡ None → (b.name.site ≡ i → b.name.num < s.counters.threads) → SiteFits p i s → SiteFits p i (with_thread p (Some b) s)
   begins_fits b s f none below h = record {
@@ -185,6 +144,7 @@ module _ (p : List Stmt) (is : IsProgram p) (n limit : ℕ) (high : limit ≤ 25
     threads = starts_fit p i s.counters.threads s.threads _ b.name (Run b.code (env_for (free p b.code) b.vars) ∷ []) none f.0
         (record { names = (for_names IsOfSites (free p b.code) b.vars f.1, tt); nodes = (tt, tt); covered = (covers_for (free p b.code) b.vars f.2, tt) }) below h.threads;
     contents = h.contents;
+    kept = h.kept;
   }
 
   bears_fit : (o : Option Birth) (s : Site) → BirthFits p o → ((b : Birth) → o ≡ Some b → (thread_state s b.name ≡ None) × (b.name.site ≡ i → b.name.num < s.counters.threads)) → SiteFits p i s → TransitionFits p i (birth_row p n limit o s)
@@ -205,8 +165,9 @@ module _ (p : List Stmt) (is : IsProgram p) (n limit : ℕ) (high : limit ≤ 25
     site = h.site;
     equations = h.equations;
     owners = h.owners;
-    threads = queues_put p i s.counters.threads s.threads s.cell_records c (record (cell_record s c) { held = record (cell_record s c).held { token = t } }) (h.threads.queues c) h.threads;
+    threads = queues_put p i s.counters.threads s.threads s.cell_records s.homes c (record (cell_record s c) { held = record (cell_record s c).held { token = t } }) (in_queue p is limit high i low c s h) h.threads;
     contents = contents_put s.cell_records c (record (cell_record s c) { held = record (cell_record s c).held { token = t } }) f h.contents;
+    kept = h.kept;
   }
 
   cell_fits : (c : CellChange) (s : Site) → EachOfChange IsOfSites c → SiteFits p i s → SiteFits p i (after_cell c s)
@@ -215,8 +176,9 @@ module _ (p : List Stmt) (is : IsProgram p) (n limit : ℕ) (high : limit ≤ 25
     site = h.site;
     equations = h.equations;
     owners = h.owners;
-    threads = queues_put p i s.counters.threads s.threads s.cell_records c (record { held = here_with v; queue = [] }) (record { once = tt; inside = tt }) h.threads;
+    threads = queues_put p i s.counters.threads s.threads s.cell_records s.homes c (record { held = here_with v; queue = [] }) (λ e. record { once = tt; inside = tt }) h.threads;
     contents = contents_put s.cell_records c (record { held = here_with v; queue = [] }) f.1 h.contents;
+    kept = h.kept;
   }
   cell_fits (Exchanged c new told) s f h = record_fits c (Here new) s f.1 h
 
@@ -243,13 +205,13 @@ module _ (p : List Stmt) (is : IsProgram p) (n limit : ℕ) (high : limit ≤ 25
       go : IsTokenHere s b → FitsVar (content_here s (Exchanged b m t))
       go (v, k) = rw k (subst ContentFits k (h.contents b))
 
-  left_fits : (th : ThreadName) (st : Stack) (w : ThreadState) → ThreadFits p th w → StackFits p st → (v : ThreadState) → runnable_state (living_stack st) ≡ Some v → ThreadFits p th v
+  pub left_fits : (th : ThreadName) (st : Stack) (w : ThreadState) → ThreadFits p th w → StackFits p st → (v : ThreadState) → runnable_state (living_stack st) ≡ Some v → ThreadFits p th v
   left_fits th [] w f h v e = cc
-  left_fits th (k ∷ st) w f h v e = running_fits p th (k ∷ st) Runs (λ (c : CellName) (q : Runs ≡ mode.WaitsFor c). cc) w f h v e
+  left_fits th (k ∷ st) w f h v e = running_fits p th (k ∷ st) Runs (λ (a : Awaited) (q : Runs ≡ mode.WaitsFor a). cc) w f h v e
 
   -- ---- steps
 
-  steps_fit : (k : Pick) (kinds : List NameKind) (e : Effect) (s : Site) (st : Stack) → thread_state s k.thread ≡ Some (st, Runs) → EffectFits p e → IsGiven i kinds e s → SiteFits p i s → TransitionFits p i (step_row p n limit k kinds e s)
+  pub steps_fit : (k : Pick) (kinds : List NameKind) (e : Effect) (s : Site) (st : Stack) → thread_state s k.thread ≡ Some (st, Runs) → EffectFits p e → IsGiven i kinds e s → SiteFits p i s → TransitionFits p i (step_row p n limit k kinds e s)
   steps_fit k kinds e s st now f g h = record {
     site = born.site;
     sent = each_append (λ (m : Sent). FitsWire m.msg) ((own_binds limit e.adds (with_fresh_names kinds s)).sent ++ []) _ (each_append (λ (m : Sent). FitsWire m.msg) (own_binds limit e.adds (with_fresh_names kinds s)).sent [] bound.sent tt) born.sent;
@@ -280,7 +242,7 @@ module _ (p : List Stmt) (is : IsProgram p) (n limit : ℕ) (high : limit ≤ 25
       on = let t : SiteFits p i (record (after_cell e.cell (own_binds limit e.adds (with_fresh_names kinds s)).site) { threads = with_optional_value equal_thread (after_cell e.cell (own_binds limit e.adds (with_fresh_names kinds s)).site).threads k.thread (runnable_state (living_stack (exchange_stack (content_here (own_binds limit e.adds (with_fresh_names kinds s)).site e.cell) e.cell e.stack))) }) =
           thread_fits k.thread st (runnable_state (living_stack (exchange_stack (content_here (own_binds limit e.adds (with_fresh_names kinds s)).site e.cell) e.cell e.stack))) (after_cell e.cell (own_binds limit e.adds (with_fresh_names kinds s)).site) runs
           (left_fits k.thread (exchange_stack (content_here (own_binds limit e.adds (with_fresh_names kinds s)).site e.cell) e.cell e.stack) (st, Runs) (changed.threads.each k.thread (st, Runs) runs) left) changed in
-          record { site = t.site; equations = t.equations; owners = t.owners; threads = t.threads; contents = t.contents }
+          record { site = t.site; equations = t.equations; owners = t.owners; threads = t.threads; contents = t.contents; kept = t.kept }
 
       given : (b : Birth) → e.born ≡ Some b → (thread_state (after_effect k.thread e (own_binds limit e.adds (with_fresh_names kinds s)).site) b.name ≡ None) × (b.name.site ≡ i → b.name.num < (after_effect k.thread e (own_binds limit e.adds (with_fresh_names kinds s)).site).counters.threads)
       given b q = (
@@ -294,7 +256,7 @@ module _ (p : List Stmt) (is : IsProgram p) (n limit : ℕ) (high : limit ≤ 25
 
   -- ---- binds
 
-  bind_attempts_fit : (s : Site) (th : ThreadName) (st : Stack) (a b : Term) (u : VarName) (t : Term) (c : Bool) → thread_state s th ≡ Some (st, Runs) → stack_need p s.equations st ≡ need.Binds a b → IsAllowedBind s.equations a b (u, t) → SiteFits p i s
+  pub bind_attempts_fit : (s : Site) (th : ThreadName) (st : Stack) (a b : Term) (u : VarName) (t : Term) (c : Bool) → thread_state s th ≡ Some (st, Runs) → stack_need p s.equations st ≡ need.Binds a b → IsAllowedBind s.equations a b (u, t) → SiteFits p i s
       → TransitionFits p i (bind_attempt p n limit th st u t c s)
   bind_attempts_fit s th st a b u t c now needs allows h = go c
     where
@@ -302,7 +264,7 @@ module _ (p : List Stmt) (is : IsProgram p) (n limit : ℕ) (high : limit ≤ 25
       was = h.threads.each th (st, Runs) now
 
       f : EffectFits p (effect_here p s [] (Some (u, t)) st)
-      f = effect_fits p is s.equations [] (Some (u, t)) st h.equations was.stack tt (ap kinds_of (sym needs)) (subst (λ (d : Need). IsBindFor s.equations d (Some (u, t))) (sym needs) allows)
+      f = effect_fits p is s.equations [] (Some (u, t)) st h.equations was.stack tt (subst (λ (d : Need). AreOfKinds [] (kinds_of d)) (sym needs) tt) (subst (λ (d : Need). IsBindFor s.equations d (Some (u, t))) (sym needs) allows)
 
       only : EquationsFit p ((u, t) ∷ [])
       only = subst (λ (e : Effect). EquationsFit p e.adds) (bind_effect p s.equations st a b (u, t) needs) f.adds
@@ -327,7 +289,7 @@ module _ (p : List Stmt) (is : IsProgram p) (n limit : ℕ) (high : limit ≤ 25
   own_request_fits c Away s h = go (c.site == s.records.site)
     where
       go : (b : Bool) → SiteFits p i (cond b (with_last_asker c s.records.site s) s)
-      go true = record { site = h.site; equations = h.equations; owners = h.owners; threads = h.threads; contents = h.contents }
+      go true = record { site = h.site; equations = h.equations; owners = h.owners; threads = h.threads; contents = h.contents; kept = h.kept }
       go false = h
   own_request_fits c Asked s h = h
   own_request_fits c (Here v) s h = h
@@ -341,76 +303,30 @@ module _ (p : List Stmt) (is : IsProgram p) (n limit : ℕ) (high : limit ≤ 25
   own_request_threads c Asked s = refl
   own_request_threads c (Here v) s = refl
 
-  requests_fit : (c : CellName) (new : VarName) (th : ThreadName) (st : Stack) (s : Site) → thread_state s th ≡ Some (st, Runs) → IsAtNameless p st → IsSite c.site → FitsVar new → SiteFits p i s → TransitionFits p i (request_row limit c new th st s)
-  requests_fit c new th st s now calm pc fits h = reply_fits p is limit high i low c _ _ (with_own_request c (cell_record s c).held.token (with_exchange_waiting c th st s)) pc
-      (request_fits c.site _ s.records.site new (cell_record s c).held (subst IsSite (sym h.site) low) fits)
-      (subst (λ (ts : Threads). QueueFits ts c ((cell_record s c).queue ++ th ∷ [])) (sym (own_request_threads c (cell_record s c).held.token (with_exchange_waiting c th st s))) (lines_up p i s.counters.threads s.threads _ th c st now h.threads stands.threads))
-      (own_request_fits c (cell_record s c).held.token (with_exchange_waiting c th st s) stands)
+  -- the thread waits for this
+  pub asking_stands : (th : ThreadName) (st : Stack) (a : Awaited) (s : Site) → thread_state s th ≡ Some (st, Runs) → ((c : CellName) → a ≡ Cell c → IsAtNameless p st) → ((q : PortName) → a ≡ Port q → IsAtSend p st) → SiteFits p i s
+      → SiteFits p i (with_asking th st a s)
+  asking_stands th st a s now calm sends h = thread_fits th st (Some (st, mode.WaitsFor a)) s now (λ v e. stood v e) h
     where
       was : ThreadFits p th (st, Runs)
       was = h.threads.each th (st, Runs) now
 
+      stood : (v : ThreadState) → ◌≡◌ {A = Option ThreadState} (Some (st, mode.WaitsFor a)) (Some v) → ThreadFits p th v
+      stood v e =
+          let same : ◌≡◌ {A = ThreadState} (st, mode.WaitsFor a) v = cc in
+          subst (ThreadFits p th) same (record {
+            name = was.name;
+            stack = was.stack;
+            calm = λ c q. (let k : a ≡ Cell c = cc in calm c k);
+            sends = λ r q. (let k : a ≡ Port r = cc in sends r k);
+          })
+
+  pub requests_fit : (c : CellName) (new : VarName) (th : ThreadName) (st : Stack) (s : Site) → thread_state s th ≡ Some (st, Runs) → IsAtNameless p st → FitsCell c → FitsVar new → SiteFits p i s → TransitionFits p i (request_row limit c new th st s)
+  requests_fit c new th st s now calm pc fits h = reply_fits p is limit high i low c _ _ (with_own_request c (cell_record s c).held.token (with_exchange_waiting c th st s)) pc
+      (request_fits c.site _ s.records.site new (cell_record s c).held (subst IsSite (sym h.site) low) fits)
+      (λ e. subst (λ (ts : Threads). QueueFits ts c ((cell_record s c).queue ++ th ∷ [])) (sym (own_request_threads c (cell_record s c).held.token (with_exchange_waiting c th st s)))
+      (subst (λ (ns : List ThreadName). QueueFits (with_value equal_thread s.threads th (st, mode.WaitsFor (Cell c))) c (ns ++ th ∷ [])) (line_mobile i s.cell_records s.homes c e) (lines_up p i s.counters.threads s.threads _ th c st now h.threads stands.threads)))
+      (own_request_fits c (cell_record s c).held.token (with_exchange_waiting c th st s) stands)
+    where
       stands : SiteFits p i (with_exchange_waiting c th st s)
-      stands = thread_fits th st (Some (st, mode.WaitsFor c)) s now
-          (λ v e. (let same : ◌≡◌ {A = ThreadState} (st, mode.WaitsFor c) v = cc in subst (ThreadFits p th) same (record { name = was.name; stack = was.stack; calm = λ d q. calm }))) h
-
-  -- ---- units
-
-  either_fits : (th : ThreadName) (st : Stack) (kinds : List NameKind) (s : Site) (e : Effect) (d : Transition) → thread_state s th ≡ Some (st, Runs) → EffectFits p e → ((c : CellName) (new told : VarName) → e.cell ≡ Exchanged c new told → IsAtNameless p st)
-      → (((c : CellName) (new told : VarName) → e.cell ≡ Exchanged c new told → IsTokenHere s c) → TransitionFits p i (step_row p n limit (step_pick th (fresh_names s kinds) None) kinds e s)) → SiteFits p i s
-      → IsStepOrRequest limit th st s (step_row p n limit (step_pick th (fresh_names s kinds) None) kinds e s) e.cell d → TransitionFits p i d
-  either_fits th st kinds s e d now f calm step h g = go e.cell refl g
-    where
-      go : (c : CellChange) → e.cell ≡ c → IsStepOrRequest limit th st s (step_row p n limit (step_pick th (fresh_names s kinds) None) kinds e s) c d → TransitionFits p i d
-      go Stays q k = subst (TransitionFits p i) (sym k) (step (λ c new told r. (let contrary : Stays ≡ Exchanged c new told = sym q ∙ r in cc)))
-      go (Made b v) q k = subst (TransitionFits p i) (sym k) (step (λ c new told r. (let contrary : Made b v ≡ Exchanged c new told = sym q ∙ r in cc)))
-      go (Exchanged b m t) q (inl k) = subst (TransitionFits p i) (sym k.1) (step (λ c new told r. (let same : Exchanged b m t ≡ Exchanged c new told = sym q ∙ r in let cell : b ≡ c = cc in subst (IsTokenHere s) cell k.0)))
-      go (Exchanged b m t) q (inr k) =
-          let names : EachOfChange IsOfSites (Exchanged b m t) = subst (EachOfChange IsOfSites) q f.cell in
-          subst (TransitionFits p i) (sym k.1) (requests_fit b m th st s now (calm b m t q) names.0 names.1 h)
-
-  needs_fit : (s : Site) (th : ThreadName) (st : Stack) (d : Need) (e : Transition) → thread_state s th ≡ Some (st, Runs) → SiteFits p i s → stack_need p s.equations st ≡ d → IsUnitFor p n limit s th st d e → TransitionFits p i e
-  needs_fit s th st (need.Waits x) e now h q (z, names, g) = subst (TransitionFits p i) (sym g) (still p is limit high i low (with_mode th st (mode.Needs z) s) (needing_fits th st z s now h))
-  needs_fit s th st (need.WaitsAny r) e now h q (xs, open_on, g) = subst (TransitionFits p i) (sym g) (still p is limit high i low (with_mode th st (mode.WaitsAny xs) s) (several_fits th st xs s now h))
-  needs_fit s th st (need.Binds a b) e now h q (u, t, root, g) = subst (TransitionFits p i) (sym g) (bind_attempts_fit s th st a b u t (u.site == s.records.site) now q root.0 h)
-  needs_fit s th st (Takes kinds) e now h q g = either_fits th st kinds s (effect_here p s (fresh_names s kinds) None st) e now f (λ c new told r. exchanges_nameless p s.equations (fresh_names s kinds) None st c new told r)
-      (λ token. steps_fit (step_pick th (fresh_names s kinds) None) kinds (effect_here p s (fresh_names s kinds) None st) s st now f (record { none = λ b r. none b r; number = λ b r mine. number b r mine; token = token }) h) h g
-    where
-      f : EffectFits p (effect_here p s (fresh_names s kinds) None st)
-      f = effect_fits p is s.equations (fresh_names s kinds) None st h.equations (h.threads.each th (st, Runs) now).stack (fresh_of s.records.site s.counters kinds (subst IsSite (sym h.site) low))
-          (next_kinds s.records.site s.counters kinds ∙ sym (ap kinds_of q)) (subst (λ (d : Need). IsBindFor s.equations d None) (sym q) tt)
-
-      -- the name that is taken next
-      next : (ks : List NameKind) → ks ≡ kind.Thread ∷ [] → (thread_among (next_names s.records.site s.counters ks) ≡ record { site = s.records.site; num = s.counters.threads }) × (s.counters.threads < (with_fresh_names ks s).counters.threads)
-      next ks k = subst (λ (ks : List NameKind). (thread_among (next_names s.records.site s.counters ks) ≡ record { site = s.records.site; num = s.counters.threads }) × (s.counters.threads < (with_fresh_names ks s).counters.threads)) (sym k) (refl, omega arith)
-
-      named : (b : Birth) → (effect_here p s (fresh_names s kinds) None st).born ≡ Some b → (b.name ≡ record { site = s.records.site; num = s.counters.threads }) × (s.counters.threads < (with_fresh_names kinds s).counters.threads)
-      named b r =
-          let o = stack_born p s.equations (fresh_names s kinds) None st b r in
-          let k = next kinds (sym (ap kinds_of q) ∙ o.1) in
-          (o.0 ∙ k.0, k.1)
-
-      none : (b : Birth) → (effect_here p s (fresh_names s kinds) None st).born ≡ Some b → thread_state s b.name ≡ None
-      none b r = go (thread_state s b.name) refl
-        where
-          go : (o : Option ThreadState) → thread_state s b.name ≡ o → thread_state s b.name ≡ None
-          go None k = k
-          go (Some v) k =
-              let name = (named b r).0 in
-              let mine : b.name.site ≡ i = ap (λ (z : ThreadName). z.site) name ∙ h.site in
-              let number : b.name.num ≡ s.counters.threads = ap (λ (z : ThreadName). z.num) name in
-              let below = h.threads.own b.name v k mine in
-              absurd (omega (arith, number, below))
-
-      number : (b : Birth) → (effect_here p s (fresh_names s kinds) None st).born ≡ Some b → b.name.site ≡ i → b.name.num < (with_fresh_names kinds s).counters.threads
-      number b r mine =
-          let o = named b r in
-          let num : b.name.num ≡ s.counters.threads = ap (λ (z : ThreadName). z.num) o.0 in
-          omega (arith, num, o.1)
-
-  pub units_fit : (ths : List ThreadName) (s : Site) (d : Transition) → SiteFits p i s → AreUnits p n limit ths s d → TransitionFits p i d
-  units_fit [] s d h e = subst (TransitionFits p i) (sym e) (still p is limit high i low s h)
-  units_fit (th ∷ ths) s d h (one, rest, unit, units, e) =
-      let first : TransitionFits p i one = needs_fit s th unit.0 (stack_need p s.equations unit.0) one unit.1 h refl unit.2 in
-      let next : TransitionFits p i rest = units_fit ths one.site rest first.site units in
-      subst (TransitionFits p i) (sym e) (record { site = next.site; sent = each_append (λ (m : Sent). FitsWire m.msg) one.sent rest.sent first.sent next.sent })
+      stands = asking_stands th st (Cell c) s now (λ d q. calm) (λ q k. cc) h

@@ -125,15 +125,21 @@ told_short p is code (stmt.Calc left op a b) (node.Atom text) h told = subst Fit
 told_short p is code (stmt.Test left op a b) (node.Atom text) h told = subst FitsText (sym told.1) (truth_fits told.0)
 told_short p is code _ (node.Int z) h told = tt
 told_short p is code _ (node.Cell c) h told = tt
+told_short p is code _ (node.Port c) h told = tt
 told_short p is code (stmt.Calc left op a b) (node.Rec l fs) h told = absurd told
 told_short p is code (stmt.Test left op a b) (node.Rec l fs) h told = absurd told
 told_short p is code (stmt.Calc left op a b) (node.Proc q c formals vars) h told = absurd told
 told_short p is code (stmt.Test left op a b) (node.Proc q c formals vars) h told = absurd told
 told_short p is code _ _ h told = absurd told
 
+bar_fits : FitsText (codes "|")
+unfolding lib.Utf8.encode
+bar_fits = (omega arith, (codes "|", (refl, refl)))
+
 pub told_fits : (p : List Stmt) → IsProgram p → HoldsOfTold p (NodeFits p)
 told_fits p is = let nodes : HoldsOfTold p (IsNode p) = told_nodes p is.stmts in record {
   told = λ code n told. (nodes.told code n told, told_short p is code (stmt_at p code) n (texts_at p code.0 is.texts) told);
+  pairs = λ value rest. (nodes.pairs value rest, (bar_fits, (tt, (tt, tt))));
   records = λ e x. (nodes.records e x, (label_fits e, (tt, tt)));
   reasons = λ e. (nodes.reasons e, reason_fits e);
 }

@@ -20,6 +20,7 @@ use Rattle.token_chain.specs.Mail.{Get, Forward}
 use Rattle.token_chain.specs.Rows.{Reply, leave_reply, forward_reply, get_reply, exchange_reply}
 use Rattle.token_chain.proofs.MoveLemmas.{tokens_have_contents}
 use Rattle.site_model.specs.Site.{Site, Threads, Counters, CellRecord, cell_record}
+use Rattle.thread_roster.specs.declared.mode.Awaited.TheVariants.{Cell}
 use Rattle.thread_roster.specs.declared.mode.Mode.TheVariants.{Runs, WaitsFor}
 use Rattle.site_model.specs.Transition.{Transition}
 use Rattle.site_model.specs.Cells.{last_before, with_last_asker, forward_row, get_row, with_exchange_waiting, request_row}
@@ -38,6 +39,8 @@ use Rattle.world_cells.proofs.QueueLemmas.{queues_put, forward_lists, get_lists,
 use Rattle.world_cells.proofs.PutRowLemmas.{OneMessage, one_number, cell_may_go}
 use Rattle.world_variables.specs.Laws.{PartsIn}
 use Rattle.oz_model.proofs.KindLemmas.{cell_cases}
+use Rattle.world_model.proofs.MobileLemmas.{mobile_at, mobile_has}
+use Rattle.world_model.specs.Chain.{mobile_cells}
 
 -- ---- a deed that changes what is kept of cells alone
 
@@ -105,12 +108,12 @@ module _ (p : List Stmt) (limit : ℕ) (w : World) (z : State) (parts : PartsIn 
   get_kept k i c asker h once number =
       let one = one_number w k i (msg.Get c asker) h once in
       let at = (x.gets k i c asker h).0 in
-      let f = cell_there w.sites w.mail z.cells c (Get asker) x.cells (arrives_there w k i _ c (Get asker) (get_arrives w k i c asker h one at)) in (
+      let f = cell_there w.sites w.mail (mobile_cells z.cells) c (Get asker) x.cells (arrives_there w k i _ c (Get asker) (get_arrives w k i c asker h one at)) in (
         only_parts p w i (get_row limit c asker (w.sites i)) (without_number k w.mail) z (parts_gone p (here_at (records w.sites)) (eqs w.sites) (records w.sites) (threads w.sites) (counters w.sites) w.mail z parts k (cell_may_go w z k i (msg.Get c asker) tt h once)) (get_only limit c asker (w.sites i))
-            (reply_may p (here_at (records w.sites)) (eqs w.sites) (records w.sites) (threads w.sites) (counters w.sites) w.mail z parts limit i c (w.sites i).equations f.0 refl f.1 (w.sites i).records.site (last_before (w.sites i) c) asker (cell_record (w.sites i) c).held (has_content i c f.0 f.2)),
+            (reply_may p (here_at (records w.sites)) (eqs w.sites) (records w.sites) (threads w.sites) (counters w.sites) w.mail z parts limit i c (w.sites i).equations f.0 refl (mobile_has z.cells c f.0 f.1).1 (w.sites i).records.site (last_before (w.sites i) c) asker (cell_record (w.sites i) c).held (has_content i c f.0 f.2)),
         record {
           queues = queues_put w.sites i _ x.queues (get_lists limit c asker (w.sites i) (x.queues i));
-          cells = get_cells limit w i k c asker z.cells x.cells h one at number;
+          cells = get_cells limit w i k c asker (mobile_cells z.cells) x.cells h one at number;
           gets = gets_posts (without_number k w.mail) w.sent _ (gets_gone k w.mail x.gets) (λ to b a q. absurd (from_each (λ (to : ℕ) (m : Msg). (b : CellName) (a : ℕ) → m ≡ msg.Get b a → ⊥) _ (no_get_reply limit c (w.sites i).equations (w.sites i).records.site (last_before (w.sites i) c) asker (cell_record (w.sites i) c).held) to (msg.Get b a) q b a refl));
           contents = contents_put w.sites i _ x.contents refl (answers_here c _ (w.sites i) _ (reply_answers limit c _ (get_reply (w.sites i).records.site (last_before (w.sites i) c) asker (cell_record (w.sites i) c).held) (w.sites i) (with_last_asker c asker (w.sites i)) refl) (λ u e. get_keeps (w.sites i).records.site (last_before (w.sites i) c) asker (cell_record (w.sites i) c).held u e));
         },
@@ -121,12 +124,12 @@ module _ (p : List Stmt) (limit : ℕ) (w : World) (z : State) (parts : PartsIn 
       PartsIn p (here_at (records w.sites)) (after_transition (after_receipt (Some k) w) i (forward_row limit c next (w.sites i))) z × CellsMatch (after_transition (after_receipt (Some k) w) i (forward_row limit c next (w.sites i))) z
   forward_kept k i c next h once =
       let one = one_number w k i (msg.Forward c next) h once in
-      let f = cell_there w.sites w.mail z.cells c (Forward i next) x.cells (arrives_there w k i _ c (Forward i next) (forward_arrives w k i c next h one)) in (
+      let f = cell_there w.sites w.mail (mobile_cells z.cells) c (Forward i next) x.cells (arrives_there w k i _ c (Forward i next) (forward_arrives w k i c next h one)) in (
         only_parts p w i (forward_row limit c next (w.sites i)) (without_number k w.mail) z (parts_gone p (here_at (records w.sites)) (eqs w.sites) (records w.sites) (threads w.sites) (counters w.sites) w.mail z parts k (cell_may_go w z k i (msg.Forward c next) tt h once)) (forward_only limit c next (w.sites i))
-            (leave_may p (here_at (records w.sites)) (eqs w.sites) (records w.sites) (threads w.sites) (counters w.sites) w.mail z parts limit i c (w.sites i).equations f.0 refl f.1 (record (cell_record (w.sites i) c).held { next = Some next }) (has_content i c f.0 f.2)),
+            (leave_may p (here_at (records w.sites)) (eqs w.sites) (records w.sites) (threads w.sites) (counters w.sites) w.mail z parts limit i c (w.sites i).equations f.0 refl (mobile_has z.cells c f.0 f.1).1 (record (cell_record (w.sites i) c).held { next = Some next }) (has_content i c f.0 f.2)),
         record {
           queues = queues_put w.sites i _ x.queues (forward_lists limit c next (w.sites i) (x.queues i));
-          cells = forward_cells limit w i k c next z.cells x.cells h one;
+          cells = forward_cells limit w i k c next (mobile_cells z.cells) x.cells h one;
           gets = gets_posts (without_number k w.mail) w.sent _ (gets_gone k w.mail x.gets) (λ to b a q. absurd (from_each (λ (to : ℕ) (m : Msg). (b : CellName) (a : ℕ) → m ≡ msg.Get b a → ⊥) _ (no_get_leave limit c (w.sites i).equations (record (cell_record (w.sites i) c).held { next = Some next })) to (msg.Get b a) q b a refl));
           contents = contents_put w.sites i _ x.contents refl (answers_here c _ (w.sites i) _ (forward_answers limit c next (w.sites i)) (λ u e. forward_here (cell_record (w.sites i) c).held next u e));
         },
@@ -134,12 +137,12 @@ module _ (p : List Stmt) (limit : ℕ) (w : World) (z : State) (parts : PartsIn 
 
   -- a thread asks for the token, which is elsewhere, and waits
   module _ (i : ℕ) (c : CellName) (new : VarName) (n : ThreadName) (st : Stack) (v : VarName) (runs : value_of equal_thread (threads w.sites i) n ≡ Some (st, Runs)) (exchange : IsExchange p (eqs w.sites i) st c)
-      (value : value_of equal_cell z.cells c ≡ Some v) (number : (w.sites i).records.site ≡ i) (elsewhere : (u : VarName) → (cell_record (w.sites i) c).held.token ≢ Here u) where
+      (value : value_of equal_cell z.cells c ≡ Some v) (mobile : c.at ≡ 0) (number : (w.sites i).records.site ≡ i) (elsewhere : (u : VarName) → (cell_record (w.sites i) c).held.token ≢ Here u) where
     abbrev asking : Transition
     asking = request_row limit c new n st (w.sites i)
 
     abbrev waiting_now : Threads
-    waiting_now = with_value equal_thread (threads w.sites i) n (st, WaitsFor c)
+    waiting_now = with_value equal_thread (threads w.sites i) n (st, WaitsFor (Cell c))
 
     pub asks_kept : PartsIn p (here_at (records w.sites)) (after_transition w i asking) z × CellsMatch (after_transition w i asking) z
     asks_kept = (
@@ -153,7 +156,7 @@ module _ (p : List Stmt) (limit : ℕ) (w : World) (z : State) (parts : PartsIn 
           (request_may p (here_at (records w.sites)) (eqs w.sites) (records w.sites) (at_put (threads w.sites) i waiting_now) (counters w.sites) w.mail z waits limit i c (w.sites i).equations v refl value c.site (last_before (w.sites i) c) (w.sites i).records.site new (cell_record (w.sites i) c).held))))))),
       record {
         queues = queues_put w.sites i _ x.queues (request_lists limit c new n st (w.sites i) elsewhere runs (x.queues i));
-        cells = request_cells limit w i c new n st z.cells v x.cells value number elsewhere;
+        cells = request_cells limit w i c new n st (mobile_cells z.cells) v x.cells (mobile_at z.cells c mobile ∙ value) number elsewhere;
         gets = gets_posts w.mail w.sent _ x.gets (λ to b a q. from_each (λ (to : ℕ) (m : Msg). (b : CellName) (a : ℕ) → m ≡ msg.Get b a → (to ≡ b.site) × (a ≢ b.site)) _ (get_home limit c asking.site.equations (last_before (w.sites i) c) (w.sites i).records.site new (cell_record (w.sites i) c).held) to (msg.Get b a) q b a refl);
         contents = contents_put w.sites i _ x.contents only.records (answers_here c _ (w.sites i) _ (request_answers limit c new n st (w.sites i)) (request_here c.site (last_before (w.sites i) c) (w.sites i).records.site new (cell_record (w.sites i) c).held elsewhere));
       },
@@ -163,4 +166,4 @@ module _ (p : List Stmt) (limit : ℕ) (w : World) (z : State) (parts : PartsIn 
         only = request_only limit c new n st (w.sites i)
 
         waits : PartsMatch p (here_at (records w.sites)) (eqs w.sites) (records w.sites) (at_put (threads w.sites) i waiting_now) (counters w.sites) w.mail z
-        waits = mode_parts p (here_at (records w.sites)) (eqs w.sites) (records w.sites) (threads w.sites) (counters w.sites) w.mail z parts i n st (WaitsFor c) runs exchange
+        waits = mode_parts p (here_at (records w.sites)) (eqs w.sites) (records w.sites) (threads w.sites) (counters w.sites) w.mail z parts i n st (WaitsFor (Cell c)) runs exchange

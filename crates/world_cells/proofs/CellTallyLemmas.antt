@@ -50,6 +50,11 @@ weighs_sum c (m ∷ ms) = let rest = weighs_sum c ms in let one = kinds m.msg in
     kinds (msg.Register x k) = refl
     kinds (msg.BindReq x n t bundle) = refl
     kinds (msg.Binding x t bundle) = refl
+    kinds (msg.PortSend q n k) = refl
+    kinds (msg.PortEnd n old new bundle) = refl
+    kinds (msg.CellMake c v bundle) = refl
+    kinds (msg.CellAsk c n k v bundle) = refl
+    kinds (msg.CellOld n v bundle) = refl
 
 -- the cell of a row
 pub tallied_here : (n : ℕ) (w : World) (i : ℕ) (d : Transition) (c : CellName) (r : Reply) (gone : List token.Mail) (mail : Mail) (out : List Sent) (x more : ℕ) → 1 ≤ i → i ≤ n → Answers c r (w.sites i) d → Came c gone mail w.mail →
@@ -80,7 +85,7 @@ tallied_other n f g mail more out sent b x u none t =
 pub record CellsTallied (n : ℕ) (f : Sites) (mail : Mail) (cells : List (CellName × VarName)) (out : List Sent) (exchanged : CellName → ℕ) : Type 0 where
   pub tallied : (c : CellName) (v : VarName) → value_of equal_cell cells c ≡ Some v → IsTallied n f mail out c (exchanged c)
   pub unmade : (c : CellName) → value_of equal_cell cells c ≡ None → (g k u : ℕ) → cell_weights c g k u out ≡ 0
-  pub still : (c : CellName) → value_of equal_cell cells c ≡ None → exchanged c ≡ 0
+  pub still : (c : CellName) → c.at ≡ 0 → value_of equal_cell cells c ≡ None → exchanged c ≡ 0
 
 pub few_messages : (n : ℕ) (f : Sites) (mail : Mail) (cells : List (CellName × VarName)) (out : List Sent) (exchanged : CellName → ℕ) → 1 ≤ n → CellsTallied n f mail cells out exchanged → (c : CellName) → cell_weights c 1 1 1 out ≤ 3 * (exchanged c + n)
 few_messages n f mail cells out exchanged some t c = go (value_of equal_cell cells c) refl
@@ -96,7 +101,7 @@ pub tallied_row : (n : ℕ) (f g : Sites) (mail more : Mail) (cells to : List (C
 tallied_row n f g mail more cells to out sent x y c others values silent counts v value here t = record {
   tallied = λ b u e. made b u e (cell_cases b c);
   unmade = λ b e k l u. unmade b e k l u (cell_cases b c);
-  still = λ b e. still b e (cell_cases b c);
+  still = λ b z e. still b z e (cell_cases b c);
 }
   where
     made : (b : CellName) (u : VarName) → value_of equal_cell to b ≡ Some u → (b ≡ c) ⊎ (b ≢ c) → IsTallied n g more (out ++ sent) b (y b)
@@ -110,9 +115,9 @@ tallied_row n f g mail more cells to out sent x y c others values silent counts 
         let old = t.unmade b (sym (values b h) ∙ e) k l u in
         let new = silent b h k l u in omega arith
 
-    still : (b : CellName) → value_of equal_cell to b ≡ None → (b ≡ c) ⊎ (b ≢ c) → y b ≡ 0
-    still b e (inl h) = absurd (not_both (value_of equal_cell to c) v value (ap (value_of equal_cell to) (sym h) ∙ e))
-    still b e (inr h) = counts b h ∙ t.still b (sym (values b h) ∙ e)
+    still : (b : CellName) → b.at ≡ 0 → value_of equal_cell to b ≡ None → (b ≡ c) ⊎ (b ≢ c) → y b ≡ 0
+    still b z e (inl h) = absurd (not_both (value_of equal_cell to c) v value (ap (value_of equal_cell to) (sym h) ∙ e))
+    still b z e (inr h) = counts b h ∙ t.still b z (sym (values b h) ∙ e)
 
 -- a row that has to do with none
 pub tallied_still : (n : ℕ) (f g : Sites) (mail more : Mail) (cells : List (CellName × VarName)) (out sent : List Sent) (x : CellName → ℕ) → ((b : CellName) → Untouched f g mail more b) → ((b : CellName) (k l u : ℕ) → cell_weights b k l u sent ≡ 0) →

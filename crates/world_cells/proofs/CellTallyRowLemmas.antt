@@ -45,6 +45,7 @@ use Rattle.world_cells.proofs.UnitCellRowLemmas.{IsReachable, IsOwnCell}
 use Rattle.world_cells.proofs.CellTallyLemmas.{CellsTallied, row_tally, tallied_row, tallied_still, weighs_append}
 use Rattle.world_cells.proofs.PutRowLemmas.{PutRow}
 use Rattle.oz_model.proofs.KindLemmas.{cell_same, cells_differ}
+use Rattle.world_model.specs.Chain.{mobile_cells}
 
 same_count : (x : CellName → ℕ) (c : CellName) → x c ≡ x c + 0
 same_count x c = omega arith
@@ -54,32 +55,32 @@ abbrev pub exchanges_of : CellChange → CellName → ℕ
 exchanges_of (Exchanged c new told) b = cond (equal_cell c b) 1 0
 exchanges_of _ b = 0
 
-module _ (n : ℕ) (w : World) (z : State) (x : CellsMatch w z) (out : List Sent) (count : CellName → ℕ) (t : CellsTallied n w.sites w.mail z.cells out count) where
+module _ (n : ℕ) (w : World) (z : State) (x : CellsMatch w z) (out : List Sent) (count : CellName → ℕ) (t : CellsTallied n w.sites w.mail (mobile_cells z.cells) out count) where
   -- an outstanding request has a thread that waits
-  wants : (c : CellName) (v : VarName) → value_of equal_cell z.cells c ≡ Some v → (i : ℕ) → (held w.sites c i).token ≡ Asked → 1 ≤ (held w.sites c i).waiting
+  wants : (c : CellName) (v : VarName) → value_of equal_cell (mobile_cells z.cells) c ≡ Some v → (i : ℕ) → (held w.sites c i).token ≡ Asked → 1 ≤ (held w.sites c i).waiting
   wants c v e i h = (t.tallied c v e).wanted i h
 
   abbrev Then : World → List Sent → List (CellName × VarName) → (CellName → ℕ) → Type 0
   Then v sent cells y = CellsTallied n v.sites v.mail cells (out ++ sent) y
 
   pub get_tally : (limit k i : ℕ) (c : CellName) (asker : ℕ) → 1 ≤ i → i ≤ n → 1 ≤ asker → asker ≤ n → IsOnItsWay w.mail k i (msg.Get c asker) → OneOfNumber w.mail k (sent_to i (msg.Get c asker)) → (w.sites i).records.site ≡ i →
-      Then (after_transition (after_receipt (Some k) w) i (get_row limit c asker (w.sites i))) (get_row limit c asker (w.sites i)).sent z.cells count
+      Then (after_transition (after_receipt (Some k) w) i (get_row limit c asker (w.sites i))) (get_row limit c asker (w.sites i)).sent (mobile_cells z.cells) count
   get_tally limit k i c asker low high alow ahigh h one number =
       let at = (x.gets k i c asker h).0 in
       let a = get_arrives w k i c asker h one at in
-      let f = cell_there w.sites w.mail z.cells c (Get asker) x.cells (arrives_there w k i _ c (Get asker) a) in
+      let f = cell_there w.sites w.mail (mobile_cells z.cells) c (Get asker) x.cells (arrives_there w k i _ c (Get asker) a) in
       let answers = get_answers limit c asker (w.sites i) f.2.0 i number (subst (λ (y : ℕ). last_asker (w.sites y) c ≡ Some f.2.0) (sym at) f.2.1) in
-      row_tally n (after_receipt (Some k) w) w.mail i (get_row limit c asker (w.sites i)) c _ (Get asker ∷ []) z.cells z.cells out count count 0 low high answers (get_manages limit c asker (w.sites i)).others
+      row_tally n (after_receipt (Some k) w) w.mail i (get_row limit c asker (w.sites i)) c _ (Get asker ∷ []) (mobile_cells z.cells) (mobile_cells z.cells) out count count 0 low high answers (get_manages limit c asker (w.sites i)).others
       (arrives_here w k i _ c (Get asker) f.0 a f.2) (arrives_other w k i _ c (Get asker) a) (λ b d. refl) (λ b d. refl) (same_count count c)
       (subst (λ (y : ℕ). IsPaid (held w.sites c i) (get_reply i f.2.0 asker (held w.sites c i)) y 0) (sym (one_came n asker alow ahigh)) (rows_pay.get i f.2.0 asker (held w.sites c i) (wants c f.0 f.1 i)))
       f.0 f.1 (t.tallied c f.0 f.1) t
 
   pub forward_tally : (limit k i : ℕ) (c : CellName) (next : ℕ) → 1 ≤ i → i ≤ n → IsOnItsWay w.mail k i (msg.Forward c next) → OneOfNumber w.mail k (sent_to i (msg.Forward c next)) →
-      Then (after_transition (after_receipt (Some k) w) i (forward_row limit c next (w.sites i))) (forward_row limit c next (w.sites i)).sent z.cells count
+      Then (after_transition (after_receipt (Some k) w) i (forward_row limit c next (w.sites i))) (forward_row limit c next (w.sites i)).sent (mobile_cells z.cells) count
   forward_tally limit k i c next low high h one =
       let a = forward_arrives w k i c next h one in
-      let f = cell_there w.sites w.mail z.cells c (Forward i next) x.cells (arrives_there w k i _ c (Forward i next) a) in
-      row_tally n (after_receipt (Some k) w) w.mail i (forward_row limit c next (w.sites i)) c (forward_reply (held w.sites c i) next) (Forward i next ∷ []) z.cells z.cells out count count 0 low high (forward_answers limit c next (w.sites i))
+      let f = cell_there w.sites w.mail (mobile_cells z.cells) c (Forward i next) x.cells (arrives_there w k i _ c (Forward i next) a) in
+      row_tally n (after_receipt (Some k) w) w.mail i (forward_row limit c next (w.sites i)) c (forward_reply (held w.sites c i) next) (Forward i next ∷ []) (mobile_cells z.cells) (mobile_cells z.cells) out count count 0 low high (forward_answers limit c next (w.sites i))
       (λ b d. refl)
       (arrives_here w k i _ c (Forward i next) f.0 a f.2) (arrives_other w k i _ c (Forward i next) a) (λ b d. refl) (λ b d. refl) (same_count count c)
       (forward_pays (held w.sites c i) next _ (wants c f.0 f.1 i))
@@ -88,14 +89,14 @@ module _ (n : ℕ) (w : World) (z : State) (x : CellsMatch w z) (out : List Sent
   -- a Put comes, and all that wait exchange
   pub put_tally : (p : List Stmt) (limit k i : ℕ) (c : CellName) (v : VarName) (bundle : List Equation) (q : PutRow p limit w z k i c v (after_transition (after_receipt (Some k) w) i (put_row p limit c v (w.sites i)))) → 1 ≤ i → i ≤ n →
       IsOnItsWay w.mail k i (msg.Put c v bundle) → OneOfNumber w.mail k (sent_to i (msg.Put c v bundle)) →
-      Then (after_transition (after_receipt (Some k) w) i (put_row p limit c v (w.sites i))) (put_row p limit c v (w.sites i)).sent q.state.cells (λ b. count b + length (exchanges_from p b z (put_row p limit c v (w.sites i)).picks))
+      Then (after_transition (after_receipt (Some k) w) i (put_row p limit c v (w.sites i))) (put_row p limit c v (w.sites i)).sent (mobile_cells q.state.cells) (λ b. count b + length (exchanges_from p b z (put_row p limit c v (w.sites i)).picks))
   put_tally p limit k i c v bundle q low high h one =
       let a = put_arrives w k i c v bundle h one in
       let there = arrives_there w k i _ c (Put i v) a in
-      let f = cell_there w.sites w.mail z.cells c (Put i v) x.cells there in
+      let f = cell_there w.sites w.mail (mobile_cells z.cells) c (Put i v) x.cells there in
       let asked : (held w.sites c i).token ≡ Asked = (messages_can_come f.2.0 _ _ f.0 f.2.2 (Put i v) there).1.0 in
       let some : 1 ≤ length (cell_record (w.sites i) c).queue = subst (λ (y : ℕ). 1 ≤ y) (x.queues i c).long (wants c f.0 f.1 i asked) in
-      row_tally n (after_receipt (Some k) w) w.mail i (put_row p limit c v (w.sites i)) c (put_reply (held w.sites c i) q.content) (Put i v ∷ []) z.cells q.state.cells out count _ (length (cell_record (w.sites i) c).queue) low high q.answers
+      row_tally n (after_receipt (Some k) w) w.mail i (put_row p limit c v (w.sites i)) c (put_reply (held w.sites c i) q.content) (Put i v ∷ []) (mobile_cells z.cells) (mobile_cells q.state.cells) out count _ (length (cell_record (w.sites i) c).queue) low high q.answers
       (λ b d. ap (lookup (equal_cell b)) q.managers)
       (arrives_here w k i _ c (Put i v) f.0 a f.2) (arrives_other w k i _ c (Put i v) a) q.values (λ b d. none_more (count b) _ (q.apart b d)) (ap (λ (y : ℕ). count c + y) q.exchanged)
       (pays_came (held w.sites c i) _ _ _ (put_pays (held w.sites c i) q.content (length (cell_record (w.sites i) c).queue) asked some))
@@ -105,7 +106,7 @@ module _ (n : ℕ) (w : World) (z : State) (x : CellsMatch w z) (out : List Sent
       none_more a es e = let l = ap length e in omega arith
 
   -- the token is elsewhere
-  module _ (limit i : ℕ) (c : CellName) (new : VarName) (th : ThreadName) (st : Stack) (v : VarName) (low : 1 ≤ i) (high : i ≤ n) (value : value_of equal_cell z.cells c ≡ Some v) (number : (w.sites i).records.site ≡ i) where
+  module _ (limit i : ℕ) (c : CellName) (new : VarName) (th : ThreadName) (st : Stack) (v : VarName) (low : 1 ≤ i) (high : i ≤ n) (value : value_of equal_cell (mobile_cells z.cells) c ≡ Some v) (number : (w.sites i).records.site ≡ i) where
     abbrev asking : Transition
     asking = request_row limit c new th st (w.sites i)
 
@@ -141,14 +142,14 @@ module _ (n : ℕ) (w : World) (z : State) (x : CellsMatch w z) (out : List Sent
     pays : ((u : VarName) → (cell_record (w.sites i) c).held.token ≢ Here u) → IsPaid (held w.sites c i) reply 0 0
     pays elsewhere = pays_at (cell_record (w.sites i) c).held.token (cell_record (w.sites i) c).held.next (cell_record (w.sites i) c).held.waiting apart elsewhere
 
-    pub asks_tally : ((u : VarName) → (cell_record (w.sites i) c).held.token ≢ Here u) → Then (after_transition w i asking) asking.sent z.cells count
-    asks_tally elsewhere = row_tally n w w.mail i asking c reply [] z.cells z.cells out count count 0 low high (request_answers limit c new th st (w.sites i)) (request_others limit c new th st (w.sites i))
+    pub asks_tally : ((u : VarName) → (cell_record (w.sites i) c).held.token ≢ Here u) → Then (after_transition w i asking) asking.sent (mobile_cells z.cells) count
+    asks_tally elsewhere = row_tally n w w.mail i asking c reply [] (mobile_cells z.cells) (mobile_cells z.cells) out count count 0 low high (request_answers limit c new th st (w.sites i)) (request_others limit c new th st (w.sites i))
         (none_came c w.mail) (λ b d m. refl) (λ b d. refl) (λ b d. refl) (same_count count c)
         (pays_came (held w.sites c i) reply _ 0 (pays elsewhere)) v value (t.tallied c v value) t
 
   -- a row that has nothing to do with cells
-  pub nothing_tally : (i : ℕ) (d : Transition) → NoCells (w.sites i) d → Then (after_transition w i d) d.sent z.cells count
-  nothing_tally i d q = tallied_still n w.sites (after_transition w i d).sites w.mail (after_transition w i d).mail z.cells out d.sent count
+  pub nothing_tally : (i : ℕ) (d : Transition) → NoCells (w.sites i) d → Then (after_transition w i d) d.sent (mobile_cells z.cells) count
+  nothing_tally i d q = tallied_still n w.sites (after_transition w i d).sites w.mail (after_transition w i d).mail (mobile_cells z.cells) out d.sent count
       (λ b. others_stay w i d b w.mail (ap (λ (qs : List (CellName × CellRecord)). cell_record_in qs b) q.cell_records) (ap (lookup (equal_cell b)) q.managers) (λ m. silent_list b d.sent q.silent m) (λ m. refl)) (λ b g l u. weightless b g l u d.sent q.silent) t
 
   -- a step of a thread
@@ -156,11 +157,11 @@ module _ (n : ℕ) (w : World) (z : State) (x : CellsMatch w z) (out : List Sent
     abbrev unit_deed : Transition
     unit_deed = step_row p n limit k kinds e (w.sites i)
 
-    more_none : (y : CellName → ℕ) → CellsTallied n (after_transition w i unit_deed).sites (after_transition w i unit_deed).mail z.cells (out ++ unit_deed.sent) y → CellsTallied n (after_transition w i unit_deed).sites (after_transition w i unit_deed).mail z.cells (out ++ unit_deed.sent) (λ b. y b + 0)
+    more_none : (y : CellName → ℕ) → CellsTallied n (after_transition w i unit_deed).sites (after_transition w i unit_deed).mail (mobile_cells z.cells) (out ++ unit_deed.sent) y → CellsTallied n (after_transition w i unit_deed).sites (after_transition w i unit_deed).mail (mobile_cells z.cells) (out ++ unit_deed.sent) (λ b. y b + 0)
     more_none y h = record {
       tallied = λ b u q. subst (λ (a : ℕ). IsTallied n (after_transition w i unit_deed).sites (after_transition w i unit_deed).mail (out ++ unit_deed.sent) b a) (same_count y b) (h.tallied b u q);
       unmade = h.unmade;
-      still = λ b q. let zero = h.still b q in omega arith;
+      still = λ b m q. let zero = h.still b m q in omega arith;
     }
 
     other_count : (a : ℕ) (b : Bool) → b ≡ false → a + cond b 1 0 ≡ a
@@ -171,25 +172,25 @@ module _ (n : ℕ) (w : World) (z : State) (x : CellsMatch w z) (out : List Sent
     one_count a true e = refl
     one_count a false e = cc
 
-    unit_go : (c : CellChange) → e.cell ≡ c → FindsCell z.cells c → IsReachable (w.sites i) c → IsOwnCell i c → Then (after_transition w i unit_deed) unit_deed.sent (cells_after z.cells c) (λ b. count b + exchanges_of c b)
+    unit_go : (c : CellChange) → e.cell ≡ c → FindsCell (mobile_cells z.cells) c → IsReachable (w.sites i) c → IsOwnCell i c → Then (after_transition w i unit_deed) unit_deed.sent (cells_after (mobile_cells z.cells) c) (λ b. count b + exchanges_of c b)
     unit_go Stays is f r o = more_none count (nothing_tally i unit_deed (stays_nothing p n limit k kinds e (w.sites i) is))
     unit_go (Made c v) is f r o =
         let a = made_answers p n limit k kinds e (w.sites i) c v is in
         let m = made_manages p n limit k kinds e (w.sites i) c v is in
         let nowhere = x.cells.others c f in
         let tallied = making_tallies n (held w.sites c) (held (after_transition w i unit_deed).sites c) (tally c w.mail) (tally c (after_transition w i unit_deed).mail) i v low high nowhere.away nowhere.quiet (lifts w i unit_deed c _ [] w.mail a (none_came c w.mail)) in
-        tallied_row n w.sites (after_transition w i unit_deed).sites w.mail (after_transition w i unit_deed).mail z.cells ((c, v) ∷ z.cells) out unit_deed.sent count (λ b. count b + 0) c
+        tallied_row n w.sites (after_transition w i unit_deed).sites w.mail (after_transition w i unit_deed).mail (mobile_cells z.cells) ((c, v) ∷ (mobile_cells z.cells)) out unit_deed.sent count (λ b. count b + 0) c
         (λ b d. others_stay w i unit_deed b w.mail (a.others b d) (m.others b d) (a.silent b d) (λ m. refl))
         (λ b d. rw (cells_differ c b (λ q. d (sym q))) refl) a.no_kinds (λ b d. sym (same_count count b)) v (rw (cell_same c) refl)
-        (rw (kind c (t.unmade c f) a.kinds 1 0 0, kind c (t.unmade c f) a.kinds 0 1 0, kind c (t.unmade c f) a.kinds 0 0 1, t.still c f) tallied) t
+        (rw (kind c (t.unmade c f) a.kinds 1 0 0, kind c (t.unmade c f) a.kinds 0 1 0, kind c (t.unmade c f) a.kinds 0 0 1, t.still c r f) tallied) t
       where
         kind : (c : CellName) → ((g l u : ℕ) → cell_weights c g l u out ≡ 0) → ((g l u : ℕ) → cell_weights c g l u unit_deed.sent ≡ 0) → (g l u : ℕ) → cell_weights c g l u (out ++ unit_deed.sent) ≡ 0
         kind c old new g l u = let sum = weighs_append c g l u out unit_deed.sent in let a = old g l u in let b = new g l u in omega arith
     unit_go (Exchanged c new told) is f r o =
-        row_tally n w w.mail i unit_deed c (reply_without_mail (record (cell_record (w.sites i) c).held { token = Here new })) [] z.cells (with_value equal_cell z.cells c new) out count (λ b. count b + cond (equal_cell c b) 1 0) 1 low high (exchanged_answers p n limit k kinds e (w.sites i) c new told is)
+        row_tally n w w.mail i unit_deed c (reply_without_mail (record (cell_record (w.sites i) c).held { token = Here new })) [] (mobile_cells z.cells) (with_value equal_cell (mobile_cells z.cells) c new) out count (λ b. count b + cond (equal_cell c b) 1 0) 1 low high (exchanged_answers p n limit k kinds e (w.sites i) c new told is)
         (λ b d. ap (lookup (equal_cell b)) (exchanged_managers p n limit k kinds e (w.sites i) c new told is)) (none_came c w.mail) (λ b d m. refl)
-        (λ b d. put_there z.cells c b new (cells_differ c b (λ q. d (sym q)))) (λ b d. other_count (count b) (equal_cell c b) (cells_differ c b (λ q. d (sym q)))) (one_count (count c) (equal_cell c c) (cell_same c))
-        (pays_came (held w.sites c i) _ _ 1 (exchange_pays (held w.sites c i) r.0 new r.1)) new (put_here z.cells c f.0 new f.1) (t.tallied c f.0 f.1) t
+        (λ b d. put_there (mobile_cells z.cells) c b new (cells_differ c b (λ q. d (sym q)))) (λ b d. other_count (count b) (equal_cell c b) (cells_differ c b (λ q. d (sym q)))) (one_count (count c) (equal_cell c c) (cell_same c))
+        (pays_came (held w.sites c i) _ _ 1 (exchange_pays (held w.sites c i) r.0 new r.1)) new (put_here (mobile_cells z.cells) c f.0 new f.1) (t.tallied c f.0 f.1) t
 
-    pub unit_tally : FindsCell z.cells e.cell → IsReachable (w.sites i) e.cell → IsOwnCell i e.cell → Then (after_transition w i unit_deed) unit_deed.sent (cells_after z.cells e.cell) (λ b. count b + exchanges_of e.cell b)
+    pub unit_tally : FindsCell (mobile_cells z.cells) e.cell → IsReachable (w.sites i) e.cell → IsOwnCell i e.cell → Then (after_transition w i unit_deed) unit_deed.sent (cells_after (mobile_cells z.cells) e.cell) (λ b. count b + exchanges_of e.cell b)
     unit_tally finds reach own = unit_go e.cell refl finds reach own

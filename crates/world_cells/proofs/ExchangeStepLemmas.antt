@@ -29,8 +29,8 @@ use Rattle.oz_model.specs.declared.outcome.SystemException.TheVariants.{FailureT
 use Rattle.oz_model.specs.Outcome.{outcome_of, print_outcome}
 use Rattle.oz_model.specs.Answers.{IsPartOf}
 use Rattle.oz_model.specs.Need.{Need, Takes, stack_need, IsReady, kinds_of}
-use Rattle.oz_model.specs.Effect.{CellChange, Exchanged, Effect, stack_effect, outcome_effect, pair_effect, goal_effect, exception_effect, vars_among, tell_item}
-use Rattle.oz_model.specs.Step.{IsAllowed, IsBindFor, stack_of, need_of, effect_of, content_of, state_after, next, Step}
+use Rattle.oz_model.specs.Effect.{Keeps, CellChange, Exchanged, Effect, stack_effect, outcome_effect, pair_effect, goal_effect, exception_effect, vars_among, tell_item}
+use Rattle.oz_model.specs.Step.{AreOfKinds, IsAllowed, IsBindFor, stack_of, need_of, effect_of, content_of, state_after, next, Step}
 use Rattle.oz_model.specs.Laws.{FindsCell}
 use Rattle.oz_model.specs.Run.{Run as ModelRun}
 use Rattle.oz_model.proofs.CellLemmas.{steps_find_cells}
@@ -43,7 +43,7 @@ use Rattle.world_model.specs.Matches.{IsExchange}
 -- ---- an effect that exchanges a cell does nothing else
 
 abbrev IsAlone : Effect → Type 0
-IsAlone e = (c : CellName) (new told : VarName) → e.cell ≡ Exchanged c new told → e ≡ record { adds = []; stack = e.stack; line = None; born = None; cell = Exchanged c new told }
+IsAlone e = (c : CellName) (new told : VarName) → e.cell ≡ Exchanged c new told → e ≡ record { adds = []; stack = e.stack; line = None; born = None; cell = Exchanged c new told; port = Keeps }
 
 fails_alone : (x : SystemException) (rest : Stack) (xs : List VarName) → IsAlone (exception_effect x rest xs)
 fails_alone x rest [] c new told e = cc
@@ -52,9 +52,11 @@ fails_alone x rest (a ∷ b ∷ []) c new told e = cc
 fails_alone x rest (a ∷ b ∷ y ∷ ys) c new told e = cc
 
 outcome_alone : (p : List Stmt) (env : Env) (rest : Stack) (fresh : List Name) (o : Outcome) → IsAlone (outcome_effect p env rest fresh o)
-outcome_alone p env rest fresh (outcome.Exchanges cell n t) c new told e = ap (λ (x : CellChange). record { adds = []; stack = rest; line = None; born = None; cell = x }) e
+outcome_alone p env rest fresh (outcome.Exchanges cell n t) c new told e = ap (λ (x : CellChange). record { adds = []; stack = rest; line = None; born = None; cell = x; port = Keeps }) e
 outcome_alone p env rest fresh (outcome.Fails exception) c new told e = fails_alone exception rest (vars_among fresh) c new told e
-outcome_alone p env rest fresh (outcome.MakesCell content t) c new told e = cc
+outcome_alone p env rest fresh (outcome.MakesCell at content t) c new told e = cc
+outcome_alone p env rest fresh (outcome.MakesPort stream t) c new told e = cc
+outcome_alone p env rest fresh (outcome.Sends port value) c new told e = cc
 outcome_alone p env rest fresh (outcome.Waits x) c new told e = cc
 outcome_alone p env rest fresh (outcome.WaitsAny left right) c new told e = cc
 outcome_alone p env rest fresh (outcome.Runs codes) c new told e = cc
@@ -73,7 +75,7 @@ pair_alone a b pairs met rest fresh bind (Opened m n fields) c new told e = cc
 pair_alone a b pairs met rest fresh bind Failed c new told e = fails_alone FailureTell rest (vars_among fresh) c new told e
 
 pub exchange_alone : (p : List Stmt) (s : Store) (fresh : List Name) (bind : Option Equation) (st : Stack) (c : CellName) (new told : VarName) → (stack_effect p s fresh bind st).cell ≡ Exchanged c new told →
-    stack_effect p s fresh bind st ≡ record { adds = []; stack = (stack_effect p s fresh bind st).stack; line = None; born = None; cell = Exchanged c new told }
+    stack_effect p s fresh bind st ≡ record { adds = []; stack = (stack_effect p s fresh bind st).stack; line = None; born = None; cell = Exchanged c new told; port = Keeps }
 exchange_alone p s fresh bind [] c new told e = cc
 exchange_alone p s fresh bind (Run code env ∷ rest) c new told e = outcome_alone p env rest fresh (outcome_of p s code env (stmt_at p code)) c new told e
 exchange_alone p s fresh bind (Mark code at env ∷ rest) c new told e = cc
@@ -97,6 +99,7 @@ pub record Exchanges (p : List Stmt) (z : State) (n : ThreadName) (c : CellName)
   pub step : Step p z (plain_pick n) t
   pub equations : t.equations ≡ z.equations
   pub cells : t.cells ≡ with_value equal_cell z.cells c new
+  pub ports : t.ports ≡ z.ports
   pub threads : t.threads ≡ with_value equal_thread z.threads n stack
   pub ended : t.ended ≡ z.ended
   pub lines : t.lines ≡ z.lines
@@ -112,6 +115,7 @@ exchange_steps p s z n st c v (new, told, need, is) sound more lives value = (
     step = (allowed, refl);
     equations = ap (λ (t : State). t.equations) all;
     cells = ap (λ (t : State). t.cells) all;
+    ports = ap (λ (t : State). t.ports) all;
     threads = ap (λ (t : State). t.threads) all ∙ ap (λ (o : VarName). with_value equal_thread z.threads n (stack_left p s st told o)) content;
     ended = ap (λ (t : State). t.ended) all ∙ omega arith;
     lines = ap (λ (t : State). t.lines) all ∙ append-nil z.lines;
@@ -136,14 +140,14 @@ exchange_steps p s z n st c v (new, told, need, is) sound more lives value = (
     allowed = record {
       lives = subst (λ (o : Option Stack). IsSome o) (sym lives) refl;
       ready = subst (λ (d : Need). IsReady d) (sym need_is) tt;
-      fresh = record { of_kinds = ap kinds_of (sym need_is); distinct = tt; unused = tt };
+      fresh = record { of_kinds = subst (λ (d : Need). AreOfKinds [] (kinds_of d)) (sym need_is) tt; distinct = tt; unused = tt };
       bind = subst (λ (d : Need). IsBindFor z.equations d None) (sym need_is) tt;
     }
 
-    effect_is : effect_of p z (record { thread = n; fresh = []; bind = None }) ≡ record { adds = []; stack = (stack_effect p s [] None st).stack; line = None; born = None; cell = Exchanged c new told }
+    effect_is : effect_of p z (record { thread = n; fresh = []; bind = None }) ≡ record { adds = []; stack = (stack_effect p s [] None st).stack; line = None; born = None; cell = Exchanged c new told; port = Keeps }
     effect_is = ap (λ (q : Stack). stack_effect p z.equations [] None q) stack_is ∙ sym (kept.1 [] None) ∙ exchange_alone p s [] None st c new told is
 
-    all : next p z (record { thread = n; fresh = []; bind = None }) ≡ state_after p z n (record { adds = []; stack = (stack_effect p s [] None st).stack; line = None; born = None; cell = Exchanged c new told })
+    all : next p z (record { thread = n; fresh = []; bind = None }) ≡ state_after p z n (record { adds = []; stack = (stack_effect p s [] None st).stack; line = None; born = None; cell = Exchanged c new told; port = Keeps })
     all = ap (state_after p z n) effect_is
 
     content : content_of z.cells c ≡ v
@@ -167,7 +171,7 @@ exchange_found p s z ks n st c (new, told, need, is) run sound more lives = subs
     allowed = record {
       lives = subst (λ (o : Option Stack). IsSome o) (sym lives) refl;
       ready = subst (λ (d : Need). IsReady d) (sym need_is) tt;
-      fresh = record { of_kinds = ap kinds_of (sym need_is); distinct = tt; unused = tt };
+      fresh = record { of_kinds = subst (λ (d : Need). AreOfKinds [] (kinds_of d)) (sym need_is) tt; distinct = tt; unused = tt };
       bind = subst (λ (d : Need). IsBindFor z.equations d None) (sym need_is) tt;
     }
 
@@ -178,7 +182,7 @@ exchange_found p s z ks n st c (new, told, need, is) run sound more lives = subs
 
 -- a machine of one thread
 abbrev alone : Store → Stack → State
-alone s st = record { equations = s; cells = []; threads = (record { site = 0; num = 0 }, st) ∷ []; ended = 0; lines = [] }
+alone s st = record { equations = s; cells = []; ports = []; threads = (record { site = 0; num = 0 }, st) ∷ []; ended = 0; lines = [] }
 
 -- what was here stays here
 pub exchange_home : (p : List Stmt) (P : Name → Type 0) → P (name.Var (record { site = 0; num = 0 })) → P (name.Thread (record { site = 0; num = 0 })) → (s : Store) (st : Stack) (c : CellName) (v : VarName) (x : IsExchange p s st c) → Each (EachOfEquation P) s → EachOfStack P st → P (name.Var v) →
@@ -192,12 +196,12 @@ exchange_home p P nobody thread s st c v (new, told, need, is) eqs home here = (
     allowed = record {
       lives = refl;
       ready = subst (λ (d : Need). IsReady d) (sym need) tt;
-      fresh = record { of_kinds = ap kinds_of (sym need); distinct = tt; unused = tt };
+      fresh = record { of_kinds = subst (λ (d : Need). AreOfKinds [] (kinds_of d)) (sym need) tt; distinct = tt; unused = tt };
       bind = subst (λ (d : Need). IsBindFor s d None) (sym need) tt;
     }
 
     names : EachOfEffect P (stack_effect p s [] None st)
-    names = effect_names P nobody p (alone s st) (plain_pick (record { site = 0; num = 0 })) (eqs, tt, ((thread, home), tt)) tt allowed
+    names = effect_names P nobody p (alone s st) (plain_pick (record { site = 0; num = 0 })) (eqs, tt, tt, ((thread, home), tt)) tt allowed
 
     change : EachOfChange P (Exchanged c new told)
     change = subst (λ (y : CellChange). EachOfChange P y) is names.cell

@@ -58,6 +58,11 @@ weightless c g f u (m ∷ ms) h =
     nothing_said (msg.Get d k) h = absurd h
     nothing_said (msg.Forward d k) h = absurd h
     nothing_said (msg.Put d v bundle) h = absurd h
+    nothing_said (msg.PortSend q n k) h = refl
+    nothing_said (msg.PortEnd n old new bundle) h = refl
+    nothing_said (msg.CellMake c v bundle) h = refl
+    nothing_said (msg.CellAsk c n k v bundle) h = refl
+    nothing_said (msg.CellOld n v bundle) h = refl
 
 pub none_append : (ms os : List Sent) → AreOfNone ms → AreOfNone os → AreOfNone (ms ++ os)
 none_append [] os h k = k
@@ -94,6 +99,11 @@ filled_none limit s m h = go m.msg h
     go (msg.Get c k) h = h
     go (msg.Forward c k) h = h
     go (msg.Put c v bundle) h = h
+    go (msg.PortSend q n k) h = tt
+    go (msg.PortEnd n old new bundle) h = tt
+    go (msg.CellMake c v bundle) h = tt
+    go (msg.CellAsk c n k v bundle) h = tt
+    go (msg.CellOld n v bundle) h = tt
 
 all_filled_none : (limit : ℕ) (s : Store) (ms : List Sent) → AreOfNone ms → AreOfNone (with_own_bundles limit s ms)
 all_filled_none limit s [] h = tt

@@ -3,10 +3,8 @@ pub mod CellRowLemmas
 pub mod CellTallyLemmas
 pub mod CellTallyRowLemmas
 pub mod ChainLemmas
-pub mod EndLemmas
 pub mod ExchangeStepLemmas
 pub mod FrameLemmas
-pub mod JournalLemmas
 pub mod MessageLemmas
 pub mod MessageTallyLemmas
 pub mod PutRowLemmas
@@ -14,10 +12,9 @@ pub mod QueueLemmas
 pub mod ReplyLemmas
 pub mod SendLemmas
 pub mod ServeAllLemmas
+pub mod RowLemmas
 pub mod ServeLemmas
-pub mod SimulatedLemmas
 pub mod TallyLemmas
-pub mod TurnLemmas
 pub mod UnitCellLemmas
 pub mod UnitCellRowLemmas
 pub mod UnitLemmas

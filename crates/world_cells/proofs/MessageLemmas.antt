@@ -11,6 +11,7 @@ use Rattle.tree_node.specs.declared.node.Term.{Term}
 use Rattle.tree_node.specs.declared.pick.Pick.{Pick}
 use Rattle.tree_node.specs.Assoc.{value_of}
 use Rattle.tree_node.specs.Each.{Each, AreDistinct}
+use Rattle.tree_node.specs.Goal.{equal_cell}
 use Rattle.tree_node.specs.State.{Stack, State, equal_thread}
 use Rattle.tree_node.specs.Store.{Store, Equation}
 use Rattle.kernel_syntax.specs.declared.stmt.Stmt.{Stmt}
@@ -18,18 +19,18 @@ use Rattle.site_message.specs.declared.message.Msg.{Msg}
 use Rattle.site_message.specs.declared.message.Msg.TheVariants as msg
 use Rattle.oz_model.specs.Need as need
 use Rattle.oz_model.specs.Need.{Need, stack_need}
-use Rattle.oz_model.specs.Effect.{Effect, Stays, stack_effect}
+use Rattle.oz_model.specs.Effect.{Keeps, Effect, Stays, stack_effect}
 use Rattle.oz_model.specs.Run.{IsRun, start}
 use Rattle.oz_model.specs.Step as Step
 use Rattle.oz_model.specs.Step.{Step, IsAllowed, IsBindFor, need_of, stack_of, effect_of, next, threads_born, end_count}
 use Rattle.oz_model.proofs.SoundLemmas.{runs_are_sound}
 use Rattle.bind_protocol.specs.Records.{Records, knowledge}
 use Rattle.thread_roster.specs.Binds.{goes_on}
-use Rattle.site_model.specs.Site.{Site, ThreadState, Threads, cell_record, runnable_threads}
+use Rattle.site_model.specs.Site.{Site, ThreadState, Threads, thread_state, cell_record, runnable_threads}
 use Rattle.site_model.specs.Bundle.{message_vars, message_bundle}
 use Rattle.site_model.specs.Transition.{Transition}
 use Rattle.site_model.specs.Variables.{with_known_equations, opening}
-use Rattle.site_model.specs.Cells.{get_row, forward_row, serving, put_row}
+use Rattle.site_model.specs.Cells.{get_row, forward_row, after_exchange, after_exchange_as, content_after_exchange, serving, put_row}
 use Rattle.site_model.specs.Messages.{reception, message_row, birth, bind_pick, bind_request_as, bind_request_row}
 use Rattle.world_model.specs.World.{World, IsOnItsWay, after_transition, after_receipt, mail_from, records, threads}
 use Rattle.world_variables.specs.Plain.{IsPlain}
@@ -52,9 +53,12 @@ use Rattle.world_cells.proofs.UnitQueueLemmas.{told_waiters, told_all_waiters, n
 use Rattle.world_cells.proofs.PutRowLemmas.{OneMessage, one_number, at_real_site, put_kept}
 use Rattle.world_cells.proofs.CellRowLemmas.{get_kept, forward_kept}
 use Rattle.world_cells.proofs.UnitCellRowLemmas.{nothing_match, same_match, gone_match}
-use Rattle.world_cells.proofs.UnitLemmas.{Reached}
+use Rattle.world_cells.proofs.UnitLemmas.{keeps_same, Reached}
 use Rattle.world_variables.specs.Laws.{IsForeignBinding, PartsIn}
 use Rattle.tree_node.proofs.NameLemmas.{same_thread_decides}
+use Rattle.world_cells.specs.Standing.{IsStanding}
+use Rattle.thread_roster.specs.declared.mode.Awaited.{Awaited}
+use Rattle.world_cells.specs.Reached.{ReachedFrom, KeepsAnswers}
 
 -- a bind changes no cell
 pub bind_stays : (p : List Stmt) (c : State) (k : Pick) (e : Equation) → IsAllowed p c k → k.fresh ≡ [] → k.bind ≡ Some e → (effect_of p c k).cell ≡ Stays
@@ -82,6 +86,31 @@ same_cells p c t ks (inr (n, x, u, is)) run = go (subst (λ (l : List Pick). IsR
         ap (λ (y : State). y.cells) (end ∙ step.1)
         ∙ ap (Step.cells_after c.cells) (bind_stays p c (bind_pick n x u) (x, u) step.0 refl refl)
 
+-- nor a port
+bind_keeps : (p : List Stmt) (c : State) (k : Pick) (e : Equation) → IsAllowed p c k → k.fresh ≡ [] → k.bind ≡ Some e → (effect_of p c k).port ≡ Keeps
+bind_keeps p c k e allowed none bound = go (need_of p c k.thread) refl (subst (λ (b : Option Equation). IsBindFor c.equations (need_of p c k.thread) b) bound allowed.bind)
+  where
+    go : (d : Need) → need_of p c k.thread ≡ d → IsBindFor c.equations d (Some e) → (effect_of p c k).port ≡ Keeps
+    go (need.Waits x) q h = absurd h
+    go (need.WaitsAny r) q h = absurd h
+    go (need.Takes kinds) q h = absurd h
+    go (need.Binds a b) q h =
+        ap (λ (l : List Name). (stack_effect p c.equations l k.bind (stack_of c k.thread)).port) none
+        ∙ ap (λ (b : Option Equation). (stack_effect p c.equations [] b (stack_of c k.thread)).port) bound
+        ∙ ap (λ (y : Effect). y.port) (bind_effect p c.equations (stack_of c k.thread) a b e q)
+
+pub same_kept : (p : List Stmt) (c t : State) (ks : List Pick) → PicksBind ks → IsRun p c ks t → KeepsAnswers c t
+same_kept p c t ks picks run = record { ports = ports picks; stationary = λ d far. ap (λ (cs : List (CellName × VarName)). value_of equal_cell cs d) (same_cells p c t ks picks run) }
+  where
+    ports : PicksBind ks → t.ports ≡ c.ports
+    ports (inl none) = ap (λ (y : State). y.ports) (subst (λ (l : List Pick). IsRun p c l t) none run)
+    ports (inr (n, x, u, is)) = go (subst (λ (l : List Pick). IsRun p c l t) is run)
+      where
+        go : (m : State) × Step p c (bind_pick n x u) m × (t ≡ m) → t.ports ≡ c.ports
+        go (m, step, end) =
+            ap (λ (y : State). y.ports) (end ∙ step.1)
+            ∙ ap (Step.ports_after c.ports) (bind_keeps p c (bind_pick n x u) (x, u) step.0 refl refl)
+
 -- nor prints a line, nor ends a thread
 needs_item : (p : List Stmt) (s : Store) (st : Stack) (a b : Term) → stack_need p s st ≡ need.Binds a b → end_count st ≡ 0
 needs_item p s [] a b e = cc
@@ -94,9 +123,9 @@ bind_told p c k e allowed none bound = go (need_of p c k.thread) refl (subst (λ
     go (need.Waits x) q h = absurd h
     go (need.WaitsAny r) q h = absurd h
     go (need.Takes kinds) q h = absurd h
-    go (need.Binds a b) q h = (ap (λ (y : Effect). c.lines ++ option_to_list y.line) effect ∙ append-nil c.lines, ap (λ (y : Effect). c.ended + end_count (Step.stack_with_content c.cells y.cell y.stack)) effect ∙ ap (λ (x : ℕ). c.ended + x) (needs_item p c.equations (stack_of c k.thread) a b q) ∙ omega arith)
+    go (need.Binds a b) q h = (ap (λ (y : Effect). c.lines ++ option_to_list y.line) effect ∙ append-nil c.lines, ap (λ (y : Effect). c.ended + end_count (Step.stack_left c y)) effect ∙ ap (λ (x : ℕ). c.ended + x) (needs_item p c.equations (stack_of c k.thread) a b q) ∙ omega arith)
       where
-        effect : effect_of p c k ≡ record { adds = e ∷ []; stack = stack_of c k.thread; line = None; born = None; cell = Stays }
+        effect : effect_of p c k ≡ record { adds = e ∷ []; stack = stack_of c k.thread; line = None; born = None; cell = Stays; port = Keeps }
         effect =
             ap (λ (l : List Name). stack_effect p c.equations l k.bind (stack_of c k.thread)) none
             ∙ ap (λ (b : Option Equation). stack_effect p c.equations [] b (stack_of c k.thread)) bound
@@ -132,6 +161,11 @@ module _ (p : List Stmt) (limit : ℕ) (w : World) (ks : List Pick) (r : Reached
       bundle (msg.Get c o) h = h
       bundle (msg.Forward c o) h = h
       bundle (msg.Put c v es) h = h
+      bundle (msg.PortSend q n o) h = tt
+      bundle (msg.PortEnd n old new es) h = h
+      bundle (msg.CellMake c v es) h = h
+      bundle (msg.CellAsk c n o v es) h = h
+      bundle (msg.CellOld n v es) h = h
 
   pub opened : Opened p w r.centre i m
   opened = opens_row p w r.centre k i m r.parts at has
@@ -163,18 +197,21 @@ module _ (p : List Stmt) (limit : ℕ) (w : World) (ks : List Pick) (r : Reached
 
   -- from the row on the opened world to the whole
   abbrev pub Whole : Type 0
-  Whole = Reached p (after_receipt (Some k) (after_transition w i (reception p limit m (w.sites i)))) (ks ++ (reception p limit m (w.sites i)).picks)
+  Whole = ReachedFrom p r.centre (after_receipt (Some k) (after_transition w i (reception p limit m (w.sites i)))) (ks ++ (reception p limit m (w.sites i)).picks)
 
   finish : (t : State) → IsRun p r.centre (message_row p limit m (v.sites i)).picks t → PartsIn p (here_at (records (after_transition (after_receipt (Some k) v) i (message_row p limit m (v.sites i))).sites)) (after_transition (after_receipt (Some k) v) i (message_row p limit m (v.sites i))) t →
-      CellsMatch (after_transition (after_receipt (Some k) v) i (message_row p limit m (v.sites i))) t → Summed (v.sites i) (message_row p limit m (v.sites i)) r.centre t → Whole
-  finish t run parts cells summed = subst (λ (u : World). Reached p u (ks ++ (reception p limit m (w.sites i)).picks)) (sym whole) (record {
-    centre = t;
-    run = runs_append p ks (reception p limit m (w.sites i)).picks (start p) r.centre t r.run (subst (λ (y : Site). IsRun p r.centre (message_row p limit m y).picks t) site_v run);
-    parts = subst (λ (y : Site). PartsIn p (here_at (records (after_transition (after_receipt (Some k) v) i (message_row p limit m y)).sites)) (after_transition (after_receipt (Some k) v) i (message_row p limit m y)) t) site_v parts;
-    numbers = numbers_end;
-    cells = subst (λ (y : Site). CellsMatch (after_transition (after_receipt (Some k) v) i (message_row p limit m y)) t) site_v cells;
-    sums = sums_row (after_receipt (Some k) v) i (message_row p limit m d.site) r.centre t (subst (λ (y : Site). Summed y (message_row p limit m d.site) r.centre t) (sym site_v) (subst (λ (y : Site). Summed y (message_row p limit m y) r.centre t) site_v summed)) sums_v;
-  })
+      CellsMatch (after_transition (after_receipt (Some k) v) i (message_row p limit m (v.sites i))) t → Summed (v.sites i) (message_row p limit m (v.sites i)) r.centre t → KeepsAnswers r.centre t → Whole
+  finish t run parts cells summed keeps = subst (λ (u : World). ReachedFrom p r.centre u (ks ++ (reception p limit m (w.sites i)).picks)) (sym whole) (
+    record {
+      centre = t;
+      run = runs_append p ks (reception p limit m (w.sites i)).picks (start p) r.centre t r.run (subst (λ (y : Site). IsRun p r.centre (message_row p limit m y).picks t) site_v run);
+      parts = subst (λ (y : Site). PartsIn p (here_at (records (after_transition (after_receipt (Some k) v) i (message_row p limit m y)).sites)) (after_transition (after_receipt (Some k) v) i (message_row p limit m y)) t) site_v parts;
+      numbers = numbers_end;
+      cells = subst (λ (y : Site). CellsMatch (after_transition (after_receipt (Some k) v) i (message_row p limit m y)) t) site_v cells;
+      sums = sums_row (after_receipt (Some k) v) i (message_row p limit m d.site) r.centre t (subst (λ (y : Site). Summed y (message_row p limit m d.site) r.centre t) (sym site_v) (subst (λ (y : Site). Summed y (message_row p limit m y) r.centre t) site_v summed)) sums_v;
+    },
+    keeps,
+  )
     where
       whole : after_receipt (Some k) (after_transition w i (reception p limit m (w.sites i))) ≡ after_transition (after_receipt (Some k) v) i (message_row p limit m d.site)
       whole = ap (after_receipt (Some k)) (acts_after w i d (message_row p limit m d.site)) ∙ came_acts v i (message_row p limit m d.site) k low
@@ -204,6 +241,7 @@ get_reached p limit w ks r k i c asker real at =
     (once p limit w ks r k i (msg.Get c asker) real at) ((opened p limit w ks r k i (msg.Get c asker) real at).parts.kept i).site in
     finish p limit w ks r k i (msg.Get c asker) real at r.centre (no_picks p r.centre _ only.picks) (records_stay p (after_receipt (Some k) u) i (get_row limit c asker (u.sites i)) r.centre only.records row.0) row.1
     (same_summed (u.sites i) (get_row limit c asker (u.sites i)) r.centre r.centre only.lines (record { ended = only.ended; names = ap (λ (ts : Threads). names ts) only.threads }) refl refl)
+    (keeps_same r.centre)
 
 pub forward_reached : (p : List Stmt) (limit : ℕ) (w : World) (ks : List Pick) (r : Reached p w ks) (k i : ℕ) (c : CellName) (next : ℕ) (real : i ≢ 0) (at : IsOnItsWay w.mail k i (msg.Forward c next)) → Whole p limit w ks r k i (msg.Forward c next) real at
 forward_reached p limit w ks r k i c next real at =
@@ -213,6 +251,7 @@ forward_reached p limit w ks r k i c next real at =
     (once p limit w ks r k i (msg.Forward c next) real at) in
     finish p limit w ks r k i (msg.Forward c next) real at r.centre (no_picks p r.centre _ only.picks) (records_stay p (after_receipt (Some k) u) i (forward_row limit c next (u.sites i)) r.centre only.records row.0) row.1
     (same_summed (u.sites i) (forward_row limit c next (u.sites i)) r.centre r.centre only.lines (record { ended = only.ended; names = ap (λ (ts : Threads). names ts) only.threads }) refl refl)
+    (keeps_same r.centre)
 
 pub put_reached : (p : List Stmt) (limit : ℕ) (w : World) (ks : List Pick) (r : Reached p w ks) (k i : ℕ) (c : CellName) (x : VarName) (bundle : List Equation) (real : i ≢ 0) (at : IsOnItsWay w.mail k i (msg.Put c x bundle)) → Whole p limit w ks r k i (msg.Put c x bundle) real at
 put_reached p limit w ks r k i c x bundle real at =
@@ -225,12 +264,13 @@ put_reached p limit w ks r k i c x bundle real at =
       ended = row.site.0;
       names = ap (λ (ts : Threads). names ts) (leave_only limit c (serving p c (cell_record (u.sites i) c).queue x (u.sites i)).site).threads ∙ serves_names p c (cell_record (u.sites i) c).queue x (u.sites i);
     }) row.lines.0 row.totals.0)
+    (record { ports = row.ports; stationary = row.stationary })
 
 -- ---- messages of variables and threads
 
 pub record IsApart (s : Site) (d : Transition) : Type 0 where
   pub still : NoCells s d
-  pub waiters : (b : CellName) → SameWaiters s.threads d.site.threads b
+  pub waiters : (b : Awaited) → SameWaiters s.threads d.site.threads b
   pub picks : PicksBind d.picks
   pub silent : d.lines ≡ []
   pub ended : d.site.ended ≡ s.ended
@@ -239,7 +279,7 @@ pub record IsApart (s : Site) (d : Transition) : Type 0 where
 apart_asked : (limit : ℕ) (x : VarName) (t : Term) (n : ThreadName) (s : Site) → IsApart s (bind_request_row limit x t n s)
 apart_asked limit x t n s = record { still = asked_for_nothing limit x t n s; waiters = λ b. waiters b (knowledge s.records x); picks = picks (knowledge s.records x); silent = silent (knowledge s.records x); ended = ended (knowledge s.records x); once = λ h. once (knowledge s.records x) h }
   where
-    waiters : (b : CellName) (o : Option (Option Term)) → SameWaiters s.threads (bind_request_as o limit x t n s).site.threads b
+    waiters : (b : Awaited) (o : Option (Option Term)) → SameWaiters s.threads (bind_request_as o limit x t n s).site.threads b
     waiters b None = waiters_same s.threads b
     waiters b (Some None) = woken_waiters ((x, t) ∷ s.equations) x s.threads b
     waiters b (Some (Some q)) = waiters_same s.threads b
@@ -286,6 +326,11 @@ takes_apart p limit (msg.Binding x t bundle) s plain none = record { still = tol
 takes_apart p limit (msg.Get c k) s plain none = absurd plain
 takes_apart p limit (msg.Forward c k) s plain none = absurd plain
 takes_apart p limit (msg.Put c v bundle) s plain none = absurd plain
+takes_apart p limit (msg.PortSend q n k) s plain none = absurd plain
+takes_apart p limit (msg.PortEnd n old new bundle) s plain none = absurd plain
+takes_apart p limit (msg.CellMake c v bundle) s plain none = absurd plain
+takes_apart p limit (msg.CellAsk c n k v bundle) s plain none = absurd plain
+takes_apart p limit (msg.CellOld n v bundle) s plain none = absurd plain
 
 pub plain_none : (m : Msg) → IsPlain m → IsOfNone m
 plain_none (msg.Spawn n code vars bundle) h = tt
@@ -295,6 +340,11 @@ plain_none (msg.Binding x t bundle) h = tt
 plain_none (msg.Get c k) h = h
 plain_none (msg.Forward c k) h = h
 plain_none (msg.Put c v bundle) h = h
+plain_none (msg.PortSend q n k) h = tt
+plain_none (msg.PortEnd n old new bundle) h = tt
+plain_none (msg.CellMake c v bundle) h = tt
+plain_none (msg.CellAsk c n k v bundle) h = tt
+plain_none (msg.CellOld n v bundle) h = tt
 
 module _ (p : List Stmt) (limit : ℕ) (w : World) (ks : List Pick) (r : Reached p w ks) (k i : ℕ) (m : Msg) (real : i ≢ 0) (at : IsOnItsWay w.mail k i m) (plain : IsPlain m) (far : IsForeignBinding i m) where
   abbrev u : World
@@ -332,6 +382,11 @@ module _ (p : List Stmt) (limit : ℕ) (w : World) (ks : List Pick) (r : Reached
       is_at (msg.Get f o) q = tt
       is_at (msg.Forward f o) q = tt
       is_at (msg.Put f o bundle) q = tt
+      is_at (msg.PortSend q n k) z = tt
+      is_at (msg.PortEnd n old new bundle) z = tt
+      is_at (msg.CellMake c v bundle) z = tt
+      is_at (msg.CellAsk c n k v bundle) z = tt
+      is_at (msg.CellOld n v bundle) z = tt
 
   cells_taken : CellsMatch (after_transition u i e) r.centre
   cells_taken = nothing_match u r.centre i e (cells_v p limit w ks r k i m real at) (subst (λ (y : Site). NoCells y e) (sym site_u) apart.still)
@@ -343,24 +398,27 @@ module _ (p : List Stmt) (limit : ℕ) (w : World) (ks : List Pick) (r : Reached
       (one_number (after_transition u i e) k i m (Contains-append_left u.mail (mail_from u.sent e.sent) _ arrived) (λ a b x o h g. (numbered_acts u i e (numbers_v p limit w ks r k i m real at)).once k a b x o h g)) (plain_none m plain) cells_taken
 
   pub plain_message : Whole p limit w ks r k i m real at
-  plain_message = record {
-    centre = got.centre;
-    run = runs_append p ks (reception p limit m (w.sites i)).picks (start p) r.centre got.centre r.run got.run;
-    parts = got.parts;
-    numbers = record {
-      below = λ l a o q. up.below l a o ((gone k (after_transition w i (reception p limit m (w.sites i))).mail).old l a o q).0;
-      once = λ l a b o y q z. up.once l a b o y ((gone k (after_transition w i (reception p limit m (w.sites i))).mail).old l a o q).0 ((gone k (after_transition w i (reception p limit m (w.sites i))).mail).old l b y z).0;
-    };
-    cells = same_match (after_receipt (Some k) (after_transition w i (reception p limit m (w.sites i)))) r.centre got.centre (same_cells p r.centre got.centre (reception p limit m (w.sites i)).picks apart.picks got.run)
-        (subst (λ (y : World). CellsMatch (after_receipt (Some k) y) r.centre) (sym (acts_after w i (opening m (w.sites i)) e)) cells_end);
-    sums = sums_row w i (reception p limit m (w.sites i)) r.centre got.centre (record {
-      printed = taken.printed;
-      more = taken.more;
-      here = taken.here ∙ ap (λ (x : ℕ). x + taken.more) (told_all_sums (w.sites i) (message_bundle m)).ended;
-      there = taken.there;
-      once = λ h. taken.once ((opens_summed m (w.sites i) r.centre).once h);
-    }) r.sums;
-  }
+  plain_message = (
+    record {
+      centre = got.centre;
+      run = runs_append p ks (reception p limit m (w.sites i)).picks (start p) r.centre got.centre r.run got.run;
+      parts = got.parts;
+      numbers = record {
+        below = λ l a o q. up.below l a o ((gone k (after_transition w i (reception p limit m (w.sites i))).mail).old l a o q).0;
+        once = λ l a b o y q z. up.once l a b o y ((gone k (after_transition w i (reception p limit m (w.sites i))).mail).old l a o q).0 ((gone k (after_transition w i (reception p limit m (w.sites i))).mail).old l b y z).0;
+      };
+      cells = same_match (after_receipt (Some k) (after_transition w i (reception p limit m (w.sites i)))) r.centre got.centre (same_cells p r.centre got.centre (reception p limit m (w.sites i)).picks apart.picks got.run)
+          (subst (λ (y : World). CellsMatch (after_receipt (Some k) y) r.centre) (sym (acts_after w i (opening m (w.sites i)) e)) cells_end);
+      sums = sums_row w i (reception p limit m (w.sites i)) r.centre got.centre (record {
+        printed = taken.printed;
+        more = taken.more;
+        here = taken.here ∙ ap (λ (x : ℕ). x + taken.more) (told_all_sums (w.sites i) (message_bundle m)).ended;
+        there = taken.there;
+        once = λ h. taken.once ((opens_summed m (w.sites i) r.centre).once h);
+      }) r.sums;
+    },
+    same_kept p r.centre got.centre (reception p limit m (w.sites i)).picks apart.picks got.run,
+  )
     where
       taken : Summed there e r.centre got.centre
       taken = let q = same_told p r.centre got.centre (reception p limit m (w.sites i)).picks apart.picks got.run in quiet_summed there e r.centre got.centre apart.silent apart.ended q.0 q.1 apart.once
@@ -368,12 +426,51 @@ module _ (p : List Stmt) (limit : ℕ) (w : World) (ks : List Pick) (r : Reached
       up : IsNumbered (after_transition w i (reception p limit m (w.sites i))).sent (after_transition w i (reception p limit m (w.sites i))).mail
       up = numbered_acts w i (reception p limit m (w.sites i)) r.numbers
 
--- every message
-pub message_reached : (p : List Stmt) (limit : ℕ) (w : World) (ks : List Pick) (r : Reached p w ks) (k i : ℕ) (m : Msg) (real : i ≢ 0) → IsForeignBinding i m → (at : IsOnItsWay w.mail k i m) → Whole p limit w ks r k i m real at
-message_reached p limit w ks r k i (msg.Get c asker) real far at = get_reached p limit w ks r k i c asker real at
-message_reached p limit w ks r k i (msg.Forward c next) real far at = forward_reached p limit w ks r k i c next real at
-message_reached p limit w ks r k i (msg.Put c v bundle) real far at = put_reached p limit w ks r k i c v bundle real at
-message_reached p limit w ks r k i (msg.Spawn n code vars bundle) real far at = plain_message p limit w ks r k i (msg.Spawn n code vars bundle) real at tt far
-message_reached p limit w ks r k i (msg.Register x o) real far at = plain_message p limit w ks r k i (msg.Register x o) real at tt far
-message_reached p limit w ks r k i (msg.BindReq x n t bundle) real far at = plain_message p limit w ks r k i (msg.BindReq x n t bundle) real at tt far
-message_reached p limit w ks r k i (msg.Binding x t bundle) real far at = plain_message p limit w ks r k i (msg.Binding x t bundle) real at tt far
+-- every message but requests and answers
+pub message_reached : (p : List Stmt) (limit : ℕ) (w : World) (ks : List Pick) (r : Reached p w ks) (k i : ℕ) (m : Msg) (real : i ≢ 0) → IsStanding m → IsForeignBinding i m → (at : IsOnItsWay w.mail k i m) → Whole p limit w ks r k i m real at
+message_reached p limit w ks r k i (msg.Get c asker) real stands far at = get_reached p limit w ks r k i c asker real at
+message_reached p limit w ks r k i (msg.Forward c next) real stands far at = forward_reached p limit w ks r k i c next real at
+message_reached p limit w ks r k i (msg.Put c v bundle) real stands far at = put_reached p limit w ks r k i c v bundle real at
+message_reached p limit w ks r k i (msg.Spawn n code vars bundle) real stands far at = plain_message p limit w ks r k i (msg.Spawn n code vars bundle) real at tt far
+message_reached p limit w ks r k i (msg.Register x o) real stands far at = plain_message p limit w ks r k i (msg.Register x o) real at tt far
+message_reached p limit w ks r k i (msg.BindReq x n t bundle) real stands far at = plain_message p limit w ks r k i (msg.BindReq x n t bundle) real at tt far
+message_reached p limit w ks r k i (msg.Binding x t bundle) real stands far at = plain_message p limit w ks r k i (msg.Binding x t bundle) real at tt far
+message_reached p limit w ks r k i (msg.PortSend q n a) real stands far at = absurd stands
+message_reached p limit w ks r k i (msg.PortEnd n old new bundle) real stands far at = absurd stands
+message_reached p limit w ks r k i (msg.CellMake c v bundle) real stands far at = absurd stands
+message_reached p limit w ks r k i (msg.CellAsk c n a v bundle) real stands far at = absurd stands
+message_reached p limit w ks r k i (msg.CellOld n v bundle) real stands far at = absurd stands
+
+-- what is known at the site stays known
+pub message_wider : (p : List Stmt) (limit : ℕ) (w : World) (ks : List Pick) (r : Reached p w ks) (k i : ℕ) (m : Msg) (real : i ≢ 0) → IsStanding m → IsForeignBinding i m → (at : IsOnItsWay w.mail k i m) →
+    (y : VarName) → IsHere (w.sites i).records y → IsHere (reception p limit m (w.sites i)).site.records y
+message_wider p limit w ks r k i m real stands far at y h = go m stands far at (opened_wider h)
+  where
+    opened_wider : IsHere (w.sites i).records y → IsHere (opening m (w.sites i)).site.records y
+    opened_wider (inl zero) = inl zero
+    opened_wider (inr q) = inr (meets_known (message_vars m) (with_known_equations (w.sites i) (message_bundle m)).records y (told_all_known (message_bundle m) (w.sites i) y q))
+
+    exchange_records : (n : ThreadName) (v : VarName) (s : Site) → (after_exchange p n v s).records ≡ s.records
+    exchange_records n v s = one (thread_state s n)
+      where
+        one : (o : Option ThreadState) → (after_exchange_as p n v s o).records ≡ s.records
+        one None = refl
+        one (Some st) = refl
+
+    serving_records : (c : CellName) (ns : List ThreadName) (v : VarName) (s : Site) → (serving p c ns v s).site.records ≡ s.records
+    serving_records c [] v s = refl
+    serving_records c (n ∷ ns) v s = serving_records c ns (content_after_exchange p n v s) (after_exchange p n v s) ∙ exchange_records n v s
+
+    go : (m : Msg) → IsStanding m → IsForeignBinding i m → IsOnItsWay w.mail k i m → IsHere (opening m (w.sites i)).site.records y → IsHere (message_row p limit m (opening m (w.sites i)).site).site.records y
+    go (msg.Spawn n code vars bundle) stands far at h = wider p limit w ks r k i (msg.Spawn n code vars bundle) real at tt far y h
+    go (msg.Register x o) stands far at h = wider p limit w ks r k i (msg.Register x o) real at tt far y h
+    go (msg.BindReq x n t bundle) stands far at h = wider p limit w ks r k i (msg.BindReq x n t bundle) real at tt far y h
+    go (msg.Binding x t bundle) stands far at h = wider p limit w ks r k i (msg.Binding x t bundle) real at tt far y h
+    go (msg.Get c o) stands far at h = subst (λ (b : Records). IsHere b y) (sym (get_only limit c o (opening (msg.Get c o) (w.sites i)).site).records) h
+    go (msg.Forward c o) stands far at h = subst (λ (b : Records). IsHere b y) (sym (forward_only limit c o (opening (msg.Forward c o) (w.sites i)).site).records) h
+    go (msg.Put c v bundle) stands far at h = subst (λ (b : Records). IsHere b y) (sym (serving_records c (cell_record (opening (msg.Put c v bundle) (w.sites i)).site c).queue v (opening (msg.Put c v bundle) (w.sites i)).site)) h
+    go (msg.PortSend q n a) stands far at h = absurd stands
+    go (msg.PortEnd n old new bundle) stands far at h = absurd stands
+    go (msg.CellMake c v bundle) stands far at h = absurd stands
+    go (msg.CellAsk c n a v bundle) stands far at h = absurd stands
+    go (msg.CellOld n v bundle) stands far at h = absurd stands

@@ -26,6 +26,7 @@ use Rattle.token_chain.specs.Mail.{Put, sent_count}
 use Rattle.token_chain.specs.Rows.{leave_with, leave_reply, put_reply}
 use Rattle.token_chain.proofs.MoveLemmas.{messages_can_come, put_keeps}
 use Rattle.site_model.specs.Site.{Site, Threads, Counters, CellRecord, cell_record}
+use Rattle.thread_roster.specs.declared.mode.Awaited.TheVariants.{Cell}
 use Rattle.thread_roster.specs.declared.mode.Mode.TheVariants.{WaitsFor}
 use Rattle.site_model.specs.Transition.{Transition}
 use Rattle.site_model.specs.Cells.{leave_row, serving, put_row}
@@ -49,6 +50,8 @@ use Rattle.world_cells.proofs.ServeAllLemmas.{Around, PartsOf, Served, serve_all
 use Rattle.world_variables.specs.Laws.{PartsIn}
 use Rattle.thread_roster.proofs.NameLemmas.{name_cases as thread_or}
 use Rattle.oz_model.proofs.KindLemmas.{cell_cases}
+use Rattle.world_model.proofs.MobileLemmas.{mobile_at, mobile_has, mobile_others}
+use Rattle.world_model.specs.Chain.{mobile_cells}
 
 -- ---- lists
 
@@ -76,21 +79,21 @@ leave_lists limit c s all = one_list_stays c s (leave_row limit c s) all (leave_
 -- ---- all were served
 
 module _ (p : List Stmt) (a : Around) (i : ℕ) (c : CellName) (v : VarName) (s : Site) (z : State) (d : Transition) (r : Served p a i c (cell_record s c).queue v s z d) (all : Lists s) where
-  nobody_left : (m : ThreadName) (st : Stack) → value_of equal_thread d.site.threads m ≡ Some (st, WaitsFor c) → ⊥
+  nobody_left : (m : ThreadName) (st : Stack) → value_of equal_thread d.site.threads m ≡ Some (st, WaitsFor (Cell c)) → ⊥
   nobody_left m st h = go (in_or (cell_record s c).queue m)
     where
       go : Contains (cell_record s c).queue m ⊎ (Contains (cell_record s c).queue m → ⊥) → ⊥
-      go (inl k) = let q = r.done m k in running_not q.0 st c (sym q.1 ∙ h)
+      go (inl k) = let q = r.done m k in running_not q.0 st (Cell c) (sym q.1 ∙ h)
       go (inr k) = k ((all c).listed m st (sym (r.rest m k) ∙ h))
 
-  same_waiters : (b : CellName) → b ≢ c → SameWaiters s.threads d.site.threads b
+  same_waiters : (b : CellName) → b ≢ c → SameWaiters s.threads d.site.threads (Cell b)
   same_waiters b other = record { old = λ m st h. old m st h (in_or (cell_record s c).queue m); new = λ m st h. new m st h (in_or (cell_record s c).queue m) }
     where
-      old : (m : ThreadName) (st : Stack) → value_of equal_thread d.site.threads m ≡ Some (st, WaitsFor b) → Contains (cell_record s c).queue m ⊎ (Contains (cell_record s c).queue m → ⊥) → value_of equal_thread s.threads m ≡ Some (st, WaitsFor b)
-      old m st h (inl k) = let q = r.done m k in absurd (running_not q.0 st b (sym q.1 ∙ h))
+      old : (m : ThreadName) (st : Stack) → value_of equal_thread d.site.threads m ≡ Some (st, WaitsFor (Cell b)) → Contains (cell_record s c).queue m ⊎ (Contains (cell_record s c).queue m → ⊥) → value_of equal_thread s.threads m ≡ Some (st, WaitsFor (Cell b))
+      old m st h (inl k) = let q = r.done m k in absurd (running_not q.0 st (Cell b) (sym q.1 ∙ h))
       old m st h (inr k) = sym (r.rest m k) ∙ h
 
-      new : (m : ThreadName) (st : Stack) → value_of equal_thread s.threads m ≡ Some (st, WaitsFor b) → Contains (cell_record s c).queue m ⊎ (Contains (cell_record s c).queue m → ⊥) → value_of equal_thread d.site.threads m ≡ Some (st, WaitsFor b)
+      new : (m : ThreadName) (st : Stack) → value_of equal_thread s.threads m ≡ Some (st, WaitsFor (Cell b)) → Contains (cell_record s c).queue m ⊎ (Contains (cell_record s c).queue m → ⊥) → value_of equal_thread d.site.threads m ≡ Some (st, WaitsFor (Cell b))
       new m st h (inl k) = let q = (all c).stand m k in absurd (other (waits_same st q.0 b c (sym h ∙ q.1)))
       new m st h (inr k) = r.rest m k ∙ h
 
@@ -123,8 +126,10 @@ pub record PutRow (p : List Stmt) (limit : ℕ) (w : World) (z : State) (k i : �
   pub keeps : (put_row p limit c v (w.sites i)).site.records ≡ (w.sites i).records
   pub answers : Answers c (put_reply (cell_record (w.sites i) c).held content) (w.sites i) (put_row p limit c v (w.sites i))
   pub managers : (put_row p limit c v (w.sites i)).site.managers ≡ (w.sites i).managers
-  pub value : value_of equal_cell state.cells c ≡ Some content
-  pub values : (b : CellName) → b ≢ c → value_of equal_cell state.cells b ≡ value_of equal_cell z.cells b
+  pub value : value_of equal_cell (mobile_cells state.cells) c ≡ Some content
+  pub values : (b : CellName) → b ≢ c → value_of equal_cell (mobile_cells state.cells) b ≡ value_of equal_cell (mobile_cells z.cells) b
+  pub ports : state.ports ≡ z.ports
+  pub stationary : (b : CellName) → b.at ≢ 0 → value_of equal_cell state.cells b ≡ value_of equal_cell z.cells b
   pub exchanged : length (exchanges_from p c z (put_row p limit c v (w.sites i)).picks) ≡ length (cell_record (w.sites i) c).queue
   pub apart : (b : CellName) → b ≢ c → exchanges_from p b z (put_row p limit c v (w.sites i)).picks ≡ []
   pub site : ((put_row p limit c v (w.sites i)).site.ended ≡ (w.sites i).ended) × ((put_row p limit c v (w.sites i)).site.steps ≡ (w.sites i).steps) × (length (put_row p limit c v (w.sites i)).site.threads ≡ length (w.sites i).threads)
@@ -176,11 +181,14 @@ module _ (p : List Stmt) (limit : ℕ) (w : World) (z : State) (k i : ℕ) (c : 
   there : tally c w.mail (Put i v) ≢ 0
   there = arrives_there w k i (msg.Put c v bundle) c (Put i v) (put_arrives w k i c v bundle h one)
 
-  cell : (u : VarName) × (value_of equal_cell z.cells c ≡ Some u) × ChainAt w.sites w.mail c u
-  cell = cell_there w.sites w.mail z.cells c (Put i v) x.cells there
+  cell : (u : VarName) × (value_of equal_cell (mobile_cells z.cells) c ≡ Some u) × ChainAt w.sites w.mail c u
+  cell = cell_there w.sites w.mail (mobile_cells z.cells) c (Put i v) x.cells there
+
+  mobile : c.at ≡ 0
+  mobile = (mobile_has z.cells c cell.0 cell.1).0
 
   value : value_of equal_cell z.cells c ≡ Some v
-  value = cell.1 ∙ ap Some (sym (messages_can_come cell.2.0 _ _ cell.0 cell.2.2 (Put i v) there).1.1)
+  value = (mobile_has z.cells c cell.0 cell.1).1 ∙ ap Some (sym (messages_can_come cell.2.0 _ _ cell.0 cell.2.2 (Put i v) there).1.1)
 
   served : Served p around i c (cell_record (w.sites i) c).queue v (w.sites i) z (serving p c (cell_record (w.sites i) c).queue v (w.sites i))
   served = serve_all p around i c (cell_record (w.sites i) c).queue v (w.sites i) z parts_before sound refl value home real (x.queues i c).once (λ n q. (x.queues i c).stand n q)
@@ -209,11 +217,17 @@ module _ (p : List Stmt) (limit : ℕ) (w : World) (z : State) (k i : ℕ) (c : 
   same_managers : whole.site.managers ≡ (w.sites i).managers
   same_managers = served.managers
 
-  cells_after : CellsAt (after_transition (after_receipt (Some k) w) i whole).sites (after_transition (after_receipt (Some k) w) i whole).mail served.state.cells
+  value_then : value_of equal_cell (mobile_cells served.state.cells) c ≡ Some served.content
+  value_then = mobile_at served.state.cells c mobile ∙ served.value
+
+  others_then : (b : CellName) → b ≢ c → value_of equal_cell (mobile_cells served.state.cells) b ≡ value_of equal_cell (mobile_cells z.cells) b
+  others_then b other = mobile_others z.cells served.state.cells b (served.others b other)
+
+  cells_after : CellsAt (after_transition (after_receipt (Some k) w) i whole).sites (after_transition (after_receipt (Some k) w) i whole).mail (mobile_cells served.state.cells)
   cells_after =
       let y = put_arrives w k i c v bundle h one in
-      row_cells (after_receipt (Some k) w) w.mail i c (Put i v ∷ []) z.cells served.state.cells whole _ x.cells (arrives_here w k i _ c (Put i v) cell.0 y cell.2) (arrives_other w k i _ c (Put i v) y) answers
-      (λ b e. ap (lookup (equal_cell b)) same_managers) served.others served.content served.value
+      row_cells (after_receipt (Some k) w) w.mail i c (Put i v ∷ []) (mobile_cells z.cells) (mobile_cells served.state.cells) whole _ x.cells (arrives_here w k i _ c (Put i v) cell.0 y cell.2) (arrives_other w k i _ c (Put i v) y) answers
+      (λ b e. ap (lookup (equal_cell b)) same_managers) others_then served.content value_then
       (λ replies. (
         cell.2.0,
         last_same w.sites i whole.site c (ap (lookup (equal_cell c)) same_managers) ∙ cell.2.1,
@@ -276,8 +290,10 @@ module _ (p : List Stmt) (limit : ℕ) (w : World) (z : State) (k i : ℕ) (c : 
     keeps = only.records ∙ served.records;
     answers = answers;
     managers = same_managers;
-    value = served.value;
-    values = served.others;
+    value = value_then;
+    values = others_then;
+    ports = served.ports;
+    stationary = λ b far. served.others b (λ e. far (ap (λ (x : CellName). x.at) e ∙ mobile));
     exchanged = ap (λ (l : List Pick). length (exchanges_from p c z l)) picks_are ∙ served.exchanged;
     apart = λ b d. ap (exchanges_from p b z) picks_are ∙ served.apart b d;
     site = (only.ended ∙ served.totals.0, only.steps ∙ served.totals.1, ap length only.threads ∙ served.totals.2);

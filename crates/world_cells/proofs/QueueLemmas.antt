@@ -16,6 +16,7 @@ use Rattle.token_chain.specs.Holding.{Holding, departure_of}
 use Rattle.token_chain.specs.Mail.{Get, Forward}
 use Rattle.token_chain.specs.Rows.{leave_with, leave_reply, forward_reply, get_reply, exchange_reply}
 use Rattle.site_model.specs.Site.{Site, ThreadState, Threads, CellRecord, cell_record, runnable_threads}
+use Rattle.thread_roster.specs.declared.mode.Awaited.TheVariants.{Cell}
 use Rattle.thread_roster.specs.declared.mode.Mode.{Mode}
 use Rattle.thread_roster.specs.declared.mode.Mode.TheVariants.{Runs, WaitsFor}
 use Rattle.thread_roster.specs.Binds.{goes_on}
@@ -34,19 +35,20 @@ use Rattle.tree_node.proofs.NameLemmas.{same_thread_decides}
 use Rattle.thread_roster.proofs.NameLemmas.{name_cases as thread_or}
 use Rattle.token_chain.proofs.AlikeLemmas.{leaves_none}
 use Rattle.oz_model.proofs.KindLemmas.{cell_cases}
+use Rattle.thread_roster.specs.declared.mode.Awaited.{Awaited}
 
--- the same threads wait for the cell, with the same stacks
-pub record SameWaiters (ts us : Threads) (d : CellName) : Type 0 where
+-- the same threads wait for this, a cell or a port, with the same stacks
+pub record SameWaiters (ts us : Threads) (d : Awaited) : Type 0 where
   pub old : (n : ThreadName) (st : Stack) → value_of equal_thread us n ≡ Some (st, WaitsFor d) → value_of equal_thread ts n ≡ Some (st, WaitsFor d)
   pub new : (n : ThreadName) (st : Stack) → value_of equal_thread ts n ≡ Some (st, WaitsFor d) → value_of equal_thread us n ≡ Some (st, WaitsFor d)
 
-pub waiters_same : (ts : Threads) (d : CellName) → SameWaiters ts ts d
+pub waiters_same : (ts : Threads) (d : Awaited) → SameWaiters ts ts d
 waiters_same ts d = record { old = λ n st h. h; new = λ n st h. h }
 
-pub waiters_then : (ts us vs : Threads) (d : CellName) → SameWaiters ts us d → SameWaiters us vs d → SameWaiters ts vs d
+pub waiters_then : (ts us vs : Threads) (d : Awaited) → SameWaiters ts us d → SameWaiters us vs d → SameWaiters ts vs d
 waiters_then ts us vs d a b = record { old = λ n st h. a.old n st (b.old n st h); new = λ n st h. b.new n st (a.new n st h) }
 
-pub queue_same : (q r : CellRecord) (ts us : Threads) (d : CellName) → r.queue ≡ q.queue → r.held.waiting ≡ q.held.waiting → SameWaiters ts us d → IsQueue q ts d → IsQueue r us d
+pub queue_same : (q r : CellRecord) (ts us : Threads) (d : CellName) → r.queue ≡ q.queue → r.held.waiting ≡ q.held.waiting → SameWaiters ts us (Cell d) → IsQueue q ts d → IsQueue r us d
 queue_same q r ts us d e f w k = record {
   once = subst (λ (l : List ThreadName). AreDistinct l) (sym e) k.once;
   long = f ∙ k.long ∙ ap length (sym e);
@@ -59,7 +61,7 @@ queues_put f i s all here j = at_all f i s (λ (k : ℕ) (x : Site). (d : CellNa
 
 -- ---- who waits after a change of the threads
 
-pub woken_waiters : (s : Store) (x : VarName) (ts : Threads) (d : CellName) → SameWaiters ts (wake_where (goes_on s x) ts) d
+pub woken_waiters : (s : Store) (x : VarName) (ts : Threads) (d : Awaited) → SameWaiters ts (wake_where (goes_on s x) ts) d
 woken_waiters s x ts d = record {
   old = λ n st h. old n st (woken_old (goes_on s x) ts n st (WaitsFor d) h);
   new = λ n st h. woken_new (goes_on s x) ts n st (WaitsFor d) h;
@@ -68,11 +70,11 @@ woken_waiters s x ts d = record {
     old : (n : ThreadName) (st : Stack) → (m : Mode) × (value_of equal_thread ts n ≡ Some (st, m)) × (woken_by (goes_on s x) m ≡ WaitsFor d) → value_of equal_thread ts n ≡ Some (st, WaitsFor d)
     old n st (m, e, f) = subst (λ (o : Mode). value_of equal_thread ts n ≡ Some (st, o)) (wake_cell s x d m f) e
 
-abbrev pub IsOtherMode : CellName → Option ThreadState → Type 0
+abbrev pub IsOtherMode : Awaited → Option ThreadState → Type 0
 IsOtherMode d r = (st : Stack) → r ≢ Some (st, WaitsFor d)
 
--- a thread that does not wait for the cell goes on, and does not wait for it then
-pub goes_waiters : (ts : Threads) (n : ThreadName) (r : Option ThreadState) (v : ThreadState) (d : CellName) → value_of equal_thread ts n ≡ Some v → IsOtherMode d (Some v) → IsOtherMode d r →
+-- a thread that does not wait for it goes on, and does not wait for it then
+pub goes_waiters : (ts : Threads) (n : ThreadName) (r : Option ThreadState) (v : ThreadState) (d : Awaited) → value_of equal_thread ts n ≡ Some v → IsOtherMode d (Some v) → IsOtherMode d r →
     SameWaiters ts (with_optional_value equal_thread ts n r) d
 goes_waiters ts n r v d at before after = record {
   old = λ m st h. old m st (goes_cases equal_thread same_thread_decides ts n m r v (st, WaitsFor d) at h);
@@ -90,7 +92,7 @@ goes_waiters ts n r v d at before after = record {
     new m st h false e = goes_there equal_thread same_thread_decides ts n m r (λ (p : n ≡ m). let yes : equal_thread n m ≡ true = (same_thread_decides n m).1 p in cc) ∙ h
 
 -- new threads can go on
-pub born_waiters : (xs : List (ThreadName × Stack)) (ts : Threads) (d : CellName) → ((n : ThreadName) (st : Stack) → value_of equal_thread ts n ≡ Some (st, WaitsFor d) → value_of equal_thread (runnable_threads xs) n ≡ None) →
+pub born_waiters : (xs : List (ThreadName × Stack)) (ts : Threads) (d : Awaited) → ((n : ThreadName) (st : Stack) → value_of equal_thread ts n ≡ Some (st, WaitsFor d) → value_of equal_thread (runnable_threads xs) n ≡ None) →
     SameWaiters ts (runnable_threads xs ++ ts) d
 born_waiters xs ts d apart = record {
   old = λ n st h. old n st h (value_of equal_thread (runnable_threads xs) n) refl;
@@ -165,15 +167,15 @@ get_queue limit c k s = record {
 
 -- a row that changes one cell, and keeps its list
 pub one_list_stays : (c : CellName) (s : Site) (d : Transition) → ((b : CellName) → IsQueue (cell_record s b) s.threads b) → KeepsQueue c s d → ((b : CellName) → b ≢ c → cell_record d.site b ≡ cell_record s b) →
-    ((b : CellName) → SameWaiters s.threads d.site.threads b) → (b : CellName) → IsQueue (cell_record d.site b) d.site.threads b
+    ((b : Awaited) → SameWaiters s.threads d.site.threads b) → (b : CellName) → IsQueue (cell_record d.site b) d.site.threads b
 one_list_stays c s d all k others w b = go (cell_cases b c)
   where
     go : (b ≡ c) ⊎ (b ≢ c) → IsQueue (cell_record d.site b) d.site.threads b
     go (inl e) = subst (λ (x : CellName). IsQueue (cell_record d.site x) d.site.threads x) (sym e)
-        (queue_same (cell_record s c) (cell_record d.site c) s.threads d.site.threads c k.queue k.waiting (w c) (all c))
-    go (inr h) = queue_same (cell_record s b) (cell_record d.site b) s.threads d.site.threads b (ap (λ (q : CellRecord). q.queue) (others b h)) (ap (λ (q : CellRecord). q.held.waiting) (others b h)) (w b) (all b)
+        (queue_same (cell_record s c) (cell_record d.site c) s.threads d.site.threads c k.queue k.waiting (w (Cell c)) (all c))
+    go (inr h) = queue_same (cell_record s b) (cell_record d.site b) s.threads d.site.threads b (ap (λ (q : CellRecord). q.queue) (others b h)) (ap (λ (q : CellRecord). q.held.waiting) (others b h)) (w (Cell b)) (all b)
 
-pub waiters_equal : (ts us : Threads) (d : CellName) → us ≡ ts → SameWaiters ts us d
+pub waiters_equal : (ts us : Threads) (d : Awaited) → us ≡ ts → SameWaiters ts us d
 waiters_equal ts us d e = subst (λ (x : Threads). SameWaiters ts x d) (sym e) (waiters_same ts d)
 
 pub forward_lists : (limit : ℕ) (c : CellName) (k : ℕ) (s : Site) → ((b : CellName) → IsQueue (cell_record s b) s.threads b) → (b : CellName) → IsQueue (cell_record (forward_row limit c k s).site b) (forward_row limit c k s).site.threads b
@@ -197,11 +199,11 @@ abbrev pub mode_in : Option ThreadState → Mode
 mode_in None = Runs
 mode_in (Some u) = u.1
 
-pub running_not : (st r : Stack) (c : CellName) → ◌≡◌ {A = Option ThreadState} (Some (st, Runs)) (Some (r, WaitsFor c)) → ⊥
+pub running_not : (st r : Stack) (c : Awaited) → ◌≡◌ {A = Option ThreadState} (Some (st, Runs)) (Some (r, WaitsFor c)) → ⊥
 running_not st r c e = let f : Runs ≡ WaitsFor c = ap mode_in e in cc
 
-pub waits_same : (st r : Stack) (c b : CellName) → ◌≡◌ {A = Option ThreadState} (Some (st, WaitsFor c)) (Some (r, WaitsFor b)) → c ≡ b
-waits_same st r c b e = let f : WaitsFor c ≡ WaitsFor b = ap mode_in e in cc
+pub waits_same : (st r : Stack) (c b : CellName) → ◌≡◌ {A = Option ThreadState} (Some (st, WaitsFor (Cell c))) (Some (r, WaitsFor (Cell b))) → c ≡ b
+waits_same st r c b e = let f : WaitsFor (Cell c) ≡ WaitsFor (Cell b) = ap mode_in e in cc
 
 pub request_lists : (limit : ℕ) (c : CellName) (new : VarName) (n : ThreadName) (st : Stack) (s : Site) → ((u : VarName) → (cell_record s c).held.token ≢ Here u) → value_of equal_thread s.threads n ≡ Some (st, Runs) → ((b : CellName) → IsQueue (cell_record s b) s.threads b) →
     (b : CellName) → IsQueue (cell_record (request_row limit c new n st s).site b) (request_row limit c new n st s).site.threads b
@@ -211,7 +213,7 @@ request_lists limit c new n st s elsewhere runs all b = go (cell_cases b c)
     q = cell_record s c
 
     us : Threads
-    us = with_value equal_thread s.threads n (st, WaitsFor c)
+    us = with_value equal_thread s.threads n (st, WaitsFor (Cell c))
 
     is : (request_row limit c new n st s).site.threads ≡ us
     is = (request_only limit c new n st s).threads
@@ -222,14 +224,14 @@ request_lists limit c new n st s elsewhere runs all b = go (cell_cases b c)
     number : (cell_record (request_row limit c new n st s).site c).held.waiting ≡ q.held.waiting + 1
     number = ap (λ (h : Holding). h.waiting) (request_answers limit c new n st s).held ∙ request_waiting c.site (last_before s c) s.records.site new q.held elsewhere
 
-    now : value_of equal_thread us n ≡ Some (st, WaitsFor c)
-    now = with_here equal_thread same_thread_decides s.threads n (st, WaitsFor c) (st, Runs) runs
+    now : value_of equal_thread us n ≡ Some (st, WaitsFor (Cell c))
+    now = with_here equal_thread same_thread_decides s.threads n (st, WaitsFor (Cell c)) (st, Runs) runs
 
     there : (m : ThreadName) → n ≢ m → value_of equal_thread us m ≡ value_of equal_thread s.threads m
-    there m d = with_there equal_thread same_thread_decides s.threads n m (st, WaitsFor c) d
+    there m d = with_there equal_thread same_thread_decides s.threads n m (st, WaitsFor (Cell c)) d
 
     no_n : Contains q.queue n → ⊥
-    no_n h = let k = (all c).stand n h in running_not st k.0 c (sym runs ∙ k.1)
+    no_n h = let k = (all c).stand n h in running_not st k.0 (Cell c) (sym runs ∙ k.1)
 
     here : IsQueue (cell_record (request_row limit c new n st s).site c) us c
     here = record {
@@ -239,16 +241,16 @@ request_lists limit c new n st s elsewhere runs all b = go (cell_cases b c)
       listed = λ m r h. subst (λ (l : List ThreadName). Contains l m) (sym list) (listed m r h (thread_or n m));
     }
       where
-        stand : (m : ThreadName) → Contains q.queue m ⊎ Contains (n ∷ []) m → (n ≡ m) ⊎ (n ≢ m) → (r : Stack) × (value_of equal_thread us m ≡ Some (r, WaitsFor c))
+        stand : (m : ThreadName) → Contains q.queue m ⊎ Contains (n ∷ []) m → (n ≡ m) ⊎ (n ≢ m) → (r : Stack) × (value_of equal_thread us m ≡ Some (r, WaitsFor (Cell c)))
         stand m h (inl e) = (st, ap (value_of equal_thread us) (sym e) ∙ now)
         stand m (inl h) (inr d) = let k = (all c).stand m h in (k.0, there m d ∙ k.1)
         stand m (inr h) (inr d) = one (Contains-cons_cases _ _ [] h)
           where
-            one : (n ≡ m) ⊎ Contains [] m → (r : Stack) × (value_of equal_thread us m ≡ Some (r, WaitsFor c))
+            one : (n ≡ m) ⊎ Contains [] m → (r : Stack) × (value_of equal_thread us m ≡ Some (r, WaitsFor (Cell c)))
             one (inl e) = absurd (d e)
             one (inr k) = absurd (nothing _ k)
 
-        listed : (m : ThreadName) (r : Stack) → value_of equal_thread us m ≡ Some (r, WaitsFor c) → (n ≡ m) ⊎ (n ≢ m) → Contains (q.queue ++ n ∷ []) m
+        listed : (m : ThreadName) (r : Stack) → value_of equal_thread us m ≡ Some (r, WaitsFor (Cell c)) → (n ≡ m) ⊎ (n ≢ m) → Contains (q.queue ++ n ∷ []) m
         listed m r h (inl e) = Contains-append_right q.queue (n ∷ []) m (subst (λ (x : ThreadName). Contains (n ∷ []) x) e (Contains-head n []))
         listed m r h (inr d) = Contains-append_left q.queue (n ∷ []) m ((all c).listed m r (sym (there m d) ∙ h))
 
@@ -258,5 +260,5 @@ request_lists limit c new n st s elsewhere runs all b = go (cell_cases b c)
     go (inr d) =
         let p = (request_answers limit c new n st s).others b d in
         queue_same (cell_record s b) (cell_record (request_row limit c new n st s).site b) s.threads (request_row limit c new n st s).site.threads b (ap (λ (q : CellRecord). q.queue) p) (ap (λ (q : CellRecord). q.held.waiting) p)
-        (subst (λ (x : Threads). SameWaiters s.threads x b) (sym is)
-        (goes_waiters s.threads n (Some (st, WaitsFor c)) (st, Runs) b runs (λ r e. running_not st r b e) (λ r e. d (sym (waits_same st r c b e))))) (all b)
+        (subst (λ (x : Threads). SameWaiters s.threads x (Cell b)) (sym is)
+        (goes_waiters s.threads n (Some (st, WaitsFor (Cell c))) (st, Runs) (Cell b) runs (λ r e. running_not st r (Cell b) e) (λ r e. d (sym (waits_same st r c b e))))) (all b)

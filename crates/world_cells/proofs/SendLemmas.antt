@@ -53,11 +53,11 @@ each_has {X} P (y ∷ xs) h x k = go (Contains-cons_cases _ _ xs k) (λ q. each_
     go (inl e) ih = subst P e h.0
     go (inr q) ih = ih q
 
-each_part : {X : Type 0} (P : X → Type 0) (s : List X) → Each P s → (xs : List X) → Each (Contains s) xs → Each P xs
+pub each_part : {X : Type 0} (P : X → Type 0) (s : List X) → Each P s → (xs : List X) → Each (Contains s) xs → Each P xs
 each_part P s h [] k = tt
 each_part P s h (x ∷ xs) k = (each_has P s h x k.0, each_part P s h xs k.1)
 
-each_more : (s c : Store) → ((e : Equation) → Contains s e → Contains c e) → (xs : List Equation) → Each (Contains s) xs → Each (Contains c) xs
+pub each_more : (s c : Store) → ((e : Equation) → Contains s e → Contains c e) → (xs : List Equation) → Each (Contains s) xs → Each (Contains c) xs
 each_more s c more [] h = tt
 each_more s c more (x ∷ xs) h = (more x h.0, each_more s c more xs h.1)
 

@@ -19,6 +19,7 @@ use Rattle.oz_model.proofs.ExchangeLemmas.{put_here, put_there}
 use Rattle.token_chain.specs.declared.token.Token.TheVariants.{Here}
 use Rattle.bind_protocol.specs.Records.{Records}
 use Rattle.site_model.specs.Site.{Site, Threads, Counters, cell_record, thread_state}
+use Rattle.thread_roster.specs.declared.mode.Awaited.TheVariants.{Cell}
 use Rattle.thread_roster.specs.declared.mode.Mode.TheVariants.{WaitsFor}
 use Rattle.thread_roster.specs.declared.mode.Mode.TheVariants as site
 use Rattle.site_model.specs.Transition.{Transition, with_pick, and_then}
@@ -38,7 +39,7 @@ use Rattle.tree_node.proofs.AssocLemmas.{length-with_value}
 
 -- ---- what the site does with one of them
 
-module _ (p : List Stmt) (n : ThreadName) (v : VarName) (s : Site) (st : Stack) (c : CellName) (q : Store) (e : q ≡ s.equations) (x : IsExchange p q st c) (at : thread_state s n ≡ Some (st, WaitsFor c)) where
+module _ (p : List Stmt) (n : ThreadName) (v : VarName) (s : Site) (st : Stack) (c : CellName) (q : Store) (e : q ≡ s.equations) (x : IsExchange p q st c) (at : thread_state s n ≡ Some (st, WaitsFor (Cell c))) where
   served_site : after_exchange p n v s ≡ record s { threads = with_value equal_thread s.threads n (stack_left p q st x.1 v, site.Runs) }
   served_site =
       ap (after_exchange_as p n v s) at
@@ -71,6 +72,7 @@ pub record Served (p : List Stmt) (a : Around) (i : ℕ) (c : CellName) (ns : Li
   pub parts : PartsOf p a i d.site.threads state
   pub value : value_of equal_cell state.cells c ≡ Some content
   pub others : (b : CellName) → b ≢ c → value_of equal_cell state.cells b ≡ value_of equal_cell z.cells b
+  pub ports : state.ports ≡ z.ports
   pub home : IsHere (a.records i) content
   pub known : state.equations ≡ z.equations
   pub lines : state.lines ≡ z.lines
@@ -100,9 +102,9 @@ each_differs (x ∷ ns) n m h k = go (Contains-cons_cases _ _ ns k) (λ q. each_
     go (inr q) ih d = ih q d
 
 module _ (p : List Stmt) (a : Around) (i : ℕ) (c : CellName) (n : ThreadName) (ns : List ThreadName) (v : VarName) (s : Site) (z : State) (parts : PartsOf p a i s.threads z) (sound : IsSound z.equations) (eqs : a.eqs i ≡ s.equations)
-    (value : value_of equal_cell z.cells c ≡ Some v) (home : IsHere (a.records i) v) (real : i ≢ 0) (off : Each (λ x. n ≢ x) ns) (st : Stack) (standing : value_of equal_thread s.threads n ≡ Some (st, WaitsFor c)) where
-  at_site : value_of equal_thread (at_put a.threads i s.threads i) n ≡ Some (st, WaitsFor c)
-  at_site = subst (λ (ts : Threads). value_of equal_thread ts n ≡ Some (st, WaitsFor c)) (sym (at_here a.threads i s.threads)) standing
+    (value : value_of equal_cell z.cells c ≡ Some v) (home : IsHere (a.records i) v) (real : i ≢ 0) (off : Each (λ x. n ≢ x) ns) (st : Stack) (standing : value_of equal_thread s.threads n ≡ Some (st, WaitsFor (Cell c))) where
+  at_site : value_of equal_thread (at_put a.threads i s.threads i) n ≡ Some (st, WaitsFor (Cell c))
+  at_site = subst (λ (ts : Threads). value_of equal_thread ts n ≡ Some (st, WaitsFor (Cell c))) (sym (at_here a.threads i s.threads)) standing
 
   abbrev exchange : IsExchange p (a.eqs i) st c
   exchange = parts.waiting.exchanges i n st c at_site
@@ -130,7 +132,7 @@ module _ (p : List Stmt) (a : Around) (i : ℕ) (c : CellName) (n : ThreadName) 
   sound_after = subst IsSound (sym after.1.equations) sound
 
   now_runs : value_of equal_thread next.threads n ≡ Some (stack, site.Runs)
-  now_runs = with_here equal_thread same_thread_decides s.threads n (stack, site.Runs) (st, WaitsFor c) standing
+  now_runs = with_here equal_thread same_thread_decides s.threads n (stack, site.Runs) (st, WaitsFor (Cell c)) standing
 
   there : (m : ThreadName) → n ≢ m → value_of equal_thread next.threads m ≡ value_of equal_thread s.threads m
   there m d = with_there equal_thread same_thread_decides s.threads n m (stack, site.Runs) d
@@ -146,6 +148,7 @@ module _ (p : List Stmt) (a : Around) (i : ℕ) (c : CellName) (n : ThreadName) 
     parts = r.parts;
     value = r.value;
     others = λ b h. r.others b h ∙ ap (λ (cells : List (CellName × VarName)). value_of equal_cell cells b) after.1.cells ∙ put_there z.cells c b exchange.0 (cells_differ c b (λ e. h (sym e)));
+    ports = r.ports ∙ after.1.ports;
     home = r.home;
     known = r.known ∙ after.1.equations;
     lines = r.lines ∙ after.1.lines;
@@ -196,7 +199,7 @@ module _ (p : List Stmt) (a : Around) (i : ℕ) (c : CellName) (n : ThreadName) 
       (first_then r))
 
 pub serve_all : (p : List Stmt) (a : Around) (i : ℕ) (c : CellName) (ns : List ThreadName) (v : VarName) (s : Site) (z : State) → PartsOf p a i s.threads z → IsSound z.equations → a.eqs i ≡ s.equations → value_of equal_cell z.cells c ≡ Some v → IsHere (a.records i) v → i ≢ 0 →
-    AreDistinct ns → ((n : ThreadName) → Contains ns n → (st : Stack) × (value_of equal_thread s.threads n ≡ Some (st, WaitsFor c))) → Served p a i c ns v s z (serving p c ns v s)
+    AreDistinct ns → ((n : ThreadName) → Contains ns n → (st : Stack) × (value_of equal_thread s.threads n ≡ Some (st, WaitsFor (Cell c)))) → Served p a i c ns v s z (serving p c ns v s)
 serve_all p a i c [] v s z parts sound eqs value home real distinct waits = record {
   state = z;
   content = v;
@@ -204,6 +207,7 @@ serve_all p a i c [] v s z parts sound eqs value home real distinct waits = reco
   parts = parts;
   value = value;
   others = λ b h. refl;
+  ports = refl;
   home = home;
   known = refl;
   lines = refl;

@@ -16,6 +16,7 @@ use Rattle.kernel_syntax.specs.declared.stmt.Stmt.{Stmt}
 use Rattle.oz_model.proofs.EffectNames.{step_names}
 use Rattle.bind_protocol.specs.Records.{Records}
 use Rattle.site_model.specs.Site.{ThreadState, Threads, Counters}
+use Rattle.thread_roster.specs.declared.mode.Awaited.TheVariants.{Cell}
 use Rattle.thread_roster.specs.declared.mode.Mode.{Mode}
 use Rattle.thread_roster.specs.declared.mode.Mode.TheVariants.{WaitsFor}
 use Rattle.thread_roster.specs.declared.mode.Mode.TheVariants as site
@@ -32,12 +33,12 @@ use Rattle.thread_roster.proofs.NameLemmas.{name_cases as threads_decide}
 
 module _ (p : List Stmt) (here : ℕ → Name → Type 0) (eqs : ℕ → Store) (records : ℕ → Records) (threads : ℕ → Threads) (made : ℕ → Counters) (mail : Mail) (s : State) (parts : PartsMatch p here eqs records threads made mail s) where
   -- thread n of site i, which waited for a cell, can go on
-  module _ (i : ℕ) (n : ThreadName) (st : Stack) (c : CellName) (at : value_of equal_thread (threads i) n ≡ Some (st, WaitsFor c)) where
+  module _ (i : ℕ) (n : ThreadName) (st : Stack) (c : CellName) (at : value_of equal_thread (threads i) n ≡ Some (st, WaitsFor (Cell c))) where
     abbrev resumed : Threads
     resumed = with_value equal_thread (threads i) n (st, site.Runs)
 
     resumed_old : (o : ThreadName) (v : ThreadState) → value_of equal_thread resumed o ≡ Some v → ((o ≡ n) × (v ≡ (st, site.Runs))) ⊎ ((n ≢ o) × (value_of equal_thread (threads i) o ≡ Some v))
-    resumed_old o v h = go (goes_cases equal_thread same_thread_decides (threads i) n o (Some (st, site.Runs)) (st, WaitsFor c) v at h)
+    resumed_old o v h = go (goes_cases equal_thread same_thread_decides (threads i) n o (Some (st, site.Runs)) (st, WaitsFor (Cell c)) v at h)
       where
         go : ((o ≡ n) × (◌≡◌ {A = Option ThreadState} (Some (st, site.Runs)) (Some v))) ⊎ ((n ≢ o) × (value_of equal_thread (threads i) o ≡ Some v)) → ((o ≡ n) × (v ≡ (st, site.Runs))) ⊎ ((n ≢ o) × (value_of equal_thread (threads i) o ≡ Some v))
         go (inl e) = let is : ◌≡◌ {A = ThreadState} v (st, site.Runs) = cc in inl (e.0, is)
@@ -48,10 +49,10 @@ module _ (p : List Stmt) (here : ℕ → Name → Type 0) (eqs : ℕ → Store) 
       where
         go : (n ≡ o) ⊎ (n ≢ o) → (q : Mode) × (value_of equal_thread resumed o ≡ Some (su, q))
         go (inl e) =
-            let both : ◌≡◌ {A = Option ThreadState} (Some (st, WaitsFor c)) (Some (su, l)) = sym at ∙ subst (λ (a : ThreadName). value_of equal_thread (threads i) a ≡ Some (su, l)) (sym e) h in
-            let pair : ◌≡◌ {A = ThreadState} (st, WaitsFor c) (su, l) = cc in
+            let both : ◌≡◌ {A = Option ThreadState} (Some (st, WaitsFor (Cell c))) (Some (su, l)) = sym at ∙ subst (λ (a : ThreadName). value_of equal_thread (threads i) a ≡ Some (su, l)) (sym e) h in
+            let pair : ◌≡◌ {A = ThreadState} (st, WaitsFor (Cell c)) (su, l) = cc in
             let stack : st ≡ su = ap (λ (v : ThreadState). v.0) pair in
-            (site.Runs, subst (λ (a : ThreadName). value_of equal_thread resumed a ≡ Some (su, site.Runs)) e (subst (λ (u : Stack). value_of equal_thread resumed n ≡ Some (u, site.Runs)) stack (with_here equal_thread same_thread_decides (threads i) n (st, site.Runs) (st, WaitsFor c) at)))
+            (site.Runs, subst (λ (a : ThreadName). value_of equal_thread resumed a ≡ Some (su, site.Runs)) e (subst (λ (u : Stack). value_of equal_thread resumed n ≡ Some (u, site.Runs)) stack (with_here equal_thread same_thread_decides (threads i) n (st, site.Runs) (st, WaitsFor (Cell c)) at)))
         go (inr other) = (l, with_there equal_thread same_thread_decides (threads i) n o (st, site.Runs) other ∙ h)
 
     waiting_stays : (j : ℕ) (o : ThreadName) (su : Stack) (x : VarName) → IsWaiting threads j o su x → IsWaiting (at_put threads i resumed) j o su x
@@ -59,9 +60,9 @@ module _ (p : List Stmt) (here : ℕ → Name → Type 0) (eqs : ℕ → Store) 
       where
         go : IsWaiting threads i o su x → (n ≡ o) ⊎ (n ≢ o) → value_of equal_thread resumed o ≡ Some (su, site.Waits x)
         go h (inl e) =
-            let both : ◌≡◌ {A = Option ThreadState} (Some (st, WaitsFor c)) (Some (su, site.Waits x)) = sym at ∙ subst (λ (a : ThreadName). value_of equal_thread (threads i) a ≡ Some (su, site.Waits x)) (sym e) h in
-            let pair : ◌≡◌ {A = ThreadState} (st, WaitsFor c) (su, site.Waits x) = cc in
-            let modes : WaitsFor c ≡ site.Waits x = ap (λ (v : ThreadState). v.1) pair in cc
+            let both : ◌≡◌ {A = Option ThreadState} (Some (st, WaitsFor (Cell c))) (Some (su, site.Waits x)) = sym at ∙ subst (λ (a : ThreadName). value_of equal_thread (threads i) a ≡ Some (su, site.Waits x)) (sym e) h in
+            let pair : ◌≡◌ {A = ThreadState} (st, WaitsFor (Cell c)) (su, site.Waits x) = cc in
+            let modes : WaitsFor (Cell c) ≡ site.Waits x = ap (λ (v : ThreadState). v.1) pair in cc
         go h (inr other) = with_there equal_thread same_thread_decides (threads i) n o (st, site.Runs) other ∙ h
 
     pub resume_parts : PartsMatch p here eqs records (at_put threads i resumed) made mail s
@@ -82,8 +83,8 @@ module _ (p : List Stmt) (here : ℕ → Name → Type 0) (eqs : ℕ → Store) 
             (λ o su x h. need o su x (resumed_old o (su, site.Needs x) h)) (λ j other o su x h. parts.waiting.needs j o su x h);
         compares = at_all threads i resumed (λ j (ts : Threads). (o : ThreadName) (su : Stack) (xs : List VarName) → value_of equal_thread ts o ≡ Some (su, site.WaitsAny xs) → IsOpenOn p (eqs j) su xs × ((x : VarName) → Contains xs x → IsFree (eqs j) x × IsHere (records j) x))
             (λ o su xs h. compare o su xs (resumed_old o (su, site.WaitsAny xs) h)) (λ j other o su xs h. parts.waiting.compares j o su xs h);
-        exchanges = at_all threads i resumed (λ j (ts : Threads). (o : ThreadName) (su : Stack) (d : CellName) → value_of equal_thread ts o ≡ Some (su, WaitsFor d) → IsExchange p (eqs j) su d)
-            (λ o su d h. exchange o su d (resumed_old o (su, WaitsFor d) h)) (λ j other o su d h. parts.waiting.exchanges j o su d h);
+        exchanges = at_all threads i resumed (λ j (ts : Threads). (o : ThreadName) (su : Stack) (d : CellName) → value_of equal_thread ts o ≡ Some (su, WaitsFor (Cell d)) → IsExchange p (eqs j) su d)
+            (λ o su d h. exchange o su d (resumed_old o (su, WaitsFor (Cell d)) h)) (λ j other o su d h. parts.waiting.exchanges j o su d h);
       };
       homes = at_all threads i resumed (λ j (ts : Threads). IsHome (here j) (eqs j) ts) (record { equations = (parts.homes i).equations; stacks = λ o v h. home o v (resumed_old o v h) }) (λ j other. parts.homes j);
       centred = parts.centred;
@@ -92,7 +93,7 @@ module _ (p : List Stmt) (here : ℕ → Name → Type 0) (eqs : ℕ → Store) 
     }
       where
         back : (o : ThreadName) (su : Stack) (q : Mode) → ((o ≡ n) × (◌≡◌ {A = ThreadState} (su, q) (st, site.Runs))) ⊎ ((n ≢ o) × (value_of equal_thread (threads i) o ≡ Some (su, q))) → IsThreadAt threads i o su
-        back o su q (inl e) = (WaitsFor c, rw (e.0, ap (λ (v : ThreadState). v.0) e.1) at)
+        back o su q (inl e) = (WaitsFor (Cell c), rw (e.0, ap (λ (v : ThreadState). v.0) e.1) at)
         back o su q (inr h) = (q, h.1)
 
         asked : (x : VarName) (t : Term) (o : ThreadName) → IsAwaited p eqs threads s.equations x t o → IsAwaited p eqs (at_put threads i resumed) s.equations x t o
@@ -111,12 +112,12 @@ module _ (p : List Stmt) (here : ℕ → Name → Type 0) (eqs : ℕ → Store) 
         compare o su xs (inr h) = parts.waiting.compares i o su xs h.1
         compare o su xs (inl e) = let modes : site.WaitsAny xs ≡ site.Runs = ap (λ (v : ThreadState). v.1) e.1 in absurd (cc)
 
-        exchange : (o : ThreadName) (su : Stack) (d : CellName) → ((o ≡ n) × (◌≡◌ {A = ThreadState} (su, WaitsFor d) (st, site.Runs))) ⊎ ((n ≢ o) × (value_of equal_thread (threads i) o ≡ Some (su, WaitsFor d))) → IsExchange p (eqs i) su d
+        exchange : (o : ThreadName) (su : Stack) (d : CellName) → ((o ≡ n) × (◌≡◌ {A = ThreadState} (su, WaitsFor (Cell d)) (st, site.Runs))) ⊎ ((n ≢ o) × (value_of equal_thread (threads i) o ≡ Some (su, WaitsFor (Cell d)))) → IsExchange p (eqs i) su d
         exchange o su d (inr h) = parts.waiting.exchanges i o su d h.1
-        exchange o su d (inl e) = let modes : WaitsFor d ≡ site.Runs = ap (λ (v : ThreadState). v.1) e.1 in absurd (cc)
+        exchange o su d (inl e) = let modes : WaitsFor (Cell d) ≡ site.Runs = ap (λ (v : ThreadState). v.1) e.1 in absurd (cc)
 
         home : (o : ThreadName) (v : ThreadState) → ((o ≡ n) × (v ≡ (st, site.Runs))) ⊎ ((n ≢ o) × (value_of equal_thread (threads i) o ≡ Some v)) → EachOfStack (here i) v.0
-        home o v (inl e) = subst (λ (u : ThreadState). EachOfStack (here i) u.0) (sym e.1) ((parts.homes i).stacks n (st, WaitsFor c) at)
+        home o v (inl e) = subst (λ (u : ThreadState). EachOfStack (here i) u.0) (sym e.1) ((parts.homes i).stacks n (st, WaitsFor (Cell c)) at)
         home o v (inr h) = (parts.homes i).stacks o v h.1
 
 with_twice : (ts : Threads) (n : ThreadName) (a b : ThreadState) → with_value equal_thread (with_value equal_thread ts n a) n b ≡ with_value equal_thread ts n b
@@ -133,15 +134,15 @@ with_twice ((m, u) ∷ ts) n a b = go (equal_thread m n) refl (with_twice ts n a
 
 -- it exchanges: the machine steps, and all that the parts say holds again
 module _ (p : List Stmt) (eqs : ℕ → Store) (records : ℕ → Records) (threads : ℕ → Threads) (made : ℕ → Counters) (mail : Mail) (z : State) (parts : PartsMatch p (here_at records) eqs records threads made mail z)
-    (i : ℕ) (n : ThreadName) (st : Stack) (c : CellName) (v : VarName) (sound : IsSound z.equations) (at : value_of equal_thread (threads i) n ≡ Some (st, WaitsFor c)) (value : value_of equal_cell z.cells c ≡ Some v) (home : IsHere (records i) v) (real : i ≢ 0) where
+    (i : ℕ) (n : ThreadName) (st : Stack) (c : CellName) (v : VarName) (sound : IsSound z.equations) (at : value_of equal_thread (threads i) n ≡ Some (st, WaitsFor (Cell c))) (value : value_of equal_cell z.cells c ≡ Some v) (home : IsHere (records i) v) (real : i ≢ 0) where
   abbrev new_stack : Stack
   new_stack = stack_left p (eqs i) st (parts.waiting.exchanges i n st c at).1 v
 
   pub serve_step : (t : State) × Exchanges p z n c (parts.waiting.exchanges i n st c at).0 new_stack t
-  serve_step = exchange_steps p (eqs i) z n st c v (parts.waiting.exchanges i n st c at) sound (parts.knowledge.known i) (parts.placed.up i n st (WaitsFor c, at)) value
+  serve_step = exchange_steps p (eqs i) z n st c v (parts.waiting.exchanges i n st c at) sound (parts.knowledge.known i) (parts.placed.up i n st (WaitsFor (Cell c), at)) value
 
   names : EachOfStack (here_at records i) new_stack × here_at records i (name.Var (parts.waiting.exchanges i n st c at).0)
-  names = exchange_home p (here_at records i) (inl (inl refl)) (inl tt) (eqs i) st c v (parts.waiting.exchanges i n st c at) (parts.homes i).equations ((parts.homes i).stacks n (st, WaitsFor c) at) (inl home)
+  names = exchange_home p (here_at records i) (inl (inl refl)) (inl tt) (eqs i) st c v (parts.waiting.exchanges i n st c at) (parts.homes i).equations ((parts.homes i).stacks n (st, WaitsFor (Cell c)) at) (inl home)
 
   pub new_home : IsHere (records i) (parts.waiting.exchanges i n st c at).0
   new_home = at_site names.1
@@ -161,7 +162,7 @@ module _ (p : List Stmt) (eqs : ℕ → Store) (records : ℕ → Records) (thre
 
       at_ready : value_of equal_thread (at_put threads i (with_value equal_thread (threads i) n (st, site.Runs)) i) n ≡ Some (st, site.Runs)
       at_ready = subst (λ (ts : Threads). value_of equal_thread ts n ≡ Some (st, site.Runs)) (sym (at_here threads i (with_value equal_thread (threads i) n (st, site.Runs))))
-          (with_here equal_thread same_thread_decides (threads i) n (st, site.Runs) (st, WaitsFor c) at)
+          (with_here equal_thread same_thread_decides (threads i) n (st, site.Runs) (st, WaitsFor (Cell c)) at)
 
       centred : IsCentreMade made t
       centred = subst (λ (x : State). IsCentreMade made x) (sym e.step.1) (record {

@@ -104,6 +104,21 @@ none_says c to (msg.BindReq x n t bundle) h (Put a v) = refl
 none_says c to (msg.Binding x t bundle) h (Get s) = refl
 none_says c to (msg.Binding x t bundle) h (Forward a y) = refl
 none_says c to (msg.Binding x t bundle) h (Put a v) = refl
+none_says c to (msg.PortSend q n k) h (Get s) = refl
+none_says c to (msg.PortSend q n k) h (Forward a y) = refl
+none_says c to (msg.PortSend q n k) h (Put a u) = refl
+none_says c to (msg.PortEnd n old new bundle) h (Get s) = refl
+none_says c to (msg.PortEnd n old new bundle) h (Forward a y) = refl
+none_says c to (msg.PortEnd n old new bundle) h (Put a u) = refl
+none_says c to (msg.CellMake d v bundle) h (Get s) = refl
+none_says c to (msg.CellMake d v bundle) h (Forward a y) = refl
+none_says c to (msg.CellMake d v bundle) h (Put a u) = refl
+none_says c to (msg.CellAsk d n k v bundle) h (Get s) = refl
+none_says c to (msg.CellAsk d n k v bundle) h (Forward a y) = refl
+none_says c to (msg.CellAsk d n k v bundle) h (Put a u) = refl
+none_says c to (msg.CellOld n v bundle) h (Get s) = refl
+none_says c to (msg.CellOld n v bundle) h (Forward a y) = refl
+none_says c to (msg.CellOld n v bundle) h (Put a u) = refl
 
 pub silent_counts : (c : CellName) (to : ℕ) (x : Msg) → IsSilent c to x → (m : token.Mail) → counts c m (sent_to to x) ≡ 0
 silent_counts c to x h m = ap (λ (b : Bool). cond b 1 0) (h m)

@@ -18,6 +18,7 @@ use Rattle.bind_protocol.specs.Records.{is_own}
 use Rattle.proxy_table.specs.Proxies.{entry_of}
 use Rattle.token_chain.specs.Holding.{Holding, nothing_held}
 use Rattle.site_model.specs.Site.{Site, Threads, CellRecord, cell_record_in, cell_record, runnable_threads}
+use Rattle.thread_roster.specs.declared.mode.Awaited.TheVariants.{Cell}
 use Rattle.thread_roster.specs.declared.mode.Mode.TheVariants.{Runs, WaitsFor}
 use Rattle.site_model.specs.Bundle.{with_own_bundle}
 use Rattle.site_model.specs.Transition.{Transition, without_output, with_messages, with_pick, and_then}
@@ -32,6 +33,7 @@ use Rattle.world_cells.proofs.UnitCellLemmas.{step_places, begins}
 use Rattle.tree_node.proofs.NameLemmas.{same_thread_decides}
 use Rattle.world_variables.proofs.OwnLemmas.{binds_run}
 use Rattle.oz_model.proofs.KindLemmas.{cell_cases}
+use Rattle.thread_roster.specs.declared.mode.Awaited.{Awaited}
 
 abbrev pub Lists : Site → Type 0
 Lists s = (d : CellName) → IsQueue (cell_record s d) s.threads d
@@ -40,14 +42,14 @@ pub not_both : {X : Type 0} (o : Option X) (v : X) → o ≡ Some v → o ≡ No
 not_both o v e f = cc
 
 -- a row that leaves what is kept of cells
-pub lists_of : (s t : Site) → t.cell_records ≡ s.cell_records → ((d : CellName) → SameWaiters s.threads t.threads d) → Lists s → Lists t
+pub lists_of : (s t : Site) → t.cell_records ≡ s.cell_records → ((d : Awaited) → SameWaiters s.threads t.threads d) → Lists s → Lists t
 lists_of s t e w all d =
     let p : cell_record t d ≡ cell_record s d = ap (λ (qs : List (CellName × CellRecord)). cell_record_in qs d) e in
-    queue_same (cell_record s d) (cell_record t d) s.threads t.threads d (ap (λ (q : CellRecord). q.queue) p) (ap (λ (q : CellRecord). q.held.waiting) p) (w d) (all d)
+    queue_same (cell_record s d) (cell_record t d) s.threads t.threads d (ap (λ (q : CellRecord). q.queue) p) (ap (λ (q : CellRecord). q.held.waiting) p) (w (Cell d)) (all d)
 
 -- ---- variables
 
-pub told_waiters : (s : Site) (x : VarName) (t : Term) (d : CellName) → SameWaiters s.threads (with_known_equation s x t).threads d
+pub told_waiters : (s : Site) (x : VarName) (t : Term) (d : Awaited) → SameWaiters s.threads (with_known_equation s x t).threads d
 told_waiters s x t d = go (is_own s.records x) (entry_of s.records.proxies x) refl refl
   where
     go : (o : Bool) (k : Option (Option Term)) → is_own s.records x ≡ o → entry_of s.records.proxies x ≡ k → SameWaiters s.threads (with_known_equation s x t).threads d
@@ -56,11 +58,11 @@ told_waiters s x t d = go (is_own s.records x) (entry_of s.records.proxies x) re
     go false (Some None) e f = rw (e, f) (woken_waiters ((x, t) ∷ s.equations) x s.threads d)
     go false (Some (Some r)) e f = rw (e, f) (waiters_same s.threads d)
 
-pub told_all_waiters : (s : Site) (es : List Equation) (d : CellName) → SameWaiters s.threads (with_known_equations s es).threads d
+pub told_all_waiters : (s : Site) (es : List Equation) (d : Awaited) → SameWaiters s.threads (with_known_equations s es).threads d
 told_all_waiters s [] d = waiters_same s.threads d
 told_all_waiters s (e ∷ es) d = waiters_then s.threads (with_known_equation s e.0 e.1).threads _ d (told_waiters s e.0 e.1 d) (told_all_waiters (with_known_equation s e.0 e.1) es d)
 
-pub binds_each_waiters : (limit : ℕ) (es : List Equation) (s : Site) (d : CellName) → SameWaiters s.threads (own_binds limit es s).site.threads d
+pub binds_each_waiters : (limit : ℕ) (es : List Equation) (s : Site) (d : Awaited) → SameWaiters s.threads (own_binds limit es s).site.threads d
 binds_each_waiters limit [] s d = waiters_same s.threads d
 binds_each_waiters limit (e ∷ es) s d = waiters_then s.threads (own_binds limit es s).site.threads _ d (binds_each_waiters limit es s d) (woken_waiters (e ∷ (own_binds limit es s).site.equations) e.0 (own_binds limit es s).site.threads d)
 
@@ -76,7 +78,7 @@ module _ (p : List Stmt) (n limit : ℕ) (k : Pick) (kinds : List NameKind) (e :
   abbrev went : Threads
   went = with_optional_value equal_thread begun.site.threads k.thread (runnable_state (living_stack left))
 
-  begun_waiters : (d : CellName) → SameWaiters s.threads begun.site.threads d
+  begun_waiters : (d : Awaited) → SameWaiters s.threads begun.site.threads d
   begun_waiters d = binds_each_waiters limit e.adds (with_fresh_names kinds s) d
 
   same_threads : (c : CellChange) → (after_cell c begun.site).threads ≡ begun.site.threads
@@ -87,11 +89,11 @@ module _ (p : List Stmt) (n limit : ℕ) (k : Pick) (kinds : List NameKind) (e :
   went_is : (after_effect k.thread e begun.site).threads ≡ went
   went_is = ap (λ (ts : Threads). with_optional_value equal_thread ts k.thread (runnable_state (living_stack left))) (same_threads e.cell)
 
-  runs_other : (o : Option Stack) (d : CellName) → IsOtherMode d (runnable_state o)
+  runs_other : (o : Option Stack) (d : Awaited) → IsOtherMode d (runnable_state o)
   runs_other None d r q = absurd (cc)
   runs_other (Some x) d r q = running_not x r d q
 
-  went_waiters : (d : CellName) → SameWaiters s.threads (after_effect k.thread e begun.site).threads d
+  went_waiters : (d : Awaited) → SameWaiters s.threads (after_effect k.thread e begun.site).threads d
   went_waiters d = subst (λ (ts : Threads). SameWaiters s.threads ts d) (sym went_is)
       (waiters_then s.threads begun.site.threads went d (begun_waiters d)
       (goes_waiters begun.site.threads k.thread (runnable_state (living_stack left)) (st, Runs) d (binds_run limit e.adds (with_fresh_names kinds s) k.thread st runs) (λ r q. running_not st r d q) (runs_other (living_stack left) d)))
@@ -101,7 +103,7 @@ module _ (p : List Stmt) (n limit : ℕ) (k : Pick) (kinds : List NameKind) (e :
   IsUnused None = Unit {0}
   IsUnused (Some b) = value_of equal_thread s.threads b.name ≡ None
 
-  born_after : (b : Option Birth) → IsUnused b → (d : CellName) → SameWaiters s.threads (birth_row p n limit b (after_effect k.thread e begun.site)).site.threads d
+  born_after : (b : Option Birth) → IsUnused b → (d : Awaited) → SameWaiters s.threads (birth_row p n limit b (after_effect k.thread e begun.site)).site.threads d
   born_after None new d = went_waiters d
   born_after (Some b) new d = go (placement n (after_effect k.thread e begun.site).records.site b.at == (after_effect k.thread e begun.site).records.site)
     where
@@ -122,7 +124,7 @@ module _ (p : List Stmt) (n limit : ℕ) (k : Pick) (kinds : List NameKind) (e :
       go true = waiters_then s.threads (after_effect k.thread e begun.site).threads _ d (went_waiters d) (born_waiters (threads_born p (Some b)) (after_effect k.thread e begun.site).threads d apart)
       go false = went_waiters d
 
-  pub step_waiters : IsUnused e.born → (d : CellName) → SameWaiters s.threads (step_row p n limit k kinds e s).site.threads d
+  pub step_waiters : IsUnused e.born → (d : Awaited) → SameWaiters s.threads (step_row p n limit k kinds e s).site.threads d
   step_waiters new d = born_after e.born new d
 
   -- a cell that is made is nowhere before
@@ -143,7 +145,7 @@ module _ (p : List Stmt) (n limit : ℕ) (k : Pick) (kinds : List NameKind) (e :
       at c is b = ap (λ (qs : List (CellName × CellRecord)). cell_record_in qs b) (step_places p n limit k kinds e s ∙ ap (λ (x : CellChange). (after_cell x begun.site).cell_records) is)
 
       kept : (q : CellRecord) → cell_record t d ≡ q → q.queue ≡ (cell_record s d).queue → q.held.waiting ≡ (cell_record s d).held.waiting → IsQueue (cell_record t d) t.threads d
-      kept q e f g = queue_same (cell_record s d) (cell_record t d) s.threads t.threads d (ap (λ (x : CellRecord). x.queue) e ∙ f) (ap (λ (x : CellRecord). x.held.waiting) e ∙ g) (step_waiters new d) (all d)
+      kept q e f g = queue_same (cell_record s d) (cell_record t d) s.threads t.threads d (ap (λ (x : CellRecord). x.queue) e ∙ f) (ap (λ (x : CellRecord). x.held.waiting) e ∙ g) (step_waiters new (Cell d)) (all d)
 
       go : (c : CellChange) → e.cell ≡ c → IsUnmade c → IsQueue (cell_record t d) t.threads d
       go Stays is h = kept (cell_record s d) (at Stays is d ∙ was d) refl refl

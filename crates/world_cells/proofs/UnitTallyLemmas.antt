@@ -13,7 +13,7 @@ use Rattle.tree_node.specs.State.{Stack, State, equal_thread}
 use Rattle.tree_node.specs.Store.{Equation, IsSound}
 use Rattle.kernel_syntax.specs.declared.stmt.Stmt.{Stmt}
 use Rattle.site_message.specs.declared.message.Sent.{Sent}
-use Rattle.oz_model.specs.Effect.{Effect, CellChange, Stays, Made, Exchanged, stack_effect}
+use Rattle.oz_model.specs.Effect.{Effect, CellChange, Stays, Made, Exchanged, PortChange, Keeps, Opened, Sent as SentTo, stack_effect}
 use Rattle.oz_model.specs.Run.{IsRun, start, Run as ModelRun, exchanges, exchanges_from, exchange_in}
 use Rattle.oz_model.specs.Step as Step
 use Rattle.oz_model.specs.Step.{effect_of, next}
@@ -23,25 +23,29 @@ use Rattle.oz_model.specs.Need.{Need, Takes, stack_need}
 use Rattle.thread_roster.specs.declared.mode.Mode.TheVariants as site
 use Rattle.site_model.specs.Transition.{Transition}
 use Rattle.site_model.specs.Cells.{request_row}
-use Rattle.site_model.specs.Unit.{IsUnit, IsUnitFor, IsStepOrRequest, IsRootBind, bind_attempt, next_names, step_row, step_pick, IsTokenHere}
+use Rattle.site_model.specs.Unit.{IsUnit, IsUnitFor, IsStepOrRequest, kept_step, IsCellUnit as IsUnitOfCell, IsRootBind, bind_attempt, next_names, step_row, step_pick, IsTokenHere}
 use Rattle.world_model.specs.World.{World, Sites, Mail, after_transition, records, threads, counters, eqs}
 use Rattle.world_model.specs.Names.{here_at}
 use Rattle.world_variables.proofs.SumLemmas.{Sums}
 use Rattle.world_model.proofs.PutLemmas.{nat_decides}
 use Rattle.site_model.proofs.EffectLemmas.{bind_effect}
 use Rattle.world_variables.proofs.UnitLemmas.{SiteStep, UnitDone}
-use Rattle.world_variables.proofs.FollowLemmas.{steps_picks}
+use Rattle.world_variables.proofs.FollowLemmas.{steps_picks, kept_made, kept_exchanged, kept_opened, kept_sent, stays_cell}
 use Rattle.world_variables.proofs.RunsLemmas.{runs_append}
 use Rattle.world_model.proofs.CellLemmas.{request_only}
 use Rattle.world_cells.proofs.FrameLemmas.{NoCells}
 use Rattle.world_cells.proofs.ExchangeStepLemmas.{exchange_found}
-use Rattle.world_cells.proofs.UnitCellRowLemmas.{IsReachable}
+use Rattle.world_cells.proofs.UnitCellRowLemmas.{IsReachable, reach_mobile}
 use Rattle.world_cells.proofs.UnitLemmas.{done, finds, own, lone_exchange}
 use Rattle.world_cells.specs.CellCounts.{IsTallied}
 use Rattle.world_model.specs.Matches.{IsNumbered, IsExchange, CellsMatch}
 use Rattle.world_cells.proofs.CellTallyLemmas.{CellsTallied}
 use Rattle.world_cells.proofs.CellTallyRowLemmas.{exchanges_of, nothing_tally, unit_tally, asks_tally}
 use Rattle.world_variables.specs.Laws.{PartsIn}
+use Rattle.world_variables.specs.Plain.{IsKept}
+use Rattle.world_cells.specs.Standing.{IsKeptUnit}
+use Rattle.world_model.proofs.MobileLemmas.{IsMobile, mobile_at, mobile_after, finds_mobile}
+use Rattle.world_model.specs.Chain.{mobile_cells}
 
 -- exchanges of picks and then of others
 exchanges_then : (p : List Stmt) (b : CellName) (ks ls : List Pick) (s t : State) → IsRun p s ks t → exchanges_from p b s (ks ++ ls) ≡ exchanges_from p b s ks ++ exchanges_from p b t ls
@@ -53,14 +57,14 @@ exchanges_then p b (k ∷ ks) ls s t (m, step, rest) =
 
 -- the exchanges of these picks pay for the messages among those sent
 abbrev pub Tally : List Stmt → ℕ → World → State → List Pick → List Sent → Type 0
-Tally p n w c ks out = CellsTallied n w.sites w.mail c.cells out (λ b. length (exchanges p ks b))
+Tally p n w c ks out = CellsTallied n w.sites w.mail (mobile_cells c.cells) out (λ b. length (exchanges p ks b))
 
 -- more picks, so many exchanges
 pub recount : (n : ℕ) (f : Sites) (mail : Mail) (cells : List (CellName × VarName)) (out : List Sent) (x y : CellName → ℕ) → ((b : CellName) → y b ≡ x b) → CellsTallied n f mail cells out x → CellsTallied n f mail cells out y
 recount n f mail cells out x y same t = record {
   tallied = λ c v e. subst (λ (k : ℕ). IsTallied n f mail out c k) (sym (same c)) (t.tallied c v e);
   unmade = t.unmade;
-  still = λ c e. same c ∙ t.still c e;
+  still = λ c z e. same c ∙ t.still c z e;
 }
 
 pub more_picks : (p : List Stmt) (b : CellName) (ks ls : List Pick) (c : State) → ModelRun p ks c → length (exchanges p (ks ++ ls) b) ≡ length (exchanges p ks b) + length (exchanges_from p b c ls)
@@ -98,15 +102,15 @@ module _ (p : List Stmt) (n limit i : ℕ) (real : i ≢ 0) (w : World) (ks : Li
   -- a unit that has nothing to do with cells
   pub plain_tally : (d : Transition) (c2 : State) → d.picks ≡ [] → ModelRun p (ks ++ d.picks) c2 → NoCells (w.sites i) d → Tally p n (after_transition w i d) c2 (ks ++ d.picks) (out ++ d.sent)
   plain_tally d c2 none run2 still =
-      recount n (after_transition w i d).sites (after_transition w i d).mail c2.cells (out ++ d.sent) _ _ (λ b. no_exchanges p b ks d.picks c run none)
-      (subst (λ (y : State). CellsTallied n (after_transition w i d).sites (after_transition w i d).mail y.cells (out ++ d.sent) (λ b. length (exchanges p ks b))) (sym (same_state d c2 none run2))
+      recount n (after_transition w i d).sites (after_transition w i d).mail (mobile_cells c2.cells) (out ++ d.sent) _ _ (λ b. no_exchanges p b ks d.picks c run none)
+      (subst (λ (y : State). CellsTallied n (after_transition w i d).sites (after_transition w i d).mail (mobile_cells y.cells) (out ++ d.sent) (λ b. length (exchanges p ks b))) (sym (same_state d c2 none run2))
       (nothing_tally n w c x out (λ b. length (exchanges p ks b)) t i d still))
 
   step_tally : (th : ThreadName) (st : Stack) (kinds : List NameKind) (bind : Option Equation) (at : value_of equal_thread (threads w.sites i) th ≡ Some (st, site.Runs)) (step : SiteStep p (eqs w.sites i) i st kinds bind)
-      (reach : IsReachable (w.sites i) (stack_effect p (eqs w.sites i) (next_names i (counters w.sites i) kinds) bind st).cell) (d : Transition) →
+      (reach : IsReachable (w.sites i) (stack_effect p (eqs w.sites i) (next_names i (counters w.sites i) kinds) bind st).cell) (keeps : (stack_effect p (eqs w.sites i) (next_names i (counters w.sites i) kinds) bind st).port ≡ Keeps) (d : Transition) →
       d ≡ step_row p n limit (step_pick th (next_names i (counters w.sites i) kinds) bind) kinds (stack_effect p (eqs w.sites i) (next_names i (counters w.sites i) kinds) bind st) (w.sites i) →
       (c2 : State) → ModelRun p (ks ++ d.picks) c2 → Tally p n (after_transition w i d) c2 (ks ++ d.picks) (out ++ d.sent)
-  step_tally th st kinds bind at step reach d is c2 run2 =
+  step_tally th st kinds bind at step reach keeps d is c2 run2 =
       subst (λ (y : Transition). ModelRun p (ks ++ y.picks) c2 → Tally p n (after_transition w i y) c2 (ks ++ y.picks) (out ++ y.sent)) (sym is) tallied run2
     where
       k : Pick
@@ -116,7 +120,10 @@ module _ (p : List Stmt) (n limit i : ℕ) (real : i ≢ 0) (w : World) (ks : Li
       e = stack_effect p (eqs w.sites i) (next_names i (counters w.sites i) kinds) bind st
 
       u : UnitDone p w c n limit i th st kinds bind
-      u = done p n limit i real w ks c run sound parts numbers x sums th st kinds bind at step reach
+      u = done p n limit i real w ks c run sound parts numbers x sums th st kinds bind at step reach keeps
+
+      mobile : IsMobile e.cell
+      mobile = reach_mobile w c i e.cell x reach
 
       deed : Transition
       deed = step_row p n limit (step_pick th (next_names i (counters w.sites i) kinds) bind) kinds (stack_effect p (eqs w.sites i) (next_names i (counters w.sites i) kinds) bind st) (w.sites i)
@@ -129,19 +136,19 @@ module _ (p : List Stmt) (n limit i : ℕ) (real : i ≢ 0) (w : World) (ks : Li
           (ks ++ (step_row p n limit (step_pick th (next_names i (counters w.sites i) kinds) bind) kinds (stack_effect p (eqs w.sites i) (next_names i (counters w.sites i) kinds) bind st) (w.sites i)).picks)
           (out ++ (step_row p n limit (step_pick th (next_names i (counters w.sites i) kinds) bind) kinds (stack_effect p (eqs w.sites i) (next_names i (counters w.sites i) kinds) bind st) (w.sites i)).sent)
       tallied run3 =
-          recount n (after_transition w i deed).sites (after_transition w i deed).mail c2.cells (out ++ deed.sent) _ _ (λ b. one_pick p b ks deed.picks c k e.cell run picks (ap (λ (y : Effect). y.cell) u.effect))
+          recount n (after_transition w i deed).sites (after_transition w i deed).mail (mobile_cells c2.cells) (out ++ deed.sent) _ _ (λ b. one_pick p b ks deed.picks c k e.cell run picks (ap (λ (y : Effect). y.cell) u.effect))
           (subst (λ (cells : List (CellName × VarName)). CellsTallied n (after_transition w i deed).sites (after_transition w i deed).mail cells (out ++ deed.sent) (λ b. length (exchanges p ks b) + exchanges_of e.cell b)) (sym cells_are)
-          (unit_tally n w c x out (λ b. length (exchanges p ks b)) t p limit k kinds e i low high (parts.kept i).site (finds p n limit i real w ks c run sound parts numbers x sums th st kinds bind at step reach) reach (own p n limit i real w ks c run sound parts numbers x sums th st kinds bind at step reach)))
+          (unit_tally n w c x out (λ b. length (exchanges p ks b)) t p limit k kinds e i low high (parts.kept i).site (finds_mobile c.cells e.cell mobile (finds p n limit i real w ks c run sound parts numbers x sums th st kinds bind at step reach keeps)) reach (own p n limit i real w ks c run sound parts numbers x sums th st kinds bind at step reach keeps)))
         where
           next_run : ModelRun p (ks ++ deed.picks) (next p c k)
           next_run = runs_append p ks deed.picks (start p) c (next p c k) run (subst (λ (ls : List Pick). IsRun p c ls (next p c k)) (sym picks) (next p c k, (u.allowed, refl), refl))
 
-          cells_are : c2.cells ≡ Step.cells_after c.cells e.cell
-          cells_are = ap (λ (y : State). y.cells) (at_most_one_end p (start p) (ks ++ deed.picks) c2 (next p c k) run3 next_run) ∙ ap (λ (y : Effect). Step.cells_after c.cells y.cell) u.effect
+          cells_are : mobile_cells c2.cells ≡ Step.cells_after (mobile_cells c.cells) e.cell
+          cells_are = ap (λ (y : State). mobile_cells y.cells) (at_most_one_end p (start p) (ks ++ deed.picks) c2 (next p c k) run3 next_run) ∙ ap (λ (y : Effect). mobile_cells (Step.cells_after c.cells y.cell)) u.effect ∙ mobile_after c.cells e.cell mobile
 
-  asks_tallied : (th : ThreadName) (st : Stack) (b : CellName) (new : VarName) → value_of equal_thread (threads w.sites i) th ≡ Some (st, site.Runs) → IsExchange p (eqs w.sites i) st b → (IsTokenHere (w.sites i) b → ⊥) → (d : Transition) → d ≡ request_row limit b new th st (w.sites i) →
+  asks_tallied : (th : ThreadName) (st : Stack) (b : CellName) (new : VarName) → value_of equal_thread (threads w.sites i) th ≡ Some (st, site.Runs) → IsExchange p (eqs w.sites i) st b → b.at ≡ 0 → (IsTokenHere (w.sites i) b → ⊥) → (d : Transition) → d ≡ request_row limit b new th st (w.sites i) →
       (c2 : State) → ModelRun p (ks ++ d.picks) c2 → Tally p n (after_transition w i d) c2 (ks ++ d.picks) (out ++ d.sent)
-  asks_tallied th st b new at exchange elsewhere d is c2 run2 = subst (λ (y : Transition). ModelRun p (ks ++ y.picks) c2 → Tally p n (after_transition w i y) c2 (ks ++ y.picks) (out ++ y.sent)) (sym is) tallied run2
+  asks_tallied th st b new at exchange mobile elsewhere d is c2 run2 = subst (λ (y : Transition). ModelRun p (ks ++ y.picks) c2 → Tally p n (after_transition w i y) c2 (ks ++ y.picks) (out ++ y.sent)) (sym is) tallied run2
     where
       found : (v : VarName) × (value_of equal_cell c.cells b ≡ Some v)
       found = exchange_found p (eqs w.sites i) c ks th st b exchange run sound (parts.knowledge.known i) (parts.placed.up i th st (site.Runs, at))
@@ -149,12 +156,12 @@ module _ (p : List Stmt) (n limit i : ℕ) (real : i ≢ 0) (w : World) (ks : Li
       tallied : ModelRun p (ks ++ (request_row limit b new th st (w.sites i)).picks) c2 → Tally p n (after_transition w i (request_row limit b new th st (w.sites i))) c2 (ks ++ (request_row limit b new th st (w.sites i)).picks) (out ++ (request_row limit b new th st (w.sites i)).sent)
       tallied run3 =
           let none = (request_only limit b new th st (w.sites i)).picks in
-          recount n (after_transition w i (request_row limit b new th st (w.sites i))).sites (after_transition w i (request_row limit b new th st (w.sites i))).mail c2.cells (out ++ (request_row limit b new th st (w.sites i)).sent) _ _ (λ y. no_exchanges p y ks (request_row limit b new th st (w.sites i)).picks c run none)
-          (subst (λ (y : State). CellsTallied n (after_transition w i (request_row limit b new th st (w.sites i))).sites (after_transition w i (request_row limit b new th st (w.sites i))).mail y.cells (out ++ (request_row limit b new th st (w.sites i)).sent) (λ q. length (exchanges p ks q))) (sym (same_state (request_row limit b new th st (w.sites i)) c2 none run3))
-          (asks_tally n w c x out (λ q. length (exchanges p ks q)) t limit i b new th st found.0 low high found.1 (parts.kept i).site (λ v e. elsewhere (v, e))))
+          recount n (after_transition w i (request_row limit b new th st (w.sites i))).sites (after_transition w i (request_row limit b new th st (w.sites i))).mail (mobile_cells c2.cells) (out ++ (request_row limit b new th st (w.sites i)).sent) _ _ (λ y. no_exchanges p y ks (request_row limit b new th st (w.sites i)).picks c run none)
+          (subst (λ (y : State). CellsTallied n (after_transition w i (request_row limit b new th st (w.sites i))).sites (after_transition w i (request_row limit b new th st (w.sites i))).mail (mobile_cells y.cells) (out ++ (request_row limit b new th st (w.sites i)).sent) (λ q. length (exchanges p ks q))) (sym (same_state (request_row limit b new th st (w.sites i)) c2 none run3))
+          (asks_tally n w c x out (λ q. length (exchanges p ks q)) t limit i b new th st found.0 low high (mobile_at c.cells b mobile ∙ found.1) (parts.kept i).site (λ v e. elsewhere (v, e))))
 
-  pub unit_tallied : (th : ThreadName) (d : Transition) → IsUnit p n limit th (w.sites i) d → (c2 : State) → ModelRun p (ks ++ d.picks) c2 → Tally p n (after_transition w i d) c2 (ks ++ d.picks) (out ++ d.sent)
-  unit_tallied th d (st, at, unit) c2 run2 = go (stack_need p (eqs w.sites i) st) refl unit
+  pub unit_tallied : (th : ThreadName) (d : Transition) → IsUnit p n limit th (w.sites i) d → (IsKeptUnit p (w.sites i) th → ⊥) → (c2 : State) → ModelRun p (ks ++ d.picks) c2 → Tally p n (after_transition w i d) c2 (ks ++ d.picks) (out ++ d.sent)
+  unit_tallied th d (st, at, unit) other c2 run2 = go (stack_need p (eqs w.sites i) st) refl unit
     where
       Goal : Type 0
       Goal = Tally p n (after_transition w i d) c2 (ks ++ d.picks) (out ++ d.sent)
@@ -164,26 +171,45 @@ module _ (p : List Stmt) (n limit i : ℕ) (real : i ≢ 0) (w : World) (ks : Li
         where
           one : (q : Bool) → (u.site == (w.sites i).records.site) ≡ q → d ≡ bind_attempt p n limit th st u y q (w.sites i) → Goal
           one true q is = step_tally th st [] (Some (u, y)) at (a, b, e, allows, free, below, (nat_decides u.site (w.sites i).records.site).0 q ∙ (parts.kept i).site, refl)
-              (subst (IsReachable (w.sites i)) (sym (ap (λ (z : Effect). z.cell) (bind_effect p (eqs w.sites i) st a b (u, y) e))) tt) d is c2 run2
+              (subst (IsReachable (w.sites i)) (sym (ap (λ (z : Effect). z.cell) (bind_effect p (eqs w.sites i) st a b (u, y) e))) tt) (ap (λ (z : Effect). z.port) (bind_effect p (eqs w.sites i) st a b (u, y) e)) d is c2 run2
           one false q is = plain_tally d c2 (ap (λ (z : Transition). z.picks) is) run2 (subst (NoCells (w.sites i)) (sym is) (record { cell_records = refl; managers = refl; site = refl; silent = (tt, tt) }))
 
-      takes : (kinds : List NameKind) → stack_need p (eqs w.sites i) st ≡ Takes kinds → (o : ℕ) → o ≡ i → (ch : CellChange) → (stack_effect p (eqs w.sites i) (next_names o (counters w.sites i) kinds) None st).cell ≡ ch →
-          IsStepOrRequest limit th st (w.sites i) (step_row p n limit (step_pick th (next_names o (counters w.sites i) kinds) None) kinds (stack_effect p (eqs w.sites i) (next_names o (counters w.sites i) kinds) None st) (w.sites i)) ch d → Goal
-      takes kinds e o same ch is s = one ch (subst (λ (k : ℕ). (stack_effect p (eqs w.sites i) (next_names k (counters w.sites i) kinds) None st).cell ≡ ch) same is)
-          (subst (λ (k : ℕ). IsStepOrRequest limit th st (w.sites i) (step_row p n limit (step_pick th (next_names k (counters w.sites i) kinds) None) kinds (stack_effect p (eqs w.sites i) (next_names k (counters w.sites i) kinds) None st) (w.sites i)) ch d) same s)
+      takes : (kinds : List NameKind) → stack_need p (eqs w.sites i) st ≡ Takes kinds → (o : ℕ) → o ≡ i → (IsKept (stack_effect p (eqs w.sites i) (next_names o (counters w.sites i) kinds) None st) → ⊥) →
+          IsStepOrRequest limit th st (w.sites i) (step_row p n limit (step_pick th (next_names o (counters w.sites i) kinds) None) kinds (stack_effect p (eqs w.sites i) (next_names o (counters w.sites i) kinds) None st) (w.sites i)) (kept_step p limit th st kinds (next_names o (counters w.sites i) kinds) (w.sites i)) (stack_effect p (eqs w.sites i) (next_names o (counters w.sites i) kinds) None st) d → Goal
+      takes kinds e o same not_kept s = ported (stack_effect p (eqs w.sites i) (next_names i (counters w.sites i) kinds) None st).port refl
+          (subst (λ (k : ℕ). IsKept (stack_effect p (eqs w.sites i) (next_names k (counters w.sites i) kinds) None st) → ⊥) same not_kept)
+          (subst (λ (k : ℕ). IsStepOrRequest limit th st (w.sites i) (step_row p n limit (step_pick th (next_names k (counters w.sites i) kinds) None) kinds (stack_effect p (eqs w.sites i) (next_names k (counters w.sites i) kinds) None st) (w.sites i)) (kept_step p limit th st kinds (next_names k (counters w.sites i) kinds) (w.sites i)) (stack_effect p (eqs w.sites i) (next_names k (counters w.sites i) kinds) None st) d) same s)
         where
-          one : (ch : CellChange) → (stack_effect p (eqs w.sites i) (next_names i (counters w.sites i) kinds) None st).cell ≡ ch →
-              IsStepOrRequest limit th st (w.sites i) (step_row p n limit (step_pick th (next_names i (counters w.sites i) kinds) None) kinds (stack_effect p (eqs w.sites i) (next_names i (counters w.sites i) kinds) None st) (w.sites i)) ch d → Goal
-          one Stays q is = step_tally th st kinds None at e (subst (IsReachable (w.sites i)) (sym q) tt) d is c2 run2
-          one (Made y v) q is = step_tally th st kinds None at e (subst (IsReachable (w.sites i)) (sym q) tt) d is c2 run2
-          one (Exchanged y new told) q (inl (here, is)) = step_tally th st kinds None at e (subst (IsReachable (w.sites i)) (sym q) here) d is c2 run2
-          one (Exchanged y new told) q (inr (elsewhere, is)) = asks_tallied th st y new at (lone_exchange p (eqs w.sites i) (next_names i (counters w.sites i) kinds) kinds st y new told e q) elsewhere d is c2 run2
+          effect_now : Effect
+          effect_now = stack_effect p (eqs w.sites i) (next_names i (counters w.sites i) kinds) None st
+
+          stepped : Transition
+          stepped = step_row p n limit (step_pick th (next_names i (counters w.sites i) kinds) None) kinds effect_now (w.sites i)
+
+          kept_now : Transition
+          kept_now = kept_step p limit th st kinds (next_names i (counters w.sites i) kinds) (w.sites i)
+
+          step_now : d ≡ stepped → IsReachable (w.sites i) effect_now.cell → effect_now.port ≡ Keeps → Goal
+          step_now is reach keeps = step_tally th st kinds None at e reach keeps d is c2 run2
+
+          one : (ch : CellChange) → effect_now.cell ≡ ch → effect_now.port ≡ Keeps → (IsKept effect_now → ⊥) → IsUnitOfCell limit th st (w.sites i) stepped kept_now ch d → Goal
+          one Stays q keeps not_so is = step_now is (subst (IsReachable (w.sites i)) (sym q) tt) keeps
+          one (Made y v) q keeps not_so (inl (mobile, is)) = step_now is (subst (IsReachable (w.sites i)) (sym q) mobile) keeps
+          one (Made y v) q keeps not_so (inr (far, is)) = absurd (not_so (kept_made effect_now y v keeps q far))
+          one (Exchanged y new told) q keeps not_so (inl (mobile, inl (here, is))) = step_now is (subst (IsReachable (w.sites i)) (sym q) here) keeps
+          one (Exchanged y new told) q keeps not_so (inl (mobile, inr (elsewhere, is))) = asks_tallied th st y new at (lone_exchange p (eqs w.sites i) (next_names i (counters w.sites i) kinds) kinds st y new told e q) mobile elsewhere d is c2 run2
+          one (Exchanged y new told) q keeps not_so (inr (far, is)) = absurd (not_so (kept_exchanged effect_now y new told keeps q far))
+
+          ported : (q : PortChange) → effect_now.port ≡ q → (IsKept effect_now → ⊥) → IsStepOrRequest limit th st (w.sites i) stepped kept_now effect_now d → Goal
+          ported Keeps q not_so u = one effect_now.cell refl q not_so (stays_cell limit th st (w.sites i) stepped kept_now effect_now d q u)
+          ported (Opened r end) q not_so u = absurd (not_so (kept_opened effect_now r end q))
+          ported (SentTo r value new) q not_so u = absurd (not_so (kept_sent effect_now r value new q))
 
       go : (d0 : Need) → stack_need p (eqs w.sites i) st ≡ d0 → IsUnitFor p n limit (w.sites i) th st d0 d → Goal
       go (need.Waits y) e (z, class, is) = plain_tally d c2 (ap (λ (q : Transition). q.picks) is) run2 (subst (NoCells (w.sites i)) (sym is) (record { cell_records = refl; managers = refl; site = refl; silent = tt }))
       go (need.WaitsAny r) e (zs, open_on, is) = plain_tally d c2 (ap (λ (q : Transition). q.picks) is) run2 (subst (NoCells (w.sites i)) (sym is) (record { cell_records = refl; managers = refl; site = refl; silent = tt }))
       go (need.Binds a b) e (u, y, root, is) = binds a b e u y root is
-      go (Takes kinds) e s = takes kinds e (w.sites i).records.site (parts.kept i).site (stack_effect p (eqs w.sites i) (next_names (w.sites i).records.site (counters w.sites i) kinds) None st).cell refl s
+      go (Takes kinds) e s = takes kinds e (w.sites i).records.site (parts.kept i).site (λ k. other (st, kinds, at, e, k)) s
 
 pub same_centre : (p : List Stmt) (ks ls : List Pick) (c c2 : State) → ModelRun p ks c → ls ≡ [] → ModelRun p (ks ++ ls) c2 → c2 ≡ c
 same_centre p ks ls c c2 run none run2 = at_most_one_end p (start p) ks c2 c (subst (λ (l : List Pick). ModelRun p l c2) (ap (λ (l : List Pick). ks ++ l) none ∙ append-nil ks) run2) run

@@ -1,21 +1,12 @@
 -- How many messages of a cell were sent, by their kinds.
-use Rattle.std.specs.Prelude.{ℕ, ◌+◌, ◌*◌, ◌≤◌, List, [], ◌∷◌, length, if◌then◌else◌}
+use Rattle.std.specs.Prelude.{ℕ, ◌+◌, List, [], ◌∷◌, if◌then◌else◌}
 use Rattle.tree_node.specs.Goal.{equal_cell}
 use Rattle.tree_node.specs.declared.names.CellName.{CellName}
-use Rattle.kernel_syntax.specs.declared.stmt.Stmt.{Stmt}
 use Rattle.site_message.specs.declared.message.Msg.{Msg}
 use Rattle.site_message.specs.declared.message.Msg.TheVariants as msg
 use Rattle.site_message.specs.declared.message.Sent.{Sent}
-use Rattle.site_message.specs.declared.turn.Turn.{Turn}
-use Rattle.site_message.specs.Journal.{Wired, sent_of}
 use Rattle.token_chain.specs.Mail.{sent_count}
 use Rattle.token_chain.specs.Tally.{Tally}
-use Rattle.oz_model.specs.Run.{Run, exchanges}
-use Rattle.tree_node.specs.Each.{Each}
-use Rattle.tree_node.specs.State.{State}
-use Rattle.site_model.specs.Run.{IsSiteIn}
-use Rattle.world_cells.specs.FitRuns.{SiteFitRun}
-use Rattle.world_model.specs.Schedule.{schedule}
 use Rattle.world_model.specs.World.{Sites, Mail, cell_records}
 use Rattle.world_model.specs.Chain.{held_in, messages}
 
@@ -35,9 +26,3 @@ cell_weights c g f u (m ∷ ms) = cell_weight c g f u m.msg + cell_weights c g f
 abbrev pub IsTallied : ℕ → Sites → Mail → List Sent → CellName → ℕ → Type 0
 IsTallied n f mail out c exchanges =
     Tally n (held_in (cell_records f) c) (sent_count c (messages mail)) (cell_weights c 1 0 0 out) (cell_weights c 0 1 0 out) (cell_weights c 0 0 1 out) exchanges
-
--- in every run whose messages can be taken, those of a cell are at most three for each exchange and each site
-abbrev pub FewInFitRuns : Type 0
-FewInFitRuns =
-    (p : List Stmt) (n limit : ℕ) (j : List Turn) (f : Sites) (c : CellName) → 1 ≤ n → Wired j → Each (IsSiteIn n) j → ((i : ℕ) → SiteFitRun p n limit i j (f i)) →
-    (s : State) × Run p (schedule j) s × (cell_weights c 1 1 1 (sent_of j) ≤ 3 * (length (exchanges p (schedule j) c) + n))

@@ -1,2 +1,4 @@
 pub mod CellCounts
-pub mod FitRuns
+pub mod Laws
+pub mod Reached
+pub mod Standing

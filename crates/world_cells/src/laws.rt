@@ -1,12 +1,10 @@
-//! The simulation of runs whose messages are fit.
+//! Units and messages keep a world matched with the machine, mobile cells among it.
 
-ghost use Rattle.world_cells.specs.FitRuns.{FitRunsAreSimulated};
-ghost use Rattle.world_cells.specs.CellCounts.{FewInFitRuns};
+ghost use Rattle.world_cells.specs.Laws.{UnitsAreReached, MessagesAreReached};
 
-/// Whatever the order of turns and deliveries, and whatever the bundles: a run in which each delivered message is fit for its
-/// site is a run of the centralised machine, whose state the sites match. And the messages of a cell are at most three for each
-/// exchange of it and each site.
-pub fn fit_runs_are_simulated()
-    ensures simulated { FitRunsAreSimulated }
-    ensures few { FewInFitRuns }
+/// A unit of a thread that is on no port and on no stationary cell, and a message that is no request of such a unit and no answer to
+/// one, are runs of the machine, which the sites match afterwards, their mobile cells too.
+pub fn rows_are_reached()
+    ensures units { UnitsAreReached }
+    ensures messages { MessagesAreReached }
 {}

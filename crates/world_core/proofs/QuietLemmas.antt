@@ -30,13 +30,13 @@ use Rattle.world_core.proofs.TravelLemmas.{travels_there, there_travels}
 use Rattle.world_core.proofs.WorldLemmas.{machine}
 use Rattle.bind_protocol.proofs.ListLemmas.{get_there}
 
-start_idle : (p : List Stmt) (i : ℕ) (b : Bool) → (i == 1) ≡ b → not (i == 1) ≡ is_idle (initial_site p i)
-start_idle p i true q = rw q refl
-start_idle p i false q = rw q refl
+start_idle : (p : List Stmt) (n i : ℕ) (b : Bool) → (i == 1) ≡ b → not (i == 1) ≡ is_idle (initial_site p n i)
+start_idle p n i true q = rw q refl
+start_idle p n i false q = rw q refl
 
 -- what a site's last turn told is how it is
 pub idle_as_told : (p : List Stmt) (n limit i : ℕ) (j : List Turn) (s : Site) → SiteRun p n limit i j s → journal.is_idle j i ≡ is_idle s
-idle_as_told p n limit i [] s run = start_idle p i (i == 1) refl ∙ sym (ap is_idle run)
+idle_as_told p n limit i [] s run = start_idle p n i (i == 1) refl ∙ sym (ap is_idle run)
 idle_as_told p n limit i (e ∷ j) s run = by (e.site == i) run (λ r. idle_as_told p n limit i j s r)
   where
     by : (b : Bool) → IsReachedBy b (λ old. SiteRun p n limit i j old) (λ old new. IsEntry p n limit j e old new) s → (SiteRun p n limit i j s → journal.is_idle j i ≡ is_idle s) → cond b e.idle (journal.is_idle j i) ≡ is_idle s
@@ -55,10 +55,10 @@ module _ (p : List Stmt) (j : List Turn) (ss : List (SiteState NoSeat)) (mail : 
   live = k.live refl
 
   abbrev w : ℕ → Site
-  w = states_by p (map state_in ss)
+  w = states_by p (length ss) (map state_in ss)
 
   idle_here : (i : ℕ) (s : SiteState NoSeat) → slice_get ss i ≡ Some s → journal.is_idle j (suc i) ≡ is_idle s.state
-  idle_here i s at = idle_as_told p (length ss) bundle_limit (suc i) j (w (suc i)) (live.run.runs (suc i)) ∙ ap is_idle (read_there state_in ss i s (initial_site p (suc i)) at)
+  idle_here i s at = idle_as_told p (length ss) bundle_limit (suc i) j (w (suc i)) (live.run.runs (suc i)) ∙ ap is_idle (read_there state_in ss i s (initial_site p (length ss) (suc i)) at)
 
   -- by what is seen of the messages and of the sites
   abbrev IsSeenQuiet : Type 0

@@ -30,12 +30,12 @@ use Rattle.world_core.proofs.PlaceLemmas.{read_there}
 use Rattle.world_core.proofs.TurnLemmas.{tells_message, number_at, state_read}
 
 -- the state that a site was left in
-pub state_set : (p : List Stmt) (ss : List (SiteState NoSeat)) (site : ℕ) (t : SiteState NoSeat) → 1 ≤ site → site ≤ length ss → states_by p (map state_in (slice_set ss (site - 1) t)) site ≡ t.state
+pub state_set : (p : List Stmt) (ss : List (SiteState NoSeat)) (site : ℕ) (t : SiteState NoSeat) → 1 ≤ site → site ≤ length ss → states_by p (length (slice_set ss (site - 1) t)) (map state_in (slice_set ss (site - 1) t)) site ≡ t.state
 state_set p ss zero t low high = absurd (omega arith)
 state_set p ss (suc i) t low high =
     let before : suc i - 1 ≡ i = omega arith in
-    subst (λ (x : ℕ). states_by p (map state_in (slice_set ss x t)) (suc i) ≡ t.state) (sym before)
-    (read_there state_in (slice_set ss i t) i t (initial_site p (suc i)) (set_here ss i t (omega arith)))
+    subst (λ (x : ℕ). states_by p (length (slice_set ss x t)) (map state_in (slice_set ss x t)) (suc i) ≡ t.state) (sym before)
+    (read_there state_in (slice_set ss i t) i t (initial_site p (length (slice_set ss i t)) (suc i)) (set_here ss i t (omega arith)))
 
 -- the entry of a turn is the one that was pushed
 pub same_entry : (e f : Turn) (j k : List Turn) → e ∷ j ≡ f ∷ k → e ≡ f
@@ -100,7 +100,7 @@ module _ (p : List Stmt) (j : List Turn) (ss : List (SiteState NoSeat)) (mail : 
   is_here = live.each (site - 1) s (slice_get_read ss (length ss) (site - 1) s refl (omega arith) at)
 
   here : states_of old site ≡ s.state
-  here = (λ r. states_by (program r) (states r) site) ∙ state_read p ss site s low high at
+  here = (λ r. states_by (program r) (sites r) (states r) site) ∙ state_read p ss site s low high at
 
   told : message_in message ≡ delivered_message old.journal (number_in message)
   told = tells_message j mail.messages box.messages live.travels site place message taken ∙ ap (λ (l : List Turn). delivered_message l (number_in message)) (sym journal)

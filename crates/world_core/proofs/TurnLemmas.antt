@@ -34,15 +34,15 @@ use Rattle.bind_protocol.proofs.ListLemmas.{set_here, set_other}
 
 -- ---- the start
 
-pub new_states : (p : List Stmt) (n : ℕ) (ss : List (SiteState NoSeat)) → ((i : ℕ) (s : SiteState NoSeat) → slice_get ss i ≡ Some s → IsNewSite p n i s) → (i : ℕ) → states_by p (map state_in ss) i ≡ initial_site p i
+pub new_states : (p : List Stmt) (n : ℕ) (ss : List (SiteState NoSeat)) → ((i : ℕ) (s : SiteState NoSeat) → slice_get ss i ≡ Some s → IsNewSite p n i s) → (i : ℕ) → states_by p n (map state_in ss) i ≡ initial_site p n i
 new_states p n ss new zero = refl
 new_states p n ss new (suc i) = by (slice_get ss i) refl
   where
-    by : (o : Option (SiteState NoSeat)) → slice_get ss i ≡ o → get_or (map state_in ss) i (initial_site p (suc i)) ≡ initial_site p (suc i)
-    by None e = read_past state_in ss i (initial_site p (suc i)) e
+    by : (o : Option (SiteState NoSeat)) → slice_get ss i ≡ o → get_or (map state_in ss) i (initial_site p n (suc i)) ≡ initial_site p n (suc i)
+    by None e = read_past state_in ss i (initial_site p n (suc i)) e
     by (Some s) e =
         let one : i + 1 ≡ suc i = omega arith in
-        read_there state_in ss i s (initial_site p (suc i)) e ∙ (new i s e).1 ∙ ap (initial_site p) one
+        read_there state_in ss i s (initial_site p n (suc i)) e ∙ (new i s e).1 ∙ ap (initial_site p n) one
 
 pub new_orders : (p : List Stmt) (n : ℕ) (ss : List (SiteState NoSeat)) → ((i : ℕ) (s : SiteState NoSeat) → slice_get ss i ≡ Some s → IsNewSite p n i s) → (i : ℕ) → orders_by (map order_in ss) i ≡ first_order i
 new_orders p n ss new zero = refl
@@ -57,12 +57,12 @@ new_orders p n ss new (suc i) = by (slice_get ss i) refl
 pub starts : (p : List Stmt) (n : ℕ) (ss : List (SiteState NoSeat)) (mail : MailState) → IsProgram p → 1 ≤ n → n ≤ 64 → length ss ≡ n → ((i : ℕ) (s : SiteState NoSeat) → slice_get ss i ≡ Some s → IsNewSite p n i s) →
     mail.queues ≡ n + 1 → mail.messages ≡ [] → IsConsistent p [] ss mail 0 false
 starts p n ss mail is low high long new queues empty =
-    let states = new_states p n ss new in
-    let run : WorldRun p (length ss) bundle_limit [] (states_by p (map state_in ss)) = run_starts p (length ss) bundle_limit (states_by p (map state_in ss)) states in
+    let states = new_states p (length ss) ss (λ i s at. subst (λ (k : ℕ). IsNewSite p k i s) (sym long) (new i s at)) in
+    let run : WorldRun p (length ss) bundle_limit [] (states_by p (length ss) (map state_in ss)) = run_starts p (length ss) bundle_limit (states_by p (length ss) (map state_in ss)) states in
     record {
       program = is;
       range = (omega arith, omega arith);
-      run = (states_by p (map state_in ss), run);
+      run = (states_by p (length ss) (map state_in ss), run);
       live = λ _. record {
         run = run;
         each = λ i s at. subst (λ (k : ℕ). IsSiteOf p k s) (sym long) (new i s at).0;
@@ -124,20 +124,20 @@ module _ (p : List Stmt) (j : List Turn) (ss : List (SiteState NoSeat)) (mail : 
   live = k.live refl
 
   abbrev w : ℕ → Site
-  w = states_by p (map state_in ss)
+  w = states_by p (length ss) (map state_in ss)
 
   abbrev v : ℕ → Site
-  v = states_by p (map state_in (slice_set ss i t))
+  v = states_by p (length ss) (map state_in (slice_set ss i t))
 
   here : w (suc i) ≡ s.state
-  here = read_there state_in ss i s (initial_site p (suc i)) at
+  here = read_there state_in ss i s (initial_site p (length ss) (suc i)) at
 
   here_now : v (suc i) ≡ t.state
-  here_now = read_there state_in (slice_set ss i t) i t (initial_site p (suc i)) (set_here ss i t inside)
+  here_now = read_there state_in (slice_set ss i t) i t (initial_site p (length ss) (suc i)) (set_here ss i t inside)
 
   pub others_now : (x : ℕ) → x ≢ suc i → v x ≡ w x
   others_now zero other = refl
-  others_now (suc x) other = read_same state_in (slice_set ss i t) ss x (initial_site p (suc x)) (set_other ss i x t (λ e. other (ap suc e)))
+  others_now (suc x) other = read_same state_in (slice_set ss i t) ss x (initial_site p (length ss) (suc x)) (set_other ss i x t (λ e. other (ap suc e)))
 
   is_here : IsSiteOf p (length ss) s
   is_here = live.each i s at
@@ -187,7 +187,7 @@ module _ (p : List Stmt) (j : List Turn) (ss : List (SiteState NoSeat)) (mail : 
         range = (let r = k.range.0 in omega arith, let r = k.range.1 in omega arith);
         run = (v, run);
         live = λ _. record {
-          run = run;
+          run = subst (λ (m : ℕ). WorldRun p (length (slice_set ss i t)) bundle_limit (e ∷ j) (states_by p m (map state_in (slice_set ss i t)))) (sym long) run;
           each = set_all (IsSiteOf p (length (slice_set ss i t))) ss i t (λ x y is. subst (λ (m : ℕ). IsSiteOf p m y) (sym long) (live.each x y is)) (program ∙ is_here.0, sites ∙ is_here.1 ∙ sym long, spent);
           count = count ∙ (let c = live.count in let both = length-append (sent_of j) e.sent in omega arith);
           queues = more ∙ queues ∙ live.queues ∙ ap (λ (m : ℕ). m + 1) (sym long);
@@ -200,8 +200,8 @@ module _ (p : List Stmt) (j : List Turn) (ss : List (SiteState NoSeat)) (mail : 
 
   -- as callers see it
   pub world_turn : (old new : WorldState) → old.program ≡ p → old.sites ≡ length ss → old.journal ≡ j → old.states ≡ map state_in ss → old.travels ≡ map travel_of mail.messages →
-      new.program ≡ p → new.journal ≡ e ∷ j → new.states ≡ map state_in (slice_set ss i t) → t.state.steps ≤ s.state.steps + quantum → IsWorldTurn old new (suc i) place quantum
-  world_turn old new program sites journal states travels program_now journal_now states_now steps = record {
+      new.program ≡ p → new.sites ≡ length ss → new.journal ≡ e ∷ j → new.states ≡ map state_in (slice_set ss i t) → t.state.steps ≤ s.state.steps + quantum → IsWorldTurn old new (suc i) place quantum
+  world_turn old new program sites journal states travels program_now sites_now journal_now states_now steps = record {
     entry = e;
     journal = journal_now ∙ ap (λ (l : List Turn). e ∷ l) (sym journal);
     site_is = turn_site;
@@ -212,10 +212,10 @@ module _ (p : List Stmt) (j : List Turn) (ss : List (SiteState NoSeat)) (mail : 
   }
     where
       at_old : (x : ℕ) → states_of old x ≡ w x
-      at_old x = λ r. states_by (program r) (states r) x
+      at_old x = λ r. states_by (program r) (sites r) (states r) x
 
       at_new : (x : ℕ) → states_of new x ≡ v x
-      at_new x = λ r. states_by (program_now r) (states_now r) x
+      at_new x = λ r. states_by (program_now r) (sites_now r) (states_now r) x
 
       before : IsFullTurnOf old.program old.sites bundle_limit quantum e.units (states_of old (suc i)) (delivered_message old.journal e.delivered) made.turn.0
       before =
@@ -229,9 +229,9 @@ module _ (p : List Stmt) (j : List Turn) (ss : List (SiteState NoSeat)) (mail : 
 
   -- and so are the turns of its threads
   pub world_order : (old new : WorldState) → old.program ≡ p → old.sites ≡ length ss → old.journal ≡ j → old.states ≡ map state_in ss → old.orders ≡ map order_in ss →
-      new.program ≡ p → new.journal ≡ e ∷ j → new.states ≡ map state_in (slice_set ss i t) → new.orders ≡ map order_in (slice_set ss i t) →
+      new.program ≡ p → new.sites ≡ length ss → new.journal ≡ e ∷ j → new.states ≡ map state_in (slice_set ss i t) → new.orders ≡ map order_in (slice_set ss i t) →
       Ordered s.program s.sites s.state (message_in message) t.state s.order t.order → IsWorldTurnInOrder old new (suc i)
-  world_order old new program sites journal states orders program_now journal_now states_now orders_now ordered = record {
+  world_order old new program sites journal states orders program_now sites_now journal_now states_now orders_now ordered = record {
     entry = e;
     journal = journal_now ∙ ap (λ (l : List Turn). e ∷ l) (sym journal);
     turn = in_world;
@@ -243,10 +243,10 @@ module _ (p : List Stmt) (j : List Turn) (ss : List (SiteState NoSeat)) (mail : 
       others (suc x) other = read_same order_in (slice_set ss i t) ss x (first_order (suc x)) (set_other ss i x t (λ q. other (ap suc q)))
 
       was : s.state ≡ states_of old (suc i)
-      was = sym ((λ r. states_by (program r) (states r) (suc i)) ∙ here)
+      was = sym ((λ r. states_by (program r) (sites r) (states r) (suc i)) ∙ here)
 
       is : t.state ≡ states_of new (suc i)
-      is = sym ((λ r. states_by (program_now r) (states_now r) (suc i)) ∙ here_now)
+      is = sym ((λ r. states_by (program_now r) (sites_now r) (states_now r) (suc i)) ∙ here_now)
 
       stood : s.order ≡ orders_of old (suc i)
       stood = sym (ap (λ (os : List (List ThreadName)). orders_by os (suc i)) orders ∙ read_there order_in ss i s (first_order (suc i)) at)
@@ -269,22 +269,22 @@ module _ (p : List Stmt) (j : List Turn) (ss : List (SiteState NoSeat)) (mail : 
 
 -- ---- one site of a world
 
-pub state_read : (p : List Stmt) (ss : List (SiteState NoSeat)) (site : ℕ) (s : SiteState NoSeat) → 1 ≤ site → site ≤ length ss → s ≡ get_or ss (site - 1) s → states_by p (map state_in ss) site ≡ s.state
+pub state_read : (p : List Stmt) (ss : List (SiteState NoSeat)) (site : ℕ) (s : SiteState NoSeat) → 1 ≤ site → site ≤ length ss → s ≡ get_or ss (site - 1) s → states_by p (length ss) (map state_in ss) site ≡ s.state
 state_read p ss zero s low high is = absurd (omega arith)
 state_read p ss (suc i) s low high is =
     let before : suc i - 1 ≡ i = omega arith in
     let same : s ≡ get_or ss i s = subst (λ (x : ℕ). s ≡ get_or ss x s) before is in
-    read_there state_in ss i s (initial_site p (suc i)) (slice_get_read ss (length ss) i s refl (omega arith) same)
+    read_there state_in ss i s (initial_site p (length ss) (suc i)) (slice_get_read ss (length ss) i s refl (omega arith) same)
 
 -- ---- all of a turn
 
 -- what a turn of the site leaves, where its state stands at the place x
 pub record After (p : List Stmt) (j : List Turn) (ss : List (SiteState NoSeat)) (mail box : MailState) (sent site x : ℕ) (place : Option ℕ) (quantum : ℕ) (s t : SiteState NoSeat) (e : Turn) : Type 0 where
-  pub run : WorldRun p (length ss) bundle_limit (e ∷ j) (states_by p (map state_in (slice_set ss x t)))
+  pub run : WorldRun p (length ss) bundle_limit (e ∷ j) (states_by p (length ss) (map state_in (slice_set ss x t)))
   pub consistent : (end : MailState) (next : ℕ) → box.queues ≡ mail.queues → end.queues ≡ box.queues → end.messages ≡ box.messages ++ enumerate_from sent e.sent → next ≡ sent + length e.sent →
       t.program ≡ s.program → t.sites ≡ s.sites → t.spent ≡ false → IsConsistent p (e ∷ j) (slice_set ss x t) end next false
   pub turn : (old new : WorldState) → old.program ≡ p → old.sites ≡ length ss → old.journal ≡ j → old.states ≡ map state_in ss → old.travels ≡ map travel_of mail.messages →
-      new.program ≡ p → new.journal ≡ e ∷ j → new.states ≡ map state_in (slice_set ss x t) → t.state.steps ≤ s.state.steps + quantum → IsWorldTurn old new site place quantum
+      new.program ≡ p → new.sites ≡ length ss → new.journal ≡ e ∷ j → new.states ≡ map state_in (slice_set ss x t) → t.state.steps ≤ s.state.steps + quantum → IsWorldTurn old new site place quantum
 
 pub after_turn : (p : List Stmt) (j : List Turn) (ss : List (SiteState NoSeat)) (mail box : MailState) (sent : ℕ) (k : IsConsistent p j ss mail sent false) (site : ℕ) (low : 1 ≤ site) (high : site ≤ length ss)
     (place : Option ℕ) (quantum : ℕ) (few : quantum ≤ 64) (s t : SiteState NoSeat) (at : s ≡ get_or ss (site - 1) s) (message : Option (ℕ × Msg)) (taken : IsTaken mail.messages box.messages site place message)
@@ -305,7 +305,7 @@ after_turn p j ss mail box sent k (suc i) low high place quantum few s t at mess
 abbrev OrderAfter : List Stmt → List Turn → List (SiteState NoSeat) → ℕ → ℕ → SiteState NoSeat → SiteState NoSeat → Option (ℕ × Msg) → Turn → Type 0
 OrderAfter p j ss site x s t message e =
     (old new : WorldState) → old.program ≡ p → old.sites ≡ length ss → old.journal ≡ j → old.states ≡ map state_in ss → old.orders ≡ map order_in ss →
-    new.program ≡ p → new.journal ≡ e ∷ j → new.states ≡ map state_in (slice_set ss x t) → new.orders ≡ map order_in (slice_set ss x t) →
+    new.program ≡ p → new.sites ≡ length ss → new.journal ≡ e ∷ j → new.states ≡ map state_in (slice_set ss x t) → new.orders ≡ map order_in (slice_set ss x t) →
     IsTurnInOrder s.program s.sites s.state (message_in message) e t.state s.order t.order → IsWorldTurnInOrder old new site
 
 pub after_in_order : (p : List Stmt) (j : List Turn) (ss : List (SiteState NoSeat)) (mail box : MailState) (sent : ℕ) (k : IsConsistent p j ss mail sent false) (site : ℕ) (low : 1 ≤ site) (high : site ≤ length ss)

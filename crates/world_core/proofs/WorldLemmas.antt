@@ -16,8 +16,9 @@ use Rattle.world_journals.proofs.RequestLemmas.{requests_are_served}
 use Rattle.world_simulation.specs.Protocols.{ProtocolsHold}
 use Rattle.world_simulation.proofs.SimulationLemmas.{every_run_is_simulated, delivered_messages_are_fit, cell_messages_are_few, messages_are_few, requests_are_single}
 use Rattle.world_simulation.proofs.ProtocolLemmas.{protocols_always_hold}
-use Rattle.world_simulation.proofs.TotalLemmas.{all_messages_are_few}
-use Rattle.world_core.specs.Laws.{HasMachine, WereFit, AreMessagesFew}
+use Rattle.world_simulation.proofs.HoldLemmas.{answers_always_hold}
+use Rattle.world_simulation.proofs.TotalLemmas.{answer_messages_are_few, all_messages_are_few}
+use Rattle.world_core.specs.Laws.{HasMachine, HoldAnswers, WereFit, AreMessagesFew}
 
 -- the run goes on by one entry
 module _ (p : List Stmt) (n limit : ℕ) (j : List Turn) (e : Turn) (w v : ℕ → Site) (d : Transition)
@@ -40,7 +41,7 @@ module _ (p : List Stmt) (n limit : ℕ) (j : List Turn) (e : Turn) (w v : ℕ �
   run_grows = record { wired = (run.wired, once); sites = (site, run.sites); runs = site_run }
 
 -- at the start
-pub run_starts : (p : List Stmt) (n limit : ℕ) (w : ℕ → Site) → ((i : ℕ) → w i ≡ initial_site p i) → WorldRun p n limit [] w
+pub run_starts : (p : List Stmt) (n limit : ℕ) (w : ℕ → Site) → ((i : ℕ) → w i ≡ initial_site p n i) → WorldRun p n limit [] w
 run_starts p n limit w start = record { wired = tt; sites = tt; runs = start }
 
 -- ---- what the laws say of this run
@@ -58,6 +59,9 @@ module _ (p : List Stmt) (n : ℕ) (j : List Turn) (w : ℕ → Site) (is : IsPr
   pub protocols : ProtocolsHold p n j w
   protocols = protocols_always_hold p n bundle_limit j w is low high short run
 
+  pub answers_hold : HoldAnswers p j w
+  answers_hold = answers_always_hold p n bundle_limit j w is low high short run
+
   pub messages_few : AreMessagesFew p n j
   messages_few = record {
     once = once_each p n bundle_limit j w run;
@@ -65,6 +69,7 @@ module _ (p : List Stmt) (n : ℕ) (j : List Turn) (w : ℕ → Site) (is : IsPr
     single = requests_are_single p n bundle_limit j w is low high short run;
     variables = messages_are_few p n bundle_limit j w is low high short run;
     cells = λ c. cell_messages_are_few p n bundle_limit j w c is low high short run;
+    answers = answer_messages_are_few p n bundle_limit j w is low high short run;
     all = all_messages_are_few p n bundle_limit j w is low high short run;
     served = (w, run, requests_are_served p n bundle_limit j w is low high short run);
   }

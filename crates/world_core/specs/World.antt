@@ -33,13 +33,13 @@ pub record WorldState : Type 0 where
   pub spent : Bool
 
 -- the states by the sites' numbers. Those beyond the last are as they began
-abbrev pub states_by : List Stmt → List Site → ℕ → Site
-states_by p ss zero = initial_site p zero
-states_by p ss (suc i) = slice_index_or ss i (initial_site p (suc i))
+abbrev pub states_by : List Stmt → ℕ → List Site → ℕ → Site
+states_by p n ss zero = initial_site p n zero
+states_by p n ss (suc i) = slice_index_or ss i (initial_site p n (suc i))
 
 -- the state of site i
 abbrev pub states_of : WorldState → ℕ → Site
-states_of w i = states_by w.program w.states i
+states_of w i = states_by w.program w.sites w.states i
 
 -- the orders of threads by the sites' numbers. Those beyond the last are as they began
 abbrev pub orders_by : List (List ThreadName) → ℕ → List ThreadName
@@ -92,7 +92,7 @@ IsSiteOf p n s = (s.program ≡ p) × (s.sites ≡ n) × (s.spent ≡ false)
 
 -- the sites are where the journal leads them, and the messages on their way are those that travel by it
 pub record IsLive (p : List Stmt) (n : ℕ) (j : List Turn) (sites : List (SiteState NoSeat)) (mail : MailState) (sent : ℕ) : Type 0 where
-  pub run : WorldRun p n bundle_limit j (states_by p (map state_in sites))
+  pub run : WorldRun p n bundle_limit j (states_by p n (map state_in sites))
   pub each : (i : ℕ) (s : SiteState NoSeat) → slice_get sites i ≡ Some s → IsSiteOf p n s
   pub count : sent ≡ length (sent_of j)
   pub queues : mail.queues ≡ n + 1
@@ -109,7 +109,7 @@ pub record IsConsistent (p : List Stmt) (j : List Turn) (sites : List (SiteState
 
 -- the site of this place at the start
 abbrev pub IsNewSite : List Stmt → ℕ → ℕ → SiteState NoSeat → Type 0
-IsNewSite p n i s = IsSiteOf p n s × (s.state ≡ initial_site p (i + 1)) × (s.order ≡ first_order (i + 1))
+IsNewSite p n i s = IsSiteOf p n s × (s.state ≡ initial_site p n (i + 1)) × (s.order ≡ first_order (i + 1))
 
 -- the message at the place that was given is taken out
 abbrev pub IsTaken : List (ℕ × Sent) → List (ℕ × Sent) → ℕ → Option ℕ → Option (ℕ × Msg) → Type 0

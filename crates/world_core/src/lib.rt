@@ -11,8 +11,8 @@
 //! each once (`AreTravels`), `next_for` the place of the one with the lowest number for a site, `place_of` that of a number, `quiet`
 //! whether nothing travels and every site is idle, `sent` how many messages were sent, `schedule` the picks of the turns in
 //! order. After each turn the picks of the journal lead the centralised machine to a state that the sites match
-//! (`IsSimulated`), the protocols' invariants hold (`ProtocolsHold`), no delivered message was unfit, and no more messages were
-//! sent than the picks allow (`AreMessagesFew`). Where the world is quiet the machine rests, with the threads that ended and
+//! (`IsSimulated`), the protocols' invariants hold (`ProtocolsHold`, and `HoldAnswers` of ports and of cells whose state stays), no
+//! delivered message was unfit, and no more messages were sent than the picks allow (`AreMessagesFew`). Where the world is quiet the machine rests, with the threads that ended and
 //! wait at the sites. After want of memory, and after a turn that could not be made again, the world is given up: it has the
 //! journal of the turns made before, which stays one of a run. A world has no `Drop`: its turns are handed on, with their schedule (`into_history`).
 //!

@@ -11,7 +11,7 @@ ghost use Rattle.world_simulation.specs.Protocols.{ProtocolsHold};
 ghost use Rattle.world_core.specs.declared.refusal.WorldRefusal.TheVariants.{NotThere, Memory};
 ghost use Rattle.world_core.specs.declared.refusal.ReplayRefusal.TheVariants as replay;
 ghost use Rattle.world_core.specs.Replay.{IsReplayed, IsWorldStuck, PrintsOthers};
-ghost use Rattle.world_core.specs.Laws.{HasRun, HasMachine, HasMachineAtRest, WereFit, AreMessagesFew};
+ghost use Rattle.world_core.specs.Laws.{HasRun, HasMachine, HasMachineAtRest, HoldAnswers, WereFit, AreMessagesFew};
 ghost use Rattle.world_mail.specs.Mail.{message_at, without_message};
 ghost use Rattle.world_mail.specs.Travels.{travel_of, IsNoneFor, IsFirstFor, IsAt, IsPlaceOf};
 ghost use Rattle.world_core.specs.Travels.{AreTravels, IsNothingFor, IsNotThere};
@@ -61,7 +61,7 @@ impl<'a> World<'a> {
         ensures program { IfOk result (λ w. w.program ≡ program.now) }
         ensures sites { IfOk result (λ w. w.sites ≡ sites) }
         ensures journal { IfOk result (λ w. w.journal ≡ []) }
-        ensures states { IfOk result (λ w. (i : ℕ) → states_of w i ≡ initial_site program.now i) }
+        ensures states { IfOk result (λ w. (i : ℕ) → states_of w i ≡ initial_site program.now sites i) }
         ensures orders { IfOk result (λ w. (i : ℕ) → orders_of w i ≡ first_order i) }
         ensures travels { IfOk result (λ w. w.travels ≡ []) }
         ensures live { IfOk result (λ w. w.spent ≡ false) }
@@ -103,6 +103,7 @@ impl<'a> World<'a> {
         ensures run { OnOk result (WorldRun self.new.program self.new.sites bundle_limit self.new.journal (states_of self.new)) }
         ensures simulated { OnOk result (HasMachine self.new.program self.new.sites self.new.journal (states_of self.new)) }
         ensures protocols { OnOk result (ProtocolsHold self.new.program self.new.sites self.new.journal (states_of self.new)) }
+        ensures answers { OnOk result (HoldAnswers self.new.program self.new.journal (states_of self.new)) }
         ensures fit { OnOk result (WereFit self.new.program self.new.sites self.new.journal (states_of self.new)) }
         ensures few { OnOk result (AreMessagesFew self.new.program self.new.sites self.new.journal) }
     {
@@ -145,6 +146,7 @@ impl<'a> World<'a> {
         ensures stays { OnOk result (KnowledgeStays self.old self.new) }
         ensures simulated { OnOk result (HasMachine self.new.program self.new.sites self.new.journal (states_of self.new)) }
         ensures protocols { OnOk result (ProtocolsHold self.new.program self.new.sites self.new.journal (states_of self.new)) }
+        ensures answers { OnOk result (HoldAnswers self.new.program self.new.journal (states_of self.new)) }
         ensures fit { OnOk result (WereFit self.new.program self.new.sites self.new.journal (states_of self.new)) }
         ensures few { OnOk result (AreMessagesFew self.new.program self.new.sites self.new.journal) }
     {

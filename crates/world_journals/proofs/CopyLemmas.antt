@@ -19,7 +19,8 @@ use Rattle.world_model.specs.World.{World}
 use Rattle.world_cells.specs.CellCounts.{cell_weight, cell_weights, IsTallied}
 use Rattle.world_cells.proofs.CellTallyLemmas.{weighs_append}
 use Rattle.world_cells.proofs.ChainLemmas.{held, tally}
-use Rattle.world_cells.proofs.TurnLemmas.{Paid}
+use Rattle.world_model.specs.Chain.{mobile_cells}
+use Rattle.world_answers.proofs.LeaveLemmas.{Paid}
 
 -- ---- sums
 
@@ -93,7 +94,7 @@ both_other b c k l g f u d =
 
 -- ---- the most
 
-module _ (p : List Stmt) (n : ℕ) (w : World) (ks : List Pick) (out : List Sent) (r : Paid p n w ks out) (c : CellName) where
+module _ (p : List Stmt) (n : ℕ) (w : World) (ks : List Pick) (out : List Sent) (r : Paid p n w ks out) (c : CellName) (mobile : c.at ≡ 0) where
   -- exchanges, outstanding requests and travelling Gets
   abbrev pub made : ℕ
   made = length (exchanges p ks c)
@@ -113,18 +114,18 @@ module _ (p : List Stmt) (n : ℕ) (w : World) (ks : List Pick) (out : List Sent
   all_at_most zero (suc l) a b = cc
 
   -- of a cell that was not made there are none
-  pub nowhere : value_of equal_cell r.reached.centre.cells c ≡ None → (made ≡ 0) × (waiting ≡ 0) × (going ≡ 0)
+  pub nowhere : value_of equal_cell (mobile_cells r.joined.reached.centre.cells) c ≡ None → (made ≡ 0) × (waiting ≡ 0) × (going ≡ 0)
   nowhere e =
-      let none = r.reached.cells.cells.others c e in
-      (r.tally.still c e, all_zero n _ (λ s. ap (λ (h : Holding). outstanding h.token) (none.away s)), all_zero n _ (λ s. none.quiet (Get s)))
+      let none = r.joined.reached.cells.cells.others c e in
+      (r.tally.still c mobile e, all_zero n _ (λ s. ap (λ (h : Holding). outstanding h.token) (none.away s)), all_zero n _ (λ s. none.quiet (Get s)))
 
-  pub most_none : value_of equal_cell r.reached.centre.cells c ≡ None → most ≡ []
+  pub most_none : value_of equal_cell (mobile_cells r.joined.reached.centre.cells) c ≡ None → most ≡ []
   most_none e =
       let z = nowhere e in
       let a : made + waiting ≡ 0 = (let x = z.0 in let y = z.1 in omega arith) in
       all_at_most (made + waiting) (made + waiting - going) a (omega arith)
 
-  most_here : (v : VarName) → value_of equal_cell r.reached.centre.cells c ≡ Some v → IsTallied n w.sites w.mail most c made
+  most_here : (v : VarName) → value_of equal_cell (mobile_cells r.joined.reached.centre.cells) c ≡ Some v → IsTallied n w.sites w.mail most c made
   most_here v e =
       let t = r.tally.tallied c v e in
       let g = both_gets c (made + waiting) (made + waiting - going) in
@@ -138,7 +139,7 @@ module _ (p : List Stmt) (n : ℕ) (w : World) (ks : List Pick) (out : List Sent
       }
 
   -- whatever was sent of another cell, none was
-  none_sent : (b : CellName) → b ≢ c → (v : VarName) → value_of equal_cell r.reached.centre.cells b ≡ Some v → IsTallied n w.sites w.mail most b (length (exchanges p ks b))
+  none_sent : (b : CellName) → b ≢ c → (v : VarName) → value_of equal_cell (mobile_cells r.joined.reached.centre.cells) b ≡ Some v → IsTallied n w.sites w.mail most b (length (exchanges p ks b))
   none_sent b d v e =
       let t = r.tally.tallied b v e in
       let g = both_other b c (made + waiting) (made + waiting - going) 1 0 0 d in
@@ -153,14 +154,14 @@ module _ (p : List Stmt) (n : ℕ) (w : World) (ks : List Pick) (out : List Sent
 
   pub most_paid : Paid p n w ks most
   most_paid = record {
-    reached = r.reached;
+    joined = r.joined;
     tally = record { tallied = λ b v e. tallied b v e (cell_cases b c); unmade = λ b e g f u. unmade b e g f u (cell_cases b c); still = r.tally.still };
   }
     where
-      tallied : (b : CellName) (v : VarName) → value_of equal_cell r.reached.centre.cells b ≡ Some v → (b ≡ c) ⊎ (b ≢ c) → IsTallied n w.sites w.mail most b (length (exchanges p ks b))
-      tallied b v e (inl q) = subst (λ (x : CellName). IsTallied n w.sites w.mail most x (length (exchanges p ks x))) (sym q) (most_here v (ap (value_of equal_cell r.reached.centre.cells) (sym q) ∙ e))
+      tallied : (b : CellName) (v : VarName) → value_of equal_cell (mobile_cells r.joined.reached.centre.cells) b ≡ Some v → (b ≡ c) ⊎ (b ≢ c) → IsTallied n w.sites w.mail most b (length (exchanges p ks b))
+      tallied b v e (inl q) = subst (λ (x : CellName). IsTallied n w.sites w.mail most x (length (exchanges p ks x))) (sym q) (most_here v (ap (value_of equal_cell (mobile_cells r.joined.reached.centre.cells)) (sym q) ∙ e))
       tallied b v e (inr d) = none_sent b d v e
 
-      unmade : (b : CellName) → value_of equal_cell r.reached.centre.cells b ≡ None → (g f u : ℕ) → (b ≡ c) ⊎ (b ≢ c) → cell_weights b g f u most ≡ 0
-      unmade b e g f u (inl q) = ap (cell_weights b g f u) (most_none (ap (value_of equal_cell r.reached.centre.cells) (sym q) ∙ e))
+      unmade : (b : CellName) → value_of equal_cell (mobile_cells r.joined.reached.centre.cells) b ≡ None → (g f u : ℕ) → (b ≡ c) ⊎ (b ≢ c) → cell_weights b g f u most ≡ 0
+      unmade b e g f u (inl q) = ap (cell_weights b g f u) (most_none (ap (value_of equal_cell (mobile_cells r.joined.reached.centre.cells)) (sym q) ∙ e))
       unmade b e g f u (inr d) = both_other b c (made + waiting) (made + waiting - going) g f u d

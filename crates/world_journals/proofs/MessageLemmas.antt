@@ -1,4 +1,6 @@
 -- Which messages of a cell a turn sends: units send a site's own requests, and a Get that comes gives at most one Forward.
+use Rattle.tree_node.specs.declared.names.NameKind.{NameKind}
+use Rattle.tree_node.specs.declared.pick.Pick.{Pick}
 use Rattle.std.proofs.Common.{arith, ◌≡◌, ◌≢◌, ◌∙◌, sym, ap, refl, subst, ℕ, ◌+◌, ◌≤◌, List, [], ◌∷◌, ◌⊎◌, inl, inr, Bool, true, false, cond, Some, None}
 use Rattle.std.specs.Prelude.{Option, ◌==◌, ◌&&◌, count_by}
 use Rattle.std.proofs.lemmas.Bool.{and_parts}
@@ -17,7 +19,9 @@ use Rattle.site_message.specs.declared.message.Msg.{Msg}
 use Rattle.site_message.specs.declared.message.Msg.TheVariants as msg
 use Rattle.site_message.specs.declared.message.Sent.{Sent}
 use Rattle.oz_model.specs.Need.{Need, Waits, WaitsAny, Binds, Takes, stack_need}
-use Rattle.oz_model.specs.Effect.{CellChange, Stays, Made, Exchanged}
+use Rattle.oz_model.specs.Effect.{Effect, CellChange, Stays, Made, Exchanged, PortChange, Keeps, Opened, Sent as SentTo}
+use Rattle.world_model.specs.Claims.{Asking, EndOf, ContentOf, awaited, server, request}
+use Rattle.world_answers.proofs.OwnLemmas.{tells}
 use Rattle.oz_model.proofs.KindLemmas.{cells_differ, cell_cases}
 use Rattle.bind_protocol.proofs.ListLemmas.{one, count_append, count_cons}
 use Rattle.token_chain.specs.declared.token.Token.{Token}
@@ -25,12 +29,15 @@ use Rattle.token_chain.specs.declared.token.Token.TheVariants.{Away, Asked, Here
 use Rattle.token_chain.specs.Holding.{Holding, departure_of}
 use Rattle.token_chain.specs.Mail.{Get, Forward}
 use Rattle.token_chain.specs.Rows.{leave_with, forward_reply, get_reply, exchange_reply}
-use Rattle.site_model.specs.Site.{Site, cell_record}
-use Rattle.site_model.specs.Transition.{Transition}
+use Rattle.site_model.specs.Site.{Site, EarlyRequest, cell_record, home_record}
+use Rattle.site_model.specs.Transition.{Transition, with_pick, with_messages, and_then}
 use Rattle.site_model.specs.Variables.{opening}
 use Rattle.site_model.specs.Cells.{last_before, get_row, serving, request_row, after_exchange, content_after_exchange}
 use Rattle.site_model.specs.Messages.{message_row, reception}
-use Rattle.site_model.specs.Unit.{thread_step, fresh_names, effect_here, step_pick, bind_attempt, IsUnitFor, IsStepOrRequest}
+use Rattle.site_model.specs.Unit.{thread_step, fresh_names, effect_here, step_pick, bind_attempt, IsUnitFor, IsStepOrRequest, IsCellUnit, kept_step, kept_step_row, kept_stack, after_port, after_home_cell, with_stack, with_fresh_names}
+use Rattle.site_model.specs.Requests.{OldContent, asking_row, after_answer, with_home_content, serve_request, serve_early, cell_ask_row}
+use Rattle.site_model.specs.Bundle.{with_own_bundle}
+use Rattle.bind_protocol.specs.Rows.{sent_message}
 use Rattle.site_model.specs.Turn.{IsReception, AreUnits, SiteTurn}
 use Rattle.world_model.proofs.CellLemmas.{letters, leave_each, get_each}
 use Rattle.world_model.proofs.PutLemmas.{nat_decides}
@@ -63,6 +70,11 @@ none_asks i (msg.Spawn n code vars bundle) h = tt
 none_asks i (msg.Register x k) h = tt
 none_asks i (msg.BindReq x n t bundle) h = tt
 none_asks i (msg.Binding x t bundle) h = tt
+none_asks i (msg.PortSend q o k) h = tt
+none_asks i (msg.PortEnd o was now bundle) h = tt
+none_asks i (msg.CellMake d v bundle) h = tt
+none_asks i (msg.CellAsk d o k v bundle) h = tt
+none_asks i (msg.CellOld o v bundle) h = tt
 
 none_ask : (i : ℕ) (ms : List Sent) → AreOfNone ms → AreOwnRequests i ms
 none_ask i [] h = tt
@@ -93,19 +105,43 @@ module _ (p : List Stmt) (n limit i : ℕ) where
   bind_own th st u t true s = none_ask i _ (step_silent p n limit (step_pick th [] (Some (u, t))) [] (effect_here p s [] (Some (u, t)) st) s)
   bind_own th st u t false s = (tt, tt)
 
-  either_own : (th : ThreadName) (st : Stack) (s : Site) (step : Transition) (c : CellChange) (d : Transition) → s.records.site ≡ i → Own step → IsStepOrRequest limit th st s step c d → Own d
-  either_own th st s step (Exchanged c new told) d own k (inl h) = subst Own (sym h.1) k
-  either_own th st s step (Exchanged c new told) d own k (inr h) = subst Own (sym h.1) (asks_own c new th st s own)
-  either_own th st s step Stays d own k h = subst Own (sym h) k
-  either_own th st s step (Made c v) d own k h = subst Own (sym h) k
+  -- a step on a port or on a stationary cell tells at most a home
+  kept_own : (k : Pick) (kinds : List NameKind) (e : Effect) (s : Site) → Own (kept_step_row limit k kinds e s)
+  kept_own k kinds e s = none_ask i _ (tells limit e.cell (with_stack k.thread (kept_stack s e) (after_port e.port (after_home_cell e.cell (with_fresh_names kinds s))))).silent
+
+  -- a request to another site is none of a token
+  away_own : (th : ThreadName) (st : Stack) (a : Asking) (s : Site) → Own (asking_row limit th st (awaited a) (server a) (request a th s.records.site []) s)
+  away_own th st (EndOf q) s = (tt, tt)
+  away_own th st (ContentOf c new) s = (tt, tt)
+
+  either_own : (th : ThreadName) (st : Stack) (s : Site) (step kept : Transition) (e : Effect) (d : Transition) → s.records.site ≡ i → Own step → Own kept → IsStepOrRequest limit th st s step kept e d → Own d
+  either_own th st s step kept e d own k l h = by_port e.port h
+    where
+      by_cell : (c : CellChange) → IsCellUnit limit th st s step kept c d → Own d
+      by_cell Stays h = subst Own (sym h) k
+      by_cell (Made c v) (inl h) = subst Own (sym h.1) k
+      by_cell (Made c v) (inr h) = subst Own (sym h.1) l
+      by_cell (Exchanged c new told) (inl (mobile, inl h)) = subst Own (sym h.1) k
+      by_cell (Exchanged c new told) (inl (mobile, inr h)) = subst Own (sym h.1) (asks_own c new th st s own)
+      by_cell (Exchanged c new told) (inr (far, inl h)) = subst Own (sym h.1) l
+      by_cell (Exchanged c new told) (inr (far, inr (inl h))) = subst Own (sym h.1) (away_own th st (ContentOf c new) s)
+      by_cell (Exchanged c new told) (inr (far, inr (inr h))) = subst Own (sym h.2) tt
+
+      by_port : (r : PortChange) → IsStepOrRequest limit th st s step kept (record e { port = r }) d → Own d
+      by_port Keeps h = by_cell e.cell h
+      by_port (Opened q end) h = subst Own (sym h) l
+      by_port (SentTo q value new) (inl h) = subst Own (sym h.3) l
+      by_port (SentTo q value new) (inr (inl h)) = subst Own (sym h.1) (away_own th st (EndOf q) s)
+      by_port (SentTo q value new) (inr (inr h)) = subst Own (sym h.2) tt
 
   need_own : (s : Site) (th : ThreadName) (st : Stack) (need : Need) (d : Transition) → s.records.site ≡ i → IsUnitFor p n limit s th st need d → Own d
   need_own s th st (Waits x) d own h = subst Own (sym h.2) tt
   need_own s th st (WaitsAny q) d own h = subst Own (sym h.2) tt
   need_own s th st (Binds a b) d own h = subst Own (sym h.3) (bind_own th st h.0 h.1 (h.0.site == s.records.site) s)
   need_own s th st (Takes kinds) d own h =
-      either_own th st s (thread_step p n limit th st kinds (fresh_names s kinds) None s) (effect_here p s (fresh_names s kinds) None st).cell d own
-      (none_ask i _ (step_silent p n limit (step_pick th (fresh_names s kinds) None) kinds (effect_here p s (fresh_names s kinds) None st) s)) h
+      either_own th st s (thread_step p n limit th st kinds (fresh_names s kinds) None s) (kept_step p limit th st kinds (fresh_names s kinds) s) (effect_here p s (fresh_names s kinds) None st) d own
+      (none_ask i _ (step_silent p n limit (step_pick th (fresh_names s kinds) None) kinds (effect_here p s (fresh_names s kinds) None st) s))
+      (kept_own (step_pick th (fresh_names s kinds) None) kinds (effect_here p s (fresh_names s kinds) None st) s) h
 
   pub units_own : (ths : List ThreadName) (s : Site) (d : Transition) → s.records.site ≡ i → AreUnits p n limit ths s d → Own d
   units_own [] s d own h = subst Own (sym h) tt
@@ -131,6 +167,11 @@ none_answers m (msg.Spawn n code vars bundle) h = tt
 none_answers m (msg.Register x k) h = tt
 none_answers m (msg.BindReq x n t bundle) h = tt
 none_answers m (msg.Binding x t bundle) h = tt
+none_answers m (msg.PortSend q o k) h = tt
+none_answers m (msg.PortEnd o was now bundle) h = tt
+none_answers m (msg.CellMake d v bundle) h = tt
+none_answers m (msg.CellAsk d o k v bundle) h = tt
+none_answers m (msg.CellOld o v bundle) h = tt
 
 none_answer : (m : Msg) (ms : List Sent) → AreOfNone ms → AreAnswers m ms
 none_answer m [] h = tt
@@ -141,11 +182,35 @@ module _ (p : List Stmt) (n limit : ℕ) where
   serves_answer m c [] v s = tt
   serves_answer m c (o ∷ ns) v s = serves_answer m c ns (content_after_exchange p o v s) (after_exchange p o v s)
 
+  serve_answer : (m : Msg) (c : CellName) (r : EarlyRequest) (v : VarName) (s : Site) → AreAnswers m (serve_request p limit c r v s).sent
+  serve_answer m c r v s = go (r.asking == s.records.site)
+    where
+      go : (b : Bool) → AreAnswers m (cond b (with_pick (after_answer p r.thread (OldContent v) (with_home_content c r.new s)) (step_pick r.thread [] None))
+          (and_then (with_pick (with_home_content c r.new s) (step_pick r.thread [] None)) (λ t. with_messages t (with_own_bundle limit t.equations (sent_message r.asking (msg.CellOld r.thread v [])) ∷ [])))).sent
+      go true = tt
+      go false = (tt, tt)
+
+  early_answer : (m : Msg) (c : CellName) (v : VarName) (rs : List EarlyRequest) (s : Site) → AreAnswers m (serve_early p limit c v rs s).sent
+  early_answer m c v [] s = tt
+  early_answer m c v (r ∷ rs) s = each_append (λ (x : Sent). IsAnswer m x.msg) (serve_request p limit c r v s).sent _ (serve_answer m c r v s) (early_answer m c r.new rs (serve_request p limit c r v s).site)
+
+  ask_answer : (m : Msg) (c : CellName) (r : EarlyRequest) (s : Site) → AreAnswers m (cell_ask_row p limit c r s).sent
+  ask_answer m c r s = go (home_record s c).content refl
+    where
+      go : (o : Option VarName) → (home_record s c).content ≡ o → AreAnswers m (cell_ask_row p limit c r s).sent
+      go (Some v) e = rw e (serve_answer m c r v s)
+      go None e = rw e tt
+
   takes_answer : (m : Msg) (s : Site) → AreAnswers m (message_row p limit m s).sent
   takes_answer (msg.Spawn a b c d) s = tt
   takes_answer (msg.Register x k) s = none_answer (msg.Register x k) _ (registers_nothing limit x k s).silent
   takes_answer (msg.BindReq x th t bundle) s = none_answer (msg.BindReq x th t bundle) _ (asked_for_nothing limit x t th s).silent
   takes_answer (msg.Binding x t bundle) s = tt
+  takes_answer (msg.PortSend q o k) s = (tt, tt)
+  takes_answer (msg.PortEnd o was now bundle) s = tt
+  takes_answer (msg.CellMake c v bundle) s = early_answer (msg.CellMake c v bundle) c v (home_record s c).early s
+  takes_answer (msg.CellAsk c o k v bundle) s = ask_answer (msg.CellAsk c o k v bundle) c (record { thread = o; asking = k; new = v }) s
+  takes_answer (msg.CellOld o v bundle) s = tt
   takes_answer (msg.Get c k) s = get_each (λ (x : Sent). IsAnswer (msg.Get c k) x.msg) limit c s.equations s.records.site (last_before s c) k (cell_record s c).held (λ j u e. tt) refl
   takes_answer (msg.Forward c k) s = leave_each (λ (x : Sent). IsAnswer (msg.Forward c k) x.msg) limit c s.equations (record (cell_record s c).held { next = Some k }) (λ j u e. tt)
   takes_answer (msg.Put c v bundle) s =
@@ -200,6 +265,11 @@ others_get c i k ms other h = none_counted _ ms (each_more _ _ ms (λ m own. by 
     by (msg.Register x a) own q = cc
     by (msg.BindReq x n t bundle) own q = cc
     by (msg.Binding x t bundle) own q = cc
+    by (msg.PortSend r o k) own q = cc
+    by (msg.PortEnd o was now bundle) own q = cc
+    by (msg.CellMake d v bundle) own q = cc
+    by (msg.CellAsk d o k v bundle) own q = cc
+    by (msg.CellOld o v bundle) own q = cc
 
 -- and no Forward that names another site, or of another site's cell
 pub others_next : (c : CellName) (i k : ℕ) (ms : List Sent) → ((i ≡ k) × (c.site ≡ k) → ⊥) → AreOwnRequests i ms → forwards_for c k ms ≡ 0
@@ -220,6 +290,11 @@ others_next c i k ms other h = none_counted _ ms (each_more _ _ ms (λ m own. by
     by (msg.Register x a) own q = cc
     by (msg.BindReq x n t bundle) own q = cc
     by (msg.Binding x t bundle) own q = cc
+    by (msg.PortSend r o k) own q = cc
+    by (msg.PortEnd o was now bundle) own q = cc
+    by (msg.CellMake d v bundle) own q = cc
+    by (msg.CellAsk d o k v bundle) own q = cc
+    by (msg.CellOld o v bundle) own q = cc
 
 -- whoever hears a message sends no Get for it
 pub heard_get : (c : CellName) (k : ℕ) (m : Msg) (ms : List Sent) → AreAnswers m ms → gets_for c k ms ≡ 0
@@ -233,6 +308,11 @@ heard_get c k m ms h = none_counted _ ms (each_more _ _ ms (λ x own. by x.msg o
     by (msg.Register x a) own q = cc
     by (msg.BindReq x n t bundle) own q = cc
     by (msg.Binding x t bundle) own q = cc
+    by (msg.PortSend r o k) own q = cc
+    by (msg.PortEnd o was now bundle) own q = cc
+    by (msg.CellMake d v bundle) own q = cc
+    by (msg.CellAsk d o k v bundle) own q = cc
+    by (msg.CellOld o v bundle) own q = cc
 
 -- and a Forward that names a site only for that site's Get
 pub heard_next : (c : CellName) (k : ℕ) (m : Msg) (ms : List Sent) → asks_for c k m ≡ false → AreAnswers m ms → forwards_for c k ms ≡ 0
@@ -246,6 +326,11 @@ heard_next c k m ms none h = none_counted _ ms (each_more _ _ ms (λ x own. by x
     by (msg.Register x a) own q = cc
     by (msg.BindReq x n t bundle) own q = cc
     by (msg.Binding x t bundle) own q = cc
+    by (msg.PortSend r o k) own q = cc
+    by (msg.PortEnd o was now bundle) own q = cc
+    by (msg.CellMake d v bundle) own q = cc
+    by (msg.CellAsk d o k v bundle) own q = cc
+    by (msg.CellOld o v bundle) own q = cc
 
 lesser : (a b : Bool) → one (a && b) ≤ cond a 1 0
 lesser true true = omega arith
@@ -265,6 +350,11 @@ all_gets c k (m ∷ ms) = let sum = count_cons (λ (x : Sent). asks_for c k x.ms
     by (msg.Register x a) = omega arith
     by (msg.BindReq x n t bundle) = omega arith
     by (msg.Binding x t bundle) = omega arith
+    by (msg.PortSend q o k) = omega arith
+    by (msg.PortEnd o was now bundle) = omega arith
+    by (msg.CellMake d v bundle) = omega arith
+    by (msg.CellAsk d o k v bundle) = omega arith
+    by (msg.CellOld o v bundle) = omega arith
 
 pub all_next : (c : CellName) (k : ℕ) (ms : List Sent) → forwards_for c k ms ≤ cell_weights c 0 1 0 ms
 all_next c k [] = omega arith
@@ -278,6 +368,11 @@ all_next c k (m ∷ ms) = let sum = count_cons (λ (x : Sent). names_next c k x.
     by (msg.Register x a) = omega arith
     by (msg.BindReq x n t bundle) = omega arith
     by (msg.Binding x t bundle) = omega arith
+    by (msg.PortSend q o k) = omega arith
+    by (msg.PortEnd o was now bundle) = omega arith
+    by (msg.CellMake d v bundle) = omega arith
+    by (msg.CellAsk d o k v bundle) = omega arith
+    by (msg.CellOld o v bundle) = omega arith
 
 -- ---- a turn
 
@@ -295,6 +390,11 @@ module _ (p : List Stmt) (n limit : ℕ) where
       get (msg.Register x a) q = cc
       get (msg.BindReq x o t bundle) q = cc
       get (msg.Binding x t bundle) q = cc
+      get (msg.PortSend r o k) q = cc
+      get (msg.PortEnd o was now bundle) q = cc
+      get (msg.CellMake d v bundle) q = cc
+      get (msg.CellAsk d o k v bundle) q = cc
+      get (msg.CellOld o v bundle) q = cc
 
       by : (b : Bool) → asks_for c k m ≡ b → forwards_for c k (reception p limit m s).sent ≤ one (asks_for c k m)
       by true q = let is : one (asks_for c k m) ≡ 1 = ap one q in omega (arith, is, get m q)

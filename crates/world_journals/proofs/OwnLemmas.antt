@@ -28,10 +28,10 @@ use Rattle.world_model.specs.World.{World, Sites, after_transition, after_receip
 use Rattle.world_model.proofs.PutLemmas.{nat_decides, at_here}
 use Rattle.world_cells.specs.CellCounts.{cell_weight}
 use Rattle.world_cells.proofs.ChainLemmas.{tally}
-use Rattle.world_cells.proofs.MessageLemmas.{message_reached}
-use Rattle.world_cells.proofs.MessageTallyLemmas.{message_tallied}
 use Rattle.world_cells.proofs.TallyLemmas.{tally_sent}
-use Rattle.world_cells.proofs.TurnLemmas.{Paid, quiet_paid}
+use Rattle.world_answers.proofs.LeaveLemmas.{Paid}
+use Rattle.world_answers.proofs.MessageLemmas.{message_paid}
+use Rattle.world_answers.proofs.TurnLemmas.{quiet_paid}
 use Rattle.world_messages.proofs.RunLemmas.{Entry}
 use Rattle.world_journals.specs.Requests.{exchange_count, asks_for, gets_for, forwards_for, asked_by, puts_delivered, IsTurnPaid}
 use Rattle.world_journals.proofs.CopyLemmas.{lost_any, all_less, all_zero}
@@ -48,7 +48,7 @@ module _ (p : List Stmt) (n limit : ℕ) (is : IsProgram p) (few : 1 ≤ n) (man
   old = paid_before p n limit is few many short j e f d entry
 
   number : (f e.site).records.site ≡ e.site
-  number = (old.reached.parts.kept e.site).site
+  number = (old.joined.reached.parts.kept e.site).site
 
   -- a Get for a site is sent in its own turns
   pub own_gets : (c : CellName) (k : ℕ) → e.site ≢ k → gets_for c k e.sent ≡ 0
@@ -77,7 +77,7 @@ module _ (p : List Stmt) (n limit : ℕ) (is : IsProgram p) (few : 1 ≤ n) (man
       of_msg k (msg.Get b a) t = go (cell_cases c b)
         where
           go : (c ≡ b) ⊎ (c ≢ b) → asked_by c c.site (Some (msg.Get b a)) ≡ 0
-          go (inl q) = second (equal_cell c b) (a == c.site) (flag a c.site (λ z. (old.reached.cells.gets k e.site b a t.at).1 (z ∙ ap (λ (x : CellName). x.site) q)))
+          go (inl q) = second (equal_cell c b) (a == c.site) (flag a c.site (λ z. (old.joined.reached.cells.gets k e.site b a t.at).1 (z ∙ ap (λ (x : CellName). x.site) q)))
           go (inr q) = ap (λ (x : Bool). cond (x && (a == c.site)) 1 0) (cells_differ c b q)
       of_msg k (msg.Forward b a) t = refl
       of_msg k (msg.Put b v bundle) t = refl
@@ -85,6 +85,11 @@ module _ (p : List Stmt) (n limit : ℕ) (is : IsProgram p) (few : 1 ≤ n) (man
       of_msg k (msg.Register x a) t = refl
       of_msg k (msg.BindReq x o y bundle) t = refl
       of_msg k (msg.Binding x y bundle) t = refl
+      of_msg k (msg.PortSend q m k1) t = refl
+      of_msg k (msg.PortEnd o was now bundle) t = refl
+      of_msg k (msg.CellMake b v bundle) t = refl
+      of_msg k (msg.CellAsk d m k1 v bundle) t = refl
+      of_msg k (msg.CellOld o v bundle) t = refl
 
       by : (o : Option ℕ) → e.delivered ≡ o → asked_by c c.site (delivered_message j e.delivered) ≡ 0
       by None q = ap (λ (o : Option ℕ). asked_by c c.site (delivered_message j o)) q
@@ -116,9 +121,7 @@ module _ (p : List Stmt) (n limit : ℕ) (is : IsProgram p) (few : 1 ≤ n) (man
     mid_picks = schedule j ++ said.picks
 
     heard_keeps : (o : List Sent) → Paid p n first (schedule j) o → Paid p n mid mid_picks (o ++ said.sent)
-    heard_keeps o r =
-        let after = message_reached p limit first (schedule j) r.reached k e.site m (real p n limit is few many short j e f d entry) t.elsewhere t.at in
-        record { reached = after; tally = message_tallied p n limit first (schedule j) r.reached k e.site (real p n limit is few many short j e f d entry) entry.site.0 entry.site.1 o r.tally m t.at t.elsewhere (t.fit.sites.0, t.fit.sites.1) after.centre after.run }
+    heard_keeps o r = message_paid p n limit e.site (real p n limit is few many short j e f d entry) first (schedule j) o r k m t.at entry.site.0 entry.site.1 t.elsewhere t.fit.takes (t.fit.sites.0, t.fit.sites.1)
 
     one : PartPays p n b (schedule j) said.picks said.sent first.mail mid.mail (cell_record (f e.site) b).held.token (cell_record said.site b).held.token
     one = part_pays p n first mid (schedule j) said.picks said.sent (sent_of j) e.site said.site entry.site.0 entry.site.1 refl old heard_keeps b
@@ -156,7 +159,7 @@ module _ (p : List Stmt) (n limit : ℕ) (is : IsProgram p) (few : 1 ≤ n) (man
           second false y z = refl
 
           flag : (x : Bool) → (a == b.site) ≡ x → (a == b.site) ≡ false
-          flag true z = absurd ((old.reached.cells.gets k e.site b a t.at).1 ((nat_decides a b.site).0 z))
+          flag true z = absurd ((old.joined.reached.cells.gets k e.site b a t.at).1 ((nat_decides a b.site).0 z))
           flag false z = z
 
           not_own : asks_for b b.site m ≡ false
@@ -195,6 +198,11 @@ module _ (p : List Stmt) (n limit : ℕ) (is : IsProgram p) (few : 1 ≤ n) (man
               kind (msg.Register x o) t w = plain_next c w
               kind (msg.BindReq x o y bundle) t w = plain_next c w
               kind (msg.Binding x y bundle) t w = plain_next c w
+              kind (msg.PortSend r o a) t w = plain_next c w
+              kind (msg.PortEnd o was now bundle) t w = plain_next c w
+              kind (msg.CellMake b v bundle) t w = plain_next c w
+              kind (msg.CellAsk b o a v bundle) t w = plain_next c w
+              kind (msg.CellOld o v bundle) t w = plain_next c w
 
   -- a Put is a Put
   put_is : (c : CellName) (m : Option Msg) → puts_delivered c m ≡ weight_of c 0 0 1 m
@@ -209,6 +217,11 @@ module _ (p : List Stmt) (n limit : ℕ) (is : IsProgram p) (few : 1 ≤ n) (man
       by (msg.Register x a) = refl
       by (msg.BindReq x o y bundle) = refl
       by (msg.Binding x y bundle) = refl
+      by (msg.PortSend r o a) = refl
+      by (msg.PortEnd o was now bundle) = refl
+      by (msg.CellMake b v bundle) = refl
+      by (msg.CellAsk b o a v bundle) = refl
+      by (msg.CellOld o v bundle) = refl
 
   pub turn_is_paid : (c : CellName) → IsTurnPaid p c j e (cell_record (f e.site) c).held.token (cell_record d.site c).held.token
   turn_is_paid c =

@@ -10,12 +10,13 @@ use Rattle.site_message.specs.declared.message.Msg.{Msg}
 use Rattle.site_message.specs.declared.message.Msg.TheVariants as msg
 use Rattle.site_message.specs.declared.message.Sent.{Sent}
 use Rattle.bind_protocol.proofs.ListLemmas.{there_counted}
-use Rattle.site_model.specs.Site.{Site, Counters, ThreadState, thread_state, cell_record}
+use Rattle.site_model.specs.Site.{Site, ThreadState, HomeRecord, EarlyRequest, thread_state, cell_record, home_record}
 use Rattle.site_model.specs.Transition.{Transition, sequence}
+use Rattle.world_model.specs.Claims.{home_in}
 use Rattle.world_model.proofs.MailLemmas.{nothing}
 use Rattle.world_messages.specs.BindRequests.{is_spawn}
 use Rattle.world_messages.specs.Messages.{spawns, fresh_in, threads_among}
-use Rattle.world_messages.proofs.PickLemmas.{spawned, Still, threads_in_both}
+use Rattle.world_messages.proofs.PickLemmas.{spawned, Quiet, threads_in_both}
 use Rattle.world_journals.specs.Places.{home_of}
 
 -- ---- where a thread goes
@@ -49,6 +50,11 @@ spawn_counts th (msg.Binding x t bundle) to e = cc
 spawn_counts th (msg.Get c k) to e = cc
 spawn_counts th (msg.Forward c k) to e = cc
 spawn_counts th (msg.Put c v bundle) to e = cc
+spawn_counts th (msg.PortSend q n k) to e = cc
+spawn_counts th (msg.PortEnd n old new bundle) to e = cc
+spawn_counts th (msg.CellMake c v bundle) to e = cc
+spawn_counts th (msg.CellAsk c n k v bundle) to e = cc
+spawn_counts th (msg.CellOld n v bundle) to e = cc
 
 pub none_spawned : (ms : List Sent) → spawned ms ≡ 0 → (th : ThreadName) (m : Sent) → Contains ms m → is_spawn th m ≡ true → ⊥
 none_spawned ms zero th m c e = absurd (omega (arith, zero, there_counted spawns ms m c (spawn_counts th m.msg m.to e)))
@@ -67,30 +73,44 @@ IsNew i old new th = (th.site ≡ i) × (old.counters.threads ≤ th.num) × (th
 abbrev pub Belongs : ℕ → (ThreadName → Type 0) → Site → Transition → ThreadName → Type 0
 Belongs i C s d th = IsHere C s th ⊎ (IsNew i s d.site th × (home_of i th d.sent ≡ i))
 
--- C: who comes; Q: the picks that are no own steps
-pub record Part (i : ℕ) (C : ThreadName → Type 0) (Q : Pick → Type 0) (s : Site) (d : Transition) : Type 0 where
+-- a request that the second site keeps was kept before, is one that comes, or is of a thread that belongs to the site
+abbrev pub Keepers : (CellName → ThreadName → Type 0) → (ThreadName → Type 0) → Site → Site → Type 0
+Keepers A B s t = (c : CellName) (r : EarlyRequest) → Contains (home_record t c).early r → Contains (home_record s c).early r ⊎ (A c r.thread ⊎ B r.thread)
+
+-- C: who comes; A: requests that come for a cell; Q: the picks that are no own steps
+pub record Part (i : ℕ) (C : ThreadName → Type 0) (A : CellName → ThreadName → Type 0) (Q : Pick → Type 0) (s : Site) (d : Transition) : Type 0 where
   pub since : s.counters.threads ≤ d.site.counters.threads
   pub born : (th : ThreadName) → Contains (threads_among (fresh_in d.picks)) th → IsNew i s d.site th
   pub sent : (th : ThreadName) (m : Sent) → Contains d.sent m → is_spawn th m ≡ true → IsNew i s d.site th × (home_of i th d.sent ≡ m.to)
   pub here : (th : ThreadName) → IsHere C d.site th → Belongs i C s d th
   pub picks : (k : Pick) → Contains d.picks k → Q k ⊎ Belongs i C s d k.thread
+  pub early : Keepers A (Belongs i C s d) s d.site
 
-module _ (i : ℕ) (C : ThreadName → Type 0) (Q : Pick → Type 0) where
+pub same_keepers : (A : CellName → ThreadName → Type 0) (B : ThreadName → Type 0) (s t : Site) → t.homes ≡ s.homes → Keepers A B s t
+same_keepers A B s t e c r at = inl (subst (λ (hs : List (CellName × HomeRecord)). Contains (home_in hs c).early r) e at)
+
+module _ (i : ℕ) (C : ThreadName → Type 0) (A : CellName → ThreadName → Type 0) (Q : Pick → Type 0) where
   -- a part that makes no name
-  pub still_part : (s : Site) (d : Transition) → Still s d → threads_among (fresh_in d.picks) ≡ [] → ((th : ThreadName) → IsHere C d.site th → IsHere C s th) → ((k : Pick) → Contains d.picks k → Q k ⊎ IsHere C s k.thread) → Part i C Q s d
-  still_part s d still none here picks = record {
-    since = omega (arith, ap (λ (c : Counters). c.threads) still.counters);
+  pub still_part : (s : Site) (d : Transition) → Quiet s d → threads_among (fresh_in d.picks) ≡ [] → ((th : ThreadName) → IsHere C d.site th → IsHere C s th) → ((k : Pick) → Contains d.picks k → Q k ⊎ IsHere C s k.thread) → Keepers A (IsHere C s) s d.site → Part i C A Q s d
+  still_part s d still none here picks early = record {
+    since = omega (arith, still.threads);
     born = λ th c. absurd (nothing th (subst (λ (ns : List ThreadName). Contains ns th) none c));
     sent = λ th m c e. absurd (none_spawned d.sent still.sent th m c e);
     here = λ th h. inl (here th h);
     picks = λ k c. by k (picks k c);
+    early = λ c r at. kept c r (early c r at);
   }
     where
+      kept : (c : CellName) (r : EarlyRequest) → Contains (home_record s c).early r ⊎ (A c r.thread ⊎ IsHere C s r.thread) → Contains (home_record s c).early r ⊎ (A c r.thread ⊎ Belongs i C s d r.thread)
+      kept c r (inl k) = inl k
+      kept c r (inr (inl k)) = inr (inl k)
+      kept c r (inr (inr k)) = inr (inr (inl k))
+
       by : (k : Pick) → Q k ⊎ IsHere C s k.thread → Q k ⊎ Belongs i C s d k.thread
       by k (inl q) = inl q
       by k (inr h) = inr (inl h)
 
-  module _ (s : Site) (d e : Transition) (h : Part i C Q s d) (g : Part i C Q d.site e) where
+  module _ (s : Site) (d e : Transition) (h : Part i C A Q s d) (g : Part i C A Q d.site e) where
     low : (th : ThreadName) → IsNew i s d.site th → IsNew i s e.site th
     low th n = (n.0, n.1, omega (arith, n.2, g.since))
 
@@ -131,11 +151,22 @@ module _ (i : ℕ) (C : ThreadName → Type 0) (Q : Pick → Type 0) where
     picks k (inl c) = first_pick k (h.picks k c)
     picks k (inr c) = second_pick k (g.picks k c)
 
-    pub parts_join : Part i C Q s (sequence d e)
+    kept : (c : CellName) (r : EarlyRequest) → Contains (home_record s c).early r ⊎ (A c r.thread ⊎ Belongs i C s d r.thread) → Contains (home_record s c).early r ⊎ (A c r.thread ⊎ Belongs i C s (sequence d e) r.thread)
+    kept c r (inl k) = inl k
+    kept c r (inr (inl k)) = inr (inl k)
+    kept c r (inr (inr k)) = inr (inr (first r.thread k))
+
+    last : (c : CellName) (r : EarlyRequest) → Contains (home_record d.site c).early r ⊎ (A c r.thread ⊎ Belongs i C d.site e r.thread) → Contains (home_record s c).early r ⊎ (A c r.thread ⊎ Belongs i C s (sequence d e) r.thread)
+    last c r (inl k) = kept c r (h.early c r k)
+    last c r (inr (inl k)) = inr (inl k)
+    last c r (inr (inr k)) = inr (inr (second r.thread k))
+
+    pub parts_join : Part i C A Q s (sequence d e)
     parts_join = record {
       since = omega (arith, h.since, g.since);
       born = λ th c. born th (Contains-append_cases (threads_among (fresh_in d.picks)) (threads_among (fresh_in e.picks)) th (subst (λ (ns : List ThreadName). Contains ns th) (threads_in_both d.picks e.picks) c));
       sent = λ th m c q. sent th m q (Contains-append_cases d.sent e.sent m c);
       here = λ th k. second th (g.here th k);
       picks = λ k c. picks k (Contains-append_cases d.picks e.picks k c);
+      early = λ c r at. last c r (g.early c r at);
     }

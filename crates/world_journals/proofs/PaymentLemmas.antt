@@ -36,11 +36,15 @@ use Rattle.world_variables.proofs.JournalLemmas.{came_acts}
 use Rattle.world_cells.specs.CellCounts.{cell_weight, cell_weights}
 use Rattle.world_cells.proofs.ChainLemmas.{tally, Came, cell_there, get_arrives, forward_arrives, put_arrives, arrives_there, arrives_here}
 use Rattle.world_cells.proofs.FrameLemmas.{opens_nothing}
-use Rattle.world_cells.proofs.MessageLemmas.{message_reached, opened, cells_v, at_v, site_v}
+use Rattle.world_cells.proofs.MessageLemmas.{opened, cells_v, at_v, site_v}
 use Rattle.world_cells.proofs.MessageLemmas as heard
 use Rattle.world_cells.proofs.PutRowLemmas.{one_number, at_real_site, put_kept}
 use Rattle.world_cells.proofs.TallyLemmas.{OneOfNumber, IsSilent, tally_sent, tally_other, none_says, silent_get, silent_forward, silent_put}
-use Rattle.world_cells.proofs.TurnLemmas.{Paid}
+use Rattle.world_model.specs.Chain.{mobile_cells}
+use Rattle.world_model.specs.Shown.{shown_world}
+use Rattle.world_answers.proofs.LeaveLemmas.{Paid}
+use Rattle.world_answers.proofs.JoinLemmas.{heard_picks}
+use Rattle.world_answers.proofs.MessageLemmas.{message_comes}
 use Rattle.world_cells.proofs.UnitTallyLemmas.{more_picks}
 use Rattle.world_messages.proofs.RunLemmas.{Entry}
 use Rattle.world_journals.specs.Requests.{exchange_count}
@@ -86,7 +90,7 @@ module _ (p : List Stmt) (n limit : ℕ) (is : IsProgram p) (few : 1 ≤ n) (man
   old = paid_before p n limit is few many short j e f d entry
 
   one : (k : ℕ) (m : Msg) → IsOnItsWay first.mail k e.site m → OneOfNumber first.mail k (sent_to e.site m)
-  one k m at = one_number first k e.site m at (λ a b x o h g. old.reached.numbers.once k a b x o h g)
+  one k m at = one_number first k e.site m at (λ a b x o h g. old.joined.reached.numbers.once k a b x o h g)
 
   -- ---- Gets that travel
 
@@ -101,19 +105,19 @@ module _ (p : List Stmt) (n limit : ℕ) (is : IsProgram p) (few : 1 ≤ n) (man
   forward_lost : (b : CellName) (k a : ℕ) → IsOnItsWay first.mail k e.site (msg.Forward b a) → Lost b k (msg.Forward b a)
   forward_lost b k a at =
       let arrives = forward_arrives first k e.site b a at (one k (msg.Forward b a) at) in
-      let found = cell_there first.sites first.mail old.reached.centre.cells b (Forward e.site a) old.reached.cells.cells (arrives_there first k e.site _ b (Forward e.site a) arrives) in
+      let found = cell_there first.sites first.mail (mobile_cells old.joined.reached.centre.cells) b (Forward e.site a) old.joined.reached.cells.cells (arrives_there first k e.site _ b (Forward e.site a) arrives) in
       (Forward e.site a ∷ [], arrives_here first k e.site _ b (Forward e.site a) found.0 arrives found.2, (let none : total n (λ s. mail_count (Forward e.site a ∷ []) (Get s)) ≡ 0 = all_zero n _ (λ s. refl) in omega (arith, none)))
 
   put_lost : (b : CellName) (k : ℕ) (v : VarName) (bundle : List Equation) → IsOnItsWay first.mail k e.site (msg.Put b v bundle) → Lost b k (msg.Put b v bundle)
   put_lost b k v bundle at =
       let arrives = put_arrives first k e.site b v bundle at (one k (msg.Put b v bundle) at) in
-      let found = cell_there first.sites first.mail old.reached.centre.cells b (Put e.site v) old.reached.cells.cells (arrives_there first k e.site _ b (Put e.site v) arrives) in
+      let found = cell_there first.sites first.mail (mobile_cells old.joined.reached.centre.cells) b (Put e.site v) old.joined.reached.cells.cells (arrives_there first k e.site _ b (Put e.site v) arrives) in
       (Put e.site v ∷ [], arrives_here first k e.site _ b (Put e.site v) found.0 arrives found.2, (let none : total n (λ s. mail_count (Put e.site v ∷ []) (Get s)) ≡ 0 = all_zero n _ (λ s. refl) in omega (arith, none)))
 
   get_lost : (b : CellName) (k a : ℕ) → IsOnItsWay first.mail k e.site (msg.Get b a) → 1 ≤ a → a ≤ n → Lost b k (msg.Get b a)
   get_lost b k a at low high =
-      let arrives = get_arrives first k e.site b a at (one k (msg.Get b a) at) (old.reached.cells.gets k e.site b a at).0 in
-      let found = cell_there first.sites first.mail old.reached.centre.cells b (Get a) old.reached.cells.cells (arrives_there first k e.site _ b (Get a) arrives) in
+      let arrives = get_arrives first k e.site b a at (one k (msg.Get b a) at) (old.joined.reached.cells.gets k e.site b a at).0 in
+      let found = cell_there first.sites first.mail (mobile_cells old.joined.reached.centre.cells) b (Get a) old.joined.reached.cells.cells (arrives_there first k e.site _ b (Get a) arrives) in
       (Get a ∷ [], arrives_here first k e.site _ b (Get a) found.0 arrives found.2, (let came = one_came n a low high in let all = cond-true {A = ℕ} (equal_cell b b) 1 0 (cell_same b) in omega (arith, came, all)))
 
   lost : (c : CellName) (k : ℕ) (m : Msg) → Taken p n j e (f e.site) k m → Lost c k m
@@ -136,6 +140,11 @@ module _ (p : List Stmt) (n limit : ℕ) (is : IsProgram p) (few : 1 ≤ n) (man
   lost c k (msg.Register x o) t = silent_lost c k (msg.Register x o) t.at (none_says c e.site (msg.Register x o) tt)
   lost c k (msg.BindReq x o y bundle) t = silent_lost c k (msg.BindReq x o y bundle) t.at (none_says c e.site (msg.BindReq x o y bundle) tt)
   lost c k (msg.Binding x y bundle) t = silent_lost c k (msg.Binding x y bundle) t.at (none_says c e.site (msg.Binding x y bundle) tt)
+  lost c k (msg.PortSend q o a) t = silent_lost c k (msg.PortSend q o a) t.at (none_says c e.site (msg.PortSend q o a) tt)
+  lost c k (msg.PortEnd o was now bundle) t = silent_lost c k (msg.PortEnd o was now bundle) t.at (none_says c e.site (msg.PortEnd o was now bundle) tt)
+  lost c k (msg.CellMake b v bundle) t = silent_lost c k (msg.CellMake b v bundle) t.at (none_says c e.site (msg.CellMake b v bundle) tt)
+  lost c k (msg.CellAsk d o a v bundle) t = silent_lost c k (msg.CellAsk d o a v bundle) t.at (none_says c e.site (msg.CellAsk d o a v bundle) tt)
+  lost c k (msg.CellOld o v bundle) t = silent_lost c k (msg.CellOld o v bundle) t.at (none_says c e.site (msg.CellOld o v bundle) tt)
 
   abbrev going_in : CellName → Mail → ℕ
   going_in c mail = total n (λ s. tally c mail (Get s))
@@ -156,7 +165,7 @@ module _ (p : List Stmt) (n limit : ℕ) (is : IsProgram p) (few : 1 ≤ n) (man
           go : (m : Msg) × Taken p n j e (f e.site) k m → going_in c first.mail ≤ going_in c (after_receipt (Some k) (after_transition first e.site d)).mail + weight_of c 1 0 0 (delivered_message j (Some k))
           go (m, t) =
               let l = lost c k m t in
-              let low : k < first.sent = old.reached.numbers.below k e.site m t.at in
+              let low : k < first.sent = old.joined.reached.numbers.below k e.site m t.at in
               subst (λ (o : Option Msg). going_in c first.mail ≤ going_in c (after_receipt (Some k) (after_transition first e.site d)).mail + weight_of c 1 0 0 o) (sym t.is)
               (subst (λ (v : World). going_in c first.mail ≤ going_in c v.mail + cell_weight c 1 0 0 m) (sym (came_acts first e.site d k low))
               (more (after_receipt (Some k) first).mail first.sent l.0 (cell_weight c 1 0 0 m) l.1 l.2))
@@ -171,19 +180,28 @@ module _ (p : List Stmt) (n limit : ℕ) (is : IsProgram p) (few : 1 ≤ n) (man
     waits : 1 ≤ length (cell_record (f e.site) b).queue
     waits =
         let arrives = put_arrives first k e.site b v bundle t.at (one k m t.at) in
-        let found = cell_there first.sites first.mail old.reached.centre.cells b (Put e.site v) old.reached.cells.cells (arrives_there first k e.site _ b (Put e.site v) arrives) in
-        subst (λ (y : ℕ). 1 ≤ y) (old.reached.cells.queues e.site b).long ((old.tally.tallied b found.0 found.1).wanted e.site t.fit.takes)
+        let found = cell_there first.sites first.mail (mobile_cells old.joined.reached.centre.cells) b (Put e.site v) old.joined.reached.cells.cells (arrives_there first k e.site _ b (Put e.site v) arrives) in
+        subst (λ (y : ℕ). 1 ≤ y) (old.joined.reached.cells.queues e.site b).long ((old.tally.tallied b found.0 found.1).wanted e.site t.fit.takes)
 
     abbrev taken : List Pick
     taken = (reception p limit m (f e.site)).picks
 
-    served : length (exchanges_from p b old.reached.centre taken) ≡ length (cell_record (f e.site) b).queue
-    served =
-        let r = old.reached in
-        let far = real p n limit is few many short j e f d entry in
-        let row = put_kept p limit (after_transition first e.site (opening m (f e.site))) r.centre k e.site b v bundle (opened p limit first (schedule j) r k e.site m far t.at).parts (cells_v p limit first (schedule j) r k e.site m far t.at) (runs_are_sound p (schedule j) r.centre r.run) (at_v p limit first (schedule j) r k e.site m far t.at) (heard.once p limit first (schedule j) r k e.site m far t.at) (at_real_site (records (after_transition first e.site (opening m (f e.site))).sites) e.site v far (opened p limit first (schedule j) r k e.site m far t.at).vars.0) far in
-        let there = subst (λ (y : Site). length (exchanges_from p b r.centre (put_row p limit b v y).picks) ≡ length (cell_record y b).queue) (site_v p limit first (schedule j) r k e.site m far t.at) row.exchanged in
-        there ∙ ap (λ (qs : List (CellName × CellRecord)). length (cell_record_in qs b).queue) (opens_nothing m (f e.site)).cell_records
+    far : e.site ≢ 0
+    far = real p n limit is few many short j e f d entry
+
+    abbrev seen : World
+    seen = shown_world first old.joined.transit
+
+    -- as the machine sees it, without those that wait for answers
+    served_seen : length (exchanges_from p b old.joined.reached.centre (reception p limit m (seen.sites e.site)).picks) ≡ length (cell_record (f e.site) b).queue
+    served_seen =
+        let r = old.joined.reached in
+        let row = put_kept p limit (after_transition seen e.site (opening m (seen.sites e.site))) r.centre k e.site b v bundle (opened p limit seen (schedule j) r k e.site m far t.at).parts (cells_v p limit seen (schedule j) r k e.site m far t.at) (runs_are_sound p (schedule j) r.centre r.run) (at_v p limit seen (schedule j) r k e.site m far t.at) (heard.once p limit seen (schedule j) r k e.site m far t.at) (at_real_site (records (after_transition seen e.site (opening m (seen.sites e.site))).sites) e.site v far (opened p limit seen (schedule j) r k e.site m far t.at).vars.0) far in
+        let there = subst (λ (y : Site). length (exchanges_from p b r.centre (put_row p limit b v y).picks) ≡ length (cell_record y b).queue) (site_v p limit seen (schedule j) r k e.site m far t.at) row.exchanged in
+        there ∙ ap (λ (qs : List (CellName × CellRecord)). length (cell_record_in qs b).queue) (opens_nothing m (seen.sites e.site)).cell_records
+
+    served : length (exchanges_from p b old.joined.reached.centre taken) ≡ length (cell_record (f e.site) b).queue
+    served = subst (λ (ks : List Pick). length (exchanges_from p b old.joined.reached.centre ks) ≡ length (cell_record (f e.site) b).queue) (heard_picks p limit e.site far first (schedule j) old.joined k m tt t.elsewhere t.at t.fit.takes) served_seen
 
     at_once : e.delivered ≡ Some k → 1 ≤ exchange_count p b j e
     at_once q = go (subst (λ (o : Option Msg). SiteTurn p n limit (f e.site) o d) (ap (delivered_message j) q ∙ t.is) entry.turn)
@@ -194,8 +212,8 @@ module _ (p : List Stmt) (n limit : ℕ) (is : IsProgram p) (few : 1 ≤ n) (man
             by : IsReception p n limit (Some m) (f e.site) heard → 1 ≤ exchange_count p b j e
             by (inr (unfit, u)) = absurd (unfit t.fit)
             by (inl (fit, u)) =
-                let r = message_reached p limit first (schedule j) old.reached k e.site m (real p n limit is few many short j e f d entry) t.elsewhere t.at in
-                let x = more_picks p b (schedule j) taken old.reached.centre old.reached.run in
+                let r = (message_comes p limit e.site far first (schedule j) old.joined k m t.at t.elsewhere t.fit.takes).reached in
+                let x = more_picks p b (schedule j) taken old.joined.reached.centre old.joined.reached.run in
                 let y = more_picks p b (schedule j ++ taken) rest.picks r.centre r.run in
                 let picks : e.picks ≡ taken ++ rest.picks = entry.tells.picks ∙ ap (λ (z : Transition). z.picks) sums ∙ ap (λ (z : Transition). z.picks ++ rest.picks) u in
                 let all : length (exchanges p (schedule j ++ e.picks) b) ≡ length (exchanges p ((schedule j ++ taken) ++ rest.picks) b) = ap (λ (ks : List Pick). length (exchanges p (schedule j ++ ks) b)) picks ∙ ap (λ (ks : List Pick). length (exchanges p ks b)) (sym (append_assoc (schedule j) taken rest.picks)) in
@@ -229,6 +247,11 @@ module _ (p : List Stmt) (n limit : ℕ) (is : IsProgram p) (few : 1 ≤ n) (man
               kind (msg.Register x o) t w = nothing w
               kind (msg.BindReq x o y bundle) t w = nothing w
               kind (msg.Binding x y bundle) t w = nothing w
+              kind (msg.PortSend r o a) t w = nothing w
+              kind (msg.PortEnd o was now bundle) t w = nothing w
+              kind (msg.CellMake b v bundle) t w = nothing w
+              kind (msg.CellAsk b o a v bundle) t w = nothing w
+              kind (msg.CellOld o v bundle) t w = nothing w
 
   -- ---- Gets and Forwards
 

@@ -2,6 +2,7 @@
 use Rattle.std.proofs.Common.{arith, ◌≡◌, ◌≢◌, ◌∙◌, sym, ap, refl, subst, ℕ, ◌<◌, ◌≤◌, List, [], ◌∷◌, ◌++◌, length, length-append, append_assoc, ◌⊎◌, inl, inr, Bool, true, false, cond, Some, None}
 use Rattle.std.specs.Prelude.{Option, Contains, ◌==◌}
 use Rattle.std.proofs.lemmas.List.Elements.{Contains-append_cases}
+use Rattle.tree_node.specs.declared.names.CellName.{CellName}
 use Rattle.tree_node.specs.declared.names.ThreadName.{ThreadName}
 use Rattle.tree_node.specs.declared.pick.Pick.{Pick}
 use Rattle.tree_node.specs.Assoc.{value_of}
@@ -18,7 +19,7 @@ use Rattle.site_message.specs.Journal.{IsTravelling, sent_of}
 use Rattle.oz_model.specs.Effect.{body_item}
 use Rattle.oz_model.specs.Run.{first_thread, start}
 use Rattle.bind_protocol.proofs.DeliverLemmas.{get_contains}
-use Rattle.site_model.specs.Site.{Site, ThreadState, initial_site, runnable_threads, thread_state}
+use Rattle.site_model.specs.Site.{Site, ThreadState, EarlyRequest, initial_site, home_record, runnable_threads, thread_state}
 use Rattle.site_model.specs.Transition.{Transition, without_output, sequence}
 use Rattle.site_model.specs.Turn.{AreUnits, SiteTurn, SiteTurnOf}
 use Rattle.thread_roster.specs.declared.mode.Mode.TheVariants.{Runs}
@@ -32,9 +33,9 @@ use Rattle.world_messages.specs.Messages.{fresh_in, threads_among}
 use Rattle.world_messages.proofs.CountLemmas.{counted_in}
 use Rattle.world_messages.proofs.PickLemmas.{PicksOn, turn_picks}
 use Rattle.world_messages.proofs.RunLemmas.{Entry, every_run}
-use Rattle.world_journals.specs.Places.{home_of, IsPlacedAt, IsRequested, IsNamedBy, UnitsAreNamed, UnitsAreAlwaysNamed, ThreadsStayHome, ThreadsAlwaysStayHome}
-use Rattle.world_journals.proofs.PartPlaceLemmas.{IsHere, IsNew, Belongs, Part}
-use Rattle.world_journals.proofs.HeardLemmas.{Comes, AllComes}
+use Rattle.world_journals.specs.Places.{home_of, IsPlacedAt, AsksFor, WasAsked, IsRequested, IsNamedBy, UnitsAreNamed, UnitsAreAlwaysNamed, ThreadsStayHome, ThreadsAlwaysStayHome}
+use Rattle.world_journals.proofs.PartPlaceLemmas.{IsHere, IsNew, Belongs}
+use Rattle.world_journals.proofs.HeardLemmas.{Comes, AllComes, IsAsked, HeardPart}
 use Rattle.world_journals.proofs.UnitLemmas.{turn_part}
 
 abbrev Nobody : ThreadName → Type 0
@@ -55,9 +56,11 @@ each_cut : (P : ThreadName → Type 0) (front xs whole : List ThreadName) → wh
 each_cut P front [] whole is h = tt
 each_cut P front (x ∷ xs) whole is h = (h front xs x is, each_cut P (front ++ x ∷ []) xs whole (is ∙ sym (append_assoc front (x ∷ []) xs)) h)
 
--- who is at a site was placed there, as was who is on the way to it; a thread that was placed was made, by one of the sites
+-- who is at a site was placed there, as was who is on the way to it; the site was asked for a cell by whom it keeps a request, or who asked was
+-- placed there; a thread that was placed was made, by one of the sites
 pub record PlacedIn (n : ℕ) (j : List Turn) (f : Sites) : Type 0 where
   pub here : (i : ℕ) (th : ThreadName) → IsHere Nobody (f i) th → IsPlacedAt j th i
+  pub early : (i : ℕ) (c : CellName) (r : EarlyRequest) → Contains (home_record (f i) c).early r → WasAsked j i c r.thread ⊎ IsPlacedAt j r.thread i
   pub sent : (th : ThreadName) (m : Sent) → Contains (sent_of j) m → is_spawn th m ≡ true → IsPlacedAt j th m.to
   pub made : (th : ThreadName) (i : ℕ) → IsPlacedAt j th i → th.num < (f th.site).counters.threads
   pub named : 1 ≤ n → (th : ThreadName) (i : ℕ) → IsPlacedAt j th i → IsNamedBy n th
@@ -83,6 +86,11 @@ module _ (p : List Stmt) (n limit : ℕ) (j : List Turn) (e : Turn) (f : Sites) 
       brings to (msg.Get c k) at is = tt
       brings to (msg.Forward c k) at is = tt
       brings to (msg.Put c v bundle) at is = tt
+      brings to (msg.PortSend q th k) at is = tt
+      brings to (msg.PortEnd th old new bundle) at is = tt
+      brings to (msg.CellMake c v bundle) at is = tt
+      brings to (msg.CellAsk c th k v bundle) at is = tt
+      brings to (msg.CellOld th v bundle) at is = tt
 
       by : (o : Option ℕ) → e.delivered ≡ o → AllComes Came p limit (delivered_message j e.delivered)
       by None q = subst (λ (o : Option ℕ). AllComes Came p limit (delivered_message j o)) (sym q) tt
@@ -91,7 +99,7 @@ module _ (p : List Stmt) (n limit : ℕ) (j : List Turn) (e : Turn) (f : Sites) 
           go : (s : Sent) × IsTravelling j k s × (s.to ≡ e.site) → AllComes Came p limit (delivered_message j e.delivered)
           go (s, at, to) = subst (AllComes Came p limit) (sym (ap (delivered_message j) q ∙ ap message_of at.0)) (brings s.to s.msg (get_contains (sent_of j) k s at.0) to)
 
-  part : Part e.site Came (IsRequested (delivered_message j e.delivered)) (f e.site) d
+  part : HeardPart Came p limit e.site (delivered_message j e.delivered) (f e.site) d
   part = turn_part p n limit e.site Came (delivered_message j e.delivered) (f e.site) d own comes entry.turn
 
   made : PicksOn (f e.site).records.site (f e.site).counters d.site.counters d.picks d.sent
@@ -165,9 +173,39 @@ module _ (p : List Stmt) (n limit : ℕ) (j : List Turn) (e : Turn) (f : Sites) 
   once th i k (inr a) (inl b) = absurd (apart th k b a.0)
   once th i k (inr a) (inr b) = a.1 ∙ sym b.1
 
-  step_at : (k : Pick) → IsRequested (delivered_message j e.delivered) k ⊎ Belongs e.site Came (f e.site) d k.thread → IsRequested (delivered_message j e.delivered) k ⊎ IsPlacedAt (e ∷ j) k.thread e.site
-  step_at k (inl q) = inl q
+  -- what the message asks for is requested, or a step of a thread that asked before and was placed here
+  requested : (m : Option Msg) (k : Pick) → IsAsked Came p limit m (f e.site).homes k → IsRequested j e.site m k ⊎ IsPlacedAt (e ∷ j) k.thread e.site
+  requested (Some (msg.BindReq x th t bundle)) k q = inl q
+  requested (Some (msg.PortSend a th b)) k q = inl q
+  requested (Some (msg.CellAsk c th b v bundle)) k q = inl q
+  requested (Some (msg.CellMake c v bundle)) k (r, at, is) = by (h.early e.site c r at)
+    where
+      by : WasAsked j e.site c r.thread ⊎ IsPlacedAt j r.thread e.site → IsRequested j e.site (Some (msg.CellMake c v bundle)) k ⊎ IsPlacedAt (e ∷ j) k.thread e.site
+      by (inl asked) = inl (r.thread, asked, is)
+      by (inr placed) = inr (inl (subst (λ (th : ThreadName). IsPlacedAt j th e.site) (sym (ap (λ (l : Pick). l.thread) is)) placed))
+  requested (Some (msg.Spawn a b c q)) k x = absurd x
+  requested (Some (msg.Register a b)) k x = absurd x
+  requested (Some (msg.Binding a b c)) k x = absurd x
+  requested (Some (msg.Get a b)) k x = absurd x
+  requested (Some (msg.Forward a b)) k x = absurd x
+  requested (Some (msg.Put a b c)) k x = absurd x
+  requested (Some (msg.PortEnd a b c q)) k x = absurd x
+  requested (Some (msg.CellOld a b c)) k x = absurd x
+  requested None k x = absurd x
+
+  step_at : (k : Pick) → IsAsked Came p limit (delivered_message j e.delivered) (f e.site).homes k ⊎ Belongs e.site Came (f e.site) d k.thread → IsRequested j e.site (delivered_message j e.delivered) k ⊎ IsPlacedAt (e ∷ j) k.thread e.site
+  step_at k (inl q) = requested (delivered_message j e.delivered) k q
   step_at k (inr b) = inr (belongs k.thread b)
+
+  -- requests that are kept were kept, or came with this turn's message, or are of threads here
+  kept_on : (i : ℕ) (c : CellName) (r : EarlyRequest) → WasAsked j i c r.thread ⊎ IsPlacedAt j r.thread i → WasAsked (e ∷ j) i c r.thread ⊎ IsPlacedAt (e ∷ j) r.thread i
+  kept_on i c r (inl k) = inl (inl k)
+  kept_on i c r (inr k) = inr (inl k)
+
+  kept_here : (c : CellName) (r : EarlyRequest) → Contains (home_record (f e.site) c).early r ⊎ (AsksFor c r.thread (delivered_message j e.delivered) ⊎ Belongs e.site Came (f e.site) d r.thread) → WasAsked (e ∷ j) e.site c r.thread ⊎ IsPlacedAt (e ∷ j) r.thread e.site
+  kept_here c r (inl k) = kept_on e.site c r (h.early e.site c r k)
+  kept_here c r (inr (inl k)) = inl (inr (refl, k))
+  kept_here c r (inr (inr k)) = inr (belongs r.thread k)
 
   some_site : 1 ≤ n
   some_site = let low = entry.site.0 in let high = entry.site.1 in omega (arith, low, high)
@@ -198,12 +236,13 @@ module _ (p : List Stmt) (n limit : ℕ) (j : List Turn) (e : Turn) (f : Sites) 
   placed_entry : PlacedIn n (e ∷ j) (put f e.site d.site)
   placed_entry = record {
     here = at_all f e.site d.site (λ (i : ℕ) (s : Site). (th : ThreadName) → IsHere Nobody s th → IsPlacedAt (e ∷ j) th i) stays (λ i other th k. inl (h.here i th k));
+    early = at_all f e.site d.site (λ (i : ℕ) (s : Site). (c : CellName) (r : EarlyRequest) → Contains (home_record s c).early r → WasAsked (e ∷ j) i c r.thread ⊎ IsPlacedAt (e ∷ j) r.thread i) (λ c r k. kept_here c r (part.early c r k)) (λ i other c r k. kept_on i c r (h.early i c r k));
     sent = λ th m c q. sent_after th m q (Contains-append_cases (sent_of j) e.sent m c);
     made = made_after;
     named = named_after;
     units = (each_cut (IsNamedBy n) [] e.units e.units refl (λ front behind th is. unit_named front behind th is), h.units);
     home = record {
-      steps = (h.home.steps, each_in (λ (k : Pick). IsRequested (delivered_message j e.delivered) k ⊎ IsPlacedAt (e ∷ j) k.thread e.site) e.picks (λ k c. step_at k (part.picks k (subst (λ (ks : List Pick). Contains ks k) entry.tells.picks c))));
+      steps = (h.home.steps, each_in (λ (k : Pick). IsRequested j e.site (delivered_message j e.delivered) k ⊎ IsPlacedAt (e ∷ j) k.thread e.site) e.picks (λ k c. step_at k (part.picks k (subst (λ (ks : List Pick). Contains ks k) entry.tells.picks c))));
       once = once;
     };
   }
@@ -211,8 +250,8 @@ module _ (p : List Stmt) (n limit : ℕ) (j : List Turn) (e : Turn) (f : Sites) 
 -- ---- every run
 
 -- at the start the first thread is at site 1
-first_here : (p : List Stmt) (i : ℕ) (th : ThreadName) → IsHere Nobody (initial_site p i) th → IsPlacedAt [] th i
-first_here p i th (inl (v, at)) = go (i == 1) refl at
+first_here : (p : List Stmt) (n i : ℕ) (th : ThreadName) → IsHere Nobody (initial_site p n i) th → IsPlacedAt [] th i
+first_here p n i th (inl (v, at)) = go (i == 1) refl at
   where
     one : (st : Stack) (c : Bool) → equal_thread first_thread th ≡ c → cond c (Some st) None ≡ Some v.0 → th ≡ first_thread
     one st true q e = sym ((same_thread_decides first_thread th).0 q)
@@ -221,17 +260,18 @@ first_here p i th (inl (v, at)) = go (i == 1) refl at
     go : (b : Bool) → (i == 1) ≡ b → value_of equal_thread (cond b (runnable_threads (start p).threads) []) th ≡ Some v → (th ≡ first_thread) × (i ≡ 1)
     go true q e = (one (body_item p (record { 0 = 0 }) [] ∷ []) (equal_thread first_thread th) refl (running_old (start p).threads th v e).0, (nat_decides i 1).0 q)
     go false q e = cc
-first_here p i th (inr (inl (c, listed))) = absurd (nothing th listed)
-first_here p i th (inr (inr k)) = absurd k
+first_here p n i th (inr (inl (c, listed))) = absurd (nothing th listed)
+first_here p n i th (inr (inr k)) = absurd k
 
-first_made : (p : List Stmt) (th : ThreadName) (i : ℕ) → IsPlacedAt [] th i → th.num < (initial_site p th.site).counters.threads
-first_made p th i (e, q) = subst (λ (z : ThreadName). z.num < (initial_site p z.site).counters.threads) (sym e) (omega arith)
+first_made : (p : List Stmt) (n : ℕ) (th : ThreadName) (i : ℕ) → IsPlacedAt [] th i → th.num < (initial_site p n th.site).counters.threads
+first_made p n th i (e, q) = subst (λ (z : ThreadName). z.num < (initial_site p n z.site).counters.threads) (sym e) (omega arith)
 
 placed_in : (p : List Stmt) (n limit : ℕ) (j : List Turn) (f : Sites) → WorldRun p n limit j f → PlacedIn n j f
 placed_in p n limit = every_run p n limit (PlacedIn n) (record {
-  here = first_here p;
+  here = first_here p n;
+  early = λ i c r k. absurd (nothing r k);
   sent = λ th m c q. absurd (nothing m c);
-  made = first_made p;
+  made = first_made p n;
   named = λ some th i a. subst (IsNamedBy n) (sym a.0) (omega arith, some);
   units = tt;
   home = record { steps = tt; once = λ th i k a b. a.1 ∙ sym b.1 };

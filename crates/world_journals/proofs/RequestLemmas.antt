@@ -17,6 +17,7 @@ use Rattle.site_model.specs.Site.{Site, initial_site, cell_record}
 use Rattle.site_model.specs.Transition.{Transition}
 use Rattle.site_model.specs.Run.{WorldRun, delivered_message, message_of}
 use Rattle.world_model.specs.Schedule.{schedule}
+use Rattle.world_model.specs.Shown.{shown_world}
 use Rattle.world_model.specs.World.{Sites, put, world_of}
 use Rattle.world_model.proofs.PutLemmas.{nat_decides, at_here, at_other}
 use Rattle.world_cells.proofs.ChainLemmas.{number_or}
@@ -153,7 +154,7 @@ module _ (p : List Stmt) (n limit : ℕ) (is : IsProgram p) (few : 1 ≤ n) (man
   abbrev ServedIn : List Turn → Sites → Type 0
   ServedIn j f = (c : CellName) (s : ℕ) → ServedAt p c s j (cell_record (f s) c).held.token
 
-  served_start : ServedIn [] (initial_site p)
+  served_start : ServedIn [] (initial_site p n)
   served_start c s = record { gets = omega arith; own = λ q. omega arith; answered = λ q. omega arith; taken = omega arith }
 
   served_entry : (j : List Turn) (e : Turn) (f : Sites) (d : Transition) → Entry p n limit j e f d → ServedIn j f → ServedIn (e ∷ j) (put f e.site d.site)
@@ -176,7 +177,7 @@ module _ (p : List Stmt) (n limit : ℕ) (is : IsProgram p) (few : 1 ≤ n) (man
       record {
         gets = r.gets;
         forwards = by (number_or c.site s);
-        puts = omega (arith, r.taken, none_lost (brings c s) j run.wired, few_puts p (world_of j f) (schedule j) q.reached c s);
+        puts = omega (arith, r.taken, none_lost (brings c s) j run.wired, few_puts p (shown_world (world_of j f) q.joined.transit) (schedule j) q.joined.reached c s);
       }
     where
       by : (c.site ≡ s) ⊎ (c.site ≢ s) → forwards_for c s (sent_of j) ≤ exchanges_at p c s j + outstanding (cell_record (f s) c).held.token

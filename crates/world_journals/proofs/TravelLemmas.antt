@@ -20,10 +20,10 @@ use Rattle.token_chain.specs.Mail.{Put, is_mail, sent_count}
 use Rattle.token_chain.specs.Tally.{outstanding}
 use Rattle.token_chain.proofs.MoveLemmas.{messages_can_come}
 use Rattle.world_model.specs.World.{World}
-use Rattle.world_model.specs.Chain.{messages}
 use Rattle.world_model.proofs.PutLemmas.{nat_decides}
 use Rattle.world_cells.proofs.ChainLemmas.{held, cell_there}
-use Rattle.world_cells.proofs.UnitLemmas.{Reached}
+use Rattle.world_model.specs.Chain.{messages, mobile_cells}
+use Rattle.world_cells.specs.Reached.{Reached}
 use Rattle.world_journals.specs.Requests.{is_put, puts_to}
 
 -- what passes P among these passes Q too
@@ -48,6 +48,11 @@ is_it c s to (msg.Spawn n code vars bundle) q = cc
 is_it c s to (msg.Register x k) q = cc
 is_it c s to (msg.BindReq x n t bundle) q = cc
 is_it c s to (msg.Binding x t bundle) q = cc
+is_it c s to (msg.PortSend q1 m k) q = cc
+is_it c s to (msg.PortEnd o was now bundle) q = cc
+is_it c s to (msg.CellMake b v bundle) q = cc
+is_it c s to (msg.CellAsk b o a v bundle) q = cc
+is_it c s to (msg.CellOld o v bundle) q = cc
 
 module _ (p : List Stmt) (w : World) (ks : List Pick) (r : Reached p w ks) (c : CellName) (s : ℕ) where
   abbrev sent : List Sent
@@ -55,12 +60,12 @@ module _ (p : List Stmt) (w : World) (ks : List Pick) (r : Reached p w ks) (c : 
 
   -- a Put that travels has the cell's content
   travelling_put : (m : Sent) → Contains sent m → (is_put c m.msg && (m.to == s)) ≡ true →
-      (v : VarName) × (is_mail c (Put s v) m.to m.msg ≡ true) × (value_of equal_cell r.centre.cells c ≡ Some v) × (sent_count c sent (Put s v) ≡ 1) × ((held w.sites c s).token ≡ Asked)
+      (v : VarName) × (is_mail c (Put s v) m.to m.msg ≡ true) × (value_of equal_cell (mobile_cells r.centre.cells) c ≡ Some v) × (sent_count c sent (Put s v) ≡ 1) × ((held w.sites c s).token ≡ Asked)
   travelling_put m at q =
       let is = is_it c s m.to m.msg q in
       let least = there_counted (λ (x : Sent). is_mail c (Put s is.0) x.to x.msg) sent m at is.1 in
       let there : sent_count c sent (Put s is.0) ≢ 0 = (λ none. absurd (omega (arith, least, none))) in
-      let found = cell_there w.sites w.mail r.centre.cells c (Put s is.0) r.cells.cells there in
+      let found = cell_there w.sites w.mail (mobile_cells r.centre.cells) c (Put s is.0) r.cells.cells there in
       let can = messages_can_come found.2.0 _ _ found.0 found.2.2 (Put s is.0) there in
       (is.0, is.1, found.1 ∙ ap Some (sym can.1.1), can.0, can.1.0)
 
@@ -78,7 +83,7 @@ module _ (p : List Stmt) (w : World) (ks : List Pick) (r : Reached p w ks) (c : 
               let asked : outstanding (held w.sites c s).token ≡ 1 = ap outstanding first.4 in
               omega (arith, all, first.3, asked)
             where
-              same : (x : Sent) → Contains sent x → (is_put c x.msg && (x.to == s)) ≡ true → (v : VarName) → value_of equal_cell r.centre.cells c ≡ Some v → is_mail c (Put s v) x.to x.msg ≡ true
+              same : (x : Sent) → Contains sent x → (is_put c x.msg && (x.to == s)) ≡ true → (v : VarName) → value_of equal_cell (mobile_cells r.centre.cells) c ≡ Some v → is_mail c (Put s v) x.to x.msg ≡ true
               same x there z v value =
                   let other = travelling_put x there z in
                   let both : ◌≡◌ {A = Option VarName} (Some other.0) (Some v) = sym other.2 ∙ value in

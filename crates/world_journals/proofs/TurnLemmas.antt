@@ -20,7 +20,8 @@ use Rattle.world_model.specs.World.{World, Sites, IsOnItsWay, put, after_transit
 use Rattle.world_model.proofs.MailLemmas.{acts_after, same_world}
 use Rattle.world_variables.specs.Laws.{IsForeignBinding}
 use Rattle.world_variables.proofs.JournalLemmas.{came_acts, came_is, mail_of, mail_after}
-use Rattle.world_cells.proofs.TurnLemmas.{Paid, quiet_paid, delivering_paid}
+use Rattle.world_answers.proofs.LeaveLemmas.{Paid}
+use Rattle.world_answers.proofs.TurnLemmas.{quiet_paid, delivering_paid}
 use Rattle.world_messages.proofs.RunLemmas.{Entry}
 use Rattle.world_simulation.proofs.SimulationLemmas.{every_run_is_simulated, paid}
 
@@ -46,7 +47,7 @@ module _ (p : List Stmt) (n limit : ℕ) (is : IsProgram p) (few : 1 ≤ n) (man
   paid_before = paid p n limit is few many short j f entry.run
 
   number : (f e.site).records.site ≡ e.site
-  number = (paid_before.reached.parts.kept e.site).site
+  number = (paid_before.joined.reached.parts.kept e.site).site
 
   -- the world that the turn leaves is that of the journal
   pub whole : after_receipt e.delivered (after_transition before e.site d) ≡ after
@@ -63,6 +64,11 @@ module _ (p : List Stmt) (n limit : ℕ) (is : IsProgram p) (few : 1 ≤ n) (man
     where
       elsewhere : (m : Msg) → CanTake (f e.site) m → IsForeignBinding e.site m
       elsewhere (msg.Binding x t bundle) c = λ own. c.0 (own ∙ sym number)
+      elsewhere (msg.PortSend r o a) c = tt
+      elsewhere (msg.PortEnd o was now bundle) c = tt
+      elsewhere (msg.CellMake b v bundle) c = tt
+      elsewhere (msg.CellAsk b o a v bundle) c = tt
+      elsewhere (msg.CellOld o v bundle) c = tt
       elsewhere (msg.Spawn o code vars bundle) c = tt
       elsewhere (msg.Register x o) c = tt
       elsewhere (msg.BindReq x o t bundle) c = tt
@@ -98,7 +104,7 @@ module _ (p : List Stmt) (n limit : ℕ) (is : IsProgram p) (few : 1 ≤ n) (man
             where
               last : (heard : Transition) × (rest : Transition) × (d ≡ sequence heard rest) × Paid p n (after_transition (after_receipt (Some k) (after_transition before e.site heard)) e.site rest) ((schedule j ++ heard.picks) ++ rest.picks) ((out ++ heard.sent) ++ rest.sent) → Paid p n (after_receipt (Some k) (after_transition before e.site d)) (schedule j ++ d.picks) (out ++ d.sent)
               last (heard, rest, is, got) =
-                  let low : k < before.sent = r.reached.numbers.below k e.site m t.at in
+                  let low : k < before.sent = r.joined.reached.numbers.below k e.site m t.at in
                   let high : k < (after_transition before e.site heard).sent = omega (arith, low) in
                   subst (λ (x : Transition). Paid p n (after_receipt (Some k) (after_transition before e.site x)) (schedule j ++ x.picks) (out ++ x.sent)) (sym is)
                   (subst (λ (v : World). Paid p n (after_receipt (Some k) v) (schedule j ++ (heard.picks ++ rest.picks)) (out ++ (heard.sent ++ rest.sent))) (sym (acts_after before e.site heard rest))

@@ -1,5 +1,5 @@
 -- Where threads are after units: those that were there, and those that are born and stay.
-use Rattle.std.proofs.Common.{arith, ◌≡◌, ◌∙◌, sym, ap, refl, subst, ℕ, ◌+◌, ◌<◌, ◌≤◌, List, [], ◌∷◌, ◌++◌, ◌⊎◌, inl, inr, Bool, true, false, cond, Some, None}
+use Rattle.std.proofs.Common.{arith, ◌≡◌, ◌∙◌, sym, ap, refl, subst, ℕ, ◌+◌, ◌<◌, ◌≤◌, List, [], ◌∷◌, ◌++◌, append-nil, ◌⊎◌, inl, inr, Bool, true, false, cond, Some, None}
 use Rattle.std.specs.Prelude.{Option, Contains, ◌==◌}
 use Rattle.std.proofs.lemmas.List.Elements.{Contains-append_cases}
 use Rattle.tree_node.specs.declared.names.VarName.{VarName}
@@ -15,39 +15,47 @@ use Rattle.tree_node.specs.State.{Stack, equal_thread}
 use Rattle.tree_node.specs.Store.{Equation}
 use Rattle.tree_node.proofs.ClassLemmas.{Contains-cons_cases}
 use Rattle.tree_node.proofs.NameLemmas.{same_thread_decides}
+use Rattle.tree_node.proofs.OrderLemmas.{Each-member}
 use Rattle.kernel_syntax.specs.declared.stmt.Stmt.{Stmt}
 use Rattle.site_message.specs.declared.message.Msg.{Msg}
 use Rattle.site_message.specs.declared.message.Msg.TheVariants as msg
 use Rattle.site_message.specs.declared.message.Sent.{Sent}
 use Rattle.oz_model.specs.Need.{Need, Waits, WaitsAny, Binds, Takes, stack_need}
-use Rattle.oz_model.specs.Effect.{Birth, CellChange, Stays, Made, Exchanged, Effect}
+use Rattle.oz_model.specs.Effect.{Birth, CellChange, Stays, Made, Exchanged, PortChange, Keeps, Opened, Effect}
+use Rattle.oz_model.specs.Effect as change
 use Rattle.oz_model.specs.Step.{living_stack, threads_born}
 use Rattle.bind_protocol.specs.Rows.{sent_message, request}
+use Rattle.thread_roster.specs.declared.mode.Awaited.{Awaited}
+use Rattle.thread_roster.specs.declared.mode.Awaited.TheVariants.{Cell, Port}
 use Rattle.thread_roster.specs.declared.mode.Mode.TheVariants.{Runs, WaitsFor}
 use Rattle.thread_roster.specs.declared.mode.Mode.TheVariants as mode
 use Rattle.thread_roster.specs.Binds.{goes_on}
 use Rattle.token_chain.specs.declared.token.Token.{Token}
 use Rattle.token_chain.specs.declared.token.Token.TheVariants.{Away, Asked, Here}
-use Rattle.site_model.specs.Site.{Site, Counters, CellRecord, Threads, ThreadState, thread_state, cell_record, cell_record_in, runnable_threads}
+use Rattle.site_model.specs.Requests.{with_asking, send_request_row, home_request_row, early_request_row}
+use Rattle.site_model.specs.Site.{Site, Counters, CellRecord, HomeRecord, EarlyRequest, Threads, ThreadState, thread_state, cell_record, cell_record_in, home_record, with_home_record, runnable_threads}
 use Rattle.site_model.specs.Bundle.{with_own_bundle}
 use Rattle.site_model.specs.Transition.{Transition, without_output, with_messages}
 use Rattle.site_model.specs.Variables.{own_binds}
 use Rattle.site_model.specs.Cells.{exchange_stack, with_own_request, with_exchange_waiting, with_last_asker, request_row}
 use Rattle.site_model.specs.Messages.{with_thread}
-use Rattle.site_model.specs.Unit.{next_names, counter_after, counters_after, fresh_names, with_fresh_names, placement, birth_row, content_here, after_cell, runnable_state, after_effect, step_row, step_pick, effect_here, thread_step, bind_attempt, IsStepOrRequest, IsUnitFor, with_mode}
+use Rattle.site_model.specs.Unit.{next_names, counter_after, counters_after, fresh_names, with_fresh_names, placement, birth_row, content_here, after_cell, runnable_state, after_effect, step_row, step_pick, effect_here, thread_step, kept_step, kept_step_row, kept_stack, with_stack, after_home_cell, after_port, bind_attempt, IsUnitFor, with_mode}
 use Rattle.site_model.specs.Turn.{AreUnits, SiteTurn}
 use Rattle.world_model.proofs.CellLemmas.{OnlyCells, request_only}
+use Rattle.world_model.specs.Claims.{home_in}
 use Rattle.world_model.proofs.MailLemmas.{nothing}
 use Rattle.world_messages.specs.BindRequests.{is_spawn}
 use Rattle.world_messages.specs.Messages.{fresh_in, threads_among}
 use Rattle.world_messages.proofs.AskRowLemmas.{NewBirth, stack_new, more_threads, runs_stay, made_stay, cell_threads}
 use Rattle.world_messages.proofs.DeedLemmas.{unit_tally}
 use Rattle.world_messages.proofs.EffectLemmas.{bind_effect}
-use Rattle.world_messages.proofs.PickLemmas.{asks_still, binds_each_still, heard_site}
+use Rattle.world_messages.proofs.HomeRowLemmas.{Apart, kept_before, kept_apart, kept_site, kept_picks, tell_each}
+use Rattle.world_messages.proofs.PickLemmas.{asks_still, quiet_still, binds_each_still, heard_site}
 use Rattle.world_messages.proofs.TermLemmas.{value_cases}
-use Rattle.world_journals.specs.Places.{home_of, IsRequested}
-use Rattle.world_journals.proofs.PartPlaceLemmas.{home_later, none_spawned, IsHere, Belongs, Part, still_part, parts_join}
-use Rattle.world_journals.proofs.HeardLemmas.{listed_cases, born_name, Keeps, moves, goes, replies, wakes, AllComes, heard_part}
+use Rattle.world_messages.proofs.WayLemmas.{Way, Steps, Opens, Sends, Makes, Exchanges, AsksToken, AsksPort, AsksHome, WaitsEarly, WaitsPort, way_of}
+use Rattle.world_journals.specs.Places.{home_of}
+use Rattle.world_journals.proofs.PartPlaceLemmas.{home_later, none_spawned, IsHere, Belongs, Keepers, same_keepers, Part, still_part, parts_join}
+use Rattle.world_journals.proofs.HeardLemmas.{listed_cases, born_name, Keeps as Stay, moves, goes, replies, wakes, Loses, content_loses, made_loses, early_comes, IsAsked, AllBrought, AllComes, HeardPart, heard_part}
 
 -- ---- names
 
@@ -56,14 +64,18 @@ fresh_range : (i : ℕ) (c : Counters) (kinds : List NameKind) (th : ThreadName)
 fresh_range i c [] th h = absurd (nothing th h)
 fresh_range i c (kind.Var ∷ ks) th h = fresh_range i (counter_after c kind.Var) ks th h
 fresh_range i c (kind.Cell ∷ ks) th h = fresh_range i (counter_after c kind.Cell) ks th h
+fresh_range i c ((kind.CellAt at_home) ∷ ks) th h = fresh_range i (counter_after c (kind.CellAt at_home)) ks th h
 fresh_range i c (kind.Proc ∷ ks) th h = fresh_range i (counter_after c kind.Proc) ks th h
+fresh_range i c (kind.Port ∷ ks) th h = fresh_range i (counter_after c kind.Port) ks th h
 fresh_range i c (kind.Thread ∷ ks) th h = go (Contains-cons_cases (record { site = i; num = c.threads }) th (threads_among (next_names i (counter_after c kind.Thread) ks)) h) (λ k. fresh_range i (counter_after c kind.Thread) ks th k)
   where
     above : (d : Counters) (ls : List NameKind) → d.threads ≤ (counters_after d ls).threads
     above d [] = omega arith
     above d (kind.Var ∷ ls) = above (counter_after d kind.Var) ls
     above d (kind.Cell ∷ ls) = above (counter_after d kind.Cell) ls
+    above d ((kind.CellAt at_home) ∷ ls) = above (counter_after d (kind.CellAt at_home)) ls
     above d (kind.Proc ∷ ls) = above (counter_after d kind.Proc) ls
+    above d (kind.Port ∷ ls) = above (counter_after d kind.Port) ls
     above d (kind.Thread ∷ ls) = omega (arith, above (counter_after d kind.Thread) ls)
 
     go : (◌≡◌ {A = ThreadName} (record { site = i; num = c.threads }) th) ⊎ Contains (threads_among (next_names i (counter_after c kind.Thread) ks)) th →
@@ -74,7 +86,7 @@ fresh_range i c (kind.Thread ∷ ks) th h = go (Contains-cons_cases (record { si
         (sym (ap (λ (z : ThreadName). z.site) e), omega (arith, num), omega (arith, num, above (counter_after c kind.Thread) ks))
     go (inr k) ih = let r = ih k in (r.0, omega (arith, r.1), r.2)
 
-module _ (p : List Stmt) (n limit i : ℕ) (C : ThreadName → Type 0) (Q : Pick → Type 0) where
+module _ (p : List Stmt) (n limit i : ℕ) (C : ThreadName → Type 0) (A : CellName → ThreadName → Type 0) (Q : Pick → Type 0) where
   -- ---- a request for a token
 
   own_places : (c : CellName) (t : Token) (u : Site) → (with_own_request c t u).cell_records ≡ u.cell_records
@@ -86,15 +98,29 @@ module _ (p : List Stmt) (n limit i : ℕ) (C : ThreadName → Type 0) (Q : Pick
   own_places c Asked u = refl
   own_places c (Here v) u = refl
 
-  request_part : (c : CellName) (new : VarName) (th : ThreadName) (st : Stack) (s : Site) → thread_state s th ≡ Some (st, Runs) → Part i C Q s (request_row limit c new th st s)
-  request_part c new th st s at = still_part i C Q s (request_row limit c new th st s) (asks_still p n limit c new th st s) (ap (λ (ks : List Pick). threads_among (fresh_in ks)) only.picks)
+  own_homes : (c : CellName) (t : Token) (u : Site) → (with_own_request c t u).homes ≡ u.homes
+  own_homes c Away u = go (c.site == u.records.site)
+    where
+      go : (b : Bool) → (cond b (with_last_asker c u.records.site u) u).homes ≡ u.homes
+      go true = refl
+      go false = refl
+  own_homes c Asked u = refl
+  own_homes c (Here v) u = refl
+
+  -- the requests that are kept stay
+  stay : (s t : Site) → t.homes ≡ s.homes → Keepers A (IsHere C s) s t
+  stay s t e = same_keepers A (IsHere C s) s t e
+
+  request_part : (c : CellName) (new : VarName) (th : ThreadName) (st : Stack) (s : Site) → thread_state s th ≡ Some (st, Runs) → Part i C A Q s (request_row limit c new th st s)
+  request_part c new th st s at = still_part i C A Q s (request_row limit c new th st s) (quiet_still s (request_row limit c new th st s) (asks_still p n limit c new th st s)) (ap (λ (ks : List Pick). threads_among (fresh_in ks)) only.picks)
       (moves C s (request_row limit c new th st s).site stand listed) (λ k h. absurd (nothing k (subst (λ (ks : List Pick). Contains ks k) only.picks h)))
+      (stay s (request_row limit c new th st s).site (own_homes c (cell_record s c).held.token (with_exchange_waiting c th st s)))
     where
       only : OnlyCells (with_exchange_waiting c th st s) (request_row limit c new th st s)
       only = request_only limit c new th st s
 
       stand : (o : ThreadName) (v : ThreadState) → thread_state (request_row limit c new th st s).site o ≡ Some v → IsHere C s o
-      stand o v e = goes C s (with_exchange_waiting c th st s) th (st, Runs) (Some (st, WaitsFor c)) refl refl at o (inl (v, subst (λ (ts : Threads). value_of equal_thread ts o ≡ Some v) only.threads e))
+      stand o v e = goes C s (with_exchange_waiting c th st s) th (st, Runs) (Some (st, WaitsFor (Cell c))) refl refl at o (inl (v, subst (λ (ts : Threads). value_of equal_thread ts o ≡ Some v) only.threads e))
 
       member : (o : ThreadName) → Contains (cell_record s c).queue o ⊎ Contains (th ∷ []) o → IsHere C s o
       member o (inl h) = inr (inl (c, h))
@@ -113,17 +139,17 @@ module _ (p : List Stmt) (n limit i : ℕ) (C : ThreadName → Type 0) (Q : Pick
 
   -- ---- a thread waits for a variable
 
-  waits_keep : (th : ThreadName) (st : Stack) (x : VarName) (s : Site) → thread_state s th ≡ Some (st, Runs) → Keeps C s (with_mode th st (mode.Waits x) s)
+  waits_keep : (th : ThreadName) (st : Stack) (x : VarName) (s : Site) → thread_state s th ≡ Some (st, Runs) → Stay C s (with_mode th st (mode.Waits x) s)
   waits_keep th st x s at = goes C s (with_mode th st (mode.Waits x) s) th (st, Runs) (Some (st, mode.Waits x)) refl refl at
 
-  needs_part : (th : ThreadName) (st : Stack) (x : VarName) (s : Site) → thread_state s th ≡ Some (st, Runs) → Part i C Q s (without_output (with_mode th st (mode.Needs x) s))
-  needs_part th st x s at = still_part i C Q s (without_output (with_mode th st (mode.Needs x) s)) (record { counters = refl; sent = refl }) refl (goes C s (with_mode th st (mode.Needs x) s) th (st, Runs) (Some (st, mode.Needs x)) refl refl at) (λ k h. absurd (nothing k h))
+  needs_part : (th : ThreadName) (st : Stack) (x : VarName) (s : Site) → thread_state s th ≡ Some (st, Runs) → Part i C A Q s (without_output (with_mode th st (mode.Needs x) s))
+  needs_part th st x s at = still_part i C A Q s (without_output (with_mode th st (mode.Needs x) s)) (record { threads = refl; sent = refl }) refl (goes C s (with_mode th st (mode.Needs x) s) th (st, Runs) (Some (st, mode.Needs x)) refl refl at) (λ k h. absurd (nothing k h)) (λ c r q. inl q)
 
-  waits_any_part : (th : ThreadName) (st : Stack) (xs : List VarName) (s : Site) → thread_state s th ≡ Some (st, Runs) → Part i C Q s (without_output (with_mode th st (mode.WaitsAny xs) s))
-  waits_any_part th st xs s at = still_part i C Q s (without_output (with_mode th st (mode.WaitsAny xs) s)) (record { counters = refl; sent = refl }) refl (goes C s (with_mode th st (mode.WaitsAny xs) s) th (st, Runs) (Some (st, mode.WaitsAny xs)) refl refl at) (λ k h. absurd (nothing k h))
+  waits_any_part : (th : ThreadName) (st : Stack) (xs : List VarName) (s : Site) → thread_state s th ≡ Some (st, Runs) → Part i C A Q s (without_output (with_mode th st (mode.WaitsAny xs) s))
+  waits_any_part th st xs s at = still_part i C A Q s (without_output (with_mode th st (mode.WaitsAny xs) s)) (record { threads = refl; sent = refl }) refl (goes C s (with_mode th st (mode.WaitsAny xs) s) th (st, Runs) (Some (st, mode.WaitsAny xs)) refl refl at) (λ k h. absurd (nothing k h)) (λ c r q. inl q)
 
-  asks_part : (th : ThreadName) (st : Stack) (u : VarName) (t : Term) (s : Site) → thread_state s th ≡ Some (st, Runs) → Part i C Q s (with_messages (with_mode th st (mode.Waits u) s) (with_own_bundle limit s.equations (request u t th) ∷ []))
-  asks_part th st u t s at = still_part i C Q s (with_messages (with_mode th st (mode.Waits u) s) (with_own_bundle limit s.equations (request u t th) ∷ [])) (record { counters = refl; sent = refl }) refl (waits_keep th st u s at) (λ k h. absurd (nothing k h))
+  asks_part : (th : ThreadName) (st : Stack) (u : VarName) (t : Term) (s : Site) → thread_state s th ≡ Some (st, Runs) → Part i C A Q s (with_messages (with_mode th st (mode.Waits u) s) (with_own_bundle limit s.equations (request u t th) ∷ []))
+  asks_part th st u t s at = still_part i C A Q s (with_messages (with_mode th st (mode.Waits u) s) (with_own_bundle limit s.equations (request u t th) ∷ [])) (record { threads = refl; sent = refl }) refl (waits_keep th st u s at) (λ k h. absurd (nothing k h)) (λ c r q. inl q)
 
   -- ---- a thread is born
 
@@ -166,7 +192,7 @@ module _ (p : List Stmt) (n limit i : ℕ) (C : ThreadName → Type 0) (Q : Pick
 
   -- ---- a step
 
-  binds_keep : (es : List Equation) (s : Site) → Keeps C s (own_binds limit es s).site
+  binds_keep : (es : List Equation) (s : Site) → Stay C s (own_binds limit es s).site
   binds_keep [] s th h = h
   binds_keep (e ∷ es) s th h = binds_keep es s th (wakes C (own_binds limit es s).site (own_binds limit (e ∷ es) s).site (goes_on (e ∷ (own_binds limit es s).site.equations) e.0) refl refl th h)
 
@@ -174,10 +200,27 @@ module _ (p : List Stmt) (n limit i : ℕ) (C : ThreadName → Type 0) (Q : Pick
   binds_pick [] s = refl
   binds_pick (e ∷ es) s = ap (λ (ks : List Pick). ks ++ []) (binds_pick es s)
 
-  cell_keeps : (c : CellChange) (s : Site) → Keeps C s (after_cell c s)
+  cell_keeps : (c : CellChange) (s : Site) → Stay C s (after_cell c s)
   cell_keeps Stays s th h = h
   cell_keeps (Made c v) s th h = replies C s c _ (λ o k. absurd (nothing o k)) th h
   cell_keeps (Exchanged c new told) s th h = replies C s c _ (λ o k. inr (inl (c, k))) th h
+
+  binds_homes : (es : List Equation) (s : Site) → (own_binds limit es s).site.homes ≡ s.homes
+  binds_homes [] s = refl
+  binds_homes (e ∷ es) s = binds_homes es s
+
+  cell_homes : (c : CellChange) (s : Site) → (after_cell c s).homes ≡ s.homes
+  cell_homes Stays s = refl
+  cell_homes (Made c v) s = refl
+  cell_homes (Exchanged c new told) s = refl
+
+  birth_homes : (b : Option Birth) (s : Site) → (birth_row p n limit b s).site.homes ≡ s.homes
+  birth_homes None s = refl
+  birth_homes (Some b) s = go (placement n s.records.site b.at == s.records.site)
+    where
+      go : (c : Bool) → (cond c (without_output (with_thread p (Some b) s)) (with_messages s (leaves b s ∷ []))).site.homes ≡ s.homes
+      go true = refl
+      go false = refl
 
   module _ (k : Pick) (kinds : List NameKind) (e : Effect) (s : Site) (st : Stack) (fresh : k.fresh ≡ next_names i s.counters kinds) (at : thread_state s k.thread ≡ Some (st, Runs))
       (new : NewBirth p n limit i s.counters (with_fresh_names kinds s).counters e.born) where
@@ -203,13 +246,13 @@ module _ (p : List Stmt) (n limit i : ℕ) (C : ThreadName → Type 0) (Q : Pick
     counted : step.site.counters ≡ counters_after s.counters kinds
     counted = born.counters ∙ (cell_threads p n limit e.cell begun.site).2 ∙ made_stay p n limit e.adds (with_fresh_names kinds s)
 
-    keeps : Keeps C s done
+    keeps : Stay C s done
     keeps th h = binds_keep e.adds (with_fresh_names kinds s) th (cell_keeps e.cell begun.site th (stand th h))
       where
         stood : thread_state (after_cell e.cell begun.site) k.thread ≡ Some (st, Runs)
         stood = subst (λ (ts : Threads). value_of equal_thread ts k.thread ≡ Some (st, Runs)) (sym (cell_threads p n limit e.cell begun.site).0) (runs_stay p n limit e.adds (with_fresh_names kinds s) k.thread st at)
 
-        stand : Keeps C (after_cell e.cell begun.site) done
+        stand : Stay C (after_cell e.cell begun.site) done
         stand = goes C (after_cell e.cell begun.site) done k.thread (st, Runs) (runnable_state (living_stack (exchange_stack (content_here begun.site e.cell) e.cell e.stack))) refl refl stood
 
     picked : step.picks ≡ k ∷ []
@@ -244,47 +287,132 @@ module _ (p : List Stmt) (n limit i : ℕ) (C : ThreadName → Type 0) (Q : Pick
         no_more [] = refl
         no_more (x ∷ xs) = ap (λ ys. x ∷ ys) (no_more xs)
 
-    pub steps_part : Part i C Q s step
+    pub steps_part : Part i C A Q s step
     steps_part = record {
       since = omega (arith, more_threads p n limit s.counters kinds, ap (λ (c : Counters). c.threads) counted);
       born = λ th c. fresh_by th (subst (λ (ks : List Pick). Contains (threads_among (fresh_in ks)) th) picked c);
       sent = λ th m c q. sent_by th m q (Contains-append_cases (begun.sent ++ []) (birth_row p n limit e.born done).sent m c);
       here = λ th h. here_by th (born.here th h);
       picks = λ l c. pick_by l (Contains-cons_cases k l [] (subst (λ (ks : List Pick). Contains ks l) picked c));
+      early = same_keepers A (Belongs i C s step) s step.site (birth_homes e.born done ∙ cell_homes e.cell begun.site ∙ binds_homes e.adds (with_fresh_names kinds s));
     }
 
   -- ---- units
 
-  bind_part : (s : Site) (th : ThreadName) (st : Stack) (a b : Term) (u : VarName) (t : Term) (c : Bool) → thread_state s th ≡ Some (st, Runs) → stack_need p s.equations st ≡ Binds a b → Part i C Q s (bind_attempt p n limit th st u t c s)
+  bind_part : (s : Site) (th : ThreadName) (st : Stack) (a b : Term) (u : VarName) (t : Term) (c : Bool) → thread_state s th ≡ Some (st, Runs) → stack_need p s.equations st ≡ Binds a b → Part i C A Q s (bind_attempt p n limit th st u t c s)
   bind_part s th st a b u t true at need =
       steps_part (step_pick th [] (Some (u, t))) [] (effect_here p s [] (Some (u, t)) st) s st refl at (subst (λ (e : Effect). NewBirth p n limit i s.counters s.counters e.born) (sym (bind_effect p s.equations st a b u t need)) tt)
   bind_part s th st a b u t false at need = asks_part th st u t s at
 
-  either_part : (th : ThreadName) (st : Stack) (s : Site) (whole : Transition) (c : CellChange) (d : Transition) → thread_state s th ≡ Some (st, Runs) → Part i C Q s whole → IsStepOrRequest limit th st s whole c d → Part i C Q s d
-  either_part th st s whole (Exchanged c new told) d at k (inl g) = subst (Part i C Q s) (sym g.1) k
-  either_part th st s whole (Exchanged c new told) d at k (inr g) = subst (Part i C Q s) (sym g.1) (request_part c new th st s at)
-  either_part th st s whole Stays d at k g = subst (Part i C Q s) (sym g) k
-  either_part th st s whole (Made c v) d at k g = subst (Part i C Q s) (sym g) k
+  -- ---- ports and stationary cells
 
-  need_part : (s : Site) (th : ThreadName) (st : Stack) (need : Need) (d : Transition) → s.records.site ≡ i → thread_state s th ≡ Some (st, Runs) → stack_need p s.equations st ≡ need → IsUnitFor p n limit s th st need d → Part i C Q s d
-  need_part s th st (Waits x) d own at e (z, names, g) = subst (Part i C Q s) (sym g) (needs_part th st z s at)
-  need_part s th st (WaitsAny q) d own at e (xs, open_on, g) = subst (Part i C Q s) (sym g) (waits_any_part th st xs s at)
-  need_part s th st (Binds a b) d own at e (u, t, root, g) = subst (Part i C Q s) (sym g) (bind_part s th st a b u t (u.site == s.records.site) at e)
+  -- a thread asks another site, or waits
+  asking_keeps : (th : ThreadName) (st : Stack) (a : Awaited) (s : Site) → thread_state s th ≡ Some (st, Runs) → Stay C s (with_asking th st a s)
+  asking_keeps th st a s at = goes C s (with_asking th st a s) th (st, Runs) (Some (st, WaitsFor a)) refl refl at
+
+  early_part : (c : CellName) (new : VarName) (th : ThreadName) (st : Stack) (s : Site) → thread_state s th ≡ Some (st, Runs) → Part i C A Q s (early_request_row c new th st s)
+  early_part c new th st s at = still_part i C A Q s (early_request_row c new th st s) (record { threads = refl; sent = refl }) refl (asking_keeps th st (Cell c) s at) (λ k h. absurd (nothing k h)) (λ d r q. by d r (early_comes C p limit c mine (with_asking th st (Cell c) s) d r q))
+    where
+      mine : EarlyRequest
+      mine = record { thread = th; asking = s.records.site; new = new }
+
+      by : (d : CellName) (r : EarlyRequest) → ((d ≡ c) × (◌≡◌ {A = EarlyRequest} (record { thread = th; asking = s.records.site; new = new }) r)) ⊎ Contains (home_record s d).early r → Contains (home_record s d).early r ⊎ (A d r.thread ⊎ IsHere C s r.thread)
+      by d r (inl (e, q)) = inr (inr (subst (λ (o : ThreadName). IsHere C s o) (ap (λ (o : EarlyRequest). o.thread) q) (inl ((st, Runs), at))))
+      by d r (inr q) = inl q
+
+  home_cell_loses : (c : CellChange) (s : Site) → Loses C p limit s (after_home_cell c s)
+  home_cell_loses Stays s d r q = q
+  home_cell_loses (Exchanged c new told) s d r q = content_loses C p limit c new s d r q
+  home_cell_loses (Made c v) s d r q = go (c.at == s.records.site) q
+    where
+      go : (b : Bool) → Contains (home_record (cond b (with_home_record s c (record { content = Some v; early = [] })) s) d).early r → Contains (home_record s d).early r
+      go true h = made_loses C p limit c v s d r h
+      go false h = h
+
+  port_loses : (x : PortChange) (s : Site) → (after_port x s).homes ≡ s.homes
+  port_loses Keeps s = refl
+  port_loses (Opened q end) s = refl
+  port_loses (change.Sent q value new) s = refl
+
+  kept_part : (k : Pick) (kinds : List NameKind) (e : Effect) (s : Site) (st : Stack) → k.fresh ≡ next_names i s.counters kinds → thread_state s k.thread ≡ Some (st, Runs) → Part i C A Q s (kept_step_row limit k kinds e s)
+  kept_part k kinds e s st fresh at = record {
+    since = omega (arith, more_threads p n limit s.counters kinds, ap (λ (c : Counters). c.threads) counted);
+    born = λ th c. fresh_by th (subst (λ (ks : List Pick). Contains (threads_among (fresh_in ks)) th) (kept_picks limit k kinds e s) c);
+    sent = λ th m c q. absurd (unsent th m c q);
+    here = λ th h. inl (back th (subst (λ (t : Site). IsHere C t th) (kept_site limit k kinds e s) h));
+    picks = λ l c. pick_by l (Contains-cons_cases k l [] (subst (λ (ks : List Pick). Contains ks l) (kept_picks limit k kinds e s) c));
+    early = λ d r q. inl (loses d r (subst (λ (t : Site). Contains (home_record t d).early r) (kept_site limit k kinds e s) q));
+  }
+    where
+      apart : Apart (with_fresh_names kinds s) (kept_before kinds e s)
+      apart = kept_apart kinds e s
+
+      counted : (kept_step_row limit k kinds e s).site.counters ≡ counters_after s.counters kinds
+      counted = ap (λ (t : Site). t.counters) (kept_site limit k kinds e s) ∙ apart.rest.counters
+
+      fresh_by : (th : ThreadName) → Contains (threads_among (k.fresh ++ [])) th → (th.site ≡ i) × (s.counters.threads ≤ th.num) × (th.num < (kept_step_row limit k kinds e s).site.counters.threads)
+      fresh_by th c =
+          let f = fresh_range i s.counters kinds th (subst (λ (ns : List Name). Contains (threads_among ns) th) (append-nil k.fresh ∙ fresh) c) in
+          (f.0, f.1, subst (λ (x : Counters). th.num < x.threads) (sym counted) f.2)
+
+      unsent : (th : ThreadName) (m : Sent) → Contains (kept_step_row limit k kinds e s).sent m → is_spawn th m ≡ true → ⊥
+      unsent th m c q =
+          let none : is_spawn th m ≡ false = Each-member (λ (o : Sent). is_spawn th o ≡ false) (kept_step_row limit k kinds e s).sent m (tell_each (λ (o : Sent). is_spawn th o ≡ false) limit e.cell (with_stack k.thread (kept_stack s e) (kept_before kinds e s)) (λ b v is other. refl)) c in
+          let both : true ≡ false = sym q ∙ none in cc
+
+      stood : thread_state (kept_before kinds e s) k.thread ≡ Some (st, Runs)
+      stood = subst (λ (ts : Threads). value_of equal_thread ts k.thread ≡ Some (st, Runs)) (sym apart.threads) at
+
+      -- who is here was here
+      before : (th : ThreadName) → IsHere C (kept_before kinds e s) th → IsHere C s th
+      before th (inl (v, q)) = inl (v, subst (λ (ts : Threads). value_of equal_thread ts th ≡ Some v) apart.threads q)
+      before th (inr (inl (c, q))) = inr (inl (c, subst (λ (qs : List (CellName × CellRecord)). Contains (cell_record_in qs c).queue th) apart.rest.places q))
+      before th (inr (inr q)) = inr (inr q)
+
+      back : (th : ThreadName) → IsHere C (with_stack k.thread (kept_stack s e) (kept_before kinds e s)) th → IsHere C s th
+      back th h = before th (goes C (kept_before kinds e s) (with_stack k.thread (kept_stack s e) (kept_before kinds e s)) k.thread (st, Runs) (runnable_state (living_stack (kept_stack s e))) refl refl stood th h)
+
+      pick_by : (l : Pick) → (k ≡ l) ⊎ Contains [] l → Q l ⊎ Belongs i C s (kept_step_row limit k kinds e s) l.thread
+      pick_by l (inl same) = subst (λ (o : Pick). Q o ⊎ Belongs i C s (kept_step_row limit k kinds e s) o.thread) same (inr (inl (inl ((st, Runs), at))))
+      pick_by l (inr h) = absurd (nothing l h)
+
+      loses : (d : CellName) (r : EarlyRequest) → Contains (home_record (kept_before kinds e s) d).early r → Contains (home_record s d).early r
+      loses d r q = home_cell_loses e.cell (with_fresh_names kinds s) d r (subst (λ (hs : List (CellName × HomeRecord)). Contains (home_in hs d).early r) (port_loses e.port (after_home_cell e.cell (with_fresh_names kinds s))) q)
+
+  way_part : (th : ThreadName) (st : Stack) (s : Site) (whole kept : Transition) (e : Effect) (d : Transition) → thread_state s th ≡ Some (st, Runs) → Part i C A Q s whole → Part i C A Q s kept → Way limit th st s whole kept e d → Part i C A Q s d
+  way_part th st s whole kept e d at k g (Steps finds same) = subst (Part i C A Q s) (sym same) k
+  way_part th st s whole kept e d at k g (Opens q end is same) = subst (Part i C A Q s) (sym same) g
+  way_part th st s whole kept e d at k g (Sends q value new end is has same) = subst (Part i C A Q s) (sym same) g
+  way_part th st s whole kept e d at k g (Makes c v keeps is same) = subst (Part i C A Q s) (sym same) g
+  way_part th st s whole kept e d at k g (Exchanges c new told v keeps is has same) = subst (Part i C A Q s) (sym same) g
+  way_part th st s whole kept e d at k g (AsksToken c new none same) = subst (Part i C A Q s) (sym same) (request_part c new th st s at)
+  way_part th st s whole kept e d at k g (AsksPort q other same) = subst (Part i C A Q s) (sym same) (still_part i C A Q s (send_request_row limit q th st s) (record { threads = refl; sent = refl }) refl (asking_keeps th st (Port q) s at) (λ l h. absurd (nothing l h)) (λ c r x. inl x))
+  way_part th st s whole kept e d at k g (AsksHome c new told is other same) = subst (Part i C A Q s) (sym same) (still_part i C A Q s (home_request_row limit c new th st s) (record { threads = refl; sent = refl }) refl (asking_keeps th st (Cell c) s at) (λ l h. absurd (nothing l h)) (λ b r x. inl x))
+  way_part th st s whole kept e d at k g (WaitsEarly c new told is same) = subst (Part i C A Q s) (sym same) (early_part c new th st s at)
+  way_part th st s whole kept e d at k g (WaitsPort q same) = subst (Part i C A Q s) (sym same) (still_part i C A Q s (without_output (with_asking th st (Port q) s)) (record { threads = refl; sent = refl }) refl (asking_keeps th st (Port q) s at) (λ l h. absurd (nothing l h)) (λ c r x. inl x))
+
+  need_part : (s : Site) (th : ThreadName) (st : Stack) (need : Need) (d : Transition) → s.records.site ≡ i → thread_state s th ≡ Some (st, Runs) → stack_need p s.equations st ≡ need → IsUnitFor p n limit s th st need d → Part i C A Q s d
+  need_part s th st (Waits x) d own at e (z, names, g) = subst (Part i C A Q s) (sym g) (needs_part th st z s at)
+  need_part s th st (WaitsAny q) d own at e (xs, open_on, g) = subst (Part i C A Q s) (sym g) (waits_any_part th st xs s at)
+  need_part s th st (Binds a b) d own at e (u, t, root, g) = subst (Part i C A Q s) (sym g) (bind_part s th st a b u t (u.site == s.records.site) at e)
   need_part s th st (Takes kinds) d own at e g =
-      either_part th st s (thread_step p n limit th st kinds (fresh_names s kinds) None s) (effect_here p s (fresh_names s kinds) None st).cell d at
+      way_part th st s (thread_step p n limit th st kinds (fresh_names s kinds) None s) (kept_step p limit th st kinds (fresh_names s kinds) s) (effect_here p s (fresh_names s kinds) None st) d at
       (steps_part (step_pick th (fresh_names s kinds) None) kinds (effect_here p s (fresh_names s kinds) None st) s st (ap (λ (k : ℕ). next_names k s.counters kinds) own) at
-      (subst (λ (k : ℕ). NewBirth p n limit k s.counters (with_fresh_names kinds s).counters (effect_here p s (fresh_names s kinds) None st).born) own (stack_new p n limit s.records.site s.counters s.equations st kinds e))) g
+      (subst (λ (k : ℕ). NewBirth p n limit k s.counters (with_fresh_names kinds s).counters (effect_here p s (fresh_names s kinds) None st).born) own (stack_new p n limit s.records.site s.counters s.equations st kinds e)))
+      (kept_part (step_pick th (fresh_names s kinds) None) kinds (effect_here p s (fresh_names s kinds) None st) s st (ap (λ (k : ℕ). next_names k s.counters kinds) own) at)
+      (way_of limit th st s (thread_step p n limit th st kinds (fresh_names s kinds) None s) (kept_step p limit th st kinds (fresh_names s kinds) s) (effect_here p s (fresh_names s kinds) None st) d g)
 
-  units_part : (ths : List ThreadName) (s : Site) (d : Transition) → s.records.site ≡ i → AreUnits p n limit ths s d → Part i C Q s d
-  units_part [] s d own e = subst (Part i C Q s) (sym e) (still_part i C Q s (without_output s) (record { counters = refl; sent = refl }) refl (λ th h. h) (λ k h. absurd (nothing k h)))
+  units_part : (ths : List ThreadName) (s : Site) (d : Transition) → s.records.site ≡ i → AreUnits p n limit ths s d → Part i C A Q s d
+  units_part [] s d own e = subst (Part i C A Q s) (sym e) (still_part i C A Q s (without_output s) (record { threads = refl; sent = refl }) refl (λ th h. h) (λ k h. absurd (nothing k h)) (λ c r q. inl q))
   units_part (th ∷ ths) s d own (one, rest, unit, units, e) =
-      let first : Part i C Q s one = need_part s th unit.0 (stack_need p s.equations unit.0) one own unit.1 refl unit.2 in
+      let first : Part i C A Q s one = need_part s th unit.0 (stack_need p s.equations unit.0) one own unit.1 refl unit.2 in
       let number : one.site.records.site ≡ i = (unit_tally p n limit th s one unit).counts.site ∙ own in
-      subst (Part i C Q s) (sym e) (parts_join i C Q s one rest first (units_part ths one.site rest number units))
+      subst (Part i C A Q s) (sym e) (parts_join i C A Q s one rest first (units_part ths one.site rest number units))
 
 -- ---- a turn
 
-pub turn_part : (p : List Stmt) (n limit i : ℕ) (C : ThreadName → Type 0) (m : Option Msg) (s : Site) (d : Transition) → s.records.site ≡ i → AllComes C p limit m → SiteTurn p n limit s m d → Part i C (IsRequested m) s d
+pub turn_part : (p : List Stmt) (n limit i : ℕ) (C : ThreadName → Type 0) (m : Option Msg) (s : Site) (d : Transition) → s.records.site ≡ i → AllComes C p limit m → SiteTurn p n limit s m d → HeardPart C p limit i m s d
 turn_part p n limit i C m s d own comes (ths, few, (heard, rest, first, units, e)) =
     let number : heard.site.records.site ≡ i = heard_site p n limit m s heard first ∙ own in
-    subst (Part i C (IsRequested m) s) (sym e) (parts_join i C (IsRequested m) s heard rest (heard_part C p limit i n m s heard comes first) (units_part p n limit i C (IsRequested m) ths heard.site rest number units))
+    subst (HeardPart C p limit i m s) (sym e)
+    (parts_join i C (AllBrought C p limit m) (IsAsked C p limit m s.homes) s heard rest (heard_part C p limit i n m s heard comes first) (units_part p n limit i C (AllBrought C p limit m) (IsAsked C p limit m s.homes) ths heard.site rest number units))

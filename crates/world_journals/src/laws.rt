@@ -3,8 +3,9 @@
 ghost use Rattle.world_journals.specs.Places.{ThreadsAlwaysStayHome, UnitsAreAlwaysNamed};
 ghost use Rattle.world_journals.specs.Requests.{ExchangesAreSplit, RequestsAreServed, TurnsArePaid};
 
-/// Each pick of a turn is an own step of a thread that was placed at the turn's site, or the bind that the delivered message asks
-/// for; and a thread was placed at one site only. It does nothing: its clause is the law.
+/// Each pick of a turn is an own step of a thread that was placed at the turn's site, or what a message asks for that was delivered
+/// there, in that turn or before: a bind, a send, an exchange; and a thread was placed at one site only. It does nothing: its
+/// clause is the law.
 pub fn threads_stay_home()
     ensures home { ThreadsAlwaysStayHome }
 {}
@@ -15,7 +16,8 @@ pub fn units_are_named()
 {}
 
 /// In each turn exchanges pay for the Gets and Forwards that it sends and for a Put that it takes; and so, over each run, at each
-/// site for each cell, where the exchanges at the sites are together those of the run. It does nothing: its clauses are the laws.
+/// site for each cell, where the exchanges at the sites are together those of the run. (Of a cell whose state stays there is no
+/// such message.) It does nothing: its clauses are the laws.
 pub fn requests_are_served()
     ensures turns { TurnsArePaid }
     ensures split { ExchangesAreSplit }

@@ -3,9 +3,10 @@
 //! For: whoever runs one program over several sites, and reads from the journal which site did what, and what its use of a cell costs.
 //!
 //! It promises, by `threads_stay_home`: in every run of sites, whatever the order of turns and deliveries, each pick of a turn is an
-//! own step of a thread that was placed at the turn's site, or the bind that the delivered message asks for; and no thread was
-//! placed at two sites. Where a thread was placed is read from the journal alone (`IsPlacedAt`). And, by
-//! `units_are_named`, the thread of each unit of a turn has its name from one of the sites of the run.
+//! own step of a thread that was placed at the turn's site, or what a message asks for that was delivered there, in that turn or
+//! before (a bind, a send to a port, an exchange of a cell whose state stays: `IsRequested`); and no thread was placed at two
+//! sites. Where a thread was placed is read from the journal alone (`IsPlacedAt`). And, by `units_are_named`, the thread of each
+//! unit of a turn has its name from one of the sites of the run.
 //!
 //! It promises, by `requests_are_served`, of every run of a program on 1 to 64 sites, whatever the order of turns and deliveries,
 //! for every cell and every site, that requests for the token are served one after the other, with few messages each. Of each turn

@@ -43,7 +43,9 @@ module _ (P : VarName → Type 0) where
   outcome_lefts p env rest fresh (outcome.Tells x t) h = tt
   outcome_lefts p env rest fresh (outcome.Declares first count body) h = tt
   outcome_lefts p env rest fresh (outcome.MakesProc left code formals vars) h = tt
-  outcome_lefts p env rest fresh (outcome.MakesCell content told) h = tt
+  outcome_lefts p env rest fresh (outcome.MakesCell at content told) h = tt
+  outcome_lefts p env rest fresh (outcome.MakesPort stream told) h = tt
+  outcome_lefts p env rest fresh (outcome.Sends port value) h = tt
   outcome_lefts p env rest fresh (outcome.Exchanges cell new told) h = tt
   outcome_lefts p env rest fresh (outcome.Spawns at body vars) h = tt
   outcome_lefts p env rest fresh (outcome.Tries body body_env handler first handler_env) h = tt
@@ -73,5 +75,7 @@ pub fresh_own : (i : ℕ) (c : Counters) (kinds : List NameKind) → Each (λ (x
 fresh_own i c [] = tt
 fresh_own i c (kind.Var ∷ ks) = (refl, fresh_own i (counter_after c kind.Var) ks)
 fresh_own i c (kind.Cell ∷ ks) = fresh_own i (counter_after c kind.Cell) ks
+fresh_own i c ((kind.CellAt at_home) ∷ ks) = fresh_own i (counter_after c (kind.CellAt at_home)) ks
 fresh_own i c (kind.Proc ∷ ks) = fresh_own i (counter_after c kind.Proc) ks
+fresh_own i c (kind.Port ∷ ks) = fresh_own i (counter_after c kind.Port) ks
 fresh_own i c (kind.Thread ∷ ks) = fresh_own i (counter_after c kind.Thread) ks

@@ -2,7 +2,6 @@
 use Rattle.std.proofs.Common.{arith, ◌≡◌, ◌≢◌, ◌∙◌, sym, ap, refl, subst, ℕ, zero, suc, ◌+◌, ◌<◌, ◌≤◌, List, [], ◌∷◌, ◌++◌, ◌⊎◌, inl, inr, Bool, true, false, cond, Some}
 use Rattle.std.specs.Prelude.{Option, Contains, ◌&&◌}
 use Rattle.tree_node.specs.declared.names.VarName.{VarName}
-use Rattle.tree_node.specs.declared.names.CellName.{CellName}
 use Rattle.tree_node.specs.declared.names.ThreadName.{ThreadName}
 use Rattle.tree_node.specs.declared.node.Term.{Term}
 use Rattle.tree_node.specs.Each.{Each}
@@ -13,6 +12,7 @@ use Rattle.site_message.specs.declared.message.Sent.{Sent}
 use Rattle.bind_protocol.specs.Rows.{request}
 use Rattle.bind_protocol.proofs.ListLemmas.{one, count_cons, count_append, count_push}
 use Rattle.site_model.specs.Site.{Site, Counters, ThreadState, thread_state, Threads}
+use Rattle.thread_roster.specs.declared.mode.Awaited.{Awaited}
 use Rattle.thread_roster.specs.declared.mode.Mode.{Mode}
 use Rattle.thread_roster.specs.declared.mode.Mode.TheVariants.{Runs, WaitsFor}
 use Rattle.site_model.specs.Bundle.{with_own_bundle}
@@ -59,8 +59,8 @@ quiet_more base out h n x = omega (arith, none_of out h n x, count_append (is_re
 pub runs_not : (x : VarName) → Runs ≡ site.Waits x → ⊥
 runs_not x e = cc
 
-pub waits_not : (c : CellName) (x : VarName) → WaitsFor c ≡ site.Waits x → ⊥
-waits_not c x e = cc
+pub waits_not : (a : Awaited) (x : VarName) → WaitsFor a ≡ site.Waits x → ⊥
+waits_not a x e = cc
 
 -- a thread that can go on, or waits for a token, knows all that it asked for bound
 bound_of : (s : Store) (m : Mode) (x : VarName) → IsBound s x ⊎ (m ≡ site.Waits x) → (m ≡ site.Waits x → ⊥) → IsBound s x

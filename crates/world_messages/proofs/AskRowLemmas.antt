@@ -23,16 +23,19 @@ use Rattle.bind_protocol.specs.Records.{Records, is_own, knowledge}
 use Rattle.proxy_table.specs.Proxies.{entry_of}
 use Rattle.bind_protocol.specs.Rows.{sent_message, register, binding, register_answer, after_meet, meet_sends, meets_send, after_ask}
 use Rattle.bind_protocol.proofs.ListLemmas.{one, count_push}
-use Rattle.site_model.specs.Site.{Site, Counters, ThreadState, thread_state, cell_record, Threads, runnable_threads}
+use Rattle.site_model.specs.Requests.{Answer, NewEnd, OldContent, answered_stack, after_answer, with_asking, with_home_content, send_request_row, home_request_row, early_request_row, port_send_row, cell_ask_row, serve_request, serve_early}
+use Rattle.site_model.specs.Site.{Site, Counters, ThreadState, EarlyRequest, thread_state, cell_record, home_record, Threads, runnable_threads}
+use Rattle.thread_roster.specs.declared.mode.Awaited.{Awaited}
+use Rattle.thread_roster.specs.declared.mode.Awaited.TheVariants.{Cell, Port}
 use Rattle.thread_roster.specs.declared.mode.Mode.TheVariants.{Runs, WaitsFor}
 use Rattle.thread_roster.specs.Binds.{goes_on}
 use Rattle.site_model.specs.Bundle.{with_own_bundle, with_own_bundles, message_bundle, message_vars}
-use Rattle.site_model.specs.Transition.{Transition, without_output, with_messages, and_then}
+use Rattle.site_model.specs.Transition.{Transition, without_output, with_messages, with_pick, and_then}
 use Rattle.site_model.specs.Variables.{with_new_equation, with_known_equation, with_known_equations, with_site_equation, own_bind, own_binds, opening}
 use Rattle.token_chain.specs.Mail as token
 use Rattle.site_model.specs.Cells.{leave_row, forward_row, get_row, serving, request_row, with_exchange_waiting, after_exchange, content_after_exchange, exchange_stack}
 use Rattle.site_model.specs.Messages.{with_thread, bind_request_row, message_row, reception, birth}
-use Rattle.site_model.specs.Unit.{next_names, with_fresh_names, birth_row, placement, step_row, after_effect, thread_step, fresh_names, effect_here, step_pick, bind_attempt, after_cell, IsStepOrRequest, IsUnitFor, counter_after, runnable_state, content_here, counters_after, with_mode}
+use Rattle.site_model.specs.Unit.{next_names, with_fresh_names, birth_row, placement, step_row, after_effect, thread_step, kept_step, kept_step_row, kept_stack, with_stack, fresh_names, effect_here, step_pick, bind_attempt, after_cell, IsUnitFor, counter_after, runnable_state, content_here, counters_after, with_mode}
 use Rattle.site_model.specs.Turn.{IsReception, AreUnits, SiteTurn}
 use Rattle.tree_node.specs.declared.names.NameKind.TheVariants as kind
 use Rattle.tree_node.specs.declared.node.Node.{Node}
@@ -57,8 +60,11 @@ use Rattle.thread_roster.specs.declared.mode.Mode.TheVariants as site
 use Rattle.world_model.specs.Matches.{IsBound}
 use Rattle.world_model.proofs.CellLemmas.{OnlyCells, letters, request_only}
 use Rattle.world_model.proofs.KeyLemmas.{goes_cases, woken_new}
+use Rattle.world_model.proofs.PutLemmas.{nat_decides}
 use Rattle.world_messages.proofs.DeedLemmas.{unit_tally}
+use Rattle.world_messages.proofs.HomeRowLemmas.{Apart, kept_before, kept_apart, kept_site, tell_each, serve_rest, answer_cases}
 use Rattle.world_messages.proofs.PickLemmas.{heard_site}
+use Rattle.world_messages.proofs.WayLemmas.{Way, Steps, Opens, Sends, Makes, Exchanges, AsksToken, AsksPort, AsksHome, WaitsEarly, WaitsPort, way_of}
 use Rattle.world_messages.specs.Messages.{is_request}
 use Rattle.world_messages.specs.BindRequests.{requests, is_spawn, flights, Asks, ComesNew}
 use Rattle.world_messages.proofs.AskLemmas.{IsNone, runs_not, waits_not, asks_more, same_threads, wakes, goes, asks_once}
@@ -105,7 +111,9 @@ module _ (p : List Stmt) (n limit : ℕ) where
   outcome_new k c env rest (outcome.Tells x t) kinds e = tt
   outcome_new k c env rest (outcome.Declares first count body) kinds e = tt
   outcome_new k c env rest (outcome.MakesProc left code formals vars) kinds e = tt
-  outcome_new k c env rest (outcome.MakesCell content told) kinds e = tt
+  outcome_new k c env rest (outcome.MakesCell at content told) kinds e = tt
+  outcome_new k c env rest (outcome.MakesPort stream told) kinds e = tt
+  outcome_new k c env rest (outcome.Sends port value) kinds e = tt
   outcome_new k c env rest (outcome.Exchanges cell new told) kinds e = tt
   outcome_new k c env rest (outcome.Tries body body_env handler first handler_env) kinds e = tt
   outcome_new k c env rest (outcome.Raises x) kinds e = tt
@@ -132,7 +140,9 @@ module _ (p : List Stmt) (n limit : ℕ) where
   more_threads c [] = omega arith
   more_threads c (kind.Var ∷ ks) = more_threads (counter_after c kind.Var) ks
   more_threads c (kind.Cell ∷ ks) = more_threads (counter_after c kind.Cell) ks
+  more_threads c ((kind.CellAt at_home) ∷ ks) = more_threads (counter_after c (kind.CellAt at_home)) ks
   more_threads c (kind.Proc ∷ ks) = more_threads (counter_after c kind.Proc) ks
+  more_threads c (kind.Port ∷ ks) = more_threads (counter_after c kind.Port) ks
   more_threads c (kind.Thread ∷ ks) = omega (arith, more_threads (counter_after c kind.Thread) ks)
 
   pub runs_stay : (es : List Equation) (s : Site) (th : ThreadName) (st : Stack) → thread_state s th ≡ Some (st, Runs) → thread_state (own_binds limit es s).site th ≡ Some (st, Runs)
@@ -221,7 +231,7 @@ module _ (p : List Stmt) (n limit : ℕ) (i low cap : ℕ) (P : ThreadName → T
       only = request_only limit c new th st s
 
       now : Asks i low cap P start base (with_exchange_waiting c th st s)
-      now = goes i low cap P start base s (with_exchange_waiting c th st s) th (st, Runs) (Some (st, WaitsFor c)) refl refl refl at runs_not h
+      now = goes i low cap P start base s (with_exchange_waiting c th st s) th (st, Runs) (Some (st, WaitsFor (Cell c))) refl refl refl at runs_not h
 
   -- ---- threads that begin
 
@@ -341,6 +351,55 @@ module _ (p : List Stmt) (n limit : ℕ) (i low cap : ℕ) (P : ThreadName → T
       go None e ih = all s (rw e refl) (ih s (λ m r c0 at. w m r (Contains-tail th m ns c0) at) h)
       go (Some u) e ih = all (after u) (rw e refl) (ih (after u) (still_none u e) (goes i low cap P start base s (after u) th u (Some (exchange_stack v (stack_effect p s.equations [] None u.0).cell (stack_effect p s.equations [] None u.0).stack, Runs)) refl refl refl e (w th u (Contains-head th ns) e) h))
 
+  -- ---- ports and stationary cells
+
+  -- a thread that is answered did not wait for a variable
+  abbrev NoneOf : ThreadName → Site → Type 0
+  NoneOf th s = (w : ThreadState) → thread_state s th ≡ Some w → (x : VarName) → w.1 ≡ site.Waits x → ⊥
+
+  answer_asks : (base : List Sent) (th : ThreadName) (a : Answer) (s : Site) → NoneOf th s → Asks i low cap P start base s → Asks i low cap P start base (after_answer p th a s)
+  answer_asks base th a s none h = go (thread_state s th) refl
+    where
+      go : (o : Option ThreadState) → thread_state s th ≡ o → Asks i low cap P start base (after_answer p th a s)
+      go None q = rw q h
+      go (Some w) q = rw q (goes i low cap P start base s (record s { threads = with_value equal_thread s.threads th (answered_stack p s a w.0, Runs) }) th w (Some (answered_stack p s a w.0, Runs)) refl refl refl q (none w q) h)
+
+  serve_asks : (base : List Sent) (c : CellName) (r : EarlyRequest) (v : VarName) (s : Site) → (r.asking ≡ s.records.site → NoneOf r.thread s) → Asks i low cap P start base s → Quiet i low cap P start base (serve_request p limit c r v s)
+  serve_asks base c r v s none h = go (r.asking == s.records.site) refl
+    where
+      told : Asks i low cap P start base (with_home_content c r.new s)
+      told = same_threads i low cap P start base s (with_home_content c r.new s) refl (λ x b. b) (omega arith) h
+
+      go : (b : Bool) → (r.asking == s.records.site) ≡ b → Quiet i low cap P start base (cond b (with_pick (after_answer p r.thread (OldContent v) (with_home_content c r.new s)) (step_pick r.thread [] None))
+          (and_then (with_pick (with_home_content c r.new s) (step_pick r.thread [] None)) (λ t. with_messages t (with_own_bundle limit t.equations (sent_message r.asking (msg.CellOld r.thread v [])) ∷ []))))
+      go true q = record { site = answer_asks base r.thread (OldContent v) (with_home_content c r.new s) (none ((nat_decides r.asking s.records.site).0 q)) told; none = tt }
+      go false q = record { site = told; none = (λ m x. (refl, refl), tt) }
+
+  -- nor did those of the site among these
+  abbrev NoneEarly : List EarlyRequest → Site → Type 0
+  NoneEarly rs s = (r : EarlyRequest) → Contains rs r → r.asking ≡ s.records.site → NoneOf r.thread s
+
+  served_none : (c : CellName) (r : EarlyRequest) (v : VarName) (s : Site) (th : ThreadName) → NoneOf th s → NoneOf th (serve_request p limit c r v s).site
+  served_none c r v s th none = go (r.asking == s.records.site)
+    where
+      by : (w : ThreadState) → ((r.thread ≡ th) × (w.1 ≡ Runs)) ⊎ (thread_state s th ≡ Some w) → (x : VarName) → w.1 ≡ site.Waits x → ⊥
+      by w (inl k) x e = runs_not x (sym k.1 ∙ e)
+      by w (inr k) x e = none w k x e
+
+      go : (b : Bool) → NoneOf th (cond b (with_pick (after_answer p r.thread (OldContent v) (with_home_content c r.new s)) (step_pick r.thread [] None))
+          (and_then (with_pick (with_home_content c r.new s) (step_pick r.thread [] None)) (λ t. with_messages t (with_own_bundle limit t.equations (sent_message r.asking (msg.CellOld r.thread v [])) ∷ [])))).site
+      go true w at = by w (answer_cases p r.thread (OldContent v) (with_home_content c r.new s) th w at)
+      go false w at = none w at
+
+  early_asks : (base : List Sent) (c : CellName) (rs : List EarlyRequest) (v : VarName) (s : Site) → NoneEarly rs s → Asks i low cap P start base s → Quiet i low cap P start base (serve_early p limit c v rs s)
+  early_asks base c [] v s none h = still base _ (same_threads i low cap P start base s _ refl (λ x b. b) (omega arith) h)
+  early_asks base c (r ∷ rs) v s none h = quiet_then i low cap P start base (serve_request p limit c r v s) (serve_early p limit c r.new rs) (serve_asks base c r v s (none r (Contains-head r rs)) h)
+      (λ k. early_asks base c rs r.new (serve_request p limit c r v s).site (λ q at own. served_none c r v s q.thread (none q (Contains-tail r q rs at) (own ∙ ap (λ (b : Records). b.site) (serve_rest p limit c r v s).records))) k)
+
+  -- a thread asks another site, or waits
+  away_asks : (base : List Sent) (th : ThreadName) (st : Stack) (a : Awaited) (s : Site) → thread_state s th ≡ Some (st, Runs) → Asks i low cap P start base s → Asks i low cap P start base (with_asking th st a s)
+  away_asks base th st a s at h = goes i low cap P start base s (with_asking th st a s) th (st, Runs) (Some (st, WaitsFor a)) refl refl refl at runs_not h
+
   answered_none : (s : Store) (x : VarName) (k : ℕ) (o : Option Owner) → Each IsNone (with_own_bundles limit s (register_answer o x k))
   answered_none s x k None = tt
   answered_none s x k (Some (Open ks)) = tt
@@ -365,7 +424,16 @@ module _ (p : List Stmt) (n limit : ℕ) (i low cap : ℕ) (P : ThreadName → T
   takes_asks base (msg.Binding x t es) s cap_is base_is new h = still base (with_known_equation s x t) (told_asks base s x t h)
   takes_asks base (msg.Get c k) s cap_is base_is new h = get_asks base c k s h
   takes_asks base (msg.Forward c k) s cap_is base_is new h = forward_asks base c k s h
-  takes_asks base (msg.Put c v es) s cap_is base_is new h = quiet_then i low cap P start base (serving p c (cell_record s c).queue v s) (leave_row limit c) (serves_asks base c (cell_record s c).queue v s (λ m w at e x q. waits_not c x (sym (new m w at e) ∙ q)) h) (λ k. leave_asks base c (serving p c (cell_record s c).queue v s).site k)
+  takes_asks base (msg.Put c v es) s cap_is base_is new h = quiet_then i low cap P start base (serving p c (cell_record s c).queue v s) (leave_row limit c) (serves_asks base c (cell_record s c).queue v s (λ m w at e x q. waits_not (Cell c) x (sym (new m w at e) ∙ q)) h) (λ k. leave_asks base c (serving p c (cell_record s c).queue v s).site k)
+  takes_asks base (msg.PortSend q th k) s cap_is base_is new h = record { site = same_threads i low cap P start base s (port_send_row limit q th k s).site refl (λ x b. b) (omega arith) h; none = (λ m x. (refl, refl), tt) }
+  takes_asks base (msg.PortEnd th old new_end es) s cap_is base_is new h = still base (after_answer p th (NewEnd old new_end) s) (answer_asks base th (NewEnd old new_end) s (λ w at x e. (let k = new w at in waits_not k.0 x (sym k.1 ∙ e))) h)
+  takes_asks base (msg.CellMake c v es) s cap_is base_is new h = early_asks base c (home_record s c).early v s (λ r at own w stands x e. waits_not (Cell c) x (sym (new r w at own stands) ∙ e)) h
+  takes_asks base (msg.CellAsk c th k v es) s cap_is base_is new h = go (home_record s c).content refl
+    where
+      go : (o : Option VarName) → (home_record s c).content ≡ o → Quiet i low cap P start base (cell_ask_row p limit c (record { thread = th; asking = k; new = v }) s)
+      go None q = rw q (still base _ (same_threads i low cap P start base s _ refl (λ x b. b) (omega arith) h))
+      go (Some u) q = rw q (serve_asks base c (record { thread = th; asking = k; new = v }) u s (λ own w at x e. absurd (new own)) h)
+  takes_asks base (msg.CellOld th v es) s cap_is base_is new h = still base (after_answer p th (OldContent v) s) (answer_asks base th (OldContent v) s (λ w at x e. (let k = new w at in waits_not k.0 x (sym k.1 ∙ e))) h)
 
   receives_asks : (base : List Sent) (m : Msg) (s : Site) → cap ≡ (opening m s).site.counters.threads → base ≡ start → ComesNew i P base m (opening m s).site → Asks i low cap P start base s → Quiet i low cap P start base (reception p limit m s)
   receives_asks base m s cap_is base_is new h = quiet_then i low cap P start base (opening m s) (message_row p limit m) (opens_asks base m s h) (λ k. takes_asks base m (opening m s).site cap_is base_is new k)
@@ -452,11 +520,35 @@ module _ (p : List Stmt) (n limit : ℕ) (i low : ℕ) (P : ThreadName → Type 
       steps_asks base (step_pick th [] (Some (u, t))) [] (effect_here p s [] (Some (u, t)) st) s st at (subst (λ (e : Effect). NewBirth p n limit i s.counters s.counters e.born) (sym (bind_effect p s.equations st a b u t need)) tt) h
   bind_asks base s th st a b u t false at need free h = asks_once i limit low s.counters.threads P start base s th st u t at free h
 
-  either_asks : (base : List Sent) (th : ThreadName) (st : Stack) (s : Site) (step : Transition) (c : CellChange) (d : Transition) → thread_state s th ≡ Some (st, Runs) → Full base s → AsksOn base step → IsStepOrRequest limit th st s step c d → AsksOn base d
-  either_asks base th st s step (Exchanged c new told) d at h k (inl g) = subst (AsksOn base) (sym g.1) k
-  either_asks base th st s step (Exchanged c new told) d at h k (inr g) = subst (AsksOn base) (sym g.1) (of_quiet s.counters.threads base (request_row limit c new th st s) (cell_asks p n limit i low s.counters.threads P start base c new th st s at h))
-  either_asks base th st s step Stays d at h k g = subst (AsksOn base) (sym g) k
-  either_asks base th st s step (Made c v) d at h k g = subst (AsksOn base) (sym g) k
+  kept_asks : (base : List Sent) (k : Pick) (kinds : List NameKind) (e : Effect) (s : Site) (st : Stack) → thread_state s k.thread ≡ Some (st, Runs) → Full base s → AsksOn base (kept_step_row limit k kinds e s)
+  kept_asks base k kinds e s st at h = of_quiet s.counters.threads base (kept_step_row limit k kinds e s) (record {
+    site = subst (λ (t : Site). Asks i low s.counters.threads P start base t) (sym (kept_site limit k kinds e s)) on;
+    none = tell_each IsNone limit e.cell (with_stack k.thread (kept_stack s e) (kept_before kinds e s)) (λ b v is other m x. (refl, refl));
+  })
+    where
+      apart : Apart (with_fresh_names kinds s) (kept_before kinds e s)
+      apart = kept_apart kinds e s
+
+      before : Asks i low s.counters.threads P start base (kept_before kinds e s)
+      before = same_threads i low s.counters.threads P start base s (kept_before kinds e s) apart.threads (λ x b. subst (λ (q : Store). IsBound q x) (sym apart.rest.equations) b)
+          (omega (arith, more_threads p n limit s.counters kinds, ap (λ (c : Counters). c.threads) apart.rest.counters)) h
+
+      on : Asks i low s.counters.threads P start base (with_stack k.thread (kept_stack s e) (kept_before kinds e s))
+      on = goes i low s.counters.threads P start base (kept_before kinds e s) (with_stack k.thread (kept_stack s e) (kept_before kinds e s)) k.thread (st, Runs) (runnable_state (living_stack (kept_stack s e))) refl refl refl
+          (subst (λ (ts : Threads). value_of equal_thread ts k.thread ≡ Some (st, Runs)) (sym apart.threads) at) runs_not before
+
+  way_asks : (base : List Sent) (th : ThreadName) (st : Stack) (s : Site) (step kept : Transition) (e : Effect) (d : Transition) → thread_state s th ≡ Some (st, Runs) → Full base s → AsksOn base step → AsksOn base kept → Way limit th st s step kept e d → AsksOn base d
+  way_asks base th st s step kept e d at h k g (Steps finds same) = subst (AsksOn base) (sym same) k
+  way_asks base th st s step kept e d at h k g (Opens q end is same) = subst (AsksOn base) (sym same) g
+  way_asks base th st s step kept e d at h k g (Sends q value new end is has same) = subst (AsksOn base) (sym same) g
+  way_asks base th st s step kept e d at h k g (Makes c v keeps is same) = subst (AsksOn base) (sym same) g
+  way_asks base th st s step kept e d at h k g (Exchanges c new told v keeps is has same) = subst (AsksOn base) (sym same) g
+  way_asks base th st s step kept e d at h k g (AsksToken c new none same) = subst (AsksOn base) (sym same) (of_quiet s.counters.threads base (request_row limit c new th st s) (cell_asks p n limit i low s.counters.threads P start base c new th st s at h))
+  way_asks base th st s step kept e d at h k g (AsksPort q other same) = subst (AsksOn base) (sym same) (of_quiet s.counters.threads base (send_request_row limit q th st s) (record { site = away_asks p n limit i low s.counters.threads P start base th st (Port q) s at h; none = (λ m x. (refl, refl), tt) }))
+  way_asks base th st s step kept e d at h k g (AsksHome c new told is other same) = subst (AsksOn base) (sym same) (of_quiet s.counters.threads base (home_request_row limit c new th st s) (record { site = away_asks p n limit i low s.counters.threads P start base th st (Cell c) s at h; none = (λ m x. (refl, refl), tt) }))
+  way_asks base th st s step kept e d at h k g (WaitsEarly c new told is same) = subst (AsksOn base) (sym same) (of_quiet s.counters.threads base (early_request_row c new th st s)
+      (record { site = same_threads i low s.counters.threads P start base (with_asking th st (Cell c) s) (early_request_row c new th st s).site refl (λ x b. b) (omega arith) (away_asks p n limit i low s.counters.threads P start base th st (Cell c) s at h); none = tt }))
+  way_asks base th st s step kept e d at h k g (WaitsPort q same) = subst (AsksOn base) (sym same) (of_quiet s.counters.threads base (without_output (with_asking th st (Port q) s)) (record { site = away_asks p n limit i low s.counters.threads P start base th st (Port q) s at h; none = tt }))
 
   need_asks : (base : List Sent) (s : Site) (th : ThreadName) (st : Stack) (need : Need) (d : Transition) → s.records.site ≡ i → thread_state s th ≡ Some (st, Runs) → Full base s → stack_need p s.equations st ≡ need → IsUnitFor p n limit s th st need d → AsksOn base d
   need_asks base s th st (Waits x) d own at h e (z, names, g) =
@@ -465,9 +557,11 @@ module _ (p : List Stmt) (n limit : ℕ) (i low : ℕ) (P : ThreadName → Type 
       subst (AsksOn base) (sym g) (of_quiet s.counters.threads base (without_output (with_mode th st (site.WaitsAny xs) s)) (still p n limit i low s.counters.threads P start base (with_mode th st (site.WaitsAny xs) s) (goes i low s.counters.threads P start base s (with_mode th st (site.WaitsAny xs) s) th (st, Runs) (Some (st, site.WaitsAny xs)) refl refl refl at runs_not h)))
   need_asks base s th st (Binds a b) d own at h e (u, t, root, g) = subst (AsksOn base) (sym g) (bind_asks base s th st a b u t (u.site == s.records.site) at e root.1 h)
   need_asks base s th st (Takes kinds) d own at h e g =
-      either_asks base th st s (thread_step p n limit th st kinds (fresh_names s kinds) None s) (effect_here p s (fresh_names s kinds) None st).cell d at h
+      way_asks base th st s (thread_step p n limit th st kinds (fresh_names s kinds) None s) (kept_step p limit th st kinds (fresh_names s kinds) s) (effect_here p s (fresh_names s kinds) None st) d at h
       (steps_asks base (step_pick th (fresh_names s kinds) None) kinds (effect_here p s (fresh_names s kinds) None st) s st at
-      (subst (λ (k : ℕ). NewBirth p n limit k s.counters (with_fresh_names kinds s).counters (effect_here p s (fresh_names s kinds) None st).born) own (stack_new p n limit s.records.site s.counters s.equations st kinds e)) h) g
+      (subst (λ (k : ℕ). NewBirth p n limit k s.counters (with_fresh_names kinds s).counters (effect_here p s (fresh_names s kinds) None st).born) own (stack_new p n limit s.records.site s.counters s.equations st kinds e)) h)
+      (kept_asks base (step_pick th (fresh_names s kinds) None) kinds (effect_here p s (fresh_names s kinds) None st) s st at h)
+      (way_of limit th st s (thread_step p n limit th st kinds (fresh_names s kinds) None s) (kept_step p limit th st kinds (fresh_names s kinds) s) (effect_here p s (fresh_names s kinds) None st) d g)
 
   units_asks : (ths : List ThreadName) (base : List Sent) (s : Site) (d : Transition) → s.records.site ≡ i → Full base s → AreUnits p n limit ths s d → AsksOn base d
   units_asks [] base s d own h e = subst (AsksOn base) (sym e) (of_quiet s.counters.threads base (without_output s) (still p n limit i low s.counters.threads P start base s h))

@@ -19,7 +19,9 @@ use Rattle.oz_model.specs.Effect.{body_item}
 use Rattle.oz_model.specs.Run.{first_thread, start}
 use Rattle.bind_protocol.specs.Records.{is_own, knowledge}
 use Rattle.bind_protocol.proofs.ListLemmas.{there_counted, count_append}
-use Rattle.site_model.specs.Site.{Site, CellRecord, Counters, ThreadState, thread_state, cell_record_in, initial_site, runnable_threads}
+use Rattle.site_model.specs.Site.{Site, CellRecord, HomeRecord, Counters, ThreadState, thread_state, cell_record_in, initial_site, runnable_threads}
+use Rattle.thread_roster.specs.declared.mode.Awaited.{Awaited}
+use Rattle.thread_roster.specs.declared.mode.Awaited.TheVariants.{Cell}
 use Rattle.thread_roster.specs.declared.mode.Mode.TheVariants.{WaitsFor}
 use Rattle.thread_roster.specs.Binds.{goes_on}
 use Rattle.thread_roster.specs.Threads.{wake_where}
@@ -30,12 +32,15 @@ use Rattle.site_model.specs.Transition.{Transition}
 use Rattle.site_model.specs.Variables.{with_known_equation, with_known_equations, opening}
 use Rattle.site_model.specs.Run.{WorldRun, delivered_message, message_of}
 use Rattle.world_model.specs.World.{Sites, put}
+use Rattle.world_model.specs.Claims.{home_in}
 use Rattle.world_model.specs.Matches.{IsBound}
 use Rattle.world_model.proofs.PutLemmas.{nat_decides, at_all, at_here, at_other}
 use Rattle.world_model.proofs.KeyLemmas.{woken_old, running_old}
-use Rattle.world_messages.specs.BindRequests.{requests, is_spawn, flights, ComesNew, BringsThread, ThreadsPlaced, ThreadsArePlaced, AsksAreFew}
+use Rattle.world_messages.specs.BindRequests.{requests, is_spawn, flights, Awaits, ComesNew, BringsThread, AnswersThread, ThreadsPlaced, ThreadsArePlaced, AsksAreFew}
 use Rattle.world_messages.proofs.AskRowLemmas.{turn_asks, Full, HearsNew}
 use Rattle.world_messages.proofs.CountLemmas.{counted_in}
+use Rattle.world_messages.proofs.DeedLemmas.{opens_counts}
+use Rattle.world_messages.proofs.HomeRowLemmas.{told_all_same}
 use Rattle.world_messages.proofs.RunLemmas.{Entry, every_run}
 use Rattle.tree_node.proofs.NameLemmas.{same_thread_decides}
 use Rattle.std.proofs.lemmas.Bool.{or_parts}
@@ -76,43 +81,30 @@ never_more k h = omega (arith, h)
 
 -- ---- a message is opened
 
-told_standing : (s : Site) (x : VarName) (t : Term) (n : ThreadName) (c : CellName) (w : ThreadState) → thread_state (with_known_equation s x t) n ≡ Some w → (u : ThreadState) × (thread_state s n ≡ Some u) × (u.1 ≡ WaitsFor c → w.1 ≡ WaitsFor c)
-told_standing s x t n c w at = go (is_own s.records x) refl (knowledge s.records x) refl at
+told_standing : (s : Site) (x : VarName) (t : Term) (n : ThreadName) (w : ThreadState) → thread_state (with_known_equation s x t) n ≡ Some w → (u : ThreadState) × (thread_state s n ≡ Some u) × ((a : Awaited) → u.1 ≡ WaitsFor a → w.1 ≡ WaitsFor a)
+told_standing s x t n w at = go (is_own s.records x) refl (knowledge s.records x) refl at
   where
     Goal : Site → Type 0
-    Goal q = thread_state q n ≡ Some w → (u : ThreadState) × (thread_state s n ≡ Some u) × (u.1 ≡ WaitsFor c → w.1 ≡ WaitsFor c)
+    Goal q = thread_state q n ≡ Some w → (u : ThreadState) × (thread_state s n ≡ Some u) × ((a : Awaited) → u.1 ≡ WaitsFor a → w.1 ≡ WaitsFor a)
 
-    same : thread_state s n ≡ Some w → (u : ThreadState) × (thread_state s n ≡ Some u) × (u.1 ≡ WaitsFor c → w.1 ≡ WaitsFor c)
-    same e = (w, e, λ q. q)
+    same : thread_state s n ≡ Some w → (u : ThreadState) × (thread_state s n ≡ Some u) × ((a : Awaited) → u.1 ≡ WaitsFor a → w.1 ≡ WaitsFor a)
+    same e = (w, e, λ a q. q)
 
-    woke : value_of equal_thread (wake_where (goes_on ((x, t) ∷ s.equations) x) s.threads) n ≡ Some w → (u : ThreadState) × (thread_state s n ≡ Some u) × (u.1 ≡ WaitsFor c → w.1 ≡ WaitsFor c)
-    woke e = let o = woken_old (goes_on ((x, t) ∷ s.equations) x) s.threads n w.0 w.1 e in ((w.0, o.0), o.1, λ q. sym o.2 ∙ ap (woken_by (goes_on ((x, t) ∷ s.equations) x)) q)
+    woke : value_of equal_thread (wake_where (goes_on ((x, t) ∷ s.equations) x) s.threads) n ≡ Some w → (u : ThreadState) × (thread_state s n ≡ Some u) × ((a : Awaited) → u.1 ≡ WaitsFor a → w.1 ≡ WaitsFor a)
+    woke e = let o = woken_old (goes_on ((x, t) ∷ s.equations) x) s.threads n w.0 w.1 e in ((w.0, o.0), o.1, λ a q. sym o.2 ∙ ap (woken_by (goes_on ((x, t) ∷ s.equations) x)) q)
 
-    go : (b : Bool) → is_own s.records x ≡ b → (o : Option (Option Term)) → knowledge s.records x ≡ o → thread_state (with_known_equation s x t) n ≡ Some w → (u : ThreadState) × (thread_state s n ≡ Some u) × (u.1 ≡ WaitsFor c → w.1 ≡ WaitsFor c)
+    go : (b : Bool) → is_own s.records x ≡ b → (o : Option (Option Term)) → knowledge s.records x ≡ o → thread_state (with_known_equation s x t) n ≡ Some w → (u : ThreadState) × (thread_state s n ≡ Some u) × ((a : Awaited) → u.1 ≡ WaitsFor a → w.1 ≡ WaitsFor a)
     go true q o k = rw (k, q) same
     go false q None k = rw (k, q) woke
     go false q (Some None) k = rw (k, q) woke
     go false q (Some (Some r)) k = rw (k, q) same
 
-told_all_standing : (es : List Equation) (s : Site) (n : ThreadName) (c : CellName) (w : ThreadState) → thread_state (with_known_equations s es) n ≡ Some w → (u : ThreadState) × (thread_state s n ≡ Some u) × (u.1 ≡ WaitsFor c → w.1 ≡ WaitsFor c)
-told_all_standing [] s n c w at = (w, at, λ q. q)
-told_all_standing (e ∷ es) s n c w at =
-    let later = told_all_standing es (with_known_equation s e.0 e.1) n c w at in
-    let first = told_standing s e.0 e.1 n c later.0 later.1 in
-    (first.0, first.1, λ q. later.2 (first.2 q))
-
-told_places : (s : Site) (x : VarName) (t : Term) → (with_known_equation s x t).cell_records ≡ s.cell_records
-told_places s x t = go (is_own s.records x) refl (knowledge s.records x) refl
-  where
-    go : (b : Bool) → is_own s.records x ≡ b → (o : Option (Option Term)) → knowledge s.records x ≡ o → (with_known_equation s x t).cell_records ≡ s.cell_records
-    go true q o k = rw (k, q) refl
-    go false q None k = rw (k, q) refl
-    go false q (Some None) k = rw (k, q) refl
-    go false q (Some (Some r)) k = rw (k, q) refl
-
-told_all_places : (es : List Equation) (s : Site) → (with_known_equations s es).cell_records ≡ s.cell_records
-told_all_places [] s = refl
-told_all_places (e ∷ es) s = told_all_places es (with_known_equation s e.0 e.1) ∙ told_places s e.0 e.1
+told_all_standing : (es : List Equation) (s : Site) (n : ThreadName) (w : ThreadState) → thread_state (with_known_equations s es) n ≡ Some w → (u : ThreadState) × (thread_state s n ≡ Some u) × ((a : Awaited) → u.1 ≡ WaitsFor a → w.1 ≡ WaitsFor a)
+told_all_standing [] s n w at = (w, at, λ a q. q)
+told_all_standing (e ∷ es) s n w at =
+    let later = told_all_standing es (with_known_equation s e.0 e.1) n w at in
+    let first = told_standing s e.0 e.1 n later.0 later.1 in
+    (first.0, first.1, λ a q. later.2 a (first.2 a q))
 
 -- ---- an entry
 
@@ -169,18 +161,35 @@ module _ (p : List Stmt) (n limit : ℕ) (placed : ThreadsArePlaced p n limit) (
   made_same : (o : Msg) → (opening o (f e.site)).site.counters.threads ≡ (f e.site).counters.threads
   made_same o = ap (λ (c : Counters). c.threads) (told_all_counters (message_bundle o) (f e.site))
 
-  new_of : (k to : ℕ) (o : Msg) → IsTravelling j k (record { to = to; msg = o }) → delivered_message j e.delivered ≡ Some o → ComesNew e.site MayAsk (sent_of j) o (opening o (f e.site)).site
-  new_of k to (msg.Spawn m code vars bundle) at is =
-      let r = h.flies k to m (msg.Spawn m code vars bundle) at refl in
+  number_same : (o : Msg) → (opening o (f e.site)).site.records.site ≡ e.site
+  number_same o = (opens_counts o (f e.site)).site ∙ own
+
+  -- the thread that is answered waits, also once the message is opened
+  awaits : (k : ℕ) (o : Msg) (m : ThreadName) → IsTravelling j k (record { to = e.site; msg = o }) → AnswersThread m o → Awaits m (opening o (f e.site)).site
+  awaits k o m at is w stands =
+      let u = told_all_standing (message_bundle o) (f e.site) m w stands in
+      let a = where_placed.answered k e.site m o at is u.0 u.1 in
+      (a.0, u.2 a.0 a.1)
+
+  new_of : (k : ℕ) (o : Msg) → IsTravelling j k (record { to = e.site; msg = o }) → delivered_message j e.delivered ≡ Some o → ComesNew e.site MayAsk (sent_of j) o (opening o (f e.site)).site
+  new_of k (msg.Spawn m code vars bundle) at is =
+      let r = h.flies k e.site m (msg.Spawn m code vars bundle) at refl in
       (r.0, λ mine. subst (λ (c : ℕ). m.num < c) (sym (made_same (msg.Spawn m code vars bundle))) (subst (λ (i : ℕ). m.num < (f i).counters.threads) mine r.1.1), inr (inl (subst (λ (o : Option Msg). Came o m) (sym is) refl)))
-  new_of k to (msg.Put c v bundle) at is = λ m w listed stands.
-      let o = told_all_standing bundle (f e.site) m c w stands in
-      o.2 (where_placed.queues e.site c m o.0 (subst (λ (qs : List (CellName × CellRecord)). Contains (cell_record_in qs c).queue m) (told_all_places bundle (f e.site)) listed) o.1)
-  new_of k to (msg.Register a b) at is = tt
-  new_of k to (msg.BindReq a b c q) at is = tt
-  new_of k to (msg.Binding a b c) at is = tt
-  new_of k to (msg.Get a b) at is = tt
-  new_of k to (msg.Forward a b) at is = tt
+  new_of k (msg.Put c v bundle) at is = λ m w listed stands.
+      let o = told_all_standing bundle (f e.site) m w stands in
+      o.2 (Cell c) (where_placed.queues e.site c m o.0 (subst (λ (qs : List (CellName × CellRecord)). Contains (cell_record_in qs c).queue m) (told_all_same (λ (s : Site). s.cell_records) (λ s x r. refl) bundle (f e.site)) listed) o.1)
+  new_of k (msg.Register a b) at is = tt
+  new_of k (msg.BindReq a b c q) at is = tt
+  new_of k (msg.Binding a b c) at is = tt
+  new_of k (msg.Get a b) at is = tt
+  new_of k (msg.Forward a b) at is = tt
+  new_of k (msg.PortSend a b c) at is = tt
+  new_of k (msg.PortEnd m old new bundle) at is = awaits k (msg.PortEnd m old new bundle) m at refl
+  new_of k (msg.CellMake c v bundle) at is = λ r w listed mine stands.
+      let o = told_all_standing bundle (f e.site) r.thread w stands in
+      o.2 (Cell c) (where_placed.early k e.site c v bundle r o.0 at (subst (λ (hs : List (CellName × HomeRecord)). Contains (home_in hs c).early r) (told_all_same (λ (s : Site). s.homes) (λ s x r. refl) bundle (f e.site)) listed) (mine ∙ number_same (msg.CellMake c v bundle)) o.1)
+  new_of k (msg.CellAsk c m b v bundle) at is = λ mine. where_placed.elsewhere k e.site c m b v bundle at (mine ∙ number_same (msg.CellAsk c m b v bundle))
+  new_of k (msg.CellOld m v bundle) at is = awaits k (msg.CellOld m v bundle) m at refl
 
   hears : HearsNew p n limit e.site (f e.site).counters.threads MayAsk (sent_of j) (λ m at low. inr (inr (at, low))) (delivered_message j e.delivered) (f e.site)
   hears = by e.delivered refl
@@ -192,7 +201,7 @@ module _ (p : List Stmt) (n limit : ℕ) (placed : ThreadsArePlaced p n limit) (
           go : (s : Sent) × IsTravelling j k s × (s.to ≡ e.site) → HearsNew p n limit e.site (f e.site).counters.threads MayAsk (sent_of j) (λ m at low. inr (inr (at, low))) (delivered_message j e.delivered) (f e.site)
           go (s, at, to) =
               let is : delivered_message j e.delivered ≡ Some s.msg = ap (delivered_message j) q ∙ ap message_of at.0 in
-              subst (λ (o : Option Msg). HearsNew p n limit e.site (f e.site).counters.threads MayAsk (sent_of j) (λ m at low. inr (inr (at, low))) o (f e.site)) (sym is) (new_of k s.to s.msg at is)
+              subst (λ (o : Option Msg). HearsNew p n limit e.site (f e.site).counters.threads MayAsk (sent_of j) (λ m at low. inr (inr (at, low))) o (f e.site)) (sym is) (new_of k s.msg (subst (λ (i : ℕ). IsTravelling j k (record { to = i; msg = s.msg })) to at) is)
 
   end : Full p n limit e.site (f e.site).counters.threads MayAsk (sent_of j) (λ m at low. inr (inr (at, low))) (sent_of j ++ e.sent) d.site
   end = subst (λ (ms : List Sent). Full p n limit e.site (f e.site).counters.threads MayAsk (sent_of j) (λ m at low. inr (inr (at, low))) (sent_of j ++ ms) d.site) (sym entry.tells.sent)
@@ -262,6 +271,11 @@ module _ (p : List Stmt) (n limit : ℕ) (placed : ThreadsArePlaced p n limit) (
   brings_is to m (msg.Get a c) b = absurd b
   brings_is to m (msg.Forward a c) b = absurd b
   brings_is to m (msg.Put a c q) b = absurd b
+  brings_is to m (msg.PortSend a c q) b = absurd b
+  brings_is to m (msg.PortEnd a c q r) b = absurd b
+  brings_is to m (msg.CellMake a c q) b = absurd b
+  brings_is to m (msg.CellAsk a c q r t) b = absurd b
+  brings_is to m (msg.CellOld a c q) b = absurd b
 
   flies_after : (k to : ℕ) (m : ThreadName) (o : Msg) → IsTravelling (e ∷ j) k (record { to = to; msg = o }) → BringsThread m o → ((x : VarName) → requests m x (sent_of j ++ e.sent) ≡ 0) × IsReal (put f e.site d.site) m
   flies_after k to m o (at, still) brings = go (get_cases (sent_of j) e.sent k (record { to = to; msg = o }) at)
@@ -307,21 +321,21 @@ never_one h = omega (arith, h)
 no_place : {X : Type 0} (k : ℕ) (x : X) → slice_get [] k ≡ Some x → ⊥
 no_place k x e = cc
 
-first_real : (p : List Stmt) (i : ℕ) (m : ThreadName) (v : ThreadState) → thread_state (initial_site p i) m ≡ Some v → IsReal (initial_site p) m
-first_real p i m v at = go (i == 1) at
+first_real : (p : List Stmt) (n i : ℕ) (m : ThreadName) (v : ThreadState) → thread_state (initial_site p n i) m ≡ Some v → IsReal (initial_site p n) m
+first_real p n i m v at = go (i == 1) at
   where
-    one : (st : Stack) (c : Bool) → equal_thread first_thread m ≡ c → cond c (Some st) None ≡ Some v.0 → IsReal (initial_site p) m
-    one st true q e = subst (IsReal (initial_site p)) ((same_thread_decides first_thread m).0 q) (omega arith, omega arith)
+    one : (st : Stack) (c : Bool) → equal_thread first_thread m ≡ c → cond c (Some st) None ≡ Some v.0 → IsReal (initial_site p n) m
+    one st true q e = subst (IsReal (initial_site p n)) ((same_thread_decides first_thread m).0 q) (omega arith, omega arith)
     one st false q e = cc
 
-    go : (b : Bool) → value_of equal_thread (cond b (runnable_threads (start p).threads) []) m ≡ Some v → IsReal (initial_site p) m
+    go : (b : Bool) → value_of equal_thread (cond b (runnable_threads (start p).threads) []) m ≡ Some v → IsReal (initial_site p n) m
     go true e = one (body_item p (record { 0 = 0 }) [] ∷ []) (equal_thread first_thread m) refl (running_old (start p).threads m v e).0
     go false e = cc
 
 pub asked_in : (p : List Stmt) (n limit : ℕ) → ThreadsArePlaced p n limit → (j : List Turn) (f : Sites) → WorldRun p n limit j f → AskedIn j f
 asked_in p n limit placed j f run = every_run p n limit AskedIn (record {
   once = λ m x. omega arith;
-  sites = λ i. record { stands = λ m v x at asked. absurd (never_one asked); real = λ m v at. first_real p i m v at };
+  sites = λ i. record { stands = λ m v x at asked. absurd (never_one asked); real = λ m v at. first_real p n i m v at };
   asked = λ m x asked. absurd (never_one asked);
   flies = λ k to m o at brings. absurd (no_place k (record { to = to; msg = o }) at.0);
 }) (λ j e f d entry h. asked_entry p n limit placed j e f d entry h) j f run

@@ -21,6 +21,11 @@ filled_register limit s x i to (msg.Spawn a b c d) = refl
 filled_register limit s x i to (msg.Get a b) = refl
 filled_register limit s x i to (msg.Forward a b) = refl
 filled_register limit s x i to (msg.Put a b c) = refl
+filled_register limit s x i to (msg.PortSend a b c) = refl
+filled_register limit s x i to (msg.PortEnd a b c d) = refl
+filled_register limit s x i to (msg.CellMake a b c) = refl
+filled_register limit s x i to (msg.CellAsk a b c d e) = refl
+filled_register limit s x i to (msg.CellOld a b c) = refl
 
 filled_binding : (limit : ℕ) (s : Store) (x : VarName) (i to : ℕ) (m : Msg) → is_binding x i (with_own_bundle limit s (record { to = to; msg = m })) ≡ is_binding x i (record { to = to; msg = m })
 filled_binding limit s x i to (msg.Register y k) = refl
@@ -30,6 +35,11 @@ filled_binding limit s x i to (msg.Spawn a b c d) = refl
 filled_binding limit s x i to (msg.Get a b) = refl
 filled_binding limit s x i to (msg.Forward a b) = refl
 filled_binding limit s x i to (msg.Put a b c) = refl
+filled_binding limit s x i to (msg.PortSend a b c) = refl
+filled_binding limit s x i to (msg.PortEnd a b c d) = refl
+filled_binding limit s x i to (msg.CellMake a b c) = refl
+filled_binding limit s x i to (msg.CellAsk a b c d e) = refl
+filled_binding limit s x i to (msg.CellOld a b c) = refl
 
 filled_registers : (limit : ℕ) (s : Store) (ms : List Sent) (x : VarName) (i : ℕ) → register_count x i (with_own_bundles limit s ms) ≡ register_count x i ms
 filled_registers limit s [] x i = refl

@@ -23,14 +23,16 @@ use Rattle.token_chain.specs.Mail as token
 use Rattle.token_chain.specs.Chain.{IsChain, IsDue}
 use Rattle.token_chain.proofs.ChangeLemmas.{on_used, due_at}
 use Rattle.token_chain.proofs.ListLemmas.{last_on, next_on, before_on, next_differs}
-use Rattle.site_model.specs.Site.{Site, cell_record_in, cell_record, last_asker}
+use Rattle.site_model.specs.Site.{Site, Threads, cell_record_in, cell_record, last_asker}
 use Rattle.site_model.specs.Fit.{CanRequest}
 use Rattle.site_model.specs.Run.{WorldRun}
 use Rattle.world_model.specs.World.{Sites, cell_records, managers, world_of}
-use Rattle.world_model.specs.Chain.{held_in, messages, HasChain}
+use Rattle.world_model.specs.Chain.{held_in, messages, mobile_cells, HasChain}
 use Rattle.world_model.specs.Matches.{CellsMatch}
+use Rattle.world_model.specs.Shown.{shown_world}
 use Rattle.world_model.proofs.PutLemmas.{nat_decides}
-use Rattle.world_messages.specs.Unfit.{TakesCells, SitesCells}
+use Rattle.world_messages.specs.Unfit.{IsLetter, TakesCells, SitesCells}
+use Rattle.oz_model.proofs.KindLemmas.{cell_same}
 use Rattle.world_messages.proofs.UnfitLemmas.{travels_counted, outside, goes_home, own_number}
 use Rattle.token_chain.proofs.FitLemmas.{used_of}
 
@@ -40,7 +42,8 @@ not_zero k h e = omega (arith, h, e)
 asked_not : Asked ≡ Away → ⊥
 asked_not e = cc
 
-module _ (p : List Stmt) (n limit : ℕ) (j : List Turn) (f : Sites) (run : WorldRun p n limit j f) (s : State) (cells : CellsMatch (world_of j f) s) where
+module _ (p : List Stmt) (n limit : ℕ) (j : List Turn) (f : Sites) (run : WorldRun p n limit j f) (waiting : Threads) (s : State) (cells : CellsMatch (shown_world (world_of j f) waiting) s)
+    (letters : (k : ℕ) (m : Sent) → IsTravelling j k m → IsLetter m.msg → TakesCells (f m.to) m.msg × SitesCells n (f m.to) m.msg) where
   at_of : CellName → ℕ → Holding
   at_of c i = held_in (cell_records f) c i
 
@@ -52,9 +55,9 @@ module _ (p : List Stmt) (n limit : ℕ) (j : List Turn) (f : Sites) (run : Worl
   Chained c m = (v : VarName) × (last : ℕ) × (hs : List ℕ) × (lookup (equal_cell c) (f c.site).managers ≡ Some last) × IsChain last (held_in (cell_records f) c) (on_way c (messages (travelling j))) hs v × IsDue (held_in (cell_records f) c) hs v m
 
   chained : (c : CellName) (m : token.Mail) → 1 ≤ on_way c (messages (travelling j)) m → Chained c m
-  chained c m some = go (value_of equal_cell s.cells c) refl
+  chained c m some = go (value_of equal_cell (mobile_cells s.cells) c) refl
     where
-      go : (o : Option VarName) → value_of equal_cell s.cells c ≡ o → Chained c m
+      go : (o : Option VarName) → value_of equal_cell (mobile_cells s.cells) c ≡ o → Chained c m
       go None q = absurd (not_zero _ some ((cells.cells.others c q).quiet m))
       go (Some v) q = by (cells.cells.chains c v q)
         where
@@ -72,7 +75,7 @@ module _ (p : List Stmt) (n limit : ℕ) (j : List Turn) (f : Sites) (run : Worl
   counted k to o c m at e = travels_counted (λ (q : Sent). is_mail c m q.to q.msg) (travelling j) (k, record { to = to; msg = o }) ((travelling_tells j k (record { to = to; msg = o })).1 at) e
 
   same_self : (c : CellName) → equal_cell c c ≡ true
-  same_self c = rw ((nat_decides c.site c.site).1 refl, (nat_decides c.num c.num).1 refl) refl
+  same_self c = cell_same c
 
   ready : (c : CellName) (i : ℕ) → (held_in (cell_records f) c i).token ≢ Away → (held_in (cell_records f) c i).next ≡ None → CanFollow (cell_record (f i) c).held
   ready c i used free = (free, used_of (cell_record (f i) c).held.token used)
@@ -140,3 +143,8 @@ module _ (p : List Stmt) (n limit : ℕ) (j : List Turn) (f : Sites) (run : Worl
       go (msg.Register a b) at = (tt, tt)
       go (msg.BindReq a b c d) at = (tt, tt)
       go (msg.Binding a b c) at = (tt, tt)
+      go (msg.PortSend q o a) at = letters k (record { to = m.to; msg = msg.PortSend q o a }) at tt
+      go (msg.PortEnd o old new bundle) at = letters k (record { to = m.to; msg = msg.PortEnd o old new bundle }) at tt
+      go (msg.CellMake c v bundle) at = letters k (record { to = m.to; msg = msg.CellMake c v bundle }) at tt
+      go (msg.CellAsk c o a v bundle) at = letters k (record { to = m.to; msg = msg.CellAsk c o a v bundle }) at tt
+      go (msg.CellOld o v bundle) at = letters k (record { to = m.to; msg = msg.CellOld o v bundle }) at tt

@@ -66,8 +66,8 @@ Numbers r = (i : ℕ) → (r i).site ≡ i
 abbrev CountedIn : List Turn → Sites → Type 0
 CountedIn j f = Numbers (records f) × AreCounted (records f) (messages (travelling j)) (sent_of j)
 
-counted_start : (p : List Stmt) → CountedIn [] (initial_site p)
-counted_start p = (λ i. refl, record { once = λ i x. omega arith; way = λ i x. omega arith })
+counted_start : (p : List Stmt) (n : ℕ) → CountedIn [] (initial_site p n)
+counted_start p n = (λ i. refl, record { once = λ i x. omega arith; way = λ i x. omega arith })
 
 module _ (p : List Stmt) (n limit : ℕ) where
   records_after : (f : Sites) (i : ℕ) (s : Site) → ◌≡◌ {A = ℕ → Records} (records (put f i s)) (at_put (records f) i s.records)
@@ -114,7 +114,7 @@ module _ (p : List Stmt) (n limit : ℕ) where
       now = counted_fewer (at_put (records f) e.site d.site.records) (messages (left_over e j) ++ e.sent) (messages (travelling (e ∷ j))) (sent_of (e ∷ j)) (λ i x. travel_after (is_register x i) j e) said
 
   pub counted_in : (j : List Turn) (f : Sites) → WorldRun p n limit j f → CountedIn j f
-  counted_in j f run = every_run p n limit CountedIn (counted_start p) counted_entry j f run
+  counted_in j f run = every_run p n limit CountedIn (counted_start p n) counted_entry j f run
 
 -- ---- what follows
 

@@ -3,6 +3,7 @@ use Rattle.std.proofs.Common.{◌≡◌, ◌∙◌, sym, ap, refl, subst, ℕ, L
 use Rattle.std.specs.Prelude.{Option, ◌==◌, ◌&&◌, option_to_list}
 use Rattle.tree_node.specs.declared.names.VarName.{VarName}
 use Rattle.tree_node.specs.declared.names.CellName.{CellName}
+use Rattle.tree_node.specs.declared.names.PortName.{PortName}
 use Rattle.tree_node.specs.declared.names.ThreadName.{ThreadName}
 use Rattle.tree_node.specs.declared.names.CodeId.{CodeId}
 use Rattle.tree_node.specs.declared.names.Name.{Name}
@@ -18,11 +19,12 @@ use Rattle.site_message.specs.declared.message.Msg.{Msg}
 use Rattle.site_message.specs.declared.message.Msg.TheVariants as msg
 use Rattle.site_message.specs.declared.message.Sent.{Sent}
 use Rattle.oz_model.specs.Need.{Need, Waits, WaitsAny, Binds, Takes, stack_need}
-use Rattle.oz_model.specs.Effect.{Birth, CellChange, Stays, Made, Exchanged, Effect, vars_among}
+use Rattle.oz_model.specs.Effect.{Birth, Effect, vars_among}
 use Rattle.bind_protocol.specs.Records.{Records, is_own, knowledge}
 use Rattle.bind_protocol.specs.Rows.{sent_message, request, after_make, after_meet, meet_sends, after_ask, ask_sends, after_meets, meets_send}
 use Rattle.bind_protocol.proofs.ListLemmas.{one}
-use Rattle.site_model.specs.Site.{Site, ThreadState, thread_state, cell_record}
+use Rattle.site_model.specs.Requests.{Answer, NewEnd, OldContent, answer_row, next_var, port_send_row, cell_ask_row, serve_request, serve_early}
+use Rattle.site_model.specs.Site.{Site, ThreadState, EarlyRequest, thread_state, cell_record, home_record}
 use Rattle.site_model.specs.Bundle.{with_own_bundle, message_bundle, message_vars}
 use Rattle.site_model.specs.Transition.{Transition, without_output, with_messages}
 use Rattle.site_model.specs.Variables.{after_makes, with_new_equation, with_known_equation, with_known_equations, own_bind, own_binds, opening}
@@ -30,7 +32,7 @@ use Rattle.site_model.specs.Cells.{leave_row, forward_row, get_row, serving, put
 use Rattle.token_chain.specs.Mail as token
 use Rattle.world_model.proofs.CellLemmas.{letters, request_only}
 use Rattle.site_model.specs.Messages.{with_thread, bind_request_row, message_row, reception}
-use Rattle.site_model.specs.Unit.{next_names, with_fresh_names, birth_row, placement, step_row, after_effect, thread_step, fresh_names, effect_here, step_pick, bind_attempt, IsStepOrRequest, IsUnitFor, IsUnit}
+use Rattle.site_model.specs.Unit.{next_names, with_fresh_names, birth_row, placement, step_row, after_effect, thread_step, kept_step, kept_step_row, kept_stack, with_stack, fresh_names, effect_here, step_pick, bind_attempt, IsUnitFor, IsUnit}
 use Rattle.site_model.specs.Fit.{IsFit}
 use Rattle.site_model.specs.Turn.{IsReception, AreUnits, SiteTurn}
 use Rattle.world_model.proofs.PutLemmas.{nat_decides}
@@ -39,6 +41,8 @@ use Rattle.bind_protocol.proofs.RowCountLemmas.{others_count, unused_counts, mak
 use Rattle.bind_protocol.proofs.GoOnLemmas.{counts_join}
 use Rattle.world_messages.proofs.BundleCounts.{counts_filled}
 use Rattle.world_messages.proofs.AddsLemmas.{effect_lefts, fresh_own}
+use Rattle.world_messages.proofs.HomeRowLemmas.{Rest, kept_before, kept_apart, kept_site, tell_each, answer_rest, serve_rest, serve_each, early_rest, early_each}
+use Rattle.world_messages.proofs.WayLemmas.{Way, Steps, Opens, Sends, Makes, Exchanges, AsksToken, AsksPort, AsksHome, WaitsEarly, WaitsPort, way_of}
 use Rattle.site_model.proofs.FrameLemmas.{cell_keeps_records}
 
 -- the counts go on
@@ -211,19 +215,34 @@ bind_tally p n limit th st u t s = go (u.site == s.records.site) refl
     go true q = step_with_tally p n limit th st [] [] (Some (u, t)) s tt ((nat_decides u.site s.records.site).0 q, tt)
     go false q = quiet s.records _ (request_neither limit s.equations u t th, tt)
 
-either_tally : (p : List Stmt) (limit : ℕ) (th : ThreadName) (st : Stack) (s : Site) (step : Transition) (c : CellChange) (d : Transition) → Counts s [] step → IsStepOrRequest limit th st s step c d → Counts s [] d
-either_tally p limit th st s step (Exchanged c new told) d k (inl h) = subst (λ (e : Transition). Counts s [] e) (sym h.1) k
-either_tally p limit th st s step (Exchanged c new told) d k (inr h) = subst (λ (e : Transition). Counts s [] e) (sym h.1) (asks_tally limit c new th st s)
-either_tally p limit th st s step Stays d k h = subst (λ (e : Transition). Counts s [] e) (sym h) k
-either_tally p limit th st s step (Made c v) d k h = subst (λ (e : Transition). Counts s [] e) (sym h) k
+-- what a step on a port or on a stationary cell makes is counted, and it sends nothing on variables
+kept_tally : (limit : ℕ) (k : Pick) (kinds : List NameKind) (e : Effect) (s : Site) → Counts s [] (kept_step_row limit k kinds e s)
+kept_tally limit k kinds e s =
+    subst (λ (b : Records). Tallies s.records b [] (kept_step_row limit k kinds e s).sent) (sym (ap (λ (t : Site). t.records) (kept_site limit k kinds e s) ∙ (kept_apart kinds e s).rest.records))
+    (tallies_on s.records (with_fresh_names kinds s).records (with_fresh_names kinds s).records [] [] [] _ (makes_tally (vars_among (next_names s.records.site s.counters kinds)) s.records)
+    (quiet (with_fresh_names kinds s).records _ (tell_each IsNeither limit e.cell (with_stack k.thread (kept_stack s e) (kept_before kinds e s)) (λ b v is other i x. (refl, refl)))))
+
+way_tally : (limit : ℕ) (th : ThreadName) (st : Stack) (s : Site) (step kept : Transition) (e : Effect) (d : Transition) → Counts s [] step → Counts s [] kept → Way limit th st s step kept e d → Counts s [] d
+way_tally limit th st s step kept e d k g (Steps finds same) = subst (λ (t : Transition). Counts s [] t) (sym same) k
+way_tally limit th st s step kept e d k g (Opens q end is same) = subst (λ (t : Transition). Counts s [] t) (sym same) g
+way_tally limit th st s step kept e d k g (Sends q value new end is has same) = subst (λ (t : Transition). Counts s [] t) (sym same) g
+way_tally limit th st s step kept e d k g (Makes c v keeps is same) = subst (λ (t : Transition). Counts s [] t) (sym same) g
+way_tally limit th st s step kept e d k g (Exchanges c new told v keeps is has same) = subst (λ (t : Transition). Counts s [] t) (sym same) g
+way_tally limit th st s step kept e d k g (AsksToken c new none same) = subst (λ (t : Transition). Counts s [] t) (sym same) (asks_tally limit c new th st s)
+way_tally limit th st s step kept e d k g (AsksPort q other same) = subst (λ (t : Transition). Counts s [] t) (sym same) (quiet s.records _ (λ i x. (refl, refl), tt))
+way_tally limit th st s step kept e d k g (AsksHome c new told is other same) = subst (λ (t : Transition). Counts s [] t) (sym same) (quiet s.records _ (λ i x. (refl, refl), tt))
+way_tally limit th st s step kept e d k g (WaitsEarly c new told is same) = subst (λ (t : Transition). Counts s [] t) (sym same) (quiet s.records [] tt)
+way_tally limit th st s step kept e d k g (WaitsPort q same) = subst (λ (t : Transition). Counts s [] t) (sym same) (quiet s.records [] tt)
 
 need_tally : (p : List Stmt) (n limit : ℕ) (s : Site) (th : ThreadName) (st : Stack) (need : Need) (d : Transition) → IsUnitFor p n limit s th st need d → Counts s [] d
 need_tally p n limit s th st (Waits x) d h = subst (λ (e : Transition). Counts s [] e) (sym h.2) (quiet s.records [] tt)
 need_tally p n limit s th st (WaitsAny q) d h = subst (λ (e : Transition). Counts s [] e) (sym h.2) (quiet s.records [] tt)
 need_tally p n limit s th st (Binds a b) d h = subst (λ (e : Transition). Counts s [] e) (sym h.3) (bind_tally p n limit th st h.0 h.1 s)
 need_tally p n limit s th st (Takes kinds) d h =
-    either_tally p limit th st s (thread_step p n limit th st kinds (fresh_names s kinds) None s) (effect_here p s (fresh_names s kinds) None st).cell d
-    (step_with_tally p n limit th st kinds (fresh_names s kinds) None s (fresh_own s.records.site s.counters kinds) tt) h
+    way_tally limit th st s (thread_step p n limit th st kinds (fresh_names s kinds) None s) (kept_step p limit th st kinds (fresh_names s kinds) s) (effect_here p s (fresh_names s kinds) None st) d
+    (step_with_tally p n limit th st kinds (fresh_names s kinds) None s (fresh_own s.records.site s.counters kinds) tt)
+    (kept_tally limit (step_pick th (fresh_names s kinds) None) kinds (effect_here p s (fresh_names s kinds) None st) s)
+    (way_of limit th st s (thread_step p n limit th st kinds (fresh_names s kinds) None s) (kept_step p limit th st kinds (fresh_names s kinds) s) (effect_here p s (fresh_names s kinds) None st) d h)
 
 pub unit_tally : (p : List Stmt) (n limit : ℕ) (th : ThreadName) (s : Site) (d : Transition) → IsUnit p n limit th s d → Counts s [] d
 unit_tally p n limit th s d h = need_tally p n limit s th h.0 (stack_need p s.equations h.0) d h.2
@@ -243,6 +262,25 @@ asked_tally limit x t n s own = go (knowledge s.records x) refl
     go None q = rw q (quiet s.records [] tt)
     go (Some None) q = rw q (binds_tally limit x t s own)
     go (Some (Some r)) q = rw q (quiet s.records [] tt)
+
+rest_tally : (s : Site) (d : Transition) → Rest s d.site → Each IsNeither d.sent → Counts s [] d
+rest_tally s d h g = subst (λ (b : Records). Tallies s.records b [] d.sent) (sym h.records) (quiet s.records d.sent g)
+
+sent_tally : (limit : ℕ) (q : PortName) (th : ThreadName) (k : ℕ) (s : Site) → Counts s [] (port_send_row limit q th k s)
+sent_tally limit q th k s = tallies_on s.records (after_makes s.records (next_var s ∷ [])) (after_makes s.records (next_var s ∷ [])) [] [] [] _ (makes_tally (next_var s ∷ []) s.records) (quiet (after_makes s.records (next_var s ∷ [])) _ (λ i x. (refl, refl), tt))
+
+answer_tally : (p : List Stmt) (th : ThreadName) (a : Answer) (s : Site) → Counts s [] (answer_row p th a s)
+answer_tally p th a s = rest_tally s (answer_row p th a s) (answer_rest p th a s) tt
+
+early_tally : (p : List Stmt) (limit : ℕ) (c : CellName) (rs : List EarlyRequest) (v : VarName) (s : Site) → Counts s [] (serve_early p limit c v rs s)
+early_tally p limit c rs v s = rest_tally s (serve_early p limit c v rs s) (early_rest p limit c rs v s) (early_each p limit c IsNeither rs v s (λ e to n u i x. (refl, refl)))
+
+ask_tally : (p : List Stmt) (limit : ℕ) (c : CellName) (r : EarlyRequest) (s : Site) → Counts s [] (cell_ask_row p limit c r s)
+ask_tally p limit c r s = go (home_record s c).content refl
+  where
+    go : (o : Option VarName) → (home_record s c).content ≡ o → Counts s [] (cell_ask_row p limit c r s)
+    go None q = rw q (quiet s.records [] tt)
+    go (Some v) q = rw q (rest_tally s (serve_request p limit c r v s) (serve_rest p limit c r v s) (serve_each p limit c IsNeither r v s (λ e to n u i x. (refl, refl))))
 
 -- what is in hand, at the site
 abbrev pub in_hand : Site → Msg → Sent
@@ -266,6 +304,11 @@ takes_tally p limit (msg.Binding x t bundle) s h = record {
 takes_tally p limit (msg.Get c k) s h = unused s.records _ _ _ (get_tally limit c k s)
 takes_tally p limit (msg.Forward c k) s h = unused s.records _ _ _ (forward_tally limit c k s)
 takes_tally p limit (msg.Put c v bundle) s h = unused s.records _ _ _ (put_tally p limit c v s)
+takes_tally p limit (msg.PortSend q th k) s h = unused s.records _ _ _ (sent_tally limit q th k s)
+takes_tally p limit (msg.PortEnd th old new bundle) s h = unused s.records _ _ _ (answer_tally p th (NewEnd old new) s)
+takes_tally p limit (msg.CellMake c v bundle) s h = unused s.records _ _ _ (early_tally p limit c (home_record s c).early v s)
+takes_tally p limit (msg.CellAsk c th k v bundle) s h = unused s.records _ _ _ (ask_tally p limit c (record { thread = th; asking = k; new = v }) s)
+takes_tally p limit (msg.CellOld th v bundle) s h = unused s.records _ _ _ (answer_tally p th (OldContent v) s)
 
 placed : (p : List Stmt) (n : ℕ) (s t : Site) (m : Msg) → t.records.site ≡ s.records.site → IsFit p n s m → IsPlaced t m
 placed p n s t (msg.Register x k) e fit = fit.takes.0 ∙ sym e
@@ -275,6 +318,11 @@ placed p n s t (msg.Binding a b c) e fit = tt
 placed p n s t (msg.Get a b) e fit = tt
 placed p n s t (msg.Forward a b) e fit = tt
 placed p n s t (msg.Put a b c) e fit = tt
+placed p n s t (msg.PortSend a b c) e fit = tt
+placed p n s t (msg.PortEnd a b c d) e fit = tt
+placed p n s t (msg.CellMake a b c) e fit = tt
+placed p n s t (msg.CellAsk a b c d f) e fit = tt
+placed p n s t (msg.CellOld a b c) e fit = tt
 
 pub receives_tally : (p : List Stmt) (n limit : ℕ) (m : Msg) (s : Site) → IsFit p n s m → Counts s (in_hand s m ∷ []) (reception p limit m s)
 receives_tally p n limit m s fit = record {

@@ -1,5 +1,5 @@
 -- The effects of steps of fitting threads fit.
-use Rattle.std.proofs.Common.{◌≡◌, ◌∙◌, sym, ap, refl, subst, ℕ, zero, suc, List, [], ◌∷◌, ◌++◌, map, length, Bool, true, false, cond, Some, None}
+use Rattle.std.proofs.Common.{arith, ◌≡◌, sym, refl, subst, ℕ, zero, suc, List, [], ◌∷◌, ◌++◌, map, length, Bool, true, false, cond, Some, None}
 use Rattle.std.specs.Prelude.{Option, Contains, take, option_to_list}
 use Rattle.tree_node.specs.declared.names.VarName.{VarName}
 use Rattle.tree_node.specs.declared.names.Name.{Name}
@@ -8,6 +8,7 @@ use Rattle.tree_node.specs.declared.node.Term.{Term}
 use Rattle.tree_node.specs.Assoc.{value_of}
 use Rattle.tree_node.specs.Each.{Each}
 use Rattle.tree_node.specs.Goal.{IsAllowedBind}
+use Rattle.tree_node.specs.Names.{EachOfEquation}
 use Rattle.tree_node.specs.State.{Stack}
 use Rattle.tree_node.specs.Store.{Store, Equation, equal_var}
 use Rattle.tree_node.proofs.ClassLemmas.{same_name_decides, Contains-head, Contains-tail}
@@ -15,30 +16,34 @@ use Rattle.kernel_syntax.specs.declared.stmt.Stmt.{Stmt}
 use Rattle.kernel_syntax.specs.Program.{IsProgram}
 use Rattle.oz_model.specs.Need.{Need, Binds, Takes, stack_need, kinds_of}
 use Rattle.oz_model.specs.Effect.{Effect, with_equations, stack_effect, vars_among}
-use Rattle.oz_model.specs.Step.{IsBindFor, kind_of}
+use Rattle.oz_model.specs.Step.{AreOfKinds, IsBindFor}
 use Rattle.oz_model.specs.WellFormed.{IsNode, IsNodeOf, AreNodesOf, EffectHas}
+use Rattle.oz_model.specs.EffectNames.{EachOfEffect}
+use Rattle.oz_model.proofs.EffectNames.{stack_effect_names}
 use Rattle.oz_model.proofs.ThreadLemmas.{effects_have_nodes}
 use Rattle.thread_machine.specs.Fits.{EquationsFit}
 use Rattle.thread_machine.specs.Effects.{EffectFits}
 use Rattle.thread_machine.proofs.KeepLemmas.{stack_effect_fits, stack_bound}
 use Rattle.site_model.proofs.EffectLemmas.{bind_effect as effect_of_bind}
 use Rattle.site_model.specs.Bundle.{known_equations, distinct_vars, reachable_vars, reachable_equations, insert_ascending, ascending, bundle_from, is_below}
-use Rattle.world_messages.specs.Fitting.{ThreadFits}
+use Rattle.world_messages.specs.Fitting.{HasHomeIn, ThreadFits}
 use Rattle.world_messages.proofs.TermLemmas.{IsFitFor}
 use Rattle.tree_node.proofs.OrderLemmas.{Each-member}
 
 -- ---- effects
 
-pub record EffectIsFit (p : List Stmt) (known : List VarName) (e : Effect) : Type 0 where
+pub record EffectIsFit (p : List Stmt) (n : ℕ) (known : List VarName) (e : Effect) : Type 0 where
   pub fits : EffectFits p known e
   pub nodes : Each (λ (q : Equation). IsNodeOf (IsNode p) q.1) e.adds × Each (AreNodesOf (IsNode p)) e.stack
+  pub homes : EachOfEffect (HasHomeIn n) e
 
 -- a step that takes names, which are known then
-pub step_is_fit : (p : List Stmt) (known : List VarName) (s : Store) (st : Stack) (kinds : List NameKind) (fresh : List Name) → IsProgram p → ThreadFits p known st → EquationsFit p known s → Each (λ (e : Equation). IsNodeOf (IsNode p) e.1) s →
-    stack_need p s st ≡ Takes kinds → map kind_of fresh ≡ kinds → Each (λ (x : VarName). Contains known x) (vars_among fresh) → EffectIsFit p known (stack_effect p s fresh None st)
-step_is_fit p known s st kinds fresh is h eqs nodes need of_kinds named = record {
-  fits = stack_effect_fits p known s st fresh None (record { names = tt; terms = tt }) is h.some h.stack eqs named (of_kinds ∙ sym (ap kinds_of need));
+pub step_is_fit : (p : List Stmt) (n : ℕ) (known : List VarName) (s : Store) (st : Stack) (kinds : List NameKind) (fresh : List Name) → IsProgram p → ThreadFits p n known st → EquationsFit p known s → Each (λ (e : Equation). IsNodeOf (IsNode p) e.1) s → Each (EachOfEquation (HasHomeIn n)) s →
+    stack_need p s st ≡ Takes kinds → AreOfKinds fresh kinds → Each (λ (x : VarName). Contains known x) (vars_among fresh) → Each (HasHomeIn n) fresh → EffectIsFit p n known (stack_effect p s fresh None st)
+step_is_fit p n known s st kinds fresh is h eqs nodes homes need of_kinds named placed = record {
+  fits = stack_effect_fits p known s st fresh None (record { names = tt; terms = tt }) is h.some h.stack eqs named (subst (λ (d : Need). AreOfKinds fresh (kinds_of d)) (sym need) of_kinds);
   nodes = (has.adds, has.stack);
+  homes = stack_effect_names (HasHomeIn n) (omega arith) p s fresh None st homes h.homes placed (subst (λ (d : Need). AreOfKinds fresh (kinds_of d)) (sym need) of_kinds) (subst (λ (d : Need). IsBindFor s d None) (sym need) tt);
 }
   where
     has : EffectHas (IsNode p) (stack_effect p s fresh None st)
@@ -53,19 +58,23 @@ bind_of u t st = with_equations ((u, t) ∷ []) st
 pub bind_effect : (p : List Stmt) (s : Store) (st : Stack) (a b : Term) (u : VarName) (t : Term) → stack_need p s st ≡ Binds a b → stack_effect p s [] (Some (u, t)) st ≡ bind_of u t st
 bind_effect p s st a b u t need = effect_of_bind p s st a b (u, t) need
 
-pub bind_is_fit : (p : List Stmt) (known : List VarName) (s : Store) (st : Stack) (a b : Term) (u : VarName) (t : Term) → IsProgram p → ThreadFits p known st → EquationsFit p known s → Each (λ (e : Equation). IsNodeOf (IsNode p) e.1) s →
-    stack_need p s st ≡ Binds a b → IsAllowedBind s a b (u, t) → IsFitFor p known u t
-bind_is_fit p known s st a b u t is h eqs nodes need allows =
+pub bind_is_fit : (p : List Stmt) (n : ℕ) (known : List VarName) (s : Store) (st : Stack) (a b : Term) (u : VarName) (t : Term) → IsProgram p → ThreadFits p n known st → EquationsFit p known s → Each (λ (e : Equation). IsNodeOf (IsNode p) e.1) s → Each (EachOfEquation (HasHomeIn n)) s →
+    stack_need p s st ≡ Binds a b → IsAllowedBind s a b (u, t) → IsFitFor p n known u t
+bind_is_fit p n known s st a b u t is h eqs nodes homes need allows =
     let f = stack_bound p known s st a b u t h.stack eqs need allows in
-    (f.0, f.1, f.2, (subst (λ (e : Effect). Each (λ (q : Equation). IsNodeOf (IsNode p) q.1) e.adds) (bind_effect p s st a b u t need) has.adds).0)
+    (f.0, f.1, f.2, (subst (λ (e : Effect). Each (λ (q : Equation). IsNodeOf (IsNode p) q.1) e.adds) (bind_effect p s st a b u t need) has.adds).0, (subst (EachOfEffect (HasHomeIn n)) (bind_effect p s st a b u t need) placed).adds.0.1)
   where
     has : EffectHas (IsNode p) (stack_effect p s [] (Some (u, t)) st)
     has = effects_have_nodes p s st [] (Some (u, t)) is.stmts nodes h.nodes (subst (λ (d : Need). IsBindFor s d (Some (u, t))) (sym need) allows)
 
-pub bound_is_fit : (p : List Stmt) (known : List VarName) (u : VarName) (t : Term) (st : Stack) → ThreadFits p known st → IsFitFor p known u t → EffectIsFit p known (bind_of u t st)
-bound_is_fit p known u t st h f = record {
-  fits = record { adds = record { names = ((f.0, f.1), tt); terms = (f.2, tt) }; stack = h.stack; born = tt; cell = tt };
+    placed : EachOfEffect (HasHomeIn n) (stack_effect p s [] (Some (u, t)) st)
+    placed = stack_effect_names (HasHomeIn n) (omega arith) p s [] (Some (u, t)) st homes h.homes tt (subst (λ (d : Need). AreOfKinds [] (kinds_of d)) (sym need) tt) (subst (λ (d : Need). IsBindFor s d (Some (u, t))) (sym need) allows)
+
+pub bound_is_fit : (p : List Stmt) (n : ℕ) (known : List VarName) (u : VarName) (t : Term) (st : Stack) → ThreadFits p n known st → IsFitFor p n known u t → EffectIsFit p n known (bind_of u t st)
+bound_is_fit p n known u t st h f = record {
+  fits = record { adds = record { names = ((f.0, f.1), tt); terms = (f.2, tt) }; stack = h.stack; born = tt; cell = tt; port = tt };
   nodes = ((f.3, tt), h.nodes);
+  homes = record { adds = ((omega arith, f.4), tt); stack = h.homes; born = tt; cell = tt; port = tt };
 }
 
 -- ---- bundles

@@ -111,7 +111,7 @@ module _ (p : List Stmt) (n limit : ℕ) where
           ap (λ ns. length ns) (threads_in_both (schedule j) e.picks) ∙ length-append (threads_among (fresh_in (schedule j))) (threads_among (fresh_in e.picks)) in
           omega (arith, all, h.2, t.sent, count_append spawns (sent_of j) e.sent)
 
-  scheduled_in : (j : List Turn) (f : Sites) → WorldRun p n limit j f → IsScheduled j f
+  pub scheduled_in : (j : List Turn) (f : Sites) → WorldRun p n limit j f → IsScheduled j f
   scheduled_in j f run = every_run p n limit IsScheduled ((λ i x own low. absurd (never_below x.num low)), first_only, omega arith) scheduled_entry j f run
     where
       only : (i : ℕ) (m : ThreadName) (b : Bool) → (i == 1) ≡ b → m.site ≡ i → m.num < cond b 1 0 → Contains (first_thread ∷ []) m
@@ -126,7 +126,7 @@ module _ (p : List Stmt) (n limit : ℕ) where
               same_names i k m p q = rw (p, q) refl
       only i m false q own low = absurd (never_below m.num low)
 
-      first_only : (i : ℕ) (m : ThreadName) → m.site ≡ i → m.num < (initial_site p i).counters.threads → Contains (first_thread ∷ []) m
+      first_only : (i : ℕ) (m : ThreadName) → m.site ≡ i → m.num < (initial_site p n i).counters.threads → Contains (first_thread ∷ []) m
       first_only i m own low = only i m (i == 1) refl own low
 
 pub spawns_are_few : SpawnsAreFew
@@ -197,6 +197,11 @@ module _ (p : List Stmt) (n limit : ℕ) (j : List Turn) (f : Sites) (is : IsPro
       of_msg to (msg.Get a b) c e = cc
       of_msg to (msg.Forward a b) c e = cc
       of_msg to (msg.Put a b r) c e = cc
+      of_msg to (msg.PortSend a b r) c e = cc
+      of_msg to (msg.PortEnd a b r d) c e = cc
+      of_msg to (msg.CellMake a b r) c e = cc
+      of_msg to (msg.CellAsk a b r d k) c e = cc
+      of_msg to (msg.CellOld a b r) c e = cc
 
       key : (m : Sent) → Contains (sent_of j) m → asks_to_know m ≡ true → (k : VarName × ℕ) × Contains keys k × (is_register k.0 k.1 m ≡ true)
       key m c e = of_msg m.to m.msg c e
@@ -214,6 +219,11 @@ module _ (p : List Stmt) (n limit : ℕ) (j : List Turn) (f : Sites) (is : IsPro
       of_msg to (msg.Get a b) c e = cc
       of_msg to (msg.Forward a b) c e = cc
       of_msg to (msg.Put a b r) c e = cc
+      of_msg to (msg.PortSend a b r) c e = cc
+      of_msg to (msg.PortEnd a b r d) c e = cc
+      of_msg to (msg.CellMake a b r) c e = cc
+      of_msg to (msg.CellAsk a b r d k) c e = cc
+      of_msg to (msg.CellOld a b r) c e = cc
 
       key : (m : Sent) → Contains (sent_of j) m → tells_binding m ≡ true → (k : VarName × ℕ) × Contains keys k × (is_binding k.0 k.1 m ≡ true)
       key m c e = of_msg m.to m.msg c e
@@ -255,6 +265,11 @@ module _ (p : List Stmt) (n limit : ℕ) (j : List Turn) (f : Sites) (is : IsPro
       of_msg to (msg.Get a b) c e = cc
       of_msg to (msg.Forward a b) c e = cc
       of_msg to (msg.Put a b r) c e = cc
+      of_msg to (msg.PortSend a b r) c e = cc
+      of_msg to (msg.PortEnd a b r d) c e = cc
+      of_msg to (msg.CellMake a b r) c e = cc
+      of_msg to (msg.CellAsk a b r d k) c e = cc
+      of_msg to (msg.CellOld a b r) c e = cc
 
       key : (m : Sent) → Contains (sent_of j) m → asks_to_bind m ≡ true → (k : ThreadName × VarName) × Contains asks_keys k × (is_request k.0 k.1 m ≡ true)
       key m c e = of_msg m.to m.msg c e

@@ -221,7 +221,9 @@ counted_cases i c (kind.Var ∷ ks) x own h = go (counted_cases i (counter_after
     go (inl k) = last (split k)
     go (inr k) = inr (Contains-tail _ x (vars_among (next_names i (counter_after c kind.Var) ks)) k)
 counted_cases i c (kind.Cell ∷ ks) x own h = counted_cases i (counter_after c kind.Cell) ks x own h
+counted_cases i c ((kind.CellAt at_home) ∷ ks) x own h = counted_cases i (counter_after c (kind.CellAt at_home)) ks x own h
 counted_cases i c (kind.Proc ∷ ks) x own h = counted_cases i (counter_after c kind.Proc) ks x own h
+counted_cases i c (kind.Port ∷ ks) x own h = counted_cases i (counter_after c kind.Port) ks x own h
 counted_cases i c (kind.Thread ∷ ks) x own h = counted_cases i (counter_after c kind.Thread) ks x own h
 
 -- and those among them are counted
@@ -239,12 +241,16 @@ counted_back i c kinds x h = (all_back i c kinds).1 x h
         by i c ks r x (inl e) = let n : c.vars ≡ x.num = ap (λ (z : VarName). z.num) e in omega (arith, r.0)
         by i c ks r x (inr k) = r.1 x k
     all_back i c (kind.Cell ∷ ks) = all_back i (counter_after c kind.Cell) ks
+    all_back i c ((kind.CellAt at_home) ∷ ks) = all_back i (counter_after c (kind.CellAt at_home)) ks
     all_back i c (kind.Proc ∷ ks) = all_back i (counter_after c kind.Proc) ks
+    all_back i c (kind.Port ∷ ks) = all_back i (counter_after c kind.Port) ks
     all_back i c (kind.Thread ∷ ks) = all_back i (counter_after c kind.Thread) ks
 
 pub counted_more : (i : ℕ) (c : Counters) (kinds : List NameKind) → c.vars ≤ (counters_after c kinds).vars
 counted_more i c [] = omega arith
 counted_more i c (kind.Var ∷ ks) = omega (arith, counted_more i (counter_after c kind.Var) ks)
 counted_more i c (kind.Cell ∷ ks) = counted_more i (counter_after c kind.Cell) ks
+counted_more i c ((kind.CellAt at_home) ∷ ks) = counted_more i (counter_after c (kind.CellAt at_home)) ks
 counted_more i c (kind.Proc ∷ ks) = counted_more i (counter_after c kind.Proc) ks
+counted_more i c (kind.Port ∷ ks) = counted_more i (counter_after c kind.Port) ks
 counted_more i c (kind.Thread ∷ ks) = counted_more i (counter_after c kind.Thread) ks

@@ -9,12 +9,15 @@ pub mod DeedLemmas
 pub mod EffectLemmas
 pub mod FewLemmas
 pub mod FewMessages
-pub mod MessageFitLemmas
+pub mod HomeRowLemmas
+pub mod KeepFitLemmas
 pub mod KnownLemmas
+pub mod MessageFitLemmas
 pub mod OthersLemmas
 pub mod PartLemmas
 pub mod PickLemmas
 pub mod RunLemmas
+pub mod SaidLemmas
 pub mod SentLemmas
 pub mod SiteFitLemmas
 pub mod SpelledLemmas
@@ -22,5 +25,6 @@ pub mod TellsLemmas
 pub mod TermLemmas
 pub mod UnfitLemmas
 pub mod UnitFitLemmas
+pub mod WayLemmas
 pub mod WireLemmas
 pub mod WorldFitLemmas

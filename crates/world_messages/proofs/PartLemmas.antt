@@ -35,6 +35,7 @@ module _ (P : Name → Type 0) where
   term_of (term.Node (node.Rec l fs)) f g = fields_of fs f
   term_of (term.Node (node.Proc q code formals vars)) f g = (g.0, list_of vars f)
   term_of (term.Node (node.Cell c)) f g = g
+  term_of (term.Node (node.Port c)) f g = g
   term_of (term.Node (node.Int i)) f g = tt
   term_of (term.Node (node.Atom t)) f g = tt
 
@@ -59,6 +60,11 @@ module _ (P : Name → Type 0) where
       go (msg.Get c k) f b g = g
       go (msg.Forward c k) f b g = g
       go (msg.Put c v es) f b g = (g.0, f v (Contains-head v []), rows_of es b g.2)
+      go (msg.PortSend q n k) f b g = g
+      go (msg.PortEnd n old new es) f b g = (g.0, f old (Contains-head old (new ∷ [])), f new (Contains-tail old new (new ∷ []) (Contains-head new [])), rows_of es b g.3)
+      go (msg.CellMake c v es) f b g = (g.0, f v (Contains-head v []), rows_of es b g.2)
+      go (msg.CellAsk c n k v es) f b g = (g.0, g.1, f v (Contains-head v []), rows_of es b g.3)
+      go (msg.CellOld n v es) f b g = (g.0, f v (Contains-head v []), rows_of es b g.2)
 
 takes_all : (s : Site) (m : Msg) → TakesVars s m → TakesCells s m → TellsFit s m → CanTake s m
 takes_all s (msg.Spawn a b c d) h g k = k.brings
@@ -68,6 +74,11 @@ takes_all s (msg.Binding x t bundle) h g k = (h.0, k.down.0, h.1)
 takes_all s (msg.Get c i) h g k = g
 takes_all s (msg.Forward c i) h g k = g
 takes_all s (msg.Put a b c) h g k = g
+takes_all s (msg.PortSend a b c) h g k = g
+takes_all s (msg.PortEnd a b c d) h g k = g
+takes_all s (msg.CellMake a b c) h g k = g
+takes_all s (msg.CellAsk a b c d e) h g k = g
+takes_all s (msg.CellOld a b c) h g k = g
 
 -- the bundle is what a message tells, of a Binding all but its own equation
 bundle_of : (s : Site) (m : Msg) → TellsFit s m → BundleFits s (message_bundle m)
@@ -82,6 +93,11 @@ bundle_of s (msg.Binding x t bundle) k = record {
 bundle_of s (msg.Get c i) k = record { down = k.down; same = k.same; own = k.own }
 bundle_of s (msg.Forward c i) k = record { down = k.down; same = k.same; own = k.own }
 bundle_of s (msg.Put a b c) k = record { down = k.down; same = k.same; own = k.own }
+bundle_of s (msg.PortSend a b c) k = record { down = k.down; same = k.same; own = k.own }
+bundle_of s (msg.PortEnd a b c d) k = record { down = k.down; same = k.same; own = k.own }
+bundle_of s (msg.CellMake a b c) k = record { down = k.down; same = k.same; own = k.own }
+bundle_of s (msg.CellAsk a b c d e) k = record { down = k.down; same = k.same; own = k.own }
+bundle_of s (msg.CellOld a b c) k = record { down = k.down; same = k.same; own = k.own }
 
 pub sites_both : (n : ℕ) (s : Site) (m : Msg) → SitesVars n s m → SitesCells n s m → SitesOfMsg (IsOtherSite n s) m
 sites_both n s (msg.Spawn a b c d) h g = tt
@@ -91,6 +107,11 @@ sites_both n s (msg.Binding a b c) h g = tt
 sites_both n s (msg.Get c k) h g = g
 sites_both n s (msg.Forward c k) h g = g
 sites_both n s (msg.Put a b c) h g = tt
+sites_both n s (msg.PortSend q o k) h g = g
+sites_both n s (msg.PortEnd a b c d) h g = tt
+sites_both n s (msg.CellMake a b c) h g = tt
+sites_both n s (msg.CellAsk c o k v bundle) h g = g
+sites_both n s (msg.CellOld a b c) h g = tt
 
 pub parts_are_fit : PartsAreFit
 parts_are_fit p n s m v o k = record {

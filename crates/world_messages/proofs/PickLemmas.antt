@@ -3,12 +3,14 @@ use Rattle.std.proofs.Common.{arith, ◌≡◌, ◌∙◌, sym, ap, refl, subst,
 use Rattle.std.specs.Prelude.{Option, Contains, ◌==◌, is_some, codes}
 use Rattle.tree_node.specs.declared.names.VarName.{VarName}
 use Rattle.tree_node.specs.declared.names.CellName.{CellName}
+use Rattle.tree_node.specs.declared.names.PortName.{PortName}
 use Rattle.tree_node.specs.declared.names.ThreadName.{ThreadName}
 use Rattle.tree_node.specs.declared.names.Name.{Name}
 use Rattle.tree_node.specs.Goal.{Case, case_of}
 use Rattle.tree_node.specs.declared.names.NameKind.{NameKind}
 use Rattle.tree_node.specs.declared.node.Term.{Term}
 use Rattle.tree_node.specs.declared.pick.Pick.{Pick}
+use Rattle.tree_node.specs.Each.{Each}
 use Rattle.tree_node.specs.State.{Stack}
 use Rattle.tree_node.specs.Store.{Store, Equation}
 use Rattle.kernel_syntax.specs.declared.stmt.Stmt.{Stmt}
@@ -21,8 +23,10 @@ use Rattle.bind_protocol.specs.Records.{Records, is_own, knowledge}
 use Rattle.proxy_table.specs.Proxies.{entry_of}
 use Rattle.bind_protocol.specs.Rows.{sent_message, request, register, binding, register_answer, after_meet, meet_sends, meets_send}
 use Rattle.bind_protocol.proofs.ListLemmas.{one, count_cons, count_append}
+use Rattle.thread_roster.specs.declared.mode.Awaited.TheVariants.{Port}
 use Rattle.thread_roster.specs.declared.mode.Mode.TheVariants as mode
-use Rattle.site_model.specs.Site.{Site, Counters, ThreadState, thread_state, cell_record}
+use Rattle.site_model.specs.Requests.{NewEnd, OldContent, with_asking, send_request_row, home_request_row, early_request_row, answer_row, port_send_row, cell_ask_row, cell_make_row, serve_request}
+use Rattle.site_model.specs.Site.{Site, Counters, ThreadState, EarlyRequest, thread_state, cell_record, home_record}
 use Rattle.site_model.specs.Bundle.{with_own_bundle, with_own_bundles, message_bundle, message_vars}
 use Rattle.site_model.specs.Transition.{Transition, without_output, with_messages, and_then, sequence}
 use Rattle.site_model.specs.Variables.{with_known_equations, own_bind, own_binds, opening}
@@ -30,8 +34,8 @@ use Rattle.site_model.specs.Cells.{last_before, leave_row, forward_row, get_row,
 use Rattle.token_chain.specs.Mail as token
 use Rattle.token_chain.specs.Rows.{leave_reply, forward_reply, get_reply, exchange_reply}
 use Rattle.world_model.proofs.CellLemmas.{letters, request_only}
-use Rattle.site_model.specs.Messages.{with_thread, bind_request_row, message_row}
-use Rattle.site_model.specs.Unit.{next_names, with_fresh_names, birth_row, placement, step_row, after_effect, thread_step, fresh_names, effect_here, step_pick, bind_attempt, after_cell, IsStepOrRequest, IsUnitFor, counter_after, counters_after, with_mode}
+use Rattle.site_model.specs.Messages.{with_thread, bind_request_row, message_row, reception}
+use Rattle.site_model.specs.Unit.{next_names, with_fresh_names, birth_row, placement, step_row, after_effect, thread_step, kept_step, kept_step_row, kept_stack, with_stack, fresh_names, effect_here, step_pick, bind_attempt, after_cell, IsUnitFor, counter_after, counters_after, with_mode}
 use Rattle.site_model.specs.Turn.{IsReception, AreUnits, SiteTurn}
 use Rattle.std.specs.List.{count_by}
 use Rattle.tree_node.specs.declared.names.Name.TheVariants as name
@@ -54,8 +58,10 @@ use Rattle.variable_owner.specs.declared.owners.Owner.TheVariants.{Open, Bound}
 use Rattle.tree_node.proofs.ClassLemmas.{Contains-head, Contains-tail}
 use Rattle.world_messages.specs.Messages.{fresh_in, threads_among, spawns}
 use Rattle.world_messages.proofs.KnownLemmas.{counted_cases}
-use Rattle.world_messages.proofs.DeedLemmas.{turn_tally, unit_tally}
+use Rattle.world_messages.proofs.DeedLemmas.{opens_counts, turn_tally, unit_tally}
 use Rattle.world_messages.proofs.EffectLemmas.{bind_effect}
+use Rattle.world_messages.proofs.HomeRowLemmas.{Rest, kept_before, kept_apart, kept_site, kept_picks, tell_each, answer_rest, serve_rest, serve_each, early_rest, early_each}
+use Rattle.world_messages.proofs.WayLemmas.{Way, Steps, Opens, Sends, Makes, Exchanges, AsksToken, AsksPort, AsksHome, WaitsEarly, WaitsPort, way_of}
 use Rattle.site_model.proofs.FrameLemmas.{told_all_counters, told_counters}
 
 abbrev pub spawned : List Sent → ℕ
@@ -72,6 +78,7 @@ vars_append [] ys = refl
 vars_append (name.Var x ∷ xs) ys = ap (λ (ns : List VarName). x ∷ ns) (vars_append xs ys)
 vars_append (name.Cell x ∷ xs) ys = vars_append xs ys
 vars_append (name.Proc x ∷ xs) ys = vars_append xs ys
+vars_append (name.Port x ∷ xs) ys = vars_append xs ys
 vars_append (name.Thread x ∷ xs) ys = vars_append xs ys
 
 threads_append : (xs ys : List Name) → threads_among (xs ++ ys) ≡ threads_among xs ++ threads_among ys
@@ -79,6 +86,7 @@ threads_append [] ys = refl
 threads_append (name.Var x ∷ xs) ys = threads_append xs ys
 threads_append (name.Cell x ∷ xs) ys = threads_append xs ys
 threads_append (name.Proc x ∷ xs) ys = threads_append xs ys
+threads_append (name.Port x ∷ xs) ys = threads_append xs ys
 threads_append (name.Thread x ∷ xs) ys = ap (λ (ns : List ThreadName). x ∷ ns) (threads_append xs ys)
 
 pub vars_in_both : (ks ls : List Pick) → vars_among (fresh_in (ks ++ ls)) ≡ vars_among (fresh_in ks) ++ vars_among (fresh_in ls)
@@ -146,6 +154,25 @@ still_picks i s d h = record {
   sent = omega (arith, h.sent);
 }
 
+none_spawned : (ms : List Sent) → Each (λ (m : Sent). spawns m ≡ false) ms → spawned ms ≡ 0
+none_spawned [] h = refl
+none_spawned (m ∷ ms) h = let e : one (spawns m) ≡ 0 = ap one h.0 in omega (arith, e, none_spawned ms h.1, count_cons spawns m ms)
+
+no_names : (xs : List Name) → xs ++ [] ≡ xs
+no_names [] = refl
+no_names (x ∷ xs) = ap (λ (ns : List Name). x ∷ ns) (no_names xs)
+
+-- no thread is made, and none is sent
+pub record Quiet (s : Site) (d : Transition) : Type 0 where
+  pub threads : d.site.counters.threads ≡ s.counters.threads
+  pub sent : spawned d.sent ≡ 0
+
+pub quiet_still : (s : Site) (d : Transition) → Still s d → Quiet s d
+quiet_still s d h = record { threads = ap (λ (c : Counters). c.threads) h.counters; sent = h.sent }
+
+quiet_then : (s : Site) (d : Transition) (f : Site → Transition) → Quiet s d → Quiet d.site (f d.site) → Quiet s (and_then d f)
+quiet_then s d f h g = record { threads = g.threads ∙ h.threads; sent = omega (arith, count_append spawns d.sent (f d.site).sent, h.sent, g.sent) }
+
 -- threads that are counted after names were made were counted before, or are among them
 threads_cases : (i : ℕ) (c : Counters) (kinds : List NameKind) (m : ThreadName) → m.site ≡ i → m.num < (counters_after c kinds).threads → (m.num < c.threads) ⊎ Contains (threads_among (next_names i c kinds)) m
 threads_cases i c [] m own h = inl h
@@ -166,7 +193,9 @@ threads_cases i c (kind.Thread ∷ ks) m own h = go (threads_cases i (counter_af
     go (inr k) = inr (Contains-tail _ m (threads_among (next_names i (counter_after c kind.Thread) ks)) k)
 threads_cases i c (kind.Var ∷ ks) m own h = threads_cases i (counter_after c kind.Var) ks m own h
 threads_cases i c (kind.Cell ∷ ks) m own h = threads_cases i (counter_after c kind.Cell) ks m own h
+threads_cases i c ((kind.CellAt at_home) ∷ ks) m own h = threads_cases i (counter_after c (kind.CellAt at_home)) ks m own h
 threads_cases i c (kind.Proc ∷ ks) m own h = threads_cases i (counter_after c kind.Proc) ks m own h
+threads_cases i c (kind.Port ∷ ks) m own h = threads_cases i (counter_after c kind.Port) ks m own h
 
 module _ (p : List Stmt) (n limit : ℕ) where
   no_spawns : (s : Store) (x : VarName) (t : Term) (ks : List ℕ) → spawned (with_own_bundles limit s (map (λ (k : ℕ). binding x t k) ks)) ≡ 0
@@ -234,19 +263,52 @@ module _ (p : List Stmt) (n limit : ℕ) where
   answered_still s x k (Some (Open ks)) = refl
   answered_still s x k (Some (Bound t)) = refl
 
-  takes_still : (m : Msg) (s : Site) → Still s (message_row p limit m s)
-  takes_still (msg.Spawn a b c d) s = record { counters = refl; sent = refl }
-  takes_still (msg.Register x k) s = record { counters = refl; sent = answered_still s.equations x k (owner_of s.records.owners x) }
-  takes_still (msg.BindReq x th t bundle) s = asked_still x t th s
-  takes_still (msg.Binding x t bundle) s = record { counters = told_counters s x t; sent = refl }
-  takes_still (msg.Get c k) s = get_still c k s
-  takes_still (msg.Forward c k) s = forward_still c k s
-  takes_still (msg.Put c v bundle) s = still_then s (serving p c (cell_record s c).queue v s) (leave_row limit c) (serves_still c (cell_record s c).queue v s) (leave_still c (serving p c (cell_record s c).queue v s).site)
+  rest_still : (s : Site) (d : Transition) → Rest s d.site → Each (λ (m : Sent). spawns m ≡ false) d.sent → Still s d
+  rest_still s d h g = record { counters = h.counters; sent = none_spawned d.sent g }
 
-  pub heard_still : (m : Option Msg) (s : Site) (d : Transition) → IsReception p n limit m s d → Still s d
-  heard_still None s d h = subst (Still s) (sym h) (still_same s)
-  heard_still (Some m) s d (inl h) = subst (Still s) (sym h.1) (still_then s (opening m s) (message_row p limit m) (opens_still m s) (takes_still m (opening m s).site))
-  heard_still (Some m) s d (inr h) = subst (Still s) (sym h.1) (still_same s)
+  ask_still : (c : CellName) (r : EarlyRequest) (s : Site) → Still s (cell_ask_row p limit c r s)
+  ask_still c r s = go (home_record s c).content refl
+    where
+      go : (o : Option VarName) → (home_record s c).content ≡ o → Still s (cell_ask_row p limit c r s)
+      go None q = rw q (record { counters = refl; sent = refl })
+      go (Some v) q = rw q (rest_still s (serve_request p limit c r v s) (serve_rest p limit c r v s) (serve_each p limit c (λ (m : Sent). spawns m ≡ false) r v s (λ e to n u. refl)))
+
+  -- a port's new end is made
+  end_picks : (q : PortName) (th : ThreadName) (k : ℕ) (s : Site) → PicksOn s.records.site s.counters (port_send_row limit q th k s).site.counters (port_send_row limit q th k s).picks (port_send_row limit q th k s).sent
+  end_picks q th k s = record { vars = λ x own low. counted_cases s.records.site s.counters (kind.Var ∷ []) x own low; threads = λ m own low. inl low; sent = omega arith }
+
+  abbrev Picked : Site → Transition → Type 0
+  Picked s d = PicksOn s.records.site s.counters d.site.counters d.picks d.sent
+
+  both : (s : Site) (d : Transition) → Still s d → Picked s d × Quiet s d
+  both s d h = (still_picks s.records.site s d h, quiet_still s d h)
+
+  takes_both : (m : Msg) (s : Site) → Picked s (message_row p limit m s) × Quiet s (message_row p limit m s)
+  takes_both (msg.Spawn a b c d) s = both s (message_row p limit (msg.Spawn a b c d) s) (record { counters = refl; sent = refl })
+  takes_both (msg.Register x k) s = both s (message_row p limit (msg.Register x k) s) (record { counters = refl; sent = answered_still s.equations x k (owner_of s.records.owners x) })
+  takes_both (msg.BindReq x th t bundle) s = both s _ (asked_still x t th s)
+  takes_both (msg.Binding x t bundle) s = both s (message_row p limit (msg.Binding x t bundle) s) (record { counters = told_counters s x t; sent = refl })
+  takes_both (msg.Get c k) s = both s _ (get_still c k s)
+  takes_both (msg.Forward c k) s = both s _ (forward_still c k s)
+  takes_both (msg.Put c v bundle) s = both s _ (still_then s (serving p c (cell_record s c).queue v s) (leave_row limit c) (serves_still c (cell_record s c).queue v s) (leave_still c (serving p c (cell_record s c).queue v s).site))
+  takes_both (msg.PortSend q th k) s = (end_picks q th k s, record { threads = refl; sent = refl })
+  takes_both (msg.PortEnd th old new bundle) s = both s (answer_row p th (NewEnd old new) s) (rest_still s (answer_row p th (NewEnd old new) s) (answer_rest p th (NewEnd old new) s) tt)
+  takes_both (msg.CellMake c v bundle) s = both s (cell_make_row p limit c v s) (rest_still s (cell_make_row p limit c v s) (early_rest p limit c (home_record s c).early v s) (early_each p limit c (λ (m : Sent). spawns m ≡ false) (home_record s c).early v s (λ e to n u. refl)))
+  takes_both (msg.CellAsk c th k v bundle) s = both s _ (ask_still c (record { thread = th; asking = k; new = v }) s)
+  takes_both (msg.CellOld th v bundle) s = both s (answer_row p th (OldContent v) s) (rest_still s (answer_row p th (OldContent v) s) (answer_rest p th (OldContent v) s) tt)
+
+  heard_picks : (m : Option Msg) (s : Site) (d : Transition) → IsReception p n limit m s d → Picked s d
+  heard_picks None s d h = subst (Picked s) (sym h) (still_picks s.records.site s (without_output s) (still_same s))
+  heard_picks (Some m) s d (inl h) = subst (Picked s) (sym h.1)
+      (picks_then s.records.site s.counters (opening m s).site.counters (reception p limit m s).site.counters [] (message_row p limit m (opening m s).site).picks (opening m s).sent (message_row p limit m (opening m s).site).sent
+      (still_picks s.records.site s (opening m s) (opens_still m s))
+      (subst (λ (i : ℕ). PicksOn i (opening m s).site.counters (message_row p limit m (opening m s).site).site.counters (message_row p limit m (opening m s).site).picks (message_row p limit m (opening m s).site).sent) (opens_counts m s).site (takes_both m (opening m s).site).0))
+  heard_picks (Some m) s d (inr h) = subst (Picked s) (sym h.1) (still_picks s.records.site s (without_output s) (still_same s))
+
+  pub heard_quiet : (m : Option Msg) (s : Site) (d : Transition) → IsReception p n limit m s d → Quiet s d
+  heard_quiet None s d h = subst (Quiet s) (sym h) (quiet_still s (without_output s) (still_same s))
+  heard_quiet (Some m) s d (inl h) = subst (Quiet s) (sym h.1) (quiet_then s (opening m s) (message_row p limit m) (quiet_still s (opening m s) (opens_still m s)) (takes_both m (opening m s).site).1)
+  heard_quiet (Some m) s d (inr h) = subst (Quiet s) (sym h.1) (quiet_still s (without_output s) (still_same s))
 
   -- ---- steps
 
@@ -285,10 +347,6 @@ module _ (p : List Stmt) (n limit : ℕ) where
       names_of : fresh_in (step_row p n limit k kinds e s).picks ≡ k.fresh
       names_of = ap fresh_in (ap (λ (ks : List Pick). ((k ∷ ks) ++ []) ++ (birth_row p n limit e.born (after_effect k.thread e (own_binds limit e.adds (with_fresh_names kinds s)).site)).picks) (no_picks e.adds (with_fresh_names kinds s)) ∙ ap (λ (ks : List Pick). k ∷ ks) (bears_picks e.born (after_effect k.thread e (own_binds limit e.adds (with_fresh_names kinds s)).site))) ∙ no_names k.fresh
         where
-          no_names : (xs : List Name) → xs ++ [] ≡ xs
-          no_names [] = refl
-          no_names (x ∷ xs) = ap (λ (ns : List Name). x ∷ ns) (no_names xs)
-
           no_picks : (es : List Equation) (s : Site) → (own_binds limit es s).picks ≡ []
           no_picks [] s = refl
           no_picks (q ∷ es) s = ap (λ (ks : List Pick). ks ++ []) (no_picks es s)
@@ -310,6 +368,25 @@ module _ (p : List Stmt) (n limit : ℕ) where
       count : spawned (step_row p n limit k kinds e s).sent ≤ length (threads_among (fresh_in (step_row p n limit k kinds e s).picks))
       count = subst (λ (ns : List Name). spawned (step_row p n limit k kinds e s).sent ≤ length (threads_among ns)) (sym names_of)
           (omega (arith, few, born.1, kept.sent, count_append spawns ((own_binds limit e.adds (with_fresh_names kinds s)).sent ++ []) (birth_row p n limit e.born (after_effect k.thread e (own_binds limit e.adds (with_fresh_names kinds s)).site)).sent, count_append spawns (own_binds limit e.adds (with_fresh_names kinds s)).sent []))
+
+  -- the same of a step on a port or on a stationary cell, which sends no thread
+  kept_made : (k : Pick) (kinds : List NameKind) (e : Effect) (s : Site) → k.fresh ≡ next_names s.records.site s.counters kinds → Picked s (kept_step_row limit k kinds e s)
+  kept_made k kinds e s fresh = record { vars = vars; threads = threads; sent = omega (arith, none_spawned (kept_step_row limit k kinds e s).sent none) }
+    where
+      made : (kept_step_row limit k kinds e s).site.counters ≡ (with_fresh_names kinds s).counters
+      made = ap (λ (t : Site). t.counters) (kept_site limit k kinds e s) ∙ (kept_apart kinds e s).rest.counters
+
+      names_of : fresh_in (kept_step_row limit k kinds e s).picks ≡ k.fresh
+      names_of = ap fresh_in (kept_picks limit k kinds e s) ∙ no_names k.fresh
+
+      none : Each (λ (m : Sent). spawns m ≡ false) (kept_step_row limit k kinds e s).sent
+      none = tell_each (λ (m : Sent). spawns m ≡ false) limit e.cell (with_stack k.thread (kept_stack s e) (kept_before kinds e s)) (λ b v is other. refl)
+
+      vars : (x : VarName) → x.site ≡ s.records.site → x.num < (kept_step_row limit k kinds e s).site.counters.vars → (x.num < s.counters.vars) ⊎ Contains (vars_among (fresh_in (kept_step_row limit k kinds e s).picks)) x
+      vars x own low = subst (λ (ns : List Name). (x.num < s.counters.vars) ⊎ Contains (vars_among ns) x) (sym (names_of ∙ fresh)) (counted_cases s.records.site s.counters kinds x own (subst (λ (c : Counters). x.num < c.vars) made low))
+
+      threads : (m : ThreadName) → m.site ≡ s.records.site → m.num < (kept_step_row limit k kinds e s).site.counters.threads → (m.num < s.counters.threads) ⊎ Contains (threads_among (fresh_in (kept_step_row limit k kinds e s).picks)) m
+      threads m own low = subst (λ (ns : List Name). (m.num < s.counters.threads) ⊎ Contains (threads_among ns) m) (sym (names_of ∙ fresh)) (threads_cases s.records.site s.counters kinds m own (subst (λ (c : Counters). m.num < c.threads) made low))
 
   -- a thread is born only with a fresh thread name
   fails_births : (e : SystemException) (rest : Stack) (xs : List VarName) → births (exception_effect e rest xs).born ≡ 0
@@ -333,7 +410,9 @@ module _ (p : List Stmt) (n limit : ℕ) where
   outcome_births i c env rest fresh (outcome.Tells x t) kinds e = omega arith
   outcome_births i c env rest fresh (outcome.Declares first count body) kinds e = omega arith
   outcome_births i c env rest fresh (outcome.MakesProc left code formals vars) kinds e = omega arith
-  outcome_births i c env rest fresh (outcome.MakesCell content told) kinds e = omega arith
+  outcome_births i c env rest fresh (outcome.MakesCell at content told) kinds e = omega arith
+  outcome_births i c env rest fresh (outcome.MakesPort stream told) kinds e = omega arith
+  outcome_births i c env rest fresh (outcome.Sends port value) kinds e = omega arith
   outcome_births i c env rest fresh (outcome.Exchanges cell new told) kinds e = omega arith
   outcome_births i c env rest fresh (outcome.Tries body body_env handler first handler_env) kinds e = omega arith
   outcome_births i c env rest fresh (outcome.Raises x) kinds e = omega arith
@@ -358,36 +437,41 @@ module _ (p : List Stmt) (n limit : ℕ) where
 
   -- ---- units
 
-  abbrev DoesPicks : Site → Transition → Type 0
-  DoesPicks s d = PicksOn s.records.site s.counters d.site.counters d.picks d.sent
+  way_picks : (th : ThreadName) (st : Stack) (s : Site) (step kept : Transition) (e : Effect) (d : Transition) → Picked s step → Picked s kept → Way limit th st s step kept e d → Picked s d
+  way_picks th st s step kept e d k g (Steps finds same) = subst (Picked s) (sym same) k
+  way_picks th st s step kept e d k g (Opens q end is same) = subst (Picked s) (sym same) g
+  way_picks th st s step kept e d k g (Sends q value new end is has same) = subst (Picked s) (sym same) g
+  way_picks th st s step kept e d k g (Makes c v keeps is same) = subst (Picked s) (sym same) g
+  way_picks th st s step kept e d k g (Exchanges c new told v keeps is has same) = subst (Picked s) (sym same) g
+  way_picks th st s step kept e d k g (AsksToken c new none same) = subst (Picked s) (sym same) (still_picks s.records.site s (request_row limit c new th st s) (asks_still c new th st s))
+  way_picks th st s step kept e d k g (AsksPort q other same) = subst (Picked s) (sym same) (still_picks s.records.site s (send_request_row limit q th st s) (record { counters = refl; sent = refl }))
+  way_picks th st s step kept e d k g (AsksHome c new told is other same) = subst (Picked s) (sym same) (still_picks s.records.site s (home_request_row limit c new th st s) (record { counters = refl; sent = refl }))
+  way_picks th st s step kept e d k g (WaitsEarly c new told is same) = subst (Picked s) (sym same) (still_picks s.records.site s (early_request_row c new th st s) (record { counters = refl; sent = refl }))
+  way_picks th st s step kept e d k g (WaitsPort q same) = subst (Picked s) (sym same) (still_picks s.records.site s (without_output (with_asking th st (Port q) s)) (record { counters = refl; sent = refl }))
 
-  either_picks : (th : ThreadName) (st : Stack) (s : Site) (step : Transition) (c : CellChange) (d : Transition) → DoesPicks s step → IsStepOrRequest limit th st s step c d → DoesPicks s d
-  either_picks th st s step (Exchanged c new told) d k (inl h) = subst (DoesPicks s) (sym h.1) k
-  either_picks th st s step (Exchanged c new told) d k (inr h) = subst (DoesPicks s) (sym h.1) (still_picks s.records.site s (request_row limit c new th st s) (asks_still c new th st s))
-  either_picks th st s step Stays d k h = subst (DoesPicks s) (sym h) k
-  either_picks th st s step (Made c v) d k h = subst (DoesPicks s) (sym h) k
-
-  bind_picks : (th : ThreadName) (st : Stack) (u : VarName) (t : Term) (a b : Term) (c : Bool) (s : Site) → stack_need p s.equations st ≡ Binds a b → DoesPicks s (bind_attempt p n limit th st u t c s)
+  bind_picks : (th : ThreadName) (st : Stack) (u : VarName) (t : Term) (a b : Term) (c : Bool) (s : Site) → stack_need p s.equations st ≡ Binds a b → Picked s (bind_attempt p n limit th st u t c s)
   bind_picks th st u t a b true s need =
       steps_picks (step_pick th [] (Some (u, t))) [] (effect_here p s [] (Some (u, t)) st) s refl
       (subst (λ (e : Effect). births e.born ≤ 0) (sym (bind_effect p s.equations st a b u t need)) (omega arith))
   bind_picks th st u t a b false s need = still_picks s.records.site s (with_messages (with_mode th st (mode.Waits u) s) (with_own_bundle limit s.equations (request u t th) ∷ [])) (record { counters = refl; sent = refl })
 
-  need_picks : (s : Site) (th : ThreadName) (st : Stack) (need : Need) (d : Transition) → stack_need p s.equations st ≡ need → IsUnitFor p n limit s th st need d → DoesPicks s d
-  need_picks s th st (Waits x) d e h = subst (DoesPicks s) (sym h.2) (still_picks s.records.site s (without_output (with_mode th st (mode.Needs h.0) s)) (record { counters = refl; sent = refl }))
-  need_picks s th st (WaitsAny q) d e h = subst (DoesPicks s) (sym h.2) (still_picks s.records.site s (without_output (with_mode th st (mode.WaitsAny h.0) s)) (record { counters = refl; sent = refl }))
-  need_picks s th st (Binds a b) d e h = subst (DoesPicks s) (sym h.3) (bind_picks th st h.0 h.1 a b (h.0.site == s.records.site) s e)
+  need_picks : (s : Site) (th : ThreadName) (st : Stack) (need : Need) (d : Transition) → stack_need p s.equations st ≡ need → IsUnitFor p n limit s th st need d → Picked s d
+  need_picks s th st (Waits x) d e h = subst (Picked s) (sym h.2) (still_picks s.records.site s (without_output (with_mode th st (mode.Needs h.0) s)) (record { counters = refl; sent = refl }))
+  need_picks s th st (WaitsAny q) d e h = subst (Picked s) (sym h.2) (still_picks s.records.site s (without_output (with_mode th st (mode.WaitsAny h.0) s)) (record { counters = refl; sent = refl }))
+  need_picks s th st (Binds a b) d e h = subst (Picked s) (sym h.3) (bind_picks th st h.0 h.1 a b (h.0.site == s.records.site) s e)
   need_picks s th st (Takes kinds) d e h =
-      either_picks th st s (thread_step p n limit th st kinds (fresh_names s kinds) None s) (effect_here p s (fresh_names s kinds) None st).cell d
-      (steps_picks (step_pick th (fresh_names s kinds) None) kinds (effect_here p s (fresh_names s kinds) None st) s refl (stack_births s.records.site s.counters s.equations (fresh_names s kinds) st kinds e)) h
+      way_picks th st s (thread_step p n limit th st kinds (fresh_names s kinds) None s) (kept_step p limit th st kinds (fresh_names s kinds) s) (effect_here p s (fresh_names s kinds) None st) d
+      (steps_picks (step_pick th (fresh_names s kinds) None) kinds (effect_here p s (fresh_names s kinds) None st) s refl (stack_births s.records.site s.counters s.equations (fresh_names s kinds) st kinds e))
+      (kept_made (step_pick th (fresh_names s kinds) None) kinds (effect_here p s (fresh_names s kinds) None st) s refl)
+      (way_of limit th st s (thread_step p n limit th st kinds (fresh_names s kinds) None s) (kept_step p limit th st kinds (fresh_names s kinds) s) (effect_here p s (fresh_names s kinds) None st) d h)
 
-  units_picks : (ths : List ThreadName) (s : Site) (d : Transition) → AreUnits p n limit ths s d → DoesPicks s d
-  units_picks [] s d h = subst (DoesPicks s) (sym h) (still_picks s.records.site s (without_output s) (still_same s))
+  units_picks : (ths : List ThreadName) (s : Site) (d : Transition) → AreUnits p n limit ths s d → Picked s d
+  units_picks [] s d h = subst (Picked s) (sym h) (still_picks s.records.site s (without_output s) (still_same s))
   units_picks (th ∷ ths) s d (one, rest, unit, units, e) =
-      let first : DoesPicks s one = need_picks s th unit.0 (stack_need p s.equations unit.0) one refl unit.2 in
+      let first : Picked s one = need_picks s th unit.0 (stack_need p s.equations unit.0) one refl unit.2 in
       let site : one.site.records.site ≡ s.records.site = (unit_tally p n limit th s one unit).counts.site in
       let next : PicksOn s.records.site one.site.counters rest.site.counters rest.picks rest.sent = subst (λ (i : ℕ). PicksOn i one.site.counters rest.site.counters rest.picks rest.sent) site (units_picks ths one.site rest units) in
-      subst (DoesPicks s) (sym e) (picks_then s.records.site s.counters one.site.counters rest.site.counters one.picks rest.picks one.sent rest.sent first next)
+      subst (Picked s) (sym e) (picks_then s.records.site s.counters one.site.counters rest.site.counters one.picks rest.picks one.sent rest.sent first next)
 
   pub heard_site : (m : Option Msg) (s : Site) (d : Transition) → IsReception p n limit m s d → d.site.records.site ≡ s.records.site
   heard_site m s d h = (turn_tally p n limit m s d ([], omega arith, (d, without_output d.site, h, refl, deed_same d))).counts.site
@@ -404,6 +488,6 @@ module _ (p : List Stmt) (n limit : ℕ) where
 
   pub turn_picks : (m : Option Msg) (s : Site) (d : Transition) → SiteTurn p n limit s m d → PicksOn s.records.site s.counters d.site.counters d.picks d.sent
   turn_picks m s d (ths, few, (heard, rest, first, units, e)) =
-      let one : DoesPicks s heard = still_picks s.records.site s heard (heard_still m s heard first) in
+      let one : Picked s heard = heard_picks m s heard first in
       let next : PicksOn s.records.site heard.site.counters rest.site.counters rest.picks rest.sent = subst (λ (i : ℕ). PicksOn i heard.site.counters rest.site.counters rest.picks rest.sent) (heard_site m s heard first) (units_picks ths heard.site rest units) in
-      subst (DoesPicks s) (sym e) (picks_then s.records.site s.counters heard.site.counters rest.site.counters heard.picks rest.picks heard.sent rest.sent one next)
+      subst (Picked s) (sym e) (picks_then s.records.site s.counters heard.site.counters rest.site.counters heard.picks rest.picks heard.sent rest.sent one next)

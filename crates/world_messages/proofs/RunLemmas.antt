@@ -51,10 +51,10 @@ pub record Entry (p : List Stmt) (n limit : ℕ) (j : List Turn) (e : Turn) (f :
   pub told : SiteTurnOf p n limit e.units (f e.site) (delivered_message j e.delivered) d
   pub tells : IsRecordOf e d
 
-module _ (p : List Stmt) (n limit : ℕ) (I : List Turn → Sites → Type 0) (start : I [] (initial_site p))
+module _ (p : List Stmt) (n limit : ℕ) (I : List Turn → Sites → Type 0) (start : I [] (initial_site p n))
     (goes : (j : List Turn) (e : Turn) (f : Sites) (d : Transition) → Entry p n limit j e f d → I j f → I (e ∷ j) (put f e.site d.site)) where
   pub every_run : (j : List Turn) (f : Sites) → WorldRun p n limit j f → I j f
-  every_run [] f run = subst (λ (g : Sites). I [] g) (sym (same_functions f (initial_site p) run.runs)) start
+  every_run [] f run = subst (λ (g : Sites). I [] g) (sym (same_functions f (initial_site p n) run.runs)) start
   every_run (e ∷ j) f run = go (before_entry p n limit j e f run) (every_run j)
     where
       go : IsBefore p n limit j e f → ((g : Sites) → WorldRun p n limit j g → I j g) → I (e ∷ j) f

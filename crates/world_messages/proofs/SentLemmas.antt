@@ -3,6 +3,7 @@ use Rattle.std.proofs.Common.{◌≡◌, ◌≢◌, sym, refl, subst, ℕ, List,
 use Rattle.std.specs.Prelude.{Option, ◌==◌, is_some}
 use Rattle.tree_node.specs.declared.names.VarName.{VarName}
 use Rattle.tree_node.specs.declared.names.CellName.{CellName}
+use Rattle.tree_node.specs.declared.names.PortName.{PortName}
 use Rattle.tree_node.specs.declared.names.ThreadName.{ThreadName}
 use Rattle.tree_node.specs.declared.names.NameKind.{NameKind}
 use Rattle.tree_node.specs.declared.node.Term.{Term}
@@ -16,29 +17,35 @@ use Rattle.site_message.specs.declared.message.Msg.TheVariants as msg
 use Rattle.site_message.specs.declared.message.Sent.{Sent}
 use Rattle.proxy_table.specs.Proxies.{entry_of}
 use Rattle.oz_model.specs.Need.{Need, Waits, WaitsAny, Binds, Takes, stack_need}
-use Rattle.oz_model.specs.Effect.{Birth, CellChange, Stays, Made, Exchanged, Effect}
+use Rattle.oz_model.specs.Effect.{Birth, Effect}
 use Rattle.bind_protocol.specs.Records.{Records, is_own, knowledge}
 use Rattle.tree_node.specs.declared.names.CodeId.{CodeId}
 use Rattle.variable_owner.specs.declared.owners.Owner.{Owner}
 use Rattle.variable_owner.specs.declared.owners.Owner.TheVariants.{Open, Bound}
 use Rattle.variable_owner.specs.Owners.{owner_of, sites_of}
 use Rattle.bind_protocol.specs.Rows.{sent_message, request, register, binding, register_answer, meet_sends, after_meet, meets_send}
-use Rattle.site_model.specs.Site.{Site, cell_record}
+use Rattle.site_model.specs.Requests.{next_var, old_end, cell_ask_row}
+use Rattle.site_model.specs.Site.{Site, cell_record, home_record}
 use Rattle.site_model.specs.Bundle.{with_own_bundle, with_own_bundles, message_bundle, message_vars}
 use Rattle.site_model.specs.Transition.{Transition, without_output, with_messages}
 use Rattle.site_model.specs.Variables.{with_known_equations, own_binds, opening}
 use Rattle.site_model.specs.Cells.{leave_row, forward_row, last_before, get_row, serving, request_row, after_exchange, content_after_exchange}
 use Rattle.world_model.proofs.CellLemmas.{leave_each, get_each, request_each}
 use Rattle.site_model.specs.Messages.{with_thread, bind_request_row, message_row}
-use Rattle.site_model.specs.Unit.{with_fresh_names, birth_row, placement, step_row, after_effect, thread_step, fresh_names, effect_here, step_pick, bind_attempt, IsStepOrRequest, IsUnitFor}
+use Rattle.site_model.specs.Unit.{with_fresh_names, birth_row, placement, step_row, after_effect, thread_step, kept_step, kept_step_row, kept_stack, with_stack, fresh_names, effect_here, step_pick, bind_attempt, IsUnitFor}
 use Rattle.world_model.proofs.PutLemmas.{nat_decides}
 use Rattle.site_model.specs.Turn.{IsReception, AreUnits, SiteTurn}
 use Rattle.tree_node.proofs.EachLemmas.{each_append}
+use Rattle.world_messages.proofs.HomeRowLemmas.{kept_before, tell_each, serve_each, early_each}
+use Rattle.world_messages.proofs.WayLemmas.{Way, Steps, Opens, Sends, Makes, Exchanges, AsksToken, AsksPort, AsksHome, WaitsEarly, WaitsPort, way_of}
 
 module _ (p : List Stmt) (n limit : ℕ) (Q : Sent → Type 0)
     (spawns : (s : Store) (to : ℕ) (th : ThreadName) (code : CodeId) (vars : List VarName) → Q (with_own_bundle limit s (sent_message to (msg.Spawn th code vars [])))) (requests : (s : Store) (x : VarName) (t : Term) (th : ThreadName) → Q (with_own_bundle limit s (request x t th)))
     (tells : (s : Store) (x : VarName) (t : Term) (k : ℕ) → Q (with_own_bundle limit s (binding x t k))) (puts : (s : Store) (k : ℕ) (c : CellName) (v : VarName) → Q (with_own_bundle limit s (sent_message k (msg.Put c v [])))) (asks_once : (x : VarName) (i : ℕ) → Q (register x i))
-    (gets : (c : CellName) (k : ℕ) → c.site ≢ k → Q (sent_message c.site (msg.Get c k))) (forwards : (to : ℕ) (c : CellName) (k : ℕ) → Q (sent_message to (msg.Forward c k))) where
+    (gets : (c : CellName) (k : ℕ) → c.site ≢ k → Q (sent_message c.site (msg.Get c k))) (forwards : (to : ℕ) (c : CellName) (k : ℕ) → Q (sent_message to (msg.Forward c k)))
+    (to_port : (q : PortName) (th : ThreadName) (k : ℕ) → q.site ≢ k → Q (sent_message q.site (msg.PortSend q th k))) (ends : (s : Store) (to : ℕ) (th : ThreadName) (old new : VarName) → Q (with_own_bundle limit s (sent_message to (msg.PortEnd th old new []))))
+    (home_told : (s : Store) (c : CellName) (v : VarName) → Q (with_own_bundle limit s (sent_message c.at (msg.CellMake c v [])))) (to_home : (s : Store) (c : CellName) (th : ThreadName) (k : ℕ) (v : VarName) → c.at ≢ k → Q (with_own_bundle limit s (sent_message c.at (msg.CellAsk c th k v []))))
+    (olds : (s : Store) (to : ℕ) (th : ThreadName) (v : VarName) → Q (with_own_bundle limit s (sent_message to (msg.CellOld th v [])))) where
   abbrev All : Transition → Type 0
   All d = Each Q d.sent
 
@@ -104,19 +111,29 @@ module _ (p : List Stmt) (n limit : ℕ) (Q : Sent → Type 0)
   bind_all th st u t true s = steps_all (step_pick th [] (Some (u, t))) [] (effect_here p s [] (Some (u, t)) st) s
   bind_all th st u t false s = (requests s.equations u t th, tt)
 
-  either_all : (th : ThreadName) (st : Stack) (s : Site) (step : Transition) (c : CellChange) (d : Transition) → All step → IsStepOrRequest limit th st s step c d → All d
-  either_all th st s step (Exchanged c new told) d k (inl h) = subst All (sym h.1) k
-  either_all th st s step (Exchanged c new told) d k (inr h) = subst All (sym h.1) (asks_all c new th st s)
-  either_all th st s step Stays d k h = subst All (sym h) k
-  either_all th st s step (Made c v) d k h = subst All (sym h) k
+  kept_all : (k : Pick) (kinds : List NameKind) (e : Effect) (s : Site) → All (kept_step_row limit k kinds e s)
+  kept_all k kinds e s = tell_each Q limit e.cell (with_stack k.thread (kept_stack s e) (kept_before kinds e s)) (λ b v is other. home_told (with_stack k.thread (kept_stack s e) (kept_before kinds e s)).equations b v)
+
+  way_all : (th : ThreadName) (st : Stack) (s : Site) (step kept : Transition) (e : Effect) (d : Transition) → All step → All kept → Way limit th st s step kept e d → All d
+  way_all th st s step kept e d k g (Steps finds same) = subst All (sym same) k
+  way_all th st s step kept e d k g (Opens q end is same) = subst All (sym same) g
+  way_all th st s step kept e d k g (Sends q value new end is has same) = subst All (sym same) g
+  way_all th st s step kept e d k g (Makes c v keeps is same) = subst All (sym same) g
+  way_all th st s step kept e d k g (Exchanges c new told v keeps is has same) = subst All (sym same) g
+  way_all th st s step kept e d k g (AsksToken c new none same) = subst All (sym same) (asks_all c new th st s)
+  way_all th st s step kept e d k g (AsksPort q other same) = subst All (sym same) (to_port q th s.records.site other, tt)
+  way_all th st s step kept e d k g (AsksHome c new told is other same) = subst All (sym same) (to_home s.equations c th s.records.site new other, tt)
+  way_all th st s step kept e d k g (WaitsEarly c new told is same) = subst All (sym same) tt
+  way_all th st s step kept e d k g (WaitsPort q same) = subst All (sym same) tt
 
   need_all : (s : Site) (th : ThreadName) (st : Stack) (need : Need) (d : Transition) → IsUnitFor p n limit s th st need d → All d
   need_all s th st (Waits x) d h = subst All (sym h.2) tt
   need_all s th st (WaitsAny q) d h = subst All (sym h.2) tt
   need_all s th st (Binds a b) d h = subst All (sym h.3) (bind_all th st h.0 h.1 (h.0.site == s.records.site) s)
   need_all s th st (Takes kinds) d h =
-      either_all th st s (thread_step p n limit th st kinds (fresh_names s kinds) None s) (effect_here p s (fresh_names s kinds) None st).cell d
-      (steps_all (step_pick th (fresh_names s kinds) None) kinds (effect_here p s (fresh_names s kinds) None st) s) h
+      way_all th st s (thread_step p n limit th st kinds (fresh_names s kinds) None s) (kept_step p limit th st kinds (fresh_names s kinds) s) (effect_here p s (fresh_names s kinds) None st) d
+      (steps_all (step_pick th (fresh_names s kinds) None) kinds (effect_here p s (fresh_names s kinds) None st) s) (kept_all (step_pick th (fresh_names s kinds) None) kinds (effect_here p s (fresh_names s kinds) None st) s)
+      (way_of limit th st s (thread_step p n limit th st kinds (fresh_names s kinds) None s) (kept_step p limit th st kinds (fresh_names s kinds) s) (effect_here p s (fresh_names s kinds) None st) d h)
 
   units_all : (ths : List ThreadName) (s : Site) (d : Transition) → AreUnits p n limit ths s d → All d
   units_all [] s d h = subst All (sym h) tt
@@ -139,6 +156,15 @@ module _ (p : List Stmt) (n limit : ℕ) (Q : Sent → Type 0)
   takes_all (msg.Get c k) s = get_all c k s
   takes_all (msg.Forward c k) s = forward_all c k s
   takes_all (msg.Put c v bundle) s = each_append Q (serving p c (cell_record s c).queue v s).sent _ (serves_all c (cell_record s c).queue v s) (leave_all c (serving p c (cell_record s c).queue v s).site)
+  takes_all (msg.PortSend q th k) s = (ends s.equations k th (old_end s q) (next_var s), tt)
+  takes_all (msg.PortEnd th old new bundle) s = tt
+  takes_all (msg.CellMake c v bundle) s = early_each p limit c Q (home_record s c).early v s olds
+  takes_all (msg.CellAsk c th k v bundle) s = go (home_record s c).content refl
+    where
+      go : (o : Option VarName) → (home_record s c).content ≡ o → All (cell_ask_row p limit c (record { thread = th; asking = k; new = v }) s)
+      go None q = rw q tt
+      go (Some u) q = rw q (serve_each p limit c Q (record { thread = th; asking = k; new = v }) u s olds)
+  takes_all (msg.CellOld th v bundle) s = tt
 
   heard_all : (m : Option Msg) (s : Site) (d : Transition) → IsReception p n limit m s d → All d
   heard_all None s d h = subst All (sym h) tt
@@ -162,4 +188,5 @@ GoesHome m = to_home m.msg
     to_home _ = Unit {0}
 
 pub turn_home : (p : List Stmt) (n limit : ℕ) (m : Option Msg) (s : Site) (d : Transition) → SiteTurn p n limit s m d → Each GoesHome d.sent
-turn_home p n limit m s d turn = turn_all p n limit GoesHome (λ t to th code vars. tt) (λ t x r th. refl) (λ t x r k. tt) (λ t k c v. tt) (λ x i. refl) (λ c k other. (refl, other)) (λ to c k. tt) m s d turn
+turn_home p n limit m s d turn = turn_all p n limit GoesHome (λ t to th code vars. tt) (λ t x r th. refl) (λ t x r k. tt) (λ t k c v. tt) (λ x i. refl) (λ c k other. (refl, other)) (λ to c k. tt)
+    (λ q th k other. tt) (λ t to th old new. tt) (λ t c v. tt) (λ t c th k v other. tt) (λ t to th v. tt) m s d turn

@@ -51,8 +51,9 @@ NamedIn j f = ((i : ℕ) → Named (f i)) × Each (λ (m : Sent). EachOfMsg IsOf
 
 of_site : (x : Name) → IsOfSites x → IsOfSite x
 of_site (name.Var x) h = tt
-of_site (name.Cell x) h = h.0
+of_site (name.Cell x) h = h.0.0
 of_site (name.Proc x) h = h.0
+of_site (name.Port x) h = h.0
 of_site (name.Thread x) h = h.0
 
 named_of : (p : List Stmt) (i : ℕ) (s : Site) → SiteFits p i s → Named s
@@ -75,7 +76,8 @@ term_named (term.Node (node.Int i)) h = tt
 term_named (term.Node (node.Atom text)) h = tt
 term_named (term.Node (node.Rec label fields)) h = any_fields fields
 term_named (term.Node (node.Proc q code formals vars)) h = (h.0.0, any_vars vars)
-term_named (term.Node (node.Cell c)) h = h.0
+term_named (term.Node (node.Cell c)) h = h.0.0
+term_named (term.Node (node.Port c)) h = h.0
 
 rows_named : (es : List Equation) → Each FitsEquation es → Each (EachOfEquation IsOfSite) es
 rows_named [] h = tt
@@ -86,9 +88,14 @@ msg_named (msg.Spawn th code vars es) h = (h.0.0, any_vars vars, rows_named es h
 msg_named (msg.Register x k) h = tt
 msg_named (msg.BindReq x th t es) h = (tt, h.1.0, term_named t h.2, rows_named es h.3.1)
 msg_named (msg.Binding x t es) h = (tt, term_named t h.1, rows_named es h.2.1)
-msg_named (msg.Get c k) h = h.0.0
-msg_named (msg.Forward c k) h = h.0.0
-msg_named (msg.Put c v es) h = (h.0.0, tt, rows_named es h.2.1)
+msg_named (msg.Get c k) h = h.0.0.0
+msg_named (msg.Forward c k) h = h.0.0.0
+msg_named (msg.Put c v es) h = (h.0.0.0, tt, rows_named es h.2.1)
+msg_named (msg.PortSend q th k) h = (h.0.0, h.1.0)
+msg_named (msg.PortEnd th old new es) h = (h.0.0, tt, tt, rows_named es h.3.1)
+msg_named (msg.CellMake c v es) h = (h.0.0, tt, rows_named es h.3.1)
+msg_named (msg.CellAsk c th k v es) h = (h.0.0, h.2.0, tt, rows_named es h.5.1)
+msg_named (msg.CellOld th v es) h = (h.0.0, tt, rows_named es h.2.1)
 
 messages_named : (ms : List Sent) → CanBeSpelled ms → Each (λ (m : Sent). EachOfMsg IsOfSite m.msg) ms
 messages_named [] h = tt
@@ -123,14 +130,14 @@ module _ (p : List Stmt) (is : IsProgram p) (n limit : ℕ) (many : n ≤ 64) (s
   site_named i = go (cases_lt 0 i) (cases_lt n i)
     where
       apart : (1 ≤ i × i ≤ n → ⊥) → Named (f i)
-      apart h = subst Named (sym (outside p n limit j f run i h)) (named_of p i (initial_site p i) (start_fits p is i))
+      apart h = subst Named (sym (outside p n limit j f run i h)) (named_of p i (initial_site p n i) (start_fits p is n i many))
 
       go : (0 < i) ⊎ (i ≤ 0) → (n < i) ⊎ (i ≤ n) → Named (f i)
       go (inl low) (inl beyond) = apart (λ h. omega (arith, beyond, h.1))
       go (inr zero) k = apart (λ h. omega (arith, zero, h.0))
       go (inl low) (inr high) =
           let least : 1 ≤ i = omega (arith, low) in
-          named_of p i (f i) (run_fits p is n limit short i (least, omega (arith, high, many)) j (f i) (run.runs i)).0
+          named_of p i (f i) (run_fits p is n limit short i (least, omega (arith, high, many)) many j (f i) (run.runs i)).0
 
   pub named_in : NamedIn j f
   named_in = (site_named, messages_named (sent_of j) spelled)

@@ -1,5 +1,5 @@
 -- Terms, stacks and contents of a site go on fitting the program.
-use Rattle.std.proofs.Common.{◌≡◌, ◌≢◌, ◌∙◌, sym, ap, refl, subst, ◌<◌, List, [], ◌∷◌, ◌++◌, length, ◌⊎◌, inl, inr, Bool, true, false, cond, Some, None}
+use Rattle.std.proofs.Common.{arith, ℕ, ◌≡◌, ◌≢◌, ◌∙◌, sym, ap, refl, subst, ◌<◌, List, [], ◌∷◌, ◌++◌, length, ◌⊎◌, inl, inr, Bool, true, false, cond, Some, None}
 use Rattle.std.specs.Prelude.{Option, Contains, slice_get, unwrap_or}
 use Rattle.std.proofs.lemmas.Option.{slice_get_within}
 use Rattle.indexmap.specs.IndexMap.{insert_entry}
@@ -13,10 +13,10 @@ use Rattle.tree_node.specs.declared.node.Term.{Term}
 use Rattle.tree_node.specs.declared.node.Term.TheVariants as term
 use Rattle.tree_node.specs.Assoc.{value_of}
 use Rattle.tree_node.specs.Each.{Each}
-use Rattle.tree_node.specs.Env.{env_for}
+use Rattle.tree_node.specs.Env.{Env, env_for}
 use Rattle.tree_node.specs.declared.item.Item.TheVariants as item
 use Rattle.tree_node.specs.Goal.{equal_cell}
-use Rattle.tree_node.specs.Names.{EachOfTerm}
+use Rattle.tree_node.specs.Names.{EachOfTerm, EachOfEnv, EachOfStack}
 use Rattle.tree_node.specs.State.{Stack, equal_thread}
 use Rattle.tree_node.specs.Store.{Store}
 use Rattle.kernel_syntax.specs.declared.stmt.Stmt.{Stmt}
@@ -39,7 +39,7 @@ use Rattle.thread_roster.specs.Binds.{goes_on}
 use Rattle.thread_roster.specs.Threads.{wake_where}
 use Rattle.site_model.specs.Unit.{runnable_state}
 use Rattle.world_model.proofs.KeyLemmas.{woken_old}
-use Rattle.world_messages.specs.Fitting.{ThreadFits, TermsFit}
+use Rattle.world_messages.specs.Fitting.{HasHomeIn, ThreadFits, TermsFit}
 use Rattle.site_model.proofs.CellKeyLemmas.{place_here, place_other}
 
 -- ---- nodes of the program
@@ -49,6 +49,7 @@ node_fits p is (node.Int i) h = tt
 node_fits p is (node.Atom t) h = tt
 node_fits p is (node.Rec l fs) h = tt
 node_fits p is (node.Cell c) h = tt
+node_fits p is (node.Port c) h = tt
 node_fits p is (node.Proc q code formals vars) h = go (slice_get p code.0) refl h
   where
     told : (st : Stmt) → IsMadeBy p formals vars st → Each (λ (c : CodeId). (code.0 < c.0) × (c.0 < length p)) (bodies_of st) → IsTellOf p st formals (length vars)
@@ -69,6 +70,9 @@ node_fits p is (node.Proc q code formals vars) h = go (slice_get p code.0) refl 
     told (stmt.Browse x) h b = absurd h
     told (stmt.Wait x) h b = absurd h
     told (stmt.NewCell content cell) h b = absurd h
+    told (stmt.NewCellAt cell content at) h b = absurd h
+    told (stmt.NewPort stream port) h b = absurd h
+    told (stmt.Send port value) h b = absurd h
     told (stmt.Exchange cell old new) h b = absurd h
     told (stmt.Thread at body) h b = absurd h
     told (stmt.Try body first handler) h b = absurd h
@@ -90,56 +94,63 @@ term_fits p is (term.Node n) h = node_fits p is n h
 abbrev pub IsMore : List VarName → List VarName → Type 0
 IsMore known more = (x : VarName) → Contains known x → Contains more x
 
-pub thread_grows : (p : List Stmt) (known more : List VarName) (st : Stack) → IsMore known more → ThreadFits p known st → ThreadFits p more st
-thread_grows p known more st w h = record { some = h.some; stack = stack_grows p known more st w h.stack; nodes = h.nodes }
+pub thread_grows : (p : List Stmt) (n : ℕ) (known more : List VarName) (st : Stack) → IsMore known more → ThreadFits p n known st → ThreadFits p n more st
+thread_grows p n known more st w h = record { some = h.some; stack = stack_grows p known more st w h.stack; nodes = h.nodes; homes = h.homes }
 
-pub terms_grow : (p : List Stmt) (known more : List VarName) (s : Store) (ts : Threads) (qs : List (CellName × CellRecord)) → IsMore known more → TermsFit p known s ts qs → TermsFit p more s ts qs
-terms_grow p known more s ts qs w h = record {
+pub terms_grow : (p : List Stmt) (n : ℕ) (known more : List VarName) (s : Store) (ts : Threads) (qs : List (CellName × CellRecord)) → IsMore known more → TermsFit p n known s ts qs → TermsFit p n more s ts qs
+terms_grow p n known more s ts qs w h = record {
   equations = equations_grow p known more s w h.equations;
   nodes = h.nodes;
-  stacks = λ n v e. thread_grows p known more v.0 w (h.stacks n v e);
+  homes = h.homes;
+  stacks = λ th v e. thread_grows p n known more v.0 w (h.stacks th v e);
   contents = λ c v e. w v (h.contents c v e);
 }
 
 -- ---- one equation more
 
 -- the equation fits
-abbrev pub IsFitFor : List Stmt → List VarName → VarName → Term → Type 0
-IsFitFor p known x t = Contains known x × EachOfTerm (fits.IsKnown known) t × TermFits p t × IsNodeOf (IsNode p) t
+abbrev pub IsFitFor : List Stmt → ℕ → List VarName → VarName → Term → Type 0
+IsFitFor p n known x t = Contains known x × EachOfTerm (fits.IsKnown known) t × TermFits p t × IsNodeOf (IsNode p) t × EachOfTerm (HasHomeIn n) t
 
-pub terms_learn : (p : List Stmt) (known : List VarName) (s : Store) (ts : Threads) (qs : List (CellName × CellRecord)) (x : VarName) (t : Term) → IsFitFor p known x t → TermsFit p known s ts qs → TermsFit p known ((x, t) ∷ s) (wake_where (goes_on ((x, t) ∷ s) x) ts) qs
-terms_learn p known s ts qs x t f h = record {
+pub terms_learn : (p : List Stmt) (n : ℕ) (known : List VarName) (s : Store) (ts : Threads) (qs : List (CellName × CellRecord)) (x : VarName) (t : Term) → IsFitFor p n known x t → TermsFit p n known s ts qs → TermsFit p n known ((x, t) ∷ s) (wake_where (goes_on ((x, t) ∷ s) x) ts) qs
+terms_learn p n known s ts qs x t f h = record {
   equations = record { names = ((f.0, f.1), h.equations.names); terms = (f.2, h.equations.terms) };
   nodes = (f.3, h.nodes);
-  stacks = λ n v e. let o = woken_old (goes_on ((x, t) ∷ s) x) ts n v.0 v.1 e in h.stacks n (v.0, o.0) o.1;
+  homes = ((omega arith, f.4), h.homes);
+  stacks = λ th v e. let o = woken_old (goes_on ((x, t) ∷ s) x) ts th v.0 v.1 e in h.stacks th (v.0, o.0) o.1;
   contents = h.contents;
 }
 
 -- ---- a thread goes on
 
 -- a stack that is left, if the thread goes on
-pub left_fits : (p : List Stmt) (known : List VarName) (st : Stack) → StackFits p known st → Each (AreNodesOf (IsNode p)) st → (v : ThreadState) → runnable_state (living_stack st) ≡ Some v → ThreadFits p known v.0
-left_fits p known [] h g v e = cc
-left_fits p known (i ∷ is) h g v e =
+pub left_fits : (p : List Stmt) (n : ℕ) (known : List VarName) (st : Stack) → StackFits p known st → Each (AreNodesOf (IsNode p)) st → EachOfStack (HasHomeIn n) st → (v : ThreadState) → runnable_state (living_stack st) ≡ Some v → ThreadFits p n known v.0
+left_fits p n known [] h g q v e = cc
+left_fits p n known (i ∷ is) h g q v e =
     let same : ◌≡◌ {A = ThreadState} (i ∷ is, Runs) v = cc in
-    subst (λ (u : ThreadState). ThreadFits p known u.0) same (record { some = λ (q : i ∷ is ≡ []). cc; stack = h; nodes = g })
+    subst (λ (u : ThreadState). ThreadFits p n known u.0) same (record { some = λ (k : i ∷ is ≡ []). cc; stack = h; nodes = g; homes = q })
 
 -- ---- a thread begins
 
-pub born_fits : (p : List Stmt) (known : List VarName) (b : Birth) → b.code.0 < length p → length b.vars ≡ length (free p b.code) → Each (λ (x : VarName). Contains known x) b.vars →
-    (n : ThreadName) (v : ThreadState) → value_of equal_thread (runnable_threads (threads_born p (Some b))) n ≡ Some v → ThreadFits p known v.0
-born_fits p known b low many names n v e = go (equal_thread b.name n) e
+-- variables have no home
+pub env_homes : (n : ℕ) (env : Env) → EachOfEnv (HasHomeIn n) env
+env_homes n [] = tt
+env_homes n (b ∷ env) = (omega arith, env_homes n env)
+
+pub born_fits : (p : List Stmt) (n : ℕ) (known : List VarName) (b : Birth) → b.code.0 < length p → length b.vars ≡ length (free p b.code) → Each (λ (x : VarName). Contains known x) b.vars →
+    (th : ThreadName) (v : ThreadState) → value_of equal_thread (runnable_threads (threads_born p (Some b))) th ≡ Some v → ThreadFits p n known v.0
+born_fits p n known b low many names th v e = go (equal_thread b.name th) e
   where
     stack : Stack
     stack = item.Run b.code (env_for (free p b.code) b.vars) ∷ []
 
-    begun : ThreadFits p known (item.Run b.code (env_for (free p b.code) b.vars) ∷ [])
-    begun = record { some = λ (q : item.Run b.code (env_for (free p b.code) b.vars) ∷ [] ≡ []). cc; stack = begun_fits p known b.code b.vars (item.Run b.code (env_for (free p b.code) b.vars) ∷ []) low (sym many) names refl; nodes = (tt, tt) }
+    begun : ThreadFits p n known (item.Run b.code (env_for (free p b.code) b.vars) ∷ [])
+    begun = record { some = λ (q : item.Run b.code (env_for (free p b.code) b.vars) ∷ [] ≡ []). cc; stack = begun_fits p known b.code b.vars (item.Run b.code (env_for (free p b.code) b.vars) ∷ []) low (sym many) names refl; nodes = (tt, tt); homes = (env_homes n (env_for (free p b.code) b.vars), tt) }
 
-    go : (c : Bool) → cond c (Some (item.Run b.code (env_for (free p b.code) b.vars) ∷ [], Runs)) None ≡ Some v → ThreadFits p known v.0
+    go : (c : Bool) → cond c (Some (item.Run b.code (env_for (free p b.code) b.vars) ∷ [], Runs)) None ≡ Some v → ThreadFits p n known v.0
     go true k =
         let same : ◌≡◌ {A = ThreadState} (item.Run b.code (env_for (free p b.code) b.vars) ∷ [], Runs) v = cc in
-        subst (λ (u : ThreadState). ThreadFits p known u.0) same begun
+        subst (λ (u : ThreadState). ThreadFits p n known u.0) same begun
     go false k = cc
 
 -- what a list of both has is in one of them
@@ -152,27 +163,29 @@ value_cases (t ∷ xs) ts n v e = go (equal_thread t.0 n) e (λ k. value_cases x
     go true k ih = inl k
     go false k ih = ih k
 
-pub terms_start : (p : List Stmt) (known : List VarName) (s : Store) (ts : Threads) (qs : List (CellName × CellRecord)) (b : Birth) → b.code.0 < length p → length b.vars ≡ length (free p b.code) → Each (λ (x : VarName). Contains known x) b.vars →
-    TermsFit p known s ts qs → TermsFit p known s (runnable_threads (threads_born p (Some b)) ++ ts) qs
-terms_start p known s ts qs b low many names h = record {
+pub terms_start : (p : List Stmt) (n : ℕ) (known : List VarName) (s : Store) (ts : Threads) (qs : List (CellName × CellRecord)) (b : Birth) → b.code.0 < length p → length b.vars ≡ length (free p b.code) → Each (λ (x : VarName). Contains known x) b.vars →
+    TermsFit p n known s ts qs → TermsFit p n known s (runnable_threads (threads_born p (Some b)) ++ ts) qs
+terms_start p n known s ts qs b low many names h = record {
   equations = h.equations;
   nodes = h.nodes;
-  stacks = λ n v e. by n v (value_cases (runnable_threads (threads_born p (Some b))) ts n v e);
+  homes = h.homes;
+  stacks = λ th v e. by th v (value_cases (runnable_threads (threads_born p (Some b))) ts th v e);
   contents = h.contents;
 }
   where
-    by : (n : ThreadName) (v : ThreadState) → (value_of equal_thread (runnable_threads (threads_born p (Some b))) n ≡ Some v) ⊎ (value_of equal_thread ts n ≡ Some v) → ThreadFits p known v.0
-    by n v (inl k) = born_fits p known b low many names n v k
-    by n v (inr k) = h.stacks n v k
+    by : (th : ThreadName) (v : ThreadState) → (value_of equal_thread (runnable_threads (threads_born p (Some b))) th ≡ Some v) ⊎ (value_of equal_thread ts th ≡ Some v) → ThreadFits p n known v.0
+    by th v (inl k) = born_fits p n known b low many names th v k
+    by th v (inr k) = h.stacks th v k
 
 -- ---- cells
 
 -- what is kept of a cell changes, and its content, if it is here, is known
-pub terms_place : (p : List Stmt) (known : List VarName) (s : Store) (ts : Threads) (qs : List (CellName × CellRecord)) (c : CellName) (q : CellRecord) → ((v : VarName) → q.held.token ≡ Here v → Contains known v) →
-    TermsFit p known s ts qs → TermsFit p known s ts (insert_entry equal_cell qs c q)
-terms_place p known s ts qs c q f h = record {
+pub terms_place : (p : List Stmt) (n : ℕ) (known : List VarName) (s : Store) (ts : Threads) (qs : List (CellName × CellRecord)) (c : CellName) (q : CellRecord) → ((v : VarName) → q.held.token ≡ Here v → Contains known v) →
+    TermsFit p n known s ts qs → TermsFit p n known s ts (insert_entry equal_cell qs c q)
+terms_place p n known s ts qs c q f h = record {
   equations = h.equations;
   nodes = h.nodes;
+  homes = h.homes;
   stacks = h.stacks;
   contents = λ d v e. by d v e (cell_cases d c);
 }

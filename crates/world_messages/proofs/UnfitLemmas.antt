@@ -56,8 +56,8 @@ travels_counted q (z ∷ ms) y at e = go (Contains-cons_cases z y ms at) (λ k. 
 
 -- ---- sites that are none of n
 
-pub outside : (p : List Stmt) (n limit : ℕ) (j : List Turn) (f : Sites) → WorldRun p n limit j f → (i : ℕ) → (1 ≤ i × i ≤ n → ⊥) → f i ≡ initial_site p i
-outside p n limit j f run = every_run p n limit (λ j f. (i : ℕ) → (1 ≤ i × i ≤ n → ⊥) → f i ≡ initial_site p i) (λ i none. refl)
+pub outside : (p : List Stmt) (n limit : ℕ) (j : List Turn) (f : Sites) → WorldRun p n limit j f → (i : ℕ) → (1 ≤ i × i ≤ n → ⊥) → f i ≡ initial_site p n i
+outside p n limit j f run = every_run p n limit (λ j f. (i : ℕ) → (1 ≤ i × i ≤ n → ⊥) → f i ≡ initial_site p n i) (λ i none. refl)
     (λ j e f d entry h i none. at_other f e.site d.site i (λ (q : i ≡ e.site). none (subst (λ (k : ℕ). 1 ≤ k × k ≤ n) (sym q) entry.site)) ∙ h i none) j f run
 
 pub known_inside : (p : List Stmt) (n limit : ℕ) (j : List Turn) (f : Sites) → WorldRun p n limit j f → (i : ℕ) (x : VarName) → IsKnown (f i).records x → (1 ≤ i) × (i ≤ n)
@@ -153,7 +153,7 @@ fit_now p n limit j f fits run k m at = record {
     own = own_number p n limit j f run
 
     known : (x : VarName) → IsMadeVar n f x → IsKnownName n (f m.to) (name.Var x)
-    known x (low, high, made) = (low, high, λ (e : x.site ≡ (f m.to).records.site). counted (e ∙ own m.to) (fits.sites x.site))
+    known x (low, high, made) = (low, high, omega arith, λ (e : x.site ≡ (f m.to).records.site). counted (e ∙ own m.to) (fits.sites x.site))
       where
         counted : x.site ≡ m.to → IsFitting p n f x.site (f x.site) → x.num < (f m.to).counters.vars
         counted e s = subst (λ (i : ℕ). x.num < (f i).counters.vars) e (s.1.names.counted x refl (s.1.names.within x made))
@@ -183,6 +183,11 @@ fit_now p n limit j f fits run k m at = record {
     takes (msg.Get a b) at = tt
     takes (msg.Forward a b) at = tt
     takes (msg.Put a b c) at = tt
+    takes (msg.PortSend a b c) at = tt
+    takes (msg.PortEnd a b c d) at = tt
+    takes (msg.CellMake a b c) at = tt
+    takes (msg.CellAsk a b c d e) at = tt
+    takes (msg.CellOld a b c) at = tt
 
     sites : (o : Msg) → IsTravelling j k (record { to = m.to; msg = o }) → SitesVars n (f m.to) o
     sites (msg.Register x i) at =
@@ -196,3 +201,8 @@ fit_now p n limit j f fits run k m at = record {
     sites (msg.Get a b) at = tt
     sites (msg.Forward a b) at = tt
     sites (msg.Put a b c) at = tt
+    sites (msg.PortSend a b c) at = tt
+    sites (msg.PortEnd a b c d) at = tt
+    sites (msg.CellMake a b c) at = tt
+    sites (msg.CellAsk a b c d e) at = tt
+    sites (msg.CellOld a b c) at = tt

@@ -40,16 +40,16 @@ use Rattle.tree_node.proofs.EachLemmas.{each_append}
 -- ---- the start
 
 module _ (p : List Stmt) (is : IsProgram p) where
-  first_fits : ThreadFits p [] (body_item p (record { 0 = 0 }) [] ∷ [])
-  first_fits = rw is.closed (record { some = λ (q : item.Run (record { 0 = 0 }) (restriction [] []) ∷ [] ≡ []). cc; stack = record { names = (tt, tt); items = ((is.some, rw is.closed tt), tt) }; nodes = (tt, tt) })
+  first_fits : (n : ℕ) → ThreadFits p n [] (body_item p (record { 0 = 0 }) [] ∷ [])
+  first_fits n = rw is.closed (record { some = λ (q : item.Run (record { 0 = 0 }) (restriction [] []) ∷ [] ≡ []). cc; stack = record { names = (tt, tt); items = ((is.some, rw is.closed tt), tt) }; nodes = (tt, tt); homes = (tt, tt) })
 
-  first_stack : (n : ThreadName) (v : ThreadState) (b : Bool) → value_of equal_thread (cond b (runnable_threads (start p).threads) []) n ≡ Some v → ThreadFits p [] v.0
-  first_stack n v true e = let o = running_old (start p).threads n v e in only (equal_thread first_thread n) o.0
+  first_stack : (m : ℕ) (n : ThreadName) (v : ThreadState) (b : Bool) → value_of equal_thread (cond b (runnable_threads (start p).threads) []) n ≡ Some v → ThreadFits p m [] v.0
+  first_stack m n v true e = let o = running_old (start p).threads n v e in only (equal_thread first_thread n) o.0
     where
-      only : (c : Bool) → cond c (Some (body_item p (record { 0 = 0 }) [] ∷ [])) None ≡ Some v.0 → ThreadFits p [] v.0
-      only true k = let same : body_item p (record { 0 = 0 }) [] ∷ [] ≡ v.0 = cc in subst (ThreadFits p []) same first_fits
+      only : (c : Bool) → cond c (Some (body_item p (record { 0 = 0 }) [] ∷ [])) None ≡ Some v.0 → ThreadFits p m [] v.0
+      only true k = let same : body_item p (record { 0 = 0 }) [] ∷ [] ≡ v.0 = cc in subst (ThreadFits p m []) same (first_fits m)
       only false k = cc
-  first_stack n v false e = cc
+  first_stack m n v false e = cc
 
   knows_none : (b : Bool) (o : Option (Option Term)) → o ≡ None → is_some (cond b None o) ≡ true → ⊥
   knows_none true o e k = cc
@@ -62,8 +62,11 @@ module _ (p : List Stmt) (is : IsProgram p) where
   never_here : (v : VarName) → Away ≡ Here v → ⊥
   never_here v e = cc
 
-  start_fits : (i : ℕ) → SiteFits p i [] (initial_site p i)
-  start_fits i = record {
+  none_some : (v : VarName) → ◌≡◌ {A = Option VarName} None (Some v) → ⊥
+  none_some v e = cc
+
+  start_fits : (n i : ℕ) → SiteFits p n i [] (initial_site p n i)
+  start_fits n i = record {
     names = record {
       site = refl;
       here = λ x c. absurd (nothing x c);
@@ -75,9 +78,16 @@ module _ (p : List Stmt) (is : IsProgram p) where
     terms = record {
       equations = record { names = tt; terms = tt };
       nodes = tt;
-      stacks = λ n v e. first_stack n v (i == 1) e;
+      homes = tt;
+      stacks = λ th v e. first_stack n th v (i == 1) e;
       contents = λ c v e. absurd (never_here v e);
     };
+    keeps = record {
+      ends = λ q x e. absurd (none_some x e);
+      contents = λ c v e. absurd (none_some v e);
+      early = λ c r at. absurd (nothing r at);
+    };
+    sites = refl;
   }
 
   -- ---- an entry
@@ -90,9 +100,9 @@ module _ (p : List Stmt) (is : IsProgram p) where
     abbrev IsNewFor : ℕ → Option Msg → VarName → Type 0
     IsNewFor a m x = (x.site ≡ a) ⊎ InMsg m x
 
-    meets_as : (a : ℕ) (m : Option Msg) → MeetsAs p is n limit a (IsNewFor a m) (λ x e. inl e) m
-    meets_as a None = tt
-    meets_as a (Some m) = λ x c. inr c
+    meets_as : (some : 1 ≤ n) (a : ℕ) (m : Option Msg) → MeetsAs p is n limit some a (IsNewFor a m) (λ x e. inl e) m
+    meets_as some a None = tt
+    meets_as some a (Some m) = λ x c. inr c
 
     msg_made : (f : Sites) (j : List Turn) (o : Option ℕ) → Each (IsFittingMsg p n f) (sent_of j) → (x : VarName) → InMsg (delivered_message j o) x → IsMadeVar n f x
     msg_made f j None h x c = absurd c
@@ -106,10 +116,13 @@ module _ (p : List Stmt) (is : IsProgram p) where
         WorldFits p n j f → WorldFits p n (e ∷ j) (put f e.site d.site)
     fits_entry j e f d entry waits h = go (h.sites e.site)
       where
+        some : 1 ≤ n
+        some = let low = entry.site.0 in let high = entry.site.1 in omega (arith, low, high)
+
         go : IsFitting p n f e.site (f e.site) → WorldFits p n (e ∷ j) (put f e.site d.site)
-        go (known, site, made) = after (turn_fits p is n limit e.site (IsNewFor e.site (delivered_message j e.delivered)) (λ x q. inl q) known (delivered_message j e.delivered) (f e.site) d (meets_as e.site (delivered_message j e.delivered)) waits site entry.turn)
+        go (known, site, made) = after (turn_fits p is n limit some e.site (IsNewFor e.site (delivered_message j e.delivered)) (λ x q. inl q) known (delivered_message j e.delivered) (f e.site) d (meets_as some e.site (delivered_message j e.delivered)) waits site entry.turn)
           where
-            after : FitsOn p e.site (IsNewFor e.site (delivered_message j e.delivered)) known d → WorldFits p n (e ∷ j) (put f e.site d.site)
+            after : FitsOn p n e.site (IsNewFor e.site (delivered_message j e.delivered)) known d → WorldFits p n (e ∷ j) (put f e.site d.site)
             after o = record {
               sites = at_all f e.site d.site (λ (i : ℕ) (s : Site). IsFitting p n (put f e.site d.site) i s) (o.more, o.site, λ x c. new x c (o.new x c)) others;
               messages = each_append (IsFittingMsg p n (put f e.site d.site)) (sent_of j) e.sent (Each-weaker _ _ old (sent_of j) h.messages) (subst (Each (IsFittingMsg p n (put f e.site d.site))) (sym entry.tells.sent) (Each-weaker _ _ sent d.sent o.sent));
@@ -144,13 +157,13 @@ module _ (p : List Stmt) (is : IsProgram p) where
                 others i other = let s = h.sites i in (s.0, s.1, λ x c. stays x (s.2 x c))
 
                 old : (m : Sent) → IsFittingMsg p n f m → IsFittingMsg p n (put f e.site d.site) m
-                old m (codes, vars) = (codes, λ x c. stays x (vars x c))
+                old m (codes, vars, placed) = (codes, λ x c. stays x (vars x c), placed)
 
-                sent : (m : Sent) → MsgFits p o.more m.msg → IsFittingMsg p n (put f e.site d.site) m
-                sent m (names, codes) = (codes, λ x c. let at = msg_vars p is n limit e.site (IsNewFor e.site (delivered_message j e.delivered)) (λ y q. inl q) (fits.IsKnown o.more) m.msg names x c in new x at (o.new x at))
+                sent : (m : Sent) → MsgFits p n o.more m.msg → IsFittingMsg p n (put f e.site d.site) m
+                sent m (names, codes, placed) = (codes, λ x c. let at = msg_vars p is n limit some e.site (IsNewFor e.site (delivered_message j e.delivered)) (λ y q. inl q) (fits.IsKnown o.more) m.msg names x c in new x at (o.new x at), placed)
 
-    pub start_world_fits : WorldFits p n [] (initial_site p)
-    start_world_fits = record { sites = λ i. ([], start_fits i, λ x c. absurd (nothing x c)); messages = tt }
+    pub start_world_fits : WorldFits p n [] (initial_site p n)
+    start_world_fits = record { sites = λ i. ([], start_fits n i, λ x c. absurd (nothing x c)); messages = tt }
 
   -- where those that wait for a token can be served whenever it comes, all fits in every run
   pub run_fits : (n limit : ℕ) → TokensServe p n limit → (j : List Turn) (f : Sites) → WorldRun p n limit j f → WorldFits p n j f

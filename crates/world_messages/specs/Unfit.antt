@@ -44,17 +44,33 @@ pub record VarsFit (p : List Stmt) (n : ℕ) (s : Site) (m : Msg) : Type 0 where
 
 -- ---- the part on cells and their tokens, on names that are no variables, and on lengths and texts
 
--- the site can take a message on a cell
+-- it is a request to the owner of a port or to the home of a cell, or an answer, or tells a home of a cell
+abbrev pub IsLetter : Msg → Type 0
+IsLetter (msg.PortSend q n k) = Unit {0}
+IsLetter (msg.PortEnd n old new bundle) = Unit {0}
+IsLetter (msg.CellMake c v bundle) = Unit {0}
+IsLetter (msg.CellAsk c n k v bundle) = Unit {0}
+IsLetter (msg.CellOld n v bundle) = Unit {0}
+IsLetter _ = ⊥
+
+-- the site can take a message on a cell, and a request or an answer
 abbrev pub TakesCells : Site → Msg → Type 0
 TakesCells s (msg.Get c k) = CanTake s (msg.Get c k)
 TakesCells s (msg.Forward c k) = CanTake s (msg.Forward c k)
 TakesCells s (msg.Put c v bundle) = CanTake s (msg.Put c v bundle)
+TakesCells s (msg.PortSend q n k) = CanTake s (msg.PortSend q n k)
+TakesCells s (msg.PortEnd n old new bundle) = CanTake s (msg.PortEnd n old new bundle)
+TakesCells s (msg.CellMake c v bundle) = CanTake s (msg.CellMake c v bundle)
+TakesCells s (msg.CellAsk c n k v bundle) = CanTake s (msg.CellAsk c n k v bundle)
+TakesCells s (msg.CellOld n v bundle) = CanTake s (msg.CellOld n v bundle)
 TakesCells s m = Unit {0}
 
--- a Get or a Forward names another site
+-- a Get, a Forward or a request names another site
 abbrev pub SitesCells : ℕ → Site → Msg → Type 0
 SitesCells n s (msg.Get c k) = IsOtherSite n s k
 SitesCells n s (msg.Forward c k) = IsOtherSite n s k
+SitesCells n s (msg.PortSend q o k) = IsOtherSite n s k
+SitesCells n s (msg.CellAsk c o k v bundle) = IsOtherSite n s k
 SitesCells n s m = Unit {0}
 
 -- the property of names that are no variables

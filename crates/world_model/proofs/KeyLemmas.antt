@@ -3,7 +3,6 @@ use Rattle.std.proofs.Common.{◌≡◌, ◌∙◌, sym, ap, refl, List, [], ◌
 use Rattle.std.specs.Prelude.{Option, ◌≢◌, Contains}
 use Rattle.std.specs.List.{list_any}
 use Rattle.tree_node.specs.declared.names.VarName.{VarName}
-use Rattle.tree_node.specs.declared.names.CellName.{CellName}
 use Rattle.tree_node.specs.declared.names.ThreadName.{ThreadName}
 use Rattle.tree_node.specs.Assoc.{value_of}
 use Rattle.tree_node.specs.State.{Stack, equal_thread}
@@ -12,6 +11,7 @@ pub use Rattle.tree_node.proofs.AssocLemmas.{value_of-with_value as with_here, v
 use Rattle.tree_node.proofs.ClassLemmas.{same_name_decides}
 use Rattle.tree_node.proofs.CompareLemmas.{any_has}
 use Rattle.site_model.specs.Site.{ThreadState, Threads, runnable_threads}
+use Rattle.thread_roster.specs.declared.mode.Awaited.{Awaited}
 use Rattle.thread_roster.specs.declared.mode.Mode.{Mode}
 use Rattle.thread_roster.specs.declared.mode.Mode.TheVariants.{Runs, Waits, Needs, WaitsAny, WaitsFor}
 use Rattle.thread_roster.specs.Binds.{by_node, goes_on}
@@ -80,7 +80,7 @@ module _ (s : Store) (x : VarName) where
             let yes : list_any (λ (z : VarName). equal_var z x) ys ≡ true = any_has (λ (z : VarName). equal_var z x) ys y h ((same_name_decides y x).1 is) in cc),
       )
 
-  pub wake_cell : (c : CellName) (m : Mode) → woken_by (goes_on s x) m ≡ WaitsFor c → m ≡ WaitsFor c
+  pub wake_cell : (c : Awaited) (m : Mode) → woken_by (goes_on s x) m ≡ WaitsFor c → m ≡ WaitsFor c
   wake_cell c m e = (stood (goes_on s x m) m (WaitsFor c) (λ k. cc) e).0
 
 -- ---- threads that can go on

@@ -1,5 +1,5 @@
 -- Cells and their tokens.
-use Rattle.std.specs.Prelude.{◌≡◌, ◌≢◌, ℕ, List, map, Some, None}
+use Rattle.std.specs.Prelude.{◌≡◌, ◌≢◌, ℕ, ◌==◌, List, map, filter, Some, None}
 use Rattle.tree_node.specs.declared.names.VarName.{VarName}
 use Rattle.tree_node.specs.declared.names.CellName.{CellName}
 use Rattle.std.specs.Map.{lookup}
@@ -31,6 +31,10 @@ pub record IsNowhere (managers : ℕ → List (CellName × ℕ)) (places : ℕ �
   pub manager : lookup (equal_cell c) (managers c.site) ≡ None
   pub away : (i : ℕ) → held_in places c i ≡ nothing_held
   pub quiet : (m : token.Mail) → sent_count c (messages mail) m ≡ 0
+
+-- the mobile ones among the centre's cells, which have no home
+abbrev pub mobile_cells : List (CellName × VarName) → List (CellName × VarName)
+mobile_cells cells = filter (λ (c : CellName × VarName). c.0.at == 0) cells
 
 -- each cell of the centre is one chain with the content that it has there, and others are nowhere
 pub record Cells (managers : ℕ → List (CellName × ℕ)) (places : ℕ → List (CellName × CellRecord)) (mail : Mail) (cells : List (CellName × VarName)) : Type 0 where

@@ -1,8 +1,11 @@
 pub mod Chain
+pub mod Claims
 pub mod Example
+pub mod Keepers
 pub mod Matches
 pub mod Names
 pub mod Placed
 pub mod Schedule
+pub mod Shown
 pub mod Simulated
 pub mod World

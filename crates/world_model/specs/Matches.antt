@@ -22,6 +22,7 @@ use Rattle.oz_model.specs.Effect.{Exchanged, stack_effect}
 use Rattle.oz_model.specs.Step.{threads_born}
 use Rattle.bind_protocol.specs.Records.{Records, knowledge, sites_in}
 use Rattle.site_model.specs.Site.{Threads, Counters, CellRecord, cell_record_in}
+use Rattle.thread_roster.specs.declared.mode.Awaited.TheVariants.{Cell}
 use Rattle.thread_roster.specs.declared.mode.Mode.{Mode}
 use Rattle.thread_roster.specs.declared.mode.Mode.TheVariants.{WaitsFor}
 use Rattle.thread_roster.specs.declared.mode.Mode.TheVariants as site
@@ -30,8 +31,9 @@ use Rattle.site_model.specs.Messages.{birth}
 use Rattle.world_model.specs.World.{Sites, Mail, World, IsOnItsWay, eqs, records, threads, cell_records, managers, counters}
 use Rattle.world_model.specs.Schedule.{sum_to}
 use Rattle.world_model.specs.Placed.{IsPlaced}
+use Rattle.world_model.specs.Shown.{shown}
 use Rattle.world_model.specs.Names.{IsHere, AreHome, here_at, ContentsHome, IsCentreMade, KnownAreMade, AreMailNamesMade}
-use Rattle.world_model.specs.Chain.{Cells, AreGetsAddressed}
+use Rattle.world_model.specs.Chain.{Cells, AreGetsAddressed, mobile_cells}
 
 -- ---- equations
 
@@ -157,15 +159,15 @@ pub record WaitersMatch (p : List Stmt) (eqs : ℕ → Store) (records : ℕ →
   pub needs : (i : ℕ) (n : ThreadName) (st : Stack) (x : VarName) → IsNeeding threads i n st x → (i ≢ 0) × NeedsFirst p (eqs i) st x
   pub compares : (i : ℕ) (n : ThreadName) (st : Stack) (xs : List VarName) → IsWaitingAny threads i n st xs →
       IsOpenOn p (eqs i) st xs × ((x : VarName) → Contains xs x → IsFree (eqs i) x × IsHere (records i) x)
-  pub exchanges : (i : ℕ) (n : ThreadName) (st : Stack) (d : CellName) → value_of equal_thread (threads i) n ≡ Some (st, WaitsFor d) →
+  pub exchanges : (i : ℕ) (n : ThreadName) (st : Stack) (d : CellName) → value_of equal_thread (threads i) n ≡ Some (st, WaitsFor (Cell d)) →
       IsExchange p (eqs i) st d
 
 -- those that wait for a cell are its list, each once
 pub record IsQueue (q : CellRecord) (ts : Threads) (d : CellName) : Type 0 where
   pub once : AreDistinct q.queue
   pub long : q.held.waiting ≡ length q.queue
-  pub stand : (n : ThreadName) → Contains q.queue n → (st : Stack) × (value_of equal_thread ts n ≡ Some (st, WaitsFor d))
-  pub listed : (n : ThreadName) (st : Stack) → value_of equal_thread ts n ≡ Some (st, WaitsFor d) → Contains q.queue n
+  pub stand : (n : ThreadName) → Contains q.queue n → (st : Stack) × (value_of equal_thread ts n ≡ Some (st, WaitsFor (Cell d)))
+  pub listed : (n : ThreadName) (st : Stack) → value_of equal_thread ts n ≡ Some (st, WaitsFor (Cell d)) → Contains q.queue n
 
 -- at each site the queue of each cell is the list of those that wait for its token
 abbrev pub AreQueues : (ℕ → List (CellName × CellRecord)) → (ℕ → Threads) → Type 0
@@ -218,16 +220,17 @@ pub record PartsMatch (p : List Stmt) (here : ℕ → Name → Type 0) (eqs : �
   pub makers : KnownAreMade records counters
   pub said : AreMailNamesMade counters mail
 
--- the world and the machine's state match: their parts, the numbers of messages, the totals and the lines
-pub record Matches (p : List Stmt) (n : ℕ) (w : World) (s : State) : Type 0 where
-  pub parts : PartsMatch p (here_at (records w.sites)) (eqs w.sites) (records w.sites) (threads w.sites) (counters w.sites) w.mail s
+-- the world and the machine's state match, where these threads wait for answers: their parts, the numbers of messages, the totals and
+-- the lines
+pub record Matches (p : List Stmt) (n : ℕ) (w : World) (transit : Threads) (s : State) : Type 0 where
+  pub parts : PartsMatch p (here_at (records w.sites)) (eqs w.sites) (records w.sites) (threads (shown w.sites transit)) (counters w.sites) w.mail s
   pub numbered : IsNumbered w.sent w.mail
   pub totals : Totals n (ended w.sites) (living w.sites) w.mail s
   pub lines : s.lines ≡ w.lines
 
--- and the cells
+-- and the mobile cells
 pub record CellsMatch (w : World) (s : State) : Type 0 where
   pub queues : AreQueues (cell_records w.sites) (threads w.sites)
-  pub cells : Cells (managers w.sites) (cell_records w.sites) w.mail s.cells
+  pub cells : Cells (managers w.sites) (cell_records w.sites) w.mail (mobile_cells s.cells)
   pub gets : AreGetsAddressed w.mail
   pub contents : ContentsHome (records w.sites) (cell_records w.sites)

@@ -89,5 +89,5 @@ abbrev pub world_of : List Turn → Sites → World
 world_of j f = record { sites = f; sent = length (sent_of j); mail = travelling j; lines = lines_in j }
 
 -- the sites of a program at the start, without messages
-abbrev pub start_world : List Stmt → World
-start_world p = record { sites = initial_site p; sent = 0; mail = []; lines = [] }
+abbrev pub start_world : List Stmt → ℕ → World
+start_world p n = record { sites = initial_site p n; sent = 0; mail = []; lines = [] }

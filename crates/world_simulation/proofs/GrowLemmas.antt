@@ -1,5 +1,5 @@
 -- What a site knows stays known.
-use Rattle.std.proofs.Common.{◌≡◌, ◌∙◌, sym, refl, subst, ℕ, List, [], ◌∷◌, inl, inr, Bool, true, false, cond, Some, None}
+use Rattle.std.proofs.Common.{◌≡◌, ◌∙◌, sym, ap, refl, subst, ℕ, List, [], ◌∷◌, inl, inr, Bool, true, false, cond, Some, None}
 use Rattle.std.specs.Prelude.{Option, Contains, ◌==◌}
 use Rattle.tree_node.specs.declared.names.VarName.{VarName}
 use Rattle.tree_node.specs.declared.names.CellName.{CellName}
@@ -18,16 +18,19 @@ use Rattle.oz_model.specs.Need.{Need, Waits, WaitsAny, Binds, Takes, stack_need}
 use Rattle.oz_model.specs.Effect.{Birth, CellChange, Stays, Made, Exchanged, Effect}
 use Rattle.bind_protocol.specs.Records.{is_own, knowledge}
 use Rattle.bind_protocol.specs.Rows.{sent_message}
-use Rattle.site_model.specs.Site.{Site, ThreadState, thread_state, cell_record}
+use Rattle.site_model.specs.Requests.{NewEnd, OldContent, after_answer, cell_ask_row, serve_request, serve_early}
+use Rattle.site_model.specs.Site.{Site, ThreadState, EarlyRequest, thread_state, cell_record, home_record}
 use Rattle.site_model.specs.Bundle.{with_own_bundle, message_bundle}
 use Rattle.site_model.specs.Transition.{Transition, without_output, with_messages}
 use Rattle.site_model.specs.Variables.{with_new_equation, with_known_equation, with_known_equations, own_bind, own_binds, opening}
 use Rattle.site_model.specs.Cells.{serving, after_exchange, content_after_exchange, request_row}
 use Rattle.site_model.specs.Messages.{with_thread, bind_request_row, message_row}
-use Rattle.site_model.specs.Unit.{with_fresh_names, placement, birth_row, after_cell, after_effect, step_row, thread_step, bind_attempt, fresh_names, effect_here, step_pick, IsStepOrRequest, IsUnitFor}
+use Rattle.site_model.specs.Unit.{with_fresh_names, placement, birth_row, after_cell, after_effect, step_row, thread_step, bind_attempt, fresh_names, effect_here, kept_step, kept_step_row, step_pick, IsUnitFor}
 use Rattle.site_model.specs.Turn.{IsReception, AreUnits, SiteTurn}
 use Rattle.site_model.specs.Run.{delivered_message}
 use Rattle.world_model.proofs.CellLemmas.{request_only}
+use Rattle.world_messages.proofs.HomeRowLemmas.{kept_apart, kept_site, answer_rest, serve_rest, early_rest}
+use Rattle.world_messages.proofs.WayLemmas.{Way, Steps, Opens, Sends, Makes, Exchanges, AsksToken, AsksPort, AsksHome, WaitsEarly, WaitsPort, way_of}
 use Rattle.world_simulation.specs.Stays.{EquationsStay}
 
 abbrev Grows : Site → Site → Type 0
@@ -81,6 +84,13 @@ module _ (p : List Stmt) (n limit : ℕ) where
       go (Some None) q = rw q (one_more s (own_bind limit x t s).site x t refl)
       go (Some (Some r)) q = rw q (λ y c. c)
 
+  ask_grows : (d : CellName) (r : EarlyRequest) (s : Site) → Grows s (cell_ask_row p limit d r s).site
+  ask_grows d r s = go (home_record s d).content refl
+    where
+      go : (o : Option VarName) → (home_record s d).content ≡ o → Grows s (cell_ask_row p limit d r s).site
+      go None q = rw q (λ x c. c)
+      go (Some v) q = rw q (same s (serve_request p limit d r v s).site (serve_rest p limit d r v s).equations)
+
   row_grows : (m : Msg) (s : Site) → Grows s (message_row p limit m s).site
   row_grows (msg.Spawn th code vars es) s x c = c
   row_grows (msg.Register y k) s x c = c
@@ -89,6 +99,11 @@ module _ (p : List Stmt) (n limit : ℕ) where
   row_grows (msg.Get d k) s x c = c
   row_grows (msg.Forward d k) s x c = c
   row_grows (msg.Put d v es) s x c = subst (λ (q : Store). Contains q x) (sym (serving_same d (cell_record s d).queue v s)) c
+  row_grows (msg.PortSend q th k) s x c = c
+  row_grows (msg.PortEnd th old new es) s x c = same s (after_answer p th (NewEnd old new) s) (answer_rest p th (NewEnd old new) s).equations x c
+  row_grows (msg.CellMake d v es) s x c = same s (serve_early p limit d v (home_record s d).early s).site (early_rest p limit d (home_record s d).early v s).equations x c
+  row_grows (msg.CellAsk d th k v es) s x c = ask_grows d (record { thread = th; asking = k; new = v }) s x c
+  row_grows (msg.CellOld th v es) s x c = same s (after_answer p th (OldContent v) s) (answer_rest p th (OldContent v) s).equations x c
 
   heard_grows : (m : Option Msg) (s : Site) (d : Transition) → IsReception p n limit m s d → Grows s d.site
   heard_grows None s d e = subst (λ (t : Transition). Grows s t.site) (sym e) (λ x c. c)
@@ -119,19 +134,30 @@ module _ (p : List Stmt) (n limit : ℕ) where
   attempt_grows th st u t true s x c = step_grows (step_pick th [] (Some (u, t))) [] (effect_here p s [] (Some (u, t)) st) s x c
   attempt_grows th st u t false s x c = c
 
-  either_grows : (th : ThreadName) (st : Stack) (s : Site) (step : Transition) (c : CellChange) (d : Transition) → Grows s step.site → IsStepOrRequest limit th st s step c d → Grows s d.site
-  either_grows th st s step (Exchanged c new told) d h (inl g) = subst (λ (t : Transition). Grows s t.site) (sym g.1) h
-  either_grows th st s step (Exchanged c new told) d h (inr g) = subst (λ (t : Transition). Grows s t.site) (sym g.1) (same s (request_row limit c new th st s).site (request_only limit c new th st s).equations)
-  either_grows th st s step Stays d h g = subst (λ (t : Transition). Grows s t.site) (sym g) h
-  either_grows th st s step (Made c v) d h g = subst (λ (t : Transition). Grows s t.site) (sym g) h
+  kept_grows : (k : Pick) (kinds : List NameKind) (e : Effect) (s : Site) → Grows s (kept_step_row limit k kinds e s).site
+  kept_grows k kinds e s = same s (kept_step_row limit k kinds e s).site (ap (λ (t : Site). t.equations) (kept_site limit k kinds e s) ∙ (kept_apart kinds e s).rest.equations)
+
+  way_grows : (th : ThreadName) (st : Stack) (s : Site) (step kept : Transition) (e : Effect) (d : Transition) → Grows s step.site → Grows s kept.site → Way limit th st s step kept e d → Grows s d.site
+  way_grows th st s step kept e d k g (Steps finds is) = subst (λ (t : Transition). Grows s t.site) (sym is) k
+  way_grows th st s step kept e d k g (Opens q end is0 is) = subst (λ (t : Transition). Grows s t.site) (sym is) g
+  way_grows th st s step kept e d k g (Sends q value new end is0 has is) = subst (λ (t : Transition). Grows s t.site) (sym is) g
+  way_grows th st s step kept e d k g (Makes c v keeps is0 is) = subst (λ (t : Transition). Grows s t.site) (sym is) g
+  way_grows th st s step kept e d k g (Exchanges c new told v keeps is0 has is) = subst (λ (t : Transition). Grows s t.site) (sym is) g
+  way_grows th st s step kept e d k g (AsksToken c new none is) = subst (λ (t : Transition). Grows s t.site) (sym is) (same s (request_row limit c new th st s).site (request_only limit c new th st s).equations)
+  way_grows th st s step kept e d k g (AsksPort q other is) = subst (λ (t : Transition). Grows s t.site) (sym is) (λ x c. c)
+  way_grows th st s step kept e d k g (AsksHome c new told is0 other is) = subst (λ (t : Transition). Grows s t.site) (sym is) (λ x q. q)
+  way_grows th st s step kept e d k g (WaitsEarly c new told is0 is) = subst (λ (t : Transition). Grows s t.site) (sym is) (λ x q. q)
+  way_grows th st s step kept e d k g (WaitsPort q is) = subst (λ (t : Transition). Grows s t.site) (sym is) (λ x c. c)
 
   unit_for_grows : (th : ThreadName) (st : Stack) (s : Site) (need : Need) (d : Transition) → IsUnitFor p n limit s th st need d → Grows s d.site
   unit_for_grows th st s (Waits x) d (z, is, g) = subst (λ (t : Transition). Grows s t.site) (sym g) (λ y c. c)
   unit_for_grows th st s (WaitsAny q) d (xs, is, g) = subst (λ (t : Transition). Grows s t.site) (sym g) (λ y c. c)
   unit_for_grows th st s (Binds a b) d (u, t, root, g) = subst (λ (e : Transition). Grows s e.site) (sym g) (attempt_grows th st u t (u.site == s.records.site) s)
   unit_for_grows th st s (Takes kinds) d g =
-      either_grows th st s (thread_step p n limit th st kinds (fresh_names s kinds) None s) (effect_here p s (fresh_names s kinds) None st).cell d
-      (step_grows (step_pick th (fresh_names s kinds) None) kinds (effect_here p s (fresh_names s kinds) None st) s) g
+      way_grows th st s (thread_step p n limit th st kinds (fresh_names s kinds) None s) (kept_step p limit th st kinds (fresh_names s kinds) s) (effect_here p s (fresh_names s kinds) None st) d
+      (step_grows (step_pick th (fresh_names s kinds) None) kinds (effect_here p s (fresh_names s kinds) None st) s)
+      (kept_grows (step_pick th (fresh_names s kinds) None) kinds (effect_here p s (fresh_names s kinds) None st) s)
+      (way_of limit th st s (thread_step p n limit th st kinds (fresh_names s kinds) None s) (kept_step p limit th st kinds (fresh_names s kinds) s) (effect_here p s (fresh_names s kinds) None st) d g)
 
   units_grow : (ths : List ThreadName) (s : Site) (d : Transition) → AreUnits p n limit ths s d → Grows s d.site
   units_grow [] s d e = subst (λ (t : Transition). Grows s t.site) (sym e) (λ x c. c)

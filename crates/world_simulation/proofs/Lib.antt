@@ -1,6 +1,9 @@
+pub mod AnswerLemmas
 pub mod GrowLemmas
+pub mod HoldLemmas
+pub mod LetterLemmas
 pub mod PremiseLemmas
 pub mod ProtocolLemmas
+pub mod RowLemmas
 pub mod SimulationLemmas
 pub mod TotalLemmas
-pub mod RowLemmas

@@ -14,7 +14,7 @@ use Rattle.site_model.specs.Turn.{IsReception, AreUnits}
 use Rattle.site_model.specs.Run.{delivered_message, message_of, IsRecordOf, IsEntry, IsReachedBy, SiteRun, WorldRun}
 use Rattle.world_model.specs.World.{put}
 use Rattle.world_model.proofs.PutLemmas.{nat_decides, at_all, at_here, at_other}
-use Rattle.world_cells.specs.FitRuns.{IsFitEntry, SiteFitRun}
+use Rattle.world_answers.specs.FitRuns.{IsFitEntry, SiteFitRun}
 use Rattle.world_messages.specs.Unfit.{MessagesAreFit}
 use Rattle.world_simulation.specs.Simulation.{EveryRunIsSimulated, DeliveredMessagesAreFit}
 use Rattle.world_simulation.specs.Distributed.{message_transition, IsTurn, AreTurns, DistributedRun, RunsTakeRows}

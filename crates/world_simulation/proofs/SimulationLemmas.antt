@@ -1,6 +1,6 @@
 -- The simulation with cells and fit messages, in one induction.
-use Rattle.std.proofs.Common.{arith, ◌≡◌, ◌≢◌, ◌∙◌, sym, ap, refl, subst, ℕ, ◌≤◌, List, ◌∷◌, Bool, true, false}
-use Rattle.std.specs.Prelude.{Option, Some, None, ◌==◌}
+use Rattle.std.proofs.Common.{arith, ◌≡◌, ◌≢◌, ◌∙◌, sym, ap, refl, subst, ℕ, ◌≤◌, List, [], ◌∷◌, ◌++◌, Bool, true, false}
+use Rattle.std.specs.Prelude.{Option, Some, None, ◌==◌, Contains}
 use Rattle.tree_node.specs.State.{State, Stack, equal_thread}
 use Rattle.kernel_syntax.specs.declared.stmt.Stmt.{Stmt}
 use Rattle.kernel_syntax.specs.Program.{IsProgram}
@@ -8,27 +8,32 @@ use Rattle.site_message.specs.declared.message.Msg.{Msg}
 use Rattle.site_message.specs.declared.message.Msg.TheVariants as msg
 use Rattle.site_message.specs.declared.message.Sent.{Sent}
 use Rattle.site_message.specs.declared.turn.Turn.{Turn}
-use Rattle.site_message.specs.Journal.{IsTravelling, sent_of, travelling}
+use Rattle.site_message.specs.Journal.{IsTravelling, sent_of}
 use Rattle.site_message.proofs.JournalLemmas.{travelling_tells}
 use Rattle.world_messages.specs.Unfit.{MessagesAreFit}
-use Rattle.site_model.specs.Site.{Site, ThreadState, unused_cell, cell_record, thread_state, initial_site}
+use Rattle.site_model.specs.Site.{Site, Threads, ThreadState, unused_cell, cell_record, home_record, thread_state, initial_site}
 use Rattle.site_model.specs.Transition.{Transition}
 use Rattle.site_model.specs.Fit.{IsFit}
 use Rattle.site_model.specs.Run.{WorldRun, IsReachedBy, delivered_message, message_of}
-use Rattle.world_model.specs.Names.{here_at}
-use Rattle.world_variables.specs.Laws.{PartsIn}
-use Rattle.world_model.specs.World.{Sites, World, IsOnItsWay, records, put, world_of}
-use Rattle.world_cells.specs.FitRuns.{IsFitEntry, SiteFitRun}
-use Rattle.world_model.specs.Matches.{CellsMatch, IsExchange}
+use Rattle.world_model.specs.World.{Sites, World, IsOnItsWay, put, world_of}
+use Rattle.world_model.specs.Shown.{shown}
+use Rattle.world_answers.specs.FitRuns.{IsFitEntry, SiteFitRun}
+use Rattle.world_model.specs.Matches.{IsExchange}
 use Rattle.tree_node.specs.declared.names.CellName.{CellName}
 use Rattle.tree_node.specs.declared.names.ThreadName.{ThreadName}
+use Rattle.tree_node.specs.declared.pick.Pick.{Pick}
 use Rattle.tree_node.specs.Assoc.{value_of}
+use Rattle.thread_roster.specs.declared.mode.Awaited.TheVariants.{Cell}
 use Rattle.thread_roster.specs.declared.mode.Mode.{Mode}
 use Rattle.thread_roster.specs.declared.mode.Mode.TheVariants.{WaitsFor}
 use Rattle.site_model.specs.Variables.{opening}
-use Rattle.world_cells.proofs.SimulatedLemmas.{fit_runs_are_simulated}
-use Rattle.world_model.proofs.PutLemmas.{nat_decides, at_all}
-use Rattle.world_messages.specs.Fitting.{TokensServe, WorldFits, HeardWaits, TokenWaits, AreServed}
+use Rattle.world_answers.proofs.SimulatedLemmas.{fit_runs_are_simulated}
+use Rattle.world_model.proofs.PutLemmas.{nat_decides, at_all, at_here}
+use Rattle.world_messages.specs.Fitting.{TokensServe, WorldFits, HeardWaits, TokenWaits, AreServed, IsSending, IsExchanging, AreTaking, own_threads}
+use Rattle.world_model.specs.Matches.{equations_in}
+use Rattle.world_cells.specs.Standing.{IsStanding}
+use Rattle.site_model.specs.Bundle.{message_bundle}
+use Rattle.tree_node.specs.Each.{Each}
 use Rattle.world_model.specs.Simulated.{IsSimulated}
 use Rattle.world_messages.specs.BindRequests.{ThreadsArePlaced}
 use Rattle.world_messages.proofs.FewMessages as few
@@ -36,10 +41,14 @@ use Rattle.world_simulation.proofs.PremiseLemmas.{threads_placed}
 use Rattle.world_simulation.specs.Messages.{MessagesAreFew, RequestsAreSingle, CellRequestsArePaid}
 use Rattle.world_messages.proofs.AskRun.{asks_are_few}
 use Rattle.world_simulation.specs.Simulation.{EveryRunIsSimulated, DeliveredMessagesAreFit, CellMessagesAreFew}
-use Rattle.world_cells.proofs.JournalLemmas.{journal_paid, few_cell_messages}
-use Rattle.world_cells.proofs.TurnLemmas.{Paid}
-use Rattle.world_cells.proofs.UnitLemmas.{Reached}
-use Rattle.world_cells.proofs.MessageLemmas.{v, site_v, opened, cells_v}
+use Rattle.world_answers.proofs.JournalLemmas.{journal_paid, few_cell_messages}
+use Rattle.world_answers.proofs.LeaveLemmas.{Paid}
+use Rattle.world_answers.specs.Joined.{Joined}
+use Rattle.world_answers.proofs.OpenLemmas.{open_world, open_joined, open_at}
+use Rattle.world_answers.proofs.PackLemmas.{shown_far}
+use Rattle.world_answers.proofs.ShownLemmas.{stands_from}
+use Rattle.world_simulation.proofs.AnswerLemmas.{sends_next, exchanges_next, takes_next}
+use Rattle.world_simulation.proofs.LetterLemmas.{lives_in, goes_to, letters, comes_new}
 use Rattle.world_messages.proofs.UnfitLemmas.{outside}
 use Rattle.token_chain.specs.declared.token.Token.TheVariants.{Asked}
 use Rattle.world_model.specs.Schedule.{schedule}
@@ -53,38 +62,79 @@ module _ (p : List Stmt) (n limit : ℕ) (is : IsProgram p) (low : 1 ≤ n) (hig
     pub fits : WorldFits p n j f
 
   -- those that wait for a token can be served, also once a message is opened that travels
-  served : (w : World) (c : State) → PartsIn p (here_at (records w.sites)) w c → CellsMatch w c → (i : ℕ) (d : CellName) → AreServed p d (cell_record (w.sites i) d).queue (w.sites i)
-  served w c parts cells i d = ((cells.queues i d).once, λ n listed st mode a. by n st mode a ((cells.queues i d).stand n listed))
+  served : (w : World) (ks : List Pick) (r : Joined p w ks) (i : ℕ) (d : CellName) → i ≢ 0 → AreServed p d (cell_record (w.sites i) d).queue (w.sites i)
+  served w ks r i d real = ((r.reached.cells.queues i d).once, λ n listed st m a. by n st m a ((r.reached.cells.queues i d).stand n listed))
     where
-      by : (n : ThreadName) (st : Stack) (mode : Mode) → thread_state (w.sites i) n ≡ Some (st, mode) → (st : Stack) × (value_of equal_thread (w.sites i).threads n ≡ Some (st, WaitsFor d)) → IsExchange p (w.sites i).equations st d
-      by n st mode a (u, e) =
-          let same : ◌≡◌ {A = ThreadState} (u, WaitsFor d) (st, mode) = (let q : ◌≡◌ {A = Option ThreadState} (Some (u, WaitsFor d)) (Some (st, mode)) = sym e ∙ a in cc) in
+      by : (n : ThreadName) (st : Stack) (m : Mode) → thread_state (w.sites i) n ≡ Some (st, m) → (u : Stack) × (value_of equal_thread (shown w.sites r.transit i).threads n ≡ Some (u, WaitsFor (Cell d))) → IsExchange p (w.sites i).equations st d
+      by n st m a (u, e) =
+          let here = stands_from (w.sites i).threads n (u, WaitsFor (Cell d)) (ap (λ (ts : Threads). value_of equal_thread ts n) (sym (shown_far w.sites r.transit i real)) ∙ e) in
+          let same : ◌≡◌ {A = ThreadState} (u, WaitsFor (Cell d)) (st, m) = (let q : ◌≡◌ {A = Option ThreadState} (Some (u, WaitsFor (Cell d))) (Some (st, m)) = sym here.0 ∙ a in cc) in
           let stack : u ≡ st = ap (λ (z : ThreadState). z.0) same in
-          subst (λ (z : Stack). IsExchange p (w.sites i).equations z d) stack (parts.waiting.exchanges i n u d e)
+          subst (λ (z : Stack). IsExchange p (w.sites i).equations z d) stack (r.reached.parts.waiting.exchanges i n u d e)
 
   -- a token comes to a site that asked for it
   comes_real : (j : List Turn) (f : Sites) → WorldRun p n limit j f → (i : ℕ) (c : CellName) → (cell_record (f i) c).held.token ≡ Asked → i ≢ 0
   comes_real j f run i c asked zero =
-      let same : f i ≡ initial_site p i = outside p n limit j f run i (λ h. let least : 1 ≤ i = h.0 in absurd (omega (arith, least, zero))) in
+      let same : f i ≡ initial_site p n i = outside p n limit j f run i (λ h. let least : 1 ≤ i = h.0 in absurd (omega (arith, least, zero))) in
       let unused : unused_cell.held.token ≡ Asked = subst (λ (t : Site). (cell_record t c).held.token ≡ Asked) same asked in
       cc
 
-  token_waits : (m : Msg) (k i : ℕ) (j : List Turn) (f : Sites) → WorldRun p n limit j f → Reached p (world_of j f) (schedule j) → IsFit p n (f i) m → IsOnItsWay (travelling j) k i m → TokenWaits p m (opening m (f i)).site
-  token_waits (msg.Put c u bundle) k i j f run r fit at =
+  -- the world in which a request or an answer is opened
+  opened : (m : Msg) (k i : ℕ) (j : List Turn) (f : Sites) → WorldRun p n limit j f → (r : Joined p (world_of j f) (schedule j)) → (IsStanding m → ⊥) → IsTravelling j k (record { to = i; msg = m }) →
+      (w : World) × Joined p w (schedule j ++ []) × IsOnItsWay w.mail k i m
+  opened m k i j f run r letter travels =
+      let at = (travelling_tells j k (record { to = i; msg = m })).1 travels in
+      let real = goes_to p n limit j f low run r k i m travels letter in
+      let told = letter_tells m letter (r.reached.parts.knowledge.told k i m at) in
+      (open_world p i real (world_of j f) (schedule j) r k m at told, open_joined p i real (world_of j f) (schedule j) r k m at told, open_at p i real (world_of j f) (schedule j) r k m at told)
+    where
+      letter_tells : (m : Msg) → (IsStanding m → ⊥) → Each (Contains r.reached.centre.equations) (equations_in m) → Each (Contains r.reached.centre.equations) (message_bundle m)
+      letter_tells (msg.PortSend a b c) g h = h
+      letter_tells (msg.PortEnd a b c d) g h = h
+      letter_tells (msg.CellMake a b c) g h = h
+      letter_tells (msg.CellAsk a b c d e) g h = h
+      letter_tells (msg.CellOld a b c) g h = h
+      letter_tells (msg.Spawn a b c d) g h = h
+      letter_tells (msg.Register a b) g h = h
+      letter_tells (msg.BindReq a b c d) g h = h
+      letter_tells (msg.Binding a b c) g h = h.1
+      letter_tells (msg.Get a b) g h = h
+      letter_tells (msg.Forward a b) g h = h
+      letter_tells (msg.Put a b c) g h = h
+
+  token_waits : (m : Msg) (k i : ℕ) (j : List Turn) (f : Sites) → WorldRun p n limit j f → Joined p (world_of j f) (schedule j) → IsFit p n (f i) m → IsTravelling j k (record { to = i; msg = m }) → TokenWaits p m (opening m (f i)).site
+  unfolding opened
+  token_waits (msg.Put c u bundle) k i j f run r fit travels =
       let w : World = world_of j f in
+      let at = (travelling_tells j k (record { to = i; msg = msg.Put c u bundle })).1 travels in
       let real : i ≢ 0 = comes_real j f run i c fit.takes in
       let m : Msg = msg.Put c u bundle in
-      subst (λ (t : Site). AreServed p c (cell_record t c).queue t) (site_v p limit w (schedule j) r k i m real at)
-      (served (v p limit w (schedule j) r k i m real at) r.centre (opened p limit w (schedule j) r k i m real at).parts (cells_v p limit w (schedule j) r k i m real at) i c)
+      let told = r.reached.parts.knowledge.told k i m at in
+      subst (λ (t : Site). AreServed p c (cell_record t c).queue t) (at_here f i (opening m (f i)).site)
+      (served (open_world p i real w (schedule j) r k m at told) (schedule j ++ []) (open_joined p i real w (schedule j) r k m at told) i c real)
   token_waits (msg.Spawn a b c d) k i j f run r fit at = tt
   token_waits (msg.Register a b) k i j f run r fit at = tt
   token_waits (msg.BindReq a b c d) k i j f run r fit at = tt
   token_waits (msg.Binding a b c) k i j f run r fit at = tt
   token_waits (msg.Get a b) k i j f run r fit at = tt
   token_waits (msg.Forward a b) k i j f run r fit at = tt
+  token_waits (msg.PortSend a b c) k i j f run r fit at = tt
+  token_waits (msg.CellAsk a b c d e) k i j f run r fit at = tt
+  token_waits (msg.PortEnd th old new bundle) k i j f run r fit at =
+      let o = opened (msg.PortEnd th old new bundle) k i j f run r (λ h. h) at in
+      subst (λ (t : Site). IsSending p th t) (at_here f i (opening (msg.PortEnd th old new bundle) (f i)).site) (sends_next p o.0 (schedule j ++ []) o.1 k i th old new bundle o.2)
+  token_waits (msg.CellMake c v bundle) k i j f run r fit at =
+      let o = opened (msg.CellMake c v bundle) k i j f run r (λ h. h) at in
+      let home : i ≡ c.at = (o.1.answers.contents.makes k i c v (bundle, o.2)).0 in
+      let number : (o.0.sites i).records.site ≡ i = (o.1.reached.parts.kept i).site in
+      subst (λ (t : Site). AreTaking p (own_threads t.records.site (home_record t c).early) t) (at_here f i (opening (msg.CellMake c v bundle) (f i)).site)
+      (subst (λ (l : ℕ). AreTaking p (own_threads l (home_record (o.0.sites i) c).early) (o.0.sites i)) (sym number) (takes_next p o.0 (schedule j ++ []) o.1 i c (sym home)))
+  token_waits (msg.CellOld th v bundle) k i j f run r fit at =
+      let o = opened (msg.CellOld th v bundle) k i j f run r (λ h. h) at in
+      subst (λ (t : Site). IsExchanging p th t) (at_here f i (opening (msg.CellOld th v bundle) (f i)).site) (exchanges_next p o.0 (schedule j ++ []) o.1 k i th v bundle o.2)
 
-  reached : (j : List Turn) (f : Sites) → WorldRun p n limit j f → JoinedIn j f → Reached p (world_of j f) (schedule j)
-  reached j f run h = (journal_paid p n limit j f run.wired run.sites h.fit).reached
+  reached : (j : List Turn) (f : Sites) → WorldRun p n limit j f → JoinedIn j f → Joined p (world_of j f) (schedule j)
+  reached j f run h = (journal_paid p n limit j f run.wired run.sites h.fit).joined
 
   follows : (j : List Turn) (f : Sites) → WorldRun p n limit j f → JoinedIn j f → (s : State) × IsSimulated p n j f s
   follows j f run h = fit_runs_are_simulated p n limit j f low run.wired run.sites h.fit
@@ -92,8 +142,8 @@ module _ (p : List Stmt) (n limit : ℕ) (is : IsProgram p) (low : 1 ≤ n) (hig
   -- each message that travels is fit
   all_fit : (j : List Turn) (f : Sites) → WorldRun p n limit j f → JoinedIn j f → MessagesAreFit p n j f
   all_fit j f run h k m at =
-      let now = follows j f run h in
-      fit_at p n limit j f now.0 is low high short run h.fits now.1.matches.parts now.1.cells k m at
+      let r = reached j f run h in
+      fit_at p n limit j f is low high short run h.fits r.transit r.reached.centre r.reached.parts r.reached.cells (comes_new p n limit j f low run r) (letters p n limit j f low run r) k m at
 
   module _ (j : List Turn) (e : Turn) (f : Sites) (d : Transition) (entry : Entry p n limit j e f d) (h : JoinedIn j f) where
     -- the message that comes
@@ -108,7 +158,7 @@ module _ (p : List Stmt) (n limit : ℕ) (is : IsProgram p) (low : 1 ≤ n) (hig
         by (Some k) r = go (entry.wired k r)
           where
             go : (s : Sent) × IsTravelling j k s × (s.to ≡ e.site) → ComesFit m
-            go (s, at, to) = subst ComesFit same (fits, token_waits s.msg k e.site j f entry.run (reached j f entry.run h) fits (subst (λ (i : ℕ). IsOnItsWay (travelling j) k i s.msg) to ((travelling_tells j k s).1 at)))
+            go (s, at, to) = subst ComesFit same (fits, token_waits s.msg k e.site j f entry.run (reached j f entry.run h) fits (subst (λ (i : ℕ). IsTravelling j k (record { to = i; msg = s.msg })) to at))
               where
                 fits : IsFit p n (f e.site) s.msg
                 fits = subst (λ (i : ℕ). IsFit p n (f i) s.msg) to (all_fit j f entry.run h k s at)
@@ -157,10 +207,10 @@ module _ (p : List Stmt) (n limit : ℕ) (is : IsProgram p) (low : 1 ≤ n) (hig
 
   -- what the bounds on messages want of the run
   tokens_serve : TokensServe p n limit
-  tokens_serve j f run k m at = token_waits m.msg k m.to j f run (reached j f run (joined_in j f run)) (fit j f run k m at) ((travelling_tells j k m).1 at)
+  tokens_serve j f run k m at = token_waits m.msg k m.to j f run (reached j f run (joined_in j f run)) (fit j f run k m at) at
 
-  threads_are_placed : ThreadsArePlaced p n limit
-  threads_are_placed j f run = let h = simulated j f run in threads_placed p n j f h.0 h.1.matches h.1.cells
+  pub threads_are_placed : ThreadsArePlaced p n limit
+  threads_are_placed j f run = let h = simulated j f run in threads_placed p n j f h.0 h.1 (lives_in p n limit j f low run)
 
 pub every_run_is_simulated : EveryRunIsSimulated
 every_run_is_simulated p n limit j f is low high short run =
@@ -182,4 +232,4 @@ requests_are_single p n limit j f is low high short run = asks_are_few p n limit
 pub cell_requests_are_paid : CellRequestsArePaid
 cell_requests_are_paid p n limit j f is low high short run =
     let r = paid p n limit is low high short j f run in
-    (r.reached.centre, r.reached.run, r.tally.tallied)
+    (r.joined.reached.centre, r.joined.reached.run, r.tally.tallied)

@@ -28,7 +28,7 @@ IsTurn p n limit j e old s =
 
 -- the entries of site i are turns in a row from its start to this state
 abbrev pub AreTurns : List Stmt → ℕ → ℕ → ℕ → List Turn → Site → Type 0
-AreTurns p n limit i [] s = s ≡ initial_site p i
+AreTurns p n limit i [] s = s ≡ initial_site p n i
 AreTurns p n limit i (e ∷ j) s =
     IsReachedBy (e.site == i) (λ old. AreTurns p n limit i j old) (λ old new. IsTurn p n limit j e old new) s
 

@@ -1,3 +1,4 @@
+pub mod Answers
 pub mod Messages
 pub mod Protocols
 pub mod Simulation

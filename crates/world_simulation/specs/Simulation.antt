@@ -14,7 +14,7 @@ use Rattle.world_model.specs.Schedule.{schedule}
 use Rattle.world_model.specs.Simulated.{IsSimulated}
 use Rattle.world_messages.specs.Unfit.{MessagesAreFit}
 use Rattle.world_cells.specs.CellCounts.{cell_weights}
-use Rattle.world_cells.specs.FitRuns.{SiteFitRun}
+use Rattle.world_answers.specs.FitRuns.{SiteFitRun}
 
 -- for every program, every number of sites from 1 to 64, every limit of bundles that a message can be spelled with, and every
 -- run of them, whatever the order of turns and deliveries:

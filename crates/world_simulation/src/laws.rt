@@ -1,7 +1,8 @@
 //! The simulation, as laws over all runs.
 
+ghost use Rattle.world_simulation.specs.Answers.{AnswersAlwaysHold};
 ghost use Rattle.world_simulation.specs.Distributed.{RunsTakeRows};
-ghost use Rattle.world_simulation.specs.Messages.{MessagesAreFew, RequestsAreSingle, CellRequestsArePaid, AllMessagesAreFew};
+ghost use Rattle.world_simulation.specs.Messages.{MessagesAreFew, RequestsAreSingle, CellRequestsArePaid, AnswerMessagesAreFew, AllMessagesAreFew};
 ghost use Rattle.world_simulation.specs.Protocols.{ProtocolsAlwaysHold};
 ghost use Rattle.world_simulation.specs.Simulation.{EveryRunIsSimulated, DeliveredMessagesAreFit, CellMessagesAreFew};
 ghost use Rattle.world_simulation.specs.Stays.{EquationsStay};
@@ -23,15 +24,18 @@ pub fn runs_take_rows()
     sites_are_simulated();
 }
 
-/// Between the entries of every run the protocols' invariants hold of the sites and of the messages that travel; and what a site
-/// knows stays known, whatever its next turn does.
+/// Between the entries of every run the protocols' invariants hold of the sites and of the messages that travel: those of variables
+/// and of cells whose state moves, and those of ports and of cells whose state stays, with the threads that wait for answers. And
+/// what a site knows stays known, whatever its next turn does.
 pub fn protocols_hold()
     ensures holds { ProtocolsAlwaysHold }
+    ensures answers { AnswersAlwaysHold }
     ensures stays { EquationsStay }
 {}
 
 /// How many messages a run sends at most: those on variables and threads by the variables and threads that its schedule makes,
-/// those of a cell by its exchanges; and all of them together. A thread asks once at most to bind a variable; and the requests
+/// those of a cell by its exchanges; those of ports and of cells whose state stays by sends, exchanges, cells and threads; and all of
+/// them together. A thread asks once at most to bind a variable; and the requests
 /// for the token of each cell were followed by exchanges, but for those outstanding. (`registers_are_few` of `world_messages` says
 /// that a site registers once at most for a variable, and is told once at most.)
 pub fn messages_are_few()
@@ -39,5 +43,6 @@ pub fn messages_are_few()
     ensures paid { CellRequestsArePaid }
     ensures few { MessagesAreFew }
     ensures cells { CellMessagesAreFew }
+    ensures answers { AnswerMessagesAreFew }
     ensures all { AllMessagesAreFew }
 {}

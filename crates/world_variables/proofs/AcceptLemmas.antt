@@ -10,8 +10,8 @@ use Rattle.tree_node.specs.Store.{Store, Equation, IsSound, IsFree}
 use Rattle.kernel_syntax.specs.declared.stmt.Stmt.{Stmt}
 use Rattle.site_message.specs.declared.message.Msg.TheVariants as msg
 use Rattle.oz_model.specs.Need.{Need, Binds, stack_need, IsReady, kinds_of}
-use Rattle.oz_model.specs.Effect.{Effect, Stays}
-use Rattle.oz_model.specs.Step.{IsAllowed, IsBindFor, effect_of, next, Step, living_stack, state_after, need_of}
+use Rattle.oz_model.specs.Effect.{Keeps, Effect, Stays}
+use Rattle.oz_model.specs.Step.{AreOfKinds, IsAllowed, IsBindFor, effect_of, next, Step, living_stack, state_after, need_of}
 use Rattle.oz_model.specs.Step as Step
 use Rattle.oz_model.specs.Answers.{IsPartOf}
 use Rattle.oz_model.proofs.DownLemmas.{lower_binds}
@@ -48,7 +48,7 @@ pub bind_allowed : (p : List Stmt) (c : State) (s : Store) (n : ThreadName) (st 
 bind_allowed p c s n st x t a b sound more at need allows = record {
   lives = rw at refl;
   ready = subst (λ (d : Need). IsReady d) (sym need_at) tt;
-  fresh = record { of_kinds = ap kinds_of (sym need_at); distinct = tt; unused = tt };
+  fresh = record { of_kinds = subst (λ (d : Need). AreOfKinds [] (kinds_of d)) (sym need_at) tt; distinct = tt; unused = tt };
   bind = subst (λ (d : Need). IsBindFor c.equations d (Some (x, t))) (sym need_at) allows;
 }
   where
@@ -60,7 +60,7 @@ pub bind_next : (p : List Stmt) (c : State) (n : ThreadName) (st : Stack) (x : V
 bind_next p c n st x t a b at need = subst (λ (e : Effect). state_after p c n e ≡ with_equation c x t) (sym is) whole
   where
     plain : Effect
-    plain = record { adds = (x, t) ∷ []; stack = st; line = None; born = None; cell = Stays }
+    plain = record { adds = (x, t) ∷ []; stack = st; line = None; born = None; cell = Stays; port = Keeps }
 
     is : effect_of p c (bind_pick n x t) ≡ plain
     is = rw at (bind_effect p c.equations st a b (x, t) need)

@@ -186,6 +186,11 @@ module _ (records more : ℕ → Records) (wide : Wider records more) where
       still (msg.Get e o) q = tt
       still (msg.Forward e o) q = tt
       still (msg.Put e o bundle) q = tt
+      still (msg.PortSend q n o) z = tt
+      still (msg.PortEnd n old new bundle) z = tt
+      still (msg.CellMake e v bundle) z = tt
+      still (msg.CellAsk e n o v bundle) z = tt
+      still (msg.CellOld n v bundle) z = tt
 
   pub told_wider : (mail : Mail) (i : ℕ) (x : VarName) → IsTold records mail i x → IsTold more mail i x
   told_wider mail i x (inl h) = inl (wide.listed x.site x i h)

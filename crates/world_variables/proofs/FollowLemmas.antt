@@ -1,8 +1,9 @@
--- Each unit of a site, but one that needs a cell's token, is followed by the centre.
+-- Each unit of a site, but one on a cell that exists or on a port, is followed by the centre.
 use Rattle.std.proofs.Common.{◌≡◌, ◌∙◌, sym, ap, refl, subst, ℕ, List, [], ◌∷◌, ◌⊎◌, inl, inr, Bool, true, false, cond, Some, None}
 use Rattle.std.specs.Prelude.{Option, Contains, ◌≢◌, ◌==◌}
 use Rattle.tree_node.specs.declared.names.VarName.{VarName}
 use Rattle.tree_node.specs.declared.names.CellName.{CellName}
+use Rattle.tree_node.specs.declared.names.PortName.{PortName}
 use Rattle.tree_node.specs.declared.names.ThreadName.{ThreadName}
 use Rattle.tree_node.specs.declared.names.Name.{Name}
 use Rattle.tree_node.specs.declared.names.Name.TheVariants as name
@@ -18,9 +19,9 @@ use Rattle.tree_node.specs.Store.{Store, Equation, Same, IsSound}
 use Rattle.kernel_syntax.specs.declared.stmt.Stmt.{Stmt}
 use Rattle.site_message.specs.declared.message.Msg.TheVariants as msg
 use Rattle.oz_model.specs.Need.{Need, Waits, WaitsAny, Binds, Takes, stack_need, kinds_of}
-use Rattle.oz_model.specs.Effect.{Effect, Birth, CellChange, Stays, Made, Exchanged, stack_effect}
+use Rattle.oz_model.specs.Effect.{Effect, Birth, CellChange, Stays, Made, Exchanged, PortChange, Keeps, Opened, Sent, stack_effect}
 use Rattle.oz_model.specs.Run.{IsRun}
-use Rattle.oz_model.specs.Step.{IsBindFor, next}
+use Rattle.oz_model.specs.Step.{AreOfKinds, IsBindFor, next}
 use Rattle.oz_model.proofs.EffectNames.{stack_effect_names}
 use Rattle.tree_node.proofs.ClassLemmas.{Contains-head, Contains-tail}
 use Rattle.site_model.proofs.EffectLemmas.{bind_effect}
@@ -33,9 +34,9 @@ use Rattle.site_model.specs.Bundle as Bundle
 use Rattle.site_model.specs.Transition.{Transition, without_output, with_messages}
 use Rattle.site_model.specs.Variables.{own_binds}
 use Rattle.site_model.specs.Messages as Receive
-use Rattle.site_model.specs.Unit.{IsStepOrRequest, IsRootBind, IsUnitFor, IsUnit, bind_attempt, thread_step, fresh_names, next_names, step_row, with_fresh_names, step_pick, birth_row, placement, with_mode}
+use Rattle.site_model.specs.Unit.{IsStepOrRequest, IsCellUnit as IsUnitOfCell, IsRootBind, IsUnitFor, IsUnit, bind_attempt, thread_step, kept_step, fresh_names, next_names, step_row, with_fresh_names, step_pick, birth_row, placement, with_mode}
 use Rattle.world_model.specs.World.{World, after_transition, records, counters}
-use Rattle.world_variables.specs.Plain.{IsCellUnit}
+use Rattle.world_variables.specs.Plain.{IsKept, IsExchangeOf, IsCellUnit}
 use Rattle.world_model.specs.Names.{IsHere, IsMade, here_at}
 use Rattle.world_model.specs.Matches.{IsNumbered}
 use Rattle.world_model.proofs.PutLemmas.{field_kept, nat_decides}
@@ -82,13 +83,32 @@ pub all_in : (xs ys : Store) → ((e : Equation) → Contains xs e → Contains 
 all_in [] ys f = tt
 all_in (x ∷ xs) ys f = (f x (Contains-head x xs), all_in xs ys (λ e q. f e (Contains-tail x e xs q)))
 
+-- ---- what a unit is on
+
+-- which effects are on a port or on a stationary cell
+pub kept_made : (e : Effect) (c : CellName) (v : VarName) → e.port ≡ Keeps → e.cell ≡ Made c v → c.at ≢ 0 → IsKept e
+kept_made e c v q r far = rw (q, r) far
+
+pub kept_exchanged : (e : Effect) (c : CellName) (new told : VarName) → e.port ≡ Keeps → e.cell ≡ Exchanged c new told → c.at ≢ 0 → IsKept e
+kept_exchanged e c new told q r far = rw (q, r) far
+
+pub kept_opened : (e : Effect) (q : PortName) (end : VarName) → e.port ≡ Opened q end → IsKept e
+kept_opened e q end r = rw r tt
+
+pub kept_sent : (e : Effect) (q : PortName) (value new : VarName) → e.port ≡ Sent q value new → IsKept e
+kept_sent e q value new r = rw r tt
+
+-- where no port changes the unit is by what becomes of a cell
+pub stays_cell : (limit : ℕ) (th : ThreadName) (st : Stack) (s : Site) (step kept : Transition) (e : Effect) (d : Transition) → e.port ≡ Keeps → IsStepOrRequest limit th st s step kept e d → IsUnitOfCell limit th st s step kept e.cell d
+stays_cell limit th st s step kept e d q u = subst (λ (r : PortChange). IsStepOrRequest limit th st s step kept (record e { port = r }) d) q u
+
 module _ (p : List Stmt) (w : World) (c : State) (n limit i : ℕ) (th : ThreadName) (real : i ≢ 0) (sound : IsSound c.equations) (numbers : IsNumbered w.sent w.mail) (h : PartsIn p (here_at (records w.sites)) w c) where
   abbrev s : Site
   s = w.sites i
 
   step_follows : (st : Stack) (kinds : List NameKind) (bind : Option Equation) (d : Transition) → thread_state s th ≡ Some (st, site.Runs) → SiteStep p s.equations i st kinds bind → ((x : CellName) (new told : VarName) → (stack_effect p s.equations (next_names i s.counters kinds) bind st).cell ≢ Exchanged x new told) →
-      d ≡ step_row p n limit (step_pick th (next_names i s.counters kinds) bind) kinds (stack_effect p s.equations (next_names i s.counters kinds) bind st) s → Follows p w c i d
-  step_follows st kinds bind d at step none is = subst (λ (x : Transition). Follows p w c i x) (sym is) (
+      (stack_effect p s.equations (next_names i s.counters kinds) bind st).port ≡ Keeps → d ≡ step_row p n limit (step_pick th (next_names i s.counters kinds) bind) kinds (stack_effect p s.equations (next_names i s.counters kinds) bind st) s → Follows p w c i d
+  step_follows st kinds bind d at step none keeps is = subst (λ (x : Transition). Follows p w c i x) (sym is) (
     next p c (step_pick th (next_names i s.counters kinds) bind),
     subst (λ (ks : List Pick). IsRun p c ks (next p c (step_pick th (next_names i s.counters kinds) bind))) (sym (steps_picks p n limit (step_pick th fresh bind) kinds e s)) (next p c (step_pick th (next_names i s.counters kinds) bind), (done.allowed, refl), refl),
     done.parts,
@@ -107,7 +127,7 @@ module _ (p : List Stmt) (w : World) (c : State) (n limit i : ℕ) (th : ThreadN
 
       done : UnitDone p w c n limit i th st kinds bind
       done = unit_step p w c n limit i th st kinds bind real sound numbers.below at step
-          (agrees (here_at (records (after_transition w i (step_row p n limit (step_pick th fresh bind) kinds e s)).sites) i) (own_binds limit e.adds (with_fresh_names kinds s)).site e.cell none) h
+          (agrees (here_at (records (after_transition w i (step_row p n limit (step_pick th fresh bind) kinds e s)).sites) i) (own_binds limit e.adds (with_fresh_names kinds s)).site e.cell none) keeps h
 
   -- what is as it was
   stands : (t : Site) (d : Transition) → t.records ≡ s.records → d ≡ d → (p2 : PartsIn p (here_at (records w.sites)) (after_transition w i (record d { site = t })) c) → PartsIn p (here_at (records (after_transition w i (record d { site = t })).sites)) (after_transition w i (record d { site = t })) c
@@ -153,14 +173,14 @@ module _ (p : List Stmt) (w : World) (c : State) (n limit i : ℕ) (th : ThreadN
           -- names of the bind
           named : (P : Name → Type 0) → P (name.Var (record { site = 0; num = 0 })) → Each (EachOfEquation P) s.equations → EachOfStack P st → EachOfEquation P (u, t)
           named P anon es ss =
-              let e = stack_effect_names P anon p s.equations [] (Some (u, t)) st es ss tt (sym (ap kinds_of need)) (subst (λ (q : Need). IsBindFor s.equations q (Some (u, t))) (sym need) allows) in
+              let e = stack_effect_names P anon p s.equations [] (Some (u, t)) st es ss tt (subst (AreOfKinds []) (sym (ap kinds_of need)) tt) (subst (λ (q : Need). IsBindFor s.equations q (Some (u, t))) (sym need) allows) in
               (subst (Each (EachOfEquation P)) (ap (λ (x : Effect). x.adds) (bind_effect p s.equations st a b (u, t) need)) e.adds).0
 
           is_here : EachOfEquation (here_at (records w.sites) i) (u, t)
           is_here = named (here_at (records w.sites) i) nob (h.homes i).equations ((h.homes i).stacks th (st, site.Runs) at)
 
           central : EachOfThread (IsMade (counters w.sites)) (th, st)
-          central = value_each (IsMade (counters w.sites)) c.threads th st h.centred.all.2 (h.placed.up i th st (site.Runs, at))
+          central = value_each (IsMade (counters w.sites)) c.threads th st h.centred.all.3 (h.placed.up i th st (site.Runs, at))
 
           was : EachOfEquation (IsMade (counters w.sites)) (u, t)
           was = named (IsMade (counters w.sites)) (inl refl) (each_of (EachOfEquation (IsMade (counters w.sites))) c.equations h.centred.all.0 s.equations (all_in s.equations c.equations (h.knowledge.known i))) central.1
@@ -174,7 +194,8 @@ module _ (p : List Stmt) (w : World) (c : State) (n limit i : ℕ) (th : ThreadN
 
           go : (q : Bool) → (u.site == s.records.site) ≡ q → d ≡ bind_attempt p n limit th st u t q s → Follows p w c i d
           go true e is = step_follows st [] (Some (u, t)) d at (a, b, need, allows, free, low, (nat_decides u.site s.records.site).0 e ∙ (h.kept i).site, refl)
-              (λ x new told q. let both : Stays ≡ Exchanged x new told = sym (ap (λ (y : Effect). y.cell) (bind_effect p s.equations st a b (u, t) need)) ∙ q in cc) is
+              (λ x new told q. let both : Stays ≡ Exchanged x new told = sym (ap (λ (y : Effect). y.cell) (bind_effect p s.equations st a b (u, t) need)) ∙ q in cc)
+              (ap (λ (y : Effect). y.port) (bind_effect p s.equations st a b (u, t) need)) is
           go false e is = subst (λ (q : Transition). Follows p w c i q) (sym is) (
             c,
             refl,
@@ -183,20 +204,37 @@ module _ (p : List Stmt) (w : World) (c : State) (n limit i : ℕ) (th : ThreadN
           )
 
       takes : (kinds : List NameKind) → stack_need p s.equations st ≡ Takes kinds → IsUnitFor p n limit s th st (Takes kinds) d → Goal
-      takes kinds need t = one (stack_effect p s.equations (fresh_names s kinds) None st).cell refl t
+      takes kinds need t = ported (stack_effect p s.equations (fresh_names s kinds) None st).port refl t
         where
           site_is : s.records.site ≡ i
           site_is = (h.kept i).site
 
-          steps_is : d ≡ thread_step p n limit th st kinds (fresh_names s kinds) None s → ((x : CellName) (new told : VarName) → (stack_effect p s.equations (fresh_names s kinds) None st).cell ≢ Exchanged x new told) → Follows p w c i d
-          steps_is is none = step_follows st kinds None d at need
+          steps_is : d ≡ thread_step p n limit th st kinds (fresh_names s kinds) None s → ((x : CellName) (new told : VarName) → (stack_effect p s.equations (fresh_names s kinds) None st).cell ≢ Exchanged x new told) → (stack_effect p s.equations (fresh_names s kinds) None st).port ≡ Keeps → Follows p w c i d
+          steps_is is none keeps = step_follows st kinds None d at need
               (subst (λ (o : ℕ). (x : CellName) (new told : VarName) → (stack_effect p s.equations (next_names o s.counters kinds) None st).cell ≢ Exchanged x new told) site_is none)
+              (subst (λ (o : ℕ). (stack_effect p s.equations (next_names o s.counters kinds) None st).port ≡ Keeps) site_is keeps)
               (subst (λ (o : ℕ). d ≡ step_row p n limit (step_pick th (next_names o s.counters kinds) None) kinds (stack_effect p s.equations (next_names o s.counters kinds) None st) s) site_is is)
 
-          one : (ch : CellChange) → (stack_effect p s.equations (fresh_names s kinds) None st).cell ≡ ch → IsStepOrRequest limit th st s (thread_step p n limit th st kinds (fresh_names s kinds) None s) ch d → Goal
-          one Stays e is = inr (steps_is is (λ x new told q. let both : Stays ≡ Exchanged x new told = sym e ∙ q in cc))
-          one (Made x v) e is = inr (steps_is is (λ y new told q. let both : Made x v ≡ Exchanged y new told = sym e ∙ q in cc))
-          one (Exchanged x new told) e q = inl (st, at, (x, new, told, kinds, fresh_names s kinds, need, e))
+          e : Effect
+          e = stack_effect p s.equations (fresh_names s kinds) None st
+
+          -- it is on a port, or on a stationary cell
+          kept : IsKept e → Goal
+          kept k = inl (st, at, (kinds, fresh_names s kinds, need, inr k))
+
+          one : (ch : CellChange) → (stack_effect p s.equations (fresh_names s kinds) None st).cell ≡ ch → (stack_effect p s.equations (fresh_names s kinds) None st).port ≡ Keeps →
+              IsUnitOfCell limit th st s (thread_step p n limit th st kinds (fresh_names s kinds) None s) (kept_step p limit th st kinds (fresh_names s kinds) s) ch d → Goal
+          one Stays q keeps is = inr (steps_is is (λ x new told r. let both : Stays ≡ Exchanged x new told = sym q ∙ r in cc) keeps)
+          one (Made x v) q keeps (inl (mobile, is)) = inr (steps_is is (λ y new told r. let both : Made x v ≡ Exchanged y new told = sym q ∙ r in cc) keeps)
+          one (Made x v) q keeps (inr (far, is)) = kept (kept_made e x v keeps q far)
+          one (Exchanged x new told) q keeps (inl (mobile, u)) = inl (st, at, (kinds, fresh_names s kinds, need, inl (x, new, told, q, mobile, keeps)))
+          one (Exchanged x new told) q keeps (inr (far, u)) = kept (kept_exchanged e x new told keeps q far)
+
+          ported : (q : PortChange) → (stack_effect p s.equations (fresh_names s kinds) None st).port ≡ q →
+              IsStepOrRequest limit th st s (thread_step p n limit th st kinds (fresh_names s kinds) None s) (kept_step p limit th st kinds (fresh_names s kinds) s) (stack_effect p s.equations (fresh_names s kinds) None st) d → Goal
+          ported Keeps q u = one (stack_effect p s.equations (fresh_names s kinds) None st).cell refl q (stays_cell limit th st s (thread_step p n limit th st kinds (fresh_names s kinds) None s) (kept_step p limit th st kinds (fresh_names s kinds) s) (stack_effect p s.equations (fresh_names s kinds) None st) d q u)
+          ported (Opened r end) q u = kept (kept_opened e r end q)
+          ported (Sent r value new) q u = kept (kept_sent e r value new q)
 
       go : (q : Need) → stack_need p s.equations st ≡ q → IsUnitFor p n limit s th st q d → Goal
       go (Waits x) e (z, class, is) = inr (needs x z e class.0 is)

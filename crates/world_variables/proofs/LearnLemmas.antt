@@ -32,6 +32,7 @@ use Rattle.oz_model.proofs.TestLemmas.{open_waits_stay}
 use Rattle.oz_model.proofs.NameLemmas.{Each-weaker}
 use Rattle.bind_protocol.specs.Records.{Records, knowledge, IsKnown, sites_in}
 use Rattle.site_model.specs.Site.{Threads}
+use Rattle.thread_roster.specs.declared.mode.Awaited.TheVariants.{Cell}
 use Rattle.thread_roster.specs.declared.mode.Mode.{Mode}
 use Rattle.thread_roster.specs.declared.mode.Mode.TheVariants.{WaitsFor}
 use Rattle.thread_roster.specs.Binds.{goes_on}
@@ -246,12 +247,12 @@ module _ (p : List Stmt) (eqs : ℕ → Store) (records : ℕ → Records) (thre
   waits_new i n st y other = at_all threads j (woken_at (eqs j) x t (threads j)) (λ i (ts : Threads). IsWaiting threads i n st y → value_of equal_thread ts n ≡ Some (st, site.Waits y))
       (λ h. subst (λ (o : Mode). value_of equal_thread (woken_at (eqs j) x t (threads j)) n ≡ Some (st, o)) (wake_other ((x, t) ∷ eqs j) x y other) (woken_new (goes_on ((x, t) ∷ eqs j) x) (threads j) n st (site.Waits y) h)) (λ i other h. h) i
 
-  cell_old : (i : ℕ) (n : ThreadName) (st : Stack) (e : CellName) → value_of equal_thread (threads' i) n ≡ Some (st, WaitsFor e) → value_of equal_thread (threads i) n ≡ Some (st, WaitsFor e)
-  cell_old = at_all threads j (woken_at (eqs j) x t (threads j)) (λ i (ts : Threads). (n : ThreadName) (st : Stack) (e : CellName) → value_of equal_thread ts n ≡ Some (st, WaitsFor e) → value_of equal_thread (threads i) n ≡ Some (st, WaitsFor e))
-      (λ n st e h. back n st e (woken_old (goes_on ((x, t) ∷ eqs j) x) (threads j) n st (WaitsFor e) h)) (λ i other n st e h. h)
+  cell_old : (i : ℕ) (n : ThreadName) (st : Stack) (e : CellName) → value_of equal_thread (threads' i) n ≡ Some (st, WaitsFor (Cell e)) → value_of equal_thread (threads i) n ≡ Some (st, WaitsFor (Cell e))
+  cell_old = at_all threads j (woken_at (eqs j) x t (threads j)) (λ i (ts : Threads). (n : ThreadName) (st : Stack) (e : CellName) → value_of equal_thread ts n ≡ Some (st, WaitsFor (Cell e)) → value_of equal_thread (threads i) n ≡ Some (st, WaitsFor (Cell e)))
+      (λ n st e h. back n st e (woken_old (goes_on ((x, t) ∷ eqs j) x) (threads j) n st (WaitsFor (Cell e)) h)) (λ i other n st e h. h)
     where
-      back : (n : ThreadName) (st : Stack) (e : CellName) → (m : Mode) × (value_of equal_thread (threads j) n ≡ Some (st, m)) × (stand m ≡ WaitsFor e) → value_of equal_thread (threads j) n ≡ Some (st, WaitsFor e)
-      back n st e (m, at, q) = subst (λ (o : Mode). value_of equal_thread (threads j) n ≡ Some (st, o)) (wake_cell ((x, t) ∷ eqs j) x e m q) at
+      back : (n : ThreadName) (st : Stack) (e : CellName) → (m : Mode) × (value_of equal_thread (threads j) n ≡ Some (st, m)) × (stand m ≡ WaitsFor (Cell e)) → value_of equal_thread (threads j) n ≡ Some (st, WaitsFor (Cell e))
+      back n st e (m, at, q) = subst (λ (o : Mode). value_of equal_thread (threads j) n ≡ Some (st, o)) (wake_cell ((x, t) ∷ eqs j) x (Cell e) m q) at
 
   -- messages
   only_bindings : (to : ℕ) (m : Msg) → ((bundle : List Equation) → m ≢ msg.Binding x t bundle) → Contains out (sent_to to m) → ⊥
@@ -360,6 +361,11 @@ module _ (p : List Stmt) (eqs : ℕ → Store) (records : ℕ → Records) (thre
       still (msg.Get e o) q = tt
       still (msg.Forward e o) q = tt
       still (msg.Put e o bundle) q = tt
+      still (msg.PortSend q n o) z = tt
+      still (msg.PortEnd n old new bundle) z = tt
+      still (msg.CellMake e v bundle) z = tt
+      still (msg.CellAsk e n o v bundle) z = tt
+      still (msg.CellOld n v bundle) z = tt
 
       go : IsOnItsWay mail i to m ⊎ Contains out (sent_to to m) → IsAddressed records' to m
       go (inl q) = still m (k i to m q)

@@ -161,6 +161,11 @@ by_length (msg.Binding x t bundle) = refl
 by_length (msg.Get c k) = refl
 by_length (msg.Forward c k) = refl
 by_length (msg.Put c v bundle) = refl
+by_length (msg.PortSend q n k) = refl
+by_length (msg.PortEnd n old new bundle) = refl
+by_length (msg.CellMake c v bundle) = refl
+by_length (msg.CellAsk c n k v bundle) = refl
+by_length (msg.CellOld n v bundle) = refl
 
 spawned_length : (mail : Mail) → length (spawned mail) ≡ spawn_count mail
 spawned_length [] = refl
@@ -189,6 +194,11 @@ carried_by k to (msg.Binding x t bundle) ms z h = absurd (nothing z h)
 carried_by k to (msg.Get c o) ms z h = absurd (nothing z h)
 carried_by k to (msg.Forward c o) ms z h = absurd (nothing z h)
 carried_by k to (msg.Put c v bundle) ms z h = absurd (nothing z h)
+carried_by k to (msg.PortSend q n a) ms z h = absurd (nothing z h)
+carried_by k to (msg.PortEnd n old new bundle) ms z h = absurd (nothing z h)
+carried_by k to (msg.CellMake c v bundle) ms z h = absurd (nothing z h)
+carried_by k to (msg.CellAsk c n a v bundle) ms z h = absurd (nothing z h)
+carried_by k to (msg.CellOld n v bundle) ms z h = absurd (nothing z h)
 
 spawned_some : (mail : Mail) (z : ThreadName) → Contains (spawned mail) z → (k : ℕ) × Carries mail k z
 spawned_some [] z h = absurd (nothing z h)
@@ -225,6 +235,11 @@ by_once (msg.Binding x t bundle) = tt
 by_once (msg.Get c k) = tt
 by_once (msg.Forward c k) = tt
 by_once (msg.Put c v bundle) = tt
+by_once (msg.PortSend q n k) = tt
+by_once (msg.PortEnd n old new bundle) = tt
+by_once (msg.CellMake c v bundle) = tt
+by_once (msg.CellAsk c n k v bundle) = tt
+by_once (msg.CellOld n v bundle) = tt
 
 spawned_once : (mail : Mail) → AreDistinct (numbers mail) → ((k l : ℕ) (z : ThreadName) → Carries mail k z → Carries mail l z → k ≡ l) → AreDistinct (spawned mail)
 spawned_once [] d one = tt

@@ -15,7 +15,7 @@ use Rattle.kernel_syntax.specs.declared.stmt.Stmt.{Stmt}
 use Rattle.site_message.specs.declared.message.Msg.{Msg}
 use Rattle.site_message.specs.declared.message.Msg.TheVariants as msg
 use Rattle.oz_model.specs.Effect.{vars_among}
-use Rattle.oz_model.specs.Step.{kind_of, AreFresh}
+use Rattle.oz_model.specs.Step.{AreFresh}
 use Rattle.oz_model.proofs.NameLemmas.{Each-weaker, EachName-weaker, EachOfTerm-weaker, EachOfEquation-weaker}
 use Rattle.variable_owner.specs.declared.owners.Owner.{Owner}
 use Rattle.variable_owner.specs.declared.owners.Owner.TheVariants.{Open}
@@ -49,77 +49,107 @@ abbrev pub IsUncounted : Counters → Name → Type 0
 IsUncounted c (name.Var x) = c.vars ≤ x.num
 IsUncounted c (name.Cell x) = c.cells ≤ x.num
 IsUncounted c (name.Proc x) = c.procs ≤ x.num
+IsUncounted c (name.Port x) = c.ports ≤ x.num
 IsUncounted c (name.Thread x) = c.threads ≤ x.num
 
 pub counted_more : (c : Counters) (k : NameKind) (x : Name) → IsBelowCounter c x → IsBelowCounter (counter_after c k) x
 counted_more c kind.Var (name.Var x) h = omega (arith, h)
 counted_more c kind.Var (name.Cell x) h = h
 counted_more c kind.Var (name.Proc x) h = h
+counted_more c kind.Var (name.Port x) h = h
 counted_more c kind.Var (name.Thread x) h = h
 counted_more c kind.Cell (name.Var x) h = h
+counted_more c (kind.CellAt at_home) (name.Var x) h = h
 counted_more c kind.Cell (name.Cell x) h = omega (arith, h)
+counted_more c (kind.CellAt at_home) (name.Cell x) h = omega (arith, h)
 counted_more c kind.Cell (name.Proc x) h = h
+counted_more c (kind.CellAt at_home) (name.Proc x) h = h
+counted_more c kind.Cell (name.Port x) h = h
+counted_more c (kind.CellAt at_home) (name.Port x) h = h
 counted_more c kind.Cell (name.Thread x) h = h
+counted_more c (kind.CellAt at_home) (name.Thread x) h = h
 counted_more c kind.Proc (name.Var x) h = h
+counted_more c kind.Port (name.Var x) h = h
 counted_more c kind.Proc (name.Cell x) h = h
+counted_more c kind.Port (name.Cell x) h = h
 counted_more c kind.Proc (name.Proc x) h = omega (arith, h)
+counted_more c kind.Port (name.Proc x) h = h
+counted_more c kind.Proc (name.Port x) h = h
+counted_more c kind.Port (name.Port x) h = omega (arith, h)
 counted_more c kind.Proc (name.Thread x) h = h
+counted_more c kind.Port (name.Thread x) h = h
 counted_more c kind.Thread (name.Var x) h = h
 counted_more c kind.Thread (name.Cell x) h = h
 counted_more c kind.Thread (name.Proc x) h = h
+counted_more c kind.Thread (name.Port x) h = h
 counted_more c kind.Thread (name.Thread x) h = omega (arith, h)
 
 uncounted_less : (c : Counters) (k : NameKind) (x : Name) → IsUncounted (counter_after c k) x → IsUncounted c x
 uncounted_less c kind.Var (name.Var x) h = omega (arith, h)
 uncounted_less c kind.Var (name.Cell x) h = h
 uncounted_less c kind.Var (name.Proc x) h = h
+uncounted_less c kind.Var (name.Port x) h = h
 uncounted_less c kind.Var (name.Thread x) h = h
 uncounted_less c kind.Cell (name.Var x) h = h
+uncounted_less c (kind.CellAt at_home) (name.Var x) h = h
 uncounted_less c kind.Cell (name.Cell x) h = omega (arith, h)
+uncounted_less c (kind.CellAt at_home) (name.Cell x) h = omega (arith, h)
 uncounted_less c kind.Cell (name.Proc x) h = h
+uncounted_less c (kind.CellAt at_home) (name.Proc x) h = h
+uncounted_less c kind.Cell (name.Port x) h = h
+uncounted_less c (kind.CellAt at_home) (name.Port x) h = h
 uncounted_less c kind.Cell (name.Thread x) h = h
+uncounted_less c (kind.CellAt at_home) (name.Thread x) h = h
 uncounted_less c kind.Proc (name.Var x) h = h
+uncounted_less c kind.Port (name.Var x) h = h
 uncounted_less c kind.Proc (name.Cell x) h = h
+uncounted_less c kind.Port (name.Cell x) h = h
 uncounted_less c kind.Proc (name.Proc x) h = omega (arith, h)
+uncounted_less c kind.Port (name.Proc x) h = h
+uncounted_less c kind.Proc (name.Port x) h = h
+uncounted_less c kind.Port (name.Port x) h = omega (arith, h)
 uncounted_less c kind.Proc (name.Thread x) h = h
+uncounted_less c kind.Port (name.Thread x) h = h
 uncounted_less c kind.Thread (name.Var x) h = h
 uncounted_less c kind.Thread (name.Cell x) h = h
 uncounted_less c kind.Thread (name.Proc x) h = h
+uncounted_less c kind.Thread (name.Port x) h = h
 uncounted_less c kind.Thread (name.Thread x) h = omega (arith, h)
 
 not_both : (c : Counters) (x : Name) → IsBelowCounter c x → IsUncounted c x → ⊥
 not_both c (name.Var x) h g = absurd (omega (arith, h, g))
 not_both c (name.Cell x) h g = absurd (omega (arith, h, g))
 not_both c (name.Proc x) h g = absurd (omega (arith, h, g))
+not_both c (name.Port x) h g = absurd (omega (arith, h, g))
 not_both c (name.Thread x) h g = absurd (omega (arith, h, g))
 
-all_more : (c : Counters) (ks : List NameKind) (x : Name) → IsBelowCounter c x → IsBelowCounter (counters_after c ks) x
+pub all_more : (c : Counters) (ks : List NameKind) (x : Name) → IsBelowCounter c x → IsBelowCounter (counters_after c ks) x
 all_more c [] x h = h
 all_more c (k ∷ ks) x h = all_more (counter_after c k) ks x (counted_more c k x h)
 
 next_site : (i : ℕ) (c : Counters) (k : NameKind) → site_of (next_name i c k) ≡ i
 next_site i c kind.Var = refl
 next_site i c kind.Cell = refl
+next_site i c (kind.CellAt at_home) = refl
 next_site i c kind.Proc = refl
+next_site i c kind.Port = refl
 next_site i c kind.Thread = refl
 
 next_uncounted : (i : ℕ) (c : Counters) (k : NameKind) → IsUncounted c (next_name i c k)
 next_uncounted i c kind.Var = omega arith
 next_uncounted i c kind.Cell = omega arith
+next_uncounted i c (kind.CellAt at_home) = omega arith
 next_uncounted i c kind.Proc = omega arith
+next_uncounted i c kind.Port = omega arith
 next_uncounted i c kind.Thread = omega arith
 
 next_counted : (i : ℕ) (c : Counters) (k : NameKind) → IsBelowCounter (counter_after c k) (next_name i c k)
 next_counted i c kind.Var = omega arith
 next_counted i c kind.Cell = omega arith
+next_counted i c (kind.CellAt at_home) = omega arith
 next_counted i c kind.Proc = omega arith
+next_counted i c kind.Port = omega arith
 next_counted i c kind.Thread = omega arith
-
-next_kind : (i : ℕ) (c : Counters) (k : NameKind) → kind_of (next_name i c k) ≡ k
-next_kind i c kind.Var = refl
-next_kind i c kind.Cell = refl
-next_kind i c kind.Proc = refl
-next_kind i c kind.Thread = refl
 
 -- ---- fresh names
 
@@ -166,6 +196,11 @@ msg_weaker P Q f (msg.Binding x t bundle) h = (f _ h.0, EachOfTerm-weaker P Q f 
 msg_weaker P Q f (msg.Get c k) h = f _ h
 msg_weaker P Q f (msg.Forward c k) h = f _ h
 msg_weaker P Q f (msg.Put c v bundle) h = (f _ h.0, f _ h.1, Each-weaker _ _ (EachOfEquation-weaker P Q f) bundle h.2)
+msg_weaker P Q f (msg.PortSend q n k) h = (f _ h.0, f _ h.1)
+msg_weaker P Q f (msg.PortEnd n old new bundle) h = (f _ h.0, f _ h.1, f _ h.2, Each-weaker _ _ (EachOfEquation-weaker P Q f) bundle h.3)
+msg_weaker P Q f (msg.CellMake c v bundle) h = (f _ h.0, f _ h.1, Each-weaker _ _ (EachOfEquation-weaker P Q f) bundle h.2)
+msg_weaker P Q f (msg.CellAsk c n k v bundle) h = (f _ h.0, f _ h.1, f _ h.2, Each-weaker _ _ (EachOfEquation-weaker P Q f) bundle h.3)
+msg_weaker P Q f (msg.CellOld n v bundle) h = (f _ h.0, f _ h.1, Each-weaker _ _ (EachOfEquation-weaker P Q f) bundle h.2)
 
 -- the records after a name of this kind was made
 abbrev pub after_name : Records → Name → Records
@@ -272,13 +307,16 @@ module _ (p : List Stmt) (here : ℕ → Name → Type 0) (eqs : ℕ → Store) 
   pub make_parts : (i : ℕ) (k : NameKind) → PartsMatch p here eqs (at_put records i (after_name (records i) (next_name i (made i) k))) threads (at_put made i (counter_after (made i) k)) mail s
   make_parts i kind.Var = var_parts i
   make_parts i kind.Cell = subst (λ (r : ℕ → Records). PartsMatch p here eqs r threads (at_put made i (counter_after (made i) kind.Cell)) mail s) (sym (at_own records i)) (other_parts i kind.Cell (λ x. ((λ h. h), (λ h. h))))
+  make_parts i (kind.CellAt at_home) = subst (λ (r : ℕ → Records). PartsMatch p here eqs r threads (at_put made i (counter_after (made i) (kind.CellAt at_home))) mail s) (sym (at_own records i)) (other_parts i (kind.CellAt at_home) (λ x. ((λ h. h), (λ h. h))))
   make_parts i kind.Proc = subst (λ (r : ℕ → Records). PartsMatch p here eqs r threads (at_put made i (counter_after (made i) kind.Proc)) mail s) (sym (at_own records i)) (other_parts i kind.Proc (λ x. ((λ h. h), (λ h. h))))
+  make_parts i kind.Port = subst (λ (r : ℕ → Records). PartsMatch p here eqs r threads (at_put made i (counter_after (made i) kind.Port)) mail s) (sym (at_own records i)) (other_parts i kind.Port (λ x. ((λ h. h), (λ h. h))))
   make_parts i kind.Thread = subst (λ (r : ℕ → Records). PartsMatch p here eqs r threads (at_put made i (counter_after (made i) kind.Thread)) mail s) (sym (at_own records i)) (other_parts i kind.Thread (λ x. ((λ h. h), (λ h. h))))
 
 after_first : (b : Records) (x : Name) (xs : List Name) → after_makes b (vars_among (x ∷ xs)) ≡ after_makes (after_name b x) (vars_among xs)
 after_first b (name.Var x) xs = refl
 after_first b (name.Cell x) xs = refl
 after_first b (name.Proc x) xs = refl
+after_first b (name.Port x) xs = refl
 after_first b (name.Thread x) xs = refl
 
 -- names of all these kinds

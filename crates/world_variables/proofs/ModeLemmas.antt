@@ -16,6 +16,7 @@ use Rattle.site_message.specs.declared.message.Msg.{Msg}
 use Rattle.site_message.specs.declared.message.Msg.TheVariants as msg
 use Rattle.bind_protocol.specs.Records.{Records}
 use Rattle.site_model.specs.Site.{ThreadState, Threads, Counters}
+use Rattle.thread_roster.specs.declared.mode.Awaited.TheVariants.{Cell, Port}
 use Rattle.thread_roster.specs.declared.mode.Mode.{Mode}
 use Rattle.thread_roster.specs.declared.mode.Mode.TheVariants.{Runs, WaitsFor}
 use Rattle.thread_roster.specs.declared.mode.Mode.TheVariants as site
@@ -39,7 +40,8 @@ MayWait p i s b mail c n st Runs = Unit {0}
 MayWait p i s b mail c n st (site.Waits x) = IsFree s x × IsHere b x × IsAsked mail c n x
 MayWait p i s b mail c n st (site.Needs x) = (i ≢ 0) × NeedsFirst p s st x
 MayWait p i s b mail c n st (site.WaitsAny xs) = IsOpenOn p s st xs × ((x : VarName) → Contains xs x → IsFree s x × IsHere b x)
-MayWait p i s b mail c n st (WaitsFor d) = IsExchange p s st d
+MayWait p i s b mail c n st (WaitsFor (Cell d)) = IsExchange p s st d
+MayWait p i s b mail c n st (WaitsFor (Port q)) = ⊥
 
 module _ (p : List Stmt) (here : ℕ → Name → Type 0) (eqs : ℕ → Store) (records : ℕ → Records) (threads : ℕ → Threads) (made : ℕ → Counters) (mail : Mail) (s : State) (parts : PartsMatch p here eqs records threads made mail s) where
   -- thread n of site i, which could go on, stands so from now on
@@ -107,8 +109,8 @@ module _ (p : List Stmt) (here : ℕ → Name → Type 0) (eqs : ℕ → Store) 
             (λ o su x h. need o su x (mode_old o (su, site.Needs x) h)) (λ j other o su x h. parts.waiting.needs j o su x h);
         compares = at_all threads i waits (λ j (ts : Threads). (o : ThreadName) (su : Stack) (xs : List VarName) → value_of equal_thread ts o ≡ Some (su, site.WaitsAny xs) → IsOpenOn p (eqs j) su xs × ((x : VarName) → Contains xs x → IsFree (eqs j) x × IsHere (records j) x))
             (λ o su xs h. compare o su xs (mode_old o (su, site.WaitsAny xs) h)) (λ j other o su xs h. parts.waiting.compares j o su xs h);
-        exchanges = at_all threads i waits (λ j (ts : Threads). (o : ThreadName) (su : Stack) (d : CellName) → value_of equal_thread ts o ≡ Some (su, WaitsFor d) → IsExchange p (eqs j) su d)
-            (λ o su d h. exchange o su d (mode_old o (su, WaitsFor d) h)) (λ j other o su d h. parts.waiting.exchanges j o su d h);
+        exchanges = at_all threads i waits (λ j (ts : Threads). (o : ThreadName) (su : Stack) (d : CellName) → value_of equal_thread ts o ≡ Some (su, WaitsFor (Cell d)) → IsExchange p (eqs j) su d)
+            (λ o su d h. exchange o su d (mode_old o (su, WaitsFor (Cell d)) h)) (λ j other o su d h. parts.waiting.exchanges j o su d h);
       };
       homes = mode_homes;
       centred = parts.centred;
@@ -138,10 +140,10 @@ module _ (p : List Stmt) (here : ℕ → Name → Type 0) (eqs : ℕ → Store) 
             let modes : site.WaitsAny xs ≡ m = ap (λ (v : ThreadState). v.1) e.1 in
             rw (ap (λ (v : ThreadState). v.0) e.1) (subst (λ (q : Mode). MayWait p i (eqs i) (records i) mail s.equations n st q) (sym modes) may)
 
-        exchange : (o : ThreadName) (su : Stack) (d : CellName) → ((o ≡ n) × (◌≡◌ {A = ThreadState} (su, WaitsFor d) (st, m))) ⊎ ((n ≢ o) × (value_of equal_thread (threads i) o ≡ Some (su, WaitsFor d))) → IsExchange p (eqs i) su d
+        exchange : (o : ThreadName) (su : Stack) (d : CellName) → ((o ≡ n) × (◌≡◌ {A = ThreadState} (su, WaitsFor (Cell d)) (st, m))) ⊎ ((n ≢ o) × (value_of equal_thread (threads i) o ≡ Some (su, WaitsFor (Cell d)))) → IsExchange p (eqs i) su d
         exchange o su d (inr h) = parts.waiting.exchanges i o su d h.1
         exchange o su d (inl e) =
-            let modes : WaitsFor d ≡ m = ap (λ (v : ThreadState). v.1) e.1 in
+            let modes : WaitsFor (Cell d) ≡ m = ap (λ (v : ThreadState). v.1) e.1 in
             rw (ap (λ (v : ThreadState). v.0) e.1) (subst (λ (q : Mode). MayWait p i (eqs i) (records i) mail s.equations n st q) (sym modes) may)
 
     -- it asked for a bind, and waits for the answer
@@ -161,8 +163,8 @@ module _ (p : List Stmt) (here : ℕ → Name → Type 0) (eqs : ℕ → Store) 
             (λ o su y h. need o su y (mode_old o (su, site.Needs y) h)) (λ j other o su y h. parts.waiting.needs j o su y h);
         compares = at_all threads i waits (λ j (ts : Threads). (o : ThreadName) (su : Stack) (ys : List VarName) → value_of equal_thread ts o ≡ Some (su, site.WaitsAny ys) → IsOpenOn p (eqs j) su ys × ((y : VarName) → Contains ys y → IsFree (eqs j) y × IsHere (records j) y))
             (λ o su ys h. compare o su ys (mode_old o (su, site.WaitsAny ys) h)) (λ j other o su ys h. parts.waiting.compares j o su ys h);
-        exchanges = at_all threads i waits (λ j (ts : Threads). (o : ThreadName) (su : Stack) (d : CellName) → value_of equal_thread ts o ≡ Some (su, WaitsFor d) → IsExchange p (eqs j) su d)
-            (λ o su d h. exchange o su d (mode_old o (su, WaitsFor d) h)) (λ j other o su d h. parts.waiting.exchanges j o su d h);
+        exchanges = at_all threads i waits (λ j (ts : Threads). (o : ThreadName) (su : Stack) (d : CellName) → value_of equal_thread ts o ≡ Some (su, WaitsFor (Cell d)) → IsExchange p (eqs j) su d)
+            (λ o su d h. exchange o su d (mode_old o (su, WaitsFor (Cell d)) h)) (λ j other o su d h. parts.waiting.exchanges j o su d h);
       };
       homes = mode_homes;
       centred = parts.centred;
@@ -222,6 +224,6 @@ module _ (p : List Stmt) (here : ℕ → Name → Type 0) (eqs : ℕ → Store) 
         compare o su ys (inr h) = parts.waiting.compares i o su ys h.1
         compare o su ys (inl e) = let modes : site.WaitsAny ys ≡ site.Waits x = ap (λ (v : ThreadState). v.1) e.1 ∙ mode in cc
 
-        exchange : (o : ThreadName) (su : Stack) (d : CellName) → ((o ≡ n) × (◌≡◌ {A = ThreadState} (su, WaitsFor d) (st, m))) ⊎ ((n ≢ o) × (value_of equal_thread (threads i) o ≡ Some (su, WaitsFor d))) → IsExchange p (eqs i) su d
+        exchange : (o : ThreadName) (su : Stack) (d : CellName) → ((o ≡ n) × (◌≡◌ {A = ThreadState} (su, WaitsFor (Cell d)) (st, m))) ⊎ ((n ≢ o) × (value_of equal_thread (threads i) o ≡ Some (su, WaitsFor (Cell d)))) → IsExchange p (eqs i) su d
         exchange o su d (inr h) = parts.waiting.exchanges i o su d h.1
-        exchange o su d (inl e) = let modes : WaitsFor d ≡ site.Waits x = ap (λ (v : ThreadState). v.1) e.1 ∙ mode in cc
+        exchange o su d (inl e) = let modes : WaitsFor (Cell d) ≡ site.Waits x = ap (λ (v : ThreadState). v.1) e.1 ∙ mode in cc

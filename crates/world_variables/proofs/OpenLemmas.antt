@@ -55,6 +55,7 @@ term_here b (term.Node (node.Atom a)) h = tt
 term_here b (term.Node (node.Rec label fields)) h = each_map (λ (f : Feature × VarName). f.1) (IsHere b) fields h
 term_here b (term.Node (node.Proc q code formals vars)) h = (tt, h)
 term_here b (term.Node (node.Cell c)) h = tt
+term_here b (term.Node (node.Port c)) h = tt
 
 -- the variables of a term have what its names have
 vars_have : (P : Name → Type 0) (t : Term) → EachOfTerm P t → Each (λ (x : VarName). P (name.Var x)) (vars_of t)
@@ -64,6 +65,7 @@ vars_have P (term.Node (node.Atom a)) h = tt
 vars_have P (term.Node (node.Rec label fields)) h = each_unmap (λ (f : Feature × VarName). f.1) (λ (x : VarName). P (name.Var x)) fields h
 vars_have P (term.Node (node.Proc q code formals vars)) h = h.1
 vars_have P (term.Node (node.Cell c)) h = tt
+vars_have P (term.Node (node.Port c)) h = tt
 
 equations_have : (P : Name → Type 0) (es : List Equation) → Each (EachOfEquation P) es → Each (λ (x : VarName). P (name.Var x)) (vars_of_equations es)
 equations_have P [] h = tt
@@ -82,6 +84,11 @@ vars_made P (msg.Binding x t bundle) h = (h.0, each_append _ (vars_of t) _ (vars
 vars_made P (msg.Get c k) h = tt
 vars_made P (msg.Forward c k) h = tt
 vars_made P (msg.Put c v bundle) h = (h.1, equations_have P bundle h.2)
+vars_made P (msg.PortSend q n k) h = tt
+vars_made P (msg.PortEnd n old new bundle) h = (h.1, (h.2, equations_have P bundle h.3))
+vars_made P (msg.CellMake c v bundle) h = (h.1, equations_have P bundle h.2)
+vars_made P (msg.CellAsk c n k v bundle) h = (h.2, equations_have P bundle h.3)
+vars_made P (msg.CellOld n v bundle) h = (h.1, equations_have P bundle h.2)
 
 bundle_made : (P : Name → Type 0) (m : Msg) → Fit.EachOfMsg P m → Each (EachOfEquation P) (message_bundle m)
 bundle_made P (msg.Spawn n code vars bundle) h = h.2
@@ -91,6 +98,11 @@ bundle_made P (msg.Binding x t bundle) h = h.2
 bundle_made P (msg.Get c k) h = tt
 bundle_made P (msg.Forward c k) h = tt
 bundle_made P (msg.Put c v bundle) h = h.2
+bundle_made P (msg.PortSend q n k) h = tt
+bundle_made P (msg.PortEnd n old new bundle) h = h.3
+bundle_made P (msg.CellMake c v bundle) h = h.2
+bundle_made P (msg.CellAsk c n k v bundle) h = h.3
+bundle_made P (msg.CellOld n v bundle) h = h.2
 
 -- ---- what is known stays known
 
@@ -210,6 +222,7 @@ opens_row p w c k i m h at has = record { parts = parts; vars = vars }
         own (name.Var x) (inr q) = inr (meets_known (message_vars m) s2.records x (told_all_known (message_bundle m) s x q))
         own (name.Cell x) q = tt
         own (name.Proc x) q = tt
+        own (name.Port x) q = tt
         own (name.Thread x) q = tt
 
         either : (x : Name) → IsHereName s.records x ⊎ (i ≡ 0) → IsHereName (after_meets s2.records (message_vars m)) x ⊎ (i ≡ 0)

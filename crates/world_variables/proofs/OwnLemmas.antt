@@ -16,7 +16,7 @@ use Rattle.tree_node.specs.State.{Stack, State, equal_thread}
 use Rattle.tree_node.specs.Store.{Store, Equation, IsFree}
 use Rattle.kernel_syntax.specs.declared.stmt.Stmt.{Stmt}
 use Rattle.oz_model.specs.Effect.{Effect, Birth, CellChange, Stays, Made, Exchanged}
-use Rattle.oz_model.specs.Step.{threads_born, living_stack, stack_with_content, IsAllowed, effect_of, next}
+use Rattle.oz_model.specs.Step.{threads_born, living_stack, stack_left, IsAllowed, effect_of, next}
 use Rattle.oz_model.proofs.NameLemmas.{Each-weaker}
 use Rattle.oz_model.specs.EffectNames.{EachOfBirth}
 use Rattle.oz_model.proofs.EffectNames.{step_names, effect_names}
@@ -204,8 +204,8 @@ pub record IsOwnStep (p : List Stmt) (here : ℕ → Name → Type 0) (w : World
   pub allowed : IsAllowed p c k
   pub fresh : k.fresh ≡ next_names i (counters w.sites i) kinds
   pub adds : CanAddEach (here i) (counters (after_transition w i (with_pick (with_fresh_names kinds (w.sites i)) k)).sites) i c.equations (effect_of p c k).adds
-  pub cell : exchange_stack (content_here (own_binds limit (effect_of p c k).adds (with_fresh_names kinds (w.sites i))).site (effect_of p c k).cell) (effect_of p c k).cell (effect_of p c k).stack ≡ stack_with_content c.cells (effect_of p c k).cell (effect_of p c k).stack
-  pub stack : EachOfStack (here i) (stack_with_content c.cells (effect_of p c k).cell (effect_of p c k).stack)
+  pub cell : exchange_stack (content_here (own_binds limit (effect_of p c k).adds (with_fresh_names kinds (w.sites i))).site (effect_of p c k).cell) (effect_of p c k).cell (effect_of p c k).stack ≡ stack_left c (effect_of p c k)
+  pub stack : EachOfStack (here i) (stack_left c (effect_of p c k))
   pub birth : EachOfBirth (here i) (effect_of p c k).born
   pub unborn : (b : Birth) → (effect_of p c k).born ≡ Some b → value_of equal_thread c.threads b.name ≡ None
   pub central : value_of equal_thread c.threads k.thread ≡ Some st
@@ -221,7 +221,7 @@ own_step p here w c n limit i k kinds st q h =
     e = effect_of p c k
 
     su : Stack
-    su = stack_with_content c.cells e.cell e.stack
+    su = stack_left c e
 
     d1 : Transition
     d1 = with_pick (with_fresh_names kinds (w.sites i)) k
@@ -264,7 +264,7 @@ own_step p here w c n limit i k kinds st q h =
 
     centred3 : IsCentreMade (counters w2.sites) c3
     centred3 = record {
-      all = (centred4.all.0, centred4.all.1, each_right (EachOfThread (IsMade (counters w2.sites))) (threads_born p e.born) (with_optional_value equal_thread c.threads k.thread (living_stack su)) centred4.all.2);
+      all = (centred4.all.0, centred4.all.1, centred4.all.2, each_right (EachOfThread (IsMade (counters w2.sites))) (threads_born p e.born) (with_optional_value equal_thread c.threads k.thread (living_stack su)) centred4.all.3);
       nobody = centred4.nobody;
     }
 

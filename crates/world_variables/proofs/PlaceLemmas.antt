@@ -13,6 +13,7 @@ use Rattle.tree_node.specs.Store.{Store, IsFree}
 use Rattle.kernel_syntax.specs.declared.stmt.Stmt.{Stmt}
 use Rattle.bind_protocol.specs.Records.{Records}
 use Rattle.site_model.specs.Site.{ThreadState, Threads}
+use Rattle.thread_roster.specs.declared.mode.Awaited.TheVariants.{Cell}
 use Rattle.thread_roster.specs.declared.mode.Mode.{Mode}
 use Rattle.thread_roster.specs.declared.mode.Mode.TheVariants.{Runs, WaitsFor}
 use Rattle.thread_roster.specs.declared.mode.Mode.TheVariants as site
@@ -78,7 +79,7 @@ module _ (threads : ℕ → Threads) (i : ℕ) (n : ThreadName) (st : Stack) (no
     waits = λ j o su x h. wait j o su x (fronted_old j o (su, site.Waits x) h);
     needs = λ j o su x h. need j o su x (fronted_old j o (su, site.Needs x) h);
     compares = λ j o su xs h. compare j o su xs (fronted_old j o (su, site.WaitsAny xs) h);
-    exchanges = λ j o su d h. exchange j o su d (fronted_old j o (su, WaitsFor d) h);
+    exchanges = λ j o su d h. exchange j o su d (fronted_old j o (su, WaitsFor (Cell d)) h);
   }
     where
       asked : (x : VarName) (t : Term) (o : ThreadName) → IsAwaited p eqs threads c x t o → IsAwaited p eqs (fronted threads i n st) c x t o
@@ -99,8 +100,8 @@ module _ (threads : ℕ → Threads) (i : ℕ) (n : ThreadName) (st : Stack) (no
       compare j o su xs (inl e) = let modes : site.WaitsAny xs ≡ Runs = ap (λ (v : ThreadState). v.1) e.2 in cc
       compare j o su xs (inr h) = w.compares j o su xs h.1
 
-      exchange : (j : ℕ) (o : ThreadName) (su : Stack) (d : CellName) → ((j ≡ i) × (o ≡ n) × (◌≡◌ {A = ThreadState} (su, WaitsFor d) (st, Runs))) ⊎ ((n ≢ o) × (value_of equal_thread (threads j) o ≡ Some (su, WaitsFor d))) → IsExchange p (eqs j) su d
-      exchange j o su d (inl e) = let modes : WaitsFor d ≡ Runs = ap (λ (v : ThreadState). v.1) e.2 in cc
+      exchange : (j : ℕ) (o : ThreadName) (su : Stack) (d : CellName) → ((j ≡ i) × (o ≡ n) × (◌≡◌ {A = ThreadState} (su, WaitsFor (Cell d)) (st, Runs))) ⊎ ((n ≢ o) × (value_of equal_thread (threads j) o ≡ Some (su, WaitsFor (Cell d)))) → IsExchange p (eqs j) su d
+      exchange j o su d (inl e) = let modes : WaitsFor (Cell d) ≡ Runs = ap (λ (v : ThreadState). v.1) e.2 in cc
       exchange j o su d (inr h) = w.exchanges j o su d h.1
 
   pub homes_fronted : (here : ℕ → Name → Type 0) (eqs : ℕ → Store) → EachOfStack (here i) st → AreHome here eqs threads → AreHome here eqs (fronted threads i n st)
@@ -316,7 +317,7 @@ module _ (threads : ℕ → Threads) (i : ℕ) (n : ThreadName) (st : Stack) (r 
     waits = λ j o su x h. wait j o su x (goes_old j o (su, site.Waits x) h);
     needs = λ j o su x h. need j o su x (goes_old j o (su, site.Needs x) h);
     compares = λ j o su xs h. compare j o su xs (goes_old j o (su, site.WaitsAny xs) h);
-    exchanges = λ j o su d h. exchange j o su d (goes_old j o (su, WaitsFor d) h);
+    exchanges = λ j o su d h. exchange j o su d (goes_old j o (su, WaitsFor (Cell d)) h);
   }
     where
       asked : (x : VarName) (t : Term) (o : ThreadName) → IsAwaited p eqs threads c x t o → IsAwaited p eqs (gone_on threads i n r) c x t o
@@ -337,7 +338,7 @@ module _ (threads : ℕ → Threads) (i : ℕ) (n : ThreadName) (st : Stack) (r 
       compare j o su xs (inl e) = let no = e.3 in cc
       compare j o su xs (inr h) = w.compares j o su xs h.1
 
-      exchange : (j : ℕ) (o : ThreadName) (su : Stack) (d : CellName) → ((j ≡ i) × (o ≡ n) × (r ≡ Some su) × (WaitsFor d ≡ Runs)) ⊎ ((j ≡ i → n ≢ o) × (value_of equal_thread (threads j) o ≡ Some (su, WaitsFor d))) → IsExchange p (eqs j) su d
+      exchange : (j : ℕ) (o : ThreadName) (su : Stack) (d : CellName) → ((j ≡ i) × (o ≡ n) × (r ≡ Some su) × (WaitsFor (Cell d) ≡ Runs)) ⊎ ((j ≡ i → n ≢ o) × (value_of equal_thread (threads j) o ≡ Some (su, WaitsFor (Cell d)))) → IsExchange p (eqs j) su d
       exchange j o su d (inl e) = let no = e.3 in cc
       exchange j o su d (inr h) = w.exchanges j o su d h.1
 

@@ -67,7 +67,7 @@ module _ (p : List Stmt) (eqs : ℕ → Store) (records : ℕ → Records) (thre
     where
       waiting : (i : ℕ) (m : Mode) → value_of equal_thread (threads i) n ≡ Some (st, m) → IsWaiting (stack_need p s.equations st)
       waiting i Runs at = absurd (still.waits i n st at)
-      waiting i (WaitsFor d) at = absurd (still.cells i n st d at)
+      waiting i (WaitsFor a) at = absurd (still.cells i n st a at)
       waiting i (site.WaitsAny xs) at = open_vars (parts.waiting.compares i n st xs at)
         where
           open_vars : IsOpenOn p (eqs i) st xs × ((x : VarName) → Contains xs x → IsFree (eqs i) x × IsHere (records i) x) → IsWaiting (stack_need p s.equations st)

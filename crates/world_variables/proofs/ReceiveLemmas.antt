@@ -58,6 +58,11 @@ takes_known p limit i (msg.BindReq x n t bundle) s plain own at y h = go (knowle
 takes_known p limit i (msg.Get c k) s plain own at y h = absurd plain
 takes_known p limit i (msg.Forward c k) s plain own at y h = absurd plain
 takes_known p limit i (msg.Put c v bundle) s plain own at y h = absurd plain
+takes_known p limit i (msg.PortSend q n k) s plain own at y h = absurd plain
+takes_known p limit i (msg.PortEnd n old new bundle) s plain own at y h = absurd plain
+takes_known p limit i (msg.CellMake c v bundle) s plain own at y h = absurd plain
+takes_known p limit i (msg.CellAsk c n k v bundle) s plain own at y h = absurd plain
+takes_known p limit i (msg.CellOld n v bundle) s plain own at y h = absurd plain
 
 -- numbers stay numbers of one message
 pub numbered_acts : (w : World) (i : ℕ) (d : Transition) → IsNumbered w.sent w.mail → IsNumbered (after_transition w i d).sent (after_transition w i d).mail
@@ -82,6 +87,11 @@ takes_row p here w c limit k i (msg.Binding x t bundle) h numbers real sound pla
 takes_row p here w c limit k i (msg.Get d o) h numbers real sound plain far at nob names term = absurd plain
 takes_row p here w c limit k i (msg.Forward d o) h numbers real sound plain far at nob names term = absurd plain
 takes_row p here w c limit k i (msg.Put d v bundle) h numbers real sound plain far at nob names term = absurd plain
+takes_row p here w c limit k i (msg.PortSend q n a) h numbers real sound plain far at nob names term = absurd plain
+takes_row p here w c limit k i (msg.PortEnd n old new bundle) h numbers real sound plain far at nob names term = absurd plain
+takes_row p here w c limit k i (msg.CellMake d v bundle) h numbers real sound plain far at nob names term = absurd plain
+takes_row p here w c limit k i (msg.CellAsk d n a v bundle) h numbers real sound plain far at nob names term = absurd plain
+takes_row p here w c limit k i (msg.CellOld n v bundle) h numbers real sound plain far at nob names term = absurd plain
 
 -- the world after the whole row
 abbrev pub received : List Stmt → ℕ → World → ℕ → ℕ → Msg → World
@@ -134,6 +144,11 @@ receive_row p limit w c k i m h numbers real sound plain far at has = record { c
         is_at (msg.Get f r) q = tt
         is_at (msg.Forward f r) q = tt
         is_at (msg.Put f r bundle) q = tt
+        is_at (msg.PortSend q n k) o = tt
+        is_at (msg.PortEnd n old new bundle) o = tt
+        is_at (msg.CellMake c v bundle) o = tt
+        is_at (msg.CellAsk c n k v bundle) o = tt
+        is_at (msg.CellOld n v bundle) o = tt
 
     up : (j : ℕ) (x : Name) → opened_here w i m j x → here j x
     up = at_all v.sites i e.site (λ j (t : Site). (x : Name) → opened_here w i m j x → IsHereName t.records x ⊎ (j ≡ 0)) (λ x q. either x q) (λ j other x q. q)
@@ -146,6 +161,7 @@ receive_row p limit w c k i m h numbers real sound plain far at has = record { c
             two (inr r) = inr (known x r)
         one (name.Cell x) q = tt
         one (name.Proc x) q = tt
+        one (name.Port x) q = tt
         one (name.Thread x) q = tt
 
         either : (x : Name) → opened_here w i m i x → IsHereName e.site.records x ⊎ (i ≡ 0)

@@ -14,8 +14,8 @@ use Rattle.tree_node.specs.Store.{Equation}
 use Rattle.kernel_syntax.specs.declared.stmt.Stmt.{Stmt}
 use Rattle.site_message.specs.declared.message.Msg.{Msg}
 use Rattle.site_message.specs.declared.message.Msg.TheVariants as msg
-use Rattle.oz_model.specs.Effect.{Effect, Birth, CellChange, Stays, Made, Exchanged}
-use Rattle.oz_model.specs.Step.{stack_with_content, end_count, living_stack, effect_of, next}
+use Rattle.oz_model.specs.Effect.{Effect, Birth, CellChange, Stays, Made, Exchanged, PortChange, Keeps}
+use Rattle.oz_model.specs.Step.{stack_with_content, stack_with_end, stack_left, end_count, living_stack, effect_of, next}
 use Rattle.bind_protocol.specs.Records.{is_own, knowledge}
 use Rattle.bind_protocol.specs.Rows as Rows
 use Rattle.site_model.specs.Site.{Site, Threads, ThreadState, thread_state}
@@ -34,11 +34,9 @@ use Rattle.world_model.specs.Matches.{ended}
 use Rattle.world_model.specs.Schedule.{sum_to}
 use Rattle.world_model.proofs.PutLemmas.{nat_decides, at_all, at_here, at_other}
 use Rattle.tree_node.proofs.NameLemmas.{same_thread_decides}
+pub use Rattle.world_variables.specs.Sums.{names, Sums}
 
 -- ---- names of threads
-
-abbrev pub names : {V : Type 0} → List (ThreadName × V) → List ThreadName
-names {V} ts = map (λ (t : ThreadName × V). t.0) ts
 
 pub with_names : {V : Type 0} (ts : List (ThreadName × V)) (n : ThreadName) (v : V) → names (with_value equal_thread ts n v) ≡ names ts
 with_names [] n v = refl
@@ -64,11 +62,11 @@ without_once {V} ((m, u) ∷ ts) n h = go (equal_thread m n) (without_once ts n 
     go true r = r
     go false r = (without_each (λ y. m ≢ y) ts n h.0, r)
 
-goes_each : {V : Type 0} (P : ThreadName → Type 0) (ts : List (ThreadName × V)) (n : ThreadName) (o : Option V) → Each P (names ts) → Each P (names (with_optional_value equal_thread ts n o))
+pub goes_each : {V : Type 0} (P : ThreadName → Type 0) (ts : List (ThreadName × V)) (n : ThreadName) (o : Option V) → Each P (names ts) → Each P (names (with_optional_value equal_thread ts n o))
 goes_each P ts n None h = without_each P ts n h
 goes_each P ts n (Some v) h = subst (λ (xs : List ThreadName). Each P xs) (sym (with_names ts n v)) h
 
-goes_once : {V : Type 0} (ts : List (ThreadName × V)) (n : ThreadName) (o : Option V) → AreDistinct (names ts) → AreDistinct (names (with_optional_value equal_thread ts n o))
+pub goes_once : {V : Type 0} (ts : List (ThreadName × V)) (n : ThreadName) (o : Option V) → AreDistinct (names ts) → AreDistinct (names (with_optional_value equal_thread ts n o))
 goes_once ts n None h = without_once ts n h
 goes_once ts n (Some v) h = subst (λ (xs : List ThreadName). AreDistinct xs) (sym (with_names ts n v)) h
 
@@ -120,12 +118,6 @@ binds_each_lines limit [] s = refl
 binds_each_lines limit (e ∷ es) s = rw (binds_each_lines limit es s) refl
 
 -- ---- the world and the centre
-
--- the lines are the centre's, so are the ended threads, and each site has a thread once
-pub record Sums (f : Sites) (lines : List (List ℕ)) (c : State) : Type 0 where
-  pub printed : c.lines ≡ lines
-  pub all_ended : (n : ℕ) → ((i : ℕ) → ((1 ≤ i) × (i ≤ n) → ⊥) → (f i).ended ≡ 0) → c.ended ≡ sum_to n (ended f)
-  pub once : (i : ℕ) → AreDistinct (names (f i).threads)
 
 -- a part of a turn of a site, and what the centre does with it
 pub record Summed (s : Site) (d : Transition) (c t : State) : Type 0 where
@@ -294,13 +286,16 @@ module _ (p : List Stmt) (n limit : ℕ) (k : Pick) (kinds : List NameKind) (e :
   stepped_new None h = tt
   stepped_new (Some b) h = goes_each (λ m. b.name ≢ m) (after_cell e.cell begun.site).threads k.thread (runnable_state (living_stack left)) (subst (λ (xs : List ThreadName). Each (λ m. b.name ≢ m) xs) (sym names_before) (none_named s.threads b.name h))
 
-  pub steps_summed : (c : State) → effect_of p c k ≡ e → IsUnborn s e.born → Summed s (step_row p n limit k kinds e s) c (next p c k)
-  steps_summed c is new = record {
+  pub steps_once : IsUnborn s e.born → AreDistinct (names s.threads) → AreDistinct (names (step_row p n limit k kinds e s).site.threads)
+  steps_once new h = bears_once p n limit e.born stepped (stepped_new e.born new) (stepped_once h)
+
+  pub steps_summed : (c : State) → effect_of p c k ≡ e → e.port ≡ Keeps → IsUnborn s e.born → Summed s (step_row p n limit k kinds e s) c (next p c k)
+  steps_summed c is keeps new = record {
     printed = ap (λ (y : Effect). c.lines ++ option_to_list y.line) is ∙ ap (λ (l : List (List ℕ)). c.lines ++ l) (sym lines);
     more = end_count left;
     here = bears_ended p n limit e.born stepped ∙ ap (λ (x : ℕ). x + end_count left) (cell_ended e.cell begun.site ∙ begun_sums.ended);
-    there = ap (λ (y : Effect). c.ended + end_count (stack_with_content c.cells y.cell y.stack)) is ∙ ap (λ (x : ℕ). c.ended + x) (sym (ends_same (content_here begun.site e.cell) c.cells e.cell e.stack));
-    once = λ h. bears_once p n limit e.born stepped (stepped_new e.born new) (stepped_once h);
+    there = ap (λ (y : Effect). c.ended + end_count (stack_left c y)) is ∙ ap (λ (q : PortChange). c.ended + end_count (stack_with_end c.ports q (stack_with_content c.cells e.cell e.stack))) keeps ∙ ap (λ (x : ℕ). c.ended + x) (sym (ends_same (content_here begun.site e.cell) c.cells e.cell e.stack));
+    once = steps_once new;
   }
     where
       lines : (step_row p n limit k kinds e s).lines ≡ option_to_list e.line

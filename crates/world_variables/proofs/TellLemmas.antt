@@ -159,7 +159,7 @@ module _ (p : List Stmt) (here : ℕ → Name → Type 0) (eqs : ℕ → Store) 
     addressed = learnt_addressed p eqs records threads mail more out s.equations d i b x t l parts.addressed;
     waiting = learnt_waiting p eqs records threads mail more out s.equations d i b x t l parts.knowledge kept parts.waiting;
     homes = learnt_homes p eqs records threads mail more out s.equations d i b x t l here names parts.homes;
-    centred = record { all = ((was, parts.centred.all.0), parts.centred.all.1, parts.centred.all.2); nobody = λ y zero r h. nobody y zero r (head_or_tail x y t r s.equations h) };
+    centred = record { all = ((was, parts.centred.all.0), parts.centred.all.1, parts.centred.all.2, parts.centred.all.3); nobody = λ y zero r h. nobody y zero r (head_or_tail x y t r s.equations h) };
     makers = learnt_makers i b x (Some t) knows was.0 (λ e. rw unbound refl);
     said = said_posts mail more out sent made (λ to m h. said to m h) parts.said;
   }

@@ -19,8 +19,8 @@ use Rattle.tree_node.specs.Store.{Store, Equation, IsSound, IsFree}
 use Rattle.kernel_syntax.specs.declared.stmt.Stmt.{Stmt}
 use Rattle.site_message.specs.declared.message.Msg.{Msg}
 use Rattle.oz_model.specs.Need.{Need, Binds, Takes, stack_need, IsReady, kinds_of}
-use Rattle.oz_model.specs.Effect.{Effect, Birth, CellChange, Stays, Made, Exchanged, stack_effect, vars_among}
-use Rattle.oz_model.specs.Step.{IsAllowed, IsBindFor, AreFresh, effect_of, next, stack_of, stack_with_content}
+use Rattle.oz_model.specs.Effect.{Effect, Birth, CellChange, Stays, Made, Exchanged, PortChange, Keeps, stack_effect, vars_among}
+use Rattle.oz_model.specs.Step.{AreOfKinds, IsAllowed, IsBindFor, AreFresh, effect_of, next, stack_of, stack_with_content, stack_with_end, stack_left}
 use Rattle.oz_model.specs.Laws.{nobody}
 use Rattle.oz_model.proofs.DownLemmas.{lower_binds}
 use Rattle.oz_model.proofs.WithinLemmas.{more_is_within}
@@ -64,11 +64,11 @@ asks_known : (limit : ℕ) (es : List Equation) (s : Site) (y : VarName) → IsK
 asks_known limit [] s y h = h
 asks_known limit (e ∷ es) s y h = ask_known (own_binds limit es s).site.records e.0 e.1 y (asks_known limit es s y h)
 
-makes_known : (xs : List VarName) (b : Records) (y : VarName) → IsKnown b y → IsKnown (after_makes b xs) y
+pub makes_known : (xs : List VarName) (b : Records) (y : VarName) → IsKnown b y → IsKnown (after_makes b xs) y
 makes_known [] b y h = h
 makes_known (x ∷ xs) b y h = makes_known xs (after_make b x) y (make_known b x y h)
 
-made_known : (xs : List VarName) (b : Records) → Each (λ (x : VarName). x.site ≡ b.site) xs → Each (λ (x : VarName). IsKnown (after_makes b xs) x) xs
+pub made_known : (xs : List VarName) (b : Records) → Each (λ (x : VarName). x.site ≡ b.site) xs → Each (λ (x : VarName). IsKnown (after_makes b xs) x) xs
 made_known [] b h = tt
 made_known (x ∷ xs) b h = (makes_known xs (after_make b x) x (rw (make_learns b x h.0).here refl), made_known xs (after_make b x) h.1)
 
@@ -92,18 +92,20 @@ step_here p n limit k kinds e s y (inr q) = inr (steps_known p n limit k kinds e
 
 -- ---- names among fresh ones
 
-vars_each : (P : VarName → Type 0) (Q : Name → Type 0) → ((x : VarName) → Q (name.Var x) → P x) → (ns : List Name) → Each Q ns → Each P (vars_among ns)
+pub vars_each : (P : VarName → Type 0) (Q : Name → Type 0) → ((x : VarName) → Q (name.Var x) → P x) → (ns : List Name) → Each Q ns → Each P (vars_among ns)
 vars_each P Q f [] h = tt
 vars_each P Q f (name.Var x ∷ ns) h = (f x h.0, vars_each P Q f ns h.1)
 vars_each P Q f (name.Cell c ∷ ns) h = vars_each P Q f ns h.1
 vars_each P Q f (name.Proc c ∷ ns) h = vars_each P Q f ns h.1
+vars_each P Q f (name.Port c ∷ ns) h = vars_each P Q f ns h.1
 vars_each P Q f (name.Thread c ∷ ns) h = vars_each P Q f ns h.1
 
-names_here : (b : Records) (ns : List Name) → Each (IsKnown b) (vars_among ns) → Each (IsHereName b) ns
+pub names_here : (b : Records) (ns : List Name) → Each (IsKnown b) (vars_among ns) → Each (IsHereName b) ns
 names_here b [] h = tt
 names_here b (name.Var x ∷ ns) h = (inr h.0, names_here b ns h.1)
 names_here b (name.Cell c ∷ ns) h = (tt, names_here b ns h)
 names_here b (name.Proc c ∷ ns) h = (tt, names_here b ns h)
+names_here b (name.Port c ∷ ns) h = (tt, names_here b ns h)
 names_here b (name.Thread c ∷ ns) h = (tt, names_here b ns h)
 
 -- ---- cells apart
@@ -158,7 +160,7 @@ unborn_by : (c : State) (fresh : List Name) (o : Option Birth) → BornFrom fres
 unborn_by c fresh None from new b e = cc
 unborn_by c fresh (Some d) (rest, is) new b e =
     let same : d ≡ b = cc in
-    subst (λ (x : Birth). value_of equal_thread c.threads x.name ≡ None) same (new_none c.threads d.name (subst (λ (ns : List Name). Each (IsNew c) ns) is new).0.2)
+    subst (λ (x : Birth). value_of equal_thread c.threads x.name ≡ None) same (new_none c.threads d.name (subst (λ (ns : List Name). Each (IsNew c) ns) is new).0.3)
 
 -- a variable that is new has no equation
 new_free : (c : State) (x : VarName) → IsNew c (name.Var x) → IsFree c.equations x
@@ -189,8 +191,8 @@ module _ (p : List Stmt) (w : World) (c : State) (n limit i : ℕ) (th : ThreadN
     pub wider : (x : VarName) → IsHere (w.sites i).records x → IsHere d.site.records x
 
   pub unit_step : i ≢ 0 → IsSound c.equations → ((l a : ℕ) (m : Msg) → IsOnItsWay w.mail l a m → l < w.sent) → value_of equal_thread (threads w.sites i) th ≡ Some (st, Runs) → SiteStep p (eqs w.sites i) i st kinds bind →
-      CellAgrees (hereF i) c (own_binds limit e.adds (with_fresh_names kinds (w.sites i))).site e.cell → PartsIn p (here_at (records w.sites)) w c → UnitDone
-  unit_step real sound below at step agrees h = record { allowed = allowed; parts = subst (λ (x : Effect). PartsIn p hereF (after_transition w i (step_row p n limit k kinds x (w.sites i))) (next p c k)) effect (own_step p hereF w c n limit i k kinds st own h2); effect = effect; names = names; news = news; wider = wider }
+      CellAgrees (hereF i) c (own_binds limit e.adds (with_fresh_names kinds (w.sites i))).site e.cell → e.port ≡ Keeps → PartsIn p (here_at (records w.sites)) w c → UnitDone
+  unit_step real sound below at step agrees keeps h = record { allowed = allowed; parts = subst (λ (x : Effect). PartsIn p hereF (after_transition w i (step_row p n limit k kinds x (w.sites i))) (next p c k)) effect (own_step p hereF w c n limit i k kinds st own h2); effect = effect; names = names; news = news; wider = wider }
     where
       s : Site
       s = w.sites i
@@ -229,6 +231,7 @@ module _ (p : List Stmt) (w : World) (c : State) (n limit i : ℕ) (th : ThreadN
           one (name.Var x) (inr q) = inr (steps_known p n limit k kinds e s x (makes_known (vars_among (next_names s.records.site s.counters kinds)) s.records x q))
           one (name.Cell x) q = tt
           one (name.Proc x) q = tt
+          one (name.Port x) q = tt
           one (name.Thread x) q = tt
 
           either : (x : Name) → IsHereName s.records x ⊎ (i ≡ 0) → IsHereName d.site.records x ⊎ (i ≡ 0)
@@ -257,7 +260,7 @@ module _ (p : List Stmt) (w : World) (c : State) (n limit i : ℕ) (th : ThreadN
       fresh_here = Each-weaker (IsHereName (records (after_transition w i d).sites i)) (hereF i) (λ x q. inl q) fresh (names_here (records (after_transition w i d).sites i) fresh (Each-weaker _ _ final_known (vars_among fresh) fresh_known))
 
       names : EachOfEffect (hereF i) e
-      names = stack_effect_names (hereF i) nob p (eqs w.sites i) fresh bind st (h2.homes i).equations ((h2.homes i).stacks th (st, Runs) at) fresh_here (news.of_kinds ∙ sym there.kinds_here) there.bind_here
+      names = stack_effect_names (hereF i) nob p (eqs w.sites i) fresh bind st (h2.homes i).equations ((h2.homes i).stacks th (st, Runs) at) fresh_here (subst (AreOfKinds fresh) (sym there.kinds_here) news.of_kinds) there.bind_here
 
       site1 : counters (after_transition w i (with_pick (with_fresh_names kinds s) k)).sites i ≡ counters_after s.counters kinds
       site1 = ap (λ (t : Site). t.counters) (at_here w.sites i (with_fresh_names kinds s))
@@ -350,10 +353,10 @@ module _ (p : List Stmt) (w : World) (c : State) (n limit i : ℕ) (th : ThreadN
         allowed = allowed;
         fresh = refl;
         adds = subst (λ (x : Effect). CanAddEach (hereF i) (counters (after_transition w i (with_pick (with_fresh_names kinds s) k)).sites) i c.equations x.adds) (sym effect) adds_ok;
-        cell = subst (λ (x : Effect). exchange_stack (content_here (own_binds limit x.adds (with_fresh_names kinds s)).site x.cell) x.cell x.stack ≡ stack_with_content c.cells x.cell x.stack) (sym effect) (settles e.cell e.stack agrees);
-        stack = subst (λ (x : Effect). EachOfStack (hereF i) (stack_with_content c.cells x.cell x.stack)) (sym effect) (stack_here e.cell names.cell agrees);
+        cell = subst (λ (x : Effect). exchange_stack (content_here (own_binds limit x.adds (with_fresh_names kinds s)).site x.cell) x.cell x.stack ≡ stack_left c x) (sym effect) (settles e.cell e.stack agrees ∙ sym no_end);
+        stack = subst (λ (x : Effect). EachOfStack (hereF i) (stack_left c x)) (sym effect) (subst (EachOfStack (hereF i)) (sym no_end) (stack_here e.cell names.cell agrees));
         birth = subst (λ (x : Effect). EachOfBirth (hereF i) x.born) (sym effect) names.born;
-        unborn = subst (λ (x : Effect). (b : Birth) → x.born ≡ Some b → value_of equal_thread c.threads b.name ≡ None) (sym effect) (unborn_by c fresh e.born (stack_born p (eqs w.sites i) fresh bind st (news.of_kinds ∙ sym there.kinds_here)) news.unused);
+        unborn = subst (λ (x : Effect). (b : Birth) → x.born ≡ Some b → value_of equal_thread c.threads b.name ≡ None) (sym effect) (unborn_by c fresh e.born (stack_born p (eqs w.sites i) fresh bind st (subst (AreOfKinds fresh) (sym there.kinds_here) news.of_kinds)) news.unused);
         central = central;
         nobody = nob;
         below = below;
@@ -361,6 +364,9 @@ module _ (p : List Stmt) (w : World) (c : State) (n limit i : ℕ) (th : ThreadN
         where
           s2 : Site
           s2 = (own_binds limit e.adds (with_fresh_names kinds s)).site
+
+          no_end : stack_left c e ≡ stack_with_content c.cells e.cell e.stack
+          no_end = ap (λ (q : PortChange). stack_with_end c.ports q (stack_with_content c.cells e.cell e.stack)) keeps
 
           settles : (ch : CellChange) (su : Stack) → CellAgrees (hereF i) c s2 ch → exchange_stack (content_here s2 ch) ch su ≡ stack_with_content c.cells ch su
           settles Stays su a = refl

@@ -1,6 +1,5 @@
 -- How turns on variables and threads keep a world matched with the centralised machine.
 use Rattle.std.specs.Prelude.{◌≡◌, ◌≢◌, ℕ, List, ◌⊎◌, Some, Contains}
-use Rattle.tree_node.specs.declared.names.CellName.{CellName}
 use Rattle.tree_node.specs.declared.names.ThreadName.{ThreadName}
 use Rattle.tree_node.specs.declared.names.Name.{Name}
 use Rattle.tree_node.specs.Assoc.{value_of}
@@ -11,6 +10,7 @@ use Rattle.kernel_syntax.specs.declared.stmt.Stmt.{Stmt}
 use Rattle.site_message.specs.declared.message.Msg.{Msg}
 use Rattle.site_message.specs.declared.message.Msg.TheVariants as msg
 use Rattle.oz_model.specs.Run.{IsRun, AtRest, start}
+use Rattle.thread_roster.specs.declared.mode.Awaited.{Awaited}
 use Rattle.thread_roster.specs.declared.mode.Mode.TheVariants as mode
 use Rattle.site_model.specs.Site.{Threads, thread_state}
 use Rattle.site_model.specs.Bundle.{message_bundle}
@@ -36,7 +36,7 @@ IsFollowed p c d w = (z : State) × IsRun p c d.picks z × WorldMatches p w z
 
 -- at the start the sites match the machine
 abbrev pub StartMatches : Type 0
-StartMatches = (p : List Stmt) → WorldMatches p (start_world p) (start p)
+StartMatches = (p : List Stmt) (n : ℕ) → WorldMatches p (start_world p n) (start p)
 
 -- a Binding is of another site's variable
 abbrev pub IsForeignBinding : ℕ → Msg → Type 0
@@ -50,18 +50,18 @@ MessagesAreFollowed =
     IsPlain m → IsForeignBinding i m → IsOnItsWay w.mail k i m → Each (Contains c.equations) (message_bundle m) →
     IsFollowed p c (reception p limit m (w.sites i)) (after_receipt (Some k) (after_transition w i (reception p limit m (w.sites i))))
 
--- a unit of a thread of site i: it exchanges a cell, or the machine follows
+-- a unit of a thread of site i: it is on a cell or a port, or the machine follows
 abbrev pub UnitsAreFollowed : Type 0
 UnitsAreFollowed =
     (p : List Stmt) (n limit i : ℕ) (th : ThreadName) (w : World) (c : State) (d : Transition) → i ≢ 0 → IsSound c.equations → IsNumbered w.sent w.mail →
     WorldMatches p w c → IsUnit p n limit th (w.sites i) d →
     ((st : Stack) × (thread_state (w.sites i) th ≡ Some (st, mode.Runs)) × IsCellUnit p (w.sites i).equations st) ⊎ IsFollowed p c d (after_transition w i d)
 
--- nothing travels, no thread can go on, and none waits for a cell
+-- nothing travels, no thread can go on, and none waits for a cell or a port
 pub record IsStill (threads : ℕ → Threads) (mail : Mail) : Type 0 where
   pub none : (k to : ℕ) (m : Msg) → IsOnItsWay mail k to m → ⊥
   pub waits : (i : ℕ) (n : ThreadName) (st : Stack) → value_of equal_thread (threads i) n ≡ Some (st, mode.Runs) → ⊥
-  pub cells : (i : ℕ) (n : ThreadName) (st : Stack) (d : CellName) → value_of equal_thread (threads i) n ≡ Some (st, mode.WaitsFor d) → ⊥
+  pub cells : (i : ℕ) (n : ThreadName) (st : Stack) (a : Awaited) → value_of equal_thread (threads i) n ≡ Some (st, mode.WaitsFor a) → ⊥
 
 -- then the machine rests
 abbrev pub QuietRests : Type 0

@@ -1,2 +1,3 @@
 pub mod Plain
 pub mod Laws
+pub mod Sums

@@ -18,6 +18,6 @@ loop-number-preserved c = record {
     here : IsNewSite c.args.program.now c.args.sites (length c.loop-number.first.items) c.in_ok-new.field-0
     here = (
       (c.in_ok-new.ensures.program, c.in_ok-new.ensures.sites, c.in_ok-new.ensures.live),
-      subst (λ (n : ℕ). c.in_ok-new.field-0.state ≡ initial_site c.args.program.now n) (sym c.loop-number.invariant.length) c.in_ok-new.ensures.state,
+      subst (λ (n : ℕ). c.in_ok-new.field-0.state ≡ initial_site c.args.program.now c.args.sites n) (sym c.loop-number.invariant.length) c.in_ok-new.ensures.state,
       subst (λ (n : ℕ). c.in_ok-new.field-0.order ≡ first_order n) (sym c.loop-number.invariant.length) c.in_ok-new.ensures.order,
     )

@@ -15,7 +15,7 @@ use Rattle.world_core.specs.World.{WorldState, IsConsistent, state_in, states_by
 use Rattle.world_core.specs.Travels.{IsNotThere}
 use Rattle.world_core.proofs.ReplayLemmas.{replayed_there, stuck_there, others_there, state_set, same_entry, Told, not_there, site_stuck, site_there, site_lines}
 use Rattle.world_core.proofs.TurnLemmas.{After, after_turn, taken_below, turn_stays}
-use Rattle.world_core.proofs.WorldLemmas.{machine, were_fit, protocols, messages_few}
+use Rattle.world_core.proofs.WorldLemmas.{machine, were_fit, protocols, answers_hold, messages_few}
 use Rattle.world_core.proofs.world.World.replay.Goals as goal
 
 pub push_all-requires : goal.push_all-requires
@@ -55,7 +55,7 @@ invariant_of-self-2 c =
 pub returns-clause-turn : goal.returns-clause-turn
 returns-clause-turn c =
     (after c).turn c.args.self.now _ (ap (λ (v : WorldState). v.program) (sym c.self.view_is)) (ap (λ (v : WorldState). v.sites) (sym c.self.view_is)) (ap (λ (v : WorldState). v.journal) (sym c.self.view_is))
-    (ap (λ (v : WorldState). v.states) (sym c.self.view_is)) (ap (λ (v : WorldState). v.travels) (sym c.self.view_is)) refl (pushed c) refl c.in_ok-made.ensures.few
+    (ap (λ (v : WorldState). v.states) (sym c.self.view_is)) (ap (λ (v : WorldState). v.travels) (sym c.self.view_is)) refl (length-set c.self.inside.sites.items (c.args.site - 1) c.replay.new.self) (pushed c) refl c.in_ok-made.ensures.few
 
 pub returns-clause-replayed : goal.returns-clause-replayed
 returns-clause-replayed c =
@@ -75,12 +75,12 @@ pub returns-clause-stays : goal.returns-clause-stays
 returns-clause-stays c = turn_stays _ _ c.args.site c.args.place (length c.args.threads.now) c.requires.units (returns-clause-turn c)
 
 -- the run goes on
-run : (c : goal.After-self-4-1) → WorldRun c.self.inside.program.now (length (slice_set c.self.inside.sites.items (c.args.site - 1) c.replay.new.self)) bundle_limit c.push.new.self (states_by c.self.inside.program.now (map state_in (slice_set c.self.inside.sites.items (c.args.site - 1) c.replay.new.self)))
+run : (c : goal.After-self-4-1) → WorldRun c.self.inside.program.now (length (slice_set c.self.inside.sites.items (c.args.site - 1) c.replay.new.self)) bundle_limit c.push.new.self (states_by c.self.inside.program.now (length (slice_set c.self.inside.sites.items (c.args.site - 1) c.replay.new.self)) (map state_in (slice_set c.self.inside.sites.items (c.args.site - 1) c.replay.new.self)))
 run c =
     let w = c.self.inside in
-    let states = states_by w.program.now (map state_in (slice_set w.sites.items (c.args.site - 1) c.replay.new.self)) in
-    subst (λ (n : ℕ). WorldRun w.program.now n bundle_limit c.push.new.self states) (sym (length-set w.sites.items (c.args.site - 1) c.replay.new.self))
-    (subst (λ (j : List Turn). WorldRun w.program.now (length w.sites.items) bundle_limit j states) (sym (pushed c)) (after c).run)
+    let states = map state_in (slice_set w.sites.items (c.args.site - 1) c.replay.new.self) in
+    subst (λ (n : ℕ). WorldRun w.program.now n bundle_limit c.push.new.self (states_by w.program.now n states)) (sym (length-set w.sites.items (c.args.site - 1) c.replay.new.self))
+    (subst (λ (j : List Turn). WorldRun w.program.now (length w.sites.items) bundle_limit j (states_by w.program.now (length w.sites.items) states)) (sym (pushed c)) (after c).run)
 
 low : (c : goal.After-self-4-1) → 1 ≤ length (slice_set c.self.inside.sites.items (c.args.site - 1) c.replay.new.self)
 low c = let r = c.self.invariant.range.0 in rw (length-set c.self.inside.sites.items (c.args.site - 1) c.replay.new.self) r
@@ -96,6 +96,9 @@ returns-clause-simulated c = machine c.self.inside.program.now _ c.push.new.self
 
 pub returns-clause-protocols : goal.returns-clause-protocols
 returns-clause-protocols c = protocols c.self.inside.program.now _ c.push.new.self _ c.self.invariant.program (low c) (high c) (run c)
+
+pub returns-clause-answers : goal.returns-clause-answers
+returns-clause-answers c = answers_hold c.self.inside.program.now _ c.push.new.self _ c.self.invariant.program (low c) (high c) (run c)
 
 pub returns-clause-fit : goal.returns-clause-fit
 returns-clause-fit c = were_fit c.self.inside.program.now _ c.push.new.self _ c.self.invariant.program (low c) (high c) (run c)

@@ -9,7 +9,7 @@ use Rattle.world_mail.specs.declared.travel.Travel.{Travel}
 use Rattle.world_core.specs.Travels.{IsNotThere}
 use Rattle.world_core.specs.World.{WorldState, IsConsistent, state_in, states_by}
 use Rattle.world_core.proofs.TurnLemmas.{After, after_turn, after_in_order, taken_below, turn_stays}
-use Rattle.world_core.proofs.WorldLemmas.{machine, were_fit, protocols, messages_few}
+use Rattle.world_core.proofs.WorldLemmas.{machine, were_fit, protocols, answers_hold, messages_few}
 use Rattle.world_core.proofs.world.World.turn.Goals as goal
 
 pub push_all-requires : goal.push_all-requires
@@ -56,7 +56,7 @@ returns-then-is_err-clause-refused c =
 pub returns-clause-turn : goal.returns-clause-turn
 returns-clause-turn c =
     (after c).turn c.args.self.now _ (ap (λ (v : WorldState). v.program) (sym c.self.view_is)) (ap (λ (v : WorldState). v.sites) (sym c.self.view_is)) (ap (λ (v : WorldState). v.journal) (sym c.self.view_is))
-    (ap (λ (v : WorldState). v.states) (sym c.self.view_is)) (ap (λ (v : WorldState). v.travels) (sym c.self.view_is)) refl (pushed c) refl c.in_ok-turn.ensures.few
+    (ap (λ (v : WorldState). v.states) (sym c.self.view_is)) (ap (λ (v : WorldState). v.travels) (sym c.self.view_is)) refl (length-set c.self.inside.sites.items (c.args.site - 1) c.turn.new.self) (pushed c) refl c.in_ok-turn.ensures.few
 
 pub returns-clause-order : goal.returns-clause-order
 returns-clause-order c =
@@ -67,18 +67,18 @@ returns-clause-order c =
     after_in_order w.program.now w.journal w.sites.items w.mail c.take_message.new.mail w.sent (before c) c.args.site c.requires.some high c.args.place c.args.quantum.0 c.requires.units
     c.index_mut.result.now c.turn.new.self c.index_mut.ensures.value c.in_ok-message.message c.in_ok-message.ensures.taken c.in_ok-turn.turn c.in_ok-turn.ensures.turn
     c.args.self.now _ (ap (λ (v : WorldState). v.program) (sym c.self.view_is)) (ap (λ (v : WorldState). v.sites) (sym c.self.view_is)) (ap (λ (v : WorldState). v.journal) (sym c.self.view_is))
-    (ap (λ (v : WorldState). v.states) (sym c.self.view_is)) (ap (λ (v : WorldState). v.orders) (sym c.self.view_is)) refl (pushed c) refl refl c.in_ok-turn.ensures.order
+    (ap (λ (v : WorldState). v.states) (sym c.self.view_is)) (ap (λ (v : WorldState). v.orders) (sym c.self.view_is)) refl (length-set c.self.inside.sites.items (c.args.site - 1) c.turn.new.self) (pushed c) refl refl c.in_ok-turn.ensures.order
 
 pub returns-clause-stays : goal.returns-clause-stays
 returns-clause-stays c = turn_stays _ _ c.args.site c.args.place c.args.quantum.0 c.requires.units (returns-clause-turn c)
 
 -- the run goes on
-run : (c : goal.After-self-4-1) → WorldRun c.self.inside.program.now (length (slice_set c.self.inside.sites.items (c.args.site - 1) c.turn.new.self)) bundle_limit c.push.new.self (states_by c.self.inside.program.now (map state_in (slice_set c.self.inside.sites.items (c.args.site - 1) c.turn.new.self)))
+run : (c : goal.After-self-4-1) → WorldRun c.self.inside.program.now (length (slice_set c.self.inside.sites.items (c.args.site - 1) c.turn.new.self)) bundle_limit c.push.new.self (states_by c.self.inside.program.now (length (slice_set c.self.inside.sites.items (c.args.site - 1) c.turn.new.self)) (map state_in (slice_set c.self.inside.sites.items (c.args.site - 1) c.turn.new.self)))
 run c =
     let w = c.self.inside in
-    let states = states_by w.program.now (map state_in (slice_set w.sites.items (c.args.site - 1) c.turn.new.self)) in
-    subst (λ (n : ℕ). WorldRun w.program.now n bundle_limit c.push.new.self states) (sym (length-set w.sites.items (c.args.site - 1) c.turn.new.self))
-    (subst (λ (j : List Turn). WorldRun w.program.now (length w.sites.items) bundle_limit j states) (sym (pushed c)) (after c).run)
+    let states = map state_in (slice_set w.sites.items (c.args.site - 1) c.turn.new.self) in
+    subst (λ (n : ℕ). WorldRun w.program.now n bundle_limit c.push.new.self (states_by w.program.now n states)) (sym (length-set w.sites.items (c.args.site - 1) c.turn.new.self))
+    (subst (λ (j : List Turn). WorldRun w.program.now (length w.sites.items) bundle_limit j (states_by w.program.now (length w.sites.items) states)) (sym (pushed c)) (after c).run)
 
 low : (c : goal.After-self-4-1) → 1 ≤ length (slice_set c.self.inside.sites.items (c.args.site - 1) c.turn.new.self)
 low c = let r = c.self.invariant.range.0 in rw (length-set c.self.inside.sites.items (c.args.site - 1) c.turn.new.self) r
@@ -94,6 +94,9 @@ returns-clause-simulated c = machine c.self.inside.program.now _ c.push.new.self
 
 pub returns-clause-protocols : goal.returns-clause-protocols
 returns-clause-protocols c = protocols c.self.inside.program.now _ c.push.new.self _ c.self.invariant.program (low c) (high c) (run c)
+
+pub returns-clause-answers : goal.returns-clause-answers
+returns-clause-answers c = answers_hold c.self.inside.program.now _ c.push.new.self _ c.self.invariant.program (low c) (high c) (run c)
 
 pub returns-clause-fit : goal.returns-clause-fit
 returns-clause-fit c = were_fit c.self.inside.program.now _ c.push.new.self _ c.self.invariant.program (low c) (high c) (run c)

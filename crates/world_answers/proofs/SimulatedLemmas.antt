@@ -17,19 +17,22 @@ use Rattle.site_model.specs.Site.{Site, ThreadState, is_idle, waiting_count, run
 use Rattle.site_model.specs.Run.{IsReachedBy, IsSiteIn}
 use Rattle.site_model.specs.Run as Run
 use Rattle.world_model.specs.Schedule.{schedule, sum_to}
-use Rattle.world_cells.specs.FitRuns.{IsFitEntry, SiteFitRun}
+use Rattle.world_answers.specs.FitRuns.{IsFitEntry, SiteFitRun}
 use Rattle.world_model.specs.World.{Sites, world_of}
 use Rattle.world_model.specs.Matches.{Totals, ended, living, spawn_count}
 use Rattle.world_model.specs.Simulated.{last_ended, last_waiting, IsSimulated}
-use Rattle.world_cells.specs.FitRuns.{FitRunsAreSimulated}
+use Rattle.world_answers.specs.FitRuns.{FitRunsAreSimulated}
 use Rattle.world_model.proofs.PutLemmas.{nat_decides}
 use Rattle.world_variables.proofs.QuietLemmas.{waits}
-use Rattle.world_variables.proofs.LivingLemmas.{travelling_once, all_living}
-use Rattle.world_cells.proofs.UnitLemmas.{Reached}
+use Rattle.world_variables.proofs.LivingLemmas.{travelling_once}
+use Rattle.world_answers.proofs.LivingLemmas.{living_joined}
+use Rattle.world_answers.specs.Joined.{Joined}
 use Rattle.oz_model.proofs.SoundLemmas.{runs_are_sound}
 use Rattle.oz_model.proofs.CellLemmas.{cells_are_chains}
-use Rattle.world_cells.proofs.JournalLemmas.{journal_paid}
-use Rattle.world_cells.proofs.EndLemmas.{no_site, quiet_mail, rests}
+use Rattle.oz_model.proofs.PortLemmas.{ports_are_chains}
+use Rattle.oz_model.proofs.SendLemmas.{sends_are_in_order}
+use Rattle.world_answers.proofs.JournalLemmas.{journal_paid}
+use Rattle.world_answers.proofs.EndLemmas.{no_site, quiet_mail, rests}
 use Rattle.world_variables.proofs.SumLemmas.{in_or}
 
 -- a site that is none of the world's has ended no thread
@@ -81,32 +84,36 @@ sum_same (suc n) g h e =
     let last : g (suc n) ≡ h (suc n) = e (suc n) (omega arith) (omega arith) in
     omega (arith, ih, last)
 
-module _ (p : List Stmt) (n limit : ℕ) (j : List Turn) (f : Sites) (some : 1 ≤ n) (inside : Each (IsSiteIn n) j) (runs : (i : ℕ) → SiteFitRun p n limit i j (f i)) (r : Reached p (world_of j f) (schedule j)) where
-  totals : Totals n (ended f) (living f) (travelling j) r.centre
+module _ (p : List Stmt) (n limit : ℕ) (j : List Turn) (f : Sites) (some : 1 ≤ n) (inside : Each (IsSiteIn n) j) (runs : (i : ℕ) → SiteFitRun p n limit i j (f i)) (r : Joined p (world_of j f) (schedule j)) where
+  totals : Totals n (ended f) (living f) (travelling j) r.reached.centre
   totals = record {
-    all_ended = r.sums.all_ended n (λ i out. no_ended p n limit i j (f i) inside out (runs i));
-    all_living = all_living p n f (travelling j) r.centre r.parts.placed (runs_are_once p (schedule j) r.centre r.run).threads r.sums.once (travelling_once j) (λ i z v h. go i z v h (in_or i n));
+    all_ended = r.reached.sums.all_ended n (λ i out. no_ended p n limit i j (f i) inside out (runs i));
+    all_living = living_joined p n (world_of j f) r.transit r.reached.centre r.reached.parts.placed r.answers (λ i z v h. go i z v h (in_or i n)) (runs_are_once p (schedule j) r.reached.centre r.reached.run).threads r.once (travelling_once j);
   }
     where
       go : (i : ℕ) (z : ThreadName) (v : ThreadState) → value_of equal_thread (f i).threads z ≡ Some v → ((1 ≤ i) × (i ≤ n)) ⊎ (((1 ≤ i) × (i ≤ n)) → ⊥) → (1 ≤ i) × (i ≤ n)
       go i z v h (inl q) = q
       go i z v h (inr out) = absurd (no_site p n limit i j (f i) some inside out (runs i) z v h)
 
-  all_wait : IsTrue (is_quiet n j) → length r.centre.threads ≡ sum_to n (λ (i : ℕ). waiting_count (f i))
+  all_wait : IsTrue (is_quiet n j) → length r.reached.centre.threads ≡ sum_to n (λ (i : ℕ). waiting_count (f i))
   all_wait q =
       let none : spawn_count (travelling j) ≡ 0 = ap spawn_count (quiet_mail n j q) in
-      let all : length r.centre.threads ≡ sum_to n (living f) + spawn_count (travelling j) = totals.all_living in
+      let all : length r.reached.centre.threads ≡ sum_to n (living f) + spawn_count (travelling j) = totals.all_living in
       let same : sum_to n (λ (i : ℕ). waiting_count (f i)) ≡ sum_to n (living f) = sum_same n (λ (i : ℕ). waiting_count (f i)) (living f) (λ i low high. (nat_decides (waiting_count (f i)) (length (f i).threads)).0 (idle_now p n limit i j (f i) (runs i) (((quiet_tells n j).0 q).1 i low high))) in
       omega (arith, none, all, same)
 
-  pub simulated : IsSimulated p n j f r.centre
+  pub simulated : IsSimulated p n j f r.reached.centre
   simulated = record {
-    run = r.run;
-    matches = record { parts = r.parts; numbered = r.numbers; totals = totals; lines = r.sums.printed };
-    cells = r.cells;
-    sound = runs_are_sound p (schedule j) r.centre r.run;
-    once = r.parts.knowledge.one;
-    chains = λ c. cells_are_chains p (schedule j) r.centre c r.run;
+    run = r.reached.run;
+    transit = r.transit;
+    matches = record { parts = r.reached.parts; numbered = r.reached.numbers; totals = totals; lines = r.reached.sums.printed };
+    cells = r.reached.cells;
+    answers = r.answers;
+    sound = runs_are_sound p (schedule j) r.reached.centre r.reached.run;
+    once = r.reached.parts.knowledge.one;
+    chains = λ c. cells_are_chains p (schedule j) r.reached.centre c r.reached.run;
+    sends = λ q. ports_are_chains p (schedule j) r.reached.centre q r.reached.run;
+    ordered = λ q m. sends_are_in_order p (schedule j) q m;
     quiet = λ q. record { rest = rests p n limit j f some inside runs r q; ended = totals.all_ended; living = all_wait q };
     told = λ q. record {
       ended = totals.all_ended ∙ sum_same n (ended f) (last_ended j) (λ i low high. (told_is p n limit i j (f i) (runs i)).0);
@@ -116,5 +123,5 @@ module _ (p : List Stmt) (n limit : ℕ) (j : List Turn) (f : Sites) (some : 1 �
 
 pub fit_runs_are_simulated : FitRunsAreSimulated
 fit_runs_are_simulated p n limit j f some wired inside runs =
-    let r = (journal_paid p n limit j f wired inside runs).reached in
-    (r.centre, simulated p n limit j f some inside runs r)
+    let r = (journal_paid p n limit j f wired inside runs).joined in
+    (r.reached.centre, simulated p n limit j f some inside runs r)

@@ -1,0 +1,4 @@
+pub mod AnswerCounts
+pub mod FitRuns
+pub mod Joined
+pub mod Laws
