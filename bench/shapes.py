@@ -114,6 +114,53 @@ def cell(n):
 end"""
 
 
+def turns(n, declared, made, names, turn):
+    """A loop of n turns, in each of which this is done with these variables of its own, after those were made."""
+    return f"""local Loop {declared} Zero One N Nil in {constants(n)} {made}
+  proc {{Loop K}}
+    local Ends in
+      Ends = K =< Zero
+      if Ends then skip else local {names} in {turn} M = K - One {{Loop M}} end end
+    end
+  end
+  {{Loop N}}
+end"""
+
+
+def sends(n):
+    """n sends of one value to one port: each makes a variable, and tells the end the pair of the value and of it."""
+    return turns(n, "S P A", "A = a {NewPort S P}", "M", "{Send P A}")
+
+
+def pairs_told(n):
+    """n variables, each made and told the pair of two values."""
+    return turns(n, "A B", "A = a B = b", "M T", "T = A|B")
+
+
+SERVE = """
+  proc {Serve Xs}
+    case Xs of X|Xr then case X of ask(Q A) then A = Q {Serve Xr} else skip end else skip end
+  end
+"""
+
+ASK = """
+  proc {Ask K}
+    local Ends in
+      Ends = K =< Zero
+      if Ends then skip else local A M Q in Q = ask(K A) {Send P Q} {Wait A} M = K - One {Ask M} end end
+    end
+  end
+"""
+
+
+def agent(n, place=""):
+    """n questions to an agent, one after the other; who asks may be placed."""
+    return f"""local Serve Ask S P Zero One N Nil in {constants(n)} {{NewPort S P}} {SERVE} {ASK}
+  thread {{Serve S}} end
+  thread {place} {{Ask N}} end
+end"""
+
+
 def marks(n):
     """n nested catch marks, and a raise that goes through them: each handler raises again."""
     return f"""local Deep Zero One N Nil in {constants(n)}
@@ -192,11 +239,6 @@ def told_equal(n, place=""):
   end
   {{Tell N X}} X = One
 end"""
-
-
-def told_equal_elsewhere(n):
-    """The same, but the threads wait at another site."""
-    return told_equal(n, "at 2")
 
 
 def tells(n):
@@ -352,133 +394,6 @@ def chain_read(n):
 end"""
 
 
-# programs that are placed on sites
-
-def large(n):
-    """The text of `gen n`."""
-    return f"""local C E Z One J P Q R in Z = 0 One = 1 J = 10
-{{NewCell Z C}} {{NewCell Z E}}
-P = proc {{$ K J S}} local B in B = J =< Z if B then S = nil else local O M K1 J1 T in {{Exchange C O M}} M = O + One K1 = K + One J1 = J - One S = K|T {{P K1 J1 T}} end end end end
-Q = proc {{$ S A D}} case S of H|T then local F in F = A + H {{Q T F D}} end else D = A end end
-R = proc {{$ D}} local O M in {{Exchange E O M}} thread M = O + D end end end
-{"".join(stream(k) for k in range(1, n + 1))}local T V in {{Exchange E T T}} {{Browse T}} {{Exchange C V V}} {{Browse V}} end end
-"""
-
-
-def stream(k):
-    return f"local K S D in K = {k} thread at {k} {{P K J S}} end thread at {k + 1} {{Q S Z D}} end {{R D}} end\n"
-
-
-INCREASE = """
-  proc {Increase K ?Done}
-    local Ends in
-      Ends = K =< Zero
-      if Ends then Done = done
-      else local Old New M in {Exchange C Old New} New = Old + One {Wait New} M = K - One {Increase M Done} end end
-    end
-  end
-"""
-
-ADD = """
-  proc {Add Xs S ?Sum}
-    case Xs of X|Xr then local T in T = S + X {Add Xr T Sum} end else Sum = S end
-  end
-"""
-
-
-def round_cell(n):
-    """A cell that four sites exchange n times each, and so goes round."""
-    return f"""local Increase C Zero One N Nil A B D E in {constants(n)} {{NewCell Zero C}} {INCREASE}
-  thread at 1 {{Increase N A}} end thread at 2 {{Increase N B}} end
-  thread at 3 {{Increase N D}} end thread at 4 {{Increase N E}} end
-  {{Wait A}} {{Wait B}} {{Wait D}} {{Wait E}}
-end"""
-
-
-def list_read(n):
-    """A list of n elements made at one site and read at another."""
-    return f"""local Count Add Zero One N Nil L Sum in {constants(n)} {COUNT} {ADD}
-  thread at 1 {{Count N L}} end
-  thread at 2 {{Add L Zero Sum}} end
-  {{Wait Sum}}
-end"""
-
-
-def list_known(n):
-    """A list of n times one element, which is whole at one site before another goes through it."""
-    return f"""local Fill Length A Zero One N Nil L in {constants(n)} A = a
-  proc {{Fill K ?L}}
-    local Ends in
-      Ends = K =< Zero
-      if Ends then L = nil else local M T in L = A|T M = K - One {{Fill M T}} end end
-    end
-  end
-  proc {{Length Xs S ?R}}
-    case Xs of X|Xr then local T in T = S + One {{Length Xr T R}} end else R = S end
-  end
-  {{Fill N L}}
-  thread at 2 local S in {{Length L Zero S}} end end
-end"""
-
-
-def numbers_known(n):
-    """A list of n numbers, each a variable of its own, which is whole at one site before another adds it up."""
-    return f"""local Count Add Zero One N Nil L in {constants(n)} {COUNT} {ADD}
-  {{Count N L}}
-  thread at 2 local S in {{Add L Zero S}} end end
-end"""
-
-
-def met_by_three(n):
-    """n variables that three sites meet, each bound after they were met or before."""
-    return f"""local Make Add Zero One N Nil L A B in {constants(n)} {ADD}
-  proc {{Make K ?L}}
-    local Ends in
-      Ends = K =< Zero
-      if Ends then L = nil
-      else local M T X in M = K - One L = X|T thread X = K end {{Make M T}} end end
-    end
-  end
-  thread at 2 {{Add L Zero A}} end thread at 3 {{Add L Zero B}} end
-  {{Make N L}} {{Wait A}} {{Wait B}}
-end"""
-
-
-def placed_threads(n):
-    """n threads placed over 64 sites."""
-    return "\n".join(f"thread at {k % 64 + 1} skip end" for k in range(n))
-
-
-def asked_by_all(n):
-    """A cell that 64 sites ask for at once, n times each."""
-    threads = "\n  ".join(f"thread at {k} {{Wait Go}} {{Increase N D{k}}} end" for k in range(2, 64))
-    names = " ".join(f"D{k}" for k in range(2, 56))
-    more = " ".join(f"D{k}" for k in range(56, 64))
-    return f"""local {names} Increase C Zero One N Nil Go in local {more} in {constants(n)} {{NewCell Zero C}} {INCREASE}
-  {threads}
-  Go = go
-end end"""
-
-
-def loops(n, sites):
-    """A loop of n turns at each of so many sites."""
-    threads = " ".join(f"thread at {site} {{Loop N}} end" for site in range(1, sites + 1))
-    return f"""local Loop Zero One N Nil in {constants(n)}
-  proc {{Loop K}}
-    local Ends in
-      Ends = K =< Zero
-      if Ends then skip else local M in M = K - One {{Loop M}} end end
-    end
-  end
-  {threads}
-end"""
-
-
-def spread(n):
-    """A loop of n turns at each of four sites."""
-    return loops(n, 4)
-
-
 # texts that are read: pieces side by side
 
 def statements():
@@ -521,6 +436,9 @@ SHAPES = [
     (ring, 1, (8, 16, 32), 5000, 3),
     (streams, 1, (8, 16, 32), 1000, 3),
     (cell, 1, (8, 16, 32), 10000, 3),
+    (sends, 1, (8, 16, 32), 10000, 3),
+    (pairs_told, 1, (8, 16, 32), 10000, 3),
+    (agent, 1, (8, 16, 32), 5000, 3),
     (marks, 1, (8, 16, 32), 10000, 3),
     (tree, 1, (8, 16, 32), 4096, 3),
     (waiters, 1, (8, 16, 32), 10000, 3),
@@ -543,19 +461,6 @@ SHAPES = [
 # the first size measured, and how often it is doubled
 COMPARED = [
     (compared_coprime, lambda n: n * (n + 1), 1, (8, 16, 32), 50, 3),
-]
-
-# programs that are placed on sites: shape, the number of sites, the first size measured, and how often it is doubled
-PLACED = [
-    (round_cell, 4, 2000, 3),
-    (list_read, 2, 4000, 3),
-    (list_known, 2, 4000, 3),
-    (numbers_known, 2, 4000, 3),
-    (met_by_three, 3, 2000, 3),
-    (told_equal_elsewhere, 2, 2000, 3),
-    (placed_threads, 64, 2000, 3),
-    (asked_by_all, 64, 40, 3),
-    (spread, 4, 5000, 3),
 ]
 
 TEXTS = [statements, nests, locals_, functions, lists]

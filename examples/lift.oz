@@ -1,13 +1,8 @@
-% CTM 5.4.4, agents: a lift at another site takes calls from a stream, and tells each floor that it passes. Who called waits until
+% CTM 5.4.4, agents: a lift at another site takes calls from its port, and tells each floor that it passes. Who called waits until
 % it is there.
-local Call Lift Move Mail Calls in
-  Mail = {NewCell Calls}
-  proc {Call Floor ?There}
-    local Old New in
-      {Exchange Mail Old New}
-      Old = call(Floor There)|New
-    end
-  end
+local Call Lift Move Port Calls in
+  Port = {NewPort Calls}
+  proc {Call Floor ?There} {Send Port call(Floor There)} end
   proc {Move From To ?At}
     if From < To then {Browse From + 1}  At = {Move From + 1 To}
     else
@@ -26,5 +21,5 @@ local Call Lift Move Mail Calls in
   thread at 2 {Lift Calls 1} end
   {Wait {Call 3}}
   {Wait {Call 0}}
-  local Last in {Exchange Mail Last Last} Last = nil end
+  {Send Port stop}
 end

@@ -3,7 +3,7 @@ import random
 
 
 class Drawn:
-    """A text drawn at random: threads placed at sites share a few variables, cells and a procedure."""
+    """A text drawn at random: threads placed at sites share a few variables, cells, a port and a procedure."""
 
     BODIES = (
         "X = Y",
@@ -20,9 +20,10 @@ class Drawn:
         self.random = random.Random(seed)
         self.names = ["A", "B", "C", "D", "E"][: self.random.randint(2, 5)]
         self.cells = ["K", "L"][: self.random.choice((0, 0, 1, 1, 2))]
-        makers = [self.maker(cell) for cell in self.cells]
+        self.ports = ["R"] if self.random.random() < 0.4 else []
+        makers = [self.maker(self.cell(cell)) for cell in self.cells] + [self.maker(f"{{NewPort {self.name()} {port}}}") for port in self.ports]
         threads = [self.thread(2) if self.random.random() < 0.7 else self.statement(2) for _ in range(self.random.randint(2, 5))]
-        made = f"local P {' '.join(self.cells + self.names)} in proc {{P X Y}} {self.random.choice(self.BODIES)} end"
+        made = f"local P {' '.join(self.cells + self.ports + self.names)} in proc {{P X Y}} {self.random.choice(self.BODIES)} end"
         self.text = " ".join([made, *makers, *threads, "end"])
 
     def name(self):
@@ -34,8 +35,13 @@ class Drawn:
     def thread(self, depth):
         return f"thread {self.place()}{self.statements(depth)} end"
 
-    def maker(self, cell):
-        made = f"{{NewCell {self.name()} {cell}}}"
+    def cell(self, cell):
+        """How a cell is made: mobile, or stationary at some site."""
+        if self.random.random() < 0.6:
+            return f"{{NewCell {self.name()} {cell}}}"
+        return f"local Home in Home = {self.random.randint(1, 70)} {{NewCellAt {self.name()} {cell} Home}} end"
+
+    def maker(self, made):
         return f"thread {self.place()}{made} end" if self.random.random() < 0.5 else made
 
     def statements(self, depth, most=3):
@@ -56,6 +62,8 @@ class Drawn:
         acts = [f"{{Browse {a}}}"] * 4 + [f"{{Wait {a}}}", f"{{P {a} {b}}}", f"{{P {a} {b}}}", f"raise {a} end", f"{{{a} {b} {b}}}"]
         for cell in self.cells:
             acts += [f"{{Exchange {cell} {a} {b}}}"] * 3
+        for port in self.ports:
+            acts += [f"{{Send {port} {a}}}"] * 3
         return self.random.choice(acts)
 
     def body(self, depth):
@@ -74,10 +82,10 @@ class Drawn:
 
 
 class Counting:
-    """A text drawn at random whose threads count in cells, send to a mailbox, take a lock, print and wait for each other. Most of these
+    """A text drawn at random whose threads count in cells, send to a mailbox and a port, take a lock, print and wait for each other. Most of these
     texts have no tell that fails."""
 
-    FRONT = "One = 1 Two = 2 Less = ~3 Free = free {NewCell One C} {NewCell Two K} {NewCell Free L} {NewCell Mails M}"
+    FRONT = "One = 1 Two = 2 Less = ~3 Free = free {NewCell One C} {NewCell Two K} {NewCell Free L} {NewCell Mails M} {NewPort Sent R}"
     STATEMENTS = (
         "local O N in {Exchange C O N} N = O + One end",
         "local O N in {Exchange C O N} N = Two + O end",
@@ -93,6 +101,9 @@ class Counting:
         "local O N in {Exchange L O N} {Wait O} {Once} N = O end",
         "local O N in {Exchange M O N} O = A|N end",
         "local O N in {Exchange M O N} O = Two|N end",
+        "{Send R Two}",
+        "{Send R A}",
+        "case Sent of H|T then {Browse H} else skip end",
         "A = One",
         "{Wait A}",
         "{Browse Two}",
@@ -111,7 +122,7 @@ class Counting:
             "proc {Add X} local O N in {Exchange C O N} N = O + X end end"
         )
         body = " ".join([self.FRONT, procedures, *threads, *waits, "local V in {Exchange C V V} {Browse V} end"])
-        self.text = f"local Once Add One Two Less Free C K L M Mails A B D1 D2 D3 in {body} end"
+        self.text = f"local Once Add One Two Less Free C K L M R Mails Sent A B D1 D2 D3 in {body} end"
 
     def thread(self, chosen, done):
         statements = [self.random.choice(chosen) for _ in range(self.random.randint(1, 3))]

@@ -1,4 +1,4 @@
-"""When two states of the plain machine are one: their keys are equal where a renaming of threads, variables, cells and procedures
+"""When two states of the plain machine are one: their keys are equal where a renaming of threads, variables, cells, ports and procedures
 makes them the same, as far as the threads that are left can come. What no thread can come to, as the old content of a cell that was
 read and dropped, is in no key."""
 
@@ -61,8 +61,8 @@ class Key:
         self.said.append(self.numbers.setdefault(node[:2], len(self.numbers)))
         if known:
             return ()
-        if node[0] == "cell":
-            return [self.state.cells[node]]
+        if node[0] in ("cell", "port"):
+            return [self.state.held[node]]
         self.said.append(id(node[3]))
         return [node[4][name] for name in sorted(node[4])]
 

@@ -92,7 +92,7 @@ class Threads:
             return None
 
     def is_own(self, name, noticed):
-        """Whether no other thread can notice this step: what is bound or exchanged is out of their reach, or a tell is made at once."""
+        """Whether no other thread can notice this step: what is bound, exchanged or sent to is out of their reach, or a tell is made at once."""
         if noticed[0] == "print":
             return False
         if noticed[0] == "bind" and self.tells_at_once:
@@ -101,9 +101,9 @@ class Threads:
         return not self.touches(noticed, self.state.reached(others)[0])
 
     def touches(self, noticed, reached):
-        """Whether who comes to `reached` may notice a bind or an exchange. Of two unbound variables one out of reach is enough."""
+        """Whether who comes to `reached` may notice a bind, an exchange or a send. Of two unbound variables one out of reach is enough."""
         kind, *sides = noticed
-        if kind == "exchange" or not (isinstance(sides[1], int) and self.state.known(sides[1]) is None):
+        if kind in ("exchange", "send") or not (isinstance(sides[1], int) and self.state.known(sides[1]) is None):
             sides = sides[:1]
         return all(side in reached for side in sides)
 
@@ -135,7 +135,7 @@ class Threads:
         item, rest = self.state.threads[name]
         if self.next[name][0] != "exchange" or id(item[1]) not in counts.amounts:
             return False
-        content = self.state.known(self.state.cells[self.next[name][1]])
+        content = self.state.known(self.state.held[self.next[name][1]])
         if content is None or content[0] != "integer" or abs(content[1]) > MOST_CONTENT:
             return False
         code = [(node[3], node[4]) for node in procedures]

@@ -11,7 +11,7 @@ RESERVED = set(
     unit""".split()
 )
 # The names that are built in, and how many arguments each takes.
-BUILT_IN = {"Browse": 1, "Wait": 1, "NewCell": 2, "Exchange": 3}
+BUILT_IN = {"Browse": 1, "Wait": 1, "NewCell": 2, "Exchange": 3, "NewPort": 2, "Send": 2, "NewCellAt": 3}
 TOKEN = re.compile(
     r"(?P<variable>[A-Z]\w*)|(?P<word>[a-z]\w*)|'(?P<quoted>(?:[^'\\]|\\.)*)'|(?P<integer>~?\d+)"
     r"|(?P<sign>\[\]|==|\\=|=<|>=|[=(){}$:.|+\-*<>])",

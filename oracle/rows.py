@@ -82,6 +82,21 @@ STREAM = """local Xs A Nil in
   {Browse Xs}
 end"""
 
+TWO_SENDERS = """local S P A B in
+  A = a B = b {NewPort S P}
+  thread at 2 {Send P A} end
+  thread at 3 {Send P B} end
+  case S of X|Xr then {Browse X} case Xr of Y|Yr then {Browse Y} else skip end else skip end
+end"""
+ONE_SENDER = TWO_SENDERS.replace(" end\n  thread at 3", "")
+PORT_IS_FORWARDED = """local S T P Q A B in
+  A = a B = b {NewPort S P} {NewPort T Q} {Send Q P}
+  thread case T of R|U then {Send R A} else skip end end
+  thread {Send P B} end
+  case S of X|Xr then {Browse X} else skip end
+end"""
+PLACED_LOST_COUNT = LOST_COUNT.replace("{NewCell Zero C}", "{NewCellAt Zero C One}")
+
 ROWS = [
     ("skip", ["quiescent ended=1 waiting=0\n"]),
     ("local X in {Wait X} end", ["quiescent ended=0 waiting=1\n"]),
@@ -105,4 +120,13 @@ ROWS = [
     (KEPT_CONTENT, ["0\n" + ENDED.format(2), "10\n" + ENDED.format(2)]),
     (MAILBOX, ["a\nb\n" + ENDED.format(3), "b\na\n" + ENDED.format(3)]),
     (STREAM, ["a|a|nil\n" + ENDED.format(2)]),
+    (TWO_SENDERS, ["a\nb\n" + ENDED.format(3), "b\na\n" + ENDED.format(3)]),
+    (ONE_SENDER, ["a\nb\n" + ENDED.format(2)]),
+    (PORT_IS_FORWARDED, ["a\n" + ENDED.format(3), "b\n" + ENDED.format(3)]),
+    ("local S P X in {NewPort S P} S = X {Send P X} {Browse P} end", ["<Port>\n" + ENDED.format(1)]),
+    ("local S P X in X = x {NewPort S P} S = X {Send P X} end", ["uncaught failure(tell)\n" + ENDED.format(1)]),
+    ("local P X in P = x {Send P X} end", ["uncaught error(type)\n" + ENDED.format(1)]),
+    (PLACED_LOST_COUNT, ["1\n" + ENDED.format(3), "2\n" + ENDED.format(3)]),
+    ("local X C K in X = 1 K = 0 {NewCellAt X C K} end", ["uncaught error(type)\n" + ENDED.format(1)]),
+    ("local X C K in X = 1 {NewCellAt X C K} end", ["quiescent ended=0 waiting=1\n"]),
 ]

@@ -1,14 +1,10 @@
-% CTM 5.4.4, agents: a lift at another site takes calls from a stream, and tells each floor that it passes. Who called waits until
+% CTM 5.4.4, agents: a lift at another site takes calls from its port, and tells each floor that it passes. Who called waits until
 % it is there.
-local Call Lift Move Mail Calls Zero One Three A B in
+local Call Lift Move Port Calls Stop Zero One Three A B in
   Zero = 0  One = 1  Three = 3
-  {NewCell Calls Mail}
+  {NewPort Calls Port}
   proc {Call Floor ?There}
-    local Old New M in
-      M = call(Floor There)
-      {Exchange Mail Old New}
-      Old = M|New
-    end
+    local M in M = call(Floor There)  {Send Port M} end
   end
   proc {Move From To ?At}
     local Up Down in
@@ -36,5 +32,5 @@ local Call Lift Move Mail Calls Zero One Three A B in
   thread at 2 {Lift Calls One} end
   {Call Three A}  {Wait A}
   {Call Zero B}  {Wait B}
-  local Last in {Exchange Mail Last Last} Last = nil end
+  Stop = stop  {Send Port Stop}
 end

@@ -5,7 +5,11 @@ use crate::stories::{Row, Story, play_story};
 use std::test::Fail;
 use tree_node::{CellName, Name, ThreadName};
 
-const CELL: Name = Name::Cell(CellName { site: 1, num: 0 });
+const CELL: Name = Name::Cell(CellName {
+    site: 1,
+    at: 0,
+    num: 0,
+});
 
 const SECOND: ThreadName = ThreadName { site: 1, num: 1 };
 

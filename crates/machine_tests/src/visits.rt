@@ -34,7 +34,7 @@ fn seated<'a>(
 ) -> Host<'a>
     requires program { site.program ≡ program.now }
     requires sites { site.sites ≡ 1 }
-    requires state { site.state ≡ initial_site program.now 1 }
+    requires state { site.state ≡ initial_site program.now 1 1 }
     requires live { site.spent ≡ false }
     requires one { length seats.items ≡ 1 }
     requires seat { (x : Sight) × IsFresh 1 x × AreNewSeats (lock_id lock.now) 1 x seats.items }

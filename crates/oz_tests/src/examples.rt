@@ -1,7 +1,31 @@
 //! Examples of the repository, as `examples/check --tables` writes them.
 
 // A text, what it prints and its status' number.
-pub static EXAMPLES: [(&str, &str, u8); 18] = [
+pub static EXAMPLES: [(&str, &str, u8); 20] = [
+    (
+        "% CTM 5.3.2: a message with a port in it asks for an answer, which comes to that port: so the two share no variable of a message.
+local Server Serve Requests Client Answers in
+  Server = {NewPort Requests}
+  proc {Serve Requests}
+    case Requests of Request|More then
+      case Request of square(N From) then {Send From N * N}  {Serve More}
+      else skip end
+    else skip end
+  end
+  thread at 2 {Serve Requests} end
+  Client = {NewPort Answers}
+  {Send Server square(7 Client)}
+  {Send Server square(12 Client)}
+  {Send Server stop}
+  case Answers of First|More then
+    {Browse First}
+    case More of Second|Rest then {Browse Second} else skip end
+  else skip end
+end
+",
+        "49\n144\nquiescent ended=2 waiting=0\n",
+        0,
+    ),
     (
         "% Lists are records with a head and a tail; nil is an atom. Append goes through the first list and shares the second.
 local Append L1 L2 in
@@ -365,16 +389,11 @@ end
         0,
     ),
     (
-        "% CTM 5.4.4, agents: a lift at another site takes calls from a stream, and tells each floor that it passes. Who called waits until
+        "% CTM 5.4.4, agents: a lift at another site takes calls from its port, and tells each floor that it passes. Who called waits until
 % it is there.
-local Call Lift Move Mail Calls in
-  Mail = {NewCell Calls}
-  proc {Call Floor ?There}
-    local Old New in
-      {Exchange Mail Old New}
-      Old = call(Floor There)|New
-    end
-  end
+local Call Lift Move Port Calls in
+  Port = {NewPort Calls}
+  proc {Call Floor ?There} {Send Port call(Floor There)} end
   proc {Move From To ?At}
     if From < To then {Browse From + 1}  At = {Move From + 1 To}
     else
@@ -393,7 +412,7 @@ local Call Lift Move Mail Calls in
   thread at 2 {Lift Calls 1} end
   {Wait {Call 3}}
   {Wait {Call 0}}
-  local Last in {Exchange Mail Last Last} Last = nil end
+  {Send Port stop}
 end
 ",
         "2\n3\n2\n1\n0\nquiescent ended=2 waiting=0\n",
@@ -425,6 +444,27 @@ local NewMailbox Send Receive Mailbox Stream in
 end
 ",
         "321\nquiescent ended=4 waiting=0\n",
+        0,
+    ),
+    (
+        "% A procedure is a value: Map takes one and calls it for each element of a list.
+local Map Double Count L M in
+  fun {Map Xs F}
+    case Xs of X|Xr then {F X}|{Map Xr F}
+    else nil end
+  end
+  fun {Double X} X + X end
+  fun {Count From To}
+    if From > To then nil else From|{Count From + 1 To} end
+  end
+  L = {Count 1 5}
+  M = {Map L fun {$ X} X * X end}
+  {Browse L}
+  {Browse M}
+  {Browse {Map M Double}}
+end
+",
+        "1|2|3|4|5|nil\n1|4|9|16|25|nil\n2|8|18|32|50|nil\nquiescent ended=1 waiting=0\n",
         0,
     ),
 ];

@@ -4,7 +4,8 @@
 //! is proved twice.
 //!
 //! **They show** what no clause says: that the texts of the tables have their one lawful output with ample memory, or one of
-//! their lawful outputs, on 1 to 64 sites, refusals and end lines among them; that the examples of the repository print what
+//! their lawful outputs, on 1 to 64 sites, refusals and end lines among them; that a cell that stays at its home sends requests and answers
+//! alone; that the examples of the repository print what
 //! stands beside them; that a text as long as may be is read and runs; that a text without an end is stopped behind its
 //! lines, and keeps no other thread of its site from a turn; that the program takes words in memory, and reads nothing where there
 //! are none; that a sink is handed one line with its newline after the other; that two runs without workers print the same, and go
@@ -31,6 +32,10 @@ mod meeting;
 mod more_examples;
 #[cfg(test)]
 mod pieces;
+#[cfg(test)]
+mod port_programs;
+#[cfg(test)]
+mod requests;
 #[cfg(test)]
 mod rows;
 #[cfg(test)]

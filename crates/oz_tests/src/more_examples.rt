@@ -1,28 +1,7 @@
 //! More examples of the repository, as `examples/check --tables` writes them.
 
 // A text, what it prints and its status' number.
-pub static MORE_EXAMPLES: [(&str, &str, u8); 17] = [
-    (
-        "% A procedure is a value: Map takes one and calls it for each element of a list.
-local Map Double Count L M in
-  fun {Map Xs F}
-    case Xs of X|Xr then {F X}|{Map Xr F}
-    else nil end
-  end
-  fun {Double X} X + X end
-  fun {Count From To}
-    if From > To then nil else From|{Count From + 1 To} end
-  end
-  L = {Count 1 5}
-  M = {Map L fun {$ X} X * X end}
-  {Browse L}
-  {Browse M}
-  {Browse {Map M Double}}
-end
-",
-        "1|2|3|4|5|nil\n1|4|9|16|25|nil\n2|8|18|32|50|nil\nquiescent ended=1 waiting=0\n",
-        0,
-    ),
+pub static MORE_EXAMPLES: [(&str, &str, u8); 19] = [
     (
         "% Refused: the text ends before the procedure does.
 local Twice in
@@ -83,6 +62,38 @@ end
         0,
     ),
     (
+        "% CTM 5.2.1: a port object is a thread that reads the stream of a port, and keeps a state from message to message. Here a balance,
+% which it tells to who asks, until it is told to stop.
+local NewPortObject Serve Take Account Told in
+  proc {Serve Take Messages State}
+    case Messages of Message|More then
+      case Message of stop then skip
+      else {Serve Take More {Take Message State}} end
+    else skip end
+  end
+  proc {NewPortObject Take First ?Port}
+    local Messages in
+      Port = {NewPort Messages}
+      thread at 2 {Serve Take Messages First} end
+    end
+  end
+  proc {Take Message Balance ?Next}
+    case Message of pay(Amount) then Next = Balance + Amount
+    [] ask(Told) then Told = Balance  Next = Balance
+    else Next = Balance end
+  end
+  Account = {NewPortObject Take 100}
+  {Send Account pay(20)}
+  {Send Account pay(~50)}
+  {Send Account ask(Told)}
+  {Send Account stop}
+  {Browse Told}
+end
+",
+        "70\nquiescent ended=2 waiting=0\n",
+        0,
+    ),
+    (
         "% CTM 9.2.3, a puzzle by search: five queens, none of which attacks another. Rows are tried from the first one on, and an exception
 % leads back from a square on which nothing can be built.
 local Attacked Distance Place Try in
@@ -128,6 +139,28 @@ local Reverse in
 end
 ",
         "c|b|a|nil\nquiescent ended=1 waiting=0\n",
+        0,
+    ),
+    (
+        "% CTM 5.1: many senders at many sites and one receiver: the messages of a port stand in one stream, in some order.
+local Port Messages SendAll Sum in
+  Port = {NewPort Messages}
+  proc {SendAll N}
+    if N > 0 then {Send Port N}  {SendAll N - 1} else skip end
+  end
+  fun {Sum N Messages Sofar}
+    if N =< 0 then Sofar
+    else
+      case Messages of M|More then {Sum N - 1 More Sofar + M} else none end
+    end
+  end
+  thread at 2 {SendAll 10} end
+  thread at 3 {SendAll 10} end
+  thread at 4 {SendAll 10} end
+  {Browse {Sum 30 Messages 0}}
+end
+",
+        "165\nquiescent ended=4 waiting=0\n",
         0,
     ),
     (
@@ -191,6 +224,33 @@ local MakeStack S Push Pop in
 end
 ",
         "b\na\nempty\nquiescent ended=1 waiting=0\n",
+        0,
+    ),
+    (
+        "% The count of visits.oz with a cell that stays at one site: an exchange at another one is a request and an answer, and no site has to
+% wait until the cell comes to it.
+local Cell Add D1 D2 D3 D4 in
+  {NewCellAt 0 Cell 1}
+  % adds one N times, and then tells that it is done
+  proc {Add N ?Done}
+    if N =< 0 then Done = true
+    else
+      local Old New in
+        {Exchange Cell Old New}
+        New = Old + 1
+        Done = {Add N - 1}
+      end
+    end
+  end
+  thread at 1 D1 = {Add 5} end
+  thread at 2 D2 = {Add 5} end
+  thread at 3 D3 = {Add 5} end
+  thread at 4 D4 = {Add 5} end
+  {Wait D1} {Wait D2} {Wait D3} {Wait D4}
+  local Count in {Exchange Cell Count Count} {Browse Count} end
+end
+",
+        "20\nquiescent ended=5 waiting=0\n",
         0,
     ),
     (

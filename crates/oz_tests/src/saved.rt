@@ -2,6 +2,7 @@
 
 use crate::examples::EXAMPLES;
 use crate::more_examples::MORE_EXAMPLES;
+use crate::port_programs::REQUESTED;
 use crate::rows::COUNTER;
 use crate::texts::{give_up, report_of};
 use oz_base::{MemSink, MemSource};
@@ -383,6 +384,19 @@ fn saved_runs_are_checked(rt: HostRuntime) -> Result<(), Fail> {
         )?;
         assert_eq!(rt; found.0.as_slice(), row.1.as_bytes(), "{}", row.0);
         assert_eq!(rt; found.1, row.2, "{}", row.0);
+    }
+    Ok(())
+}
+
+// A home serves in order those that ask it before it hears that the cell was made; and each exchange and each send is one step, wherever
+// its thread stands.
+#[test]
+fn runs_with_requests_are_right(rt: HostRuntime) -> Result<(), Fail> {
+    let alloc = rt.alloc();
+    for row in REQUESTED.as_slice() {
+        let found = told(&rt, alloc, &["check"], row.0.as_bytes(), &[])?;
+        assert_eq!(rt; found.0.as_slice(), row.1.as_bytes(), "{}", row.0);
+        assert_eq!(rt; found.1, 0, "{}", row.0);
     }
     Ok(())
 }

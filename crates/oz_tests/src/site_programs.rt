@@ -8,7 +8,7 @@ pub static SITES: [&[&str]; 5] = [
     &["--sites", "1"],
     &["--sites", "2"],
     &["--sites", "3"],
-    &["--sites", "5"],
+    &["--sites", "4"],
     &["--sites", "64"],
 ];
 

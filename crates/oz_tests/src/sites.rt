@@ -1,6 +1,7 @@
 //! Texts that run on several sites, and what may be printed of them.
 
 use crate::endless::{ENDLESS, FAR_STREAM};
+use crate::port_programs::{HOMES, LIMITED, PORTS};
 use crate::rows::COUNTER;
 use crate::site_programs::{CELLS, RAISED, SENT, SITES, SiteProgram, TESTED, THREADS};
 use crate::site_texts::{FRONTS, RACE, SITED, SiteText, THIRD};
@@ -139,6 +140,26 @@ fn any_number_of_sites_prints_what_is_lawful(rt: HostRuntime) -> Result<(), Fail
         print_on_all_sites(&rt, alloc, workers, THREADS.as_slice())?;
         print_on_all_sites(&rt, alloc, workers, CELLS.as_slice())?;
         print_on_all_sites(&rt, alloc, workers, RAISED.as_slice())?;
+    }
+    Ok(())
+}
+
+#[test]
+fn ports_and_stationary_cells_are_the_same_on_any_number_of_sites(
+    rt: HostRuntime,
+) -> Result<(), Fail> {
+    let alloc = rt.alloc();
+    for workers in ["0", "4"] {
+        print_on_all_sites(&rt, alloc, workers, PORTS.as_slice())?;
+        print_on_all_sites(&rt, alloc, workers, HOMES.as_slice())?;
+    }
+    Ok(())
+}
+
+#[test]
+fn limits_end_runs_in_the_middle_of_requests(rt: HostRuntime) -> Result<(), Fail> {
+    for workers in ["0", "1", "4"] {
+        print_as_said(&rt, rt.alloc(), workers, LIMITED.as_slice())?;
     }
     Ok(())
 }

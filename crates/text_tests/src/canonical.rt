@@ -4,7 +4,7 @@ use crate::printed::{Language, first_difference};
 use std::test::Fail;
 
 // A text, and its canonical text.
-static CANONICAL: [(&str, &str); 11] = [
+static CANONICAL: [(&str, &str); 13] = [
     (
         "local P in proc {P X} X=f(b:P P) end end",
         "local V0 in V0 = proc { $ V1 } V1 = f ( 1 : V0 b : V0 ) end end\n",
@@ -48,6 +48,14 @@ static CANONICAL: [(&str, &str); 11] = [
     (
         "local Browse in {Browse Browse} end",
         "local V0 in { V0 V0 } end\n",
+    ),
+    (
+        "local S P K in {NewPort S P} {Send P S} {NewCellAt S P K} end",
+        "local V0 V1 V2 in { NewPort V0 V1 } { Send V1 V0 } { NewCellAt V0 V1 V2 } end\n",
+    ),
+    (
+        "local Send NewPort NewCellAt in {Send} {NewPort Send} {NewCellAt} end",
+        "local V0 V1 V2 in { V0 } { V1 V0 } { V2 } end\n",
     ),
 ];
 

@@ -5,7 +5,7 @@ use std::alloc::{AllocError, Global};
 use std::test::Fail;
 
 // A text, and the line of its refusal.
-static REFUSED: [(&str, &str); 70] = [
+static REFUSED: [(&str, &str); 76] = [
     ("", "refused 1:1 expected a statement"),
     (
         "local X in X = 170141183460469231731687303715884105728 end",
@@ -87,6 +87,24 @@ static REFUSED: [(&str, &str); 70] = [
     ),
     ("local X in {Browse X X} end", "refused 1:22 expected }"),
     ("{Browse Browse}", "refused 1:9 undeclared"),
+    (
+        "local P in {Send P} end",
+        "refused 1:19 expected a variable",
+    ),
+    ("local P in {Send P P P} end", "refused 1:22 expected }"),
+    (
+        "local S in {NewPort S} end",
+        "refused 1:22 expected a variable",
+    ),
+    (
+        "local C in {NewCellAt C C} end",
+        "refused 1:26 expected a variable",
+    ),
+    (
+        "local C in {NewCellAt C C C C} end",
+        "refused 1:29 expected }",
+    ),
+    ("{Send Send Send}", "refused 1:7 undeclared"),
     (
         "local Browse X in {Browse X X 1} end",
         "refused 1:31 expected a variable or }",

@@ -5,7 +5,7 @@ use crate::printed::{Language, first_difference, is_printed};
 use std::test::Fail;
 
 // A text, and the canonical text of the program that it stands for.
-static EXPANDED: [(&str, &str); 22] = [
+static EXPANDED: [(&str, &str); 24] = [
     (
         "local X in X = 1 + 2 end",
         "local V0 in local V1 in V1 = 1 local V2 in V2 = 2 V0 = V1 + V2 end end end\n",
@@ -33,6 +33,14 @@ static EXPANDED: [(&str, &str); 22] = [
     (
         "local C in C = {NewCell 0} {Exchange C C {Exchange C 1}} end",
         "local V0 in local V1 in V1 = 0 { NewCell V1 V0 } end local V1 in local V2 in V2 = 1 { Exchange V0 V2 V1 } end { Exchange V0 V0 V1 } end end\n",
+    ),
+    (
+        "local S P in P = {NewPort S} {Send P 1} end",
+        "local V0 V1 in { NewPort V0 V1 } local V2 in V2 = 1 { Send V1 V2 } end end\n",
+    ),
+    (
+        "local C in C = {NewCellAt 0 C} end",
+        "local V0 in local V1 in V1 = 0 { NewCellAt V1 V0 V0 } end end\n",
     ),
     (
         "local F in fun {F X} X + 1 end F = fun {$} F end end",
@@ -97,7 +105,7 @@ static EXPANDED: [(&str, &str); 22] = [
 ];
 
 // A text, and the line of its refusal.
-static REFUSED: [(&str, &str); 103] = [
+static REFUSED: [(&str, &str); 106] = [
     ("local X in X = fun", "refused 1:19 expected {"),
     ("local X in X = 5 {Browse", "refused 1:25 expected a value"),
     ("local X in X = end", "refused 1:16 expected a value"),
@@ -236,6 +244,15 @@ static REFUSED: [(&str, &str); 103] = [
     ),
     (
         "local X in X = {NewCell} end",
+        "refused 1:24 expected a value",
+    ),
+    ("local P in P = {Send P P} end", "refused 1:24 expected }"),
+    (
+        "local S in S = {NewPort} end",
+        "refused 1:24 expected a value",
+    ),
+    (
+        "local C in {NewCellAt C} end",
         "refused 1:24 expected a value",
     ),
     ("local X in X = {} end", "refused 1:17 expected a variable"),

@@ -100,7 +100,11 @@ fn heads_of_nodes_are_spelled(rt: HostRuntime) -> Result<(), Fail> {
     assert!(rt; has_head(alloc, atom(alloc, b"if"), b"'if'")?);
     assert!(rt; has_head(alloc, record(alloc, b"|", 2), b"'|'")?);
     assert!(rt; has_head(alloc, procedure(alloc, 0, 64), b"<P/64>")?);
-    let cell = Node::Cell(CellName { site: 1, num: 0 });
+    let cell = Node::Cell(CellName {
+        site: 1,
+        at: 0,
+        num: 0,
+    });
     assert!(rt; has_head(alloc, Ok(cell), b"<Cell>")?);
     Ok(())
 }
@@ -134,9 +138,14 @@ fn sample(alloc: Global, at: u64) -> Result<Node, AllocError> {
         3 => Ok(record(alloc, b"g", 2)?),
         4 => Ok(record(alloc, b"f", 3)?),
         5 => Ok(procedure(alloc, 1, 1)?),
-        6 => Ok(Node::Cell(CellName { site: 1, num: 1 })),
+        6 => Ok(Node::Cell(CellName {
+            site: 1,
+            at: 0,
+            num: 1,
+        })),
         other => Ok(Node::Cell(CellName {
             site: 2,
+            at: 0,
             num: other,
         })),
     }

@@ -25,7 +25,14 @@ static NAMES: [(Name, bool); 4] = [
     (Name::Thread(ThreadName { site: 1, num: 0 }), true),
     (Name::Thread(ThreadName { site: 1, num: 1 }), false),
     (Name::Var(VarName { site: 1, num: 0 }), false),
-    (Name::Cell(CellName { site: 1, num: 0 }), false),
+    (
+        Name::Cell(CellName {
+            site: 1,
+            at: 0,
+            num: 0,
+        }),
+        false,
+    ),
 ];
 
 fn is_first<R: Abort>(rt: &R, state: &Plain) {
