@@ -34,7 +34,7 @@
   "The reserved words that no rule uses.")
 
 (defvar kernel-oz-font-lock-keywords
-  `(("{[ \t]*\\(Browse\\|Wait\\|NewCell\\|Exchange\\)\\>" 1 font-lock-builtin-face)
+  `(("{[ \t]*\\(Browse\\|Wait\\|NewCellAt\\|NewCell\\|Exchange\\|NewPort\\|Send\\)\\>" 1 font-lock-builtin-face)
     ("\\<\\(?:proc\\|fun\\)[ \t]*{[ \t]*\\([A-Z]\\w*\\)" 1 font-lock-function-name-face)
     (,(regexp-opt kernel-oz-words 'words) . font-lock-keyword-face)
     (,(regexp-opt kernel-oz-unused-words 'words) . font-lock-warning-face)

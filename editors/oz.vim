@@ -11,7 +11,7 @@ syntax sync fromstart
 " Atoms and variables, and the names that are built in where they stand first in a call.
 syntax match ozAtom "\<\l\w*\>"
 syntax match ozVariable "\<\u\w*\>"
-syntax match ozBuiltIn "{\@1<=\s*\zs\%(Browse\|Wait\|NewCell\|Exchange\)\>"
+syntax match ozBuiltIn "{\@1<=\s*\zs\%(Browse\|Wait\|NewCellAt\|NewCell\|Exchange\|NewPort\|Send\)\>"
 
 " An integer: no leading zeros, and ~ before a negative one.
 syntax match ozInteger "\~\?\<\d\+\>"
