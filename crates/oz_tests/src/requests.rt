@@ -9,16 +9,16 @@ use std::test::Fail;
 
 // How many messages ask the home of a cell, how many tell the old content, and how many others are of a cell.
 fn cell_messages(journal: &Journal) -> (u64, u64, u64) {
-    let mut counts = (0, 0, 0);
+    let mut counts: (u64, u64, u64) = (0, 0, 0);
     for turn in journal.oldest_first() {
         for message in turn.sent.as_slice() {
             match message.msg {
-                Msg::CellAsk { .. } => counts.0 += 1,
-                Msg::CellOld { .. } => counts.1 += 1,
-                Msg::CellMake { .. } => counts.2 += 1,
-                Msg::Get { .. } => counts.2 += 1,
-                Msg::Forward { .. } => counts.2 += 1,
-                Msg::Put { .. } => counts.2 += 1,
+                Msg::CellAsk { .. } => counts.0 = counts.0.saturating_add(1),
+                Msg::CellOld { .. } => counts.1 = counts.1.saturating_add(1),
+                Msg::CellMake { .. } => counts.2 = counts.2.saturating_add(1),
+                Msg::Get { .. } => counts.2 = counts.2.saturating_add(1),
+                Msg::Forward { .. } => counts.2 = counts.2.saturating_add(1),
+                Msg::Put { .. } => counts.2 = counts.2.saturating_add(1),
                 _ => {}
             }
         }

@@ -21,7 +21,7 @@ new-requires c =
     record {
       program = subst IsProgram (sym c.requires.program) c.is_program.ensures;
       most = subst (λ m. m ≤ 64) (sym c.requires.sites) (omega arith);
-      site = next.0.state ∙ ap (λ q. initial_site q seat.site) (sym next.0.program);
+      site = next.0.state ∙ (ap (λ q. initial_site q 1 seat.site) (sym next.0.program) ∙ ap (λ m. initial_site c.args.site.program m seat.site) (sym next.0.sites));
       live = c.requires.live;
       seat = (t, subst (λ m. IsNewSeat t m seat) (sym next.0.sites) next.1);
     }
