@@ -16,12 +16,10 @@ use tree_store::Store;
 pub fn pack(alloc: Global, store: &Store, sent: Sent, limit: usize) -> Result<Sent, AllocError>
     ensures { IfOk result (λ m. m ≡ with_own_bundle limit store.now.equations sent) }
 {
-    let Sent { to, msg } = sent;
+    let Sent { to, mut msg } = sent;
     let bundle = bundle_of(alloc, store, &msg, limit)?;
-    Ok(Sent {
-        to,
-        msg: with_bundle(msg, bundle),
-    })
+    put_bundle(&mut msg, bundle);
+    Ok(Sent { to, msg })
 }
 
 // The bundle of a message, empty where its kind has none.
@@ -41,78 +39,23 @@ fn bundle_of(alloc: Global, store: &Store, msg: &Msg, limit: usize) -> Result<Bu
     }
 }
 
-// The message with this bundle, where its kind has one.
-fn with_bundle(msg: Msg, bundle: Bundle) -> Msg
-    ensures { result ≡ with_bundle bundle msg }
+// The message has this bundle from now on, where its kind has one.
+fn put_bundle(msg: &mut Msg, bundle: Bundle)
+    ensures { msg.new ≡ with_bundle bundle msg.old }
 {
     match msg {
-        Msg::Spawn {
-            thread,
-            code,
-            vars,
-            ..
-        } => Msg::Spawn {
-            thread,
-            code,
-            vars,
-            bundle,
-        },
-        Msg::BindReq {
-            var,
-            thread,
-            term,
-            ..
-        } => Msg::BindReq {
-            var,
-            thread,
-            term,
-            bundle,
-        },
-        Msg::Binding { var, term, .. } => Msg::Binding { var, term, bundle },
-        Msg::Put { cell, content, .. } => Msg::Put {
-            cell,
-            content,
-            bundle,
-        },
-        Msg::PortEnd {
-            thread,
-            old,
-            new,
-            ..
-        } => Msg::PortEnd {
-            thread,
-            old,
-            new,
-            bundle,
-        },
-        Msg::CellMake { cell, content, .. } => Msg::CellMake {
-            cell,
-            content,
-            bundle,
-        },
-        Msg::CellAsk {
-            cell,
-            thread,
-            asking,
-            new,
-            ..
-        } => Msg::CellAsk {
-            cell,
-            thread,
-            asking,
-            new,
-            bundle,
-        },
-        Msg::CellOld {
-            thread,
-            content,
-            ..
-        } => Msg::CellOld {
-            thread,
-            content,
-            bundle,
-        },
-        other => other,
+        Msg::Spawn { bundle: place, .. } => *place = bundle,
+        Msg::Register { .. } => {}
+        Msg::BindReq { bundle: place, .. } => *place = bundle,
+        Msg::Binding { bundle: place, .. } => *place = bundle,
+        Msg::Get { .. } => {}
+        Msg::Forward { .. } => {}
+        Msg::Put { bundle: place, .. } => *place = bundle,
+        Msg::PortSend { .. } => {}
+        Msg::PortEnd { bundle: place, .. } => *place = bundle,
+        Msg::CellMake { bundle: place, .. } => *place = bundle,
+        Msg::CellAsk { bundle: place, .. } => *place = bundle,
+        Msg::CellOld { bundle: place, .. } => *place = bundle,
     }
 }
 

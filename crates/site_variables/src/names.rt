@@ -1,6 +1,7 @@
 //! Whether the names and sites in a message fit.
 
 ghost use Rattle.std.specs.Prelude.{◌≡◌, ◌↔◌, ◌<◌, ◌≤◌, IsTrue};
+ghost use Rattle.tree_node.specs.declared.names.Name.TheVariants as names;
 ghost use Rattle.tree_node.specs.Each.{Each};
 ghost use Rattle.tree_node.specs.Names.{EachOfNode, EachOfTerm, EachOfEquation};
 ghost use Rattle.site_message.specs.Wire.{IsRequestOrAnswer};
@@ -9,7 +10,7 @@ ghost use Rattle.site_model.specs.Fit.{EachOfMsg, SitesOfMsg, IsKnownName, IsOth
 ghost use Rattle.site_variables.specs.Fit.{IsBoundOf, IsWithin, IsVarWithin, IsFieldWithin};
 
 use site_message::Msg;
-use tree_node::{Feature, Name, Node, Term, VarName};
+use tree_node::{CellName, Feature, Name, Node, Term, ThreadName, VarName};
 
 /// Which names can come to a site: those of sites 1 to `sites`, and of the site's own those that it made, whose numbers are
 /// below these counters.
@@ -132,6 +133,34 @@ fn equations_within(bounds: &Bounds, equations: &[(VarName, Term)]) -> bool
     true
 }
 
+// Whether the names of a cell and of its content, and those in a bundle, are within the bounds.
+fn content_within(
+    bounds: &Bounds,
+    cell: CellName,
+    content: VarName,
+    bundle: &[(VarName, Term)],
+) -> bool
+    ensures { IsTrue result ↔ (IsWithin bounds.now (names.Cell cell) × IsVarWithin bounds.now content × Each (EachOfEquation (IsWithin bounds.now)) bundle.now) }
+{
+    name_fits(bounds, Name::Cell(cell))
+        && name_fits(bounds, Name::Var(content))
+        && equations_within(bounds, bundle)
+}
+
+// Whether the names of a thread and of what it is told, and those in a bundle, are within the bounds.
+fn told_within(
+    bounds: &Bounds,
+    thread: ThreadName,
+    content: VarName,
+    bundle: &[(VarName, Term)],
+) -> bool
+    ensures { IsTrue result ↔ (IsWithin bounds.now (names.Thread thread) × IsVarWithin bounds.now content × Each (EachOfEquation (IsWithin bounds.now)) bundle.now) }
+{
+    name_fits(bounds, Name::Thread(thread))
+        && name_fits(bounds, Name::Var(content))
+        && equations_within(bounds, bundle)
+}
+
 // Whether each name in a request of a thread that waits for its answer, or in an answer, is within the bounds.
 fn request_or_answer_within(bounds: &Bounds, msg: &Msg) -> bool
     requires { IsRequestOrAnswer msg.now }
@@ -156,11 +185,7 @@ fn request_or_answer_within(bounds: &Bounds, msg: &Msg) -> bool
             cell,
             content,
             bundle,
-        } => {
-            name_fits(bounds, Name::Cell(*cell))
-                && name_fits(bounds, Name::Var(*content))
-                && equations_within(bounds, bundle.as_slice())
-        }
+        } => content_within(bounds, *cell, *content, bundle.as_slice()),
         Msg::CellAsk {
             cell,
             thread,
@@ -177,11 +202,7 @@ fn request_or_answer_within(bounds: &Bounds, msg: &Msg) -> bool
             thread,
             content,
             bundle,
-        } => {
-            name_fits(bounds, Name::Thread(*thread))
-                && name_fits(bounds, Name::Var(*content))
-                && equations_within(bounds, bundle.as_slice())
-        }
+        } => told_within(bounds, *thread, *content, bundle.as_slice()),
         _ => unreachable!(),
     }
 }
@@ -224,11 +245,7 @@ fn message_within(bounds: &Bounds, msg: &Msg) -> bool
             cell,
             content,
             bundle,
-        } => {
-            name_fits(bounds, Name::Cell(*cell))
-                && name_fits(bounds, Name::Var(*content))
-                && equations_within(bounds, bundle.as_slice())
-        }
+        } => content_within(bounds, *cell, *content, bundle.as_slice()),
         _ => request_or_answer_within(bounds, msg),
     }
 }
