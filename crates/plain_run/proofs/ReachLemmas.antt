@@ -109,7 +109,7 @@ module _ (p : List Stmt) (n : ℕ) (j : List Turn) (w : ℕ → Site) (is : IsPr
   goes_within k to (msg.Forward c q) at fit = inside to (λ out. (subst (λ (s : Site). CanFollow (cell_record s c).held) (began to out) fit.takes).1)
   goes_within k to (msg.Put c v bundle) at fit = inside to (λ out. (let none : ◌≡◌ {A = Token} Away Asked = subst (λ (s : Site). (cell_record s c).held.token ≡ Asked) (began to out) fit.takes in cc))
   goes_within k to (msg.PortSend q th b) at fit = named to q.site fit.takes.0 (fit.names.0.0, fit.names.0.1)
-  goes_within k to (msg.PortEnd th old new bundle) at fit = lives_in p n bundle_limit j w low run to th (fit.takes.0, WaitsFor (Port fit.takes.1)) fit.takes.2
+  goes_within k to (msg.PortEnd th old new bundle) at fit = lives_in p n bundle_limit j w low run to th (fit.takes.0, WaitsFor (Port fit.takes.1)) fit.takes.3
   goes_within k to (msg.CellMake c v bundle) at fit = homed to c fit.takes.0 fit.names.0.2 (simulated.1.answers.contents.makes k to c v (bundle, (travelling_tells j k (record { to = to; msg = msg.CellMake c v bundle })).1 at)).1
   goes_within k to (msg.CellAsk c th b v bundle) at fit = homed to c fit.takes fit.names.0.2 (stationary c (simulated.1.answers.asking.grounded (claim.Asked k to (ContentOf c v) th b) (bundle, (travelling_tells j k (record { to = to; msg = msg.CellAsk c th b v bundle })).1 at)).3.1)
   goes_within k to (msg.CellOld th v bundle) at fit = lives_in p n bundle_limit j w low run to th (fit.takes.0, WaitsFor (Cell fit.takes.1)) fit.takes.4

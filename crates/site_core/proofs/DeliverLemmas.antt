@@ -1,8 +1,10 @@
 -- What a message that is fit allows, once it is opened.
-use Rattle.std.proofs.Common.{◌≡◌, ◌∙◌, sym, ap, refl, subst, List, [], ◌∷◌, Bool, true, false, cond, Some, None}
+use Rattle.std.proofs.Common.{◌≡◌, ◌∙◌, sym, ap, refl, subst, ℕ, List, [], ◌∷◌, Bool, true, false, cond, Some, None}
 use Rattle.std.specs.Prelude.{Option, ◌↔◌, Contains, IsTrue, IsSome, not, Result, OnOk}
 use Rattle.std.proofs.lemmas.Result.{on_ok_weaker}
 use Rattle.tree_node.specs.declared.names.VarName.{VarName}
+use Rattle.tree_node.specs.declared.names.CellName.{CellName}
+use Rattle.tree_node.specs.declared.names.CodeId.{CodeId}
 use Rattle.tree_node.specs.declared.names.ThreadName.{ThreadName}
 use Rattle.tree_node.specs.declared.names.Name.{Name}
 use Rattle.tree_node.specs.declared.names.Name.TheVariants as name
@@ -11,6 +13,7 @@ use Rattle.tree_node.specs.Assoc.{value_of}
 use Rattle.tree_node.specs.Each.{Each}
 use Rattle.tree_node.specs.Order.{site_of as site_in_name}
 use Rattle.tree_node.specs.State.{Stack, equal_thread}
+use Rattle.tree_node.specs.Store.{Equation}
 use Rattle.kernel_syntax.specs.declared.stmt.Stmt.{Stmt}
 use Rattle.kernel_syntax.specs.Program.{IsProgram}
 use Rattle.site_message.specs.declared.message.Msg.{Msg}
@@ -40,7 +43,7 @@ use Rattle.site_units.specs.Core.{site_of, stack_in, counters_of}
 use Rattle.site_units.specs.Invariant.{IsConsistent}
 use Rattle.site_units.specs.Turns.{IsRowMade}
 use Rattle.site_units.proofs.ThreadLemmas.{Living, WaitsStay, some_there, thread_found}
-use Rattle.site_core.specs.Turns.{CanDeliver}
+use Rattle.site_core.specs.Turns.{CanAnswer, CanDeliver}
 use Rattle.site_core.proofs.CodeLemmas.{term_same}
 use Rattle.site_core.proofs.FitLemmas.{none_found, same_mode}
 use Rattle.site_core.proofs.NameLemmas.{message_each, term_known}
@@ -59,6 +62,28 @@ pub row_for_term : {T E : Type 0} (r : Result T E) (p : List Stmt) (m n : Msg) (
     OnOk r ((q : List Stmt) → IsConsistent q c0 → TermFits q t → IsRowMade q (message_row q 0 n) c0 o0 c1 o1) → m ≡ n → IsConsistent p c0 → TermFits p t → OnOk r (IsRowMade p (message_row p 0 m) c0 o0 c1 o1)
 row_for_term {T} {E} r p m n t c0 c1 o0 o1 rows is h fits =
     on_ok_weaker r (λ (f : (q : List Stmt) → IsConsistent q c0 → TermFits q t → IsRowMade q (message_row q 0 n) c0 o0 c1 o1). subst (λ (k : Msg). IsRowMade p (message_row p 0 k) c0 o0 c1 o1) (sym is) (f p h fits)) rows
+
+-- those for each program, of a message that is this one
+pub rows_for : {T E : Type 0} (r : Result T E) (m n : Msg) (c0 c1 : Core) (o0 o1 : Output) → OnOk r ((q : List Stmt) → IsConsistent q c0 → IsRowMade q (message_row q 0 n) c0 o0 c1 o1) → m ≡ n →
+    OnOk r ((q : List Stmt) → IsConsistent q c0 → IsRowMade q (message_row q 0 m) c0 o0 c1 o1)
+rows_for {T} {E} r m n c0 c1 o0 o1 rows is = subst (λ (k : Msg). OnOk r ((q : List Stmt) → IsConsistent q c0 → IsRowMade q (message_row q 0 k) c0 o0 c1 o1)) (sym is) rows
+
+-- a message of none of the first kinds is a request or an answer
+pub can_answer : (p : List Stmt) (c : Core) (m : Msg) → ((n : ThreadName) (code : CodeId) (vars : List VarName) (es : List Equation) → m ≡ msg.Spawn n code vars es → ⊥) → ((x : VarName) (k : ℕ) → m ≡ msg.Register x k → ⊥) →
+    ((x : VarName) (n : ThreadName) (t : Term) (es : List Equation) → m ≡ msg.BindReq x n t es → ⊥) → ((x : VarName) (t : Term) (es : List Equation) → m ≡ msg.Binding x t es → ⊥) → ((cell : CellName) (k : ℕ) → m ≡ msg.Get cell k → ⊥) →
+    ((cell : CellName) (k : ℕ) → m ≡ msg.Forward cell k → ⊥) → ((cell : CellName) (v : VarName) (es : List Equation) → m ≡ msg.Put cell v es → ⊥) → CanDeliver p c m → CanAnswer c m
+can_answer p c (msg.Spawn n code vars es) spawn register request binding get forward put can = absurd (spawn n code vars es refl)
+can_answer p c (msg.Register x k) spawn register request binding get forward put can = absurd (register x k refl)
+can_answer p c (msg.BindReq x n t es) spawn register request binding get forward put can = absurd (request x n t es refl)
+can_answer p c (msg.Binding x t es) spawn register request binding get forward put can = absurd (binding x t es refl)
+can_answer p c (msg.Get cell k) spawn register request binding get forward put can = absurd (get cell k refl)
+can_answer p c (msg.Forward cell k) spawn register request binding get forward put can = absurd (forward cell k refl)
+can_answer p c (msg.Put cell v es) spawn register request binding get forward put can = absurd (put cell v es refl)
+can_answer p c (msg.PortSend q n k) spawn register request binding get forward put can = can
+can_answer p c (msg.PortEnd n old new es) spawn register request binding get forward put can = can
+can_answer p c (msg.CellMake cell v es) spawn register request binding get forward put can = can
+can_answer p c (msg.CellAsk cell n k v es) spawn register request binding get forward put can = can
+can_answer p c (msg.CellOld n v es) spawn register request binding get forward put can = can
 
 -- ---- a thread that lives nowhere here
 
@@ -178,7 +203,7 @@ deliverable p is law m c c1 h fit o = go m fit o.known
     go (msg.Put cell v es) f known = (taken (msg.Put cell v es) ((law.put (site_of c) c.cells cell v es tables).1 f.takes), known.0)
     go (msg.PortSend q n k) f known = subst (λ (ps : List Owner). IsSome (end_of ps q)) (sym o.ports) (some_there (end_of c.ports q) f.takes.1 f.takes.2)
     go (msg.PortEnd n old new es) f known =
-        let there = behind c.threads.living n f.takes.0 (WaitsFor (Port f.takes.1)) f.takes.2 in
+        let there = behind c.threads.living n f.takes.0 (WaitsFor (Port f.takes.1)) f.takes.3 in
         ((there.0, f.takes.1, o.waits n there.0 (Port f.takes.1) there.1), known.0, known.1.0)
     go (msg.CellMake cell v es) f known = (subst (λ (hs : HomeTable). (home_in hs cell).content ≡ None) (sym o.homes) f.takes.1, known.0)
     go (msg.CellAsk cell n k v es) f known = ((λ e. f.sites.2 (e ∙ o.site)), known.0)

@@ -39,17 +39,17 @@ nowhere c n st k none h = none_found (st, k) (sym (seen_none (λ (e : Running ×
 pub same_mode : (s t : Stack) (m k : Mode) → ◌≡◌ {A = Option ThreadState} (Some (s, m)) (Some (t, k)) → m ≡ k
 same_mode s t m k e = ap (λ (o : Option ThreadState). (unwrap_or o (s, m)).1) e
 
-pub end_waits : (c : Core) (n : ThreadName) (m : Mode) (b : Bool) → ((v : Running) × (value_of equal_thread c.threads.living n ≡ Some (v, m))) → (IsTrue b ↔ IsForEnd m) → IsTrue b ↔ WaitsForEnd c n
+pub end_waits : (c : Core) (n : ThreadName) (m : Mode) (b : Bool) → ((v : Running) × (value_of equal_thread c.threads.living n ≡ Some (v, m))) → (IsTrue b ↔ IsForEnd c.variables.binder.site m) → IsTrue b ↔ WaitsForEnd c n
 end_waits c n m b (v, there) same = (
   λ k. to m found (same.0 k),
-  λ w. let is : m ≡ mode.WaitsFor (Port w.1) = same_mode v.stack w.0 m (mode.WaitsFor (Port w.1)) (sym found ∙ w.2) in same.1 (subst IsForEnd (sym is) tt),
+  λ w. let is : m ≡ mode.WaitsFor (Port w.1) = same_mode v.stack w.0 m (mode.WaitsFor (Port w.1)) (sym found ∙ w.3) in same.1 (subst (IsForEnd c.variables.binder.site) (sym is) w.2),
 )
   where
     found : thread_state (site_of c) n ≡ Some (v.stack, m)
     found = thread_found c.threads.living n v m there
 
-    to : (m : Mode) → thread_state (site_of c) n ≡ Some (v.stack, m) → IsForEnd m → WaitsForEnd c n
-    to (mode.WaitsFor (Port q)) e k = (v.stack, q, e)
+    to : (m : Mode) → thread_state (site_of c) n ≡ Some (v.stack, m) → IsForEnd c.variables.binder.site m → WaitsForEnd c n
+    to (mode.WaitsFor (Port q)) e k = (v.stack, q, k, e)
     to (mode.WaitsFor (Cell d)) e k = absurd k
     to mode.Runs e k = absurd k
     to (mode.Waits x) e k = absurd k
@@ -57,7 +57,7 @@ end_waits c n m b (v, there) same = (
     to (mode.WaitsAny xs) e k = absurd k
 
 pub no_end_waits : (c : Core) (n : ThreadName) → value_of equal_thread c.threads.living n ≡ None → IsTrue false ↔ WaitsForEnd c n
-no_end_waits c n none = (λ k. cc, λ w. absurd (nowhere c n w.0 (mode.WaitsFor (Port w.1)) none w.2))
+no_end_waits c n none = (λ k. cc, λ w. absurd (nowhere c n w.0 (mode.WaitsFor (Port w.1)) none w.3))
 
 pub content_waits : (c : Core) (n : ThreadName) (m : Mode) (b : Bool) → ((v : Running) × (value_of equal_thread c.threads.living n ≡ Some (v, m))) → (IsTrue b ↔ IsForContent c.variables.binder.site m) → IsTrue b ↔ WaitsForContent c n
 content_waits c n m b (v, there) same = (

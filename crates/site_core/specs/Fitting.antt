@@ -46,19 +46,19 @@ HasPort c q = (q.site ≡ c.variables.binder.site) × (end : VarName) × (end_of
 abbrev pub IsUnheard : Core → CellName → Type 0
 IsUnheard c cell = (cell.at ≡ c.variables.binder.site) × ((home_in c.homes cell).content ≡ None)
 
--- who stands so waits for the end of a port
-abbrev pub IsForEnd : Mode → Type 0
-IsForEnd (WaitsFor (Port q)) = Unit {0}
-IsForEnd _ = ⊥
+-- who stands so at site i waits for the end of a port of another site
+abbrev pub IsForEnd : ℕ → Mode → Type 0
+IsForEnd i (WaitsFor (Port q)) = q.site ≢ i
+IsForEnd i _ = ⊥
 
 -- who stands so at site i waits for the content of a stationary cell that is at home elsewhere
 abbrev pub IsForContent : ℕ → Mode → Type 0
 IsForContent i (WaitsFor (Cell d)) = (d.at ≢ 0) × (d.at ≢ i)
 IsForContent i _ = ⊥
 
--- the thread waits here for the end of a port
+-- the thread waits here for the end of such a port
 abbrev pub WaitsForEnd : Core → ThreadName → Type 0
-WaitsForEnd c n = (st : Stack) × (q : PortName) × (thread_state (site_of c) n ≡ Some (st, WaitsFor (Port q)))
+WaitsForEnd c n = (st : Stack) × (q : PortName) × (q.site ≢ c.variables.binder.site) × (thread_state (site_of c) n ≡ Some (st, WaitsFor (Port q)))
 
 -- it waits here for the content of such a cell
 abbrev pub WaitsForContent : Core → ThreadName → Type 0

@@ -34,11 +34,25 @@ use Rattle.site_core.specs.Site.{IsTransitionInOrder}
 
 -- ---- messages
 
+-- the data can do the row of a request or an answer, which was opened: a port was made here; a thread waits for the end of a port, or for the
+-- content of a cell of another home, and both ends, or the content, are known; the home did not hear of the cell; a request of another
+-- site leaves a known content
+abbrev pub CanAnswer : Core → Msg → Type 0
+CanAnswer c (msg.PortSend q n k) = IsSome (end_of c.ports q)
+CanAnswer c (msg.PortEnd n old new bundle) =
+    ((r : Running) × (q : PortName) × (value_of equal_thread c.threads.living n ≡ Some (r, WaitsFor (Port q))))
+    × Contains c.variables.store.known old × Contains c.variables.store.known new
+CanAnswer c (msg.CellMake cell v bundle) = ((home_in c.homes cell).content ≡ None) × Contains c.variables.store.known v
+CanAnswer c (msg.CellAsk cell n k v bundle) = (k ≢ c.variables.binder.site) × Contains c.variables.store.known v
+CanAnswer c (msg.CellOld n v bundle) =
+    ((r : Running) × (d : CellName) × (d.at ≢ 0) × (d.at ≢ c.variables.binder.site) × (value_of equal_thread c.threads.living n ≡ Some (r, WaitsFor (Cell d))))
+    × Contains c.variables.store.known v
+CanAnswer c _ = ⊥
+
 -- the data can do the row of the message, which was opened: a new thread lives nowhere here, its name is no later one of this
 -- site's, and its code fits; an own variable was made, and the asking site is not registered; a term fits, leads down and is of
--- known variables; a variable of another site was met; the cell can take its message, and its content is known; a port was made here; a thread waits for the
--- end of a port, or for the content of a cell of another home, and both ends, or the content, are known; the home did not hear of the
--- cell; a request of another site leaves a known content
+-- known variables; a variable of another site was met; the cell can take its message, and its content is known; or it is a request or an
+-- answer
 abbrev pub CanDeliver : List Stmt → Core → Msg → Type 0
 CanDeliver p c (msg.Spawn n code vars bundle) =
     (value_of equal_thread c.threads.living n ≡ None) × IsMade c.fresh (name.Thread n) × VarsFit p code vars
@@ -55,15 +69,7 @@ CanDeliver p c (msg.Binding x t bundle) =
 CanDeliver p c (msg.Get cell k) = IsReceivable c.cells (msg.Get cell k)
 CanDeliver p c (msg.Forward cell k) = IsReceivable c.cells (msg.Forward cell k)
 CanDeliver p c (msg.Put cell v bundle) = IsReceivable c.cells (msg.Put cell v bundle) × Contains c.variables.store.known v
-CanDeliver p c (msg.PortSend q n k) = IsSome (end_of c.ports q)
-CanDeliver p c (msg.PortEnd n old new bundle) =
-    ((r : Running) × (q : PortName) × (value_of equal_thread c.threads.living n ≡ Some (r, WaitsFor (Port q))))
-    × Contains c.variables.store.known old × Contains c.variables.store.known new
-CanDeliver p c (msg.CellMake cell v bundle) = ((home_in c.homes cell).content ≡ None) × Contains c.variables.store.known v
-CanDeliver p c (msg.CellAsk cell n k v bundle) = (k ≢ c.variables.binder.site) × Contains c.variables.store.known v
-CanDeliver p c (msg.CellOld n v bundle) =
-    ((r : Running) × (d : CellName) × (d.at ≢ 0) × (d.at ≢ c.variables.binder.site) × (value_of equal_thread c.threads.living n ≡ Some (r, WaitsFor (Cell d))))
-    × Contains c.variables.store.known v
+CanDeliver p c m = CanAnswer c m
 
 -- the data and the output came by the message: by its row where it is fit, and nothing changed where it is not
 abbrev pub IsReceived : List Stmt → Option Msg → Core → Output → Core → Output → Type 0

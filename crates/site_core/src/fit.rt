@@ -72,12 +72,12 @@ fn codes_fit(program: &Program, msg: &Msg) -> bool
     parts_fit(program, msg)
 }
 
-// Whether who stands so waits for the end of a port.
-fn is_for_end(mode: &Mode) -> bool
-    ensures { IsTrue result ↔ IsForEnd mode.now }
+// Whether who stands so at this site waits for the end of a port of another site.
+fn is_for_end(site: u32, mode: &Mode) -> bool
+    ensures { IsTrue result ↔ IsForEnd site mode.now }
 {
     match mode {
-        Mode::WaitsFor(Awaited::Port(_)) => true,
+        Mode::WaitsFor(Awaited::Port(port)) => port.site != site,
         _ => false,
     }
 }
@@ -92,12 +92,13 @@ fn is_for_content(site: u32, mode: &Mode) -> bool
     }
 }
 
-// Whether a thread waits here for the end of a port.
+// Whether a thread waits here for the end of a port of another site.
 fn waits_for_end(core: &Core, thread: ThreadName) -> bool
+    requires counted { site_among core.now.fresh ≡ Some core.now.variables.binder.site }
     ensures { IsTrue result ↔ WaitsForEnd core.now thread }
 {
     match core.threads.mode(thread) {
-        Some(mode) => is_for_end(mode),
+        Some(mode) => is_for_end(site_in(&core.fresh), mode),
         None => false,
     }
 }

@@ -13,7 +13,7 @@ use site_cells::{Cells, Homes};
 use site_units::Core;
 use site_variables::Variables;
 use std::alloc::{AllocError, Global};
-use thread_machine::Thread;
+use thread_machine::{Spare, Thread};
 use thread_roster::Roster;
 use tree_node::{CodeId, ThreadName, Vars};
 
@@ -50,6 +50,7 @@ pub fn bare_core(alloc: Global, number: u32, sites: u32) -> Core
         ports: Ports::new(alloc),
         homes: Homes::new(alloc),
         threads: Roster::new(alloc),
+        spare: Spare::new(alloc),
         fresh: Fresh::of(number, sites),
         steps: 0,
     }

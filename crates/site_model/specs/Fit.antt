@@ -101,7 +101,7 @@ CanRequest s c (Some a) = a ≡ s.records.site → CanFollow (cell_record s c).h
 -- the conditions of the calls that the message leads to: a new thread lives nowhere here; a Register or a BindReq is for an
 -- own variable, and a bind leads down; a Binding is of another site's variable that was met; a Get is of an own cell, and a
 -- Forward finds no successor; a Put was asked for; a PortSend is for a port made here, and an answer for a thread that waits here for such
--- an answer; a stationary cell is at home here, and of one that is told the site did not hear
+-- an answer of another site; a stationary cell is at home here, and of one that is told the site did not hear
 abbrev pub CanTake : Site → Msg → Type 0
 CanTake s (msg.Spawn n code vars bundle) = thread_state s n ≡ None
 CanTake s (msg.Register x k) = IsReceivable s.records (msg.Register x k)
@@ -111,7 +111,8 @@ CanTake s (msg.Get c k) = (c.site ≡ s.records.site) × CanRequest s c (last_as
 CanTake s (msg.Forward c k) = CanFollow (cell_record s c).held
 CanTake s (msg.Put c v bundle) = (cell_record s c).held.token ≡ Asked
 CanTake s (msg.PortSend q n k) = (q.site ≡ s.records.site) × (end : VarName) × (port_end s q ≡ Some end)
-CanTake s (msg.PortEnd n old new bundle) = (st : Stack) × (q : PortName) × (thread_state s n ≡ Some (st, WaitsFor (Port q)))
+CanTake s (msg.PortEnd n old new bundle) =
+    (st : Stack) × (q : PortName) × (q.site ≢ s.records.site) × (thread_state s n ≡ Some (st, WaitsFor (Port q)))
 CanTake s (msg.CellMake c v bundle) = (c.at ≡ s.records.site) × ((home_record s c).content ≡ None)
 CanTake s (msg.CellAsk c n k v bundle) = c.at ≡ s.records.site
 CanTake s (msg.CellOld n v bundle) =

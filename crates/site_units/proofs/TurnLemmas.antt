@@ -1,5 +1,5 @@
 -- Units in a row, and turns.
-use Rattle.std.proofs.Common.{add-one, arith, ◌≡◌, ◌∙◌, sym, ap, refl, subst, ℕ, zero, suc, length, filter, List, [], ◌∷◌, ◌++◌, Bool, true, false, cond, Some, None}
+use Rattle.std.proofs.Common.{arith, ◌≡◌, ◌∙◌, sym, ap, refl, subst, ℕ, zero, suc, length, filter, List, [], ◌∷◌, ◌++◌, Bool, true, false, cond, Some, None}
 use Rattle.std.specs.Prelude.{Option, ◌+◌, ◌≤◌, ◌<◌}
 use Rattle.tree_node.specs.declared.names.ThreadName.{ThreadName}
 use Rattle.tree_node.specs.declared.pick.Pick.{Pick}

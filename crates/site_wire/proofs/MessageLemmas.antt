@@ -222,7 +222,7 @@ module _ (p : List Stmt) (is : IsProgram p) (n limit : ℕ) (high : limit ≤ 25
   row_fits (msg.PortSend q th k) s fit h g =
       end_moves p is n limit high i low q th k fit.takes.1 (opening (msg.PortSend q th k) s).site fit.takes.2 fit.wire.1 g
   row_fits (msg.PortEnd th old new es) s fit h g =
-      ends_fit p is n limit high i low th old new fit.takes.0 fit.takes.1 (opening (msg.PortEnd th old new es) s).site (told_all_waits es s th fit.takes.0 (Port fit.takes.1) fit.takes.2) fit.wire.1 fit.wire.2 g
+      ends_fit p is n limit high i low th old new fit.takes.0 fit.takes.1 (opening (msg.PortEnd th old new es) s).site (told_all_waits es s th fit.takes.0 (Port fit.takes.1) fit.takes.3) fit.wire.1 fit.wire.2 g
   row_fits (msg.CellMake c v es) s fit h g = makes_fit p is n limit high i low c v (opening (msg.CellMake c v es) s).site (fit.takes.0 ∙ h.site) fit.wire.2 g
   row_fits (msg.CellAsk c th k new es) s fit h g =
       asked_fits p is n limit high i low c (record { thread = th; asking = k; new = new }) (opening (msg.CellAsk c th k new es) s).site (λ e. fit.sites.2 (e ∙ sym h.site)) (fit.wire.2, fit.wire.3, fit.wire.4) g

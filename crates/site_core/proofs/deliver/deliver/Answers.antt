@@ -1,6 +1,6 @@
-use Rattle.std.proofs.Common.{subst}
+use Rattle.std.proofs.Common.{refl, subst}
 use Rattle.site_core.specs.Turns.{CanDeliver}
-use Rattle.site_core.proofs.DeliverLemmas.{row_for, row_for_term}
+use Rattle.site_core.proofs.DeliverLemmas.{row_for, row_for_term, can_answer}
 use Rattle.site_core.proofs.deliver.deliver.Goals as goal
 
 pub returns-in-Register-clause-row : goal.returns-in-Register-clause-row
@@ -25,22 +25,12 @@ pub returns-in-Forward-clause-row : goal.returns-in-Forward-clause-row
 returns-in-Forward-clause-row c =
     row_for c.follow.result c.args.program.now c.args.msg _ c.args.core.now c.follow.new.core c.args.output.now c.follow.new.output c.follow.ensures.row c.in-Forward.is c.requires.consistent
 
-pub returns-in-PortSend-clause-row : goal.returns-in-PortSend-clause-row
-returns-in-PortSend-clause-row c =
-    row_for c.move_end.result c.args.program.now c.args.msg _ c.args.core.now c.move_end.new.core c.args.output.now c.move_end.new.output c.move_end.ensures.row c.in-PortSend.is c.requires.consistent
+pub deliver_request_or_answer-requires-clause-deliverable : goal.deliver_request_or_answer-requires-clause-deliverable
+deliver_request_or_answer-requires-clause-deliverable c =
+    let d = c.in_default in
+    can_answer c.args.program.now c.args.core.now c.args.msg d.not-Spawn d.not-Register d.not-BindReq d.not-Binding d.not-Get d.not-Forward d.not-Put c.requires.deliverable
 
-pub returns-in-PortEnd-clause-row : goal.returns-in-PortEnd-clause-row
-returns-in-PortEnd-clause-row c =
-    row_for c.resume_sent.result c.args.program.now c.args.msg _ c.args.core.now c.resume_sent.new.core c.args.output.now c.resume_sent.new.output c.resume_sent.ensures.row c.in-PortEnd.is c.requires.consistent
-
-pub returns-in-CellMake-clause-row : goal.returns-in-CellMake-clause-row
-returns-in-CellMake-clause-row c =
-    row_for c.hear.result c.args.program.now c.args.msg _ c.args.core.now c.hear.new.core c.args.output.now c.hear.new.output c.hear.ensures.row c.in-CellMake.is c.requires.consistent
-
-pub returns-in-CellAsk-clause-row : goal.returns-in-CellAsk-clause-row
-returns-in-CellAsk-clause-row c =
-    row_for c.exchange_for.result c.args.program.now c.args.msg _ c.args.core.now c.exchange_for.new.core c.args.output.now c.exchange_for.new.output c.exchange_for.ensures.row c.in-CellAsk.is c.requires.consistent
-
-pub returns-clause-row : goal.returns-clause-row
-returns-clause-row c =
-    row_for c.resume_served.result c.args.program.now c.args.msg _ c.args.core.now c.resume_served.new.core c.args.output.now c.resume_served.new.output c.resume_served.ensures.row c.in-CellOld.is c.requires.consistent
+pub returns-in_default-clause-row : goal.returns-in_default-clause-row
+returns-in_default-clause-row c =
+    row_for c.deliver_request_or_answer.result c.args.program.now c.args.msg c.args.msg c.args.core.now c.deliver_request_or_answer.new.core c.args.output.now c.deliver_request_or_answer.new.output c.deliver_request_or_answer.ensures.row refl
+    c.requires.consistent
