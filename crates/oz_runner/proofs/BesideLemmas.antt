@@ -16,11 +16,12 @@ use Rattle.site_message.specs.declared.turn.Turn.{Turn}
 use Rattle.site_model.specs.Bundle.{bundle_limit}
 use Rattle.site_model.specs.Run.{WorldRun}
 use Rattle.world_model.specs.Schedule.{schedule}
+use Rattle.world_journals.specs.Homes.{HomesAreAsked}
 use Rattle.world_journals.specs.Places.{ThreadsStayHome, ThreadsAlwaysStayHome}
 use Rattle.world_journals.specs.Requests.{RequestsAreServed}
 use Rattle.world_simulation.specs.Distributed.{RunsTakeRows}
 use Rattle.world_simulation.specs.Messages.{AllMessagesAreFew}
-use Rattle.oz_runner.specs.Besides.{AreMessagesBounded, AreTokensServed, IsAccounted}
+use Rattle.oz_runner.specs.Besides.{AreMessagesBounded, AreTokensServed, AreExchangesAsked, IsAccounted}
 use Rattle.oz_runner.specs.Cause.{Cause, HasProgram}
 use Rattle.oz_runner.specs.Cells.{AreExchangesChained}
 use Rattle.oz_runner.specs.Headline.{Headline}
@@ -75,6 +76,7 @@ pub record RunLaws : Type 0 where
   pub homes : ThreadsAlwaysStayHome
   pub few : AllMessagesAreFew
   pub served : RequestsAreServed
+  pub asked : HomesAreAsked
   pub programs : TextsArePrograms
   pub cells : CellsAreChains
 
@@ -114,16 +116,24 @@ module _ (seen : OzCall) (made : RunOutput) (laws : RunLaws) (ran : Ran seen mad
     laws.served given.program given.options.sites bundle_limit made.journal ran.by_sites.states program given.range.sites.0 given.range.sites.1 (omega arith) world,
   )
 
+  asked : AreExchangesAsked seen made.journal
+  asked = inr (
+    given,
+    ran.by_sites.states,
+    ran.by_sites.run,
+    laws.asked given.program given.options.sites bundle_limit made.journal ran.by_sites.states program given.range.sites.0 given.range.sites.1 (omega arith) world,
+  )
+
 -- whatever the run, the exchanges of its cells are chains
 pub chained : CellsAreChains → (picks : List Pick) → AreExchangesChained picks
 chained cells picks = record { chain = λ p s c run. cells p picks s c run }
 
 accounted_by : (seen : OzCall) (made : RunOutput) → RunLaws → (made.journal ≡ []) ⊎ Ran seen made → IsAccounted seen made.journal made.schedule
-accounted_by seen made laws (inl none) = record { homes = none_moves made.journal none; few = inl none; served = inl none; chains = chained laws.cells made.schedule }
-accounted_by seen made laws (inr ran) = record { homes = stays seen made laws ran; few = bounded seen made laws ran; served = served seen made laws ran; chains = chained laws.cells made.schedule }
+accounted_by seen made laws (inl none) = record { homes = none_moves made.journal none; few = inl none; served = inl none; asked = inl none; chains = chained laws.cells made.schedule }
+accounted_by seen made laws (inr ran) = record { homes = stays seen made laws ran; few = bounded seen made laws ran; served = served seen made laws ran; asked = asked seen made laws ran; chains = chained laws.cells made.schedule }
 
 -- what a call promises of its status accounts for its journal
-pub accounted : (seen : OzCall) (made : RunOutput) (status : Status) → RunsTakeRows → ThreadsAlwaysStayHome → AllMessagesAreFew → RequestsAreServed → TextsArePrograms
+pub accounted : (seen : OzCall) (made : RunOutput) (status : Status) → RunsTakeRows → ThreadsAlwaysStayHome → AllMessagesAreFew → RequestsAreServed → HomesAreAsked → TextsArePrograms
     → CellsAreChains → Headline seen made status → IsAccounted seen made.journal made.schedule
-accounted seen made status rows homes few served programs cells whole =
-    accounted_by seen made (record { rows = rows; homes = homes; few = few; served = served; programs = programs; cells = cells }) (by_cause seen made whole.worked whole.has_line whole.cause)
+accounted seen made status rows homes few served asked programs cells whole =
+    accounted_by seen made (record { rows = rows; homes = homes; few = few; served = served; asked = asked; programs = programs; cells = cells }) (by_cause seen made whole.worked whole.has_line whole.cause)

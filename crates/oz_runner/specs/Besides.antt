@@ -8,6 +8,7 @@ use Rattle.site_message.specs.Journal.{sent_of}
 use Rattle.site_message.specs.declared.turn.Turn.{Turn}
 use Rattle.site_model.specs.Bundle.{bundle_limit}
 use Rattle.site_model.specs.Site.{Site, cell_record}
+use Rattle.world_journals.specs.Homes.{AreHomesAsked}
 use Rattle.world_journals.specs.Places.{ThreadsStayHome}
 use Rattle.world_journals.specs.Requests.{AreRequestsServed}
 use Rattle.world_simulation.specs.Distributed.{DistributedRun}
@@ -32,10 +33,19 @@ AreTokensServed seen j =
     ⊎ ((given : HasProgram seen) × (states : ℕ → Site) × DistributedRun given.program given.options.sites bundle_limit j states
     × ((c : CellName) (i : ℕ) → AreRequestsServed given.program c i j (cell_record (states i) c).held.token))
 
--- each own step of a thread is of the site where the thread was placed; the sites sent few messages, and their requests are served; and
--- the exchanges of each cell are one chain
+-- there is no turn, or the journal is one of that program over its sites, and leads to states of them in which each exchange of a stationary
+-- cell for a thread of another site has one request and one answer, and each request was followed by an exchange or is outstanding
+abbrev pub AreExchangesAsked : OzCall → List Turn → Type 0
+AreExchangesAsked seen j =
+    (j ≡ [])
+    ⊎ ((given : HasProgram seen) × (states : ℕ → Site) × DistributedRun given.program given.options.sites bundle_limit j states
+    × AreHomesAsked given.program j states)
+
+-- each own step of a thread is of the site where the thread was placed; the sites sent few messages, and their requests are served, those
+-- to the homes of stationary cells too; and the exchanges of each cell are one chain
 pub record IsAccounted (seen : OzCall) (j : List Turn) (picks : List Pick) : Type 0 where
   pub homes : ThreadsStayHome j
   pub few : AreMessagesBounded seen j picks
   pub served : AreTokensServed seen j
+  pub asked : AreExchangesAsked seen j
   pub chains : AreExchangesChained picks

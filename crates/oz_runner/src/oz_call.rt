@@ -6,7 +6,7 @@ ghost use Rattle.oz_model.specs.Output.{output};
 ghost use Rattle.oz_show.specs.Status.{end_line, HasLine};
 ghost use Rattle.oz_show.specs.declared.status.Status.TheVariants.{Memory};
 ghost use Rattle.world_journals.specs.Places.{ThreadsStayHome};
-ghost use Rattle.oz_runner.specs.Besides.{AreMessagesBounded, AreTokensServed};
+ghost use Rattle.oz_runner.specs.Besides.{AreMessagesBounded, AreTokensServed, AreExchangesAsked};
 ghost use Rattle.oz_runner.specs.Cells.{AreExchangesChained};
 ghost use Rattle.oz_runner.specs.OzCall.{stream_of, oz_call_of, run_output_of};
 ghost use Rattle.oz_runner.specs.Complete.{IsGood, IsDone};
@@ -30,7 +30,7 @@ use site_worker::Gate;
 use std::alloc::Global;
 use std::sync::Wait;
 use std::thread::Threads;
-use world_journals::{requests_are_served, threads_stay_home};
+use world_journals::{homes_are_asked, requests_are_served, threads_stay_home};
 use world_simulation::{messages_are_few, runs_take_rows};
 
 /// Reads the words and a text, runs it, and writes its lines and the end line, or with `save` the saved run; with `check` it reads a saved
@@ -58,6 +58,9 @@ pub fn oz<S: Source, K: Sink, G: Gate + Sync, R: Threads + Wait + Sync>(
     ensures served { AreTokensServed
         (oz_call_of (map string_bytes words.now) (stream_of S.left S.faults source.old source.new) (stream_of K.taken K.faults sink.old sink.new))
         result.journal }
+    ensures asked { AreExchangesAsked
+        (oz_call_of (map string_bytes words.now) (stream_of S.left S.faults source.old source.new) (stream_of K.taken K.faults sink.old sink.new))
+        result.journal }
     ensures chains { AreExchangesChained result.schedule }
     ensures pieces { IsWrittenByLine
         (oz_call_of (map string_bytes words.now) (stream_of S.left S.faults source.old source.new) (stream_of K.taken K.faults sink.old sink.new))
@@ -69,6 +72,7 @@ pub fn oz<S: Source, K: Sink, G: Gate + Sync, R: Threads + Wait + Sync>(
     threads_stay_home();
     messages_are_few();
     requests_are_served();
+    homes_are_asked();
     exchanges_are_a_chain();
     let work = do_work(rt, alloc, words, source, gate);
     report(alloc, sink, work)

@@ -51,6 +51,7 @@ use Rattle.world_cells.specs.Reached.{Reached}
 use Rattle.world_cells.proofs.FrameLemmas.{NoCells}
 use Rattle.world_cells.proofs.QueueLemmas.{SameWaiters}
 use Rattle.world_answers.specs.AnswerCounts.{counted}
+use Rattle.world_answers.specs.Balance.{of_exchange, exchanges_by}
 use Rattle.world_answers.proofs.KeptLemmas.{IsQuiet, kept_quiet, allowed, news, effect_is, fresh_made, all, step_kept, kept_told}
 use Rattle.world_answers.proofs.LeaveLemmas.{Left, Leaves}
 use Rattle.world_answers.proofs.PackLemmas.{ReachedAt, packed, to_shown}
@@ -169,6 +170,13 @@ module _ (p : List Stmt) (i : ℕ) (real : i ≢ 0) (w : World) (ks : List Pick)
   -- what its effect counts
   pub act_counted : (f : Effect → ℕ) (d : Transition) → IsKeptAct (w.sites i) kinds fresh act_served d → counted f p c d.picks ≡ f e
   act_counted f d row = ap (λ (ls : List Pick). counted f p c ls) row.picks ∙ and_none (f (effect_of p c act_served)) ∙ ap f act_effect
+    where
+      and_none : (a : ℕ) → a + 0 ≡ a
+      and_none a = omega arith
+
+  -- what its exchange gives
+  pub act_exchanged : (f : CellName → ThreadName → ℕ) (d : Transition) → IsKeptAct (w.sites i) kinds fresh act_served d → exchanges_by f p c d.picks ≡ of_exchange f n e.cell
+  act_exchanged f d row = ap (λ (ls : List Pick). exchanges_by f p c ls) row.picks ∙ and_none (of_exchange f n (effect_of p c act_served).cell) ∙ ap (λ (x : Effect). of_exchange f n x.cell) act_effect
     where
       and_none : (a : ℕ) → a + 0 ≡ a
       and_none a = omega arith

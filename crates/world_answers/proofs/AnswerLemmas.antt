@@ -33,8 +33,8 @@ use Rattle.world_model.specs.Keepers.{IsTold, homes, ports, early_at}
 use Rattle.world_model.specs.Matches.{PartsMatch}
 use Rattle.world_model.specs.Names.{IsHere, IsHereName, IsMade, here_at}
 use Rattle.world_model.specs.Shown.{standing, shown, shown_world, is_asking}
-use Rattle.world_model.specs.World.{World, Mail, IsOnItsWay, eqs, records, threads, counters, after_transition, after_receipt, without_number}
-use Rattle.world_model.proofs.MailLemmas.{gone}
+use Rattle.world_model.specs.World.{World, Mail, IsOnItsWay, put, eqs, records, threads, counters, after_transition, after_receipt, without_number}
+use Rattle.world_model.proofs.MailLemmas.{gone, sent_to}
 use Rattle.world_model.proofs.PutLemmas.{at_all, field_kept}
 use Rattle.world_variables.specs.Sums.{names}
 use Rattle.world_variables.proofs.RegisterLemmas.{parts_posts}
@@ -45,6 +45,8 @@ use Rattle.world_answers.proofs.AskJoinLemmas.{ports_same, early_same}
 use Rattle.world_answers.proofs.ClaimLemmas.{own_found, comes_back}
 use Rattle.world_answers.proofs.HomeLemmas.{same_homes}
 use Rattle.world_answers.proofs.LeaveLemmas.{Leaves, leaves_none}
+use Rattle.world_answers.proofs.BalanceLemmas.{Balances, came_of}
+use Rattle.world_answers.proofs.BalanceRowLemmas.{still_balances}
 use Rattle.world_answers.proofs.OwedLemmas.{Owes, owes_none}
 use Rattle.world_answers.proofs.PackLemmas.{ReachedAt, whole, packed, came, same_parts, shown_far}
 use Rattle.world_answers.proofs.ReturnLemmas.{returned_waiters, returned_names, returned_from, returned_old, returned_parts, gone_waiters, gone_once}
@@ -230,6 +232,14 @@ module _ (p : List Stmt) (i : ℕ) (real : i ≢ 0) (w : World) (ks : List Pick)
     where
       waits : (a : Awaited) → is_asking (mode.WaitsFor a) ≡ true → keeper_of a ≢ s.records.site → (m : ThreadName) → (m ≡ n → ⊥) → (su : Stack) → value_of equal_thread s.threads m ≡ Some (su, mode.WaitsFor a) → value_of equal_thread d.site.threads m ≡ Some (su, mode.WaitsFor a)
       waits a asks far m other su h = ap (λ (ts : Threads). value_of equal_thread ts m) threads_are ∙ with_there equal_thread same_thread_decides s.threads n m (found.0, mode.Runs) (λ e. other (sym e)) ∙ h
+
+  -- it has to do with no stationary cell
+  pub answer_balances : (R : ℕ → ThreadName → Type 0) → Balances p R (came_of (sent_to i (answer n x bundle))) w.sites (put w.sites i d.site) c d
+  answer_balances R = still_balances p R w.sites (put w.sites i d.site) c d (came_of (sent_to i (answer n x bundle))) (no_request x) (λ b. ap (λ (hs : ℕ → List (CellName × HomeRecord)). early_at hs b) homes_same) (λ f vanishes. refl) refl refl
+    where
+      no_request : (y : Answer) (b : CellName) (th : ThreadName) → came_of (sent_to i (answer n y bundle)) b th ≡ 0
+      no_request (NewEnd old new) b th = refl
+      no_request (OldContent u) b th = refl
 
   pub answer_joined : Joined p v (ks ++ [])
   answer_joined = record {

@@ -1,7 +1,7 @@
 -- The units of a thread that asks: the owner of a port, the home of a cell, or its own home before the home heard of the cell.
 use Rattle.world_model.proofs.KeyLemmas.{with_here}
 use Rattle.tree_node.proofs.NameLemmas.{same_thread_decides}
-use Rattle.std.proofs.Common.{◌≡◌, ◌∙◌, sym, ap, refl, subst, ℕ, List, [], ◌∷◌, ◌++◌, append-nil, ◌⊎◌, inl, inr, Bool, true, false, Some, None}
+use Rattle.std.proofs.Common.{◌≡◌, ◌∙◌, sym, ap, refl, subst, ℕ, List, [], ◌∷◌, ◌++◌, append-nil, ◌⊎◌, inl, inr, Bool, true, false, Some, None, cond}
 use Rattle.std.specs.Prelude.{Contains, ◌≢◌, ◌==◌, not}
 use Rattle.tree_node.specs.declared.names.VarName.{VarName}
 use Rattle.tree_node.specs.declared.names.CellName.{CellName}
@@ -44,6 +44,9 @@ use Rattle.world_answers.specs.Joined.{Joined}
 use Rattle.world_answers.proofs.AskLemmas.{IsAskingRow, shown_at, nobody_asks, from_wait, asks_reached, asks_claims, asks_named, own_waits, once_names}
 use Rattle.world_answers.proofs.HomeLemmas.{Rehomed, rehomed, same_homes, kept_early, early_own, early_other, content_own, content_other, distinct_end}
 use Rattle.world_answers.proofs.LeaveLemmas.{Leaves, leaves_none}
+use Rattle.thread_roster.proofs.NameLemmas.{name_cases as threads_decide}
+use Rattle.world_answers.proofs.BalanceLemmas.{Balances, none_came}
+use Rattle.world_answers.proofs.BalanceRowLemmas.{asks_balances, early_balances}
 use Rattle.world_answers.proofs.OwedLemmas.{Owes, Nobody, AsksOne, asks_for_one, others_wait, owes_none}
 use Rattle.world_answers.proofs.PackLemmas.{of_none, whole}
 use Rattle.world_answers.proofs.SayLemmas.{none_sent, request_filled, request_bundle, keepers_may, request_names, content_names}
@@ -231,6 +234,10 @@ module _ (p : List Stmt) (i : ℕ) (real : i ≢ 0) (w : World) (ks : List Pick)
         keeper_is (EndOf q) = refl
         keeper_is (ContentOf b new) = refl
 
+    -- one request more is outstanding
+    pub away_balances : (R : ℕ → ThreadName → Type 0) → R i n → Balances p R none_came w.sites (put w.sites i d_away.site) c d_away
+    away_balances R goes = asks_balances p R w.sites (put w.sites i d_away.site) c d_away a n i (server a) bundle_away far goes (λ b. ap (λ (f : Homes). early_at f b) homes_same) refl refl
+
     pub away_joined : Joined p v_away (ks ++ d_away.picks)
     away_joined = asked_joined (awaited a) so d_away row_away may_away asking_away
         (same_homes (homes w.sites) (homes v_away.sites) (records w.sites) (records v_away.sites) w.mail v_away.mail c.cells homes_same stays_wide told_from told_old j.answers.contents)
@@ -350,6 +357,18 @@ module _ (p : List Stmt) (i : ℕ) (real : i ≢ 0) (w : World) (ks : List Pick)
     -- it asks nobody
     pub early_owes : Owes p s c d_early [] Nobody
     early_owes = owes_none p s c d_early Nobody tt (λ a asks far m back su h. others_wait s.threads n st (st, mode.WaitsFor (Cell b)) at a m su h)
+
+    -- and no other site is asked
+    pub own_early_balances : (R : ℕ → ThreadName → Type 0) → R i n → Balances p R none_came w.sites (put w.sites i d_early.site) c d_early
+    own_early_balances R goes = early_balances p R w.sites (put w.sites i d_early.site) c d_early b r none_came goes grown others (λ a other th. refl) (λ th. here th (threads_decide th n)) refl refl
+      where
+        here : (th : ThreadName) → (th ≡ n) ⊎ (th ≢ n) → R b.at th ⊎ (0 ≡ cond {A = ℕ} (equal_thread th n) 1 0)
+        here th (inl e) = inl (subst (λ (l : ℕ). R l th) (sym home) (subst (R i) (sym e) goes))
+        here th (inr other) = inr (go (equal_thread th n) refl)
+          where
+            go : (x : Bool) → equal_thread th n ≡ x → 0 ≡ cond {A = ℕ} x 1 0
+            go true q = absurd (other ((same_thread_decides th n).0 q))
+            go false q = refl
 
     pub early_joined : Joined p v_early (ks ++ d_early.picks)
     early_joined = asked_joined (Cell b) so_early d_early row_early may_early asking_early

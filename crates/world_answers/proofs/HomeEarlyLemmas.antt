@@ -1,6 +1,8 @@
 -- The requests that a home keeps until it hears of their cell are all served then.
-use Rattle.std.proofs.Common.{◌≡◌, ◌∙◌, sym, ap, refl, subst, ℕ, List, [], ◌∷◌, ◌++◌, append-nil, append_assoc, Some}
-use Rattle.std.specs.Prelude.{Contains, ◌≢◌, if◌then◌else◌}
+use Rattle.std.specs.List.{count_by, sum_by}
+use Rattle.std.proofs.lemmas.List.Sums.{sum_by-cons}
+use Rattle.std.proofs.Common.{◌≡◌, ◌∙◌, sym, ap, refl, subst, ℕ, List, [], ◌∷◌, ◌++◌, append-nil, append_assoc, Some, arith, ◌+◌, cond}
+use Rattle.std.specs.Prelude.{Contains, ◌≢◌, ◌==◌, if◌then◌else◌}
 use Rattle.tree_node.specs.declared.names.VarName.{VarName}
 use Rattle.tree_node.specs.declared.names.CellName.{CellName}
 use Rattle.tree_node.specs.declared.names.ThreadName.{ThreadName}
@@ -9,7 +11,7 @@ use Rattle.tree_node.specs.Assoc.{value_of}
 use Rattle.tree_node.specs.Each.{AreDistinct}
 use Rattle.tree_node.specs.Goal.{equal_cell}
 use Rattle.tree_node.specs.Names.{EachOfStack}
-use Rattle.tree_node.specs.State.{State}
+use Rattle.tree_node.specs.State.{State, equal_thread}
 use Rattle.tree_node.specs.Store.{Store}
 use Rattle.tree_node.proofs.ClassLemmas.{Contains-head, Contains-tail}
 use Rattle.kernel_syntax.specs.declared.stmt.Stmt.{Stmt}
@@ -33,7 +35,9 @@ use Rattle.world_cells.proofs.QueueLemmas.{waiters_same}
 use Rattle.world_answers.proofs.HomeLemmas.{home_here, home_there}
 use Rattle.world_answers.proofs.HomeServeLemmas.{Serving, ServedOne, served_one}
 use Rattle.world_answers.proofs.LeaveLemmas.{Leaves, leaves_none, leaves_then, left_run}
-use Rattle.world_answers.proofs.OwedLemmas.{Owes, Nobody, owes_then, owes_none}
+use Rattle.world_answers.specs.Balance.{answers_to, exchanges_by}
+use Rattle.world_answers.proofs.BalanceLemmas.{exchanges_append}
+use Rattle.world_answers.proofs.OwedLemmas.{Owes, Nobody, owes_then, owes_none, count_append}
 use Rattle.world_answers.proofs.PackLemmas.{ReachedAt, whole, packed, same_parts, shown_is, shown_far}
 use Rattle.world_answers.proofs.SayLemmas.{none_sent}
 use Rattle.world_answers.proofs.ShownLemmas.{standing_distinct}
@@ -91,13 +95,15 @@ module _ (p : List Stmt) (i : ℕ) (real : i ≢ 0) (w : World) (ks : List Pick)
 
 -- ---- all early requests are served
 
-pub record ServedAll (p : List Stmt) (w : World) (ks : List Pick) (i : ℕ) (d : Transition) (c : State) (b : CellName) (early : CellName → List EarlyRequest) : Type 0 where
+pub record ServedAll (p : List Stmt) (w : World) (ks : List Pick) (i : ℕ) (d : Transition) (c : State) (b : CellName) (early : CellName → List EarlyRequest) (rs : List EarlyRequest) : Type 0 where
   pub later : CellName → List EarlyRequest
   pub centre : State
   pub serving : Serving p (after_transition w i d) (ks ++ d.picks) centre later
   pub leaves : Leaves p (w.sites i) c d centre
   pub served : List ThreadName
   pub owes : Owes p (w.sites i) c d served Nobody
+  pub exchanged : (f : CellName → ThreadName → ℕ) → exchanges_by f p c d.picks ≡ sum_by (λ (r : EarlyRequest). f b r.thread) rs
+  pub told : (th : ThreadName) → count_by (answers_to th) d.sent ≡ sum_by (λ (r : EarlyRequest). cond (r.asking == i) 0 (cond (equal_thread th r.thread) 1 0)) rs
   pub empty : later b ≡ []
   pub others : (x : CellName) → b ≢ x → later x ≡ early x
   pub content : VarName
@@ -124,7 +130,7 @@ shorter_there early b rs x other = rw (cells_differ b x other) refl
 
 -- the first was served, and then the others
 module _ (p : List Stmt) (limit i : ℕ) (w : World) (ks : List Pick) (early : CellName → List EarlyRequest) (c : State) (b : CellName) (v : VarName) (r : EarlyRequest) (rs : List EarlyRequest)
-    (one : ServedOne p w ks i (serve_request p limit b r v (w.sites i)) c b r.new (shorter early b rs)) where
+    (one : ServedOne p w ks i (serve_request p limit b r v (w.sites i)) c b r (shorter early b rs)) where
   abbrev first : Transition
   first = serve_request p limit b r v (w.sites i)
 
@@ -137,9 +143,9 @@ module _ (p : List Stmt) (limit i : ℕ) (w : World) (ks : List Pick) (early : C
   pub records_first : ((after_transition w i first).sites i).records ≡ (w.sites i).records
   records_first = ap (λ (y : Site). y.records) site_is ∙ one.records
 
-  module _ (rest : ServedAll p (after_transition w i first) (ks ++ first.picks) i (serve_early p limit b r.new rs ((after_transition w i first).sites i)) one.centre b (shorter early b rs)) where
-    moved : ServedAll p (after_transition w i first) (ks ++ first.picks) i others_row one.centre b (shorter early b rs)
-    moved = subst (λ (y : Site). ServedAll p (after_transition w i first) (ks ++ first.picks) i (serve_early p limit b r.new rs y) one.centre b (shorter early b rs)) site_is rest
+  module _ (rest : ServedAll p (after_transition w i first) (ks ++ first.picks) i (serve_early p limit b r.new rs ((after_transition w i first).sites i)) one.centre b (shorter early b rs) rs) where
+    moved : ServedAll p (after_transition w i first) (ks ++ first.picks) i others_row one.centre b (shorter early b rs) rs
+    moved = subst (λ (y : Site). ServedAll p (after_transition w i first) (ks ++ first.picks) i (serve_early p limit b r.new rs y) one.centre b (shorter early b rs) rs) site_is rest
 
     world_is : after_transition (after_transition w i first) i others_row ≡ after_transition w i (sequence first others_row)
     world_is = sym (acts_after w i first others_row)
@@ -147,7 +153,7 @@ module _ (p : List Stmt) (limit i : ℕ) (w : World) (ks : List Pick) (early : C
     picks_are : (ks ++ first.picks) ++ others_row.picks ≡ ks ++ (first.picks ++ others_row.picks)
     picks_are = append_assoc ks first.picks others_row.picks
 
-    pub served_both : ServedAll p w ks i (sequence first others_row) c b early
+    pub served_both : ServedAll p w ks i (sequence first others_row) c b early (r ∷ rs)
     served_both = record {
       later = moved.later;
       centre = moved.centre;
@@ -157,6 +163,18 @@ module _ (p : List Stmt) (limit i : ℕ) (w : World) (ks : List Pick) (early : C
       served = one.served ++ moved.served;
       owes = owes_then p (w.sites i) c one.centre first others_row one.served moved.served (left_run p first.picks c one.centre one.leaves.left) one.leaves.still.site one.owes
           (subst (λ (y : Site). Owes p y one.centre others_row moved.served Nobody) site_is moved.owes);
+      exchanged = λ f. (
+          let x = exchanges_append f p first.picks others_row.picks c one.centre (left_run p first.picks c one.centre one.leaves.left) in
+          let y = one.exchanged f in
+          let z = moved.exchanged f in
+          let sum = sum_by-cons (λ (q : EarlyRequest). f b q.thread) r rs in omega (arith, x, y, z, sum)
+          );
+      told = λ th. (
+          let x = count_append (answers_to th) first.sent others_row.sent in
+          let y = one.told th in
+          let z = moved.told th in
+          let sum = sum_by-cons (λ (q : EarlyRequest). cond (q.asking == i) 0 (cond (equal_thread th q.thread) 1 0)) r rs in omega (arith, x, y, z, sum)
+          );
       empty = moved.empty;
       others = λ x other. moved.others x other ∙ shorter_there early b rs x other;
       content = moved.content;
@@ -173,12 +191,12 @@ module _ (p : List Stmt) (limit i : ℕ) (w : World) (ks : List Pick) (early : C
     }
 
 first_served : (p : List Stmt) (limit i : ℕ) (real : i ≢ 0) (b : CellName) (home : b.at ≡ i) (r : EarlyRequest) (rs : List EarlyRequest) (w : World) (ks : List Pick) (early : CellName → List EarlyRequest) (c : State) (j : Serving p w ks c early) (v : VarName) → early b ≡ r ∷ rs → AreDistinct (r ∷ rs) →
-    value_of equal_cell c.cells b ≡ Some v → IsHere (records w.sites i) v → ServedOne p w ks i (serve_request p limit b r v (w.sites i)) c b r.new (shorter early b rs)
+    value_of equal_cell c.cells b ≡ Some v → IsHere (records w.sites i) v → ServedOne p w ks i (serve_request p limit b r v (w.sites i)) c b r (shorter early b rs)
 first_served p limit i real b home r rs w ks early c j v is distinct value known =
     served_one p limit i real w ks early (shorter early b rs) c j b home r (is ∙ ap (λ (xs : List EarlyRequest). r ∷ xs) (sym (shorter_here early b rs))) (λ x other. shorter_there early b rs x other) (subst AreDistinct (sym is) distinct) v value known
 
 pub served_all : (p : List Stmt) (limit i : ℕ) (real : i ≢ 0) (b : CellName) (home : b.at ≡ i) (rs : List EarlyRequest) (w : World) (ks : List Pick) (early : CellName → List EarlyRequest) (c : State) (j : Serving p w ks c early) (v : VarName) → early b ≡ rs → AreDistinct rs →
-    value_of equal_cell c.cells b ≡ Some v → IsHere (records w.sites i) v → ((r : EarlyRequest) → Contains rs r → IsHere (records w.sites i) r.new) → ServedAll p w ks i (serve_early p limit b v rs (w.sites i)) c b early
+    value_of equal_cell c.cells b ≡ Some v → IsHere (records w.sites i) v → ((r : EarlyRequest) → Contains rs r → IsHere (records w.sites i) r.new) → ServedAll p w ks i (serve_early p limit b v rs (w.sites i)) c b early rs
 served_all p limit i real b home [] w ks early c j v is distinct value known all = record {
   later = early;
   centre = c;
@@ -186,6 +204,8 @@ served_all p limit i real b home [] w ks early c j v is distinct value known all
   leaves = leaves_none p (w.sites i) c (without_output (with_home_record (w.sites i) b (record { content = Some v; early = [] }))) (record { cell_records = refl; managers = refl; site = refl; silent = tt }) refl;
   served = [];
   owes = owes_none p (w.sites i) c (without_output (with_home_record (w.sites i) b (record { content = Some v; early = [] }))) Nobody tt (λ a asks far n back st h. h);
+  exchanged = λ f. refl;
+  told = λ th. refl;
   empty = is;
   others = λ x other. refl;
   content = v;
@@ -201,7 +221,7 @@ served_all p limit i real b home [] w ks early c j v is distinct value known all
   known = known;
 }
 served_all p limit i real b home (r ∷ rs) w ks early c j v is distinct value known all =
-    let one : ServedOne p w ks i (serve_request p limit b r v (w.sites i)) c b r.new (shorter early b rs) = first_served p limit i real b home r rs w ks early c j v is distinct value known in
+    let one : ServedOne p w ks i (serve_request p limit b r v (w.sites i)) c b r (shorter early b rs) = first_served p limit i real b home r rs w ks early c j v is distinct value known in
     let records_are : ((after_transition w i (serve_request p limit b r v (w.sites i))).sites i).records ≡ (w.sites i).records = records_first p limit i w ks early c b v r rs one in
     served_both p limit i w ks early c b v r rs one
     (served_all p limit i real b home rs (after_transition w i (serve_request p limit b r v (w.sites i))) (ks ++ (serve_request p limit b r v (w.sites i)).picks) (shorter early b rs) one.centre one.serving r.new (shorter_here early b rs) distinct.1

@@ -1,6 +1,9 @@
 -- A request comes to the home of a stationary cell, and the home hears of the cell.
-use Rattle.std.proofs.Common.{◌≡◌, ◌∙◌, sym, ap, refl, subst, ℕ, List, [], ◌∷◌, ◌++◌, ◌⊎◌, inl, inr, Some, None}
-use Rattle.std.specs.Prelude.{Option, Contains, ◌≢◌}
+use Rattle.std.proofs.Common.{◌≡◌, ◌∙◌, sym, ap, refl, subst, ℕ, List, [], ◌∷◌, ◌++◌, ◌⊎◌, inl, inr, Some, None, arith, ◌+◌, cond}
+use Rattle.std.specs.Prelude.{Option, Contains, ◌≢◌, ◌==◌}
+use Rattle.std.specs.List.{sum_by}
+use Rattle.std.proofs.lemmas.List.Sums.{sum_by-cons}
+use Rattle.world_model.proofs.MailLemmas.{sent_to}
 use Rattle.tree_node.specs.declared.names.VarName.{VarName}
 use Rattle.tree_node.specs.declared.names.CellName.{CellName}
 use Rattle.tree_node.specs.declared.names.PortName.{PortName}
@@ -11,10 +14,10 @@ use Rattle.tree_node.specs.Each.{AreDistinct}
 use Rattle.tree_node.specs.Goal.{equal_cell}
 use Rattle.tree_node.specs.State.{Stack, State, equal_thread}
 use Rattle.tree_node.specs.Store.{Store, Equation}
-use Rattle.tree_node.proofs.ClassLemmas.{Contains-head}
+use Rattle.tree_node.proofs.ClassLemmas.{Contains-head, Contains-cons_cases}
 use Rattle.kernel_syntax.specs.declared.stmt.Stmt.{Stmt}
 use Rattle.site_message.specs.declared.message.Msg.TheVariants as msg
-use Rattle.oz_model.proofs.KindLemmas.{cell_cases}
+use Rattle.oz_model.proofs.KindLemmas.{cell_cases, cell_same, cells_differ}
 use Rattle.bind_protocol.specs.Records.{Records}
 use Rattle.thread_roster.specs.declared.mode.Awaited.{Awaited}
 use Rattle.thread_roster.specs.declared.mode.Awaited.TheVariants.{Cell}
@@ -25,7 +28,7 @@ use Rattle.site_model.specs.Transition.{Transition, without_output}
 use Rattle.world_model.specs.Claims.{ContentOf, Asks, Waiting, Claim, Asked, Answered, Listed, IsClaim, IsAsking, FitsClaim, AskingMatch, home_in}
 use Rattle.world_model.specs.Keepers.{PortsMatch, HomesMatch, AreEarly, IsTold, homes, ports, content_at, early_at}
 use Rattle.world_model.specs.Names.{IsHere}
-use Rattle.world_model.specs.World.{World, Mail, IsOnItsWay, eqs, records, threads, after_transition, after_receipt}
+use Rattle.world_model.specs.World.{World, Mail, IsOnItsWay, put, eqs, records, threads, after_transition, after_receipt}
 use Rattle.world_model.proofs.MailLemmas.{nothing, gone}
 use Rattle.world_model.proofs.PutLemmas.{at_all, at_here, field_kept}
 use Rattle.world_answers.specs.Joined.{Joined}
@@ -36,6 +39,9 @@ use Rattle.world_answers.proofs.HomeLemmas.{Rehomed, rehomed, kept_at, kept_earl
 use Rattle.world_answers.proofs.HomeServeLemmas.{Serving, ServedOne, served_one}
 use Rattle.world_answers.proofs.LeaveLemmas.{Leaves, leaves_none}
 use Rattle.world_answers.proofs.OwedLemmas.{Owes, Nobody, owes_none}
+use Rattle.world_answers.specs.Balance.{early_for}
+use Rattle.world_answers.proofs.BalanceLemmas.{Balances, came_of}
+use Rattle.world_answers.proofs.BalanceRowLemmas.{served_balances, early_balances}
 use Rattle.world_answers.proofs.PackLemmas.{whole, came}
 use Rattle.world_answers.proofs.SpotLemmas.{relisted, IsLost, IsNewClaim, comes, claims_from, claims_kept, lost_request, lost_told, request_tells, appended_from, appended_old, appended_new}
 use Rattle.world_answers.proofs.HomeEarlyLemmas.{serving_kept, kept_told_from, kept_told_old, ServedAll, shorter, shorter_here, shorter_there, served_all}
@@ -108,7 +114,7 @@ module _ (p : List Stmt) (limit i : ℕ) (real : i ≢ 0) (w : World) (ks : List
   abbrev d_make : Transition
   d_make = cell_make_row p limit b x (w.sites i)
 
-  pub served : ServedAll p less_make ks i d_make c_make b early_make
+  pub served : ServedAll p less_make ks i d_make c_make b early_make (home_record (w.sites i) b).early
   served = served_all p limit i real b (sym tells.0) (home_record (w.sites i) b).early less_make ks early_make c_make start_make x (sym early_is) (subst AreDistinct (sym early_is) (j.answers.contents.lists b)) tells.3 known
       (λ r h. subst (λ (l : ℕ). IsHere (records w.sites l) r.new) (sym tells.0) (j.answers.early b r (subst (λ (rs : List EarlyRequest). Contains rs r) early_is h)).2)
 
@@ -167,6 +173,18 @@ module _ (p : List Stmt) (limit i : ℕ) (real : i ≢ 0) (w : World) (ks : List
   -- it answers those that it serves
   pub make_owes : Owes p (w.sites i) c_make d_make served.served Nobody
   make_owes = served.owes
+
+  -- its exchanges balance the requests that it kept
+  pub make_balances : (R : ℕ → ThreadName → Type 0) → ((r : EarlyRequest) → Contains (early_make b) r → R r.asking r.thread) → Balances p R (came_of (sent_to i (msg.CellMake b x bundle))) w.sites (put w.sites i d_make.site) c_make d_make
+  make_balances R goes = served_balances p R w.sites (put w.sites i d_make.site) c_make d_make b i (sym tells.0) tells.1 (home_record (w.sites i) b).early (came_of (sent_to i (msg.CellMake b x bundle)))
+      (λ r h. goes r (subst (λ (rs : List EarlyRequest). Contains rs r) early_is h)) here (λ a other. early_now a ∙ served.others a other) (λ a other th. refl)
+      (λ r h. absurd (nothing r (subst (λ (rs : List EarlyRequest). Contains rs r) gone_all h))) served.exchanged (let none = served.owes.asks in omega (arith, none)) served.told
+    where
+      gone_all : early_at (homes v_make.sites) b ≡ []
+      gone_all = early_now b ∙ served.empty
+
+      here : (th : ThreadName) → early_for th (early_at (homes v_make.sites) b) + early_for th (home_record (w.sites i) b).early ≡ early_for th (early_make b) + 0
+      here th = let x : early_for th (early_at (homes v_make.sites) b) ≡ 0 = ap (early_for th) gone_all in let y : early_for th (home_record (w.sites i) b).early ≡ early_for th (early_make b) = ap (early_for th) early_is in omega (arith, x, y)
 
   pub make_joined : Joined p v_make (ks ++ d_make.picks)
   make_joined = record {
@@ -374,7 +392,7 @@ module _ (p : List Stmt) (limit i : ℕ) (real : i ≢ 0) (w : World) (ks : List
     longer_one : longer b ≡ rq ∷ early_ask b
     longer_one = longer_here ∙ ap (λ (rs : List EarlyRequest). rs ++ rq ∷ []) none_early ∙ ap (λ (rs : List EarlyRequest). rq ∷ rs) (sym none_early)
 
-    served_it : ServedOne p less_ask ks i d_some c_ask b new early_ask
+    served_it : ServedOne p less_ask ks i d_some c_ask b rq early_ask
     served_it = served_one p limit i real less_ask ks longer early_ask c_ask listed b backed.0 rq longer_one (λ y other. sym (longer_there y other)) (subst AreDistinct (sym (longer_one ∙ ap (λ (rs : List EarlyRequest). rq ∷ rs) none_early)) (tt, tt)) v backed.2 backed.3
 
     moved_some : Rehomed (homes w.sites) (homes v_some.sites) b (record { content = Some new; early = (home_record (w.sites i) b).early })
@@ -446,3 +464,45 @@ module _ (p : List Stmt) (limit i : ℕ) (real : i ≢ 0) (w : World) (ks : List
       go : (q : Option VarName) → (home_record (w.sites i) b).content ≡ q → (ns : List ThreadName) × Owes p (w.sites i) c_ask (cell_ask_row p limit b rq (w.sites i)) ns Nobody
       go (Some v) e = rw e ((served_it v e).served, (served_it v e).owes)
       go None e = rw e ([], owes_none p (w.sites i) c_ask (without_output (with_early b rq (w.sites i))) Nobody tt (λ a asks far n back st h. h))
+
+  -- it makes the exchange of the request that came, or keeps the request
+  pub ask_balances : (R : ℕ → ThreadName → Type 0) → R o n → Balances p R (came_of (sent_to i (msg.CellAsk b n o new bundle))) w.sites (put w.sites i (cell_ask_row p limit b rq (w.sites i)).site) c_ask (cell_ask_row p limit b rq (w.sites i))
+  ask_balances R goes = go (home_record (w.sites i) b).content refl
+    where
+      come : CellName → ThreadName → ℕ
+      come = came_of (sent_to i (msg.CellAsk b n o new bundle))
+
+      here : (th : ThreadName) → come b th ≡ cond (equal_thread th n) 1 0
+      here th = rw (cell_same b) refl
+
+      there : (a : CellName) → b ≢ a → (th : ThreadName) → come a th ≡ 0
+      there a other th = rw (cells_differ a b (λ e. other (sym e))) refl
+
+      one : (f : EarlyRequest → ℕ) → sum_by f (rq ∷ []) ≡ f rq
+      one f = let x = sum_by-cons f rq [] in omega (arith, x)
+
+      real_home : b.at ≢ 0
+      real_home z = real (ground.0 ∙ z)
+
+      some : (v : VarName) (e : (home_record (w.sites i) b).content ≡ Some v) → Balances p R come w.sites (put w.sites i (d_some v e).site) c_ask (d_some v e)
+      some v e = served_balances p R w.sites (put w.sites i (d_some v e).site) c_ask (d_some v e) b i (sym ground.0) real_home (rq ∷ []) come
+          (λ r h. request_goes r (Contains-cons_cases rq r [] h)) kept (λ a other. early_some v e a) there (λ r h. subst (λ (rs : List EarlyRequest). Contains rs r) (early_some v e b) h)
+          (λ f. (served_it v e).exchanged f ∙ sym (one (λ (r : EarlyRequest). f b r.thread))) (let none = (served_it v e).owes.asks in omega (arith, none))
+          (λ th. (served_it v e).told th ∙ sym (one (λ (r : EarlyRequest). cond (r.asking == i) 0 (cond (equal_thread th r.thread) 1 0))))
+        where
+          request_goes : (r : EarlyRequest) → (rq ≡ r) ⊎ Contains [] r → R r.asking r.thread
+          request_goes r (inl q) = subst (λ (x : EarlyRequest). R x.asking x.thread) q goes
+          request_goes r (inr q) = absurd (nothing r q)
+
+          kept : (th : ThreadName) → early_for th (early_at (homes (v_some v e).sites) b) + early_for th (rq ∷ []) ≡ early_for th (early_ask b) + come b th
+          kept th =
+              let x : early_for th (early_at (homes (v_some v e).sites) b) ≡ early_for th (early_ask b) = ap (early_for th) (early_some v e b) in
+              let y = one (λ (r : EarlyRequest). cond (equal_thread th r.thread) 1 0) in
+              let z = here th in omega (arith, x, y, z)
+
+      none : (e : (home_record (w.sites i) b).content ≡ None) → Balances p R come w.sites (put w.sites i (d_none e).site) c_ask (d_none e)
+      none e = early_balances p R w.sites (put w.sites i (d_none e).site) c_ask (d_none e) b rq come goes (early_none e b ∙ longer_here) (λ a other. early_none e a ∙ longer_there a other) there (λ th. inr (here th)) refl refl
+
+      go : (q : Option VarName) → (home_record (w.sites i) b).content ≡ q → Balances p R come w.sites (put w.sites i (cell_ask_row p limit b rq (w.sites i)).site) c_ask (cell_ask_row p limit b rq (w.sites i))
+      go (Some v) e = rw e (some v e)
+      go None e = rw e (none e)

@@ -2,6 +2,8 @@
 use Rattle.thread_roster.proofs.NameLemmas.{name_cases as threads_decide}
 use Rattle.std.proofs.Common.{◌≡◌, ◌∙◌, sym, ap, refl, subst, ℕ, List, [], ◌∷◌, ◌++◌, append-nil, ◌⊎◌, inl, inr, Bool, true, false, Some, None, arith, cond, ◌≤◌}
 use Rattle.std.specs.Prelude.{Option, Contains, ◌≢◌, ◌==◌, unwrap_or}
+use Rattle.std.specs.List.{count_by}
+use Rattle.std.proofs.lemmas.List.Sums.{sum_by-cons}
 use Rattle.indexmap.specs.IndexMap.{insert_entry}
 use Rattle.tree_node.specs.declared.names.VarName.{VarName}
 use Rattle.tree_node.specs.declared.names.CellName.{CellName}
@@ -19,6 +21,7 @@ use Rattle.tree_node.proofs.ClassLemmas.{Contains-head}
 use Rattle.tree_node.proofs.NameLemmas.{same_thread_decides}
 use Rattle.kernel_syntax.specs.declared.stmt.Stmt.{Stmt}
 use Rattle.site_message.specs.declared.message.Msg.TheVariants as msg
+use Rattle.site_message.specs.declared.message.Sent.{Sent as Letter}
 use Rattle.oz_model.specs.Effect.{Stays, Exchanged, PortChange, Keeps, Opened, Sent, Effect, stack_effect}
 use Rattle.oz_model.specs.Step.{cells_after, ports_after, stack_left}
 use Rattle.bind_protocol.specs.Records.{Records}
@@ -47,13 +50,14 @@ use Rattle.world_variables.proofs.PlaceLemmas.{gone_on}
 use Rattle.world_cells.specs.Reached.{Reached}
 use Rattle.world_cells.proofs.QueueLemmas.{SameWaiters}
 use Rattle.world_cells.proofs.SendLemmas.{each_more, cell_named}
-use Rattle.world_answers.proofs.ActLemmas.{IsKeptAct, act_next, act_here, act_all, act_cells, act_ports, act_leaves, act_counted, act_reached}
+use Rattle.world_answers.proofs.ActLemmas.{IsKeptAct, act_next, act_here, act_all, act_cells, act_ports, act_leaves, act_counted, act_exchanged, act_reached}
 use Rattle.world_answers.proofs.AnswerLemmas.{answered_names, after_answer_is, asking_one}
 use Rattle.world_answers.proofs.AskJoinLemmas.{never_lost}
 use Rattle.world_answers.proofs.ClaimLemmas.{own_found, comes_back}
 use Rattle.world_answers.proofs.KeptLemmas.{kept_quiet, old_end_of, old_content_of, left_is}
 use Rattle.world_answers.proofs.LeaveLemmas.{Leaves}
 use Rattle.world_answers.specs.AnswerCounts.{exchange_one, placed_exchanges}
+use Rattle.world_answers.specs.Balance.{answers_to, of_exchange, exchanges_by}
 use Rattle.world_answers.proofs.OwedLemmas.{Owes, Nobody, owes_answer, owes_none}
 use Rattle.world_answers.proofs.PackLemmas.{ReachedAt, whole, shown_far}
 use Rattle.world_answers.proofs.ReturnLemmas.{returned_waiters, returned_names, returned_from, returned_old, returned_parts, gone_waiters, gone_once}
@@ -75,15 +79,17 @@ pub record Serving (p : List Stmt) (w : World) (ks : List Pick) (centre : State)
   pub once : (i : ℕ) → AreDistinct (names (threads w.sites i))
 
 -- one request less is kept, and its exchange was made
-pub record ServedOne (p : List Stmt) (w : World) (ks : List Pick) (i : ℕ) (d : Transition) (c : State) (b : CellName) (new : VarName) (later : CellName → List EarlyRequest) : Type 0 where
+pub record ServedOne (p : List Stmt) (w : World) (ks : List Pick) (i : ℕ) (d : Transition) (c : State) (b : CellName) (rq : EarlyRequest) (later : CellName → List EarlyRequest) : Type 0 where
   pub centre : State
   pub serving : Serving p (after_transition w i d) (ks ++ d.picks) centre later
   pub leaves : Leaves p (w.sites i) c d centre
   pub served : List ThreadName
   pub owes : Owes p (w.sites i) c d served Nobody
-  pub cells : centre.cells ≡ with_value equal_cell c.cells b new
+  pub exchanged : (f : CellName → ThreadName → ℕ) → exchanges_by f p c d.picks ≡ f b rq.thread
+  pub told : (th : ThreadName) → count_by (answers_to th) d.sent ≡ cond (rq.asking == i) 0 (cond (equal_thread th rq.thread) 1 0)
+  pub cells : centre.cells ≡ with_value equal_cell c.cells b rq.new
   pub ports : centre.ports ≡ c.ports
-  pub homes : d.site.homes ≡ insert_entry equal_cell (w.sites i).homes b (record (home_record (w.sites i) b) { content = Some new })
+  pub homes : d.site.homes ≡ insert_entry equal_cell (w.sites i).homes b (record (home_record (w.sites i) b) { content = Some rq.new })
   pub own_ports : d.site.ports ≡ (w.sites i).ports
   pub equations : d.site.equations ≡ (w.sites i).equations
   pub records : d.site.records ≡ (w.sites i).records
@@ -176,6 +182,10 @@ module _ (p : List Stmt) (limit i : ℕ) (real : i ≢ 0) (w : World) (ks : List
       is_one true q = absurd (far ((nat_decides b.at 0).0 q))
       is_one false q = refl
 
+  -- the machine makes this exchange
+  exchanged_by : (f : CellName → ThreadName → ℕ) (d : Transition) → IsKeptAct s [] [] (step_pick n [] None) d → exchanges_by f p c d.picks ≡ f b n
+  exchanged_by f d row = act_exchanged p i real w ks t r 0 o n ground.0 [] away asks.0 on f d row ∙ ap (of_exchange f n) asks.2
+
   -- ---- the thread is another site's
 
   module _ (other : rq.asking ≢ i) where
@@ -232,7 +242,7 @@ module _ (p : List Stmt) (limit i : ℕ) (real : i ≢ 0) (w : World) (ks : List
         (away_asking p i real w ks t r o n ground.0 [] away asks.0 on (ContentOf b rq.new) (OldContent v) asks tt d_away row_away left_as (IsClaim w.mail early) (IsClaim v_away.mail later) j.asking ground.1 (Listed b rq) listed refl (λ h. other (sym h ∙ home)) w.sent from old
         (bundle, turned.new w.sent o (answer n (OldContent v) bundle) (refl, refl, refl))))
 
-    pub served_away : ServedOne p w ks i d_away c b rq.new later
+    pub served_away : ServedOne p w ks i d_away c b rq later
     served_away = record {
       centre = act_next p i real w ks t r 0 o n ground.0 [] away asks.0 on;
       serving = record {
@@ -246,6 +256,8 @@ module _ (p : List Stmt) (limit i : ℕ) (real : i ≢ 0) (w : World) (ks : List
       leaves = act_leaves p i real w ks t r 0 o n ground.0 [] away asks.0 on d_away row_away;
       served = n ∷ [];
       owes = owes_answer p s c d_away o n (OldContent v) bundle refl refl (paid d_away row_away);
+      exchanged = λ f. exchanged_by f d_away row_away;
+      told = λ th. told_one th (o == i) refl;
       cells = act_cells p i real w ks t r 0 o n ground.0 [] away asks.0 on ∙ ap (cells_after c.cells) asks.2;
       ports = act_ports p i real w ks t r 0 o n ground.0 [] away asks.0 on ∙ ap (ports_after c.ports) keeps;
       homes = refl;
@@ -259,6 +271,10 @@ module _ (p : List Stmt) (limit i : ℕ) (real : i ≢ 0) (w : World) (ks : List
         told_back : (l a : ℕ) (y : CellName) (z : VarName) (es : List Equation) → (IsOnItsWay w.mail l a (msg.CellMake y z es) × (⊥ → ⊥)) ⊎ IsLetter w.sent o (answer n (OldContent v) bundle) l a (msg.CellMake y z es) → IsTold w.mail l a y z
         told_back l a y z es (inl g) = (es, g.0)
         told_back l a y z es (inr g) = absurd (answer_tells n (OldContent v) bundle y z es (sym g.2))
+
+        told_one : (th : ThreadName) (x : Bool) → (o == i) ≡ x → count_by (answers_to th) d_away.sent ≡ cond x 0 (cond (equal_thread th n) 1 0)
+        told_one th true e = absurd (other ((nat_decides o i).0 e))
+        told_one th false e = let one = sum_by-cons (λ (y : Letter). cond (answers_to th y) 1 0) (sent_to o (msg.CellOld n v bundle)) [] in omega (arith, one)
 
   -- ---- the thread is the home's own
 
@@ -355,7 +371,7 @@ module _ (p : List Stmt) (limit i : ℕ) (real : i ≢ 0) (w : World) (ks : List
             let is : a ≡ Cell b = (asking_one (threads w.sites) i n (Cell b) ground.0 waits_here a su (ap (value_of equal_thread s.threads) e ∙ h, asks)).0 in
             absurd (elsewhere (ap keeper_of is ∙ home ∙ sym number))
 
-    pub served_own : ServedOne p w ks i d_own c b rq.new later
+    pub served_own : ServedOne p w ks i d_own c b rq later
     served_own = record {
       centre = act_next p i real w ks t r 0 o n ground.0 [] away asks.0 on;
       serving = record {
@@ -369,6 +385,8 @@ module _ (p : List Stmt) (limit i : ℕ) (real : i ≢ 0) (w : World) (ks : List
       leaves = act_leaves p i real w ks t r 0 o n ground.0 [] away asks.0 on d_own row_own;
       served = [];
       owes = owes_none p s c d_own Nobody tt others_stay;
+      exchanged = λ f. exchanged_by f d_own row_own;
+      told = λ th. ap (λ (x : Bool). cond {A = ℕ} x 0 (cond (equal_thread th n) 1 0)) (sym ((nat_decides o i).1 same));
       cells = act_cells p i real w ks t r 0 o n ground.0 [] away asks.0 on ∙ ap (cells_after c.cells) asks.2;
       ports = act_ports p i real w ks t r 0 o n ground.0 [] away asks.0 on ∙ ap (ports_after c.ports) keeps;
       homes = ap (λ (y : Site). y.homes) site_is;
@@ -381,9 +399,9 @@ module _ (p : List Stmt) (limit i : ℕ) (real : i ≢ 0) (w : World) (ks : List
 
   -- ---- either
 
-  pub served_one : ServedOne p w ks i (serve_request p limit b rq v s) c b rq.new later
+  pub served_one : ServedOne p w ks i (serve_request p limit b rq v s) c b rq later
   served_one = go (rq.asking == s.records.site) refl
     where
-      go : (q : Bool) → (rq.asking == s.records.site) ≡ q → ServedOne p w ks i (serve_request p limit b rq v s) c b rq.new later
+      go : (q : Bool) → (rq.asking == s.records.site) ≡ q → ServedOne p w ks i (serve_request p limit b rq v s) c b rq later
       go true h = rw h (served_own ((nat_decides rq.asking s.records.site).0 h ∙ number))
       go false h = rw h (served_away (λ z. let yes : (rq.asking == s.records.site) ≡ true = (nat_decides rq.asking s.records.site).1 (z ∙ sym number) in cc))

@@ -1,5 +1,5 @@
 -- Units and messages that are no requests and no answers keep a world joined with the machine.
-use Rattle.std.proofs.Common.{◌≡◌, ◌∙◌, sym, ap, subst, ℕ, ◌≤◌, length, List, [], ◌++◌, ◌⊎◌, inl, inr, true, Some, None}
+use Rattle.std.proofs.Common.{◌≡◌, ◌∙◌, sym, ap, subst, ℕ, ◌≤◌, length, List, [], ◌++◌, ◌⊎◌, inl, inr, true, Some, None, refl}
 use Rattle.std.specs.Prelude.{Option, Contains, ◌≢◌}
 use Rattle.std.proofs.lemmas.List.Elements.{Contains-append_left}
 use Rattle.tree_node.specs.declared.names.VarName.{VarName}
@@ -25,7 +25,9 @@ use Rattle.thread_roster.specs.declared.mode.Mode.TheVariants as mode
 use Rattle.site_model.specs.Cells.{effect_here}
 use Rattle.site_model.specs.Fit.{CanTake}
 use Rattle.site_model.specs.Messages.{reception}
-use Rattle.site_model.specs.Site.{Site, Threads, cell_record}
+use Rattle.site_model.specs.Site.{Site, Threads, HomeRecord, cell_record}
+use Rattle.tree_node.specs.declared.names.CellName.{CellName}
+use Rattle.world_model.specs.Keepers.{homes, early_at}
 use Rattle.site_model.specs.Transition.{Transition}
 use Rattle.site_model.specs.Unit.{IsUnit, fresh_names, next_names}
 use Rattle.site_model.specs.Variables.{opening}
@@ -33,7 +35,7 @@ use Rattle.world_model.specs.Chain.{mobile_cells}
 use Rattle.world_model.specs.Matches.{CellsMatch}
 use Rattle.world_model.specs.Names.{IsHere}
 use Rattle.world_model.specs.Shown.{is_asking, standing, standing_site, shown, shown_world}
-use Rattle.world_model.specs.World.{World, Sites, IsOnItsWay, eqs, records, threads, counters, mail_from, without_number, after_transition, after_receipt}
+use Rattle.world_model.specs.World.{World, Sites, IsOnItsWay, put, eqs, records, threads, counters, mail_from, without_number, after_transition, after_receipt}
 use Rattle.world_model.proofs.PutLemmas.{at_all, at_here, field_kept}
 use Rattle.world_variables.specs.Laws.{IsForeignBinding}
 use Rattle.world_variables.specs.Sums.{names}
@@ -53,7 +55,10 @@ use Rattle.world_answers.proofs.BesideLemmas.{Beside, reception_beside}
 use Rattle.world_answers.proofs.GrowLemmas.{made_grow, same_grow, rows_counted, heard_counters}
 use Rattle.world_answers.proofs.HeardLemmas.{heard_grows, heard_waiters, heard_once}
 use Rattle.world_answers.proofs.LeaveLemmas.{tally_real, tally_shown}
-use Rattle.world_answers.proofs.OwedLemmas.{Owes, Nobody, owes_none}
+use Rattle.world_cells.proofs.PlacedLemmas.{NoPlaced, unit_placed, message_placed}
+use Rattle.world_answers.proofs.BalanceLemmas.{Balances, none_came, placed_none}
+use Rattle.world_answers.proofs.BalanceRowLemmas.{still_balances}
+use Rattle.world_answers.proofs.OwedLemmas.{Owes, Nobody, owes_none, standing_none}
 use Rattle.world_answers.proofs.RowsLemmas.{IsRow, Waited, Stepped, Requested, Bound, unit_row, Bears, rows_beside, rows_here, rows_grow, rows_waiters, rows_once}
 use Rattle.world_answers.proofs.ShownLemmas.{standing_found, stands_from, shown_real, put_shown}
 use Rattle.world_answers.proofs.StandLemmas.{standing_sent, standing_gone, requests_then, answers_stay, nowhere}
@@ -119,6 +124,19 @@ module _ (p : List Stmt) (n limit i : ℕ) (real : i ≢ 0) (w : World) (ks : Li
   other_owes = owes_none p (w.sites i) j.reached.centre d Nobody (rows_beside p n limit th (w.sites i) unit.0 d row).silent
       (λ a asks far m back st h. (rows_waiters p n limit th (w.sites i) unit.0 d unit.1 row (bears row) a asks).new m st h)
 
+  -- and exchanges no content of a stationary cell
+  pub other_balances : (R : ℕ → ThreadName → Type 0) → Balances p R none_came w.sites (put w.sites i d.site) j.reached.centre d
+  other_balances R = still_balances p R w.sites (put w.sites i d.site) j.reached.centre d none_came (λ b th. refl) (λ b. ap (λ (hs : ℕ → List (CellName × HomeRecord)). early_at hs b) (field_kept (λ (s : Site). s.homes) w.sites i d.site beside.homes))
+      (λ f vanishes. placed_none f vanishes p j.reached.centre d.picks placed) (standing_none d.sent beside.silent).contents_asked (standing_none d.sent beside.silent).contents_told
+    where
+      beside : Beside (w.sites i) d
+      beside = rows_beside p n limit th (w.sites i) unit.0 d row
+
+      placed : NoPlaced p j.reached.centre d.picks
+      placed = unit_placed p n limit i real (shown_world w j.transit) ks j.reached.centre j.reached.run (runs_are_sound p ks j.reached.centre j.reached.run) j.reached.parts j.reached.numbers j.reached.cells j.reached.sums th (standing_deed d)
+          (subst (λ (s : Site). IsUnit p n limit th s (standing_deed d)) (sym shown_at) (view_unit p n limit th (w.sites i) d unit other))
+          (λ k. other (kept_unit p n limit th (w.sites i) (subst (λ (s : Site). IsKeptUnit p s th) shown_at k)))
+
   -- and its exchanges pay
   pub other_tally : 1 ≤ i → i ≤ n → (out : List Sent) → Tally p n w j.reached.centre ks out → (c2 : State) → ModelRun p (ks ++ d.picks) c2 → Tally p n (after_transition w i d) c2 (ks ++ d.picks) (out ++ d.sent)
   other_tally low high out t c2 run2 = tally_real n (after_transition w i d).sites j.transit (after_transition w i d).mail (mobile_cells c2.cells) (out ++ d.sent) (λ b. length (exchanges p (ks ++ d.picks) b))
@@ -182,6 +200,18 @@ module _ (p : List Stmt) (limit i : ℕ) (real : i ≢ 0) (w : World) (ks : List
   pub heard_owes : Owes p (w.sites i) j.reached.centre deed [] Nobody
   heard_owes = owes_none p (w.sites i) j.reached.centre deed Nobody (reception_beside p limit m (w.sites i) stands).silent
       (λ a asks away n back st h. (heard_waiters p limit m (w.sites i) stands takes queue a asks).new n st h)
+
+  -- and exchanges no content of a stationary cell
+  pub heard_balances : (R : ℕ → ThreadName → Type 0) → Balances p R none_came w.sites (put w.sites i deed.site) j.reached.centre deed
+  heard_balances R = still_balances p R w.sites (put w.sites i deed.site) j.reached.centre deed none_came (λ b th. refl) (λ b. ap (λ (hs : ℕ → List (CellName × HomeRecord)). early_at hs b) (field_kept (λ (s : Site). s.homes) w.sites i deed.site beside.homes))
+      (λ f vanishes. placed_none f vanishes p j.reached.centre deed.picks placed) (standing_none deed.sent beside.silent).contents_asked (standing_none deed.sent beside.silent).contents_told
+    where
+      beside : Beside (w.sites i) deed
+      beside = reception_beside p limit m (w.sites i) stands
+
+      placed : NoPlaced p j.reached.centre deed.picks
+      placed = subst (λ (d : Transition). NoPlaced p j.reached.centre d.picks) (view_reception p limit m (w.sites i) stands queue)
+          (subst (λ (x : Site). NoPlaced p j.reached.centre (reception p limit m x).picks) site_is (message_placed p limit (shown_world w j.transit) ks j.reached k i real m at stands far))
 
   -- and its exchanges pay
   pub heard_tally : (n : ℕ) → 1 ≤ i → i ≤ n → (out : List Sent) → Tally p n w j.reached.centre ks out → AsksFrom n m → (c2 : State) → ModelRun p (ks ++ deed.picks) c2 →

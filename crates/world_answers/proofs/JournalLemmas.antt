@@ -9,8 +9,8 @@ use Rattle.site_model.specs.Fit.{IsFit, CanTake}
 use Rattle.site_model.specs.Run.{delivered_message, IsRecordOf, IsEntry, IsReachedBy, IsSiteIn}
 use Rattle.site_model.specs.Site.{Site, initial_site}
 use Rattle.site_model.specs.Transition.{Transition, sequence}
-use Rattle.site_model.specs.Turn.{SiteTurn}
-use Rattle.std.proofs.Common.{arith, ◌≡◌, ◌∙◌, sym, ap, refl, subst, ℕ, ◌+◌, ◌<◌, ◌≤◌, List, [], ◌∷◌, ◌++◌, Some, None, append_assoc, length, length-append, rules, Bool, true, false}
+use Rattle.site_model.specs.Turn.{SiteTurnOf}
+use Rattle.std.proofs.Common.{arith, ◌≡◌, ◌∙◌, sym, ap, refl, subst, ℕ, ◌+◌, ◌<◌, ◌≤◌, List, [], ◌∷◌, ◌++◌, Some, None, append_assoc, length, length-append, rules, Bool, true, false, ◌⊎◌, inl, inr}
 use Rattle.std.specs.Prelude.{Option, Contains, ◌≢◌, ◌==◌}
 use Rattle.tree_node.specs.Each.{Each}
 use Rattle.tree_node.specs.declared.pick.Pick.{Pick}
@@ -18,8 +18,16 @@ use Rattle.oz_model.specs.Run.{exchanges}
 use Rattle.world_model.specs.Chain.{mobile_cells}
 use Rattle.world_cells.proofs.CellTallyLemmas.{few_messages}
 use Rattle.world_answers.proofs.LeaveLemmas.{Paid}
-use Rattle.world_answers.proofs.OwedLemmas.{Owed}
-use Rattle.world_answers.proofs.TurnLemmas.{quiet_paid, quiet_owed, delivering_paid, delivering_owed, start_paid, start_owed}
+use Rattle.world_answers.proofs.OwingLemmas.{Owed}
+use Rattle.world_answers.proofs.BalanceLemmas.{Settled, balanced_wider, none_came}
+use Rattle.world_answers.proofs.TurnLemmas.{quiet_paid, quiet_owed, quiet_settled, delivering_paid, delivering_owed, delivering_settled, start_paid, start_owed, start_settled}
+use Rattle.world_answers.specs.Balance.{asks_content_for, travelling_for, early_for, outstanding_for, one_exchange, exchanges_by, GoesAt, RequestsBalanceInFitRuns}
+use Rattle.world_model.specs.Keepers.{homes, early_at}
+use Rattle.oz_model.specs.Run.{start}
+use Rattle.std.specs.List.{count_by}
+use Rattle.tree_node.specs.declared.names.CellName.{CellName}
+use Rattle.tree_node.specs.declared.names.ThreadName.{ThreadName}
+use Rattle.tree_node.proofs.ClassLemmas.{Contains-head, Contains-tail}
 use Rattle.world_answers.specs.AnswerCounts.{FewAnswersInFitRuns}
 use Rattle.world_answers.specs.Joined.{Joined}
 use Rattle.world_answers.specs.FitRuns.{IsFitEntry, SiteFitRun, FewInFitRuns}
@@ -52,15 +60,18 @@ goes_back p n limit e j f h = own (e.site == e.site) ((nat_decides e.site e.site
             go false at k = k
 
 -- what turns keep, of any world, any picks and any messages that were sent, holds of whole journals
-module _ (p : List Stmt) (n limit : ℕ) (Q : World → List Pick → List Sent → Type 0) (of_joined : (w : World) (ks : List Pick) (out : List Sent) → Q w ks out → Joined p w ks)
-    (of_start : Q (start_world p n) [] [])
-    (of_quiet : (i : ℕ) → i ≢ 0 → 1 ≤ i → i ≤ n → (w : World) (ks : List Pick) (out : List Sent) (d : Transition) → Q w ks out → SiteTurn p n limit (w.sites i) None d → Q (after_transition w i d) (ks ++ d.picks) (out ++ d.sent))
-    (of_delivery : (i : ℕ) → i ≢ 0 → 1 ≤ i → i ≤ n → (w : World) (ks : List Pick) (out : List Sent) (k : ℕ) (m : Msg) (d : Transition) → Q w ks out → IsForeignBinding i m → IsOnItsWay w.mail k i m → IsFit p n (w.sites i) m → SiteTurn p n limit (w.sites i) (Some m) d →
-    (heard : Transition) × (rest : Transition) × (d ≡ sequence heard rest) × Q (after_transition (after_receipt (Some k) (after_transition w i heard)) i rest) ((ks ++ heard.picks) ++ rest.picks) ((out ++ heard.sent) ++ rest.sent)) where
+module _ (p : List Stmt) (n limit : ℕ) (Q : List Turn → World → List Pick → List Sent → Type 0) (of_joined : (j : List Turn) (w : World) (ks : List Pick) (out : List Sent) → Q j w ks out → Joined p w ks)
+    (of_start : Q [] (start_world p n) [] []) (grows : (e : Turn) (j : List Turn) (w : World) (ks : List Pick) (out : List Sent) → Q j w ks out → Q (e ∷ j) w ks out)
+    (of_quiet : (e : Turn) (j : List Turn) → e.site ≢ 0 → 1 ≤ e.site → e.site ≤ n → (w : World) (ks : List Pick) (out : List Sent) (d : Transition) → Q (e ∷ j) w ks out → SiteTurnOf p n limit e.units (w.sites e.site) None d → Q (e ∷ j) (after_transition w e.site d) (ks ++ d.picks) (out ++ d.sent))
+    (of_delivery : (e : Turn) (j : List Turn) → e.site ≢ 0 → 1 ≤ e.site → e.site ≤ n → (w : World) (ks : List Pick) (out : List Sent) (k : ℕ) (m : Msg) (d : Transition) → Q (e ∷ j) w ks out → IsForeignBinding e.site m → IsOnItsWay w.mail k e.site m → IsFit p n (w.sites e.site) m → SiteTurnOf p n limit e.units (w.sites e.site) (Some m) d →
+    (heard : Transition) × (rest : Transition) × (d ≡ sequence heard rest) × Q (e ∷ j) (after_transition (after_receipt (Some k) (after_transition w e.site heard)) e.site rest) ((ks ++ heard.picks) ++ rest.picks) ((out ++ heard.sent) ++ rest.sent)) where
   -- the world after an entry
-  entry_kept : (j : List Turn) (e : Turn) (f : Sites) (old : Site) → Wired (e ∷ j) → IsSiteIn n e → IsFitEntry p n limit j e old (f e.site) → Q (world_of j (put f e.site old)) (schedule j) (sent_of j) → Q (world_of (e ∷ j) f) (schedule j ++ e.picks) (sent_of j ++ e.sent)
+  entry_kept : (j : List Turn) (e : Turn) (f : Sites) (old : Site) → Wired (e ∷ j) → IsSiteIn n e → IsFitEntry p n limit j e old (f e.site) → Q j (world_of j (put f e.site old)) (schedule j) (sent_of j) → Q (e ∷ j) (world_of (e ∷ j) f) (schedule j ++ e.picks) (sent_of j ++ e.sent)
   entry_kept j e f old wired inside entry r = go entry.turn
     where
+      Later : World → List Pick → List Sent → Type 0
+      Later = Q (e ∷ j)
+
       i : ℕ
       i = e.site
 
@@ -72,6 +83,12 @@ module _ (p : List Stmt) (n limit : ℕ) (Q : World → List Pick → List Sent 
 
       real : i ≢ 0
       real none = absurd (omega (arith, inside.0, none))
+
+      before : Later w (schedule j) (sent_of j)
+      before = grows e j w (schedule j) (sent_of j) r
+
+      joined : Joined p w (schedule j)
+      joined = of_joined j w (schedule j) (sent_of j) r
 
       site_w : w.sites i ≡ old
       site_w = at_here f i old
@@ -89,15 +106,15 @@ module _ (p : List Stmt) (n limit : ℕ) (Q : World → List Pick → List Sent 
           mails : mail_of e.delivered (travelling j ++ mail_from (length (sent_of j)) d.sent) ≡ travelling (e ∷ j)
           mails = ap (λ (ms : List Sent). mail_of e.delivered (travelling j ++ mail_from (length (sent_of j)) ms)) (sym tells.sent) ∙ mail_after j e wired.0
 
-      finish : (d : Transition) → IsRecordOf e d → f i ≡ d.site → Q (after_receipt e.delivered (after_transition w i d)) (schedule j ++ d.picks) (sent_of j ++ d.sent) → Q (world_of (e ∷ j) f) (schedule j ++ e.picks) (sent_of j ++ e.sent)
-      finish d tells is q = subst (λ (v : World). Q v (schedule j ++ e.picks) (sent_of j ++ e.sent)) (whole d tells is) (subst (λ (ks : List Pick). Q (after_receipt e.delivered (after_transition w i d)) (schedule j ++ ks) (sent_of j ++ e.sent)) (sym tells.picks) (subst (λ (ms : List Sent). Q (after_receipt e.delivered (after_transition w i d)) (schedule j ++ d.picks) (sent_of j ++ ms)) (sym tells.sent) q))
+      finish : (d : Transition) → IsRecordOf e d → f i ≡ d.site → Later (after_receipt e.delivered (after_transition w i d)) (schedule j ++ d.picks) (sent_of j ++ d.sent) → Later (world_of (e ∷ j) f) (schedule j ++ e.picks) (sent_of j ++ e.sent)
+      finish d tells is q = subst (λ (v : World). Later v (schedule j ++ e.picks) (sent_of j ++ e.sent)) (whole d tells is) (subst (λ (ks : List Pick). Later (after_receipt e.delivered (after_transition w i d)) (schedule j ++ ks) (sent_of j ++ e.sent)) (sym tells.picks) (subst (λ (ms : List Sent). Later (after_receipt e.delivered (after_transition w i d)) (schedule j ++ d.picks) (sent_of j ++ ms)) (sym tells.sent) q))
 
-      turn_of : (o : Option ℕ) → e.delivered ≡ o → (d : Transition) → SiteTurn p n limit old (delivered_message j o) d → Q (after_receipt o (after_transition w i d)) (schedule j ++ d.picks) (sent_of j ++ d.sent)
-      turn_of None q d turn = of_quiet i real inside.0 inside.1 w (schedule j) (sent_of j) d r (subst (λ (s : Site). SiteTurn p n limit s None d) (sym site_w) turn)
+      turn_of : (o : Option ℕ) → e.delivered ≡ o → (d : Transition) → SiteTurnOf p n limit e.units old (delivered_message j o) d → Later (after_receipt o (after_transition w i d)) (schedule j ++ d.picks) (sent_of j ++ d.sent)
+      turn_of None q d turn = of_quiet e j real inside.0 inside.1 w (schedule j) (sent_of j) d before (subst (λ (s : Site). SiteTurnOf p n limit e.units s None d) (sym site_w) turn)
       turn_of (Some k) q d turn = go (wired.1 k q)
         where
-          go : (m : Sent) × IsTravelling j k m × (m.to ≡ e.site) → Q (after_receipt (Some k) (after_transition w i d)) (schedule j ++ d.picks) (sent_of j ++ d.sent)
-          go (m, t, to) = last (of_delivery i real inside.0 inside.1 w (schedule j) (sent_of j) k m.msg d r plain.1 at (subst (λ (s : Site). IsFit p n s m.msg) (sym site_w) plain.0) (subst (λ (s : Site). SiteTurn p n limit s (Some m.msg) d) (sym site_w) (subst (λ (o : Option Msg). SiteTurn p n limit old o d) is_msg turn)))
+          go : (m : Sent) × IsTravelling j k m × (m.to ≡ e.site) → Later (after_receipt (Some k) (after_transition w i d)) (schedule j ++ d.picks) (sent_of j ++ d.sent)
+          go (m, t, to) = last (of_delivery e j real inside.0 inside.1 w (schedule j) (sent_of j) k m.msg d before plain.1 at (subst (λ (s : Site). IsFit p n s m.msg) (sym site_w) plain.0) (subst (λ (s : Site). SiteTurnOf p n limit e.units s (Some m.msg) d) (sym site_w) (subst (λ (o : Option Msg). SiteTurnOf p n limit e.units old o d) is_msg turn)))
             where
               is_msg : delivered_message j (Some k) ≡ Some m.msg
               is_msg = rw t.0 refl
@@ -106,7 +123,7 @@ module _ (p : List Stmt) (n limit : ℕ) (Q : World → List Pick → List Sent 
               plain = let x = entry.fit m.msg (ap (delivered_message j) q ∙ is_msg) in (x, elsewhere m.msg x.takes)
                 where
                   number : old.records.site ≡ i
-                  number = subst (λ (s : Site). s.records.site ≡ i) site_w ((of_joined _ _ _ r).reached.parts.kept i).site
+                  number = subst (λ (s : Site). s.records.site ≡ i) site_w (joined.reached.parts.kept i).site
 
                   elsewhere : (m : Msg) → CanTake old m → IsForeignBinding i m
                   elsewhere (msg.Binding x t bundle) c = λ own. c.0 (own ∙ sym number)
@@ -125,33 +142,44 @@ module _ (p : List Stmt) (n limit : ℕ) (Q : World → List Pick → List Sent 
               at : IsOnItsWay w.mail k i m.msg
               at = subst (λ (o : ℕ). Contains (travelling j) (k, record { to = o; msg = m.msg })) to ((travelling_tells j k m).1 t)
 
-              last : (heard : Transition) × (rest : Transition) × (d ≡ sequence heard rest) × Q (after_transition (after_receipt (Some k) (after_transition w i heard)) i rest) ((schedule j ++ heard.picks) ++ rest.picks) ((sent_of j ++ heard.sent) ++ rest.sent) → Q (after_receipt (Some k) (after_transition w i d)) (schedule j ++ d.picks) (sent_of j ++ d.sent)
+              last : (heard : Transition) × (rest : Transition) × (d ≡ sequence heard rest) × Later (after_transition (after_receipt (Some k) (after_transition w i heard)) i rest) ((schedule j ++ heard.picks) ++ rest.picks) ((sent_of j ++ heard.sent) ++ rest.sent) → Later (after_receipt (Some k) (after_transition w i d)) (schedule j ++ d.picks) (sent_of j ++ d.sent)
               last (heard, rest, is, got) =
-                  let low : k < w.sent = (of_joined _ _ _ r).reached.numbers.below k i m.msg at in
+                  let low : k < w.sent = joined.reached.numbers.below k i m.msg at in
                   let high : k < (after_transition w i heard).sent = omega (arith, low) in
-                  subst (λ (x : Transition). Q (after_receipt (Some k) (after_transition w i x)) (schedule j ++ x.picks) (sent_of j ++ x.sent)) (sym is)
-                  (subst (λ (v : World). Q (after_receipt (Some k) v) (schedule j ++ (heard.picks ++ rest.picks)) (sent_of j ++ (heard.sent ++ rest.sent))) (sym (acts_after w i heard rest))
-                  (subst (λ (v : World). Q v (schedule j ++ (heard.picks ++ rest.picks)) (sent_of j ++ (heard.sent ++ rest.sent))) (sym (came_acts (after_transition w i heard) i rest k high))
-                  (subst (λ (ks : List Pick). Q (after_transition (after_receipt (Some k) (after_transition w i heard)) i rest) ks (sent_of j ++ (heard.sent ++ rest.sent))) (append_assoc (schedule j) heard.picks rest.picks) (subst (λ (ms : List Sent). Q (after_transition (after_receipt (Some k) (after_transition w i heard)) i rest) ((schedule j ++ heard.picks) ++ rest.picks) ms) (append_assoc (sent_of j) heard.sent rest.sent) got))))
+                  subst (λ (x : Transition). Later (after_receipt (Some k) (after_transition w i x)) (schedule j ++ x.picks) (sent_of j ++ x.sent)) (sym is)
+                  (subst (λ (v : World). Later (after_receipt (Some k) v) (schedule j ++ (heard.picks ++ rest.picks)) (sent_of j ++ (heard.sent ++ rest.sent))) (sym (acts_after w i heard rest))
+                  (subst (λ (v : World). Later v (schedule j ++ (heard.picks ++ rest.picks)) (sent_of j ++ (heard.sent ++ rest.sent))) (sym (came_acts (after_transition w i heard) i rest k high))
+                  (subst (λ (ks : List Pick). Later (after_transition (after_receipt (Some k) (after_transition w i heard)) i rest) ks (sent_of j ++ (heard.sent ++ rest.sent))) (append_assoc (schedule j) heard.picks rest.picks) (subst (λ (ms : List Sent). Later (after_transition (after_receipt (Some k) (after_transition w i heard)) i rest) ((schedule j ++ heard.picks) ++ rest.picks) ms) (append_assoc (sent_of j) heard.sent rest.sent) got))))
 
-      go : IsEntry p n limit j e old (f i) → Q (world_of (e ∷ j) f) (schedule j ++ e.picks) (sent_of j ++ e.sent)
-      go (d, turn, tells, is) = finish d tells is (turn_of e.delivered refl d (e.units, turn.0, turn.1))
+      go : IsEntry p n limit j e old (f i) → Later (world_of (e ∷ j) f) (schedule j ++ e.picks) (sent_of j ++ e.sent)
+      go (d, turn, tells, is) = finish d tells is (turn_of e.delivered refl d turn)
 
   -- whatever the order of turns and deliveries
-  pub journal_kept : (j : List Turn) (f : Sites) → Wired j → Each (IsSiteIn n) j → ((i : ℕ) → SiteFitRun p n limit i j (f i)) → Q (world_of j f) (schedule j) (sent_of j)
-  journal_kept [] f wired inside runs = subst (λ (g : Sites). Q (world_of [] g) [] []) (sym (starts_at p n limit f runs)) of_start
+  pub journal_kept : (j : List Turn) (f : Sites) → Wired j → Each (IsSiteIn n) j → ((i : ℕ) → SiteFitRun p n limit i j (f i)) → Q j (world_of j f) (schedule j) (sent_of j)
+  journal_kept [] f wired inside runs = subst (λ (g : Sites). Q [] (world_of [] g) [] []) (sym (starts_at p n limit f runs)) of_start
   journal_kept (e ∷ j) f wired inside runs = go (goes_back p n limit e j f runs) (λ g rest. journal_kept j g wired.0 inside.1 rest)
     where
-      go : (old : Site) × IsFitEntry p n limit j e old (f e.site) × ((i : ℕ) → SiteFitRun p n limit i j (put f e.site old i)) → ((g : Sites) → ((i : ℕ) → SiteFitRun p n limit i j (g i)) → Q (world_of j g) (schedule j) (sent_of j)) → Q (world_of (e ∷ j) f) (schedule j ++ e.picks) (sent_of j ++ e.sent)
+      go : (old : Site) × IsFitEntry p n limit j e old (f e.site) × ((i : ℕ) → SiteFitRun p n limit i j (put f e.site old i)) → ((g : Sites) → ((i : ℕ) → SiteFitRun p n limit i j (g i)) → Q j (world_of j g) (schedule j) (sent_of j)) → Q (e ∷ j) (world_of (e ∷ j) f) (schedule j ++ e.picks) (sent_of j ++ e.sent)
       go (old, entry, rest) ih = entry_kept j e f old wired inside.0 entry (ih (put f e.site old) rest)
 
 pub journal_paid : (p : List Stmt) (n limit : ℕ) (j : List Turn) (f : Sites) → Wired j → Each (IsSiteIn n) j → ((i : ℕ) → SiteFitRun p n limit i j (f i)) → Paid p n (world_of j f) (schedule j) (sent_of j)
-journal_paid p n limit j f wired inside runs = journal_kept p n limit (Paid p n) (λ w ks out r. r.joined) (start_paid p n n) (λ i real low high w ks out d r turn. quiet_paid p n limit i real low high w ks out d r turn)
-    (λ i real low high w ks out k m d r far at fit turn. delivering_paid p n limit i real low high w ks out k m d r far at fit turn) j f wired inside runs
+journal_paid p n limit j f wired inside runs = journal_kept p n limit (λ j. Paid p n) (λ j w ks out r. r.joined) (start_paid p n n) (λ e j w ks out r. r) (λ e j real low high w ks out d r turn. quiet_paid p n limit e.site real w ks out e.units d low high r turn)
+    (λ e j real low high w ks out k m d r far at fit turn. delivering_paid p n limit e.site real w ks out e.units d low high k m r far at fit turn) j f wired inside runs
 
 pub journal_owed : (p : List Stmt) (n limit : ℕ) (j : List Turn) (f : Sites) → Wired j → Each (IsSiteIn n) j → ((i : ℕ) → SiteFitRun p n limit i j (f i)) → Owed p (world_of j f) (schedule j) (sent_of j)
-journal_owed p n limit j f wired inside runs = journal_kept p n limit (Owed p) (λ w ks out r. r.joined) (start_owed p n) (λ i real low high w ks out d r turn. quiet_owed p n limit i real low high w ks out d r turn)
-    (λ i real low high w ks out k m d r far at fit turn. delivering_owed p n limit i real low high w ks out k m d r far at fit turn) j f wired inside runs
+journal_owed p n limit j f wired inside runs = journal_kept p n limit (λ j. Owed p) (λ j w ks out r. r.joined) (start_owed p n) (λ e j w ks out r. r) (λ e j real low high w ks out d r turn. quiet_owed p n limit e.site real w ks out e.units d r turn)
+    (λ e j real low high w ks out k m d r far at fit turn. delivering_owed p n limit e.site real w ks out e.units d k m r far at fit turn) j f wired inside runs
+
+-- where a thread has a unit it goes
+units_go : (e : Turn) (j : List Turn) (ths : List ThreadName) → ((th : ThreadName) → Contains ths th → Contains e.units th) → Each (GoesAt (e ∷ j) e.site) ths
+units_go e j [] h = tt
+units_go e j (th ∷ ths) h = ((e, Contains-head e j, refl, h th (Contains-head th ths)), units_go e j ths (λ x q. h x (Contains-tail th x ths q)))
+
+pub journal_settled : (p : List Stmt) (n limit : ℕ) (j : List Turn) (f : Sites) → Wired j → Each (IsSiteIn n) j → ((i : ℕ) → SiteFitRun p n limit i j (f i)) → Settled p (GoesAt j) (world_of j f) (schedule j) (sent_of j)
+journal_settled p n limit j f wired inside runs = journal_kept p n limit (λ j. Settled p (GoesAt j)) (λ j w ks out r. r.joined) (start_settled p (GoesAt []) n)
+    (λ e j w ks out r. record { joined = r.joined; balanced = balanced_wider p (GoesAt j) (GoesAt (e ∷ j)) none_came w ks out (λ l th h. (h.0, Contains-tail e h.0 j h.1, h.2, h.3)) r.balanced })
+    (λ e j real low high w ks out d r turn. quiet_settled p n limit e.site real w ks out e.units d (GoesAt (e ∷ j)) (units_go e j e.units (λ th h. h)) r turn)
+    (λ e j real low high w ks out k m d r far at fit turn. delivering_settled p n limit e.site real w ks out e.units d (GoesAt (e ∷ j)) (units_go e j e.units (λ th h. h)) k m r far at fit turn) j f wired inside runs
 
 -- at most three messages of a cell for each exchange and each site
 pub few_cell_messages : FewInFitRuns
@@ -176,3 +204,15 @@ few_answers p n limit j f some wired inside runs =
         few = r.owing.few;
       },
     )
+
+-- the requests, the exchanges and the answers of each thread
+pub requests_balance : RequestsBalanceInFitRuns
+requests_balance p n limit j w some wired inside runs =
+    let b = (journal_settled p n limit j w wired inside runs).balanced in
+    record { asked = λ c th away. asked c th (b.asked c th away); far = b.far; answered = b.answered }
+  where
+    asked : (c : CellName) (th : ThreadName) →
+        GoesAt j c.at th ⊎ (count_by (asks_content_for c th) (sent_of j) ≡ exchanges_by (one_exchange c th) p (start p) (schedule j) + (travelling_for c th (travelling j) + 0 + early_for th (early_at (homes w) c))) →
+        GoesAt j c.at th ⊎ (count_by (asks_content_for c th) (sent_of j) ≡ exchanges_by (one_exchange c th) p (start p) (schedule j) + outstanding_for c th j w)
+    asked c th (inl h) = inl h
+    asked c th (inr h) = inr (omega (arith, h))

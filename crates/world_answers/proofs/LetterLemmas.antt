@@ -62,7 +62,7 @@ module _ (p : List Stmt) (i : ℕ) (real : i ≢ 0) (w : World) (ks : List Pick)
   end_taken k n old new bundle at = go (awaits k n (NewEnd old new) bundle at)
     where
       go : (b : Asking) × (st : Stack) × IsAsking (threads w.sites) i n (awaited b) st × IsAnswerTo b (NewEnd old new) × (keeper_of (awaited b) ≢ i) → CanTake (w.sites i) (msg.PortEnd n old new bundle)
-      go (EndOf q, st, waits, fits, far) = (st, q, waits.0)
+      go (EndOf q, st, waits, fits, far) = (st, q, (λ e. far (e ∙ number)), waits.0)
       go (ContentOf c v, st, waits, fits, far) = absurd fits
 
   old_taken : (k : ℕ) (n : ThreadName) (v : VarName) (bundle : List Equation) → IsOnItsWay w.mail k i (msg.CellOld n v bundle) → CanTake (w.sites i) (msg.CellOld n v bundle)

@@ -2,6 +2,8 @@ pub mod ActLemmas
 pub mod AnswerLemmas
 pub mod AskJoinLemmas
 pub mod AskLemmas
+pub mod BalanceLemmas
+pub mod BalanceRowLemmas
 pub mod BesideLemmas
 pub mod ClaimLemmas
 pub mod EndLemmas
@@ -21,6 +23,7 @@ pub mod MessageLemmas
 pub mod MoveLemmas
 pub mod OpenLemmas
 pub mod OwedLemmas
+pub mod OwingLemmas
 pub mod OwnJoinLemmas
 pub mod OwnLemmas
 pub mod PackLemmas

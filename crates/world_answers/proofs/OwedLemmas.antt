@@ -1,5 +1,5 @@
 -- What a row of a site sends of requests and answers, the machine's steps that pay for it, and the threads that wait for answers.
-use Rattle.std.proofs.Common.{arith, ◌≡◌, ◌∙◌, sym, ap, refl, subst, ℕ, ◌+◌, ◌≤◌, ◌<◌, List, [], ◌∷◌, ◌++◌, ◌⊎◌, inl, inr, Bool, true, false, cond, Some, length, length-append}
+use Rattle.std.proofs.Common.{arith, ◌≡◌, ◌∙◌, sym, ap, refl, subst, ℕ, ◌+◌, ◌≤◌, List, [], ◌∷◌, ◌++◌, ◌⊎◌, inl, inr, Bool, true, false, cond, Some, length, length-append}
 use Rattle.std.specs.Prelude.{Option, ◌≢◌, ◌==◌, Contains}
 use Rattle.std.specs.List.{count_by}
 use Rattle.std.proofs.lemmas.List.Sums.{sum_by-append, sum_by-cons}
@@ -18,7 +18,7 @@ use Rattle.site_message.specs.declared.message.Msg.{Msg}
 use Rattle.site_message.specs.declared.message.Msg.TheVariants as msg
 use Rattle.site_message.specs.declared.message.Sent.{Sent}
 use Rattle.oz_model.specs.Effect.{Effect, CellChange, Stays, Made, Exchanged}
-use Rattle.oz_model.specs.Run.{IsRun, start, Run as ModelRun}
+use Rattle.oz_model.specs.Run.{IsRun}
 use Rattle.oz_model.specs.Step.{next}
 use Rattle.thread_roster.specs.declared.mode.Awaited.{Awaited}
 use Rattle.thread_roster.specs.declared.mode.Mode.TheVariants as mode
@@ -30,14 +30,13 @@ use Rattle.world_model.proofs.KeyLemmas.{with_there}
 use Rattle.site_model.specs.Bundle.{with_own_bundle}
 use Rattle.site_model.specs.Site.{Site, Threads, ThreadState}
 use Rattle.site_model.specs.Transition.{Transition, sequence, without_output, with_messages}
-use Rattle.world_model.specs.Claims.{Asking, EndOf, ContentOf, IsAsking, answer, request, keeper_of}
+use Rattle.world_model.specs.Claims.{Asking, EndOf, ContentOf, answer, request, keeper_of}
 use Rattle.world_model.specs.Shown.{is_asking}
-use Rattle.world_model.specs.World.{World, Sites, IsOnItsWay, threads, after_transition, after_receipt}
-use Rattle.world_model.proofs.MailLemmas.{nothing, sent_to, from_number, gone}
-use Rattle.world_model.proofs.PutLemmas.{nat_decides, at_all}
+use Rattle.world_model.specs.World.{threads}
+use Rattle.world_model.proofs.MailLemmas.{nothing, sent_to}
+use Rattle.world_model.proofs.PutLemmas.{nat_decides}
 use Rattle.world_cells.specs.Standing.{IsStanding}
 use Rattle.world_answers.specs.AnswerCounts.{asks_end, tells_end, tells_home, asks_content, tells_content, counted, sends_made, send_one, exchange_one, cell_one, placed_exchanges, placed_cells}
-use Rattle.world_answers.specs.Joined.{Joined}
 use Rattle.world_answers.proofs.BesideLemmas.{AreStanding}
 use Rattle.world_answers.proofs.SpotLemmas.{answer_tells}
 use Rattle.world_answers.proofs.StandLemmas.{all_stand, answer_not}
@@ -54,7 +53,7 @@ module _ {X : Type 0} (P : X → Type 0) where
       go (inl e) ih = subst P e h.0
       go (inr q) ih = ih q
 
-  has_each : (xs : List X) → ((x : X) → Contains xs x → P x) → Each P xs
+  pub has_each : (xs : List X) → ((x : X) → Contains xs x → P x) → Each P xs
   has_each [] f = tt
   has_each (x ∷ xs) f = (f x (Contains-head x xs), has_each xs (λ y h. f y (Contains-tail x y xs h)))
 
@@ -104,19 +103,19 @@ dropped_long n (m ∷ ms) = go (equal_thread n m) (dropped_long n ms)
     go false ih = omega (arith, ih)
 
 -- without all of these
-abbrev left_over : List ThreadName → List ThreadName → List ThreadName
+abbrev pub left_over : List ThreadName → List ThreadName → List ThreadName
 left_over [] ms = ms
 left_over (n ∷ ns) ms = left_over ns (dropped n ms)
 
-over_from : (ns ms : List ThreadName) (x : ThreadName) → Contains (left_over ns ms) x → Contains ms x
+pub over_from : (ns ms : List ThreadName) (x : ThreadName) → Contains (left_over ns ms) x → Contains ms x
 over_from [] ms x h = h
 over_from (n ∷ ns) ms x h = dropped_from n ms x (over_from ns (dropped n ms) x h)
 
-over_distinct : (ns ms : List ThreadName) → AreDistinct ms → AreDistinct (left_over ns ms)
+pub over_distinct : (ns ms : List ThreadName) → AreDistinct ms → AreDistinct (left_over ns ms)
 over_distinct [] ms d = d
 over_distinct (n ∷ ns) ms d = over_distinct ns (dropped n ms) (dropped_distinct n ms d)
 
-over_not : (ns ms : List ThreadName) (x : ThreadName) → AreDistinct ms → Contains (left_over ns ms) x → Contains ns x → ⊥
+pub over_not : (ns ms : List ThreadName) (x : ThreadName) → AreDistinct ms → Contains (left_over ns ms) x → Contains ns x → ⊥
 over_not [] ms x d h k = nothing _ k
 over_not (n ∷ ns) ms x d h k = go (Contains-cons_cases n x ns k) (λ q. over_not ns (dropped n ms) x (dropped_distinct n ms d) h q)
   where
@@ -124,13 +123,13 @@ over_not (n ∷ ns) ms x d h k = go (Contains-cons_cases n x ns k) (λ q. over_n
     go (inl e) ih = dropped_not n ms x d (over_from ns (dropped n ms) x h) e
     go (inr q) ih = ih q
 
-over_long : (ns ms : List ThreadName) → length ms ≤ length ns + length (left_over ns ms)
+pub over_long : (ns ms : List ThreadName) → length ms ≤ length ns + length (left_over ns ms)
 over_long [] ms = omega arith
 over_long (n ∷ ns) ms = let one = dropped_long n ms in let rest = over_long ns (dropped n ms) in omega (arith, one, rest)
 
 -- ---- counts
 
-count_append : (f : Sent → Bool) (ms os : List Sent) → count_by f (ms ++ os) ≡ count_by f ms + count_by f os
+pub count_append : (f : Sent → Bool) (ms os : List Sent) → count_by f (ms ++ os) ≡ count_by f ms + count_by f os
 count_append f ms os = sum_by-append (λ x. cond (f x) 1 0) ms os
 
 pub counted_append : (f : Effect → ℕ) (p : List Stmt) (ks ls : List Pick) (s t : State) → IsRun p s ks t → counted f p s (ks ++ ls) ≡ counted f p s ks + counted f p t ls
@@ -237,7 +236,7 @@ Pays p c ks (NewEnd old new) = 1 ≤ sends_made p c ks
 Pays p c ks (OldContent v) = 1 ≤ placed_exchanges p c ks
 
 -- one of few messages is one of one
-only_one : (to a : ℕ) (x m : Msg) → Contains (sent_to to x ∷ []) (sent_to a m) → m ≡ x
+pub only_one : (to a : ℕ) (x m : Msg) → Contains (sent_to to x ∷ []) (sent_to a m) → m ≡ x
 only_one to a x m h = go (Contains-cons_cases _ _ [] h)
   where
     go : (sent_to to x ≡ sent_to a m) ⊎ Contains [] (sent_to a m) → m ≡ x
@@ -354,126 +353,3 @@ pub record AsksOne (s : Site) (d : Transition) (n : ThreadName) : Type 0 where
   pub none : (to : ℕ) (m : ThreadName) (x : Answer) (bundle : List Equation) → Contains d.sent (sent_to to (answer m x bundle)) → ⊥
   pub waits : (a : Awaited) (m : ThreadName) (st : Stack) → value_of equal_thread s.threads m ≡ Some (st, mode.WaitsFor a) → value_of equal_thread d.site.threads m ≡ Some (st, mode.WaitsFor a)
   pub now : (a : Awaited) × (st : Stack) × (value_of equal_thread d.site.threads n ≡ Some (st, mode.WaitsFor a)) × (is_asking (mode.WaitsFor a) ≡ true) × (keeper_of a ≢ s.records.site)
-
--- ---- the world
-
--- the thread waits at its site for an answer of another one
-abbrev pub IsAway : Sites → ThreadName → Type 0
-IsAway f n = (i : ℕ) × (a : Awaited) × (st : Stack) × IsAsking (threads f) i n a st × (keeper_of a ≢ i)
-
--- these picks pay for what was told; and as many threads wait, without an answer on its way, as more was asked than answered
-pub record Owing (p : List Stmt) (w : World) (ks : List Pick) (out : List Sent) : Type 0 where
-  pub ends : count_by tells_end out ≤ sends_made p (start p) ks
-  pub olds : count_by tells_content out ≤ placed_exchanges p (start p) ks
-  pub homes : count_by tells_home out ≤ placed_cells p (start p) ks
-  pub asking : List ThreadName
-  pub distinct : AreDistinct asking
-  pub waits : (n : ThreadName) → Contains asking n → IsAway w.sites n
-  pub unanswered : (n : ThreadName) → Contains asking n → (k to : ℕ) (x : Answer) (bundle : List Equation) → IsOnItsWay w.mail k to (answer n x bundle) → ⊥
-  pub few : count_by asks_end out + count_by asks_content out ≤ count_by tells_end out + count_by tells_content out + length asking
-
--- the world was reached by these picks, and so much is owed
-pub record Owed (p : List Stmt) (w : World) (ks : List Pick) (out : List Sent) : Type 0 where
-  pub joined : Joined p w ks
-  pub owing : Owing p w ks out
-
-abbrev pub owing_received : (p : List Stmt) (w : World) (ks : List Pick) (out : List Sent) (k : ℕ) → Owing p w ks out → Owing p (after_receipt (Some k) w) ks out
-owing_received p w ks out k o = record {
-  ends = o.ends;
-  olds = o.olds;
-  homes = o.homes;
-  asking = o.asking;
-  distinct = o.distinct;
-  waits = o.waits;
-  unanswered = λ n h l to x bundle q. o.unanswered n h l to x bundle ((gone k w.mail).old l to (answer n x bundle) q).0;
-  few = o.few;
-}
-
-module _ (p : List Stmt) (w : World) (ks : List Pick) (out : List Sent) (c : State) (run : ModelRun p ks c) (o : Owing p w ks out) (i : ℕ) (d : Transition) (number : (w.sites i).records.site ≡ i) where
-  abbrev v : World
-  v = after_transition w i d
-
-  pub owing_served : (served : List ThreadName) (back : ThreadName → Type 0) → ((n : ThreadName) → back n → Contains o.asking n → ⊥) → Owes p (w.sites i) c d served back → Owing p v (ks ++ d.picks) (out ++ d.sent)
-  owing_served served back apart q = record {
-    ends = (let l = count_append tells_end out d.sent in let r = counted_append (λ (x : Effect). send_one x.port) p ks d.picks (start p) c run in let x = o.ends in let y = q.ends in omega (arith, l, r, x, y));
-    olds = (let l = count_append tells_content out d.sent in let r = counted_append (λ (x : Effect). exchange_one x.cell) p ks d.picks (start p) c run in let x = o.olds in let y = q.olds in omega (arith, l, r, x, y));
-    homes = (let l = count_append tells_home out d.sent in let r = counted_append (λ (x : Effect). cell_one x.cell) p ks d.picks (start p) c run in let x = o.homes in let y = q.homes in omega (arith, l, r, x, y));
-    asking = left_over served o.asking;
-    distinct = over_distinct served o.asking o.distinct;
-    waits = λ n h. waits n (over_from served o.asking n h);
-    unanswered = λ n h k to x bundle r. unanswered n h k to x bundle (from_number w.mail w.sent d.sent k to (answer n x bundle) r);
-    few = (
-        let a = count_append asks_end out d.sent in
-        let b = count_append asks_content out d.sent in
-        let e = count_append tells_end out d.sent in
-        let f = count_append tells_content out d.sent in
-        let long = over_long served o.asking in
-        let before = o.few in
-        let none = q.asks in
-        let some = q.answers in omega (arith, a, b, e, f, long, before, none, some)
-        );
-  }
-    where
-      waits : (n : ThreadName) → Contains o.asking n → IsAway v.sites n
-      waits n h = go (o.waits n h)
-        where
-          go : IsAway w.sites n → IsAway v.sites n
-          go (l, a, st, at, far) = (
-            l,
-            a,
-            st,
-            at_all w.sites i d.site (λ l (t : Site). IsAsking (threads w.sites) l n a st → keeper_of a ≢ l → (value_of equal_thread t.threads n ≡ Some (st, mode.WaitsFor a)) × (is_asking (mode.WaitsFor a) ≡ true))
-                (λ g own. (q.waits a g.1 (λ z. own (z ∙ number)) n (λ b. apart n b h) st g.0, g.1)) (λ l other g own. g) l at far,
-            far,
-          )
-
-      unanswered : (n : ThreadName) → Contains (left_over served o.asking) n → (k to : ℕ) (x : Answer) (bundle : List Equation) → IsOnItsWay w.mail k to (answer n x bundle) ⊎ (Contains d.sent (sent_to to (answer n x bundle)) × (w.sent ≤ k) × (k < w.sent + length d.sent)) → ⊥
-      unanswered n h k to x bundle (inl r) = o.unanswered n (over_from served o.asking n h) k to x bundle r
-      unanswered n h k to x bundle (inr r) = over_not served o.asking n o.distinct h (q.only to n x bundle r.0)
-
-  pub owing_asked : (n : ThreadName) → ((k : ℕ) (a : Awaited) (st : Stack) → IsAsking (threads w.sites) k n a st → ⊥) → ((k to : ℕ) (x : Answer) (bundle : List Equation) → IsOnItsWay w.mail k to (answer n x bundle) → ⊥) → AsksOne (w.sites i) d n →
-      Owing p v (ks ++ d.picks) (out ++ d.sent)
-  owing_asked n nowhere quiet q = record {
-    ends = (let l = count_append tells_end out d.sent in let r = counted_append (λ (x : Effect). send_one x.port) p ks d.picks (start p) c run in let x = o.ends in let y = q.tells.0 in omega (arith, l, r, x, y));
-    olds = (let l = count_append tells_content out d.sent in let r = counted_append (λ (x : Effect). exchange_one x.cell) p ks d.picks (start p) c run in let x = o.olds in let y = q.tells.1 in omega (arith, l, r, x, y));
-    homes = (let l = count_append tells_home out d.sent in let r = counted_append (λ (x : Effect). cell_one x.cell) p ks d.picks (start p) c run in let x = o.homes in let y = q.tells.2 in omega (arith, l, r, x, y));
-    asking = n ∷ o.asking;
-    distinct = (has_each (λ y. n ≢ y) o.asking (λ m h same. new m h same), o.distinct);
-    waits = λ m h. waits m (Contains-cons_cases n m o.asking h);
-    unanswered = λ m h k to x bundle r. unanswered m (Contains-cons_cases n m o.asking h) k to x bundle (from_number w.mail w.sent d.sent k to (answer m x bundle) r);
-    few = (
-        let a = count_append asks_end out d.sent in
-        let b = count_append asks_content out d.sent in
-        let e = count_append tells_end out d.sent in
-        let f = count_append tells_content out d.sent in
-        let before = o.few in
-        let some = q.one in omega (arith, a, b, e, f, before, some)
-        );
-  }
-    where
-      new : (m : ThreadName) → Contains o.asking m → n ≢ m
-      new m h same = let g = o.waits m h in nowhere g.0 g.1 g.2 (subst (λ (x : ThreadName). IsAsking (threads w.sites) g.0 x g.1 g.2) (sym same) g.3)
-
-      waits : (m : ThreadName) → (n ≡ m) ⊎ Contains o.asking m → IsAway v.sites m
-      waits m (inl same) = subst (IsAway v.sites) same (
-        i,
-        q.now.0,
-        q.now.1,
-        at_all w.sites i d.site (λ l (t : Site). l ≡ i → (value_of equal_thread t.threads n ≡ Some (q.now.1, mode.WaitsFor q.now.0)) × (is_asking (mode.WaitsFor q.now.0) ≡ true)) (λ e. (q.now.2, q.now.3)) (λ l other e. absurd (other e)) i refl,
-        λ e. q.now.4 (e ∙ sym number),
-      )
-      waits m (inr h) = go (o.waits m h)
-        where
-          go : IsAway w.sites m → IsAway v.sites m
-          go (l, a, st, at, far) = (
-            l,
-            a,
-            st,
-            at_all w.sites i d.site (λ l (t : Site). IsAsking (threads w.sites) l m a st → (value_of equal_thread t.threads m ≡ Some (st, mode.WaitsFor a)) × (is_asking (mode.WaitsFor a) ≡ true)) (λ g. (q.waits a m st g.0, g.1)) (λ l other g. g) l at,
-            far,
-          )
-
-      unanswered : (m : ThreadName) → (n ≡ m) ⊎ Contains o.asking m → (k to : ℕ) (x : Answer) (bundle : List Equation) → IsOnItsWay w.mail k to (answer m x bundle) ⊎ (Contains d.sent (sent_to to (answer m x bundle)) × (w.sent ≤ k) × (k < w.sent + length d.sent)) → ⊥
-      unanswered m h k to x bundle (inr r) = q.none to m x bundle r.0
-      unanswered m (inl same) k to x bundle (inl r) = quiet k to x bundle (subst (λ (y : ThreadName). IsOnItsWay w.mail k to (answer y x bundle)) (sym same) r)
-      unanswered m (inr h) k to x bundle (inl r) = o.unanswered m h k to x bundle r

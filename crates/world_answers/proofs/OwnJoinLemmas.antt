@@ -1,5 +1,6 @@
 -- A thread's own step on a port or on a stationary cell keeps a world joined with the machine.
-use Rattle.std.proofs.Common.{◌≡◌, ◌∙◌, sym, ap, refl, subst, ℕ, List, [], ◌∷◌, ◌++◌, append-nil, ◌⊎◌, inl, inr, Bool, true, false, Some, None}
+use Rattle.std.specs.List.{count_by}
+use Rattle.std.proofs.Common.{◌≡◌, ◌∙◌, sym, ap, refl, subst, ℕ, List, [], ◌∷◌, ◌++◌, append-nil, ◌⊎◌, inl, inr, Bool, true, false, Some, None, arith}
 use Rattle.std.specs.Prelude.{Option, Contains, IsSome, ◌≢◌, ◌==◌}
 use Rattle.indexmap.specs.IndexMap.{insert_entry}
 use Rattle.tree_node.specs.declared.names.VarName.{VarName}
@@ -58,12 +59,17 @@ use Rattle.world_variables.proofs.RegisterLemmas.{MaySend}
 use Rattle.world_cells.proofs.QueueLemmas.{SameWaiters}
 use Rattle.world_cells.proofs.SendLemmas.{each_more, each_part}
 use Rattle.world_answers.specs.Joined.{Joined}
-use Rattle.world_answers.proofs.ActLemmas.{act_served, act_allowed, act_effect, act_all, act_next, act_cells, act_ports, act_equations, act_quiet, act_wider, act_made, act_finds_cell, act_finds_port}
+use Rattle.world_answers.proofs.ActLemmas.{act_served, act_allowed, act_effect, act_exchanged, act_all, act_next, act_cells, act_ports, act_equations, act_quiet, act_wider, act_made, act_finds_cell, act_finds_port}
 use Rattle.world_answers.proofs.AskJoinLemmas.{never_lost, ports_same, early_same}
 use Rattle.world_answers.proofs.ClaimLemmas.{asking_alike}
 use Rattle.world_answers.proofs.GrowLemmas.{made_grow, kinds_grow}
 use Rattle.world_answers.proofs.HomeLemmas.{Rehomed, rehomed, same_homes, kept_made, kept_told, kept_exchange, content_other, early_own, early_other}
 use Rattle.world_answers.proofs.KeptLemmas.{IsQuiet}
+use Rattle.world_answers.specs.AnswerCounts.{asks_content, tells_content}
+use Rattle.world_answers.specs.Balance.{of_exchange, exchanges_by}
+use Rattle.world_answers.proofs.BalanceLemmas.{Balances, none_came}
+use Rattle.world_answers.proofs.BalanceRowLemmas.{still_balances, exchange_balances}
+use Rattle.world_answers.proofs.OwedLemmas.{TellsCell, tells_cell}
 use Rattle.world_answers.proofs.OwnLemmas.{own_found, own_site, own_row, own_kept, own_reached, own_once, own_waiters, own_names, cell_ports, port_homes, tells}
 use Rattle.world_answers.proofs.PortsLemmas.{ended_at, port_kept, opened_here, opened_there, moved_here, moved_there}
 use Rattle.world_answers.proofs.PackLemmas.{ReachedAt, whole}
@@ -261,6 +267,9 @@ module _ (p : List Stmt) (limit i : ℕ) (real : i ≢ 0) (w : World) (ks : List
           never (Answered k to o x) (bundle, h) = h
           never (Listed b r) h = h
 
+    own_exchanged : (f : CellName → ThreadName → ℕ) → exchanges_by f p c d.picks ≡ of_exchange f n e.cell
+    own_exchanged f = act_exchanged p i real w ks j.transit j.reached i i n st kinds found need on f d (own_kept p limit i real w ks j n st kinds runs need on)
+
     -- ---- on a port
 
     module _ (stays_cell : e.cell ≡ Stays) where
@@ -278,6 +287,10 @@ module _ (p : List Stmt) (limit i : ℕ) (real : i ≢ 0) (w : World) (ks : List
           (subst (λ (cs : List (CellName × VarName)). HomesMatch (homes v.sites) (records v.sites) v.mail cs) (sym cells_same)
           (same_homes (homes w.sites) (homes v.sites) (records w.sites) (records v.sites) w.mail v.mail c.cells homes_same wide (told_from port_silent) (told_old port_silent) j.answers.contents))
           (early_same (homes w.sites) (homes v.sites) (records w.sites) (records v.sites) homes_same wide j.answers.early)
+
+      pub port_balances : (R : ℕ → ThreadName → Type 0) → Balances p R none_came w.sites (put w.sites i d.site) c d
+      port_balances R = still_balances p R w.sites (put w.sites i d.site) c d none_came (λ b th. refl) (λ b. ap (λ (f : Homes). early_at f b) homes_same) (λ f vanishes. own_exchanged f ∙ ap (of_exchange f n) stays_cell)
+          (ap (count_by asks_content) port_silent) (ap (count_by tells_content) port_silent)
 
       -- the names of the effect are here
       end_here : (x : VarName) (q : PortName) → q.site ≡ i → here_at (records v.sites) i (name.Var x) → IsHere (records v.sites q.site) x
@@ -333,42 +346,48 @@ module _ (p : List Stmt) (limit i : ℕ) (real : i ≢ 0) (w : World) (ks : List
       known_home b x home (inr h) = absurd (real h)
 
       -- an exchange at the home
-      pub exchanged_joined : (b : CellName) (new old : VarName) → e.cell ≡ Exchanged b new old → Joined p v (ks ++ d.picks)
-      exchanged_joined b new old is = silent_joined silent early_stays ends_stay
-          (subst (λ (cs : List (CellName × VarName)). HomesMatch (homes v.sites) (records v.sites) v.mail cs) (sym (act_cells p i real w ks j.transit j.reached i i n st kinds found need on ∙ ap (λ (ch : CellChange). cells_after c.cells ch) is))
-          (kept_exchange (homes w.sites) (homes v.sites) (records w.sites) (records v.sites) w.mail v.mail c.cells b new was.1 (home_record s b).early j.answers.contents moved wide (told_from silent) (told_old silent) at_home
-          (known_home b new was.0 (subst (EachOfChange (here_at (records v.sites) i)) is cell_names).1) (subst (λ (k : ℕ). AreDistinct (home_in (homes w.sites k) b).early) was.0 (j.answers.contents.lists b))))
-          is_early
-        where
-          was : (b.at ≡ i) × (x : VarName) × ((home_record s b).content ≡ Some x)
-          was = holds b new old is
+      module _ (b : CellName) (new old : VarName) (is : e.cell ≡ Exchanged b new old) where
+        was : (b.at ≡ i) × (x : VarName) × ((home_record s b).content ≡ Some x)
+        was = holds b new old is
 
-          silent : d.sent ≡ []
-          silent = ap (λ (ch : CellChange). (telling_row limit ch (own_site p limit i real w ks j n st kinds runs need on)).sent) is
+        silent_exchange : d.sent ≡ []
+        silent_exchange = ap (λ (ch : CellChange). (telling_row limit ch (own_site p limit i real w ks j n st kinds runs need on)).sent) is
 
-          moved : Rehomed (homes w.sites) (homes v.sites) b (record { content = Some new; early = (home_record s b).early })
-          moved = rehomed w.sites i d.site b (record { content = Some new; early = (home_record s b).early }) was.0 (homes_are ∙ ap (λ (ch : CellChange). (after_home_cell ch (with_fresh_names kinds s)).homes) is)
+        moved_exchange : Rehomed (homes w.sites) (homes v.sites) b (record { content = Some new; early = (home_record s b).early })
+        moved_exchange = rehomed w.sites i d.site b (record { content = Some new; early = (home_record s b).early }) was.0 (homes_are ∙ ap (λ (ch : CellChange). (after_home_cell ch (with_fresh_names kinds s)).homes) is)
 
-          at_home : content_at (homes w.sites) b ≡ Some was.1
-          at_home = ap (λ (k : ℕ). (home_in (homes w.sites k) b).content) was.0 ∙ was.2
+        at_home : content_at (homes w.sites) b ≡ Some was.1
+        at_home = ap (λ (k : ℕ). (home_in (homes w.sites k) b).content) was.0 ∙ was.2
 
-          early_stays : (x : CellName) → early_at (homes v.sites) x ≡ early_at (homes w.sites) x
-          early_stays x = go (cell_cases b x)
-            where
-              go : (b ≡ x) ⊎ (b ≢ x) → early_at (homes v.sites) x ≡ early_at (homes w.sites) x
-              go (inl same) = subst (λ (y : CellName). early_at (homes v.sites) y ≡ early_at (homes w.sites) y) same (early_own (homes w.sites) (homes v.sites) b _ moved ∙ sym (ap (λ (k : ℕ). (home_in (homes w.sites k) b).early) was.0))
-              go (inr other) = early_other (homes w.sites) (homes v.sites) b _ moved x other
+        exchanged_early : (x : CellName) → early_at (homes v.sites) x ≡ early_at (homes w.sites) x
+        exchanged_early x = go (cell_cases b x)
+          where
+            go : (b ≡ x) ⊎ (b ≢ x) → early_at (homes v.sites) x ≡ early_at (homes w.sites) x
+            go (inl same) = subst (λ (y : CellName). early_at (homes v.sites) y ≡ early_at (homes w.sites) y) same (early_own (homes w.sites) (homes v.sites) b _ moved_exchange ∙ sym (ap (λ (k : ℕ). (home_in (homes w.sites k) b).early) was.0))
+            go (inr other) = early_other (homes w.sites) (homes v.sites) b _ moved_exchange x other
 
-          is_early : AreEarly (homes v.sites) (records v.sites)
-          is_early x r h = go (cell_cases b x)
-            where
-              was_early : (x.at ≢ 0) × (content_at (homes w.sites) x ≡ None) × IsHere (records w.sites x.at) r.new
-              was_early = j.answers.early x r (subst (λ (rs : List EarlyRequest). Contains rs r) (early_stays x) h)
+        -- the thread's exchange is its own
+        pub exchanged_balances : (R : ℕ → ThreadName → Type 0) → R i n → Balances p R none_came w.sites (put w.sites i d.site) c d
+        exchanged_balances R goes = exchange_balances p R w.sites (put w.sites i d.site) c d n b (λ z. real (sym was.0 ∙ z)) (subst (λ (k : ℕ). R k n) (sym was.0) goes) exchanged_early
+            (λ f. own_exchanged f ∙ ap (of_exchange f n) is) (ap (count_by asks_content) silent_exchange) (ap (count_by tells_content) silent_exchange)
 
-              go : (b ≡ x) ⊎ (b ≢ x) → (x.at ≢ 0) × (content_at (homes v.sites) x ≡ None) × IsHere (records v.sites x.at) r.new
-              go (inr other) = (was_early.0, content_other (homes w.sites) (homes v.sites) b _ moved x other ∙ was_early.1, wide x.at r.new was_early.2)
-              go (inl same) =
-                  let both : ◌≡◌ {A = Option VarName} None (Some was.1) = sym (subst (λ (y : CellName). content_at (homes w.sites) y ≡ None) (sym same) was_early.1) ∙ at_home in absurd (cc)
+        pub exchanged_joined : Joined p v (ks ++ d.picks)
+        exchanged_joined = silent_joined silent_exchange exchanged_early ends_stay
+            (subst (λ (cs : List (CellName × VarName)). HomesMatch (homes v.sites) (records v.sites) v.mail cs) (sym (act_cells p i real w ks j.transit j.reached i i n st kinds found need on ∙ ap (λ (ch : CellChange). cells_after c.cells ch) is))
+            (kept_exchange (homes w.sites) (homes v.sites) (records w.sites) (records v.sites) w.mail v.mail c.cells b new was.1 (home_record s b).early j.answers.contents moved_exchange wide (told_from silent_exchange) (told_old silent_exchange) at_home
+            (known_home b new was.0 (subst (EachOfChange (here_at (records v.sites) i)) is cell_names).1) (subst (λ (k : ℕ). AreDistinct (home_in (homes w.sites k) b).early) was.0 (j.answers.contents.lists b))))
+            is_early
+          where
+            is_early : AreEarly (homes v.sites) (records v.sites)
+            is_early x r h = go (cell_cases b x)
+              where
+                was_early : (x.at ≢ 0) × (content_at (homes w.sites) x ≡ None) × IsHere (records w.sites x.at) r.new
+                was_early = j.answers.early x r (subst (λ (rs : List EarlyRequest). Contains rs r) (exchanged_early x) h)
+
+                go : (b ≡ x) ⊎ (b ≢ x) → (x.at ≢ 0) × (content_at (homes v.sites) x ≡ None) × IsHere (records v.sites x.at) r.new
+                go (inr other) = (was_early.0, content_other (homes w.sites) (homes v.sites) b _ moved_exchange x other ∙ was_early.1, wide x.at r.new was_early.2)
+                go (inl same) =
+                    let both : ◌≡◌ {A = Option VarName} None (Some was.1) = sym (subst (λ (y : CellName). content_at (homes w.sites) y ≡ None) (sym same) was_early.1) ∙ at_home in absurd (cc)
 
       -- a cell is made
       module _ (b : CellName) (x : VarName) (is : e.cell ≡ Made b x) (away : b.at ≢ 0) where
@@ -384,43 +403,67 @@ module _ (p : List Stmt) (limit i : ℕ) (real : i ≢ 0) (w : World) (ks : List
         made_names : here_at (records v.sites) i (name.Cell b) × here_at (records v.sites) i (name.Var x)
         made_names = subst (EachOfChange (here_at (records v.sites) i)) is cell_names
 
+        own_home : b.at ≡ i → (b.at == s.records.site) ≡ true
+        own_home home = (nat_decides b.at s.records.site).1 (home ∙ sym number)
+
+        other_home : b.at ≢ i → (b.at == s.records.site) ≡ false
+        other_home far = go (b.at == s.records.site) refl
+          where
+            go : (q : Bool) → (b.at == s.records.site) ≡ q → q ≡ false
+            go true q = absurd (far ((nat_decides b.at s.records.site).0 q ∙ number))
+            go false q = refl
+
+        moved_made : b.at ≡ i → Rehomed (homes w.sites) (homes v.sites) b (record { content = Some x; early = [] })
+        moved_made home = rehomed w.sites i d.site b (record { content = Some x; early = [] }) home (homes_are ∙ ap (λ (ch : CellChange). (after_home_cell ch (with_fresh_names kinds s)).homes) is ∙ kept_here)
+          where
+            kept_here : (after_home_cell (Made b x) (with_fresh_names kinds s)).homes ≡ insert_entry equal_cell s.homes b (record { content = Some x; early = [] })
+            kept_here = rw (fresh_number, own_home home) refl
+
+        made_early : b.at ≡ i → (y : CellName) → early_at (homes v.sites) y ≡ early_at (homes w.sites) y
+        made_early home y = go (cell_cases b y)
+          where
+            go : (b ≡ y) ⊎ (b ≢ y) → early_at (homes v.sites) y ≡ early_at (homes w.sites) y
+            go (inl same) = subst (λ (a : CellName). early_at (homes v.sites) a ≡ early_at (homes w.sites) a) same (early_own (homes w.sites) (homes v.sites) b _ (moved_made home) ∙ sym none_early)
+            go (inr other) = early_other (homes w.sites) (homes v.sites) b _ (moved_made home) y other
+
+        told_homes : b.at ≢ i → ◌≡◌ {A = Homes} (homes v.sites) (homes w.sites)
+        told_homes far = field_kept (λ (t : Site). t.homes) w.sites i d.site (homes_are ∙ ap (λ (ch : CellChange). (after_home_cell ch (with_fresh_names kinds s)).homes) is ∙ rw (fresh_number, other_home far) refl)
+
+        -- no content is exchanged
+        pub made_balances : (R : ℕ → ThreadName → Type 0) → Balances p R none_came w.sites (put w.sites i d.site) c d
+        made_balances R = still_balances p R w.sites (put w.sites i d.site) c d none_came (λ a th. refl) (early_stays (b.at == i) refl) (λ f vanishes. own_exchanged f ∙ ap (of_exchange f n) is) (let none = t.asks in omega (arith, none)) t.olds
+          where
+            early_stays : (q : Bool) → (b.at == i) ≡ q → (y : CellName) → early_at (homes v.sites) y ≡ early_at (homes w.sites) y
+            early_stays true q y = made_early ((nat_decides b.at i).0 q) y
+            early_stays false q y = ap (λ (f : Homes). early_at f y) (told_homes (λ z. let yes : (b.at == i) ≡ true = (nat_decides b.at i).1 z in cc))
+
+            real_home : (a : CellName) (u : VarName) → e.cell ≡ Made a u → a.at ≢ 0
+            real_home a u q = let both : Made b x ≡ Made a u = sym is ∙ q in let cell : b ≡ a = cc in subst (λ (y : CellName). y.at ≢ 0) cell away
+
+            t : TellsCell e.cell (telling_row limit e.cell (own_site p limit i real w ks j n st kinds runs need on)).sent
+            t = tells_cell limit e.cell (own_site p limit i real w ks j n st kinds runs need on) real_home
+
         -- at its home
         pub made_joined : b.at ≡ i → Joined p v (ks ++ d.picks)
-        made_joined home = silent_joined silent early_stays ends_stay
+        made_joined home = silent_joined silent (made_early home) ends_stay
             (subst (λ (cs : List (CellName × VarName)). HomesMatch (homes v.sites) (records v.sites) v.mail cs) (sym made_cells)
-            (kept_made (homes w.sites) (records w.sites) w.mail c.cells b x j.answers.contents unmade (homes v.sites) (records v.sites) v.mail away moved wide (told_from silent) (told_old silent) (known_home b x home made_names.1)))
+            (kept_made (homes w.sites) (records w.sites) w.mail c.cells b x j.answers.contents unmade (homes v.sites) (records v.sites) v.mail away (moved_made home) wide (told_from silent) (told_old silent) (known_home b x home made_names.1)))
             is_early
           where
-            own : (b.at == s.records.site) ≡ true
-            own = (nat_decides b.at s.records.site).1 (home ∙ sym number)
-
             silent : d.sent ≡ []
             silent = ap (λ (ch : CellChange). (telling_row limit ch (own_site p limit i real w ks j n st kinds runs need on)).sent) is ∙ told_none
               where
                 told_none : (telling_row limit (Made b x) (own_site p limit i real w ks j n st kinds runs need on)).sent ≡ []
-                told_none = rw (site_number, own) refl
-
-            moved : Rehomed (homes w.sites) (homes v.sites) b (record { content = Some x; early = [] })
-            moved = rehomed w.sites i d.site b (record { content = Some x; early = [] }) home (homes_are ∙ ap (λ (ch : CellChange). (after_home_cell ch (with_fresh_names kinds s)).homes) is ∙ kept_here)
-              where
-                kept_here : (after_home_cell (Made b x) (with_fresh_names kinds s)).homes ≡ insert_entry equal_cell s.homes b (record { content = Some x; early = [] })
-                kept_here = rw (fresh_number, own) refl
-
-            early_stays : (y : CellName) → early_at (homes v.sites) y ≡ early_at (homes w.sites) y
-            early_stays y = go (cell_cases b y)
-              where
-                go : (b ≡ y) ⊎ (b ≢ y) → early_at (homes v.sites) y ≡ early_at (homes w.sites) y
-                go (inl same) = subst (λ (a : CellName). early_at (homes v.sites) a ≡ early_at (homes w.sites) a) same (early_own (homes w.sites) (homes v.sites) b _ moved ∙ sym none_early)
-                go (inr other) = early_other (homes w.sites) (homes v.sites) b _ moved y other
+                told_none = rw (site_number, own_home home) refl
 
             is_early : AreEarly (homes v.sites) (records v.sites)
             is_early y r h = go (cell_cases b y)
               where
                 before : Contains (early_at (homes w.sites) y) r
-                before = subst (λ (rs : List EarlyRequest). Contains rs r) (early_stays y) h
+                before = subst (λ (rs : List EarlyRequest). Contains rs r) (made_early home y) h
 
                 go : (b ≡ y) ⊎ (b ≢ y) → (y.at ≢ 0) × (content_at (homes v.sites) y ≡ None) × IsHere (records v.sites y.at) r.new
-                go (inr other) = let q = j.answers.early y r before in (q.0, content_other (homes w.sites) (homes v.sites) b _ moved y other ∙ q.1, wide y.at r.new q.2)
+                go (inr other) = let q = j.answers.early y r before in (q.0, content_other (homes w.sites) (homes v.sites) b _ (moved_made home) y other ∙ q.1, wide y.at r.new q.2)
                 go (inl same) = absurd (unlisted p w ks j b unmade r (subst (λ (a : CellName). Contains (early_at (homes w.sites) a) r) (sym same) before))
 
         -- elsewhere: the home is told
@@ -431,13 +474,6 @@ module _ (p : List Stmt) (limit i : ℕ) (real : i ≢ 0) (w : World) (ks : List
             (kept_told (homes w.sites) (records w.sites) w.mail c.cells b x j.answers.contents unmade (records v.sites) v.mail w.sent away wide from old (bundle, turned.new w.sent b.at (msg.CellMake b x bundle) (refl, refl, refl)))))
             (early_same (homes w.sites) (homes v.sites) (records w.sites) (records v.sites) homes_same wide j.answers.early)
           where
-            other : (b.at == s.records.site) ≡ false
-            other = go (b.at == s.records.site) refl
-              where
-                go : (q : Bool) → (b.at == s.records.site) ≡ q → q ≡ false
-                go true q = absurd (far ((nat_decides b.at s.records.site).0 q ∙ number))
-                go false q = refl
-
             base : Site
             base = own_site p limit i real w ks j n st kinds runs need on
 
@@ -448,10 +484,10 @@ module _ (p : List Stmt) (limit i : ℕ) (real : i ≢ 0) (w : World) (ks : List
             sent_is = ap (λ (ch : CellChange). (telling_row limit ch base).sent) is ∙ told_one
               where
                 told_one : (telling_row limit (Made b x) base).sent ≡ sent_to b.at (msg.CellMake b x bundle) ∷ []
-                told_one = rw (site_number, other) refl
+                told_one = rw (site_number, other_home far) refl
 
             homes_same : ◌≡◌ {A = Homes} (homes v.sites) (homes w.sites)
-            homes_same = field_kept (λ (t : Site). t.homes) w.sites i d.site (homes_are ∙ ap (λ (ch : CellChange). (after_home_cell ch (with_fresh_names kinds s)).homes) is ∙ rw (fresh_number, other) refl)
+            homes_same = told_homes far
 
             base_equations : base.equations ≡ s.equations
             base_equations = sym (ap (λ (t : Site). t.equations) site_is) ∙ (own_kept p limit i real w ks j n st kinds runs need on).equations

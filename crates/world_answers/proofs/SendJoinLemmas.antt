@@ -1,6 +1,7 @@
 -- A request comes to the owner of a port: the port has a new end, and the thread is answered.
 use Rattle.std.proofs.Common.{◌≡◌, ◌∙◌, sym, ap, refl, subst, ℕ, List, [], ◌∷◌, ◌++◌, ◌⊎◌, inl, inr, Bool, true, false, cond, Some, None, arith, ◌≤◌}
 use Rattle.std.specs.Prelude.{Option, Contains, ◌≢◌, unwrap_or}
+use Rattle.std.specs.List.{count_by}
 use Rattle.std.specs.Map.{lookup}
 use Rattle.indexmap.specs.IndexMap.{insert_entry}
 use Rattle.tree_node.specs.declared.names.VarName.{VarName}
@@ -40,7 +41,7 @@ use Rattle.world_model.specs.Claims.{EndOf, Asks, answer, Claim, Asked, IsClaim,
 use Rattle.world_model.specs.Keepers.{PortsMatch, HomesMatch, IsTold, homes, ports, early_at}
 use Rattle.world_model.specs.Names.{IsHere, IsHereName, IsMade, here_at}
 use Rattle.world_model.specs.Shown.{shown_world}
-use Rattle.world_model.specs.World.{World, Mail, IsOnItsWay, at_put, eqs, records, threads, counters, mail_from, after_transition, after_receipt}
+use Rattle.world_model.specs.World.{World, Mail, IsOnItsWay, at_put, put, eqs, records, threads, counters, mail_from, after_transition, after_receipt}
 use Rattle.world_model.proofs.MailLemmas.{sent_to}
 use Rattle.world_model.proofs.PutLemmas.{at_all, field_kept}
 use Rattle.world_variables.specs.Plain.{IsKept}
@@ -49,7 +50,7 @@ use Rattle.world_variables.proofs.FollowLemmas.{kept_sent}
 use Rattle.world_cells.specs.Reached.{Reached}
 use Rattle.world_cells.proofs.SendLemmas.{each_more}
 use Rattle.world_answers.specs.Joined.{Joined}
-use Rattle.world_answers.proofs.ActLemmas.{IsKeptAct, act_next, act_all, act_made, act_fresh, act_wider, act_cells, act_ports, act_quiet, act_leaves, act_counted, act_finds_port}
+use Rattle.world_answers.proofs.ActLemmas.{IsKeptAct, act_next, act_all, act_made, act_fresh, act_wider, act_cells, act_ports, act_quiet, act_leaves, act_counted, act_exchanged, act_finds_port}
 use Rattle.world_answers.proofs.AnswerLemmas.{EachOfAnswer, asking_one}
 use Rattle.world_answers.proofs.AskJoinLemmas.{early_same}
 use Rattle.world_answers.proofs.ClaimLemmas.{own_found}
@@ -57,8 +58,11 @@ use Rattle.world_answers.proofs.GrowLemmas.{made_grow, kinds_grow}
 use Rattle.world_answers.proofs.HomeLemmas.{same_homes}
 use Rattle.world_answers.proofs.KeptLemmas.{IsQuiet, old_end_of, old_content_of, left_is}
 use Rattle.world_answers.proofs.LeaveLemmas.{Leaves}
-use Rattle.world_answers.specs.AnswerCounts.{send_one, sends_made}
+use Rattle.world_answers.specs.AnswerCounts.{send_one, sends_made, asks_content, tells_content}
 use Rattle.world_answers.proofs.OwedLemmas.{Owes, Nobody, owes_answer}
+use Rattle.world_answers.specs.Balance.{of_exchange, exchanges_by}
+use Rattle.world_answers.proofs.BalanceLemmas.{Vanishes, Balances, came_of}
+use Rattle.world_answers.proofs.BalanceRowLemmas.{still_balances}
 use Rattle.world_answers.proofs.PackLemmas.{ReachedAt, whole, came}
 use Rattle.world_answers.proofs.PortsLemmas.{ended_at, port_kept, moved_here, moved_there}
 use Rattle.world_answers.proofs.SayLemmas.{answer_filled}
@@ -237,6 +241,14 @@ module _ (p : List Stmt) (limit i : ℕ) (real : i ≢ 0) (w : World) (ks : List
       paid =
           let same : sends_made p c d.picks ≡ send_one e.port = act_counted p i real less ks t r 0 o n ground.2 (variable_kinds 1) away asks.0 on (λ (x : Effect). send_one x.port) d row in
           let one : send_one e.port ≡ 1 = ap send_one sends in omega (arith, same, one)
+
+  -- it has to do with no stationary cell
+  pub send_balances : (R : ℕ → ThreadName → Type 0) → Balances p R (came_of (sent_to i (msg.PortSend q n o))) w.sites (put w.sites i d.site) c d
+  send_balances R = still_balances p R w.sites (put w.sites i d.site) c d (came_of (sent_to i (msg.PortSend q n o))) (λ b th. refl) (λ b. ap (λ (hs : ℕ → List (CellName × HomeRecord)). early_at hs b) homes_same) none
+      (subst (λ (ms : List Letter). count_by asks_content ms ≡ 0) (sym sent_is) refl) (subst (λ (ms : List Letter). count_by tells_content ms ≡ 0) (sym sent_is) refl)
+    where
+      none : (f : CellName → ThreadName → ℕ) → Vanishes f → exchanges_by f p c d.picks ≡ 0
+      none f vanishes = act_exchanged p i real less ks t r 0 o n ground.2 (variable_kinds 1) away asks.0 on f d row ∙ ap (of_exchange f n) stays_cell
 
   pub send_joined : Joined p v (ks ++ d.picks)
   send_joined = record {

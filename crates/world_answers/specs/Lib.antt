@@ -1,4 +1,5 @@
 pub mod AnswerCounts
+pub mod Balance
 pub mod FitRuns
 pub mod Joined
 pub mod Laws

@@ -9,7 +9,8 @@
 //!
 //! And by `fit_runs_are_simulated`: whatever the order of turns and deliveries, and whatever the bundles, a run in which each delivered
 //! message is fit for its site is a run of the centralised machine, whose state the sites match (`IsSimulated`); and of each mobile
-//! cell at most three messages are sent for each exchange and each site.
+//! cell at most three messages are sent for each exchange and each site. Answers are at most as many as sends and exchanges; and of each
+//! thread and each stationary cell the requests balance with the exchanges (`RequestsBalance`).
 //!
 //! It stands on `world_cells` for all rows but these. Threads that wait for an answer stay in the roster of their site; for the
 //! relation they are shown at number 0, which is no site. It has no code, and no tests.

@@ -7,6 +7,7 @@ pub mod ExchangeStepLemmas
 pub mod FrameLemmas
 pub mod MessageLemmas
 pub mod MessageTallyLemmas
+pub mod PlacedLemmas
 pub mod PutRowLemmas
 pub mod QueueLemmas
 pub mod ReplyLemmas

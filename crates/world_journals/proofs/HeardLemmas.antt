@@ -309,7 +309,7 @@ module _ (C : ThreadName → Type 0) where
     same_loses : (s t : Site) → t.homes ≡ s.homes → Loses s t
     same_loses s t e d r at = subst (λ (hs : List (CellName × HomeRecord)). Contains (home_in hs d).early r) e at
 
-    answer_homes : (n : ThreadName) (a : Answer) (s : Site) → (after_answer p n a s).homes ≡ s.homes
+    pub answer_homes : (n : ThreadName) (a : Answer) (s : Site) → (after_answer p n a s).homes ≡ s.homes
     answer_homes n a s = go (thread_state s n) refl
       where
         go : (o : Option ThreadState) → thread_state s n ≡ o → (after_answer p n a s).homes ≡ s.homes
@@ -350,11 +350,11 @@ module _ (C : ThreadName → Type 0) where
         go None q = rw q refl
         go (Some u) q = rw q refl
 
-    serves_homes : (c : CellName) (ns : List ThreadName) (v : VarName) (s : Site) → (serving p c ns v s).site.homes ≡ s.homes
+    pub serves_homes : (c : CellName) (ns : List ThreadName) (v : VarName) (s : Site) → (serving p c ns v s).site.homes ≡ s.homes
     serves_homes c [] v s = refl
     serves_homes c (n ∷ ns) v s = serves_homes c ns (content_after_exchange p n v s) (after_exchange p n v s) ∙ exchange_homes n v s
 
-    asked_homes : (x : VarName) (t : Term) (n : ThreadName) (s : Site) → (bind_request_row limit x t n s).site.homes ≡ s.homes
+    pub asked_homes : (x : VarName) (t : Term) (n : ThreadName) (s : Site) → (bind_request_row limit x t n s).site.homes ≡ s.homes
     asked_homes x t n s = go (knowledge s.records x) refl
       where
         go : (o : Option (Option Term)) → knowledge s.records x ≡ o → (bind_request_row limit x t n s).site.homes ≡ s.homes
@@ -362,7 +362,7 @@ module _ (C : ThreadName → Type 0) where
         go (Some None) q = rw q refl
         go (Some (Some r)) q = rw q refl
 
-    told_homes : (es : List Equation) (s : Site) → (with_known_equations s es).homes ≡ s.homes
+    pub told_homes : (es : List Equation) (s : Site) → (with_known_equations s es).homes ≡ s.homes
     told_homes es s = told_all_same (λ (t : Site). t.homes) (λ t x r. refl) es s
 
     -- the requests that come with a message

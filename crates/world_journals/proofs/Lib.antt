@@ -11,3 +11,5 @@ pub mod OwnLemmas
 pub mod CountLemmas
 pub mod TravelLemmas
 pub mod RequestLemmas
+pub mod AskedLemmas
+pub mod HomeLemmas

@@ -131,8 +131,8 @@ module _ (p : List Stmt) (n limit : ℕ) (is : IsProgram p) (few : 1 ≤ n) (man
       end = after_transition mid e.site rest
 
       rest_keeps : (o : List Sent) → Paid p n mid mid_picks o → Paid p n end (mid_picks ++ rest.picks) (o ++ rest.sent)
-      rest_keeps o r = quiet_paid p n limit e.site (real p n limit is few many short j e f d entry) entry.site.0 entry.site.1 mid mid_picks o rest r
-          (ths, most, (without_output (mid.sites e.site), rest, refl, subst (λ (s : Site). AreUnits p n limit ths s rest) (sym (at_here f e.site said.site)) units, refl))
+      rest_keeps o r = quiet_paid p n limit e.site (real p n limit is few many short j e f d entry) mid mid_picks o ths rest entry.site.0 entry.site.1 r
+          (most, (without_output (mid.sites e.site), rest, refl, subst (λ (s : Site). AreUnits p n limit ths s rest) (sym (at_here f e.site said.site)) units, refl))
 
       two : PartPays p n b mid_picks rest.picks rest.sent mid.mail end.mail (cell_record said.site b).held.token (cell_record rest.site b).held.token
       two = subst (λ (s : Site). PartPays p n b mid_picks rest.picks rest.sent mid.mail end.mail (cell_record s b).held.token (cell_record rest.site b).held.token) (at_here f e.site said.site)

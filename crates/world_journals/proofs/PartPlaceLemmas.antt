@@ -161,6 +161,9 @@ module _ (i : ℕ) (C : ThreadName → Type 0) (A : CellName → ThreadName → 
     last c r (inr (inl k)) = inr (inl k)
     last c r (inr (inr k)) = inr (inr (second r.thread k))
 
+    pub belongs_later : (th : ThreadName) → Belongs i C d.site e th → Belongs i C s (sequence d e) th
+    belongs_later = second
+
     pub parts_join : Part i C A Q s (sequence d e)
     parts_join = record {
       since = omega (arith, h.since, g.since);

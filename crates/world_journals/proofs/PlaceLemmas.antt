@@ -36,7 +36,9 @@ use Rattle.world_messages.proofs.RunLemmas.{Entry, every_run}
 use Rattle.world_journals.specs.Places.{home_of, IsPlacedAt, AsksFor, WasAsked, IsRequested, IsNamedBy, UnitsAreNamed, UnitsAreAlwaysNamed, ThreadsStayHome, ThreadsAlwaysStayHome}
 use Rattle.world_journals.proofs.PartPlaceLemmas.{IsHere, IsNew, Belongs}
 use Rattle.world_journals.proofs.HeardLemmas.{Comes, AllComes, IsAsked, HeardPart}
-use Rattle.world_journals.proofs.UnitLemmas.{turn_part}
+use Rattle.world_journals.proofs.UnitLemmas.{turn_part, turn_belongs}
+use Rattle.world_answers.specs.Balance.{GoesAt}
+use Rattle.tree_node.proofs.ClassLemmas.{Contains-cons_cases}
 
 abbrev Nobody : ThreadName → Type 0
 Nobody th = ⊥
@@ -57,7 +59,7 @@ each_cut P front [] whole is h = tt
 each_cut P front (x ∷ xs) whole is h = (h front xs x is, each_cut P (front ++ x ∷ []) xs whole (is ∙ sym (append_assoc front (x ∷ []) xs)) h)
 
 -- who is at a site was placed there, as was who is on the way to it; the site was asked for a cell by whom it keeps a request, or who asked was
--- placed there; a thread that was placed was made, by one of the sites
+-- placed there; a thread that was placed was made, by one of the sites; and who has a unit was placed where it has it
 pub record PlacedIn (n : ℕ) (j : List Turn) (f : Sites) : Type 0 where
   pub here : (i : ℕ) (th : ThreadName) → IsHere Nobody (f i) th → IsPlacedAt j th i
   pub early : (i : ℕ) (c : CellName) (r : EarlyRequest) → Contains (home_record (f i) c).early r → WasAsked j i c r.thread ⊎ IsPlacedAt j r.thread i
@@ -65,17 +67,18 @@ pub record PlacedIn (n : ℕ) (j : List Turn) (f : Sites) : Type 0 where
   pub made : (th : ThreadName) (i : ℕ) → IsPlacedAt j th i → th.num < (f th.site).counters.threads
   pub named : 1 ≤ n → (th : ThreadName) (i : ℕ) → IsPlacedAt j th i → IsNamedBy n th
   pub units : UnitsAreNamed n j
+  pub goes : (i : ℕ) (th : ThreadName) → GoesAt j i th → IsPlacedAt j th i
   pub home : ThreadsStayHome j
 
 module _ (p : List Stmt) (n limit : ℕ) (j : List Turn) (e : Turn) (f : Sites) (d : Transition) (entry : Entry p n limit j e f d) (h : PlacedIn n j f) where
-  own : (f e.site).records.site ≡ e.site
+  pub own : (f e.site).records.site ≡ e.site
   own = (counted_in p n limit j f entry.run).0 e.site
 
   -- who may come in this turn
-  abbrev Came : ThreadName → Type 0
+  abbrev pub Came : ThreadName → Type 0
   Came th = (m : Sent) × Contains (sent_of j) m × (m.to ≡ e.site) × (is_spawn th m ≡ true)
 
-  comes : AllComes Came p limit (delivered_message j e.delivered)
+  pub comes : AllComes Came p limit (delivered_message j e.delivered)
   comes = by e.delivered refl
     where
       brings : (to : ℕ) (m : Msg) → Contains (sent_of j) (record { to = to; msg = m }) → to ≡ e.site → Comes Came p limit m
@@ -118,7 +121,7 @@ module _ (p : List Stmt) (n limit : ℕ) (j : List Turn) (e : Turn) (f : Sites) 
   was_here th (inr (inl k)) = h.here e.site th (inr (inl k))
   was_here th (inr (inr (m, at, to, brings))) = subst (IsPlacedAt j th) to (h.sent th m at brings)
 
-  belongs : (th : ThreadName) → Belongs e.site Came (f e.site) d th → IsPlacedAt (e ∷ j) th e.site
+  pub belongs : (th : ThreadName) → Belongs e.site Came (f e.site) d th → IsPlacedAt (e ∷ j) th e.site
   belongs th (inl k) = inl (was_here th k)
   belongs th (inr (new, home)) = inr (is_born th new, sym (ap (home_of e.site th) entry.tells.sent ∙ home))
 
@@ -233,6 +236,11 @@ module _ (p : List Stmt) (n limit : ℕ) (j : List Turn) (e : Turn) (f : Sites) 
           found t (inl k) = h.named some_site th e.site (was_here th k)
           found t (inr (new, home)) = named_here th new.0
 
+  goes : (i : ℕ) (th : ThreadName) (g : GoesAt (e ∷ j) i th) → (e ≡ g.0) ⊎ Contains j g.0 → IsPlacedAt (e ∷ j) th i
+  goes i th g (inl same) = subst (IsPlacedAt (e ∷ j) th) (ap (λ (x : Turn). x.site) same ∙ g.2)
+      (belongs th (turn_belongs p n limit e.site Came (delivered_message j e.delivered) (f e.site) d own comes e.units entry.told th (subst (λ (x : Turn). Contains x.units th) (sym same) g.3)))
+  goes i th g (inr old) = inl (h.goes i th (g.0, old, g.2, g.3))
+
   placed_entry : PlacedIn n (e ∷ j) (put f e.site d.site)
   placed_entry = record {
     here = at_all f e.site d.site (λ (i : ℕ) (s : Site). (th : ThreadName) → IsHere Nobody s th → IsPlacedAt (e ∷ j) th i) stays (λ i other th k. inl (h.here i th k));
@@ -241,6 +249,7 @@ module _ (p : List Stmt) (n limit : ℕ) (j : List Turn) (e : Turn) (f : Sites) 
     made = made_after;
     named = named_after;
     units = (each_cut (IsNamedBy n) [] e.units e.units refl (λ front behind th is. unit_named front behind th is), h.units);
+    goes = λ i th g. goes i th g (Contains-cons_cases e g.0 j g.1);
     home = record {
       steps = (h.home.steps, each_in (λ (k : Pick). IsRequested j e.site (delivered_message j e.delivered) k ⊎ IsPlacedAt (e ∷ j) k.thread e.site) e.picks (λ k c. step_at k (part.picks k (subst (λ (ks : List Pick). Contains ks k) entry.tells.picks c))));
       once = once;
@@ -266,7 +275,7 @@ first_here p n i th (inr (inr k)) = absurd k
 first_made : (p : List Stmt) (n : ℕ) (th : ThreadName) (i : ℕ) → IsPlacedAt [] th i → th.num < (initial_site p n th.site).counters.threads
 first_made p n th i (e, q) = subst (λ (z : ThreadName). z.num < (initial_site p n z.site).counters.threads) (sym e) (omega arith)
 
-placed_in : (p : List Stmt) (n limit : ℕ) (j : List Turn) (f : Sites) → WorldRun p n limit j f → PlacedIn n j f
+pub placed_in : (p : List Stmt) (n limit : ℕ) (j : List Turn) (f : Sites) → WorldRun p n limit j f → PlacedIn n j f
 placed_in p n limit = every_run p n limit (PlacedIn n) (record {
   here = first_here p n;
   early = λ i c r k. absurd (nothing r k);
@@ -274,6 +283,7 @@ placed_in p n limit = every_run p n limit (PlacedIn n) (record {
   made = first_made p n;
   named = λ some th i a. subst (IsNamedBy n) (sym a.0) (omega arith, some);
   units = tt;
+  goes = λ i th g. absurd (nothing g.0 g.1);
   home = record { steps = tt; once = λ th i k a b. a.1 ∙ sym b.1 };
 }) (placed_entry p n limit)
 

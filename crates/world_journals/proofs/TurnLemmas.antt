@@ -13,7 +13,7 @@ use Rattle.site_message.proofs.JournalLemmas.{travelling_tells}
 use Rattle.site_model.specs.Fit.{IsFit, CanTake}
 use Rattle.site_model.specs.Site.{Site}
 use Rattle.site_model.specs.Transition.{Transition, sequence}
-use Rattle.site_model.specs.Turn.{SiteTurn}
+use Rattle.site_model.specs.Turn.{SiteTurn, SiteTurnOf}
 use Rattle.site_model.specs.Run.{delivered_message, message_of}
 use Rattle.world_model.specs.Schedule.{schedule, lines_in}
 use Rattle.world_model.specs.World.{World, Sites, IsOnItsWay, put, after_transition, after_receipt, mail_from, world_of}
@@ -96,11 +96,11 @@ module _ (p : List Stmt) (n limit : ℕ) (is : IsProgram p) (few : 1 ≤ n) (man
       finish q = subst (λ (v : World). Paid p n v (schedule j ++ e.picks) (out ++ e.sent)) whole (subst (λ (ks : List Pick). Paid p n (after_receipt e.delivered (after_transition before e.site d)) (schedule j ++ ks) (out ++ e.sent)) (sym entry.tells.picks) (subst (λ (ms : List Sent). Paid p n (after_receipt e.delivered (after_transition before e.site d)) (schedule j ++ d.picks) (out ++ ms)) (sym entry.tells.sent) q))
 
       turn_of : (o : Option ℕ) → e.delivered ≡ o → SiteTurn p n limit (f e.site) (delivered_message j o) d → Paid p n (after_receipt o (after_transition before e.site d)) (schedule j ++ d.picks) (out ++ d.sent)
-      turn_of None q turn = quiet_paid p n limit e.site real entry.site.0 entry.site.1 before (schedule j) out d r turn
-      turn_of (Some k) q turn = go (takes k q)
+      turn_of None q (ths, few, turn) = quiet_paid p n limit e.site real before (schedule j) out ths d entry.site.0 entry.site.1 r (few, turn)
+      turn_of (Some k) q (ths, few, turn) = go (takes k q)
         where
           go : (m : Msg) × Taken p n j e (f e.site) k m → Paid p n (after_receipt (Some k) (after_transition before e.site d)) (schedule j ++ d.picks) (out ++ d.sent)
-          go (m, t) = last (delivering_paid p n limit e.site real entry.site.0 entry.site.1 before (schedule j) out k m d r t.elsewhere t.at t.fit (subst (λ (o : Option Msg). SiteTurn p n limit (f e.site) o d) t.is turn))
+          go (m, t) = last (delivering_paid p n limit e.site real before (schedule j) out ths d entry.site.0 entry.site.1 k m r t.elsewhere t.at t.fit (subst (λ (o : Option Msg). SiteTurnOf p n limit ths (f e.site) o d) t.is (few, turn)))
             where
               last : (heard : Transition) × (rest : Transition) × (d ≡ sequence heard rest) × Paid p n (after_transition (after_receipt (Some k) (after_transition before e.site heard)) e.site rest) ((schedule j ++ heard.picks) ++ rest.picks) ((out ++ heard.sent) ++ rest.sent) → Paid p n (after_receipt (Some k) (after_transition before e.site d)) (schedule j ++ d.picks) (out ++ d.sent)
               last (heard, rest, is, got) =

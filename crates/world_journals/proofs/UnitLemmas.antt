@@ -35,12 +35,12 @@ use Rattle.token_chain.specs.declared.token.Token.TheVariants.{Away, Asked, Here
 use Rattle.site_model.specs.Requests.{with_asking, send_request_row, home_request_row, early_request_row}
 use Rattle.site_model.specs.Site.{Site, Counters, CellRecord, HomeRecord, EarlyRequest, Threads, ThreadState, thread_state, cell_record, cell_record_in, home_record, with_home_record, runnable_threads}
 use Rattle.site_model.specs.Bundle.{with_own_bundle}
-use Rattle.site_model.specs.Transition.{Transition, without_output, with_messages}
+use Rattle.site_model.specs.Transition.{Transition, sequence, without_output, with_messages}
 use Rattle.site_model.specs.Variables.{own_binds}
 use Rattle.site_model.specs.Cells.{exchange_stack, with_own_request, with_exchange_waiting, with_last_asker, request_row}
 use Rattle.site_model.specs.Messages.{with_thread}
 use Rattle.site_model.specs.Unit.{next_names, counter_after, counters_after, fresh_names, with_fresh_names, placement, birth_row, content_here, after_cell, runnable_state, after_effect, step_row, step_pick, effect_here, thread_step, kept_step, kept_step_row, kept_stack, with_stack, after_home_cell, after_port, bind_attempt, IsUnitFor, with_mode}
-use Rattle.site_model.specs.Turn.{AreUnits, SiteTurn}
+use Rattle.site_model.specs.Turn.{AreUnits, SiteTurn, SiteTurnOf}
 use Rattle.world_model.proofs.CellLemmas.{OnlyCells, request_only}
 use Rattle.world_model.specs.Claims.{home_in}
 use Rattle.world_model.proofs.MailLemmas.{nothing}
@@ -54,7 +54,7 @@ use Rattle.world_messages.proofs.PickLemmas.{asks_still, quiet_still, binds_each
 use Rattle.world_messages.proofs.TermLemmas.{value_cases}
 use Rattle.world_messages.proofs.WayLemmas.{Way, Steps, Opens, Sends, Makes, Exchanges, AsksToken, AsksPort, AsksHome, WaitsEarly, WaitsPort, way_of}
 use Rattle.world_journals.specs.Places.{home_of}
-use Rattle.world_journals.proofs.PartPlaceLemmas.{home_later, none_spawned, IsHere, Belongs, Keepers, same_keepers, Part, still_part, parts_join}
+use Rattle.world_journals.proofs.PartPlaceLemmas.{home_later, none_spawned, IsHere, Belongs, Keepers, same_keepers, Part, still_part, parts_join, belongs_later}
 use Rattle.world_journals.proofs.HeardLemmas.{listed_cases, born_name, Keeps as Stay, moves, goes, replies, wakes, Loses, content_loses, made_loses, early_comes, IsAsked, AllBrought, AllComes, HeardPart, heard_part}
 
 -- ---- names
@@ -98,7 +98,7 @@ module _ (p : List Stmt) (n limit i : ℕ) (C : ThreadName → Type 0) (A : Cell
   own_places c Asked u = refl
   own_places c (Here v) u = refl
 
-  own_homes : (c : CellName) (t : Token) (u : Site) → (with_own_request c t u).homes ≡ u.homes
+  pub own_homes : (c : CellName) (t : Token) (u : Site) → (with_own_request c t u).homes ≡ u.homes
   own_homes c Away u = go (c.site == u.records.site)
     where
       go : (b : Bool) → (cond b (with_last_asker c u.records.site u) u).homes ≡ u.homes
@@ -205,16 +205,16 @@ module _ (p : List Stmt) (n limit i : ℕ) (C : ThreadName → Type 0) (A : Cell
   cell_keeps (Made c v) s th h = replies C s c _ (λ o k. absurd (nothing o k)) th h
   cell_keeps (Exchanged c new told) s th h = replies C s c _ (λ o k. inr (inl (c, k))) th h
 
-  binds_homes : (es : List Equation) (s : Site) → (own_binds limit es s).site.homes ≡ s.homes
+  pub binds_homes : (es : List Equation) (s : Site) → (own_binds limit es s).site.homes ≡ s.homes
   binds_homes [] s = refl
   binds_homes (e ∷ es) s = binds_homes es s
 
-  cell_homes : (c : CellChange) (s : Site) → (after_cell c s).homes ≡ s.homes
+  pub cell_homes : (c : CellChange) (s : Site) → (after_cell c s).homes ≡ s.homes
   cell_homes Stays s = refl
   cell_homes (Made c v) s = refl
   cell_homes (Exchanged c new told) s = refl
 
-  birth_homes : (b : Option Birth) (s : Site) → (birth_row p n limit b s).site.homes ≡ s.homes
+  pub birth_homes : (b : Option Birth) (s : Site) → (birth_row p n limit b s).site.homes ≡ s.homes
   birth_homes None s = refl
   birth_homes (Some b) s = go (placement n s.records.site b.at == s.records.site)
     where
@@ -329,7 +329,7 @@ module _ (p : List Stmt) (n limit i : ℕ) (C : ThreadName → Type 0) (A : Cell
       go true h = made_loses C p limit c v s d r h
       go false h = h
 
-  port_loses : (x : PortChange) (s : Site) → (after_port x s).homes ≡ s.homes
+  pub port_loses : (x : PortChange) (s : Site) → (after_port x s).homes ≡ s.homes
   port_loses Keeps s = refl
   port_loses (Opened q end) s = refl
   port_loses (change.Sent q value new) s = refl
@@ -383,15 +383,15 @@ module _ (p : List Stmt) (n limit i : ℕ) (C : ThreadName → Type 0) (A : Cell
   way_part th st s whole kept e d at k g (Steps finds same) = subst (Part i C A Q s) (sym same) k
   way_part th st s whole kept e d at k g (Opens q end is same) = subst (Part i C A Q s) (sym same) g
   way_part th st s whole kept e d at k g (Sends q value new end is has same) = subst (Part i C A Q s) (sym same) g
-  way_part th st s whole kept e d at k g (Makes c v keeps is same) = subst (Part i C A Q s) (sym same) g
-  way_part th st s whole kept e d at k g (Exchanges c new told v keeps is has same) = subst (Part i C A Q s) (sym same) g
+  way_part th st s whole kept e d at k g (Makes c v alone is same) = subst (Part i C A Q s) (sym same) g
+  way_part th st s whole kept e d at k g (Exchanges c new told v alone is has same) = subst (Part i C A Q s) (sym same) g
   way_part th st s whole kept e d at k g (AsksToken c new none same) = subst (Part i C A Q s) (sym same) (request_part c new th st s at)
   way_part th st s whole kept e d at k g (AsksPort q other same) = subst (Part i C A Q s) (sym same) (still_part i C A Q s (send_request_row limit q th st s) (record { threads = refl; sent = refl }) refl (asking_keeps th st (Port q) s at) (λ l h. absurd (nothing l h)) (λ c r x. inl x))
   way_part th st s whole kept e d at k g (AsksHome c new told is other same) = subst (Part i C A Q s) (sym same) (still_part i C A Q s (home_request_row limit c new th st s) (record { threads = refl; sent = refl }) refl (asking_keeps th st (Cell c) s at) (λ l h. absurd (nothing l h)) (λ b r x. inl x))
   way_part th st s whole kept e d at k g (WaitsEarly c new told is same) = subst (Part i C A Q s) (sym same) (early_part c new th st s at)
   way_part th st s whole kept e d at k g (WaitsPort q same) = subst (Part i C A Q s) (sym same) (still_part i C A Q s (without_output (with_asking th st (Port q) s)) (record { threads = refl; sent = refl }) refl (asking_keeps th st (Port q) s at) (λ l h. absurd (nothing l h)) (λ c r x. inl x))
 
-  need_part : (s : Site) (th : ThreadName) (st : Stack) (need : Need) (d : Transition) → s.records.site ≡ i → thread_state s th ≡ Some (st, Runs) → stack_need p s.equations st ≡ need → IsUnitFor p n limit s th st need d → Part i C A Q s d
+  pub need_part : (s : Site) (th : ThreadName) (st : Stack) (need : Need) (d : Transition) → s.records.site ≡ i → thread_state s th ≡ Some (st, Runs) → stack_need p s.equations st ≡ need → IsUnitFor p n limit s th st need d → Part i C A Q s d
   need_part s th st (Waits x) d own at e (z, names, g) = subst (Part i C A Q s) (sym g) (needs_part th st z s at)
   need_part s th st (WaitsAny q) d own at e (xs, open_on, g) = subst (Part i C A Q s) (sym g) (waits_any_part th st xs s at)
   need_part s th st (Binds a b) d own at e (u, t, root, g) = subst (Part i C A Q s) (sym g) (bind_part s th st a b u t (u.site == s.records.site) at e)
@@ -402,14 +402,38 @@ module _ (p : List Stmt) (n limit i : ℕ) (C : ThreadName → Type 0) (A : Cell
       (kept_part (step_pick th (fresh_names s kinds) None) kinds (effect_here p s (fresh_names s kinds) None st) s st (ap (λ (k : ℕ). next_names k s.counters kinds) own) at)
       (way_of limit th st s (thread_step p n limit th st kinds (fresh_names s kinds) None s) (kept_step p limit th st kinds (fresh_names s kinds) s) (effect_here p s (fresh_names s kinds) None st) d g)
 
-  units_part : (ths : List ThreadName) (s : Site) (d : Transition) → s.records.site ≡ i → AreUnits p n limit ths s d → Part i C A Q s d
+  pub units_part : (ths : List ThreadName) (s : Site) (d : Transition) → s.records.site ≡ i → AreUnits p n limit ths s d → Part i C A Q s d
   units_part [] s d own e = subst (Part i C A Q s) (sym e) (still_part i C A Q s (without_output s) (record { threads = refl; sent = refl }) refl (λ th h. h) (λ k h. absurd (nothing k h)) (λ c r q. inl q))
   units_part (th ∷ ths) s d own (one, rest, unit, units, e) =
       let first : Part i C A Q s one = need_part s th unit.0 (stack_need p s.equations unit.0) one own unit.1 refl unit.2 in
       let number : one.site.records.site ≡ i = (unit_tally p n limit th s one unit).counts.site ∙ own in
       subst (Part i C A Q s) (sym e) (parts_join i C A Q s one rest first (units_part ths one.site rest number units))
 
+  -- who has a unit was here, or is new and stays
+  pub units_belong : (ths : List ThreadName) (s : Site) (d : Transition) → s.records.site ≡ i → AreUnits p n limit ths s d → (th : ThreadName) → Contains ths th → Belongs i C s d th
+  units_belong [] s d own e th h = absurd (nothing th h)
+  units_belong (x ∷ ths) s d own (one, rest, unit, units, e) th h =
+      let later : one.site.records.site ≡ i = (unit_tally p n limit x s one unit).counts.site ∙ own in
+      subst (λ (t : Transition). Belongs i C s t th) (sym e) (go (Contains-cons_cases x th ths h) (λ k. units_belong ths one.site rest later units th k))
+    where
+      first : Part i C A Q s one
+      first = need_part s x unit.0 (stack_need p s.equations unit.0) one own unit.1 refl unit.2
+
+      number : one.site.records.site ≡ i
+      number = (unit_tally p n limit x s one unit).counts.site ∙ own
+
+      go : (x ≡ th) ⊎ Contains ths th → (Contains ths th → Belongs i C one.site rest th) → Belongs i C s (sequence one rest) th
+      go (inl same) ih = inl (inl (subst (λ (z : ThreadName). (v : ThreadState) × (thread_state s z ≡ Some v)) same ((unit.0, Runs), unit.1)))
+      go (inr k) ih = belongs_later i C A Q s one rest first (units_part ths one.site rest number units) th (ih k)
+
 -- ---- a turn
+
+pub turn_belongs : (p : List Stmt) (n limit i : ℕ) (C : ThreadName → Type 0) (m : Option Msg) (s : Site) (d : Transition) → s.records.site ≡ i → AllComes C p limit m → (ths : List ThreadName) → SiteTurnOf p n limit ths s m d → (th : ThreadName) → Contains ths th → Belongs i C s d th
+turn_belongs p n limit i C m s d own comes ths (few, (heard, rest, first, units, e)) th h =
+    let number : heard.site.records.site ≡ i = heard_site p n limit m s heard first ∙ own in
+    subst (λ (t : Transition). Belongs i C s t th) (sym e)
+    (belongs_later i C (AllBrought C p limit m) (IsAsked C p limit m s.homes) s heard rest (heard_part C p limit i n m s heard comes first) (units_part p n limit i C (AllBrought C p limit m) (IsAsked C p limit m s.homes) ths heard.site rest number units) th
+    (units_belong p n limit i C (AllBrought C p limit m) (IsAsked C p limit m s.homes) ths heard.site rest number units th h))
 
 pub turn_part : (p : List Stmt) (n limit i : ℕ) (C : ThreadName → Type 0) (m : Option Msg) (s : Site) (d : Transition) → s.records.site ≡ i → AllComes C p limit m → SiteTurn p n limit s m d → HeardPart C p limit i m s d
 turn_part p n limit i C m s d own comes (ths, few, (heard, rest, first, units, e)) =

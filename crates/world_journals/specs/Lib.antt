@@ -1,2 +1,4 @@
 pub mod Places
 pub mod Requests
+pub mod Asked
+pub mod Homes

@@ -1,5 +1,7 @@
 //! What the journal of every run tells of each site, as laws over all runs.
 
+ghost use Rattle.world_journals.specs.Asked.{HomesServeRequests};
+ghost use Rattle.world_journals.specs.Homes.{HomesAreAsked};
 ghost use Rattle.world_journals.specs.Places.{ThreadsAlwaysStayHome, UnitsAreAlwaysNamed};
 ghost use Rattle.world_journals.specs.Requests.{ExchangesAreSplit, RequestsAreServed, TurnsArePaid};
 
@@ -22,4 +24,18 @@ pub fn requests_are_served()
     ensures turns { TurnsArePaid }
     ensures split { ExchangesAreSplit }
     ensures served { RequestsAreServed }
+{}
+
+/// The home of a cell whose state stays serves no exchange of a thread that was placed elsewhere without a request of its own: the steps
+/// of that thread which it makes as requests for the cell come, and as it hears of the cell, are no more than its requests for it that
+/// came there. It does nothing: its clause is the law.
+pub fn homes_serve_requests()
+    ensures served { HomesServeRequests }
+{}
+
+/// Each exchange that the home of a cell makes for a thread that was placed elsewhere has one request, and is answered once: of each
+/// such thread and cell the messages that ask are as many as the exchanges and the requests that are outstanding, and the answers to a thread
+/// are as many as its exchanges of cells that stay at other sites. It does nothing: its clause is the law.
+pub fn homes_are_asked()
+    ensures asked { HomesAreAsked }
 {}

@@ -26,7 +26,8 @@ use Rattle.world_messages.proofs.AskRun.{asked_in}
 use Rattle.world_messages.proofs.FewLemmas.{few}
 use Rattle.world_messages.proofs.FewMessages.{scheduled_in}
 use Rattle.world_answers.specs.AnswerCounts.{AnswersAreFew, asks_end, tells_end, tells_home, asks_content, tells_content}
-use Rattle.world_answers.proofs.JournalLemmas.{few_answers}
+use Rattle.world_answers.proofs.JournalLemmas.{few_answers, requests_balance}
+use Rattle.world_simulation.specs.Answers.{RequestsAlwaysBalance}
 use Rattle.world_cells.specs.CellCounts.{cell_weight, cell_weights}
 use Rattle.world_cells.proofs.CellTallyLemmas.{few_messages}
 use Rattle.world_answers.proofs.LeaveLemmas.{Paid}
@@ -206,3 +207,7 @@ all_messages_are_few p n limit j w is low high short run = (r.joined.reached.cen
 
     most : sum_over (λ c. cell_weights c 1 1 1 (sent_of j)) (mobile_cells r.joined.reached.centre.cells) ≤ sum_over (λ c. 3 * (length (exchanges p (schedule j) c) + n)) (mobile_cells r.joined.reached.centre.cells)
     most = sum_less (λ c. cell_weights c 1 1 1 (sent_of j)) (λ c. 3 * (length (exchanges p (schedule j) c) + n)) (λ c. few_messages n w (world_of j w).mail (mobile_cells r.joined.reached.centre.cells) (sent_of j) (λ b. length (exchanges p (schedule j) b)) low r.tally c) (mobile_cells r.joined.reached.centre.cells)
+
+-- the requests of each thread, beside the exchanges that serve them
+pub requests_always_balance : RequestsAlwaysBalance
+requests_always_balance p n limit j w is low high short run = requests_balance p n limit j w low run.wired run.sites (joined_in p n limit is low high short j w run).fit

@@ -24,6 +24,7 @@ use Rattle.site_model.specs.Run.{WorldRun}
 use Rattle.world_model.specs.Claims.{EndOf, ContentOf, Claim, Asked, Answered, Listed, IsClaim, claimant, home_in}
 use Rattle.world_model.specs.Keepers.{IsTold, ports, homes, end_at, content_at, early_at}
 use Rattle.world_model.specs.Schedule.{schedule}
+use Rattle.world_answers.specs.Balance.{RequestsBalance}
 use Rattle.world_simulation.specs.Messages.{cell_of}
 
 -- ---- requests and answers
@@ -78,3 +79,9 @@ abbrev pub AnswersAlwaysHold : Type 0
 AnswersAlwaysHold =
     (p : List Stmt) (n limit : ℕ) (j : List Turn) (w : ℕ → Site) → IsProgram p → 1 ≤ n → n ≤ MOST_SITES → limit ≤ 256 → WorldRun p n limit j w →
     (s : State) × Run p (schedule j) s × PortsHold p j w s × HomesHold j w s
+
+-- and what each thread asks of the homes of stationary cells balances with what they exchange for it
+abbrev pub RequestsAlwaysBalance : Type 0
+RequestsAlwaysBalance =
+    (p : List Stmt) (n limit : ℕ) (j : List Turn) (w : ℕ → Site) → IsProgram p → 1 ≤ n → n ≤ MOST_SITES → limit ≤ 256 → WorldRun p n limit j w →
+    RequestsBalance p j w

@@ -1,6 +1,6 @@
 //! The simulation, as laws over all runs.
 
-ghost use Rattle.world_simulation.specs.Answers.{AnswersAlwaysHold};
+ghost use Rattle.world_simulation.specs.Answers.{AnswersAlwaysHold, RequestsAlwaysBalance};
 ghost use Rattle.world_simulation.specs.Distributed.{RunsTakeRows};
 ghost use Rattle.world_simulation.specs.Messages.{MessagesAreFew, RequestsAreSingle, CellRequestsArePaid, AnswerMessagesAreFew, AllMessagesAreFew};
 ghost use Rattle.world_simulation.specs.Protocols.{ProtocolsAlwaysHold};
@@ -25,11 +25,13 @@ pub fn runs_take_rows()
 }
 
 /// Between the entries of every run the protocols' invariants hold of the sites and of the messages that travel: those of variables
-/// and of cells whose state moves, and those of ports and of cells whose state stays, with the threads that wait for answers. And
+/// and of cells whose state moves, and those of ports and of cells whose state stays, with the threads that wait for answers. What a
+/// thread asked the homes of such cells for balances with what they exchanged for it, and with their answers. And
 /// what a site knows stays known, whatever its next turn does.
 pub fn protocols_hold()
     ensures holds { ProtocolsAlwaysHold }
     ensures answers { AnswersAlwaysHold }
+    ensures asked { RequestsAlwaysBalance }
     ensures stays { EquationsStay }
 {}
 

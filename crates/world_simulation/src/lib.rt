@@ -7,7 +7,8 @@
 //! messages match it, its lines are the journal's, each variable has at most one equation, the exchanges of each cell are one
 //! chain; where the run is quiet the machine rests, and its ended and waiting threads are those that the sites told last
 //! (`IsSimulated`); and no delivered message was unfit. By `protocols_hold`: what the two protocols keep between the entries of
-//! every run (`ProtocolsHold`), among it that each message that travels is fit for its site; and what a site knows stays known. By
+//! every run (`ProtocolsHold`), among it that each message that travels is fit for its site; what is kept of ports, of stationary cells and
+//! of who waits for answers (`PortsHold`, `HomesHold`, `RequestsBalance`); and what a site knows stays known. By
 //! `messages_are_few`: how many messages a run sends at most. By `runs_take_rows`: for every program and 1 to 64 sites the runs
 //! whose messages take their rows without a test (`DistributedRun`, by which the headline says what a run over sites is) are the
 //! runs in which an unfit message changes nothing (`WorldRun` of `site_model`), since none comes. All four laws are of bundles of
