@@ -1,4 +1,4 @@
-//! Programs with ports and stationary cells, which are the same on any number of sites, and two saved runs.
+//! Programs with ports and stationary cells, which are the same on any number of sites, and saved runs of such.
 
 use crate::site_programs::SiteProgram;
 use crate::site_texts::SiteText;
@@ -369,5 +369,62 @@ turn 2 11 1.1 1.1
 end quiescent ended=2 waiting=0
 ",
         "checked entries=13 picks=38\n",
+    ),
+];
+
+// Saved runs in which a thread goes on though its answer has not come, and what their check prints: one that asked another site for a
+// cell's content, one that waits until its own site hears of a cell, and one that sent to a port of another site.
+pub static HURRIED: [(&str, &str); 3] = [
+    (
+        "ozrun 1 3 1000000 1000000 108
+local C X in X = 7 thread at 2 local Y Z in Y = 5 {Exchange C Z Y} {Browse Z} end end {NewCellAt X C 3} end
+
+turn 1 - 1.0 1.0 1.0 1.0 1.0 1.0 1.0 1.0 1.0 1.0 1.0 1.0 1.0 1.0 1.0 1.0 1.0
+turn 2 0 1.1 1.1 1.1 1.1 1.1 1.1 1.1
+turn 1 2
+turn 2 3 1.1 1.1
+turn 3 4
+turn 3 1
+turn 2 5 1.1 1.1 1.1 1.1
+line 7
+end quiescent ended=2 waiting=0
+",
+        "wrong entry=3\n",
+    ),
+    (
+        "ozrun 1 3 1000000 1000000 175
+local C X in X = 7 thread at 2 local Y Z in Y = 5 {Exchange C Z Y} {Browse Z} end end thread at 3 local Y Z in Y = 6 {Exchange C Z Y} {Browse Z} end end {NewCellAt X C 3} end
+
+turn 1 - 1.0 1.0 1.0 1.0 1.0 1.0 1.0 1.0 1.0 1.0 1.0 1.0 1.0 1.0 1.0 1.0 1.0 1.0
+turn 2 0 1.1 1.1 1.1 1.1 1.1 1.1 1.1
+turn 3 1 1.2 1.2 1.2 1.2 1.2 1.2 1.2
+turn 1 3
+turn 1 4
+turn 2 5 1.1
+turn 3 7
+turn 3 6 1.2 1.2
+turn 3 2 1.2 1.2 1.2 1.2
+line 5
+turn 2 8 1.1 1.1 1.1 1.1
+line 7
+end quiescent ended=3 waiting=0
+",
+        "wrong entry=7\n",
+    ),
+    (
+        "ozrun 1 2 1000000 1000000 58
+local S P in {NewPort S P} thread at 2 {Send P a} end end
+
+turn 1 - 1.0 1.0 1.0 1.0 1.0 1.0 1.0
+turn 2 0 1.1 1.1 1.1 1.1 1.1 1.1 1.1
+turn 1 1
+turn 2 2 1.1 1.1
+turn 1 3
+turn 1 4
+turn 1 5
+turn 2 6 1.1 1.1
+end quiescent ended=2 waiting=0
+",
+        "wrong entry=3\n",
     ),
 ];

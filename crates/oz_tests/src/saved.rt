@@ -2,7 +2,7 @@
 
 use crate::examples::EXAMPLES;
 use crate::more_examples::MORE_EXAMPLES;
-use crate::port_programs::REQUESTED;
+use crate::port_programs::{HURRIED, REQUESTED};
 use crate::rows::COUNTER;
 use crate::texts::{give_up, report_of};
 use oz_base::{MemSink, MemSource};
@@ -397,6 +397,18 @@ fn runs_with_requests_are_right(rt: HostRuntime) -> Result<(), Fail> {
         let found = told(&rt, alloc, &["check"], row.0.as_bytes(), &[])?;
         assert_eq!(rt; found.0.as_slice(), row.1.as_bytes(), "{}", row.0);
         assert_eq!(rt; found.1, 0, "{}", row.0);
+    }
+    Ok(())
+}
+
+// A thread whose request is under way takes no unit before the answer has come.
+#[test]
+fn a_thread_that_waits_for_an_answer_rests(rt: HostRuntime) -> Result<(), Fail> {
+    let alloc = rt.alloc();
+    for row in HURRIED.as_slice() {
+        let found = told(&rt, alloc, &["check"], row.0.as_bytes(), &[])?;
+        assert_eq!(rt; found.0.as_slice(), row.1.as_bytes(), "{}", row.0);
+        assert_eq!(rt; found.1, 9, "{}", row.0);
     }
     Ok(())
 }
