@@ -154,6 +154,22 @@ end
 """
 TOLD_LINES = ["true", "false", "1", "1"]
 
+# sends and exchanges that wait for an answer of another site, and such as are served where they are made
+ANSWERS = """local S P C A B in
+  thread at 2 {NewPort S P} end
+  {NewCellAt 0 C 3}
+  {Wait P}
+  {Send P a}
+  local O in {Exchange C O 1} {Browse O} end
+  thread at 3 local O in {Exchange C O 2} {Wait O} A = O end end
+  {Browse A}
+  thread at 2 {Send P b} B = done end
+  {Wait B}
+  case S of X|T then {Browse X} case T of Y|U then {Browse Y} else skip end else skip end
+end
+"""
+ANSWERS_LINES = ["0", "1", "a", "b"]
+
 # Each form of sugar, and a text that stands for a program which is too deep.
 SUGAR = """local F G X in
   fun {F N} if N =< 1 then 1 else N * {F N - 1} end end
@@ -171,6 +187,7 @@ CASES = {
     "gen": Case(["gen", "2"], 4, "", [["120", "20"]], "quiescent ended=7 waiting=0"),
     "whole": Case([], 4, WHOLE, [WHOLE_LINES], "quiescent ended=3 waiting=0"),
     "told": Case([], 3, TOLD, [TOLD_LINES], "quiescent ended=5 waiting=0"),
+    "answers": Case([], 3, ANSWERS, [ANSWERS_LINES], "quiescent ended=4 waiting=0"),
     "refused": Case([], 4, UNDECLARED, [[]], "refused 3:11 undeclared", 3),
     "sugar": Case([], 4, SUGAR, [SUGAR_LINES], "quiescent ended=1 waiting=0"),
     "deep": Case([], 4, DEEP, [[]], "refused 1:214 nested too deep", 3),
