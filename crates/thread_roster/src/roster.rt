@@ -19,7 +19,7 @@ ghost use Rattle.thread_roster.specs.Order.{without_name, rotated, HaveComeBehin
 
 use crate::mode::{Awaited, Event, Mode};
 use crate::queue::Queue;
-use crate::slot::{Occupant, Slot, clear, set_mode, value_in};
+use crate::slot::{Occupant, Slot, clear, make_room, set_mode, value_in};
 use crate::slots_by_name::{
     SlotsByName, count_running, count_waiting, find, forget, leave, next_runnable, slot_of,
 };
@@ -232,7 +232,7 @@ impl<V: Drop> Roster<V> {
         ensures err { OnErr result (self.new ≡ self.old) }
     {
         let slot = self.slots.len();
-        self.slots.reserve(1)?;
+        make_room(&mut self.slots)?;
         self.by_name.reserve(1)?;
         self.queue.push(slot)?;
         let mode = Mode::Runs;

@@ -1,7 +1,7 @@
 //! Threads in slots.
 
-ghost use Rattle.std.specs.Prelude.{◌≡◌, ◌≢◌, ◌+◌, ◌<◌, ◌≤◌, ◌++◌, ◌↔◌, Some, None, IsTrue, IsSome, IfSome, IfNone, slice_get, slice_set, length, if◌then◌else◌};
-ghost use Rattle.std.specs.Vec.{vec_len};
+ghost use Rattle.std.specs.Prelude.{◌≡◌, ◌≢◌, ◌+◌, ◌<◌, ◌≤◌, ◌++◌, ◌↔◌, Some, None, IsTrue, IsSome, IfSome, IfNone, OnOk, slice_get, slice_set, length, if◌then◌else◌};
+ghost use Rattle.std.specs.Vec.{vec_len, vec_capacity};
 ghost use Rattle.std.specs.VecDeque.{deque_len, deque_capacity};
 ghost use Rattle.std.specs.Borrow.{sem, Lends};
 ghost use Rattle.thread_roster.specs.declared.mode.Mode.TheVariants as stands;
@@ -12,6 +12,7 @@ ghost use Rattle.thread_roster.specs.contracts.slot.Occupant.{the_row as held_ro
 ghost use Rattle.thread_roster.specs.Slots.{with_value_in, value_there};
 
 use crate::mode::{Event, Mode};
+use std::alloc::AllocError;
 use std::collections::VecDeque;
 use tree_node::ThreadName;
 
@@ -25,6 +26,19 @@ pub struct Occupant<V> {
 
 /// A slot of a thread, which is empty once the thread has ended.
 pub type Slot<V> = Option<Occupant<V>>;
+
+/// Makes room for one slot more. Where there is none the table grows by a quarter, and not to twice its size, so that there are
+/// few spare slots for each thread. Answers `AllocError` where memory is wanting.
+pub fn make_room<V>(slots: &mut Vec<Slot<V>>) -> Result<(), AllocError>
+    ensures items { slots.new.items ≡ slots.old.items }
+    ensures len { vec_len slots.new ≡ vec_len slots.old }
+    ensures room { OnOk result (vec_len slots.new < vec_capacity slots.new) }
+{
+    if slots.len() < slots.capacity() {
+        return Ok(());
+    }
+    slots.reserve_exact(slots.len() / 4 + 4)
+}
 
 /// Whether the thread of this name is in a slot.
 pub fn is_of<V>(slot: &Slot<V>, name: ThreadName) -> bool

@@ -19,43 +19,43 @@ overflow_add-self g c =
     omega (arith, most, all, ok, small)
 
 pub invariant_of-self : goal.invariant_of-self
-invariant_of-self g c = rw c.reserve.ensures.items c.self.invariant
+invariant_of-self g c = rw c.make_room.ensures.items c.self.invariant
 
-pub invariant_of-self-in_err-reserve-2 : goal.invariant_of-self-in_err-reserve-2
-invariant_of-self-in_err-reserve-2 g c = rw (c.reserve.ensures.items, c.reserve-2.ensures.entries) c.self.invariant
+pub invariant_of-self-in_err-reserve : goal.invariant_of-self-in_err-reserve
+invariant_of-self-in_err-reserve g c = rw (c.make_room.ensures.items, c.reserve.ensures.entries) c.self.invariant
 
 pub invariant_of-self-in_err-push : goal.invariant_of-self-in_err-push
-invariant_of-self-in_err-push g c = rw (c.reserve.ensures.items, c.reserve-2.ensures.entries, c.in_err-push.ensures.err) c.self.invariant
+invariant_of-self-in_err-push g c = rw (c.make_room.ensures.items, c.reserve.ensures.entries, c.in_err-push.ensures.err) c.self.invariant
 
 pub invariant_of-self-2 : goal.invariant_of-self-2
 invariant_of-self-2 g c =
     let slot = c.len-slot.ensures ∙ c.self.inside.slots.ok.0 in (
       kept_born c.self.inside.slots.items c.push_reserved.new.self.items c.self.inside.by_name.entries c.insert.new.self.entries c.self.inside.queue c.push.new.self (keys_for c.self.inside.waiters c.self.inside.needers) c.self.inside.living c.self.inside.waiting _ c.args.name (record { name = c.args.name; mode = stands.Runs; value = c.args.value }) c.self.invariant.0
           (no_place c.self.inside.slots.items (slot_in c.self.inside.by_name.entries) c.args.name c.self.invariant.0.placed (ap (λ s. value_of equal_thread s.living c.args.name) c.self.view_is ∙ c.requires.new)) refl refl
-          (c.push_reserved.ensures.items ∙ ap (λ l. l ++ Some (record { name = c.args.name; mode = stands.Runs; value = c.args.value }) ∷ []) c.reserve.ensures.items)
-          (λ k. (rw c.reserve-2.ensures.entries at c.in_ok-insert.ensures.updates.0 k) ∙ ap (λ i. with_slot (slot_in c.self.inside.by_name.entries) c.args.name (Some i) k) slot)
+          (c.push_reserved.ensures.items ∙ ap (λ l. l ++ Some (record { name = c.args.name; mode = stands.Runs; value = c.args.value }) ∷ []) c.make_room.ensures.items)
+          (λ k. (rw c.reserve.ensures.entries at c.in_ok-insert.ensures.updates.0 k) ∙ ap (λ i. with_slot (slot_in c.self.inside.by_name.entries) c.args.name (Some i) k) slot)
           (c.in_ok-push.ensures.ok ∙ ap (λ i. c.self.inside.queue ++ i ∷ []) slot) refl,
       ordered_born c.self.inside.slots.items c.push_reserved.new.self.items c.self.inside.queue c.push.new.self (record { name = c.args.name; mode = stands.Runs; value = c.args.value }) c.self.invariant.1 c.self.invariant.0.inside refl
-          (c.push_reserved.ensures.items ∙ ap (λ l. l ++ Some (record { name = c.args.name; mode = stands.Runs; value = c.args.value }) ∷ []) c.reserve.ensures.items)
+          (c.push_reserved.ensures.items ∙ ap (λ l. l ++ Some (record { name = c.args.name; mode = stands.Runs; value = c.args.value }) ∷ []) c.make_room.ensures.items)
           (c.in_ok-push.ensures.ok ∙ ap (λ i. c.self.inside.queue ++ i ∷ []) slot),
     )
 
 pub returns-clause-living : goal.returns-clause-living
 returns-clause-living g c =
     born_view c.self.inside.slots.items c.push_reserved.new.self.items (record { name = c.args.name; mode = stands.Runs; value = c.args.value })
-    (c.push_reserved.ensures.items ∙ ap (λ l. l ++ Some (record { name = c.args.name; mode = stands.Runs; value = c.args.value }) ∷ []) c.reserve.ensures.items)
+    (c.push_reserved.ensures.items ∙ ap (λ l. l ++ Some (record { name = c.args.name; mode = stands.Runs; value = c.args.value }) ∷ []) c.make_room.ensures.items)
     ∙ ap (λ s. (c.args.name, (c.args.value, stands.Runs)) ∷ s.living) c.self.view_is
 
 pub returns-clause-ended : goal.returns-clause-ended
 returns-clause-ended g c =
     ended_born c.self.inside.slots.items c.push_reserved.new.self.items (record { name = c.args.name; mode = stands.Runs; value = c.args.value })
-    (c.push_reserved.ensures.items ∙ ap (λ l. l ++ Some (record { name = c.args.name; mode = stands.Runs; value = c.args.value }) ∷ []) c.reserve.ensures.items)
+    (c.push_reserved.ensures.items ∙ ap (λ l. l ++ Some (record { name = c.args.name; mode = stands.Runs; value = c.args.value }) ∷ []) c.make_room.ensures.items)
     ∙ ap (λ s. s.ended) c.self.view_is
 
 pub returns-clause-order : goal.returns-clause-order
 returns-clause-order g c =
     let slot = c.len-slot.ensures ∙ c.self.inside.slots.ok.0 in
     order_born c.self.inside.slots.items c.push_reserved.new.self.items (record { name = c.args.name; mode = stands.Runs; value = c.args.value }) c.self.inside.queue c.push.new.self
-    (c.push_reserved.ensures.items ∙ ap (λ l. l ++ Some (record { name = c.args.name; mode = stands.Runs; value = c.args.value }) ∷ []) c.reserve.ensures.items)
+    (c.push_reserved.ensures.items ∙ ap (λ l. l ++ Some (record { name = c.args.name; mode = stands.Runs; value = c.args.value }) ∷ []) c.make_room.ensures.items)
     (c.in_ok-push.ensures.ok ∙ ap (λ i. c.self.inside.queue ++ i ∷ []) slot) c.self.invariant.0.inside
     ∙ ap (λ s. s.order ++ c.args.name ∷ []) c.self.view_is
