@@ -27,7 +27,7 @@ pub struct Occupant<V> {
 /// A slot of a thread, which is empty once the thread has ended.
 pub type Slot<V> = Option<Occupant<V>>;
 
-/// Makes room for one slot more. Where there is none the table grows by a quarter, and not to twice its size, so that there are
+/// Makes room for one slot more. Where there is none the table grows by a twelfth, and not to twice its size, so that there are
 /// few spare slots for each thread. Answers `AllocError` where memory is wanting.
 pub fn make_room<V>(slots: &mut Vec<Slot<V>>) -> Result<(), AllocError>
     ensures items { slots.new.items ≡ slots.old.items }
@@ -37,7 +37,7 @@ pub fn make_room<V>(slots: &mut Vec<Slot<V>>) -> Result<(), AllocError>
     if slots.len() < slots.capacity() {
         return Ok(());
     }
-    slots.reserve_exact(slots.len() / 4 + 4)
+    slots.reserve_exact(slots.len() / 12 + 4)
 }
 
 /// Whether the thread of this name is in a slot.
