@@ -7,7 +7,7 @@ use Rattle.kernel_syntax.specs.declared.stmt.Stmt.{Stmt}
 use Rattle.oz_model.specs.Laws.{IsChainOf}
 use Rattle.oz_model.specs.Run.{Run, contents_given, exchanges}
 
--- of whichever program these picks are a run, under them the exchanges of each cell are one chain, from the content given to NewCell or NewCellAt on:
--- each old content is the new one of the exchange before
+-- of whichever program these picks are a run, under them the exchanges of each cell are one chain, from the content given to NewCell or
+-- NewCellAt on: each old content is the new one of the exchange before
 pub record AreExchangesChained (picks : List Pick) : Type 0 where
   pub chain : (p : List Stmt) (s : State) (c : CellName) → Run p picks s → IsChainOf (contents_given p picks c) (exchanges p picks c)

@@ -18,8 +18,9 @@
 //! right, or memory is wanting. `oz` (`homes`, `few`, `served`, `asked`, `chains`): each own step of a thread is of the site
 //! where the thread was placed, messages are few, requests for tokens are served, each exchange of a stationary cell for a
 //! thread of another site has one request and one answer, and the exchanges of each cell are one chain. `oz` (`pieces`): each
-//! call of a sink that tells its pieces is handed one line with its newline or a back of that, or the saved run or a back of it. `run_program`: the journal that workers, or the plain rounds, leave is a run of the program on so
-//! many sites, with its schedule and totals, ends by the reason that is told, and has no turn past the limit of own steps;
+//! call of a sink that tells its pieces is handed one line with its newline or a back of that, or the saved run or a back of
+//! it. `run_program`: the journal that workers, or the plain rounds, leave is a run of the program on so many sites, with its
+//! schedule and totals, ends by the reason that is told, and has no turn past the limit of own steps;
 //! without workers its turns come in the fixed order of `plain_run` (`rounds`). `start`: the program ends with the number of
 //! the status that a call of `oz` with the words answers; where no memory is left for the words it writes `out of memory`.
 //!

@@ -20,10 +20,10 @@
 //! elsewhere the cell's home makes no more steps, as requests for the cell come and as it hears of the cell, than requests of that
 //! thread for the cell came there (`served_at_home`, `asked_at_home`). So no request is served twice.
 //!
-//! It promises, by `homes_are_asked`, of every run of a program on 1 to 64 sites and every cell whose state stays: each exchange that the home makes for a thread
-//! that was placed elsewhere has one request of that thread for that cell, and each such request was followed by an exchange or is
-//! outstanding; a thread of the home asks by no message; and a thread is sent one answer for each of its exchanges of cells that
-//! stay elsewhere (`AreHomesAsked`).
+//! It promises, by `homes_are_asked`, of every run of a program on 1 to 64 sites and every cell whose state stays: each exchange that
+//! the home makes for a thread that was placed elsewhere has one request of that thread for that cell, and each such request was
+//! followed by an exchange or is outstanding; a thread of the home asks by no message; and a thread is sent one answer for each of
+//! its exchanges of cells that stay elsewhere (`AreHomesAsked`).
 //!
 //! It stands on `world_simulation`, on lemmas of `world_messages`, and on those of `world_cells`, whose bound over all sites holds
 //! whatever was sent before: a turn is weighed behind the most that could have been sent. It has no code, and no tests.
