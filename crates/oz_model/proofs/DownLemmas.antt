@@ -1,17 +1,17 @@
 -- Where links go down and each variable has one equation, a variable without an equation is the end of its class: the
 -- class has no node, and no lesser variable is in it.
-use Rattle.std.proofs.Common.{arith, ◌≡◌, ◌∙◌, sym, refl, subst, ◌⊎◌, inl, inr, Some, None}
+use Rattle.std.proofs.Common.{◌≡◌, sym, refl, subst, ◌⊎◌, inl, inr, Some, None}
 use Rattle.std.specs.Prelude.{Contains, Option}
 use Rattle.tree_node.specs.declared.names.VarName.{VarName}
 use Rattle.tree_node.specs.declared.node.Node.{Node}
 use Rattle.tree_node.specs.declared.node.Term.TheVariants as term
 use Rattle.tree_node.specs.Classes.{HasOneEach}
 use Rattle.tree_node.specs.Order.{IsBelow}
-use Rattle.tree_node.specs.Store.{Store, Same, here, onward, Det, IsFree, node_of}
+use Rattle.tree_node.specs.Store.{Store, Same, Det, IsFree, node_of}
 use Rattle.tree_node.proofs.ClassLemmas.{roots_tell_classes}
 use Rattle.tree_node.proofs.DetLemmas.{node_is_det}
 use Rattle.oz_model.specs.Answers.{LinksGoDown, LowerBinds}
-use Rattle.tree_node.proofs.SoundLemmas.{Down, stop, link, down_step, down_of_same}
+use Rattle.tree_node.proofs.SoundLemmas.{Down, stop, link, down_of_same}
 use Rattle.tree_node.proofs.NameLemmas.{below_not, below_trans}
 
 down_below : {s : Store} {x y : VarName} → LinksGoDown s → Down s x y → (x ≡ y) ⊎ IsBelow y x

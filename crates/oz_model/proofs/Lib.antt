@@ -10,7 +10,6 @@ pub mod RowsRun
 pub mod KindLemmas
 pub mod ExchangeLemmas
 pub mod WithinLemmas
-pub mod ShownLemmas
 pub mod KeepLemmas
 pub mod TestLemmas
 pub mod OpenLemmas
@@ -28,3 +27,4 @@ pub mod ShownNames
 pub mod ThreadLemmas
 pub mod TakenLemmas
 pub mod BirthLemmas
+pub mod TellLemmas

@@ -1,6 +1,6 @@
 //! Laws of steps and runs.
 
-ghost use Rattle.oz_model.specs.Laws.{StepsAreDetermined, RunsAreDetermined, NoStepAtRest, RestOrStep, WaitsForUnbound, WaitsWhereOpen, TestsTellTruth, RunsAreSound, RunsGoOn, ExchangesChain, ExchangesEnd, CellsAreChains, CellsHaveContents, StepsFindCells, PortsAreChains, SendsAreInOrder, PortsHaveEnds, StepsFindPorts, NamesAreKnown, RunsAreOnce, OutcomesHaveShapes};
+ghost use Rattle.oz_model.specs.Laws.{StepsAreDetermined, RunsAreDetermined, NoStepAtRest, RestOrStep, WaitsForUnbound, WaitsWhereOpen, TestsTellTruth, RunsAreSound, RunsGoOn, ExchangesChain, ExchangesEnd, CellsAreChains, CellsHaveContents, StepsFindCells, PortsAreChains, SendsAreInOrder, PortsHaveEnds, StepsFindPorts, NamesAreKnown, RunsAreOnce, OutcomesHaveShapes, TellsGoThrough};
 ghost use Rattle.oz_model.specs.ThreadLaws.{EffectsAreNamed, NeedsAreNamed, OpensAreNamed, EffectsAreCovered, EffectsHaveNodes, EffectsKeepOneEach, RunsAreCovered, NamesAreTaken};
 ghost use Rattle.tree_node.specs.Compare.{MoreIsWithin};
 ghost use Rattle.oz_model.specs.Answers.{NodesAgree, CasesAgree, ShownAgree, FirstsAgree, NeedsAgree, BindsAgree, EffectsAgree, StepsStay, WaitsStay, OpenWaitsStay, BindsStay, LowerBinds};
@@ -23,6 +23,11 @@ pub fn runs_are_determined()
 /// A run and one more step are a run.
 pub fn runs_go_on()
     ensures { RunsGoOn }
+{}
+
+/// A goal block whose only pair binds is three steps of its thread, which lead to the state with the equation, and without the block.
+pub fn tells_go_through()
+    ensures { TellsGoThrough }
 {}
 
 /// Each exchange of a cell gives the content that the one before put there, the first the content given to `NewCell`

@@ -5,14 +5,13 @@ use Rattle.tree_node.specs.declared.names.VarName.{VarName}
 use Rattle.tree_node.specs.declared.node.Node.{Node}
 use Rattle.tree_node.specs.declared.node.Node.TheVariants as node
 use Rattle.tree_node.specs.declared.node.Feature.{Feature}
-use Rattle.tree_node.specs.Store.{Store, node_of}
+use Rattle.tree_node.specs.Store.{Store, IsSound, node_of}
 use Rattle.tree_node.specs.Shown.{Show, Text, Needs, Walk, and_then, is_feature, is_cut, is_pair, in_brackets, head_and_tail, show_fields, show_pair, show_rec, show_node, show_option, show_var, shown_within}
+use Rattle.tree_node.specs.Compare.{IsWithin}
+use Rattle.tree_node.proofs.DetLemmas.{det_is_node, node_is_det}
+use Rattle.tree_node.proofs.SoundLemmas.{sound_has_one}
+use Rattle.shown_laws.specs.Shown.{Refines, ShownStays}
 use Rattle.std.proofs.Math.Bool.{and-false, or-true}
-
--- the same text, or the same need where that has no node
-abbrev pub Refines : Store → ℕ → Show → Show → Type 0
-Refines c left (Text text l) other = (l ≤ left) × (other ≡ Text text l)
-Refines c left (Needs z) other = node_of c z ≡ None → other ≡ Needs z
 
 wider : (c : Store) (l left : ℕ) (a b : Show) → l ≤ left → Refines c l a b → Refines c left a b
 wider c l left (Text t k) b le h = (omega (arith, h.0), h.1)
@@ -24,7 +23,7 @@ refine_go c left (Text t l) b f g h k =
     subst (λ (w : Show). Refines c left (f t l) (and_then w g)) (sym h.1) (wider c l left (f t l) (g t l) h.0 (k t l refl h.0))
 refine_go c left (Needs z) b f g h k = λ p. ap (λ (w : Show). and_then w g) (h p)
 
-abbrev Finds : Store → Walk → Walk → ℕ → Type 0
+abbrev pub Finds : Store → Walk → Walk → ℕ → Type 0
 Finds c w v d = (level left : ℕ) (x : VarName) → left ≤ d → Refines c left (w level left x) (v level left x)
 
 fields_more : (c : Store) (w v : Walk) (d : ℕ) → Finds c w v d → (level left next : ℕ) (fs : List (Feature × VarName)) → left ≤ d →
@@ -43,7 +42,7 @@ cut_at level left e = rw e (or-true (nat_lt 20 level))
 
 -- what has a node in s has it in c
 module _ (s c : Store) (stay : (x : VarName) (n : Node) → node_of s x ≡ Some n → node_of c x ≡ Some n) where
-  brackets_same : (d level left : ℕ) (x : VarName) (t : List ℕ) (l : ℕ) → left ≤ d → show_var d s level left x ≡ Text t l →
+  pub brackets_same : (d level left : ℕ) (x : VarName) (t : List ℕ) (l : ℕ) → left ≤ d → show_var d s level left x ≡ Text t l →
       (is_pair (node_of s x) && (if is_cut level left then false else true)) ≡ (is_pair (node_of c x) && (if is_cut level left then false else true))
   brackets_same zero level left x t l le e =
       rw (cut_at level left (omega arith)) (and-false (is_pair (node_of s x)) ∙ sym (and-false (is_pair (node_of c x))))
@@ -75,7 +74,7 @@ module _ (s c : Store) (stay : (x : VarName) (n : Node) → node_of s x ≡ Some
       go (Some (x, y)) = pair_more d level left x y ih le
       go None = refine_go c left _ _ _ _ (fields_more c _ _ d ih level left 1 fields le) (λ t l e k. (omega arith, refl))
 
-  var_shows : (d : ℕ) → Finds c (show_var d s) (show_var d c) d
+  pub var_shows : (d : ℕ) → Finds c (show_var d s) (show_var d c) d
   var_shows zero level left x le = (omega arith, refl)
   var_shows (suc d) level left x le = go (λ a b y k. var_shows d a b y k) (is_cut level left) (node_of s x) refl
     where
@@ -89,3 +88,15 @@ module _ (s c : Store) (stay : (x : VarName) (n : Node) → node_of s x ≡ Some
   pub shown_more : (n : ℕ) (x : VarName) → Refines c n (shown_within n s x) (shown_within n c x)
   unfolding shown_within
   shown_more n x = var_shows n 1 n x (omega arith)
+
+-- ---- stores that say more
+
+pub within_on : (s t u : Store) → IsWithin s t → IsWithin t u → IsWithin s u
+within_on s t u a b = record { same = λ x y h. b.same x y (a.same x y h); det = λ x n h. b.det x n (a.det x n h) }
+
+pub node_stays : (s t : Store) → IsSound t → IsWithin s t → (x : VarName) (n : Node) → node_of s x ≡ Some n → node_of t x ≡ Some n
+node_stays s t sound more x n e =
+    det_is_node t (λ y m o p q. sound_has_one t y m o sound p q) x n (more.det x n (node_is_det s x n e))
+
+pub shown_stays : ShownStays
+shown_stays s t n x sound more = shown_more s t (node_stays s t sound more) n x
