@@ -6,6 +6,9 @@ pub mod WalkLemmas
 pub mod NameLemmas
 pub mod NeedLemmas
 pub mod LinkLemmas
+pub mod TopLemmas
 pub mod RootLemmas
 pub mod SearchLemmas
 pub mod FrontLemmas
+pub mod ShowLemmas
+pub mod NewestLemmas

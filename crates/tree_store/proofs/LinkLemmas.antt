@@ -263,6 +263,11 @@ above_entry entry c w e = record { parent = w; size = (entry c).size + (entry w)
 abbrev pub forest_after : ClassEntries → VarName → VarName → VarName → ClassEntries
 forest_after es c w e = set_value (equal_var w) (set_value (equal_var c) es (below_entry (entry_in es) c w)) (above_entry (entry_in es) c w e)
 
+-- the same, made of the entries of both tops
+pub attached_as : (es : ClassEntries) (c w e : VarName) (child top : ClassEntry) → child ≡ entry_in es c → top ≡ entry_in es w →
+    set_value (equal_var w) (set_value (equal_var c) es (record { parent = w; size = child.size; end = child.end; next = top.next })) (record { parent = w; size = child.size + top.size; end = e; next = child.next }) ≡ forest_after es c w e
+attached_as es c w e child top p q = rw (p, q) refl
+
 pub entries_after_union : (es : ClassEntries) (c w e y : VarName) → IsSome (lookup (equal_var c) es) → IsSome (lookup (equal_var w) es) → entry_in (forest_after es c w e) y ≡ entry_after_union (entry_in es) c w e y
 entries_after_union es c w e y hc hw =
     entry_put (set_value (equal_var c) es (below_entry (entry_in es) c w)) w y (above_entry (entry_in es) c w e) (put_stays es c w (below_entry (entry_in es) c w) hw)

@@ -7,3 +7,5 @@ pub mod Answers
 pub mod Walk
 pub mod Compared
 pub mod Front
+pub mod Truths
+pub mod Shows

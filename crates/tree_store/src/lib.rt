@@ -21,7 +21,7 @@
 //! No call walks the store. The equations stand in a list, in order, and each name is filed with the place of its own one:
 //! the names of the site of the first `fresh` in a row by number, as long as their numbers come without gaps, and all
 //! others in a map (`names`). Classes are kept by union and find, so that a root is found in steps that grow with the
-//! logarithm of the class (`links`). `walk` writes shown values. The waiting keys are those of `waiting_keys`.
+//! logarithm of the class (`links`). `walk` writes shown values, and `shows` keeps how far those came that wait. `truths` keeps the texts of true and of false. The waiting keys are those of `waiting_keys`.
 //!
 //! It stands on `tree_node`, whose definitions of stores and shown lines it meets, on `waiting_keys`, and on `indexmap`.
 //! `threads` shows that a store may go to another thread. Tests (`unit_tests`) show that names become known and keys are woken where
@@ -34,8 +34,10 @@ mod compare;
 mod front;
 mod links;
 mod names;
+mod shows;
 mod store;
 mod threads;
+mod truths;
 mod walk;
 
 pub use compare::Compared;

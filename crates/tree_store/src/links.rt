@@ -4,7 +4,7 @@ ghost use Rattle.std.specs.Prelude.{◌≡◌, ◌↔◌, ◌≤◌, [], Contain
 ghost use Rattle.std.specs.Map.{lookup, set_value};
 ghost use Rattle.tree_node.specs.declared.names.VarName.{VarName};
 ghost use Rattle.tree_node.specs.Store.{equal_var, joined_root};
-ghost use Rattle.tree_store.specs.Links.{entry_in, IsRepresentative, IsTree, AreClasses, entry_after_union, root_with, IsApart};
+ghost use Rattle.tree_store.specs.Links.{singleton, entry_in, IsRepresentative, IsTree, AreClasses, entry_after_union, root_with, IsApart};
 
 use indexmap::IndexMap;
 use std::alloc::{AllocError, Global};
@@ -43,18 +43,29 @@ impl Model for Links {
     ghost invariant = { λ l. IsTree l.forest.entries };
 }
 
-// The entry of a variable.
+// The entry of a variable. Where no variable was linked none is looked for.
+#[tactic(auto, using(crate::proofs::TopLemmas::none_linked))]
 fn entry_of(forest: &IndexMap<VarName, ClassEntry>, var: VarName) -> ClassEntry
     ensures { result ≡ entry_in forest.now.entries var }
 {
+    if forest.is_empty() {
+        return singleton(var);
+    }
     match forest.get(&var) {
         Some(entry) => *entry,
-        None => ClassEntry {
-            parent: var,
-            size: 1,
-            end: var,
-            next: var,
-        },
+        None => singleton(var),
+    }
+}
+
+// The entry of a variable that is alone in its class.
+fn singleton(var: VarName) -> ClassEntry
+    ensures { result ≡ singleton var }
+{
+    ClassEntry {
+        parent: var,
+        size: 1,
+        end: var,
+        next: var,
     }
 }
 
@@ -91,36 +102,40 @@ fn put(forest: &mut IndexMap<VarName, ClassEntry>, var: VarName, entry: ClassEnt
     }
 }
 
-// Puts one tree below the top of another one that is no smaller, whose links end at the given variable then.
-fn attach(forest: &mut IndexMap<VarName, ClassEntry>, child: VarName, top: VarName, end: VarName)
+// Puts one tree below the top of another one that is no smaller, whose links end at the given variable then. These are the entries of both
+// tops.
+fn attach(
+    forest: &mut IndexMap<VarName, ClassEntry>,
+    child: ClassEntry,
+    top: ClassEntry,
+    end: VarName,
+)
     requires tree { IsTree forest.old.entries }
-    requires apart { child ≡ top → ⊥ }
-    requires child { IsRepresentative (entry_in forest.old.entries) child }
-    requires top { IsRepresentative (entry_in forest.old.entries) top }
-    requires child_there { IsSome (lookup (equal_var child) forest.old.entries) }
-    requires top_there { IsSome (lookup (equal_var top) forest.old.entries) }
-    requires smaller { (entry_in forest.old.entries child).size ≤ (entry_in forest.old.entries top).size }
+    requires apart { child.parent ≡ top.parent → ⊥ }
+    requires child { IsRepresentative (entry_in forest.old.entries) child.parent × (child ≡ entry_in forest.old.entries child.parent) }
+    requires top { IsRepresentative (entry_in forest.old.entries) top.parent × (top ≡ entry_in forest.old.entries top.parent) }
+    requires child_there { IsSome (lookup (equal_var child.parent) forest.old.entries) }
+    requires top_there { IsSome (lookup (equal_var top.parent) forest.old.entries) }
+    requires smaller { child.size ≤ top.size }
     ensures tree { IsTree forest.new.entries }
-    ensures forest { (y : VarName) → entry_in forest.new.entries y ≡ entry_after_union (entry_in forest.old.entries) child top end y }
+    ensures forest { (y : VarName) → entry_in forest.new.entries y ≡ entry_after_union (entry_in forest.old.entries) child.parent top.parent end y }
 {
     // Called for its clause: the number of entries is below 2^63, and no size is above it, so that the sum below is in range.
     let _count = forest.len();
-    let small = entry_of(forest, child);
-    let great = entry_of(forest, top);
     let below = ClassEntry {
-        parent: top,
-        size: small.size,
-        end: small.end,
-        next: great.next,
+        parent: top.parent,
+        size: child.size,
+        end: child.end,
+        next: top.next,
     };
     let above = ClassEntry {
-        parent: top,
-        size: small.size + great.size,
+        parent: top.parent,
+        size: child.size + top.size,
         end,
-        next: small.next,
+        next: child.next,
     };
-    put(forest, child, below);
-    put(forest, top, above);
+    put(forest, child.parent, below);
+    put(forest, top.parent, above);
 }
 
 impl Links {
@@ -133,10 +148,12 @@ impl Links {
         }
     }
 
-    // The top of a variable's tree, after at most 64 steps, since sizes double.
-    fn find(&self, var: VarName) -> VarName
-        ensures top { IsRepresentative (entry_in self.now) result }
-        ensures class { (root : VarName → VarName) → AreClasses root (entry_in self.now) → root result ≡ root var }
+    // The entry of the top of a variable's tree, which is its own parent, after at most 64 steps, since sizes double.
+    #[tactic(auto, using(crate::proofs::TopLemmas::top_entry))]
+    fn top(&self, var: VarName) -> ClassEntry
+        ensures top { IsRepresentative (entry_in self.now) result.parent }
+        ensures entry { result ≡ entry_in self.now result.parent }
+        ensures class { (root : VarName → VarName) → AreClasses root (entry_in self.now) → root result.parent ≡ root var }
     {
         let mut at = var;
         let mut entry = entry_of(&self.forest, at);
@@ -144,7 +161,7 @@ impl Links {
             // The invariant speaks of the number of the step.
             let _ = step;
             if entry.parent == at {
-                return at;
+                return entry;
             }
             at = entry.parent;
             entry = entry_of(&self.forest, at);
@@ -156,17 +173,14 @@ impl Links {
     pub fn end(&self, var: VarName) -> VarName
         ensures { (root : VarName → VarName) → AreClasses root (entry_in self.now) → root var ≡ result }
     {
-        let top = self.find(var);
-        entry_of(&self.forest, top).end
+        self.top(var).end
     }
 
     /// Whether a variable is alone in its class.
     pub fn is_alone(&self, var: VarName) -> bool
         ensures { (root : VarName → VarName) → AreClasses root (entry_in self.now) → IsTrue result ↔ ((y : VarName) → root y ≡ root var → y ≡ var) }
     {
-        let top = self.find(var);
-        let entry = entry_of(&self.forest, top);
-        entry.size == 1
+        self.top(var).size == 1
     }
 
     /// The variables of a variable's class.
@@ -174,9 +188,8 @@ impl Links {
         ensures { IfOk result (λ v. (root : VarName → VarName) → AreClasses root (entry_in self.now) → (y : VarName) → Contains v.items y ↔ (root y ≡ root var)) }
     {
         let mut members = Vec::new(alloc);
-        let top = self.find(var);
-        let first = entry_of(&self.forest, top);
-        let mut at = top;
+        let first = self.top(var);
+        let mut at = first.parent;
         let mut left = first.size;
         'members: while left > 0 {
             members.push(at)?;
@@ -192,19 +205,17 @@ impl Links {
         ensures ok { OnOk result ((root : VarName → VarName) → AreClasses root (entry_in self.old) → (root var ≡ root other → ⊥) → AreClasses (joined_root root var other) (entry_in self.new)) }
         ensures err { OnErr result ((root : VarName → VarName) → AreClasses root (entry_in self.old) → AreClasses root (entry_in self.new)) }
     {
-        let upper = self.find(var);
-        let lower = self.find(other);
-        if upper == lower {
+        let above = self.top(var);
+        let below = self.top(other);
+        if above.parent == below.parent {
             return Ok(());
         }
-        make_set(&mut self.forest, upper)?;
-        make_set(&mut self.forest, lower)?;
-        let above = entry_of(&self.forest, upper);
-        let below = entry_of(&self.forest, lower);
+        make_set(&mut self.forest, above.parent)?;
+        make_set(&mut self.forest, below.parent)?;
         if above.size <= below.size {
-            attach(&mut self.forest, upper, lower, below.end);
+            attach(&mut self.forest, above, below, below.end);
         } else {
-            attach(&mut self.forest, lower, upper, below.end);
+            attach(&mut self.forest, below, above, below.end);
         }
         Ok(())
     }

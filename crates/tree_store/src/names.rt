@@ -1,6 +1,6 @@
 //! Names that are known, each with the ordinal of its equation.
 
-ghost use Rattle.std.specs.Prelude.{◌≡◌, ◌+◌, [], ◌∷◌, ◌++◌, OnOk, OnErr, IsTrue, ◌↔◌, Contains, IsSome, length, if◌then◌else◌};
+ghost use Rattle.std.specs.Prelude.{◌≡◌, ◌+◌, [], ◌∷◌, ◌++◌, OnOk, OnErr, IsTrue, ◌↔◌, Contains, IsSome, false, length, if◌then◌else◌};
 ghost use Rattle.std.specs.Map.{lookup};
 ghost use Rattle.tree_node.specs.declared.names.VarName.{VarName};
 ghost use Rattle.tree_node.specs.Store.{equal_var};
@@ -94,6 +94,15 @@ impl Names {
         if self.is_own(var) {
             return self.own[(var.num - self.first) as usize];
         }
+        self.other_ordinal(var)
+    }
+
+    // That of a name outside the row. It is not inlined, since most names stand in the row.
+    #[inline(never)]
+    fn other_ordinal(&self, var: VarName) -> usize
+        requires { is_own self.now var ≡ false }
+        ensures { result ≡ ordinal_of self.now var }
+    {
         match self.others.get(&var) {
             Some(entry) => entry.ordinal,
             None => 0,

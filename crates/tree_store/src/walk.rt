@@ -39,7 +39,7 @@ fn is_number(next: u64, feature: &Feature) -> bool
 }
 
 // The head and the tail of a list's node.
-fn list_ends(node: &Node) -> Option<(VarName, VarName)>
+pub(crate) fn list_ends(node: &Node) -> Option<(VarName, VarName)>
     ensures { result ≡ head_and_tail node.now }
 {
     let Node::Rec(label, fields) = node else {
@@ -74,7 +74,7 @@ fn is_cut(level: u32, left: u32) -> bool
 }
 
 // Whether a walk goes no further at these bounds.
-fn must_stop(bounds: Bounds) -> bool
+pub(crate) fn must_stop(bounds: Bounds) -> bool
     ensures stops { IsTrue result → (bounds.depth ≡ 0) ⊎ (is_cut bounds.level bounds.left ≡ true) }
     ensures cut { result ≡ false → is_cut bounds.level bounds.left ≡ false }
     ensures depth { result ≡ false → 0 < bounds.depth }
@@ -141,7 +141,7 @@ fn gap(more: &[(Feature, VarName)]) -> &'static [u8]
 }
 
 // Writes where a walk is cut.
-fn write_cut(out: &mut Vec<u8>, left: u32) -> Result<Found, AllocError>
+pub(crate) fn write_cut(out: &mut Vec<u8>, left: u32) -> Result<Found, AllocError>
     ensures { IfOk result (λ f. text_end f out.new.items ≡ Text (out.old.items ++ codes ",,,") left) }
 {
     out.extend_from_slice(b",,,")?;
@@ -223,7 +223,7 @@ fn walk_part(
 
 // Walks from the head of a list.
 #[cycle(walking)]
-fn walk_head(
+pub(crate) fn walk_head(
     alloc: Global,
     store: &Store,
     out: &mut Vec<u8>,
@@ -243,7 +243,7 @@ fn walk_head(
 
 // Walks from a node that is no list's.
 #[cycle(walking)]
-fn walk_node(
+pub(crate) fn walk_node(
     alloc: Global,
     store: &Store,
     out: &mut Vec<u8>,

@@ -6,10 +6,10 @@ use Rattle.tree_store.proofs.links.Links.members.Goals as goal
 
 pub members-init : goal.members-init
 members-init c = (
-  c.find-top.result,
-  c.find-top.ensures.top,
-  λ root h. c.find-top.ensures.class root h,
-  visited_first (entry_in c.args.self.now) _ c.find-top.result c.entry_of-first.result c.new-members.ensures.items (c.entry_of-first.ensures ∙ ap (λ (es : ClassEntries). entry_in es c.find-top.result) c.self.view_is),
+  c.top-first.result.parent,
+  c.top-first.ensures.top,
+  λ root h. c.top-first.ensures.class root h,
+  visited_first (entry_in c.args.self.now) _ c.top-first.result.parent c.top-first.result c.new-members.ensures.items c.top-first.ensures.entry,
 )
 
 pub members-preserved : goal.members-preserved

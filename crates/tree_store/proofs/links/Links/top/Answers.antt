@@ -1,5 +1,5 @@
 use Rattle.tree_store.proofs.LinkLemmas.{way_ends}
-use Rattle.tree_store.proofs.links.Links.find.Goals as goal
+use Rattle.tree_store.proofs.links.Links.top.Goals as goal
 
 pub unreachable-requires : goal.unreachable-requires
 unreachable-requires c =
