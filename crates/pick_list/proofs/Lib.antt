@@ -1,1 +1,4 @@
 pub mod ColumnLemmas
+pub mod NameLemmas
+pub mod TellLemmas
+pub mod CopyLemmas

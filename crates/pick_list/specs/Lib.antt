@@ -1,2 +1,4 @@
 pub mod Columns
 pub mod Binds
+pub mod Names
+pub mod Tells

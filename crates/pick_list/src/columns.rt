@@ -4,6 +4,7 @@ ghost use Rattle.std.specs.Prelude.{◌≡◌, ◌+◌, ◌++◌, ◌<◌, ◌�
 ghost use Rattle.tree_node.specs.declared.names.Name.{Name as Named};
 ghost use Rattle.pick_list.specs.Columns.{AreColumns, AreStretches, AreNamings, AreBinds, HasThread, IsStretchOn, IsNamingOn, IsStretchBefore, IsNamingBefore, IsBindBefore, columns_of, pick_at, thread_at, fresh_at, bind_at};
 
+use crate::names::NameColumn;
 use std::alloc::{AllocError, Global};
 use tree_node::{Name, NameList, Pick, Term, ThreadName, VarName, copy_term};
 
@@ -39,8 +40,8 @@ fn is_last_thread(stretches: &[Stretch], thread: ThreadName) -> bool
     }
 }
 
-// A pick of this thread behind the others.
-fn add_stretch(stretches: &mut Vec<Stretch>, pick: usize, thread: ThreadName)
+/// A pick of this thread behind the others.
+pub(crate) fn add_stretch(stretches: &mut Vec<Stretch>, pick: usize, thread: ThreadName)
     requires room { vec_len stretches.old < vec_capacity stretches.old }
     requires stretches { AreStretches pick (reverse stretches.old.items) }
     ensures { IsStretchOn pick thread (reverse stretches.old.items) (reverse stretches.new.items) }
@@ -70,19 +71,19 @@ fn add_naming(namings: &mut Vec<Naming>, pick: usize, first: usize, fresh: &[Nam
 fn put_apart(
     stretches: &mut Vec<Stretch>,
     namings: &mut Vec<Naming>,
-    names: &mut Vec<Name>,
+    names: &mut NameColumn,
     pick: usize,
     thread: ThreadName,
     fresh: &[Name],
 ) -> Result<(), AllocError>
     requires stretches { AreStretches pick (reverse stretches.old.items) }
-    requires namings { AreNamings pick (length names.old.items) (reverse namings.old.items) }
+    requires namings { AreNamings pick (length names.old) (reverse namings.old.items) }
     ensures threads { OnOk result (IsStretchOn pick thread (reverse stretches.old.items) (reverse stretches.new.items)) }
-    ensures fresh { OnOk result (IsNamingOn pick fresh.now names.old.items (reverse namings.old.items) (reverse namings.new.items)) }
-    ensures names { OnOk result (names.new.items ≡ names.old.items ++ fresh.now) }
+    ensures fresh { OnOk result (IsNamingOn pick fresh.now names.old (reverse namings.old.items) (reverse namings.new.items)) }
+    ensures names { OnOk result (names.new ≡ names.old ++ fresh.now) }
     ensures same_stretches { OnErr result (stretches.new.items ≡ stretches.old.items) }
     ensures same_namings { OnErr result (namings.new.items ≡ namings.old.items) }
-    ensures same_names { OnErr result (names.new.items ≡ names.old.items) }
+    ensures same_names { OnErr result (names.new ≡ names.old) }
 {
     stretches.reserve(1)?;
     namings.reserve(1)?;
@@ -97,19 +98,19 @@ fn put_apart(
 pub fn put(
     stretches: &mut Vec<Stretch>,
     namings: &mut Vec<Naming>,
-    names: &mut Vec<Name>,
+    names: &mut NameColumn,
     pick: usize,
     thread: ThreadName,
     fresh: &[Name],
 ) -> Result<(), AllocError>
     requires stretches { AreStretches pick (reverse stretches.old.items) }
-    requires namings { AreNamings pick (length names.old.items) (reverse namings.old.items) }
+    requires namings { AreNamings pick (length names.old) (reverse namings.old.items) }
     ensures threads { OnOk result (IsStretchOn pick thread (reverse stretches.old.items) (reverse stretches.new.items)) }
-    ensures fresh { OnOk result (IsNamingOn pick fresh.now names.old.items (reverse namings.old.items) (reverse namings.new.items)) }
-    ensures names { OnOk result (names.new.items ≡ names.old.items ++ fresh.now) }
+    ensures fresh { OnOk result (IsNamingOn pick fresh.now names.old (reverse namings.old.items) (reverse namings.new.items)) }
+    ensures names { OnOk result (names.new ≡ names.old ++ fresh.now) }
     ensures same_stretches { OnErr result (stretches.new.items ≡ stretches.old.items) }
     ensures same_namings { OnErr result (namings.new.items ≡ namings.old.items) }
-    ensures same_names { OnErr result (names.new.items ≡ names.old.items) }
+    ensures same_names { OnErr result (names.new ≡ names.old) }
 {
     if fresh.is_empty() && is_last_thread(stretches.as_slice(), thread) {
         return Ok(());

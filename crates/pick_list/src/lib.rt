@@ -1,12 +1,14 @@
 //! The picks of a run, in columns.
 //!
 //! **For**: whoever makes steps and keeps their picks: `machine_state` and `central_machine` those of a run, `site_units` those of a
-//! turn, and `site_message`, whose turns and schedules are made of them.
+//! turn, and `site_message`, whose turns and schedules are made of them; `name_supply`, which puts the names of a step there.
 //!
-//! **Promises**: a [`PickList`] is a list of picks (contracts see it so): `push`, `push_plain` and `push_bind` put a pick behind the others,
-//! and after want of memory the list is as before; `drop_last` takes the last one away; `len` counts them; `to_vec` copies them.
+//! **Promises**: a [`PickList`] is a list of picks (contracts see it so): `push`, `push_plain`, `push_row`, `push_bind` and `push_tell` put
+//! picks behind the others,
+//! and after want of memory the list is as before; `drop_last` takes the last one away; `len` counts them; `to_vec` copies them;
+//! `take_all` takes all of them out, in memory of just their length, while the list keeps its own for others.
 //! `binds` are the equations that they added, in order. A pick of the thread of the one before it that takes no name and adds no
-//! equation takes no memory.
+//! equation takes no memory, and variables whose numbers count up take that of one.
 //!
 //! **Stands on** `tree_node` alone.
 //!
@@ -18,6 +20,7 @@
 
 mod columns;
 mod list;
+mod names;
 
 pub use columns::Bind;
 pub use list::PickList;

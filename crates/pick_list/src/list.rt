@@ -1,11 +1,16 @@
 //! Lists of picks.
 
 ghost use Rattle.std.specs.Prelude.{◌≡◌, ◌<◌, ◌-◌, ◌^◌, ◌++◌, ◌∷◌, [], None, IfOk, OnOk, OnErr, length, map, take};
+ghost use Rattle.tree_node.specs.declared.names.Name.TheVariants as named;
 ghost use Rattle.pick_list.specs.Binds.{binds_of, equation_of};
+ghost use Rattle.pick_list.specs.Tells.{in_a_row, plain, tell_picks};
+ghost use Rattle.pick_list.specs.Names.{row_of};
 
 use crate::columns::{
-    Bind, Naming, Stretch, binds_before, last_pick, namings_before, put, stretches_before,
+    Bind, Naming, Stretch, add_stretch, binds_before, last_pick, namings_before, put,
+    stretches_before,
 };
+use crate::names::NameColumn;
 use std::alloc::{AllocError, Global};
 use std::marker::Model;
 use tree_node::{Name, Pick, Term, ThreadName, VarName};
@@ -20,7 +25,7 @@ const MOST: usize = isize::MAX as usize;
 pub struct PickList {
     stretches: Vec<Stretch>,
     namings: Vec<Naming>,
-    names: Vec<Name>,
+    names: NameColumn,
     binds: Vec<Bind>,
     count: usize,
 }
@@ -32,9 +37,9 @@ impl Model for PickList {
 
     ghost Value = { List Pick };
 
-    ghost view = { λ s. picks_below (columns_of s.stretches.items s.namings.items s.names.items s.binds.items) s.count };
+    ghost view = { λ s. picks_below (columns_of s.stretches.items s.namings.items s.names s.binds.items) s.count };
 
-    ghost invariant = { λ s. AreColumns s.count (columns_of s.stretches.items s.namings.items s.names.items s.binds.items) × (s.count < 2 ^ 63) };
+    ghost invariant = { λ s. AreColumns s.count (columns_of s.stretches.items s.namings.items s.names s.binds.items) × (s.count < 2 ^ 63) };
 }
 
 impl PickList {
@@ -45,10 +50,36 @@ impl PickList {
         PickList {
             stretches: Vec::new(alloc),
             namings: Vec::new(alloc),
-            names: Vec::new(alloc),
+            names: NameColumn::new(alloc),
             binds: Vec::new(alloc),
             count: 0,
         }
+    }
+
+    /// Takes all picks out, in memory of just their length. The list has none then, and keeps its memory for others. After an error it is as
+    /// before.
+    #[tactic(auto, using(crate::proofs::CopyLemmas::no_columns))]
+    pub fn take_all(&mut self, alloc: Global) -> Result<PickList, AllocError>
+        ensures ok { IfOk result (λ l. l ≡ self.old) }
+        ensures empty { OnOk result (self.new ≡ []) }
+        ensures err { OnErr result (self.new ≡ self.old) }
+    {
+        let stretches = Vec::from_slice(alloc, self.stretches.as_slice())?;
+        let namings = Vec::from_slice(alloc, self.namings.as_slice())?;
+        let names = self.names.copy(alloc)?;
+        let binds = self.binds.split_off(0)?;
+        let count = self.count;
+        self.stretches.clear();
+        self.namings.clear();
+        self.names.clear();
+        self.count = 0;
+        Ok(PickList {
+            stretches,
+            namings,
+            names,
+            binds,
+            count,
+        })
     }
 
     /// The number of picks.
@@ -92,6 +123,30 @@ impl PickList {
         Ok(())
     }
 
+    /// A pick behind the others that takes so many variables, whose numbers count up from this one's, and adds no equation.
+    pub fn push_row(
+        &mut self,
+        thread: ThreadName,
+        first: VarName,
+        count: usize,
+    ) -> Result<(), AllocError>
+        ensures ok { OnOk result (self.new ≡ self.old ++ record { thread = thread; fresh = row_of (named.Var first) count; bind = None } ∷ []) }
+        ensures err { OnErr result (self.new ≡ self.old) }
+    {
+        if self.count >= MOST {
+            return Err(AllocError);
+        }
+        let pick = self.count;
+        let place = self.names.len();
+        self.stretches.reserve(1)?;
+        self.namings.reserve(1)?;
+        self.names.push_row(first, count)?;
+        self.namings.push_reserved(Naming { pick, first: place });
+        add_stretch(&mut self.stretches, pick, thread);
+        self.count += 1;
+        Ok(())
+    }
+
     /// A pick behind the others that adds an equation.
     pub fn push_bind(
         &mut self,
@@ -121,6 +176,58 @@ impl PickList {
             term,
         });
         self.count += 1;
+        Ok(())
+    }
+
+    /// So many picks behind the others that take no names and add no equations. It takes one step, however many they are.
+    #[inline(always)]
+    pub fn push_plains(&mut self, thread: ThreadName, count: usize) -> Result<(), AllocError>
+        ensures ok { OnOk result (self.new ≡ self.old ++ in_a_row count (plain thread)) }
+        ensures err { OnErr result (self.new ≡ self.old) }
+    {
+        if count == 0 {
+            return Ok(());
+        }
+        if count > MOST - self.count {
+            return Err(AllocError);
+        }
+        put(
+            &mut self.stretches,
+            &mut self.namings,
+            &mut self.names,
+            self.count,
+            thread,
+            &[],
+        )?;
+        self.count += count;
+        Ok(())
+    }
+
+    /// The picks of a block that binds and then is over behind the others: one that adds the equation, and two plain ones.
+    pub fn push_tell(
+        &mut self,
+        thread: ThreadName,
+        var: VarName,
+        term: Term,
+    ) -> Result<(), AllocError>
+        ensures ok { OnOk result (self.new ≡ self.old ++ tell_picks thread var term) }
+        ensures err { OnErr result (self.new ≡ self.old) }
+    {
+        if self.count > MOST - 3 {
+            return Err(AllocError);
+        }
+        let pick = self.count;
+        self.binds.reserve(1)?;
+        put(
+            &mut self.stretches,
+            &mut self.namings,
+            &mut self.names,
+            pick,
+            thread,
+            &[],
+        )?;
+        self.binds.push_reserved(Bind { pick, var, term });
+        self.count += 3;
         Ok(())
     }
 
@@ -163,7 +270,8 @@ impl PickList {
         let mut picks = Vec::with_capacity(alloc, self.count)?;
         let mut stretches = self.stretches.as_slice();
         let mut namings = self.namings.as_slice();
-        let mut names = self.names.as_slice();
+        let all = self.names.to_vec(alloc)?;
+        let mut names = all.as_slice();
         let mut binds = self.binds.as_slice();
         'picks: for pick in (0..self.count).rev() {
             let last = last_pick(alloc, stretches, namings, names, binds, pick)?;

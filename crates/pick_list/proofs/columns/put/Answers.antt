@@ -10,5 +10,5 @@ pub returns-then-is_last_thread-clause-fresh : goal.returns-then-is_last_thread-
 returns-then-is_last_thread-clause-fresh c =
     let ts = reverse c.args.namings.now.items in
     let none : length c.args.fresh.now ≡ 0 = grind (arith, common_steps) in
-    subst (λ (fresh : List Name). IsNamingOn c.args.pick fresh c.args.names.now.items ts ts) (sym (empty_list c.args.fresh.now none))
-    (naming_none c.args.pick c.args.names.now.items ts c.requires.namings)
+    subst (λ (fresh : List Name). IsNamingOn c.args.pick fresh c.args.names.now ts ts) (sym (empty_list c.args.fresh.now none))
+    (naming_none c.args.pick c.args.names.now ts c.requires.namings)

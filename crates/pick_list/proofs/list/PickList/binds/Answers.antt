@@ -9,5 +9,5 @@ pub returns : goal.returns
 returns c =
     let s = c.self.inside in
     ap (map equation_of) (c.as_slice.ensures.value ∙ sym (reverse-reverse s.binds.items))
-    ∙ (picks_bound (columns_of s.stretches.items s.namings.items s.names.items s.binds.items) s.count c.self.invariant.0.binds
+    ∙ (picks_bound (columns_of s.stretches.items s.namings.items s.names s.binds.items) s.count c.self.invariant.0.binds
     ∙ ap binds_of c.self.view_is)

@@ -13,8 +13,8 @@ pub returns : goal.returns
 returns c =
     let s = c.self.inside in
     let n = s.count - 1 in
-    let old = columns_of s.stretches.items s.namings.items s.names.items s.binds.items in
-    let new = columns_of c.truncate.new.self.items c.truncate-2.new.self.items c.truncate-3.new.self.items c.truncate-4.new.self.items in
+    let old = columns_of s.stretches.items s.namings.items s.names s.binds.items in
+    let new = columns_of c.truncate.new.self.items c.truncate-2.new.self.items c.truncate-3.new.self c.truncate-4.new.self.items in
     let size : s.count ≡ length c.args.self.now = sym (length_picks old s.count) ∙ ap length c.self.view_is in
     let value = c.as_slice.ensures.value in
     let value-2 = c.as_slice-2.ensures.value in
@@ -22,11 +22,11 @@ returns c =
     let stretches : IsStretchBefore n old.stretches new.stretches =
     subst (λ (l : List Stretch). IsStretchBefore n old.stretches (reverse l)) (sym c.truncate.ensures.items)
     (subst (λ (l : List Stretch). IsStretchBefore n (reverse l) (reverse (take c.stretches_before-stretches.result l))) value c.stretches_before-stretches.ensures.before) in
-    let names : length s.names.items ≡ c.len.result = (let is = c.len.ensures in let ok = s.names.ok.0 in omega arith) in
+    let names : length s.names ≡ c.len.result = sym c.len.ensures.value in
     let namings : IsNamingBefore n old.names old.namings new.names new.namings =
-    subst (λ (l : List Name). IsNamingBefore n old.names old.namings l new.namings) (sym c.truncate-3.ensures.items)
-    (subst (λ (l : List Naming). IsNamingBefore n old.names old.namings (take c.namings_before-namings.result.1 s.names.items) (reverse l)) (sym c.truncate-2.ensures.items)
-    (subst (λ (l : List Naming). IsNamingBefore n old.names (reverse l) (take c.namings_before-namings.result.1 s.names.items) (reverse (take c.namings_before-namings.result.0 l))) value-2 (c.namings_before-namings.ensures.before s.names.items names))) in
+    subst (λ (l : List Name). IsNamingBefore n old.names old.namings l new.namings) (sym c.truncate-3.ensures)
+    (subst (λ (l : List Naming). IsNamingBefore n old.names old.namings (take c.namings_before-namings.result.1 s.names) (reverse l)) (sym c.truncate-2.ensures.items)
+    (subst (λ (l : List Naming). IsNamingBefore n old.names (reverse l) (take c.namings_before-namings.result.1 s.names) (reverse (take c.namings_before-namings.result.0 l))) value-2 (c.namings_before-namings.ensures.before s.names names))) in
     let binds : IsBindBefore n old.binds new.binds =
     subst (λ (l : List Bind). IsBindBefore n old.binds (reverse l)) (sym c.truncate-4.ensures.items)
     (subst (λ (l : List Bind). IsBindBefore n (reverse l) (reverse (take c.binds_before-binds.result l))) value-3 c.binds_before-binds.ensures.before) in

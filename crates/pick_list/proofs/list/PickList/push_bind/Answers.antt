@@ -12,8 +12,8 @@ returns-clause-ok c =
     let n = s.count in
     let k : Pick = record { thread = c.args.thread; fresh = c.args.fresh.now; bind = Some (c.args.var, c.args.term) } in
     let b : Bind = record { pick = n; var = c.args.var; term = c.args.term } in
-    let old = columns_of s.stretches.items s.namings.items s.names.items s.binds.items in
-    let new = columns_of c.put.new.stretches.items c.put.new.namings.items c.put.new.names.items c.push_reserved.new.self.items in
+    let old = columns_of s.stretches.items s.namings.items s.names s.binds.items in
+    let new = columns_of c.put.new.stretches.items c.put.new.namings.items c.put.new.names c.push_reserved.new.self.items in
     let binds : reverse c.push_reserved.new.self.items ≡ b ∷ reverse s.binds.items =
     ap reverse (c.push_reserved.ensures.items ∙ ap (λ (l : List Bind). l ++ b ∷ []) c.reserve.ensures.items) ∙ reverse_push s.binds.items b in
     ap (λ (m : ℕ). picks_below new m) (add-one n)

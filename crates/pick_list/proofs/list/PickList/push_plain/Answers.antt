@@ -22,8 +22,8 @@ returns-clause-ok c =
     let s = c.self.inside in
     let n = s.count in
     let k : Pick = record { thread = c.args.thread; fresh = c.args.fresh.now; bind = None } in
-    let old = columns_of s.stretches.items s.namings.items s.names.items s.binds.items in
-    let new = columns_of c.put.new.stretches.items c.put.new.namings.items c.put.new.names.items s.binds.items in
+    let old = columns_of s.stretches.items s.namings.items s.names s.binds.items in
+    let new = columns_of c.put.new.stretches.items c.put.new.namings.items c.put.new.names s.binds.items in
     ap (λ (m : ℕ). picks_below new m) (add-one n)
     ∙ (picks_put old new n k c.in_ok-put.ensures.threads c.in_ok-put.ensures.fresh c.in_ok-put.ensures.names (λ i below. refl) (no_bind n (reverse s.binds.items) n c.self.invariant.0.binds (omega arith))
     ∙ ap (λ (ks : List Pick). ks ++ k ∷ []) c.self.view_is)
