@@ -1,3 +1,4 @@
 pub mod CaseLemmas
 pub mod StepLemmas
 pub mod MetLemmas
+pub mod FirstLemmas

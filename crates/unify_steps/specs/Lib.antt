@@ -3,3 +3,4 @@ pub mod Hash
 pub mod MetPairs
 pub mod Step
 pub mod Next
+pub mod First

@@ -9,6 +9,7 @@
 //! - A bind is made by the caller, and the block goes on from the same pair. It is the one that is due (`IsBind`): of a
 //!   variable without an equation of its own to the lesser such variable of the other side, where no side has a node, and
 //!   to the node where the other side has one. So links go down, and no class gets a second node.
+//! - `node_tell` and `var_tell` answer what the block of a tell comes to with its first pair (`IsNodeTell`, `IsVarTell`).
 //! - `peek` tells beforehand whether the next step is a bind, of which two sides, or a failure (`IsPeekOf`).
 //! - `Block::new`, and `fill` of a [`BlockRoom`], which takes no memory, begin with one pair and nothing met. `into_room` makes
 //!   such room of a block that is done with; that it does is promised by no clause, and shown by `bench/run` alone.
@@ -25,6 +26,7 @@
 mod answer;
 mod block;
 mod case;
+mod first;
 mod hash;
 mod met_pairs;
 mod met_table;
@@ -33,3 +35,4 @@ mod threads;
 
 pub use answer::{GoalOut, Peek};
 pub use block::{Block, BlockRoom, peek, step};
+pub use first::{NodeTell, VarTell, node_tell, var_tell};
