@@ -11,6 +11,7 @@ use Rattle.thread_roster.specs.declared.mode.Mode.{Mode}
 use Rattle.thread_roster.specs.declared.mode.Mode.TheVariants as mode
 use Rattle.thread_roster.specs.declared.slot.Occupant.{Occupant}
 use Rattle.thread_roster.specs.Threads.{Entry, awaits, wake, wake_all, wake_where, determine_all, is_waiting, waiting_of, AllWait}
+use Rattle.thread_roster.proofs.SlotLemmas.{total_set}
 use Rattle.thread_roster.specs.Slots.{Slot, entry, threads_in, wakes, wake_by, wake_slot, wake_slot_at, wake_slots, awaits_in, awaits_at, woken, total, one, weight, waiting}
 
 -- ---- one slot
@@ -20,11 +21,8 @@ set_same [] k o x e = cc
 set_same (p ∷ slots) zero o x e = let same : p ≡ o = cc in rw same refl
 set_same {V} (p ∷ slots) (suc k) o x e = ap (λ (l : List (Slot V)). p ∷ l) (set_same slots k o x e)
 
-pub roused_none : {V : Type 0} (slots now : List (Slot V)) (k : ℕ) (x : Event) → slice_get slots k ≡ Some None → now ≡ slice_set slots k None → now ≡ wake_slot_at x slots k
-roused_none slots now k x at e = e ∙ set_same slots k None x at
-
-pub roused_some : {V : Type 0} (slots now : List (Slot V)) (k : ℕ) (x : Event) (h g : Occupant V) → slice_get slots k ≡ Some (Some h) → g ≡ record h { mode = wake_by x h.mode } → now ≡ slice_set slots k (Some g) → now ≡ wake_slot_at x slots k
-roused_some slots now k x h g at made e = e ∙ rw made (set_same slots k (Some h) x at)
+pub roused : {V : Type 0} (slots now : List (Slot V)) (k : ℕ) (x : Event) (o p : Slot V) → slice_get slots k ≡ Some o → p ≡ wake_slot x o → now ≡ slice_set slots k p → now ≡ wake_slot_at x slots k
+roused slots now k x o p at made e = e ∙ (ap (slice_set slots k) made ∙ set_same slots k o x at)
 
 -- whether the thread in a slot waits
 pub awaits_as : {V : Type 0} (slots : List (Slot V)) (k : ℕ) (o : Slot V) (x : Event) → slice_get slots k ≡ Some o → awaits_at x slots k ≡ awaits_in x o
@@ -56,6 +54,19 @@ wake_weight x m = go m
     go (mode.Needs y) = one_less (mode.Needs y) (wakes x (mode.Needs y)) refl
     go (mode.WaitsAny ys) = one_less (mode.WaitsAny ys) (wakes x (mode.WaitsAny ys)) refl
     go (mode.WaitsFor c) = one_less (mode.WaitsFor c) (wakes x (mode.WaitsFor c)) refl
+
+set_none : {V : Type 0} (slots : List (Slot V)) (k : ℕ) → slice_get slots k ≡ Some None → slice_set slots k None ≡ slots
+set_none [] k e = cc
+set_none {V} (p ∷ slots) zero e = let same : None ≡ p = cc in ap (λ (q : Slot V). q ∷ slots) same
+set_none {V} (p ∷ slots) (suc k) e = ap (λ (l : List (Slot V)). p ∷ l) (set_none slots k e)
+
+-- one that goes on waits no more
+pub roused_count : {V : Type 0} (slots : List (Slot V)) (k : ℕ) (x : Event) (o : Slot V) → slice_get slots k ≡ Some o → cond (awaits_in x o) 1 0 + total waiting (slice_set slots k (wake_slot x o)) ≡ total waiting slots
+roused_count {V} slots k x None at = ap (λ (l : List (Slot V)). 0 + total waiting l) (set_none slots k at) ∙ omega arith
+roused_count slots k x (Some h) at =
+    let set = total_set waiting slots k h (record h { mode = wake_by x h.mode }) at in
+    let one = wake_weight x h.mode in
+    omega (arith, set, one)
 
 wake_twice : (x : Event) (m : Mode) → wake_by x (wake_by x m) ≡ wake_by x m
 wake_twice x m = go (wakes x m) refl

@@ -17,7 +17,7 @@
 //! A call costs by what it does: the first of the queue is found without a look-up, another thread by one, `wake` looks at
 //! those that wait for its variable, `determine` at those that need its node, and `first` and `rotate` at the slots that leave the queue. A thread that comes to
 //! wait leaves the queue at once where it is the first, as the thread of a turn is, and else by a walk over the queue. A slot is
-//! not used again, so that the list stays in the order of birth; an ended thread leaves an empty one. A thread that waited for
+//! not used again, so that the list stays in the order of birth; an ended thread leaves an empty one of two words. A thread that waited for
 //! several variables stays among the keys of the others, where it is passed over, until that variable is bound. One that waits
 //! there again puts no key where its own is the last, as a clause of `add_again` tells (`waiting_keys`). Where others come to
 //! wait there in turns with it, each puts one; where there is no room for one more, those that stand there more than once leave,

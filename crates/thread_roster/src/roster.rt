@@ -36,6 +36,7 @@ use waiting_keys::Waiters;
 /// are looked at for the others.
 #[derive(Drop)]
 pub struct Roster<V> {
+    alloc: Global,
     slots: Vec<Slot<V>>,
     by_name: SlotsByName,
     queue: Queue,
@@ -129,6 +130,7 @@ impl<V: Drop> Roster<V> {
         ensures order { result.order ≡ [] }
     {
         Roster {
+            alloc,
             slots: Vec::new(alloc),
             by_name: IndexMap::new(alloc),
             queue: Queue::new(alloc),
@@ -185,7 +187,7 @@ impl<V: Drop> Roster<V> {
     {
         match slot_of(&self.slots, &self.by_name, &self.queue, name) {
             None => None,
-            Some(slot) => match &self.slots[slot] {
+            Some(slot) => match self.slots[slot].get() {
                 None => unreachable!(),
                 Some(held) => Some(&held.value),
             },
@@ -199,7 +201,7 @@ impl<V: Drop> Roster<V> {
     {
         match slot_of(&self.slots, &self.by_name, &self.queue, name) {
             None => None,
-            Some(slot) => match &self.slots[slot] {
+            Some(slot) => match self.slots[slot].get() {
                 None => unreachable!(),
                 Some(held) => Some(&held.mode),
             },
@@ -232,12 +234,12 @@ impl<V: Drop> Roster<V> {
         ensures err { OnErr result (self.new ≡ self.old) }
     {
         let slot = self.slots.len();
+        let mode = Mode::Runs;
+        let held = Slot::new(self.alloc, Occupant { name, mode, value })?;
         make_room(&mut self.slots)?;
         self.by_name.reserve(1)?;
         self.queue.push(slot)?;
-        let mode = Mode::Runs;
-        self.slots
-            .push_reserved(Some(Occupant { name, mode, value }));
+        self.slots.push_reserved(held);
         self.by_name.insert(name, slot)?;
         self.living += 1;
         Ok(())

@@ -1,4 +1,4 @@
-use Rattle.std.proofs.Common.{arith, ◌∙◌, ap, refl, Some, ◌∷◌, ◌++◌, []}
+use Rattle.std.proofs.Common.{arith, ◌≡◌, ◌∙◌, ap, refl, Some, List, ◌∷◌, ◌++◌, []}
 use Rattle.tree_node.specs.Assoc.{value_of}
 use Rattle.tree_node.specs.State.{equal_thread}
 use Rattle.thread_roster.specs.declared.mode.Mode.TheVariants as stands
@@ -8,7 +8,13 @@ use Rattle.thread_roster.proofs.ConsistencyLemmas.{kept_born, no_place, born_vie
 use Rattle.thread_roster.proofs.QueueLemmas.{ordered_born}
 use Rattle.thread_roster.proofs.OrderLemmas.{order_born}
 use Rattle.thread_roster.specs.Parking.{keys_for}
+use Rattle.thread_roster.specs.declared.slot.Occupant.{Occupant}
+use Rattle.thread_roster.specs.Slots.{Slot}
 use Rattle.thread_roster.proofs.roster.Roster.start.Goals as goal
+
+-- the slot of the thread stands behind the others
+pushed : {V : Type 0} (old reserved new : List (Slot V)) (o : Slot V) (h : Occupant V) → new ≡ reserved ++ o ∷ [] → reserved ≡ old → o ≡ Some h → new ≡ old ++ Some h ∷ []
+pushed {V} old reserved new o h put same is = put ∙ (ap (λ (l : List (Slot V)). l ++ o ∷ []) same ∙ ap (λ (p : Slot V). old ++ p ∷ []) is)
 
 pub overflow_add-self : goal.overflow_add-self
 overflow_add-self g c =
@@ -32,30 +38,30 @@ invariant_of-self-2 g c =
     let slot = c.len-slot.ensures ∙ c.self.inside.slots.ok.0 in (
       kept_born c.self.inside.slots.items c.push_reserved.new.self.items c.self.inside.by_name.entries c.insert.new.self.entries c.self.inside.queue c.push.new.self (keys_for c.self.inside.waiters c.self.inside.needers) c.self.inside.living c.self.inside.waiting _ c.args.name (record { name = c.args.name; mode = stands.Runs; value = c.args.value }) c.self.invariant.0
           (no_place c.self.inside.slots.items (slot_in c.self.inside.by_name.entries) c.args.name c.self.invariant.0.placed (ap (λ s. value_of equal_thread s.living c.args.name) c.self.view_is ∙ c.requires.new)) refl refl
-          (c.push_reserved.ensures.items ∙ ap (λ l. l ++ Some (record { name = c.args.name; mode = stands.Runs; value = c.args.value }) ∷ []) c.make_room.ensures.items)
+          (pushed _ _ _ _ _ c.push_reserved.ensures.items c.make_room.ensures.items c.in_ok-held.ensures)
           (λ k. (rw c.reserve.ensures.entries at c.in_ok-insert.ensures.updates.0 k) ∙ ap (λ i. with_slot (slot_in c.self.inside.by_name.entries) c.args.name (Some i) k) slot)
           (c.in_ok-push.ensures.ok ∙ ap (λ i. c.self.inside.queue ++ i ∷ []) slot) refl,
       ordered_born c.self.inside.slots.items c.push_reserved.new.self.items c.self.inside.queue c.push.new.self (record { name = c.args.name; mode = stands.Runs; value = c.args.value }) c.self.invariant.1 c.self.invariant.0.inside refl
-          (c.push_reserved.ensures.items ∙ ap (λ l. l ++ Some (record { name = c.args.name; mode = stands.Runs; value = c.args.value }) ∷ []) c.make_room.ensures.items)
+          (pushed _ _ _ _ _ c.push_reserved.ensures.items c.make_room.ensures.items c.in_ok-held.ensures)
           (c.in_ok-push.ensures.ok ∙ ap (λ i. c.self.inside.queue ++ i ∷ []) slot),
     )
 
 pub returns-clause-living : goal.returns-clause-living
 returns-clause-living g c =
     born_view c.self.inside.slots.items c.push_reserved.new.self.items (record { name = c.args.name; mode = stands.Runs; value = c.args.value })
-    (c.push_reserved.ensures.items ∙ ap (λ l. l ++ Some (record { name = c.args.name; mode = stands.Runs; value = c.args.value }) ∷ []) c.make_room.ensures.items)
+    (pushed _ _ _ _ _ c.push_reserved.ensures.items c.make_room.ensures.items c.in_ok-held.ensures)
     ∙ ap (λ s. (c.args.name, (c.args.value, stands.Runs)) ∷ s.living) c.self.view_is
 
 pub returns-clause-ended : goal.returns-clause-ended
 returns-clause-ended g c =
     ended_born c.self.inside.slots.items c.push_reserved.new.self.items (record { name = c.args.name; mode = stands.Runs; value = c.args.value })
-    (c.push_reserved.ensures.items ∙ ap (λ l. l ++ Some (record { name = c.args.name; mode = stands.Runs; value = c.args.value }) ∷ []) c.make_room.ensures.items)
+    (pushed _ _ _ _ _ c.push_reserved.ensures.items c.make_room.ensures.items c.in_ok-held.ensures)
     ∙ ap (λ s. s.ended) c.self.view_is
 
 pub returns-clause-order : goal.returns-clause-order
 returns-clause-order g c =
     let slot = c.len-slot.ensures ∙ c.self.inside.slots.ok.0 in
     order_born c.self.inside.slots.items c.push_reserved.new.self.items (record { name = c.args.name; mode = stands.Runs; value = c.args.value }) c.self.inside.queue c.push.new.self
-    (c.push_reserved.ensures.items ∙ ap (λ l. l ++ Some (record { name = c.args.name; mode = stands.Runs; value = c.args.value }) ∷ []) c.make_room.ensures.items)
+    (pushed _ _ _ _ _ c.push_reserved.ensures.items c.make_room.ensures.items c.in_ok-held.ensures)
     (c.in_ok-push.ensures.ok ∙ ap (λ i. c.self.inside.queue ++ i ∷ []) slot) c.self.invariant.0.inside
     ∙ ap (λ s. s.order ++ c.args.name ∷ []) c.self.view_is
