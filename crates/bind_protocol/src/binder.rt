@@ -114,17 +114,33 @@ impl Binder {
         }
     }
 
+    // What the site knows of a variable of its own.
+    #[tactic(auto, using(crate::proofs::KnowLemmas::own_nothing, crate::proofs::KnowLemmas::own_unbound, crate::proofs::KnowLemmas::own_bound))]
+    fn owned(&self, var: VarName) -> Knowledge<'_>
+        requires own { var.site ≡ self.now.site }
+        ensures { IsKnowledge (knowledge self.now var) result }
+    {
+        if !self.owners.made(var) {
+            return Knowledge::Nothing;
+        }
+        match self.owners.binding(var) {
+            None => Knowledge::Unbound,
+            Some(term) => Knowledge::Bound(term),
+        }
+    }
+
     /// What the site knows of a variable.
-    #[tactic(auto, using(crate::proofs::KnowLemmas::nothing_known, crate::proofs::KnowLemmas::unbound_known, crate::proofs::KnowLemmas::term_known))]
+    #[tactic(auto, using(crate::proofs::KnowLemmas::other_known))]
     pub fn knows(&self, var: VarName) -> Knowledge<'_>
         ensures { IsKnowledge (knowledge self.now var) result }
     {
-        if !self.known(var) {
-            return Knowledge::Nothing;
+        if self.owns(var) {
+            return self.owned(var);
         }
-        match self.state(var) {
-            None => Knowledge::Unbound,
-            Some(term) => Knowledge::Bound(term),
+        match self.proxies.entry(var) {
+            None => Knowledge::Nothing,
+            Some(None) => Knowledge::Unbound,
+            Some(Some(term)) => Knowledge::Bound(term),
         }
     }
 
@@ -212,6 +228,7 @@ impl Binder {
 
     /// A thread asks to bind a variable of this site's own: the first request is taken, and a Binding goes to each
     /// registered site. A later one is late: nothing changes, and nothing is sent.
+    #[tactic(auto, using(crate::proofs::KnowLemmas::none_told))]
     pub fn on_ask(
         &mut self,
         var: VarName,
@@ -226,8 +243,11 @@ impl Binder {
         ensures same { OnErr result (self.new ≡ self.old) }
         ensures unsent { OnErr result (outbox.new ≡ outbox.old) }
     {
-        let messages = bindings(self.alloc, var, &term, self.owners.registered(var))?;
-        outbox.append(messages)?;
+        let registered = self.owners.registered(var);
+        if !registered.is_empty() {
+            let messages = bindings(self.alloc, var, &term, registered)?;
+            outbox.append(messages)?;
+        }
         Ok(self.owners.ask(var, term))
     }
 

@@ -11,9 +11,10 @@ ghost use Rattle.site_model.specs.Bundle.{is_below as below, insert_ascending, a
 ghost use Rattle.site_model.specs.Laws.{left_names};
 ghost use Rattle.marshal.specs.Marshal.{IsReachedEquation, IsNext, equations_among};
 
-use crate::vars::vars_of;
+use crate::vars::push_vars;
 use site_message::Bundle;
 use std::alloc::{AllocError, Global};
+use std::collections::VecDeque;
 use tree_node::{Term, VarName, copy_term, is_below};
 use tree_store::Store;
 
@@ -43,19 +44,19 @@ pub fn export_from(
     ensures few { IfOk result (λ b. length b ≤ limit) }
     ensures reached { IfOk result (λ b. Each (IsReachedEquation store.now.equations vars.now) b) }
 {
-    let mut taken = Vec::new(alloc);
+    let mut taken = VecDeque::new(alloc);
     let mut queue = Vec::from_slice(alloc, vars)?;
-    gather(alloc, store, &mut queue, &mut taken, limit)?;
-    let bundle = Bundle::from_vec(taken)?;
+    gather(store, &mut queue, &mut taken, limit)?;
+    let bundle = Bundle::from_vec(taken.into_vec())?;
     Ok(bundle)
 }
 
-// Equations are gathered from a queue of variables. The variables of each one's term go behind the others.
+// Equations are gathered from a queue of variables. The variables of each one's term go behind the others. Those whose names come in
+// descending order move no others.
 fn gather(
-    alloc: Global,
     store: &Store,
     queue: &mut Vec<VarName>,
-    taken: &mut Vec<(VarName, Term)>,
+    taken: &mut VecDeque<(VarName, Term)>,
     limit: usize,
 ) -> Result<(), AllocError>
     requires { taken.old.items ≡ [] }
@@ -68,7 +69,7 @@ fn gather(
             None => return Ok(()),
             Some((place, term)) => {
                 let var = queue[place];
-                take(alloc, queue, taken, var, term)?;
+                take(queue, taken, var, term)?;
                 from = place + 1;
             }
         }
@@ -81,12 +82,12 @@ fn next<'a>(
     store: &'a Store,
     queue: &[VarName],
     from: usize,
-    taken: &[(VarName, Term)],
+    taken: &VecDeque<(VarName, Term)>,
 ) -> Option<(usize, &'a Term)>
-    requires ordered { NamesAscend taken.now }
-    requires taken { taken.now ≡ ascending (equations_among store.now.equations (first from queue.now)) }
+    requires ordered { NamesAscend taken.now.items }
+    requires taken { taken.now.items ≡ ascending (equations_among store.now.equations (first from queue.now)) }
     ensures none { IfNone result (equations_among store.now.equations queue.now ≡ equations_among store.now.equations (first from queue.now)) }
-    ensures some { IfSome result (λ r. IsNext store.now.equations queue.now from taken.now r.0 r.1.now) }
+    ensures some { IfSome result (λ r. IsNext store.now.equations queue.now from taken.now.items r.0 r.1.now) }
 {
     for place in from..queue.len() {
         match new_equation(store, taken, queue[place]) {
@@ -98,11 +99,15 @@ fn next<'a>(
 }
 
 // The equation of a variable, where there is one that was not taken.
-fn new_equation<'a>(store: &'a Store, taken: &[(VarName, Term)], var: VarName) -> Option<&'a Term>
-    requires { NamesAscend taken.now }
+fn new_equation<'a>(
+    store: &'a Store,
+    taken: &VecDeque<(VarName, Term)>,
+    var: VarName,
+) -> Option<&'a Term>
+    requires { NamesAscend taken.now.items }
     ensures known { IfSome result (λ t. Contains store.now.equations (var, t.now)) }
-    ensures new { IfSome result (λ _. list_any (equal_var var) (left_names taken.now) ≡ false) }
-    ensures none { IfNone result (IsFree store.now.equations var ⊎ (list_any (equal_var var) (left_names taken.now) ≡ true)) }
+    ensures new { IfSome result (λ _. list_any (equal_var var) (left_names taken.now.items) ≡ false) }
+    ensures none { IfNone result (IsFree store.now.equations var ⊎ (list_any (equal_var var) (left_names taken.now.items) ≡ true)) }
 {
     if is_taken(taken, var) {
         return None;
@@ -111,19 +116,19 @@ fn new_equation<'a>(store: &'a Store, taken: &[(VarName, Term)], var: VarName) -
 }
 
 // Whether the equation of a variable was taken.
-fn is_taken(taken: &[(VarName, Term)], var: VarName) -> bool
-    requires { NamesAscend taken.now }
-    ensures { result ≡ list_any (equal_var var) (left_names taken.now) }
+fn is_taken(taken: &VecDeque<(VarName, Term)>, var: VarName) -> bool
+    requires { NamesAscend taken.now.items }
+    ensures { result ≡ list_any (equal_var var) (left_names taken.now.items) }
 {
     let place = place_of(taken, var);
     place < taken.len() && taken[place].0 == var
 }
 
 // How many of these equations, whose names ascend, have a name below this one. It looks at few of them, by halves.
-fn place_of(taken: &[(VarName, Term)], var: VarName) -> usize
-    requires { NamesAscend taken.now }
-    ensures within { result ≤ length taken.now }
-    ensures parted { IsPartitionPoint (λ (e : Equation). below e.0 var ≡ true) (λ (e : Equation). below e.0 var ≡ false) taken.now result }
+fn place_of(taken: &VecDeque<(VarName, Term)>, var: VarName) -> usize
+    requires { NamesAscend taken.now.items }
+    ensures within { result ≤ length taken.now.items }
+    ensures parted { IsPartitionPoint (λ (e : Equation). below e.0 var ≡ true) (λ (e : Equation). below e.0 var ≡ false) taken.now.items result }
 {
     taken.partition_point(
         |equation: &(VarName, Term)| -> bool
@@ -134,9 +139,8 @@ fn place_of(taken: &[(VarName, Term)], var: VarName) -> usize
 
 // An equation is taken: it has its place among the others, and the variables of its term go behind the queue.
 fn take(
-    alloc: Global,
     queue: &mut Vec<VarName>,
-    taken: &mut Vec<(VarName, Term)>,
+    taken: &mut VecDeque<(VarName, Term)>,
     var: VarName,
     term: &Term,
 ) -> Result<(), AllocError>
@@ -144,10 +148,9 @@ fn take(
     ensures queue { OnOk result (queue.new.items ≡ queue.old.items ++ term_vars term.now) }
     ensures taken { OnOk result (taken.new.items ≡ insert_ascending (var, term.now) taken.old.items) }
 {
-    let mut vars = vars_of(alloc, term)?;
     let copy = copy_term(term)?;
     let place = place_of(taken, var);
-    queue.append(&mut vars)?;
+    push_vars(queue, term)?;
     taken.insert(place, (var, copy))?;
     Ok(())
 }

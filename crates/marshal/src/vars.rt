@@ -1,6 +1,6 @@
 //! The variables of a term.
 
-ghost use Rattle.std.specs.Prelude.{◌≡◌, IfOk};
+ghost use Rattle.std.specs.Prelude.{◌≡◌, ◌++◌, IfOk, OnOk};
 ghost use Rattle.site_message.specs.Vars.{vars_of, field_vars};
 
 use std::alloc::{AllocError, Global};
@@ -10,24 +10,35 @@ use tree_node::{Feature, Node, Term, VarName};
 pub fn vars_of(alloc: Global, term: &Term) -> Result<Vec<VarName>, AllocError>
     ensures { IfOk result (λ v. v.items ≡ vars_of term.now) }
 {
+    let mut vars = Vec::new(alloc);
+    push_vars(&mut vars, term)?;
+    Ok(vars)
+}
+
+/// Puts the variables of a term behind others, in their order.
+pub fn push_vars(vars: &mut Vec<VarName>, term: &Term) -> Result<(), AllocError>
+    ensures { OnOk result (vars.new.items ≡ vars.old.items ++ vars_of term.now) }
+{
     match term {
-        Term::Var(var) => Vec::from_slice(alloc, &[*var]),
-        Term::Node(Node::Rec(_, fields)) => vars_of_fields(alloc, fields.as_slice()),
-        Term::Node(Node::Proc(_, _, _, vars)) => Vec::from_slice(alloc, vars.as_slice()),
-        Term::Node(_) => Ok(Vec::new(alloc)),
+        Term::Var(var) => {
+            vars.push(*var)?;
+            Ok(())
+        }
+        Term::Node(Node::Rec(_, fields)) => push_field_vars(vars, fields.as_slice()),
+        Term::Node(Node::Proc(_, _, _, held)) => vars.extend_from_slice(held.as_slice()),
+        Term::Node(_) => Ok(()),
     }
 }
 
-// The variables of fields, in their order.
-fn vars_of_fields(alloc: Global, fields: &[(Feature, VarName)]) -> Result<Vec<VarName>, AllocError>
-    ensures { IfOk result (λ v. v.items ≡ field_vars fields.now) }
+// Puts the variables of fields behind others, in their order.
+fn push_field_vars(vars: &mut Vec<VarName>, fields: &[(Feature, VarName)]) -> Result<(), AllocError>
+    ensures { OnOk result (vars.new.items ≡ vars.old.items ++ field_vars fields.now) }
 {
-    let mut vars = Vec::new(alloc);
     for field in fields {
         let var = var_of(field);
         vars.push(var)?;
     }
-    Ok(vars)
+    Ok(())
 }
 
 // The variable of a field.

@@ -51,6 +51,13 @@ impl Proxies {
         self.entries.get(&var).is_some()
     }
 
+    /// What is kept of the name: nothing where it was not met, then the term that it is known to be bound to, if it is.
+    pub fn entry(&self, var: VarName) -> Option<&Option<Term>>
+        ensures { option_copied result ≡ entry_of self.now var }
+    {
+        self.entries.get(&var)
+    }
+
     /// The term that the name is known to be bound to: none where it was not met or is not bound.
     pub fn state(&self, var: VarName) -> Option<&Term>
         ensures { option_copied result ≡ term_of self.now var }

@@ -34,14 +34,18 @@ impl Picks {
         Picks { list: None }
     }
 
-    /// The picks of a list, as they stand there. It takes no memory for each pick, and none where there are none.
-    pub fn from_list(alloc: Global, list: PickList) -> Result<Picks, AllocError>
-        ensures same { IfOk result (λ s. s ≡ list) }
+    /// Takes the picks of a list out, in memory of just their length. The list has none then, and keeps its memory for others. Where there are
+    /// none it takes no memory.
+    #[tactic(auto, using(crate::proofs::PickLemmas::no_picks))]
+    pub fn take(alloc: Global, list: &mut PickList) -> Result<Picks, AllocError>
+        ensures same { IfOk result (λ s. s ≡ list.old) }
+        ensures empty { OnOk result (list.new ≡ []) }
     {
         if list.len() == 0 {
             return Ok(Picks::new());
         }
-        let list = Arc::new(alloc, list)?;
+        let taken = list.take_all(alloc)?;
+        let list = Arc::new(alloc, taken)?;
         Ok(Picks { list: Some(list) })
     }
 

@@ -67,12 +67,16 @@ impl Schedule {
         let _ = &self.count;
     }
 
-    /// Puts the picks of a turn behind the others. It takes no memory for each pick.
+    /// Puts the picks of a turn behind the others. It takes no memory for each pick, and none for a turn without picks.
+    #[tactic(auto, using(crate::proofs::PickLemmas::none_put))]
     pub fn append(&mut self, turn: &Picks) -> Result<(), AllocError>
         ensures ok { OnOk result (self.new ≡ self.old ++ turn.now) }
         ensures err { OnErr result (self.new ≡ self.old) }
     {
         let more = turn.len();
+        if more == 0 {
+            return Ok(());
+        }
         if more > MOST - self.count {
             return Err(AllocError);
         }

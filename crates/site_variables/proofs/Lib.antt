@@ -1,5 +1,6 @@
 mod LinkLemmas
-pub mod RowLemmas
 mod MeetLemmas
 pub mod MakeLemmas
 mod FitLemmas
+pub mod RowLemmas
+mod CountedLemmas

@@ -1,6 +1,9 @@
 -- What calls on a site's variables do, in the rows of the site's definition.
-use Rattle.std.specs.Prelude.{◌≡◌, ◌↔◌, ◌⊎◌, List, [], ◌∷◌, ◌++◌, Some, None, Contains}
+use Rattle.std.specs.Prelude.{◌≡◌, ◌↔◌, ◌⊎◌, ◌+◌, ◌-◌, ◌^◌, ◌<◌, ◌≤◌, List, [], ◌∷◌, ◌++◌, Option, Some, None, Contains}
 use Rattle.tree_node.specs.declared.names.VarName.{VarName}
+use Rattle.tree_node.specs.declared.names.Name.TheVariants as name
+use Rattle.pick_list.specs.Names.{row_of}
+use Rattle.oz_model.specs.Effect.{vars_among}
 use Rattle.tree_node.specs.declared.names.ThreadName.{ThreadName}
 use Rattle.tree_node.specs.declared.node.Term.{Term}
 use Rattle.tree_node.specs.declared.pick.Pick.{Pick}
@@ -80,3 +83,15 @@ pub record IsVariableRow (row : Site → Transition) (picks : List Pick) (p q : 
 abbrev pub request_picks : Asked → ThreadName → VarName → Term → List Pick
 request_picks Taken n x t = bind_pick n x t ∷ []
 request_picks Late n x t = []
+
+-- ---- variables in a row
+
+-- the variables that a counter gave from the first of these on up to the second
+abbrev pub vars_between : Option VarName → Option VarName → List VarName
+vars_between (Some a) (Some b) = vars_among (row_of (name.Var a) (b.num - a.num))
+vars_between _ _ = []
+
+-- a counter gave both, the second no earlier, and few between them
+abbrev pub AreCounted : Option VarName → Option VarName → Type 0
+AreCounted (Some a) (Some b) = (a.site ≡ b.site) × (a.num ≤ b.num) × (b.num < a.num + 2 ^ 32)
+AreCounted _ _ = Unit {0}

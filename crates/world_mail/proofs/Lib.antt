@@ -1,1 +1,2 @@
 pub mod MailLemmas
+pub mod QueueLemmas

@@ -222,6 +222,12 @@ module _ (ms : List (ℕ × Sent)) (ts : List Travel) (qs : List (List ℕ)) (ke
           let yes : (m.to == site) ≡ true = sym (ap (is_for site) q) ∙ sym (kept.queues site number inside) ∙ h in
           (m, q, (Decides-eqb m.to site).0 yes)
 
+  -- a number in the queue is that of a message for the site
+  pub one_queued : (k : ℕ) × (is_queued (queue_at qs site) k ≡ true) → IsNoneFor (map travel_of ms) site → ⊥
+  one_queued (k, there) none =
+      let m = held k there in
+      none (record { number = k; to = site }) ((travels_tell ms kept.once k site).1 (m.0.msg, subst (λ (x : ℕ). message_at ms k ≡ Some (record { to = x; msg = m.0.msg })) m.2 m.1)) refl
+
   pub first_queued : (number : ℕ) → is_queued (queue_at qs site) number ≡ true → ((k : ℕ) → is_queued (queue_at qs site) k ≡ true → number ≤ k) →
       (r : Option ℕ) → r ≡ position (nat_eq number) (keys_of ms) → is_some r ≡ is_some (message_at ms number) → IfSome r (λ i. slice_get (values_of ms) i ≡ message_at ms number) →
       MatchOption r (IsNoneFor (map travel_of ms) site) (λ place. IsFirstFor (map travel_of ms) site place)

@@ -1,6 +1,6 @@
 //! The messages on their way between the sites.
 
-ghost use Rattle.std.specs.Prelude.{◌≡◌, ℕ, ◌+◌, ◌^◌, ◌<◌, ◌≤◌, ◌≢◌, [], ◌∷◌, ◌++◌, length, map, IsTrue, ◌↔◌, Some, None, slice_get, Contains, nat_eq, IfOk, OnOk, OnErr, MatchOption};
+ghost use Rattle.std.specs.Prelude.{◌≡◌, ℕ, ◌+◌, ◌^◌, ◌<◌, ◌≤◌, ◌≢◌, [], ◌∷◌, ◌++◌, length, map, true, false, IsTrue, ◌↔◌, Some, None, slice_get, Contains, nat_eq, IfOk, OnOk, OnErr, MatchOption};
 ghost use Rattle.std.specs.List.{enumerate_from, IsDistinct};
 ghost use Rattle.std.specs.Map.{keys_of};
 ghost use Rattle.tree_node.specs.declared.limits.TheConstants.{MOST_SITES};
@@ -66,6 +66,15 @@ impl Mail {
         ensures once { IsDistinct nat_eq (map (λ t. t.number) result.now) }
     {
         self.travels.as_slice()
+    }
+
+    /// Whether a message for the site is on its way.
+    pub fn has_for(&self, site: u32) -> bool
+        requires { site < self.now.queues }
+        ensures none { result ≡ false → IsNoneFor (map travel_of self.now.messages) site }
+        ensures some { result ≡ true → IsNoneFor (map travel_of self.now.messages) site → ⊥ }
+    {
+        !self.queues[site as usize].is_empty()
     }
 
     /// The place of the message with the lowest number for the site.

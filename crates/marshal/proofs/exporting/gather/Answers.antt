@@ -1,7 +1,5 @@
-use Rattle.std.proofs.Common.{arith, ◌≡◌, ◌∙◌, ap, sym, subst, List, take}
+use Rattle.std.proofs.Common.{arith, ◌≡◌, ◌∙◌, ap, subst, List, take}
 use Rattle.tree_node.specs.declared.names.VarName.{VarName}
-use Rattle.tree_node.specs.Store.{Equation}
-use Rattle.site_message.specs.Wire.{NamesAscend}
 use Rattle.site_model.specs.Bundle.{insert_ascending}
 use Rattle.marshal.specs.Marshal.{IsNext, equations_among}
 use Rattle.marshal.proofs.GatherLemmas.{gathered_more, gathered_all, gathered_ascends}
@@ -22,12 +20,11 @@ loop-count-preserved c =
     next : IsNext c.args.store.now.equations c.loop-count.queue.items c.loop-count.from c.loop-count.taken.items c.in-Some.place c.in-Some.term.now
     next =
         subst (λ (l : List VarName). IsNext c.args.store.now.equations l c.loop-count.from c.loop-count.taken.items c.in-Some.place c.in-Some.term.now) c.deref.ensures.value
-        (subst (λ (es : List Equation). IsNext c.args.store.now.equations c.deref.result.now c.loop-count.from es c.in-Some.place c.in-Some.term.now) c.deref-in-loop-count.ensures.value c.in-Some.ensures.some)
+        c.in-Some.ensures.some
 
 pub next-requires-clause-ordered : goal.next-requires-clause-ordered
 next-requires-clause-ordered c =
-    subst NamesAscend (sym c.deref-in-loop-count.ensures.value)
-    (gathered_ascends c.args.store.now.equations c.args.queue.now.items c.loop-count.queue.items c.loop-count.from c.loop-count.count c.loop-count.taken.items c.loop-count.invariant)
+    gathered_ascends c.args.store.now.equations c.args.queue.now.items c.loop-count.queue.items c.loop-count.from c.loop-count.count c.loop-count.taken.items c.loop-count.invariant
 
 pub take-requires : goal.take-requires
 take-requires c = gathered_ascends c.args.store.now.equations c.args.queue.now.items c.loop-count.queue.items c.loop-count.from c.loop-count.count c.loop-count.taken.items c.loop-count.invariant

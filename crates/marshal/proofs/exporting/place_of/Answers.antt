@@ -8,4 +8,4 @@ use Rattle.marshal.proofs.exporting.place_of.Goals as goal
 pub returns-clause-parted : goal.returns-clause-parted
 returns-clause-parted c =
     c.partition_point.ensures.partitioned (λ (e : Equation). is_below e.0 c.args.var) (always_returns_same _ _ _ (λ a r f k. search (rules, of_calls)))
-    (below_first c.args.taken.now c.args.var c.requires)
+    (below_first c.args.taken.now.items c.args.var c.requires)

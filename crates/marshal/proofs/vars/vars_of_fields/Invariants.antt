@@ -1,6 +1,0 @@
-use Rattle.std.proofs.Common.{◌≡◌, take}
-use Rattle.site_message.specs.Vars.{field_vars}
-use Rattle.marshal.proofs.vars.vars_of_fields.Given as goal
-
-abbrev pub invariant-loop-field : goal.invariant-loop-field
-invariant-loop-field l = l.vars.items ≡ field_vars (take l.field-index l.fields)
