@@ -14,7 +14,7 @@ fn busy_among(world: &World<'_>, from: u32, end: u32) -> Option<u32>
     ensures { MatchOption result ((i : ℕ) → from ≤ i → i < end → IsAtEase world.now i) (λ i. IsFirstBusy world.now from end i) }
 {
     for site in from..end {
-        if !world.idle(site) || world.next_for(site).is_some() {
+        if !world.idle(site) || world.has_message(site) {
             return Some(site);
         }
     }

@@ -1,3 +1,4 @@
+pub mod ResultLemmas
 pub mod FitLemmas
 pub mod CodeLemmas
 pub mod NameLemmas

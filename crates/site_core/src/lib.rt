@@ -25,6 +25,7 @@
 mod deliver;
 mod entry;
 mod fit;
+mod guarded;
 mod laws;
 mod receive;
 mod replay;

@@ -12,21 +12,22 @@ ghost use Rattle.site_core.specs.Replay.{IsReplayMade, IsStuckTurn};
 ghost use Rattle.site_units.specs.declared.replay.Replay.TheVariants.{NotRunnable};
 ghost use Rattle.site_core.specs.Start.{first_order};
 
-use crate::entry::{recorded_replay, recorded_turn};
-use crate::start::{bare_core, first_core};
+use crate::guarded::{guarded_replay, guarded_turn};
+use crate::start::first_core;
 use kernel_syntax::Program;
 use site_message::{Msg, NoSeat, Outside, Quantum, Turn};
-use site_units::{Core, Replay, site_in};
+use site_units::{Core, Output, Replay};
 use std::alloc::{AllocError, Global};
 use std::marker::Model;
 use tree_node::ThreadName;
 
 /// One site of a program, with a seat. A site whose turn ran out of memory is spent: its data are given up and it makes no turn
-/// any more, but its seat can still be lent and taken.
+/// any more, but its seat can still be lent and taken. What a turn makes is gathered in memory that the site keeps for the next turn.
 #[derive(Drop)]
 pub struct Site<'a, O> {
     program: &'a Program,
     core: Core,
+    output: Output,
     spent: bool,
     seat: O,
 }
@@ -41,7 +42,7 @@ impl<'a, O> Model for Site<'a, O> {
 
     ghost view = { λ s. record { program = s.program.now; sites = s.core.sites; state = site_of s.core; order = s.core.threads.order; spent = s.spent; seat = s.seat } };
 
-    ghost invariant = { λ s. IsConsistentUnlessSpent s.program.now s.core s.spent };
+    ghost invariant = { λ s. IsConsistentUnlessSpent s.program.now s.core s.output s.spent };
 }
 
 impl<'a> Site<'a, NoSeat> {
@@ -65,6 +66,7 @@ impl<'a> Site<'a, NoSeat> {
         Ok(Site {
             program,
             core,
+            output: Output::new(alloc),
             spent: false,
             seat: NoSeat,
         })
@@ -77,12 +79,14 @@ impl<'a> Site<'a, NoSeat> {
         let Site {
             program,
             core,
+            output,
             spent,
             seat: _,
         } = self;
         Site {
             program,
             core,
+            output,
             spent,
             seat,
         }
@@ -105,6 +109,7 @@ impl<'a, O: Outside> Site<'a, O> {
         let Site {
             program: _,
             core: _,
+            output: _,
             spent: _,
             seat,
         } = self;
@@ -153,20 +158,14 @@ impl<'a, O: Outside> Site<'a, O> {
         ensures live { OnOk result (self.new.spent ≡ false) }
         ensures spent { OnErr result (self.new.spent ≡ true) }
     {
-        let number = site_in(&self.core.fresh);
-        let sites = self.core.sites;
-        let alloc = self.core.alloc;
-        self.spent = true;
-        match recorded_turn(&mut self.core, self.program, message, quantum) {
-            Ok(entry) => {
-                self.spent = false;
-                Ok(entry)
-            }
-            Err(error) => {
-                self.core = bare_core(alloc, number, sites);
-                Err(error)
-            }
-        }
+        guarded_turn(
+            &mut self.core,
+            &mut self.output,
+            &mut self.spent,
+            self.program,
+            message,
+            quantum,
+        )
     }
 
     /// One turn made again: the message, if there is one, with its number, and then a unit of each of these threads, in order.
@@ -192,19 +191,13 @@ impl<'a, O: Outside> Site<'a, O> {
         ensures live { OnOk result (self.new.spent ≡ false) }
         ensures spent { OnErr result (self.new.spent ≡ true) }
     {
-        let number = site_in(&self.core.fresh);
-        let sites = self.core.sites;
-        let alloc = self.core.alloc;
-        self.spent = true;
-        match recorded_replay(&mut self.core, self.program, message, threads) {
-            Ok(entry) => {
-                self.spent = false;
-                Ok(entry)
-            }
-            Err(error) => {
-                self.core = bare_core(alloc, number, sites);
-                Err(error)
-            }
-        }
+        guarded_replay(
+            &mut self.core,
+            &mut self.output,
+            &mut self.spent,
+            self.program,
+            message,
+            threads,
+        )
     }
 }

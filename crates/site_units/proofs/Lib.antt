@@ -31,4 +31,11 @@ pub mod PortUnitLemmas
 pub mod HomeUnitLemmas
 pub mod ResumeLemmas
 pub mod AnswerLemmas
+pub mod StretchLemmas
 pub mod HearLemmas
+pub mod ChainLemmas
+pub mod CountLemmas
+pub mod TellLemmas
+pub mod ActLemmas
+pub mod LedLemmas
+pub mod LastLemmas

@@ -3,7 +3,6 @@ use Rattle.std.proofs.Common.{arith, ◌≡◌, ◌∙◌, sym, ap, refl, subst,
 use Rattle.std.specs.Prelude.{Option, ◌+◌, ◌≤◌, ◌<◌}
 use Rattle.tree_node.specs.declared.names.ThreadName.{ThreadName}
 use Rattle.tree_node.specs.declared.pick.Pick.{Pick}
-use Rattle.tree_store.specs.Forest.{IsForest}
 use Rattle.kernel_syntax.specs.declared.stmt.Stmt.{Stmt}
 use Rattle.site_message.specs.declared.message.Sent.{Sent}
 use Rattle.thread_machine.specs.Running.{Running}
@@ -21,16 +20,14 @@ use Rattle.site_units.specs.declared.data.Core.{Core}
 use Rattle.site_units.specs.declared.data.Output.{Output}
 use Rattle.site_units.specs.Core.{site_of, stack_in}
 use Rattle.site_units.specs.Invariant.{IsConsistent}
-use Rattle.site_units.specs.Order.{IsUnitOfFirst, last_of, passed_on}
-use Rattle.site_units.specs.Units.{IsTransitionMade, IsUnitPacked}
+use Rattle.site_units.specs.Order.{last_of, passed_on}
+use Rattle.site_units.specs.Units.{IsTransitionMade}
 use Rattle.site_units.specs.declared.turn.LastUnits.{LastUnits}
 use Rattle.site_units.specs.LastUnits.{thread_of_some, thread_in, threads_of}
 use Rattle.site_message.specs.Units.{in_a_row}
-use Rattle.site_message.proofs.UnitLemmas.{row_more}
-use Rattle.site_units.specs.Turns.{IsTheUnit, AreUnitsInOrder, AreUnitsMade, AreToldUnitsMade}
+use Rattle.site_units.specs.Turns.{AreUnitsInOrder, AreUnitsMade, AreToldUnitsMade}
 use Rattle.site_units.proofs.SiteLemmas.{nil_right, joined}
-use Rattle.site_units.proofs.OrderLemmas.{order_seen, last_end, none_passed}
-use Rattle.site_units.proofs.OneUnitLemmas.{unit_is_one}
+use Rattle.site_units.proofs.OrderLemmas.{order_seen, none_passed}
 use Rattle.std.proofs.lemmas.Bool.{eq-eqb}
 
 -- ---- transitions in a row
@@ -38,7 +35,7 @@ use Rattle.std.proofs.lemmas.Bool.{eq-eqb}
 pub sequence_joined : (a b c : Transition) → sequence (sequence a b) c ≡ sequence a (sequence b c)
 sequence_joined a b c = rw (joined a.picks b.picks c.picks, joined a.sent b.sent c.sent, joined a.lines b.lines c.lines) refl
 
-sequence_nothing : (d : Transition) → d ≡ sequence d (without_output d.site)
+pub sequence_nothing : (d : Transition) → d ≡ sequence d (without_output d.site)
 sequence_nothing d = rw (nil_right d.picks, nil_right d.sent, nil_right d.lines) refl
 
 pub units_more : (p : List Stmt) (n limit : ℕ) (ths : List ThreadName) (th : ThreadName) (s : Site) (d one : Transition) → AreUnits p n limit ths s d → IsUnit p n limit th d.site one → AreUnits p n limit (ths ++ th ∷ []) s (sequence d one)
@@ -48,16 +45,6 @@ units_more p n limit [] th s d one e u =
 units_more p n limit (t ∷ ths) th s d one (first, rest, u0, us, e) u =
     let tail : IsUnit p n limit th rest.site one = subst (λ (z : Transition). IsUnit p n limit th z.site one) e u in
     (first, sequence rest one, u0, units_more p n limit ths th first.site rest one us tail, ap (λ (z : Transition). sequence z one) e ∙ sequence_joined first rest one)
-
--- so it is with units in order
-in_order_more : (p : List Stmt) (n : ℕ) (ths : List ThreadName) (th : ThreadName) (s : Site) (old now new : List ThreadName) (d one : Transition) → AreUnitsInOrder p n ths s old d now → IsTheUnit p n th d.site one → IsUnitOfFirst th now new → IsOrderOf one.site.threads new →
-    AreUnitsInOrder p n (ths ++ th ∷ []) s old (sequence d one) new
-in_order_more p n [] th s old now new d one (e, same, stands) u first ready =
-    let here : IsTheUnit p n th s one = subst (λ (z : Transition). IsTheUnit p n th z.site one) e u in
-    (one, without_output one.site, new, stands, here, subst (λ (l : List ThreadName). IsUnitOfFirst th l new) same first, (refl, refl, ready), ap (λ (z : Transition). sequence z one) e ∙ sequence_nothing one)
-in_order_more p n (t ∷ ths) th s old now new d one (begins, rest, then, stands, u0, f0, us, e) u first ready =
-    let tail : IsTheUnit p n th rest.site one = subst (λ (z : Transition). IsTheUnit p n th z.site one) e u in
-    (begins, sequence rest one, then, stands, u0, f0, in_order_more p n ths th begins.site then now new rest one us tail first ready, ap (λ (z : Transition). sequence z one) e ∙ sequence_joined begins rest one)
 
 -- units in order are units
 pub are_units : (p : List Stmt) (n : ℕ) (ths : List ThreadName) (s : Site) (old new : List ThreadName) (d : Transition) → AreUnitsInOrder p n ths s old d new → AreUnits p n bundle_limit ths s d
@@ -116,30 +103,9 @@ no_units p c o h ready = record {
   steps = omega arith;
 }
 
-length_end : {X : Type 0} (xs : List X) (x : X) → length (xs ++ x ∷ []) ≡ suc (length xs)
+pub length_end : {X : Type 0} (xs : List X) (x : X) → length (xs ++ x ∷ []) ≡ suc (length xs)
 length_end [] x = refl
 length_end (y ∷ xs) x = ap suc (length_end xs x)
-
-one_more : (p : List Stmt) (count : ℕ) (last next : Option ThreadName) (c0 c1 c2 : Core) (o0 o1 o2 : Output) (th : ThreadName) → IsForest c1.variables.store.equations → UnitsSoFar p count last c0 o0 c1 o1 → IsUnitPacked p th c1 o1 c2 o2 → IsUnitOfFirst th c1.threads.order c2.threads.order → IsOrderOf c2.threads.living c2.threads.order → c2.steps ≤ c1.steps + 1 →
-    next ≡ Some th → UnitsSoFar p (count + 1) next c0 o0 c2 o2
-one_more p count last next c0 c1 c2 o0 o1 o2 th f h (one, unit, reached) first ready more is = record {
-  ths = h.ths ++ th ∷ [];
-  d = sequence h.d one;
-  units = in_order_more p c0.sites h.ths th (site_of c0) c0.threads.order c1.threads.order c2.threads.order h.d one h.units (here, λ e u. unit_is_one p c0.sites bundle_limit th h.d.site e one forest u here) first stands;
-  reached = reached_more p h.d one c0 c1 c2 o0 o1 o2 h.reached reached;
-  as_many = let e : length (h.ths ++ th ∷ []) ≡ suc (length h.ths) = length_end h.ths th in let f : length h.ths ≡ count = h.as_many in omega arith;
-  ends = last_end h.ths th ∙ sym is;
-  steps = let f : c1.steps ≤ c0.steps + count = h.steps in omega arith;
-}
-  where
-    here : IsUnit p c0.sites bundle_limit th h.d.site one
-    here = subst (λ (s : Site). IsUnit p c0.sites bundle_limit th s one) h.reached.site (subst (λ (n : ℕ). IsUnit p n bundle_limit th (site_of c1) one) h.reached.sites unit)
-
-    forest : IsForest h.d.site.equations
-    forest = subst (λ (s : Site). IsForest s.equations) h.reached.site f
-
-    stands : IsOrderOf one.site.threads c2.threads.order
-    stands = subst (λ (s : Site). IsOrderOf s.threads c2.threads.order) reached.site (order_seen c2.threads.living c2.threads.order ready)
 
 -- ---- rest
 
@@ -223,21 +189,25 @@ of_some (suc n) th some = refl
 pub their_thread : (last : LastUnits) → 0 < last.count → thread_in last ≡ Some last.thread
 their_thread last some = of_some last.count last.thread some
 
--- one more of the same thread
-pub counted_on : (t : List ThreadName) (old new : LastUnits) (th : ThreadName) → old.thread ≡ th → new.thread ≡ old.thread → new.count ≡ old.count + 1 → t ++ threads_of new ≡ (t ++ threads_of old) ++ th ∷ []
-counted_on t old new th is same more =
+pub row_joined : (a b : ℕ) (th : ThreadName) → in_a_row (a + b) th ≡ in_a_row a th ++ in_a_row b th
+row_joined zero b th = let e : zero + b ≡ b = omega arith in ap (λ (k : ℕ). in_a_row k th) e
+row_joined (suc a) b th = let e : suc a + b ≡ suc (a + b) = omega arith in ap (λ (k : ℕ). in_a_row k th) e ∙ ap (λ (l : List ThreadName). th ∷ l) (row_joined a b th)
+
+-- so many more of the same thread
+pub counted_on : (t : List ThreadName) (old new : LastUnits) (th : ThreadName) (k : ℕ) → old.thread ≡ th → new.thread ≡ old.thread → new.count ≡ old.count + k → t ++ threads_of new ≡ (t ++ threads_of old) ++ in_a_row k th
+counted_on t old new th k is same more =
     ap (λ (m : ThreadName). t ++ in_a_row new.count m) (same ∙ is)
     ∙ (ap (λ (n : ℕ). t ++ in_a_row n th) more
-    ∙ (ap (λ (us : List ThreadName). t ++ us) (row_more old.count th)
-    ∙ (sym (joined t (in_a_row old.count th) (th ∷ []))
-    ∙ ap (λ (m : ThreadName). (t ++ in_a_row old.count m) ++ th ∷ []) (sym is))))
+    ∙ (ap (λ (us : List ThreadName). t ++ us) (row_joined old.count k th)
+    ∙ (sym (joined t (in_a_row old.count th) (in_a_row k th))
+    ∙ ap (λ (m : ThreadName). (t ++ in_a_row old.count m) ++ in_a_row k th) (sym is))))
 
--- the first one of another thread, behind those before
-pub begun : (t u : List ThreadName) (old new : LastUnits) (th : ThreadName) → u ≡ t ++ threads_of old → new.thread ≡ th → new.count ≡ 1 → u ++ threads_of new ≡ (t ++ threads_of old) ++ th ∷ []
-begun t u old new th e is one =
+-- the first ones of another thread, behind those before
+pub begun : (t u : List ThreadName) (old new : LastUnits) (th : ThreadName) (k : ℕ) → u ≡ t ++ threads_of old → new.thread ≡ th → new.count ≡ k → u ++ threads_of new ≡ (t ++ threads_of old) ++ in_a_row k th
+begun t u old new th k e is as_many =
     ap (λ (us : List ThreadName). us ++ threads_of new) e
     ∙ (ap (λ (m : ThreadName). (t ++ threads_of old) ++ in_a_row new.count m) is
-    ∙ ap (λ (n : ℕ). (t ++ threads_of old) ++ in_a_row n th) one)
+    ∙ ap (λ (n : ℕ). (t ++ threads_of old) ++ in_a_row n th) as_many)
 
 -- none is told
 pub told_none : (t : List ThreadName) (last : LastUnits) → last.count ≡ 0 → t ≡ t ++ threads_of last
@@ -262,15 +232,6 @@ none_told p last t c o none h ready =
       told = sym (told_none t last none) ∙ sym (nil_right t) ∙ ap (λ (us : List ThreadName). t ++ us) (sym (no_names units.ths units.as_many));
       few = omega (arith, none);
     }
-
-pub one_told : (p : List Stmt) (count : ℕ) (last next : LastUnits) (t0 t1 t2 : List ThreadName) (c0 c1 c2 : Core) (o0 o1 o2 : Output) (th : ThreadName) → IsForest c1.variables.store.equations → ToldSoFar p count last t0 t1 c0 o0 c1 o1 → IsUnitPacked p th c1 o1 c2 o2 →
-    IsUnitOfFirst th c1.threads.order c2.threads.order → IsOrderOf c2.threads.living c2.threads.order → c2.steps ≤ c1.steps + 1 → thread_in next ≡ Some th → next.count ≤ last.count + 1 → t2 ++ threads_of next ≡ (t1 ++ threads_of last) ++ th ∷ [] → ToldSoFar p (count + 1) next t0 t2 c0 o0 c2 o2
-unfolding one_more
-one_told p count last next t0 t1 t2 c0 c1 c2 o0 o1 o2 th f h unit first ready more is most told = record {
-  made = one_more p count (thread_in last) (thread_in next) c0 c1 c2 o0 o1 o2 th f h.made unit first ready more is;
-  told = told ∙ (ap (λ (ths : List ThreadName). ths ++ th ∷ []) h.told ∙ joined t0 h.made.ths (th ∷ []));
-  few = let f : last.count ≤ count = h.few in omega arith;
-}
 
 -- nothing was done, since no thread can go on
 pub told_stop : (p : List Stmt) (quantum count : ℕ) (last : LastUnits) (t0 t1 t2 : List ThreadName) (c0 c1 c2 : Core) (o0 o1 o2 : Output) → ToldSoFar p count last t0 t1 c0 o0 c1 o1 → t2 ≡ t1 ++ threads_of last → c2 ≡ c1 → o2 ≡ o1 → count ≤ quantum →

@@ -6,4 +6,7 @@ pub mod Turns
 pub mod Serving
 pub mod Replay
 pub mod LastUnits
+pub mod Tells
+pub mod Outputs
+pub mod Stretches
 pub mod Answers

@@ -12,6 +12,7 @@ use Rattle.site_units.specs.declared.data.Output.{Output}
 use Rattle.site_units.specs.Core.{site_of}
 use Rattle.site_units.specs.Order.{IsUnitOfFirst, last_of, passed_on}
 use Rattle.site_units.specs.Units.{IsTransitionMade}
+use Rattle.site_units.specs.Stretches.{AreQuietUnits, AreUnitsBy}
 
 -- the data and the output came by this row of the site
 abbrev pub IsRowMade : List Stmt → (Site → Transition) → Core → Output → Core → Output → Type 0
@@ -28,6 +29,18 @@ AreUnitsInOrder p n [] s old d new = (d ≡ without_output s) × (new ≡ old) �
 AreUnitsInOrder p n (th ∷ ths) s old d new =
     (one rest : Transition) × (now : List ThreadName) × IsOrderOf s.threads old × IsTheUnit p n th s one × IsUnitOfFirst th old now
     × AreUnitsInOrder p n ths one.site now rest new × (d ≡ sequence one rest)
+
+-- so many quiet units of one thread were made
+abbrev pub AreQuietUnitsOf : List Stmt → ℕ → ThreadName → Core → Output → Core → Output → Type 0
+AreQuietUnitsOf p count th c0 o0 c1 o1 = (d : Transition) × AreQuietUnits p c0.sites 0 count th (site_of c0) d × IsTransitionMade p d c0 o0 c1 o1
+
+-- so many units of it, of which all but one are quiet, and whose messages are bare
+abbrev pub AreUnitsOf : List Stmt → ℕ → ThreadName → Core → Output → Core → Output → Type 0
+AreUnitsOf p count th c0 o0 c1 o1 = (d : Transition) × AreUnitsBy p c0.sites 0 count th (site_of c0) d × IsTransitionMade p d c0 o0 c1 o1
+
+-- and whose messages got their bundles
+abbrev pub ArePackedUnitsOf : List Stmt → ℕ → ThreadName → Core → Output → Core → Output → Type 0
+ArePackedUnitsOf p count th c0 o0 c1 o1 = (d : Transition) × AreUnitsBy p c0.sites bundle_limit count th (site_of c0) d × IsTransitionMade p d c0 o0 c1 o1
 
 -- units of these threads were made, as many as the quantum, fewer only where the site is then idle, each of the first of those that can
 -- go on; and the thread of the last one then went behind the others, where it can go on

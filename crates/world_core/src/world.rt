@@ -173,6 +173,16 @@ impl<'a> World<'a> {
         self.mail.travels()
     }
 
+    /// Whether a message travels to the site.
+    pub fn has_message(&self, site: u32) -> bool
+        requires among { site ≤ self.now.sites }
+        requires live { self.now.spent ≡ false }
+        ensures some { result ≡ true → IsNoneFor self.now.travels site → ⊥ }
+        ensures none { result ≡ false → IsNothingFor self.now.journal site }
+    {
+        self.mail.has_for(site)
+    }
+
     /// The place of the message with the lowest number that travels to the site.
     pub fn next_for(&self, site: u32) -> Option<usize>
         requires among { site ≤ self.now.sites }

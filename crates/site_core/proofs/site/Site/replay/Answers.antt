@@ -1,31 +1,49 @@
-use Rattle.std.proofs.Common.{◌∙◌, ap, subst, length}
-use Rattle.bind_protocol.specs.Records.{Records}
-use Rattle.site_units.specs.Core.{site_of}
+use Rattle.std.proofs.Common.{◌∙◌, ap, subst, length, sym, ◌+◌, ◌≤◌, ◌^◌}
+use Rattle.std.specs.Prelude.{IfOk, OnOk}
+use Rattle.site_message.specs.declared.turn.Turn.{Turn}
 use Rattle.site_core.specs.Replay.{IsReplayMade, IsStuckTurn}
 use Rattle.site_core.specs.Site.{IsTurnMade, message_in}
+use Rattle.site_core.proofs.ResultLemmas.{if_ok_more}
 use Rattle.site_core.proofs.ReplayLemmas.{replay_is_turn}
+use Rattle.site_units.specs.Core.{site_of}
 use Rattle.site_core.proofs.site.Site.replay.Goals as goal
 
-pub returns-in-Err-clause-sites : goal.returns-in-Err-clause-sites
-returns-in-Err-clause-sites g c = c.bare_core.ensures.sites ∙ ap (λ s. s.sites) c.self.view_is
+pub guarded_replay-requires-clause-consistent : goal.guarded_replay-requires-clause-consistent
+guarded_replay-requires-clause-consistent g c = (c.self.invariant (ap (λ s. s.spent) c.self.view_is ∙ c.requires.live)).0
 
-pub returns-in-Err-clause-number : goal.returns-in-Err-clause-number
-returns-in-Err-clause-number g c =
-    let consistent = c.self.invariant (ap (λ s. s.spent) c.self.view_is ∙ c.requires.live) in
-    ap (λ (b : Records). b.site) c.bare_core.ensures.records ∙ (c.site_in-number.ensures _ consistent.site ∙ ap (λ s. s.state.records.site) c.self.view_is)
+pub guarded_replay-requires-clause-empty : goal.guarded_replay-requires-clause-empty
+guarded_replay-requires-clause-empty g c = (c.self.invariant (ap (λ s. s.spent) c.self.view_is ∙ c.requires.live)).1
 
-pub returns-in-Ok-clause-number : goal.returns-in-Ok-clause-number
-returns-in-Ok-clause-number g c = c.in-Ok.ensures.number ∙ ap (λ s. s.state.records.site) c.self.view_is
+pub guarded_replay-requires-clause-room : goal.guarded_replay-requires-clause-room
+guarded_replay-requires-clause-room g c = subst (λ s. s.state.steps ≤ 2 ^ 48) (sym c.self.view_is) c.requires.room
 
-pub returns-in-Ok-clause-turn : goal.returns-in-Ok-clause-turn
-returns-in-Ok-clause-turn g c =
-    subst (λ s. IsReplayMade s.program s.sites s.state c.args.message c.args.threads.now c.in-Ok.entry (site_of c.recorded_replay.new.core)) c.self.view_is c.in-Ok.ensures.turn
+pub returns-clause-sites : goal.returns-clause-sites
+returns-clause-sites g c = c.guarded_replay.ensures.sites ∙ ap (λ s. s.sites) c.self.view_is
 
-pub returns-in-Err-clause-stuck : goal.returns-in-Err-clause-stuck
-returns-in-Err-clause-stuck g c at e =
-    subst (λ s. IsStuckTurn s.program s.sites s.state (message_in c.args.message) c.args.threads.now at) c.self.view_is (c.in-Err.ensures.stuck at e)
+pub returns-clause-number : goal.returns-clause-number
+returns-clause-number g c = c.guarded_replay.ensures.number ∙ ap (λ s. s.state.records.site) c.self.view_is
 
-pub returns-in-Ok-clause-as_many : goal.returns-in-Ok-clause-as_many
-returns-in-Ok-clause-as_many g c =
-    subst (λ s. IsTurnMade s.program s.sites s.state c.args.message (length c.args.threads.now) c.in-Ok.entry (site_of c.recorded_replay.new.core)) c.self.view_is
-    (replay_is_turn _ _ _ c.args.message c.args.threads.now c.in-Ok.entry (site_of c.recorded_replay.new.core) c.in-Ok.ensures.turn)
+pub returns-clause-turn : goal.returns-clause-turn
+returns-clause-turn g c =
+    subst (λ s. IfOk c.guarded_replay.result (λ e. IsReplayMade s.program s.sites s.state c.args.message c.args.threads.now e (site_of c.guarded_replay.new.core))) c.self.view_is c.guarded_replay.ensures.turn
+
+pub returns-clause-stuck : goal.returns-clause-stuck
+returns-clause-stuck g c at e =
+    subst (λ s. IsStuckTurn s.program s.sites s.state (message_in c.args.message) c.args.threads.now at) c.self.view_is (c.guarded_replay.ensures.stuck at e)
+
+pub returns-clause-as_many : goal.returns-clause-as_many
+returns-clause-as_many g c =
+    let now = site_of c.guarded_replay.new.core in
+    if_ok_more c.guarded_replay.result (λ (e : Turn). IsReplayMade c.args.self.now.program c.args.self.now.sites c.args.self.now.state c.args.message c.args.threads.now e now)
+    (λ (e : Turn). IsTurnMade c.args.self.now.program c.args.self.now.sites c.args.self.now.state c.args.message (length c.args.threads.now) e now)
+    (λ e made. replay_is_turn c.args.self.now.program c.args.self.now.sites c.args.self.now.state c.args.message c.args.threads.now e now made)
+    (subst (λ s. IfOk c.guarded_replay.result (λ e. IsReplayMade s.program s.sites s.state c.args.message c.args.threads.now e (site_of c.guarded_replay.new.core))) c.self.view_is c.guarded_replay.ensures.turn)
+
+pub returns-clause-few : goal.returns-clause-few
+returns-clause-few g c = subst (λ s. OnOk c.guarded_replay.result (c.guarded_replay.new.core.steps ≤ s.state.steps + length c.args.threads.now)) c.self.view_is c.guarded_replay.ensures.steps
+
+pub returns-clause-live : goal.returns-clause-live
+returns-clause-live g c = c.guarded_replay.ensures.live
+
+pub returns-clause-spent : goal.returns-clause-spent
+returns-clause-spent g c = c.guarded_replay.ensures.over

@@ -1,24 +1,38 @@
-use Rattle.std.proofs.Common.{◌∙◌, ap, subst}
-use Rattle.bind_protocol.specs.Records.{Records}
-use Rattle.site_units.specs.Core.{site_of}
+use Rattle.std.proofs.Common.{◌∙◌, ap, subst, sym, ◌+◌, ◌≤◌, ◌^◌}
+use Rattle.std.specs.Prelude.{IfOk, OnOk}
 use Rattle.site_core.specs.Site.{IsTurnInOrder, IsTurnMade, message_in}
+use Rattle.site_units.specs.Core.{site_of}
 use Rattle.site_core.proofs.site.Site.turn.Goals as goal
 
-pub returns-in-Err-clause-sites : goal.returns-in-Err-clause-sites
-returns-in-Err-clause-sites g c = c.bare_core.ensures.sites ∙ ap (λ s. s.sites) c.self.view_is
+pub guarded_turn-requires-clause-consistent : goal.guarded_turn-requires-clause-consistent
+guarded_turn-requires-clause-consistent g c = (c.self.invariant (ap (λ s. s.spent) c.self.view_is ∙ c.requires.live)).0
 
-pub returns-in-Err-clause-number : goal.returns-in-Err-clause-number
-returns-in-Err-clause-number g c =
-    let consistent = c.self.invariant (ap (λ s. s.spent) c.self.view_is ∙ c.requires.live) in
-    ap (λ (b : Records). b.site) c.bare_core.ensures.records ∙ (c.site_in-number.ensures _ consistent.site ∙ ap (λ s. s.state.records.site) c.self.view_is)
+pub guarded_turn-requires-clause-empty : goal.guarded_turn-requires-clause-empty
+guarded_turn-requires-clause-empty g c = (c.self.invariant (ap (λ s. s.spent) c.self.view_is ∙ c.requires.live)).1
 
-pub returns-in-Ok-clause-number : goal.returns-in-Ok-clause-number
-returns-in-Ok-clause-number g c = c.in-Ok.ensures.number ∙ ap (λ s. s.state.records.site) c.self.view_is
+pub guarded_turn-requires-clause-room : goal.guarded_turn-requires-clause-room
+guarded_turn-requires-clause-room g c = subst (λ s. s.state.steps ≤ 2 ^ 48) (sym c.self.view_is) c.requires.room
 
-pub returns-in-Ok-clause-turn : goal.returns-in-Ok-clause-turn
-returns-in-Ok-clause-turn g c =
-    subst (λ s. IsTurnMade s.program s.sites s.state c.args.message c.args.quantum.0 c.in-Ok.entry (site_of c.recorded_turn.new.core)) c.self.view_is c.in-Ok.ensures.turn
+pub returns-clause-sites : goal.returns-clause-sites
+returns-clause-sites g c = c.guarded_turn.ensures.sites ∙ ap (λ s. s.sites) c.self.view_is
 
-pub returns-in-Ok-clause-order : goal.returns-in-Ok-clause-order
-returns-in-Ok-clause-order g c =
-    subst (λ s. IsTurnInOrder s.program s.sites s.state (message_in c.args.message) c.in-Ok.entry (site_of c.recorded_turn.new.core) s.order c.recorded_turn.new.core.threads.order) c.self.view_is c.in-Ok.ensures.order
+pub returns-clause-number : goal.returns-clause-number
+returns-clause-number g c = c.guarded_turn.ensures.number ∙ ap (λ s. s.state.records.site) c.self.view_is
+
+pub returns-clause-turn : goal.returns-clause-turn
+returns-clause-turn g c =
+    subst (λ s. IfOk c.guarded_turn.result (λ e. IsTurnMade s.program s.sites s.state c.args.message c.args.quantum.0 e (site_of c.guarded_turn.new.core))) c.self.view_is c.guarded_turn.ensures.turn
+
+pub returns-clause-order : goal.returns-clause-order
+returns-clause-order g c =
+    subst (λ s. IfOk c.guarded_turn.result (λ e. IsTurnInOrder s.program s.sites s.state (message_in c.args.message) e (site_of c.guarded_turn.new.core) s.order c.guarded_turn.new.core.threads.order)) c.self.view_is
+    c.guarded_turn.ensures.order
+
+pub returns-clause-few : goal.returns-clause-few
+returns-clause-few g c = subst (λ s. OnOk c.guarded_turn.result (c.guarded_turn.new.core.steps ≤ s.state.steps + c.args.quantum.0)) c.self.view_is c.guarded_turn.ensures.steps
+
+pub returns-clause-live : goal.returns-clause-live
+returns-clause-live g c = c.guarded_turn.ensures.live
+
+pub returns-clause-spent : goal.returns-clause-spent
+returns-clause-spent g c = c.guarded_turn.ensures.over
