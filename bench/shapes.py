@@ -342,6 +342,26 @@ def association_list(n):
 end"""
 
 
+def shown_while_made(n):
+    """A list of n elements that is shown while threads make it, one element each. What is not whole yet is not shown."""
+    return f"""local Make Zero One N Nil L in {constants(n)}
+  proc {{Make K ?L}}
+    local Ends in
+      Ends = K =< Zero
+      if Ends then L = nil
+      else local M T in L = K|T M = K - One thread {{Make M T}} end end end
+    end
+  end
+  thread {{Browse L}} end
+  {{Make N L}}
+end"""
+
+
+def born(body="skip"):
+    """Threads that are born for ever, each of which does this."""
+    return f"local X P in proc {{P}} thread {body} end {{P}} end {{P}} end"
+
+
 def chain(n, tell):
     return f"""local Chain Zero One N Nil First Last in {constants(n)}
   proc {{Chain K X ?Y}}
