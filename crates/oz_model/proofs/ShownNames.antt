@@ -65,7 +65,7 @@ module _ (P : Name → Type 0) (s : Store) (eqs : Each (EachOfEquation P) s) whe
   found_named w h level left x a (Some (node.Rec label fs)) e = rec_named w h level left label fs (named_node x (node.Rec label fs) e)
   found_named w h level left x a (Some (node.Int z)) e = tt
   found_named w h level left x a (Some (node.Atom t)) e = tt
-  found_named w h level left x a (Some (node.Proc q c n vs)) e = tt
+  found_named w h level left x a (Some (node.Proc n c q vs)) e = tt
   found_named w h level left x a (Some (node.Cell c)) e = tt
   found_named w h level left x a (Some (node.Port q)) e = tt
 

@@ -49,7 +49,7 @@ calls =
 abbrev pub call_picks : List Pick
 call_picks =
     pick (new 0 ∷ new 1 ∷ new 2 ∷ []) None ∷ plain
-    ∷ pick (name.Proc first_proc ∷ []) None ∷ pick [] (Some (holds 0 (node.Proc first_proc (code 2) 1 (v 2 ∷ [])))) ∷ plain ∷ plain
+    ∷ pick (name.Proc first_proc ∷ []) None ∷ pick [] (Some (holds 0 (node.Proc 1 (code 2) first_proc (v 2 ∷ [])))) ∷ plain ∷ plain
     ∷ plain ∷ tell_picks (v 1, term.Var (v 2)) ++ tell_picks (holds 2 (node.Int (pos 7))) ++ plain ∷ []
 
 -- it prints 7, and its thread ends

@@ -151,7 +151,7 @@ node_fits : (s : Store) (walk : Walk) (level left : ℕ) (n : Node) → Walks wa
 node_fits s walk level left (node.Rec label fields) w = rec_fits s walk level left label fields (head_and_tail (node.Rec label fields)) w
 node_fits s walk level left (node.Int z) w = int_line z
 node_fits s walk level left (node.Atom t) w = atom_line t
-node_fits s walk level left (node.Proc name code formals vars) w = proc_line formals
+node_fits s walk level left (node.Proc formals code name vars) w = proc_line formals
 node_fits s walk level left (node.Cell name) w = refl
 node_fits s walk level left (node.Port name) w = refl
 

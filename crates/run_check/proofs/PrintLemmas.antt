@@ -110,7 +110,7 @@ body_clean p vars args (stmt.TellProc left first count body) = tt
 body_clean p vars args _ = tt
 
 call_clean : (p : List Stmt) (args : List VarName) (n : Node) → Clean (call_outcome p args n)
-call_clean p args (node.Proc name code formals vars) = by (length args == formals)
+call_clean p args (node.Proc formals code name vars) = by (length args == formals)
   where
     by : (b : Bool) → Clean (cond b (body_outcome p vars args (stmt_at p code)) (outcome.Fails ErrorArity))
     by true = body_clean p vars args (stmt_at p code)

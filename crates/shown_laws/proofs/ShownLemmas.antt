@@ -65,7 +65,7 @@ module _ (s c : Store) (stay : (x : VarName) (n : Node) → node_of s x ≡ Some
       Refines c left (show_node s (show_var d s) level left n) (show_node c (show_var d c) level left n)
   node_shows d level left (node.Int z) ih le = (omega arith, refl)
   node_shows d level left (node.Atom t) ih le = (omega arith, refl)
-  node_shows d level left (node.Proc name code formals vars) ih le = (omega arith, refl)
+  node_shows d level left (node.Proc formals code name vars) ih le = (omega arith, refl)
   node_shows d level left (node.Cell name) ih le = (omega arith, refl)
   node_shows d level left (node.Port name) ih le = (omega arith, refl)
   node_shows d level left (node.Rec label fields) ih le = go (head_and_tail (node.Rec label fields))

@@ -52,7 +52,7 @@ node_same p is (node.Atom t) w = (λ h. tt, λ h. tt)
 node_same p is (node.Rec l fs) w = (λ h. (w.1.0, w.1.1, w.1.3), λ h. tt)
 node_same p is (node.Cell c) w = (λ h. tt, λ h. tt)
 node_same p is (node.Port c) w = (λ h. tt, λ h. tt)
-node_same p is (node.Proc q code formals vars) w = (λ h. tell_made p formals vars (stmt_at p code) h.1, λ h. made_fits p is code formals vars h)
+node_same p is (node.Proc formals code q vars) w = (λ h. tell_made p formals vars (stmt_at p code) h.1, λ h. made_fits p is code formals vars h)
 
 pub term_same : (p : List Stmt) → IsProgram p → (t : Term) → FitsTerm t → TermFits p t ↔ IsNodeOf (IsNode p) t
 term_same p is (term.Var x) w = (λ h. tt, λ h. tt)

@@ -33,7 +33,7 @@ module _ (P : Name → Type 0) where
   term_each (term.Node (node.Int i)) h = tt
   term_each (term.Node (node.Atom t)) h = tt
   term_each (term.Node (node.Rec l fs)) h = fields_each fs h
-  term_each (term.Node (node.Proc q code formals vars)) h = h.1
+  term_each (term.Node (node.Proc formals code q vars)) h = h.1
   term_each (term.Node (node.Cell c)) h = tt
   term_each (term.Node (node.Port c)) h = tt
 
@@ -69,6 +69,6 @@ module _ (known : List VarName) where
   term_known (term.Node (node.Int i)) h = tt
   term_known (term.Node (node.Atom t)) h = tt
   term_known (term.Node (node.Rec l fs)) h = fields_known fs h
-  term_known (term.Node (node.Proc q code formals vars)) h = (tt, h)
+  term_known (term.Node (node.Proc formals code q vars)) h = (tt, h)
   term_known (term.Node (node.Cell c)) h = tt
   term_known (term.Node (node.Port c)) h = tt

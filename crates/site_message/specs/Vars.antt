@@ -18,5 +18,5 @@ vars_of (term.Node n) = vars_of_node n
   where
     vars_of_node : Node → List VarName
     vars_of_node (node.Rec label fields) = field_vars fields
-    vars_of_node (node.Proc name code formals vars) = vars
+    vars_of_node (node.Proc formals code name vars) = vars
     vars_of_node _ = []

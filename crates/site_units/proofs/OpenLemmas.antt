@@ -112,7 +112,7 @@ each_field known (f ∷ fields) h = (h.0, each_field known fields h.1)
 pub term_known : (known : List VarName) (t : Term) → Each (Contains known) (vars_of t) → EachOfTerm (IsAmong known) t
 term_known known (term.Var x) h = h.0
 term_known known (term.Node (node.Rec label fields)) h = each_field known fields h
-term_known known (term.Node (node.Proc q code formals vars)) h = (tt, h)
+term_known known (term.Node (node.Proc formals code q vars)) h = (tt, h)
 term_known known (term.Node (node.Int z)) h = tt
 term_known known (term.Node (node.Atom a)) h = tt
 term_known known (term.Node (node.Cell c)) h = tt

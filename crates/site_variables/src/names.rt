@@ -94,7 +94,7 @@ fn node_within(bounds: &Bounds, node: &Node) -> bool
 {
     match node {
         Node::Rec(_, fields) => fields_within(bounds, fields.as_slice()),
-        Node::Proc(proc, _, _, vars) => {
+        Node::Proc(_, _, proc, vars) => {
             name_fits(bounds, Name::Proc(*proc)) && vars_within(bounds, vars.as_slice())
         }
         Node::Cell(cell) => name_fits(bounds, Name::Cell(*cell)),

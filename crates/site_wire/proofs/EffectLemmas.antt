@@ -176,7 +176,7 @@ placed_none p env rest fresh x content told (Some (node.Int (pos zero))) e = fai
 placed_none p env rest fresh x content told (Some (node.Int (negsuc k))) e = fails_none ErrorType rest (vars_among fresh) e
 placed_none p env rest fresh x content told (Some (node.Atom text)) e = fails_none ErrorType rest (vars_among fresh) e
 placed_none p env rest fresh x content told (Some (node.Rec label fields)) e = fails_none ErrorType rest (vars_among fresh) e
-placed_none p env rest fresh x content told (Some (node.Proc q c fs vs)) e = fails_none ErrorType rest (vars_among fresh) e
+placed_none p env rest fresh x content told (Some (node.Proc fs c q vs)) e = fails_none ErrorType rest (vars_among fresh) e
 placed_none p env rest fresh x content told (Some (node.Cell c)) e = fails_none ErrorType rest (vars_among fresh) e
 placed_none p env rest fresh x content told (Some (node.Port q)) e = fails_none ErrorType rest (vars_among fresh) e
 
@@ -186,7 +186,7 @@ sent_none p env rest fresh x value (Some (node.Port q)) e = e
 sent_none p env rest fresh x value (Some (node.Int z)) e = fails_none ErrorType rest (vars_among fresh) e
 sent_none p env rest fresh x value (Some (node.Atom text)) e = fails_none ErrorType rest (vars_among fresh) e
 sent_none p env rest fresh x value (Some (node.Rec label fields)) e = fails_none ErrorType rest (vars_among fresh) e
-sent_none p env rest fresh x value (Some (node.Proc q c fs vs)) e = fails_none ErrorType rest (vars_among fresh) e
+sent_none p env rest fresh x value (Some (node.Proc fs c q vs)) e = fails_none ErrorType rest (vars_among fresh) e
 sent_none p env rest fresh x value (Some (node.Cell c)) e = fails_none ErrorType rest (vars_among fresh) e
 
 statement_none : (p : List Stmt) (s : Store) (code : CodeId) (env : Env) (rest : Stack) (fresh : List Name) (st : Stmt) → IsExchanged (outcome_effect p env rest fresh (outcome_of p s code env st)).cell → IsNameless st
@@ -242,7 +242,7 @@ send_cases p s code env (stmt.Send port value) h = go (node_of s (var_at env por
     go (Some (node.Int z)) = fails ErrorType
     go (Some (node.Atom text)) = fails ErrorType
     go (Some (node.Rec label fields)) = fails ErrorType
-    go (Some (node.Proc q c fs vs)) = fails ErrorType
+    go (Some (node.Proc fs c q vs)) = fails ErrorType
     go (Some (node.Cell c)) = fails ErrorType
 send_cases p s code env _ h = absurd h
 

@@ -66,7 +66,7 @@ term_vars (term.Var x) h = (h, tt)
 term_vars (term.Node (node.Int z)) h = tt
 term_vars (term.Node (node.Atom t)) h = tt
 term_vars (term.Node (node.Rec l fs)) h = fields_vars fs h.1.2
-term_vars (term.Node (node.Proc q code formals vars)) h = h.2.1
+term_vars (term.Node (node.Proc formals code q vars)) h = h.2.1
 term_vars (term.Node (node.Cell c)) h = tt
 term_vars (term.Node (node.Port c)) h = tt
 

@@ -39,7 +39,7 @@ module _ (p : List Stmt) (is : IsProgram p) where
   term_spelled (term.Node (node.Int i)) h = tt
   term_spelled (term.Node (node.Atom t)) h = h.1.1
   term_spelled (term.Node (node.Rec l fs)) h = (h.1.1.0, (h.1.0.0, h.1.0.1, fields_fit fs h.0 h.1.1.1, h.1.0.2))
-  term_spelled (term.Node (node.Proc q code formals vars)) h = (h.0.0, few_formals p formals vars (stmt_at p code) (fits p code is.stmts) h.1.0, (h.1.1, h.0.1))
+  term_spelled (term.Node (node.Proc formals code q vars)) h = (h.0.0, few_formals p formals vars (stmt_at p code) (fits p code is.stmts) h.1.0, (h.1.1, h.0.1))
   term_spelled (term.Node (node.Cell c)) h = h.0
   term_spelled (term.Node (node.Port c)) h = h.0
 
@@ -52,7 +52,7 @@ term_heard p (term.Var x) h g = (h, tt)
 term_heard p (term.Node (node.Int i)) h g = (tt, (g, tt))
 term_heard p (term.Node (node.Atom t)) h g = (tt, (g, h))
 term_heard p (term.Node (node.Rec l fs)) h g = (field_vars_fit fs h.1.2, (g, (h.0, features_fit fs h.1.2)))
-term_heard p (term.Node (node.Proc q code formals vars)) h g = ((h.0, h.2.1), (g, h.2.0))
+term_heard p (term.Node (node.Proc formals code q vars)) h g = ((h.0, h.2.1), (g, h.2.0))
 term_heard p (term.Node (node.Cell c)) h g = (h, (g, tt))
 term_heard p (term.Node (node.Port c)) h g = (h, (g, tt))
 

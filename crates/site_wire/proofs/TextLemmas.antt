@@ -120,7 +120,7 @@ told_short : (p : List Stmt) → IsProgram p → (code : CodeId) (st : Stmt) (n 
 told_short p is code (stmt.TellInt left value) n h told = subst IsShort (sym told) tt
 told_short p is code (stmt.TellAtom left text) n h told = subst IsShort (sym told) (short_text text h)
 told_short p is code (stmt.TellRec left label fields) (node.Rec l fs) h told = (subst FitsText (sym told.0) (short_text label h.0), short_features fs fields told.1 h.1)
-told_short p is code (stmt.TellProc left first count body) (node.Proc q c formals vars) h told = let few = captured_short p is first count body in omega (arith, told.2, few)
+told_short p is code (stmt.TellProc left first count body) (node.Proc formals c q vars) h told = let few = captured_short p is first count body in omega (arith, told.2, few)
 told_short p is code (stmt.Calc left op a b) (node.Atom text) h told = subst FitsText (sym told.1) (truth_fits told.0)
 told_short p is code (stmt.Test left op a b) (node.Atom text) h told = subst FitsText (sym told.1) (truth_fits told.0)
 told_short p is code _ (node.Int z) h told = tt
@@ -128,8 +128,8 @@ told_short p is code _ (node.Cell c) h told = tt
 told_short p is code _ (node.Port c) h told = tt
 told_short p is code (stmt.Calc left op a b) (node.Rec l fs) h told = absurd told
 told_short p is code (stmt.Test left op a b) (node.Rec l fs) h told = absurd told
-told_short p is code (stmt.Calc left op a b) (node.Proc q c formals vars) h told = absurd told
-told_short p is code (stmt.Test left op a b) (node.Proc q c formals vars) h told = absurd told
+told_short p is code (stmt.Calc left op a b) (node.Proc formals c q vars) h told = absurd told
+told_short p is code (stmt.Test left op a b) (node.Proc formals c q vars) h told = absurd told
 told_short p is code _ _ h told = absurd told
 
 bar_fits : FitsText (codes "|")

@@ -51,7 +51,7 @@ IsOfSites x = IsSite (site_of x)
 abbrev pub IsShort : Node → Type 0
 IsShort (node.Atom text) = FitsText text
 IsShort (node.Rec label fields) = FitsText label × Each (λ (f : Feature × VarName). FitsFeature f.0) fields
-IsShort (node.Proc name code formals vars) = length vars ≤ 65535
+IsShort (node.Proc formals code name vars) = length vars ≤ 65535
 IsShort _ = Unit {0}
 
 -- a node of the program whose texts and lists are short enough for a message

@@ -33,6 +33,6 @@ pub equal_text_refl : (n : Node) → equal_text n n ≡ true
 equal_text_refl (node.Int z) = (Decides-int_eq z z).1 refl
 equal_text_refl (node.Atom t) = bytes_refl t
 equal_text_refl (node.Rec label fields) = rw (bytes_refl label, fields_refl fields) refl
-equal_text_refl (node.Proc name code formals vars) = name_refl name.site name.num
+equal_text_refl (node.Proc formals code name vars) = name_refl name.site name.num
 equal_text_refl (node.Cell name) = cell_refl name.site name.at name.num
 equal_text_refl (node.Port name) = name_refl name.site name.num

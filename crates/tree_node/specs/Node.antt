@@ -18,7 +18,7 @@ abbrev pub SameText : Node → Node → Type 0
 SameText (Int a) (Int b) = a ≡ b
 SameText (Atom a) (Atom b) = a ≡ b
 SameText (Rec a xs) (Rec b ys) = (a ≡ b) × (xs ≡ ys)
-SameText (Proc a i m us) (Proc b j n vs) = a ≡ b
+SameText (Proc m i a us) (Proc n j b vs) = a ≡ b
 SameText (Cell a) (Cell b) = a ≡ b
 SameText (Port a) (Port b) = a ≡ b
 SameText _ _ = ⊥

@@ -102,7 +102,7 @@ ShowsAs n line = Shown (holds 0 n ∷ []) (v 0) line
 
 -- a procedure shows the number of its formals
 abbrev pub ProcShows : Type 0
-ProcShows = ShowsAs (node.Proc (record { site = 1; num = 0 }) (record { 0 = 3 }) 1 (v 5 ∷ [])) (codes "<P/1>")
+ProcShows = ShowsAs (node.Proc 1 (record { 0 = 3 }) (record { site = 1; num = 0 }) (v 5 ∷ [])) (codes "<P/1>")
 
 -- a cell shows nothing of its name or content
 abbrev pub CellShows : Type 0

@@ -46,6 +46,6 @@ abbrev pub head_text : Node → List ℕ
 head_text (node.Int z) = int_text z
 head_text (node.Atom t) = atom_text t
 head_text (node.Rec label fields) = atom_text label
-head_text (node.Proc name code formals vars) = proc_text formals
+head_text (node.Proc formals code name vars) = proc_text formals
 head_text (node.Cell name) = codes "<Cell>"
 head_text (node.Port name) = codes "<Port>"

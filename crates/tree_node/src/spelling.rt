@@ -42,7 +42,7 @@ pub fn head_bytes(alloc: Global, node: &Node) -> Result<Vec<u8>, AllocError>
         Node::Int(value) => Ok(int_bytes(alloc, value.get())?),
         Node::Atom(text) => Ok(atom_bytes(alloc, text.as_slice())?),
         Node::Rec(label, _) => Ok(atom_bytes(alloc, label.as_slice())?),
-        Node::Proc(_, _, formals, _) => Ok(proc_bytes(alloc, *formals)?),
+        Node::Proc(formals, _, _, _) => Ok(proc_bytes(alloc, *formals)?),
         Node::Cell(_) => Ok(Vec::from_slice(alloc, b"<Cell>")?),
         Node::Port(_) => Ok(Vec::from_slice(alloc, b"<Port>")?),
     }

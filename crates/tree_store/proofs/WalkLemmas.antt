@@ -69,7 +69,7 @@ ends_shown : (s : Store) (walk : Walk) (level left : ℕ) (n : Node) (h t : VarN
 ends_shown s walk level left (node.Rec label fields) h t e = ap (λ (o : Option (VarName × VarName)). show_rec s walk level left label fields o) e
 ends_shown s walk level left (node.Int z) h t e = cc
 ends_shown s walk level left (node.Atom a) h t e = cc
-ends_shown s walk level left (node.Proc name code formals vars) h t e = cc
+ends_shown s walk level left (node.Proc formals code name vars) h t e = cc
 ends_shown s walk level left (node.Cell name) h t e = cc
 ends_shown s walk level left (node.Port name) h t e = cc
 

@@ -31,9 +31,9 @@ fn record(alloc: Global, label: &[u8], last: u64) -> Result<Node, AllocError> {
 fn procedure(alloc: Global, num: u64, formals: u8) -> Result<Node, AllocError> {
     let vars = vec![in alloc; variable(4)]?;
     Ok(Node::Proc(
-        ProcName { site: 1, num },
-        CodeId(3),
         formals,
+        CodeId(3),
+        ProcName { site: 1, num },
         Vars::from_vec(vars)?,
     ))
 }

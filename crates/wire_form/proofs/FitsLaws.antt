@@ -113,7 +113,7 @@ term_fits form (terms.Var x) h = var_fits x h
 term_fits form (terms.Node (nodes.Int z)) h = tt
 term_fits form (terms.Node (nodes.Atom t)) h = text_fits t h
 term_fits form (terms.Node (nodes.Rec label fields)) h = (text_fits label h.0, fields_fit form fields h.1)
-term_fits form (terms.Node (nodes.Proc p c n vars)) h = (h.0.0.1, h.1.1.0.1.1, vars_fit vars h.1.1.1)
+term_fits form (terms.Node (nodes.Proc n c p vars)) h = (h.0.0.1, h.1.1.0.1.1, vars_fit vars h.1.1.1)
 term_fits form (terms.Node (nodes.Cell c)) h = cell_fits form c c.at refl h
 term_fits form (terms.Node (nodes.Port q)) h = h.1.0.1
 

@@ -191,7 +191,7 @@ record_behind form = is_behind (term form) 3 (tree form) (text_at and fields_at 
 procedure_behind : (form : Form) → IsBehind (term form) 4 procedure_at procedure.Fault
 unfolding procedure_at
 procedure_behind form =
-    is_behind (term form) 4 procedure (proc_name_at and code_at and byte_within_at 0 64 and variables_at) (λ p. terms.Node (nodes.Proc p.0 p.1.0 p.1.1.0 p.1.1.1)) (λ y h. h) (λ y. refl) procedure_read
+    is_behind (term form) 4 procedure (proc_name_at and code_at and byte_within_at 0 64 and variables_at) (λ p. terms.Node (nodes.Proc p.1.1.0 p.1.0 p.0 p.1.1.1)) (λ y h. h) (λ y. refl) procedure_read
 
 cell_behind : (form : Form) → IsBehind (term form) 5 (map_at (λ c. terms.Node (nodes.Cell c)) cell_name_at) cell_name.Fault
 cell_behind form =
@@ -277,8 +277,8 @@ term_read form = record { takes = takes; again = again; fails = fails; failing =
     again at (terms.Node (nodes.Atom t)) rest has = again_behind text text_at (λ t. terms.Node (nodes.Atom t)) 2 at t rest text_read has
     again at (terms.Node (nodes.Rec label fields)) rest has =
         again_behind (tree form) (text_at and fields_at form) (λ p. terms.Node (nodes.Rec p.0 p.1)) 3 at (label, fields) rest (tree_read form) has
-    again at (terms.Node (nodes.Proc p c n vars)) rest has =
-        again_behind procedure (proc_name_at and code_at and byte_within_at 0 64 and variables_at) (λ p. terms.Node (nodes.Proc p.0 p.1.0 p.1.1.0 p.1.1.1)) 4 at (p, (c, (n, vars))) rest procedure_read has
+    again at (terms.Node (nodes.Proc n c p vars)) rest has =
+        again_behind procedure (proc_name_at and code_at and byte_within_at 0 64 and variables_at) (λ p. terms.Node (nodes.Proc p.1.1.0 p.1.0 p.0 p.1.1.1)) 4 at (p, (c, (n, vars))) rest procedure_read has
     again at (terms.Node (nodes.Cell c)) rest has = cell_again form at c c.at rest has
     again at (terms.Node (nodes.Port q)) rest has = port_again form at q rest has
 

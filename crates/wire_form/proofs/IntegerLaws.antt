@@ -31,7 +31,7 @@ term_more P Q R S more and (terms.Var x) h = tt
 term_more P Q R S more and (terms.Node (nodes.Int z)) h = more z h
 term_more P Q R S more and (terms.Node (nodes.Atom t)) h = tt
 term_more P Q R S more and (terms.Node (nodes.Rec label fields)) h = each_more (EachInField P) (EachInField Q) fields (λ x k. feature_more P Q more x.0 k) h
-term_more P Q R S more and (terms.Node (nodes.Proc p c n vars)) h = tt
+term_more P Q R S more and (terms.Node (nodes.Proc n c p vars)) h = tt
 term_more P Q R S more and (terms.Node (nodes.Cell c)) h = mobile_more R S and c.at h
 term_more P Q R S more and (terms.Node (nodes.Port q)) h = and h
 
@@ -71,7 +71,7 @@ term_room (terms.Var x) = tt
 term_room (terms.Node (nodes.Int z)) = tt
 term_room (terms.Node (nodes.Atom t)) = tt
 term_room (terms.Node (nodes.Rec label fields)) = each_of (EachInField (HasRoom forms.Two)) (λ x. feature_room x.0) fields
-term_room (terms.Node (nodes.Proc p c n vars)) = tt
+term_room (terms.Node (nodes.Proc n c p vars)) = tt
 term_room (terms.Node (nodes.Cell c)) = mobile_room c.at
 term_room (terms.Node (nodes.Port q)) = tt
 

@@ -56,7 +56,7 @@ term_holds form (terms.Node (nodes.Int z)) h = tt
 term_holds form (terms.Node (nodes.Atom t)) h = tt
 term_holds form (terms.Node (nodes.Rec label fields)) h =
     each_more (λ x. (record_field form).Has x) HoldsField fields (λ x k. k.1.1) (each_field form fields h.1.1)
-term_holds form (terms.Node (nodes.Proc p c n vars)) h = (h.0.1, h.1.0, each_var_holds [] vars h.1.1.1.1)
+term_holds form (terms.Node (nodes.Proc n c p vars)) h = (h.0.1, h.1.0, each_var_holds [] vars h.1.1.1.1)
 term_holds form (terms.Node (nodes.Cell c)) h = cell_holds form c c.at h
 term_holds form (terms.Node (nodes.Port q)) h = h.1.1
 
@@ -93,7 +93,7 @@ term_wide form (terms.Node (nodes.Int z)) h = h
 term_wide form (terms.Node (nodes.Atom t)) h = tt
 term_wide form (terms.Node (nodes.Rec label fields)) h =
     each_more (λ x. (record_field form).Has x) (EachInField (IsOfWidth form)) fields (λ x k. feature_wide form x.0 k.0) (each_field form fields h.1.1)
-term_wide form (terms.Node (nodes.Proc p c n vars)) h = tt
+term_wide form (terms.Node (nodes.Proc n c p vars)) h = tt
 term_wide form (terms.Node (nodes.Cell c)) h = cell_wide form c c.at h
 term_wide form (terms.Node (nodes.Port q)) h = h.0
 
@@ -152,7 +152,7 @@ term_has form (terms.Node (nodes.Rec label fields)) h k w = (
   text_has label h.0,
   fields_have form fields h.1 (each_both FitsField (λ x. HoldsField x × EachInField (IsOfWidth form) x) (λ x. (record_field form).Has x) (λ x p q. (feature_has form x.0 p.0 q.1, var_has x.1 p.1 q.0)) fields h.1.2 (fields_both form fields k w)),
 )
-term_has form (terms.Node (nodes.Proc p c n vars)) h k w =
+term_has form (terms.Node (nodes.Proc n c p vars)) h k w =
     (name_has p.site p.num h.0 k.0, (k.1, ((omega (arith, h.1), (omega arith, h.1)), vars_have vars h.2 k.2)))
 term_has form (terms.Node (nodes.Cell c)) h k w = cell_has form c c.at refl h k w
 term_has form (terms.Node (nodes.Port q)) h k w = (w, name_has q.site q.num h k)

@@ -171,7 +171,7 @@ term form = record { Has = term_has; spelling = term_spell; Fault = term_fault }
     term_has (terms.Node (nodes.Int z)) = (integer form).Has z
     term_has (terms.Node (nodes.Atom t)) = text.Has t
     term_has (terms.Node (nodes.Rec label fields)) = (tree form).Has (label, fields)
-    term_has (terms.Node (nodes.Proc p c n vars)) = procedure.Has (p, (c, (n, vars)))
+    term_has (terms.Node (nodes.Proc n c p vars)) = procedure.Has (p, (c, (n, vars)))
     term_has (terms.Node (nodes.Cell c)) = HasCell form c c.at
     term_has (terms.Node (nodes.Port q)) = IsTwo form × port_name.Has q
 
@@ -180,7 +180,7 @@ term form = record { Has = term_has; spelling = term_spell; Fault = term_fault }
     term_spell (terms.Node (nodes.Int z)) = 1 ∷ (integer form).spelling z
     term_spell (terms.Node (nodes.Atom t)) = 2 ∷ text.spelling t
     term_spell (terms.Node (nodes.Rec label fields)) = 3 ∷ (tree form).spelling (label, fields)
-    term_spell (terms.Node (nodes.Proc p c n vars)) = 4 ∷ procedure.spelling (p, (c, (n, vars)))
+    term_spell (terms.Node (nodes.Proc n c p vars)) = 4 ∷ procedure.spelling (p, (c, (n, vars)))
     term_spell (terms.Node (nodes.Cell c)) = cell_spelling c c.at
     term_spell (terms.Node (nodes.Port q)) = 6 ∷ port_name.spelling q
 

@@ -32,7 +32,7 @@ HoldsTerm (terms.Var x) = HoldsVar x
 HoldsTerm (terms.Node (nodes.Int z)) = Unit {0}
 HoldsTerm (terms.Node (nodes.Atom t)) = Unit {0}
 HoldsTerm (terms.Node (nodes.Rec label fields)) = Each HoldsField fields
-HoldsTerm (terms.Node (nodes.Proc p c n vars)) = HoldsName p.num × (c.0 < 2 ^ 32) × Each HoldsVar vars
+HoldsTerm (terms.Node (nodes.Proc n c p vars)) = HoldsName p.num × (c.0 < 2 ^ 32) × Each HoldsVar vars
 HoldsTerm (terms.Node (nodes.Cell c)) = HoldsName c.num
 HoldsTerm (terms.Node (nodes.Port q)) = HoldsName q.num
 
@@ -79,7 +79,7 @@ EachInTerm P Q (terms.Var x) = Unit {0}
 EachInTerm P Q (terms.Node (nodes.Int z)) = P z
 EachInTerm P Q (terms.Node (nodes.Atom t)) = Unit {0}
 EachInTerm P Q (terms.Node (nodes.Rec label fields)) = Each (EachInField P) fields
-EachInTerm P Q (terms.Node (nodes.Proc p c n vars)) = Unit {0}
+EachInTerm P Q (terms.Node (nodes.Proc n c p vars)) = Unit {0}
 EachInTerm P Q (terms.Node (nodes.Cell c)) = IsMobileOr Q c.at
 EachInTerm P Q (terms.Node (nodes.Port q)) = Q
 

@@ -189,7 +189,7 @@ unfoldable pub record_at : Form → Left → Read Term
 record_at form = map_at (λ p. terms.Node (nodes.Rec p.0 p.1)) (text_at and fields_at form)
 
 unfoldable pub procedure_at : Left → Read Term
-procedure_at = map_at (λ p. terms.Node (nodes.Proc p.0 p.1.0 p.1.1.0 p.1.1.1)) (proc_name_at and code_at and byte_within_at 0 MOST_ITEMS and variables_at)
+procedure_at = map_at (λ p. terms.Node (nodes.Proc p.1.1.0 p.1.0 p.0 p.1.1.1)) (proc_name_at and code_at and byte_within_at 0 MOST_ITEMS and variables_at)
 
 -- what follows a tag above 05: that of a port or of a stationary cell, which form 2 alone has
 unfoldable pub later_node_at : Form → ℕ → ℕ → Left → Read Term

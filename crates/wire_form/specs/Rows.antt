@@ -119,7 +119,7 @@ procedure_bytes kind = kind ∷ name_bytes 1 2 ++ 4 ∷ name_bytes 1 6 ++ 0 ∷ 
 -- the Binding of that procedure is spelled so
 abbrev pub ProcedureIsSpelled : Type 0
 ProcedureIsSpelled =
-    AreSpellings (messages.Binding (var 1 2) (terms.Node (nodes.Proc (proc 1 6) (record { 0 = 9 }) 1 (var 1 7 ∷ []))) []) (procedure_bytes 4) (procedure_bytes 20)
+    AreSpellings (messages.Binding (var 1 2) (terms.Node (nodes.Proc 1 (record { 0 = 9 }) (proc 1 6) (var 1 7 ∷ []))) []) (procedure_bytes 4) (procedure_bytes 20)
 
 -- a Get, a Forward and a Put of cell 1 of site 64
 abbrev pub CellsAreSpelled : Type 0

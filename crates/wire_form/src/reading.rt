@@ -103,7 +103,7 @@ fn procedure(alloc: Global, cursor: &mut Cursor) -> Result<Term, WireFault>
     let code = code(cursor)?;
     let formals = cursor.byte_within(0, MOST_ITEMS as u8)?;
     let vars = variables(alloc, cursor)?;
-    Ok(Term::Node(Node::Proc(name, code, formals, vars)))
+    Ok(Term::Node(Node::Proc(formals, code, name, vars)))
 }
 
 // What follows a tag above 05, which stands at the place: that of a port or of a stationary cell, which form 2 alone has.

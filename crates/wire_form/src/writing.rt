@@ -228,7 +228,7 @@ fn put_node(out: &mut Vec<u8>, form: Form, value: &Node) -> Result<(), AllocErro
             put_text(out, label.as_slice())?;
             put_fields(out, form, fields.as_slice())
         }
-        Node::Proc(name, code, count, vars) => {
+        Node::Proc(count, code, name, vars) => {
             out.push(4)?;
             put_proc(out, *name)?;
             put_code(out, *code)?;

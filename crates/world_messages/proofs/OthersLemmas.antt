@@ -57,7 +57,7 @@ module _ (P Q : Name → Type 0) where
       fields : (fs : List (Feature × VarName)) → Each (λ (q : Feature × VarName). P (name.Var q.1)) fs → Each (λ (q : Feature × VarName). Q (name.Var q.1)) fs → Each (λ (q : Feature × VarName). P (name.Var q.1) × Q (name.Var q.1)) fs
       fields [] h g = tt
       fields (q ∷ fs) h g = ((h.0, g.0), fields fs h.1 g.1)
-  both_term (term.Node (node.Proc q code formals vars)) h g = ((h.0, g.0), both_vars vars h.1 g.1)
+  both_term (term.Node (node.Proc formals code q vars)) h g = ((h.0, g.0), both_vars vars h.1 g.1)
   both_term (term.Node (node.Cell c)) h g = (h, g)
   both_term (term.Node (node.Port c)) h g = (h, g)
   both_term (term.Node (node.Int i)) h g = tt

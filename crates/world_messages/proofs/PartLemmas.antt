@@ -33,7 +33,7 @@ module _ (P : Name → Type 0) where
   term_of : (t : Term) → ((x : VarName) → Contains (vars_of t) x → P (name.Var x)) → EachOfTerm (OnOthers P) t → EachOfTerm P t
   term_of (term.Var x) f g = f x (Contains-head x [])
   term_of (term.Node (node.Rec l fs)) f g = fields_of fs f
-  term_of (term.Node (node.Proc q code formals vars)) f g = (g.0, list_of vars f)
+  term_of (term.Node (node.Proc formals code q vars)) f g = (g.0, list_of vars f)
   term_of (term.Node (node.Cell c)) f g = g
   term_of (term.Node (node.Port c)) f g = g
   term_of (term.Node (node.Int i)) f g = tt

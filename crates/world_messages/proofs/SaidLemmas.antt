@@ -29,7 +29,7 @@ term_known known (term.Node (node.Rec l fs)) f = fields fs f
     fields : (fs : List (Feature × VarName)) → ((x : VarName) → Contains (field_vars fs) x → Contains known x) → Each (λ (q : Feature × VarName). Contains known q.1) fs
     fields [] f = tt
     fields (q ∷ fs) f = (f q.1 (Contains-head q.1 (field_vars fs)), fields fs (λ x c. f x (Contains-tail q.1 x (field_vars fs) c)))
-term_known known (term.Node (node.Proc q code formals vars)) f = (tt, list_known known vars f)
+term_known known (term.Node (node.Proc formals code q vars)) f = (tt, list_known known vars f)
 term_known known (term.Node (node.Int i)) f = tt
 term_known known (term.Node (node.Atom t)) f = tt
 term_known known (term.Node (node.Cell c)) f = tt

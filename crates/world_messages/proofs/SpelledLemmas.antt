@@ -75,7 +75,7 @@ term_named (term.Var x) h = tt
 term_named (term.Node (node.Int i)) h = tt
 term_named (term.Node (node.Atom text)) h = tt
 term_named (term.Node (node.Rec label fields)) h = any_fields fields
-term_named (term.Node (node.Proc q code formals vars)) h = (h.0.0, any_vars vars)
+term_named (term.Node (node.Proc formals code q vars)) h = (h.0.0, any_vars vars)
 term_named (term.Node (node.Cell c)) h = h.0.0
 term_named (term.Node (node.Port c)) h = h.0
 

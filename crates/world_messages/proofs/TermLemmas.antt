@@ -50,7 +50,7 @@ node_fits p is (node.Atom t) h = tt
 node_fits p is (node.Rec l fs) h = tt
 node_fits p is (node.Cell c) h = tt
 node_fits p is (node.Port c) h = tt
-node_fits p is (node.Proc q code formals vars) h = go (slice_get p code.0) refl h
+node_fits p is (node.Proc formals code q vars) h = go (slice_get p code.0) refl h
   where
     told : (st : Stmt) → IsMadeBy p formals vars st → Each (λ (c : CodeId). (code.0 < c.0) × (c.0 < length p)) (bodies_of st) → IsTellOf p st formals (length vars)
     told (stmt.TellProc left first count body) h b = (h.0, sym h.1, b.0.1)
@@ -78,7 +78,7 @@ node_fits p is (node.Proc q code formals vars) h = go (slice_get p code.0) refl 
     told (stmt.Try body first handler) h b = absurd h
     told (stmt.Raise x) h b = absurd h
 
-    go : (o : Option Stmt) → slice_get p code.0 ≡ o → IsMadeBy p formals vars (unwrap_or (slice_get p code.0) stmt.Skip) → NodeFits p (node.Proc q code formals vars)
+    go : (o : Option Stmt) → slice_get p code.0 ≡ o → IsMadeBy p formals vars (unwrap_or (slice_get p code.0) stmt.Skip) → NodeFits p (node.Proc formals code q vars)
     go None e k = absurd (subst (λ (o : Option Stmt). IsMadeBy p formals vars (unwrap_or o stmt.Skip)) e k)
     go (Some st) e k =
         let made : IsMadeBy p formals vars st = subst (λ (o : Option Stmt). IsMadeBy p formals vars (unwrap_or o stmt.Skip)) e k in

@@ -476,7 +476,7 @@ module _ (p : List Stmt) (is : IsProgram p) (n limit : ℕ) (some : 1 ≤ n) (i 
           by : (f.1 ≡ x) ⊎ Contains (field_vars fs) x → (Contains (field_vars fs) x → P (name.Var x)) → P (name.Var x)
           by (inl e) ih = subst (λ (z : VarName). P (name.Var z)) e h.0
           by (inr k) ih = ih k
-  term_vars P (term.Node (node.Proc q code formals vars)) h x c = each_in vars h.1 x c
+  term_vars P (term.Node (node.Proc formals code q vars)) h x c = each_in vars h.1 x c
     where
       each_in : (xs : List VarName) → Each (λ (y : VarName). P (name.Var y)) xs → (x : VarName) → Contains xs x → P (name.Var x)
       each_in [] h x c = absurd (nothing x c)

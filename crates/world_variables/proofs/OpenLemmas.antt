@@ -53,7 +53,7 @@ term_here b (term.Var x) h = h.0
 term_here b (term.Node (node.Int z)) h = tt
 term_here b (term.Node (node.Atom a)) h = tt
 term_here b (term.Node (node.Rec label fields)) h = each_map (λ (f : Feature × VarName). f.1) (IsHere b) fields h
-term_here b (term.Node (node.Proc q code formals vars)) h = (tt, h)
+term_here b (term.Node (node.Proc formals code q vars)) h = (tt, h)
 term_here b (term.Node (node.Cell c)) h = tt
 term_here b (term.Node (node.Port c)) h = tt
 
@@ -63,7 +63,7 @@ vars_have P (term.Var x) h = (h, tt)
 vars_have P (term.Node (node.Int z)) h = tt
 vars_have P (term.Node (node.Atom a)) h = tt
 vars_have P (term.Node (node.Rec label fields)) h = each_unmap (λ (f : Feature × VarName). f.1) (λ (x : VarName). P (name.Var x)) fields h
-vars_have P (term.Node (node.Proc q code formals vars)) h = h.1
+vars_have P (term.Node (node.Proc formals code q vars)) h = h.1
 vars_have P (term.Node (node.Cell c)) h = tt
 vars_have P (term.Node (node.Port c)) h = tt
 
