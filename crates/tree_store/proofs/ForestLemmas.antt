@@ -142,3 +142,28 @@ grown_sound ((u, term.Node n) ∷ s) g = (grown_sound s g.0, free_none s u u (gr
 -- a root names its class
 pub root_names : (s : Store) (x u : VarName) → root_of s u ≡ root_of s x → IsFree s u → IsClassName s x u
 root_names s x u e free = ((roots_tell_classes s x u).1 (sym e), free)
+
+-- ---- one equation more
+
+pub bound_forest : (s : Store) (u : VarName) (w : Term) → IsForest s → IsFree s u → IsLower w u → IsForest ((u, w) ∷ s)
+bound_forest s u w f free low = record {
+  one = λ x t r a b. one x t r (Contains-cons_cases _ _ s a) (Contains-cons_cases _ _ s b);
+  down = λ x t a. down x t (Contains-cons_cases _ _ s a);
+}
+  where
+    taken : (x : VarName) (t r : Term) → ◌≡◌ {A = Equation} (u, w) (x, t) → Contains s (x, r) → ⊥
+    taken x t r e b = free r (subst (λ (y : VarName). Contains s (y, r)) (sym (ap (λ (p : Equation). p.0) e)) b)
+
+    one : (x : VarName) (t r : Term) → (◌≡◌ {A = Equation} (u, w) (x, t)) ⊎ Contains s (x, t) → (◌≡◌ {A = Equation} (u, w) (x, r)) ⊎ Contains s (x, r) → t ≡ r
+    one x t r (inl a) (inl b) = sym (ap (λ (p : Equation). p.1) a) ∙ ap (λ (p : Equation). p.1) b
+    one x t r (inl a) (inr b) = absurd (taken x t r a b)
+    one x t r (inr a) (inl b) = absurd (taken x r t b a)
+    one x t r (inr a) (inr b) = f.one x t r a b
+
+    down : (x : VarName) (t : Term) → (◌≡◌ {A = Equation} (u, w) (x, t)) ⊎ Contains s (x, t) → IsLower t x
+    down x t (inl e) = subst (λ (p : Equation). IsLower p.1 p.0) e low
+    down x t (inr a) = f.down x t a
+
+pub bound_sound : (s : Store) (u : VarName) (w : Term) → IsForest s → IsSound s → IsFree s u → IsLower w u → IsSound ((u, w) ∷ s)
+bound_sound s u (term.Var v) f sound free low = (sound, apart s u v f free low, inl (free_none s u u f free refl))
+bound_sound s u (term.Node n) f sound free low = (sound, free_none s u u f free refl)

@@ -119,6 +119,10 @@ front_begins s p none after l r empty left right e =
 
 -- ---- fronts that are kept
 
+pub none_kept : (fronts : List (Pair × Front)) (p : Pair) → length fronts ≡ 0 → lookup (equal_pair p) fronts ≡ None
+none_kept [] p e = refl
+none_kept (f ∷ fronts) p e = absurd (omega (arith, e))
+
 pub fronts_none : (s : Store) → AreFronts s []
 fronts_none s p f e = cc
 
@@ -128,19 +132,19 @@ fronts_stay s t fronts more h p f e = stays (h p f e) more
 pub fronts_less : (s : Store) (fronts rest : List (Pair × Front)) (q : Pair) → AreFronts s fronts → ((p : Pair) → lookup (equal_pair p) rest ≡ cond (equal_pair q p) None (lookup (equal_pair p) fronts)) → AreFronts s rest
 fronts_less s fronts rest q h is p f e = go (equal_pair q p) (sym (is p) ∙ e)
   where
-    go : (b : Bool) → cond b None (lookup (equal_pair p) fronts) ≡ Some f → IsMatchedFront p s f.pairs.keys f.at
+    go : (b : Bool) → cond b None (lookup (equal_pair p) fronts) ≡ Some f → IsMatchedFront p s f.pairs f.at
     go true k = cc
     go false k = h p f k
 
 -- once a front is kept for one more pair
-pub fronts_more : (s : Store) (fronts after : List (Pair × Front)) (q : Pair) (g : Front) → AreFronts s fronts → IsMatchedFront q s g.pairs.keys g.at → ((p : Pair) → lookup (equal_pair p) after ≡ cond (equal_pair q p) (Some g) (lookup (equal_pair p) fronts)) → AreFronts s after
+pub fronts_more : (s : Store) (fronts after : List (Pair × Front)) (q : Pair) (g : Front) → AreFronts s fronts → IsMatchedFront q s g.pairs g.at → ((p : Pair) → lookup (equal_pair p) after ≡ cond (equal_pair q p) (Some g) (lookup (equal_pair p) fronts)) → AreFronts s after
 fronts_more s fronts after q g h kept is p f e = go (equal_pair q p) refl (sym (is p) ∙ e)
   where
-    go : (b : Bool) → equal_pair q p ≡ b → cond b (Some g) (lookup (equal_pair p) fronts) ≡ Some f → IsMatchedFront p s f.pairs.keys f.at
+    go : (b : Bool) → equal_pair q p ≡ b → cond b (Some g) (lookup (equal_pair p) fronts) ≡ Some f → IsMatchedFront p s f.pairs f.at
     go true here k =
         let same : q ≡ p = (same_pair_decides q p).0 here in
         let front : g ≡ f = cc in
-        subst (λ (r : Pair). IsMatchedFront r s f.pairs.keys f.at) same (subst (λ (x : Front). IsMatchedFront q s x.pairs.keys x.at) front kept)
+        subst (λ (r : Pair). IsMatchedFront r s f.pairs f.at) same (subst (λ (x : Front). IsMatchedFront q s x.pairs x.at) front kept)
     go false here k = h p f k
 
 -- one more equation says more

@@ -9,6 +9,7 @@ pub mod LinkLemmas
 pub mod TopLemmas
 pub mod RootLemmas
 pub mod SearchLemmas
+pub mod SmallSetLemmas
 pub mod FrontLemmas
 pub mod ShowLemmas
 pub mod NewestLemmas

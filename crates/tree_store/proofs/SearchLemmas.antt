@@ -1,7 +1,7 @@
 -- How a comparison goes on: the next pair of the queue, and the parts of a pair.
-use Rattle.std.proofs.Common.{arith, ◌≡◌, ◌∙◌, sym, ap, ℕ, suc, ◌+◌, ◌<◌, List, ◌∷◌, length, map, drop, get_or, drop-cons, None}
-use Rattle.std.specs.Prelude.{Option}
-use Rattle.std.proofs.lemmas.List.{get_or_default}
+use Rattle.std.proofs.Common.{arith, ◌≡◌, ◌∙◌, sym, ap, ℕ, suc, ◌+◌, ◌<◌, List, ◌∷◌, length, map, drop, get_or, drop-cons, None, Some}
+use Rattle.std.specs.Prelude.{Option, slice_get}
+use Rattle.std.proofs.lemmas.Option.{get_or_from_slice_get}
 use Rattle.tree_node.specs.declared.names.VarName.{VarName}
 use Rattle.tree_node.specs.declared.node.Feature.{Feature}
 use Rattle.tree_node.specs.declared.node.Node.{Node}
@@ -14,10 +14,8 @@ pub record IsNextPair (queue : List Pair) (at : ℕ) (c : Pair) : Type 0 where
   pub within : at < length queue
   pub is : c ≡ get_or queue at c
 
-pub next_pair : (xs queue : List Pair) (at n : ℕ) (d : Pair) → xs ≡ queue → n ≡ length queue → at < n → IsNextPair queue at (get_or xs at d)
-next_pair xs queue at n d e l h =
-    let below : at < length queue = omega (arith, l, h) in
-    record { within = below; is = ap (λ (ys : List Pair). get_or ys at d) e ∙ get_or_default queue at d (get_or xs at d) below }
+pub next_found : (queue : List Pair) (at n : ℕ) (c : Pair) → n ≡ length queue → at < n → slice_get queue at ≡ Some c → IsNextPair queue at c
+next_found queue at n c l h found = record { within = omega (arith, l, h); is = sym (get_or_from_slice_get queue at c c found) }
 
 -- the variables of the next fields
 pub next_parts : (s : Store) (keys more : List Pair) (xs ys : List (Feature × VarName)) (at : ℕ) (x y : Feature × VarName) (l r : VarName) → at < length xs → length xs ≡ length ys → x ≡ get_or xs at x → y ≡ get_or ys at y →

@@ -24,4 +24,4 @@ pub record HasGoneOn (before : List Pair) (at : ℕ) (after : List Pair) (now : 
 
 -- each front is one of the pair under which it is kept
 abbrev pub AreFronts : Store → List (Pair × Front) → Type 0
-AreFronts s fronts = (p : Pair) (f : Front) → lookup (equal_pair p) fronts ≡ Some f → IsMatchedFront p s f.pairs.keys f.at
+AreFronts s fronts = (p : Pair) (f : Front) → lookup (equal_pair p) fronts ≡ Some f → IsMatchedFront p s f.pairs f.at

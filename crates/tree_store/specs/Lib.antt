@@ -6,6 +6,7 @@ pub mod Consistent
 pub mod Answers
 pub mod Walk
 pub mod Compared
+pub mod SmallSet
 pub mod Front
 pub mod Truths
 pub mod Shows

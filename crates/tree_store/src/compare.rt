@@ -7,8 +7,8 @@ ghost use Rattle.tree_node.specs.ClassPairs.{equal_pair, roots, leads_to, all_ne
 ghost use Rattle.tree_store.specs.Compared.{comparison_of, IsFinding};
 ghost use Rattle.tree_store.specs.Front.{IsMatchedFront};
 
+use crate::small_set::SmallSet;
 use crate::store::{Root, Store};
-use indexmap::IndexSet;
 use std::alloc::{AllocError, Global};
 use tree_node::{Feature, Node, VarName, Vars, equal_bytes, equal_features, equal_text};
 
@@ -79,12 +79,12 @@ pub fn find(store: &Store, left: VarName, right: VarName) -> Finding<'_>
 /// The classes of the fields of two records go behind the pairs, those that are not there yet.
 pub fn add_parts(
     store: &Store,
-    pairs: &mut IndexSet<(VarName, VarName)>,
+    pairs: &mut SmallSet<(VarName, VarName)>,
     fields: &[(Feature, VarName)],
     others: &[(Feature, VarName)],
 ) -> Result<(), AllocError>
     requires { length fields.now ≡ length others.now }
-    ensures { OnOk result (pairs.new.keys ≡ all_new equal_pair pairs.old.keys (map (roots store.now.equations) (paired fields.now others.now))) }
+    ensures { OnOk result (pairs.new ≡ all_new equal_pair pairs.old (map (roots store.now.equations) (paired fields.now others.now))) }
 {
     for (at, field) in fields.iter().enumerate() {
         let left = store.class_of(field.1);
@@ -97,11 +97,11 @@ pub fn add_parts(
 // A variable that stands for its class goes behind the open ones, if the class has no node.
 fn add_open(
     store: &Store,
-    open_vars: &mut IndexSet<VarName>,
+    open_vars: &mut SmallSet<VarName>,
     var: VarName,
 ) -> Result<(), AllocError>
     requires { root_of store.now.equations var ≡ var }
-    ensures { OnOk result (open_vars.new.keys ≡ all_new equal_var open_vars.old.keys (open_root store.now.equations var)) }
+    ensures { OnOk result (open_vars.new ≡ all_new equal_var open_vars.old (open_root store.now.equations var)) }
 {
     match store.root_of(var) {
         Root::Unbound(_) => {
@@ -115,14 +115,14 @@ fn add_open(
 // The open variables of a pair of two classes go behind the others, the left one first.
 fn add_both(
     store: &Store,
-    open_vars: &mut IndexSet<VarName>,
+    open_vars: &mut SmallSet<VarName>,
     left: VarName,
     right: VarName,
 ) -> Result<(), AllocError>
     requires left { root_of store.now.equations left ≡ left }
     requires right { root_of store.now.equations right ≡ right }
     requires apart { is_one_class store.now.equations (left, right) ≡ false }
-    ensures { OnOk result (open_vars.new.keys ≡ all_new equal_var open_vars.old.keys (open_roots store.now.equations (left, right))) }
+    ensures { OnOk result (open_vars.new ≡ all_new equal_var open_vars.old (open_roots store.now.equations (left, right))) }
 {
     add_open(store, open_vars, left)?;
     add_open(store, open_vars, right)?;
@@ -132,16 +132,16 @@ fn add_both(
 // A pair is looked at: what it leads to, or what is open, goes behind the others. The answer is whether it is apart.
 fn visit(
     store: &Store,
-    pairs: &mut IndexSet<(VarName, VarName)>,
-    open_vars: &mut IndexSet<VarName>,
+    pairs: &mut SmallSet<(VarName, VarName)>,
+    open_vars: &mut SmallSet<VarName>,
     left: VarName,
     right: VarName,
 ) -> Result<bool, AllocError>
     requires left { root_of store.now.equations left ≡ left }
     requires right { root_of store.now.equations right ≡ right }
     ensures apart { IfOk result (λ b. b ≡ is_apart (relation store.now.equations (left, right))) }
-    ensures pairs { OnOk result (pairs.new.keys ≡ all_new equal_pair pairs.old.keys (leads_to store.now.equations (left, right))) }
-    ensures open_ones { OnOk result (open_vars.new.keys ≡ all_new equal_var open_vars.old.keys (open_roots store.now.equations (left, right))) }
+    ensures pairs { OnOk result (pairs.new ≡ all_new equal_pair pairs.old (leads_to store.now.equations (left, right))) }
+    ensures open_ones { OnOk result (open_vars.new ≡ all_new equal_var open_vars.old (open_roots store.now.equations (left, right))) }
 {
     match find(store, left, right) {
         Finding::Alike => Ok(false),
@@ -158,13 +158,13 @@ fn visit(
 }
 
 // The answer where nothing differs.
-fn unless_open(alloc: Global, open_vars: &IndexSet<VarName>) -> Result<Compared, AllocError>
-    ensures { IfOk result (λ c. comparison_of c ≡ open_or_equal open_vars.now.keys) }
+fn unless_open(open_vars: SmallSet<VarName>) -> Result<Compared, AllocError>
+    ensures { IfOk result (λ c. comparison_of c ≡ open_or_equal open_vars) }
 {
-    if open_vars.is_empty() {
+    if open_vars.len() == 0 {
         return Ok(Compared::Equal);
     }
-    let vars = Vec::from_slice(alloc, open_vars.as_slice())?;
+    let vars = open_vars.into_vec()?;
     Ok(Compared::Open(Vars::from_vec(vars)?))
 }
 
@@ -175,18 +175,18 @@ fn unless_open(alloc: Global, open_vars: &IndexSet<VarName>) -> Result<Compared,
 pub fn search_on(
     alloc: Global,
     store: &Store,
-    pairs: &mut IndexSet<(VarName, VarName)>,
+    pairs: &mut SmallSet<(VarName, VarName)>,
     mut at: usize,
 ) -> Result<Compared, AllocError>
     ghost sides: { Pair }
-    requires { IsMatchedFront sides store.now.equations pairs.old.keys at }
+    requires { IsMatchedFront sides store.now.equations pairs.old at }
     ensures answer { IfOk result (λ c. comparison_of c ≡ compared store.now.equations sides) }
-    ensures front { OnOk result (take (length pairs.old.keys) pairs.new.keys ≡ pairs.old.keys) }
+    ensures front { OnOk result (take (length pairs.old) pairs.new ≡ pairs.old) }
 {
     store.forest();
-    let mut open_vars = IndexSet::new(alloc);
+    let mut open_vars = SmallSet::new(alloc);
     'pairs: while at < pairs.len() {
-        let pair = pairs.as_slice()[at];
+        let pair = pairs.key_at(at);
         let left = store.class_of(pair.0);
         let right = store.class_of(pair.1);
         let is_apart = visit(store, pairs, &mut open_vars, left, right)?;
@@ -195,5 +195,5 @@ pub fn search_on(
         }
         at += 1;
     }
-    unless_open(alloc, &open_vars)
+    unless_open(open_vars)
 }

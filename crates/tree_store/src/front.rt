@@ -10,8 +10,9 @@ ghost use Rattle.tree_store.specs.Compared.{comparison_of};
 ghost use Rattle.tree_store.specs.Front.{IsMatchedFront, IsAtUnmatched, HasGoneOn};
 
 use crate::compare::{Compared, Finding, add_parts, find, search_on};
+use crate::small_set::SmallSet;
 use crate::store::Store;
-use indexmap::{IndexMap, IndexSet};
+use indexmap::IndexMap;
 use std::alloc::{AllocError, Global};
 use tree_node::VarName;
 
@@ -19,18 +20,30 @@ use tree_node::VarName;
 /// whatever more becomes known.
 #[derive(Drop)]
 pub struct Front {
-    pub pairs: IndexSet<(VarName, VarName)>,
+    pub pairs: SmallSet<(VarName, VarName)>,
     pub at: usize,
 }
 
 /// The fronts of comparisons that are open, each under the pair that is compared.
 pub type Fronts = IndexMap<(VarName, VarName), Front>;
 
+// Fronts of so many pairs are not kept.
+const FEW_PAIRS: usize = 4;
+
+/// Whether a front is worth keeping. So few pairs are sooner looked at again than put into a table and taken from it.
+pub fn is_long(front: &Front) -> bool {
+    front.pairs.len() > FEW_PAIRS
+}
+
 /// Takes the front of a pair, if it has one.
+#[tactic(auto, using(crate::proofs::FrontLemmas::none_kept))]
 pub fn take(fronts: &mut Fronts, left: VarName, right: VarName) -> Option<Front>
     ensures front { result ≡ lookup (equal_pair (left, right)) fronts.old.entries }
     ensures rest { (p : Pair) → lookup (equal_pair p) fronts.new.entries ≡ (if equal_pair (left, right) p then None else lookup (equal_pair p) fronts.old.entries) }
 {
+    if fronts.is_empty() {
+        return None;
+    }
     fronts.swap_remove(&(left, right))
 }
 
@@ -50,9 +63,9 @@ pub fn put(
 
 // The front with which a comparison begins.
 fn begin(alloc: Global, store: &Store, left: VarName, right: VarName) -> Result<Front, AllocError>
-    ensures { IfOk result (λ f. IsMatchedFront (left, right) store.now.equations f.pairs.keys f.at) }
+    ensures { IfOk result (λ f. IsMatchedFront (left, right) store.now.equations f.pairs f.at) }
 {
-    let mut pairs = IndexSet::new(alloc);
+    let mut pairs = SmallSet::new(alloc);
     pairs.insert((store.class_of(left), store.class_of(right)))?;
     Ok(Front { pairs, at: 0 })
 }
@@ -60,7 +73,7 @@ fn begin(alloc: Global, store: &Store, left: VarName, right: VarName) -> Result<
 // What a pair leads to that matches goes behind the others. The answer is whether it matches.
 fn pass(
     store: &Store,
-    pairs: &mut IndexSet<(VarName, VarName)>,
+    pairs: &mut SmallSet<(VarName, VarName)>,
     left: VarName,
     right: VarName,
 ) -> Result<bool, AllocError>
@@ -68,8 +81,8 @@ fn pass(
     requires right { root_of store.now.equations right ≡ right }
     ensures matches { IfOk result (λ b. b ≡ true → IsMatched (relation store.now.equations (left, right))) }
     ensures stops { IfOk result (λ b. b ≡ false → IsMatched (relation store.now.equations (left, right)) → ⊥) }
-    ensures pairs { OnOk result (pairs.new.keys ≡ all_new equal_pair pairs.old.keys (leads_to store.now.equations (left, right))) }
-    ensures same { IfOk result (λ b. b ≡ false → pairs.new.keys ≡ pairs.old.keys) }
+    ensures pairs { OnOk result (pairs.new ≡ all_new equal_pair pairs.old (leads_to store.now.equations (left, right))) }
+    ensures same { IfOk result (λ b. b ≡ false → pairs.new ≡ pairs.old) }
 {
     match find(store, left, right) {
         Finding::Alike => Ok(true),
@@ -86,14 +99,14 @@ fn pass(
 #[tactic(auto, using(crate::proofs::FrontLemmas::class_named))]
 fn pass_matched(store: &Store, front: &mut Front) -> Result<(), AllocError>
     ghost sides: { Pair }
-    requires { IsMatchedFront sides store.now.equations front.old.pairs.keys front.old.at }
-    ensures front { OnOk result (IsMatchedFront sides store.now.equations front.new.pairs.keys front.new.at) }
-    ensures stops { OnOk result (IsAtUnmatched store.now.equations front.new.pairs.keys front.new.at) }
-    ensures goes_on { OnOk result (HasGoneOn front.old.pairs.keys front.old.at front.new.pairs.keys front.new.at) }
+    requires { IsMatchedFront sides store.now.equations front.old.pairs front.old.at }
+    ensures front { OnOk result (IsMatchedFront sides store.now.equations front.new.pairs front.new.at) }
+    ensures stops { OnOk result (IsAtUnmatched store.now.equations front.new.pairs front.new.at) }
+    ensures goes_on { OnOk result (HasGoneOn front.old.pairs front.old.at front.new.pairs front.new.at) }
 {
     store.forest();
     'pairs: while front.at < front.pairs.len() {
-        let pair = front.pairs.as_slice()[front.at];
+        let pair = front.pairs.key_at(front.at);
         let left = store.class_of(pair.0);
         let right = store.class_of(pair.1);
         let matches = pass(store, &mut front.pairs, left, right)?;
@@ -116,11 +129,11 @@ pub fn resume(
 ) -> Result<(Compared, Front), AllocError>
     ghost sides: { Pair }
     requires sides { sides ≡ (left, right) }
-    requires kept { IfSome kept (λ f. IsMatchedFront sides store.now.equations f.pairs.keys f.at) }
+    requires kept { IfSome kept (λ f. IsMatchedFront sides store.now.equations f.pairs f.at) }
     ensures answer { IfOk result (λ r. comparison_of r.0 ≡ compared store.now.equations sides) }
-    ensures front { IfOk result (λ r. IsMatchedFront sides store.now.equations r.1.pairs.keys r.1.at) }
-    ensures stops { IfOk result (λ r. IsAtUnmatched store.now.equations r.1.pairs.keys r.1.at) }
-    ensures goes_on { IfOk result (λ r. IfSome kept (λ f. HasGoneOn f.pairs.keys f.at r.1.pairs.keys r.1.at)) }
+    ensures front { IfOk result (λ r. IsMatchedFront sides store.now.equations r.1.pairs r.1.at) }
+    ensures stops { IfOk result (λ r. IsAtUnmatched store.now.equations r.1.pairs r.1.at) }
+    ensures goes_on { IfOk result (λ r. IfSome kept (λ f. HasGoneOn f.pairs f.at r.1.pairs r.1.at)) }
 {
     let mut front = match kept {
         Some(front) => front,

@@ -35,6 +35,7 @@ mod front;
 mod links;
 mod names;
 mod shows;
+mod small_set;
 mod store;
 mod threads;
 mod truths;

@@ -169,10 +169,14 @@ impl Links {
         unreachable!()
     }
 
-    /// The variable at which the links of a variable's class end.
+    /// The variable at which the links of a variable's class end. Where no variable was linked it is that one.
+    #[tactic(auto, using(crate::proofs::TopLemmas::none_ends))]
     pub fn end(&self, var: VarName) -> VarName
         ensures { (root : VarName → VarName) → AreClasses root (entry_in self.now) → root var ≡ result }
     {
+        if self.forest.is_empty() {
+            return var;
+        }
         self.top(var).end
     }
 

@@ -3,4 +3,4 @@ use Rattle.tree_store.proofs.compare.add_open.Goals as goal
 
 pub returns-in_ok-insert-in-Unbound : goal.returns-in_ok-insert-in-Unbound
 returns-in_ok-insert-in-Unbound c =
-    one_open c.args.store.now.equations c.args.open_vars.now.keys c.insert.new.self.keys c.args.var c.requires c.in-Unbound.ensures.0.1 c.in_ok-insert-in-Unbound.ensures.keys
+    one_open c.args.store.now.equations c.args.open_vars.now c.insert.new.self c.args.var c.requires c.in-Unbound.ensures.0.1 c.in_ok-insert-in-Unbound.ensures.ok

@@ -3,5 +3,5 @@ use Rattle.tree_store.proofs.front.begin.Goals as goal
 
 pub returns : goal.returns
 returns c =
-    front_begins c.args.store.now.equations (c.args.left, c.args.right) c.new-pairs.result.keys c.insert.new.self.keys c.class_of.result c.class_of-2.result c.new-pairs.ensures.empty
-    c.class_of.ensures c.class_of-2.ensures c.in_ok-insert.ensures.keys
+    front_begins c.args.store.now.equations (c.args.left, c.args.right) c.new-pairs.result c.insert.new.self c.class_of.result c.class_of-2.result c.new-pairs.ensures
+    c.class_of.ensures c.class_of-2.ensures c.in_ok-insert.ensures.ok
