@@ -19,7 +19,7 @@ use Rattle.thread_roster.specs.Slots.{Slot, IsNotSlotOf, IsSlotOf, IsOnlyAt, IsP
 use Rattle.thread_roster.specs.Threads.{is_waiting, wake_all, determine_all, set_mode, set_value, AllWait, IsRunnable}
 use Rattle.tree_node.specs.Assoc.{value_of, without_key}
 use Rattle.tree_node.specs.State.{equal_thread}
-use Rattle.thread_roster.proofs.NameLemmas.{is_same, is_other}
+use Rattle.thread_roster.proofs.NameLemmas.{is_same, is_other, name_cases}
 use Rattle.thread_roster.proofs.SlotLemmas.{placed_set, placed_end, placed_born, total_set, total_end, total_born, only_inside, only_at, held_at, lacking, found, placed_there, has_place, mode_put, value_put, thread_ended, thread_born, living_le}
 use Rattle.thread_roster.proofs.WakeLemmas.{IsAwaitingAt, mode_in, never_waits, roused_all, living_roused, threads_bound, threads_determined}
 use Rattle.thread_roster.proofs.WokenLemmas.{woken_all, woken_inside}
@@ -560,3 +560,25 @@ slot_is slots i o h at is = let both : Some o ≡ Some (Some h) = sym at ∙ is 
 
 pub value_is : {V : Type 0} (o : Slot V) (h : Occupant V) (v : V) → o ≡ Some h → value_there o ≡ Some v → h.value ≡ v
 value_is o h v is there = let both : Some h.value ≡ Some v = ap value_there (sym is) ∙ there in cc
+
+-- another table that says the same of each name
+pub kept_named : {V : Type 0} (slots : List (Slot V)) (by_name more : Places) (queue : List ℕ) (waiting_keys : Waiting) (a b : ℕ) → IsConsistent slots by_name queue waiting_keys a b → ((k : ThreadName) → slot_in more k ≡ slot_in by_name k) →
+    IsConsistent slots more queue waiting_keys a b
+kept_named {V} slots by_name more queue waiting_keys a b h same = record {
+  placed = λ n. subst (λ (o : Option ℕ). IsPlaced slots n o) (sym (same n)) (h.placed n);
+  queued = h.queued;
+  parked = h.parked;
+  inside = h.inside;
+  keys_inside = h.keys_inside;
+  alive = h.alive;
+  waiters = h.waiters;
+}
+
+-- a name that had none gets a slot, and then has none again
+pub forgotten : (by_name more less : Places) (n : ThreadName) (i : ℕ) → slot_in by_name n ≡ None → ((k : ThreadName) → slot_in more k ≡ with_slot (slot_in by_name) n (Some i) k) → ((k : ThreadName) → slot_in less k ≡ with_slot (slot_in more) n None k) →
+    (k : ThreadName) → slot_in less k ≡ slot_in by_name k
+forgotten by_name more less n i none added left k = go (name_cases n k)
+  where
+    go : (n ≡ k) ⊎ (n ≢ k) → slot_in less k ≡ slot_in by_name k
+    go (inl same) = left k ∙ rw (is_same n k same) (sym none ∙ ap (slot_in by_name) same)
+    go (inr differ) = left k ∙ rw (is_other n k differ) (added k ∙ rw (is_other n k differ) refl)

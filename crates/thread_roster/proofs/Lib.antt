@@ -1,5 +1,6 @@
 pub mod NameLemmas
 pub mod SlotLemmas
+pub mod TableLemmas
 pub mod WakeLemmas
 pub mod WokenLemmas
 pub mod QueueLemmas
@@ -10,3 +11,4 @@ pub mod ViewLemmas
 pub mod ThreadLemmas
 pub mod NodeLemmas
 pub mod ParkingLemmas
+pub mod WaitingLemmas

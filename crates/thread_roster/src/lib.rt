@@ -22,7 +22,8 @@
 //! there again puts no key where its own is the last, as a clause of `add_again` tells (`waiting_keys`). Where others come to
 //! wait there in turns with it, each puts one; where there is no room for one more, those that stand there more than once leave,
 //! so that all keys of a variable together are some twice as many as the threads that have one. Their number is bounded by no
-//! clause. It stands on `tree_node` (names), `waiting_keys` and `indexmap`.
+//! clause. The names of one site stand in a row by number, as long as neither their numbers nor their slots have gaps; there a name takes a
+//! byte, and is found without a look-up by hash. It stands on `tree_node` (names), `waiting_keys` and `indexmap`.
 //!
 //! Source: Van Roy and Haridi, *Concepts, Techniques, and Models of Computer Programming*, sections 2.4 and 4.1 (threads that wait
 //! for variables).
@@ -33,6 +34,7 @@ mod queue;
 mod roster;
 mod slot;
 mod slots_by_name;
+mod table;
 mod threads;
 
 pub use mode::{Awaited, Mode};

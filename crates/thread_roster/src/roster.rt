@@ -13,17 +13,15 @@ ghost use Rattle.thread_roster.specs.declared.mode.Mode.TheVariants as stands;
 ghost use Rattle.waiting_keys.specs.Keys.{keys_among, without_keys};
 ghost use Rattle.tree_node.specs.Each.{Each};
 ghost use Rattle.thread_roster.specs.Parking.{HasMoreKeys};
-ghost use Rattle.thread_roster.specs.Slots.{threads_in as slots_hold, AreInside, var_of, woken, wake_slots, total, waiting as waits};
+ghost use Rattle.thread_roster.specs.Slots.{threads_in as slots_hold, slot_in, with_slot, AreInside, var_of, woken, wake_slots, total, waiting as waits};
 ghost use Rattle.thread_roster.specs.Threads.{set_mode, set_value, wake_all, determine_all, waiting_of, AllWait, IsSuspended, IsRunnable, IsOrderOf};
 ghost use Rattle.thread_roster.specs.Order.{without_name, rotated, HaveComeBehind};
 
 use crate::mode::{Awaited, Event, Mode};
 use crate::queue::Queue;
 use crate::slot::{Occupant, Slot, clear, make_room, set_mode, value_in};
-use crate::slots_by_name::{
-    SlotsByName, count_running, count_waiting, find, forget, leave, next_runnable, slot_of,
-};
-use indexmap::IndexMap;
+use crate::slots_by_name::{count_running, count_waiting, find, leave, next_runnable, slot_of};
+use crate::table::SlotsByName;
 use std::alloc::{AllocError, Global};
 use std::marker::Model;
 use tree_node::{ThreadName, VarName, Vars};
@@ -62,7 +60,7 @@ impl<V> Model for Roster<V> {
       order = names_at r.slots.items r.queue;
     } };
 
-    ghost invariant = { λ r. IsConsistent r.slots.items r.by_name.entries r.queue (keys_for r.waiters r.needers) r.living r.waiting × IsOrdered r.slots.items r.queue };
+    ghost invariant = { λ r. IsConsistent r.slots.items r.by_name r.queue (keys_for r.waiters r.needers) r.living r.waiting × IsOrdered r.slots.items r.queue };
 }
 
 // A slot is among the keys of each of these variables.
@@ -84,6 +82,29 @@ fn park_at(waiters: &mut Waiters, var: VarName, slot: usize) -> Result<(), Alloc
     ensures last { (ks : List ℕ) → keys_among waiters.old var ≡ ks ++ slot ∷ [] → waiters.new ≡ waiters.old }
 {
     waiters.add_again(var, slot)
+}
+
+// A name that has no slot has this one, which comes behind the others in the queue.
+fn enqueue(
+    by_name: &mut SlotsByName,
+    queue: &mut Queue,
+    name: ThreadName,
+    slot: usize,
+) -> Result<(), AllocError>
+    requires { slot_in by_name.old name ≡ None }
+    ensures named { OnOk result ((n : Named) → slot_in by_name.new n ≡ with_slot (slot_in by_name.old) name (Some slot) n) }
+    ensures queue { OnOk result (queue.new ≡ queue.old ++ slot ∷ []) }
+    ensures same { OnErr result ((n : Named) → slot_in by_name.new n ≡ slot_in by_name.old n) }
+    ensures err { OnErr result (queue.new ≡ queue.old) }
+{
+    by_name.add(name, slot)?;
+    match queue.push(slot) {
+        Ok(_) => Ok(()),
+        Err(error) => {
+            by_name.forget(name);
+            Err(error)
+        }
+    }
 }
 
 // The threads that wait for this go on, behind those in the queue, and the keys of its variable are taken. Answers how many go on. Where no
@@ -132,7 +153,7 @@ impl<V: Drop> Roster<V> {
         Roster {
             alloc,
             slots: Vec::new(alloc),
-            by_name: IndexMap::new(alloc),
+            by_name: SlotsByName::new(alloc),
             queue: Queue::new(alloc),
             waiters: Waiters::new(alloc),
             needers: Waiters::new(alloc),
@@ -237,10 +258,8 @@ impl<V: Drop> Roster<V> {
         let mode = Mode::Runs;
         let held = Slot::new(self.alloc, Occupant { name, mode, value })?;
         make_room(&mut self.slots)?;
-        self.by_name.reserve(1)?;
-        self.queue.push(slot)?;
+        enqueue(&mut self.by_name, &mut self.queue, name, slot)?;
         self.slots.push_reserved(held);
-        self.by_name.insert(name, slot)?;
         self.living += 1;
         Ok(())
     }
@@ -371,7 +390,7 @@ impl<V: Drop> Roster<V> {
         let slot = find(&self.slots, &self.by_name, &self.queue, name);
         let waited = clear(&mut self.slots, slot);
         self.waiting = count_running(self.waiting, waited);
-        forget(&mut self.by_name, name);
+        self.by_name.forget(name);
         self.living -= 1;
         leave(&mut self.queue, slot);
     }

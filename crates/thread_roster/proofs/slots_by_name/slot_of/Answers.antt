@@ -8,5 +8,5 @@ pub returns-then-is_of : goal.returns-then-is_of
 returns-then-is_of g c =
     let queue = c.in-Some.ensures.some in
     let inside : AreInside c.args.slots.now.items (c.in-Some.slot ∷ queue.0) = subst (λ (q : List ℕ). AreInside c.args.slots.now.items q) queue.1 c.requires.inside in
-    place_is c.args.slots.now.items (slot_in c.args.by_name.now.entries) c.in-Some.slot _ c.args.name c.requires.placed
+    place_is c.args.slots.now.items (slot_in c.args.by_name.now) c.in-Some.slot _ c.args.name c.requires.placed
     (at_index c.args.slots.now.items c.in-Some.slot _ inside.0 c.index.ensures) (c.if-is_of.ensures.0 refl)

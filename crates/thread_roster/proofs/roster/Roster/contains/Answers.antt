@@ -9,8 +9,8 @@ use Rattle.thread_roster.proofs.roster.Roster.contains.Goals as goal
 pub returns : goal.returns
 returns g c = (
   λ k. subst (λ s. IsSome (value_of equal_thread s.living c.args.name)) c.self.view_is
-      (lives_there c.self.inside.slots.items (slot_in c.self.inside.by_name.entries) c.args.name c.slot_of.result c.self.invariant.0.placed c.slot_of.ensures (sym c.is_some.ensures ∙ k)),
+      (lives_there c.self.inside.slots.items (slot_in c.self.inside.by_name) c.args.name c.slot_of.result c.self.invariant.0.placed c.slot_of.ensures (sym c.is_some.ensures ∙ k)),
   λ k. c.is_some.ensures
-      ∙ there_lives c.self.inside.slots.items (slot_in c.self.inside.by_name.entries) c.args.name c.slot_of.result c.self.invariant.0.placed c.slot_of.ensures
+      ∙ there_lives c.self.inside.slots.items (slot_in c.self.inside.by_name) c.args.name c.slot_of.result c.self.invariant.0.placed c.slot_of.ensures
       (subst (λ s. IsSome (value_of equal_thread s.living c.args.name)) (sym c.self.view_is) k),
 )

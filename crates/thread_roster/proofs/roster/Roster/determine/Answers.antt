@@ -26,8 +26,8 @@ invariant_of-self-2 g c =
     let count = c.in_ok-roused.ensures.count in
     let all = c.self.invariant.0.waiters in
     let keys = keys_among c.self.inside.needers c.args.var in
-    let went = slots_roused (event.Determined c.args.var) c.self.inside.slots.items c.rouse.new.slots.items c.self.inside.by_name.entries c.self.inside.queue keys (keys_for c.self.inside.waiters c.self.inside.needers) c.self.inside.living c.self.inside.waiting c.self.invariant.0 refl c.in_ok-roused.ensures.slots in (
-      kept_roused (event.Determined c.args.var) c.self.inside.slots.items c.rouse.new.slots.items c.self.inside.by_name.entries c.self.inside.queue c.rouse.new.queue keys (keys_for c.self.inside.waiters c.self.inside.needers) (keys_for c.self.inside.waiters c.rouse.new.waiters) c.self.inside.living c.self.inside.waiting _
+    let went = slots_roused (event.Determined c.args.var) c.self.inside.slots.items c.rouse.new.slots.items c.self.inside.by_name c.self.inside.queue keys (keys_for c.self.inside.waiters c.self.inside.needers) c.self.inside.living c.self.inside.waiting c.self.invariant.0 refl c.in_ok-roused.ensures.slots in (
+      kept_roused (event.Determined c.args.var) c.self.inside.slots.items c.rouse.new.slots.items c.self.inside.by_name c.self.inside.queue c.rouse.new.queue keys (keys_for c.self.inside.waiters c.self.inside.needers) (keys_for c.self.inside.waiters c.rouse.new.waiters) c.self.inside.living c.self.inside.waiting _
           c.self.invariant.0 refl c.in_ok-roused.ensures.queue c.in_ok-roused.ensures.slots (left_determined c.self.inside.waiters c.self.inside.needers c.rouse.new.waiters c.args.var c.in_ok-roused.ensures.taken) (omega (arith, count, all)),
       ordered_woken (event.Determined c.args.var) c.self.inside.slots.items c.rouse.new.slots.items c.self.inside.queue c.rouse.new.queue keys c.self.invariant.1 went c.in_ok-roused.ensures.queue,
     )
@@ -35,19 +35,19 @@ invariant_of-self-2 g c =
 pub returns-clause-living : goal.returns-clause-living
 returns-clause-living g c =
     determine_view c.args.var c.self.inside.slots.items c.rouse.new.slots.items
-    (slots_roused (event.Determined c.args.var) c.self.inside.slots.items c.rouse.new.slots.items c.self.inside.by_name.entries c.self.inside.queue _ (keys_for c.self.inside.waiters c.self.inside.needers) c.self.inside.living c.self.inside.waiting c.self.invariant.0 refl c.in_ok-roused.ensures.slots)
+    (slots_roused (event.Determined c.args.var) c.self.inside.slots.items c.rouse.new.slots.items c.self.inside.by_name c.self.inside.queue _ (keys_for c.self.inside.waiters c.self.inside.needers) c.self.inside.living c.self.inside.waiting c.self.invariant.0 refl c.in_ok-roused.ensures.slots)
     ∙ ap (λ s. determine_all (λ (y : VarName). equal_var y c.args.var) s.living) c.self.view_is
 
 pub returns-clause-ended : goal.returns-clause-ended
 returns-clause-ended g c =
     ended_roused (event.Determined c.args.var) c.self.inside.slots.items c.rouse.new.slots.items
-    (slots_roused (event.Determined c.args.var) c.self.inside.slots.items c.rouse.new.slots.items c.self.inside.by_name.entries c.self.inside.queue _ (keys_for c.self.inside.waiters c.self.inside.needers) c.self.inside.living c.self.inside.waiting c.self.invariant.0 refl c.in_ok-roused.ensures.slots)
+    (slots_roused (event.Determined c.args.var) c.self.inside.slots.items c.rouse.new.slots.items c.self.inside.by_name c.self.inside.queue _ (keys_for c.self.inside.waiters c.self.inside.needers) c.self.inside.living c.self.inside.waiting c.self.invariant.0 refl c.in_ok-roused.ensures.slots)
     ∙ ap (λ s. s.ended) c.self.view_is
 
 pub returns-clause-order : goal.returns-clause-order
 returns-clause-order g c =
     let keys = woken (event.Determined c.args.var) c.self.inside.slots.items (keys_among c.self.inside.needers c.args.var) in
-    let went = slots_roused (event.Determined c.args.var) c.self.inside.slots.items c.rouse.new.slots.items c.self.inside.by_name.entries c.self.inside.queue _ (keys_for c.self.inside.waiters c.self.inside.needers) c.self.inside.living c.self.inside.waiting c.self.invariant.0 refl c.in_ok-roused.ensures.slots in (
+    let went = slots_roused (event.Determined c.args.var) c.self.inside.slots.items c.rouse.new.slots.items c.self.inside.by_name c.self.inside.queue _ (keys_for c.self.inside.waiters c.self.inside.needers) c.self.inside.living c.self.inside.waiting c.self.invariant.0 refl c.in_ok-roused.ensures.slots in (
       names_at c.self.inside.slots.items keys,
       order_woken (event.Determined c.args.var) c.self.inside.slots.items c.rouse.new.slots.items c.self.inside.queue c.rouse.new.queue keys went c.in_ok-roused.ensures.queue ∙ ap (λ s. s.order ++ names_at c.self.inside.slots.items keys) c.self.view_is,
     )

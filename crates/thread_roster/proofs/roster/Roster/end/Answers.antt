@@ -29,16 +29,16 @@ invariant_of-self g c =
     let held = c.find-slot.ensures.held in
     let some = total_holds one c.self.inside.slots.items c.find-slot.result held.0 held.1 in
     let all = c.self.invariant.0.alive in (
-      kept_left c.clear-waited.new.slots.items c.forget.new.by_name.entries c.self.inside.queue c.leave.new.queue (keys_for c.self.inside.waiters c.self.inside.needers) _ c.count_running-self-inside.result c.find-slot.result c.leave.ensures
+      kept_left c.clear-waited.new.slots.items c.forget.new.self c.self.inside.queue c.leave.new.queue (keys_for c.self.inside.waiters c.self.inside.needers) _ c.count_running-self-inside.result c.find-slot.result c.leave.ensures
           (still_none c.self.inside.slots.items c.clear-waited.new.slots.items c.find-slot.result c.clear-waited.ensures.put)
-          (kept_end c.self.inside.slots.items c.clear-waited.new.slots.items c.self.inside.by_name.entries c.forget.new.by_name.entries c.self.inside.queue (keys_for c.self.inside.waiters c.self.inside.needers) c.self.inside.living c.self.inside.waiting _ c.count_running-self-inside.result c.args.name c.find-slot.result held.0 c.self.invariant.0 c.find-slot.ensures.slot held.1 c.clear-waited.ensures.put c.forget.ensures
+          (kept_end c.self.inside.slots.items c.clear-waited.new.slots.items c.self.inside.by_name c.forget.new.self c.self.inside.queue (keys_for c.self.inside.waiters c.self.inside.needers) c.self.inside.living c.self.inside.waiting _ c.count_running-self-inside.result c.args.name c.find-slot.result held.0 c.self.invariant.0 c.find-slot.ensures.slot held.1 c.clear-waited.ensures.put c.forget.ensures
           (omega (arith, some, all)) (rw (c.clear-waited.ensures.old held.0 held.1) at c.count_running-self-inside.ensures)),
       ordered_left c.clear-waited.new.slots.items c.self.inside.queue c.leave.new.queue c.find-slot.result (ordered_end c.self.inside.slots.items c.clear-waited.new.slots.items c.self.inside.queue c.find-slot.result c.self.invariant.1 c.clear-waited.ensures.put) c.leave.ensures,
     )
 
 pub returns-clause-living : goal.returns-clause-living
 returns-clause-living g c =
-    end_view c.self.inside.slots.items c.clear-waited.new.slots.items (slot_in c.self.inside.by_name.entries) c.args.name c.find-slot.result c.self.invariant.0.placed c.find-slot.ensures.slot c.clear-waited.ensures.put
+    end_view c.self.inside.slots.items c.clear-waited.new.slots.items (slot_in c.self.inside.by_name) c.args.name c.find-slot.result c.self.invariant.0.placed c.find-slot.ensures.slot c.clear-waited.ensures.put
     ∙ ap (λ s. without_key equal_thread s.living c.args.name) c.self.view_is
 
 pub returns-clause-ended : goal.returns-clause-ended
@@ -50,5 +50,5 @@ returns-clause-ended g c =
 pub returns-clause-order : goal.returns-clause-order
 returns-clause-order g c =
     order_ended c.args.name c.self.inside.slots.items c.clear-waited.new.slots.items c.find-slot.result c.self.inside.queue c.leave.new.queue
-    (only_at c.self.inside.slots.items (slot_in c.self.inside.by_name.entries) c.args.name c.find-slot.result c.self.invariant.0.placed c.find-slot.ensures.slot) c.clear-waited.ensures.put c.leave.ensures
+    (only_at c.self.inside.slots.items (slot_in c.self.inside.by_name) c.args.name c.find-slot.result c.self.invariant.0.placed c.find-slot.ensures.slot) c.clear-waited.ensures.put c.leave.ensures
     ∙ ap (λ s. without_name c.args.name s.order) c.self.view_is

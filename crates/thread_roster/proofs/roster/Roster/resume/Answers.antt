@@ -24,15 +24,15 @@ invariant_of-self g c = rw c.in_err-push.ensures.err c.self.invariant
 pub invariant_of-self-2 : goal.invariant_of-self-2
 invariant_of-self-2 g c =
     let held = c.find-slot.ensures.held in
-    let was = stands_there c.self.inside.slots.items (slot_in c.self.inside.by_name.entries) c.args.name c.find-slot.result held.0 c.requires.waits.0 c.requires.waits.1 c.self.invariant.0.placed c.find-slot.ensures.slot held.1 (ap (λ s. value_of equal_thread s.living c.args.name) c.self.view_is ∙ c.requires.waits.2) in (
-      kept_runs c.self.inside.slots.items c.set_mode-waited.new.slots.items c.self.inside.by_name.entries c.self.inside.queue c.push.new.self (keys_for c.self.inside.waiters c.self.inside.needers) c.self.inside.living c.self.inside.waiting c.count_running-self-inside.result c.args.name c.find-slot.result held.0 c.self.invariant.0 c.find-slot.ensures.slot held.1 held.2 (c.set_mode-waited.ensures.put held.0 held.1) c.in_ok-push.ensures.ok (rw (c.set_mode-waited.ensures.old held.0 held.1) at c.count_running-self-inside.ensures),
+    let was = stands_there c.self.inside.slots.items (slot_in c.self.inside.by_name) c.args.name c.find-slot.result held.0 c.requires.waits.0 c.requires.waits.1 c.self.invariant.0.placed c.find-slot.ensures.slot held.1 (ap (λ s. value_of equal_thread s.living c.args.name) c.self.view_is ∙ c.requires.waits.2) in (
+      kept_runs c.self.inside.slots.items c.set_mode-waited.new.slots.items c.self.inside.by_name c.self.inside.queue c.push.new.self (keys_for c.self.inside.waiters c.self.inside.needers) c.self.inside.living c.self.inside.waiting c.count_running-self-inside.result c.args.name c.find-slot.result held.0 c.self.invariant.0 c.find-slot.ensures.slot held.1 held.2 (c.set_mode-waited.ensures.put held.0 held.1) c.in_ok-push.ensures.ok (rw (c.set_mode-waited.ensures.old held.0 held.1) at c.count_running-self-inside.ensures),
       ordered_runs c.self.inside.slots.items c.set_mode-waited.new.slots.items c.self.inside.queue c.push.new.self c.find-slot.result held.0 (record held.0 { mode = stands.Runs }) c.self.invariant.1 held.1 (λ e. c.requires.waits.3 (sym was ∙ e)) refl (c.set_mode-waited.ensures.put held.0 held.1) c.in_ok-push.ensures.ok,
     )
 
 pub returns-clause-living : goal.returns-clause-living
 returns-clause-living g c =
     let held = c.find-slot.ensures.held in
-    mode_view c.self.inside.slots.items c.set_mode-waited.new.slots.items (slot_in c.self.inside.by_name.entries) c.args.name c.find-slot.result held.0 stands.Runs c.self.invariant.0.placed c.find-slot.ensures.slot held.1 held.2 (c.set_mode-waited.ensures.put held.0 held.1)
+    mode_view c.self.inside.slots.items c.set_mode-waited.new.slots.items (slot_in c.self.inside.by_name) c.args.name c.find-slot.result held.0 stands.Runs c.self.invariant.0.placed c.find-slot.ensures.slot held.1 held.2 (c.set_mode-waited.ensures.put held.0 held.1)
     ∙ ap (λ s. set_mode s.living c.args.name stands.Runs) c.self.view_is
 
 pub returns-clause-ended : goal.returns-clause-ended

@@ -7,8 +7,8 @@ use Rattle.thread_roster.proofs.roster.Roster.rotate.Goals as goal
 
 pub invariant_of-self : goal.invariant_of-self
 invariant_of-self g c = (
-  kept_turned c.self.inside.slots.items c.self.inside.by_name.entries c.next_runnable.new.queue c.rotate.new.self (keys_for c.self.inside.waiters c.self.inside.needers) c.self.inside.living c.self.inside.waiting c.rotate.ensures.some c.rotate.ensures.none
-      (kept_rest c.self.inside.slots.items c.self.inside.by_name.entries c.self.inside.queue c.next_runnable.new.queue (keys_for c.self.inside.waiters c.self.inside.needers) c.self.inside.living c.self.inside.waiting c.next_runnable.ensures.rest c.self.invariant.0),
+  kept_turned c.self.inside.slots.items c.self.inside.by_name c.next_runnable.new.queue c.rotate.new.self (keys_for c.self.inside.waiters c.self.inside.needers) c.self.inside.living c.self.inside.waiting c.rotate.ensures.some c.rotate.ensures.none
+      (kept_rest c.self.inside.slots.items c.self.inside.by_name c.self.inside.queue c.next_runnable.new.queue (keys_for c.self.inside.waiters c.self.inside.needers) c.self.inside.living c.self.inside.waiting c.next_runnable.ensures.rest c.self.invariant.0),
   ordered_rotated c.self.inside.slots.items c.next_runnable.new.queue c.rotate.new.self (ordered_rest c.self.inside.slots.items c.self.inside.queue c.next_runnable.new.queue c.self.invariant.1 c.next_runnable.ensures.rest) c.rotate.ensures.some c.rotate.ensures.none,
 )
 

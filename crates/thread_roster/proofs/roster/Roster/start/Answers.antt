@@ -4,7 +4,7 @@ use Rattle.tree_node.specs.State.{equal_thread}
 use Rattle.thread_roster.specs.declared.mode.Mode.TheVariants as stands
 use Rattle.thread_roster.specs.Slots.{slot_in, with_slot}
 use Rattle.thread_roster.proofs.SlotLemmas.{living_le}
-use Rattle.thread_roster.proofs.ConsistencyLemmas.{kept_born, no_place, born_view, ended_born}
+use Rattle.thread_roster.proofs.ConsistencyLemmas.{kept_born, kept_named, no_place, born_view, ended_born}
 use Rattle.thread_roster.proofs.QueueLemmas.{ordered_born}
 use Rattle.thread_roster.proofs.OrderLemmas.{order_born}
 use Rattle.thread_roster.specs.Parking.{keys_for}
@@ -27,23 +27,24 @@ overflow_add-self g c =
 pub invariant_of-self : goal.invariant_of-self
 invariant_of-self g c = rw c.make_room.ensures.items c.self.invariant
 
-pub invariant_of-self-in_err-reserve : goal.invariant_of-self-in_err-reserve
-invariant_of-self-in_err-reserve g c = rw (c.make_room.ensures.items, c.reserve.ensures.entries) c.self.invariant
+pub enqueue-requires : goal.enqueue-requires
+enqueue-requires g c = no_place c.self.inside.slots.items (slot_in c.self.inside.by_name) c.args.name c.self.invariant.0.placed (ap (λ s. value_of equal_thread s.living c.args.name) c.self.view_is ∙ c.requires.new)
 
-pub invariant_of-self-in_err-push : goal.invariant_of-self-in_err-push
-invariant_of-self-in_err-push g c = rw (c.make_room.ensures.items, c.reserve.ensures.entries, c.in_err-push.ensures.err) c.self.invariant
+pub invariant_of-self-in_err-enqueue : goal.invariant_of-self-in_err-enqueue
+invariant_of-self-in_err-enqueue g c = rw (c.make_room.ensures.items, c.in_err-enqueue.ensures.err)
+    (kept_named c.self.inside.slots.items c.self.inside.by_name c.enqueue.new.by_name c.self.inside.queue (keys_for c.self.inside.waiters c.self.inside.needers) c.self.inside.living c.self.inside.waiting c.self.invariant.0 c.in_err-enqueue.ensures.same, c.self.invariant.1)
 
 pub invariant_of-self-2 : goal.invariant_of-self-2
 invariant_of-self-2 g c =
     let slot = c.len-slot.ensures ∙ c.self.inside.slots.ok.0 in (
-      kept_born c.self.inside.slots.items c.push_reserved.new.self.items c.self.inside.by_name.entries c.insert.new.self.entries c.self.inside.queue c.push.new.self (keys_for c.self.inside.waiters c.self.inside.needers) c.self.inside.living c.self.inside.waiting _ c.args.name (record { name = c.args.name; mode = stands.Runs; value = c.args.value }) c.self.invariant.0
-          (no_place c.self.inside.slots.items (slot_in c.self.inside.by_name.entries) c.args.name c.self.invariant.0.placed (ap (λ s. value_of equal_thread s.living c.args.name) c.self.view_is ∙ c.requires.new)) refl refl
+      kept_born c.self.inside.slots.items c.push_reserved.new.self.items c.self.inside.by_name c.enqueue.new.by_name c.self.inside.queue c.enqueue.new.queue (keys_for c.self.inside.waiters c.self.inside.needers) c.self.inside.living c.self.inside.waiting _ c.args.name (record { name = c.args.name; mode = stands.Runs; value = c.args.value }) c.self.invariant.0
+          (no_place c.self.inside.slots.items (slot_in c.self.inside.by_name) c.args.name c.self.invariant.0.placed (ap (λ s. value_of equal_thread s.living c.args.name) c.self.view_is ∙ c.requires.new)) refl refl
           (pushed _ _ _ _ _ c.push_reserved.ensures.items c.make_room.ensures.items c.in_ok-held.ensures)
-          (λ k. (rw c.reserve.ensures.entries at c.in_ok-insert.ensures.updates.0 k) ∙ ap (λ i. with_slot (slot_in c.self.inside.by_name.entries) c.args.name (Some i) k) slot)
-          (c.in_ok-push.ensures.ok ∙ ap (λ i. c.self.inside.queue ++ i ∷ []) slot) refl,
-      ordered_born c.self.inside.slots.items c.push_reserved.new.self.items c.self.inside.queue c.push.new.self (record { name = c.args.name; mode = stands.Runs; value = c.args.value }) c.self.invariant.1 c.self.invariant.0.inside refl
+          (λ k. c.in_ok-enqueue.ensures.named k ∙ ap (λ i. with_slot (slot_in c.self.inside.by_name) c.args.name (Some i) k) slot)
+          (c.in_ok-enqueue.ensures.queue ∙ ap (λ i. c.self.inside.queue ++ i ∷ []) slot) refl,
+      ordered_born c.self.inside.slots.items c.push_reserved.new.self.items c.self.inside.queue c.enqueue.new.queue (record { name = c.args.name; mode = stands.Runs; value = c.args.value }) c.self.invariant.1 c.self.invariant.0.inside refl
           (pushed _ _ _ _ _ c.push_reserved.ensures.items c.make_room.ensures.items c.in_ok-held.ensures)
-          (c.in_ok-push.ensures.ok ∙ ap (λ i. c.self.inside.queue ++ i ∷ []) slot),
+          (c.in_ok-enqueue.ensures.queue ∙ ap (λ i. c.self.inside.queue ++ i ∷ []) slot),
     )
 
 pub returns-clause-living : goal.returns-clause-living
@@ -61,7 +62,7 @@ returns-clause-ended g c =
 pub returns-clause-order : goal.returns-clause-order
 returns-clause-order g c =
     let slot = c.len-slot.ensures ∙ c.self.inside.slots.ok.0 in
-    order_born c.self.inside.slots.items c.push_reserved.new.self.items (record { name = c.args.name; mode = stands.Runs; value = c.args.value }) c.self.inside.queue c.push.new.self
+    order_born c.self.inside.slots.items c.push_reserved.new.self.items (record { name = c.args.name; mode = stands.Runs; value = c.args.value }) c.self.inside.queue c.enqueue.new.queue
     (pushed _ _ _ _ _ c.push_reserved.ensures.items c.make_room.ensures.items c.in_ok-held.ensures)
-    (c.in_ok-push.ensures.ok ∙ ap (λ i. c.self.inside.queue ++ i ∷ []) slot) c.self.invariant.0.inside
+    (c.in_ok-enqueue.ensures.queue ∙ ap (λ i. c.self.inside.queue ++ i ∷ []) slot) c.self.invariant.0.inside
     ∙ ap (λ s. s.order ++ c.args.name ∷ []) c.self.view_is

@@ -16,7 +16,7 @@ invariant_of-self-lent g c w =
     slot_is c.self.inside.slots.items c.find-slot.result _ held.0
     (at_index c.self.inside.slots.items c.find-slot.result _ c.find-slot.ensures.inside c.index_mut.ensures.value) held.1 in
     rw slot (
-      kept_value c.self.inside.slots.items c.self.inside.by_name.entries c.self.inside.queue (keys_for c.self.inside.waiters c.self.inside.needers) c.self.inside.living c.self.inside.waiting c.args.name c.find-slot.result held.0 w c.self.invariant.0 c.find-slot.ensures.slot held.1 held.2,
+      kept_value c.self.inside.slots.items c.self.inside.by_name c.self.inside.queue (keys_for c.self.inside.waiters c.self.inside.needers) c.self.inside.living c.self.inside.waiting c.args.name c.find-slot.result held.0 w c.self.invariant.0 c.find-slot.ensures.slot held.1 held.2,
       ordered_value c.self.inside.slots.items c.self.inside.queue c.find-slot.result held.0 w c.self.invariant.1 held.1,
     )
 
@@ -27,11 +27,11 @@ returns g c =
     slot_is c.self.inside.slots.items c.find-slot.result _ held.0
     (at_index c.self.inside.slots.items c.find-slot.result _ c.find-slot.ensures.inside c.index_mut.ensures.value) held.1 in
     let there =
-    value_found c.self.inside.slots.items (slot_in c.self.inside.by_name.entries) c.args.name c.find-slot.result held.0
+    value_found c.self.inside.slots.items (slot_in c.self.inside.by_name) c.args.name c.find-slot.result held.0
     c.self.invariant.0.placed c.find-slot.ensures.slot held.1 in (
       (
         refl,
-        λ w. lent_view c.args.self.now c.self.inside.slots.items (slot_in c.self.inside.by_name.entries) c.self.inside.queue c.args.name c.find-slot.result _ held.0 w
+        λ w. lent_view c.args.self.now c.self.inside.slots.items (slot_in c.self.inside.by_name) c.self.inside.queue c.args.name c.find-slot.result _ held.0 w
             c.self.invariant.0.placed c.find-slot.ensures.slot held.1 held.2 slot c.self.view_is,
       ),
       record {

@@ -26,9 +26,9 @@ invariant_of-self g c = rw c.in_err-add.ensures.err c.self.invariant
 pub invariant_of-self-2 : goal.invariant_of-self-2
 invariant_of-self-2 g c =
     let held = c.find-slot.ensures.held in (
-      kept_without c.set_mode-waited.new.slots.items c.self.inside.by_name.entries c.self.inside.queue c.remove.new.self (keys_for c.add.new.self c.self.inside.needers) c.self.inside.living c.count_waiting-self-inside.result c.find-slot.result c.remove.ensures
+      kept_without c.set_mode-waited.new.slots.items c.self.inside.by_name c.self.inside.queue c.remove.new.self (keys_for c.add.new.self c.self.inside.needers) c.self.inside.living c.count_waiting-self-inside.result c.find-slot.result c.remove.ensures
           (still_set c.self.inside.slots.items c.set_mode-waited.new.slots.items c.find-slot.result (record held.0 { mode = stands.Waits c.args.var }) (c.set_mode-waited.ensures.put held.0 held.1) (λ e. cc))
-          (kept_parked c.self.inside.slots.items c.set_mode-waited.new.slots.items c.self.inside.by_name.entries c.self.inside.queue (keys_for c.self.inside.waiters c.self.inside.needers) (keys_for c.add.new.self c.self.inside.needers) c.self.inside.living c.self.inside.waiting c.count_waiting-self-inside.result c.args.name c.find-slot.result held.0 (stands.Waits c.args.var) c.self.invariant.0 c.find-slot.ensures.slot held.1 held.2 (c.set_mode-waited.ensures.put held.0 held.1) refl
+          (kept_parked c.self.inside.slots.items c.set_mode-waited.new.slots.items c.self.inside.by_name c.self.inside.queue (keys_for c.self.inside.waiters c.self.inside.needers) (keys_for c.add.new.self c.self.inside.needers) c.self.inside.living c.self.inside.waiting c.count_waiting-self-inside.result c.args.name c.find-slot.result held.0 (stands.Waits c.args.var) c.self.invariant.0 c.find-slot.ensures.slot held.1 held.2 (c.set_mode-waited.ensures.put held.0 held.1) refl
           (more_waiters c.self.inside.waiters c.add.new.self c.self.inside.needers c.find-slot.result (more_with c.self.inside.waiters c.add.new.self c.args.var c.find-slot.result c.in_ok-add.ensures.ok))
           (waits_there c.self.inside.waiters c.add.new.self c.self.inside.needers c.args.var c.find-slot.result c.in_ok-add.ensures.ok)
           (rw (c.set_mode-waited.ensures.old held.0 held.1) at c.count_waiting-self-inside.ensures)),
@@ -38,7 +38,7 @@ invariant_of-self-2 g c =
 pub returns-clause-living : goal.returns-clause-living
 returns-clause-living g c =
     let held = c.find-slot.ensures.held in
-    mode_view c.self.inside.slots.items c.set_mode-waited.new.slots.items (slot_in c.self.inside.by_name.entries) c.args.name c.find-slot.result held.0 (stands.Waits c.args.var) c.self.invariant.0.placed c.find-slot.ensures.slot held.1 held.2 (c.set_mode-waited.ensures.put held.0 held.1)
+    mode_view c.self.inside.slots.items c.set_mode-waited.new.slots.items (slot_in c.self.inside.by_name) c.args.name c.find-slot.result held.0 (stands.Waits c.args.var) c.self.invariant.0.placed c.find-slot.ensures.slot held.1 held.2 (c.set_mode-waited.ensures.put held.0 held.1)
     ∙ ap (λ s. set_mode s.living c.args.name (stands.Waits c.args.var)) c.self.view_is
 
 pub returns-clause-ended : goal.returns-clause-ended
@@ -49,5 +49,5 @@ returns-clause-ended g c =
 pub returns-clause-order : goal.returns-clause-order
 returns-clause-order g c =
     let held = c.find-slot.ensures.held in
-    order_less c.self.inside.slots.items c.set_mode-waited.new.slots.items c.self.inside.queue c.remove.new.self (slot_in c.self.inside.by_name.entries) c.args.name c.find-slot.result held.0 (record held.0 { mode = stands.Waits c.args.var }) c.self.invariant.0.placed c.find-slot.ensures.slot held.1 refl (c.set_mode-waited.ensures.put held.0 held.1) c.remove.ensures
+    order_less c.self.inside.slots.items c.set_mode-waited.new.slots.items c.self.inside.queue c.remove.new.self (slot_in c.self.inside.by_name) c.args.name c.find-slot.result held.0 (record held.0 { mode = stands.Waits c.args.var }) c.self.invariant.0.placed c.find-slot.ensures.slot held.1 refl (c.set_mode-waited.ensures.put held.0 held.1) c.remove.ensures
     ∙ ap (λ s. without_name c.args.name s.order) c.self.view_is

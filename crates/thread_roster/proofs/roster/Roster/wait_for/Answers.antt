@@ -23,16 +23,16 @@ count_waiting-self-inside-requires g c =
 pub invariant_of-self : goal.invariant_of-self
 invariant_of-self g c =
     let held = c.find-slot.ensures.held in (
-      kept_without c.set_mode-waited.new.slots.items c.self.inside.by_name.entries c.self.inside.queue c.remove.new.self (keys_for c.self.inside.waiters c.self.inside.needers) c.self.inside.living c.count_waiting-self-inside.result c.find-slot.result c.remove.ensures
+      kept_without c.set_mode-waited.new.slots.items c.self.inside.by_name c.self.inside.queue c.remove.new.self (keys_for c.self.inside.waiters c.self.inside.needers) c.self.inside.living c.count_waiting-self-inside.result c.find-slot.result c.remove.ensures
           (still_set c.self.inside.slots.items c.set_mode-waited.new.slots.items c.find-slot.result (record held.0 { mode = stands.WaitsFor c.args.awaited }) (c.set_mode-waited.ensures.put held.0 held.1) (λ e. cc))
-          (kept_waits_for c.self.inside.slots.items c.set_mode-waited.new.slots.items c.self.inside.by_name.entries c.self.inside.queue (keys_for c.self.inside.waiters c.self.inside.needers) c.self.inside.living c.self.inside.waiting c.count_waiting-self-inside.result c.args.name c.find-slot.result held.0 (stands.WaitsFor c.args.awaited) c.self.invariant.0 c.find-slot.ensures.slot held.1 held.2 (c.set_mode-waited.ensures.put held.0 held.1) (λ e. cc) (token_there c.args.awaited) (rw (c.set_mode-waited.ensures.old held.0 held.1) at c.count_waiting-self-inside.ensures)),
+          (kept_waits_for c.self.inside.slots.items c.set_mode-waited.new.slots.items c.self.inside.by_name c.self.inside.queue (keys_for c.self.inside.waiters c.self.inside.needers) c.self.inside.living c.self.inside.waiting c.count_waiting-self-inside.result c.args.name c.find-slot.result held.0 (stands.WaitsFor c.args.awaited) c.self.invariant.0 c.find-slot.ensures.slot held.1 held.2 (c.set_mode-waited.ensures.put held.0 held.1) (λ e. cc) (token_there c.args.awaited) (rw (c.set_mode-waited.ensures.old held.0 held.1) at c.count_waiting-self-inside.ensures)),
       ordered_waits c.self.inside.slots.items c.set_mode-waited.new.slots.items c.self.inside.queue c.remove.new.self c.find-slot.result (record held.0 { mode = stands.WaitsFor c.args.awaited }) c.self.invariant.1 (c.set_mode-waited.ensures.put held.0 held.1) c.remove.ensures,
     )
 
 pub returns-clause-living : goal.returns-clause-living
 returns-clause-living g c =
     let held = c.find-slot.ensures.held in
-    mode_view c.self.inside.slots.items c.set_mode-waited.new.slots.items (slot_in c.self.inside.by_name.entries) c.args.name c.find-slot.result held.0 (stands.WaitsFor c.args.awaited) c.self.invariant.0.placed c.find-slot.ensures.slot held.1 held.2 (c.set_mode-waited.ensures.put held.0 held.1)
+    mode_view c.self.inside.slots.items c.set_mode-waited.new.slots.items (slot_in c.self.inside.by_name) c.args.name c.find-slot.result held.0 (stands.WaitsFor c.args.awaited) c.self.invariant.0.placed c.find-slot.ensures.slot held.1 held.2 (c.set_mode-waited.ensures.put held.0 held.1)
     ∙ ap (λ s. set_mode s.living c.args.name (stands.WaitsFor c.args.awaited)) c.self.view_is
 
 pub returns-clause-ended : goal.returns-clause-ended
@@ -43,5 +43,5 @@ returns-clause-ended g c =
 pub returns-clause-order : goal.returns-clause-order
 returns-clause-order g c =
     let held = c.find-slot.ensures.held in
-    order_less c.self.inside.slots.items c.set_mode-waited.new.slots.items c.self.inside.queue c.remove.new.self (slot_in c.self.inside.by_name.entries) c.args.name c.find-slot.result held.0 (record held.0 { mode = stands.WaitsFor c.args.awaited }) c.self.invariant.0.placed c.find-slot.ensures.slot held.1 refl (c.set_mode-waited.ensures.put held.0 held.1) c.remove.ensures
+    order_less c.self.inside.slots.items c.set_mode-waited.new.slots.items c.self.inside.queue c.remove.new.self (slot_in c.self.inside.by_name) c.args.name c.find-slot.result held.0 (record held.0 { mode = stands.WaitsFor c.args.awaited }) c.self.invariant.0.placed c.find-slot.ensures.slot held.1 refl (c.set_mode-waited.ensures.put held.0 held.1) c.remove.ensures
     ∙ ap (λ s. without_name c.args.name s.order) c.self.view_is
