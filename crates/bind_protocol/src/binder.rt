@@ -1,10 +1,10 @@
 //! The protocol's part at one site.
 
-ghost use Rattle.std.specs.Prelude.{◌≡◌, ◌↔◌, [], ◌++◌, map, Some, None, IsTrue, IsSome, is_some, IfOk, OnOk, OnErr, Contains, option_copied, option_and_then};
+ghost use Rattle.std.specs.Prelude.{◌≡◌, ◌↔◌, [], ◌++◌, map, Some, None, false, IsTrue, IsSome, is_some, IfOk, OnOk, OnErr, Contains, option_copied, option_and_then};
 ghost use Rattle.tree_node.specs.declared.node.Term.{Term as TheTerm};
 ghost use Rattle.proxy_table.specs.Proxies.{IsMet, entry_of, term_of};
 ghost use Rattle.proxy_table.specs.declared.proxies.Met.TheVariants.{New};
-ghost use Rattle.variable_owner.specs.Owners.{IsMade, owner_of, sites_of, binding_of};
+ghost use Rattle.variable_owner.specs.Owners.{AreAlone, IsMade, owner_of, sites_of, binding_of};
 ghost use Rattle.variable_owner.specs.declared.owners.Asked.TheVariants.{Late};
 ghost use Rattle.bind_protocol.specs.Records.{IsKnown, IsKnowledge, IsReceivable, is_own, knowledge};
 ghost use Rattle.bind_protocol.specs.Rows.{binding, after_make, after_meet, meet_sends, after_register, register_sends, after_ask, ask_sends, after_binding, after_meet_bound, after_want, want_sends};
@@ -249,6 +249,23 @@ impl Binder {
             outbox.append(messages)?;
         }
         Ok(self.owners.ask(var, term))
+    }
+
+    /// Whether a site registered for a variable of this site's own.
+    pub fn has_registered(&self) -> bool
+        ensures { result ≡ false → AreAlone self.now.owners }
+    {
+        self.owners.has_registered()
+    }
+
+    /// A thread of this site binds a variable of its own, for which no site is registered.
+    pub fn bind_alone(&mut self, var: VarName, term: Term)
+        requires own { var.site ≡ self.old.site }
+        requires made { IsMade self.old.owners var }
+        requires alone { sites_of (owner_of self.old.owners var) ≡ [] }
+        ensures records { self.new ≡ after_ask self.old var term }
+    {
+        self.owners.ask(var, term);
     }
 
     /// The binding of a name that the site met has come. Nothing changes where a bundle told it before.

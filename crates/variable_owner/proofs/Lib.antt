@@ -1,2 +1,4 @@
 pub mod OwnerLemmas
+pub mod PlaceLemmas
+pub mod RegisteredLemmas
 pub mod RowLemmas

@@ -1,5 +1,5 @@
 -- Owners in a row by number, and others behind them.
-use Rattle.std.proofs.Common.{arith, ◌≡◌, ◌∙◌, sym, ap, refl, ℕ, zero, suc, ◌+◌, ◌-◌, ◌<◌, ◌≤◌, List, [], ◌∷◌, ◌++◌, length, get_or, set, Bool, true, false, cond, Some, None}
+use Rattle.std.proofs.Common.{arith, ◌≡◌, ◌∙◌, sym, ap, refl, ℕ, zero, suc, ◌+◌, ◌-◌, ◌<◌, ◌≤◌, List, [], ◌∷◌, ◌++◌, length, set, Bool, true, false, cond, Some, None}
 use Rattle.std.proofs.lemmas.List.{append-nil}
 use Rattle.std.specs.Map.{set_value}
 use Rattle.std.proofs.lemmas.Bool.Decides.{nat_tests}
@@ -7,9 +7,10 @@ use Rattle.tree_node.specs.declared.names.VarName.{VarName}
 use Rattle.tree_node.specs.Store.{equal_var}
 use Rattle.tree_node.proofs.ClassLemmas.{same_name_decides}
 use Rattle.variable_owner.specs.declared.owners.Owner.{Owner}
-use Rattle.variable_owner.specs.Owners.{Owned, owner_of, with_owner}
-use Rattle.variable_owner.specs.Row.{in_row, is_in_row}
-use Rattle.variable_owner.proofs.OwnerLemmas.{written}
+use Rattle.tree_node.specs.declared.node.Term.{Term}
+use Rattle.variable_owner.specs.Owners.{Owned, owner_of, with_owner, with_registered, after_register, after_bind, after_ask}
+use Rattle.variable_owner.specs.Row.{in_row, is_in_row, owner_in}
+use Rattle.variable_owner.proofs.OwnerLemmas.{written, registered, asked}
 
 by_parts : (site num : ℕ) (x : VarName) → x.site ≡ site → x.num ≡ num → x ≡ record { site = site; num = num }
 by_parts site num x p q = ap (λ (s : ℕ). record { site = s; num = x.num }) p ∙ ap (λ (n : ℕ). record { site = site; num = n }) q
@@ -26,10 +27,10 @@ apart site num x h = go (equal_var x (record { site = site; num = num })) refl
 
 -- ---- a variable at a place of the row
 
-at_held : (site first : ℕ) (os : List Owner) (es : List Owned) (x : VarName) (i : ℕ) (o : Owner) → x.site ≡ site → x.num ≡ first + i → i < length os → o ≡ get_or os i o → owner_of (in_row site first os ++ es) x ≡ Some o
-at_held site first [] es x i o own num below is = absurd (omega arith)
-at_held site first (p ∷ os) es x zero o own num below is = rw (here site first x own (omega arith)) (ap (λ (z : Owner). Some z) (sym is))
-at_held site first (p ∷ os) es x (suc i) o own num below is = rw (apart site first x (λ _ k. omega arith)) (at_held site (suc first) os es x i o own (omega arith) (omega arith) is)
+at_held : (site first : ℕ) (os : List Owner) (es : List Owned) (x : VarName) (i : ℕ) → x.site ≡ site → x.num ≡ first + i → i < length os → owner_of (in_row site first os ++ es) x ≡ Some (owner_in os i)
+at_held site first [] es x i own num below = absurd (omega (arith, below))
+at_held site first (p ∷ os) es x zero own num below = rw (here site first x own (omega (arith, num))) refl
+at_held site first (p ∷ os) es x (suc i) own num below = rw (apart site first x (λ _ k. omega (arith, k, num))) (at_held site (suc first) os es x i own (omega (arith, num)) (omega (arith, below)))
 
 at_written : (site first : ℕ) (os : List Owner) (es : List Owned) (x : VarName) (i : ℕ) (p : Owner) → x.site ≡ site → x.num ≡ first + i → i < length os → with_owner (in_row site first os ++ es) x p ≡ in_row site first (set os i p) ++ es
 at_written site first [] es x i p own num below = absurd (omega arith)
@@ -46,12 +47,30 @@ record Within (site first n : ℕ) (x : VarName) : Type 0 where
 within : (site first n : ℕ) (x : VarName) → is_in_row site first n x ≡ true → Within site first n x
 within site first n x h = record { own = grind (arith, nat_tests, h); num = grind (arith, nat_tests, h); below = grind (arith, nat_tests, h) }
 
-pub row_held : (site first : ℕ) (os : List Owner) (es : List Owned) (x : VarName) (o : Owner) → is_in_row site first (length os) x ≡ true → o ≡ get_or os (x.num - first) o → owner_of (in_row site first os ++ es) x ≡ Some o
-row_held site first os es x o h is = let w = within site first (length os) x h in at_held site first os es x (x.num - first) o w.own w.num w.below is
+pub row_below : (site first n : ℕ) (x : VarName) → is_in_row site first n x ≡ true → x.num - first < n
+row_below site first n x h = (within site first n x h).below
+
+pub row_held : (site first : ℕ) (os : List Owner) (es : List Owned) (x : VarName) → is_in_row site first (length os) x ≡ true → owner_of (in_row site first os ++ es) x ≡ Some (owner_in os (x.num - first))
+row_held site first os es x h = let w = within site first (length os) x h in at_held site first os es x (x.num - first) w.own w.num w.below
 
 pub row_written : (site first : ℕ) (os : List Owner) (es : List Owned) (x : VarName) (p : Owner) → is_in_row site first (length os) x ≡ true →
     with_owner (in_row site first os ++ es) x p ≡ in_row site first (set os (x.num - first) p) ++ es
 row_written site first os es x p h = let w = within site first (length os) x h in at_written site first os es x (x.num - first) p w.own w.num w.below
+
+-- a registration, and a request to bind
+pub row_registered : (site first : ℕ) (os ps : List Owner) (es : List Owned) (x : VarName) (k : ℕ) → is_in_row site first (length os) x ≡ true → ps ≡ set os (x.num - first) (with_registered (owner_in os (x.num - first)) k) →
+    in_row site first ps ++ es ≡ after_register (in_row site first os ++ es) x k
+row_registered site first os ps es x k h put =
+    let o = owner_in os (x.num - first) in
+    registered (in_row site first os ++ es) _ x k o (with_registered o k) (row_held site first os es x h)
+    (ap (λ (l : List Owner). in_row site first l ++ es) put ∙ sym (row_written site first os es x (with_registered o k) h)) refl
+
+pub row_asked : (site first : ℕ) (os ps : List Owner) (es : List Owned) (x : VarName) (t : Term) → is_in_row site first (length os) x ≡ true → ps ≡ set os (x.num - first) (after_bind (owner_in os (x.num - first)) t) →
+    in_row site first ps ++ es ≡ after_ask (in_row site first os ++ es) x t
+row_asked site first os ps es x t h put =
+    let o = owner_in os (x.num - first) in
+    asked (in_row site first os ++ es) _ x t o (after_bind o t) (row_held site first os es x h)
+    (ap (λ (l : List Owner). in_row site first l ++ es) put ∙ sym (row_written site first os es x (after_bind o t) h)) refl
 
 -- ---- a variable beside the row
 

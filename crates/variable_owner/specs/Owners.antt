@@ -1,6 +1,6 @@
 -- Owned variables as a list, in the order in which they were made: each name with its registered sites while it is
 -- unbound, then with its binding.
-use Rattle.std.specs.Prelude.{◌≡◌, ℕ, List, [], ◌∷◌, ◌++◌, Option, Some, None, is_some, IsTrue}
+use Rattle.std.specs.Prelude.{◌≡◌, ◌+◌, ℕ, length, List, [], ◌∷◌, ◌++◌, Option, Some, None, is_some, IsTrue}
 use Rattle.std.specs.Map.{lookup}
 use Rattle.indexmap.specs.IndexMap.{insert_entry}
 use Rattle.tree_node.specs.declared.names.VarName.{VarName}
@@ -32,6 +32,15 @@ sites_of _ = []
 abbrev pub binding_of : Option Owner → Option Term
 binding_of (Some (Bound t)) = Some t
 binding_of _ = None
+
+-- how many registrations are kept
+abbrev pub registrations_in : List Owned → ℕ
+registrations_in [] = 0
+registrations_in (e ∷ es) = length (sites_of (Some e.1)) + registrations_in es
+
+-- no site is registered for any of them
+abbrev pub AreAlone : List Owned → Type 0
+AreAlone es = (x : VarName) → sites_of (owner_of es x) ≡ []
 
 -- this is kept of the variable
 abbrev pub with_owner : List Owned → VarName → Owner → List Owned

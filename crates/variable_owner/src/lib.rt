@@ -3,8 +3,10 @@
 //!
 //! It promises: `Owners` is the list of the variables made, in order, each with its registered sites while it is unbound,
 //! then with its binding. The first request to bind a variable is taken and every later one is late; a registration for a
-//! bound variable is answered with its binding. Its rows are `after_register` and `after_ask`. The variables of a site, whose numbers
-//! come without gaps, stand in a row by number, and are found without a look-up by hash.
+//! bound variable is answered with its binding. Its rows are `after_register` and `after_ask`. That no site is registered for any of them is known
+//! without a look at each (`has_registered`). The variables of a site, whose numbers
+//! come without gaps, stand in a row by number, and are found without a look-up by hash; each takes the memory of a term and a byte there,
+//! since the sites that registered stand apart.
 //!
 //! It stands on `tree_node` and on `indexmap`. Nothing is left to tests.
 //!
@@ -12,6 +14,8 @@
 #![tactic(auto)]
 
 mod owners;
+mod row;
+mod table;
 mod threads;
 
 pub use owners::{Asked, Owner, Owners, Registered};

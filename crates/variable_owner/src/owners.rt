@@ -1,15 +1,17 @@
 //! The variables that a site owns.
 
-ghost use Rattle.std.specs.Prelude.{◌≡◌, ◌+◌, ◌↔◌, [], None, Some, IsTrue, IsSome, IfSome, IfOk, OnOk, OnErr, Contains, option_copied};
-ghost use Rattle.variable_owner.specs.Owners.{IsMade, OnAnswer, TellsRegistered, owner_of, sites_of, binding_of, with_registered, with_owner, after_register, after_bind, after_ask};
-ghost use Rattle.variable_owner.specs.Row.{is_in_row};
+ghost use Rattle.std.specs.Prelude.{◌≡◌, ◌↔◌, [], None, Some, false, IsTrue, IsSome, IfSome, IfOk, OnOk, OnErr, Contains, option_copied};
+ghost use Rattle.variable_owner.specs.Owners.{AreAlone, IsMade, OnAnswer, TellsRegistered, owner_of, sites_of, binding_of, with_registered, with_owner, after_register, after_bind, after_ask};
 ghost use Rattle.variable_owner.specs.declared.owners.Owner.TheVariants.{Open};
 ghost use Rattle.variable_owner.specs.declared.owners.Asked.TheVariants.{Late};
 
-use indexmap::IndexMap;
+use crate::table::Table;
 use std::alloc::{AllocError, Global};
 use std::marker::Model;
 use tree_node::{Seq, Term, VarName, copy_term};
+
+// So many registrations are never kept, as each takes 4 bytes. Then memory has run out.
+const MOST_REGISTERED: usize = 1 << 62;
 
 /// What an owner keeps of a variable: the sites that registered for it while it is unbound, then its binding.
 #[derive(Drop)]
@@ -32,55 +34,30 @@ pub enum Asked {
     Late,
 }
 
-/// The variables that a site owns, in the order in which they were made. Contracts see them as a list. Those of one site stand
-/// in a row by number, as long as their numbers come without gaps; once one does not, it and all later ones stand in a map. Each
-/// call costs by a look-up.
+/// The variables that a site owns, in the order in which they were made. Contracts see them as a list. Each call costs by a look-up.
+/// How many registrations are kept is known.
 #[derive(Drop)]
 pub struct Owners {
-    alloc: Global,
-    site: u32,
-    first: u64,
-    row: Vec<Owner>,
-    others: IndexMap<VarName, Owner>,
+    table: Table,
+    registrations: usize,
 }
 
 impl Model for Owners {
-    ghost use Rattle.std.specs.Prelude.{List, ◌++◌};
+    ghost use Rattle.std.specs.Prelude.{◌≡◌, List};
     ghost use Rattle.tree_node.specs.declared.names.VarName.{VarName};
-    ghost use Rattle.variable_owner.specs.Row.{in_row};
+    ghost use Rattle.variable_owner.specs.Owners.{registrations_in};
     ghost use Rattle.variable_owner.specs.declared.owners.Owner.{Owner};
 
     ghost Value = { List (VarName × Owner) };
 
-    ghost view = { λ o. in_row o.site o.first o.row.items ++ o.others.entries };
-}
+    ghost view = { λ o. o.table };
 
-// Whether a variable is one of so many of a site, from a number on.
-fn is_within(site: u32, first: u64, count: usize, var: VarName) -> bool
-    ensures { result ≡ is_in_row site first count var }
-{
-    var.site == site && var.num >= first && var.num - first < count as u64
-}
-
-// Whether a variable is the next one behind so many of a site, from a number on.
-fn is_next(site: u32, first: u64, count: usize, var: VarName) -> bool
-    ensures { IsTrue result → var ≡ record { site = site; num = first + count } }
-{
-    var.site == site && var.num >= first && var.num - first == count as u64
-}
-
-// Puts an owner at a variable of a map.
-fn add(others: &mut IndexMap<VarName, Owner>, var: VarName, owner: Owner) -> Result<(), AllocError>
-    ensures ok { OnOk result (others.new.entries ≡ with_owner others.old.entries var owner) }
-    ensures err { OnErr result (others.new.entries ≡ others.old.entries) }
-{
-    others.insert(var, owner)?;
-    Ok(())
+    ghost invariant = { λ o. o.registrations ≡ registrations_in o.table };
 }
 
 impl Owner {
     // A site registers.
-    fn join(&mut self, site: u32) -> Result<Registered, AllocError>
+    pub(crate) fn join(&mut self, site: u32) -> Result<Registered, AllocError>
         ensures answer { IfOk result (TellsRegistered self.old) }
         ensures ok { OnOk result (self.new ≡ with_registered self.old site) }
         ensures bound { IfOk result (λ r. OnAnswer r (self.new ≡ self.old)) }
@@ -96,7 +73,7 @@ impl Owner {
     }
 
     // Somebody asks to bind the variable.
-    fn bind(&mut self, term: Term) -> Asked
+    pub(crate) fn bind(&mut self, term: Term) -> Asked
         ensures late { (result ≡ Late) ↔ IsSome (binding_of (Some self.old)) }
         ensures after { self.new ≡ after_bind self.old term }
     {
@@ -116,55 +93,26 @@ impl Owners {
         ensures { result ≡ [] }
     {
         Owners {
-            alloc,
-            site: 0,
-            first: 0,
-            row: Vec::new(alloc),
-            others: IndexMap::new(alloc),
+            table: Table::new(alloc),
+            registrations: 0,
         }
-    }
-
-    // What is kept of a variable.
-    fn owner(&self, var: VarName) -> Option<&Owner>
-        ensures { option_copied result ≡ owner_of self.now var }
-    {
-        if is_within(self.site, self.first, self.row.len(), var) {
-            return Some(&self.row[(var.num - self.first) as usize]);
-        }
-        self.others.get(&var)
     }
 
     /// Whether the variable was made.
     pub fn made(&self, var: VarName) -> bool
         ensures { IsTrue result ↔ IsMade self.now var }
     {
-        self.owner(var).is_some()
-    }
-
-    // Where the row has no variable yet, it begins at this one.
-    fn begin(&mut self, var: VarName)
-        ensures { self.new ≡ self.old }
-    {
-        if self.row.is_empty() {
-            self.site = var.site;
-            self.first = var.num;
-        }
+        self.table.made(var)
     }
 
     /// A new variable, unbound, with the room for its binding.
+    #[tactic(auto, using(crate::proofs::RegisteredLemmas::made_counts))]
     pub fn make(&mut self, var: VarName) -> Result<(), AllocError>
         requires { owner_of self.old var ≡ None }
         ensures ok { OnOk result (self.new ≡ with_owner self.old var (Open [])) }
         ensures err { OnErr result (self.new ≡ self.old) }
     {
-        self.begin(var);
-        let owner = Owner::Open(Seq::new(self.alloc));
-        if self.others.is_empty() && is_next(self.site, self.first, self.row.len(), var) {
-            self.row.push(owner)?;
-            Ok(())
-        } else {
-            add(&mut self.others, var, owner)
-        }
+        self.table.make(var)
     }
 
     /// The sites that are registered for an unbound variable, in the order in which they registered. None is for one
@@ -172,23 +120,27 @@ impl Owners {
     pub fn registered(&self, var: VarName) -> &[u32]
         ensures { result.now ≡ sites_of (owner_of self.now var) }
     {
-        match self.owner(var) {
-            Some(Owner::Open(sites)) => sites.as_slice(),
-            _ => &[],
-        }
+        self.table.registered(var)
+    }
+
+    /// Whether a site is registered for a variable that is unbound.
+    #[tactic(auto, using(crate::proofs::RegisteredLemmas::alone))]
+    pub fn has_registered(&self) -> bool
+        ensures { result ≡ false → AreAlone self.now }
+    {
+        self.registrations > 0
     }
 
     /// The binding that was accepted for the variable.
     pub fn binding(&self, var: VarName) -> Option<&Term>
         ensures { option_copied result ≡ binding_of (owner_of self.now var) }
     {
-        match self.owner(var) {
-            Some(Owner::Bound(term)) => Some(term),
-            _ => None,
-        }
+        self.table.binding(var)
     }
 
-    /// A site registers for the variable. The binding is answered exactly where one is held.
+    /// A site registers for the variable. The binding is answered exactly where one is held. Behind 2^62 registrations, which is more than
+    /// memory holds, it finds no memory.
+    #[tactic(auto, using(crate::proofs::RegisteredLemmas::kept_counts))]
     pub fn register(&mut self, var: VarName, site: u32) -> Result<Registered, AllocError>
         requires made { IsMade self.old var }
         requires once { Contains (sites_of (owner_of self.old var)) site → ⊥ }
@@ -197,27 +149,25 @@ impl Owners {
         ensures bound { IfOk result (λ r. OnAnswer r (self.new ≡ self.old)) }
         ensures err { OnErr result (self.new ≡ self.old) }
     {
-        if is_within(self.site, self.first, self.row.len(), var) {
-            return self.row[(var.num - self.first) as usize].join(site);
+        if self.registrations >= MOST_REGISTERED {
+            return Err(AllocError);
         }
-        match self.others.get_mut(&var) {
-            Some(owner) => owner.join(site),
-            None => unreachable!(),
+        let registered = self.table.register(var, site)?;
+        if let Registered::Kept = &registered {
+            self.registrations += 1;
         }
+        Ok(registered)
     }
 
     /// Somebody asks to bind the variable. It is too late exactly where a binding is held, and then nothing changes.
+    #[tactic(auto, using(crate::proofs::RegisteredLemmas::asked_counts, crate::proofs::RegisteredLemmas::held_within))]
     pub fn ask(&mut self, var: VarName, term: Term) -> Asked
         requires made { IsMade self.old var }
         ensures late { (result ≡ Late) ↔ IsSome (binding_of (owner_of self.old var)) }
         ensures after { self.new ≡ after_ask self.old var term }
     {
-        if is_within(self.site, self.first, self.row.len(), var) {
-            return self.row[(var.num - self.first) as usize].bind(term);
-        }
-        match self.others.get_mut(&var) {
-            Some(owner) => owner.bind(term),
-            None => unreachable!(),
-        }
+        let count = self.table.registered(var).len();
+        self.registrations -= count;
+        self.table.ask(var, term)
     }
 }

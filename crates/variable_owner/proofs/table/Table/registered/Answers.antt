@@ -1,0 +1,22 @@
+use Rattle.std.proofs.Common.{◌≡◌, ◌-◌, ◌∙◌, ap, sym, refl, ℕ, ◌<◌, List, [], ◌∷◌, ◌++◌, length, Bool, true, false, Some, None}
+use Rattle.std.specs.Prelude.{Option, is_some}
+use Rattle.variable_owner.specs.declared.owners.Owner.{Owner}
+use Rattle.variable_owner.specs.declared.owners.Owner.TheVariants.{Open}
+use Rattle.variable_owner.specs.Owners.{Owned, IsMade, owner_of, sites_of, binding_of, with_owner}
+use Rattle.variable_owner.specs.Row.{in_row, is_in_row, owner_in}
+use Rattle.variable_owner.proofs.RowLemmas.{row_below, row_held, beside_none, past_owner, none_filed, next_added, first_none, past_written}
+use Rattle.variable_owner.proofs.table.Table.registered.Goals as goal
+
+pub registered-requires : goal.registered-requires
+registered-requires c =
+    row_below c.self.inside.site c.self.inside.first (length c.self.inside.row) c.args.var (ap (λ (n : ℕ). is_in_row c.self.inside.site c.self.inside.first n c.args.var) (sym c.len.ensures) ∙ sym c.is_within.ensures ∙ c.if-is_within.true)
+
+pub returns-then-is_within : goal.returns-then-is_within
+returns-then-is_within c =
+    let held : owner_of c.args.self.now c.args.var ≡ Some (owner_in c.self.inside.row (c.args.var.num - c.self.inside.first)) = ap (λ (l : List Owned). owner_of l c.args.var) (sym c.self.view_is) ∙ row_held c.self.inside.site c.self.inside.first c.self.inside.row c.self.inside.others.entries c.args.var (ap (λ (n : ℕ). is_in_row c.self.inside.site c.self.inside.first n c.args.var) (sym c.len.ensures) ∙ sym c.is_within.ensures ∙ c.if-is_within.true) in
+    c.registered.ensures ∙ sym (ap sites_of held)
+
+pub returns : goal.returns
+returns c =
+    let held : owner_of c.args.self.now c.args.var ≡ owner_of c.self.inside.others.entries c.args.var = ap (λ (l : List Owned). owner_of l c.args.var) (sym c.self.view_is) ∙ past_owner _ c.self.inside.others.entries c.args.var (beside_none c.self.inside.site c.self.inside.first c.self.inside.row c.args.var (ap (λ (n : ℕ). is_in_row c.self.inside.site c.self.inside.first n c.args.var) (sym c.len.ensures) ∙ sym c.is_within.ensures ∙ c.if-is_within.false)) in
+    c.sites_of.ensures ∙ ap sites_of c.get.ensures.value ∙ sym (ap sites_of held)
