@@ -33,6 +33,9 @@ pub mod ResumeLemmas
 pub mod AnswerLemmas
 pub mod StretchLemmas
 pub mod HearLemmas
+pub mod PickLemmas
+pub mod UntoldLemmas
+pub mod AloneLemmas
 pub mod ChainLemmas
 pub mod CountLemmas
 pub mod TellLemmas

@@ -3,10 +3,12 @@ use Rattle.std.specs.Prelude.{◌≡◌, ◌≢◌, ◌↔◌, ◌+◌, ℕ, zer
 use Rattle.tree_node.specs.declared.names.ThreadName.{ThreadName}
 use Rattle.tree_store.specs.Forest.{IsForest}
 use Rattle.kernel_syntax.specs.declared.stmt.Stmt.{Stmt}
-use Rattle.thread_roster.specs.Threads.{IsRunnable}
+use Rattle.variable_owner.specs.Owners.{AreAlone}
+use Rattle.thread_roster.specs.Threads.{IsRunnable, waiting_of}
 use Rattle.site_model.specs.Site.{Site}
 use Rattle.site_model.specs.Transition.{Transition, without_output, sequence}
 use Rattle.site_model.specs.Unit.{IsUnit}
+use Rattle.site_units.specs.declared.data.Core.{Core}
 
 -- a unit of this thread, from a forest, that sends nothing, and after which the same other threads can go on
 pub record IsQuietUnit (p : List Stmt) (n limit : ℕ) (th : ThreadName) (s : Site) (one : Transition) : Type 0 where
@@ -34,3 +36,7 @@ pub record AreUnitsBy (p : List Stmt) (n limit count : ℕ) (th : ThreadName) (s
   pub still : AreQuietUnits p n limit back th one.site after
   pub same : after.site.equations ≡ one.site.equations
   pub is : d ≡ sequence before (sequence one after)
+
+-- no thread waits, and no site is registered for a variable of this one: nobody is to be told of a bind
+abbrev pub IsAlone : Core → Type 0
+IsAlone c = (waiting_of c.threads.living ≡ 0) × AreAlone c.variables.binder.owners

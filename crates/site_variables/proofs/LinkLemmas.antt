@@ -1,5 +1,5 @@
 -- The store's equations and names follow the records.
-use Rattle.std.proofs.Common.{rules, arith, ◌≡◌, ◌≢◌, ◌∙◌, sym, ap, refl, ℕ, List, [], ◌∷◌, ◌++◌, ◌⊎◌, inl, inr, Bool, true, false, cond}
+use Rattle.std.proofs.Common.{rules, arith, ◌≡◌, ◌≢◌, ◌∙◌, sym, ap, subst, refl, ℕ, List, [], ◌∷◌, ◌++◌, ◌⊎◌, inl, inr, Bool, true, false, cond}
 use Rattle.std.specs.Prelude.{Option, Some, None, Contains, is_some, IsTrue, ◌↔◌}
 use Rattle.std.specs.List.{list_any}
 use Rattle.std.proofs.lemmas.List.Elements.{Contains-append_left, Contains-append_right, Contains-append_cases}
@@ -44,6 +44,31 @@ with_name_is names x y = go (list_any (equal_var x) names) refl
 
 pub grown_name : (names : List VarName) (x : VarName) → IsGrown names (with_name names x)
 grown_name names x y k = (with_name_is names x y).1 (inl k)
+
+-- ---- a site without variables
+
+nowhere : {A : Type 0} (x : A) → Contains [] x → ⊥
+nowhere x (i, below, is) = omega arith
+
+unknown : (site : ℕ) (x : VarName) → knowledge (record { site = site; owners = []; proxies = [] }) x ≡ None
+unknown site x = go (is_own (record { site = site; owners = []; proxies = [] }) x)
+  where
+    go : (own : Bool) → ◌≡◌ {A = Option (Option Term)} (cond own None None) None
+    go true = refl
+    go false = refl
+
+-- no equation is known, and no name
+pub none_recorded : (site : ℕ) → IsRecorded [] [] (record { site = site; owners = []; proxies = [] })
+none_recorded site = record {
+  bound = λ x t. (λ e. absurd (bound_nowhere x t e), λ k. absurd (nowhere (x, t) k));
+  names = λ x. (λ k. absurd (name_nowhere x k), λ k. absurd (nowhere x k));
+}
+  where
+    bound_nowhere : (x : VarName) (t : Term) → knowledge (record { site = site; owners = []; proxies = [] }) x ≡ Some (Some t) → ⊥
+    bound_nowhere x t e = let none = sym (unknown site x) ∙ e in cc
+
+    name_nowhere : (x : VarName) → IsKnown (record { site = site; owners = []; proxies = [] }) x → ⊥
+    name_nowhere x k = let none = subst (λ (o : Option (Option Term)). IsTrue (is_some o)) (unknown site x) k in cc
 
 -- ---- equations
 

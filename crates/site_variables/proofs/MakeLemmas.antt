@@ -23,7 +23,7 @@ use Rattle.site_variables.specs.Variables.{IsRecorded, IsUnion, IsNewOwn}
 use Rattle.site_variables.proofs.LinkLemmas.{same_recorded, named_recorded}
 
 -- those that are left are new
-new_left : (b c : Records) (x : VarName) (o : Option (Option Term)) (xs : List VarName) → HasLearned b c x o → Each (λ y. x ≢ y) xs → Each (IsNewOwn b) xs → Each (IsNewOwn c) xs
+pub new_left : (b c : Records) (x : VarName) (o : Option (Option Term)) (xs : List VarName) → HasLearned b c x o → Each (λ y. x ≢ y) xs → Each (IsNewOwn b) xs → Each (IsNewOwn c) xs
 new_left b c x o [] learns differ h = tt
 new_left b c x o (y ∷ ys) learns differ h =
     ((h.0.0 ∙ sym learns.site, learns.others y (λ q. differ.0 (sym q)) ∙ h.0.1), new_left b c x o ys learns differ.1 h.1)

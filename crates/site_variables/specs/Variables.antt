@@ -8,7 +8,8 @@ use Rattle.tree_node.specs.declared.names.ThreadName.{ThreadName}
 use Rattle.tree_node.specs.declared.node.Term.{Term}
 use Rattle.tree_node.specs.declared.pick.Pick.{Pick}
 use Rattle.tree_node.specs.State.{Stack}
-use Rattle.tree_node.specs.Store.{Store}
+use Rattle.tree_node.specs.Store.{Equation, Store}
+use Rattle.bind_protocol.specs.Rows.{after_ask}
 use Rattle.site_message.specs.declared.message.Sent.{Sent}
 use Rattle.variable_owner.specs.declared.owners.Asked.{Asked}
 use Rattle.variable_owner.specs.declared.owners.Asked.TheVariants.{Taken, Late}
@@ -95,3 +96,15 @@ vars_between _ _ = []
 abbrev pub AreCounted : Option VarName → Option VarName → Type 0
 AreCounted (Some a) (Some b) = (a.site ≡ b.site) × (a.num ≤ b.num) × (b.num < a.num + 2 ^ 32)
 AreCounted _ _ = Unit {0}
+
+-- ---- binds in a row
+
+-- the records after binds of own variables
+abbrev pub after_own_binds : Records → List Equation → Records
+after_own_binds b [] = b
+after_own_binds b (e ∷ es) = after_own_binds (after_ask b e.0 e.1) es
+
+-- each is of an own variable that is unbound then
+abbrev pub AreOwnBinds : Records → List Equation → Type 0
+AreOwnBinds b [] = Unit {0}
+AreOwnBinds b (e ∷ es) = (e.0.site ≡ b.site) × (knowledge b e.0 ≡ Some None) × AreOwnBinds (after_ask b e.0 e.1) es

@@ -5,7 +5,7 @@
 //!
 //! It promises: each call does what the row of the site's definition says (`IsVariableRow`), whatever the site keeps besides:
 //! `meet`, `open`, `learn`, `bind`, `follow_bind`, `register`, `on_request`; `make` and `ask_owner` do the parts of a step that make
-//! names and send a request. After each of them the store's
+//! names and send a request, and `follow_alone` has the records follow own binds of which nobody is to be told. After each of them the store's
 //! equations and names are those of the records (`IsLinked`), and no name is forgotten. Of a message, `can_take`,
 //! `bundle_fits`, `names_fit` and `sites_fit` tell exactly whether it is fit for the site as far as its variables, names and
 //! sites go. After want of memory no clause speaks, and the site is given up.

@@ -210,6 +210,29 @@ fn a_registration_behind_the_binding_is_answered(rt: HostRuntime) -> Result<(), 
     Ok(())
 }
 
+fn counts_registrations<R: Abort>(
+    rt: &R,
+    owner: &mut Binder,
+    answers: &mut Outbox,
+) -> Result<(), AllocError> {
+    assert!(rt; makes_x(owner)?);
+    assert!(rt; !owner.has_registered());
+    assert!(rt; register(owner, 2, answers)?);
+    assert!(rt; owner.has_registered());
+    assert!(rt; takes_five(owner, answers)?);
+    assert!(rt; !owner.has_registered());
+    Ok(())
+}
+
+// A registration is kept until its variable is bound.
+#[test]
+fn an_owner_knows_whether_a_site_is_registered(rt: HostRuntime) -> Result<(), Fail> {
+    let mut owner = Binder::new(rt.alloc(), 1);
+    let mut answers = Outbox::new(rt.alloc());
+    counts_registrations(&rt, &mut owner, &mut answers)?;
+    Ok(())
+}
+
 // What a call on a world requires is tested. Each answers whether the call was made.
 fn is_site(world: &BindWorld, site: u32) -> bool
     ensures { IsTrue result ↔ IsSiteOf world.now site }
