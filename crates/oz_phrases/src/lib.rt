@@ -23,7 +23,6 @@ mod stop;
 mod values;
 
 pub use declarations::{count_fault, first_local, formals};
-pub use fields::has_name;
 pub use operands::{catch_name, selection, site, used_variable};
 pub use patterns::pattern;
 pub use scope::{Scope, arity_of, built_in_at, position_or_zero};

@@ -1,10 +1,12 @@
 //! Identifiers and the declarations around them.
 
-ghost use Rattle.std.specs.Prelude.{◌≡◌, ◌<◌, ◌≤◌, ◌^◌, ◌+◌, ◌-◌, ◌++◌, ◌∷◌, ℕ, List, [], take, length, if◌then◌else◌, Some, IsSome, IfSome, OnOk, OnErr};
+ghost use Rattle.std.specs.Prelude.{◌≡◌, ◌<◌, ◌≤◌, ◌^◌, ◌+◌, ◌-◌, ◌++◌, ◌∷◌, ℕ, List, [], take, length, slice_get, if◌then◌else◌, Some, IfSome, IfOk, OnOk, OnErr};
+ghost use Rattle.std.specs.Map.{values_of};
 ghost use Rattle.std.specs.Str.{bytes_eq};
 ghost use Rattle.kernel_syntax.specs.BuiltIns.{arity_of};
 ghost use Rattle.oz_grammar.specs.Scoping.{position_of, declaration_of, built_in_of, built_in_at};
-ghost use Rattle.oz_phrases.specs.ScopeIndex.{position_named};
+ghost use Rattle.indexmap.specs.IndexMap.{set_value_at};
+ghost use Rattle.oz_phrases.specs.ScopeIndex.{position_named, IsKeptAt, KeepsPlaces};
 
 use indexmap::IndexMap;
 use kernel_syntax::BuiltIn;
@@ -17,8 +19,8 @@ use tree_node::Text;
 #[derive(Drop)]
 pub struct Scope {
     alloc: Global,
-    /// Each name, with the position of the declaration that it hides.
-    declared: Vec<(Text, Option<usize>)>,
+    /// Each name, with the position of the declaration that it hides, and the place where its own position is kept.
+    declared: Vec<(Text, Option<usize>, usize)>,
     /// The position of each name, none of one that is declared no more.
     positions: IndexMap<Vec<u8>, Option<usize>>,
 }
@@ -44,45 +46,66 @@ fn position_named(positions: &IndexMap<Vec<u8>, Option<usize>>, name: &[u8]) -> 
     }
 }
 
-/// Keeps a name with a position.
+/// Writes the position at a place, and tells the one that stood there.
+fn exchange(
+    positions: &mut IndexMap<Vec<u8>, Option<usize>>,
+    place: usize,
+    position: Option<usize>,
+) -> Option<usize>
+    requires { place < length positions.old.entries }
+    ensures before { slice_get (values_of positions.old.entries) place ≡ Some result }
+    ensures entries { positions.new.entries ≡ set_value_at positions.old.entries place position }
+{
+    match positions.get_index_mut(place) {
+        Some(held) => {
+            let before = *held;
+            *held = position;
+            before
+        }
+        None => None,
+    }
+}
+
+/// Keeps a name with a position, and tells the place.
 fn insert(
     alloc: Global,
     positions: &mut IndexMap<Vec<u8>, Option<usize>>,
     name: &[u8],
     position: usize,
-) -> Result<(), AllocError>
+) -> Result<usize, AllocError>
     ensures ok { OnOk result ((x : List ℕ) → position_named positions.new.entries x ≡ (if bytes_eq x name.now then Some position else position_named positions.old.entries x)) }
+    ensures place { IfOk result (λ place. IsKeptAt positions.new.entries name.now place) }
+    ensures places { OnOk result (KeepsPlaces positions.old.entries positions.new.entries) }
     ensures err { OnErr result (positions.new.entries ≡ positions.old.entries) }
 {
     let key = Vec::from_slice(alloc, name)?;
-    positions.insert(key, Some(position))?;
-    Ok(())
+    let (place, _) = positions.insert_full(key, Some(position))?;
+    Ok(place)
 }
 
-/// Gives a name a position. A name that was declared before is kept already, and takes no memory.
+/// Gives a name a position, and tells the one that it had before and the place where it is kept. A name that was declared
+/// before is kept already, and takes no memory.
 fn put(
     alloc: Global,
     positions: &mut IndexMap<Vec<u8>, Option<usize>>,
     name: &[u8],
     position: usize,
-) -> Result<(), AllocError>
+) -> Result<(Option<usize>, usize), AllocError>
     ensures ok { OnOk result ((x : List ℕ) → position_named positions.new.entries x ≡ (if bytes_eq x name.now then Some position else position_named positions.old.entries x)) }
+    ensures hidden { IfOk result (λ r. r.0 ≡ position_named positions.old.entries name.now) }
+    ensures place { IfOk result (λ r. IsKeptAt positions.new.entries name.now r.1) }
+    ensures places { OnOk result (KeepsPlaces positions.old.entries positions.new.entries) }
     ensures err { OnErr result (positions.new.entries ≡ positions.old.entries) }
 {
-    if let Some(held) = positions.get_mut(name) {
-        *held = Some(position);
-        return Ok(());
-    }
-    insert(alloc, positions, name, position)
-}
-
-/// Gives a name that has a position the one that it had before, or none, where it had none.
-fn put_back(positions: &mut IndexMap<Vec<u8>, Option<usize>>, name: &[u8], position: Option<usize>)
-    requires { IsSome (position_named positions.old.entries name.now) }
-    ensures { (x : List ℕ) → position_named positions.new.entries x ≡ (if bytes_eq x name.now then position else position_named positions.old.entries x) }
-{
-    if let Some(held) = positions.get_mut(name) {
-        *held = position;
+    match positions.get_index_of(name) {
+        Some(place) => {
+            let hidden = exchange(positions, place, Some(position));
+            Ok((hidden, place))
+        }
+        None => {
+            let place = insert(alloc, positions, name, position)?;
+            Ok((None, place))
+        }
     }
 }
 
@@ -114,20 +137,16 @@ impl Scope {
     }
 
     /// One declaration more, within those before.
-    fn declare(&mut self, name: &Text) -> Result<(), AllocError>
+    pub fn declare(&mut self, name: &Text) -> Result<(), AllocError>
         ensures ok { OnOk result (self.new ≡ self.old ++ name.now ∷ []) }
         ensures err { OnErr result (self.new ≡ self.old) }
     {
-        let hidden = position_named(&self.positions, name.as_slice());
+        let kept = name.copy()?;
+        self.declared.reserve(1)?;
         let position = self.declared.len();
-        self.declared.push((name.copy()?, hidden))?;
-        match put(self.alloc, &mut self.positions, name.as_slice(), position) {
-            Ok(()) => Ok(()),
-            Err(_) => {
-                self.declared.pop();
-                Err(AllocError)
-            }
-        }
+        let (hidden, place) = put(self.alloc, &mut self.positions, name.as_slice(), position)?;
+        self.declared.push_reserved((kept, hidden, place));
+        Ok(())
     }
 
     /// More declarations, each within those before.
@@ -145,8 +164,8 @@ impl Scope {
     fn leave(&mut self)
         ensures { self.new ≡ take (length self.old - 1) self.old }
     {
-        if let Some((name, hidden)) = self.declared.pop() {
-            put_back(&mut self.positions, name.as_slice(), hidden);
+        if let Some((_, hidden, place)) = self.declared.pop() {
+            exchange(&mut self.positions, place, hidden);
         }
     }
 

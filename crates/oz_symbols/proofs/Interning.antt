@@ -7,6 +7,10 @@ use Rattle.std.specs.Map.{lookup}
 use Rattle.indexmap.specs.IndexMap.{insert_entry}
 use Rattle.oz_symbols.specs.Texts.{Entries, AreSpelled}
 
+-- texts that compare equal are the same
+pub same_bytes : (x y : List ℕ) → bytes_eq x y ≡ true → x ≡ y
+same_bytes x y e = (bytes_decides x y).0 e
+
 some_is : {v t : List ℕ} → Some v ≡ Some t → v ≡ t
 some_is e = cc
 

@@ -18,25 +18,26 @@ use tree_node::Text;
 fn word_symbol(word: &str) -> Symbol
     ensures { result ≡ word_symbol word.now }
 {
+    // the most frequent first
     match word {
-        "skip" => Symbol::Skip,
         "local" => Symbol::Local,
         "in" => Symbol::In,
         "end" => Symbol::End,
         "if" => Symbol::If,
         "then" => Symbol::Then,
         "else" => Symbol::Else,
+        "proc" => Symbol::Proc,
+        "fun" => Symbol::Fun,
         "case" => Symbol::Case,
         "of" => Symbol::Of,
         "thread" => Symbol::Thread,
+        "skip" => Symbol::Skip,
         "at" => Symbol::At,
         "try" => Symbol::Try,
         "catch" => Symbol::Catch,
         "raise" => Symbol::Raise,
-        "proc" => Symbol::Proc,
         "div" => Symbol::Operator(Op::Div),
         "mod" => Symbol::Operator(Op::Mod),
-        "fun" => Symbol::Fun,
         "finally" => Symbol::Finally,
         _ => Symbol::Unused,
     }

@@ -4,3 +4,4 @@ pub mod Pairs
 pub mod Levels
 pub mod Steps
 pub mod Unfold
+pub mod Declared

@@ -1,5 +1,5 @@
 -- What a reader of programs with sugar has around it, and what is left.
-use Rattle.std.specs.Prelude.{◌≡◌, ◌<◌, ◌≤◌, List, length}
+use Rattle.std.specs.Prelude.{◌≡◌, ℕ, ◌<◌, ◌≤◌, List, length, take}
 use Rattle.oz_grammar.specs.declared.symbol.Symbol.{Symbol}
 use Rattle.oz_grammar.specs.Scoping.{Scope}
 
@@ -19,3 +19,11 @@ IsBehind old new = (new.scope ≡ old.scope) × (length new.rest < length old.re
 -- .. or no fewer
 abbrev pub IsNotBefore : State → State → Type 0
 IsNotBefore old new = (new.scope ≡ old.scope) × (length new.rest ≤ length old.rest)
+
+-- names are declared behind so many of those before, and fewer symbols are left
+abbrev pub IsDeclaring : ℕ → State → State → Type 0
+IsDeclaring outer old new = (take outer new.scope ≡ take outer old.scope) × (outer ≤ length new.scope) × (length new.rest < length old.rest)
+
+-- .. behind all of them
+abbrev pub HasDeclared : State → State → Type 0
+HasDeclared old new = (take (length old.scope) new.scope ≡ old.scope) × (length old.scope ≤ length new.scope) × (length new.rest < length old.rest)

@@ -1,15 +1,13 @@
-//! The formals of procedures and functions.
+//! What is wrong with the formals of procedures and functions.
 
-ghost use Rattle.std.specs.Prelude.{◌≡◌, ◌+◌, ◌<◌, ◌≤◌, [], length, vec_len, IfOk};
+ghost use Rattle.std.specs.Prelude.{◌≡◌, ◌≤◌, length, drop};
+ghost use Rattle.oz_grammar.specs.Scoping.{has_name};
 ghost use Rattle.surface_grammar.specs.Points.{most_formals, formal_wrong};
-ghost use Rattle.surface_grammar.specs.Reading.{formals_at};
-ghost use Rattle.oz_phrases.specs.ReadAnswers.{IsReadAs};
 
-use oz_grammar::{FaultKind, Symbol, What};
-use oz_phrases::{Read, fault, has_name, mismatch};
-use std::alloc::Global;
+use oz_grammar::FaultKind;
+use oz_phrases::Scope;
 use surface_grammar::Callable;
-use tree_node::{MOST_ITEMS, Text};
+use tree_node::MOST_ITEMS;
 
 /// How many formals there may be: the last of a function's procedure is its result.
 fn most_formals(callable: Callable) -> usize
@@ -21,40 +19,32 @@ fn most_formals(callable: Callable) -> usize
     }
 }
 
-/// What is wrong with one formal more.
-fn formal_wrong(callable: Callable, before: &[Text], name: &Text) -> Option<FaultKind>
-    ensures { result ≡ formal_wrong callable before.now name.now }
+/// Whether a name is among those that are declared from `outer` on.
+#[tactic(auto, using(crate::proofs::Declared::declared_some, crate::proofs::Declared::declared_none))]
+fn is_among(scope: &Scope, outer: usize, name: &[u8]) -> bool
+    ensures { result ≡ has_name (drop outer scope.now) name.now }
 {
-    if before.len() >= most_formals(callable) {
-        Some(FaultKind::Wide)
-    } else if has_name(before, name) {
-        Some(FaultKind::Twice)
-    } else {
-        None
+    match scope.position(name) {
+        Some(position) => position >= outer,
+        None => false,
     }
 }
 
-/// The formals up to the closing bracket.
-pub fn formals<'t>(alloc: Global, callable: Callable, symbols: &'t [Symbol]) -> Read<'t, Vec<Text>>
-    ensures read { IsReadAs (λ x. (x.0.items, x.1.now)) result (formals_at callable [] symbols.now) }
-    ensures shorter { IfOk result (λ x. vec_len x.0 + length x.1.now < length symbols.now) }
-    ensures count { IfOk result (λ x. vec_len x.0 ≤ most_formals callable) }
+/// What is wrong with one formal more, behind those that are declared from `outer` on.
+pub fn formal_wrong(
+    callable: Callable,
+    scope: &Scope,
+    outer: usize,
+    name: &[u8],
+) -> Option<FaultKind>
+    requires { outer ≤ length scope.now }
+    ensures { result ≡ formal_wrong callable (drop outer scope.now) name.now }
 {
-    let mut names = Vec::new(alloc);
-    let mut rest = symbols;
-    loop {
-        match rest {
-            [Symbol::CloseCurly, behind @ ..] => return Ok((names, behind)),
-            [Symbol::Variable(name), behind @ ..] => {
-                match formal_wrong(callable, names.as_slice(), name) {
-                    Some(kind) => return Err(fault(kind, rest)),
-                    None => {
-                        names.push(name.copy()?)?;
-                        rest = behind;
-                    }
-                }
-            }
-            _ => return Err(mismatch(What::VariableOrClose, rest)),
-        }
+    if scope.len() - outer >= most_formals(callable) {
+        Some(FaultKind::Wide)
+    } else if is_among(scope, outer, name) {
+        Some(FaultKind::Twice)
+    } else {
+        None
     }
 }

@@ -1,6 +1,6 @@
 //! The reader of values and statements.
 
-ghost use Rattle.std.specs.Prelude.{◌≡◌, ◌+◌, ◌<◌, ◌≤◌, ◌^◌, ◌++◌, [], length, drop, None, OnOk};
+ghost use Rattle.std.specs.Prelude.{◌≡◌, ◌+◌, ◌<◌, ◌≤◌, ◌^◌, ◌++◌, ◌∷◌, [], length, drop, None, OnOk};
 ghost use Rattle.kernel_syntax.specs.SugarView.{statements_in};
 ghost use Rattle.oz_grammar.specs.Reading.{sign_at};
 ghost use Rattle.oz_phrases.specs.ReadAnswers.{IsReadAs};
@@ -21,6 +21,7 @@ mod branches;
 mod callables;
 mod calls;
 mod fields;
+mod locals;
 mod statements;
 mod values;
 
@@ -80,6 +81,16 @@ impl<'t> Reader<'t> {
     {
         self.rest = rest;
         self.scope.declare_all(names)?;
+        Ok(())
+    }
+
+    /// One name more around what follows, from a place on.
+    fn declare(&mut self, name: &Text, rest: &'t [Symbol]) -> Result<(), AllocError>
+        requires { 1 + length rest.now ≤ length self.old.rest }
+        ensures { OnOk result (self.new ≡ state_of (self.old.scope ++ name.now ∷ []) rest.now) }
+    {
+        self.rest = rest;
+        self.scope.declare(name)?;
         Ok(())
     }
 

@@ -1,7 +1,7 @@
 //! Trees made of their parts.
 
 ghost use Rattle.std.specs.Prelude.{◌≡◌, ◌≤◌, [], length, IfOk, OnOk};
-ghost use Rattle.kernel_syntax.specs.Sugar.{no_values, new_of};
+ghost use Rattle.kernel_syntax.specs.Sugar.{no_values, new_of, no_statements, statement_and};
 ghost use Rattle.kernel_syntax.specs.Sugar as sugar;
 ghost use Rattle.kernel_syntax.specs.SugarView.{value_of, values_in, value_clauses_in, statement_of, statements_in, clauses_in};
 ghost use Rattle.oz_grammar.specs.Scoping.{has_feature, place_feature, with_field};
@@ -41,7 +41,25 @@ pub fn push_value(values: &mut Vec<Value>, value: Value) -> Result<(), AllocErro
     Ok(())
 }
 
-/// One statement more.
+/// A statement that begins a sequence: with room for more behind it, unless it is the last.
+#[tactic(auto, using(crate::proofs::Rows::statement_pushed))]
+pub fn first_statement(
+    alloc: Global,
+    first: Statement,
+    is_last: bool,
+) -> Result<Vec<Statement>, AllocError>
+    ensures { IfOk result (λ v. statements_in v.items ≡ statement_and (statement_of first) no_statements) }
+{
+    if is_last {
+        return Ok(vec![in alloc; first]?);
+    }
+    let mut statements = Vec::with_capacity(alloc, 4)?;
+    push_statement(&mut statements, first)?;
+    Ok(statements)
+}
+
+/// One statement more. Room is made for it first: so the statement is moved once.
+#[inline(always)]
 #[tactic(auto, using(crate::proofs::Rows::statement_pushed))]
 pub fn push_statement(
     statements: &mut Vec<Statement>,
@@ -49,7 +67,8 @@ pub fn push_statement(
 ) -> Result<(), AllocError>
     ensures { OnOk result (statements_in statements.new.items ≡ with_statement (statements_in statements.old.items) (statement_of statement)) }
 {
-    statements.push(statement)?;
+    statements.reserve(1)?;
+    statements.push_reserved(statement);
     Ok(())
 }
 

@@ -8,7 +8,6 @@ ghost use Rattle.surface_reader.specs.State.{IsBehind};
 ghost use Rattle.surface_reader.specs.Levels.{readers};
 
 use super::Reader;
-use crate::formals::formals;
 use crate::trees::{function, procedure};
 use kernel_syntax::sugar::{Statement, Value};
 use oz_grammar::{Sign, What};
@@ -52,14 +51,14 @@ impl<'t> Reader<'t> {
 
     /// The formals and the body.
     #[cycle(reader)]
+    #[tactic(auto, using(crate::proofs::Declared::joined))]
     fn callable(&mut self, depth: u32, callable: Callable, left: usize) -> Result<Value, Stop>
         ensures read { IsReadAs (λ v. (value_of v, self.new.rest)) result (callable_at (readers depth) callable self.old.scope left self.old.rest) }
         ensures moves { OnOk result (IsBehind self.old self.new) }
     {
         let outer = self.scope.len();
-        let (names, rest) = formals(self.alloc, callable, self.rest)?;
-        self.open(names.as_slice(), rest)?;
-        let count = names.len() as u8;
+        self.formals(callable)?;
+        let count = (self.scope.len() - outer) as u8;
         let value = self.callable_body(depth, callable, left, count)?;
         self.scope.truncate(outer);
         Ok(value)

@@ -10,10 +10,10 @@ ghost use Rattle.surface_reader.specs.Levels.{read_value, read_statement, reader
 
 use super::Reader;
 use crate::signs::{expected_behind, is_at_statement, is_end_of};
-use crate::trees::{local, push_statement, raise, thread};
+use crate::trees::{first_statement, local, push_statement, raise, thread};
 use kernel_syntax::sugar::Statement;
 use oz_grammar::{Sign, Symbol, What};
-use oz_phrases::{Stop, first_local, mismatch, site, used_variable};
+use oz_phrases::{Stop, mismatch, site, used_variable};
 use surface_grammar::{Callable, Closer};
 use tree_node::Integer;
 
@@ -123,16 +123,17 @@ impl<'t> Reader<'t> {
 
     /// A `local`, behind that word.
     #[cycle(reader)]
+    #[tactic(auto, using(crate::proofs::Declared::joined))]
     fn local(&mut self, depth: u32, left: usize) -> Result<Statement, Stop>
         ensures read { IsReadAs (λ s. (statement_of s, self.new.rest)) result (local_at (read_statement depth) self.old.scope left self.old.rest) }
         ensures moves { OnOk result (IsBehind self.old self.new) }
     {
         let outer = self.scope.len();
-        let (names, rest) = first_local(self.alloc, self.rest)?;
-        self.open(names.as_slice(), rest)?;
+        self.first_local()?;
+        let count = self.scope.len() - outer;
         let body = self.body(depth)?;
         self.scope.truncate(outer);
-        Ok(local(left, names.len() as u32, body))
+        Ok(local(left, count as u32, body))
     }
 
     /// A thread, behind that word.
@@ -207,7 +208,8 @@ impl<'t> Reader<'t> {
         ensures read { IsReadAs (λ q. (statements_in q.items, self.new.rest)) result (others_at (read_statement depth) closer self.old.scope (length self.old.rest + 1) (statement_and (statement_of first) no_statements) self.old.rest) }
         ensures moves { OnOk result (IsNotBefore self.old self.new) }
     {
-        let mut statements = vec![in self.alloc; first]?;
+        let is_last = is_end_of(closer, self.rest);
+        let mut statements = first_statement(self.alloc, first, is_last)?;
         let mut room = self.rest.len() + 1;
         while room > 0 {
             if is_end_of(closer, self.rest) {

@@ -165,7 +165,7 @@ impl<'t> Reader<'t> {
 
     /// A primary with what is selected in it, and how many levels it has left as a part of another value.
     #[cycle(reader)]
-    #[tactic(auto, using(crate::proofs::Steps::part_is))]
+    #[tactic(auto, using(crate::proofs::Steps::part_is, crate::proofs::Unfold::selections_none))]
     fn part(
         &mut self,
         depth: u32,
@@ -178,6 +178,9 @@ impl<'t> Reader<'t> {
     {
         let left = self.rest.len();
         let (first, levels) = self.primary(depth, holder, what)?;
+        if !is_dot(self.rest) {
+            return Ok((first, levels));
+        }
         let (whole, rest) = selections(self.alloc, &self.scope, left, (first, levels), self.rest)?;
         self.rest = rest;
         Ok(whole)

@@ -1,17 +1,16 @@
-use Rattle.std.proofs.Common.{◌∙◌, ap, subst, ℕ, List, cond}
-use Rattle.std.specs.Str.{bytes_eq}
-use Rattle.oz_phrases.specs.ScopeIndex.{Declarations, position_named, IsIndexed}
-use Rattle.oz_phrases.proofs.Declaring.{has_position, indexed_less}
+use Rattle.std.proofs.Common.{sym, subst}
+use Rattle.oz_phrases.specs.ScopeIndex.{Declarations, Positions, IsIndexed}
+use Rattle.oz_phrases.proofs.Declaring.{kept_within, last_is_kept, indexed_less}
 use Rattle.oz_phrases.proofs.scope.Scope.leave.Goals as goal
 
-pub put_back-requires : goal.put_back-requires
-put_back-requires c =
-    rw c.as_slice.ensures
-    (has_position c.pop.new.self.items c.self.inside.positions.entries c.in-Some.name c.in-Some.hidden
+pub exchange-requires : goal.exchange-requires
+exchange-requires c =
+    kept_within c.self.inside.positions.entries c.in-Some.field-0-0 c.in-Some.place
+    (last_is_kept c.pop.new.self.items c.self.inside.positions.entries c.in-Some.field-0-0 c.in-Some.hidden c.in-Some.place
     (subst (λ (ds : Declarations). IsIndexed ds c.self.inside.positions.entries) c.in-Some.ensures.items c.self.invariant))
 
 pub invariant_of-self : goal.invariant_of-self
 invariant_of-self c =
-    indexed_less c.pop.new.self.items c.self.inside.positions.entries c.put_back.new.positions.entries c.in-Some.name c.in-Some.hidden
-    (subst (λ (ds : Declarations). IsIndexed ds c.self.inside.positions.entries) c.in-Some.ensures.items c.self.invariant)
-    (λ x. c.put_back.ensures x ∙ ap (λ (s : List ℕ). cond (bytes_eq x s) c.in-Some.hidden (position_named c.self.inside.positions.entries x)) c.as_slice.ensures)
+    subst (λ (es : Positions). IsIndexed c.pop.new.self.items es) (sym c.exchange.ensures.entries)
+    (indexed_less c.pop.new.self.items c.self.inside.positions.entries c.in-Some.field-0-0 c.in-Some.hidden c.in-Some.place
+    (subst (λ (ds : Declarations). IsIndexed ds c.self.inside.positions.entries) c.in-Some.ensures.items c.self.invariant))

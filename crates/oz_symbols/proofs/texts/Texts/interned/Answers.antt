@@ -1,6 +1,6 @@
 use Rattle.std.proofs.Common.{◌∙◌, sym}
 use Rattle.oz_symbols.proofs.Interning.{found_spelled}
-use Rattle.oz_symbols.proofs.texts.Texts.text.Goals as goal
+use Rattle.oz_symbols.proofs.texts.Texts.interned.Goals as goal
 
 pub returns-in_ok-copy-in-Some : goal.returns-in_ok-copy-in-Some
 returns-in_ok-copy-in-Some c =
