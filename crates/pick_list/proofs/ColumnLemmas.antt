@@ -10,7 +10,7 @@ use Rattle.tree_node.specs.Store.{Equation}
 use Rattle.pick_list.specs.declared.columns.Stretch.{Stretch}
 use Rattle.pick_list.specs.declared.columns.Naming.{Naming}
 use Rattle.pick_list.specs.declared.columns.Bind.{Bind}
-use Rattle.pick_list.specs.Columns.{Columns, thread_at, fresh_at, bind_at, pick_at, picks_below, AreStretches, AreNamings, AreBinds, HasThread, IsStretchOn, IsNamingOn, IsStretchBefore, IsNamingBefore, IsBindBefore}
+use Rattle.pick_list.specs.Columns.{Columns, AreColumns, columns_of, thread_at, fresh_at, bind_at, pick_at, picks_below, AreStretches, AreNamings, AreBinds, HasThread, IsStretchOn, IsNamingOn, IsStretchBefore, IsNamingBefore, IsBindBefore}
 use Rattle.pick_list.specs.Binds.{binds_of, equation_of}
 
 -- ---- lists the other way round
@@ -144,6 +144,13 @@ picks_same c d (suc n) threads names binds =
 pub length_picks : (c : Columns) (n : ℕ) → length (picks_below c n) ≡ n
 length_picks c zero = refl
 length_picks c (suc n) = length-append (picks_below c n) (pick_at c n ∷ []) ∙ (ap (λ (m : ℕ). m + 1) (length_picks c n) ∙ add-one n)
+
+-- the columns of none
+pub no_columns : (s : List Stretch) (n : List Naming) (m : List Name) (b : List Bind) → s ≡ [] → n ≡ [] → m ≡ [] → b ≡ [] → AreColumns 0 (columns_of s n m b)
+no_columns s n m b p q r t = subst (λ (c : Columns). AreColumns 0 c) (sym same) (record { stretches = refl; namings = tt; binds = tt })
+  where
+    same : columns_of s n m b ≡ columns_of [] [] [] []
+    same = cc
 
 -- one pick more
 pub picks_put : (c d : Columns) (n : ℕ) (k : Pick) → IsStretchOn n k.thread c.stretches d.stretches → IsNamingOn n k.fresh c.names c.namings d.namings → d.names ≡ c.names ++ k.fresh →

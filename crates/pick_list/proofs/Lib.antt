@@ -1,4 +1,3 @@
 pub mod ColumnLemmas
 pub mod NameLemmas
 pub mod TellLemmas
-pub mod CopyLemmas

@@ -8,7 +8,7 @@ use Rattle.tree_node.specs.declared.names.VarName.{VarName}
 use Rattle.tree_node.specs.declared.names.Name.{Name}
 use Rattle.tree_node.specs.declared.names.Name.TheVariants as name
 use Rattle.pick_list.specs.declared.names.NameRun.{NameRun}
-use Rattle.pick_list.specs.Names.{name_after, row_of, names_in, IsRow, IsRun, IsVarAfter, IsNameAfter, Follows, IsCutTo}
+use Rattle.pick_list.specs.Names.{name_after, row_of, names_in, IsRow, IsRun, IsNameAfter, Follows, IsCutTo}
 use Rattle.pick_list.proofs.ColumnLemmas.{reverse_push}
 
 same_var : (s t m n : ℕ) → s ≡ t → m ≡ n → ◌≡◌ {A = Name} (name.Var (record { site = s; num = m })) (name.Var (record { site = t; num = n }))

@@ -1,10 +1,13 @@
 //! The columns of a list of picks.
 
-ghost use Rattle.std.specs.Prelude.{◌≡◌, ◌+◌, ◌++◌, ◌<◌, ◌≤◌, ◌^◌, List, ℕ, IsTrue, IfOk, OnOk, OnErr, reverse, take, length, vec_len, vec_capacity};
+ghost use Rattle.std.specs.Prelude.{◌≡◌, ◌+◌, ◌++◌, ◌<◌, ◌≤◌, ◌^◌, List, ℕ, IsTrue, IfOk, OnOk, OnErr, map, reverse, take, length, vec_len, vec_capacity};
 ghost use Rattle.tree_node.specs.declared.names.Name.{Name as Named};
-ghost use Rattle.pick_list.specs.Columns.{AreColumns, AreStretches, AreNamings, AreBinds, HasThread, IsStretchOn, IsNamingOn, IsStretchBefore, IsNamingBefore, IsBindBefore, columns_of, pick_at, thread_at, fresh_at, bind_at};
+ghost use Rattle.pick_list.specs.Columns.{AreColumns, AreStretches, AreNamings, AreBinds, HasThread, IsStretchOn, IsNamingOn, IsStretchBefore, IsNamingBefore, IsBindBefore, columns_of, pick_at, picks_below, thread_at, fresh_at, bind_at};
+ghost use Rattle.pick_list.specs.Compact.{wide};
+ghost use Rattle.pick_list.specs.Namings.{HasRoom, namings_in};
 
 use crate::names::NameColumn;
+use crate::namings::NamingColumn;
 use std::alloc::{AllocError, Global};
 use tree_node::{Name, NameList, Pick, Term, ThreadName, VarName, copy_term};
 
@@ -20,6 +23,25 @@ pub struct Stretch {
 pub struct Naming {
     pub pick: usize,
     pub first: usize,
+}
+
+/// The same where the numbers are small, in a fourth of the memory.
+#[derive(Clone, Copy)]
+pub struct SmallNaming {
+    pub pick: u16,
+    pub first: u16,
+}
+
+impl SmallNaming {
+    // The naming as others are kept.
+    fn wide(self) -> Naming
+        ensures { result ≡ wide self }
+    {
+        Naming {
+            pick: self.pick as usize,
+            first: self.first as usize,
+        }
+    }
 }
 
 /// A pick that adds an equation: its place, and the equation.
@@ -55,10 +77,10 @@ pub(crate) fn add_stretch(stretches: &mut Vec<Stretch>, pick: usize, thread: Thr
 }
 
 // The names of a pick behind the others, where it takes some: those from a place on.
-fn add_naming(namings: &mut Vec<Naming>, pick: usize, first: usize, fresh: &[Name])
-    requires room { vec_len namings.old < vec_capacity namings.old }
-    requires namings { AreNamings pick first (reverse namings.old.items) }
-    ensures { (before : List Named) → length before ≡ first → IsNamingOn pick fresh.now before (reverse namings.old.items) (reverse namings.new.items) }
+fn add_naming(namings: &mut NamingColumn, pick: usize, first: usize, fresh: &[Name])
+    requires room { HasRoom namings.old }
+    requires namings { AreNamings pick first (reverse (namings_in namings.old)) }
+    ensures { (before : List Named) → length before ≡ first → IsNamingOn pick fresh.now before (reverse (namings_in namings.old)) (reverse (namings_in namings.new)) }
 {
     if !fresh.is_empty() {
         namings.push_reserved(Naming { pick, first });
@@ -70,23 +92,23 @@ fn add_naming(namings: &mut Vec<Naming>, pick: usize, first: usize, fresh: &[Nam
 #[inline(never)]
 fn put_apart(
     stretches: &mut Vec<Stretch>,
-    namings: &mut Vec<Naming>,
+    namings: &mut NamingColumn,
     names: &mut NameColumn,
     pick: usize,
     thread: ThreadName,
     fresh: &[Name],
 ) -> Result<(), AllocError>
     requires stretches { AreStretches pick (reverse stretches.old.items) }
-    requires namings { AreNamings pick (length names.old) (reverse namings.old.items) }
+    requires namings { AreNamings pick (length names.old) (reverse (namings_in namings.old)) }
     ensures threads { OnOk result (IsStretchOn pick thread (reverse stretches.old.items) (reverse stretches.new.items)) }
-    ensures fresh { OnOk result (IsNamingOn pick fresh.now names.old (reverse namings.old.items) (reverse namings.new.items)) }
+    ensures fresh { OnOk result (IsNamingOn pick fresh.now names.old (reverse (namings_in namings.old)) (reverse (namings_in namings.new))) }
     ensures names { OnOk result (names.new ≡ names.old ++ fresh.now) }
     ensures same_stretches { OnErr result (stretches.new.items ≡ stretches.old.items) }
-    ensures same_namings { OnErr result (namings.new.items ≡ namings.old.items) }
+    ensures same_namings { OnErr result (namings_in namings.new ≡ namings_in namings.old) }
     ensures same_names { OnErr result (names.new ≡ names.old) }
 {
     stretches.reserve(1)?;
-    namings.reserve(1)?;
+    namings.reserve()?;
     let first = names.len();
     names.extend_from_slice(fresh)?;
     add_naming(namings, pick, first, fresh);
@@ -97,19 +119,19 @@ fn put_apart(
 /// A pick of this thread with these names behind the others. After an error all columns are as before.
 pub fn put(
     stretches: &mut Vec<Stretch>,
-    namings: &mut Vec<Naming>,
+    namings: &mut NamingColumn,
     names: &mut NameColumn,
     pick: usize,
     thread: ThreadName,
     fresh: &[Name],
 ) -> Result<(), AllocError>
     requires stretches { AreStretches pick (reverse stretches.old.items) }
-    requires namings { AreNamings pick (length names.old) (reverse namings.old.items) }
+    requires namings { AreNamings pick (length names.old) (reverse (namings_in namings.old)) }
     ensures threads { OnOk result (IsStretchOn pick thread (reverse stretches.old.items) (reverse stretches.new.items)) }
-    ensures fresh { OnOk result (IsNamingOn pick fresh.now names.old (reverse namings.old.items) (reverse namings.new.items)) }
+    ensures fresh { OnOk result (IsNamingOn pick fresh.now names.old (reverse (namings_in namings.old)) (reverse (namings_in namings.new))) }
     ensures names { OnOk result (names.new ≡ names.old ++ fresh.now) }
     ensures same_stretches { OnErr result (stretches.new.items ≡ stretches.old.items) }
-    ensures same_namings { OnErr result (namings.new.items ≡ namings.old.items) }
+    ensures same_namings { OnErr result (namings_in namings.new ≡ namings_in namings.old) }
     ensures same_names { OnErr result (names.new ≡ names.old) }
 {
     if fresh.is_empty() && is_last_thread(stretches.as_slice(), thread) {
@@ -223,4 +245,45 @@ pub fn last_pick(
         fresh: last_fresh(alloc, namings, names, pick)?,
         bind: last_bind(binds, pick)?,
     })
+}
+
+/// So many picks, which columns tell, in a vector.
+pub fn picks_of(
+    alloc: Global,
+    stretches: &[Stretch],
+    namings: &[Naming],
+    names: &[Name],
+    binds: &[Bind],
+    count: usize,
+) -> Result<Vec<Pick>, AllocError>
+    requires { AreColumns count (columns_of stretches.now namings.now names.now binds.now) }
+    ensures { IfOk result (λ picks. picks.items ≡ picks_below (columns_of stretches.now namings.now names.now binds.now) count) }
+{
+    let mut picks = Vec::with_capacity(alloc, count)?;
+    let mut threads = stretches;
+    let mut named = namings;
+    let mut fresh = names;
+    let mut bound = binds;
+    'picks: for pick in (0..count).rev() {
+        let last = last_pick(alloc, threads, named, fresh, bound, pick)?;
+        picks.push(last)?;
+        let (taken, before) = namings_before(named, fresh.len(), pick);
+        threads = &threads[..stretches_before(threads, pick)];
+        named = &named[..taken];
+        fresh = &fresh[..before];
+        bound = &bound[..binds_before(bound, pick)];
+    }
+    picks.reverse();
+    Ok(picks)
+}
+
+/// Namings as others are kept.
+pub fn wide_namings(alloc: Global, namings: &[SmallNaming]) -> Result<Vec<Naming>, AllocError>
+    ensures { IfOk result (λ all. all.items ≡ map wide namings.now) }
+{
+    let mut all = Vec::with_capacity(alloc, namings.len())?;
+    for naming in namings {
+        all.push(naming.wide())?;
+    }
+    Ok(all)
 }

@@ -6,7 +6,8 @@
 //! **Promises**: a [`PickList`] is a list of picks (contracts see it so): `push`, `push_plain`, `push_row`, `push_bind` and `push_tell` put
 //! picks behind the others,
 //! and after want of memory the list is as before; `drop_last` takes the last one away; `len` counts them; `to_vec` copies them;
-//! `take_all` takes all of them out, in memory of just their length, while the list keeps its own for others.
+//! `take_all` takes all of them out as [`CompactPicks`], to which none is added, in as little memory as they need, while the list keeps its own
+//! for others.
 //! `binds` are the equations that they added, in order. A pick of the thread of the one before it that takes no name and adds no
 //! equation takes no memory, and variables whose numbers count up take that of one.
 //!
@@ -19,8 +20,11 @@
 #![tactic(auto)]
 
 mod columns;
+mod compact;
 mod list;
 mod names;
+mod namings;
 
 pub use columns::Bind;
+pub use compact::CompactPicks;
 pub use list::PickList;

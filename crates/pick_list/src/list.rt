@@ -3,14 +3,18 @@
 ghost use Rattle.std.specs.Prelude.{◌≡◌, ◌<◌, ◌-◌, ◌^◌, ◌++◌, ◌∷◌, [], None, IfOk, OnOk, OnErr, length, map, take};
 ghost use Rattle.tree_node.specs.declared.names.Name.TheVariants as named;
 ghost use Rattle.pick_list.specs.Binds.{binds_of, equation_of};
+ghost use Rattle.pick_list.specs.Columns.{AreColumns, columns_of, picks_below};
+ghost use Rattle.pick_list.specs.Compact.{IsFormOf};
+ghost use Rattle.pick_list.specs.Namings.{namings_in};
 ghost use Rattle.pick_list.specs.Tells.{in_a_row, plain, tell_picks};
 ghost use Rattle.pick_list.specs.Names.{row_of};
 
 use crate::columns::{
-    Bind, Naming, Stretch, add_stretch, binds_before, last_pick, namings_before, put,
-    stretches_before,
+    Bind, Naming, Stretch, add_stretch, binds_before, picks_of, put, stretches_before,
 };
+use crate::compact::{CompactPicks, Form, small_form};
 use crate::names::NameColumn;
+use crate::namings::NamingColumn;
 use std::alloc::{AllocError, Global};
 use std::marker::Model;
 use tree_node::{Name, Pick, Term, ThreadName, VarName};
@@ -24,7 +28,7 @@ const MOST: usize = isize::MAX as usize;
 #[derive(Drop)]
 pub struct PickList {
     stretches: Vec<Stretch>,
-    namings: Vec<Naming>,
+    namings: NamingColumn,
     names: NameColumn,
     binds: Vec<Bind>,
     count: usize,
@@ -34,12 +38,70 @@ impl Model for PickList {
     ghost use Rattle.std.specs.Prelude.{◌<◌, ◌^◌, List};
     ghost use Rattle.tree_node.specs.declared.pick.Pick.{Pick};
     ghost use Rattle.pick_list.specs.Columns.{AreColumns, columns_of, picks_below};
+    ghost use Rattle.pick_list.specs.Namings.{namings_in};
 
     ghost Value = { List Pick };
 
-    ghost view = { λ s. picks_below (columns_of s.stretches.items s.namings.items s.names s.binds.items) s.count };
+    ghost view = { λ s. picks_below (columns_of s.stretches.items (namings_in s.namings) s.names s.binds.items) s.count };
 
-    ghost invariant = { λ s. AreColumns s.count (columns_of s.stretches.items s.namings.items s.names s.binds.items) × (s.count < 2 ^ 63) };
+    ghost invariant = { λ s. AreColumns s.count (columns_of s.stretches.items (namings_in s.namings) s.names s.binds.items) × (s.count < 2 ^ 63) };
+}
+
+// So many picks, which columns tell, as a list of their own. The binds are taken out; after an error they are as before.
+#[inline(never)]
+fn whole_list(
+    alloc: Global,
+    stretches: &[Stretch],
+    namings: &NamingColumn,
+    names: &NameColumn,
+    binds: &mut Vec<Bind>,
+    count: usize,
+) -> Result<Box<PickList>, AllocError>
+    requires columns { AreColumns count (columns_of stretches.now (namings_in namings.now) names.now binds.old.items) }
+    requires few { count < 2 ^ 63 }
+    ensures ok { IfOk result (λ l. l.value ≡ picks_below (columns_of stretches.now (namings_in namings.now) names.now binds.old.items) count) }
+    ensures empty { OnOk result (binds.new.items ≡ []) }
+    ensures err { OnErr result (binds.new.items ≡ binds.old.items) }
+{
+    let mut list = Box::new(alloc, PickList::new(alloc))?;
+    let stretches = Vec::from_slice(alloc, stretches)?;
+    let namings = namings.copy(alloc)?;
+    let names = names.copy(alloc)?;
+    let binds = binds.split_off(0)?;
+    *list = PickList {
+        stretches,
+        namings,
+        names,
+        binds,
+        count,
+    };
+    Ok(list)
+}
+
+// How so many picks are kept that columns tell. The binds are taken out; after an error they are as before.
+fn form_of(
+    alloc: Global,
+    stretches: &[Stretch],
+    namings: &NamingColumn,
+    names: &NameColumn,
+    binds: &mut Vec<Bind>,
+    count: usize,
+) -> Result<Form, AllocError>
+    requires columns { AreColumns count (columns_of stretches.now (namings_in namings.now) names.now binds.old.items) }
+    requires few { count < 2 ^ 63 }
+    ensures ok { IfOk result (IsFormOf count (columns_of stretches.now (namings_in namings.now) names.now binds.old.items)) }
+    ensures empty { OnOk result (binds.new.items ≡ []) }
+    ensures err { OnErr result (binds.new.items ≡ binds.old.items) }
+{
+    if count <= 65535 {
+        if let Some(small) = namings.small(alloc)? {
+            let names = names.compact(alloc)?;
+            let form = small_form(alloc, count as u16, stretches, names, small, binds)?;
+            return Ok(form);
+        }
+    }
+    let list = whole_list(alloc, stretches, namings, names, binds, count)?;
+    Ok(Form::Whole(list))
 }
 
 impl PickList {
@@ -49,37 +111,34 @@ impl PickList {
     {
         PickList {
             stretches: Vec::new(alloc),
-            namings: Vec::new(alloc),
+            namings: NamingColumn::new(alloc),
             names: NameColumn::new(alloc),
             binds: Vec::new(alloc),
             count: 0,
         }
     }
 
-    /// Takes all picks out, in memory of just their length. The list has none then, and keeps its memory for others. After an error it is as
+    /// Takes all picks out, in as little memory as they need. The list has none then, and keeps its memory for others. After an error it is as
     /// before.
-    #[tactic(auto, using(crate::proofs::CopyLemmas::no_columns))]
-    pub fn take_all(&mut self, alloc: Global) -> Result<PickList, AllocError>
+    #[tactic(auto, using(crate::proofs::ColumnLemmas::no_columns))]
+    pub fn take_all(&mut self, alloc: Global) -> Result<CompactPicks, AllocError>
         ensures ok { IfOk result (λ l. l ≡ self.old) }
         ensures empty { OnOk result (self.new ≡ []) }
         ensures err { OnErr result (self.new ≡ self.old) }
     {
-        let stretches = Vec::from_slice(alloc, self.stretches.as_slice())?;
-        let namings = Vec::from_slice(alloc, self.namings.as_slice())?;
-        let names = self.names.copy(alloc)?;
-        let binds = self.binds.split_off(0)?;
-        let count = self.count;
+        let form = form_of(
+            alloc,
+            self.stretches.as_slice(),
+            &self.namings,
+            &self.names,
+            &mut self.binds,
+            self.count,
+        )?;
         self.stretches.clear();
         self.namings.clear();
         self.names.clear();
         self.count = 0;
-        Ok(PickList {
-            stretches,
-            namings,
-            names,
-            binds,
-            count,
-        })
+        Ok(CompactPicks::from_form(form))
     }
 
     /// The number of picks.
@@ -139,7 +198,7 @@ impl PickList {
         let pick = self.count;
         let place = self.names.len();
         self.stretches.reserve(1)?;
-        self.namings.reserve(1)?;
+        self.namings.reserve()?;
         self.names.push_row(first, count)?;
         self.namings.push_reserved(Naming { pick, first: place });
         add_stretch(&mut self.stretches, pick, thread);
@@ -254,10 +313,9 @@ impl PickList {
     {
         let last = self.count - 1;
         let stretches = stretches_before(self.stretches.as_slice(), last);
-        let (namings, names) = namings_before(self.namings.as_slice(), self.names.len(), last);
         let binds = binds_before(self.binds.as_slice(), last);
         self.stretches.truncate(stretches);
-        self.namings.truncate(namings);
+        let names = self.namings.cut_to(self.names.len(), last);
         self.names.truncate(names);
         self.binds.truncate(binds);
         self.count = last;
@@ -267,22 +325,16 @@ impl PickList {
     pub fn to_vec(&self, alloc: Global) -> Result<Vec<Pick>, AllocError>
         ensures { IfOk result (λ picks. picks.items ≡ self.now) }
     {
-        let mut picks = Vec::with_capacity(alloc, self.count)?;
-        let mut stretches = self.stretches.as_slice();
-        let mut namings = self.namings.as_slice();
-        let all = self.names.to_vec(alloc)?;
-        let mut names = all.as_slice();
-        let mut binds = self.binds.as_slice();
-        'picks: for pick in (0..self.count).rev() {
-            let last = last_pick(alloc, stretches, namings, names, binds, pick)?;
-            picks.push(last)?;
-            let (taken, named) = namings_before(namings, names.len(), pick);
-            stretches = &stretches[..stretches_before(stretches, pick)];
-            namings = &namings[..taken];
-            names = &names[..named];
-            binds = &binds[..binds_before(binds, pick)];
-        }
-        picks.reverse();
+        let namings = self.namings.to_vec(alloc)?;
+        let names = self.names.to_vec(alloc)?;
+        let picks = picks_of(
+            alloc,
+            self.stretches.as_slice(),
+            namings.as_slice(),
+            names.as_slice(),
+            self.binds.as_slice(),
+            self.count,
+        )?;
         Ok(picks)
     }
 }

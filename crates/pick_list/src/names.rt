@@ -1,10 +1,11 @@
 //! The names of all picks, in a column.
 
-ghost use Rattle.std.specs.Prelude.{◌≡◌, ◌≤◌, ◌<◌, ◌+◌, ◌^◌, [], ◌++◌, ◌∷◌, List, length, reverse, take, IsTrue, IfOk, OnOk, OnErr, vec_len, vec_capacity};
+ghost use Rattle.std.specs.Prelude.{◌≡◌, ◌≤◌, ◌<◌, ◌+◌, ◌^◌, [], ◌++◌, ◌∷◌, List, length, reverse, take, IsTrue, IfOk, IfSome, OnOk, OnErr, vec_len, vec_capacity};
 ghost use Rattle.tree_node.specs.declared.names.Name.{Name as Named};
 ghost use Rattle.tree_node.specs.declared.names.Name.TheVariants as named;
 ghost use Rattle.tree_node.specs.Each.{Each};
 ghost use Rattle.pick_list.specs.Names.{name_after, row_of, names_in, IsRow, IsRun, IsVarAfter, IsNameAfter, Follows, IsCutTo};
+ghost use Rattle.pick_list.specs.Compact.{compact_names};
 
 use std::alloc::{AllocError, Global};
 use std::marker::Model;
@@ -40,6 +41,14 @@ impl Model for NameColumn {
     ghost view = { λ c. names_in (reverse c.runs.items) };
 
     ghost invariant = { λ c. Each IsRun (reverse c.runs.items) × (c.count ≡ length (names_in (reverse c.runs.items))) × (c.count < 2 ^ 63) };
+}
+
+/// The names of a column to which none is added, in 16 bytes: variables whose numbers count up take no memory, where they are few. The
+/// fields of a row stand in the variant itself, where they take less.
+#[derive(Drop)]
+pub enum CompactNames {
+    Row { count: u16, site: u32, num: u64 },
+    Column(Box<NameColumn>),
 }
 
 // Whether a variable is the one so many behind another one.
@@ -163,6 +172,65 @@ fn cut(runs: &mut Vec<NameRun>, over: usize)
     }
 }
 
+// The names of runs in less memory, where they are few variables whose numbers count up.
+fn compact_row(runs: &[NameRun]) -> Option<CompactNames>
+    ensures { IfSome result (λ names. compact_names names ≡ names_in (reverse runs.now)) }
+{
+    match runs {
+        [] => Some(CompactNames::Row {
+            count: 0,
+            site: 0,
+            num: 0,
+        }),
+        [run] => run.compact(),
+        _ => None,
+    }
+}
+
+impl NameRun {
+    // The names of the run in less memory, where they are few variables.
+    fn compact(self) -> Option<CompactNames>
+        ensures { IfSome result (λ names. compact_names names ≡ row_of self.first self.count) }
+    {
+        match self.first {
+            Name::Var(first) => {
+                if self.count > 65535 {
+                    return None;
+                }
+                Some(CompactNames::Row {
+                    count: self.count as u16,
+                    site: first.site,
+                    num: first.num,
+                })
+            }
+            Name::Cell(_) => None,
+            Name::Port(_) => None,
+            Name::Proc(_) => None,
+            Name::Thread(_) => None,
+        }
+    }
+}
+
+impl CompactNames {
+    /// The names in a vector.
+    pub fn to_vec(&self, alloc: Global) -> Result<Vec<Name>, AllocError>
+        ensures { IfOk result (λ v. v.items ≡ compact_names self.now) }
+    {
+        match self {
+            CompactNames::Row { count, site, num } => {
+                let first = VarName {
+                    site: *site,
+                    num: *num,
+                };
+                let mut column = NameColumn::new(alloc);
+                column.push_row(first, *count as usize)?;
+                column.to_vec(alloc)
+            }
+            CompactNames::Column(column) => column.to_vec(alloc),
+        }
+    }
+}
+
 impl NameColumn {
     /// No names. It takes no memory.
     pub fn new(alloc: Global) -> NameColumn
@@ -220,6 +288,17 @@ impl NameColumn {
             runs,
             count: self.count,
         })
+    }
+
+    /// The same names, in as little memory as they need.
+    pub fn compact(&self, alloc: Global) -> Result<CompactNames, AllocError>
+        ensures { IfOk result (λ names. compact_names names ≡ self.now) }
+    {
+        if let Some(names) = compact_row(self.runs.as_slice()) {
+            return Ok(names);
+        }
+        let column = Box::new(alloc, self.copy(alloc)?)?;
+        Ok(CompactNames::Column(column))
     }
 
     /// No names any more. The memory is kept.

@@ -2,7 +2,7 @@
 
 ghost use Rattle.std.specs.Prelude.{◌≡◌, ◌++◌, [], length, IfOk, OnOk};
 
-use pick_list::PickList;
+use pick_list::{CompactPicks, PickList};
 use std::alloc::{AllocError, Global};
 use std::marker::Model;
 use std::sync::Arc;
@@ -13,7 +13,7 @@ use tree_node::Pick;
 /// no memory.
 #[derive(Drop)]
 pub struct Picks {
-    list: Option<Arc<PickList, Global>>,
+    list: Option<Arc<CompactPicks, Global>>,
 }
 
 impl Model for Picks {
@@ -34,7 +34,7 @@ impl Picks {
         Picks { list: None }
     }
 
-    /// Takes the picks of a list out, in memory of just their length. The list has none then, and keeps its memory for others. Where there are
+    /// Takes the picks of a list out, in as little memory as they need. The list has none then, and keeps its memory for others. Where there are
     /// none it takes no memory.
     #[tactic(auto, using(crate::proofs::PickLemmas::no_picks))]
     pub fn take(alloc: Global, list: &mut PickList) -> Result<Picks, AllocError>

@@ -1,8 +1,8 @@
-use Rattle.std.proofs.Common.{arith, ◌≡◌, ◌+◌, ◌++◌, ◌∙◌, sym, ap, subst, ℕ, List, length}
+use Rattle.std.proofs.Common.{arith, ◌+◌, ◌++◌, ◌∙◌, sym, ap, subst, List}
 use Rattle.std.specs.Prelude.{reverse}
 use Rattle.tree_node.specs.declared.names.Name.{Name}
 use Rattle.pick_list.specs.declared.names.NameRun.{NameRun}
-use Rattle.pick_list.specs.Names.{row_of, names_in, Follows}
+use Rattle.pick_list.specs.Names.{row_of, Follows}
 use Rattle.pick_list.proofs.NameLemmas.{names_put, runs_put, runs_taken, last_followed, none_followed, run_longer, row_more, count_within}
 use Rattle.pick_list.proofs.names.put.Goals as goal
 
