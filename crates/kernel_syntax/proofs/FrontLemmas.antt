@@ -32,10 +32,10 @@ behind_all js (k ∷ ks) up =
     ∙ behind_all (js ++ k ∷ []) ks (subst (λ (xs : List ℕ). AreRising xs) (sym same) up)
     ∙ same
 
-risen : (ks : List ℕ) → AreRising ks → with_positions [] ks ≡ ks
+pub risen : (ks : List ℕ) → AreRising ks → with_positions [] ks ≡ ks
 risen ks up = behind_all [] ks up
 
-rising_take : (n : ℕ) (ks : List ℕ) → AreRising ks → AreRising (take n ks)
+pub rising_take : (n : ℕ) (ks : List ℕ) → AreRising ks → AreRising (take n ks)
 rising_take zero ks up = tt
 rising_take (suc n) [] up = tt
 rising_take (suc n) (k ∷ ks) up = (each_take (λ j. k < j) n ks up.0, rising_take n ks up.1)
@@ -56,17 +56,27 @@ undeclared_all first count (k ∷ ks) h = undeclared_one first count k ks ks h.0
 pub undeclared_before : (first count i : ℕ) (ks : List ℕ) → AreRising ks → suc i ≡ length ks → get_or ks i 0 < first → ks ≡ without_declared first count ks
 undeclared_before first count i ks up e low = undeclared_all first count ks (above_all first ks i up e low)
 
-declared_one : (first count k : ℕ) → k ≡ first → 0 < count → [] ≡ without_declared first count (k ∷ [])
-declared_one first count k same some = grind (arith, same, some)
+-- the first so many are below first, and the others among count ones from there on
+declared_behind : (first count n : ℕ) (ks : List ℕ) → Each (λ j. j < first + count) ks → ((m : ℕ) → m < n → get_or ks m 0 < first) → ((m : ℕ) → n ≤ m → m < length ks → first ≤ get_or ks m 0) → take n ks ≡ without_declared first count ks
+declared_behind first count zero [] all low high = refl
+declared_behind first count (suc n) [] all low high = refl
+declared_behind first count zero (k ∷ ks) all low high =
+    let here : first ≤ k = high 0 (omega arith) (omega arith) in
+    let most : k < first + count = all.0 in
+    let ih : take zero ks ≡ without_declared first count ks = declared_behind first count zero ks all.1 (λ m l. absurd (omega (arith, l))) (λ m l g. high (suc m) (omega arith) (omega (arith, g))) in
+    let none : [] ≡ without_declared first count ks = ih in
+    grind (arith, here, most, none)
+declared_behind first count (suc n) (k ∷ ks) all low high =
+    undeclared_one first count k ks (take n ks) (low 0 (omega arith))
+    (declared_behind first count n ks all.1 (λ m l. low (suc m) (omega (arith, l))) (λ m l g. high (suc m) (omega (arith, l)) (omega (arith, g))))
 
-pub declared_last : (first count i : ℕ) (ks : List ℕ) → AreRising ks → suc i ≡ length ks → get_or ks i 0 ≡ first → 0 < count → take i ks ≡ without_declared first count ks
-declared_last first count i [] up e last some = absurd (omega (arith, e))
-declared_last first count zero (k ∷ []) up e last some = declared_one first count k last some
-declared_last first count (suc i) (k ∷ []) up e last some = absurd (omega (arith, e))
-declared_last first count zero (k ∷ x ∷ xs) up e last some = absurd (omega (arith, e))
-declared_last first count (suc i) (k ∷ x ∷ xs) up e last some =
-    let high : k < get_or (x ∷ xs) i 0 = Each-at (λ y. k < y) (x ∷ xs) i 0 up.0 (omega (arith, e)) in
-    undeclared_one first count k (x ∷ xs) (take i (x ∷ xs)) (omega (arith, high, last)) (declared_last first count i (x ∷ xs) up.1 (omega (arith, e)) last some)
+pub declared_last : (first count n i : ℕ) (ks : List ℕ) → AreRising ks → suc i ≡ length ks → get_or ks i 0 < first + count → ((m : ℕ) → m < n → get_or ks m 0 < first) → ((m : ℕ) → n ≤ m → m < length ks → first ≤ get_or ks m 0)
+    → take n ks ≡ without_declared first count ks
+declared_last first count n i ks up e last low high = declared_behind first count n ks (above_all (first + count) ks i up e last) low high
+
+-- a procedure whose body has the position that it is told to
+pub procedure_front : (left kept : ℕ) (list bodies : List ℕ) → AreRising list → take kept list ≡ bodies → with_position left (take kept list) ≡ take kept list → take kept list ≡ with_position left (with_positions [] bodies)
+procedure_front left kept list bodies up e has = sym has ∙ ap (with_position left) (front_risen kept list bodies up e)
 
 -- ---- a sequence whose first statement has all
 
@@ -90,6 +100,29 @@ sequence_first len lists (c ∷ cs) others d whole some bodies up is e =
     let rises : AreRising (free_at len lists c) = each_at AreRising lists (len - suc c.0) [] up here in
     ap (λ (xs : List ℕ). free_in_each (free_at len lists) xs (map bare_scope cs)) (ap (with_positions []) (bare (free_at len lists c)) ∙ risen (free_at len lists c) rises ∙ sym is)
     ∙ ap (λ (os : List CodeId). free_in_each (free_at len lists) whole (map bare_scope os)) (sym e)
+
+-- .. from those of the first two on
+pub others_of_two : (cs : List CodeId) → take (length cs - 2) (drop 2 cs) ≡ drop 2 cs
+others_of_two [] = refl
+others_of_two (c ∷ []) = refl
+others_of_two (c ∷ b ∷ cs) = let n : suc (suc (length cs)) - 2 ≡ length cs = omega arith in ap (λ (k : ℕ). take k cs) n ∙ take-length cs
+
+pub sequence_merged : (len : ℕ) (lists : List (List ℕ)) (cs others : List CodeId) (d e : CodeId) (some more : List ℕ) → 2 ≤ length cs → AreRising some → some ≡ free_at len lists (get_or cs 0 d)
+    → more ≡ free_at len lists (get_or cs 1 e) → others ≡ drop 2 cs → free_in_each (free_at len lists) (with_positions some more) (map bare_scope others) ≡ free_in_each (free_at len lists) [] (map bare_scope cs)
+sequence_merged len lists [] others d e some more two up is at o = absurd (omega (arith, two))
+sequence_merged len lists (c ∷ []) others d e some more two up is at o = absurd (omega (arith, two))
+sequence_merged len lists (c ∷ b ∷ cs) others d e some more two up is at o =
+    let first : some ≡ with_positions [] (without_declared 0 0 (free_at len lists c)) = sym (risen some up) ∙ ap (with_positions []) (is ∙ sym (bare (free_at len lists c))) in
+    let second : more ≡ without_declared 0 0 (free_at len lists b) = at ∙ sym (bare (free_at len lists b)) in
+    ap (λ (os : List CodeId). free_in_each (free_at len lists) (with_positions some more) (map bare_scope os)) o
+    ∙ ap (λ (xs : List ℕ). free_in_each (free_at len lists) (with_positions xs more) (map bare_scope cs)) first
+    ∙ ap (λ (xs : List ℕ). free_in_each (free_at len lists) (with_positions (with_positions [] (without_declared 0 0 (free_at len lists c))) xs) (map bare_scope cs)) second
+
+-- each list ascends
+pub list_rises : (len : ℕ) (lists : List (List ℕ)) (c : CodeId) (list : List ℕ) → HasFree len lists c → Each AreRising lists → list ≡ free_at len lists c → AreRising list
+list_rises len lists c list has up is =
+    let here : len - suc c.0 < length lists = omega (arith, has.0, has.1) in
+    rw is (each_at AreRising lists (len - suc c.0) [] up here)
 
 -- the whole of a statement's positions
 whole_list : (len : ℕ) (lists : List (List ℕ)) (c : CodeId) (whole all : List ℕ) (at : ℕ) → HasFree len lists c → whole ≡ free_at len lists c → at ≡ len - suc c.0 → whole ≡ all → IsPrefixOf lists all (at, length whole)

@@ -1,12 +1,14 @@
 pub mod Elements
 pub mod OrderLemmas
 pub mod Below
+pub mod FewLemmas
 pub mod FreeLemmas
 pub mod PreorderLemmas
 pub mod ShortLemmas
 pub mod PositionListLemmas
 pub mod BodyLemmas
 pub mod FrontLemmas
+pub mod MergeLemmas
 pub mod TableLemmas
 pub mod ArithmeticLemmas
 pub mod SugarItems

@@ -123,3 +123,9 @@ position_above k (j ∷ js) h =
 -- the next position of a list
 pub with_positions_next : (js ks : List ℕ) (i : ℕ) → i < length ks → with_positions (with_position (get_or ks i 0) js) (drop (i + 1) ks) ≡ with_positions js (drop i ks)
 with_positions_next js ks i l = rw (add-one i) (sym (ap (with_positions js) (drop-cons ks i 0 l)))
+
+-- those before a place, by the last of them
+pub below_place : (k : ℕ) (js : List ℕ) (n m : ℕ) → AreRising js → n ≤ length js → get_or js (n - 1) 0 < k → m < n → get_or js m 0 < k
+below_place k js n m up within low l =
+    let r = rise js up m (n - 1) (omega (arith, l)) (omega (arith, within, l)) in
+    omega (arith, r, low)

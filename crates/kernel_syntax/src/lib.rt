@@ -27,9 +27,11 @@
 
 mod bodies;
 mod built_in;
+mod few;
 mod fronts;
 mod laws;
 mod limits;
+mod merge;
 mod position_lists;
 mod preorder;
 mod program;
