@@ -12,3 +12,4 @@ pub mod Boundaries
 pub mod Cuts
 pub mod NextLemmas
 pub mod Dividing
+pub mod FrequentWords

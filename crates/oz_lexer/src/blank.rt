@@ -65,14 +65,19 @@ fn from_newline(text: &[u8]) -> &[u8]
     text.split_at(line_length(text)).1
 }
 
-/// The text behind the blank or comment at the front, where there is one.
+/// The text behind the blank or comment at the front, where there is one. The space is looked for first. No byte behind `?`, as
+/// letters are, begins either.
 fn behind_blank(text: &[u8]) -> Result<Option<&[u8]>, LexKind>
     ensures { seen_blank result ≡ behind_blank text.now }
 {
     match text {
         [] => Ok(None),
         [first, rest @ ..] => {
-            if is_blank(*first) {
+            if *first == b' ' {
+                Ok(Some(rest))
+            } else if *first > b'?' {
+                Ok(None)
+            } else if is_blank(*first) {
                 Ok(Some(rest))
             } else if *first == b'%' {
                 Ok(Some(from_newline(rest)))

@@ -1,9 +1,10 @@
 //! Bytes of tokens, and how far a token without quotes reaches.
 
-ghost use Rattle.std.specs.Prelude.{◌≡◌, ◌+◌, ◌≤◌, ◌∷◌, length};
+ghost use Rattle.std.specs.Prelude.{◌≡◌, ◌+◌, ◌≤◌, ◌∷◌, true, length};
 ghost use Rattle.std.specs.Char.{is_ascii_digit};
 ghost use Rattle.std.specs.List.{prefix_len};
 ghost use Rattle.tree_node.specs.Spelling.{is_word_byte};
+ghost use Rattle.tree_node.specs.Words.{is_reserved};
 ghost use Rattle.oz_lexer.specs.Spelling.{is_control, is_escape, is_name};
 ghost use Rattle.oz_lexer.specs.Blanks.{is_blank};
 ghost use Rattle.oz_lexer.specs.Scan.{is_one_byte_sign, is_two_byte_sign, sign_length, minus_length, token_length, token_kind};
@@ -131,6 +132,59 @@ pub fn token_length(first: u8, rest: &[u8]) -> usize
     }
 }
 
+/// Whether these bytes are `then`, `else` or `local`.
+#[tactic(auto, using(crate::proofs::FrequentWords::then_is, crate::proofs::FrequentWords::else_is, crate::proofs::FrequentWords::local_is))]
+fn is_longer_word(bytes: &[u8]) -> bool
+    ensures { result ≡ true → is_reserved bytes.now ≡ true }
+{
+    if bytes.len() == 4
+        && bytes[0] == b't'
+        && bytes[1] == b'h'
+        && bytes[2] == b'e'
+        && bytes[3] == b'n'
+    {
+        return true;
+    }
+    if bytes.len() == 4
+        && bytes[0] == b'e'
+        && bytes[1] == b'l'
+        && bytes[2] == b's'
+        && bytes[3] == b'e'
+    {
+        return true;
+    }
+    if bytes.len() == 5
+        && bytes[0] == b'l'
+        && bytes[1] == b'o'
+        && bytes[2] == b'c'
+        && bytes[3] == b'a'
+        && bytes[4] == b'l'
+    {
+        return true;
+    }
+    false
+}
+
+/// Whether these bytes are a word of declarations or of `if`.
+#[tactic(auto, unfolding(tree_node::specs::Words::reserved_words))]
+fn is_frequent_word(bytes: &[u8]) -> bool
+    ensures { result ≡ true → is_reserved bytes.now ≡ true }
+{
+    match bytes {
+        [b'i', b'n'] | [b'i', b'f'] => true,
+        [b'e', b'n', b'd'] | [b'f', b'u', b'n'] => true,
+        _ => is_longer_word(bytes),
+    }
+}
+
+/// Whether these bytes are one of the reserved words. Those of declarations and of `if` are most of all words: so they are told
+/// apart at once.
+fn is_reserved(bytes: &[u8]) -> bool
+    ensures { result ≡ is_reserved bytes.now }
+{
+    is_frequent_word(bytes) || is_reserved_word(bytes)
+}
+
 /// What kind of token a byte begins, of which these are all bytes.
 pub fn token_kind(first: u8, bytes: &[u8]) -> TokenKind
     ensures { result ≡ token_kind first bytes.now }
@@ -138,7 +192,7 @@ pub fn token_kind(first: u8, bytes: &[u8]) -> TokenKind
     if first.is_ascii_uppercase() {
         TokenKind::Variable
     } else if first.is_ascii_lowercase() {
-        if is_reserved_word(bytes) {
+        if is_reserved(bytes) {
             TokenKind::Word
         } else {
             TokenKind::Atom

@@ -71,7 +71,7 @@ fn placed_selector(selector: &Selector, places: &[u32]) -> Result<Selector, Allo
 }
 
 /// The positions of the parts of an operator or a test.
-fn operands(parts: &[u32]) -> (u32, u32)
+pub fn operands(parts: &[u32]) -> (u32, u32)
     ensures left { result.0 ≡ slice_index parts.now 0 }
     ensures right { result.1 ≡ slice_index parts.now 1 }
 {

@@ -1,5 +1,6 @@
 -- Texts that are found and made as they are spelled.
-use Rattle.std.proofs.Common.{◌≡◌, ◌∙◌, sym, refl, ℕ, List, [], ◌∷◌, Bool, true, false, cond, Some, eqb}
+use Rattle.std.proofs.Common.{◌≡◌, ◌∙◌, sym, refl, ap, ℕ, List, [], ◌∷◌, length, Bool, true, false, cond, Some, eqb}
+use Rattle.std.specs.Prelude.{slice_index}
 use Rattle.std.specs.Borrow.{Bor}
 use Rattle.std.specs.Cmp.Lexicographic.{pointwise, bytes_decides}
 use Rattle.std.specs.Str.{bytes_eq}
@@ -10,6 +11,14 @@ use Rattle.oz_symbols.specs.Texts.{Entries, AreSpelled}
 -- texts that compare equal are the same
 pub same_bytes : (x y : List ℕ) → bytes_eq x y ≡ true → x ≡ y
 same_bytes x y e = (bytes_decides x y).0 e
+
+-- texts of one letter are the same where the letters are
+pub same_letter : (x y : List ℕ) → length x ≡ 1 → length y ≡ 1 → slice_index x 0 ≡ slice_index y 0 → x ≡ y
+same_letter [] y one other e = absurd cc
+same_letter (a ∷ []) [] one other e = absurd cc
+same_letter (a ∷ []) (b ∷ []) one other e = ap (λ (n : ℕ). n ∷ []) e
+same_letter (a ∷ []) (b ∷ c ∷ y) one other e = absurd cc
+same_letter (a ∷ d ∷ x) y one other e = absurd cc
 
 some_is : {v t : List ℕ} → Some v ≡ Some t → v ≡ t
 some_is e = cc

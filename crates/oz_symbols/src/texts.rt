@@ -1,6 +1,6 @@
 //! Interned texts, and a direct-mapped cache of those that were met lately.
 
-ghost use Rattle.std.specs.Prelude.{◌≡◌, IfOk, IfSome};
+ghost use Rattle.std.specs.Prelude.{◌≡◌, true, IfOk, IfSome};
 
 use indexmap::IndexMap;
 use std::alloc::{AllocError, Global};
@@ -42,8 +42,18 @@ fn place_of(spelled: &[u8]) -> usize {
     (first + 5 * middle + 23 * last) % RECENT
 }
 
+/// Whether a text is spelled so. One letter, as many names have, is compared at once.
+#[tactic(auto, using(crate::proofs::Interning::same_bytes, crate::proofs::Interning::same_letter))]
+fn is_spelled(text: &[u8], spelled: &[u8]) -> bool
+    ensures { result ≡ true → text.now ≡ spelled.now }
+{
+    if text.len() == 1 && spelled.len() == 1 && text[0] == spelled[0] {
+        return true;
+    }
+    text == spelled
+}
+
 /// The text that the cache has at a place, if it is spelled so.
-#[tactic(auto, using(crate::proofs::Interning::same_bytes))]
 fn found<'a>(recent: &'a [Option<Text>], at: usize, spelled: &[u8]) -> Option<&'a Text>
     ensures { IfSome result (λ t. t.now ≡ spelled.now) }
 {
@@ -52,7 +62,7 @@ fn found<'a>(recent: &'a [Option<Text>], at: usize, spelled: &[u8]) -> Option<&'
     }
     match &recent[at] {
         Some(text) => {
-            if text.as_slice() == spelled {
+            if is_spelled(text.as_slice(), spelled) {
                 Some(text)
             } else {
                 None

@@ -1,6 +1,7 @@
 -- What is read with a number of levels, one step each.
-use Rattle.std.proofs.Common.{◌≡◌, ℕ, List, [], ◌∷◌, length, Ok, Option, None, refl}
+use Rattle.std.proofs.Common.{◌≡◌, ℕ, List, [], ◌∷◌, length, false, Ok, Option, None, refl}
 use Rattle.std.specs.Prelude.{drop, if◌then◌else◌}
+use Rattle.kernel_syntax.specs.Sugar.{Value}
 use Rattle.oz_grammar.specs.declared.symbol.Symbol.{Symbol}
 use Rattle.oz_grammar.specs.declared.symbol.Symbol.TheVariants as t
 use Rattle.oz_grammar.specs.declared.fault.FaultKind.{FaultKind}
@@ -10,8 +11,8 @@ use Rattle.oz_grammar.specs.Scoping.{Scope}
 use Rattle.oz_grammar.specs.Faults.{fewer}
 use Rattle.oz_grammar.specs.Reading.{◌>>=◌, fault_expected}
 use Rattle.surface_grammar.specs.declared.parts.Closer.TheVariants as closer
-use Rattle.surface_grammar.specs.Reading.{on_level, is_at_statement, is_at_compound, variable_at, integer_at, compound_at, selections_at, behind_head_at, behind_part_at, if_value_at, case_value_at, kind_at, sequence_at, below, program_at}
-use Rattle.surface_reader.specs.Signs.{is_variable, is_integer, is_if, is_case}
+use Rattle.surface_grammar.specs.Reading.{Readers, on_level, is_at_statement, is_at_compound, variable_at, integer_at, compound_at, selections_at, behind_head_at, behind_part_at, if_value_at, case_value_at, kind_at, sequence_at, below, program_at}
+use Rattle.surface_reader.specs.Signs.{is_variable, is_integer, is_if, is_case, goes_on}
 use Rattle.surface_reader.specs.Levels.{read_value, read_primary, read_part, read_operand, read_tail, read_statement}
 
 pub value_is : (d : ℕ) (scope : Scope) (holder : Option FaultKind) (w : What) (symbols : List Symbol)
@@ -24,6 +25,14 @@ value_is d scope holder w [] = refl
 value_is d scope holder w (t.If ∷ rest) = refl
 value_is d scope holder w (t.Case ∷ rest) = refl
 value_is d scope holder w (symbol ∷ rest) = refl
+
+-- a part alone is a value
+pub part_alone : (inner : Readers) (scope : Scope) (left : ℕ) (p : Value × ℕ) (symbols : List Symbol) → goes_on symbols ≡ false → behind_part_at inner scope left p symbols ≡ Ok (p.0, symbols)
+part_alone inner scope left p [] e = refl
+part_alone inner scope left p (t.Operator o ∷ rest) e = absurd cc
+part_alone inner scope left p (t.Test o ∷ rest) e = absurd cc
+part_alone inner scope left p (t.Bar ∷ rest) e = absurd cc
+part_alone inner scope left p (symbol ∷ rest) e = refl
 
 pub part_is : (d : ℕ) (scope : Scope) (holder : Option FaultKind) (w : What) (symbols : List Symbol) → read_part d scope holder w symbols ≡ (read_primary d scope holder w symbols >>= λ p. selections_at p.0.1 scope (length symbols) p.0.0 p.1)
 unfolding read_part read_primary

@@ -1,5 +1,5 @@
 -- One step of what is read by recursion on a number.
-use Rattle.std.proofs.Common.{◌≡◌, ℕ, zero, suc, ◌-◌, ◌<◌, List, [], ◌∷◌, drop, true, false, Result, Ok, Err, None, refl, arith}
+use Rattle.std.proofs.Common.{◌≡◌, ◌∙◌, ap, ℕ, zero, suc, ◌+◌, ◌-◌, ◌<◌, List, [], ◌∷◌, length, drop, Bool, true, false, Result, Ok, Err, None, refl, arith}
 use Rattle.std.specs.Prelude.{if◌then◌else◌}
 use Rattle.kernel_syntax.specs.declared.sugar.Operation.TheVariants as operation
 use Rattle.kernel_syntax.specs.Sugar as sugar
@@ -90,6 +90,11 @@ pub others_some : (statement : StatementReader) (c : Closer) (scope : Scope) (n 
 unfolding others_at
 others_some statement c scope zero before symbols h = absurd (omega arith)
 others_some statement c scope (suc n) before symbols h = let e : suc n - 1 ≡ n = omega arith in rw e refl
+
+pub others_end : (statement : StatementReader) (c : Closer) (scope : Scope) (before : Statements) (symbols : List Symbol) → is_end_of c symbols ≡ true → others_at statement c scope (length symbols + 1) before symbols ≡ Ok (before, symbols)
+others_end statement c scope before symbols ends =
+    others_some statement c scope (length symbols + 1) before symbols (omega arith)
+    ∙ ap (λ (b : Bool). if b then Ok (before, symbols) else (statement scope (expected_behind c) symbols >>= λ s. others_at statement c scope (length symbols + 1 - 1) (with_statement before s.0) s.1)) ends
 
 -- ---- clauses
 

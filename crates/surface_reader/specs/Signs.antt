@@ -32,3 +32,10 @@ is_if symbols = false
 abbrev pub is_case : List Symbol → Bool
 is_case (t.Case ∷ rest) = true
 is_case symbols = false
+
+-- what goes on with a value behind its first part: an operator, a test or a bar
+abbrev pub goes_on : List Symbol → Bool
+goes_on (t.Operator o ∷ rest) = true
+goes_on (t.Test o ∷ rest) = true
+goes_on (t.Bar ∷ rest) = true
+goes_on symbols = false

@@ -3,7 +3,7 @@
 ghost use Rattle.std.specs.Prelude.{◌≡◌, drop};
 ghost use Rattle.oz_grammar.specs.Reading.{is_close_round};
 ghost use Rattle.surface_grammar.specs.Reading.{begins_compound, is_at_compound, is_at_statement, is_close, is_closer, is_end_of, expected_behind};
-ghost use Rattle.surface_reader.specs.Signs.{is_dot, is_clause, is_variable, is_integer, is_if, is_case};
+ghost use Rattle.surface_reader.specs.Signs.{is_dot, is_clause, is_variable, is_integer, is_if, is_case, goes_on};
 
 use oz_grammar::{Symbol, What};
 use surface_grammar::Closer;
@@ -65,6 +65,18 @@ pub fn is_dot(symbols: &[Symbol]) -> bool
 {
     match symbols {
         [Symbol::Dot, ..] => true,
+        _ => false,
+    }
+}
+
+/// Whether an operator, a test or a bar stands here: a value goes on behind its first part.
+pub fn goes_on(symbols: &[Symbol]) -> bool
+    ensures { result ≡ goes_on symbols.now }
+{
+    match symbols {
+        [Symbol::Operator(_), ..] => true,
+        [Symbol::Test(_), ..] => true,
+        [Symbol::Bar, ..] => true,
         _ => false,
     }
 }

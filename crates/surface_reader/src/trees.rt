@@ -41,18 +41,18 @@ pub fn push_value(values: &mut Vec<Value>, value: Value) -> Result<(), AllocErro
     Ok(())
 }
 
-/// A statement that begins a sequence: with room for more behind it, unless it is the last.
+/// A sequence of one statement.
+pub fn one_statement(alloc: Global, statement: Statement) -> Result<Vec<Statement>, AllocError>
+    ensures { IfOk result (λ v. statements_in v.items ≡ statement_and (statement_of statement) no_statements) }
+{
+    Ok(vec![in alloc; statement]?)
+}
+
+/// A statement that begins a sequence, with room for more behind it.
 #[tactic(auto, using(crate::proofs::Rows::statement_pushed))]
-pub fn first_statement(
-    alloc: Global,
-    first: Statement,
-    is_last: bool,
-) -> Result<Vec<Statement>, AllocError>
+pub fn first_statement(alloc: Global, first: Statement) -> Result<Vec<Statement>, AllocError>
     ensures { IfOk result (λ v. statements_in v.items ≡ statement_and (statement_of first) no_statements) }
 {
-    if is_last {
-        return Ok(vec![in alloc; first]?);
-    }
     let mut statements = Vec::with_capacity(alloc, 4)?;
     push_statement(&mut statements, first)?;
     Ok(statements)

@@ -1,6 +1,6 @@
 //! What stands for values.
 
-ghost use Rattle.std.specs.Prelude.{◌≡◌, ◌+◌, ◌<◌, ◌≤◌, ◌^◌, pos, [], ◌∷◌, length, IfOk, OnOk};
+ghost use Rattle.std.specs.Prelude.{◌≡◌, ◌+◌, ◌<◌, ◌≤◌, ◌^◌, pos, [], ◌∷◌, length, slice_index, IfOk, OnOk};
 ghost use Rattle.kernel_syntax.specs.declared.stmt.Stmt.TheVariants as stmt;
 ghost use Rattle.kernel_syntax.specs.Sugar.{Value as Tree, Apply, Record, ValueClauses, no_values, new_of, new_in, part_and, pair_of};
 ghost use Rattle.tree_node.specs.declared.node.Feature.TheVariants as feature;
@@ -11,7 +11,7 @@ ghost use Rattle.oz_sugar.specs.Writing.{add, behind, held_place, new_rows, hold
 
 use super::Writer;
 use crate::depth::{new_in, new_in_pair, new_of};
-use crate::leaves::{operation_row, slot_places, two_bodies};
+use crate::leaves::{operands, operation_row, slot_places, two_bodies};
 use kernel_syntax::sugar::{Field, Link, Operation, Pair, Statement, Value, ValueClause};
 use kernel_syntax::{Bodies, Slots, Stmt};
 use std::alloc::AllocError;
@@ -69,6 +69,26 @@ impl Writer {
             positions.push(self.hold(part)?)?;
         }
         Ok(positions)
+    }
+
+    /// The positions of an operator's parts, which are two: they need no list.
+    #[cycle(writer)]
+    fn hold_two(&mut self, parts: &[Value]) -> Result<(u32, u32), AllocError>
+        ensures first { IfOk result (λ y. y.0 ≡ slice_index (write_all (values_in parts.now) self.old.places self.old.around [] self.old.rows).0 0) }
+        ensures second { IfOk result (λ y. y.1 ≡ slice_index (write_all (values_in parts.now) self.old.places self.old.around [] self.old.rows).0 1) }
+        ensures rows { OnOk result (self.new ≡ state_of (write_all (values_in parts.now) self.old.places self.old.around [] self.old.rows).1 self.old.places (self.old.around + new_in (values_in parts.now))) }
+        ensures grows { OnOk result (length self.old.rows ≤ length self.new.rows) }
+    {
+        match parts {
+            [first, second] => {
+                let before = self.hold(first)?;
+                Ok((before, self.hold(second)?))
+            }
+            _ => {
+                let positions = self.hold_all(parts)?;
+                Ok(operands(positions.as_slice()))
+            }
+        }
     }
 
     /// What stands for a value that is told to a position.
@@ -376,9 +396,23 @@ impl Writer {
         ensures grows { OnOk result (length self.old.rows ≤ length self.new.rows) }
     {
         let outer = self.around;
-        let positions = self.hold_all(parts)?;
-        let row = operation_row(operation, self.places.as_slice(), positions, told)?;
-        self.add(row)?;
+        match operation {
+            Operation::Calc(op) => {
+                let (a, b) = self.hold_two(parts)?;
+                let (left, op) = (told, *op);
+                self.add(Stmt::Calc { left, op, a, b })?;
+            }
+            Operation::Test(op) => {
+                let (a, b) = self.hold_two(parts)?;
+                let (left, op) = (told, *op);
+                self.add(Stmt::Test { left, op, a, b })?;
+            }
+            _ => {
+                let positions = self.hold_all(parts)?;
+                let row = operation_row(operation, self.places.as_slice(), positions, told)?;
+                self.add(row)?;
+            }
+        }
         self.around = outer;
         Ok(())
     }

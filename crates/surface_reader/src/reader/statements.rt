@@ -10,7 +10,7 @@ ghost use Rattle.surface_reader.specs.Levels.{read_value, read_statement, reader
 
 use super::Reader;
 use crate::signs::{expected_behind, is_at_statement, is_end_of};
-use crate::trees::{first_statement, local, push_statement, raise, thread};
+use crate::trees::{first_statement, local, one_statement, push_statement, raise, thread};
 use kernel_syntax::sugar::Statement;
 use oz_grammar::{Sign, Symbol, What};
 use oz_phrases::{Stop, mismatch, site, used_variable};
@@ -181,8 +181,9 @@ impl<'t> Reader<'t> {
         Ok(statements)
     }
 
-    /// A sequence up to what closes it.
+    /// A sequence up to what closes it. Most have one statement: they do without a list that grows.
     #[cycle(reader)]
+    #[tactic(auto, using(crate::proofs::Unfold::others_end))]
     pub(super) fn sequence(
         &mut self,
         depth: u32,
@@ -193,6 +194,9 @@ impl<'t> Reader<'t> {
         ensures moves { OnOk result (IsBehind self.old self.new) }
     {
         let first = self.statement(depth, what)?;
+        if is_end_of(closer, self.rest) {
+            return Ok(one_statement(self.alloc, first)?);
+        }
         self.others(depth, closer, first)
     }
 
@@ -208,8 +212,7 @@ impl<'t> Reader<'t> {
         ensures read { IsReadAs (λ q. (statements_in q.items, self.new.rest)) result (others_at (read_statement depth) closer self.old.scope (length self.old.rest + 1) (statement_and (statement_of first) no_statements) self.old.rest) }
         ensures moves { OnOk result (IsNotBefore self.old self.new) }
     {
-        let is_last = is_end_of(closer, self.rest);
-        let mut statements = first_statement(self.alloc, first, is_last)?;
+        let mut statements = first_statement(self.alloc, first)?;
         let mut room = self.rest.len() + 1;
         while room > 0 {
             if is_end_of(closer, self.rest) {

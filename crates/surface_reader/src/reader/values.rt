@@ -8,7 +8,9 @@ ghost use Rattle.surface_reader.specs.State.{IsBehind, IsNotBefore};
 ghost use Rattle.surface_reader.specs.Levels.{read_value, read_primary, read_part, read_operand, read_tail, readers};
 
 use super::{Reader, inside};
-use crate::signs::{behind, is_at_compound, is_case, is_dot, is_if, is_integer, is_variable};
+use crate::signs::{
+    behind, goes_on, is_at_compound, is_case, is_dot, is_if, is_integer, is_variable,
+};
 use crate::trees::{apply_two, brackets, pair_value, select};
 use kernel_syntax::sugar::{Operation, Value};
 use oz_grammar::{FaultKind, Sign, Symbol, What};
@@ -49,7 +51,7 @@ impl<'t> Reader<'t> {
     /// A value with so many levels, where its holder may have something wrong at its first symbol, and this is expected if none
     /// begins.
     #[cycle(reader)]
-    #[tactic(auto, using(crate::proofs::Steps::value_is))]
+    #[tactic(auto, using(crate::proofs::Steps::value_is, crate::proofs::Steps::part_alone))]
     pub(super) fn value(
         &mut self,
         depth: u32,
@@ -71,6 +73,9 @@ impl<'t> Reader<'t> {
             return self.case_value(inner, left);
         }
         let (first, levels) = self.part(depth, holder, what)?;
+        if !goes_on(self.rest) {
+            return Ok(first);
+        }
         self.behind_part(depth, left, first, levels)
     }
 
