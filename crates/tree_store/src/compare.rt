@@ -10,14 +10,14 @@ ghost use Rattle.tree_store.specs.Front.{IsMatchedFront};
 use crate::small_set::SmallSet;
 use crate::store::{Root, Store};
 use std::alloc::{AllocError, Global};
-use tree_node::{Feature, Node, VarName, Vars, equal_bytes, equal_features, equal_text};
+use tree_node::{Feature, Node, VarList, VarName, equal_bytes, equal_features, equal_text};
 
 /// What a store tells of two variables: they are equal, or different, or these variables, which have no node, are open in them.
 #[derive(Drop)]
 pub enum Compared {
     Equal,
     Different,
-    Open(Vars),
+    Open(VarList),
 }
 
 /// What a pair tells by itself: its sides are equal, or different, or as the fields of these two records are, or it is not
@@ -59,6 +59,7 @@ fn find_by_nodes<'a>(left: &'a Node, right: &'a Node) -> Finding<'a>
 }
 
 /// What two variables tell that stand for their classes.
+#[inline(always)]
 pub fn find(store: &Store, left: VarName, right: VarName) -> Finding<'_>
     requires left { root_of store.now.equations left ≡ left }
     requires right { root_of store.now.equations right ≡ right }
@@ -95,6 +96,7 @@ pub fn add_parts(
 }
 
 // A variable that stands for its class goes behind the open ones, if the class has no node.
+#[inline(always)]
 fn add_open(
     store: &Store,
     open_vars: &mut SmallSet<VarName>,
@@ -165,7 +167,7 @@ fn unless_open(open_vars: SmallSet<VarName>) -> Result<Compared, AllocError>
         return Ok(Compared::Equal);
     }
     let vars = open_vars.into_vec()?;
-    Ok(Compared::Open(Vars::from_vec(vars)?))
+    Ok(Compared::Open(VarList::from_vec(vars)))
 }
 
 /// Whether two variables are equal or different for all that a store tells, or which variables are open in them. The search begins

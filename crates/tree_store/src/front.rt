@@ -20,7 +20,7 @@ use tree_node::VarName;
 /// whatever more becomes known.
 #[derive(Drop)]
 pub struct Front {
-    pub pairs: SmallSet<(VarName, VarName)>,
+    pub pairs: Pairs,
     pub at: usize,
 }
 
@@ -30,9 +30,10 @@ pub type Fronts = IndexMap<(VarName, VarName), Front>;
 // Fronts of so many pairs are not kept.
 const FEW_PAIRS: usize = 4;
 
-/// Whether a front is worth keeping. So few pairs are sooner looked at again than put into a table and taken from it.
-pub fn is_long(front: &Front) -> bool {
-    front.pairs.len() > FEW_PAIRS
+/// Whether the front of a comparison that came to so many pairs is worth keeping. Few are sooner looked at again than put into a table and
+/// taken from it.
+pub fn are_many(pairs: usize) -> bool {
+    pairs > FEW_PAIRS
 }
 
 /// Takes the front of a pair, if it has one.
@@ -61,22 +62,22 @@ pub fn put(
     Ok(())
 }
 
-// The front with which a comparison begins.
-fn begin(alloc: Global, store: &Store, left: VarName, right: VarName) -> Result<Front, AllocError>
+/// Pairs that a comparison comes to.
+pub type Pairs = SmallSet<(VarName, VarName)>;
+
+// The front with which a comparison begins, in the memory of pairs that are done with.
+#[inline(always)]
+fn begin(memory: Pairs, store: &Store, left: VarName, right: VarName) -> Result<Front, AllocError>
     ensures { IfOk result (λ f. IsMatchedFront (left, right) store.now.equations f.pairs f.at) }
 {
-    let mut pairs = SmallSet::new(alloc);
+    let mut pairs = memory;
+    pairs.truncate(0);
     pairs.insert((store.class_of(left), store.class_of(right)))?;
     Ok(Front { pairs, at: 0 })
 }
 
 // What a pair leads to that matches goes behind the others. The answer is whether it matches.
-fn pass(
-    store: &Store,
-    pairs: &mut SmallSet<(VarName, VarName)>,
-    left: VarName,
-    right: VarName,
-) -> Result<bool, AllocError>
+fn pass(store: &Store, pairs: &mut Pairs, left: VarName, right: VarName) -> Result<bool, AllocError>
     requires left { root_of store.now.equations left ≡ left }
     requires right { root_of store.now.equations right ≡ right }
     ensures matches { IfOk result (λ b. b ≡ true → IsMatched (relation store.now.equations (left, right))) }
@@ -118,27 +119,59 @@ fn pass_matched(store: &Store, front: &mut Front) -> Result<(), AllocError>
     Ok(())
 }
 
-/// A comparison goes on from what is kept of it, or begins. Beside what it answers it hands back the front, which has gone on over
+/// A comparison of which nothing is kept, in the memory of pairs that are done with. It answers besides the pairs to which it came.
+pub fn search(
+    alloc: Global,
+    memory: Pairs,
+    store: &Store,
+    left: VarName,
+    right: VarName,
+) -> Result<(Compared, Pairs), AllocError>
+    ghost sides: { Pair }
+    requires { sides ≡ (left, right) }
+    ensures { IfOk result (λ r. comparison_of r.0 ≡ compared store.now.equations sides) }
+{
+    let Front { pairs, at } = begin(memory, store, left, right)?;
+    let mut pairs = pairs;
+    let compared = search_on(alloc, store, &mut pairs, at)?;
+    Ok((compared, pairs))
+}
+
+/// How far a comparison comes: the front that has gone on over the pairs that match, to the first that does not.
+pub fn first_front(
+    alloc: Global,
+    store: &Store,
+    left: VarName,
+    right: VarName,
+) -> Result<Front, AllocError>
+    ghost sides: { Pair }
+    requires { sides ≡ (left, right) }
+    ensures front { IfOk result (λ f. IsMatchedFront sides store.now.equations f.pairs f.at) }
+    ensures stops { IfOk result (λ f. IsAtUnmatched store.now.equations f.pairs f.at) }
+{
+    let mut front = begin(SmallSet::new(alloc), store, left, right)?;
+    pass_matched(store, &mut front)?;
+    Ok(front)
+}
+
+/// A comparison goes on from what is kept of it. Beside what it answers it hands back the front, which has gone on over
 /// the pairs that match, to the first that does not. Pairs behind that one are not kept, since parts that become known stand before them.
 pub fn resume(
     alloc: Global,
     store: &Store,
     left: VarName,
     right: VarName,
-    kept: Option<Front>,
+    kept: Front,
 ) -> Result<(Compared, Front), AllocError>
     ghost sides: { Pair }
     requires sides { sides ≡ (left, right) }
-    requires kept { IfSome kept (λ f. IsMatchedFront sides store.now.equations f.pairs f.at) }
+    requires kept { IsMatchedFront sides store.now.equations kept.pairs kept.at }
     ensures answer { IfOk result (λ r. comparison_of r.0 ≡ compared store.now.equations sides) }
     ensures front { IfOk result (λ r. IsMatchedFront sides store.now.equations r.1.pairs r.1.at) }
     ensures stops { IfOk result (λ r. IsAtUnmatched store.now.equations r.1.pairs r.1.at) }
-    ensures goes_on { IfOk result (λ r. IfSome kept (λ f. HasGoneOn f.pairs f.at r.1.pairs r.1.at)) }
+    ensures goes_on { IfOk result (λ r. HasGoneOn kept.pairs kept.at r.1.pairs r.1.at) }
 {
-    let mut front = match kept {
-        Some(front) => front,
-        None => begin(alloc, store, left, right)?,
-    };
+    let mut front = kept;
     pass_matched(store, &mut front)?;
     let count = front.pairs.len();
     let compared = search_on(alloc, store, &mut front.pairs, front.at)?;

@@ -139,6 +139,7 @@ impl<T: Eq + Hash + Copy> SmallSet<T> {
 
     /// One key more, behind the others, unless it is among them.
     #[tactic(auto, using(crate::proofs::SmallSetLemmas::there_already, crate::proofs::SmallSetLemmas::new_among_few, crate::proofs::SmallSetLemmas::new_behind, crate::proofs::SmallSetLemmas::apart_more, crate::proofs::SmallSetLemmas::apart_behind))]
+    #[inline(always)]
     pub fn insert(&mut self, key: T) -> Result<(), AllocError>
         ensures ok { OnOk result (self.new ≡ with_new T.eq self.old key) }
         ensures err { OnErr result (self.new ≡ self.old) }

@@ -1,0 +1,4 @@
+use Rattle.tree_store.proofs.front.search.Given as goal
+
+abbrev pub ghost-search_on : goal.ghost-search_on
+ghost-search_on g a = g.sides
