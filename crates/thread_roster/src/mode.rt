@@ -6,7 +6,7 @@ ghost use Rattle.tree_node.specs.Store.{equal_var};
 ghost use Rattle.thread_roster.specs.Threads.{awaits, needs_one, is_waiting};
 ghost use Rattle.thread_roster.specs.Slots.{wakes, var_of};
 
-use tree_node::{CellName, PortName, VarName, Vars};
+use tree_node::{CellName, PortName, VarList, VarName};
 
 /// What a thread waits for that is no variable: a cell, which is its token or, where it is stationary, its content; or the end of a port.
 #[derive(Clone, Copy, Debug, PartialEq, Eq)]
@@ -22,7 +22,7 @@ pub enum Mode {
     Runs,
     Waits(VarName),
     Needs(VarName),
-    WaitsAny(Vars),
+    WaitsAny(VarList),
     WaitsFor(Awaited),
 }
 

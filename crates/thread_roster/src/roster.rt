@@ -1,6 +1,6 @@
 //! Threads by name.
 
-ghost use Rattle.std.specs.Prelude.{Contains, ℕ, ◌≡◌, ◌≢◌, ◌↔◌, ◌+◌, ◌∷◌, ◌++◌, [], List, None, Some, OnOk, OnErr, IfOk, IfSome, IfNone, IsTrue, IsSome, length};
+ghost use Rattle.std.specs.Prelude.{Contains, ℕ, ◌≡◌, ◌≢◌, ◌↔◌, ◌+◌, ◌∷◌, ◌++◌, [], List, None, Some, Bool, false, OnOk, OnErr, IfOk, IfSome, IfNone, IsTrue, IsSome, length};
 ghost use Rattle.std.specs.Borrow.{sem};
 ghost use Rattle.std.specs.Vec.{vec_len};
 ghost use Rattle.tree_node.specs.declared.names.ThreadName.{ThreadName as Named};
@@ -24,7 +24,7 @@ use crate::slots_by_name::{count_running, count_waiting, find, leave, next_runna
 use crate::table::SlotsByName;
 use std::alloc::{AllocError, Global};
 use std::marker::Model;
-use tree_node::{ThreadName, VarName, Vars};
+use tree_node::{ThreadName, VarList, VarName};
 use waiting_keys::Waiters;
 
 /// Threads by name, each with a value and how it stands, which contracts see as a list, the newest first, the number of
@@ -178,6 +178,13 @@ impl<V: Drop> Roster<V> {
         self.waiting
     }
 
+    /// Whether a thread may need the node of a variable: where none may, nobody goes on by one.
+    pub fn may_need(&self) -> bool
+        ensures { result ≡ false → (f : TheVar → Bool) → determine_all f self.now.living ≡ self.now.living }
+    {
+        !self.needers.is_empty()
+    }
+
     /// How many threads have ended.
     #[tactic(auto, using(crate::proofs::SlotLemmas::living_le))]
     pub fn ended(&self) -> usize
@@ -298,7 +305,7 @@ impl<V: Drop> Roster<V> {
 
     /// A thread waits until any of several variables is bound. It may be among the keys of the others still when it goes on, and
     /// is passed over there.
-    pub fn wait_any(&mut self, name: ThreadName, vars: Vars) -> Result<(), AllocError>
+    pub fn wait_any(&mut self, name: ThreadName, vars: VarList) -> Result<(), AllocError>
         requires lives { IsSome (value_of equal_thread self.old.living name) }
         requires some { vars ≢ [] }
         ensures living { OnOk result (self.new.living ≡ set_mode self.old.living name (stands.WaitsAny vars)) }

@@ -49,7 +49,8 @@ pub use laws::{
 pub use limits::{MOST_ITEMS, MOST_MESSAGES, MOST_SITES, MOST_STEPS, MOST_UNITS};
 pub use line::Line;
 pub use names::{
-    CellName, CodeId, Name, NameKind, NameList, PortName, ProcName, ThreadName, VarName, is_below,
+    CellName, CodeId, Name, NameKind, NameList, PortName, ProcName, ThreadName, VarList, VarName,
+    is_below,
 };
 pub use node::{
     Feature, Fields, Node, Term, Text, Vars, compare_features, copy_feature, copy_node, copy_term,

@@ -103,6 +103,9 @@ pub struct CodeId(pub u32);
 /// Names in the order in which a step takes them. The empty list, which most steps have, takes no memory.
 pub type NameList = Seq<Name>;
 
+/// Variables in order, which one owner holds.
+pub type VarList = Seq<VarName>;
+
 /// Whether a variable's name is below another: by site, then by number.
 pub fn is_below(lesser: VarName, greater: VarName) -> bool
     ensures { IsTrue result ↔ IsBelow lesser greater }
