@@ -33,7 +33,7 @@ use Rattle.site_cells.specs.Homes.{HomeTable}
 use Rattle.site_variables.specs.Variables.{stacks_of}
 use Rattle.site_units.specs.declared.data.Core.{Core}
 use Rattle.site_units.specs.Core.{site_of, stack_in, counters_of}
-use Rattle.site_units.specs.Invariant.{ThreadFits, CellsFit, PortFits, HomesFit, IsConsistent}
+use Rattle.site_units.specs.Invariant.{ThreadFits, CellsFit, PortFits, HomesFit, AwaitKnown, IsConsistent}
 use Rattle.site_units.proofs.SiteLemmas.{same_site}
 use Rattle.site_core.specs.Start.{IsBare, first_code, first_running, first_living}
 
@@ -105,6 +105,13 @@ none_waits p i n r a h = go (i == 1) h
     go true e = one (equal_thread first_thread n) e
     go false e = cc
 
+first_awaits : (p : List Stmt) (i : ℕ) (known : List VarName) → AwaitKnown known (first_living p i)
+first_awaits p i known = go (i == 1)
+  where
+    go : (b : Bool) → AwaitKnown known (cond b ((first_thread, (first_running p, Runs)) ∷ []) [])
+    go true = (tt, tt)
+    go false = tt
+
 none_made : (i n : ℕ) (x : VarName) → HasMade (first_fresh i n) (name.Var x) → Contains [] x
 none_made i n x h =
     let own : x.site ≡ i = let e : Some i ≡ Some x.site = h.0 in cc in
@@ -127,6 +134,7 @@ first_consistent p i n c is some among f = record {
   ports = subst (λ (ps : List Owned). Each (PortFits c.variables.store.known c.fresh) ps) (sym f.bare.ports) tt;
   homes = subst (λ (hs : HomeTable). HomesFit p c hs) (sym f.bare.homes) (λ cell. record { content = tt; news = tt; waits = tt; once = tt });
   asks = λ n r a e. absurd (none_waits p i n r a (ap (λ (l : List (Entry Running)). value_of equal_thread l n) (sym f.living) ∙ e));
+  awaits = subst (AwaitKnown c.variables.store.known) (sym f.living) (first_awaits p i c.variables.store.known);
   among = omega (arith, own, f.bare.sites);
   some = omega (arith, f.bare.sites);
 }

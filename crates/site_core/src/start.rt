@@ -15,7 +15,7 @@ use site_variables::Variables;
 use std::alloc::{AllocError, Global};
 use thread_machine::{Spare, Thread};
 use thread_roster::Roster;
-use tree_node::{CodeId, ThreadName, Vars};
+use tree_node::{CodeId, ThreadName};
 
 // The threads at the start: site 1 has the program's thread.
 fn first_threads(
@@ -31,8 +31,7 @@ fn first_threads(
     if number == 1 {
         program.is_program();
         let name = ThreadName { site: 1, num: 0 };
-        let vars = Vars::from_vec(Vec::new(alloc))?;
-        let first = Thread::new(alloc, name, CodeId(0), vars, program)?;
+        let first = Thread::new(alloc, name, CodeId(0), &[], program)?;
         threads.start(name, first)?;
     }
     Ok(threads)

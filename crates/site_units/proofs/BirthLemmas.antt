@@ -48,7 +48,7 @@ use Rattle.site_units.specs.declared.data.Core.{Core}
 use Rattle.site_units.specs.declared.data.Output.{Output}
 use Rattle.site_units.specs.Core.{site_of, stack_in, counters_of}
 use Rattle.site_cells.specs.Homes.{home_in}
-use Rattle.site_units.specs.Invariant.{ThreadFits, IsAsking, IsQueued, IsEarly, CellFits, CellsFit, own_threads, IsConsistent}
+use Rattle.site_units.specs.Invariant.{ThreadFits, IsAsking, IsQueued, IsEarly, CellFits, CellsFit, own_threads, IsConsistent, AwaitKnown}
 use Rattle.site_units.specs.Units.{IsStepping, IsFinished, IsUnitMade, without_ended}
 use Rattle.site_units.proofs.ThreadLemmas.{Living, mode_in, runs_other, other_set, other_without}
 use Rattle.site_units.proofs.FreshLemmas.{makes_site}
@@ -80,6 +80,7 @@ cells_consistent p c t h site fits = record {
   ports = h.ports;
   homes = λ cell. record { content = (h.homes cell).content; news = (h.homes cell).news; waits = (h.homes cell).waits; once = (h.homes cell).once };
   asks = h.asks;
+  awaits = h.awaits;
   among = h.among;
   some = h.some;
 }
@@ -182,6 +183,7 @@ thread_consistent p c ts n w h living new fits made = record {
     once = (h.homes cell).once;
   };
   asks = asked;
+  awaits = subst (AwaitKnown c.variables.store.known) (sym living) (tt, h.awaits);
   among = h.among;
   some = h.some;
 }

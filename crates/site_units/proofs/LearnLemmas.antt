@@ -39,8 +39,9 @@ use Rattle.site_variables.specs.Variables.{IsLinked, IsGrown, IsVariableRow, par
 use Rattle.site_units.specs.declared.data.Core.{Core}
 use Rattle.site_units.specs.declared.data.Output.{Output}
 use Rattle.site_units.specs.Core.{site_of, stack_in}
-use Rattle.site_units.specs.Invariant.{ThreadFits, IsConsistent}
+use Rattle.site_units.specs.Invariant.{ThreadFits, IsConsistent, AwaitKnown}
 use Rattle.site_units.specs.Turns.{IsRowMade}
+use Rattle.site_units.proofs.AwaitLemmas.{await_grows, await_where}
 use Rattle.site_units.proofs.ThreadLemmas.{Living, WaitsStay, waits_woken, waited_where}
 use Rattle.site_units.proofs.WakeLemmas.{Bind, encode, woken_each, woken_living, recovered_all}
 use Rattle.site_units.proofs.FreshLemmas.{each_of}
@@ -59,6 +60,10 @@ waits_each (b ∷ bs) ts m s c e = waits_each bs (wake_where (goes_on b.0 b.1) t
 waited_each : (bs : List Bind) (ts : Living) → WaitsStay (woken_each bs ts) ts
 waited_each [] ts m s a e = e
 waited_each (b ∷ bs) ts m s a e = waited_where (goes_on b.0 b.1) ts m s a (waited_each bs (wake_where (goes_on b.0 b.1) ts) m s a e)
+
+await_each : (known : List VarName) (bs : List Bind) (ts : Living) → AwaitKnown known ts → AwaitKnown known (woken_each bs ts)
+await_each known [] ts h = h
+await_each known (b ∷ bs) ts h = await_each known bs (wake_where (goes_on b.0 b.1) ts) (await_where known (goes_on b.0 b.1) ts h)
 
 each_each : (P : Entry Running → Type 0) → ((n : ThreadName) (v : Running) (m k : Mode) → P (n, (v, m)) → P (n, (v, k))) → (bs : List Bind) (ts : Living) → Each P ts → Each P (woken_each bs ts)
 each_each P any [] ts all = all
@@ -123,6 +128,7 @@ learned_consistent p c v1 ts1 h l = next_consistent p c (record c { variables = 
   homes = refl;
   waits = subst (λ (ts : Living). WaitsStay c.threads.living ts) (sym l.woken) (waits_each l.bound c.threads.living);
   asks = asks_before p v1.store.known v1.store.equations c.threads.living ts1.living (subst (λ (ts : Living). WaitsStay ts c.threads.living) (sym l.woken) (waited_each l.bound c.threads.living));
+  awaits = subst (AwaitKnown v1.store.known) (sym l.woken) (await_each v1.store.known l.bound c.threads.living (await_grows c.variables.store.known v1.store.known c.threads.living l.grows h.awaits));
   exchanges = exchanges_more p c.variables.store.known v1.store.known c.variables.store.equations v1.store.equations l.sound l.includes l.grows;
   sends = sends_more p c.variables.store.known v1.store.known c.variables.store.equations v1.store.equations l.sound l.includes l.grows;
   sites = refl;

@@ -2,6 +2,7 @@ pub mod ThreadLemmas
 pub mod FreshLemmas
 pub mod SiteLemmas
 pub mod NextLemmas
+pub mod AwaitLemmas
 pub mod StepLemmas
 pub mod WaitLemmas
 pub mod UnitLemmas
@@ -33,12 +34,15 @@ pub mod ResumeLemmas
 pub mod AnswerLemmas
 pub mod StretchLemmas
 pub mod HearLemmas
+pub mod QuietLemmas
 pub mod PickLemmas
 pub mod UntoldLemmas
 pub mod AloneLemmas
 pub mod ChainLemmas
 pub mod CountLemmas
+pub mod OlderLemmas
 pub mod TellLemmas
 pub mod ActLemmas
 pub mod LedLemmas
 pub mod LastLemmas
+pub mod SendTellLemmas

@@ -36,7 +36,7 @@ use Rattle.site_cells.specs.Homes.{home_in}
 use Rattle.site_cells.specs.Tables.{CellTables}
 use Rattle.site_variables.specs.Variables.{IsLinked, IsGrown}
 use Rattle.site_units.specs.declared.data.Core.{Core}
-use Rattle.site_units.specs.Invariant.{ThreadFits, IsExchanging, IsSending, IsAsking, IsQueued, IsEarly, ContentKnown, CellFits, CellsFit, PortFits, ContentIsKnown, own_threads, HomeFits, HomesFit, IsConsistent}
+use Rattle.site_units.specs.Invariant.{ThreadFits, IsExchanging, IsSending, IsAsking, IsQueued, IsEarly, ContentKnown, CellFits, CellsFit, PortFits, ContentIsKnown, own_threads, HomeFits, HomesFit, AwaitKnown, IsConsistent}
 use Rattle.site_units.proofs.ThreadLemmas.{Living, WaitsStay, running_or, mode_in, other_mode}
 
 pub thread_grows : (p : List Stmt) (known more : List VarName) (t : Entry Running) → IsGrown known more → ThreadFits p known t → ThreadFits p more t
@@ -199,6 +199,7 @@ pub record Next (p : List Stmt) (c0 c1 : Core) : Type 0 where
   pub homes : c1.homes ≡ c0.homes
   pub waits : WaitsStay c0.threads.living c1.threads.living
   pub asks : AskRightly p c1.variables.store.known c1.variables.store.equations c0.threads.living c1.threads.living
+  pub awaits : AwaitKnown c1.variables.store.known c1.threads.living
   pub exchanges : ExchangesStay p c0.variables.store.known c0.variables.store.equations c1.variables.store.known c1.variables.store.equations
   pub sends : SendsStay p c0.variables.store.known c0.variables.store.equations c1.variables.store.known c1.variables.store.equations
   pub sites : c1.sites ≡ c0.sites
@@ -223,6 +224,7 @@ next_consistent p c0 c1 h n = record {
   homes =
       subst (HomesFit p c1) (sym n.homes) (λ cell. home_kept p c0 c1 (cell, home_in c0.homes cell) n.own n.grows n.waits n.exchanges (h.homes cell));
   asks = λ m r a e. asks_next p c0 c1 m r a h n.exchanges n.sends (n.asks m r a e);
+  awaits = n.awaits;
   among = subst (λ (i : ℕ). i ≤ c1.sites) (sym n.own) (subst (λ (m : ℕ). c0.variables.binder.site ≤ m) (sym n.sites) h.among);
   some = subst (λ (m : ℕ). 1 ≤ m) (sym n.sites) h.some;
 }

@@ -34,7 +34,7 @@ use Rattle.site_variables.specs.Variables.{IsLinked, IsVariableRow, parts_of, st
 use Rattle.site_units.specs.declared.data.Core.{Core}
 use Rattle.site_units.specs.declared.data.Output.{Output}
 use Rattle.site_units.specs.Core.{site_of, stack_in}
-use Rattle.site_units.specs.Invariant.{ThreadFits, ContentKnown, CellFits, CellsFit, IsConsistent}
+use Rattle.site_units.specs.Invariant.{ThreadFits, ContentKnown, CellFits, CellsFit, IsConsistent, AwaitKnown}
 use Rattle.site_units.specs.Turns.{IsRowMade}
 use Rattle.site_units.proofs.ThreadLemmas.{Living}
 use Rattle.site_units.proofs.SiteLemmas.{nil_right}
@@ -78,6 +78,7 @@ registered_consistent p c v1 h linked store own = next_consistent p c (record c 
   homes = refl;
   waits = λ m s a e. e;
   asks = asks_before p v1.store.known v1.store.equations c.threads.living c.threads.living (λ m s a e. e);
+  awaits = subst (λ (s : Contents). AwaitKnown s.known c.threads.living) (sym store) h.awaits;
   exchanges = exchanges_known p c.variables.store.known v1.store.known c.variables.store.equations v1.store.equations (ap (λ (s : Contents). s.equations) store) grows;
   sends = sends_known p c.variables.store.known v1.store.known c.variables.store.equations v1.store.equations (ap (λ (s : Contents). s.equations) store) grows;
   sites = refl;

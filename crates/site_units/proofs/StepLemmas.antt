@@ -36,8 +36,9 @@ use Rattle.site_model.specs.Variables.{after_makes}
 use Rattle.site_model.specs.Unit.{IsUnit, IsUnitFor, IsCellUnit, IsStepOrRequest, step_row, kept_step_row, step_pick, thread_step, kept_step, effect_here, fresh_names, with_fresh_names, with_stack, runnable_state, next_names, counters_after}
 use Rattle.site_units.specs.declared.data.Core.{Core}
 use Rattle.site_units.specs.Core.{site_of, stack_in, counters_of}
-use Rattle.site_units.specs.Invariant.{ThreadFits}
+use Rattle.site_units.specs.Invariant.{ThreadFits, AwaitKnown}
 use Rattle.site_units.specs.Units.{IsStepping, IsFinished, without_ended}
+use Rattle.site_units.proofs.AwaitLemmas.{await_step}
 use Rattle.site_units.proofs.ThreadLemmas.{Living, WaitsStay, threads_settled, thread_found, settled_each, waits_trans, waits_set, waits_settled, waited_set, waited_settled}
 use Rattle.site_units.proofs.FreshLemmas.{names_next, counters_next, made_split, each_var, makes_site}
 use Rattle.site_units.proofs.NextLemmas.{Next, thread_grows, asks_before, exchanges_known, sends_known}
@@ -208,6 +209,7 @@ module _ (p : List Stmt) (c0 c : Core) (th : ThreadName) (r q : Running) (o : St
     homes = f.homes ∙ h.homes;
     waits = subst (λ (l : Living). WaitsStay c0.threads.living l) (sym living) waits;
     asks = asks_before p c1.variables.store.known c1.variables.store.equations c0.threads.living c1.threads.living (subst (λ (l : Living). WaitsStay l c0.threads.living) (sym living) waited);
+    awaits = subst (AwaitKnown c1.variables.store.known) (sym living) (await_step c0.variables.store.known c1.variables.store.known c0.threads.living th q q.stack (λ x m. subst (λ (l : List VarName). Contains l x) (sym stored) (kept x m)) h.consistent.awaits);
     exchanges = exchanges_known p c0.variables.store.known c1.variables.store.known c0.variables.store.equations c1.variables.store.equations same_equations (λ x m. subst (λ (l : List VarName). Contains l x) (sym stored) (kept x m));
     sends = sends_known p c0.variables.store.known c1.variables.store.known c0.variables.store.equations c1.variables.store.equations same_equations (λ x m. subst (λ (l : List VarName). Contains l x) (sym stored) (kept x m));
     sites = f.sites ∙ h.sites;

@@ -141,6 +141,7 @@ consistent_turned p c ns h = record {
   ports = h.ports;
   homes = λ cell. record { content = (h.homes cell).content; news = (h.homes cell).news; waits = (h.homes cell).waits; once = (h.homes cell).once };
   asks = h.asks;
+  awaits = h.awaits;
   among = h.among;
   some = h.some;
 }

@@ -32,8 +32,9 @@ use Rattle.site_variables.specs.Variables.{IsLinked, IsRecorded, stacks_of}
 use Rattle.site_units.specs.declared.data.Core.{Core}
 use Rattle.site_units.specs.declared.data.Output.{Output}
 use Rattle.site_units.specs.Core.{site_of, stack_in, counters_of}
-use Rattle.site_units.specs.Invariant.{ThreadFits, IsAsking}
+use Rattle.site_units.specs.Invariant.{ThreadFits, IsAsking, AwaitKnown, AwaitsKnown}
 use Rattle.site_units.specs.Units.{IsStepping, IsUnitMade}
+use Rattle.site_units.proofs.AwaitLemmas.{await_mode, await_set, needs_known, several_known}
 use Rattle.site_units.proofs.ThreadLemmas.{Living, WaitsStay, found_same, threads_wait, thread_found, waits_trans, waits_set, waits_mode, waited_set}
 use Rattle.site_units.proofs.SiteLemmas.{same_site, nil_right}
 use Rattle.site_units.proofs.NextLemmas.{Next, next_consistent, exchanges_known, sends_known, AskRightly, asks_mode, asks_trans}
@@ -79,8 +80,8 @@ module _ (p : List Stmt) (c0 c c1 : Core) (th : ThreadName) (r q : Running) (o :
       only : (v : Running) (m : Mode) → value_of equal_thread (set_value c0.threads.living th q) th ≡ Some (v, m) → P (th, (v, k))
       only v m e = let same : v ≡ q = found_same (set_value c0.threads.living th q) th v q m mode.Runs e found in subst (λ (x : Running). P (th, (x, k))) (sym same) (at k)
 
-  pub waits_next : ((a : Awaited) → k ≡ mode.WaitsFor a → IsAsking p c0.variables.store.known c0.variables.store.equations a q) → c1.cells ≡ c.cells → Next p c0 c1
-  waits_next asking cells = record {
+  pub waits_next : ((a : Awaited) → k ≡ mode.WaitsFor a → IsAsking p c0.variables.store.known c0.variables.store.equations a q) → AwaitsKnown c0.variables.store.known k → c1.cells ≡ c.cells → Next p c0 c1
+  waits_next asking awaited cells = record {
     linked = linked_same c0.variables c1.variables stored recorded h.consistent.linked;
     grows = λ x m. subst (λ (s : Contents). Contains s.known x) (sym stored) m;
     threads = subst (λ (s : Contents). Each (ThreadFits p s.known) c1.threads.living) (sym stored) (subst (Each (ThreadFits p c0.variables.store.known)) (sym living) (each_here (ThreadFits p c0.variables.store.known) here h.consistent.threads));
@@ -102,6 +103,9 @@ module _ (p : List Stmt) (c0 c c1 : Core) (th : ThreadName) (r q : Running) (o :
         (subst (λ (l : Living). AskRightly p c0.variables.store.known c0.variables.store.equations c0.threads.living l) (sym living)
         (asks_trans p c0.variables.store.known c0.variables.store.equations c0.threads.living (set_value c0.threads.living th q) (set_mode (set_value c0.threads.living th q) th k) (waited_set c0.threads.living th r q h.running)
         (asks_mode p c0.variables.store.known c0.variables.store.equations (set_value c0.threads.living th q) th q k found asking)));
+    awaits = subst (λ (s : Contents). AwaitKnown s.known c1.threads.living) (sym stored)
+        (subst (AwaitKnown c0.variables.store.known) (sym living)
+        (await_mode c0.variables.store.known (set_value c0.threads.living th q) th k awaited (await_set c0.variables.store.known c0.threads.living th q h.consistent.awaits)));
     exchanges = exchanges_known p c0.variables.store.known c1.variables.store.known c0.variables.store.equations c1.variables.store.equations (ap (λ (s : Contents). s.equations) stored) (λ x m. subst (λ (s : Contents). Contains s.known x) (sym stored) m);
     sends = sends_known p c0.variables.store.known c1.variables.store.known c0.variables.store.equations c1.variables.store.equations (ap (λ (s : Contents). s.equations) stored) (λ x m. subst (λ (s : Contents). Contains s.known x) (sym stored) m);
     sites = sites1 ∙ h.sites;
@@ -144,7 +148,7 @@ wait_made p c0 c c1 o0 th r q x h v f l s n e t ps hs =
         picks = sym (nil_right o0.picks);
         sent = sym (nil_right o0.sent);
         lines = sym (nil_right o0.lines.items);
-        consistent = next_consistent p c0 c1 h.consistent (waits_next p c0 c c1 th r q (out.Waits x) (mode.Needs x) h stack called unchanged.1 unchanged.2 v f l s n ps hs (λ a z. cc) t);
+        consistent = next_consistent p c0 c1 h.consistent (waits_next p c0 c c1 th r q (out.Waits x) (mode.Needs x) h stack called unchanged.1 unchanged.2 v f l s n ps hs (λ a z. cc) (needs_known p c0.variables.store.known c0.variables.store.equations r.stack h.consistent.equations.names (fits p c0 c c1 th r q (out.Waits x) (mode.Needs x) h stack called unchanged.1 unchanged.2 v f l s n ps hs).fits.names z x need class) t);
         sites = n ∙ h.sites;
       },
     )
@@ -169,7 +173,7 @@ wait_any_made p c0 c c1 o0 th r q xs h v f l s n e t ps hs =
         picks = sym (nil_right o0.picks);
         sent = sym (nil_right o0.sent);
         lines = sym (nil_right o0.lines.items);
-        consistent = next_consistent p c0 c1 h.consistent (waits_next p c0 c c1 th r q (out.WaitsAny xs) (mode.WaitsAny xs) h stack called unchanged.1 unchanged.2 v f l s n ps hs (λ a z. cc) t);
+        consistent = next_consistent p c0 c1 h.consistent (waits_next p c0 c c1 th r q (out.WaitsAny xs) (mode.WaitsAny xs) h stack called unchanged.1 unchanged.2 v f l s n ps hs (λ a z. cc) (several_known p c0.variables.store.known c0.variables.store.equations r.stack h.consistent.equations.names (fits p c0 c c1 th r q (out.WaitsAny xs) (mode.WaitsAny xs) h stack called unchanged.1 unchanged.2 v f l s n ps hs).fits.names pair xs need open_on) t);
         sites = n ∙ h.sites;
       },
     )

@@ -1,5 +1,5 @@
 -- What holds of a site's data at all times.
-use Rattle.std.specs.Prelude.{◌≡◌, ◌≢◌, ℕ, ◌+◌, ◌*◌, ◌^◌, ◌≤◌, ◌==◌, List, [], ◌∷◌, Option, Some, None, Contains, if◌then◌else◌}
+use Rattle.std.specs.Prelude.{◌≡◌, ◌≢◌, ℕ, ◌+◌, ◌*◌, ◌^◌, ◌≤◌, ◌==◌, ◌⊎◌, List, [], ◌∷◌, Option, Some, None, Contains, if◌then◌else◌}
 use Rattle.tree_node.specs.declared.limits.TheConstants.{MOST_ITEMS}
 use Rattle.tree_node.specs.declared.names.VarName.{VarName}
 use Rattle.tree_node.specs.declared.names.CellName.{CellName}
@@ -12,6 +12,7 @@ use Rattle.tree_node.specs.declared.item.Item.{Item}
 use Rattle.tree_node.specs.State.{Block, Stack, equal_thread}
 use Rattle.tree_node.specs.Store.{Store}
 use Rattle.kernel_syntax.specs.declared.stmt.Stmt.{Stmt}
+use Rattle.oz_model.specs.Laws.{nobody}
 use Rattle.oz_model.specs.Need.{Takes, variable_kinds, stack_need}
 use Rattle.oz_model.specs.Effect.{Stays, Exchanged, Keeps, Sent, stack_effect}
 use Rattle.thread_machine.specs.Fits.{StackFits, EquationsFit}
@@ -20,7 +21,8 @@ use Rattle.name_supply.specs.declared.fresh.Fresh.{Fresh}
 use Rattle.name_supply.specs.Supply.{site_in, IsMade, HasMade, AreBelow}
 use Rattle.thread_roster.specs.declared.mode.Awaited.{Awaited}
 use Rattle.thread_roster.specs.declared.mode.Awaited.TheVariants.{Cell, Port}
-use Rattle.thread_roster.specs.declared.mode.Mode.TheVariants.{WaitsFor}
+use Rattle.thread_roster.specs.declared.mode.Mode.{Mode}
+use Rattle.thread_roster.specs.declared.mode.Mode.TheVariants.{Runs, Waits, Needs, WaitsAny, WaitsFor}
 use Rattle.thread_roster.specs.Threads.{Entry}
 use Rattle.token_chain.specs.declared.token.Token.{Token}
 use Rattle.token_chain.specs.declared.token.Token.TheVariants.{Here}
@@ -124,13 +126,31 @@ pub record HomeFits (p : List Stmt) (c : Core) (e : CellName × HomeRecord) : Ty
 abbrev pub HomesFit : List Stmt → Core → HomeTable → Type 0
 HomesFit p c hs = (cell : CellName) → HomeFits p c (cell, home_in hs cell)
 
+-- ---- what is awaited
+
+-- a known variable, or nobody, whom a stack names where it lacks one
+abbrev pub IsAwaited : List VarName → VarName → Type 0
+IsAwaited known y = (y ≡ nobody) ⊎ Contains known y
+
+-- a thread that stands so waits for such variables, if for any
+abbrev pub AwaitsKnown : List VarName → Mode → Type 0
+AwaitsKnown known Runs = Unit {0}
+AwaitsKnown known (Waits y) = IsAwaited known y
+AwaitsKnown known (Needs y) = IsAwaited known y
+AwaitsKnown known (WaitsAny ys) = Each (λ (y : VarName). IsAwaited known y) ys
+AwaitsKnown known (WaitsFor a) = Unit {0}
+
+-- and so does each of these threads
+abbrev pub AwaitKnown : List VarName → List (Entry Running) → Type 0
+AwaitKnown known ts = Each (λ (t : Entry Running). AwaitsKnown known t.1.1) ts
+
 -- ---- all
 
 -- the store has what the records tell; threads and equations are over known variables and fit the program; the counters are
 -- the site's, and leave room for the names of further steps; the known variables and the threads of the site were made, and
 -- each variable that it made is known; the tables of cells are the site's, and the record of each cell fits; each port was made and has
--- a known end; what is kept of the cells at home here fits; each thread that waits for a cell or a port has such a step next; the
--- site is one of the sites
+-- a known end; what is kept of the cells at home here fits; each thread that waits for a cell or a port has such a step next, and each
+-- that waits for variables waits for known ones; the site is one of the sites
 pub record IsConsistent (p : List Stmt) (c : Core) : Type 0 where
   pub linked : IsLinked c.variables
   pub threads : Each (ThreadFits p c.variables.store.known) c.threads.living
@@ -145,5 +165,6 @@ pub record IsConsistent (p : List Stmt) (c : Core) : Type 0 where
   pub ports : Each (PortFits c.variables.store.known c.fresh) c.ports
   pub homes : HomesFit p c c.homes
   pub asks : (n : ThreadName) (r : Running) (a : Awaited) → value_of equal_thread c.threads.living n ≡ Some (r, WaitsFor a) → IsAsking p c.variables.store.known c.variables.store.equations a r
+  pub awaits : AwaitKnown c.variables.store.known c.threads.living
   pub among : c.variables.binder.site ≤ c.sites
   pub some : 1 ≤ c.sites

@@ -1,9 +1,13 @@
 -- Units of one thread in a stretch, of which all but one are quiet.
-use Rattle.std.specs.Prelude.{◌≡◌, ◌≢◌, ◌↔◌, ◌+◌, ℕ, zero, suc, List, []}
+use Rattle.std.specs.Prelude.{◌≡◌, ◌≢◌, ◌↔◌, ◌+◌, ◌<◌, ℕ, zero, suc, List, [], IfSome}
 use Rattle.tree_node.specs.declared.names.ThreadName.{ThreadName}
+use Rattle.tree_node.specs.declared.names.VarName.{VarName}
 use Rattle.tree_store.specs.Forest.{IsForest}
 use Rattle.kernel_syntax.specs.declared.stmt.Stmt.{Stmt}
 use Rattle.variable_owner.specs.Owners.{AreAlone}
+use Rattle.name_supply.specs.Supply.{next_in_row}
+use Rattle.statement_steps.specs.declared.context.Quiet.{Quiet}
+use Rattle.statement_steps.specs.declared.context.Quiet.TheVariants as hears
 use Rattle.thread_roster.specs.Threads.{IsRunnable, waiting_of}
 use Rattle.site_model.specs.Site.{Site}
 use Rattle.site_model.specs.Transition.{Transition, without_output, sequence}
@@ -37,6 +41,9 @@ pub record AreUnitsBy (p : List Stmt) (n limit count : ℕ) (th : ThreadName) (s
   pub same : after.site.equations ≡ one.site.equations
   pub is : d ≡ sequence before (sequence one after)
 
--- no thread waits, and no site is registered for a variable of this one: nobody is to be told of a bind
-abbrev pub IsAlone : Core → Type 0
-IsAlone c = (waiting_of c.threads.living ≡ 0) × AreAlone c.variables.binder.owners
+-- of which binds nobody is to be told: of any where no thread waits, and no site is registered for a variable of this one; and else of those
+-- of variables from the one on that the counter gives next
+abbrev pub IsQuietFor : Core → Quiet → Type 0
+IsQuietFor c hears.All = (waiting_of c.threads.living ≡ 0) × AreAlone c.variables.binder.owners
+IsQuietFor c (hears.From n) = (0 < n) × IfSome (next_in_row c.fresh) (λ (x : VarName). n ≡ x.num)
+IsQuietFor c hears.Never = Unit {0}

@@ -8,9 +8,10 @@ use Rattle.tree_node.specs.Each.{Each, AreDistinct}
 use Rattle.tree_node.specs.Store.{Equation, equal_var}
 use Rattle.pick_list.specs.declared.columns.Bind.{Bind}
 use Rattle.pick_list.specs.Binds.{equation_of}
+use Rattle.oz_model.proofs.NameLemmas.{Each-weaker}
 use Rattle.variable_owner.specs.declared.owners.Owner.{Owner}
 use Rattle.variable_owner.specs.declared.owners.Owner.TheVariants.{Open, Bound}
-use Rattle.variable_owner.specs.Owners.{Owned, AreAlone, IsMade, owner_of, sites_of, with_owner, after_bind}
+use Rattle.variable_owner.specs.Owners.{Owned, IsMade, owner_of, sites_of, with_owner, after_bind}
 use Rattle.variable_owner.specs.Owners as owners
 use Rattle.bind_protocol.specs.Records.{Records, knowledge}
 use Rattle.bind_protocol.specs.Rows.{after_ask, after_make}
@@ -19,46 +20,50 @@ use Rattle.bind_protocol.proofs.LookLemmas.{in_here, in_other}
 use Rattle.bind_protocol.proofs.LearnLemmas.{open_at, rows_teach}
 use Rattle.bind_protocol.proofs.RowCountLemmas.{name_cases}
 use Rattle.site_model.specs.Variables.{after_makes}
-use Rattle.site_variables.specs.Variables.{AreOwnBinds, IsNewOwn, after_own_binds}
+use Rattle.site_variables.specs.Variables.{AreAloneBinds, AreOwnBinds, IsNewOwn, after_own_binds}
 use Rattle.site_variables.proofs.MakeLemmas.{new_left, none_owned}
 
--- ---- nobody is registered
+-- ---- no site is registered for a variable
 
-alone_with : (es : List Owned) (x : VarName) (o : Owner) → sites_of (Some o) ≡ [] → AreAlone es → AreAlone (with_owner es x o)
-alone_with es x o none h y = go (name_cases y x)
+none_with : (es : List Owned) (x y : VarName) (o : Owner) → sites_of (Some o) ≡ [] → sites_of (owner_of es y) ≡ [] → sites_of (owner_of (with_owner es x o) y) ≡ []
+none_with es x y o none h = go (name_cases y x)
   where
     go : (y ≡ x) ⊎ (y ≢ x) → sites_of (owner_of (with_owner es x o) y) ≡ []
     go (inl e) = subst (λ (z : VarName). sites_of (owner_of (with_owner es x o) z) ≡ []) (sym e) (ap sites_of (in_here es x o) ∙ none)
-    go (inr e) = ap sites_of (in_other es x y o e) ∙ h y
+    go (inr e) = ap sites_of (in_other es x y o e) ∙ h
 
-pub alone_after : (es : List Owned) (x : VarName) (t : Term) → AreAlone es → AreAlone (owners.after_ask es x t)
-alone_after es x t h = go (owner_of es x) refl
+pub none_after : (es : List Owned) (x y : VarName) (t : Term) → sites_of (owner_of es y) ≡ [] → sites_of (owner_of (owners.after_ask es x t) y) ≡ []
+none_after es x y t h = go (owner_of es x) refl
   where
     bound : (o : Owner) → sites_of (Some (after_bind o t)) ≡ []
     bound (Open ks) = refl
     bound (Bound r) = refl
 
-    go : (o : Option Owner) → owner_of es x ≡ o → AreAlone (owners.after_ask es x t)
+    go : (o : Option Owner) → owner_of es x ≡ o → sites_of (owner_of (owners.after_ask es x t) y) ≡ []
     go None q = rw q h
-    go (Some o) q = rw q (alone_with es x (after_bind o t) (bound o) h)
+    go (Some o) q = rw q (none_with es x y (after_bind o t) (bound o) h)
 
-pub alone_makes : (b : Records) (xs : List VarName) → AreAlone b.owners → AreAlone (after_makes b xs).owners
-alone_makes b [] h = h
-alone_makes b (x ∷ xs) h = alone_makes (after_make b x) xs (alone_with b.owners x (Open []) refl h)
+pub none_makes : (b : Records) (xs : List VarName) (y : VarName) → sites_of (owner_of b.owners y) ≡ [] → sites_of (owner_of (after_makes b xs).owners y) ≡ []
+none_makes b [] y h = h
+none_makes b (x ∷ xs) y h = none_makes (after_make b x) xs y (none_with b.owners x y (Open []) refl h)
 
-pub alone_binds : (b : Records) (es : List Equation) → AreAlone b.owners → AreAlone (after_own_binds b es).owners
-alone_binds b [] h = h
-alone_binds b (e ∷ es) h = alone_binds (after_ask b e.0 e.1) es (alone_after b.owners e.0 e.1 h)
+pub none_binds : (b : Records) (es : List Equation) (y : VarName) → sites_of (owner_of b.owners y) ≡ [] → sites_of (owner_of (after_own_binds b es).owners y) ≡ []
+none_binds b [] y h = h
+none_binds b (e ∷ es) y h = none_binds (after_ask b e.0 e.1) es y (none_after b.owners e.0 y e.1 h)
+
+-- a bind leaves others without
+pub alone_behind : (b : Records) (x : VarName) (t : Term) (es : List Equation) → AreAloneBinds b es → AreAloneBinds (after_ask b x t) es
+alone_behind b x t es h = Each-weaker (λ (e : Equation). sites_of (owner_of b.owners e.0) ≡ []) (λ (e : Equation). sites_of (owner_of (after_ask b x t).owners e.0) ≡ []) (λ e k. none_after b.owners x e.0 t k) es h
 
 -- ---- binds in a row
 
 -- these records are those after a front of the binds, of which the rest is left
 pub record AreFollowed (b old : Records) (rest all : List Equation) : Type 0 where
-  pub alone : AreAlone b.owners
+  pub alone : AreAloneBinds b rest
   pub unbound : AreOwnBinds b rest
   pub after : after_own_binds b rest ≡ after_own_binds old all
 
-pub all_follow : (b : Records) (es : List Equation) → AreAlone b.owners → AreOwnBinds b es → AreFollowed b b es es
+pub all_follow : (b : Records) (es : List Equation) → AreAloneBinds b es → AreOwnBinds b es → AreFollowed b b es es
 all_follow b es h g = record { alone = h; unbound = g; after = refl }
 
 module _ (old b : Records) (bs : List Bind) (i : ℕ) (d : Bind) (below : i < length bs) (at : d ≡ get_or bs i d) (h : AreFollowed b old (map equation_of (drop i bs)) (map equation_of bs)) where
@@ -74,9 +79,12 @@ module _ (old b : Records) (bs : List Bind) (i : ℕ) (d : Bind) (below : i < le
   pub next_made : IsMade b.owners d.var
   next_made = let o = open_at b d.var now.unbound.0 now.unbound.1 in rw o.1 refl
 
+  pub next_alone : sites_of (owner_of b.owners d.var) ≡ []
+  next_alone = now.alone.0
+
   pub next_follows : (c : Records) → c ≡ after_ask b d.var d.term → AreFollowed c old (map equation_of (drop (i + 1) bs)) (map equation_of bs)
   next_follows c is = subst (λ (r : Records). AreFollowed r old (map equation_of (drop (i + 1) bs)) (map equation_of bs)) (sym is)
-      (record { alone = alone_after b.owners d.var d.term now.alone; unbound = now.unbound.2; after = now.after })
+      (record { alone = alone_behind b d.var d.term (map equation_of (drop (i + 1) bs)) now.alone.1; unbound = now.unbound.2; after = now.after })
 
 pub none_follow : (b old : Records) (bs : List Bind) (i : ℕ) → length bs ≤ i → AreFollowed b old (map equation_of (drop i bs)) (map equation_of bs) → b ≡ after_own_binds old (map equation_of bs)
 none_follow b old bs i past h = subst (λ (l : List Bind). after_own_binds b (map equation_of l) ≡ after_own_binds old (map equation_of bs)) (drop_all i bs past) h.after

@@ -14,8 +14,8 @@ use Rattle.site_message.specs.declared.message.Msg.{Msg}
 use Rattle.site_message.specs.declared.message.Sent.{Sent}
 use Rattle.variable_owner.specs.declared.owners.Owner.{Owner}
 use Rattle.variable_owner.specs.declared.owners.Owner.TheVariants.{Open, Bound}
-use Rattle.variable_owner.specs.Owners.{owner_of, sites_of}
-use Rattle.bind_protocol.specs.Records.{is_own, knowledge}
+use Rattle.variable_owner.specs.Owners.{AreAlone, owner_of, sites_of}
+use Rattle.bind_protocol.specs.Records.{Records, is_own, knowledge}
 use Rattle.bind_protocol.specs.Rows.{binding, after_binding, after_ask, ask_sends, after_register, register_sends, register_answer, meets_send}
 use Rattle.thread_roster.specs.declared.mode.Mode.{Mode}
 use Rattle.thread_roster.specs.Threads.{Entry, wake_where}
@@ -180,3 +180,9 @@ done_opened m es u v w ts rs o p is h met = record {
 
 pub bundle_lower : (m : Msg) (es : List Equation) → es ≡ message_bundle m → Each (λ (e : Equation). IsLower e.1 e.0) (message_bundle m) → Each (λ (e : Equation). IsLower e.1 e.0) es
 bundle_lower m es is h = subst (λ (fs : List Equation). Each (λ (e : Equation). IsLower e.1 e.0) fs) (sym is) h
+
+-- ---- nobody is registered
+
+-- where no site is registered for a variable nobody is told of its bind
+pub nothing_sent : (b : Records) (x : VarName) (t : Term) (out : List Sent) → AreAlone b.owners → out ≡ out ++ ask_sends b x t
+nothing_sent b x t out h = sym (append-nil out) ∙ ap (λ (ks : List ℕ). out ++ map (λ (k : ℕ). binding x t k) ks) (sym (h x))

@@ -7,13 +7,14 @@ use Rattle.oz_model.specs.Effect.{vars_among}
 use Rattle.tree_node.specs.declared.names.ThreadName.{ThreadName}
 use Rattle.tree_node.specs.declared.node.Term.{Term}
 use Rattle.tree_node.specs.declared.pick.Pick.{Pick}
+use Rattle.tree_node.specs.Each.{Each}
 use Rattle.tree_node.specs.State.{Stack}
 use Rattle.tree_node.specs.Store.{Equation, Store}
 use Rattle.bind_protocol.specs.Rows.{after_ask}
 use Rattle.site_message.specs.declared.message.Sent.{Sent}
 use Rattle.variable_owner.specs.declared.owners.Asked.{Asked}
 use Rattle.variable_owner.specs.declared.owners.Asked.TheVariants.{Taken, Late}
-use Rattle.variable_owner.specs.Owners.{IsMade}
+use Rattle.variable_owner.specs.Owners.{IsMade, owner_of, sites_of}
 use Rattle.bind_protocol.specs.Records.{Records, IsKnown, knowledge}
 use Rattle.thread_roster.specs.declared.mode.Mode.{Mode}
 use Rattle.thread_roster.specs.Threads.{Entry, map_entries}
@@ -108,3 +109,7 @@ after_own_binds b (e ∷ es) = after_own_binds (after_ask b e.0 e.1) es
 abbrev pub AreOwnBinds : Records → List Equation → Type 0
 AreOwnBinds b [] = Unit {0}
 AreOwnBinds b (e ∷ es) = (e.0.site ≡ b.site) × (knowledge b e.0 ≡ Some None) × AreOwnBinds (after_ask b e.0 e.1) es
+
+-- and no site is registered for it
+abbrev pub AreAloneBinds : Records → List Equation → Type 0
+AreAloneBinds b es = Each (λ (e : Equation). sites_of (owner_of b.owners e.0) ≡ []) es

@@ -166,8 +166,10 @@ impl Owners {
         ensures late { (result ≡ Late) ↔ IsSome (binding_of (owner_of self.old var)) }
         ensures after { self.new ≡ after_ask self.old var term }
     {
-        let count = self.table.registered(var).len();
-        self.registrations -= count;
+        if self.registrations > 0 {
+            let count = self.table.registered(var).len();
+            self.registrations -= count;
+        }
         self.table.ask(var, term)
     }
 }

@@ -5,9 +5,9 @@ use Rattle.site_variables.proofs.variables.Variables.follow_bind.Goals as goal
 
 pub returns-clause-done : goal.returns-clause-done
 returns-clause-done g c =
-    λ f es alike. done_bound _ _ c.args.var c.args.term refl c.in_ok-on_ask.ensures.records
-    (stacks_bound f c.args.self.now.store.equations ((c.args.var, c.args.term) ∷ es) c.args.var c.args.threads.now.living _ alike c.in_ok-wake_bound.ensures.living) c.in_ok-on_ask.ensures.sent
+    λ f es alike. done_bound _ _ c.args.var c.args.term refl c.in_ok-ask_own.ensures.records
+    (stacks_bound f c.args.self.now.store.equations ((c.args.var, c.args.term) ∷ es) c.args.var c.args.threads.now.living _ alike c.in_ok-wake_waiting.ensures.living) c.in_ok-ask_own.ensures.sent
 
 pub returns-clause-recorded : goal.returns-clause-recorded
 returns-clause-recorded g c =
-    λ es known h. ask_recorded es known c.args.self.now.binder _ c.args.var c.args.term h c.requires.own c.requires.unbound c.in_ok-on_ask.ensures.records
+    λ es known h. ask_recorded es known c.args.self.now.binder _ c.args.var c.args.term h c.requires.own c.requires.unbound c.in_ok-ask_own.ensures.records
