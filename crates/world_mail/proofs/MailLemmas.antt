@@ -1,13 +1,14 @@
 -- How the messages on their way are kept by places and by sites.
 use Rattle.std.proofs.Common.{rules, arith, ◌≡◌, ◌≢◌, ◌∙◌, sym, ap, refl, subst, ℕ, zero, suc, ◌+◌, ◌-◌, ◌<◌, ◌≤◌, List, [], ◌∷◌, ◌++◌, length, length-take, map, take, get_or, Bool, true, false, cond, ◌⊎◌, inl, inr}
 use Rattle.std.specs.Prelude.{Option, Some, None, ◌==◌, ◌↔◌, nat_eq, nat_lt, option_map, position, slice_get, slice_index_or, slice_set, Contains, MatchOption, IfSome, is_some}
-use Rattle.std.specs.List.{IsDistinct, swap_remove, enumerate_from}
+use Rattle.std.specs.List.{IsDistinct, swap_remove, enumerate_from, position_from}
 use Rattle.std.specs.Map.{keys_of, values_of}
 use Rattle.std.specs.Ordering.{nat_cmp, is_eq, is_gt}
 use Rattle.std.specs.declared.cmp.Ordering.TheVariants.{Less, Equal, Greater}
 use Rattle.std.specs.Cmp.{nat_eq_equiv}
 use Rattle.std.specs.BTreeMap.{is_at}
 use Rattle.std.proofs.lemmas.List.{map-set, take-map, get_or-map, take_more, map-append, length-map}
+use Rattle.std.proofs.lemmas.Iterator.Adapters.{position_from-zero}
 use Rattle.std.proofs.lemmas.List.Quantifiers.{position-Some}
 use Rattle.std.proofs.lemmas.Map.Entries.{lookup_from_place, place_from_lookup}
 use Rattle.std.proofs.lemmas.Grind.{common_steps}
@@ -198,6 +199,65 @@ number_place ms number once (Some place) index found value = by (message_at ms n
         let same : place ≡ h.0 = cc in
         (m.to, subst (λ (x : ℕ). IsAt (map travel_of ms) m.to x number) (sym same) h.2)
 
+-- ---- looked through
+
+-- at this place behind i others is the travel of this number; none, where there is no such travel
+abbrev IsPlaceBehind : ℕ → List Travel → ℕ → Option ℕ → Type 0
+IsPlaceBehind i ts number None = (t : Travel) → Contains ts t → t.number ≡ number → ⊥
+IsPlaceBehind i ts number (Some place) = (p : ℕ) × (place ≡ i + p) × ((to : ℕ) × IsAt ts to p number)
+
+module _ (number : ℕ) where
+  place_behind : (ts : List Travel) (i : ℕ) → IsPlaceBehind i ts number (position_from (λ (t : Travel). t.number == number) i ts)
+  place_behind [] i = λ t at same. absurd (no_travel t at)
+    where
+      no_travel : (t : Travel) → Contains [] t → ⊥
+      no_travel t (k, below, is) = absurd (omega arith)
+  place_behind (t ∷ ts) i = by (t.number == number) refl (place_behind ts (i + 1))
+    where
+      rest : Option ℕ
+      rest = position_from (λ (u : Travel). u.number == number) (i + 1) ts
+
+      next : (o : Option ℕ) → (t.number == number) ≡ false → IsPlaceBehind (i + 1) ts number o → IsPlaceBehind i (t ∷ ts) number o
+      next None other none = λ u at same. here u same (Contains-cons_cases t u ts at)
+        where
+          here : (u : Travel) → u.number ≡ number → (t ≡ u) ⊎ Contains ts u → ⊥
+          here u same (inl e) =
+              let yes : (t.number == number) ≡ true = (Decides-eqb t.number number).1 (ap (λ (x : Travel). x.number) e ∙ same) in
+              let clash : true ≡ false = sym yes ∙ other in
+              cc
+          here u same (inr k) = none u k same
+      next (Some place) other (p, is, at) = (suc p, omega (arith, is), at)
+
+      by : (b : Bool) → (t.number == number) ≡ b → IsPlaceBehind (i + 1) ts number rest → IsPlaceBehind i (t ∷ ts) number (cond b (Some i) rest)
+      by true e behind =
+          let same : t.number ≡ number = (Decides-eqb t.number number).0 e in
+          (0, omega arith, (t.to, ap (λ (n : ℕ). Some (the_travel n)) same))
+        where
+          the_travel : ℕ → Travel
+          the_travel n = record { number = n; to = t.to }
+      by false e behind = next rest e behind
+
+  first_place : (ts : List Travel) (o : Option ℕ) → IsPlaceBehind 0 ts number o → IsPlaceOf ts number o
+  first_place ts None none = none
+  first_place ts (Some place) (p, is, at) =
+      let same : p ≡ place = omega (arith, is) in
+      (at.0, subst (λ (x : ℕ). IsAt ts at.0 x number) same at.1)
+
+  pub looked_through : (ts : List Travel) (r : Option ℕ) → r ≡ position (λ (t : Travel). t.number == number) ts → IsPlaceOf ts number r
+  looked_through ts r is =
+      subst (λ (o : Option ℕ). IsPlaceOf ts number o) (sym (is ∙ position_from-zero (λ (t : Travel). t.number == number) ts))
+      (first_place ts (position_from (λ (t : Travel). t.number == number) 0 ts) (place_behind ts 0))
+
+-- the place of a number is that of its message
+pub place_held : (ms : List (ℕ × Sent)) (number : ℕ) → IsDistinct nat_eq (keys_of ms) → (r : Option ℕ) → IsPlaceOf (map travel_of ms) number r → (m : Sent) → message_at ms number ≡ Some m →
+    (place : ℕ) × (r ≡ Some place) × IsAt (map travel_of ms) m.to place number
+place_held ms number once None none m q = absurd (none (record { number = number; to = m.to }) ((travels_tell ms once number m.to).1 (m.msg, q)) refl)
+place_held ms number once (Some place) (to, at) m q =
+    let e = entry_at ms (record { number = number; to = to }) place at in
+    let both : ◌≡◌ {A = Option Sent} (Some e.0) (Some m) = sym (found_at ms place number e.0 once e.1) ∙ q in
+    let same : e.0 ≡ m = cc in
+    (place, refl, subst (λ (x : ℕ). IsAt (map travel_of ms) x place number) (sym e.2 ∙ ap (λ (s : Sent). s.to) same) at)
+
 -- ---- the next message for a site
 
 module _ (ms : List (ℕ × Sent)) (ts : List Travel) (qs : List (List ℕ)) (kept : IsConsistent ms ts qs) (site : ℕ) (inside : site < length qs) where
@@ -229,18 +289,13 @@ module _ (ms : List (ℕ × Sent)) (ts : List Travel) (qs : List (List ℕ)) (ke
       none (record { number = k; to = site }) ((travels_tell ms kept.once k site).1 (m.0.msg, subst (λ (x : ℕ). message_at ms k ≡ Some (record { to = x; msg = m.0.msg })) m.2 m.1)) refl
 
   pub first_queued : (number : ℕ) → is_queued (queue_at qs site) number ≡ true → ((k : ℕ) → is_queued (queue_at qs site) k ≡ true → number ≤ k) →
-      (r : Option ℕ) → r ≡ position (nat_eq number) (keys_of ms) → is_some r ≡ is_some (message_at ms number) → IfSome r (λ i. slice_get (values_of ms) i ≡ message_at ms number) →
+      (r : Option ℕ) → ((m : Sent) → message_at ms number ≡ Some m → (place : ℕ) × (r ≡ Some place) × IsAt (map travel_of ms) m.to place number) →
       MatchOption r (IsNoneFor (map travel_of ms) site) (λ place. IsFirstFor (map travel_of ms) site place)
-  first_queued number there least None index found value =
+  first_queued number there least r placed =
       let m = held number there in
-      let none : false ≡ true = found ∙ ap is_some m.1 in
-      cc
-  first_queued number there least (Some place) index found value =
-      let m = held number there in
-      let key = (position-Some (nat_eq number) (keys_of ms) place 0 (sym index)).1 in
-      let same : number ≡ get_or (keys_of ms) place 0 = (Decides-eqb number (get_or (keys_of ms) place 0)).0 key in
-      let at = entry_of ms place number m.0 (value ∙ m.1) (sym same) in
-      (number, subst (λ (x : ℕ). slice_get (map travel_of ms) place ≡ Some (record { number = number; to = x })) m.2 (travel_at ms place number m.0 at), λ t in_list to. least t.number (queued t in_list to))
+      let p = placed m.0 m.1 in
+      subst (λ (o : Option ℕ). MatchOption o (IsNoneFor (map travel_of ms) site) (λ place. IsFirstFor (map travel_of ms) site place)) (sym p.1)
+      (number, subst (λ (x : ℕ). IsAt (map travel_of ms) x p.0 number) m.2 p.2, λ t in_list to. least t.number (queued t in_list to))
 
 -- ---- calls
 

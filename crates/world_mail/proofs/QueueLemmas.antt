@@ -1,5 +1,5 @@
 -- Numbers in ascending order: where one stands, and queues with one more and without it.
-use Rattle.std.proofs.Common.{rules, arith, ◌≡◌, ◌≢◌, ◌∙◌, sym, ap, refl, subst, ℕ, zero, suc, ◌<◌, ◌≤◌, ◌-◌, List, [], ◌∷◌, ◌++◌, length, get_or, Bool, true, false, cond, ◌||◌}
+use Rattle.std.proofs.Common.{rules, arith, ◌≡◌, ◌≢◌, ◌∙◌, sym, ap, refl, subst, ℕ, zero, suc, ◌<◌, ◌≤◌, ◌-◌, List, [], ◌∷◌, ◌++◌, length, get_or, drop, Bool, true, false, cond, ◌||◌}
 use Rattle.std.specs.Prelude.{nat_lt, ◌==◌, Option, Some, None, OnSome}
 use Rattle.std.specs.List.{insert, remove}
 use Rattle.std.specs.List.Sorted.{IsPartitionedBy}
@@ -209,6 +209,10 @@ ascends_gone [] zero h = tt
 ascends_gone [] (suc place) h = tt
 ascends_gone (k ∷ ks) zero h = h.1
 ascends_gone (k ∷ ks) (suc place) h = (each_gone ks place k h.0, ascends_gone ks place h.1)
+
+pub first_gone : (ks : List ℕ) → 0 < length ks → drop 1 ks ≡ remove ks 0
+first_gone [] some = absurd (omega arith)
+first_gone (k ∷ ks) some = refl
 
 pub queued_gone : (ks : List ℕ) (place x d k : ℕ) → IsAscending ks → place < length ks → get_or ks place d ≡ x → is_queued (remove ks place) k ≡ without_bit x (is_queued ks) k
 queued_gone [] place x d k h inside is = absurd (omega arith)

@@ -9,7 +9,7 @@
 //! message with the lowest number for a site, and nothing exactly where none goes there. An error comes only where memory, or
 //! the range of the numbers, ends.
 //!
-//! No call walks over the messages: each takes as many steps as a look-up, `push_all` as many for each message.
+//! No call walks over the messages where they are more than a few: each takes as many steps as a look-up, `push_all` as many for each message.
 //!
 //! It stands on `site_message` for messages and their copies, on `tree_node`, and on `indexmap` for look-ups by number and by
 //! place. Nothing is left to tests.

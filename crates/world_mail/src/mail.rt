@@ -1,6 +1,6 @@
 //! The messages on their way between the sites.
 
-ghost use Rattle.std.specs.Prelude.{◌≡◌, ℕ, ◌+◌, ◌^◌, ◌<◌, ◌≤◌, ◌≢◌, [], ◌∷◌, ◌++◌, length, map, true, false, IsTrue, ◌↔◌, Some, None, slice_get, Contains, nat_eq, IfOk, OnOk, OnErr, MatchOption};
+ghost use Rattle.std.specs.Prelude.{◌≡◌, ℕ, ◌+◌, ◌^◌, ◌==◌, ◌<◌, ◌≤◌, ◌≢◌, [], ◌∷◌, ◌++◌, length, map, true, false, IsTrue, ◌↔◌, Some, None, slice_get, position, Contains, nat_eq, IfOk, OnOk, OnErr, MatchOption};
 ghost use Rattle.std.specs.List.{enumerate_from, IsDistinct};
 ghost use Rattle.std.specs.Map.{keys_of};
 ghost use Rattle.tree_node.specs.declared.limits.TheConstants.{MOST_SITES};
@@ -17,6 +17,9 @@ use indexmap::IndexMap;
 use site_message::{Msg, Sent, copy_sent};
 use std::alloc::{AllocError, Global};
 use std::marker::Model;
+
+// So many messages are looked through one by one.
+const FEW: usize = 8;
 
 /// The messages on their way, each with its number, in the order of their places; those to a site are found by their
 /// numbers. A message that leaves gives its place to the last one.
@@ -83,14 +86,17 @@ impl Mail {
         ensures { MatchOption result (IsNoneFor (map travel_of self.now.messages) site) (λ place. IsFirstFor (map travel_of self.now.messages) site place) }
     {
         let number = self.queues[site as usize].first()?;
-        self.messages.get_index_of(&number)
+        self.place_of(number)
     }
 
-    /// The place of the message of a number.
+    /// The place of the message of a number: by a look at each, where there are few.
     pub fn place_of(&self, number: u64) -> Option<usize>
         ensures place { IsPlaceOf (map travel_of self.now.messages) number result }
         ensures held { (m : ASent) → message_at self.now.messages number ≡ Some m → (place : ℕ) × (result ≡ Some place) × IsAt (map travel_of self.now.messages) m.to place number }
     {
+        if are_few(self.travels.len()) {
+            return look_through(self.travels.as_slice(), number);
+        }
         self.messages.get_index_of(&number)
     }
 
@@ -140,6 +146,18 @@ impl Mail {
         dequeue(&mut self.queues, sent.to as usize, number);
         (number, sent)
     }
+}
+
+// Whether there are so few messages that a look at each takes less than a look-up.
+fn are_few(messages: usize) -> bool {
+    messages <= FEW
+}
+
+// The place of the travel of a number, by a look at each up to there.
+fn look_through(travels: &[Travel], number: u64) -> Option<usize>
+    ensures { result ≡ position (λ t. t.number == number) travels.now }
+{
+    travels.iter().position(|travel| travel.number == number)
 }
 
 // A queue for each place from 0 to the number of sites.

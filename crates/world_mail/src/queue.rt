@@ -118,6 +118,28 @@ fn take_at(numbers: &mut VecDeque<u64>, place: usize, number: u64)
     numbers.remove(place);
 }
 
+// Whether a number is the first of these.
+fn is_first(numbers: &VecDeque<u64>, number: u64) -> bool
+    ensures { IsTrue result → (0 < length numbers.now.items) × (slice_index_or numbers.now.items 0 number ≡ number) }
+{
+    match numbers.front() {
+        None => false,
+        Some(first) => *first == number,
+    }
+}
+
+// Takes the first number away.
+fn take_first(numbers: &mut VecDeque<u64>, number: u64)
+    requires ascending { IsAscending numbers.old.items }
+    requires first { (0 < length numbers.old.items) × (slice_index_or numbers.old.items 0 number ≡ number) }
+    ensures ascending { IsAscending numbers.new.items }
+    ensures gone { (k : ℕ) → is_queued numbers.new.items k ≡ without_bit number (is_queued numbers.old.items) k }
+{
+    // The clauses speak of it.
+    let _ = number;
+    numbers.pop_front();
+}
+
 // Takes a number away, if it is there.
 #[tactic(auto, using(crate::proofs::QueueLemmas::without_same))]
 fn take_away(numbers: &mut VecDeque<u64>, number: u64)
@@ -125,6 +147,10 @@ fn take_away(numbers: &mut VecDeque<u64>, number: u64)
     ensures ascending { IsAscending numbers.new.items }
     ensures gone { (k : ℕ) → is_queued numbers.new.items k ≡ without_bit number (is_queued numbers.old.items) k }
 {
+    if is_first(numbers, number) {
+        take_first(numbers, number);
+        return;
+    }
     let place = place_of(numbers, number);
     if is_at(numbers, place, number) {
         take_at(numbers, place, number);

@@ -1,8 +1,8 @@
 use Rattle.std.proofs.Common.{◌≡◌, ◌<◌, ◌≤◌, ap, sym, ℕ, List, length, map, subst, false, true}
-use Rattle.std.specs.Prelude.{Option, MatchOption}
+use Rattle.std.specs.Prelude.{Option, MatchOption, Some}
 use Rattle.site_message.specs.declared.message.Sent.{Sent}
-use Rattle.world_mail.specs.Mail.{MailState, is_queued, queue_at}
-use Rattle.world_mail.specs.Travels.{travel_of, IsNoneFor, IsFirstFor}
+use Rattle.world_mail.specs.Mail.{MailState, message_at, is_queued, queue_at}
+use Rattle.world_mail.specs.Travels.{travel_of, IsAt, IsNoneFor, IsFirstFor}
 use Rattle.world_mail.proofs.MailLemmas.{none_queued, first_queued, queue_read}
 use Rattle.world_mail.proofs.mail.Mail.next_for.Goals as goal
 
@@ -26,5 +26,5 @@ returns c =
     let read : queue_at qs c.args.site ≡ c.index.result.now = queue_read qs c.args.site c.index.result.now inside c.index.ensures in
     let P : Option ℕ → List (ℕ × Sent) → Type 0 = λ r es. MatchOption r (IsNoneFor (map travel_of es) c.args.site) (λ place. IsFirstFor (map travel_of es) c.args.site place) in
     let first = subst (λ (q : List ℕ). (is_queued q c.in_ok-number.number ≡ true) × ((k : ℕ) → is_queued q k ≡ true → c.in_ok-number.number ≤ k)) (sym read) c.in_ok-number.ensures in
-    subst (P c.get_index_of.result) same
-    (first_queued ms c.self.inside.travels.items qs c.self.invariant c.args.site inside c.in_ok-number.number first.0 first.1 c.get_index_of.result c.get_index_of.ensures.index c.get_index_of.ensures.found c.get_index_of.ensures.value)
+    let placed = subst (λ (es : List (ℕ × Sent)). (m : Sent) → message_at es c.in_ok-number.number ≡ Some m → (place : ℕ) × (c.place_of.result ≡ Some place) × IsAt (map travel_of es) m.to place c.in_ok-number.number) (sym same) c.place_of.ensures.held in
+    subst (P c.place_of.result) same (first_queued ms c.self.inside.travels.items qs c.self.invariant c.args.site inside c.in_ok-number.number first.0 first.1 c.place_of.result placed)
