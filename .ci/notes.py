@@ -5,6 +5,7 @@ program is never run for other sources than its own. The file `note` beside it h
 differ from it, and the toolchain.
 """
 import contextlib
+import errno
 import os
 import pathlib
 import shutil
@@ -82,6 +83,17 @@ def text():
     return f"commit {commit}{' with changes' if changed else ''}\nkit {said('rt', 'version')}\n"
 
 
+def put(ready, place):
+    """Moves a folder to its place. One that another puts there meanwhile is of the same sources, and stays."""
+    shutil.rmtree(place, ignore_errors=True)
+    try:
+        ready.rename(place)
+    except OSError as error:
+        if error.errno not in (errno.EEXIST, errno.ENOTEMPTY):
+            raise
+        shutil.rmtree(ready)
+
+
 def keep(kind, number, program, note):
     """Puts a program and its note where they are looked for, at once, and drops the oldest. Gives the program's place."""
     store = top / "out" / kind
@@ -89,9 +101,9 @@ def keep(kind, number, program, note):
     ready.mkdir(parents=True)
     shutil.copy2(program, ready / PROGRAM)
     (ready / "note").write_text(note)
-    shutil.rmtree(store / number, ignore_errors=True)
-    ready.rename(store / number)
-    os.utime(store / number)
+    put(ready, store / number)
+    with contextlib.suppress(FileNotFoundError):
+        os.utime(store / number)
     old = sorted((it for it in store.iterdir() if it.is_dir()), key=lambda it: it.stat().st_mtime, reverse=True)[KEPT:]
     for folder in old:
         with contextlib.suppress(OSError):
