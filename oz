@@ -1,7 +1,8 @@
 #!/bin/sh
 # Runs a Kernel Oz text: ./oz FILE.oz, or ./oz < TEXT, with the program's words. The words, the output and the exit status
 # are the program's own; what is told beside them goes to standard error. Where no program of these sources is there yet, it
-# is built first, without checking its proofs; `./oz prove` checks them, and from then on the proved program runs.
+# is built first, without checking its proofs; `./oz prove` checks them, and from then on the proved program runs. Where it was
+# installed from a package, the program stands beside it, and nothing is built.
 set -u
 # Where it is called through a link, its folder is that of what the link leads to.
 self=$(readlink -f -- "$0" 2>/dev/null) || self=$0
@@ -10,41 +11,18 @@ top=$(CDPATH='' cd -- "$(dirname -- "$self")" && pwd) || exit 70
 # One byte more than the longest text that is read.
 most=1048577
 
-takes() {
-    cat >&2 <<'END'
-./oz [--sites N] [--workers N] [--steps N] [--messages N] [--hints] [run|central|save] [FILE.oz]
-./oz check
-./oz [--sites N] [--workers N] [--steps N] [--messages N] gen NUMBER
-./oz prove | version | program | races FILE.oz
-
-  FILE.oz        the text to run; where it is left out, the text is standard input
-  run            runs the text over its sites; this is what is done where neither word stands
-  central        runs it on the centralised machine, without sites
-  save           runs it over its sites, and prints the whole run in place of its lines
-  check          makes a run again that save printed, which is standard input: prints its lines, or where it is wrong
-  gen NUMBER     runs a large text of that size, 1 to 1,000, over its sites: no text is read
-  --sites N      the number of sites, 1 to 64; 4 where it is left out
-  --workers N    the number of workers that drive the sites, 0 to 64; 4 where it is left out. With 0 the sites take
-                 turns in a fixed order, and each run of a text prints the same
-  --steps N      stops the run where a site made N steps and could go on, 1 to 1,000,000,000; 1,000,000 where it is left out
-  --messages N   stops the run where the sites send more than N messages, 0 to 4,000,000,000; 1,000,000 where it is left out
-  --hints        tells after the run, on standard error, what its end may mean; on a terminal this is told anyway
-  prove          checks all proofs and builds the program of what is proved: minutes to more than an hour
-  version        tells which program runs, of which commit, and by which toolchain
-  program        prints the place of the program that runs, which is built first where it is not there
-  races FILE.oz  lists all that a text may print, whatever the order of its threads
-
-It prints what the text shows, a line each, and a last line that tells how the run ended. The exit status is 0 where
-every thread ended, 1 where some wait for ever, 2 for words that are not taken or a text that is not there, 3 for a text that
-is refused, 4 and 5 where the steps or the messages are used up, 6 and 7 where reading or writing failed, 8 where memory was
-wanting, 9 where a saved run is wrong, and 10 where what should be one is none. It is 70 where the program is not there yet and
-could not be built, or a proof fails.
-docs/language.md is the reference, and examples/ has texts to begin with.
-END
-}
+# How it is called here, which what it tells has for it. A package has the program beside it.
+called=./oz
+[ ! -x "$top/oz_main" ] || called=oz
+OZ_CALLED=$called
+export OZ_CALLED
 
 # Sets `program` to the one of these sources that is there: proved, or else not; and `kind` to which it is.
 find_program() {
+    if [ "$called" = oz ]; then
+        kind=$(sed -n 's/^kind //p' "$top/note") program=$top/oz_main
+        return
+    fi
     for kind in proved unproved; do
         [ -d "$top/out/$kind" ] || continue
         [ "$kind" = proved ] && code='' || code=code
@@ -66,6 +44,8 @@ version() {
         fi
         return
         ;;
+    packaged-proved) what='a package, whose program was proved where the package was made' ;;
+    packaged-unproved) what='a package, whose program was built without checking its proofs' ;;
     proved) what='proved here' ;;
     unproved) what='built without checking its proofs here (./oz prove checks them)' ;;
     esac
@@ -152,9 +132,16 @@ place_of() {
     esac
 }
 
-# Shows the line that was refused and a caret under its column, which counts bytes; of a long line the part around it.
+# Shows the line that was refused with its place, as editors read it, and a caret under its column, which counts bytes; of a long line the
+# part around it.
 show_refusal() {
     place_of "$1" "$2" || return 0
+    why=${2#refused }
+    case $why in
+    byte*) ;;
+    *) why=${why#* } ;;
+    esac
+    echo "$name:$line:$column: $why" >&2
     LC_ALL=C awk -v line="$line" -v column="$column" '
         NR == line { row = $0; exit }
         END {
@@ -172,13 +159,16 @@ show_refusal() {
 
 # Tells what a refusal or an end may mean. It changes neither the output nor the status.
 hint() {
-    [ ! -x "$top/hints/hint" ] || "$top/hints/hint" "$@" </dev/null >&2 || :
+    [ -x "$top/hints/hint" ] || return 0
+    command -v python3 >/dev/null || return 0
+    OZ_PROGRAM=$program OZ_TEXT=${text-} OZ_NAME=${name-} "$top/hints/hint" "$@" </dev/null >&2 || :
 }
 
 # Runs the program on a text in a file, with these words. One that is refused is so here, where its place is shown. For any
 # other the program takes the place of this script, so that signals reach it, but where hints are told after it.
 run_text() {
     text=$1
+    name=${file:--}
     shift
     refusal=$("$program" --steps 1 central <"$text" 2>/dev/null | tail -n 1)
     case $refusal in
@@ -200,57 +190,111 @@ run_text() {
     exit "$status"
 }
 
-# Refuses words, or a text that is not there: nothing was built or read.
+# Refuses words, or a text that is not there, in two lines: why, and the shortest line that shows what is taken. Nothing was built or
+# read. Standard output has the program's own answer, but on a terminal, where it would say less than the two lines.
 refuse() {
     echo "oz: $1" >&2
-    echo usage
+    echo "taken: $called ${2-FILE.oz}   ($called help tells the rest)" >&2
+    [ -t 1 ] || echo usage
     exit 2
 }
 
-# Says of each word that could be meant as a text, or as a saved run, why it is none.
-tell_words() {
-    for word in "$@"; do
-        case $word in
-        run | central | gen | save | check | -* | *[0-9]) ;;
-        *)
-            if [ -d "$word" ]; then
-                echo "oz: $word is a folder, and no text" >&2
-            elif [ "$checks" = yes ]; then
-                echo "oz: $word is no word that is taken; check reads standard input: ./oz check < RUN" >&2
-            else
-                echo "oz: $word is no word that is taken; the name of a text ends with .oz" >&2
-            fi
-            ;;
-        esac
-    done
+# A page of help, from the folder of that name.
+help_page() {
+    [ $# -le 1 ] || refuse "$2: help takes one word more" 'help words'
+    page=${1-first}
+    case $page in
+    first | words | ends) ;;
+    *) refuse "$page: no page of help has this name" 'help words, or: help ends' ;;
+    esac
+    sed "s|\./oz|$called|g" "$top/help/$page"
+    exit
 }
 
-case ${1-} in
+# Whether a number is one from $2 to $3, which has less than 19 digits or is that of --seed.
+is_within() {
+    number=${1#+}
+    case $number in
+    '' | *[!0-9]*) return 1 ;;
+    esac
+    while [ "${#number}" -gt 1 ] && [ "${number#0}" != "$number" ]; do
+        number=${number#0}
+    done
+    [ "${#number}" -le "${#3}" ] || return 1
+    # The largest seed has two halves of ten digits.
+    if [ "${#number}" -eq 20 ]; then
+        first=${number%??????????} last=${number#??????????}
+        [ "$first" -lt 1844674407 ] && return
+        [ "$first" -eq 1844674407 ] && [ "1$last" -le 13709551615 ]
+        return
+    fi
+    [ "${#number}" -ge 19 ] || { [ "$number" -ge "$2" ] && [ "$number" -le "$3" ]; }
+}
+
+# Refuses a number that the word before it does not take.
+takes_number() {
+    case $1 in
+    --sites) least=1 greatest=64 range='1 to 64' shown='--sites 4 FILE.oz' ;;
+    --workers) least=0 greatest=64 range='0 to 64' shown='--workers 0 FILE.oz' ;;
+    --steps) least=1 greatest=1000000000 range='1 to 1,000,000,000' shown='--steps 1000 FILE.oz' ;;
+    --messages) least=0 greatest=4000000000 range='0 to 4,000,000,000' shown='--messages 1000 FILE.oz' ;;
+    --seed) least=0 greatest=18446744073709551615 range='0 to 2^64 - 1' shown='--seed 7 FILE.oz' ;;
+    gen) least=1 greatest=1000 range='1 to 1,000' shown='gen 100' ;;
+    esac
+    is_within "$2" "$least" "$greatest" || refuse "$1 $2: the number behind $1 is $range" "$shown"
+}
+
+# Words of the script's own stand first.
+first=${1-}
+case $first in
 races)
     shift
     wants_python
+    # The program certifies what is listed, where it is there.
+    find_program && set -- --program "$program" "$@"
     exec "$top/oracle/races" "$@"
     ;;
-prove)
-    [ $# -eq 1 ] || refuse 'prove takes no more words'
-    build proofs
+again)
+    shift
+    wants_python
+    need_program
+    exec "$top/oracle/again" --program "$program" "$@"
+    ;;
+package | prove)
+    [ $# -eq 1 ] || refuse "$2: $first takes no more words" "$first"
+    [ "$called" = ./oz ] || refuse "$first wants the sources, and this is a package" version
+    if [ "$first" = prove ]; then
+        build proofs
+    else
+        wants_python
+        need_program
+        exec python3 "$top/package/make" "$program"
+    fi
     exit
     ;;
-version)
-    [ $# -eq 1 ] || refuse 'version takes no more words'
+version | --version)
+    [ $# -eq 1 ] || refuse "$2: version takes no more words" version
     find_program
     version
     exit
     ;;
 program)
-    [ $# -eq 1 ] || refuse 'program takes no more words'
+    [ $# -eq 1 ] || refuse "$2: program takes no more words" program
     need_program
     echo "$program"
     exit
     ;;
+help)
+    shift
+    help_page "$@"
+    ;;
 esac
 
+# Each word is looked at once: those of the program are kept in their order, and a file that is none of them is the text.
 file=
+action=
+wants=
+given=' '
 hints=no
 [ ! -t 1 ] || hints=yes
 count=$#
@@ -258,74 +302,90 @@ while [ "$count" -gt 0 ]; do
     word=$1
     shift
     count=$((count - 1))
+    if [ -n "$wants" ]; then
+        takes_number "$wants" "$word"
+        wants=
+        set -- "$@" "$word"
+        continue
+    fi
     case $word in
-    *.oz) [ -n "$file" ] || { file=$word; continue; } ;;
+    --sites | --workers | --steps | --messages | --seed | --sites=* | --workers=* | --steps=* | --messages=* | --seed=*)
+        option=${word%%=*}
+        case $given in
+        *" $option "*) refuse "$option stands twice" "$option 7 FILE.oz" ;;
+        esac
+        given="$given$option "
+        [ "$option" = "$word" ] && wants=$option || takes_number "$option" "${word#*=}"
+        ;;
     --hints)
         hints=yes
+        continue
+        ;;
+    -h | --help | help) help_page ;;
+    run | central | gen | save | check)
+        [ -z "$action" ] || refuse "$word: $action stands before it, and one of the two is done" "$word FILE.oz"
+        action=$word
+        [ "$word" != gen ] || wants=gen
+        ;;
+    races | again | package | prove | version | --version | program) refuse "$word: this word stands first" "$word" ;;
+    *)
+        if [ -d "$word" ]; then
+            refuse "$word is a folder, and no text"
+        elif [ ! -e "$word" ]; then
+            case $word in
+            *.oz) refuse "$word is not there" ;;
+            -*) refuse "$word: there is no such option" '--sites 4 FILE.oz' ;;
+            [0-9]*) refuse "$word: a number stands behind an option or gen" '--sites 4 FILE.oz' ;;
+            *) refuse "$word: no file has this name, and it is no word of oz" ;;
+            esac
+        fi
+        [ -z "$file" ] || refuse "$word: a second file behind $file, and one is run" "$file"
+        file=$word
         continue
         ;;
     esac
     set -- "$@" "$word"
 done
+case $wants in
+gen) refuse 'gen wants a number behind it, 1 to 1,000' 'gen 100' ;;
+?*) refuse "$wants wants a number behind it" "$wants 7 FILE.oz" ;;
+esac
+[ "$action" != gen ] || [ -z "$file" ] || refuse "$file: gen reads no text, it makes one" 'gen 100'
 
-for word in "$@"; do
-    case $word in
-    help | -h | --help)
-        echo usage
-        takes
-        find_program
-        version >&2
-        exit 2
-        ;;
-    esac
-done
+tells_to_type() {
+    echo "oz: the text is read from here: end it with a line that has Ctrl-D alone ($called help tells what is taken)" >&2
+}
 
-# A text that is not there is told before anything is built.
-if [ -n "$file" ]; then
-    [ -e "$file" ] || refuse "$file is not there"
-    [ ! -d "$file" ] || refuse "$file is a folder, and no text"
-fi
-
-# What the program takes is told before it is built.
+# What is read is told before the program is built.
 is_told=
 if ! find_program; then
     if [ $# -eq 0 ] && [ -z "$file" ] && [ -t 0 ]; then
-        takes
+        tells_to_type
         is_told=yes
     fi
     need_program
 fi
 
-# `gen` reads no text. A file beside it is a word too many.
-for word in "$@"; do
-    [ "$word" = gen ] || continue
-    [ -z "$file" ] || set -- "$@" "$file"
+# `gen` reads no text.
+if [ "$action" = gen ]; then
     exec 3</dev/null
     waits_for "$program" "$@"
-    [ "$status" -ne 2 ] || takes
     [ "$hints" = no ] || hint end "$status" "$@"
     exit "$status"
-done
+fi
 
-# `check` reads no text, but a saved run. A file beside it is a word too many.
-checks=no
-for word in "$@"; do
-    [ "$word" = check ] || continue
-    [ -z "$file" ] || set -- "$@" "$file"
-    checks=yes
-    break
-done
-
-# Words that are not taken are refused before anything is read.
+# Words that the program that is there does not take are refused before anything is read.
 "$program" "$@" </dev/null >/dev/null 2>&1
-if [ $? -eq 2 ]; then
-    takes
-    tell_words "$@"
-    exec "$program" "$@"
+[ $? -ne 2 ] || refuse "$*: the program that is there does not take these words" 'help words'
+
+if [ -n "$file" ] && [ ! -r "$file" ]; then
+    echo "oz: $file cannot be read" >&2
+    exec "$program" "$@" <&-
 fi
 
 # A saved run is left to the program, where it stands.
-if [ "$checks" = yes ]; then
+if [ "$action" = check ]; then
+    [ -z "$file" ] || exec <"$file"
     if [ "$hints" = no ] || ! (exec 3<&0) 2>/dev/null; then
         exec "$program" "$@"
     fi
@@ -336,19 +396,12 @@ if [ "$checks" = yes ]; then
 fi
 
 if [ -n "$file" ]; then
-    if [ ! -r "$file" ]; then
-        echo "oz: $file cannot be read" >&2
-        exec "$program" "$@" <&-
-    fi
     [ ! -f "$file" ] || run_text "$file" "$@"
     # A pipe or a device is read as standard input is.
     exec <"$file"
 fi
 
-if [ $# -eq 0 ] && [ -t 0 ]; then
-    [ -n "$is_told" ] || takes
-    echo 'The text is read from here: end it with a line that has Ctrl-D alone.' >&2
-fi
+[ $# -ne 0 ] || [ ! -t 0 ] || [ -n "$is_told" ] || tells_to_type
 # Standard input is kept in a file without a name, so that the place of a refusal can be shown.
 if ! kept=$(mktemp); then
     exec "$program" "$@"

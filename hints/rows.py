@@ -85,7 +85,7 @@ ROWS = [
     ("local X in X = 007 end", "refused 1:16 bad number", ""),
     ("thread at 0 skip end", "refused 1:11 site below 1", ""),
     ("local X in X = 5, end", "refused 1:17 bad character", "nothing stands between the parts of a list, a call or a record but blanks"),
-    ("local X in {Browse X X} end", "refused 1:22 expected }", ""),
+    ("local X in {Browse X X} end", "refused 1:22 expected }", "Browse has one argument: {Browse f(X Y)}"),
     ("local X in {browse X} end", "refused 1:13 expected a variable", "a call begins with a variable, as {Browse X}: names of procedures"),
     ("local X in X = Y|nil end", "refused 1:16 undeclared", "nothing around this place declares Y: local Y in .. end does"),
     ("local X in X == 5 end", "refused 1:14 expected =", "a tell has one =; a test is a value: B = X == Y, or if X == Y then"),
@@ -115,9 +115,9 @@ ROWS = [
     (
         "local P in\n  proc {P X}\n    if X then skip else skip\n  end\nend",
         "refused 5:4 expected a statement or end",
-        "the text ends, and these have no end yet: local at 1:1; the end at 4:3 closes the if of 3:5",
+        "the proc of 2:3 is open here; the end of 4:3 stands under it and closes the if of 3:5",
     ),
-    ("local X in X = '1 end", "refused 1:16 open quote", ""),
+    ("local X in X = '1 end", "refused 1:16 open quote", "the quote of 1:16 is not closed in its line"),
     ("local X in X = a:b end", "refused 1:17 expected a statement or end", ""),
     (
         "% fun\nlocal X in /* end end */ {Browse Z} end",
@@ -252,30 +252,175 @@ ROWS = [
     (
         "local F in\n  fun {F X}\n    if X then 1 else 2\n  end\nend",
         "refused 5:4 expected a statement or end",
-        "the text ends, and these have no end yet: local at 1:1; the end at 4:3 closes the if of 3:5",
+        "the fun of 2:3 is open here; the end of 4:3 stands under it and closes the if of 3:5",
     ),
     (
         "local X in\n  try X = 1\n  catch E then skip\n  finally {Browse E}\n  end\nend",
         "refused 4:19 undeclared",
         "nothing around this place declares E: local E in .. end does",
     ),
+    ("local X in X = 1 if X = 0 then skip else skip end end", "refused 1:23 expected then", "a test has two =, as if X == 0 then; one = tells"),
+    (
+        "local F Y in Y = F(3) end",
+        "refused 1:19 expected a statement or end",
+        "a call stands in braces, as {F 3}: brackets are those of a record, as f(3)",
+    ),
+    (
+        "local F Y in fun {F X} X end {Browse F(3)} end",
+        "refused 1:39 expected }",
+        "a call stands in braces, as {F 3}: brackets are those of a record, as f(3)",
+    ),
+    ("local F in F(3) end", "refused 1:13 expected =", "a call stands in braces, as {F 3}: brackets are those of a record, as f(3)"),
+    (
+        "local F in fun {F X} return X+1 end end",
+        "refused 1:29 expected end",
+        "there is no return: the body of a function is its value, and a procedure ends with its last statement",
+    ),
+    (
+        "local F in proc {F X} return end end",
+        "refused 1:23 expected a statement",
+        "there is no return: the body of a function is its value, and a procedure ends with its last statement",
+    ),
+    ("local F Y in Y = {F 1, 2} end", "refused 1:22 bad character", "nothing stands between the parts of a list, a call or a record but blanks"),
+    (
+        "local X Y in X = Y = 3 end",
+        "refused 1:20 expected a statement or end",
+        "one = in a statement: a test has two, as X = (Y == 3), and two tells stand behind each other, as Y = 3 X = Y",
+    ),
+    (
+        "local A B C in {Browse A+B*C} end",
+        "refused 1:27 expected }",
+        "a value has one operator, and one inside another stands in brackets: X = (Y * Y) + 1, and (X mod 2)|Xs",
+    ),
+    (
+        "local S in case S of query(X Y)|Sr then skip else skip end end",
+        "refused 1:32 expected then",
+        "a pattern has one level: case S of M|Sr then case M of f(X) then .. else .. end else .. end",
+    ),
+    (
+        "local Rev in\n  fun {Rev Xs}\n    fun {Iter Ys} Ys end\n  in\n    {Iter Xs}\n  end\nend",
+        "refused 3:10 expected $",
+        "the body of a function is one value: with a procedure of its own it is proc {F X ?R} local G in fun {G Y} .. e",
+    ),
+    (
+        "local F in fun {F} C={NewCell 0} in C end end",
+        "refused 1:20 undeclared",
+        "names before the in of a body are declared by a local, and a function with statements is a procedure: proc {F ",
+    ),
+    (
+        "local P in proc {P} C={NewCell 0} in {Browse C} end end",
+        "refused 1:21 undeclared",
+        "names before the in of a body are declared by a local: proc {P} local C in C = E .. end end",
+    ),
+    (
+        "local P in proc {P} C in C={NewCell 0} {Browse C} end end",
+        "refused 1:21 undeclared",
+        "names before the in of a body are declared by a local: proc {P} local C in C = E .. end end",
+    ),
+    (
+        "local X in if X == 1 skip else skip end end",
+        "refused 1:22 expected then",
+        "behind the test of an if stands then: if X == Y then .. else .. end",
+    ),
+    ("local X in while X do skip end end", "refused 1:12 expected a statement", "there is no while: a loop is a procedure that calls itself"),
+    ("local X in print(X) end", "refused 1:12 expected a statement", "a call stands in braces and begins with a variable, as {Browse X}"),
+    (
+        "local X in\n  X = 'it's late'\n  {Browse X}\nend",
+        "refused 2:11 expected a statement or end",
+        "a quote within a quoted atom is written with a backslash: 'it\\'s'",
+    ),
+    (
+        "local X in {Browse hello world} end",
+        "refused 1:26 expected }",
+        "Browse has one argument: {Browse f(X Y)}, and a text of several words stands in quotes",
+    ),
+    ("local X in X = (1 + 2 {Browse X} end", "refused 1:23 expected )", "the ( of 1:16 has no ) before 1:23"),
+    (
+        "local X in\n  case X of\n    nil then skip\n  | H|T then skip\n  else skip end\nend",
+        "refused 4:3 expected a statement, [] or else",
+        "the clauses of a case are divided by []: case X of P then .. [] Q then .. else .. end",
+    ),
+    (
+        "local X in X = true and false end",
+        "refused 1:21 expected a statement or end",
+        "A and B is if A then B else false end, and A or B is if A then true else B end",
+    ),
+    ("local X in X = not true end", "refused 1:16 expected a value", "not E is if E then false else true end"),
+    (
+        "local X in X = 5 % 2 end",
+        "refused 1:25 expected a statement or end",
+        "the text ends, and these have no end yet: local at 1:1; % begins a comment, and X mod Y is the rest of a divis",
+    ),
+    ("local X in X = 5 != 3 end", "refused 1:18 bad character", "what differs is tested by \\=, as X \\= Y"),
+    ("local X in X = 5 <= 3 end", "refused 1:19 expected a value", "at most is =<, as X =< Y"),
+    ("local X in X = 5 => 3 end", "refused 1:18 expected a statement or end", "at least is >=, as X >= Y"),
+    ("local X in X <- 3 end", "refused 1:14 expected =", "a variable is told by =, and once: X = 3"),
+    ("local X in X = f{3} end", "refused 1:18 expected a variable", "a record has brackets, as f(3); braces are those of a call, as {F 3}"),
+    (
+        "local X Y\n  X = 5\n  Y = X + 1\n  {Browse Y}\nend",
+        "refused 2:5 expected a variable or in",
+        "behind the names of a local stands in: local X Y in .. end",
+    ),
+    ("local X\n  {Browse X}\nend", "refused 2:3 expected a variable or in", "behind the names of a local stands in: local X Y in .. end"),
+    ("local X in X = 5 {Browse X)} end", "refused 1:27 expected }", "the ) of 1:27 closes nothing: no bracket of this kind is open"),
+    ("local P in\n  P = point(x:1 y:2\n  {Browse P.x}\nend", "refused 3:11 expected }", "the ( of 2:12 has no ) before 3:3"),
+    (
+        "local Sign in\n  fun {Sign X}\n    if X < 0 then minus\n    else if X == 0 then zero\n    else plus end\n  end\n  {Browse {Sign 4}}\nend",
+        "refused 7:3 expected end",
+        "the if of 4:10 behind the else has an end, and the if of 3:5 has none: the fun of 2:3 is open here; the end of",
+    ),
+    (
+        "local F in\n  fun {F N}\n    if N == 0 then 1\n    else N * {F N-1}\n    end\n  {Browse {F 3}}\nend",
+        "refused 6:3 expected end",
+        "the fun of 2:3 has no end before 6:3, which stands under it",
+    ),
+    (
+        "local P in\n  proc {P X}\n    if X == 1 then {Browse one}\n    {Browse two}\n  end\n  {P 1}\nend",
+        "refused 5:3 expected a statement or else",
+        "the if of 3:5 has no else and no end: the if of 3:5 has no end before 4:5, which stands under it",
+    ),
+    (
+        "local All in\n  proc {All Xs P} skip end\n  {All nil proc {$ X}\n    if X then {Browse X} else skip\n  }\nend",
+        "refused 5:3 expected a statement or end",
+        "the if of 4:5 has no end before the } of 5:3; the proc of 3:12 has no end before the } of 5:3",
+    ),
+    (
+        "local X in\n  try\n    X = 1\n  catch E then skip\n  {Browse X}\nend",
+        "refused 6:4 expected a statement or end",
+        "the try of 2:3 has no end before 5:3, which stands under it",
+    ),
 ]
 
-# The status of a run, the words of the program, and a part of what is told of it.
+# Texts of these that have more than one fault.
+SEVERAL = (
+    "local X in X = 5 // c",
+    "local X in {browse X} {Brows X} end",
+    "local X in\n  proc {P} skip\nend",
+)
+
+# The status of a run, the words of the program, the text, and a part of what is told first.
+SKIP, SERVER = "skip", "local P S in {NewPort S P} thread {Wait S} end end"
+LOOP = "local P in\n  proc {P X} {P X} end\n  {P 1}\nend"
+FLOAT = "local X in X = 3.14 {Browse X} end"
 ENDS = [
-    ("0", (), ""),
-    ("1", (), "waiting=N counts threads that wait for variables that nobody will bind"),
-    ("2", (), ""),
-    ("3", (), ""),
-    ("4", (), "--steps 100000000 allows more"),
-    ("4", ("--steps", "50", "central"), "--steps 500 allows more"),
-    ("4", ("--steps", "1000000000"), "--steps 1000000000 allows more"),
-    ("5", (), "--messages 400000000 allows more"),
-    ("5", ("--messages", "7"), "--messages 70 allows more"),
-    ("6", (), ""),
-    ("7", (), ""),
-    ("8", (), "memory was wanting"),
-    ("9", ("check",), "wrong entry=I counts the turns of a saved run"),
-    ("10", ("check",), "what was read is no saved run"),
-    ("no number", (), ""),
+    ("0", (), SKIP, ""),
+    ("1", (), SKIP, "waiting=1 is the only thread"),
+    ("1", (), "local X in thread {Wait X} end end", "waiting=N counts threads that wait for variables that nobody will bind"),
+    ("1", (), SERVER, "a server at rest, and no fault"),
+    ("2", (), SKIP, ""),
+    ("3", (), SKIP, ""),
+    ("4", (), SKIP, "--steps 1000 shows how it begins, and --steps 10000000 whether more is enough"),
+    ("4", (), LOOP, "what calls itself here: P of 2:3"),
+    ("4", ("--steps", "50", "central"), SKIP, "--steps 500 whether more is enough"),
+    ("4", ("--steps", "1000000000"), SKIP, "are mostly a loop"),
+    ("5", (), SKIP, "--messages 10000000 allows more"),
+    ("5", ("--messages", "7"), SKIP, "--messages 70 allows more"),
+    ("6", (), SKIP, ""),
+    ("7", (), SKIP, ""),
+    ("8", (), SKIP, "memory was wanting"),
+    ("9", ("check",), "", "wrong entry=I counts the turns of a saved run"),
+    ("10", ("check",), "", "what was read is no saved run"),
+    ("0", (), FLOAT, "3.14 in line 1 is the field 14 of the integer 3"),
+    ("0", (), "local X in X = f(3:14) {Browse X.3} % 3.14\n end", ""),
+    ("no number", (), SKIP, ""),
 ]

@@ -1,8 +1,11 @@
 """What is open, and which names are declared, at a place of a text: read leniently, since the text is refused from there on."""
+import collections
 import re
 
 TOKEN = re.compile(r"%[^\n]*|/\*|\[\]|'(?:[^'\\\n]|\\.)*'|[A-Z]\w*|[a-z]\w*|\d+|[^\s\w]", re.ASCII)
 BLANKS = re.compile(r"[ \t]*")
+# A word, a sign or a quoted atom, with its place from 0 and from 1:1, and by how much its line is indented.
+Token = collections.namedtuple("Token", "word at line column indent")
 OPENING = ("local", "proc", "fun", "if", "case", "thread", "try", "raise")
 # The words behind which a statement declares nothing any more, and those behind which it declares what stands there.
 BODY = ("in", "then", "}")
@@ -38,7 +41,7 @@ class Scopes:
     def __init__(self, before):
         self.open, self.ended = [], []
         last = ""
-        for word, *place in tokens(before):
+        for word, _, *place in tokens(before):
             if word in OPENING:
                 self.open.append(Opened(word, *place))
             elif word == "end" and self.open:
@@ -64,7 +67,7 @@ class Scopes:
 
 
 def tokens(text):
-    """Words, names and signs with their lines, columns and indentations; comments and quoted atoms are left out."""
+    """The tokens of a text, as far as there are any; comments are left out."""
     at = seen = start = 0
     line = 1
     while match := TOKEN.search(text, at):
@@ -72,8 +75,8 @@ def tokens(text):
         if word == "/*":
             close = text.find("*/", at)
             at = len(text) if close < 0 else close + 2
-        elif word[0] not in "%'":
+        elif word[0] != "%":
             line += text.count("\n", seen, match.start())
             start = text.rfind("\n", seen, match.start()) + 1 or start
             seen = match.start()
-            yield word, line, seen - start + 1, len(BLANKS.match(text, start)[0])
+            yield Token(word, seen, line, seen - start + 1, len(BLANKS.match(text, start)[0]))

@@ -12,7 +12,8 @@ import time
 from counting import MOST_AMOUNT, MOST_CONTENT, OTHER, Counts
 from keys import key
 from machine import Raised, State, Unbound, step, take, unwind
-from reading import read
+from reading import read_with_places
+from saved import NO_TRACE, Trace, saved_run
 
 MOST_STEPS = 100_000
 MOST_STATES = 100_000
@@ -47,8 +48,8 @@ class Limits:
 class Threads:
     """What the threads of a state do next: the steps of those that come to one that may be noticed, and what the others wait for."""
 
-    def __init__(self, state, limits, tells_at_once):
-        self.state, self.limits, self.tells_at_once = state, limits, tells_at_once
+    def __init__(self, state, limits, tells_at_once, trace=NO_TRACE):
+        self.state, self.limits, self.tells_at_once, self.trace = state, limits, tells_at_once, trace
         self.next, self.awaited = {}, {}
         self.settle()
 
@@ -70,6 +71,7 @@ class Threads:
                 del state.threads[name]
                 state.ended += 1
                 return True
+            item = state.threads[name][0]
             try:
                 noticed = self.advance(name)
             except Unbound as waits:
@@ -80,6 +82,7 @@ class Threads:
                 return made > 0
             if noticed:
                 take(state, name, noticed)
+            self.trace.add(state, name, item)
         raise TooMany(f"a thread that makes {MOST_STEPS:,} steps alone")
 
     def advance(self, name):
@@ -162,6 +165,18 @@ def code_of(stack, counts):
             yield parts[1], parts[2]
 
 
+def end_line(state):
+    return f"quiescent ended={state.ended} waiting={len(state.threads)}"
+
+
+def made(state, name, noticed, trace=NO_TRACE):
+    """Makes a step that others may notice. The lines that it prints: one, or none."""
+    item = state.threads[name][0]
+    line = take(state, name, noticed)
+    trace.add(state, name, item, line)
+    return () if line is None else (line,)
+
+
 class Branch:
     """A state that has several next steps: those that are left, the lines before it, and the outputs found behind it."""
 
@@ -194,21 +209,24 @@ class Orders:
             return
         name, noticed = branch.left.pop(0)
         state = branch.state.copy() if branch.left else branch.state
-        line = take(state, name, noticed)
-        self.enter(state, () if line is None else (line,))
+        self.enter(state, made(state, name, noticed))
 
     def enter(self, state, lines):
         """Goes on from a state to its next branch, or to its end. `lines` were printed since the branch before."""
+        threads, lines = self.to_branch(state, lines)
+        if not threads.next:
+            return self.give(lines, {(end_line(state),)})
+        return self.meet(state, threads, lines)
+
+    def to_branch(self, state, lines, trace=NO_TRACE):
+        """Makes the steps of a state up to its next branch, or to its end: what its threads do next there, and all lines."""
         for _ in range(MOST_STEPS):
             self.limits.check_time()
-            threads = Threads(state, self.limits, self.tells_at_once)
-            if not threads.next:
-                return self.give(lines, {(f"quiescent ended={state.ended} waiting={len(state.threads)}",)})
+            threads = Threads(state, self.limits, self.tells_at_once, trace)
             name = next((name for name in threads.next if threads.is_alone(name, self.counts)), None)
             if name is None:
-                return self.meet(state, threads, lines)
-            line = take(state, name, threads.next[name])
-            lines += () if line is None else (line,)
+                return threads, lines
+            lines += made(state, name, threads.next[name], trace)
         raise TooMany(f"a run that makes {MOST_STEPS:,} steps in one order")
 
     def meet(self, state, threads, lines):
@@ -237,26 +255,90 @@ class Orders:
             raise TooMany(f"more than {self.limits.outputs:,} outputs")
 
     def found_so_far(self):
-        """The whole outputs that are known where nothing more is gone through."""
+        """The whole outputs that are known where nothing more is gone through; all branches are closed."""
         found = set()
         for branch in reversed(self.branches):
-            found = {branch.lines + others for others in found | branch.found}
+            self.after[branch.key] = frozenset(found | branch.found)
+            found = {branch.lines + others for others in self.after[branch.key]}
         return frozenset(found)
+
+    def run_of(self, output):
+        """The trace of a run with this output, which was found: from each branch on a step behind which the rest of it was found."""
+        met, left = set(), []
+        ended = self.walk(State(self.program), output, Trace(), met, left)
+        while ended is None:
+            state, name, noticed, rest, trace = left.pop()
+            state, trace = state.copy(), trace.copy()
+            lines = made(state, name, noticed, trace)
+            if rest[: len(lines)] == lines:
+                ended = self.walk(state, rest[len(lines) :], trace, met, left)
+        return ended
+
+    def walk(self, state, rest, trace, met, left):
+        """Goes on from a state to its next branch, whose steps come to `left` where the rest of an output was found behind it. The trace, if
+        that is its end."""
+        threads, lines = self.to_branch(state, (), trace)
+        behind = rest[len(lines) :]
+        if rest[: len(lines)] != lines:
+            return None
+        if not threads.next:
+            trace.wait(state)
+            return trace if behind == (end_line(state),) else None
+        found = key(state)
+        if behind in (self.after.get(found) or ()) and (found, behind) not in met:
+            met.add((found, behind))
+            state.drop_unreached()
+            left.extend((state, name, noticed, behind, trace) for name, noticed in reversed(threads.next.items()))
+        return None
+
+
+def as_text(lines):
+    """An output as it is printed, from its lines."""
+    return "".join(line + "\n" for line in lines)
 
 
 def as_texts(found):
-    """Outputs as they are printed, from their lines."""
-    return {"".join(line + "\n" for line in lines) for lines in found}
+    return set(map(as_text, found))
+
+
+def orders_of(text, limits):
+    """The search through all orders of a text, which is done, its outputs, and why it was given up, or None."""
+    program, places = read_with_places(text)
+    for tells_at_once in (True, False):
+        orders = Orders(program, limits, tells_at_once)
+        orders.places = places
+        try:
+            return orders, orders.outputs(), None
+        except TooMany as limit:
+            return orders, limit.found, limit.why
+        except TellFailed:
+            pass
+    raise AssertionError("a tell that is a choice fails in its thread alone")
 
 
 def outputs(text, limits=None):
     """All outputs of a text. Raises TooMany where there are more of them, or more states, or a run may have no end."""
-    program, limits = read(text), limits or Limits()
-    try:
-        try:
-            found = Orders(program, limits, tells_at_once=True).outputs()
-        except TellFailed:
-            found = Orders(program, limits, tells_at_once=False).outputs()
-    except TooMany as limit:
-        raise TooMany(limit.why, as_texts(limit.found)) from limit
+    _, found, why = orders_of(text, limits or Limits())
+    if why is not None:
+        raise TooMany(why, as_texts(found))
     return as_texts(found)
+
+
+class Listed:
+    """The outputs of a text in the order of their list, why there may be more, or None, and what the search knows of them."""
+
+    def __init__(self, text, limits=None):
+        self.text = text
+        self.orders, found, self.why = orders_of(text, limits or Limits())
+        self.orders.limits = Limits()
+        self.outputs = dict(sorted((as_text(output), output) for output in found))
+
+    def run_of(self, output):
+        """A saved run of an output."""
+        return saved_run(self.text, self.orders.run_of(self.outputs[output]), self.outputs[output][-1])
+
+
+def outputs_with_runs(text, limits=None):
+    """The outputs of a text, each with a saved run that prints it, and why there may be more of them, or None."""
+    listed = Listed(text, limits)
+    return {output: listed.run_of(output) for output in listed.outputs}, listed.why

@@ -2,7 +2,7 @@
 its first fault is told as `oz` tells it is not promised, and limits of sizes are not known here."""
 import re
 
-from statements import built_in, call, caught, choice, in_order, local, raising, sequence, tell, thread
+from statements import Statement, built_in, call, caught, choice, in_order, local, raising, sequence, tell, thread
 from sugar import Expansion
 
 RESERVED = set(
@@ -69,7 +69,7 @@ class Reader:
 
     def __init__(self, text):
         (self.tokens, self.places), self.at, self.statements = tokens(text), 0, []
-        self.expansion, self.hiding = Expansion(), 0
+        self.expansion, self.hiding, self.made = Expansion(), 0, []
 
     def fault(self, wanted):
         """That something else stands at the token read last."""
@@ -141,7 +141,13 @@ class Reader:
         return statements
 
     def statement(self, declared):
-        self.statements.append(self.places[self.at])
+        start = self.places[self.at]
+        self.statements.append(start)
+        made = self.statement_alone(declared)
+        self.made.append((made, start, self.places[self.at]))
+        return made
+
+    def statement_alone(self, declared):
         kind, said = self.next("variable", "word", "sign")
         if kind == "word":
             reader = getattr(self, "read_" + said, None)
@@ -221,6 +227,12 @@ class Reader:
     # ---- values
 
     def value(self, declared):
+        start = self.places[self.at]
+        value = self.value_alone(declared)
+        self.expansion.places.setdefault(id(value), (value, start, self.places[self.at]))
+        return value
+
+    def value_alone(self, declared):
         if self.takes("if"):
             subject = self.value(declared)
             self.expect("then")
@@ -335,6 +347,35 @@ class Reader:
 def read(text):
     """The program of a text."""
     return Reader(text).sequence({})
+
+
+def read_with_places(text):
+    """The program of a text, and where each of its statements, and those that it stands for, begin and end in the text: by `id`, since they live
+    as long as the program. Of what stands around a statement the shortest counts."""
+    reader = Reader(text)
+    program = reader.sequence({})
+    places = {id(statement): place for statement, *place in reader.made}
+    for statement, *place in sorted([*reader.made, *reader.expansion.made], key=lambda it: it[2] - it[1]):
+        mark(statement, place, places)
+    mark(program, [0, len(text)], places)
+    return program, places
+
+
+def mark(statement, place, places):
+    """All statements in a statement have this place, where they have none of their own."""
+    left = [statement]
+    while left:
+        found = left.pop()
+        places.setdefault(id(found), place)
+        left.extend(inner(found))
+
+
+def inner(statement):
+    """The statements that a statement has."""
+    if statement.kind == "tell":
+        value = statement.parts[1]
+        return value[2:3] if value[0] == "procedure" else ()
+    return [part for part in statement.parts if isinstance(part, Statement)]
 
 
 def statement_places(text):

@@ -12,14 +12,15 @@ from statements import built_in, call, caught, choice, in_order, local, match, r
 
 
 class Expansion:
-    """Makes statements. Its new names are such as no text has."""
+    """Makes statements. Its new names are such as no text has. `places` has, by their `id`, the values that stand in the text, each with where it
+    begins and ends; `made` the statements that tell these, so too."""
 
     def __init__(self):
-        self.made = 0
+        self.names, self.places, self.made = 0, {}, []
 
     def new(self):
-        self.made += 1
-        return f"'{self.made}"
+        self.names += 1
+        return f"'{self.names}"
 
     def named(self, value):
         """The name of a part: its own where it is a variable, else a new one."""
@@ -38,7 +39,10 @@ class Expansion:
         """The statement that tells a value to a variable."""
         kind, *parts = value
         making = getattr(self, "told_" + kind.replace(" ", "_"), None)
-        return making(left, *parts) if making else tell(left, value)
+        made = making(left, *parts) if making else tell(left, value)
+        if id(value) in self.places:
+            self.made.append((made, *self.places[id(value)][1:]))
+        return made
 
     def told_record(self, left, label, fields):
         names = {feature: self.named(part) for feature, part in fields}
