@@ -1,6 +1,6 @@
 #!/bin/sh
 # Runs a Kernel Oz text: ./oz FILE.oz, or ./oz < TEXT, with the program's words. The words, the output and the exit status
-# are the program's own; what is told beside them goes to standard error. Where no program of these sources is there yet, it
+# are the program's own; what is said beside them goes to standard error. Where no program of these sources is there yet, it
 # is built first, without checking its proofs; `./oz prove` checks them, and from then on the proved program runs. Where it was
 # installed from a package, the program stands beside it, and nothing is built.
 set -u
@@ -11,7 +11,7 @@ top=$(CDPATH='' cd -- "$(dirname -- "$self")" && pwd) || exit 70
 # One byte more than the longest text that is read.
 most=1048577
 
-# How it is called here, which what it tells has for it. A package has the program beside it.
+# How it is called here, which what it says has for it. A package has the program beside it.
 called=./oz
 [ ! -x "$top/oz_main" ] || called=oz
 OZ_CALLED=$called
@@ -33,7 +33,7 @@ find_program() {
     return 1
 }
 
-# Tells which program runs.
+# Says which program runs.
 version() {
     case $kind in
     none)
@@ -157,7 +157,7 @@ show_refusal() {
         }' <"$1" >&2
 }
 
-# Tells what a refusal or an end may mean. It changes neither the output nor the status.
+# Says what a refusal or an end may mean. It changes neither the output nor the status.
 hint() {
     [ -x "$top/hints/hint" ] || return 0
     command -v python3 >/dev/null || return 0
@@ -165,7 +165,7 @@ hint() {
 }
 
 # Runs the program on a text in a file, with these words. One that is refused is so here, where its place is shown. For any
-# other the program takes the place of this script, so that signals reach it, but where hints are told after it.
+# other the program takes the place of this script, so that signals reach it, but where hints come after it.
 run_text() {
     text=$1
     name=${file:--}
@@ -194,7 +194,7 @@ run_text() {
 # read. Standard output has the program's own answer, but on a terminal, where it would say less than the two lines.
 refuse() {
     echo "oz: $1" >&2
-    echo "taken: $called ${2-FILE.oz}   ($called help tells the rest)" >&2
+    echo "taken: $called ${2-FILE.oz}   ($called help has the rest)" >&2
     [ -t 1 ] || echo usage
     exit 2
 }
@@ -353,10 +353,10 @@ esac
 [ "$action" != gen ] || [ -z "$file" ] || refuse "$file: gen reads no text, it makes one" 'gen 100'
 
 tells_to_type() {
-    echo "oz: the text is read from here: end it with a line that has Ctrl-D alone ($called help tells what is taken)" >&2
+    echo "oz: the text is read from here: end it with a line that has Ctrl-D alone ($called help has what is taken)" >&2
 }
 
-# What is read is told before the program is built.
+# What is read is said before the program is built.
 is_told=
 if ! find_program; then
     if [ $# -eq 0 ] && [ -z "$file" ] && [ -t 0 ]; then

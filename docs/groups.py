@@ -1,5 +1,5 @@
 #!/usr/bin/env python3
-"""The crates by the groups of crates.txt, for the scripts that make pages; and ./docs/groups.py tells where README.md or
+"""The crates by the groups of crates.txt, for the scripts that make pages; and ./docs/groups.py tells where promises.md or
 docs/architecture.md do not follow them: their headings `### GROUP` have to be those of crates.txt, in that order (others may follow),
 and the tables below a heading list the crates of its group, and no others."""
 import pathlib
@@ -8,7 +8,7 @@ import sys
 
 docs = pathlib.Path(__file__).resolve().parent
 top = docs.parent
-PAGES = {top / "README.md": "## What is proved", docs / "architecture.md": "## The crates"}
+PAGES = {docs / "promises.md": "## Crate by crate", docs / "architecture.md": "## The crates"}
 
 
 def groups():

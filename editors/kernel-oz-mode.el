@@ -1,12 +1,19 @@
-;;; kernel-oz-mode.el --- Colours and indentation of Kernel Oz -*- lexical-binding: t; -*-
+;;; kernel-oz-mode.el --- Colours, indentation and a run key for Kernel Oz -*- lexical-binding: t; -*-
 
 ;;; Commentary:
 
-;; The language is told in docs/language.md.  To use it, put into the init file
+;; docs/language.md has the language.  To use this, put into the init file
 ;;     (load "/path/to/editors/kernel-oz-mode.el")
-;; Files whose names end with .oz are opened in it then.
+;; Files whose names end with .oz are opened in it then.  C-c C-c runs the text
+;; by `compile', and C-x ` goes to the next place that is named.  Where oz is not
+;; on the path:
+;;     (setq kernel-oz-command "/path/to/oz")
 
 ;;; Code:
+
+(require 'compile)
+
+(defvar kernel-oz-command "oz" "The command that runs a text.")
 
 (defvar kernel-oz-mode-syntax-table
   (let ((table (make-syntax-table)))
@@ -71,6 +78,18 @@
     (when (< (current-column) (current-indentation))
       (back-to-indentation))))
 
+(defun kernel-oz-run ()
+  "Save this text and run it; `next-error' goes to the places that are named."
+  (interactive)
+  (save-buffer)
+  (compile compile-command))
+
+(defvar kernel-oz-mode-map
+  (let ((map (make-sparse-keymap)))
+    (define-key map (kbd "C-c C-c") #'kernel-oz-run)
+    map)
+  "C-c C-c runs the text.")
+
 ;;;###autoload
 (define-derived-mode kernel-oz-mode prog-mode "Kernel Oz"
   "Mode for texts of Kernel Oz."
@@ -78,7 +97,10 @@
   (setq-local comment-start "% ")
   (setq-local comment-start-skip "%+[ \t]*")
   (setq-local indent-tabs-mode nil)
-  (setq-local indent-line-function #'kernel-oz-indent-line))
+  (setq-local indent-line-function #'kernel-oz-indent-line)
+  (when buffer-file-name
+    (setq-local compile-command
+                (concat (shell-quote-argument kernel-oz-command) " --hints " (shell-quote-argument buffer-file-name)))))
 
 ;;;###autoload
 (add-to-list 'auto-mode-alist '("\\.oz\\'" . kernel-oz-mode))
