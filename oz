@@ -207,7 +207,8 @@ help_page() {
     first | words | ends) ;;
     *) refuse "$page: no page of help has this name" 'help words, or: help ends' ;;
     esac
-    sed "s|\./oz|$called|g" "$top/help/$page"
+    sed "s|\./oz|$called|g" "$top/help/$page" || exit
+    [ "$called" = ./oz ] || echo "The pages are in $(dirname -- "$(dirname -- "$top")")/share/doc/kernel-oz."
     exit
 }
 
@@ -414,4 +415,6 @@ if ! (exec 3<&0) 2>/dev/null || ! { exec 3<&0 && waits_for head -c "$most" >&4; 
     exec "$program" "$@" <&-
 fi
 exec 4>&-
+# Where files that are open have no names, the place of a refusal is not shown.
+[ -r /dev/fd/5 ] || exec "$program" "$@" <&5
 run_text /dev/fd/5 "$@"
