@@ -212,7 +212,7 @@ help_page() {
     exit
 }
 
-# Whether a number is one from $2 to $3, which has less than 19 digits or is that of --seed.
+# Whether a number is one from $2 to $3, which has less than 19 digits or is the largest seed.
 is_within() {
     number=${1#+}
     case $number in
@@ -229,7 +229,8 @@ is_within() {
         [ "$first" -eq 1844674407 ] && [ "1$last" -le 13709551615 ]
         return
     fi
-    [ "${#number}" -ge 19 ] || { [ "$number" -ge "$2" ] && [ "$number" -le "$3" ]; }
+    # Fewer digits are less than the largest seed, which no test of the shell takes.
+    [ "${#3}" -eq 20 ] || { [ "$number" -ge "$2" ] && [ "$number" -le "$3" ]; }
 }
 
 # Refuses a number that the word before it does not take.

@@ -1,6 +1,8 @@
 """What the end of a run means, by the status of the program, and by the text where it is there."""
+import os
 import pathlib
 import re
+import sys
 
 from scopes import tokens
 
@@ -53,22 +55,43 @@ def loops(words):
     return [f"{name} of {opened.line}:{opened.column}" for opened, name in found]
 
 
-def of_waiting(words, bare):
-    """What waiting threads may mean. A text with a port has agents, which rest where no message is left."""
-    if any(token.word in ("NewPort", "Send") for token in words):
-        return [
-            "waiting=N counts threads that wait and go on no more. A thread that reads the stream of a port waits so when all messages are read: a server "
-            "at rest, and no fault. ./oz races FILE.oz lists whether the text can end otherwise"
-        ]
-    if len([token for token in words if token.word == "thread"]) == 0 and words:
-        return [
-            "waiting=1 is the only thread: it waits for a variable that nothing behind it can bind any more. What it has printed tells how far it came, "
-            "and docs/when-it-goes-wrong.md how to find the variable"
-        ]
-    return [
-        "waiting=N counts threads that wait for variables that nobody will bind: a variable that no statement tells, threads that wait for each other, or "
-        "a stream that was never ended by nil. ./oz races FILE.oz lists whether the text can end otherwise"
-    ]
+RACES = "./oz races FILE.oz lists whether the text can end otherwise"
+SECONDS = 3
+
+
+def who_waits(file):
+    """The threads that wait, by the plain machine of the oracle, or None where it does not come to rest soon."""
+    sys.path.append(str(pathlib.Path(__file__).resolve().parent.parent / "oracle"))
+    try:
+        from rest import rest
+
+        return rest(pathlib.Path(file).read_bytes().decode(), SECONDS)
+    except (ImportError, OSError, UnicodeDecodeError):
+        return None
+
+
+def of_waiting(file, words):
+    """What waiting threads may mean: of each what it waits for, where the plain machine comes so far. An agent at rest is no fault."""
+    found = who_waits(file) if file else None
+    if found is None:
+        agents = " An agent that has read all messages of its port waits so, and that is no fault." if any(token.word == "NewPort" for token in words) else ""
+        return [f"waiting=N counts threads that wait for variables that nobody will bind, and nothing goes on.{agents} {RACES}"]
+    told = []
+    for it in [it for it in found if not it.is_at_rest][:3]:
+        names = " or ".join(it.names) or "a part that nothing binds"
+        thread = f"the thread of {it.thread}" if it.thread else "the first thread"
+        told.append(f"{os.environ.get('OZ_NAME') or file}:{it.place}: {thread} waits for {names}: {it.statement}")
+    left = sum(not it.is_at_rest for it in found) - len(told)
+    if left:
+        told.append(f"so do {left} more")
+    resting = sum(it.is_at_rest for it in found)
+    if resting == len(found) and found:
+        return ["each thread that waits has read all messages of its port, and waits for the next one: an agent at rest, and no fault"]
+    if resting:
+        told.append(f"{resting} more wait for the next message of a port, which is no fault")
+    if not found:
+        return [f"in another order no thread waits: {RACES}"]
+    return told + [RACES] * (len(found) > 1)
 
 
 def of_steps(given, words):
@@ -91,7 +114,7 @@ def of_end(status, given, file=None):
         told.append(f"{number[0]} in line {line} is the field {part} of the integer {whole}, which raises error(type): there are no floats, so 314 div 100")
         break
     if status == 1:
-        told += of_waiting(words, bare)
+        told += of_waiting(file, words)
     elif status == 4:
         told += of_steps(given, words)
     elif status == 5:

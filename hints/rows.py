@@ -404,9 +404,9 @@ LOOP = "local P in\n  proc {P X} {P X} end\n  {P 1}\nend"
 FLOAT = "local X in X = 3.14 {Browse X} end"
 ENDS = [
     ("0", (), SKIP, ""),
-    ("1", (), SKIP, "waiting=1 is the only thread"),
-    ("1", (), "local X in thread {Wait X} end end", "waiting=N counts threads that wait for variables that nobody will bind"),
-    ("1", (), SERVER, "a server at rest, and no fault"),
+    ("1", (), "local X in\n  {Browse X}\nend", ":2:3: the first thread waits for X: {Browse X}"),
+    ("1", (), "local X in thread {Wait X} end end", ":1:19: the thread of 1:12 waits for X: {Wait X}"),
+    ("1", (), SERVER, "an agent at rest, and no fault"),
     ("2", (), SKIP, ""),
     ("3", (), SKIP, ""),
     ("4", (), SKIP, "--steps 1000 shows how it begins, and --steps 10000000 whether more is enough"),
