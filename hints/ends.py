@@ -34,45 +34,24 @@ def read(file):
     return list(tokens(text)), bare
 
 
-def loops(words):
-    """The procedures of a text that call themselves, each with its place, in their order."""
-    found, stack = [], []
-    for at, token in enumerate(words):
-        if token.word in ("proc", "fun"):
-            name = words[at + 2].word if at + 2 < len(words) and words[at + 1].word == "{" else None
-            if name == "$" and at >= 2 and words[at - 1].word == "=":
-                name = words[at - 2].word
-            stack.append((token, name))
-        elif token.word in ("local", "if", "case", "thread", "try", "raise"):
-            stack.append((token, None))
-        elif token.word == "end" and stack:
-            stack.pop()
-        elif token.word == "{" and at + 1 < len(words) and words[at + 1].line:
-            called = words[at + 1].word
-            for opened, name in stack:
-                if name == called and name[:1].isupper() and (opened, name) not in found:
-                    found.append((opened, name))
-    return [f"{name} of {opened.line}:{opened.column}" for opened, name in found]
-
-
 RACES = "./oz races FILE.oz lists whether the text can end otherwise"
 SECONDS = 3
 
 
-def who_waits(file):
-    """The threads that wait, by the plain machine of the oracle, or None where it does not come to rest soon."""
+def by_machine(name, file):
+    """What the plain machine of the oracle finds of a text, or None where it does not come so far."""
     sys.path.append(str(pathlib.Path(__file__).resolve().parent.parent / "oracle"))
     try:
-        from rest import rest
+        import rest
 
-        return rest(pathlib.Path(file).read_bytes().decode(), SECONDS)
+        return file and getattr(rest, name)(pathlib.Path(file).read_bytes().decode(), SECONDS)
     except (ImportError, OSError, UnicodeDecodeError):
         return None
 
 
 def of_waiting(file, words):
     """What waiting threads may mean: of each what it waits for, where the plain machine comes so far. An agent at rest is no fault."""
-    found = who_waits(file) if file else None
+    found = by_machine("rest", file)
     if found is None:
         agents = " An agent that has read all messages of its port waits so, and that is no fault." if any(token.word == "NewPort" for token in words) else ""
         return [f"waiting=N counts threads that wait for variables that nobody will bind, and nothing goes on.{agents} {RACES}"]
@@ -94,14 +73,15 @@ def of_waiting(file, words):
     return told + [RACES] * (len(found) > 1)
 
 
-def of_steps(given, words):
+def of_steps(given, file):
     steps = more_of(given, "--steps", MOST_STEPS)
-    inside = loops(words)
-    where = f"; what calls itself here: {', '.join(inside[:5])}" if inside else ""
-    told = f"a site made as many steps as --steps allows, and could go on: a loop without an end, or a long run{where}"
+    told = ["a site made as many steps as --steps allows, and could go on: a loop without an end, or a long run"]
+    calls = by_machine("busy", file)
+    if calls:
+        told += [f"{os.environ.get('OZ_NAME') or file}:{at}: called again and again: {said}" for said, at in calls[:5]]
     if (limit_of(given, "--steps") or 1_000_000) >= 10_000_000:
-        return [told + ". Ten million steps and more are mostly a loop: print what changes in it, with few steps"]
-    return [told + f". --steps 1000 shows how it begins, and --steps {steps} whether more is enough"]
+        return [*told, "ten million steps and more are mostly a loop: print what changes in it, and allow few steps"]
+    return [*told, f"--steps 1000 shows how it begins, and --steps {steps} whether more is enough"]
 
 
 def of_end(status, given, file=None):
@@ -116,7 +96,7 @@ def of_end(status, given, file=None):
     if status == 1:
         told += of_waiting(file, words)
     elif status == 4:
-        told += of_steps(given, words)
+        told += of_steps(given, file)
     elif status == 5:
         messages = more_of(given, "--messages", MOST_MESSAGES)
         told.append(

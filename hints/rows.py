@@ -398,7 +398,7 @@ SEVERAL = (
     "local X in\n  proc {P} skip\nend",
 )
 
-# The status of a run, the words of the program, the text, and a part of what is told first.
+# The status of a run, the words of the program, the text, and a part of what is told of it in a line.
 SKIP, SERVER = "skip", "local P S in {NewPort S P} thread {Wait S} end end"
 LOOP = "local P in\n  proc {P X} {P X} end\n  {P 1}\nend"
 FLOAT = "local X in X = 3.14 {Browse X} end"
@@ -409,10 +409,10 @@ ENDS = [
     ("1", (), SERVER, "an agent at rest, and no fault"),
     ("2", (), SKIP, ""),
     ("3", (), SKIP, ""),
-    ("4", (), SKIP, "--steps 1000 shows how it begins, and --steps 10000000 whether more is enough"),
-    ("4", (), LOOP, "what calls itself here: P of 2:3"),
+    ("4", (), SKIP, "a loop without an end, or a long run"),
+    ("4", (), LOOP, ":2:14: called again and again: {P X}"),
     ("4", ("--steps", "50", "central"), SKIP, "--steps 500 whether more is enough"),
-    ("4", ("--steps", "1000000000"), SKIP, "are mostly a loop"),
+    ("4", ("--steps", "1000000000"), SKIP, "ten million steps and more are mostly a loop"),
     ("5", (), SKIP, "--messages 10000000 allows more"),
     ("5", ("--messages", "7"), SKIP, "--messages 70 allows more"),
     ("6", (), SKIP, ""),
