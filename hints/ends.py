@@ -70,7 +70,7 @@ def of_waiting(file, words):
         told.append(f"{resting} more wait for the next message of a port, which is no fault")
     if not found:
         return [f"in another order no thread waits: {RACES}"]
-    return told + [RACES] * (len(found) > 1)
+    return told + [f"so it is in one order of the threads: {RACES}"] * any(token.word == "thread" for token in words)
 
 
 def of_steps(given, file):

@@ -310,12 +310,12 @@ ROWS = [
     (
         "local P in proc {P} C={NewCell 0} in {Browse C} end end",
         "refused 1:21 undeclared",
-        "names before the in of a body are declared by a local: proc {P} local C in C = E .. end end",
+        "names before the in of a body are declared by a local: proc {P} local C in C = E .. end",
     ),
     (
         "local P in proc {P} C in C={NewCell 0} {Browse C} end end",
         "refused 1:21 undeclared",
-        "names before the in of a body are declared by a local: proc {P} local C in C = E .. end end",
+        "names before the in of a body are declared by a local: proc {P} local C in C = E .. end",
     ),
     (
         "local X in if X == 1 skip else skip end end",
@@ -389,6 +389,13 @@ ROWS = [
         "refused 6:4 expected a statement or end",
         "the try of 2:3 has no end before 5:3, which stands under it",
     ),
+    (
+        "local F in\n  proc {F Xs Ys}\n    case Xs of X|Xr then Zr in\n      Ys = X|Zr\n      {F Xr Zr}\n    else skip end\n  end\nend",
+        "refused 3:26 undeclared",
+        "names before the in of a body are declared by a local: then local Zr in Zr = E .. end",
+    ),
+    ("local C in thread I in I = 5 C = I end end", "refused 1:19 undeclared", "names before the in of a body are declared by a local: thread local I in"),
+    ("local X in X = {Map nil X} end", "refused 1:17 undeclared", "Map is of the book's library, and not built in here: it is written out"),
 ]
 
 # Texts of these that have more than one fault.
