@@ -7,6 +7,7 @@ import sys
 from scopes import tokens
 
 MOST_STEPS, MOST_MESSAGES = 1_000_000_000, 4_000_000_000
+MOST_BYTES = 65_536  # of a text that is looked at
 FLOAT = re.compile(r"(?<![\w.])\d+\.\d+", re.ASCII)
 
 
@@ -30,6 +31,8 @@ def read(file):
         text = pathlib.Path(file).read_bytes().decode("latin-1")
     except OSError:
         return [], ""
+    if len(text) > MOST_BYTES:
+        return [], ""
     bare = re.sub(r"%[^\n]*|/\*.*?\*/|'(?:[^'\\\n]|\\.)*'", lambda it: re.sub(r"[^\n]", " ", it[0]), text, flags=re.S)
     return list(tokens(text)), bare
 
@@ -44,7 +47,8 @@ def by_machine(name, file):
     try:
         import rest
 
-        return file and getattr(rest, name)(pathlib.Path(file).read_bytes().decode(), SECONDS)
+        text = pathlib.Path(file).read_bytes() if file else b""
+        return getattr(rest, name)(text.decode(), SECONDS) if 0 < len(text) <= MOST_BYTES else None
     except (ImportError, OSError, UnicodeDecodeError):
         return None
 

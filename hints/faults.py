@@ -18,6 +18,8 @@ BUILT_IN = {"Browse", "Wait", "NewCell", "Exchange", "NewPort", "Send", "NewCell
 # Names of the book's library.
 LIBRARY = set("Append Map Length Reverse Filter FoldL FoldR ForAll Nth Member Max Min Abs Sort Merge List NewLock NewName Show Delay".split())
 MOST = 5
+# A longer text is looked at around the place alone, and read no further.
+MOST_BYTES, WINDOW = 65_536, 2_000
 PATIENCE = 10  # seconds for one answer of the program
 
 
@@ -100,7 +102,7 @@ def undeclared(copy, at):
     name = re.compile(r"\w+", re.ASCII).match(copy.text, at)[0]
     scopes = Scopes(before)
     mended = declared_around(copy, name)
-    body = in_body(copy, at, name)
+    body = in_body(copy, at, name) if len(copy.text) <= MOST_BYTES else None
     if body:
         return body
     ended = scopes.last_declared(name)
@@ -195,11 +197,11 @@ def open_quote(copy, at, answer):
 
 
 def slip(copy, at, answer):
-    found = named_slip(copy.text[at:], answer, copy.text[:at])
+    found = named_slip(copy.text[at : at + WINDOW], answer, copy.text[max(0, at - WINDOW) : at])
     if not found:
         return None
     told, repair = found
-    return Fault(at, told + BOOK, repair(copy, at) if repair else None)
+    return Fault(at, told + BOOK, repair(copy, at) if repair and len(copy.text) <= MOST_BYTES else None)
 
 
 def explain(copy, answer):
@@ -209,6 +211,8 @@ def explain(copy, answer):
         return None
     if answer.endswith(" undeclared"):
         return undeclared(copy, at)
+    if len(copy.text) > MOST_BYTES:
+        return slip(copy, at, answer) or Fault(at, None, None)
     ways = [open_quote, slip, of_layout, open_statements] if re.search("bad character|open quote", answer) else [open_quote, no_else_and_no_end, of_layout, slip, open_statements]
     for way in ways:
         found = way(copy, at, answer)
@@ -237,7 +241,7 @@ def faults(text, answer):
             break
         scope_ended |= fault.ends_a_scope
         found.append((copy.origin[fault.at], answer, in_given(fault.told, copy, text)))
-        if fault.mended is None:
+        if fault.mended is None or len(text) > MOST_BYTES:
             break
         reached = copy.origin[place(copy.text, answer)]
         copy = fault.mended
