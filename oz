@@ -207,11 +207,12 @@ help_page() {
     first | words | ends) ;;
     *) refuse "$page: no page of help has this name" 'help words, or: help ends' ;;
     esac
-    sed "s|\./oz|$called|g" "$top/help/$page"
+    sed "s|\./oz|$called|g" "$top/help/$page" || exit
+    [ "$called" = ./oz ] || echo "The pages are in $(dirname -- "$(dirname -- "$top")")/share/doc/kernel-oz."
     exit
 }
 
-# Whether a number is one from $2 to $3, which has less than 19 digits or is that of --seed.
+# Whether a number is one from $2 to $3, which has less than 19 digits or is the largest seed.
 is_within() {
     number=${1#+}
     case $number in
@@ -228,7 +229,8 @@ is_within() {
         [ "$first" -eq 1844674407 ] && [ "1$last" -le 13709551615 ]
         return
     fi
-    [ "${#number}" -ge 19 ] || { [ "$number" -ge "$2" ] && [ "$number" -le "$3" ]; }
+    # Fewer digits are less than the largest seed, which no test of the shell takes.
+    [ "${#3}" -eq 20 ] || { [ "$number" -ge "$2" ] && [ "$number" -le "$3" ]; }
 }
 
 # Refuses a number that the word before it does not take.
@@ -414,4 +416,6 @@ if ! (exec 3<&0) 2>/dev/null || ! { exec 3<&0 && waits_for head -c "$most" >&4; 
     exec "$program" "$@" <&-
 fi
 exec 4>&-
+# Where files that are open have no names, the place of a refusal is not shown.
+[ -r /dev/fd/5 ] || exec "$program" "$@" <&5
 run_text /dev/fd/5 "$@"

@@ -1,10 +1,13 @@
 """What the end of a run means, by the status of the program, and by the text where it is there."""
+import os
 import pathlib
 import re
+import sys
 
 from scopes import tokens
 
 MOST_STEPS, MOST_MESSAGES = 1_000_000_000, 4_000_000_000
+MOST_BYTES = 65_536  # of a text that is looked at
 FLOAT = re.compile(r"(?<![\w.])\d+\.\d+", re.ASCII)
 
 
@@ -28,57 +31,61 @@ def read(file):
         text = pathlib.Path(file).read_bytes().decode("latin-1")
     except OSError:
         return [], ""
+    if len(text) > MOST_BYTES:
+        return [], ""
     bare = re.sub(r"%[^\n]*|/\*.*?\*/|'(?:[^'\\\n]|\\.)*'", lambda it: re.sub(r"[^\n]", " ", it[0]), text, flags=re.S)
     return list(tokens(text)), bare
 
 
-def loops(words):
-    """The procedures of a text that call themselves, each with its place, in their order."""
-    found, stack = [], []
-    for at, token in enumerate(words):
-        if token.word in ("proc", "fun"):
-            name = words[at + 2].word if at + 2 < len(words) and words[at + 1].word == "{" else None
-            if name == "$" and at >= 2 and words[at - 1].word == "=":
-                name = words[at - 2].word
-            stack.append((token, name))
-        elif token.word in ("local", "if", "case", "thread", "try", "raise"):
-            stack.append((token, None))
-        elif token.word == "end" and stack:
-            stack.pop()
-        elif token.word == "{" and at + 1 < len(words) and words[at + 1].line:
-            called = words[at + 1].word
-            for opened, name in stack:
-                if name == called and name[:1].isupper() and (opened, name) not in found:
-                    found.append((opened, name))
-    return [f"{name} of {opened.line}:{opened.column}" for opened, name in found]
+RACES = "./oz races FILE.oz lists whether the text can end otherwise"
+SECONDS = 3
 
 
-def of_waiting(words, bare):
-    """What waiting threads may mean. A text with a port has agents, which rest where no message is left."""
-    if any(token.word in ("NewPort", "Send") for token in words):
-        return [
-            "waiting=N counts threads that wait and go on no more. A thread that reads the stream of a port waits so when all messages are read: a server "
-            "at rest, and no fault. ./oz races FILE.oz lists whether the text can end otherwise"
-        ]
-    if len([token for token in words if token.word == "thread"]) == 0 and words:
-        return [
-            "waiting=1 is the only thread: it waits for a variable that nothing behind it can bind any more. What it has printed tells how far it came, "
-            "and docs/when-it-goes-wrong.md how to find the variable"
-        ]
-    return [
-        "waiting=N counts threads that wait for variables that nobody will bind: a variable that no statement tells, threads that wait for each other, or "
-        "a stream that was never ended by nil. ./oz races FILE.oz lists whether the text can end otherwise"
-    ]
+def by_machine(name, file):
+    """What the plain machine of the oracle finds of a text, or None where it does not come so far."""
+    sys.path.append(str(pathlib.Path(__file__).resolve().parent.parent / "oracle"))
+    try:
+        import rest
+
+        text = pathlib.Path(file).read_bytes() if file else b""
+        return getattr(rest, name)(text.decode(), SECONDS) if 0 < len(text) <= MOST_BYTES else None
+    except (ImportError, OSError, UnicodeDecodeError):
+        return None
 
 
-def of_steps(given, words):
+def of_waiting(file, words):
+    """What waiting threads may mean: of each what it waits for, where the plain machine comes so far. An agent at rest is no fault."""
+    found = by_machine("rest", file)
+    if found is None:
+        agents = " An agent that has read all messages of its port waits so, and that is no fault." if any(token.word == "NewPort" for token in words) else ""
+        return [f"waiting=N counts threads that wait for variables that nobody will bind, and nothing goes on.{agents} {RACES}"]
+    told = []
+    for it in [it for it in found if not it.is_at_rest][:3]:
+        names = " or ".join(it.names) or "a part that nothing binds"
+        thread = f"the thread of {it.thread}" if it.thread else "the first thread"
+        told.append(f"{os.environ.get('OZ_NAME') or file}:{it.place}: {thread} waits for {names}: {it.statement}")
+    left = sum(not it.is_at_rest for it in found) - len(told)
+    if left:
+        told.append(f"so do {left} more")
+    resting = sum(it.is_at_rest for it in found)
+    if resting == len(found) and found:
+        return ["each thread that waits has read all messages of its port, and waits for the next one: an agent at rest, and no fault"]
+    if resting:
+        told.append(f"{resting} more wait for the next message of a port, which is no fault")
+    if not found:
+        return [f"in another order no thread waits: {RACES}"]
+    return told + [f"so it is in one order of the threads: {RACES}"] * any(token.word == "thread" for token in words)
+
+
+def of_steps(given, file):
     steps = more_of(given, "--steps", MOST_STEPS)
-    inside = loops(words)
-    where = f"; what calls itself here: {', '.join(inside[:5])}" if inside else ""
-    told = f"a site made as many steps as --steps allows, and could go on: a loop without an end, or a long run{where}"
+    told = ["a site made as many steps as --steps allows, and could go on: a loop without an end, or a long run"]
+    calls = by_machine("busy", file)
+    if calls:
+        told += [f"{os.environ.get('OZ_NAME') or file}:{at}: called again and again: {said}" for said, at in calls[:5]]
     if (limit_of(given, "--steps") or 1_000_000) >= 10_000_000:
-        return [told + ". Ten million steps and more are mostly a loop: print what changes in it, with few steps"]
-    return [told + f". --steps 1000 shows how it begins, and --steps {steps} whether more is enough"]
+        return [*told, "ten million steps and more are mostly a loop: print what changes in it, and allow few steps"]
+    return [*told, f"--steps 1000 shows how it begins, and --steps {steps} whether more is enough"]
 
 
 def of_end(status, given, file=None):
@@ -91,9 +98,9 @@ def of_end(status, given, file=None):
         told.append(f"{number[0]} in line {line} is the field {part} of the integer {whole}, which raises error(type): there are no floats, so 314 div 100")
         break
     if status == 1:
-        told += of_waiting(words, bare)
+        told += of_waiting(file, words)
     elif status == 4:
-        told += of_steps(given, words)
+        told += of_steps(given, file)
     elif status == 5:
         messages = more_of(given, "--messages", MOST_MESSAGES)
         told.append(

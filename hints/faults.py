@@ -8,14 +8,18 @@ import re
 import subprocess
 
 from copy_of import Copy, line_and_column
-from layout import BRACKETS, Layout
-from repairs import behind, close_of, quoted
-from scopes import OPENING, Scopes
+from layout import Layout
+from repairs import at_depth, quoted
+from scopes import Scopes
 from slips import named_slip
 
 BOOK = " (docs/from-the-book.md)"
 BUILT_IN = {"Browse", "Wait", "NewCell", "Exchange", "NewPort", "Send", "NewCellAt"}
+# Names of the book's library.
+LIBRARY = set("Append Map Length Reverse Filter FoldL FoldR ForAll Nth Member Max Min Abs Sort Merge List NewLock NewName Show Delay".split())
 MOST = 5
+# A longer text is looked at around the place alone, and read no further.
+MOST_BYTES, WINDOW = 65_536, 2_000
 PATIENCE = 10  # seconds for one answer of the program
 
 
@@ -71,25 +75,19 @@ def declared_around(copy, *names):
 
 def in_body(copy, at, name):
     """A body of a procedure or a function that declares before an `in`."""
-    head = re.search(r"\b(fun|proc)\s*\{[^{}]*\}\s*\Z", copy.text[:at])
+    head = re.search(r"(?:\b(fun|proc)\s*\{[^{}]*\}|\b(?:then|else|thread|try))(?:\s+[A-Z]\w*)*\s*\Z", copy.text[:at])
     if not head:
         return None
-    depth, ending = 0, None
-    for token in behind(copy.text, at):
-        depth += (token.word in OPENING or token.word in BRACKETS) - (token.word == "end" or token.word in BRACKETS.values())
-        if depth < 0:
-            return None
-        if token.word == "in" and depth == 0:
-            ending = token
-            break
-    close = ending and close_of(copy.text, ending.at + 2)
+    ending = at_depth(copy.text, at, ("in",))
+    close = ending and at_depth(copy.text, ending.at + 2, ("end", "else", "[]", "elseif", "catch", "finally"))
     if not close:
         return None
     if head[1] == "fun":
         told = f"names before the in of a body are declared by a local, and a function with statements is a procedure: proc {{F ?R}} local {name} in .. R = E end end"
         return Fault(at, told + BOOK, None)
+    where = "proc {P}" if head[1] else copy.text[head.start() : at].split()[0]
     names = re.findall(r"(?<![\w.])([A-Z]\w*)\s*=(?!=)", copy.text[at : ending.at], re.ASCII) or copy.text[at : ending.at].split()
-    told = f"names before the in of a body are declared by a local: proc {{P}} local {name} in {name} = E .. end end"
+    told = f"names before the in of a body are declared by a local: {where} local {name} in {name} = E .. end"
     local = f"local {' '.join(dict.fromkeys(names))} in "
     start, said = (at, local) if "=" in copy.text[at : ending.at] else (at, "local ")
     mended = copy.put(close.at, close.at, "end ")
@@ -104,7 +102,7 @@ def undeclared(copy, at):
     name = re.compile(r"\w+", re.ASCII).match(copy.text, at)[0]
     scopes = Scopes(before)
     mended = declared_around(copy, name)
-    body = in_body(copy, at, name)
+    body = in_body(copy, at, name) if len(copy.text) <= MOST_BYTES else None
     if body:
         return body
     ended = scopes.last_declared(name)
@@ -116,6 +114,8 @@ def undeclared(copy, at):
         return Fault(at, told + (": is an end too many?" if odd else ""), None if odd else mended, ends_a_scope=True)
     if name in BUILT_IN:
         return Fault(at, f"{name} is built in where it stands first in a call alone: {{{name} ..}}", mended)
+    if name in LIBRARY:
+        return Fault(at, f"{name} is of the book's library, and not built in here: it is written out, as in docs/from-the-book.md", mended)
     like = sorted(other for other in scopes.declared() | BUILT_IN if is_one_off(name, other))
     if like:
         return Fault(at, f"nothing around this place declares {name}; is it {' or '.join(like)}?", mended)
@@ -197,11 +197,11 @@ def open_quote(copy, at, answer):
 
 
 def slip(copy, at, answer):
-    found = named_slip(copy.text[at:], answer, copy.text[:at])
+    found = named_slip(copy.text[at : at + WINDOW], answer, copy.text[max(0, at - WINDOW) : at])
     if not found:
         return None
     told, repair = found
-    return Fault(at, told + BOOK, repair(copy, at) if repair else None)
+    return Fault(at, told + BOOK, repair(copy, at) if repair and len(copy.text) <= MOST_BYTES else None)
 
 
 def explain(copy, answer):
@@ -211,6 +211,8 @@ def explain(copy, answer):
         return None
     if answer.endswith(" undeclared"):
         return undeclared(copy, at)
+    if len(copy.text) > MOST_BYTES:
+        return slip(copy, at, answer) or Fault(at, None, None)
     ways = [open_quote, slip, of_layout, open_statements] if re.search("bad character|open quote", answer) else [open_quote, no_else_and_no_end, of_layout, slip, open_statements]
     for way in ways:
         found = way(copy, at, answer)
@@ -239,7 +241,7 @@ def faults(text, answer):
             break
         scope_ended |= fault.ends_a_scope
         found.append((copy.origin[fault.at], answer, in_given(fault.told, copy, text)))
-        if fault.mended is None:
+        if fault.mended is None or len(text) > MOST_BYTES:
             break
         reached = copy.origin[place(copy.text, answer)]
         copy = fault.mended

@@ -13,17 +13,24 @@ def behind(text, at):
     return (token._replace(at=token.at + at) for token in tokens(text[at:]))
 
 
-def close_of(text, at):
-    """The token that closes the form or bracket in which a place stands, or None."""
+CLOSING = ("end", *BRACKETS.values())
+
+
+def at_depth(text, at, words):
+    """The next of these words in the form or bracket in which a place stands, or None."""
     depth = 0
     for token in behind(text, at):
-        if token.word in OPENING or token.word in BRACKETS:
-            depth += 1
-        elif token.word == "end" or token.word in BRACKETS.values():
-            if depth == 0:
-                return token
-            depth -= 1
+        if depth == 0 and token.word in words:
+            return token
+        if token.word in CLOSING and depth == 0:
+            return None
+        depth += (token.word in OPENING or token.word in BRACKETS) - (token.word in CLOSING)
     return None
+
+
+def close_of(text, at):
+    """The token that closes the form or bracket in which a place stands, or None."""
+    return at_depth(text, at, CLOSING)
 
 
 def without(*said):
@@ -56,7 +63,7 @@ def to_end_of_value(copy, at):
     """Leaves out what stands from an operator to the end of its value."""
     depth, last = 0, None
     for token in behind(copy.text, at):
-        is_closing = token.word == "end" or token.word in BRACKETS.values()
+        is_closing = token.word in CLOSING
         if depth == 0 and last is not None and ends_value(copy.text, last, token):
             return copy.blank(at, last.at + len(last.word))
         depth += (token.word in OPENING or token.word in BRACKETS) - is_closing
@@ -184,22 +191,12 @@ def declared_at_once(copy, at):
     name = re.search(r"[A-Z]\w*\s*\Z", copy.text[:at], re.ASCII)
     if not name:
         return None
-    depth, ending = 0, None
-    for token in behind(copy.text, at):
-        depth += (token.word in OPENING or token.word in BRACKETS) - (token.word == "end" or token.word in BRACKETS.values())
-        if depth < 0 or token.word == "in" and depth == 0:
-            ending = token if token.word == "in" else None
-            break
+    ending = at_depth(copy.text, at, ("in",))
     mended = copy.blank(ending.at, ending.at + 2) if ending else copy
     between = mended.text[at : ending.at] if ending else ""
     others = [it for it in re.findall(r"(?<![\w.])([A-Z]\w*)\s*=(?!=)", between, re.ASCII) if it != name[0].strip()]
     said = " ".join(dict.fromkeys([*([name[0].strip()] if ending else []), *others]))
     return mended.put(name.start(), name.start(), f"{said} in " if ending else "in ")
-
-
-def in_before(copy, at):
-    """An `in` that is not there."""
-    return copy.put(at, at, "in ")
 
 
 def declared(copy, at):

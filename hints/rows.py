@@ -310,12 +310,12 @@ ROWS = [
     (
         "local P in proc {P} C={NewCell 0} in {Browse C} end end",
         "refused 1:21 undeclared",
-        "names before the in of a body are declared by a local: proc {P} local C in C = E .. end end",
+        "names before the in of a body are declared by a local: proc {P} local C in C = E .. end",
     ),
     (
         "local P in proc {P} C in C={NewCell 0} {Browse C} end end",
         "refused 1:21 undeclared",
-        "names before the in of a body are declared by a local: proc {P} local C in C = E .. end end",
+        "names before the in of a body are declared by a local: proc {P} local C in C = E .. end",
     ),
     (
         "local X in if X == 1 skip else skip end end",
@@ -389,6 +389,13 @@ ROWS = [
         "refused 6:4 expected a statement or end",
         "the try of 2:3 has no end before 5:3, which stands under it",
     ),
+    (
+        "local F in\n  proc {F Xs Ys}\n    case Xs of X|Xr then Zr in\n      Ys = X|Zr\n      {F Xr Zr}\n    else skip end\n  end\nend",
+        "refused 3:26 undeclared",
+        "names before the in of a body are declared by a local: then local Zr in Zr = E .. end",
+    ),
+    ("local C in thread I in I = 5 C = I end end", "refused 1:19 undeclared", "names before the in of a body are declared by a local: thread local I in"),
+    ("local X in X = {Map nil X} end", "refused 1:17 undeclared", "Map is of the book's library, and not built in here: it is written out"),
 ]
 
 # Texts of these that have more than one fault.
@@ -398,21 +405,21 @@ SEVERAL = (
     "local X in\n  proc {P} skip\nend",
 )
 
-# The status of a run, the words of the program, the text, and a part of what is told first.
+# The status of a run, the words of the program, the text, and a part of what is told of it in a line.
 SKIP, SERVER = "skip", "local P S in {NewPort S P} thread {Wait S} end end"
 LOOP = "local P in\n  proc {P X} {P X} end\n  {P 1}\nend"
 FLOAT = "local X in X = 3.14 {Browse X} end"
 ENDS = [
     ("0", (), SKIP, ""),
-    ("1", (), SKIP, "waiting=1 is the only thread"),
-    ("1", (), "local X in thread {Wait X} end end", "waiting=N counts threads that wait for variables that nobody will bind"),
-    ("1", (), SERVER, "a server at rest, and no fault"),
+    ("1", (), "local X in\n  {Browse X}\nend", ":2:3: the first thread waits for X: {Browse X}"),
+    ("1", (), "local X in thread {Wait X} end end", ":1:19: the thread of 1:12 waits for X: {Wait X}"),
+    ("1", (), SERVER, "an agent at rest, and no fault"),
     ("2", (), SKIP, ""),
     ("3", (), SKIP, ""),
-    ("4", (), SKIP, "--steps 1000 shows how it begins, and --steps 10000000 whether more is enough"),
-    ("4", (), LOOP, "what calls itself here: P of 2:3"),
+    ("4", (), SKIP, "a loop without an end, or a long run"),
+    ("4", (), LOOP, ":2:14: called again and again: {P X}"),
     ("4", ("--steps", "50", "central"), SKIP, "--steps 500 whether more is enough"),
-    ("4", ("--steps", "1000000000"), SKIP, "are mostly a loop"),
+    ("4", ("--steps", "1000000000"), SKIP, "ten million steps and more are mostly a loop"),
     ("5", (), SKIP, "--messages 10000000 allows more"),
     ("5", ("--messages", "7"), SKIP, "--messages 70 allows more"),
     ("6", (), SKIP, ""),

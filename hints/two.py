@@ -138,7 +138,7 @@ TWO = [
     ),
     (
         "local P in\n  proc {P X} C={NewCell X} in {Browse C} end\n  {P 1 Q}\nend",
-        ("2:14", "names before the in of a body are declared by a local: proc {P} local C in C = E .. end end"),
+        ("2:14", "names before the in of a body are declared by a local: proc {P} local C in C = E .. end"),
         ("3:8", "nothing around this place declares Q: local Q in .. end does"),
     ),
     (

@@ -70,13 +70,18 @@ def place(text, at):
     return f"{len(before)}:{len(before[-1].encode()) + 1}"
 
 
+def said_line(text, places, statement):
+    """How the first line of a statement begins."""
+    at, end = places[id(statement)]
+    line = text[at:end].split("%")[0].strip().split("\n")[0].strip()
+    return line if len(line) <= 70 else line[:70] + " .."
+
+
 def shown(text, places, said):
     """A statement as its first line begins, with its place, and that of its thread."""
     statement, start, reports = said
     if statement is None:
         return "the line of an exception"
-    at, end = places[id(statement)]
-    line = text[at:end].split("%")[0].strip().split("\n")[0].strip()
+    at, line = places[id(statement)][0], said_line(text, places, statement)
     thread = f"the thread of {place(text, places[id(start)][0])}" if start else "the first thread"
-    line = "the exception behind " + line if reports else line
-    return f"{line if len(line) <= 70 else line[:70] + ' ..'} of {place(text, at)} in {thread}"
+    return f"{'the exception behind ' if reports else ''}{line} of {place(text, at)} in {thread}"
