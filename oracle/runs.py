@@ -5,6 +5,7 @@ import subprocess
 TOP = pathlib.Path(__file__).resolve().parent.parent
 SITES = (1, 2, 3, 7, 64)
 WORKERS = (0, 1, 2, 4)
+SEEDS = (1, 2)
 MOST_SECONDS = 60
 
 
@@ -19,6 +20,8 @@ def ways():
     for sites in SITES:
         for workers in WORKERS:
             yield ["--sites", str(sites), "--workers", str(workers)]
+        for seed in SEEDS:
+            yield ["--sites", str(sites), "--seed", str(seed)]
 
 
 def fault(program, words, text, lawful):

@@ -5,7 +5,7 @@ use Rattle.std.proofs.lemmas.Slice.Eq.{bytes_eq-Decides}
 use Rattle.clap.specs.Words.{one_of}
 use Rattle.oz_words.specs.Command.{sites_option, workers_option, steps_option, messages_option}
 use Rattle.oz_words.specs.Matches.{words_rows}
-use Rattle.oz_words.specs.Words.{IsActionText, IsNumberText}
+use Rattle.oz_words.specs.Words.{IsActionText, IsNumberText, MayBeNumberText}
 use Rattle.oz_words.specs.declared.options.Action.{Action}
 use Rattle.oz_words.specs.declared.options.Action.TheVariants as action
 use Rattle.oz_words.specs.declared.options.Options.{Options}
@@ -20,6 +20,12 @@ other a b o differ is also =
 one_number : (o : Option (List ℕ)) (n m : ℕ) → IsNumberText o n → IsNumberText o m → n ≡ m
 one_number None n m one two = absurd one
 one_number (Some text) n m one two = one ∙ sym two
+
+one_seed : (o : Option (List ℕ)) (a b : Option ℕ) → MayBeNumberText o a → MayBeNumberText o b → a ≡ b
+one_seed None a b one two = one ∙ sym two
+one_seed (Some text) None b one two = absurd one
+one_seed (Some text) (Some n) None one two = absurd two
+one_seed (Some text) (Some n) (Some m) one two = ap (λ (k : ℕ). Some k) (one ∙ sym two)
 
 one_action : (named number : Option (List ℕ)) (a b : Action) → IsActionText named number a → IsActionText named number b → a ≡ b
 one_action named number action.Run action.Run one two = refl
@@ -56,5 +62,6 @@ options_same seen a b h g =
     let workers = one_number (one_of workers_option.name rows) a.workers b.workers h.1.workers g.1.workers in
     let steps = one_number (one_of steps_option.name rows) a.steps b.steps h.1.steps g.1.steps in
     let messages = one_number (one_of messages_option.name rows) a.messages b.messages h.1.messages g.1.messages in
+    let seed = one_seed (one_of (codes "seed") rows) a.seed b.seed h.1.seed g.1.seed in
     let action = one_action (one_of (codes "action") rows) (one_of (codes "number") rows) a.action b.action h.1.action g.1.action in
-    λ i. record { sites = sites i; workers = workers i; steps = steps i; messages = messages i; action = action i }
+    λ i. record { sites = sites i; workers = workers i; steps = steps i; messages = messages i; seed = seed i; action = action i }

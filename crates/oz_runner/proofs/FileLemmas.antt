@@ -1,6 +1,6 @@
 -- What is found of a saved run, and its cause.
 use Rattle.std.proofs.Common.{arith, ◌≡◌, ◌∙◌, ◌⊎◌, ℕ, ◌+◌, List, [], ◌∷◌, length, length-append, Bool, true, false, true≢false, Some, Result, Ok, Err, ap, refl, sym, subst, inl, inr}
-use Rattle.std.specs.Prelude.{◌↔◌, IfOk, IsTrue}
+use Rattle.std.specs.Prelude.{◌↔◌, IfOk, IsTrue, None}
 use Rattle.std.specs.Str.{IsUtf8}
 use Rattle.tree_node.specs.State.{State}
 use Rattle.kernel_syntax.specs.declared.stmt.Stmt.{Stmt}
@@ -111,7 +111,7 @@ pub file_after : (file : SavedRun) (l : Limits) (out : RunOut) → l.sites ≡ f
     → HasReason l out.journal out.reason → out.ended ≡ sum_to l.sites (last_ended out.journal) → out.waiting ≡ sum_to l.sites (last_waiting out.journal)
     → status_of out.reason out.ended out.waiting ≡ status_after (numbers_of file) out.journal
 file_after file l out sites steps messages why ended waiting =
-    sites_after (record { sites = file.sites; workers = 0; steps = file.steps; messages = file.messages; action = action.Check }) out
+    sites_after (record { sites = file.sites; workers = 0; steps = file.steps; messages = file.messages; seed = None; action = action.Check }) out
     (subst (λ (k : Limits). HasReason k out.journal out.reason) (λ i. record { sites = sites i; steps = steps i; messages = messages i }) why)
     (subst (λ (n : ℕ). out.ended ≡ sum_to n (last_ended out.journal)) sites ended)
     (subst (λ (n : ℕ). out.waiting ≡ sum_to n (last_waiting out.journal)) sites waiting)

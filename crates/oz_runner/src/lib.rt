@@ -21,7 +21,8 @@
 //! call of a sink that tells its pieces is handed one line with its newline or a back of that, or the saved run or a back of
 //! it. `run_program`: the journal that workers, or the plain rounds, leave is a run of the program on so many sites, with its
 //! schedule and totals, ends by the reason that is told, and has no turn past the limit of own steps;
-//! without workers its turns come in the fixed order of `plain_run` (`rounds`). `start`: the program ends with the number of
+//! without workers its turns come in the fixed order of `plain_run` (`rounds`). With a seed `oz` has the order drawn (`run_seeded` of
+//! `plain_run`). `start`: the program ends with the number of
 //! the status that a call of `oz` with the words answers; where no memory is left for the words it writes `out of memory`.
 //!
 //! **Stands on** `oz_words` for the words, `oz_base` for the text and the bytes written, `oz_sugar` and `oz_parser` for the program
@@ -30,7 +31,7 @@
 //! its threads stay, `central_machine` and `oz_model` for a run of the machine alone, and `oz_show` for the end line.
 //!
 //! **Tests alone show**, in `oz_tests`: that memory suffices for the texts there, that runs with workers end, and that two runs
-//! without them print the same.
+//! without them print the same, in the fixed order and with one seed.
 //!
 //! **Sources**: Van Roy and Haridi, Concepts, Techniques, and Models of Computer Programming, chapters 2, 4 and 6, for the
 //! machine whose lines these are; Haridi and others, Efficient Logic Variables for Distributed Computing (TOPLAS 21(3), 1999),

@@ -379,7 +379,7 @@ pub static RUNS: [Run; 55] = [
 // The words after the name, a text, the bytes that are taken, and the status' number.
 pub type Worded = (&'static [&'static str], &'static str, &'static str, u8);
 
-pub static WORDED: [Worded; 17] = [
+pub static WORDED: [Worded; 24] = [
     (&["run"], FIVE, "5\nquiescent ended=1 waiting=0\n", 0),
     (&["central"], FIVE, "5\nquiescent ended=1 waiting=0\n", 0),
     (
@@ -389,6 +389,48 @@ pub static WORDED: [Worded; 17] = [
         0,
     ),
     (&["--steps", "100"], LOOP, "stopped steps site=1\n", 4),
+    (
+        &["--seed", "0"],
+        FIVE,
+        "5\nquiescent ended=1 waiting=0\n",
+        0,
+    ),
+    (
+        &["--seed", "+1", "run"],
+        FIVE,
+        "5\nquiescent ended=1 waiting=0\n",
+        0,
+    ),
+    (
+        &["--seed", "18446744073709551615"],
+        COUNTER,
+        "100\nquiescent ended=5 waiting=0\n",
+        0,
+    ),
+    (
+        &["--seed", "7", "--sites", "64"],
+        COUNTER,
+        "100\nquiescent ended=5 waiting=0\n",
+        0,
+    ),
+    (
+        &["--seed", "7", "central"],
+        COUNTER,
+        "100\nquiescent ended=5 waiting=0\n",
+        0,
+    ),
+    (
+        &["--seed", "7", "--steps", "100"],
+        LOOP,
+        "stopped steps site=1\n",
+        4,
+    ),
+    (
+        &["--seed", "7", "--sites", "2", "--messages", "1"],
+        KNOWN,
+        "f(5)\nquiescent ended=2 waiting=0\n",
+        0,
+    ),
     (
         &["central", "--steps", "100"],
         LOOP,
@@ -496,7 +538,7 @@ pub static WIDE: [Worded; 2] = [
 ];
 
 // Words that are refused.
-pub static USAGE: [&[&str]; 31] = [
+pub static USAGE: [&[&str]; 37] = [
     &["gen"],
     &["gen", "0"],
     &["gen", "1001"],
@@ -526,6 +568,12 @@ pub static USAGE: [&[&str]; 31] = [
     &["--workers", "2", "--workers", "3"],
     &["--messages", "4000000001"],
     &["--messages", "-1"],
+    &["--seed", "18446744073709551616"],
+    &["--seed", "-1"],
+    &["--seed", "x"],
+    &["--seed", ""],
+    &["--seed"],
+    &["--seed", "1", "--seed", "2"],
     &["--help"],
     &["--version"],
 ];

@@ -4,6 +4,7 @@ use crate::examples::EXAMPLES;
 use crate::more_examples::MORE_EXAMPLES;
 use crate::port_programs::{HURRIED, REQUESTED};
 use crate::rows::COUNTER;
+use crate::site_texts::SEEDS;
 use crate::texts::{give_up, report_of};
 use oz_base::{MemSink, MemSource};
 use oz_runner::OpenGate;
@@ -473,6 +474,9 @@ fn what_is_saved_is_right(rt: HostRuntime) -> Result<(), Fail> {
             &["--workers", workers, "--steps", "90"],
             COUNTER,
         )?;
+    }
+    for seed in SEEDS.as_slice() {
+        expect_checked(&rt, alloc, &["--sites", "4", "--seed", seed], COUNTER)?;
     }
     Ok(())
 }

@@ -31,21 +31,35 @@ pub static FRONTS: [(&[u64], &[&str]); 3] = [
     (&[3], &BOTH_LINES),
 ];
 
+// Seeds, from the least to the greatest.
+pub static SEEDS: [&str; 12] = [
+    "0",
+    "1",
+    "2",
+    "3",
+    "4",
+    "5",
+    "6",
+    "7",
+    "8",
+    "9",
+    "10",
+    "18446744073709551615",
+];
+
+// The outputs of the race.
+pub const RACED: [&str; 4] = [
+    "1\nuncaught failure(tell)\nquiescent ended=3 waiting=0\n",
+    "2\nuncaught failure(tell)\nquiescent ended=3 waiting=0\n",
+    "uncaught failure(tell)\n1\nquiescent ended=3 waiting=0\n",
+    "uncaught failure(tell)\n2\nquiescent ended=3 waiting=0\n",
+];
+
 // A line is printed at site 3.
 pub const THIRD: &str = "local X in X = 7 thread at 9 {Browse X} end end";
 
-pub static SITED: [SiteText; 17] = [
-    (
-        &["--sites", "3"],
-        RACE,
-        &[
-            "1\nuncaught failure(tell)\nquiescent ended=3 waiting=0\n",
-            "2\nuncaught failure(tell)\nquiescent ended=3 waiting=0\n",
-            "uncaught failure(tell)\n1\nquiescent ended=3 waiting=0\n",
-            "uncaught failure(tell)\n2\nquiescent ended=3 waiting=0\n",
-        ],
-        0,
-    ),
+pub static SITED: [SiteText; 20] = [
+    (&["--sites", "3"], RACE, &RACED, 0),
     (
         &["--sites", "2"],
         "local X Z in
@@ -91,6 +105,24 @@ pub static SITED: [SiteText; 17] = [
         "local X in {Wait X} end",
         &["stopped steps site=1\n"],
         4,
+    ),
+    (
+        &["--steps", "1", "--seed", "3"],
+        "local X in {Wait X} end",
+        &["stopped steps site=1\n"],
+        4,
+    ),
+    (
+        &["--steps", "100", "--sites", "2", "--seed", "3"],
+        "local P in P = proc {$} {P} end thread at 2 {P} end end",
+        &["stopped steps site=1\n", "stopped steps site=2\n"],
+        4,
+    ),
+    (
+        &["--messages", "0", "--seed", "3"],
+        "thread at 2 skip end",
+        &["stopped messages\n"],
+        5,
     ),
     (
         &["--steps", "1", "central"],

@@ -4,7 +4,7 @@ use crate::endless::{ENDLESS, FAR_STREAM};
 use crate::port_programs::{HOMES, LIMITED, PORTS};
 use crate::rows::COUNTER;
 use crate::site_programs::{CELLS, RAISED, SENT, SITES, SiteProgram, TESTED, THREADS};
-use crate::site_texts::{FRONTS, RACE, SITED, SiteText, THIRD};
+use crate::site_texts::{FRONTS, RACE, RACED, SEEDS, SITED, SiteText, THIRD};
 use crate::texts::{answer, give_up, report_of, with_workers};
 use oz_base::{MemSink, MemSource};
 use oz_runner::OpenGate;
@@ -65,14 +65,15 @@ fn print_as_said<R: Abort + Threads + Wait + Sync>(
     Ok(())
 }
 
-// Two runs of a text without workers print the same, and have schedules of the same length.
+// Two runs of a text by these words and so many workers print the same, and have schedules of the same length.
 fn prints_twice<R: Abort + Threads + Wait + Sync>(
     rt: &R,
     alloc: Global,
     words: &[&'static str],
     text: &str,
+    workers: &'static str,
 ) -> Result<(), AllocError> {
-    let words = with_workers(alloc, words, "0")?;
+    let words = with_workers(alloc, words, workers)?;
     let first = answer(rt, alloc, &words, text.as_bytes(), &[], &[])?;
     let second = answer(rt, alloc, &words, text.as_bytes(), &[], &[])?;
     assert_eq!(rt; first.0.as_slice(), second.0.as_slice());
@@ -179,10 +180,37 @@ fn a_failed_write_leaves_the_lines_before(rt: HostRuntime) -> Result<(), Fail> {
 #[test]
 fn two_runs_print_the_same(rt: HostRuntime) -> Result<(), Fail> {
     let alloc = rt.alloc();
-    prints_twice(&rt, alloc, &["--sites", "3"], COUNTER)?;
-    prints_twice(&rt, alloc, &["--sites", "3"], RACE)?;
-    prints_twice(&rt, alloc, &["--sites", "1"], RACE)?;
-    prints_twice(&rt, alloc, &["central"], RACE)?;
+    prints_twice(&rt, alloc, &["--sites", "3"], COUNTER, "0")?;
+    prints_twice(&rt, alloc, &["--sites", "3"], RACE, "0")?;
+    prints_twice(&rt, alloc, &["--sites", "1"], RACE, "0")?;
+    prints_twice(&rt, alloc, &["central"], RACE, "0")?;
+    Ok(())
+}
+
+#[test]
+fn two_runs_with_one_seed_print_the_same(rt: HostRuntime) -> Result<(), Fail> {
+    let alloc = rt.alloc();
+    for seed in SEEDS.as_slice() {
+        prints_twice(&rt, alloc, &["--sites", "3", "--seed", seed], COUNTER, "4")?;
+        prints_twice(&rt, alloc, &["--sites", "3", "--seed", seed], RACE, "4")?;
+    }
+    Ok(())
+}
+
+#[test]
+fn seeds_show_several_outputs(rt: HostRuntime) -> Result<(), Fail> {
+    let alloc = rt.alloc();
+    let mut came = [false; 4];
+    for seed in SEEDS.as_slice() {
+        let words: [&str; 4] = ["--sites", "3", "--seed", seed];
+        let told = answer(&rt, alloc, &words, RACE.as_bytes(), &[], &[])?;
+        for at in 0..RACED.len() {
+            if told.0.as_slice() == RACED[at].as_bytes() {
+                came[at] = true;
+            }
+        }
+    }
+    assert!(rt; came[0] && came[1]);
     Ok(())
 }
 

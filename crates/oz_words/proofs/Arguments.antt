@@ -23,8 +23,8 @@ use Rattle.clap.specs.declared.parser.ArgMatches.{ArgMatches}
 use Rattle.clap.proofs.WalkLemmas.{both, list_any-map}
 use Rattle.clap.proofs.SimpleLemmas.{is_false, is_nil, plain_fields}
 use Rattle.oz_words.specs.Places.{placeless_names}
-use Rattle.oz_words.specs.Command.{AreActions, action_names, oz_app, sites_option, workers_option, steps_option, messages_option, number_rule, numbers_of, sizes, size_rule, action_rule, action_values}
-use Rattle.oz_words.specs.Matches.{HasValue, HasNumber, MayHaveSize}
+use Rattle.oz_words.specs.Command.{AreActions, action_names, oz_app, sites_option, workers_option, steps_option, messages_option, number_rule, numbers_of, seeds, seed_rule, sizes, size_rule, action_rule, action_values}
+use Rattle.oz_words.specs.Matches.{HasValue, HasNumber, MayHaveSeed, MayHaveSize}
 use Rattle.oz_words.proofs.DefaultValues.{IsOwn, defaulted_reads, optional_reads}
 
 is_none : {X : Type 0} (o : Option X) → not (is_some o) ≡ true → o ≡ None
@@ -71,21 +71,22 @@ record IsKind (r : Rule) (q : ValueParser) : Type 0 where
   case : r.ignore_case ≡ false
 
 abbrev rules_of : Bor (List (Bor (List ℕ))) → List Rule
-rules_of names = number_rule sites_option ∷ number_rule workers_option ∷ number_rule steps_option ∷ number_rule messages_option ∷ action_rule names ∷ size_rule sizes ∷ []
+rules_of names = number_rule sites_option ∷ number_rule workers_option ∷ number_rule steps_option ∷ number_rule messages_option ∷ seed_rule ∷ action_rule names ∷ size_rule sizes ∷ []
 
 -- two texts with a different letter
 differ : (a b : List ℕ) → bytes_eq a b ≡ false → a ≡ b → ⊥
 differ a b other same = true≢false (sym ((bytes_eq-Decides a b).1 same) ∙ other)
 
--- what holds of each of the six places
-each_of : (P : ℕ → Type 0) → P 0 → P 1 → P 2 → P 3 → P 4 → P 5 → (k : ℕ) → k < 6 → P k
-each_of P a b c d e f zero lt = a
-each_of P a b c d e f (suc zero) lt = b
-each_of P a b c d e f (suc (suc zero)) lt = c
-each_of P a b c d e f (suc (suc (suc zero))) lt = d
-each_of P a b c d e f (suc (suc (suc (suc zero)))) lt = e
-each_of P a b c d e f (suc (suc (suc (suc (suc zero))))) lt = f
-each_of P a b c d e f (suc (suc (suc (suc (suc (suc k)))))) lt = absurd (omega arith)
+-- what holds of each of the seven places
+each_of : (P : ℕ → Type 0) → P 0 → P 1 → P 2 → P 3 → P 4 → P 5 → P 6 → (k : ℕ) → k < 7 → P k
+each_of P a b c d e f g zero lt = a
+each_of P a b c d e f g (suc zero) lt = b
+each_of P a b c d e f g (suc (suc zero)) lt = c
+each_of P a b c d e f g (suc (suc (suc zero))) lt = d
+each_of P a b c d e f g (suc (suc (suc (suc zero)))) lt = e
+each_of P a b c d e f g (suc (suc (suc (suc (suc zero))))) lt = f
+each_of P a b c d e f g (suc (suc (suc (suc (suc (suc zero)))))) lt = g
+each_of P a b c d e f g (suc (suc (suc (suc (suc (suc (suc k))))))) lt = absurd (omega arith)
 
 -- the place of the argument with this name
 abbrev place_of : List ℕ → ℕ
@@ -94,23 +95,24 @@ place_of id =
     else if bytes_eq id (codes "workers") then 1
     else if bytes_eq id (codes "steps") then 2
     else if bytes_eq id (codes "messages") then 3
-    else if bytes_eq id (codes "action") then 4
-    else 5
+    else if bytes_eq id (codes "seed") then 4
+    else if bytes_eq id (codes "action") then 5
+    else 6
 
 module _ (c : Command) (names : Bor (List (Bor (List ℕ)))) (is : app_of c ≡ oz_app names) where
   rules : map rule_of (args_of c) ≡ rules_of names
   rules = ap (λ (a : App). a.top.rules) is
 
-  count : length (args_of c) ≡ 6
+  count : length (args_of c) ≡ 7
   count = sym (length-map (args_of c) rule_of) ∙ ap length rules
 
-  below : (k : ℕ) → k < 6 → k < length (args_of c)
+  below : (k : ℕ) → k < 7 → k < length (args_of c)
   below k lt = omega (arith, count)
 
-  rule_at : (k : ℕ) (d : Arg) → k < 6 → rule_of (slice_index_or (args_of c) k d) ≡ slice_index_or (rules_of names) k (rule_of d)
+  rule_at : (k : ℕ) (d : Arg) → k < 7 → rule_of (slice_index_or (args_of c) k d) ≡ slice_index_or (rules_of names) k (rule_of d)
   rule_at k d lt = sym (get_or-map rule_of (args_of c) k d (rule_of d) (below k lt)) ∙ ap (λ l. slice_index_or l k (rule_of d)) rules
 
-  kind_at : (k : ℕ) (e : Rule) → k < 6 → (q : ValueParser) × IsKind (slice_index_or (rules_of names) k e) q
+  kind_at : (k : ℕ) (e : Rule) → k < 7 → (q : ValueParser) × IsKind (slice_index_or (rules_of names) k e) q
   kind_at k e lt =
       each_of (λ i. (q : ValueParser) × IsKind (slice_index_or (rules_of names) i e) q)
       (_, record { simple = refl; free = refl; action = refl; range = refl; parser = refl; case = refl })
@@ -119,9 +121,10 @@ module _ (c : Command) (names : Bor (List (Bor (List ℕ)))) (is : app_of c ≡ 
       (_, record { simple = refl; free = refl; action = refl; range = refl; parser = refl; case = refl })
       (_, record { simple = refl; free = refl; action = refl; range = refl; parser = refl; case = refl })
       (_, record { simple = refl; free = refl; action = refl; range = refl; parser = refl; case = refl })
+      (_, record { simple = refl; free = refl; action = refl; range = refl; parser = refl; case = refl })
       k lt
 
-  plain_at : (k : ℕ) (d : Arg) → k < 6 → Plain (slice_index_or (args_of c) k d)
+  plain_at : (k : ℕ) (d : Arg) → k < 7 → Plain (slice_index_or (args_of c) k d)
   plain_at k d lt =
       let kind = (kind_at k (rule_of d) lt).1 in
       let at = rule_at k d lt in
@@ -133,26 +136,27 @@ module _ (c : Command) (names : Bor (List (Bor (List ℕ)))) (is : app_of c ≡ 
     (plain_fields c (ap (λ (a : App). a.top.is_plain) is)).groups,
   )
 
-  id_at : (k : ℕ) (d : Arg) → k < 6 → (slice_index_or (args_of c) k d).id.now ≡ (slice_index_or (rules_of names) k (rule_of d)).id
+  id_at : (k : ℕ) (d : Arg) → k < 7 → (slice_index_or (args_of c) k d).id.now ≡ (slice_index_or (rules_of names) k (rule_of d)).id
   id_at k d lt = ap (λ (r : Rule). r.id) (rule_at k d lt)
 
-  place_at : (k : ℕ) (x : Rule) → k < 6 → place_of (slice_index_or (rules_of names) k x).id ≡ k
-  place_at k x lt = each_of (λ i. place_of (slice_index_or (rules_of names) i x).id ≡ i) refl refl refl refl refl refl k lt
+  place_at : (k : ℕ) (x : Rule) → k < 7 → place_of (slice_index_or (rules_of names) k x).id ≡ k
+  place_at k x lt = each_of (λ i. place_of (slice_index_or (rules_of names) i x).id ≡ i) refl refl refl refl refl refl refl k lt
 
-  distinct : (j k : ℕ) (x y : Rule) → j < 6 → k < 6
+  distinct : (j k : ℕ) (x y : Rule) → j < 7 → k < 7
       → bytes_eq (slice_index_or (rules_of names) j x).id (slice_index_or (rules_of names) k y).id ≡ true → j ≡ k
   distinct j k x y l m e =
       let same : (slice_index_or (rules_of names) j x).id ≡ (slice_index_or (rules_of names) k y).id = (bytes_eq-Decides _ _).0 e in
       sym (place_at j x l) ∙ (ap place_of {x = (slice_index_or (rules_of names) j x).id} {y = (slice_index_or (rules_of names) k y).id} same ∙ place_at k y m)
 
   -- the id is neither empty nor one that building adds
-  own_id : (k : ℕ) (x : Rule) → k < 6 → (((slice_index_or (rules_of names) k x).id ≡ []) → ⊥)
+  own_id : (k : ℕ) (x : Rule) → k < 7 → (((slice_index_or (rules_of names) k x).id ≡ []) → ⊥)
       × (((slice_index_or (rules_of names) k x).id ≡ codes "help") → ⊥) × (((slice_index_or (rules_of names) k x).id ≡ codes "version") → ⊥)
   own_id k x lt =
       each_of (λ i. (((slice_index_or (rules_of names) i x).id ≡ []) → ⊥)
       × (((slice_index_or (rules_of names) i x).id ≡ codes "help") → ⊥) × (((slice_index_or (rules_of names) i x).id ≡ codes "version") → ⊥))
       ((λ e. cc), differ _ _ refl, differ _ _ refl) ((λ e. cc), differ _ _ refl, differ _ _ refl) ((λ e. cc), differ _ _ refl, differ _ _ refl)
       ((λ e. cc), differ _ _ refl, differ _ _ refl) ((λ e. cc), differ _ _ refl, differ _ _ refl) ((λ e. cc), differ _ _ refl, differ _ _ refl)
+      ((λ e. cc), differ _ _ refl, differ _ _ refl)
       k lt
 
   -- what is read of the argument at this place where its entry has a value
@@ -160,7 +164,7 @@ module _ (c : Command) (names : Bor (List (Bor (List ℕ)))) (is : app_of c ≡ 
   Reads m id q = (t : List ℕ) × (one_text (found_of m) id ≡ Some (read_as (reading_of q) t)) × Accepts false q t
 
   -- what a parse says of the argument at this place
-  facts_at : (m : ArgMatches) → IsParsedFrom c m → (k : ℕ) (d : Arg) → k < 6 → (q : ValueParser)
+  facts_at : (m : ArgMatches) → IsParsedFrom c m → (k : ℕ) (d : Arg) → k < 7 → (q : ValueParser)
       → (slice_index_or (rules_of names) k (rule_of d)).parser ≡ Some q → IsOwn c k d q
   facts_at m p k d lt q parser =
       let at = rule_at k d lt in
@@ -181,7 +185,7 @@ module _ (c : Command) (names : Bor (List (Bor (List ℕ)))) (is : app_of c ≡ 
       }
 
   -- by the rules
-  by_rule : (m : ArgMatches) (k : ℕ) (d : Arg) → k < 6 → (q : ValueParser)
+  by_rule : (m : ArgMatches) (k : ℕ) (d : Arg) → k < 7 → (q : ValueParser)
       → (t : List ℕ) × (one_text (found_of m) (slice_index_or (args_of c) k d).id.now ≡ Some (read_as (reading_of q) t)) × Accepts (slice_index_or (args_of c) k d).ignore_case q t
       → Reads m (slice_index_or (rules_of names) k (rule_of d)).id q
   by_rule m k d lt q got =
@@ -196,7 +200,7 @@ module _ (c : Command) (names : Bor (List (Bor (List ℕ)))) (is : app_of c ≡ 
   globals = (plain_fields c (ap (λ (a : App). a.top.is_plain) is)).globals
 
   -- an argument with a default has a value that its parser took
-  reads_at : (m : ArgMatches) → IsParsedFrom c m → (k : ℕ) (d : Arg) → k < 6 → (q : ValueParser)
+  reads_at : (m : ArgMatches) → IsParsedFrom c m → (k : ℕ) (d : Arg) → k < 7 → (q : ValueParser)
       → (slice_index_or (rules_of names) k (rule_of d)).parser ≡ Some q
       → (t : List ℕ) → (slice_index_or (rules_of names) k (rule_of d)).defaults ≡ t ∷ []
       → Reads m (slice_index_or (rules_of names) k (rule_of d)).id q
@@ -208,7 +212,7 @@ module _ (c : Command) (names : Bor (List (Bor (List ℕ)))) (is : app_of c ≡ 
       (plain.ifs, some_texts _ t (ap (λ (r : Rule). r.defaults) at ∙ default)))
 
   -- an argument without one may have no value
-  may_read_at : (m : ArgMatches) → IsParsedFrom c m → (k : ℕ) (d : Arg) → k < 6 → (q : ValueParser)
+  may_read_at : (m : ArgMatches) → IsParsedFrom c m → (k : ℕ) (d : Arg) → k < 7 → (q : ValueParser)
       → (slice_index_or (rules_of names) k (rule_of d)).parser ≡ Some q
       → (one_text (found_of m) (slice_index_or (rules_of names) k (rule_of d)).id ≡ None) ⊎ Reads m (slice_index_or (rules_of names) k (rule_of d)).id q
   may_read_at m p k d lt q parser =
@@ -238,7 +242,7 @@ module _ (c : Command) (names : Bor (List (Bor (List ℕ)))) (is : app_of c ≡ 
 
   pub action_value : AreActions names.now → (m : ArgMatches) → IsParsedFrom c m → HasValue m (codes "action") (action_values (placeless_names action_names))
   action_value are m p =
-      let value = reads_at m p 4 some_arg (omega arith) (action_values names) refl _ refl in
+      let value = reads_at m p 5 some_arg (omega arith) (action_values names) refl _ refl in
       (value.0, value.1, is_one_of value.0 value.2)
     where
       is_one_of : (t : List ℕ) → Accepts false (action_values names) t → Accepts false (action_values (placeless_names action_names)) t
@@ -247,7 +251,10 @@ module _ (c : Command) (names : Bor (List (Bor (List ℕ)))) (is : app_of c ≡ 
           ∙ (sym (list_any-map (λ (name : List ℕ). bytes_eq name t) (λ (name : Bor (List ℕ)). name.now) names.now) ∙ passed)
 
   pub size_value : (m : ArgMatches) → IsParsedFrom c m → MayHaveSize m
-  size_value m p = may_read_at m p 5 some_arg (omega arith) sizes refl
+  size_value m p = may_read_at m p 6 some_arg (omega arith) sizes refl
+
+  pub seed_value : (m : ArgMatches) → IsParsedFrom c m → MayHaveSeed m
+  seed_value m p = may_read_at m p 4 some_arg (omega arith) seeds refl
 
 -- the command is one whose matches and faults are known
 pub simple_and_free : (names : Bor (List (Bor (List ℕ)))) → is_simple_and_free (oz_app names) ≡ true

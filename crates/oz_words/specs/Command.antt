@@ -42,18 +42,29 @@ numbers_from least most = vp.Unsigned least most
 abbrev pub numbers_of : NumberOption → ValueParser
 numbers_of o = numbers_from o.least o.most
 
--- `--name N`, given at most once, with a default
-abbrev pub option_rule : Text → ValueParser → Text → Rule
-option_rule name parser default = record (new_rule name) {
+-- `--name N`, given at most once
+abbrev pub bare_option_rule : Text → ValueParser → Rule
+bare_option_rule name parser = record (new_rule name) {
   long = Some name;
   action = Some Set;
   parser = Some parser;
-  defaults = default ∷ [];
 }
+
+-- the same with a default
+abbrev pub option_rule : Text → ValueParser → Text → Rule
+option_rule name parser default = record (bare_option_rule name parser) { defaults = default ∷ [] }
 
 -- `--name N` for a number of the option
 abbrev pub number_rule : NumberOption → Rule
 number_rule o = option_rule o.name (numbers_of o) o.default
+
+-- from 0 to 2^64 - 1
+abbrev pub seeds : ValueParser
+seeds = numbers_from 0 18446744073709551615
+
+-- `--seed N`, which may be left out
+abbrev pub seed_rule : Rule
+seed_rule = bare_option_rule (codes "seed") seeds
 
 -- one of these names
 abbrev pub action_values : Bor (List (Bor Text)) → ValueParser
@@ -94,11 +105,11 @@ bare_app = record (new_app (codes "oz")) {
 -- the options, and the two words after them
 abbrev pub rules_of_oz : Bor (List (Bor Text)) → App
 rules_of_oz names =
-    with_rule (with_rule (with_rule (with_rule (with_rule (with_rule (new_app (codes "oz"))
-    (number_rule sites_option)) (number_rule workers_option)) (number_rule steps_option)) (number_rule messages_option))
+    with_rule (with_rule (with_rule (with_rule (with_rule (with_rule (with_rule (new_app (codes "oz"))
+    (number_rule sites_option)) (number_rule workers_option)) (number_rule steps_option)) (number_rule messages_option)) seed_rule)
     (action_rule names)) (size_rule sizes)
 
--- `oz [--sites N] [--workers N] [--steps N] [--messages N] [run|central|gen|save|check] [NUMBER]`
+-- `oz [--sites N] [--workers N] [--steps N] [--messages N] [--seed N] [run|central|gen|save|check] [NUMBER]`
 abbrev pub oz_app : Bor (List (Bor Text)) → App
 oz_app names = record (rules_of_oz names) {
   top = record (rules_of_oz names).top {

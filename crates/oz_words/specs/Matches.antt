@@ -5,7 +5,7 @@ use Rattle.clap.specs.Values.{read_as, reading_of}
 use Rattle.clap.specs.declared.builder.ValueParser.{ValueParser}
 use Rattle.clap.specs.declared.parser.ArgMatches.{ArgMatches}
 use Rattle.oz_words.specs.Places.{placeless_names}
-use Rattle.oz_words.specs.Command.{NumberOption, sites_option, workers_option, steps_option, messages_option, numbers_of, sizes, action_names, action_values, oz_command}
+use Rattle.oz_words.specs.Command.{NumberOption, sites_option, workers_option, steps_option, messages_option, numbers_of, seeds, sizes, action_names, action_values, oz_command}
 use Rattle.oz_words.specs.declared.options.WordsError.{WordsError}
 use Rattle.oz_words.specs.declared.options.WordsError.TheVariants.{Usage, Memory}
 
@@ -29,11 +29,19 @@ HasValue m id q = (t : Text) × (one_text (found_of m) id ≡ Some (read_as (rea
 abbrev pub HasNumber : ArgMatches → NumberOption → Type 0
 HasNumber m o = HasValue m o.name (numbers_of o)
 
+-- an argument is left out, or has a value that its parser took
+abbrev pub MayHaveValue : ArgMatches → Text → ValueParser → Type 0
+MayHaveValue m id q = (one_text (found_of m) id ≡ None) ⊎ HasValue m id q
+
 -- the number behind the action's name is left out, or is one of the sizes
 abbrev pub MayHaveSize : ArgMatches → Type 0
-MayHaveSize m = (one_text (found_of m) (codes "number") ≡ None) ⊎ HasValue m (codes "number") sizes
+MayHaveSize m = MayHaveValue m (codes "number") sizes
 
--- the matches of words that the command takes, with a value for each argument but the last, which may be left out
+-- the seed is left out, or is a number of 64 bits
+abbrev pub MayHaveSeed : ArgMatches → Type 0
+MayHaveSeed m = MayHaveValue m (codes "seed") seeds
+
+-- the matches of words that the command takes, with a value for each argument but the seed and the last, which may be left out
 pub record AreMatchesOf (words : List Text) (m : ArgMatches) : Type 0 where
   pub no_fault : words_fault words ≡ []
   pub rows : rows_of (found_of m) ≡ words_rows words
@@ -41,6 +49,7 @@ pub record AreMatchesOf (words : List Text) (m : ArgMatches) : Type 0 where
   pub workers : HasNumber m workers_option
   pub steps : HasNumber m steps_option
   pub messages : HasNumber m messages_option
+  pub seed : MayHaveSeed m
   pub action : HasValue m (codes "action") (action_values (placeless_names action_names))
   pub size : MayHaveSize m
 

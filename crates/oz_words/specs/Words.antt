@@ -20,6 +20,12 @@ abbrev pub IsNumberText : Option Text → ℕ → Type 0
 IsNumberText None n = ⊥
 IsNumberText (Some text) n = n ≡ digits_value 10 (without_leading_plus text)
 
+-- the number that a text says, where there is one
+abbrev pub MayBeNumberText : Option Text → Option ℕ → Type 0
+MayBeNumberText None n = n ≡ None
+MayBeNumberText (Some text) None = ⊥
+MayBeNumberText (Some text) (Some n) = IsNumberText (Some text) n
+
 -- the word that names an action
 abbrev pub action_name : ActionName → Text
 action_name name.Run = codes "run"
@@ -68,6 +74,7 @@ pub record AreOptionsOf (rows : List Row) (options : Options) : Type 0 where
   pub workers : IsNumberText (one_of workers_option.name rows) options.workers
   pub steps : IsNumberText (one_of steps_option.name rows) options.steps
   pub messages : IsNumberText (one_of messages_option.name rows) options.messages
+  pub seed : MayBeNumberText (one_of (codes "seed") rows) options.seed
   pub action : IsActionText (one_of (codes "action") rows) (one_of (codes "number") rows) options.action
 
 -- a large text is of a size that there is
@@ -75,7 +82,7 @@ abbrev pub IsActionInRange : Action → Type 0
 IsActionInRange (Gen size) = IsSize size
 IsActionInRange action = Unit {0}
 
--- the numbers are in their ranges
+-- the numbers are in their ranges. A seed is any number of 64 bits
 pub record InRange (options : Options) : Type 0 where
   pub sites : IsWithin sites_option options.sites
   pub workers : IsWithin workers_option options.workers

@@ -2,7 +2,7 @@
 
 ghost use Rattle.std.specs.Prelude.{◌≡◌, IfOk, false};
 ghost use Rattle.clap.specs.Words.{app_of, rule_of};
-ghost use Rattle.oz_words.specs.Command.{AreActions, bare_app, oz_app, option_rule, action_rule, size_rule, numbers_from};
+ghost use Rattle.oz_words.specs.Command.{AreActions, bare_app, oz_app, bare_option_rule, option_rule, action_rule, size_rule, numbers_from, seeds};
 ghost use Rattle.oz_words.specs.Matches.{TakesWordsOfOz};
 
 use clap::builder::ValueParser;
@@ -16,11 +16,18 @@ fn option_of<'a>(alloc: Global, name: &'a str, parser: ValueParser<'a>, default:
     ensures rule { rule_of result ≡ option_rule name.entry.now parser.entry default.entry.now }
     ensures local { result.global ≡ false }
 {
+    bare_option_of(alloc, name, parser).default_value(default)
+}
+
+// `--name N`, given at most once.
+fn bare_option_of<'a>(alloc: Global, name: &'a str, parser: ValueParser<'a>) -> Arg<'a>
+    ensures rule { rule_of result ≡ bare_option_rule name.entry.now parser.entry }
+    ensures local { result.global ≡ false }
+{
     Arg::new(alloc, name)
         .long(name)
         .action(ArgAction::Set)
         .value_parser(parser)
-        .default_value(default)
 }
 
 // The word that is one of these names.
@@ -51,6 +58,13 @@ fn numbers<'a>(least: u32, most: u32) -> ValueParser<'a>
     value_parser!(u64).range(i64::from(least)..=i64::from(most))
 }
 
+// All numbers of 64 bits.
+fn seeds<'a>() -> ValueParser<'a>
+    ensures { result ≡ seeds }
+{
+    value_parser!(u64)
+}
+
 // The names of the actions, at the lifetime that the caller wants.
 fn action_names<'a>() -> &'a [&'a str]
     ensures { AreActions result.now }
@@ -67,7 +81,7 @@ fn bare_command<'a>(alloc: Global) -> Command<'a>
         .disable_version_flag(true)
 }
 
-/// The command that takes `oz [--sites N] [--workers N] [--steps N] [--messages N] [run|central|gen|save|check] [NUMBER]`:
+/// The command that takes `oz [--sites N] [--workers N] [--steps N] [--messages N] [--seed N] [run|central|gen|save|check] [NUMBER]`:
 ///
 /// - `--sites N`, the number of sites of a run, from 1 to 64; 4 where it is left out;
 /// - `--workers N`, the number of workers that drive the sites, from 0 to 64; 4 where it is left out;
@@ -75,6 +89,7 @@ fn bare_command<'a>(alloc: Global) -> Command<'a>
 ///   left out;
 /// - `--messages N`, the most messages that sites send to each other, from 0 to 4,000,000,000; 1,000,000 where it is left
 ///   out;
+/// - `--seed N`, from 0 to 2^64 - 1, from which the order of a run is drawn; it may be left out, and then it is not drawn;
 /// - `run`, `central`, `gen`, `save` or `check`, what to do; `run` where it is left out;
 /// - a number from 1 to 1,000 behind it. `read_options` refuses it without `gen`, and `gen` without it.
 ///
@@ -90,6 +105,7 @@ pub fn command<'a>(alloc: Global) -> Result<Command<'a>, AllocError>
         .arg(option_of(alloc, "workers", numbers(0, 64), "4"))?
         .arg(option_of(alloc, "steps", numbers(1, 1_000_000_000), "1000000"))?
         .arg(option_of(alloc, "messages", numbers(0, 4_000_000_000), "1000000"))?
+        .arg(bare_option_of(alloc, "seed", seeds()))?
         .arg(action_of(alloc, names))?
         .arg(size_of(alloc, numbers(1, 1_000)))
 }

@@ -2,7 +2,7 @@
 //!
 //! **For**: `oz_runner`, which reads its options here, and whoever wants the command itself, as for a page of help.
 //!
-//! **Promises**: `command` is `oz [--sites N] [--workers N] [--steps N] [--messages N] [run|central|gen|save|check] [NUMBER]` in the terms of the
+//! **Promises**: `command` is `oz [--sites N] [--workers N] [--steps N] [--messages N] [--seed N] [run|central|gen|save|check] [NUMBER]` in the terms of the
 //! crate that reads words (`app`: `oz_app` in `specs/Command.antt`), and what it makes of any words is determined: `words_fault`
 //! and `words_rows` (`words`), wherever in memory the names of its actions lie. `read_options` answers `Usage` exactly where that
 //! command refuses the words or a number stands without `gen` or is missing with it (`AreTaken` in `specs/Words.antt`), and else

@@ -4,8 +4,8 @@ ghost use Rattle.std.specs.Prelude.{◌≡◌, IfOk, codes, map, string_bytes};
 ghost use Rattle.clap.specs.Words.{found_of, one_text};
 ghost use Rattle.oz_words.specs.Places.{placeless_names};
 ghost use Rattle.oz_words.specs.Command.{NumberOption, IsWithin, action_names, action_values};
-ghost use Rattle.oz_words.specs.Matches.{HasValue, HasNumber, MayHaveSize, IsParse};
-ghost use Rattle.oz_words.specs.Words.{ReadsWords, InRange, IsActionInRange, IsNumberText, NamesAction, ReadsAction};
+ghost use Rattle.oz_words.specs.Matches.{HasValue, HasNumber, MayHaveSeed, MayHaveSize, IsParse};
+ghost use Rattle.oz_words.specs.Words.{ReadsWords, InRange, IsActionInRange, IsNumberText, MayBeNumberText, NamesAction, ReadsAction};
 
 use crate::command_line::command;
 use clap::ArgMatches;
@@ -58,14 +58,16 @@ impl FromStr for ActionName {
 
 /// What the words ask for: what to do, the number of sites, 1 to 64, the number of workers that drive them, 0 to 64, the most
 /// steps of each site, 1 to 1,000,000,000, and the most messages, 0 to 4,000,000,000. Without workers the sites take turns on
-/// the caller's thread. On the centralised machine there are no sites, workers and messages, and the steps are of the whole. A saved
-/// run that is made again has numbers of its own in the place of these.
+/// the caller's thread; so they do with a seed, from which the order of the turns is drawn, whatever the number of workers. On the
+/// centralised machine there are no sites, workers, messages and seeds, and the steps are of the whole. A saved run that is made again
+/// has numbers of its own in the place of these, and an order.
 #[derive(Clone, Copy, Debug, PartialEq, Eq)]
 pub struct Options {
     pub sites: u32,
     pub workers: u32,
     pub steps: u64,
     pub messages: u64,
+    pub seed: Option<u64>,
     pub action: Action,
 }
 
@@ -102,6 +104,14 @@ fn number_of(matches: &ArgMatches, name: &str) -> u64
     matches.get_one(name).unwrap()
 }
 
+// The seed, if there is one.
+fn seed_in(matches: &ArgMatches) -> Option<u64>
+    requires { MayHaveSeed matches.now }
+    ensures { MayBeNumberText (one_text (found_of matches.now) (codes "seed")) result }
+{
+    matches.get_one("seed")
+}
+
 // What to do: the action's name, and the number where it takes one.
 fn action_in(matches: &ArgMatches) -> Result<Action, WordsError>
     requires name { HasValue matches.now (codes "action") (action_values (placeless_names action_names)) }
@@ -133,6 +143,7 @@ pub fn read_options(alloc: Global, words: &[String]) -> Result<Options, WordsErr
         workers: number_of(&matches, "workers") as u32,
         steps: number_of(&matches, "steps"),
         messages: number_of(&matches, "messages"),
+        seed: seed_in(&matches),
         action,
     })
 }

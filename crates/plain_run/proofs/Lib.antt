@@ -1,6 +1,8 @@
 pub mod RoundLemmas
 pub mod RunLemmas
 pub mod ProgressLemmas
+pub mod PlainLemmas
+pub mod DrawLemmas
 pub mod ReachLemmas
 pub mod SpawnLemmas
 pub mod StepLemmas

@@ -1,6 +1,6 @@
--- Each turn of a plain run takes a message, makes an own step, or lets a thread wait.
-use Rattle.std.proofs.Common.{rules, arith, ◌≡◌, ◌≢◌, ◌∙◌, sym, ap, refl, subst, ℕ, zero, suc, ◌+◌, ◌-◌, ◌<◌, ◌≤◌, List, ◌∷◌, length, Bool, true, false, ◌⊎◌, inl, inr, ⊎_elim}
-use Rattle.std.specs.Prelude.{Option, Some, None, Result, Ok, Err, is_some, is_err, nat_lt, min, OnOk, MatchOption, Contains}
+-- Each turn of a run without workers takes a message, makes an own step, or lets a thread wait.
+use Rattle.std.proofs.Common.{rules, arith, ◌≡◌, ◌≢◌, ◌∙◌, sym, ap, ap₂, refl, subst, ℕ, zero, suc, ◌+◌, ◌-◌, ◌<◌, ◌≤◌, List, ◌∷◌, length, Bool, true, false, ◌⊎◌, inl, inr, ⊎_elim}
+use Rattle.std.specs.Prelude.{Option, Some, None, is_some, nat_lt, min, MatchOption, Contains}
 use Rattle.std.proofs.lemmas.Bool.{cases_lt}
 use Rattle.kernel_syntax.specs.declared.stmt.Stmt.{Stmt}
 use Rattle.site_message.specs.declared.limits.Limits.{Limits}
@@ -14,30 +14,20 @@ use Rattle.site_model.specs.Bundle.{bundle_limit}
 use Rattle.site_model.specs.Site.{Site, is_idle}
 use Rattle.site_model.specs.Run.{WorldRun, delivered_message}
 use Rattle.site_model.specs.Turn.{IsFullTurn}
-use Rattle.site_core.specs.Site.{IsTurnInOrder}
 use Rattle.world_model.specs.Schedule.{sum_to}
 use Rattle.world_mail.specs.declared.travel.Travel.{Travel}
-use Rattle.world_mail.specs.Travels.{IsNoneFor, IsFirstFor}
-use Rattle.world_core.specs.Travels.{AreTravels, IsNumberAt}
-use Rattle.world_core.specs.World.{WorldState, IsWorldTurn, IsWorldTurnInOrder, states_of, orders_of}
+use Rattle.world_core.specs.Travels.{IsNumberAt}
+use Rattle.world_core.specs.World.{WorldState, IsWorldTurn, states_of}
 use Rattle.plain_run.specs.Counts.{runnable_count}
-use Rattle.plain_run.specs.Progress.{IsGoing, IsLimitedTurn, IsAtEase, IsBusy, IsFirstBusy, IsNextBusy, IsProgress, turns_left, standing_of, steps_left}
-use Rattle.plain_run.specs.Rounds.{HasNothingToDo, IsLowestFor, ComesBefore, IsPlainTurn, IsPlainRun, LeadsTo, most_units, last_site}
+use Rattle.plain_run.specs.declared.order.Choice.{Choice}
+use Rattle.plain_run.specs.Order.{CanBeMade, units_of}
+use Rattle.plain_run.specs.Progress.{IsGoing, IsLimitedTurn, IsAtEase, IsFirstBusy, IsNextBusy, IsProgress, turns_left, steps_left}
+use Rattle.plain_run.specs.Rounds.{ComesBefore}
 use Rattle.plain_run.proofs.StepLemmas.{turn_steps, turn_goes_on}
-use Rattle.plain_run.proofs.RoundLemmas.{lowest_is, nothing_to_do, something_to_do}
-use Rattle.world_core.proofs.QuietLemmas.{at_contains}
-use Rattle.world_core.proofs.ReplayLemmas.{same_entry}
 
--- a run that goes on is a plain one, and so it is after a turn
-pub going_plain : (l : Limits) (p : List Stmt) (w : WorldState) → IsGoing l p w → IsPlainRun p l w.journal
-going_plain l p w going = (standing_of w, going.rounds)
-
-pub turn_plain : (l : Limits) (p : List Stmt) (old new : WorldState) (site : ℕ) → IsLimitedTurn l p old new site → IsPlainRun p l new.journal
-turn_plain l p old new site t = (standing_of new, t.rounds)
-
-pub on_ok : {A E : Type 0} (r : Result A E) (P : Type 0) → is_err r ≡ false → OnOk r P → P
-on_ok (Ok x) P e h = h
-on_ok (Err x) P e h = cc
+is_none : (place : Option ℕ) → is_some place ≡ false → place ≡ None
+is_none None e = refl
+is_none (Some q) e = cc
 
 -- ---- sums
 
@@ -85,9 +75,25 @@ delivered_none ts site (Some p) d h e = cc
 
 -- ---- a turn
 
-module _ (l : Limits) (p : List Stmt) (old new : WorldState) (site quantum : ℕ) (place : Option ℕ) (going : IsGoing l p old) (low : 1 ≤ site) (high : site ≤ l.sites)
-    (t : IsWorldTurn old new site place quantum) (run : WorldRun new.program new.sites bundle_limit new.journal (states_of new))
-    (units : quantum ≡ min (l.steps - (states_of old site).steps) 64) where
+-- a turn of as many units as were chosen
+pub as_chosen : (l : Limits) (old new : WorldState) (c : Choice) (quantum steps most : ℕ) → quantum ≡ min (l.steps - steps) most → steps ≡ (states_of old c.site).steps → most ≡ c.units
+    → IsWorldTurn old new c.site c.place quantum → IsWorldTurn old new c.site c.place (units_of l old c)
+as_chosen l old new c quantum steps most is own chosen t = subst (IsWorldTurn old new c.site c.place) (is ∙ ap₂ min (ap (λ (k : ℕ). l.steps - k) own) chosen) t
+
+module _ (l : Limits) (p : List Stmt) (old new : WorldState) (c : Choice) (going : IsGoing l p old) (can : CanBeMade l old c)
+    (t : IsWorldTurn old new c.site c.place (units_of l old c)) (run : WorldRun new.program new.sites bundle_limit new.journal (states_of new)) where
+  abbrev site : ℕ
+  site = c.site
+
+  abbrev quantum : ℕ
+  quantum = units_of l old c
+
+  low : 1 ≤ site
+  low = can.some
+
+  high : site ≤ l.sites
+  high = can.among
+
   either_site : (i : ℕ) → (i ≡ site) ⊎ (i ≢ site)
   either_site i = search rules
 
@@ -118,9 +124,8 @@ module _ (l : Limits) (p : List Stmt) (old new : WorldState) (site quantum : ℕ
   entry_steps = t.turn.2.steps ∙ ap (λ (s : Site). s.steps) (sym t.turn.3)
 
   -- each site keeps within its limit of own steps, and is idle where it is there
-  pub made : new.program ≡ old.program → new.sites ≡ old.sites → new.spent ≡ false → AreTravels old.journal old.travels → MatchOption place (IsNoneFor old.travels site) (λ q. IsFirstFor old.travels site q) →
-      IsNextBusy old l.sites (last_site l.sites old.journal) site → IsWorldTurnInOrder old new site → IsLimitedTurn l p old new site
-  made program sites live travels found next ordered = record {
+  pub made : new.program ≡ old.program → new.sites ≡ old.sites → new.spent ≡ false → IsLimitedTurn l p old new site
+  made program sites live = record {
     entry = t.entry;
     journal = t.journal;
     at = t.site_is;
@@ -134,38 +139,8 @@ module _ (l : Limits) (p : List Stmt) (old new : WorldState) (site quantum : ℕ
     kept = subst (AreWithin l) (sym t.journal) (subst (λ n. n ≤ l.steps) (sym entry_steps) here_within, going.kept);
     idle = λ i other full. idle i (t.others i (λ (e : i ≡ site). other (t.site_is ∙ sym e))) full;
     went = subst (HasNoEarlierEnd l) (sym t.journal) (going.went, going.goes_on);
-    rounds = subst (λ (j : List Turn). LeadsTo p l j (standing_of new)) (sym t.journal) (standing_of old, going.rounds, plain);
-    last = ap (last_site l.sites) t.journal ∙ t.site_is;
   }
     where
-      in_limits : (P : List Stmt → ℕ → Type 0) → P old.program old.sites → P p l.sites
-      in_limits P h = subst (λ (q : List Stmt). P q l.sites) going.program (subst (λ (n : ℕ). P old.program n) going.sites h)
-
-      at_entry : (P : ℕ → Type 0) → P site → P t.entry.site
-      at_entry P h = subst P (sym t.site_is) h
-
-      in_order : IsTurnInOrder old.program old.sites (states_of old site) (delivered_message old.journal t.entry.delivered) t.entry (states_of new site) (orders_of old site) (orders_of new site)
-      in_order =
-          subst (λ (e : Turn). IsTurnInOrder old.program old.sites (states_of old site) (delivered_message old.journal e.delivered) e (states_of new site) (orders_of old site) (orders_of new site))
-          (same_entry ordered.entry t.entry old.journal old.journal (sym ordered.journal ∙ t.journal)) ordered.turn
-
-      rests : length t.entry.units < most_units l (standing_of old) site → is_idle (states_of new site) ≡ true
-      rests less = subst (λ (s : Site). is_idle s ≡ true) (sym t.turn.3) (t.turn.1.2 (subst (λ (u : ℕ). length t.entry.units < u) (sym units) less))
-
-      plain : IsPlainTurn p l old.journal (standing_of old) t.entry (standing_of new)
-      plain = record {
-        some = subst (λ (i : ℕ). 1 ≤ i) (sym t.site_is) low;
-        among = subst (λ (i : ℕ). i ≤ l.sites) (sym t.site_is) high;
-        busy = subst (λ (i : ℕ). HasNothingToDo old.journal i → ⊥) (sym t.site_is) (something_to_do old going.run site travels next.2);
-        first = λ k a b comes. nothing_to_do old going.run k (next.3 k a b (subst (λ (i : ℕ). ComesBefore (last_site l.sites old.journal) k i) t.site_is comes));
-        lowest = subst (λ (i : ℕ). IsLowestFor old.journal i t.entry.delivered) (sym t.site_is) (lowest_is old.journal old.travels site place t.entry.delivered travels found t.delivered);
-        most = at_entry (λ i. length t.entry.units ≤ most_units l (standing_of old) i) (subst (λ (u : ℕ). length t.entry.units ≤ u) units t.turn.1.1);
-        full = at_entry (λ i. length t.entry.units < most_units l (standing_of old) i → is_idle (states_of new i) ≡ true) rests;
-        turn = at_entry (λ i. IsTurnInOrder p l.sites (states_of old i) (delivered_message old.journal t.entry.delivered) t.entry (states_of new i) (orders_of old i) (orders_of new i))
-            (in_limits (λ q n. IsTurnInOrder q n (states_of old site) (delivered_message old.journal t.entry.delivered) t.entry (states_of new site) (orders_of old site) (orders_of new site)) in_order);
-        others = λ i other. (let away = λ (e : i ≡ site). other (e ∙ sym t.site_is) in (t.others i away, ordered.others i away));
-      }
-
       by : (i : ℕ) → (i ≡ site) ⊎ (i ≢ site) → (states_of new i).steps ≤ l.steps
       by i (inl same) = subst (λ (x : ℕ). (states_of new x).steps ≤ l.steps) (sym same) here_within
       by i (inr other) = subst (λ (s : Site). s.steps ≤ l.steps) (sym (t.others i other)) (going.within i)
@@ -174,9 +149,9 @@ module _ (l : Limits) (p : List Stmt) (old new : WorldState) (site quantum : ℕ
       idle i same full = subst (λ (s : Site). is_idle s ≡ true) (sym same) (going.idle i (ap (λ (s : Site). s.steps) (sym same) ∙ full))
 
   -- it took a message
-  pub took : is_some place ≡ true → turns_left l new < turns_left l old
+  pub took : is_some c.place ≡ true → turns_left l new < turns_left l old
   took some =
-      let d = delivered_some old.travels site place t.entry.delivered t.delivered some in
+      let d = delivered_some old.travels site c.place t.entry.delivered t.delivered some in
       let wired : Wired (t.entry ∷ old.journal) = subst Wired t.journal run.wired in
       let m = wired.1 d.0 d.1 in
       let fewer = fewer_delivered old.journal d.0 m.0 wired.0 m.1 in
@@ -215,11 +190,14 @@ module _ (l : Limits) (p : List Stmt) (old new : WorldState) (site quantum : ℕ
           by (inr other) = let e : runnable_count (states_of new i) ≡ runnable_count (states_of old i) = ap runnable_count (t.others i other) in omega (arith, e)
 
   -- a turn without a message
-  pub went : is_some place ≡ false → is_idle (states_of old site) ≡ false → IsProgress l old new (nat_lt (states_of old site).steps (states_of new site).steps)
-  went none busy = by (nat_lt (states_of old site).steps (states_of new site).steps) refl
+  pub went : is_some c.place ≡ false → IsProgress l old new (nat_lt (states_of old site).steps (states_of new site).steps)
+  went none = by (nat_lt (states_of old site).steps (states_of new site).steps) refl
     where
+      busy : is_idle (states_of old site) ≡ false
+      busy = can.busy (is_none c.place none)
+
       nothing : t.entry.delivered ≡ None
-      nothing = delivered_none old.travels site place t.entry.delivered t.delivered none
+      nothing = delivered_none old.travels site c.place t.entry.delivered t.delivered none
 
       same : deliveries new.journal ≡ deliveries old.journal
       same = grown ∙ ap (λ (o : Option ℕ). delivery_count o + deliveries old.journal) nothing ∙ (omega arith)
@@ -235,7 +213,7 @@ module _ (l : Limits) (p : List Stmt) (old new : WorldState) (site quantum : ℕ
 
           above : ((states_of old site).steps ≡ l.steps) ⊎ ((states_of old site).steps ≢ l.steps) → 1 ≤ quantum
           above (inl is) = let no : false ≡ true = sym busy ∙ going.idle site is in cc
-          above (inr other) = let was = going.within site in omega (arith, was, other, units)
+          above (inr other) = let was = going.within site in let some = can.units.0 in omega (arith, was, other, some)
 
       goes : ((states_of old site).steps < (states_of new site).steps) ⊎ (((states_of new site).steps ≡ (states_of old site).steps) × (runnable_count (states_of new site) < runnable_count (states_of old site)))
       goes = subst (λ (s : Site). ((states_of old site).steps < s.steps) ⊎ ((s.steps ≡ (states_of old site).steps) × (runnable_count s < runnable_count (states_of old site)))) (sym t.turn.3)
@@ -250,22 +228,7 @@ module _ (l : Limits) (p : List Stmt) (old new : WorldState) (site quantum : ℕ
           (λ (b : ((states_of new site).steps ≡ (states_of old site).steps) × (runnable_count (states_of new site) < runnable_count (states_of old site))). waited same b.0 b.1)
           goes
 
--- who is busy and has no message can go on
-pub busy_runs : (w : WorldState) (site : ℕ) (place : Option ℕ) → IsBusy w site → MatchOption place (IsNoneFor w.travels site) (λ q. IsFirstFor w.travels site q) → is_some place ≡ false → is_idle (states_of w site) ≡ false
-busy_runs w site None (inl busy) none e = busy
-busy_runs w site None (inr some) none e = absurd (some none)
-busy_runs w site (Some q) busy first e = cc
-
 -- ---- which site goes next
-
--- by what is found for the site
-pub some_for : (ts : List Travel) (site : ℕ) (place : Option ℕ) → MatchOption place (IsNoneFor ts site) (λ q. IsFirstFor ts site q) → is_some place ≡ true → IsNoneFor ts site → ⊥
-some_for ts site None h e none = cc
-some_for ts site (Some q) (number, at, least) e none = none (record { number = number; to = site }) (at_contains ts (record { number = number; to = site }) q at) refl
-
-pub is_none : (place : Option ℕ) → is_some place ≡ false → place ≡ None
-is_none None e = refl
-is_none (Some q) e = cc
 
 -- a busy site behind the last one comes before the others
 pub next_behind : (w : WorldState) (last sites i : ℕ) → IsFirstBusy w (last + 1) (sites + 1) i → IsNextBusy w sites last i

@@ -8,7 +8,7 @@ use Rattle.thread_roster.specs.declared.mode.Awaited.TheVariants.{Cell, Port}
 use Rattle.world_model.specs.Claims.{ContentOf}
 use Rattle.world_model.specs.Claims as claim
 use Rattle.std.proofs.Common.{rules, arith, ◌≡◌, ◌∙◌, refl, subst, ℕ, zero, suc, ◌<◌, ◌≤◌, List, [], ◌∷◌, length, Bool, true, false, cond, ◌⊎◌, inl, inr, Some, None, sym, ap}
-use Rattle.std.specs.Prelude.{Option, ◌==◌, is_some, IsTrue, nat_lt, nat_le, ◌&&◌, not, ◌≢◌}
+use Rattle.std.specs.Prelude.{Option, ◌==◌, is_some, IsTrue, Contains, nat_lt, nat_le, ◌&&◌, not, ◌≢◌}
 use Rattle.std.proofs.lemmas.Bool.{cases_lt}
 use Rattle.tree_node.specs.declared.names.VarName.{VarName}
 use Rattle.tree_node.specs.Each.{Each}
@@ -16,6 +16,7 @@ use Rattle.tree_node.specs.State.{State}
 use Rattle.kernel_syntax.specs.declared.stmt.Stmt.{Stmt}
 use Rattle.kernel_syntax.specs.Program.{IsProgram}
 use Rattle.site_message.specs.declared.limits.Limits.{Limits}
+use Rattle.site_message.specs.Limits.{AreLimits}
 use Rattle.site_message.specs.declared.message.Msg.{Msg}
 use Rattle.site_message.specs.declared.message.Msg.TheVariants as msg
 use Rattle.site_message.specs.declared.message.Sent.{Sent}
@@ -38,8 +39,11 @@ use Rattle.site_model.specs.Run.{WorldRun, SiteRun, IsReachedBy, IsEntry, IsSite
 use Rattle.world_model.specs.Simulated.{IsSimulated}
 use Rattle.world_messages.specs.Unfit.{MessagesAreFit}
 use Rattle.world_simulation.proofs.SimulationLemmas.{every_run_is_simulated}
-use Rattle.world_core.specs.Travels.{IsNothingFor}
+use Rattle.world_mail.specs.declared.travel.Travel.{Travel}
+use Rattle.world_core.specs.Travels.{AreTravels, IsNothingFor}
+use Rattle.world_core.specs.World.{WorldState, states_of}
 use Rattle.world_core.proofs.QuietLemmas.{idle_as_told}
+use Rattle.plain_run.specs.Progress.{IsAtEase, IsGoing}
 use Rattle.plain_run.proofs.SpawnLemmas.{SpawnsWithin, spawns_within}
 
 -- a site that is none of n stays as it began
@@ -114,6 +118,12 @@ module _ (p : List Stmt) (n : ℕ) (j : List Turn) (w : ℕ → Site) (is : IsPr
   goes_within k to (msg.CellAsk c th b v bundle) at fit = homed to c fit.takes fit.names.0.2 (stationary c (simulated.1.answers.asking.grounded (claim.Asked k to (ContentOf c v) th b) (bundle, (travelling_tells j k (record { to = to; msg = msg.CellAsk c th b v bundle })).1 at)).3.1)
   goes_within k to (msg.CellOld th v bundle) at fit = lives_in p n bundle_limit j w low run to th (fit.takes.0, WaitsFor (Cell fit.takes.1)) fit.takes.4
 
+  -- what travels goes to one of the sites
+  pub goes_to_site : (ts : List Travel) (t : Travel) → AreTravels j ts → Contains ts t → (1 ≤ t.to) × (t.to ≤ n)
+  goes_to_site ts t h c =
+      let at = (h.exact t.number t.to).0 c in
+      goes_within t.number t.to at.0 at.1 (simulated.2 t.number (record { to = t.to; msg = at.0 }) at.1)
+
   -- where all rest and nothing is for them, the run is quiet
   pub all_quiet : ((i : ℕ) → 1 ≤ i → i ≤ n → (is_idle (w i) ≡ true) × IsNothingFor j i) → is_quiet n j ≡ true
   all_quiet ease = (quiet_tells n j).1 (nothing, idle)
@@ -136,3 +146,11 @@ quiet_ends l (e ∷ j) low on quiet = by (nat_lt l.messages (length (sent_of (e 
     by false true c q h = cc
     by false false true q h = cc
     by false false false q h = cc
+
+-- in a run that goes on some site has a message or can go on
+pub some_is_busy : (l : Limits) (w : WorldState) → IsProgram w.program → AreLimits l → IsGoing l w.program w → ((i : ℕ) → 1 ≤ i → i ≤ l.sites → IsAtEase w i) → ⊥
+some_is_busy l w is limits going ease =
+    let low = subst (λ (n : ℕ). 1 ≤ n) (sym going.sites) limits.some_site in
+    let high = subst (λ (n : ℕ). n ≤ 64) (sym going.sites) limits.most_sites in
+    let quiet = all_quiet w.program w.sites w.journal (states_of w) is low high going.run (λ i a b. ease i a (subst (λ (n : ℕ). i ≤ n) going.sites b)) in
+    quiet_ends l w.journal limits.some_site going.goes_on (subst (λ (n : ℕ). is_quiet n w.journal ≡ true) going.sites quiet)

@@ -1,4 +1,4 @@
--- A plain run that goes on, and how it ends.
+-- A run without workers that goes on, whatever the order of its turns, and how it ends.
 use Rattle.std.specs.Prelude.{◌≡◌, ◌⊎◌, ℕ, ◌+◌, ◌-◌, ◌<◌, ◌≤◌, List, ◌∷◌, length, Bool, true, false, Some, None}
 use Rattle.kernel_syntax.specs.declared.stmt.Stmt.{Stmt}
 use Rattle.site_message.specs.declared.turn.Turn.{Turn}
@@ -15,7 +15,7 @@ use Rattle.world_mail.specs.Travels.{IsNoneFor}
 use Rattle.world_core.specs.Travels.{IsNothingFor}
 use Rattle.world_core.specs.World.{WorldState, states_of, orders_of}
 use Rattle.plain_run.specs.Counts.{runnable_count}
-use Rattle.plain_run.specs.Rounds.{Standing, LeadsTo, ComesBefore, last_site}
+use Rattle.plain_run.specs.Rounds.{Standing, ComesBefore}
 
 -- the reason is how the journal ends; or memory ran out where it goes on
 abbrev pub HasReason : Limits → List Turn → Reason → Type 0
@@ -46,7 +46,7 @@ IsNextBusy w n last i = (1 ≤ i) × (i ≤ n) × IsBusy w i × ((k : ℕ) → 1
 -- ---- runs that go on
 
 -- no limit is reached: no site that can go on is at its limit of own steps, no turn went past it, no more messages were sent than the
--- limit, the journal has no end and had none before, and each turn was the next in the fixed order
+-- limit, and the journal has no end and had none before
 pub record IsGoing (l : Limits) (p : List Stmt) (w : WorldState) : Type 0 where
   pub program : w.program ≡ p
   pub sites : w.sites ≡ l.sites
@@ -58,7 +58,6 @@ pub record IsGoing (l : Limits) (p : List Stmt) (w : WorldState) : Type 0 where
   pub few : length (sent_of w.journal) ≤ l.messages
   pub goes_on : end_of l w.journal ≡ None
   pub went : HasNoEarlierEnd l w.journal
-  pub rounds : LeadsTo p l w.journal (standing_of w)
 
 -- the own steps that the site may still make
 abbrev pub steps_left : Limits → WorldState → ℕ → ℕ
@@ -74,7 +73,7 @@ all_runnable l w = sum_to l.sites (λ i. runnable_count (states_of w i))
 
 -- ---- turns
 
--- after a turn of the site, the next in the fixed order, within its limit of own steps
+-- after a turn of the site, within its limit of own steps
 pub record IsLimitedTurn (l : Limits) (p : List Stmt) (old new : WorldState) (site : ℕ) : Type 0 where
   pub entry : Turn
   pub journal : new.journal ≡ entry ∷ old.journal
@@ -89,8 +88,6 @@ pub record IsLimitedTurn (l : Limits) (p : List Stmt) (old new : WorldState) (si
   pub kept : AreWithin l new.journal
   pub idle : (i : ℕ) → (entry.site ≡ i → ⊥) → (states_of new i).steps ≡ l.steps → is_idle (states_of new i) ≡ true
   pub went : HasNoEarlierEnd l new.journal
-  pub rounds : LeadsTo p l new.journal (standing_of new)
-  pub last : last_site l.sites new.journal ≡ site
 
 -- a turn that takes a message or makes an own step leaves fewer of them; after another one fewer threads can go on
 abbrev pub IsProgress : Limits → WorldState → WorldState → Bool → Type 0

@@ -1,44 +1,40 @@
-//! The turns of a plain run.
+//! The turns of a run without workers, in the order that is given.
 
-ghost use Rattle.std.specs.Prelude.{◌≡◌, ◌+◌, ◌<◌, ◌≤◌, ℕ, List, [], false, None, Some, Err, IfOk, IfErr, OnErr, MatchResult, MatchOption};
+ghost use Rattle.std.specs.Prelude.{◌≡◌, ◌<◌, ◌≤◌, List, [], false, IfOk, IfErr, OnErr};
 ghost use Rattle.kernel_syntax.specs.declared.stmt.Stmt.{Stmt};
 ghost use Rattle.kernel_syntax.specs.Program.{IsProgram};
-ghost use Rattle.site_message.specs.declared.turn.Turn.{Turn};
 ghost use Rattle.site_message.specs.Limits.{AreLimits};
 ghost use Rattle.site_message.specs.Journal.{end_of, AreWithin};
 ghost use Rattle.site_message.specs.EarlierEnd.{HasNoEarlierEnd};
 ghost use Rattle.world_core.specs.World.{WorldState};
-ghost use Rattle.plain_run.specs.Rounds.{IsPlainRun, last_site};
-ghost use Rattle.plain_run.specs.Progress.{HasReason, IsBusy, IsNextBusy, IsGoing, IsLimitedTurn, IsProgress, turns_left};
+ghost use Rattle.plain_run.specs.Rounds.{Standing};
+ghost use Rattle.plain_run.specs.Progress.{HasReason, IsGoing, IsLimitedTurn, IsProgress, standing_of, turns_left};
+ghost use Rattle.plain_run.specs.Order.{CanBeMade, IsChosenTurn};
 
-use crate::busy::next_busy;
+use crate::order::{Choice, Order};
 use site_message::{Limits, Quantum, Reason};
 use std::alloc::AllocError;
-use tree_node::MOST_UNITS;
-use world_core::World;
+use world_core::{World, WorldRefusal};
 
-// One turn of the site: its message with the lowest number, if there is one, and then its threads, within its limit of own
-// steps. It tells whether the turn took a message or made an own step.
-fn take_turn(world: &mut World<'_>, site: u32, limits: Limits) -> Result<bool, AllocError>
+// The turn that was chosen, within the limit of own steps. It tells whether the turn took a message or made an own step.
+fn take_turn(world: &mut World<'_>, choice: Choice, limits: Limits) -> Result<bool, AllocError>
     requires limits { AreLimits limits }
     requires going { IsGoing limits world.old.program world.old }
-    requires some { 1 ≤ site }
-    requires among { site ≤ limits.sites }
-    requires busy { IsBusy world.old site }
-    requires next { IsNextBusy world.old limits.sites (last_site limits.sites world.old.journal) site }
+    requires can { CanBeMade limits world.old choice }
     ensures err { OnErr result (world.new.journal ≡ world.old.journal) }
     ensures same { (world.new.program ≡ world.old.program) × (world.new.sites ≡ world.old.sites) }
-    ensures made { IfOk result (λ _. IsLimitedTurn limits world.old.program world.old world.new site) }
+    ensures chosen { IfOk result (λ _. IsChosenTurn limits world.old world.new choice) }
+    ensures made { IfOk result (λ _. IsLimitedTurn limits world.old.program world.old world.new choice.site) }
     ensures progress { IfOk result (λ progress. IsProgress limits world.old world.new progress) }
 {
-    world.travelling();
-    let place = world.next_for(site);
-    let steps = world.steps(site);
-    let units = (limits.steps - steps).min(MOST_UNITS as u64) as u32;
-    if world.turn(site, place, Quantum(units)).is_err() {
-        return Err(AllocError);
+    let steps = world.steps(choice.site);
+    let units = (limits.steps - steps).min(u64::from(choice.units)) as u32;
+    match world.turn(choice.site, choice.place, Quantum(units)) {
+        Ok(()) => Ok(choice.place.is_some() || steps < world.steps(choice.site)),
+        Err(WorldRefusal::Memory) => Err(AllocError),
+        // The message that was chosen travels.
+        Err(WorldRefusal::NotThere) => unreachable!(),
     }
-    Ok(place.is_some() || steps < world.steps(site))
 }
 
 // How the run ends after a turn of the site, if it does.
@@ -54,60 +50,51 @@ fn end_after(world: &World<'_>, site: u32, limits: Limits) -> Option<Reason>
     site_message::end_after(over_limit, at_limit, site, world.quiet())
 }
 
-// Turns up to the next one that takes a message or makes an own step, behind the site that went last: the site that made it,
-// or how the run ends before.
-#[tactic(auto, using(crate::proofs::ProgressLemmas::going_plain, crate::proofs::ProgressLemmas::turn_plain))]
-fn advance(world: &mut World<'_>, last: u32, limits: Limits) -> Result<u32, Reason>
+// Turns up to the next one that takes a message or makes an own step; or how the run ends before.
+fn advance<O: Order>(world: &mut World<'_>, order: &mut O, limits: Limits) -> Result<(), Reason>
     requires program { IsProgram world.old.program }
     requires limits { AreLimits limits }
     requires going { IsGoing limits world.old.program world.old }
-    requires last { last ≤ limits.sites }
-    requires behind { last ≡ last_site limits.sites world.old.journal }
+    requires recalls { O.recalls order.old limits world.old.journal }
+    requires follows { O.follows world.old.program limits world.old.journal (standing_of world.old) }
     ensures same { (world.new.program ≡ world.old.program) × (world.new.sites ≡ world.old.sites) }
     ensures ended { IfErr result (λ reason. HasReason limits world.new.journal reason) }
     ensures went { HasNoEarlierEnd limits world.new.journal }
     ensures within { AreWithin limits world.new.journal }
-    ensures rounds { IsPlainRun world.old.program limits world.new.journal }
-    ensures behind { IfOk result (λ site. site ≡ last_site limits.sites world.new.journal) }
-    ensures on { IfOk result (λ site. (site ≤ limits.sites) × IsGoing limits world.old.program world.new × (turns_left limits world.new < turns_left limits world.old)) }
+    ensures follows { (now : Standing) × O.follows world.old.program limits world.new.journal now }
+    ensures on { IfOk result (λ _. IsGoing limits world.old.program world.new × O.recalls order.new limits world.new.journal
+        × O.follows world.old.program limits world.new.journal (standing_of world.new) × (turns_left limits world.new < turns_left limits world.old)) }
 {
-    let mut last = last;
     loop {
-        let Some(site) = next_busy(world, last, limits.sites) else {
-            // The run would have ended.
-            unreachable!();
-        };
-        let Ok(progress) = take_turn(world, site, limits) else {
+        let choice = order.next(world, limits);
+        let Ok(progress) = take_turn(world, choice, limits) else {
             return Err(Reason::Memory);
         };
-        if let Some(reason) = end_after(world, site, limits) {
+        if let Some(reason) = end_after(world, choice.site, limits) {
             return Err(reason);
         }
         if progress {
-            return Ok(site);
+            return Ok(());
         }
-        last = site;
     }
 }
 
-// Turns in rounds of sites 1 to the last, up to the end of the run.
-#[tactic(auto, using(crate::proofs::RoundLemmas::at_start, crate::proofs::ProgressLemmas::going_plain))]
-pub(crate) fn drive(world: &mut World<'_>, limits: Limits) -> Reason
+// Turns in the order, up to the end of the run.
+pub(crate) fn drive<O: Order>(world: &mut World<'_>, order: &mut O, limits: Limits) -> Reason
     requires program { IsProgram world.old.program }
     requires limits { AreLimits limits }
     requires going { IsGoing limits world.old.program world.old }
-    requires new { world.old.journal ≡ [] }
+    requires recalls { O.recalls order.old limits world.old.journal }
+    requires follows { O.follows world.old.program limits world.old.journal (standing_of world.old) }
     ensures same { (world.new.program ≡ world.old.program) × (world.new.sites ≡ world.old.sites) }
-    ensures rounds { IsPlainRun world.old.program limits world.new.journal }
+    ensures follows { (now : Standing) × O.follows world.old.program limits world.new.journal now }
     ensures reason { HasReason limits world.new.journal result }
     ensures went { HasNoEarlierEnd limits world.new.journal }
     ensures within { AreWithin limits world.new.journal }
 {
-    let mut last = limits.sites;
     loop {
-        match advance(world, last, limits) {
-            Ok(site) => last = site,
-            Err(reason) => return reason,
+        if let Err(reason) = advance(world, order, limits) {
+            return reason;
         }
     }
 }

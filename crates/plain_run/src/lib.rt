@@ -1,8 +1,9 @@
-//! The plain run of a program over several sites: one turn after another, in a fixed order, so that it is the same at each run.
+//! Runs of a program over several sites without threads of the machine: one turn after another, in a fixed order or in one that is drawn
+//! from a seed, so that a run is the same each time.
 //!
-//! For: whoever runs a program over sites without threads of the machine (`--workers 0`).
+//! For: whoever runs a program over sites without workers (`--workers 0`, `--seed N`).
 //!
-//! It promises: `run_plain` returns, whatever the program: its limits bound own steps and messages, and between them each turn
+//! It promises: `run_plain` and `run_seeded` return, whatever the program: their limits bound own steps and messages, and between them each turn
 //! lets a thread wait. Its journal is one of a run of the program on the sites (`HasRun`), the picks of which lead the
 //! centralised machine to a state that the sites match (`HasMachineRun`); where nothing travels and every site is idle the
 //! machine rests there. `schedule` has these picks in order; the reason is how the journal ends (`HasReason`, by `end_of` of
@@ -12,7 +13,7 @@
 //! `finish_run` tells all of this of the turns and the reason that it is given (`IsOutputOf`), whatever drove the run, and takes no
 //! memory: workers end by it, too.
 //!
-//! The order: sites 1 to the last in rounds, each taking its message with the lowest number and then its threads, first come
+//! The plain order: sites 1 to the last in rounds, each taking its message with the lowest number and then its threads, first come
 //! first served, for at most 64 units and never past its limit of own steps. A site that has no message and is idle is left out.
 //! Each turn of the journal is so by the turns before it and by how the sites stand (`IsPlainTurn`), from their start on
 //! (`IsPlainRun`): it is of the first site behind the last one, in the circle, that has something to do, it takes the lowest number,
@@ -21,9 +22,15 @@
 //! runs are the same whose turns tell the same threads. In which order those come behind the others that one bind lets go on at
 //! once, no clause tells; so that two runs print the same, tests show.
 //!
+//! The order of a seed: which site goes next, which of the messages to it it takes, and how many units it makes are drawn. No clause
+//! tells more of it than holds of each run; so that two runs with one seed print the same, tests show. Each 64th turn is one of rounds, so
+//! that no site and no message waits for ever.
+//!
+//! One driver makes the turns of both, by the `Order` that it is given.
+//!
 //! A turn costs by what it does and by the number of sites; the journal is walked over once at the end, for the totals.
 //!
-//! It stands on `world_core` for the world that it drives, and on the definitions below that. Tests of programs (`oz_tests`) run
+//! It stands on `world_core` for the world that it drives, on `rand_xoshiro` for what is drawn, and on the definitions below those. Tests of programs (`oz_tests`) run
 //! it with ample memory.
 //!
 //! Sources: Haridi and others, *Efficient Logic Variables for Distributed Computing* (TOPLAS 21(3), 1999), and Van Roy and
@@ -34,11 +41,14 @@ mod busy;
 mod drive;
 mod finish;
 mod laws;
+mod order;
 mod out;
+mod rounds;
 mod run;
+mod seeded;
 mod totals;
 
 pub use finish::finish_run;
 pub use laws::{runs_are_determined, turns_are_determined};
 pub use out::{DrivenRun, RunOut};
-pub use run::run_plain;
+pub use run::{run_plain, run_seeded};

@@ -6,7 +6,7 @@ use Rattle.oz_runner.proofs.run.run_over_sites.Goals as goal
 
 pub returns-clause-came : goal.returns-clause-came
 returns-clause-came g c =
-    let out = c.run_program-reason in
+    let out = c.drive_program-reason in
     λ is. subst (IsStatusOfRun _ _ _) (sym c.status_of.ensures)
     (sites_came c.args.program.now c.args.options out.result is c.quiet_tells.ensures c.runs_are_determined.ensures.end (record {
       run = out.ensures.simulated;
@@ -21,5 +21,5 @@ returns-clause-came g c =
 
 pub returns-clause-after : goal.returns-clause-after
 returns-clause-after g c =
-    let out = c.run_program-reason in
+    let out = c.drive_program-reason in
     c.status_of.ensures ∙ sites_after c.args.options out.result out.ensures.reason out.ensures.ended out.ensures.waiting

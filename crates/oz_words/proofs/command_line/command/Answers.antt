@@ -5,7 +5,7 @@ use Rattle.clap.specs.Words.{AddsArg, App, Rule, Text, app_of, new_app, rule_of,
 use Rattle.clap.specs.declared.builder.Arg.{Arg}
 use Rattle.clap.specs.declared.builder.Command.{Command}
 use Rattle.clap.specs.declared.builder.ValueParser.{ValueParser}
-use Rattle.oz_words.specs.Command.{AreActions, bare_app, NumberOption, number_rule, numbers_of, option_rule, oz_app, size_rule, sizes, sites_option, workers_option, steps_option, messages_option}
+use Rattle.oz_words.specs.Command.{AreActions, bare_app, NumberOption, number_rule, numbers_of, option_rule, oz_app, seed_rule, seeds, bare_option_rule, size_rule, sizes, sites_option, workers_option, steps_option, messages_option}
 use Rattle.oz_words.specs.Matches.{TakesWordsOfOz}
 use Rattle.oz_words.proofs.PlaceLemmas.{takes_words_of_oz}
 use Rattle.oz_words.proofs.command_line.command.Goals as goal
@@ -31,11 +31,15 @@ last_added : (old : Command) (made : Result Command AllocError) (a : Arg) (app :
 last_added old (Ok new) a app r adds local rule is = added old new a app r adds local rule is
 last_added old (Err e) a app r adds local rule is = tt
 
+-- the rule of the seed, which takes all numbers
+with_seeds : (a : Arg) (parser : ValueParser) → rule_of a ≡ bare_option_rule (codes "seed") parser → parser ≡ seeds → rule_of a ≡ seed_rule
+with_seeds a parser rule takes = rule ∙ ap (bare_option_rule (codes "seed")) takes
+
 -- the rule of the number, which takes the sizes
 with_sizes : (a : Arg) (parser : ValueParser) → rule_of a ≡ size_rule parser → parser ≡ sizes → rule_of a ≡ size_rule sizes
 with_sizes a parser rule takes = rule ∙ ap size_rule takes
 
-is_command : (c : goal.After-arg-6) → IfOk c.arg-6.result (λ made. app_of made ≡ oz_app c.action_names-names.result)
+is_command : (c : goal.After-arg-7) → IfOk c.arg-7.result (λ made. app_of made ≡ oz_app c.action_names-names.result)
 is_command c =
     let sites = with_numbers c.option_of.result sites_option c.numbers.result c.option_of.ensures.rule c.numbers.ensures in
     let workers = with_numbers c.option_of-2.result workers_option c.numbers-2.result c.option_of-2.ensures.rule c.numbers-2.ensures in
@@ -45,9 +49,11 @@ is_command c =
     let second = added _ c.in_ok-arg-2.field-0 _ _ _ c.in_ok-arg-2.ensures c.option_of-2.ensures.local workers first in
     let third = added _ c.in_ok-arg-3.field-0 _ _ _ c.in_ok-arg-3.ensures c.option_of-3.ensures.local steps second in
     let fourth = added _ c.in_ok-arg-4.field-0 _ _ _ c.in_ok-arg-4.ensures c.option_of-4.ensures.local messages third in
-    let fifth = added _ c.in_ok-arg-5.field-0 _ _ _ c.in_ok-arg-5.ensures c.action_of.ensures.local c.action_of.ensures.rule fourth in
+    let seed = with_seeds c.bare_option_of.result c.seeds.result c.bare_option_of.ensures.rule c.seeds.ensures in
+    let fifth = added _ c.in_ok-arg-5.field-0 _ _ _ c.in_ok-arg-5.ensures c.bare_option_of.ensures.local seed fourth in
+    let sixth = added _ c.in_ok-arg-6.field-0 _ _ _ c.in_ok-arg-6.ensures c.action_of.ensures.local c.action_of.ensures.rule fifth in
     let size = with_sizes c.size_of.result c.numbers-5.result c.size_of.ensures.rule c.numbers-5.ensures in
-    last_added _ c.arg-6.result _ _ _ c.arg-6.ensures c.size_of.ensures.local size fifth
+    last_added _ c.arg-7.result _ _ _ c.arg-7.ensures c.size_of.ensures.local size sixth
 
 pub returns-clause-app : goal.returns-clause-app
 returns-clause-app c = (c.action_names-names.result, c.action_names-names.ensures, is_command c)
@@ -64,5 +70,8 @@ returns-in_err-arg-4-clause-app c = (c.action_names-names.result, c.action_names
 pub returns-in_err-arg-5-clause-app : goal.returns-in_err-arg-5-clause-app
 returns-in_err-arg-5-clause-app c = (c.action_names-names.result, c.action_names-names.ensures, search rules)
 
+pub returns-in_err-arg-6-clause-app : goal.returns-in_err-arg-6-clause-app
+returns-in_err-arg-6-clause-app c = (c.action_names-names.result, c.action_names-names.ensures, search rules)
+
 pub returns-clause-words : goal.returns-clause-words
-returns-clause-words c = takes_words c.arg-6.result c.action_names-names.result c.action_names-names.ensures (is_command c)
+returns-clause-words c = takes_words c.arg-7.result c.action_names-names.result c.action_names-names.ensures (is_command c)

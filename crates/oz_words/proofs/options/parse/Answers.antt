@@ -3,7 +3,7 @@ use Rattle.std.specs.Prelude.{◌≢◌}
 use Rattle.clap.specs.Words.{app_of, is_simple, is_simple_and_free}
 use Rattle.clap.specs.Kinds.{IsAmong, Kinds}
 use Rattle.clap.specs.declared.error.ErrorKind.{ErrorKind}
-use Rattle.oz_words.proofs.Arguments.{sites_number, workers_number, steps_number, messages_number, action_value, size_value, simple, simple_and_free}
+use Rattle.oz_words.proofs.Arguments.{sites_number, workers_number, steps_number, messages_number, action_value, seed_value, size_value, simple, simple_and_free}
 use Rattle.oz_words.proofs.options.parse.Goals as goal
 
 refused : (k : ErrorKind) (faults : Kinds) → IsAmong k faults → faults ≢ []
@@ -25,6 +25,7 @@ returns-in-Ok-try_get_matches_from c =
       workers = workers_number c.in-Ok.command app.0 app.2 m parsed.parsed;
       steps = steps_number c.in-Ok.command app.0 app.2 m parsed.parsed;
       messages = messages_number c.in-Ok.command app.0 app.2 m parsed.parsed;
+      seed = seed_value c.in-Ok.command app.0 app.2 m parsed.parsed;
       action = action_value c.in-Ok.command app.0 app.2 app.1 m parsed.parsed;
       size = size_value c.in-Ok.command app.0 app.2 m parsed.parsed;
     }

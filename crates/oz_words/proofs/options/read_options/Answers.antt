@@ -8,7 +8,7 @@ use Rattle.oz_words.specs.declared.options.Options.{Options}
 use Rattle.oz_words.specs.declared.options.WordsError.{WordsError}
 use Rattle.oz_words.specs.declared.options.WordsError.TheVariants.{Usage, Memory}
 use Rattle.oz_words.specs.Matches.{words_rows}
-use Rattle.oz_words.specs.Words.{ReadsAction, ReadsWords, IsNumberText}
+use Rattle.oz_words.specs.Words.{ReadsAction, ReadsWords, IsNumberText, MayBeNumberText}
 use Rattle.oz_words.proofs.options.read_options.Goals as goal
 
 -- what a getter reads, by the rows
@@ -32,6 +32,7 @@ returns-clause-text c =
         workers = subst (λ (t : Option Text). IsNumberText t c.number_of-2.result) (by_rows f _ _ p.rows) c.number_of-2.ensures.text;
         steps = subst (λ (t : Option Text). IsNumberText t c.number_of-3.result) (by_rows f _ _ p.rows) c.number_of-3.ensures.text;
         messages = subst (λ (t : Option Text). IsNumberText t c.number_of-4.result) (by_rows f _ _ p.rows) c.number_of-4.ensures.text;
+        seed = subst (λ (t : Option Text). MayBeNumberText t c.seed_in.result) (by_rows f _ _ p.rows) c.seed_in.ensures;
         action = action.1;
       },
     )

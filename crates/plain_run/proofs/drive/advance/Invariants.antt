@@ -1,16 +1,15 @@
-use Rattle.std.proofs.Common.{◌≡◌, ◌≤◌}
-use Rattle.plain_run.specs.Progress.{IsGoing, all_runnable, turns_left}
-use Rattle.plain_run.specs.Rounds.{last_site}
+use Rattle.std.proofs.Common.{◌≡◌}
+use Rattle.plain_run.specs.Progress.{IsGoing, all_runnable, standing_of, turns_left}
 use Rattle.plain_run.proofs.drive.advance.Given as goal
 
-abbrev pub invariant-loop-site : goal.invariant-loop-site
-invariant-loop-site l = record {
+abbrev pub invariant-loop-progress : goal.invariant-loop-progress
+invariant-loop-progress g l = record {
   program : l.world.program ≡ l.initial.world.program;
   going : IsGoing l.limits l.initial.world.program l.world;
   left : turns_left l.limits l.world ≡ turns_left l.limits l.initial.world;
-  last : l.last ≤ l.limits.sites;
-  behind : l.last ≡ last_site l.limits.sites l.world.journal;
+  recalls : g.O.Order.recalls l.order l.limits l.world.journal;
+  follows : g.O.Order.follows l.initial.world.program l.limits l.world.journal (standing_of l.world);
 }
 
-abbrev pub decreases-loop-site : goal.decreases-loop-site
-decreases-loop-site l = all_runnable l.limits l.world
+abbrev pub decreases-loop-progress : goal.decreases-loop-progress
+decreases-loop-progress g l = all_runnable l.limits l.world

@@ -1,16 +1,15 @@
-use Rattle.std.proofs.Common.{◌≡◌, ◌≤◌}
-use Rattle.plain_run.specs.Progress.{IsGoing, turns_left}
-use Rattle.plain_run.specs.Rounds.{last_site}
+use Rattle.std.proofs.Common.{◌≡◌}
+use Rattle.plain_run.specs.Progress.{IsGoing, standing_of, turns_left}
 use Rattle.plain_run.proofs.drive.drive.Given as goal
 
-abbrev pub invariant-loop-site : goal.invariant-loop-site
-invariant-loop-site l = record {
+abbrev pub invariant-loop-reason : goal.invariant-loop-reason
+invariant-loop-reason g l = record {
   program : l.world.program ≡ l.initial.world.program;
   sites : l.world.sites ≡ l.initial.world.sites;
   going : IsGoing l.limits l.initial.world.program l.world;
-  last : l.last ≤ l.limits.sites;
-  behind : l.last ≡ last_site l.limits.sites l.world.journal;
+  recalls : g.O.Order.recalls l.order l.limits l.world.journal;
+  follows : g.O.Order.follows l.initial.world.program l.limits l.world.journal (standing_of l.world);
 }
 
-abbrev pub decreases-loop-site : goal.decreases-loop-site
-decreases-loop-site l = turns_left l.limits l.world
+abbrev pub decreases-loop-reason : goal.decreases-loop-reason
+decreases-loop-reason g l = turns_left l.limits l.world
