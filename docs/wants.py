@@ -10,7 +10,7 @@ WANT = r"(?:\w+::Memory|AllocError)"
 ANSWERS = re.compile(rf"Err\({WANT}\)(?! =>)|, AllocError\)\)|\|_\| {WANT}|ok_or\(AllocError\)|(?:reason|made|status): {WANT}"
                      rf"|unwrap_or\({WANT}\)|close\({WANT}\)|=> {WANT}|^\s+{WANT}$|without_run\(alloc, {WANT}\)")
 
-TURNS = re.compile(rf"\b(?:{WANT}|ErrorKind::OutOfMemory)\)? => ")  # one word for it becomes another
+TURNS = re.compile(rf"\b(?:Err\()?(?:{WANT}|ErrorKind::OutOfMemory)\)? => ")  # one word for it becomes another
 
 
 def answers():

@@ -17,8 +17,8 @@ use Rattle.std.proofs.lemmas.Bool.{le-leb}
 use Rattle.std.proofs.lemmas.List.Elements.{Contains-append_right}
 use Rattle.message_book.specs.Inbox.{InboxState}
 use Rattle.message_book.specs.Book.{BookState, IsUntaken, IsUntakenSpelling, IsSiteOf}
-use Rattle.wire_form.specs.declared.form.Form.TheVariants as forms
-use Rattle.wire_form.specs.Format.{message, spelling, IsSpelling}
+use Rattle.wire_reader.specs.declared.form.Form.TheVariants as forms
+use Rattle.wire_reader.specs.Format.{message, spelling, IsSpelling}
 use Rattle.tree_node.specs.Each.{Each}
 use Rattle.message_book.specs.Inboxes.{HoldsTravelling, AllHoldTravelling, IsConsistent, place, spelling_of, messages_at, number_of, hand_of, inbox_at}
 use Rattle.message_book.proofs.Travels.{messages_ascend, HasNumber, after_low}

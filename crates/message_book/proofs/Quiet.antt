@@ -10,8 +10,8 @@ use Rattle.site_message.proofs.JournalLemmas.{quiet_tells}
 use Rattle.message_book.specs.Inbox.{InboxState}
 use Rattle.message_book.specs.Book.{without_delivered}
 use Rattle.message_book.specs.Inboxes.{AllHoldTravelling, IsQuietInbox, IsNewInbox, place, messages_at, number_of, hand_of, inbox_at, no_inbox, idle_at}
-use Rattle.wire_form.specs.declared.form.Form.TheVariants as forms
-use Rattle.wire_form.specs.Format.{spelling}
+use Rattle.wire_reader.specs.declared.form.Form.TheVariants as forms
+use Rattle.wire_reader.specs.Format.{spelling}
 use Rattle.message_book.proofs.Posts.{in_messages, to_messages, hand_at}
 
 past : (bs : List InboxState) (i : ℕ) → length bs ≤ i → inbox_at bs i ≡ no_inbox

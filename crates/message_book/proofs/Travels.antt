@@ -7,8 +7,8 @@ use Rattle.site_message.specs.declared.turn.Turn.{Turn}
 use Rattle.site_message.specs.Journal.{Wired, sent_of, travelling, is_number}
 use Rattle.site_message.specs.Laws.{IsAscending}
 use Rattle.site_message.proofs.TravelLemmas.{travelling_grows, travelling_ascends, ascends_filter}
-use Rattle.wire_form.specs.declared.form.Form.TheVariants as forms
-use Rattle.wire_form.specs.Format.{spelling}
+use Rattle.wire_reader.specs.declared.form.Form.TheVariants as forms
+use Rattle.wire_reader.specs.Format.{spelling}
 use Rattle.message_book.specs.Inboxes.{place, spelling_of, messages_at, new_messages, letter_of}
 use Rattle.std.proofs.lemmas.List.{map-append}
 

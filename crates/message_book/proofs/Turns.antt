@@ -19,8 +19,8 @@ use Rattle.message_book.specs.Inboxes.{HoldsTravelling, AllHoldTravelling, IsCon
 use Rattle.message_book.proofs.Travels.{messages_step, without_message, messages_ascend, LacksNumber, after_low, without_none_there, map_filter, right}
 use Rattle.site_message.specs.Laws.{IsAscending}
 use Rattle.tree_node.proofs.EachLemmas.{each_append}
-use Rattle.wire_form.specs.declared.form.Form.TheVariants as forms
-use Rattle.wire_form.specs.Format.{message}
+use Rattle.wire_reader.specs.declared.form.Form.TheVariants as forms
+use Rattle.wire_reader.specs.Format.{message}
 use Rattle.message_book.proofs.Posts.{has_number, spelling_at, in_messages, placed, place_is, state_of, hand_at, same_hands}
 
 same_inbox : (n : ℕ) (j : List Turn) (i : ℕ) (old new : InboxState) → HoldsSame old new → HoldsTravelling n j i old → HoldsTravelling n j i new

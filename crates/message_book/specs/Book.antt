@@ -9,8 +9,8 @@ use Rattle.site_message.specs.declared.reason.Reason.TheVariants.{Memory}
 use Rattle.site_message.specs.declared.limits.Limits.{Limits}
 use Rattle.site_message.specs.Journal.{IsTravelling, is_number, end_of}
 use Rattle.site_message.specs.Story.{hand}
-use Rattle.wire_form.specs.declared.form.Form.TheVariants as forms
-use Rattle.wire_form.specs.Format.{IsSpelling}
+use Rattle.wire_reader.specs.declared.form.Form.TheVariants as forms
+use Rattle.wire_reader.specs.Format.{IsSpelling}
 
 -- the limits, the turns posted, the newest first, the numbers in hand of the site k at the place k, and the reason
 pub record BookState : Type 0 where

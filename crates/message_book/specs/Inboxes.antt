@@ -8,8 +8,8 @@ use Rattle.site_message.specs.declared.limits.Limits.{Limits}
 use Rattle.site_message.specs.Journal.{Wired, sent_of, travelling, is_idle}
 use Rattle.site_message.specs.Limits.{AreLimits}
 use Rattle.tree_node.specs.Each.{Each}
-use Rattle.wire_form.specs.declared.form.Form.TheVariants as forms
-use Rattle.wire_form.specs.Format.{message, spelling}
+use Rattle.wire_reader.specs.declared.form.Form.TheVariants as forms
+use Rattle.wire_reader.specs.Format.{message, spelling}
 use Rattle.site_message.specs.EarlierEnd.{HasNoEarlierEnd}
 use Rattle.message_book.specs.Inbox.{InboxState}
 use Rattle.message_book.specs.Book.{AreSites, IsReason, without_delivered}

@@ -7,7 +7,7 @@ use Rattle.oz_grammar.specs.Laws.{AreOneOfBoth}
 use Rattle.oz_sugar.specs.Texts.{Reads, FaultOf}
 use Rattle.run_file.specs.Laws.{NotBoth, SavesOne}
 use Rattle.run_file.specs.Saved.{Saved, SavedRun}
-use Rattle.run_file.specs.declared.fault.FileFault.TheVariants.{Bad}
+use Rattle.byte_fields.specs.declared.fault.FileFault.TheVariants.{Bad}
 use Rattle.oz_show.specs.declared.status.Status.{Status}
 use Rattle.oz_show.specs.declared.status.Status.TheVariants.{Quiescent, Usage, Refused, NotUtf8, TooLong, StepLimit, MessageLimit, ReadFault, WriteFault, Memory, Checked, Wrong, BadFile}
 use Rattle.oz_words.specs.declared.options.Action.{Action}

@@ -24,8 +24,8 @@ use Rattle.site_message.specs.declared.reason.Reason.TheVariants as reason
 use Rattle.run_file.specs.Laws as file_laws
 use Rattle.run_file.specs.Laws.{HasOneFault, SavesOne}
 use Rattle.run_file.specs.Saved.{IsFirstFault, SavedRun}
-use Rattle.run_file.specs.declared.fault.FileFault.{FileFault}
-use Rattle.run_file.specs.declared.fault.FileFault.TheVariants.{Bad}
+use Rattle.byte_fields.specs.declared.fault.FileFault.{FileFault}
+use Rattle.byte_fields.specs.declared.fault.FileFault.TheVariants.{Bad}
 use Rattle.run_check.specs.Laws.{NotBoth, WrongIsOne}
 use Rattle.run_check.specs.World.{limits_of as numbers_of}
 use Rattle.oz_runner.specs.OzCall.{Stream, OzCall, RunOutput}

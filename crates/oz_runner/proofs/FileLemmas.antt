@@ -21,8 +21,8 @@ use Rattle.plain_run.specs.declared.out.RunOut.{RunOut}
 use Rattle.run_file.specs.Fits.{MayBeSaved}
 use Rattle.run_file.specs.Saved.{IsFirstFault, SavedRun}
 use Rattle.run_file.specs.declared.entry.Entry.{Entry}
-use Rattle.run_file.specs.declared.fault.FileFault.{FileFault}
-use Rattle.run_file.specs.declared.fault.FileFault.TheVariants as fault
+use Rattle.byte_fields.specs.declared.fault.FileFault.{FileFault}
+use Rattle.byte_fields.specs.declared.fault.FileFault.TheVariants as fault
 use Rattle.run_check.specs.Again.{AreMadeAgain, IsWrongAt}
 use Rattle.run_check.specs.World.{limits_of as numbers_of}
 use Rattle.oz_words.specs.Words.{InRange}

@@ -13,7 +13,7 @@ use Rattle.world_simulation.specs.Distributed.{RunsTakeRows}
 use Rattle.run_file.specs.Laws.{NotBoth, SavesOne}
 use Rattle.run_file.specs.Saved.{Saved, SavedRun}
 use Rattle.run_file.specs.Writing.{run_of}
-use Rattle.run_file.specs.declared.fault.FileFault.TheVariants.{Bad}
+use Rattle.byte_fields.specs.declared.fault.FileFault.TheVariants.{Bad}
 use Rattle.run_check.specs.Again.{AreMadeAgain}
 use Rattle.run_check.specs.Laws.{RunsAreMadeAgain, RunsAreNotWrong}
 use Rattle.run_check.specs.World.{limits_of as numbers_of}

@@ -13,7 +13,7 @@ use Rattle.site_model.specs.Bundle.{bundle_limit}
 use Rattle.world_model.specs.Schedule.{sum_to}
 use Rattle.world_model.specs.Simulated.{last_ended, last_waiting}
 use Rattle.world_simulation.specs.Distributed.{RunsTakeRows}
-use Rattle.run_file.specs.Field.{IsLine}
+use Rattle.byte_fields.specs.Text.{IsLine}
 use Rattle.run_file.specs.Fits.{MayBeSaved, TheseAreSaved}
 use Rattle.run_file.specs.Saved.{Saved, SavedRun}
 use Rattle.run_file.specs.Writing.{AreNumbered, run_of, saved_text}

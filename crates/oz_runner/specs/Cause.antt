@@ -9,7 +9,7 @@ use Rattle.oz_sugar.specs.Texts.{Reads, FaultOf}
 use Rattle.oz_words.specs.Words.{InRange, ReadsWords}
 use Rattle.large_run.specs.Text.{large_text}
 use Rattle.run_file.specs.Saved.{SavedRun, Saved, IsFirstFault}
-use Rattle.run_file.specs.declared.fault.FileFault.TheVariants.{Bad}
+use Rattle.byte_fields.specs.declared.fault.FileFault.TheVariants.{Bad}
 use Rattle.oz_words.specs.declared.options.Action.{Action}
 use Rattle.oz_words.specs.declared.options.Action.TheVariants as action
 use Rattle.oz_words.specs.declared.options.Options.{Options}

@@ -7,7 +7,7 @@ ghost use Rattle.oz_words.specs.declared.options.Options.{Options};
 ghost use Rattle.oz_show.specs.Status.{HasLine, end_line};
 ghost use Rattle.run_file.specs.Fits.{MayBeSaved};
 ghost use Rattle.run_file.specs.Saved.{IsFirstFault, Saved};
-ghost use Rattle.run_file.specs.declared.fault.FileFault.TheVariants.{Memory as OutOfMemory};
+ghost use Rattle.byte_fields.specs.declared.fault.FileFault.TheVariants.{Memory as OutOfMemory};
 ghost use Rattle.run_check.specs.World.{limits_of};
 ghost use Rattle.site_message.specs.EarlierEnd.{HasNoEarlierEnd};
 ghost use Rattle.site_message.specs.Journal.{end_of};

@@ -13,7 +13,7 @@ use Rattle.tree_node.specs.Store.{Store, node_of}
 use Rattle.tree_node.specs.Spelling.{int_text, is_word_byte, is_bare, escaped_text, atom_text, feature_text, proc_text}
 use Rattle.tree_node.specs.Shown.{Show, Text, Needs, Walk, Shown, and_then, is_feature, head_and_tail, is_pair, in_brackets, is_cut, show_pair, field_text, show_fields, after_field, show_record, show_rec, show_node, show_option, show_var, shown_within}
 use Rattle.world_model.proofs.PutLemmas.{nat_decides}
-use Rattle.run_file.specs.Field.{is_in_line, IsLine}
+use Rattle.byte_fields.specs.Text.{is_in_line, IsLine}
 
 -- ---- lists of bytes
 

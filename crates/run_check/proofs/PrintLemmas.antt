@@ -39,7 +39,7 @@ use Rattle.oz_model.specs.Run.{IsRun, start}
 use Rattle.oz_model.specs.Step.{effect_of, stack_of, next}
 use Rattle.world_model.specs.Schedule.{lines_in, schedule}
 use Rattle.world_core.proofs.WorldLemmas.{machine}
-use Rattle.run_file.specs.Field.{IsLine}
+use Rattle.byte_fields.specs.Text.{IsLine}
 use Rattle.run_check.specs.Laws.{PrintedLinesAreLines}
 use Rattle.run_check.proofs.LineLemmas.{line_joined, shown_line}
 

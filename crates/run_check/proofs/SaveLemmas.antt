@@ -19,7 +19,7 @@ use Rattle.site_model.specs.Run.{WorldRun}
 use Rattle.site_model.specs.Site.{Site}
 use Rattle.world_journals.specs.Places.{IsNamedBy, UnitsAreNamed}
 use Rattle.world_journals.proofs.PlaceLemmas.{units_are_always_named}
-use Rattle.run_file.specs.Field.{IsLine}
+use Rattle.byte_fields.specs.Text.{IsLine}
 use Rattle.run_file.specs.Fits.{IsThreadOf, IsNumber, IsEntryOf}
 use Rattle.run_file.specs.Saved.{greatest}
 use Rattle.run_file.specs.Writing.{AreNumbered, entry_of}

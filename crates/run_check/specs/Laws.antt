@@ -11,7 +11,7 @@ use Rattle.site_model.specs.Bundle.{bundle_limit}
 use Rattle.site_model.specs.Run.{WorldRun}
 use Rattle.site_model.specs.Site.{Site}
 use Rattle.run_file.specs.declared.entry.Entry.{Entry}
-use Rattle.run_file.specs.Field.{IsLine}
+use Rattle.byte_fields.specs.Text.{IsLine}
 use Rattle.run_file.specs.Fits.{IsEntryOf}
 use Rattle.run_file.specs.Writing.{AreNumbered, entry_of}
 use Rattle.run_check.specs.Again.{AreMadeAgain, IsWrongAt}

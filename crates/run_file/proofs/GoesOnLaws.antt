@@ -5,12 +5,14 @@ use Rattle.std.proofs.lemmas.List.{length-append, length-take, take-append-drop}
 use Rattle.tree_node.specs.declared.limits.TheConstants.{MOST_MESSAGES, MOST_SITES, MOST_STEPS, MOST_UNITS}
 use Rattle.tree_node.specs.declared.names.ThreadName.{ThreadName}
 use Rattle.run_file.specs.declared.entry.Entry.{Entry}
-use Rattle.run_file.specs.declared.fault.FileFault.{FileFault}
-use Rattle.run_file.specs.declared.fault.FileFault.TheVariants.{Bad}
-use Rattle.run_file.specs.Field.{◌after◌, ◌then◌, number, line, BeginsWith}
+use Rattle.byte_fields.specs.declared.fault.FileFault.{FileFault}
+use Rattle.byte_fields.specs.declared.fault.FileFault.TheVariants.{Bad}
+use Rattle.byte_fields.specs.Text.{◌after◌, number, line, BeginsWith}
+use Rattle.byte_fields.specs.Field.{◌then◌}
 use Rattle.run_file.specs.Saved.{SavedRun, greatest, most_bytes, thread, unit, no_unit, unit_where, unit_behind, units, delivered, printed, printed_lines, entry, entries, counted_text, header, end_line, turns, saved_run, IsFirstFault}
-use Rattle.run_file.specs.Laws.{BeginsNoText, IsWrongPart, NoTextGoesOn}
-use Rattle.run_file.proofs.StayLaws.{IsSteady, Stays, bad_is, regrouped, begins_same, stops_same, some_front, after_steady, then_steady, part_steady, line_steady, bytes_steady, number_steady, many_steady}
+use Rattle.byte_fields.specs.Laws.{IsWrongPart, IsSteady, Stays}
+use Rattle.run_file.specs.Laws.{BeginsNoText, NoTextGoesOn}
+use Rattle.byte_fields.proofs.StayLaws.{bad_is, regrouped, begins_same, stops_same, some_front, after_steady, then_steady, part_steady, line_steady, bytes_steady, number_steady, many_steady}
 use Rattle.run_file.proofs.WholeLaws.{not_both}
 
 -- ---- threads and units

@@ -1,13 +1,8 @@
-pub mod FieldLaws
-pub mod FrontLaws
-pub mod NumberLaws
-pub mod ItemLaws
-pub mod BaseLaws
+pub mod DeliveredLaws
 pub mod RunLaws
 pub mod EndLaws
 pub mod WholeLaws
 pub mod LoopLaws
-pub mod StayLaws
 pub mod GoesOnLaws
 pub mod OpenLaws
 pub mod ReadLaws

@@ -4,7 +4,8 @@ use Rattle.tree_node.specs.declared.limits.TheConstants.{MOST_MESSAGES, MOST_SIT
 use Rattle.tree_node.specs.declared.names.ThreadName.{ThreadName}
 use Rattle.tree_node.specs.Each.{Each}
 use Rattle.run_file.specs.declared.entry.Entry.{Entry}
-use Rattle.run_file.specs.Field.{IsWithin, IsLine}
+use Rattle.byte_fields.specs.Field.{IsWithin}
+use Rattle.byte_fields.specs.Text.{IsLine}
 use Rattle.run_file.specs.Saved.{SavedRun, greatest, most_bytes, saved_run}
 
 -- a thread of one of the sites, with a number of 64 bits

@@ -1,9 +1,8 @@
 -- What follows from the format, for all bytes and saved runs.
 use Rattle.std.specs.Prelude.{◌≡◌, ℕ, ◌<◌, ◌⊎◌, List, [], ◌++◌, length}
-use Rattle.std.specs.Char.{is_ascii_digit}
-use Rattle.run_file.specs.declared.fault.FileFault.{FileFault}
-use Rattle.run_file.specs.declared.fault.FileFault.TheVariants.{Bad}
-use Rattle.run_file.specs.Field.{AllPass, IsNoDigit, BeginsWith}
+use Rattle.byte_fields.specs.declared.fault.FileFault.{FileFault}
+use Rattle.byte_fields.specs.declared.fault.FileFault.TheVariants.{Bad}
+use Rattle.byte_fields.specs.Laws.{IsWrongPart}
 use Rattle.run_file.specs.Saved.{SavedRun, saved_run, Saved, IsFirstFault}
 
 -- bytes are the text of a saved run, or have a first fault
@@ -29,10 +28,6 @@ NoProperPrefix = (r q : SavedRun) (rest : List ℕ) → saved_run.Has r → save
 -- no text of a saved run begins with these bytes
 abbrev pub BeginsNoText : List ℕ → Type 0
 BeginsNoText front = (r : SavedRun) (rest : List ℕ) → saved_run.Has r → saved_run.spelling r ≡ front ++ rest → ⊥
-
--- one byte; or all digits of a number that stands before the rest, the first of which is no 0
-abbrev pub IsWrongPart : List ℕ → List ℕ → Type 0
-IsWrongPart part rest = (length part ≡ 1) ⊎ ((0 < length part) × AllPass is_ascii_digit part × IsNoDigit rest × (BeginsWith 48 part → ⊥))
 
 -- bytes whose first fault stands before their end: no text of a saved run goes on with the byte at its place, or else a number stands
 -- there, and none goes on with all of its digits

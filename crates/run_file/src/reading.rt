@@ -2,16 +2,17 @@
 
 ghost use Rattle.std.specs.Prelude.{◌≡◌, ◌⊎◌, ◌<◌, List, length, IfOk, IfErr, Ok, Err};
 ghost use Rattle.tree_node.specs.declared.names.ThreadName.{ThreadName as AThread};
-ghost use Rattle.run_file.specs.declared.fault.FileFault.TheVariants.{Memory};
-ghost use Rattle.run_file.specs.declared.fault.FileFault.{FileFault as AFault};
+ghost use Rattle.byte_fields.specs.declared.fault.FileFault.TheVariants.{Bad, Memory};
+ghost use Rattle.byte_fields.specs.declared.fault.FileFault.{FileFault as AFault};
 ghost use Rattle.run_file.specs.Saved.{SavedRun, Saved, IsFirstFault};
-ghost use Rattle.run_file.specs.Reading.{IsReadAs, thread_at, unit_at, units_at, delivered_at, printed_at, lines_at, entry_at, entries_at, counted_text_at, header_at, end_at, run_at, map_at, IsReadAsWhole};
+ghost use Rattle.byte_fields.specs.TextReading.{IsReadAs};
+ghost use Rattle.byte_fields.specs.Reading.{map_at, IsReadAsWhole};
+ghost use Rattle.run_file.specs.Reading.{thread_at, unit_at, units_at, delivered_at, printed_at, lines_at, entry_at, entries_at, counted_text_at, header_at, end_at, run_at};
 ghost use Rattle.run_file.specs.Parts.{header_of};
 
-use crate::cursor::Cursor;
 use crate::entry::Entry;
-use crate::fault::FileFault;
 use crate::file::{Header, RunFile};
+use byte_fields::{Cursor, FileFault};
 use site_message::{Lines, Units};
 use std::alloc::Global;
 use tree_node::{Line, MOST_MESSAGES, MOST_SITES, MOST_STEPS, MOST_UNITS, Seq, ThreadName};
@@ -180,9 +181,9 @@ fn run(alloc: Global, cursor: &mut Cursor) -> Result<RunFile, FileFault>
 }
 
 // The saved run whose text all of the bytes are.
-#[tactic(auto, unfolding(crate::specs::Reading::whole_of))]
+#[tactic(auto, unfolding(byte_fields::specs::Reading::whole_at))]
 fn whole(alloc: Global, bytes: &[u8]) -> Result<RunFile, FileFault>
-    ensures { IsReadAsWhole bytes.now result }
+    ensures { IsReadAsWhole Memory run_at Bad bytes.now result }
 {
     let mut cursor = Cursor::new(bytes);
     let run = run(alloc, &mut cursor)?;

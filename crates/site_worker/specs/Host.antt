@@ -10,8 +10,8 @@ use Rattle.site_message.specs.declared.turn.Turn.{Turn}
 use Rattle.site_message.specs.declared.story.Sight.{Sight}
 use Rattle.site_message.specs.declared.reason.Reason.{Reason}
 use Rattle.site_message.specs.Story.{own, hand}
-use Rattle.wire_form.specs.declared.form.Form.TheVariants as forms
-use Rattle.wire_form.specs.Format.{IsSpelling}
+use Rattle.wire_reader.specs.declared.form.Form.TheVariants as forms
+use Rattle.wire_reader.specs.Format.{IsSpelling}
 use Rattle.message_book.specs.Book.{IsSiteOf}
 use Rattle.book_lock.specs.declared.lock.SiteSeat.{SiteSeat}
 use Rattle.book_lock.specs.Seats.{last_seen, IsOutsideOf}

@@ -9,8 +9,8 @@ use Rattle.site_message.specs.declared.reason.Reason.TheVariants.{Memory}
 use Rattle.site_message.specs.declared.limits.Limits.{Limits}
 use Rattle.site_message.specs.Journal.{IsTravelling, sent_of}
 use Rattle.site_message.specs.Story.{hand}
-use Rattle.wire_form.specs.declared.form.Form.TheVariants as forms
-use Rattle.wire_form.specs.Format.{IsSpelling}
+use Rattle.wire_reader.specs.declared.form.Form.TheVariants as forms
+use Rattle.wire_reader.specs.Format.{IsSpelling}
 use Rattle.message_book.specs.Book.{BookState, IsReason, without_delivered, first_reason}
 use Rattle.book_lock.specs.Rule.{AreInAgreement}
 use Rattle.site_worker.specs.declared.inside.Fetched.{Fetched}

@@ -1,17 +1,1 @@
-pub mod RowsRead
-pub mod FieldLaws
-pub mod ListLaws
-pub mod BaseLaws
-pub mod ChoiceLaws
-pub mod FormatLaws
-pub mod MessageLaws
-pub mod WholeLaws
-pub mod FitsLaws
-pub mod DecodeLaws
-pub mod TextLaws
-pub mod LoopLaws
 pub mod WriteLaws
-pub mod NumberLaws
-pub mod OrderLaws
-pub mod WideBytes
-pub mod IntegerLaws

@@ -8,19 +8,15 @@ use Rattle.std.proofs.lemmas.List.{append-nil, take_more, take_all, flat_map_mor
 use Rattle.tree_node.specs.declared.names.VarName.{VarName}
 use Rattle.tree_node.specs.declared.names.CellName.{CellName}
 use Rattle.tree_node.specs.declared.names.ThreadName.{ThreadName}
-use Rattle.tree_node.specs.declared.node.Feature.{Feature}
 use Rattle.tree_node.specs.Each.{Each}
-use Rattle.tree_node.specs.Order.{IsBelow}
 use Rattle.tree_node.specs.Store.{Equation}
-use Rattle.site_message.specs.Wire.{FitsFields, FitsVars, FitsBundle}
-use Rattle.site_message.proofs.RiseLemmas.{fields_rise, names_rise}
-use Rattle.wire_form.specs.declared.form.Form.{Form}
-use Rattle.wire_form.specs.Field.{Field, EachBehind, ◌then◌}
+use Rattle.wire_reader.specs.declared.fault.WireFault.{WireFault}
+use Rattle.wire_reader.specs.declared.form.Form.{Form}
+use Rattle.byte_fields.specs.Field.{Field, ◌before◌}
 use Rattle.wire_form.specs.Writing.{IsWritten}
-use Rattle.wire_form.specs.Numbers.{IsMobileOr}
+use Rattle.wire_reader.specs.Numbers.{IsMobileOr}
 use Rattle.site_message.specs.declared.message.Msg.TheVariants as messages
-use Rattle.wire_form.specs.Format.{lead, IsTwo, site, cell_name, stationary_name, thread_name, HasCell, cell_spelling, message, var_name, record_field, field_behind, record_fields, variables, formals, equation, equation_behind, bundle, IsFeatureBelow}
-use Rattle.wire_form.proofs.FitsLaws.{behind_of, fields_ordered, equations_ordered}
+use Rattle.wire_reader.specs.Format.{lead, IsTwo, site, cell_name, stationary_name, thread_name, HasCell, cell_spelling, message, var_name, formals, bundle}
 
 pub each_get : {X : Type 0} (P : X → Type 0) (xs : List X) (i : ℕ) (d : X) → i < length xs → Each P xs → P (get_or xs i d)
 each_get P [] i d lt h = absurd (omega (arith, lt))
@@ -32,14 +28,14 @@ each_push P [] x h p = (p, tt)
 each_push P (y ∷ ys) x h p = (h.0, each_push P ys x h.1 p)
 
 -- the first items are written behind what stood there
-pub record IsWriting {X : Type 0} (F : Field X) (start : List ℕ) (xs : List X) (i : ℕ) (out : List ℕ) : Type 0 where
+pub record IsWriting {X : Type 0} (F : Field WireFault X) (start : List ℕ) (xs : List X) (i : ℕ) (out : List ℕ) : Type 0 where
   pub each : Each (λ x. F.Has x) (take i xs)
   pub written : out ≡ start ++ flat_map F.spelling (take i xs)
 
-pub writing_none : {X : Type 0} (F : Field X) (start : List ℕ) (xs : List X) → IsWriting F start xs 0 start
+pub writing_none : {X : Type 0} (F : Field WireFault X) (start : List ℕ) (xs : List X) → IsWriting F start xs 0 start
 writing_none F start xs = record { each = tt; written = sym (append-nil start) }
 
-pub writing_more : {X : Type 0} (F : Field X) (start : List ℕ) (xs : List X) (i : ℕ) (out new : List ℕ) (x : X) → i < length xs → x ≡ get_or xs i x
+pub writing_more : {X : Type 0} (F : Field WireFault X) (start : List ℕ) (xs : List X) (i : ℕ) (out new : List ℕ) (x : X) → i < length xs → x ≡ get_or xs i x
     → IsWriting F start xs i out → F.Has x × (new ≡ out ++ F.spelling x) → IsWriting F start xs (i + 1) new
 writing_more F start xs i out new x lt at w one =
     let more : take (i + 1) xs ≡ take i xs ++ x ∷ [] = take_more xs i x lt ∙ ap (λ (y : _). take i xs ++ y ∷ []) (sym at) in
@@ -49,43 +45,22 @@ writing_more F start xs i out new x lt at w one =
           ∙ ap (λ (ys : List _). start ++ flat_map F.spelling ys) (sym more);
     }
 
-pub writing_all : {X : Type 0} (F : Field X) (start : List ℕ) (xs : List X) (i : ℕ) (out : List ℕ) → length xs ≤ i → IsWriting F start xs i out
+pub writing_all : {X : Type 0} (F : Field WireFault X) (start : List ℕ) (xs : List X) (i : ℕ) (out : List ℕ) → length xs ≤ i → IsWriting F start xs i out
     → Each (λ x. F.Has x) xs × (out ≡ start ++ flat_map F.spelling xs)
 writing_all F start xs i out le w =
     let all = take_all i xs le in
     (subst (λ (ys : List _). Each (λ x. F.Has x) ys) all w.each, w.written ∙ ap (λ (ys : List _). start ++ flat_map F.spelling ys) all)
 
--- ---- lists behind a count
-
-pub fields_have : (form : Form) (fs : List (Feature × VarName)) → FitsFields fs → Each (λ x. (record_field form).Has x) fs → (record_fields form).Has fs
-fields_have form fs fits each = (
-  (omega (arith, fits.1), (fits.0, fits.1)),
-  behind_of (λ x. (record_field form).Has x) (λ (x : Feature × VarName). x.0) IsFeatureBelow (field_behind form) (fields_ordered form) fs each ((fields_rise fs).0 fits.3),
-)
-
-each_var : (front xs : List VarName) → Each (λ x. var_name.Has x) xs → EachBehind (λ f. var_name) front xs
-each_var front [] h = tt
-each_var front (x ∷ xs) h = (h.0, each_var (front ++ x ∷ []) xs h.1)
-
-pub variables_have : (xs : List VarName) → FitsVars xs → Each (λ x. var_name.Has x) xs → variables.Has xs
-variables_have xs fits each = (omega (arith, fits.0), each_var [] xs each)
-
-pub bundle_has : (form : Form) (es : List Equation) → FitsBundle es → Each (λ e. (equation form).Has e) es → (bundle form).Has es
-bundle_has form es fits each = (
-  (omega (arith, fits.0), (omega arith, fits.0)),
-  behind_of (λ e. (equation form).Has e) (λ (e : Equation). e.0) IsBelow (equation_behind form) (equations_ordered form) es each ((names_rise es).0 fits.2),
-)
-
 -- ---- one part after another
 
 -- a tag, and what is written behind it
-pub writes_tag : {Y U E : Type 0} (tag : ℕ) (G : Field Y) (y : Y) (old mid new : List ℕ) (r : Result U E) → mid ≡ old ++ tag ∷ [] → IsWritten G y mid new r
+pub writes_tag : {Y U E : Type 0} (tag : ℕ) (G : Field WireFault Y) (y : Y) (old mid new : List ℕ) (r : Result U E) → mid ≡ old ++ tag ∷ [] → IsWritten G y mid new r
     → OnOk r (G.Has y × (new ≡ old ++ tag ∷ G.spelling y))
 writes_tag tag G y old mid new (Ok u) put h = (h.0, h.1 ∙ ap (λ (z : List ℕ). z ++ G.spelling y) put ∙ append_assoc old (tag ∷ []) (G.spelling y))
 writes_tag tag G y old mid new (Err e) put h = tt
 
-pub writes_then : {X Y U E : Type 0} (F : Field X) (G : Field Y) (x : X) (y : Y) (old mid new : List ℕ) (r : Result U E) → F.Has x × (mid ≡ old ++ F.spelling x)
-    → IsWritten G y mid new r → IsWritten (F then G) (x, y) old new r
+pub writes_then : {X Y U E : Type 0} (F : Field WireFault X) (G : Field WireFault Y) (x : X) (y : Y) (old mid new : List ℕ) (r : Result U E) → F.Has x × (mid ≡ old ++ F.spelling x)
+    → IsWritten G y mid new r → IsWritten (F before G) (x, y) old new r
 writes_then F G x y old mid new (Ok u) one h =
     ((one.0, h.0), h.1 ∙ ap (λ (z : List ℕ). z ++ G.spelling y) one.1 ∙ append_assoc old (F.spelling x) (G.spelling y))
 writes_then F G x y old mid new (Err e) one h = tt
@@ -97,12 +72,12 @@ later_written form Has old new spelled (Err e) two h = tt
 
 -- what asks the home of a cell, and its bundle
 pub asked_written : {E U : Type 0} (form : Form) (c : CellName) (t : ThreadName) (asking : ℕ) (x : VarName) (es : List Equation) (old mid new : List ℕ) (r : Result U E) → IsTwo form
-    → (stationary_name then thread_name then site then var_name).Has (c, (t, (asking, x))) × (mid ≡ old ++ (lead form + 11) ∷ (stationary_name then thread_name then site then var_name).spelling (c, (t, (asking, x))))
+    → (stationary_name before thread_name before site before var_name).Has (c, (t, (asking, x))) × (mid ≡ old ++ (lead form + 11) ∷ (stationary_name before thread_name before site before var_name).spelling (c, (t, (asking, x))))
     → IsWritten (bundle form) es mid new r → IsWritten (message form) (messages.CellAsk c t asking x es) old new r
 asked_written form c t asking x es old mid new (Err e) two one h = tt
 asked_written form c t asking x es old mid new (Ok u) two one h = (
   (two, (one.0.0, (one.0.1.0, (one.0.1.1.0, (one.0.1.1.1, h.0))))),
-  h.1 ∙ (ap (λ (z : List ℕ). z ++ (bundle form).spelling es) one.1 ∙ (append_assoc old ((lead form + 11) ∷ (stationary_name then thread_name then site then var_name).spelling (c, (t, (asking, x)))) ((bundle form).spelling es)
+  h.1 ∙ (ap (λ (z : List ℕ). z ++ (bundle form).spelling es) one.1 ∙ (append_assoc old ((lead form + 11) ∷ (stationary_name before thread_name before site before var_name).spelling (c, (t, (asking, x)))) ((bundle form).spelling es)
       ∙ ap (λ (z : List ℕ). old ++ (lead form + 11) ∷ z) joined)),
 )
   where
@@ -127,7 +102,7 @@ stationary_written form c old mid new r some room put h = go c.at some room
     go (suc k) none m = later_written form (stationary_name.Has c) old new (7 ∷ stationary_name.spelling c) r m (writes_tag 7 stationary_name c old mid new r put h)
 
 -- all bytes at once
-pub writes_bytes : {X A E : Type 0} (F : Field X) (x : X) (old new bytes : List ℕ) (r : Result A E) → F.Has x → new ≡ cond (is_ok r) (old ++ bytes) old → bytes ≡ F.spelling x
+pub writes_bytes : {X A E : Type 0} (F : Field WireFault X) (x : X) (old new bytes : List ℕ) (r : Result A E) → F.Has x → new ≡ cond (is_ok r) (old ++ bytes) old → bytes ≡ F.spelling x
     → IsWritten F x old new r
 writes_bytes F x old new bytes (Ok a) has put spelled = (has, put ∙ ap (λ (z : List ℕ). old ++ z) spelled)
 writes_bytes F x old new bytes (Err d) has put spelled = tt
@@ -137,7 +112,7 @@ writes_bytes F x old new bytes (Err d) has put spelled = tt
 pub byte_is : (n : ℕ) → n < 256 → n ∷ [] ≡ to_be_bytes w8 n
 byte_is n small = let whole : n ≡ n % 256 = omega (arith, small) in ap (λ (k : ℕ). k ∷ []) whole
 
-pub put_list : {X : Type 0} (F : Field X) (old mid new count : List ℕ) (xs : List X) → mid ≡ old ++ count → new ≡ mid ++ flat_map F.spelling xs
+pub put_list : {X : Type 0} (F : Field WireFault X) (old mid new count : List ℕ) (xs : List X) → mid ≡ old ++ count → new ≡ mid ++ flat_map F.spelling xs
     → new ≡ old ++ (count ++ flat_map F.spelling xs)
 put_list F old mid new count xs put more = more ∙ ap (λ (z : List ℕ). z ++ flat_map F.spelling xs) put ∙ append_assoc old count (flat_map F.spelling xs)
 

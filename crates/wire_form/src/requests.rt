@@ -3,18 +3,18 @@
 ghost use Rattle.std.specs.Prelude.{◌≡◌, ◌+◌, ◌∷◌, ◌++◌, OnOk};
 ghost use Rattle.site_message.specs.Wire.{IsSite, FitsVar, IsRequestOrAnswer, FitsWire};
 ghost use Rattle.site_message.specs.declared.message.Msg.TheVariants as messages;
-ghost use Rattle.wire_form.specs.Field.{◌then◌};
-ghost use Rattle.wire_form.specs.Format.{lead, IsTwo, site, var_name, stationary_name, thread_name, message};
-ghost use Rattle.wire_form.specs.Numbers.{EachInMessage, HasRoom};
+ghost use Rattle.byte_fields.specs.Field.{◌before◌};
+ghost use Rattle.wire_reader.specs.Format.{lead, IsTwo, site, var_name, stationary_name, thread_name, message};
+ghost use Rattle.wire_reader.specs.Numbers.{EachInMessage, HasRoom};
 ghost use Rattle.wire_form.specs.Writing.{IsWritten};
 
-use crate::form::Form;
 use crate::writing::{
     put_bundle, put_kind, put_port, put_site, put_stationary, put_thread, put_var,
 };
 use site_message::{Bundle, Msg};
 use std::alloc::AllocError;
 use tree_node::{CellName, PortName, ThreadName, VarName};
+use wire_reader::Form;
 
 // A message by which a thread that waits at the asking site sends to a port.
 fn put_port_request(
@@ -85,8 +85,8 @@ fn put_exchange(
     requires thread { IsSite thread.site }
     requires asking { IsSite asking }
     requires new { FitsVar new }
-    ensures { OnOk result ((stationary_name then thread_name then site then var_name).Has (cell, (thread, (asking, new))) ×
-        (out.new.items ≡ out.old.items ++ (lead form + 11) ∷ (stationary_name then thread_name then site then var_name).spelling (cell, (thread, (asking, new))))) }
+    ensures { OnOk result ((stationary_name before thread_name before site before var_name).Has (cell, (thread, (asking, new))) ×
+        (out.new.items ≡ out.old.items ++ (lead form + 11) ∷ (stationary_name before thread_name before site before var_name).spelling (cell, (thread, (asking, new))))) }
 {
     put_kind(out, form, 11)?;
     put_stationary(out, cell)?;

@@ -2,9 +2,9 @@
 
 ghost use Rattle.std.specs.Prelude.{◌≤◌};
 
-use crate::form::Form;
 use site_message::Msg;
 use tree_node::{Feature, Node, Term, VarName};
+use wire_reader::Form;
 
 // A site and a number.
 const NAME: usize = 9;

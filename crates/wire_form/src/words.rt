@@ -2,7 +2,7 @@
 
 ghost use Rattle.std.specs.Prelude.{◌↔◌, IsTrue};
 ghost use Rattle.tree_node.specs.Each.{Each};
-ghost use Rattle.wire_form.specs.Numbers.{EachInFeature, EachInField, EachInTerm, EachInEquation, EachInBundle, IsWord, FitsWords};
+ghost use Rattle.wire_reader.specs.Numbers.{EachInFeature, EachInField, EachInTerm, EachInEquation, EachInBundle, IsWord, FitsWords};
 
 use site_message::Msg;
 use tree_node::{Feature, Integer, Node, Term, VarName};

@@ -7,14 +7,13 @@ ghost use Rattle.tree_node.specs.declared.node.Term.{Term as ATerm};
 ghost use Rattle.site_message.specs.Wire.{IsSite, FitsText, FitsFeature, FitsField, FitsFields, FitsVar, FitsVars, FitsCell, FitsNode, FitsTerm, FitsEquation, FitsBundle, FitsWire};
 ghost use Rattle.tree_node.specs.declared.node.Term.TheVariants as terms;
 ghost use Rattle.site_message.specs.declared.message.Msg.TheVariants as messages;
-ghost use Rattle.wire_form.specs.declared.form.Form.TheVariants as forms;
+ghost use Rattle.wire_reader.specs.declared.form.Form.TheVariants as forms;
 ghost use Rattle.std.specs.Int.{w64, w128};
-ghost use Rattle.wire_form.specs.Field.{signed_number};
-ghost use Rattle.wire_form.specs.Format.{lead, IsTwo, site, name, var_name, cell_name, stationary_name, port_name, HasCell, cell_spelling, proc_name, thread_name, code, integer, text, feature, record_field, record_fields, variables, term, equation, bundle, message, IsSpelling};
-ghost use Rattle.wire_form.specs.Numbers.{IsMobileOr, EachInFeature, EachInField, EachInTerm, EachInEquation, EachInBundle, EachInMessage, IsWord, FitsWords, HasRoom};
+ghost use Rattle.wire_reader.specs.Field.{signed_number};
+ghost use Rattle.wire_reader.specs.Format.{lead, IsTwo, site, name, var_name, cell_name, stationary_name, port_name, HasCell, cell_spelling, proc_name, thread_name, code, integer, text, feature, record_field, record_fields, variables, term, equation, bundle, message, IsSpelling};
+ghost use Rattle.wire_reader.specs.Numbers.{IsMobileOr, EachInFeature, EachInField, EachInTerm, EachInEquation, EachInBundle, EachInMessage, IsWord, FitsWords, HasRoom};
 ghost use Rattle.wire_form.specs.Writing.{IsWritten};
 
-use crate::form::Form;
 use crate::requests::put_request_or_answer;
 use crate::size::message_size;
 use site_message::{Bundle, Msg};
@@ -22,6 +21,7 @@ use std::alloc::{AllocError, Global};
 use tree_node::{
     CellName, CodeId, Feature, Node, PortName, ProcName, Seq, Term, ThreadName, VarName, Vars,
 };
+use wire_reader::Form;
 
 /// The bytes of a message.
 pub type Bytes = Seq<u8>;
@@ -449,7 +449,7 @@ fn spelling(alloc: Global, form: Form, msg: &Msg) -> Result<Bytes, AllocError>
 }
 
 /// The one spelling of a message in form 2. It takes memory once for all of the bytes, and a step for each part of the message.
-#[tactic(auto, using(crate::proofs::IntegerLaws::always_room))]
+#[tactic(auto, using(wire_reader::proofs::IntegerLaws::always_room))]
 pub fn encode(alloc: Global, msg: &Msg) -> Result<Bytes, AllocError>
     requires { FitsWire msg.now }
     ensures { IfOk result (λ bytes. IsSpelling forms.Two bytes msg.now) }

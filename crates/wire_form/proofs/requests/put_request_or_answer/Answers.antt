@@ -1,6 +1,6 @@
 use Rattle.std.proofs.Common.{List, subst}
 use Rattle.tree_node.specs.Store.{Equation}
-use Rattle.wire_form.specs.Format as format
+use Rattle.wire_reader.specs.Format as format
 use Rattle.wire_form.specs.Writing.{IsWritten}
 use Rattle.wire_form.proofs.WriteLaws.{asked_written}
 use Rattle.wire_form.proofs.requests.put_request_or_answer.Goals as goal

@@ -1,7 +1,7 @@
 use Rattle.std.proofs.Common.{drop}
 use Rattle.std.specs.Prelude.{◌↔◌}
 use Rattle.tree_node.specs.Each.{Each}
-use Rattle.wire_form.specs.Numbers.{EachInEquation, IsWord}
+use Rattle.wire_reader.specs.Numbers.{EachInEquation, IsWord}
 use Rattle.wire_form.proofs.words.bundle_fits_words.Given as goal
 
 abbrev pub invariant-loop-equation : goal.invariant-loop-equation

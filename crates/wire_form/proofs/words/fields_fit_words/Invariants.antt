@@ -1,7 +1,7 @@
 use Rattle.std.proofs.Common.{drop}
 use Rattle.std.specs.Prelude.{◌↔◌}
 use Rattle.tree_node.specs.Each.{Each}
-use Rattle.wire_form.specs.Numbers.{EachInField, IsWord}
+use Rattle.wire_reader.specs.Numbers.{EachInField, IsWord}
 use Rattle.wire_form.proofs.words.fields_fit_words.Given as goal
 
 abbrev pub invariant-loop-field : goal.invariant-loop-field

@@ -1,8 +1,8 @@
 use Rattle.std.proofs.Common.{◌+◌, List, subst}
 use Rattle.tree_node.specs.Store.{Equation}
-use Rattle.wire_form.specs.Field.{◌then◌}
-use Rattle.wire_form.specs.Format as format
-use Rattle.wire_form.specs.Format.{lead}
+use Rattle.byte_fields.specs.Field.{◌before◌}
+use Rattle.wire_reader.specs.Format as format
+use Rattle.wire_reader.specs.Format.{lead}
 use Rattle.wire_form.specs.Writing.{IsWritten}
 use Rattle.wire_form.proofs.WriteLaws.{writes_tag, writes_then}
 use Rattle.wire_form.proofs.writing.put_bind_request.Goals as goal
@@ -19,6 +19,6 @@ returns c =
     let r = c.put_bundle.result in
     let equations = subst (λ (xs : List Equation). IsWritten (format.bundle form) xs four new r) c.as_slice.ensures c.put_bundle.ensures in
     writes_tag (lead form + 3) (format.bind_request form) (c.args.var, (c.args.thread, (c.args.term.now, es))) c.args.out.now.items one new r c.in_ok-put_kind.ensures
-    (writes_then format.var_name (format.thread_name then format.term form then format.bundle form) c.args.var (c.args.thread, (c.args.term.now, es)) one two new r c.in_ok-put_var.ensures
-    (writes_then format.thread_name (format.term form then format.bundle form) c.args.thread (c.args.term.now, es) two three new r c.in_ok-put_thread.ensures
+    (writes_then format.var_name (format.thread_name before format.term form before format.bundle form) c.args.var (c.args.thread, (c.args.term.now, es)) one two new r c.in_ok-put_var.ensures
+    (writes_then format.thread_name (format.term form before format.bundle form) c.args.thread (c.args.term.now, es) two three new r c.in_ok-put_thread.ensures
     (writes_then (format.term form) (format.bundle form) c.args.term.now es three four new r c.in_ok-put_term.ensures equations)))

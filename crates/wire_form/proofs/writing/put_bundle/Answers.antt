@@ -1,7 +1,8 @@
 use Rattle.std.proofs.Common.{◌∙◌, ◌++◌, ap, length, List, ℕ}
 use Rattle.std.specs.Int.{w16, to_be_bytes}
-use Rattle.wire_form.specs.Format.{equation}
-use Rattle.wire_form.proofs.WriteLaws.{writing_all, bundle_has, put_list}
+use Rattle.wire_reader.specs.Format.{equation}
+use Rattle.wire_reader.proofs.FitsLaws.{bundle_has}
+use Rattle.wire_form.proofs.WriteLaws.{writing_all, put_list}
 use Rattle.wire_form.proofs.writing.put_bundle.Goals as goal
 
 pub returns : goal.returns

@@ -1,4 +1,4 @@
-use Rattle.wire_form.specs.Format.{equation}
+use Rattle.wire_reader.specs.Format.{equation}
 use Rattle.wire_form.proofs.WriteLaws.{IsWriting}
 use Rattle.wire_form.proofs.writing.put_bundle.Given as goal
 

@@ -1,4 +1,4 @@
-use Rattle.std.proofs.Common.{◌≡◌, ℕ, arith, refl}
+use Rattle.std.proofs.Common.{arith}
 use Rattle.wire_form.proofs.WriteLaws.{mobile_written, stationary_written}
 use Rattle.wire_form.proofs.writing.put_cell_value.Goals as goal
 

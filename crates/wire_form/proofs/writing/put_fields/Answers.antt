@@ -1,7 +1,8 @@
 use Rattle.std.proofs.Common.{arith, ◌∙◌, ap, length, List, ℕ, ◌++◌}
 use Rattle.std.specs.Int.{w8, to_be_bytes}
-use Rattle.wire_form.specs.Format.{record_field}
-use Rattle.wire_form.proofs.WriteLaws.{writing_all, fields_have, put_list, byte_is}
+use Rattle.wire_reader.specs.Format.{record_field}
+use Rattle.wire_reader.proofs.FitsLaws.{fields_have}
+use Rattle.wire_form.proofs.WriteLaws.{writing_all, put_list, byte_is}
 use Rattle.wire_form.proofs.writing.put_fields.Goals as goal
 
 pub returns : goal.returns

@@ -1,4 +1,4 @@
-use Rattle.wire_form.specs.Format.{record_field}
+use Rattle.wire_reader.specs.Format.{record_field}
 use Rattle.wire_form.proofs.WriteLaws.{IsWriting}
 use Rattle.wire_form.proofs.writing.put_fields.Given as goal
 

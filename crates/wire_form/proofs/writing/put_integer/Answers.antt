@@ -1,7 +1,7 @@
 use Rattle.std.proofs.Common.{subst, ℤ}
 use Rattle.std.specs.Int.{w128}
 use Rattle.std.proofs.lemmas.Int.{to_z-of_z}
-use Rattle.wire_form.specs.Field.{signed_number}
+use Rattle.wire_reader.specs.Field.{signed_number}
 use Rattle.wire_form.specs.Writing.{IsWritten}
 use Rattle.wire_form.proofs.writing.put_integer.Goals as goal
 

@@ -1,7 +1,7 @@
 use Rattle.std.proofs.Common.{◌∙◌, ap, ℤ}
 use Rattle.std.specs.Int.{w128, to_be_bytes, cast_unsigned}
 use Rattle.std.proofs.lemmas.Int.{to_z-of_z}
-use Rattle.wire_form.specs.Field.{signed_number}
+use Rattle.wire_reader.specs.Field.{signed_number}
 use Rattle.wire_form.proofs.WriteLaws.{writes_bytes}
 use Rattle.wire_form.proofs.writing.put_integer_128.Goals as goal
 

@@ -4,9 +4,9 @@ use Rattle.std.specs.Int.{w128}
 use Rattle.std.proofs.lemmas.Int.{to_z-of_z}
 use Rattle.tree_node.specs.declared.names.VarName.{VarName}
 use Rattle.tree_node.specs.declared.node.Feature.{Feature}
-use Rattle.wire_form.specs.Field.{◌then◌}
-use Rattle.wire_form.specs.Format as format
-use Rattle.wire_form.specs.Format.{integer}
+use Rattle.byte_fields.specs.Field.{◌before◌}
+use Rattle.wire_reader.specs.Format as format
+use Rattle.wire_reader.specs.Format.{integer}
 use Rattle.wire_form.specs.Writing.{IsWritten}
 use Rattle.wire_form.proofs.WriteLaws.{writes_tag, writes_then, formals_written}
 use Rattle.wire_form.proofs.writing.put_node.Goals as goal
@@ -34,8 +34,8 @@ returns-in_ok-push-in-Proc-2 c =
     let vars = subst (λ (xs : List VarName). IsWritten format.variables xs four new r) c.as_slice-in-Proc.ensures c.put_variables.ensures in
     rw m.is
     (writes_tag 4 format.procedure (m.name, (m.code, (m.count, m.vars))) c.args.out.now.items one new r c.in_ok-push-in-Proc.ensures.items
-    (writes_then format.proc_name (format.code then format.formals then format.variables) m.name (m.code, (m.count, m.vars)) one two new r c.in_ok-put_proc-in-Proc.ensures
-    (writes_then format.code (format.formals then format.variables) m.code (m.count, m.vars) two three new r c.in_ok-put_code-in-Proc.ensures
+    (writes_then format.proc_name (format.code before format.formals before format.variables) m.name (m.code, (m.count, m.vars)) one two new r c.in_ok-put_proc-in-Proc.ensures
+    (writes_then format.code (format.formals before format.variables) m.code (m.count, m.vars) two three new r c.in_ok-put_code-in-Proc.ensures
     (writes_then format.formals format.variables m.count m.vars three four new r formals vars))))
 
 pub returns-in_ok-put_text-in-Rec : goal.returns-in_ok-put_text-in-Rec

@@ -1,8 +1,8 @@
 use Rattle.std.proofs.Common.{◌+◌, List, subst}
 use Rattle.tree_node.specs.Store.{Equation}
-use Rattle.wire_form.specs.Field.{◌then◌}
-use Rattle.wire_form.specs.Format as format
-use Rattle.wire_form.specs.Format.{lead}
+use Rattle.byte_fields.specs.Field.{◌before◌}
+use Rattle.wire_reader.specs.Format as format
+use Rattle.wire_reader.specs.Format.{lead}
 use Rattle.wire_form.specs.Writing.{IsWritten}
 use Rattle.wire_form.proofs.WriteLaws.{writes_tag, writes_then}
 use Rattle.wire_form.proofs.writing.put_token.Goals as goal
@@ -18,5 +18,5 @@ returns c =
     let r = c.put_bundle.result in
     let equations = subst (λ (xs : List Equation). IsWritten (format.bundle form) xs three new r) c.as_slice.ensures c.put_bundle.ensures in
     writes_tag (lead form + 7) (format.put form) (c.args.cell, (c.args.content, es)) c.args.out.now.items one new r c.in_ok-put_kind.ensures
-    (writes_then format.cell_name (format.var_name then format.bundle form) c.args.cell (c.args.content, es) one two new r c.in_ok-put_cell.ensures
+    (writes_then format.cell_name (format.var_name before format.bundle form) c.args.cell (c.args.content, es) one two new r c.in_ok-put_cell.ensures
     (writes_then format.var_name (format.bundle form) c.args.content es two three new r c.in_ok-put_var.ensures equations))

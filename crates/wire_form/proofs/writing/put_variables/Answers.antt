@@ -1,7 +1,8 @@
 use Rattle.std.proofs.Common.{◌∙◌, ◌++◌, ap, length, List, ℕ}
 use Rattle.std.specs.Int.{w16, to_be_bytes}
-use Rattle.wire_form.specs.Format.{var_name}
-use Rattle.wire_form.proofs.WriteLaws.{writing_all, variables_have, put_list}
+use Rattle.wire_reader.specs.Format.{var_name}
+use Rattle.wire_reader.proofs.FitsLaws.{variables_have}
+use Rattle.wire_form.proofs.WriteLaws.{writing_all, put_list}
 use Rattle.wire_form.proofs.writing.put_variables.Goals as goal
 
 pub returns : goal.returns

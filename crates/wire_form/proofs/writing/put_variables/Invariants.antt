@@ -1,4 +1,4 @@
-use Rattle.wire_form.specs.Format.{var_name}
+use Rattle.wire_reader.specs.Format.{var_name}
 use Rattle.wire_form.proofs.WriteLaws.{IsWriting}
 use Rattle.wire_form.proofs.writing.put_variables.Given as goal
 

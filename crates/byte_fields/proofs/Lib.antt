@@ -1,0 +1,10 @@
+pub mod ResultLaws
+pub mod FieldLaws
+pub mod FrontLaws
+pub mod TextLaws
+pub mod NumberLaws
+pub mod ItemLaws
+pub mod LoopLaws
+pub mod StayLaws
+pub mod OpenLaws
+pub mod WholeLaws

@@ -1,0 +1,10 @@
+//! What may cross from one thread to another, and what threads may share. A type that loses Send or Sync is refused here.
+
+use crate::fault::FileFault;
+
+fn is_send_and_sync<T: Send + Sync>() {}
+
+// Threads may hold and share each of these.
+fn cross_threads() {
+    is_send_and_sync::<FileFault>();
+}
