@@ -1,9 +1,10 @@
 -- A text ends as what follows it: the symbols of statements are none that end texts.
-use Rattle.std.proofs.Common.{◌≡◌, List, [], ◌∷◌, ◌++◌, Bool, true, false, refl, sym, ap, ◌∙◌}
+use Rattle.std.proofs.Common.{◌≡◌, List, [], ◌∷◌, ◌++◌, Bool, true, false, Some, refl, sym, ap, ◌∙◌}
 use Rattle.oz_grammar.specs.declared.symbol.Symbol.{Symbol}
 use Rattle.oz_grammar.specs.declared.symbol.Symbol.TheVariants as t
-use Rattle.oz_lexer.specs.declared.token.LexKind.{LexKind}
+use Rattle.oz_grammar.specs.declared.fault.FaultKind.{FaultKind}
 use Rattle.oz_grammar.specs.Symbols.{ends_once}
+use Rattle.oz_grammar.specs.Faults.{lexical}
 use Rattle.oz_grammar.specs.Grammar.{Identifier, FeatureToken, AtomFeature, IntFeature, Selection, ByVariable, ByFeature, Field, Placed, WithFeature, Value, ToVar, Calculates, Tests, Selects, Pairs, ToInt, ToAtom, ToRecord, Pattern, IntPattern, AtomPattern, RecordPattern, PairPattern, Plain, Skips, Tells, Calls, Raises, Opening, Locals, ProcValue, ProcNamed, Threads, ThreadsAt, Choice, Ifs, Cases, Statement, Simple, Block, Chooses, Tries, Sequence, One, Then, feature_symbol, selection_symbol, names_text, fields_text, value_text, pattern_text, plain_text, opening_text, choice_text, stmt_text, seq_text, program_text}
 
 -- no symbol that ends a text
@@ -108,13 +109,14 @@ bad_over t.EndOfText rest e = absurd cc
 bad_over (t.Bad fault) rest e = absurd cc
 bad_over x rest e = refl
 
-pub bad_behind : (front : List Symbol) (kind : LexKind) (more : List Symbol) → has_bad (front ++ t.Bad kind ∷ more) ≡ true
-bad_behind [] kind more = refl
-bad_behind (t.Bad fault ∷ front) kind more = refl
-bad_behind (x ∷ front) kind more = bad_behind front kind more
+pub bad_behind : (front : List Symbol) (x : Symbol) (kind : FaultKind) (more : List Symbol) → lexical x ≡ Some kind → has_bad (front ++ x ∷ more) ≡ true
+bad_behind [] (t.Bad fault) kind more e = refl
+bad_behind [] x kind more e = absurd cc
+bad_behind (t.Bad fault ∷ front) x kind more e = refl
+bad_behind (y ∷ front) x kind more e = bad_behind front x kind more e
 
 -- no lexical fault stands in a program
-pub none_bad : (q : Sequence) (front : List Symbol) (kind : LexKind) (more : List Symbol) → front ++ t.Bad kind ∷ more ≡ program_text q → ⊥
-none_bad q front kind more e =
-    let bad : has_bad (program_text q) ≡ true = sym (ap has_bad e) ∙ bad_behind front kind more in
+pub none_lexical : (q : Sequence) (front : List Symbol) (x : Symbol) (kind : FaultKind) (more : List Symbol) → lexical x ≡ Some kind → front ++ x ∷ more ≡ program_text q → ⊥
+none_lexical q front x kind more lex e =
+    let bad : has_bad (program_text q) ≡ true = sym (ap has_bad e) ∙ bad_behind front x kind more lex in
     let good : has_bad (program_text q) ≡ false = seq_passes has_bad bad_over q (t.EndOfText ∷ []) in cc

@@ -1,7 +1,8 @@
 -- What is wrong besides the grammar is no lexical fault and nothing expected.
-use Rattle.std.proofs.Common.{◌≡◌, ℕ, zero, suc, ◌+◌, List, [], ◌∷◌, ◌++◌, length, Bool, true, false, Option, Some, None, ℤ, subst}
+use Rattle.std.proofs.Common.{◌≡◌, ℕ, zero, suc, ◌+◌, List, [], ◌∷◌, ◌++◌, length, Bool, true, false, Option, Some, None, ℤ, subst, ap}
 use Rattle.std.specs.Prelude.{IfSome}
 use Rattle.tree_node.specs.declared.node.Feature.{Feature}
+use Rattle.oz_grammar.specs.declared.fault.What.{What}
 use Rattle.oz_grammar.specs.declared.symbol.Symbol.{Symbol}
 use Rattle.oz_grammar.specs.declared.symbol.Symbol.TheVariants as t
 use Rattle.kernel_syntax.specs.declared.built_in.BuiltIn.{BuiltIn}
@@ -12,7 +13,7 @@ use Rattle.oz_grammar.specs.declared.fault.FaultKind.{FaultKind}
 use Rattle.oz_grammar.specs.declared.fault.FaultKind.TheVariants.{Lex, Expected, Twice}
 use Rattle.oz_grammar.specs.Grammar.{Identifier, FeatureToken, AtomFeature, IntFeature, ByVariable, ByFeature, Field, Placed, WithFeature, Value, ToVar, Calculates, Tests, Selects, Pairs, ToInt, ToAtom, ToRecord, Pattern, IntPattern, AtomPattern, RecordPattern, PairPattern, Plain, Skips, Tells, Calls, Raises, Opening, Locals, ProcValue, ProcNamed, Threads, ThreadsAt, Choice, Ifs, Cases, Statement, Simple, Block, Chooses, Tries, Sequence, One, Then, seq_text}
 use Rattle.oz_grammar.specs.Scoping.{Scope, Fields, is_declared, built_in_at, has_feature, has_name, names_in, with_field, feature_of, place_feature, opening_scope, choice_scope}
-use Rattle.oz_grammar.specs.Faults.{or_else, where_not, where_so, number_fault, site_fault, deep_fault, use_fault, count_fault, called_fault, argument_fault, formal_fault, room_fault, feature_fault, feature_token_fault, name_fault, placed_fault, selected_fault, fewer}
+use Rattle.oz_grammar.specs.Faults.{or_else, where_not, where_so, number_fault, site_fault, deep_fault, use_fault, count_fault, called_fault, argument_fault, formal_fault, room_fault, feature_fault, feature_token_fault, name_fault, placed_fault, selected_fault, fewer, fault_here}
 use Rattle.oz_grammar.specs.Check.{first_fault, check_fields, check_value, check_pattern, check_locals, check_formals, check_arguments, check_uses, check_call, check_plain, check_opening, check_choice, check_stmt, check_seq, check}
 
 -- a kind that is found besides the grammar
@@ -173,3 +174,11 @@ mutual
 
 pub check_row : (q : Sequence) (g : Fault) → check q ≡ Some g → IsRow g.kind
 check_row q g e = subst Found e (check_seq_row q 200 [] (t.EndOfText ∷ []) None tt)
+
+-- .. and says of no symbol that another was expected
+pub none_expected : (q : Sequence) (w : What) (rest : List Symbol) → check q ≡ Some (fault_here (Expected w) rest) → ⊥
+none_expected q w rest e = check_row q (fault_here (Expected w) rest) e
+
+-- a fault tells its kind and its place
+pub faults_told : (k l : FaultKind) (a b : List Symbol) → fault_here k a ≡ fault_here l b → (k ≡ l) × (length a ≡ length b)
+faults_told k l a b e = (ap (λ (f : Fault). f.kind) e, ap (λ (f : Fault). f.left) e)

@@ -10,6 +10,7 @@ use Rattle.kernel_syntax.specs.declared.built_in.BuiltIn.{BuiltIn}
 use Rattle.oz_grammar.specs.declared.symbol.Purpose.{Purpose}
 use Rattle.oz_grammar.specs.declared.symbol.Purpose.TheVariants as purpose
 use Rattle.oz_grammar.specs.declared.fault.FaultKind.{FaultKind}
+use Rattle.oz_grammar.specs.declared.fault.FaultKind.TheVariants.{Expected}
 use Rattle.oz_grammar.specs.Grammar.{closer_symbol}
 use Rattle.oz_grammar.specs.Scoping.{Scope, is_declared, built_in_at, built_in_of}
 use Rattle.oz_grammar.specs.Points.{Stage, First, AfterThread, Later, Point, At, Here, Used, LocalName, LocalMore, ValueOf, BehindVariable, BehindAtom, SelectionOf, FieldOf, FieldName, CallName, Arguments, Wanted, PatternOf, BehindPattern, PatternTail, ProcName, Formals, SiteHere, CatchName, next_call, expected_at, next_of, wrong_at, points_automaton, run}
@@ -38,7 +39,7 @@ leaves_behind (x ∷ front) a [] τ e = absurd cc
 leaves_behind (x ∷ front) a (p ∷ σ) τ e = leads_on (next_of p x) front a σ τ (λ ρ. leaves_behind front a ρ τ) e
 
 leads_moved : (p : Point) (o : Option (List Point)) (w : Option FaultKind) (x : Symbol) (xs : List Symbol) (σ : List Point) → ((ρ : List Point) → run xs ρ ≡ None → (rest : List Symbol) × (leaves xs ρ ≡ Some rest))
-    → read_step (expected_at p) w (x ∷ xs) (run xs) (then_points o σ) ≡ None → (rest : List Symbol) × (leads o (leaves xs) σ ≡ Some rest)
+    → read_step points_automaton (Expected (expected_at p)) w (x ∷ xs) (run xs) (then_points o σ) ≡ None → (rest : List Symbol) × (leads o (leaves xs) σ ≡ Some rest)
 leads_moved p None w x xs σ ih e = absurd cc
 leads_moved p (Some points) (Some kind) x xs σ ih e = absurd cc
 leads_moved p (Some points) None x xs σ ih e = ih (points ++ σ) e

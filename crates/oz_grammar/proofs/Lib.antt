@@ -24,6 +24,7 @@ pub mod StmtReads
 pub mod Ends
 pub mod FaultRows
 pub mod FirstFaults
+pub mod FaultPlaces
 pub mod PartsChecked
 pub mod StatementsChecked
 pub mod ReadLaws

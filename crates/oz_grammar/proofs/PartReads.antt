@@ -12,11 +12,12 @@ use Rattle.oz_grammar.specs.declared.symbol.Purpose.TheVariants as purpose
 use Rattle.oz_grammar.specs.declared.fault.What.TheVariants as what
 use Rattle.oz_grammar.specs.declared.fault.Fault.{Fault}
 use Rattle.oz_grammar.specs.declared.fault.FaultKind.{FaultKind}
+use Rattle.oz_grammar.specs.declared.fault.FaultKind.TheVariants.{Expected}
 use Rattle.oz_grammar.specs.Grammar.{Identifier, FeatureToken, AtomFeature, IntFeature}
 use Rattle.oz_grammar.specs.Scoping.{Scope, Fields, declaration_of, with_field, feature_of, place_feature}
 use Rattle.oz_grammar.specs.Faults.{use_fault, number_fault, count_fault, formal_fault, argument_fault, placed_fault, feature_token_fault, name_fault, fewer}
 use Rattle.oz_grammar.specs.Check.{first_fault}
-use Rattle.oz_grammar.specs.Points.{Point, First, Later, At, Here, Used, LocalName, LocalMore, ValueOf, BehindVariable, BehindAtom, SelectionOf, FieldOf, FieldName, Arguments, Wanted, PatternOf, BehindPattern, PatternTail, Formals, SiteHere, expected_sign, is_sign, behind_fields, run}
+use Rattle.oz_grammar.specs.Points.{Point, First, Later, At, Here, Used, LocalName, LocalMore, ValueOf, BehindVariable, BehindAtom, SelectionOf, FieldOf, FieldName, Arguments, Wanted, PatternOf, BehindPattern, PatternTail, Formals, SiteHere, expected_sign, is_sign, behind_fields, run, points_automaton}
 use Rattle.oz_grammar.specs.Automata.{read_step, then_points}
 use Rattle.oz_grammar.specs.Table.{value_of}
 use Rattle.oz_grammar.specs.Reading.{◌>>=◌, fault_expected, fault_or, sign_at, used_variable_at, selection_at, behind_at, FieldOut, field_name_at, named_field_at, field_at, is_close_round, fields_at, record_at, value_at, locals_at, first_local_at, formals_at, arguments_at, close_at, built_in_arguments_at, PatternOut, pair_pattern_at, record_pattern_at, pattern_at, site_at}
@@ -42,7 +43,7 @@ chain_unless (Some kind) symbols r f k m h = refl
 
 pub sign_read : (s : Sign) (symbols : List Symbol) (σ : List Point) → run symbols (Here s ∷ σ) ≡ read_on (sign_at s symbols) (λ rest. run rest σ)
 sign_read s [] σ = refl
-sign_read s (x ∷ xs) σ = elim (is_sign s x) as (λ b. read_step (expected_sign s) None (x ∷ xs) (run xs) (then_points (cond b (Some []) None) σ) ≡ read_on (cond b (Ok xs) (fault_expected (expected_sign s) (x ∷ xs))) (λ rest. run rest σ)) [ true ↦ refl | false ↦ refl ]
+sign_read s (x ∷ xs) σ = elim (is_sign s x) as (λ b. read_step points_automaton (Expected (expected_sign s)) None (x ∷ xs) (run xs) (then_points (cond b (Some []) None) σ) ≡ read_on (cond b (Ok xs) (fault_expected (expected_sign s) (x ∷ xs))) (λ rest. run rest σ)) [ true ↦ refl | false ↦ refl ]
 
 pub used_read : (scope : Scope) (symbols : List Symbol) (σ : List Point) → run symbols (Used scope ∷ σ) ≡ read_on (used_variable_at what.Variable scope symbols) (λ v. run v.1 σ)
 used_read scope (t.Variable x ∷ xs) σ = unless_read (use_fault scope x) (t.Variable x ∷ xs) (Ok (declaration_of scope x, xs)) (λ v. run v.1 σ)

@@ -11,7 +11,7 @@ use Rattle.oz_grammar.specs.Symbols.{ends_once, IsSpelled}
 use Rattle.oz_grammar.specs.Grammar.{Sequence, seq_text, program_text}
 use Rattle.oz_grammar.specs.Scoping.{IsDerivation}
 use Rattle.oz_grammar.specs.Check.{check}
-use Rattle.oz_grammar.specs.Points.{Point, wrong, run, start}
+use Rattle.oz_grammar.specs.Points.{Point, wrong, expected, run, start}
 use Rattle.oz_grammar.specs.Automata.{Look, Alone}
 use Rattle.oz_grammar.specs.Table.{program_table}
 use Rattle.oz_grammar.specs.Reading.{program_at}
@@ -20,8 +20,8 @@ use Rattle.oz_grammar.specs.Laws.{ReadsPrograms, ReadsFaults, SymbolsHaveOne, Ne
 use Rattle.oz_grammar.proofs.TreeRuns.{program_run}
 use Rattle.oz_grammar.proofs.Leaves.{leaves_read}
 use Rattle.oz_grammar.proofs.Derivations.{program_taken, through}
-use Rattle.oz_grammar.proofs.Ends.{none_bad, ends_there}
-use Rattle.oz_grammar.proofs.FaultRows.{check_row}
+use Rattle.oz_grammar.proofs.Ends.{none_lexical, ends_there}
+use Rattle.oz_grammar.proofs.FaultRows.{none_expected, faults_told}
 use Rattle.oz_grammar.proofs.FirstFaults.{IsRead, read_is_first, one_first_fault, passes_without}
 use Rattle.oz_grammar.proofs.StmtReads.{fault_in}
 use Rattle.oz_grammar.proofs.StmtReads as reads
@@ -71,7 +71,14 @@ roles [] x a b = refl
 roles (p ∷ σ) x a b = refl
 
 pub kernel_is_read : IsRead kernel look
-kernel_is_read = record { reads = program_run; rows = check_row; roles = λ σ x a b same. roles σ x a b; through = through; none_bad = none_bad }
+kernel_is_read = record {
+  reads = program_run;
+  none_expected = λ q s rest. none_expected q (expected s) rest;
+  told = faults_told;
+  roles = λ σ x a b same. roles σ x a b;
+  through = through;
+  none_lexical = none_lexical;
+}
 
 pub fault_is : (symbols : List Symbol) (f : Fault) → program_at symbols ≡ Err f → FaultOfSymbols symbols f
 fault_is symbols f e = read_is_first kernel look kernel_is_read symbols f (reads.program_read symbols ∙ ap fault_in e)

@@ -13,13 +13,13 @@ use Rattle.kernel_syntax.specs.declared.built_in.BuiltIn.{BuiltIn}
 use Rattle.oz_grammar.specs.declared.fault.What.{What}
 use Rattle.oz_grammar.specs.declared.fault.What.TheVariants as what
 use Rattle.oz_grammar.specs.declared.fault.Fault.{Fault}
-use Rattle.oz_grammar.specs.declared.fault.FaultKind.TheVariants.{Deep}
+use Rattle.oz_grammar.specs.declared.fault.FaultKind.TheVariants.{Deep, Expected}
 use Rattle.oz_grammar.specs.Grammar.{Identifier}
 use Rattle.kernel_syntax.specs.BuiltIns.{arity_of}
 use Rattle.oz_grammar.specs.Scoping.{Scope, declaration_of, built_in_at}
 use Rattle.oz_grammar.specs.Faults.{use_fault, called_fault, fault_here, mismatch}
 use Rattle.oz_grammar.specs.Check.{first_fault}
-use Rattle.oz_grammar.specs.Points.{Stage, First, AfterThread, Later, Point, At, Here, Used, LocalName, ValueOf, CallName, PatternOf, ProcName, Formals, CatchName, expected_after, expected_statement, is_statement_start, beside, next_call, run, start}
+use Rattle.oz_grammar.specs.Points.{Stage, First, AfterThread, Later, Point, At, Here, Used, LocalName, ValueOf, CallName, PatternOf, ProcName, Formals, CatchName, expected_after, expected_statement, is_statement_start, beside, next_call, run, start, points_automaton}
 use Rattle.oz_grammar.specs.Automata.{read_step, then_points}
 use Rattle.oz_grammar.specs.Table.{code_at}
 use Rattle.oz_grammar.specs.Reading.{◌>>=◌, fault_expected, sign_at, used_variable_at, value_at, first_local_at, formals_at, arguments_at, built_in_arguments_at, pattern_at, site_at, Out, Reader, call_of, call_at, raise_at, is_end_of, more_at, with_numbers, seq_from, seq_at, body_at, local_at, procedure_at, proc_value_at, proc_at, right_at, tell_at, with_second, branches_at, if_at, case_at, thread_at, catch_name_at, try_at, kind_at, stmt_at, shift_rows, program_at}
@@ -223,7 +223,7 @@ no_stmt stage c scope d w t.If xs σ b e none = absurd (no_truth (sym b))
 no_stmt stage c scope d w t.Case xs σ b e none = absurd (no_truth (sym b))
 no_stmt stage c scope d w t.Try xs σ b e none = absurd (no_truth (sym b))
 no_stmt stage c scope d w x xs σ b e none =
-    ap (λ (o : Option (List Point)). read_step (expected_statement stage c) None (x ∷ xs) (run xs) (then_points o σ)) none ∙ ap (λ (v : What). Some (fault_here (mismatch v (x ∷ xs)) (x ∷ xs))) (sym e)
+    ap (λ (o : Option (List Point)). read_step points_automaton (Expected (expected_statement stage c)) None (x ∷ xs) (run xs) (then_points o σ)) none ∙ ap (λ (v : What). Some (fault_here (mismatch v (x ∷ xs)) (x ∷ xs))) (sym e)
 
 kind_read : (inner : Reader) (d : ℕ) (body : BodyLaw inner d) → ReaderLaw (kind_at inner) (suc d)
 kind_read inner d body stage c scope rows w (t.Skip ∷ xs) σ e none = refl

@@ -16,15 +16,13 @@ use Rattle.oz_grammar.specs.declared.symbol.Symbol.{Symbol}
 use Rattle.oz_grammar.specs.declared.symbol.Symbol.TheVariants as t
 use Rattle.oz_grammar.specs.declared.fault.Fault.{Fault}
 use Rattle.oz_grammar.specs.declared.fault.FaultKind.{FaultKind}
-use Rattle.oz_grammar.specs.declared.fault.FaultKind.TheVariants.{Expected}
 use Rattle.oz_grammar.specs.declared.fault.TextFault.{TextFault}
+use Rattle.oz_grammar.specs.Faults.{fault_here}
 use Rattle.oz_grammar.specs.Symbols.{word_symbol, sign_symbol, symbol_at, symbol_of, ends_once}
-use Rattle.oz_grammar.specs.Automata.{Automaton, read, onward, state_behind, Grammar, Look}
 use Rattle.oz_grammar.specs.Reads.{ReadsSymbols, FaultOfSymbols, kernel, ReadsIn, IsPlace, FaultIn, FaultOf}
 use Rattle.oz_grammar.specs.Laws.{FaultRead, ReadsTexts, FaultsTexts, AreOneOfBoth, TextsArePrograms}
 use Rattle.oz_grammar.proofs.Ends.{is_inner, ends_over, program_ends}
-use Rattle.oz_grammar.proofs.FaultRows.{IsRow}
-use Rattle.oz_grammar.proofs.FirstFaults.{IsRead, behind_clean, stopped, left_within, kind_at, same_head}
+use Rattle.oz_grammar.proofs.FaultPlaces.{fault_stands}
 use Rattle.oz_grammar.proofs.TextSymbols.{text_spelled}
 use Rattle.oz_grammar.proofs.ReadLaws.{look, kernel_is_read, is_read, read_is, fault_is, fault_found, reads_faults, symbols_have_one, never_both, one_program, one_fault, reads_are_programs}
 
@@ -97,7 +95,7 @@ tokens_end text tokens h = tokens_end_from tokens 0 text h
 
 -- ---- a fault stands at a token
 
-nothing_more : (front more : List Symbol) → ends_once front ≡ true → ends_once (front ++ more) ≡ true → more ≡ []
+pub nothing_more : (front more : List Symbol) → ends_once front ≡ true → ends_once (front ++ more) ≡ true → more ≡ []
 nothing_more [] more e f = absurd cc
 nothing_more (t.EndOfText ∷ []) [] e f = refl
 nothing_more (t.EndOfText ∷ []) (x ∷ more) e f = absurd cc
@@ -107,64 +105,19 @@ nothing_more (t.Bad fault ∷ []) (x ∷ more) e f = absurd cc
 nothing_more (t.Bad fault ∷ y ∷ front) more e f = absurd cc
 nothing_more (x ∷ front) more e f = nothing_more front more e f
 
+-- the symbols end once
+abbrev pub EndsHere : List Symbol → Type 0
+EndsHere symbols = ends_once symbols ≡ true
+
+pub none_ends : EndsHere [] → ⊥
+none_ends e = cc
+
+-- this fault stands at one of the symbols
+pub stands_at : (symbols : List Symbol) (f : Fault) → ((kind : FaultKind) × (rest : List Symbol) × (f ≡ fault_here kind rest) × (0 < length rest) × (length rest ≤ length symbols)) → (0 < f.left) × (f.left ≤ length symbols)
+stands_at symbols f s = let e : f.left ≡ length s.1 = ap (λ (h : Fault). h.left) s.2 in (omega (arith, e, s.3), omega (arith, e, s.4))
+
 cases_left : (left n : ℕ) → left ≤ suc n → (left ≤ n) ⊎ (left ≡ suc n)
 cases_left left n le = elim (cases_lt n left) as (λ c. (left ≤ n) ⊎ (left ≡ suc n)) [ inl h ↦ let e : left ≡ suc n = omega arith in inr e | inr h ↦ inl h ]
-
--- the last of these symbols, and the state before it
-record LastStep {State : Type 0} (a : Automaton State) (front : List Symbol) (s u : State) : Type 0 where
-  before : List Symbol
-  symbol : Symbol
-  state : State
-  divided : front ≡ before ++ symbol ∷ []
-  behind : state_behind a before s ≡ Some state
-  leads : a.next state symbol ≡ Some u
-
-further : {State : Type 0} (a : Automaton State) (x : Symbol) (front : List Symbol) (s r u : State) → a.next s x ≡ Some r → LastStep a front r u → LastStep a (x ∷ front) s u
-further a x front s r u n l = record {
-  before = x ∷ l.before;
-  symbol = l.symbol;
-  state = l.state;
-  divided = ap (λ (xs : List Symbol). x ∷ xs) l.divided;
-  behind = ap (onward (state_behind a l.before)) n ∙ l.behind;
-  leads = l.leads;
-}
-
-last_step : {State : Type 0} (a : Automaton State) (x : Symbol) (front : List Symbol) (s u : State) (o : Option State) → a.next s x ≡ o → onward (state_behind a front) o ≡ Some u → LastStep a (x ∷ front) s u
-last_step a x front s u None n e = absurd cc
-last_step a x [] s u (Some r) n e = record { before = []; symbol = x; state = s; divided = refl; behind = refl; leads = n ∙ e }
-last_step a x (y ∷ front) s u (Some r) n e = further a x (y ∷ front) s r u n (last_step a y front r u (a.next r y) refl e)
-
-module _ {Program : Type 0} {Derives : Program → Type 0} {State : Type 0} (g : Grammar Program Derives State) (look : State → Symbol → Look) (law : IsRead g look) (ends : (q : Program) → ends_once (g.text q) ≡ true) where
-  -- a program does not end before more is to come
-  not_at_end : (front : List Symbol) (s : State) (f : Fault) → ends_once front ≡ true → read g.automaton front g.start ≡ Some f → LastStep g.automaton front g.start s → f.kind ≡ Expected (g.automaton.expected s) → ⊥
-  not_at_end front s f once found l kind =
-      let v = law.through l.before l.state s l.symbol [] l.behind l.leads in
-      let more = same_head (look l.state l.symbol) (l.symbol ∷ []) v.more v.same in
-      let is : front ++ more.0 ≡ g.text v.goes_on.program = ap (λ (xs : List Symbol). xs ++ more.0) l.divided ∙ append_assoc l.before (l.symbol ∷ []) more.0 ∙ ap (λ (xs : List Symbol). l.before ++ xs) (sym more.1) ∙ v.goes_on.derived in
-      let none : more.0 ≡ [] = nothing_more front more.0 once (ap ends_once is ∙ ends v.goes_on.program) in
-      let whole : front ≡ g.text v.goes_on.program = sym (append-nil front) ∙ ap (λ (xs : List Symbol). front ++ xs) (sym none) ∙ is in
-      let checked : g.check v.goes_on.program ≡ Some f = sym (law.reads v.goes_on.program v.goes_on.derives) ∙ ap (λ (xs : List Symbol). read g.automaton xs g.start) (sym whole) ∙ found in
-      subst IsRow kind (law.rows v.goes_on.program f checked)
-
-  some_left : (symbols front rest : List Symbol) (s : State) (f : Fault) → ends_once symbols ≡ true → read g.automaton symbols g.start ≡ Some f → symbols ≡ front ++ rest → state_behind g.automaton front g.start ≡ Some s
-      → (rest ≡ [] → f.kind ≡ Expected (g.automaton.expected s)) → 0 < length rest
-  some_left symbols front (x ∷ rest) s f once found is e kind = omega arith
-  some_left symbols [] [] s f once found is e kind = absurd (let none : false ≡ true = ap ends_once (sym is) ∙ once in cc)
-  some_left symbols (y ∷ front) [] s f once found is e kind =
-      let whole : symbols ≡ y ∷ front = is ∙ append-nil (y ∷ front) in
-      absurd (not_at_end (y ∷ front) s f (ap ends_once (sym whole) ∙ once) (ap (λ (xs : List Symbol). read g.automaton xs g.start) (sym whole) ∙ found) (last_step g.automaton y front g.start s (g.automaton.next g.start y) refl e) (kind refl))
-
-  end_kind : (rest : List Symbol) (s : State) (k : FaultKind) → kind_at g.automaton s rest ≡ Some k → rest ≡ [] → k ≡ Expected (g.automaton.expected s)
-  end_kind rest s k is none = let e : kind_at g.automaton s [] ≡ Some k = ap (kind_at g.automaton s) (sym none) ∙ is in cc
-
-  -- a fault stands at one of the symbols
-  pub fault_stands : (symbols : List Symbol) (f : Fault) → ends_once symbols ≡ true → read g.automaton symbols g.start ≡ Some f → (0 < f.left) × (f.left ≤ length symbols)
-  fault_stands symbols f once found =
-      let s = stopped g.automaton symbols g.start f found in
-      let kind : f.kind ≡ s.kind = ap (λ (h : Fault). h.kind) s.is in
-      let some = some_left symbols s.front s.rest s.state f once found s.divided (behind_clean g.automaton s.front s.rest g.start s.state s.clean) (λ none. kind ∙ end_kind s.rest s.state s.kind s.is_kind none) in
-      let place : f.left ≡ length s.rest = ap (λ (h : Fault). h.left) s.is in
-      (omega (arith, some, place), left_within g.automaton symbols g.start f found)
 
 -- the token at which so many are left
 pub record TokenAt (tokens : List Lexeme) (left : ℕ) : Type 0 where
@@ -281,5 +234,5 @@ symbol_laws = record {
   never_both = never_both;
   one_program = one_program;
   one_fault = one_fault;
-  stands = λ symbols f ends F. fault_stands kernel look kernel_is_read program_ends symbols f ends (fault_found symbols f ends F);
+  stands = λ symbols f ends F. stands_at symbols f (fault_stands kernel look kernel_is_read EndsHere (record { some = none_ends; none_behind = nothing_more; programs = program_ends }) symbols f ends (fault_found symbols f ends F));
 }

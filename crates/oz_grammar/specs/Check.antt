@@ -12,11 +12,11 @@ use Rattle.oz_grammar.specs.declared.fault.FaultKind.TheVariants.{Twice}
 use Rattle.oz_grammar.specs.Grammar.{Identifier, Selection, ByVariable, ByFeature, Field, Placed, WithFeature, Value, ToVar, Calculates, Tests, Selects, Pairs, ToInt, ToAtom, ToRecord, Pattern, IntPattern, AtomPattern, RecordPattern, PairPattern, Plain, Skips, Tells, Calls, Raises, Opening, Locals, ProcValue, ProcNamed, Threads, ThreadsAt, Choice, Ifs, Cases, Statement, Simple, Block, Chooses, Tries, Sequence, One, Then, feature_symbol, names_text, fields_text, value_text, pattern_text, plain_text, opening_text, stmt_text, seq_text}
 use Rattle.oz_grammar.specs.Scoping.{Scope, Fields, built_in_at, has_name, with_field, feature_of, place_feature, opening_scope, choice_scope}
 use Rattle.oz_grammar.specs.Faults.{where_so, number_fault, site_fault, deep_fault, use_fault, count_fault, called_fault, argument_fault, formal_fault, feature_token_fault, name_fault, placed_fault, selected_fault, fewer, fault_here}
+use Rattle.oz_grammar.specs.Automata.{first_of}
 
 -- the fault at the first of these symbols, else the first one behind it
 abbrev pub first_fault : Option FaultKind → List Symbol → Option Fault → Option Fault
-first_fault (Some kind) symbols behind = Some (fault_here kind symbols)
-first_fault None symbols behind = behind
+first_fault wrong symbols behind = first_of fault_here wrong symbols behind
 
 -- Each of the following takes what stands behind, rest, and the first fault that is found there, behind.
 

@@ -12,6 +12,7 @@ use Rattle.oz_grammar.specs.declared.fault.FaultKind.{FaultKind}
 use Rattle.oz_grammar.specs.declared.fault.FaultKind.TheVariants.{Lex, Expected, Number, Site, Deep, Wide, Twice, Unbound}
 use Rattle.tree_node.specs.declared.node.Feature.{Feature}
 use Rattle.oz_grammar.specs.Grammar.{Identifier, FeatureToken, AtomFeature, IntFeature}
+use Rattle.oz_grammar.specs.Automata as automata
 use Rattle.oz_grammar.specs.Scoping.{Scope, Fields, is_declared, feature_of, place_feature, has_feature, has_name, names_in}
 
 -- the first of two
@@ -102,7 +103,16 @@ fewer (suc n) = n
 abbrev pub fault_here : FaultKind → List Symbol → Fault
 fault_here kind symbols = record { kind = kind; left = length symbols }
 
+-- a lexical fault of a symbol
+abbrev pub lexical : Symbol → Option FaultKind
+lexical (t.Bad kind) = Some (Lex kind)
+lexical symbol = None
+
 -- a lexical fault stands before what is expected
 abbrev pub mismatch : What → List Symbol → FaultKind
-mismatch w (t.Bad kind ∷ rest) = Lex kind
-mismatch w symbols = Expected w
+mismatch w symbols = automata.mismatch lexical (Expected w) symbols
+
+-- this symbol is a colon
+abbrev pub is_colon : Symbol → Bool
+is_colon t.Colon = true
+is_colon symbol = false

@@ -15,11 +15,11 @@ use Rattle.oz_grammar.specs.declared.fault.What.{What}
 use Rattle.oz_grammar.specs.declared.fault.What.TheVariants as what
 use Rattle.oz_grammar.specs.declared.fault.Fault.{Fault}
 use Rattle.oz_grammar.specs.declared.fault.FaultKind.{FaultKind}
-use Rattle.oz_grammar.specs.declared.fault.FaultKind.TheVariants.{Twice}
+use Rattle.oz_grammar.specs.declared.fault.FaultKind.TheVariants.{Expected, Twice}
 use Rattle.oz_grammar.specs.Grammar.{Identifier, FeatureToken, AtomFeature, IntFeature}
 use Rattle.kernel_syntax.specs.BuiltIns.{arity_of}
 use Rattle.oz_grammar.specs.Scoping.{Scope, Fields, built_in_at, has_name, with_field, feature_of, place_feature, names_in}
-use Rattle.oz_grammar.specs.Faults.{or_else, where_so, number_fault, site_fault, deep_fault, use_fault, count_fault, called_fault, argument_fault, formal_fault, feature_token_fault, name_fault, placed_fault, fewer}
+use Rattle.oz_grammar.specs.Faults.{or_else, where_so, number_fault, site_fault, deep_fault, use_fault, count_fault, called_fault, argument_fault, formal_fault, feature_token_fault, name_fault, placed_fault, fewer, fault_here, lexical}
 use Rattle.oz_grammar.specs.Automata.{Automaton, read, then_points, or_points, is_done}
 
 -- where a statement may begin: at the front of a sequence, at that of a thread's body, or behind a statement
@@ -377,8 +377,8 @@ expected (p ∷ points) = expected_at p
 -- ---- reading
 
 -- the automaton of points
-abbrev pub points_automaton : Automaton (List Point)
-points_automaton = record { next = next; wrong = wrong; expected = expected; is_done = is_done }
+abbrev pub points_automaton : Automaton Symbol FaultKind Fault (List Point)
+points_automaton = record { next = next; wrong = wrong; expected = λ points. Expected (expected points); is_done = is_done; lexical = lexical; fault = fault_here }
 
 -- at the front of a program
 abbrev pub start : List Point

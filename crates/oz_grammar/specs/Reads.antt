@@ -5,11 +5,13 @@ use Rattle.oz_lexer.specs.Tokens.{Lexeme, Tokens}
 use Rattle.oz_lexer.specs.Place.{place_of}
 use Rattle.oz_grammar.specs.declared.symbol.Symbol.{Symbol}
 use Rattle.oz_grammar.specs.declared.fault.Fault.{Fault}
+use Rattle.oz_grammar.specs.declared.fault.FaultKind.{FaultKind}
 use Rattle.oz_grammar.specs.declared.fault.TextFault.{TextFault}
 use Rattle.oz_grammar.specs.Symbols.{symbol_of}
 use Rattle.oz_grammar.specs.Grammar.{Sequence, program_text}
 use Rattle.oz_grammar.specs.Scoping.{IsDerivation}
 use Rattle.oz_grammar.specs.Check.{check}
+use Rattle.oz_grammar.specs.Faults.{is_colon}
 use Rattle.oz_grammar.specs.Automata.{Grammar, IsFirstFault}
 use Rattle.oz_grammar.specs.Points.{Point, points_automaton, start}
 use Rattle.oz_grammar.specs.Table.{program_table}
@@ -37,8 +39,8 @@ Reads text p = ReadsIn ReadsSymbols text p
 -- ---- faults
 
 -- the grammar of the kernel language: derivations, their symbols and faults, and the automaton that reads them
-abbrev pub kernel : Grammar Sequence IsDerivation (List Point)
-kernel = record { text = program_text; check = check; automaton = points_automaton; start = start }
+abbrev pub kernel : Grammar Symbol FaultKind Fault Sequence IsDerivation (List Point)
+kernel = record { text = program_text; check = check; automaton = points_automaton; start = start; is_colon = is_colon }
 
 -- this is the first fault of the symbols
 abbrev pub FaultOfSymbols : List Symbol → Fault → Type 0

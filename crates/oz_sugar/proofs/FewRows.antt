@@ -21,9 +21,9 @@ use Rattle.oz_grammar.proofs.Longer.{names_longer, pattern_longer}
 use Rattle.surface_grammar.specs.Derivations.{Primary, Variable, Integer, Atom, Record, Calls, Procedure, Function, Brackets, Selects, Tail, Last, More, Value, Alone, Calculates, Tests, Pairs, IfValue, CaseValue, Arguments, no_arguments, argument_and, Fields, no_fields, placed_and, named_and, ValueClauses, no_clauses, clause_and, Statement, Skips, Tells, CallsStatement, Raises, Locals, ProcNamed, FunNamed, Threads, ThreadsAt, Ifs, Cases, Tries, TriesFinally, Finally, Clauses, no_cases, case_and, Sequence, One, Then, primary_text, tail_text, value_text, arguments_text, fields_text, value_clauses_text, statement_text, clauses_text, sequence_text, program_text}
 use Rattle.surface_grammar.specs.Trees.{with_last, with_value, record_value, pair_value, call_value, call_statement, primary_of, tail_of, value_in, arguments_of, fields_in, value_clauses_of, statement_of, clauses_of, sequence_of, program_of}
 use Rattle.surface_grammar.specs.Laws as surface
-use Rattle.oz_sugar.specs.Codes.{Code, Leaf, Codes, code_rows, codes_rows, more_rows, follow}
-use Rattle.oz_sugar.specs.Codes as code
-use Rattle.oz_sugar.specs.Put.{Places, place, declare, slot_places, operation_row, action_row, held, under, record_code, finally_code, put, put_all, put_fields, put_clauses, put_statement, put_statements, put_others, put_cases, put_branch, expanded_rows}
+use Rattle.sugar_rows.specs.Codes.{Code, Leaf, Codes, code_rows, codes_rows, more_rows, follow}
+use Rattle.sugar_rows.specs.Codes as code
+use Rattle.sugar_rows.specs.Put.{Places, place, declare, slot_places, operation_row, action_row, held, under, record_code, finally_code, put, put_all, put_fields, put_clauses, put_statement, put_statements, put_others, put_cases, put_branch, expanded_rows}
 use Rattle.oz_sugar.specs.Texts.{RowsAreFew}
 
 -- ---- how many rows a statement has

@@ -20,7 +20,7 @@ use Rattle.surface_grammar.specs.Trees.{record_value, call_statement, value_in, 
 use Rattle.surface_grammar.proofs.Lifting.{lift_arguments, lift_value, lift_plain, lift_block, lift_choice, lift_statement, lift, lifted}
 use Rattle.oz_sugar.specs.Laws.{KernelExpands}
 use Rattle.oz_sugar.specs.Deep.{or_else, too_deep, deep_value, deep_parts, deep_statement, deep_statements, deep}
-use Rattle.oz_sugar.proofs.KernelExpansions.{slot_of, fields_are, opening_behind, choice_behind, table_is}
+use Rattle.sugar_rows.proofs.KernelExpansions.{slot_of, fields_are, opening_behind, choice_behind, table_is}
 
 -- at this depth nothing is too deep
 within : (depth left : ℕ) (behind : Option ℕ) → depth ≤ 200 → too_deep depth left behind ≡ behind

@@ -1,12 +1,7 @@
 pub mod Programs
 pub mod PutFits
-pub mod WritingLaws
-pub mod Counts
-pub mod Declaring
 pub mod Expansions
 pub mod WorkedRows
-pub mod KernelCodes
-pub mod KernelExpansions
 pub mod KernelDepth
 pub mod TextLaws
 pub mod Pairs

@@ -14,7 +14,7 @@ use Rattle.kernel_syntax.specs.Texts.{HasTexts}
 use Rattle.kernel_syntax.proofs.PreorderLemmas.{program_of}
 use Rattle.oz_grammar.specs.Table.{code_at}
 use Rattle.oz_grammar.proofs.TableOrder.{body, Stands, row_before, ends_at, before_more}
-use Rattle.oz_sugar.specs.Codes.{Code, Leaf, Local, Proc, Thread, If, Case, Try, Codes, One, Then, code_rows, codes_rows, more_rows, codes_numbers}
+use Rattle.sugar_rows.specs.Codes.{Code, Leaf, Local, Proc, Thread, If, Case, Try, Codes, One, Then, code_rows, codes_rows, more_rows, codes_numbers}
 use Rattle.oz_sugar.specs.CodeLimits.{IsLeaf, FitsCode, FitsCodes}
 
 leaf_stands : (row : Stmt) (k d n : ℕ) (one : Bool) → IsLeaf row → Each (λ (j : ℕ). j < n) (named_positions row) → Stands (body k d n one) row []

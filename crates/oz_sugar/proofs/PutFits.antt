@@ -22,10 +22,10 @@ use Rattle.kernel_syntax.specs.declared.sugar.Action.TheVariants as action
 use Rattle.kernel_syntax.specs.declared.sugar.Field.{Field}
 use Rattle.kernel_syntax.specs.declared.sugar.Field.TheVariants as field
 use Rattle.kernel_syntax.specs.Sugar.{Value, Variable, Integer, Atom, Record, Apply, Proc, Fun, If, Case, Brackets, Values, no_values, value_and, ValueClauses, no_clauses, clause_and, Statement, Skip, Tell, Acts, Local, Thread, IfStatement, CaseStatement, Try, Finally, Statements, no_statements, statement_and, Clauses, no_cases, case_and, count_values, count_value_clauses, count_clauses, left_of, new_of, new_in, by_kind}
-use Rattle.oz_sugar.specs.Codes.{Code, Leaf, Codes, One, Then, follow}
-use Rattle.oz_sugar.specs.Codes as code
+use Rattle.sugar_rows.specs.Codes.{Code, Leaf, Codes, One, Then, follow}
+use Rattle.sugar_rows.specs.Codes as code
 use Rattle.oz_sugar.proofs.Programs.{codes_are_programs}
-use Rattle.oz_sugar.specs.Put.{Places, expanded_rows, place, positions_from, declare, field_place, slot_places, operation_row, action_row, held, under, record_code, finally_code, put, put_all, put_fields, put_clauses, put_statement, put_statements, put_others, put_cases, put_branch}
+use Rattle.sugar_rows.specs.Put.{Places, expanded_rows, place, positions_from, declare, field_place, slot_places, operation_row, action_row, held, under, record_code, finally_code, put, put_all, put_fields, put_clauses, put_statement, put_statements, put_others, put_cases, put_branch}
 use Rattle.oz_sugar.specs.Deep.{or_else, too_deep, deep_value, deep_parts, deep_fields, deep_clauses, deep_statement, deep_statements, deep_cases, deep}
 use Rattle.oz_sugar.specs.CodeLimits.{IsLeaf, FitsCode, FitsCodes}
 use Rattle.kernel_syntax.specs.SugarLimits.{FitsField, FitsOperation, FitsAction, FitsValue, FitsValues, FitsValueClauses, FitsStatement, FitsStatements, FitsOthers, FitsClauses}

@@ -20,7 +20,7 @@ use Rattle.oz_symbols.specs.TextSymbols.{start_of}
 use Rattle.oz_parser.specs.declared.error.ParseError.{ParseError}
 use Rattle.oz_parser.specs.declared.error.ParseError.TheVariants as errors
 use Rattle.oz_parser.specs.ParseAnswers.{IsErrorOf, IsParse, IfFault, IsSurface}
-use Rattle.oz_sugar.specs.Put.{Expand, expanded_rows}
+use Rattle.sugar_rows.specs.Put.{Expand, expanded_rows}
 use Rattle.oz_sugar.specs.Deep.{deep, IsTooDeep}
 use Rattle.oz_sugar.specs.Texts.{Reads, start_at, FaultOf, TextsArePrograms, KernelTextsRead}
 use Rattle.oz_sugar.specs.Laws.{KernelExpands}

@@ -7,7 +7,7 @@ use Rattle.kernel_syntax.specs.declared.stmt.Stmt.TheVariants as stmt
 use Rattle.kernel_syntax.specs.Scopes.{named_positions, features_in}
 use Rattle.kernel_syntax.specs.Program.{IsPattern, IsThreadSite, IsStmt}
 use Rattle.kernel_syntax.specs.Texts.{IsSpelledPattern, IsIntegerIfSome, HasTexts}
-use Rattle.oz_sugar.specs.Codes.{Code, Leaf, Local, Proc, Thread, If, Case, Try, Codes, One, Then}
+use Rattle.sugar_rows.specs.Codes.{Code, Leaf, Local, Proc, Thread, If, Case, Try, Codes, One, Then}
 
 -- a row without bodies
 abbrev pub IsLeaf : Stmt → Type 0

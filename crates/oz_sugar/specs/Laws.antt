@@ -5,7 +5,7 @@ use Rattle.kernel_syntax.specs.Sugar.{Statements}
 use Rattle.oz_grammar.specs.declared.symbol.Symbol.{Symbol}
 use Rattle.oz_grammar.specs.Reads as kernel
 use Rattle.surface_grammar.specs.Laws as surface
-use Rattle.oz_sugar.specs.Put.{Expand}
+use Rattle.sugar_rows.specs.Put.{Expand}
 use Rattle.oz_sugar.specs.Deep.{deep}
 
 -- symbols that are a program of the kernel are one with sugar, which stands for that program and is not too deep

@@ -10,7 +10,7 @@ use Rattle.oz_grammar.specs.declared.fault.TextFault.{TextFault}
 use Rattle.oz_grammar.specs.declared.fault.FaultKind.TheVariants.{Deep}
 use Rattle.oz_grammar.specs.Reads as kernel
 use Rattle.surface_grammar.specs.Texts as surface
-use Rattle.oz_sugar.specs.Put.{Expand}
+use Rattle.sugar_rows.specs.Put.{Expand}
 use Rattle.oz_sugar.specs.Deep.{deep}
 
 -- the text is statements with sugar that stand for this program, and none of them is too deep

@@ -6,45 +6,12 @@ ghost use Rattle.kernel_syntax.specs.SugarView.{value_of, values_in, parts_in, b
 ghost use Rattle.oz_sugar.specs.Deep.{or_else, too_deep, deep_value, deep_list, deep_head, deep_behind, deep_parts, deep_fields, deep_clauses, deep_statement, deep_statements, deep_cases, deep};
 
 use kernel_syntax::sugar::{Clause, Link, Pair, Statement, Value, ValueClause};
+use sugar_rows::{new_in, new_in_pair, new_of};
 
 fn is_variable(value: &Value) -> bool
     ensures { result ≡ by_kind (value_of value.now) true false }
 {
     matches!(value, Value::Variable(..))
-}
-
-/// How many new identifiers a part takes.
-pub fn new_of(value: &Value) -> usize
-    ensures value { result ≡ new_of (value_of value.now) }
-    ensures few { result ≤ 1 }
-{
-    match value {
-        Value::Variable(..) => 0,
-        _ => 1,
-    }
-}
-
-/// How many the parts of a list take.
-pub fn new_in(values: &[Value]) -> usize
-    ensures value { result ≡ new_in (values_in values.now) }
-    ensures few { result ≤ length values.now }
-{
-    let mut count = 0;
-    for value in values {
-        count += new_of(value);
-    }
-    count
-}
-
-/// How many a head and a tail take.
-#[tactic(auto, using(crate::proofs::Pairs::new_two))]
-pub fn new_in_pair(pair: &Pair) -> usize
-    ensures value { result ≡ new_in (parts_in pair.now) }
-    ensures few { result ≤ 2 }
-{
-    match pair {
-        Pair::Of(head, tail) => new_of(head) + new_of(tail),
-    }
 }
 
 fn left_of(value: &Value) -> usize

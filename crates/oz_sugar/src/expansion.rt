@@ -6,28 +6,26 @@ ghost use Rattle.kernel_syntax.specs.SugarView.{statements_in};
 ghost use Rattle.kernel_syntax.specs.SugarLimits.{FitsStatements};
 ghost use Rattle.kernel_syntax.specs.Program.{IsProgram};
 ghost use Rattle.oz_parser.specs.ParseAnswers.{IfFault};
-ghost use Rattle.oz_sugar.specs.Put.{Expand};
+ghost use Rattle.sugar_rows.specs.Put.{Expand};
 ghost use Rattle.oz_sugar.specs.Deep.{deep, IsTooDeep};
 
 use crate::depth::deep;
-use crate::writer::Writer;
 use kernel_syntax::sugar::Statement;
 use kernel_syntax::{Program, Stmt, Surface};
 use oz_lexer::line_and_column;
 use oz_parser::{FaultKind, ParseError, TextFault};
 use std::alloc::{AllocError, Global};
+use sugar_rows::rows_of;
 
 /// The rows of the program that a tree stands for, which is not too deep, with room for so many from the start.
-#[tactic(auto, using(crate::proofs::Expansions::written_are_programs, crate::proofs::Expansions::written_expand))]
-fn rows_of(alloc: Global, tree: &[Statement], room: usize) -> Result<Vec<Stmt>, AllocError>
+#[tactic(auto, using(crate::proofs::Expansions::expansions_fit))]
+fn program_rows(alloc: Global, tree: &[Statement], room: usize) -> Result<Vec<Stmt>, AllocError>
     requires fits { FitsStatements (statements_in tree.now) 0 }
     requires shallow { deep (statements_in tree.now) ≡ None }
     ensures program { IfOk result (λ r. IsProgram r.items) }
     ensures rows { IfOk result (λ r. Expand (statements_in tree.now) r.items) }
 {
-    let mut writer = Writer::new(alloc, room)?;
-    writer.statements(tree)?;
-    Ok(writer.into_rows())
+    rows_of(alloc, tree, room)
 }
 
 /// Where the symbol begins at which so many are left, and 0 where there is none.
@@ -62,7 +60,7 @@ pub fn expanded_rows(alloc: Global, surface: &Surface) -> Result<Vec<Stmt>, Pars
 {
     match deep(surface.tree()) {
         Some(left) => Err(ParseError::Text(too_deep(surface, left))),
-        None => Ok(rows_of(alloc, surface.tree(), surface.starts().len())?),
+        None => Ok(program_rows(alloc, surface.tree(), surface.starts().len())?),
     }
 }
 

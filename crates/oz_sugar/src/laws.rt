@@ -3,7 +3,7 @@
 ghost use Rattle.oz_grammar.specs.Laws.{AreOneOfBoth};
 ghost use Rattle.oz_sugar.specs.Laws.{KernelExpands};
 ghost use Rattle.oz_sugar.specs.Texts.{Reads, FaultOf, TextsArePrograms, KernelTextsRead, RowsAreFew};
-ghost use Rattle.oz_sugar.specs.Rows.{PartsAreNamed, TestsAreNamed, VariablesStay, BracketsAreNamed, FieldsAreNamed, ResultIsFormal, BranchesTell, ClausesNest, FinallyRuns, LeafFits, PartsGoDeeper, PartsFit, BracketsTakeNoLevel, FinallyTakesTwoLevels};
+ghost use Rattle.oz_sugar.specs.Rows.{LeafFits, PartsGoDeeper, PartsFit, BracketsTakeNoLevel, FinallyTakesTwoLevels};
 
 use oz_lexer::texts_divide;
 
@@ -29,20 +29,7 @@ pub fn rows_are_few()
     ensures { RowsAreFew }
 {}
 
-/// Worked examples: what programs with sugar stand for.
-pub fn expanded_examples()
-    ensures parts_are_named { PartsAreNamed }
-    ensures tests_are_named { TestsAreNamed }
-    ensures variables_stay { VariablesStay }
-    ensures brackets_are_named { BracketsAreNamed }
-    ensures fields_are_named { FieldsAreNamed }
-    ensures result_is_formal { ResultIsFormal }
-    ensures branches_tell { BranchesTell }
-    ensures clauses_nest { ClausesNest }
-    ensures finally_runs { FinallyRuns }
-{}
-
-/// Worked examples: how deep that is.
+/// Worked examples: how deep programs with sugar are.
 pub fn deep_examples()
     ensures leaf_fits { LeafFits }
     ensures parts_go_deeper { PartsGoDeeper }

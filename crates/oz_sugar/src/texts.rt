@@ -5,7 +5,7 @@ ghost use Rattle.kernel_syntax.specs.declared.stmt.Stmt.{Stmt};
 ghost use Rattle.oz_grammar.specs.declared.fault.TextFault.{TextFault};
 ghost use Rattle.oz_parser.specs.ParseAnswers.{IsParse, IsAnswer, IsFaultAnswer, IfFault};
 ghost use Rattle.kernel_syntax.specs.SugarView.{statements_in};
-ghost use Rattle.oz_sugar.specs.Put.{Expand};
+ghost use Rattle.sugar_rows.specs.Put.{Expand};
 ghost use Rattle.oz_sugar.specs.Deep.{deep, IsTooDeep};
 ghost use Rattle.oz_sugar.specs.Texts.{Reads, FaultOf};
 

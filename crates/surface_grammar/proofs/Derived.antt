@@ -3,31 +3,39 @@ use Rattle.std.proofs.Common.{◌≡◌, ◌∙◌, ◌⊎◌, inl, inr, List, [
 use Rattle.kernel_syntax.specs.Sugar.{Statements}
 use Rattle.oz_grammar.specs.declared.symbol.Symbol.{Symbol}
 use Rattle.oz_grammar.specs.declared.symbol.Symbol.TheVariants as t
-use Rattle.oz_grammar.specs.declared.fault.What.{What}
 use Rattle.oz_grammar.specs.declared.fault.Fault.{Fault}
 use Rattle.oz_grammar.specs.declared.fault.FaultKind.{FaultKind}
+use Rattle.oz_grammar.specs.declared.fault.FaultKind.TheVariants.{Expected}
 use Rattle.oz_grammar.specs.Symbols.{ends_once}
 use Rattle.oz_grammar.specs.Automata.{read_step}
 use Rattle.oz_grammar.proofs.FirstFaults.{IsRead, read_is_first, one_first_fault, passes_without}
 use Rattle.surface_grammar.specs.Derivations.{sequence_text, program_text}
-use Rattle.surface_grammar.specs.Points.{Point, expected, next, wrong, start, run}
+use Rattle.surface_grammar.specs.Points.{Point, expected, next, wrong, points_automaton, start, run}
 use Rattle.surface_grammar.specs.Trees.{program_of}
 use Rattle.surface_grammar.specs.Faults.{surface}
 use Rattle.surface_grammar.specs.Laws.{ReadsSymbols, FaultOfSymbols, SymbolsHaveOne, NeverBoth, OneFault, PointsTellFaults, PointsTellPrograms}
 use Rattle.surface_grammar.proofs.Runs.{program_run}
-use Rattle.surface_grammar.proofs.FaultRows.{check_row}
+use Rattle.oz_grammar.proofs.FaultRows.{faults_told}
+use Rattle.surface_grammar.proofs.FaultRows.{none_expected}
 use Rattle.surface_grammar.proofs.Leaves.{leads, leaves}
 use Rattle.surface_grammar.proofs.Roles.{look, roles}
 use Rattle.surface_grammar.proofs.StatementsTaken.{program_taken, through}
-use Rattle.surface_grammar.proofs.Ends.{none_bad, ends_there}
+use Rattle.surface_grammar.proofs.Ends.{none_lexical, ends_there}
 
 pub surface_is_read : IsRead surface look
-surface_is_read = record { reads = program_run; rows = check_row; roles = roles; through = through; none_bad = none_bad }
+surface_is_read = record {
+  reads = program_run;
+  none_expected = λ q s rest. none_expected q (expected s) rest;
+  told = faults_told;
+  roles = roles;
+  through = through;
+  none_lexical = none_lexical;
+}
 
 -- ---- what is read without a fault is taken
 
-read_taken : (w : What) (wrong : Option FaultKind) (x : Symbol) (xs : List Symbol) (o : Option (List Point)) → ((σ : List Point) → run xs σ ≡ None → (rest : List Symbol) × (leaves xs σ ≡ Some rest))
-    → read_step w wrong (x ∷ xs) (run xs) o ≡ None → (rest : List Symbol) × (leads (leaves xs) o ≡ Some rest)
+read_taken : (w : FaultKind) (wrong : Option FaultKind) (x : Symbol) (xs : List Symbol) (o : Option (List Point)) → ((σ : List Point) → run xs σ ≡ None → (rest : List Symbol) × (leaves xs σ ≡ Some rest))
+    → read_step points_automaton w wrong (x ∷ xs) (run xs) o ≡ None → (rest : List Symbol) × (leads (leaves xs) o ≡ Some rest)
 read_taken w wrong x xs None ih e = absurd cc
 read_taken w (Some kind) x xs (Some σ) ih e = absurd cc
 read_taken w None x xs (Some σ) ih e = ih σ e
@@ -36,7 +44,7 @@ leaves_read : (symbols : List Symbol) (σ : List Point) → run symbols σ ≡ N
 leaves_read [] [] e = ([], refl)
 leaves_read [] (p ∷ σ) e = absurd cc
 leaves_read (x ∷ xs) [] e = (x ∷ xs, refl)
-leaves_read (x ∷ xs) (p ∷ σ) e = read_taken (expected (p ∷ σ)) (wrong (p ∷ σ) (x ∷ xs)) x xs (next (p ∷ σ) x) (leaves_read xs) e
+leaves_read (x ∷ xs) (p ∷ σ) e = read_taken (Expected (expected (p ∷ σ))) (wrong (p ∷ σ) (x ∷ xs)) x xs (next (p ∷ σ) x) (leaves_read xs) e
 
 -- symbols in which nothing is wrong are a program
 pub points_tell_programs : PointsTellPrograms

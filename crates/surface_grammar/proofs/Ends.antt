@@ -1,9 +1,10 @@
 -- A text ends as what follows it: the symbols of values and statements are none that end texts.
-use Rattle.std.proofs.Common.{◌≡◌, List, [], ◌∷◌, ◌++◌, Bool, true, false, refl, sym, ap, ◌∙◌}
-use Rattle.oz_lexer.specs.declared.token.LexKind.{LexKind}
+use Rattle.std.proofs.Common.{◌≡◌, List, [], ◌∷◌, ◌++◌, Bool, true, false, Some, refl, sym, ap, ◌∙◌}
+use Rattle.oz_grammar.specs.declared.fault.FaultKind.{FaultKind}
 use Rattle.oz_grammar.specs.declared.symbol.Symbol.{Symbol}
 use Rattle.oz_grammar.specs.declared.symbol.Symbol.TheVariants as t
 use Rattle.oz_grammar.specs.Symbols.{ends_once}
+use Rattle.oz_grammar.specs.Faults.{lexical}
 use Rattle.oz_grammar.specs.Grammar.{feature_symbol, selection_symbol}
 use Rattle.oz_grammar.proofs.Ends.{PassesOver, mark_inner, selection_inner, names_pass, pattern_passes, ends_over, nothing_behind, has_bad, bad_over, bad_behind}
 use Rattle.surface_grammar.specs.Derivations.{Primary, Variable, Integer, Atom, Record, Calls, Procedure, Function, Brackets, Selects, Tail, Last, More, Value, Alone, Calculates, Tests, Pairs, IfValue, CaseValue, Arguments, no_arguments, argument_and, no_fields, placed_and, named_and, ValueClauses, no_clauses, clause_and, Statement, Skips, Tells, CallsStatement, Raises, Locals, ProcNamed, FunNamed, Threads, ThreadsAt, Ifs, Cases, Tries, TriesFinally, Finally, Clauses, no_cases, case_and, Sequence, One, Then, primary_text, tail_text, value_text, arguments_text, fields_text, value_clauses_text, statement_text, clauses_text, sequence_text, program_text}
@@ -94,7 +95,7 @@ pub program_ends : (q : Sequence) → ends_once (program_text q) ≡ true
 program_ends q = sequence_passes ends_once ends_over q (t.EndOfText ∷ [])
 
 -- no lexical fault stands in a program
-pub none_bad : (q : Sequence) (front : List Symbol) (kind : LexKind) (more : List Symbol) → front ++ t.Bad kind ∷ more ≡ program_text q → ⊥
-none_bad q front kind more e =
-    let bad : has_bad (program_text q) ≡ true = sym (ap has_bad e) ∙ bad_behind front kind more in
+pub none_lexical : (q : Sequence) (front : List Symbol) (x : Symbol) (kind : FaultKind) (more : List Symbol) → lexical x ≡ Some kind → front ++ x ∷ more ≡ program_text q → ⊥
+none_lexical q front x kind more lex e =
+    let bad : has_bad (program_text q) ≡ true = sym (ap has_bad e) ∙ bad_behind front x kind more lex in
     let good : has_bad (program_text q) ≡ false = sequence_passes has_bad bad_over q (t.EndOfText ∷ []) in cc

@@ -2,14 +2,15 @@
 use Rattle.std.proofs.Common.{◌≡◌, ℕ, ◌+◌, List, [], ◌∷◌, ◌++◌, length, Option, Some, None, subst}
 use Rattle.std.specs.Prelude.{nat_lt}
 use Rattle.tree_node.specs.declared.node.Feature.{Feature}
+use Rattle.oz_grammar.specs.declared.fault.What.{What}
 use Rattle.oz_grammar.specs.declared.symbol.Symbol.{Symbol}
 use Rattle.oz_grammar.specs.declared.symbol.Symbol.TheVariants as t
 use Rattle.oz_grammar.specs.declared.fault.Fault.{Fault}
 use Rattle.oz_grammar.specs.declared.fault.FaultKind.{FaultKind}
-use Rattle.oz_grammar.specs.declared.fault.FaultKind.TheVariants.{Twice, Wide}
+use Rattle.oz_grammar.specs.declared.fault.FaultKind.TheVariants.{Twice, Wide, Expected}
 use Rattle.oz_grammar.specs.Grammar.{Identifier, FeatureToken, AtomFeature, IntFeature, Selection, ByVariable, ByFeature}
 use Rattle.oz_grammar.specs.Scoping.{Scope, built_in_at, has_name, feature_of, place_feature, pattern_names}
-use Rattle.oz_grammar.specs.Faults.{or_else, where_not, where_so, number_fault, deep_fault, use_fault, room_fault, selected_fault, fewer}
+use Rattle.oz_grammar.specs.Faults.{or_else, where_not, where_so, number_fault, deep_fault, use_fault, room_fault, selected_fault, fewer, fault_here}
 use Rattle.oz_grammar.specs.Check.{check_selection}
 use Rattle.oz_grammar.proofs.FaultRows.{IsRow, Rows, not_row, or_row, number_row, site_row, deep_row, use_row, called_row, twice_row, room_row, selected_row, Found, stop_row, pattern_row, locals_row}
 use Rattle.surface_grammar.specs.Derivations.{Primary, Variable, Integer, Atom, Record, Calls, Procedure, Function, Brackets, Selects, Tail, Last, More, Value, Alone, Calculates, Tests, Pairs, IfValue, CaseValue, Arguments, no_arguments, argument_and, no_fields, placed_and, named_and, ValueClauses, no_clauses, clause_and, Statement, Skips, Tells, CallsStatement, Raises, Locals, ProcNamed, FunNamed, Threads, ThreadsAt, Ifs, Cases, Tries, TriesFinally, Finally, Clauses, no_cases, case_and, Sequence, One, Then}
@@ -117,3 +118,7 @@ mutual
 
 pub check_row : (q : Sequence) (f : Fault) → check q ≡ Some f → IsRow f.kind
 check_row q f e = subst Found e (sequence_row q [] 200 (t.EndOfText ∷ []) None tt)
+
+-- .. and says of no symbol that another was expected
+pub none_expected : (q : Sequence) (w : What) (rest : List Symbol) → check q ≡ Some (fault_here (Expected w) rest) → ⊥
+none_expected q w rest e = check_row q (fault_here (Expected w) rest) e

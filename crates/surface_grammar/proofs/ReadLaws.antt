@@ -4,7 +4,8 @@ use Rattle.kernel_syntax.specs.Sugar.{Statements}
 use Rattle.oz_grammar.specs.declared.symbol.Symbol.{Symbol}
 use Rattle.oz_grammar.specs.declared.fault.Fault.{Fault}
 use Rattle.oz_grammar.specs.Symbols.{symbol_of, ends_once}
-use Rattle.oz_grammar.proofs.TextLaws.{SymbolLaws, fault_stands}
+use Rattle.oz_grammar.proofs.FaultPlaces.{fault_stands}
+use Rattle.oz_grammar.proofs.TextLaws.{EndsHere, none_ends, stands_at, nothing_more, SymbolLaws}
 use Rattle.oz_grammar.proofs.TextSymbols.{text_spelled}
 use Rattle.surface_grammar.specs.Points.{run, start}
 use Rattle.surface_grammar.specs.Reading.{program_at}
@@ -60,7 +61,7 @@ symbol_laws = record {
   never_both = never_both;
   one_program = one_tree;
   one_fault = one_fault;
-  stands = λ symbols f ends F. fault_stands surface look surface_is_read program_ends symbols f ends (fault_found symbols f ends F);
+  stands = λ symbols f ends F. stands_at symbols f (fault_stands surface look surface_is_read EndsHere (record { some = none_ends; none_behind = nothing_more; programs = program_ends }) symbols f ends (fault_found symbols f ends F));
 }
 
 pub texts_fit : TextsFit

@@ -7,7 +7,7 @@ use Rattle.oz_grammar.specs.declared.symbol.Symbol.{Symbol}
 use Rattle.oz_grammar.specs.declared.symbol.Symbol.TheVariants as t
 use Rattle.oz_grammar.specs.declared.symbol.Sign.TheVariants as sign
 use Rattle.oz_grammar.specs.declared.fault.Fault.{Fault}
-use Rattle.oz_grammar.specs.declared.fault.FaultKind.TheVariants.{Deep}
+use Rattle.oz_grammar.specs.declared.fault.FaultKind.TheVariants.{Deep, Expected}
 use Rattle.oz_grammar.specs.declared.fault.What.{What}
 use Rattle.oz_grammar.specs.declared.fault.What.TheVariants as what
 use Rattle.oz_grammar.specs.Scoping.{Scope, declaration_of}
@@ -20,7 +20,7 @@ use Rattle.surface_grammar.specs.declared.parts.CallUse.TheVariants.{AsStatement
 use Rattle.surface_grammar.specs.declared.parts.Callable.{Callable}
 use Rattle.surface_grammar.specs.declared.parts.Callable.TheVariants.{OfProc, OfFun}
 use Rattle.surface_grammar.specs.declared.parts.Closer.TheVariants as closer
-use Rattle.surface_grammar.specs.Points.{OfStatements, Closing, Ends, BeforeElse, InClause, InTry, InHandler, WithText, Point, At, Here, LocalName, CallableName, Formals, ValueOf, CallName, PatternOf, SiteHere, CatchName, expected_statement, statement_fault, next_first, next, run, start}
+use Rattle.surface_grammar.specs.Points.{OfStatements, Closing, Ends, BeforeElse, InClause, InTry, InHandler, WithText, Point, At, Here, LocalName, CallableName, Formals, ValueOf, CallName, PatternOf, SiteHere, CatchName, expected_statement, statement_fault, next_first, next, run, start, points_automaton}
 use Rattle.surface_grammar.specs.Trees.{call_statement}
 use Rattle.surface_grammar.specs.Reading.{Read, sequence_at, closed_at, body_at, callable_at, callable_statement_at, call_at, call_statement_at, tell_at, raise_at, local_at, thread_at, if_at, clause_at, clause_end_at, clauses_at, with_clause, case_at, handler_at, handler_end_at, try_end_at, try_at, kind_at, is_at_statement, is_end_of, on_level, readers_over, no_readers, below, value_with, statement_with, program_at}
 use Rattle.surface_grammar.proofs.ReadSteps.{IsReadFrom, any, bind, done, begin, weaken, sign_then, sign_last, callable_name_read, first_local_read, site_read, catch_read, clause_head_then}
@@ -226,7 +226,7 @@ no_statement : (stage : Stage) (c : Closing) (scope : Scope) (d : ℕ) (w : What
 no_statement stage c scope d w [] σ b e none = ap (λ (v : What). Some (fault_here (mismatch v []) [])) (sym e)
 no_statement stage c scope d w (s ∷ rest) σ b e none =
     let nowhere : next (At stage c scope d ∷ σ) s ≡ None = rw (no_first c scope d s rest b, none) refl in
-    ap (λ (o : Option (List Point)). read_step (expected_statement stage c) (statement_fault scope d s) (s ∷ rest) (λ (k : List Point). run rest k) o) nowhere ∙ ap (λ (v : What). Some (fault_here (mismatch v (s ∷ rest)) (s ∷ rest))) (sym e)
+    ap (λ (o : Option (List Point)). read_step points_automaton (Expected (expected_statement stage c)) (statement_fault scope d s) (s ∷ rest) (λ (k : List Point). run rest k) o) nowhere ∙ ap (λ (v : What). Some (fault_here (mismatch v (s ∷ rest)) (s ∷ rest))) (sym e)
 
 statement_read : (d : ℕ) (v : ReadsValues d) (under : ReadsBelow d) (stage : Stage) (c : Closing) (scope : Scope) (w : What) (n : ℕ) (symbols : List Symbol) (σ : List Point) → w ≡ expected_statement stage c → NothingBeside stage c scope d symbols → length symbols ≤ n + 1
     → IsReadFrom n symbols (At stage c scope d ∷ σ) (statement_with d scope w symbols) any (λ s. At Later c scope d ∷ σ)

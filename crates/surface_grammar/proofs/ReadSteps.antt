@@ -10,6 +10,7 @@ use Rattle.oz_grammar.specs.declared.symbol.Sign.TheVariants as sign
 use Rattle.oz_grammar.specs.declared.symbol.Purpose.TheVariants as purpose
 use Rattle.oz_grammar.specs.declared.fault.Fault.{Fault}
 use Rattle.oz_grammar.specs.declared.fault.FaultKind.{FaultKind}
+use Rattle.oz_grammar.specs.declared.fault.FaultKind.TheVariants.{Expected}
 use Rattle.oz_grammar.specs.declared.fault.What.{What}
 use Rattle.oz_grammar.specs.declared.fault.What.TheVariants as what
 use Rattle.oz_grammar.specs.Grammar.{Identifier, FeatureToken, AtomFeature, IntFeature}
@@ -22,7 +23,7 @@ use Rattle.oz_grammar.specs.Reading.{◌>>=◌, fault_expected, fault_or, sign_a
 use Rattle.oz_grammar.proofs.Shorter.{pattern_short}
 use Rattle.oz_grammar.proofs.PartReads.{read_on, unless_read, chain, full, err_both}
 use Rattle.surface_grammar.specs.declared.parts.Callable.{Callable}
-use Rattle.surface_grammar.specs.Points.{Branch, Ends, InHandler, Point, At, Here, LocalName, LocalMore, CallableName, Formals, SelectionOf, PatternOf, BehindPattern, PatternTail, PatternField, PatternName, SiteHere, CatchName, clause_points, body_points, formal_wrong, run}
+use Rattle.surface_grammar.specs.Points.{Branch, Ends, InHandler, Point, At, Here, LocalName, LocalMore, CallableName, Formals, SelectionOf, PatternOf, BehindPattern, PatternTail, PatternField, PatternName, SiteHere, CatchName, clause_points, body_points, formal_wrong, run, points_automaton}
 use Rattle.surface_grammar.specs.Reading.{Read, formals_at, clause_head_at}
 
 -- What is read from these points has the fault that reading gives; else as many symbols are left, at most n, and they are read
@@ -68,7 +69,7 @@ sign_step s n symbols σ f Q behind (Err g) e le b = record { reads = e; good = 
 
 sign_reads : (s : Sign) (symbols : List Symbol) (σ : List Point) → run symbols (Here s ∷ σ) ≡ read_on (sign_at s symbols) (λ rest. run rest σ)
 sign_reads s [] σ = refl
-sign_reads s (x ∷ xs) σ = elim (is_sign s x) as (λ b. read_step (expected_sign s) None (x ∷ xs) (λ (k : List Point). run xs k) (then_points (cond b (Some []) None) σ) ≡ read_on (cond b (Ok xs) (fault_expected (expected_sign s) (x ∷ xs))) (λ rest. run rest σ)) [ true ↦ refl | false ↦ refl ]
+sign_reads s (x ∷ xs) σ = elim (is_sign s x) as (λ b. read_step points_automaton (Expected (expected_sign s)) None (x ∷ xs) (λ (k : List Point). run xs k) (then_points (cond b (Some []) None) σ) ≡ read_on (cond b (Ok xs) (fault_expected (expected_sign s) (x ∷ xs))) (λ rest. run rest σ)) [ true ↦ refl | false ↦ refl ]
 
 sign_shorter : (s : Sign) (n : ℕ) (symbols : List Symbol) → length symbols ≤ n + 1 → IfOk (sign_at s symbols) (λ rest. length rest ≤ n)
 sign_shorter s n [] le = tt

@@ -6,7 +6,7 @@ use Rattle.oz_grammar.specs.declared.symbol.Symbol.{Symbol}
 use Rattle.oz_grammar.specs.declared.symbol.Symbol.TheVariants as t
 use Rattle.oz_grammar.specs.Grammar.{FeatureToken, AtomFeature, IntFeature}
 use Rattle.oz_grammar.specs.Scoping.{Scope, place_feature}
-use Rattle.oz_grammar.specs.Faults.{deep_fault, fewer}
+use Rattle.oz_grammar.specs.Faults.{deep_fault, fewer, is_colon}
 use Rattle.oz_grammar.specs.Automata.{Look, Alone, ByColon, has_colon, SameRole}
 use Rattle.surface_grammar.specs.Points.{Whole, Part, Rest, Point, Behind, BehindAtom, FieldOf, FieldBegun, next_behind, next_atom, next_begun, where_taken, value_fault, given_fault, named_fault, field_fault, atom_wrong, begun_wrong, next, wrong}
 
@@ -26,18 +26,18 @@ look (FieldBegun scope d room before next m ∷ σ) x = role_of x
 look (p ∷ σ) x = Alone
 
 atom_fault_by : (scope : Scope) (d room : ℕ) (before : List Feature) (nth : ℕ) (a : List ℕ) (xs : List Symbol)
-    → field_fault scope d room before nth (t.Atom a ∷ xs) ≡ cond (has_colon (t.Atom a ∷ xs)) (named_fault room before (AtomFeature a)) (value_fault scope d (given_fault room before (place_feature nth)) (t.Atom a))
+    → field_fault scope d room before nth (t.Atom a ∷ xs) ≡ cond (has_colon is_colon (t.Atom a ∷ xs)) (named_fault room before (AtomFeature a)) (value_fault scope d (given_fault room before (place_feature nth)) (t.Atom a))
 atom_fault_by scope d room before nth a [] = refl
 atom_fault_by scope d room before nth a (t.Colon ∷ xs) = refl
 atom_fault_by scope d room before nth a (x ∷ xs) = refl
 
 integer_fault_by : (scope : Scope) (d room : ℕ) (before : List Feature) (nth : ℕ) (n : _) (xs : List Symbol)
-    → field_fault scope d room before nth (t.Integer n ∷ xs) ≡ cond (has_colon (t.Integer n ∷ xs)) (named_fault room before (IntFeature n)) (value_fault scope d (given_fault room before (place_feature nth)) (t.Integer n))
+    → field_fault scope d room before nth (t.Integer n ∷ xs) ≡ cond (has_colon is_colon (t.Integer n ∷ xs)) (named_fault room before (IntFeature n)) (value_fault scope d (given_fault room before (place_feature nth)) (t.Integer n))
 integer_fault_by scope d room before nth n [] = refl
 integer_fault_by scope d room before nth n (t.Colon ∷ xs) = refl
 integer_fault_by scope d room before nth n (x ∷ xs) = refl
 
-field_roles : (scope : Scope) (d room : ℕ) (before : List Feature) (nth : ℕ) (x : Symbol) (a b : List Symbol) → SameRole (role_of x) (x ∷ a) (x ∷ b) → field_fault scope d room before nth (x ∷ a) ≡ field_fault scope d room before nth (x ∷ b)
+field_roles : (scope : Scope) (d room : ℕ) (before : List Feature) (nth : ℕ) (x : Symbol) (a b : List Symbol) → SameRole is_colon (role_of x) (x ∷ a) (x ∷ b) → field_fault scope d room before nth (x ∷ a) ≡ field_fault scope d room before nth (x ∷ b)
 field_roles scope d room before nth (t.Atom i) a b h =
     atom_fault_by scope d room before nth i a ∙ ap (λ (c : Bool). cond c (named_fault room before (AtomFeature i)) (value_fault scope d (given_fault room before (place_feature nth)) (t.Atom i))) h.1 ∙ sym (atom_fault_by scope d room before nth i b)
 field_roles scope d room before nth (t.Integer n) a b h =
@@ -46,7 +46,7 @@ field_roles scope d room before nth (t.Integer n) a b h =
 field_roles scope d room before nth x a b h = refl
 
 -- the role of a symbol decides what is wrong at it
-pub roles : (σ : List Point) (x : Symbol) (a b : List Symbol) → SameRole (look σ x) (x ∷ a) (x ∷ b) → wrong σ (x ∷ a) ≡ wrong σ (x ∷ b)
+pub roles : (σ : List Point) (x : Symbol) (a b : List Symbol) → SameRole is_colon (look σ x) (x ∷ a) (x ∷ b) → wrong σ (x ∷ a) ≡ wrong σ (x ∷ b)
 roles [] x a b h = refl
 roles (Behind extent scope d r ∷ σ) x a b h = ap (where_taken (next_behind extent scope d r x) (deep_fault r)) (roles σ x a b h)
 roles (BehindAtom extent scope d ∷ σ) x a b h = ap (where_taken (next_atom extent scope d x) (atom_wrong d x)) (roles σ x a b h)

@@ -7,7 +7,7 @@ use Rattle.oz_grammar.specs.declared.symbol.Symbol.TheVariants as t
 use Rattle.oz_grammar.specs.declared.symbol.Sign.TheVariants as sign
 use Rattle.oz_grammar.specs.Grammar.{Identifier}
 use Rattle.oz_grammar.specs.Scoping.{Scope, built_in_at, pattern_names}
-use Rattle.oz_grammar.specs.Faults.{fewer}
+use Rattle.oz_grammar.specs.Faults.{fewer, is_colon}
 use Rattle.oz_grammar.specs.Points.{First, AfterThread, Later}
 use Rattle.oz_grammar.specs.Automata.{state_behind, Look, Alone, ByColon, has_colon, IsCompletedBy, IsViable, then_points, or_points}
 use Rattle.oz_grammar.proofs.Parts.{never, in_text, curly_text, then_text}
@@ -450,9 +450,9 @@ on_stack : (σ τ : List Point) (x : Symbol) → IsStack σ → next σ x ≡ So
 on_stack σ τ x h n = subst OnStack n (next_stack σ x h)
 
 -- .. with a colon behind the symbol, or without
-colon_through : (front : List Symbol) (σ τ : List Point) (x : Symbol) (xs : List Symbol) (c : Bool) → state_behind points_automaton front start ≡ Some σ → next σ x ≡ Some τ → IsStack τ → Begun τ → has_colon (x ∷ xs) ≡ c → IsViable surface ByColon front (x ∷ xs)
+colon_through : (front : List Symbol) (σ τ : List Point) (x : Symbol) (xs : List Symbol) (c : Bool) → state_behind points_automaton front start ≡ Some σ → next σ x ≡ Some τ → IsStack τ → Begun τ → has_colon is_colon (x ∷ xs) ≡ c → IsViable surface ByColon front (x ∷ xs)
 colon_through front σ τ x xs false e n h b c =
-    let closed : has_colon (x ∷ completion τ) ≡ false = ap (λ (ρ : List Point). has_colon (x ∷ completion ρ)) b.is in
+    let closed : has_colon is_colon (x ∷ completion τ) ≡ false = ap (λ (ρ : List Point). has_colon is_colon (x ∷ completion ρ)) b.is in
     record { more = x ∷ completion τ; same = ((completion τ, refl), c ∙ sym closed); goes_on = goes_on_with front (x ∷ completion τ) σ e (led x (completion τ) σ τ n (all_completes τ h)) }
 colon_through front σ τ x xs true e n h b c =
     let behind : List Symbol = t.Colon ∷ t.Integer None ∷ t.CloseRound ∷ completion b.behind in
@@ -462,7 +462,7 @@ colon_through front σ τ x xs true e n h b c =
 
 through_by : (l : Look) (front : List Symbol) (σ τ : List Point) (x : Symbol) (xs : List Symbol) → look σ x ≡ l → state_behind points_automaton front start ≡ Some σ → next σ x ≡ Some τ → IsStack τ → IsViable surface l front (x ∷ xs)
 through_by Alone front σ τ x xs k e n h = record { more = x ∷ completion τ; same = (completion τ, refl); goes_on = goes_on_with front (x ∷ completion τ) σ e (led x (completion τ) σ τ n (all_completes τ h)) }
-through_by ByColon front σ τ x xs k e n h = colon_through front σ τ x xs (has_colon (x ∷ xs)) e n h (role_begun σ τ x k n) refl
+through_by ByColon front σ τ x xs k e n h = colon_through front σ τ x xs (has_colon is_colon (x ∷ xs)) e n h (role_begun σ τ x k n) refl
 
 -- some program goes on through each symbol that is taken, in its role
 pub through : (front : List Symbol) (σ τ : List Point) (x : Symbol) (xs : List Symbol) → state_behind points_automaton front start ≡ Some σ → next σ x ≡ Some τ → IsViable surface (look σ x) front (x ∷ xs)

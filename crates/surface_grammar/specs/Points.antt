@@ -14,12 +14,12 @@ use Rattle.oz_grammar.specs.declared.symbol.Sign.TheVariants as sign
 use Rattle.oz_grammar.specs.declared.symbol.Purpose.TheVariants as purpose
 use Rattle.oz_grammar.specs.declared.fault.Fault.{Fault}
 use Rattle.oz_grammar.specs.declared.fault.FaultKind.{FaultKind}
-use Rattle.oz_grammar.specs.declared.fault.FaultKind.TheVariants.{Twice, Wide}
+use Rattle.oz_grammar.specs.declared.fault.FaultKind.TheVariants.{Expected, Twice, Wide}
 use Rattle.oz_grammar.specs.declared.fault.What.{What}
 use Rattle.oz_grammar.specs.declared.fault.What.TheVariants as what
 use Rattle.oz_grammar.specs.Grammar.{Identifier, FeatureToken, AtomFeature, IntFeature}
 use Rattle.oz_grammar.specs.Scoping.{Scope, Fields, built_in_at, has_name, with_field, feature_of, place_feature, names_in}
-use Rattle.oz_grammar.specs.Faults.{or_else, where_so, where_not, number_fault, site_fault, deep_fault, use_fault, count_fault, called_fault, room_fault, name_fault, fewer}
+use Rattle.oz_grammar.specs.Faults.{or_else, where_so, where_not, number_fault, site_fault, deep_fault, use_fault, count_fault, called_fault, room_fault, name_fault, fewer, fault_here, lexical}
 use Rattle.oz_grammar.specs.Points.{Stage, First, AfterThread, Later, is_sign, expected_sign, next_selection, on_variable, on_integer, stmt_fault, value_wrong, field_wrong, by_name, by_number}
 use Rattle.oz_grammar.specs.Automata.{Automaton, read, then_points, or_points, is_done}
 use Rattle.surface_grammar.specs.declared.parts.CallUse.{CallUse}
@@ -451,8 +451,8 @@ wrong (p ∷ points) (symbol ∷ symbols) = wrong_of p symbol
 -- ---- reading
 
 -- the automaton of points
-abbrev pub points_automaton : Automaton (List Point)
-points_automaton = record { next = next; wrong = wrong; expected = expected; is_done = is_done }
+abbrev pub points_automaton : Automaton Symbol FaultKind Fault (List Point)
+points_automaton = record { next = next; wrong = wrong; expected = λ points. Expected (expected points); is_done = is_done; lexical = lexical; fault = fault_here }
 
 -- at the front of a program
 abbrev pub start : List Point

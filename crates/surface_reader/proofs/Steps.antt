@@ -12,7 +12,7 @@ use Rattle.oz_grammar.specs.Faults.{fewer}
 use Rattle.oz_grammar.specs.Reading.{◌>>=◌, fault_expected}
 use Rattle.surface_grammar.specs.declared.parts.Closer.TheVariants as closer
 use Rattle.surface_grammar.specs.Reading.{Readers, on_level, is_at_statement, is_at_compound, variable_at, integer_at, compound_at, selections_at, behind_head_at, behind_part_at, if_value_at, case_value_at, kind_at, sequence_at, below, program_at}
-use Rattle.surface_reader.specs.Signs.{is_variable, is_integer, is_if, is_case, goes_on}
+use Rattle.surface_parts.specs.Signs.{is_variable, is_integer, is_if, is_case, goes_on}
 use Rattle.surface_reader.specs.Levels.{read_value, read_primary, read_part, read_operand, read_tail, read_statement}
 
 pub value_is : (d : ℕ) (scope : Scope) (holder : Option FaultKind) (w : What) (symbols : List Symbol)

@@ -16,7 +16,7 @@ use Rattle.surface_grammar.specs.declared.parts.Closer.{Closer}
 use Rattle.surface_grammar.specs.declared.parts.Closer.TheVariants as closer
 use Rattle.surface_grammar.specs.Trees.{with_last}
 use Rattle.surface_grammar.specs.Reading.{Read, ValueReader, StatementReader, FieldsSoFar, wanted_at, arguments_at, is_close, field_at, fields_at, is_end_of, expected_behind, with_statement, others_at, selections_at, with_value_clause, value_clause_at, value_clause_end_at, value_clauses_at, with_clause, clause_at, clause_end_at, clauses_at}
-use Rattle.surface_reader.specs.Signs.{is_dot, is_clause}
+use Rattle.surface_parts.specs.Signs.{is_dot, is_clause}
 
 -- two steps behind the same first one
 behind_same : {A B : Type 0} (r : Result A Fault) (f g : A → Result B Fault) → ((x : A) → f x ≡ g x) → (r >>= f) ≡ (r >>= g)

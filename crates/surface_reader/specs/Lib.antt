@@ -1,4 +1,2 @@
 pub mod State
-pub mod Slots
-pub mod Signs
 pub mod Levels

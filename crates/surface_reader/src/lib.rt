@@ -5,16 +5,13 @@
 //! Promises: `read_program` gives what `surface_grammar` says that the symbols are read as (`program_at`, specs/Reading.antt there), the
 //! tree or the first fault, or nothing but want of memory. It goes once over the symbols, and calls itself at most 200 levels deep.
 //!
-//! Stands on: `oz_phrases` (what statements are made of), `surface_grammar` (how symbols are read), `kernel_syntax` (trees).
+//! Stands on: `surface_parts` (trees of their parts), `oz_phrases` (what statements are made of), `surface_grammar` (how symbols are read), `kernel_syntax` (trees).
 //!
 //! Tests alone show no promise of it; tables in `text_tests` try texts, worked by hand.
 //!
 //! Sources: Van Roy and Haridi, *Concepts, Techniques, and Models of Computer Programming*, section 2.6.
 #![tactic(auto)]
 
-mod formals;
 mod reader;
-mod signs;
-mod trees;
 
 pub use reader::read_program;

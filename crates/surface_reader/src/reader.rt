@@ -8,13 +8,13 @@ ghost use Rattle.surface_grammar.specs.Reading.{program_at};
 ghost use Rattle.surface_reader.specs.State.{state_of, IsBehind};
 ghost use Rattle.surface_reader.specs.Levels.{IsLevel, IsInside};
 
-use crate::signs::behind;
 use kernel_syntax::sugar::Statement;
 use oz_grammar::{FaultKind, Sign, Symbol, What};
 use oz_phrases::{Scope, Stop, fault, sign};
 use std::alloc::{AllocError, Global};
 use std::marker::Model;
 use surface_grammar::Closer;
+use surface_parts::behind;
 use tree_node::Text;
 
 mod branches;

@@ -9,16 +9,15 @@ ghost use Rattle.surface_reader.specs.State.{IsBehind, IsNotBefore};
 ghost use Rattle.surface_reader.specs.Levels.{read_value, read_statement};
 
 use super::Reader;
-use crate::signs::{is_clause, is_end_of};
-use crate::trees::{
-    case_statement, case_value, finally, if_statement, if_value, push_clause, push_value_clause,
-    try_statement,
-};
 use kernel_syntax::Pattern;
 use kernel_syntax::sugar::{Clause, Statement, Value, ValueClause};
 use oz_grammar::{Sign, Symbol, What};
 use oz_phrases::{Stop, catch_name, mismatch, pattern};
 use surface_grammar::Closer;
+use surface_parts::{
+    case_statement, case_value, finally, if_statement, if_value, is_clause, is_end_of, push_clause,
+    push_value_clause, try_statement,
+};
 
 impl<'t> Reader<'t> {
     /// An `if` as a value, behind that word. It is not inlined, so that other values do without the stack memory that it needs.

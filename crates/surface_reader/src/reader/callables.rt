@@ -8,11 +8,11 @@ ghost use Rattle.surface_reader.specs.State.{IsBehind};
 ghost use Rattle.surface_reader.specs.Levels.{readers};
 
 use super::Reader;
-use crate::trees::{function, procedure};
 use kernel_syntax::sugar::{Statement, Value};
 use oz_grammar::{Sign, What};
 use oz_phrases::{Stop, used_variable};
 use surface_grammar::Callable;
+use surface_parts::{function, procedure};
 
 impl<'t> Reader<'t> {
     /// One as a value, behind its word.

@@ -9,13 +9,12 @@ ghost use Rattle.surface_reader.specs.State.{IsBehind};
 ghost use Rattle.surface_reader.specs.Levels.{read_value};
 
 use super::Reader;
-use crate::signs::is_close;
-use crate::trees::{call_statement, call_value, push_value};
 use kernel_syntax::BuiltIn;
 use kernel_syntax::sugar::{Statement, Value};
 use oz_grammar::{FaultKind, Symbol, What};
 use oz_phrases::{Stop, arity_of, built_in_at, close, mismatch, position_or_zero, used_variable};
 use surface_grammar::CallUse;
+use surface_parts::{call_statement, call_value, is_close, push_value};
 use tree_node::MOST_ITEMS;
 
 /// What is called, by its name: what is built in, or the position of an identifier; and the arguments.

@@ -10,14 +10,15 @@ ghost use Rattle.surface_grammar.specs.Points.{given_fault};
 ghost use Rattle.surface_grammar.specs.Reading.{atom_at, fields_at, field_at, named_at, placed_at};
 ghost use Rattle.surface_reader.specs.State.{IsBehind, IsNotBefore};
 ghost use Rattle.surface_reader.specs.Levels.{read_value};
-ghost use Rattle.surface_reader.specs.Slots.{so_far};
+ghost use Rattle.surface_parts.specs.Slots.{so_far};
 
 use super::Reader;
-use crate::signs::is_close_round;
-use crate::trees::{Fields, add_field, is_given, no_fields, place_feature, record_value};
 use kernel_syntax::sugar::{Field, Value};
 use oz_grammar::{FaultKind, Symbol, What};
 use oz_phrases::{Stop, fault};
+use surface_parts::{
+    Fields, add_field, is_close_round, is_given, no_fields, place_feature, record_value,
+};
 use tree_node::{Feature, Integer, MOST_ITEMS, Text};
 
 /// What is wrong with one more field of this feature, where there is room for so many.

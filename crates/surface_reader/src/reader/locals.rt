@@ -8,10 +8,10 @@ ghost use Rattle.surface_grammar.specs.Reading.{formals_at};
 ghost use Rattle.surface_reader.specs.State.{IsDeclaring, HasDeclared};
 
 use super::Reader;
-use crate::formals::formal_wrong;
 use oz_grammar::{Symbol, What};
 use oz_phrases::{Stop, count_fault, fault, mismatch};
 use surface_grammar::Callable;
+use surface_parts::formal_wrong;
 
 impl<'t> Reader<'t> {
     /// The names of a `local` behind those that are declared from `outer` on, up to `in`.

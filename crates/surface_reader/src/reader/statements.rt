@@ -9,12 +9,14 @@ ghost use Rattle.surface_reader.specs.State.{IsBehind, IsNotBefore};
 ghost use Rattle.surface_reader.specs.Levels.{read_value, read_statement, readers};
 
 use super::Reader;
-use crate::signs::{expected_behind, is_at_statement, is_end_of};
-use crate::trees::{first_statement, local, one_statement, push_statement, raise, thread};
 use kernel_syntax::sugar::Statement;
 use oz_grammar::{Sign, Symbol, What};
 use oz_phrases::{Stop, mismatch, site, used_variable};
 use surface_grammar::{Callable, Closer};
+use surface_parts::{
+    expected_behind, first_statement, is_at_statement, is_end_of, local, one_statement,
+    push_statement, raise, thread,
+};
 use tree_node::Integer;
 
 impl<'t> Reader<'t> {

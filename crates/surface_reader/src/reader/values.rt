@@ -8,15 +8,15 @@ ghost use Rattle.surface_reader.specs.State.{IsBehind, IsNotBefore};
 ghost use Rattle.surface_reader.specs.Levels.{read_value, read_primary, read_part, read_operand, read_tail, readers};
 
 use super::{Reader, inside};
-use crate::signs::{
-    behind, goes_on, is_at_compound, is_case, is_dot, is_if, is_integer, is_variable,
-};
-use crate::trees::{apply_two, brackets, pair_value, select};
 use kernel_syntax::sugar::{Operation, Value};
 use oz_grammar::{FaultKind, Sign, Symbol, What};
 use oz_phrases::{Read, Scope, Stop, fault, mismatch, selection, used_variable};
 use std::alloc::Global;
 use surface_grammar::Callable;
+use surface_parts::{
+    apply_two, behind, brackets, goes_on, is_at_compound, is_case, is_dot, is_if, is_integer,
+    is_variable, pair_value, select,
+};
 use tree_node::Integer;
 
 /// What is selected in a part of a value, as often as a dot follows.

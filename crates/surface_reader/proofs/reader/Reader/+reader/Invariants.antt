@@ -3,7 +3,7 @@ use Rattle.kernel_syntax.specs.Sugar.{no_values, no_clauses, no_statements, stat
 use Rattle.kernel_syntax.specs.SugarView.{values_in, value_clauses_in, statement_of, statements_in, clauses_in}
 use Rattle.surface_grammar.specs.Reading.{wanted_at, arguments_at, fields_at, others_at, value_clauses_at, clauses_at}
 use Rattle.surface_reader.specs.Levels.{read_value, read_statement}
-use Rattle.surface_reader.specs.Slots.{so_far}
+use Rattle.surface_parts.specs.Slots.{so_far}
 use Rattle.surface_reader.proofs.reader.Reader.+reader.Given as goal
 
 abbrev pub decreases-primary : goal.decreases-primary

@@ -1,5 +1,0 @@
-use Rattle.kernel_syntax.proofs.SugarItems.{acts_of}
-use Rattle.surface_reader.proofs.trees.act.Goals as goal
-
-pub returns : goal.returns
-returns c = acts_of c.args.left c.args.action c.args.parts

@@ -1,5 +1,0 @@
-use Rattle.kernel_syntax.proofs.SugarItems.{finally_of}
-use Rattle.surface_reader.proofs.trees.finally.Goals as goal
-
-pub returns : goal.returns
-returns c = finally_of c.args.left c.args.body c.args.last

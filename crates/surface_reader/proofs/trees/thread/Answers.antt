@@ -1,5 +1,0 @@
-use Rattle.kernel_syntax.proofs.SugarItems.{thread_of}
-use Rattle.surface_reader.proofs.trees.thread.Goals as goal
-
-pub returns : goal.returns
-returns c = thread_of c.args.left c.args.at c.args.body
