@@ -1,11 +1,22 @@
 -- Worked examples: how deep programs with sugar are, computed by hand. A value whose first kernel statement has this depth is too deep
 -- at this place, or not.
-use Rattle.std.specs.Prelude.{◌≡◌, Some, None}
+use Rattle.std.specs.Prelude.{◌≡◌, ℕ, Some, None, pos}
 use Rattle.kernel_syntax.specs.declared.stmt.Op.TheVariants as op
 use Rattle.kernel_syntax.specs.declared.sugar.Operation.TheVariants as operation
-use Rattle.kernel_syntax.specs.Sugar.{Apply, Brackets, Skip, Finally}
-use Rattle.sugar_rows.specs.Rows.{one, two, int}
+use Rattle.kernel_syntax.specs.Sugar.{Value, Values, Statement, Statements, Integer, Apply, Brackets, Skip, Finally, no_values, value_and, no_statements, statement_and}
 use Rattle.oz_sugar.specs.Deep.{deep_value, deep_statement}
+
+-- a statement alone
+abbrev one : Statement → Statements
+one s = statement_and s no_statements
+
+-- two values
+abbrev two : Value → Value → Values
+two a b = value_and a (value_and b no_values)
+
+-- an integer
+abbrev int : ℕ → Value
+int n = Integer 0 (pos n)
 
 -- 1, at the last level; 1 + 2, whose parts are a level deeper each, in the `local` of the one before
 abbrev pub LeafFits : Type 0
