@@ -1,0 +1,12 @@
+pub mod RaiseLemmas
+pub mod BegunLemmas
+pub mod UncaughtLemmas
+pub mod ReportLemmas
+pub mod RowLemmas
+pub mod SnocLemmas
+pub mod TellLemmas
+pub mod BirthLemmas
+pub mod TraceLemmas
+pub mod WaitLemmas
+pub mod FirstLemmas
+pub mod LivingLemmas
