@@ -12,8 +12,8 @@
 //! `Surface` has a tree within the limits (`FitsStatements`: what it uses is declared, each list has its items, and all can be
 //! spelled) and places within its text; that its text reads as its tree is a promise of the reader, and not of the type.
 //!
-//! Stands on: `tree_node`, for texts, features, their order and how they are spelled; `list_stack`, for the bodies that are still
-//! to come. That a table is a program exactly where a text is read as it stands where texts are read and printed
+//! Stands on: `tree_node`, for texts, features, their order and how they are spelled, and for the stack of the bodies that are
+//! still to come. That a table is a program exactly where a text is read as it stands where texts are read and printed
 //! (`oz_show::programs_are_texts`).
 //!
 //! `threads` shows that threads may share a program.

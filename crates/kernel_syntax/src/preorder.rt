@@ -9,9 +9,8 @@ ghost use Rattle.kernel_syntax.specs.Program.{IsStmt};
 ghost use Rattle.kernel_syntax.specs.Preorder.{inner_body, sequence_body, bodies_in, DeclaresBehind, IsWholeSequence, IsBody, HasRoom, IsInPreorder};
 
 use crate::stmt::{Selector, Stmt, features};
-use list_stack::Stack;
 use std::alloc::{AllocError, AllocFailed, Global};
-use tree_node::{CodeId, Feature};
+use tree_node::{CodeId, Feature, Stack};
 
 /// A body that is still to come: the number of its statement, how many levels of statements it may have, how many
 /// identifiers are declared around it, and whether it is one of a sequence.

@@ -7,7 +7,7 @@
 //! (`canonical_text_reads_back`); so a table is a program exactly where a text is read as it (`programs_are_texts`).
 //! Refusals and last lines are spelled as defined, and each status has its number (`Status::number`).
 //!
-//! Stands on: `oz_grammar` (the canonical form, faults), `kernel_syntax` (programs), `list_stack`, `tree_node` (spelling).
+//! Stands on: `oz_grammar` (the canonical form, faults), `kernel_syntax` (programs), `tree_node` (spelling, stacks).
 //!
 //! Tests alone show no promise of it; tables in `text_tests` try texts and what is printed of them, worked by hand.
 //!

@@ -8,11 +8,10 @@ ghost use Rattle.oz_grammar.specs.Canonical.{name_at, names_from, feature_token,
 ghost use Rattle.kernel_syntax.specs.Scopes.{features_in};
 
 use kernel_syntax::Pattern;
-use list_stack::Stack;
 use oz_grammar::{Numeral, Symbol};
 use std::alloc::{AllocError, Global};
 use std::marker::Model;
-use tree_node::{Feature, Text};
+use tree_node::{Feature, Stack, Text};
 
 /// Symbols with the next one at the front: each is put before those that stand there.
 #[derive(Drop)]

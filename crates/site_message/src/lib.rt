@@ -11,7 +11,7 @@
 //! (`end_of`), and the functions of `laws` say what follows: `travelling_tells`, `travelling_grows` (how a turn changes
 //! what travels), `deliveries_add_up`, `wired_tells`, `quiet_tells`, `worked_ends`.
 //!
-//! It stands on `pick_list`, `list_stack` and `tree_node`. `threads` shows that all of it may cross from thread to thread. Nothing
+//! It stands on `pick_list` and `tree_node`. `threads` shows that all of it may cross from thread to thread. Nothing
 //! is left to tests.
 //!
 //! Sources: Haridi and others, *Efficient Logic Variables for Distributed Computing* (TOPLAS 21(3), 1999), and Van Roy

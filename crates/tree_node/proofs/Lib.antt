@@ -1,6 +1,7 @@
 pub mod ClassLemmas
 pub mod DetLemmas
 pub mod SoundLemmas
+pub mod ShownLemmas
 pub mod GrownLemmas
 pub mod OrderLemmas
 pub mod RowsShown

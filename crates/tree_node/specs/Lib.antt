@@ -11,6 +11,7 @@ pub mod Fields
 pub mod Words
 pub mod Spelling
 pub mod Shown
+pub mod ShownStays
 pub mod Rows
 pub mod State
 pub mod Names

@@ -3,6 +3,7 @@
 ghost use Rattle.tree_node.specs.Classes.{RootsTellClasses, NodesAreDet, NoneHasNone, SoundHasOne, OneNamesClass, RootNamesClass};
 ghost use Rattle.tree_node.specs.Fields.{FeaturesAreDistinct, PlacesTellFeatures, OrderTellsFields};
 ghost use Rattle.tree_node.specs.Compare.{EqualIsTold, EqualIsFound, DifferentIsTold, DifferentIsFound, OpenIsTold, OpenIsAll, NeverBoth, EqualStays, DifferentStays, DifferentIsNeverSame, OpenStays, OpenListStays, MoreIsWithin, AgreeingAnswer};
+ghost use Rattle.tree_node.specs.ShownStays.{ShownStays};
 ghost use Rattle.tree_node.specs.Rows.{RingIsCut, FieldsByName, FieldsByPlace, OtherBar, ListInList, ThreeNodes, OneNode, FieldIsNeeded, CutIsNotNeeded, ProcShows, CellShows, PortShows, LeastShows, ReservedShows, EmptyShows, PartsAreTold, EitherIsBound, RingIsMet, PairsAreCompared};
 
 /// Two variables have one root exactly where a path of equations joins them.
@@ -57,6 +58,11 @@ pub fn comparisons_stay()
     ensures list { OpenListStays }
     ensures more { MoreIsWithin }
     ensures agreeing { AgreeingAnswer }
+{}
+
+/// What shows as a text shows so in each sound store that says more, and what needs a variable needs it there as long as that has no node.
+pub fn shown_stays()
+    ensures { ShownStays }
 {}
 
 /// Records and lists as they are shown.

@@ -9,9 +9,10 @@
 //! Promises: copies equal what they copy (`copy_node`, `copy_term`, `copy_feature`, `copy_pick`); tests and orders are those
 //! of the definitions (`equal_text`, `equal_fields`, `equal_feature`, `compare_features`, `is_below`); atoms,
 //! features and heads are spelled as defined, with quotes where they could not be read back (`atom_text`, `feature_text`,
-//! `node_head`, `is_reserved`); an environment is a finite map (`Env`, `RoomyEnv`); lists are lists (`Seq`, `Shared`, `Line`).
+//! `node_head`, `is_reserved`); an environment is a finite map (`Env`, `RoomyEnv`); lists are lists (`Seq`, `Shared`, `Line`),
+//! and a `Stack` is the list of its items, the top first: after want of memory it is as before, and the item is given back.
 //! Laws of the definitions, as functions that do nothing: `roots_tell_classes`, `nodes_tell_det`, `sound_stores`,
-//! `one_names_class`, `fields_in_order`, `comparisons_are_exact`, `comparisons_stay`, and worked examples (`worked_goals`, `worked_comparisons`, `shown_records`, `shown_cuts`, `shown_nodes`).
+//! `one_names_class`, `fields_in_order`, `comparisons_are_exact`, `comparisons_stay`, `shown_stays`, and worked examples (`worked_goals`, `worked_comparisons`, `shown_records`, `shown_cuts`, `shown_nodes`).
 //! The laws of look-ups in association lists hold for keys and values of every type, so they are lemmas (`AssocLemmas`).
 //!
 //! Stands on: the standard library alone.
@@ -35,6 +36,7 @@ mod pick;
 mod seq;
 mod shared;
 mod spelling;
+mod stack;
 mod threads;
 mod words;
 
@@ -43,8 +45,8 @@ pub use integer::Integer;
 pub use item::Item;
 pub use laws::{
     comparisons_are_exact, comparisons_stay, fields_in_order, nodes_tell_det, one_names_class,
-    roots_tell_classes, shown_cuts, shown_nodes, shown_records, sound_stores, worked_comparisons,
-    worked_goals,
+    roots_tell_classes, shown_cuts, shown_nodes, shown_records, shown_stays, sound_stores,
+    worked_comparisons, worked_goals,
 };
 pub use limits::{MOST_ITEMS, MOST_MESSAGES, MOST_SITES, MOST_STEPS, MOST_UNITS};
 pub use line::Line;
@@ -61,4 +63,5 @@ pub use pick::{Pick, copy_pick, plain_pick};
 pub use seq::Seq;
 pub use shared::Shared;
 pub use spelling::{atom_text, feature_text, node_head};
+pub use stack::Stack;
 pub use words::{is_reserved, is_reserved_word};

@@ -11,8 +11,8 @@ use Rattle.tree_node.specs.Shown.{Show, Text, Needs, head_and_tail, is_cut, show
 use Rattle.tree_node.proofs.ClassLemmas.{Contains-tail, same_name_decides}
 use Rattle.tree_node.proofs.CompareLaws.{more_is_within}
 use Rattle.tree_node.proofs.LookedLemmas.{within_itself}
-use Rattle.shown_laws.specs.Shown.{Refines}
-use Rattle.shown_laws.proofs.ShownLemmas.{within_on, node_stays, brackets_same, var_shows}
+use Rattle.tree_node.specs.ShownStays.{Refines}
+use Rattle.tree_node.proofs.ShownLemmas.{within_on, node_stays, brackets_same, var_shows}
 use Rattle.tree_store.specs.Walk.{text_after, text_end, between, has_brackets, head_front, head_back}
 use Rattle.tree_store.specs.Shows.{IsFrontAt, IsShownFront, WaitsAt, IsAdded, AreShownFronts}
 use Rattle.tree_store.specs.declared.walk.Bounds.{Bounds}

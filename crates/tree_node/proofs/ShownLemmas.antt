@@ -10,7 +10,7 @@ use Rattle.tree_node.specs.Shown.{Show, Text, Needs, Walk, and_then, is_feature,
 use Rattle.tree_node.specs.Compare.{IsWithin}
 use Rattle.tree_node.proofs.DetLemmas.{det_is_node, node_is_det}
 use Rattle.tree_node.proofs.SoundLemmas.{sound_has_one}
-use Rattle.shown_laws.specs.Shown.{Refines, ShownStays}
+use Rattle.tree_node.specs.ShownStays.{Refines, ShownStays}
 use Rattle.std.proofs.Math.Bool.{and-false, or-true}
 
 wider : (c : Store) (l left : ℕ) (a b : Show) → l ≤ left → Refines c l a b → Refines c left a b
