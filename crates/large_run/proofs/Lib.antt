@@ -1,1 +1,4 @@
 mod TextLemmas
+mod Pieces
+mod LargeProgram
+mod LargeReads

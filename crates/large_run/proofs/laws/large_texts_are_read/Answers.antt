@@ -1,5 +1,5 @@
-use Rattle.large_run_laws.proofs.LargeReads.{large_texts_read, large_texts_have_no_fault}
-use Rattle.large_run_laws.proofs.laws.large_texts_are_read.Goals as goal
+use Rattle.large_run.proofs.LargeReads.{large_texts_read, large_texts_have_no_fault}
+use Rattle.large_run.proofs.laws.large_texts_are_read.Goals as goal
 
 pub returns : goal.returns
 returns c =

@@ -12,9 +12,9 @@ use Rattle.oz_grammar.specs.Table.{program_table}
 use Rattle.oz_grammar.specs.Reads as kernel
 use Rattle.oz_grammar.specs.Laws.{AreOneOfBoth}
 use Rattle.oz_sugar.specs.Texts.{Reads, FaultOf, KernelTextsRead}
-use Rattle.large_run_laws.specs.LargeTexts.{LargeTextsAreRead, LargeTextsHaveNoFault}
-use Rattle.large_run_laws.proofs.Pieces.{Spells, are_pieces, symbols_in, cut, line_spells, number_spells, nothing_spells}
-use Rattle.large_run_laws.proofs.LargeProgram.{others, prepared, stream, streams_then, shown, large_program, large_derives, large_passes}
+use Rattle.large_run.specs.LargeTexts.{LargeTextsAreRead, LargeTextsHaveNoFault}
+use Rattle.large_run.proofs.Pieces.{Spells, are_pieces, symbols_in, cut, line_spells, number_spells, nothing_spells}
+use Rattle.large_run.proofs.LargeProgram.{others, prepared, stream, streams_then, shown, large_program, large_derives, large_passes}
 
 -- ---- lines without numbers
 

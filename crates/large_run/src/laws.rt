@@ -1,6 +1,6 @@
 //! The law does nothing: a caller learns its clauses.
 
-ghost use Rattle.large_run_laws.specs.LargeTexts.{LargeTextsAreRead, LargeTextsHaveNoFault};
+ghost use Rattle.large_run.specs.LargeTexts.{LargeTextsAreRead, LargeTextsHaveNoFault};
 
 use oz_sugar::texts_have_one_of_both;
 
