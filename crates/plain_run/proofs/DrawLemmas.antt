@@ -4,7 +4,7 @@ use Rattle.std.specs.Prelude.{slice_get}
 use Rattle.kernel_syntax.specs.Program.{IsProgram}
 use Rattle.site_message.specs.declared.limits.Limits.{Limits}
 use Rattle.site_message.specs.Limits.{AreLimits}
-use Rattle.world_mail.specs.declared.travel.Travel.{Travel}
+use Rattle.world_core.specs.declared.travel.Travel.{Travel}
 use Rattle.world_core.specs.Travels.{AreTravels}
 use Rattle.world_core.specs.World.{WorldState, states_of}
 use Rattle.world_core.proofs.QuietLemmas.{at_contains}

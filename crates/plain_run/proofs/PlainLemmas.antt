@@ -6,8 +6,7 @@ use Rattle.site_message.specs.declared.turn.Turn.{Turn}
 use Rattle.site_model.specs.Site.{Site, is_idle}
 use Rattle.site_model.specs.Run.{delivered_message}
 use Rattle.site_core.specs.Site.{IsTurnInOrder}
-use Rattle.world_mail.specs.Travels.{IsNoneFor, IsFirstFor}
-use Rattle.world_core.specs.Travels.{AreTravels}
+use Rattle.world_core.specs.Travels.{IsNoneFor, IsFirstFor, AreTravels}
 use Rattle.world_core.specs.World.{WorldState, states_of, orders_of}
 use Rattle.world_core.proofs.ReplayLemmas.{same_entry}
 use Rattle.plain_run.specs.declared.order.Choice.{Choice}

@@ -15,7 +15,7 @@ use Rattle.site_model.specs.Site.{Site, is_idle}
 use Rattle.site_model.specs.Run.{WorldRun, delivered_message}
 use Rattle.site_model.specs.Turn.{IsFullTurn}
 use Rattle.world_model.specs.Schedule.{sum_to}
-use Rattle.world_mail.specs.declared.travel.Travel.{Travel}
+use Rattle.world_core.specs.declared.travel.Travel.{Travel}
 use Rattle.world_core.specs.Travels.{IsNumberAt}
 use Rattle.world_core.specs.World.{WorldState, IsWorldTurn, states_of}
 use Rattle.plain_run.specs.Counts.{runnable_count}

@@ -39,7 +39,7 @@ use Rattle.site_model.specs.Run.{WorldRun, SiteRun, IsReachedBy, IsEntry, IsSite
 use Rattle.world_model.specs.Simulated.{IsSimulated}
 use Rattle.world_messages.specs.Unfit.{MessagesAreFit}
 use Rattle.world_simulation.proofs.SimulationLemmas.{every_run_is_simulated}
-use Rattle.world_mail.specs.declared.travel.Travel.{Travel}
+use Rattle.world_core.specs.declared.travel.Travel.{Travel}
 use Rattle.world_core.specs.Travels.{AreTravels, IsNothingFor}
 use Rattle.world_core.specs.World.{WorldState, states_of}
 use Rattle.world_core.proofs.QuietLemmas.{idle_as_told}

@@ -11,9 +11,8 @@ use Rattle.site_model.specs.Bundle.{bundle_limit}
 use Rattle.site_model.specs.Site.{initial_site, is_idle}
 use Rattle.site_model.specs.Run.{WorldRun}
 use Rattle.site_core.specs.Start.{first_order}
-use Rattle.world_mail.specs.declared.travel.Travel.{Travel}
-use Rattle.world_mail.specs.Travels.{IsAt, IsNoneFor, IsFirstFor}
-use Rattle.world_core.specs.Travels.{AreTravels, IsNothingFor, IsNumberAt}
+use Rattle.world_core.specs.declared.travel.Travel.{Travel}
+use Rattle.world_core.specs.Travels.{IsAt, IsNoneFor, IsFirstFor, AreTravels, IsNothingFor, IsNumberAt}
 use Rattle.world_core.specs.World.{WorldState, states_of, orders_of}
 use Rattle.world_core.proofs.QuietLemmas.{idle_as_told, at_contains}
 use Rattle.site_message.specs.declared.limits.Limits.{Limits}

@@ -11,8 +11,7 @@ use Rattle.site_model.specs.Bundle.{bundle_limit}
 use Rattle.site_model.specs.Site.{is_idle}
 use Rattle.site_model.specs.Run.{WorldRun}
 use Rattle.world_model.specs.Schedule.{sum_to}
-use Rattle.world_mail.specs.Travels.{IsNoneFor}
-use Rattle.world_core.specs.Travels.{IsNothingFor}
+use Rattle.world_core.specs.Travels.{IsNoneFor, IsNothingFor}
 use Rattle.world_core.specs.World.{WorldState, states_of, orders_of}
 use Rattle.plain_run.specs.Counts.{runnable_count}
 use Rattle.plain_run.specs.Rounds.{Standing, ComesBefore}

@@ -14,10 +14,9 @@ use Rattle.site_model.specs.Bundle.{bundle_limit}
 use Rattle.site_model.specs.Site.{Site, initial_site}
 use Rattle.site_model.specs.Run.{WorldRun, delivered_message}
 use Rattle.site_core.specs.Replay.{TurnComesTo, IsStuckTurn}
-use Rattle.world_mail.specs.declared.travel.Travel.{Travel}
-use Rattle.world_mail.specs.Travels.{IsAt, IsPlaceOf}
+use Rattle.world_core.specs.declared.travel.Travel.{Travel}
+use Rattle.world_core.specs.Travels.{IsAt, IsPlaceOf, IsNumberAt, IsNotThere}
 use Rattle.world_core.specs.Laws.{HasRun, AreMessagesFew}
-use Rattle.world_core.specs.Travels.{IsNumberAt, IsNotThere}
 use Rattle.world_core.specs.World.{WorldState, states_of, IsWorldTurn}
 use Rattle.world_core.specs.Replay.{IsReplayed, IsWorldStuck, PrintsOthers as WorldPrintsOthers}
 use Rattle.world_core.specs.declared.refusal.ReplayRefusal.{ReplayRefusal}

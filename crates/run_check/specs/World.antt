@@ -5,8 +5,8 @@ use Rattle.site_message.specs.declared.message.Sent.{Sent}
 use Rattle.site_message.specs.declared.turn.Turn.{Turn}
 use Rattle.site_message.specs.declared.limits.Limits.{Limits}
 use Rattle.site_message.specs.Journal.{IsTravelling}
-use Rattle.world_mail.specs.declared.travel.Travel.{Travel}
-use Rattle.world_mail.specs.Travels.{IsAt, IsPlaceOf}
+use Rattle.world_core.specs.declared.travel.Travel.{Travel}
+use Rattle.world_core.specs.Travels.{IsAt, IsPlaceOf}
 use Rattle.world_core.specs.World.{WorldState, states_of}
 use Rattle.world_core.specs.declared.refusal.ReplayRefusal.{ReplayRefusal}
 use Rattle.world_core.specs.declared.refusal.ReplayRefusal.TheVariants.{Memory as OutOfMemory}

@@ -13,7 +13,7 @@
 //! ended before its end none is wrong, and made again they lead to this very run (`again_is_exact`). No line that a run prints has a
 //! newline in it, and the entries of such a run have a text, where the numbers of its threads have 64 bits (`runs_have_texts`).
 //!
-//! Stands on: `world_core`, `world_mail`, `world_journals`, `world_model`, `run_file`, `site_core`, `site_units`, `site_model`,
+//! Stands on: `world_core`, `world_journals`, `world_model`, `run_file`, `site_core`, `site_units`, `site_model`,
 //! `site_message`, `oz_model`, `kernel_syntax`, `tree_node`.
 //!
 //! By tests alone: that ample memory suffices. The tests, in `machine_tests`, save runs of workers and make them again, and try a table of

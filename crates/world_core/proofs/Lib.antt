@@ -5,3 +5,5 @@ pub mod TravelLemmas
 pub mod TurnLemmas
 pub mod WorldLemmas
 pub mod ReplayLemmas
+pub mod MailLemmas
+pub mod QueueLemmas

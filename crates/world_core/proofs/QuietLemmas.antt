@@ -18,12 +18,11 @@ use Rattle.site_model.specs.Bundle.{bundle_limit}
 use Rattle.site_model.specs.Site.{Site, initial_site, is_idle}
 use Rattle.site_model.specs.Run.{SiteRun, IsReachedBy, IsEntry}
 use Rattle.site_core.specs.Site.{SiteState}
-use Rattle.world_mail.specs.declared.travel.Travel.{Travel}
-use Rattle.world_mail.specs.Mail.{MailState, message_at}
-use Rattle.world_mail.specs.Travels.{travel_of, IsNoneFor}
-use Rattle.world_mail.proofs.MailLemmas.{travel_at}
+use Rattle.world_core.specs.declared.travel.Travel.{Travel}
+use Rattle.world_core.specs.Mail.{MailState, message_at}
+use Rattle.world_core.specs.Travels.{travel_of, IsNoneFor, AreTravels, IsNothingFor}
+use Rattle.world_core.proofs.MailLemmas.{travel_at}
 use Rattle.world_core.specs.Laws.{HasMachineAtRest}
-use Rattle.world_core.specs.Travels.{AreTravels, IsNothingFor}
 use Rattle.world_core.specs.World.{IsLive, IsConsistent, state_in, states_by}
 use Rattle.world_core.proofs.PlaceLemmas.{read_there}
 use Rattle.world_core.proofs.TravelLemmas.{travels_there, there_travels}

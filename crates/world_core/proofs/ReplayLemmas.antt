@@ -13,9 +13,9 @@ use Rattle.site_model.specs.Run.{delivered_message}
 use Rattle.site_model.specs.Site.{Site, initial_site}
 use Rattle.site_core.specs.Replay.{TurnComesTo, IsReplayMade, IsStuckTurn}
 use Rattle.site_core.specs.Site.{SiteState, message_in, number_in}
-use Rattle.world_mail.specs.declared.travel.Travel.{Travel}
-use Rattle.world_mail.specs.Mail.{MailState}
-use Rattle.world_mail.specs.Travels.{travel_of}
+use Rattle.world_core.specs.declared.travel.Travel.{Travel}
+use Rattle.world_core.specs.Mail.{MailState}
+use Rattle.world_core.specs.Travels.{travel_of, IsNumberAt}
 use Rattle.site_units.specs.declared.replay.Replay.{Replay}
 use Rattle.site_units.specs.declared.replay.Replay.TheVariants as site_replay
 use Rattle.world_core.specs.declared.refusal.WorldRefusal.{WorldRefusal}
@@ -23,7 +23,6 @@ use Rattle.world_core.specs.declared.refusal.WorldRefusal.TheVariants as turn
 use Rattle.world_core.specs.declared.refusal.ReplayRefusal.{ReplayRefusal}
 use Rattle.world_core.specs.declared.refusal.ReplayRefusal.TheVariants as replay
 use Rattle.world_core.specs.Replay.{refusal_of, replay_refusal_of, IsReplayed, IsWorldStuck, PrintsOthers}
-use Rattle.world_core.specs.Travels.{IsNumberAt}
 use Rattle.world_core.specs.World.{WorldState, IsConsistent, IsLive, IsSiteOf, IsTaken, state_in, states_by, states_of}
 use Rattle.bind_protocol.proofs.ListLemmas.{set_here}
 use Rattle.world_core.proofs.PlaceLemmas.{read_there}

@@ -12,7 +12,7 @@ use Rattle.site_message.specs.Journal.{travelling, without_number}
 use Rattle.site_message.proofs.JournalLemmas.{travelling_tells}
 use Rattle.site_message.proofs.TravelLemmas.{travelling_grows}
 use Rattle.world_model.proofs.PutLemmas.{nat_decides}
-use Rattle.world_mail.specs.Mail.{message_at}
+use Rattle.world_core.specs.Mail.{message_at}
 use Rattle.world_core.specs.World.{travelling_at}
 
 -- what travels by its number, in the words of the journal

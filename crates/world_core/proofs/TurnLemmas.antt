@@ -17,11 +17,10 @@ use Rattle.site_model.specs.Run.{WorldRun, delivered_message, message_of}
 use Rattle.site_model.specs.Turn.{IsFullTurnOf}
 use Rattle.site_core.specs.Site.{SiteState, IsTurnMade, IsTurnInOrder, message_in, number_in}
 use Rattle.site_core.specs.Start.{first_order}
-use Rattle.world_mail.specs.declared.travel.Travel.{Travel}
-use Rattle.world_mail.specs.Mail.{MailState, message_at, AreBelow}
-use Rattle.world_mail.specs.Travels.{travel_of}
-use Rattle.world_mail.proofs.MailLemmas.{travel_at}
-use Rattle.world_core.specs.Travels.{IsNumberAt}
+use Rattle.world_core.specs.declared.travel.Travel.{Travel}
+use Rattle.world_core.specs.Mail.{MailState, message_at, AreBelow}
+use Rattle.world_core.specs.Travels.{travel_of, IsNumberAt}
+use Rattle.world_core.proofs.MailLemmas.{travel_at}
 use Rattle.world_core.specs.World.{WorldState, IsWorldTurn, IsWorldTurnInOrder, KnowledgeStays, IsLive, IsConsistent, IsSiteOf, IsNewSite, IsTaken, state_in, states_by, states_of, order_in, orders_by, orders_of, travelling_at}
 use Rattle.world_core.proofs.PlaceLemmas.{set_all, read_there, read_past, read_same}
 use Rattle.world_core.proofs.TravelLemmas.{mail_grows, travels_there, none_either, get_past}

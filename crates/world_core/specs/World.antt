@@ -17,8 +17,8 @@ use Rattle.site_model.specs.Transition.{Transition}
 use Rattle.site_model.specs.Turn.{IsFullTurnOf}
 use Rattle.site_core.specs.Site.{SiteState, IsTurnInOrder}
 use Rattle.site_core.specs.Start.{first_order}
-use Rattle.world_mail.specs.declared.travel.Travel.{Travel}
-use Rattle.world_mail.specs.Mail.{MailState, message_at, without_message}
+use Rattle.world_core.specs.declared.travel.Travel.{Travel}
+use Rattle.world_core.specs.Mail.{MailState, message_at, without_message}
 use Rattle.world_core.specs.Travels.{IsNumberAt}
 
 -- the program, the number of its sites, the turns made, the states of the sites from 1 on and the orders of their threads, the

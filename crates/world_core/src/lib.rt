@@ -19,18 +19,23 @@
 //! No call walks over messages, threads or the journal, but for `schedule`, which takes a step for each turn and shares its
 //! picks: a turn costs by what it does, `quiet` by the number of sites.
 //!
-//! It stands on `site_core` for the turns of sites, on `world_mail` for the messages between them, and on `world_simulation`
-//! for the laws. Tests of programs (`oz_tests`) run it; no promise is left to them alone.
+//! It stands on `site_core` for the turns of sites, on `world_simulation` for the laws, and on `indexmap` for look-ups of messages by number and
+//! by place. `Mail` is the messages between the sites: by their places, from which any can be taken out next, and by the sites that they go
+//! to; each call takes as many steps as a look-up, `push_all` as many for each message. `threads` shows that it may cross from thread to thread. Tests of programs (`oz_tests`) run it; no promise is left to them alone.
 //!
 //! Sources: Haridi and others, *Efficient Logic Variables for Distributed Computing* (TOPLAS 21(3), 1999), and Van Roy and
 //! others, *Mobile Objects in Distributed Oz* (TOPLAS 19(5), 1997).
 #![tactic(auto)]
 
+mod mail;
 mod picks;
+mod queue;
 mod refusal;
+mod threads;
+mod travel;
 mod world;
 
 pub use picks::schedule;
 pub use refusal::{ReplayRefusal, WorldRefusal};
+pub use travel::Travel;
 pub use world::World;
-pub use world_mail::Travel;

@@ -12,22 +12,22 @@ ghost use Rattle.world_core.specs.declared.refusal.WorldRefusal.TheVariants.{Not
 ghost use Rattle.world_core.specs.declared.refusal.ReplayRefusal.TheVariants as replay;
 ghost use Rattle.world_core.specs.Replay.{IsReplayed, IsWorldStuck, PrintsOthers};
 ghost use Rattle.world_core.specs.Laws.{HasRun, HasMachine, HasMachineAtRest, HoldAnswers, WereFit, AreMessagesFew};
-ghost use Rattle.world_mail.specs.Mail.{message_at, without_message};
-ghost use Rattle.world_mail.specs.Travels.{travel_of, IsNoneFor, IsFirstFor, IsAt, IsPlaceOf};
-ghost use Rattle.world_core.specs.Travels.{AreTravels, IsNothingFor, IsNotThere};
+ghost use Rattle.world_core.specs.Mail.{message_at, without_message};
+ghost use Rattle.world_core.specs.Travels.{travel_of, IsNoneFor, IsFirstFor, IsAt, IsPlaceOf, AreTravels, IsNothingFor, IsNotThere};
 ghost use Rattle.world_core.specs.World.{states_of, orders_of, IsWorldTurn, IsWorldTurnInOrder, KnowledgeStays, IsNewSite, IsTaken};
 ghost use Rattle.site_core.specs.Start.{first_order};
 ghost use Rattle.site_core.specs.Site.{SiteState};
 ghost use Rattle.site_message.specs.declared.story.NoSeat.{NoSeat};
 
+use crate::mail::Mail;
 use crate::refusal::{ReplayRefusal, WorldRefusal};
+use crate::travel::Travel;
 use kernel_syntax::Program;
 use site_core::Site;
 use site_message::{History, Journal, Msg, NoSeat, Quantum, Turn};
 use std::alloc::{AllocError, Global};
 use std::marker::Model;
 use tree_node::{Line, ThreadName};
-use world_mail::{Mail, Travel};
 
 /// A program on 1 to 64 sites. Its sites take turns in whatever order the caller gives, and each turn delivers one message at
 /// most. After want of memory the world is given up: it makes no turn any more, and its journal tells the turns made before. It has no
@@ -43,7 +43,7 @@ pub struct World<'a> {
 
 impl<'a> Model for World<'a> {
     ghost use Rattle.std.specs.Prelude.{length, map};
-    ghost use Rattle.world_mail.specs.Travels.{travel_of};
+    ghost use Rattle.world_core.specs.Travels.{travel_of};
     ghost use Rattle.world_core.specs.World.{WorldState, IsConsistent, order_in, state_in};
 
     ghost Value = { WorldState };

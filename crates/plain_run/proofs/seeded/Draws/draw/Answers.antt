@@ -2,7 +2,7 @@ use Rattle.std.proofs.Common.{◌≡◌, List, subst, Some}
 use Rattle.std.specs.Prelude.{slice_get, slice_index_or}
 use Rattle.std.proofs.lemmas.Option.{slice_get-get_or}
 use Rattle.world_core.specs.Travels.{AreTravels}
-use Rattle.world_mail.specs.declared.travel.Travel.{Travel}
+use Rattle.world_core.specs.declared.travel.Travel.{Travel}
 use Rattle.plain_run.proofs.DrawLemmas.{message_can}
 use Rattle.plain_run.proofs.ReachLemmas.{some_is_busy}
 use Rattle.plain_run.proofs.seeded.Draws.draw.Goals as goal

@@ -1,8 +1,7 @@
 use Rattle.std.proofs.Common.{◌≡◌, ◌∙◌, sym, ap, subst, List, Bool, false}
 use Rattle.site_message.specs.declared.turn.Turn.{Turn}
-use Rattle.world_mail.specs.declared.travel.Travel.{Travel}
-use Rattle.world_mail.specs.Travels.{IsNoneFor}
-use Rattle.world_core.specs.Travels.{IsNothingFor}
+use Rattle.world_core.specs.declared.travel.Travel.{Travel}
+use Rattle.world_core.specs.Travels.{IsNoneFor, IsNothingFor}
 use Rattle.world_core.specs.World.{WorldState, IsConsistent}
 use Rattle.world_core.proofs.QuietLemmas.{nothing_for}
 use Rattle.world_core.proofs.world.World.has_message.Goals as goal

@@ -1,9 +1,8 @@
 use Rattle.std.proofs.Common.{◌≡◌, ◌∙◌, ap, subst, ℕ, List, map, Bool, false}
 use Rattle.std.specs.Prelude.{Option, MatchOption}
 use Rattle.site_message.specs.declared.turn.Turn.{Turn}
-use Rattle.world_mail.specs.declared.travel.Travel.{Travel}
-use Rattle.world_mail.specs.Travels.{travel_of, IsNoneFor, IsFirstFor}
-use Rattle.world_core.specs.Travels.{IsNothingFor}
+use Rattle.world_core.specs.declared.travel.Travel.{Travel}
+use Rattle.world_core.specs.Travels.{travel_of, IsNoneFor, IsFirstFor, IsNothingFor}
 use Rattle.world_core.specs.World.{WorldState, IsConsistent}
 use Rattle.world_core.proofs.QuietLemmas.{nothing_for}
 use Rattle.world_core.proofs.world.World.next_for.Goals as goal

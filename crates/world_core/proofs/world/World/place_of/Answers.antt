@@ -2,8 +2,8 @@ use Rattle.std.proofs.Common.{◌≡◌, ◌∙◌, ap, subst, sym, ℕ, List, f
 use Rattle.std.specs.Prelude.{Some}
 use Rattle.site_message.specs.declared.turn.Turn.{Turn}
 use Rattle.site_message.specs.Journal.{IsTravelling}
-use Rattle.world_mail.specs.declared.travel.Travel.{Travel}
-use Rattle.world_mail.specs.Travels.{IsAt, IsPlaceOf}
+use Rattle.world_core.specs.declared.travel.Travel.{Travel}
+use Rattle.world_core.specs.Travels.{IsAt, IsPlaceOf}
 use Rattle.world_core.specs.World.{WorldState}
 use Rattle.world_core.proofs.TravelLemmas.{there_travels}
 use Rattle.world_core.proofs.world.World.place_of.Goals as goal

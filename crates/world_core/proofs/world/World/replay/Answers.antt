@@ -8,7 +8,7 @@ use Rattle.site_message.specs.declared.turn.Turn.{Turn}
 use Rattle.site_model.specs.Bundle.{bundle_limit}
 use Rattle.site_model.specs.Run.{WorldRun}
 use Rattle.site_units.specs.declared.replay.Replay.{Replay}
-use Rattle.world_mail.specs.declared.travel.Travel.{Travel}
+use Rattle.world_core.specs.declared.travel.Travel.{Travel}
 use Rattle.world_core.specs.declared.refusal.WorldRefusal.{WorldRefusal}
 use Rattle.world_core.specs.declared.refusal.ReplayRefusal.TheVariants as refusal
 use Rattle.world_core.specs.World.{WorldState, IsConsistent, state_in, states_by}

@@ -5,7 +5,7 @@ use Rattle.site_message.specs.declared.message.Sent.{Sent}
 use Rattle.site_message.specs.declared.turn.Turn.{Turn}
 use Rattle.site_model.specs.Bundle.{bundle_limit}
 use Rattle.site_model.specs.Run.{WorldRun}
-use Rattle.world_mail.specs.declared.travel.Travel.{Travel}
+use Rattle.world_core.specs.declared.travel.Travel.{Travel}
 use Rattle.world_core.specs.Travels.{IsNotThere}
 use Rattle.world_core.specs.World.{WorldState, IsConsistent, state_in, states_by}
 use Rattle.world_core.proofs.TurnLemmas.{After, after_turn, after_in_order, taken_below, turn_stays}

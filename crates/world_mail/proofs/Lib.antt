@@ -1,2 +1,0 @@
-pub mod MailLemmas
-pub mod QueueLemmas

@@ -1,3 +1,0 @@
-pub mod Mail
-pub mod Travels
-pub mod Queue
