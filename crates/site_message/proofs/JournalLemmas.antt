@@ -1,5 +1,5 @@
 -- What the definitions of journals say.
-use Rattle.std.proofs.Common.{arith, ◌≡◌, ◌∙◌, ℕ, zero, suc, ◌+◌, ◌<◌, ◌≤◌, List, [], ◌∷◌, ◌++◌, refl, sym, ap, subst, ◌⊎◌, inl, inr, Bool, true, false, cond}
+use Rattle.std.proofs.Common.{append_assoc, append-nil, arith, ◌≡◌, ◌∙◌, ℕ, zero, suc, ◌+◌, ◌<◌, ◌≤◌, List, [], ◌∷◌, ◌++◌, refl, sym, ap, subst, ◌⊎◌, inl, inr, Bool, true, false, cond, eqb-true, eq-eqb}
 use Rattle.std.proofs.Common.{rules}
 use Rattle.std.proofs.lemmas.Bool.{cases_lt, or_parts, not-true}
 use Rattle.std.specs.Prelude.{◌↔◌, ◌&&◌, ◌||◌, ◌==◌, IsTrue, Option, Some, None, Contains, not, slice_get}
@@ -8,6 +8,7 @@ use Rattle.tree_node.proofs.ClassLemmas.{Contains-head, Contains-tail, Contains-
 use Rattle.site_message.specs.declared.message.Sent.{Sent}
 use Rattle.site_message.specs.declared.turn.Turn.{Turn}
 use Rattle.site_message.specs.Journal.{Wired, IsTravelling, sent_of, travelling, was_delivered, is_number, is_idle, are_idle, is_empty}
+use Rattle.site_message.specs.Story.{own}
 use Rattle.site_message.specs.Laws.{TravellingTells, WiredTells, IsAlone, QuietTells}
 use Rattle.tree_node.proofs.OrderLemmas.{none}
 
@@ -83,9 +84,22 @@ sent_more [] ys k x e = cc
 sent_more (y ∷ xs) ys zero x e = e
 sent_more (y ∷ xs) ys (suc k) x e = sent_more xs ys k x e
 
+-- what was sent stays where it is
+pub sent_later : (more j : List Turn) → (rest : List Sent) × (sent_of (more ++ j) ≡ sent_of j ++ rest)
+sent_later [] j = ([], sym (append-nil (sent_of j)))
+sent_later (e ∷ more) j = let h = sent_later more j in (h.0 ++ e.sent, ap (λ l. l ++ e.sent) h.1 ∙ append_assoc (sent_of j) h.0 e.sent)
+
+-- a turn of the site is the newest of its own
+pub own_this : (i : ℕ) (e : Turn) (j : List Turn) → e.site ≡ i → own i (e ∷ j) ≡ e ∷ own i j
+own_this i e j is = ap (λ (b : Bool). cond b (e ∷ own i j) (own i j)) (eq-eqb e.site i is)
+
 undelivered_before : (later earlier : List Turn) (e : Turn) (k : ℕ) → was_delivered (later ++ e ∷ earlier) k ≡ false → is_number e.delivered k ≡ false
 undelivered_before [] earlier e k h = (or_parts (is_number e.delivered k) (was_delivered earlier k) h).0
 undelivered_before (t ∷ later) earlier e k h = undelivered_before later earlier e k (or_parts (is_number t.delivered k) (was_delivered (later ++ e ∷ earlier) k) h).1
+
+pub this_number : (o : Option ℕ) (k : ℕ) → is_number o k ≡ true → o ≡ Some k
+this_number None k e = absurd (cc)
+this_number (Some n) k e = ap Some (eqb-true n k e)
 
 is_this : (o : Option ℕ) (k : ℕ) → o ≡ Some k → is_number o k ≡ true
 is_this o k e = rw e (search rules)

@@ -1,5 +1,5 @@
 -- How the travelling messages change with a turn.
-use Rattle.std.proofs.Common.{arith, ◌≡◌, ◌∙◌, ℕ, suc, ◌+◌, ◌<◌, ◌≤◌, List, [], ◌∷◌, ◌++◌, length, Bool, true, false, eqb, eqb-true, eq-eqb, ne_eqb, Option, Some, None, refl, sym, ap, ⊎_elim, length-append}
+use Rattle.std.proofs.Common.{arith, ◌≡◌, ◌∙◌, ℕ, suc, ◌+◌, ◌<◌, ◌≤◌, List, [], ◌∷◌, ◌++◌, length, Bool, true, false, eqb, eq-eqb, ne_eqb, Option, Some, None, refl, sym, ap, ⊎_elim, length-append}
 use Rattle.std.specs.Prelude.{◌||◌, not, Contains}
 use Rattle.std.specs.List.{filter, enumerate_from}
 use Rattle.std.proofs.lemmas.List.Elements.{filter-append}
@@ -10,7 +10,7 @@ use Rattle.site_message.specs.declared.turn.Turn.{Turn}
 use Rattle.site_message.specs.Journal.{Wired, sent_of, travelling, was_delivered, is_number, without_number, deliveries, delivery_count}
 use Rattle.site_message.specs.Laws.{IsAscending, TravellingGrows, TravellingAscends, MessagesAddUp, FewAreDelivered}
 use Rattle.site_message.specs.Story.{own}
-use Rattle.site_message.proofs.JournalLemmas.{travelling_tells}
+use Rattle.site_message.proofs.JournalLemmas.{this_number, travelling_tells}
 use Rattle.tree_node.proofs.OrderLemmas.{none}
 use Rattle.std.proofs.lemmas.Bool.{or_cases, false_from_ne_true}
 use Rattle.std.proofs.lemmas.Option.{slice_get_within}
@@ -31,10 +31,6 @@ filter_step a b x xs false false p q rest = rw (p, q) (rw p (ap (λ l. x ∷ l) 
 filter_twice : {X : Type 0} (a b : X → Bool) (xs : List X) → filter (λ x. not (a x || b x)) xs ≡ filter (λ x. not (a x)) (filter (λ x. not (b x)) xs)
 filter_twice a b [] = refl
 filter_twice a b (x ∷ xs) = filter_step a b x xs (a x) (b x) refl refl (filter_twice a b xs)
-
-this_number : (o : Option ℕ) (k : ℕ) → is_number o k ≡ true → o ≡ Some k
-this_number None k e = absurd (cc)
-this_number (Some n) k e = ap Some (eqb-true n k e)
 
 delivered_inside : (j : List Turn) (e : Turn) → Wired (e ∷ j) → (k : ℕ) → is_number e.delivered k ≡ true → k < length (sent_of j)
 delivered_inside j e w k h = let t = w.1 k (this_number e.delivered k h) in slice_get_within (sent_of j) k t.0 t.1.0

@@ -7,3 +7,4 @@ pub mod ExampleRun
 pub mod FilledLemmas
 pub mod CellKeyLemmas
 pub mod FrameLemmas
+pub mod RunLemmas

@@ -33,7 +33,9 @@ use Rattle.site_worker.specs.declared.visited.Visited.TheVariants.{Did, Nothing}
 use Rattle.site_worker.specs.declared.visited.Visited.TheVariants as visited
 use Rattle.site_worker.specs.Waking.{AreRecipients}
 use Rattle.site_worker.specs.Visit.{IsVisit, IsFirstHalf, IsSecondHalf, IsGivenUp, HasNoEntry, HasEntry, HasMadeTurn, IsOver, NoneTravels}
-use Rattle.site_worker.proofs.RunLemmas.{message_later, run_later, run_entry}
+use Rattle.site_message.proofs.JournalLemmas.{own_this}
+use Rattle.site_model.proofs.RunLemmas.{run_entry}
+use Rattle.site_worker.proofs.RunLemmas.{message_later, run_later}
 use Rattle.site_model.proofs.FrameLemmas.{few_units}
 
 -- the host with another value of its seat
@@ -258,9 +260,6 @@ without_this : (o : Option ℕ) → without_delivered o (number_list o) ≡ []
 without_this None = refl
 without_this (Some n) = ap (λ b. cond (not b) (n ∷ []) []) (eq-eqb n n refl)
 
-own_first : (k : ℕ) (e : Turn) (es : List Turn) → e.site ≡ k → own k (e ∷ es) ≡ e ∷ own k es
-own_first k e es is = ap (λ b. cond b (e ∷ own k es) (own k es)) (eq-eqb e.site k is)
-
 -- a turn that was made is one over any journal that begins with what was seen
 entry_over : (table : TableId) (h : Host) (e : Turn) (es : List Turn) → HasTurned table h e → IsContinuation es (sight h).entries → own h.number es ≡ own h.number (sight h).entries → IsRunTo h (e ∷ es) (state_of h)
 entry_over table h e es mine on same =
@@ -280,7 +279,7 @@ sent_fits law table h e mine =
     let es = (sight h).entries in
     let run : IsRunTo h (e ∷ es) (state_of h) = entry_over table h e es mine ([], refl) refl in
     let all = law (program_of h) (sites_of h) bundle_limit k (e ∷ es) (state_of h) mine.seated.program mine.seated.most (omega arith) mine.seated.range.0 mine.seated.range.1 run in
-    (subst (Each (λ (d : Turn). CanBeSpelled d.sent)) (own_first k e es mine.site) all).0
+    (subst (Each (λ (d : Turn). CanBeSpelled d.sent)) (own_this k e es mine.site) all).0
 
 module _ (table : TableId) (h : Host) (e : Turn) (x : SiteSeat) (mine : HasTurned table h e) (out : IsOutsideOf table x) (same : x.site ≡ h.site.seat.site) where
   -- the entry's own steps are those that the site came to
@@ -297,7 +296,7 @@ module _ (table : TableId) (h : Host) (e : Turn) (x : SiteSeat) (mine : HasTurne
       let now = a.0 in
       let found = a.2 in
       let k = h.number in
-      let mine_new : HasEntry k (sight h) (last_seen x) e = ap (own k) found.0 ∙ (own_first k e now.entries mine.site ∙ ap (λ l. e ∷ l) a.1.own_entries) in
+      let mine_new : HasEntry k (sight h) (last_seen x) e = ap (own k) found.0 ∙ (own_this k e now.entries mine.site ∙ ap (λ l. e ∷ l) a.1.own_entries) in
       let hands : hand k (last_seen x).hands ≡ [] = subst (λ (i : ℕ). hand i (last_seen x).hands ≡ without_delivered e.delivered (hand i now.hands)) mine.site found.1 ∙ (ap (without_delivered e.delivered) (a.1.own_hands ∙ mine.hands) ∙ without_this e.delivered) in
       let run : IsRunTo h (last_seen x).entries (state_of h) =
       subst (λ (es : List Turn). IsRunTo h es (state_of h)) (sym found.0) (entry_over table h e now.entries mine a.1.begins a.1.own_entries) in (

@@ -1,5 +1,5 @@
 -- How the run of a site goes on as the journal grows.
-use Rattle.std.proofs.Common.{◌≡◌, ℕ, zero, suc, ◌≤◌, List, [], ◌∷◌, ◌++◌, length, cond, Bool, true, false, eqb, eq-eqb, ne_eqb, Option, Some, None, refl, sym, ap, ◌∙◌, subst, arith, le_refl, append_assoc, append-nil}
+use Rattle.std.proofs.Common.{◌≡◌, ℕ, ◌≤◌, List, [], ◌∷◌, ◌++◌, length, cond, Bool, true, false, eqb, ne_eqb, Option, Some, None, refl, sym, ap, ◌∙◌, subst, arith, le_refl}
 use Rattle.std.specs.Prelude.{slice_get}
 use Rattle.kernel_syntax.specs.declared.stmt.Stmt.{Stmt}
 use Rattle.site_message.specs.declared.message.Msg.{Msg}
@@ -10,16 +10,12 @@ use Rattle.site_message.specs.Story.{own}
 use Rattle.message_book.specs.Book.{AreSites, IsSiteOf}
 use Rattle.book_lock.specs.Rule.{IsContinuation, Each}
 use Rattle.site_model.specs.Site.{Site, initial_site}
-use Rattle.site_model.specs.Run.{SiteRun, IsEntry, IsReachedBy, IsSiteIn, delivered_message, message_of}
+use Rattle.site_model.specs.Run.{SiteRun, IsSiteIn, delivered_message, message_of}
 use Rattle.site_core.specs.Site.{message_in, number_in}
-use Rattle.site_message.proofs.JournalLemmas.{sent_more}
+use Rattle.site_message.proofs.JournalLemmas.{sent_later, sent_more}
+use Rattle.site_model.proofs.RunLemmas.{run_skip}
 
 -- ---- messages
-
--- what was sent stays where it is
-sent_later : (more j : List Turn) → (rest : List Sent) × (sent_of (more ++ j) ≡ sent_of j ++ rest)
-sent_later [] j = ([], sym (append-nil (sent_of j)))
-sent_later (e ∷ more) j = let h = sent_later more j in (h.0 ++ e.sent, ap (λ l. l ++ e.sent) h.1 ∙ append_assoc (sent_of j) h.0 e.sent)
 
 sent_with : (o : Option Sent) (m : Msg) → message_of o ≡ Some m → (s : Sent) × (o ≡ Some s) × (message_of (Some s) ≡ Some m)
 sent_with None m e = absurd (cc)
@@ -44,15 +40,6 @@ own_longer k [] j = le_refl (length (own k j))
 own_longer k (e ∷ more) j = own_step k e (more ++ j) (length (own k j)) (eqb e.site k) refl (own_longer k more j)
 
 module _ (p : List Stmt) (n limit k : ℕ) where
-  -- an entry of another site
-  run_skip : (e : Turn) (j : List Turn) (s : Site) → eqb e.site k ≡ false → SiteRun p n limit k j s → SiteRun p n limit k (e ∷ j) s
-  run_skip e j s is run = subst (λ b. IsReachedBy b (λ old. SiteRun p n limit k j old) (λ old new. IsEntry p n limit j e old new) s) (sym is) run
-
-  -- an entry of the site
-  pub run_entry : (e : Turn) (j : List Turn) (old s : Site) → e.site ≡ k → SiteRun p n limit k j old → IsEntry p n limit j e old s → SiteRun p n limit k (e ∷ j) s
-  run_entry e j old s is run entry =
-      subst (λ b. IsReachedBy b (λ old. SiteRun p n limit k j old) (λ old new. IsEntry p n limit j e old new) s) (sym (eq-eqb e.site k is)) (old, run, entry)
-
   more_step : (e : Turn) (more j : List Turn) (s : Site) (b : Bool) → eqb e.site k ≡ b → own k (e ∷ (more ++ j)) ≡ own k j → (own k (more ++ j) ≡ own k j → SiteRun p n limit k (more ++ j) s) → SiteRun p n limit k (e ∷ (more ++ j)) s
   more_step e more j s true is same rest =
       let first : own k (e ∷ (more ++ j)) ≡ e ∷ own k (more ++ j) = ap (λ b. cond b (e ∷ own k (more ++ j)) (own k (more ++ j))) is in
@@ -61,7 +48,7 @@ module _ (p : List Stmt) (n limit k : ℕ) where
       absurd (omega arith)
   more_step e more j s false is same rest =
       let others : own k (e ∷ (more ++ j)) ≡ own k (more ++ j) = ap (λ b. cond b (e ∷ own k (more ++ j)) (own k (more ++ j))) is in
-      run_skip e (more ++ j) s is (rest (sym others ∙ same))
+      run_skip p n limit k e (more ++ j) s is (rest (sym others ∙ same))
 
   run_more : (more j : List Turn) (s : Site) → own k (more ++ j) ≡ own k j → SiteRun p n limit k j s → SiteRun p n limit k (more ++ j) s
   run_more [] j s same run = run
@@ -74,7 +61,7 @@ module _ (p : List Stmt) (n limit k : ℕ) where
   -- a site without entries
   pub run_none : (m : ℕ) (j : List Turn) → AreSites m j → (IsSiteOf m k → ⊥) → SiteRun p n limit k j (initial_site p n k)
   run_none m [] are no_site = refl
-  run_none m (e ∷ j) are no_site = run_skip e j (initial_site p n k) (ne_eqb e.site k (λ is. no_site (subst (IsSiteOf m) is are.0))) (run_none m j are.1 no_site)
+  run_none m (e ∷ j) are no_site = run_skip p n limit k e j (initial_site p n k) (ne_eqb e.site k (λ is. no_site (subst (IsSiteOf m) is are.0))) (run_none m j are.1 no_site)
 
 -- each turn is of a site 1 to n
 pub each_site : (n : ℕ) (j : List Turn) → AreSites n j → Each (IsSiteIn n) j
