@@ -12,7 +12,8 @@ use Rattle.site_message.specs.declared.reason.Reason.{Reason}
 use Rattle.site_message.specs.declared.limits.Limits.{Limits}
 use Rattle.site_message.specs.Journal.{IsTravelling, sent_of, travelling}
 use Rattle.site_message.specs.Story.{hand}
-use Rattle.site_message.proofs.JournalLemmas.{travelling_tells, kept, passed}
+use Rattle.site_message.proofs.JournalLemmas.{travelling_tells, kept}
+use Rattle.tree_node.proofs.CompareLemmas.{filter_from}
 use Rattle.std.proofs.lemmas.Bool.{le-leb}
 use Rattle.std.proofs.lemmas.List.Elements.{Contains-append_right}
 use Rattle.message_book.specs.Inbox.{InboxState}
@@ -59,7 +60,7 @@ in_messages n j i k m at =
     let q : ℕ × Sent → Bool = λ p. eqb (place n p.1.to) i in
     let t = contains_map spelling_of (filter q (travelling j)) (k, m) at in
     let p = t.0 in
-    let f = passed q (travelling j) p t.1 in
+    let f = filter_from q (travelling j) p t.1 in
     let number : p.0 ≡ k = ap (λ (x : ℕ × List ℕ). x.0) t.2 in
     let travels = (travelling_tells j p.0 p.1).0 f.0 in
     (p.1, subst (λ (i : ℕ). IsTravelling j i p.1) number travels, ap (λ (x : ℕ × List ℕ). x.1) t.2, eqb-true (place n p.1.to) i f.1)

@@ -4,6 +4,7 @@ use Rattle.std.proofs.Common.{rules}
 use Rattle.std.proofs.lemmas.Bool.{cases_lt, or_parts, not-true}
 use Rattle.std.specs.Prelude.{◌↔◌, ◌&&◌, ◌||◌, ◌==◌, IsTrue, Option, Some, None, Contains, not, slice_get}
 use Rattle.std.specs.List.{filter, enumerate_from}
+use Rattle.tree_node.proofs.CompareLemmas.{filter_from}
 use Rattle.tree_node.proofs.ClassLemmas.{Contains-head, Contains-tail, Contains-cons_cases}
 use Rattle.site_message.specs.declared.message.Sent.{Sent}
 use Rattle.site_message.specs.declared.turn.Turn.{Turn}
@@ -22,22 +23,6 @@ kept {X} p (y ∷ ys) x at e = go (λ k. kept p ys x k e) (p y) refl (Contains-c
     go rest true q (inr k) = rw q (Contains-tail y x (filter p ys) (rest k))
     go rest false q (inl same) = let contrary : false ≡ true = sym q ∙ ap p same ∙ e in cc
     go rest false q (inr k) = rw q (rest k)
-
--- and nothing else
-pub passed : {X : Type 0} (p : X → Bool) (xs : List X) (x : X) → Contains (filter p xs) x → Contains xs x × (p x ≡ true)
-passed p [] x at = absurd (none x at)
-passed {X} p (y ∷ ys) x at = go (λ k. passed p ys x k) (p y) refl at
-  where
-    later : Contains ys x × (p x ≡ true) → Contains (y ∷ ys) x × (p x ≡ true)
-    later h = (Contains-tail y x ys h.0, h.1)
-
-    first : (Contains (filter p ys) x → Contains ys x × (p x ≡ true)) → (p y ≡ true) → (y ≡ x) ⊎ Contains (filter p ys) x → Contains (y ∷ ys) x × (p x ≡ true)
-    first rest q (inl same) = (subst (λ (z : X). Contains (y ∷ ys) z) same (Contains-head y ys), ap p (sym same) ∙ q)
-    first rest q (inr k) = later (rest k)
-
-    go : (Contains (filter p ys) x → Contains ys x × (p x ≡ true)) → (b : Bool) → p y ≡ b → Contains (cond (p y) (y ∷ filter p ys) (filter p ys)) x → Contains (y ∷ ys) x × (p x ≡ true)
-    go rest true q k = first rest q (Contains-cons_cases y x (filter p ys) (rw q at k))
-    go rest false q k = later (rest (rw q at k))
 
 -- an element with its place
 numbered : {X : Type 0} (n : ℕ) (xs : List X) (k m : ℕ) (x : X) → m ≡ n + k → slice_get xs k ≡ Some x → Contains (enumerate_from n xs) (m, x)
@@ -69,7 +54,7 @@ travelling_tells j k m = (there, back)
   where
     there : Contains (travelling j) (k, m) → IsTravelling j k m
     there at =
-        let h = passed (λ (p : ℕ × Sent). not (was_delivered j p.0)) (enumerate_from 0 (sent_of j)) (k, m) at in
+        let h = filter_from (λ (p : ℕ × Sent). not (was_delivered j p.0)) (enumerate_from 0 (sent_of j)) (k, m) at in
         let place = at_number 0 (sent_of j) k m h.0 in
         let found : k ≡ 0 + place.0 = place.1 in
         let e : k ≡ place.0 = omega arith in

@@ -11,7 +11,8 @@ use Rattle.std.proofs.Common.{◌&&◌}
 use Rattle.tree_node.specs.Store.{Store, Equation, Same, here, onward, IsFree, IsSound, equal_var, root_of, node_of}
 use Rattle.tree_node.specs.Compare.{open_root, OpenStays, OpenListStays, AgreeingAnswer, paired, Pair, Relation, Alike, Apart, Parts, Unknown, relation_of_others, relation_of_nodes, is_one_class, relation, parts_of, pairs_within, IsReached, IsMatched, AreEqual, AreDifferent, open_name, open_roots, HasOpen, each_once, open_within, Equal, Different, Open, depth_of, is_apart, unless_open, compared, IsWithin, MoreIsWithin, EqualIsTold, EqualIsFound, DifferentIsTold, DifferentIsFound, OpenIsTold, OpenIsAll, NeverBoth, EqualStays, DifferentStays, DifferentIsNeverSame}
 use Rattle.tree_node.proofs.ClassLemmas.{same_name_decides, Same-trans, Same-sym, to_root, roots_tell_classes, Contains-head, Contains-tail, Contains-cons_cases}
-use Rattle.tree_node.proofs.DetLemmas.{node_is_det, det_is_node}
+use Rattle.tree_node.proofs.DetLemmas.{node_is_det}
+use Rattle.tree_node.proofs.ShownLemmas.{node_stays}
 use Rattle.std.proofs.lemmas.List.Elements.{Contains-append_left, Contains-append_right}
 use Rattle.tree_node.specs.Classes.{HasOneEach}
 use Rattle.tree_node.proofs.SoundLemmas.{sound_has_one, one_names_class, root_names_class}
@@ -205,10 +206,6 @@ more_is_within s t more = record {
   same = λ x y p. Same-more more p;
   det = λ x n (y, p, h). (y, Same-more more p, more _ h);
 }
-
-node_stays : (s t : Store) → IsSound t → IsWithin s t → (x : VarName) (n : Node) → node_of s x ≡ Some n → node_of t x ≡ Some n
-node_stays s t sound more x n e =
-    det_is_node t (λ y m o p q. sound_has_one t y m o sound p q) x n (more.det x n (node_is_det s x n e))
 
 one_node : (t : Store) → IsSound t → (x y : VarName) (m n : Node) → root_of t x ≡ root_of t y → node_of t x ≡ Some m → node_of t y ≡ Some n → m ≡ n
 one_node t sound x y m n e f g =

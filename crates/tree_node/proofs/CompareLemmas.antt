@@ -196,7 +196,8 @@ length_products (x ∷ xs) ys =
 products_have : (xs ys : List VarName) (q : Pair) → Contains xs q.0 → Contains ys q.1 → Contains (products xs ys) q
 products_have xs ys q h k = flat_has (λ (x : VarName). map (λ (y : VarName). (x, y)) ys) xs q.0 q h (map_has (λ (y : VarName). (q.0, y)) ys q.1 k)
 
-filter_from : {X : Type 0} (t : X → Bool) (xs : List X) (x : X) → Contains (filter t xs) x → Contains xs x × (t x ≡ true)
+-- what a filter leaves is of the list, and passed it
+pub filter_from : {X : Type 0} (t : X → Bool) (xs : List X) (x : X) → Contains (filter t xs) x → Contains xs x × (t x ≡ true)
 filter_from t [] x h = absurd (none_in x h)
 filter_from {X} t (y ∷ xs) x h = go (t y) refl h (λ k. filter_from t xs x k)
   where

@@ -14,6 +14,7 @@ use Rattle.tree_node.proofs.BreadthLemmas.{IsFront, IsIn, IsQueue, Same, front_t
 use Rattle.tree_node.proofs.ClassLemmas.{Same-root, to_root, Contains-head, same_name_decides}
 use Rattle.tree_node.proofs.CompareLemmas.{IsSearch, search_begins, search_goes_on, same_pair_decides, relation_roots}
 use Rattle.tree_node.proofs.CompareLaws.{relation_stays, matched_known, open_unknown}
+use Rattle.tree_node.proofs.ShownLemmas.{within_on}
 
 -- ---- lists
 
@@ -89,9 +90,6 @@ roots_again s t more q = rw (root_again s t more q.0, root_again s t more q.1) r
 pub all_again : (s t : Store) → IsWithin s t → (ps : List Pair) → map (roots t) (map (roots s) ps) ≡ map (roots t) ps
 all_again s t more [] = refl
 all_again s t more (p ∷ ps) = ap (λ (r : Pair). r ∷ map (roots t) (map (roots s) ps)) (roots_again s t more p) ∙ ap (λ (l : List Pair). roots t p ∷ l) (all_again s t more ps)
-
-within_on : (s t u : Store) → IsWithin s t → IsWithin t u → IsWithin s u
-within_on s t u a b = record { same = λ x y h. b.same x y (a.same x y h); det = λ x n h. b.det x n (a.det x n h) }
 
 -- ---- one pair of the front is looked at
 

@@ -12,7 +12,8 @@ use Rattle.site_model.specs.Transition.{Transition, sequence}
 use Rattle.site_model.specs.Site.{Site}
 use Rattle.world_model.specs.World.{World, Mail, IsOnItsWay, mail_from, without_number, after_transition}
 use Rattle.world_model.proofs.PutLemmas.{nat_decides, at_twice}
-use Rattle.site_message.proofs.JournalLemmas.{kept as filter_kept, passed}
+use Rattle.site_message.proofs.JournalLemmas.{kept as filter_kept}
+use Rattle.tree_node.proofs.CompareLemmas.{filter_from}
 
 abbrev pub sent_to : ℕ → Msg → Sent
 sent_to to m = record { to = to; msg = m }
@@ -86,7 +87,7 @@ from_number mail n out k to m h = go (Contains-append_cases mail (mail_from n ou
 
 pub gone : (k : ℕ) (mail : Mail) → Gone k mail (without_number k mail)
 gone k mail = record {
-  old = λ l to m h. let d = passed (λ (q : ℕ × Sent). not (k == q.0)) mail (l, sent_to to m) h in (d.0, λ e. not_same l e d.1);
+  old = λ l to m h. let d = filter_from (λ (q : ℕ × Sent). not (k == q.0)) mail (l, sent_to to m) h in (d.0, λ e. not_same l e d.1);
   kept = λ l to m h other. filter_kept (λ (q : ℕ × Sent). not (k == q.0)) mail (l, sent_to to m) h (same_not l other);
 }
   where
