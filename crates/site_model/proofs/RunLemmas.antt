@@ -1,5 +1,5 @@
 -- How the run of a site goes on by an entry.
-use Rattle.std.proofs.Common.{◌≡◌, ℕ, List, ◌∷◌, Bool, false, eqb, eq-eqb, sym, subst}
+use Rattle.std.proofs.Common.{◌≡◌, ℕ, List, ◌∷◌, false, eqb, eq-eqb, sym, subst}
 use Rattle.kernel_syntax.specs.declared.stmt.Stmt.{Stmt}
 use Rattle.site_message.specs.declared.turn.Turn.{Turn}
 use Rattle.site_model.specs.Site.{Site}
